@@ -1,0 +1,6 @@
+pub mod Written
+pub mod Worlds
+pub mod Read
+pub mod Performing
+pub mod InMemoryReads
+pub mod InMemoryWrites

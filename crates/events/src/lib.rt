@@ -1,0 +1,14 @@
+//! Names, numbered lists of names, and the events of a day with their lines.
+#![tactic(auto)]
+
+mod event;
+mod lists;
+mod names;
+#[cfg(test)]
+mod tests;
+mod writing;
+
+pub use event::{Book, Event, Key, Mode, More, Phase, VehicleId, Word};
+pub use lists::{Calls, EventList, Route, StopCall};
+pub use names::{Added, Name, Names, is_name};
+pub use writing::{line, lines};

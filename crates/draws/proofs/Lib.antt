@@ -1,0 +1,4 @@
+pub mod Keys
+pub mod Blocks
+pub mod Sums
+pub mod Ranges

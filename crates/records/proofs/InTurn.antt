@@ -1,0 +1,92 @@
+-- Rows are read in turn, up to the first fault.
+use Rattle.std.proofs.Common.{◌≡◌, ℕ, ◌+◌, ◌<◌, List, [], ◌∷◌, ◌++◌, length, map, take, get_or, Option, None, Some, Result, Ok, Err, refl, sym, ◌∙◌, ap, subst, arith}
+use Rattle.std.proofs.lemmas.List.{get_or-map, length-map, take_all}
+use Rattle.csv.specs.declared.record.ByteRecord.{ByteRecord}
+use Rattle.csv.specs.Records.{fields_of}
+use Rattle.edge_files.specs.declared.reasons.Reason.{Reason}
+use Rattle.edge_files.specs.declared.reasons.RowStop.{RowStop}
+use Rattle.events.specs.Names.{number_of, with_name}
+use Rattle.records.specs.Rows.{Row}
+use Rattle.records.specs.Fields.{field, column}
+use Rattle.records.specs.Faults.{first_fault, unless, Answers}
+use Rattle.records.specs.Files.{body_of}
+use Rattle.records.specs.Reading.{reason_after, body_fault, file_fault}
+use Rattle.records.proofs.Columns.{map_more, column_more}
+use Rattle.records.proofs.Faulty.{none_of_none, one_more, fault_here}
+
+-- the first n rows have no fault, and these are their names and values
+pub record IsReadTo {X : Type 0} (key : ℕ) (value : Row → X) (reason : List (List ℕ) → List X → Row → Option Reason) (records : List ByteRecord) (n : ℕ) (names : List (List ℕ)) (values : List X) : Type 0 where
+  pub none : first_fault None (reason_after key value reason (map fields_of records)) n ≡ None
+  pub named : names ≡ column key (take n (map fields_of records))
+  pub valued : values ≡ map value (take n (map fields_of records))
+
+row_at : (records : List ByteRecord) (n : ℕ) (row : ByteRecord) → n < length records → row ≡ get_or records n row → get_or (map fields_of records) n [] ≡ fields_of row
+row_at records n row less is = get_or-map fields_of records n row [] less ∙ ap fields_of (sym is)
+
+reason_of : {X : Type 0} (o : Option Reason) (value v : X) → Ok v ≡ unless o value → (o ≡ None) × (v ≡ value)
+reason_of None value v h = (refl, cc)
+reason_of (Some why) value v h = cc
+
+why_of : {X : Type 0} (o : Option Reason) (value : X) (why : Reason) → Err why ≡ unless o value → o ≡ Some why
+why_of None value why h = cc
+why_of (Some why') value why h = cc
+
+pub read_none : {X : Type 0} (key : ℕ) (value : Row → X) (reason : List (List ℕ) → List X → Row → Option Reason) (records : List ByteRecord) (names : List (List ℕ)) (values : List X) → names ≡ [] → values ≡ []
+    → IsReadTo key value reason records 0 names values
+read_none key value reason records names values no_names no_values =
+    record { none = none_of_none (reason_after key value reason (map fields_of records)); named = no_names; valued = no_values }
+
+-- one more row is read
+pub read_more : {X : Type 0} (key : ℕ) (value : Row → X) (reason : List (List ℕ) → List X → Row → Option Reason) (records : List ByteRecord) (n : ℕ) (names names' : List (List ℕ)) (values values' : List X) (row : ByteRecord) (v : X)
+    → IsReadTo key value reason records n names values → n < length records → row ≡ get_or records n row → Ok v ≡ unless (reason names values (fields_of row)) (value (fields_of row))
+    → number_of (field (fields_of row) key) names ≡ None → names' ≡ with_name names (field (fields_of row) key) → values' ≡ values ++ v ∷ [] → IsReadTo key value reason records (n + 1) names' values'
+read_more {X = X} key value reason records n names names' values values' row v before less is found fresh named pushed =
+    let rows : List Row = map fields_of records in
+    let same = row_at records n row less is in
+    let within : n < length rows = omega (arith, length-map records fields_of) in
+    let good = reason_of (reason names values (fields_of row)) (value (fields_of row)) v found in
+    record {
+      none = one_more (reason_after key value reason rows) n before.none
+          (ap (λ (r : Row). reason (column key (take n rows)) (map value (take n rows)) r) same
+          ∙ ap (λ (l : List (List ℕ)). reason l (map value (take n rows)) (fields_of row)) (sym before.named)
+          ∙ ap (λ (l : List X). reason names l (fields_of row)) (sym before.valued) ∙ good.0);
+      named = named ∙ ap (λ (r : Row). with_name names (field r key)) (sym same)
+          ∙ column_more key rows names n within before.named (ap (λ (r : Row). number_of (field r key) names) same ∙ fresh);
+      valued = pushed ∙ ap (λ (l : List X). l ++ v ∷ []) before.valued ∙ ap (λ (w : X). map value (take n rows) ++ w ∷ []) (good.1 ∙ ap value (sym same))
+          ∙ sym (map_more value rows n within);
+    }
+
+-- a row with a reason is the first fault
+pub read_fault : {X : Type 0} (key : ℕ) (value : Row → X) (reason : List (List ℕ) → List X → Row → Option Reason) (records : List ByteRecord) (n : ℕ) (names : List (List ℕ)) (values : List X) (row : ByteRecord) (why : Reason)
+    → IsReadTo key value reason records n names values → n < length records → row ≡ get_or records n row → Err why ≡ unless (reason names values (fields_of row)) (value (fields_of row))
+    → body_fault None key value reason (map fields_of records) ≡ Some (record { row = n + 1; reason = why })
+unfolding body_fault
+read_fault {X = X} key value reason records n names values row why before less is found =
+    let rows : List Row = map fields_of records in
+    let same = row_at records n row less is in
+    let within : n < length rows = omega (arith, length-map records fields_of) in
+    fault_here (reason_after key value reason rows) n (length rows) why within before.none
+    (ap (λ (r : Row). reason (column key (take n rows)) (map value (take n rows)) r) same
+    ∙ ap (λ (l : List (List ℕ)). reason l (map value (take n rows)) (fields_of row)) (sym before.named)
+    ∙ ap (λ (l : List X). reason names l (fields_of row)) (sym before.valued) ∙ why_of _ _ why found)
+
+-- all rows are read
+pub read_all : {X : Type 0} (key : ℕ) (value : Row → X) (reason : List (List ℕ) → List X → Row → Option Reason) (records : List ByteRecord) (n : ℕ) (names : List (List ℕ)) (values : List X)
+    → IsReadTo key value reason records n names values → n ≡ length records
+    → (body_fault None key value reason (map fields_of records) ≡ None) × (names ≡ column key (map fields_of records)) × (values ≡ map value (map fields_of records))
+unfolding body_fault
+read_all key value reason records n names values read end =
+    let rows : List Row = map fields_of records in
+    let all : n ≡ length rows = end ∙ sym (length-map records fields_of) in
+    let whole : take n rows ≡ rows = ap (λ (m : ℕ). take m rows) all ∙ take_all (length rows) rows (omega arith) in (
+      ap (λ (m : ℕ). first_fault None (reason_after key value reason rows) m) (sym all) ∙ read.none,
+      read.named ∙ ap (λ (l : List Row). column key l) whole,
+      read.valued ∙ ap (λ (l : List Row). map value l) whole,
+    )
+
+-- what is answered of the rows behind a header without fault is answered of the file
+pub answers_file : {A B X : Type 0} (view : A → B) (result : Result A RowStop) (head : Option Reason) (key : ℕ) (value : Row → X) (reason : List (List ℕ) → List X → Row → Option Reason) (bytes : List ℕ) (rows : List Row) (read : List Row → B)
+    → head ≡ None → rows ≡ body_of bytes → Answers view result (body_fault None key value reason rows) (read rows) → Answers view result (file_fault head key value reason bytes) (read (body_of bytes))
+answers_file view result head key value reason bytes rows read good same answers =
+    let at_body = subst (λ (l : List Row). Answers view result (body_fault None key value reason l) (read l)) same answers in
+    subst (λ (h : Option Reason). Answers view result (body_fault h key value reason (body_of bytes)) (read (body_of bytes))) (sym good) at_body

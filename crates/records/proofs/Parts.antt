@@ -1,0 +1,53 @@
+-- The parts between separators, one more part taken off.
+use Rattle.std.proofs.Common.{◌≡◌, ℕ, ◌+◌, ◌<◌, ◌≤◌, Bool, true, false, cond, not, List, [], ◌∷◌, ◌++◌, length, map, take, drop, None, Some, Bor, refl, sym, ◌∙◌, ap, arith, append_assoc}
+use Rattle.std.specs.Prelude.{nat_lt, position, ◌==◌}
+use Rattle.std.specs.List.{slice_split, onto_first, position_or_len}
+use Rattle.std.proofs.lemmas.Bool.Decides.{nat_tests}
+use Rattle.std.proofs.lemmas.List.{map-append}
+use Rattle.std.proofs.lemmas.List.Splits.{slice_split_first}
+use Rattle.records.specs.Lists.{parts_of}
+
+one_part_step : (b : Bool) (x : ℕ) (xs : List ℕ) (parts : List (List ℕ)) (n : ℕ) → length (x ∷ xs) ≤ cond (not b) (1 + n) 0 → (length xs ≤ n → parts ≡ xs ∷ [])
+    → cond b ([] ∷ parts) (onto_first x parts) ≡ (x ∷ xs) ∷ []
+one_part_step true x xs parts n h more = absurd (omega arith)
+one_part_step false x xs parts n h more = ap (onto_first x) (more (omega arith))
+
+-- where no element passes, the list is the one part
+one_part : (p : ℕ → Bool) (xs : List ℕ) → length xs ≤ position_or_len p xs → slice_split p xs ≡ xs ∷ []
+one_part p [] h = refl
+one_part p (x ∷ xs) h = one_part_step (p x) x xs (slice_split p xs) (position_or_len p xs) h (one_part p xs)
+
+first_place : (m l n : ℕ) → cond (nat_lt m l) (Some m) None ≡ Some n → (m ≡ n) × (m < l)
+first_place m l n h = (grind (arith, nat_tests), grind (arith, nat_tests))
+
+no_place : (m l : ℕ) → cond (nat_lt m l) (Some m) None ≡ None → l ≤ m
+no_place m l h = grind (arith, nat_tests)
+
+-- a part goes from the rest to the parts
+pub parts_more : (separator : ℕ) (rest bytes : List ℕ) (parts parts' : List (Bor (List ℕ))) (part : Bor (List ℕ)) (n : ℕ) → position (λ b. b == separator) rest ≡ Some n
+    → part.now ≡ take n rest → parts' ≡ parts ++ part ∷ [] → map (λ p. p.now) parts ++ parts_of separator rest ≡ parts_of separator bytes
+    → map (λ p. p.now) parts' ++ parts_of separator (drop (n + 1) rest) ≡ parts_of separator bytes
+unfolding parts_of
+parts_more separator rest bytes parts parts' part n place cut pushed before =
+    let test : ℕ → Bool = λ b. b == separator in
+    let at = first_place (position_or_len test rest) (length rest) n place in
+    let first = slice_split_first test rest 0 at.1 in
+    let same : slice_split test rest ≡ take n rest ∷ slice_split test (drop (n + 1) rest) = first ∙ ap (λ (m : ℕ). take m rest ∷ slice_split test (drop (m + 1) rest)) at.0 in
+    ap (λ (l : List (Bor (List ℕ))). map (λ p. p.now) l ++ slice_split test (drop (n + 1) rest)) pushed
+    ∙ ap (λ (l : List (List ℕ)). l ++ slice_split test (drop (n + 1) rest)) (map-append (λ (p : Bor (List ℕ)). p.now) parts (part ∷ []))
+    ∙ append_assoc (map (λ p. p.now) parts) (part.now ∷ []) (slice_split test (drop (n + 1) rest))
+    ∙ ap (λ (l : List ℕ). map (λ p. p.now) parts ++ (l ∷ slice_split test (drop (n + 1) rest))) cut
+    ∙ ap (λ (l : List (List ℕ)). map (λ p. p.now) parts ++ l) (sym same)
+    ∙ before
+
+-- the rest is the last part
+pub parts_last : (separator : ℕ) (bytes : List ℕ) (rest : Bor (List ℕ)) (parts parts' : List (Bor (List ℕ))) → position (λ b. b == separator) rest.now ≡ None
+    → parts' ≡ parts ++ rest ∷ [] → map (λ p. p.now) parts ++ parts_of separator rest.now ≡ parts_of separator bytes → map (λ p. p.now) parts' ≡ parts_of separator bytes
+unfolding parts_of
+parts_last separator bytes rest parts parts' none pushed before =
+    let test : ℕ → Bool = λ b. b == separator in
+    let last = one_part test rest.now (no_place (position_or_len test rest.now) (length rest.now) none) in
+    ap (λ (l : List (Bor (List ℕ))). map (λ p. p.now) l) pushed
+    ∙ map-append (λ (p : Bor (List ℕ)). p.now) parts (rest ∷ [])
+    ∙ ap (λ (l : List (List ℕ)). map (λ p. p.now) parts ++ l) (sym last)
+    ∙ before

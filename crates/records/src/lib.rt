@@ -1,0 +1,23 @@
+//! The base of all readers of files of comma-separated fields: bytes to rows as a pure function,
+//!
+//! The rows are the records that the crate `csv` reads by RFC 4180 with no header row, with rows
+//! of differing lengths and with its other settings at their defaults.
+#![tactic(auto)]
+
+mod adding;
+mod faults;
+mod fields;
+mod files;
+mod lists;
+mod names;
+mod numbers;
+mod rows;
+
+pub use adding::add_row;
+pub use faults::fault;
+pub use fields::{field, holds_name, is_blank, is_header, is_text};
+pub use files::{body, read_file, read_optional_file};
+pub use lists::{are_names, items_in, numbers_of, parts_of};
+pub use names::number;
+pub use numbers::{number_in, signed_in};
+pub use rows::read_rows;

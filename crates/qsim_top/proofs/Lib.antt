@@ -1,0 +1,5 @@
+pub mod Splits
+pub mod NamedEvents
+pub mod NamedTrips
+pub mod Reports
+pub mod Longer

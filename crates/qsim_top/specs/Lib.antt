@@ -1,0 +1,4 @@
+pub mod Day
+pub mod Texts
+pub mod Answer
+pub mod Books

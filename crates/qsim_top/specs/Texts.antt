@@ -1,0 +1,49 @@
+-- What a run writes.
+use Rattle.std.specs.Prelude.{ℕ, Bool, true, false, codes, decimal, List, [], ◌++◌, length}
+use Rattle.std.specs.List.{count_by}
+use Rattle.events.specs.declared.event.Event.{Event}
+use Rattle.events.specs.declared.event.Book.{Book}
+use Rattle.events.specs.declared.event.Word.{Word}
+use Rattle.events.specs.declared.event.Word.TheVariants as word
+use Rattle.events.specs.Lines.{event_lines}
+use Rattle.edge_files.specs.declared.files.InFile.{InFile}
+use Rattle.edge_files.specs.declared.reasons.RowFault.{RowFault}
+use Rattle.edge_files.specs.Files.{in_file_name}
+use Rattle.edge_files.specs.Reasons.{reason_number, reason_name}
+
+-- the events of iteration 0: a line that says so, and a line for each event
+unfoldable pub events_text : List Event → Book → List ℕ
+events_text events book = codes "iteration,0\n" ++ event_lines events book
+
+abbrev pub is_stuck : Word → Bool
+is_stuck word.ActEnd = false
+is_stuck word.Departure = false
+is_stuck word.Travelled = false
+is_stuck word.Arrival = false
+is_stuck word.ActStart = false
+is_stuck word.PersonEntersVehicle = false
+is_stuck word.VehicleEntersTraffic = false
+is_stuck word.LeftLink = false
+is_stuck word.EnteredLink = false
+is_stuck word.VehicleLeavesTraffic = false
+is_stuck word.PersonLeavesVehicle = false
+is_stuck word.WaitingForPt = false
+is_stuck word.TransitDriverStarts = false
+is_stuck word.VehicleArrivesAtFacility = false
+is_stuck word.VehicleDepartsAtFacility = false
+is_stuck word.VehicleAborts = false
+is_stuck word.StuckAndAbort = true
+
+-- how many of the events are of persons who are stuck
+abbrev pub stuck_count : List Event → ℕ
+stuck_count events = count_by (λ event. is_stuck event.word) events
+
+-- the report of iteration 0: its events, those of stuck persons, and the sum of the scores, which is 0 as long as none are made
+unfoldable pub iteration_line : List Event → List ℕ
+iteration_line events = codes "iteration,0," ++ decimal (length events) ++ codes "," ++ decimal (stuck_count events) ++ codes ",0\n"
+
+-- the report of a refused scenario: the file, the row, and the reason by number and name
+unfoldable pub refused_line : InFile → RowFault → List ℕ
+refused_line file fault =
+    codes "refused," ++ in_file_name file ++ codes "," ++ decimal fault.row ++ codes "," ++ decimal (reason_number fault.reason)
+    ++ codes "," ++ reason_name fault.reason ++ codes "\n"

@@ -1,0 +1,68 @@
+ghost use Rattle.std.specs.Prelude.{◌≡◌, ◌++◌, length, decimal, codes, OnOk, IfOk};
+ghost use Rattle.events.specs.Lines.{AreInBook};
+ghost use Rattle.qsim_top.specs.Texts.{events_text, is_stuck, stuck_count, iteration_line, refused_line};
+
+use edge_files::{InFile, RowFault};
+use events::{Book, Event, Word, lines};
+use itoa::Buffer;
+use std::alloc::{AllocError, Global};
+
+fn push_number(number: u64, out: &mut Vec<u8>) -> Result<(), AllocError>
+    ensures { OnOk result (out.new.items ≡ out.old.items ++ decimal number) }
+{
+    let mut buffer = Buffer::new();
+    out.extend_from_slice(buffer.format(number).as_bytes())
+}
+
+/// The text of the events of iteration 0.
+#[tactic(auto, unfolding(crate::specs::Texts::events_text))]
+pub fn events_text(alloc: Global, events: &[Event], book: &Book) -> Result<Vec<u8>, AllocError>
+    requires { AreInBook events.now book.now }
+    ensures { IfOk result (λ text. text.items ≡ events_text events.now book.now) }
+{
+    let mut text = Vec::from_slice(alloc, b"iteration,0\n")?;
+    lines(events, book, &mut text)?;
+    Ok(text)
+}
+
+fn is_stuck(word: Word) -> bool
+    ensures { result ≡ is_stuck word }
+{
+    word == Word::StuckAndAbort
+}
+
+fn stuck_count(events: &[Event]) -> usize
+    ensures { result ≡ stuck_count events.now }
+{
+    events.iter().filter(|event| is_stuck(event.word)).count()
+}
+
+/// The report of iteration 0.
+#[tactic(auto, unfolding(crate::specs::Texts::iteration_line))]
+pub fn iteration_line(alloc: Global, events: &[Event]) -> Result<Vec<u8>, AllocError>
+    ensures { IfOk result (λ line. line.items ≡ iteration_line events.now) }
+{
+    let mut line = Vec::from_slice(alloc, b"iteration,0,")?;
+    push_number(events.len() as u64, &mut line)?;
+    line.extend_from_slice(b",")?;
+    push_number(stuck_count(events) as u64, &mut line)?;
+    line.extend_from_slice(b",0\n")?;
+    Ok(line)
+}
+
+/// The report of a refused scenario.
+#[tactic(auto, unfolding(crate::specs::Texts::refused_line))]
+pub fn refused_line(alloc: Global, file: InFile, fault: RowFault) -> Result<Vec<u8>, AllocError>
+    ensures { IfOk result (λ line. line.items ≡ refused_line file fault) }
+{
+    let mut line = Vec::from_slice(alloc, b"refused,")?;
+    line.extend_from_slice(file.name().as_bytes())?;
+    line.extend_from_slice(b",")?;
+    push_number(u64::from(fault.row), &mut line)?;
+    line.extend_from_slice(b",")?;
+    push_number(u64::from(fault.reason.number()), &mut line)?;
+    line.extend_from_slice(b",")?;
+    line.extend_from_slice(fault.reason.name().as_bytes())?;
+    line.extend_from_slice(b"\n")?;
+    Ok(line)
+}

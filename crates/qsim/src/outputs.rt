@@ -1,0 +1,85 @@
+ghost use Rattle.std.specs.Prelude.{◌≡◌, ◌<◌, None, length, IfOk};
+ghost use Rattle.std.specs.Io.{WritesAtMost};
+
+use edge_files::{Failed, OutFile, Outputs};
+use std::fs;
+use std::io::{self, Print, Write};
+use std::rt::Files;
+
+/// Files of the current folder, and standard output for the report. A file is created, or emptied,
+/// at the first write to it. What they hold is not told.
+#[derive(Drop)]
+pub struct FileOutputs<'a, R: Files + Print> {
+    rt: &'a R,
+    events: Option<R::File>,
+    scores: Option<R::File>,
+    plans: Option<R::File>,
+    faults: u64,
+}
+
+/// Writes the next bytes to a file of the folder, which is created if it is not open yet.
+fn write_next<R: Files>(
+    rt: &R,
+    file: OutFile,
+    opened: &mut Option<R::File>,
+    piece: &[u8],
+) -> io::Result<usize>
+    ensures { WritesAtMost result piece.now }
+{
+    if opened.is_none() {
+        let Some(name) = file.name() else {
+            return Ok(0);
+        };
+        *opened = Some(fs::create(rt, name)?);
+    }
+    match opened {
+        Some(stream) => stream.write(piece),
+        None => Ok(0),
+    }
+}
+
+impl<'a, R: Files + Print> FileOutputs<'a, R> {
+    /// No file is created yet.
+    pub fn new(rt: &'a R) -> Self
+        ensures { result.faults ≡ 0 }
+    {
+        FileOutputs {
+            rt,
+            events: None,
+            scores: None,
+            plans: None,
+            faults: 0,
+        }
+    }
+
+    fn write_to(&mut self, file: OutFile, piece: &[u8]) -> io::Result<usize>
+        ensures faults { self.new.faults ≡ self.old.faults }
+        ensures bound { WritesAtMost result piece.now }
+    {
+        match file {
+            OutFile::Events => write_next(self.rt, file, &mut self.events, piece),
+            OutFile::Scores => write_next(self.rt, file, &mut self.scores, piece),
+            OutFile::Plans => write_next(self.rt, file, &mut self.plans, piece),
+            OutFile::Report => io::writer(self.rt).write(piece),
+        }
+    }
+}
+
+impl<R: Files + Print> Outputs for FileOutputs<'_, R> {
+    ghost written = { λ _ _. None };
+
+    ghost faults = { λ s. s.faults };
+
+    fn write(&mut self, file: OutFile, piece: &[u8]) -> Result<usize, Failed> {
+        if piece.is_empty() {
+            return Ok(0);
+        }
+        match self.write_to(file, piece) {
+            Ok(count) if count > 0 => Ok(count),
+            _ => {
+                self.faults = self.faults.saturating_add(1);
+                Err(Failed)
+            }
+        }
+    }
+}

@@ -1,18 +1,19 @@
 -- Rows are read in turn, up to the first fault.
-use Rattle.std.proofs.Common.{◌≡◌, ℕ, ◌+◌, ◌<◌, List, [], ◌∷◌, ◌++◌, length, map, take, get_or, Option, None, Some, Result, Ok, Err, refl, sym, ◌∙◌, ap, subst, arith}
-use Rattle.std.proofs.lemmas.List.{get_or-map, length-map, take_all}
+use Rattle.std.proofs.Common.{◌≡◌, ℕ, ◌+◌, ◌<◌, ◌≤◌, List, [], ◌∷◌, ◌++◌, length, map, take, get_or, Option, None, Some, Result, Ok, Err, refl, sym, ◌∙◌, ap, subst, arith}
+use Rattle.std.proofs.lemmas.List.{get_or-map, length-map, length-take, take_all}
 use Rattle.csv.specs.declared.record.ByteRecord.{ByteRecord}
 use Rattle.csv.specs.Records.{fields_of}
 use Rattle.edge_files.specs.declared.reasons.Reason.{Reason}
 use Rattle.edge_files.specs.declared.reasons.RowStop.{RowStop}
+use Rattle.edge_files.specs.declared.reasons.RowStop.TheVariants as stop
 use Rattle.events.specs.Names.{number_of, with_name}
 use Rattle.records.specs.Rows.{Row}
 use Rattle.records.specs.Fields.{field, column}
 use Rattle.records.specs.Faults.{first_fault, unless, Answers}
-use Rattle.records.specs.Files.{body_of}
+use Rattle.records.specs.Files.{body_of, TellsStop}
 use Rattle.records.specs.Reading.{reason_after, body_fault, file_fault}
 use Rattle.records.proofs.Columns.{map_more, column_more}
-use Rattle.records.proofs.Faulty.{none_of_none, one_more, fault_here}
+use Rattle.records.proofs.Faulty.{none_of_none, one_more, fault_here, answers_head}
 
 -- the first n rows have no fault, and these are their names and values
 pub record IsReadTo {X : Type 0} (key : ℕ) (value : Row → X) (reason : List (List ℕ) → List X → Row → Option Reason) (records : List ByteRecord) (n : ℕ) (names : List (List ℕ)) (values : List X) : Type 0 where
@@ -20,7 +21,8 @@ pub record IsReadTo {X : Type 0} (key : ℕ) (value : Row → X) (reason : List 
   pub named : names ≡ column key (take n (map fields_of records))
   pub valued : values ≡ map value (take n (map fields_of records))
 
-row_at : (records : List ByteRecord) (n : ℕ) (row : ByteRecord) → n < length records → row ≡ get_or records n row → get_or (map fields_of records) n [] ≡ fields_of row
+-- the fields of the record at a place
+pub row_at : (records : List ByteRecord) (n : ℕ) (row : ByteRecord) → n < length records → row ≡ get_or records n row → get_or (map fields_of records) n [] ≡ fields_of row
 row_at records n row less is = get_or-map fields_of records n row [] less ∙ ap fields_of (sym is)
 
 reason_of : {X : Type 0} (o : Option Reason) (value v : X) → Ok v ≡ unless o value → (o ≡ None) × (v ≡ value)
@@ -57,18 +59,19 @@ read_more {X = X} key value reason records n names names' values values' row v b
     }
 
 -- a row with a reason is the first fault
-pub read_fault : {X : Type 0} (key : ℕ) (value : Row → X) (reason : List (List ℕ) → List X → Row → Option Reason) (records : List ByteRecord) (n : ℕ) (names : List (List ℕ)) (values : List X) (row : ByteRecord) (why : Reason)
+pub read_fault : {A B X : Type 0} (view : A → B) (answer : B) (key : ℕ) (value : Row → X) (reason : List (List ℕ) → List X → Row → Option Reason) (records : List ByteRecord) (n : ℕ) (names : List (List ℕ)) (values : List X) (row : ByteRecord) (why : Reason) (told : RowStop)
     → IsReadTo key value reason records n names values → n < length records → row ≡ get_or records n row → Err why ≡ unless (reason names values (fields_of row)) (value (fields_of row))
-    → body_fault None key value reason (map fields_of records) ≡ Some (record { row = n + 1; reason = why })
+    → told ≡ stop.Fault (record { row = n + 1; reason = why }) → Answers view (Err told) (body_fault None key value reason (map fields_of records)) answer
 unfolding body_fault
-read_fault {X = X} key value reason records n names values row why before less is found =
+read_fault {X = X} view answer key value reason records n names values row why told before less is found tells =
     let rows : List Row = map fields_of records in
     let same = row_at records n row less is in
     let within : n < length rows = omega (arith, length-map records fields_of) in
-    fault_here (reason_after key value reason rows) n (length rows) why within before.none
+    let first = fault_here (reason_after key value reason rows) n (length rows) why within before.none
     (ap (λ (r : Row). reason (column key (take n rows)) (map value (take n rows)) r) same
     ∙ ap (λ (l : List (List ℕ)). reason l (map value (take n rows)) (fields_of row)) (sym before.named)
-    ∙ ap (λ (l : List X). reason names l (fields_of row)) (sym before.valued) ∙ why_of _ _ why found)
+    ∙ ap (λ (l : List X). reason names l (fields_of row)) (sym before.valued) ∙ why_of _ _ why found) in
+    subst (λ (s : RowStop). Answers view (Err s) (first_fault None (reason_after key value reason rows) (length rows)) answer) (sym tells) first
 
 -- all rows are read
 pub read_all : {X : Type 0} (key : ℕ) (value : Row → X) (reason : List (List ℕ) → List X → Row → Option Reason) (records : List ByteRecord) (n : ℕ) (names : List (List ℕ)) (values : List X)
@@ -84,9 +87,29 @@ read_all key value reason records n names values read end =
       read.valued ∙ ap (λ (l : List Row). map value l) whole,
     )
 
--- what is answered of the rows behind a header without fault is answered of the file
-pub answers_file : {A B X : Type 0} (view : A → B) (result : Result A RowStop) (head : Option Reason) (key : ℕ) (value : Row → X) (reason : List (List ℕ) → List X → Row → Option Reason) (bytes : List ℕ) (rows : List Row) (read : List Row → B)
-    → head ≡ None → rows ≡ body_of bytes → Answers view result (body_fault None key value reason rows) (read rows) → Answers view result (file_fault head key value reason bytes) (read (body_of bytes))
-answers_file view result head key value reason bytes rows read good same answers =
-    let at_body = subst (λ (l : List Row). Answers view result (body_fault None key value reason l) (read l)) same answers in
-    subst (λ (h : Option Reason). Answers view result (body_fault h key value reason (body_of bytes)) (read (body_of bytes))) (sym good) at_body
+-- what is answered of the rows behind a header without fault is answered of the file; the values may depend on all the rows
+pub answers_body : {A B X : Type 0} (view : A → B) (answer : Result A RowStop) (head : Option Reason) (key : ℕ) (value : List Row → Row → X) (reason : List (List ℕ) → List X → Row → Option Reason) (bytes : List ℕ) (rows : List Row) (read : List Row → B)
+    → head ≡ None → rows ≡ body_of bytes → Answers view answer (body_fault None key (value rows) reason rows) (read rows) → Answers view answer (file_fault head key (value (body_of bytes)) reason bytes) (read (body_of bytes))
+answers_body view answer head key value reason bytes rows read good same answers =
+    let at_body = subst (λ (l : List Row). Answers view answer (body_fault None key (value l) reason l) (read l)) same answers in
+    subst (λ (h : Option Reason). Answers view answer (body_fault h key (value (body_of bytes)) reason (body_of bytes)) (read (body_of bytes))) (sym good) at_body
+
+-- the same, where the values are those of each row alone
+pub answers_file : {A B X : Type 0} (view : A → B) (answer : Result A RowStop) (head : Option Reason) (key : ℕ) (value : Row → X) (reason : List (List ℕ) → List X → Row → Option Reason) (bytes : List ℕ) (rows : List Row) (read : List Row → B)
+    → head ≡ None → rows ≡ body_of bytes → Answers view answer (body_fault None key value reason rows) (read rows) → Answers view answer (file_fault head key value reason bytes) (read (body_of bytes))
+answers_file view answer head key value = answers_body view answer head key (λ _. value)
+
+-- there are as many names as rows read, and as values
+pub read_count : {X : Type 0} (key : ℕ) (value : Row → X) (reason : List (List ℕ) → List X → Row → Option Reason) (records : List ByteRecord) (n : ℕ) (names : List (List ℕ)) (values : List X)
+    → IsReadTo key value reason records n names values → n ≤ length records → (length names ≡ n) × (length values ≡ n)
+read_count key value reason records n names values read within =
+    let rows : List Row = map fields_of records in
+    let count : length (take n rows) ≡ n = omega (arith, length-take n rows, length-map records fields_of) in
+    (ap length read.named ∙ length-map (take n rows) (λ row. field row key) ∙ count, ap length read.valued ∙ length-map (take n rows) value ∙ count)
+
+-- what is told of row 0 is told of the file
+pub answers_stop : {A B X : Type 0} (view : A → B) (answer : B) (key : ℕ) (value : Row → X) (reason : List (List ℕ) → List X → Row → Option Reason) (bytes : List ℕ) (told : RowStop) (head : Option Reason)
+    → TellsStop told head → Answers view (Err told) (file_fault head key value reason bytes) answer
+unfolding body_fault
+answers_stop view answer key value reason bytes told head tells =
+    answers_head view told head (reason_after key value reason (body_of bytes)) (length (body_of bytes)) answer tells

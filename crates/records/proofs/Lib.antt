@@ -6,3 +6,4 @@ pub mod Parts
 pub mod Faulty
 pub mod Columns
 pub mod InTurn
+pub mod Sound

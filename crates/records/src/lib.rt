@@ -1,4 +1,5 @@
 //! The base of all readers of files of comma-separated fields: bytes to rows as a pure function,
+//! fields, numbers, names and lists in them, and the first fault of a file.
 //!
 //! The rows are the records that the crate `csv` reads by RFC 4180 with no header row, with rows
 //! of differing lengths and with its other settings at their defaults.
@@ -12,6 +13,8 @@ mod lists;
 mod names;
 mod numbers;
 mod rows;
+#[cfg(test)]
+mod tests;
 
 pub use adding::add_row;
 pub use faults::fault;

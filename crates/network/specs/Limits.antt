@@ -1,0 +1,20 @@
+-- What a network keeps of its links.
+use Rattle.std.specs.Prelude.{ℕ, Bool, ◌&&◌, nat_lt, nat_le, nat_eq, List, count_by}
+use Rattle.network.specs.declared.rows.LinkRow.{LinkRow}
+
+-- a number from low to high
+abbrev pub is_from_to : ℕ → ℕ → ℕ → Bool
+is_from_to low high n = nat_le low n && nat_le n high
+
+-- the numbers are in their ranges
+unfoldable pub are_measures : ℕ → ℕ → ℕ → ℕ → Bool
+are_measures length speed capacity lanes = is_from_to 1 10000000 length && is_from_to 1 10000 speed && is_from_to 1 100000 capacity && is_from_to 1 20 lanes
+
+-- the link begins and ends at one of so many nodes, and its numbers are in their ranges
+unfoldable pub is_link : ℕ → LinkRow → Bool
+is_link nodes link =
+    nat_lt link.from nodes && nat_lt link.to nodes && are_measures link.length link.speed link.capacity link.lanes
+
+-- how many links end at a node
+unfoldable pub in_links : List LinkRow → ℕ → ℕ
+in_links links node = count_by (λ link. nat_eq link.to node) links

@@ -1,0 +1,16 @@
+//! The road network: nodes and links, and the files nodes.csv and links.csv.
+#![tactic(auto)]
+
+mod links;
+mod links_read;
+mod lists;
+mod measures;
+mod nodes;
+mod rows;
+#[cfg(test)]
+mod tests;
+
+pub use links::read_links;
+pub use lists::{LinkList, Network, NodeList};
+pub use nodes::read_nodes;
+pub use rows::{LinkRow, NodeRow};

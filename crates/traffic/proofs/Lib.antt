@@ -1,0 +1,9 @@
+pub mod Sublists
+pub mod Turns
+pub mod Nodes
+pub mod Links
+pub mod Waiting
+pub mod Persons
+pub mod Phases
+pub mod Order
+pub mod Idle

@@ -1,0 +1,239 @@
+-- A link's turn changes nobody who waits at a stop of another link.
+use Rattle.std.proofs.Common.{◌≡◌, ℕ, zero, suc, ◌+◌, ◌-◌, ◌<◌, ◌≤◌, ◌≢◌, Bool, true, false, List, [], ◌∷◌, ◌++◌, length, refl, ap, sym, ◌∙◌, eqb, arith, inl, inr, take}
+use Rattle.std.specs.Prelude.{filter, map, drop, if◌then◌else◌, nat_le, nat_lt, Option, None, Some}
+use Rattle.std.specs.List.{flat_map}
+use Rattle.std.proofs.lemmas.Bool.{cases_Bool, eqb-true, ne_eqb}
+use Rattle.events.specs.declared.event.VehicleId.{VehicleId}
+use Rattle.events.specs.declared.event.Word.{Word}
+use Rattle.events.specs.declared.event.Word.TheVariants as word
+use Rattle.fixed_flow.specs.declared.TheConstants.{VEHICLE_COST}
+use Rattle.traffic.specs.declared.rows.Rider.{Rider}
+use Rattle.traffic.specs.Rows.{Row, World, VehicleState, Place, At, Flying, Waiting, Riding, Gone as Removed, Person, person_of}
+use Rattle.traffic.specs.Setup.{Setup, Stay, Way, Drive, Teleport, Transit, Dwelling, way, next_stay, link_of_stop}
+use Rattle.traffic.specs.Lists.{numbers, below}
+use Rattle.traffic.specs.Stops.{Waiter, next_call, alighting, staying, may_board, comes_first, among, in_turn, boarding, left_behind, rider, riders_after, served_vehicle, served_row, calls_on}
+use Rattle.traffic.specs.Telling.{Said, leaves, enters, starts, arrives, boarded, serves}
+use Rattle.traffic.specs.Moves.{Move, told, run, done, start_act, ride, person_by, person_after, told_of, person_after_all}
+use Rattle.traffic.specs.Links.{Lane, Rules, leave_bay, is_last, may_pass, from_wait, from_queue, wait_after, link_moves}
+use Rattle.traffic.specs.Persons.{waits_on, waiter, waiters}
+use Rattle.traffic.proofs.Sublists.{persons-length, person_after_all-is}
+
+-- all of these persons are such
+abbrev pub Each : (ℕ → Type 0) → List Waiter → Type 0
+Each Q [] = Unit {0}
+Each Q (w ∷ ws) = Q w.person × Each Q ws
+
+abbrev pub Such : (ℕ → Type 0) → Option ℕ → Type 0
+Such Q None = Unit {0}
+Such Q (Some i) = Q i
+
+-- an event begins no leg and no waiting, loses nobody, and lets only such persons board
+abbrev pub Calm_word : (ℕ → Type 0) → Word → Option ℕ → Type 0
+Calm_word Q word.Departure o = ⊥
+Calm_word Q word.WaitingForPt o = ⊥
+Calm_word Q word.StuckAndAbort o = ⊥
+Calm_word Q word.PersonEntersVehicle o = Such Q o
+Calm_word Q _ o = Unit {0}
+
+abbrev pub Calm : (ℕ → Type 0) → List Said → Type 0
+Calm Q [] = Unit {0}
+Calm Q (e ∷ es) = Calm_word Q e.word e.person × Calm Q es
+
+abbrev pub Calm_moves : (ℕ → Type 0) → List Move → Type 0
+Calm_moves Q [] = Unit {0}
+Calm_moves Q (m ∷ ms) = Calm Q (told m) × Calm_moves Q ms
+
+Calm-append : (Q : ℕ → Type 0) (xs ys : List Said) → Calm Q xs → Calm Q ys → Calm Q (xs ++ ys)
+Calm-append Q [] ys h g = g
+Calm-append Q (x ∷ xs) ys h g = (h.0, Calm-append Q xs ys h.1 g)
+
+Calm_moves-append : (Q : ℕ → Type 0) (xs ys : List Move) → Calm_moves Q xs → Calm_moves Q ys → Calm_moves Q (xs ++ ys)
+Calm_moves-append Q [] ys h g = g
+Calm_moves-append Q (x ∷ xs) ys h g = (h.0, Calm_moves-append Q xs ys h.1 g)
+
+Calm_moves-if : (Q : ℕ → Type 0) (b : Bool) (xs ys : List Move) → Calm_moves Q xs → Calm_moves Q ys → Calm_moves Q (if b then xs else ys)
+Calm_moves-if Q b xs ys h g = elim b as (λ c. Calm_moves Q (if c then xs else ys)) [ true ↦ h | false ↦ g ]
+
+Calm-if : (Q : ℕ → Type 0) (b : Bool) (xs ys : List Said) → Calm Q xs → Calm Q ys → Calm Q (if b then xs else ys)
+Calm-if Q b xs ys h g = elim b as (λ c. Calm Q (if c then xs else ys)) [ true ↦ h | false ↦ g ]
+
+-- WHO BOARDS IS AMONG THOSE WHO WAIT
+Each-filter : (Q : ℕ → Type 0) (p : Waiter → Bool) (ws : List Waiter) → Each Q ws → Each Q (filter p ws)
+Each-filter Q p [] h = tt
+Each-filter Q p (w ∷ ws) h = elim (cases_Bool (p w)) [ inl q ↦ simp q (h.0, Each-filter Q p ws h.1) | inr q ↦ simp q (Each-filter Q p ws h.1) ]
+
+Each-append : (Q : ℕ → Type 0) (xs ys : List Waiter) → Each Q xs → Each Q ys → Each Q (xs ++ ys)
+Each-append Q [] ys h g = g
+Each-append Q (x ∷ xs) ys h g = (h.0, Each-append Q xs ys h.1 g)
+
+Each-take : (Q : ℕ → Type 0) (k : ℕ) (ws : List Waiter) → Each Q ws → Each Q (take k ws)
+Each-take Q zero ws h = tt
+Each-take Q (suc k) [] h = tt
+Each-take Q (suc k) (w ∷ ws) h = (h.0, Each-take Q k ws h.1)
+
+Each-among : (Q : ℕ → Type 0) (w : Waiter) (ws : List Waiter) → Q w.person → Each Q ws → Each Q (among w ws)
+unfolding among
+Each-among Q w [] q h = (q, tt)
+Each-among Q w (x ∷ xs) q h = elim (cases_Bool (comes_first w x)) [ inl e ↦ simp e (q, h) | inr e ↦ simp e (h.0, Each-among Q w xs q h.1) ]
+
+Each-in_turn : (Q : ℕ → Type 0) (ws : List Waiter) → Each Q ws → Each Q (in_turn ws)
+unfolding in_turn
+Each-in_turn Q [] h = tt
+Each-in_turn Q (w ∷ ws) h = Each-among Q w (in_turn ws) h.0 (Each-in_turn Q ws h.1)
+
+Each-boarding : (Q : ℕ → Type 0) (v : VehicleState) (ws : List Waiter) → Each Q ws → Each Q (boarding v ws)
+unfolding boarding
+Each-boarding Q v ws h = Each-take Q _ (in_turn (filter (may_board v) ws)) (Each-in_turn Q (filter (may_board v) ws) (Each-filter Q (may_board v) ws h))
+
+Each-left : (Q : ℕ → Type 0) (v : VehicleState) (ws : List Waiter) → Each Q ws → Each Q (left_behind v ws)
+unfolding left_behind
+Each-left Q v ws h = Each-filter Q _ ws h
+
+-- WHAT A LINK'S TURN TELLS IS CALM
+calm_leaves : (Q : ℕ → Type 0) (v : VehicleId) (l : ℕ) (rs : List Rider) → Calm Q (flat_map (leaves v l) rs)
+calm_leaves Q v l [] = tt
+calm_leaves Q v l (r ∷ rs) = (tt, (tt, (tt, calm_leaves Q v l rs)))
+
+calm_enters : (Q : ℕ → Type 0) (v : VehicleId) (ws : List Waiter) → Each Q ws → Calm Q (flat_map (enters v) (map rider ws))
+calm_enters Q v [] h = tt
+calm_enters Q v (w ∷ ws) h = (h.0, calm_enters Q v ws h.1)
+
+drop_front : (xs ys : List Rider) → drop (length xs) (xs ++ ys) ≡ ys
+drop_front [] ys = refl
+drop_front (x ∷ xs) ys = drop_front xs ys
+
+boarded-are : (v : VehicleState) (ws : List Waiter) → boarded (next_call v).stop v.riders (riders_after v ws) ≡ map rider (boarding v ws)
+unfolding riders_after
+boarded-are v ws = drop_front (staying (next_call v).stop v.riders) (map rider (boarding v ws))
+
+calm_serves : (Q : ℕ → Type 0) (D : Dwelling) (t l : ℕ) (ws : List Waiter) (r : Row) → Each Q ws → Calm Q (serves r (served_row D t l ws r.vehicle))
+unfolding served_vehicle
+calm_serves Q D t l ws r h =
+    let e = boarded-are r.vehicle ws in
+    (tt, Calm-append Q _ _ (calm_leaves Q r.vehicle.id r.link (alighting (next_call r.vehicle).stop r.vehicle.riders)) (rw e (calm_enters Q r.vehicle.id (boarding r.vehicle ws) (Each-boarding Q r.vehicle ws h))))
+
+calm_starts : (Q : ℕ → Type 0) (r : Row) → Calm Q (starts r)
+calm_starts Q r = Calm-if Q r.vehicle.started [] _ tt (tt, tt)
+
+calm_arrives : (Q : ℕ → Type 0) (r : Row) → Calm Q (arrives r)
+calm_arrives Q r = (tt, calm_leaves Q r.vehicle.id r.link r.vehicle.riders)
+
+leave_bay-calm : (Q : ℕ → Type 0) (t l k : ℕ) (xs : List Row) → Calm_moves Q (leave_bay t l k xs)
+unfolding leave_bay
+leave_bay-calm Q t l k [] = tt
+leave_bay-calm Q t l k (r ∷ rs) = Calm_moves-if Q (nat_le r.second t) _ _ ((tt, tt), leave_bay-calm Q t l k rs) (leave_bay-calm Q t l (k + 1) rs)
+
+from_wait-calm : (Q : ℕ → Type 0) (K : Rules) (t l : ℕ) (ws : List Waiter) → Each Q ws → (b c : ℕ) (xs : List Row) → Calm_moves Q (from_wait K t l ws b c xs)
+unfolding from_wait
+from_wait-calm Q K t l ws h b c [] = tt
+from_wait-calm Q K t l ws h b c (r ∷ rs) =
+    Calm_moves-if Q (calls_on l r.vehicle) _ _ (Calm-append Q _ _ (calm_starts Q r) (calm_serves Q K.dwell t l ws r h), from_wait-calm Q K t l (left_behind r.vehicle ws) (Each-left Q r.vehicle ws h) b c rs)
+    (Calm_moves-if Q (is_last r.vehicle) _ _ (Calm-append Q _ _ (calm_starts Q r) (calm_arrives Q r), from_wait-calm Q K t l ws h b c rs)
+    (Calm_moves-if Q (may_pass K b c) _ _ (Calm-append Q _ _ (calm_starts Q r) tt, (tt, from_wait-calm Q K t l ws h (b + 1) (c - VEHICLE_COST) rs)) tt))
+
+from_queue-calm : (Q : ℕ → Type 0) (K : Rules) (t l : ℕ) (ws : List Waiter) → Each Q ws → (b c : ℕ) (xs ys : List Row) → Calm_moves Q (from_queue K t l ws b c xs ys)
+unfolding from_queue
+from_queue-calm Q K t l ws h b c [] ys = from_wait-calm Q K t l ws h b c ys
+from_queue-calm Q K t l ws h b c (r ∷ rs) ys =
+    Calm_moves-if Q (nat_lt t r.second) _ _ (from_wait-calm Q K t l ws h b c ys)
+    (Calm_moves-if Q (calls_on l r.vehicle) _ _ (calm_serves Q K.dwell t l ws r h, (tt, from_queue-calm Q K t l (left_behind r.vehicle ws) (Each-left Q r.vehicle ws h) b c rs ys))
+    (Calm_moves-if Q (is_last r.vehicle) _ _ (calm_arrives Q r, (tt, from_queue-calm Q K t l ws h b c rs ys))
+    (Calm_moves-if Q (may_pass K b c) _ _ (tt, (tt, (tt, from_queue-calm Q K t l ws h (b + 1) (c - VEHICLE_COST) rs ys)))
+    (from_wait-calm Q K t l ws h b c ys))))
+
+pub link_moves-calm : (Q : ℕ → Type 0) (K : Rules) (t l : ℕ) (ws : List Waiter) (L : Lane) → Each Q ws → Calm_moves Q (link_moves K t l ws L)
+unfolding link_moves
+link_moves-calm Q K t l ws L h = Calm_moves-append Q (leave_bay t l 0 L.bay) _ (leave_bay-calm Q t l 0 L.bay) (tt, from_queue-calm Q K t l ws h (length L.buffer) _ L.queue (wait_after t l L))
+
+-- CALM EVENTS LEAVE THOSE WHO WAIT ELSEWHERE
+start_kept : (S : Setup) (t a i : ℕ) (P : Person) (pl : Place) → P.place ≡ pl → waiter S a i (start_act S t i P pl) ≡ waiter S a i P
+start_kept S t a i P (At end) e = rw e refl
+start_kept S t a i P (Flying start) e = rw e refl
+start_kept S t a i P (Waiting stop since) e = refl
+start_kept S t a i P (Riding v) e = rw e refl
+start_kept S t a i P (Removed l) e = rw e refl
+
+ride_kept : (S : Setup) (a i : ℕ) (o : Option VehicleId) (P : Person) → waiter S a i P ≡ [] → waiter S a i (ride o P) ≡ waiter S a i P
+ride_kept S a i None P h = refl
+ride_kept S a i (Some v) P h = sym h
+
+word_kept : (S : Setup) (t a i : ℕ) (Q : ℕ → Type 0) (e : Said) (w : Word) (P : Person) → (Q i → waiter S a i P ≡ []) → Calm_word Q w (Some i) → waiter S a i (person_by S t i e w P) ≡ waiter S a i P
+word_kept S t a i Q e word.Departure P h c = absurd c
+word_kept S t a i Q e word.WaitingForPt P h c = absurd c
+word_kept S t a i Q e word.StuckAndAbort P h c = absurd c
+word_kept S t a i Q e word.PersonEntersVehicle P h c = ride_kept S a i e.vehicle P (h c)
+word_kept S t a i Q e word.ActStart P h c = start_kept S t a i P P.place refl
+word_kept S t a i Q e _ P h c = refl
+
+said_kept : (S : Setup) (t a i : ℕ) (Q : ℕ → Type 0) (e : Said) (o : Option ℕ) (P : Person) → (Q i → waiter S a i P ≡ []) → Calm_word Q e.word o → waiter S a i (told_of S t i e o P) ≡ waiter S a i P
+unfolding person_after
+said_kept S t a i Q e None P h c = refl
+said_kept S t a i Q e (Some j) P h c =
+    elim (cases_Bool (eqb j i)) [
+      | inl f ↦ let q = eqb-true j i f in rw f (word_kept S t a i Q e e.word P h (rw q at c))
+      | inr f ↦ rw f refl
+    ]
+
+all_kept : (S : Setup) (t a i : ℕ) (Q : ℕ → Type 0) (es : List Said) (P : Person) → (Q i → waiter S a i P ≡ []) → Calm Q es → waiter S a i (person_after_all S t i es P) ≡ waiter S a i P
+all_kept S t a i Q [] P h c = refl
+all_kept S t a i Q (e ∷ es) P h c =
+    let f = said_kept S t a i Q e e.person P h c.0 in
+    all_kept S t a i Q es (told_of S t i e e.person P) (λ q. f ∙ h q) c.1 ∙ f
+
+-- the rows of persons after moves
+pub run-length : (S : Setup) (t : ℕ) (ms : List Move) (W : World) → length (run S t ms W).persons ≡ length W.persons
+run-length S t [] W = refl
+run-length S t (m ∷ ms) W = run-length S t ms (done S t m W) ∙ persons-length S t (told m) W.persons
+
+run_kept : (S : Setup) (t a i : ℕ) (Q : ℕ → Type 0) (ms : List Move) (W : World) → i < length W.persons → (Q i → waiter S a i (person_of i W) ≡ []) → Calm_moves Q ms → waiter S a i (person_of i (run S t ms W)) ≡ waiter S a i (person_of i W)
+run_kept S t a i Q [] W lt h c = refl
+run_kept S t a i Q (m ∷ ms) W lt h c =
+    let e = ap (waiter S a i) (person_after_all-is S t i (told m) W.persons lt) in
+    let f = all_kept S t a i Q (told m) (person_of i W) h c.0 in
+    let lt2 : i < length (done S t m W).persons = (let q = persons-length S t (told m) W.persons in omega arith) in
+    run_kept S t a i Q ms (done S t m W) lt2 (λ q. e ∙ f ∙ h q) c.1 ∙ e ∙ f
+
+-- who waits on link l waits on no other one
+abbrev Elsewhere : Setup → ℕ → World → ℕ → Type 0
+Elsewhere S a W i = waiter S a i (person_of i W) ≡ []
+
+other_stop : (S : Setup) (l a i : ℕ) (Q : ℕ → Type 0) → a ≢ l → (w : Way) (next : Stay) (pl : Place) → (waits_on S a i w next pl ≡ [] → Q i) → Each Q (waits_on S l i w next pl)
+other_stop S l a i Q ne w next (At end) h = tt
+other_stop S l a i Q ne w next (Flying start) h = tt
+other_stop S l a i Q ne (Drive route) next (Waiting stop since) h = elim (cases_Bool (eqb (link_of_stop S stop) l)) [ inl e ↦ simp e tt | inr e ↦ simp e tt ]
+other_stop S l a i Q ne (Teleport mode seconds) next (Waiting stop since) h = elim (cases_Bool (eqb (link_of_stop S stop) l)) [ inl e ↦ simp e tt | inr e ↦ simp e tt ]
+other_stop S l a i Q ne (Transit line access egress) next (Waiting stop since) h =
+    elim (cases_Bool (eqb (link_of_stop S stop) l)) [
+      | inl e ↦ let q = eqb-true (link_of_stop S stop) l e in let g = ne_eqb (link_of_stop S stop) a (λ p. ne (sym p ∙ q)) in let k = simp g at h in simp e (k refl, tt)
+      | inr e ↦ simp e tt
+    ]
+other_stop S l a i Q ne w next (Riding v) h = tt
+other_stop S l a i Q ne w next (Removed m) h = tt
+
+waiters-elsewhere : (S : Setup) (l a : ℕ) (W : World) → a ≢ l → (is : List ℕ) → Each (Elsewhere S a W) (flat_map (λ i. waiter S l i (person_of i W)) is)
+waiters-elsewhere S l a W ne [] = tt
+waiters-elsewhere S l a W ne (i ∷ is) =
+    let P = person_of i W in
+    Each-append (Elsewhere S a W) (waiter S l i P) _ (other_stop S l a i (Elsewhere S a W) ne (way S i P.element) (next_stay S i P.element) P.place (λ h. h)) (waiters-elsewhere S l a W ne is)
+
+same_waiters : (S : Setup) (a : ℕ) (W U : World) (k n : ℕ) → k + n ≤ length W.persons → ((i : ℕ) → i < length W.persons → waiter S a i (person_of i U) ≡ waiter S a i (person_of i W)) →
+    flat_map (λ i. waiter S a i (person_of i U)) (numbers k n) ≡ flat_map (λ i. waiter S a i (person_of i W)) (numbers k n)
+same_waiters S a W U k zero h g = refl
+same_waiters S a W U k (suc n) h g = let e = g k (omega arith) in let f = same_waiters S a W U (k + 1) n (omega arith) g in cc
+
+-- moves that are calm for those who do not wait on link a leave those who wait there as they were
+pub waiters-kept : (S : Setup) (t a : ℕ) (ms : List Move) (W : World) → Calm_moves (Elsewhere S a W) ms → waiters S a (run S t ms W) ≡ waiters S a W
+unfolding waiters
+waiters-kept S t a ms W c =
+    let U = run S t ms W in
+    ap (λ n. flat_map (λ i. waiter S a i (person_of i U)) (below n)) (run-length S t ms W)
+    ∙ same_waiters S a W U 0 (length W.persons) (omega arith) (λ i lt. run_kept S t a i (Elsewhere S a W) ms W lt (λ q. q) c)
+
+pub waiters-calm : (S : Setup) (a l : ℕ) (W : World) → a ≢ l → Each (Elsewhere S a W) (waiters S l W)
+unfolding waiters
+waiters-calm S a l W ne = waiters-elsewhere S l a W ne (below (length W.persons))
+
+-- the turn of a link leaves those who wait on another one as they were
+pub waiters-other : (S : Setup) (t l a : ℕ) (K : Rules) (L : Lane) (W : World) → a ≢ l → waiters S a (run S t (link_moves K t l (waiters S l W) L) W) ≡ waiters S a W
+waiters-other S t l a K L W ne =
+    waiters-kept S t a (link_moves K t l (waiters S l W) L) W (link_moves-calm (Elsewhere S a W) K t l (waiters S l W) L (waiters-calm S a l W ne))

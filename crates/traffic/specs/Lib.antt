@@ -1,0 +1,15 @@
+pub mod Vehicles
+pub mod VehicleViews
+pub mod Rows
+pub mod Setup
+pub mod Lists
+pub mod Stops
+pub mod Telling
+pub mod Moves
+pub mod Links
+pub mod Nodes
+pub mod Persons
+pub mod Day
+pub mod Frames
+pub mod Worked
+pub mod Worlds

@@ -1,0 +1,178 @@
+-- The laws of a world: each person is in one place, no queue holds more than its storage unless rows were pushed in, no more
+-- vehicles pass than the flow allows, and all rows fit the plans that they come from.
+use Rattle.std.specs.Prelude.{◌≡◌, ℕ, zero, suc, ◌+◌, ◌*◌, ◌/◌, ◌%◌, ◌<◌, ◌≤◌, ◌⊎◌, Bool, true, false, not, List, [], ◌∷◌, length, count_by, sum_by, filter, drop, get_or, All, ◌==◌, if◌then◌else◌, Option, None, Some}
+use Rattle.events.specs.declared.event.Phase.TheVariants as phase
+use Rattle.events.specs.declared.event.VehicleId.{VehicleId}
+use Rattle.events.specs.declared.event.VehicleId.TheVariants as vehicle
+use Rattle.events.specs.declared.lists.StopCall.{StopCall}
+use Rattle.fixed_flow.specs.declared.TheConstants.{VEHICLE_COST}
+use Rattle.fixed_flow.specs.Flow.{full_credit}
+use Rattle.traffic.specs.declared.rows.Stage.{Stage}
+use Rattle.traffic.specs.declared.rows.Stage.TheVariants.{Queue, Buffer, Wait, Bay}
+use Rattle.traffic.specs.declared.rows.Rider.{Rider}
+use Rattle.traffic.specs.Lists.{is_nil}
+use Rattle.traffic.specs.Rows.{VehicleState, Row, Place, At, Flying, Waiting, Riding, Gone as Removed, World, on, at, person_of}
+use Rattle.traffic.specs.Setup.{Setup, Stay, Way, Drive, Teleport, Transit, Stuck, itinerary, way, next_stay, storage_of, gain_of}
+use Rattle.traffic.specs.Stops.{calls_at}
+use Rattle.traffic.specs.Moves.{Move, Put}
+use Rattle.traffic.specs.Nodes.{Exit, has_room, is_stuck, exits_by}
+use Rattle.traffic.specs.Persons.{same_vehicle}
+use Rattle.traffic.specs.Day.{moves_of, turns_in, through, world_from}
+
+-- ONE PLACE
+-- how often rows list a person among their riders
+abbrev pub listed_in : ℕ → Row → ℕ
+listed_in i r = count_by (λ (x : Rider). x.person == i) r.vehicle.riders
+
+abbrev pub listed : ℕ → List Row → ℕ
+listed i rows = sum_by (listed_in i) rows
+
+abbrev pub rows_of : VehicleId → List Row → List Row
+rows_of v rows = filter (λ (r : Row). same_vehicle r.vehicle.id v) rows
+
+-- who rides is listed once, and that in the vehicle named; nobody else is listed
+abbrev pub IsListed : ℕ → List Row → Place → Type 0
+IsListed i rows (Riding v) = (listed i rows ≡ 1) × (listed i (rows_of v rows) ≡ 1)
+IsListed i rows _ = listed i rows ≡ 0
+
+-- each person has one row, and is where it says and nowhere else
+pub record OnePlace (S : Setup) (W : World) : Type 0 where
+  pub one_row : length W.persons ≡ length S.persons
+  pub one_place : (i : ℕ) → i < length S.persons → IsListed i W.rows (person_of i W).place
+
+-- STORAGE
+-- a queue has at most its storage of rows that are not pushed
+abbrev pub Storage : Setup → World → Type 0
+Storage S W = (l : ℕ) → l < length S.links → count_by (λ (r : Row). not r.vehicle.pushed) (at l Queue W) ≤ storage_of S l
+
+-- a row goes into a queue because there is room, or it is stuck and is pushed in; and it knows which
+abbrev pub IsEntering : Stuck → ℕ → Option Exit → Row → Row → Type 0
+IsEntering K t e was now =
+    ((has_room e ≡ true) × (now.vehicle.pushed ≡ false))
+    ⊎ ((has_room e ≡ false) × (K.push ≡ true) × (is_stuck K t was.second ≡ true) × (now.vehicle.pushed ≡ true))
+
+-- each move of a node's turn that takes a row out of a buffer into a queue does so, by the taken places that the ones before it left
+abbrev pub EnterByRule : Stuck → ℕ → (ℕ → Option Exit) → List Move → Type 0
+EnterByRule K t exits [] = Unit {0}
+EnterByRule K t exits (Put l s k was now ∷ ms) = IsEntering K t (exits now.link) was now × EnterByRule K t (exits_by (Put l s k was now) exits) ms
+EnterByRule K t exits (_ ∷ ms) = EnterByRule K t exits ms
+
+-- FLOW
+-- how many rows moves put into the buffer of link l
+abbrev pub buffers_one : ℕ → Move → ℕ
+buffers_one l (Put a s k was now) = if on l Buffer now then 1 else 0
+buffers_one l _ = 0
+
+abbrev pub passing : ℕ → List Move → ℕ
+passing l ms = sum_by (buffers_one l) ms
+
+-- the moves of phase D of second t, done on W
+abbrev pub link_turn_moves : Setup → ℕ → World → List Move
+link_turn_moves S t W = moves_of (turns_in S t phase.D (through S t (phase.A ∷ phase.B1 ∷ phase.B2 ∷ phase.C ∷ []) W))
+
+-- how many pass in the n seconds from t on, of the day that begins with W
+unfoldable pub passing_in : Setup → World → ℕ → ℕ → ℕ → ℕ
+passing_in S W l t zero = 0
+passing_in S W l t (suc n) = passing_in S W l t n + passing l (link_turn_moves S (t + n) (world_from S W (t + n)))
+
+-- in any n seconds in a row no more vehicles enter a link's buffer than what they gain and what may be saved before pays for
+abbrev pub FlowKept : Setup → World → Type 0
+FlowKept S W = (l t n : ℕ) → l < length S.links → t + n ≤ S.end → passing_in S W l t n ≤ (n * gain_of S l + full_credit (gain_of S l)) / VEHICLE_COST
+
+-- SOUND
+-- the element is an activity of the plan, or a leg of it
+abbrev pub IsAct : Setup → ℕ → ℕ → Type 0
+IsAct S i element = (element % 2 ≡ 0) × (element / 2 < length (itinerary S i).stays)
+
+abbrev pub IsLeg : Setup → ℕ → ℕ → Type 0
+IsLeg S i element = (element % 2 ≡ 1) × (element / 2 < length (itinerary S i).ways)
+
+-- whether it is the last activity of the plan
+abbrev pub is_last_act : Setup → ℕ → ℕ → Bool
+is_last_act S i element = element / 2 + 1 == length (itinerary S i).stays
+
+-- an activity has an end exactly where it is not the last one
+abbrev pub HasEnd : Bool → Option ℕ → Type 0
+HasEnd last None = last ≡ true
+HasEnd last (Some end) = last ≡ false
+
+abbrev pub IsFlight : Way → Type 0
+IsFlight (Teleport mode seconds) = Unit {0}
+IsFlight _ = ⊥
+
+-- a transit leg from this stop
+abbrev pub IsFrom : ℕ → Way → Type 0
+IsFrom stop (Transit line access egress) = access ≡ stop
+IsFrom stop _ = ⊥
+
+-- a leg in a vehicle
+abbrev pub IsRide : Way → Type 0
+IsRide (Teleport mode seconds) = ⊥
+IsRide _ = Unit {0}
+
+-- a person's element fits the place
+abbrev pub IsSoundPerson : Setup → ℕ → ℕ → Place → Type 0
+IsSoundPerson S i element (At end) = IsAct S i element × HasEnd (is_last_act S i element) end
+IsSoundPerson S i element (Flying start) = IsLeg S i element × IsFlight (way S i element)
+IsSoundPerson S i element (Waiting stop since) = IsLeg S i element × IsFrom stop (way S i element)
+IsSoundPerson S i element (Riding v) = IsLeg S i element × IsRide (way S i element)
+IsSoundPerson S i element (Removed l) = IsLeg S i element × IsRide (way S i element)
+
+-- a vehicle in a bay has served a stop, and one in a buffer has a next link
+abbrev pub IsSoundStage : Stage → VehicleState → Type 0
+IsSoundStage Queue v = Unit {0}
+IsSoundStage Buffer v = v.place + 1 < length v.route
+IsSoundStage Wait v = Unit {0}
+IsSoundStage Bay v = 1 ≤ v.served
+
+-- the links that are still ahead of it: those from its own on, but in a buffer those after it
+abbrev pub ahead : Stage → VehicleState → List ℕ
+ahead Buffer v = drop (v.place + 1) v.route
+ahead _ v = drop v.place v.route
+
+-- the list from the first link that is this one on
+abbrev pub from_link : ℕ → List ℕ → List ℕ
+from_link l [] = []
+from_link l (x ∷ xs) = if x == l then x ∷ xs else from_link l xs
+
+-- these calls can all be served in order on these links, and two on one link
+abbrev pub AreServable : List StopCall → List ℕ → Type 0
+AreServable [] links = Unit {0}
+AreServable (c ∷ cs) links = (is_nil (from_link c.link links) ≡ false) × AreServable cs (from_link c.link links)
+
+-- a rider has the egress stop of his leg, which is none for a car leg, and the kind of the activity after it
+abbrev pub HasLeg : Rider → Way → Stay → Type 0
+HasLeg r (Drive route) next = (r.egress ≡ None) × (r.kind ≡ next.kind)
+HasLeg r (Teleport mode seconds) next = ⊥
+HasLeg r (Transit line access egress) next = (r.egress ≡ Some egress) × (r.kind ≡ next.kind)
+
+-- the leg is by car along this route
+abbrev pub IsAlong : List ℕ → Way → Type 0
+IsAlong route (Drive links) = links ≡ route
+IsAlong route _ = ⊥
+
+-- the leg is by this line to one of the stops that are still unserved
+abbrev pub IsOnLine : VehicleState → Way → Type 0
+IsOnLine v (Transit line access egress) = (line ≡ v.line) × (calls_at egress (drop v.served v.calls) ≡ true)
+IsOnLine v _ = ⊥
+
+abbrev pub leg_of : Setup → World → ℕ → Way
+leg_of S W i = way S i (person_of i W).element
+
+-- a car has its driver alone, and the route of his leg; in a transit vehicle each rider is on a leg that it serves
+abbrev pub HasRiders : Setup → World → VehicleState → VehicleId → Type 0
+HasRiders S W v (vehicle.Car i) = (length v.riders ≡ 1) × All (λ (r : Rider). r.person ≡ i) v.riders × IsAlong v.route (leg_of S W i)
+HasRiders S W v (vehicle.Transit d) = All (λ (r : Rider). IsOnLine v (leg_of S W r.person)) v.riders
+
+-- a vehicle row fits its route, its calls and its riders' legs
+pub record IsSoundRow (S : Setup) (W : World) (r : Row) : Type 0 where
+  pub stage : IsSoundStage r.stage r.vehicle
+  pub place : r.vehicle.place < length r.vehicle.route
+  pub link : r.link ≡ get_or r.vehicle.route r.vehicle.place 0
+  pub calls : AreServable (drop r.vehicle.served r.vehicle.calls) (ahead r.stage r.vehicle)
+  pub legs : All (λ (x : Rider). HasLeg x (leg_of S W x.person) (next_stay S x.person (person_of x.person W).element)) r.vehicle.riders
+  pub riders : HasRiders S W r.vehicle r.vehicle.id
+
+pub record Sound (S : Setup) (W : World) : Type 0 where
+  pub persons : (i : ℕ) → i < length S.persons → IsSoundPerson S i (person_of i W).element (person_of i W).place
+  pub rows : All (IsSoundRow S W) W.rows

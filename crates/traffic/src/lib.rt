@@ -1,0 +1,23 @@
+//! What a second of traffic is: the rows of the world, the moves that change them, and what each
+//! node, link, person and departure does in its turn. The definitions stand in `specs/`; the
+//! functions here are the laws that every crate above rests on.
+#![tactic(auto)]
+
+mod laws;
+mod moves;
+mod numbers;
+mod rows;
+mod sight;
+mod vehicle;
+mod world;
+
+pub use laws::{
+    days_are_in_order, idle_turns_move_nothing, links_keep_apart, moves_are_local,
+    nodes_keep_apart, persons_keep_apart, phases_are_at_once, worked_days,
+};
+pub use moves::{Move, Said, SaidList};
+pub use numbers::{Dwelling, Rules, Stuck};
+pub use rows::{Rider, Riders, Stage};
+pub use sight::{Entry, Exit};
+pub use vehicle::Vehicle;
+pub use world::{Hole, Person, Place, Row, RowList, Waiter};

@@ -20,7 +20,7 @@ pub record Lane : Type 0 where
 abbrev pub lane : ℕ → World → Lane
 lane l W = record { queue = at l Queue W; buffer = at l Buffer W; wait = at l Wait W; bay = at l Bay W; credit = credit_of l W }
 
--- and of the numbers
+-- the numbers of a link that its turn needs
 abbrev pub rules : Setup → ℕ → Rules
 rules S l = record { room = room_of S l; gain = gain_of S l; dwell = S.dwell }
 

@@ -41,7 +41,7 @@ leave t P = record { element = P.element + 1; place = Flying t }
 abbrev pub arrive : Setup → ℕ → ℕ → Person → Person
 arrive S t i P = record { element = P.element + 1; place = At (ends_at (stay S i (P.element + 1)).end t) }
 
--- nobody arrives who waits at a stop
+-- the next activity begins; a person who waits at a stop has none to begin, and in a day there is no such event
 abbrev pub start_act : Setup → ℕ → ℕ → Person → Place → Person
 start_act S t i P (Waiting stop since) = P
 start_act S t i P _ = arrive S t i P
@@ -59,7 +59,7 @@ lose None P = P
 lose (Some l) P = record P { place = Removed l }
 
 -- What an event of person i in second t, of this word, makes of his row: with a departure he is under way, and the next event tells
--- where if he neither walks nor rides a bike; from then on he is in a vehicle, at a stop, at his next activity, or removed.
+-- where if the leg is not teleported; from then on he is in a vehicle, at a stop, at his next activity, or removed.
 abbrev pub person_by : Setup → ℕ → ℕ → Said → Word → Person → Person
 person_by S t i e word.Departure P = leave t P
 person_by S t i e word.WaitingForPt P = wait_at e.more t P

@@ -42,7 +42,7 @@ pub record Departure : Type 0 where
   pub calls : List StopCall
 
 pub record Setup : Type 0 where
-  -- the second in which nothing happens any more
+  -- the second at which the day is over: only phase E is in it
   pub end : ℕ
   pub flow_permille : ℕ
   pub storage_permille : ℕ
@@ -72,7 +72,7 @@ seconds_of S l = free_seconds (road S l).length_of (road S l).speed
 abbrev pub gain_of : Setup → ℕ → ℕ
 gain_of S l = credit_per_second (road S l).capacity S.flow_permille
 
--- how many rows the queue of a link holds
+-- the storage of a link: how many taken places its queue may have
 abbrev pub storage_of : Setup → ℕ → ℕ
 storage_of S l = storage (road S l).length_of (road S l).lanes S.storage_permille (seconds_of S l) (gain_of S l)
 
@@ -80,7 +80,7 @@ storage_of S l = storage (road S l).length_of (road S l).lanes S.storage_permill
 abbrev pub room_of : Setup → ℕ → ℕ
 room_of S l = buffer_room (gain_of S l)
 
--- for how many seconds a place that was left counts as taken: those that a hole travels along the link, at least one
+-- h: a place that was left in second s is free for the nodes from second s + h on; the seconds that a hole travels along the link, at least one
 unfoldable pub hole_seconds : ℕ → Option ℕ → ℕ
 hole_seconds length None = 1
 hole_seconds length (Some speed) = max 1 (length / speed)

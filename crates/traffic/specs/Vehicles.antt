@@ -14,7 +14,7 @@ pub record VehicleState : Type 0 where
   pub started : Bool
   -- in the order in which they boarded
   pub riders : List Rider
-  -- of a car: 0, no calls, and 0 from there on
+  -- the line; a car has 0, no calls, and 0 for the next three
   pub line : ℕ
   pub calls : List StopCall
   -- how many of the calls it has served

@@ -61,8 +61,8 @@ pub fn persons_keep_apart()
         → person_of j (run S t (departure_plan S t d W) W) ≡ person_of j W }
 {}
 
-/// The turns of a phase are those of the world at its start: it does not matter in which order, or
-/// where, they are made.
+/// The turns of a phase, made by number and each in the world that those before it left, are those
+/// of the world at its start.
 pub fn phases_are_at_once()
     ensures { (S : Setup) (t : ℕ) (p : Phase) (W : World)
         → turns_in S t p W ≡ map (turn_of (plan_of S t p) W) (below (count_of S p)) }

@@ -11,7 +11,7 @@ pub enum Stage {
     /// It is about to pass the end node; its second is since when it has been at the front, and 0
     /// behind the front.
     Buffer,
-    /// It has not entered the traffic of the link yet; its second is 0.
+    /// It waits to enter the traffic of the link, where it starts or comes back from the bay; its second is 0.
     Wait,
     /// It stands at a stop; its second is the one in which it may go on.
     Bay,

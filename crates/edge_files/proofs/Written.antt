@@ -1,6 +1,6 @@
 -- How writes go on.
-use Rattle.std.proofs.Common.{◌≡◌, ℕ, List, [], ◌∷◌, ◌++◌, take, drop, Bool, true, false, cond, refl, sym, ◌∙◌, ap, subst, append_assoc, take-append-drop}
-use Rattle.std.proofs.lemmas.List.{append-nil, map-append}
+use Rattle.std.proofs.Common.{◌≡◌, ◌≤◌, ℕ, List, length, [], ◌∷◌, ◌++◌, take, drop, Bool, true, false, cond, refl, sym, ◌∙◌, ap, subst, append_assoc, take-append-drop}
+use Rattle.std.proofs.lemmas.List.{append-nil, map-append, take-append-le}
 use Rattle.std.specs.Io.KnownBytes.{Appends}
 use Rattle.std.proofs.KnownBytes.{Appends-nil, Appends-trans}
 use Rattle.edge_files.specs.declared.files.OutFile.{OutFile}
@@ -44,6 +44,16 @@ writing_more a b c file piece rest n so_far took = record {
   split = append_assoc so_far.front (take n rest) (drop n rest) ∙ ap (λ (l : List ℕ). so_far.front ++ l) (take-append-drop n rest) ∙ so_far.split;
   writes = writes_as a c _ _ (sym (map-append (Byte file) so_far.front (take n rest))) (writes_then a b c (byte_steps file so_far.front) (byte_steps file (take n rest)) so_far.writes took);
 }
+
+-- the first n bytes of a front of the rest, of k bytes, are those of the rest
+take_of_front : (k n : ℕ) (rest : List ℕ) → n ≤ length (take k rest) → take n (take k rest) ≡ take n rest
+take_of_front k n rest h = sym (take-append-le n (take k rest) (drop k rest) h) ∙ ap (λ (l : List ℕ). take n l) (take-append-drop k rest)
+
+pub writing_front : (a b c : Written) (file : OutFile) (piece rest front : List ℕ) (k n : ℕ) → Writing a b file piece rest → front ≡ take k rest → n ≤ length front → Writes b c (byte_steps file (take n front)) → Writing a c file piece (drop n rest)
+writing_front a b c file piece rest front k n so_far is h took =
+    let within = subst (λ (l : List ℕ). n ≤ length l) is h in
+    let took_front = subst (λ (l : List ℕ). Writes b c (byte_steps file (take n l))) is took in
+    writing_more a b c file piece rest n so_far (subst (λ (l : List ℕ). Writes b c (byte_steps file l)) (take_of_front k n rest within) took_front)
 
 pub writing_all : (a b : Written) (file : OutFile) (piece rest : List ℕ) → Writing a b file piece rest → rest ≡ [] → Writes a b (byte_steps file piece)
 writing_all a b file piece rest so_far none =

@@ -24,8 +24,11 @@ pub trait Outputs {
         ensures cause { HasCause (faults self.old) (faults self.new) result };
 }
 
-/// Writes all of a piece. At an `Err` a front of it was written. It takes no memory.
-#[tactic(auto, using(crate::proofs::Written::writing_more, crate::proofs::Written::writing_part))]
+/// How many bytes are handed on at once.
+const PIECE: usize = 65536;
+
+/// Writes all of a piece, some 64 KiB at once. At an `Err` a front of it was written. It takes no memory.
+#[tactic(auto, using(crate::proofs::Written::writing_front, crate::proofs::Written::writing_part))]
 pub fn write_whole<O: Outputs>(outputs: &mut O, file: OutFile, piece: &[u8]) -> Result<(), Failed>
     ensures done { OnOk result (Writes (O.written outputs.old) (O.written outputs.new) (byte_steps file piece.now)) }
     ensures part { OnErr result (WritesPart (O.written outputs.old) (O.written outputs.new) file piece.now) }
@@ -33,7 +36,8 @@ pub fn write_whole<O: Outputs>(outputs: &mut O, file: OutFile, piece: &[u8]) -> 
 {
     let mut rest = piece;
     while !rest.is_empty() {
-        match outputs.write(file, rest) {
+        let (front, _) = rest.split_at(rest.len().min(PIECE));
+        match outputs.write(file, front) {
             Ok(count) => {
                 let (_, after) = rest.split_at(count);
                 rest = after;

@@ -1,0 +1,55 @@
+-- The stop calls of a route: `STOP:OFFSET` or `STOP:OFFSET:wait`.
+use Rattle.std.specs.Prelude.{ℕ, Bool, true, false, ◌&&◌, ◌||◌, nat_le, nat_lt, nat_eq, bytes_eq, codes, unwrap_or, List, [], ◌∷◌, length, drop, get_or, position, Option, None, Some}
+use Rattle.events.specs.Names.{is_name, number_of}
+use Rattle.events.specs.declared.lists.StopCall.{StopCall}
+use Rattle.records.specs.Lists.{parts_of}
+use Rattle.records.specs.Numbers.{number_in}
+use Rattle.schedule.specs.declared.rows.StopRow.{StopRow}
+use Rattle.schedule.specs.declared.calls.CallText.{CallText}
+
+-- the part at a place between colons, or no bytes where there are not so many
+abbrev pub part : List (List ℕ) → ℕ → List ℕ
+part parts place = get_or parts place []
+
+-- two parts, or three of which the last is `wait`; the first is a name
+unfoldable pub is_call : List (List ℕ) → Bool
+is_call parts = is_name (part parts 0) && (nat_eq (length parts) 2 || (nat_eq (length parts) 3 && bytes_eq (part parts 2) (codes "wait")))
+
+-- what the parts of a stop call say: the number of the stop among the names of the stops, and an offset of 0 to 172,800 s
+unfoldable pub text_of : List (List ℕ) → List (List ℕ) → CallText
+text_of stops parts = record {
+  is_call = is_call parts;
+  stop = number_of (part parts 0) stops;
+  offset = number_in 0 172800 (part parts 1);
+  wait = nat_eq (length parts) 3;
+}
+
+-- what the text of a stop call says
+abbrev pub call_text : List (List ℕ) → List ℕ → CallText
+call_text stops item = text_of stops (parts_of 58 item)
+
+-- the link of a stop
+abbrev pub link_at : List StopRow → ℕ → ℕ
+link_at rows stop = (get_or rows stop (record { link = 0 })).link
+
+-- the stop call of a text, on the link of its stop
+unfoldable pub call_of : List StopRow → CallText → StopCall
+call_of rows text = record {
+  stop = unwrap_or text.stop 0;
+  link = link_at rows (unwrap_or text.stop 0);
+  offset = unwrap_or text.offset 0;
+  wait = text.wait;
+}
+
+abbrev pub served_from : (List ℕ → Bool) → List ℕ → Option ℕ → Bool
+served_from others links None = false
+served_from others links (Some place) = others (drop place links)
+
+-- each call is served on the first link, from the place of the call before it on, that is its stop's link
+unfoldable pub are_served : List StopCall → List ℕ → Bool
+are_served [] links = true
+are_served (call ∷ calls) links = served_from (are_served calls) links (position (nat_eq call.link) links)
+
+-- the call is at one of the stops, on its link, at an offset of at most 172,800 s
+unfoldable pub is_sound_call : List StopRow → StopCall → Bool
+is_sound_call rows call = nat_lt call.stop (length rows) && nat_eq call.link (link_at rows call.stop) && nat_le call.offset 172800

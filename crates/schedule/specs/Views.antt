@@ -1,0 +1,20 @@
+-- What the files give, as lists.
+use Rattle.std.specs.Prelude.{ℕ, List}
+use Rattle.schedule.specs.declared.rows.StopRow.{StopRow}
+use Rattle.schedule.specs.declared.rows.RouteRow.{RouteRow}
+use Rattle.schedule.specs.declared.rows.DepartureRow.{DepartureRow}
+use Rattle.schedule.specs.declared.lists.Stops.{Stops}
+use Rattle.schedule.specs.declared.lists.Routes.{Routes}
+use Rattle.schedule.specs.declared.lists.Departures.{Departures}
+
+-- names and stops
+abbrev pub stop_lists : Stops → List (List ℕ) × List StopRow
+stop_lists stops = (stops.names, stops.rows)
+
+-- lines, names and routes
+abbrev pub route_lists : Routes → List (List ℕ) × List (List ℕ) × List RouteRow
+route_lists routes = (routes.lines, routes.names, routes.rows)
+
+-- names and departures
+abbrev pub departure_lists : Departures → List (List ℕ) × List DepartureRow
+departure_lists departures = (departures.names, departures.rows)

@@ -1,2 +1,15 @@
 pub mod Closing
 pub mod Known
+pub mod Cells
+pub mod Items
+pub mod RunsMore
+pub mod Naming
+pub mod Passing
+pub mod ActSteps
+pub mod ActCases
+pub mod Soundness
+pub mod LegCases
+pub mod RowRead
+pub mod FileRead
+pub mod Answering
+pub mod Whole

@@ -3,3 +3,9 @@ pub mod Parts
 pub mod Elements
 pub mod Walkers
 pub mod Views
+pub mod Kinds
+pub mod Refusals
+pub mod Runs
+pub mod Values
+pub mod Progress
+pub mod Read

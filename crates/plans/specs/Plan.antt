@@ -1,6 +1,5 @@
 -- What a day plan keeps: activities, and a leg between each and the next.
-use Rattle.std.specs.Prelude.{ℕ, Bool, true, false, ◌&&◌, nat_le, nat_lt, nat_eq, List, [], ◌∷◌, length, Option, None, Some}
-use Rattle.std.specs.List.{list_all}
+use Rattle.std.specs.Prelude.{ℕ, Bool, true, false, ◌&&◌, nat_le, nat_lt, List, [], ◌∷◌, length, Option, None, Some}
 use Rattle.events.specs.declared.event.Mode.{Mode}
 use Rattle.events.specs.declared.event.Mode.TheVariants as mode
 use Rattle.plans.specs.declared.plan.Act.{Act}

@@ -1,5 +1,5 @@
 -- The files of walkers: one plan a person, whose legs are all walk, bike or ride; and the first fault of any other file.
-use Rattle.std.specs.Prelude.{ℕ, ◌+◌, ◌^◌, Bool, true, false, ◌&&◌, not, nat_eq, nat_lt, if◌then◌else◌, List, [], ◌∷◌, ◌++◌, length, Option, None, Some, unwrap_or, Result, Ok, Err}
+use Rattle.std.specs.Prelude.{ℕ, ◌+◌, ◌^◌, ◌&&◌, nat_eq, nat_lt, if◌then◌else◌, List, [], ◌∷◌, ◌++◌, length, Option, None, Some, unwrap_or, Result, Ok, Err}
 use Rattle.edge_files.specs.declared.reasons.Reason.TheVariants as reason
 use Rattle.edge_files.specs.declared.reasons.RowFault.{RowFault}
 use Rattle.events.specs.Names.{number_of, with_name}

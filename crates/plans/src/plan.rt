@@ -99,7 +99,24 @@ impl Model for PlanLists {
     ghost view = { λ p. p.rows.items };
 }
 
+/// Rows of a file by their numbers, from 1 on.
+#[derive(Drop)]
+pub struct RowNumbers {
+    pub rows: Vec<u32>,
+}
+
+impl Model for RowNumbers {
+    ghost use Rattle.std.specs.Prelude.{List, ℕ};
+
+    ghost Value = { List ℕ };
+
+    ghost view = { λ r. r.rows.items };
+}
+
 /// What plans.csv gives: names numbered by first appearance, and each person's plans.
+///
+/// `starts` has the row in which each plan begins, the plans of all persons one behind the other:
+/// the first activity of such a plan stands in that row, the leg behind it in the next one.
 #[derive(Drop)]
 pub struct PlanFile {
     pub persons: Names,
@@ -107,4 +124,5 @@ pub struct PlanFile {
     pub lines: Names,
     pub stops: Names,
     pub plans: PlanLists,
+    pub starts: RowNumbers,
 }

@@ -9,7 +9,7 @@ ghost use Rattle.plans.specs.Views.{draft_of, progress_of, IsAnswer, IsKnown};
 
 use crate::drafts;
 use crate::elements::{act_in, is_element, is_plans_header, leg_in};
-use crate::plan::{Act, Leg, PlanFile, PlanList, PlanLists};
+use crate::plan::{Act, Leg, PlanFile, PlanList, PlanLists, RowNumbers};
 use crate::reading::{Draft, Reading};
 use csv::ByteRecord;
 use edge_files::{Reason, RowStop};
@@ -274,6 +274,9 @@ fn finished(alloc: Global, last: u32, reading: Reading) -> Result<(Names, PlanFi
         lines: Names::new(alloc),
         stops: Names::new(alloc),
         plans,
+        starts: RowNumbers {
+            rows: Vec::new(alloc),
+        },
     };
     Ok((links, file))
 }
@@ -326,7 +329,7 @@ fn read_all(alloc: Global, rows: &[ByteRecord]) -> Result<(Names, PlanFile), Row
 /// Any other file is refused at its first row with which no such file goes on, or at its last row
 /// where that is a leg.
 #[tactic(auto, unfolding(crate::specs::Walkers::walkers_of))]
-pub fn read_plans(alloc: Global, bytes: &[u8]) -> Result<(Names, PlanFile), RowStop>
+pub fn read_walkers(alloc: Global, bytes: &[u8]) -> Result<(Names, PlanFile), RowStop>
     ensures read { IsAnswer result (walkers_of bytes.now) }
     ensures known { IfOk result (λ r. IsKnown r.0 r.1) }
 {

@@ -14,7 +14,7 @@ use crate::texts::{events_text, iteration_line, refused_line};
 use crate::trips::{Trip, all_trips};
 use edge_files::{Bytes, Effect, EffectList, InFile, OutFile, Reason, RowFault, RowStop};
 use events::{Book, Event, Names};
-use plans::{PlanFile, read_plans};
+use plans::{PlanFile, read_walkers};
 use std::alloc::{AllocError, Global};
 
 /// The day's last second, at which nothing is done any more but the end of the day.
@@ -146,7 +146,7 @@ pub fn file_answer(alloc: Global, bytes: &[u8]) -> Result<Answer, AllocError>
     ensures answer { IfOk result (λ a. a ≡ file_answer bytes.now) }
     ensures sound { IfOk result IsSound }
 {
-    match read_plans(alloc, bytes) {
+    match read_walkers(alloc, bytes) {
         Ok((links, file)) => walkers_answer(alloc, links, file),
         Err(RowStop::Fault(fault)) => refused(alloc, fault),
         Err(RowStop::NoMemory) => Err(AllocError),

@@ -1,0 +1,47 @@
+-- The header and the rows behind it.
+use Rattle.std.proofs.Common.{◌≡◌, ℕ, ◌<◌, Bool, true, false, not, cond, List, [], ◌∷◌, length, drop, Option, None, Some, Result, Ok, Err, refl, sym, ◌∙◌, ap, subst, arith}
+use Rattle.std.specs.Prelude.{nat_eq}
+use Rattle.edge_files.specs.declared.reasons.Reason.{Reason}
+use Rattle.edge_files.specs.declared.reasons.RowFault.{RowFault}
+use Rattle.edge_files.specs.declared.reasons.RowStop.{RowStop}
+use Rattle.records.specs.Rows.{Row, rows_of}
+use Rattle.records.specs.Faults.{Answers}
+use Rattle.records.specs.Files.{begins_with, is_too_long, head_reason, body_of, TellsStop}
+use Rattle.records.proofs.Faulty.{answers_head}
+use Rattle.plans.specs.declared.plan.PlanFile.{PlanFile}
+use Rattle.plans.specs.Values.{PlanRows, reason_at, rows_fault, values_of}
+use Rattle.plans.specs.Read.{plan_rows_of}
+
+if_none : (b : Bool) (why : Reason) (rest : Option Reason) → cond b (Some why) rest ≡ None → (b ≡ false) × (rest ≡ None)
+if_none true why rest h = cc
+if_none false why rest h = (refl, h)
+
+some_behind : (names : List (List ℕ)) (rows : List Row) → not (begins_with names rows) ≡ false → nat_eq (length rows) 1 ≡ false → 0 < length (drop 1 rows)
+some_behind names [] begins more = cc
+some_behind names (row ∷ []) begins more = cc
+some_behind names (row ∷ next ∷ rows) begins more = omega arith
+
+-- a row stands behind a header that has no reason
+pub body_some : (names : List (List ℕ)) (bytes : List ℕ) → head_reason names bytes ≡ None → 0 < length (drop 1 (rows_of bytes))
+unfolding head_reason
+body_some names bytes h =
+    let a = if_none _ _ _ h in
+    let b = if_none _ _ _ a.1 in
+    let c = if_none _ _ _ b.1 in
+    some_behind names (rows_of bytes) b.0 c.0
+
+-- what is answered of the rows is answered of the file
+pub answers_rows : (result : Result PlanFile RowStop) (head : Option Reason) (links : List (List ℕ)) (ends : List (ℕ × ℕ)) (bytes : List ℕ) (rows : List Row) → head ≡ None → rows ≡ body_of bytes
+    → Answers plan_rows_of result (rows_fault None links ends rows) (values_of links rows) → Answers plan_rows_of result (rows_fault head links ends (body_of bytes)) (values_of links (body_of bytes))
+answers_rows result head links ends bytes rows good same answers =
+    let at_body = subst (λ (l : List Row). Answers plan_rows_of result (rows_fault None links ends l) (values_of links l)) same answers in
+    subst (λ (h : Option Reason). Answers plan_rows_of result (rows_fault h links ends (body_of bytes)) (values_of links (body_of bytes))) (sym good) at_body
+
+-- what is told of row 0 is told of the file
+pub answers_stop : (told : RowStop) (head : Option Reason) (links : List (List ℕ)) (ends : List (ℕ × ℕ)) (rows : List Row) (value : PlanRows) → TellsStop told head → Answers plan_rows_of (Err told) (rows_fault head links ends rows) value
+unfolding rows_fault
+answers_stop told head links ends rows value tells = answers_head plan_rows_of told head (reason_at links ends rows) (length rows) value tells
+
+pub body_is : (bytes : List ℕ) → drop 1 (rows_of bytes) ≡ body_of bytes
+unfolding body_of
+body_is bytes = refl

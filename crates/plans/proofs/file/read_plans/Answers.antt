@@ -1,0 +1,23 @@
+use Rattle.std.proofs.Common.{◌≡◌, ◌∙◌, ℕ, ◌<◌, List, ap, map, length, drop, sym, arith}
+use Rattle.std.proofs.lemmas.List.{length-map}
+use Rattle.csv.specs.declared.record.ByteRecord.{ByteRecord}
+use Rattle.csv.specs.Records.{fields_of}
+use Rattle.records.specs.Rows.{Row, rows_of}
+use Rattle.plans.specs.Kinds.{plans_header}
+use Rattle.plans.proofs.Whole.{body_some, body_is, answers_rows, answers_stop}
+use Rattle.plans.proofs.file.read_plans.Goals as goal
+
+pub read_rows-requires-clause-some : goal.read_rows-requires-clause-some
+read_rows-requires-clause-some c =
+    let same : map fields_of c.body.result.now ≡ drop 1 (rows_of c.args.bytes.now) =
+    c.body.ensures ∙ ap (λ (l : List ByteRecord). drop 1 (map fields_of l)) c.deref.ensures.value ∙ ap (λ (l : List Row). drop 1 l) c.in-Ok.ensures.rows in
+    let some = body_some plans_header c.args.bytes.now c.in-Ok.ensures.head in
+    omega (arith, some, ap length same, length-map c.body.result.now fields_of)
+
+pub returns-in-Ok-clause-read : goal.returns-in-Ok-clause-read
+returns-in-Ok-clause-read c =
+    let same = c.body.ensures ∙ ap (λ (l : List ByteRecord). drop 1 (map fields_of l)) c.deref.ensures.value ∙ ap (λ (l : List Row). drop 1 l) c.in-Ok.ensures.rows ∙ body_is c.args.bytes.now in
+    answers_rows c.read_rows.result _ c.args.links.now c.args.ends.now c.args.bytes.now _ c.in-Ok.ensures.head same c.read_rows.ensures.read
+
+pub returns-in-Err-clause-read : goal.returns-in-Err-clause-read
+returns-in-Err-clause-read c = answers_stop _ _ _ _ _ _ c.in-Err.ensures.head

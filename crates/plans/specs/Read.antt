@@ -1,0 +1,43 @@
+-- The values of the code as the definitions see them.
+use Rattle.std.specs.Prelude.{◌≡◌, ℕ, List, map, Option, None, Some, Result, Ok, Err}
+use Rattle.edge_files.specs.declared.reasons.RowFault.{RowFault}
+use Rattle.edge_files.specs.declared.reasons.RowStop.{RowStop}
+use Rattle.edge_files.specs.declared.reasons.RowStop.TheVariants as stop
+use Rattle.records.specs.Rows.{Row}
+use Rattle.plans.specs.Parts.{parts_of, all_parts}
+use Rattle.plans.specs.Values.{PlanRows, rows_fault}
+use Rattle.plans.specs.Progress.{Progress, IsReadTo}
+use Rattle.plans.specs.declared.plan.PlanFile.{PlanFile}
+use Rattle.plans.specs.declared.rows_read.RowsRead.{RowsRead}
+
+-- what the rows so far give
+abbrev pub progress_of : RowsRead → Progress
+progress_of read = record {
+  persons = read.persons;
+  kinds = read.kinds;
+  lines = read.lines;
+  stops = read.stops;
+  plans = all_parts read.plans.items;
+  own = map parts_of read.own.items;
+  starts = read.starts.items;
+  acts = read.current.acts.items;
+  legs = read.current.legs.items;
+  last = read.current.last;
+}
+
+-- what a file gives
+abbrev pub plan_rows_of : PlanFile → PlanRows
+plan_rows_of file = record {
+  persons = file.persons;
+  kinds = file.kinds;
+  lines = file.lines;
+  stops = file.stops;
+  plans = all_parts file.plans;
+  starts = file.starts;
+}
+
+-- the first n rows are read, or the first fault is told; want of memory tells nothing
+abbrev pub Reads : Result RowsRead RowStop → List (List ℕ) → List (ℕ × ℕ) → List Row → ℕ → Type 0
+Reads (Ok read) links ends rows n = IsReadTo links ends rows n (progress_of read)
+Reads (Err (stop.Fault fault)) links ends rows n = rows_fault None links ends rows ≡ Some fault
+Reads (Err stop.NoMemory) links ends rows n = Unit {0}

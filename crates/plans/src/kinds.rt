@@ -1,0 +1,109 @@
+ghost use Rattle.std.specs.Prelude.{◌≡◌, ◌≤◌, IfSome};
+ghost use Rattle.csv.specs.Records.{fields_of};
+ghost use Rattle.records.specs.Fields.{field};
+ghost use Rattle.plans.specs.Kinds.{kind_of, is_act, is_leg, is_car, plan_in, plan_number, end_in, seconds_in};
+
+use csv::ByteRecord;
+use events::Mode;
+use records::{is_text, number_in};
+
+/// What a row of plans.csv is.
+#[derive(Clone, Copy)]
+pub enum ElementKind {
+    Act,
+    /// A leg, of this mode where it is one.
+    Leg(Option<Mode>),
+    Neither,
+}
+
+/// The field at a place, or no bytes where the row is too short.
+pub fn cell(row: &ByteRecord, place: usize) -> &[u8]
+    ensures { result.now ≡ field (fields_of row.now) place }
+{
+    match row.get(place) {
+        Some(bytes) => bytes,
+        None => b"",
+    }
+}
+
+/// What the row is.
+#[tactic(auto, unfolding(crate::specs::Kinds::kind_of))]
+pub fn kind_of(row: &ByteRecord) -> ElementKind
+    ensures { result ≡ kind_of (fields_of row.now) }
+{
+    if is_text(cell(row, 2), b"act") {
+        return ElementKind::Act;
+    }
+    if is_text(cell(row, 2), b"leg") {
+        return ElementKind::Leg(Mode::read(cell(row, 3)));
+    }
+    ElementKind::Neither
+}
+
+pub fn is_act(kind: ElementKind) -> bool
+    ensures { result ≡ is_act kind }
+{
+    match kind {
+        ElementKind::Act => true,
+        ElementKind::Leg(_) => false,
+        ElementKind::Neither => false,
+    }
+}
+
+pub fn is_leg(kind: ElementKind) -> bool
+    ensures { result ≡ is_leg kind }
+{
+    match kind {
+        ElementKind::Act => false,
+        ElementKind::Leg(_) => true,
+        ElementKind::Neither => false,
+    }
+}
+
+pub fn is_car(kind: ElementKind) -> bool
+    ensures { result ≡ is_car kind }
+{
+    match kind {
+        ElementKind::Act => false,
+        ElementKind::Leg(Some(Mode::Car)) => true,
+        ElementKind::Leg(Some(_)) => false,
+        ElementKind::Leg(None) => false,
+        ElementKind::Neither => false,
+    }
+}
+
+/// The number of the row's plan, where it is one.
+pub fn plan_in(row: &ByteRecord) -> Option<u32>
+    ensures number { result ≡ plan_in (fields_of row.now) }
+    ensures few { IfSome result (λ n. n ≤ 4) }
+{
+    number_in(cell(row, 1), 0, 4)
+}
+
+/// The number of the row's plan, or 0 where it is none.
+#[tactic(auto, unfolding(crate::specs::Kinds::plan_number))]
+pub fn plan_number(row: &ByteRecord) -> u32
+    ensures number { result ≡ plan_number (fields_of row.now) }
+    ensures few { result ≤ 4 }
+{
+    match plan_in(row) {
+        Some(number) => number,
+        None => 0,
+    }
+}
+
+/// The planned end of the activity that the row is, where it has one.
+pub fn end_in(row: &ByteRecord) -> Option<u32>
+    ensures end { result ≡ end_in (fields_of row.now) }
+    ensures within { IfSome result (λ end. end ≤ 172800) }
+{
+    number_in(cell(row, 5), 0, 172_800)
+}
+
+/// The seconds of the teleported leg that the row is, where it has them.
+pub fn seconds_in(row: &ByteRecord) -> Option<u32>
+    ensures seconds { result ≡ seconds_in (fields_of row.now) }
+    ensures within { IfSome result (λ seconds. (1 ≤ seconds) × (seconds ≤ 172800)) }
+{
+    number_in(cell(row, 5), 1, 172_800)
+}

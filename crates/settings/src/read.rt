@@ -1,0 +1,100 @@
+ghost use Rattle.std.specs.Prelude.{◌≡◌, Some, IfOk, IfErr, true, false, option_map};
+ghost use Rattle.serde_json.specs.View.{view, members_view};
+ghost use Rattle.records.specs.Faults.{Answers, fault_at};
+ghost use Rattle.settings.specs.Keys.{has_bad_value};
+ghost use Rattle.settings.specs.Values.{values_in};
+ghost use Rattle.settings.specs.Faults.{value_of, members_of, value_fault, settings_fault, settings_of, values_of};
+
+use crate::keys::{given, given_small, has_unknown_key};
+use crate::values::Settings;
+use edge_files::{Reason, RowStop};
+use records::fault;
+use serde_json::{Map, Value};
+use std::alloc::{AllocError, Global};
+
+const MAX_BYTES: usize = 1 << 28;
+
+/// The value that the bytes are, if they are one. No bytes are an object without keys.
+fn read_value(alloc: Global, bytes: &[u8]) -> Result<Option<Value>, AllocError>
+    ensures { IfOk result (λ value. option_map view value ≡ value_of bytes.now) }
+{
+    if bytes.is_empty() {
+        return Ok(Some(Value::Object(Map::new(alloc))));
+    }
+    match Value::from_slice(alloc, bytes) {
+        Ok(value) => Ok(Some(value)),
+        Err(error) => {
+            if error.is_memory() {
+                Err(AllocError)
+            } else {
+                Ok(None)
+            }
+        }
+    }
+}
+
+/// What the values of the keys say, or that one of them is not allowed.
+#[tactic(auto, unfolding(crate::specs::Keys::has_bad_value, crate::specs::Values::values_in))]
+fn values_in(settings: &Map<String, Value>) -> Result<Settings, Reason>
+    ensures bad { IfErr result (λ reason. (reason ≡ Reason.ValueBad)
+        × (has_bad_value (members_view settings.now.entries) ≡ true)) }
+    ensures good { IfOk result (λ read. (has_bad_value (members_view settings.now.entries) ≡ false)
+        × (values_of read ≡ values_in (members_view settings.now.entries))) }
+{
+    let seed = given(settings, "seed", 0, u64::MAX)?.unwrap_or(4711);
+    let end_second = given_small(settings, "end_second", 1, 172_800)?.unwrap_or(108_000);
+    let flow_permille = given_small(settings, "flow_permille", 1, 2_000)?.unwrap_or(1_000);
+    let storage_permille = given_small(settings, "storage_permille", 1, 2_000)?.unwrap_or(1_000);
+    let stuck_seconds = given_small(settings, "stuck_seconds", 1, 172_800)?.unwrap_or(10);
+    let stuck_push = given_small(settings, "stuck_push", 0, 1)?.unwrap_or(0) == 1;
+    let hole_speed = given_small(settings, "hole_speed", 1, 10_000)?;
+    let dwell_open = given_small(settings, "dwell_open", 0, 3_600)?.unwrap_or(4);
+    let dwell_alight = given_small(settings, "dwell_alight", 0, 3_600)?.unwrap_or(1);
+    let dwell_board = given_small(settings, "dwell_board", 0, 3_600)?.unwrap_or(2);
+    Ok(Settings {
+        seed,
+        end_second,
+        flow_permille,
+        storage_permille,
+        stuck_seconds,
+        stuck_push,
+        hole_speed,
+        dwell_open,
+        dwell_alight,
+        dwell_board,
+    })
+}
+
+/// What an object of settings says, or the first fault of the value.
+#[tactic(auto, unfolding(crate::specs::Faults::value_fault))]
+fn settings_in(value: &Value) -> Result<Settings, RowStop>
+    ensures { Answers values_of result (fault_at 0 (value_fault (Some (view value.now)))) (values_in (members_of (Some (view value.now)))) }
+{
+    let Some(settings) = value.as_object() else {
+        return Err(fault(0, Reason::NotJson));
+    };
+    if has_unknown_key(settings) {
+        return Err(fault(0, Reason::KeyUnknown));
+    }
+    match values_in(settings) {
+        Ok(values) => Ok(values),
+        Err(reason) => Err(fault(0, reason)),
+    }
+}
+
+/// Reads settings.json: one object, of whose keys each may be left out. No bytes give all defaults.
+///
+/// The first fault is told where there is one, by the reason's number; it is that of row 0.
+#[tactic(auto, unfolding(crate::specs::Faults::settings_fault, crate::specs::Faults::value_fault))]
+pub fn read_settings(alloc: Global, bytes: &[u8]) -> Result<Settings, RowStop>
+    ensures { Answers values_of result (fault_at 0 (settings_fault bytes.now)) (settings_of bytes.now) }
+{
+    if bytes.len() > MAX_BYTES {
+        return Err(fault(0, Reason::TooLong));
+    }
+    match read_value(alloc, bytes) {
+        Ok(Some(value)) => settings_in(&value),
+        Ok(None) => Err(fault(0, Reason::NotJson)),
+        Err(_) => Err(RowStop::NoMemory),
+    }
+}

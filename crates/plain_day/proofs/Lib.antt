@@ -1,3 +1,1 @@
-pub mod Small
-pub mod Taken
-pub mod Drawing
+

@@ -1,3 +1,1 @@
-pub mod Limits
-pub mod Lanes
-pub mod Exits
+pub mod Worlds

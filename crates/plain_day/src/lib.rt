@@ -1,11 +1,6 @@
-//! The slow runnable day: each turn as its list of moves, exactly as the definitions of `traffic`
-//! say it.
+//! The slow runnable day: the world as lists of rows, each turn as its moves, exactly as the definitions of `traffic` say it.
 #![tactic(auto)]
 
-mod exits;
-mod links;
-mod lists;
-mod nodes;
-mod picks;
-mod stops;
-mod telling;
+mod world;
+
+pub use world::World;

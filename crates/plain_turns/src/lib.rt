@@ -1,0 +1,17 @@
+//! The turns of links and nodes, slow and plain: each as its list of moves, exactly as the
+//! definitions of `traffic` say it, and what a move tells.
+#![tactic(auto)]
+
+mod exits;
+mod links;
+mod lists;
+mod nodes;
+mod picks;
+mod stops;
+mod telling;
+
+pub use exits::ExitRow;
+pub use links::link_moves;
+pub use lists::LaneRows;
+pub use nodes::node_moves;
+pub use telling::{of_person, push_told};

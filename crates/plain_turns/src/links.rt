@@ -1,0 +1,367 @@
+//! The turn of a link, as its moves.
+
+ghost use Rattle.std.specs.Prelude.{◌≡◌, ◌<◌, ◌≤◌, ◌+◌, ◌^◌, ◌++◌, ◌∷◌, [], ℕ, length, true, map, filter, OnOk, IfOk, nat_le, nat_lt};
+ghost use Rattle.fixed_flow.specs.declared.TheConstants.{MAX_PER_SECOND};
+ghost use Rattle.fixed_flow.specs.Flow.{raised};
+ghost use Rattle.traffic.specs.declared.world.Row.{Row};
+ghost use Rattle.traffic.specs.Links.{waiting, leave_bay, is_last, buffered, may_pass, from_wait, from_queue, wait_after, link_moves, Lane};
+ghost use Rattle.traffic.specs.declared.moves.Move.TheVariants.{Put, Gone, Free, Credit};
+ghost use Rattle.traffic.specs.declared.rows.Stage.TheVariants.{Queue, Buffer, Wait, Bay};
+ghost use Rattle.plain_turns.specs.Lanes.{lane_of};
+ghost use Rattle.plain_turns.specs.Limits.{IsDwelling, AreSmall};
+
+use crate::lists::LaneRows;
+use crate::stops::{calls_on, left_behind, served_row};
+use fixed_flow::VEHICLE_COST;
+use std::alloc::{AllocError, Global};
+use traffic::{Move, Row, Rules, Stage, Vehicle, Waiter};
+
+/// A row at the end of the wait list of link `l`.
+fn waiting(l: u32, row: &Row) -> Result<Row, AllocError>
+    ensures { IfOk result (λ after. after ≡ waiting l row.now) }
+{
+    let mut after = row.try_clone()?;
+    after.link = l;
+    after.stage = Stage::Wait;
+    after.second = 0;
+    Ok(after)
+}
+
+/// Step 1, from place `k` of the bay on.
+#[tactic(auto, unfolding(traffic::specs::Links::leave_bay))]
+fn push_leave_bay(
+    t: u32,
+    l: u32,
+    k: usize,
+    bay: &[Row],
+    out: &mut Vec<Move>,
+) -> Result<(), AllocError>
+    requires { k + length bay.now < 2 ^ 64 }
+    ensures { OnOk result (out.new.items ≡ out.old.items ++ leave_bay t l k bay.now) }
+{
+    let [row, later @ ..] = bay else {
+        return Ok(());
+    };
+    if row.second <= t {
+        let was = row.try_clone()?;
+        let now = waiting(l, row)?;
+        out.push(Move::Put {
+            l,
+            s: Stage::Bay,
+            k,
+            was,
+            now,
+        })?;
+        return push_leave_bay(t, l, k, later, out);
+    }
+    push_leave_bay(t, l, k + 1, later, out)
+}
+
+fn is_last(vehicle: &Vehicle) -> bool
+    ensures { result ≡ is_last vehicle.now }
+{
+    vehicle.place as usize + 1 == vehicle.route.len()
+}
+
+/// The row at the end of a buffer of `b` rows.
+fn buffered(t: u32, l: u32, b: usize, row: &Row) -> Result<Row, AllocError>
+    ensures { IfOk result (λ after. after ≡ buffered t l b row.now) }
+{
+    let mut vehicle = row.vehicle.try_clone()?;
+    vehicle.started = true;
+    Ok(Row {
+        vehicle,
+        link: l,
+        stage: Stage::Buffer,
+        second: if b == 0 { t } else { 0 },
+    })
+}
+
+fn may_pass(rules: &Rules, b: usize, credit: u32) -> bool
+    ensures value { result ≡ may_pass rules.now b credit }
+    ensures paid { result ≡ true → VEHICLE_COST ≤ credit }
+    ensures room { result ≡ true → b < 4294967295 }
+{
+    let room = rules.room;
+    b < room as usize && VEHICLE_COST <= credit
+}
+
+/// A row goes from the wait list into the bay or into the buffer.
+fn push_from_wait_to(l: u32, row: &Row, now: Row, out: &mut Vec<Move>) -> Result<(), AllocError>
+    ensures { OnOk result (out.new.items ≡ out.old.items ++ Put l Wait 0 row.now now ∷ []) }
+{
+    let was = row.try_clone()?;
+    out.push(Move::Put {
+        l,
+        s: Stage::Wait,
+        k: 0,
+        was,
+        now,
+    })?;
+    Ok(())
+}
+
+/// A row leaves the wait list for good.
+fn push_gone_from_wait(l: u32, row: &Row, out: &mut Vec<Move>) -> Result<(), AllocError>
+    ensures { OnOk result (out.new.items ≡ out.old.items ++ Gone l Wait 0 row.now ∷ []) }
+{
+    let was = row.try_clone()?;
+    out.push(Move::Gone {
+        l,
+        s: Stage::Wait,
+        k: 0,
+        was,
+    })?;
+    Ok(())
+}
+
+/// A row goes from the queue into the bay or into the buffer, and leaves a place.
+fn push_from_queue_to(
+    t: u32,
+    l: u32,
+    row: &Row,
+    now: Row,
+    out: &mut Vec<Move>,
+) -> Result<(), AllocError>
+    ensures { OnOk result (out.new.items ≡ out.old.items ++ Put l Queue 0 row.now now ∷ Free l t ∷ []) }
+{
+    let was = row.try_clone()?;
+    out.push(Move::Put {
+        l,
+        s: Stage::Queue,
+        k: 0,
+        was,
+        now,
+    })?;
+    out.push(Move::Free { l, t })?;
+    Ok(())
+}
+
+/// A row leaves the queue for good, and leaves a place.
+fn push_gone_from_queue(t: u32, l: u32, row: &Row, out: &mut Vec<Move>) -> Result<(), AllocError>
+    ensures { OnOk result (out.new.items ≡ out.old.items ++ Gone l Queue 0 row.now ∷ Free l t ∷ []) }
+{
+    let was = row.try_clone()?;
+    out.push(Move::Gone {
+        l,
+        s: Stage::Queue,
+        k: 0,
+        was,
+    })?;
+    out.push(Move::Free { l, t })?;
+    Ok(())
+}
+
+/// A row goes from the queue into the buffer, leaves a place, and pays.
+fn push_passing(
+    t: u32,
+    l: u32,
+    row: &Row,
+    now: Row,
+    paid: u32,
+    out: &mut Vec<Move>,
+) -> Result<(), AllocError>
+    ensures { OnOk result (out.new.items ≡ out.old.items ++ Put l Queue 0 row.now now ∷ Free l t ∷ Credit l paid ∷ []) }
+{
+    push_from_queue_to(t, l, row, now, out)?;
+    out.push(Move::Credit { l, credit: paid })?;
+    Ok(())
+}
+
+/// A row goes from the wait list into the buffer, and pays.
+fn push_entering(
+    l: u32,
+    row: &Row,
+    now: Row,
+    paid: u32,
+    out: &mut Vec<Move>,
+) -> Result<(), AllocError>
+    ensures { OnOk result (out.new.items ≡ out.old.items ++ Put l Wait 0 row.now now ∷ Credit l paid ∷ []) }
+{
+    push_from_wait_to(l, row, now, out)?;
+    out.push(Move::Credit { l, credit: paid })?;
+    Ok(())
+}
+
+/// Step 4, while `b` rows are in the buffer.
+#[tactic(auto, unfolding(traffic::specs::Links::from_wait))]
+fn push_from_wait(
+    alloc: Global,
+    rules: &Rules,
+    t: u32,
+    l: u32,
+    waiters: &[Waiter],
+    b: usize,
+    credit: u32,
+    rows: &[Row],
+    out: &mut Vec<Move>,
+) -> Result<(), AllocError>
+    requires dwell_in { IsDwelling rules.now.dwell }
+    requires second_in { t < 172800 }
+    requires small { AreSmall rows.now }
+    ensures { OnOk result (out.new.items ≡ out.old.items ++ from_wait rules.now t l waiters.now b credit rows.now) }
+{
+    let [row, later @ ..] = rows else {
+        return Ok(());
+    };
+    if calls_on(l, &row.vehicle) {
+        let now = served_row(alloc, &rules.dwell, t, l, waiters, &row.vehicle)?;
+        let left = left_behind(alloc, &row.vehicle, waiters)?;
+        push_from_wait_to(l, row, now, out)?;
+        return push_from_wait(alloc, rules, t, l, &left, b, credit, later, out);
+    }
+    if is_last(&row.vehicle) {
+        push_gone_from_wait(l, row, out)?;
+        return push_from_wait(alloc, rules, t, l, waiters, b, credit, later, out);
+    }
+    if may_pass(rules, b, credit) {
+        let now = buffered(t, l, b, row)?;
+        let paid = credit - VEHICLE_COST;
+        push_entering(l, row, now, paid, out)?;
+        return push_from_wait(alloc, rules, t, l, waiters, b + 1, paid, later, out);
+    }
+    Ok(())
+}
+
+/// Step 3, and then step 4.
+#[tactic(auto, unfolding(traffic::specs::Links::from_queue))]
+fn push_from_queue(
+    alloc: Global,
+    rules: &Rules,
+    t: u32,
+    l: u32,
+    waiters: &[Waiter],
+    b: usize,
+    credit: u32,
+    rows: &[Row],
+    wait: &[Row],
+    out: &mut Vec<Move>,
+) -> Result<(), AllocError>
+    requires dwell_in { IsDwelling rules.now.dwell }
+    requires second_in { t < 172800 }
+    requires small { AreSmall rows.now }
+    requires small_wait { AreSmall wait.now }
+    ensures { OnOk result (out.new.items ≡ out.old.items ++ from_queue rules.now t l waiters.now b credit rows.now wait.now) }
+{
+    let [row, later @ ..] = rows else {
+        return push_from_wait(alloc, rules, t, l, waiters, b, credit, wait, out);
+    };
+    if t < row.second {
+        return push_from_wait(alloc, rules, t, l, waiters, b, credit, wait, out);
+    }
+    if calls_on(l, &row.vehicle) {
+        let now = served_row(alloc, &rules.dwell, t, l, waiters, &row.vehicle)?;
+        let left = left_behind(alloc, &row.vehicle, waiters)?;
+        push_from_queue_to(t, l, row, now, out)?;
+        return push_from_queue(alloc, rules, t, l, &left, b, credit, later, wait, out);
+    }
+    if is_last(&row.vehicle) {
+        push_gone_from_queue(t, l, row, out)?;
+        return push_from_queue(alloc, rules, t, l, waiters, b, credit, later, wait, out);
+    }
+    if may_pass(rules, b, credit) {
+        let now = buffered(t, l, b, row)?;
+        let paid = credit - VEHICLE_COST;
+        push_passing(t, l, row, now, paid, out)?;
+        return push_from_queue(alloc, rules, t, l, waiters, b + 1, paid, later, wait, out);
+    }
+    push_from_wait(alloc, rules, t, l, waiters, b, credit, wait, out)
+}
+
+/// Appends the same rows.
+fn push_rows(rows: &[Row], out: &mut Vec<Row>) -> Result<(), AllocError>
+    ensures { OnOk result (out.new.items ≡ out.old.items ++ rows.now) }
+{
+    let [row, later @ ..] = rows else {
+        return Ok(());
+    };
+    let same = row.try_clone()?;
+    out.push(same)?;
+    push_rows(later, out)
+}
+
+/// Appends the rows of a bay whose second has come, as they stand on the wait list.
+fn push_due(t: u32, l: u32, bay: &[Row], out: &mut Vec<Row>) -> Result<(), AllocError>
+    ensures { OnOk result (out.new.items
+        ≡ out.old.items ++ map (waiting l) (filter (λ (r : Row). nat_le r.second t) bay.now)) }
+{
+    let [row, later @ ..] = bay else {
+        return Ok(());
+    };
+    if row.second <= t {
+        let after = waiting(l, row)?;
+        out.push(after)?;
+        return push_due(t, l, later, out);
+    }
+    push_due(t, l, later, out)
+}
+
+/// The credit after the gain of a second.
+#[tactic(auto, unfolding(fixed_flow::specs::Flow::raised))]
+fn raised(gain: u32, credit: u32) -> u32
+    ensures { result ≡ raised gain credit }
+{
+    let saved = u64::from(credit) + u64::from(gain);
+    saved.min(u64::from(gain.max(VEHICLE_COST))) as u32
+}
+
+/// The wait list once the bay is left.
+fn wait_after(alloc: Global, t: u32, l: u32, lane: &LaneRows) -> Result<Vec<Row>, AllocError>
+    ensures { IfOk result (λ after. after.items
+        ≡ lane.now.wait.items ++ map (waiting l) (filter (λ (r : Row). nat_le r.second t) lane.now.bay.items)) }
+{
+    let mut wait = Vec::new(alloc);
+    push_rows(&lane.wait, &mut wait)?;
+    push_due(t, l, &lane.bay, &mut wait)?;
+    Ok(wait)
+}
+
+/// The same, of rows that are small.
+fn small_wait_after(alloc: Global, t: u32, l: u32, lane: &LaneRows) -> Result<Vec<Row>, AllocError>
+    requires wait { AreSmall lane.now.wait.items }
+    requires bay { AreSmall lane.now.bay.items }
+    ensures value { IfOk result (λ after. after.items
+        ≡ lane.now.wait.items ++ map (waiting l) (filter (λ (r : Row). nat_le r.second t) lane.now.bay.items)) }
+    ensures small { IfOk result (λ after. AreSmall after.items) }
+{
+    let after = wait_after(alloc, t, l, lane)?;
+    Ok(after)
+}
+
+/// The moves of link `l` in second `t`, by its lists, its credit and those who wait at its stops.
+#[tactic(auto, unfolding(traffic::specs::Links::link_moves))]
+pub fn link_moves(
+    alloc: Global,
+    rules: &Rules,
+    t: u32,
+    l: u32,
+    waiters: &[Waiter],
+    lane: &LaneRows,
+    credit: u32,
+) -> Result<Vec<Move>, AllocError>
+    requires dwell_in { IsDwelling rules.now.dwell }
+    requires second_in { t < 172800 }
+    requires small { AreSmall lane.now.queue.items }
+    requires small_wait { AreSmall lane.now.wait.items }
+    requires small_bay { AreSmall lane.now.bay.items }
+    ensures { IfOk result (λ moves. moves.items ≡ link_moves rules.now t l waiters.now (lane_of lane.now credit)) }
+{
+    let wait = small_wait_after(alloc, t, l, lane)?;
+    let credit = raised(rules.gain, credit);
+    let mut moves = Vec::new(alloc);
+    push_leave_bay(t, l, 0, &lane.bay, &mut moves)?;
+    moves.push(Move::Credit { l, credit })?;
+    push_from_queue(
+        alloc,
+        rules,
+        t,
+        l,
+        waiters,
+        lane.buffer.len(),
+        credit,
+        &lane.queue,
+        &wait,
+        &mut moves,
+    )?;
+    Ok(moves)
+}

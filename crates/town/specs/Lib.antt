@@ -1,0 +1,6 @@
+pub mod Greens
+pub mod GreenViews
+pub mod Rows
+pub mod Fits
+pub mod Setups
+pub mod Views

@@ -1,0 +1,14 @@
+//! The words of the command line: the command that they ask for, or what the user is told instead.
+//!
+//! The second word names the command. The words behind it are read by the crate `clap`, as those of a
+//! simple command: each command has a row of its own in `commands`, and is no subcommand of another.
+#![tactic(auto)]
+
+mod commands;
+mod reading;
+#[cfg(test)]
+mod tests;
+mod usage;
+
+pub use commands::Command;
+pub use reading::{Asked, read_words};

@@ -10,7 +10,7 @@ use Rattle.words.specs.Cases.{Work, kind_case, kinds_case, simple_case}
 use Rattle.words.specs.Commands.{simple_command}
 use Rattle.words.specs.declared.commands.Command.{Command}
 use Rattle.words.specs.declared.commands.Command.TheVariants.{Run, Check}
-use Rattle.words.proofs.One.{Few, one_kind}
+use Rattle.words.proofs.OneKind.{Few, one_kind}
 
 -- clap tells exactly which words it takes
 is_plain : (command : Command) → is_simple_and_free (simple_command command) ≡ true
@@ -18,16 +18,19 @@ unfolding clap_on_literals
 is_plain Run = refl
 is_plain Check = refl
 
+-- it answers the words of a command by one kind at most
 few_kinds : (command : Command) (words : List (List ℕ)) → Few (fault_of (simple_command command) words)
 few_kinds Run words = one_kind _ _ _ refl (refl, refl)
 few_kinds Check words = one_kind _ _ _ refl (refl, refl)
 
+-- a kind that is among few kinds is the only one
 the_kind : (kinds : Kinds) (kind : ErrorKind) → Few kinds → IsAmong kind kinds → kinds ≡ kind ∷ []
 the_kind [] kind few among = absurd among
 the_kind (x ∷ []) kind few (inl same) = ap (λ y. y ∷ []) (sym same)
 the_kind (x ∷ []) kind few (inr none) = absurd none
 the_kind (x ∷ y ∷ kinds) kind few among = absurd (omega (arith, few.few))
 
+-- an error that is no want of memory has that kind
 as_told : (command : Command) (kinds : Kinds) (e : Error) → Few kinds → HasKind kinds e → kind_of e ≢ OutOfMemory → kind_case (kind_of e) ≡ kinds_case command kinds
 as_told command kinds e few (inl memory) other = absurd (other memory)
 as_told command kinds e few (inr among) other = sym (ap (kinds_case command) (the_kind kinds _ few among))

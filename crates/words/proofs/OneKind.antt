@@ -22,18 +22,22 @@ no_kind = record { few = omega arith }
 a_kind : (kind : ErrorKind) → Few (kind ∷ [])
 a_kind kind = record { few = omega arith }
 
+-- either branch of a test
 pick : (b : Bool) (x y : Kinds) → Few x → Few y → Few (if b then x else y)
 pick true x y p q = p
 pick false x y p q = q
 
+-- the branch of a test that holds
 chosen : (b : Bool) (x y : Kinds) → b ≡ true → Few x → Few (if b then x else y)
 chosen true x y same p = p
 chosen false x y same p = absurd (cc)
 
+-- the first step that fails decides
 either : (x y : Kinds) → Few x → Few y → Few (or_else x y)
 either [] y p q = q
 either (kind ∷ kinds) y p q = p
 
+-- what is found has few kinds, and so has nothing found
 either_way : {A : Type 0} (f : A → Kinds) (x : Kinds) (o : Option A) → ((a : A) → Few (f a)) → Few x → Few (option_map_or f o x)
 either_way f x None p q = q
 either_way f x (Some a) p q = p a
@@ -41,6 +45,7 @@ either_way f x (Some a) p q = p a
 for_each : {A : Type 0} (f : A → Kinds) (o : Option A) → ((x : A) → Few (f x)) → Few (option_map_or f o [])
 for_each f o p = either_way f [] o p no_kind
 
+-- the values of one use
 one_value : (i : Bool) (p : ValueParser) (v : Text) → Few (value_kinds i p v)
 one_value i p v = pick _ _ _ no_kind (a_kind _)
 
@@ -66,6 +71,7 @@ one_of_action other again a vs rows = one_of_request other
 one_of_range : (least most n : ℕ) → Few (range_kinds least most n)
 one_of_range least most n = search (pick, no_kind, a_kind)
 
+-- a use of an argument, and the end of the one before it
 one_of_use : (again : Bool) (a : Rule) (vs : List Text) (rows : List Row) → Few (use_fault again a vs rows)
 one_of_use again a vs rows = search (either, one_of_range, one_of_action)
 
@@ -79,6 +85,7 @@ one_of_option : (c : List Rule) (again : Bool) (a : Rule) (v : Option Text) (h :
 one_of_option c again a (Some v) h = one_of_react c again a (v ∷ []) h
 one_of_option c again a None h = one_of_settle c again h
 
+-- a word of flags
 one_of_long : (c : List Rule) (again : Bool) (found : Option Rule) (v : Option Text) (h : Held) → Few (long_fault c again found v h)
 one_of_long c again None v h = a_kind _
 one_of_long c again (Some a) v h = pick _ _ _ (one_of_option c again a v h) (pick _ _ _ (a_kind _) (one_of_react c again a [] h))
@@ -120,6 +127,7 @@ IsAlone s = (s.is_leaf ≡ true) × (s.disable_help_subcommand ≡ true)
 one_of_stray : (s : Shape) → s.is_leaf ≡ true → Few (stray_fault s)
 one_of_stray s alone = chosen s.is_leaf _ _ alone (a_kind _)
 
+-- a word that a position takes, or a stray one
 one_of_positional : (c : List Rule) (again : Bool) (a : Rule) (h : Held) → Few (positional_fault c again a h)
 one_of_positional c again a h = pick _ _ _ no_kind (one_of_settle c again h)
 
@@ -127,6 +135,7 @@ one_of_place : (s : Shape) (position : ℕ) (h : Held) (step : Step) → s.is_le
 one_of_place s position h value alone = either_way _ _ (arg_by_index s.rules position) (λ a. one_of_positional _ _ a h) (one_of_stray s alone)
 one_of_place s position h _ alone = no_kind
 
+-- a word, and all words in turn
 one_of_turn : (s : Shape) (names : Names) (w : Walk) (word : Text) → IsAlone s → Few (turn_fault s names w word)
 one_of_turn s names w word alone =
     let met = word_met s.rules names w.is_trailing w.waiting w.position word w.held in
@@ -138,6 +147,7 @@ unfolding walk_fault
 one_of_walk s names [] w alone = no_kind
 one_of_walk s names (word ∷ rest) w alone = either _ _ (one_of_turn s names w word alone) (one_of_walk s names rest _ alone)
 
+-- what is looked at behind the last word
 one_of_default : (rows : List Row) (a : Rule) → Few (default_fault rows a)
 one_of_default rows a = search (pick, no_kind, either, one_of_request, one_of_values)
 
@@ -149,6 +159,7 @@ one_of_defaults (a ∷ rest) rows = either _ _ (one_of_default rows a) (one_of_d
 one_of_check : (s : Shape) (rows : List Row) (below : Bool) → Few (check_fault s rows below)
 one_of_check s rows below = search (pick, a_kind, no_kind)
 
+-- all of it, one step after another
 one_of_level : (s : Shape) (names : Names) (h : Held) (words : List Text) (below : Bool) (kinds : Kinds) → IsAlone s → Few kinds → Few (level_fault s names h words below kinds)
 one_of_level s names h words below kinds alone few =
     let end = (walk s.rules names h words).held in

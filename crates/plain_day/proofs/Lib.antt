@@ -1,1 +1,13 @@
-
+pub mod Numbers
+pub mod Seen
+pub mod Counting
+pub mod Fitting
+pub mod Agree
+pub mod LinkTurns
+pub mod PersonPlans
+pub mod Leaving
+pub mod Departing
+pub mod NodeTurns
+pub mod Phasing
+pub mod Fitness
+pub mod Dawn

@@ -1,1 +1,6 @@
-pub mod Worlds
+pub mod Fit
+pub mod Measures
+pub mod Sights
+pub mod Legs
+pub mod Runs
+pub mod Given

@@ -1,6 +1,19 @@
-//! The slow runnable day: the world as lists of rows, each turn as its moves, exactly as the definitions of `traffic` say it.
+//! The slow runnable day: each turn as its moves, done one after the other, exactly as the definitions of `traffic` say it.
 #![tactic(auto)]
 
-mod world;
+mod days;
+mod departures;
+mod ends;
+mod legs;
+mod links;
+mod persons;
+mod phases;
+mod sights;
+mod turns;
+mod waiters;
 
-pub use world::World;
+pub use days::{plain_day, plain_second, start};
+pub use departures::departure_moves;
+pub use ends::stranded;
+pub use persons::{landing_moves, leaving_moves};
+pub use turns::{idle_credit, link_turn, node_turn};

@@ -5,15 +5,15 @@ use traffic::{Hole, Person, Row};
 /// link, and the holes in the order in which they were left.
 #[derive(Drop)]
 pub struct World {
-    pub(crate) rows: Vec<Row>,
-    pub(crate) persons: Vec<Person>,
-    pub(crate) credits: Vec<u32>,
-    pub(crate) holes: Vec<Hole>,
+    pub rows: Vec<Row>,
+    pub persons: Vec<Person>,
+    pub credits: Vec<u32>,
+    pub holes: Vec<Hole>,
 }
 
 impl Model for World {
     ghost use Rattle.traffic.specs.Rows as lists;
-    ghost use Rattle.plain_day.specs.Worlds.{world_of};
+    ghost use Rattle.plain_world.specs.Worlds.{world_of};
 
     ghost Value = { lists.World };
 

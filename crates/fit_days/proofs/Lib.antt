@@ -1,0 +1,11 @@
+pub mod Lists
+pub mod Telling
+pub mod Kept
+pub mod Boarding
+pub mod Lanes
+pub mod Junctions
+pub mod Travellers
+pub mod Naming
+pub mod Seconds
+pub mod Sizes
+pub mod Towns

@@ -1,0 +1,27 @@
+use Rattle.std.specs.List.{flat_map}
+use Rattle.std.proofs.lemmas.List.Elements.{All-from_recursion}
+use Rattle.traffic.specs.Moves.{told}
+use Rattle.traffic.specs.Persons.{stranded}
+use Rattle.traffic.specs.Day.{keyed, day}
+use Rattle.town.specs.Views.{setup_in}
+use Rattle.fit_days.specs.Setups.{counts_in}
+use Rattle.fit_days.proofs.Travellers.{stranded_fit}
+use Rattle.fit_days.proofs.Naming.{Named, keyed_named, told_fit}
+use Rattle.fit_days.proofs.Seconds.{day_named}
+use Rattle.fit_days.proofs.Towns.{town_fit, book_of}
+use Rattle.fit_days.proofs.laws.days_are_named.Goals as goal
+
+pub returns-clause-moves : goal.returns-clause-moves
+returns-clause-moves c = λ z book t code n index moves b h.
+    All-from_recursion (Named book) (keyed t code n index (flat_map told moves)) (keyed_named z book t code n index (flat_map told moves) b (told_fit z moves h))
+
+pub returns-clause-stranded : goal.returns-clause-stranded
+returns-clause-stranded c = λ z book S t code i index W b f h lt.
+    All-from_recursion (Named book) (keyed t code i index (stranded S W i)) (keyed_named z book t code i index (stranded S W i) b (stranded_fit z S W i f h lt))
+
+pub returns-clause-day : goal.returns-clause-day
+returns-clause-day c = λ z book S b f. All-from_recursion (Named book) (day S) (day_named z book S b f)
+
+pub returns-clause-towns : goal.returns-clause-towns
+returns-clause-towns c = λ town chosen k h e.
+    All-from_recursion (Named town.book) (day (setup_in town chosen k)) (day_named (counts_in town chosen) town.book (setup_in town chosen k) (book_of town chosen e) (town_fit town chosen k h))

@@ -1,0 +1,42 @@
+-- Loops over the numbers of links and persons.
+use Rattle.std.proofs.Common.{◌≡◌, ℕ, suc, ◌+◌, ◌-◌, ◌<◌, ◌≤◌, Bool, true, false, List, [], ◌∷◌, ◌++◌, refl, ap, sym, ◌∙◌, arith, append_assoc, append-nil}
+use Rattle.std.specs.Prelude.{map, filter}
+use Rattle.std.specs.List.{flat_map}
+use Rattle.traffic.specs.Lists.{numbers}
+
+-- the numbers from k to n begin with k
+pub numbers-first : (k n : ℕ) → k < n → numbers k (n - k) ≡ k ∷ numbers (k + 1) (n - (k + 1))
+numbers-first k n h = let e : n - k ≡ suc (n - (k + 1)) = omega arith in ap (numbers k) e
+
+-- one more that passes, and one that does not
+pub went_in : {X : Type 0} (p : ℕ → Bool) (f : ℕ → X) (k n : ℕ) (out : List X) (x : X) (all : List X) → k < n → p k ≡ true → x ≡ f k →
+    out ++ map f (filter p (numbers k (n - k))) ≡ all → (out ++ x ∷ []) ++ map f (filter p (numbers (k + 1) (n - (k + 1)))) ≡ all
+went_in p f k n out x all h t e g =
+    let q = numbers-first k n h in
+    append_assoc out (x ∷ []) (map f (filter p (numbers (k + 1) (n - (k + 1)))))
+    ∙ ap (λ y. out ++ y ∷ map f (filter p (numbers (k + 1) (n - (k + 1))))) e
+    ∙ (let d : map f (filter p (numbers k (n - k))) ≡ f k ∷ map f (filter p (numbers (k + 1) (n - (k + 1)))) = (rw (q, t) refl) in ap (λ ys. out ++ ys) (sym d))
+    ∙ g
+
+pub went_by : {X : Type 0} (p : ℕ → Bool) (f : ℕ → X) (k n : ℕ) (out all : List X) → k < n → p k ≡ false →
+    out ++ map f (filter p (numbers k (n - k))) ≡ all → out ++ map f (filter p (numbers (k + 1) (n - (k + 1)))) ≡ all
+went_by p f k n out all h t g =
+    let q = numbers-first k n h in
+    (let d : map f (filter p (numbers k (n - k))) ≡ map f (filter p (numbers (k + 1) (n - (k + 1)))) = (rw (q, t) refl) in ap (λ ys. out ++ ys) (sym d)) ∙ g
+
+-- the same where each gives a list
+pub went_on : {X : Type 0} (f : ℕ → List X) (k n : ℕ) (out more all : List X) → k < n → more ≡ f k →
+    out ++ flat_map f (numbers k (n - k)) ≡ all → (out ++ more) ++ flat_map f (numbers (k + 1) (n - (k + 1))) ≡ all
+went_on f k n out more all h e g =
+    let q = numbers-first k n h in
+    append_assoc out more (flat_map f (numbers (k + 1) (n - (k + 1))))
+    ∙ ap (λ y. out ++ (y ++ flat_map f (numbers (k + 1) (n - (k + 1))))) e
+    ∙ (let d : flat_map f (numbers k (n - k)) ≡ f k ++ flat_map f (numbers (k + 1) (n - (k + 1))) = (rw q refl) in ap (λ ys. out ++ ys) (sym d))
+    ∙ g
+
+-- at the end all are seen
+pub went_all : {X : Type 0} (p : ℕ → Bool) (f : ℕ → X) (k n : ℕ) (out all : List X) → n ≤ k → out ++ map f (filter p (numbers k (n - k))) ≡ all → out ≡ all
+went_all p f k n out all h g = let e : n - k ≡ 0 = omega arith in sym (append-nil out) ∙ (rw e at g)
+
+pub went_through : {X : Type 0} (f : ℕ → List X) (k n : ℕ) (out all : List X) → n ≤ k → out ++ flat_map f (numbers k (n - k)) ≡ all → out ≡ all
+went_through f k n out all h g = let e : n - k ≡ 0 = omega arith in sym (append-nil out) ∙ (rw e at g)

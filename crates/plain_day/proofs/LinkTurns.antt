@@ -1,0 +1,69 @@
+-- The turn of a link, by what it sees.
+use Rattle.std.proofs.Common.{◌≡◌, ℕ, Bool, true, false, List, [], ◌∷◌, refl, ap, sym, ◌∙◌}
+use Rattle.std.specs.Prelude.{filter, not, ◌&&◌, ◌||◌, ◌==◌}
+use Rattle.std.specs.List.{list_any}
+use Rattle.fixed_flow.specs.Flow.{raised}
+use Rattle.plans.specs.declared.plan.Plan.{Plan}
+use Rattle.town.specs.declared.rows.Town.{Town}
+use Rattle.town.specs.Setups.{setup_of}
+use Rattle.town.specs.Views.{setup_in}
+use Rattle.traffic.specs.declared.moves.Move.{Move}
+use Rattle.traffic.specs.declared.moves.Move.TheVariants.{Credit}
+use Rattle.traffic.specs.declared.numbers.Rules.{Rules}
+use Rattle.traffic.specs.declared.rows.Stage.{Stage}
+use Rattle.traffic.specs.declared.rows.Stage.TheVariants.{Queue, Buffer, Wait, Bay}
+use Rattle.traffic.specs.declared.world.Row.{Row}
+use Rattle.traffic.specs.declared.world.Waiter.{Waiter}
+use Rattle.traffic.specs.Rows.{World, rank, on, credit_of}
+use Rattle.traffic.specs.Setup.{gain_of}
+use Rattle.traffic.specs.Links.{Lane, lane, rules, link_moves}
+use Rattle.traffic.specs.Persons.{waiters}
+use Rattle.traffic.specs.Day.{link_plan}
+use Rattle.traffic.proofs.Idle.{link_idle}
+use Rattle.plain_day.specs.Fit.{streets, stays_on}
+
+-- a link with no row but in its buffer has no row in its queue, its wait list or its bay
+and_false : (b : Bool) → b && false ≡ false
+and_false true = refl
+and_false false = refl
+
+apart : (z s : Stage) (b : Bool) → (rank s == rank Buffer) ≡ false → (b && not (rank z == rank Buffer)) ≡ false → ((rank z == rank s) && b) ≡ false
+apart Buffer Queue b h g = refl
+apart Buffer Wait b h g = refl
+apart Buffer Bay b h g = refl
+apart Buffer Buffer b h g = absurd (cc)
+apart Queue s false h g = and_false (rank Queue == rank s)
+apart Wait s false h g = and_false (rank Wait == rank s)
+apart Bay s false h g = and_false (rank Bay == rank s)
+apart Queue s true h g = absurd (cc)
+apart Wait s true h g = absurd (cc)
+apart Bay s true h g = absurd (cc)
+
+pub or_parts : (a b : Bool) → a || b ≡ false → (a ≡ false) × (b ≡ false)
+or_parts true b h = absurd (cc)
+or_parts false b h = (refl, h)
+
+pub unused : (l : ℕ) (s : Stage) (rows : List Row) → (rank s == rank Buffer) ≡ false → list_any (stays_on l) rows ≡ false → filter (on l s) rows ≡ []
+unused l s [] h g = refl
+unused l s (r ∷ rs) h g =
+    let p = or_parts (stays_on l r) (list_any (stays_on l) rs) g in
+    let e = apart r.stage s (r.link == l) h p.0 in
+    rw e (unused l s rs h p.1)
+
+-- a link with nothing to do raises its credit alone
+pub idle_is : (town : Town) (chosen : List Plan) (n t l : ℕ) (W : World) (rows : List Row) (gain before credit : ℕ) → rows ≡ W.rows → list_any (stays_on l) rows ≡ false →
+    gain ≡ gain_of (streets town) l → before ≡ credit_of l W → credit ≡ raised gain before → link_plan (setup_in town chosen n) t l W ≡ Credit l credit ∷ []
+unfolding setup_of
+idle_is town chosen n t l W rows gain before credit r u g b c =
+    let S = setup_in town chosen n in
+    let v : list_any (stays_on l) W.rows ≡ false = rw (← r) u in
+    link_idle (rules S l) t l (waiters S l W) (lane l W) (unused l Queue W.rows refl v) (unused l Wait W.rows refl v) (unused l Bay W.rows refl v)
+    ∙ ap (λ x. Credit l x ∷ []) (sym (c ∙ ap (λ x. raised x before) g ∙ ap (λ x. raised (gain_of (streets town) l) x) b))
+
+-- the turn of a link, by its parts
+pub turn_is : (town : Town) (chosen : List Plan) (n t l : ℕ) (W : World) (K : Rules) (ws : List Waiter) (L : Lane) (moves : List Move) → K ≡ rules (streets town) l →
+    ws ≡ waiters (setup_in town chosen 0) l W → L ≡ lane l W → moves ≡ link_moves K t l ws L → moves ≡ link_plan (setup_in town chosen n) t l W
+unfolding setup_of waiters
+turn_is town chosen n t l W K ws L moves k w e m =
+    m ∙ ap (λ (x : Rules). link_moves x t l ws L) k ∙ ap (λ (x : List Waiter). link_moves (rules (streets town) l) t l x L) w
+    ∙ ap (λ (x : Lane). link_moves (rules (streets town) l) t l (waiters (setup_in town chosen 0) l W) x) e

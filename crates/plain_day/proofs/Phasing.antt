@@ -1,0 +1,153 @@
+-- A phase turn by turn, and a day second by second.
+use Rattle.std.proofs.Common.{◌≡◌, ◌<◌, ◌≤◌, ℕ, suc, ◌+◌, ◌-◌, List, [], ◌∷◌, ◌++◌, refl, sym, ap, ◌∙◌, append_assoc, add-one, arith}
+use Rattle.std.proofs.lemmas.List.{append-nil}
+use Rattle.events.specs.declared.event.Event.{Event}
+use Rattle.events.specs.declared.event.Phase.{Phase}
+use Rattle.events.specs.declared.event.Phase.TheVariants as phase
+use Rattle.std.specs.List.{flat_map}
+use Rattle.traffic.specs.Lists.{numbers, below}
+use Rattle.traffic.specs.Rows.{World}
+use Rattle.traffic.specs.Setup.{Setup}
+use Rattle.traffic.specs.Moves.{run}
+use Rattle.traffic.specs.Day.{Turn, plan_of, count_of, turns, turns_in, moves_of, after, events_of, events_in, through, told_in, second, second_events, world_from, events_from}
+use Rattle.traffic.proofs.Sublists.{run-append}
+
+-- the turns from number n on, of so many, in the world that the ones before it left
+abbrev pub rest : Setup → ℕ → Phase → ℕ → ℕ → World → List Turn
+rest S t p count n W = turns S t (plan_of S t p) (numbers n (count - n)) W
+
+abbrev turn : Setup → ℕ → Phase → ℕ → World → Turn
+turn S t p n W = record { number = n; moves = plan_of S t p n W }
+
+-- what the turns from n on give, done and told after what came before, is what all turns give
+pub record Going (S : Setup) (t : ℕ) (p : Phase) (count n : ℕ) (from now : World) (old out : List Event) : Type 0 where
+  pub world : after S t (rest S t p count n now) now ≡ after S t (rest S t p count 0 from) from
+  pub events : out ++ events_in t p (rest S t p count n now) ≡ old ++ events_in t p (rest S t p count 0 from)
+
+pub going_first : (S : Setup) (t : ℕ) (p : Phase) (count : ℕ) (from : World) (old : List Event) → Going S t p count 0 from from old old
+going_first S t p count from old = record { world = refl; events = refl }
+
+rest_more : (S : Setup) (t : ℕ) (p : Phase) (count n : ℕ) (W : World) → n < count → rest S t p count n W ≡ turn S t p n W ∷ rest S t p count (n + 1) (run S t (plan_of S t p n W) W)
+unfolding turns
+rest_more S t p count n W h =
+    let e : count - n ≡ suc (count - (n + 1)) = omega arith in
+    ap (λ k. turns S t (plan_of S t p) (numbers n k) W) e
+
+after_more : (S : Setup) (t : ℕ) (u : Turn) (us : List Turn) (W : World) → after S t (u ∷ us) W ≡ after S t us (run S t u.moves W)
+after_more S t u us W = run-append S t u.moves (moves_of us) W
+
+pub going_more : (S : Setup) (t : ℕ) (p : Phase) (count n : ℕ) (from now next : World) (old out more : List Event) → n < count
+    → next ≡ run S t (plan_of S t p n now) now → more ≡ out ++ events_of t p (turn S t p n now)
+    → Going S t p count n from now old out → Going S t p count (n + 1) from next old more
+going_more S t p count n from now next old out more h e f g =
+    let us = rest S t p count (n + 1) (run S t (plan_of S t p n now) now) in
+    let split = rest_more S t p count n now h in
+    record {
+      world =
+          ap (λ W. after S t (rest S t p count (n + 1) W) W) e
+          ∙ sym (after_more S t (turn S t p n now) us now)
+          ∙ ap (λ vs. after S t vs now) (sym split)
+          ∙ g.world;
+      events =
+          ap (λ xs. xs ++ events_in t p (rest S t p count (n + 1) next)) f
+          ∙ ap (λ W. (out ++ events_of t p (turn S t p n now)) ++ events_in t p (rest S t p count (n + 1) W)) e
+          ∙ append_assoc out (events_of t p (turn S t p n now)) (events_in t p us)
+          ∙ ap (λ vs. out ++ events_in t p vs) (sym split)
+          ∙ g.events;
+    }
+
+rest_none : (S : Setup) (t : ℕ) (p : Phase) (count n : ℕ) (W : World) → count ≤ n → rest S t p count n W ≡ []
+unfolding turns
+rest_none S t p count n W h =
+    let e : count - n ≡ 0 = omega arith in
+    ap (λ k. turns S t (plan_of S t p) (numbers n k) W) e
+
+going_world : (S : Setup) (t : ℕ) (p : Phase) (count n : ℕ) (from now : World) (old out : List Event) → count ≤ n
+    → Going S t p count n from now old out → now ≡ after S t (rest S t p count 0 from) from
+going_world S t p count n from now old out h g = ap (λ us. after S t us now) (sym (rest_none S t p count n now h)) ∙ g.world
+
+going_events : (S : Setup) (t : ℕ) (p : Phase) (count n : ℕ) (from now : World) (old out : List Event) → count ≤ n
+    → Going S t p count n from now old out → out ≡ old ++ events_in t p (rest S t p count 0 from)
+going_events S t p count n from now old out h g =
+    sym (append-nil out) ∙ ap (λ us. out ++ events_in t p us) (sym (rest_none S t p count n now h)) ∙ g.events
+
+rest_all : (S : Setup) (t : ℕ) (p : Phase) (W : World) → rest S t p (count_of S p) 0 W ≡ turns_in S t p W
+unfolding turns_in
+rest_all S t p W =
+    let e : count_of S p - 0 ≡ count_of S p = omega arith in
+    ap (λ k. turns S t (plan_of S t p) (numbers 0 k) W) e
+
+-- once all have had their turn the world is that after the phase, and its events are told
+pub gone_world : (S : Setup) (t : ℕ) (p : Phase) (n : ℕ) (from now : World) (old out : List Event) → count_of S p ≤ n
+    → Going S t p (count_of S p) n from now old out → now ≡ after S t (turns_in S t p from) from
+gone_world S t p n from now old out h g = going_world S t p (count_of S p) n from now old out h g ∙ ap (λ us. after S t us from) (rest_all S t p from)
+
+pub gone_events : (S : Setup) (t : ℕ) (p : Phase) (n : ℕ) (from now : World) (old out : List Event) → count_of S p ≤ n
+    → Going S t p (count_of S p) n from now old out → out ≡ old ++ events_in t p (turns_in S t p from)
+gone_events S t p n from now old out h g = going_events S t p (count_of S p) n from now old out h g ∙ ap (λ us. old ++ events_in t p us) (rest_all S t p from)
+
+-- a second is its five phases
+pub second_world : (S : Setup) (t : ℕ) (W a b1 b2 c d : World) → a ≡ after S t (turns_in S t phase.A W) W → b1 ≡ after S t (turns_in S t phase.B1 a) a
+    → b2 ≡ after S t (turns_in S t phase.B2 b1) b1 → c ≡ after S t (turns_in S t phase.C b2) b2 → d ≡ after S t (turns_in S t phase.D c) c → d ≡ second S t W
+unfolding through
+second_world S t W a b1 b2 c d ea eb1 eb2 ec ed =
+    let f : Phase → World → World = λ p X. after S t (turns_in S t p X) X in
+    ed ∙ ap (f phase.D) (ec ∙ ap (f phase.C) (eb2 ∙ ap (f phase.B2) (eb1 ∙ ap (f phase.B1) ea)))
+
+one_list : (o o1 o2 o3 o4 o5 a b c d e : List Event) → o1 ≡ o ++ a → o2 ≡ o1 ++ b → o3 ≡ o2 ++ c → o4 ≡ o3 ++ d → o5 ≡ o4 ++ e → o5 ≡ o ++ (a ++ (b ++ (c ++ (d ++ (e ++ [])))))
+one_list o o1 o2 o3 o4 o5 a b c d e e1 e2 e3 e4 e5 =
+    let f1 = e2 ∙ ap (λ (l : List Event). l ++ b) e1 ∙ append_assoc o a b in
+    let f2 = e3 ∙ ap (λ (l : List Event). l ++ c) f1 ∙ append_assoc o (a ++ b) c ∙ ap (λ (l : List Event). o ++ l) (append_assoc a b c) in
+    let f3 = e4 ∙ ap (λ (l : List Event). l ++ d) f2 ∙ append_assoc o (a ++ (b ++ c)) d ∙ ap (λ (l : List Event). o ++ l) (append_assoc a (b ++ c) d ∙ ap (λ (l : List Event). a ++ l) (append_assoc b c d)) in
+    let f4 = e5 ∙ ap (λ (l : List Event). l ++ e) f3 ∙ append_assoc o (a ++ (b ++ (c ++ d))) e
+        ∙ ap (λ (l : List Event). o ++ l) (append_assoc a (b ++ (c ++ d)) e ∙ ap (λ (l : List Event). a ++ l) (append_assoc b (c ++ d) e ∙ ap (λ (l : List Event). b ++ l) (append_assoc c d e))) in
+    f4 ∙ ap (λ (l : List Event). o ++ (a ++ (b ++ (c ++ (d ++ l))))) (sym (append-nil e))
+
+same_lists : (o a b c d e b' c' d' e' : List Event) → b ≡ b' → c ≡ c' → d ≡ d' → e ≡ e' → o ++ (a ++ (b ++ (c ++ (d ++ (e ++ []))))) ≡ o ++ (a ++ (b' ++ (c' ++ (d' ++ (e' ++ [])))))
+same_lists o a b c d e b' c' d' e' p q r s =
+    ap (λ (l : List Event). o ++ (a ++ (l ++ (c ++ (d ++ (e ++ [])))))) p
+    ∙ ap (λ (l : List Event). o ++ (a ++ (b' ++ (l ++ (d ++ (e ++ [])))))) q
+    ∙ ap (λ (l : List Event). o ++ (a ++ (b' ++ (c' ++ (l ++ (e ++ [])))))) r
+    ∙ ap (λ (l : List Event). o ++ (a ++ (b' ++ (c' ++ (d' ++ (l ++ [])))))) s
+
+pub second_told : (S : Setup) (t : ℕ) (W a b1 b2 c : World) (o o1 o2 o3 o4 o5 : List Event) → a ≡ after S t (turns_in S t phase.A W) W → b1 ≡ after S t (turns_in S t phase.B1 a) a
+    → b2 ≡ after S t (turns_in S t phase.B2 b1) b1 → c ≡ after S t (turns_in S t phase.C b2) b2
+    → o1 ≡ o ++ events_in t phase.A (turns_in S t phase.A W) → o2 ≡ o1 ++ events_in t phase.B1 (turns_in S t phase.B1 a) → o3 ≡ o2 ++ events_in t phase.B2 (turns_in S t phase.B2 b1)
+    → o4 ≡ o3 ++ events_in t phase.C (turns_in S t phase.C b2) → o5 ≡ o4 ++ events_in t phase.D (turns_in S t phase.D c) → o5 ≡ o ++ second_events S t W
+unfolding told_in
+second_told S t W a b1 b2 c o o1 o2 o3 o4 o5 ea eb1 eb2 ec e1 e2 e3 e4 e5 =
+    let T : Phase → World → List Event = λ p X. events_in t p (turns_in S t p X) in
+    let f : Phase → World → World = λ p X. after S t (turns_in S t p X) X in
+    let pb = eb1 ∙ ap (f phase.B1) ea in
+    let pc = eb2 ∙ ap (f phase.B2) pb in
+    let pd = ec ∙ ap (f phase.C) pc in
+    one_list o o1 o2 o3 o4 o5 (T phase.A W) (T phase.B1 a) (T phase.B2 b1) (T phase.C b2) (T phase.D c) e1 e2 e3 e4 e5
+    ∙ same_lists o (T phase.A W) (T phase.B1 a) (T phase.B2 b1) (T phase.C b2) (T phase.D c) _ _ _ _
+        (ap (T phase.B1) ea) (ap (T phase.B2) pb) (ap (T phase.C) pc) (ap (T phase.D) pd)
+
+-- one second more
+pub world_more : (S : Setup) (W : World) (t : ℕ) (now next : World) → now ≡ world_from S W t → next ≡ second S t now → next ≡ world_from S W (t + 1)
+unfolding world_from
+world_more S W t now next e f = f ∙ ap (second S t) e ∙ ap (world_from S W) (sym (add-one t))
+
+pub events_more : (S : Setup) (W : World) (t : ℕ) (now : World) (out more : List Event) → now ≡ world_from S W t → out ≡ events_from S W t
+    → more ≡ out ++ second_events S t now → more ≡ events_from S W (t + 1)
+unfolding events_from
+events_more S W t now out more e f g =
+    g ∙ ap (λ (l : List Event). l ++ second_events S t now) f ∙ ap (λ (X : World). events_from S W t ++ second_events S t X) e ∙ ap (events_from S W) (sym (add-one t))
+
+-- what is told of the persons from number i on, of so many
+abbrev pub told_from : (ℕ → List Event) → ℕ → ℕ → List Event
+told_from f count i = flat_map f (numbers i (count - i))
+
+pub told_more : (f : ℕ → List Event) (count i : ℕ) (old out more : List Event) → i < count → more ≡ out ++ f i
+    → out ++ told_from f count i ≡ old ++ told_from f count 0 → more ++ told_from f count (i + 1) ≡ old ++ told_from f count 0
+told_more f count i old out more h e g =
+    let k : count - i ≡ suc (count - (i + 1)) = omega arith in
+    ap (λ (l : List Event). l ++ told_from f count (i + 1)) e ∙ append_assoc out (f i) (told_from f count (i + 1)) ∙ ap (λ (m : ℕ). out ++ flat_map f (numbers i m)) (sym k) ∙ g
+
+pub told_all : (f : ℕ → List Event) (count i : ℕ) (old out : List Event) → count ≤ i → out ++ told_from f count i ≡ old ++ told_from f count 0 → out ≡ old ++ flat_map f (below count)
+told_all f count i old out h g =
+    let k : count - i ≡ 0 = omega arith in
+    let z : count - 0 ≡ count = omega arith in
+    sym (append-nil out) ∙ ap (λ (m : ℕ). out ++ flat_map f (numbers i m)) (sym k) ∙ g ∙ ap (λ (m : ℕ). old ++ flat_map f (numbers 0 m)) z

@@ -1,0 +1,35 @@
+use Rattle.std.proofs.Common.{sym, ap, ◌∙◌}
+use Rattle.std.specs.Prelude.{map, filter}
+use Rattle.traffic.specs.Lists.{below}
+use Rattle.traffic.specs.Nodes.{entry}
+use Rattle.plain_day.specs.Fit.{streets}
+use Rattle.plain_day.specs.Sights.{is_in}
+use Rattle.plain_day.proofs.Counting.{went_in, went_by, went_all}
+use Rattle.plain_day.proofs.Fitting.{entries_push}
+use Rattle.plain_day.proofs.Seen.{into_is}
+use Rattle.plain_day.proofs.sights.entries.Goals.{then-is_in+in_ok-seen+in_ok-push, else-is_in}
+use Rattle.plain_day.proofs.sights.entries.Goals as goal
+
+pub loop-link-preserved : goal.loop-link-preserved
+loop-link-preserved c =
+    let S = streets c.args.town.now in
+    let is = is_in S c.args.node in
+    let f = entry S c.args.t c.args.world.now in
+    elim c.if-is_in.branch [
+      | then-is_in+in_ok-seen+in_ok-push w ↦ rw (w.entries-is, w.in_ok-push.ensures.items) (record {
+        seen = went_in is f c.loop-link.link c.len-link-end.result c.loop-link.entries.items w.in_ok-seen.seen _ c.loop-link-test.true (sym c.is_in.ensures ∙ w.if-is_in.true) w.in_ok-seen.ensures.value c.loop-link.invariant.seen;
+        fit = entries_push c.loop-link.entries.items w.in_ok-seen.seen c.loop-link.invariant.fit w.in_ok-seen.ensures.fit_after;
+      })
+      | else-is_in w ↦ rw w.entries-is (record {
+        seen = went_by is f c.loop-link.link c.len-link-end.result c.loop-link.entries.items _ c.loop-link-test.true (sym c.is_in.ensures ∙ w.if-is_in.false) c.loop-link.invariant.seen;
+        fit = c.loop-link.invariant.fit;
+      })
+    ]
+
+pub returns-clause-value : goal.returns-clause-value
+returns-clause-value c =
+    let S = streets c.args.town.now in
+    let is = is_in S c.args.node in
+    let f = entry S c.args.t c.args.world.now in
+    went_all is f c.loop-link.link c.len-link-end.result c.loop-link.entries.items _ c.loop-link-test.false c.loop-link.invariant.seen
+    ∙ ap (λ n. map f (filter is (below n))) c.len-link-end.ensures ∙ sym (ap (map f) (into_is c.args.town.now c.args.node))

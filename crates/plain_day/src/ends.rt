@@ -1,0 +1,82 @@
+//! Who is under way when the day ends.
+
+ghost use Rattle.std.specs.Prelude.{◌≡◌, ◌<◌, ℕ, length, get_or};
+ghost use Rattle.std.specs.Option.{option_to_list};
+ghost use Rattle.town.specs.Views.{setup_in};
+ghost use Rattle.town.specs.Setups.{stay_of};
+ghost use Rattle.traffic.specs.Persons.{same_vehicle, link_of_vehicle, stuck_at, stranded};
+ghost use Rattle.plain_day.specs.Fit.{streets};
+
+use crate::legs::{here, mode_of_trip, way};
+use crate::waiters::{link_of_stop, person_at};
+use plain_world::World;
+use events::{Mode, More, VehicleId, Word};
+use plain_turns::of_person;
+use plans::{Act, Plan};
+use town::Town;
+use traffic::{Place, Row, Said};
+
+fn same_vehicle(a: VehicleId, b: VehicleId) -> bool
+    ensures { result ≡ same_vehicle a b }
+{
+    match a {
+        VehicleId::Car(i) => match b {
+            VehicleId::Car(j) => i == j,
+            VehicleId::Transit(_) => false,
+        },
+        VehicleId::Transit(d) => match b {
+            VehicleId::Car(_) => false,
+            VehicleId::Transit(e) => d == e,
+        },
+    }
+}
+
+/// The link of the first row of a vehicle, which is 0 where there is none.
+#[tactic(auto, unfolding(traffic::specs::Persons::link_of_vehicle))]
+fn link_of_vehicle(vehicle: VehicleId, rows: &[Row]) -> u32
+    ensures { result ≡ link_of_vehicle vehicle rows.now }
+{
+    let mut rest = rows;
+    while let [row, later @ ..] = rest {
+        if same_vehicle(row.vehicle.id, vehicle) {
+            return row.link;
+        }
+        rest = later;
+    }
+    0
+}
+
+/// The same in a world.
+fn link_in(vehicle: VehicleId, world: &World) -> u32
+    ensures { result ≡ link_of_vehicle vehicle world.now.rows }
+{
+    link_of_vehicle(vehicle, &world.rows)
+}
+
+/// The link on which a person at this place is stuck, where he is under way.
+fn stuck_at(town: &Town, world: &World, i: u32, here: Act, mode: Mode, place: Place) -> Option<Said>
+    ensures { option_to_list result ≡ stuck_at (streets town.now) world.now i (stay_of here) mode place }
+{
+    let link = match place {
+        Place::At { .. } => return None,
+        Place::Flying { .. } => here.link,
+        Place::Waiting { stop, .. } => link_of_stop(town, stop),
+        Place::Riding { vehicle } => link_in(vehicle, world),
+        Place::Gone { .. } => return None,
+    };
+    Some(of_person(Word::StuckAndAbort, i, link, More::Mode(mode)))
+}
+
+/// What the end of the day tells of a person: that he is stuck, where he is under way.
+pub fn stranded(town: &Town, chosen: &[Plan], i: u32, world: &World) -> Option<Said>
+    requires there { i < length chosen.now }
+    requires persons { length world.now.persons ≡ length chosen.now }
+    ensures { (iteration : ℕ)
+        → option_to_list result ≡ stranded (setup_in town.now chosen.now iteration) world.now i }
+{
+    let plan = &chosen[i as usize];
+    let person = person_at(world, i);
+    let here = here(plan, person.element);
+    let mode = mode_of_trip(way(plan, person.element));
+    stuck_at(town, world, i, here, mode, person.place)
+}

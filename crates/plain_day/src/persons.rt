@@ -1,0 +1,253 @@
+//! The turns of persons and departures.
+
+ghost use Rattle.std.specs.Prelude.{◌≡◌, ◌<◌, ◌+◌, ◌++◌, ◌∷◌, [], ℕ, List, Bool, true, length, map, get_or, OnOk, IfOk, if◌then◌else◌};
+ghost use Rattle.std.specs.List.{list_all};
+ghost use Rattle.plans.specs.declared.plan.Plan.{Plan};
+ghost use Rattle.plans.specs.Parts.{parts_of};
+ghost use Rattle.town.specs.declared.rows.Town.{Town};
+ghost use Rattle.town.specs.Fits.{fits};
+ghost use Rattle.town.specs.Views.{setup_in, rows_of};
+ghost use Rattle.town.specs.Setups.{stay_of, way_of};
+ghost use Rattle.traffic.specs.declared.moves.Move.TheVariants.{Tell};
+ghost use Rattle.traffic.specs.Persons.{mode_of_way, lands, landing, landing_moves, departs, car, sets_out, leaving, leaving_moves};
+ghost use Rattle.traffic.specs.Setup.{Way};
+ghost use Rattle.plain_day.specs.Fit.{streets, CanLeave, plan_in};
+ghost use Rattle.plain_day.specs.Legs.{itinerary_in, stay_in, way_in, way_at, ends_in, HasRoute};
+
+use crate::legs::{Trip, here, mode_of_trip, next, trip_of, way};
+use crate::waiters::link_of_stop;
+use events::{Calls, Mode, More, Route, VehicleId, Word};
+use plain_turns::of_person;
+use plans::{Act, Leg, Legs, Plan};
+use std::alloc::{AllocError, Global};
+use town::Town;
+use traffic::{Move, Person, Place, Rider, Riders, Row, Said, SaidList, Stage, Vehicle};
+
+/// A teleported leg is over.
+fn lands(alloc: Global, i: u32, mode: Mode, seconds: u32, next: Act) -> Result<SaidList, AllocError>
+    ensures { IfOk result (λ says. says ≡ lands i mode seconds (stay_of next)) }
+{
+    let mut rows = Vec::new(alloc);
+    rows.push(Said {
+        word: Word::Travelled,
+        person: Some(i),
+        vehicle: None,
+        link: None,
+        more: More::Seconds(seconds),
+    })?;
+    rows.push(of_person(Word::Arrival, i, next.link, More::Mode(mode)))?;
+    rows.push(of_person(Word::ActStart, i, next.link, More::Kind(next.kind)))?;
+    Ok(SaidList { rows })
+}
+
+/// One move that tells.
+fn tell(alloc: Global, says: SaidList) -> Result<Vec<Move>, AllocError>
+    ensures { IfOk result (λ moves. moves.items ≡ Tell says ∷ []) }
+{
+    let mut moves = Vec::new(alloc);
+    moves.push(Move::Tell { says })?;
+    Ok(moves)
+}
+
+/// The moves of a person with this plan whose leg may end.
+fn landing(
+    alloc: Global,
+    t: u32,
+    i: u32,
+    plan: &Plan,
+    person: Person,
+) -> Result<Vec<Move>, AllocError>
+    ensures { IfOk result (λ moves. moves.items
+        ≡ landing t i (way_in (itinerary_in plan.now) person.element) (stay_in (itinerary_in plan.now) (person.element + 2)) person.place) }
+{
+    let Place::Flying { start } = person.place else {
+        return Ok(Vec::new(alloc));
+    };
+    let Trip::Teleport { mode, seconds } = way(plan, person.element) else {
+        return Ok(Vec::new(alloc));
+    };
+    if u64::from(start) + u64::from(seconds) != u64::from(t) {
+        return Ok(Vec::new(alloc));
+    }
+    let says = lands(alloc, i, mode, seconds, next(plan, person.element))?;
+    let moves = tell(alloc, says)?;
+    Ok(moves)
+}
+
+/// The moves of a person in the phase in which teleported legs end. Without such an end nothing is allocated.
+pub fn landing_moves(
+    alloc: Global,
+    chosen: &[Plan],
+    t: u32,
+    i: u32,
+    person: Person,
+) -> Result<Vec<Move>, AllocError>
+    requires { i < length chosen.now }
+    ensures { IfOk result (λ moves. (town : Town) (iteration : ℕ)
+        → moves.items ≡ landing_moves (setup_in town chosen.now iteration) t i person) }
+{
+    let plan = &chosen[i as usize];
+    let moves = landing(alloc, t, i, plan, person)?;
+    Ok(moves)
+}
+
+/// An activity ends, and the leg after it begins.
+fn departs(alloc: Global, i: u32, here: Act, mode: Mode) -> Result<SaidList, AllocError>
+    ensures { IfOk result (λ says. (w : Way) → mode_of_way w ≡ mode → says ≡ departs i (stay_of here) w) }
+{
+    let mut rows = Vec::new(alloc);
+    rows.push(of_person(Word::ActEnd, i, here.link, More::Kind(here.kind)))?;
+    rows.push(of_person(Word::Departure, i, here.link, More::Mode(mode)))?;
+    Ok(SaidList { rows })
+}
+
+/// A car with its driver, at the end of the wait list of the first link of its route.
+fn car(alloc: Global, i: u32, route: &Route, kind: u32) -> Result<Row, AllocError>
+    requires { 0 < length route.now }
+    ensures { IfOk result (λ row. row ≡ car i route.now kind) }
+{
+    let link = route.rows[0];
+    let route = route.try_clone()?;
+    let mut riders = Vec::new(alloc);
+    riders.push(Rider {
+        person: i,
+        egress: None,
+        kind,
+    })?;
+    let vehicle = Vehicle {
+        id: VehicleId::Car(i),
+        route,
+        place: 0,
+        started: false,
+        riders: Riders { rows: riders },
+        line: 0,
+        calls: Calls {
+            rows: Vec::new(alloc),
+        },
+        served: 0,
+        departed: 0,
+        seats: 0,
+        pushed: false,
+    };
+    Ok(Row {
+        vehicle,
+        link,
+        stage: Stage::Wait,
+        second: 0,
+    })
+}
+
+/// Appends how a leg begins.
+fn push_sets_out(
+    alloc: Global,
+    town: &Town,
+    i: u32,
+    leg: &Leg,
+    next: Act,
+    moves: &mut Vec<Move>,
+) -> Result<(), AllocError>
+    requires { HasRoute (way_of leg.now) }
+    ensures { OnOk result (moves.new.items ≡ moves.old.items ++ sets_out (streets town.now) i (way_of leg.now) (stay_of next)) }
+{
+    match leg {
+        Leg::Car { route } => {
+            let now = car(alloc, i, route, next.kind)?;
+            moves.push(Move::New { now })?;
+            Ok(())
+        }
+        Leg::Teleport { .. } => Ok(()),
+        Leg::Transit { access, .. } => {
+            let mut rows = Vec::new(alloc);
+            rows.push(of_person(
+                Word::WaitingForPt,
+                i,
+                link_of_stop(town, *access),
+                More::Stop(*access),
+            ))?;
+            moves.push(Move::Tell {
+                says: SaidList { rows },
+            })?;
+            Ok(())
+        }
+    }
+}
+
+/// A person leaves for the leg at a place of the plan.
+fn leave(
+    alloc: Global,
+    town: &Town,
+    i: u32,
+    legs: &Legs,
+    place: usize,
+    here: Act,
+    next: Act,
+) -> Result<Vec<Move>, AllocError>
+    requires there { place < length legs.now }
+    requires route { HasRoute (way_at legs.now place) }
+    ensures { IfOk result (λ moves. moves.items
+        ≡ Tell (departs i (stay_of here) (way_at legs.now place)) ∷ sets_out (streets town.now) i (way_at legs.now place) (stay_of next)) }
+{
+    let leg = &legs.rows[place];
+    let says = departs(alloc, i, here, mode_of_trip(trip_of(leg)))?;
+    let mut moves = tell(alloc, says)?;
+    push_sets_out(alloc, town, i, leg, next, &mut moves)?;
+    Ok(moves)
+}
+
+/// Whether an activity at this place ends in second `t`.
+fn ends_in(t: u32, place: Place) -> bool
+    ensures { result ≡ ends_in t place }
+{
+    match place {
+        Place::At { end: Some(end) } => end == t,
+        Place::At { end: None } => false,
+        Place::Flying { .. } => false,
+        Place::Waiting { .. } => false,
+        Place::Riding { .. } => false,
+        Place::Gone { .. } => false,
+    }
+}
+
+/// The moves of a person with this plan whose activity may end.
+fn leaving(
+    alloc: Global,
+    town: &Town,
+    t: u32,
+    i: u32,
+    plan: &Plan,
+    person: Person,
+) -> Result<Vec<Move>, AllocError>
+    requires leg { CanLeave (itinerary_in plan.now) person }
+    requires fits { fits (rows_of town.now) (parts_of plan.now) ≡ true }
+    ensures { IfOk result (λ moves. moves.items
+        ≡ leaving (streets town.now) t i (stay_in (itinerary_in plan.now) person.element) (way_in (itinerary_in plan.now) person.element) (stay_in (itinerary_in plan.now) (person.element + 2)) person.place) }
+{
+    if !ends_in(t, person.place) {
+        return Ok(Vec::new(alloc));
+    }
+    let place = person.element as usize / 2;
+    let here = here(plan, person.element);
+    let next = next(plan, person.element);
+    let moves = leave(alloc, town, i, &plan.legs, place, here, next)?;
+    Ok(moves)
+}
+
+/// The moves of a person in the phase in which activities end. Without such an end nothing is allocated.
+pub fn leaving_moves(
+    alloc: Global,
+    town: &Town,
+    chosen: &[Plan],
+    t: u32,
+    i: u32,
+    person: Person,
+) -> Result<Vec<Move>, AllocError>
+    requires there { i < length chosen.now }
+    requires leg { CanLeave (plan_in chosen.now i) person }
+    requires fits { list_all (fits (rows_of town.now)) (map parts_of chosen.now) ≡ true }
+    ensures { IfOk result (λ moves. (iteration : ℕ)
+        → moves.items ≡ leaving_moves (setup_in town.now chosen.now iteration) t i person) }
+{
+    let plan = &chosen[i as usize];
+    let moves = leaving(alloc, town, t, i, plan, person)?;
+    Ok(moves)
+}

@@ -1,0 +1,155 @@
+//! The turns of links and nodes in a world.
+
+ghost use Rattle.std.specs.Prelude.{◌≡◌, ◌<◌, ◌∷◌, [], ℕ, List, length, true, IfOk, IfSome, IfNone};
+ghost use Rattle.std.specs.List.{list_any};
+ghost use Rattle.fixed_flow.specs.Flow.{raised};
+ghost use Rattle.plans.specs.declared.plan.Plan.{Plan};
+ghost use Rattle.town.specs.Views.{setup_in};
+ghost use Rattle.traffic.specs.declared.moves.Move.TheVariants.{Credit};
+ghost use Rattle.traffic.specs.Day.{link_plan, node_plan};
+ghost use Rattle.plain_day.specs.Fit.{AreFit, stays_on, streets};
+ghost use Rattle.plain_day.specs.Sights.{is_before};
+
+use crate::links::{gain_of, rules};
+use crate::sights::{credit_of, entries, exits, is_in, is_used, lane_rows, rank};
+use crate::waiters::waiters;
+use plain_world::World;
+use draws::Draws;
+use fixed_flow::VEHICLE_COST;
+use plain_turns::{link_moves, node_moves};
+use plans::Plan;
+use std::alloc::{AllocError, Global};
+use town::Town;
+use traffic::{Move, Row};
+
+/// The credit after the gain of a second.
+#[tactic(auto, unfolding(fixed_flow::specs::Flow::raised))]
+fn raised(gain: u32, credit: u32) -> u32
+    ensures { result ≡ raised gain credit }
+{
+    let saved = u64::from(credit) + u64::from(gain);
+    saved.min(u64::from(gain.max(VEHICLE_COST))) as u32
+}
+
+/// Where a link has nothing to do in a second but to raise its credit: the credit after it.
+pub fn idle_credit(town: &Town, link: u32, world: &World) -> Option<u32>
+    requires { link < length town.now.network.links }
+    ensures idle { IfSome result (λ credit. (chosen : List Plan) (iteration t : ℕ)
+        → link_plan (setup_in town.now chosen iteration) t link world.now ≡ Credit link credit ∷ []) }
+    ensures busy { IfNone result (list_any (stays_on link) world.now.rows ≡ true) }
+{
+    if is_used(link, &world.rows) {
+        return None;
+    }
+    let gain = gain_of(town, link);
+    let before = credit_of(link, world);
+    Some(raised(gain, before))
+}
+
+/// The moves of a link that has more to do.
+fn busy_turn(
+    alloc: Global,
+    town: &Town,
+    chosen: &[Plan],
+    t: u32,
+    link: u32,
+    world: &World,
+) -> Result<Vec<Move>, AllocError>
+    requires there { link < length town.now.network.links }
+    requires second_in { t < 172800 }
+    requires persons { length world.now.persons ≡ length chosen.now }
+    requires fit { AreFit (length town.now.network.links) world.now.rows }
+    ensures { IfOk result (λ moves. (iteration : ℕ)
+        → moves.items ≡ link_plan (setup_in town.now chosen.now iteration) t link world.now) }
+{
+    let rules = rules(town, link);
+    let waiters = waiters(alloc, town, chosen, link, world)?;
+    let lane = lane_rows(alloc, link, world)?;
+    let credit = credit_of(link, world);
+    let moves = link_moves(alloc, &rules, t, link, &waiters, &lane, credit)?;
+    Ok(moves)
+}
+
+/// The moves of a link in second `t`.
+pub fn link_turn(
+    alloc: Global,
+    town: &Town,
+    chosen: &[Plan],
+    t: u32,
+    link: u32,
+    world: &World,
+) -> Result<Vec<Move>, AllocError>
+    requires there { link < length town.now.network.links }
+    requires second_in { t < 172800 }
+    requires persons { length world.now.persons ≡ length chosen.now }
+    requires fit { AreFit (length town.now.network.links) world.now.rows }
+    ensures { IfOk result (λ moves. (iteration : ℕ)
+        → moves.items ≡ link_plan (setup_in town.now chosen.now iteration) t link world.now) }
+{
+    match idle_credit(town, link, world) {
+        None => busy_turn(alloc, town, chosen, t, link, world),
+        Some(credit) => {
+            let mut moves = Vec::new(alloc);
+            moves.push(Move::Credit { l: link, credit })?;
+            Ok(moves)
+        }
+    }
+}
+
+/// Whether a row stands in the buffer of a link into the node.
+fn is_before(town: &Town, node: u32, row: &Row) -> bool
+    ensures { result ≡ is_before (streets town.now) (length town.now.network.links) node row.now }
+{
+    rank(row.stage) == 1
+        && (row.link as usize) < town.network.links.len()
+        && is_in(town, node, row.link)
+}
+
+/// Whether some row does.
+fn is_awaited(town: &Town, node: u32, rows: &[Row]) -> bool
+    ensures { result ≡ list_any (is_before (streets town.now) (length town.now.network.links) node) rows.now }
+{
+    rows.iter().any(|row| is_before(town, node, row))
+}
+
+/// The moves of a node to which rows come.
+fn awaited_turn(
+    alloc: Global,
+    town: &Town,
+    iteration: u32,
+    t: u32,
+    node: u32,
+    world: &World,
+) -> Result<Vec<Move>, AllocError>
+    requires second_in { t < 172800 }
+    requires fit { AreFit (length town.now.network.links) world.now.rows }
+    ensures { IfOk result (λ moves. (chosen : List Plan)
+        → moves.items ≡ node_plan (setup_in town.now chosen iteration) t node world.now) }
+{
+    let entries = entries(alloc, town, t, node, world)?;
+    let exits = exits(alloc, town, t, node, world)?;
+    let draws = Draws::of_node(town.seed, iteration, node);
+    let moves = node_moves(alloc, &town.stuck, t, &draws, entries, exits)?;
+    Ok(moves)
+}
+
+/// The moves of a node in second `t`. Where no row stands in the buffer of a link into it, nothing is allocated.
+pub fn node_turn(
+    alloc: Global,
+    town: &Town,
+    iteration: u32,
+    t: u32,
+    node: u32,
+    world: &World,
+) -> Result<Vec<Move>, AllocError>
+    requires second_in { t < 172800 }
+    requires fit { AreFit (length town.now.network.links) world.now.rows }
+    ensures { IfOk result (λ moves. (chosen : List Plan)
+        → moves.items ≡ node_plan (setup_in town.now chosen iteration) t node world.now) }
+{
+    if !is_awaited(town, node, &world.rows) {
+        return Ok(Vec::new(alloc));
+    }
+    let moves = awaited_turn(alloc, town, iteration, t, node, world)?;
+    Ok(moves)
+}

@@ -1,0 +1,3 @@
+pub mod Removals
+pub mod Itineraries
+pub mod Running

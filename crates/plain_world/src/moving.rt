@@ -1,0 +1,116 @@
+//! What moves do to a world, in place.
+
+ghost use Rattle.std.specs.Prelude.{◌≡◌, ◌++◌, ◌<◌, ◌^◌, length, slice_set, OnOk};
+ghost use Rattle.std.specs.List.{flat_map};
+ghost use Rattle.town.specs.Views.{setup_in};
+ghost use Rattle.traffic.specs.declared.moves.Move.TheVariants.{Credit};
+ghost use Rattle.traffic.specs.Moves.{told, credits_after, holes_after, done, run};
+
+use crate::rows::move_rows;
+use crate::steps::step_persons;
+use crate::world::World;
+use plain_turns::push_told;
+use plans::Plan;
+use std::alloc::{AllocError, Global};
+use town::Town;
+use traffic::{Hole, Move, Said};
+
+/// Gives a link this credit.
+fn set_credit(link: u32, credit: u32, credits: &mut [u32])
+    ensures { credits.new ≡ slice_set credits.old link credit }
+{
+    let link = link as usize;
+    if link < credits.len() {
+        credits[link] = credit;
+    }
+}
+
+/// Does a move to the credits.
+fn move_credits(step: &Move, credits: &mut [u32])
+    ensures { credits.new ≡ credits_after step.now credits.old }
+{
+    if let Move::Credit { l, credit } = step {
+        set_credit(*l, *credit, credits);
+    }
+}
+
+/// Does the one move of a link that has nothing to do, which tells nothing and needs no memory.
+pub fn do_credit(link: u32, credit: u32, world: &mut World)
+    ensures { world.new ≡ record world.old { credits = credits_after (Credit link credit) world.old.credits } }
+{
+    set_credit(link, credit, &mut world.credits);
+}
+
+/// Does a move to the holes.
+fn move_holes(step: &Move, holes: &mut Vec<Hole>) -> Result<(), AllocError>
+    ensures { OnOk result (holes.new.items ≡ holes_after step.now holes.old.items) }
+{
+    if let Move::Free { l, t } = step {
+        holes.push(Hole {
+            link: *l,
+            second: *t,
+        })?;
+    }
+    Ok(())
+}
+
+/// Does a move of this second, and appends what it tells. After an error the world is of no use.
+///
+/// # Errors
+///
+/// `AllocError`: there is no memory for a row, a hole or an event.
+pub fn do_move(
+    alloc: Global,
+    town: &Town,
+    chosen: &[Plan],
+    iteration: u32,
+    second: u32,
+    step: Move,
+    world: &mut World,
+    said: &mut Vec<Said>,
+) -> Result<(), AllocError>
+    requires { second < 2 ^ 31 }
+    ensures world { OnOk result (world.new ≡ done (setup_in town.now chosen.now iteration) second step world.old) }
+    ensures told { OnOk result (said.new.items ≡ said.old.items ++ told step) }
+{
+    let before = said.len();
+    push_told(alloc, &step, said)?;
+    step_persons(
+        town,
+        chosen,
+        iteration,
+        second,
+        &said[before..],
+        &mut world.persons,
+    )?;
+    move_credits(&step, &mut world.credits);
+    move_holes(&step, &mut world.holes)?;
+    move_rows(step, &mut world.rows)?;
+    Ok(())
+}
+
+/// Does the moves of a turn, one after the other, and appends what they tell. After an error the
+/// world is of no use.
+///
+/// # Errors
+///
+/// `AllocError`: there is no memory for a row, a hole or an event.
+pub fn do_moves(
+    alloc: Global,
+    town: &Town,
+    chosen: &[Plan],
+    iteration: u32,
+    second: u32,
+    moves: Vec<Move>,
+    world: &mut World,
+    said: &mut Vec<Said>,
+) -> Result<(), AllocError>
+    requires { second < 2 ^ 31 }
+    ensures world { OnOk result (world.new ≡ run (setup_in town.now chosen.now iteration) second moves.items world.old) }
+    ensures told { OnOk result (said.new.items ≡ said.old.items ++ flat_map told moves.items) }
+{
+    for step in moves {
+        do_move(alloc, town, chosen, iteration, second, step, world, said)?;
+    }
+    Ok(())
+}

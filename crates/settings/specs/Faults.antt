@@ -6,7 +6,7 @@ use Rattle.serde_json.specs.Read.{read}
 use Rattle.serde_json.specs.Find.{as_object}
 use Rattle.edge_files.specs.declared.reasons.Reason.{Reason}
 use Rattle.edge_files.specs.declared.reasons.Reason.TheVariants as reason
-use Rattle.records.specs.Faults.{or_else, least}
+use Rattle.records.specs.Faults.{least}
 use Rattle.records.specs.Files.{is_too_long}
 use Rattle.settings.specs.Keys.{has_unknown_key, has_bad_value}
 use Rattle.settings.specs.Values.{Values, values_in}
@@ -25,17 +25,17 @@ members_of value = unwrap_or (option_and_then as_object value) no_members
 abbrev pub is_no_object : Option Data → Bool
 is_no_object value = is_none (option_and_then as_object value)
 
--- the first fault of a value: it is no object, a key that there is not, a value that its key may not have
-unfoldable pub value_fault : Option Data → Option Reason
-value_fault value = least (
+-- what may be wrong with a value: it is no object, has a key that there is not, gives a key a value that it may not have
+abbrev pub value_tests : Option Data → List (Bool × Reason)
+value_tests value =
     (is_no_object value, reason.NotJson)
     ∷ (has_unknown_key (members_of value), reason.KeyUnknown)
     ∷ (has_bad_value (members_of value), reason.ValueBad)
-    ∷ [])
+    ∷ []
 
--- the first fault of settings.json: more than 2^28 bytes, or that of its value
+-- the first reason against settings.json: more than 2^28 bytes, and then what is wrong with its value; each is one of row 0
 unfoldable pub settings_fault : List ℕ → Option Reason
-settings_fault bytes = or_else (least ((is_too_long bytes, reason.TooLong) ∷ [])) (value_fault (value_of bytes))
+settings_fault bytes = least ((is_too_long bytes, reason.TooLong) ∷ value_tests (value_of bytes))
 
 -- the values of settings without a fault
 abbrev pub settings_of : List ℕ → Values

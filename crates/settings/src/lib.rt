@@ -3,6 +3,8 @@
 
 mod keys;
 mod read;
+#[cfg(test)]
+mod tests;
 mod values;
 
 pub use read::read_settings;

@@ -1,9 +1,9 @@
 ghost use Rattle.std.specs.Prelude.{◌≡◌, Some, IfOk, IfErr, true, false, option_map};
 ghost use Rattle.serde_json.specs.View.{view, members_view};
-ghost use Rattle.records.specs.Faults.{Answers, fault_at};
+ghost use Rattle.records.specs.Faults.{least, Answers, fault_at};
 ghost use Rattle.settings.specs.Keys.{has_bad_value};
 ghost use Rattle.settings.specs.Values.{values_in};
-ghost use Rattle.settings.specs.Faults.{value_of, members_of, value_fault, settings_fault, settings_of, values_of};
+ghost use Rattle.settings.specs.Faults.{value_of, members_of, value_tests, settings_fault, settings_of, values_of};
 
 use crate::keys::{given, given_small, has_unknown_key};
 use crate::values::Settings;
@@ -66,9 +66,9 @@ fn values_in(settings: &Map<String, Value>) -> Result<Settings, Reason>
 }
 
 /// What an object of settings says, or the first fault of the value.
-#[tactic(auto, unfolding(crate::specs::Faults::value_fault))]
 fn settings_in(value: &Value) -> Result<Settings, RowStop>
-    ensures { Answers values_of result (fault_at 0 (value_fault (Some (view value.now)))) (values_in (members_of (Some (view value.now)))) }
+    ensures { Answers values_of result (fault_at 0 (least (value_tests (Some (view value.now)))))
+        (values_in (members_of (Some (view value.now)))) }
 {
     let Some(settings) = value.as_object() else {
         return Err(fault(0, Reason::NotJson));
@@ -85,7 +85,7 @@ fn settings_in(value: &Value) -> Result<Settings, RowStop>
 /// Reads settings.json: one object, of whose keys each may be left out. No bytes give all defaults.
 ///
 /// The first fault is told where there is one, by the reason's number; it is that of row 0.
-#[tactic(auto, unfolding(crate::specs::Faults::settings_fault, crate::specs::Faults::value_fault))]
+#[tactic(auto, unfolding(crate::specs::Faults::settings_fault))]
 pub fn read_settings(alloc: Global, bytes: &[u8]) -> Result<Settings, RowStop>
     ensures { Answers values_of result (fault_at 0 (settings_fault bytes.now)) (settings_of bytes.now) }
 {

@@ -12,7 +12,7 @@ use Rattle.settings.specs.Keys.{has_unknown_key, has_bad_value}
 use Rattle.settings.specs.Values.{Values, values_in}
 use Rattle.settings.specs.declared.values.Settings.{Settings}
 
--- the value that `serde_json` reads from the bytes, of a key that is given twice with the last one; no bytes are an object without keys, and bytes that are no UTF-8 are no value
+-- the value that `serde_json` reads from the bytes, where the last value of a key counts; no bytes are an object without keys, and bytes that are no UTF-8 are no value
 unfoldable pub value_of : List ℕ → Option Data
 value_of bytes =
     if nat_eq (length bytes) 0 then Some (object no_members) else (if is_utf8 bytes then read bytes else None)
@@ -38,7 +38,7 @@ unfoldable pub settings_fault : List ℕ → Option Reason
 settings_fault bytes = least ((is_too_long bytes, reason.TooLong) ∷ value_tests (value_of bytes))
 
 -- the values of settings without a fault
-abbrev pub settings_of : List ℕ → Values
+unfoldable pub settings_of : List ℕ → Values
 settings_of bytes = values_in (members_of (value_of bytes))
 
 -- the values of settings that were read

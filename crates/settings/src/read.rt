@@ -85,7 +85,7 @@ fn settings_in(value: &Value) -> Result<Settings, RowStop>
 /// Reads settings.json: one object, of whose keys each may be left out. No bytes give all defaults.
 ///
 /// The first fault is told where there is one, by the reason's number; it is that of row 0.
-#[tactic(auto, unfolding(crate::specs::Faults::settings_fault))]
+#[tactic(auto, unfolding(crate::specs::Faults::settings_fault, crate::specs::Faults::settings_of))]
 pub fn read_settings(alloc: Global, bytes: &[u8]) -> Result<Settings, RowStop>
     ensures { Answers values_of result (fault_at 0 (settings_fault bytes.now)) (settings_of bytes.now) }
 {

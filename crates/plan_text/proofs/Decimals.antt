@@ -1,0 +1,51 @@
+-- A decimal number, read back.
+use Rattle.std.proofs.Common.{◌≡◌, ℕ, ◌+◌, ◌*◌, ◌-◌, ◌/◌, ◌%◌, ◌<◌, ◌≤◌, ◌^◌, Bool, true, ◌&&◌, cond, List, [], ◌∷◌, ◌++◌, length, None, Some, ◌∙◌, ap, arith}
+use Rattle.std.specs.Prelude.{nat_le, decimal}
+use Rattle.std.specs.List.{list_all}
+use Rattle.std.proofs.lemmas.Bool.Decides.{nat_tests}
+use Rattle.std.proofs.lemmas.Fmt.{decimal_by_steps, decimal_nonempty, length-decimal-le}
+use Rattle.std.proofs.lemmas.List.Folds.{list_all-append}
+use Rattle.std.proofs.lemmas.List.Sums.{fold-append}
+use Rattle.records.specs.Numbers.{is_digit, more_digits, value_of, are_digits, number_in}
+
+-- digits that write a number
+abbrev Writes : ℕ → List ℕ → Type 0
+Writes n ds = (list_all is_digit ds ≡ true) × (value_of ds ≡ n)
+
+digit_is : (n : ℕ) → n < 10 → (nat_le 48 (48 + n) && nat_le (48 + n) 57) ≡ true
+digit_is n less = grind (arith, nat_tests)
+
+one_all : (a : Bool) → a ≡ true → (a && true) ≡ true
+one_all a h = grind arith
+
+two_all : (a b : Bool) → a ≡ true → b ≡ true → (a && b) ≡ true
+two_all a b p q = grind arith
+
+writes_one : (n : ℕ) → n < 10 → Writes n ((48 + n) ∷ [])
+writes_one n less = (one_all (is_digit (48 + n)) (digit_is n less), omega arith)
+
+writes_more : (n : ℕ) (ds : List ℕ) → 10 ≤ n → Writes (n / 10) ds → Writes n (ds ++ ((48 + n % 10) ∷ []))
+writes_more n ds long before =
+    let low : n % 10 < 10 = omega arith in (
+      list_all-append is_digit ds ((48 + n % 10) ∷ []) ∙ two_all _ _ before.0 (one_all (is_digit (48 + n % 10)) (digit_is (n % 10) low)),
+      fold-append more_digits 0 ds ((48 + n % 10) ∷ []) ∙ ap (λ (v : ℕ). 10 * v + ((48 + n % 10) - 48)) before.1 ∙ last n,
+    )
+  where
+    last : (n : ℕ) → 10 * (n / 10) + ((48 + n % 10) - 48) ≡ n
+    last n = omega arith
+
+pub decimal_writes : (n : ℕ) → n < 2 ^ 64 → Writes n (decimal n)
+decimal_writes n less = decimal_by_steps Writes writes_one writes_more n less
+
+number_step : (l low high v n : ℕ) (digits : Bool) → 1 ≤ l → l ≤ 20 → digits ≡ true → v ≡ n → low ≤ n → n ≤ high
+    → cond ((nat_le 1 l && nat_le l 20 && digits) && nat_le low v && nat_le v high) (Some v) None ≡ Some n
+number_step l low high v n digits some few are is above below = grind (arith, nat_tests)
+
+-- a number of a range is read from what `decimal` writes of it
+pub number_back : (low high n : ℕ) → low ≤ n → n ≤ high → n < 2 ^ 32 → number_in low high (decimal n) ≡ Some n
+unfolding number_in are_digits
+number_back low high n above below small =
+    let less : n < 2 ^ 64 = omega arith in
+    let writes = decimal_writes n less in
+    number_step (length (decimal n)) low high (value_of (decimal n)) n (list_all is_digit (decimal n)) (omega (arith, decimal_nonempty n less))
+    (length-decimal-le 20 n (omega arith) (omega arith) less) writes.0 writes.1 above below

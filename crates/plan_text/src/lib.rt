@@ -1,0 +1,12 @@
+//! The text of a day plan, with the layout of plans.csv: written, and read back exactly.
+#![tactic(auto)]
+
+mod elements;
+mod reading;
+mod rows;
+#[cfg(test)]
+mod tests;
+mod writing;
+
+pub use reading::read_body;
+pub use writing::write_plan;

@@ -2,7 +2,7 @@ ghost use Rattle.std.specs.Prelude.{◌≡◌, ◌<◌, ◌+◌, ◌++◌, lengt
 ghost use Rattle.std.specs.List.{list_all};
 ghost use Rattle.events.specs.Words.{mode_text};
 ghost use Rattle.plans.specs.Parts.{parts_of};
-ghost use Rattle.plan_text.specs.Lines.{end_text, seconds_text, route_text, leg_mode, row_line, act_row, leg_row, element_lines, plan_lines, is_act_in, is_leg_in, are_in_book};
+ghost use Rattle.plan_text.specs.Lines.{end_text, seconds_text, route_text, leg_mode, row_line, act_row, leg_row, element_lines, plan_lines, is_act_in, is_leg_in, are_in_book, are_plan, is_plan_in};
 
 use crate::rows::{names_of, push_joined, push_row};
 use events::{Book, Mode};
@@ -186,6 +186,14 @@ pub fn push_elements(
     Ok(())
 }
 
+/// Activities and legs of a plan are such as a plan may have.
+#[tactic(auto, using(std::proofs::lemmas::Bool::Decides::nat_tests), unfolding(crate::specs::Lines::are_plan))]
+fn know_plan(plan: &Plan)
+    ensures { are_plan plan.now.acts plan.now.legs ≡ true }
+{
+    let _ = plan.legs.rows.len();
+}
+
 /// Appends the rows of a plan, each a line, as the plan of this number of a person; or appends
 /// nothing where there is no memory.
 pub fn write_plan(
@@ -199,7 +207,9 @@ pub fn write_plan(
     requires named { are_in_book book.now plan.now.acts plan.now.legs ≡ true }
     ensures ok { OnOk result (out.new.items ≡ out.old.items ++ plan_lines person index (parts_of plan.now) book.now) }
     ensures err { OnErr result (out.new.items ≡ out.old.items) }
+    ensures readable { is_plan_in book.now (parts_of plan.now) ≡ true }
 {
+    know_plan(plan);
     let mut text = Vec::new(*out.allocator());
     push_elements(
         book,

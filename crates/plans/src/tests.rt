@@ -76,6 +76,28 @@ fn damaged_heads(rt: HostRuntime) -> Result<(), Fail> {
     Ok(())
 }
 
+/// 2^28 line feeds are no header; with one byte more the file is too long, with and without a header.
+#[test]
+fn bytes_of_a_file(rt: HostRuntime) -> Result<(), Fail> {
+    let mut text = vec![in rt.alloc(); b'\n'; 1 << 28]?;
+    assert_eq!(rt;
+        fault_of(&rt, rt.alloc(), &text)?,
+        Some((0, Reason::Header))
+    );
+    text.push(b'\n')?;
+    assert_eq!(rt;
+        fault_of(&rt, rt.alloc(), &text)?,
+        Some((0, Reason::TooLong))
+    );
+    let mut headed = Vec::from_slice(rt.alloc(), HEADER.as_bytes())?;
+    headed.extend_from_slice(&text)?;
+    assert_eq!(rt;
+        fault_of(&rt, rt.alloc(), &headed)?,
+        Some((0, Reason::TooLong))
+    );
+    Ok(())
+}
+
 #[test]
 fn damaged_fields(rt: HostRuntime) -> Result<(), Fail> {
     let cases = [
@@ -196,6 +218,11 @@ fn damaged_orders(rt: HostRuntime) -> Result<(), Fail> {
             "p1,0,act,home,L1,,\np2,0,act,home,L1,,\np1,1,act,home,L1,,\n",
             3,
             Reason::Twice,
+        ),
+        (
+            "p1,0,act,home,L1,,\np1,1,act,home,L1,,\np1,2,act,home,L1,,\np1,3,act,home,L1,,\np1,4,act,home,L1,,\np1,5,act,home,L1,,\n",
+            6,
+            Reason::BadNumber,
         ),
         ("p1,0,act,home,L9,,\n", 1, Reason::Unknown),
         (
@@ -348,6 +375,21 @@ fn damaged_orders(rt: HostRuntime) -> Result<(), Fail> {
             Some((row, reason)),
             "{rows}"
         );
+    }
+    Ok(())
+}
+
+/// Five plans, times and seconds at their limits, a time of the last activity, an empty route.
+#[test]
+fn sound_files(rt: HostRuntime) -> Result<(), Fail> {
+    let cases = [
+        "p1,0,act,home,L1,,\np1,1,act,home,L1,,\np1,2,act,home,L1,,\np1,3,act,home,L1,,\np1,4,act,home,L1,,\n",
+        "p1,0,act,home,L1,172800,\np1,0,leg,walk,,172800,\np1,0,act,work,L2,172800,\n",
+        "p1,0,act,home,L1,0,\np1,0,leg,car,,,\np1,0,act,work,L3,,\n",
+        "p1,0,act,home,L1,00000000000000000007,\np1,0,leg,pt,,,b s s\np1,0,act,work,L3,,\n",
+    ];
+    for rows in cases {
+        assert_eq!(rt; fault_behind(&rt, rt.alloc(), rows)?, None, "{rows}");
     }
     Ok(())
 }

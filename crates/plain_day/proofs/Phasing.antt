@@ -100,7 +100,7 @@ one_list o o1 o2 o3 o4 o5 a b c d e e1 e2 e3 e4 e5 =
     let f2 = e3 ∙ ap (λ (l : List Event). l ++ c) f1 ∙ append_assoc o (a ++ b) c ∙ ap (λ (l : List Event). o ++ l) (append_assoc a b c) in
     let f3 = e4 ∙ ap (λ (l : List Event). l ++ d) f2 ∙ append_assoc o (a ++ (b ++ c)) d ∙ ap (λ (l : List Event). o ++ l) (append_assoc a (b ++ c) d ∙ ap (λ (l : List Event). a ++ l) (append_assoc b c d)) in
     let f4 = e5 ∙ ap (λ (l : List Event). l ++ e) f3 ∙ append_assoc o (a ++ (b ++ (c ++ d))) e
-        ∙ ap (λ (l : List Event). o ++ l) (append_assoc a (b ++ (c ++ d)) e ∙ ap (λ (l : List Event). a ++ l) (append_assoc b (c ++ d) e ∙ ap (λ (l : List Event). b ++ l) (append_assoc c d e))) in
+    ∙ ap (λ (l : List Event). o ++ l) (append_assoc a (b ++ (c ++ d)) e ∙ ap (λ (l : List Event). a ++ l) (append_assoc b (c ++ d) e ∙ ap (λ (l : List Event). b ++ l) (append_assoc c d e))) in
     f4 ∙ ap (λ (l : List Event). o ++ (a ++ (b ++ (c ++ (d ++ l))))) (sym (append-nil e))
 
 same_lists : (o a b c d e b' c' d' e' : List Event) → b ≡ b' → c ≡ c' → d ≡ d' → e ≡ e' → o ++ (a ++ (b ++ (c ++ (d ++ (e ++ []))))) ≡ o ++ (a ++ (b' ++ (c' ++ (d' ++ (e' ++ [])))))
@@ -123,7 +123,7 @@ second_told S t W a b1 b2 c o o1 o2 o3 o4 o5 ea eb1 eb2 ec e1 e2 e3 e4 e5 =
     let pd = ec ∙ ap (f phase.C) pc in
     one_list o o1 o2 o3 o4 o5 (T phase.A W) (T phase.B1 a) (T phase.B2 b1) (T phase.C b2) (T phase.D c) e1 e2 e3 e4 e5
     ∙ same_lists o (T phase.A W) (T phase.B1 a) (T phase.B2 b1) (T phase.C b2) (T phase.D c) _ _ _ _
-        (ap (T phase.B1) ea) (ap (T phase.B2) pb) (ap (T phase.C) pc) (ap (T phase.D) pd)
+    (ap (T phase.B1) ea) (ap (T phase.B2) pb) (ap (T phase.C) pc) (ap (T phase.D) pd)
 
 -- one second more
 pub world_more : (S : Setup) (W : World) (t : ℕ) (now next : World) → now ≡ world_from S W t → next ≡ second S t now → next ≡ world_from S W (t + 1)

@@ -91,7 +91,12 @@ fn first_credits(alloc: Global, count: usize) -> Result<Vec<u32>, AllocError>
 /// The world at the start of a day: each person at the first activity, no vehicle and no hole, and
 /// credit for one vehicle on each link.
 #[tactic(auto, unfolding(traffic::specs::Day::world_start, town::specs::Setups::setup_of))]
-pub fn start(alloc: Global, town: &Town, chosen: &[Plan], _iteration: u32) -> Result<World, AllocError>
+pub fn start(
+    alloc: Global,
+    town: &Town,
+    chosen: &[Plan],
+    _iteration: u32,
+) -> Result<World, AllocError>
     ensures { IfOk result (λ world. world ≡ world_start (setup_in town.now chosen.now _iteration)) }
 {
     let persons = all_at_home(alloc, chosen)?;
@@ -105,7 +110,12 @@ pub fn start(alloc: Global, town: &Town, chosen: &[Plan], _iteration: u32) -> Re
 }
 
 /// The world at the start, which is fit.
-fn fit_start(alloc: Global, town: &Town, chosen: &[Plan], iteration: u32) -> Result<World, AllocError>
+fn fit_start(
+    alloc: Global,
+    town: &Town,
+    chosen: &[Plan],
+    iteration: u32,
+) -> Result<World, AllocError>
     requires { AreGiven town.now chosen.now }
     ensures world { IfOk result (λ world. world ≡ world_start (setup_in town.now chosen.now iteration)) }
     ensures fit { IfOk result (λ world. IsFitWorld (counts_in town.now chosen.now) world) }

@@ -9,9 +9,9 @@ ghost use Rattle.plain_day.specs.Fit.{streets};
 
 use crate::legs::{here, mode_of_trip, way};
 use crate::waiters::{link_of_stop, person_at};
-use plain_world::World;
 use events::{Mode, More, VehicleId, Word};
 use plain_turns::of_person;
+use plain_world::World;
 use plans::{Act, Plan};
 use town::Town;
 use traffic::{Place, Row, Said};

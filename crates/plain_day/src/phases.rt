@@ -64,7 +64,14 @@ fn turn(
 {
     match phase {
         Phase::A => landing_moves(alloc, chosen, second, number, person_of(world, number)),
-        Phase::B1 => leaving_moves(alloc, town, chosen, second, number, person_of(world, number)),
+        Phase::B1 => leaving_moves(
+            alloc,
+            town,
+            chosen,
+            second,
+            number,
+            person_of(world, number),
+        ),
         Phase::B2 => departure_moves(alloc, town, second, number),
         Phase::C => node_turn(alloc, town, iteration, second, number, world),
         Phase::D => link_turn(alloc, town, chosen, second, number, world),
@@ -90,7 +97,9 @@ fn do_turn(
     ensures events { OnOk result (out.new.items ≡ out.old.items ++ events_of second phase (record { number = number; moves = moves.items })) }
 {
     let mut said = Vec::new(alloc);
-    do_moves(alloc, town, chosen, iteration, second, moves, world, &mut said)?;
+    do_moves(
+        alloc, town, chosen, iteration, second, moves, world, &mut said,
+    )?;
     push_keyed(second, phase, number, &said, out)?;
     Ok(())
 }
@@ -117,7 +126,9 @@ fn next_turn(
     ensures fit { OnOk result (IsFitWorld (counts_in town.now chosen.now) world.new) }
 {
     let moves = turn(alloc, town, chosen, iteration, second, phase, number, world)?;
-    do_turn(alloc, town, chosen, iteration, second, phase, number, moves, world, out)?;
+    do_turn(
+        alloc, town, chosen, iteration, second, phase, number, moves, world, out,
+    )?;
     Ok(())
 }
 
@@ -141,7 +152,9 @@ pub(crate) fn do_phase(
 {
     let count = count_of(town, chosen, iteration, phase);
     for number in 0..count {
-        next_turn(alloc, town, chosen, iteration, second, phase, number, world, out)?;
+        next_turn(
+            alloc, town, chosen, iteration, second, phase, number, world, out,
+        )?;
     }
     Ok(())
 }

@@ -15,8 +15,8 @@ ghost use Rattle.plain_day.specs.Fit.{streets, stays_on, AreFit};
 ghost use Rattle.plain_day.specs.Sights.{exit_row, is_in, is_out, is_in_force};
 
 use crate::links::{hole_of, link_row, seconds_of, storage_of};
-use plain_world::World;
 use plain_turns::{ExitRow, LaneRows};
+use plain_world::World;
 use std::alloc::{AllocError, Global};
 use town::{Town, green_in};
 use traffic::{Entry, Exit, Hole, Row, RowList, Stage};

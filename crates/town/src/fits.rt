@@ -33,7 +33,9 @@ fn is_drive(town: &Town, route: &[u32]) -> bool
 fn is_ride(town: &Town, line: u32, access: u32, egress: u32) -> bool
     ensures { result ≡ is_ride (rows_of town.now) line access egress }
 {
-    line < town.book.lines.len() && (access as usize) < town.stops.rows.len() && (egress as usize) < town.stops.rows.len()
+    line < town.book.lines.len()
+        && (access as usize) < town.stops.rows.len()
+        && (egress as usize) < town.stops.rows.len()
 }
 
 /// Whether a leg fits between activities on these two links.
@@ -43,12 +45,26 @@ fn leg_fits(town: &Town, here: u32, there: u32, leg: &Leg) -> bool
 {
     match leg {
         Leg::Car { route } => {
-            !route.is_empty() && is_drive(town, &route.rows) && !wrong_ends(here, there, &route.rows)
+            !route.is_empty()
+                && is_drive(town, &route.rows)
+                && !wrong_ends(here, there, &route.rows)
         }
         Leg::Teleport { .. } => true,
-        Leg::Transit { line, access, egress } => {
+        Leg::Transit {
+            line,
+            access,
+            egress,
+        } => {
             is_ride(town, *line, *access, *egress)
-                && !wrong_stops(&town.stops.rows.rows, &town.routes.rows.rows, here, there, *line, *access, *egress)
+                && !wrong_stops(
+                    &town.stops.rows.rows,
+                    &town.routes.rows.rows,
+                    here,
+                    there,
+                    *line,
+                    *access,
+                    *egress,
+                )
         }
     }
 }

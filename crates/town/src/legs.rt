@@ -44,7 +44,9 @@ fn is_joining(line: u32, access: u32, egress: u32, route: &RouteRow) -> bool
 fn is_any_joining(line: u32, access: u32, egress: u32, routes: &[RouteRow]) -> bool
     ensures { result ≡ list_any (is_joining line access egress) routes.now }
 {
-    routes.iter().any(|route| is_joining(line, access, egress, route))
+    routes
+        .iter()
+        .any(|route| is_joining(line, access, egress, route))
 }
 
 /// Whether the stop of access of a transit leg is not on the link of the activity before it, or that of egress not on the link of

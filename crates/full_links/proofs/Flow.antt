@@ -1,0 +1,262 @@
+-- What passes a link is paid from its credit.
+use Rattle.std.proofs.Common.{◌≡◌, ◌≢◌, ℕ, zero, suc, ◌+◌, ◌-◌, ◌*◌, ◌≤◌, ◌<◌, Bool, true, List, [], ◌∷◌, ◌++◌, length, get_or, refl, ap, sym, ◌∙◌, subst, eqb, arith, inl, inr, lit<, add-suc, add-zero, suc-mul}
+use Rattle.std.specs.Prelude.{nat_le, nat_lt, if◌then◌else◌, Option}
+use Rattle.std.specs.List.{AllByRecursion as Each, flat_map}
+use Rattle.std.proofs.lemmas.Bool.{cases_Bool, and_parts, and_right, eqb-true, eqb-false, eq-eqb, ne_eqb, leb-true}
+use Rattle.std.proofs.lemmas.List.{length-set, length-replicate, get_or-replicate}
+use Rattle.std.proofs.lemmas.List.Sums.{sum_by-cons}
+use Rattle.std.proofs.lemmas.Nat.{le-div}
+use Rattle.events.specs.declared.event.Phase.TheVariants as phase
+use Rattle.fixed_flow.specs.declared.TheConstants.{VEHICLE_COST}
+use Rattle.fixed_flow.specs.Flow.{full_credit, raised}
+use Rattle.fixed_flow.proofs.Gains.{raised_within}
+use Rattle.traffic.specs.declared.rows.Stage.TheVariants.{Buffer, Bay}
+use Rattle.traffic.specs.Lists.{numbers, below}
+use Rattle.traffic.specs.declared.world.Row.{Row}
+use Rattle.traffic.specs.declared.numbers.Stuck.{Stuck}
+use Rattle.traffic.specs.declared.sight.Exit.{Exit}
+use Rattle.traffic.specs.Nodes.{exit}
+use Rattle.traffic.specs.Rows.{rank, World, credit_of}
+use Rattle.traffic.specs.Setup.{Setup, gain_of}
+use Rattle.traffic.specs.declared.world.Waiter.{Waiter}
+use Rattle.traffic.specs.Stops.{calls_on, left_behind}
+use Rattle.traffic.specs.declared.moves.Move.{Move}
+use Rattle.traffic.specs.declared.moves.Move.TheVariants.{Put, Credit}
+use Rattle.traffic.specs.Moves.{done, run, credits_after, credit_after, credit_after_all}
+use Rattle.traffic.specs.declared.numbers.Rules.{Rules}
+use Rattle.traffic.specs.Links.{Lane, lane, rules, leave_bay, is_last, may_pass, from_wait, from_queue, waiting, wait_after, link_moves}
+use Rattle.traffic.specs.Persons.{waiters}
+use Rattle.traffic.specs.Day.{node_plan, link_plan, phases, plan_of, moves_of, turns_in, through, second, world_start, world_from}
+use Rattle.traffic.specs.Frames.{IsAt, AreAt}
+use Rattle.traffic.specs.Worlds.{buffers_one, passing, link_turn_moves, passing_in, FlowKept}
+use Rattle.traffic.proofs.Sublists.{credit-done}
+use Rattle.traffic.proofs.Turns.{moves_of-map}
+use Rattle.traffic.proofs.Phases.{phase_at_once}
+use Rattle.traffic.proofs.Links.{link_moves-at}
+use Rattle.full_links.specs.Moves.{moves_in, second_moves}
+use Rattle.full_links.proofs.Turns.{Along, along_each, Turns, along_phases, through_moves}
+use Rattle.full_links.proofs.Entering.{Enters, entering_each, node_enters}
+use Rattle.full_links.proofs.Elsewhere.{IsFree, IsStart, flight_start, leave_start, departure_start}
+
+-- CREDITS
+credit_length : (m : Move) (cs : List ℕ) → length (credits_after m cs) ≡ length cs
+credit_length (Credit l c) cs = length-set cs l c
+credit_length _ cs = refl
+
+credits_length : (S : Setup) (t : ℕ) (ms : List Move) (W : World) → length (run S t ms W).credits ≡ length W.credits
+credits_length S t [] W = refl
+credits_length S t (m ∷ ms) W = credits_length S t ms (done S t m W) ∙ credit_length m W.credits
+
+credit_run : (S : Setup) (t l : ℕ) (ms : List Move) (W : World) → l < length W.credits → credit_of l (run S t ms W) ≡ credit_after_all l ms (credit_of l W)
+credit_run S t l [] W lt = refl
+credit_run S t l (m ∷ ms) W lt =
+    let e = credit_length m W.credits in
+    let within : l < length (done S t m W).credits = omega arith in
+    credit_run S t l ms (done S t m W) within ∙ ap (credit_after_all l ms) (credit-done S t l m W lt)
+
+-- moves that change no credit
+abbrev Frees : World → Move → Type 0
+Frees U m = IsFree m
+
+free_run : (S : Setup) (t : ℕ) (ms : List Move) (W : World) → Along Frees S t ms W → (run S t ms W).credits ≡ W.credits
+free_run S t [] W h = refl
+free_run S t (m ∷ ms) W h = free_run S t ms (done S t m W) h.1 ∙ h.0 W.credits
+
+enters_free : (K : Stuck) (t : ℕ) (exits : ℕ → Option Exit) (m : Move) → Enters K t exits m → IsFree m
+enters_free K t exits (Credit l c) h cs = absurd h
+enters_free K t exits _ h cs = refl
+
+-- THE TURN OF A LINK PAYS
+-- from credit c on the moves leave of credit d what those who pass do not pay
+unfoldable pub Leaves : ℕ → ℕ → ℕ → List Move → Type 0
+Leaves l c d ms = credit_after_all l ms c + passing l ms * VEHICLE_COST ≡ d
+
+leaves_none : (l c : ℕ) → Leaves l c c []
+unfolding Leaves
+leaves_none l c = omega arith
+
+leaves_free : (l c d : ℕ) (m : Move) (ms : List Move) → credit_after l m c ≡ c → buffers_one l m ≡ 0 → Leaves l c d ms → Leaves l c d (m ∷ ms)
+unfolding Leaves
+leaves_free l c d m ms e f h =
+    let s = sum_by-cons (buffers_one l) m ms in
+    let g : credit_after_all l (m ∷ ms) c ≡ credit_after_all l ms c = ap (credit_after_all l ms) e in omega arith
+
+leaves_one : (l c d : ℕ) (m : Move) (ms : List Move) → credit_after l m c ≡ c → buffers_one l m ≡ 1 → VEHICLE_COST ≤ d → Leaves l c (d - VEHICLE_COST) ms → Leaves l c d (m ∷ ms)
+unfolding Leaves
+leaves_one l c d m ms e f le h =
+    let s = sum_by-cons (buffers_one l) m ms in
+    let g : credit_after_all l (m ∷ ms) c ≡ credit_after_all l ms c = ap (credit_after_all l ms) e in omega arith
+
+leaves_credit : (l c x d : ℕ) (ms : List Move) → Leaves l x d ms → Leaves l c d (Credit l x ∷ ms)
+unfolding Leaves
+leaves_credit l c x d ms h =
+    let s = sum_by-cons (buffers_one l) (Credit l x) ms in
+    let e : credit_after l (Credit l x) c ≡ x = (let f = eq-eqb l l refl in rw f refl) in
+    let g : credit_after_all l (Credit l x ∷ ms) c ≡ credit_after_all l ms x = ap (credit_after_all l ms) e in omega arith
+
+leaves_if : (l c d : ℕ) (b : Bool) (xs ys : List Move) → (b ≡ true → Leaves l c d xs) → Leaves l c d ys → Leaves l c d (if b then xs else ys)
+leaves_if l c d b xs ys h g = elim (cases_Bool b) [ inl e ↦ rw e (h e) | inr e ↦ rw e g ]
+
+one_here : (l : ℕ) → ◌≡◌ {A = ℕ} (if eqb l l then 1 else 0) 1
+one_here l = let e = eq-eqb l l refl in rw e refl
+
+can_pay : (K : Rules) (b c : ℕ) → may_pass K b c ≡ true → VEHICLE_COST ≤ c
+can_pay K b c e = leb-true VEHICLE_COST c (and_parts (nat_lt b K.room) (nat_le VEHICLE_COST c) e).1
+
+wait_pays : (K : Rules) (t l : ℕ) (ws : List Waiter) (b c : ℕ) (xs : List Row) → Leaves l c c (from_wait K t l ws b c xs)
+unfolding from_wait
+wait_pays K t l ws b c [] = leaves_none l c
+wait_pays K t l ws b c (r ∷ rs) =
+    let d = c - VEHICLE_COST in
+    leaves_if l c c (calls_on l r.vehicle) _ _ (λ e. leaves_free l c c _ _ refl refl (wait_pays K t l (left_behind r.vehicle ws) b c rs))
+    (leaves_if l c c (is_last r.vehicle) _ _ (λ e. leaves_free l c c _ _ refl refl (wait_pays K t l ws b c rs))
+    (leaves_if l c c (may_pass K b c) _ _ (λ e. leaves_one l c c _ _ refl (one_here l) (can_pay K b c e) (leaves_credit l c d d _ (wait_pays K t l ws (b + 1) d rs))) (leaves_none l c)))
+
+queue_pays : (K : Rules) (t l : ℕ) (ws : List Waiter) (b c : ℕ) (xs ys : List Row) → Leaves l c c (from_queue K t l ws b c xs ys)
+unfolding from_queue
+queue_pays K t l ws b c [] ys = wait_pays K t l ws b c ys
+queue_pays K t l ws b c (r ∷ rs) ys =
+    let d = c - VEHICLE_COST in
+    leaves_if l c c (nat_lt t r.second) _ _ (λ e. wait_pays K t l ws b c ys)
+    (leaves_if l c c (calls_on l r.vehicle) _ _ (λ e. leaves_free l c c _ _ refl refl (leaves_free l c c _ _ refl refl (queue_pays K t l (left_behind r.vehicle ws) b c rs ys)))
+    (leaves_if l c c (is_last r.vehicle) _ _ (λ e. leaves_free l c c _ _ refl refl (leaves_free l c c _ _ refl refl (queue_pays K t l ws b c rs ys)))
+    (leaves_if l c c (may_pass K b c) _ _ (λ e. leaves_one l c c _ _ refl (one_here l) (can_pay K b c e) (leaves_free l c d _ _ refl refl (leaves_credit l c d d _ (queue_pays K t l ws (b + 1) d rs ys))))
+    (wait_pays K t l ws b c ys))))
+
+bay_pays : (t l k c d : ℕ) (xs : List Row) (ms : List Move) → Leaves l c d ms → Leaves l c d (leave_bay t l k xs ++ ms)
+unfolding leave_bay
+bay_pays t l k c d [] ms h = h
+bay_pays t l k c d (r ∷ rs) ms h =
+    elim (cases_Bool (nat_le r.second t)) [ inl e ↦ rw e (leaves_free l c d (Put l Bay k r (waiting l r)) (leave_bay t l k rs ++ ms) refl refl (bay_pays t l k c d rs ms h)) | inr e ↦ rw e (bay_pays t l (k + 1) c d rs ms h) ]
+
+link_pays : (K : Rules) (t l : ℕ) (ws : List Waiter) (L : Lane) (c : ℕ) → Leaves l c (raised K.gain L.credit) (link_moves K t l ws L)
+unfolding link_moves
+link_pays K t l ws L c =
+    let x = raised K.gain L.credit in
+    bay_pays t l 0 c x L.bay _ (leaves_credit l c x x _ (queue_pays K t l ws (length L.buffer) x L.queue (wait_after t l L)))
+
+-- ALL LINKS
+credit_other : (l k : ℕ) (m : Move) (c : ℕ) → l ≢ k → IsAt k m → credit_after l m c ≡ c
+credit_other l k (Credit a x) c ne h = let e = ne_eqb a l (λ q. ne (sym q ∙ h)) in rw e refl
+credit_other l k _ c ne h = refl
+
+one_other : (l k : ℕ) (m : Move) → l ≢ k → IsAt k m → buffers_one l m ≡ 0
+one_other l k (Put a s j was now) ne h =
+    let e = ne_eqb now.link l (λ q. ne (sym q ∙ h.1)) in
+    let f = and_right (eqb (rank now.stage) (rank Buffer)) (eqb now.link l) e in rw f refl
+one_other l k _ ne h = refl
+
+-- the turn of another link pays nothing here
+leaves_other : (l k c d : ℕ) (xs ys : List Move) → l ≢ k → AreAt k xs → Leaves l c d ys → Leaves l c d (xs ++ ys)
+leaves_other l k c d [] ys ne h g = g
+leaves_other l k c d (m ∷ xs) ys ne h g = leaves_free l c d m (xs ++ ys) (credit_other l k m c ne h.0) (one_other l k m ne h.0) (leaves_other l k c d xs ys ne h.1 g)
+
+leaves_append : (l c d : ℕ) (xs ys : List Move) → Leaves l c d xs → ((e : ℕ) → Leaves l e e ys) → Leaves l c d (xs ++ ys)
+unfolding Leaves
+leaves_append l c d [] ys h g = let e = g c in omega arith
+leaves_append l c d (m ∷ xs) ys h g =
+    let s = sum_by-cons (buffers_one l) m xs in
+    let f = sum_by-cons (buffers_one l) m (xs ++ ys) in
+    let r = leaves_append l (credit_after l m c) (d - buffers_one l m * VEHICLE_COST) xs ys (omega arith) g in omega arith
+
+turn_at : (S : Setup) (t k : ℕ) (U : World) → AreAt k (link_plan S t k U)
+turn_at S t k U = link_moves-at (rules S k) t k (waiters S k U) (lane k U)
+
+past_links : (S : Setup) (t l c k n : ℕ) (U : World) → l < k → Leaves l c c (flat_map (λ x. link_plan S t x U) (numbers k n))
+past_links S t l c k zero U lt = leaves_none l c
+past_links S t l c k (suc n) U lt = leaves_other l k c c (link_plan S t k U) _ (λ q. omega arith) (turn_at S t k U) (past_links S t l c (k + 1) n U (omega arith))
+
+all_links : (S : Setup) (t l c k n : ℕ) (U : World) → k ≤ l → l < k + n → Leaves l c (raised (gain_of S l) (credit_of l U)) (flat_map (λ x. link_plan S t x U) (numbers k n))
+all_links S t l c k zero U le lt = absurd (omega arith)
+all_links S t l c k (suc n) U le lt =
+    let d = raised (gain_of S l) (credit_of l U) in
+    elim (cases_Bool (eqb k l)) [
+      | inl e ↦
+          let q = eqb-true k l e in
+          leaves_append l c d (link_plan S t k U) _
+          (subst (λ (x : ℕ). Leaves l c d (link_plan S t x U)) (sym q) (link_pays (rules S l) t l (waiters S l U) (lane l U) c))
+          (λ x. past_links S t l x (k + 1) n U (omega arith))
+      | inr e ↦
+          let q : k ≢ l = eqb-false k l e in
+          leaves_other l k c d (link_plan S t k U) _ (λ z. q (sym z)) (turn_at S t k U) (all_links S t l c (k + 1) n U (omega arith) (omega arith))
+    ]
+
+-- SECONDS
+nodes_free : (S : Setup) (t : ℕ) → Turns Frees S t (plan_of S t phase.C)
+unfolding plan_of
+nodes_free S t n U = along_each Frees IsFree (λ W m h. h) S t (node_plan S t n U) U (entering_each IsFree S.stuck t (enters_free S.stuck t) (exit S t n U) (node_plan S t n U) (node_enters S t n U))
+
+before_links : (S : Setup) (t : ℕ) (W : World) → (through S t (phase.A ∷ phase.B1 ∷ phase.B2 ∷ phase.C ∷ []) W).credits ≡ W.credits
+before_links S t W =
+    let ps = phase.A ∷ phase.B1 ∷ phase.B2 ∷ phase.C ∷ [] in
+    let starts : (ms : List Move) (U : World) → Each IsStart ms → Along Frees S t ms U = λ ms U h. along_each Frees IsStart (λ W m g. g.2) S t ms U h in
+    ap (λ (U : World). U.credits) (through_moves S t ps W)
+    ∙ free_run S t (moves_in S t ps W) W
+    (along_phases Frees S t ps (
+      (λ n U. starts (plan_of S t phase.A n U) U (flight_start S t n U)),
+      (
+        (λ n U. starts (plan_of S t phase.B1 n U) U (leave_start S t n U)),
+        ((λ n U. starts (plan_of S t phase.B2 n U) U (departure_start S t n U)), (nodes_free S t, tt)),
+      ),
+    ) W)
+
+turns_are : (S : Setup) (t : ℕ) (U : World) → moves_of (turns_in S t phase.D U) ≡ flat_map (λ l. link_plan S t l U) (below (length S.links))
+unfolding plan_of
+turns_are S t U = ap moves_of (phase_at_once S t phase.D U) ∙ moves_of-map (link_plan S t) U (below (length S.links))
+
+pub second_pays : (S : Setup) (t l : ℕ) (W : World) → l < length S.links → length W.credits ≡ length S.links → credit_of l (second S t W) + passing l (link_turn_moves S t W) * VEHICLE_COST ≡ raised (gain_of S l) (credit_of l W)
+unfolding through Leaves
+second_pays S t l W lt e =
+    let U = through S t (phase.A ∷ phase.B1 ∷ phase.B2 ∷ phase.C ∷ []) W in
+    let ms = link_turn_moves S t W in
+    let f : U.credits ≡ W.credits = before_links S t W in
+    let g = ap length f in
+    let within : l < length U.credits = omega arith in
+    let h : Leaves l (credit_of l U) (raised (gain_of S l) (credit_of l U)) ms = subst (Leaves l (credit_of l U) (raised (gain_of S l) (credit_of l U))) (sym (turns_are S t U)) (all_links S t l (credit_of l U) 0 (length S.links) U (omega arith) (omega arith)) in
+    ap (λ (c : ℕ). c + passing l ms * VEHICLE_COST) (credit_run S t l ms U within) ∙ h ∙ ap (λ (cs : List ℕ). raised (gain_of S l) (get_or cs l 0)) f
+
+credits_day : (S : Setup) (W : World) (t : ℕ) → length W.credits ≡ length S.links → length (world_from S W t).credits ≡ length S.links
+unfolding world_from
+credits_day S W zero e = e
+credits_day S W (suc t) e =
+    let U = world_from S W t in ap (λ (V : World). length V.credits) (through_moves S t phases U) ∙ credits_length S t (second_moves S t U) U ∙ credits_day S W t e
+
+credits_start : (S : Setup) → length (world_start S).credits ≡ length S.links
+unfolding world_start
+credits_start S = length-replicate (length S.links) VEHICLE_COST
+
+credit_start : (S : Setup) (l : ℕ) → l < length S.links → credit_of l (world_start S) ≡ VEHICLE_COST
+unfolding world_start
+credit_start S l lt = get_or-replicate (length S.links) l VEHICLE_COST 0 lt
+
+-- the credit of a link is never more than full
+credit_full : (S : Setup) (l t : ℕ) → l < length S.links → credit_of l (world_from S (world_start S) t) ≤ full_credit (gain_of S l)
+unfolding world_from
+credit_full S l zero lt = let e = credit_start S l lt in omega arith
+credit_full S l (suc t) lt =
+    let W = world_from S (world_start S) t in
+    let p = second_pays S t l W lt (credits_day S (world_start S) t (credits_start S)) in
+    let r = raised_within (gain_of S l) (credit_of l W) in omega arith
+
+raised_most : (c x : ℕ) → raised c x ≤ x + c
+unfolding raised
+raised_most c x = grind arith
+
+-- seconds in a row are paid from the credit at their start and from their gains
+window : (S : Setup) (W : World) (l t n : ℕ) → l < length S.links → length W.credits ≡ length S.links → passing_in S W l t n * VEHICLE_COST + credit_of l (world_from S W (t + n)) ≤ n * gain_of S l + credit_of l (world_from S W t)
+unfolding passing_in world_from
+window S W l t zero lt e = let f = ap (λ (k : ℕ). credit_of l (world_from S W k)) (add-zero t) in omega arith
+window S W l t (suc n) lt e =
+    let U = world_from S W (t + n) in
+    let f : credit_of l (world_from S W (t + suc n)) ≡ credit_of l (second S (t + n) U) = ap (λ (k : ℕ). credit_of l (world_from S W k)) (add-suc t n) in
+    let p = second_pays S (t + n) l U lt (credits_day S W (t + n) e) in
+    let r = raised_most (gain_of S l) (credit_of l U) in
+    let h = window S W l t n lt e in
+    let m = suc-mul n (gain_of S l) in omega arith
+
+pub day_flow : (S : Setup) → FlowKept S (world_start S)
+day_flow S l t n lt within =
+    let W = world_start S in
+    let w = window S W l t n lt (credits_start S) in
+    let f = credit_full S l t lt in
+    le-div (passing_in S W l t n) (n * gain_of S l + full_credit (gain_of S l)) VEHICLE_COST (lit< tt) (omega arith)

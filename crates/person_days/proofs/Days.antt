@@ -1,0 +1,215 @@
+-- Turns, phases, seconds and the day do their part to one person, and at its end who is under way is stuck.
+use Rattle.std.proofs.Common.{◌≡◌, ℕ, zero, suc, ◌+◌, ◌-◌, ◌*◌, ◌/◌, ◌<◌, ◌≤◌, false, List, [], ◌∷◌, ◌++◌, length, refl, ap, sym, ◌∙◌, subst, eqb, arith, inl, inr, append-nil}
+use Rattle.std.specs.Prelude.{get_or, filter, map, Option, None, Some}
+use Rattle.std.specs.List.{flat_map}
+use Rattle.std.proofs.lemmas.Bool.{cases_Bool, cases_lt, eq-eqb, eqb-true, eqb-false, ne_eqb}
+use Rattle.std.proofs.lemmas.List.{length-append, length-map, map-append, get_or-map}
+use Rattle.std.proofs.lemmas.List.Concat.{flat_map-append}
+use Rattle.std.proofs.lemmas.List.Elements.{filter-append}
+use Rattle.events.specs.declared.event.Event.{Event}
+use Rattle.events.specs.declared.event.Mode.{Mode}
+use Rattle.events.specs.declared.event.Phase.{Phase}
+use Rattle.events.specs.declared.event.Phase.TheVariants as phase
+use Rattle.events.specs.declared.event.Word.TheVariants as word
+use Rattle.events.specs.Keys.{phase_code}
+use Rattle.traffic.specs.declared.moves.Said.{Said}
+use Rattle.traffic.specs.declared.world.Person.{Person}
+use Rattle.traffic.specs.declared.world.Place.{Place}
+use Rattle.traffic.specs.declared.world.Place.TheVariants.{At, Flying, Waiting, Riding, Gone as Removed}
+use Rattle.traffic.specs.Lists.{numbers, below}
+use Rattle.traffic.specs.Rows.{World, person_of, nobody}
+use Rattle.traffic.specs.Setup.{Setup, Stay, Itinerary, stay, way, itinerary}
+use Rattle.traffic.specs.Moves.{told, run}
+use Rattle.traffic.specs.Persons.{mode_of_way, stuck_at, stranded}
+use Rattle.traffic.specs.Day.{Turn, plan_of, count_of, turns, moves_of, after, turns_in, keyed, events_of, events_in, through, told_in, phases, first_end, at_home, world_start, world_from, events_from, end_events, world_at, day}
+use Rattle.traffic.proofs.Sublists.{run-append}
+use Rattle.one_place.proofs.Places.{InOne}
+use Rattle.one_place.proofs.Turns.{turn_keeps, start_kept}
+use Rattle.person_days.specs.Trips.{leg, legs, IsPlanned, names, of_person, is_step, steps, InTurn}
+use Rattle.person_days.proofs.Events.{IsLast, own, told_steps, steps_append, Rest, worth, HasLeg, IsFitAt}
+use Rattle.person_days.proofs.Turns.{IsSane, Good, Along, Passes, passes_append, passes_none, moves_pass, link_along, node_along, flight_along, leave_along, departure_along}
+
+turn_along : (S : Setup) (t n i : ℕ) (p : Phase) (W : World) → IsPlanned S i → InOne i W → Along (Good S t i) S t (plan_of S t p n W) W
+unfolding plan_of
+turn_along S t n i phase.A W pl h = flight_along S t n i W pl h
+turn_along S t n i phase.B1 W pl h = leave_along S t n i W h
+turn_along S t n i phase.B2 W pl h = departure_along S t n i W h.there
+turn_along S t n i phase.C W pl h = node_along S t n i W h
+turn_along S t n i phase.D W pl h = link_along S t n i W pl h
+turn_along S t n i phase.E W pl h = tt
+
+-- a world in which person i is in one place, and which is sane
+record IsFine (S : Setup) (i : ℕ) (W : World) : Type 0 where
+  in_one : InOne i W
+  sane : IsSane S i W
+
+abbrev Goes : Setup → ℕ → World → World → List Said → Type 0
+Goes S i W V es = Passes S i W V es × IsFine S i V
+
+turns_go : (S : Setup) (t i : ℕ) (p : Phase) (ns : List ℕ) (W : World) → IsPlanned S i → IsFine S i W → Goes S i W (after S t (turns S t (plan_of S t p) ns W) W) (flat_map told (moves_of (turns S t (plan_of S t p) ns W)))
+unfolding turns
+turns_go S t i p [] W pl h = (passes_none S i W h.sane, h)
+turns_go S t i p (n ∷ ns) W pl h =
+    let ms = plan_of S t p n W in
+    let V = run S t ms W in
+    let us = moves_of (turns S t (plan_of S t p) ns V) in
+    let x = moves_pass S t i ms W (turn_along S t n i p W pl h.in_one) h.sane in
+    let y = turns_go S t i p ns V pl (record { in_one = turn_keeps S t n i p W h.in_one; sane = x.1 }) in
+    rw (run-append S t ms us W, flat_map-append told ms us) (passes_append S i W V (run S t us V) (flat_map told ms) (flat_map told us) x.0 y.0, y.1)
+
+-- EVENTS WITHOUT THEIR KEYS
+abbrev unkeyed : Event → Said
+unkeyed e = record { word = e.word; person = e.person; vehicle = e.vehicle; link = e.link; more = e.more }
+
+abbrev bare : List Event → List Said
+bare es = map unkeyed es
+
+bare_keyed : (t code n k : ℕ) (xs : List Said) → bare (keyed t code n k xs) ≡ xs
+unfolding keyed
+bare_keyed t code n k [] = refl
+bare_keyed t code n k (x ∷ xs) = ap (λ ys. x ∷ ys) (bare_keyed t code n (k + 1) xs)
+
+bare_events : (t : ℕ) (p : Phase) (us : List Turn) → bare (events_in t p us) ≡ flat_map told (moves_of us)
+bare_events t p [] = refl
+bare_events t p (u ∷ us) =
+    rw (map-append unkeyed (events_of t p u) (events_in t p us), bare_keyed t (phase_code p) u.number 0 (flat_map told u.moves), bare_events t p us, flat_map-append told u.moves (moves_of us)) refl
+
+bare_own : (i : ℕ) (es : List Event) → own i (bare es) ≡ bare (filter (of_person i) es)
+bare_own i [] = refl
+bare_own i (e ∷ es) = elim (cases_Bool (names i e.person)) [ inl q ↦ simp q (ap (λ ys. unkeyed e ∷ ys) (bare_own i es)) | inr q ↦ simp q (bare_own i es) ]
+
+bare_steps : (es : List Event) → told_steps (bare es) ≡ map (λ (e : Event). (e.word, e.more)) (filter (λ (e : Event). is_step e.word) es)
+bare_steps [] = refl
+bare_steps (e ∷ es) = elim (cases_Bool (is_step e.word)) [ inl q ↦ simp q (ap (λ ys. (e.word, e.more) ∷ ys) (bare_steps es)) | inr q ↦ simp q (bare_steps es) ]
+
+steps_are : (i : ℕ) (es : List Event) → told_steps (own i (bare es)) ≡ steps i es
+unfolding steps
+steps_are i es = ap told_steps (bare_own i es) ∙ bare_steps (filter (of_person i) es)
+
+count_is : (i : ℕ) (es : List Event) → length (own i (bare es)) ≡ length (filter (of_person i) es)
+count_is i es = ap (λ (xs : List Said). length xs) (bare_own i es) ∙ length-map (filter (of_person i) es) unkeyed
+
+-- PHASES, SECONDS, DAYS
+through_goes : (S : Setup) (t i : ℕ) (ps : List Phase) (W : World) → IsPlanned S i → IsFine S i W → Goes S i W (through S t ps W) (bare (told_in S t ps W))
+unfolding through told_in turns_in
+through_goes S t i [] W pl h = (passes_none S i W h.sane, h)
+through_goes S t i (p ∷ ps) W pl h =
+    let us = turns_in S t p W in
+    let V = after S t us W in
+    let y = turns_go S t i p (below (count_of S p)) W pl h in
+    rw (map-append unkeyed (events_in t p us) (told_in S t ps V), bare_events t p us) (let z = through_goes S t i ps V pl y.1 in (passes_append S i W V (through S t ps V) (flat_map told (moves_of us)) (bare (told_in S t ps V)) y.0 z.0, z.1))
+
+from_goes : (S : Setup) (i : ℕ) (W : World) (t : ℕ) → IsPlanned S i → IsFine S i W → Goes S i W (world_from S W t) (bare (events_from S W t))
+unfolding world_from events_from
+from_goes S i W zero pl h = (passes_none S i W h.sane, h)
+from_goes S i W (suc t) pl h =
+    let V = world_from S W t in
+    let y = from_goes S i W t pl h in
+    rw (map-append unkeyed (events_from S W t) (told_in S t phases V)) (let z = through_goes S t i phases V pl y.1 in (passes_append S i W V (through S t phases V) (bare (events_from S W t)) (bare (told_in S t phases V)) y.0 z.0, z.1))
+
+-- the end of the day
+stuck_other : (S : Setup) (W : World) (j i : ℕ) (here : Stay) (m : Mode) (pl : Place) → eqb j i ≡ false → own i (stuck_at S W j here m pl) ≡ []
+stuck_other S W j i here m (At end) q = refl
+stuck_other S W j i here m (Removed l) q = refl
+stuck_other S W j i here m _ q = simp q
+
+-- what may follow, and no more than it is worth
+abbrev Ends : Setup → ℕ → Person → List Said → Type 0
+Ends S i P es = Rest S i P (told_steps es) × (length es ≤ worth S i P) × IsLast es
+
+stuck_ends : (S : Setup) (W : World) (i e : ℕ) (here : Stay) (pl : Place) → Ends S i (record { element = e; place = pl }) (own i (stuck_at S W i here (mode_of_way (leg S i (e / 2))) pl))
+stuck_ends S W i e here (At end) = (tt, omega arith, tt)
+stuck_ends S W i e here (Flying start) = let q = eq-eqb i i refl in simp q (refl, omega arith, ((λ k. refl), tt))
+stuck_ends S W i e here (Waiting stop since) = let q = eq-eqb i i refl in simp q (refl, omega arith, ((λ k. refl), tt))
+stuck_ends S W i e here (Riding v) = let q = eq-eqb i i refl in simp q (refl, omega arith, ((λ k. refl), tt))
+stuck_ends S W i e here (Removed l) = (refl, omega arith, tt)
+
+own_none : (S : Setup) (W : World) (i k n : ℕ) → i < k → own i (flat_map (stranded S W) (numbers k n)) ≡ []
+unfolding stranded
+own_none S W i k zero lt = refl
+own_none S W i k (suc n) lt =
+    let P = person_of k W in
+    rw (filter-append (λ (e : Said). names i e.person) (stranded S W k) (flat_map (stranded S W) (numbers (k + 1) n)), stuck_other S W k i (stay S k P.element) (mode_of_way (way S k P.element)) P.place (ne_eqb k i (λ q. omega arith)))
+    (own_none S W i (k + 1) n (omega arith))
+
+own_one : (S : Setup) (W : World) (i k n : ℕ) → k ≤ i → i < k + n → own i (flat_map (stranded S W) (numbers k n)) ≡ own i (stranded S W i)
+unfolding stranded
+own_one S W i k zero le lt = absurd (omega arith)
+own_one S W i k (suc n) le lt =
+    let P = person_of k W in
+    elim (cases_Bool (eqb k i)) [
+      | inl q ↦
+          let e = eqb-true k i q in
+          rw (filter-append (λ (e : Said). names i e.person) (stranded S W k) (flat_map (stranded S W) (numbers (k + 1) n)), own_none S W i (k + 1) n (omega arith)) (append-nil _ ∙ ap (λ (x : ℕ). own i (stranded S W x)) e)
+      | inr q ↦
+          let ne = eqb-false k i q in
+          let lt2 : k < i = elim (cases_lt k i) [ inl a ↦ a | inr b ↦ absurd (ne (omega arith)) ] in
+          rw (filter-append (λ (e : Said). names i e.person) (stranded S W k) (flat_map (stranded S W) (numbers (k + 1) n)), stuck_other S W k i (stay S k P.element) (mode_of_way (way S k P.element)) P.place q)
+          (own_one S W i (k + 1) n (omega arith) (omega arith))
+    ]
+
+bare_end : (S : Setup) (t : ℕ) (W : World) (ns : List ℕ) → bare (flat_map (λ j. keyed t (phase_code phase.E) j 0 (stranded S W j)) ns) ≡ flat_map (stranded S W) ns
+bare_end S t W [] = refl
+bare_end S t W (j ∷ ns) =
+    map-append unkeyed (keyed t (phase_code phase.E) j 0 (stranded S W j)) _ ∙ ap (λ (xs : List Said). xs ++ bare (flat_map (λ j. keyed t (phase_code phase.E) j 0 (stranded S W j)) ns)) (bare_keyed t (phase_code phase.E) j 0 (stranded S W j))
+    ∙ ap (λ (xs : List Said). stranded S W j ++ xs) (bare_end S t W ns)
+
+end_ends : (S : Setup) (t i : ℕ) (W : World) → i < length S.persons → Ends S i (person_of i W) (own i (bare (end_events S t W)))
+unfolding end_events stranded
+end_ends S t i W lt =
+    let P = person_of i W in
+    rw (bare_end S t W (below (length S.persons)), own_one S W i 0 (length S.persons) (omega arith) (omega arith)) (stuck_ends S W i P.element (stay S i P.element) P.place)
+
+-- THE WHOLE DAY
+start_is : (S : Setup) (i : ℕ) → i < length S.persons → person_of i (world_start S) ≡ at_home (itinerary S i)
+unfolding world_start
+start_is S i lt = let none : Itinerary = record { stays = []; ways = [] } in get_or-map at_home S.persons i none nobody lt
+
+first_leg : (n : ℕ) (end : Option ℕ) → (n ≤ 0 → end ≡ None) → HasLeg n 0 end
+first_leg n None h = tt
+first_leg n (Some x) h = elim (cases_lt 0 n) [ inl lt ↦ lt | inr ge ↦ let q = h ge in absurd (cc) ]
+
+first_act : (stays : List Stay) (n : ℕ) → (n ≤ 0 → (get_or stays 0 (record { kind = 0; link = 0; end = None })).end ≡ None) → HasLeg n 0 (first_end stays)
+first_act [] n h = tt
+first_act (s ∷ ss) n h = first_leg n s.end h
+
+start_fine : (S : Setup) (i : ℕ) → IsPlanned S i → i < length S.persons → IsFine S i (world_start S)
+unfolding world_start
+start_fine S i p lt =
+    let one = start_kept S in
+    let row = one.one_row in
+    let home : IsFitAt S i 0 (At (first_end (itinerary S i).stays)) = (refl, first_act (itinerary S i).stays (legs S i) (p.last 0)) in
+    record { in_one = record { there = omega arith; listed = one.one_place i lt }; sane = record { calls = refl; kinds = refl; drivers = refl; fit = rw (start_is S i lt) home } }
+
+-- the whole day of a person, from where he is at its start
+abbrev pub HasDay : Setup → ℕ → Type 0
+HasDay S i = InTurn S i 0 (steps i (day S)) × (length (filter (of_person i) (day S)) ≤ 8 * legs S i) × IsLast (bare (filter (of_person i) (day S)))
+
+pub has_day : (S : Setup) (i : ℕ) → IsPlanned S i → i < length S.persons → HasDay S i
+unfolding day world_start
+has_day S i p lt =
+    let W = world_start S in
+    let V = world_at S S.end in
+    let xs = bare (events_from S W S.end) in
+    let ys = bare (end_events S S.end V) in
+    let f = (from_goes S i W S.end p (start_fine S i p lt)).0.0 in
+    let last = (from_goes S i W S.end p (start_fine S i p lt)).0.1 in
+    let g = end_ends S S.end i V lt in
+    let all : bare (day S) ≡ xs ++ ys = map-append unkeyed (events_from S W S.end) (end_events S S.end V) in
+    let own_all : own i (bare (day S)) ≡ own i xs ++ own i ys = ap (own i) all ∙ filter-append (λ (e : Said). names i e.person) xs ys in
+    let told : steps i (day S) ≡ told_steps (own i xs) ++ told_steps (own i ys) = sym (steps_are i (day S)) ∙ ap told_steps own_all ∙ steps_append (own i xs) (own i ys) in
+    let count : length (filter (of_person i) (day S)) ≡ length (own i xs) + length (own i ys) = sym (count_is i (day S)) ∙ ap (λ (es : List Said). length es) own_all ∙ length-append (own i xs) (own i ys) in
+    let c = f.cost in
+    let d = g.1 in
+    let home = start_is S i lt in
+    let start : worth S i (person_of i W) ≡ 8 * (legs S i - 0) = ap (worth S i) home in
+    (rw told (subst (λ (P : Person). Rest S i P (told_steps (own i xs) ++ told_steps (own i ys))) home (f.leads (told_steps (own i ys)) g.0)), omega arith, subst IsLast (sym own_all ∙ bare_own i (day S)) (last (own i ys) (omega arith) g.2))
+
+-- after the event by which he is stuck nothing follows
+last_at : (before later : List Event) (e : Event) → IsLast (bare (before ++ e ∷ later)) → e.word ≡ word.StuckAndAbort → later ≡ []
+last_at [] [] e h q = refl
+last_at [] (x ∷ later) e h q = let z = h.0 q in absurd (cc)
+last_at (b ∷ before) later e h q = last_at before later e h.1 q
+
+pub stuck_last : (S : Setup) (i : ℕ) → IsPlanned S i → i < length S.persons → (before later : List Event) (e : Event) → filter (of_person i) (day S) ≡ before ++ e ∷ later → e.word ≡ word.StuckAndAbort → later ≡ []
+stuck_last S i p lt before later e is q = last_at before later e (subst (λ (es : List Event). IsLast (bare es)) is (has_day S i p lt).2) q

@@ -1,0 +1,72 @@
+-- What a day tells of one person: the events of his trips, and of all that he does.
+use Rattle.std.specs.Prelude.{◌≡◌, ◌<◌, ◌≤◌, ℕ, ◌+◌, Bool, true, false, List, [], ◌∷◌, length, map, filter, get_or, ◌==◌, Option, None, Some}
+use Rattle.events.specs.declared.event.Event.{Event}
+use Rattle.events.specs.declared.event.More.{More}
+use Rattle.events.specs.declared.event.More.TheVariants as more
+use Rattle.events.specs.declared.event.Word.{Word}
+use Rattle.events.specs.declared.event.Word.TheVariants as word
+use Rattle.traffic.specs.Setup.{Setup, Stay, Way, Drive, itinerary}
+use Rattle.traffic.specs.Persons.{mode_of_way}
+
+-- activity k of a person's plan
+abbrev pub act : Setup → ℕ → ℕ → Stay
+act S i k = get_or (itinerary S i).stays k (record { kind = 0; link = 0; end = None })
+
+-- the leg that comes after activity k
+abbrev pub leg : Setup → ℕ → ℕ → Way
+leg S i k = get_or (itinerary S i).ways k (Drive [])
+
+-- how many legs the plan has
+abbrev pub legs : Setup → ℕ → ℕ
+legs S i = length (itinerary S i).ways
+
+-- no activity of a person's plan ends but one that a leg comes after
+pub record IsPlanned (S : Setup) (i : ℕ) : Type 0 where
+  pub last : (k : ℕ) → legs S i ≤ k → (act S i k).end ≡ None
+
+-- whether a field of an event names person i
+abbrev pub names : ℕ → Option ℕ → Bool
+names i None = false
+names i (Some j) = j == i
+
+-- the events of a person: those that name him in their field of a person
+abbrev pub of_person : ℕ → Event → Bool
+of_person i e = names i e.person
+
+-- the words of a trip: the activity before it ends, its leg departs, arrives or is stuck, and the activity after it starts
+abbrev pub is_step : Word → Bool
+is_step word.ActEnd = true
+is_step word.Departure = true
+is_step word.Arrival = true
+is_step word.ActStart = true
+is_step word.StuckAndAbort = true
+is_step _ = false
+
+-- a word, and what more it tells
+abbrev pub Step : Type 0
+Step = Word × More
+
+-- the steps of a person's trips, in the order of these events
+unfoldable pub steps : ℕ → List Event → List Step
+steps i es = map (λ (e : Event). (e.word, e.more)) (filter (λ (e : Event). is_step e.word) (filter (of_person i) es))
+
+-- activity k ends, of its kind, and leg k of the plan departs, by its mode
+abbrev pub Departs : Setup → ℕ → ℕ → Step → Step → Type 0
+Departs S i k a b =
+    (k < legs S i) × (a ≡ (word.ActEnd, more.Kind (act S i k).kind)) × (b ≡ (word.Departure, more.Mode (mode_of_way (leg S i k))))
+
+-- leg k arrives, by its mode, and the activity after it starts, of its kind
+abbrev pub Arrives : Setup → ℕ → ℕ → Step → Step → Type 0
+Arrives S i k a b = (a ≡ (word.Arrival, more.Mode (mode_of_way (leg S i k)))) × (b ≡ (word.ActStart, more.Kind (act S i (k + 1)).kind))
+
+-- leg k is stuck, by its mode
+abbrev pub IsStuck : Setup → ℕ → ℕ → Step → Type 0
+IsStuck S i k a = a ≡ (word.StuckAndAbort, more.Mode (mode_of_way (leg S i k)))
+
+-- The steps from leg k of the plan on come in turn: leg by leg an activity ends and the leg departs; then it arrives and the next
+-- activity starts, and the later legs follow; or it is stuck, and nothing follows.
+abbrev pub InTurn : Setup → ℕ → ℕ → List Step → Type 0
+InTurn S i k [] = Unit {0}
+InTurn S i k (a ∷ b ∷ c ∷ []) = Departs S i k a b × IsStuck S i k c
+InTurn S i k (a ∷ b ∷ c ∷ d ∷ es) = Departs S i k a b × Arrives S i k c d × InTurn S i (k + 1) es
+InTurn S i k _ = ⊥

@@ -1,0 +1,24 @@
+//! Laws of a person's day: the events of his trips come in turn and follow his plan, and there are at most eight events
+//! of him for each leg. Each is the contract of a call that does nothing.
+#![tactic(auto)]
+
+ghost use Rattle.std.specs.Prelude.{◌≡◌, ℕ, ◌*◌, ◌<◌, ◌≤◌, List, [], ◌∷◌, ◌++◌, length, filter};
+ghost use Rattle.events.specs.declared.event.Event.{Event};
+ghost use Rattle.events.specs.declared.event.Word.TheVariants.{StuckAndAbort};
+ghost use Rattle.traffic.specs.Setup.{Setup};
+ghost use Rattle.traffic.specs.Day.{day};
+ghost use Rattle.person_days.specs.Trips.{IsPlanned, InTurn, steps, legs, of_person};
+
+/// Of each person a day tells trip after trip, as his plan has them: activity k ends and leg k departs by its mode; then it
+/// arrives by the same mode and activity k + 1 starts, or the person is stuck. After that nothing more is told of him.
+pub fn events_come_in_turn()
+    ensures turn { (S : Setup) (i : ℕ) → IsPlanned S i → i < length S.persons → InTurn S i 0 (steps i (day S)) }
+    ensures last { (S : Setup) (i : ℕ) (before later : List Event) (e : Event) → IsPlanned S i → i < length S.persons
+        → filter (of_person i) (day S) ≡ before ++ e ∷ later → e.word ≡ StuckAndAbort → later ≡ [] }
+{}
+
+/// At most eight events of a day name a person for each leg of his plan.
+pub fn few_events()
+    ensures { (S : Setup) (i : ℕ) → IsPlanned S i → i < length S.persons
+        → length (filter (of_person i) (day S)) ≤ 8 * legs S i }
+{}

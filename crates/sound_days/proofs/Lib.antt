@@ -1,0 +1,6 @@
+mod Fine
+mod Steps
+mod Links
+mod Turns
+mod Laws
+mod Towns

@@ -1,23 +1,21 @@
 -- The three ways in which an activity is read: in the opened plan, as the first of a further plan, as the first of a person.
-use Rattle.std.proofs.Common.{◌≡◌, ℕ, suc, ◌+◌, ◌<◌, ◌≤◌, Bool, true, false, not, ◌&&◌, ◌||◌, cond, List, [], ◌∷◌, ◌++◌, length, map, take, drop, get_or, Option, None, Some, refl, sym, ◌∙◌, ap, append_assoc, add-one, add-zero, arith, length-append, subst}
-use Rattle.std.specs.Prelude.{nat_eq, nat_le, nat_lt, is_none, is_some, option_to_list, if◌then◌else◌}
-use Rattle.std.specs.List.{list_all, filter, fold}
+use Rattle.std.proofs.Common.{◌≡◌, ℕ, ◌+◌, ◌<◌, Bool, true, false, not, ◌&&◌, cond, List, [], ◌∷◌, ◌++◌, length, map, take, drop, get_or, Option, None, Some, refl, sym, ◌∙◌, ap, add-zero, arith, length-append}
+use Rattle.std.specs.Prelude.{nat_eq, is_some, option_to_list}
 use Rattle.std.proofs.lemmas.Bool.Decides.{nat_tests}
 use Rattle.std.proofs.lemmas.List.{take_more, map-append, append-nil}
-use Rattle.std.proofs.lemmas.List.Folds.{list_all-append}
-use Rattle.events.specs.Names.{is_held, number_of, with_name}
+use Rattle.events.specs.Names.{is_held, with_name}
 use Rattle.records.specs.Rows.{Row}
-use Rattle.records.specs.Fields.{field, holds_name}
+use Rattle.records.specs.Fields.{field}
 use Rattle.plans.specs.declared.plan.Act.{Act}
 use Rattle.plans.specs.declared.plan.Leg.{Leg}
 use Rattle.plans.specs.declared.kinds.ElementKind.{ElementKind}
 use Rattle.plans.specs.declared.kinds.ElementKind.TheVariants as element
 use Rattle.plans.specs.Parts.{Parts}
-use Rattle.plans.specs.Kinds.{kind_of, is_act, is_leg, is_transit, plan_number}
-use Rattle.plans.specs.Refusals.{same_person, same_plan, ends_plan, is_neither, starts_late, jumps, comes_again}
+use Rattle.plans.specs.Kinds.{kind_of, is_act, plan_number}
+use Rattle.plans.specs.Refusals.{same_person, same_plan, is_neither, starts_late, jumps}
 use Rattle.plans.specs.Runs.{runs}
-use Rattle.plans.specs.Values.{Tables, tables_of, person_in, kind_in, line_in, stops_in, named_by, act_of, leg_of, endless, acts_among, legs_among, plan_among, plans_among, row_before, first_row, legs_to, starts_to, begins_at, is_act_named, is_leg_named, is_plan_named, are_plans}
-use Rattle.plans.specs.Progress.{Progress, closed_acts, closed_of, with_kind, new_person, new_plan, same_plan_act, Grouped, Sound, Named, Behind}
+use Rattle.plans.specs.Values.{Tables, tables_of, person_in, kind_in, line_in, stops_in, act_of, acts_among, legs_among, plan_among, plans_among, first_row, begins_at}
+use Rattle.plans.specs.Progress.{Progress, closed_of, with_kind, new_person, new_plan, same_plan_act, Grouped, Named, Behind}
 use Rattle.plans.proofs.RunsMore.{runs_one, runs_on, runs_new}
 use Rattle.plans.proofs.Naming.{held_there}
 use Rattle.plans.proofs.Passing.{same_name, plan_of_person, plan_of_number, next_number}
@@ -58,9 +56,6 @@ names_same_person links rows n latest p b at person begins p' ps ks ls ss st lg 
       starts_are = st ∙ starts_more rows n b p.starts at.names.starts_are begins;
       legs_count = lg ∙ sym (add-zero (cond b 0 (length p.legs))) ∙ count;
     }
-
-abbrev no_acts : List Act
-no_acts = []
 
 -- the activity goes on with the opened plan
 pub act_in_plan : (links : List (List ℕ)) (rows : List Row) (n : ℕ) (latest : Row) (p : Progress) → (at : ActAt links rows n latest p) → same_plan latest (get_or rows n []) ≡ true → begins_at rows n ≡ false → p.last ≡ None

@@ -1,28 +1,23 @@
 -- An activity is read: what is known of the rows so far stays known.
-use Rattle.std.proofs.Common.{◌≡◌, ℕ, suc, ◌+◌, ◌<◌, ◌≤◌, Bool, true, false, not, ◌&&◌, ◌||◌, cond, List, [], ◌∷◌, ◌++◌, length, map, take, drop, get_or, Option, None, Some, refl, sym, ◌∙◌, ap, append_assoc, add-one, add-zero, arith, length-append}
-use Rattle.std.specs.Prelude.{nat_eq, nat_le, nat_lt, is_none, is_some, option_to_list, if◌then◌else◌}
-use Rattle.std.specs.List.{list_all, filter, fold}
+use Rattle.std.proofs.Common.{◌≡◌, ℕ, suc, ◌+◌, ◌<◌, Bool, true, false, ◌&&◌, cond, List, [], ◌∷◌, ◌++◌, length, map, take, get_or, Option, None, Some, refl, sym, ◌∙◌, ap, add-one, arith}
+use Rattle.std.specs.Prelude.{nat_lt, is_none, is_some, option_to_list}
+use Rattle.std.specs.List.{filter, fold}
 use Rattle.std.proofs.lemmas.Bool.Decides.{nat_tests}
-use Rattle.std.proofs.lemmas.List.{take_more, map-append, append-nil}
+use Rattle.std.proofs.lemmas.List.{map-append}
 use Rattle.std.proofs.lemmas.List.Elements.{filter-append}
-use Rattle.std.proofs.lemmas.List.Folds.{list_all-append}
 use Rattle.events.specs.Names.{is_held, number_of, with_name}
-use Rattle.events.specs.declared.event.Mode.{Mode}
 use Rattle.records.specs.Rows.{Row}
-use Rattle.records.specs.Fields.{field, holds_name}
+use Rattle.records.specs.Fields.{field}
 use Rattle.plans.specs.declared.plan.Act.{Act}
 use Rattle.plans.specs.declared.plan.Leg.{Leg}
 use Rattle.plans.specs.declared.kinds.ElementKind.{ElementKind}
 use Rattle.plans.specs.declared.kinds.ElementKind.TheVariants as element
 use Rattle.plans.specs.Parts.{Parts}
-use Rattle.plans.specs.Kinds.{kind_of, is_act, is_leg, is_transit, plan_number, items_of, item, end_in}
-use Rattle.plans.specs.Refusals.{same_person, same_plan, begins_person, begins_plan, ends_plan, is_neither, lacks_link}
-use Rattle.plans.specs.Runs.{runs}
-use Rattle.plans.specs.Values.{Tables, tables_of, person_in, kind_in, line_in, stops_in, named_by, number_in_table, act_of, leg_of, endless, acts_among, legs_among, last_endless, plan_among, plans_among, row_before, first_row, legs_to, starts_to, begins_at, is_act_named, is_leg_named, is_plan_named, are_plans}
-use Rattle.plans.specs.Progress.{Progress, closed_acts, closed_of, with_kind, new_person, new_plan, same_plan_act, Grouped, Sound, Named, Behind}
-use Rattle.plans.proofs.RunsMore.{runs_one, runs_on, runs_new}
+use Rattle.plans.specs.Kinds.{kind_of, is_act, is_leg, is_transit, items_of, item, end_in}
+use Rattle.plans.specs.Refusals.{lacks_link}
+use Rattle.plans.specs.Values.{Tables, tables_of, kind_in, line_in, stops_in, named_by, number_in_table, act_of, leg_of, endless, acts_among, legs_among, last_endless, plan_among, legs_to, starts_to, begins_at, is_act_named}
+use Rattle.plans.specs.Progress.{Progress, closed_acts, closed_of}
 use Rattle.plans.proofs.Naming.{named_more, held_there, same_number, number_within, found_within}
-use Rattle.plans.proofs.Passing.{same_name, plan_of_person, plan_of_number}
 
 -- activities among rows, one more row
 pub acts_more : (tables : Tables) (rows : List Row) (row : Row) → acts_among tables (rows ++ row ∷ []) ≡ acts_among tables rows ++ acts_among tables (row ∷ [])

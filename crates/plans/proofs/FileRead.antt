@@ -1,25 +1,23 @@
 -- The first row and the end of the file.
-use Rattle.std.proofs.Common.{◌≡◌, ℕ, suc, ◌+◌, ◌<◌, ◌≤◌, Bool, true, false, not, ◌&&◌, ◌||◌, cond, List, [], ◌∷◌, ◌++◌, length, map, take, drop, get_or, Option, None, Some, refl, sym, ◌∙◌, ap, add-zero, arith, subst, length-append}
-use Rattle.std.specs.Prelude.{nat_eq, is_none, is_some}
+use Rattle.std.proofs.Common.{◌≡◌, ℕ, ◌+◌, ◌<◌, ◌≤◌, Bool, true, false, not, ◌&&◌, ◌||◌, cond, List, [], ◌∷◌, ◌++◌, length, map, get_or, Option, None, Some, refl, sym, ◌∙◌, ap, arith, length-append}
+use Rattle.std.specs.Prelude.{nat_eq, is_some}
 use Rattle.std.specs.List.{list_all}
 use Rattle.std.proofs.lemmas.Bool.Decides.{nat_tests}
 use Rattle.std.proofs.lemmas.List.{take_more, take_all, drop_all, map-append}
 use Rattle.edge_files.specs.declared.reasons.Reason.{Reason}
-use Rattle.edge_files.specs.declared.reasons.RowFault.{RowFault}
-use Rattle.events.specs.Names.{number_of, with_name}
+use Rattle.events.specs.Names.{with_name}
 use Rattle.records.specs.Rows.{Row}
 use Rattle.records.specs.Fields.{field}
-use Rattle.records.specs.Faults.{first_fault}
 use Rattle.records.proofs.Faulty.{none_of_none, one_more, fault_here}
 use Rattle.plans.specs.declared.plan.Act.{Act}
 use Rattle.plans.specs.declared.kinds.ElementKind.{ElementKind}
 use Rattle.plans.specs.declared.kinds.ElementKind.TheVariants as element
 use Rattle.plans.specs.Parts.{Parts}
 use Rattle.plans.specs.Kinds.{kind_of, is_act, is_leg, plan_number}
-use Rattle.plans.specs.Refusals.{same_person, same_plan, is_neither, ends_plan, ends_with_leg, is_out_of_order, row_reason}
+use Rattle.plans.specs.Refusals.{same_person, same_plan, is_neither, ends_plan, ends_with_leg, row_reason}
 use Rattle.plans.specs.Runs.{runs}
-use Rattle.plans.specs.Values.{Tables, PlanRows, tables_of, person_in, kind_in, line_in, stops_in, named_by, act_of, plan_among, plans_among, plan_lists, row_before, first_row, row_behind, legs_to, starts_to, begins_at, reason_at, values_of, rows_fault, are_plans, is_act_named}
-use Rattle.plans.specs.Progress.{Progress, Passed, step_first, finish, closed_of, Named, Behind, Grouped, Sound, IsReadTo, IsSound}
+use Rattle.plans.specs.Values.{Tables, tables_of, person_in, kind_in, line_in, stops_in, named_by, act_of, plan_among, plans_among, plan_lists, row_before, first_row, row_behind, legs_to, starts_to, begins_at, reason_at, values_of, rows_fault, are_plans, is_act_named}
+use Rattle.plans.specs.Progress.{Progress, step_first, finish, closed_of, IsReadTo, IsSound}
 use Rattle.plans.proofs.RunsMore.{runs_one}
 use Rattle.plans.proofs.Naming.{named_none, held_there}
 use Rattle.plans.proofs.Passing.{passed}

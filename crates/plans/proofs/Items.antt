@@ -1,9 +1,8 @@
 -- The items of a list of names, and their numbers.
-use Rattle.std.proofs.Common.{◌≡◌, ℕ, zero, suc, ◌<◌, ◌+◌, Bool, true, false, ◌&&◌, List, [], ◌∷◌, length, ◌++◌, cond, get_or, map, Bor, Option, None, Some, refl, sym, ◌∙◌, ap, arith}
+use Rattle.std.proofs.Common.{◌≡◌, ℕ, zero, suc, ◌<◌, ◌+◌, Bool, true, false, ◌&&◌, List, [], ◌∷◌, length, ◌++◌, cond, get_or, map, Bor, Option, None, Some, refl, sym, ap, arith}
 use Rattle.std.specs.List.{list_all}
 use Rattle.events.specs.Names.{is_name, is_held, number_of, with_name}
 use Rattle.records.specs.Lists.{numbers_of, with_number}
-use Rattle.std.specs.Prelude.{option_map}
 use Rattle.events.proofs.NameLists.{number_of-kept}
 
 both : (a b : Bool) → (a && b) ≡ true → (a ≡ true) × (b ≡ true)

@@ -1,7 +1,7 @@
 -- A leg is read.
-use Rattle.std.proofs.Common.{◌≡◌, ℕ, suc, ◌+◌, ◌<◌, ◌≤◌, Bool, true, false, not, ◌&&◌, ◌||◌, cond, List, [], ◌∷◌, ◌++◌, length, map, take, drop, get_or, Option, None, Some, refl, sym, ◌∙◌, ap, append_assoc, arith, length-append}
-use Rattle.std.specs.Prelude.{nat_eq, nat_le, nat_lt, is_none, is_some, option_to_list, unwrap_or, if◌then◌else◌}
-use Rattle.std.specs.List.{list_all, filter, fold}
+use Rattle.std.proofs.Common.{◌≡◌, ℕ, ◌+◌, ◌<◌, Bool, true, false, not, ◌&&◌, cond, List, [], ◌∷◌, ◌++◌, length, map, take, drop, get_or, Option, None, Some, refl, sym, ◌∙◌, ap, arith, length-append}
+use Rattle.std.specs.Prelude.{nat_lt, is_none, option_to_list, unwrap_or}
+use Rattle.std.specs.List.{list_all, fold}
 use Rattle.std.proofs.lemmas.Bool.Decides.{nat_tests}
 use Rattle.std.proofs.lemmas.List.{take_more, append-nil}
 use Rattle.events.specs.declared.event.Mode.{Mode}
@@ -16,17 +16,17 @@ use Rattle.plans.specs.declared.plan.Act.{Act}
 use Rattle.plans.specs.declared.plan.Leg.{Leg}
 use Rattle.plans.specs.declared.kinds.ElementKind.{ElementKind}
 use Rattle.plans.specs.declared.kinds.ElementKind.TheVariants as element
-use Rattle.plans.specs.Kinds.{kind_of, is_act, is_leg, is_car, is_transit, plan_number, items_of, item}
+use Rattle.plans.specs.Kinds.{kind_of, is_act, is_leg, is_transit, items_of, item}
 use Rattle.plans.specs.Refusals.{same_person, same_plan, ends_plan, is_neither, lacks_link, is_broken, is_joined, route_of}
 use Rattle.plans.specs.Runs.{runs}
 use Rattle.plans.specs.Values.{Tables, tables_of, person_in, kind_in, line_in, stops_in, named_by, number_in_table, act_of, leg_by, leg_of, leg_of_kind, acts_among, legs_among, first_row, begins_at, is_act_named, is_leg_named}
-use Rattle.plans.specs.Progress.{Progress, lines_with, stops_with, put_leg, step_leg, Grouped, Sound, Named, Behind}
+use Rattle.plans.specs.Progress.{Progress, lines_with, stops_with, step_leg, Grouped, Sound, Named, Behind}
 use Rattle.plans.proofs.RunsMore.{runs_on}
 use Rattle.plans.proofs.Naming.{named_more, held_there, numbered_held, same_number, number_within}
 use Rattle.plans.proofs.Items.{number_kept}
 use Rattle.plans.proofs.Passing.{same_name, plan_of_person, plan_of_number}
 use Rattle.plans.proofs.ActSteps.{acts_more, legs_more, unchanged, one_name, with_held, starts_more, legs_to_more}
-use Rattle.plans.proofs.Soundness.{all_push, all_front}
+use Rattle.plans.proofs.Soundness.{all_push}
 
 -- the names in a leg's row
 kind_in_leg : (row : Row) (m : Option Mode) → kind_of row ≡ element.Leg m → kind_in row ≡ []

@@ -1,5 +1,4 @@
 pub mod Closing
-pub mod Known
 pub mod Cells
 pub mod Items
 pub mod RunsMore

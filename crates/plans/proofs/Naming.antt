@@ -1,13 +1,13 @@
 -- Names numbered by first appearance in rows.
-use Rattle.std.proofs.Common.{◌≡◌, ℕ, ◌+◌, ◌<◌, Bool, true, false, ◌||◌, cond, List, [], ◌∷◌, ◌++◌, length, take, drop, get_or, Option, None, Some, refl, sym, ◌∙◌, ap, append_assoc, arith}
-use Rattle.std.specs.Prelude.{unwrap_or, is_none, is_some, bytes_eq}
-use Rattle.std.specs.List.{fold, flat_map, position_or_len, list_any}
+use Rattle.std.proofs.Common.{◌≡◌, ℕ, ◌+◌, ◌<◌, Bool, true, false, ◌||◌, List, [], ◌∷◌, ◌++◌, length, take, drop, get_or, Option, None, Some, refl, sym, ◌∙◌, ap, append_assoc, arith}
+use Rattle.std.specs.Prelude.{unwrap_or, is_none, bytes_eq}
+use Rattle.std.specs.List.{fold, flat_map, position_or_len}
 use Rattle.std.proofs.lemmas.List.{take_more, append-nil, take-append-drop}
 use Rattle.std.proofs.lemmas.List.Sums.{fold-append}
 use Rattle.std.proofs.lemmas.Grind.{flat_map-append}
 use Rattle.std.proofs.lemmas.Cmp.{nat_list_eq_equiv}
 use Rattle.events.specs.Names.{is_held, number_of, with_name, firsts}
-use Rattle.events.proofs.NameLists.{number_of-held, name_at-number_of, is_held-with_name, firsts-push, number_held}
+use Rattle.events.proofs.NameLists.{number_of-held, name_at-number_of, is_held-with_name, firsts-push}
 use Rattle.records.specs.Rows.{Row}
 use Rattle.plans.specs.Values.{named_by, number_in_table}
 use Rattle.plans.proofs.Items.{number_kept}

@@ -1,15 +1,14 @@
 -- What is known of a row against which nothing speaks.
-use Rattle.std.proofs.Common.{◌≡◌, ℕ, ◌+◌, ◌<◌, ◌≤◌, Bool, true, false, not, ◌&&◌, ◌||◌, cond, List, [], ◌∷◌, length, Option, None, Some, refl, sym, ◌∙◌, ap, arith}
-use Rattle.std.specs.Prelude.{nat_eq, nat_le, nat_lt, bytes_eq, is_none, is_some, if◌then◌else◌}
+use Rattle.std.proofs.Common.{◌≡◌, ℕ, ◌+◌, Bool, true, false, not, ◌&&◌, ◌||◌, cond, List, length, Option, None, Some, refl, arith}
+use Rattle.std.specs.Prelude.{nat_eq, is_none, is_some}
 use Rattle.std.proofs.lemmas.Bool.Decides.{nat_tests}
 use Rattle.std.proofs.lemmas.Slice.Eq.{bytes_eq-Decides}
 use Rattle.edge_files.specs.declared.reasons.Reason.{Reason}
 use Rattle.records.specs.Rows.{Row}
 use Rattle.records.specs.Fields.{field, holds_name}
-use Rattle.records.specs.Faults.{least}
 use Rattle.plans.specs.declared.kinds.ElementKind.{ElementKind}
 use Rattle.plans.specs.Kinds.{kind_of, is_act, is_leg, plan_in, plan_number, end_in}
-use Rattle.plans.specs.Refusals.{is_misfit, lacks_name, has_bad_number, comes_again, lacks_link, is_out_of_order, is_broken, lacks_mode, is_one_too_many, same_person, same_plan, begins_person, begins_plan, is_neither, starts_late, jumps, begins_with_leg, repeats, follows_endless, ends_with_leg, is_of_other_plan, ends_plan, row_reason}
+use Rattle.plans.specs.Refusals.{is_out_of_order, same_person, same_plan, is_neither, starts_late, jumps, begins_with_leg, repeats, follows_endless, ends_with_leg, ends_plan, row_reason}
 use Rattle.plans.specs.Progress.{Passed}
 
 abbrev none : Option Reason
@@ -84,17 +83,6 @@ next_number before row person plan counted = by (same_person before row) (plan_n
   where
     by : (a : Bool) (m n : ℕ) → a ≡ true → (a && nat_eq m n) ≡ false → (a && not (nat_eq n m || nat_eq n (m + 1))) ≡ false → n ≡ m + 1
     by a m n p q r = grind (arith, nat_tests)
-
-pub not_true : (b : Bool) → not b ≡ false → b ≡ true
-not_true true h = refl
-not_true false h = cc
-
-pub not_false : (b : Bool) → not b ≡ true → b ≡ false
-not_false true h = cc
-not_false false h = refl
-
-both_false : (a b : Bool) → (a && b) ≡ false → a ≡ true → b ≡ false
-both_false a b h p = grind arith
 
 -- an activity of a plan stands behind no activity
 pub behind_leg : (before : Row) (kind : ElementKind) (row : Row) → repeats (Some before) kind row ≡ false → same_plan before row ≡ true → is_act kind ≡ true → is_act (kind_of before) ≡ false

@@ -1,11 +1,11 @@
 -- One more row is read.
-use Rattle.std.proofs.Common.{◌≡◌, ℕ, suc, ◌+◌, ◌<◌, ◌≤◌, Bool, true, false, not, ◌&&◌, ◌||◌, cond, List, [], ◌∷◌, ◌++◌, length, take, drop, get_or, Option, None, Some, refl, sym, ◌∙◌, ap, add-one, arith, subst}
+use Rattle.std.proofs.Common.{◌≡◌, ℕ, ◌+◌, ◌<◌, ◌≤◌, Bool, true, false, not, ◌&&◌, ◌||◌, cond, List, [], length, drop, get_or, Option, None, Some, refl, sym, ◌∙◌, ap, add-one, arith, subst}
 use Rattle.std.specs.Prelude.{nat_eq, nat_le, nat_lt, is_none, is_some, unwrap_or}
 use Rattle.std.proofs.Math.Seq.{drop-cons}
 use Rattle.std.proofs.lemmas.Bool.Decides.{nat_tests}
 use Rattle.edge_files.specs.declared.reasons.Reason.{Reason}
 use Rattle.events.specs.declared.event.Mode.{Mode}
-use Rattle.events.specs.Names.{is_name, number_of, with_name}
+use Rattle.events.specs.Names.{number_of, with_name}
 use Rattle.records.specs.Rows.{Row}
 use Rattle.records.specs.Fields.{field, holds_name}
 use Rattle.records.specs.Numbers.{number_in, are_digits, value_of}
@@ -14,12 +14,12 @@ use Rattle.records.proofs.Faulty.{one_more}
 use Rattle.plans.specs.declared.plan.Act.{Act}
 use Rattle.plans.specs.declared.kinds.ElementKind.{ElementKind}
 use Rattle.plans.specs.declared.kinds.ElementKind.TheVariants as element
-use Rattle.plans.specs.Plan.{is_end, has_end}
+use Rattle.plans.specs.Plan.{is_end}
 use Rattle.plans.specs.Kinds.{kind_of, is_act, is_leg, is_car, plan_in, plan_number, end_in, items_of}
-use Rattle.plans.specs.Refusals.{has_surplus, lacks_element_name, lacks_name, is_misfit, has_bad_time, has_bad_number, lacks_link, is_broken, same_person, same_plan, begins_person, begins_plan, ends_plan, ends_with_leg, begins_with_leg, is_one_too_many, is_neither, lacks_mode, row_reason}
-use Rattle.plans.specs.Values.{Tables, tables_of, person_in, named_by, act_of, is_act_named, row_before, first_row, row_behind, legs_to, begins_at, reason_at}
-use Rattle.plans.specs.Progress.{Progress, Passed, with_kind, new_person, new_plan, same_plan_act, put_act, step_act, step_leg, ends_well, ActAble, LegAble, RowAble, Behind, Sound, IsReadTo}
-use Rattle.plans.proofs.Passing.{passed, in_order, goes_on_from, behind_leg, behind_act, behind_end, plan_of_person}
+use Rattle.plans.specs.Refusals.{has_surplus, lacks_element_name, lacks_name, is_misfit, has_bad_time, has_bad_number, lacks_link, is_broken, same_person, same_plan, begins_person, begins_plan, ends_plan, is_one_too_many, is_neither, lacks_mode, row_reason}
+use Rattle.plans.specs.Values.{Tables, tables_of, act_of, is_act_named, row_before, first_row, row_behind, legs_to, reason_at}
+use Rattle.plans.specs.Progress.{Progress, Passed, with_kind, new_person, new_plan, same_plan_act, put_act, step_act, step_leg, ends_well, ActAble, LegAble, RowAble, Behind, IsReadTo}
+use Rattle.plans.proofs.Passing.{passed, in_order, goes_on_from, behind_leg, behind_act, behind_end}
 use Rattle.plans.proofs.ActSteps.{one_name, act_is, act_named, act_found}
 use Rattle.plans.proofs.ActSteps.{kind_in_act}
 use Rattle.plans.specs.Values.{kind_in}

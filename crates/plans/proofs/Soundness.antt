@@ -1,20 +1,18 @@
 -- Every number stays one that has a name, and no limit is passed, as an activity is read.
-use Rattle.std.proofs.Common.{◌≡◌, ℕ, ◌+◌, ◌<◌, ◌≤◌, Bool, true, false, not, ◌&&◌, ◌||◌, cond, List, [], ◌∷◌, ◌++◌, length, Option, None, Some, refl, sym, ◌∙◌, ap, arith, length-append}
-use Rattle.std.specs.Prelude.{nat_le, nat_lt, is_none, is_some, option_to_list, if◌then◌else◌}
+use Rattle.std.proofs.Common.{◌≡◌, ℕ, ◌+◌, ◌<◌, ◌≤◌, Bool, true, false, ◌&&◌, ◌||◌, cond, List, [], ◌∷◌, ◌++◌, length, Option, None, Some, refl, sym, ◌∙◌, ap, arith, length-append}
+use Rattle.std.specs.Prelude.{nat_le, nat_lt, is_some, option_to_list}
 use Rattle.std.specs.List.{list_all}
 use Rattle.std.proofs.lemmas.Bool.Decides.{nat_tests}
 use Rattle.std.proofs.lemmas.List.Folds.{list_all-append}
-use Rattle.events.specs.Names.{is_held, number_of, with_name}
+use Rattle.events.specs.Names.{is_held, number_of}
 use Rattle.events.proofs.NameLists.{no_number-absent}
 use Rattle.records.specs.Rows.{Row}
 use Rattle.records.specs.Fields.{field}
 use Rattle.plans.specs.declared.plan.Act.{Act}
-use Rattle.plans.specs.declared.plan.Leg.{Leg}
 use Rattle.plans.specs.declared.kinds.ElementKind.{ElementKind}
-use Rattle.plans.specs.Parts.{Parts}
 use Rattle.plans.specs.Kinds.{is_leg, is_car, items_of}
 use Rattle.plans.specs.Refusals.{begins_person, comes_again, is_one_too_many}
-use Rattle.plans.specs.Values.{Tables, endless, is_act_named, is_leg_named, is_plan_named, are_plans}
+use Rattle.plans.specs.Values.{Tables, endless, is_act_named, is_plan_named, are_plans}
 use Rattle.plans.specs.Progress.{Progress, closed_acts, closed_of, with_kind, new_person, new_plan, same_plan_act, Sound}
 
 and_true : (a b : Bool) → a ≡ true → b ≡ true → (a && b) ≡ true

@@ -1,12 +1,11 @@
 -- The header and the rows behind it.
-use Rattle.std.proofs.Common.{◌≡◌, ℕ, ◌<◌, Bool, true, false, not, cond, List, [], ◌∷◌, length, drop, Option, None, Some, Result, Ok, Err, refl, sym, ◌∙◌, ap, subst, arith}
+use Rattle.std.proofs.Common.{◌≡◌, ℕ, ◌<◌, Bool, true, false, not, cond, List, [], ◌∷◌, length, drop, Option, None, Some, Result, Err, refl, sym, subst, arith}
 use Rattle.std.specs.Prelude.{nat_eq}
 use Rattle.edge_files.specs.declared.reasons.Reason.{Reason}
-use Rattle.edge_files.specs.declared.reasons.RowFault.{RowFault}
 use Rattle.edge_files.specs.declared.reasons.RowStop.{RowStop}
 use Rattle.records.specs.Rows.{Row, rows_of}
 use Rattle.records.specs.Faults.{Answers}
-use Rattle.records.specs.Files.{begins_with, is_too_long, head_reason, body_of, TellsStop}
+use Rattle.records.specs.Files.{begins_with, head_reason, body_of, TellsStop}
 use Rattle.records.proofs.Faulty.{answers_head}
 use Rattle.plans.specs.declared.plan.PlanFile.{PlanFile}
 use Rattle.plans.specs.Values.{PlanRows, reason_at, rows_fault, values_of}

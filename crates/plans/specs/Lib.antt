@@ -1,8 +1,5 @@
 pub mod Plan
 pub mod Parts
-pub mod Elements
-pub mod Walkers
-pub mod Views
 pub mod Kinds
 pub mod Refusals
 pub mod Runs

@@ -1,6 +1,5 @@
 -- The values of the code as the definitions see them.
-use Rattle.std.specs.Prelude.{◌≡◌, ℕ, List, map, Option, None, Some, Result, Ok, Err}
-use Rattle.edge_files.specs.declared.reasons.RowFault.{RowFault}
+use Rattle.std.specs.Prelude.{◌≡◌, ℕ, List, map, None, Some, Result, Ok, Err}
 use Rattle.edge_files.specs.declared.reasons.RowStop.{RowStop}
 use Rattle.edge_files.specs.declared.reasons.RowStop.TheVariants as stop
 use Rattle.records.specs.Rows.{Row}

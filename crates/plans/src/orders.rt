@@ -111,6 +111,27 @@ fn ends_plan(row: &ByteRecord, next: Option<&ByteRecord>) -> bool
     }
 }
 
+/// Whether the row is neither an activity nor a leg.
+fn is_neither(kind: ElementKind) -> bool
+    ensures { result ≡ is_neither kind }
+{
+    !is_act(kind) && !is_leg(kind)
+}
+
+/// Whether a plan begins with a leg.
+fn begins_with_leg(before: Option<&ByteRecord>, kind: ElementKind, row: &ByteRecord) -> bool
+    ensures { result ≡ begins_with_leg (option_map (λ r. fields_of r.now) before.entry) kind (fields_of row.now) }
+{
+    begins_plan(before, row) && is_leg(kind)
+}
+
+/// Whether the row is a leg that no row of its plan follows.
+fn ends_with_leg(kind: ElementKind, row: &ByteRecord, next: Option<&ByteRecord>) -> bool
+    ensures { result ≡ ends_with_leg kind (fields_of row.now) (option_map (λ r. fields_of r.now) next.entry) }
+{
+    is_leg(kind) && ends_plan(row, next)
+}
+
 /// Whether the row breaks the order of persons, plans and elements.
 pub fn is_out_of_order(
     before: Option<&ByteRecord>,
@@ -120,17 +141,11 @@ pub fn is_out_of_order(
 ) -> bool
     ensures { result ≡ is_out_of_order (option_map (λ r. fields_of r.now) before.entry) kind (fields_of row.now) (option_map (λ r. fields_of r.now) next.entry) }
 {
-    if !is_act(kind) && !is_leg(kind) {
-        return true;
-    }
-    if starts_late(before, row) || jumps(before, row) {
-        return true;
-    }
-    if begins_plan(before, row) && is_leg(kind) {
-        return true;
-    }
-    if repeats(before, kind, row) || follows_endless(before, kind, row) {
-        return true;
-    }
-    is_leg(kind) && ends_plan(row, next)
+    is_neither(kind)
+        || starts_late(before, row)
+        || jumps(before, row)
+        || begins_with_leg(before, kind, row)
+        || repeats(before, kind, row)
+        || follows_endless(before, kind, row)
+        || ends_with_leg(kind, row, next)
 }

@@ -1,5 +1,7 @@
-pub mod Splits
-pub mod NamedEvents
-pub mod NamedTrips
 pub mod Reports
-pub mod Longer
+pub mod FirstLong
+pub mod Chosen
+pub mod Answered
+pub mod Worked
+pub mod Alike
+mod Lawful

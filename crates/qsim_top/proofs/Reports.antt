@@ -1,5 +1,5 @@
 -- A refusal writes to the report alone.
-use Rattle.std.proofs.Common.{◌≡◌, ◌≢◌, ℕ, Bool, true, false, cond, ◌&&◌, List, [], ◌∷◌, ◌++◌, refl, sym, ◌∙◌, ap, subst, arith}
+use Rattle.std.proofs.Common.{◌≡◌, ◌≢◌, ℕ, Bool, true, false, cond, ◌&&◌, List, [], ◌∷◌, ◌++◌, refl, ◌∙◌, ap, subst, arith}
 use Rattle.std.specs.Io.KnownBytes.{Appends}
 use Rattle.std.specs.List.{list_all}
 use Rattle.edge_files.specs.declared.files.OutFile.{OutFile}
@@ -7,7 +7,7 @@ use Rattle.edge_files.specs.declared.files.OutFile.TheVariants as out
 use Rattle.edge_files.specs.declared.effects.Effect.{Effect}
 use Rattle.edge_files.specs.declared.effects.Effect.TheVariants as effect
 use Rattle.edge_files.specs.Effects.{steps_of, all_steps}
-use Rattle.edge_files.specs.World.{World, Written, Step, Byte, byte_steps, bytes_of, is_same, Does}
+use Rattle.edge_files.specs.World.{World, byte_steps, bytes_of, is_same, Does}
 use Rattle.edge_files.proofs.Written.{bytes_of-append}
 use Rattle.qsim_top.specs.Answer.{is_report, OnlyReports}
 

@@ -1,65 +1,68 @@
 -- What a run answers and does outside.
-use Rattle.std.specs.Prelude.{◌≡◌, ◌≢◌, ℕ, Bool, true, false, if◌then◌else◌, bytes_eq, codes, List, [], ◌∷◌, Option, None, Some, Result, Ok, Err}
-use Rattle.edge_files.specs.declared.files.InFile.TheVariants as file
+use Rattle.std.specs.Prelude.{◌≡◌, ◌≢◌, ℕ, Bool, true, false, codes, List, [], ◌∷◌, Option, None, Some, Result, Ok, Err}
 use Rattle.std.specs.List.{list_all}
 use Rattle.std.specs.Io.KnownBytes.{Appends}
 use Rattle.edge_files.specs.declared.files.OutFile.{OutFile}
 use Rattle.edge_files.specs.declared.files.OutFile.TheVariants as out
 use Rattle.edge_files.specs.declared.effects.Effect.{Effect}
 use Rattle.edge_files.specs.declared.effects.Effect.TheVariants as effect
-use Rattle.edge_files.specs.declared.reasons.RowFault.{RowFault}
 use Rattle.edge_files.specs.Effects.{all_steps, has_save}
+use Rattle.edge_files.specs.Inputs.{Left}
 use Rattle.edge_files.specs.World.{World, Written, is_same, Does, DoesPart}
 use Rattle.events.specs.declared.event.Event.{Event}
 use Rattle.events.specs.declared.event.Book.{Book}
-use Rattle.plans.specs.Walkers.{Walkers, walkers_of}
+use Rattle.traffic.specs.Setup.{Setup}
+use Rattle.traffic.specs.Day.{day}
+use Rattle.town.specs.Setups.{setup_of}
+use Rattle.scenario.specs.declared.faults.ScenarioFault.{ScenarioFault}
+use Rattle.scenario.specs.declared.faults.Stop.{Stop}
+use Rattle.scenario.specs.declared.faults.Stop.TheVariants as stop
+use Rattle.scenario.specs.declared.scenario.Scenario.{Scenario}
+use Rattle.scenario.specs.Views.{scenario_view}
+use Rattle.scenario.specs.Texts.{Texts}
+use Rattle.scenario.specs.Given.{ScenarioRows, scenario_fault, scenario_rows}
+use Rattle.scenario.specs.Fitting.{first_plans}
+use Rattle.words.specs.declared.commands.Command.{Command}
+use Rattle.words.specs.declared.commands.Command.TheVariants as command
+use Rattle.words.specs.Cases.{Case, Work, Help, Refused}
 use Rattle.qsim_top.specs.declared.answers.Answer.{Answer}
 use Rattle.qsim_top.specs.declared.answers.Status.{Status}
 use Rattle.qsim_top.specs.declared.answers.Status.TheVariants as status
-use Rattle.qsim_top.specs.Day.{all_trips, day, end_second}
-use Rattle.qsim_top.specs.Texts.{events_text, iteration_line, refused_line}
+use Rattle.qsim_top.specs.Contents.{Contents, AreLeft, texts_in}
+use Rattle.qsim_top.specs.Texts.{events_text, iteration_line, refused_line, valid_line}
 
--- the words are the program's name and `run`
-unfoldable pub are_words : List (List ℕ) → Bool
-are_words [] = false
-are_words (program ∷ []) = false
-are_words (program ∷ command ∷ []) = bytes_eq command (codes "run")
-are_words (program ∷ command ∷ word ∷ words) = false
+-- a text goes to the report, and nothing else is done
+abbrev pub report : Status → List ℕ → Answer
+report status text = record { status = status; effects = effect.Write out.Report text ∷ [] }
 
--- other words are told how the program is used
-abbrev pub usage : Answer
-usage = record { status = status.Usage; effects = effect.Write out.Report (codes "usage: qsim run\n") ∷ [] }
+-- the setup of the day on which each person follows the first plan
+abbrev pub first_day : ScenarioRows → Setup
+first_day S = setup_of S.town (first_plans S.plans) 0
 
--- a scenario with a fault is refused by its first one
-abbrev pub refused : RowFault → Answer
-refused fault = record { status = status.Refused; effects = effect.Write out.Report (refused_line file.Plans fault) ∷ [] }
+-- the events of that day
+unfoldable pub events_of : ScenarioRows → List Event
+events_of S = day (first_day S)
 
--- the names of walkers; no stop, line or departure has one
-abbrev pub book_of : Walkers → Book
-book_of walkers = record { persons = walkers.persons; links = walkers.links; kinds = walkers.kinds; stops = []; lines = []; departures = [] }
-
--- the events of the walkers' day
-unfoldable pub events_of : Walkers → List Event
-events_of walkers = day end_second (all_trips walkers.plans 0)
-
--- a valid scenario is run: the day's events, the report of its one iteration, and the end
+-- a day is written: its events, the report of its one iteration, and the end
 abbrev pub done_with : List Event → Book → Answer
 done_with events book = record {
   status = status.Done;
   effects = effect.Write out.Events (events_text events book) ∷ effect.Write out.Report (iteration_line events) ∷ effect.Write out.Report (codes "done,0\n") ∷ [];
 }
 
-abbrev pub answer_to : Result Walkers RowFault → Answer
-answer_to (Ok walkers) = done_with (events_of walkers) (book_of walkers)
-answer_to (Err fault) = refused fault
+-- the work of a command on a valid scenario: the day, or its counts
+abbrev pub work : Command → ScenarioRows → Answer
+work command.Run S = done_with (events_of S) S.town.book
+work command.Check S = report status.Done (valid_line S)
 
--- the answer to a file of plans
-unfoldable pub file_answer : List ℕ → Answer
-file_answer plans = answer_to (walkers_of plans)
+-- a scenario with a fault is refused by its first one
+abbrev pub work_or_refusal : Command → Option ScenarioFault → ScenarioRows → Answer
+work_or_refusal c None S = work c S
+work_or_refusal c (Some fault) S = report status.Refused (refused_line fault)
 
--- the answer to words and a file of plans
-abbrev pub answer : List (List ℕ) → List ℕ → Answer
-answer words plans = if are_words words then file_answer plans else usage
+-- the answer of a command to files
+unfoldable pub answer : Command → Texts → Answer
+answer c texts = work_or_refusal c (scenario_fault texts) (scenario_rows texts)
 
 -- With a status of an answer all its effects were done, in order and nothing else; with any other a front of their steps.
 -- A failed read comes before all of them.
@@ -75,10 +78,26 @@ Answers a status.WriteFault old new = DoesPart old new (all_steps a.effects)
 Answers a status.NoMemory old new = DoesPart old new (all_steps a.effects)
 Answers a status.KeepFault old new = DoesPart old new (all_steps a.effects)
 
--- the answer is tied to the file's bytes where they are told; refused words are answered whatever it holds
-abbrev pub AnswersTold : List (List ℕ) → Option (List ℕ) → Status → World → World → Type 0
-AnswersTold words None status old new = are_words words ≡ false → Answers usage status old new
-AnswersTold words (Some plans) status old new = Answers (answer words plans) status old new
+-- the statuses with which the work of a command may end: the usage is told of refused words alone, and no command of the program goes on from
+-- what is kept or looks for a way
+abbrev pub is_of_work : Status → Bool
+is_of_work status.Done = true
+is_of_work status.Usage = false
+is_of_work status.Refused = true
+is_of_work status.NothingKept = false
+is_of_work status.Foreign = false
+is_of_work status.NoWay = false
+is_of_work status.ReadFault = true
+is_of_work status.WriteFault = true
+is_of_work status.NoMemory = true
+is_of_work status.KeepFault = true
+
+-- What came of words is tied to the files' bytes where all of them are told. Help and refused words are told some text of the program's
+-- own, whatever the files hold; and only refused words have the usage told.
+abbrev pub AnswersCase : Case → Left → Status → World → World → Type 0
+AnswersCase (Work c) left came old new = ((contents : Contents) → AreLeft left contents → Answers (answer c (texts_in contents)) came old new) × (is_of_work came ≡ true)
+AnswersCase Help left came old new = (text : List ℕ) × Answers (report status.Done text) came old new
+AnswersCase Refused left came old new = (text : List ℕ) × Answers (report status.Usage text) came old new
 
 -- the statuses of an answer, which say that all its effects were done
 abbrev pub is_whole : Status → Bool
@@ -93,6 +112,12 @@ is_whole status.WriteFault = false
 is_whole status.NoMemory = false
 is_whole status.KeepFault = false
 
+-- the statuses with which the words alone are answered: help was asked for, or they are refused
+abbrev pub is_of_words : Status → Bool
+is_of_words status.Done = true
+is_of_words status.Usage = true
+is_of_words _ = false
+
 -- an effect that writes to the report
 abbrev pub is_report : Effect → Bool
 is_report (effect.Write file text) = is_same file out.Report
@@ -103,6 +128,23 @@ pub record IsSound (a : Answer) : Type 0 where
   pub whole : is_whole a.status ≡ true
   pub kept : has_save a.effects ≡ false
   pub refusal : a.status ≡ status.Refused → list_all is_report a.effects ≡ true
+
+-- it is this answer, which is sound and is one of work
+pub record IsAnswer (told a : Answer) : Type 0 where
+  pub same : a ≡ told
+  pub sound : IsSound a
+  pub of_work : is_of_work a.status ≡ true
+
+-- what was read of a scenario: its rows, or why there are none
+abbrev pub result_view : Result Scenario Stop → Result ScenarioRows Stop
+result_view (Ok scenario) = Ok (scenario_view scenario)
+result_view (Err why) = Err why
+
+-- the answer to it; want of memory has none
+abbrev pub AnswersRead : Command → Result ScenarioRows Stop → Answer → Type 0
+AnswersRead c (Ok S) a = IsAnswer (work c S) a
+AnswersRead c (Err (stop.Fault fault)) a = IsAnswer (report status.Refused (refused_line fault)) a
+AnswersRead c (Err stop.NoMemory) a = ⊥
 
 -- no file but the report has grown, where that is told
 abbrev pub OnlyReports : Written → Written → Type 0

@@ -1,4 +1,5 @@
-pub mod Day
+pub mod Contents
 pub mod Texts
 pub mod Answer
-pub mod Books
+pub mod Packing
+pub mod Laws

@@ -1,15 +1,15 @@
 -- What a run writes.
-use Rattle.std.specs.Prelude.{ℕ, Bool, true, false, codes, decimal, List, [], ◌++◌, length}
+use Rattle.std.specs.Prelude.{ℕ, Bool, true, false, codes, decimal, List, ◌++◌, length}
 use Rattle.std.specs.List.{count_by}
 use Rattle.events.specs.declared.event.Event.{Event}
 use Rattle.events.specs.declared.event.Book.{Book}
 use Rattle.events.specs.declared.event.Word.{Word}
 use Rattle.events.specs.declared.event.Word.TheVariants as word
 use Rattle.events.specs.Lines.{event_lines}
-use Rattle.edge_files.specs.declared.files.InFile.{InFile}
-use Rattle.edge_files.specs.declared.reasons.RowFault.{RowFault}
 use Rattle.edge_files.specs.Files.{in_file_name}
 use Rattle.edge_files.specs.Reasons.{reason_number, reason_name}
+use Rattle.scenario.specs.declared.faults.ScenarioFault.{ScenarioFault}
+use Rattle.scenario.specs.Given.{ScenarioRows}
 
 -- the events of iteration 0: a line that says so, and a line for each event
 unfoldable pub events_text : List Event → Book → List ℕ
@@ -43,7 +43,13 @@ unfoldable pub iteration_line : List Event → List ℕ
 iteration_line events = codes "iteration,0," ++ decimal (length events) ++ codes "," ++ decimal (stuck_count events) ++ codes ",0\n"
 
 -- the report of a refused scenario: the file, the row, and the reason by number and name
-unfoldable pub refused_line : InFile → RowFault → List ℕ
-refused_line file fault =
-    codes "refused," ++ in_file_name file ++ codes "," ++ decimal fault.row ++ codes "," ++ decimal (reason_number fault.reason)
+unfoldable pub refused_line : ScenarioFault → List ℕ
+refused_line fault =
+    codes "refused," ++ in_file_name fault.file ++ codes "," ++ decimal fault.row ++ codes "," ++ decimal (reason_number fault.reason)
     ++ codes "," ++ reason_name fault.reason ++ codes "\n"
+
+-- the report of a valid scenario: how many nodes, links, persons, stops, routes and departures it has
+unfoldable pub valid_line : ScenarioRows → List ℕ
+valid_line S =
+    codes "valid," ++ decimal (length S.town.nodes) ++ codes "," ++ decimal (length S.town.links) ++ codes "," ++ decimal (length S.town.book.persons)
+    ++ codes "," ++ decimal (length S.town.stops) ++ codes "," ++ decimal (length S.town.routes) ++ codes "," ++ decimal (length S.town.departures) ++ codes "\n"

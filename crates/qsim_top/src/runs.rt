@@ -1,24 +1,25 @@
-ghost use Rattle.std.specs.Prelude.{◌≡◌, ◌<◌, ◌^◌, length, true, Ok, IfOk};
+//! The answers of the commands.
+
+ghost use Rattle.std.specs.Prelude.{◌≡◌, length, true, IfOk};
 ghost use Rattle.edge_files.specs.declared.effects.Effect.TheVariants as effect;
-ghost use Rattle.edge_files.specs.declared.files.OutFile.TheVariants as out;
 ghost use Rattle.events.specs.Lines.{AreInBook};
 ghost use Rattle.plans.specs.Parts.{all_parts};
-ghost use Rattle.plans.specs.Views.{IsKnown, walkers_in};
-ghost use Rattle.qsim_top.specs.Day.{all_trips, day, end_second};
-ghost use Rattle.qsim_top.specs.Books.{are_named};
-ghost use Rattle.qsim_top.specs.Answer.{usage, refused, done_with, events_of, book_of, answer_to, file_answer, IsSound};
+ghost use Rattle.town.specs.Views.{rows_of};
+ghost use Rattle.scenario.specs.Fitting.{all_fit};
+ghost use Rattle.scenario.specs.Views.{texts_of, scenario_view};
+ghost use Rattle.qsim_top.specs.Texts.{refused_line, valid_line};
+ghost use Rattle.qsim_top.specs.Answer.{report, events_of, done_with, work, answer, is_whole, IsSound, IsAnswer, AnswersRead, result_view};
 
 use crate::answers::{Answer, Status};
-use crate::days::day;
-use crate::texts::{events_text, iteration_line, refused_line};
-use crate::trips::{Trip, all_trips};
-use edge_files::{Bytes, Effect, EffectList, InFile, OutFile, Reason, RowFault, RowStop};
-use events::{Book, Event, Names};
-use plans::{PlanFile, read_walkers};
+use crate::texts::{events_text, iteration_line, refused_line, valid_line};
+use edge_files::{Bytes, Effect, EffectList, OutFile};
+use events::{Book, Event};
+use plain_day::plain_day;
+use plans::PlanLists;
+use scenario::{Files, Scenario, ScenarioFault, Stop, assemble, chosen_plans};
 use std::alloc::{AllocError, Global};
-
-/// The day's last second, at which nothing is done any more but the end of the day.
-const END: u32 = 108_000;
+use town::Town;
+use words::Command;
 
 fn write(file: OutFile, text: Vec<u8>) -> Effect
     ensures { result ≡ effect.Write file text.items }
@@ -29,76 +30,33 @@ fn write(file: OutFile, text: Vec<u8>) -> Effect
     }
 }
 
-/// Other words are told how the program is used.
-pub fn usage(alloc: Global) -> Result<Answer, AllocError>
-    ensures answer { IfOk result (λ a. a ≡ usage) }
+/// A text goes to the report, and nothing else is done.
+pub fn report(alloc: Global, status: Status, text: Vec<u8>) -> Result<Answer, AllocError>
+    requires { is_whole status ≡ true }
+    ensures answer { IfOk result (λ a. a ≡ report status text.items) }
     ensures sound { IfOk result IsSound }
 {
     let mut effects = Vec::new(alloc);
-    let text = Vec::from_slice(alloc, b"usage: qsim run\n")?;
     effects.push(write(OutFile::Report, text))?;
     Ok(Answer {
-        status: Status::Usage,
+        status,
         effects: EffectList { rows: effects },
     })
 }
 
 /// A scenario with a fault is refused by its first one.
-fn refused(alloc: Global, fault: RowFault) -> Result<Answer, AllocError>
-    ensures answer { IfOk result (λ a. a ≡ refused fault) }
-    ensures sound { IfOk result IsSound }
+fn refused(alloc: Global, fault: ScenarioFault) -> Result<Answer, AllocError>
+    ensures { IfOk result (IsAnswer (report Status.Refused (refused_line fault))) }
 {
-    let mut effects = Vec::new(alloc);
-    let text = refused_line(alloc, InFile::Plans, fault)?;
-    effects.push(write(OutFile::Report, text))?;
-    Ok(Answer {
-        status: Status::Refused,
-        effects: EffectList { rows: effects },
-    })
-}
-
-/// The answer to a file of plans that has too many bytes to be read.
-pub fn too_long(alloc: Global) -> Result<Answer, AllocError>
-    ensures answer { IfOk result (λ a. a ≡ refused (record { row = 0; reason = Reason.TooLong })) }
-    ensures sound { IfOk result IsSound }
-{
-    refused(
-        alloc,
-        RowFault {
-            row: 0,
-            reason: Reason::TooLong,
-        },
-    )
-}
-
-/// The trips of all walkers.
-fn trips_of(alloc: Global, links: &Names, file: &PlanFile) -> Result<Vec<Trip>, AllocError>
-    requires { IsKnown links.now file.now }
-    ensures trips { IfOk result (λ trips. trips.items ≡ all_trips (all_parts file.now.plans) 0) }
-    ensures named { IfOk result (λ trips. are_named (length file.now.persons) (length file.now.kinds) (length links.now) trips.items ≡ true) }
-{
-    let _count = file.persons.len();
-    let trips = all_trips(alloc, &file.plans)?;
-    Ok(trips)
-}
-
-/// The events of the walkers' day.
-#[tactic(auto, unfolding(crate::specs::Answer::events_of))]
-fn events_of(alloc: Global, links: &Names, file: &PlanFile) -> Result<Vec<Event>, AllocError>
-    requires { IsKnown links.now file.now }
-    ensures events { IfOk result (λ events. events.items ≡ events_of (walkers_in links.now file.now)) }
-    ensures named { IfOk result (λ events. AreInBook events.items (book_of (walkers_in links.now file.now))) }
-{
-    let trips = trips_of(alloc, links, file)?;
-    let events = day(alloc, END, &trips)?;
-    Ok(events)
+    let line = refused_line(alloc, fault)?;
+    let answer = report(alloc, Status::Refused, line)?;
+    Ok(answer)
 }
 
 /// What is written of a day: its events, the report of the iteration, and the end.
 fn done_with(alloc: Global, events: &[Event], book: &Book) -> Result<Answer, AllocError>
     requires { AreInBook events.now book.now }
-    ensures answer { IfOk result (λ a. a ≡ done_with events.now book.now) }
-    ensures sound { IfOk result IsSound }
+    ensures { IfOk result (IsAnswer (done_with events.now book.now)) }
 {
     let mut effects = Vec::new(alloc);
     let text = events_text(alloc, events, book)?;
@@ -113,42 +71,94 @@ fn done_with(alloc: Global, events: &[Event], book: &Book) -> Result<Answer, All
     })
 }
 
-/// The names of walkers; no stop, line or departure has one.
-fn book_of(alloc: Global, links: Names, file: PlanFile) -> Book
-    ensures { result ≡ book_of (walkers_in links file) }
+/// The events of the day on which each person follows the first plan.
+#[tactic(auto, unfolding(crate::specs::Answer::events_of))]
+fn events_of(alloc: Global, town: &Town, plans: PlanLists) -> Result<Vec<Event>, AllocError>
+    requires each { length plans ≡ length town.now.book.persons }
+    requires fit { all_fit (rows_of town.now) (all_parts plans) ≡ true }
+    ensures events { IfOk result (λ events. events.items ≡ events_of (record { town = rows_of town.now; plans = all_parts plans })) }
+    ensures named { IfOk result (λ events. AreInBook events.items town.now.book) }
 {
-    let PlanFile { persons, kinds, .. } = file;
-    Book {
-        persons,
-        links,
-        kinds,
-        stops: Names::new(alloc),
-        lines: Names::new(alloc),
-        departures: Names::new(alloc),
-    }
+    let chosen = chosen_plans(alloc, plans)?;
+    let events = plain_day(alloc, town, &chosen, 0)?;
+    Ok(events)
 }
 
-/// The answer to the plans of walkers: their day.
-fn walkers_answer(alloc: Global, links: Names, file: PlanFile) -> Result<Answer, AllocError>
-    requires { IsKnown links file }
-    ensures answer { IfOk result (λ a. a ≡ answer_to (Ok (walkers_in links file))) }
-    ensures sound { IfOk result IsSound }
+/// The day of a town and its plans, written.
+fn day_answer(alloc: Global, town: &Town, plans: PlanLists) -> Result<Answer, AllocError>
+    requires each { length plans ≡ length town.now.book.persons }
+    requires fit { all_fit (rows_of town.now) (all_parts plans) ≡ true }
+    ensures { IfOk result (IsAnswer (done_with (events_of (record { town = rows_of town.now; plans = all_parts plans })) town.now.book)) }
 {
-    let events = events_of(alloc, &links, &file)?;
-    let book = book_of(alloc, links, file);
-    let answer = done_with(alloc, &events, &book)?;
+    let events = events_of(alloc, town, plans)?;
+    let answer = done_with(alloc, &events, &town.book)?;
     Ok(answer)
 }
 
-/// The answer to a file of plans.
-#[tactic(auto, unfolding(crate::specs::Answer::file_answer))]
-pub fn file_answer(alloc: Global, bytes: &[u8]) -> Result<Answer, AllocError>
-    ensures answer { IfOk result (λ a. a ≡ file_answer bytes.now) }
-    ensures sound { IfOk result IsSound }
+/// Lets a town go.
+fn let_go(_town: Town) {}
+
+/// The day of a scenario, written.
+fn run(alloc: Global, scenario: Scenario) -> Result<Answer, AllocError>
+    ensures { IfOk result (IsAnswer (work Command.Run (scenario_view scenario))) }
 {
-    match read_walkers(alloc, bytes) {
-        Ok((links, file)) => walkers_answer(alloc, links, file),
-        Err(RowStop::Fault(fault)) => refused(alloc, fault),
-        Err(RowStop::NoMemory) => Err(AllocError),
+    let Scenario { town, plans } = scenario;
+    let answer = day_answer(alloc, &town, plans);
+    let_go(town);
+    answer
+}
+
+/// The counts of a scenario.
+fn counts(alloc: Global, scenario: &Scenario) -> Result<Answer, AllocError>
+    ensures { IfOk result (IsAnswer (work Command.Check (scenario_view scenario.now))) }
+{
+    let line = valid_line(alloc, scenario)?;
+    let answer = report(alloc, Status::Done, line)?;
+    Ok(answer)
+}
+
+/// Lets a scenario go.
+fn let_scenario_go(_scenario: Scenario) {}
+
+/// The counts of a scenario, which is let go.
+fn check(alloc: Global, scenario: Scenario) -> Result<Answer, AllocError>
+    ensures { IfOk result (IsAnswer (work Command.Check (scenario_view scenario))) }
+{
+    let answer = counts(alloc, &scenario);
+    let_scenario_go(scenario);
+    answer
+}
+
+/// The work of a command on a valid scenario.
+fn work(alloc: Global, command: Command, scenario: Scenario) -> Result<Answer, AllocError>
+    ensures { IfOk result (IsAnswer (work command (scenario_view scenario))) }
+{
+    match command {
+        Command::Run => run(alloc, scenario),
+        Command::Check => check(alloc, scenario),
     }
+}
+
+/// The work of a command on what was read, or the refusal.
+fn work_or_refusal(
+    alloc: Global,
+    command: Command,
+    read: Result<Scenario, Stop>,
+) -> Result<Answer, AllocError>
+    ensures { IfOk result (AnswersRead command (result_view read)) }
+{
+    match read {
+        Ok(scenario) => work(alloc, command, scenario),
+        Err(Stop::Fault(fault)) => refused(alloc, fault),
+        Err(Stop::NoMemory) => Err(AllocError),
+    }
+}
+
+/// The answer of a command to files.
+pub fn answer(alloc: Global, command: Command, files: Files) -> Result<Answer, AllocError>
+    ensures { IfOk result (IsAnswer (answer command (texts_of files))) }
+{
+    let read = assemble(alloc, files);
+    let answer = work_or_refusal(alloc, command, read)?;
+    Ok(answer)
 }

@@ -1,10 +1,11 @@
 ghost use Rattle.std.specs.Prelude.{◌≡◌, ◌++◌, length, decimal, codes, OnOk, IfOk};
 ghost use Rattle.events.specs.Lines.{AreInBook};
-ghost use Rattle.qsim_top.specs.Texts.{events_text, is_stuck, stuck_count, iteration_line, refused_line};
+ghost use Rattle.scenario.specs.Views.{scenario_view};
+ghost use Rattle.qsim_top.specs.Texts.{events_text, is_stuck, stuck_count, iteration_line, refused_line, valid_line};
 
-use edge_files::{InFile, RowFault};
 use events::{Book, Event, Word, lines};
 use itoa::Buffer;
+use scenario::{Scenario, ScenarioFault};
 use std::alloc::{AllocError, Global};
 
 fn push_number(number: u64, out: &mut Vec<u8>) -> Result<(), AllocError>
@@ -52,17 +53,43 @@ pub fn iteration_line(alloc: Global, events: &[Event]) -> Result<Vec<u8>, AllocE
 
 /// The report of a refused scenario.
 #[tactic(auto, unfolding(crate::specs::Texts::refused_line))]
-pub fn refused_line(alloc: Global, file: InFile, fault: RowFault) -> Result<Vec<u8>, AllocError>
-    ensures { IfOk result (λ line. line.items ≡ refused_line file fault) }
+pub fn refused_line(alloc: Global, fault: ScenarioFault) -> Result<Vec<u8>, AllocError>
+    ensures { IfOk result (λ line. line.items ≡ refused_line fault) }
 {
     let mut line = Vec::from_slice(alloc, b"refused,")?;
-    line.extend_from_slice(file.name().as_bytes())?;
+    line.extend_from_slice(fault.file.name().as_bytes())?;
     line.extend_from_slice(b",")?;
     push_number(u64::from(fault.row), &mut line)?;
     line.extend_from_slice(b",")?;
     push_number(u64::from(fault.reason.number()), &mut line)?;
     line.extend_from_slice(b",")?;
     line.extend_from_slice(fault.reason.name().as_bytes())?;
+    line.extend_from_slice(b"\n")?;
+    Ok(line)
+}
+
+/// Appends a number and a comma.
+fn push_field(number: usize, out: &mut Vec<u8>) -> Result<(), AllocError>
+    ensures { OnOk result (out.new.items ≡ out.old.items ++ decimal number ++ codes ",") }
+{
+    push_number(number as u64, out)?;
+    out.extend_from_slice(b",")?;
+    Ok(())
+}
+
+/// The report of a valid scenario.
+#[tactic(auto, unfolding(crate::specs::Texts::valid_line))]
+pub fn valid_line(alloc: Global, scenario: &Scenario) -> Result<Vec<u8>, AllocError>
+    ensures { IfOk result (λ line. line.items ≡ valid_line (scenario_view scenario.now)) }
+{
+    let mut line = Vec::from_slice(alloc, b"valid,")?;
+    let town = &scenario.town;
+    push_field(town.network.nodes.len(), &mut line)?;
+    push_field(town.network.links.len(), &mut line)?;
+    push_field(town.book.persons.len() as usize, &mut line)?;
+    push_field(town.stops.rows.len(), &mut line)?;
+    push_field(town.routes.rows.len(), &mut line)?;
+    push_number(town.departures.rows.len() as u64, &mut line)?;
     line.extend_from_slice(b"\n")?;
     Ok(line)
 }

@@ -1,31 +1,21 @@
-ghost use Rattle.std.specs.Prelude.{◌≡◌, ◌≤◌, map, Err, IfOk, IfSome, string_bytes};
+ghost use Rattle.std.specs.Prelude.{◌≡◌, ◌≤◌, map, true, Err, IfOk, string_bytes};
 ghost use Rattle.edge_files.specs.Causes.{Rose};
 ghost use Rattle.edge_files.specs.World.{outside};
-ghost use Rattle.edge_files.specs.declared.files.InFile.TheVariants as file;
-ghost use Rattle.qsim_top.specs.Answer.{are_words, file_answer, IsSound, Answers, AnswersTold, OnlyReports};
+ghost use Rattle.words.specs.Cases.{case_of, Work};
+ghost use Rattle.qsim_top.specs.Contents.{Contents, AreLeft, texts_in};
+ghost use Rattle.scenario.specs.Given.{ScenarioRows};
+ghost use Rattle.qsim_top.specs.Laws.{IsLawful};
+ghost use Rattle.qsim_top.specs.Answer.{first_day, answer, report, is_of_words, is_of_work, IsSound, Answers, AnswersCase, OnlyReports};
 
 use crate::answers::{Answer, Status};
-use crate::runs::{file_answer, too_long, usage};
-use edge_files::{
-    EffectStop, Gate, InFile, Inputs, Keeper, Outputs, ReadStop, perform, read_whole,
-};
-use std::alloc::Global;
+use crate::laws::know_days;
+use crate::reading::{Unread, read_files};
+use crate::runs::{answer, report};
+use edge_files::{EffectStop, Gate, Inputs, Keeper, Outputs, perform};
+use std::alloc::{AllocError, Global};
 use std::sync::Wait;
 use std::thread::Threads;
-
-/// How many bytes a file may have.
-const MAX_BYTES: u64 = 1 << 28;
-
-/// Whether the words are the program's name and `run`.
-#[tactic(auto, unfolding(crate::specs::Answer::are_words))]
-fn are_words(words: &[String]) -> bool
-    ensures { result ≡ are_words (map string_bytes words.now) }
-{
-    match words {
-        [_, command] => command.as_str() == "run",
-        _ => false,
-    }
-}
+use words::{Asked, Command, read_words};
 
 /// Does what an answer says outside.
 fn carry_out<O: Outputs, K: Keeper>(outputs: &mut O, keeper: &mut K, answer: Answer) -> Status
@@ -49,36 +39,81 @@ fn carry_out<O: Outputs, K: Keeper>(outputs: &mut O, keeper: &mut K, answer: Ans
     }
 }
 
-/// Why the files have no answer.
-enum Unread {
-    Failed,
-    NoMemory,
-}
-
-/// Reads the plans and finds their answer.
-fn answer_to_inputs<I: Inputs>(alloc: Global, inputs: &mut I) -> Result<Answer, Unread>
-    ensures answer { IfOk result (λ a. IfSome (I.left inputs.old file.Plans) (λ plans. a ≡ file_answer plans)) }
+/// Reads the files and finds a command's answer.
+fn answer_to_inputs<I: Inputs>(
+    alloc: Global,
+    command: Command,
+    inputs: &mut I,
+) -> Result<Answer, Unread>
+    ensures answer { IfOk result (λ a. (contents : Contents) → AreLeft (I.left inputs.old) contents → a ≡ answer command (texts_in contents)) }
     ensures sound { IfOk result IsSound }
+    ensures of_work { IfOk result (λ a. is_of_work a.status ≡ true) }
     ensures read { result ≡ Err Unread.Failed → Rose (I.faults inputs.old) (I.faults inputs.new) }
     ensures later { I.faults inputs.old ≤ I.faults inputs.new }
 {
-    match read_whole(alloc, inputs, InFile::Plans, MAX_BYTES) {
-        Ok(bytes) => match file_answer(alloc, &bytes) {
-            Ok(answer) => Ok(answer),
-            Err(_) => Err(Unread::NoMemory),
-        },
-        Err(ReadStop::TooLong) => match too_long(alloc) {
-            Ok(answer) => Ok(answer),
-            Err(_) => Err(Unread::NoMemory),
-        },
-        Err(ReadStop::Failed) => Err(Unread::Failed),
-        Err(ReadStop::NoMemory) => Err(Unread::NoMemory),
+    let files = read_files(alloc, inputs)?;
+    match answer(alloc, command, files) {
+        Ok(answer) => Ok(answer),
+        Err(AllocError) => Err(Unread::NoMemory),
     }
 }
 
-/// Runs the day of walkers: `qsim run` on a plans.csv whose legs are all `walk`, `bike` or `ride`.
+/// Does the work of a command: all files are read before any of them is checked.
+#[tactic(auto, using(crate::proofs::Worked::came_of_work))]
+fn do_work<I: Inputs, O: Outputs, K: Keeper>(
+    alloc: Global,
+    command: Command,
+    inputs: &mut I,
+    outputs: &mut O,
+    keeper: &mut K,
+) -> Status
+    ensures acts { AnswersCase (Work command) (I.left inputs.old) result
+        (outside (O.written outputs.old) (K.kept keeper.old))
+        (outside (O.written outputs.new) (K.kept keeper.new)) }
+    ensures read { result ≡ Status.ReadFault → Rose (I.faults inputs.old) (I.faults inputs.new) }
+    ensures write { result ≡ Status.WriteFault → Rose (O.faults outputs.old) (O.faults outputs.new) }
+    ensures kept { result ≡ Status.KeepFault → ⊥ }
+    ensures reports { result ≡ Status.Refused → OnlyReports (O.written outputs.old) (O.written outputs.new) }
+    ensures read_later { I.faults inputs.old ≤ I.faults inputs.new }
+    ensures write_later { O.faults outputs.old ≤ O.faults outputs.new }
+    ensures keeper { keeper.new ≡ keeper.old }
+{
+    match answer_to_inputs(alloc, command, inputs) {
+        Ok(answer) => carry_out(outputs, keeper, answer),
+        Err(Unread::Failed) => Status::ReadFault,
+        Err(Unread::NoMemory) => Status::NoMemory,
+    }
+}
+
+/// Tells a text of the program's own.
+fn tell<O: Outputs, K: Keeper>(
+    alloc: Global,
+    status: Status,
+    text: String,
+    outputs: &mut O,
+    keeper: &mut K,
+) -> Status
+    requires { is_of_words status ≡ true }
+    ensures acts { Answers (report status (string_bytes text)) result
+        (outside (O.written outputs.old) (K.kept keeper.old))
+        (outside (O.written outputs.new) (K.kept keeper.new)) }
+    ensures read { result ≡ Status.ReadFault → ⊥ }
+    ensures refused { result ≡ Status.Refused → ⊥ }
+    ensures write { result ≡ Status.WriteFault → Rose (O.faults outputs.old) (O.faults outputs.new) }
+    ensures kept { result ≡ Status.KeepFault → ⊥ }
+    ensures later { O.faults outputs.old ≤ O.faults outputs.new }
+    ensures keeper { keeper.new ≡ keeper.old }
+{
+    match report(alloc, status, text.into_bytes()) {
+        Ok(answer) => carry_out(outputs, keeper, answer),
+        Err(AllocError) => Status::NoMemory,
+    }
+}
+
+/// Does what the words ask for: `qsim run` simulates the day of a scenario, `qsim check` reads it
+/// and reports its counts or its first fault.
 ///
-/// The words are read first, then the file, and then all that the answer holds is done outside. The
+/// The words are read first, then all files, and then all that the answer holds is done outside. The
 /// keeper and the gate are not called, and no thread is started.
 pub fn qsim<R: Threads + Wait + Sync, I: Inputs, O: Outputs, K: Keeper, G: Gate>(
     _rt: &R,
@@ -89,7 +124,7 @@ pub fn qsim<R: Threads + Wait + Sync, I: Inputs, O: Outputs, K: Keeper, G: Gate>
     keeper: &mut K,
     _gate: &G,
 ) -> Status
-    ensures acts { AnswersTold (map string_bytes words.now) (I.left inputs.old file.Plans) result
+    ensures acts { AnswersCase (case_of (map string_bytes words.now)) (I.left inputs.old) result
         (outside (O.written outputs.old) (K.kept keeper.old))
         (outside (O.written outputs.new) (K.kept keeper.new)) }
 
@@ -102,16 +137,15 @@ pub fn qsim<R: Threads + Wait + Sync, I: Inputs, O: Outputs, K: Keeper, G: Gate>
     ensures read_later { I.faults inputs.old ≤ I.faults inputs.new }
     ensures write_later { O.faults outputs.old ≤ O.faults outputs.new }
     ensures keeper { keeper.new ≡ keeper.old }
+
+    // Of the day of every scenario.
+    ensures lawful { (scenario : ScenarioRows) → IsLawful (first_day scenario) }
 {
-    if !are_words(words) {
-        return match usage(alloc) {
-            Ok(usage) => carry_out(outputs, keeper, usage),
-            Err(_) => Status::NoMemory,
-        };
-    }
-    match answer_to_inputs(alloc, inputs) {
-        Ok(answer) => carry_out(outputs, keeper, answer),
-        Err(Unread::Failed) => Status::ReadFault,
-        Err(Unread::NoMemory) => Status::NoMemory,
+    know_days();
+    match read_words(alloc, words) {
+        Ok(Asked::Work(command)) => do_work(alloc, command, inputs, outputs, keeper),
+        Ok(Asked::Help(text)) => tell(alloc, Status::Done, text, outputs, keeper),
+        Ok(Asked::Refused(text)) => tell(alloc, Status::Usage, text, outputs, keeper),
+        Err(AllocError) => Status::NoMemory,
     }
 }

@@ -1,4 +1,3 @@
-use Rattle.std.proofs.Common.{sym}
 use Rattle.plans.proofs.Answering.{first_told, first_able, first_done}
 use Rattle.plans.proofs.file.first_row.Goals as goal
 

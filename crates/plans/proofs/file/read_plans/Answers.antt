@@ -1,4 +1,4 @@
-use Rattle.std.proofs.Common.{◌≡◌, ◌∙◌, ℕ, ◌<◌, List, ap, map, length, drop, sym, arith}
+use Rattle.std.proofs.Common.{◌≡◌, ◌∙◌, List, ap, map, length, drop, arith}
 use Rattle.std.proofs.lemmas.List.{length-map}
 use Rattle.csv.specs.declared.record.ByteRecord.{ByteRecord}
 use Rattle.csv.specs.Records.{fields_of}

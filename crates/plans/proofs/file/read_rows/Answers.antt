@@ -1,8 +1,8 @@
 use Rattle.std.proofs.Common.{◌≡◌, ◌∙◌, sym, length, map, arith, subst}
 use Rattle.csv.specs.Records.{fields_of}
 use Rattle.plans.specs.Values.{PlanRows}
-use Rattle.plans.specs.Progress.{IsSound, finish}
-use Rattle.plans.specs.Read.{progress_of, plan_rows_of}
+use Rattle.plans.specs.Progress.{IsSound}
+use Rattle.plans.specs.Read.{progress_of}
 use Rattle.plans.proofs.Answering.{all_read, none_left}
 use Rattle.plans.proofs.FileRead.{last_there, finish_is, finish_sound}
 use Rattle.plans.proofs.file.read_rows.Goals as goal

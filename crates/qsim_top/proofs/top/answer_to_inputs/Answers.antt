@@ -1,7 +1,8 @@
-use Rattle.std.proofs.Common.{refl}
-use Rattle.qsim_top.proofs.Longer.{longer_is_refused}
+use Rattle.scenario.specs.Views.{texts_of}
+use Rattle.qsim_top.specs.Contents.{texts_in}
+use Rattle.qsim_top.proofs.Alike.{answer_of_same}
 use Rattle.qsim_top.proofs.top.answer_to_inputs.Goals as goal
 
-pub returns-in-Ok-too_long-clause-answer : goal.returns-in-Ok-too_long-clause-answer
-returns-in-Ok-too_long-clause-answer g c =
-    longer_is_refused _ _ (c.in-Err-TooLong.ensures.long (rw c.in-Err-TooLong.field-0-is refl)) c.in-Ok-too_long.ensures.answer
+pub returns-in-Ok-clause-answer : goal.returns-in-Ok-clause-answer
+returns-in-Ok-clause-answer g c = λ contents left.
+    answer_of_same c.args.command (texts_of c.in_ok-files.files) (texts_in contents) c.in-Ok.answer c.in-Ok.ensures.same (c.in_ok-files.ensures.files contents left)

@@ -1,0 +1,10 @@
+pub mod LegFits
+pub mod AllFit
+pub mod Renumbered
+pub mod Firsts
+pub mod There
+pub mod Told
+pub mod FilesRead
+pub mod FirstPlans
+pub mod Settling
+pub mod Composed

@@ -1,0 +1,16 @@
+-- Legs with the town's numbers stay legs.
+use Rattle.std.proofs.Common.{◌≡◌, ◌&&◌, List, [], ◌∷◌, map, refl, ap, ◌∙◌}
+use Rattle.std.specs.List.{list_all}
+use Rattle.plans.specs.declared.plan.Leg.{Leg}
+use Rattle.plans.specs.declared.plan.Leg.TheVariants as leg
+use Rattle.plans.specs.Plan.{is_leg}
+use Rattle.scenario.specs.Legs.{Numbers, leg_in_town}
+
+still_leg : (N : Numbers) (l : Leg) → is_leg (leg_in_town N l) ≡ is_leg l
+still_leg N (leg.Car route) = refl
+still_leg N (leg.Teleport mode seconds) = refl
+still_leg N (leg.Transit line access egress) = refl
+
+pub still_legs : (N : Numbers) (legs : List Leg) → list_all is_leg (map (leg_in_town N) legs) ≡ list_all is_leg legs
+still_legs N [] = refl
+still_legs N (leg ∷ legs) = ap (λ b. b && list_all is_leg (map (leg_in_town N) legs)) (still_leg N leg) ∙ ap (λ b. is_leg leg && b) (still_legs N legs)

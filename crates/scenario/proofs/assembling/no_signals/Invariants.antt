@@ -1,0 +1,8 @@
+use Rattle.std.proofs.Common.{◌≡◌}
+use Rattle.std.specs.Prelude.{replicate}
+use Rattle.town.specs.Greens.{always}
+use Rattle.scenario.proofs.assembling.no_signals.Given as goal
+
+-- a signal for each link so far
+abbrev pub invariant-loop : goal.invariant-loop
+invariant-loop l = l.rows.items ≡ replicate l.counter always

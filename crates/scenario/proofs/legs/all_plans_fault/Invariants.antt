@@ -1,0 +1,11 @@
+use Rattle.std.proofs.Common.{◌≡◌, drop}
+use Rattle.plans.specs.Parts.{all_parts}
+use Rattle.scenario.specs.Legs.{all_plans_fault}
+use Rattle.scenario.specs.Ways.{ways_of}
+use Rattle.scenario.proofs.legs.all_plans_fault.Given as goal
+
+-- the first fault of the plans that are left is that of all
+abbrev pub invariant-loop-own : goal.invariant-loop-own
+invariant-loop-own l =
+    all_plans_fault (ways_of l.numbering l.schedule) l.rest (drop l.own-index (all_parts l.plans))
+    ≡ all_plans_fault (ways_of l.numbering l.schedule) l.rows (all_parts l.plans)

@@ -1,0 +1,36 @@
+-- The first fault of the files.
+use Rattle.std.specs.Prelude.{◌≡◌, ℕ, List, Option, None, Some, Result, Ok, Err}
+use Rattle.edge_files.specs.declared.files.InFile.{InFile}
+use Rattle.edge_files.specs.declared.reasons.Reason.TheVariants as reason
+use Rattle.edge_files.specs.declared.reasons.RowFault.{RowFault}
+use Rattle.edge_files.specs.declared.reasons.RowStop.{RowStop}
+use Rattle.edge_files.specs.declared.reasons.RowStop.TheVariants as row_stop
+use Rattle.records.specs.Faults.{fault_at}
+use Rattle.scenario.specs.declared.faults.ScenarioFault.{ScenarioFault}
+use Rattle.scenario.specs.declared.faults.Stop.{Stop}
+use Rattle.scenario.specs.declared.faults.Stop.TheVariants as stop
+
+-- the fault of a file by that of its bytes: one that is too long has this fault alone
+abbrev pub text_fault : (List ℕ → Option RowFault) → Option (List ℕ) → Option RowFault
+text_fault fault None = fault_at 0 (Some reason.TooLong)
+text_fault fault (Some bytes) = fault bytes
+
+-- a fault with its file
+abbrev pub in_file : InFile → Option RowFault → Option ScenarioFault
+in_file file None = None
+in_file file (Some fault) = Some (record { file = file; row = fault.row; reason = fault.reason })
+
+-- why a file was not read, with the file
+abbrev pub stop_in : InFile → RowStop → Stop
+stop_in file (row_stop.Fault fault) = stop.Fault (record { file = file; row = fault.row; reason = fault.reason })
+stop_in file row_stop.NoMemory = stop.NoMemory
+
+-- the stop is this fault; want of memory may come at any time
+abbrev pub StopsAt : Stop → Option ScenarioFault → Type 0
+StopsAt (stop.Fault told) fault = fault ≡ Some told
+StopsAt stop.NoMemory fault = Unit {0}
+
+-- what reading files answers: the view of what was read where they have no fault, and else their first fault
+abbrev pub Tells : {A B : Type 0} → (A → B) → Result A Stop → Option ScenarioFault → B → Type 0
+Tells view (Ok read) fault value = (fault ≡ None) × (view read ≡ value)
+Tells view (Err stop) fault value = StopsAt stop fault

@@ -1,0 +1,221 @@
+ghost use Rattle.std.specs.Prelude.{◌≡◌, ℕ, ◌<◌, ◌+◌, Some, length, map, drop, get_or, IfOk};
+ghost use Rattle.plans.specs.Parts.{parts_of, all_parts};
+ghost use Rattle.town.specs.Fits.{first_link};
+ghost use Rattle.plans.specs.declared.plan.Leg.TheVariants as leg;
+ghost use Rattle.scenario.specs.Legs.{Ways, number_at, leg_reason, legs_fault, plan_fault, plans_fault, all_plans_fault};
+ghost use Rattle.scenario.specs.Ways.{ways_of, AreThere};
+
+use crate::numbers::{Numbering, number_at};
+use crate::timetables::Schedule;
+use edge_files::{Reason, RowFault};
+use events::Route;
+use plans::{Act, Leg, Plan, PlanList};
+use std::alloc::AllocError;
+use town::{wrong_ends, wrong_stops};
+
+/// The reason against a car route between activities on these two links.
+#[tactic(auto, unfolding(crate::specs::Legs::leg_reason))]
+fn drive_reason(here: u32, there: u32, route: &Route) -> Option<Reason>
+    ensures { (W : Ways) → result ≡ leg_reason W here there (leg.Car route.now) }
+{
+    if route.is_empty() {
+        return Some(Reason::NoRoute);
+    }
+    if wrong_ends(here, there, &route.rows) {
+        return Some(Reason::EndWrong);
+    }
+    None
+}
+
+/// The least reason against a ride between activities on these two links.
+#[tactic(auto, unfolding(crate::specs::Legs::leg_reason))]
+fn ride_reason(
+    numbering: &Numbering,
+    schedule: &Schedule,
+    here: u32,
+    there: u32,
+    line: u32,
+    access: u32,
+    egress: u32,
+) -> Option<Reason>
+    requires { AreThere (length schedule.now.routes.lines) (ways_of numbering.now schedule.now) }
+    ensures { result ≡ leg_reason (ways_of numbering.now schedule.now) here there (leg.Transit line access egress) }
+{
+    let Some(line) = number_at(&numbering.lines, line) else {
+        return Some(Reason::Unknown);
+    };
+    let Some(access) = number_at(&numbering.stops, access) else {
+        return Some(Reason::Unknown);
+    };
+    let Some(egress) = number_at(&numbering.stops, egress) else {
+        return Some(Reason::Unknown);
+    };
+    let stops = &schedule.stops.rows.rows;
+    let routes = &schedule.routes.rows.rows;
+    if wrong_stops(stops, routes, here, there, line, access, egress) {
+        return Some(Reason::StopsWrong);
+    }
+    None
+}
+
+/// The least reason against a leg between activities on these two links.
+#[tactic(auto, unfolding(crate::specs::Legs::leg_reason))]
+fn leg_reason(
+    numbering: &Numbering,
+    schedule: &Schedule,
+    here: u32,
+    there: u32,
+    leg: &Leg,
+) -> Option<Reason>
+    requires { AreThere (length schedule.now.routes.lines) (ways_of numbering.now schedule.now) }
+    ensures { result ≡ leg_reason (ways_of numbering.now schedule.now) here there leg.now }
+{
+    match leg {
+        Leg::Car { route } => drive_reason(here, there, route),
+        Leg::Teleport { .. } => None,
+        Leg::Transit {
+            line,
+            access,
+            egress,
+        } => { ride_reason(numbering, schedule, here, there, *line, *access, *egress) }
+    }
+}
+
+/// The link of the first activity.
+fn first_link(acts: &[Act]) -> u32
+    ensures { result ≡ first_link acts.now }
+{
+    match acts {
+        [act, ..] => act.link,
+        [] => 0,
+    }
+}
+
+/// The first fault of the legs of a plan, which stand in every second row from this one on.
+///
+/// A row beyond 2^32, which no file has, is told as want of memory.
+#[tactic(auto, unfolding(crate::specs::Legs::legs_fault))]
+fn legs_fault(
+    numbering: &Numbering,
+    schedule: &Schedule,
+    row: u32,
+    acts: &[Act],
+    legs: &[Leg],
+) -> Result<Option<RowFault>, AllocError>
+    requires { AreThere (length schedule.now.routes.lines) (ways_of numbering.now schedule.now) }
+    ensures { IfOk result (λ fault. fault ≡ legs_fault (ways_of numbering.now schedule.now) row acts.now legs.now) }
+{
+    let [leg, later @ ..] = legs else {
+        return Ok(None);
+    };
+    let [here, rest @ ..] = acts else {
+        return Ok(None);
+    };
+    let there = first_link(rest);
+    if let Some(reason) = leg_reason(numbering, schedule, here.link, there, leg) {
+        return Ok(Some(RowFault { row, reason }));
+    }
+    let Some(next) = row.checked_add(2) else {
+        return Err(AllocError);
+    };
+    legs_fault(numbering, schedule, next, rest, later)
+}
+
+/// The first fault of the legs of a plan that begins in a row.
+#[tactic(auto, unfolding(crate::specs::Legs::plan_fault))]
+fn plan_fault(
+    numbering: &Numbering,
+    schedule: &Schedule,
+    row: u32,
+    plan: &Plan,
+) -> Result<Option<RowFault>, AllocError>
+    requires { AreThere (length schedule.now.routes.lines) (ways_of numbering.now schedule.now) }
+    ensures { IfOk result (λ fault. fault ≡ plan_fault (ways_of numbering.now schedule.now) row (parts_of plan.now)) }
+{
+    let Some(first) = row.checked_add(1) else {
+        return Err(AllocError);
+    };
+    legs_fault(numbering, schedule, first, &plan.acts.rows, &plan.legs.rows)
+}
+
+/// The rows but for the first ones.
+fn behind(rows: &[u32], count: usize) -> &[u32]
+    ensures { result.now ≡ drop count rows.now }
+{
+    if count <= rows.len() {
+        return rows.split_at(count).1;
+    }
+    &[]
+}
+
+/// The first row.
+fn first_row(rows: &[u32]) -> u32
+    ensures { result ≡ get_or rows.now 0 0 }
+{
+    match rows {
+        [row, ..] => *row,
+        [] => 0,
+    }
+}
+
+/// The first fault of the legs of plans, with the rows in which the plans begin.
+#[tactic(auto, unfolding(crate::specs::Legs::plans_fault))]
+fn plans_fault(
+    numbering: &Numbering,
+    schedule: &Schedule,
+    rows: &[u32],
+    plans: &[Plan],
+) -> Result<Option<RowFault>, AllocError>
+    requires { AreThere (length schedule.now.routes.lines) (ways_of numbering.now schedule.now) }
+    ensures { IfOk result (λ fault. fault ≡ plans_fault (ways_of numbering.now schedule.now) rows.now (map parts_of plans.now)) }
+{
+    let [plan, later @ ..] = plans else {
+        return Ok(None);
+    };
+    let fault = plan_fault(numbering, schedule, first_row(rows), plan)?;
+    if fault.is_some() {
+        return Ok(fault);
+    }
+    plans_fault(numbering, schedule, behind(rows, 1), later)
+}
+
+/// The same of the plans of a person.
+fn own_fault(
+    numbering: &Numbering,
+    schedule: &Schedule,
+    rows: &[u32],
+    own: &PlanList,
+) -> Result<Option<RowFault>, AllocError>
+    requires { AreThere (length schedule.now.routes.lines) (ways_of numbering.now schedule.now) }
+    ensures { IfOk result (λ fault. fault ≡ plans_fault (ways_of numbering.now schedule.now) rows.now (map parts_of own.now)) }
+{
+    plans_fault(numbering, schedule, rows, &own.rows)
+}
+
+/// How many plans a person has.
+fn count_of(own: &PlanList) -> usize
+    ensures { result ≡ length own.now }
+{
+    own.rows.len()
+}
+
+/// The first fault of the legs of all persons' plans, with the rows in which the plans begin.
+pub fn all_plans_fault(
+    numbering: &Numbering,
+    schedule: &Schedule,
+    rows: &[u32],
+    plans: &[PlanList],
+) -> Result<Option<RowFault>, AllocError>
+    requires { AreThere (length schedule.now.routes.lines) (ways_of numbering.now schedule.now) }
+    ensures { IfOk result (λ fault. fault ≡ all_plans_fault (ways_of numbering.now schedule.now) rows.now (all_parts plans.now)) }
+{
+    let mut rest = rows;
+    for own in plans {
+        let fault = own_fault(numbering, schedule, rest, own)?;
+        if fault.is_some() {
+            return Ok(fault);
+        }
+        rest = behind(rest, count_of(own));
+    }
+    Ok(None)
+}

@@ -1,0 +1,73 @@
+ghost use Rattle.std.specs.Prelude.{◌≡◌, map, IfOk};
+ghost use Rattle.plans.specs.Parts.{parts_of, all_parts};
+ghost use Rattle.scenario.specs.Legs.{leg_in_town, plan_in_town};
+ghost use Rattle.scenario.specs.Ways.{numbers_of};
+
+use crate::numbers::{Numbering, in_town};
+use plans::{Leg, Legs, Plan, PlanList, PlanLists};
+use std::alloc::{AllocError, Global};
+
+/// A leg with the town's numbers of its line and its stops.
+fn leg_in_town(numbering: &Numbering, leg: Leg) -> Leg
+    ensures { result ≡ leg_in_town (numbers_of numbering.now) leg }
+{
+    match leg {
+        Leg::Transit {
+            line,
+            access,
+            egress,
+        } => Leg::Transit {
+            line: in_town(&numbering.lines, line),
+            access: in_town(&numbering.stops, access),
+            egress: in_town(&numbering.stops, egress),
+        },
+        Leg::Teleport { mode, seconds } => Leg::Teleport { mode, seconds },
+        Leg::Car { route } => Leg::Car { route },
+    }
+}
+
+/// The same for the legs of a plan.
+fn legs_in_town(alloc: Global, numbering: &Numbering, legs: Legs) -> Result<Legs, AllocError>
+    ensures { IfOk result (λ r. r ≡ map (leg_in_town (numbers_of numbering.now)) legs) }
+{
+    let mut rows = Vec::new(alloc);
+    for leg in legs.rows {
+        rows.push(leg_in_town(numbering, leg))?;
+    }
+    Ok(Legs { rows })
+}
+
+/// The same for a plan.
+fn plan_in_town(alloc: Global, numbering: &Numbering, plan: Plan) -> Result<Plan, AllocError>
+    ensures { IfOk result (λ p. parts_of p ≡ plan_in_town (numbers_of numbering.now) (parts_of plan)) }
+{
+    let Plan { acts, legs } = plan;
+    let legs = legs_in_town(alloc, numbering, legs)?;
+    Ok(Plan { acts, legs })
+}
+
+/// The same for the plans of a person.
+fn own_in_town(alloc: Global, numbering: &Numbering, own: PlanList) -> Result<PlanList, AllocError>
+    ensures { IfOk result (λ r. map parts_of r ≡ map (plan_in_town (numbers_of numbering.now)) (map parts_of own)) }
+{
+    let mut rows = Vec::new(alloc);
+    for plan in own.rows {
+        rows.push(plan_in_town(alloc, numbering, plan)?)?;
+    }
+    Ok(PlanList { rows })
+}
+
+/// The same for the plans of all persons.
+pub fn plans_in_town(
+    alloc: Global,
+    numbering: &Numbering,
+    plans: PlanLists,
+) -> Result<PlanLists, AllocError>
+    ensures { IfOk result (λ r. all_parts r ≡ map (map (plan_in_town (numbers_of numbering.now))) (all_parts plans)) }
+{
+    let mut rows = Vec::new(alloc);
+    for own in plans.rows {
+        rows.push(own_in_town(alloc, numbering, own)?)?;
+    }
+    Ok(PlanLists { rows })
+}

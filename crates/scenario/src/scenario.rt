@@ -1,0 +1,19 @@
+ghost use Rattle.std.specs.Prelude.{◌≡◌, length, true};
+ghost use Rattle.plans.specs.Parts.{all_parts};
+ghost use Rattle.town.specs.Views.{rows_of};
+ghost use Rattle.scenario.specs.Fitting.{all_fit};
+
+use plans::PlanLists;
+use town::Town;
+
+/// A town, and each person's plans in it: one to five, the first of which is chosen at first.
+///
+/// Every plan fits the town: its numbers are in the town, its car routes have links, and each leg goes from the activity before it
+/// to the one behind it.
+#[derive(Drop)]
+pub struct Scenario {
+    pub town: Town,
+    pub plans: PlanLists,
+    pub ghost each: { length plans ≡ length town.book.persons },
+    pub ghost fitting: { all_fit (rows_of town) (all_parts plans) ≡ true },
+}

@@ -1,0 +1,13 @@
+use Rattle.std.proofs.Common.{subst, sym}
+use Rattle.traffic.specs.Rows.{World}
+use Rattle.fit_days.specs.Rows.{IsFitWorld}
+use Rattle.fit_days.specs.Setups.{counts_in}
+use Rattle.worked_days.proofs.Going.{jam_fit}
+use Rattle.worked_days.proofs.jams.jam.Goals as goal
+
+pub returns : goal.returns
+returns c =
+    let P : World → Type 0 = IsFitWorld (counts_in c.args.town.now c.args.chosen.now) in
+    subst P (sym c.with_rows-jammed.ensures)
+    (jam_fit c.args.town.now c.args.chosen.now c.in_ok-world.world c.in_ok-rows.rows.items c.requires.given c.in_ok-world.ensures
+    (c.in_ok-rows.ensures (counts_in c.args.town.now c.args.chosen.now) c.requires.roomy))

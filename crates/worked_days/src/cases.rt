@@ -1,0 +1,151 @@
+//! Cases: the texts of a scenario's files, and what a command answers to them.
+
+use edge_files::{InFile, Inputs, MemoryInputs, MemoryOutputs, NoKeeper, OpenGate, OutFile};
+use qsim_top::{Status, qsim};
+use std::alloc::{AllocError, Global};
+use std::sync::Wait;
+use std::thread::Threads;
+
+/// The texts of the files of a scenario; those of nodes.csv and plans.csv are their rows.
+#[derive(Clone, Copy)]
+pub(crate) struct Case {
+    pub(crate) settings: &'static str,
+    pub(crate) nodes: &'static str,
+    pub(crate) links: &'static str,
+    pub(crate) plans: &'static str,
+    pub(crate) stops: &'static str,
+    pub(crate) routes: &'static str,
+    pub(crate) departures: &'static str,
+}
+
+const PLANS: &str = "person,plan,kind,name,link,time,route\n";
+
+/// Four nodes and three links in a line, of ten seconds each, through which a vehicle passes in each second.
+pub(crate) const LINE: Case = Case {
+    settings: "",
+    nodes: "node,x,y\nA,0,0\nB,0,0\nC,0,0\nD,0,0\n",
+    links: "link,from,to,length,speed,capacity,lanes\n\
+        L1,A,B,10000,1000,3600,1\nL2,B,C,10000,1000,3600,1\nL3,C,D,10000,1000,3600,1\n",
+    plans: "",
+    stops: "",
+    routes: "",
+    departures: "",
+};
+
+/// A person at home until 100, a walk of 50 s, and work.
+pub(crate) const WALK: Case = Case {
+    plans: "p1,0,act,home,L1,100,\np1,0,leg,walk,,50,\np1,0,act,work,L2,,\n",
+    ..LINE
+};
+
+/// A person at home until 100, who drives to work on the next link.
+pub(crate) const DRIVE: Case = Case {
+    plans: "p1,0,act,home,L1,100,\np1,0,leg,car,,,L1 L2\np1,0,act,work,L2,,\n",
+    ..LINE
+};
+
+/// Two persons at home until 100 who want a bus of one seat, which leaves not before 220.
+pub(crate) const BUS: Case = Case {
+    settings: "{\"dwell_open\":4,\"dwell_alight\":1,\"dwell_board\":2}",
+    plans: "p1,0,act,home,L1,100,\np1,0,leg,pt,,,b s1 s3\np1,0,act,work,L3,,\n\
+        p2,0,act,home,L1,100,\np2,0,leg,pt,,,b s1 s3\np2,0,act,work,L3,,\n",
+    stops: "stop,link\ns1,L1\ns3,L3\n",
+    routes: "line,route,links,stops\nb,r1,L1 L2 L3,s1:20:wait s3:60\n",
+    departures: "departure,route,second,seats\nd1,r1,200,1\n",
+    ..LINE
+};
+
+fn joined(alloc: Global, rows: &str) -> Result<String, AllocError> {
+    let mut plans = String::from_str(alloc, PLANS)?;
+    plans.push_str(rows)?;
+    Ok(plans)
+}
+
+/// The text of plans.csv; of no bytes where memory is wanting.
+pub(crate) fn plans_of(alloc: Global, rows: &str) -> String {
+    match joined(alloc, rows) {
+        Ok(plans) => plans,
+        Err(_) => String::new(alloc),
+    }
+}
+
+/// Puts a text into a file, which is empty where memory is wanting.
+pub(crate) fn put(inputs: &mut MemoryInputs, file: InFile, text: &str) {
+    let _ = inputs.put(file, text.as_bytes());
+}
+
+fn put_plans(alloc: Global, inputs: &mut MemoryInputs, rows: &str) {
+    let plans = plans_of(alloc, rows);
+    put(inputs, InFile::Plans, plans.as_str());
+}
+
+/// The files of a case.
+pub(crate) fn inputs_of(alloc: Global, case: Case) -> MemoryInputs {
+    let mut inputs = MemoryInputs::new(alloc);
+    put(&mut inputs, InFile::Settings, case.settings);
+    put(&mut inputs, InFile::Nodes, case.nodes);
+    put(&mut inputs, InFile::Links, case.links);
+    put_plans(alloc, &mut inputs, case.plans);
+    put(&mut inputs, InFile::Stops, case.stops);
+    put(&mut inputs, InFile::Routes, case.routes);
+    put(&mut inputs, InFile::Departures, case.departures);
+    inputs
+}
+
+fn copied(alloc: Global, texts: &[&str]) -> Result<Vec<String>, AllocError> {
+    let mut words = Vec::new(alloc);
+    for text in texts {
+        words.push(String::from_str(alloc, text)?)?;
+    }
+    Ok(words)
+}
+
+fn words_of(alloc: Global, texts: &[&str]) -> Vec<String> {
+    match copied(alloc, texts) {
+        Ok(words) => words,
+        Err(_) => Vec::new(alloc),
+    }
+}
+
+/// How the program ends with these words over inputs and outputs.
+pub(crate) fn status_of<R: Threads + Wait + Sync, I: Inputs>(
+    rt: &R,
+    alloc: Global,
+    texts: &[&str],
+    inputs: &mut I,
+    outputs: &mut MemoryOutputs,
+) -> Status {
+    let words = words_of(alloc, texts);
+    let mut keeper = NoKeeper::new();
+    let gate = OpenGate::new();
+    qsim(rt, alloc, &words, inputs, outputs, &mut keeper, &gate)
+}
+
+/// Whether just this was written to a file.
+pub(crate) fn is_written(outputs: &MemoryOutputs, file: OutFile, text: &str) -> bool {
+    outputs.written(file) == text.as_bytes()
+}
+
+/// Whether these are the report and the events, and no other file was written to.
+fn are_written(outputs: &MemoryOutputs, report: &str, events: &str) -> bool {
+    is_written(outputs, OutFile::Report, report)
+        && is_written(outputs, OutFile::Events, events)
+        && is_written(outputs, OutFile::Scores, "")
+        && is_written(outputs, OutFile::Plans, "")
+}
+
+/// Whether a command answers to a case with this status, report and events, and writes to no other file.
+pub(crate) fn is_answered<R: Threads + Wait + Sync>(
+    rt: &R,
+    alloc: Global,
+    command: &str,
+    case: Case,
+    status: Status,
+    report: &str,
+    events: &str,
+) -> bool {
+    let mut inputs = inputs_of(alloc, case);
+    let mut outputs = MemoryOutputs::new(alloc);
+    let came = status_of(rt, alloc, &["qsim", command], &mut inputs, &mut outputs);
+    came == status && are_written(&outputs, report, events)
+}

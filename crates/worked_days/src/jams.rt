@@ -1,0 +1,210 @@
+//! A jam on short links, second by second.
+
+ghost use Rattle.std.specs.Prelude.{◌≡◌, ◌<◌, true, List, All, IfOk};
+ghost use Rattle.plans.specs.declared.plan.Plan.{Plan};
+ghost use Rattle.fit_days.specs.Rows.{Counts, IsFitRow, IsFitWorld};
+ghost use Rattle.fit_days.specs.Setups.{counts_in};
+ghost use Rattle.plain_day.specs.Given.{AreGiven};
+ghost use Rattle.traffic.specs.Worlds.{IsSoundStage};
+ghost use Rattle.worked_days.specs.Jams.{going, IsRoomy};
+
+use crate::cases::Case;
+use crate::towns::{are_given, let_go, scenario_of};
+use events::{Calls, Event, Route, VehicleId, Word};
+use plain_day::{plain_second, start};
+use plain_world::World;
+use plans::{Plan, PlanLists};
+use scenario::{Scenario, chosen_plans};
+use std::alloc::{AllocError, Global};
+use town::Town;
+use traffic::{Riders, Row, Stage, Vehicle};
+
+/// Four links in a row with room for one vehicle each, somebody who stays at home, and a vehicle that is to start later.
+const ROAD: Case = Case {
+    settings: "",
+    nodes: "node,x,y\na,0,0\nb,1,0\nc,2,0\nd,3,0\ne,4,0\n",
+    links: "link,from,to,length,speed,capacity,lanes\n\
+        K1,a,b,50,1000,3600,1\nK2,b,c,50,1000,3600,1\nK3,c,d,50,1000,3600,1\nK4,d,e,50,1000,3600,1\n",
+    plans: "p1,0,act,home,K4,,\n",
+    stops: "stop,link\ns1,K1\n",
+    routes: "line,route,links,stops\nl,r,K1 K2 K3 K4,s1:0\n",
+    departures: "departure,route,second,seats\nv,r,900,1\n",
+};
+
+/// A vehicle that goes along all four links, at this place.
+fn vehicle_at(alloc: Global, place: u32) -> Result<Vehicle, AllocError>
+    requires { place < 4 }
+    ensures { IfOk result (λ v. v ≡ going place) }
+{
+    let route = Vec::from_slice(alloc, &[0, 1, 2, 3])?;
+    Ok(Vehicle {
+        id: VehicleId::Transit(0),
+        route: Route { rows: route },
+        place,
+        started: true,
+        riders: Riders {
+            rows: Vec::new(alloc),
+        },
+        line: 0,
+        calls: Calls {
+            rows: Vec::new(alloc),
+        },
+        served: 0,
+        departed: 0,
+        seats: 0,
+        pushed: false,
+    })
+}
+
+/// Such a vehicle, in the queue or the buffer of the link at its place. It may go on since second 10.
+fn row_at(alloc: Global, place: u32, stage: Stage) -> Result<Row, AllocError>
+    requires place { place < 3 }
+    requires stage { IsSoundStage stage (going place) }
+    ensures { IfOk result (λ row. (z : Counts) → IsRoomy z → IsFitRow z row) }
+{
+    let vehicle = vehicle_at(alloc, place)?;
+    Ok(Row {
+        vehicle,
+        link: place,
+        stage,
+        second: 10,
+    })
+}
+
+/// A vehicle in the queue and one in the buffer of each of the first three links.
+fn rows_of(alloc: Global) -> Result<Vec<Row>, AllocError>
+    ensures { IfOk result (λ rows. (z : Counts) → IsRoomy z → All (IsFitRow z) rows.items) }
+{
+    let mut rows = Vec::new(alloc);
+    for place in 0..3 {
+        rows.push(row_at(alloc, place, Stage::Queue)?)?;
+        rows.push(row_at(alloc, place, Stage::Buffer)?)?;
+    }
+    Ok(rows)
+}
+
+/// A world with these rows.
+fn with_rows(rows: Vec<Row>, world: World) -> World
+    ensures { result ≡ record { rows = rows.items; persons = world.persons; credits = world.credits; holes = world.holes } }
+{
+    let World {
+        rows: _,
+        persons,
+        credits,
+        holes,
+    } = world;
+    World {
+        rows,
+        persons,
+        credits,
+        holes,
+    }
+}
+
+/// The world of the jam.
+fn jam(alloc: Global, town: &Town, chosen: &[Plan]) -> Result<World, AllocError>
+    requires given { AreGiven town.now chosen.now }
+    requires roomy { IsRoomy (counts_in town.now chosen.now) }
+    ensures { IfOk result (IsFitWorld (counts_in town.now chosen.now)) }
+{
+    let rows = rows_of(alloc)?;
+    let world = start(alloc, town, chosen, 0)?;
+    let jammed = with_rows(rows, world);
+    Ok(jammed)
+}
+
+/// The events of so many seconds from second 10 on.
+fn seconds_of(
+    alloc: Global,
+    town: &Town,
+    chosen: &[Plan],
+    count: u32,
+) -> Result<Vec<Event>, AllocError>
+    requires given { AreGiven town.now chosen.now }
+    requires roomy { IsRoomy (counts_in town.now chosen.now) }
+    requires few { count < 100 }
+{
+    let mut world = jam(alloc, town, chosen)?;
+    let mut events = Vec::new(alloc);
+    for t in 10..10 + count {
+        plain_second(alloc, town, chosen, 0, t, &mut world, &mut events)?;
+    }
+    Ok(events)
+}
+
+/// Whether the town has four links, a line and a departure.
+fn is_roomy(town: &Town) -> bool
+    ensures { result ≡ true → (chosen : List Plan) → IsRoomy (counts_in town.now chosen) }
+{
+    town.network.links.len() >= 4 && !town.book.lines.is_empty() && !town.departures.rows.is_empty()
+}
+
+/// When links are entered.
+fn entered(alloc: Global, events: &[Event]) -> Vec<(u32, Option<u32>)> {
+    let mut entered = Vec::new(alloc);
+    for event in events {
+        if event.word == Word::EnteredLink {
+            let _ = entered.push((event.key.second, event.link));
+        }
+    }
+    entered
+}
+
+/// The same of the jam in a town, in so many seconds.
+fn entered_in(alloc: Global, town: &Town, chosen: &[Plan], count: u32) -> Vec<(u32, Option<u32>)>
+    requires { count < 100 }
+{
+    if !is_roomy(town) || !are_given(town, chosen) {
+        return Vec::new(alloc);
+    }
+    match seconds_of(alloc, town, chosen, count) {
+        Ok(events) => entered(alloc, &events),
+        Err(_) => Vec::new(alloc),
+    }
+}
+
+/// The same where each person follows the first of these plans.
+fn entered_by(alloc: Global, town: &Town, plans: PlanLists, count: u32) -> Vec<(u32, Option<u32>)>
+    requires { count < 100 }
+{
+    match chosen_plans(alloc, plans) {
+        Ok(chosen) => entered_in(alloc, town, &chosen, count),
+        Err(_) => Vec::new(alloc),
+    }
+}
+
+/// The same in a scenario.
+fn entered_on(alloc: Global, scenario: Scenario, count: u32) -> Vec<(u32, Option<u32>)>
+    requires { count < 100 }
+{
+    let Scenario { town, plans } = scenario;
+    let entered = entered_by(alloc, &town, plans, count);
+    let_go(town);
+    entered
+}
+
+/// The same of the jam with these settings.
+fn entered_with(alloc: Global, settings: &'static str, count: u32) -> Vec<(u32, Option<u32>)>
+    requires { count < 100 }
+{
+    match scenario_of(alloc, Case { settings, ..ROAD }) {
+        Some(scenario) => entered_on(alloc, scenario, count),
+        None => Vec::new(alloc),
+    }
+}
+
+/// A place is free in the second after it was left, so that the jam moves link by link.
+#[test]
+fn jams_move_as_places_come_free(rt: HostRuntime) {
+    let entered = entered_with(rt.alloc(), "", 3);
+    let told = [(10, Some(3)), (11, Some(2)), (12, Some(1)), (12, Some(3))];
+    assert_eq!(rt; entered.as_slice(), told.as_slice());
+}
+
+/// Where holes travel at 25 cm a second, a place of 50 cm is free two seconds after it was left.
+#[test]
+fn jams_move_as_holes_come(rt: HostRuntime) {
+    let entered = entered_with(rt.alloc(), "{\"hole_speed\":25}", 5);
+    let told = [(10, Some(3)), (12, Some(2)), (13, Some(3)), (14, Some(1))];
+    assert_eq!(rt; entered.as_slice(), told.as_slice());
+}

@@ -1,0 +1,22 @@
+//! Worked days: files in, and the events and the report that they give, worked by hand. Above the top call, the slow day and
+//! the reading of a scenario; tests alone.
+#![tactic(auto)]
+
+#[cfg(test)]
+mod cases;
+#[cfg(test)]
+mod days;
+#[cfg(test)]
+mod fits;
+#[cfg(test)]
+mod jams;
+#[cfg(test)]
+mod limits;
+#[cfg(test)]
+mod outside;
+#[cfg(test)]
+mod refusals;
+#[cfg(test)]
+mod signals;
+#[cfg(test)]
+mod towns;

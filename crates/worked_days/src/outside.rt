@@ -1,0 +1,226 @@
+//! Words, reads and writes that fail, and files that are cut.
+
+use crate::cases::{BUS, Case, DRIVE, LINE, inputs_of, is_written, put, status_of};
+use edge_files::{InFile, MemoryInputs, MemoryOutputs, OutFile};
+use qsim_top::Status;
+use std::alloc::Global;
+use std::sync::Wait;
+use std::thread::Threads;
+
+/// Wrong words and help, which ends well.
+static WORDS: [(&[&str], Status); 8] = [
+    (&[], Status::Usage),
+    (&["qsim"], Status::Usage),
+    (&["qsim", "fly"], Status::Usage),
+    (&["qsim", "run", "x"], Status::Usage),
+    (&["qsim", "check", "run"], Status::Usage),
+    (&["qsim", "run", "--workers", "65"], Status::Usage),
+    (&["qsim", "--help"], Status::Done),
+    (&["qsim", "check", "-h"], Status::Done),
+];
+
+/// Whether words are answered so, with some text, whatever the files are.
+fn are_told<R: Threads + Wait + Sync>(
+    rt: &R,
+    alloc: Global,
+    words: &[&str],
+    status: Status,
+) -> bool {
+    let mut inputs = inputs_of(alloc, LINE);
+    let mut outputs = MemoryOutputs::new(alloc);
+    let came = status_of(rt, alloc, words, &mut inputs, &mut outputs);
+    came == status
+        && !is_written(&outputs, OutFile::Report, "")
+        && is_written(&outputs, OutFile::Events, "")
+}
+
+/// How many of the words above are answered so.
+fn count_told<R: Threads + Wait + Sync>(rt: &R, alloc: Global) -> usize {
+    for (place, (words, status)) in WORDS.iter().enumerate() {
+        if !are_told(rt, alloc, words, *status) {
+            return place;
+        }
+    }
+    WORDS.len()
+}
+
+#[test]
+fn words_are_answered(rt: HostRuntime) {
+    assert_eq!(rt; count_told(&rt, rt.alloc()), 8);
+}
+
+/// A short day of one car, its events and its report.
+const SHORT: Case = Case {
+    settings: "{\"end_second\":120}",
+    ..DRIVE
+};
+
+const SHORT_EVENTS: &str = "iteration,0\n\
+    100,actend,p1,,L1,home\n\
+    100,departure,p1,,L1,car\n\
+    100,PersonEntersVehicle,p1,p1,,\n\
+    100,vehicle enters traffic,p1,p1,L1,\n\
+    101,left link,,p1,L1,\n\
+    101,entered link,,p1,L2,\n\
+    111,vehicle leaves traffic,p1,p1,L2,\n\
+    111,PersonLeavesVehicle,p1,p1,,\n\
+    111,arrival,p1,,L2,car\n\
+    111,actstart,p1,,L2,work\n";
+
+const SHORT_REPORT: &str = "iteration,0,10,0,0\ndone,0\n";
+
+/// A front of a text, of so many bytes where it has them.
+fn front(text: &'static str, count: usize) -> &'static str {
+    text.get(..count).unwrap_or(text)
+}
+
+/// Whether these outputs hold all that there is room for of the short day, and nothing where a read failed.
+fn is_front_written(outputs: &MemoryOutputs, status: Status, room: usize) -> bool {
+    let room = if status == Status::ReadFault { 0 } else { room };
+    let rest = room.saturating_sub(SHORT_EVENTS.len());
+    is_written(outputs, OutFile::Events, front(SHORT_EVENTS, room))
+        && is_written(outputs, OutFile::Report, front(SHORT_REPORT, rest))
+}
+
+/// The short day, where this call of reading fails.
+fn short_inputs(alloc: Global, failing: u64) -> MemoryInputs {
+    let mut inputs = inputs_of(alloc, SHORT);
+    let _ = inputs.fail_at(failing);
+    inputs
+}
+
+/// Whether the short day ends so where this call of reading fails and there is room for so many bytes in all.
+fn ends_so<R: Threads + Wait + Sync>(
+    rt: &R,
+    alloc: Global,
+    failing: u64,
+    room: usize,
+    status: Status,
+) -> bool {
+    let mut inputs = short_inputs(alloc, failing);
+    let mut outputs = MemoryOutputs::new(alloc);
+    outputs.room(room as u64);
+    let came = status_of(rt, alloc, &["qsim", "run"], &mut inputs, &mut outputs);
+    came == status && is_front_written(&outputs, status, room)
+}
+
+/// The first call of reading, below this one, that may fail while something is written; or this one.
+fn first_unheard<R: Threads + Wait + Sync>(rt: &R, alloc: Global, calls: u64) -> u64 {
+    for call in 1..calls {
+        if !ends_so(rt, alloc, call, 1_000, Status::ReadFault) {
+            return call;
+        }
+    }
+    calls
+}
+
+/// Each read fails in turn, and nothing is written. Seven files are read by eleven calls: an empty one by one, another one by two.
+#[test]
+fn a_failing_read_writes_nothing(rt: HostRuntime) {
+    assert_eq!(rt; first_unheard(&rt, rt.alloc(), 12), 12);
+    assert!(rt; ends_so(&rt, rt.alloc(), 12, 1_000, Status::Done));
+}
+
+/// The first number of bytes, below this one, for which there may be room while something else than a front is written; or this one.
+fn first_torn<R: Threads + Wait + Sync>(rt: &R, alloc: Global, whole: usize) -> usize {
+    for room in 0..whole {
+        if !ends_so(rt, alloc, 0, room, Status::WriteFault) {
+            return room;
+        }
+    }
+    whole
+}
+
+/// There is room for each number of bytes, and each file is a front of its text.
+#[test]
+fn a_failing_write_leaves_fronts(rt: HostRuntime) {
+    let whole = SHORT_EVENTS.len() + SHORT_REPORT.len();
+    assert_eq!(rt; first_torn(&rt, rt.alloc(), whole), whole);
+    assert!(rt; ends_so(&rt, rt.alloc(), 0, whole, Status::Done));
+}
+
+/// The day of the bus, up to a second behind its last event.
+const SHORT_BUS: Case = Case {
+    settings: "{\"end_second\":260}",
+    ..BUS
+};
+
+/// Whether the report is that of a day that is done or of a scenario that is refused.
+fn is_answered(status: Status, report: &[u8]) -> bool {
+    match status {
+        Status::Done => report.starts_with(b"iteration,0,") && report.ends_with(b"done,0\n"),
+        Status::Refused => report.starts_with(b"refused,"),
+        _ => false,
+    }
+}
+
+/// Whether the day of the bus is done or refused where a file has this text.
+fn is_done_or_refused<R: Threads + Wait + Sync>(
+    rt: &R,
+    alloc: Global,
+    file: InFile,
+    text: &str,
+) -> bool {
+    let mut inputs = inputs_of(alloc, SHORT_BUS);
+    put(&mut inputs, file, text);
+    let mut outputs = MemoryOutputs::new(alloc);
+    let status = status_of(rt, alloc, &["qsim", "run"], &mut inputs, &mut outputs);
+    is_answered(status, outputs.written(OutFile::Report))
+}
+
+/// The first byte at which the file may be cut so that the day is neither done nor refused; or the length of the text.
+fn first_cut<R: Threads + Wait + Sync>(
+    rt: &R,
+    alloc: Global,
+    file: InFile,
+    text: &'static str,
+) -> usize {
+    for end in 0..text.len() {
+        if !is_done_or_refused(rt, alloc, file, front(text, end)) {
+            return end;
+        }
+    }
+    text.len()
+}
+
+/// The text of plans.csv on that day.
+const BUS_PLANS: &str = "person,plan,kind,name,link,time,route\n\
+    p1,0,act,home,L1,100,\np1,0,leg,pt,,,b s1 s3\np1,0,act,work,L3,,\n\
+    p2,0,act,home,L1,100,\np2,0,leg,pt,,,b s1 s3\np2,0,act,work,L3,,\n";
+
+/// The text of a file on that day.
+fn text_of(file: InFile) -> &'static str {
+    match file {
+        InFile::Settings => SHORT_BUS.settings,
+        InFile::Nodes => SHORT_BUS.nodes,
+        InFile::Links => SHORT_BUS.links,
+        InFile::Plans => BUS_PLANS,
+        InFile::Stops => SHORT_BUS.stops,
+        InFile::Routes => SHORT_BUS.routes,
+        InFile::Departures => SHORT_BUS.departures,
+        InFile::Signals => "",
+    }
+}
+
+/// Whether a file may be cut at every byte.
+fn may_be_cut<R: Threads + Wait + Sync>(rt: &R, alloc: Global, file: InFile) -> bool {
+    let text = text_of(file);
+    first_cut(rt, alloc, file, text) == text.len()
+}
+
+/// Each file is cut at every byte.
+#[test]
+fn cut_files_are_done_or_refused(rt: HostRuntime) {
+    let files = [
+        InFile::Settings,
+        InFile::Nodes,
+        InFile::Links,
+        InFile::Plans,
+        InFile::Stops,
+        InFile::Routes,
+        InFile::Departures,
+    ];
+    for file in files {
+        assert!(rt; may_be_cut(&rt, rt.alloc(), file));
+    }
+}

@@ -1,0 +1,498 @@
+//! Scenarios that are refused, with their report, and those that are valid.
+
+use crate::cases::{BUS, Case, DRIVE, LINE, WALK, is_answered};
+use qsim_top::Status;
+use std::alloc::Global;
+use std::sync::Wait;
+use std::thread::Threads;
+
+/// A scenario that is refused, and its report.
+struct Refusal {
+    case: Case,
+    report: &'static str,
+}
+
+/// Faults of settings.json, nodes.csv and links.csv.
+static FIRST_FILES: [Refusal; 12] = [
+    Refusal {
+        case: Case {
+            settings: "{\"sead\":1}",
+            nodes: "",
+            ..WALK
+        },
+        report: "refused,settings.json,0,15,KeyUnknown\n",
+    },
+    Refusal {
+        case: Case {
+            settings: "{\"seed\":",
+            ..WALK
+        },
+        report: "refused,settings.json,0,14,NotJson\n",
+    },
+    Refusal {
+        case: Case {
+            settings: "{\"seed\":1.5}",
+            ..WALK
+        },
+        report: "refused,settings.json,0,16,ValueBad\n",
+    },
+    Refusal {
+        case: Case { nodes: "", ..WALK },
+        report: "refused,nodes.csv,0,1,Header\n",
+    },
+    Refusal {
+        case: Case {
+            nodes: "node,x,y\n",
+            ..WALK
+        },
+        report: "refused,nodes.csv,0,12,Empty\n",
+    },
+    Refusal {
+        case: Case {
+            nodes: "node,x,y\nA,0,0\nB,0\nC,0,0\nD,0,0\n",
+            ..WALK
+        },
+        report: "refused,nodes.csv,2,2,FieldCount\n",
+    },
+    Refusal {
+        case: Case {
+            nodes: "node,x,y\nA,0,0\nB b,0,0\nC,0,0\nD,0,0\n",
+            ..WALK
+        },
+        report: "refused,nodes.csv,2,3,BadName\n",
+    },
+    Refusal {
+        case: Case {
+            links: "link,from,to,length,speed,capacity,lanes\n\
+                L1,A,B,10000,1000,3600,1\nL2,B,E,10000,1000,3600,1\n",
+            ..WALK
+        },
+        report: "refused,links.csv,2,6,Unknown\n",
+    },
+    // An unknown link in plans.csv, and before it a length that is no number.
+    Refusal {
+        case: Case {
+            links: "link,from,to,length,speed,capacity,lanes\n\
+                L1,A,B,10000,1000,3600,1\nL2,B,C,10000,1000,3600,1\nL3,C,D,12x,1000,3600,1\n",
+            plans: "p1,0,act,home,L9,,\n",
+            ..LINE
+        },
+        report: "refused,links.csv,3,4,BadNumber\n",
+    },
+    Refusal {
+        case: Case {
+            links: "link,from,to,length,speed,capacity,lanes\n\
+                L1,A,B,10000,1000,3600,1\nL1,B,C,10000,1000,3600,1\n",
+            ..WALK
+        },
+        report: "refused,links.csv,2,5,Twice\n",
+    },
+    // The seventeenth link into a node.
+    Refusal {
+        case: Case {
+            links: "link,from,to,length,speed,capacity,lanes\n\
+                L1,B,A,10000,1000,3600,1\nL2,B,A,10000,1000,3600,1\nL3,B,A,10000,1000,3600,1\nL4,B,A,10000,1000,3600,1\n\
+                L5,B,A,10000,1000,3600,1\nL6,B,A,10000,1000,3600,1\nL7,B,A,10000,1000,3600,1\nL8,B,A,10000,1000,3600,1\n\
+                L9,B,A,10000,1000,3600,1\nM0,B,A,10000,1000,3600,1\nM1,B,A,10000,1000,3600,1\nM2,B,A,10000,1000,3600,1\n\
+                M3,B,A,10000,1000,3600,1\nM4,B,A,10000,1000,3600,1\nM5,B,A,10000,1000,3600,1\nM6,B,A,10000,1000,3600,1\n\
+                M7,B,A,10000,1000,3600,1\n",
+            ..WALK
+        },
+        report: "refused,links.csv,17,18,InLinks\n",
+    },
+    // The same link with a length that is no number, which is told first.
+    Refusal {
+        case: Case {
+            links: "link,from,to,length,speed,capacity,lanes\n\
+                L1,B,A,10000,1000,3600,1\nL2,B,A,10000,1000,3600,1\nL3,B,A,10000,1000,3600,1\nL4,B,A,10000,1000,3600,1\n\
+                L5,B,A,10000,1000,3600,1\nL6,B,A,10000,1000,3600,1\nL7,B,A,10000,1000,3600,1\nL8,B,A,10000,1000,3600,1\n\
+                L9,B,A,10000,1000,3600,1\nM0,B,A,10000,1000,3600,1\nM1,B,A,10000,1000,3600,1\nM2,B,A,10000,1000,3600,1\n\
+                M3,B,A,10000,1000,3600,1\nM4,B,A,10000,1000,3600,1\nM5,B,A,10000,1000,3600,1\nM6,B,A,10000,1000,3600,1\n\
+                M7,B,A,0,1000,3600,1\n",
+            ..WALK
+        },
+        report: "refused,links.csv,17,4,BadNumber\n",
+    },
+];
+
+/// Faults of rows of plans.csv, and of legs that do not fit the files behind it.
+static PLANS: [Refusal; 19] = [
+    Refusal {
+        case: LINE,
+        report: "refused,plans.csv,0,12,Empty\n",
+    },
+    Refusal {
+        case: Case {
+            plans: "p1,0,act,home,L1,100\n",
+            ..LINE
+        },
+        report: "refused,plans.csv,1,2,FieldCount\n",
+    },
+    Refusal {
+        case: Case {
+            plans: "p1,0,act,home,L9,,\n",
+            ..LINE
+        },
+        report: "refused,plans.csv,1,6,Unknown\n",
+    },
+    Refusal {
+        case: Case {
+            plans: "p1,0,act,home,L1,,\np2,0,act,home,L1,,\np1,0,act,home,L1,,\n",
+            ..LINE
+        },
+        report: "refused,plans.csv,3,5,Twice\n",
+    },
+    Refusal {
+        case: Case {
+            plans: "p1,0,act,home,L1,100,\np1,0,leg,walk,,50,\n",
+            ..LINE
+        },
+        report: "refused,plans.csv,2,7,Order\n",
+    },
+    Refusal {
+        case: Case {
+            plans: "p1,0,act,home,L2,100,\np1,0,leg,car,,,L2 L1\np1,0,act,work,L1,,\n",
+            ..LINE
+        },
+        report: "refused,plans.csv,2,8,RouteBroken\n",
+    },
+    Refusal {
+        case: Case {
+            plans: "p1,0,act,home,L1,100,\np1,0,leg,fly,,50,\np1,0,act,work,L2,,\n",
+            ..LINE
+        },
+        report: "refused,plans.csv,2,10,ModeUnknown\n",
+    },
+    // A car route that ends elsewhere, and one that begins elsewhere.
+    Refusal {
+        case: Case {
+            plans: "p1,0,act,home,L1,100,\np1,0,leg,car,,,L1 L2\np1,0,act,work,L3,,\n",
+            ..LINE
+        },
+        report: "refused,plans.csv,2,9,EndWrong\n",
+    },
+    Refusal {
+        case: Case {
+            plans: "p1,0,act,home,L1,100,\np1,0,leg,car,,,L2 L3\np1,0,act,work,L3,,\n",
+            ..LINE
+        },
+        report: "refused,plans.csv,2,9,EndWrong\n",
+    },
+    Refusal {
+        case: Case {
+            plans: "p1,0,act,home,L3,100,\np1,0,leg,car,,,\np1,0,act,work,L1,,\n",
+            ..LINE
+        },
+        report: "refused,plans.csv,2,19,NoRoute\n",
+    },
+    // A line that is not there, and a stop that is not.
+    Refusal {
+        case: Case {
+            plans: "p1,0,act,home,L1,100,\np1,0,leg,pt,,,c s1 s3\np1,0,act,work,L3,,\n",
+            ..BUS
+        },
+        report: "refused,plans.csv,2,6,Unknown\n",
+    },
+    Refusal {
+        case: Case {
+            plans: "p1,0,act,home,L1,100,\np1,0,leg,pt,,,b s1 s2\np1,0,act,work,L3,,\n",
+            ..BUS
+        },
+        report: "refused,plans.csv,2,6,Unknown\n",
+    },
+    // A ride against the line, and a ride that begins where the person is not.
+    Refusal {
+        case: Case {
+            plans: "p1,0,act,home,L3,100,\np1,0,leg,pt,,,b s3 s1\np1,0,act,work,L1,,\n",
+            ..BUS
+        },
+        report: "refused,plans.csv,2,17,StopsWrong\n",
+    },
+    Refusal {
+        case: Case {
+            plans: "p1,0,act,home,L2,100,\np1,0,leg,pt,,,b s1 s3\np1,0,act,work,L3,,\n",
+            ..BUS
+        },
+        report: "refused,plans.csv,2,17,StopsWrong\n",
+    },
+    // A ride that ends where the person does not go, and one by a line that does not join the stops.
+    Refusal {
+        case: Case {
+            plans: "p1,0,act,home,L1,100,\np1,0,leg,pt,,,b s1 s3\np1,0,act,work,L2,,\n",
+            ..BUS
+        },
+        report: "refused,plans.csv,2,17,StopsWrong\n",
+    },
+    Refusal {
+        case: Case {
+            plans: "p1,0,act,home,L1,100,\np1,0,leg,pt,,,a s1 s3\np1,0,act,work,L3,,\n",
+            routes: "line,route,links,stops\na,r0,L1,s1:0\nb,r1,L1 L2 L3,s1:20:wait s3:60\n",
+            ..BUS
+        },
+        report: "refused,plans.csv,2,17,StopsWrong\n",
+    },
+    // A stop of access that is not there.
+    Refusal {
+        case: Case {
+            plans: "p1,0,act,home,L1,100,\np1,0,leg,pt,,,b s2 s3\np1,0,act,work,L3,,\n",
+            ..BUS
+        },
+        report: "refused,plans.csv,2,6,Unknown\n",
+    },
+    // The second leg of a plan, told before a leg of another person.
+    Refusal {
+        case: Case {
+            plans: "p1,0,act,home,L1,1,\np1,0,leg,walk,,9,\np1,0,act,work,L2,2,\np1,0,leg,car,,,\np1,0,act,home,L1,,\n\
+                p2,0,act,home,L1,100,\np2,0,leg,pt,,,c s1 s3\np2,0,act,work,L3,,\n",
+            ..BUS
+        },
+        report: "refused,plans.csv,4,19,NoRoute\n",
+    },
+    // Two such legs, of which the earlier one is told; the second plan counts as well.
+    Refusal {
+        case: Case {
+            plans: "p1,0,act,home,L1,,\np1,1,act,home,L1,100,\np1,1,leg,pt,,,b s3 s3\np1,1,act,work,L3,,\n\
+                p2,0,act,home,L1,100,\np2,0,leg,pt,,,c s1 s3\np2,0,act,work,L3,,\n",
+            ..BUS
+        },
+        report: "refused,plans.csv,3,17,StopsWrong\n",
+    },
+];
+
+/// Faults of the timetable.
+static TIMETABLES: [Refusal; 6] = [
+    Refusal {
+        case: Case {
+            stops: "stop\ns1,L1\n",
+            ..BUS
+        },
+        report: "refused,stops.csv,0,1,Header\n",
+    },
+    Refusal {
+        case: Case {
+            stops: "stop,link\ns1,L1\ns3,L4\n",
+            ..BUS
+        },
+        report: "refused,stops.csv,2,6,Unknown\n",
+    },
+    // The one call is on none of the route's links.
+    Refusal {
+        case: Case {
+            stops: "stop,link\ns1,L1\n",
+            routes: "line,route,links,stops\nb,r1,L2,s1:0\n",
+            ..WALK
+        },
+        report: "refused,routes.csv,1,21,StopLink\n",
+    },
+    Refusal {
+        case: Case {
+            routes: "line,route,links,stops\nb,r1,L1 L3,s1:20:wait s3:60\n",
+            ..BUS
+        },
+        report: "refused,routes.csv,1,8,RouteBroken\n",
+    },
+    Refusal {
+        case: Case {
+            departures: "departure,route,second,seats\nd1,r1,200,0\n",
+            ..BUS
+        },
+        report: "refused,departures.csv,1,4,BadNumber\n",
+    },
+    // A departure of no route is told before the legs of plans.csv that do not fit.
+    Refusal {
+        case: Case {
+            plans: "p1,0,act,home,L1,100,\np1,0,leg,pt,,,c s1 s3\np1,0,act,work,L3,,\n",
+            departures: "departure,route,second,seats\nd1,r9,200,1\n",
+            ..BUS
+        },
+        report: "refused,departures.csv,1,6,Unknown\n",
+    },
+];
+
+/// Whether a scenario is refused so, by each command.
+fn is_refused<R: Threads + Wait + Sync>(rt: &R, alloc: Global, refusal: &Refusal) -> bool {
+    is_answered(
+        rt,
+        alloc,
+        "run",
+        refusal.case,
+        Status::Refused,
+        refusal.report,
+        "",
+    ) && is_answered(
+        rt,
+        alloc,
+        "check",
+        refusal.case,
+        Status::Refused,
+        refusal.report,
+        "",
+    )
+}
+
+/// The report of the first of these scenarios that is not refused so; or nothing.
+fn first_taken<R: Threads + Wait + Sync>(
+    rt: &R,
+    alloc: Global,
+    refusals: &[Refusal],
+) -> &'static str {
+    for refusal in refusals {
+        if !is_refused(rt, alloc, refusal) {
+            return refusal.report;
+        }
+    }
+    ""
+}
+
+#[test]
+fn faults_are_named(rt: HostRuntime) {
+    assert_eq!(rt; first_taken(&rt, rt.alloc(), &FIRST_FILES), "");
+    assert_eq!(rt; first_taken(&rt, rt.alloc(), &PLANS), "");
+    assert_eq!(rt; first_taken(&rt, rt.alloc(), &TIMETABLES), "");
+}
+
+/// Texts that are no JSON or no object.
+static NO_OBJECTS: [&str; 14] = [
+    " ",
+    "{",
+    "{\"seed\":",
+    "{\"seed\":1,}",
+    "{\"seed\":01}",
+    "{\"seed\":+1}",
+    "{\"seed\":1e400}",
+    "{} x",
+    "\u{feff}{}",
+    "[]",
+    "1",
+    "null",
+    "\"{}\"",
+    // Two hundred open brackets.
+    "[[[[[[[[[[[[[[[[[[[[[[[[[[[[[[[[[[[[[[[[[[[[[[[[[[\
+     [[[[[[[[[[[[[[[[[[[[[[[[[[[[[[[[[[[[[[[[[[[[[[[[[[\
+     [[[[[[[[[[[[[[[[[[[[[[[[[[[[[[[[[[[[[[[[[[[[[[[[[[\
+     [[[[[[[[[[[[[[[[[[[[[[[[[[[[[[[[[[[[[[[[[[[[[[[[[[",
+];
+
+/// Objects with a key that is not there.
+static NO_KEYS: [&str; 4] = [
+    "{\"sead\":1}",
+    "{\"Seed\":1}",
+    "{\"\":1}",
+    "{\"sead\":1,\"seed\":-1}",
+];
+
+/// Objects with a value that is not of its form or out of its range.
+static NO_VALUES: [&str; 18] = [
+    "{\"seed\":1.5}",
+    "{\"seed\":1.0}",
+    "{\"seed\":1e3}",
+    "{\"seed\":-0}",
+    "{\"seed\":-1}",
+    "{\"seed\":18446744073709551616}",
+    "{\"seed\":\"1\"}",
+    "{\"seed\":null}",
+    "{\"seed\":true}",
+    "{\"seed\":{}}",
+    "{\"seed\":2,\"seed\":-1}",
+    "{\"end_second\":0}",
+    "{\"end_second\":172801}",
+    "{\"flow_permille\":2001}",
+    "{\"stuck_push\":2}",
+    "{\"stuck_push\":true}",
+    "{\"hole_speed\":0}",
+    // A hundred brackets in an object.
+    "{\"seed\":[[[[[[[[[[[[[[[[[[[[[[[[[[[[[[[[[[[[[[[[[[[[[[[[[[\
+     [[[[[[[[[[[[[[[[[[[[[[[[[[[[[[[[[[[[[[[[[[[[[[[[[[\
+     ]]]]]]]]]]]]]]]]]]]]]]]]]]]]]]]]]]]]]]]]]]]]]]]]]]\
+     ]]]]]]]]]]]]]]]]]]]]]]]]]]]]]]]]]]]]]]]]]]]]]]]]]]}",
+];
+
+/// Objects that are taken.
+static TAKEN: [&str; 8] = [
+    "{}",
+    " {\r\n\t} ",
+    "{\"seed\":18446744073709551615}\n",
+    "{\"\\u0073eed\":7}",
+    "{\"seed\":1,\"seed\":2}",
+    "{\"seed\":-1,\"seed\":2}",
+    "{\"end_second\":172800,\"hole_speed\":10000,\"stuck_push\":1}",
+    "{\"dwell_open\":0,\"dwell_alight\":0,\"dwell_board\":0}",
+];
+
+/// Whether `check` answers so to a walk with these settings.
+fn is_told<R: Threads + Wait + Sync>(
+    rt: &R,
+    alloc: Global,
+    settings: &'static str,
+    status: Status,
+    report: &str,
+) -> bool {
+    is_answered(
+        rt,
+        alloc,
+        "check",
+        Case { settings, ..WALK },
+        status,
+        report,
+        "",
+    )
+}
+
+/// The first of these settings to which `check` does not answer so; or nothing.
+fn first_other<R: Threads + Wait + Sync>(
+    rt: &R,
+    alloc: Global,
+    texts: &[&'static str],
+    status: Status,
+    report: &str,
+) -> &'static str {
+    for settings in texts {
+        if !is_told(rt, alloc, settings, status, report) {
+            return settings;
+        }
+    }
+    ""
+}
+
+const NOT_JSON: &str = "refused,settings.json,0,14,NotJson\n";
+
+const KEY_UNKNOWN: &str = "refused,settings.json,0,15,KeyUnknown\n";
+
+const VALUE_BAD: &str = "refused,settings.json,0,16,ValueBad\n";
+
+#[test]
+fn settings_are_refused(rt: HostRuntime) {
+    let refused = Status::Refused;
+    assert_eq!(rt;
+        first_other(&rt, rt.alloc(), &NO_OBJECTS, refused, NOT_JSON),
+        ""
+    );
+    assert_eq!(rt;
+        first_other(&rt, rt.alloc(), &NO_KEYS, refused, KEY_UNKNOWN),
+        ""
+    );
+    assert_eq!(rt;
+        first_other(&rt, rt.alloc(), &NO_VALUES, refused, VALUE_BAD),
+        ""
+    );
+}
+
+/// Settings that are taken, and the counts of valid scenarios.
+#[test]
+fn check_tells_counts(rt: HostRuntime) {
+    let done = Status::Done;
+    let counts = "valid,4,3,1,0,0,0\n";
+    assert_eq!(rt; first_other(&rt, rt.alloc(), &TAKEN, done, counts), "");
+    assert!(rt; is_answered(&rt, rt.alloc(), "check", DRIVE, done, counts, ""));
+    assert!(rt;
+        is_answered(
+            &rt,
+            rt.alloc(),
+            "check",
+            BUS,
+            done,
+            "valid,4,3,2,2,1,1\n",
+            ""
+        )
+    );
+}

@@ -1,0 +1,71 @@
+//! Towns out of the texts of their files.
+
+ghost use Rattle.std.specs.Prelude.{◌≡◌, map, true};
+ghost use Rattle.std.specs.List.{list_all};
+ghost use Rattle.plans.specs.Parts.{parts_of};
+ghost use Rattle.town.specs.Fits.{fits};
+ghost use Rattle.town.specs.Views.{rows_of};
+ghost use Rattle.plain_day.specs.Given.{AreGiven};
+
+use crate::cases::{Case, plans_of};
+use edge_files::Bytes;
+use plans::Plan;
+use scenario::{Files, Scenario, assemble};
+use std::alloc::Global;
+use town::{Town, plan_fits};
+
+/// A text; no bytes where memory is wanting.
+fn bytes_of(alloc: Global, text: &str) -> Bytes {
+    match Vec::from_slice(alloc, text.as_bytes()) {
+        Ok(rows) => Bytes { rows },
+        Err(_) => Bytes::new(alloc),
+    }
+}
+
+/// The text of plans.csv with these rows.
+fn plans_in(alloc: Global, rows: &str) -> Bytes {
+    let plans = plans_of(alloc, rows);
+    bytes_of(alloc, plans.as_str())
+}
+
+/// The files of a case, none of which is too long.
+fn files_of(alloc: Global, case: Case) -> Files {
+    Files {
+        settings: bytes_of(alloc, case.settings),
+        nodes: bytes_of(alloc, case.nodes),
+        links: bytes_of(alloc, case.links),
+        plans: plans_in(alloc, case.plans),
+        stops: bytes_of(alloc, case.stops),
+        routes: bytes_of(alloc, case.routes),
+        departures: bytes_of(alloc, case.departures),
+        long: None,
+    }
+}
+
+/// The scenario of a case, where it has no fault.
+pub(crate) fn scenario_of(alloc: Global, case: Case) -> Option<Scenario> {
+    match assemble(alloc, files_of(alloc, case)) {
+        Ok(scenario) => Some(scenario),
+        Err(_) => None,
+    }
+}
+
+/// Whether each plan fits the town.
+fn all_fit(town: &Town, chosen: &[Plan]) -> bool
+    ensures { result ≡ list_all (fits (rows_of town.now)) (map parts_of chosen.now) }
+{
+    let [plan, later @ ..] = chosen else {
+        return true;
+    };
+    plan_fits(town, plan) && all_fit(town, later)
+}
+
+/// Whether there is a plan for each person of the town, and each of them fits it.
+pub(crate) fn are_given(town: &Town, chosen: &[Plan]) -> bool
+    ensures { result ≡ true → AreGiven town.now chosen.now }
+{
+    town.book.persons.len() as usize == chosen.len() && all_fit(town, chosen)
+}
+
+/// Lets a town go.
+pub(crate) fn let_go(_town: Town) {}

@@ -121,6 +121,27 @@ fn a_failing_read_writes_nothing(rt: HostRuntime) {
     assert!(rt; ends_so(&rt, rt.alloc(), 12, 1_000, Status::Done));
 }
 
+/// The short day with settings that have a fault.
+const FAULTY: Case = Case {
+    settings: "{\"sead\":1}",
+    ..DRIVE
+};
+
+/// Whether a last read that fails is told before the fault of the first file.
+fn is_read_first<R: Threads + Wait + Sync>(rt: &R, alloc: Global) -> bool {
+    let mut inputs = inputs_of(alloc, FAULTY);
+    let _ = inputs.fail_at(11);
+    let mut outputs = MemoryOutputs::new(alloc);
+    let came = status_of(rt, alloc, &["qsim", "run"], &mut inputs, &mut outputs);
+    came == Status::ReadFault && is_written(&outputs, OutFile::Report, "")
+}
+
+/// All files are read before any of them is checked.
+#[test]
+fn files_are_read_before_they_are_checked(rt: HostRuntime) {
+    assert!(rt; is_read_first(&rt, rt.alloc()));
+}
+
 /// The first number of bytes, below this one, for which there may be room while something else than a front is written; or this one.
 fn first_torn<R: Threads + Wait + Sync>(rt: &R, alloc: Global, whole: usize) -> usize {
     for room in 0..whole {

@@ -12,8 +12,6 @@ mod memory_inputs;
 mod memory_outputs;
 mod reading;
 mod reasons;
-#[cfg(test)]
-mod tests;
 mod writing;
 
 pub use bytes::Bytes;

@@ -4,8 +4,6 @@
 mod event;
 mod lists;
 mod names;
-#[cfg(test)]
-mod tests;
 mod writing;
 
 pub use event::{Book, Event, Key, Mode, More, Phase, VehicleId, Word};

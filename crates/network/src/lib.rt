@@ -7,8 +7,6 @@ mod lists;
 mod measures;
 mod nodes;
 mod rows;
-#[cfg(test)]
-mod tests;
 
 pub use links::read_links;
 pub use lists::{LinkList, Network, NodeList};

@@ -4,8 +4,6 @@
 mod elements;
 mod reading;
 mod rows;
-#[cfg(test)]
-mod tests;
 mod writing;
 
 pub use reading::read_body;

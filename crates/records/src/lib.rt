@@ -13,8 +13,6 @@ mod lists;
 mod names;
 mod numbers;
 mod rows;
-#[cfg(test)]
-mod tests;
 
 pub use adding::add_row;
 pub use faults::fault;

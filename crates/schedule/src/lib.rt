@@ -7,8 +7,6 @@ mod lists;
 mod routes;
 mod rows;
 mod stops;
-#[cfg(test)]
-mod tests;
 mod ways;
 
 pub use departures::read_departures;

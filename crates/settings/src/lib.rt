@@ -3,8 +3,6 @@
 
 mod keys;
 mod read;
-#[cfg(test)]
-mod tests;
 mod values;
 
 pub use read::read_settings;

@@ -28,7 +28,7 @@ use Rattle.traffic.specs.Persons.{waits_on, waiter, waiters}
 use Rattle.one_place.proofs.Places.{part_le, among_riders, rides, same_either, IsOff, Change, Stays, Leaves, Walks, Enters}
 
 -- WHAT IS TOLD OF EACH RIDER
-abbrev one_rider : ℕ → Rider → ℕ
+abbrev pub one_rider : ℕ → Rider → ℕ
 one_rider i x = if x.person == i then 1 else 0
 
 pub after-append : (S : Setup) (t i : ℕ) (xs ys : List Said) (P : Person) → person_after_all S t i (xs ++ ys) P ≡ person_after_all S t i ys (person_after_all S t i xs P)
@@ -36,7 +36,7 @@ after-append S t i [] ys P = refl
 after-append S t i (x ∷ xs) ys P = after-append S t i xs ys (told_of S t i x x.person P)
 
 -- nobody else is changed, and the place of a person among n is such
-abbrev IsTold : (Place → Type 0) → ℕ → Person → Person → Type 0
+abbrev pub IsTold : (Place → Type 0) → ℕ → Person → Person → Type 0
 IsTold Q n P now = (n ≡ 0 → now ≡ P) × (1 ≤ n → Q now.place)
 
 -- these events do this to the rider, and nothing to others
@@ -65,14 +65,14 @@ leaves_does : (S : Setup) (t i : ℕ) (v : VehicleId) (l : ℕ) → Does S t i (
 unfolding person_after
 leaves_does S t i v l r P = elim (cases_Bool (eqb r.person i)) [ inl e ↦ simp e | inr e ↦ simp e ]
 
-leaves_told : (S : Setup) (t i : ℕ) (v : VehicleId) (l : ℕ) (rs : List Rider) (P : Person) → IsTold IsOff (among_riders i rs) P (person_after_all S t i (flat_map (leaves v l) rs) P)
+pub leaves_told : (S : Setup) (t i : ℕ) (v : VehicleId) (l : ℕ) (rs : List Rider) (P : Person) → IsTold IsOff (among_riders i rs) P (person_after_all S t i (flat_map (leaves v l) rs) P)
 leaves_told S t i v l rs P = each_told S t i (leaves v l) (λ P. start_act S t i P P.place) IsOff (leaves_does S t i v l) (λ P. start_off S t i P P.place refl) rs P
 
-enters_told : (S : Setup) (t i : ℕ) (v : VehicleId) (rs : List Rider) (P : Person) → IsTold (λ (pl : Place). pl ≡ Riding v) (among_riders i rs) P (person_after_all S t i (flat_map (enters v) rs) P)
+pub enters_told : (S : Setup) (t i : ℕ) (v : VehicleId) (rs : List Rider) (P : Person) → IsTold (λ (pl : Place). pl ≡ Riding v) (among_riders i rs) P (person_after_all S t i (flat_map (enters v) rs) P)
 unfolding person_after
 enters_told S t i v rs P = each_told S t i (enters v) (λ P. record P { place = Riding v }) (λ (pl : Place). pl ≡ Riding v) (λ r P. refl) (λ P. refl) rs P
 
-strands_told : (S : Setup) (t i : ℕ) (v : VehicleId) (l : ℕ) (rs : List Rider) (P : Person) → IsTold IsOff (among_riders i rs) P (person_after_all S t i (flat_map (strands v l) rs) P)
+pub strands_told : (S : Setup) (t i : ℕ) (v : VehicleId) (l : ℕ) (rs : List Rider) (P : Person) → IsTold IsOff (among_riders i rs) P (person_after_all S t i (flat_map (strands v l) rs) P)
 unfolding person_after
 strands_told S t i v l rs P = each_told S t i (strands v l) (λ P. record P { place = Removed l }) IsOff (λ r P. refl) (λ P. tt) rs P
 

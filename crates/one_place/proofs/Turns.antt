@@ -354,7 +354,7 @@ turns_keep S t i plan f [] W h = h
 turns_keep S t i plan f (n ∷ ns) W h =
     let V = run S t (plan n W) W in rw (run-append S t (plan n W) (moves_of (turns S t plan ns V)) W) (turns_keep S t i plan f ns V (f n W h))
 
-through_keeps : (S : Setup) (t i : ℕ) (ps : List Phase) (W : World) → InOne i W → InOne i (through S t ps W)
+pub through_keeps : (S : Setup) (t i : ℕ) (ps : List Phase) (W : World) → InOne i W → InOne i (through S t ps W)
 unfolding through turns_in
 through_keeps S t i [] W h = h
 through_keeps S t i (p ∷ ps) W h =

@@ -1,13 +1,14 @@
 -- Which partition owns what, which partitions are neighbours, and by how many seconds what one does may stay unknown to the other.
-use Rattle.std.specs.Prelude.{ℕ, min, Bool, not, ◌&&◌, ◌||◌, List, [], ◌∷◌, ◌++◌, length, map, filter, get_or, ◌==◌, if◌then◌else◌}
+use Rattle.std.specs.Prelude.{ℕ, ◌*◌, min, Bool, not, ◌&&◌, ◌||◌, List, [], ◌∷◌, ◌++◌, length, map, filter, get_or, nat_lt, ◌==◌, if◌then◌else◌}
 use Rattle.std.specs.List.{flat_map, list_any}
 use Rattle.events.specs.declared.event.Event.{Event}
 use Rattle.traffic.specs.Lists.{below}
 use Rattle.traffic.specs.declared.world.Place.{Place}
 use Rattle.traffic.specs.declared.world.Place.TheVariants as place
 use Rattle.traffic.specs.Rows.{World, person_of}
-use Rattle.traffic.specs.Setup.{Setup, Stay, Way, Drive, Teleport, Transit, Itinerary, road, seconds_of, hole_of, stay, next_stay, link_of_stop, departure}
-use Rattle.traffic.specs.Persons.{link_of_vehicle}
+use Rattle.traffic.specs.Setup.{Setup, Stay, Way, Drive, Teleport, Transit, itinerary, way, road, seconds_of, hole_of, stay, next_stay, link_of_stop, departure}
+use Rattle.traffic.specs.declared.world.Row.{Row}
+use Rattle.traffic.specs.Worlds.{listed_in}
 use Rattle.traffic.specs.Day.{world_at}
 
 -- the partition of each node
@@ -25,13 +26,18 @@ begins_in S own l = own (road S l).from
 abbrev pub crosses : Setup → Owner → ℕ → Bool
 crosses S own l = not (begins_in S own l == owner_of S own l)
 
+-- the link of the first row that has a person among its riders
+unfoldable pub link_of_rider : ℕ → List Row → ℕ
+link_of_rider i [] = 0
+link_of_rider i (r ∷ rs) = if nat_lt 0 (listed_in i r) then r.link else link_of_rider i rs
+
 -- the link by which a person belongs to a partition: that of the activity, of the stop, or where he was removed, that of his vehicle, and
 -- that of the next activity while he flies
 abbrev pub link_at : Setup → World → ℕ → ℕ → Place → ℕ
 link_at S W i element (place.At end) = (stay S i element).link
 link_at S W i element (place.Flying start) = (next_stay S i element).link
 link_at S W i element (place.Waiting stop since) = link_of_stop S stop
-link_at S W i element (place.Riding v) = link_of_vehicle v W.rows
+link_at S W i element (place.Riding v) = link_of_rider i W.rows
 link_at S W i element (place.Gone l) = l
 
 abbrev pub owner_of_person : Setup → Owner → World → ℕ → ℕ
@@ -48,15 +54,12 @@ hop here next (Drive route) = []
 hop here next (Teleport mode seconds) = record { from = here.link; to = next.link; seconds = seconds } ∷ []
 hop here next (Transit line access egress) = []
 
--- those of a plan, and of all plans
-unfoldable pub hops_along : List Stay → List Way → List Hop
-hops_along [] ways = []
-hops_along (s ∷ ss) [] = []
-hops_along (s ∷ []) (w ∷ ws) = []
-hops_along (s ∷ next ∷ ss) (w ∷ ws) = hop s next w ++ hops_along (next ∷ ss) ws
+-- those of the leg of this number of person i's plan, and of all legs of all plans
+abbrev pub hop_at : Setup → ℕ → ℕ → List Hop
+hop_at S i k = hop (stay S i (2 * k)) (next_stay S i (2 * k)) (way S i (2 * k))
 
 unfoldable pub hops : Setup → List Hop
-hops S = flat_map (λ (plan : Itinerary). hops_along plan.stays plan.ways) S.persons
+hops S = flat_map (λ i. flat_map (hop_at S i) (below (length (itinerary S i).ways))) (below (length S.persons))
 
 -- whether a link leads from p to q, and whether a teleported leg does
 abbrev pub leads : Setup → Owner → ℕ → ℕ → ℕ → Bool

@@ -1,5 +1,5 @@
 -- What a partition has, what it sends, and what it tells.
-use Rattle.std.specs.Prelude.{ℕ, zero, suc, ◌+◌, ◌-◌, Bool, false, not, ◌&&◌, ◌||◌, List, [], ◌∷◌, ◌++◌, length, map, filter, take, sum_by, ◌==◌, nat_le, is_some, if◌then◌else◌, Option, None, Some}
+use Rattle.std.specs.Prelude.{ℕ, zero, suc, ◌+◌, ◌-◌, Bool, false, not, ◌&&◌, ◌||◌, List, [], ◌∷◌, ◌++◌, length, map, filter, take, sum_by, ◌==◌, nat_le, nat_lt, is_some, if◌then◌else◌, Option, None, Some}
 use Rattle.std.specs.List.{flat_map, list_any}
 use Rattle.events.specs.declared.event.Event.{Event}
 use Rattle.events.specs.declared.event.Phase.{Phase}
@@ -18,6 +18,7 @@ use Rattle.traffic.specs.declared.moves.Move.TheVariants as move
 use Rattle.traffic.specs.Rows.{World, on, at, holes_at, credit_of, person_of}
 use Rattle.traffic.specs.Setup.{Setup, Way, Teleport, way, stay, hole_of}
 use Rattle.traffic.specs.Persons.{stranded}
+use Rattle.traffic.specs.Worlds.{listed}
 use Rattle.traffic.specs.Day.{moves_of, turns_in, through, keyed, world_start, world_at, events_from}
 use Rattle.parts.specs.Owners.{Owner, owner_of, begins_in, crosses, owner_of_person, leads, links_of, near, lag, owner_of_event}
 
@@ -37,6 +38,9 @@ lasting t h holes = filter (λ s. nat_le t (s + h)) holes
 abbrev pub mine : {X : Type 0} → Bool → X → Option X
 mine own x = if own then Some x else None
 
+abbrev pub is_person : Setup → ℕ → Bool
+is_person S i = nat_lt i (length S.persons)
+
 -- the part of p in a world after t seconds
 abbrev pub part : Setup → Owner → ℕ → ℕ → World → Held
 part S own p t W =
@@ -45,7 +49,7 @@ part S own p t W =
       credit = λ l. if owner_of S own l == p then credit_of l W else 0;
       rows = λ m. if begins_in S own m == p then length (at m Queue W) else 0;
       holes = λ m. if begins_in S own m == p then lasting t (hole_of S m) (holes_at m W) else [];
-      person = λ i. mine (owner_of_person S own W i == p) (person_of i W);
+      person = λ i. mine (is_person S i && (owner_of_person S own W i == p)) (person_of i W);
     }
 
 -- THE SECONDS OF THE DAY
@@ -167,21 +171,30 @@ known_list S own k t l s = at l s (world_at S t)
 
 -- whether one of these rows has a person among its riders
 abbrev pub rides_in : ℕ → List Row → Bool
-rides_in i rows = list_any (λ (r : Row). list_any (λ (x : Rider). x.person == i) r.vehicle.riders) rows
+rides_in i rows = nat_lt 0 (listed i rows)
 
--- whether a person's flight to p began in one of the last k seconds before t in another partition
-abbrev pub late_flight : Setup → Owner → (ℕ → ℕ → ℕ) → ℕ → ℕ → ℕ → ℕ → Place → Bool
-late_flight S own k p t i element (place.Flying start) =
+-- the rows that came to p in the last seconds of which it has not heard
+abbrev pub all_late : Setup → Owner → (ℕ → ℕ → ℕ) → ℕ → ℕ → List Row
+all_late S own k p t = flat_map (late_rows S own k t) (filter (λ l. owner_of S own l == p) (links_of S))
+
+-- Whether p has not heard of a person at this place, who is its own: he rides in one of these rows, or his flight to p began in one of the
+-- last k seconds before t in another partition.
+abbrev pub is_late : Setup → Owner → (ℕ → ℕ → ℕ) → ℕ → ℕ → ℕ → ℕ → Place → Bool
+is_late S own k p t i element (place.Riding v) = rides_in i (all_late S own k p t)
+is_late S own k p t i element (place.Flying start) =
     let q = flies_from S own i element in
     not (q == p) && nat_le t (start + k q p)
-late_flight S own k p t i element _ = false
+is_late S own k p t i element _ = false
 
--- whether p knows a person of its own: he rides in no vehicle and is on no flight of which it has not heard
+-- whether p knows of a person of its own
 abbrev pub is_known : Setup → Owner → (ℕ → ℕ → ℕ) → ℕ → ℕ → ℕ → Bool
 is_known S own k p t i =
     let P = person_of i (world_at S t) in
-    not (list_any (λ l. rides_in i (late_rows S own k t l)) (filter (λ l. owner_of S own l == p) (links_of S)))
-    && not (late_flight S own k p t i P.element P.place)
+    not (is_late S own k p t i P.element P.place)
+
+-- the persons of p of whom it knows
+abbrev pub has : Setup → Owner → (ℕ → ℕ → ℕ) → ℕ → ℕ → ℕ → Bool
+has S own k p t i = is_person S i && ((owner_of_person S own (world_at S t) i == p) && is_known S own k p t i)
 
 -- What p has by itself after t seconds where it has not heard of the last k q p seconds of each q: its part without the vehicles, riders
 -- and flights that came to it in them, and with the rows that left over there in them counted as rows and not as holes.
@@ -193,7 +206,7 @@ unheard S own k p t =
       credit = λ l. if owner_of S own l == p then credit_of l W else 0;
       rows = λ m. if begins_in S own m == p then length (at m Queue W) + went_last S m t (up S own k m) else 0;
       holes = λ m. if begins_in S own m == p then lasting t (hole_of S m) (holes_at m (world_at S (t - up S own k m))) else [];
-      person = λ i. mine ((owner_of_person S own W i == p) && is_known S own k p t i) (person_of i W);
+      person = λ i. mine (has S own k p t i) (person_of i W);
     }
 
 -- what p has after t seconds before it absorbs anything, and what it has once it has absorbed one parcel of each neighbour

@@ -7,3 +7,4 @@ pub mod Persons
 pub mod Phases
 pub mod Order
 pub mod Idle
+pub mod ComeInTurn

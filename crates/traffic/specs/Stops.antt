@@ -1,5 +1,5 @@
 -- The service of a stop: who alights, who boards, and until when the vehicle stays.
-use Rattle.std.specs.Prelude.{ℕ, ◌+◌, ◌-◌, ◌*◌, max, Bool, true, false, not, ◌&&◌, ◌||◌, List, [], ◌∷◌, ◌++◌, length, map, filter, take, drop, get_or, ◌==◌, nat_lt, if◌then◌else◌, Option, None, Some}
+use Rattle.std.specs.Prelude.{◌≡◌, ◌<◌, ◌≤◌, ◌⊎◌, ℕ, ◌+◌, ◌-◌, ◌*◌, max, Bool, true, false, not, ◌&&◌, ◌||◌, List, [], ◌∷◌, ◌++◌, length, map, filter, take, drop, get_or, ◌==◌, nat_lt, if◌then◌else◌, Option, None, Some}
 use Rattle.std.specs.List.{list_any}
 use Rattle.events.specs.declared.lists.StopCall.{StopCall}
 use Rattle.traffic.specs.declared.rows.Stage.TheVariants.{Bay}
@@ -46,6 +46,10 @@ may_board v w = (w.stop == (next_call v).stop) && (w.line == v.line) && calls_at
 -- who comes first: by the second since when they wait, then by number
 abbrev pub comes_first : Waiter → Waiter → Bool
 comes_first a b = nat_lt a.since b.since || ((a.since == b.since) && nat_lt a.person b.person)
+
+-- the first comes no later than the second: he waits since an earlier second, or since the same one and his number is no higher
+abbrev pub ComesBefore : Waiter → Waiter → Type 0
+ComesBefore a b = (a.since < b.since) ⊎ ((a.since ≡ b.since) × (a.person ≤ b.person))
 
 -- the list with one more who waits, before the first one who comes after
 unfoldable pub among : Waiter → List Waiter → List Waiter

@@ -1,7 +1,7 @@
 //! The laws of the day: what the crates above take from its definitions. Each is the contract of a
 //! call that does nothing.
 
-ghost use Rattle.std.specs.Prelude.{◌≡◌, ◌≢◌, ℕ, ◌+◌, ◌<◌, List, [], ◌∷◌, length, map, true, false, None, Some};
+ghost use Rattle.std.specs.Prelude.{◌≡◌, ◌≢◌, ℕ, ◌+◌, ◌<◌, List, [], ◌∷◌, length, map, true, false, None, Some, AllPairs, IsPermutation};
 ghost use Rattle.events.specs.declared.event.Mode.{Mode};
 ghost use Rattle.events.specs.declared.event.Phase.{Phase};
 ghost use Rattle.events.specs.declared.event.Word.TheVariants.{EnteredLink, Arrival};
@@ -10,7 +10,7 @@ ghost use Rattle.traffic.specs.declared.rows.Stage.{Stage};
 ghost use Rattle.traffic.specs.Lists.{below};
 ghost use Rattle.traffic.specs.Rows.{World, at, holes_at, credit_of, person_of, At, Flying};
 ghost use Rattle.traffic.specs.Setup.{Setup, Stay, Way, Teleport, Stuck, departure};
-ghost use Rattle.traffic.specs.Stops.{Waiter};
+ghost use Rattle.traffic.specs.Stops.{Waiter, ComesBefore, in_turn};
 ghost use Rattle.traffic.specs.Moves.{Move, Credit, told, done, run, at_after, hole_after, credit_after, person_after_all};
 ghost use Rattle.traffic.specs.Links.{Lane, lane, Rules, link_moves};
 ghost use Rattle.traffic.specs.Nodes.{Sight, ready, node_moves};
@@ -71,6 +71,13 @@ pub fn phases_are_at_once()
 /// The events of a day are in the order of their keys.
 pub fn days_are_in_order()
     ensures { (S : Setup) → Ascends (day S) }
+{}
+
+/// Those who wait at a stop come in turn: the same persons, by the second since when they wait, then by
+/// number.
+pub fn waiters_come_in_turn()
+    ensures same { (ws : List Waiter) → IsPermutation ws (in_turn ws) }
+    ensures order { (ws : List Waiter) → AllPairs ComesBefore (in_turn ws) }
 {}
 
 /// A turn that has nothing to do makes no moves, but for the credit of a link, which is raised.

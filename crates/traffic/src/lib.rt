@@ -13,7 +13,7 @@ mod world;
 
 pub use laws::{
     days_are_in_order, idle_turns_move_nothing, links_keep_apart, moves_are_local,
-    nodes_keep_apart, persons_keep_apart, phases_are_at_once, worked_days,
+    nodes_keep_apart, persons_keep_apart, phases_are_at_once, waiters_come_in_turn, worked_days,
 };
 pub use moves::{Move, Said, SaidList};
 pub use numbers::{Dwelling, Rules, Stuck};

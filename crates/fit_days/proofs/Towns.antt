@@ -189,10 +189,10 @@ setup_fit T chosen k town plans =
     }
 
 -- TOWNS
-plans_fit : (T : TownRows) (chosen : List Plan) → All (λ (p : Plan). fits T (parts_of p) ≡ true) chosen → All (IsPlanIn T) (map parts_of chosen)
+pub plans_fit : (T : TownRows) (chosen : List Plan) → All (λ (p : Plan). fits T (parts_of p) ≡ true) chosen → All (IsPlanIn T) (map parts_of chosen)
 plans_fit T chosen h =
     All-map (IsPlanIn T) parts_of chosen
-    (All-weaker (λ (p : Plan). fits T (parts_of p) ≡ true) (λ (p : Plan). IsPlanIn T (parts_of p)) (λ p g. record { one_more = p.one_more; ends = p.ends; legs = p.sound; fit = g }) chosen h)
+    (All-weaker (λ (p : Plan). fits T (parts_of p) ≡ true) (λ (p : Plan). IsPlanIn T (parts_of p)) (λ p g. record { one_more = p.one_more; few = p.few; ends = p.ends; legs = p.sound; fit = g }) chosen h)
 
 pub town_fit : (town : Town) (chosen : List Plan) (k : ℕ) → All (λ (p : Plan). fits (rows_of town) (parts_of p) ≡ true) chosen → IsFitSetup (counts_in town chosen) (setup_in town chosen k)
 town_fit town chosen k h = setup_fit (rows_of town) (map parts_of chosen) k town.sound (plans_fit (rows_of town) chosen h)

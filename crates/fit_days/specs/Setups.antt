@@ -35,6 +35,7 @@ counts_in town chosen = counts_of (rows_of town) (map parts_of chosen)
 -- a plan that a day of the town can be made from: all that a plan keeps, and it fits the town
 pub record IsPlanIn (T : TownRows) (p : Parts) : Type 0 where
   pub one_more : length p.acts ≡ length p.legs + 1
+  pub few : length p.legs ≤ 8
   pub ends : are_acts p.acts ≡ true
   pub legs : list_all is_leg p.legs ≡ true
   pub fit : fits T p ≡ true

@@ -24,7 +24,8 @@ use Rattle.traffic.specs.declared.numbers.Stuck.{Stuck}
 use Rattle.traffic.specs.declared.sight.Exit.{Exit}
 use Rattle.traffic.specs.Nodes.{exit}
 use Rattle.full_links.specs.Moves.{IsElsewhere, second_moves, KeepsRule}
-use Rattle.full_links.proofs.Turns.{each_append, each_if, each_weaker, Along, along_at, along_each, Turns, along_phases}
+use Rattle.traffic.proofs.Moments.{Along}
+use Rattle.full_links.proofs.Turns.{each_append, each_if, each_weaker, along_at, along_each, Turns, along_phases}
 use Rattle.full_links.proofs.Entering.{Enters, entering_each, node_enters, node_along}
 
 buffer_other : Buffer ≢ Queue

@@ -23,7 +23,8 @@ use Rattle.traffic.specs.Day.{node_plan}
 use Rattle.traffic.specs.Worlds.{IsEntering, EnterByRule}
 use Rattle.traffic.proofs.Sublists.{at-done}
 use Rattle.full_links.specs.Moves.{IsLetIn, KeepsRule}
-use Rattle.full_links.proofs.Turns.{Along, Turns}
+use Rattle.traffic.proofs.Moments.{Along}
+use Rattle.full_links.proofs.Turns.{Turns}
 use Rattle.full_links.proofs.Fronts.{TakesOne, Takes, node_takes}
 
 -- a move of a node's turn: a row goes from a buffer into a queue by the rule, or is taken out of a buffer, or a front is marked

@@ -34,7 +34,8 @@ use Rattle.traffic.proofs.Turns.{moves_of-map}
 use Rattle.traffic.proofs.Phases.{phase_at_once}
 use Rattle.traffic.proofs.Links.{link_moves-at}
 use Rattle.full_links.specs.Moves.{moves_in, second_moves}
-use Rattle.full_links.proofs.Turns.{Along, along_each, Turns, along_phases, through_moves}
+use Rattle.traffic.proofs.Moments.{Along}
+use Rattle.full_links.proofs.Turns.{along_each, Turns, along_phases, through_moves}
 use Rattle.full_links.proofs.Entering.{Enters, entering_each, node_enters}
 use Rattle.full_links.proofs.Elsewhere.{IsFree, IsStart, flight_start, leave_start, departure_start}
 

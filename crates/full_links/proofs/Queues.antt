@@ -16,7 +16,8 @@ use Rattle.traffic.specs.Day.{phases, second, world_start, world_from, world_at}
 use Rattle.traffic.specs.Worlds.{Storage}
 use Rattle.traffic.proofs.Sublists.{at-done}
 use Rattle.full_links.specs.Moves.{second_moves, IsLetIn, KeepsRule}
-use Rattle.full_links.proofs.Turns.{Along, through_moves}
+use Rattle.traffic.proofs.Moments.{Along}
+use Rattle.full_links.proofs.Turns.{through_moves}
 use Rattle.full_links.proofs.Elsewhere.{second_rule}
 
 -- 1 for a row that was not pushed in

@@ -9,6 +9,7 @@ use Rattle.traffic.specs.Setup.{Setup}
 use Rattle.traffic.specs.declared.moves.Move.{Move}
 use Rattle.traffic.specs.Moves.{run, done}
 use Rattle.traffic.specs.Day.{Plan, plan_of, count_of, turns, moves_of, after, turns_in, through}
+use Rattle.traffic.proofs.Moments.{Along, along_append}
 use Rattle.traffic.proofs.Sublists.{run-append}
 use Rattle.full_links.specs.Moves.{moves_in}
 
@@ -24,15 +25,6 @@ each_weaker P Q f [] h = tt
 each_weaker P Q f (x ∷ xs) h = (f x h.0, each_weaker P Q f xs h.1)
 
 -- ALONG MOVES
--- each move is such in the world that those before it left
-abbrev pub Along : (World → Move → Type 0) → Setup → ℕ → List Move → World → Type 0
-Along Q S t [] W = Unit {0}
-Along Q S t (m ∷ ms) W = Q W m × Along Q S t ms (done S t m W)
-
-along_append : (Q : World → Move → Type 0) (S : Setup) (t : ℕ) (xs ys : List Move) (W : World) → Along Q S t xs W → Along Q S t ys (run S t xs W) → Along Q S t (xs ++ ys) W
-along_append Q S t [] ys W h g = g
-along_append Q S t (m ∷ xs) ys W h g = (h.0, along_append Q S t xs ys (done S t m W) h.1 g)
-
 pub along_at : (Q : World → Move → Type 0) (S : Setup) (t : ℕ) (xs ys : List Move) (m : Move) (W : World) → Along Q S t (xs ++ m ∷ ys) W → Q (run S t xs W) m
 along_at Q S t [] ys m W h = h.0
 along_at Q S t (x ∷ xs) ys m W h = along_at Q S t xs ys m (done S t x W) h.1

@@ -8,8 +8,9 @@ pub record Core (H P E : Type 0) : Type 0 where
   pub told : ℕ → List E
   pub box : ℕ → ℕ → List P
 
--- how many partitions there are, which are neighbours and with which lags (each the same both ways and at least 1); and what one does in its second with what it holds and what it absorbs: what it
--- then holds, what it sends to each, and what it tells
+-- How many partitions there are, which are neighbours, and with which lag what the first does becomes known to the second (the lag the other
+-- way may be another one); and what one does in its second with what it holds and what it absorbs: what it then holds, what it sends to each,
+-- and what it tells.
 pub record Rule (H P E : Type 0) : Type 0 where
   pub parts : ℕ
   pub near : ℕ → ℕ → Bool
@@ -59,3 +60,11 @@ Reaches {H} {P} {E} R end (p ∷ ps) c d = Allowed R end p c × Reaches R end ps
 -- the start: nothing is done, told or sent
 abbrev pub start : {H P E : Type 0} → (ℕ → H) → Core H P E
 start {H} {P} {E} hold = record { done = λ p. 0; hold = hold; told = λ p. []; box = λ a b. [] }
+
+-- What the second state says the first one shows: the done seconds of each partition, what those that go on hold and have told, and what was
+-- sent to them and not absorbed. So a state of few partitions, of which some have stopped, stands for a state of the core.
+pub record Shows {H P E : Type 0} (R : Rule H P E) (goes : ℕ → Bool) (c d : Core H P E) : Type 0 where
+  pub done : (p : ℕ) → p < R.parts → c.done p ≡ d.done p
+  pub hold : (p : ℕ) → p < R.parts → goes p ≡ true → c.hold p ≡ d.hold p
+  pub told : (p : ℕ) → p < R.parts → goes p ≡ true → c.told p ≡ d.told p
+  pub box : (a b : ℕ) → R.near a b ≡ true → goes b ≡ true → c.box a b ≡ d.box a b

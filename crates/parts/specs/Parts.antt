@@ -1,5 +1,5 @@
 -- What a partition has, what it sends, and what it tells.
-use Rattle.std.specs.Prelude.{ℕ, zero, suc, ◌+◌, ◌-◌, Bool, false, not, ◌&&◌, ◌||◌, List, [], ◌∷◌, ◌++◌, length, map, filter, take, sum_by, ◌==◌, nat_le, nat_lt, is_some, if◌then◌else◌, Option, None, Some}
+use Rattle.std.specs.Prelude.{ℕ, zero, suc, ◌+◌, ◌-◌, Bool, false, not, ◌&&◌, ◌||◌, List, [], ◌∷◌, ◌++◌, length, map, filter, take, get_or, sum_by, ◌==◌, nat_le, nat_lt, is_some, if◌then◌else◌, Option, None, Some}
 use Rattle.std.specs.List.{flat_map, list_any}
 use Rattle.events.specs.declared.event.Event.{Event}
 use Rattle.events.specs.declared.event.Phase.{Phase}
@@ -16,7 +16,8 @@ use Rattle.traffic.specs.declared.world.Person.{Person}
 use Rattle.traffic.specs.declared.moves.Move.{Move}
 use Rattle.traffic.specs.declared.moves.Move.TheVariants as move
 use Rattle.traffic.specs.Rows.{World, on, at, holes_at, credit_of, person_of}
-use Rattle.traffic.specs.Setup.{Setup, Way, Teleport, way, stay, hole_of}
+use Rattle.traffic.specs.Vehicles.{VehicleState}
+use Rattle.traffic.specs.Setup.{Setup, Way, Teleport, way, stay, seconds_of, hole_of}
 use Rattle.traffic.specs.Persons.{stranded}
 use Rattle.traffic.specs.Worlds.{listed}
 use Rattle.traffic.specs.Day.{moves_of, turns_in, through, keyed, world_start, world_at, events_from}
@@ -111,10 +112,21 @@ pub record Freed : Type 0 where
   pub link : ℕ
   pub rows : ℕ
 
+-- whether any did; a parcel says nothing of the other links
+abbrev pub is_some_freed : Freed → Bool
+is_some_freed f = nat_lt 0 f.rows
+
 pub record Parcel : Type 0 where
   pub vehicles : List Passed
   pub flights : List Flight
   pub freed : List Freed
+
+-- The row of a vehicle as it enters the queue of its link in second t: with its vehicle and the second of the parcel a row that crosses
+-- the border is known whole.
+abbrev pub entering_row : Setup → ℕ → VehicleState → Row
+entering_row S t v =
+    let l = get_or v.route v.place 0 in
+    record { vehicle = v; link = l; stage = Queue; second = t + seconds_of S l }
 
 abbrev pub passed : World → Row → Passed
 passed W row = record { row = row; elements = map (λ (x : Rider). (person_of x.person W).element) row.vehicle.riders }
@@ -140,13 +152,13 @@ flight_from S own p q t W i =
     if (flies_from S own i P.element == p) && (owner_of_person S own W i == q) then flight_at S t i P.element P.place else []
 
 -- The parcel of second t from p to q: the vehicles that phase C moved from p's links to q's, the persons whom phase B1 sent flying from
--- p to q, and for each link of p that begins in q how many rows left its queue in phase D.
+-- p to q, and for each link of p that begins in q how many rows left its queue in phase D, where any did.
 unfoldable pub out : Setup → Owner → ℕ → ℕ → ℕ → Parcel
 out S own p q t =
     record {
       vehicles = map (passed (world_at S t)) (flat_map (enters_queue (leads S own p q)) (node_turns S t));
       flights = flat_map (flight_from S own p q t (world_at S (suc t))) (below (length S.persons));
-      freed = map (λ l. record { link = l; rows = went S l t }) (filter (leads S own q p) (links_of S));
+      freed = filter is_some_freed (map (λ l. record { link = l; rows = went S l t }) (filter (leads S own q p) (links_of S)));
     }
 
 -- WHAT IS NOT HEARD OF

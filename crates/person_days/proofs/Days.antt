@@ -1,7 +1,7 @@
 -- Turns, phases, seconds and the day do their part to one person, and at its end who is under way is stuck.
 use Rattle.std.proofs.Common.{◌≡◌, ℕ, zero, suc, ◌+◌, ◌-◌, ◌*◌, ◌/◌, ◌<◌, ◌≤◌, false, List, [], ◌∷◌, ◌++◌, length, refl, ap, sym, ◌∙◌, subst, eqb, arith, inl, inr, append-nil}
 use Rattle.std.specs.Prelude.{get_or, filter, map, Option, None, Some}
-use Rattle.std.specs.List.{flat_map}
+use Rattle.std.specs.List.{flat_map, AllByRecursion as Each}
 use Rattle.std.proofs.lemmas.Bool.{cases_Bool, cases_lt, eq-eqb, eqb-true, eqb-false, ne_eqb}
 use Rattle.std.proofs.lemmas.List.{length-append, length-map, map-append, get_or-map}
 use Rattle.std.proofs.lemmas.List.Concat.{flat_map-append}
@@ -13,49 +13,65 @@ use Rattle.events.specs.declared.event.Phase.TheVariants as phase
 use Rattle.events.specs.declared.event.Word.TheVariants as word
 use Rattle.events.specs.Keys.{phase_code}
 use Rattle.traffic.specs.declared.moves.Said.{Said}
+use Rattle.traffic.specs.declared.moves.Move.{Move}
+use Rattle.traffic.specs.declared.world.Row.{Row}
 use Rattle.traffic.specs.declared.world.Person.{Person}
 use Rattle.traffic.specs.declared.world.Place.{Place}
 use Rattle.traffic.specs.declared.world.Place.TheVariants.{At, Flying, Waiting, Riding, Gone as Removed}
 use Rattle.traffic.specs.Lists.{numbers, below}
-use Rattle.traffic.specs.Rows.{World, person_of, nobody}
+use Rattle.traffic.specs.Rows.{World, at, person_of, nobody}
 use Rattle.traffic.specs.Setup.{Setup, Stay, Itinerary, stay, way, itinerary}
-use Rattle.traffic.specs.Moves.{told, run}
+use Rattle.traffic.specs.Moves.{told, done, run}
 use Rattle.traffic.specs.Persons.{mode_of_way, stuck_at, stranded}
-use Rattle.traffic.specs.Day.{Turn, plan_of, count_of, turns, moves_of, after, turns_in, keyed, events_of, events_in, through, told_in, phases, first_end, at_home, world_start, world_from, events_from, end_events, world_at, day}
+use Rattle.traffic.specs.Day.{Turn, link_plan, plan_of, count_of, turns, moves_of, after, turns_in, keyed, events_of, events_in, through, told_in, phases, first_end, at_home, world_start, world_from, events_from, end_events, world_at, day}
 use Rattle.traffic.proofs.Sublists.{run-append}
+use Rattle.traffic.proofs.Moments.{Along}
 use Rattle.one_place.proofs.Places.{InOne}
 use Rattle.one_place.proofs.Turns.{turn_keeps, start_kept}
-use Rattle.person_days.specs.Trips.{leg, legs, IsPlanned, names, of_person, is_step, steps, InTurn}
-use Rattle.person_days.proofs.Events.{IsLast, own, told_steps, steps_append, Rest, worth, HasLeg, IsFitAt}
-use Rattle.person_days.proofs.Turns.{IsSane, Good, Along, Passes, passes_append, passes_none, moves_pass, link_along, node_along, flight_along, leave_along, departure_along}
+use Rattle.person_days.specs.Trips.{Places, anywhere, leg, legs, IsPlanned, names, of_person, is_step, steps, InTurn}
+use Rattle.person_days.proofs.Events.{IsPlan, IsLast, own, told_steps, steps_append, Rest, worth, HasLeg, IsFitAt}
+use Rattle.person_days.proofs.Turns.{AlightsAt, MayAlight, IsSane, Good, Passes, passes_append, passes_none, moves_pass, link_along, node_along, flight_along, leave_along, departure_along}
 
-turn_along : (S : Setup) (t n i : ℕ) (p : Phase) (W : World) → IsPlanned S i → InOne i W → Along (Good S t i) S t (plan_of S t p n W) W
+-- What keeps a person's events at these places: a predicate of worlds that a day has at its start and that turns keep, and by which whoever
+-- alights in a link's turn does so at a place that will do.
+pub record Keeps (A : Places) (S : Setup) (i : ℕ) (B : World → Type 0) : Type 0 where
+  pub plan : IsPlan A S i
+  pub start : B (world_start S)
+  pub turn : (t n : ℕ) (p : Phase) (W : World) → n < count_of S p → B W → B (run S t (plan_of S t p n W) W)
+  pub alight : (t l : ℕ) (W : World) → l < length S.links → B W → Along (λ V m. MayAlight A i V) S t (link_plan S t l W) W
+
+turn_along : (A : Places) (S : Setup) (t n i : ℕ) (p : Phase) (B : World → Type 0) (W : World) → Keeps A S i B → n < count_of S p → B W → InOne i W → Along (Good A S t i) S t (plan_of S t p n W) W
 unfolding plan_of
-turn_along S t n i phase.A W pl h = flight_along S t n i W pl h
-turn_along S t n i phase.B1 W pl h = leave_along S t n i W h
-turn_along S t n i phase.B2 W pl h = departure_along S t n i W h.there
-turn_along S t n i phase.C W pl h = node_along S t n i W h
-turn_along S t n i phase.D W pl h = link_along S t n i W pl h
-turn_along S t n i phase.E W pl h = tt
+turn_along A S t n i phase.A B W k lt b h = flight_along A S t n i W k.plan h
+turn_along A S t n i phase.B1 B W k lt b h = leave_along A S t n i W k.plan h
+turn_along A S t n i phase.B2 B W k lt b h = departure_along A S t n i W h.there
+turn_along A S t n i phase.C B W k lt b h = node_along A S t n i W h
+turn_along A S t n i phase.D B W k lt b h = link_along A S t n i W k.plan (k.alight t n W lt b) h
+turn_along A S t n i phase.E B W k lt b h = tt
 
 -- a world in which person i is in one place, and which is sane
-record IsFine (S : Setup) (i : ℕ) (W : World) : Type 0 where
+record IsFine (S : Setup) (i : ℕ) (B : World → Type 0) (W : World) : Type 0 where
   in_one : InOne i W
   sane : IsSane S i W
+  kept : B W
 
-abbrev Goes : Setup → ℕ → World → World → List Said → Type 0
-Goes S i W V es = Passes S i W V es × IsFine S i V
+abbrev Goes : Places → Setup → ℕ → (World → Type 0) → World → World → List Said → Type 0
+Goes A S i B W V es = Passes A S i W V es × IsFine S i B V
 
-turns_go : (S : Setup) (t i : ℕ) (p : Phase) (ns : List ℕ) (W : World) → IsPlanned S i → IsFine S i W → Goes S i W (after S t (turns S t (plan_of S t p) ns W) W) (flat_map told (moves_of (turns S t (plan_of S t p) ns W)))
+turns_go : (A : Places) (S : Setup) (t i : ℕ) (p : Phase) (B : World → Type 0) (ns : List ℕ) (W : World) → Keeps A S i B → Each (λ n. n < count_of S p) ns → IsFine S i B W → Goes A S i B W (after S t (turns S t (plan_of S t p) ns W) W) (flat_map told (moves_of (turns S t (plan_of S t p) ns W)))
 unfolding turns
-turns_go S t i p [] W pl h = (passes_none S i W h.sane, h)
-turns_go S t i p (n ∷ ns) W pl h =
+turns_go A S t i p B [] W k few h = (passes_none A S i W h.sane, h)
+turns_go A S t i p B (n ∷ ns) W k few h =
     let ms = plan_of S t p n W in
     let V = run S t ms W in
     let us = moves_of (turns S t (plan_of S t p) ns V) in
-    let x = moves_pass S t i ms W (turn_along S t n i p W pl h.in_one) h.sane in
-    let y = turns_go S t i p ns V pl (record { in_one = turn_keeps S t n i p W h.in_one; sane = x.1 }) in
-    rw (run-append S t ms us W, flat_map-append told ms us) (passes_append S i W V (run S t us V) (flat_map told ms) (flat_map told us) x.0 y.0, y.1)
+    let x = moves_pass A S t i ms W (turn_along A S t n i p B W k few.0 h.kept h.in_one) h.sane in
+    let y = turns_go A S t i p B ns V k few.1 (record { in_one = turn_keeps S t n i p W h.in_one; sane = x.1; kept = k.turn t n p W few.0 h.kept }) in
+    rw (run-append S t ms us W, flat_map-append told ms us) (passes_append A S i W V (run S t us V) (flat_map told ms) (flat_map told us) x.0 y.0, y.1)
+
+each_number : (m k n : ℕ) → k + n ≤ m → Each (λ i. i < m) (numbers k n)
+each_number m k zero h = tt
+each_number m k (suc n) h = (omega arith, each_number m (k + 1) n (omega arith))
 
 -- EVENTS WITHOUT THEIR KEYS
 abbrev unkeyed : Event → Said
@@ -78,9 +94,9 @@ bare_own : (i : ℕ) (es : List Event) → own i (bare es) ≡ bare (filter (of_
 bare_own i [] = refl
 bare_own i (e ∷ es) = elim (cases_Bool (names i e.person)) [ inl q ↦ simp q (ap (λ ys. unkeyed e ∷ ys) (bare_own i es)) | inr q ↦ simp q (bare_own i es) ]
 
-bare_steps : (es : List Event) → told_steps (bare es) ≡ map (λ (e : Event). (e.word, e.more)) (filter (λ (e : Event). is_step e.word) es)
+bare_steps : (es : List Event) → told_steps (bare es) ≡ map (λ (e : Event). (e.word, e.link, e.more)) (filter (λ (e : Event). is_step e.word) es)
 bare_steps [] = refl
-bare_steps (e ∷ es) = elim (cases_Bool (is_step e.word)) [ inl q ↦ simp q (ap (λ ys. (e.word, e.more) ∷ ys) (bare_steps es)) | inr q ↦ simp q (bare_steps es) ]
+bare_steps (e ∷ es) = elim (cases_Bool (is_step e.word)) [ inl q ↦ simp q (ap (λ ys. (e.word, e.link, e.more) ∷ ys) (bare_steps es)) | inr q ↦ simp q (bare_steps es) ]
 
 steps_are : (i : ℕ) (es : List Event) → told_steps (own i (bare es)) ≡ steps i es
 unfolding steps
@@ -90,22 +106,24 @@ count_is : (i : ℕ) (es : List Event) → length (own i (bare es)) ≡ length (
 count_is i es = ap (λ (xs : List Said). length xs) (bare_own i es) ∙ length-map (filter (of_person i) es) unkeyed
 
 -- PHASES, SECONDS, DAYS
-through_goes : (S : Setup) (t i : ℕ) (ps : List Phase) (W : World) → IsPlanned S i → IsFine S i W → Goes S i W (through S t ps W) (bare (told_in S t ps W))
+through_goes : (A : Places) (S : Setup) (t i : ℕ) (B : World → Type 0) (ps : List Phase) (W : World) → Keeps A S i B → IsFine S i B W → Goes A S i B W (through S t ps W) (bare (told_in S t ps W))
 unfolding through told_in turns_in
-through_goes S t i [] W pl h = (passes_none S i W h.sane, h)
-through_goes S t i (p ∷ ps) W pl h =
+through_goes A S t i B [] W k h = (passes_none A S i W h.sane, h)
+through_goes A S t i B (p ∷ ps) W k h =
     let us = turns_in S t p W in
     let V = after S t us W in
-    let y = turns_go S t i p (below (count_of S p)) W pl h in
-    rw (map-append unkeyed (events_in t p us) (told_in S t ps V), bare_events t p us) (let z = through_goes S t i ps V pl y.1 in (passes_append S i W V (through S t ps V) (flat_map told (moves_of us)) (bare (told_in S t ps V)) y.0 z.0, z.1))
+    let n = count_of S p in
+    let y = turns_go A S t i p B (below n) W k (each_number n 0 n (omega arith)) h in
+    rw (map-append unkeyed (events_in t p us) (told_in S t ps V), bare_events t p us) (let z = through_goes A S t i B ps V k y.1 in (passes_append A S i W V (through S t ps V) (flat_map told (moves_of us)) (bare (told_in S t ps V)) y.0 z.0, z.1))
 
-from_goes : (S : Setup) (i : ℕ) (W : World) (t : ℕ) → IsPlanned S i → IsFine S i W → Goes S i W (world_from S W t) (bare (events_from S W t))
+from_goes : (A : Places) (S : Setup) (i : ℕ) (B : World → Type 0) (W : World) (t : ℕ) → Keeps A S i B → IsFine S i B W → Goes A S i B W (world_from S W t) (bare (events_from S W t))
 unfolding world_from events_from
-from_goes S i W zero pl h = (passes_none S i W h.sane, h)
-from_goes S i W (suc t) pl h =
+from_goes A S i B W zero k h = (passes_none A S i W h.sane, h)
+from_goes A S i B W (suc t) k h =
     let V = world_from S W t in
-    let y = from_goes S i W t pl h in
-    rw (map-append unkeyed (events_from S W t) (told_in S t phases V)) (let z = through_goes S t i phases V pl y.1 in (passes_append S i W V (through S t phases V) (bare (events_from S W t)) (bare (told_in S t phases V)) y.0 z.0, z.1))
+    let y = from_goes A S i B W t k h in
+    rw (map-append unkeyed (events_from S W t) (told_in S t phases V))
+    (let z = through_goes A S t i B phases V k y.1 in (passes_append A S i W V (through S t phases V) (bare (events_from S W t)) (bare (told_in S t phases V)) y.0 z.0, z.1))
 
 -- the end of the day
 stuck_other : (S : Setup) (W : World) (j i : ℕ) (here : Stay) (m : Mode) (pl : Place) → eqb j i ≡ false → own i (stuck_at S W j here m pl) ≡ []
@@ -114,15 +132,15 @@ stuck_other S W j i here m (Removed l) q = refl
 stuck_other S W j i here m _ q = simp q
 
 -- what may follow, and no more than it is worth
-abbrev Ends : Setup → ℕ → Person → List Said → Type 0
-Ends S i P es = Rest S i P (told_steps es) × (length es ≤ worth S i P) × IsLast es
+abbrev Ends : Places → Setup → ℕ → Person → List Said → Type 0
+Ends A S i P es = Rest A S i P (told_steps es) × (length es ≤ worth S i P) × IsLast es
 
-stuck_ends : (S : Setup) (W : World) (i e : ℕ) (here : Stay) (pl : Place) → Ends S i (record { element = e; place = pl }) (own i (stuck_at S W i here (mode_of_way (leg S i (e / 2))) pl))
-stuck_ends S W i e here (At end) = (tt, omega arith, tt)
-stuck_ends S W i e here (Flying start) = let q = eq-eqb i i refl in simp q (refl, omega arith, ((λ k. refl), tt))
-stuck_ends S W i e here (Waiting stop since) = let q = eq-eqb i i refl in simp q (refl, omega arith, ((λ k. refl), tt))
-stuck_ends S W i e here (Riding v) = let q = eq-eqb i i refl in simp q (refl, omega arith, ((λ k. refl), tt))
-stuck_ends S W i e here (Removed l) = (refl, omega arith, tt)
+stuck_ends : (A : Places) (S : Setup) (W : World) (i e : ℕ) (here : Stay) (pl : Place) → Ends A S i (record { element = e; place = pl }) (own i (stuck_at S W i here (mode_of_way (leg S i (e / 2))) pl))
+stuck_ends A S W i e here (At end) = (tt, omega arith, tt)
+stuck_ends A S W i e here (Flying start) = let q = eq-eqb i i refl in simp q ((refl, tt, refl), omega arith, ((λ k. refl), tt))
+stuck_ends A S W i e here (Waiting stop since) = let q = eq-eqb i i refl in simp q ((refl, tt, refl), omega arith, ((λ k. refl), tt))
+stuck_ends A S W i e here (Riding v) = let q = eq-eqb i i refl in simp q ((refl, tt, refl), omega arith, ((λ k. refl), tt))
+stuck_ends A S W i e here (Removed l) = (refl, omega arith, tt)
 
 own_none : (S : Setup) (W : World) (i k n : ℕ) → i < k → own i (flat_map (stranded S W) (numbers k n)) ≡ []
 unfolding stranded
@@ -154,11 +172,11 @@ bare_end S t W (j ∷ ns) =
     map-append unkeyed (keyed t (phase_code phase.E) j 0 (stranded S W j)) _ ∙ ap (λ (xs : List Said). xs ++ bare (flat_map (λ j. keyed t (phase_code phase.E) j 0 (stranded S W j)) ns)) (bare_keyed t (phase_code phase.E) j 0 (stranded S W j))
     ∙ ap (λ (xs : List Said). stranded S W j ++ xs) (bare_end S t W ns)
 
-end_ends : (S : Setup) (t i : ℕ) (W : World) → i < length S.persons → Ends S i (person_of i W) (own i (bare (end_events S t W)))
+end_ends : (A : Places) (S : Setup) (t i : ℕ) (W : World) → i < length S.persons → Ends A S i (person_of i W) (own i (bare (end_events S t W)))
 unfolding end_events stranded
-end_ends S t i W lt =
+end_ends A S t i W lt =
     let P = person_of i W in
-    rw (bare_end S t W (below (length S.persons)), own_one S W i 0 (length S.persons) (omega arith) (omega arith)) (stuck_ends S W i P.element (stay S i P.element) P.place)
+    rw (bare_end S t W (below (length S.persons)), own_one S W i 0 (length S.persons) (omega arith) (omega arith)) (stuck_ends A S W i P.element (stay S i P.element) P.place)
 
 -- THE WHOLE DAY
 start_is : (S : Setup) (i : ℕ) → i < length S.persons → person_of i (world_start S) ≡ at_home (itinerary S i)
@@ -173,28 +191,30 @@ first_act : (stays : List Stay) (n : ℕ) → (n ≤ 0 → (get_or stays 0 (reco
 first_act [] n h = tt
 first_act (s ∷ ss) n h = first_leg n s.end h
 
-start_fine : (S : Setup) (i : ℕ) → IsPlanned S i → i < length S.persons → IsFine S i (world_start S)
+start_fine : (A : Places) (S : Setup) (i : ℕ) (B : World → Type 0) → Keeps A S i B → i < length S.persons → IsFine S i B (world_start S)
 unfolding world_start
-start_fine S i p lt =
+start_fine A S i B k lt =
+    let p = k.plan.planned in
     let one = start_kept S in
     let row = one.one_row in
     let home : IsFitAt S i 0 (At (first_end (itinerary S i).stays)) = (refl, first_act (itinerary S i).stays (legs S i) (p.last 0)) in
-    record { in_one = record { there = omega arith; listed = one.one_place i lt }; sane = record { calls = refl; kinds = refl; drivers = refl; fit = rw (start_is S i lt) home } }
+    record { in_one = record { there = omega arith; listed = one.one_place i lt }; sane = record { calls = refl; kinds = refl; drivers = refl; fit = rw (start_is S i lt) home }; kept = k.start }
 
 -- the whole day of a person, from where he is at its start
-abbrev pub HasDay : Setup → ℕ → Type 0
-HasDay S i = InTurn S i 0 (steps i (day S)) × (length (filter (of_person i) (day S)) ≤ 8 * legs S i) × IsLast (bare (filter (of_person i) (day S)))
+abbrev pub HasDay : Places → Setup → ℕ → Type 0
+HasDay A S i = InTurn A S i 0 (steps i (day S)) × (length (filter (of_person i) (day S)) ≤ 8 * legs S i) × IsLast (bare (filter (of_person i) (day S)))
 
-pub has_day : (S : Setup) (i : ℕ) → IsPlanned S i → i < length S.persons → HasDay S i
+pub has_day : (A : Places) (S : Setup) (i : ℕ) (B : World → Type 0) → Keeps A S i B → i < length S.persons → HasDay A S i
 unfolding day world_start
-has_day S i p lt =
+has_day A S i B k lt =
     let W = world_start S in
     let V = world_at S S.end in
     let xs = bare (events_from S W S.end) in
     let ys = bare (end_events S S.end V) in
-    let f = (from_goes S i W S.end p (start_fine S i p lt)).0.0 in
-    let last = (from_goes S i W S.end p (start_fine S i p lt)).0.1 in
-    let g = end_ends S S.end i V lt in
+    let goes = (from_goes A S i B W S.end k (start_fine A S i B k lt)).0 in
+    let f = goes.0 in
+    let last = goes.1 in
+    let g = end_ends A S S.end i V lt in
     let all : bare (day S) ≡ xs ++ ys = map-append unkeyed (events_from S W S.end) (end_events S S.end V) in
     let own_all : own i (bare (day S)) ≡ own i xs ++ own i ys = ap (own i) all ∙ filter-append (λ (e : Said). names i e.person) xs ys in
     let told : steps i (day S) ≡ told_steps (own i xs) ++ told_steps (own i ys) = sym (steps_are i (day S)) ∙ ap told_steps own_all ∙ steps_append (own i xs) (own i ys) in
@@ -203,7 +223,7 @@ has_day S i p lt =
     let d = g.1 in
     let home = start_is S i lt in
     let start : worth S i (person_of i W) ≡ 8 * (legs S i - 0) = ap (worth S i) home in
-    (rw told (subst (λ (P : Person). Rest S i P (told_steps (own i xs) ++ told_steps (own i ys))) home (f.leads (told_steps (own i ys)) g.0)), omega arith, subst IsLast (sym own_all ∙ bare_own i (day S)) (last (own i ys) (omega arith) g.2))
+    (rw told (subst (λ (P : Person). Rest A S i P (told_steps (own i xs) ++ told_steps (own i ys))) home (f.leads (told_steps (own i ys)) g.0)), omega arith, subst IsLast (sym own_all ∙ bare_own i (day S)) (last (own i ys) (omega arith) g.2))
 
 -- after the event by which he is stuck nothing follows
 last_at : (before later : List Event) (e : Event) → IsLast (bare (before ++ e ∷ later)) → e.word ≡ word.StuckAndAbort → later ≡ []
@@ -211,5 +231,27 @@ last_at [] [] e h q = refl
 last_at [] (x ∷ later) e h q = let z = h.0 q in absurd (cc)
 last_at (b ∷ before) later e h q = last_at before later e h.1 q
 
+-- ANYWHERE
+-- nothing is asked of a place that may be anywhere
+all_rows : (i l element : ℕ) (rows : List Row) → Each (λ (r : Row). AlightsAt anywhere i l element r.vehicle) rows
+all_rows i l element [] = tt
+all_rows i l element (r ∷ rs) = (((λ e h. tt), (λ e f h. tt)), all_rows i l element rs)
+
+all_moves : (S : Setup) (t i : ℕ) (ms : List Move) (W : World) → Along (λ V m. MayAlight anywhere i V) S t ms W
+all_moves S t i [] W = tt
+all_moves S t i (m ∷ ms) W = ((λ l s. all_rows i l (person_of i W).element (at l s W)), all_moves S t i ms (done S t m W))
+
+keeps_anywhere : (S : Setup) (i : ℕ) → IsPlanned S i → Keeps anywhere S i (λ W. Unit {0})
+keeps_anywhere S i p =
+    record {
+      plan = record { planned = p; at_own = λ k. tt };
+      start = tt;
+      turn = λ t n p W lt b. tt;
+      alight = λ t l W lt b. all_moves S t i (link_plan S t l W) W;
+    }
+
+pub has_some_day : (S : Setup) (i : ℕ) → IsPlanned S i → i < length S.persons → HasDay anywhere S i
+has_some_day S i p lt = has_day anywhere S i (λ W. Unit {0}) (keeps_anywhere S i p) lt
+
 pub stuck_last : (S : Setup) (i : ℕ) → IsPlanned S i → i < length S.persons → (before later : List Event) (e : Event) → filter (of_person i) (day S) ≡ before ++ e ∷ later → e.word ≡ word.StuckAndAbort → later ≡ []
-stuck_last S i p lt before later e is q = last_at before later e (subst (λ (es : List Event). IsLast (bare es)) is (has_day S i p lt).2) q
+stuck_last S i p lt before later e is q = last_at before later e (subst (λ (es : List Event). IsLast (bare es)) is (has_some_day S i p lt).2) q

@@ -27,7 +27,7 @@ use Rattle.traffic.specs.declared.world.Row.{Row}
 use Rattle.one_place.proofs.Boarding.{after-append}
 use Rattle.one_place.proofs.Places.{among_riders, rides}
 use Rattle.one_place.proofs.Turns.{lane_of}
-use Rattle.person_days.specs.Trips.{act, leg, legs, IsPlanned, names, is_step, Step, Departs, Arrives, IsStuck, InTurn}
+use Rattle.person_days.specs.Trips.{act, leg, legs, IsPlanned, names, is_step, Step, Places, Says, Departs, Arrives, IsStuck, InTurn}
 
 pub half_two : (e : ℕ) → (e + 2) / 2 ≡ e / 2 + 1
 half_two e = omega arith
@@ -37,7 +37,7 @@ abbrev pub own : ℕ → List Said → List Said
 own i es = filter (λ (e : Said). names i e.person) es
 
 abbrev pub told_steps : List Said → List Step
-told_steps es = map (λ (e : Said). (e.word, e.more)) (filter (λ (e : Said). is_step e.word) es)
+told_steps es = map (λ (e : Said). (e.word, e.link, e.more)) (filter (λ (e : Said). is_step e.word) es)
 
 untold : (S : Setup) (t i : ℕ) (e : Said) (o : Option ℕ) (P : Person) → names i o ≡ false → told_of S t i e o P ≡ P
 untold S t i e None P h = refl
@@ -56,21 +56,26 @@ pub own_all : (i : ℕ) (es : List Said) → Each (λ (e : Said). names i e.pers
 own_all i [] h = refl
 own_all i (e ∷ es) h = simp h.0 (ap (λ xs. e ∷ xs) (own_all i es h.1))
 
+-- a plan of which an event of an activity may name the activity's own link
+pub record IsPlan (A : Places) (S : Setup) (i : ℕ) : Type 0 where
+  pub planned : IsPlanned S i
+  pub at_own : (k : ℕ) → A k (Some (act S i k).link)
+
 -- WHERE HE IS
 -- the steps of a leg that is under way, and of the legs after it
-abbrev pub UnderWay : Setup → ℕ → ℕ → List Step → Type 0
-UnderWay S i k [] = ⊥
-UnderWay S i k (c ∷ []) = IsStuck S i k c
-UnderWay S i k (c ∷ d ∷ es) = Arrives S i k c d × InTurn S i (k + 1) es
+abbrev pub UnderWay : Places → Setup → ℕ → ℕ → List Step → Type 0
+UnderWay A S i k [] = ⊥
+UnderWay A S i k (c ∷ []) = IsStuck S i k c
+UnderWay A S i k (c ∷ d ∷ es) = Arrives A S i k c d × InTurn A S i (k + 1) es
 
 -- the steps that may follow where he is, at element k or in leg k
-abbrev pub RestAt : Setup → ℕ → ℕ → Place → List Step → Type 0
-RestAt S i k (At end) es = InTurn S i k es
-RestAt S i k (Removed l) es = es ≡ []
-RestAt S i k _ es = UnderWay S i k es
+abbrev pub RestAt : Places → Setup → ℕ → ℕ → Place → List Step → Type 0
+RestAt A S i k (At end) es = InTurn A S i k es
+RestAt A S i k (Removed l) es = es ≡ []
+RestAt A S i k _ es = UnderWay A S i k es
 
-abbrev pub Rest : Setup → ℕ → Person → List Step → Type 0
-Rest S i P es = RestAt S i (P.element / 2) P.place es
+abbrev pub Rest : Places → Setup → ℕ → Person → List Step → Type 0
+Rest A S i P es = RestAt A S i (P.element / 2) P.place es
 
 -- how many events of him may follow, of a plan of n legs
 abbrev pub worth_at : ℕ → ℕ → Place → ℕ
@@ -101,49 +106,49 @@ IsFit S i P = IsFitAt S i P.element P.place
 
 -- WHAT EVENTS DO
 -- the steps that these events tell lead on to those that may follow them
-abbrev pub Leads : Setup → ℕ → Person → List Step → Person → Type 0
-Leads S i P xs Q = (es : List Step) → Rest S i Q es → Rest S i P (xs ++ es)
+abbrev pub Leads : Places → Setup → ℕ → Person → List Step → Person → Type 0
+Leads A S i P xs Q = (es : List Step) → Rest A S i Q es → Rest A S i P (xs ++ es)
 
 -- from here to there by so many events that tell these steps, while cars are worth a before and b after them
-pub record Goes (S : Setup) (i : ℕ) (P Q : Person) (xs : List Step) (n a b : ℕ) : Type 0 where
-  pub leads : Leads S i P xs Q
+pub record Goes (A : Places) (S : Setup) (i : ℕ) (P Q : Person) (xs : List Step) (n a b : ℕ) : Type 0 where
+  pub leads : Leads A S i P xs Q
   pub cost : n + worth S i Q + b ≤ worth S i P + a
   pub fit : IsFit S i Q
 
 -- these events of person i, told in second t
-abbrev pub Does : Setup → ℕ → ℕ → Person → List Said → ℕ → ℕ → Type 0
-Does S t i P es a b = Goes S i P (person_after_all S t i es P) (told_steps es) (length es) a b
+abbrev pub Does : Places → Setup → ℕ → ℕ → Person → List Said → ℕ → ℕ → Type 0
+Does A S t i P es a b = Goes A S i P (person_after_all S t i es P) (told_steps es) (length es) a b
 
-pub does_nil : (S : Setup) (t i : ℕ) (P : Person) (a b : ℕ) → IsFit S i P → b ≤ a → Does S t i P [] a b
-does_nil S t i P a b f le = record { leads = λ es h. h; cost = omega arith; fit = f }
+pub does_nil : (A : Places) (S : Setup) (t i : ℕ) (P : Person) (a b : ℕ) → IsFit S i P → b ≤ a → Does A S t i P [] a b
+does_nil A S t i P a b f le = record { leads = λ es h. h; cost = omega arith; fit = f }
 
-pub goes_append : (S : Setup) (i : ℕ) (P Q R : Person) (xs ys : List Step) (n m a b c : ℕ) → Goes S i P Q xs n a b → Goes S i Q R ys m b c → Goes S i P R (xs ++ ys) (n + m) a c
-goes_append S i P Q R xs ys n m a b c f g =
+pub goes_append : (A : Places) (S : Setup) (i : ℕ) (P Q R : Person) (xs ys : List Step) (n m a b c : ℕ) → Goes A S i P Q xs n a b → Goes A S i Q R ys m b c → Goes A S i P R (xs ++ ys) (n + m) a c
+goes_append A S i P Q R xs ys n m a b c f g =
     let fc = f.cost in
     let gc = g.cost in record { leads = λ es h. rw (append_assoc xs ys es) (f.leads (ys ++ es) (g.leads es h)); cost = omega arith; fit = g.fit }
 
-pub goes_less : (S : Setup) (i : ℕ) (P Q : Person) (xs : List Step) (n a b c d : ℕ) → a ≤ c → d ≤ b → Goes S i P Q xs n a b → Goes S i P Q xs n c d
-goes_less S i P Q xs n a b c d le ge f = let fc = f.cost in record { leads = f.leads; cost = omega arith; fit = f.fit }
+pub goes_less : (A : Places) (S : Setup) (i : ℕ) (P Q : Person) (xs : List Step) (n a b c d : ℕ) → a ≤ c → d ≤ b → Goes A S i P Q xs n a b → Goes A S i P Q xs n c d
+goes_less A S i P Q xs n a b c d le ge f = let fc = f.cost in record { leads = f.leads; cost = omega arith; fit = f.fit }
 
 pub steps_append : (xs ys : List Said) → told_steps (xs ++ ys) ≡ told_steps xs ++ told_steps ys
-steps_append xs ys = ap (map (λ (e : Said). (e.word, e.more))) (filter-append (λ (e : Said). is_step e.word) xs ys) ∙ map-append _ _ _
+steps_append xs ys = ap (map (λ (e : Said). (e.word, e.link, e.more))) (filter-append (λ (e : Said). is_step e.word) xs ys) ∙ map-append _ _ _
 
-does_append : (S : Setup) (t i : ℕ) (P : Person) (xs ys : List Said) (a b c : ℕ) → Does S t i P xs a b → Does S t i (person_after_all S t i xs P) ys b c → Does S t i P (xs ++ ys) a c
-does_append S t i P xs ys a b c f g =
+does_append : (A : Places) (S : Setup) (t i : ℕ) (P : Person) (xs ys : List Said) (a b c : ℕ) → Does A S t i P xs a b → Does A S t i (person_after_all S t i xs P) ys b c → Does A S t i P (xs ++ ys) a c
+does_append A S t i P xs ys a b c f g =
     let Q = person_after_all S t i xs P in
     rw (after-append S t i xs ys P, steps_append xs ys, length-append xs ys)
-    (goes_append S i P Q (person_after_all S t i ys Q) (told_steps xs) (told_steps ys) (length xs) (length ys) a b c f g)
+    (goes_append A S i P Q (person_after_all S t i ys Q) (told_steps xs) (told_steps ys) (length xs) (length ys) a b c f g)
 
 -- the same for what is told of him among others
-pub own_append : (S : Setup) (t i : ℕ) (P : Person) (xs ys : List Said) (a b c : ℕ) → Does S t i P (own i xs) a b → Does S t i (person_after_all S t i (own i xs) P) (own i ys) b c → Does S t i P (own i (xs ++ ys)) a c
-own_append S t i P xs ys a b c f g = rw (filter-append (λ (e : Said). names i e.person) xs ys) (does_append S t i P (own i xs) (own i ys) a b c f g)
+pub own_append : (A : Places) (S : Setup) (t i : ℕ) (P : Person) (xs ys : List Said) (a b c : ℕ) → Does A S t i P (own i xs) a b → Does A S t i (person_after_all S t i (own i xs) P) (own i ys) b c → Does A S t i P (own i (xs ++ ys)) a c
+own_append A S t i P xs ys a b c f g = rw (filter-append (λ (e : Said). names i e.person) xs ys) (does_append A S t i P (own i xs) (own i ys) a b c f g)
 
 -- what changes nothing may be passed over
 pub own_skip : (S : Setup) (t i : ℕ) (P : Person) (xs ys : List Said) → person_after_all S t i (own i xs) P ≡ P → person_after_all S t i (own i (xs ++ ys)) P ≡ person_after_all S t i (own i ys) P
 own_skip S t i P xs ys q = rw (filter-append (λ (e : Said). names i e.person) xs ys, after-append S t i (own i xs) (own i ys) P, q) refl
 
-pub own_quiet : (S : Setup) (t i : ℕ) (P : Person) (xs ys : List Said) (a b c : ℕ) → person_after_all S t i (own i xs) P ≡ P → Does S t i P (own i xs) a b → Does S t i P (own i ys) b c → Does S t i P (own i (xs ++ ys)) a c
-own_quiet S t i P xs ys a b c q f g = own_append S t i P xs ys a b c f (rw q g)
+pub own_quiet : (A : Places) (S : Setup) (t i : ℕ) (P : Person) (xs ys : List Said) (a b c : ℕ) → person_after_all S t i (own i xs) P ≡ P → Does A S t i P (own i xs) a b → Does A S t i P (own i ys) b c → Does A S t i P (own i (xs ++ ys)) a c
+own_quiet A S t i P xs ys a b c q f g = own_append A S t i P xs ys a b c f (rw q g)
 
 -- he is in a vehicle of this mode, or waits for a line
 abbrev pub IsIn : VehicleId → Place → Type 0
@@ -163,70 +168,72 @@ fit_start : (S : Setup) (t i e : ℕ) → IsPlanned S i → e ≡ 2 * (e / 2) + 
 fit_start S t i e p odd = (omega arith, has_leg (legs S i) ((e + 1) / 2) t (stay S i (e + 1)).end (p.last ((e + 1) / 2)))
 
 -- a leg arrives, and the next activity starts
-starts_next : (S : Setup) (i k j : ℕ) (c d : Step) (es : List Step) → j ≡ k + 1 → Arrives S i k c d → InTurn S i j es → UnderWay S i k (c ∷ d ∷ es)
-starts_next S i k j c d es q f h = (f, subst (λ (x : ℕ). InTurn S i x es) q h)
+starts_next : (A : Places) (S : Setup) (i k j : ℕ) (c d : Step) (es : List Step) → j ≡ k + 1 → Arrives A S i k c d → InTurn A S i j es → UnderWay A S i k (c ∷ d ∷ es)
+starts_next A S i k j c d es q f h = (f, subst (λ (x : ℕ). InTurn A S i x es) q h)
 
-sets_out : (S : Setup) (i k : ℕ) (a b : Step) (es : List Step) → Departs S i k a b → UnderWay S i k es → InTurn S i k (a ∷ b ∷ es)
-sets_out S i k a b [] f h = absurd h
-sets_out S i k a b (c ∷ []) f h = (f, h)
-sets_out S i k a b (c ∷ d ∷ es) f h = (f, h.0, h.1)
+sets_out : (A : Places) (S : Setup) (i k : ℕ) (a b : Step) (es : List Step) → Departs A S i k a b → UnderWay A S i k es → InTurn A S i k (a ∷ b ∷ es)
+sets_out A S i k a b [] f h = absurd h
+sets_out A S i k a b (c ∷ []) f h = (f, h)
+sets_out A S i k a b (c ∷ d ∷ es) f h = (f, h.0, h.1)
 
-leaves_does : (S : Setup) (t i e a l : ℕ) (v : VehicleId) (r : Rider) (pl : Place) → IsPlanned S i → IsFitAt S i e pl → IsIn v pl → r.kind ≡ (act S i (e / 2 + 1)).kind → eqb r.person i ≡ true →
-    Does S t i (record { element = e; place = pl }) (own i (leaves v l r)) a a
+leaves_does : (A : Places) (S : Setup) (t i e a l : ℕ) (v : VehicleId) (r : Rider) (pl : Place) → IsPlan A S i → IsFitAt S i e pl → IsIn v pl → r.kind ≡ (act S i (e / 2 + 1)).kind → A (e / 2 + 1) (Some l) → eqb r.person i ≡ true →
+    Does A S t i (record { element = e; place = pl }) (own i (leaves v l r)) a a
 unfolding person_after
-leaves_does S t i e a l v r (Riding u) p f m k q =
+leaves_does A S t i e a l v r (Riding u) p f m k here q =
     let odd = f.0 in
     let half : (e + 1) / 2 ≡ e / 2 + 1 = omega arith in
     rw (own_all i (leaves v l r) (q, (q, (q, tt)))) (simp q (record {
-      leads = λ es h. starts_next S i (e / 2) ((e + 1) / 2) (word.Arrival, more.Mode (mode_in v)) (word.ActStart, more.Kind r.kind) es half (ap (λ x. (word.Arrival, more.Mode x)) (m ∙ f.1), ap (λ x. (word.ActStart, more.Kind x)) k) h;
+      leads = λ es h. starts_next A S i (e / 2) ((e + 1) / 2) (word.Arrival, Some l, more.Mode (mode_in v)) (word.ActStart, Some l, more.Kind r.kind) es half ((refl, here, ap (λ x. more.Mode x) (m ∙ f.1)), (refl, here, ap (λ x. more.Kind x) k)) h;
       cost = omega arith;
-      fit = fit_start S t i e p odd;
+      fit = fit_start S t i e p.planned odd;
     }))
-leaves_does S t i e a l v r _ p f m k q = absurd m
+leaves_does A S t i e a l v r _ p f m k here q = absurd m
 
-strands_does : (S : Setup) (t i e a l : ℕ) (v : VehicleId) (r : Rider) (pl : Place) → IsFitAt S i e pl → IsIn v pl → eqb r.person i ≡ true → Does S t i (record { element = e; place = pl }) (own i (strands v l r)) a a
+strands_does : (A : Places) (S : Setup) (t i e a l : ℕ) (v : VehicleId) (r : Rider) (pl : Place) → IsFitAt S i e pl → IsIn v pl → eqb r.person i ≡ true → Does A S t i (record { element = e; place = pl }) (own i (strands v l r)) a a
 unfolding person_after
-strands_does S t i e a l v r (Riding u) f m q =
-    rw (own_all i (strands v l r) (q, tt)) (simp q (record { leads = λ es h. rw h (ap (λ x. (word.StuckAndAbort, more.Mode x)) (m ∙ f.1)); cost = omega arith; fit = tt }))
-strands_does S t i e a l v r _ f m q = absurd m
+strands_does A S t i e a l v r (Riding u) f m q =
+    rw (own_all i (strands v l r) (q, tt)) (simp q (record { leads = λ es h. rw h (refl, tt, ap (λ x. more.Mode x) (m ∙ f.1)); cost = omega arith; fit = tt }))
+strands_does A S t i e a l v r _ f m q = absurd m
 
-enters_does : (S : Setup) (t i e a : ℕ) (v : VehicleId) (r : Rider) (pl : Place) → IsFitAt S i e pl → IsWaiting pl → mode_in v ≡ mode.Pt → eqb r.person i ≡ true →
-    Does S t i (record { element = e; place = pl }) (own i (enters v r)) a a
+enters_does : (A : Places) (S : Setup) (t i e a : ℕ) (v : VehicleId) (r : Rider) (pl : Place) → IsFitAt S i e pl → IsWaiting pl → mode_in v ≡ mode.Pt → eqb r.person i ≡ true →
+    Does A S t i (record { element = e; place = pl }) (own i (enters v r)) a a
 unfolding person_after
-enters_does S t i e a v r (Waiting stop since) f h m q = rw (own_all i (enters v r) (q, tt)) (simp q (record { leads = λ es h. h; cost = omega arith; fit = (f.0, m ∙ sym f.1) }))
-enters_does S t i e a v r _ f h m q = absurd h
+enters_does A S t i e a v r (Waiting stop since) f h m q = rw (own_all i (enters v r) (q, tt)) (simp q (record { leads = λ es h. h; cost = omega arith; fit = (f.0, m ∙ sym f.1) }))
+enters_does A S t i e a v r _ f h m q = absurd h
 
 -- HIS OWN TURN
-pub lands_does : (S : Setup) (t i e a seconds : ℕ) (start : ℕ) (m : Mode) (next : Stay) → IsPlanned S i → IsFitAt S i e (Flying start) → m ≡ mode_of_way (leg S i (e / 2)) → next.kind ≡ (act S i (e / 2 + 1)).kind →
-    Does S t i (record { element = e; place = Flying start }) (own i (lands i m seconds next)) a a
+pub lands_does : (A : Places) (S : Setup) (t i e a seconds : ℕ) (start : ℕ) (m : Mode) (next : Stay) → IsPlan A S i → IsFitAt S i e (Flying start) → m ≡ mode_of_way (leg S i (e / 2)) → next ≡ act S i (e / 2 + 1) →
+    Does A S t i (record { element = e; place = Flying start }) (own i (lands i m seconds next)) a a
 unfolding person_after
-lands_does S t i e a seconds start m next p odd w k =
+lands_does A S t i e a seconds start m next p odd w k =
     let q = eq-eqb i i refl in
+    let here : A (e / 2 + 1) (Some next.link) = rw k (p.at_own (e / 2 + 1)) in
     let half : (e + 1) / 2 ≡ e / 2 + 1 = omega arith in
     rw (own_all i (lands i m seconds next) (q, (q, (q, tt)))) (simp q (record {
-      leads = λ es h. starts_next S i (e / 2) ((e + 1) / 2) (word.Arrival, more.Mode m) (word.ActStart, more.Kind next.kind) es half (ap (λ x. (word.Arrival, more.Mode x)) w, ap (λ x. (word.ActStart, more.Kind x)) k) h;
+      leads = λ es h. starts_next A S i (e / 2) ((e + 1) / 2) (word.Arrival, Some next.link, more.Mode m) (word.ActStart, Some next.link, more.Kind next.kind) es half ((refl, here, ap (λ x. more.Mode x) w), (refl, here, ap (λ (x : Stay). more.Kind x.kind) k)) h;
       cost = omega arith;
-      fit = fit_start S t i e p odd;
+      fit = fit_start S t i e p.planned odd;
     }))
 
-pub departs_does : (S : Setup) (t i e a end : ℕ) (here : Stay) (w : Way) → IsFitAt S i e (At (Some end)) → here.kind ≡ (act S i (e / 2)).kind → mode_of_way w ≡ mode_of_way (leg S i (e / 2)) →
-    Does S t i (record { element = e; place = At (Some end) }) (own i (departs i here w)) a a
+pub departs_does : (A : Places) (S : Setup) (t i e a end : ℕ) (here : Stay) (w : Way) → IsPlan A S i → IsFitAt S i e (At (Some end)) → here ≡ act S i (e / 2) → mode_of_way w ≡ mode_of_way (leg S i (e / 2)) →
+    Does A S t i (record { element = e; place = At (Some end) }) (own i (departs i here w)) a a
 unfolding person_after
-departs_does S t i e a end here w f k m =
+departs_does A S t i e a end here w p f k m =
     let q = eq-eqb i i refl in
+    let place : A (e / 2) (Some here.link) = rw k (p.at_own (e / 2)) in
     let even = f.0 in
     let lt : e / 2 < legs S i = f.1 in
     let half : (e + 1) / 2 ≡ e / 2 = omega arith in
     rw (own_all i (departs i here w) (q, (q, tt))) (simp q (record {
-      leads = λ es h. sets_out S i (e / 2) _ _ es (lt, ap (λ x. (word.ActEnd, more.Kind x)) k, ap (λ x. (word.Departure, more.Mode x)) m) (subst (λ (x : ℕ). UnderWay S i x es) half h);
+      leads = λ es h. sets_out A S i (e / 2) _ _ es (lt, (refl, place, ap (λ (x : Stay). more.Kind x.kind) k), (refl, place, ap (λ x. more.Mode x) m)) (subst (λ (x : ℕ). UnderWay A S i x es) half h);
       cost = omega arith;
       fit = omega arith;
     }))
 
-pub waits_does : (S : Setup) (t i e a l stop start : ℕ) → IsFitAt S i e (Flying start) → mode_of_way (leg S i (e / 2)) ≡ mode.Pt →
-    Does S t i (record { element = e; place = Flying start }) (own i (of_person word.WaitingForPt i l (more.Stop stop) ∷ [])) a a
+pub waits_does : (A : Places) (S : Setup) (t i e a l stop start : ℕ) → IsFitAt S i e (Flying start) → mode_of_way (leg S i (e / 2)) ≡ mode.Pt →
+    Does A S t i (record { element = e; place = Flying start }) (own i (of_person word.WaitingForPt i l (more.Stop stop) ∷ [])) a a
 unfolding person_after
-waits_does S t i e a l stop start odd m = let q = eq-eqb i i refl in rw (own_all i (of_person word.WaitingForPt i l (more.Stop stop) ∷ []) (q, tt)) (simp q (record { leads = λ es h. h; cost = omega arith; fit = (odd, m) }))
+waits_does A S t i e a l stop start odd m = let q = eq-eqb i i refl in rw (own_all i (of_person word.WaitingForPt i l (more.Stop stop) ∷ []) (q, tt)) (simp q (record { leads = λ es h. h; cost = omega arith; fit = (odd, m) }))
 
 -- CARS
 -- how many events of its driver a car may still tell: that it enters traffic and leaves it
@@ -234,10 +241,10 @@ abbrev pub car_worth : ℕ → VehicleId → Bool → ℕ
 car_worth i (Car j) started = if j == i then (if started then 1 else 2) else 0
 car_worth i (Transit d) started = 0
 
-pub enters_car : (S : Setup) (t i e start : ℕ) → IsFitAt S i e (Flying start) → mode.Car ≡ mode_of_way (leg S i (e / 2)) →
-    Does S t i (record { element = e; place = Flying start }) (own i (of_rider word.PersonEntersVehicle i (Car i) ∷ [])) 0 (car_worth i (Car i) false)
+pub enters_car : (A : Places) (S : Setup) (t i e start : ℕ) → IsFitAt S i e (Flying start) → mode.Car ≡ mode_of_way (leg S i (e / 2)) →
+    Does A S t i (record { element = e; place = Flying start }) (own i (of_rider word.PersonEntersVehicle i (Car i) ∷ [])) 0 (car_worth i (Car i) false)
 unfolding person_after
-enters_car S t i e start odd m = let q = eq-eqb i i refl in rw (own_all i (of_rider word.PersonEntersVehicle i (Car i) ∷ []) (q, tt)) (simp q (record { leads = λ es h. h; cost = omega arith; fit = (odd, m) }))
+enters_car A S t i e start odd m = let q = eq-eqb i i refl in rw (own_all i (of_rider word.PersonEntersVehicle i (Car i) ∷ []) (q, tt)) (simp q (record { leads = λ es h. h; cost = omega arith; fit = (odd, m) }))
 
 -- COUNTS
 pub count_yes : {X : Type 0} (p : X → Bool) (x : X) (xs : List X) → p x ≡ true → count_by p (x ∷ xs) ≡ 1 + count_by p xs
@@ -267,18 +274,18 @@ abbrev pub IsRight : ℕ → ℕ → Rider → Type 0
 IsRight i K r = eqb r.person i ≡ true → r.kind ≡ K
 
 -- what is told of him where he is one of these
-riders_do : (S : Setup) (t i : ℕ) (P : Person) (a K : ℕ) (tells : Rider → List Said) → IsOther i tells → IsFit S i P → (rs : List Rider) → All (IsRight i K) rs → among_riders i rs ≤ 1 →
-    (1 ≤ among_riders i rs → (r : Rider) → r.kind ≡ K → eqb r.person i ≡ true → Does S t i P (own i (tells r)) a a) → Does S t i P (own i (flat_map tells rs)) a a
-riders_do S t i P a K tells f fit [] right few g = does_nil S t i P a a fit (omega arith)
-riders_do S t i P a K tells f fit (r ∷ rs) right few g =
+riders_do : (A : Places) (S : Setup) (t i : ℕ) (P : Person) (a K : ℕ) (tells : Rider → List Said) → IsOther i tells → IsFit S i P → (rs : List Rider) → All (IsRight i K) rs → among_riders i rs ≤ 1 →
+    (1 ≤ among_riders i rs → (r : Rider) → r.kind ≡ K → eqb r.person i ≡ true → Does A S t i P (own i (tells r)) a a) → Does A S t i P (own i (flat_map tells rs)) a a
+riders_do A S t i P a K tells f fit [] right few g = does_nil A S t i P a a fit (omega arith)
+riders_do A S t i P a K tells f fit (r ∷ rs) right few g =
     elim (cases_Bool (eqb r.person i)) [
       | inl e ↦
           let c = count_yes (is_rider i) r rs e in
           let d = g (omega arith) r (All-head (IsRight i K) r rs right e) e in
-          own_append S t i P (tells r) (flat_map tells rs) a a a d (rw (none_told i tells f rs (omega arith)) (does_nil S t i _ a a d.fit (omega arith)))
+          own_append A S t i P (tells r) (flat_map tells rs) a a a d (rw (none_told i tells f rs (omega arith)) (does_nil A S t i _ a a d.fit (omega arith)))
       | inr e ↦
           let c = count_no (is_rider i) r rs e in
-          own_append S t i P (tells r) (flat_map tells rs) a a a (rw (f r e) (does_nil S t i P a a fit (omega arith))) (rw (f r e) (riders_do S t i P a K tells f fit rs (All-tail (IsRight i K) r rs right) (omega arith) (λ h. g (omega arith))))
+          own_append A S t i P (tells r) (flat_map tells rs) a a a (rw (f r e) (does_nil A S t i P a a fit (omega arith))) (rw (f r e) (riders_do A S t i P a K tells f fit rs (All-tail (IsRight i K) r rs right) (omega arith) (λ h. g (omega arith))))
     ]
 
 leaves_other : (i l : ℕ) (v : VehicleId) → IsOther i (leaves v l)
@@ -297,26 +304,27 @@ kind_next S i P = (act S i (P.element / 2 + 1)).kind
 abbrev pub AreRight : Setup → ℕ → Person → List Rider → Type 0
 AreRight S i P rs = All (IsRight i (kind_next S i P)) rs
 
-pub riders_leave : (S : Setup) (t i : ℕ) (P : Person) (a l : ℕ) (v : VehicleId) (rs : List Rider) → IsPlanned S i → IsFit S i P → AreRight S i P rs → among_riders i rs ≤ 1 → (1 ≤ among_riders i rs → IsIn v P.place) → Does S t i P (own i (flat_map (leaves v l) rs)) a a
-riders_leave S t i P a l v rs p fit right few h = riders_do S t i P a (kind_next S i P) (leaves v l) (leaves_other i l v) fit rs right few (λ g r k q. leaves_does S t i P.element a l v r P.place p fit (h g) k q)
+pub riders_leave : (A : Places) (S : Setup) (t i : ℕ) (P : Person) (a l : ℕ) (v : VehicleId) (rs : List Rider) → IsPlan A S i → IsFit S i P → AreRight S i P rs → among_riders i rs ≤ 1 → (1 ≤ among_riders i rs → IsIn v P.place × A (P.element / 2 + 1) (Some l)) → Does A S t i P (own i (flat_map (leaves v l) rs)) a a
+riders_leave A S t i P a l v rs p fit right few h =
+    riders_do A S t i P a (kind_next S i P) (leaves v l) (leaves_other i l v) fit rs right few (λ g r k q. leaves_does A S t i P.element a l v r P.place p fit (h g).0 k (h g).1 q)
 
-pub riders_stuck : (S : Setup) (t i : ℕ) (P : Person) (a l : ℕ) (v : VehicleId) (rs : List Rider) → IsFit S i P → AreRight S i P rs → among_riders i rs ≤ 1 → (1 ≤ among_riders i rs → IsIn v P.place) → Does S t i P (own i (flat_map (strands v l) rs)) a a
-riders_stuck S t i P a l v rs fit right few h = riders_do S t i P a (kind_next S i P) (strands v l) (strands_other i l v) fit rs right few (λ g r k q. strands_does S t i P.element a l v r P.place fit (h g) q)
+pub riders_stuck : (A : Places) (S : Setup) (t i : ℕ) (P : Person) (a l : ℕ) (v : VehicleId) (rs : List Rider) → IsFit S i P → AreRight S i P rs → among_riders i rs ≤ 1 → (1 ≤ among_riders i rs → IsIn v P.place) → Does A S t i P (own i (flat_map (strands v l) rs)) a a
+riders_stuck A S t i P a l v rs fit right few h = riders_do A S t i P a (kind_next S i P) (strands v l) (strands_other i l v) fit rs right few (λ g r k q. strands_does A S t i P.element a l v r P.place fit (h g) q)
 
 -- where none of them is person i
 none_leaves : (S : Setup) (t i : ℕ) (P : Person) (l : ℕ) (v : VehicleId) (rs : List Rider) → among_riders i rs ≡ 0 → person_after_all S t i (own i (flat_map (leaves v l) rs)) P ≡ P
 none_leaves S t i P l v rs q = ap (λ (es : List Said). person_after_all S t i es P) (none_told i (leaves v l) (leaves_other i l v) rs q)
 
 -- some leave the vehicle, and others enter it
-pub riders_change : (S : Setup) (t i : ℕ) (P : Person) (a l : ℕ) (v : VehicleId) (outs ins : List Rider) → IsPlanned S i → IsFit S i P → AreRight S i P outs → AreRight S i P ins → among_riders i outs ≤ 1 → (1 ≤ among_riders i outs → IsIn v P.place) →
-    among_riders i ins ≤ 1 → (1 ≤ among_riders i ins → (among_riders i outs ≡ 0) × IsWaiting P.place × (mode_in v ≡ mode.Pt)) → Does S t i P (own i (flat_map (leaves v l) outs ++ flat_map (enters v) ins)) a a
-riders_change S t i P a l v outs ins p fit right rest few h once g =
+pub riders_change : (A : Places) (S : Setup) (t i : ℕ) (P : Person) (a l : ℕ) (v : VehicleId) (outs ins : List Rider) → IsPlan A S i → IsFit S i P → AreRight S i P outs → AreRight S i P ins → among_riders i outs ≤ 1 → (1 ≤ among_riders i outs → IsIn v P.place × A (P.element / 2 + 1) (Some l)) →
+    among_riders i ins ≤ 1 → (1 ≤ among_riders i ins → (among_riders i outs ≡ 0) × IsWaiting P.place × (mode_in v ≡ mode.Pt)) → Does A S t i P (own i (flat_map (leaves v l) outs ++ flat_map (enters v) ins)) a a
+riders_change A S t i P a l v outs ins p fit right rest few h once g =
     let xs = own i (flat_map (leaves v l) outs) in
-    let d : Does S t i P xs a a = riders_leave S t i P a l v outs p fit right few h in
+    let d : Does A S t i P xs a a = riders_leave A S t i P a l v outs p fit right few h in
     let Q = person_after_all S t i xs P in
-    own_append S t i P (flat_map (leaves v l) outs) (flat_map (enters v) ins) a a a d
-    (riders_do S t i Q a (kind_next S i P) (enters v) (enters_other i v) d.fit ins rest once
-    (λ k r u q. let b = g k in enters_does S t i Q.element a v r Q.place d.fit (subst (λ (x : Person). IsWaiting x.place) (sym (none_leaves S t i P l v outs b.0)) b.1) b.2 q))
+    own_append A S t i P (flat_map (leaves v l) outs) (flat_map (enters v) ins) a a a d
+    (riders_do A S t i Q a (kind_next S i P) (enters v) (enters_other i v) d.fit ins rest once
+    (λ k r u q. let b = g k in enters_does A S t i Q.element a v r Q.place d.fit (subst (λ (x : Person). IsWaiting x.place) (sym (none_leaves S t i P l v outs b.0)) b.1) b.2 q))
 
 enters_element : (S : Setup) (t i : ℕ) (v : VehicleId) (rs : List Rider) (P : Person) → (person_after_all S t i (flat_map (enters v) rs) P).element ≡ P.element
 unfolding person_after
@@ -341,11 +349,11 @@ car_less i (Car j) b = elim (cases_Bool (eqb j i)) [ inl q ↦ simp q (elim b as
 car_less i (Transit d) b = omega arith
 
 -- it enters traffic, where it has not yet
-pub driver_starts : (S : Setup) (t i : ℕ) (P : Person) (v : VehicleId) (l : ℕ) (b : Bool) → IsFit S i P → Does S t i P (own i (if b then [] else of_driver word.VehicleEntersTraffic v l ∷ [])) (car_worth i v b) (car_worth i v true)
+pub driver_starts : (A : Places) (S : Setup) (t i : ℕ) (P : Person) (v : VehicleId) (l : ℕ) (b : Bool) → IsFit S i P → Does A S t i P (own i (if b then [] else of_driver word.VehicleEntersTraffic v l ∷ [])) (car_worth i v b) (car_worth i v true)
 unfolding person_after
-driver_starts S t i P v l true f = does_nil S t i P _ _ f (omega arith)
-driver_starts S t i P (Car j) l false f = elim (cases_Bool (eqb j i)) [ inl q ↦ simp q (record { leads = λ es h. h; cost = omega arith; fit = f }) | inr q ↦ simp q (does_nil S t i P 0 0 f (omega arith)) ]
-driver_starts S t i P (Transit d) l false f = does_nil S t i P _ _ f (omega arith)
+driver_starts A S t i P v l true f = does_nil A S t i P _ _ f (omega arith)
+driver_starts A S t i P (Car j) l false f = elim (cases_Bool (eqb j i)) [ inl q ↦ simp q (record { leads = λ es h. h; cost = omega arith; fit = f }) | inr q ↦ simp q (does_nil A S t i P 0 0 f (omega arith)) ]
+driver_starts A S t i P (Transit d) l false f = does_nil A S t i P _ _ f (omega arith)
 
 starts_same : (S : Setup) (t i : ℕ) (P : Person) (v : VehicleId) (l : ℕ) (b : Bool) → person_after_all S t i (own i (if b then [] else of_driver word.VehicleEntersTraffic v l ∷ [])) P ≡ P
 unfolding person_after
@@ -354,10 +362,10 @@ starts_same S t i P (Car j) l false = elim (cases_Bool (eqb j i)) [ inl q ↦ si
 starts_same S t i P (Transit d) l false = refl
 
 -- it leaves traffic
-pub driver_ends : (S : Setup) (t i : ℕ) (P : Person) (v : VehicleId) (l : ℕ) → IsFit S i P → Does S t i P (own i (of_driver word.VehicleLeavesTraffic v l ∷ [])) (car_worth i v true) 0
+pub driver_ends : (A : Places) (S : Setup) (t i : ℕ) (P : Person) (v : VehicleId) (l : ℕ) → IsFit S i P → Does A S t i P (own i (of_driver word.VehicleLeavesTraffic v l ∷ [])) (car_worth i v true) 0
 unfolding person_after
-driver_ends S t i P (Car j) l f = elim (cases_Bool (eqb j i)) [ inl q ↦ simp q (record { leads = λ es h. h; cost = omega arith; fit = f }) | inr q ↦ simp q (does_nil S t i P 0 0 f (omega arith)) ]
-driver_ends S t i P (Transit d) l f = does_nil S t i P _ _ f (omega arith)
+driver_ends A S t i P (Car j) l f = elim (cases_Bool (eqb j i)) [ inl q ↦ simp q (record { leads = λ es h. h; cost = omega arith; fit = f }) | inr q ↦ simp q (does_nil A S t i P 0 0 f (omega arith)) ]
+driver_ends A S t i P (Transit d) l f = does_nil A S t i P _ _ f (omega arith)
 
 ends_same : (S : Setup) (t i : ℕ) (P : Person) (v : VehicleId) (l : ℕ) → person_after_all S t i (own i (of_driver word.VehicleLeavesTraffic v l ∷ [])) P ≡ P
 unfolding person_after
@@ -366,11 +374,11 @@ ends_same S t i P (Transit d) l = refl
 
 -- WHOLE VEHICLES
 -- a vehicle at the end of its route
-pub arrives_does : (S : Setup) (t i : ℕ) (P : Person) (r : Row) → IsPlanned S i → IsFit S i P → AreRight S i P r.vehicle.riders → rides i r.vehicle ≤ 1 → (1 ≤ rides i r.vehicle → IsIn r.vehicle.id P.place) → Does S t i P (own i (arrives r)) (car_worth i r.vehicle.id true) 0
-arrives_does S t i P r p f right few h =
+pub arrives_does : (A : Places) (S : Setup) (t i : ℕ) (P : Person) (r : Row) → IsPlan A S i → IsFit S i P → AreRight S i P r.vehicle.riders → rides i r.vehicle ≤ 1 → (1 ≤ rides i r.vehicle → IsIn r.vehicle.id P.place × A (P.element / 2 + 1) (Some r.link)) → Does A S t i P (own i (arrives r)) (car_worth i r.vehicle.id true) 0
+arrives_does A S t i P r p f right few h =
     let v = r.vehicle in
-    own_quiet S t i P (of_driver word.VehicleLeavesTraffic v.id r.link ∷ []) (flat_map (leaves v.id r.link) v.riders) (car_worth i v.id true) 0 0
-    (ends_same S t i P v.id r.link) (driver_ends S t i P v.id r.link f) (riders_leave S t i P 0 r.link v.id v.riders p f right few h)
+    own_quiet A S t i P (of_driver word.VehicleLeavesTraffic v.id r.link ∷ []) (flat_map (leaves v.id r.link) v.riders) (car_worth i v.id true) 0 0
+    (ends_same S t i P v.id r.link) (driver_ends A S t i P v.id r.link f) (riders_leave A S t i P 0 r.link v.id v.riders p f right few h)
 
 pub nobody_arrives : (S : Setup) (t i : ℕ) (P : Person) (r : Row) → rides i r.vehicle ≡ 0 → person_after_all S t i (own i (arrives r)) P ≡ P
 nobody_arrives S t i P r h =
@@ -382,9 +390,9 @@ abbrev pub front : Bool → Row → List Said → List Said
 front true r es = starts r ++ es
 front false r es = es
 
-pub front_does : (S : Setup) (t i : ℕ) (P : Person) (s : Bool) (r : Row) (es : List Said) (b : ℕ) → IsFit S i P → Does S t i P (own i es) (car_worth i r.vehicle.id true) b → Does S t i P (own i (front s r es)) (car_worth i r.vehicle.id r.vehicle.started) b
-front_does S t i P true r es b f d = let v = r.vehicle in own_quiet S t i P (starts r) es _ _ b (starts_same S t i P v.id r.link v.started) (driver_starts S t i P v.id r.link v.started f) d
-front_does S t i P false r es b f d = goes_less S i P _ _ _ _ b _ b (car_less i r.vehicle.id r.vehicle.started) (omega arith) d
+pub front_does : (A : Places) (S : Setup) (t i : ℕ) (P : Person) (s : Bool) (r : Row) (es : List Said) (b : ℕ) → IsFit S i P → Does A S t i P (own i es) (car_worth i r.vehicle.id true) b → Does A S t i P (own i (front s r es)) (car_worth i r.vehicle.id r.vehicle.started) b
+front_does A S t i P true r es b f d = let v = r.vehicle in own_quiet A S t i P (starts r) es _ _ b (starts_same S t i P v.id r.link v.started) (driver_starts A S t i P v.id r.link v.started f) d
+front_does A S t i P false r es b f d = goes_less A S i P _ _ _ _ b _ b (car_less i r.vehicle.id r.vehicle.started) (omega arith) d
 
 pub put_front : (s : Bool) (r now : Row) → told_put (lane_of s) r now ≡ front s r (told_to now.stage r now)
 put_front true r now = refl

@@ -1,6 +1,6 @@
 -- Each move of a turn does its part to one person, in the world that the moves before it left.
 use Rattle.std.proofs.Common.{◌≡◌, ℕ, ◌+◌, ◌/◌, ◌<◌, ◌≤◌, Bool, true, false, List, [], ◌∷◌, ◌++◌, length, refl, ap, sym, ◌∙◌, subst, arith, inl, inr, zero, suc, ◌-◌, eqb, append-nil, append_assoc, ◌*◌, get_or}
-use Rattle.std.specs.Prelude.{All, slice_get, nat_lt, ◌⊎◌, if◌then◌else◌, Some, map, not, nat_le, ◌==◌, Option, None}
+use Rattle.std.specs.Prelude.{All, filter, slice_get, nat_lt, ◌⊎◌, if◌then◌else◌, Some, map, not, nat_le, ◌==◌, Option, None}
 use Rattle.std.specs.List.{flat_map, list_any, AllByRecursion as Each}
 use Rattle.std.proofs.lemmas.Bool.{cases_Bool, and_parts, ltb-true, cases_lt, eq-eqb, eqb-true}
 use Rattle.std.proofs.lemmas.List.{length-append}
@@ -29,6 +29,7 @@ use Rattle.traffic.specs.Moves.{told, done, run, rows_after, person_after_all, a
 use Rattle.traffic.specs.Persons.{same_vehicle, waits_on, waiter, waiters, mode_of_way, lands, landing, landing_moves, sets_out, departs, leaving, leaving_moves, departure_moves, transit_vehicle}
 use Rattle.traffic.specs.Worlds.{IsListed, listed_in, listed, rows_of}
 use Rattle.traffic.proofs.Sublists.{person-done, at-done, persons-length}
+use Rattle.traffic.proofs.Moments.{Along, along_append, along_rest, along_if, along_then, along_else}
 use Rattle.traffic.specs.declared.numbers.Rules.{Rules}
 use Rattle.traffic.specs.declared.rows.Stage.TheVariants.{Bay, Buffer}
 use Rattle.traffic.specs.declared.moves.Move.TheVariants.{Put, Gone, Credit, Free, Mark, Tell, New}
@@ -43,8 +44,8 @@ use Rattle.traffic.specs.Nodes.{sight, next_link, entered, one_more, is_stuck, m
 use Rattle.one_place.proofs.Places.{vehicles, after_move, listed_once, weight, weight-without, weighed, IsTaken, took, brought, rides, rides_in, counted, listed-rows_of, listed_part, InOne, among_riders, rides_few, vehicle_of, move_keeps, Stays}
 use Rattle.one_place.proofs.Boarding.{in_line, left_few, left_none, board_few, as_riders, boarded-are, riders_are, served_are, waits_few, line_one, waiters_in_line, aborts_out}
 use Rattle.one_place.proofs.Turns.{lane_of, Midst, stop_next, end_next, pass_next, told_front, told_end, row_after, without_after, bay_keeps, front_gone, Held, held_filter, held_numbers, picked_held, picked_keeps, marks_keep}
-use Rattle.person_days.specs.Trips.{act, names, IsPlanned, leg, legs}
-use Rattle.person_days.proofs.Events.{IsCalm, worth, worth_at, IsLast, Stops, stops_last, calm_put, calm_gone, stuck_count, stuck_place, own, told_steps, steps_append, IsFit, Goes, Does, goes_append, after_own, car_worth, half_two, does_nil, goes_less, IsFitAt, lands_does, departs_does, waits_does, enters_car, IsIn, kind_next, AreRight, wrong, wrong_few, all_right, count_yes, count_no, IsWaiting, IsRight, none_wrong, change_element, riders_change, nobody_changes, arrives_does, nobody_arrives, front, front_does, put_front, gone_front, riders_stuck, nobody_stuck}
+use Rattle.person_days.specs.Trips.{Places, act, names, leg, legs}
+use Rattle.person_days.proofs.Events.{IsPlan, IsCalm, worth, worth_at, IsLast, Stops, stops_last, calm_put, calm_gone, stuck_count, stuck_place, own, told_steps, steps_append, IsFit, Goes, Does, goes_append, after_own, car_worth, half_two, does_nil, goes_less, IsFitAt, lands_does, departs_does, waits_does, enters_car, IsIn, kind_next, AreRight, wrong, wrong_few, all_right, count_yes, count_no, IsWaiting, IsRight, none_wrong, change_element, riders_change, nobody_changes, arrives_does, nobody_arrives, front, front_does, put_front, gone_front, riders_stuck, nobody_stuck}
 
 -- what the cars of person i are worth, and how many calls cars have
 abbrev pub cars : ℕ → VehicleState → ℕ
@@ -88,22 +89,22 @@ abbrev pub spare : Setup → ℕ → World → ℕ
 spare S i W = worth S i (person_of i W) + weight (cars i) W.rows
 
 -- it takes what it says, and what it tells does its part to person i
-pub record IsGood (S : Setup) (t i : ℕ) (W : World) (m : Move) : Type 0 where
+pub record IsGood (A : Places) (S : Setup) (t i : ℕ) (W : World) (m : Move) : Type 0 where
   pub taken : IsTaken m W
   pub there : i < length W.persons
   pub calls : brought strays m ≤ took strays m
   pub drivers : IsSane S i W → brought (lone i) m ≤ took (lone i) m
   pub stops : IsSane S i W → Stops i (told m) (spare S i (done S t m W))
   pub kinds : IsSane S i W → KeepsKinds S t i W m
-  pub does : IsSane S i W → Does S t i (person_of i W) (own i (told m)) (took (cars i) m) (brought (cars i) m)
+  pub does : IsSane S i W → Does A S t i (person_of i W) (own i (told m)) (took (cars i) m) (brought (cars i) m)
 
-abbrev pub Good : Setup → ℕ → ℕ → World → Move → Type 0
-Good S t i W m = IsGood S t i W m
+abbrev pub Good : Places → Setup → ℕ → ℕ → World → Move → Type 0
+Good A S t i W m = IsGood A S t i W m
 
 -- a move that is nothing to him
-quiet_good : (S : Setup) (t i : ℕ) (W : World) (m : Move) → IsTaken m W → i < length W.persons → own i (told m) ≡ [] → brought strays m ≤ took strays m → brought (lone i) m ≤ took (lone i) m → brought (cars i) m ≤ took (cars i) m →
-    ((kind : ℕ) → brought (wrongs i kind) m ≤ took (wrongs i kind) m) → Each IsCalm (told m) → Good S t i W m
-quiet_good S t i W m taken lt nil a b c d calm =
+quiet_good : (A : Places) (S : Setup) (t i : ℕ) (W : World) (m : Move) → IsTaken m W → i < length W.persons → own i (told m) ≡ [] → brought strays m ≤ took strays m → brought (lone i) m ≤ took (lone i) m → brought (cars i) m ≤ took (cars i) m →
+    ((kind : ℕ) → brought (wrongs i kind) m ≤ took (wrongs i kind) m) → Each IsCalm (told m) → Good A S t i W m
+quiet_good A S t i W m taken lt nil a b c d calm =
     let P = person_of i W in
     record {
       taken = taken;
@@ -112,21 +113,21 @@ quiet_good S t i W m taken lt nil a b c d calm =
       drivers = λ sane. b;
       stops = λ sane. inl calm;
       kinds = λ sane. inr (ap (λ (x : Person). x.element / 2) (after_own S t i (told m) P ∙ ap (λ (es : List Said). person_after_all S t i es P) nil), d (kind_next S i P));
-      does = λ sane. rw nil (does_nil S t i P _ _ sane.fit c);
+      does = λ sane. rw nil (does_nil A S t i P _ _ sane.fit c);
     }
 
 -- from world to world by these events
-abbrev pub Passes : Setup → ℕ → World → World → List Said → Type 0
-Passes S i W V es =
-    Goes S i (person_of i W) (person_of i V) (told_steps (own i es)) (length (own i es)) (weight (cars i) W.rows) (weight (cars i) V.rows)
+abbrev pub Passes : Places → Setup → ℕ → World → World → List Said → Type 0
+Passes A S i W V es =
+    Goes A S i (person_of i W) (person_of i V) (told_steps (own i es)) (length (own i es)) (weight (cars i) W.rows) (weight (cars i) V.rows)
     × ((ys : List Said) → length ys ≤ spare S i V → IsLast ys → IsLast (own i es ++ ys))
 
 -- the row of the person after a move
 pub person_then : (S : Setup) (t i : ℕ) (m : Move) (W : World) → i < length W.persons → person_of i (done S t m W) ≡ person_after_all S t i (own i (told m)) (person_of i W)
 person_then S t i m W lt = person-done S t i m W lt ∙ after_own S t i (told m) (person_of i W)
 
-move_passes : (S : Setup) (t i : ℕ) (m : Move) (W : World) → Good S t i W m → IsSane S i W → Passes S i W (done S t m W) (told m)
-move_passes S t i m W g s =
+move_passes : (A : Places) (S : Setup) (t i : ℕ) (m : Move) (W : World) → Good A S t i W m → IsSane S i W → Passes A S i W (done S t m W) (told m)
+move_passes A S t i m W g s =
     let d = g.does s in
     let c = d.cost in
     let w : weight (cars i) (rows_after m W.rows) + took (cars i) m ≡ weight (cars i) W.rows + brought (cars i) m = weighed (cars i) m W g.taken in
@@ -147,48 +148,35 @@ kinds_keep S t i m W taken s (inr b) =
     let none : weight (wrongs i K) (rows_after m W.rows) ≡ 0 = omega arith in
     subst (λ (k : ℕ). weight (wrongs i (act S i (k + 1)).kind) (rows_after m W.rows) ≡ 0) (sym b.0) none
 
-move_sane : (S : Setup) (t i : ℕ) (m : Move) (W : World) → Good S t i W m → IsSane S i W → IsSane S i (done S t m W)
-move_sane S t i m W g s =
+move_sane : (A : Places) (S : Setup) (t i : ℕ) (m : Move) (W : World) → Good A S t i W m → IsSane S i W → IsSane S i (done S t m W)
+move_sane A S t i m W g s =
     let w : weight strays (rows_after m W.rows) + took strays m ≡ weight strays W.rows + brought strays m = weighed strays m W g.taken in
     let c = g.calls in
     let z = s.calls in
     let w2 : weight (lone i) (rows_after m W.rows) + took (lone i) m ≡ weight (lone i) W.rows + brought (lone i) m = weighed (lone i) m W g.taken in
     let c2 = g.drivers s in
     let z2 = s.drivers in
-    record { calls = omega arith; kinds = rw (person-done S t i m W g.there) (kinds_keep S t i m W g.taken s (g.kinds s)); drivers = omega arith; fit = (move_passes S t i m W g s).0.fit }
+    record { calls = omega arith; kinds = rw (person-done S t i m W g.there) (kinds_keep S t i m W g.taken s (g.kinds s)); drivers = omega arith; fit = (move_passes A S t i m W g s).0.fit }
 
-pub passes_append : (S : Setup) (i : ℕ) (W V U : World) (xs ys : List Said) → Passes S i W V xs → Passes S i V U ys → Passes S i W U (xs ++ ys)
-passes_append S i W V U xs ys f g =
+pub passes_append : (A : Places) (S : Setup) (i : ℕ) (W V U : World) (xs ys : List Said) → Passes A S i W V xs → Passes A S i V U ys → Passes A S i W U (xs ++ ys)
+passes_append A S i W V U xs ys f g =
     let cost = g.0.cost in
     let split = filter-append (λ (e : Said). names i e.person) xs ys in (
       rw (split, steps_append (own i xs) (own i ys), length-append (own i xs) (own i ys))
-          (goes_append S i (person_of i W) (person_of i V) (person_of i U) (told_steps (own i xs)) (told_steps (own i ys)) (length (own i xs)) (length (own i ys)) _ _ _ f.0 g.0),
+          (goes_append A S i (person_of i W) (person_of i V) (person_of i U) (told_steps (own i xs)) (told_steps (own i ys)) (length (own i xs)) (length (own i ys)) _ _ _ f.0 g.0),
       λ zs le h. let all : length (own i ys ++ zs) ≡ length (own i ys) + length zs = length-append (own i ys) zs in
           rw (split, append_assoc (own i xs) (own i ys) zs) (f.1 (own i ys ++ zs) (omega arith) (g.1 zs le h)),
     )
 
-pub passes_none : (S : Setup) (i : ℕ) (W : World) → IsSane S i W → Passes S i W W []
-passes_none S i W s = (record { leads = λ es h. h; cost = omega arith; fit = s.fit }, λ ys le h. h)
+pub passes_none : (A : Places) (S : Setup) (i : ℕ) (W : World) → IsSane S i W → Passes A S i W W []
+passes_none A S i W s = (record { leads = λ es h. h; cost = omega arith; fit = s.fit }, λ ys le h. h)
 
 -- MOVES ONE AFTER THE OTHER
--- each move is such in the world that those before it left
-abbrev pub Along : (World → Move → Type 0) → Setup → ℕ → List Move → World → Type 0
-Along Q S t [] W = Unit {0}
-Along Q S t (m ∷ ms) W = Q W m × Along Q S t ms (done S t m W)
-
-pub along_append : (Q : World → Move → Type 0) (S : Setup) (t : ℕ) (xs ys : List Move) (W : World) → Along Q S t xs W → Along Q S t ys (run S t xs W) → Along Q S t (xs ++ ys) W
-along_append Q S t [] ys W h g = g
-along_append Q S t (m ∷ xs) ys W h g = (h.0, along_append Q S t xs ys (done S t m W) h.1 g)
-
-pub along_if : (Q : World → Move → Type 0) (S : Setup) (t : ℕ) (b : Bool) (xs ys : List Move) (W : World) → (b ≡ true → Along Q S t xs W) → (b ≡ false → Along Q S t ys W) → Along Q S t (if b then xs else ys) W
-along_if Q S t true xs ys W h g = h refl
-along_if Q S t false xs ys W h g = g refl
-
-pub moves_pass : (S : Setup) (t i : ℕ) (ms : List Move) (W : World) → Along (Good S t i) S t ms W → IsSane S i W → Passes S i W (run S t ms W) (flat_map told ms) × IsSane S i (run S t ms W)
-moves_pass S t i [] W h s = (passes_none S i W s, s)
-moves_pass S t i (m ∷ ms) W h s =
+pub moves_pass : (A : Places) (S : Setup) (t i : ℕ) (ms : List Move) (W : World) → Along (Good A S t i) S t ms W → IsSane S i W → Passes A S i W (run S t ms W) (flat_map told ms) × IsSane S i (run S t ms W)
+moves_pass A S t i [] W h s = (passes_none A S i W s, s)
+moves_pass A S t i (m ∷ ms) W h s =
     let V = done S t m W in
-    let y = moves_pass S t i ms V h.1 (move_sane S t i m W h.0 s) in (passes_append S i W V (run S t ms V) (told m) (flat_map told ms) (move_passes S t i m W h.0 s) y.0, y.1)
+    let y = moves_pass A S t i ms V h.1 (move_sane A S t i m W h.0 s) in (passes_append A S i W V (run S t ms V) (told m) (flat_map told ms) (move_passes A S t i m W h.0 s) y.0, y.1)
 
 -- WHAT A ROW SAYS OF ITS RIDERS
 same_mode : (v u : VehicleId) → same_vehicle v u ≡ true → mode_in v ≡ mode_in u
@@ -311,8 +299,11 @@ all_flat : (P : Waiter → Type 0) (f : ℕ → List Waiter) → ((j : ℕ) → 
 all_flat P f h [] = All-nil P
 all_flat P f h (n ∷ ns) = All-append P (f n) (flat_map f ns) (h n) (all_flat P f h ns)
 
+next_act : (S : Setup) (i j : ℕ) (W : World) → j ≡ i → next_stay S j (person_of j W).element ≡ act S i ((person_of i W).element / 2 + 1)
+next_act S i j W e = ap (λ (k : ℕ). next_stay S k (person_of k W).element) e ∙ ap (act S i) (half_two (person_of i W).element)
+
 next_kind : (S : Setup) (i j : ℕ) (W : World) → j ≡ i → (next_stay S j (person_of j W).element).kind ≡ kind_next S i (person_of i W)
-next_kind S i j W e = ap (λ (k : ℕ). (next_stay S k (person_of k W).element).kind) e ∙ ap (λ (k : ℕ). (act S i k).kind) (half_two (person_of i W).element)
+next_kind S i j W e = ap (λ (s : Stay). s.kind) (next_act S i j W e)
 
 waiters_due : (S : Setup) (l i : ℕ) (W : World) → All (IsDue i (kind_next S i (person_of i W))) (waiters S l W)
 unfolding waiters
@@ -336,6 +327,34 @@ line_moved : (S : Setup) (t i : ℕ) (ws left : List Waiter) (m : Move) (W : Wor
     (1 ≤ in_line i left → after_move S t i m W ≡ person_of i W) → Lined S i ws (person_of i W) → Lined S i left (person_of i (done S t m W))
 line_moved S t i ws left m W lt few due same h = λ g. let y = h (omega arith) in rw (person-done S t i m W lt, same g) (y.0, due (kind_next S i (person_of i W)) y.1)
 
+-- WHO ALIGHTS
+-- where person i, whose leg is this element of his plan, alights from this vehicle on link l, his next activity may name that link
+abbrev pub AlightsAt : Places → ℕ → ℕ → ℕ → VehicleState → Type 0
+AlightsAt A i l element v =
+    (calls_on l v ≡ true → 1 ≤ among_riders i (alighting (next_call v).stop v.riders) → A (element / 2 + 1) (Some l))
+    × (calls_on l v ≡ false → is_last v ≡ true → 1 ≤ among_riders i v.riders → A (element / 2 + 1) (Some l))
+
+-- the same of each row of a world
+abbrev pub MayAlight : Places → ℕ → World → Type 0
+MayAlight A i W = (l : ℕ) (s : Stage) → Each (λ (r : Row). AlightsAt A i l (person_of i W).element r.vehicle) (at l s W)
+
+-- what a filter gives passes it
+passes : (p : Row → Bool) (rows : List Row) (r : Row) (xs : List Row) → filter p rows ≡ r ∷ xs → p r ≡ true
+passes p [] r xs e = absurd (cc)
+passes p (y ∷ ys) r xs e =
+    elim (cases_Bool (p y)) [
+      | inl q ↦ let f : y ∷ filter p ys ≡ r ∷ xs = simp q at e in let g : y ≡ r = cc in subst (λ (x : Row). p x ≡ true) g q
+      | inr q ↦ let f : filter p ys ≡ r ∷ xs = simp q at e in passes p ys r xs f
+    ]
+
+-- the front of a list is on its link
+front_link : (l : ℕ) (s : Stage) (rows : List Row) (r : Row) (xs : List Row) → filter (on l s) rows ≡ r ∷ xs → r.link ≡ l
+front_link l s rows r xs e = eqb-true r.link l (and_parts _ _ (passes (on l s) rows r xs e)).1
+
+-- and whoever alights from it may do so
+front_alights : (A : Places) (i l : ℕ) (s : Bool) (r : Row) (xs : List Row) (W : World) → filter (on l (lane_of s)) W.rows ≡ r ∷ xs → MayAlight A i W → AlightsAt A i l (person_of i W).element r.vehicle
+front_alights A i l s r xs W e may = (subst (Each (λ (x : Row). AlightsAt A i l (person_of i W).element x.vehicle)) e (may l (lane_of s))).0
+
 -- THE FRONT OF A LIST
 stands : (i l : ℕ) (ws : List Waiter) (s : Bool) (r : Row) (xs ys : List Row) (W : World) → Midst i l ws s (r ∷ xs) ys W → slice_get (vehicles l (lane_of s) W) 0 ≡ Some r.vehicle
 stands i l ws s r xs ys W h = rw h.front refl
@@ -344,11 +363,13 @@ riders_right : (i K : ℕ) (v : VehicleState) (ws : List Waiter) → All (IsRigh
 unfolding riders_after
 riders_right i K v ws h g = All-append (IsRight i K) (staying (next_call v).stop v.riders) (map rider (boarding v ws)) (All-filter (λ r. not (alights (next_call v).stop r)) (IsRight i K) v.riders h) g
 
-stop_front : (S : Setup) (K : Rules) (t i l : ℕ) (ws : List Waiter) (s : Bool) (r : Row) (xs ys : List Row) (W : World) → IsPlanned S i → Mid S i l ws s (r ∷ xs) ys W → calls_on l r.vehicle ≡ true →
-    let m = Put l (lane_of s) 0 r (served_row K.dwell t l ws r.vehicle) in Good S t i W m × Mid S i l (left_behind r.vehicle ws) s xs ys (done S t m W)
+stop_front : (A : Places) (S : Setup) (K : Rules) (t i l : ℕ) (ws : List Waiter) (s : Bool) (r : Row) (xs ys : List Row) (W : World) → IsPlan A S i → MayAlight A i W → Mid S i l ws s (r ∷ xs) ys W → calls_on l r.vehicle ≡ true →
+    let m = Put l (lane_of s) 0 r (served_row K.dwell t l ws r.vehicle) in Good A S t i W m × Mid S i l (left_behind r.vehicle ws) s xs ys (done S t m W)
 unfolding served_vehicle
-stop_front S K t i l ws s r xs ys W p h q =
+stop_front A S K t i l ws s r xs ys W p may h q =
     let v = r.vehicle in
+    let there = front_link l (lane_of s) W.rows r xs h.0.front in
+    let alights_here = (front_alights A i l s r xs W h.0.front may).0 q in
     let left = left_behind v ws in
     let now = served_row K.dwell t l ws v in
     let P = person_of i W in
@@ -389,9 +410,9 @@ stop_front S K t i l ws s r xs ys W p h q =
         drivers = λ sane. let z = lone_pt i v.id (rides i now.vehicle) (serves_pt S i l l (lane_of s) 0 v W here sane q) in omega arith;
         stops = λ sane. inl (calm_put (lane_of s) r now);
         does = λ sane. rw (put_front s r now)
-            (front_does S t i P s r (serves r now) (cars i now.vehicle) sane.fit (rw (boarded-are v ws)
-            (riders_change S t i P (cars i now.vehicle) r.link v.id outs ins p sane.fit (All-filter (alights stop) (IsRight i kind) v.riders (right_here S i l (lane_of s) 0 v W here sane)) due (omega arith)
-            (λ g. rides_here i l (lane_of s) 0 v W here h.0.in_one (omega arith)) (omega arith) (λ g. let z = off (omega arith) in (omega arith, (h.1 (omega arith)).0, serves_pt S i l l (lane_of s) 0 v W here sane q)))));
+            (front_does A S t i P s r (serves r now) (cars i now.vehicle) sane.fit (rw (boarded-are v ws)
+            (riders_change A S t i P (cars i now.vehicle) r.link v.id outs ins p sane.fit (All-filter (alights stop) (IsRight i kind) v.riders (right_here S i l (lane_of s) 0 v W here sane)) due (omega arith)
+            (λ g. (rides_here i l (lane_of s) 0 v W here h.0.in_one (omega arith), rw there (alights_here g))) (omega arith) (λ g. let z = off (omega arith) in (omega arith, (h.1 (omega arith)).0, serves_pt S i l l (lane_of s) 0 v W here sane q)))));
       },
       (stop_next S K t i l ws s r xs ys W h.0, line_moved S t i ws left (Put l (lane_of s) 0 r now) W h.0.in_one.there few (λ k. left_due i k v ws) same h.1),
     )
@@ -404,10 +425,12 @@ gone_kinds S t i l s r W here h same =
       | inr ge ↦ inr (ap (λ (x : Person). x.element / 2) (same (omega arith)), omega arith)
     ]
 
-end_front : (S : Setup) (t i l : ℕ) (ws : List Waiter) (s : Bool) (r : Row) (xs ys : List Row) (W : World) → IsPlanned S i → Mid S i l ws s (r ∷ xs) ys W →
-    Good S t i W (Gone l (lane_of s) 0 r) × Mid S i l ws s xs ys (done S t (Gone l (lane_of s) 0 r) W)
-end_front S t i l ws s r xs ys W p h =
+end_front : (A : Places) (S : Setup) (t i l : ℕ) (ws : List Waiter) (s : Bool) (r : Row) (xs ys : List Row) (W : World) → IsPlan A S i → MayAlight A i W → Mid S i l ws s (r ∷ xs) ys W → calls_on l r.vehicle ≡ false → is_last r.vehicle ≡ true →
+    Good A S t i W (Gone l (lane_of s) 0 r) × Mid S i l ws s xs ys (done S t (Gone l (lane_of s) 0 r) W)
+end_front A S t i l ws s r xs ys W p may h off last =
     let P = person_of i W in
+    let there = front_link l (lane_of s) W.rows r xs h.0.front in
+    let alights_here = (front_alights A i l s r xs W h.0.front may).1 off last in
     let here = stands i l ws s r xs ys W h.0 in
     let f = rides_few i l (lane_of s) 0 r W here h.0.in_one in
     let same : rides i r.vehicle ≡ 0 → after_move S t i (Gone l (lane_of s) 0 r) W ≡ P = λ q. told_end S t i s r P ∙ after_own S t i (arrives r) P ∙ nobody_arrives S t i P r q in (
@@ -419,14 +442,14 @@ end_front S t i l ws s r xs ys W p h =
         drivers = λ sane. omega arith;
         stops = λ sane. inl (calm_gone s r);
         does = λ sane. rw (gone_front s r)
-            (front_does S t i P s r (arrives r) 0 sane.fit (arrives_does S t i P r p sane.fit (right_here S i l (lane_of s) 0 r.vehicle W here sane) f.0 (λ g. rides_here i l (lane_of s) 0 r.vehicle W here h.0.in_one g)));
+            (front_does A S t i P s r (arrives r) 0 sane.fit (arrives_does A S t i P r p sane.fit (right_here S i l (lane_of s) 0 r.vehicle W here sane) f.0 (λ g. (rides_here i l (lane_of s) 0 r.vehicle W here h.0.in_one g, rw there (alights_here g)))));
       },
       (end_next S t i l ws s r xs ys W h.0, line_moved S t i ws ws (Gone l (lane_of s) 0 r) W h.0.in_one.there (omega arith) (λ k g. g) (λ g. same (f.1 (h.0.line.off (omega arith)))) h.1),
     )
 
-pass_front : (S : Setup) (t i l b : ℕ) (ws : List Waiter) (s : Bool) (r : Row) (xs ys : List Row) (W : World) → Mid S i l ws s (r ∷ xs) ys W →
-    let m = Put l (lane_of s) 0 r (buffered t l b r) in Good S t i W m × Mid S i l ws s xs ys (done S t m W)
-pass_front S t i l b ws s r xs ys W h =
+pass_front : (A : Places) (S : Setup) (t i l b : ℕ) (ws : List Waiter) (s : Bool) (r : Row) (xs ys : List Row) (W : World) → Mid S i l ws s (r ∷ xs) ys W →
+    let m = Put l (lane_of s) 0 r (buffered t l b r) in Good A S t i W m × Mid S i l ws s xs ys (done S t m W)
+pass_front A S t i l b ws s r xs ys W h =
     let now = buffered t l b r in
     let P = person_of i W in
     let same = told_front S t i s r now P in (
@@ -437,47 +460,62 @@ pass_front S t i l b ws s r xs ys W h =
         kinds = λ sane. inr (ap (λ (x : Person). x.element / 2) same, omega arith);
         drivers = λ sane. omega arith;
         stops = λ sane. inl (calm_put (lane_of s) r now);
-        does = λ sane. rw (put_front s r now) (front_does S t i P s r [] (cars i now.vehicle) sane.fit (does_nil S t i P _ _ sane.fit (omega arith)));
+        does = λ sane. rw (put_front s r now) (front_does A S t i P s r [] (cars i now.vehicle) sane.fit (does_nil A S t i P _ _ sane.fit (omega arith)));
       },
       (pass_next S t i l b ws s r xs ys W h.0, line_moved S t i ws ws (Put l (lane_of s) 0 r now) W h.0.in_one.there (omega arith) (λ k g. g) (λ g. same) h.1),
     )
 
 -- a credit or a hole is nothing to persons and rows
-free_good : (S : Setup) (t i l u : ℕ) (W : World) → i < length W.persons → Good S t i W (Free l u)
-free_good S t i l u W lt = quiet_good S t i W (Free l u) tt lt refl (omega arith) (omega arith) (omega arith) (λ k. omega arith) tt
+free_good : (A : Places) (S : Setup) (t i l u : ℕ) (W : World) → i < length W.persons → Good A S t i W (Free l u)
+free_good A S t i l u W lt = quiet_good A S t i W (Free l u) tt lt refl (omega arith) (omega arith) (omega arith) (λ k. omega arith) tt
 
-credit_good : (S : Setup) (t i l c : ℕ) (W : World) → i < length W.persons → Good S t i W (Credit l c)
-credit_good S t i l c W lt = quiet_good S t i W (Credit l c) tt lt refl (omega arith) (omega arith) (omega arith) (λ k. omega arith) tt
+credit_good : (A : Places) (S : Setup) (t i l c : ℕ) (W : World) → i < length W.persons → Good A S t i W (Credit l c)
+credit_good A S t i l c W lt = quiet_good A S t i W (Credit l c) tt lt refl (omega arith) (omega arith) (omega arith) (λ k. omega arith) tt
 
 -- THE STEPS OF THE TURN
-wait_along : (S : Setup) (K : Rules) (t i l : ℕ) (ws : List Waiter) (b c : ℕ) (xs ys : List Row) (W : World) → IsPlanned S i → Mid S i l ws true xs ys W → Along (Good S t i) S t (from_wait K t l ws b c xs) W
+wait_along : (A : Places) (S : Setup) (K : Rules) (t i l : ℕ) (ws : List Waiter) (b c : ℕ) (xs ys : List Row) (W : World) → IsPlan A S i → Along (λ V m. MayAlight A i V) S t (from_wait K t l ws b c xs) W → Mid S i l ws true xs ys W →
+    Along (Good A S t i) S t (from_wait K t l ws b c xs) W
 unfolding from_wait
-wait_along S K t i l ws b c [] ys W p h = tt
-wait_along S K t i l ws b c (r ∷ rs) ys W p h =
-    along_if (Good S t i) S t (calls_on l r.vehicle) _ _ W (λ q. let y = stop_front S K t i l ws true r rs ys W p h q in (y.0, wait_along S K t i l (left_behind r.vehicle ws) b c rs ys _ p y.1))
-    (λ q. along_if (Good S t i) S t (is_last r.vehicle) _ _ W (λ q. let y = end_front S t i l ws true r rs ys W p h in (y.0, wait_along S K t i l ws b c rs ys _ p y.1))
-    (λ q. along_if (Good S t i) S t (may_pass K b c) _ _ W
-    (λ q. let y = pass_front S t i l b ws true r rs ys W h in (y.0, (credit_good S t i l (c - VEHICLE_COST) _ y.1.0.in_one.there, wait_along S K t i l ws (b + 1) (c - VEHICLE_COST) rs ys _ p y.1)))
-    (λ q. tt)))
+wait_along A S K t i l ws b c [] ys W p may h = tt
+wait_along A S K t i l ws b c (r ∷ rs) ys W p may h =
+    let Q : World → Move → Type 0 = λ V m. MayAlight A i V in
+    along_if (Good A S t i) S t (calls_on l r.vehicle) _ _ W
+    (λ q. let k = along_then Q S t (calls_on l r.vehicle) _ _ W q may in let y = stop_front A S K t i l ws true r rs ys W p k.0 h q in (y.0, wait_along A S K t i l (left_behind r.vehicle ws) b c rs ys _ p k.1 y.1))
+    (λ q. let may1 = along_else Q S t (calls_on l r.vehicle) _ _ W q may in
+    along_if (Good A S t i) S t (is_last r.vehicle) _ _ W
+    (λ e. let k = along_then Q S t (is_last r.vehicle) _ _ W e may1 in let y = end_front A S t i l ws true r rs ys W p k.0 h q e in (y.0, wait_along A S K t i l ws b c rs ys _ p k.1 y.1))
+    (λ e. let may2 = along_else Q S t (is_last r.vehicle) _ _ W e may1 in
+    along_if (Good A S t i) S t (may_pass K b c) _ _ W
+    (λ f. let k = along_then Q S t (may_pass K b c) _ _ W f may2 in
+    let y = pass_front A S t i l b ws true r rs ys W h in (y.0, (credit_good A S t i l (c - VEHICLE_COST) _ y.1.0.in_one.there, wait_along A S K t i l ws (b + 1) (c - VEHICLE_COST) rs ys _ p k.1.1 y.1)))
+    (λ f. tt)))
 
 -- the wait list is next
 other : (S : Setup) (i l : ℕ) (ws : List Waiter) (xs ys : List Row) (W : World) → Mid S i l ws false xs ys W → Mid S i l ws true ys xs W
 other S i l ws xs ys W h = (record { in_one = h.0.in_one; line = h.0.line; front = h.0.behind; behind = h.0.front }, h.1)
 
-queue_along : (S : Setup) (K : Rules) (t i l : ℕ) (ws : List Waiter) (b c : ℕ) (xs ys : List Row) (W : World) → IsPlanned S i → Mid S i l ws false xs ys W → Along (Good S t i) S t (from_queue K t l ws b c xs ys) W
+queue_along : (A : Places) (S : Setup) (K : Rules) (t i l : ℕ) (ws : List Waiter) (b c : ℕ) (xs ys : List Row) (W : World) → IsPlan A S i → Along (λ V m. MayAlight A i V) S t (from_queue K t l ws b c xs ys) W → Mid S i l ws false xs ys W →
+    Along (Good A S t i) S t (from_queue K t l ws b c xs ys) W
 unfolding from_queue
-queue_along S K t i l ws b c [] ys W p h = wait_along S K t i l ws b c ys [] W p (other S i l ws [] ys W h)
-queue_along S K t i l ws b c (r ∷ rs) ys W p h =
-    let waits = wait_along S K t i l ws b c ys (r ∷ rs) W p (other S i l ws (r ∷ rs) ys W h) in
-    along_if (Good S t i) S t (nat_lt t r.second) _ _ W (λ q. waits)
-    (λ q. along_if (Good S t i) S t (calls_on l r.vehicle) _ _ W
-    (λ q. let y = stop_front S K t i l ws false r rs ys W p h q in (y.0, (free_good S t i l t _ y.1.0.in_one.there, queue_along S K t i l (left_behind r.vehicle ws) b c rs ys _ p y.1)))
-    (λ q. along_if (Good S t i) S t (is_last r.vehicle) _ _ W
-    (λ q. let y = end_front S t i l ws false r rs ys W p h in (y.0, (free_good S t i l t _ y.1.0.in_one.there, queue_along S K t i l ws b c rs ys _ p y.1)))
-    (λ q. along_if (Good S t i) S t (may_pass K b c) _ _ W
-    (λ q. let y = pass_front S t i l b ws false r rs ys W h in
-    let lt = y.1.0.in_one.there in (y.0, (free_good S t i l t _ lt, (credit_good S t i l (c - VEHICLE_COST) _ lt, queue_along S K t i l ws (b + 1) (c - VEHICLE_COST) rs ys _ p y.1))))
-    (λ q. waits))))
+queue_along A S K t i l ws b c [] ys W p may h = wait_along A S K t i l ws b c ys [] W p may (other S i l ws [] ys W h)
+queue_along A S K t i l ws b c (r ∷ rs) ys W p may h =
+    let Q : World → Move → Type 0 = λ V m. MayAlight A i V in
+    along_if (Good A S t i) S t (nat_lt t r.second) _ _ W
+    (λ q. wait_along A S K t i l ws b c ys (r ∷ rs) W p (along_then Q S t (nat_lt t r.second) _ _ W q may) (other S i l ws (r ∷ rs) ys W h))
+    (λ d. let may0 = along_else Q S t (nat_lt t r.second) _ _ W d may in
+    along_if (Good A S t i) S t (calls_on l r.vehicle) _ _ W
+    (λ q. let k = along_then Q S t (calls_on l r.vehicle) _ _ W q may0 in
+    let y = stop_front A S K t i l ws false r rs ys W p k.0 h q in (y.0, (free_good A S t i l t _ y.1.0.in_one.there, queue_along A S K t i l (left_behind r.vehicle ws) b c rs ys _ p k.1.1 y.1)))
+    (λ q. let may1 = along_else Q S t (calls_on l r.vehicle) _ _ W q may0 in
+    along_if (Good A S t i) S t (is_last r.vehicle) _ _ W
+    (λ e. let k = along_then Q S t (is_last r.vehicle) _ _ W e may1 in
+    let y = end_front A S t i l ws false r rs ys W p k.0 h q e in (y.0, (free_good A S t i l t _ y.1.0.in_one.there, queue_along A S K t i l ws b c rs ys _ p k.1.1 y.1)))
+    (λ e. let may2 = along_else Q S t (is_last r.vehicle) _ _ W e may1 in
+    along_if (Good A S t i) S t (may_pass K b c) _ _ W
+    (λ f. let k = along_then Q S t (may_pass K b c) _ _ W f may2 in
+    let y = pass_front A S t i l b ws false r rs ys W h in
+    let lt = y.1.0.in_one.there in (y.0, (free_good A S t i l t _ lt, (credit_good A S t i l (c - VEHICLE_COST) _ lt, queue_along A S K t i l ws (b + 1) (c - VEHICLE_COST) rs ys _ p k.1.1.1 y.1))))
+    (λ f. wait_along A S K t i l ws b c ys (r ∷ rs) W p (along_else Q S t (may_pass K b c) _ _ W f may2) (other S i l ws (r ∷ rs) ys W h)))))
 
 -- step 1: nobody is changed
 bay_persons : (S : Setup) (t l k : ℕ) (xs : List Row) (W : World) → (run S t (leave_bay t l k xs) W).persons ≡ W.persons
@@ -486,38 +524,39 @@ bay_persons S t l k [] W = refl
 bay_persons S t l k (r ∷ rs) W =
     elim (cases_Bool (nat_le r.second t)) [ inl q ↦ simp q (bay_persons S t l k rs (done S t (Put l Bay k r (waiting l r)) W)) | inr q ↦ simp q (bay_persons S t l (k + 1) rs W) ]
 
-bay_along : (S : Setup) (t i l : ℕ) (xs front : List Row) (W : World) → at l Bay W ≡ front ++ xs → i < length W.persons → Along (Good S t i) S t (leave_bay t l (length front) xs) W
+bay_along : (A : Places) (S : Setup) (t i l : ℕ) (xs front : List Row) (W : World) → at l Bay W ≡ front ++ xs → i < length W.persons → Along (Good A S t i) S t (leave_bay t l (length front) xs) W
 unfolding leave_bay
-bay_along S t i l [] front W e lt = tt
-bay_along S t i l (r ∷ rs) front W e lt =
+bay_along A S t i l [] front W e lt = tt
+bay_along A S t i l (r ∷ rs) front W e lt =
     let m = Put l Bay (length front) r (waiting l r) in
     let q = eq-eqb l l refl in
-    along_if (Good S t i) S t (nat_le r.second t) _ _ W
+    along_if (Good A S t i) S t (nat_le r.second t) _ _ W
     (λ f. let bay : at l Bay (done S t m W) ≡ front ++ rs = at-done S t l Bay m W ∙ ap (at_after l Bay m) e ∙ simp q (append-nil _ ∙ without_after front rs r) in (
-      quiet_good S t i W m (rw e (row_after front rs r), refl) lt refl (omega arith) (omega arith) (omega arith) (λ k. omega arith) (calm_put Bay r r),
-      bay_along S t i l rs front (done S t m W) bay lt,
+      quiet_good A S t i W m (rw e (row_after front rs r), refl) lt refl (omega arith) (omega arith) (omega arith) (λ k. omega arith) (calm_put Bay r r),
+      bay_along A S t i l rs front (done S t m W) bay lt,
     ))
     (λ f. let more : length (front ++ r ∷ []) ≡ length front + 1 = length-append front (r ∷ []) in
-    subst (λ k. Along (Good S t i) S t (leave_bay t l k rs) W) more (bay_along S t i l rs (front ++ r ∷ []) W (e ∙ sym (append_assoc front (r ∷ []) rs)) lt))
+    subst (λ k. Along (Good A S t i) S t (leave_bay t l k rs) W) more (bay_along A S t i l rs (front ++ r ∷ []) W (e ∙ sym (append_assoc front (r ∷ []) rs)) lt))
 
-pub link_along : (S : Setup) (t l i : ℕ) (W : World) → IsPlanned S i → InOne i W → Along (Good S t i) S t (link_plan S t l W) W
+pub link_along : (A : Places) (S : Setup) (t l i : ℕ) (W : World) → IsPlan A S i → Along (λ V m. MayAlight A i V) S t (link_plan S t l W) W → InOne i W → Along (Good A S t i) S t (link_plan S t l W) W
 unfolding link_moves
-link_along S t l i W p h =
+link_along A S t l i W p may h =
     let L = lane l W in
     let ws = waiters S l W in
     let V = run S t (leave_bay t l 0 L.bay) W in
     let bay = bay_keeps S t i l ws L.bay L.wait L.queue [] W refl (record { in_one = h; line = waiters_in_line S l i W; front = refl; behind = refl }) in
+    let later = along_rest (λ V m. MayAlight A i V) S t (leave_bay t l 0 L.bay) _ W may in
     let lined : Lined S i ws (person_of i V) = rw (bay_persons S t l 0 L.bay W) (waiters_lined S l i W) in
-    along_append (Good S t i) S t (leave_bay t l 0 L.bay) _ W (bay_along S t i l L.bay [] W refl h.there) (
-      credit_good S t i l _ V bay.in_one.there,
-      queue_along S (rules S l) t i l ws (length L.buffer) _ L.queue (wait_after t l L) _ p (record { in_one = bay.in_one; line = bay.line; front = bay.behind; behind = bay.front }, lined),
+    along_append (Good A S t i) S t (leave_bay t l 0 L.bay) _ W (bay_along A S t i l L.bay [] W refl h.there) (
+      credit_good A S t i l _ V bay.in_one.there,
+      queue_along A S (rules S l) t i l ws (length L.buffer) _ L.queue (wait_after t l L) _ p later.1 (record { in_one = bay.in_one; line = bay.line; front = bay.behind; behind = bay.front }, lined),
     )
 
-mark_good : (S : Setup) (t i l u : ℕ) (W : World) → i < length W.persons → Good S t i W (Mark l u)
-mark_good S t i l u W lt = quiet_good S t i W (Mark l u) tt lt refl (omega arith) (omega arith) (omega arith) (λ k. omega arith) tt
+mark_good : (A : Places) (S : Setup) (t i l u : ℕ) (W : World) → i < length W.persons → Good A S t i W (Mark l u)
+mark_good A S t i l u W lt = quiet_good A S t i W (Mark l u) tt lt refl (omega arith) (omega arith) (omega arith) (λ k. omega arith) tt
 
-put_good : (S : Setup) (t i a since : ℕ) (e : Option Exit) (r : Row) (W : World) → slice_get (vehicles a Buffer W) 0 ≡ Some r.vehicle → InOne i W → Good S t i W (Put a Buffer 0 (at_second since r) (entered t e r.vehicle))
-put_good S t i a since e r W here h = quiet_good S t i W (Put a Buffer 0 (at_second since r) (entered t e r.vehicle)) (here, refl) h.there refl (omega arith) (omega arith) (omega arith) (λ k. omega arith) (calm_put Buffer r r)
+put_good : (A : Places) (S : Setup) (t i a since : ℕ) (e : Option Exit) (r : Row) (W : World) → slice_get (vehicles a Buffer W) 0 ≡ Some r.vehicle → InOne i W → Good A S t i W (Put a Buffer 0 (at_second since r) (entered t e r.vehicle))
+put_good A S t i a since e r W here h = quiet_good A S t i W (Put a Buffer 0 (at_second since r) (entered t e r.vehicle)) (here, refl) h.there refl (omega arith) (omega arith) (omega arith) (λ k. omega arith) (calm_put Buffer r r)
 
 -- who is removed with a vehicle has no more events
 gone_stops : (S : Setup) (t i a : ℕ) (r : Row) (W : World) → slice_get (vehicles a Buffer W) 0 ≡ Some r.vehicle → InOne i W → IsSane S i W → rides i r.vehicle ≤ 1 →
@@ -537,8 +576,8 @@ gone_stops S t i a r W here h sane few =
           let worthless : worth S i (person_of i (done S t m W)) ≡ 0 = ap (worth_at (legs S i) ((person_of i (done S t m W)).element / 2)) place in omega arith,
     )
 
-gone_good : (S : Setup) (t i a since : ℕ) (r : Row) (W : World) → slice_get (vehicles a Buffer W) 0 ≡ Some r.vehicle → InOne i W → Good S t i W (Gone a Buffer 0 (at_second since r))
-gone_good S t i a since r W here h =
+gone_good : (A : Places) (S : Setup) (t i a since : ℕ) (r : Row) (W : World) → slice_get (vehicles a Buffer W) 0 ≡ Some r.vehicle → InOne i W → Good A S t i W (Gone a Buffer 0 (at_second since r))
+gone_good A S t i a since r W here h =
     let v = r.vehicle in
     let few = rides_few i a Buffer 0 r W here h in
     record {
@@ -549,72 +588,72 @@ gone_good S t i a since r W here h =
       stops = λ sane. inr (gone_stops S t i a (at_second since r) W here h sane few.0);
       kinds = λ sane. gone_kinds S t i a Buffer (at_second since r) W here h
           (λ q. after_own S t i (aborts (at_second since r)) (person_of i W) ∙ ap (λ (es : List Said). person_after_all S t i es (person_of i W)) (nobody_stuck i r.link v.id v.riders q));
-      does = λ sane. goes_less S i (person_of i W) _ _ _ 0 0 _ 0 (omega arith) (omega arith)
-          (riders_stuck S t i (person_of i W) 0 r.link v.id v.riders sane.fit (right_here S i a Buffer 0 v W here sane) few.0 (λ g. rides_here i a Buffer 0 v W here h g));
+      does = λ sane. goes_less A S i (person_of i W) _ _ _ 0 0 _ 0 (omega arith) (omega arith)
+          (riders_stuck A S t i (person_of i W) 0 r.link v.id v.riders sane.fit (right_here S i a Buffer 0 v W here sane) few.0 (λ g. rides_here i a Buffer 0 v W here h g));
     }
 
-hand_along : (S : Setup) (i : ℕ) (K : Stuck) (t a : ℕ) (exits : ℕ → Option Exit) (since : ℕ) (xs : List Row) (W : World) → vehicles a Buffer W ≡ map vehicle_of xs → InOne i W → Along (Good S t i) S t (hand K t a exits since xs) W
+hand_along : (A : Places) (S : Setup) (i : ℕ) (K : Stuck) (t a : ℕ) (exits : ℕ → Option Exit) (since : ℕ) (xs : List Row) (W : World) → vehicles a Buffer W ≡ map vehicle_of xs → InOne i W → Along (Good A S t i) S t (hand K t a exits since xs) W
 unfolding hand
-hand_along S i K t a exits since [] W e h = tt
-hand_along S i K t a exits since (r ∷ rs) W e h =
+hand_along A S i K t a exits since [] W e h = tt
+hand_along A S i K t a exits since (r ∷ rs) W e h =
     let m = next_link r.vehicle in
     let was = at_second since r in
     let put = Put a Buffer 0 was (entered t (exits m) r.vehicle) in
     let gone = Gone a Buffer 0 was in
     let q = eq-eqb a a refl in
     let here : slice_get (vehicles a Buffer W) 0 ≡ Some r.vehicle = rw e refl in
-    along_if (Good S t i) S t (may_enter K t since (exits m)) _ _ W
+    along_if (Good A S t i) S t (may_enter K t since (exits m)) _ _ W
     (λ f. let V = done S t put W in
     let one : InOne i V = move_keeps S t i put W (here, refl) (Stays refl refl) h in (
-      put_good S t i a since (exits m) r W here h,
+      put_good A S t i a since (exits m) r W here h,
       (
-        mark_good S t i a t V one.there,
-        hand_along S i K t a (one_more m exits) t rs (done S t (Mark a t) V) (front_gone S t a t put r.vehicle (map vehicle_of rs) W (simp q (append-nil (without_at 0 (at a Buffer W)))) e) (move_keeps S t i (Mark a t) V tt (Stays refl refl) one),
+        mark_good A S t i a t V one.there,
+        hand_along A S i K t a (one_more m exits) t rs (done S t (Mark a t) V) (front_gone S t a t put r.vehicle (map vehicle_of rs) W (simp q (append-nil (without_at 0 (at a Buffer W)))) e) (move_keeps S t i (Mark a t) V tt (Stays refl refl) one),
       ),
     ))
-    (λ f. along_if (Good S t i) S t (is_stuck K t since) _ _ W
+    (λ f. along_if (Good A S t i) S t (is_stuck K t since) _ _ W
     (λ g. let V = done S t gone W in
     let one : InOne i V = move_keeps S t i gone W here (aborts_out S t i was (person_of i W)) h in (
-      gone_good S t i a since r W here h,
+      gone_good A S t i a since r W here h,
       (
-        mark_good S t i a t V one.there,
-        hand_along S i K t a exits t rs (done S t (Mark a t) V) (front_gone S t a t gone r.vehicle (map vehicle_of rs) W (simp q) e) (move_keeps S t i (Mark a t) V tt (Stays refl refl) one),
+        mark_good A S t i a t V one.there,
+        hand_along A S i K t a exits t rs (done S t (Mark a t) V) (front_gone S t a t gone r.vehicle (map vehicle_of rs) W (simp q) e) (move_keeps S t i (Mark a t) V tt (Stays refl refl) one),
       ),
     ))
     (λ g. tt))
 
-picked_along : (S : Setup) (i : ℕ) (K : Stuck) (t : ℕ) (exits : ℕ → Option Exit) (k : ℕ) (es : List Entry) (W : World) → Held W es → InOne i W → Along (Good S t i) S t (hand_all K t exits (get_or es k no_entry)) W
+picked_along : (A : Places) (S : Setup) (i : ℕ) (K : Stuck) (t : ℕ) (exits : ℕ → Option Exit) (k : ℕ) (es : List Entry) (W : World) → Held W es → InOne i W → Along (Good A S t i) S t (hand_all K t exits (get_or es k no_entry)) W
 unfolding hand
-picked_along S i K t exits k [] W g h = tt
-picked_along S i K t exits zero (e ∷ es) W g h = hand_along S i K t e.link exits (since_of e.rows) e.rows W g.0 h
-picked_along S i K t exits (suc k) (e ∷ es) W g h = picked_along S i K t exits k es W g.2 h
+picked_along A S i K t exits k [] W g h = tt
+picked_along A S i K t exits zero (e ∷ es) W g h = hand_along A S i K t e.link exits (since_of e.rows) e.rows W g.0 h
+picked_along A S i K t exits (suc k) (e ∷ es) W g h = picked_along A S i K t exits k es W g.2 h
 
-draw_along : (S : Setup) (i : ℕ) (K : Stuck) (t : ℕ) (word : ℕ → ℕ) (left j : ℕ) (es : List Entry) (exits : ℕ → Option Exit) (W : World) → Held W es → InOne i W → Along (Good S t i) S t (draw K t word left j es exits) W
+draw_along : (A : Places) (S : Setup) (i : ℕ) (K : Stuck) (t : ℕ) (word : ℕ → ℕ) (left j : ℕ) (es : List Entry) (exits : ℕ → Option Exit) (W : World) → Held W es → InOne i W → Along (Good A S t i) S t (draw K t word left j es exits) W
 unfolding draw
-draw_along S i K t word zero j es exits W g h = tt
-draw_along S i K t word (suc left) j es exits W g h =
+draw_along A S i K t word zero j es exits W g h = tt
+draw_along A S i K t word (suc left) j es exits W g h =
     let k = drawn es (word (16 * t + j)) in
     let ms = hand_all K t exits (get_or es k no_entry) in
-    along_append (Good S t i) S t ms _ W (picked_along S i K t exits k es W g h)
-    (draw_along S i K t word left (j + 1) (without_at k es) (exits_after ms exits) (run S t ms W) (picked_held S K t exits k es W g) (picked_keeps S i K t exits k es W g h))
+    along_append (Good A S t i) S t ms _ W (picked_along A S i K t exits k es W g h)
+    (draw_along A S i K t word left (j + 1) (without_at k es) (exits_after ms exits) (run S t ms W) (picked_held S K t exits k es W g) (picked_keeps S i K t exits k es W g h))
 
-marks_along : (S : Setup) (t i : ℕ) (reds : List Entry) (W : World) → i < length W.persons → Along (Good S t i) S t (map (mark t) reds) W
-marks_along S t i [] W lt = tt
-marks_along S t i (r ∷ rs) W lt = (mark_good S t i r.link t W lt, marks_along S t i rs (done S t (mark t r) W) lt)
+marks_along : (A : Places) (S : Setup) (t i : ℕ) (reds : List Entry) (W : World) → i < length W.persons → Along (Good A S t i) S t (map (mark t) reds) W
+marks_along A S t i [] W lt = tt
+marks_along A S t i (r ∷ rs) W lt = (mark_good A S t i r.link t W lt, marks_along A S t i rs (done S t (mark t r) W) lt)
 
-pub node_along : (S : Setup) (t n i : ℕ) (W : World) → InOne i W → Along (Good S t i) S t (node_plan S t n W) W
+pub node_along : (A : Places) (S : Setup) (t n i : ℕ) (W : World) → InOne i W → Along (Good A S t i) S t (node_plan S t n W) W
 unfolding node_moves into
-node_along S t n i W h =
+node_along A S t n i W h =
     let see = sight S t n W in
     let es = candidates see.entries in
     let held = held_filter (λ (e : Entry). e.green) W (ready see.entries) (held_filter (λ (e : Entry). not (is_nil e.rows)) W see.entries (held_numbers S t W (λ l. eqb (road S l).to n) 0 (length S.links))) in
     let start = marks_keep S t i (red see.entries) es W (held, h) in
-    along_append (Good S t i) S t (map (mark t) (red see.entries)) _ W (marks_along S t i (red see.entries) W h.there)
-    (draw_along S i S.stuck t (S.word n) (length es) 0 es see.exits (run S t (map (mark t) (red see.entries)) W) start.0 start.1)
+    along_append (Good A S t i) S t (map (mark t) (red see.entries)) _ W (marks_along A S t i (red see.entries) W h.there)
+    (draw_along A S i S.stuck t (S.word n) (length es) 0 es see.exits (run S t (map (mark t) (red see.entries)) W) start.0 start.1)
 
 -- what is told of person j does its part to him, and is nothing to others
-told_good : (S : Setup) (t j i : ℕ) (says : List Said) (W : World) → i < length W.persons → Each IsCalm says → (eqb j i ≡ true → listed i W.rows ≡ 0) → (eqb j i ≡ true → IsFit S i (person_of i W) → Does S t i (person_of i W) (own i says) 0 0) → (eqb j i ≡ false → own i says ≡ []) → Good S t i W (Tell says)
-told_good S t j i says W lt calm off f g =
+told_good : (A : Places) (S : Setup) (t j i : ℕ) (says : List Said) (W : World) → i < length W.persons → Each IsCalm says → (eqb j i ≡ true → listed i W.rows ≡ 0) → (eqb j i ≡ true → IsFit S i (person_of i W) → Does A S t i (person_of i W) (own i says) 0 0) → (eqb j i ≡ false → own i says ≡ []) → Good A S t i W (Tell says)
+told_good A S t j i says W lt calm off f g =
     record {
       taken = tt;
       there = lt;
@@ -625,30 +664,30 @@ told_good S t j i says W lt calm off f g =
         | inl q ↦ let z = off q in inl (omega arith)
         | inr q ↦ inr (ap (λ (x : Person). x.element / 2) (after_own S t i says (person_of i W) ∙ ap (λ (es : List Said). person_after_all S t i es (person_of i W)) (g q)), omega arith)
       ];
-      does = λ sane. elim (cases_Bool (eqb j i)) [ inl q ↦ f q sane.fit | inr q ↦ rw (g q) (does_nil S t i (person_of i W) 0 0 sane.fit (omega arith)) ];
+      does = λ sane. elim (cases_Bool (eqb j i)) [ inl q ↦ f q sane.fit | inr q ↦ rw (g q) (does_nil A S t i (person_of i W) 0 0 sane.fit (omega arith)) ];
     }
 
 -- a person at a place that is known
-at_place : (S : Setup) (t i : ℕ) (P : Person) (e : ℕ) (pl : Place) (es : List Said) (a b : ℕ) → P ≡ record { element = e; place = pl } → (IsFitAt S i e pl → Does S t i (record { element = e; place = pl }) es a b) → IsFit S i P → Does S t i P es a b
-at_place S t i P e pl es a b q f = subst (λ (x : Person). IsFit S i x → Does S t i x es a b) (sym q) f
+at_place : (A : Places) (S : Setup) (t i : ℕ) (P : Person) (e : ℕ) (pl : Place) (es : List Said) (a b : ℕ) → P ≡ record { element = e; place = pl } → (IsFitAt S i e pl → Does A S t i (record { element = e; place = pl }) es a b) → IsFit S i P → Does A S t i P es a b
+at_place A S t i P e pl es a b q f = subst (λ (x : Person). IsFit S i x → Does A S t i x es a b) (sym q) f
 
 with_place : (P : Person) (pl : Place) → P.place ≡ pl → P ≡ record { element = P.element; place = pl }
 with_place P pl q = ap (λ (x : Place). record { element = P.element; place = x }) q
 
-landing_along : (S : Setup) (t j i : ℕ) (w : Way) (next : Stay) (pl : Place) (W : World) → IsPlanned S i → InOne i W → (eqb j i ≡ true → ((person_of i W).place ≡ pl) × (mode_of_way w ≡ mode_of_way (leg S i ((person_of i W).element / 2))) × (next.kind ≡ kind_next S i (person_of i W))) →
-    Along (Good S t i) S t (landing t j w next pl) W
-landing_along S t j i (Teleport m seconds) next (Flying start) W p h f =
+landing_along : (A : Places) (S : Setup) (t j i : ℕ) (w : Way) (next : Stay) (pl : Place) (W : World) → IsPlan A S i → InOne i W → (eqb j i ≡ true → ((person_of i W).place ≡ pl) × (mode_of_way w ≡ mode_of_way (leg S i ((person_of i W).element / 2))) × (next ≡ act S i ((person_of i W).element / 2 + 1))) →
+    Along (Good A S t i) S t (landing t j w next pl) W
+landing_along A S t j i (Teleport m seconds) next (Flying start) W p h f =
     let P = person_of i W in
-    along_if (Good S t i) S t (eqb (start + seconds) t) _ _ W
+    along_if (Good A S t i) S t (eqb (start + seconds) t) _ _ W
     (λ g. (
-      told_good S t j i (lands j m seconds next) W h.there ((λ q. cc), ((λ q. cc), ((λ q. cc), tt))) (λ q. subst (IsListed i W.rows) (f q).0 h.listed)
+      told_good A S t j i (lands j m seconds next) W h.there ((λ q. cc), ((λ q. cc), ((λ q. cc), tt))) (λ q. subst (IsListed i W.rows) (f q).0 h.listed)
           (λ q fit. let h = f q in
-          rw (eqb-true j i q) (at_place S t i P P.element (Flying start) (own i (lands i m seconds next)) 0 0 (with_place P (Flying start) h.0) (λ odd. lands_does S t i P.element 0 seconds start m next p odd h.1 h.2) fit))
+          rw (eqb-true j i q) (at_place A S t i P P.element (Flying start) (own i (lands i m seconds next)) 0 0 (with_place P (Flying start) h.0) (λ odd. lands_does A S t i P.element 0 seconds start m next p odd h.1 h.2) fit))
           (λ q. simp q),
       tt,
     ))
     (λ g. tt)
-landing_along S t j i _ next _ W p h f = tt
+landing_along A S t j i _ next _ W p h f = tt
 
 -- the leg of an element after the one before
 same_half : (e : ℕ) → e + 1 ≡ 2 * ((e + 1) / 2) + 1 → (e + 1) / 2 ≡ e / 2
@@ -659,10 +698,10 @@ rides_right S i P e start kind q k f =
     let odd : e + 1 ≡ 2 * ((e + 1) / 2) + 1 = subst (IsFit S i) q f in
     k ∙ sym (ap (λ (n : ℕ). (act S i (n + 1)).kind) (ap (λ (x : Person). x.element / 2) q ∙ same_half e odd))
 
-sets_out_along : (S : Setup) (t j i e start : ℕ) (w : Way) (next : Stay) (W : World) → i < length W.persons →
-    (eqb j i ≡ true → (person_of i W ≡ record { element = e + 1; place = Flying start }) × (mode_of_way w ≡ mode_of_way (leg S i (e / 2))) × (next.kind ≡ (act S i (e / 2 + 1)).kind) × (listed i W.rows ≡ 0)) → Along (Good S t i) S t (sets_out S j w next) W
+sets_out_along : (A : Places) (S : Setup) (t j i e start : ℕ) (w : Way) (next : Stay) (W : World) → i < length W.persons →
+    (eqb j i ≡ true → (person_of i W ≡ record { element = e + 1; place = Flying start }) × (mode_of_way w ≡ mode_of_way (leg S i (e / 2))) × (next.kind ≡ (act S i (e / 2 + 1)).kind) × (listed i W.rows ≡ 0)) → Along (Good A S t i) S t (sets_out S j w next) W
 unfolding person_after
-sets_out_along S t j i e start (Drive route) next W lt f =
+sets_out_along A S t j i e start (Drive route) next W lt f =
     let P = person_of i W in (
       record {
         taken = tt;
@@ -674,61 +713,61 @@ sets_out_along S t j i e start (Drive route) next W lt f =
             let right : wrong i (kind_next S i P) (record { person = j; egress = None; kind = next.kind } ∷ []) ≡ 0 = none_wrong i (kind_next S i P) (record { person = j; egress = None; kind = next.kind } ∷ []) (All-cons (IsRight i (kind_next S i P)) _ [] (λ q. rides_right S i P e start next.kind (f q).0 (f q).2 sane.fit) (All-nil (IsRight i (kind_next S i P)))) in
             inr (elim (cases_Bool (eqb j i)) [ inl q ↦ simp q refl | inr q ↦ simp q refl ], omega arith);
         does = λ sane. elim (cases_Bool (eqb j i)) [
-          | inl q ↦ rw (eqb-true j i q) (at_place S t i P (e + 1) (Flying start) (own i (of_rider word.PersonEntersVehicle i (vehicle.Car i) ∷ [])) 0 (car_worth i (vehicle.Car i) false) (f q).0
-              (λ odd. enters_car S t i (e + 1) start odd (subst (λ (k : ℕ). mode.Car ≡ mode_of_way (leg S i k)) (sym (same_half e odd)) (f q).1)) sane.fit)
-          | inr q ↦ simp q (does_nil S t i P 0 0 sane.fit (omega arith))
+          | inl q ↦ rw (eqb-true j i q) (at_place A S t i P (e + 1) (Flying start) (own i (of_rider word.PersonEntersVehicle i (vehicle.Car i) ∷ [])) 0 (car_worth i (vehicle.Car i) false) (f q).0
+              (λ odd. enters_car A S t i (e + 1) start odd (subst (λ (k : ℕ). mode.Car ≡ mode_of_way (leg S i k)) (sym (same_half e odd)) (f q).1)) sane.fit)
+          | inr q ↦ simp q (does_nil A S t i P 0 0 sane.fit (omega arith))
         ];
       },
       tt,
     )
-sets_out_along S t j i e start (Teleport m seconds) next W lt f = tt
-sets_out_along S t j i e start (Transit line access egress) next W lt f =
+sets_out_along A S t j i e start (Teleport m seconds) next W lt f = tt
+sets_out_along A S t j i e start (Transit line access egress) next W lt f =
     let P = person_of i W in
     let l = link_of_stop S access in (
-      told_good S t j i (of_person word.WaitingForPt j l (more.Stop access) ∷ []) W lt ((λ q. cc), tt) (λ q. (f q).3)
-          (λ q fit. rw (eqb-true j i q) (at_place S t i P (e + 1) (Flying start) (own i (of_person word.WaitingForPt i l (more.Stop access) ∷ [])) 0 0 (f q).0
-          (λ odd. waits_does S t i (e + 1) 0 l access start odd (subst (λ (k : ℕ). mode_of_way (leg S i k) ≡ mode.Pt) (sym (same_half e odd)) (sym (f q).1))) fit))
+      told_good A S t j i (of_person word.WaitingForPt j l (more.Stop access) ∷ []) W lt ((λ q. cc), tt) (λ q. (f q).3)
+          (λ q fit. rw (eqb-true j i q) (at_place A S t i P (e + 1) (Flying start) (own i (of_person word.WaitingForPt i l (more.Stop access) ∷ [])) 0 0 (f q).0
+          (λ odd. waits_does A S t i (e + 1) 0 l access start odd (subst (λ (k : ℕ). mode_of_way (leg S i k) ≡ mode.Pt) (sym (same_half e odd)) (sym (f q).1))) fit))
           (λ q. simp q),
       tt,
     )
 
-leaving_along : (S : Setup) (t j i : ℕ) (here : Stay) (w : Way) (next : Stay) (pl : Place) (W : World) → InOne i W →
-    (eqb j i ≡ true → ((person_of i W).place ≡ pl) × (here.kind ≡ (act S i ((person_of i W).element / 2)).kind) × (mode_of_way w ≡ mode_of_way (leg S i ((person_of i W).element / 2))) × (next.kind ≡ kind_next S i (person_of i W))) → Along (Good S t i) S t (leaving S t j here w next pl) W
+leaving_along : (A : Places) (S : Setup) (t j i : ℕ) (here : Stay) (w : Way) (next : Stay) (pl : Place) (W : World) → IsPlan A S i → InOne i W →
+    (eqb j i ≡ true → ((person_of i W).place ≡ pl) × (here ≡ act S i ((person_of i W).element / 2)) × (mode_of_way w ≡ mode_of_way (leg S i ((person_of i W).element / 2))) × (next.kind ≡ kind_next S i (person_of i W))) → Along (Good A S t i) S t (leaving S t j here w next pl) W
 unfolding person_after
-leaving_along S t j i here w next (At (Some end)) W h f =
+leaving_along A S t j i here w next (At (Some end)) W p h f =
     let P = person_of i W in
     let m = Tell (departs j here w) in
     let lt = h.there in
     let off : eqb j i ≡ true → listed i W.rows ≡ 0 = λ q. subst (IsListed i W.rows) (f q).0 h.listed in
-    along_if (Good S t i) S t (eqb end t) _ _ W
+    along_if (Good A S t i) S t (eqb end t) _ _ W
     (λ g. (
-      told_good S t j i (departs j here w) W lt ((λ q. cc), ((λ q. cc), tt)) off
+      told_good A S t j i (departs j here w) W lt ((λ q. cc), ((λ q. cc), tt)) off
           (λ q fit. let h = f q in
-          rw (eqb-true j i q) (at_place S t i P P.element (At (Some end)) (own i (departs i here w)) 0 0 (with_place P (At (Some end)) h.0) (λ even. departs_does S t i P.element 0 end here w even h.1 h.2) fit))
+          rw (eqb-true j i q) (at_place A S t i P P.element (At (Some end)) (own i (departs i here w)) 0 0 (with_place P (At (Some end)) h.0) (λ even. departs_does A S t i P.element 0 end here w p even h.1 h.2) fit))
           (λ q. simp q),
-      sets_out_along S t j i P.element t w next (done S t m W) (rw (persons-length S t (told m) W.persons) lt) (λ q. (person-done S t i m W lt ∙ simp q, (f q).2, (f q).3, off q)),
+      sets_out_along A S t j i P.element t w next (done S t m W) (rw (persons-length S t (told m) W.persons) lt) (λ q. (person-done S t i m W lt ∙ simp q, (f q).2, (f q).3, off q)),
     ))
     (λ g. tt)
-leaving_along S t j i here w next _ W h f = tt
+leaving_along A S t j i here w next _ W p h f = tt
 
-pub flight_along : (S : Setup) (t j i : ℕ) (W : World) → IsPlanned S i → InOne i W → Along (Good S t i) S t (flight_plan S t j W) W
+pub flight_along : (A : Places) (S : Setup) (t j i : ℕ) (W : World) → IsPlan A S i → InOne i W → Along (Good A S t i) S t (flight_plan S t j W) W
 unfolding landing_moves
-flight_along S t j i W p h =
+flight_along A S t j i W p h =
     let P = person_of j W in
-    landing_along S t j i (way S j P.element) (next_stay S j P.element) P.place W p h
-    (λ q. let e = eqb-true j i q in (ap (λ (k : ℕ). (person_of k W).place) (sym e), ap (λ (k : ℕ). mode_of_way (way S k (person_of k W).element)) e, next_kind S i j W e))
+    landing_along A S t j i (way S j P.element) (next_stay S j P.element) P.place W p h
+    (λ q. let e = eqb-true j i q in (ap (λ (k : ℕ). (person_of k W).place) (sym e), ap (λ (k : ℕ). mode_of_way (way S k (person_of k W).element)) e, next_act S i j W e))
 
-pub leave_along : (S : Setup) (t j i : ℕ) (W : World) → InOne i W → Along (Good S t i) S t (leave_plan S t j W) W
+pub leave_along : (A : Places) (S : Setup) (t j i : ℕ) (W : World) → IsPlan A S i → InOne i W → Along (Good A S t i) S t (leave_plan S t j W) W
 unfolding leaving_moves
-leave_along S t j i W h =
+leave_along A S t j i W p h =
     let P = person_of j W in
-    leaving_along S t j i (stay S j P.element) (way S j P.element) (next_stay S j P.element) P.place W h
+    leaving_along A S t j i (stay S j P.element) (way S j P.element) (next_stay S j P.element) P.place W p h
     (λ q. let e = eqb-true j i q in
-    (ap (λ (k : ℕ). (person_of k W).place) (sym e), ap (λ (k : ℕ). (stay S k (person_of k W).element).kind) e, ap (λ (k : ℕ). mode_of_way (way S k (person_of k W).element)) e, next_kind S i j W e))
+    (ap (λ (k : ℕ). (person_of k W).place) (sym e), ap (λ (k : ℕ). stay S k (person_of k W).element) e, ap (λ (k : ℕ). mode_of_way (way S k (person_of k W).element)) e, next_kind S i j W e))
 
-pub departure_along : (S : Setup) (t d i : ℕ) (W : World) → i < length W.persons → Along (Good S t i) S t (departure_plan S t d W) W
+pub departure_along : (A : Places) (S : Setup) (t d i : ℕ) (W : World) → i < length W.persons → Along (Good A S t i) S t (departure_plan S t d W) W
 unfolding departure_moves
-departure_along S t d i W lt =
-    along_if (Good S t i) S t (eqb (departure S d).second t) _ _ W
-    (λ g. (quiet_good S t i W (New (transit_vehicle d (departure S d))) tt lt refl (omega arith) (omega arith) (omega arith) (λ k. omega arith) ((λ q. cc), tt), tt))
+departure_along A S t d i W lt =
+    along_if (Good A S t i) S t (eqb (departure S d).second t) _ _ W
+    (λ g. (quiet_good A S t i W (New (transit_vehicle d (departure S d))) tt lt refl (omega arith) (omega arith) (omega arith) (λ k. omega arith) ((λ q. cc), tt), tt))
     (λ g. tt)

@@ -42,31 +42,46 @@ is_step word.ActStart = true
 is_step word.StuckAndAbort = true
 is_step _ = false
 
--- a word, and what more it tells
+-- a word, the link that it names, and what more it tells
 abbrev pub Step : Type 0
-Step = Word × More
+Step = Word × Option ℕ × More
 
 -- the steps of a person's trips, in the order of these events
 unfoldable pub steps : ℕ → List Event → List Step
-steps i es = map (λ (e : Event). (e.word, e.more)) (filter (λ (e : Event). is_step e.word) (filter (of_person i) es))
+steps i es = map (λ (e : Event). (e.word, e.link, e.more)) (filter (λ (e : Event). is_step e.word) (filter (of_person i) es))
 
--- activity k ends, of its kind, and leg k of the plan departs, by its mode
-abbrev pub Departs : Setup → ℕ → ℕ → Step → Step → Type 0
-Departs S i k a b =
-    (k < legs S i) × (a ≡ (word.ActEnd, more.Kind (act S i k).kind)) × (b ≡ (word.Departure, more.Mode (mode_of_way (leg S i k))))
+-- which links an event of activity k may name: any, or that of the activity alone
+abbrev pub Places : Type 1
+Places = ℕ → Option ℕ → Type 0
 
--- leg k arrives, by its mode, and the activity after it starts, of its kind
-abbrev pub Arrives : Setup → ℕ → ℕ → Step → Step → Type 0
-Arrives S i k a b = (a ≡ (word.Arrival, more.Mode (mode_of_way (leg S i k)))) × (b ≡ (word.ActStart, more.Kind (act S i (k + 1)).kind))
+abbrev pub anywhere : Places
+anywhere k link = Unit {0}
 
--- leg k is stuck, by its mode
+abbrev pub at_activities : Setup → ℕ → Places
+at_activities S i k link = link ≡ Some (act S i k).link
+
+-- this word, at activity k, with this more
+abbrev pub Says : Places → ℕ → Word → More → Step → Type 0
+Says places k w m a = (a.0 ≡ w) × places k a.1 × (a.2 ≡ m)
+
+-- activity k ends, of its kind, and leg k of the plan departs there, by its mode
+abbrev pub Departs : Places → Setup → ℕ → ℕ → Step → Step → Type 0
+Departs places S i k a b =
+    (k < legs S i) × Says places k word.ActEnd (more.Kind (act S i k).kind) a × Says places k word.Departure (more.Mode (mode_of_way (leg S i k))) b
+
+-- leg k arrives at the activity after it, by its mode, and that activity starts, of its kind
+abbrev pub Arrives : Places → Setup → ℕ → ℕ → Step → Step → Type 0
+Arrives places S i k a b =
+    Says places (k + 1) word.Arrival (more.Mode (mode_of_way (leg S i k))) a × Says places (k + 1) word.ActStart (more.Kind (act S i (k + 1)).kind) b
+
+-- leg k is stuck, wherever that is, by its mode
 abbrev pub IsStuck : Setup → ℕ → ℕ → Step → Type 0
-IsStuck S i k a = a ≡ (word.StuckAndAbort, more.Mode (mode_of_way (leg S i k)))
+IsStuck S i k a = Says anywhere k word.StuckAndAbort (more.Mode (mode_of_way (leg S i k))) a
 
--- The steps from leg k of the plan on come in turn: leg by leg an activity ends and the leg departs; then it arrives and the next
--- activity starts, and the later legs follow; or it is stuck, and nothing follows.
-abbrev pub InTurn : Setup → ℕ → ℕ → List Step → Type 0
-InTurn S i k [] = Unit {0}
-InTurn S i k (a ∷ b ∷ c ∷ []) = Departs S i k a b × IsStuck S i k c
-InTurn S i k (a ∷ b ∷ c ∷ d ∷ es) = Departs S i k a b × Arrives S i k c d × InTurn S i (k + 1) es
-InTurn S i k _ = ⊥
+-- The steps from leg k of the plan on come in turn, at these places: leg by leg an activity ends and the leg departs; then it arrives and the
+-- next activity starts, and the later legs follow; or it is stuck, and nothing follows.
+abbrev pub InTurn : Places → Setup → ℕ → ℕ → List Step → Type 0
+InTurn places S i k [] = Unit {0}
+InTurn places S i k (a ∷ b ∷ c ∷ []) = Departs places S i k a b × IsStuck S i k c
+InTurn places S i k (a ∷ b ∷ c ∷ d ∷ es) = Departs places S i k a b × Arrives places S i k c d × InTurn places S i (k + 1) es
+InTurn places S i k _ = ⊥

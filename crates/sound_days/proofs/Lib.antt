@@ -1,6 +1,3 @@
-mod Fine
-mod Steps
-mod Links
-mod Turns
-mod Laws
-mod Towns
+mod Plans
+mod Schedule
+pub mod Towns

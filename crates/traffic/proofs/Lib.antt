@@ -8,3 +8,4 @@ pub mod Phases
 pub mod Order
 pub mod Idle
 pub mod ComeInTurn
+pub mod Moments

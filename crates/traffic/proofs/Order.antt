@@ -42,7 +42,7 @@ pub Ascends-append : (P Q : Event → Type 0) → ((a b : Event) → P a → Q b
 Ascends-append P Q f [] ys p q h g = g
 Ascends-append P Q f (x ∷ xs) ys p q h g = (after_append x xs ys h.0 (after_every x Q (λ b. f x b p.0) ys q), Ascends-append P Q f xs ys p.1 q h.1 g)
 
-by_second : (a b : Key) → a.second < b.second → key_before a b ≡ true
+pub by_second : (a b : Key) → a.second < b.second → key_before a b ≡ true
 unfolding key_before
 by_second a b h = grind (arith, nat_tests)
 
@@ -92,7 +92,7 @@ told-of t c k (suc n) says =
     (Every-weaker (OfTurn t c k 0) (OfPhase t c k) (λ e h. (h.0, h.1, let q = h.2 in omega arith)) (keyed t c k 0 (says k)) (keyed-of t c k 0 (says k)))
     (Every-weaker (OfPhase t c (k + 1)) (OfPhase t c k) (λ e h. (h.0, h.1, let q = h.2 in omega arith)) _ (told-of t c (k + 1) n says))
 
-before_in_phase : (t c k : ℕ) (a b : Event) → OfTurn t c k 0 a → OfPhase t c (k + 1) b → IsBefore a b
+pub before_in_phase : (t c k : ℕ) (a b : Event) → OfTurn t c k 0 a → OfPhase t c (k + 1) b → IsBefore a b
 before_in_phase t c k a b h g = by_number a.key b.key (h.0 ∙ sym g.0) (h.1 ∙ sym g.1) (let p = h.2 in let q = g.2 in omega arith)
 
 told-ascends : (t c k n : ℕ) (says : ℕ → List Said) → Ascends (flat_map (λ i. keyed t c i 0 (says i)) (numbers k n))
@@ -160,7 +160,7 @@ rising = (omega arith, (omega arith, (omega arith, (omega arith, (omega arith, t
 abbrev pub Before : ℕ → Event → Type 0
 Before t e = e.key.second < t
 
-from-before : (S : Setup) (W : World) (t : ℕ) → Every (Before t) (events_from S W t)
+pub from-before : (S : Setup) (W : World) (t : ℕ) → Every (Before t) (events_from S W t)
 unfolding events_from
 from-before S W zero = tt
 from-before S W (suc t) =

@@ -12,7 +12,7 @@ use Rattle.traffic.specs.declared.rows.Stage.TheVariants.{Queue, Buffer, Wait, B
 use Rattle.traffic.specs.declared.rows.Rider.{Rider}
 use Rattle.traffic.specs.Lists.{is_nil}
 use Rattle.traffic.specs.Rows.{VehicleState, Row, Place, At, Flying, Waiting, Riding, Gone as Removed, World, on, at, person_of}
-use Rattle.traffic.specs.Setup.{Setup, Stay, Way, Drive, Teleport, Transit, Stuck, itinerary, way, next_stay, storage_of, gain_of}
+use Rattle.traffic.specs.Setup.{Setup, Stay, Way, Drive, Teleport, Transit, Stuck, itinerary, way, next_stay, departure, storage_of, gain_of}
 use Rattle.traffic.specs.Stops.{calls_at}
 use Rattle.traffic.specs.Moves.{Move, Put}
 use Rattle.traffic.specs.Nodes.{Exit, has_room, is_stuck, exits_by}
@@ -164,8 +164,34 @@ abbrev pub HasRiders : Setup → World → VehicleState → VehicleId → Type 0
 HasRiders S W v (vehicle.Car i) = (length v.riders ≡ 1) × All (λ (r : Rider). r.person ≡ i) v.riders × IsAlong v.route (leg_of S W i)
 HasRiders S W v (vehicle.Transit d) = All (λ (r : Rider). IsOnLine v (leg_of S W r.person)) v.riders
 
--- a vehicle row fits its route, its calls and its riders' legs
+-- the car of a person who is there: it calls at no stop and has served none, and its line, its second of departure and its seats are 0
+pub record IsCarOf (S : Setup) (i : ℕ) (v : VehicleState) : Type 0 where
+  pub there : i < length S.persons
+  pub line : v.line ≡ 0
+  pub calls : v.calls ≡ []
+  pub served : v.served ≡ 0
+  pub departed : v.departed ≡ 0
+  pub seats : v.seats ≡ 0
+
+-- the vehicle of a departure that is there: its route, line, calls, second of departure and seats are those of the departure, and it has
+-- served no more calls than it has
+pub record IsOfDeparture (S : Setup) (d : ℕ) (v : VehicleState) : Type 0 where
+  pub there : d < length S.departures
+  pub route : v.route ≡ (departure S d).route
+  pub line : v.line ≡ (departure S d).line
+  pub calls : v.calls ≡ (departure S d).calls
+  pub served : v.served ≤ length v.calls
+  pub departed : v.departed ≡ (departure S d).second
+  pub seats : v.seats ≡ (departure S d).seats
+
+-- a vehicle is what the person or the departure that it is of makes it
+abbrev pub IsOwn : Setup → VehicleState → VehicleId → Type 0
+IsOwn S v (vehicle.Car i) = IsCarOf S i v
+IsOwn S v (vehicle.Transit d) = IsOfDeparture S d v
+
+-- a vehicle row fits the timetable or the person that it comes from, its route, its calls and its riders' legs
 pub record IsSoundRow (S : Setup) (W : World) (r : Row) : Type 0 where
+  pub own : IsOwn S r.vehicle r.vehicle.id
   pub stage : IsSoundStage r.stage r.vehicle
   pub place : r.vehicle.place < length r.vehicle.route
   pub link : r.link ≡ get_or r.vehicle.route r.vehicle.place 0

@@ -1,10 +1,23 @@
+use Rattle.town.specs.Setups.{setup_of}
 use Rattle.town.specs.Views.{setup_in}
-use Rattle.sound_days.proofs.Laws.{day_sound}
-use Rattle.sound_days.proofs.Towns.{town_sound}
+use Rattle.sound_setups.proofs.Laws.{day_sound}
+use Rattle.sound_days.proofs.Towns.{rows_sound, rows_consistent, town_sound, town_consistent}
 use Rattle.sound_days.proofs.towns_are_sound.Goals as goal
+
+pub returns-clause-rows : goal.returns-clause-rows
+returns-clause-rows c = rows_sound
+
+pub returns-clause-rows_consistent : goal.returns-clause-rows_consistent
+returns-clause-rows_consistent c = rows_consistent
+
+pub returns-clause-days_of_rows : goal.returns-clause-days_of_rows
+returns-clause-days_of_rows c = λ T chosen k t town h. day_sound (setup_of T chosen k) t (rows_sound T chosen k town h)
 
 pub returns-clause-setups : goal.returns-clause-setups
 returns-clause-setups c = town_sound
+
+pub returns-clause-consistent : goal.returns-clause-consistent
+returns-clause-consistent c = town_consistent
 
 pub returns-clause-days : goal.returns-clause-days
 returns-clause-days c = λ town chosen k t h. day_sound (setup_in town chosen k) t (town_sound town chosen k h)

@@ -1,0 +1,123 @@
+-- The plans of a town are sound, and go from activity to activity.
+use Rattle.std.proofs.Common.{◌≡◌, ℕ, zero, suc, ◌+◌, ◌-◌, ◌<◌, ◌≤◌, ◌≢◌, Bool, true, false, List, [], ◌∷◌, length, get_or, refl, ap, sym, ◌∙◌, subst, eqb, arith, inl, inr}
+use Rattle.std.specs.Prelude.{map, not, nat_eq, nat_le, ◌&&◌, Option, None, Some}
+use Rattle.std.specs.List.{AllByRecursion as Each, list_all, list_any}
+use Rattle.std.proofs.lemmas.Bool.{cases_Bool, and_parts, eqb-true, eqb-false, leb-true, not-true}
+use Rattle.std.proofs.lemmas.List.{length-map}
+use Rattle.std.proofs.lemmas.List.Elements.{All-from_recursion}
+use Rattle.plans.specs.declared.plan.Act.{Act}
+use Rattle.plans.specs.declared.plan.Leg.{Leg}
+use Rattle.plans.specs.declared.plan.Leg.TheVariants as leg
+use Rattle.plans.specs.Plan.{is_teleported, is_leg, is_open, is_end, has_end, are_acts}
+use Rattle.plans.specs.Parts.{Parts}
+use Rattle.schedule.specs.declared.rows.StopRow.{StopRow}
+use Rattle.schedule.specs.Calls.{link_at}
+use Rattle.town.specs.Fits.{is_act_in, has_wrong_ends, has_wrong_stops, is_joining, leg_fits, legs_fit, fits}
+use Rattle.town.specs.Rows.{TownRows}
+use Rattle.town.specs.Setups.{stay_of, way_of, itinerary_of}
+use Rattle.traffic.specs.Setup.{Setup, Way, Drive, Teleport, Transit, link_of_stop}
+use Rattle.traffic.specs.Worlds.{HasEnd}
+use Rattle.fit_days.specs.Setups.{IsPlanIn}
+use Rattle.sound_setups.specs.Setups.{IsSoundWay, EndsAsPlanned, IsSoundPlan}
+use Rattle.sound_setups.specs.Consistent.{LeadsFrom, link_of_stay, IsConsistentPlan}
+
+-- PLANS
+open_last : (end : Option ℕ) → is_open end ≡ true → HasEnd true end
+open_last None h = refl
+open_last (Some second) h = absurd (cc)
+
+ends_before : (end : Option ℕ) → is_end end ≡ true → HasEnd false end
+ends_before None h = absurd (cc)
+ends_before (Some second) h = refl
+
+-- the k-th activity has no end if it is the last one, and else it has one
+abbrev EndsAt : List Act → ℕ → Type 0
+EndsAt acts k =
+    let end = (get_or (map stay_of acts) k (record { kind = 0; link = 0; end = None })).end in
+    (k + 1 ≡ length acts → HasEnd true end) × (k + 1 ≢ length acts → HasEnd false end)
+
+ends_at : (acts : List Act) (k : ℕ) → are_acts acts ≡ true → k < length acts → EndsAt acts k
+unfolding are_acts
+ends_at [] k h lt = absurd (omega arith)
+ends_at (a ∷ []) zero h lt = ((λ e. open_last a.end h), (λ ne. absurd (ne refl)))
+ends_at (a ∷ []) (suc k) h lt = absurd (omega arith)
+ends_at (a ∷ b ∷ acts) zero h lt = ((λ e. absurd (omega arith)), (λ ne. ends_before a.end (and_parts (has_end a) (are_acts (b ∷ acts)) h).0))
+ends_at (a ∷ b ∷ acts) (suc k) h lt =
+    let y = ends_at (b ∷ acts) k (and_parts (has_end a) (are_acts (b ∷ acts)) h).1 (omega arith) in ((λ e. y.0 (omega arith)), (λ ne. y.1 (λ e. ne (omega arith))))
+
+ends_planned : (acts : List Act) (k : ℕ) → are_acts acts ≡ true → k < length acts → EndsAsPlanned (map stay_of acts) k
+ends_planned acts k h lt =
+    let y = ends_at acts k h lt in
+    let n = length-map acts stay_of in
+    elim (cases_Bool (eqb (k + 1) (length (map stay_of acts)))) [
+      | inl e ↦ let q = eqb-true (k + 1) (length (map stay_of acts)) e in rw e (y.0 (omega arith))
+      | inr e ↦ let q = eqb-false (k + 1) (length (map stay_of acts)) e in rw e (y.1 (λ g. q (omega arith)))
+    ]
+
+leg_sound : (T : TownRows) (here there : ℕ) (x : Leg) → leg_fits T here there x ≡ true → IsSoundWay (way_of x)
+unfolding leg_fits
+leg_sound T here there (leg.Car route) h =
+    let a = and_parts _ _ h in
+    let some : length route ≢ 0 = eqb-false (length route) 0 (not-true _ (and_parts _ _ a.0).0) in omega arith
+leg_sound T here there (leg.Teleport mode seconds) h = tt
+leg_sound T here there (leg.Transit line access egress) h = tt
+
+legs_sound : (T : TownRows) (acts : List Act) (legs : List Leg) → legs_fit T acts legs ≡ true → Each IsSoundWay (map way_of legs)
+unfolding legs_fit
+legs_sound T acts [] h = tt
+legs_sound T [] (x ∷ legs) h = absurd (cc)
+legs_sound T (a ∷ acts) (x ∷ legs) h = let b = and_parts (leg_fits T a.link _ x) (legs_fit T acts legs) h in (leg_sound T a.link _ x b.0, legs_sound T acts legs b.1)
+
+pub plan_sound : (T : TownRows) (p : Parts) → IsPlanIn T p → IsSoundPlan (itinerary_of p)
+unfolding itinerary_of fits
+plan_sound T p h =
+    let a = length-map p.acts stay_of in
+    let b = length-map p.legs way_of in
+    let c = h.one_more in
+    record {
+      one_more = omega arith;
+      ends = λ k lt. ends_planned p.acts k h.ends (omega arith);
+      ways = All-from_recursion IsSoundWay (map way_of p.legs) (legs_sound T p.acts p.legs (and_parts (list_all (is_act_in T) p.acts) _ h.fit).1);
+    }
+
+-- FROM ACTIVITY TO ACTIVITY
+not_not : (x : Bool) → not (not x) ≡ true → x ≡ true
+not_not true e = refl
+not_not false e = absurd (cc)
+
+-- in a setup with the stops of the town
+abbrev pub AtStops : Setup → List StopRow → Type 0
+AtStops S stops = (n : ℕ) → link_of_stop S n ≡ link_at stops n
+
+leg_leads : (S : Setup) (T : TownRows) → AtStops S T.stops → (here there : ℕ) (x : Leg) → leg_fits T here there x ≡ true → is_leg x ≡ true → LeadsFrom S here there (way_of x)
+unfolding leg_fits has_wrong_ends has_wrong_stops
+leg_leads S T s here there (leg.Car route) h l =
+    let a = and_parts _ _ h in
+    let b = and_parts (nat_eq (get_or route 0 0) here) (nat_eq (get_or route (length route - 1) 0) there) (not_not _ a.1) in
+    (eqb-true (get_or route 0 0) here b.0, eqb-true (get_or route (length route - 1) 0) there b.1)
+leg_leads S T s here there (leg.Teleport mode seconds) h l =
+    let a = and_parts _ _ l in
+    let b = and_parts (is_teleported mode) (nat_le 1 seconds) a.0 in leb-true 1 seconds b.1
+leg_leads S T s here there (leg.Transit line access egress) h l =
+    let a = and_parts _ _ h in
+    let b = and_parts (nat_eq (link_at T.stops access) here && nat_eq (link_at T.stops egress) there) (list_any (is_joining line access egress) T.routes) (not_not _ a.1) in
+    let c = and_parts (nat_eq (link_at T.stops access) here) (nat_eq (link_at T.stops egress) there) b.0 in
+    (s access ∙ eqb-true (link_at T.stops access) here c.0, s egress ∙ eqb-true (link_at T.stops egress) there c.1)
+
+legs_lead : (S : Setup) (T : TownRows) → AtStops S T.stops → (acts : List Act) (legs : List Leg) (k : ℕ) → legs_fit T acts legs ≡ true → list_all is_leg legs ≡ true → length acts ≡ length legs + 1 → k < length legs →
+    LeadsFrom S (link_of_stay (map stay_of acts) k) (link_of_stay (map stay_of acts) (suc k)) (get_or (map way_of legs) k (Drive []))
+unfolding legs_fit
+legs_lead S T s acts [] k h l n lt = absurd (omega arith)
+legs_lead S T s [] (x ∷ legs) k h l n lt = absurd (omega arith)
+legs_lead S T s (a ∷ []) (x ∷ legs) k h l n lt = absurd (omega arith)
+legs_lead S T s (a ∷ b ∷ acts) (x ∷ legs) zero h l n lt =
+    leg_leads S T s a.link b.link x (and_parts (leg_fits T a.link b.link x) (legs_fit T (b ∷ acts) legs) h).0 (and_parts (is_leg x) (list_all is_leg legs) l).0
+legs_lead S T s (a ∷ b ∷ acts) (x ∷ legs) (suc k) h l n lt =
+    legs_lead S T s (b ∷ acts) legs k (and_parts (leg_fits T a.link b.link x) (legs_fit T (b ∷ acts) legs) h).1 (and_parts (is_leg x) (list_all is_leg legs) l).1 (omega arith) (omega arith)
+
+pub plan_consistent : (S : Setup) (T : TownRows) → AtStops S T.stops → (p : Parts) → IsPlanIn T p → IsConsistentPlan S (itinerary_of p)
+unfolding itinerary_of fits
+plan_consistent S T s p h = λ k lt.
+    let n = length-map p.legs way_of in
+    let next : k + 1 ≡ suc k = omega arith in
+    rw next (legs_lead S T s p.acts p.legs k (and_parts (list_all (is_act_in T) p.acts) (legs_fit T p.acts p.legs) h.fit).1 h.legs h.one_more (omega arith))

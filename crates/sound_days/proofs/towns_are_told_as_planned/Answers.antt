@@ -1,0 +1,8 @@
+use Rattle.sound_days.proofs.Towns.{rows_told, town_told}
+use Rattle.sound_days.proofs.towns_are_told_as_planned.Goals as goal
+
+pub returns-clause-rows : goal.returns-clause-rows
+returns-clause-rows c = rows_told
+
+pub returns-clause-towns : goal.returns-clause-towns
+returns-clause-towns c = town_told

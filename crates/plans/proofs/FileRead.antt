@@ -29,7 +29,7 @@ abbrev no_reason : Option Reason
 no_reason = None
 
 -- the reason at the first place
-first_reason : (links : List (List ℕ)) (ends : List (ℕ × ℕ)) (rows : List Row) → reason_at links ends rows 0 ≡ row_reason links ends [] 0 None (get_or rows 0 []) (row_behind rows 0)
+pub first_reason : (links : List (List ℕ)) (ends : List (ℕ × ℕ)) (rows : List Row) → reason_at links ends rows 0 ≡ row_reason links ends [] 0 None (get_or rows 0 []) (row_behind rows 0)
 unfolding reason_at row_before legs_to
 first_reason links ends rows = ap (λ (l : List (List ℕ)). row_reason links ends l 0 None (get_or rows 0 []) (row_behind rows 0)) (named_none person_in)
 

@@ -149,6 +149,17 @@ all_tables : (links : List (List ℕ)) (rows : List Row) (mode : Mode) (row : Ro
 unfolding tables_of
 all_tables links rows mode row = refl
 
+-- the leg that is read is that of its row
+pub leg_put : (links : List (List ℕ)) (rows : List Row) (n : ℕ) (p : Progress) (mode : Mode) → n < length rows → Named rows n p → kind_of (get_or rows n []) ≡ element.Leg (Some mode)
+    → leg_by (lines_with (is_transit (element.Leg (Some mode))) p.lines (items_of (get_or rows n []))) (stops_with (is_transit (element.Leg (Some mode))) p.stops (items_of (get_or rows n []))) links mode (get_or rows n [])
+    ≡ leg_of (tables_of links rows).lines (tables_of links rows).stops (tables_of links rows).links (get_or rows n [])
+leg_put links rows n p mode less names kind =
+    let y = get_or rows n [] in
+    let tables = tables_of links rows in
+    let k : ElementKind = element.Leg (Some mode) in
+    leg_is links rows n p.lines p.stops mode y (lines_more rows n p.lines k less names.lines_are kind) (stops_more rows n p.stops k less names.stops_are kind) ∙ all_tables links rows mode y
+    ∙ sym (ap (λ (e : ElementKind). leg_of_kind tables.lines tables.stops tables.links e y) kind)
+
 -- a leg is read: all that is known of the rows so far stays known
 pub leg_in_plan : (links : List (List ℕ)) (ends : List (ℕ × ℕ)) (rows : List Row) (n : ℕ) (latest : Row) (p : Progress) (mode : Mode) → n < length rows → Named rows n p → Behind (tables_of links rows) latest (first_row (drop n rows)) p
     → Grouped (tables_of links rows) (take n rows) latest p → Sound (tables_of links rows) ends p → kind_of (get_or rows n []) ≡ element.Leg (Some mode) → same_plan latest (get_or rows n []) ≡ true → begins_at rows n ≡ false

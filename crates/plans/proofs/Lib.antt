@@ -12,3 +12,5 @@ pub mod RowRead
 pub mod FileRead
 pub mod Answering
 pub mod Whole
+pub mod Shapes
+pub mod AllRows

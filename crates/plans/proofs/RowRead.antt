@@ -1,5 +1,5 @@
 -- One more row is read.
-use Rattle.std.proofs.Common.{◌≡◌, ℕ, ◌+◌, ◌<◌, ◌≤◌, Bool, true, false, not, ◌&&◌, ◌||◌, cond, List, [], length, drop, get_or, Option, None, Some, refl, sym, ◌∙◌, ap, add-one, arith, subst}
+use Rattle.std.proofs.Common.{◌≡◌, ℕ, zero, suc, ◌+◌, ◌-◌, ◌<◌, ◌≤◌, Bool, true, false, not, ◌&&◌, ◌||◌, cond, List, [], length, drop, get_or, Option, None, Some, refl, sym, ◌∙◌, ap, add-one, arith, subst}
 use Rattle.std.specs.Prelude.{nat_eq, nat_le, nat_lt, is_none, is_some, unwrap_or}
 use Rattle.std.proofs.Math.Seq.{drop-cons}
 use Rattle.std.proofs.lemmas.Bool.Decides.{nat_tests}
@@ -368,3 +368,35 @@ row_read links ends rows n p r less h q act leg = by (kind_of (get_or rows n [])
     by (element.Leg (Some mode)) is = subst (λ (s : Progress). IsReadTo links ends rows (n + 1) s) (sym (leg mode is)) (leg_read links ends rows n p mode r less h is)
     by (element.Leg None) is = absurd ((row_able links ends rows n p r less h).moded is)
     by element.Neither is = absurd ((row_able links ends rows n p r less h).kinded is)
+
+goes_on_by : (b : Bool) → not b ≡ false → b ≡ true
+goes_on_by true h = refl
+goes_on_by false h = cc
+
+-- an activity that goes on with a plan stands behind a leg of it
+pub vacant_at : (links : List (List ℕ)) (ends : List (ℕ × ℕ)) (rows : List Row) (n : ℕ) (p : Progress) → (r : IsReadTo links ends rows n p)
+    → row_reason links ends p.persons (length p.legs) (row_before rows n) (get_or rows n []) (row_behind rows n) ≡ no_reason → kind_of (get_or rows n []) ≡ element.Act → begins_plan (row_before rows n) (get_or rows n []) ≡ false
+    → p.last ≡ None
+vacant_at links ends rows n p r h kind goes_on =
+    let y = get_or rows n [] in
+    let ok = passed_at links ends rows n p r h in
+    let order = in_order r.latest (kind_of y) y (row_behind rows n) ok.ordered in
+    let plan = goes_on_by (same_plan r.latest y) (ap (λ (o : Option Row). begins_plan o y) (sym r.is_latest) ∙ goes_on) in
+    not_there (is_act (kind_of r.latest)) (act_of (tables_of links rows).kinds (tables_of links rows).links r.latest) p.last r.behind.last_is (behind_leg r.latest (kind_of y) y order.alternates plan (ap is_act kind))
+
+last_by : (b : Bool) (act : Act) (o : Option Act) → o ≡ cond b (Some act) None → ends_well o ≡ true → o ≡ Some act
+last_by true act o is well = is
+last_by false act o is well = let contrary : false ≡ true = sym (ap ends_well is) ∙ well in cc
+
+latest_at : (rows : List Row) (n : ℕ) (latest : Row) → row_before rows n ≡ Some latest → latest ≡ get_or rows (n - 1) []
+unfolding row_before
+latest_at rows zero latest is = cc
+latest_at rows (suc n) latest is = let same : n ≡ suc n - 1 = omega arith in let here : get_or rows n [] ≡ latest = cc in sym here ∙ ap (λ (m : ℕ). get_or rows m []) same
+
+-- the activity with which the open plan ends stands in the row before
+pub last_at : (links : List (List ℕ)) (ends : List (ℕ × ℕ)) (rows : List Row) (n : ℕ) (p : Progress) → (r : IsReadTo links ends rows n p) → ends_well p.last ≡ true
+    → p.last ≡ Some (act_of (tables_of links rows).kinds (tables_of links rows).links (get_or rows (n - 1) []))
+last_at links ends rows n p r well =
+    let tables = tables_of links rows in
+    last_by (is_act (kind_of r.latest)) (act_of tables.kinds tables.links r.latest) p.last r.behind.last_is well
+    ∙ ap (λ (row : Row). Some (act_of tables.kinds tables.links row)) (latest_at rows n r.latest r.is_latest)

@@ -7,3 +7,4 @@ pub mod Faulty
 pub mod Columns
 pub mod InTurn
 pub mod Sound
+pub mod Unrefused

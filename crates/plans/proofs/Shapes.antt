@@ -1,0 +1,124 @@
+-- What is read of a plan keeps the limits of plans.
+use Rattle.std.proofs.Common.{◌≡◌, ℕ, ◌+◌, ◌<◌, ◌≤◌, Bool, true, false, ◌&&◌, cond, List, [], ◌∷◌, ◌++◌, length, Option, None, Some, refl, sym, ◌∙◌, ap, arith, length-append}
+use Rattle.std.specs.Prelude.{is_some, nat_le, option_to_list, unwrap_or}
+use Rattle.std.specs.List.{list_all, AllByRecursion as Each}
+use Rattle.std.proofs.lemmas.Bool.Decides.{nat_tests}
+use Rattle.events.specs.declared.event.Mode.{Mode}
+use Rattle.events.specs.declared.event.Mode.TheVariants as mode
+use Rattle.records.specs.Rows.{Row}
+use Rattle.records.specs.Fields.{field}
+use Rattle.records.specs.Lists.{numbers_of}
+use Rattle.plans.specs.declared.plan.Act.{Act}
+use Rattle.plans.specs.declared.plan.Leg.{Leg}
+use Rattle.plans.specs.declared.kinds.ElementKind.TheVariants as element
+use Rattle.plans.specs.Plan.{is_leg, is_end, has_end, are_acts}
+use Rattle.plans.specs.Parts.{Parts}
+use Rattle.plans.specs.Kinds.{is_transit, items_of}
+use Rattle.plans.specs.Refusals.{has_bad_time, begins_plan}
+use Rattle.plans.specs.Values.{endless, leg_by}
+use Rattle.plans.specs.Progress.{Progress, LegAble, closed_acts, closed_of, with_kind, lines_with, stops_with, put_act, step_first, step_act, step_leg, ends_well, finish}
+use Rattle.records.proofs.Unrefused.{number_in_range}
+use Rattle.plans.proofs.Closing.{are_acts_closed}
+use Rattle.plans.proofs.Items.{count_numbers}
+use Rattle.plans.proofs.Soundness.{all_push}
+
+-- what each plan keeps
+pub record IsPlan (p : Parts) : Type 0 where
+  pub one_more : length p.acts ≡ length p.legs + 1
+  pub few : length p.legs ≤ 8
+  pub ends : are_acts p.acts ≡ true
+  pub legs : list_all is_leg p.legs ≡ true
+
+-- the plans so far keep it, and the open one keeps it once it is closed
+pub record Shaped (p : Progress) : Type 0 where
+  pub plans : Each (Each IsPlan) p.plans
+  pub own : Each IsPlan p.own
+  pub paired : length p.acts ≡ length p.legs
+  pub few : length p.legs ≤ 8
+  pub ends : list_all has_end p.acts ≡ true
+  pub legs : list_all is_leg p.legs ≡ true
+
+pub each_push : {X : Type 0} (P : X → Type 0) (xs : List X) (x : X) → Each P xs → P x → Each P (xs ++ x ∷ [])
+each_push P [] x h one = (one, tt)
+each_push P (y ∷ xs) x h one = (h.0, each_push P xs x h.1 one)
+
+closed_plan : (acts : List Act) (legs : List Leg) (last : Option Act) → length acts ≡ length legs → length legs ≤ 8 → list_all has_end acts ≡ true → list_all is_leg legs ≡ true → is_some last ≡ true
+    → IsPlan (record { acts = closed_acts acts last; legs = legs })
+closed_plan acts legs None paired few ends sound there = cc
+closed_plan acts legs (Some last) paired few ends sound there =
+    let more = length-append acts (endless last ∷ []) in
+    record { one_more = omega arith; few = few; ends = are_acts_closed acts (endless last) refl ends; legs = sound }
+
+-- the open plan, closed
+pub closed_is_plan : (p : Progress) → Shaped p → is_some p.last ≡ true → IsPlan (closed_of p)
+closed_is_plan p s there = closed_plan p.acts p.legs p.last s.paired s.few s.ends s.legs there
+
+pub shaped_first : (links : List (List ℕ)) (row : Row) → Shaped (step_first links row)
+unfolding step_first
+shaped_first links row = record { plans = tt; own = tt; paired = refl; few = omega arith; ends = refl; legs = refl }
+
+shaped_put : (p : Progress) (plan person : Bool) (row : Row) (number : ℕ) (act : Act) → Shaped p → (plan ≡ true → is_some p.last ≡ true) → Shaped (put_act p plan person row number act)
+unfolding put_act
+shaped_put p true true row number act s closes =
+    let whole = each_push IsPlan p.own (closed_of p) s.own (closed_is_plan p s (closes refl)) in
+    record { plans = each_push (Each IsPlan) p.plans (p.own ++ closed_of p ∷ []) s.plans whole; own = tt; paired = refl; few = omega arith; ends = refl; legs = refl }
+shaped_put p true false row number act s closes =
+    record { plans = s.plans; own = each_push IsPlan p.own (closed_of p) s.own (closed_is_plan p s (closes refl)); paired = refl; few = omega arith; ends = refl; legs = refl }
+shaped_put p false person row number act s closes = record { plans = s.plans; own = s.own; paired = s.paired; few = s.few; ends = s.ends; legs = s.legs }
+
+-- an activity is read
+pub shaped_act : (links : List (List ℕ)) (p : Progress) (before : Option Row) (row : Row) (number : ℕ) → Shaped p → (begins_plan before row ≡ true → is_some p.last ≡ true) → Shaped (step_act links p before row number)
+unfolding step_act
+shaped_act links p before row number s closes =
+    let q : Shaped (with_kind p row) = record { plans = s.plans; own = s.own; paired = s.paired; few = s.few; ends = s.ends; legs = s.legs } in
+    shaped_put (with_kind p row) _ _ row number _ q closes
+
+few_links : (items links : List (List ℕ)) (found : Option (List ℕ)) → numbers_of items links ≡ found → length items ≤ 1000 → nat_le (length (unwrap_or found [])) 1000 ≡ true
+few_links items links None is few = refl
+few_links items links (Some numbers) is few = let count = count_numbers items links numbers is in at_most (length numbers) (length items) count few
+  where
+    at_most : (m n : ℕ) → m ≡ n → n ≤ 1000 → nat_le m 1000 ≡ true
+    at_most m n same few = grind (arith, nat_tests)
+
+-- what a leg's row gives is a leg
+leg_is_leg : (lines stops links : List (List ℕ)) (legs : ℕ) (mode : Mode) (row : Row) → LegAble links legs mode row → is_leg (leg_by lines stops links mode row) ≡ true
+unfolding leg_by has_bad_time
+leg_is_leg lines stops links legs mode.Car row able = few_links (items_of row) links (numbers_of (items_of row) links) refl (able.few_links refl)
+leg_is_leg lines stops links legs mode.Walk row able = number_in_range 1 172800 (field row 5) able.times
+leg_is_leg lines stops links legs mode.Bike row able = number_in_range 1 172800 (field row 5) able.times
+leg_is_leg lines stops links legs mode.Ride row able = number_in_range 1 172800 (field row 5) able.times
+leg_is_leg lines stops links legs mode.Pt row able = refl
+
+last_ends : (acts : List Act) (last : Option Act) → list_all has_end acts ≡ true → ends_well last ≡ true → list_all has_end (acts ++ option_to_list last) ≡ true
+last_ends acts None ends well = cc
+last_ends acts (Some last) ends well = all_push has_end acts last ends well
+
+last_counts : (acts : List Act) (last : Option Act) → ends_well last ≡ true → length (acts ++ option_to_list last) ≡ length acts + 1
+last_counts acts None well = cc
+last_counts acts (Some last) well = length-append acts (last ∷ [])
+
+-- a leg is read
+pub shaped_leg : (links : List (List ℕ)) (p : Progress) (mode : Mode) (row : Row) → Shaped p → LegAble links (length p.legs) mode row → ends_well p.last ≡ true → Shaped (step_leg links p mode row)
+unfolding step_leg
+shaped_leg links p mode row s able well =
+    let kind = element.Leg (Some mode) in
+    let lines = lines_with (is_transit kind) p.lines (items_of row) in
+    let stops = stops_with (is_transit kind) p.stops (items_of row) in
+    let leg = leg_by lines stops links mode row in
+    let more = length-append p.legs (leg ∷ []) in
+    let acts = last_counts p.acts p.last well in
+    let paired = s.paired in
+    let room = able.few_legs in
+    record {
+      plans = s.plans;
+      own = s.own;
+      paired = omega arith;
+      few = omega arith;
+      ends = last_ends p.acts p.last s.ends well;
+      legs = all_push is_leg p.legs leg s.legs (leg_is_leg lines stops links (length p.legs) mode row able);
+    }
+
+-- all rows are read
+pub shaped_all : (p : Progress) → Shaped p → is_some p.last ≡ true → Each (Each IsPlan) (finish p).plans
+unfolding finish
+shaped_all p s there = each_push (Each IsPlan) p.plans (p.own ++ closed_of p ∷ []) s.plans (each_push IsPlan p.own (closed_of p) s.own (closed_is_plan p s there))

@@ -1,0 +1,99 @@
+-- In a file without a fault no row has a reason; and what is then known of its numbers and names.
+use Rattle.std.proofs.Common.{◌≡◌, ℕ, zero, suc, ◌<◌, ◌≤◌, Bool, true, false, cond, ◌&&◌, List, [], ◌∷◌, length, map, take, get_or, Option, None, Some, refl, ◌∙◌, ap, inl, inr, arith}
+use Rattle.std.specs.Prelude.{is_none, nat_le, nat_lt, unwrap_or}
+use Rattle.std.specs.List.{list_all}
+use Rattle.std.proofs.lemmas.Bool.{cases_lt}
+use Rattle.std.proofs.lemmas.List.{length-map, length-take-le}
+use Rattle.edge_files.specs.declared.reasons.Reason.{Reason}
+use Rattle.events.specs.Names.{number_of}
+use Rattle.records.specs.Rows.{Row}
+use Rattle.records.specs.Numbers.{number_in, are_digits, value_of}
+use Rattle.records.specs.Fields.{field, column}
+use Rattle.records.specs.Faults.{or_else, fault_at, first_below, behind_head, first_fault}
+use Rattle.records.specs.Reading.{reason_after, body_fault}
+use Rattle.records.proofs.Sound.{both_true, number_known}
+
+pub or_none : {A : Type 0} (a b : Option A) → or_else a b ≡ None → (a ≡ None) × (b ≡ None)
+or_none None b h = (refl, h)
+or_none (Some a) b h = (cc, cc)
+
+pub no_reason : (row : ℕ) (why : Option Reason) → fault_at row why ≡ None → why ≡ None
+no_reason row None h = refl
+no_reason row (Some why) h = cc
+
+-- of tests in their order none applies
+pub none_applies : (b : Bool) (why : Reason) (rest : Option Reason) → cond b (Some why) rest ≡ None → (b ≡ false) × (rest ≡ None)
+none_applies true why rest h = cc
+none_applies false why rest h = (refl, h)
+
+-- no place below has a reason where there is no fault
+none_at : (reasons : ℕ → Option Reason) (n i : ℕ) → i < n → first_below reasons n ≡ None → reasons i ≡ None
+none_at reasons zero i less none = absurd (omega arith)
+none_at reasons (suc n) i less none =
+    let parts = or_none (first_below reasons n) (fault_at n (reasons n)) none in
+    elim (cases_lt i n) [
+      | inl before ↦ none_at reasons n i before parts.0
+      | inr last ↦ let same : i ≡ n = omega arith in ap reasons same ∙ no_reason n (reasons n) parts.1
+    ]
+
+-- row 0 has none
+pub head_none : (head : Option Reason) (reasons : ℕ → Option Reason) (count : ℕ) → first_fault head reasons count ≡ None → head ≡ None
+unfolding first_fault
+head_none head reasons count none = none_at (behind_head head reasons) (suc count) 0 (omega arith) none
+
+-- and no row behind it
+pub each_none : (head : Option Reason) (reasons : ℕ → Option Reason) (count i : ℕ) → i < count → first_fault head reasons count ≡ None → reasons i ≡ None
+unfolding first_fault
+each_none head reasons count i less none = none_at (behind_head head reasons) (suc count) (suc i) (omega arith) none
+
+all_by : {X : Type 0} (p : X → Bool) (value : Row → X) (rows : List Row) → ((i : ℕ) → i < length rows → p (value (get_or rows i [])) ≡ true) → list_all p (map value rows) ≡ true
+all_by p value [] each = refl
+all_by p value (row ∷ rows) each = both_true (p (value row)) (list_all p (map value rows)) (each 0 (omega arith)) (all_by p value rows (λ i less. each (suc i) (omega arith)))
+
+-- where each row without a reason gives a value that passes, all values of the file do
+pub values_pass : {X : Type 0} (head : Option Reason) (key : ℕ) (value : Row → X) (reason : List (List ℕ) → List X → Row → Option Reason) (rows : List Row) (p : X → Bool) → body_fault head key value reason rows ≡ None
+    → ((i : ℕ) (names : List (List ℕ)) (values : List X) → i < length rows → reason names values (get_or rows i []) ≡ None → p (value (get_or rows i [])) ≡ true) → list_all p (map value rows) ≡ true
+unfolding body_fault
+values_pass head key value reason rows p none passes =
+    all_by p value rows
+    (λ i less. passes i (column key (take i rows)) (map value (take i rows)) less (each_none head (reason_after key value reason rows) (length rows) i less none))
+
+-- where no row has a reason that has so many names before it, there are no more rows
+pub few_rows : {X : Type 0} (head : Option Reason) (key : ℕ) (value : Row → X) (reason : List (List ℕ) → List X → Row → Option Reason) (rows : List Row) (limit : ℕ) → body_fault head key value reason rows ≡ None
+    → ((names : List (List ℕ)) (values : List X) (row : Row) → reason names values row ≡ None → length names < limit) → length rows ≤ limit
+unfolding body_fault
+few_rows {X = X} head key value reason rows limit none room = by (length rows) refl
+  where
+    by : (n : ℕ) → length rows ≡ n → length rows ≤ limit
+    by zero is = omega arith
+    by (suc i) is =
+        let less : i < length rows = omega arith in
+        let last = room (column key (take i rows)) (map value (take i rows)) (get_or rows i []) (each_none head (reason_after key value reason rows) (length rows) i less none) in
+        let count = length-map (take i rows) (λ (row : Row). field row key) in
+        let before = length-take-le i rows (omega arith) in
+        omega arith
+
+in_range : (a : Bool) (low high v : ℕ) → is_none (cond (a && nat_le low v && nat_le v high) (Some v) None) ≡ false
+    → (nat_le low (unwrap_or (cond (a && nat_le low v && nat_le v high) (Some v) None) 0) && nat_le (unwrap_or (cond (a && nat_le low v && nat_le v high) (Some v) None) 0) high) ≡ true
+in_range a low high v some = by (a && nat_le low v && nat_le v high) refl some
+  where
+    last_two : (a b c : Bool) → (a && b && c) ≡ true → (b && c) ≡ true
+    last_two a b c h = grind arith
+    by : (c : Bool) → (a && nat_le low v && nat_le v high) ≡ c → is_none (cond c (Some v) None) ≡ false
+        → (nat_le low (unwrap_or (cond c (Some v) None) 0) && nat_le (unwrap_or (cond c (Some v) None) 0) high) ≡ true
+    by true is some = last_two a (nat_le low v) (nat_le v high) is
+    by false is some = cc
+
+-- a number that is read of a field is in its range
+pub number_in_range : (low high : ℕ) (bytes : List ℕ) → is_none (number_in low high bytes) ≡ false
+    → (nat_le low (unwrap_or (number_in low high bytes) 0) && nat_le (unwrap_or (number_in low high bytes) 0) high) ≡ true
+unfolding number_in
+number_in_range low high bytes some = in_range (are_digits bytes) low high (value_of bytes) some
+
+some_below : (names : List (List ℕ)) (name : List ℕ) (o : Option ℕ) → number_of name names ≡ o → is_none o ≡ false → nat_lt (unwrap_or o 0) (length names) ≡ true
+some_below names name None held some = cc
+some_below names name (Some n) held some = number_known names name n held
+
+-- the number of a name that exists is below how many names there are
+pub found_below : (names : List (List ℕ)) (name : List ℕ) → is_none (number_of name names) ≡ false → nat_lt (unwrap_or (number_of name names) 0) (length names) ≡ true
+found_below names name some = some_below names name (number_of name names) refl some

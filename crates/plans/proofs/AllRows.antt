@@ -47,6 +47,7 @@ next_with links ends rows holds n stays less none w = by (kind_of (get_or rows n
   where
     free : row_reason links ends w.progress.persons (length w.progress.legs) (row_before rows n) (get_or rows n []) (row_behind rows n) ≡ None
     free = sym (reason_is links ends rows n w.progress w.read) ∙ none
+
     by : (k : ElementKind) → kind_of (get_or rows n []) ≡ k → IsReadWith links ends rows holds (n + 1)
     by element.Act is = record {
       progress = step_act links w.progress (row_before rows n) (get_or rows n []) (n + 1);

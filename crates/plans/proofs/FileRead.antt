@@ -1,9 +1,10 @@
 -- The first row and the end of the file.
-use Rattle.std.proofs.Common.{◌≡◌, ℕ, ◌+◌, ◌<◌, ◌≤◌, Bool, true, false, not, ◌&&◌, ◌||◌, cond, List, [], ◌∷◌, ◌++◌, length, map, get_or, Option, None, Some, refl, sym, ◌∙◌, ap, arith, length-append}
+use Rattle.std.proofs.Common.{◌≡◌, ℕ, zero, suc, ◌+◌, ◌<◌, ◌≤◌, Bool, true, false, not, ◌&&◌, ◌||◌, cond, List, [], ◌∷◌, ◌++◌, length, map, get_or, Option, None, Some, refl, sym, ◌∙◌, ap, subst, arith, length-append}
 use Rattle.std.specs.Prelude.{nat_eq, is_some}
-use Rattle.std.specs.List.{list_all}
+use Rattle.std.specs.List.{list_all, All}
 use Rattle.std.proofs.lemmas.Bool.Decides.{nat_tests}
 use Rattle.std.proofs.lemmas.List.{take_more, take_all, drop_all, map-append}
+use Rattle.std.proofs.lemmas.List.Elements.{All-append, All-from_recursion, All-weaker}
 use Rattle.edge_files.specs.declared.reasons.Reason.{Reason}
 use Rattle.events.specs.Names.{with_name}
 use Rattle.records.specs.Rows.{Row}
@@ -193,3 +194,21 @@ finish_sound links ends rows p r =
       few = r.sound.few;
       sound = ap (λ (t : Tables). list_all (are_plans t ends) (p.plans ++ (p.own ++ closed_of p ∷ []) ∷ [])) (sym same_tables) ∙ all;
     }
+
+begun_within : (b : Bool) (place limit : ℕ) → place < limit → All (λ (row : ℕ). row ≤ limit) (cond b (suc place ∷ []) [])
+begun_within true place limit less = All-from_recursion (λ (row : ℕ). row ≤ limit) (suc place ∷ []) (omega arith, tt)
+begun_within false place limit less = All-from_recursion (λ (row : ℕ). row ≤ limit) [] tt
+
+-- plans begin in rows that are there
+starts_within : (rows : List Row) (n limit : ℕ) → n ≤ limit → All (λ (row : ℕ). row ≤ limit) (starts_to rows n)
+unfolding starts_to
+starts_within rows zero limit few = All-from_recursion (λ (row : ℕ). row ≤ limit) [] tt
+starts_within rows (suc place) limit few =
+    All-append (λ (row : ℕ). row ≤ limit) (starts_to rows place) (cond (begins_at rows place) (suc place ∷ []) [])
+    (starts_within rows place limit (omega arith)) (begun_within (begins_at rows place) place limit (omega arith))
+
+pub starts_early : (links : List (List ℕ)) (ends : List (ℕ × ℕ)) (rows : List Row) (p : Progress) (limit : ℕ) → IsReadTo links ends rows (length rows) p → length rows < limit → All (λ (row : ℕ). row < limit) (finish p).starts
+unfolding finish
+starts_early links ends rows p limit r less =
+    subst (λ (starts : List ℕ). All (λ (row : ℕ). row < limit) starts) (sym r.names.starts_are)
+    (All-weaker (λ (row : ℕ). row ≤ length rows) (λ (row : ℕ). row < limit) (λ row few. omega arith) (starts_to rows (length rows)) (starts_within rows (length rows) (length rows) (omega arith)))

@@ -1,4 +1,4 @@
-ghost use Rattle.std.specs.Prelude.{◌≡◌, ◌<◌, ◌≤◌, ◌+◌, ◌^◌, length, map, option_map, is_some, true, None, Some, IfOk};
+ghost use Rattle.std.specs.Prelude.{◌≡◌, ◌<◌, ◌≤◌, ◌+◌, ◌^◌, length, map, option_map, is_some, true, None, Some, IfOk, All};
 ghost use Rattle.csv.specs.Records.{fields_of};
 ghost use Rattle.records.specs.Faults.{Answers};
 ghost use Rattle.plans.specs.Values.{row_before, row_behind, plans_fault, plan_rows, rows_fault, values_of};
@@ -209,6 +209,7 @@ fn read_rows(
     requires few { length rows.now < 2 ^ 30 }
     ensures read { Answers plan_rows_of result (rows_fault None links.now ends.now (map fields_of rows.now)) (values_of links.now (map fields_of rows.now)) }
     ensures sound { IfOk result (λ file. IsSound links.now ends.now (plan_rows_of file)) }
+    ensures starts { IfOk result (λ file. All (λ row. row < 2 ^ 30) file.starts) }
 {
     let mut read = match first_row(alloc, rows, links, ends) {
         Ok(read) => read,
@@ -240,6 +241,7 @@ pub fn read_plans(
     requires { length ends.now ≡ length links.now }
     ensures read { Answers plan_rows_of result (plans_fault links.now ends.now bytes.now) (plan_rows links.now bytes.now) }
     ensures sound { IfOk result (λ file. IsSound links.now ends.now (plan_rows_of file)) }
+    ensures starts { IfOk result (λ file. All (λ row. row < 2 ^ 30) file.starts) }
 {
     let header = ["person", "plan", "kind", "name", "link", "time", "route"];
     match read_file(alloc, bytes, &header) {

@@ -79,6 +79,7 @@ in_range a low high v some = by (a && nat_le low v && nat_le v high) refl some
   where
     last_two : (a b c : Bool) → (a && b && c) ≡ true → (b && c) ≡ true
     last_two a b c h = grind arith
+
     by : (c : Bool) → (a && nat_le low v && nat_le v high) ≡ c → is_none (cond c (Some v) None) ≡ false
         → (nat_le low (unwrap_or (cond c (Some v) None) 0) && nat_le (unwrap_or (cond c (Some v) None) 0) high) ≡ true
     by true is some = last_two a (nat_le low v) (nat_le v high) is

@@ -1,20 +1,23 @@
 -- The plans of all persons fit, where nothing speaks against a leg of any.
 use Rattle.std.proofs.Common.{◌≡◌, ℕ, true, ◌&&◌, List, [], ◌∷◌, ◌++◌, length, map, drop, get_or, Option, None, refl, sym, ◌∙◌, ap, arith}
 use Rattle.std.specs.Prelude.{nat_le}
-use Rattle.std.specs.List.{list_all, flat_map}
+use Rattle.std.specs.List.{list_all, flat_map, AllByRecursion as Each}
+use Rattle.std.proofs.lemmas.Bool.{and_parts}
 use Rattle.std.proofs.lemmas.List.{length-map, drop_all}
 use Rattle.records.specs.Faults.{or_else}
 use Rattle.records.proofs.Sound.{both_true}
+use Rattle.records.proofs.Unrefused.{or_none}
 use Rattle.plans.specs.declared.plan.Plan.{Plan}
 use Rattle.plans.specs.Parts.{Parts, parts_of, all_parts}
 use Rattle.plans.specs.Values.{Tables, is_plan_named, are_plans}
+use Rattle.plans.proofs.Shapes.{IsPlan}
 use Rattle.town.specs.Rows.{TownRows}
 use Rattle.town.specs.Fits.{fits}
 use Rattle.scenario.specs.Legs.{Ways, plan_in_town, plan_fault, plans_fault, all_plans_fault}
 use Rattle.scenario.specs.Fitting.{are_fitting, all_fit}
-use Rattle.scenario.proofs.LegFits.{Meets, both, or_none, plan_meets}
+use Rattle.scenario.proofs.LegFits.{Meets, plan_meets}
 
-or_else_assoc : {A : Type 0} (a b c : Option A) → or_else a (or_else b c) ≡ or_else (or_else a b) c
+pub or_else_assoc : {A : Type 0} (a b c : Option A) → or_else a (or_else b c) ≡ or_else (or_else a b) c
 or_else_assoc None b c = refl
 or_else_assoc (Option.Some a) b c = refl
 
@@ -31,36 +34,41 @@ plans_fault-append W rows [] ys = refl
 plans_fault-append W [] (x ∷ xs) ys = ap (λ rest. or_else (plan_fault W 0 x) rest) (plans_fault-append W [] xs ys) ∙ or_else_assoc (plan_fault W 0 x) (plans_fault W [] xs) (plans_fault W (drop (length xs) []) ys) ∙ ap (λ r. or_else (or_else (plan_fault W 0 x) (plans_fault W [] xs)) (plans_fault W r ys)) (drop_none (length xs))
 plans_fault-append W (row ∷ rows) (x ∷ xs) ys = ap (λ rest. or_else (plan_fault W row x) rest) (plans_fault-append W rows xs ys) ∙ or_else_assoc (plan_fault W row x) (plans_fault W rows xs) (plans_fault W (drop (length xs) rows) ys)
 
-own_meet : (T : TownRows) (W : Ways) (tables : Tables) (ends : List (ℕ × ℕ)) (rows : List ℕ) (plans : List Plan) → Meets T W tables ends
-    → list_all (is_plan_named tables ends) (map parts_of plans) ≡ true → plans_fault W rows (map parts_of plans) ≡ None
-    → list_all (fits T) (map (plan_in_town W.numbers) (map parts_of plans)) ≡ true
+own_meet : (T : TownRows) (W : Ways) (tables : Tables) (ends : List (ℕ × ℕ)) (rows : List ℕ) (plans : List Parts) → Meets T W tables ends
+    → list_all (is_plan_named tables ends) plans ≡ true → Each IsPlan plans → plans_fault W rows plans ≡ None → list_all (fits T) (map (plan_in_town W.numbers) plans) ≡ true
 unfolding plans_fault
-own_meet T W tables ends rows [] m named none = refl
-own_meet T W tables ends rows (plan ∷ plans) m named none =
-    let parts = both (is_plan_named tables ends (parts_of plan)) (list_all (is_plan_named tables ends) (map parts_of plans)) named in
-    let free = or_none (plan_fault W (get_or rows 0 0) (parts_of plan)) (plans_fault W (drop 1 rows) (map parts_of plans)) none in
-    both_true _ _ (plan_meets T W tables ends (get_or rows 0 0) (parts_of plan) m parts.0 free.0 plan.one_more)
-    (own_meet T W tables ends (drop 1 rows) plans m parts.1 free.1)
+own_meet T W tables ends rows [] m named kept none = refl
+own_meet T W tables ends rows (plan ∷ plans) m named kept none =
+    let parts = and_parts (is_plan_named tables ends plan) (list_all (is_plan_named tables ends) plans) named in
+    let free = or_none (plan_fault W (get_or rows 0 0) plan) (plans_fault W (drop 1 rows) plans) none in
+    both_true _ _ (plan_meets T W tables ends (get_or rows 0 0) plan m parts.0 free.0 kept.0.one_more)
+    (own_meet T W tables ends (drop 1 rows) plans m parts.1 kept.1 free.1)
 
-person_meets : (T : TownRows) (W : Ways) (tables : Tables) (ends : List (ℕ × ℕ)) (rows : List ℕ) (plans : List Plan) → Meets T W tables ends
-    → are_plans tables ends (map parts_of plans) ≡ true → plans_fault W rows (map parts_of plans) ≡ None
-    → are_fitting T (map (plan_in_town W.numbers) (map parts_of plans)) ≡ true
+person_meets : (T : TownRows) (W : Ways) (tables : Tables) (ends : List (ℕ × ℕ)) (rows : List ℕ) (plans : List Parts) → Meets T W tables ends
+    → are_plans tables ends plans ≡ true → Each IsPlan plans → plans_fault W rows plans ≡ None → are_fitting T (map (plan_in_town W.numbers) plans) ≡ true
 unfolding are_plans are_fitting
-person_meets T W tables ends rows plans m sound none =
-    let count = length-map (map parts_of plans) (plan_in_town W.numbers) in
-    let parts = both (nat_le 1 (length (map parts_of plans)) && nat_le (length (map parts_of plans)) 5) (list_all (is_plan_named tables ends) (map parts_of plans)) sound in
-    let few = both (nat_le 1 (length (map parts_of plans))) (nat_le (length (map parts_of plans)) 5) parts.0 in
-    let some : nat_le 1 (length (map (plan_in_town W.numbers) (map parts_of plans))) ≡ true = rw count few.0 in
-    let most : nat_le (length (map (plan_in_town W.numbers) (map parts_of plans))) 5 ≡ true = rw count few.1 in
-    both_true _ _ (both_true _ _ some most) (own_meet T W tables ends rows plans m parts.1 none)
+person_meets T W tables ends rows plans m sound kept none =
+    let count = length-map plans (plan_in_town W.numbers) in
+    let parts = and_parts (nat_le 1 (length plans) && nat_le (length plans) 5) (list_all (is_plan_named tables ends) plans) sound in
+    let few = and_parts (nat_le 1 (length plans)) (nat_le (length plans) 5) parts.0 in
+    let some : nat_le 1 (length (map (plan_in_town W.numbers) plans)) ≡ true = rw count few.0 in
+    let most : nat_le (length (map (plan_in_town W.numbers) plans)) 5 ≡ true = rw count few.1 in
+    both_true _ _ (both_true _ _ some most) (own_meet T W tables ends rows plans m parts.1 kept none)
 
 -- all persons' plans fit
-pub all_meet : (T : TownRows) (W : Ways) (tables : Tables) (ends : List (ℕ × ℕ)) (rows : List ℕ) (plans : List (List Plan)) → Meets T W tables ends
-    → list_all (are_plans tables ends) (all_parts plans) ≡ true → all_plans_fault W rows (all_parts plans) ≡ None
-    → all_fit T (map (map (plan_in_town W.numbers)) (all_parts plans)) ≡ true
-all_meet T W tables ends rows [] m sound none = refl
-all_meet T W tables ends rows (own ∷ plans) m sound none =
-    let parts = both (are_plans tables ends (map parts_of own)) (list_all (are_plans tables ends) (all_parts plans)) sound in
-    let free = or_none _ _ (sym (plans_fault-append W rows (map parts_of own) (flat_map (λ x. x) (all_parts plans))) ∙ none) in
-    both_true _ _ (person_meets T W tables ends rows own m parts.0 free.0)
-    (all_meet T W tables ends (drop (length (map parts_of own)) rows) plans m parts.1 free.1)
+pub all_meet : (T : TownRows) (W : Ways) (tables : Tables) (ends : List (ℕ × ℕ)) (rows : List ℕ) (plans : List (List Parts)) → Meets T W tables ends
+    → list_all (are_plans tables ends) plans ≡ true → Each (Each IsPlan) plans → all_plans_fault W rows plans ≡ None → all_fit T (map (map (plan_in_town W.numbers)) plans) ≡ true
+all_meet T W tables ends rows [] m sound kept none = refl
+all_meet T W tables ends rows (own ∷ plans) m sound kept none =
+    let parts = and_parts (are_plans tables ends own) (list_all (are_plans tables ends) plans) sound in
+    let free = or_none _ _ (sym (plans_fault-append W rows own (flat_map (λ x. x) plans)) ∙ none) in
+    both_true _ _ (person_meets T W tables ends rows own m parts.0 kept.0 free.0) (all_meet T W tables ends (drop (length own) rows) plans m parts.1 kept.1 free.1)
+
+own_kept : (plans : List Plan) → Each IsPlan (map parts_of plans)
+own_kept [] = tt
+own_kept (plan ∷ plans) = (record { one_more = plan.one_more; few = plan.few; ends = plan.ends; legs = plan.sound }, own_kept plans)
+
+-- what the type of a plan keeps
+pub all_kept : (plans : List (List Plan)) → Each (Each IsPlan) (all_parts plans)
+all_kept [] = tt
+all_kept (own ∷ plans) = (own_kept own, all_kept plans)

@@ -13,8 +13,9 @@ use Rattle.scenario.specs.declared.faults.Stop.{Stop}
 use Rattle.scenario.specs.declared.scenario.Scenario.{Scenario}
 use Rattle.scenario.specs.Texts.{Texts, bytes_in}
 use Rattle.scenario.specs.Faults.{text_fault, in_file, StopsAt, Tells}
-use Rattle.scenario.specs.Given.{Roads, Timetable, persons_fault, timetable_fault, cross_fault, persons_on, timetable_on, scenario_of, on_roads, on_roads_fault, roads_fault, roads_of, scenario_fault, scenario_rows}
+use Rattle.scenario.specs.Given.{Roads, Timetable, persons_fault, timetable_fault, plans_cross_fault, persons_on, timetable_on, scenario_of, on_roads, on_roads_fault, roads_fault, roads_of, scenario_fault, scenario_rows}
 use Rattle.scenario.specs.Views.{scenario_view}
+use Rattle.scenario.proofs.RowByRow.{same_crossing}
 use Rattle.scenario.proofs.Told.{first_stop, later_stop}
 
 -- the ends are one for each name
@@ -44,14 +45,16 @@ timetable_told s R plans stops routes departures ends is none told =
 -- the town with its plans, or the first leg that does not fit
 pub all_told : (r : Result Scenario Stop) (v : Values) (R : Roads) (P : PlanRows) (S : Timetable) (plans stops routes departures : Option (List ℕ)) (ends : List (ℕ × ℕ)) → ends ≡ ends_of R.links
     → persons_fault R.link_names ends plans ≡ None → timetable_fault R.link_names ends stops routes departures ≡ None → P ≡ persons_on R plans → S ≡ timetable_on R stops routes departures
-    → Tells scenario_view r (cross_fault P S) (scenario_of v R P S) → Tells scenario_view r (on_roads_fault R plans stops routes departures) (on_roads v R plans stops routes departures)
+    → Tells scenario_view r (plans_cross_fault P S) (scenario_of v R P S) → Tells scenario_view r (on_roads_fault R plans stops routes departures) (on_roads v R plans stops routes departures)
 unfolding on_roads_fault on_roads
 all_told r v R P S plans stops routes departures ends is no_persons no_timetable persons timetable told =
     let value = scenario_of v R (persons_on R plans) (timetable_on R stops routes departures) in
-    let with_persons = subst (λ (p : PlanRows). Tells scenario_view r (cross_fault p S) (scenario_of v R p S)) persons told in
-    let with_both = subst (λ (t : Timetable). Tells scenario_view r (cross_fault (persons_on R plans) t) (scenario_of v R (persons_on R plans) t)) timetable with_persons in
-    told_behind scenario_view r _ _ value (subst (λ (e : List (ℕ × ℕ)). persons_fault R.link_names e plans ≡ None) is no_persons)
-    (told_behind scenario_view r _ _ value (subst (λ (e : List (ℕ × ℕ)). timetable_fault R.link_names e stops routes departures ≡ None) is no_timetable) with_both)
+    let no_persons_on = subst (λ (e : List (ℕ × ℕ)). persons_fault R.link_names e plans ≡ None) is no_persons in
+    let with_persons = subst (λ (p : PlanRows). Tells scenario_view r (plans_cross_fault p S) (scenario_of v R p S)) persons told in
+    let with_both = subst (λ (t : Timetable). Tells scenario_view r (plans_cross_fault (persons_on R plans) t) (scenario_of v R (persons_on R plans) t)) timetable with_persons in
+    let row_by_row = subst (λ (f : Option ScenarioFault). Tells scenario_view r f value) (same_crossing R plans (timetable_on R stops routes departures) no_persons_on) with_both in
+    told_behind scenario_view r _ _ value no_persons_on
+    (told_behind scenario_view r _ _ value (subst (λ (e : List (ℕ × ℕ)). timetable_fault R.link_names e stops routes departures ≡ None) is no_timetable) row_by_row)
 
 -- what the files on roads tell is what all files tell, where settings and roads have no fault
 pub files_told : (r : Result Scenario Stop) (T : Texts) (v : Values) (R : Roads) → in_file file.Settings (text_fault (λ bytes. fault_at 0 (settings_fault bytes)) T.settings) ≡ None → roads_fault T.nodes T.links ≡ None

@@ -4,13 +4,13 @@ use Rattle.std.specs.Prelude.{nat_le, option_map, option_to_list}
 use Rattle.std.specs.List.{list_all, filter_map}
 use Rattle.std.proofs.lemmas.List.Elements.{filter_map-append}
 use Rattle.std.proofs.lemmas.List.{map-append}
+use Rattle.std.proofs.lemmas.Bool.{and_parts}
 use Rattle.records.proofs.Sound.{both_true}
 use Rattle.plans.specs.declared.plan.Plan.{Plan}
 use Rattle.plans.specs.Parts.{Parts, parts_of, all_parts}
 use Rattle.town.specs.Rows.{TownRows}
 use Rattle.town.specs.Fits.{fits}
 use Rattle.scenario.specs.Fitting.{are_fitting, all_fit, first_plan, first_plans, AreChosen}
-use Rattle.scenario.proofs.LegFits.{both}
 
 one : (own : List Parts) → filter_map first_plan (own ∷ []) ≡ option_to_list (first_plan own)
 one [] = refl
@@ -35,10 +35,10 @@ first_more persons own o before after first so_far is =
 pub first_fit : (T : TownRows) (plans : List (List Parts)) → all_fit T plans ≡ true → AreChosen T plans (first_plans plans)
 unfolding first_plans are_fitting
 first_fit T [] h = record { each = refl; fit = refl }
-first_fit T ([] ∷ plans) h = let no = both (are_fitting T []) (all_fit T plans) h in absurd (cc (no.0))
+first_fit T ([] ∷ plans) h = let no = and_parts (are_fitting T []) (all_fit T plans) h in absurd (cc (no.0))
 first_fit T ((plan ∷ own) ∷ plans) h =
-    let parts = both (are_fitting T (plan ∷ own)) (all_fit T plans) h in
-    let mine = both (nat_le 1 (length (plan ∷ own)) && nat_le (length (plan ∷ own)) 5) (list_all (fits T) (plan ∷ own)) parts.0 in
-    let first = both (fits T plan) (list_all (fits T) own) mine.1 in
+    let parts = and_parts (are_fitting T (plan ∷ own)) (all_fit T plans) h in
+    let mine = and_parts (nat_le 1 (length (plan ∷ own)) && nat_le (length (plan ∷ own)) 5) (list_all (fits T) (plan ∷ own)) parts.0 in
+    let first = and_parts (fits T plan) (list_all (fits T) own) mine.1 in
     let later = first_fit T plans parts.1 in
     record { each = omega (arith, later.each); fit = both_true _ _ first.0 later.fit }

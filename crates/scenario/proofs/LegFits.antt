@@ -2,10 +2,12 @@
 use Rattle.std.proofs.Common.{◌≡◌, ℕ, ◌+◌, ◌<◌, Bool, true, false, not, ◌&&◌, ◌||◌, List, [], ◌∷◌, length, map, Option, None, Some, refl, sym, ap, subst, arith}
 use Rattle.std.specs.Prelude.{nat_eq, nat_lt, is_none, unwrap_or, if◌then◌else◌}
 use Rattle.std.specs.List.{list_all}
+use Rattle.std.proofs.lemmas.Bool.{and_parts}
 use Rattle.std.proofs.lemmas.Bool.Decides.{nat_tests}
 use Rattle.edge_files.specs.declared.reasons.Reason.{Reason}
 use Rattle.records.specs.Faults.{or_else, fault_at}
 use Rattle.records.proofs.Sound.{both_true}
+use Rattle.records.proofs.Unrefused.{or_none, no_reason}
 use Rattle.plans.specs.declared.plan.Act.{Act}
 use Rattle.plans.specs.declared.plan.Leg.{Leg}
 use Rattle.plans.specs.declared.plan.Leg.TheVariants as leg
@@ -27,22 +29,11 @@ pub record Meets (T : TownRows) (W : Ways) (tables : Tables) (ends : List (ℕ �
   pub same_kinds : length T.book.kinds ≡ length tables.kinds
   pub same_ends : ends_of T.links ≡ ends
 
-pub both : (a b : Bool) → (a && b) ≡ true → (a ≡ true) × (b ≡ true)
-both a b h = (grind arith, grind arith)
-
 not_false : (a : Bool) → a ≡ false → not a ≡ true
 not_false a h = grind arith
 
 less : (n m : ℕ) → n < m → nat_lt n m ≡ true
 less n m h = grind (arith, nat_tests)
-
-pub or_none : {A : Type 0} (a b : Option A) → or_else a b ≡ None → (a ≡ None) × (b ≡ None)
-or_none None b h = (refl, h)
-or_none (Some a) b h = (cc, cc)
-
-no_fault : (row : ℕ) (why : Option Reason) → fault_at row why ≡ None → why ≡ None
-no_fault row None h = refl
-no_fault row (Some why) h = cc
 
 drive_none : (empty wrong : Bool) (x y : Reason) → (if not empty && wrong then Some x else (if empty then Some y else None)) ≡ None → (empty ≡ false) × (wrong ≡ false)
 drive_none true wrong x y h = (cc, cc)
@@ -62,7 +53,7 @@ leg_meets : (T : TownRows) (W : Ways) (tables : Tables) (ends : List (ℕ × ℕ
 unfolding leg_fits is_drive leg_reason
 leg_meets T W tables ends here there (leg.Car route) m named none =
     let free = drive_none (nat_eq (length route) 0) (has_wrong_ends here there route) _ _ none in
-    let parts = both (list_all (λ link. nat_lt link (length tables.links)) route) (is_joined ends route) named in
+    let parts = and_parts (list_all (λ link. nat_lt link (length tables.links)) route) (is_joined ends route) named in
     let linked : list_all (λ link. nat_lt link (length T.links)) route ≡ true =
     subst (λ (n : ℕ). list_all (λ link. nat_lt link n) route ≡ true) (sym m.same_links) parts.0 in
     let joined : is_joined (ends_of T.links) route ≡ true = subst (λ (e : List (ℕ × ℕ)). is_joined e route ≡ true) (sym m.same_ends) parts.1 in
@@ -85,9 +76,9 @@ unfolding legs_fit legs_fault
 legs_meet T W tables ends row acts [] m named none more = refl
 legs_meet T W tables ends row [] (leg ∷ legs) m named none more = absurd (omega arith)
 legs_meet T W tables ends row (here ∷ acts) (leg ∷ legs) m named none more =
-    let parts = both (is_leg_named tables ends leg) (list_all (is_leg_named tables ends) legs) named in
+    let parts = and_parts (is_leg_named tables ends leg) (list_all (is_leg_named tables ends) legs) named in
     let free = or_none (fault_at row (leg_reason W here.link (first_link acts) leg)) (legs_fault W (row + 2) acts legs) none in
-    both_true _ _ (leg_meets T W tables ends here.link (first_link acts) leg m parts.0 (no_fault row _ free.0))
+    both_true _ _ (leg_meets T W tables ends here.link (first_link acts) leg m parts.0 (no_reason row _ free.0))
     (legs_meet T W tables ends (row + 2) acts legs m parts.1 free.1 (omega arith))
 
 acts_meet : (T : TownRows) (tables : Tables) (acts : List Act) → length T.links ≡ length tables.links → length T.book.kinds ≡ length tables.kinds
@@ -102,6 +93,6 @@ pub plan_meets : (T : TownRows) (W : Ways) (tables : Tables) (ends : List (ℕ �
     → fits T (plan_in_town W.numbers plan) ≡ true
 unfolding fits is_plan_named plan_fault
 plan_meets T W tables ends row plan m named none more =
-    let parts = both (list_all (is_act_named tables) plan.acts) (list_all (is_leg_named tables ends) plan.legs) named in
+    let parts = and_parts (list_all (is_act_named tables) plan.acts) (list_all (is_leg_named tables ends) plan.legs) named in
     both_true _ _ (acts_meet T tables plan.acts m.same_links m.same_kinds parts.0)
     (legs_meet T W tables ends (row + 1) plan.acts plan.legs m parts.1 none more)

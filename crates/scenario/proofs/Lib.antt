@@ -7,4 +7,5 @@ pub mod Told
 pub mod FilesRead
 pub mod FirstPlans
 pub mod Settling
+pub mod RowByRow
 pub mod Composed

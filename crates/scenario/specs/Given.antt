@@ -10,7 +10,7 @@ use Rattle.network.specs.declared.rows.LinkRow.{LinkRow}
 use Rattle.network.specs.Nodes.{nodes_fault, node_names, node_of}
 use Rattle.network.specs.Links.{links_fault, link_names, link_of}
 use Rattle.plans.specs.Parts.{Parts}
-use Rattle.plans.specs.Values.{PlanRows, plans_fault, plan_rows}
+use Rattle.plans.specs.Values.{PlanRows, tables_of, plans_fault, plan_rows}
 use Rattle.schedule.specs.declared.rows.StopRow.{StopRow}
 use Rattle.schedule.specs.declared.rows.RouteRow.{RouteRow}
 use Rattle.schedule.specs.declared.rows.DepartureRow.{DepartureRow}
@@ -24,7 +24,7 @@ use Rattle.town.specs.Rows.{Numbers, TownRows, ends_of}
 use Rattle.scenario.specs.declared.faults.ScenarioFault.{ScenarioFault}
 use Rattle.scenario.specs.Texts.{Texts, bytes_in}
 use Rattle.scenario.specs.Faults.{text_fault, in_file}
-use Rattle.scenario.specs.Legs.{Ways, numbers_in, plan_in_town, all_plans_fault}
+use Rattle.scenario.specs.Legs.{Ways, numbers_in, plan_in_town, rows_cross_fault, all_plans_fault}
 
 -- the settings of a town's traffic out of the settings of a run
 abbrev pub numbers_of : Values → Numbers
@@ -150,9 +150,14 @@ timetable_fault links ends stops routes departures =
     or_else (in_file file.Routes (text_fault (routes_fault links ends (stop_names (bytes_in stops)) (stop_rows links (bytes_in stops))) routes)) (
     in_file file.Departures (text_fault (departures_fault (route_names (bytes_in routes))) departures)))
 
--- the first leg of plans.csv that does not fit the files behind it
-unfoldable pub cross_fault : PlanRows → Timetable → Option ScenarioFault
-cross_fault plans timetable = in_file file.Plans (all_plans_fault (ways_in plans timetable) plans.starts plans.plans)
+-- the first leg of plans.csv that does not fit the files behind it: the least row, and the least of its reasons
+unfoldable pub cross_fault : Roads → List ℕ → Timetable → Option ScenarioFault
+cross_fault roads plans timetable =
+    in_file file.Plans (rows_cross_fault (ways_in (plan_rows roads.link_names plans) timetable) (tables_of roads.link_names (body_of plans)) (body_of plans))
+
+-- the same of plans that were read, plan by plan
+unfoldable pub plans_cross_fault : PlanRows → Timetable → Option ScenarioFault
+plans_cross_fault plans timetable = in_file file.Plans (all_plans_fault (ways_in plans timetable) plans.starts plans.plans)
 
 -- what plans.csv gives on roads
 abbrev pub persons_on : Roads → Option (List ℕ) → PlanRows
@@ -167,7 +172,7 @@ unfoldable pub on_roads_fault : Roads → Option (List ℕ) → Option (List ℕ
 on_roads_fault roads plans stops routes departures =
     or_else (persons_fault roads.link_names (ends_of roads.links) plans) (
     or_else (timetable_fault roads.link_names (ends_of roads.links) stops routes departures) (
-    cross_fault (persons_on roads plans) (timetable_on roads stops routes departures)))
+    cross_fault roads (bytes_in plans) (timetable_on roads stops routes departures)))
 
 -- the scenario on roads
 unfoldable pub on_roads : Values → Roads → Option (List ℕ) → Option (List ℕ) → Option (List ℕ) → Option (List ℕ) → ScenarioRows

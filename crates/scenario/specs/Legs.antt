@@ -1,15 +1,18 @@
 -- The legs of the plans in the town: the numbers of their lines and stops, and what may be wrong with them.
-use Rattle.std.specs.Prelude.{ℕ, ◌+◌, Bool, false, not, ◌&&◌, ◌||◌, nat_eq, is_none, List, [], ◌∷◌, length, map, drop, get_or, Option, None, unwrap_or}
+use Rattle.std.specs.Prelude.{ℕ, ◌+◌, ◌-◌, Bool, false, not, ◌&&◌, ◌||◌, nat_eq, is_none, if◌then◌else◌, List, [], ◌∷◌, length, map, drop, get_or, Option, None, unwrap_or}
 use Rattle.std.specs.List.{flat_map}
 use Rattle.edge_files.specs.declared.reasons.Reason.{Reason}
 use Rattle.edge_files.specs.declared.reasons.Reason.TheVariants as reason
 use Rattle.edge_files.specs.declared.reasons.RowFault.{RowFault}
 use Rattle.events.specs.Names.{number_of}
-use Rattle.records.specs.Faults.{or_else, fault_at, least}
+use Rattle.records.specs.Rows.{Row}
+use Rattle.records.specs.Faults.{or_else, fault_at, least, first_fault}
 use Rattle.plans.specs.declared.plan.Act.{Act}
 use Rattle.plans.specs.declared.plan.Leg.{Leg}
 use Rattle.plans.specs.declared.plan.Leg.TheVariants as leg
 use Rattle.plans.specs.Parts.{Parts}
+use Rattle.plans.specs.Kinds.{kind_of, is_leg}
+use Rattle.plans.specs.Values.{Tables, act_of, leg_of}
 use Rattle.schedule.specs.declared.rows.StopRow.{StopRow}
 use Rattle.schedule.specs.declared.rows.RouteRow.{RouteRow}
 use Rattle.town.specs.Fits.{has_wrong_ends, has_wrong_stops, first_link}
@@ -81,6 +84,22 @@ leg_reason W here there leg = least (
     ∷ (lacks_route leg, reason.NoRoute)
     ∷ [])
 
+-- the link of the activity in a row of plans.csv
+abbrev pub link_in : Tables → Row → ℕ
+link_in tables row = (act_of tables.kinds tables.links row).link
+
+-- the least reason against the leg in a row of plans.csv, by the activities in the rows before and behind it; a row that is no leg has none
+unfoldable pub leg_reason_at : Ways → Tables → List Row → ℕ → Option Reason
+leg_reason_at W tables rows place =
+    if is_leg (kind_of (get_or rows place [])) then
+    leg_reason W (link_in tables (get_or rows (place - 1) [])) (link_in tables (get_or rows (place + 1) [])) (leg_of tables.lines tables.stops tables.links (get_or rows place []))
+    else None
+
+-- the first fault of these legs: the least row that has a reason, and the least of its reasons
+unfoldable pub rows_cross_fault : Ways → Tables → List Row → Option RowFault
+rows_cross_fault W tables rows = first_fault None (leg_reason_at W tables rows) (length rows)
+
+-- THE SAME, PLAN BY PLAN
 -- the first fault of the legs of a plan, which stand in every second row from this one on
 unfoldable pub legs_fault : Ways → ℕ → List Act → List Leg → Option RowFault
 legs_fault W row acts [] = None

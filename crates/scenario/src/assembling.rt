@@ -1,4 +1,4 @@
-ghost use Rattle.std.specs.Prelude.{◌≡◌, ℕ, None, length, map, replicate, IfOk, List};
+ghost use Rattle.std.specs.Prelude.{◌≡◌, ◌<◌, ◌≤◌, ◌^◌, ℕ, None, length, map, replicate, IfOk, All, List};
 ghost use Rattle.plans.specs.Progress.{IsSound};
 ghost use Rattle.plans.specs.Read.{plan_rows_of};
 ghost use Rattle.settings.specs.Faults.{settings_fault, settings_of, values_of};
@@ -10,7 +10,7 @@ ghost use Rattle.scenario.specs.Texts.{text_in, bytes_in};
 ghost use Rattle.scenario.specs.Faults.{text_fault, in_file, Tells};
 ghost use Rattle.scenario.specs.Ways.{ways_of, AreThere};
 ghost use Rattle.scenario.specs.Towns.{IsSchedule};
-ghost use Rattle.scenario.specs.Given.{ways_in, book_of, town_of, cross_fault, scenario_of, on_roads, on_roads_fault, scenario_fault, scenario_rows};
+ghost use Rattle.scenario.specs.Given.{ways_in, book_of, town_of, plans_cross_fault, scenario_of, on_roads, on_roads_fault, scenario_fault, scenario_rows};
 ghost use Rattle.scenario.specs.Views.{roads_view, timetable_view, scenario_view, texts_of};
 
 use crate::faults::{ScenarioFault, Stop};
@@ -122,6 +122,7 @@ fn town_of(
     requires schedule { IsSchedule (length network.links) (ends_of network.links) schedule }
     requires book { book ≡ book_of (roads_view network) book.persons book.kinds (timetable_view schedule) }
     requires greens { greens ≡ replicate (length network.links) always }
+    requires few { length book.persons ≤ 65536 }
     ensures { rows_of result ≡ town_of (values_of settings) (roads_view network) book.persons book.kinds (timetable_view schedule) }
 {
     let Schedule {
@@ -162,7 +163,8 @@ fn named_town(
     persons: Names,
     kinds: Names,
 ) -> Result<Town, AllocError>
-    requires { IsSchedule (length network.links) (ends_of network.links) schedule }
+    requires schedule { IsSchedule (length network.links) (ends_of network.links) schedule }
+    requires few { length persons ≤ 65536 }
     ensures { IfOk result (λ town. rows_of town ≡ town_of (values_of settings) (roads_view network) persons kinds (timetable_view schedule)) }
 {
     let Ok(greens) = no_signals(alloc, network.links.len()) else {
@@ -175,23 +177,20 @@ fn named_town(
 }
 
 /// The first leg of the plans that does not fit the files behind plans.csv, where there is one.
-#[tactic(auto, unfolding(crate::specs::Given::cross_fault))]
-fn crossed(
-    numbering: &Numbering,
-    schedule: &Schedule,
-    plans: &PlanFile,
-) -> Result<Option<ScenarioFault>, AllocError>
+#[tactic(auto, unfolding(crate::specs::Given::plans_cross_fault))]
+fn crossed(numbering: &Numbering, schedule: &Schedule, plans: &PlanFile) -> Option<ScenarioFault>
     requires ways { ways_of numbering.now schedule.now ≡ ways_in (plan_rows_of plans.now) (timetable_view schedule.now) }
     requires there { AreThere (length schedule.now.routes.lines) (ways_of numbering.now schedule.now) }
-    ensures { IfOk result (λ fault. fault ≡ cross_fault (plan_rows_of plans.now) (timetable_view schedule.now)) }
+    requires starts { All (λ row. row < 2 ^ 30) plans.now.starts }
+    ensures { result ≡ plans_cross_fault (plan_rows_of plans.now) (timetable_view schedule.now) }
 {
-    match all_plans_fault(numbering, schedule, &plans.starts.rows, &plans.plans.rows)? {
-        Some(fault) => Ok(Some(ScenarioFault {
+    match all_plans_fault(numbering, schedule, &plans.starts.rows, &plans.plans.rows) {
+        Some(fault) => Some(ScenarioFault {
             file: InFile::Plans,
             row: fault.row,
             reason: fault.reason,
-        })),
-        None => Ok(None),
+        }),
+        None => None,
     }
 }
 
@@ -209,7 +208,7 @@ fn settled(
     requires schedule { IsSchedule (length network.links) (ends_of network.links) schedule }
     requires ways { ways_of numbering schedule ≡ ways_in (plan_rows_of file) (timetable_view schedule) }
     requires there { AreThere (length schedule.routes.lines) (ways_of numbering schedule) }
-    requires free { cross_fault (plan_rows_of file) (timetable_view schedule) ≡ None }
+    requires free { plans_cross_fault (plan_rows_of file) (timetable_view schedule) ≡ None }
     ensures { IfOk result (λ scenario. scenario_view scenario ≡ scenario_of (values_of settings) (roads_view network) (plan_rows_of file) (timetable_view schedule)) }
 {
     let PlanFile {
@@ -236,17 +235,16 @@ fn together(
     schedule: Schedule,
 ) -> Result<Scenario, Stop>
     requires sound { IsSound network.link_names (ends_of network.links) (plan_rows_of file) }
+    requires starts { All (λ row. row < 2 ^ 30) file.starts }
     requires schedule { IsSchedule (length network.links) (ends_of network.links) schedule }
-    ensures { Tells scenario_view result (cross_fault (plan_rows_of file) (timetable_view schedule))
+    ensures { Tells scenario_view result (plans_cross_fault (plan_rows_of file) (timetable_view schedule))
         (scenario_of (values_of settings) (roads_view network) (plan_rows_of file) (timetable_view schedule)) }
 {
     let Ok(numbering) = numbering_in(alloc, &file, &schedule) else {
         return Err(Stop::NoMemory);
     };
-    match crossed(&numbering, &schedule, &file) {
-        Ok(None) => {}
-        Ok(Some(fault)) => return Err(Stop::Fault(fault)),
-        Err(_) => return Err(Stop::NoMemory),
+    if let Some(fault) = crossed(&numbering, &schedule, &file) {
+        return Err(Stop::Fault(fault));
     }
     match settled(alloc, settings, network, file, schedule, numbering) {
         Ok(scenario) => Ok(scenario),

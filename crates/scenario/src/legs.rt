@@ -1,4 +1,4 @@
-ghost use Rattle.std.specs.Prelude.{◌≡◌, ℕ, ◌<◌, ◌+◌, Some, length, map, drop, get_or, IfOk};
+ghost use Rattle.std.specs.Prelude.{◌≡◌, ℕ, ◌<◌, ◌+◌, ◌*◌, ◌^◌, length, map, drop, get_or, All};
 ghost use Rattle.plans.specs.Parts.{parts_of, all_parts};
 ghost use Rattle.town.specs.Fits.{first_link};
 ghost use Rattle.plans.specs.declared.plan.Leg.TheVariants as leg;
@@ -10,7 +10,6 @@ use crate::timetables::Schedule;
 use edge_files::{Reason, RowFault};
 use events::Route;
 use plans::{Act, Leg, Plan, PlanList};
-use std::alloc::AllocError;
 use town::{wrong_ends, wrong_stops};
 
 /// The reason against a car route between activities on these two links.
@@ -92,8 +91,6 @@ fn first_link(acts: &[Act]) -> u32
 }
 
 /// The first fault of the legs of a plan, which stand in every second row from this one on.
-///
-/// A row beyond 2^32, which no file has, is told as want of memory.
 #[tactic(auto, unfolding(crate::specs::Legs::legs_fault))]
 fn legs_fault(
     numbering: &Numbering,
@@ -101,41 +98,33 @@ fn legs_fault(
     row: u32,
     acts: &[Act],
     legs: &[Leg],
-) -> Result<Option<RowFault>, AllocError>
-    requires { AreThere (length schedule.now.routes.lines) (ways_of numbering.now schedule.now) }
-    ensures { IfOk result (λ fault. fault ≡ legs_fault (ways_of numbering.now schedule.now) row acts.now legs.now) }
+) -> Option<RowFault>
+    requires there { AreThere (length schedule.now.routes.lines) (ways_of numbering.now schedule.now) }
+    requires early { row + 2 * length legs.now < 2 ^ 31 }
+    ensures { result ≡ legs_fault (ways_of numbering.now schedule.now) row acts.now legs.now }
 {
     let [leg, later @ ..] = legs else {
-        return Ok(None);
+        return None;
     };
     let [here, rest @ ..] = acts else {
-        return Ok(None);
+        return None;
     };
     let there = first_link(rest);
     if let Some(reason) = leg_reason(numbering, schedule, here.link, there, leg) {
-        return Ok(Some(RowFault { row, reason }));
+        return Some(RowFault { row, reason });
     }
-    let Some(next) = row.checked_add(2) else {
-        return Err(AllocError);
-    };
-    legs_fault(numbering, schedule, next, rest, later)
+    legs_fault(numbering, schedule, row + 2, rest, later)
 }
 
 /// The first fault of the legs of a plan that begins in a row.
 #[tactic(auto, unfolding(crate::specs::Legs::plan_fault))]
-fn plan_fault(
-    numbering: &Numbering,
-    schedule: &Schedule,
-    row: u32,
-    plan: &Plan,
-) -> Result<Option<RowFault>, AllocError>
-    requires { AreThere (length schedule.now.routes.lines) (ways_of numbering.now schedule.now) }
-    ensures { IfOk result (λ fault. fault ≡ plan_fault (ways_of numbering.now schedule.now) row (parts_of plan.now)) }
+fn plan_fault(numbering: &Numbering, schedule: &Schedule, row: u32, plan: &Plan) -> Option<RowFault>
+    requires there { AreThere (length schedule.now.routes.lines) (ways_of numbering.now schedule.now) }
+    requires early { row < 2 ^ 30 }
+    ensures { result ≡ plan_fault (ways_of numbering.now schedule.now) row (parts_of plan.now) }
 {
-    let Some(first) = row.checked_add(1) else {
-        return Err(AllocError);
-    };
-    legs_fault(numbering, schedule, first, &plan.acts.rows, &plan.legs.rows)
+    let (acts, legs) = (&plan.acts.rows, &plan.legs.rows);
+    legs_fault(numbering, schedule, row + 1, acts, legs)
 }
 
 /// The rows but for the first ones.
@@ -150,7 +139,9 @@ fn behind(rows: &[u32], count: usize) -> &[u32]
 
 /// The first row.
 fn first_row(rows: &[u32]) -> u32
-    ensures { result ≡ get_or rows.now 0 0 }
+    requires { All (λ row. row < 2 ^ 30) rows.now }
+    ensures first { result ≡ get_or rows.now 0 0 }
+    ensures early { result < 2 ^ 30 }
 {
     match rows {
         [row, ..] => *row,
@@ -165,16 +156,17 @@ fn plans_fault(
     schedule: &Schedule,
     rows: &[u32],
     plans: &[Plan],
-) -> Result<Option<RowFault>, AllocError>
-    requires { AreThere (length schedule.now.routes.lines) (ways_of numbering.now schedule.now) }
-    ensures { IfOk result (λ fault. fault ≡ plans_fault (ways_of numbering.now schedule.now) rows.now (map parts_of plans.now)) }
+) -> Option<RowFault>
+    requires there { AreThere (length schedule.now.routes.lines) (ways_of numbering.now schedule.now) }
+    requires early { All (λ row. row < 2 ^ 30) rows.now }
+    ensures { result ≡ plans_fault (ways_of numbering.now schedule.now) rows.now (map parts_of plans.now) }
 {
     let [plan, later @ ..] = plans else {
-        return Ok(None);
+        return None;
     };
-    let fault = plan_fault(numbering, schedule, first_row(rows), plan)?;
+    let fault = plan_fault(numbering, schedule, first_row(rows), plan);
     if fault.is_some() {
-        return Ok(fault);
+        return fault;
     }
     plans_fault(numbering, schedule, behind(rows, 1), later)
 }
@@ -185,9 +177,10 @@ fn own_fault(
     schedule: &Schedule,
     rows: &[u32],
     own: &PlanList,
-) -> Result<Option<RowFault>, AllocError>
-    requires { AreThere (length schedule.now.routes.lines) (ways_of numbering.now schedule.now) }
-    ensures { IfOk result (λ fault. fault ≡ plans_fault (ways_of numbering.now schedule.now) rows.now (map parts_of own.now)) }
+) -> Option<RowFault>
+    requires there { AreThere (length schedule.now.routes.lines) (ways_of numbering.now schedule.now) }
+    requires early { All (λ row. row < 2 ^ 30) rows.now }
+    ensures { result ≡ plans_fault (ways_of numbering.now schedule.now) rows.now (map parts_of own.now) }
 {
     plans_fault(numbering, schedule, rows, &own.rows)
 }
@@ -205,17 +198,18 @@ pub fn all_plans_fault(
     schedule: &Schedule,
     rows: &[u32],
     plans: &[PlanList],
-) -> Result<Option<RowFault>, AllocError>
-    requires { AreThere (length schedule.now.routes.lines) (ways_of numbering.now schedule.now) }
-    ensures { IfOk result (λ fault. fault ≡ all_plans_fault (ways_of numbering.now schedule.now) rows.now (all_parts plans.now)) }
+) -> Option<RowFault>
+    requires there { AreThere (length schedule.now.routes.lines) (ways_of numbering.now schedule.now) }
+    requires early { All (λ row. row < 2 ^ 30) rows.now }
+    ensures { result ≡ all_plans_fault (ways_of numbering.now schedule.now) rows.now (all_parts plans.now) }
 {
     let mut rest = rows;
     for own in plans {
-        let fault = own_fault(numbering, schedule, rest, own)?;
+        let fault = own_fault(numbering, schedule, rest, own);
         if fault.is_some() {
-            return Ok(fault);
+            return fault;
         }
         rest = behind(rest, count_of(own));
     }
-    Ok(None)
+    None
 }

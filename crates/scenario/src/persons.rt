@@ -1,4 +1,4 @@
-ghost use Rattle.std.specs.Prelude.{◌≡◌, length, IfOk};
+ghost use Rattle.std.specs.Prelude.{◌≡◌, ◌<◌, ◌^◌, length, IfOk, All};
 ghost use Rattle.plans.specs.Progress.{IsSound};
 ghost use Rattle.plans.specs.Read.{plan_rows_of};
 ghost use Rattle.plans.specs.Values.{plan_rows};
@@ -26,6 +26,7 @@ pub fn read_persons(
     ensures read { Tells plan_rows_of result (persons_fault links.now ends.now (text_in long InFile.Plans plans))
         (plan_rows links.now (bytes_in (text_in long InFile.Plans plans))) }
     ensures sound { IfOk result (λ file. IsSound links.now ends.now (plan_rows_of file)) }
+    ensures starts { IfOk result (λ file. All (λ row. row < 2 ^ 30) file.starts) }
 {
     if is_long(long, InFile::Plans) {
         return Err(too_long(InFile::Plans));

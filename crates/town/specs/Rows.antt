@@ -75,9 +75,10 @@ pub record AreNumbers (n : Numbers) : Type 0 where
   pub holes : is_hole_speed n.hole_speed ≡ true
   pub dwell : IsDwelling n.dwell
 
--- every row of a town names rows that are there, within the limits, and there is a signal for each link
+-- every row of a town names rows that are there, within the limits; there are at most 65,536 persons, and a signal for each link
 pub record IsTown (T : TownRows) : Type 0 where
   pub numbers : AreNumbers T.numbers
+  pub few_persons : length T.book.persons ≤ 65536
   pub few_links : length T.links ≤ 262144
   pub links : list_all (is_link (length T.nodes)) T.links ≡ true
   pub few_stops : length T.stops ≤ 16384

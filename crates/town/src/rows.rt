@@ -10,7 +10,7 @@ use traffic::{Dwelling, Stuck};
 ///
 /// Every number in it names a row that is there, each link has a signal, and all is within the limits: a day of
 /// 1 to 172,800 seconds, factors of 1 to 2,000 permille, a patience of 1 to 172,800 seconds, holes of 1 to
-/// 10,000 centimetres a second where they travel, and dwell times of at most 3,600 seconds.
+/// 10,000 centimetres a second where they travel, dwell times of at most 3,600 seconds, and at most 65,536 persons.
 #[derive(Drop)]
 pub struct Town {
     /// The seed of the random words.

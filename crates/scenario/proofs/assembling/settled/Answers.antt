@@ -10,6 +10,7 @@ use Rattle.scenario.specs.Ways.{AreThere}
 use Rattle.scenario.specs.Given.{ScenarioRows, ways_in, town_of, scenario_of}
 use Rattle.scenario.specs.Views.{roads_view, timetable_view}
 use Rattle.scenario.specs.Fitting.{all_fit}
+use Rattle.scenario.proofs.AllFit.{all_kept}
 use Rattle.scenario.proofs.Settling.{plans_fit, persons_are}
 use Rattle.scenario.proofs.assembling.settled.Goals as goal
 
@@ -31,7 +32,7 @@ invariant_of-result c =
     record {
       each = count ∙ sym (ap (λ (names : List (List ℕ)). length names) (persons_are v R P.persons P.kinds S (rows_of c.in-Ok-named_town.town) town_is));
       fitting = ap (λ (t : TownRows). all_fit t (all_parts plans)) town_is ∙ ap (λ (l : List (List Parts)). all_fit T l) plans_are
-          ∙ plans_fit v R P S args.file.plans refl there args.network.each_link c.requires.sound c.requires.free;
+          ∙ plans_fit v R P S there args.network.each_link c.requires.sound (all_kept args.file.plans) c.requires.free;
     }
 
 pub returns-in-Ok-named_town : goal.returns-in-Ok-named_town

@@ -38,6 +38,7 @@ invariant_of-result c =
           holes = is_speed settings.hole_speed settings.holes;
           dwell = record { per_stop = settings.dwells.0; per_alight = settings.dwells.1; per_board = settings.dwells.2 };
         };
+        few_persons = c.requires.few;
         few_links = network.few_links;
         links = network.sound;
         few_stops = is.few_stops;

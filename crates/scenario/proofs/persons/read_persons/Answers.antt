@@ -14,4 +14,5 @@ returns c =
     record {
       read = told_stop plan_rows_of _ c.stop_in.result file.Plans (plans_fault args.links.now args.ends.now) _ c.bytes_of.result.now c.in-Err.stop same c.in-Err.ensures.read c.stop_in.ensures;
       sound = tt;
+      starts = tt;
     }

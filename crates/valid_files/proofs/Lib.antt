@@ -1,0 +1,5 @@
+mod Roads
+mod Timetables
+mod Numbers
+mod Persons
+pub mod Valid

@@ -5,6 +5,16 @@ ghost use Rattle.fixed_flow.specs.Flow.{full_credit, raised, raised_times, Flow}
 use crate::{MAX_PER_SECOND, MAX_SECONDS, VEHICLE_COST};
 use std::marker::Model;
 
+/// The units of credit that a link has after the gain of one second, `per_second` units: at most those of one second,
+/// but enough for a vehicle. No fraction of a vehicle is dropped.
+#[tactic(auto, unfolding(crate::specs::Flow::raised))]
+pub fn raised_credit(per_second: u32, credit: u32) -> u32
+    ensures { result ≡ raised per_second credit }
+{
+    let saved = u64::from(credit) + u64::from(per_second);
+    saved.min(u64::from(per_second.max(VEHICLE_COST))) as u32
+}
+
 /// What a link has saved for the vehicles that leave its queue, in units. No fraction is dropped:
 /// what a second leaves over counts in the next.
 #[derive(Clone, Copy, Debug, PartialEq, Eq)]
@@ -40,7 +50,7 @@ impl Credit {
         ensures value { self.new ≡ raised per_second self.old }
         ensures kept { self.new ≤ full_credit per_second }
     {
-        self.units = (self.units + per_second).min(per_second.max(VEHICLE_COST));
+        self.units = raised_credit(per_second, self.units);
     }
 
     /// Gives the gains of `times` seconds at once, as so many calls of [`Credit::raise`] would.

@@ -10,7 +10,7 @@ mod measures;
 #[cfg(test)]
 mod tests;
 
-pub use credits::{Credit, most_passing};
+pub use credits::{Credit, most_passing, raised_credit};
 pub use measures::{buffer_room, credit_per_second, free_seconds, storage};
 
 /// What a vehicle costs, in units of credit: a second's gain at one vehicle an hour and a factor of

@@ -2,7 +2,6 @@
 
 ghost use Rattle.std.specs.Prelude.{◌≡◌, ◌<◌, ◌∷◌, [], ℕ, List, length, true, IfOk, IfSome, IfNone};
 ghost use Rattle.std.specs.List.{list_any};
-ghost use Rattle.fixed_flow.specs.Flow.{raised};
 ghost use Rattle.plans.specs.declared.plan.Plan.{Plan};
 ghost use Rattle.town.specs.Views.{setup_in};
 ghost use Rattle.traffic.specs.declared.moves.Move.TheVariants.{Credit};
@@ -14,22 +13,13 @@ use crate::links::{gain_of, rules};
 use crate::sights::{credit_of, entries, exits, is_in, is_used, lane_rows, rank};
 use crate::waiters::waiters;
 use draws::Draws;
-use fixed_flow::VEHICLE_COST;
+use fixed_flow::raised_credit;
 use plain_turns::{link_moves, node_moves};
 use plain_world::World;
 use plans::Plan;
 use std::alloc::{AllocError, Global};
 use town::Town;
 use traffic::{Move, Row};
-
-/// The credit after the gain of a second.
-#[tactic(auto, unfolding(fixed_flow::specs::Flow::raised))]
-fn raised(gain: u32, credit: u32) -> u32
-    ensures { result ≡ raised gain credit }
-{
-    let saved = u64::from(credit) + u64::from(gain);
-    saved.min(u64::from(gain.max(VEHICLE_COST))) as u32
-}
 
 /// Where a link has nothing to do in a second but to raise its credit: the credit after it.
 pub fn idle_credit(town: &Town, link: u32, world: &World) -> Option<u32>
@@ -43,7 +33,7 @@ pub fn idle_credit(town: &Town, link: u32, world: &World) -> Option<u32>
     }
     let gain = gain_of(town, link);
     let before = credit_of(link, world);
-    Some(raised(gain, before))
+    Some(raised_credit(gain, before))
 }
 
 /// The moves of a link that has more to do.

@@ -1,3 +1,4 @@
 pub mod Small
 pub mod Taken
 pub mod Drawing
+pub mod Sorting

@@ -1,6 +1,6 @@
 //! The links out of a node.
 
-ghost use Rattle.std.specs.Prelude.{◌≡◌, ◌≤◌, ◌++◌, length, OnOk, IfOk, IfSome};
+ghost use Rattle.std.specs.Prelude.{◌≡◌, ◌≤◌, ◌++◌, OnOk, IfOk, IfSome};
 ghost use Rattle.traffic.specs.Nodes.{one_more};
 ghost use Rattle.plain_turns.specs.Exits.{exits_in, with_taken, one_taken, AreNear};
 
@@ -21,13 +21,12 @@ pub fn exit_of(exits: &[ExitRow], link: u32) -> Option<Exit>
     ensures value { result ≡ exits_in exits.now link }
     ensures near { IfSome result (λ e. e.seconds ≤ 10000000) }
 {
-    let [row, later @ ..] = exits else {
-        return None;
-    };
-    if row.link == link {
-        return Some(row.exit);
+    for row in exits {
+        if row.link == link {
+            return Some(row.exit);
+        }
     }
-    exit_of(later, link)
+    None
 }
 
 /// The row with one place more taken. Places are counted by rows in memory: where no number counts
@@ -51,16 +50,17 @@ fn one_taken(row: &ExitRow) -> Result<ExitRow, AllocError>
 fn push_with_taken(link: u32, exits: &[ExitRow], out: &mut Vec<ExitRow>) -> Result<(), AllocError>
     ensures { OnOk result (out.new.items ≡ out.old.items ++ with_taken link exits.now) }
 {
-    let [row, later @ ..] = exits else {
-        return Ok(());
-    };
-    if row.link == link {
-        out.push(one_taken(row)?)?;
-        out.extend_from_slice(later)?;
-        return Ok(());
+    let mut rest = exits;
+    while let [row, later @ ..] = rest {
+        if row.link == link {
+            out.push(one_taken(row)?)?;
+            out.extend_from_slice(later)?;
+            return Ok(());
+        }
+        out.push(*row)?;
+        rest = later;
     }
-    out.push(*row)?;
-    push_with_taken(link, later, out)
+    Ok(())
 }
 
 fn taken_rows(alloc: Global, link: u32, exits: &[ExitRow]) -> Result<Vec<ExitRow>, AllocError>

@@ -1,18 +1,16 @@
 //! The turn of a link, as its moves.
 
-ghost use Rattle.std.specs.Prelude.{◌≡◌, ◌<◌, ◌≤◌, ◌+◌, ◌^◌, ◌++◌, ◌∷◌, [], ℕ, length, true, map, filter, OnOk, IfOk, nat_le, nat_lt};
-ghost use Rattle.fixed_flow.specs.declared.TheConstants.{MAX_PER_SECOND};
-ghost use Rattle.fixed_flow.specs.Flow.{raised};
+ghost use Rattle.std.specs.Prelude.{◌≡◌, ◌<◌, ◌≤◌, ◌+◌, ◌^◌, ◌++◌, ◌∷◌, [], length, true, map, filter, OnOk, IfOk, nat_le};
 ghost use Rattle.traffic.specs.declared.world.Row.{Row};
-ghost use Rattle.traffic.specs.Links.{waiting, leave_bay, is_last, buffered, may_pass, from_wait, from_queue, wait_after, link_moves, Lane};
+ghost use Rattle.traffic.specs.Links.{waiting, leave_bay, is_last, buffered, may_pass, from_wait, from_queue, wait_after, link_moves};
 ghost use Rattle.traffic.specs.declared.moves.Move.TheVariants.{Put, Gone, Free, Credit};
 ghost use Rattle.traffic.specs.declared.rows.Stage.TheVariants.{Queue, Buffer, Wait, Bay};
 ghost use Rattle.plain_turns.specs.Lanes.{lane_of};
 ghost use Rattle.plain_turns.specs.Limits.{IsDwelling, AreSmall};
 
 use crate::lists::LaneRows;
-use crate::stops::{calls_on, left_behind, served_row};
-use fixed_flow::VEHICLE_COST;
+use crate::stops::{calls_on, serve};
+use fixed_flow::{VEHICLE_COST, raised_credit};
 use std::alloc::{AllocError, Global};
 use traffic::{Move, Row, Rules, Stage, Vehicle, Waiter};
 
@@ -39,22 +37,23 @@ fn push_leave_bay(
     requires { k + length bay.now < 2 ^ 64 }
     ensures { OnOk result (out.new.items ≡ out.old.items ++ leave_bay t l k bay.now) }
 {
-    let [row, later @ ..] = bay else {
-        return Ok(());
-    };
-    if row.second <= t {
-        let was = row.try_clone()?;
-        let now = waiting(l, row)?;
-        out.push(Move::Put {
-            l,
-            s: Stage::Bay,
-            k,
-            was,
-            now,
-        })?;
-        return push_leave_bay(t, l, k, later, out);
+    let mut k = k;
+    for row in bay {
+        if row.second <= t {
+            let was = row.try_clone()?;
+            let now = waiting(l, row)?;
+            out.push(Move::Put {
+                l,
+                s: Stage::Bay,
+                k,
+                was,
+                now,
+            })?;
+        } else {
+            k += 1;
+        }
     }
-    push_leave_bay(t, l, k + 1, later, out)
+    Ok(())
 }
 
 fn is_last(vehicle: &Vehicle) -> bool
@@ -183,101 +182,122 @@ fn push_entering(
     Ok(())
 }
 
-/// Step 4, while `b` rows are in the buffer.
+/// A link in a second: what does not change over its turn.
+#[derive(Clone, Copy)]
+struct LinkSecond {
+    link: u32,
+    second: u32,
+    rules: Rules,
+}
+
+/// What changes over the turn: who waits at the link's stops, how many rows are in its buffer, and its credit.
+#[derive(Drop)]
+struct Passage {
+    waiters: Vec<Waiter>,
+    buffered: usize,
+    credit: u32,
+}
+
+/// Step 4: the rows of the wait list leave it, from the front on.
 #[tactic(auto, unfolding(traffic::specs::Links::from_wait))]
 fn push_from_wait(
     alloc: Global,
-    rules: &Rules,
-    t: u32,
-    l: u32,
-    waiters: &[Waiter],
-    b: usize,
-    credit: u32,
+    at: LinkSecond,
+    passage: Passage,
     rows: &[Row],
     out: &mut Vec<Move>,
 ) -> Result<(), AllocError>
-    requires dwell_in { IsDwelling rules.now.dwell }
-    requires second_in { t < 172800 }
+    requires dwell_in { IsDwelling at.rules.dwell }
+    requires second_in { at.second < 172800 }
     requires small { AreSmall rows.now }
-    ensures { OnOk result (out.new.items ≡ out.old.items ++ from_wait rules.now t l waiters.now b credit rows.now) }
+    ensures { OnOk result (out.new.items
+        ≡ out.old.items ++ from_wait at.rules at.second at.link passage.waiters.items passage.buffered passage.credit rows.now) }
 {
-    let [row, later @ ..] = rows else {
-        return Ok(());
-    };
-    if calls_on(l, &row.vehicle) {
-        let now = served_row(alloc, &rules.dwell, t, l, waiters, &row.vehicle)?;
-        let left = left_behind(alloc, &row.vehicle, waiters)?;
-        push_from_wait_to(l, row, now, out)?;
-        return push_from_wait(alloc, rules, t, l, &left, b, credit, later, out);
-    }
-    if is_last(&row.vehicle) {
-        push_gone_from_wait(l, row, out)?;
-        return push_from_wait(alloc, rules, t, l, waiters, b, credit, later, out);
-    }
-    if may_pass(rules, b, credit) {
-        let now = buffered(t, l, b, row)?;
-        let paid = credit - VEHICLE_COST;
-        push_entering(l, row, now, paid, out)?;
-        return push_from_wait(alloc, rules, t, l, waiters, b + 1, paid, later, out);
+    let mut passage = passage;
+    for row in rows {
+        let vehicle = &row.vehicle;
+        if calls_on(at.link, vehicle) {
+            let service = serve(
+                alloc,
+                &at.rules.dwell,
+                at.second,
+                at.link,
+                &passage.waiters,
+                vehicle,
+            )?;
+            passage.waiters = service.left;
+            push_from_wait_to(at.link, row, service.row, out)?;
+        } else if is_last(vehicle) {
+            push_gone_from_wait(at.link, row, out)?;
+        } else if may_pass(&at.rules, passage.buffered, passage.credit) {
+            let now = buffered(at.second, at.link, passage.buffered, row)?;
+            passage.buffered += 1;
+            passage.credit -= VEHICLE_COST;
+            push_entering(at.link, row, now, passage.credit, out)?;
+        } else {
+            return Ok(());
+        }
     }
     Ok(())
 }
 
-/// Step 3, and then step 4.
+/// Step 3: the rows of the queue leave it, from the front on; and then step 4.
 #[tactic(auto, unfolding(traffic::specs::Links::from_queue))]
 fn push_from_queue(
     alloc: Global,
-    rules: &Rules,
-    t: u32,
-    l: u32,
-    waiters: &[Waiter],
-    b: usize,
-    credit: u32,
+    at: LinkSecond,
+    passage: Passage,
     rows: &[Row],
     wait: &[Row],
     out: &mut Vec<Move>,
 ) -> Result<(), AllocError>
-    requires dwell_in { IsDwelling rules.now.dwell }
-    requires second_in { t < 172800 }
+    requires dwell_in { IsDwelling at.rules.dwell }
+    requires second_in { at.second < 172800 }
     requires small { AreSmall rows.now }
     requires small_wait { AreSmall wait.now }
-    ensures { OnOk result (out.new.items ≡ out.old.items ++ from_queue rules.now t l waiters.now b credit rows.now wait.now) }
+    ensures { OnOk result (out.new.items
+        ≡ out.old.items ++ from_queue at.rules at.second at.link passage.waiters.items passage.buffered passage.credit rows.now wait.now) }
 {
-    let [row, later @ ..] = rows else {
-        return push_from_wait(alloc, rules, t, l, waiters, b, credit, wait, out);
-    };
-    if t < row.second {
-        return push_from_wait(alloc, rules, t, l, waiters, b, credit, wait, out);
+    let mut passage = passage;
+    for row in rows {
+        let vehicle = &row.vehicle;
+        if at.second < row.second {
+            return push_from_wait(alloc, at, passage, wait, out);
+        }
+        if calls_on(at.link, vehicle) {
+            let service = serve(
+                alloc,
+                &at.rules.dwell,
+                at.second,
+                at.link,
+                &passage.waiters,
+                vehicle,
+            )?;
+            passage.waiters = service.left;
+            push_from_queue_to(at.second, at.link, row, service.row, out)?;
+        } else if is_last(vehicle) {
+            push_gone_from_queue(at.second, at.link, row, out)?;
+        } else if may_pass(&at.rules, passage.buffered, passage.credit) {
+            let now = buffered(at.second, at.link, passage.buffered, row)?;
+            passage.buffered += 1;
+            passage.credit -= VEHICLE_COST;
+            push_passing(at.second, at.link, row, now, passage.credit, out)?;
+        } else {
+            return push_from_wait(alloc, at, passage, wait, out);
+        }
     }
-    if calls_on(l, &row.vehicle) {
-        let now = served_row(alloc, &rules.dwell, t, l, waiters, &row.vehicle)?;
-        let left = left_behind(alloc, &row.vehicle, waiters)?;
-        push_from_queue_to(t, l, row, now, out)?;
-        return push_from_queue(alloc, rules, t, l, &left, b, credit, later, wait, out);
-    }
-    if is_last(&row.vehicle) {
-        push_gone_from_queue(t, l, row, out)?;
-        return push_from_queue(alloc, rules, t, l, waiters, b, credit, later, wait, out);
-    }
-    if may_pass(rules, b, credit) {
-        let now = buffered(t, l, b, row)?;
-        let paid = credit - VEHICLE_COST;
-        push_passing(t, l, row, now, paid, out)?;
-        return push_from_queue(alloc, rules, t, l, waiters, b + 1, paid, later, wait, out);
-    }
-    push_from_wait(alloc, rules, t, l, waiters, b, credit, wait, out)
+    push_from_wait(alloc, at, passage, wait, out)
 }
 
 /// Appends the same rows.
 fn push_rows(rows: &[Row], out: &mut Vec<Row>) -> Result<(), AllocError>
     ensures { OnOk result (out.new.items ≡ out.old.items ++ rows.now) }
 {
-    let [row, later @ ..] = rows else {
-        return Ok(());
-    };
-    let same = row.try_clone()?;
-    out.push(same)?;
-    push_rows(later, out)
+    for row in rows {
+        let same = row.try_clone()?;
+        out.push(same)?;
+    }
+    Ok(())
 }
 
 /// Appends the rows of a bay whose second has come, as they stand on the wait list.
@@ -285,24 +305,13 @@ fn push_due(t: u32, l: u32, bay: &[Row], out: &mut Vec<Row>) -> Result<(), Alloc
     ensures { OnOk result (out.new.items
         ≡ out.old.items ++ map (waiting l) (filter (λ (r : Row). nat_le r.second t) bay.now)) }
 {
-    let [row, later @ ..] = bay else {
-        return Ok(());
-    };
-    if row.second <= t {
-        let after = waiting(l, row)?;
-        out.push(after)?;
-        return push_due(t, l, later, out);
+    for row in bay {
+        if row.second <= t {
+            let after = waiting(l, row)?;
+            out.push(after)?;
+        }
     }
-    push_due(t, l, later, out)
-}
-
-/// The credit after the gain of a second.
-#[tactic(auto, unfolding(fixed_flow::specs::Flow::raised))]
-fn raised(gain: u32, credit: u32) -> u32
-    ensures { result ≡ raised gain credit }
-{
-    let saved = u64::from(credit) + u64::from(gain);
-    saved.min(u64::from(gain.max(VEHICLE_COST))) as u32
+    Ok(())
 }
 
 /// The wait list once the bay is left.
@@ -347,21 +356,20 @@ pub fn link_moves(
     ensures { IfOk result (λ moves. moves.items ≡ link_moves rules.now t l waiters.now (lane_of lane.now credit)) }
 {
     let wait = small_wait_after(alloc, t, l, lane)?;
-    let credit = raised(rules.gain, credit);
+    let credit = raised_credit(rules.gain, credit);
     let mut moves = Vec::new(alloc);
     push_leave_bay(t, l, 0, &lane.bay, &mut moves)?;
     moves.push(Move::Credit { l, credit })?;
-    push_from_queue(
-        alloc,
-        rules,
-        t,
-        l,
-        waiters,
-        lane.buffer.len(),
+    let at = LinkSecond {
+        link: l,
+        second: t,
+        rules: *rules,
+    };
+    let passage = Passage {
+        waiters: Vec::from_slice(alloc, waiters)?,
+        buffered: lane.buffer.len(),
         credit,
-        &lane.queue,
-        &wait,
-        &mut moves,
-    )?;
+    };
+    push_from_queue(alloc, at, passage, &lane.queue, &wait, &mut moves)?;
     Ok(moves)
 }

@@ -1,6 +1,6 @@
 //! The turn of a node, as its moves.
 
-ghost use Rattle.std.specs.Prelude.{◌≡◌, ◌<◌, ◌≤◌, ◌+◌, ◌*◌, ◌-◌, ◌^◌, ◌++◌, ◌∷◌, [], ℕ, length, map, filter, get_or, not, true, OnOk, IfOk, IfSome};
+ghost use Rattle.std.specs.Prelude.{◌≡◌, ◌<◌, ◌≤◌, ◌+◌, ◌*◌, ◌-◌, ◌++◌, ◌∷◌, [], length, map, filter, not, OnOk, IfOk, IfSome};
 ghost use Rattle.draws.specs.Words.{word};
 ghost use Rattle.traffic.specs.declared.moves.Move.TheVariants.{Put, Gone, Mark};
 ghost use Rattle.traffic.specs.declared.rows.Stage.TheVariants.{Queue, Buffer};
@@ -170,36 +170,43 @@ fn push_enters(
     Ok(after)
 }
 
+/// The second in which nodes have their turns, and when a front is stuck in it.
+#[derive(Clone, Copy)]
+struct NodeSecond {
+    second: u32,
+    stuck: Stuck,
+}
+
 /// Link `a` hands over; answers the exits after that.
 #[tactic(auto, unfolding(traffic::specs::Nodes::hand))]
 fn push_hand(
     alloc: Global,
-    stuck: &Stuck,
-    t: u32,
+    at: NodeSecond,
     a: u32,
     exits: Vec<ExitRow>,
     since: u32,
     rows: &[Row],
     out: &mut Vec<Move>,
 ) -> Result<Vec<ExitRow>, AllocError>
-    requires second_in { t < 172800 }
+    requires second_in { at.second < 172800 }
     requires near { AreNear exits.items }
     requires next { HaveNext rows.now }
-    ensures moves { OnOk result (out.new.items ≡ out.old.items ++ hand stuck.now t a (exits_in exits.items) since rows.now) }
+    ensures moves { OnOk result (out.new.items ≡ out.old.items ++ hand at.stuck at.second a (exits_in exits.items) since rows.now) }
     ensures exits { IfOk result (λ after. exits_in after.items
-        ≡ exits_after (hand stuck.now t a (exits_in exits.items) since rows.now) (exits_in exits.items)) }
+        ≡ exits_after (hand at.stuck at.second a (exits_in exits.items) since rows.now) (exits_in exits.items)) }
     ensures near_after { IfOk result (λ after. AreNear after.items) }
 {
-    let [row, later @ ..] = rows else {
-        return Ok(exits);
-    };
-    if enters(stuck, t, since, &exits, row) {
-        let taken = push_enters(alloc, t, a, &exits, since, row, out)?;
-        return push_hand(alloc, stuck, t, a, taken, t, later, out);
-    }
-    if is_stuck(stuck, t, since) {
-        push_removed(t, a, since, row, out)?;
-        return push_hand(alloc, stuck, t, a, exits, t, later, out);
+    let mut exits = exits;
+    let mut since = since;
+    for row in rows {
+        if enters(&at.stuck, at.second, since, &exits, row) {
+            exits = push_enters(alloc, at.second, a, &exits, since, row, out)?;
+        } else if is_stuck(&at.stuck, at.second, since) {
+            push_removed(at.second, a, since, row, out)?;
+        } else {
+            return Ok(exits);
+        }
+        since = at.second;
     }
     Ok(exits)
 }
@@ -217,88 +224,77 @@ fn since_of(rows: &[Row]) -> u32
 /// A candidate hands over; answers the exits after that.
 fn push_hand_all(
     alloc: Global,
-    stuck: &Stuck,
-    t: u32,
+    at: NodeSecond,
     exits: Vec<ExitRow>,
     entry: &Entry,
     out: &mut Vec<Move>,
 ) -> Result<Vec<ExitRow>, AllocError>
-    requires second_in { t < 172800 }
+    requires second_in { at.second < 172800 }
     requires near { AreNear exits.items }
     requires entry { IsEntry entry.now }
-    ensures moves { OnOk result (out.new.items ≡ out.old.items ++ hand_all stuck.now t (exits_in exits.items) entry.now) }
+    ensures moves { OnOk result (out.new.items ≡ out.old.items ++ hand_all at.stuck at.second (exits_in exits.items) entry.now) }
     ensures exits { IfOk result (λ after. exits_in after.items
-        ≡ exits_after (hand_all stuck.now t (exits_in exits.items) entry.now) (exits_in exits.items)) }
+        ≡ exits_after (hand_all at.stuck at.second (exits_in exits.items) entry.now) (exits_in exits.items)) }
     ensures near_after { IfOk result (λ after. AreNear after.items) }
 {
     let rows = entry.rows.rows.as_slice();
-    push_hand(
-        alloc,
-        stuck,
-        t,
-        entry.link,
-        exits,
-        since_of(rows),
-        rows,
-        out,
-    )
+    push_hand(alloc, at, entry.link, exits, since_of(rows), rows, out)
 }
 
 /// Pick number `j`: the drawn candidate hands over and is no candidate any more; answers the exits
 /// after that.
 fn push_pick(
     alloc: Global,
-    stuck: &Stuck,
-    t: u32,
+    at: NodeSecond,
     draws: &Draws,
     j: u32,
     entries: &mut Vec<Entry>,
     exits: Vec<ExitRow>,
     out: &mut Vec<Move>,
 ) -> Result<Vec<ExitRow>, AllocError>
-    requires second_in { t < 172800 }
+    requires second_in { at.second < 172800 }
     requires near { AreNear exits.items }
     requires entries { AreEntries entries.old.items }
     requires some { 0 < length entries.old.items }
     requires few { j + length entries.old.items ≤ 16 }
     ensures step { IfOk result (λ after. out.new.items
-        ++ draw stuck.now t (word draws.now) (length entries.new.items) (j + 1) entries.new.items (exits_in after.items)
-        ≡ out.old.items ++ draw stuck.now t (word draws.now) (length entries.old.items) j entries.old.items (exits_in exits.items)) }
+        ++ draw at.stuck at.second (word draws.now) (length entries.new.items) (j + 1) entries.new.items (exits_in after.items)
+        ≡ out.old.items ++ draw at.stuck at.second (word draws.now) (length entries.old.items) j entries.old.items (exits_in exits.items)) }
     ensures near_after { IfOk result (λ after. AreNear after.items) }
     ensures entries_after { OnOk result (AreEntries entries.new.items) }
     ensures count { OnOk result (length entries.new.items + 1 ≡ length entries.old.items) }
 {
-    let word = draws.word(16 * u64::from(t) + u64::from(j));
+    let word = draws.word(16 * u64::from(at.second) + u64::from(j));
     let k = drawn(alloc, entries, word)?;
     let entry = take_entry(entries, k);
-    let after = push_hand_all(alloc, stuck, t, exits, &entry, out)?;
+    let after = push_hand_all(alloc, at, exits, &entry, out)?;
     Ok(after)
 }
 
-/// The drawing, from pick number `j` on.
+/// The drawing: candidates are drawn until none is left.
 #[tactic(auto, unfolding(traffic::specs::Nodes::draw))]
 fn push_draw(
     alloc: Global,
-    stuck: &Stuck,
-    t: u32,
+    at: NodeSecond,
     draws: &Draws,
-    j: u32,
-    mut entries: Vec<Entry>,
+    entries: Vec<Entry>,
     exits: Vec<ExitRow>,
     out: &mut Vec<Move>,
 ) -> Result<(), AllocError>
-    requires second_in { t < 172800 }
+    requires second_in { at.second < 172800 }
     requires near { AreNear exits.items }
     requires entries { AreEntries entries.items }
-    requires few { j + length entries.items ≤ 16 }
+    requires few { length entries.items ≤ 16 }
     ensures { OnOk result (out.new.items ≡ out.old.items
-        ++ draw stuck.now t (word draws.now) (length entries.items) j entries.items (exits_in exits.items)) }
+        ++ draw at.stuck at.second (word draws.now) (length entries.items) 0 entries.items (exits_in exits.items)) }
 {
-    if entries.is_empty() {
-        return Ok(());
+    let mut entries = entries;
+    let mut exits = exits;
+    let count = entries.len() as u32;
+    for j in 0..count {
+        exits = push_pick(alloc, at, draws, j, &mut entries, exits, out)?;
     }
-    let after = push_pick(alloc, stuck, t, draws, j, &mut entries, exits, out)?;
-    push_draw(alloc, stuck, t, draws, j + 1, entries, after, out)
+    Ok(())
 }
 
 fn is_ready(entry: &Entry) -> bool
@@ -311,14 +307,12 @@ fn is_ready(entry: &Entry) -> bool
 fn push_red(t: u32, entries: &[Entry], out: &mut Vec<Move>) -> Result<(), AllocError>
     ensures { OnOk result (out.new.items ≡ out.old.items ++ map (mark t) (red entries.now)) }
 {
-    let [entry, later @ ..] = entries else {
-        return Ok(());
-    };
-    if is_ready(entry) && !entry.green {
-        out.push(Move::Mark { l: entry.link, t })?;
-        return push_red(t, later, out);
+    for entry in entries {
+        if is_ready(entry) && !entry.green {
+            out.push(Move::Mark { l: entry.link, t })?;
+        }
     }
-    push_red(t, later, out)
+    Ok(())
 }
 
 fn keep_ready(entries: &mut Vec<Entry>)
@@ -368,6 +362,10 @@ pub fn node_moves(
     let mut moves = Vec::new(alloc);
     push_red(t, &entries, &mut moves)?;
     let links = candidates(entries);
-    push_draw(alloc, stuck, t, draws, 0, links, exits, &mut moves)?;
+    let at = NodeSecond {
+        second: t,
+        stuck: *stuck,
+    };
+    push_draw(alloc, at, draws, links, exits, &mut moves)?;
     Ok(moves)
 }

@@ -1,6 +1,6 @@
 //! The drawing of links at a node.
 
-ghost use Rattle.std.specs.Prelude.{◌≡◌, ◌<◌, ◌≤◌, ◌+◌, ◌*◌, ◌^◌, ◌++◌, length, map, sum, get_or, OnOk, IfOk};
+ghost use Rattle.std.specs.Prelude.{◌≡◌, ◌<◌, ◌≤◌, ◌+◌, length, map, get_or, IfOk};
 ghost use Rattle.traffic.specs.Lists.{without_at};
 ghost use Rattle.traffic.specs.Nodes.{drawn, no_entry};
 ghost use Rattle.plain_turns.specs.Exits.{IsEntry, AreEntries, capacity_of};
@@ -9,22 +9,13 @@ use draws::pick;
 use std::alloc::{AllocError, Global};
 use traffic::Entry;
 
-fn push_capacities(entries: &[Entry], out: &mut Vec<u64>) -> Result<(), AllocError>
-    ensures { OnOk result (out.new.items ≡ out.old.items ++ map capacity_of entries.now) }
-{
-    let [entry, later @ ..] = entries else {
-        return Ok(());
-    };
-    out.push(u64::from(entry.capacity))?;
-    push_capacities(later, out)
-}
-
 fn capacities(alloc: Global, entries: &[Entry]) -> Result<Vec<u64>, AllocError>
     ensures { IfOk result (λ weights. weights.items ≡ map capacity_of entries.now) }
 {
-    let mut weights = Vec::new(alloc);
-    push_capacities(entries, &mut weights)?;
-    Ok(weights)
+    entries
+        .iter()
+        .map(|entry| u64::from(entry.capacity))
+        .collect(alloc)
 }
 
 /// The place that the word draws by these weights.

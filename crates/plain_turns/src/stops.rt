@@ -1,8 +1,8 @@
 //! The service of a stop.
 
-ghost use Rattle.std.specs.Prelude.{◌≡◌, ◌<◌, ◌≤◌, ◌+◌, ◌*◌, ◌^◌, ◌++◌, ℕ, length, map, filter, count_by, take, drop, not, OnOk, IfOk, nat_lt};
+ghost use Rattle.std.specs.Prelude.{◌≡◌, ◌<◌, ◌≤◌, ◌+◌, ◌*◌, ◌++◌, true, length, map, filter, not, OnOk, IfOk};
 ghost use Rattle.std.specs.List.{list_any};
-ghost use Rattle.traffic.specs.Stops.{call_at, next_call, calls_on, alights, alighting, staying, calls_at, may_board, comes_first, among, in_turn, boarding, is_person, left_behind, rider, riders_after, stand, not_before, stays_until, served_vehicle, served_row};
+ghost use Rattle.traffic.specs.Stops.{call_at, next_call, calls_on, alights, alighting, staying, calls_at, may_board, in_turn, boarding, is_person, left_behind, rider, stand, not_before, served_row};
 ghost use Rattle.plain_turns.specs.Limits.{IsDwelling, IsSmall};
 
 use events::StopCall;
@@ -91,41 +91,14 @@ fn may_board(vehicle: &Vehicle, waiter: &Waiter) -> bool
         && calls_at(waiter.egress, &vehicle.calls.rows[served + 1..])
 }
 
-fn comes_first(a: &Waiter, b: &Waiter) -> bool
-    ensures { result ≡ comes_first a.now b.now }
+/// Those who wait, in the order in which they come. The sort keeps the order of equal keys, and the definition turns it
+/// round: so the last one goes in first.
+fn in_turn(waiters: Vec<Waiter>) -> Result<Vec<Waiter>, AllocError>
+    ensures { IfOk result (λ sorted. sorted.items ≡ in_turn waiters.items) }
 {
-    a.since < b.since || (a.since == b.since && a.person < b.person)
-}
-
-/// Appends those who wait with one more, before the first one who comes after.
-#[tactic(auto, unfolding(traffic::specs::Stops::among))]
-fn push_among(waiter: Waiter, waiters: &[Waiter], out: &mut Vec<Waiter>) -> Result<(), AllocError>
-    ensures { OnOk result (out.new.items ≡ out.old.items ++ among waiter waiters.now) }
-{
-    let [other, later @ ..] = waiters else {
-        out.push(waiter)?;
-        return Ok(());
-    };
-    if comes_first(&waiter, other) {
-        out.push(waiter)?;
-        out.extend_from_slice(waiters)?;
-        return Ok(());
-    }
-    out.push(*other)?;
-    push_among(waiter, later, out)
-}
-
-/// Those who wait, in the order in which they come.
-#[tactic(auto, unfolding(traffic::specs::Stops::in_turn))]
-fn in_turn(alloc: Global, waiters: &[Waiter]) -> Result<Vec<Waiter>, AllocError>
-    ensures { IfOk result (λ sorted. sorted.items ≡ in_turn waiters.now) }
-{
-    let mut sorted = Vec::new(alloc);
-    let [waiter, others @ ..] = waiters else {
-        return Ok(sorted);
-    };
-    let behind = in_turn(alloc, others)?;
-    push_among(*waiter, &behind, &mut sorted)?;
+    let mut sorted = waiters;
+    sorted.reverse();
+    sorted.sort_by_key(|waiter| (waiter.since, waiter.person))?;
     Ok(sorted)
 }
 
@@ -158,7 +131,7 @@ fn boarding(alloc: Global, vehicle: &Vehicle, waiters: &[Waiter]) -> Result<Vec<
 {
     let stay = staying(alloc, next_call(vehicle).stop, &vehicle.riders.rows)?;
     let here = boarding_here(alloc, vehicle, waiters)?;
-    let mut boards = in_turn(alloc, &here)?;
+    let mut boards = in_turn(here)?;
     boards.truncate((vehicle.seats as usize).saturating_sub(stay.len()));
     Ok(boards)
 }
@@ -188,20 +161,6 @@ fn not_among(
     Ok(left)
 }
 
-/// Those who do not board the vehicle.
-#[tactic(auto, unfolding(traffic::specs::Stops::left_behind))]
-pub fn left_behind(
-    alloc: Global,
-    vehicle: &Vehicle,
-    waiters: &[Waiter],
-) -> Result<Vec<Waiter>, AllocError>
-    requires { vehicle.now.served < length vehicle.now.calls }
-    ensures { IfOk result (λ left. left.items ≡ left_behind vehicle.now waiters.now) }
-{
-    let boards = boarding(alloc, vehicle, waiters)?;
-    not_among(alloc, &boards, waiters)
-}
-
 /// Appends those who board as riders.
 fn push_riders(waiters: &[Waiter], riders: &mut Vec<Rider>) -> Result<(), AllocError>
     ensures { OnOk result (riders.new.items ≡ riders.old.items ++ map rider waiters.now) }
@@ -218,19 +177,17 @@ fn push_riders(waiters: &[Waiter], riders: &mut Vec<Rider>) -> Result<(), AllocE
     Ok(())
 }
 
-/// The riders after the stop.
-#[tactic(auto, unfolding(traffic::specs::Stops::riders_after))]
-fn riders_after(
+/// The riders after the stop, where these board.
+fn riders_with(
     alloc: Global,
     vehicle: &Vehicle,
-    waiters: &[Waiter],
+    boards: &[Waiter],
 ) -> Result<Vec<Rider>, AllocError>
-    requires { vehicle.now.served < length vehicle.now.calls }
-    ensures { IfOk result (λ riders. riders.items ≡ riders_after vehicle.now waiters.now) }
+    ensures { IfOk result (λ riders. riders.items
+        ≡ staying (next_call vehicle.now).stop vehicle.now.riders ++ map rider boards.now) }
 {
-    let boards = boarding(alloc, vehicle, waiters)?;
     let mut riders = staying(alloc, next_call(vehicle).stop, &vehicle.riders.rows)?;
-    push_riders(&boards, &mut riders)?;
+    push_riders(boards, &mut riders)?;
     Ok(riders)
 }
 
@@ -257,40 +214,28 @@ fn not_before(call: StopCall, departed: u32, second: u32) -> u32
     second
 }
 
-/// The second in which the vehicle, served in second `t`, may go on.
-#[tactic(auto, unfolding(traffic::specs::Stops::stays_until))]
-fn stays_until(
-    alloc: Global,
-    dwell: &Dwelling,
-    t: u32,
-    vehicle: &Vehicle,
-    waiters: &[Waiter],
-) -> Result<u32, AllocError>
+/// The second in which the vehicle, served in second `t`, may go on, where so many board.
+fn stays_until(dwell: &Dwelling, t: u32, vehicle: &Vehicle, boarded: usize) -> u32
     requires dwell_in { IsDwelling dwell.now }
     requires second_in { t < 172800 }
     requires small { IsSmall vehicle.now }
-    requires calls { vehicle.now.served < length vehicle.now.calls }
-    ensures { IfOk result (λ until. until ≡ stays_until dwell.now t vehicle.now waiters.now) }
+    requires few { boarded ≤ vehicle.now.seats }
+    ensures { result ≡ not_before (next_call vehicle.now) vehicle.now.departed
+        (t + stand dwell.now (length (alighting (next_call vehicle.now).stop vehicle.now.riders)) boarded) }
 {
     let call = next_call(vehicle);
-    let boards = boarding(alloc, vehicle, waiters)?;
     let alighted = count_alighting(call.stop, &vehicle.riders.rows);
-    let second = t + stand(dwell, alighted as u32, boards.len() as u32);
-    Ok(not_before(call, vehicle.departed, second))
+    let second = t + stand(dwell, alighted as u32, boarded as u32);
+    not_before(call, vehicle.departed, second)
 }
 
-/// The vehicle after its next call is served.
-#[tactic(auto, unfolding(traffic::specs::Stops::served_vehicle))]
-fn served_vehicle(
-    alloc: Global,
-    vehicle: &Vehicle,
-    waiters: &[Waiter],
-) -> Result<Vehicle, AllocError>
+/// The vehicle after its next call is served, with these riders.
+fn served_with(vehicle: &Vehicle, riders: Vec<Rider>) -> Result<Vehicle, AllocError>
     requires small { IsSmall vehicle.now }
     requires calls { vehicle.now.served < length vehicle.now.calls }
-    ensures { IfOk result (λ after. after ≡ served_vehicle vehicle.now waiters.now) }
+    ensures { IfOk result (λ after. after
+        ≡ record vehicle.now { started = true; riders = riders.items; served = vehicle.now.served + 1 }) }
 {
-    let riders = riders_after(alloc, vehicle, waiters)?;
     let mut after = vehicle.try_clone()?;
     after.started = true;
     after.riders = Riders { rows: riders };
@@ -298,27 +243,42 @@ fn served_vehicle(
     Ok(after)
 }
 
-/// The vehicle's row in the bay of link `l`, once it is served in second `t`.
-pub fn served_row(
+/// A vehicle is served at its next call.
+#[derive(Drop)]
+pub struct Service {
+    /// Its row in the bay of its link from then on.
+    pub row: Row,
+    /// Those who do not board it.
+    pub left: Vec<Waiter>,
+}
+
+/// Serves a vehicle at its next call, on link `l` in second `t`.
+#[tactic(auto, unfolding(traffic::specs::Stops::left_behind, traffic::specs::Stops::riders_after, traffic::specs::Stops::stays_until, traffic::specs::Stops::served_vehicle))]
+pub fn serve(
     alloc: Global,
     dwell: &Dwelling,
     t: u32,
     l: u32,
     waiters: &[Waiter],
     vehicle: &Vehicle,
-) -> Result<Row, AllocError>
+) -> Result<Service, AllocError>
     requires dwell_in { IsDwelling dwell.now }
     requires second_in { t < 172800 }
     requires small { IsSmall vehicle.now }
     requires calls { vehicle.now.served < length vehicle.now.calls }
-    ensures { IfOk result (λ row. row ≡ served_row dwell.now t l waiters.now vehicle.now) }
+    ensures row { IfOk result (λ service. service.row ≡ served_row dwell.now t l waiters.now vehicle.now) }
+    ensures left { IfOk result (λ service. service.left.items ≡ left_behind vehicle.now waiters.now) }
 {
-    let second = stays_until(alloc, dwell, t, vehicle, waiters)?;
-    let after = served_vehicle(alloc, vehicle, waiters)?;
-    Ok(Row {
+    let boards = boarding(alloc, vehicle, waiters)?;
+    let second = stays_until(dwell, t, vehicle, boards.len());
+    let riders = riders_with(alloc, vehicle, &boards)?;
+    let after = served_with(vehicle, riders)?;
+    let left = not_among(alloc, &boards, waiters)?;
+    let row = Row {
         vehicle: after,
         link: l,
         stage: Stage::Bay,
         second,
-    })
+    };
+    Ok(Service { row, left })
 }

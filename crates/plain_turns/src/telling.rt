@@ -1,6 +1,6 @@
 //! What a move tells.
 
-ghost use Rattle.std.specs.Prelude.{◌≡◌, ◌<◌, ◌++◌, ◌∷◌, [], length, drop, OnOk, IfOk};
+ghost use Rattle.std.specs.Prelude.{◌≡◌, ◌<◌, ◌++◌, OnOk, IfOk};
 ghost use Rattle.std.specs.List.{flat_map};
 ghost use Rattle.traffic.specs.Stops.{alighting, staying};
 ghost use Rattle.traffic.specs.Telling.{of_person, of_rider, of_vehicle, of_driver, driver, mode_in, leaves, enters, starts, arrives, strands, aborts, boarded, serves, goes_on, changes_links, told_to, told_put, told_gone, told_new};
@@ -108,11 +108,10 @@ fn push_all_leave(
 ) -> Result<(), AllocError>
     ensures { OnOk result (out.new.items ≡ out.old.items ++ flat_map (leaves vehicle link) riders.now) }
 {
-    let [rider, later @ ..] = riders else {
-        return Ok(());
-    };
-    push_leaves(vehicle, link, rider, out)?;
-    push_all_leave(vehicle, link, later, out)
+    for rider in riders {
+        push_leaves(vehicle, link, rider, out)?;
+    }
+    Ok(())
 }
 
 fn push_all_enter(
@@ -122,11 +121,10 @@ fn push_all_enter(
 ) -> Result<(), AllocError>
     ensures { OnOk result (out.new.items ≡ out.old.items ++ flat_map (enters vehicle) riders.now) }
 {
-    let [rider, later @ ..] = riders else {
-        return Ok(());
-    };
-    out.push(of_rider(Word::PersonEntersVehicle, rider.person, vehicle))?;
-    push_all_enter(vehicle, later, out)
+    for rider in riders {
+        out.push(of_rider(Word::PersonEntersVehicle, rider.person, vehicle))?;
+    }
+    Ok(())
 }
 
 fn push_all_strand(
@@ -137,16 +135,15 @@ fn push_all_strand(
 ) -> Result<(), AllocError>
     ensures { OnOk result (out.new.items ≡ out.old.items ++ flat_map (strands vehicle link) riders.now) }
 {
-    let [rider, later @ ..] = riders else {
-        return Ok(());
-    };
-    out.push(of_person(
-        Word::StuckAndAbort,
-        rider.person,
-        link,
-        More::Mode(mode_in(vehicle)),
-    ))?;
-    push_all_strand(vehicle, link, later, out)
+    for rider in riders {
+        out.push(of_person(
+            Word::StuckAndAbort,
+            rider.person,
+            link,
+            More::Mode(mode_in(vehicle)),
+        ))?;
+    }
+    Ok(())
 }
 
 /// A vehicle that leaves the wait list for the first time enters traffic.

@@ -1,0 +1,189 @@
+-- A stable sort of those who wait, the last one first, is the order in which they come.
+use Rattle.std.proofs.Common.{◌≡◌, ℕ, suc, ◌<◌, Bool, true, false, cond, List, [], ◌∷◌, ◌++◌, length, get_or, refl, sym, ap, ◌∙◌, subst, inl, inr, arith}
+use native.Mathlib.Numerals.{unary_clauses}
+use Rattle.std.specs.Prelude.{◌&&◌, ◌||◌, ◌==◌, nat_lt, filter, reverse}
+use Rattle.std.specs.List.Sorted.{IsSortedBy, IsSortedByKey, IsStableBy, IsStableByKey, ties}
+use Rattle.std.specs.Cmp.{IsStrictWeakOrder}
+use Rattle.std.specs.Ordering.{nat_cmp, ordering_then, is_lt}
+use Rattle.std.specs.declared.cmp.Ordering.{Ordering}
+use Rattle.std.specs.declared.cmp.Ordering.TheVariants.{Less, Equal, Greater}
+use Rattle.std.proofs.Math.Path.{fun_ext}
+use Rattle.std.proofs.lemmas.Bool.{cases_Bool}
+use Rattle.std.proofs.lemmas.List.{append-nil, reverse-append}
+use Rattle.std.proofs.lemmas.List.Elements.{filter-append}
+use Rattle.std.proofs.lemmas.List.Sorted.{sorted_far, ranks_by}
+use Rattle.std.proofs.lemmas.Cmp.{nat_cmp_total, on_total, then_total}
+use Rattle.traffic.specs.declared.world.Waiter.{Waiter}
+use Rattle.traffic.specs.Stops.{comes_first, among, in_turn}
+
+-- nobody in the list comes before x
+abbrev Behind : {X : Type 0} → (X → X → Bool) → X → List X → Type 0
+Behind lt x [] = Unit {0}
+Behind lt x (y ∷ ys) = (lt y x ≡ false) × Behind lt x ys
+
+abbrev Rises : {X : Type 0} → (X → X → Bool) → List X → Type 0
+Rises lt [] = Unit {0}
+Rises lt (x ∷ xs) = Behind lt x xs × Rises lt xs
+
+behind_all : {X : Type 0} (lt : X → X → Bool) (x : X) (ys : List X) → ((k : ℕ) (d : X) → k < length ys → lt (get_or ys k d) x ≡ false) → Behind lt x ys
+behind_all lt x [] h = tt
+behind_all lt x (y ∷ ys) h = (h 0 y (omega arith), behind_all lt x ys (λ k d p. h (suc k) d (omega arith)))
+
+rises_sorted : {X : Type 0} (lt : X → X → Bool) → IsStrictWeakOrder lt → (xs : List X) → IsSortedBy lt xs → Rises lt xs
+rises_sorted lt o [] h = tt
+rises_sorted lt o (x ∷ xs) h = (
+  behind_all lt x xs (λ k d p. sorted_far lt o (x ∷ xs) h 0 (suc k) d (omega arith) (omega arith)),
+  rises_sorted lt o xs (λ k d p q. simp unary_clauses (simp unary_clauses at (h (suc k) d (omega arith) (omega arith)))),
+)
+
+never_before_itself : {X : Type 0} (lt : X → X → Bool) → IsStrictWeakOrder lt → (x : X) → lt x x ≡ false
+never_before_itself lt o x = elim (cases_Bool (lt x x)) [ inl p ↦ o.one_way x x p | inr q ↦ q ]
+
+ties_itself : {X : Type 0} (lt : X → X → Bool) → IsStrictWeakOrder lt → (x : X) → ties lt x x ≡ true
+ties_itself lt o x = rw (never_before_itself lt o x) refl
+
+-- who comes before x ties with nobody behind x
+not_behind : {X : Type 0} (lt : X → X → Bool) → IsStrictWeakOrder lt → (a x e : X) → lt a x ≡ true → lt e x ≡ false → ties lt a e ≡ false
+not_behind lt o a x e p q = elim (cases_Bool (lt a e)) [
+  | inl r ↦ rw r refl
+  | inr r ↦ absurd (let s : lt a x ≡ false = o.chain a e x r q in cc)
+]
+
+none_behind : {X : Type 0} (lt : X → X → Bool) → IsStrictWeakOrder lt → (a x : X) (ys : List X) → lt a x ≡ true → Behind lt x ys → filter (ties lt a) ys ≡ []
+none_behind lt o a x [] p h = refl
+none_behind lt o a x (y ∷ ys) p h = rw (not_behind lt o a x y p h.0) (none_behind lt o a x ys p h.1)
+
+-- a list that begins with x has, of those who tie with x, x first
+first_tie : {X : Type 0} (lt : X → X → Bool) → IsStrictWeakOrder lt → (x : X) (xs : List X) → filter (ties lt x) (x ∷ xs) ≡ x ∷ filter (ties lt x) xs
+first_tie lt o x xs = rw (ties_itself lt o x) refl
+
+-- two lists that rise begin alike where those who tie stand alike
+not_before : {X : Type 0} (lt : X → X → Bool) → IsStrictWeakOrder lt → (y z : X) (ys zs : List X) → Behind lt z zs
+    → filter (ties lt y) (y ∷ ys) ≡ filter (ties lt y) (z ∷ zs) → lt y z ≡ false
+not_before lt o y z ys zs h e = elim (cases_Bool (lt y z)) [
+  | inl p ↦ absurd (let n : filter (ties lt y) (z ∷ zs) ≡ [] = none_behind lt o y z (z ∷ zs) p (never_before_itself lt o z, h) in let f = first_tie lt o y ys in cc)
+  | inr q ↦ q
+]
+
+tie_of : {X : Type 0} (lt : X → X → Bool) (y z : X) → lt y z ≡ false → lt z y ≡ false → ties lt y z ≡ true
+tie_of lt y z p q = rw (p, q) refl
+
+same_later : {X : Type 0} (p : X → Bool) (y : X) (ys zs : List X) → filter p (y ∷ ys) ≡ filter p (y ∷ zs) → filter p ys ≡ filter p zs
+same_later p y ys zs e = elim (cases_Bool (p y)) [
+  | inl q ↦ let f : y ∷ filter p ys ≡ y ∷ filter p zs = rw q at e in cc
+  | inr q ↦ rw q at e
+]
+
+-- lists that rise and in which those who tie stand alike are one
+pub rises_once : {X : Type 0} (lt : X → X → Bool) → IsStrictWeakOrder lt → (ys zs : List X) → Rises lt ys → Rises lt zs
+    → ((x : X) → filter (ties lt x) ys ≡ filter (ties lt x) zs) → ys ≡ zs
+rises_once lt o [] [] g h e = refl
+rises_once lt o [] (z ∷ zs) g h e = absurd (let f = first_tie lt o z zs in let q = e z in cc)
+rises_once lt o (y ∷ ys) [] g h e = absurd (let f = first_tie lt o y ys in let q = e y in cc)
+rises_once lt o (y ∷ ys) (z ∷ zs) g h e =
+    let t : ties lt y z ≡ true = tie_of lt y z (not_before lt o y z ys zs h.0 (e y)) (not_before lt o z y zs ys g.0 (sym (e z))) in
+    let f : y ∷ filter (ties lt y) ys ≡ z ∷ filter (ties lt y) zs = sym (first_tie lt o y ys) ∙ e y ∙ rw t refl in
+    let q : y ≡ z = cc in
+    ap (λ x. x ∷ ys) q ∙ ap (λ xs. z ∷ xs) (rises_once lt o ys zs g.1 h.1 (λ x. same_later (ties lt x) z ys zs (rw q at (e x))))
+
+-- one more among those who stand in turn
+behind_more : {X : Type 0} (lt : X → X → Bool) → IsStrictWeakOrder lt → (w x : X) (xs : List X) → lt x w ≡ false → Behind lt x xs → Behind lt w xs
+behind_more lt o w x [] p h = tt
+behind_more lt o w x (y ∷ ys) p h = (o.chain y x w h.0 p, behind_more lt o w x ys p h.1)
+
+behind_among : (x w : Waiter) (ys : List Waiter) → comes_first w x ≡ false → Behind comes_first x ys → Behind comes_first x (among w ys)
+unfolding among
+behind_among x w [] p h = (p, tt)
+behind_among x w (y ∷ ys) p h = elim (cases_Bool (comes_first w y)) [
+  | inl q ↦ rw q (p, h)
+  | inr q ↦ rw q (h.0, behind_among x w ys p h.1)
+]
+
+rises_among : IsStrictWeakOrder comes_first → (w : Waiter) (ys : List Waiter) → Rises comes_first ys → Rises comes_first (among w ys)
+unfolding among
+rises_among o w [] h = (tt, tt)
+rises_among o w (y ∷ ys) h = elim (cases_Bool (comes_first w y)) [
+  | inl q ↦ rw q (let p = o.one_way w y q in ((p, behind_more comes_first o w y ys p h.0), h))
+  | inr q ↦ rw q (behind_among y w ys q h.0, rises_among o w ys h.1)
+]
+
+rises_in_turn : IsStrictWeakOrder comes_first → (ws : List Waiter) → Rises comes_first (in_turn ws)
+unfolding in_turn
+rises_in_turn o [] = tt
+rises_in_turn o (w ∷ ws) = rises_among o w (in_turn ws) (rises_in_turn o ws)
+
+-- one more keeps the order of those who tie with somebody, and stands last among them
+right_of_tie : {X : Type 0} (lt : X → X → Bool) (x w : X) → ties lt x w ≡ true → lt w x ≡ false
+right_of_tie lt x w t = elim (cases_Bool (lt w x)) [
+  | inl p ↦ absurd (elim (cases_Bool (lt x w)) [ inl q ↦ let e = rw q at t in cc | inr q ↦ let e = rw (q, p) at t in cc ])
+  | inr p ↦ p
+]
+
+before_both : {X : Type 0} (lt : X → X → Bool) → IsStrictWeakOrder lt → (x w y : X) → ties lt x w ≡ true → lt w y ≡ true → lt x y ≡ true
+before_both lt o x w y t p = elim (cases_Bool (lt x y)) [
+  | inl q ↦ q
+  | inr q ↦ absurd (let e : lt w y ≡ false = o.chain w x y (right_of_tie lt x w t) q in cc)
+]
+
+ties_before : IsStrictWeakOrder comes_first → (x w y : Waiter) (ys : List Waiter) → comes_first w y ≡ true → Behind comes_first y ys
+    → filter (ties comes_first x) (w ∷ y ∷ ys) ≡ filter (ties comes_first x) (y ∷ ys) ++ filter (ties comes_first x) (w ∷ [])
+ties_before o x w y ys q h = elim (cases_Bool (ties comes_first x w)) [
+  | inl t ↦
+      let n : filter (ties comes_first x) (y ∷ ys) ≡ [] = none_behind comes_first o x y (y ∷ ys) (before_both comes_first o x w y t q) (never_before_itself comes_first o y, h) in
+      rw (t, n) refl
+  | inr t ↦ rw t (sym (append-nil (filter (ties comes_first x) (y ∷ ys))))
+]
+
+ties_among : IsStrictWeakOrder comes_first → (x w : Waiter) (ys : List Waiter) → Rises comes_first ys
+    → filter (ties comes_first x) (among w ys) ≡ filter (ties comes_first x) ys ++ filter (ties comes_first x) (w ∷ [])
+unfolding among
+ties_among o x w [] h = refl
+ties_among o x w (y ∷ ys) h = elim (cases_Bool (comes_first w y)) [
+  | inl q ↦ rw q (ties_before o x w y ys q h.0)
+  | inr q ↦ rw q (elim (cases_Bool (ties comes_first x y)) [
+    | inl t ↦ rw t (ap (λ xs. y ∷ xs) (ties_among o x w ys h.1))
+    | inr t ↦ rw t (ties_among o x w ys h.1)
+  ])
+]
+
+ties_in_turn : IsStrictWeakOrder comes_first → (x : Waiter) (ws : List Waiter) → filter (ties comes_first x) (in_turn ws) ≡ filter (ties comes_first x) (reverse ws)
+unfolding in_turn
+ties_in_turn o x [] = refl
+ties_in_turn o x (w ∷ ws) =
+    ties_among o x w (in_turn ws) (rises_in_turn o ws)
+    ∙ ap (λ xs. xs ++ filter (ties comes_first x) (w ∷ [])) (ties_in_turn o x ws)
+    ∙ sym (filter-append (ties comes_first x) (reverse ws) (w ∷ []))
+    ∙ ap (filter (ties comes_first x)) (sym (reverse-append (w ∷ []) ws))
+
+-- who comes first is less by the second and then by the number
+less_by : (p q r s : Bool) → (p || (q && r)) ≡ is_lt (ordering_then (cond p Less (cond q Equal Greater)) (cond r Less (cond s Equal Greater)))
+less_by true q r s = refl
+less_by false true true s = refl
+less_by false true false true = refl
+less_by false true false false = refl
+less_by false false r s = refl
+
+abbrev pub key_of : Waiter → ℕ × ℕ
+key_of w = (w.since, w.person)
+
+abbrev pub key_cmp : ℕ × ℕ → ℕ × ℕ → Ordering
+key_cmp x y = ordering_then (nat_cmp x.0 y.0) (nat_cmp x.1 y.1)
+
+abbrev less_key : Waiter → Waiter → Bool
+less_key a b = is_lt (key_cmp (key_of a) (key_of b))
+
+comes_is : comes_first ≡ less_key
+comes_is = fun_ext (λ a. fun_ext (λ b. less_by (nat_lt a.since b.since) (a.since == b.since) (nat_lt a.person b.person) (a.person == b.person)))
+
+less_in_order : IsStrictWeakOrder less_key
+less_in_order = ranks_by {R = key_cmp} (then_total (on_total (λ (x : ℕ × ℕ). x.0) nat_cmp_total) (on_total (λ (x : ℕ × ℕ). x.1) nat_cmp_total)) key_of
+
+comes_in_order : IsStrictWeakOrder comes_first
+comes_in_order = let P : (Waiter → Waiter → Bool) → Type 0 = λ lt. IsStrictWeakOrder lt in subst P (sym comes_is) less_in_order
+
+pub sorted_in_turn : (ws ys : List Waiter) → IsSortedByKey key_of key_cmp ys → IsStableByKey key_of key_cmp (reverse ws) ys → ys ≡ in_turn ws
+sorted_in_turn ws ys up alike =
+    let o = comes_in_order in
+    let P : (Waiter → Waiter → Bool) → Type 0 = λ lt. IsSortedBy lt ys × IsStableBy lt (reverse ws) ys in
+    let h : IsSortedBy comes_first ys × IsStableBy comes_first (reverse ws) ys = subst P (sym comes_is) (up, alike) in
+    rises_once comes_first o ys (in_turn ws) (rises_sorted comes_first o ys h.0) (rises_in_turn o ws) (λ x. h.1 x ∙ sym (ties_in_turn o x ws))

@@ -90,13 +90,17 @@ fn first_link(acts: &[Act]) -> u32
 fn legs_fit(town: &Town, acts: &[Act], legs: &[Leg]) -> bool
     ensures { result ≡ legs_fit (rows_of town.now) acts.now legs.now }
 {
-    let [leg, later @ ..] = legs else {
-        return true;
-    };
-    let [here, rest @ ..] = acts else {
-        return false;
-    };
-    leg_fits(town, here.link, first_link(rest), leg) && legs_fit(town, rest, later)
+    let mut rest = acts;
+    for leg in legs {
+        let [here, after @ ..] = rest else {
+            return false;
+        };
+        if !leg_fits(town, here.link, first_link(after), leg) {
+            return false;
+        }
+        rest = after;
+    }
+    true
 }
 
 /// Whether the plan fits the town: its numbers are in the town, its car routes have links, and each leg goes from the activity

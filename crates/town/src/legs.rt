@@ -29,10 +29,14 @@ fn calls_at(stop: u32, calls: &[StopCall]) -> bool
 fn are_joining(access: u32, egress: u32, calls: &[StopCall]) -> bool
     ensures { result ≡ are_joining access egress calls.now }
 {
-    let [call, later @ ..] = calls else {
-        return false;
-    };
-    (call.stop == access && calls_at(egress, later)) || are_joining(access, egress, later)
+    let mut rest = calls;
+    while let [call, later @ ..] = rest {
+        if call.stop == access && calls_at(egress, later) {
+            return true;
+        }
+        rest = later;
+    }
+    false
 }
 
 fn is_joining(line: u32, access: u32, egress: u32, route: &RouteRow) -> bool

@@ -1,0 +1,7 @@
+use Rattle.std.proofs.Common.{◌≡◌, drop}
+use Rattle.town.specs.Views.{rows_of}
+use Rattle.town.specs.Fits.{legs_fit}
+use Rattle.town.proofs.fits.legs_fit.Given as goal
+
+abbrev pub invariant-loop-leg : goal.invariant-loop-leg
+invariant-loop-leg l = legs_fit (rows_of l.town) l.rest (drop l.leg-index l.legs) ≡ legs_fit (rows_of l.town) l.acts l.legs

@@ -2,6 +2,20 @@
 #![tactic(auto)]
 
 #[cfg(test)]
+mod files;
+#[cfg(test)]
+mod network_files;
+#[cfg(test)]
+mod network_tables;
+#[cfg(test)]
+mod plan_texts;
+#[cfg(test)]
 mod plans_files;
 #[cfg(test)]
 mod plans_tables;
+#[cfg(test)]
+mod schedule_files;
+#[cfg(test)]
+mod schedule_tables;
+#[cfg(test)]
+mod settings_files;

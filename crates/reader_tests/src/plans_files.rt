@@ -2,211 +2,96 @@
 
 ghost use Rattle.std.specs.Prelude.{◌≡◌, length};
 
-use crate::plans_tables::{
-    ENDS, FIELD_COUNTS, HEADER, HEADS, LINKS, LISTED, NAMES, NUMBERS, ORDERS, SIDE_BY_SIDE, SOUND,
+use crate::files::{
+    ENDS, are_read, first_miss, first_unread, has_fault, have_fault, header_of, let_plans_go,
+    links_of, made, many,
 };
-use edge_files::{Reason, RowStop};
-use events::{Mode, Name, Names};
+use crate::plans_tables::{
+    FIELD_COUNTS, HEADS, LISTED, NAMES, NUMBERS, ORDERS, SIDE_BY_SIDE, SOUND,
+};
+use edge_files::{InFile, Reason};
+use events::{Mode, Names};
 use plans::{Act, Leg, Plan, PlanFile, read_plans};
 use std::alloc::{AllocError, Global};
 
-fn add(alloc: Global, names: &mut Names, text: &str) {
-    if names.len() < 1000 {
-        if let Ok(Some(name)) = Name::read(alloc, text.as_bytes()) {
-            let _ = names.add(name);
-        }
-    }
-}
-
-/// The names of the four links.
-fn links(alloc: Global) -> Names {
-    let mut names = Names::new(alloc);
-    for text in LINKS {
-        add(alloc, &mut names, text);
-    }
-    names
-}
-
-fn let_go(_file: PlanFile) {}
-
-/// What stops the reading of a file, where something does.
-fn stop_in(alloc: Global, links: &Names, bytes: &[u8]) -> Option<RowStop>
-    requires { length links.now ≡ 4 }
-{
-    match read_plans(alloc, bytes, links, &ENDS) {
-        Ok(file) => {
-            let_go(file);
-            None
-        }
-        Err(stop) => Some(stop),
-    }
-}
-
-fn joined(alloc: Global, head: &str, rows: &[u8]) -> Result<Vec<u8>, AllocError> {
-    let mut text = Vec::from_slice(alloc, head.as_bytes())?;
-    text.extend_from_slice(rows)?;
-    Ok(text)
-}
-
-/// What stops the reading of a file that is these two texts.
-fn stop_of(alloc: Global, links: &Names, head: &str, rows: &[u8]) -> Option<RowStop>
-    requires { length links.now ≡ 4 }
-{
-    match joined(alloc, head, rows) {
-        Ok(text) => stop_in(alloc, links, &text),
-        Err(_) => Some(RowStop::NoMemory),
-    }
-}
-
-fn is_fault(stop: Option<RowStop>, row: u32, reason: Reason) -> bool {
-    match stop {
-        Some(RowStop::Fault(found)) => found.row == row && found.reason == reason,
-        _ => false,
-    }
-}
-
-/// Whether a file that is the header and these rows has this fault.
-fn has_fault(alloc: Global, links: &Names, rows: &[u8], row: u32, reason: Reason) -> bool
-    requires { length links.now ≡ 4 }
-{
-    is_fault(stop_of(alloc, links, HEADER, rows), row, reason)
-}
-
-/// Whether a file that is the header and these rows is read.
-fn is_read(alloc: Global, links: &Names, rows: &[u8]) -> bool
-    requires { length links.now ≡ 4 }
-{
-    stop_of(alloc, links, HEADER, rows).is_none()
-}
-
-/// The first of these files, each behind the head, that does not have the fault beside it; or nothing.
-fn first_miss(
-    alloc: Global,
-    links: &Names,
-    head: &str,
-    cases: &[(&'static str, u32, Reason)],
-) -> &'static str
-    requires { length links.now ≡ 4 }
-{
-    for &(rows, row, reason) in cases {
-        if !is_fault(stop_of(alloc, links, head, rows.as_bytes()), row, reason) {
-            return rows;
-        }
-    }
-    ""
-}
+const PLANS: InFile = InFile::Plans;
 
 #[test]
 fn damaged_heads(rt: HostRuntime) {
-    let links = links(rt.alloc());
-    assert!(rt; links.len() == 4);
-    // The first file is empty, so it is tried by itself.
-    assert!(rt; is_fault(stop_in(rt.alloc(), &links, b""), 0, Reason::Header));
-    assert_eq!(rt; first_miss(rt.alloc(), &links, "", &HEADS), "");
+    assert_eq!(rt; first_miss(rt.alloc(), PLANS, "", &HEADS), None);
 }
 
 #[test]
 fn damaged_fields(rt: HostRuntime) {
-    let links = links(rt.alloc());
-    assert!(rt; links.len() == 4);
-    assert_eq!(rt; first_miss(rt.alloc(), &links, HEADER, &FIELD_COUNTS), "");
-    assert_eq!(rt; first_miss(rt.alloc(), &links, HEADER, &NAMES), "");
-    assert_eq!(rt; first_miss(rt.alloc(), &links, HEADER, &NUMBERS), "");
+    let (alloc, header) = (rt.alloc(), header_of(PLANS));
+    assert_eq!(rt; first_miss(alloc, PLANS, header, &FIELD_COUNTS), None);
+    assert_eq!(rt; first_miss(alloc, PLANS, header, &NAMES), None);
+    assert_eq!(rt; first_miss(alloc, PLANS, header, &NUMBERS), None);
 }
 
 #[test]
 fn damaged_orders(rt: HostRuntime) {
-    let links = links(rt.alloc());
-    assert!(rt; links.len() == 4);
-    assert_eq!(rt; first_miss(rt.alloc(), &links, HEADER, &LISTED), "");
-    assert_eq!(rt; first_miss(rt.alloc(), &links, HEADER, &ORDERS), "");
-    assert_eq!(rt; first_miss(rt.alloc(), &links, HEADER, &SIDE_BY_SIDE), "");
+    let (alloc, header) = (rt.alloc(), header_of(PLANS));
+    assert_eq!(rt; first_miss(alloc, PLANS, header, &LISTED), None);
+    assert_eq!(rt; first_miss(alloc, PLANS, header, &ORDERS), None);
+    assert_eq!(rt; first_miss(alloc, PLANS, header, &SIDE_BY_SIDE), None);
 }
 
-/// Bytes that are no UTF-8 are no name, no number, no kind and no mode; in a field that has to be
-/// empty they are too much.
-fn are_bytes_refused(alloc: Global, links: &Names) -> bool
-    requires { length links.now ≡ 4 }
-{
-    has_fault(alloc, links, b"\xff,0,act,home,L1,,\n", 1, Reason::BadName)
-        && has_fault(alloc, links, b"p\0,0,act,home,L1,,\n", 1, Reason::BadName)
-        && has_fault(
-            alloc,
-            links,
-            b"p1,0,act,home,L1,\xff,\n",
-            1,
-            Reason::BadNumber,
-        )
-        && has_fault(
-            alloc,
-            links,
-            b"p1,0,act,home,L1,,\xff\n",
-            1,
-            Reason::FieldCount,
-        )
-        && has_fault(alloc, links, b"p1,0,\xff,home,L1,,\n", 1, Reason::Order)
-        && is_fault(stop_in(alloc, links, b"\xff"), 0, Reason::Header)
-}
+/// Rows that are no UTF-8, and the reason of each: such bytes are no name, no number, no kind and no mode, and in a field that has
+/// to be empty they are too much.
+static NO_TEXTS: [(&[u8], Reason); 5] = [
+    (b"\xff,0,act,home,L1,,\n", Reason::BadName),
+    (b"p\0,0,act,home,L1,,\n", Reason::BadName),
+    (b"p1,0,act,home,L1,\xff,\n", Reason::BadNumber),
+    (b"p1,0,act,home,L1,,\xff\n", Reason::FieldCount),
+    (b"p1,0,\xff,home,L1,,\n", Reason::Order),
+];
 
-/// The first of the sound files that is not read; or nothing.
-fn first_unread(alloc: Global, links: &Names) -> &'static str
-    requires { length links.now ≡ 4 }
-{
-    for rows in SOUND {
-        if !is_read(alloc, links, rows.as_bytes()) {
-            return rows;
+/// The first of these rows that is not refused so, or their number.
+fn first_taken(alloc: Global) -> usize {
+    for (place, &(row, reason)) in NO_TEXTS.iter().enumerate() {
+        if !have_fault(alloc, PLANS, row, 1, reason) {
+            return place;
         }
     }
-    ""
+    NO_TEXTS.len()
 }
 
 #[test]
 fn bytes_and_sound_files(rt: HostRuntime) {
-    let links = links(rt.alloc());
-    assert!(rt; links.len() == 4);
-    assert!(rt; are_bytes_refused(rt.alloc(), &links));
-    assert_eq!(rt; first_unread(rt.alloc(), &links), "");
+    let alloc = rt.alloc();
+    assert_eq!(rt; first_taken(alloc), 5);
+    assert!(rt; has_fault(alloc, PLANS, b"\xff", 0, Reason::Header));
+    assert_eq!(rt; first_unread(alloc, PLANS, header_of(PLANS), &SOUND), None);
 }
 
-/// A text and behind it line feeds, this many bytes in all.
-fn filled(alloc: Global, head: &str, count: usize) -> Vec<u8> {
-    let mut text = match joined(alloc, head, b"") {
-        Ok(text) => text,
-        Err(_) => Vec::new(alloc),
-    };
-    let _ = text.resize(count, b'\n');
-    text
+fn filled(alloc: Global, head: &str) -> Result<Vec<u8>, AllocError> {
+    let block = [b'\n'; 4096];
+    let mut text = Vec::with_capacity(alloc, (1 << 28) + 4096)?;
+    text.extend_from_slice(head.as_bytes())?;
+    for _ in 0..1 << 16 {
+        text.extend_from_slice(&block)?;
+    }
+    Ok(text)
 }
 
-const ONE_PERSON: &str = "person,plan,kind,name,link,time,route\np1,0,act,home,L1,,\n";
-
-/// A person who stays where he is, in a file of this many bytes.
-fn long_stop(alloc: Global, links: &Names, head: &str, count: usize) -> Option<RowStop>
-    requires { length links.now ≡ 4 }
-{
-    let text = filled(alloc, head, count);
-    stop_in(alloc, links, &text)
+/// Whether a file that begins so, and has 2^28 line feeds behind it, is too long.
+fn is_too_long(alloc: Global, head: &str) -> bool {
+    let text = made(alloc, filled(alloc, head));
+    has_fault(alloc, PLANS, &text, 0, Reason::TooLong)
 }
 
-/// A file of 2^28 bytes is read, and one with a byte more is too long, whatever it holds.
+/// A file of more than 2^28 bytes is too long, whether it has a header or not.
 #[test]
 fn bytes_of_a_file(rt: HostRuntime) {
-    let links = links(rt.alloc());
-    let limit = 1 << 28;
-    assert!(rt; links.len() == 4);
-    assert!(rt; long_stop(rt.alloc(), &links, ONE_PERSON, limit).is_none());
-    let long = long_stop(rt.alloc(), &links, ONE_PERSON, limit + 1);
-    assert!(rt; is_fault(long, 0, Reason::TooLong));
-    let headless = long_stop(rt.alloc(), &links, "", limit);
-    assert!(rt; is_fault(headless, 0, Reason::Header));
-    let long = long_stop(rt.alloc(), &links, "", limit + 1);
-    assert!(rt; is_fault(long, 0, Reason::TooLong));
+    let one_person = "person,plan,kind,name,link,time,route\np1,0,act,home,L1,,\n";
+    assert!(rt; is_too_long(rt.alloc(), one_person));
+    assert!(rt; is_too_long(rt.alloc(), "\n"));
 }
 
-/// A plan of this many legs, the last of them of this mode.
-fn with_legs(alloc: Global, legs: u32, mode: &str) -> Result<Vec<u8>, AllocError> {
+fn legs(alloc: Global, count: u32, mode: &str) -> Result<Vec<u8>, AllocError> {
     let mut text = Vec::from_slice(alloc, b"p1,0,act,home,L1,0,\n")?;
-    for _ in 1..legs {
+    for _ in 1..count {
         text.extend_from_slice(b"p1,0,leg,ride,,1,\np1,0,act,home,L1,0,\n")?;
     }
     text.extend_from_slice(b"p1,0,leg,")?;
@@ -215,113 +100,76 @@ fn with_legs(alloc: Global, legs: u32, mode: &str) -> Result<Vec<u8>, AllocError
     Ok(text)
 }
 
-/// A leg by car over a first link and behind it the one from a node to itself, this many links in all.
-fn with_links(alloc: Global, first: &str, links: u32) -> Result<Vec<u8>, AllocError> {
+/// A plan of this many legs, the last of them of this mode.
+fn with_legs(alloc: Global, count: u32, mode: &str) -> Vec<u8> {
+    made(alloc, legs(alloc, count, mode))
+}
+
+fn drive(alloc: Global, first: &str, count: u32) -> Result<Vec<u8>, AllocError> {
     let mut text = Vec::from_slice(alloc, b"p1,0,act,home,O,0,\np1,0,leg,car,,,")?;
     text.extend_from_slice(first.as_bytes())?;
-    for _ in 1..links {
+    for _ in 1..count {
         text.extend_from_slice(b" O")?;
     }
     text.extend_from_slice(b"\np1,0,act,work,O,,\n")?;
     Ok(text)
 }
 
-/// This many persons who stay where they are.
-fn with_persons(alloc: Global, persons: u32) -> Result<Vec<u8>, AllocError> {
-    let mut text = Vec::new(alloc);
-    for person in 0..persons {
-        let row = format!(in alloc; "p{person},0,act,home,L1,,\n")?;
-        text.extend_from_slice(row.as_bytes())?;
-    }
-    Ok(text)
-}
-
-/// Whether these rows were made and are read.
-fn is_made_and_read(alloc: Global, links: &Names, rows: Result<Vec<u8>, AllocError>) -> bool
-    requires { length links.now ≡ 4 }
-{
-    match rows {
-        Ok(rows) => is_read(alloc, links, &rows),
-        Err(_) => false,
-    }
-}
-
-/// Whether these rows were made and have this fault.
-fn is_made_with_fault(
-    alloc: Global,
-    links: &Names,
-    rows: Result<Vec<u8>, AllocError>,
-    row: u32,
-    reason: Reason,
-) -> bool
-    requires { length links.now ≡ 4 }
-{
-    match rows {
-        Ok(rows) => has_fault(alloc, links, &rows, row, reason),
-        Err(_) => false,
-    }
-}
-
-fn are_legs_limited(alloc: Global, links: &Names) -> bool
-    requires { length links.now ≡ 4 }
-{
-    is_made_and_read(alloc, links, with_legs(alloc, 8, "ride"))
-        && is_made_with_fault(
-            alloc,
-            links,
-            with_legs(alloc, 9, "ride"),
-            18,
-            Reason::TooMany,
-        )
-        && is_made_with_fault(
-            alloc,
-            links,
-            with_legs(alloc, 9, "fly"),
-            18,
-            Reason::ModeUnknown,
-        )
-}
-
-fn are_routes_limited(alloc: Global, links: &Names) -> bool
-    requires { length links.now ≡ 4 }
-{
-    is_made_and_read(alloc, links, with_links(alloc, "O", 1000))
-        && is_made_with_fault(
-            alloc,
-            links,
-            with_links(alloc, "O", 1001),
-            2,
-            Reason::TooMany,
-        )
-        && is_made_with_fault(
-            alloc,
-            links,
-            with_links(alloc, "L1", 1001),
-            2,
-            Reason::RouteBroken,
-        )
-}
-
-fn are_persons_limited(alloc: Global, links: &Names) -> bool
-    requires { length links.now ≡ 4 }
-{
-    is_made_and_read(alloc, links, with_persons(alloc, 65_536))
-        && is_made_with_fault(
-            alloc,
-            links,
-            with_persons(alloc, 65_537),
-            65_537,
-            Reason::TooMany,
-        )
+/// A leg by car over a first link and behind it the one from a node to itself, this many links in all.
+fn with_links(alloc: Global, first: &str, count: u32) -> Vec<u8> {
+    made(alloc, drive(alloc, first, count))
 }
 
 #[test]
-fn limits(rt: HostRuntime) {
-    let links = links(rt.alloc());
-    assert!(rt; links.len() == 4);
-    assert!(rt; are_legs_limited(rt.alloc(), &links));
-    assert!(rt; are_routes_limited(rt.alloc(), &links));
-    assert!(rt; are_persons_limited(rt.alloc(), &links));
+fn limits_of_plans(rt: HostRuntime) {
+    let alloc = rt.alloc();
+    assert!(rt; are_read(alloc, PLANS, &with_legs(alloc, 8, "ride")));
+    assert!(rt;
+        have_fault(
+            alloc,
+            PLANS,
+            &with_legs(alloc, 9, "ride"),
+            18,
+            Reason::TooMany
+        )
+    );
+    assert!(rt;
+        have_fault(
+            alloc,
+            PLANS,
+            &with_legs(alloc, 9, "fly"),
+            18,
+            Reason::ModeUnknown
+        )
+    );
+    assert!(rt; are_read(alloc, PLANS, &with_links(alloc, "O", 1000)));
+    assert!(rt;
+        have_fault(
+            alloc,
+            PLANS,
+            &with_links(alloc, "O", 1001),
+            2,
+            Reason::TooMany
+        )
+    );
+    assert!(rt;
+        have_fault(
+            alloc,
+            PLANS,
+            &with_links(alloc, "L1", 1001),
+            2,
+            Reason::RouteBroken
+        )
+    );
+}
+
+#[test]
+fn limit_of_persons(rt: HostRuntime) {
+    let alloc = rt.alloc();
+    let persons = many(alloc, "p", ",0,act,home,L1,,", 65_536);
+    assert!(rt; are_read(alloc, PLANS, &persons));
+    let persons = many(alloc, "p", ",0,act,home,L1,,", 65_537);
+    assert!(rt; have_fault(alloc, PLANS, &persons, 65_537, Reason::TooMany));
 }
 
 fn has_acts(plan: &Plan, acts: &[Act]) -> bool {
@@ -387,7 +235,7 @@ fn is_by_line(plan: &Plan) -> bool {
 }
 
 fn is_by_bike(plan: &Plan) -> bool {
-    has_acts(plan, &[act(1, 1, 0), last_act(0, 3)])
+    has_acts(plan, &[act(1, 1, 0), last_act(0, 4)])
         && plan.legs.rows.len() == 1
         && is_teleported(plan, 0, Mode::Bike, 60)
 }
@@ -431,27 +279,26 @@ static TEXT: &str = "\u{feff}person,plan,kind,name,link,time,route\r\n\
     p2,0,leg,bike,,60,\n\
     p2,0,act,home,O,,\n";
 
-/// Whether a whole file gives what it says.
+fn is_file(file: &PlanFile) -> bool {
+    has_names(file) && file.starts.rows.as_slice() == [1, 6, 9].as_slice() && has_plans(file)
+}
+
+/// Whether the whole file gives what it says.
 fn is_given(alloc: Global, links: &Names) -> bool
-    requires { length links.now ≡ 4 }
+    requires { length links.now ≡ 5 }
 {
     match read_plans(alloc, TEXT.as_bytes(), links, &ENDS) {
-        Ok(file) => is_file(file),
+        Ok(file) => {
+            let is_given = is_file(&file);
+            let_plans_go(file);
+            is_given
+        }
         Err(_) => false,
     }
 }
 
-fn is_file(file: PlanFile) -> bool {
-    let given = has_names(&file)
-        && file.starts.rows.as_slice() == [1, 6, 9].as_slice()
-        && has_plans(&file);
-    let_go(file);
-    given
-}
-
 #[test]
 fn plans_are_read(rt: HostRuntime) {
-    let links = links(rt.alloc());
-    assert!(rt; links.len() == 4);
-    assert!(rt; is_given(rt.alloc(), &links));
+    let links = links_of(rt.alloc());
+    assert!(rt; links.len() == 5 && is_given(rt.alloc(), &links));
 }

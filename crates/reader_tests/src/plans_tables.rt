@@ -1,16 +1,11 @@
 //! Damaged files of plans, and the first fault of each; and sound ones.
 
+use crate::files::Damage;
 use edge_files::Reason;
 
-pub(crate) const HEADER: &str = "person,plan,kind,name,link,time,route\n";
-
-/// Three links in a row, and one from a node to itself.
-pub(crate) static ENDS: [(u32, u32); 4] = [(0, 1), (1, 2), (2, 3), (5, 5)];
-
-pub(crate) static LINKS: [&str; 4] = ["L1", "L2", "L3", "O"];
-
 /// Whole files that have no header, or no row behind it.
-pub(crate) static HEADS: [(&str, u32, Reason); 15] = [
+pub(crate) static HEADS: [Damage; 16] = [
+    ("", 0, Reason::Header),
     ("\n\n", 0, Reason::Header),
     ("\r\n\r\n", 0, Reason::Header),
     ("p1,0,act,home,L1,,\n", 0, Reason::Header),
@@ -69,7 +64,7 @@ pub(crate) static HEADS: [(&str, u32, Reason); 15] = [
 ];
 
 /// Rows with too few fields or too many, or with text where a field has to be empty.
-pub(crate) static FIELD_COUNTS: [(&str, u32, Reason); 15] = [
+pub(crate) static FIELD_COUNTS: [Damage; 15] = [
     ("p1\n", 1, Reason::FieldCount),
     ("p1,0,act,home,L1,100\n", 1, Reason::FieldCount),
     ("p1,0,act,home,L1,100,,\n", 1, Reason::FieldCount),
@@ -124,7 +119,7 @@ pub(crate) static FIELD_COUNTS: [(&str, u32, Reason); 15] = [
 ];
 
 /// Fields and items that have to be names.
-pub(crate) static NAMES: [(&str, u32, Reason); 18] = [
+pub(crate) static NAMES: [Damage; 18] = [
     ("p 1,0,act,home,L1,,\n", 1, Reason::BadName),
     (",0,act,home,L1,,\n", 1, Reason::BadName),
     ("\"p\"\"1\",0,act,home,L1,,\n", 1, Reason::BadName),
@@ -186,7 +181,7 @@ pub(crate) static NAMES: [(&str, u32, Reason); 18] = [
 ];
 
 /// Fields that have to be numbers.
-pub(crate) static NUMBERS: [(&str, u32, Reason); 19] = [
+pub(crate) static NUMBERS: [Damage; 19] = [
     ("p1,,act,home,L1,,\n", 1, Reason::BadNumber),
     ("p1,5,act,home,L1,,\n", 1, Reason::BadNumber),
     ("p1,-0,act,home,L1,,\n", 1, Reason::BadNumber),
@@ -245,7 +240,7 @@ pub(crate) static NUMBERS: [(&str, u32, Reason); 19] = [
 ];
 
 /// Persons that come again, links that there are not, routes that break, and modes that there are not.
-pub(crate) static LISTED: [(&str, u32, Reason); 17] = [
+pub(crate) static LISTED: [Damage; 17] = [
     (
         "p1,0,act,home,L1,,\np2,0,act,home,L1,,\np1,0,act,home,L1,,\n",
         3,
@@ -322,7 +317,7 @@ pub(crate) static LISTED: [(&str, u32, Reason); 17] = [
 ];
 
 /// Rows out of order, each by one rule.
-pub(crate) static ORDERS: [(&str, u32, Reason); 25] = [
+pub(crate) static ORDERS: [Damage; 25] = [
     // A kind that is neither.
     ("p1,0,trip,home,L1,,\n", 1, Reason::Order),
     ("p1,0,,home,L1,,\n", 1, Reason::Order),
@@ -435,7 +430,7 @@ pub(crate) static ORDERS: [(&str, u32, Reason); 25] = [
 ];
 
 /// Two faults in one row, where the one of the lower number is told, or in two rows.
-pub(crate) static SIDE_BY_SIDE: [(&str, u32, Reason); 15] = [
+pub(crate) static SIDE_BY_SIDE: [Damage; 15] = [
     ("p@,0,act,home,L1,,x,\n", 1, Reason::FieldCount),
     ("p1,0,act,ho me,L1,100,L1\n", 1, Reason::FieldCount),
     ("p@,7,act,home,L1,,\n", 1, Reason::BadName),

@@ -1,0 +1,126 @@
+//! settings.json, read.
+
+use crate::files::{has_fault, made};
+use edge_files::{InFile, Reason};
+use settings::{Settings, read_settings};
+use std::alloc::{AllocError, Global};
+
+/// The values in the order of the keys, 0 where there is no speed of holes.
+fn values_of(settings: &Settings) -> [u64; 10] {
+    [
+        settings.seed,
+        u64::from(settings.end_second),
+        u64::from(settings.flow_permille),
+        u64::from(settings.storage_permille),
+        u64::from(settings.stuck_seconds),
+        u64::from(settings.stuck_push),
+        u64::from(settings.hole_speed.unwrap_or(0)),
+        u64::from(settings.dwell_open),
+        u64::from(settings.dwell_alight),
+        u64::from(settings.dwell_board),
+    ]
+}
+
+/// What the settings are where no key is given.
+const DEFAULTS: [u64; 10] = [4_711, 108_000, 1_000, 1_000, 10, 0, 0, 4, 1, 2];
+
+/// Each key with its least and its largest number, and texts of numbers that are too small and too large.
+static RANGES: [(&str, u64, u64, &str, &str); 10] = [
+    ("seed", 0, u64::MAX, "-1", "18446744073709551616"),
+    ("end_second", 1, 172_800, "0", "172801"),
+    ("flow_permille", 1, 2_000, "0", "2001"),
+    ("storage_permille", 1, 2_000, "0", "2001"),
+    ("stuck_seconds", 1, 172_800, "0", "172801"),
+    ("stuck_push", 0, 1, "-1", "2"),
+    ("hole_speed", 1, 10_000, "0", "10001"),
+    ("dwell_open", 0, 3_600, "-1", "3601"),
+    ("dwell_alight", 0, 3_600, "-1", "3601"),
+    ("dwell_board", 0, 3_600, "-1", "3601"),
+];
+
+fn object(alloc: Global, key: &str, value: &str) -> Result<Vec<u8>, AllocError> {
+    let text = format!(in alloc; "{{\"{key}\":{value}}}")?;
+    Vec::from_slice(alloc, text.as_bytes())
+}
+
+/// The text of an object of one key.
+fn text_of(alloc: Global, key: &str, value: &str) -> Vec<u8> {
+    made(alloc, object(alloc, key, value))
+}
+
+/// The number of so many digits.
+fn number(alloc: Global, value: u64) -> String {
+    match format!(in alloc; "{value}") {
+        Ok(text) => text,
+        Err(_) => String::new(alloc),
+    }
+}
+
+/// Whether a text gives the value of this place, and the others as where no key is given.
+fn gives(alloc: Global, text: &[u8], place: usize, value: u64) -> bool {
+    let mut wanted = DEFAULTS;
+    if let Some(own) = wanted.get_mut(place) {
+        *own = value;
+    }
+    match read_settings(alloc, text) {
+        Ok(settings) => values_of(&settings) == wanted,
+        Err(_) => false,
+    }
+}
+
+/// Whether an object of this key gives this value.
+fn is_taken(alloc: Global, place: usize, key: &str, value: u64) -> bool {
+    let digits = number(alloc, value);
+    gives(alloc, &text_of(alloc, key, digits.as_str()), place, value)
+}
+
+/// Whether an object of this key and value is refused.
+fn is_refused(alloc: Global, key: &str, value: &str) -> bool {
+    let text = text_of(alloc, key, value);
+    has_fault(alloc, InFile::Settings, &text, 0, Reason::ValueBad)
+}
+
+/// The first key that has another range than told.
+fn first_other(alloc: Global) -> Option<&'static str> {
+    for (place, &(key, low, high, below, above)) in RANGES.iter().enumerate() {
+        let is_so = is_taken(alloc, place, key, low)
+            && is_taken(alloc, place, key, high)
+            && is_refused(alloc, key, below)
+            && is_refused(alloc, key, above);
+        if !is_so {
+            return Some(key);
+        }
+    }
+    None
+}
+
+#[test]
+fn each_key_has_its_range(rt: HostRuntime) {
+    assert_eq!(rt; first_other(rt.alloc()), None);
+}
+
+/// Texts with a seed or without, where the last of two counts.
+static SEEDS: [(&str, u64); 7] = [
+    ("", 4_711),
+    ("{}", 4_711),
+    (" {\r\n\t} ", 4_711),
+    ("{ \"seed\" : 7 }\n", 7),
+    ("{\"\\u0073eed\":7}", 7),
+    ("{\"seed\":1,\"dwell_board\":2,\"seed\":2}", 2),
+    ("{\"seed\":-1,\"seed\":2}", 2),
+];
+
+/// The first of these texts that gives other settings.
+fn first_misread(alloc: Global) -> Option<&'static str> {
+    for &(text, seed) in &SEEDS {
+        if !gives(alloc, text.as_bytes(), 0, seed) {
+            return Some(text);
+        }
+    }
+    None
+}
+
+#[test]
+fn texts_that_are_read(rt: HostRuntime) {
+    assert_eq!(rt; first_misread(rt.alloc()), None);
+}

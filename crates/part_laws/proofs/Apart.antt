@@ -1,18 +1,18 @@
 -- What each partition tells is in the order of the keys, and no two tell events with one key.
-use Rattle.std.proofs.Common.{◌≡◌, ℕ, zero, suc, ◌+◌, ◌<◌, ◌≤◌, ◌⊎◌, Bool, true, false, List, [], ◌∷◌, ◌++◌, length, refl, ap, sym, ◌∙◌, subst, eqb, arith, inl, inr}
+use Rattle.std.proofs.Common.{◌≡◌, ℕ, zero, suc, ◌+◌, ◌<◌, ◌≤◌, ◌⊎◌, Bool, true, List, [], ◌∷◌, length, ap, sym, ◌∙◌, subst, eqb, arith, inl, inr}
 use Rattle.std.specs.Prelude.{filter}
 use Rattle.std.specs.List.{flat_map, slice_index_or, Contains}
-use Rattle.std.proofs.lemmas.Bool.{cases_Bool, eqb-true, eq-eqb}
+use Rattle.std.proofs.lemmas.Bool.{cases_Bool, eqb-true}
 use Rattle.events.specs.declared.event.Event.{Event}
 use Rattle.events.specs.declared.event.Key.{Key}
 use Rattle.events.specs.declared.event.Phase.TheVariants as phase
 use Rattle.events.specs.Keys.{phase_code}
-use Rattle.traffic.specs.Lists.{numbers, below}
+use Rattle.traffic.specs.Lists.{numbers}
 use Rattle.traffic.specs.Setup.{Setup}
 use Rattle.traffic.specs.declared.moves.Said.{Said}
 use Rattle.traffic.specs.Persons.{stranded}
 use Rattle.traffic.specs.Day.{keyed, world_start, world_at, events_from}
-use Rattle.traffic.specs.Frames.{IsBefore, AreAfter, Ascends}
+use Rattle.traffic.specs.Frames.{AreAfter, Ascends}
 use Rattle.traffic.proofs.Order.{Every, Every-append, Every-weaker, Ascends-append, by_second, OfTurn, OfPhase, before_in_phase, keyed-of, keyed-ascends, Before, from-before, from-ascends}
 use Rattle.parts.specs.Owners.{Owner, owner_of_turn, owner_of_event}
 use Rattle.parts.specs.Parts.{own_events, ends_with, own_end_events}

@@ -1,22 +1,20 @@
 -- A row that enters a queue follows from its vehicle and the second.
-use Rattle.std.proofs.Common.{◌≡◌, ℕ, zero, suc, ◌+◌, ◌*◌, Bool, true, false, List, [], ◌∷◌, ◌++◌, length, get_or, refl, ap, sym, ◌∙◌, subst, eqb, inl, inr}
-use Rattle.std.specs.Prelude.{map, filter, not, ◌&&◌, ◌||◌, if◌then◌else◌, All, Option, None, Some}
+use Rattle.std.proofs.Common.{◌≡◌, ℕ, zero, suc, ◌+◌, ◌*◌, Bool, true, false, List, [], ◌∷◌, ◌++◌, length, get_or, refl, sym, ◌∙◌, subst, eqb, inl, inr}
+use Rattle.std.specs.Prelude.{map, not, ◌&&◌, if◌then◌else◌, All, Option, None, Some}
 use Rattle.std.specs.List.{flat_map, AllByRecursion as Each}
 use Rattle.std.proofs.lemmas.Bool.{cases_Bool, and_parts, true≢false}
 use Rattle.std.proofs.lemmas.List.Elements.{All-from_recursion}
-use Rattle.traffic.specs.declared.rows.Rider.{Rider}
 use Rattle.traffic.specs.declared.world.Row.{Row}
 use Rattle.traffic.specs.declared.sight.Entry.{Entry}
 use Rattle.traffic.specs.declared.sight.Exit.{Exit}
 use Rattle.traffic.specs.declared.numbers.Stuck.{Stuck}
 use Rattle.traffic.specs.declared.moves.Move.{Move}
 use Rattle.traffic.specs.declared.moves.Move.TheVariants.{Put, Gone, New, Mark, Credit, Free, Tell}
-use Rattle.traffic.specs.declared.rows.Stage.TheVariants.{Queue, Buffer}
+use Rattle.traffic.specs.declared.rows.Stage.TheVariants.{Queue}
 use Rattle.traffic.specs.Lists.{below, without_at}
 use Rattle.traffic.specs.Rows.{World, on}
 use Rattle.traffic.specs.Setup.{Setup, road, seconds_of}
-use Rattle.traffic.specs.Moves.{at_second}
-use Rattle.traffic.specs.Nodes.{sight, exit, next_link, is_exit, has_room, seconds_along, with_one_more, one_more, is_stuck, may_enter, entered, hand, since_of, hand_all, exits_by, exits_after, drawn, no_entry, draw, ready, red, candidates, mark, node_moves}
+use Rattle.traffic.specs.Nodes.{sight, exit, next_link, is_exit, has_room, seconds_along, with_one_more, one_more, is_stuck, may_enter, hand, since_of, hand_all, exits_after, drawn, no_entry, draw, red, candidates, mark, node_moves}
 use Rattle.events.specs.declared.event.Phase.TheVariants as phase
 use Rattle.traffic.specs.Day.{node_plan, through, world_at}
 use Rattle.parts.specs.Owners.{Owner, leads}

@@ -7,7 +7,7 @@ use Rattle.traffic.specs.Setup.{Setup, seconds_of, hole_of}
 use Rattle.traffic.specs.Day.{world_at, day as events_of_day}
 use Rattle.traffic.specs.Frames.{Ascends}
 use Rattle.parts.specs.Owners.{Owner, owner_of, begins_in, crosses, near, longest_lag, lag}
-use Rattle.parts.specs.Parts.{Held, Passed, Parcel, entering_row, part, held, ready, out, own_events, ends_with}
+use Rattle.parts.specs.Parts.{Held, Passed, Parcel, entering_row, part, held, ready, out, own_events}
 use Rattle.parts.specs.Core.{Core, Allowed, Reaches, Shows, advance}
 use Rattle.parts.specs.Merge.{Merges}
 use Rattle.part_laws.specs.Alone.{absorb, given, alone, parcel_to, tells_alone}

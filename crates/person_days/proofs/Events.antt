@@ -27,7 +27,7 @@ use Rattle.traffic.specs.declared.world.Row.{Row}
 use Rattle.one_place.proofs.Boarding.{after-append}
 use Rattle.one_place.proofs.Places.{among_riders, rides}
 use Rattle.one_place.proofs.Turns.{lane_of}
-use Rattle.person_days.specs.Trips.{act, leg, legs, IsPlanned, names, is_step, Step, Places, Says, Departs, Arrives, IsStuck, InTurn}
+use Rattle.person_days.specs.Trips.{act, leg, legs, IsPlanned, names, is_step, Step, Places, Departs, Arrives, IsStuck, InTurn}
 
 pub half_two : (e : ℕ) → (e + 2) / 2 ≡ e / 2 + 1
 half_two e = omega arith

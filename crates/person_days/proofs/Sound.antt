@@ -1,5 +1,5 @@
 -- In a sound and consistent setup the events of a person's trips name the links of his activities.
-use Rattle.std.proofs.Common.{◌≡◌, ℕ, ◌+◌, ◌/◌, ◌<◌, ◌≤◌, true, false, List, [], ◌∷◌, length, get_or, refl, ap, sym, ◌∙◌, subst, arith, inl, inr}
+use Rattle.std.proofs.Common.{◌≡◌, ℕ, ◌+◌, ◌/◌, ◌<◌, ◌≤◌, true, List, [], ◌∷◌, length, refl, ap, sym, ◌∙◌, subst, arith, inl, inr}
 use Rattle.std.specs.Prelude.{◌%◌, ◌==◌, Option, None, Some}
 use Rattle.std.specs.List.{AllByRecursion as Each}
 use Rattle.std.proofs.lemmas.Bool.{cases_lt, eq-eqb}
@@ -17,7 +17,7 @@ use Rattle.one_place.proofs.Places.{among_riders, rides}
 use Rattle.one_place.proofs.Boarding.{riders_are}
 use Rattle.sound_setups.specs.Setups.{IsSoundSetup}
 use Rattle.sound_setups.specs.Consistent.{IsConsistentSetup}
-use Rattle.sound_setups.specs.Alighting.{Alights, AlightAll}
+use Rattle.sound_setups.specs.Alighting.{AlightAll}
 use Rattle.sound_setups.proofs.Fine.{Good as IsGoodWorld}
 use Rattle.sound_setups.proofs.Steps.{plan_sound}
 use Rattle.sound_setups.proofs.Links.{link_keeps}

@@ -1,5 +1,5 @@
 -- The plans of a town are sound, and go from activity to activity.
-use Rattle.std.proofs.Common.{◌≡◌, ℕ, zero, suc, ◌+◌, ◌-◌, ◌<◌, ◌≤◌, ◌≢◌, Bool, true, false, List, [], ◌∷◌, length, get_or, refl, ap, sym, ◌∙◌, subst, eqb, arith, inl, inr}
+use Rattle.std.proofs.Common.{◌≡◌, ℕ, zero, suc, ◌+◌, ◌-◌, ◌<◌, ◌≢◌, Bool, true, false, List, [], ◌∷◌, length, get_or, refl, ◌∙◌, eqb, arith, inl, inr}
 use Rattle.std.specs.Prelude.{map, not, nat_eq, nat_le, ◌&&◌, Option, None, Some}
 use Rattle.std.specs.List.{AllByRecursion as Each, list_all, list_any}
 use Rattle.std.proofs.lemmas.Bool.{cases_Bool, and_parts, eqb-true, eqb-false, leb-true, not-true}
@@ -15,7 +15,7 @@ use Rattle.schedule.specs.Calls.{link_at}
 use Rattle.town.specs.Fits.{is_act_in, has_wrong_ends, has_wrong_stops, is_joining, leg_fits, legs_fit, fits}
 use Rattle.town.specs.Rows.{TownRows}
 use Rattle.town.specs.Setups.{stay_of, way_of, itinerary_of}
-use Rattle.traffic.specs.Setup.{Setup, Way, Drive, Teleport, Transit, link_of_stop}
+use Rattle.traffic.specs.Setup.{Setup, Drive, link_of_stop}
 use Rattle.traffic.specs.Worlds.{HasEnd}
 use Rattle.fit_days.specs.Setups.{IsPlanIn}
 use Rattle.sound_setups.specs.Setups.{IsSoundWay, EndsAsPlanned, IsSoundPlan}

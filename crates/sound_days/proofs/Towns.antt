@@ -1,9 +1,8 @@
 -- The setup of a day in a town is sound and consistent, and its days follow the plans.
-use Rattle.std.proofs.Common.{◌≡◌, ℕ, ◌+◌, ◌<◌, ◌≤◌, List, [], ◌∷◌, length, get_or, ap, subst, arith, inl, inr, refl}
-use Rattle.std.specs.Prelude.{map, true, ◌==◌, All, Option, None, Some}
+use Rattle.std.proofs.Common.{◌≡◌, ℕ, ◌<◌, ◌≤◌, List, [], ◌∷◌, length, arith}
+use Rattle.std.specs.Prelude.{map, true, All}
 use Rattle.std.specs.List.{AllByRecursion as Each}
-use Rattle.std.proofs.lemmas.Bool.{cases_lt, eq-eqb}
-use Rattle.std.proofs.lemmas.List.{length-map, get_or_past}
+use Rattle.std.proofs.lemmas.List.{length-map}
 use Rattle.std.proofs.lemmas.List.Elements.{All-get_or, All-from_recursion, All-map, All-weaker}
 use Rattle.plans.specs.declared.plan.Plan.{Plan}
 use Rattle.plans.specs.Parts.{Parts, parts_of}
@@ -13,7 +12,7 @@ use Rattle.town.specs.Rows.{TownRows, IsTown}
 use Rattle.town.specs.Setups.{way_of, itinerary_of, departure_of, setup_of}
 use Rattle.town.specs.Views.{rows_of, setup_in}
 use Rattle.town.specs.declared.rows.Town.{Town}
-use Rattle.traffic.specs.Setup.{Setup, Stay, Itinerary, Departure, itinerary}
+use Rattle.traffic.specs.Setup.{Setup, Itinerary, Departure}
 use Rattle.fit_days.specs.Setups.{IsPlanIn}
 use Rattle.fit_days.proofs.Towns.{plans_fit}
 use Rattle.person_days.specs.Trips.{legs}

@@ -1,7 +1,7 @@
 -- The layout of a block.
 use Rattle.std.proofs.Common.{◌≡◌, ℕ, ◌%◌, ◌^◌, ◌<◌, List, refl, ap, ◌∙◌, arith}
 use Rattle.rand_chacha.specs.Block.{block_word}
-use Rattle.rand_chacha.specs.ChaCha.{ChaCha, word_at, next_word, of_seed, key_of}
+use Rattle.rand_chacha.specs.ChaCha.{ChaCha, word_at, of_seed, key_of}
 use Rattle.draws.specs.Words.{Source, key_bytes, key_words, starting_words, word, generator_at}
 use Rattle.draws.proofs.Keys.{key_is}
 
@@ -9,13 +9,6 @@ use Rattle.draws.proofs.Keys.{key_is}
 pub word_is : (s : Source) (place : ℕ) → word_at 4 (key_words s.seed s.iteration) s.stream place ≡ word s place
 unfolding block_word starting_words word
 word_is s place = refl
-
--- the word that the generator gives at a place
-pub next_is : (s : Source) (place given : ℕ) (before after : ChaCha)
-    → before ≡ generator_at s place → (given, after) ≡ next_word 4 before → given ≡ word s place
-next_is s place given before after at e =
-    let drawn : given ≡ (next_word 4 before).0 = ap (λ (p : ℕ × ChaCha). p.0) e in
-    drawn ∙ ap (λ (g : ChaCha). (next_word 4 g).0) at ∙ word_is s place
 
 -- a generator made from the key, with its stream and then its place set
 pub at_place : (s : Source) (place : ℕ) (bytes : List ℕ) (made there at : ChaCha)

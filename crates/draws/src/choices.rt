@@ -3,7 +3,7 @@ ghost use Rattle.draws.specs.Choices.{below, pick, count_of, between};
 
 /// One of the `count` numbers from 0 on, which is 0 where there is none.
 #[tactic(auto, unfolding(crate::specs::Choices::below))]
-pub fn below(count: u64, word: u32) -> u64
+fn below(count: u64, word: u32) -> u64
     ensures value { result ≡ below count word }
     ensures within { 0 < count → result < count }
 {

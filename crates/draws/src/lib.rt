@@ -9,7 +9,7 @@ mod streams;
 #[cfg(test)]
 mod tests;
 
-pub use choices::{below, between, pick};
+pub use choices::{between, pick};
 pub use streams::Draws;
 
 /// The stream of person 0; those below are the streams of nodes.
@@ -17,9 +17,3 @@ pub const PERSON_STREAMS: u64 = 1 << 40;
 
 /// How many words a stream has here.
 pub const PLACES: u64 = 1 << 32;
-
-/// How many words one block of the cipher gives.
-pub const BLOCK_WORDS: usize = 16;
-
-/// How many blocks a stream has here.
-pub const BLOCKS: u64 = 1 << 28;

@@ -1,7 +1,7 @@
-ghost use Rattle.std.specs.Prelude.{◌≡◌, ◌+◌, ◌*◌, ◌<◌, slice_index, EachIndex};
+ghost use Rattle.std.specs.Prelude.{◌≡◌, ◌<◌};
 ghost use Rattle.draws.specs.Words.{Source, node_source, person_source, key_bytes, word, generator_at};
 
-use crate::{BLOCK_WORDS, BLOCKS, PERSON_STREAMS, PLACES};
+use crate::{PERSON_STREAMS, PLACES};
 use rand_chacha::ChaCha8Rng;
 use rand_core::SeedableRng;
 use rand_core::utils::NextWord;
@@ -46,29 +46,13 @@ impl Draws {
         }
     }
 
-    /// The word at a place of the stream. Where several words of one block are wanted,
-    /// [`Draws::block`] gives them in the time of one.
+    /// The word at a place of the stream.
     #[tactic(auto, using(crate::proofs::Blocks::word_is))]
     pub fn word(&self, place: u64) -> u32
         requires { place < PLACES }
         ensures { result ≡ word self.now place }
     {
         self.generator(place).next_word()
-    }
-
-    /// The words of one block: the places from `16 * number` on.
-    #[tactic(auto, using(crate::proofs::Blocks::word_is))]
-    pub fn block(&self, number: u64) -> [u32; BLOCK_WORDS]
-        requires { number < BLOCKS }
-        ensures { EachIndex result (λ k. slice_index result k
-            ≡ word self.now (BLOCK_WORDS * number + k)) }
-    {
-        let mut generator = self.generator(BLOCK_WORDS as u64 * number);
-        let mut words = [0; BLOCK_WORDS];
-        for word in words.iter_mut() {
-            *word = generator.next_word();
-        }
-        words
     }
 
     // The generator of this stream at a place. The stream is set before any word is drawn, and the

@@ -158,18 +158,6 @@ pub struct Key {
     pub index: u32,
 }
 
-impl Key {
-    ghost use Rattle.events.specs.Keys.{key_before};
-
-    /// Whether this key comes before the other: what `<` says.
-    #[tactic(auto, unfolding(crate::specs::Keys::key_before))]
-    pub fn is_before(self, other: Key) -> bool
-        ensures { result ≡ key_before self other }
-    {
-        self < other
-    }
-}
-
 /// What the last field of a line tells.
 #[derive(Clone, Copy, Debug, PartialEq, Eq)]
 pub enum More {

@@ -211,7 +211,8 @@ fn push_from_wait(
     requires second_in { at.second < 172800 }
     requires small { AreSmall rows.now }
     ensures { OnOk result (out.new.items
-        ≡ out.old.items ++ from_wait at.rules at.second at.link passage.waiters.items passage.buffered passage.credit rows.now) }
+        ≡ out.old.items
+        ++ from_wait at.rules at.second at.link passage.waiters.items passage.buffered passage.credit rows.now) }
 {
     let mut passage = passage;
     for row in rows {
@@ -256,7 +257,8 @@ fn push_from_queue(
     requires small { AreSmall rows.now }
     requires small_wait { AreSmall wait.now }
     ensures { OnOk result (out.new.items
-        ≡ out.old.items ++ from_queue at.rules at.second at.link passage.waiters.items passage.buffered passage.credit rows.now wait.now) }
+        ≡ out.old.items
+        ++ from_queue at.rules at.second at.link passage.waiters.items passage.buffered passage.credit rows.now wait.now) }
 {
     let mut passage = passage;
     for row in rows {

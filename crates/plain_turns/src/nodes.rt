@@ -159,7 +159,8 @@ fn push_enters(
     requires near { AreNear exits.now }
     requires next { HasNext row.now.vehicle }
     ensures moves { OnOk result (out.new.items ≡ out.old.items
-        ++ Put a Buffer 0 (at_second since row.now) (entered t (exits_in exits.now (next_link row.now.vehicle)) row.now.vehicle) ∷ Mark a t ∷ []) }
+        ++ Put a Buffer 0 (at_second since row.now) (entered t (exits_in exits.now (next_link row.now.vehicle)) row.now.vehicle)
+        ∷ Mark a t ∷ []) }
     ensures exits { IfOk result (λ after. exits_in after.items ≡ one_more (next_link row.now.vehicle) (exits_in exits.now)) }
     ensures near_after { IfOk result (λ after. AreNear after.items) }
 {
@@ -259,7 +260,8 @@ fn push_pick(
     requires few { j + length entries.old.items ≤ 16 }
     ensures step { IfOk result (λ after. out.new.items
         ++ draw at.stuck at.second (word draws.now) (length entries.new.items) (j + 1) entries.new.items (exits_in after.items)
-        ≡ out.old.items ++ draw at.stuck at.second (word draws.now) (length entries.old.items) j entries.old.items (exits_in exits.items)) }
+        ≡ out.old.items
+        ++ draw at.stuck at.second (word draws.now) (length entries.old.items) j entries.old.items (exits_in exits.items)) }
     ensures near_after { IfOk result (λ after. AreNear after.items) }
     ensures entries_after { OnOk result (AreEntries entries.new.items) }
     ensures count { OnOk result (length entries.new.items + 1 ≡ length entries.old.items) }

@@ -1,4 +1,4 @@
-ghost use Rattle.std.specs.Prelude.{◌≡◌, length, nat_eq, IfOk};
+ghost use Rattle.std.specs.Prelude.{◌≡◌, IfOk};
 
 use std::alloc::AllocError;
 use std::marker::Model;
@@ -43,20 +43,6 @@ impl Model for Riders {
 }
 
 impl Riders {
-    /// How many riders there are.
-    pub fn len(&self) -> usize
-        ensures { result ≡ length self.now }
-    {
-        self.rows.len()
-    }
-
-    /// Whether nobody rides.
-    pub fn is_empty(&self) -> bool
-        ensures { result ≡ nat_eq (length self.now) 0 }
-    {
-        self.rows.is_empty()
-    }
-
     /// The same riders.
     pub fn try_clone(&self) -> Result<Riders, AllocError>
         ensures { IfOk result (λ copy. copy ≡ self.now) }

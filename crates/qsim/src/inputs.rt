@@ -6,17 +6,23 @@ use std::fs;
 use std::io::{self, ErrorKind, Read};
 use std::rt::Files;
 
+/// Whether a run has nothing to work on without this file.
+fn is_needed(file: InFile) -> bool {
+    matches!(file, InFile::Nodes | InFile::Links | InFile::Plans)
+}
+
 /// The files of the current folder, read one after the other. One that does not exist reads as
-/// empty. What they hold is not told.
+/// empty. A line on standard error says where one that is needed does not exist, and why a read
+/// failed. What they hold is not told.
 #[derive(Drop)]
-pub struct FileInputs<'a, R: Files> {
+pub struct FileInputs<'a, R: Files + Eprint> {
     rt: &'a R,
     at: Option<InFile>,
     file: Option<R::File>,
     faults: u64,
 }
 
-impl<'a, R: Files> FileInputs<'a, R> {
+impl<'a, R: Files + Eprint> FileInputs<'a, R> {
     /// No file is opened yet.
     pub fn new(rt: &'a R) -> Self
         ensures { result.faults ≡ 0 }
@@ -38,11 +44,21 @@ impl<'a, R: Files> FileInputs<'a, R> {
         }
         self.file = match fs::open(self.rt, file.name()) {
             Ok(opened) => Some(opened),
-            Err(error) if error.kind() == ErrorKind::NotFound => None,
+            Err(error) if error.kind() == ErrorKind::NotFound => {
+                self.miss(file);
+                None
+            }
             Err(error) => return Err(error),
         };
         self.at = Some(file);
         Ok(())
+    }
+
+    /// Says that a file does not exist, where it is needed.
+    fn miss(&self, file: InFile) {
+        if is_needed(file) {
+            let _ = eprintln!(self.rt; "qsim: there is no {} in this folder", file.name());
+        }
     }
 
     fn read_next(&mut self, file: InFile, into: &mut [u8]) -> io::Result<usize>
@@ -57,7 +73,7 @@ impl<'a, R: Files> FileInputs<'a, R> {
     }
 }
 
-impl<R: Files> Inputs for FileInputs<'_, R> {
+impl<R: Files + Eprint> Inputs for FileInputs<'_, R> {
     ghost left = { λ _ _. None };
 
     ghost faults = { λ s. s.faults };
@@ -68,8 +84,9 @@ impl<R: Files> Inputs for FileInputs<'_, R> {
         }
         match self.read_next(file, into) {
             Ok(count) => Ok(count),
-            Err(_) => {
+            Err(error) => {
                 self.faults = self.faults.saturating_add(1);
+                let _ = eprintln!(self.rt; "qsim: {} could not be read: {error}", file.name());
                 Err(Failed)
             }
         }

@@ -9,34 +9,41 @@ mod tests;
 use edge_files::{NoKeeper, OpenGate};
 use inputs::FileInputs;
 use outputs::FileOutputs;
-use qsim_top::qsim;
+use qsim_top::{Status, qsim};
+use std::alloc::{AllocError, Global};
 use std::env;
 use std::process::ExitCode;
+use std::rt::Env;
 
-fn words(rt: &HostRuntime) -> Option<Vec<String>> {
-    let mut words = Vec::new(rt.alloc());
-    for word in env::args(rt).ok()? {
-        words.push(word).ok()?;
+/// The words of the command line; none where they cannot be read at all, as where one is no UTF-8.
+fn words(alloc: Global, rt: &(impl Env + AllocGlobal)) -> Result<Vec<String>, AllocError> {
+    match env::args(rt) {
+        Ok(words) => words.collect(alloc),
+        Err(_) => Ok(Vec::new(alloc)),
     }
-    Some(words)
 }
 
-/// Words that cannot be read at all are answered as wrong ones.
+/// The files tell on standard error what went wrong with them; here it is want of memory.
 fn main(rt: HostRuntime) -> ExitCode {
     let alloc = rt.alloc();
-    let words = words(&rt).unwrap_or(Vec::new(alloc));
     let mut inputs = FileInputs::new(&rt);
     let mut outputs = FileOutputs::new(&rt);
     let mut keeper = NoKeeper::new();
     let gate = OpenGate::new();
-    let status = qsim(
-        &rt,
-        alloc,
-        &words,
-        &mut inputs,
-        &mut outputs,
-        &mut keeper,
-        &gate,
-    );
+    let status = match words(alloc, &rt) {
+        Ok(words) => qsim(
+            &rt,
+            alloc,
+            &words,
+            &mut inputs,
+            &mut outputs,
+            &mut keeper,
+            &gate,
+        ),
+        Err(_) => Status::NoMemory,
+    };
+    if status == Status::NoMemory {
+        let _ = rt.eprintln("qsim: out of memory");
+    }
     ExitCode::from(status.code())
 }

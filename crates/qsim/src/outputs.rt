@@ -1,15 +1,17 @@
 ghost use Rattle.std.specs.Prelude.{◌≡◌, ◌<◌, None, length, IfOk};
 ghost use Rattle.std.specs.Io.{WritesAtMost};
+ghost use Rattle.edge_files.specs.Causes.{Rose};
 
 use edge_files::{Failed, OutFile, Outputs};
 use std::fs;
-use std::io::{self, Print, Write};
+use std::io::{self, ErrorKind, Print, Write};
 use std::rt::Files;
 
 /// Files of the current folder, and standard output for the report. A file is created, or emptied,
-/// at the first write to it. What they hold is not told.
+/// at the first write to it. A line on standard error says why a write failed. What they hold is
+/// not told.
 #[derive(Drop)]
-pub struct FileOutputs<'a, R: Files + Print> {
+pub struct FileOutputs<'a, R: Files + Print + Eprint> {
     rt: &'a R,
     events: Option<R::File>,
     scores: Option<R::File>,
@@ -38,7 +40,7 @@ fn write_next<R: Files>(
     }
 }
 
-impl<'a, R: Files + Print> FileOutputs<'a, R> {
+impl<'a, R: Files + Print + Eprint> FileOutputs<'a, R> {
     /// No file is created yet.
     pub fn new(rt: &'a R) -> Self
         ensures { result.faults ≡ 0 }
@@ -50,6 +52,16 @@ impl<'a, R: Files + Print> FileOutputs<'a, R> {
             plans: None,
             faults: 0,
         }
+    }
+
+    /// Counts a failed write, and says why it failed.
+    fn fail(&mut self, file: OutFile, error: io::Error) -> Failed
+        ensures { Rose self.old.faults self.new.faults }
+    {
+        self.faults = self.faults.saturating_add(1);
+        let name = file.name().unwrap_or("standard output");
+        let _ = eprintln!(self.rt; "qsim: {name} could not be written: {error}");
+        Failed
     }
 
     fn write_to(&mut self, file: OutFile, piece: &[u8]) -> io::Result<usize>
@@ -65,7 +77,7 @@ impl<'a, R: Files + Print> FileOutputs<'a, R> {
     }
 }
 
-impl<R: Files + Print> Outputs for FileOutputs<'_, R> {
+impl<R: Files + Print + Eprint> Outputs for FileOutputs<'_, R> {
     ghost written = { λ _ _. None };
 
     ghost faults = { λ s. s.faults };
@@ -75,11 +87,9 @@ impl<R: Files + Print> Outputs for FileOutputs<'_, R> {
             return Ok(0);
         }
         match self.write_to(file, piece) {
-            Ok(count) if count > 0 => Ok(count),
-            _ => {
-                self.faults = self.faults.saturating_add(1);
-                Err(Failed)
-            }
+            Ok(0) => Err(self.fail(file, ErrorKind::WriteZero.into())),
+            Ok(count) => Ok(count),
+            Err(error) => Err(self.fail(file, error)),
         }
     }
 }

@@ -1,4 +1,4 @@
-use crate::{Asked, Command, read_words};
+use crate::{Asked, read_words};
 use std::alloc::Global;
 use std::test::Fail;
 
@@ -9,19 +9,6 @@ fn asked(alloc: Global, texts: &[&str]) -> Result<Asked, Fail> {
     }
     let asked = read_words(alloc, &words)?;
     Ok(asked)
-}
-
-#[test]
-fn commands_work(rt: HostRuntime) -> Result<(), Fail> {
-    let alloc = rt.alloc();
-    assert!(rt; matches!(asked(alloc, &["qsim", "run"])?, Asked::Work(Command::Run)));
-    assert!(rt;
-        matches!(
-            asked(alloc, &["qsim", "check"])?,
-            Asked::Work(Command::Check)
-        )
-    );
-    Ok(())
 }
 
 /// Help of the program tells of both commands, help of a command of that one.

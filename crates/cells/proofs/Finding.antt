@@ -1,0 +1,125 @@
+-- How the borders of a port are found.
+use Rattle.std.proofs.Common.{◌≡◌, ◌≢◌, ℕ, suc, ◌+◌, ◌<◌, ◌⊎◌, List, [], ◌∷◌, ◌++◌, length, sym, ap, ◌∙◌, refl, subst, inl, inr, ⊎_elim}
+use Rattle.std.proofs.Common.{length-append, arith}
+use Rattle.std.proofs.Math.ListN.{get_or-append}
+use Rattle.std.proofs.Math.Seq.{get_or-append_seam}
+use mathlib.Core.Logic.{dite}
+use native.Mathlib.Decide.{ℕ_discrete, dec_le}
+use Rattle.cells.specs.declared.table.Channel.{Channel}
+use Rattle.cells.specs.declared.table.Border.{Border}
+use Rattle.cells.specs.Rule.{no_border, from_of, to_of, AreSingle}
+use Rattle.cells.specs.Ports.{IsBorder, AreBorders, border_at, AreFound, Ascends}
+
+pub found_none : (cs : List Channel) (p : ℕ) → AreFound cs p 0 0 []
+found_none cs p = record {
+  each = λ k lt. absurd (omega arith);
+  before = λ k lt. absurd (omega arith);
+  all = λ d lt is b. absurd (⊎_elim (λ u. omega arith) (λ u. let v = u.1 in omega arith) b);
+  once = λ j k lj lk e. absurd (omega arith);
+  climbs = λ j k lt lk. absurd (omega arith);
+}
+
+module _ (cs : List Channel) (p q e : ℕ) (borders : List Border) (f : AreFound cs p q e borders) where
+  -- the channel e is another
+  pub found_skip : ((from_of cs e ≡ q) → (to_of cs e ≡ p) → ⊥) → AreFound cs p q (e + 1) borders
+  found_skip no_channel = record {
+    each = f.each;
+    before = λ k lt. ⊎_elim (λ u. inl u) (λ u. let v = u.1 in inr (u.0, omega arith)) (f.before k lt);
+    all = λ d lt is b. ⊎_elim (λ u. f.all d lt is (inl u))
+        (λ u. let v = u.1 in dite (ℕ_discrete d e) (λ y. absurd (no_channel (ap (from_of cs) (sym y) ∙ u.0) (ap (to_of cs) (sym y) ∙ is)))
+        (λ ne. f.all d lt is (inr (u.0, omega arith)))) b;
+    once = f.once;
+    climbs = f.climbs;
+  }
+
+  module _ (r : Border) (ok : IsBorder cs p r) (sender : r.from ≡ q) (at : r.inward ≡ e) where
+    abbrev more : List Border
+    more = borders ++ r ∷ []
+
+    old_border : (k : ℕ) → k < length borders → border_at more k ≡ border_at borders k
+    old_border k lt = get_or-append borders (r ∷ []) no_border k lt
+
+    new_border : (k : ℕ) → k ≡ length borders → border_at more k ≡ r
+    new_border k is = ap (border_at more) is ∙ get_or-append_seam borders r [] no_border
+
+    long : length more ≡ length borders + 1
+    long = length-append borders (r ∷ [])
+
+    by_place : (k : ℕ) → k < length more → (k < length borders) ⊎ (k ≡ length borders)
+    by_place k lt = let l = long in dite (dec_le (suc k) (length borders)) (λ y. inl y) (λ n. inr (omega arith))
+
+    pub found_push : AreFound cs p q (e + 1) more
+    found_push = record {
+      each = λ k lt. ⊎_elim (λ o. subst (IsBorder cs p) (sym (old_border k o)) (f.each k o))
+          (λ o. subst (IsBorder cs p) (sym (new_border k o)) ok) (by_place k lt);
+      before = λ k lt. ⊎_elim
+          (λ o. subst (λ x. (x.from < q) ⊎ ((x.from ≡ q) × (x.inward < e + 1))) (sym (old_border k o)) (⊎_elim (λ u. inl u)
+          (λ u. let v = u.1 in inr (u.0, omega arith)) (f.before k o)))
+          (λ o. subst (λ x. (x.from < q) ⊎ ((x.from ≡ q) × (x.inward < e + 1))) (sym (new_border k o)) (inr (sender, omega arith)))
+          (by_place k lt);
+      all = λ d lt is b. let l = long in
+          let old = λ (w : (k : ℕ) × (k < length borders) × ((border_at borders k).inward ≡ d)). let got : (k : ℕ) × (k < length more)
+          × ((border_at more k).inward ≡ d) = (
+            w.0,
+            (let z = w.1 in omega arith),
+            ap (λ (x : Border). x.inward) (old_border w.0 w.1)
+                ∙ w.2,
+          ) in got in
+          ⊎_elim (λ u. old (f.all d lt is (inl u))) (λ u. let v = u.1 in dite (ℕ_discrete d e)
+          (λ y. (length borders, omega arith, ap (λ (x : Border). x.inward) (new_border (length borders) refl) ∙ at ∙ sym y))
+          (λ ne. old (f.all d lt is (inr (u.0, omega arith))))) b;
+      once = λ j k lj lk same. ⊎_elim
+          (λ oj. ⊎_elim
+          (λ ok'. f.once j k oj ok' (ap (λ (x : Border). x.inward) (sym (old_border j oj)) ∙ same
+          ∙ ap (λ (x : Border). x.inward) (old_border k ok')))
+          (λ nk. absurd (other j oj (ap (λ (x : Border). x.inward) (sym (old_border j oj)) ∙ same
+          ∙ ap (λ (x : Border). x.inward) (new_border k nk) ∙ at)))
+          (by_place k lk))
+          (λ nj. ⊎_elim
+          (λ ok'. absurd (other k ok' (ap (λ (x : Border). x.inward) (sym (old_border k ok')) ∙ sym same
+          ∙ ap (λ (x : Border). x.inward) (new_border j nj) ∙ at)))
+          (λ nk. nj ∙ sym nk)
+          (by_place k lk))
+          (by_place j lj);
+      climbs = λ j k lt lk. ⊎_elim
+          (λ ok'. let oj : j < length borders = omega arith in let a = f.climbs j k lt ok' in
+          let x = ap (λ (x : Border). x.from) (old_border j oj) in let y = ap (λ (x : Border). x.from) (old_border k ok') in
+          omega arith)
+          (λ nk. let oj : j < length borders = omega arith in let x = ap (λ (x : Border). x.from) (old_border j oj) in
+          let y = ap (λ (x : Border). x.from) (new_border k nk) in
+          ⊎_elim (λ u. omega arith) (λ u. let v = u.0 in omega arith) (f.before j oj))
+          (by_place k lk);
+    }
+      where
+        other : (j : ℕ) → j < length borders → (border_at borders j).inward ≢ e
+        other j lt is = ⊎_elim (λ u. let a = (f.each j lt).sender in let b = ap (from_of cs) is in let c = ap (from_of cs) at in
+            let d = ok.sender in omega arith) (λ u. let v = u.1 in omega arith) (f.before j lt)
+
+-- all channels from q were after_look
+pub found_next : (cs : List Channel) (p q : ℕ) (borders : List Border) → AreFound cs p q (length cs) borders
+    → AreFound cs p (q + 1) 0 borders
+found_next cs p q borders f = record {
+  each = f.each;
+  before = λ k lt. inl (⊎_elim (λ u. omega arith) (λ u. let v = u.0 in omega arith) (f.before k lt));
+  all = λ d lt is b. ⊎_elim (λ u. dite (ℕ_discrete (from_of cs d) q) (λ y. f.all d lt is (inr (y, lt)))
+      (λ ne. f.all d lt is (inl (omega arith)))) (λ u. let v = u.1 in absurd (omega arith)) b;
+  once = f.once;
+  climbs = f.climbs;
+}
+
+found_ascends : (cs : List Channel) (p q e : ℕ) (borders : List Border) → AreSingle cs → AreFound cs p q e borders → Ascends borders
+found_ascends cs p q e borders single f j k lt lk =
+    let lj : j < length borders = omega arith in let a = f.climbs j k lt lk in let rj = f.each j lj in let rk = f.each k lk in
+    dite (ℕ_discrete (border_at borders j).from (border_at borders k).from)
+    (λ y. let same = f.once j k lj lk (single (border_at borders j).inward (border_at borders k).inward rj.inside rk.inside (rj.sender ∙ y
+    ∙ sym rk.sender) (rj.receiver ∙ sym rk.receiver)) in absurd (omega arith))
+    (λ ne. omega arith)
+
+pub found_all : (cs : List Channel) (p count : ℕ) (borders : List Border) → ((e : ℕ) → e < length cs → from_of cs e < count) → AreSingle cs
+    → AreFound cs p count 0 borders → AreBorders cs p borders
+found_all cs p count borders within single f = record {
+  each = f.each;
+  all = λ d lt is. f.all d lt is (inl (within d lt));
+  once = f.once;
+  ascend = found_ascends cs p count 0 borders single f;
+}

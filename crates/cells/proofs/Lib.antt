@@ -1,0 +1,14 @@
+pub mod Allowed
+pub mod Channels
+pub mod Fillings
+pub mod Finding
+pub mod Fitting
+pub mod Heads
+pub mod Homes
+pub mod Lawful
+pub mod Orders
+pub mod Rings
+pub mod Seats
+pub mod Steps
+pub mod Takings
+pub mod Uses

@@ -1,0 +1,60 @@
+// How a port publishes a second.
+ghost use Rattle.std.specs.Prelude.{◌≡◌, ℕ, ◌+◌, ◌<◌, true, []};
+ghost use Rattle.cells.specs.Ports.{IsPort, IsFilling, is_put, is_awaited, handover, degree, waits, still, partition_of, done_of};
+ghost use Rattle.cells.specs.Ports.{neighbours_of, borders_of, TakesNone};
+
+use crate::WORDS_APART;
+use crate::board::{Board, Handover, Port};
+use crate::slots::load_out;
+use crate::table::{Publishing, Traffic};
+use std::mem::replace;
+
+fn take_put<P: Drop>(handover: &mut Handover<P>) -> P
+    requires { is_put handover.old ≡ true }
+    ensures { (handover.old ≡ Handover.Put result) × (handover.new ≡ Handover.Awaited) }
+{
+    match replace(handover, Handover::Awaited) {
+        Handover::Put(parcel) => parcel,
+        _ => unreachable!(),
+    }
+}
+
+impl<T: Traffic> Port<T> {
+    /// Puts the parcels into the out-slots.
+    fn fill(&mut self, board: &Board<T>)
+        requires port { IsPort T.right board.now self.old }
+        requires all { (k : ℕ) → k < degree self.old → is_put (handover self.old k) ≡ true }
+        ensures filled { IsFilling T.right board.now self.old self.new }
+        ensures empty { self.new.order.items ≡ [] }
+    {
+        while let Some(k) = self.order.pop() {
+            let border = self.borders[k];
+            let t = self.done;
+            let parcel = take_put(&mut self.handovers[k]);
+            load_out(board, &mut self.seat, border, t, parcel);
+        }
+    }
+
+    /// Ends the second that this port is about to do, for which a parcel was put for every neighbour. Once the parcels stand in their
+    /// slots, one atomic store tells all threads that this partition has done `done() + 1` seconds.
+    pub fn publish(&mut self, board: &Board<T>)
+        requires port { IsPort T.right board.now self.old }
+        requires all { (k : ℕ) → k < degree self.old → is_put (handover self.old k) ≡ true }
+        requires last { done_of self.old < u32.MAX }
+        ensures port { IsPort T.right board.now self.new }
+        ensures done { done_of self.new ≡ done_of self.old + 1 }
+        ensures awaited { (k : ℕ) → k < degree self.new → is_awaited (handover self.new k) ≡ true }
+        ensures counts { (waits self.new ≡ waits self.old) × (still self.new ≡ waits self.old) }
+        ensures taken { TakesNone self.old self.new }
+        ensures same { (partition_of self.new ≡ partition_of self.old) × (neighbours_of self.new ≡ neighbours_of self.old)
+            × (borders_of self.new ≡ borders_of self.old) }
+    {
+        self.fill(board);
+        board.table.shared.store::<Publishing>(
+            &mut self.seat,
+            WORDS_APART * self.partition as usize,
+            self.done as u64 + 1,
+        );
+        self.done += 1;
+    }
+}

@@ -16,6 +16,9 @@ ghost use Rattle.scenario.specs.Views.{roads_view, timetable_view, scenario_view
 use crate::faults::{ScenarioFault, Stop};
 use crate::files::Files;
 use crate::legs::all_plans_fault;
+use crate::letting_go::{
+    let_book_go, let_files_go, let_name_list_go, let_names_go, let_plans_go, let_rows_go,
+};
 use crate::numbers::{Numbering, numbers_in};
 use crate::persons::read_persons;
 use crate::renumbering::plans_in_town;
@@ -87,6 +90,22 @@ fn no_signals(alloc: Global, links: usize) -> Result<GreenList, AllocError>
     Ok(GreenList { rows })
 }
 
+/// Copies of two lists of names.
+fn copies(first: &Names, second: &Names) -> Result<(Names, Names), AllocError>
+    ensures { IfOk result (λ both. (both.0 ≡ first.now) × (both.1 ≡ second.now)) }
+{
+    let Ok(one) = first.try_clone() else {
+        return Err(AllocError);
+    };
+    match second.try_clone() {
+        Ok(other) => Ok((one, other)),
+        Err(_) => {
+            let_name_list_go(one);
+            Err(AllocError)
+        }
+    }
+}
+
 /// The names of all that events tell of.
 fn book_of(
     persons: Names,
@@ -96,18 +115,25 @@ fn book_of(
 ) -> Result<Book, AllocError>
     ensures { IfOk result (λ book. book ≡ book_of (roads_view network.now) persons kinds (timetable_view schedule.now)) }
 {
-    let links = network.link_names.try_clone()?;
-    let stops = schedule.stops.names.try_clone()?;
-    let lines = schedule.routes.lines.try_clone()?;
-    let departures = schedule.departures.names.try_clone()?;
-    Ok(Book {
-        persons,
-        links,
-        kinds,
-        stops,
-        lines,
-        departures,
-    })
+    let Ok((links, stops)) = copies(&network.link_names, &schedule.stops.names) else {
+        let_names_go(persons, kinds);
+        return Err(AllocError);
+    };
+    match copies(&schedule.routes.lines, &schedule.departures.names) {
+        Ok((lines, departures)) => Ok(Book {
+            persons,
+            links,
+            kinds,
+            stops,
+            lines,
+            departures,
+        }),
+        Err(_) => {
+            let_names_go(persons, kinds);
+            let_names_go(links, stops);
+            Err(AllocError)
+        }
+    }
 }
 
 /// The town of these settings, roads and rows, with this book and these signals.
@@ -167,13 +193,18 @@ fn named_town(
     requires few { length persons ≤ 65536 }
     ensures { IfOk result (λ town. rows_of town ≡ town_of (values_of settings) (roads_view network) persons kinds (timetable_view schedule)) }
 {
-    let Ok(greens) = no_signals(alloc, network.links.len()) else {
-        return Err(AllocError);
-    };
     let Ok(book) = book_of(persons, kinds, &network, &schedule) else {
+        let_rows_go(network, schedule);
         return Err(AllocError);
     };
-    Ok(town_of(settings, network, schedule, book, greens))
+    match no_signals(alloc, network.links.len()) {
+        Ok(greens) => Ok(town_of(settings, network, schedule, book, greens)),
+        Err(_) => {
+            let_rows_go(network, schedule);
+            let_book_go(book);
+            Err(AllocError)
+        }
+    }
 }
 
 /// The first leg of the plans that does not fit the files behind plans.csv, where there is one.
@@ -214,15 +245,23 @@ fn settled(
     let PlanFile {
         persons,
         kinds,
+        lines,
+        stops,
         plans,
-        ..
+        starts: _,
     } = file;
+    let_names_go(lines, stops);
     let Ok(plans) = plans_in_town(alloc, &numbering, plans) else {
+        let_names_go(persons, kinds);
+        let_rows_go(network, schedule);
         return Err(AllocError);
     };
     match named_town(alloc, settings, network, schedule, persons, kinds) {
         Ok(town) => Ok(Scenario { town, plans }),
-        Err(_) => Err(AllocError),
+        Err(_) => {
+            let_plans_go(plans);
+            Err(AllocError)
+        }
     }
 }
 
@@ -241,9 +280,11 @@ fn together(
         (scenario_of (values_of settings) (roads_view network) (plan_rows_of file) (timetable_view schedule)) }
 {
     let Ok(numbering) = numbering_in(alloc, &file, &schedule) else {
+        let_files_go(file, network, schedule);
         return Err(Stop::NoMemory);
     };
     if let Some(fault) = crossed(&numbering, &schedule, &file) {
+        let_files_go(file, network, schedule);
         return Err(Stop::Fault(fault));
     }
     match settled(alloc, settings, network, file, schedule, numbering) {

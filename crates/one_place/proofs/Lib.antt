@@ -1,3 +1,5 @@
 pub mod Places
 pub mod Boarding
 pub mod Turns
+pub mod Taken
+pub mod Vehicles

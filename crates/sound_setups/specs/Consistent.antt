@@ -17,7 +17,8 @@ link_of_stay stays k = (get_or stays k (record { kind = 0; link = 0; end = None 
 -- each leg of a plan leads from the link of the activity before it to that of the one after it
 abbrev pub IsConsistentPlan : Setup → Itinerary → Type 0
 IsConsistentPlan S plan =
-    (k : ℕ) → k < length plan.ways → LeadsFrom S (link_of_stay plan.stays k) (link_of_stay plan.stays (k + 1)) (get_or plan.ways k (Drive []))
+    (k : ℕ) → k < length plan.ways
+    → LeadsFrom S (link_of_stay plan.stays k) (link_of_stay plan.stays (k + 1)) (get_or plan.ways k (Drive []))
 
 -- these calls are on the links of their stops
 abbrev pub AreAtStops : Setup → List StopCall → Type 0

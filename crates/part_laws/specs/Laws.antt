@@ -1,13 +1,17 @@
 -- The laws of a day in parts.
-use Rattle.std.specs.Prelude.{◌≡◌, ℕ, suc, ◌*◌, ◌<◌, ◌≤◌, Bool, true, false, List, ◌++◌, length, map, All}
+use Rattle.std.specs.Prelude.{◌≡◌, ℕ, suc, ◌*◌, ◌<◌, ◌≤◌, Bool, true, false, List, ◌++◌, length, map, All, ◌==◌}
 use Rattle.std.specs.List.{Contains}
 use Rattle.events.specs.declared.event.Event.{Event}
+use Rattle.events.specs.declared.event.VehicleId.{VehicleId}
+use Rattle.traffic.specs.declared.world.Place.TheVariants.{Riding}
 use Rattle.traffic.specs.Lists.{below}
 use Rattle.traffic.specs.Setup.{Setup, seconds_of, hole_of}
+use Rattle.traffic.specs.Rows.{person_of}
+use Rattle.traffic.specs.Persons.{link_of_vehicle}
 use Rattle.traffic.specs.Day.{world_at, day as events_of_day}
 use Rattle.traffic.specs.Frames.{Ascends}
-use Rattle.parts.specs.Owners.{Owner, owner_of, begins_in, crosses, near, longest_lag, lag}
-use Rattle.parts.specs.Parts.{Held, Passed, Parcel, entering_row, part, held, ready, out, own_events}
+use Rattle.parts.specs.Owners.{Owner, owner_of, begins_in, crosses, link_of_rider, near, longest_lag, lag}
+use Rattle.parts.specs.Parts.{Held, Passed, Parcel, entering_row, part, held, ready, out, own_events, ends_with}
 use Rattle.parts.specs.Core.{Core, Allowed, Reaches, Shows, advance}
 use Rattle.parts.specs.Merge.{Merges}
 use Rattle.part_laws.specs.Alone.{absorb, given, alone, parcel_to, tells_alone}
@@ -55,8 +59,8 @@ pub record AdvanceInAnyOrder (S : Setup) (own : Owner) (parts : ℕ) : Type 0 wh
   pub kept : (end : ℕ) (ps : List ℕ) (d : Core Held Parcel Event) → Reaches (rule S own parts) end ps (start_of S own) d
       → Kept (rule S own parts) (held S own) (out S own) (own_events S own) d
   -- each person is in one part, or in one parcel that is not absorbed
-  pub in_one : (end i : ℕ) → i < length S.persons → (ps : List ℕ) (d : Core Held Parcel Event) → Reaches (rule S own parts) end ps (start_of S own) d
-      → PersonInOne S own parts i d.done
+  pub in_one : (end i : ℕ) → i < length S.persons → (ps : List ℕ) (d : Core Held Parcel Event)
+      → Reaches (rule S own parts) end ps (start_of S own) d → PersonInOne S own parts i d.done
   -- while one has not come to the end, some may advance
   pub no_dead_end : (end p : ℕ) (c : Core Held Parcel Event) → p < parts → c.done p < end → MayGoOn (rule S own parts) end c
   -- as many allowed events as all have seconds bring all to the end
@@ -66,12 +70,23 @@ pub record AdvanceInAnyOrder (S : Setup) (own : Owner) (parts : ℕ) : Type 0 wh
   pub shown : (goes : ℕ → Bool) (end p : ℕ) (c d : Core Held Parcel Event) → Shows (rule S own parts) goes c d → goes p ≡ true
       → Allowed (rule S own parts) end p c → ShowsNext S own parts goes end p c d
 
+-- a person ends with one partition
+pub record EndsWithOne (S : Setup) (own : Owner) (parts i : ℕ) : Type 0 where
+  pub who : ℕ
+  pub there : who < parts
+  pub ends : (p : ℕ) → p < parts → ends_with S own parts p i ≡ (who == p)
+
 -- What all partitions tell makes the day.
 pub record MakeTheDay (S : Setup) (own : Owner) (parts : ℕ) : Type 0 where
   -- what each tells is in the order of the keys, and no two tell events with one key
   pub ascends : (p : ℕ) → Ascends (all_told S own parts p)
   pub apart : (p q : ℕ) → p < parts → q < parts → (a b : Event) → Contains (all_told S own parts p) a → Contains (all_told S own parts q) b
       → a.key ≡ b.key → p ≡ q
+  -- at the end each person belongs to one of them: it has him, or sent him in a parcel that is not absorbed; and who rides is on the link
+  -- of the row that lists him
+  pub ends : (i : ℕ) → i < length S.persons → EndsWithOne S own parts i
+  pub rides : (i : ℕ) (v : VehicleId) → i < length S.persons → (person_of i (world_at S S.end)).place ≡ Riding v
+      → link_of_vehicle v (world_at S S.end).rows ≡ link_of_rider i (world_at S S.end).rows
   -- merged by the keys it is the day
   pub merged : Merges (map (all_told S own parts) (below parts)) (events_of_day S)
 

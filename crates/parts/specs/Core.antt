@@ -8,9 +8,9 @@ pub record Core (H P E : Type 0) : Type 0 where
   pub told : ℕ → List E
   pub box : ℕ → ℕ → List P
 
--- How many partitions there are, which are neighbours, and with which lag what the first does becomes known to the second (the lag the other
--- way may be another one); and what one does in its second with what it holds and what it absorbs: what it then holds, what it sends to each,
--- and what it tells.
+-- How many partitions there are, which are neighbours, and with which lag what the first does becomes known to the second (the lag the
+-- other way may be another one); and what one does in its second with what it holds and what it absorbs: what it then holds, what it sends
+-- to each, and what it tells.
 pub record Rule (H P E : Type 0) : Type 0 where
   pub parts : ℕ
   pub near : ℕ → ℕ → Bool
@@ -43,7 +43,10 @@ advance R p c =
       done = λ x. if x == p then t + 1 else c.done x;
       hold = λ x. if x == p then R.step p t (c.hold p) got else c.hold x;
       told = λ x. if x == p then c.told p ++ R.tell p t (c.hold p) got else c.told x;
-      box = λ a b. if (a == p) && R.near p b then c.box a b ++ R.send p t (c.hold p) got b ∷ [] else if (b == p) && absorbs R c p a then rest (c.box a b) else c.box a b;
+      box = λ a b.
+          if (a == p) && R.near p b then c.box a b ++ R.send p t (c.hold p) got b ∷ []
+          else if (b == p) && absorbs R c p a then rest (c.box a b)
+          else c.box a b;
     }
 
 -- it is allowed of a partition that has not come to the end, while no neighbour is too far behind
@@ -61,8 +64,8 @@ Reaches {H} {P} {E} R end (p ∷ ps) c d = Allowed R end p c × Reaches R end ps
 abbrev pub start : {H P E : Type 0} → (ℕ → H) → Core H P E
 start {H} {P} {E} hold = record { done = λ p. 0; hold = hold; told = λ p. []; box = λ a b. [] }
 
--- What the second state says the first one shows: the done seconds of each partition, what those that go on hold and have told, and what was
--- sent to them and not absorbed. So a state of few partitions, of which some have stopped, stands for a state of the core.
+-- What the second state says the first one shows: the done seconds of each partition, what those that go on hold and have told, and what
+-- was sent to them and not absorbed. So a state of few partitions, of which some have stopped, stands for a state of the core.
 pub record Shows {H P E : Type 0} (R : Rule H P E) (goes : ℕ → Bool) (c d : Core H P E) : Type 0 where
   pub done : (p : ℕ) → p < R.parts → c.done p ≡ d.done p
   pub hold : (p : ℕ) → p < R.parts → goes p ≡ true → c.hold p ≡ d.hold p

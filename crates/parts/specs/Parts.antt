@@ -252,4 +252,5 @@ ends_with S own parts p i =
 -- the events of phase E that belong to p, among so many partitions
 unfoldable pub own_end_events : Setup → Owner → ℕ → ℕ → List Event
 own_end_events S own parts p =
-    flat_map (λ i. keyed S.end (phase_code phase.E) i 0 (stranded S (world_at S S.end) i)) (filter (ends_with S own parts p) (below (length S.persons)))
+    flat_map (λ i. keyed S.end (phase_code phase.E) i 0 (stranded S (world_at S S.end) i))
+    (filter (ends_with S own parts p) (below (length S.persons)))

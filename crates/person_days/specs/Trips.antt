@@ -67,19 +67,22 @@ Says places k w m a = (a.0 ≡ w) × places k a.1 × (a.2 ≡ m)
 -- activity k ends, of its kind, and leg k of the plan departs there, by its mode
 abbrev pub Departs : Places → Setup → ℕ → ℕ → Step → Step → Type 0
 Departs places S i k a b =
-    (k < legs S i) × Says places k word.ActEnd (more.Kind (act S i k).kind) a × Says places k word.Departure (more.Mode (mode_of_way (leg S i k))) b
+    (k < legs S i)
+    × Says places k word.ActEnd (more.Kind (act S i k).kind) a
+    × Says places k word.Departure (more.Mode (mode_of_way (leg S i k))) b
 
 -- leg k arrives at the activity after it, by its mode, and that activity starts, of its kind
 abbrev pub Arrives : Places → Setup → ℕ → ℕ → Step → Step → Type 0
 Arrives places S i k a b =
-    Says places (k + 1) word.Arrival (more.Mode (mode_of_way (leg S i k))) a × Says places (k + 1) word.ActStart (more.Kind (act S i (k + 1)).kind) b
+    Says places (k + 1) word.Arrival (more.Mode (mode_of_way (leg S i k))) a
+    × Says places (k + 1) word.ActStart (more.Kind (act S i (k + 1)).kind) b
 
 -- leg k is stuck, wherever that is, by its mode
 abbrev pub IsStuck : Setup → ℕ → ℕ → Step → Type 0
 IsStuck S i k a = Says anywhere k word.StuckAndAbort (more.Mode (mode_of_way (leg S i k))) a
 
--- The steps from leg k of the plan on come in turn, at these places: leg by leg an activity ends and the leg departs; then it arrives and the
--- next activity starts, and the later legs follow; or it is stuck, and nothing follows.
+-- The steps from leg k of the plan on come in turn, at these places: leg by leg an activity ends and the leg departs; then it arrives and
+-- the next activity starts, and the later legs follow; or it is stuck, and nothing follows.
 abbrev pub InTurn : Places → Setup → ℕ → ℕ → List Step → Type 0
 InTurn places S i k [] = Unit {0}
 InTurn places S i k (a ∷ b ∷ c ∷ []) = Departs places S i k a b × IsStuck S i k c

@@ -8,10 +8,12 @@ use Rattle.person_days.specs.Trips.{InTurn, at_activities, steps, legs, of_perso
 
 -- the events of person i come as his plan says
 pub record IsToldAsPlanned (S : Setup) (i : ℕ) : Type 0 where
-  -- trip after trip: an activity ends and a leg departs, on its link; it arrives on the link of the next activity, which starts, or he is stuck
+  -- trip after trip: an activity ends and a leg departs, on its link; it arrives on the link of the next activity, which starts, or he is
+  -- stuck
   pub turn : InTurn (at_activities S i) S i 0 (steps i (day S))
   -- after he is stuck nothing more is told of him
-  pub last : (before later : List Event) (e : Event) → filter (of_person i) (day S) ≡ before ++ e ∷ later → e.word ≡ StuckAndAbort → later ≡ []
+  pub last : (before later : List Event) (e : Event) → filter (of_person i) (day S) ≡ before ++ e ∷ later → e.word ≡ StuckAndAbort
+      → later ≡ []
   -- at most eight events name him for each leg of his plan, and so at most 64
   pub few : length (filter (of_person i) (day S)) ≤ 8 * legs S i
   pub most : length (filter (of_person i) (day S)) ≤ 64

@@ -1,7 +1,7 @@
 -- A stable sort of those who wait, the last one first, is the order in which they come.
 use Rattle.std.proofs.Common.{◌≡◌, ℕ, suc, ◌<◌, Bool, true, false, cond, List, [], ◌∷◌, ◌++◌, length, get_or, refl, sym, ap, ◌∙◌, subst, inl, inr, arith}
 use native.Mathlib.Numerals.{unary_clauses}
-use Rattle.std.specs.Prelude.{◌&&◌, ◌||◌, ◌==◌, nat_lt, filter, reverse}
+use Rattle.std.specs.Prelude.{◌&&◌, ◌||◌, ◌==◌, nat_lt, filter, reverse, AllPairs}
 use Rattle.std.specs.List.Sorted.{IsSortedBy, IsSortedByKey, IsStableBy, IsStableByKey, ties}
 use Rattle.std.specs.Cmp.{IsStrictWeakOrder}
 use Rattle.std.specs.Ordering.{nat_cmp, ordering_then, is_lt}
@@ -9,12 +9,14 @@ use Rattle.std.specs.declared.cmp.Ordering.{Ordering}
 use Rattle.std.specs.declared.cmp.Ordering.TheVariants.{Less, Equal, Greater}
 use Rattle.std.proofs.Math.Path.{fun_ext}
 use Rattle.std.proofs.lemmas.Bool.{cases_Bool}
+use Rattle.std.proofs.lemmas.Bool.Decides.{nat_tests}
 use Rattle.std.proofs.lemmas.List.{append-nil, reverse-append}
 use Rattle.std.proofs.lemmas.List.Elements.{filter-append}
 use Rattle.std.proofs.lemmas.List.Sorted.{sorted_far, ranks_by}
 use Rattle.std.proofs.lemmas.Cmp.{nat_cmp_total, on_total, then_total}
 use Rattle.traffic.specs.declared.world.Waiter.{Waiter}
-use Rattle.traffic.specs.Stops.{comes_first, among, in_turn}
+use Rattle.traffic.specs.Stops.{comes_first, ComesBefore, among, in_turn}
+use Rattle.traffic.proofs.ComeInTurn.{turn-order}
 
 -- nobody in the list comes before x
 abbrev Behind : {X : Type 0} → (X → X → Bool) → X → List X → Type 0
@@ -86,31 +88,19 @@ rises_once lt o (y ∷ ys) (z ∷ zs) g h e =
     let q : y ≡ z = cc in
     ap (λ x. x ∷ ys) q ∙ ap (λ xs. z ∷ xs) (rises_once lt o ys zs g.1 h.1 (λ x. same_later (ties lt x) z ys zs (rw q at (e x))))
 
--- one more among those who stand in turn
-behind_more : {X : Type 0} (lt : X → X → Bool) → IsStrictWeakOrder lt → (w x : X) (xs : List X) → lt x w ≡ false → Behind lt x xs → Behind lt w xs
-behind_more lt o w x [] p h = tt
-behind_more lt o w x (y ∷ ys) p h = (o.chain y x w h.0 p, behind_more lt o w x ys p h.1)
+-- those who wait come in turn
+not_first : (a b : Waiter) → ComesBefore a b → comes_first b a ≡ false
+not_first a b h = grind (arith, nat_tests)
 
-behind_among : (x w : Waiter) (ys : List Waiter) → comes_first w x ≡ false → Behind comes_first x ys → Behind comes_first x (among w ys)
-unfolding among
-behind_among x w [] p h = (p, tt)
-behind_among x w (y ∷ ys) p h = elim (cases_Bool (comes_first w y)) [
-  | inl q ↦ rw q (p, h)
-  | inr q ↦ rw q (h.0, behind_among x w ys p h.1)
-]
+rises_pairs : (ws : List Waiter) → AllPairs ComesBefore ws → Rises comes_first ws
+rises_pairs [] h = tt
+rises_pairs (w ∷ ws) h = (
+  behind_all comes_first w ws (λ k d p. not_first w (get_or ws k d) (h 0 (suc k) d (omega arith) (omega arith))),
+  rises_pairs ws (λ i j d p q. h (suc i) (suc j) d (omega arith) (omega arith)),
+)
 
-rises_among : IsStrictWeakOrder comes_first → (w : Waiter) (ys : List Waiter) → Rises comes_first ys → Rises comes_first (among w ys)
-unfolding among
-rises_among o w [] h = (tt, tt)
-rises_among o w (y ∷ ys) h = elim (cases_Bool (comes_first w y)) [
-  | inl q ↦ rw q (let p = o.one_way w y q in ((p, behind_more comes_first o w y ys p h.0), h))
-  | inr q ↦ rw q (behind_among y w ys q h.0, rises_among o w ys h.1)
-]
-
-rises_in_turn : IsStrictWeakOrder comes_first → (ws : List Waiter) → Rises comes_first (in_turn ws)
-unfolding in_turn
-rises_in_turn o [] = tt
-rises_in_turn o (w ∷ ws) = rises_among o w (in_turn ws) (rises_in_turn o ws)
+rises_in_turn : (ws : List Waiter) → Rises comes_first (in_turn ws)
+rises_in_turn ws = rises_pairs (in_turn ws) (turn-order ws)
 
 -- one more keeps the order of those who tie with somebody, and stands last among them
 right_of_tie : {X : Type 0} (lt : X → X → Bool) (x w : X) → ties lt x w ≡ true → lt w x ≡ false
@@ -150,7 +140,7 @@ ties_in_turn : IsStrictWeakOrder comes_first → (x : Waiter) (ws : List Waiter)
 unfolding in_turn
 ties_in_turn o x [] = refl
 ties_in_turn o x (w ∷ ws) =
-    ties_among o x w (in_turn ws) (rises_in_turn o ws)
+    ties_among o x w (in_turn ws) (rises_in_turn ws)
     ∙ ap (λ xs. xs ++ filter (ties comes_first x) (w ∷ [])) (ties_in_turn o x ws)
     ∙ sym (filter-append (ties comes_first x) (reverse ws) (w ∷ []))
     ∙ ap (filter (ties comes_first x)) (sym (reverse-append (w ∷ []) ws))
@@ -186,4 +176,4 @@ sorted_in_turn ws ys up alike =
     let o = comes_in_order in
     let P : (Waiter → Waiter → Bool) → Type 0 = λ lt. IsSortedBy lt ys × IsStableBy lt (reverse ws) ys in
     let h : IsSortedBy comes_first ys × IsStableBy comes_first (reverse ws) ys = subst P (sym comes_is) (up, alike) in
-    rises_once comes_first o ys (in_turn ws) (rises_sorted comes_first o ys h.0) (rises_in_turn o ws) (λ x. h.1 x ∙ sym (ties_in_turn o x ws))
+    rises_once comes_first o ys (in_turn ws) (rises_sorted comes_first o ys h.0) (rises_in_turn ws) (λ x. h.1 x ∙ sym (ties_in_turn o x ws))

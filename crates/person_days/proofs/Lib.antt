@@ -2,4 +2,4 @@ pub mod Events
 pub mod Turns
 pub mod Days
 pub mod Sound
-mod InTime
+pub mod InTime

@@ -8,9 +8,9 @@ use Rattle.schedule.specs.Routes.{routes_fault}
 use Rattle.settings.specs.Faults.{settings_fault}
 use Rattle.town.specs.Rows.{ends_of}
 use Rattle.scenario.specs.declared.faults.ScenarioFault.{ScenarioFault}
-use Rattle.scenario.specs.Texts.{Texts}
+use Rattle.scenario.specs.Texts.{Texts, bytes_in}
 use Rattle.scenario.specs.Faults.{text_fault, in_file}
-use Rattle.scenario.specs.Given.{scenario_fault, roads_fault, persons_fault, timetable_fault, cross_fault, on_roads_fault, roads_of, persons_on, timetable_on, stop_names, stop_rows}
+use Rattle.scenario.specs.Given.{scenario_fault, roads_fault, persons_fault, timetable_fault, cross_fault, on_roads_fault, roads_of, timetable_on, stop_names, stop_rows}
 use Rattle.qsim_top.specs.Packing.{first_long, packed, Same}
 
 abbrev IsThere : Option ScenarioFault → Type 0
@@ -85,7 +85,7 @@ abbrev D : Texts → Option ScenarioFault
 D T = timetable_fault (roads_of T).link_names (ends_in T) T.stops T.routes T.departures
 
 abbrev E : Texts → Option ScenarioFault
-E T = cross_fault (persons_on (roads_of T) T.plans) (timetable_on (roads_of T) T.stops T.routes T.departures)
+E T = cross_fault (roads_of T) (bytes_in T.plans) (timetable_on (roads_of T) T.stops T.routes T.departures)
 
 fault_is : (T : Texts) → scenario_fault T ≡ chain (A T) (B T) (C T) (D T) (E T)
 unfolding scenario_fault on_roads_fault chain

@@ -1,12 +1,29 @@
--- Every day is lawful.
+-- Every day is lawful, and that of files without a fault follows the plans.
+use Rattle.std.proofs.Common.{◌≡◌, ◌∙◌, ℕ, ◌<◌, List, length, map, None, ap, subst}
+use Rattle.std.proofs.lemmas.List.{length-map}
+use Rattle.std.proofs.lemmas.List.Elements.{All-from_recursion}
+use Rattle.plans.specs.Parts.{Parts}
+use Rattle.traffic.specs.declared.rows.Stage.TheVariants.{Buffer}
 use Rattle.traffic.specs.Setup.{Setup}
-use Rattle.traffic.specs.Day.{world_at}
+use Rattle.traffic.specs.Day.{plan_of, world_at}
 use Rattle.traffic.proofs.Order.{day-ascends}
 use Rattle.one_place.proofs.Turns.{always_kept}
+use Rattle.full_links.specs.Moves.{IsElsewhere}
 use Rattle.full_links.proofs.Queues.{day_storage}
-use Rattle.full_links.proofs.Elsewhere.{in_time}
+use Rattle.full_links.proofs.Elsewhere.{in_time, no_buffer}
 use Rattle.full_links.proofs.Flow.{day_flow}
-use Rattle.qsim_top.specs.Laws.{IsLawful}
+use Rattle.person_days.proofs.InTime.{day_until}
+use Rattle.sound_setups.proofs.Laws.{day_sound}
+use Rattle.sound_days.proofs.Towns.{rows_sound, rows_told}
+use Rattle.town.specs.Rows.{TownRows}
+use Rattle.town.specs.Setups.{itinerary_of, setup_of}
+use Rattle.scenario.specs.Texts.{Texts}
+use Rattle.scenario.specs.Given.{ScenarioRows, scenario_fault, scenario_rows}
+use Rattle.scenario.specs.Fitting.{first_plans}
+use Rattle.valid_files.specs.Valid.{IsScenario}
+use Rattle.valid_files.proofs.Valid.{scenario_valid, chosen_valid}
+use Rattle.qsim_top.specs.Answer.{first_day}
+use Rattle.qsim_top.specs.Laws.{IsLawful, FollowsPlans}
 
 pub lawful : (S : Setup) → IsLawful S
 lawful S = record {
@@ -14,5 +31,23 @@ lawful S = record {
   storage = day_storage S;
   entering = λ t. in_time S t (world_at S t);
   flow = day_flow S;
+  flow_elsewhere = λ t n p W other. All-from_recursion (IsElsewhere Buffer) (plan_of S t p n W) (no_buffer S t n p W other);
   order = day-ascends S;
+  in_time = day_until S;
 }
+
+persons_are : (T : TownRows) (chosen : List Parts) (k : ℕ) → length (setup_of T chosen k).persons ≡ length chosen
+unfolding setup_of
+persons_are T chosen k = length-map chosen itinerary_of
+
+follows : (S : ScenarioRows) → IsScenario S → FollowsPlans (first_day S)
+follows S valid =
+    let chosen = chosen_valid S valid in
+    let plans = first_plans S.plans in
+    record {
+      sound = λ t. day_sound (first_day S) t (rows_sound S.town plans 0 valid.town chosen.plans);
+      told = λ i less. rows_told S.town plans 0 i valid.town chosen.plans (subst (λ (n : ℕ). i < n) (persons_are S.town plans 0) less);
+    }
+
+pub files_follow : (texts : Texts) → scenario_fault texts ≡ None → FollowsPlans (first_day (scenario_rows texts))
+files_follow texts none = follows (scenario_rows texts) (scenario_valid texts none)

@@ -1,20 +1,35 @@
 -- What holds of every day of a scenario.
-use Rattle.std.specs.Prelude.{◌≡◌, ℕ, List, ◌∷◌, ◌++◌}
+use Rattle.std.specs.Prelude.{◌≡◌, ◌≢◌, ◌<◌, ◌≤◌, ℕ, List, ◌∷◌, ◌++◌, length, All}
+use Rattle.events.specs.declared.event.Event.{Event}
+use Rattle.events.specs.declared.event.Phase.{Phase}
+use Rattle.events.specs.declared.event.Phase.TheVariants as phase
 use Rattle.traffic.specs.declared.moves.Move.{Move}
+use Rattle.traffic.specs.declared.rows.Stage.TheVariants.{Buffer}
 use Rattle.traffic.specs.Setup.{Setup}
+use Rattle.traffic.specs.Rows.{World}
 use Rattle.traffic.specs.Moves.{run}
-use Rattle.traffic.specs.Day.{world_start, world_at, day}
+use Rattle.traffic.specs.Day.{plan_of, world_start, world_at, day}
 use Rattle.traffic.specs.Frames.{Ascends}
-use Rattle.traffic.specs.Worlds.{OnePlace, Storage, FlowKept}
-use Rattle.full_links.specs.Moves.{second_moves, KeepsRule}
+use Rattle.traffic.specs.Worlds.{OnePlace, Storage, FlowKept, Sound}
+use Rattle.full_links.specs.Moves.{IsElsewhere, second_moves, KeepsRule}
+use Rattle.sound_days.specs.Planned.{IsToldAsPlanned}
 
 -- The laws of a day: in every second each person is in exactly one place; no queue has more rows that were not pushed in than its storage;
--- at the moment when a vehicle enters a queue there is room, or it is stuck and is pushed in; no more vehicles pass than the flow allows;
--- and the events are in the order of their keys.
+-- at the moment when a vehicle enters a queue there is room, or it is stuck and is pushed in; no more vehicles pass than the flow allows, and
+-- only the turns of links, which these are counted of, bring a vehicle to a buffer; and the events are in the order of their keys, none of a
+-- second past the end.
 pub record IsLawful (S : Setup) : Type 0 where
   pub one_place : (t : ℕ) → OnePlace S (world_at S t)
   pub storage : (t : ℕ) → Storage S (world_at S t)
   pub entering : (t : ℕ) (before later : List Move) (m : Move)
       → second_moves S t (world_at S t) ≡ before ++ m ∷ later → KeepsRule S t (run S t before (world_at S t)) m
   pub flow : FlowKept S (world_start S)
+  pub flow_elsewhere : (t n : ℕ) (p : Phase) (W : World) → p ≢ phase.D → All (IsElsewhere Buffer) (plan_of S t p n W)
   pub order : Ascends (day S)
+  pub in_time : All (λ (e : Event). e.key.second ≤ S.end) (day S)
+
+-- The laws of a day that is made from a town and plans that fit it: in every second each person and each vehicle fits the plans and the
+-- timetable that it comes from; and what is told of a person comes as his plan has it, in at most eight events for each leg.
+pub record FollowsPlans (S : Setup) : Type 0 where
+  pub sound : (t : ℕ) → Sound S (world_at S t)
+  pub told : (i : ℕ) → i < length S.persons → IsToldAsPlanned S i

@@ -1,10 +1,13 @@
 //! What holds of every day that the program runs.
 
-ghost use Rattle.scenario.specs.Given.{ScenarioRows};
+ghost use Rattle.std.specs.Prelude.{◌≡◌, None};
+ghost use Rattle.scenario.specs.Texts.{Texts};
+ghost use Rattle.scenario.specs.Given.{ScenarioRows, scenario_fault, scenario_rows};
 ghost use Rattle.qsim_top.specs.Answer.{first_day};
-ghost use Rattle.qsim_top.specs.Laws.{IsLawful};
+ghost use Rattle.qsim_top.specs.Laws.{IsLawful, FollowsPlans};
 
-/// Knows the laws of the day of every scenario. Does nothing.
+/// Knows the laws of the day of every scenario, and of that of files without a fault. Does nothing.
 pub fn know_days()
-    ensures { (S : ScenarioRows) → IsLawful (first_day S) }
+    ensures lawful { (S : ScenarioRows) → IsLawful (first_day S) }
+    ensures planned { (texts : Texts) → scenario_fault texts ≡ None → FollowsPlans (first_day (scenario_rows texts)) }
 {}

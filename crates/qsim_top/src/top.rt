@@ -1,10 +1,11 @@
-ghost use Rattle.std.specs.Prelude.{◌≡◌, ◌≤◌, map, true, Err, IfOk, string_bytes};
+ghost use Rattle.std.specs.Prelude.{◌≡◌, ◌≤◌, map, true, None, Err, IfOk, string_bytes};
 ghost use Rattle.edge_files.specs.Causes.{Rose};
 ghost use Rattle.edge_files.specs.World.{outside};
 ghost use Rattle.words.specs.Cases.{case_of, Work};
 ghost use Rattle.qsim_top.specs.Contents.{Contents, AreLeft, texts_in};
-ghost use Rattle.scenario.specs.Given.{ScenarioRows};
-ghost use Rattle.qsim_top.specs.Laws.{IsLawful};
+ghost use Rattle.scenario.specs.Texts.{Texts};
+ghost use Rattle.scenario.specs.Given.{ScenarioRows, scenario_fault, scenario_rows};
+ghost use Rattle.qsim_top.specs.Laws.{IsLawful, FollowsPlans};
 ghost use Rattle.qsim_top.specs.Answer.{first_day, answer, report, is_of_words, is_of_work, IsSound, Answers, AnswersCase, OnlyReports};
 
 use crate::answers::{Answer, Status};
@@ -77,6 +78,7 @@ fn do_work<I: Inputs, O: Outputs, K: Keeper>(
     ensures read_later { I.faults inputs.old ≤ I.faults inputs.new }
     ensures write_later { O.faults outputs.old ≤ O.faults outputs.new }
     ensures keeper { keeper.new ≡ keeper.old }
+    ensures unread { result ≡ Status.ReadFault → outputs.new ≡ outputs.old }
 {
     match answer_to_inputs(alloc, command, inputs) {
         Ok(answer) => carry_out(outputs, keeper, answer),
@@ -134,12 +136,17 @@ pub fn qsim<R: Threads + Wait + Sync, I: Inputs, O: Outputs, K: Keeper, G: Gate>
     ensures keep { result ≡ Status.KeepFault → Rose (K.faults keeper.old) (K.faults keeper.new) }
 
     ensures reports { result ≡ Status.Refused → OnlyReports (O.written outputs.old) (O.written outputs.new) }
+    ensures unread { result ≡ Status.ReadFault → outputs.new ≡ outputs.old }
     ensures read_later { I.faults inputs.old ≤ I.faults inputs.new }
     ensures write_later { O.faults outputs.old ≤ O.faults outputs.new }
-    ensures keeper { keeper.new ≡ keeper.old }
 
-    // Of the day of every scenario.
+    // No command keeps anything yet.
+    ensures keeper { keeper.new ≡ keeper.old }
+    ensures unkept { result ≡ Status.KeepFault → ⊥ }
+
+    // Of the day of every scenario, and of that of files without a fault.
     ensures lawful { (scenario : ScenarioRows) → IsLawful (first_day scenario) }
+    ensures planned { (texts : Texts) → scenario_fault texts ≡ None → FollowsPlans (first_day (scenario_rows texts)) }
 {
     know_days();
     match read_words(alloc, words) {

@@ -23,8 +23,10 @@ in_town : (T : TownRows) (N : Numbers) (plan : Parts) → IsPlan plan → fits T
 in_town T N plan kept fit =
     let count = length-map plan.legs (leg_in_town N) in
     let more = kept.one_more in
+    let few = kept.few in
     record {
       one_more = omega arith;
+      few = omega arith;
       ends = kept.ends;
       legs = still_legs N plan.legs ∙ kept.legs;
       fit = fit;

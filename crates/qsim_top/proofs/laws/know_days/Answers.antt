@@ -1,6 +1,9 @@
 use Rattle.qsim_top.specs.Answer.{first_day}
-use Rattle.qsim_top.proofs.Lawful.{lawful}
+use Rattle.qsim_top.proofs.Lawful.{lawful, files_follow}
 use Rattle.qsim_top.proofs.laws.know_days.Goals as goal
 
-pub returns : goal.returns
-returns c = λ S. lawful (first_day S)
+pub returns-clause-lawful : goal.returns-clause-lawful
+returns-clause-lawful c = λ S. lawful (first_day S)
+
+pub returns-clause-planned : goal.returns-clause-planned
+returns-clause-planned c = files_follow

@@ -1,8 +1,10 @@
 -- A state that shows one of the core goes on as that one does.
-use Rattle.std.proofs.Common.{◌≡◌, ℕ, ◌+◌, ◌<◌, Bool, true, false, [], ◌∷◌, ◌++◌, refl, ap, ◌∙◌, eqb, arith, inl, inr}
-use Rattle.std.specs.Prelude.{◌&&◌, if◌then◌else◌, nat_le, None}
+use Rattle.std.proofs.Common.{◌≡◌, ℕ, ◌+◌, ◌-◌, ◌<◌, Bool, true, false, List, [], ◌∷◌, ◌++◌, refl, ap, sym, ◌∙◌, eqb, arith, inl, inr}
+use Rattle.std.specs.Prelude.{◌&&◌, if◌then◌else◌, nat_le, map, None}
 use Rattle.std.proofs.lemmas.Bool.{cases_Bool, and_parts}
 use Rattle.std.proofs.Math.Path.{fun_ext}
+use Rattle.traffic.specs.Lists.{numbers}
+use Rattle.part_laws.specs.Kept.{Kept, KeptWhere}
 use Rattle.parts.specs.Core.{Core, Rule, first, rest, absorbs, absorbed, advance, Allowed, Shows}
 
 if_same : {X : Type 0} (b : Bool) (x y z : X) → (b ≡ true → x ≡ y) → (if b then x else z) ≡ (if b then y else z)
@@ -71,3 +73,20 @@ module _ {H P E : Type 0} (R : Rule H P E) (there : (a b : ℕ) → R.near a b �
 
   pub shows_next : Allowed R end p d × Shows R goes (advance R p c) (advance R p d)
   shows_next = (allowed, record { done = next_done; hold = next_hold; told = next_told; box = next_box })
+
+-- a state that shows one that has what the day says has it too
+pub kept_where : {H P E : Type 0} (R : Rule H P E) (there : (a b : ℕ) → R.near a b ≡ true → a < R.parts) (both : (a b : ℕ) → R.near a b ≡ R.near b a) (goes : ℕ → Bool)
+    (hold : ℕ → ℕ → H) (out : ℕ → ℕ → ℕ → P) (own : ℕ → ℕ → List E) (c d : Core H P E) → Kept R hold out own d → Shows R goes c d → KeptWhere R goes hold out own c
+kept_where R there both goes hold out own c d k shows =
+    record {
+      holds = λ p lt g. shows.hold p lt g ∙ k.holds p ∙ ap (hold p) (sym (shows.done p lt));
+      tolds = λ p lt g. shows.told p lt g ∙ k.tolds p ∙ ap (own p) (sym (shows.done p lt));
+      boxes = λ a b n g.
+          let x = sym (shows.done a (there a b n)) in
+          let y = sym (shows.done b (there b a (sym (both a b) ∙ n))) in
+          shows.box a b n g ∙ k.boxes a b n ∙ (λ i. map (out a b) (numbers (y i - R.lag a b) (x i - (y i - R.lag a b))));
+      close = λ a b n.
+          let x = shows.done a (there a b n) in
+          let y = shows.done b (there b a (sym (both a b) ∙ n)) in
+          let le = k.close a b n in omega arith;
+    }

@@ -15,7 +15,7 @@ use Rattle.parts.specs.Parts.{Held, Passed, Parcel, entering_row, part, held, re
 use Rattle.parts.specs.Core.{Core, Allowed, Reaches, Shows, advance}
 use Rattle.parts.specs.Merge.{Merges}
 use Rattle.part_laws.specs.Alone.{absorb, given, alone, parcel_to, tells_alone}
-use Rattle.part_laws.specs.Kept.{Kept, MayGoOn}
+use Rattle.part_laws.specs.Kept.{Kept, KeptWhere, MayGoOn}
 use Rattle.part_laws.specs.Single.{PersonInOne}
 use Rattle.part_laws.specs.Whole.{rule, start_of, all_told}
 
@@ -66,7 +66,10 @@ pub record AdvanceInAnyOrder (S : Setup) (own : Owner) (parts : ℕ) : Type 0 wh
   -- as many allowed events as all have seconds bring all to the end
   pub to_the_end : (end : ℕ) (ps : List ℕ) (d : Core Held Parcel Event) → Reaches (rule S own parts) end ps (start_of S own) d
       → length ps ≡ parts * end → (p : ℕ) → p < parts → d.done p ≡ end
-  -- a state that shows one of the core goes on as that one does, where the partition that advances goes on
+  -- a state that shows one of these has what the day says, and goes on as that one does, where the partition that advances goes on
+  pub shown_kept : (goes : ℕ → Bool) (end : ℕ) (ps : List ℕ) (c d : Core Held Parcel Event)
+      → Reaches (rule S own parts) end ps (start_of S own) d
+      → Shows (rule S own parts) goes c d → KeptWhere (rule S own parts) goes (held S own) (out S own) (own_events S own) c
   pub shown : (goes : ℕ → Bool) (end p : ℕ) (c d : Core Held Parcel Event) → Shows (rule S own parts) goes c d → goes p ≡ true
       → Allowed (rule S own parts) end p c → ShowsNext S own parts goes end p c d
 

@@ -23,6 +23,11 @@ pub fn events_come_in_turn()
         → filter (of_person i) (day S) ≡ before ++ e ∷ later → e.word ≡ StuckAndAbort → later ≡ [] }
 {}
 
+/// The plans of a sound setup are such: no activity ends but one that a leg comes after.
+pub fn sound_plans_are_planned()
+    ensures { (S : Setup) (i : ℕ) → IsSoundSetup S → i < length S.persons → IsPlanned S i }
+{}
+
 /// At most eight events of a day name a person for each leg of his plan.
 pub fn few_events()
     ensures { (S : Setup) (i : ℕ) → IsPlanned S i → i < length S.persons

@@ -15,7 +15,7 @@ use Rattle.town.specs.declared.rows.Town.{Town}
 use Rattle.traffic.specs.Setup.{Setup, Itinerary, Departure}
 use Rattle.fit_days.specs.Setups.{IsPlanIn}
 use Rattle.fit_days.proofs.Towns.{plans_fit}
-use Rattle.person_days.specs.Trips.{legs}
+use Rattle.person_days.specs.Trips.{IsPlanned, legs}
 use Rattle.person_days.proofs.Days.{stuck_last}
 use Rattle.person_days.proofs.Sound.{sound_planned, has_sound_day}
 use Rattle.sound_setups.specs.Setups.{IsSoundPlan, IsSoundRun, IsSoundSetup}
@@ -78,6 +78,9 @@ few_in T chosen k i h lt =
 persons_are : (T : TownRows) (chosen : List Parts) (k : ℕ) → length (setup_of T chosen k).persons ≡ length chosen
 unfolding setup_of
 persons_are T chosen k = length-map chosen itinerary_of
+
+pub rows_planned : (T : TownRows) (chosen : List Parts) (k i : ℕ) → IsTown T → All (IsPlanIn T) chosen → i < length chosen → IsPlanned (setup_of T chosen k) i
+rows_planned T chosen k i town h lt = let n = persons_are T chosen k in sound_planned (setup_of T chosen k) i (rows_sound T chosen k town h) (omega arith)
 
 pub rows_told : (T : TownRows) (chosen : List Parts) (k i : ℕ) → IsTown T → All (IsPlanIn T) chosen → i < length chosen → IsToldAsPlanned (setup_of T chosen k) i
 rows_told T chosen k i town h lt =

@@ -14,6 +14,7 @@ ghost use Rattle.town.specs.declared.rows.Town.{Town};
 ghost use Rattle.traffic.specs.Day.{world_at};
 ghost use Rattle.traffic.specs.Worlds.{Sound};
 ghost use Rattle.fit_days.specs.Setups.{IsPlanIn};
+ghost use Rattle.person_days.specs.Trips.{IsPlanned};
 ghost use Rattle.sound_setups.specs.Setups.{IsSoundSetup};
 ghost use Rattle.sound_setups.specs.Consistent.{IsConsistentSetup};
 ghost use Rattle.sound_days.specs.Planned.{IsToldAsPlanned};
@@ -37,8 +38,10 @@ pub fn towns_are_sound()
 {}
 
 /// What the day of a town tells of each person follows his plan, trip after trip, in at most eight events
-/// for each leg and 64 in all.
+/// for each leg and 64 in all; for no activity of his plan ends but one that a leg comes after.
 pub fn towns_are_told_as_planned()
+    ensures planned { (T : TownRows) (chosen : List Parts) (k i : ℕ) → IsTown T → All (IsPlanIn T) chosen
+        → i < length chosen → IsPlanned (setup_of T chosen k) i }
     ensures rows { (T : TownRows) (chosen : List Parts) (k i : ℕ) → IsTown T → All (IsPlanIn T) chosen
         → i < length chosen → IsToldAsPlanned (setup_of T chosen k) i }
     ensures towns { (town : Town) (chosen : List Plan) (k i : ℕ)

@@ -1,5 +1,8 @@
-use Rattle.sound_days.proofs.Towns.{rows_told, town_told}
+use Rattle.sound_days.proofs.Towns.{rows_planned, rows_told, town_told}
 use Rattle.sound_days.proofs.towns_are_told_as_planned.Goals as goal
+
+pub returns-clause-planned : goal.returns-clause-planned
+returns-clause-planned c = rows_planned
 
 pub returns-clause-rows : goal.returns-clause-rows
 returns-clause-rows c = rows_told

@@ -1,0 +1,12 @@
+pub mod Quotients
+pub mod Lines
+pub mod PointsLemmas
+pub mod Bounds
+pub mod Pairs
+pub mod Shown
+pub mod Keeping
+pub mod WorthLemmas
+pub mod Taking
+pub mod Finishing
+pub mod LawLemmas
+pub mod MayLemmas

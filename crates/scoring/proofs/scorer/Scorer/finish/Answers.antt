@@ -1,0 +1,12 @@
+use Rattle.std.proofs.Common.{lit≤, ◌+ℤ◌, ℤ, ap, ◌∙◌}
+use Rattle.scoring.proofs.Bounds.{code_sum, wider}
+use Rattle.scoring.proofs.Taking.{sum_small}
+use Rattle.scoring.proofs.Finishing.{score_is}
+use Rattle.scoring.proofs.scorer.Scorer.finish.Goals as goal
+
+pub returns-clause-score : goal.returns-clause-score
+returns-clause-score c = λ taken stands.
+    code_sum c.args.self.sum c.last_worth.result
+    (wider 78000000000000 2000000000000000000 c.args.self.sum (lit≤ tt) (sum_small c.args.tables.now c.args.self taken stands))
+    (wider 2000000000000 2000000000000000000 c.last_worth.result (lit≤ tt) c.last_worth.ensures.within)
+    ∙ ap (λ (z : ℤ). c.args.self.sum +ℤ z) c.last_worth.ensures.value ∙ score_is c.args.tables.now c.args.self taken stands

@@ -1,0 +1,9 @@
+pub mod Ranges
+pub mod Points
+pub mod Kinds
+pub mod Tables
+pub mod Turns
+pub mod Score
+pub mod Taken
+pub mod Steps
+pub mod Worked

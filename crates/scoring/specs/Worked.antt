@@ -1,0 +1,113 @@
+-- Worked days, each told by its events.
+use Rattle.std.specs.Prelude.{ℕ, List, [], ◌∷◌, ◌++◌, length, refl, Option, None, Some, ℤ, pos, negsuc}
+use Rattle.std.proofs.Common.{lit≤}
+use Rattle.events.specs.declared.event.Event.{Event}
+use Rattle.events.specs.declared.event.Mode.{Mode}
+use Rattle.events.specs.declared.event.Mode.TheVariants as mode
+use Rattle.events.specs.declared.event.More.{More}
+use Rattle.events.specs.declared.event.More.TheVariants as more
+use Rattle.events.specs.declared.event.Word.{Word}
+use Rattle.events.specs.declared.event.Word.TheVariants as word
+use Rattle.scoring.specs.declared.table.Table.{Table}
+use Rattle.scoring.specs.declared.tables.ModeScore.{ModeScore}
+use Rattle.scoring.specs.declared.tables.Tables.{Tables}
+use Rattle.scoring.specs.Points.{Point}
+
+-- home and work, as the activities of a day
+abbrev pub home : ℕ
+home = 0
+
+abbrev pub work : ℕ
+work = 1
+
+-- an event of the person in a second
+abbrev pub event : ℕ → Word → More → Event
+event second what more = record {
+  key = record { second = second; phase = 0; number = 0; index = 0 };
+  word = what;
+  person = Some 0;
+  vehicle = None;
+  link = None;
+  more = more;
+}
+
+-- an activity ends and a leg departs; a leg arrives and an activity starts
+abbrev pub leaves : ℕ → ℕ → Mode → List Event
+leaves second kind by = event second word.ActEnd (more.Kind kind) ∷ event second word.Departure (more.Mode by) ∷ []
+
+abbrev pub arrives : ℕ → Mode → ℕ → List Event
+arrives second by kind = event second word.Arrival (more.Mode by) ∷ event second word.ActStart (more.Kind kind) ∷ []
+
+-- each second of a leg costs 1,666 micro-utils, by any mode
+abbrev pub usual_mode : ModeScore
+usual_mode = record {
+  constant = pos 0;
+  per_second = negsuc 1665;
+  constant_in = (record { le = tt }, record { le = tt });
+  per_second_in = (record { le = tt }, record { le = tt });
+}
+
+-- a second of lateness costs 5,000 and being stuck 100,000,000 micro-utils
+abbrev pub no_tables : Tables
+no_tables = record {
+  tables = [];
+  modes = usual_mode ∷ usual_mode ∷ usual_mode ∷ usual_mode ∷ usual_mode ∷ [];
+  late_per_second = negsuc 4999;
+  stuck = negsuc 99999999;
+  few = lit≤ tt;
+  distinct = refl;
+  lateness = (record { le = tt }, record { le = tt });
+  stuckness = (record { le = tt }, record { le = tt });
+}
+
+-- a walk of 50 seconds to work, and a drive of 11 seconds; in traffic other words are told beside the five
+abbrev pub walk : List Event
+walk = leaves 100 home mode.Walk ++ event 150 word.Travelled (more.Seconds 50) ∷ arrives 150 mode.Walk work
+
+abbrev pub drive : List Event
+drive = leaves 100 home mode.Car ++ event 101 word.PersonEntersVehicle more.Nothing ∷ arrives 111 mode.Car work
+
+-- of two passengers the first finds a seat, and the second waits until the day is over
+abbrev pub passenger : List Event
+passenger = leaves 100 home mode.Pt ++ arrives 242 mode.Pt work
+
+abbrev pub left_behind : List Event
+left_behind = leaves 100 home mode.Pt ++ event 108000 word.StuckAndAbort (more.Mode mode.Pt) ∷ []
+
+-- points that climb, and points that fall
+abbrev pub home_points : List Point
+home_points = (0, negsuc 19999999) ∷ (43200, pos 60000000) ∷ (86400, pos 80000000) ∷ []
+
+abbrev pub work_points : List Point
+work_points = (0, negsuc 19999999) ∷ (28800, pos 60000000) ∷ []
+
+abbrev pub falling_points : List Point
+falling_points = (0, pos 10) ∷ (3, pos 0) ∷ []
+
+abbrev pub home_table : Table
+home_table = record { kind = home; points = home_points; latest = None; some = lit≤ tt; few = lit≤ tt; within = refl; rising = refl; by_the_end = refl }
+
+abbrev pub work_table : Table
+work_table = record { kind = work; points = work_points; latest = None; some = lit≤ tt; few = lit≤ tt; within = refl; rising = refl; by_the_end = refl }
+
+-- the same, where work begins late after 28,800
+abbrev pub strict_table : Table
+strict_table = record { kind = work; points = work_points; latest = Some 28800; some = lit≤ tt; few = lit≤ tt; within = refl; rising = refl; by_the_end = refl }
+
+abbrev pub two_tables : Tables
+two_tables = record no_tables { tables = home_table ∷ work_table ∷ []; few = lit≤ tt; distinct = refl }
+
+abbrev pub strict_tables : Tables
+strict_tables = record no_tables { tables = home_table ∷ strict_table ∷ []; few = lit≤ tt; distinct = refl }
+
+-- to work in the morning and home in the afternoon, by car
+abbrev pub commute : List Event
+commute = leaves 28800 home mode.Car ++ arrives 28811 mode.Car work ++ leaves 57600 work mode.Car ++ arrives 57611 mode.Car home
+
+-- only there, and there and back, where the drive home has no end
+abbrev pub to_work : List Event
+to_work = leaves 28800 home mode.Car ++ arrives 28811 mode.Car work
+
+abbrev pub stuck_in_the_evening : List Event
+stuck_in_the_evening =
+    leaves 28800 home mode.Car ++ arrives 28811 mode.Car work ++ leaves 57600 work mode.Car ++ event 108000 word.StuckAndAbort (more.Mode mode.Car) ∷ []

@@ -1,0 +1,67 @@
+ghost use Rattle.std.specs.Prelude.{◌≡◌, ◌≤◌, Some, pos, option_copied, slice_get};
+ghost use Rattle.scoring.specs.declared.TheConstants.{MAX_SECOND, MAX_WORTH};
+ghost use Rattle.scoring.specs.Ranges.{IsWithin};
+ghost use Rattle.scoring.specs.Tables.{table_of, activity_worth, place_of, leg_worth, seconds_late};
+
+use crate::table::{Table, TableList};
+use crate::tables::ModeScore;
+use crate::values::value;
+use events::Mode;
+
+// The table of a kind of activity, if there is one.
+fn table_of(tables: &TableList, kind: u32) -> Option<&Table>
+    ensures { option_copied result ≡ table_of tables.now kind }
+{
+    tables.rows.iter().find(|table| table.kind == kind)
+}
+
+/// What an activity of a kind is worth that takes so many seconds, in micro-utils.
+#[tactic(auto, unfolding(crate::specs::Tables::activity_worth))]
+pub fn activity_worth(tables: &TableList, kind: u32, seconds: u32) -> i64
+    ensures value { result ≡ activity_worth tables.now kind seconds }
+    ensures within { IsWithin MAX_WORTH result }
+{
+    match table_of(tables, kind) {
+        Some(table) => value(table.points.as_slice(), seconds),
+        None => 0,
+    }
+}
+
+/// How many seconds late an activity of a kind begins.
+#[tactic(auto, unfolding(crate::specs::Tables::seconds_late))]
+pub fn seconds_late(tables: &TableList, kind: u32, second: u32) -> u32
+    ensures value { result ≡ seconds_late tables.now kind second }
+    ensures most { result ≤ second }
+{
+    match table_of(tables, kind) {
+        Some(table) => match table.latest {
+            Some(latest) => second.saturating_sub(latest),
+            None => 0,
+        },
+        None => 0,
+    }
+}
+
+// The score of a mode.
+fn mode_score(modes: &[ModeScore; 5], mode: Mode) -> ModeScore
+    ensures { slice_get modes.now (place_of mode) ≡ Some result }
+{
+    match mode {
+        Mode::Car => modes[0],
+        Mode::Walk => modes[1],
+        Mode::Bike => modes[2],
+        Mode::Ride => modes[3],
+        Mode::Pt => modes[4],
+    }
+}
+
+/// What a leg by a mode is worth that takes so many seconds, in micro-utils.
+#[tactic(auto, unfolding(crate::specs::Tables::leg_worth))]
+pub fn leg_worth(modes: &[ModeScore; 5], mode: Mode, seconds: u32) -> i64
+    requires { seconds ≤ MAX_SECOND }
+    ensures value { result ≡ leg_worth modes.now mode seconds }
+    ensures within { IsWithin (pos 1172800000000) result }
+{
+    let score = mode_score(modes, mode);
+    score.constant + score.per_second * i64::from(seconds)
+}

@@ -1,5 +1,5 @@
 -- A scorer knows which event may come next.
-use Rattle.std.proofs.Common.{◌≡◌, ℕ, ◌<◌, ◌≤◌, Bool, true, false, cond, IsTrue, ◌↔◌, inl, inr, List, [], ◌∷◌, ◌++◌, length, refl, sym, ap, ◌∙◌, subst, append-nil, arith}
+use Rattle.std.proofs.Common.{◌≡◌, ℕ, ◌<◌, ◌≤◌, Bool, true, false, cond, IsTrue, ◌↔◌, inl, inr, List, [], ◌∷◌, ◌++◌, length, refl, sym, ap, ◌∙◌, subst, append-nil, length-take, arith}
 use Rattle.std.proofs.lemmas.Bool.{cases_Bool}
 use Rattle.events.specs.declared.event.Event.{Event}
 use Rattle.events.specs.declared.event.More.{More}
@@ -12,7 +12,7 @@ use Rattle.scoring.specs.declared.scorer.Doing.TheVariants as doing
 use Rattle.scoring.specs.declared.scorer.Scorer.{Scorer}
 use Rattle.scoring.specs.declared.tables.Tables.{Tables}
 use Rattle.scoring.specs.Turns.{scores, steps, word_before, Follow, InTurn, tells}
-use Rattle.scoring.specs.Taken.{MayFollow, last_of, last_step, word_of, IsTakenBy}
+use Rattle.scoring.specs.Taken.{MayFollow, AllFollow, last_of, last_step, word_of, IsTakenBy}
 use Rattle.scoring.specs.Steps.{is_next}
 use Rattle.scoring.proofs.Shown.{added}
 use Rattle.scoring.proofs.Taking.{comes}
@@ -83,3 +83,8 @@ may_take T s es e H few in_day = (
 
 pub may_not_take : (es : List Event) (e : Event) → MAX_SECOND < e.key.second → IsTrue false ↔ MayFollow es e
 may_not_take es e late = ((λ x. cc), (λ F. let day = F.in_day in absurd (omega arith)))
+
+-- events that each follow those before them are few
+pub few_follow : (es : List Event) (i : ℕ) → i < length es → AllFollow es → i < MAX_EVENTS
+few_follow [] i here all = absurd (omega arith)
+few_follow (e ∷ es) i here all = let few = (all i here e).few in omega (arith, few, length-take i (e ∷ es))

@@ -1,5 +1,5 @@
 -- What a scorer keeps of the events that it has taken.
-use Rattle.std.specs.Prelude.{◌≡◌, ◌≢◌, ℕ, ◌+◌, ◌*◌, ◌<◌, ◌≤◌, true, List, [], ◌∷◌, ◌++◌, map, length, drop, Option, None, Some, ℤ, pos, ◌+ℤ◌}
+use Rattle.std.specs.Prelude.{◌≡◌, ◌≢◌, ℕ, ◌+◌, ◌*◌, ◌<◌, ◌≤◌, true, List, [], ◌∷◌, ◌++◌, map, length, get_or, take, drop, Option, None, Some, ℤ, pos, ◌+ℤ◌}
 use Rattle.std.specs.Option.{ForSome}
 use Rattle.events.specs.declared.event.Event.{Event}
 use Rattle.events.specs.declared.event.Word.{Word}
@@ -23,6 +23,10 @@ pub record MayFollow (taken : List Event) (event : Event) : Type 0 where
   pub in_day : event.key.second ≤ MAX_SECOND
   pub in_turn : InTurn (taken ++ event ∷ [])
   pub told : tells event.word event.more ≡ true
+
+-- each event of a list may be taken behind those before it
+abbrev pub AllFollow : List Event → Type 0
+AllFollow events = (k : ℕ) → k < length events → (d : Event) → MayFollow (take k events) (get_or events k d)
 
 -- the activity that the person is at, and the leg that he is on
 abbrev pub activity_of : Doing → List Activity

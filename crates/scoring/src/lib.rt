@@ -6,6 +6,7 @@
 //! person, one after the other, and needs no list of them.
 #![tactic(auto)]
 
+mod days;
 mod laws;
 mod scorer;
 mod table;
@@ -13,6 +14,7 @@ mod tables;
 mod values;
 mod worths;
 
+pub use days::score_of;
 pub use laws::{
     other_events_do_not_score, sums_of_scores_fit, values_follow_points, values_round_down,
     worked_scores,

@@ -10,3 +10,4 @@ pub mod Taking
 pub mod Finishing
 pub mod LawLemmas
 pub mod MayLemmas
+pub mod KindLemmas

@@ -1,7 +1,9 @@
 -- The points of a table, and the value of a second: straight lines from point to point.
-use Rattle.std.specs.Prelude.{ℕ, ◌-◌, Bool, true, ◌&&◌, nat_lt, nat_le, int_le, List, [], ◌∷◌, Option, None, Some, if◌then◌else◌, filter, ℤ, pos, ◌+ℤ◌, ◌-ℤ◌, ◌*ℤ◌}
+use Rattle.std.specs.Prelude.{ℕ, ◌-◌, Bool, true, ◌&&◌, nat_lt, nat_le, int_le, List, [], ◌∷◌, length, Option, None, Some, if◌then◌else◌, filter, ℤ, pos, ◌+ℤ◌, ◌-ℤ◌, ◌*ℤ◌}
 use Rattle.std.specs.Int.{int_div_euclid}
-use Rattle.scoring.specs.declared.TheConstants.{MAX_POINT_SECOND, MAX_WORTH}
+use Rattle.std.specs.List.{list_all}
+use Rattle.std.specs.Option.{option_map_or}
+use Rattle.scoring.specs.declared.TheConstants.{MAX_POINT_SECOND, MAX_POINTS, MAX_SECOND, MAX_WORTH}
 use Rattle.scoring.specs.Ranges.{is_within}
 
 -- a second, and what is reached there, in micro-utils
@@ -12,11 +14,22 @@ Point = ℕ × ℤ
 abbrev pub is_point : Point → Bool
 is_point p = nat_le p.0 MAX_POINT_SECOND && is_within MAX_WORTH p.1
 
+-- whether each point is at a later second than the one before it, of which the first is behind a second
+abbrev pub rise_from : ℕ → List Point → Bool
+rise_from second [] = true
+rise_from second (p ∷ points) = nat_lt second p.0 && rise_from p.0 points
+
 -- whether each point is at a later second than the one before it
 abbrev pub are_rising : List Point → Bool
 are_rising [] = true
-are_rising (a ∷ []) = true
-are_rising (a ∷ b ∷ points) = nat_lt a.0 b.0 && are_rising (b ∷ points)
+are_rising (p ∷ points) = rise_from p.0 points
+
+-- whether points and the second from which an activity begins late are those of a table: 1 to 32 points within its limits, at seconds
+-- that rise, and a second up to the last one of an event
+abbrev pub is_table : List Point → Option ℕ → Bool
+is_table points latest =
+    nat_le 1 (length points) && nat_le (length points) MAX_POINTS && list_all is_point points && are_rising points
+    && option_map_or (λ second. nat_le second MAX_SECOND) latest true
 
 -- whether no point is lower than the one before it
 abbrev pub are_climbing : List Point → Bool

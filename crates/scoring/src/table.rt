@@ -1,9 +1,10 @@
-ghost use Rattle.std.specs.Prelude.{◌≡◌, ◌≤◌, length, nat_le, true};
+ghost use Rattle.std.specs.Prelude.{◌≡◌, ◌≤◌, length, nat_le, is_some, true, IfSome};
 ghost use Rattle.std.specs.List.{list_all};
 ghost use Rattle.std.specs.Option.{option_map_or};
 ghost use Rattle.scoring.specs.declared.TheConstants.{MAX_POINTS, MAX_SECOND};
-ghost use Rattle.scoring.specs.Points.{is_point, are_rising};
+ghost use Rattle.scoring.specs.Points.{is_point, rise_from, are_rising, is_table};
 
+use crate::{MAX_POINT_SECOND, MAX_POINTS, MAX_SECOND, MAX_WORTH};
 use std::marker::Model;
 
 /// The points of a table: seconds, and what is reached there, in micro-utils.
@@ -46,6 +47,71 @@ pub struct Table {
     pub ghost by_the_end: { option_map_or (λ second. nat_le second MAX_SECOND) latest true ≡ true },
 }
 
+impl Table {
+    /// The table of a kind, or `None` exactly where the points or `latest` are those of no table.
+    pub fn new(kind: u32, points: Points, latest: Option<u32>) -> Option<Table>
+        ensures table { IfSome result (λ table. (table.kind ≡ kind) × (table.points ≡ points) × (table.latest ≡ latest)) }
+        ensures which { is_some result ≡ is_table points latest }
+    {
+        if !is_table(points.as_slice(), latest) {
+            return None;
+        }
+        Some(Table {
+            kind,
+            points,
+            latest,
+        })
+    }
+}
+
+fn is_table(points: &[(u32, i64)], latest: Option<u32>) -> bool
+    ensures { result ≡ is_table points.now latest }
+{
+    let in_day = latest.is_none_or(|second| second <= MAX_SECOND);
+    !points.is_empty()
+        && points.len() <= MAX_POINTS
+        && are_points(points)
+        && are_rising(points)
+        && in_day
+}
+
+// Whether each point is within the limits of a table.
+fn are_points(points: &[(u32, i64)]) -> bool
+    ensures { result ≡ list_all is_point points.now }
+{
+    points.iter().all(|point| is_point(*point))
+}
+
+fn is_point(point: (u32, i64)) -> bool
+    ensures { result ≡ is_point point }
+{
+    point.0 <= MAX_POINT_SECOND && -MAX_WORTH <= point.1 && point.1 <= MAX_WORTH
+}
+
+// Whether each point is at a later second than the one before it.
+fn are_rising(points: &[(u32, i64)]) -> bool
+    ensures { result ≡ are_rising points.now }
+{
+    match points {
+        [] => true,
+        [first, later @ ..] => rise_from(first.0, later),
+    }
+}
+
+// The same of points that come behind a second.
+fn rise_from(second: u32, points: &[(u32, i64)]) -> bool
+    ensures { result ≡ rise_from second points.now }
+{
+    let mut before = second;
+    for point in points {
+        if point.0 <= before {
+            return false;
+        }
+        before = point.0;
+    }
+    true
+}
+
 /// Tables, of which no two are for one kind.
 #[derive(Drop)]
 pub struct TableList {
@@ -59,4 +125,13 @@ impl Model for TableList {
     ghost Value = { List Table };
 
     ghost view = { λ t. t.rows.items };
+}
+
+impl TableList {
+    /// The tables, in order.
+    pub fn as_slice(&self) -> &[Table]
+        ensures { result.now ≡ self.now }
+    {
+        self.rows.as_slice()
+    }
 }

@@ -12,7 +12,7 @@ use events::Mode;
 fn table_of(tables: &TableList, kind: u32) -> Option<&Table>
     ensures { option_copied result ≡ table_of tables.now kind }
 {
-    tables.rows.iter().find(|table| table.kind == kind)
+    tables.as_slice().iter().find(|table| table.kind == kind)
 }
 
 /// What an activity of a kind is worth that takes so many seconds, in micro-utils.

@@ -1,0 +1,7 @@
+//! Tests of scores: worked days, told by their events, with scores that an independent program computed.
+#![tactic(auto)]
+
+#[cfg(test)]
+mod days;
+#[cfg(test)]
+mod scores;

@@ -1,0 +1,6 @@
+pub mod Labels
+pub mod Rounds
+pub mod Ranks
+pub mod Kept
+pub mod Least
+pub mod Followed

@@ -1,0 +1,6 @@
+pub mod Arrivals
+pub mod Walks
+pub mod Rounds
+pub mod Certificates
+pub mod Chosen
+pub mod Worked

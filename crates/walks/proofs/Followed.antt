@@ -2,14 +2,14 @@
 use Rattle.std.proofs.Common.{◌≡◌, ℕ, zero, suc, ◌+◌, ◌<◌, ◌≤◌, Bool, true, false, cond, ◌&&◌, List, [], ◌∷◌, ◌++◌, length, Option, None, Some, ◌⊎◌, inl, inr, refl, sym, ◌∙◌, ap, subst, arith}
 use Rattle.std.specs.Prelude.{nat_eq, find, IsSomeAnd}
 use Rattle.std.specs.List.{range_with_len}
-use Rattle.std.specs.Option.{option_eq, option_map, option_map_or}
+use Rattle.std.specs.Option.{option_eq, option_map_or}
 use Rattle.std.proofs.lemmas.Bool.{cases_Bool, eq-eqb, eqb-true, eqb-false, and_parts, and_from, false_from_ne_true}
 use Rattle.walks.specs.Arrivals.{Arrivals, IsFifo}
 use Rattle.walks.specs.Walks.{Ends, start_of, end_of, AreWithin, IsWalk, arrival}
-use Rattle.walks.specs.Rounds.{Labels, label_at, least_labels}
+use Rattle.walks.specs.Rounds.{Labels, label_at, IsBy, rank, least_labels}
 use Rattle.walks.specs.Chosen.{leads, link_before, followed, chosen_route}
-use Rattle.walks.proofs.Labels.{IsBy, some_by}
-use Rattle.walks.proofs.Ranks.{rank, rank-le-length, rank_less}
+use Rattle.walks.proofs.Labels.{some_by}
+use Rattle.walks.proofs.Ranks.{rank-le-length, rank_less}
 use Rattle.walks.specs.Certificates.{IsKept}
 use Rattle.walks.proofs.Kept.{walk_more, arrival_more, kept_by}
 use Rattle.walks.proofs.Rounds.{length-after}
@@ -46,35 +46,37 @@ find_there p low (suc count) there above below passes =
         let apart : low ≡ there → ⊥ = λ same. let both = ap p same in cc (fails, passes, both) in
         omega arith
 
-option_same : (a b : Option ℕ) → option_eq nat_eq a b ≡ true → a ≡ b
-option_same None None e = refl
-option_same None (Some b) e = cc e
-option_same (Some a) None e = cc e
-option_same (Some a) (Some b) e = ap (λ (n : ℕ). Some n) (eqb-true a b e)
+same_option : (a : ℕ) (o : Option ℕ) → option_eq nat_eq (Some a) o ≡ true → o ≡ Some a
+same_option a None e = absurd (cc e)
+same_option a (Some b) e = ap (λ (n : ℕ). Some n) (sym (eqb-true a b e))
 
-option_itself : (a : ℕ) (o p : Option ℕ) → o ≡ Some a → p ≡ Some a → option_eq nat_eq o p ≡ true
-option_itself a o p is same = ap (λ (x : Option ℕ). option_eq nat_eq x p) is ∙ ap (λ (x : Option ℕ). option_eq nat_eq (Some a) x) same ∙ eq-eqb a a refl
-
--- what a link that leads to a labelled node tells
-pub leads_from : (ends : Ends) (arrive : Arrivals) (labels : Labels) (node link at : ℕ) → label_at labels node ≡ Some at → leads ends arrive labels node link ≡ true
-    → (end_of ends link ≡ node) × (left : ℕ) × (label_at labels (start_of ends link) ≡ Some left) × (arrive link left ≡ at)
-leads_from ends arrive labels node link at is e =
-    let parts = and_parts (nat_eq (end_of ends link) node) (option_eq nat_eq (option_map (arrive link) (label_at labels (start_of ends link))) (label_at labels node)) e in
-    let same : option_map (arrive link) (label_at labels (start_of ends link)) ≡ Some at =
-    option_same (option_map (arrive link) (label_at labels (start_of ends link))) (label_at labels node) parts.1 ∙ is in
-    let from_start = taken (label_at labels (start_of ends link)) refl same in
-    (eqb-true (end_of ends link) node parts.0, from_start.0, from_start.1, from_start.2)
+-- what a link that leads to a node tells
+pub leads_from : (ends : Ends) (arrive : Arrivals) (labels : Labels) (node link : ℕ) → leads ends arrive labels node link ≡ true
+    → (end_of ends link ≡ node) × ((left : ℕ) × (label_at labels (start_of ends link) ≡ Some left) × (label_at labels node ≡ Some (arrive link left)))
+leads_from ends arrive labels node link e =
+    let test : Option ℕ → Bool = λ o. option_map_or (λ left. option_eq nat_eq (Some (arrive link left)) (label_at labels node)) o false in
+    let parts = and_parts (nat_eq (end_of ends link) node) (test (label_at labels (start_of ends link))) e in
+    (eqb-true (end_of ends link) node parts.0, taken (label_at labels (start_of ends link)) refl parts.1)
   where
-    taken : (o : Option ℕ) → label_at labels (start_of ends link) ≡ o → option_map (arrive link) o ≡ Some at
-        → (left : ℕ) × (label_at labels (start_of ends link) ≡ Some left) × (arrive link left ≡ at)
-    taken None is_start none = absurd (cc none)
-    taken (Some left) is_start some = (left, is_start, cc some)
+    taken : (o : Option ℕ) → label_at labels (start_of ends link) ≡ o → option_map_or (λ left. option_eq nat_eq (Some (arrive link left)) (label_at labels node)) o false ≡ true
+        → (left : ℕ) × (label_at labels (start_of ends link) ≡ Some left) × (label_at labels node ≡ Some (arrive link left))
+    taken None is none = absurd (cc none)
+    taken (Some left) is same = (left, is, same_option (arrive link left) (label_at labels node) same)
 
-pub leads_there : (ends : Ends) (arrive : Arrivals) (labels : Labels) (node link left at : ℕ) → label_at labels node ≡ Some at → end_of ends link ≡ node
-    → label_at labels (start_of ends link) ≡ Some left → arrive link left ≡ at → leads ends arrive labels node link ≡ true
-leads_there ends arrive labels node link left at is ending starts reached =
-    and_from (nat_eq (end_of ends link) node) (option_eq nat_eq (option_map (arrive link) (label_at labels (start_of ends link))) (label_at labels node)) (eq-eqb (end_of ends link) node ending)
-    (option_itself at (option_map (arrive link) (label_at labels (start_of ends link))) (label_at labels node) (ap (λ (o : Option ℕ). option_map (arrive link) o) starts ∙ ap (λ (n : ℕ). Some n) reached) is)
+pub leads_there : (ends : Ends) (arrive : Arrivals) (labels : Labels) (node link left : ℕ) → end_of ends link ≡ node → label_at labels (start_of ends link) ≡ Some left
+    → label_at labels node ≡ Some (arrive link left) → leads ends arrive labels node link ≡ true
+leads_there ends arrive labels node link left ending starts is =
+    let test : Option ℕ → Bool = λ o. option_map_or (λ l. option_eq nat_eq (Some (arrive link l)) (label_at labels node)) o false in
+    and_from (nat_eq (end_of ends link) node) (test (label_at labels (start_of ends link))) (eq-eqb (end_of ends link) node ending)
+    (ap test starts ∙ ap (λ (o : Option ℕ). option_eq nat_eq (Some (arrive link left)) o) is ∙ eq-eqb (arrive link left) (arrive link left) refl)
+
+-- the link before a node leads there
+pub link_leads : (ends : Ends) (arrive : Arrivals) (labels : Labels) (node link : ℕ) → link_before ends arrive labels node ≡ Some link
+    → (link < length ends) × (leads ends arrive labels node link ≡ true)
+unfolding link_before
+link_leads ends arrive labels node link found =
+    let known = find_some (leads ends arrive labels node) 0 (length ends) link found in
+    (let h = known.1 in omega arith, known.2)
 
 -- the last link of a walk, and the walk before it
 abbrev pub LastLink : Ends → Arrivals → ℕ → ℕ → List ℕ → ℕ → Type 0
@@ -107,11 +109,13 @@ module _ (ends : Ends) (arrive : Arrivals) (fifo : IsFifo arrive) (from second :
   unfolding link_before
   before_is node at apart is =
       let along = reached.others node at apart is in
-      let there : leads ends arrive labels node along.0 ≡ true = leads_there ends arrive labels node along.0 along.1 at is along.3 along.4 along.5 in
+      let there : leads ends arrive labels node along.0 ≡ true =
+      leads_there ends arrive labels node along.0 along.1 along.3 along.4 (is ∙ ap (λ (n : ℕ). Some n) (sym along.5)) in
       let found = find_there (leads ends arrive labels node) 0 (length ends) along.0 (omega arith) (let h = along.2 in omega arith) there in
       let known = find_some (leads ends arrive labels node) 0 (length ends) found.0 found.1 in
-      let led = leads_from ends arrive labels node found.0 at is known.2 in
-      (found.0, led.1, found.1, let h = known.1 in omega arith, led.0, led.2, led.3)
+      let led = leads_from ends arrive labels node found.0 known.2 in
+      let reached_then : arrive found.0 led.1.0 ≡ at = cc (led.1.2, is) in
+      (found.0, led.1.0, found.1, let h = known.1 in omega arith, led.0, led.1.1, reached_then)
 
   earlier_rank : (link left at : ℕ) → label_at labels (start_of ends link) ≡ Some left → arrive link left ≡ at → rank labels left < rank labels at
   earlier_rank link left at is same =

@@ -8,11 +8,7 @@ use Rattle.std.proofs.lemmas.List.{get_or_past}
 use Rattle.std.proofs.lemmas.List.FromFn.{get_or-map-range_with_len, length-map-range_with_len}
 use Rattle.walks.specs.Arrivals.{Arrivals}
 use Rattle.walks.specs.Walks.{Ends, start_of, end_of}
-use Rattle.walks.specs.Rounds.{Labels, label_at, earlier, along, links_into, relabelled}
-
--- the label is that second or an earlier one
-abbrev pub IsBy : Option ℕ → ℕ → Type 0
-IsBy label second = IsSomeAnd label (λ reached. reached ≤ second)
+use Rattle.walks.specs.Rounds.{Labels, label_at, IsBy, earlier, along, links_into, relabelled}
 
 pub by_some : (label : Option ℕ) (a second : ℕ) → label ≡ Some a → a ≤ second → IsBy label second
 by_some None a second e h = absurd (cc e)

@@ -2,17 +2,13 @@
 use Rattle.std.proofs.Common.{◌≡◌, ℕ, zero, suc, ◌+◌, ◌<◌, ◌≤◌, List, [], ◌∷◌, ◌++◌, length, Option, None, Some, ◌⊎◌, inl, inr, refl, sym, ◌∙◌, ap, subst, arith}
 use Rattle.std.specs.Prelude.{IsSomeAnd, MatchOption}
 use Rattle.walks.specs.Arrivals.{Arrivals, IsFifo}
-use Rattle.walks.specs.Walks.{Ends, start_of, end_of, AreWithin, IsWalk, NoWalk, arrival, IsLeast}
-use Rattle.walks.specs.Rounds.{Labels, label_at, labels_after, least_labels}
+use Rattle.walks.specs.Walks.{Ends, start_of, end_of, AreWithin, IsWalk, NoWalk, arrival, Reached, IsLeast}
+use Rattle.walks.specs.Rounds.{Labels, label_at, IsBy, rank, labels_after, least_labels}
 use Rattle.walks.specs.Certificates.{IsKept, IsCertificate}
-use Rattle.walks.proofs.Labels.{IsBy, by_some, some_by, by_later}
+use Rattle.walks.proofs.Labels.{by_some, some_by, by_later}
 use Rattle.walks.proofs.Rounds.{after, length-after, after_start, after_later, after_along, Origin, origin}
-use Rattle.walks.proofs.Ranks.{rank, rank-le-length, rank_less}
+use Rattle.walks.proofs.Ranks.{rank-le-length, rank_less}
 use Rattle.walks.proofs.Kept.{walk_more, arrival_more, arrival_in_order, arrival_later, by_turns, kept_by, kept_from}
-
--- a walk that arrives in that second
-abbrev pub Reached : Ends → Arrivals → ℕ → ℕ → ℕ → ℕ → Type 0
-Reached ends arrive from second to at = (links : List ℕ) × IsWalk ends from links to × (arrival arrive second links ≡ at)
 
 -- a walk goes on along a link
 pub reached_more : (ends : Ends) (arrive : Arrivals) (from second to at link : ℕ) → Reached ends arrive from second to at → link < length ends → start_of ends link ≡ to

@@ -4,3 +4,4 @@ pub mod Ranks
 pub mod Kept
 pub mod Least
 pub mod Followed
+pub mod Settled

@@ -4,16 +4,8 @@ use Rattle.std.specs.Prelude.{nat_lt, count_by, IsSomeAnd}
 use Rattle.std.proofs.lemmas.Bool.{lt-ltb, le-ltb}
 use Rattle.std.proofs.lemmas.Bool.Decides.{nat_tests}
 use Rattle.std.proofs.lemmas.List.Sums.{sum_by-cons, count_by-le-length}
-use Rattle.walks.specs.Rounds.{Labels, label_at}
-use Rattle.walks.proofs.Labels.{IsBy, some_by}
-
--- there is a label, and it is earlier
-abbrev pub is_before : ℕ → Option ℕ → Bool
-is_before second None = false
-is_before second (Some label) = nat_lt label second
-
-unfoldable pub rank : Labels → ℕ → ℕ
-rank labels second = count_by (is_before second) labels
+use Rattle.walks.specs.Rounds.{Labels, label_at, IsBy, is_before, rank}
+use Rattle.walks.proofs.Labels.{some_by}
 
 one : Option ℕ → ℕ → ℕ
 one label second = cond (is_before second label) 1 0

@@ -1,15 +1,16 @@
 -- The chosen route among those of least arrival: followed back from its end, by the link of the least number at each node.
-use Rattle.std.specs.Prelude.{ℕ, zero, suc, Bool, ◌&&◌, nat_eq, List, [], ◌∷◌, ◌++◌, length, find, Option, None, Some, if◌then◌else◌}
+use Rattle.std.specs.Prelude.{ℕ, zero, suc, Bool, false, ◌&&◌, nat_eq, List, [], ◌∷◌, ◌++◌, length, find, Option, None, Some, if◌then◌else◌}
 use Rattle.std.specs.List.{range_with_len}
-use Rattle.std.specs.Option.{option_eq, option_map, option_map_or}
+use Rattle.std.specs.Option.{option_eq, option_map_or}
 use Rattle.walks.specs.Arrivals.{Arrivals}
 use Rattle.walks.specs.Walks.{Ends, start_of, end_of}
 use Rattle.walks.specs.Rounds.{Labels, label_at}
 
--- the link ends at the node, which is reached along it in the second of its label
+-- the link ends at the node and begins at a labelled one, and the node is reached along it in the second of its label
 abbrev pub leads : Ends → Arrivals → Labels → ℕ → ℕ → Bool
 leads ends arrive labels node link =
-    nat_eq (end_of ends link) node && option_eq nat_eq (option_map (arrive link) (label_at labels (start_of ends link))) (label_at labels node)
+    nat_eq (end_of ends link) node
+    && option_map_or (λ left. option_eq nat_eq (Some (arrive link left)) (label_at labels node)) (label_at labels (start_of ends link)) false
 
 -- the link before a node: of those that lead there the one of the least number
 unfoldable pub link_before : Ends → Arrivals → Labels → ℕ → Option ℕ

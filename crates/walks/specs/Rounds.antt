@@ -1,5 +1,5 @@
 -- The least arrivals at all nodes, found by rounds: after k rounds those of walks of at most k links.
-use Rattle.std.specs.Prelude.{ℕ, zero, suc, nat_eq, min, List, ◌∷◌, map, filter, fold, slice_index_or, Option, None, Some, if◌then◌else◌}
+use Rattle.std.specs.Prelude.{ℕ, ◌≤◌, zero, suc, nat_eq, nat_lt, min, Bool, false, count_by, IsSomeAnd, List, ◌∷◌, map, filter, fold, slice_index_or, Option, None, Some, if◌then◌else◌}
 use Rattle.std.specs.List.{enumerate_from, range_with_len}
 use Rattle.std.specs.Option.{option_map}
 use Rattle.walks.specs.Arrivals.{Arrivals}
@@ -12,6 +12,19 @@ Labels = List (Option ℕ)
 -- the label of a node
 abbrev pub label_at : Labels → ℕ → Option ℕ
 label_at labels node = slice_index_or labels node None
+
+-- the label is that second or an earlier one
+abbrev pub IsBy : Option ℕ → ℕ → Type 0
+IsBy label second = IsSomeAnd label (λ reached. reached ≤ second)
+
+-- there is a label, and it is earlier
+abbrev pub is_before : ℕ → Option ℕ → Bool
+is_before second None = false
+is_before second (Some label) = nat_lt label second
+
+-- how many nodes have a label that is earlier
+unfoldable pub rank : Labels → ℕ → ℕ
+rank labels second = count_by (is_before second) labels
 
 -- the earlier of two labels, of which none is the latest
 abbrev pub earlier : Option ℕ → Option ℕ → Option ℕ

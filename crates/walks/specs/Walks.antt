@@ -32,7 +32,11 @@ abbrev pub arrival : Arrivals → ℕ → List ℕ → ℕ
 arrival arrive second [] = second
 arrival arrive second (link ∷ links) = arrival arrive (arrive link second) links
 
+-- a walk arrives in that second
+abbrev pub Reached : Ends → Arrivals → ℕ → ℕ → ℕ → ℕ → Type 0
+Reached ends arrive from second to at = (links : List ℕ) × IsWalk ends from links to × (arrival arrive second links ≡ at)
+
 -- the least arrival: a walk arrives in this second, and none arrives earlier
 pub record IsLeast (ends : List (ℕ × ℕ)) (arrive : ℕ → ℕ → ℕ) (from second to least : ℕ) : Type 0 where
-  pub reached : (links : List ℕ) × IsWalk ends from links to × (arrival arrive second links ≡ least)
+  pub reached : Reached ends arrive from second to least
   pub none_earlier : (links : List ℕ) → IsWalk ends from links to → least ≤ arrival arrive second links

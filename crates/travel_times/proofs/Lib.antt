@@ -1,0 +1,6 @@
+pub mod Arriving
+pub mod Held
+pub mod Networks
+pub mod Stays
+pub mod Known
+pub mod Binning

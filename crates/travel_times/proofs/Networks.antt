@@ -1,0 +1,17 @@
+-- What the links of a network keep.
+use Rattle.std.proofs.Common.{◌≡◌, ℕ, ◌<◌, ◌≤◌, Bool, true, List, [], ◌∷◌, length, get_or, arith}
+use Rattle.std.specs.Prelude.{slice_index_or}
+use Rattle.std.specs.List.{list_all}
+use Rattle.std.proofs.lemmas.Bool.Decides.{nat_tests}
+use Rattle.std.proofs.lemmas.Bool.{and_parts}
+use Rattle.std.proofs.lemmas.List.Sums.{AllPass-from_list_all}
+use Rattle.network.specs.declared.rows.LinkRow.{LinkRow}
+use Rattle.network.specs.Limits.{is_link, are_measures}
+
+moves : (nodes : ℕ) (link : LinkRow) → is_link nodes link ≡ true → 0 < link.speed
+unfolding is_link are_measures
+moves nodes link sound = grind (arith, nat_tests)
+
+-- no link stands still
+pub all_move : (nodes : ℕ) (links : List LinkRow) → list_all (is_link nodes) links ≡ true → (k : ℕ) (d : LinkRow) → k < length links → 0 < (slice_index_or links k d).speed
+all_move nodes links sound k d within = moves nodes (slice_index_or links k d) (AllPass-from_list_all (is_link nodes) links sound k d within)

@@ -1,0 +1,5 @@
+pub mod Times
+pub mod Profiles
+pub mod Observed
+pub mod Tallies
+pub mod Binned

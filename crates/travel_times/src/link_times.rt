@@ -1,0 +1,104 @@
+ghost use Rattle.std.specs.Prelude.{◌≡◌, ℕ, ◌+◌, ◌^◌, ◌<◌, ◌≤◌, max, List, length, nat_eq, IfOk, All};
+ghost use Rattle.walks.specs.Arrivals.{IsFifo};
+ghost use Rattle.travel_times.specs.Times.{LinkProfile, time_in, arrival_by, profile_at, free_of, arrivals, free_times};
+ghost use Rattle.travel_times.specs.Observed.{AreInOrder, AreOnLinks, link_at, observed_time};
+
+use crate::observations::observed;
+use crate::profiles::Profile;
+use crate::seen::seen_profiles;
+use events::Event;
+use fixed_flow::free_seconds;
+use network::{LinkList, Network};
+use std::alloc::{AllocError, Global};
+use std::marker::Model;
+
+/// The travel times of the links of a network, by their numbers.
+#[derive(Debug, Drop)]
+pub struct LinkTimes {
+    links: Vec<Profile>,
+}
+
+impl Model for LinkTimes {
+    ghost use Rattle.std.specs.Prelude.{List};
+    ghost use Rattle.travel_times.specs.Times.{LinkProfile};
+
+    ghost Value = { List LinkProfile };
+
+    ghost view = { λ times. times.links.items };
+}
+
+/// The free travel times of these links.
+fn free_links(alloc: Global, links: &LinkList) -> Result<LinkTimes, AllocError>
+    requires { All (λ link. 0 < link.speed) links.now }
+    ensures { IfOk result (λ times. times ≡ free_times links.now) }
+{
+    let mut profiles = Vec::new(alloc);
+    for link in &links.rows {
+        profiles.push(Profile::free(alloc, free_seconds(link.length, link.speed)))?;
+    }
+    Ok(LinkTimes { links: profiles })
+}
+
+impl LinkTimes {
+    /// The travel times of links at their free speed.
+    pub fn free(alloc: Global, network: &Network) -> Result<LinkTimes, AllocError>
+        ensures { IfOk result (λ times. times ≡ free_times network.now.links) }
+    {
+        free_links(alloc, &network.links)
+    }
+
+    /// The travel times that the events of a day show: in each bin the average of the cars that entered the link in it and were
+    /// seen to leave it, one second at least, and where none was seen the free seconds.
+    pub fn of_events(
+        alloc: Global,
+        network: &Network,
+        events: &[Event],
+    ) -> Result<LinkTimes, AllocError>
+        requires order { AreInOrder events.now }
+        requires links { AreOnLinks (length network.now.links) events.now }
+        ensures count { IfOk result (λ times. length times ≡ length network.now.links) }
+        ensures free { IfOk result (λ times. (link : ℕ) → link < length network.now.links
+            → (profile_at times link).free ≡ free_of (link_at network.now.links link)) }
+        ensures times { IfOk result (λ times. (link bin : ℕ) → link < length network.now.links
+            → time_in (profile_at times link) bin ≡ observed_time network.now.links events.now link bin) }
+        ensures arrivals { IfOk result (λ times. (link second : ℕ) → link < length network.now.links
+            → arrivals times link second ≡ arrival_by (observed_time network.now.links events.now link) second) }
+    {
+        let known = observed(alloc, network.links.len(), events)?;
+        let links = seen_profiles(alloc, &network.links, &known.rows)?;
+        Ok(LinkTimes { links })
+    }
+
+    /// How many links there are.
+    pub fn len(&self) -> usize
+        ensures { result ≡ length self.now }
+    {
+        self.links.len()
+    }
+
+    /// Whether there is no link.
+    pub fn is_empty(&self) -> bool
+        ensures { result ≡ nat_eq (length self.now) 0 }
+    {
+        self.links.is_empty()
+    }
+
+    /// The second in which the end of a link is reached by who enters the link in this second. It is later, and never falls with
+    /// the second of entry, since nobody overtakes.
+    pub fn arrive(&self, link: u32, second: u64) -> u64
+        requires link { link < length self.now }
+        requires second { second < 2 ^ 60 }
+        ensures value { result ≡ arrivals self.now link second }
+        ensures later { second < result }
+        ensures in_order { (earlier : ℕ) → earlier ≤ second → arrivals self.now link earlier ≤ result }
+        ensures soon { result ≤ max second (2 ^ 33) + 2 ^ 32 }
+    {
+        let profile = &self.links[link as usize];
+        profile.arrive(second)
+    }
+}
+
+/// Whatever is known of links, an arrival is later than the entry, and who enters later arrives no earlier.
+pub fn links_are_first_in_first_out()
+    ensures { (times : List LinkProfile) → IsFifo (arrivals times) }
+{}

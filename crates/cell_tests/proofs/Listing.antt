@@ -1,0 +1,23 @@
+-- Members in a list.
+use Rattle.std.proofs.Common.{◌≡◌, ℕ, suc, ◌<◌, List, [], ◌∷◌, ◌++◌, length, set, slice_index_or, sym, ap, ◌∙◌, subst}
+use Rattle.std.proofs.Common.{length-append, length-set, get_or-set_same, get_or-set_other, arith}
+use Rattle.std.proofs.Math.ListN.{get_or-append}
+use Rattle.std.proofs.Math.Seq.{get_or-append_seam}
+use mathlib.Core.Logic.{dite}
+use native.Mathlib.Decide.{ℕ_discrete, dec_le}
+use Rattle.cell_tests.specs.declared.members.Member.{Member}
+use Rattle.cell_tests.specs.Members.{NumberBoard, IsMember, AreMembers}
+
+-- one member more
+pub members_more : (b : NumberBoard) (ms : List Member) (m : Member) → AreMembers b ms → IsMember b m → AreMembers b (ms ++ m ∷ [])
+members_more b ms m all one i d lt = let l = length-append ms (m ∷ []) in dite (dec_le (suc i) (length ms))
+    (λ le. subst (IsMember b) (sym (get_or-append ms (m ∷ []) d i le)) (all i d le))
+    (λ no. let at : i ≡ length ms = omega arith in
+    subst (IsMember b) (sym (ap (λ z. slice_index_or (ms ++ m ∷ []) z d) at ∙ get_or-append_seam ms m [] d)) one)
+
+-- another member in the place of one
+pub members_set : (b : NumberBoard) (ms : List Member) (k : ℕ) (m : Member) → AreMembers b ms → k < length ms → IsMember b m
+    → AreMembers b (set ms k m)
+members_set b ms k m all below one i d lt = let l = length-set ms k m in dite (ℕ_discrete i k)
+    (λ e. subst (IsMember b) (sym (ap (λ z. slice_index_or (set ms k m) z d) e ∙ get_or-set_same ms k m d below)) one)
+    (λ ne. subst (IsMember b) (sym (get_or-set_other ms k i m d ne)) (all i d (omega arith)))

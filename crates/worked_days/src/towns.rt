@@ -54,10 +54,12 @@ pub(crate) fn scenario_of(alloc: Global, case: Case) -> Option<Scenario> {
 fn all_fit(town: &Town, chosen: &[Plan]) -> bool
     ensures { result ≡ list_all (fits (rows_of town.now)) (map parts_of chosen.now) }
 {
-    let [plan, later @ ..] = chosen else {
-        return true;
-    };
-    plan_fits(town, plan) && all_fit(town, later)
+    for plan in chosen {
+        if !plan_fits(town, plan) {
+            return false;
+        }
+    }
+    true
 }
 
 /// Whether there is a plan for each person of the town, and each of them fits it.

@@ -100,7 +100,8 @@ fn copied(alloc: Global, texts: &[&str]) -> Result<Vec<String>, AllocError> {
     Ok(words)
 }
 
-fn words_of(alloc: Global, texts: &[&str]) -> Vec<String> {
+/// Words; none where memory is wanting.
+pub(crate) fn words_of(alloc: Global, texts: &[&str]) -> Vec<String> {
     match copied(alloc, texts) {
         Ok(words) => words,
         Err(_) => Vec::new(alloc),
@@ -127,7 +128,7 @@ pub(crate) fn is_written(outputs: &MemoryOutputs, file: OutFile, text: &str) -> 
 }
 
 /// Whether these are the report and the events, and no other file was written to.
-fn are_written(outputs: &MemoryOutputs, report: &str, events: &str) -> bool {
+pub(crate) fn are_written(outputs: &MemoryOutputs, report: &str, events: &str) -> bool {
     is_written(outputs, OutFile::Report, report)
         && is_written(outputs, OutFile::Events, events)
         && is_written(outputs, OutFile::Scores, "")

@@ -1,7 +1,7 @@
 //! Files and counts at their limits.
 
-use crate::cases::{Case, LINE, inputs_of, is_written, put, status_of};
-use edge_files::{Failed, InFile, Inputs, MemoryInputs, MemoryOutputs, OutFile};
+use crate::cases::{Case, LINE, are_written, inputs_of, put, status_of};
+use edge_files::{Failed, InFile, Inputs, MemoryInputs, MemoryOutputs};
 use qsim_top::Status;
 use std::alloc::{AllocError, Global};
 use std::sync::Wait;
@@ -41,7 +41,7 @@ fn a_long_file_is_refused(rt: HostRuntime) {
     let status = status_of(&rt, rt.alloc(), &["qsim", "run"], &mut inputs, &mut outputs);
     assert!(rt; status == Status::Refused);
     let report = "refused,settings.json,0,13,TooLong\n";
-    assert!(rt; is_written(&outputs, OutFile::Report, report));
+    assert!(rt; are_written(&outputs, report, ""));
 }
 
 /// A plans.csv of so many persons of one activity each.
@@ -69,25 +69,26 @@ fn day_of(alloc: Global, count: u32) -> MemoryInputs {
     inputs
 }
 
-/// Whether such a day ends so.
+/// Whether such a day ends so, with this report and these events.
 fn ends_so<R: Threads + Wait + Sync>(
     rt: &R,
     alloc: Global,
     count: u32,
     status: Status,
     report: &str,
+    events: &str,
 ) -> bool {
     let mut inputs = day_of(alloc, count);
     let mut outputs = MemoryOutputs::new(alloc);
     let came = status_of(rt, alloc, &["qsim", "run"], &mut inputs, &mut outputs);
-    came == status && is_written(&outputs, OutFile::Report, report)
+    came == status && are_written(&outputs, report, events)
 }
 
 /// As many persons as there may be, and one more.
 #[test]
 fn the_limit_of_persons_is_kept(rt: HostRuntime) {
     let done = "iteration,0,0,0,0\ndone,0\n";
-    assert!(rt; ends_so(&rt, rt.alloc(), 65_536, Status::Done, done));
+    assert!(rt; ends_so(&rt, rt.alloc(), 65_536, Status::Done, done, "iteration,0\n"));
     let refused = "refused,plans.csv,65537,11,TooMany\n";
-    assert!(rt; ends_so(&rt, rt.alloc(), 65_537, Status::Refused, refused));
+    assert!(rt; ends_so(&rt, rt.alloc(), 65_537, Status::Refused, refused, ""));
 }

@@ -1,11 +1,14 @@
 //! Words, reads and writes that fail, and files that are cut.
 
-use crate::cases::{BUS, Case, DRIVE, LINE, inputs_of, is_written, put, status_of};
+use crate::cases::{
+    BUS, Case, DRIVE, LINE, are_written, inputs_of, is_written, put, status_of, words_of,
+};
 use edge_files::{InFile, MemoryInputs, MemoryOutputs, OutFile};
 use qsim_top::Status;
 use std::alloc::Global;
 use std::sync::Wait;
 use std::thread::Threads;
+use words::{Asked, read_words};
 
 /// Wrong words and help, which ends well.
 static WORDS: [(&[&str], Status); 8] = [
@@ -19,19 +22,29 @@ static WORDS: [(&[&str], Status); 8] = [
     (&["qsim", "check", "-h"], Status::Done),
 ];
 
-/// Whether words are answered so, with some text, whatever the files are.
+/// The text that such words are answered with, where this is how the program ends.
+fn told_text(alloc: Global, words: &[&str], status: Status) -> Option<String> {
+    match read_words(alloc, &words_of(alloc, words)) {
+        Ok(Asked::Help(text)) if status == Status::Done => Some(text),
+        Ok(Asked::Refused(text)) if status == Status::Usage => Some(text),
+        _ => None,
+    }
+}
+
+/// Whether words are answered so, with their text alone, whatever the files are.
 fn are_told<R: Threads + Wait + Sync>(
     rt: &R,
     alloc: Global,
     words: &[&str],
     status: Status,
 ) -> bool {
+    let Some(text) = told_text(alloc, words, status) else {
+        return false;
+    };
     let mut inputs = inputs_of(alloc, LINE);
     let mut outputs = MemoryOutputs::new(alloc);
     let came = status_of(rt, alloc, words, &mut inputs, &mut outputs);
-    came == status
-        && !is_written(&outputs, OutFile::Report, "")
-        && is_written(&outputs, OutFile::Events, "")
+    came == status && !text.is_empty() && are_written(&outputs, text.as_str(), "")
 }
 
 /// How many of the words above are answered so.
@@ -166,42 +179,55 @@ const SHORT_BUS: Case = Case {
     ..BUS
 };
 
-/// Whether the report is that of a day that is done or of a scenario that is refused.
-fn is_answered(status: Status, report: &[u8]) -> bool {
-    match status {
-        Status::Done => report.starts_with(b"iteration,0,") && report.ends_with(b"done,0\n"),
-        Status::Refused => report.starts_with(b"refused,"),
-        _ => false,
-    }
+/// How a command ends on that day where a file has this text, and what it writes.
+fn outputs_with<R: Threads + Wait + Sync>(
+    rt: &R,
+    alloc: Global,
+    command: &str,
+    file: InFile,
+    text: &str,
+) -> (Status, MemoryOutputs) {
+    let mut inputs = inputs_of(alloc, SHORT_BUS);
+    put(&mut inputs, file, text);
+    let mut outputs = MemoryOutputs::new(alloc);
+    let status = status_of(rt, alloc, &["qsim", command], &mut inputs, &mut outputs);
+    (status, outputs)
 }
 
-/// Whether the day of the bus is done or refused where a file has this text.
-fn is_done_or_refused<R: Threads + Wait + Sync>(
+/// Whether these are the outputs of a day that is done and of a scenario that is valid.
+fn are_done(run: &MemoryOutputs, check: &MemoryOutputs) -> bool {
+    let report = run.written(OutFile::Report);
+    report.starts_with(b"iteration,0,")
+        && report.ends_with(b"done,0\n")
+        && run.written(OutFile::Events).starts_with(b"iteration,0\n")
+        && check.written(OutFile::Report).starts_with(b"valid,")
+        && is_written(check, OutFile::Events, "")
+}
+
+/// Whether both reports are the same refusal, and nothing else is written.
+fn are_refused(run: &MemoryOutputs, check: &MemoryOutputs) -> bool {
+    let report = run.written(OutFile::Report);
+    report.starts_with(b"refused,")
+        && report == check.written(OutFile::Report)
+        && is_written(run, OutFile::Events, "")
+        && is_written(check, OutFile::Events, "")
+}
+
+/// Whether both commands take a file with this text, or both refuse it alike.
+fn are_alike<R: Threads + Wait + Sync>(
     rt: &R,
     alloc: Global,
     file: InFile,
     text: &str,
+    is_whole: bool,
 ) -> bool {
-    let mut inputs = inputs_of(alloc, SHORT_BUS);
-    put(&mut inputs, file, text);
-    let mut outputs = MemoryOutputs::new(alloc);
-    let status = status_of(rt, alloc, &["qsim", "run"], &mut inputs, &mut outputs);
-    is_answered(status, outputs.written(OutFile::Report))
-}
-
-/// The first byte at which the file may be cut so that the day is neither done nor refused; or the length of the text.
-fn first_cut<R: Threads + Wait + Sync>(
-    rt: &R,
-    alloc: Global,
-    file: InFile,
-    text: &'static str,
-) -> usize {
-    for end in 0..text.len() {
-        if !is_done_or_refused(rt, alloc, file, front(text, end)) {
-            return end;
-        }
+    let (ran, run) = outputs_with(rt, alloc, "run", file, text);
+    let (checked, check) = outputs_with(rt, alloc, "check", file, text);
+    if is_whole {
+        ran == Status::Done && checked == Status::Done && are_done(&run, &check)
+    } else {
+        ran == Status::Refused && checked == Status::Refused && are_refused(&run, &check)
     }
-    text.len()
 }
 
 /// The text of plans.csv on that day.
@@ -223,25 +249,41 @@ fn text_of(file: InFile) -> &'static str {
     }
 }
 
-/// Whether a file may be cut at every byte.
-fn may_be_cut<R: Threads + Wait + Sync>(rt: &R, alloc: Global, file: InFile) -> bool {
+/// The lengths of the fronts of each file that leave a whole scenario. A last line needs no line feed; settings and departures may be
+/// left out; a person stays where the plan ends with an activity; and the last stop call may be at 6 in place of 60.
+static WHOLE: [(InFile, &[usize]); 7] = [
+    (InFile::Settings, &[0]),
+    (InFile::Nodes, &[32]),
+    (InFile::Links, &[115]),
+    (InFile::Plans, &[59, 60, 100, 101, 122, 123, 163]),
+    (InFile::Stops, &[21]),
+    (InFile::Routes, &[52, 53]),
+    (InFile::Departures, &[0, 28, 29, 40]),
+];
+
+/// The length of the first front of a file that is not answered so; or that of the file.
+fn first_cut<R: Threads + Wait + Sync>(
+    rt: &R,
+    alloc: Global,
+    file: InFile,
+    whole: &[usize],
+) -> usize {
     let text = text_of(file);
-    first_cut(rt, alloc, file, text) == text.len()
+    for end in 0..text.len() {
+        if !are_alike(rt, alloc, file, front(text, end), whole.contains(&end)) {
+            return end;
+        }
+    }
+    text.len()
 }
 
-/// Each file is cut at every byte.
+/// Each file is cut at every byte: both commands refuse what is left alike, but where it is whole.
 #[test]
 fn cut_files_are_done_or_refused(rt: HostRuntime) {
-    let files = [
-        InFile::Settings,
-        InFile::Nodes,
-        InFile::Links,
-        InFile::Plans,
-        InFile::Stops,
-        InFile::Routes,
-        InFile::Departures,
-    ];
-    for file in files {
-        assert!(rt; may_be_cut(&rt, rt.alloc(), file));
+    for (file, whole) in WHOLE {
+        assert_eq!(rt;
+            first_cut(&rt, rt.alloc(), file, whole),
+            text_of(file).len()
+        );
     }
 }

@@ -407,51 +407,30 @@ static NO_VALUES: [&str; 18] = [
      ]]]]]]]]]]]]]]]]]]]]]]]]]]]]]]]]]]]]]]]]]]]]]]]]]]}",
 ];
 
-/// Objects that are taken.
-static TAKEN: [&str; 8] = [
-    "{}",
-    " {\r\n\t} ",
-    "{\"seed\":18446744073709551615}\n",
-    "{\"\\u0073eed\":7}",
-    "{\"seed\":1,\"seed\":2}",
-    "{\"seed\":-1,\"seed\":2}",
-    "{\"end_second\":172800,\"hole_speed\":10000,\"stuck_push\":1}",
-    "{\"dwell_open\":0,\"dwell_alight\":0,\"dwell_board\":0}",
-];
-
-/// Whether `check` answers so to a walk with these settings.
+/// Whether `check` refuses a walk with these settings so.
 fn is_told<R: Threads + Wait + Sync>(
     rt: &R,
     alloc: Global,
     settings: &'static str,
-    status: Status,
     report: &str,
 ) -> bool {
-    is_answered(
-        rt,
-        alloc,
-        "check",
-        Case { settings, ..WALK },
-        status,
-        report,
-        "",
-    )
+    let case = Case { settings, ..WALK };
+    is_answered(rt, alloc, "check", case, Status::Refused, report, "")
 }
 
-/// The first of these settings to which `check` does not answer so; or nothing.
+/// The first of these settings that `check` does not refuse so.
 fn first_other<R: Threads + Wait + Sync>(
     rt: &R,
     alloc: Global,
     texts: &[&'static str],
-    status: Status,
     report: &str,
-) -> &'static str {
+) -> Option<&'static str> {
     for settings in texts {
-        if !is_told(rt, alloc, settings, status, report) {
-            return settings;
+        if !is_told(rt, alloc, settings, report) {
+            return Some(settings);
         }
     }
-    ""
+    None
 }
 
 const NOT_JSON: &str = "refused,settings.json,0,14,NotJson\n";
@@ -462,37 +441,19 @@ const VALUE_BAD: &str = "refused,settings.json,0,16,ValueBad\n";
 
 #[test]
 fn settings_are_refused(rt: HostRuntime) {
-    let refused = Status::Refused;
-    assert_eq!(rt;
-        first_other(&rt, rt.alloc(), &NO_OBJECTS, refused, NOT_JSON),
-        ""
-    );
-    assert_eq!(rt;
-        first_other(&rt, rt.alloc(), &NO_KEYS, refused, KEY_UNKNOWN),
-        ""
-    );
-    assert_eq!(rt;
-        first_other(&rt, rt.alloc(), &NO_VALUES, refused, VALUE_BAD),
-        ""
-    );
+    let alloc = rt.alloc();
+    assert_eq!(rt; first_other(&rt, alloc, &NO_OBJECTS, NOT_JSON), None);
+    assert_eq!(rt; first_other(&rt, alloc, &NO_KEYS, KEY_UNKNOWN), None);
+    assert_eq!(rt; first_other(&rt, alloc, &NO_VALUES, VALUE_BAD), None);
 }
 
-/// Settings that are taken, and the counts of valid scenarios.
+/// Whether `check` tells these counts of a scenario.
+fn is_counted<R: Threads + Wait + Sync>(rt: &R, alloc: Global, case: Case, report: &str) -> bool {
+    is_answered(rt, alloc, "check", case, Status::Done, report, "")
+}
+
 #[test]
 fn check_tells_counts(rt: HostRuntime) {
-    let done = Status::Done;
-    let counts = "valid,4,3,1,0,0,0\n";
-    assert_eq!(rt; first_other(&rt, rt.alloc(), &TAKEN, done, counts), "");
-    assert!(rt; is_answered(&rt, rt.alloc(), "check", DRIVE, done, counts, ""));
-    assert!(rt;
-        is_answered(
-            &rt,
-            rt.alloc(),
-            "check",
-            BUS,
-            done,
-            "valid,4,3,2,2,1,1\n",
-            ""
-        )
-    );
+    assert!(rt; is_counted(&rt, rt.alloc(), DRIVE, "valid,4,3,1,0,0,0\n"));
+    assert!(rt; is_counted(&rt, rt.alloc(), BUS, "valid,4,3,2,2,1,1\n"));
 }

@@ -2,16 +2,18 @@
 use Rattle.std.specs.Prelude.{◌≡◌, ℕ, suc, ◌*◌, ◌<◌, ◌≤◌, Bool, true, false, List, ◌++◌, length, map, All, ◌==◌}
 use Rattle.std.specs.List.{Contains}
 use Rattle.events.specs.declared.event.Event.{Event}
+use Rattle.events.specs.declared.event.Mode.{Mode}
 use Rattle.events.specs.declared.event.VehicleId.{VehicleId}
+use Rattle.traffic.specs.declared.rows.Stage.TheVariants.{Queue}
 use Rattle.traffic.specs.declared.world.Place.TheVariants.{Riding}
 use Rattle.traffic.specs.Lists.{below}
-use Rattle.traffic.specs.Setup.{Setup, seconds_of, hole_of}
-use Rattle.traffic.specs.Rows.{person_of}
+use Rattle.traffic.specs.Setup.{Setup, Teleport, way, stay, next_stay, seconds_of, hole_of}
+use Rattle.traffic.specs.Rows.{at, person_of}
 use Rattle.traffic.specs.Persons.{link_of_vehicle}
 use Rattle.traffic.specs.Day.{world_at, day as events_of_day}
 use Rattle.traffic.specs.Frames.{Ascends}
 use Rattle.parts.specs.Owners.{Owner, owner_of, begins_in, crosses, link_of_rider, near, longest_lag, lag}
-use Rattle.parts.specs.Parts.{Held, Passed, Parcel, entering_row, part, held, ready, out, own_events, ends_with}
+use Rattle.parts.specs.Parts.{Held, Passed, Parcel, entering_row, known_list, late_rows, part, held, ready, out, own_events, ends_with}
 use Rattle.parts.specs.Core.{Core, Allowed, Reaches, Shows, advance}
 use Rattle.parts.specs.Merge.{Merges}
 use Rattle.part_laws.specs.Alone.{absorb, given, alone, parcel_to, tells_alone}
@@ -29,16 +31,24 @@ pub record HasNeighbours (S : Setup) (own : Owner) (parts : ℕ) : Type 0 where
   pub others : (p : ℕ) → near S own p p ≡ false
   pub both : (p q : ℕ) → near S own p q ≡ near S own q p
   pub there : (p q : ℕ) → near S own p q ≡ true → (p < parts) × (q < parts)
-  -- a lag is 1 to 32 seconds, no longer than a link over the border takes, nor than its holes take the other way
+  -- a lag is 1 to 32 seconds, no longer than a link over the border takes, nor than its holes take the other way, nor than a teleported leg
   pub some : (p q : ℕ) → 1 ≤ lag S own p q
   pub most : (p q : ℕ) → lag S own p q ≤ longest_lag
   pub links : (l : ℕ) → crosses S own l ≡ true → lag S own (begins_in S own l) (owner_of S own l) ≤ seconds_of S l
   pub holes : (l : ℕ) → crosses S own l ≡ true → lag S own (owner_of S own l) (begins_in S own l) ≤ hole_of S l
+  pub hops : (i e : ℕ) (mode : Mode) (seconds : ℕ) → i < length S.persons → way S i e ≡ Teleport mode seconds
+      → lag S own (owner_of S own (stay S i e).link) (owner_of S own (next_stay S i e).link) ≤ seconds
 
 -- A second of a partition is that of the day there, and nothing of any other partition is read.
 pub record SecondsAreLocal (S : Setup) (own : Owner) (parts : ℕ) : Type 0 where
   -- at the start it holds its part of the day's first world
   pub starts : (p : ℕ) → held S own p 0 ≡ part S own p 0 (world_at S 0)
+  -- the queue of a link that it holds is short of the rows that came in the last seconds of which it has not heard, and of no other
+  pub short : (t l : ℕ) → l < length S.links
+      → at l Queue (world_at S t) ≡ known_list S own (lag S own) t l Queue ++ late_rows S own (lag S own) t l
+  -- who rides is on the link of the row that lists him, which is that of his vehicle
+  pub rides : (t i : ℕ) (v : VehicleId) → i < length S.persons → (person_of i (world_at S t)).place ≡ Riding v
+      → link_of_vehicle v (world_at S t).rows ≡ link_of_rider i (world_at S t).rows
   -- absorbing the parcels that are due makes what it holds ready
   pub absorbs : (p t : ℕ) → absorb S own parts p t (given S own p t) (held S own p t) ≡ ready S own p t
   -- the second alone gives what it holds next, what it sends to each, and its events
@@ -85,11 +95,8 @@ pub record MakeTheDay (S : Setup) (own : Owner) (parts : ℕ) : Type 0 where
   pub ascends : (p : ℕ) → Ascends (all_told S own parts p)
   pub apart : (p q : ℕ) → p < parts → q < parts → (a b : Event) → Contains (all_told S own parts p) a → Contains (all_told S own parts q) b
       → a.key ≡ b.key → p ≡ q
-  -- at the end each person belongs to one of them: it has him, or sent him in a parcel that is not absorbed; and who rides is on the link
-  -- of the row that lists him
+  -- at the end each person belongs to one of them: it has him, or sent him in a parcel that is not absorbed
   pub ends : (i : ℕ) → i < length S.persons → EndsWithOne S own parts i
-  pub rides : (i : ℕ) (v : VehicleId) → i < length S.persons → (person_of i (world_at S S.end)).place ≡ Riding v
-      → link_of_vehicle v (world_at S S.end).rows ≡ link_of_rider i (world_at S S.end).rows
   -- merged by the keys it is the day
   pub merged : Merges (map (all_told S own parts) (below parts)) (events_of_day S)
 

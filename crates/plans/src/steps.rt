@@ -21,6 +21,7 @@ use csv::ByteRecord;
 use events::{Mode, Names, Route};
 use records::{items_in, number, numbers_of};
 use std::alloc::{AllocError, Global};
+use std::mem::replace;
 
 /// What the row names.
 pub fn named_in<'a>(
@@ -62,99 +63,47 @@ pub fn with_closed(own: Vec<Plan>, current: OpenPlan) -> Result<Vec<Plan>, Alloc
 /// The row begins a person.
 fn new_person(
     alloc: Global,
-    read: RowsRead,
+    read: &mut RowsRead,
     row: &ByteRecord,
     number_of_row: u32,
     act: Act,
-) -> Result<RowsRead, AllocError>
-    requires closes { is_some read.current.last ≡ true }
+) -> Result<(), AllocError>
+    requires closes { is_some read.old.current.last ≡ true }
     requires person { is_name (field (fields_of row.now) 0) ≡ true }
-    ensures { IfOk result (λ r. progress_of r ≡ new_person (progress_of read) (fields_of row.now) number_of_row act) }
+    ensures { OnOk result (progress_of read.new ≡ new_person (progress_of read.old) (fields_of row.now) number_of_row act) }
 {
-    let RowsRead {
-        mut persons,
-        kinds,
-        lines,
-        stops,
-        mut plans,
-        own,
-        mut starts,
-        current,
-    } = read;
-    number(alloc, &mut persons, cell(row, 0))?;
+    number(alloc, &mut read.persons, cell(row, 0))?;
+    let own = replace(&mut read.own, Vec::new(alloc));
+    let current = replace(&mut read.current, begun(alloc, act));
     let rows = with_closed(own, current)?;
-    plans.push(PlanList { rows })?;
-    starts.push(number_of_row)?;
-    Ok(RowsRead {
-        persons,
-        kinds,
-        lines,
-        stops,
-        plans,
-        own: Vec::new(alloc),
-        starts,
-        current: begun(alloc, act),
-    })
+    read.plans.push(PlanList { rows })?;
+    read.starts.push(number_of_row)?;
+    Ok(())
 }
 
 /// The row begins a further plan of the last person.
 fn new_plan(
     alloc: Global,
-    read: RowsRead,
+    read: &mut RowsRead,
     number_of_row: u32,
     act: Act,
-) -> Result<RowsRead, AllocError>
-    requires { is_some read.current.last ≡ true }
-    ensures { IfOk result (λ r. progress_of r ≡ new_plan (progress_of read) number_of_row act) }
+) -> Result<(), AllocError>
+    requires { is_some read.old.current.last ≡ true }
+    ensures { OnOk result (progress_of read.new ≡ new_plan (progress_of read.old) number_of_row act) }
 {
-    let RowsRead {
-        persons,
-        kinds,
-        lines,
-        stops,
-        plans,
-        own,
-        mut starts,
-        current,
-    } = read;
-    let own = with_closed(own, current)?;
-    starts.push(number_of_row)?;
-    Ok(RowsRead {
-        persons,
-        kinds,
-        lines,
-        stops,
-        plans,
-        own,
-        starts,
-        current: begun(alloc, act),
-    })
+    let own = replace(&mut read.own, Vec::new(alloc));
+    let current = replace(&mut read.current, begun(alloc, act));
+    read.own = with_closed(own, current)?;
+    read.starts.push(number_of_row)?;
+    Ok(())
 }
 
 /// The row goes on with the current plan.
-fn same_plan(read: RowsRead, act: Act) -> RowsRead
-    ensures { progress_of result ≡ same_plan_act (progress_of read) act }
+fn same_plan(alloc: Global, read: &mut RowsRead, act: Act)
+    ensures { progress_of read.new ≡ same_plan_act (progress_of read.old) act }
 {
-    let RowsRead {
-        persons,
-        kinds,
-        lines,
-        stops,
-        plans,
-        own,
-        starts,
-        current,
-    } = read;
-    RowsRead {
-        persons,
-        kinds,
-        lines,
-        stops,
-        plans,
-        own,
-        starts,
-        current: with_act(current, act),
-    }
+    let current = replace(&mut read.current, begun(alloc, act));
+    read.current = with_act(current, act);
 }
 
 /// The activity that the row is, with its kind among the names.
@@ -184,15 +133,15 @@ pub fn numbered_act(
 #[tactic(auto, unfolding(crate::specs::Progress::put_act))]
 fn put_act(
     alloc: Global,
-    read: RowsRead,
+    read: &mut RowsRead,
     before: Option<&ByteRecord>,
     row: &ByteRecord,
     number_of_row: u32,
     act: Act,
-) -> Result<RowsRead, AllocError>
+) -> Result<(), AllocError>
     requires person { is_name (field (fields_of row.now) 0) ≡ true }
-    requires closes { begins_plan (option_map (λ r. fields_of r.now) before) (fields_of row.now) ≡ true → is_some read.current.last ≡ true }
-    ensures { IfOk result (λ r. progress_of r ≡ put_act (progress_of read) (begins_plan (option_map (λ r. fields_of r.now) before.entry) (fields_of row.now)) (begins_person (option_map (λ r. fields_of r.now) before.entry) (fields_of row.now)) (fields_of row.now) number_of_row act) }
+    requires closes { begins_plan (option_map (λ r. fields_of r.now) before) (fields_of row.now) ≡ true → is_some read.old.current.last ≡ true }
+    ensures { OnOk result (progress_of read.new ≡ put_act (progress_of read.old) (begins_plan (option_map (λ r. fields_of r.now) before.entry) (fields_of row.now)) (begins_person (option_map (λ r. fields_of r.now) before.entry) (fields_of row.now)) (fields_of row.now) number_of_row act) }
 {
     if begins_plan(before, row) {
         if begins_person(before, row) {
@@ -200,7 +149,8 @@ fn put_act(
         }
         return new_plan(alloc, read, number_of_row, act);
     }
-    Ok(same_plan(read, act))
+    same_plan(alloc, read, act);
+    Ok(())
 }
 
 /// One more row, which is an activity.
@@ -223,5 +173,6 @@ pub fn step_act(
 {
     let mut read = read;
     let act = numbered_act(alloc, &mut read.kinds, row, named, links)?;
-    put_act(alloc, read, before, row, number_of_row, act)
+    put_act(alloc, &mut read, before, row, number_of_row, act)?;
+    Ok(read)
 }

@@ -1,3 +1,8 @@
+//! The files of a scenario, read one after another and put together.
+//!
+//! What an early return leaves is dropped by name there, and not by the end of its scope: a proof then meets one call for each value,
+//! whose contract it knows, in place of all that the value is made of.
+
 ghost use Rattle.std.specs.Prelude.{◌≡◌, ◌<◌, ◌≤◌, ◌^◌, ℕ, None, length, map, replicate, IfOk, All, List};
 ghost use Rattle.plans.specs.Progress.{IsSound};
 ghost use Rattle.plans.specs.Read.{plan_rows_of};
@@ -14,11 +19,8 @@ ghost use Rattle.scenario.specs.Given.{ways_in, book_of, town_of, plans_cross_fa
 ghost use Rattle.scenario.specs.Views.{roads_view, timetable_view, scenario_view, texts_of};
 
 use crate::faults::{ScenarioFault, Stop};
-use crate::files::Files;
+use crate::files::{Files, LaterFiles};
 use crate::legs::all_plans_fault;
-use crate::letting_go::{
-    let_book_go, let_files_go, let_name_list_go, let_names_go, let_plans_go, let_rows_go,
-};
 use crate::numbers::{Numbering, numbers_in};
 use crate::persons::read_persons;
 use crate::renumbering::plans_in_town;
@@ -100,7 +102,7 @@ fn copies(first: &Names, second: &Names) -> Result<(Names, Names), AllocError>
     match second.try_clone() {
         Ok(other) => Ok((one, other)),
         Err(_) => {
-            let_name_list_go(one);
+            drop(one);
             Err(AllocError)
         }
     }
@@ -116,7 +118,8 @@ fn book_of(
     ensures { IfOk result (λ book. book ≡ book_of (roads_view network.now) persons kinds (timetable_view schedule.now)) }
 {
     let Ok((links, stops)) = copies(&network.link_names, &schedule.stops.names) else {
-        let_names_go(persons, kinds);
+        drop(persons);
+        drop(kinds);
         return Err(AllocError);
     };
     match copies(&schedule.routes.lines, &schedule.departures.names) {
@@ -129,8 +132,10 @@ fn book_of(
             departures,
         }),
         Err(_) => {
-            let_names_go(persons, kinds);
-            let_names_go(links, stops);
+            drop(persons);
+            drop(kinds);
+            drop(links);
+            drop(stops);
             Err(AllocError)
         }
     }
@@ -194,14 +199,16 @@ fn named_town(
     ensures { IfOk result (λ town. rows_of town ≡ town_of (values_of settings) (roads_view network) persons kinds (timetable_view schedule)) }
 {
     let Ok(book) = book_of(persons, kinds, &network, &schedule) else {
-        let_rows_go(network, schedule);
+        drop(network);
+        drop(schedule);
         return Err(AllocError);
     };
     match no_signals(alloc, network.links.len()) {
         Ok(greens) => Ok(town_of(settings, network, schedule, book, greens)),
         Err(_) => {
-            let_rows_go(network, schedule);
-            let_book_go(book);
+            drop(network);
+            drop(schedule);
+            drop(book);
             Err(AllocError)
         }
     }
@@ -250,16 +257,19 @@ fn settled(
         plans,
         starts: _,
     } = file;
-    let_names_go(lines, stops);
+    drop(lines);
+    drop(stops);
     let Ok(plans) = plans_in_town(alloc, &numbering, plans) else {
-        let_names_go(persons, kinds);
-        let_rows_go(network, schedule);
+        drop(persons);
+        drop(kinds);
+        drop(network);
+        drop(schedule);
         return Err(AllocError);
     };
     match named_town(alloc, settings, network, schedule, persons, kinds) {
         Ok(town) => Ok(Scenario { town, plans }),
         Err(_) => {
-            let_plans_go(plans);
+            drop(plans);
             Err(AllocError)
         }
     }
@@ -280,11 +290,15 @@ fn together(
         (scenario_of (values_of settings) (roads_view network) (plan_rows_of file) (timetable_view schedule)) }
 {
     let Ok(numbering) = numbering_in(alloc, &file, &schedule) else {
-        let_files_go(file, network, schedule);
+        drop(file);
+        drop(network);
+        drop(schedule);
         return Err(Stop::NoMemory);
     };
     if let Some(fault) = crossed(&numbering, &schedule, &file) {
-        let_files_go(file, network, schedule);
+        drop(file);
+        drop(network);
+        drop(schedule);
         return Err(Stop::Fault(fault));
     }
     match settled(alloc, settings, network, file, schedule, numbering) {
@@ -293,27 +307,34 @@ fn together(
     }
 }
 
-/// What plans.csv, stops.csv, routes.csv and departures.csv, which are let go, give on these roads, or their first fault.
+/// What the files that are read over roads, which are let go, give on these, or their first fault.
 fn on_roads(
     alloc: Global,
     long: Option<InFile>,
     settings: Settings,
     network: Network,
-    plans: Bytes,
-    stops: Bytes,
-    routes: Bytes,
-    departures: Bytes,
+    later: LaterFiles,
 ) -> Result<Scenario, Stop>
     ensures { Tells scenario_view result
-        (on_roads_fault (roads_view network) (text_in long InFile.Plans plans) (text_in long InFile.Stops stops) (text_in long InFile.Routes routes) (text_in long InFile.Departures departures))
-        (on_roads (values_of settings) (roads_view network) (text_in long InFile.Plans plans) (text_in long InFile.Stops stops) (text_in long InFile.Routes routes) (text_in long InFile.Departures departures)) }
+        (on_roads_fault (roads_view network) (text_in long InFile.Plans later.plans) (text_in long InFile.Stops later.stops) (text_in long InFile.Routes later.routes) (text_in long InFile.Departures later.departures))
+        (on_roads (values_of settings) (roads_view network) (text_in long InFile.Plans later.plans) (text_in long InFile.Stops later.stops) (text_in long InFile.Routes later.routes) (text_in long InFile.Departures later.departures)) }
 {
+    let LaterFiles {
+        plans,
+        stops,
+        routes,
+        departures,
+    } = later;
     let Ok(ends) = ends_in(alloc, &network) else {
+        drop(network);
         return Err(Stop::NoMemory);
     };
     let file = match read_persons(alloc, long, plans, &network.link_names, &ends) {
         Ok(file) => file,
-        Err(stop) => return Err(stop),
+        Err(stop) => {
+            drop(network);
+            return Err(stop);
+        }
     };
     match read_schedule(
         alloc,
@@ -325,7 +346,11 @@ fn on_roads(
         &ends,
     ) {
         Ok(schedule) => together(alloc, settings, network, file, schedule),
-        Err(stop) => Err(stop),
+        Err(stop) => {
+            drop(file);
+            drop(network);
+            Err(stop)
+        }
     }
 }
 
@@ -347,14 +372,13 @@ pub fn assemble(alloc: Global, files: Files) -> Result<Scenario, Stop>
         departures,
         long,
     } = files;
-    let settings = match settings_in(alloc, long, settings) {
-        Ok(settings) => settings,
-        Err(stop) => return Err(stop),
+    let settings = settings_in(alloc, long, settings)?;
+    let network = read_roads(alloc, long, nodes, links)?;
+    let later = LaterFiles {
+        plans,
+        stops,
+        routes,
+        departures,
     };
-    match read_roads(alloc, long, nodes, links) {
-        Ok(network) => on_roads(
-            alloc, long, settings, network, plans, stops, routes, departures,
-        ),
-        Err(stop) => Err(stop),
-    }
+    on_roads(alloc, long, settings, network, later)
 }

@@ -14,3 +14,12 @@ pub struct Files {
     pub departures: Bytes,
     pub long: Option<InFile>,
 }
+
+/// The bytes of the files that are read over roads.
+#[derive(Drop)]
+pub struct LaterFiles {
+    pub plans: Bytes,
+    pub stops: Bytes,
+    pub routes: Bytes,
+    pub departures: Bytes,
+}

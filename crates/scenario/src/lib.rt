@@ -6,7 +6,6 @@ mod chosen;
 mod faults;
 mod files;
 mod legs;
-mod letting_go;
 mod numbers;
 mod persons;
 mod renumbering;

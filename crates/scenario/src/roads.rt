@@ -30,18 +30,23 @@ pub fn read_roads(
         Err(stop) => return Err(stop_in(InFile::Nodes, stop)),
     };
     if is_long(long, InFile::Links) {
+        drop(node_names);
+        drop(nodes);
         return Err(too_long(InFile::Links));
     }
-    let (link_names, links) = match read_links(alloc, bytes_of(&links), &node_names) {
-        Ok(read) => read,
-        Err(stop) => return Err(stop_in(InFile::Links, stop)),
-    };
-    Ok(Network {
-        node_names,
-        link_names,
-        nodes,
-        links,
-    })
+    match read_links(alloc, bytes_of(&links), &node_names) {
+        Ok((link_names, links)) => Ok(Network {
+            node_names,
+            link_names,
+            nodes,
+            links,
+        }),
+        Err(stop) => {
+            drop(node_names);
+            drop(nodes);
+            Err(stop_in(InFile::Links, stop))
+        }
+    }
 }
 
 /// Where each link begins and where it ends.

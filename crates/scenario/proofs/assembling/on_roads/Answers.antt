@@ -19,19 +19,19 @@ read_schedule-requires c = ends_count c.deref-2.result.now c.args.network.links 
 pub returns-in-Err : goal.returns-in-Err
 returns-in-Err c =
     let args = c.args in
-    let plans = text_in args.long file.Plans args.plans in
-    let stops = text_in args.long file.Stops args.stops in
-    let routes = text_in args.long file.Routes args.routes in
-    let departures = text_in args.long file.Departures args.departures in
+    let plans = text_in args.long file.Plans args.later.plans in
+    let stops = text_in args.long file.Stops args.later.stops in
+    let routes = text_in args.long file.Routes args.later.routes in
+    let departures = text_in args.long file.Departures args.later.departures in
     persons_told c.in-Err.stop (roads_view args.network) plans stops routes departures c.deref.result.now (c.deref.ensures.value ∙ c.in-Ok.ensures) c.in-Err.ensures.read
 
-pub returns-in-Err-read_schedule : goal.returns-in-Err-read_schedule
-returns-in-Err-read_schedule c =
+pub returns : goal.returns
+returns c =
     let args = c.args in
-    let plans = text_in args.long file.Plans args.plans in
-    let stops = text_in args.long file.Stops args.stops in
-    let routes = text_in args.long file.Routes args.routes in
-    let departures = text_in args.long file.Departures args.departures in
+    let plans = text_in args.long file.Plans args.later.plans in
+    let stops = text_in args.long file.Stops args.later.stops in
+    let routes = text_in args.long file.Routes args.later.routes in
+    let departures = text_in args.long file.Departures args.later.departures in
     let same = c.deref.ensures.value ∙ sym c.deref-2.ensures.value in
     timetable_told c.in-Err-read_schedule.stop (roads_view args.network) plans stops routes departures c.deref-2.result.now (c.deref-2.ensures.value ∙ c.in-Ok.ensures)
     (subst (λ (e : List (ℕ × ℕ)). persons_fault args.network.link_names e plans ≡ None) same c.in-Ok-read_persons.ensures.read.0) c.in-Err-read_schedule.ensures.read
@@ -48,10 +48,10 @@ together-requires-clause-schedule c =
 pub returns-in-Ok-read_schedule : goal.returns-in-Ok-read_schedule
 returns-in-Ok-read_schedule c =
     let args = c.args in
-    let plans = text_in args.long file.Plans args.plans in
-    let stops = text_in args.long file.Stops args.stops in
-    let routes = text_in args.long file.Routes args.routes in
-    let departures = text_in args.long file.Departures args.departures in
+    let plans = text_in args.long file.Plans args.later.plans in
+    let stops = text_in args.long file.Stops args.later.stops in
+    let routes = text_in args.long file.Routes args.later.routes in
+    let departures = text_in args.long file.Departures args.later.departures in
     let same = c.deref.ensures.value ∙ sym c.deref-2.ensures.value in
     all_told c.together.result (values_of args.settings) (roads_view args.network) (plan_rows_of c.in-Ok-read_persons.file) (timetable_view c.in-Ok-read_schedule.schedule) plans stops routes departures c.deref-2.result.now
     (c.deref-2.ensures.value ∙ c.in-Ok.ensures) (subst (λ (e : List (ℕ × ℕ)). persons_fault args.network.link_names e plans ≡ None) same c.in-Ok-read_persons.ensures.read.0) c.in-Ok-read_schedule.ensures.read.0

@@ -9,9 +9,9 @@ use Rattle.scenario.specs.Given.{roads_fault}
 use Rattle.scenario.proofs.Told.{short_text, told_none, told_stop, later_stop, same_bytes}
 use Rattle.scenario.proofs.roads.read_roads.Goals as goal
 
-pub returns-in-Err-read_links : goal.returns-in-Err-read_links
+pub returns : goal.returns
 unfolding roads_fault
-returns-in-Err-read_links c =
+returns c =
     let args = c.args in
     let nodes = text_in args.long file.Nodes args.nodes in
     let links = text_in args.long file.Links args.links in

@@ -1,0 +1,16 @@
+use Rattle.std.proofs.Common.{◌∙◌, sym, ap, ℕ, List, Some}
+use Rattle.edge_files.specs.declared.files.InFile.TheVariants as file
+use Rattle.schedule.specs.Departures.{departures_fault}
+use Rattle.schedule.specs.Views.{departure_lists}
+use Rattle.scenario.proofs.Told.{short_text, told_stop}
+use Rattle.scenario.proofs.timetables_read.departures_in.Goals as goal
+
+pub returns : goal.returns
+returns c =
+    let args = c.args in
+    let same = short_text args.long file.Departures args.bytes (sym c.is_long.ensures ∙ c.if-is_long.false) ∙ ap (λ (b : List ℕ). Some b) (sym c.bytes_of.ensures) in
+    record {
+      read = told_stop departure_lists _ c.stop_in.result file.Departures (departures_fault args.routes.now) _ c.bytes_of.result.now c.in-Err.stop same c.in-Err.ensures.read c.stop_in.ensures;
+      few = tt;
+      sound = tt;
+    }

@@ -74,7 +74,7 @@ riders_fit z v ws h g =
     All-append (IsFitRider z) (staying (next_call v).stop v.riders) (map rider (boarding v ws)) (All-filter _ (IsFitRider z) v.riders h.riders)
     (All-from_recursion (IsFitRider z) (map rider (boarding v ws)) board)
 
-few_riders : (z : Counts) (v : VehicleState) (ws : List Waiter) → IsFitVehicle z v → length (riders_after v ws) ≤ 1000
+few_riders : (z : Counts) (v : VehicleState) (ws : List Waiter) → IsFitVehicle z v → length (riders_after v ws) ≤ 65536
 unfolding riders_after
 few_riders z v ws h =
     let stay = staying (next_call v).stop v.riders in

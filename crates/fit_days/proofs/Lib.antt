@@ -8,4 +8,5 @@ pub mod Travellers
 pub mod Naming
 pub mod Seconds
 pub mod Sizes
+pub mod Sounding
 pub mod Towns

@@ -21,7 +21,7 @@ use Rattle.traffic.specs.Persons.{waiters, stranded}
 use Rattle.traffic.specs.Day.{Turn, Plan, link_plan, plan_of, count_of, turns, moves_of, after, turns_in, keyed, events_of, events_in, through, told_in, phases, first_end, at_home, world_start, world_from, events_from, end_events, world_at, day}
 use Rattle.fit_days.specs.Rows.{Counts, IsFitRow, IsFitPlace, IsFitPerson, IsFitWorld}
 use Rattle.fit_days.specs.Moves.{AreFitMoves, IsBookOf}
-use Rattle.fit_days.specs.Setups.{IsFitSetup}
+use Rattle.fit_days.specs.Setups.{IsFitSetup, HasItsLinks}
 use Rattle.fit_days.proofs.Lists.{each_append, each_flat, each_kept, each_number}
 use Rattle.fit_days.proofs.Kept.{run_fit}
 use Rattle.fit_days.proofs.Lanes.{moves_append, bay_rows, link_moves_fit}
@@ -108,6 +108,10 @@ start_fit z S f =
       credits = length-replicate (length S.links) _ ∙ f.links;
       holes = All-nil (λ (h : Hole). h.link < z.links);
     }
+
+pub start_links : (S : Setup) → HasItsLinks S (world_start S)
+unfolding world_start
+start_links S = record { credits = length-replicate (length S.links) _; holes = All-nil (λ (h : Hole). h.link < length S.links) }
 
 pub from_fit : (z : Counts) (S : Setup) (W : World) (t : ℕ) → IsFitSetup z S → IsFitWorld z W → IsFitWorld z (world_from S W t)
 unfolding world_from

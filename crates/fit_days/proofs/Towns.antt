@@ -19,15 +19,18 @@ use Rattle.schedule.specs.Calls.{is_sound_call}
 use Rattle.schedule.specs.Stops.{is_stop}
 use Rattle.schedule.specs.Routes.{is_way, are_drivable, is_route}
 use Rattle.schedule.specs.Departures.{is_departure}
+use Rattle.traffic.specs.Rows.{World}
 use Rattle.traffic.specs.Setup.{Stay, Drive, Itinerary}
+use Rattle.traffic.specs.Worlds.{OnePlace, Sound}
 use Rattle.town.specs.Fits.{is_act_in, is_drive, is_ride, leg_fits, legs_fit, fits}
 use Rattle.town.specs.Rows.{TownRows, IsTown, ends_of}
 use Rattle.town.specs.Setups.{stay_of, way_of, itinerary_of, link_of_row, route_at, departure_of, setup_of}
 use Rattle.town.specs.Views.{rows_of, setup_in}
 use Rattle.town.specs.declared.rows.Town.{Town}
-use Rattle.fit_days.specs.Rows.{Counts, IsFitLink, IsFitCall}
+use Rattle.fit_days.specs.Rows.{Counts, IsFitLink, IsFitCall, IsFitWorld}
 use Rattle.fit_days.specs.Moves.{IsBookOf}
-use Rattle.fit_days.specs.Setups.{counts_of, counts_in, IsPlanIn, IsFitRoute, IsFitDeparture, IsFitStay, IsFitWay, IsFitSetup}
+use Rattle.fit_days.specs.Setups.{counts_of, counts_in, IsPlanIn, IsFitRoute, IsFitDeparture, IsFitStay, IsFitWay, IsFitSetup, HasPlans, HasItsLinks}
+use Rattle.fit_days.proofs.Sounding.{sound_fit}
 use Rattle.fit_days.proofs.Lists.{each_map, each_get_or, each_at, each_tested}
 
 below_links : (z : Counts) (route : List ℕ) → list_all (λ l. nat_lt l z.links) route ≡ true → All (IsFitLink z) route
@@ -188,6 +191,21 @@ setup_fit T chosen k town plans =
       ways = λ i element lt g. plan_at T chosen (Ways z) i none (plan_ways T chosen) plans lt (element / 2) g;
     }
 
+one_more_stay : (T : TownRows) (p : Parts) → IsPlanIn T p → length (itinerary_of p).stays ≡ length (itinerary_of p).ways + 1
+unfolding itinerary_of
+one_more_stay T p plan =
+    let stays = length-map p.acts stay_of in
+    let ways = length-map p.legs way_of in
+    let more = plan.one_more in
+    omega arith
+
+pub has_plans : (T : TownRows) (chosen : List Parts) (k : ℕ) → All (IsPlanIn T) chosen → HasPlans (counts_of T chosen) (setup_of T chosen k)
+unfolding setup_of
+has_plans T chosen k plans = record {
+  legs = λ i there. refl;
+  one_more = λ i there. plan_at T chosen (λ plan. length plan.stays ≡ length plan.ways + 1) i (record { stays = []; ways = [] }) (one_more_stay T) plans there;
+}
+
 -- TOWNS
 pub plans_fit : (T : TownRows) (chosen : List Plan) → All (λ (p : Plan). fits T (parts_of p) ≡ true) chosen → All (IsPlanIn T) (map parts_of chosen)
 plans_fit T chosen h =
@@ -207,3 +225,12 @@ book_of town chosen e =
       lines = refl;
       departures = ap length town.named.departures ∙ town.departures.each;
     }
+
+-- a world in which each person is in one place and every row fits the plans and the timetable
+pub town_sound_fit : (town : Town) (chosen : List Plan) (k : ℕ) (W : World) → All (λ (p : Plan). fits (rows_of town) (parts_of p) ≡ true) chosen → length town.book.persons ≡ length chosen
+    → HasItsLinks (setup_in town chosen k) W → OnePlace (setup_in town chosen k) W → Sound (setup_in town chosen k) W → IsFitWorld (counts_in town chosen) W
+town_sound_fit town chosen k W h e links one sound =
+    let plans = plans_fit (rows_of town) chosen h in
+    let few = town.sound.few_persons in
+    let count = length-map chosen parts_of in
+    sound_fit (counts_in town chosen) (setup_in town chosen k) W (setup_fit (rows_of town) (map parts_of chosen) k town.sound plans) (has_plans (rows_of town) (map parts_of chosen) k plans) (omega arith) links one sound

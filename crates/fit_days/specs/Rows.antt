@@ -55,7 +55,7 @@ pub record IsFitVehicle (z : Counts) (v : VehicleState) : Type 0 where
   pub few_links : length v.route ≤ 1000
   pub place : v.place < length v.route
   pub riders : All (IsFitRider z) v.riders
-  pub few_riders : length v.riders ≤ 1000
+  pub few_riders : length v.riders ≤ 65536
   pub calls : All (IsFitCall z) v.calls
   pub few_calls : length v.calls ≤ 200
   pub served : v.served ≤ length v.calls

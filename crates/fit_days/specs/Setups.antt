@@ -4,7 +4,9 @@ use Rattle.std.specs.List.{list_all}
 use Rattle.plans.specs.Plan.{is_leg, are_acts}
 use Rattle.plans.specs.Parts.{Parts, parts_of}
 use Rattle.plans.specs.declared.plan.Plan.{Plan}
-use Rattle.traffic.specs.Setup.{Setup, Stay, Way, Drive, Teleport, Transit, Itinerary, Departure, stay, way}
+use Rattle.traffic.specs.declared.world.Hole.{Hole}
+use Rattle.traffic.specs.Rows.{World}
+use Rattle.traffic.specs.Setup.{Setup, Stay, Way, Drive, Teleport, Transit, Itinerary, Departure, itinerary, stay, way}
 use Rattle.town.specs.declared.rows.Town.{Town}
 use Rattle.town.specs.Rows.{TownRows}
 use Rattle.town.specs.Setups.{itinerary_of}
@@ -77,3 +79,13 @@ pub record IsFitSetup (z : Counts) (S : Setup) : Type 0 where
   pub stays : (i element : ℕ) → i < z.persons → IsFitStay z (stay S i element)
   pub ends : (i element second : ℕ) → i < z.persons → (stay S i element).end ≡ Some second → element / 2 < z.legs i
   pub ways : (i element : ℕ) → i < z.persons → element / 2 < z.legs i → IsFitWay z (way S i element)
+
+-- each person's plan has the legs that are counted, and one activity more
+pub record HasPlans (z : Counts) (S : Setup) : Type 0 where
+  pub legs : (i : ℕ) → i < z.persons → z.legs i ≡ length (itinerary S i).ways
+  pub one_more : (i : ℕ) → i < z.persons → length (itinerary S i).stays ≡ z.legs i + 1
+
+-- a world has a credit for each link, and no hole of another
+pub record HasItsLinks (S : Setup) (W : World) : Type 0 where
+  pub credits : length W.credits ≡ length S.links
+  pub holes : All (λ (h : Hole). h.link < length S.links) W.holes

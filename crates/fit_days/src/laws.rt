@@ -22,10 +22,11 @@ ghost use Rattle.traffic.specs.Stops.{next_call};
 ghost use Rattle.traffic.specs.Moves.{told, run};
 ghost use Rattle.traffic.specs.Nodes.{next_link};
 ghost use Rattle.traffic.specs.Persons.{stranded};
+ghost use Rattle.traffic.specs.Worlds.{OnePlace, Sound};
 ghost use Rattle.traffic.specs.Day.{plan_of, count_of, turns_in, moves_of, through, keyed, world_start, world_at, day};
 ghost use Rattle.fit_days.specs.Rows.{Counts, IsFitVehicle, IsFitRow, IsFitWorld};
 ghost use Rattle.fit_days.specs.Moves.{AreFitMoves, IsBookOf};
-ghost use Rattle.fit_days.specs.Setups.{counts_of, counts_in, IsPlanIn, IsFitSetup};
+ghost use Rattle.fit_days.specs.Setups.{counts_of, counts_in, IsPlanIn, IsFitSetup, HasPlans, HasItsLinks};
 
 /// The setup of a day in a town is fit, where each chosen plan fits the town; and the town's book names as many of each,
 /// where it names the persons who have these plans.
@@ -80,4 +81,15 @@ pub fn days_are_named()
     ensures towns { (town : Town) (chosen : List Plan) (k : ℕ)
         → All (λ (p : Plan). fits (rows_of town) (parts_of p) ≡ true) chosen → length town.book.persons ≡ length chosen
         → AreInBook (day (setup_in town chosen k)) town.book }
+{}
+
+/// A world in which each person is in one place, and every row fits the plans and the timetable, is fit: so what a day needs
+/// of its worlds follows from these two.
+pub fn sound_worlds_are_fit()
+    ensures setups { (z : Counts) (S : Setup) (W : World) → IsFitSetup z S → HasPlans z S → z.persons ≤ 65536
+        → HasItsLinks S W → OnePlace S W → Sound S W → IsFitWorld z W }
+    ensures towns { (town : Town) (chosen : List Plan) (k : ℕ) (W : World)
+        → All (λ (p : Plan). fits (rows_of town) (parts_of p) ≡ true) chosen → length town.book.persons ≡ length chosen
+        → HasItsLinks (setup_in town chosen k) W → OnePlace (setup_in town chosen k) W → Sound (setup_in town chosen k) W
+        → IsFitWorld (counts_in town chosen) W }
 {}

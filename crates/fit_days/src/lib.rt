@@ -5,5 +5,6 @@
 mod laws;
 
 pub use laws::{
-    days_are_named, days_stay_fit, fit_rows_are_small, moves_keep_fit, towns_are_fit, turns_are_fit,
+    days_are_named, days_stay_fit, fit_rows_are_small, moves_keep_fit, sound_worlds_are_fit,
+    towns_are_fit, turns_are_fit,
 };

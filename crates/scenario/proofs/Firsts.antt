@@ -8,7 +8,7 @@ use Rattle.edge_files.specs.declared.reasons.RowFault.{RowFault}
 use Rattle.records.specs.Faults.{or_else}
 use Rattle.plans.specs.declared.plan.Plan.{Plan}
 use Rattle.plans.specs.Parts.{Parts, parts_of, all_parts}
-use Rattle.scenario.specs.Legs.{Ways, plans_fault, all_plans_fault}
+use Rattle.scenario.specs.Legs.{Ways, plan_fault, plans_fault, all_plans_fault}
 use Rattle.scenario.proofs.AllFit.{plans_fault-append}
 
 or_else-some : {A : Type 0} (a b : Option A) → is_some a ≡ true → or_else a b ≡ a
@@ -19,27 +19,60 @@ or_else-none : {A : Type 0} (a b : Option A) → is_some a ≡ false → or_else
 or_else-none None b h = refl
 or_else-none (Some a) b h = cc
 
--- a person is taken from those that are left
-taken : (plans : List (List Plan)) (i : ℕ) (own : List Plan) → i < length plans → own ≡ get_or plans i own → drop i (all_parts plans) ≡ map parts_of own ∷ drop (i + 1) (all_parts plans)
-taken plans i own h is =
-    let within : i < length (all_parts plans) = rw (length-map plans (map parts_of)) h in
-    rw (add-one, drop-cons (all_parts plans) i (map parts_of own))
-    (ap (λ (x : List Parts). x ∷ drop (suc i) (all_parts plans)) (get_or-map (map parts_of) plans i own ∙ ap (λ (x : List Plan). map parts_of x) (sym is)))
+-- one is taken from those that are left
+taken : {A B : Type 0} (f : A → B) (xs : List A) (i : ℕ) (x : A) → i < length xs → x ≡ get_or xs i x → drop i (map f xs) ≡ f x ∷ drop (i + 1) (map f xs)
+taken f xs i x h is =
+    let within : i < length (map f xs) = rw (length-map xs f) h in
+    rw (add-one, drop-cons (map f xs) i (f x)) (ap (λ y. y ∷ drop (suc i) (map f xs)) (get_or-map f xs i x ∙ ap f (sym is)))
 
+-- a fault that is told of one of those that are left is that of all
+told_here : (fault one behind left all : Option RowFault) → left ≡ all → left ≡ or_else one behind → fault ≡ one → is_some fault ≡ true → fault ≡ all
+told_here fault one behind left all same split told some = sym (or_else-some fault behind some) ∙ ap (λ (f : Option RowFault). or_else f behind) told ∙ sym split ∙ same
+
+-- where that one has none, it is that of the ones behind
+told_behind : (fault one behind left all : Option RowFault) → left ≡ all → left ≡ or_else one behind → fault ≡ one → is_some fault ≡ false → behind ≡ all
+told_behind fault one behind left all same split told none = sym (or_else-none fault behind none) ∙ ap (λ (f : Option RowFault). or_else f behind) told ∙ sym split ∙ same
+
+-- PLANS
+one_plan : (W : Ways) (rest : List ℕ) (plans : List Plan) (i : ℕ) (plan : Plan) → i < length plans → plan ≡ get_or plans i plan
+    → plans_fault W rest (drop i (map parts_of plans)) ≡ or_else (plan_fault W (get_or rest 0 0) (parts_of plan)) (plans_fault W (drop 1 rest) (drop (i + 1) (map parts_of plans)))
+unfolding plans_fault
+one_plan W rest plans i plan h is = ap (λ (left : List Parts). plans_fault W rest left) (taken parts_of plans i plan h is)
+
+pub plan_here : (W : Ways) (rows rest : List ℕ) (plans : List Plan) (i row : ℕ) (plan : Plan) (fault : Option RowFault)
+    → plans_fault W rest (drop i (map parts_of plans)) ≡ plans_fault W rows (map parts_of plans) → i < length plans → plan ≡ get_or plans i plan
+    → row ≡ get_or rest 0 0 → fault ≡ plan_fault W row (parts_of plan) → is_some fault ≡ true → fault ≡ plans_fault W rows (map parts_of plans)
+plan_here W rows rest plans i row plan fault left h is first told some =
+    told_here fault _ _ _ _ left (one_plan W rest plans i plan h is) (told ∙ ap (λ (r : ℕ). plan_fault W r (parts_of plan)) first) some
+
+pub plan_behind : (W : Ways) (rows rest after : List ℕ) (plans : List Plan) (i row : ℕ) (plan : Plan) (fault : Option RowFault)
+    → plans_fault W rest (drop i (map parts_of plans)) ≡ plans_fault W rows (map parts_of plans) → i < length plans → plan ≡ get_or plans i plan
+    → row ≡ get_or rest 0 0 → fault ≡ plan_fault W row (parts_of plan) → is_some fault ≡ false → after ≡ drop 1 rest
+    → plans_fault W after (drop (i + 1) (map parts_of plans)) ≡ plans_fault W rows (map parts_of plans)
+plan_behind W rows rest after plans i row plan fault left h is first told none dropped =
+    ap (λ (r : List ℕ). plans_fault W r (drop (i + 1) (map parts_of plans))) dropped
+    ∙ told_behind fault _ _ _ _ left (one_plan W rest plans i plan h is) (told ∙ ap (λ (r : ℕ). plan_fault W r (parts_of plan)) first) none
+
+pub plan_none : (W : Ways) (rows rest : List ℕ) (plans : List Plan) (i : ℕ)
+    → plans_fault W rest (drop i (map parts_of plans)) ≡ plans_fault W rows (map parts_of plans) → i ≡ length plans → None ≡ plans_fault W rows (map parts_of plans)
+unfolding plans_fault
+plan_none W rows rest plans i left end =
+    let past : length (map parts_of plans) ≤ i = omega (arith, length-map plans parts_of, end) in
+    ap (λ (l : List Parts). plans_fault W rest l) (sym (drop_all i (map parts_of plans) past)) ∙ left
+
+-- PERSONS
 -- the first fault of those that are left is the person's, or else that of the ones behind
-split : (W : Ways) (rest : List ℕ) (plans : List (List Plan)) (i : ℕ) (own : List Plan) → i < length plans → own ≡ get_or plans i own
+one_person : (W : Ways) (rest : List ℕ) (plans : List (List Plan)) (i : ℕ) (own : List Plan) → i < length plans → own ≡ get_or plans i own
     → all_plans_fault W rest (drop i (all_parts plans))
     ≡ or_else (plans_fault W rest (map parts_of own)) (all_plans_fault W (drop (length (map parts_of own)) rest) (drop (i + 1) (all_parts plans)))
-split W rest plans i own h is =
-    ap (λ (left : List (List Parts)). all_plans_fault W rest left) (taken plans i own h is)
+one_person W rest plans i own h is =
+    ap (λ (left : List (List Parts)). all_plans_fault W rest left) (taken (map parts_of) plans i own h is)
     ∙ plans_fault-append W rest (map parts_of own) (flat_map (λ x. x) (drop (i + 1) (all_parts plans)))
 
 pub fault_here : (W : Ways) (rows rest : List ℕ) (plans : List (List Plan)) (i : ℕ) (own : List Plan) (fault : Option RowFault)
     → all_plans_fault W rest (drop i (all_parts plans)) ≡ all_plans_fault W rows (all_parts plans) → i < length plans → own ≡ get_or plans i own
     → fault ≡ plans_fault W rest (map parts_of own) → is_some fault ≡ true → fault ≡ all_plans_fault W rows (all_parts plans)
-fault_here W rows rest plans i own fault left h is told some =
-    sym (or_else-some fault _ some) ∙ ap (λ (f : Option RowFault). or_else f (all_plans_fault W (drop (length (map parts_of own)) rest) (drop (i + 1) (all_parts plans)))) told
-    ∙ sym (split W rest plans i own h is) ∙ left
+fault_here W rows rest plans i own fault left h is told some = told_here fault _ _ _ _ left (one_person W rest plans i own h is) told some
 
 pub fault_behind : (W : Ways) (rows rest after : List ℕ) (plans : List (List Plan)) (i count : ℕ) (own : List Plan) (fault : Option RowFault)
     → all_plans_fault W rest (drop i (all_parts plans)) ≡ all_plans_fault W rows (all_parts plans) → i < length plans → own ≡ get_or plans i own
@@ -47,8 +80,7 @@ pub fault_behind : (W : Ways) (rows rest after : List ℕ) (plans : List (List P
     → all_plans_fault W after (drop (i + 1) (all_parts plans)) ≡ all_plans_fault W rows (all_parts plans)
 fault_behind W rows rest after plans i count own fault left h is told none counted dropped =
     ap (λ (r : List ℕ). all_plans_fault W r (drop (i + 1) (all_parts plans))) (dropped ∙ ap (λ (n : ℕ). drop n rest) (counted ∙ sym (length-map own parts_of)))
-    ∙ sym (or_else-none fault _ none) ∙ ap (λ (f : Option RowFault). or_else f (all_plans_fault W (drop (length (map parts_of own)) rest) (drop (i + 1) (all_parts plans)))) told
-    ∙ sym (split W rest plans i own h is) ∙ left
+    ∙ told_behind fault _ _ _ _ left (one_person W rest plans i own h is) told none
 
 pub fault_none : (W : Ways) (rows rest : List ℕ) (plans : List (List Plan)) (i : ℕ)
     → all_plans_fault W rest (drop i (all_parts plans)) ≡ all_plans_fault W rows (all_parts plans) → i ≡ length plans → None ≡ all_plans_fault W rows (all_parts plans)

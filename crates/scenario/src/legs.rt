@@ -150,7 +150,6 @@ fn first_row(rows: &[u32]) -> u32
 }
 
 /// The first fault of the legs of plans, with the rows in which the plans begin.
-#[tactic(auto, unfolding(crate::specs::Legs::plans_fault))]
 fn plans_fault(
     numbering: &Numbering,
     schedule: &Schedule,
@@ -161,14 +160,15 @@ fn plans_fault(
     requires early { All (λ row. row < 2 ^ 30) rows.now }
     ensures { result ≡ plans_fault (ways_of numbering.now schedule.now) rows.now (map parts_of plans.now) }
 {
-    let [plan, later @ ..] = plans else {
-        return None;
-    };
-    let fault = plan_fault(numbering, schedule, first_row(rows), plan);
-    if fault.is_some() {
-        return fault;
+    let mut rest = rows;
+    for plan in plans {
+        let fault = plan_fault(numbering, schedule, first_row(rest), plan);
+        if fault.is_some() {
+            return fault;
+        }
+        rest = behind(rest, 1);
     }
-    plans_fault(numbering, schedule, behind(rows, 1), later)
+    None
 }
 
 /// The same of the plans of a person.

@@ -4,7 +4,8 @@ ghost use Rattle.std.specs.Prelude.{◌≡◌, ◌<◌, ◌++◌, length, map, r
 ghost use Rattle.events.specs.Lines.{AreInBook};
 ghost use Rattle.fixed_flow.specs.declared.TheConstants.{VEHICLE_COST};
 ghost use Rattle.fit_days.specs.Rows.{IsFitWorld};
-ghost use Rattle.fit_days.specs.Setups.{counts_in};
+ghost use Rattle.fit_days.specs.Setups.{counts_in, HasItsLinks};
+ghost use Rattle.traffic.specs.Worlds.{OnePlace, Sound};
 ghost use Rattle.town.specs.Views.{setup_in};
 ghost use Rattle.town.specs.Setups.{itinerary_of};
 ghost use Rattle.plans.specs.Parts.{parts_of};
@@ -24,14 +25,16 @@ use std::alloc::{AllocError, Global};
 use town::Town;
 use traffic::{Person, Place};
 
-/// A second of a day: persons land, persons leave, departures start, nodes hand over, links move. Appends its
-/// events. After an error the world is of no use.
+/// A second of a day in a fit world: persons land, persons leave, departures start, nodes hand over, links move.
+/// Appends its events. After an error the world is of no use.
+///
+/// That a world is fit is what each turn needs and no more: all that it names is there.
 ///
 /// # Errors
 ///
 /// `AllocError`: there is no memory for a row, a hole or an event.
 #[tactic(auto, using(crate::proofs::Phasing::second_world, crate::proofs::Phasing::second_told))]
-pub fn plain_second(
+pub fn fit_second(
     alloc: Global,
     town: &Town,
     chosen: &[Plan],
@@ -52,6 +55,33 @@ pub fn plain_second(
     do_phase(alloc, town, chosen, iteration, t, Phase::B2, world, out)?;
     do_phase(alloc, town, chosen, iteration, t, Phase::C, world, out)?;
     do_phase(alloc, town, chosen, iteration, t, Phase::D, world, out)?;
+    Ok(())
+}
+
+/// The same in a world where each person is in exactly one place, and every row fits the plans and the timetable;
+/// it has a credit for each link, and no hole of another. Such a world is fit.
+///
+/// # Errors
+///
+/// `AllocError`: there is no memory for a row, a hole or an event.
+pub fn plain_second(
+    alloc: Global,
+    town: &Town,
+    chosen: &[Plan],
+    iteration: u32,
+    t: u32,
+    world: &mut World,
+    out: &mut Vec<Event>,
+) -> Result<(), AllocError>
+    requires second_in { t < 172800 }
+    requires given { AreGiven town.now chosen.now }
+    requires links { HasItsLinks (setup_in town.now chosen.now iteration) world.old }
+    requires one_place { OnePlace (setup_in town.now chosen.now iteration) world.old }
+    requires sound { Sound (setup_in town.now chosen.now iteration) world.old }
+    ensures world { OnOk result (world.new ≡ second (setup_in town.now chosen.now iteration) t world.old) }
+    ensures events { OnOk result (out.new.items ≡ out.old.items ++ second_events (setup_in town.now chosen.now iteration) t world.old) }
+{
+    fit_second(alloc, town, chosen, iteration, t, world, out)?;
     Ok(())
 }
 
@@ -140,7 +170,7 @@ fn all_seconds(
 {
     let mut events = Vec::new(alloc);
     for t in 0..town.end {
-        plain_second(alloc, town, chosen, iteration, t, world, &mut events)?;
+        fit_second(alloc, town, chosen, iteration, t, world, &mut events)?;
     }
     Ok(events)
 }

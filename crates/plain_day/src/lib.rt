@@ -12,7 +12,7 @@ mod sights;
 mod turns;
 mod waiters;
 
-pub use days::{plain_day, plain_second, start};
+pub use days::{fit_second, plain_day, plain_second, start};
 pub use departures::departure_moves;
 pub use ends::stranded;
 pub use persons::{landing_moves, leaving_moves};

@@ -13,7 +13,7 @@ pub loop-t-preserved : goal.loop-t-preserved
 loop-t-preserved c =
     let S = setup_in c.args.town.now c.args.chosen.now c.args.iteration in
     record {
-      world = world_more S c.args.world.now c.loop-t.t c.loop-t.world _ c.loop-t.invariant.world c.in_ok-plain_second.ensures.world;
-      events = events_more S c.args.world.now c.loop-t.t c.loop-t.world c.loop-t.events.items _ c.loop-t.invariant.world c.loop-t.invariant.events c.in_ok-plain_second.ensures.events;
-      fit = c.in_ok-plain_second.ensures.fit;
+      world = world_more S c.args.world.now c.loop-t.t c.loop-t.world _ c.loop-t.invariant.world c.in_ok-fit_second.ensures.world;
+      events = events_more S c.args.world.now c.loop-t.t c.loop-t.world c.loop-t.events.items _ c.loop-t.invariant.world c.loop-t.invariant.events c.in_ok-fit_second.ensures.events;
+      fit = c.in_ok-fit_second.ensures.fit;
     }

@@ -95,16 +95,13 @@ fn day_answer(alloc: Global, town: &Town, plans: PlanLists) -> Result<Answer, Al
     Ok(answer)
 }
 
-/// Lets a town go.
-fn let_go(_town: Town) {}
-
 /// The day of a scenario, written.
 fn run(alloc: Global, scenario: Scenario) -> Result<Answer, AllocError>
     ensures { IfOk result (IsAnswer (work Command.Run (scenario_view scenario))) }
 {
     let Scenario { town, plans } = scenario;
     let answer = day_answer(alloc, &town, plans);
-    let_go(town);
+    drop(town);
     answer
 }
 
@@ -117,15 +114,12 @@ fn counts(alloc: Global, scenario: &Scenario) -> Result<Answer, AllocError>
     Ok(answer)
 }
 
-/// Lets a scenario go.
-fn let_scenario_go(_scenario: Scenario) {}
-
 /// The counts of a scenario, which is let go.
 fn check(alloc: Global, scenario: Scenario) -> Result<Answer, AllocError>
     ensures { IfOk result (IsAnswer (work Command.Check (scenario_view scenario))) }
 {
     let answer = counts(alloc, &scenario);
-    let_scenario_go(scenario);
+    drop(scenario);
     answer
 }
 

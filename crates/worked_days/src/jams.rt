@@ -11,7 +11,7 @@ ghost use Rattle.worked_days.specs.Jams.{going, IsRoomy};
 use crate::cases::Case;
 use crate::towns::{are_given, let_go, scenario_of};
 use events::{Calls, Event, Route, VehicleId, Word};
-use plain_day::{plain_second, start};
+use plain_day::{fit_second, start};
 use plain_world::World;
 use plans::{Plan, PlanLists};
 use scenario::{Scenario, chosen_plans};
@@ -127,7 +127,7 @@ fn seconds_of(
     let mut world = jam(alloc, town, chosen)?;
     let mut events = Vec::new(alloc);
     for t in 10..10 + count {
-        plain_second(alloc, town, chosen, 0, t, &mut world, &mut events)?;
+        fit_second(alloc, town, chosen, 0, t, &mut world, &mut events)?;
     }
     Ok(events)
 }

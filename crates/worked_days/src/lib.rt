@@ -17,6 +17,8 @@ mod outside;
 #[cfg(test)]
 mod refusals;
 #[cfg(test)]
+mod seconds;
+#[cfg(test)]
 mod signals;
 #[cfg(test)]
 mod towns;

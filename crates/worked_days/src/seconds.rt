@@ -1,0 +1,81 @@
+//! A second in a world of which nothing is known but the laws of a world.
+
+ghost use Rattle.std.specs.Prelude.{◌<◌};
+ghost use Rattle.plain_day.specs.Given.{AreGiven};
+
+use crate::cases::Case;
+use crate::towns::{are_given, scenario_of};
+use events::{Event, Word};
+use plain_day::{plain_second, start};
+use plans::{Plan, PlanLists};
+use scenario::{Scenario, chosen_plans};
+use std::alloc::{AllocError, Global};
+use town::Town;
+
+/// A person who walks at second 100.
+const WALK: Case = Case {
+    settings: "",
+    nodes: "node,x,y\na,0,0\nb,1,0\n",
+    links: "link,from,to,length,speed,capacity,lanes\nL1,a,b,10000,1000,3600,1\n",
+    plans: "p1,0,act,home,L1,100,\np1,0,leg,walk,,50,\np1,0,act,work,L1,,\n",
+    stops: "",
+    routes: "",
+    departures: "",
+};
+
+/// The events of second 100 in the world at the start of the day.
+fn second_from_start(alloc: Global, town: &Town, chosen: &[Plan]) -> Result<Vec<Event>, AllocError>
+    requires { AreGiven town.now chosen.now }
+{
+    let mut world = start(alloc, town, chosen, 0)?;
+    let mut events = Vec::new(alloc);
+    plain_second(alloc, town, chosen, 0, 100, &mut world, &mut events)?;
+    Ok(events)
+}
+
+/// The seconds and the words of events.
+fn words_of(alloc: Global, events: &[Event]) -> Vec<(u32, Word)> {
+    let mut words = Vec::new(alloc);
+    for event in events {
+        let _ = words.push((event.key.second, event.word));
+    }
+    words
+}
+
+/// The same of that second in a town.
+fn words_in(alloc: Global, town: &Town, chosen: &[Plan]) -> Vec<(u32, Word)> {
+    if !are_given(town, chosen) {
+        return Vec::new(alloc);
+    }
+    match second_from_start(alloc, town, chosen) {
+        Ok(events) => words_of(alloc, &events),
+        Err(_) => Vec::new(alloc),
+    }
+}
+
+/// The same where each person follows the first of these plans.
+fn words_by(alloc: Global, town: &Town, plans: PlanLists) -> Vec<(u32, Word)> {
+    match chosen_plans(alloc, plans) {
+        Ok(chosen) => words_in(alloc, town, &chosen),
+        Err(_) => Vec::new(alloc),
+    }
+}
+
+/// The same in the scenario of a case.
+fn words_on(alloc: Global, case: Case) -> Vec<(u32, Word)> {
+    let Some(scenario) = scenario_of(alloc, case) else {
+        return Vec::new(alloc);
+    };
+    let Scenario { town, plans } = scenario;
+    let words = words_by(alloc, &town, plans);
+    drop(town);
+    words
+}
+
+/// In its second the activity ends and the leg departs.
+#[test]
+fn a_second_is_told(rt: HostRuntime) {
+    let words = words_on(rt.alloc(), WALK);
+    let told = [(100, Word::ActEnd), (100, Word::Departure)];
+    assert_eq!(rt; words.as_slice(), told.as_slice());
+}

@@ -7,6 +7,6 @@ mod names;
 mod writing;
 
 pub use event::{Book, Event, Key, Mode, More, Phase, VehicleId, Word};
-pub use lists::{Calls, EventList, Route, StopCall};
+pub use lists::{Calls, EventList, Route, Rows, StopCall};
 pub use names::{Added, Name, Names, is_name};
 pub use writing::{line, lines};

@@ -1,46 +1,51 @@
-ghost use Rattle.std.specs.Prelude.{◌≡◌, ℕ, length, nat_eq, IfOk};
+ghost use Rattle.std.specs.Prelude.{◌≡◌, length, nat_eq, IfOk};
 
 use crate::event::Event;
 use std::alloc::AllocError;
 use std::marker::Model;
 
-/// The links of a route, in order.
+/// Rows, in order or by their numbers.
 #[derive(Debug, Drop)]
-pub struct Route {
-    pub rows: Vec<u32>,
+pub struct Rows<T> {
+    pub rows: Vec<T>,
 }
 
-impl Model for Route {
-    ghost use Rattle.std.specs.Prelude.{ℕ, List};
+impl<T> Model for Rows<T> {
+    ghost use Rattle.std.specs.Prelude.{List};
 
-    ghost Value = { List ℕ };
+    ghost Value = { List T };
 
-    ghost view = { λ r. r.rows.items };
+    ghost view = { λ l. l.rows.items };
 }
 
-impl Route {
-    /// How many links the route has.
+impl<T> Rows<T> {
+    /// How many there are.
     pub fn len(&self) -> usize
         ensures { result ≡ length self.now }
     {
         self.rows.len()
     }
 
-    /// Whether the route has no link.
+    /// Whether there is none.
     pub fn is_empty(&self) -> bool
         ensures { result ≡ nat_eq (length self.now) 0 }
     {
         self.rows.is_empty()
     }
+}
 
-    /// The same route.
-    pub fn try_clone(&self) -> Result<Route, AllocError>
+impl<T: Copy> Rows<T> {
+    /// The same rows.
+    pub fn try_clone(&self) -> Result<Self, AllocError>
         ensures { IfOk result (λ copy. copy ≡ self.now) }
     {
         let rows = Vec::from_slice(*self.rows.allocator(), &self.rows)?;
-        Ok(Route { rows })
+        Ok(Rows { rows })
     }
 }
+
+/// The links of a route, in order.
+pub type Route = Rows<u32>;
 
 /// A call of a transit route at a stop.
 #[derive(Clone, Copy, Debug, PartialEq, Eq)]
@@ -55,79 +60,7 @@ pub struct StopCall {
 }
 
 /// The calls of a transit route, in order.
-#[derive(Debug, Drop)]
-pub struct Calls {
-    pub rows: Vec<StopCall>,
-}
-
-impl Model for Calls {
-    ghost use Rattle.std.specs.Prelude.{List};
-    ghost use Rattle.events.specs.declared.lists.StopCall.{StopCall};
-
-    ghost Value = { List StopCall };
-
-    ghost view = { λ c. c.rows.items };
-}
-
-impl Calls {
-    /// How many calls there are.
-    pub fn len(&self) -> usize
-        ensures { result ≡ length self.now }
-    {
-        self.rows.len()
-    }
-
-    /// Whether there is no call.
-    pub fn is_empty(&self) -> bool
-        ensures { result ≡ nat_eq (length self.now) 0 }
-    {
-        self.rows.is_empty()
-    }
-
-    /// The same calls.
-    pub fn try_clone(&self) -> Result<Calls, AllocError>
-        ensures { IfOk result (λ copy. copy ≡ self.now) }
-    {
-        let rows = Vec::from_slice(*self.rows.allocator(), &self.rows)?;
-        Ok(Calls { rows })
-    }
-}
+pub type Calls = Rows<StopCall>;
 
 /// Events, in order.
-#[derive(Debug, Drop)]
-pub struct EventList {
-    pub rows: Vec<Event>,
-}
-
-impl Model for EventList {
-    ghost use Rattle.std.specs.Prelude.{List};
-    ghost use Rattle.events.specs.declared.event.Event.{Event};
-
-    ghost Value = { List Event };
-
-    ghost view = { λ e. e.rows.items };
-}
-
-impl EventList {
-    /// How many events there are.
-    pub fn len(&self) -> usize
-        ensures { result ≡ length self.now }
-    {
-        self.rows.len()
-    }
-
-    /// Whether there is no event.
-    pub fn is_empty(&self) -> bool
-        ensures { result ≡ nat_eq (length self.now) 0 }
-    {
-        self.rows.is_empty()
-    }
-
-    /// The same events.
-    pub fn try_clone(&self) -> Result<EventList, AllocError>
-        ensures { IfOk result (λ copy. copy ≡ self.now) }
-    {
-        let rows = Vec::from_slice(*self.rows.allocator(), &self.rows)?;
-        Ok(EventList { rows })
-    }
-}
+pub type EventList = Rows<Event>;

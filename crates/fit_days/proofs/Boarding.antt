@@ -5,14 +5,14 @@ use Rattle.std.specs.List.{AllByRecursion as Each}
 use Rattle.std.proofs.lemmas.Bool.{cases_Bool}
 use Rattle.std.proofs.lemmas.List.{length-append, length-map, length-take}
 use Rattle.std.proofs.lemmas.List.Elements.{All-from_recursion, All-append, All-filter}
-use Rattle.traffic.specs.declared.numbers.Dwelling.{Dwelling}
+use Rattle.rows.specs.declared.settings.Dwelling.{Dwelling}
 use Rattle.traffic.specs.declared.world.Row.{Row}
 use Rattle.traffic.specs.declared.world.Waiter.{Waiter}
 use Rattle.traffic.specs.Moves.{at_second}
 use Rattle.traffic.specs.Vehicles.{VehicleState}
-use Rattle.traffic.specs.Stops.{next_call, alights, staying, may_board, comes_first, among, in_turn, boarding, left_behind, rider, riders_after, served_vehicle, served_row}
+use Rattle.traffic.specs.Stops.{next_call, alights, staying, may_board, in_turn, boarding, rider, riders_after, served_vehicle, served_row}
 use Rattle.fit_days.specs.Rows.{Counts, IsFitRider, IsFitVehicle, IsFitRow}
-use Rattle.fit_days.proofs.Lists.{each_kept, each_take, each_map}
+use Rattle.traffic.proofs.Each.{each_map, each_boarding}
 
 -- who waits is a person that is there, on the way to an activity of a kind that is there
 pub record IsFitWaiter (z : Counts) (w : Waiter) : Type 0 where
@@ -39,24 +39,6 @@ driven z v place started pushed h lt =
 pub second_fit : (z : Counts) (t : ℕ) (r : Row) → IsFitRow z r → IsFitRow z (at_second t r)
 second_fit z t r h = record { vehicle = h.vehicle; link = h.link; stage = h.stage }
 
-among_fit : (z : Counts) (w : Waiter) (ws : List Waiter) → IsFitWaiter z w → Each (IsFitWaiter z) ws → Each (IsFitWaiter z) (among w ws)
-unfolding among
-among_fit z w [] g h = (g, tt)
-among_fit z w (x ∷ xs) g h = elim (cases_Bool (comes_first w x)) [ inl e ↦ simp e (g, h) | inr e ↦ simp e (h.0, among_fit z w xs g h.1) ]
-
-in_turn_fit : (z : Counts) (ws : List Waiter) → Each (IsFitWaiter z) ws → Each (IsFitWaiter z) (in_turn ws)
-unfolding in_turn
-in_turn_fit z [] h = tt
-in_turn_fit z (w ∷ ws) h = among_fit z w (in_turn ws) h.0 (in_turn_fit z ws h.1)
-
-boarding_fit : (z : Counts) (v : VehicleState) (ws : List Waiter) → Each (IsFitWaiter z) ws → Each (IsFitWaiter z) (boarding v ws)
-unfolding boarding
-boarding_fit z v ws h = each_take (IsFitWaiter z) _ (in_turn (filter (may_board v) ws)) (in_turn_fit z (filter (may_board v) ws) (each_kept (IsFitWaiter z) (may_board v) ws h))
-
-pub left_fit : (z : Counts) (v : VehicleState) (ws : List Waiter) → Each (IsFitWaiter z) ws → Each (IsFitWaiter z) (left_behind v ws)
-unfolding left_behind
-left_fit z v ws h = each_kept (IsFitWaiter z) _ ws h
-
 few_boarding : (v : VehicleState) (ws : List Waiter) → length (boarding v ws) ≤ v.seats - length (staying (next_call v).stop v.riders)
 unfolding boarding
 few_boarding v ws =
@@ -70,7 +52,7 @@ few_kept p (x ∷ xs) = let h = few_kept p xs in elim (cases_Bool (p x)) [ inl e
 riders_fit : (z : Counts) (v : VehicleState) (ws : List Waiter) → IsFitVehicle z v → Each (IsFitWaiter z) ws → All (IsFitRider z) (riders_after v ws)
 unfolding riders_after
 riders_fit z v ws h g =
-    let board = each_map (IsFitWaiter z) (IsFitRider z) rider (λ w k. record { person = k.person; kind = k.kind }) (boarding v ws) (boarding_fit z v ws g) in
+    let board = each_map (IsFitWaiter z) (IsFitRider z) rider (λ w k. record { person = k.person; kind = k.kind }) (boarding v ws) (each_boarding (IsFitWaiter z) (IsFitWaiter z) v (λ w q k. k) ws g) in
     All-append (IsFitRider z) (staying (next_call v).stop v.riders) (map rider (boarding v ws)) (All-filter _ (IsFitRider z) v.riders h.riders)
     (All-from_recursion (IsFitRider z) (map rider (boarding v ws)) board)
 

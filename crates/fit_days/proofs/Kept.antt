@@ -13,7 +13,7 @@ use Rattle.events.specs.declared.event.More.TheVariants as more
 use Rattle.traffic.specs.declared.moves.Said.{Said}
 use Rattle.traffic.specs.declared.moves.Move.{Move}
 use Rattle.traffic.specs.declared.moves.Move.TheVariants.{Put, Gone, New, Mark, Credit, Free}
-use Rattle.traffic.specs.declared.rows.Stage.TheVariants.{Buffer}
+use Rattle.traffic.specs.declared.stage.Stage.TheVariants.{Buffer}
 use Rattle.traffic.specs.declared.world.Row.{Row}
 use Rattle.traffic.specs.declared.world.Hole.{Hole}
 use Rattle.traffic.specs.declared.world.Place.{Place}
@@ -21,12 +21,14 @@ use Rattle.traffic.specs.declared.world.Place.TheVariants.{At, Flying, Waiting, 
 use Rattle.traffic.specs.declared.world.Person.{Person}
 use Rattle.traffic.specs.Lists.{without}
 use Rattle.traffic.specs.Rows.{World, on, nobody}
-use Rattle.traffic.specs.Setup.{Setup, stay}
+use Rattle.traffic.specs.Setup.{Setup, act_at}
 use Rattle.traffic.specs.Moves.{at_second, told, ends_at, start_act, ride, wait_at, lose, person_by, person_after, persons_by, persons_after, rows_after, credits_after, holes_after, done, run}
 use Rattle.fit_days.specs.Rows.{Counts, IsFitRow, IsFitPlace, IsFitPerson, IsFitWorld}
 use Rattle.fit_days.specs.Moves.{IsBelow, IsFitMore, IsFitSaid, AreFitSaid, IsFitChange, IsFitMove, AreFitMoves}
 use Rattle.fit_days.specs.Setups.{IsFitSetup}
-use Rattle.fit_days.proofs.Lists.{each_append, each_without, each_with_first}
+use Rattle.traffic.proofs.Each.{each_append, each_without, each_with_first}
+use Rattle.traffic.proofs.Moments.{Along}
+use Rattle.traffic.proofs.Sublists.{persons-length}
 use Rattle.fit_days.proofs.Boarding.{second_fit}
 
 -- ROWS
@@ -49,7 +51,7 @@ holes_fit z (Free l t) hs h g = each_append (IsFitHole z) hs _ g (h, tt)
 holes_fit z _ hs h g = g
 
 -- PERSONS
-ends_fit : (z : Counts) (S : Setup) (t i element : ℕ) (o : Option ℕ) → IsFitSetup z S → i < z.persons → (stay S i element).end ≡ o → IsFitPlace z i element (At (ends_at o t))
+ends_fit : (z : Counts) (S : Setup) (t i element : ℕ) (o : Option ℕ) → IsFitSetup z S → i < z.persons → (act_at S i element).end ≡ o → IsFitPlace z i element (At (ends_at o t))
 ends_fit z S t i element None f lt e = tt
 ends_fit z S t i element (Some planned) f lt e = f.ends i element planned lt e
 
@@ -109,21 +111,13 @@ persons_fit : (z : Counts) (S : Setup) (t : ℕ) (es : List Said) (ps : List Per
 persons_fit z S t [] ps f g h = h
 persons_fit z S t (e ∷ es) ps f g h = persons_fit z S t es (persons_by S t e e.person ps) f g.1 (by_fit z S t e e.person ps f g.0 g.0.person h)
 
-count_by_one : (S : Setup) (t : ℕ) (e : Said) (o : Option ℕ) (ps : List Person) → length (persons_by S t e o ps) ≡ length ps
-count_by_one S t e None ps = refl
-count_by_one S t e (Some i) ps = length-set ps i _
-
-count_kept : (S : Setup) (t : ℕ) (es : List Said) (ps : List Person) → length (persons_after S t es ps) ≡ length ps
-count_kept S t [] ps = refl
-count_kept S t (e ∷ es) ps = count_kept S t es (persons_by S t e e.person ps) ∙ count_by_one S t e e.person ps
-
 -- WORLDS
 done_fit : (z : Counts) (S : Setup) (t : ℕ) (m : Move) (W : World) → IsFitSetup z S → IsFitWorld z W → IsFitMove z m → IsFitWorld z (done S t m W)
 done_fit z S t m W f h g =
     record {
       rows = All-from_recursion (IsFitRow z) (rows_after m W.rows) (rows_fit z m W.rows g.0 (recursion_from_All (IsFitRow z) W.rows h.rows));
       persons = persons_fit z S t (told m) W.persons f g.1 h.persons;
-      one_each = count_kept S t (told m) W.persons ∙ h.one_each;
+      one_each = persons-length S t (told m) W.persons ∙ h.one_each;
       credits = credits_kept m W.credits ∙ h.credits;
       holes = All-from_recursion (IsFitHole z) (holes_after m W.holes) (holes_fit z m W.holes g.0 (recursion_from_All (IsFitHole z) W.holes h.holes));
     }
@@ -131,3 +125,8 @@ done_fit z S t m W f h g =
 pub run_fit : (z : Counts) (S : Setup) (t : ℕ) (ms : List Move) (W : World) → IsFitSetup z S → IsFitWorld z W → AreFitMoves z ms → IsFitWorld z (run S t ms W)
 run_fit z S t [] W f h g = h
 run_fit z S t (m ∷ ms) W f h g = run_fit z S t ms (done S t m W) f (done_fit z S t m W f h g.0) g.1
+
+-- moves that are fit where the world is are fit one after the other
+pub along_fit : (z : Counts) (S : Setup) (t : ℕ) (ms : List Move) (W : World) → IsFitSetup z S → Along (λ V m. IsFitWorld z V → IsFitMove z m) S t ms W → IsFitWorld z W → AreFitMoves z ms
+along_fit z S t [] W f a h = tt
+along_fit z S t (m ∷ ms) W f a h = let g = a.0 h in (g, along_fit z S t ms (done S t m W) f a.1 (done_fit z S t m W f h g))

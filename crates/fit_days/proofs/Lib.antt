@@ -1,12 +1,12 @@
 pub mod Lists
 pub mod Telling
-pub mod Kept
 pub mod Boarding
+pub mod Kept
+pub mod Sizes
+pub mod Travellers
 pub mod Lanes
 pub mod Junctions
-pub mod Travellers
 pub mod Naming
 pub mod Seconds
-pub mod Sizes
 pub mod Sounding
 pub mod Towns

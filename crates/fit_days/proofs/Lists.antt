@@ -1,54 +1,8 @@
 -- What holds of each element of a list.
-use Rattle.std.proofs.Common.{◌≡◌, ℕ, zero, suc, ◌+◌, ◌<◌, ◌≤◌, Bool, true, List, [], ◌∷◌, ◌++◌, length, get_or, arith, inl, inr}
-use Rattle.std.specs.Prelude.{filter, map, take}
-use Rattle.std.specs.List.{AllByRecursion as Each, flat_map, list_all}
-use Rattle.std.proofs.lemmas.Bool.{cases_Bool, and_parts}
+use Rattle.std.proofs.Common.{◌≡◌, ℕ, ◌<◌, Bool, true, List, [], ◌∷◌, length, get_or}
+use Rattle.std.specs.List.{AllByRecursion as Each, list_all}
+use Rattle.std.proofs.lemmas.Bool.{and_parts}
 use Rattle.std.proofs.lemmas.List.Elements.{All-from_recursion, All-get_or}
-use Rattle.traffic.specs.Lists.{without, without_at, with_first, numbers}
-
-pub each_append : {X : Type 0} (P : X → Type 0) (xs ys : List X) → Each P xs → Each P ys → Each P (xs ++ ys)
-each_append P [] ys h g = g
-each_append P (x ∷ xs) ys h g = (h.0, each_append P xs ys h.1 g)
-
-pub each_filter : {X : Type 0} (P Q : X → Type 0) (p : X → Bool) → ((x : X) → p x ≡ true → P x → Q x) → (xs : List X) → Each P xs → Each Q (filter p xs)
-each_filter P Q p f [] h = tt
-each_filter P Q p f (x ∷ xs) h = elim (cases_Bool (p x)) [ inl e ↦ simp e (f x e h.0, each_filter P Q p f xs h.1) | inr e ↦ simp e (each_filter P Q p f xs h.1) ]
-
-pub each_kept : {X : Type 0} (P : X → Type 0) (p : X → Bool) (xs : List X) → Each P xs → Each P (filter p xs)
-each_kept P p xs h = each_filter P P p (λ x e g. g) xs h
-
-pub each_map : {X Y : Type 0} (P : X → Type 0) (Q : Y → Type 0) (f : X → Y) → ((x : X) → P x → Q (f x)) → (xs : List X) → Each P xs → Each Q (map f xs)
-each_map P Q f g [] h = tt
-each_map P Q f g (x ∷ xs) h = (g x h.0, each_map P Q f g xs h.1)
-
-pub each_flat : {X Y : Type 0} (P : X → Type 0) (Q : Y → Type 0) (f : X → List Y) → ((x : X) → P x → Each Q (f x)) → (xs : List X) → Each P xs → Each Q (flat_map f xs)
-each_flat P Q f g [] h = tt
-each_flat P Q f g (x ∷ xs) h = each_append Q (f x) (flat_map f xs) (g x h.0) (each_flat P Q f g xs h.1)
-
-pub each_take : {X : Type 0} (P : X → Type 0) (k : ℕ) (xs : List X) → Each P xs → Each P (take k xs)
-each_take P zero xs h = tt
-each_take P (suc k) [] h = tt
-each_take P (suc k) (x ∷ xs) h = (h.0, each_take P k xs h.1)
-
-pub each_without : {X : Type 0} (P : X → Type 0) (p : X → Bool) (k : ℕ) (xs : List X) → Each P xs → Each P (without p k xs)
-each_without P p k [] h = tt
-each_without P p zero (x ∷ xs) h = elim (cases_Bool (p x)) [ inl e ↦ simp e h.1 | inr e ↦ simp e (h.0, each_without P p zero xs h.1) ]
-each_without P p (suc k) (x ∷ xs) h = elim (cases_Bool (p x)) [ inl e ↦ simp e (h.0, each_without P p k xs h.1) | inr e ↦ simp e (h.0, each_without P p (suc k) xs h.1) ]
-
-pub each_without_at : {X : Type 0} (P : X → Type 0) (k : ℕ) (xs : List X) → Each P xs → Each P (without_at k xs)
-each_without_at P k [] h = tt
-each_without_at P zero (x ∷ xs) h = h.1
-each_without_at P (suc k) (x ∷ xs) h = (h.0, each_without_at P k xs h.1)
-
-pub each_with_first : {X : Type 0} (P : X → Type 0) (p : X → Bool) (f : X → X) → ((x : X) → P x → P (f x)) → (xs : List X) → Each P xs → Each P (with_first p f xs)
-each_with_first P p f g [] h = tt
-each_with_first P p f g (x ∷ xs) h = elim (cases_Bool (p x)) [ inl e ↦ simp e (g x h.0, h.1) | inr e ↦ simp e (h.0, each_with_first P p f g xs h.1) ]
-
--- an element, or the one that stands for none
-pub each_get_or : {X : Type 0} (P : X → Type 0) (xs : List X) (k : ℕ) (d : X) → P d → Each P xs → P (get_or xs k d)
-each_get_or P [] k d g h = g
-each_get_or P (x ∷ xs) zero d g h = h.0
-each_get_or P (x ∷ xs) (suc k) d g h = each_get_or P xs k d g h.1
 
 pub each_at : {X : Type 0} (P : X → Type 0) (xs : List X) (k : ℕ) (d : X) → k < length xs → Each P xs → P (get_or xs k d)
 each_at P xs k d lt h = All-get_or P xs k d lt (All-from_recursion P xs h)
@@ -56,7 +10,3 @@ each_at P xs k d lt h = All-get_or P xs k d lt (All-from_recursion P xs h)
 pub each_tested : {X : Type 0} (P : X → Type 0) (p : X → Bool) → ((x : X) → p x ≡ true → P x) → (xs : List X) → list_all p xs ≡ true → Each P xs
 each_tested P p f [] h = tt
 each_tested P p f (x ∷ xs) h = let g = and_parts (p x) (list_all p xs) h in (f x g.0, each_tested P p f xs g.1)
-
-pub each_number : (m k n : ℕ) → k + n ≤ m → Each (λ i. i < m) (numbers k n)
-each_number m k zero h = tt
-each_number m k (suc n) h = (omega arith, each_number m (k + 1) n (omega arith))

@@ -1,48 +1,47 @@
 -- A day stays fit, second by second, and its events have their names.
-use Rattle.std.proofs.Common.{◌≡◌, ℕ, zero, suc, ◌<◌, ◌≤◌, ◌/◌, List, [], ◌∷◌, length, get_or, refl, ◌∙◌, arith, inl, inr}
+use Rattle.std.proofs.Common.{◌≡◌, ℕ, zero, suc, ◌<◌, ◌≤◌, ◌/◌, List, [], ◌∷◌, ◌++◌, length, get_or, refl, ◌∙◌, arith, inl, inr}
 use Rattle.std.specs.Prelude.{map, Option, None, Some}
 use Rattle.std.specs.List.{AllByRecursion as Each, flat_map}
 use Rattle.std.proofs.lemmas.Bool.{cases_lt}
 use Rattle.std.proofs.lemmas.List.{length-map, length-replicate, get_or-map, get_or_past}
-use Rattle.std.proofs.lemmas.List.Elements.{All-nil, recursion_from_All}
+use Rattle.std.proofs.lemmas.List.Elements.{All-nil}
 use Rattle.events.specs.Keys.{phase_code}
 use Rattle.events.specs.declared.event.Book.{Book}
 use Rattle.events.specs.declared.event.Phase.{Phase}
 use Rattle.events.specs.declared.event.Phase.TheVariants as phase
 use Rattle.traffic.specs.declared.world.Hole.{Hole}
 use Rattle.traffic.specs.declared.world.Place.TheVariants.{At}
-use Rattle.traffic.specs.declared.rows.Stage.TheVariants.{Queue, Wait}
+use Rattle.traffic.specs.declared.moves.Move.{Move}
 use Rattle.traffic.specs.Lists.{below}
-use Rattle.traffic.specs.Rows.{World, on, nobody}
-use Rattle.traffic.specs.Setup.{Setup, Stay, Itinerary}
+use Rattle.traffic.specs.Rows.{World, nobody}
+use Rattle.rows.specs.declared.plan.Act.{Act}
+use Rattle.rows.specs.PlanRows.{PlanRows}
+use Rattle.traffic.specs.Setup.{Setup}
 use Rattle.traffic.specs.Moves.{told, run}
-use Rattle.traffic.specs.Links.{lane, rules}
-use Rattle.traffic.specs.Persons.{waiters, stranded}
-use Rattle.traffic.specs.Day.{Turn, Plan, link_plan, plan_of, count_of, turns, moves_of, after, turns_in, keyed, events_of, events_in, through, told_in, phases, first_end, at_home, world_start, world_from, events_from, end_events, world_at, day}
+use Rattle.traffic.specs.Persons.{stranded}
+use Rattle.traffic.specs.Day.{Turn, Plan, plan_of, count_of, turns, moves_of, after, turns_in, keyed, events_of, events_in, through, told_in, phases, first_end, at_home, world_start, world_from, events_from, end_events, world_at, day}
 use Rattle.fit_days.specs.Rows.{Counts, IsFitRow, IsFitPlace, IsFitPerson, IsFitWorld}
 use Rattle.fit_days.specs.Moves.{AreFitMoves, IsBookOf}
 use Rattle.fit_days.specs.Setups.{IsFitSetup, HasItsLinks}
-use Rattle.fit_days.proofs.Lists.{each_append, each_flat, each_kept, each_number}
+use Rattle.traffic.proofs.Each.{each_append, each_flat, each_number}
+use Rattle.traffic.proofs.Walks.{phases_keep, seconds_keep}
 use Rattle.fit_days.proofs.Kept.{run_fit}
-use Rattle.fit_days.proofs.Lanes.{moves_append, bay_rows, link_moves_fit}
+use Rattle.fit_days.proofs.Lanes.{link_fit}
 use Rattle.fit_days.proofs.Junctions.{node_fit}
-use Rattle.fit_days.proofs.Travellers.{flight_fit, leave_fit, departure_fit, waiters_fit, stranded_fit}
+use Rattle.fit_days.proofs.Travellers.{flight_fit, leave_fit, departure_fit, stranded_fit}
 use Rattle.fit_days.proofs.Naming.{Named, keyed_named, told_fit}
 
 -- TURNS
-link_fit : (z : Counts) (S : Setup) (t l : ℕ) (W : World) → IsFitSetup z S → IsFitWorld z W → l < length S.links → AreFitMoves z (link_plan S t l W)
-link_fit z S t l W f h lt =
-    let rows : Each (IsFitRow z) W.rows = recursion_from_All (IsFitRow z) W.rows h.rows in
-    let within : l < z.links = (let e = f.links in omega arith) in
-    link_moves_fit z (rules S l) t l (waiters S l W) (lane l W) within (waiters_fit z S l W f h)
-    (each_kept (IsFitRow z) (on l Queue) W.rows rows) (each_kept (IsFitRow z) (on l Wait) W.rows rows) (bay_rows z l W.rows rows)
+pub moves_append : (z : Counts) (xs ys : List Move) → AreFitMoves z xs → AreFitMoves z ys → AreFitMoves z (xs ++ ys)
+moves_append z [] ys h g = g
+moves_append z (x ∷ xs) ys h g = (h.0, moves_append z xs ys h.1 g)
 
 pub turn_fit : (z : Counts) (S : Setup) (t n : ℕ) (p : Phase) (W : World) → IsFitSetup z S → IsFitWorld z W → n < count_of S p → AreFitMoves z (plan_of S t p n W)
 unfolding plan_of
 turn_fit z S t n phase.A W f h lt = flight_fit z S t n W f (let e = f.persons in omega arith)
 turn_fit z S t n phase.B1 W f h lt = leave_fit z S t n W f h (let e = f.persons in omega arith)
-turn_fit z S t n phase.B2 W f h lt = departure_fit z S t n f lt
-turn_fit z S t n phase.C W f h lt = node_fit z S t n W (recursion_from_All (IsFitRow z) W.rows h.rows)
+turn_fit z S t n phase.B2 W f h lt = departure_fit z S t n W f lt
+turn_fit z S t n phase.C W f h lt = node_fit z S t n W f h
 turn_fit z S t n phase.D W f h lt = link_fit z S t n W f h lt
 turn_fit z S t n phase.E W f h lt = tt
 
@@ -69,27 +68,22 @@ pub phase_moves : (z : Counts) (S : Setup) (t : ℕ) (p : Phase) (W : World) →
 phase_moves z S t p W f h = moves_all z (turns_in S t p W) (turns_fit z S t p W f h)
 
 -- WORLDS
-phase_fit : (z : Counts) (S : Setup) (t : ℕ) (p : Phase) (W : World) → IsFitSetup z S → IsFitWorld z W → IsFitWorld z (after S t (turns_in S t p W) W)
-phase_fit z S t p W f h = run_fit z S t (moves_of (turns_in S t p W)) W f h (phase_moves z S t p W f h)
-
 pub through_fit : (z : Counts) (S : Setup) (t : ℕ) (ps : List Phase) (W : World) → IsFitSetup z S → IsFitWorld z W → IsFitWorld z (through S t ps W)
-unfolding through
-through_fit z S t [] W f h = h
-through_fit z S t (p ∷ ps) W f h = through_fit z S t ps (after S t (turns_in S t p W) W) f (phase_fit z S t p W f h)
+through_fit z S t ps W f h = phases_keep (IsFitWorld z) S t (λ p n V lt g. run_fit z S t (plan_of S t p n V) V f g (turn_fit z S t n p V f g lt)) ps W h
 
 first_end_fit : (z : Counts) (i : ℕ) (o : Option ℕ) → ((second : ℕ) → o ≡ Some second → 0 / 2 < z.legs i) → IsFitPlace z i 0 (At o)
 first_end_fit z i None h = tt
 first_end_fit z i (Some second) h = h second refl
 
-first_fit : (z : Counts) (i : ℕ) (stays : List Stay) → ((second : ℕ) → (get_or stays (0 / 2) (record { kind = 0; link = 0; end = None })).end ≡ Some second → 0 / 2 < z.legs i) → IsFitPlace z i 0 (At (first_end stays))
+first_fit : (z : Counts) (i : ℕ) (stays : List Act) → ((second : ℕ) → (get_or stays (0 / 2) (record { kind = 0; link = 0; end = None })).end ≡ Some second → 0 / 2 < z.legs i) → IsFitPlace z i 0 (At (first_end stays))
 first_fit z i [] h = tt
 first_fit z i (s ∷ ss) h = first_end_fit z i s.end h
 
 home_fit : (z : Counts) (S : Setup) (i : ℕ) → IsFitSetup z S → i < length S.persons → IsFitPerson z i (get_or (map at_home S.persons) i nobody)
 home_fit z S i f lt =
-    let none : Itinerary = record { stays = []; ways = [] } in
+    let none : PlanRows = record { acts = []; legs = [] } in
     let within : i < z.persons = (let e = f.persons in omega arith) in
-    rw (get_or-map at_home S.persons i none nobody lt) (first_fit z i (get_or S.persons i none).stays (λ second e. f.ends i 0 second within e))
+    rw (get_or-map at_home S.persons i none nobody lt) (first_fit z i (get_or S.persons i none).acts (λ second e. f.ends i 0 second within e))
 
 start_persons : (z : Counts) (S : Setup) (i : ℕ) → IsFitSetup z S → IsFitPerson z i (get_or (map at_home S.persons) i nobody)
 start_persons z S i f =
@@ -114,9 +108,7 @@ unfolding world_start
 start_links S = record { credits = length-replicate (length S.links) _; holes = All-nil (λ (h : Hole). h.link < length S.links) }
 
 pub from_fit : (z : Counts) (S : Setup) (W : World) (t : ℕ) → IsFitSetup z S → IsFitWorld z W → IsFitWorld z (world_from S W t)
-unfolding world_from
-from_fit z S W zero f h = h
-from_fit z S W (suc t) f h = through_fit z S t phases (world_from S W t) f (from_fit z S W t f h)
+from_fit z S W t f h = seconds_keep (IsFitWorld z) S (λ s V g. through_fit z S s phases V f g) W t h
 
 -- EVENTS
 phase_named : (z : Counts) (book : Book) (t : ℕ) (p : Phase) (us : List Turn) → IsBookOf z book → Each (IsFitTurn z) us → Each (Named book) (events_in t p us)
@@ -127,7 +119,7 @@ unfolding told_in
 told_named z book S t [] W b f h = tt
 told_named z book S t (p ∷ ps) W b f h =
     each_append (Named book) (events_in t p (turns_in S t p W)) _ (phase_named z book t p (turns_in S t p W) b (turns_fit z S t p W f h))
-    (told_named z book S t ps (after S t (turns_in S t p W) W) b f (phase_fit z S t p W f h))
+    (told_named z book S t ps (after S t (turns_in S t p W) W) b f (run_fit z S t (moves_of (turns_in S t p W)) W f h (phase_moves z S t p W f h)))
 
 from_named : (z : Counts) (book : Book) (S : Setup) (W : World) (t : ℕ) → IsBookOf z book → IsFitSetup z S → IsFitWorld z W → Each (Named book) (events_from S W t)
 unfolding events_from
@@ -147,4 +139,4 @@ unfolding day
 day_named z book S b f =
     let W = world_start S in
     let h = start_fit z S f in
-    each_append (Named book) (events_from S W S.end) _ (from_named z book S W S.end b f h) (end_named z book S S.end (world_at S S.end) b f (from_fit z S W S.end f h))
+    each_append (Named book) (events_from S W S.settings.end_second) _ (from_named z book S W S.settings.end_second b f h) (end_named z book S S.settings.end_second (world_at S S.settings.end_second) b f (from_fit z S W S.settings.end_second f h))

@@ -1,5 +1,5 @@
 -- A world in which each person is in one place, and whose rows fit the plans and the timetable, is fit.
-use Rattle.std.proofs.Common.{◌≡◌, ℕ, zero, suc, ◌+◌, ◌/◌, ◌<◌, ◌≤◌, Bool, true, false, not, cond, List, [], ◌∷◌, length, get_or, Option, None, Some, refl, sym, ◌∙◌, ap, subst, inl, inr, arith}
+use Rattle.std.proofs.Common.{◌≡◌, ℕ, zero, suc, ◌+◌, ◌/◌, ◌<◌, ◌≤◌, Bool, true, not, cond, List, [], ◌∷◌, length, get_or, None, Some, refl, sym, ◌∙◌, ap, subst, inl, inr, arith}
 use Rattle.std.specs.Prelude.{All, ◌==◌, count_by, filter}
 use Rattle.std.specs.List.{AllByRecursion as Each}
 use Rattle.std.proofs.lemmas.Bool.{cases_Bool, cases_lt, eqb-false, eq-eqb}
@@ -8,20 +8,25 @@ use Rattle.std.proofs.lemmas.List.{get_or_past}
 use Rattle.std.proofs.lemmas.List.Elements.{All-get_or, All-weaker, All-from_recursion, recursion_from_All}
 use Rattle.std.proofs.lemmas.List.Sums.{get_or-le-sum_by, length-filter, sum_by-cons}
 use Rattle.std.proofs.lemmas.List.Filters.{length-filter_both}
+use Rattle.limits.specs.declared.TheConstants.{LAST_SECOND, MAX_CALLS, MAX_SEATS}
 use Rattle.events.specs.declared.event.VehicleId.{VehicleId}
 use Rattle.events.specs.declared.event.VehicleId.TheVariants as vehicle
 use Rattle.events.specs.declared.lists.StopCall.{StopCall}
-use Rattle.traffic.specs.declared.rows.Rider.{Rider}
+use Rattle.traffic.specs.declared.riders.Rider.{Rider}
 use Rattle.traffic.specs.declared.world.Row.{Row}
 use Rattle.traffic.specs.declared.world.Place.{Place}
 use Rattle.traffic.specs.declared.world.Place.TheVariants.{At, Flying, Waiting, Riding, Gone}
 use Rattle.traffic.specs.Vehicles.{VehicleState}
 use Rattle.traffic.specs.Rows.{World, person_of, nobody}
-use Rattle.traffic.specs.Setup.{Setup, Stay, Way, Drive, Teleport, Transit, Itinerary, Departure, itinerary, way, next_stay, departure}
-use Rattle.traffic.specs.Worlds.{IsListed, listed_in, listed, OnePlace, IsLeg, IsFrom, IsAlong, IsOnLine, HasLeg, HasRiders, IsCarOf, IsOfDeparture, IsOwn, leg_of, is_last_act, HasEnd, IsSoundPerson, IsSoundRow, Sound}
-use Rattle.fit_days.specs.Rows.{Counts, IsFitId, IsFitLine, IsFitLink, IsFitRider, IsFitCall, IsFitVehicle, IsFitRow, IsFitPlace, IsFitPerson, IsFitWorld}
-use Rattle.fit_days.specs.Setups.{IsFitRoute, IsFitDeparture, IsFitStay, IsFitWay, IsFitSetup, HasPlans, HasItsLinks}
-use Rattle.fit_days.proofs.Lists.{each_filter}
+use Rattle.rows.specs.declared.plan.Act.{Act}
+use Rattle.rows.specs.declared.plan.Leg.{Leg}
+use Rattle.rows.specs.PlanRows.{PlanRows}
+use Rattle.rows.specs.declared.plan.Leg.TheVariants.{Car, Teleport, Transit}
+use Rattle.traffic.specs.Setup.{Setup, person_plan, leg_at, act_after, departure}
+use Rattle.traffic.specs.Worlds.{IsListed, listed_in, listed, OnePlace, IsFrom, IsAlong, IsOnLine, HasLeg, HasRiders, IsOwn, leg_of, IsSoundPerson, IsSoundRow, Sound}
+use Rattle.fit_days.specs.Rows.{Counts, IsFitId, IsFitLine, IsFitLink, IsFitCall, IsFitRow, IsFitPlace, IsFitPerson, IsFitWorld}
+use Rattle.fit_days.specs.Setups.{IsFitRoute, IsFitDeparture, IsFitLeg, IsFitSetup, HasPlans, HasItsLinks}
+use Rattle.traffic.proofs.Each.{each_filter}
 
 -- COUNTING
 -- how often person i is among riders
@@ -55,15 +60,15 @@ few_persons (suc n) (x ∷ xs) below once =
     lower m n e h = grind (arith, nat_tests)
 
 -- PERSONS
-from_fit : (z : Counts) (stop : ℕ) (w : Way) → IsFitWay z w → IsFrom stop w → stop < z.stops
-from_fit z stop (Drive route) fit from = absurd from
+from_fit : (z : Counts) (stop : ℕ) (w : Leg) → IsFitLeg z w → IsFrom stop w → stop < z.stops
+from_fit z stop (Car route) fit from = absurd from
 from_fit z stop (Teleport mode seconds) fit from = absurd from
 from_fit z stop (Transit line access egress) fit from = subst (λ (s : ℕ). s < z.stops) from fit
 
 place_fit : (z : Counts) (S : Setup) (i element : ℕ) (pl : Place) → IsFitSetup z S → HasPlans z S → i < z.persons → IsSoundPerson S i element pl → IsFitPlace z i element pl
 place_fit z S i element (At None) fit plans there sound = tt
 place_fit z S i element (At (Some end)) fit plans there sound =
-    let last = eqb-false (element / 2 + 1) (length (itinerary S i).stays) sound.1 in
+    let last = eqb-false (element / 2 + 1) (length (person_plan S i).acts) sound.1 in
     let within = sound.0.1 in
     let more = plans.one_more i there in
     omega arith
@@ -71,7 +76,7 @@ place_fit z S i element (Flying start) fit plans there sound = tt
 place_fit z S i element (Waiting stop since) fit plans there sound =
     let leg = sound.0.1 in
     let count = plans.legs i there in
-    from_fit z stop (way S i element) (fit.ways i element there (omega arith)) sound.1
+    from_fit z stop (leg_at S i element) (fit.legs i element there (omega arith)) sound.1
 place_fit z S i element (Riding v) fit plans there sound = tt
 place_fit z S i element (Gone l) fit plans there sound = tt
 
@@ -84,15 +89,15 @@ person_fit z S W i fit plans one sound =
 
 -- RIDERS
 -- the leg of who is not there is none
-no_plan : (S : Setup) (i element : ℕ) → length S.persons ≤ i → way S i element ≡ Drive []
-no_plan S i element past = ap (λ (plan : Itinerary). get_or plan.ways (element / 2) (Drive [])) (get_or_past S.persons i (record { stays = []; ways = [] }) past)
+no_plan : (S : Setup) (i element : ℕ) → length S.persons ≤ i → leg_at S i element ≡ Car []
+no_plan S i element past = ap (λ (plan : PlanRows). get_or plan.legs (element / 2) (Car [])) (get_or_past S.persons i (record { acts = []; legs = [] }) past)
 
-on_line_there : (S : Setup) (v : VehicleState) (i element : ℕ) → IsOnLine v (way S i element) → i < length S.persons
+on_line_there : (S : Setup) (v : VehicleState) (i element : ℕ) → IsOnLine v (leg_at S i element) → i < length S.persons
 on_line_there S v i element on =
     elim (cases_lt i (length S.persons)) [ inl there ↦ there | inr past ↦ absurd (subst (IsOnLine v) (no_plan S i element past) on) ]
 
-kind_of_leg : (r : Rider) (w : Way) (next : Stay) → HasLeg r w next → r.kind ≡ next.kind
-kind_of_leg r (Drive route) next h = h.1
+kind_of_leg : (r : Rider) (w : Leg) (next : Act) → HasLeg r w next → r.kind ≡ next.kind
+kind_of_leg r (Car route) next h = h.1
 kind_of_leg r (Teleport mode seconds) next h = absurd h
 kind_of_leg r (Transit line access egress) next h = h.1
 
@@ -103,7 +108,7 @@ riders_there S W v (vehicle.Transit d) own riders =
     All-weaker (λ (x : Rider). IsOnLine v (leg_of S W x.person)) (λ (x : Rider). x.person < length S.persons) (λ x on. on_line_there S v x.person (person_of x.person W).element on) v.riders riders
 
 -- who is listed is on a leg of his plan
-listed_leg : (S : Setup) (i element : ℕ) (rows : List Row) (pl : Place) → IsListed i rows pl → 1 ≤ listed i rows → IsSoundPerson S i element pl → element / 2 < length (itinerary S i).ways
+listed_leg : (S : Setup) (i element : ℕ) (rows : List Row) (pl : Place) → IsListed i rows pl → 1 ≤ listed i rows → IsSoundPerson S i element pl → element / 2 < length (person_plan S i).legs
 listed_leg S i element rows (At end) is some sound = absurd (omega arith)
 listed_leg S i element rows (Flying start) is some sound = absurd (omega arith)
 listed_leg S i element rows (Waiting stop since) is some sound = absurd (omega arith)
@@ -126,8 +131,8 @@ one_rider i xs one all = by xs one (recursion_from_All (λ (x : Rider). x.person
     by (x ∷ y ∷ xs) one all = absurd (omega arith)
 
 -- VEHICLES
-along_fit : (z : Counts) (route : List ℕ) (w : Way) → IsAlong route w → IsFitWay z w → IsFitRoute z route
-along_fit z route (Drive links) along fit = subst (IsFitRoute z) along fit
+along_fit : (z : Counts) (route : List ℕ) (w : Leg) → IsAlong route w → IsFitLeg z w → IsFitRoute z route
+along_fit z route (Car links) along fit = subst (IsFitRoute z) along fit
 along_fit z route (Teleport mode seconds) along fit = absurd along
 along_fit z route (Transit line access egress) along fit = absurd along
 
@@ -140,10 +145,10 @@ record IsFitOwn (z : Counts) (v : VehicleState) : Type 0 where
   line : IsFitLine z v.id v.line
   route : IsFitRoute z v.route
   calls : All (IsFitCall z) v.calls
-  few_calls : length v.calls ≤ 200
+  few_calls : length v.calls ≤ MAX_CALLS
   served : v.served ≤ length v.calls
-  seats : v.seats ≤ 1000
-  departed : v.departed ≤ 172800
+  seats : v.seats ≤ MAX_SEATS
+  departed : v.departed ≤ LAST_SECOND
 
 own_fit : (z : Counts) (S : Setup) (W : World) (v : VehicleState) (id : VehicleId) → v.id ≡ id → IsFitSetup z S → HasPlans z S → OnePlace S W → Sound S W → IsOwn S v id → HasRiders S W v id
     → ((i : ℕ) → count_by (λ (x : Rider). x.person == i) v.riders ≤ listed i W.rows) → IsFitOwn z v
@@ -160,7 +165,7 @@ own_fit z S W v (vehicle.Car i) is fit plans one sound own riders counted =
     record {
       id = subst (IsFitId z) (sym is) (omega arith);
       line = subst (λ (k : VehicleId). IsFitLine z k v.line) (sym is) tt;
-      route = along_fit z v.route (leg_of S W i) riders.2 (fit.ways i (person_of i W).element (omega arith) (omega arith));
+      route = along_fit z v.route (leg_of S W i) riders.2 (fit.legs i (person_of i W).element (omega arith) (omega arith));
       calls = no_calls z v.calls own.calls;
       few_calls = omega arith;
       served = omega arith;
@@ -200,7 +205,7 @@ row_fit z S W r fit plans one sound few row counted =
     let few_riders = few_persons (length S.persons) v.riders (recursion_from_All (λ (x : Rider). x.person < length S.persons) v.riders there)
     (λ i less. omega (arith, counted i, listed_once i W.rows (person_of i W).place (one.one_place i less))) in
     let IsThere : Rider → Type 0 = λ x. x.person < length S.persons in
-    let HasItsLeg : Rider → Type 0 = λ x. HasLeg x (leg_of S W x.person) (next_stay S x.person (person_of x.person W).element) in
+    let HasItsLeg : Rider → Type 0 = λ x. HasLeg x (leg_of S W x.person) (act_after S x.person (person_of x.person W).element) in
     record {
       vehicle = record {
         id = own.id;
@@ -211,8 +216,8 @@ row_fit z S W r fit plans one sound few row counted =
         riders = λ k d less.
             let x = get_or v.riders k d in
             let here : IsThere x = there k d less in
-            let kind = kind_of_leg x (leg_of S W x.person) (next_stay S x.person (person_of x.person W).element) (row.legs k d less) in
-            let stay = (fit.stays x.person ((person_of x.person W).element + 2) (omega arith)).kind in
+            let kind = kind_of_leg x (leg_of S W x.person) (act_after S x.person (person_of x.person W).element) (row.legs k d less) in
+            let stay = (fit.acts x.person ((person_of x.person W).element + 2) (omega arith)).kind in
             record { person = omega arith; kind = omega arith };
         few_riders = omega arith;
         calls = own.calls;

@@ -6,7 +6,7 @@ use Rattle.std.proofs.lemmas.List.Elements.{All-get_or, All-filter, All-drop, re
 use Rattle.events.specs.declared.event.VehicleId.{VehicleId}
 use Rattle.events.specs.declared.event.VehicleId.TheVariants as vehicle
 use Rattle.traffic.specs.declared.moves.Said.{Said}
-use Rattle.traffic.specs.declared.rows.Rider.{Rider}
+use Rattle.traffic.specs.declared.riders.Rider.{Rider}
 use Rattle.traffic.specs.declared.world.Row.{Row}
 use Rattle.traffic.specs.Vehicles.{VehicleState}
 use Rattle.traffic.specs.Stops.{call_at, next_call, alights, alighting, staying}

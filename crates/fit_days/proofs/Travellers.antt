@@ -1,6 +1,5 @@
 -- The turns of persons and of departures make fit moves, who waits at stops is fit, and so is what is told of who is under way.
-use Rattle.std.proofs.Common.{ℕ, ◌+◌, ◌<◌, ◌/◌, List, [], ◌∷◌, length, arith, inl, inr, eqb}
-use Rattle.std.specs.Prelude.{Some}
+use Rattle.std.proofs.Common.{ℕ, ◌+◌, ◌<◌, List, [], ◌∷◌, length, subst, arith, inl, inr, eqb}
 use Rattle.std.specs.List.{AllByRecursion as Each}
 use Rattle.std.proofs.lemmas.Bool.{cases_Bool}
 use Rattle.std.proofs.lemmas.List.Elements.{All-get_or, All-cons, All-nil, recursion_from_All}
@@ -11,20 +10,25 @@ use Rattle.traffic.specs.declared.world.Place.{Place}
 use Rattle.traffic.specs.declared.world.Place.TheVariants.{At, Flying, Waiting, Riding, Gone as Removed}
 use Rattle.traffic.specs.Lists.{below}
 use Rattle.traffic.specs.Rows.{World, person_of}
-use Rattle.traffic.specs.Setup.{Setup, Stay, Way, Drive, Teleport, Transit, Departure, stay, way, next_stay, link_of_stop, departure}
-use Rattle.traffic.specs.Persons.{mode_of_way, landing, landing_moves, car, sets_out, leaving, leaving_moves, transit_vehicle, departure_moves, waits, waits_on, waiter, waiters, same_vehicle, link_of_vehicle, stuck_at, stranded}
+use Rattle.rows.specs.declared.plan.Act.{Act}
+use Rattle.rows.specs.declared.plan.Leg.{Leg}
+use Rattle.rows.specs.declared.plan.Leg.TheVariants as leg
+use Rattle.traffic.specs.Setup.{Setup, Departure, act_at, leg_at, act_after, link_of_stop, departure}
+use Rattle.traffic.specs.Day.{flight_plan, leave_plan, departure_plan}
+use Rattle.traffic.specs.Persons.{mode_of_leg, car, sets_out, transit_vehicle, waits, waits_on, waiter, waiters, same_vehicle, link_of_vehicle, stuck_at, stranded}
 use Rattle.fit_days.specs.Rows.{Counts, IsFitLink, IsFitRider, IsFitCall, IsFitRow, IsFitPlace, IsFitWorld}
 use Rattle.fit_days.specs.Moves.{AreFitSaid, AreFitMoves}
-use Rattle.fit_days.specs.Setups.{IsFitRoute, IsFitDeparture, IsFitStay, IsFitWay, IsFitSetup}
-use Rattle.fit_days.proofs.Lists.{each_flat, each_number}
+use Rattle.fit_days.specs.Setups.{IsFitRoute, IsFitDeparture, IsFitAct, IsFitLeg, IsFitSetup, IsFitStop}
+use Rattle.traffic.proofs.Each.{each_if, each_flat, each_number}
+use Rattle.traffic.proofs.Walks.{flight_walk, leave_walk, departure_walk}
 use Rattle.fit_days.proofs.Boarding.{IsFitWaiter}
-use Rattle.fit_days.proofs.Lanes.{moves_cases}
 
 -- PERSONS
-landing_fit : (z : Counts) (t i : ℕ) (w : Way) (next : Stay) (pl : Place) → i < z.persons → IsFitStay z next → AreFitMoves z (landing t i w next pl)
-landing_fit z t i (Teleport mode seconds) next (Flying start) lt h =
-    moves_cases z (eqb (start + seconds) t) _ _
-    (λ e. (
+pub flight_fit : (z : Counts) (S : Setup) (t i : ℕ) (W : World) → IsFitSetup z S → i < z.persons → AreFitMoves z (flight_plan S t i W)
+flight_fit z S t i W f lt =
+    let h = f.acts i ((person_of i W).element + 2) lt in
+    flight_walk (λ ms. AreFitMoves z ms) S t i W tt
+    (λ mode seconds start p w e. (
       (
         tt,
         (
@@ -37,12 +41,6 @@ landing_fit z t i (Teleport mode seconds) next (Flying start) lt h =
       ),
       tt,
     ))
-    (λ e. tt)
-landing_fit z t i _ next _ lt h = tt
-
-pub flight_fit : (z : Counts) (S : Setup) (t i : ℕ) (W : World) → IsFitSetup z S → i < z.persons → AreFitMoves z (landing_moves S t i (person_of i W))
-unfolding landing_moves
-flight_fit z S t i W f lt = let P = person_of i W in landing_fit z t i (way S i P.element) (next_stay S i P.element) P.place lt (f.stays i (P.element + 2) lt)
 
 car_fit : (z : Counts) (i : ℕ) (route : List ℕ) (kind : ℕ) → i < z.persons → kind < z.kinds → IsFitRoute z route → IsFitRow z (car i route kind)
 car_fit z i route kind lt k h =
@@ -66,36 +64,28 @@ car_fit z i route kind lt k h =
     }
 
 stop_below : (z : Counts) (S : Setup) (stop : ℕ) → IsFitSetup z S → stop < z.stops → link_of_stop S stop < z.links
-stop_below z S stop f lt = All-get_or (IsFitLink z) S.stops stop 0 (let e = f.stops in omega arith) f.stop_links
+stop_below z S stop f lt = All-get_or (IsFitStop z) S.stops stop (record { link = 0 }) (let e = f.stops in omega arith) f.stop_links
 
-sets_out_fit : (z : Counts) (S : Setup) (i : ℕ) (w : Way) (next : Stay) → IsFitSetup z S → i < z.persons → IsFitStay z next → IsFitWay z w → AreFitMoves z (sets_out S i w next)
-sets_out_fit z S i (Drive route) next f lt h g = ((car_fit z i route next.kind lt h.kind g, (record { person = lt; vehicle = lt; link = tt; more = tt }, tt)), tt)
-sets_out_fit z S i (Teleport mode seconds) next f lt h g = tt
-sets_out_fit z S i (Transit line access egress) next f lt h g = ((tt, (record { person = lt; vehicle = tt; link = stop_below z S access f g; more = g }, tt)), tt)
+sets_out_fit : (z : Counts) (S : Setup) (i : ℕ) (w : Leg) (next : Act) → IsFitSetup z S → i < z.persons → IsFitAct z next → IsFitLeg z w → AreFitMoves z (sets_out S i w next)
+sets_out_fit z S i (leg.Car route) next f lt h g = ((car_fit z i route next.kind lt h.kind g, (record { person = lt; vehicle = lt; link = tt; more = tt }, tt)), tt)
+sets_out_fit z S i (leg.Teleport mode seconds) next f lt h g = tt
+sets_out_fit z S i (leg.Transit line access egress) next f lt h g = ((tt, (record { person = lt; vehicle = tt; link = stop_below z S access f g; more = g }, tt)), tt)
 
-leaving_fit : (z : Counts) (S : Setup) (t i element : ℕ) (here : Stay) (w : Way) (next : Stay) (pl : Place) → IsFitSetup z S → i < z.persons → IsFitStay z here → IsFitStay z next →
-    IsFitPlace z i element pl → (element / 2 < z.legs i → IsFitWay z w) → AreFitMoves z (leaving S t i here w next pl)
-leaving_fit z S t i element here w next (At (Some end)) f lt h g p k =
-    moves_cases z (eqb end t) _ _
-    (λ e. (
+pub leave_fit : (z : Counts) (S : Setup) (t i : ℕ) (W : World) → IsFitSetup z S → IsFitWorld z W → i < z.persons → AreFitMoves z (leave_plan S t i W)
+leave_fit z S t i W f h lt =
+    let P = person_of i W in
+    let here = f.acts i P.element lt in
+    leave_walk (λ ms. AreFitMoves z ms) S t i W tt
+    (λ p. (
       (
         tt,
         (
-          record { person = lt; vehicle = tt; link = h.link; more = h.kind },
-          (record { person = lt; vehicle = tt; link = h.link; more = tt }, tt),
+          record { person = lt; vehicle = tt; link = here.link; more = here.kind },
+          (record { person = lt; vehicle = tt; link = here.link; more = tt }, tt),
         ),
       ),
-      sets_out_fit z S i w next f lt g (k p),
+      sets_out_fit z S i (leg_at S i P.element) (act_after S i P.element) f lt (f.acts i (P.element + 2) lt) (f.legs i P.element lt (subst (λ (pl : Place). IsFitPlace z i P.element pl) p (h.persons i))),
     ))
-    (λ e. tt)
-leaving_fit z S t i element here w next _ f lt h g p k = tt
-
-pub leave_fit : (z : Counts) (S : Setup) (t i : ℕ) (W : World) → IsFitSetup z S → IsFitWorld z W → i < z.persons → AreFitMoves z (leaving_moves S t i (person_of i W))
-unfolding leaving_moves
-leave_fit z S t i W f h lt =
-    let P = person_of i W in
-    leaving_fit z S t i P.element (stay S i P.element) (way S i P.element) (next_stay S i P.element) P.place f lt
-    (f.stays i P.element lt) (f.stays i (P.element + 2) lt) (h.persons i) (f.ways i P.element lt)
 
 -- DEPARTURES
 transit_fit : (z : Counts) (d : ℕ) (D : Departure) → d < z.departures → IsFitDeparture z D → IsFitRow z (transit_vehicle d D)
@@ -119,29 +109,28 @@ transit_fit z d D lt h =
       stage = tt;
     }
 
-pub departure_fit : (z : Counts) (S : Setup) (t d : ℕ) → IsFitSetup z S → d < length S.departures → AreFitMoves z (departure_moves S t d)
-unfolding departure_moves
-departure_fit z S t d f lt =
+pub departure_fit : (z : Counts) (S : Setup) (t d : ℕ) (W : World) → IsFitSetup z S → d < length S.departures → AreFitMoves z (departure_plan S t d W)
+departure_fit z S t d W f lt =
     let within : d < z.departures = (let e = f.departures in omega arith) in
     let D : IsFitDeparture z (departure S d) = All-get_or (IsFitDeparture z) S.departures d _ lt f.runs in
     let r = transit_fit z d (departure S d) within D in
-    moves_cases z (eqb (departure S d).second t) _ _ (λ e. ((r, (record { person = tt; vehicle = within; link = r.link; more = D.line }, tt)), tt)) (λ e. tt)
+    departure_walk (λ ms. AreFitMoves z ms) S t d W tt (λ e. ((r, (record { person = tt; vehicle = within; link = r.link; more = D.line }, tt)), tt))
 
 -- WHO WAITS
-waits_fit : (z : Counts) (i : ℕ) (w : Way) (next : Stay) (stop since : ℕ) → i < z.persons → IsFitStay z next → Each (IsFitWaiter z) (waits i w next stop since)
-waits_fit z i (Transit line access egress) next stop since lt h = (record { person = lt; kind = h.kind }, tt)
+waits_fit : (z : Counts) (i : ℕ) (w : Leg) (next : Act) (stop since : ℕ) → i < z.persons → IsFitAct z next → Each (IsFitWaiter z) (waits i w next stop since)
+waits_fit z i (leg.Transit line access egress) next stop since lt h = (record { person = lt; kind = h.kind }, tt)
 waits_fit z i _ next stop since lt h = tt
 
-waits_on_fit : (z : Counts) (S : Setup) (l i : ℕ) (w : Way) (next : Stay) (pl : Place) → i < z.persons → IsFitStay z next → Each (IsFitWaiter z) (waits_on S l i w next pl)
+waits_on_fit : (z : Counts) (S : Setup) (l i : ℕ) (w : Leg) (next : Act) (pl : Place) → i < z.persons → IsFitAct z next → Each (IsFitWaiter z) (waits_on S l i w next pl)
 waits_on_fit z S l i w next (Waiting stop since) lt h =
-    elim (cases_Bool (eqb (link_of_stop S stop) l)) [ inl e ↦ simp e (waits_fit z i w next stop since lt h) | inr e ↦ simp e tt ]
+    each_if (IsFitWaiter z) (eqb (link_of_stop S stop) l) _ _ (waits_fit z i w next stop since lt h) tt
 waits_on_fit z S l i w next _ lt h = tt
 
 pub waiters_fit : (z : Counts) (S : Setup) (l : ℕ) (W : World) → IsFitSetup z S → IsFitWorld z W → Each (IsFitWaiter z) (waiters S l W)
 unfolding waiters
 waiters_fit z S l W f h =
     each_flat (λ i. i < z.persons) (IsFitWaiter z) (λ i. waiter S l i (person_of i W))
-    (λ i lt. let P = person_of i W in waits_on_fit z S l i (way S i P.element) (next_stay S i P.element) P.place lt (f.stays i (P.element + 2) lt))
+    (λ i lt. let P = person_of i W in waits_on_fit z S l i (leg_at S i P.element) (act_after S i P.element) P.place lt (f.acts i (P.element + 2) lt))
     (below (length W.persons)) (each_number z.persons 0 (length W.persons) (let e = h.one_each in omega arith))
 
 -- WHO IS UNDER WAY
@@ -150,7 +139,7 @@ unfolding link_of_vehicle
 row_below z v [] some h = some
 row_below z v (r ∷ rs) some h = elim (cases_Bool (same_vehicle r.vehicle.id v)) [ inl e ↦ simp e h.0.link | inr e ↦ simp e (row_below z v rs some h.1) ]
 
-stuck_fit : (z : Counts) (S : Setup) (W : World) (i element : ℕ) (here : Stay) (mode : Mode) (pl : Place) → IsFitSetup z S → IsFitWorld z W → i < z.persons → IsFitStay z here → IsFitPlace z i element pl →
+stuck_fit : (z : Counts) (S : Setup) (W : World) (i element : ℕ) (here : Act) (mode : Mode) (pl : Place) → IsFitSetup z S → IsFitWorld z W → i < z.persons → IsFitAct z here → IsFitPlace z i element pl →
     AreFitSaid z (stuck_at S W i here mode pl)
 stuck_fit z S W i element here mode (At end) f h lt g p = tt
 stuck_fit z S W i element here mode (Flying start) f h lt g p = (record { person = lt; vehicle = tt; link = g.link; more = tt }, tt)
@@ -164,4 +153,4 @@ pub stranded_fit : (z : Counts) (S : Setup) (W : World) (i : ℕ) → IsFitSetup
 unfolding stranded
 stranded_fit z S W i f h lt =
     let P = person_of i W in
-    stuck_fit z S W i P.element (stay S i P.element) (mode_of_way (way S i P.element)) P.place f h lt (f.stays i P.element lt) (h.persons i)
+    stuck_fit z S W i P.element (act_at S i P.element) (mode_of_leg (leg_at S i P.element)) P.place f h lt (f.acts i P.element lt) (h.persons i)

@@ -1,9 +1,10 @@
 -- What holds of each vehicle and each person of a day in every second.
 use Rattle.std.specs.Prelude.{◌≡◌, ◌<◌, ◌≤◌, ℕ, ◌/◌, length, All, None, Some}
+use Rattle.limits.specs.declared.TheConstants.{LAST_SECOND, MAX_CALLS, MAX_ROUTE_LINKS, MAX_SEATS}
 use Rattle.events.specs.declared.event.VehicleId.{VehicleId}
 use Rattle.events.specs.declared.event.VehicleId.TheVariants as vehicle
 use Rattle.events.specs.declared.lists.StopCall.{StopCall}
-use Rattle.traffic.specs.declared.rows.Rider.{Rider}
+use Rattle.traffic.specs.declared.riders.Rider.{Rider}
 use Rattle.traffic.specs.declared.world.Row.{Row}
 use Rattle.traffic.specs.declared.world.Hole.{Hole}
 use Rattle.traffic.specs.declared.world.Place.{Place}
@@ -45,22 +46,22 @@ pub record IsFitRider (z : Counts) (r : Rider) : Type 0 where
 -- a call at a stop that is there, within two days of the departure
 pub record IsFitCall (z : Counts) (c : StopCall) : Type 0 where
   pub stop : c.stop < z.stops
-  pub offset : c.offset ≤ 172800
+  pub offset : c.offset ≤ LAST_SECOND
 
 -- all that a vehicle names is there, and its lists and numbers are within the limits
 pub record IsFitVehicle (z : Counts) (v : VehicleState) : Type 0 where
   pub id : IsFitId z v.id
   pub line : IsFitLine z v.id v.line
   pub route : All (IsFitLink z) v.route
-  pub few_links : length v.route ≤ 1000
+  pub few_links : length v.route ≤ MAX_ROUTE_LINKS
   pub place : v.place < length v.route
   pub riders : All (IsFitRider z) v.riders
   pub few_riders : length v.riders ≤ 65536
   pub calls : All (IsFitCall z) v.calls
-  pub few_calls : length v.calls ≤ 200
+  pub few_calls : length v.calls ≤ MAX_CALLS
   pub served : v.served ≤ length v.calls
-  pub seats : v.seats ≤ 1000
-  pub departed : v.departed ≤ 172800
+  pub seats : v.seats ≤ MAX_SEATS
+  pub departed : v.departed ≤ LAST_SECOND
 
 -- a row's vehicle is fit and stands on a link that is there; in a buffer it has a next link, and in a bay it has served a stop
 pub record IsFitRow (z : Counts) (r : Row) : Type 0 where

@@ -2,17 +2,18 @@
 
 ghost use Rattle.std.specs.Prelude.{◌≡◌, ◌<◌, ◌≤◌, ◌+◌, ℕ, true, List, length, All};
 ghost use Rattle.std.specs.List.{flat_map};
+ghost use Rattle.limits.specs.declared.TheConstants.{LAST_SECOND};
 ghost use Rattle.events.specs.Lines.{AreInBook};
 ghost use Rattle.events.specs.declared.event.Book.{Book};
 ghost use Rattle.events.specs.declared.event.Phase.{Phase};
-ghost use Rattle.plans.specs.Parts.{Parts, parts_of};
-ghost use Rattle.plans.specs.declared.plan.Plan.{Plan};
+ghost use Rattle.rows.specs.PlanRows.{PlanRows, plan_rows};
+ghost use Rattle.rows.specs.declared.plan.Plan.{Plan};
 ghost use Rattle.town.specs.Fits.{fits};
 ghost use Rattle.town.specs.Rows.{TownRows, IsTown};
 ghost use Rattle.town.specs.Setups.{setup_of};
-ghost use Rattle.town.specs.Views.{rows_of, setup_in};
-ghost use Rattle.town.specs.declared.rows.Town.{Town};
-ghost use Rattle.traffic.specs.declared.rows.Stage.TheVariants.{Buffer};
+ghost use Rattle.town.specs.Views.{rows_of, setup};
+ghost use Rattle.town.specs.declared.day_input.DayInput.{DayInput};
+ghost use Rattle.traffic.specs.declared.stage.Stage.TheVariants.{Buffer};
 ghost use Rattle.traffic.specs.declared.moves.Move.{Move};
 ghost use Rattle.traffic.specs.declared.world.Row.{Row};
 ghost use Rattle.traffic.specs.Vehicles.{VehicleState};
@@ -31,18 +32,17 @@ ghost use Rattle.fit_days.specs.Setups.{counts_of, counts_in, IsPlanIn, IsFitSet
 /// The setup of a day in a town is fit, where each chosen plan fits the town; and the town's book names as many of each,
 /// where it names the persons who have these plans.
 pub fn towns_are_fit()
-    ensures rows { (T : TownRows) (chosen : List Parts) (k : ℕ) → IsTown T → All (IsPlanIn T) chosen
+    ensures rows { (T : TownRows) (chosen : List PlanRows) (k : ℕ) → IsTown T → All (IsPlanIn T) chosen
         → IsFitSetup (counts_of T chosen) (setup_of T chosen k) }
-    ensures setups { (town : Town) (chosen : List Plan) (k : ℕ)
-        → All (λ (p : Plan). fits (rows_of town) (parts_of p) ≡ true) chosen
-        → IsFitSetup (counts_in town chosen) (setup_in town chosen k) }
-    ensures books { (town : Town) (chosen : List Plan) → length town.book.persons ≡ length chosen
-        → IsBookOf (counts_in town chosen) town.book }
+    ensures setups { (day : DayInput) → All (λ (p : Plan). fits (rows_of day.town.now) (plan_rows p) ≡ true) day.chosen.now
+        → IsFitSetup (counts_in day) (setup day) }
+    ensures books { (day : DayInput) → length day.town.now.book.persons ≡ length day.chosen.now
+        → IsBookOf (counts_in day) day.town.now.book }
 {}
 
 /// A fit vehicle has a next call within the limits; in a buffer it has a next link, which is there.
 pub fn fit_rows_are_small()
-    ensures calls { (z : Counts) (v : VehicleState) → IsFitVehicle z v → (next_call v).offset ≤ 172800 }
+    ensures calls { (z : Counts) (v : VehicleState) → IsFitVehicle z v → (next_call v).offset ≤ LAST_SECOND }
     ensures next { (z : Counts) (r : Row) → IsFitRow z r → r.stage ≡ Buffer
         → r.vehicle.place + 1 < length r.vehicle.route }
     ensures next_link { (z : Counts) (r : Row) → IsFitRow z r → r.stage ≡ Buffer
@@ -78,9 +78,8 @@ pub fn days_are_named()
     ensures stranded { (z : Counts) (book : Book) (S : Setup) (t code i index : ℕ) (W : World) → IsBookOf z book
         → IsFitSetup z S → IsFitWorld z W → i < z.persons → AreInBook (keyed t code i index (stranded S W i)) book }
     ensures day { (z : Counts) (book : Book) (S : Setup) → IsBookOf z book → IsFitSetup z S → AreInBook (day S) book }
-    ensures towns { (town : Town) (chosen : List Plan) (k : ℕ)
-        → All (λ (p : Plan). fits (rows_of town) (parts_of p) ≡ true) chosen → length town.book.persons ≡ length chosen
-        → AreInBook (day (setup_in town chosen k)) town.book }
+    ensures towns { (d : DayInput) → All (λ (p : Plan). fits (rows_of d.town.now) (plan_rows p) ≡ true) d.chosen.now
+        → length d.town.now.book.persons ≡ length d.chosen.now → AreInBook (day (setup d)) d.town.now.book }
 {}
 
 /// A world in which each person is in one place, and every row fits the plans and the timetable, is fit: so what a day needs
@@ -88,8 +87,8 @@ pub fn days_are_named()
 pub fn sound_worlds_are_fit()
     ensures setups { (z : Counts) (S : Setup) (W : World) → IsFitSetup z S → HasPlans z S → z.persons ≤ 65536
         → HasItsLinks S W → OnePlace S W → Sound S W → IsFitWorld z W }
-    ensures towns { (town : Town) (chosen : List Plan) (k : ℕ) (W : World)
-        → All (λ (p : Plan). fits (rows_of town) (parts_of p) ≡ true) chosen → length town.book.persons ≡ length chosen
-        → HasItsLinks (setup_in town chosen k) W → OnePlace (setup_in town chosen k) W → Sound (setup_in town chosen k) W
-        → IsFitWorld (counts_in town chosen) W }
+    ensures towns { (day : DayInput) (W : World)
+        → All (λ (p : Plan). fits (rows_of day.town.now) (plan_rows p) ≡ true) day.chosen.now
+        → length day.town.now.book.persons ≡ length day.chosen.now
+        → HasItsLinks (setup day) W → OnePlace (setup day) W → Sound (setup day) W → IsFitWorld (counts_in day) W }
 {}

@@ -2,7 +2,8 @@ ghost use Rattle.std.specs.Prelude.{◌≡◌, ℕ, ◌+◌, ◌-◌, ◌*◌, �
 ghost use Rattle.fixed_flow.specs.declared.TheConstants.{MAX_PER_SECOND};
 ghost use Rattle.fixed_flow.specs.Flow.{full_credit, raised, raised_times, Flow};
 
-use crate::{MAX_PER_SECOND, MAX_SECONDS, VEHICLE_COST};
+use crate::{MAX_PER_SECOND, VEHICLE_COST};
+use limits::LAST_SECOND;
 use std::marker::Model;
 
 /// The units of credit that a link has after the gain of one second, `per_second` units: at most those of one second,
@@ -57,7 +58,7 @@ impl Credit {
     #[tactic(auto, using(crate::proofs::Gains::gains_none, crate::proofs::Gains::gains_at_once))]
     pub fn raise_by(&mut self, per_second: u32, times: u32)
         requires per_second_in { per_second ≤ MAX_PER_SECOND }
-        requires times_in { times ≤ MAX_SECONDS }
+        requires times_in { times ≤ LAST_SECOND }
         ensures value { self.new ≡ raised_times per_second times self.old }
         ensures kept { self.old ≤ full_credit per_second → self.new ≤ full_credit per_second }
     {

@@ -20,20 +20,5 @@ pub const VEHICLE_COST: u32 = 3_600_000;
 /// The room of one vehicle on one lane, 750 cm, for a storage factor in permille.
 pub const CELL_PERMILLE: u64 = 750_000;
 
-/// The longest link, in centimetres.
-pub const MAX_LENGTH: u32 = 10_000_000;
-
-/// The most lanes of a link.
-pub const MAX_LANES: u32 = 20;
-
-/// The largest capacity, in vehicles an hour.
-pub const MAX_CAPACITY: u32 = 100_000;
-
-/// The largest factor on flow or storage, in permille.
-pub const MAX_PERMILLE: u32 = 2_000;
-
-/// The largest gain of a second, in units of credit.
+/// The largest gain of a second, in units of credit: the largest capacity times the largest factor.
 pub const MAX_PER_SECOND: u32 = 200_000_000;
-
-/// The last second of a day.
-pub const MAX_SECONDS: u32 = 172_800;

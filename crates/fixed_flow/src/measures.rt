@@ -1,9 +1,8 @@
 ghost use Rattle.std.specs.Prelude.{◌≡◌, ◌<◌, ◌≤◌};
 ghost use Rattle.fixed_flow.specs.Link.{free_seconds, credit_per_second, storage, buffer_room};
 
-use crate::{
-    CELL_PERMILLE, MAX_CAPACITY, MAX_LANES, MAX_LENGTH, MAX_PER_SECOND, MAX_PERMILLE, VEHICLE_COST,
-};
+use crate::{CELL_PERMILLE, MAX_PER_SECOND, VEHICLE_COST};
+use limits::{MAX_CAPACITY, MAX_LANES, MAX_LENGTH, MAX_PERMILLE};
 
 /// The seconds that a link takes at its free speed, at least one.
 #[tactic(auto, unfolding(crate::specs::Link::free_seconds))]

@@ -1,6 +1,7 @@
 ghost use Rattle.std.specs.Prelude.{◌<◌, ◌≤◌};
 
 use crate::*;
+use limits::{LAST_SECOND, MAX_CAPACITY, MAX_LANES, MAX_LENGTH, MAX_PERMILLE};
 
 // A link's free seconds, what it gains a second, its storage and its buffer's room; both factors
 // are `permille`.
@@ -61,7 +62,7 @@ fn every_other_second(rt: HostRuntime) {
     }
     credit.raise_by(half, 1);
     assert_eq!(rt; credit.can_pass(), false);
-    credit.raise_by(half, MAX_SECONDS);
+    credit.raise_by(half, LAST_SECOND);
     assert_eq!(rt;
         credit,
         Credit::start(),

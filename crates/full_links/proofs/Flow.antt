@@ -1,21 +1,19 @@
 -- What passes a link is paid from its credit.
 use Rattle.std.proofs.Common.{◌≡◌, ◌≢◌, ℕ, zero, suc, ◌+◌, ◌-◌, ◌*◌, ◌≤◌, ◌<◌, Bool, true, List, [], ◌∷◌, ◌++◌, length, get_or, refl, ap, sym, ◌∙◌, subst, eqb, arith, inl, inr, lit<, add-suc, add-zero, suc-mul}
-use Rattle.std.specs.Prelude.{nat_le, nat_lt, if◌then◌else◌, Option}
+use Rattle.std.specs.Prelude.{nat_le, nat_lt, if◌then◌else◌}
 use Rattle.std.specs.List.{AllByRecursion as Each, flat_map}
 use Rattle.std.proofs.lemmas.Bool.{cases_Bool, and_parts, and_right, eqb-true, eqb-false, eq-eqb, ne_eqb, leb-true}
 use Rattle.std.proofs.lemmas.List.{length-set, length-replicate, get_or-replicate}
 use Rattle.std.proofs.lemmas.List.Sums.{sum_by-cons}
 use Rattle.std.proofs.lemmas.Nat.{le-div}
+use Rattle.events.specs.declared.event.Phase.{Phase}
 use Rattle.events.specs.declared.event.Phase.TheVariants as phase
 use Rattle.fixed_flow.specs.declared.TheConstants.{VEHICLE_COST}
 use Rattle.fixed_flow.specs.Flow.{full_credit, raised}
 use Rattle.fixed_flow.proofs.Gains.{raised_within}
-use Rattle.traffic.specs.declared.rows.Stage.TheVariants.{Buffer, Bay}
+use Rattle.traffic.specs.declared.stage.Stage.TheVariants.{Buffer, Bay}
 use Rattle.traffic.specs.Lists.{numbers, below}
 use Rattle.traffic.specs.declared.world.Row.{Row}
-use Rattle.traffic.specs.declared.numbers.Stuck.{Stuck}
-use Rattle.traffic.specs.declared.sight.Exit.{Exit}
-use Rattle.traffic.specs.Nodes.{exit}
 use Rattle.traffic.specs.Rows.{rank, World, credit_of}
 use Rattle.traffic.specs.Setup.{Setup, gain_of}
 use Rattle.traffic.specs.declared.world.Waiter.{Waiter}
@@ -26,18 +24,17 @@ use Rattle.traffic.specs.Moves.{done, run, credits_after, credit_after, credit_a
 use Rattle.traffic.specs.declared.numbers.Rules.{Rules}
 use Rattle.traffic.specs.Links.{Lane, lane, rules, leave_bay, is_last, may_pass, from_wait, from_queue, waiting, wait_after, link_moves}
 use Rattle.traffic.specs.Persons.{waiters}
-use Rattle.traffic.specs.Day.{node_plan, link_plan, phases, plan_of, moves_of, turns_in, through, second, world_start, world_from}
+use Rattle.traffic.specs.Day.{link_plan, phases, plan_of, moves_of, after, turns_in, through, second, world_start, world_from}
 use Rattle.traffic.specs.Frames.{IsAt, AreAt}
 use Rattle.traffic.specs.Worlds.{buffers_one, passing, link_turn_moves, passing_in, FlowKept}
 use Rattle.traffic.proofs.Sublists.{credit-done}
 use Rattle.traffic.proofs.Turns.{moves_of-map}
 use Rattle.traffic.proofs.Phases.{phase_at_once}
 use Rattle.traffic.proofs.Links.{link_moves-at}
-use Rattle.full_links.specs.Moves.{moves_in, second_moves}
-use Rattle.traffic.proofs.Moments.{Along}
-use Rattle.full_links.proofs.Turns.{along_each, Turns, along_phases, through_moves}
-use Rattle.full_links.proofs.Entering.{Enters, entering_each, node_enters}
-use Rattle.full_links.proofs.Elsewhere.{IsFree, IsStart, flight_start, leave_start, departure_start}
+use Rattle.traffic.proofs.Each.{each_weaker}
+use Rattle.traffic.proofs.Walks.{phase_keeps, phases_keep, seconds_keep}
+use Rattle.full_links.specs.Moves.{IsElsewhere}
+use Rattle.full_links.proofs.Elsewhere.{IsFree, apart}
 
 -- CREDITS
 credit_length : (m : Move) (cs : List ℕ) → length (credits_after m cs) ≡ length cs
@@ -54,18 +51,6 @@ credit_run S t l (m ∷ ms) W lt =
     let e = credit_length m W.credits in
     let within : l < length (done S t m W).credits = omega arith in
     credit_run S t l ms (done S t m W) within ∙ ap (credit_after_all l ms) (credit-done S t l m W lt)
-
--- moves that change no credit
-abbrev Frees : World → Move → Type 0
-Frees U m = IsFree m
-
-free_run : (S : Setup) (t : ℕ) (ms : List Move) (W : World) → Along Frees S t ms W → (run S t ms W).credits ≡ W.credits
-free_run S t [] W h = refl
-free_run S t (m ∷ ms) W h = free_run S t ms (done S t m W) h.1 ∙ h.0 W.credits
-
-enters_free : (K : Stuck) (t : ℕ) (exits : ℕ → Option Exit) (m : Move) → Enters K t exits m → IsFree m
-enters_free K t exits (Credit l c) h cs = absurd h
-enters_free K t exits _ h cs = refl
 
 -- THE TURN OF A LINK PAYS
 -- from credit c on the moves leave of credit d what those who pass do not pay
@@ -183,23 +168,16 @@ all_links S t l c k (suc n) U le lt =
     ]
 
 -- SECONDS
-nodes_free : (S : Setup) (t : ℕ) → Turns Frees S t (plan_of S t phase.C)
-unfolding plan_of
-nodes_free S t n U = along_each Frees IsFree (λ W m h. h) S t (node_plan S t n U) U (entering_each IsFree S.stuck t (enters_free S.stuck t) (exit S t n U) (node_plan S t n U) (node_enters S t n U))
+free_run : (S : Setup) (t : ℕ) (ms : List Move) (W : World) → Each IsFree ms → (run S t ms W).credits ≡ W.credits
+free_run S t [] W h = refl
+free_run S t (m ∷ ms) W h = free_run S t ms (done S t m W) h.1 ∙ h.0 W.credits
+
+phase_free : (S : Setup) (t : ℕ) (p : Phase) (W V : World) → p ≢ phase.D → V.credits ≡ W.credits → (after S t (turns_in S t p V) V).credits ≡ W.credits
+phase_free S t p W V ne = phase_keeps (λ U. U.credits ≡ W.credits) S t p (λ n U lt e. free_run S t (plan_of S t p n U) U (each_weaker (λ m. IsElsewhere Buffer m × IsFree m) IsFree (λ m g. g.1) _ (apart S t n p U ne)) ∙ e) V
 
 before_links : (S : Setup) (t : ℕ) (W : World) → (through S t (phase.A ∷ phase.B1 ∷ phase.B2 ∷ phase.C ∷ []) W).credits ≡ W.credits
-before_links S t W =
-    let ps = phase.A ∷ phase.B1 ∷ phase.B2 ∷ phase.C ∷ [] in
-    let starts : (ms : List Move) (U : World) → Each IsStart ms → Along Frees S t ms U = λ ms U h. along_each Frees IsStart (λ W m g. g.2) S t ms U h in
-    ap (λ (U : World). U.credits) (through_moves S t ps W)
-    ∙ free_run S t (moves_in S t ps W) W
-    (along_phases Frees S t ps (
-      (λ n U. starts (plan_of S t phase.A n U) U (flight_start S t n U)),
-      (
-        (λ n U. starts (plan_of S t phase.B1 n U) U (leave_start S t n U)),
-        ((λ n U. starts (plan_of S t phase.B2 n U) U (departure_start S t n U)), (nodes_free S t, tt)),
-      ),
-    ) W)
+unfolding through
+before_links S t W = phase_free S t phase.C W _ (λ q. cc) (phase_free S t phase.B2 W _ (λ q. cc) (phase_free S t phase.B1 W _ (λ q. cc) (phase_free S t phase.A W W (λ q. cc) refl)))
 
 turns_are : (S : Setup) (t : ℕ) (U : World) → moves_of (turns_in S t phase.D U) ≡ flat_map (λ l. link_plan S t l U) (below (length S.links))
 unfolding plan_of
@@ -217,10 +195,9 @@ second_pays S t l W lt e =
     ap (λ (c : ℕ). c + passing l ms * VEHICLE_COST) (credit_run S t l ms U within) ∙ h ∙ ap (λ (cs : List ℕ). raised (gain_of S l) (get_or cs l 0)) f
 
 credits_day : (S : Setup) (W : World) (t : ℕ) → length W.credits ≡ length S.links → length (world_from S W t).credits ≡ length S.links
-unfolding world_from
-credits_day S W zero e = e
-credits_day S W (suc t) e =
-    let U = world_from S W t in ap (λ (V : World). length V.credits) (through_moves S t phases U) ∙ credits_length S t (second_moves S t U) U ∙ credits_day S W t e
+credits_day S W t e =
+    let I : World → Type 0 = λ V. length V.credits ≡ length S.links in
+    seconds_keep I S (λ s V f. phases_keep I S s (λ p n U lt g. credits_length S s (plan_of S s p n U) U ∙ g) phases V f) W t e
 
 credits_start : (S : Setup) → length (world_start S).credits ≡ length S.links
 unfolding world_start

@@ -1,5 +1,4 @@
 pub mod Turns
-pub mod Fronts
 pub mod Entering
 pub mod Elsewhere
 pub mod Queues

@@ -1,22 +1,21 @@
 -- No queue has more rows that were not pushed in than its storage.
-use Rattle.std.proofs.Common.{◌≡◌, ℕ, zero, suc, ◌≤◌, ◌<◌, Bool, true, false, List, [], ◌∷◌, ◌++◌, refl, ap, sym, subst, eqb, arith, inl, inr, append-nil}
+use Rattle.std.proofs.Common.{◌≡◌, ℕ, zero, suc, ◌≤◌, ◌<◌, Bool, true, false, List, [], ◌∷◌, ◌++◌, refl, ap, sym, subst, arith, inl, inr, append-nil}
 use Rattle.std.specs.Prelude.{not, cond, count_by, ◌⊎◌, if◌then◌else◌}
-use Rattle.std.proofs.lemmas.Bool.{and_parts, eqb-true}
 use Rattle.std.proofs.lemmas.List.Sums.{sum_by-cons, sum_by_push, count_by-le-length}
 use Rattle.traffic.specs.declared.moves.Move.{Move}
 use Rattle.traffic.specs.declared.moves.Move.TheVariants.{Put, Gone, New}
-use Rattle.traffic.specs.declared.rows.Stage.{Stage}
-use Rattle.traffic.specs.declared.rows.Stage.TheVariants.{Queue, Buffer, Wait, Bay}
+use Rattle.traffic.specs.declared.stage.Stage.TheVariants.{Queue}
 use Rattle.traffic.specs.declared.world.Row.{Row}
 use Rattle.traffic.specs.Lists.{without_at}
-use Rattle.traffic.specs.Rows.{rank, on, World, at}
+use Rattle.traffic.specs.Rows.{on, World, at}
 use Rattle.traffic.specs.Setup.{Setup, storage_of}
-use Rattle.traffic.specs.Moves.{run, done, same, at_after}
-use Rattle.traffic.specs.Day.{phases, second, world_start, world_from, world_at}
+use Rattle.traffic.specs.Moves.{run, same, at_after}
+use Rattle.traffic.specs.Day.{phases, second, world_start, world_at}
 use Rattle.traffic.specs.Worlds.{Storage}
-use Rattle.traffic.proofs.Sublists.{at-done}
+use Rattle.traffic.proofs.Sublists.{on_is, at-done}
 use Rattle.full_links.specs.Moves.{second_moves, IsLetIn, KeepsRule}
-use Rattle.traffic.proofs.Moments.{Along}
+use Rattle.traffic.proofs.Moments.{along_weaker, kept_along}
+use Rattle.traffic.proofs.Walks.{seconds_keep}
 use Rattle.full_links.proofs.Turns.{through_moves}
 use Rattle.full_links.proofs.Elsewhere.{second_rule}
 
@@ -50,16 +49,6 @@ put_keeps b true k storage xs now h g =
     let o = at_most_one now.vehicle.pushed in
     elim (g refl) [ inl a ↦ omega arith | inr a ↦ let f : free_one now ≡ 0 = ap (λ (d : Bool). cond (not d) 1 0) a in omega arith ]
 
-stage_queue : (s : Stage) → eqb (rank s) (rank Queue) ≡ true → s ≡ Queue
-stage_queue Queue e = refl
-stage_queue Buffer e = cc
-stage_queue Wait e = cc
-stage_queue Bay e = cc
-
-on_queue : (l : ℕ) (now : Row) → on l Queue now ≡ true → (now.stage ≡ Queue) × (now.link ≡ l)
-on_queue l now e =
-    let h = and_parts (eqb (rank now.stage) (rank Queue)) (eqb now.link l) e in (stage_queue now.stage h.0, eqb-true now.link l h.1)
-
 -- the taken places cover the rows that were not pushed in
 room : (S : Setup) (t : ℕ) (W : World) (was now : Row) → IsLetIn S t W was now → (unpushed (at now.link Queue W) < storage_of S now.link) ⊎ (now.vehicle.pushed ≡ true)
 room S t W was now h =
@@ -68,25 +57,22 @@ room S t W was now h =
 move_keeps : (S : Setup) (t l : ℕ) (m : Move) (W : World) → KeepsRule S t W m → unpushed (at l Queue W) ≤ storage_of S l → unpushed (at_after l Queue m (at l Queue W)) ≤ storage_of S l
 move_keeps S t l (Put a z k was now) W h le =
     put_keeps (same l Queue a z) (on l Queue now) k (storage_of S l) (at l Queue W) now le
-    (λ e. let q = on_queue l now e in subst (λ (i : ℕ). (unpushed (at i Queue W) < storage_of S i) ⊎ (now.vehicle.pushed ≡ true)) q.1 (room S t W was now (h q.0).3))
+    (λ e. let q = on_is l Queue now e in subst (λ (i : ℕ). (unpushed (at i Queue W) < storage_of S i) ⊎ (now.vehicle.pushed ≡ true)) q.1 (room S t W was now (h q.0).3))
 move_keeps S t l (Gone a z k was) W h le = let e = cut_less (same l Queue a z) k (at l Queue W) in omega arith
-move_keeps S t l (New now) W h le = put_keeps false (on l Queue now) 0 (storage_of S l) (at l Queue W) now le (λ e. absurd (h (on_queue l now e).0))
+move_keeps S t l (New now) W h le = put_keeps false (on l Queue now) 0 (storage_of S l) (at l Queue W) now le (λ e. absurd (h (on_is l Queue now e).0))
 move_keeps S t l _ W h le = le
 
-moves_keep : (S : Setup) (t : ℕ) (ms : List Move) (W : World) → Along (KeepsRule S t) S t ms W → Storage S W → Storage S (run S t ms W)
-moves_keep S t [] W h s = s
-moves_keep S t (m ∷ ms) W h s =
-    moves_keep S t ms (done S t m W) h.1
-    (λ l lt. subst (λ (xs : List Row). unpushed xs ≤ storage_of S l) (sym (at-done S t l Queue m W)) (move_keeps S t l m W h.0 (s l lt)))
+second_keeps : (S : Setup) (t : ℕ) (W : World) → Storage S W → Storage S (run S t (second_moves S t W) W)
+second_keeps S t W =
+    kept_along (Storage S) S t (second_moves S t W) W
+    (along_weaker (KeepsRule S t) _ (λ V m h s l lt. subst (λ (xs : List Row). unpushed xs ≤ storage_of S l) (sym (at-done S t l Queue m V)) (move_keeps S t l m V h (s l lt))) S t _ W (second_rule S t W))
 
 pub second_storage : (S : Setup) (t : ℕ) (W : World) → Storage S W → Storage S (second S t W)
-second_storage S t W s = subst (Storage S) (sym (through_moves S t phases W)) (moves_keep S t (second_moves S t W) W (second_rule S t W) s)
+second_storage S t W s = subst (Storage S) (sym (through_moves S t phases W)) (second_keeps S t W s)
 
 pub start_storage : (S : Setup) → Storage S (world_start S)
 unfolding world_start
 start_storage S l lt = omega arith
 
 pub day_storage : (S : Setup) (t : ℕ) → Storage S (world_at S t)
-unfolding world_from
-day_storage S zero = start_storage S
-day_storage S (suc t) = second_storage S t (world_at S t) (day_storage S t)
+day_storage S t = seconds_keep (Storage S) S (second_storage S) (world_start S) t (start_storage S)

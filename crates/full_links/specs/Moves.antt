@@ -1,8 +1,8 @@
 -- How a vehicle comes into a queue, in the world of that moment.
 use Rattle.std.specs.Prelude.{◌≡◌, ◌≢◌, ℕ, ◌-◌, ◌<◌, ◌≤◌, ◌⊎◌, true, false, List, [], ◌∷◌, ◌++◌, slice_get, Some}
 use Rattle.events.specs.declared.event.Phase.{Phase}
-use Rattle.traffic.specs.declared.rows.Stage.{Stage}
-use Rattle.traffic.specs.declared.rows.Stage.TheVariants.{Queue, Buffer}
+use Rattle.traffic.specs.declared.stage.Stage.{Stage}
+use Rattle.traffic.specs.declared.stage.Stage.TheVariants.{Queue, Buffer}
 use Rattle.traffic.specs.declared.moves.Move.{Move}
 use Rattle.traffic.specs.declared.moves.Move.TheVariants.{Put, New}
 use Rattle.traffic.specs.declared.world.Row.{Row}
@@ -30,7 +30,7 @@ second_moves S t W = moves_in S t phases W
 abbrev pub IsLetIn : Setup → ℕ → World → Row → Row → Type 0
 IsLetIn S t W was now =
     ((taken_at S t now.link W < storage_of S now.link) × (now.vehicle.pushed ≡ false))
-    ⊎ ((storage_of S now.link ≤ taken_at S t now.link W) × (S.stuck.push ≡ true) × (S.stuck.seconds ≤ t - was.second) × (now.vehicle.pushed ≡ true))
+    ⊎ ((storage_of S now.link ≤ taken_at S t now.link W) × (S.settings.stuck.push ≡ true) × (S.settings.stuck.seconds ≤ t - was.second) × (now.vehicle.pushed ≡ true))
 
 -- in world W it stands first in the buffer of link l, as it was
 abbrev pub IsFirst : World → ℕ → Row → Type 0

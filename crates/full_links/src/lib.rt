@@ -6,7 +6,7 @@
 ghost use Rattle.std.specs.Prelude.{◌≡◌, ◌≢◌, ℕ, List, ◌∷◌, ◌++◌, All};
 ghost use Rattle.events.specs.declared.event.Phase.{Phase};
 ghost use Rattle.events.specs.declared.event.Phase.TheVariants.{C, D};
-ghost use Rattle.traffic.specs.declared.rows.Stage.TheVariants.{Queue, Buffer};
+ghost use Rattle.traffic.specs.declared.stage.Stage.TheVariants.{Queue, Buffer};
 ghost use Rattle.traffic.specs.declared.moves.Move.{Move};
 ghost use Rattle.traffic.specs.Rows.{World};
 ghost use Rattle.traffic.specs.Setup.{Setup};
@@ -21,7 +21,7 @@ ghost use Rattle.full_links.specs.Moves.{IsElsewhere, second_moves, KeepsRule};
 /// it is the first of a buffer, and the link has room, or the link is full and the vehicle has been first for so long.
 pub fn vehicles_enter_by_the_rule()
     ensures rule { (S : Setup) (t n : ℕ) (W : World)
-        → EnterByRule S.stuck t (sight S t n W).exits (node_plan S t n W) }
+        → EnterByRule S.settings.stuck t (sight S t n W).exits (node_plan S t n W) }
     ensures elsewhere { (S : Setup) (t n : ℕ) (p : Phase) (W : World) → p ≢ C
         → All (IsElsewhere Queue) (plan_of S t p n W) }
     ensures moves { (S : Setup) (t : ℕ) (W : World) → second S t W ≡ run S t (second_moves S t W) W }

@@ -7,7 +7,8 @@ use Rattle.std.proofs.lemmas.List.{get_or-set_same, get_or-set_other, get_or-rep
 use Rattle.std.proofs.lemmas.Bool.{cases_eq}
 use Rattle.std.proofs.lemmas.List.Sums.{sum_by-append}
 use Rattle.std.proofs.lemmas.List.Folds.{list_all-append}
-use Rattle.network.specs.declared.rows.LinkRow.{LinkRow}
+use Rattle.limits.specs.declared.TheConstants.{MAX_IN_LINKS}
+use Rattle.rows.specs.declared.network.LinkRow.{LinkRow}
 use Rattle.network.specs.Limits.{in_links, is_link}
 
 pub in_links-none : (node : ℕ) → in_links [] node ≡ 0
@@ -29,7 +30,7 @@ counted_start nodes into links zeros none node within =
     let less : node < nodes = omega (arith, count) in
     ap (λ (xs : List ℕ). get_or xs node 0) zeros ∙ counted_none nodes node less ∙ ap (λ (ls : List LinkRow). in_links ls node) (sym none)
 
-pub few_start : (links : List LinkRow) → links ≡ [] → (node : ℕ) → in_links links node ≤ 16
+pub few_start : (links : List LinkRow) → links ≡ [] → (node : ℕ) → in_links links node ≤ MAX_IN_LINKS
 few_start links none node = let zero_links = ap (λ (ls : List LinkRow). in_links ls node) none ∙ in_links-none node in omega (arith, zero_links)
 
 pub sound_start : (nodes : ℕ) (links : List LinkRow) → links ≡ [] → list_all (is_link nodes) links ≡ true
@@ -41,7 +42,7 @@ at_node here before x node to more same is = grind (arith, nat_tests)
 elsewhere : (here before x node to : ℕ) → here ≡ before + (0 + cond (nat_eq to node) 1 0) → node ≢ to → x ≡ before → x ≡ here
 elsewhere here before x node to more other is = grind (arith, nat_tests)
 
-not_many : (here before node to : ℕ) → here ≡ before + (0 + cond (nat_eq to node) 1 0) → before ≤ 16 → (node ≡ to → before < 16) → here ≤ 16
+not_many : (here before node to : ℕ) → here ≡ before + (0 + cond (nat_eq to node) 1 0) → before ≤ MAX_IN_LINKS → (node ≡ to → before < MAX_IN_LINKS) → here ≤ MAX_IN_LINKS
 not_many here before node to more few room = grind (arith, nat_tests)
 
 -- a link is counted at its end
@@ -62,7 +63,7 @@ counted_push into links links' link x counted within read pushed node less =
           ∙ ap (λ (ls : List LinkRow). in_links ls node) (sym pushed)
     ]
 
-pub few_push : (links links' : List LinkRow) (link : LinkRow) → ((node : ℕ) → in_links links node ≤ 16) → in_links links link.to < 16 → links' ≡ links ++ link ∷ [] → (node : ℕ) → in_links links' node ≤ 16
+pub few_push : (links links' : List LinkRow) (link : LinkRow) → ((node : ℕ) → in_links links node ≤ MAX_IN_LINKS) → in_links links link.to < MAX_IN_LINKS → links' ≡ links ++ link ∷ [] → (node : ℕ) → in_links links' node ≤ MAX_IN_LINKS
 few_push links links' link few room pushed node =
     let grown = ap (λ (ls : List LinkRow). in_links ls node) pushed ∙ in_links-push links link node in
     not_many (in_links links' node) (in_links links node) node link.to grown (few node) (λ same. let there = ap (λ (n : ℕ). in_links links n) same in omega (arith, there))

@@ -1,6 +1,7 @@
 -- What a network keeps of its links.
 use Rattle.std.specs.Prelude.{ℕ, Bool, ◌&&◌, nat_lt, nat_le, nat_eq, List, count_by}
-use Rattle.network.specs.declared.rows.LinkRow.{LinkRow}
+use Rattle.limits.specs.declared.TheConstants.{MAX_CAPACITY, MAX_LANES, MAX_LENGTH, MAX_SPEED}
+use Rattle.rows.specs.declared.network.LinkRow.{LinkRow}
 
 -- a number from low to high
 abbrev pub is_from_to : ℕ → ℕ → ℕ → Bool
@@ -8,7 +9,7 @@ is_from_to low high n = nat_le low n && nat_le n high
 
 -- the numbers are in their ranges
 unfoldable pub are_measures : ℕ → ℕ → ℕ → ℕ → Bool
-are_measures length speed capacity lanes = is_from_to 1 10000000 length && is_from_to 1 10000 speed && is_from_to 1 100000 capacity && is_from_to 1 20 lanes
+are_measures length speed capacity lanes = is_from_to 1 MAX_LENGTH length && is_from_to 1 MAX_SPEED speed && is_from_to 1 MAX_CAPACITY capacity && is_from_to 1 MAX_LANES lanes
 
 -- the link begins and ends at one of so many nodes, and its numbers are in their ranges
 unfoldable pub is_link : ℕ → LinkRow → Bool

@@ -1,5 +1,6 @@
 -- The rows of links.csv: `link,from,to,length,speed,capacity,lanes`.
 use Rattle.std.specs.Prelude.{ℕ, Bool, not, ◌&&◌, ◌||◌, nat_le, nat_eq, is_none, is_some, codes, unwrap_or, List, [], ◌∷◌, length, Option}
+use Rattle.limits.specs.declared.TheConstants.{MAX_CAPACITY, MAX_IN_LINKS, MAX_LANES, MAX_LENGTH, MAX_LINKS, MAX_SPEED}
 use Rattle.edge_files.specs.declared.reasons.Reason.{Reason}
 use Rattle.edge_files.specs.declared.reasons.Reason.TheVariants as reason
 use Rattle.edge_files.specs.declared.reasons.RowFault.{RowFault}
@@ -10,7 +11,7 @@ use Rattle.records.specs.Numbers.{number_in}
 use Rattle.records.specs.Faults.{least}
 use Rattle.records.specs.Files.{head_reason, body_of}
 use Rattle.records.specs.Reading.{file_fault}
-use Rattle.network.specs.declared.rows.LinkRow.{LinkRow}
+use Rattle.rows.specs.declared.network.LinkRow.{LinkRow}
 use Rattle.network.specs.declared.measures.Measures.{Measures}
 use Rattle.network.specs.Limits.{in_links}
 
@@ -19,19 +20,19 @@ link_header = codes "link" ∷ codes "from" ∷ codes "to" ∷ codes "length" �
 
 -- centimetres, 1 to 10,000,000
 abbrev pub length_in : Row → Option ℕ
-length_in row = number_in 1 10000000 (field row 3)
+length_in row = number_in 1 MAX_LENGTH (field row 3)
 
 -- centimetres a second, 1 to 10,000
 abbrev pub speed_in : Row → Option ℕ
-speed_in row = number_in 1 10000 (field row 4)
+speed_in row = number_in 1 MAX_SPEED (field row 4)
 
 -- vehicles an hour, 1 to 100,000
 abbrev pub capacity_in : Row → Option ℕ
-capacity_in row = number_in 1 100000 (field row 5)
+capacity_in row = number_in 1 MAX_CAPACITY (field row 5)
 
 -- lanes, 1 to 20
 abbrev pub lanes_in : Row → Option ℕ
-lanes_in row = number_in 1 20 (field row 6)
+lanes_in row = number_in 1 MAX_LANES (field row 6)
 
 -- the numbers of a row
 unfoldable pub measures_of : Row → Measures
@@ -73,8 +74,8 @@ link_reason nodes names links row = least (
     ∷ (has_bad_measure row, reason.BadNumber)
     ∷ (is_some (number_of (field row 0) names), reason.Twice)
     ∷ (lacks_node nodes row, reason.Unknown)
-    ∷ (nat_le 262144 (length names), reason.TooMany)
-    ∷ (nat_le 16 (in_links links (link_of nodes row).to), reason.InLinks)
+    ∷ (nat_le MAX_LINKS (length names), reason.TooMany)
+    ∷ (nat_le MAX_IN_LINKS (in_links links (link_of nodes row).to), reason.InLinks)
     ∷ [])
 
 -- the first fault of links.csv

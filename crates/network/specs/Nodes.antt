@@ -1,5 +1,6 @@
 -- The rows of nodes.csv: `node,x,y`.
 use Rattle.std.specs.Prelude.{ℕ, ℤ, pos, Bool, not, ◌||◌, nat_le, nat_eq, is_none, is_some, codes, unwrap_or, List, [], ◌∷◌, length, Option}
+use Rattle.limits.specs.declared.TheConstants.{MAX_COORDINATE, MAX_NODES}
 use Rattle.edge_files.specs.declared.reasons.Reason.{Reason}
 use Rattle.edge_files.specs.declared.reasons.Reason.TheVariants as reason
 use Rattle.edge_files.specs.declared.reasons.RowFault.{RowFault}
@@ -10,14 +11,14 @@ use Rattle.records.specs.Numbers.{signed_in}
 use Rattle.records.specs.Faults.{least}
 use Rattle.records.specs.Files.{head_reason, body_of}
 use Rattle.records.specs.Reading.{file_fault}
-use Rattle.network.specs.declared.rows.NodeRow.{NodeRow}
+use Rattle.rows.specs.declared.network.NodeRow.{NodeRow}
 
 abbrev pub node_header : List (List ℕ)
 node_header = codes "node" ∷ codes "x" ∷ codes "y" ∷ []
 
 -- a coordinate: a number from -1,000,000,000 to 1,000,000,000
 abbrev pub coordinate : List ℕ → Option ℤ
-coordinate bytes = signed_in 1000000000 bytes
+coordinate bytes = signed_in MAX_COORDINATE bytes
 
 -- a coordinate of the row is no number, or out of its range
 abbrev pub has_bad_coordinate : Row → Bool
@@ -30,7 +31,7 @@ node_reason names row = least (
     ∷ (not (holds_name row 0), reason.BadName)
     ∷ (has_bad_coordinate row, reason.BadNumber)
     ∷ (is_some (number_of (field row 0) names), reason.Twice)
-    ∷ (nat_le 131072 (length names), reason.TooMany)
+    ∷ (nat_le MAX_NODES (length names), reason.TooMany)
     ∷ [])
 
 -- the node of a row

@@ -6,9 +6,8 @@ mod links_read;
 mod lists;
 mod measures;
 mod nodes;
-mod rows;
 
 pub use links::read_links;
-pub use lists::{LinkList, Network, NodeList};
+pub use lists::Network;
 pub use nodes::read_nodes;
-pub use rows::{LinkRow, NodeRow};
+pub use rows::{LinkList, LinkRow, NodeList, NodeRow};

@@ -10,19 +10,14 @@ ghost use Rattle.network.specs.Limits.{is_link, in_links, are_measures};
 ghost use Rattle.network.specs.Links.{link_reason, link_of, has_bad_measure, measures_of, links_fault, link_names};
 
 use crate::links_read::{LinksRead, no_links, with_link};
-use crate::lists::LinkList;
 use crate::measures::Measures;
-use crate::rows::LinkRow;
 use csv::ByteRecord;
 use edge_files::{Reason, RowStop};
 use events::Names;
+use limits::{MAX_CAPACITY, MAX_IN_LINKS, MAX_LANES, MAX_LENGTH, MAX_LINKS, MAX_SPEED};
 use records::{body, fault, field, holds_name, number_in, read_file};
+use rows::{LinkList, LinkRow};
 use std::alloc::Global;
-
-const MAX_LINKS: u32 = 262_144;
-
-const MAX_IN_LINKS: u8 = 16;
-
 /// The numbers of a row, where each is one and in its range.
 #[tactic(auto, using(std::proofs::lemmas::Bool::Decides::nat_tests), unfolding(crate::specs::Links::has_bad_measure, crate::specs::Links::measures_of, crate::specs::Limits::are_measures))]
 fn measures_in(row: &ByteRecord) -> Option<Measures>
@@ -30,16 +25,16 @@ fn measures_in(row: &ByteRecord) -> Option<Measures>
     ensures measures { result ≡ (if has_bad_measure (fields_of row.now) then None else Some (measures_of (fields_of row.now))) }
     ensures within { IfSome result (λ m. are_measures m.length m.speed m.capacity m.lanes ≡ true) }
 {
-    let Some(length) = number_in(field(row, 3), 1, 10_000_000) else {
+    let Some(length) = number_in(field(row, 3), 1, MAX_LENGTH) else {
         return None;
     };
-    let Some(speed) = number_in(field(row, 4), 1, 10_000) else {
+    let Some(speed) = number_in(field(row, 4), 1, MAX_SPEED) else {
         return None;
     };
-    let Some(capacity) = number_in(field(row, 5), 1, 100_000) else {
+    let Some(capacity) = number_in(field(row, 5), 1, MAX_CAPACITY) else {
         return None;
     };
-    let Some(lanes) = number_in(field(row, 6), 1, 20) else {
+    let Some(lanes) = number_in(field(row, 6), 1, MAX_LANES) else {
         return None;
     };
     Some(Measures {
@@ -59,10 +54,10 @@ fn link_in(nodes: &Names, read: &LinksRead, row: &ByteRecord) -> Result<LinkRow,
     ensures fields { OnOk result (length (fields_of row.now) ≡ 7) }
     ensures name { OnOk result (holds_name (fields_of row.now) 0 ≡ true) }
     ensures fresh { OnOk result (number_of (field (fields_of row.now) 0) read.now.names ≡ None) }
-    ensures room { OnOk result (length read.now.names < 262144) }
+    ensures room { OnOk result (length read.now.names < MAX_LINKS) }
     ensures sound { IfOk result (λ link. is_link (length nodes.now) link ≡ true) }
     ensures node { IfOk result (λ link. link.to < length nodes.now) }
-    ensures few { IfOk result (λ link. in_links read.now.links.items link.to < 16) }
+    ensures few { IfOk result (λ link. in_links read.now.links.items link.to < MAX_IN_LINKS) }
 {
     if row.len() != 7 {
         return Err(Reason::FieldCount);
@@ -110,8 +105,8 @@ fn read_body(
         (map fields_of rows.now))
         (column 0 (map fields_of rows.now), map (link_of nodes.now) (map fields_of rows.now)) }
     ensures each { IfOk result (λ r. length r.0 ≡ length r.1) }
-    ensures few { IfOk result (λ r. length r.1 ≤ 262144) }
-    ensures few_in_links { IfOk result (λ r. (node : ℕ) → in_links r.1 node ≤ 16) }
+    ensures few { IfOk result (λ r. length r.1 ≤ MAX_LINKS) }
+    ensures few_in_links { IfOk result (λ r. (node : ℕ) → in_links r.1 node ≤ MAX_IN_LINKS) }
     ensures sound { IfOk result (λ r. list_all (is_link (length nodes.now)) r.1 ≡ true) }
 {
     let Ok(mut read) = no_links(alloc, nodes.len()) else {
@@ -138,8 +133,8 @@ pub fn read_links(alloc: Global, bytes: &[u8], nodes: &Names) -> Result<(Names, 
     ensures read { Answers (λ r. r) result (links_fault nodes.now bytes.now)
         (link_names bytes.now, map (link_of nodes.now) (body_of bytes.now)) }
     ensures each { IfOk result (λ r. length r.0 ≡ length r.1) }
-    ensures few { IfOk result (λ r. length r.1 ≤ 262144) }
-    ensures few_in_links { IfOk result (λ r. (node : ℕ) → in_links r.1 node ≤ 16) }
+    ensures few { IfOk result (λ r. length r.1 ≤ MAX_LINKS) }
+    ensures few_in_links { IfOk result (λ r. (node : ℕ) → in_links r.1 node ≤ MAX_IN_LINKS) }
     ensures sound { IfOk result (λ r. list_all (is_link (length nodes.now)) r.1 ≡ true) }
 {
     let header = ["link", "from", "to", "length", "speed", "capacity", "lanes"];

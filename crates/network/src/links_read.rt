@@ -1,11 +1,12 @@
 ghost use Rattle.std.specs.Prelude.{◌≡◌, ◌≢◌, ◌≤◌, ◌<◌, ◌∷◌, ◌++◌, [], ℕ, length, true, IfOk, slice_index, replicate};
 ghost use Rattle.std.specs.List.{list_all};
+ghost use Rattle.limits.specs.declared.TheConstants.{MAX_IN_LINKS};
 ghost use Rattle.events.specs.Names.{is_name, with_name};
 ghost use Rattle.network.specs.Limits.{is_link, in_links};
 
-use crate::rows::LinkRow;
 use events::Names;
 use records::add_row;
+use rows::LinkRow;
 use std::alloc::{AllocError, Global};
 
 /// The links read so far, with their names and with how many of them end at each node.
@@ -15,7 +16,7 @@ pub struct LinksRead {
     pub links: Vec<LinkRow>,
     pub into: Vec<u8>,
     pub ghost counted: { (node : ℕ) → node < length into.items → slice_index into.items node ≡ in_links links.items node },
-    pub ghost few: { (node : ℕ) → in_links links.items node ≤ 16 },
+    pub ghost few: { (node : ℕ) → in_links links.items node ≤ MAX_IN_LINKS },
     pub ghost sound: { list_all (is_link (length into.items)) links.items ≡ true },
 }
 
@@ -49,7 +50,7 @@ pub fn with_link(
     requires name { is_name name.now ≡ true }
     requires link { is_link (length read.into.items) link ≡ true }
     requires node { link.to < length read.into.items }
-    requires room { in_links read.links.items link.to < 16 }
+    requires room { in_links read.links.items link.to < MAX_IN_LINKS }
     ensures names { IfOk result (λ after. after.names ≡ with_name read.names name.now) }
     ensures links { IfOk result (λ after. after.links.items ≡ read.links.items ++ link ∷ []) }
     ensures nodes { IfOk result (λ after. length after.into.items ≡ length read.into.items) }

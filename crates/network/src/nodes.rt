@@ -7,18 +7,13 @@ ghost use Rattle.records.specs.Files.{body_of};
 ghost use Rattle.records.specs.Reading.{body_fault};
 ghost use Rattle.network.specs.Nodes.{node_reason, node_of, nodes_fault, node_names};
 
-use crate::lists::NodeList;
-use crate::rows::NodeRow;
 use csv::ByteRecord;
 use edge_files::{Reason, RowStop};
 use events::Names;
+use limits::{MAX_COORDINATE, MAX_NODES};
 use records::{add_row, body, fault, field, holds_name, read_file, signed_in};
+use rows::{NodeList, NodeRow};
 use std::alloc::Global;
-
-const MAX_NODES: u32 = 131_072;
-
-const FARTHEST: u32 = 1_000_000_000;
-
 /// The node of a row, or the first reason against it.
 #[tactic(auto, unfolding(crate::specs::Nodes::node_reason, crate::specs::Nodes::node_of))]
 fn node_in(names: &Names, row: &ByteRecord) -> Result<NodeRow, Reason>
@@ -27,7 +22,7 @@ fn node_in(names: &Names, row: &ByteRecord) -> Result<NodeRow, Reason>
     ensures fields { OnOk result (length (fields_of row.now) ≡ 3) }
     ensures name { OnOk result (holds_name (fields_of row.now) 0 ≡ true) }
     ensures fresh { OnOk result (number_of (field (fields_of row.now) 0) names.now ≡ None) }
-    ensures room { OnOk result (length names.now < 131072) }
+    ensures room { OnOk result (length names.now < MAX_NODES) }
 {
     if row.len() != 3 {
         return Err(Reason::FieldCount);
@@ -35,10 +30,10 @@ fn node_in(names: &Names, row: &ByteRecord) -> Result<NodeRow, Reason>
     if !holds_name(row, 0) {
         return Err(Reason::BadName);
     }
-    let Some(x) = signed_in(field(row, 1), FARTHEST) else {
+    let Some(x) = signed_in(field(row, 1), MAX_COORDINATE) else {
         return Err(Reason::BadNumber);
     };
-    let Some(y) = signed_in(field(row, 2), FARTHEST) else {
+    let Some(y) = signed_in(field(row, 2), MAX_COORDINATE) else {
         return Err(Reason::BadNumber);
     };
     if names.find(field(row, 0)).is_some() {
@@ -57,7 +52,7 @@ fn read_body(alloc: Global, rows: &[ByteRecord]) -> Result<(Names, NodeList), Ro
         (map fields_of rows.now))
         (column 0 (map fields_of rows.now), map node_of (map fields_of rows.now)) }
     ensures each { IfOk result (λ r. length r.0 ≡ length r.1) }
-    ensures few { IfOk result (λ r. length r.1 ≤ 131072) }
+    ensures few { IfOk result (λ r. length r.1 ≤ MAX_NODES) }
 {
     let mut names = Names::new(alloc);
     let mut nodes = Vec::new(alloc);
@@ -80,7 +75,7 @@ pub fn read_nodes(alloc: Global, bytes: &[u8]) -> Result<(Names, NodeList), RowS
     ensures read { Answers (λ r. r) result (nodes_fault bytes.now)
         (node_names bytes.now, map node_of (body_of bytes.now)) }
     ensures each { IfOk result (λ r. length r.0 ≡ length r.1) }
-    ensures few { IfOk result (λ r. length r.1 ≤ 131072) }
+    ensures few { IfOk result (λ r. length r.1 ≤ MAX_NODES) }
 {
     let header = ["node", "x", "y"];
     match read_file(alloc, bytes, &header) {

@@ -1,16 +1,15 @@
 -- Who leaves a vehicle, is lost with it, or boards it at a stop.
-use Rattle.std.proofs.Common.{◌≡◌, ℕ, zero, suc, ◌+◌, ◌-◌, ◌<◌, ◌≤◌, Bool, true, false, List, [], ◌∷◌, ◌++◌, length, refl, ap, sym, ◌∙◌, subst, eqb, arith, inl, inr}
+use Rattle.std.proofs.Common.{◌≡◌, ℕ, zero, suc, ◌+◌, ◌-◌, ◌<◌, ◌≤◌, Bool, true, false, List, [], ◌∷◌, length, refl, ap, sym, ◌∙◌, eqb, arith, inl, inr}
 use Rattle.std.specs.Prelude.{filter, map, not, count_by, ◌==◌, if◌then◌else◌, Option, None, Some}
 use Rattle.std.specs.List.{flat_map, list_any}
 use Rattle.std.proofs.lemmas.Bool.{cases_Bool, cases_lt}
 use Rattle.std.proofs.lemmas.Bool.Decides.{nat_tests}
-use Rattle.std.proofs.Math.Seq.{drop-append_seam}
 use Rattle.std.proofs.lemmas.List.Sums.{sum_by-cons, sum_by-append, sum_by-take-le}
 use Rattle.std.proofs.lemmas.List.Filters.{sum_by-filter_both}
 use Rattle.events.specs.declared.event.VehicleId.{VehicleId}
 use Rattle.events.specs.declared.event.Word.TheVariants as word
-use Rattle.traffic.specs.declared.numbers.Dwelling.{Dwelling}
-use Rattle.traffic.specs.declared.rows.Rider.{Rider}
+use Rattle.rows.specs.declared.settings.Dwelling.{Dwelling}
+use Rattle.traffic.specs.declared.riders.Rider.{Rider}
 use Rattle.traffic.specs.declared.world.Row.{Row}
 use Rattle.traffic.specs.declared.world.Person.{Person}
 use Rattle.traffic.specs.declared.world.Place.{Place}
@@ -20,41 +19,42 @@ use Rattle.traffic.specs.declared.moves.Said.{Said}
 use Rattle.traffic.specs.Lists.{numbers}
 use Rattle.traffic.specs.Vehicles.{VehicleState}
 use Rattle.traffic.specs.Rows.{World, person_of}
-use Rattle.traffic.specs.Setup.{Setup, Stay, Way, Transit, way, next_stay, link_of_stop}
+use Rattle.rows.specs.declared.plan.Act.{Act}
+use Rattle.rows.specs.declared.plan.Leg.{Leg}
+use Rattle.rows.specs.declared.plan.Leg.TheVariants as leg
+use Rattle.traffic.specs.Setup.{Setup, leg_at, act_after, link_of_stop}
 use Rattle.traffic.specs.Stops.{next_call, alights, alighting, staying, may_board, among, in_turn, boarding, is_person, left_behind, rider, riders_after, served_vehicle, served_row}
-use Rattle.traffic.specs.Telling.{of_driver, driver, leaves, enters, strands, starts, arrives, aborts, boarded, serves}
+use Rattle.traffic.specs.Telling.{of_driver, driver, leaves, enters, strands, starts, arrives, aborts, serves}
 use Rattle.traffic.specs.Moves.{start_act, person_after, told_of, person_after_all}
 use Rattle.traffic.specs.Persons.{waits_on, waiter, waiters}
-use Rattle.one_place.proofs.Places.{part_le, among_riders, rides, same_either, IsOff, Change, Stays, Leaves, Walks, Enters}
+use Rattle.traffic.proofs.Waiting.{boarded-are}
+use Rattle.traffic.proofs.LeftBehind.{after-append}
+use Rattle.one_place.proofs.Places.{part_le, among_riders, rides, same_either, IsOff, Change, Stays, Leaves, Enters}
 
 -- WHAT IS TOLD OF EACH RIDER
 abbrev pub one_rider : ℕ → Rider → ℕ
 one_rider i x = if x.person == i then 1 else 0
 
-pub after-append : (S : Setup) (t i : ℕ) (xs ys : List Said) (P : Person) → person_after_all S t i (xs ++ ys) P ≡ person_after_all S t i ys (person_after_all S t i xs P)
-after-append S t i [] ys P = refl
-after-append S t i (x ∷ xs) ys P = after-append S t i xs ys (told_of S t i x x.person P)
-
--- nobody else is changed, and the place of a person among n is such
-abbrev pub IsTold : (Place → Type 0) → ℕ → Person → Person → Type 0
-IsTold Q n P now = (n ≡ 0 → now ≡ P) × (1 ≤ n → Q now.place)
+-- nobody else is changed; who is among them once is changed so, and the place of whoever is among n is such
+abbrev pub IsTold : (Person → Person) → (Place → Type 0) → ℕ → Person → Person → Type 0
+IsTold does Q n P now = (n ≡ 0 → now ≡ P) × (n ≡ 1 → now ≡ does P) × (1 ≤ n → Q now.place)
 
 -- these events do this to the rider, and nothing to others
-abbrev Does : Setup → ℕ → ℕ → (Rider → List Said) → (Person → Person) → Type 0
+abbrev pub Does : Setup → ℕ → ℕ → (Rider → List Said) → (Person → Person) → Type 0
 Does S t i tells does = (r : Rider) (P : Person) → person_after_all S t i (tells r) P ≡ (if r.person == i then does P else P)
 
-each_told : (S : Setup) (t i : ℕ) (tells : Rider → List Said) (does : Person → Person) (Q : Place → Type 0) → Does S t i tells does → ((P : Person) → Q (does P).place) → (rs : List Rider) (P : Person) → IsTold Q (among_riders i rs) P (person_after_all S t i (flat_map tells rs) P)
-each_told S t i tells does Q f g [] P = ((λ h. refl), (λ h. absurd (omega arith)))
+each_told : (S : Setup) (t i : ℕ) (tells : Rider → List Said) (does : Person → Person) (Q : Place → Type 0) → Does S t i tells does → ((P : Person) → Q (does P).place) → (rs : List Rider) (P : Person) → IsTold does Q (among_riders i rs) P (person_after_all S t i (flat_map tells rs) P)
+each_told S t i tells does Q f g [] P = ((λ h. refl), (λ h. absurd (omega arith)), (λ h. absurd (omega arith)))
 each_told S t i tells does Q f g (r ∷ rs) P =
     let c = sum_by-cons (one_rider i) r rs in
     rw (after-append S t i (tells r) (flat_map tells rs) P) (elim (cases_Bool (eqb r.person i)) [
       | inl e ↦
           let d : among_riders i (r ∷ rs) ≡ 1 + among_riders i rs = c ∙ ap (λ (b : Bool). (if b then 1 else 0) + among_riders i rs) e in
           let y = each_told S t i tells does Q f g rs (does P) in
-          rw (simp e at (f r P)) ((λ h. absurd (omega arith)), (λ h. elim (cases_lt 0 (among_riders i rs)) [ inl lt ↦ y.1 (omega arith) | inr ge ↦ rw (y.0 (omega arith)) (g P) ]))
+          rw (simp e at (f r P)) ((λ h. absurd (omega arith)), (λ h. y.0 (omega arith)), (λ h. elim (cases_lt 0 (among_riders i rs)) [ inl lt ↦ y.2 (omega arith) | inr ge ↦ rw (y.0 (omega arith)) (g P) ]))
       | inr e ↦
           let d : among_riders i (r ∷ rs) ≡ 0 + among_riders i rs = c ∙ ap (λ (b : Bool). (if b then 1 else 0) + among_riders i rs) e in
-          let y = each_told S t i tells does Q f g rs P in rw (simp e at (f r P)) ((λ h. y.0 (omega arith)), (λ h. y.1 (omega arith)))
+          let y = each_told S t i tells does Q f g rs P in rw (simp e at (f r P)) ((λ h. y.0 (omega arith)), (λ h. y.1 (omega arith)), (λ h. y.2 (omega arith)))
     ])
 
 pub start_off : (S : Setup) (t i : ℕ) (P : Person) (pl : Place) → P.place ≡ pl → IsOff (start_act S t i P pl).place
@@ -65,20 +65,20 @@ leaves_does : (S : Setup) (t i : ℕ) (v : VehicleId) (l : ℕ) → Does S t i (
 unfolding person_after
 leaves_does S t i v l r P = elim (cases_Bool (eqb r.person i)) [ inl e ↦ simp e | inr e ↦ simp e ]
 
-pub leaves_told : (S : Setup) (t i : ℕ) (v : VehicleId) (l : ℕ) (rs : List Rider) (P : Person) → IsTold IsOff (among_riders i rs) P (person_after_all S t i (flat_map (leaves v l) rs) P)
+pub leaves_told : (S : Setup) (t i : ℕ) (v : VehicleId) (l : ℕ) (rs : List Rider) (P : Person) → IsTold (λ Q. start_act S t i Q Q.place) IsOff (among_riders i rs) P (person_after_all S t i (flat_map (leaves v l) rs) P)
 leaves_told S t i v l rs P = each_told S t i (leaves v l) (λ P. start_act S t i P P.place) IsOff (leaves_does S t i v l) (λ P. start_off S t i P P.place refl) rs P
 
-pub enters_told : (S : Setup) (t i : ℕ) (v : VehicleId) (rs : List Rider) (P : Person) → IsTold (λ (pl : Place). pl ≡ Riding v) (among_riders i rs) P (person_after_all S t i (flat_map (enters v) rs) P)
+pub enters_told : (S : Setup) (t i : ℕ) (v : VehicleId) (rs : List Rider) (P : Person) → IsTold (λ Q. record Q { place = Riding v }) (λ (pl : Place). pl ≡ Riding v) (among_riders i rs) P (person_after_all S t i (flat_map (enters v) rs) P)
 unfolding person_after
 enters_told S t i v rs P = each_told S t i (enters v) (λ P. record P { place = Riding v }) (λ (pl : Place). pl ≡ Riding v) (λ r P. refl) (λ P. refl) rs P
 
-pub strands_told : (S : Setup) (t i : ℕ) (v : VehicleId) (l : ℕ) (rs : List Rider) (P : Person) → IsTold IsOff (among_riders i rs) P (person_after_all S t i (flat_map (strands v l) rs) P)
+pub strands_told : (S : Setup) (t i : ℕ) (v : VehicleId) (l : ℕ) (rs : List Rider) (P : Person) → IsTold (λ Q. record Q { place = Removed l }) IsOff (among_riders i rs) P (person_after_all S t i (flat_map (strands v l) rs) P)
 unfolding person_after
 strands_told S t i v l rs P = each_told S t i (strands v l) (λ P. record P { place = Removed l }) IsOff (λ r P. refl) (λ P. tt) rs P
 
 -- whoever rides is out, and nobody else is changed
-out : (id : VehicleId) (a : ℕ) (P now : Person) → IsTold IsOff a P now → Change id a 0 P.place now.place
-out id a P now f = elim (cases_lt 0 a) [ inl lt ↦ Leaves (omega arith) refl (f.1 (omega arith)) | inr ge ↦ Stays (omega arith) (ap (λ (x : Person). x.place) (f.0 (omega arith))) ]
+out : (id : VehicleId) (a : ℕ) (P now : Person) → (a ≡ 0 → now ≡ P) → (1 ≤ a → IsOff now.place) → Change id a 0 P.place now.place
+out id a P now none off = elim (cases_lt 0 a) [ inl lt ↦ Leaves (omega arith) refl (off (omega arith)) | inr ge ↦ Stays (omega arith) (ap (λ (x : Person). x.place) (none (omega arith))) ]
 
 -- a vehicle that enters traffic or leaves it changes nobody
 pub quiet : (S : Setup) (t i : ℕ) (e : Said) (o : Option ℕ) (P : Person) → person_after S t i e P ≡ P → told_of S t i e o P ≡ P
@@ -95,10 +95,10 @@ arrives_out S t i r P =
     let v = r.vehicle in
     let e : person_after_all S t i (arrives r) P ≡ person_after_all S t i (flat_map (leaves v.id r.link) v.riders) P =
     ap (person_after_all S t i (flat_map (leaves v.id r.link) v.riders)) (quiet S t i (of_driver word.VehicleLeavesTraffic v.id r.link) (driver v.id) P refl) in
-    rw e (out v.id (rides i v) P _ (leaves_told S t i v.id r.link v.riders P))
+    let y = leaves_told S t i v.id r.link v.riders P in rw e (out v.id (rides i v) P _ y.0 y.2)
 
 pub aborts_out : (S : Setup) (t i : ℕ) (r : Row) (P : Person) → Change r.vehicle.id (rides i r.vehicle) 0 P.place (person_after_all S t i (aborts r) P).place
-aborts_out S t i r P = out r.vehicle.id (rides i r.vehicle) P _ (strands_told S t i r.vehicle.id r.link r.vehicle.riders P)
+aborts_out S t i r P = let y = strands_told S t i r.vehicle.id r.link r.vehicle.riders P in out r.vehicle.id (rides i r.vehicle) P _ y.0 y.2
 
 -- WHO BOARDS, AND WHO IS LEFT
 -- how often a person is among those who wait
@@ -153,10 +153,6 @@ as_riders i [] = refl
 as_riders i (w ∷ ws) =
     sum_by-cons (one_rider i) (rider w) (map rider ws) ∙ ap (λ (n : ℕ). one i w + n) (as_riders i ws) ∙ sym (sum_by-cons (one i) w ws)
 
-pub boarded-are : (v : VehicleState) (ws : List Waiter) → boarded (next_call v).stop v.riders (riders_after v ws) ≡ map rider (boarding v ws)
-unfolding riders_after
-boarded-are v ws = drop-append_seam (staying (next_call v).stop v.riders) (map rider (boarding v ws))
-
 -- the riders before a stop, and those after it
 pub riders_are : (i stop : ℕ) (rs : List Rider) → among_riders i (alighting stop rs) + among_riders i (staying stop rs) ≡ among_riders i rs
 riders_are i stop rs = sum_by-filter_both (alights stop) (λ r. not (alights stop r)) (λ r. refl) (one_rider i) rs
@@ -168,13 +164,13 @@ served_are i v ws =
     sum_by-append (one_rider i) stay (map rider (boarding v ws)) ∙ ap (λ (n : ℕ). among_riders i stay + n) (as_riders i (boarding v ws))
 
 -- o times he alights, y times he stays, n times he boards
-at_stop : (id : VehicleId) (a b o y n : ℕ) (P Q now : Person) → o + y ≡ a → b ≡ y + n → a ≤ 1 → n ≤ 1 → (1 ≤ n → IsOff P.place) → (1 ≤ n → a ≡ 0) → IsTold IsOff o P Q → IsTold (λ (pl : Place). pl ≡ Riding id) n Q now → Change id a b P.place now.place
-at_stop id a b o y n P Q now e f few once off none f1 f2 =
+at_stop : (id : VehicleId) (a b o y n : ℕ) (P Q now : Person) → o + y ≡ a → b ≡ y + n → a ≤ 1 → n ≤ 1 → (1 ≤ n → IsOff P.place) → (1 ≤ n → a ≡ 0) → (o ≡ 0 → Q ≡ P) → (1 ≤ o → IsOff Q.place) → (n ≡ 0 → now ≡ Q) → (1 ≤ n → now.place ≡ Riding id) → Change id a b P.place now.place
+at_stop id a b o y n P Q now e f few once off none stays leaves waits boards =
     elim (cases_lt 0 n) [
-      | inl lt ↦ let z = none (omega arith) in Enters z (omega arith) (off (omega arith)) (f2.1 (omega arith))
-      | inr ge ↦ rw (f2.0 (omega arith)) (elim (cases_lt 0 o) [
-        | inl lt ↦ Leaves (omega arith) (omega arith) (f1.1 (omega arith))
-        | inr le ↦ Stays (omega arith) (ap (λ (x : Person). x.place) (f1.0 (omega arith)))
+      | inl lt ↦ let z = none (omega arith) in Enters z (omega arith) (off (omega arith)) (boards (omega arith))
+      | inr ge ↦ rw (waits (omega arith)) (elim (cases_lt 0 o) [
+        | inl lt ↦ Leaves (omega arith) (omega arith) (leaves (omega arith))
+        | inr le ↦ Stays (omega arith) (ap (λ (x : Person). x.place) (stays (omega arith)))
       ])
     ]
 
@@ -191,34 +187,19 @@ served S t i D l ws r P few none w =
     let b = as_riders i (boarding v ws) in
     let once = w.once in
     let off : 1 ≤ in_line i (boarding v ws) → IsOff P.place = λ h. w.off (omega arith) in
+    let outs_told = leaves_told S t i v.id r.link outs P in
+    let ins_told = enters_told S t i v.id ins Q in
     rw (boarded-are v ws, after-append S t i (flat_map (leaves v.id r.link) outs) (flat_map (enters v.id) ins) P)
     (at_stop v.id (rides i v) _ (among_riders i outs) (among_riders i (staying stop v.riders)) (in_line i (boarding v ws)) P Q _ (riders_are i stop v.riders) (served_are i v ws) few (omega arith) off (λ h. none (off h))
-    (leaves_told S t i v.id r.link outs P) (subst (λ (n : ℕ). IsTold (λ (pl : Place). pl ≡ Riding v.id) n Q (person_after_all S t i (flat_map (enters v.id) ins) Q)) b (enters_told S t i v.id ins Q)))
-
--- who is left behind does not get in
-pub left_calm : (i : ℕ) (v : VehicleState) (ws : List Waiter) → 1 ≤ in_line i (left_behind v ws) → rides i (served_vehicle v ws) ≤ rides i v
-left_calm i v ws h =
-    let a = served_are i v ws in
-    let b : among_riders i (alighting (next_call v).stop v.riders) + among_riders i (staying (next_call v).stop v.riders) ≡ rides i v = riders_are i (next_call v).stop v.riders in
-    grind (arith, h, left_none i v ws)
-
--- whoever does not get in waits on
-off_on : (i : ℕ) (ws left : List Waiter) (id : VehicleId) (a b : ℕ) (was now : Place) → in_line i left ≤ in_line i ws → (1 ≤ in_line i left → b ≤ a) → Change id a b was now → IsInLine i ws was → 1 ≤ in_line i left → IsOff now
-off_on i ws left id a b was now few calm (Stays q p) w h = rw p (w.off (omega arith))
-off_on i ws left id a b was now few calm (Leaves q p o) w h = o
-off_on i ws left id a b was now few calm (Walks q o p) w h = p
-off_on i ws left id a b was now few calm (Enters q p o r) w h = let c = calm h in absurd (omega arith)
-
-pub waits_still : (i : ℕ) (ws left : List Waiter) (id : VehicleId) (a b : ℕ) (was now : Place) → in_line i left ≤ in_line i ws → (1 ≤ in_line i left → b ≤ a) → Change id a b was now → IsInLine i ws was → IsInLine i left now
-waits_still i ws left id a b was now few calm c w = let once = w.once in record { once = omega arith; off = λ h. off_on i ws left id a b was now few calm c w h }
+    outs_told.0 outs_told.2 (λ z. ins_told.0 (omega arith)) (λ z. ins_told.2 (omega arith)))
 
 -- THOSE WHO WAIT ON A LINK
-pub waits_few : (S : Setup) (l j i : ℕ) (w : Way) (next : Stay) (pl : Place) → in_line i (waits_on S l j w next pl) ≤ (if j == i then 1 else 0)
-waits_few S l j i (Transit line access egress) next (Waiting stop since) = elim (cases_Bool (eqb (link_of_stop S stop) l)) [ inl e ↦ simp e (omega arith) | inr e ↦ simp e (omega arith) ]
+pub waits_few : (S : Setup) (l j i : ℕ) (w : Leg) (next : Act) (pl : Place) → in_line i (waits_on S l j w next pl) ≤ (if j == i then 1 else 0)
+waits_few S l j i (leg.Transit line access egress) next (Waiting stop since) = elim (cases_Bool (eqb (link_of_stop S stop) l)) [ inl e ↦ simp e (omega arith) | inr e ↦ simp e (omega arith) ]
 waits_few S l j i w next (Waiting stop since) = elim (cases_Bool (eqb (link_of_stop S stop) l)) [ inl e ↦ simp e (omega arith) | inr e ↦ simp e (omega arith) ]
 waits_few S l j i w next _ = omega arith
 
-waits_off : (S : Setup) (l j i : ℕ) (w : Way) (next : Stay) (pl : Place) → 1 ≤ in_line i (waits_on S l j w next pl) → IsOff pl
+waits_off : (S : Setup) (l j i : ℕ) (w : Leg) (next : Act) (pl : Place) → 1 ≤ in_line i (waits_on S l j w next pl) → IsOff pl
 waits_off S l j i w next (Riding v) h = absurd (omega arith)
 waits_off S l j i w next _ h = tt
 
@@ -234,7 +215,7 @@ pub waiters_in_line : (S : Setup) (l i : ℕ) (W : World) → IsInLine i (waiter
 unfolding waiters
 waiters_in_line S l i W =
     let f = λ (j : ℕ). waiter S l j (person_of j W) in
-    let few : (j : ℕ) → in_line i (f j) ≤ (if j == i then 1 else 0) = λ j. waits_few S l j i (way S j (person_of j W).element) (next_stay S j (person_of j W).element) (person_of j W).place in
+    let few : (j : ℕ) → in_line i (f j) ≤ (if j == i then 1 else 0) = λ j. waits_few S l j i (leg_at S j (person_of j W).element) (act_after S j (person_of j W).element) (person_of j W).place in
     let a = line_one f i few 0 (length W.persons) in
     let P = person_of i W in
-    record { once = (let b = few i in let c = part_le (eqb i i) 1 in omega arith); off = λ h. waits_off S l i i (way S i P.element) (next_stay S i P.element) P.place (omega arith) }
+    record { once = (let b = few i in let c = part_le (eqb i i) 1 in omega arith); off = λ h. waits_off S l i i (leg_at S i P.element) (act_after S i P.element) P.place (omega arith) }

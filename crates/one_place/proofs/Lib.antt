@@ -1,5 +1,4 @@
 pub mod Places
 pub mod Boarding
 pub mod Turns
-pub mod Taken
 pub mod Vehicles

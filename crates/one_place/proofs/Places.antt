@@ -1,13 +1,14 @@
 -- One person's place against the rows that list him, and what one move may do to both.
 use Rattle.std.proofs.Common.{◌≡◌, ℕ, zero, suc, ◌+◌, ◌<◌, ◌≤◌, Bool, true, false, List, [], ◌∷◌, length, refl, ap, sym, ◌∙◌, subst, arith, get_or}
-use Rattle.std.specs.Prelude.{filter, map, sum_by, count_by, slice_get, ◌==◌, if◌then◌else◌, Some}
+use Rattle.std.specs.Prelude.{filter, map, option_map, sum_by, count_by, slice_get, ◌==◌, if◌then◌else◌, Some}
+use Rattle.std.proofs.lemmas.Option.{slice_get-map}
 use Rattle.std.proofs.lemmas.Bool.{eq-eqb}
 use Rattle.std.proofs.lemmas.List.Sums.{sum_by-cons, sum_by_push, sum_by-le-sum_by}
 use Rattle.events.specs.declared.event.VehicleId.{VehicleId}
 use Rattle.events.specs.declared.event.VehicleId.TheVariants as vehicle
-use Rattle.traffic.specs.declared.rows.Rider.{Rider}
-use Rattle.traffic.specs.declared.rows.Stage.{Stage}
-use Rattle.traffic.specs.declared.rows.Stage.TheVariants.{Buffer}
+use Rattle.traffic.specs.declared.riders.Rider.{Rider}
+use Rattle.traffic.specs.declared.stage.Stage.{Stage}
+use Rattle.traffic.specs.declared.stage.Stage.TheVariants.{Buffer}
 use Rattle.traffic.specs.declared.world.Row.{Row}
 use Rattle.traffic.specs.declared.world.Person.{Person}
 use Rattle.traffic.specs.declared.world.Place.{Place}
@@ -18,7 +19,7 @@ use Rattle.traffic.specs.Lists.{without, with_first}
 use Rattle.traffic.specs.Vehicles.{VehicleState}
 use Rattle.traffic.specs.Rows.{World, on, at, person_of, nobody}
 use Rattle.traffic.specs.Setup.{Setup}
-use Rattle.traffic.specs.Moves.{at_second, told, done, run, rows_after, person_after_all}
+use Rattle.traffic.specs.Moves.{at_second, told, done, rows_after, person_after_all}
 use Rattle.traffic.specs.Persons.{same_vehicle}
 use Rattle.traffic.specs.Worlds.{listed_in, listed, rows_of, IsListed}
 use Rattle.traffic.proofs.Sublists.{persons-length, person-done}
@@ -30,6 +31,9 @@ vehicle_of r = r.vehicle
 -- the vehicles of a queue, a buffer, a wait list or a bay
 abbrev pub vehicles : ℕ → Stage → World → List VehicleState
 vehicles l s W = map vehicle_of (at l s W)
+
+pub stands : (l : ℕ) (s : Stage) (k : ℕ) (r : Row) (W : World) → slice_get (at l s W) k ≡ Some r → slice_get (vehicles l s W) k ≡ Some r.vehicle
+stands l s k r W e = slice_get-map vehicle_of (at l s W) k ∙ ap (option_map vehicle_of) e
 
 -- a number of each vehicle, summed
 abbrev pub weight : (VehicleState → ℕ) → List Row → ℕ
@@ -197,9 +201,6 @@ move_keeps S t i m W taken c h =
     let by : (u : VehicleId) → listed i (rows_of u (rows_after m W.rows)) + counted (id_of m) u (took (rides i) m) ≡ listed i (rows_of u W.rows) + counted (id_of m) u (brought (rides i) m) =
     λ u. let a = weighed (rides_in u i) m W taken in let b = took_in u i m in let d = brought_in u i m W taken in let e = listed-rows_of u i W.rows in let f = listed-rows_of u i (rows_after m W.rows) in omega arith in
     record { there = omega arith; listed = rw (person-done S t i m W lt) (changed i W.rows (rows_after m W.rows) (id_of m) (took (rides i) m) (brought (rides i) m) (person_of i W).place (after_move S t i m W).place (weighed (rides i) m W taken) by c h.listed) }
-
-pub InOne-if : (S : Setup) (t i : ℕ) (b : Bool) (xs ys : List Move) (W : World) → InOne i (run S t xs W) → InOne i (run S t ys W) → InOne i (run S t (if b then xs else ys) W)
-InOne-if S t i b xs ys W h g = elim b as (λ c. InOne i (run S t (if c then xs else ys) W)) [ true ↦ h | false ↦ g ]
 
 -- a row of a list has one rider of a person at most, and none of who is in no vehicle
 pub rides_few : (i l : ℕ) (s : Stage) (k : ℕ) (r : Row) (W : World) → slice_get (vehicles l s W) k ≡ Some r.vehicle → InOne i W → (rides i r.vehicle ≤ 1) × (IsOff (person_of i W).place → rides i r.vehicle ≡ 0)

@@ -52,16 +52,16 @@ some-ascends t c k (suc n) p says =
     ]
 
 abbrev IsOwned : Setup → Owner → ℕ → Event → Type 0
-IsOwned S own p e = Before S.end e × (eqb (owner_of_event S own e) p ≡ true)
+IsOwned S own p e = Before S.settings.end_second e × (eqb (owner_of_event S own e) p ≡ true)
 
-owned : (S : Setup) (own : Owner) (p : ℕ) → Every (IsOwned S own p) (own_events S own p S.end)
+owned : (S : Setup) (own : Owner) (p : ℕ) → Every (IsOwned S own p) (own_events S own p S.settings.end_second)
 unfolding own_events
-owned S own p = every_filter (Before S.end) _ (events_from S (world_start S) S.end) (from-before S (world_start S) S.end)
+owned S own p = every_filter (Before S.settings.end_second) _ (events_from S (world_start S) S.settings.end_second) (from-before S (world_start S) S.settings.end_second)
 
 pub told_ascends : (S : Setup) (own : Owner) (parts p : ℕ) → Ascends (all_told S own parts p)
 unfolding own_events own_end_events
 told_ascends S own parts p =
-    let T = S.end in
+    let T = S.settings.end_second in
     let c = phase_code phase.E in
     Ascends-append (IsOwned S own p) (OfPhase T c 0) (λ a b h g. by_second a.key b.key (let x = h.0 in let q = g.0 in omega arith)) (own_events S own p T) (own_end_events S own parts p)
     (owned S own p) (some-of T c 0 (length S.persons) (ends_with S own parts p) (stranded S (world_at S T)))
@@ -70,13 +70,13 @@ told_ascends S own parts p =
 -- NO KEY TWICE
 -- an event at the end, of a person who ends with p
 abbrev IsEnder : Setup → Owner → ℕ → ℕ → Event → Type 0
-IsEnder S own parts p e = (e.key.second ≡ S.end) × (e.key.number < length S.persons) × (ends_with S own parts p e.key.number ≡ true)
+IsEnder S own parts p e = (e.key.second ≡ S.settings.end_second) × (e.key.number < length S.persons) × (ends_with S own parts p e.key.number ≡ true)
 
 enders : (S : Setup) (own : Owner) (parts p k n : ℕ) → k + n ≤ length S.persons →
-    Every (IsEnder S own parts p) (flat_map (λ i. keyed S.end (phase_code phase.E) i 0 (stranded S (world_at S S.end) i)) (filter (ends_with S own parts p) (numbers k n)))
+    Every (IsEnder S own parts p) (flat_map (λ i. keyed S.settings.end_second (phase_code phase.E) i 0 (stranded S (world_at S S.settings.end_second) i)) (filter (ends_with S own parts p) (numbers k n)))
 enders S own parts p k zero le = tt
 enders S own parts p k (suc n) le =
-    let T = S.end in
+    let T = S.settings.end_second in
     let c = phase_code phase.E in
     let says = stranded S (world_at S T) k in
     let more = enders S own parts p (k + 1) n (omega arith) in
@@ -92,8 +92,8 @@ IsTold S own parts p e = IsOwned S own p e ⊎ IsEnder S own parts p e
 told : (S : Setup) (own : Owner) (parts p : ℕ) → Every (IsTold S own parts p) (all_told S own parts p)
 unfolding own_end_events
 told S own parts p =
-    Every-append (IsTold S own parts p) (own_events S own p S.end) (own_end_events S own parts p)
-    (Every-weaker (IsOwned S own p) (IsTold S own parts p) (λ e h. inl h) (own_events S own p S.end) (owned S own p))
+    Every-append (IsTold S own parts p) (own_events S own p S.settings.end_second) (own_end_events S own parts p)
+    (Every-weaker (IsOwned S own p) (IsTold S own parts p) (λ e h. inl h) (own_events S own p S.settings.end_second) (owned S own p))
     (Every-weaker (IsEnder S own parts p) (IsTold S own parts p) (λ e h. inr h) (own_end_events S own parts p) (enders S own parts p 0 (length S.persons) (omega arith)))
 
 of_one : (P : Event → Type 0) (xs : List Event) (k : ℕ) (x : Event) → Every P xs → k < length xs → P (slice_index_or xs k x)

@@ -7,13 +7,13 @@ use Rattle.std.proofs.lemmas.List.Elements.{All-from_recursion}
 use Rattle.traffic.specs.declared.world.Row.{Row}
 use Rattle.traffic.specs.declared.sight.Entry.{Entry}
 use Rattle.traffic.specs.declared.sight.Exit.{Exit}
-use Rattle.traffic.specs.declared.numbers.Stuck.{Stuck}
+use Rattle.rows.specs.declared.settings.Stuck.{Stuck}
 use Rattle.traffic.specs.declared.moves.Move.{Move}
 use Rattle.traffic.specs.declared.moves.Move.TheVariants.{Put, Gone, New, Mark, Credit, Free, Tell}
-use Rattle.traffic.specs.declared.rows.Stage.TheVariants.{Queue}
+use Rattle.traffic.specs.declared.stage.Stage.TheVariants.{Queue}
 use Rattle.traffic.specs.Lists.{below, without_at}
 use Rattle.traffic.specs.Rows.{World, on}
-use Rattle.traffic.specs.Setup.{Setup, road, seconds_of}
+use Rattle.traffic.specs.Setup.{Setup, link_row, seconds_of}
 use Rattle.traffic.specs.Nodes.{sight, exit, next_link, is_exit, has_room, seconds_along, with_one_more, one_more, is_stuck, may_enter, hand, since_of, hand_all, exits_after, drawn, no_entry, draw, red, candidates, mark, node_moves}
 use Rattle.events.specs.declared.event.Phase.TheVariants as phase
 use Rattle.traffic.specs.Day.{node_plan, through, world_at}
@@ -70,7 +70,7 @@ module _ (S : Setup) (t : ℕ) where
 
   tells-exit : (n : ℕ) (W : World) → TellsSeconds (exit S t n W)
   tells-exit n W m e =
-      elim (cases_Bool (eqb (road S m).from n)) [
+      elim (cases_Bool (eqb (link_row S m).from n)) [
         | inl q ↦ rw q refl
         | inr q ↦ absurd (true≢false (sym (let f : false ≡ true = simp q at e in f)))
       ]
@@ -113,7 +113,7 @@ module _ (S : Setup) (t : ℕ) where
   node-puts n W =
       let see = sight S t n W in
       let es = candidates see.entries in
-      each_append PutsRebuilt (map (mark t) (red see.entries)) _ (marks-put (red see.entries)) (draw-puts S.stuck (S.word n) (length es) 0 es see.exits (tells-exit n W))
+      each_append PutsRebuilt (map (mark t) (red see.entries)) _ (marks-put (red see.entries)) (draw-puts S.settings.stuck (S.word n) (length es) 0 es see.exits (tells-exit n W))
 
   rows_if : (b : Bool) (r : Row) → IsRebuilt r → Each IsRebuilt (if b then r ∷ [] else [])
   rows_if true r h = (h, tt)

@@ -4,10 +4,11 @@ use Rattle.std.specs.List.{Contains}
 use Rattle.events.specs.declared.event.Event.{Event}
 use Rattle.events.specs.declared.event.Mode.{Mode}
 use Rattle.events.specs.declared.event.VehicleId.{VehicleId}
-use Rattle.traffic.specs.declared.rows.Stage.TheVariants.{Queue}
+use Rattle.traffic.specs.declared.stage.Stage.TheVariants.{Queue}
 use Rattle.traffic.specs.declared.world.Place.TheVariants.{Riding}
+use Rattle.rows.specs.declared.plan.Leg.TheVariants as leg
 use Rattle.traffic.specs.Lists.{below}
-use Rattle.traffic.specs.Setup.{Setup, Teleport, way, stay, next_stay, seconds_of, hole_of}
+use Rattle.traffic.specs.Setup.{Setup, act_at, act_after, leg_at, seconds_of, hole_of}
 use Rattle.traffic.specs.Rows.{at, person_of}
 use Rattle.traffic.specs.Persons.{link_of_vehicle}
 use Rattle.traffic.specs.Day.{world_at, day as events_of_day}
@@ -36,8 +37,8 @@ pub record HasNeighbours (S : Setup) (own : Owner) (parts : ℕ) : Type 0 where
   pub most : (p q : ℕ) → lag S own p q ≤ longest_lag
   pub links : (l : ℕ) → crosses S own l ≡ true → lag S own (begins_in S own l) (owner_of S own l) ≤ seconds_of S l
   pub holes : (l : ℕ) → crosses S own l ≡ true → lag S own (owner_of S own l) (begins_in S own l) ≤ hole_of S l
-  pub hops : (i e : ℕ) (mode : Mode) (seconds : ℕ) → i < length S.persons → way S i e ≡ Teleport mode seconds
-      → lag S own (owner_of S own (stay S i e).link) (owner_of S own (next_stay S i e).link) ≤ seconds
+  pub hops : (i e : ℕ) (mode : Mode) (seconds : ℕ) → i < length S.persons → leg_at S i e ≡ leg.Teleport mode seconds
+      → lag S own (owner_of S own (act_at S i e).link) (owner_of S own (act_after S i e).link) ≤ seconds
 
 -- A second of a partition is that of the day there, and nothing of any other partition is read.
 pub record SecondsAreLocal (S : Setup) (own : Owner) (parts : ℕ) : Type 0 where

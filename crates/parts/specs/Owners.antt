@@ -6,7 +6,10 @@ use Rattle.traffic.specs.Lists.{below}
 use Rattle.traffic.specs.declared.world.Place.{Place}
 use Rattle.traffic.specs.declared.world.Place.TheVariants as place
 use Rattle.traffic.specs.Rows.{World, person_of}
-use Rattle.traffic.specs.Setup.{Setup, Stay, Way, Drive, Teleport, Transit, itinerary, way, road, seconds_of, hole_of, stay, next_stay, link_of_stop, departure}
+use Rattle.rows.specs.declared.plan.Act.{Act}
+use Rattle.rows.specs.declared.plan.Leg.{Leg}
+use Rattle.rows.specs.declared.plan.Leg.TheVariants as leg
+use Rattle.traffic.specs.Setup.{Setup, person_plan, leg_at, link_row, seconds_of, hole_of, act_at, act_after, link_of_stop, departure}
 use Rattle.traffic.specs.declared.world.Row.{Row}
 use Rattle.traffic.specs.Worlds.{listed_in}
 use Rattle.traffic.specs.Day.{world_at}
@@ -17,10 +20,10 @@ Owner = ℕ → ℕ
 
 -- a link belongs to its end node's owner; it begins in its start node's
 abbrev pub owner_of : Setup → Owner → ℕ → ℕ
-owner_of S own l = own (road S l).to
+owner_of S own l = own (link_row S l).to
 
 abbrev pub begins_in : Setup → Owner → ℕ → ℕ
-begins_in S own l = own (road S l).from
+begins_in S own l = own (link_row S l).from
 
 -- whether a link leads from one partition to another
 abbrev pub crosses : Setup → Owner → ℕ → Bool
@@ -34,8 +37,8 @@ link_of_rider i (r ∷ rs) = if nat_lt 0 (listed_in i r) then r.link else link_o
 -- the link by which a person belongs to a partition: that of the activity, of the stop, or where he was removed, that of his vehicle, and
 -- that of the next activity while he flies
 abbrev pub link_at : Setup → World → ℕ → ℕ → Place → ℕ
-link_at S W i element (place.At end) = (stay S i element).link
-link_at S W i element (place.Flying start) = (next_stay S i element).link
+link_at S W i element (place.At end) = (act_at S i element).link
+link_at S W i element (place.Flying start) = (act_after S i element).link
 link_at S W i element (place.Waiting stop since) = link_of_stop S stop
 link_at S W i element (place.Riding v) = link_of_rider i W.rows
 link_at S W i element (place.Gone l) = l
@@ -49,17 +52,17 @@ pub record Hop : Type 0 where
   pub to : ℕ
   pub seconds : ℕ
 
-abbrev pub hop : Stay → Stay → Way → List Hop
-hop here next (Drive route) = []
-hop here next (Teleport mode seconds) = record { from = here.link; to = next.link; seconds = seconds } ∷ []
-hop here next (Transit line access egress) = []
+abbrev pub hop : Act → Act → Leg → List Hop
+hop here next (leg.Car route) = []
+hop here next (leg.Teleport mode seconds) = record { from = here.link; to = next.link; seconds = seconds } ∷ []
+hop here next (leg.Transit line access egress) = []
 
 -- those of the leg of this number of person i's plan, and of all legs of all plans
 abbrev pub hop_at : Setup → ℕ → ℕ → List Hop
-hop_at S i k = hop (stay S i (2 * k)) (next_stay S i (2 * k)) (way S i (2 * k))
+hop_at S i k = hop (act_at S i (2 * k)) (act_after S i (2 * k)) (leg_at S i (2 * k))
 
 unfoldable pub hops : Setup → List Hop
-hops S = flat_map (λ i. flat_map (hop_at S i) (below (length (itinerary S i).ways))) (below (length S.persons))
+hops S = flat_map (λ i. flat_map (hop_at S i) (below (length (person_plan S i).legs))) (below (length S.persons))
 
 -- whether a link leads from p to q, and whether a teleported leg does
 abbrev pub leads : Setup → Owner → ℕ → ℕ → ℕ → Bool

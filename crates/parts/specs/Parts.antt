@@ -5,9 +5,9 @@ use Rattle.events.specs.declared.event.Event.{Event}
 use Rattle.events.specs.declared.event.Phase.{Phase}
 use Rattle.events.specs.declared.event.Phase.TheVariants as phase
 use Rattle.events.specs.Keys.{phase_code}
-use Rattle.traffic.specs.declared.rows.Rider.{Rider}
-use Rattle.traffic.specs.declared.rows.Stage.{Stage}
-use Rattle.traffic.specs.declared.rows.Stage.TheVariants.{Queue}
+use Rattle.traffic.specs.declared.riders.Rider.{Rider}
+use Rattle.traffic.specs.declared.stage.Stage.{Stage}
+use Rattle.traffic.specs.declared.stage.Stage.TheVariants.{Queue}
 use Rattle.traffic.specs.Lists.{below}
 use Rattle.traffic.specs.declared.world.Row.{Row}
 use Rattle.traffic.specs.declared.world.Place.{Place}
@@ -17,7 +17,9 @@ use Rattle.traffic.specs.declared.moves.Move.{Move}
 use Rattle.traffic.specs.declared.moves.Move.TheVariants as move
 use Rattle.traffic.specs.Rows.{World, on, at, holes_at, credit_of, person_of}
 use Rattle.traffic.specs.Vehicles.{VehicleState}
-use Rattle.traffic.specs.Setup.{Setup, Way, Teleport, way, stay, seconds_of, hole_of}
+use Rattle.rows.specs.declared.plan.Leg.{Leg}
+use Rattle.rows.specs.declared.plan.Leg.TheVariants as leg
+use Rattle.traffic.specs.Setup.{Setup, leg_at, act_at, seconds_of, hole_of}
 use Rattle.traffic.specs.Persons.{stranded}
 use Rattle.traffic.specs.Worlds.{listed}
 use Rattle.traffic.specs.Day.{moves_of, turns_in, through, keyed, world_start, world_at, events_from}
@@ -131,19 +133,19 @@ entering_row S t v =
 abbrev pub passed : World → Row → Passed
 passed W row = record { row = row; elements = map (λ (x : Rider). (person_of x.person W).element) row.vehicle.riders }
 
-abbrev pub seconds_of_way : Way → ℕ
-seconds_of_way (Teleport mode seconds) = seconds
+abbrev pub seconds_of_way : Leg → ℕ
+seconds_of_way (leg.Teleport mode seconds) = seconds
 seconds_of_way _ = 0
 
 -- the flight of a person at this place, where it began in second t
 abbrev pub flight_at : Setup → ℕ → ℕ → ℕ → Place → List Flight
 flight_at S t i element (place.Flying start) =
-    if start == t then record { person = i; element = element; due = start + seconds_of_way (way S i element) } ∷ [] else []
+    if start == t then record { person = i; element = element; due = start + seconds_of_way (leg_at S i element) } ∷ [] else []
 flight_at S t i element _ = []
 
 -- where a flight of person i began and where it ends
 abbrev pub flies_from : Setup → Owner → ℕ → ℕ → ℕ
-flies_from S own i element = owner_of S own (stay S i element).link
+flies_from S own i element = owner_of S own (act_at S i element).link
 
 -- those whom second t sent flying from p to q, by number
 abbrev pub flight_from : Setup → Owner → ℕ → ℕ → ℕ → World → ℕ → List Flight
@@ -246,11 +248,11 @@ carries i x = rides_in i (map (λ (y : Passed). y.row) x.vehicles) || list_any (
 -- the person's event at the end belongs to p: p has him, or sent him in a parcel that is not absorbed
 abbrev pub ends_with : Setup → Owner → ℕ → ℕ → ℕ → Bool
 ends_with S own parts p i =
-    is_some ((held S own p S.end).person i)
-    || list_any (λ q. near S own p q && list_any (carries i) (sent_last S own p q S.end (lag S own p q))) (below parts)
+    is_some ((held S own p S.settings.end_second).person i)
+    || list_any (λ q. near S own p q && list_any (carries i) (sent_last S own p q S.settings.end_second (lag S own p q))) (below parts)
 
 -- the events of phase E that belong to p, among so many partitions
 unfoldable pub own_end_events : Setup → Owner → ℕ → ℕ → List Event
 own_end_events S own parts p =
-    flat_map (λ i. keyed S.end (phase_code phase.E) i 0 (stranded S (world_at S S.end) i))
+    flat_map (λ i. keyed S.settings.end_second (phase_code phase.E) i 0 (stranded S (world_at S S.settings.end_second) i))
     (filter (ends_with S own parts p) (below (length S.persons)))

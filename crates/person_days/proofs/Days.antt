@@ -20,12 +20,15 @@ use Rattle.traffic.specs.declared.world.Place.{Place}
 use Rattle.traffic.specs.declared.world.Place.TheVariants.{At, Flying, Waiting, Riding, Gone as Removed}
 use Rattle.traffic.specs.Lists.{numbers, below}
 use Rattle.traffic.specs.Rows.{World, at, person_of, nobody}
-use Rattle.traffic.specs.Setup.{Setup, Stay, Itinerary, stay, way, itinerary}
+use Rattle.rows.specs.declared.plan.Act.{Act}
+use Rattle.rows.specs.PlanRows.{PlanRows}
+use Rattle.traffic.specs.Setup.{Setup, act_at, leg_at, person_plan}
 use Rattle.traffic.specs.Moves.{told, done, run}
-use Rattle.traffic.specs.Persons.{mode_of_way, stuck_at, stranded}
-use Rattle.traffic.specs.Day.{Turn, link_plan, plan_of, count_of, turns, moves_of, after, turns_in, keyed, events_of, events_in, through, told_in, phases, first_end, at_home, world_start, world_from, events_from, end_events, world_at, day}
+use Rattle.traffic.specs.Persons.{mode_of_leg, stuck_at, stranded}
+use Rattle.traffic.specs.Day.{Turn, link_plan, plan_of, count_of, moves_of, after, turns_in, keyed, events_of, events_in, through, told_in, phases, first_end, at_home, world_start, world_from, events_from, end_events, world_at, day}
 use Rattle.traffic.proofs.Sublists.{run-append}
 use Rattle.traffic.proofs.Moments.{Along}
+use Rattle.traffic.proofs.Walks.{IsWalk, phase_walk}
 use Rattle.one_place.proofs.Places.{InOne}
 use Rattle.one_place.proofs.Turns.{turn_keeps, start_kept}
 use Rattle.person_days.specs.Trips.{Places, anywhere, leg, legs, IsPlanned, names, of_person, is_step, steps, InTurn}
@@ -58,20 +61,21 @@ record IsFine (S : Setup) (i : ℕ) (B : World → Type 0) (W : World) : Type 0 
 abbrev Goes : Places → Setup → ℕ → (World → Type 0) → World → World → List Said → Type 0
 Goes A S i B W V es = Passes A S i W V es × IsFine S i B V
 
-turns_go : (A : Places) (S : Setup) (t i : ℕ) (p : Phase) (B : World → Type 0) (ns : List ℕ) (W : World) → Keeps A S i B → Each (λ n. n < count_of S p) ns → IsFine S i B W → Goes A S i B W (after S t (turns S t (plan_of S t p) ns W) W) (flat_map told (moves_of (turns S t (plan_of S t p) ns W)))
-unfolding turns
-turns_go A S t i p B [] W k few h = (passes_none A S i W h.sane, h)
-turns_go A S t i p B (n ∷ ns) W k few h =
-    let ms = plan_of S t p n W in
-    let V = run S t ms W in
-    let us = moves_of (turns S t (plan_of S t p) ns V) in
-    let x = moves_pass A S t i ms W (turn_along A S t n i p B W k few.0 h.kept h.in_one) h.sane in
-    let y = turns_go A S t i p B ns V k few.1 (record { in_one = turn_keeps S t n i p W h.in_one; sane = x.1; kept = k.turn t n p W few.0 h.kept }) in
-    rw (run-append S t ms us W, flat_map-append told ms us) (passes_append A S i W V (run S t us V) (flat_map told ms) (flat_map told us) x.0 y.0, y.1)
+-- from such a world these moves do their part to him, and leave such a world
+abbrev Does_part : Places → Setup → ℕ → ℕ → (World → Type 0) → World → List Move → Type 0
+Does_part A S t i B W ms = IsFine S i B W → Goes A S i B W (run S t ms W) (flat_map told ms)
 
-each_number : (m k n : ℕ) → k + n ≤ m → Each (λ i. i < m) (numbers k n)
-each_number m k zero h = tt
-each_number m k (suc n) h = (omega arith, each_number m (k + 1) n (omega arith))
+part_is : (A : Places) (S : Setup) (t i : ℕ) (B : World → Type 0) → IsWalk S t (Does_part A S t i B)
+part_is A S t i B =
+    record {
+      none = λ W h. (passes_none A S i W h.sane, h);
+      append = λ xs ys W f g h. let x = f h in let y = g x.1 in rw (run-append S t xs ys W, flat_map-append told xs ys) (passes_append A S i W (run S t xs W) (run S t ys (run S t xs W)) (flat_map told xs) (flat_map told ys) x.0 y.0, y.1);
+    }
+
+turn_goes : (A : Places) (S : Setup) (t n i : ℕ) (p : Phase) (B : World → Type 0) (W : World) → Keeps A S i B → n < count_of S p → Does_part A S t i B W (plan_of S t p n W)
+turn_goes A S t n i p B W k lt h =
+    let x = moves_pass A S t i (plan_of S t p n W) W (turn_along A S t n i p B W k lt h.kept h.in_one) h.sane in
+    (x.0, record { in_one = turn_keeps S t n i p W h.in_one; sane = x.1; kept = k.turn t n p W lt h.kept })
 
 -- EVENTS WITHOUT THEIR KEYS
 abbrev unkeyed : Event → Said
@@ -107,13 +111,12 @@ count_is i es = ap (λ (xs : List Said). length xs) (bare_own i es) ∙ length-m
 
 -- PHASES, SECONDS, DAYS
 through_goes : (A : Places) (S : Setup) (t i : ℕ) (B : World → Type 0) (ps : List Phase) (W : World) → Keeps A S i B → IsFine S i B W → Goes A S i B W (through S t ps W) (bare (told_in S t ps W))
-unfolding through told_in turns_in
+unfolding through told_in
 through_goes A S t i B [] W k h = (passes_none A S i W h.sane, h)
 through_goes A S t i B (p ∷ ps) W k h =
     let us = turns_in S t p W in
     let V = after S t us W in
-    let n = count_of S p in
-    let y = turns_go A S t i p B (below n) W k (each_number n 0 n (omega arith)) h in
+    let y = phase_walk (Does_part A S t i B) S t p (part_is A S t i B) (λ n V lt. turn_goes A S t n i p B V k lt) W h in
     rw (map-append unkeyed (events_in t p us) (told_in S t ps V), bare_events t p us) (let z = through_goes A S t i B ps V k y.1 in (passes_append A S i W V (through S t ps V) (flat_map told (moves_of us)) (bare (told_in S t ps V)) y.0 z.0, z.1))
 
 from_goes : (A : Places) (S : Setup) (i : ℕ) (B : World → Type 0) (W : World) (t : ℕ) → Keeps A S i B → IsFine S i B W → Goes A S i B W (world_from S W t) (bare (events_from S W t))
@@ -126,7 +129,7 @@ from_goes A S i B W (suc t) k h =
     (let z = through_goes A S t i B phases V k y.1 in (passes_append A S i W V (through S t phases V) (bare (events_from S W t)) (bare (told_in S t phases V)) y.0 z.0, z.1))
 
 -- the end of the day
-stuck_other : (S : Setup) (W : World) (j i : ℕ) (here : Stay) (m : Mode) (pl : Place) → eqb j i ≡ false → own i (stuck_at S W j here m pl) ≡ []
+stuck_other : (S : Setup) (W : World) (j i : ℕ) (here : Act) (m : Mode) (pl : Place) → eqb j i ≡ false → own i (stuck_at S W j here m pl) ≡ []
 stuck_other S W j i here m (At end) q = refl
 stuck_other S W j i here m (Removed l) q = refl
 stuck_other S W j i here m _ q = simp q
@@ -135,7 +138,7 @@ stuck_other S W j i here m _ q = simp q
 abbrev Ends : Places → Setup → ℕ → Person → List Said → Type 0
 Ends A S i P es = Rest A S i P (told_steps es) × (length es ≤ worth S i P) × IsLast es
 
-stuck_ends : (A : Places) (S : Setup) (W : World) (i e : ℕ) (here : Stay) (pl : Place) → Ends A S i (record { element = e; place = pl }) (own i (stuck_at S W i here (mode_of_way (leg S i (e / 2))) pl))
+stuck_ends : (A : Places) (S : Setup) (W : World) (i e : ℕ) (here : Act) (pl : Place) → Ends A S i (record { element = e; place = pl }) (own i (stuck_at S W i here (mode_of_leg (leg S i (e / 2))) pl))
 stuck_ends A S W i e here (At end) = (tt, omega arith, tt)
 stuck_ends A S W i e here (Flying start) = let q = eq-eqb i i refl in simp q ((refl, tt, refl), omega arith, ((λ k. refl), tt))
 stuck_ends A S W i e here (Waiting stop since) = let q = eq-eqb i i refl in simp q ((refl, tt, refl), omega arith, ((λ k. refl), tt))
@@ -147,7 +150,7 @@ unfolding stranded
 own_none S W i k zero lt = refl
 own_none S W i k (suc n) lt =
     let P = person_of k W in
-    rw (filter-append (λ (e : Said). names i e.person) (stranded S W k) (flat_map (stranded S W) (numbers (k + 1) n)), stuck_other S W k i (stay S k P.element) (mode_of_way (way S k P.element)) P.place (ne_eqb k i (λ q. omega arith)))
+    rw (filter-append (λ (e : Said). names i e.person) (stranded S W k) (flat_map (stranded S W) (numbers (k + 1) n)), stuck_other S W k i (act_at S k P.element) (mode_of_leg (leg_at S k P.element)) P.place (ne_eqb k i (λ q. omega arith)))
     (own_none S W i (k + 1) n (omega arith))
 
 own_one : (S : Setup) (W : World) (i k n : ℕ) → k ≤ i → i < k + n → own i (flat_map (stranded S W) (numbers k n)) ≡ own i (stranded S W i)
@@ -162,7 +165,7 @@ own_one S W i k (suc n) le lt =
       | inr q ↦
           let ne = eqb-false k i q in
           let lt2 : k < i = elim (cases_lt k i) [ inl a ↦ a | inr b ↦ absurd (ne (omega arith)) ] in
-          rw (filter-append (λ (e : Said). names i e.person) (stranded S W k) (flat_map (stranded S W) (numbers (k + 1) n)), stuck_other S W k i (stay S k P.element) (mode_of_way (way S k P.element)) P.place q)
+          rw (filter-append (λ (e : Said). names i e.person) (stranded S W k) (flat_map (stranded S W) (numbers (k + 1) n)), stuck_other S W k i (act_at S k P.element) (mode_of_leg (leg_at S k P.element)) P.place q)
           (own_one S W i (k + 1) n (omega arith) (omega arith))
     ]
 
@@ -176,18 +179,18 @@ end_ends : (A : Places) (S : Setup) (t i : ℕ) (W : World) → i < length S.per
 unfolding end_events stranded
 end_ends A S t i W lt =
     let P = person_of i W in
-    rw (bare_end S t W (below (length S.persons)), own_one S W i 0 (length S.persons) (omega arith) (omega arith)) (stuck_ends A S W i P.element (stay S i P.element) P.place)
+    rw (bare_end S t W (below (length S.persons)), own_one S W i 0 (length S.persons) (omega arith) (omega arith)) (stuck_ends A S W i P.element (act_at S i P.element) P.place)
 
 -- THE WHOLE DAY
-start_is : (S : Setup) (i : ℕ) → i < length S.persons → person_of i (world_start S) ≡ at_home (itinerary S i)
+start_is : (S : Setup) (i : ℕ) → i < length S.persons → person_of i (world_start S) ≡ at_home (person_plan S i)
 unfolding world_start
-start_is S i lt = let none : Itinerary = record { stays = []; ways = [] } in get_or-map at_home S.persons i none nobody lt
+start_is S i lt = let none : PlanRows = record { acts = []; legs = [] } in get_or-map at_home S.persons i none nobody lt
 
 first_leg : (n : ℕ) (end : Option ℕ) → (n ≤ 0 → end ≡ None) → HasLeg n 0 end
 first_leg n None h = tt
 first_leg n (Some x) h = elim (cases_lt 0 n) [ inl lt ↦ lt | inr ge ↦ let q = h ge in absurd (cc) ]
 
-first_act : (stays : List Stay) (n : ℕ) → (n ≤ 0 → (get_or stays 0 (record { kind = 0; link = 0; end = None })).end ≡ None) → HasLeg n 0 (first_end stays)
+first_act : (stays : List Act) (n : ℕ) → (n ≤ 0 → (get_or stays 0 (record { kind = 0; link = 0; end = None })).end ≡ None) → HasLeg n 0 (first_end stays)
 first_act [] n h = tt
 first_act (s ∷ ss) n h = first_leg n s.end h
 
@@ -197,7 +200,7 @@ start_fine A S i B k lt =
     let p = k.plan.planned in
     let one = start_kept S in
     let row = one.one_row in
-    let home : IsFitAt S i 0 (At (first_end (itinerary S i).stays)) = (refl, first_act (itinerary S i).stays (legs S i) (p.last 0)) in
+    let home : IsFitAt S i 0 (At (first_end (person_plan S i).acts)) = (refl, first_act (person_plan S i).acts (legs S i) (p.last 0)) in
     record { in_one = record { there = omega arith; listed = one.one_place i lt }; sane = record { calls = refl; kinds = refl; drivers = refl; fit = rw (start_is S i lt) home }; kept = k.start }
 
 -- the whole day of a person, from where he is at its start
@@ -208,14 +211,14 @@ pub has_day : (A : Places) (S : Setup) (i : ℕ) (B : World → Type 0) → Keep
 unfolding day world_start
 has_day A S i B k lt =
     let W = world_start S in
-    let V = world_at S S.end in
-    let xs = bare (events_from S W S.end) in
-    let ys = bare (end_events S S.end V) in
-    let goes = (from_goes A S i B W S.end k (start_fine A S i B k lt)).0 in
+    let V = world_at S S.settings.end_second in
+    let xs = bare (events_from S W S.settings.end_second) in
+    let ys = bare (end_events S S.settings.end_second V) in
+    let goes = (from_goes A S i B W S.settings.end_second k (start_fine A S i B k lt)).0 in
     let f = goes.0 in
     let last = goes.1 in
-    let g = end_ends A S S.end i V lt in
-    let all : bare (day S) ≡ xs ++ ys = map-append unkeyed (events_from S W S.end) (end_events S S.end V) in
+    let g = end_ends A S S.settings.end_second i V lt in
+    let all : bare (day S) ≡ xs ++ ys = map-append unkeyed (events_from S W S.settings.end_second) (end_events S S.settings.end_second V) in
     let own_all : own i (bare (day S)) ≡ own i xs ++ own i ys = ap (own i) all ∙ filter-append (λ (e : Said). names i e.person) xs ys in
     let told : steps i (day S) ≡ told_steps (own i xs) ++ told_steps (own i ys) = sym (steps_are i (day S)) ∙ ap told_steps own_all ∙ steps_append (own i xs) (own i ys) in
     let count : length (filter (of_person i) (day S)) ≡ length (own i xs) + length (own i ys) = sym (count_is i (day S)) ∙ ap (λ (es : List Said). length es) own_all ∙ length-append (own i xs) (own i ys) in

@@ -13,20 +13,22 @@ use Rattle.events.specs.declared.event.Mode.TheVariants as mode
 use Rattle.events.specs.declared.event.More.TheVariants as more
 use Rattle.events.specs.declared.event.Word.TheVariants as word
 use Rattle.traffic.specs.declared.moves.Said.{Said}
-use Rattle.traffic.specs.declared.rows.Rider.{Rider}
-use Rattle.traffic.specs.declared.rows.Stage.{Stage}
-use Rattle.traffic.specs.declared.rows.Stage.TheVariants.{Queue, Buffer, Wait, Bay}
+use Rattle.traffic.specs.declared.riders.Rider.{Rider}
+use Rattle.traffic.specs.declared.stage.Stage.{Stage}
+use Rattle.traffic.specs.declared.stage.Stage.TheVariants.{Queue, Buffer, Wait, Bay}
 use Rattle.traffic.specs.declared.world.Person.{Person}
 use Rattle.traffic.specs.declared.world.Place.{Place}
 use Rattle.traffic.specs.declared.world.Place.TheVariants.{At, Flying, Waiting, Riding, Gone as Removed}
-use Rattle.traffic.specs.Setup.{Setup, Stay, Way, stay}
+use Rattle.rows.specs.declared.plan.Act.{Act}
+use Rattle.rows.specs.declared.plan.Leg.{Leg}
+use Rattle.traffic.specs.Setup.{Setup, act_at}
 use Rattle.traffic.specs.Telling.{of_person, of_rider, mode_in, leaves, strands, enters, of_driver, starts, arrives, told_to, told_put, told_gone}
 use Rattle.traffic.specs.Moves.{ends_at, told_of, person_after, person_after_all}
-use Rattle.traffic.specs.Persons.{mode_of_way, lands, departs}
+use Rattle.traffic.specs.Persons.{mode_of_leg, lands, departs}
 use Rattle.traffic.specs.declared.world.Row.{Row}
-use Rattle.one_place.proofs.Boarding.{after-append}
+use Rattle.traffic.proofs.Each.{each_append, each_kept}
+use Rattle.traffic.proofs.LeftBehind.{lane_of, after-append}
 use Rattle.one_place.proofs.Places.{among_riders, rides}
-use Rattle.one_place.proofs.Turns.{lane_of}
 use Rattle.person_days.specs.Trips.{act, leg, legs, IsPlanned, names, is_step, Step, Places, Departs, Arrives, IsStuck, InTurn}
 
 pub half_two : (e : ℕ) → (e + 2) / 2 ≡ e / 2 + 1
@@ -97,8 +99,8 @@ HasLeg n k (Some end) = k < n
 abbrev pub IsFitAt : Setup → ℕ → ℕ → Place → Type 0
 IsFitAt S i e (At end) = (e ≡ 2 * (e / 2)) × HasLeg (legs S i) (e / 2) end
 IsFitAt S i e (Flying start) = e ≡ 2 * (e / 2) + 1
-IsFitAt S i e (Waiting stop since) = (e ≡ 2 * (e / 2) + 1) × (mode_of_way (leg S i (e / 2)) ≡ mode.Pt)
-IsFitAt S i e (Riding v) = (e ≡ 2 * (e / 2) + 1) × (mode_in v ≡ mode_of_way (leg S i (e / 2)))
+IsFitAt S i e (Waiting stop since) = (e ≡ 2 * (e / 2) + 1) × (mode_of_leg (leg S i (e / 2)) ≡ mode.Pt)
+IsFitAt S i e (Riding v) = (e ≡ 2 * (e / 2) + 1) × (mode_in v ≡ mode_of_leg (leg S i (e / 2)))
 IsFitAt S i e (Removed l) = Unit {0}
 
 abbrev pub IsFit : Setup → ℕ → Person → Type 0
@@ -164,8 +166,8 @@ has_leg : (n k t : ℕ) (end : Option ℕ) → (n ≤ k → end ≡ None) → Ha
 has_leg n k t None h = tt
 has_leg n k t (Some x) h = elim (cases_lt k n) [ inl lt ↦ lt | inr ge ↦ let q = h ge in absurd (cc) ]
 
-fit_start : (S : Setup) (t i e : ℕ) → IsPlanned S i → e ≡ 2 * (e / 2) + 1 → IsFitAt S i (e + 1) (At (ends_at (stay S i (e + 1)).end t))
-fit_start S t i e p odd = (omega arith, has_leg (legs S i) ((e + 1) / 2) t (stay S i (e + 1)).end (p.last ((e + 1) / 2)))
+fit_start : (S : Setup) (t i e : ℕ) → IsPlanned S i → e ≡ 2 * (e / 2) + 1 → IsFitAt S i (e + 1) (At (ends_at (act_at S i (e + 1)).end t))
+fit_start S t i e p odd = (omega arith, has_leg (legs S i) ((e + 1) / 2) t (act_at S i (e + 1)).end (p.last ((e + 1) / 2)))
 
 -- a leg arrives, and the next activity starts
 starts_next : (A : Places) (S : Setup) (i k j : ℕ) (c d : Step) (es : List Step) → j ≡ k + 1 → Arrives A S i k c d → InTurn A S i j es → UnderWay A S i k (c ∷ d ∷ es)
@@ -202,7 +204,7 @@ enters_does A S t i e a v r (Waiting stop since) f h m q = rw (own_all i (enters
 enters_does A S t i e a v r _ f h m q = absurd h
 
 -- HIS OWN TURN
-pub lands_does : (A : Places) (S : Setup) (t i e a seconds : ℕ) (start : ℕ) (m : Mode) (next : Stay) → IsPlan A S i → IsFitAt S i e (Flying start) → m ≡ mode_of_way (leg S i (e / 2)) → next ≡ act S i (e / 2 + 1) →
+pub lands_does : (A : Places) (S : Setup) (t i e a seconds : ℕ) (start : ℕ) (m : Mode) (next : Act) → IsPlan A S i → IsFitAt S i e (Flying start) → m ≡ mode_of_leg (leg S i (e / 2)) → next ≡ act S i (e / 2 + 1) →
     Does A S t i (record { element = e; place = Flying start }) (own i (lands i m seconds next)) a a
 unfolding person_after
 lands_does A S t i e a seconds start m next p odd w k =
@@ -210,12 +212,12 @@ lands_does A S t i e a seconds start m next p odd w k =
     let here : A (e / 2 + 1) (Some next.link) = rw k (p.at_own (e / 2 + 1)) in
     let half : (e + 1) / 2 ≡ e / 2 + 1 = omega arith in
     rw (own_all i (lands i m seconds next) (q, (q, (q, tt)))) (simp q (record {
-      leads = λ es h. starts_next A S i (e / 2) ((e + 1) / 2) (word.Arrival, Some next.link, more.Mode m) (word.ActStart, Some next.link, more.Kind next.kind) es half ((refl, here, ap (λ x. more.Mode x) w), (refl, here, ap (λ (x : Stay). more.Kind x.kind) k)) h;
+      leads = λ es h. starts_next A S i (e / 2) ((e + 1) / 2) (word.Arrival, Some next.link, more.Mode m) (word.ActStart, Some next.link, more.Kind next.kind) es half ((refl, here, ap (λ x. more.Mode x) w), (refl, here, ap (λ (x : Act). more.Kind x.kind) k)) h;
       cost = omega arith;
       fit = fit_start S t i e p.planned odd;
     }))
 
-pub departs_does : (A : Places) (S : Setup) (t i e a end : ℕ) (here : Stay) (w : Way) → IsPlan A S i → IsFitAt S i e (At (Some end)) → here ≡ act S i (e / 2) → mode_of_way w ≡ mode_of_way (leg S i (e / 2)) →
+pub departs_does : (A : Places) (S : Setup) (t i e a end : ℕ) (here : Act) (w : Leg) → IsPlan A S i → IsFitAt S i e (At (Some end)) → here ≡ act S i (e / 2) → mode_of_leg w ≡ mode_of_leg (leg S i (e / 2)) →
     Does A S t i (record { element = e; place = At (Some end) }) (own i (departs i here w)) a a
 unfolding person_after
 departs_does A S t i e a end here w p f k m =
@@ -225,12 +227,12 @@ departs_does A S t i e a end here w p f k m =
     let lt : e / 2 < legs S i = f.1 in
     let half : (e + 1) / 2 ≡ e / 2 = omega arith in
     rw (own_all i (departs i here w) (q, (q, tt))) (simp q (record {
-      leads = λ es h. sets_out A S i (e / 2) _ _ es (lt, (refl, place, ap (λ (x : Stay). more.Kind x.kind) k), (refl, place, ap (λ x. more.Mode x) m)) (subst (λ (x : ℕ). UnderWay A S i x es) half h);
+      leads = λ es h. sets_out A S i (e / 2) _ _ es (lt, (refl, place, ap (λ (x : Act). more.Kind x.kind) k), (refl, place, ap (λ x. more.Mode x) m)) (subst (λ (x : ℕ). UnderWay A S i x es) half h);
       cost = omega arith;
       fit = omega arith;
     }))
 
-pub waits_does : (A : Places) (S : Setup) (t i e a l stop start : ℕ) → IsFitAt S i e (Flying start) → mode_of_way (leg S i (e / 2)) ≡ mode.Pt →
+pub waits_does : (A : Places) (S : Setup) (t i e a l stop start : ℕ) → IsFitAt S i e (Flying start) → mode_of_leg (leg S i (e / 2)) ≡ mode.Pt →
     Does A S t i (record { element = e; place = Flying start }) (own i (of_person word.WaitingForPt i l (more.Stop stop) ∷ [])) a a
 unfolding person_after
 waits_does A S t i e a l stop start odd m = let q = eq-eqb i i refl in rw (own_all i (of_person word.WaitingForPt i l (more.Stop stop) ∷ []) (q, tt)) (simp q (record { leads = λ es h. h; cost = omega arith; fit = (odd, m) }))
@@ -241,7 +243,7 @@ abbrev pub car_worth : ℕ → VehicleId → Bool → ℕ
 car_worth i (Car j) started = if j == i then (if started then 1 else 2) else 0
 car_worth i (Transit d) started = 0
 
-pub enters_car : (A : Places) (S : Setup) (t i e start : ℕ) → IsFitAt S i e (Flying start) → mode.Car ≡ mode_of_way (leg S i (e / 2)) →
+pub enters_car : (A : Places) (S : Setup) (t i e start : ℕ) → IsFitAt S i e (Flying start) → mode.Car ≡ mode_of_leg (leg S i (e / 2)) →
     Does A S t i (record { element = e; place = Flying start }) (own i (of_rider word.PersonEntersVehicle i (Car i) ∷ [])) 0 (car_worth i (Car i) false)
 unfolding person_after
 enters_car A S t i e start odd m = let q = eq-eqb i i refl in rw (own_all i (of_rider word.PersonEntersVehicle i (Car i) ∷ []) (q, tt)) (simp q (record { leads = λ es h. h; cost = omega arith; fit = (odd, m) }))
@@ -335,10 +337,6 @@ enters_element S t i v (r ∷ rs) P = elim (cases_Bool (eqb r.person i)) [ inl q
 pub change_element : (S : Setup) (t i : ℕ) (P : Person) (l : ℕ) (v : VehicleId) (outs ins : List Rider) → among_riders i outs ≡ 0 → (person_after_all S t i (flat_map (leaves v l) outs ++ flat_map (enters v) ins) P).element ≡ P.element
 change_element S t i P l v outs ins q =
     rw (after-append S t i (flat_map (leaves v l) outs) (flat_map (enters v) ins) P, after_own S t i (flat_map (leaves v l) outs) P, none_leaves S t i P l v outs q) (enters_element S t i v ins P)
-
-pub nobody_changes : (i l : ℕ) (v : VehicleId) (outs ins : List Rider) → among_riders i outs ≡ 0 → among_riders i ins ≡ 0 → own i (flat_map (leaves v l) outs ++ flat_map (enters v) ins) ≡ []
-nobody_changes i l v outs ins h g =
-    rw (filter-append (λ (e : Said). names i e.person) (flat_map (leaves v l) outs) (flat_map (enters v) ins), none_told i (leaves v l) (leaves_other i l v) outs h) (none_told i (enters v) (enters_other i v) ins g)
 
 pub nobody_stuck : (i l : ℕ) (v : VehicleId) (rs : List Rider) → among_riders i rs ≡ 0 → own i (flat_map (strands v l) rs) ≡ []
 nobody_stuck i l v rs h = none_told i (strands v l) (strands_other i l v) rs h
@@ -443,10 +441,6 @@ wrong_few i K rs = sum_by-le-sum_by (λ (r : Rider). if is_wrong i K r then 1 el
 abbrev pub IsCalm : Said → Type 0
 IsCalm e = e.word ≢ word.StuckAndAbort
 
-calm_append : (xs ys : List Said) → Each IsCalm xs → Each IsCalm ys → Each IsCalm (xs ++ ys)
-calm_append [] ys h g = g
-calm_append (x ∷ xs) ys h g = (h.0, calm_append xs ys h.1 g)
-
 calm_leaves : (v : VehicleId) (l : ℕ) (rs : List Rider) → Each IsCalm (flat_map (leaves v l) rs)
 calm_leaves v l [] = tt
 calm_leaves v l (r ∷ rs) = ((λ q. cc), ((λ q. cc), ((λ q. cc), calm_leaves v l rs)))
@@ -460,22 +454,18 @@ calm_starts true v l = tt
 calm_starts false v l = ((λ q. cc), tt)
 
 calm_to : (s : Stage) (was now : Row) → Each IsCalm (told_to s was now)
-calm_to Bay was now = ((λ q. cc), calm_append (flat_map (leaves was.vehicle.id was.link) _) (flat_map (enters was.vehicle.id) _) (calm_leaves was.vehicle.id was.link _) (calm_enters was.vehicle.id _))
+calm_to Bay was now = ((λ q. cc), each_append IsCalm (flat_map (leaves was.vehicle.id was.link) _) (flat_map (enters was.vehicle.id) _) (calm_leaves was.vehicle.id was.link _) (calm_enters was.vehicle.id _))
 calm_to _ was now = tt
 
 pub calm_put : (s : Stage) (was now : Row) → Each IsCalm (told_put s was now)
 calm_put Queue was now = calm_to now.stage was now
 calm_put Buffer was now = ((λ q. cc), ((λ q. cc), tt))
-calm_put Wait was now = calm_append (starts was) (told_to now.stage was now) (calm_starts was.vehicle.started was.vehicle.id was.link) (calm_to now.stage was now)
+calm_put Wait was now = each_append IsCalm (starts was) (told_to now.stage was now) (calm_starts was.vehicle.started was.vehicle.id was.link) (calm_to now.stage was now)
 calm_put Bay was now = ((λ q. cc), tt)
 
 pub calm_gone : (s : Bool) (r : Row) → Each IsCalm (told_gone (lane_of s) r)
-calm_gone true r = calm_append (starts r) (arrives r) (calm_starts r.vehicle.started r.vehicle.id r.link) ((λ q. cc), calm_leaves r.vehicle.id r.link r.vehicle.riders)
+calm_gone true r = each_append IsCalm (starts r) (arrives r) (calm_starts r.vehicle.started r.vehicle.id r.link) ((λ q. cc), calm_leaves r.vehicle.id r.link r.vehicle.riders)
 calm_gone false r = ((λ q. cc), calm_leaves r.vehicle.id r.link r.vehicle.riders)
-
-calm_own : (i : ℕ) (es : List Said) → Each IsCalm es → Each IsCalm (own i es)
-calm_own i [] h = tt
-calm_own i (e ∷ es) h = elim (cases_Bool (names i e.person)) [ inl q ↦ simp q (h.0, calm_own i es h.1) | inr q ↦ simp q (calm_own i es h.1) ]
 
 -- after an event by which he is stuck nothing follows
 abbrev pub IsLast : List Said → Type 0
@@ -500,7 +490,7 @@ abbrev pub Stops : ℕ → List Said → ℕ → Type 0
 Stops i es n = Each IsCalm es ⊎ ((length (own i es) ≤ 1) × (1 ≤ length (own i es) → n ≡ 0))
 
 pub stops_last : (i n : ℕ) (es ys : List Said) → Stops i es n → length ys ≤ n → IsLast ys → IsLast (own i es ++ ys)
-stops_last i n es ys (inl h) le g = calm_last (own i es) ys (calm_own i es h) g
+stops_last i n es ys (inl h) le g = calm_last (own i es) ys (each_kept IsCalm (λ (e : Said). names i e.person) es h) g
 stops_last i n es ys (inr h) le g = one_last (own i es) ys h.0 (λ k. let z = h.1 k in omega arith) g
 
 -- those who are removed with a vehicle

@@ -54,9 +54,9 @@ stranded_until : (S : Setup) (t : ℕ) (W : World) (ns : List ℕ) → Until t (
 stranded_until S t W [] = tt
 stranded_until S t W (i ∷ ns) = append t (keyed t (phase_code phase.E) i 0 (stranded S W i)) _ (keyed_until t (phase_code phase.E) i 0 (stranded S W i)) (stranded_until S t W ns)
 
-pub day_until : (S : Setup) → All (λ (e : Event). e.key.second ≤ S.end) (day S)
+pub day_until : (S : Setup) → All (λ (e : Event). e.key.second ≤ S.settings.end_second) (day S)
 unfolding day end_events
 day_until S =
-    let V = world_at S S.end in
-    All-from_recursion (λ (e : Event). e.key.second ≤ S.end) (day S)
-    (append S.end (events_from S (world_start S) S.end) _ (from_until S (world_start S) S.end) (stranded_until S S.end V (below (length S.persons))))
+    let V = world_at S S.settings.end_second in
+    All-from_recursion (λ (e : Event). e.key.second ≤ S.settings.end_second) (day S)
+    (append S.settings.end_second (events_from S (world_start S) S.settings.end_second) _ (from_until S (world_start S) S.settings.end_second) (stranded_until S S.settings.end_second V (below (length S.persons))))

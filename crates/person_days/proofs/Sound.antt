@@ -4,15 +4,14 @@ use Rattle.std.specs.Prelude.{◌%◌, ◌==◌, Option, None, Some}
 use Rattle.std.specs.List.{AllByRecursion as Each}
 use Rattle.std.proofs.lemmas.Bool.{cases_lt, eq-eqb}
 use Rattle.std.proofs.lemmas.List.{get_or_past}
-use Rattle.traffic.specs.declared.moves.Move.{Move}
 use Rattle.traffic.specs.declared.world.Row.{Row}
 use Rattle.traffic.specs.Rows.{World, at, person_of}
-use Rattle.traffic.specs.Setup.{Setup, Stay, itinerary, stay}
+use Rattle.rows.specs.declared.plan.Act.{Act}
+use Rattle.traffic.specs.Setup.{Setup, person_plan, act_at}
 use Rattle.traffic.specs.Stops.{next_call, alighting, staying}
-use Rattle.traffic.specs.Moves.{done}
 use Rattle.traffic.specs.Day.{link_plan}
 use Rattle.traffic.specs.Worlds.{HasEnd}
-use Rattle.traffic.proofs.Moments.{Along}
+use Rattle.traffic.proofs.Moments.{along_weaker}
 use Rattle.one_place.proofs.Places.{among_riders, rides}
 use Rattle.one_place.proofs.Boarding.{riders_are}
 use Rattle.sound_setups.specs.Setups.{IsSoundSetup}
@@ -38,21 +37,17 @@ pub sound_planned : (S : Setup) (i : ℕ) → IsSoundSetup S → i < length S.pe
 sound_planned S i f lt =
     let p = plan_sound S i f lt in
     let more = p.one_more in
-    let n = length (itinerary S i).stays in
+    let n = length (person_plan S i).acts in
     record {
       last = λ k le. elim (cases_lt k n) [
         | inl few ↦ let e : (k + 1 == n) ≡ true = eq-eqb (k + 1) n (omega arith) in ends_not (act S i k).end (subst (λ b. HasEnd b (act S i k).end) e (p.ends k few))
-        | inr ge ↦ ap (λ (s : Stay). s.end) (get_or_past (itinerary S i).stays k _ ge)
+        | inr ge ↦ ap (λ (s : Act). s.end) (get_or_past (person_plan S i).acts k _ ge)
       ];
     }
 
 -- ALIGHTING
-along_weaker : (Q R : World → Move → Type 0) → ((W : World) (m : Move) → Q W m → R W m) → (S : Setup) (t : ℕ) (ms : List Move) (W : World) → Along Q S t ms W → Along R S t ms W
-along_weaker Q R f S t [] W h = tt
-along_weaker Q R f S t (m ∷ ms) W h = (f W m h.0, along_weaker Q R f S t ms (done S t m W) h.1)
-
 -- the link of the activity after a leg
-next_link : (S : Setup) (i e l : ℕ) → e % 2 ≡ 1 → (stay S i (e + 1)).link ≡ l → Some l ≡ Some (act S i (e / 2 + 1)).link
+next_link : (S : Setup) (i e l : ℕ) → e % 2 ≡ 1 → (act_at S i (e + 1)).link ≡ l → Some l ≡ Some (act S i (e / 2 + 1)).link
 next_link S i e l odd h = let half : (e + 1) / 2 ≡ e / 2 + 1 = omega arith in ap Some (sym h ∙ ap (λ (k : ℕ). (act S i k).link) half)
 
 rows_at : (S : Setup) (i l e : ℕ) (rows : List Row) → AlightAll S l i e rows → Each (λ (r : Row). 1 ≤ rides i r.vehicle → e % 2 ≡ 1) rows → Each (λ (r : Row). AlightsAt (at_activities S i) i l e r.vehicle) rows

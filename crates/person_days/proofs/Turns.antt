@@ -1,51 +1,56 @@
 -- Each move of a turn does its part to one person, in the world that the moves before it left.
-use Rattle.std.proofs.Common.{◌≡◌, ℕ, ◌+◌, ◌/◌, ◌<◌, ◌≤◌, Bool, true, false, List, [], ◌∷◌, ◌++◌, length, refl, ap, sym, ◌∙◌, subst, arith, inl, inr, zero, suc, ◌-◌, eqb, append-nil, append_assoc, ◌*◌, get_or}
-use Rattle.std.specs.Prelude.{All, filter, slice_get, nat_lt, ◌⊎◌, if◌then◌else◌, Some, map, not, nat_le, ◌==◌, Option, None}
-use Rattle.std.specs.List.{flat_map, list_any, AllByRecursion as Each}
-use Rattle.std.proofs.lemmas.Bool.{cases_Bool, and_parts, ltb-true, cases_lt, eq-eqb, eqb-true}
+use Rattle.std.proofs.Common.{◌≡◌, ℕ, ◌+◌, ◌/◌, ◌<◌, ◌≤◌, Bool, true, false, List, [], ◌∷◌, ◌++◌, length, refl, ap, sym, ◌∙◌, subst, arith, inl, inr, ◌-◌, eqb, append_assoc, ◌*◌}
+use Rattle.std.specs.Prelude.{All, slice_get, nat_lt, ◌⊎◌, if◌then◌else◌, Some, map, not, ◌==◌, None}
+use Rattle.std.specs.List.{flat_map, AllByRecursion as Each}
+use Rattle.std.proofs.lemmas.Bool.{cases_Bool, and_parts, ltb-true, cases_lt, eqb-true}
 use Rattle.std.proofs.lemmas.List.{length-append}
 use Rattle.std.proofs.lemmas.List.Sums.{sum_by-cons, sum_by-le-sum_by}
-use Rattle.std.proofs.lemmas.List.Elements.{filter-append, All-nil, All-cons, All-head, All-tail, All-append, All-take, All-map, All-filter}
+use Rattle.std.proofs.lemmas.List.Elements.{filter-append, All-from_recursion, All-nil, All-cons, All-append, All-map, All-filter}
 use Rattle.events.specs.declared.lists.StopCall.{StopCall}
 use Rattle.events.specs.declared.event.VehicleId.{VehicleId}
+use Rattle.events.specs.declared.event.Mode.{Mode}
 use Rattle.events.specs.declared.event.Mode.TheVariants as mode
 use Rattle.events.specs.declared.event.More.TheVariants as more
 use Rattle.events.specs.declared.event.VehicleId.TheVariants as vehicle
 use Rattle.events.specs.declared.event.Word.TheVariants as word
-use Rattle.fixed_flow.specs.declared.TheConstants.{VEHICLE_COST}
 use Rattle.traffic.specs.declared.moves.Said.{Said}
 use Rattle.traffic.specs.declared.moves.Move.{Move}
-use Rattle.traffic.specs.declared.rows.Stage.{Stage}
+use Rattle.traffic.specs.declared.stage.Stage.{Stage}
 use Rattle.traffic.specs.declared.world.Row.{Row}
 use Rattle.traffic.specs.declared.world.Place.{Place}
 use Rattle.traffic.specs.declared.world.Place.TheVariants.{Riding, Waiting, At, Flying, Gone as Removed}
-use Rattle.traffic.specs.Lists.{without, numbers, is_nil, without_at}
+use Rattle.traffic.specs.Lists.{without, numbers}
 use Rattle.traffic.specs.Vehicles.{VehicleState}
 use Rattle.traffic.specs.Rows.{World, on, person_of, at}
-use Rattle.traffic.specs.Setup.{Setup, Stay, Way, Transit, way, next_stay, link_of_stop, road, into, Drive, Teleport, stay, departure}
-use Rattle.traffic.specs.Stops.{calls_on, next_call, alights, alighting, staying, may_board, comes_first, among, in_turn, boarding, is_person, left_behind, rider, riders_after, served_vehicle, served_row}
+use Rattle.rows.specs.declared.plan.Act.{Act}
+use Rattle.rows.specs.declared.plan.Leg.{Leg}
+use Rattle.rows.specs.declared.plan.Leg.TheVariants.{Car, Teleport, Transit}
+use Rattle.traffic.specs.Setup.{Setup, leg_at, act_after, link_of_stop, act_at, departure}
+use Rattle.traffic.specs.Stops.{calls_on, next_call, alights, alighting, staying, boarding, is_person, rider, riders_after, served_vehicle, served_row}
 use Rattle.traffic.specs.Telling.{mode_in, serves, arrives, aborts, of_person, of_rider}
-use Rattle.traffic.specs.Moves.{told, done, run, rows_after, person_after_all, at_after, at_second, person_after}
-use Rattle.traffic.specs.Persons.{same_vehicle, waits_on, waiter, waiters, mode_of_way, lands, landing, landing_moves, sets_out, departs, leaving, leaving_moves, departure_moves, transit_vehicle}
+use Rattle.traffic.specs.Moves.{told, done, run, rows_after, person_after_all, person_after}
+use Rattle.traffic.specs.Persons.{same_vehicle, waits, waits_on, waiter, waiters, mode_of_leg, lands, sets_out, departs, transit_vehicle}
 use Rattle.traffic.specs.Worlds.{IsListed, listed_in, listed, rows_of}
-use Rattle.traffic.proofs.Sublists.{person-done, at-done, persons-length}
-use Rattle.traffic.proofs.Moments.{Along, along_append, along_rest, along_if, along_then, along_else}
-use Rattle.traffic.specs.declared.numbers.Rules.{Rules}
-use Rattle.traffic.specs.declared.rows.Stage.TheVariants.{Bay, Buffer}
+use Rattle.traffic.proofs.Each.{each_if, each_flat, each_number, each_boarding}
+use Rattle.traffic.proofs.Sublists.{at_such, person-done, persons-length}
+use Rattle.traffic.proofs.Waiting.{boarded-are}
+use Rattle.traffic.proofs.LeftBehind.{lane_of}
+use Rattle.traffic.proofs.NodeWalk.{NodeCases, node_walk}
+use Rattle.traffic.proofs.LinkWalk.{LinkCases, link_walk}
+use Rattle.traffic.proofs.Walks.{flight_walk, leave_walk, departure_walk}
+use Rattle.traffic.proofs.Moments.{Along, along_both, along_given, held_along}
+use Rattle.traffic.specs.declared.stage.Stage.TheVariants.{Bay, Buffer}
 use Rattle.traffic.specs.declared.moves.Move.TheVariants.{Put, Gone, Credit, Free, Mark, Tell, New}
 use Rattle.traffic.specs.declared.world.Person.{Person}
 use Rattle.traffic.specs.declared.world.Waiter.{Waiter}
-use Rattle.traffic.specs.Links.{lane, rules, waiting, leave_bay, is_last, buffered, may_pass, from_wait, from_queue, wait_after, link_moves}
+use Rattle.traffic.specs.Links.{waiting, is_last, buffered}
 use Rattle.traffic.specs.Day.{link_plan, node_plan, flight_plan, leave_plan, departure_plan}
-use Rattle.traffic.specs.declared.numbers.Stuck.{Stuck}
-use Rattle.traffic.specs.declared.sight.Entry.{Entry}
-use Rattle.traffic.specs.declared.sight.Exit.{Exit}
-use Rattle.traffic.specs.Nodes.{sight, next_link, entered, one_more, is_stuck, may_enter, hand, since_of, hand_all, exits_after, drawn, no_entry, draw, ready, red, candidates, mark, node_moves}
-use Rattle.one_place.proofs.Places.{vehicles, after_move, listed_once, weight, weight-without, weighed, IsTaken, took, brought, rides, rides_in, counted, listed-rows_of, listed_part, InOne, among_riders, rides_few, vehicle_of, move_keeps, Stays}
-use Rattle.one_place.proofs.Boarding.{in_line, left_few, left_none, board_few, as_riders, boarded-are, riders_are, served_are, waits_few, line_one, waiters_in_line, aborts_out}
-use Rattle.one_place.proofs.Turns.{lane_of, Midst, stop_next, end_next, pass_next, told_front, told_end, row_after, without_after, bay_keeps, front_gone, Held, held_filter, held_numbers, picked_held, picked_keeps, marks_keep}
+use Rattle.traffic.specs.Nodes.{entered}
+use Rattle.one_place.proofs.Places.{vehicles, stands, after_move, listed_once, weight, weight-without, weighed, IsTaken, took, brought, rides, rides_in, counted, listed-rows_of, listed_part, InOne, among_riders, rides_few}
+use Rattle.one_place.proofs.Boarding.{IsInLine, in_line, board_few, as_riders, riders_are, served_are, waits_few, line_one, waiters_in_line}
+use Rattle.one_place.proofs.Turns.{place_of, told_front, told_end, nodes_keep, links_keep}
 use Rattle.person_days.specs.Trips.{Places, act, names, leg, legs}
-use Rattle.person_days.proofs.Events.{IsPlan, IsCalm, worth, worth_at, IsLast, Stops, stops_last, calm_put, calm_gone, stuck_count, stuck_place, own, told_steps, steps_append, IsFit, Goes, Does, goes_append, after_own, car_worth, half_two, does_nil, goes_less, IsFitAt, lands_does, departs_does, waits_does, enters_car, IsIn, kind_next, AreRight, wrong, wrong_few, all_right, count_yes, count_no, IsWaiting, IsRight, none_wrong, change_element, riders_change, nobody_changes, arrives_does, nobody_arrives, front, front_does, put_front, gone_front, riders_stuck, nobody_stuck}
+use Rattle.person_days.proofs.Events.{IsPlan, IsCalm, worth, worth_at, IsLast, Stops, stops_last, calm_put, calm_gone, stuck_count, stuck_place, own, told_steps, steps_append, IsFit, Goes, Does, goes_append, after_own, car_worth, half_two, does_nil, goes_less, IsFitAt, lands_does, departs_does, waits_does, enters_car, IsIn, kind_next, AreRight, wrong, wrong_few, all_right, count_yes, count_no, IsWaiting, IsRight, none_wrong, change_element, riders_change, arrives_does, nobody_arrives, front_does, put_front, gone_front, riders_stuck, nobody_stuck}
 
 -- what the cars of person i are worth, and how many calls cars have
 abbrev pub cars : ℕ → VehicleState → ℕ
@@ -254,78 +259,52 @@ abbrev IsDue : ℕ → ℕ → Waiter → Type 0
 IsDue i K w = eqb w.person i ≡ true → w.kind ≡ K
 
 abbrev Lined : Setup → ℕ → List Waiter → Person → Type 0
-Lined S i ws P = 1 ≤ in_line i ws → IsWaiting P.place × All (IsDue i (kind_next S i P)) ws
-
-abbrev Mid : Setup → ℕ → ℕ → List Waiter → Bool → List Row → List Row → World → Type 0
-Mid S i l ws s xs ys W = Midst i l ws s xs ys W × Lined S i ws (person_of i W)
-
-all_among : (P : Waiter → Type 0) (w : Waiter) (ws : List Waiter) → P w → All P ws → All P (among w ws)
-unfolding among
-all_among P w [] g h = All-cons P w [] g (All-nil P)
-all_among P w (x ∷ xs) g h = elim (cases_Bool (comes_first w x)) [ inl q ↦ simp q (All-cons P w (x ∷ xs) g h) | inr q ↦ simp q (All-cons P x (among w xs) (All-head P x xs h) (all_among P w xs g (All-tail P x xs h))) ]
-
-all_turn : (P : Waiter → Type 0) (ws : List Waiter) → All P ws → All P (in_turn ws)
-unfolding in_turn
-all_turn P [] h = h
-all_turn P (w ∷ ws) h = all_among P w (in_turn ws) (All-head P w ws h) (all_turn P ws (All-tail P w ws h))
+Lined S i ws P = 1 ≤ in_line i ws → IsWaiting P.place × Each (IsDue i (kind_next S i P)) ws
 
 -- those who board, as riders
-board_right : (i K : ℕ) (v : VehicleState) (ws : List Waiter) → All (IsDue i K) ws → All (IsRight i K) (map rider (boarding v ws))
-unfolding boarding
-board_right i K v ws h = All-map (IsRight i K) rider _ (All-take (IsDue i K) _ _ (all_turn (IsDue i K) _ (All-filter (may_board v) (IsDue i K) ws h)))
+board_right : (i K : ℕ) (v : VehicleState) (ws : List Waiter) → Each (IsDue i K) ws → All (IsRight i K) (map rider (boarding v ws))
+board_right i K v ws h = All-map (IsRight i K) rider _ (All-from_recursion (IsDue i K) _ (each_boarding (IsDue i K) (IsDue i K) v (λ w q g. g) ws h))
 
-none_due : (i K : ℕ) (ws : List Waiter) → in_line i ws ≡ 0 → All (IsDue i K) ws
-none_due i K [] h = All-nil (IsDue i K)
+none_due : (i K : ℕ) (ws : List Waiter) → in_line i ws ≡ 0 → Each (IsDue i K) ws
+none_due i K [] h = tt
 none_due i K (w ∷ ws) h =
     elim (cases_Bool (eqb w.person i)) [
       | inl q ↦ let d = count_yes (is_person i) w ws q in absurd (omega arith)
-      | inr q ↦ let d = count_no (is_person i) w ws q in All-cons (IsDue i K) w ws (λ e. absurd (cc)) (none_due i K ws (omega arith))
+      | inr q ↦ let d = count_no (is_person i) w ws q in ((λ e. absurd (cc)), none_due i K ws (omega arith))
     ]
 
-left_due : (i K : ℕ) (v : VehicleState) (ws : List Waiter) → All (IsDue i K) ws → All (IsDue i K) (left_behind v ws)
-unfolding left_behind
-left_due i K v ws h = All-filter (λ w. not (list_any (is_person w.person) (boarding v ws))) (IsDue i K) ws h
-
-waits_here : (S : Setup) (l j i : ℕ) (w : Way) (next : Stay) (pl : Place) → 1 ≤ in_line i (waits_on S l j w next pl) → IsWaiting pl
+waits_here : (S : Setup) (l j i : ℕ) (w : Leg) (next : Act) (pl : Place) → 1 ≤ in_line i (waits_on S l j w next pl) → IsWaiting pl
 waits_here S l j i w next (Waiting stop since) h = tt
 waits_here S l j i w next _ h = absurd (omega arith)
 
-waiter_due : (S : Setup) (l j i K : ℕ) (w : Way) (next : Stay) (pl : Place) → (eqb j i ≡ true → next.kind ≡ K) → All (IsDue i K) (waits_on S l j w next pl)
-waiter_due S l j i K (Transit line access egress) next (Waiting stop since) h = elim (cases_Bool (eqb (link_of_stop S stop) l)) [ inl q ↦ simp q (All-cons (IsDue i K) _ [] h (All-nil (IsDue i K))) | inr q ↦ simp q (All-nil (IsDue i K)) ]
-waiter_due S l j i K w next (Waiting stop since) h = elim (cases_Bool (eqb (link_of_stop S stop) l)) [ inl q ↦ simp q (All-nil (IsDue i K)) | inr q ↦ simp q (All-nil (IsDue i K)) ]
-waiter_due S l j i K w next _ h = All-nil (IsDue i K)
+one_due : (i j K : ℕ) (w : Leg) (next : Act) (stop since : ℕ) → (eqb j i ≡ true → next.kind ≡ K) → Each (IsDue i K) (waits j w next stop since)
+one_due i j K (Transit line access egress) next stop since h = (h, tt)
+one_due i j K _ next stop since h = tt
 
-all_flat : (P : Waiter → Type 0) (f : ℕ → List Waiter) → ((j : ℕ) → All P (f j)) → (ns : List ℕ) → All P (flat_map f ns)
-all_flat P f h [] = All-nil P
-all_flat P f h (n ∷ ns) = All-append P (f n) (flat_map f ns) (h n) (all_flat P f h ns)
+waiter_due : (S : Setup) (l j i K : ℕ) (w : Leg) (next : Act) (pl : Place) → (eqb j i ≡ true → next.kind ≡ K) → Each (IsDue i K) (waits_on S l j w next pl)
+waiter_due S l j i K w next (Waiting stop since) h = each_if (IsDue i K) (eqb (link_of_stop S stop) l) _ _ (one_due i j K w next stop since h) tt
+waiter_due S l j i K w next _ h = tt
 
-next_act : (S : Setup) (i j : ℕ) (W : World) → j ≡ i → next_stay S j (person_of j W).element ≡ act S i ((person_of i W).element / 2 + 1)
-next_act S i j W e = ap (λ (k : ℕ). next_stay S k (person_of k W).element) e ∙ ap (act S i) (half_two (person_of i W).element)
+next_act : (S : Setup) (i j : ℕ) (W : World) → j ≡ i → act_after S j (person_of j W).element ≡ act S i ((person_of i W).element / 2 + 1)
+next_act S i j W e = ap (λ (k : ℕ). act_after S k (person_of k W).element) e ∙ ap (act S i) (half_two (person_of i W).element)
 
-next_kind : (S : Setup) (i j : ℕ) (W : World) → j ≡ i → (next_stay S j (person_of j W).element).kind ≡ kind_next S i (person_of i W)
-next_kind S i j W e = ap (λ (s : Stay). s.kind) (next_act S i j W e)
+next_kind : (S : Setup) (i j : ℕ) (W : World) → j ≡ i → (act_after S j (person_of j W).element).kind ≡ kind_next S i (person_of i W)
+next_kind S i j W e = ap (λ (s : Act). s.kind) (next_act S i j W e)
 
-waiters_due : (S : Setup) (l i : ℕ) (W : World) → All (IsDue i (kind_next S i (person_of i W))) (waiters S l W)
+waiters_due : (S : Setup) (l i : ℕ) (W : World) → Each (IsDue i (kind_next S i (person_of i W))) (waiters S l W)
 unfolding waiters
 waiters_due S l i W =
-    let K = kind_next S i (person_of i W) in
-    all_flat (IsDue i K) (λ (j : ℕ). waiter S l j (person_of j W)) (λ j. let P = person_of j W in
-    waiter_due S l j i K (way S j P.element) (next_stay S j P.element) P.place
-    (λ q. next_kind S i j W (eqb-true j i q)))
-    (numbers 0 (length W.persons))
+    let n = length W.persons in
+    each_flat (λ j. j < n) (IsDue i (kind_next S i (person_of i W))) (λ (j : ℕ). waiter S l j (person_of j W))
+    (λ j lt. let P = person_of j W in waiter_due S l j i _ (leg_at S j P.element) (act_after S j P.element) P.place (λ q. next_kind S i j W (eqb-true j i q))) (numbers 0 n) (each_number n 0 n (omega arith))
 
 waiters_lined : (S : Setup) (l i : ℕ) (W : World) → Lined S i (waiters S l W) (person_of i W)
 unfolding waiters
 waiters_lined S l i W =
     let f = λ (j : ℕ). waiter S l j (person_of j W) in
-    let few : (j : ℕ) → in_line i (f j) ≤ (if j == i then 1 else 0) = λ j. waits_few S l j i (way S j (person_of j W).element) (next_stay S j (person_of j W).element) (person_of j W).place in
+    let few : (j : ℕ) → in_line i (f j) ≤ (if j == i then 1 else 0) = λ j. waits_few S l j i (leg_at S j (person_of j W).element) (act_after S j (person_of j W).element) (person_of j W).place in
     let a = line_one f i few 0 (length W.persons) in
-    let P = person_of i W in λ h. (waits_here S l i i (way S i P.element) (next_stay S i P.element) P.place (omega arith), waiters_due S l i W)
-
--- he stays among them while nothing changes him
-line_moved : (S : Setup) (t i : ℕ) (ws left : List Waiter) (m : Move) (W : World) → i < length W.persons → in_line i left ≤ in_line i ws → ((K : ℕ) → All (IsDue i K) ws → All (IsDue i K) left) →
-    (1 ≤ in_line i left → after_move S t i m W ≡ person_of i W) → Lined S i ws (person_of i W) → Lined S i left (person_of i (done S t m W))
-line_moved S t i ws left m W lt few due same h = λ g. let y = h (omega arith) in rw (person-done S t i m W lt, same g) (y.0, due (kind_next S i (person_of i W)) y.1)
+    let P = person_of i W in λ h. (waits_here S l i i (leg_at S i P.element) (act_after S i P.element) P.place (omega arith), waiters_due S l i W)
 
 -- WHO ALIGHTS
 -- where person i, whose leg is this element of his plan, alights from this vehicle on link l, his next activity may name that link
@@ -338,84 +317,61 @@ AlightsAt A i l element v =
 abbrev pub MayAlight : Places → ℕ → World → Type 0
 MayAlight A i W = (l : ℕ) (s : Stage) → Each (λ (r : Row). AlightsAt A i l (person_of i W).element r.vehicle) (at l s W)
 
--- what a filter gives passes it
-passes : (p : Row → Bool) (rows : List Row) (r : Row) (xs : List Row) → filter p rows ≡ r ∷ xs → p r ≡ true
-passes p [] r xs e = absurd (cc)
-passes p (y ∷ ys) r xs e =
-    elim (cases_Bool (p y)) [
-      | inl q ↦ let f : y ∷ filter p ys ≡ r ∷ xs = simp q at e in let g : y ≡ r = cc in subst (λ (x : Row). p x ≡ true) g q
-      | inr q ↦ let f : filter p ys ≡ r ∷ xs = simp q at e in passes p ys r xs f
-    ]
-
--- the front of a list is on its link
-front_link : (l : ℕ) (s : Stage) (rows : List Row) (r : Row) (xs : List Row) → filter (on l s) rows ≡ r ∷ xs → r.link ≡ l
-front_link l s rows r xs e = eqb-true r.link l (and_parts _ _ (passes (on l s) rows r xs e)).1
-
 -- and whoever alights from it may do so
-front_alights : (A : Places) (i l : ℕ) (s : Bool) (r : Row) (xs : List Row) (W : World) → filter (on l (lane_of s)) W.rows ≡ r ∷ xs → MayAlight A i W → AlightsAt A i l (person_of i W).element r.vehicle
+front_alights : (A : Places) (i l : ℕ) (s : Bool) (r : Row) (xs : List Row) (W : World) → at l (lane_of s) W ≡ r ∷ xs → MayAlight A i W → AlightsAt A i l (person_of i W).element r.vehicle
 front_alights A i l s r xs W e may = (subst (Each (λ (x : Row). AlightsAt A i l (person_of i W).element x.vehicle)) e (may l (lane_of s))).0
 
 -- THE FRONT OF A LIST
-stands : (i l : ℕ) (ws : List Waiter) (s : Bool) (r : Row) (xs ys : List Row) (W : World) → Midst i l ws s (r ∷ xs) ys W → slice_get (vehicles l (lane_of s) W) 0 ≡ Some r.vehicle
-stands i l ws s r xs ys W h = rw h.front refl
-
 riders_right : (i K : ℕ) (v : VehicleState) (ws : List Waiter) → All (IsRight i K) v.riders → All (IsRight i K) (map rider (boarding v ws)) → All (IsRight i K) (riders_after v ws)
 unfolding riders_after
 riders_right i K v ws h g = All-append (IsRight i K) (staying (next_call v).stop v.riders) (map rider (boarding v ws)) (All-filter (λ r. not (alights (next_call v).stop r)) (IsRight i K) v.riders h) g
 
-stop_front : (A : Places) (S : Setup) (K : Rules) (t i l : ℕ) (ws : List Waiter) (s : Bool) (r : Row) (xs ys : List Row) (W : World) → IsPlan A S i → MayAlight A i W → Mid S i l ws s (r ∷ xs) ys W → calls_on l r.vehicle ≡ true →
-    let m = Put l (lane_of s) 0 r (served_row K.dwell t l ws r.vehicle) in Good A S t i W m × Mid S i l (left_behind r.vehicle ws) s xs ys (done S t m W)
+stop_front : (A : Places) (S : Setup) (t i l : ℕ) (ws : List Waiter) (s : Bool) (r : Row) (xs : List Row) (W : World) → IsPlan A S i → MayAlight A i W → InOne i W → at l (lane_of s) W ≡ r ∷ xs → calls_on l r.vehicle ≡ true → ws ≡ waiters S l W →
+    Good A S t i W (Put l (lane_of s) 0 r (served_row S.settings.dwell t l ws r.vehicle))
 unfolding served_vehicle
-stop_front A S K t i l ws s r xs ys W p may h q =
+stop_front A S t i l ws s r xs W p may h e q w =
     let v = r.vehicle in
-    let there = front_link l (lane_of s) W.rows r xs h.0.front in
-    let alights_here = (front_alights A i l s r xs W h.0.front may).0 q in
-    let left = left_behind v ws in
-    let now = served_row K.dwell t l ws v in
+    let there = (at_such (λ (x : Row). Unit {0}) l (lane_of s) 0 r W.rows (λ k d lt. tt) (rw e refl)).2 in
+    let alights_here = (front_alights A i l s r xs W e may).0 q in
+    let now = served_row S.settings.dwell t l ws v in
     let P = person_of i W in
     let stop = (next_call v).stop in
     let outs = alighting stop v.riders in
     let ins = map rider (boarding v ws) in
-    let here = stands i l ws s r xs ys W h.0 in
-    let f = rides_few i l (lane_of s) 0 r W here h.0.in_one in
-    let few = left_few i v ws in
+    let here : slice_get (vehicles l (lane_of s) W) 0 ≡ Some v = rw e refl in
+    let f = rides_few i l (lane_of s) 0 r W here h in
+    let line : IsInLine i ws P.place = rw w (waiters_in_line S l i W) in
+    let lined : Lined S i ws P = rw w (waiters_lined S l i W) in
     let a = as_riders i (boarding v ws) in
     let b : among_riders i outs + among_riders i (staying stop v.riders) ≡ rides i v = riders_are i stop v.riders in
     let c = board_few i v ws in
-    let one = h.0.line.once in
+    let one = line.once in
     let rode = f.0 in
-    let off : 1 ≤ in_line i ws → rides i v ≡ 0 = λ g. f.1 (h.0.line.off g) in
-    let same : 1 ≤ in_line i left → after_move S t i (Put l (lane_of s) 0 r now) W ≡ P = λ g.
-    let none : in_line i (boarding v ws) ≡ 0 = elim (cases_lt 0 (in_line i (boarding v ws))) [ inl lt ↦ let z = left_none i v ws (omega arith) in absurd (omega arith) | inr ge ↦ omega arith ] in
-    let z = off (omega arith) in
-    let nil : own i (serves r now) ≡ [] = rw (boarded-are v ws) (nobody_changes i r.link v.id outs ins (omega arith) (omega arith)) in
-    told_front S t i s r now P ∙ after_own S t i (serves r now) P ∙ ap (λ (es : List Said). person_after_all S t i es P) nil in
+    let off : 1 ≤ in_line i ws → rides i v ≡ 0 = λ g. f.1 (line.off g) in
     let kind = kind_next S i P in
-    let due : All (IsRight i kind) ins = elim (cases_lt 0 (in_line i ws)) [ inl lt ↦ board_right i kind v ws (h.1 (omega arith)).1 | inr ge ↦ board_right i kind v ws (none_due i kind ws (omega arith)) ] in
+    let due : All (IsRight i kind) ins = elim (cases_lt 0 (in_line i ws)) [ inl lt ↦ board_right i kind v ws (lined (omega arith)).1 | inr ge ↦ board_right i kind v ws (none_due i kind ws (omega arith)) ] in
     let keeps : IsSane S i W → KeepsKinds S t i W (Put l (lane_of s) 0 r now) = λ sane.
     elim (cases_lt 0 (among_riders i outs)) [
       | inl lt ↦
-          let z = listed_here i l (lane_of s) 0 v W here h.0.in_one (omega arith) in
+          let z = listed_here i l (lane_of s) 0 v W here h (omega arith) in
           let n : in_line i (boarding v ws) ≡ 0 = elim (cases_lt 0 (in_line i (boarding v ws))) [ inl k ↦ let z = off (omega arith) in absurd (omega arith) | inr k ↦ omega arith ] in
           let d = served_are i v ws in inl (omega arith)
       | inr ge ↦
           let d : wrong i kind (riders_after v ws) ≡ 0 = none_wrong i kind (riders_after v ws) (riders_right i kind v ws (right_here S i l (lane_of s) 0 v W here sane) due) in
           inr (ap (λ (n : ℕ). n / 2) (ap (λ (x : Person). x.element) (told_front S t i s r now P) ∙ rw (boarded-are v ws) (change_element S t i P r.link v.id outs ins (omega arith))), omega arith)
-    ] in (
-      record {
-        taken = (here, refl);
-        there = h.0.in_one.there;
-        calls = omega arith;
-        kinds = keeps;
-        drivers = λ sane. let z = lone_pt i v.id (rides i now.vehicle) (serves_pt S i l l (lane_of s) 0 v W here sane q) in omega arith;
-        stops = λ sane. inl (calm_put (lane_of s) r now);
-        does = λ sane. rw (put_front s r now)
-            (front_does A S t i P s r (serves r now) (cars i now.vehicle) sane.fit (rw (boarded-are v ws)
-            (riders_change A S t i P (cars i now.vehicle) r.link v.id outs ins p sane.fit (All-filter (alights stop) (IsRight i kind) v.riders (right_here S i l (lane_of s) 0 v W here sane)) due (omega arith)
-            (λ g. (rides_here i l (lane_of s) 0 v W here h.0.in_one (omega arith), rw there (alights_here g))) (omega arith) (λ g. let z = off (omega arith) in (omega arith, (h.1 (omega arith)).0, serves_pt S i l l (lane_of s) 0 v W here sane q)))));
-      },
-      (stop_next S K t i l ws s r xs ys W h.0, line_moved S t i ws left (Put l (lane_of s) 0 r now) W h.0.in_one.there few (λ k. left_due i k v ws) same h.1),
-    )
+    ] in
+    record {
+      taken = (here, refl);
+      there = h.there;
+      calls = omega arith;
+      kinds = keeps;
+      drivers = λ sane. let z = lone_pt i v.id (rides i now.vehicle) (serves_pt S i l l (lane_of s) 0 v W here sane q) in omega arith;
+      stops = λ sane. inl (calm_put (lane_of s) r now);
+      does = λ sane. rw (put_front s r now)
+          (front_does A S t i P s r (serves r now) (cars i now.vehicle) sane.fit (rw (boarded-are v ws)
+          (riders_change A S t i P (cars i now.vehicle) r.link v.id outs ins p sane.fit (All-filter (alights stop) (IsRight i kind) v.riders (right_here S i l (lane_of s) 0 v W here sane)) due (omega arith)
+          (λ g. (rides_here i l (lane_of s) 0 v W here h (omega arith), rw there (alights_here g))) (omega arith) (λ g. let z = off (omega arith) in (omega arith, (lined (omega arith)).0, serves_pt S i l l (lane_of s) 0 v W here sane q)))));
+    }
 
 -- a row that is taken out for good, and its riders with it
 pub gone_kinds : (S : Setup) (t i l : ℕ) (s : Stage) (r : Row) (W : World) → slice_get (vehicles l s W) 0 ≡ Some r.vehicle → InOne i W → (rides i r.vehicle ≡ 0 → after_move S t i (Gone l s 0 r) W ≡ person_of i W) → KeepsKinds S t i W (Gone l s 0 r)
@@ -425,138 +381,62 @@ gone_kinds S t i l s r W here h same =
       | inr ge ↦ inr (ap (λ (x : Person). x.element / 2) (same (omega arith)), omega arith)
     ]
 
-end_front : (A : Places) (S : Setup) (t i l : ℕ) (ws : List Waiter) (s : Bool) (r : Row) (xs ys : List Row) (W : World) → IsPlan A S i → MayAlight A i W → Mid S i l ws s (r ∷ xs) ys W → calls_on l r.vehicle ≡ false → is_last r.vehicle ≡ true →
-    Good A S t i W (Gone l (lane_of s) 0 r) × Mid S i l ws s xs ys (done S t (Gone l (lane_of s) 0 r) W)
-end_front A S t i l ws s r xs ys W p may h off last =
+end_front : (A : Places) (S : Setup) (t i l : ℕ) (s : Bool) (r : Row) (xs : List Row) (W : World) → IsPlan A S i → MayAlight A i W → InOne i W → at l (lane_of s) W ≡ r ∷ xs → calls_on l r.vehicle ≡ false → is_last r.vehicle ≡ true →
+    Good A S t i W (Gone l (lane_of s) 0 r)
+end_front A S t i l s r xs W p may h e off last =
     let P = person_of i W in
-    let there = front_link l (lane_of s) W.rows r xs h.0.front in
-    let alights_here = (front_alights A i l s r xs W h.0.front may).1 off last in
-    let here = stands i l ws s r xs ys W h.0 in
-    let f = rides_few i l (lane_of s) 0 r W here h.0.in_one in
-    let same : rides i r.vehicle ≡ 0 → after_move S t i (Gone l (lane_of s) 0 r) W ≡ P = λ q. told_end S t i s r P ∙ after_own S t i (arrives r) P ∙ nobody_arrives S t i P r q in (
-      record {
-        taken = here;
-        there = h.0.in_one.there;
-        calls = omega arith;
-        kinds = λ sane. gone_kinds S t i l (lane_of s) r W here h.0.in_one same;
-        drivers = λ sane. omega arith;
-        stops = λ sane. inl (calm_gone s r);
-        does = λ sane. rw (gone_front s r)
-            (front_does A S t i P s r (arrives r) 0 sane.fit (arrives_does A S t i P r p sane.fit (right_here S i l (lane_of s) 0 r.vehicle W here sane) f.0 (λ g. (rides_here i l (lane_of s) 0 r.vehicle W here h.0.in_one g, rw there (alights_here g)))));
-      },
-      (end_next S t i l ws s r xs ys W h.0, line_moved S t i ws ws (Gone l (lane_of s) 0 r) W h.0.in_one.there (omega arith) (λ k g. g) (λ g. same (f.1 (h.0.line.off (omega arith)))) h.1),
-    )
+    let there = (at_such (λ (x : Row). Unit {0}) l (lane_of s) 0 r W.rows (λ k d lt. tt) (rw e refl)).2 in
+    let alights_here = (front_alights A i l s r xs W e may).1 off last in
+    let here : slice_get (vehicles l (lane_of s) W) 0 ≡ Some r.vehicle = rw e refl in
+    record {
+      taken = here;
+      there = h.there;
+      calls = omega arith;
+      kinds = λ sane. gone_kinds S t i l (lane_of s) r W here h (λ q. told_end S t i s r P ∙ after_own S t i (arrives r) P ∙ nobody_arrives S t i P r q);
+      drivers = λ sane. omega arith;
+      stops = λ sane. inl (calm_gone s r);
+      does = λ sane. rw (gone_front s r)
+          (front_does A S t i P s r (arrives r) 0 sane.fit (arrives_does A S t i P r p sane.fit (right_here S i l (lane_of s) 0 r.vehicle W here sane) (rides_few i l (lane_of s) 0 r W here h).0 (λ g. (rides_here i l (lane_of s) 0 r.vehicle W here h g, rw there (alights_here g)))));
+    }
 
-pass_front : (A : Places) (S : Setup) (t i l b : ℕ) (ws : List Waiter) (s : Bool) (r : Row) (xs ys : List Row) (W : World) → Mid S i l ws s (r ∷ xs) ys W →
-    let m = Put l (lane_of s) 0 r (buffered t l b r) in Good A S t i W m × Mid S i l ws s xs ys (done S t m W)
-pass_front A S t i l b ws s r xs ys W h =
+pass_front : (A : Places) (S : Setup) (t i l b : ℕ) (s : Bool) (r : Row) (xs : List Row) (W : World) → InOne i W → at l (lane_of s) W ≡ r ∷ xs → Good A S t i W (Put l (lane_of s) 0 r (buffered t l b r))
+pass_front A S t i l b s r xs W h e =
     let now = buffered t l b r in
     let P = person_of i W in
-    let same = told_front S t i s r now P in (
-      record {
-        taken = (stands i l ws s r xs ys W h.0, refl);
-        there = h.0.in_one.there;
-        calls = omega arith;
-        kinds = λ sane. inr (ap (λ (x : Person). x.element / 2) same, omega arith);
-        drivers = λ sane. omega arith;
-        stops = λ sane. inl (calm_put (lane_of s) r now);
-        does = λ sane. rw (put_front s r now) (front_does A S t i P s r [] (cars i now.vehicle) sane.fit (does_nil A S t i P _ _ sane.fit (omega arith)));
-      },
-      (pass_next S t i l b ws s r xs ys W h.0, line_moved S t i ws ws (Put l (lane_of s) 0 r now) W h.0.in_one.there (omega arith) (λ k g. g) (λ g. same) h.1),
-    )
+    record {
+      taken = (rw e refl, refl);
+      there = h.there;
+      calls = omega arith;
+      kinds = λ sane. inr (ap (λ (x : Person). x.element / 2) (told_front S t i s r now P), omega arith);
+      drivers = λ sane. omega arith;
+      stops = λ sane. inl (calm_put (lane_of s) r now);
+      does = λ sane. rw (put_front s r now) (front_does A S t i P s r [] (cars i now.vehicle) sane.fit (does_nil A S t i P _ _ sane.fit (omega arith)));
+    }
 
--- a credit or a hole is nothing to persons and rows
-free_good : (A : Places) (S : Setup) (t i l u : ℕ) (W : World) → i < length W.persons → Good A S t i W (Free l u)
-free_good A S t i l u W lt = quiet_good A S t i W (Free l u) tt lt refl (omega arith) (omega arith) (omega arith) (λ k. omega arith) tt
+-- a credit, a hole or a mark is nothing to persons
+still_good : (A : Places) (S : Setup) (t i : ℕ) (m : Move) (W : World) → i < length W.persons → IsTaken m W → told m ≡ [] → ((g : VehicleState → ℕ) → brought g m ≡ took g m) → Good A S t i W m
+still_good A S t i m W lt taken nil same =
+    let a = same strays in
+    let b = same (lone i) in
+    let c = same (cars i) in
+    quiet_good A S t i W m taken lt (ap (own i) nil) (omega arith) (omega arith) (omega arith) (λ k. let d = same (wrongs i k) in omega arith) (rw nil tt)
 
-credit_good : (A : Places) (S : Setup) (t i l c : ℕ) (W : World) → i < length W.persons → Good A S t i W (Credit l c)
-credit_good A S t i l c W lt = quiet_good A S t i W (Credit l c) tt lt refl (omega arith) (omega arith) (omega arith) (λ k. omega arith) tt
-
--- THE STEPS OF THE TURN
-wait_along : (A : Places) (S : Setup) (K : Rules) (t i l : ℕ) (ws : List Waiter) (b c : ℕ) (xs ys : List Row) (W : World) → IsPlan A S i → Along (λ V m. MayAlight A i V) S t (from_wait K t l ws b c xs) W → Mid S i l ws true xs ys W →
-    Along (Good A S t i) S t (from_wait K t l ws b c xs) W
-unfolding from_wait
-wait_along A S K t i l ws b c [] ys W p may h = tt
-wait_along A S K t i l ws b c (r ∷ rs) ys W p may h =
-    let Q : World → Move → Type 0 = λ V m. MayAlight A i V in
-    along_if (Good A S t i) S t (calls_on l r.vehicle) _ _ W
-    (λ q. let k = along_then Q S t (calls_on l r.vehicle) _ _ W q may in let y = stop_front A S K t i l ws true r rs ys W p k.0 h q in (y.0, wait_along A S K t i l (left_behind r.vehicle ws) b c rs ys _ p k.1 y.1))
-    (λ q. let may1 = along_else Q S t (calls_on l r.vehicle) _ _ W q may in
-    along_if (Good A S t i) S t (is_last r.vehicle) _ _ W
-    (λ e. let k = along_then Q S t (is_last r.vehicle) _ _ W e may1 in let y = end_front A S t i l ws true r rs ys W p k.0 h q e in (y.0, wait_along A S K t i l ws b c rs ys _ p k.1 y.1))
-    (λ e. let may2 = along_else Q S t (is_last r.vehicle) _ _ W e may1 in
-    along_if (Good A S t i) S t (may_pass K b c) _ _ W
-    (λ f. let k = along_then Q S t (may_pass K b c) _ _ W f may2 in
-    let y = pass_front A S t i l b ws true r rs ys W h in (y.0, (credit_good A S t i l (c - VEHICLE_COST) _ y.1.0.in_one.there, wait_along A S K t i l ws (b + 1) (c - VEHICLE_COST) rs ys _ p k.1.1 y.1)))
-    (λ f. tt)))
-
--- the wait list is next
-other : (S : Setup) (i l : ℕ) (ws : List Waiter) (xs ys : List Row) (W : World) → Mid S i l ws false xs ys W → Mid S i l ws true ys xs W
-other S i l ws xs ys W h = (record { in_one = h.0.in_one; line = h.0.line; front = h.0.behind; behind = h.0.front }, h.1)
-
-queue_along : (A : Places) (S : Setup) (K : Rules) (t i l : ℕ) (ws : List Waiter) (b c : ℕ) (xs ys : List Row) (W : World) → IsPlan A S i → Along (λ V m. MayAlight A i V) S t (from_queue K t l ws b c xs ys) W → Mid S i l ws false xs ys W →
-    Along (Good A S t i) S t (from_queue K t l ws b c xs ys) W
-unfolding from_queue
-queue_along A S K t i l ws b c [] ys W p may h = wait_along A S K t i l ws b c ys [] W p may (other S i l ws [] ys W h)
-queue_along A S K t i l ws b c (r ∷ rs) ys W p may h =
-    let Q : World → Move → Type 0 = λ V m. MayAlight A i V in
-    along_if (Good A S t i) S t (nat_lt t r.second) _ _ W
-    (λ q. wait_along A S K t i l ws b c ys (r ∷ rs) W p (along_then Q S t (nat_lt t r.second) _ _ W q may) (other S i l ws (r ∷ rs) ys W h))
-    (λ d. let may0 = along_else Q S t (nat_lt t r.second) _ _ W d may in
-    along_if (Good A S t i) S t (calls_on l r.vehicle) _ _ W
-    (λ q. let k = along_then Q S t (calls_on l r.vehicle) _ _ W q may0 in
-    let y = stop_front A S K t i l ws false r rs ys W p k.0 h q in (y.0, (free_good A S t i l t _ y.1.0.in_one.there, queue_along A S K t i l (left_behind r.vehicle ws) b c rs ys _ p k.1.1 y.1)))
-    (λ q. let may1 = along_else Q S t (calls_on l r.vehicle) _ _ W q may0 in
-    along_if (Good A S t i) S t (is_last r.vehicle) _ _ W
-    (λ e. let k = along_then Q S t (is_last r.vehicle) _ _ W e may1 in
-    let y = end_front A S t i l ws false r rs ys W p k.0 h q e in (y.0, (free_good A S t i l t _ y.1.0.in_one.there, queue_along A S K t i l ws b c rs ys _ p k.1.1 y.1)))
-    (λ e. let may2 = along_else Q S t (is_last r.vehicle) _ _ W e may1 in
-    along_if (Good A S t i) S t (may_pass K b c) _ _ W
-    (λ f. let k = along_then Q S t (may_pass K b c) _ _ W f may2 in
-    let y = pass_front A S t i l b ws false r rs ys W h in
-    let lt = y.1.0.in_one.there in (y.0, (free_good A S t i l t _ lt, (credit_good A S t i l (c - VEHICLE_COST) _ lt, queue_along A S K t i l ws (b + 1) (c - VEHICLE_COST) rs ys _ p k.1.1.1 y.1))))
-    (λ f. wait_along A S K t i l ws b c ys (r ∷ rs) W p (along_else Q S t (may_pass K b c) _ _ W f may2) (other S i l ws (r ∷ rs) ys W h)))))
-
--- step 1: nobody is changed
-bay_persons : (S : Setup) (t l k : ℕ) (xs : List Row) (W : World) → (run S t (leave_bay t l k xs) W).persons ≡ W.persons
-unfolding leave_bay
-bay_persons S t l k [] W = refl
-bay_persons S t l k (r ∷ rs) W =
-    elim (cases_Bool (nat_le r.second t)) [ inl q ↦ simp q (bay_persons S t l k rs (done S t (Put l Bay k r (waiting l r)) W)) | inr q ↦ simp q (bay_persons S t l (k + 1) rs W) ]
-
-bay_along : (A : Places) (S : Setup) (t i l : ℕ) (xs front : List Row) (W : World) → at l Bay W ≡ front ++ xs → i < length W.persons → Along (Good A S t i) S t (leave_bay t l (length front) xs) W
-unfolding leave_bay
-bay_along A S t i l [] front W e lt = tt
-bay_along A S t i l (r ∷ rs) front W e lt =
-    let m = Put l Bay (length front) r (waiting l r) in
-    let q = eq-eqb l l refl in
-    along_if (Good A S t i) S t (nat_le r.second t) _ _ W
-    (λ f. let bay : at l Bay (done S t m W) ≡ front ++ rs = at-done S t l Bay m W ∙ ap (at_after l Bay m) e ∙ simp q (append-nil _ ∙ without_after front rs r) in (
-      quiet_good A S t i W m (rw e (row_after front rs r), refl) lt refl (omega arith) (omega arith) (omega arith) (λ k. omega arith) (calm_put Bay r r),
-      bay_along A S t i l rs front (done S t m W) bay lt,
-    ))
-    (λ f. let more : length (front ++ r ∷ []) ≡ length front + 1 = length-append front (r ∷ []) in
-    subst (λ k. Along (Good A S t i) S t (leave_bay t l k rs) W) more (bay_along A S t i l rs (front ++ r ∷ []) W (e ∙ sym (append_assoc front (r ∷ []) rs)) lt))
+links_good : (A : Places) (S : Setup) (t l i : ℕ) → IsPlan A S i → LinkCases S t l (λ W m. MayAlight A i W × InOne i W → Good A S t i W m)
+links_good A S t l i p =
+    record {
+      due = λ k r W e c h. quiet_good A S t i W (Put l Bay k r (waiting l r)) (stands l Bay k r W e, refl) h.1.there refl (omega arith) (omega arith) (omega arith) (λ k. omega arith) (calm_put Bay r r);
+      serve = λ s ws r xs W e c q h. stop_front A S t i l ws s r xs W p h.0 h.1 e c q;
+      arrive = λ s r xs W e c o h. end_front A S t i l s r xs W p h.0 h.1 e c o;
+      pass = λ s b r xs W e c o h. pass_front A S t i l b s r xs W h.1 e;
+      pay = λ c W h. still_good A S t i (Credit l c) W h.1.there tt refl (λ g. refl);
+      free = λ W h. still_good A S t i (Free l t) W h.1.there tt refl (λ g. refl);
+    }
 
 pub link_along : (A : Places) (S : Setup) (t l i : ℕ) (W : World) → IsPlan A S i → Along (λ V m. MayAlight A i V) S t (link_plan S t l W) W → InOne i W → Along (Good A S t i) S t (link_plan S t l W) W
-unfolding link_moves
 link_along A S t l i W p may h =
-    let L = lane l W in
-    let ws = waiters S l W in
-    let V = run S t (leave_bay t l 0 L.bay) W in
-    let bay = bay_keeps S t i l ws L.bay L.wait L.queue [] W refl (record { in_one = h; line = waiters_in_line S l i W; front = refl; behind = refl }) in
-    let later = along_rest (λ V m. MayAlight A i V) S t (leave_bay t l 0 L.bay) _ W may in
-    let lined : Lined S i ws (person_of i V) = rw (bay_persons S t l 0 L.bay W) (waiters_lined S l i W) in
-    along_append (Good A S t i) S t (leave_bay t l 0 L.bay) _ W (bay_along A S t i l L.bay [] W refl h.there) (
-      credit_good A S t i l _ V bay.in_one.there,
-      queue_along A S (rules S l) t i l ws (length L.buffer) _ L.queue (wait_after t l L) _ p later.1 (record { in_one = bay.in_one; line = bay.line; front = bay.behind; behind = bay.front }, lined),
-    )
-
-mark_good : (A : Places) (S : Setup) (t i l u : ℕ) (W : World) → i < length W.persons → Good A S t i W (Mark l u)
-mark_good A S t i l u W lt = quiet_good A S t i W (Mark l u) tt lt refl (omega arith) (omega arith) (omega arith) (λ k. omega arith) tt
-
-put_good : (A : Places) (S : Setup) (t i a since : ℕ) (e : Option Exit) (r : Row) (W : World) → slice_get (vehicles a Buffer W) 0 ≡ Some r.vehicle → InOne i W → Good A S t i W (Put a Buffer 0 (at_second since r) (entered t e r.vehicle))
-put_good A S t i a since e r W here h = quiet_good A S t i W (Put a Buffer 0 (at_second since r) (entered t e r.vehicle)) (here, refl) h.there refl (omega arith) (omega arith) (omega arith) (λ k. omega arith) (calm_put Buffer r r)
+    let ms = link_plan S t l W in
+    along_given (λ V m. MayAlight A i V × InOne i V) (Good A S t i) S t ms W (link_walk S t l _ (links_good A S t l i p) W)
+    (along_both (λ V m. MayAlight A i V) (λ V m. InOne i V) S t ms W may (held_along (InOne i) S t ms W (link_walk S t l _ (links_keep S t l i) W) h).0)
 
 -- who is removed with a vehicle has no more events
 gone_stops : (S : Setup) (t i a : ℕ) (r : Row) (W : World) → slice_get (vehicles a Buffer W) 0 ≡ Some r.vehicle → InOne i W → IsSane S i W → rides i r.vehicle ≤ 1 →
@@ -576,8 +456,8 @@ gone_stops S t i a r W here h sane few =
           let worthless : worth S i (person_of i (done S t m W)) ≡ 0 = ap (worth_at (legs S i) ((person_of i (done S t m W)).element / 2)) place in omega arith,
     )
 
-gone_good : (A : Places) (S : Setup) (t i a since : ℕ) (r : Row) (W : World) → slice_get (vehicles a Buffer W) 0 ≡ Some r.vehicle → InOne i W → Good A S t i W (Gone a Buffer 0 (at_second since r))
-gone_good A S t i a since r W here h =
+gone_good : (A : Places) (S : Setup) (t i a : ℕ) (r : Row) (W : World) → slice_get (vehicles a Buffer W) 0 ≡ Some r.vehicle → InOne i W → Good A S t i W (Gone a Buffer 0 r)
+gone_good A S t i a r W here h =
     let v = r.vehicle in
     let few = rides_few i a Buffer 0 r W here h in
     record {
@@ -585,71 +465,25 @@ gone_good A S t i a since r W here h =
       there = h.there;
       calls = omega arith;
       drivers = λ sane. omega arith;
-      stops = λ sane. inr (gone_stops S t i a (at_second since r) W here h sane few.0);
-      kinds = λ sane. gone_kinds S t i a Buffer (at_second since r) W here h
-          (λ q. after_own S t i (aborts (at_second since r)) (person_of i W) ∙ ap (λ (es : List Said). person_after_all S t i es (person_of i W)) (nobody_stuck i r.link v.id v.riders q));
+      stops = λ sane. inr (gone_stops S t i a r W here h sane few.0);
+      kinds = λ sane. gone_kinds S t i a Buffer r W here h
+          (λ q. after_own S t i (aborts r) (person_of i W) ∙ ap (λ (es : List Said). person_after_all S t i es (person_of i W)) (nobody_stuck i r.link v.id v.riders q));
       does = λ sane. goes_less A S i (person_of i W) _ _ _ 0 0 _ 0 (omega arith) (omega arith)
           (riders_stuck A S t i (person_of i W) 0 r.link v.id v.riders sane.fit (right_here S i a Buffer 0 v W here sane) few.0 (λ g. rides_here i a Buffer 0 v W here h g));
     }
 
-hand_along : (A : Places) (S : Setup) (i : ℕ) (K : Stuck) (t a : ℕ) (exits : ℕ → Option Exit) (since : ℕ) (xs : List Row) (W : World) → vehicles a Buffer W ≡ map vehicle_of xs → InOne i W → Along (Good A S t i) S t (hand K t a exits since xs) W
-unfolding hand
-hand_along A S i K t a exits since [] W e h = tt
-hand_along A S i K t a exits since (r ∷ rs) W e h =
-    let m = next_link r.vehicle in
-    let was = at_second since r in
-    let put = Put a Buffer 0 was (entered t (exits m) r.vehicle) in
-    let gone = Gone a Buffer 0 was in
-    let q = eq-eqb a a refl in
-    let here : slice_get (vehicles a Buffer W) 0 ≡ Some r.vehicle = rw e refl in
-    along_if (Good A S t i) S t (may_enter K t since (exits m)) _ _ W
-    (λ f. let V = done S t put W in
-    let one : InOne i V = move_keeps S t i put W (here, refl) (Stays refl refl) h in (
-      put_good A S t i a since (exits m) r W here h,
-      (
-        mark_good A S t i a t V one.there,
-        hand_along A S i K t a (one_more m exits) t rs (done S t (Mark a t) V) (front_gone S t a t put r.vehicle (map vehicle_of rs) W (simp q (append-nil (without_at 0 (at a Buffer W)))) e) (move_keeps S t i (Mark a t) V tt (Stays refl refl) one),
-      ),
-    ))
-    (λ f. along_if (Good A S t i) S t (is_stuck K t since) _ _ W
-    (λ g. let V = done S t gone W in
-    let one : InOne i V = move_keeps S t i gone W here (aborts_out S t i was (person_of i W)) h in (
-      gone_good A S t i a since r W here h,
-      (
-        mark_good A S t i a t V one.there,
-        hand_along A S i K t a exits t rs (done S t (Mark a t) V) (front_gone S t a t gone r.vehicle (map vehicle_of rs) W (simp q) e) (move_keeps S t i (Mark a t) V tt (Stays refl refl) one),
-      ),
-    ))
-    (λ g. tt))
-
-picked_along : (A : Places) (S : Setup) (i : ℕ) (K : Stuck) (t : ℕ) (exits : ℕ → Option Exit) (k : ℕ) (es : List Entry) (W : World) → Held W es → InOne i W → Along (Good A S t i) S t (hand_all K t exits (get_or es k no_entry)) W
-unfolding hand
-picked_along A S i K t exits k [] W g h = tt
-picked_along A S i K t exits zero (e ∷ es) W g h = hand_along A S i K t e.link exits (since_of e.rows) e.rows W g.0 h
-picked_along A S i K t exits (suc k) (e ∷ es) W g h = picked_along A S i K t exits k es W g.2 h
-
-draw_along : (A : Places) (S : Setup) (i : ℕ) (K : Stuck) (t : ℕ) (word : ℕ → ℕ) (left j : ℕ) (es : List Entry) (exits : ℕ → Option Exit) (W : World) → Held W es → InOne i W → Along (Good A S t i) S t (draw K t word left j es exits) W
-unfolding draw
-draw_along A S i K t word zero j es exits W g h = tt
-draw_along A S i K t word (suc left) j es exits W g h =
-    let k = drawn es (word (16 * t + j)) in
-    let ms = hand_all K t exits (get_or es k no_entry) in
-    along_append (Good A S t i) S t ms _ W (picked_along A S i K t exits k es W g h)
-    (draw_along A S i K t word left (j + 1) (without_at k es) (exits_after ms exits) (run S t ms W) (picked_held S K t exits k es W g) (picked_keeps S i K t exits k es W g h))
-
-marks_along : (A : Places) (S : Setup) (t i : ℕ) (reds : List Entry) (W : World) → i < length W.persons → Along (Good A S t i) S t (map (mark t) reds) W
-marks_along A S t i [] W lt = tt
-marks_along A S t i (r ∷ rs) W lt = (mark_good A S t i r.link t W lt, marks_along A S t i rs (done S t (mark t r) W) lt)
+nodes_good : (A : Places) (S : Setup) (t n i : ℕ) → NodeCases S t n (λ W m. InOne i W → Good A S t i W m)
+nodes_good A S t n i =
+    record {
+      enter = λ a e r xs W f q c h. quiet_good A S t i W (Put a Buffer 0 r (entered t e r.vehicle)) (rw f.rows refl, refl) h.there refl (omega arith) (omega arith) (omega arith) (λ k. omega arith) (calm_put Buffer r r);
+      abort = λ a r xs W f c h. gone_good A S t i a r W (rw f.rows refl) h;
+      mark = λ a W c h. still_good A S t i (Mark a t) W h.there tt refl (λ g. refl);
+    }
 
 pub node_along : (A : Places) (S : Setup) (t n i : ℕ) (W : World) → InOne i W → Along (Good A S t i) S t (node_plan S t n W) W
-unfolding node_moves into
 node_along A S t n i W h =
-    let see = sight S t n W in
-    let es = candidates see.entries in
-    let held = held_filter (λ (e : Entry). e.green) W (ready see.entries) (held_filter (λ (e : Entry). not (is_nil e.rows)) W see.entries (held_numbers S t W (λ l. eqb (road S l).to n) 0 (length S.links))) in
-    let start = marks_keep S t i (red see.entries) es W (held, h) in
-    along_append (Good A S t i) S t (map (mark t) (red see.entries)) _ W (marks_along A S t i (red see.entries) W h.there)
-    (draw_along A S i S.stuck t (S.word n) (length es) 0 es see.exits (run S t (map (mark t) (red see.entries)) W) start.0 start.1)
+    let ms = node_plan S t n W in
+    along_given (λ V m. InOne i V) (Good A S t i) S t ms W (node_walk S t n _ (nodes_good A S t n i) W) (held_along (InOne i) S t ms W (node_walk S t n _ (nodes_keep S t n i) W) h).0
 
 -- what is told of person j does its part to him, and is nothing to others
 told_good : (A : Places) (S : Setup) (t j i : ℕ) (says : List Said) (W : World) → i < length W.persons → Each IsCalm says → (eqb j i ≡ true → listed i W.rows ≡ 0) → (eqb j i ≡ true → IsFit S i (person_of i W) → Does A S t i (person_of i W) (own i says) 0 0) → (eqb j i ≡ false → own i says ≡ []) → Good A S t i W (Tell says)
@@ -674,20 +508,24 @@ at_place A S t i P e pl es a b q f = subst (λ (x : Person). IsFit S i x → Doe
 with_place : (P : Person) (pl : Place) → P.place ≡ pl → P ≡ record { element = P.element; place = pl }
 with_place P pl q = ap (λ (x : Place). record { element = P.element; place = x }) q
 
-landing_along : (A : Places) (S : Setup) (t j i : ℕ) (w : Way) (next : Stay) (pl : Place) (W : World) → IsPlan A S i → InOne i W → (eqb j i ≡ true → ((person_of i W).place ≡ pl) × (mode_of_way w ≡ mode_of_way (leg S i ((person_of i W).element / 2))) × (next ≡ act S i ((person_of i W).element / 2 + 1))) →
-    Along (Good A S t i) S t (landing t j w next pl) W
-landing_along A S t j i (Teleport m seconds) next (Flying start) W p h f =
+lands_good : (A : Places) (S : Setup) (t j i seconds start : ℕ) (m : Mode) (next : Act) (W : World) → IsPlan A S i → InOne i W → (eqb j i ≡ true → ((person_of i W).place ≡ Flying start) × (m ≡ mode_of_leg (leg S i ((person_of i W).element / 2))) × (next ≡ act S i ((person_of i W).element / 2 + 1))) →
+    Good A S t i W (Tell (lands j m seconds next))
+unfolding person_after
+lands_good A S t j i seconds start m next W p h f =
     let P = person_of i W in
-    along_if (Good A S t i) S t (eqb (start + seconds) t) _ _ W
-    (λ g. (
-      told_good A S t j i (lands j m seconds next) W h.there ((λ q. cc), ((λ q. cc), ((λ q. cc), tt))) (λ q. subst (IsListed i W.rows) (f q).0 h.listed)
-          (λ q fit. let h = f q in
-          rw (eqb-true j i q) (at_place A S t i P P.element (Flying start) (own i (lands i m seconds next)) 0 0 (with_place P (Flying start) h.0) (λ odd. lands_does A S t i P.element 0 seconds start m next p odd h.1 h.2) fit))
-          (λ q. simp q),
+    told_good A S t j i (lands j m seconds next) W h.there ((λ q. cc), ((λ q. cc), ((λ q. cc), tt))) (λ q. subst (IsListed i W.rows) (f q).0 h.listed)
+    (λ q fit. let h = f q in
+    rw (eqb-true j i q) (at_place A S t i P P.element (Flying start) (own i (lands i m seconds next)) 0 0 (with_place P (Flying start) h.0) (λ odd. lands_does A S t i P.element 0 seconds start m next p odd h.1 h.2) fit))
+    (λ q. simp q)
+
+pub flight_along : (A : Places) (S : Setup) (t j i : ℕ) (W : World) → IsPlan A S i → InOne i W → Along (Good A S t i) S t (flight_plan S t j W) W
+flight_along A S t j i W p h =
+    let next = act_after S j (person_of j W).element in
+    flight_walk (λ ms. Along (Good A S t i) S t ms W) S t j W tt
+    (λ m seconds start e w g. (
+      lands_good A S t j i seconds start m next W p h (λ q. (place_of j i W q ∙ e, ap mode_of_leg (sym w) ∙ ap (λ (k : ℕ). mode_of_leg (leg_at S k (person_of k W).element)) (eqb-true j i q), next_act S i j W (eqb-true j i q))),
       tt,
     ))
-    (λ g. tt)
-landing_along A S t j i _ next _ W p h f = tt
 
 -- the leg of an element after the one before
 same_half : (e : ℕ) → e + 1 ≡ 2 * ((e + 1) / 2) + 1 → (e + 1) / 2 ≡ e / 2
@@ -698,10 +536,10 @@ rides_right S i P e start kind q k f =
     let odd : e + 1 ≡ 2 * ((e + 1) / 2) + 1 = subst (IsFit S i) q f in
     k ∙ sym (ap (λ (n : ℕ). (act S i (n + 1)).kind) (ap (λ (x : Person). x.element / 2) q ∙ same_half e odd))
 
-sets_out_along : (A : Places) (S : Setup) (t j i e start : ℕ) (w : Way) (next : Stay) (W : World) → i < length W.persons →
-    (eqb j i ≡ true → (person_of i W ≡ record { element = e + 1; place = Flying start }) × (mode_of_way w ≡ mode_of_way (leg S i (e / 2))) × (next.kind ≡ (act S i (e / 2 + 1)).kind) × (listed i W.rows ≡ 0)) → Along (Good A S t i) S t (sets_out S j w next) W
+sets_out_along : (A : Places) (S : Setup) (t j i e start : ℕ) (w : Leg) (next : Act) (W : World) → i < length W.persons →
+    (eqb j i ≡ true → (person_of i W ≡ record { element = e + 1; place = Flying start }) × (mode_of_leg w ≡ mode_of_leg (leg S i (e / 2))) × (next.kind ≡ (act S i (e / 2 + 1)).kind) × (listed i W.rows ≡ 0)) → Along (Good A S t i) S t (sets_out S j w next) W
 unfolding person_after
-sets_out_along A S t j i e start (Drive route) next W lt f =
+sets_out_along A S t j i e start (Car route) next W lt f =
     let P = person_of i W in (
       record {
         taken = tt;
@@ -714,7 +552,7 @@ sets_out_along A S t j i e start (Drive route) next W lt f =
             inr (elim (cases_Bool (eqb j i)) [ inl q ↦ simp q refl | inr q ↦ simp q refl ], omega arith);
         does = λ sane. elim (cases_Bool (eqb j i)) [
           | inl q ↦ rw (eqb-true j i q) (at_place A S t i P (e + 1) (Flying start) (own i (of_rider word.PersonEntersVehicle i (vehicle.Car i) ∷ [])) 0 (car_worth i (vehicle.Car i) false) (f q).0
-              (λ odd. enters_car A S t i (e + 1) start odd (subst (λ (k : ℕ). mode.Car ≡ mode_of_way (leg S i k)) (sym (same_half e odd)) (f q).1)) sane.fit)
+              (λ odd. enters_car A S t i (e + 1) start odd (subst (λ (k : ℕ). mode.Car ≡ mode_of_leg (leg S i k)) (sym (same_half e odd)) (f q).1)) sane.fit)
           | inr q ↦ simp q (does_nil A S t i P 0 0 sane.fit (omega arith))
         ];
       },
@@ -726,48 +564,35 @@ sets_out_along A S t j i e start (Transit line access egress) next W lt f =
     let l = link_of_stop S access in (
       told_good A S t j i (of_person word.WaitingForPt j l (more.Stop access) ∷ []) W lt ((λ q. cc), tt) (λ q. (f q).3)
           (λ q fit. rw (eqb-true j i q) (at_place A S t i P (e + 1) (Flying start) (own i (of_person word.WaitingForPt i l (more.Stop access) ∷ [])) 0 0 (f q).0
-          (λ odd. waits_does A S t i (e + 1) 0 l access start odd (subst (λ (k : ℕ). mode_of_way (leg S i k) ≡ mode.Pt) (sym (same_half e odd)) (sym (f q).1))) fit))
+          (λ odd. waits_does A S t i (e + 1) 0 l access start odd (subst (λ (k : ℕ). mode_of_leg (leg S i k) ≡ mode.Pt) (sym (same_half e odd)) (sym (f q).1))) fit))
           (λ q. simp q),
       tt,
     )
 
-leaving_along : (A : Places) (S : Setup) (t j i : ℕ) (here : Stay) (w : Way) (next : Stay) (pl : Place) (W : World) → IsPlan A S i → InOne i W →
-    (eqb j i ≡ true → ((person_of i W).place ≡ pl) × (here ≡ act S i ((person_of i W).element / 2)) × (mode_of_way w ≡ mode_of_way (leg S i ((person_of i W).element / 2))) × (next.kind ≡ kind_next S i (person_of i W))) → Along (Good A S t i) S t (leaving S t j here w next pl) W
+leaves_along : (A : Places) (S : Setup) (t j i : ℕ) (here : Act) (w : Leg) (next : Act) (W : World) → IsPlan A S i → InOne i W →
+    (eqb j i ≡ true → ((person_of i W).place ≡ At (Some t)) × (here ≡ act S i ((person_of i W).element / 2)) × (mode_of_leg w ≡ mode_of_leg (leg S i ((person_of i W).element / 2))) × (next.kind ≡ kind_next S i (person_of i W))) → Along (Good A S t i) S t (Tell (departs j here w) ∷ sets_out S j w next) W
 unfolding person_after
-leaving_along A S t j i here w next (At (Some end)) W p h f =
+leaves_along A S t j i here w next W p h f =
     let P = person_of i W in
     let m = Tell (departs j here w) in
     let lt = h.there in
-    let off : eqb j i ≡ true → listed i W.rows ≡ 0 = λ q. subst (IsListed i W.rows) (f q).0 h.listed in
-    along_if (Good A S t i) S t (eqb end t) _ _ W
-    (λ g. (
+    let off : eqb j i ≡ true → listed i W.rows ≡ 0 = λ q. subst (IsListed i W.rows) (f q).0 h.listed in (
       told_good A S t j i (departs j here w) W lt ((λ q. cc), ((λ q. cc), tt)) off
           (λ q fit. let h = f q in
-          rw (eqb-true j i q) (at_place A S t i P P.element (At (Some end)) (own i (departs i here w)) 0 0 (with_place P (At (Some end)) h.0) (λ even. departs_does A S t i P.element 0 end here w p even h.1 h.2) fit))
+          rw (eqb-true j i q) (at_place A S t i P P.element (At (Some t)) (own i (departs i here w)) 0 0 (with_place P (At (Some t)) h.0) (λ even. departs_does A S t i P.element 0 t here w p even h.1 h.2) fit))
           (λ q. simp q),
       sets_out_along A S t j i P.element t w next (done S t m W) (rw (persons-length S t (told m) W.persons) lt) (λ q. (person-done S t i m W lt ∙ simp q, (f q).2, (f q).3, off q)),
-    ))
-    (λ g. tt)
-leaving_along A S t j i here w next _ W p h f = tt
-
-pub flight_along : (A : Places) (S : Setup) (t j i : ℕ) (W : World) → IsPlan A S i → InOne i W → Along (Good A S t i) S t (flight_plan S t j W) W
-unfolding landing_moves
-flight_along A S t j i W p h =
-    let P = person_of j W in
-    landing_along A S t j i (way S j P.element) (next_stay S j P.element) P.place W p h
-    (λ q. let e = eqb-true j i q in (ap (λ (k : ℕ). (person_of k W).place) (sym e), ap (λ (k : ℕ). mode_of_way (way S k (person_of k W).element)) e, next_act S i j W e))
+    )
 
 pub leave_along : (A : Places) (S : Setup) (t j i : ℕ) (W : World) → IsPlan A S i → InOne i W → Along (Good A S t i) S t (leave_plan S t j W) W
-unfolding leaving_moves
 leave_along A S t j i W p h =
     let P = person_of j W in
-    leaving_along A S t j i (stay S j P.element) (way S j P.element) (next_stay S j P.element) P.place W p h
+    leave_walk (λ ms. Along (Good A S t i) S t ms W) S t j W tt
+    (λ a. leaves_along A S t j i (act_at S j P.element) (leg_at S j P.element) (act_after S j P.element) W p h
     (λ q. let e = eqb-true j i q in
-    (ap (λ (k : ℕ). (person_of k W).place) (sym e), ap (λ (k : ℕ). stay S k (person_of k W).element) e, ap (λ (k : ℕ). mode_of_way (way S k (person_of k W).element)) e, next_kind S i j W e))
+    (place_of j i W q ∙ a, ap (λ (k : ℕ). act_at S k (person_of k W).element) e, ap (λ (k : ℕ). mode_of_leg (leg_at S k (person_of k W).element)) e, next_kind S i j W e)))
 
 pub departure_along : (A : Places) (S : Setup) (t d i : ℕ) (W : World) → i < length W.persons → Along (Good A S t i) S t (departure_plan S t d W) W
-unfolding departure_moves
 departure_along A S t d i W lt =
-    along_if (Good A S t i) S t (eqb (departure S d).second t) _ _ W
-    (λ g. (quiet_good A S t i W (New (transit_vehicle d (departure S d))) tt lt refl (omega arith) (omega arith) (omega arith) (λ k. omega arith) ((λ q. cc), tt), tt))
-    (λ g. tt)
+    departure_walk (λ ms. Along (Good A S t i) S t ms W) S t d W tt
+    (λ e. (quiet_good A S t i W (New (transit_vehicle d (departure S d))) tt lt refl (omega arith) (omega arith) (omega arith) (λ k. omega arith) ((λ q. cc), tt), tt))

@@ -5,20 +5,23 @@ use Rattle.events.specs.declared.event.More.{More}
 use Rattle.events.specs.declared.event.More.TheVariants as more
 use Rattle.events.specs.declared.event.Word.{Word}
 use Rattle.events.specs.declared.event.Word.TheVariants as word
-use Rattle.traffic.specs.Setup.{Setup, Stay, Way, Drive, itinerary}
-use Rattle.traffic.specs.Persons.{mode_of_way}
+use Rattle.rows.specs.declared.plan.Act.{Act}
+use Rattle.rows.specs.declared.plan.Leg.{Leg}
+use Rattle.rows.specs.declared.plan.Leg.TheVariants.{Car}
+use Rattle.traffic.specs.Setup.{Setup, person_plan}
+use Rattle.traffic.specs.Persons.{mode_of_leg}
 
 -- activity k of a person's plan
-abbrev pub act : Setup → ℕ → ℕ → Stay
-act S i k = get_or (itinerary S i).stays k (record { kind = 0; link = 0; end = None })
+abbrev pub act : Setup → ℕ → ℕ → Act
+act S i k = get_or (person_plan S i).acts k (record { kind = 0; link = 0; end = None })
 
 -- the leg that comes after activity k
-abbrev pub leg : Setup → ℕ → ℕ → Way
-leg S i k = get_or (itinerary S i).ways k (Drive [])
+abbrev pub leg : Setup → ℕ → ℕ → Leg
+leg S i k = get_or (person_plan S i).legs k (Car [])
 
 -- how many legs the plan has
 abbrev pub legs : Setup → ℕ → ℕ
-legs S i = length (itinerary S i).ways
+legs S i = length (person_plan S i).legs
 
 -- no activity of a person's plan ends but one that a leg comes after
 pub record IsPlanned (S : Setup) (i : ℕ) : Type 0 where
@@ -69,17 +72,17 @@ abbrev pub Departs : Places → Setup → ℕ → ℕ → Step → Step → Type
 Departs places S i k a b =
     (k < legs S i)
     × Says places k word.ActEnd (more.Kind (act S i k).kind) a
-    × Says places k word.Departure (more.Mode (mode_of_way (leg S i k))) b
+    × Says places k word.Departure (more.Mode (mode_of_leg (leg S i k))) b
 
 -- leg k arrives at the activity after it, by its mode, and that activity starts, of its kind
 abbrev pub Arrives : Places → Setup → ℕ → ℕ → Step → Step → Type 0
 Arrives places S i k a b =
-    Says places (k + 1) word.Arrival (more.Mode (mode_of_way (leg S i k))) a
+    Says places (k + 1) word.Arrival (more.Mode (mode_of_leg (leg S i k))) a
     × Says places (k + 1) word.ActStart (more.Kind (act S i (k + 1)).kind) b
 
 -- leg k is stuck, wherever that is, by its mode
 abbrev pub IsStuck : Setup → ℕ → ℕ → Step → Type 0
-IsStuck S i k a = Says anywhere k word.StuckAndAbort (more.Mode (mode_of_way (leg S i k))) a
+IsStuck S i k a = Says anywhere k word.StuckAndAbort (more.Mode (mode_of_leg (leg S i k))) a
 
 -- The steps from leg k of the plan on come in turn, at these places: leg by leg an activity ends and the leg departs; then it arrives and
 -- the next activity starts, and the later legs follow; or it is stuck, and nothing follows.

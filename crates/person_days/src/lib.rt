@@ -36,5 +36,5 @@ pub fn few_events()
 
 /// No event of a day has a second past the day's end.
 pub fn events_are_in_time()
-    ensures { (S : Setup) → All (λ (e : Event). e.key.second ≤ S.end) (day S) }
+    ensures { (S : Setup) → All (λ (e : Event). e.key.second ≤ S.settings.end_second) (day S) }
 {}

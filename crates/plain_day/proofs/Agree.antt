@@ -4,7 +4,7 @@ use Rattle.std.specs.Prelude.{filter, map, not, Option, if◌then◌else◌}
 use Rattle.std.proofs.lemmas.Bool.{cases_Bool}
 use Rattle.traffic.specs.declared.moves.Move.{Move}
 use Rattle.traffic.specs.declared.moves.Move.TheVariants.{Put, Gone, New, Mark, Credit, Free, Tell}
-use Rattle.traffic.specs.declared.numbers.Stuck.{Stuck}
+use Rattle.rows.specs.declared.settings.Stuck.{Stuck}
 use Rattle.traffic.specs.declared.sight.Entry.{Entry}
 use Rattle.traffic.specs.declared.sight.Exit.{Exit}
 use Rattle.traffic.specs.declared.world.Row.{Row}

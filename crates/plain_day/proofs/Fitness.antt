@@ -6,22 +6,23 @@ use Rattle.std.proofs.lemmas.List.Elements.{All-from_recursion, recursion_from_A
 use Rattle.std.proofs.lemmas.List.Folds.{list_all-map}
 use Rattle.events.specs.declared.event.Phase.{Phase}
 use Rattle.events.specs.declared.event.Phase.TheVariants as phase
-use Rattle.plans.specs.declared.plan.Plan.{Plan}
-use Rattle.plans.specs.Parts.{parts_of}
-use Rattle.town.specs.declared.rows.Town.{Town}
+use Rattle.rows.specs.declared.plan.Plan.{Plan}
+use Rattle.rows.specs.PlanRows.{plan_rows}
+use Rattle.town.specs.declared.day_input.DayInput.{DayInput}
 use Rattle.town.specs.Rows.{TownRows}
 use Rattle.town.specs.Fits.{fits}
-use Rattle.town.specs.Setups.{setup_of, itinerary_of}
-use Rattle.town.specs.Views.{rows_of, setup_in}
-use Rattle.traffic.specs.declared.rows.Stage.{Stage}
-use Rattle.traffic.specs.declared.rows.Stage.TheVariants.{Queue, Buffer, Wait, Bay}
+use Rattle.town.specs.Setups.{setup_of}
+use Rattle.town.specs.Views.{rows_of, setup}
+use Rattle.traffic.specs.declared.stage.Stage.{Stage}
+use Rattle.traffic.specs.declared.stage.Stage.TheVariants.{Queue, Buffer, Wait, Bay}
 use Rattle.traffic.specs.declared.world.Row.{Row}
 use Rattle.traffic.specs.declared.world.Place.{Place}
 use Rattle.traffic.specs.declared.world.Place.TheVariants.{At, Flying, Waiting, Riding, Gone}
 use Rattle.traffic.specs.declared.world.Person.{Person}
 use Rattle.traffic.specs.Vehicles.{VehicleState}
 use Rattle.traffic.specs.Rows.{World, person_of}
-use Rattle.traffic.specs.Setup.{Way}
+use Rattle.rows.specs.declared.plan.Leg.{Leg}
+use Rattle.traffic.specs.Setup.{person_plan}
 use Rattle.traffic.specs.Nodes.{next_link}
 use Rattle.traffic.specs.Moves.{run}
 use Rattle.traffic.specs.Day.{plan_of, count_of}
@@ -33,15 +34,15 @@ use Rattle.fit_days.proofs.Towns.{town_fit}
 use Rattle.fit_days.proofs.Seconds.{turn_fit}
 use Rattle.fit_days.proofs.Kept.{run_fit}
 use Rattle.plain_turns.specs.Limits.{IsSmall}
-use Rattle.plain_day.specs.Fit.{GoesOn, IsFit, AreFit, HasLegAfter, CanLeave, plan_in}
-use Rattle.plain_day.specs.Given.{AreGiven}
+use Rattle.plain_day.specs.Fit.{GoesOn, IsFit, AreFit, HasLegAfter, CanLeave}
+use Rattle.plain_day.specs.Plans.{HaveFittingPlans}
 
-pub plans_fit : (town : Town) (chosen : List Plan) → AreGiven town chosen → All (λ (p : Plan). fits (rows_of town) (parts_of p) ≡ true) chosen
-plans_fit town chosen given =
-    let test : Plan → Bool = λ p. fits (rows_of town) (parts_of p) in
-    let P : Plan → Type 0 = λ p. fits (rows_of town) (parts_of p) ≡ true in
-    let passed : list_all test chosen ≡ true = sym (list_all-map (fits (rows_of town)) parts_of chosen) ∙ given.fit in
-    All-from_recursion P chosen (each_tested P test (λ p h. h) chosen passed)
+pub plans_fit : (day : DayInput) → HaveFittingPlans day → All (λ (p : Plan). fits (rows_of day.town.now) (plan_rows p) ≡ true) day.chosen.now
+plans_fit day given =
+    let test : Plan → Bool = λ p. fits (rows_of day.town.now) (plan_rows p) in
+    let P : Plan → Type 0 = λ p. fits (rows_of day.town.now) (plan_rows p) ≡ true in
+    let passed : list_all test day.chosen.now ≡ true = sym (list_all-map (fits (rows_of day.town.now)) plan_rows day.chosen.now) ∙ given.fit in
+    All-from_recursion P day.chosen.now (each_tested P test (λ p h. h) day.chosen.now passed)
 
 is_small : (z : Counts) (v : VehicleState) → IsFitVehicle z v → IsSmall v
 is_small z v h =
@@ -69,58 +70,62 @@ are_fit z (r ∷ rs) h =
     let parts = recursion_from_All (IsFitRow z) (r ∷ rs) h in
     (is_fit z r parts.0, are_fit z rs (All-from_recursion (IsFitRow z) rs parts.1))
 
-pub rows_fit : (town : Town) (chosen : List Plan) (W : World) → IsFitWorld (counts_in town chosen) W → AreFit (length town.network.links) W.rows
-rows_fit town chosen W h = are_fit (counts_in town chosen) W.rows h.rows
+pub rows_fit : (day : DayInput) (W : World) → IsFitWorld (counts_in day) W → AreFit (length day.town.now.network.links) W.rows
+rows_fit day W h = are_fit (counts_in day) W.rows h.rows
 
-pub one_each : (town : Town) (chosen : List Plan) (W : World) → IsFitWorld (counts_in town chosen) W → length W.persons ≡ length chosen
-one_each town chosen W h = h.one_each ∙ length-map chosen parts_of
+pub one_each : (day : DayInput) (W : World) → IsFitWorld (counts_in day) W → length W.persons ≡ length day.chosen.now
+one_each day W h = h.one_each ∙ length-map day.chosen.now plan_rows
 
-leg_after : (z : Counts) (i element : ℕ) (ways : List Way) (place : Place) → z.legs i ≡ length ways → IsFitPlace z i element place → HasLegAfter ways element place
-leg_after z i element ways (At None) e h = tt
-leg_after z i element ways (At (Some end)) e h = subst (λ (n : ℕ). element / 2 < n) e h
-leg_after z i element ways (Flying start) e h = tt
-leg_after z i element ways (Waiting stop since) e h = tt
-leg_after z i element ways (Riding vehicle) e h = tt
-leg_after z i element ways (Gone link) e h = tt
+leg_after : (z : Counts) (i element : ℕ) (legs : List Leg) (place : Place) → z.legs i ≡ length legs → IsFitPlace z i element place → HasLegAfter legs element place
+leg_after z i element legs (At None) e h = tt
+leg_after z i element legs (At (Some end)) e h = subst (λ (n : ℕ). element / 2 < n) e h
+leg_after z i element legs (Flying start) e h = tt
+leg_after z i element legs (Waiting stop since) e h = tt
+leg_after z i element legs (Riding vehicle) e h = tt
+leg_after z i element legs (Gone link) e h = tt
 
-pub can_leave : (town : Town) (chosen : List Plan) (W : World) (i : ℕ) → IsFitWorld (counts_in town chosen) W → CanLeave (plan_in chosen i) (person_of i W)
-can_leave town chosen W i h = leg_after (counts_in town chosen) i (person_of i W).element (plan_in chosen i).ways (person_of i W).place refl (h.persons i)
-
-in_persons : (town : Town) (chosen : List Plan) (k : ℕ) → count_of (setup_in town chosen k) phase.A ≡ length chosen
+legs_are : (day : DayInput) (i : ℕ) → (counts_in day).legs i ≡ length (person_plan (setup day) i).legs
 unfolding setup_of
-in_persons town chosen k = length-map (map parts_of chosen) itinerary_of ∙ length-map chosen parts_of
+legs_are day i = refl
 
-in_departures : (town : Town) (chosen : List Plan) (k : ℕ) → count_of (setup_in town chosen k) phase.B2 ≡ length town.departures.rows
-unfolding setup_of
-in_departures town chosen k = length-map town.departures.rows _
+pub can_leave : (day : DayInput) (W : World) (i : ℕ) → IsFitWorld (counts_in day) W → CanLeave (person_plan (setup day) i) (person_of i W)
+can_leave day W i h = leg_after (counts_in day) i (person_of i W).element (person_plan (setup day) i).legs (person_of i W).place (legs_are day i) (h.persons i)
 
-in_links : (town : Town) (chosen : List Plan) (k : ℕ) → count_of (setup_in town chosen k) phase.D ≡ length town.network.links
+in_persons : (day : DayInput) → count_of (setup day) phase.A ≡ length day.chosen.now
 unfolding setup_of
-in_links town chosen k = length-map town.network.links _
+in_persons day = length-map day.chosen.now plan_rows
+
+in_departures : (day : DayInput) → count_of (setup day) phase.B2 ≡ length day.town.now.departures.rows
+unfolding setup_of
+in_departures day = length-map day.town.now.departures.rows _
+
+in_links : (day : DayInput) → count_of (setup day) phase.D ≡ length day.town.now.network.links
+unfolding setup_of
+in_links day = refl
 
 -- who has a turn in a phase is there
 there : (n count some : ℕ) → count ≡ some → n < count → n < some
 there n count some e h = omega (e, h, arith)
 
-pub lands_there : (town : Town) (chosen : List Plan) (k n : ℕ) (p : Phase) → p ≡ phase.A → n < count_of (setup_in town chosen k) p → n < length chosen
-lands_there town chosen k n p e h = there n _ _ (ap (count_of (setup_in town chosen k)) e ∙ in_persons town chosen k) h
+pub lands_there : (day : DayInput) (n : ℕ) (p : Phase) → p ≡ phase.A → n < count_of (setup day) p → n < length day.chosen.now
+lands_there day n p e h = there n _ _ (ap (count_of (setup day)) e ∙ in_persons day) h
 
-pub leaves_there : (town : Town) (chosen : List Plan) (k n : ℕ) (p : Phase) → p ≡ phase.B1 → n < count_of (setup_in town chosen k) p → n < length chosen
-leaves_there town chosen k n p e h = there n _ _ (ap (count_of (setup_in town chosen k)) e ∙ in_persons town chosen k) h
+pub leaves_there : (day : DayInput) (n : ℕ) (p : Phase) → p ≡ phase.B1 → n < count_of (setup day) p → n < length day.chosen.now
+leaves_there day n p e h = there n _ _ (ap (count_of (setup day)) e ∙ in_persons day) h
 
-pub departs_there : (town : Town) (chosen : List Plan) (k n : ℕ) (p : Phase) → p ≡ phase.B2 → n < count_of (setup_in town chosen k) p → n < length town.departures.rows
-departs_there town chosen k n p e h = there n _ _ (ap (count_of (setup_in town chosen k)) e ∙ in_departures town chosen k) h
+pub departs_there : (day : DayInput) (n : ℕ) (p : Phase) → p ≡ phase.B2 → n < count_of (setup day) p → n < length day.town.now.departures.rows
+departs_there day n p e h = there n _ _ (ap (count_of (setup day)) e ∙ in_departures day) h
 
-pub link_there : (town : Town) (chosen : List Plan) (k n : ℕ) (p : Phase) → p ≡ phase.D → n < count_of (setup_in town chosen k) p → n < length town.network.links
-link_there town chosen k n p e h = there n _ _ (ap (count_of (setup_in town chosen k)) e ∙ in_links town chosen k) h
+pub link_there : (day : DayInput) (n : ℕ) (p : Phase) → p ≡ phase.D → n < count_of (setup day) p → n < length day.town.now.network.links
+link_there day n p e h = there n _ _ (ap (count_of (setup day)) e ∙ in_links day) h
 
-pub person_there : (town : Town) (chosen : List Plan) (W : World) (n : ℕ) → IsFitWorld (counts_in town chosen) W → n < length chosen → n < length W.persons
-person_there town chosen W n h lt = there n _ _ (sym (one_each town chosen W h)) lt
+pub person_there : (day : DayInput) (W : World) (n : ℕ) → IsFitWorld (counts_in day) W → n < length day.chosen.now → n < length W.persons
+person_there day W n h lt = there n _ _ (sym (one_each day W h)) lt
 
-pub turn_keeps_fit : (town : Town) (chosen : List Plan) (k t n : ℕ) (p : Phase) (W next : World) → AreGiven town chosen → IsFitWorld (counts_in town chosen) W
-    → n < count_of (setup_in town chosen k) p → next ≡ run (setup_in town chosen k) t (plan_of (setup_in town chosen k) t p n W) W → IsFitWorld (counts_in town chosen) next
-turn_keeps_fit town chosen k t n p W next given fit there e =
-    let S = setup_in town chosen k in
-    let z = counts_in town chosen in
-    let f = town_fit town chosen k (plans_fit town chosen given) in
+pub turn_keeps_fit : (day : DayInput) (t n : ℕ) (p : Phase) (W next : World) → HaveFittingPlans day → IsFitWorld (counts_in day) W
+    → n < count_of (setup day) p → next ≡ run (setup day) t (plan_of (setup day) t p n W) W → IsFitWorld (counts_in day) next
+turn_keeps_fit day t n p W next given fit there e =
+    let S = setup day in
+    let z = counts_in day in
+    let f = town_fit day (plans_fit day given) in
     subst (IsFitWorld z) (sym e) (run_fit z S t (plan_of S t p n W) W f fit (turn_fit z S t n p W f fit there))

@@ -3,8 +3,9 @@ use Rattle.std.proofs.Common.{◌≡◌, ℕ, ◌<◌, ◌≤◌, true, List, []
 use Rattle.std.specs.Prelude.{All, filter, ◌==◌, ◌&&◌}
 use Rattle.std.proofs.lemmas.Bool.{cases_Bool}
 use Rattle.std.proofs.lemmas.List.Elements.{All-head, All-tail}
-use Rattle.traffic.specs.declared.rows.Stage.{Stage}
-use Rattle.traffic.specs.declared.rows.Stage.TheVariants.{Queue, Buffer, Wait, Bay}
+use Rattle.limits.specs.declared.TheConstants.{MAX_LENGTH}
+use Rattle.traffic.specs.declared.stage.Stage.{Stage}
+use Rattle.traffic.specs.declared.stage.Stage.TheVariants.{Queue, Buffer, Wait, Bay}
 use Rattle.traffic.specs.declared.world.Row.{Row}
 use Rattle.traffic.specs.declared.sight.Entry.{Entry}
 use Rattle.traffic.specs.Vehicles.{VehicleState}
@@ -47,7 +48,7 @@ within_at links l (r ∷ rs) h =
       | inr e ↦ simp e (within_at links l rs h.1)
     ]
 
-pub near_push : (xs : List ExitRow) (x : ExitRow) → AreNear xs → x.exit.seconds ≤ 10000000 → AreNear (xs ++ x ∷ [])
+pub near_push : (xs : List ExitRow) (x : ExitRow) → AreNear xs → x.exit.seconds ≤ MAX_LENGTH → AreNear (xs ++ x ∷ [])
 near_push [] x h g = (g, tt)
 near_push (y ∷ ys) x h g = (h.0, near_push ys x h.1 g)
 

@@ -3,24 +3,22 @@ use Rattle.std.proofs.Common.{◌≡◌, ℕ, Bool, true, false, List, [], ◌�
 use Rattle.std.specs.Prelude.{filter, not, ◌&&◌, ◌||◌, ◌==◌}
 use Rattle.std.specs.List.{list_any}
 use Rattle.fixed_flow.specs.Flow.{raised}
-use Rattle.plans.specs.declared.plan.Plan.{Plan}
-use Rattle.town.specs.declared.rows.Town.{Town}
-use Rattle.town.specs.Setups.{setup_of}
-use Rattle.town.specs.Views.{setup_in}
+use Rattle.town.specs.declared.day_input.DayInput.{DayInput}
+use Rattle.town.specs.Views.{setup}
 use Rattle.traffic.specs.declared.moves.Move.{Move}
 use Rattle.traffic.specs.declared.moves.Move.TheVariants.{Credit}
 use Rattle.traffic.specs.declared.numbers.Rules.{Rules}
-use Rattle.traffic.specs.declared.rows.Stage.{Stage}
-use Rattle.traffic.specs.declared.rows.Stage.TheVariants.{Queue, Buffer, Wait, Bay}
+use Rattle.traffic.specs.declared.stage.Stage.{Stage}
+use Rattle.traffic.specs.declared.stage.Stage.TheVariants.{Queue, Buffer, Wait, Bay}
 use Rattle.traffic.specs.declared.world.Row.{Row}
 use Rattle.traffic.specs.declared.world.Waiter.{Waiter}
 use Rattle.traffic.specs.Rows.{World, rank, on, credit_of}
-use Rattle.traffic.specs.Setup.{gain_of}
+use Rattle.traffic.specs.Setup.{Setup, gain_of}
 use Rattle.traffic.specs.Links.{Lane, lane, rules, link_moves}
 use Rattle.traffic.specs.Persons.{waiters}
 use Rattle.traffic.specs.Day.{link_plan}
 use Rattle.traffic.proofs.Idle.{link_idle}
-use Rattle.plain_day.specs.Fit.{streets, stays_on}
+use Rattle.plain_day.specs.Fit.{stays_on}
 
 -- a link with no row but in its buffer has no row in its queue, its wait list or its bay
 and_false : (b : Bool) → b && false ≡ false
@@ -51,19 +49,17 @@ unused l s (r ∷ rs) h g =
     rw e (unused l s rs h p.1)
 
 -- a link with nothing to do raises its credit alone
-pub idle_is : (town : Town) (chosen : List Plan) (n t l : ℕ) (W : World) (rows : List Row) (gain before credit : ℕ) → rows ≡ W.rows → list_any (stays_on l) rows ≡ false →
-    gain ≡ gain_of (streets town) l → before ≡ credit_of l W → credit ≡ raised gain before → link_plan (setup_in town chosen n) t l W ≡ Credit l credit ∷ []
-unfolding setup_of
-idle_is town chosen n t l W rows gain before credit r u g b c =
-    let S = setup_in town chosen n in
+pub idle_is : (day : DayInput) (t l : ℕ) (W : World) (rows : List Row) (gain before credit : ℕ) → rows ≡ W.rows → list_any (stays_on l) rows ≡ false →
+    gain ≡ gain_of (setup day) l → before ≡ credit_of l W → credit ≡ raised gain before → link_plan (setup day) t l W ≡ Credit l credit ∷ []
+idle_is day t l W rows gain before credit r u g b c =
+    let S = setup day in
     let v : list_any (stays_on l) W.rows ≡ false = rw (← r) u in
     link_idle (rules S l) t l (waiters S l W) (lane l W) (unused l Queue W.rows refl v) (unused l Wait W.rows refl v) (unused l Bay W.rows refl v)
-    ∙ ap (λ x. Credit l x ∷ []) (sym (c ∙ ap (λ x. raised x before) g ∙ ap (λ x. raised (gain_of (streets town) l) x) b))
+    ∙ ap (λ x. Credit l x ∷ []) (sym (c ∙ ap (λ x. raised x before) g ∙ ap (λ x. raised (gain_of S l) x) b))
 
 -- the turn of a link, by its parts
-pub turn_is : (town : Town) (chosen : List Plan) (n t l : ℕ) (W : World) (K : Rules) (ws : List Waiter) (L : Lane) (moves : List Move) → K ≡ rules (streets town) l →
-    ws ≡ waiters (setup_in town chosen 0) l W → L ≡ lane l W → moves ≡ link_moves K t l ws L → moves ≡ link_plan (setup_in town chosen n) t l W
-unfolding setup_of waiters
-turn_is town chosen n t l W K ws L moves k w e m =
-    m ∙ ap (λ (x : Rules). link_moves x t l ws L) k ∙ ap (λ (x : List Waiter). link_moves (rules (streets town) l) t l x L) w
-    ∙ ap (λ (x : Lane). link_moves (rules (streets town) l) t l (waiters (setup_in town chosen 0) l W) x) e
+pub turn_is : (S : Setup) (t l : ℕ) (W : World) (K : Rules) (ws : List Waiter) (L : Lane) (moves : List Move) → K ≡ rules S l →
+    ws ≡ waiters S l W → L ≡ lane l W → moves ≡ link_moves K t l ws L → moves ≡ link_plan S t l W
+turn_is S t l W K ws L moves k w e m =
+    m ∙ ap (λ (x : Rules). link_moves x t l ws L) k ∙ ap (λ (x : List Waiter). link_moves (rules S l) t l x L) w
+    ∙ ap (λ (x : Lane). link_moves (rules S l) t l (waiters S l W) x) e

@@ -6,32 +6,31 @@ use Rattle.std.proofs.lemmas.Bool.{cases_Bool, and_parts, eqb-true, ne_eqb, eq-e
 use Rattle.std.proofs.lemmas.List.{length-map}
 use Rattle.std.proofs.lemmas.List.Sums.{length-filter}
 use Rattle.std.proofs.lemmas.Bool.Decides.{nat_tests}
+use Rattle.limits.specs.declared.TheConstants.{MAX_IN_LINKS}
 use Rattle.draws.specs.Words.{Source, word, node_source}
-use Rattle.network.specs.declared.rows.LinkRow.{LinkRow}
+use Rattle.rows.specs.declared.network.LinkRow.{LinkRow}
 use Rattle.network.specs.Limits.{in_links}
-use Rattle.plans.specs.declared.plan.Plan.{Plan}
-use Rattle.town.specs.declared.rows.Town.{Town}
+use Rattle.town.specs.declared.day_input.DayInput.{DayInput}
 use Rattle.town.specs.Setups.{setup_of}
-use Rattle.town.specs.Views.{setup_in, rows_of}
+use Rattle.town.specs.Views.{setup}
 use Rattle.traffic.specs.declared.moves.Move.{Move}
-use Rattle.traffic.specs.declared.rows.Stage.TheVariants.{Buffer}
+use Rattle.traffic.specs.declared.stage.Stage.TheVariants.{Buffer}
 use Rattle.traffic.specs.declared.sight.Entry.{Entry}
 use Rattle.traffic.specs.declared.world.Row.{Row}
 use Rattle.traffic.specs.Lists.{numbers, below}
 use Rattle.traffic.specs.Rows.{World, rank, on}
-use Rattle.traffic.specs.Setup.{Setup, Road, into}
+use Rattle.traffic.specs.Setup.{Setup, into}
 use Rattle.traffic.specs.Nodes.{entry, exit, sight, ready, node_moves}
 use Rattle.traffic.specs.Day.{node_plan}
 use Rattle.traffic.proofs.Idle.{node_idle}
 use Rattle.plain_turns.specs.declared.exits.ExitRow.{ExitRow}
 use Rattle.plain_turns.specs.Exits.{exits_in, sight_of}
-use Rattle.plain_day.specs.Fit.{streets, AreFit}
+use Rattle.plain_day.specs.Fit.{AreFit}
 use Rattle.plain_day.specs.Sights.{exit_row, is_out, is_in, is_before}
 use Rattle.plain_day.proofs.Agree.{Agree, AllGo, node_same}
 use Rattle.plain_day.proofs.Fitting.{within_at}
 use Rattle.plain_day.proofs.Seen.{into_is}
-use Rattle.plain_day.proofs.Numbers.{road_at}
-use Rattle.plain_day.proofs.Departing.{same_at}
+use Rattle.plain_day.proofs.Numbers.{row_is, same_at}
 use Rattle.plain_day.proofs.LinkTurns.{or_parts}
 
 -- THE EXITS
@@ -99,29 +98,29 @@ none_ready S t links n W k (suc m) h g =
     ]
 
 -- a node to which no row comes does nothing
-pub quiet_is : (town : Town) (chosen : List Plan) (iteration t n : ℕ) (W : World) (rows : List Row) → rows ≡ W.rows → list_any (is_before (streets town) (length town.network.links) n) rows ≡ false →
-    node_plan (setup_in town chosen iteration) t n W ≡ []
+pub quiet_is : (day : DayInput) (t n : ℕ) (W : World) (rows : List Row) → rows ≡ W.rows → list_any (is_before (setup day) (length day.town.now.network.links) n) rows ≡ false →
+    node_plan (setup day) t n W ≡ []
 unfolding setup_of into
-quiet_is town chosen iteration t n W rows r g =
-    let v : list_any (is_before (streets town) (length town.network.links) n) W.rows ≡ false = rw (← r) g in
-    let e : ready (map (entry (streets town) t W) (into (streets town) n)) ≡ []
-    = ap (λ (ls : List ℕ). ready (map (entry (streets town) t W) ls)) (into_is town n) ∙ none_ready (streets town) t (length town.network.links) n W 0 (length town.network.links) (omega arith) v in
-    node_idle (setup_in town chosen iteration).stuck t ((setup_in town chosen iteration).word n) (sight (setup_in town chosen iteration) t n W) e
+quiet_is day t n W rows r g =
+    let v : list_any (is_before (setup day) (length day.town.now.network.links) n) W.rows ≡ false = rw (← r) g in
+    let e : ready (map (entry (setup day) t W) (into (setup day) n)) ≡ []
+    = ap (λ (ls : List ℕ). ready (map (entry (setup day) t W) ls)) (into_is day n) ∙ none_ready (setup day) t (length day.town.now.network.links) n W 0 (length day.town.now.network.links) (omega arith) v in
+    node_idle (setup day).settings.stuck t ((setup day).word n) (sight (setup day) t n W) e
 
 -- the turn of a node, by its parts
-pub node_is : (town : Town) (chosen : List Plan) (iteration t n : ℕ) (W : World) (entries : List Entry) (exits : List ExitRow) (draws : Source) (moves : List Move) → AreFit (length town.network.links) W.rows →
-    entries ≡ map (entry (streets town) t W) (into (streets town) n) →
-    exits ≡ map (exit_row (streets town) t W) (filter (is_out (streets town) n) (below (length town.network.links))) →
-    draws ≡ node_source town.seed iteration n → moves ≡ node_moves town.stuck t (word draws) (sight_of entries exits) → moves ≡ node_plan (setup_in town chosen iteration) t n W
+pub node_is : (day : DayInput) (t n : ℕ) (W : World) (entries : List Entry) (exits : List ExitRow) (draws : Source) (moves : List Move) → AreFit (length day.town.now.network.links) W.rows →
+    entries ≡ map (entry (setup day) t W) (into (setup day) n) →
+    exits ≡ map (exit_row (setup day) t W) (filter (is_out (setup day) n) (below (length day.town.now.network.links))) →
+    draws ≡ node_source day.town.now.seed day.iteration n → moves ≡ node_moves day.town.now.settings.stuck t (word draws) (sight_of entries exits) → moves ≡ node_plan (setup day) t n W
 unfolding setup_of into
-node_is town chosen iteration t n W entries exits draws moves fit e x d m =
-    let S = streets town in
-    let links = length town.network.links in
+node_is day t n W entries exits draws moves fit e x d m =
+    let S = setup day in
+    let links = length day.town.now.network.links in
     let es = map (entry S t W) (into S n) in
     let agree : Agree links (exits_in exits) (exit S t n W) = rw x (exits_agree S t n links W) in
-    m ∙ ap (λ (ys : List Entry). node_moves town.stuck t (word draws) (record { entries = ys; exits = exits_in exits })) e
-    ∙ node_same links town.stuck t (word draws) es (exits_in exits) (exit S t n W) agree (entries_go S t links W (into S n) fit)
-    ∙ ap (λ (s : Source). node_moves town.stuck t (word s) (sight S t n W)) d
+    m ∙ ap (λ (ys : List Entry). node_moves day.town.now.settings.stuck t (word draws) (record { entries = ys; exits = exits_in exits })) e
+    ∙ node_same links day.town.now.settings.stuck t (word draws) es (exits_in exits) (exit S t n W) agree (entries_go S t links W (into S n) fit)
+    ∙ ap (λ (s : Source). node_moves day.town.now.settings.stuck t (word s) (sight S t n W)) d
 
 -- AT MOST SIXTEEN LINKS
 as_many : {X : Type 0} (f : ℕ → Bool) (q : X → Bool) (d : X) (k : ℕ) (xs : List X) → ((j : ℕ) → j < length xs → f (k + j) ≡ q (get_or xs j d)) → length (filter f (numbers k (length xs))) ≡ length (filter q xs)
@@ -134,18 +133,18 @@ as_many f q d k (x ∷ xs) h =
       | inr e ↦ let b = a ∙ e in simp (b, e) i
     ]
 
-in_is : (town : Town) (n j : ℕ) (d : LinkRow) → j < length town.network.links → is_in (streets town) n j ≡ nat_eq (get_or town.network.links j d).to n
-in_is town n j d h =
-    let row = get_or town.network.links j d in
-    ap (λ (r : Road). r.to == n) (road_at (rows_of town) [] 0 j row h (same_at j town.network.links d row h))
+in_is : (day : DayInput) (n j : ℕ) (d : LinkRow) → j < length day.town.now.network.links → is_in (setup day) n j ≡ nat_eq (get_or day.town.now.network.links j d).to n
+in_is day n j d h =
+    let row = get_or day.town.now.network.links j d in
+    ap (λ (r : LinkRow). r.to == n) (row_is day j row h (same_at j day.town.now.network.links d row h))
 
-pub few_entries : (town : Town) (t n : ℕ) (W : World) (entries : List Entry) → entries ≡ map (entry (streets town) t W) (into (streets town) n) → in_links town.network.links n ≤ 16 → length entries ≤ 16
+pub few_entries : (day : DayInput) (t n : ℕ) (W : World) (entries : List Entry) → entries ≡ map (entry (setup day) t W) (into (setup day) n) → in_links day.town.now.network.links n ≤ MAX_IN_LINKS → length entries ≤ MAX_IN_LINKS
 unfolding in_links
-few_entries town t n W entries e h =
+few_entries day t n W entries e h =
     let d : LinkRow = record { from = 0; to = 0; length = 0; speed = 0; capacity = 0; lanes = 0 } in
-    let a : length entries ≡ length (into (streets town) n) = ap length e ∙ length-map (into (streets town) n) (entry (streets town) t W) in
-    let b : length (into (streets town) n) ≡ length (filter (is_in (streets town) n) (below (length town.network.links))) = ap length (into_is town n) in
-    let f : length (filter (is_in (streets town) n) (below (length town.network.links))) ≡ length (filter (λ (l : LinkRow). nat_eq l.to n) town.network.links)
-    = as_many (is_in (streets town) n) (λ (l : LinkRow). nat_eq l.to n) d 0 town.network.links (λ j g. ap (is_in (streets town) n) (let q : 0 + j ≡ j = omega arith in q) ∙ in_is town n j d g) in
-    let c = length-filter (λ (l : LinkRow). nat_eq l.to n) town.network.links in
+    let a : length entries ≡ length (into (setup day) n) = ap length e ∙ length-map (into (setup day) n) (entry (setup day) t W) in
+    let b : length (into (setup day) n) ≡ length (filter (is_in (setup day) n) (below (length day.town.now.network.links))) = ap length (into_is day n) in
+    let f : length (filter (is_in (setup day) n) (below (length day.town.now.network.links))) ≡ length (filter (λ (l : LinkRow). nat_eq l.to n) day.town.now.network.links)
+    = as_many (is_in (setup day) n) (λ (l : LinkRow). nat_eq l.to n) d 0 day.town.now.network.links (λ j g. ap (is_in (setup day) n) (let q : 0 + j ≡ j = omega arith in q) ∙ in_is day n j d g) in
+    let c = length-filter (λ (l : LinkRow). nat_eq l.to n) day.town.now.network.links in
     omega arith

@@ -3,19 +3,19 @@ use Rattle.std.proofs.Common.{◌≡◌, ℕ, suc, ◌+◌, Bool, List, [], ◌�
 use Rattle.std.specs.Prelude.{filter, map, nat_lt, ◌==◌}
 use Rattle.std.proofs.lemmas.Bool.{cases_Bool}
 use Rattle.std.proofs.lemmas.List.{length-map}
-use Rattle.network.specs.declared.rows.LinkRow.{LinkRow}
-use Rattle.town.specs.declared.rows.Town.{Town}
-use Rattle.town.specs.Greens.{is_green, green_at}
-use Rattle.town.specs.Setups.{setup_of, road_of}
+use Rattle.rows.specs.declared.network.LinkRow.{LinkRow}
+use Rattle.town.specs.declared.day_input.DayInput.{DayInput}
+use Rattle.rows.specs.Greens.{is_green, green_at}
+use Rattle.town.specs.Setups.{setup_of}
 use Rattle.traffic.specs.declared.sight.Entry.{Entry}
 use Rattle.traffic.specs.declared.world.Row.{Row}
 use Rattle.traffic.specs.declared.world.Hole.{Hole}
-use Rattle.traffic.specs.declared.rows.Stage.TheVariants.{Queue, Buffer}
-use Rattle.traffic.specs.Setup.{Setup, Road, road, hole_of, into}
+use Rattle.traffic.specs.declared.stage.Stage.TheVariants.{Queue, Buffer}
+use Rattle.traffic.specs.Setup.{Setup, link_row, hole_of, into}
 use Rattle.traffic.specs.Lists.{below}
 use Rattle.traffic.specs.Rows.{World, holes_at, on}
 use Rattle.traffic.specs.Nodes.{in_force, taken_at, entry}
-use Rattle.plain_day.specs.Fit.{streets}
+use Rattle.town.specs.Views.{setup}
 use Rattle.plain_day.specs.Sights.{is_in_force, is_in}
 
 -- the holes in force of a link, counted among all holes
@@ -39,16 +39,16 @@ taken_is S t l W rows hs queue h holes taken r s q e f g =
     (f ∙ ap (λ (xs : List Hole). length (filter (is_in_force l t h) xs)) s ∙ sym (holes_counted l t h W) ∙ ap (λ n. in_force t n (holes_at l W)) e)
 
 -- a link as the node at its end sees it
-pub entry_is : (town : Town) (t l : ℕ) (W : World) (row : LinkRow) (green : Bool) (rows here : List Row) → road (streets town) l ≡ road_of row → green ≡ is_green (green_at town.greens l) t →
-    rows ≡ W.rows → here ≡ filter (on l Buffer) rows → ◌≡◌ {A = Entry} (record { link = l; capacity = row.capacity; green = green; rows = here }) (entry (streets town) t W l)
+pub entry_is : (day : DayInput) (t l : ℕ) (W : World) (row : LinkRow) (green : Bool) (rows here : List Row) → link_row (setup day) l ≡ row → green ≡ is_green (green_at day.town.now.greens l) t →
+    rows ≡ W.rows → here ≡ filter (on l Buffer) rows → ◌≡◌ {A = Entry} (record { link = l; capacity = row.capacity; green = green; rows = here }) (entry (setup day) t W l)
 unfolding setup_of
-entry_is town t l W row green rows here e g r h =
+entry_is day t l W row green rows here e g r h =
     let f : ℕ → Bool → List Row → Entry = λ c b xs. record { link = l; capacity = c; green = b; rows = xs } in
-    ap (λ (x : Road). f x.capacity green here) (sym e)
-    ∙ ap (λ b. f (road (streets town) l).capacity b here) g
-    ∙ ap (λ xs. f (road (streets town) l).capacity (is_green (green_at town.greens l) t) xs) (h ∙ ap (λ (xs : List Row). filter (on l Buffer) xs) r)
+    ap (λ (x : LinkRow). f x.capacity green here) (sym e)
+    ∙ ap (λ b. f (link_row (setup day) l).capacity b here) g
+    ∙ ap (λ xs. f (link_row (setup day) l).capacity (is_green (green_at day.town.now.greens l) t) xs) (h ∙ ap (λ (xs : List Row). filter (on l Buffer) xs) r)
 
--- the links into a node, by the town's list of links
-pub into_is : (town : Town) (n : ℕ) → into (streets town) n ≡ filter (is_in (streets town) n) (below (length town.network.links))
+-- the links into a node, by the day's list of links
+pub into_is : (day : DayInput) (n : ℕ) → into (setup day) n ≡ filter (is_in (setup day) n) (below (length day.town.now.network.links))
 unfolding into setup_of
-into_is town n = ap (λ m. filter (is_in (streets town) n) (below m)) (length-map town.network.links road_of)
+into_is day n = refl

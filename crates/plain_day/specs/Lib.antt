@@ -2,5 +2,4 @@ pub mod Fit
 pub mod Measures
 pub mod Sights
 pub mod Legs
-pub mod Runs
-pub mod Given
+pub mod Plans

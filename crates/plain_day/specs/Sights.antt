@@ -1,10 +1,10 @@
 -- What nodes see of a world, as lists.
 use Rattle.std.specs.Prelude.{ℕ, ◌+◌, Bool, ◌&&◌, ◌==◌, nat_lt}
 use Rattle.traffic.specs.declared.world.Hole.{Hole}
-use Rattle.traffic.specs.declared.rows.Stage.TheVariants.{Buffer}
+use Rattle.traffic.specs.declared.stage.Stage.TheVariants.{Buffer}
 use Rattle.traffic.specs.declared.world.Row.{Row}
 use Rattle.traffic.specs.Rows.{World, rank}
-use Rattle.traffic.specs.Setup.{Setup, road, seconds_of, storage_of}
+use Rattle.traffic.specs.Setup.{Setup, link_row, seconds_of, storage_of}
 use Rattle.traffic.specs.Nodes.{taken_at}
 use Rattle.plain_turns.specs.declared.exits.ExitRow.{ExitRow}
 
@@ -14,10 +14,10 @@ is_in_force l t h x = (x.link == l) && nat_lt t (x.second + h)
 
 -- a link out of the node
 abbrev pub is_out : Setup → ℕ → ℕ → Bool
-is_out S n l = (road S l).from == n
+is_out S n l = (link_row S l).from == n
 
 abbrev pub is_in : Setup → ℕ → ℕ → Bool
-is_in S n l = (road S l).to == n
+is_in S n l = (link_row S l).to == n
 
 -- a link out of a node as the node sees it, with its number
 abbrev pub exit_row : Setup → ℕ → World → ℕ → ExitRow

@@ -1,28 +1,29 @@
 //! A second, and a day.
 
 ghost use Rattle.std.specs.Prelude.{◌≡◌, ◌<◌, ◌++◌, length, map, replicate, [], OnOk, IfOk};
+ghost use Rattle.limits.specs.declared.TheConstants.{LAST_SECOND};
 ghost use Rattle.events.specs.Lines.{AreInBook};
 ghost use Rattle.fixed_flow.specs.declared.TheConstants.{VEHICLE_COST};
 ghost use Rattle.fit_days.specs.Rows.{IsFitWorld};
 ghost use Rattle.fit_days.specs.Setups.{counts_in, HasItsLinks};
 ghost use Rattle.traffic.specs.Worlds.{OnePlace, Sound};
-ghost use Rattle.town.specs.Views.{setup_in};
-ghost use Rattle.town.specs.Setups.{itinerary_of};
-ghost use Rattle.plans.specs.Parts.{parts_of};
+ghost use Rattle.town.specs.Views.{setup, chosen_in};
+ghost use Rattle.rows.specs.PlanRows.{plan_rows};
 ghost use Rattle.traffic.specs.Persons.{stranded};
-ghost use Rattle.traffic.specs.Day.{second, second_events, at_home, world_start, world_from, events_from, keyed, end_events, day};
+ghost use Rattle.traffic.specs.Day.{second, second_events, at_home, world_start, world_from, events_from, keyed, end_events};
+ghost use Rattle.traffic.specs.Day as traffic_day;
 ghost use Rattle.events.specs.Keys.{phase_code};
 ghost use Rattle.events.specs.declared.event.Phase.TheVariants as phase;
-ghost use Rattle.plain_day.specs.Given.{AreGiven};
+ghost use Rattle.plain_day.specs.Plans.{HaveFittingPlans};
 
 use crate::ends::stranded;
 use crate::phases::do_phase;
 use events::{Event, Phase};
 use fixed_flow::VEHICLE_COST;
 use plain_world::{World, push_keyed};
-use plans::Plan;
+use rows::Plan;
 use std::alloc::{AllocError, Global};
-use town::Town;
+use town::DayInput;
 use traffic::{Person, Place};
 
 /// A second of a day in a fit world: persons land, persons leave, departures start, nodes hand over, links move.
@@ -36,25 +37,23 @@ use traffic::{Person, Place};
 #[tactic(auto, using(crate::proofs::Phasing::second_world, crate::proofs::Phasing::second_told))]
 pub fn fit_second(
     alloc: Global,
-    town: &Town,
-    chosen: &[Plan],
-    iteration: u32,
+    day: &DayInput,
     t: u32,
     world: &mut World,
     out: &mut Vec<Event>,
 ) -> Result<(), AllocError>
-    requires second_in { t < 172800 }
-    requires given { AreGiven town.now chosen.now }
-    requires fit { IsFitWorld (counts_in town.now chosen.now) world.old }
-    ensures world { OnOk result (world.new ≡ second (setup_in town.now chosen.now iteration) t world.old) }
-    ensures events { OnOk result (out.new.items ≡ out.old.items ++ second_events (setup_in town.now chosen.now iteration) t world.old) }
-    ensures fit { OnOk result (IsFitWorld (counts_in town.now chosen.now) world.new) }
+    requires second_in { t < LAST_SECOND }
+    requires given { HaveFittingPlans day.now }
+    requires fit { IsFitWorld (counts_in day.now) world.old }
+    ensures world { OnOk result (world.new ≡ second (setup day.now) t world.old) }
+    ensures events { OnOk result (out.new.items ≡ out.old.items ++ second_events (setup day.now) t world.old) }
+    ensures fit { OnOk result (IsFitWorld (counts_in day.now) world.new) }
 {
-    do_phase(alloc, town, chosen, iteration, t, Phase::A, world, out)?;
-    do_phase(alloc, town, chosen, iteration, t, Phase::B1, world, out)?;
-    do_phase(alloc, town, chosen, iteration, t, Phase::B2, world, out)?;
-    do_phase(alloc, town, chosen, iteration, t, Phase::C, world, out)?;
-    do_phase(alloc, town, chosen, iteration, t, Phase::D, world, out)?;
+    do_phase(alloc, day, t, Phase::A, world, out)?;
+    do_phase(alloc, day, t, Phase::B1, world, out)?;
+    do_phase(alloc, day, t, Phase::B2, world, out)?;
+    do_phase(alloc, day, t, Phase::C, world, out)?;
+    do_phase(alloc, day, t, Phase::D, world, out)?;
     Ok(())
 }
 
@@ -66,29 +65,26 @@ pub fn fit_second(
 /// `AllocError`: there is no memory for a row, a hole or an event.
 pub fn plain_second(
     alloc: Global,
-    town: &Town,
-    chosen: &[Plan],
-    iteration: u32,
+    day: &DayInput,
     t: u32,
     world: &mut World,
     out: &mut Vec<Event>,
 ) -> Result<(), AllocError>
-    requires second_in { t < 172800 }
-    requires given { AreGiven town.now chosen.now }
-    requires links { HasItsLinks (setup_in town.now chosen.now iteration) world.old }
-    requires one_place { OnePlace (setup_in town.now chosen.now iteration) world.old }
-    requires sound { Sound (setup_in town.now chosen.now iteration) world.old }
-    ensures world { OnOk result (world.new ≡ second (setup_in town.now chosen.now iteration) t world.old) }
-    ensures events { OnOk result (out.new.items ≡ out.old.items ++ second_events (setup_in town.now chosen.now iteration) t world.old) }
+    requires second_in { t < LAST_SECOND }
+    requires given { HaveFittingPlans day.now }
+    requires links { HasItsLinks (setup day.now) world.old }
+    requires one_place { OnePlace (setup day.now) world.old }
+    requires sound { Sound (setup day.now) world.old }
+    ensures world { OnOk result (world.new ≡ second (setup day.now) t world.old) }
+    ensures events { OnOk result (out.new.items ≡ out.old.items ++ second_events (setup day.now) t world.old) }
 {
-    fit_second(alloc, town, chosen, iteration, t, world, out)?;
+    fit_second(alloc, day, t, world, out)?;
     Ok(())
 }
 
 /// A person at the first activity of a plan.
-#[tactic(auto, unfolding(town::specs::Setups::itinerary_of))]
 fn at_home(plan: &Plan) -> Person
-    ensures { result ≡ at_home (itinerary_of (parts_of plan.now)) }
+    ensures { result ≡ at_home (plan_rows plan.now) }
 {
     Person {
         element: 0,
@@ -99,11 +95,11 @@ fn at_home(plan: &Plan) -> Person
 }
 
 /// All persons at home.
-fn all_at_home(alloc: Global, chosen: &[Plan]) -> Result<Vec<Person>, AllocError>
-    ensures { IfOk result (λ persons. persons.items ≡ map at_home (map itinerary_of (map parts_of chosen.now))) }
+fn all_at_home(alloc: Global, day: &DayInput) -> Result<Vec<Person>, AllocError>
+    ensures { IfOk result (λ persons. persons.items ≡ map at_home (chosen_in day.now)) }
 {
     let mut persons = Vec::new(alloc);
-    for plan in chosen {
+    for plan in day.chosen {
         persons.push(at_home(plan))?;
     }
     Ok(persons)
@@ -121,16 +117,11 @@ fn first_credits(alloc: Global, count: usize) -> Result<Vec<u32>, AllocError>
 /// The world at the start of a day: each person at the first activity, no vehicle and no hole, and
 /// credit for one vehicle on each link.
 #[tactic(auto, unfolding(traffic::specs::Day::world_start, town::specs::Setups::setup_of))]
-pub fn start(
-    alloc: Global,
-    town: &Town,
-    chosen: &[Plan],
-    _iteration: u32,
-) -> Result<World, AllocError>
-    ensures { IfOk result (λ world. world ≡ world_start (setup_in town.now chosen.now _iteration)) }
+pub fn start(alloc: Global, day: &DayInput) -> Result<World, AllocError>
+    ensures { IfOk result (λ world. world ≡ world_start (setup day.now)) }
 {
-    let persons = all_at_home(alloc, chosen)?;
-    let credits = first_credits(alloc, town.network.links.len())?;
+    let persons = all_at_home(alloc, day)?;
+    let credits = first_credits(alloc, day.town.network.links.len())?;
     Ok(World {
         rows: Vec::new(alloc),
         persons,
@@ -140,75 +131,56 @@ pub fn start(
 }
 
 /// The world at the start, which is fit.
-fn fit_start(
-    alloc: Global,
-    town: &Town,
-    chosen: &[Plan],
-    iteration: u32,
-) -> Result<World, AllocError>
-    requires { AreGiven town.now chosen.now }
-    ensures world { IfOk result (λ world. world ≡ world_start (setup_in town.now chosen.now iteration)) }
-    ensures fit { IfOk result (λ world. IsFitWorld (counts_in town.now chosen.now) world) }
+fn fit_start(alloc: Global, day: &DayInput) -> Result<World, AllocError>
+    requires { HaveFittingPlans day.now }
+    ensures world { IfOk result (λ world. world ≡ world_start (setup day.now)) }
+    ensures fit { IfOk result (λ world. IsFitWorld (counts_in day.now) world) }
 {
-    let world = start(alloc, town, chosen, iteration)?;
+    let world = start(alloc, day)?;
     Ok(world)
 }
 
 /// The seconds of the day, whose events are appended to none.
-fn all_seconds(
-    alloc: Global,
-    town: &Town,
-    chosen: &[Plan],
-    iteration: u32,
-    world: &mut World,
-) -> Result<Vec<Event>, AllocError>
-    requires given { AreGiven town.now chosen.now }
-    requires fit { IsFitWorld (counts_in town.now chosen.now) world.old }
-    ensures world { OnOk result (world.new ≡ world_from (setup_in town.now chosen.now iteration) world.old town.now.end) }
-    ensures events { IfOk result (λ events. events.items ≡ events_from (setup_in town.now chosen.now iteration) world.old town.now.end) }
-    ensures fit { OnOk result (IsFitWorld (counts_in town.now chosen.now) world.new) }
+fn all_seconds(alloc: Global, day: &DayInput, world: &mut World) -> Result<Vec<Event>, AllocError>
+    requires given { HaveFittingPlans day.now }
+    requires fit { IsFitWorld (counts_in day.now) world.old }
+    ensures world { OnOk result (world.new ≡ world_from (setup day.now) world.old day.now.town.now.settings.end_second) }
+    ensures events { IfOk result (λ events. events.items ≡ events_from (setup day.now) world.old day.now.town.now.settings.end_second) }
+    ensures fit { OnOk result (IsFitWorld (counts_in day.now) world.new) }
 {
     let mut events = Vec::new(alloc);
-    for t in 0..town.end {
-        fit_second(alloc, town, chosen, iteration, t, world, &mut events)?;
+    for t in 0..day.town.settings.end_second {
+        fit_second(alloc, day, t, world, &mut events)?;
     }
     Ok(events)
 }
 
 /// Appends what the end of the day tells of a person.
 fn push_stranded(
-    town: &Town,
-    chosen: &[Plan],
-    _iteration: u32,
+    day: &DayInput,
     i: u32,
     world: &World,
     out: &mut Vec<Event>,
 ) -> Result<(), AllocError>
-    requires there { i < length chosen.now }
-    requires persons { length world.now.persons ≡ length chosen.now }
+    requires there { i < length day.now.chosen.now }
+    requires persons { length world.now.persons ≡ length day.now.chosen.now }
     ensures { OnOk result (out.new.items ≡ out.old.items
-        ++ keyed town.now.end (phase_code phase.E) i 0 (stranded (setup_in town.now chosen.now _iteration) world.now i)) }
+        ++ keyed day.now.town.now.settings.end_second (phase_code phase.E) i 0 (stranded (setup day.now) world.now i)) }
 {
-    match stranded(town, chosen, i, world) {
-        Some(said) => push_keyed(town.end, Phase::E, i, &[said], out),
-        None => push_keyed(town.end, Phase::E, i, &[], out),
+    match stranded(day, i, world) {
+        Some(said) => push_keyed(day.town.settings.end_second, Phase::E, i, &[said], out),
+        None => push_keyed(day.town.settings.end_second, Phase::E, i, &[], out),
     }
 }
 
 /// Phase E: who is under way is stuck.
-fn push_ends(
-    town: &Town,
-    chosen: &[Plan],
-    iteration: u32,
-    world: &World,
-    out: &mut Vec<Event>,
-) -> Result<(), AllocError>
-    requires given { AreGiven town.now chosen.now }
-    requires persons { length world.now.persons ≡ length chosen.now }
-    ensures { OnOk result (out.new.items ≡ out.old.items ++ end_events (setup_in town.now chosen.now iteration) town.now.end world.now) }
+fn push_ends(day: &DayInput, world: &World, out: &mut Vec<Event>) -> Result<(), AllocError>
+    requires given { HaveFittingPlans day.now }
+    requires persons { length world.now.persons ≡ length day.now.chosen.now }
+    ensures { OnOk result (out.new.items ≡ out.old.items ++ end_events (setup day.now) day.now.town.now.settings.end_second world.now) }
 {
-    for i in 0..town.book.persons.len() {
-        push_stranded(town, chosen, iteration, i, world, out)?;
+    for i in 0..day.town.book.persons.len() {
+        push_stranded(day, i, world, out)?;
     }
     Ok(())
 }
@@ -219,18 +191,13 @@ fn push_ends(
 ///
 /// `AllocError`: there is no memory for the day.
 #[tactic(auto, unfolding(traffic::specs::Day::day))]
-pub fn plain_day(
-    alloc: Global,
-    town: &Town,
-    chosen: &[Plan],
-    iteration: u32,
-) -> Result<Vec<Event>, AllocError>
-    requires { AreGiven town.now chosen.now }
-    ensures events { IfOk result (λ events. events.items ≡ day (setup_in town.now chosen.now iteration)) }
-    ensures named { IfOk result (λ events. AreInBook events.items town.now.book) }
+pub fn plain_day(alloc: Global, day: &DayInput) -> Result<Vec<Event>, AllocError>
+    requires { HaveFittingPlans day.now }
+    ensures events { IfOk result (λ events. events.items ≡ traffic_day.day (setup day.now)) }
+    ensures named { IfOk result (λ events. AreInBook events.items day.now.town.now.book) }
 {
-    let mut world = fit_start(alloc, town, chosen, iteration)?;
-    let mut events = all_seconds(alloc, town, chosen, iteration, &mut world)?;
-    push_ends(town, chosen, iteration, &world, &mut events)?;
+    let mut world = fit_start(alloc, day)?;
+    let mut events = all_seconds(alloc, day, &mut world)?;
+    push_ends(day, &world, &mut events)?;
     Ok(events)
 }

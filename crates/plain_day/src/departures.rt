@@ -1,17 +1,15 @@
 //! The turns of departures.
 
 ghost use Rattle.std.specs.Prelude.{◌≡◌, ◌<◌, ◌∷◌, [], ℕ, List, length, get_or, IfOk};
-ghost use Rattle.plans.specs.declared.plan.Plan.{Plan};
-ghost use Rattle.schedule.specs.declared.rows.DepartureRow.{DepartureRow};
-ghost use Rattle.town.specs.Views.{setup_in};
-ghost use Rattle.town.specs.Setups.{departure_of, route_at};
+ghost use Rattle.rows.specs.declared.schedule.DepartureRow.{DepartureRow};
+ghost use Rattle.town.specs.Views.{setup};
+ghost use Rattle.town.specs.Setups.{on_route, departure_of, route_at};
 ghost use Rattle.traffic.specs.Persons.{transit_vehicle, departure_moves};
-ghost use Rattle.plain_day.specs.Runs.{run_of};
 
 use events::VehicleId;
-use schedule::{DepartureList, DepartureRow, RouteList, RouteRow};
+use rows::{DepartureList, DepartureRow, RouteList, RouteRow};
 use std::alloc::{AllocError, Global};
-use town::Town;
+use town::DayInput;
 use traffic::{Move, Riders, Row, Stage, Vehicle};
 
 /// The empty vehicle of a departure on a route, at the end of the wait list of the route's first link.
@@ -22,7 +20,7 @@ fn transit_vehicle(
     route: &RouteRow,
 ) -> Result<Row, AllocError>
     requires { 0 < length route.now.links }
-    ensures { IfOk result (λ vehicle. vehicle ≡ transit_vehicle d (run_of route.now row)) }
+    ensures { IfOk result (λ vehicle. vehicle ≡ transit_vehicle d (on_route route.now row)) }
 {
     let link = route.links.rows[0];
     let links = route.links.try_clone()?;
@@ -75,16 +73,20 @@ fn row_at(departures: &DepartureList, d: u32) -> DepartureRow
 }
 
 /// The moves of a departure in second `t`. In any other than its own nothing is allocated.
-pub fn departure_moves(alloc: Global, town: &Town, t: u32, d: u32) -> Result<Vec<Move>, AllocError>
-    requires { d < length town.now.departures.rows }
-    ensures { IfOk result (λ moves. (chosen : List Plan) (iteration : ℕ)
-        → moves.items ≡ departure_moves (setup_in town.now chosen iteration) t d) }
+pub fn departure_moves(
+    alloc: Global,
+    day: &DayInput,
+    t: u32,
+    d: u32,
+) -> Result<Vec<Move>, AllocError>
+    requires { d < length day.now.town.now.departures.rows }
+    ensures { IfOk result (λ moves. moves.items ≡ departure_moves (setup day.now) t d) }
 {
-    let row = row_at(&town.departures.rows, d);
+    let row = row_at(&day.town.departures.rows, d);
     if row.second != t {
         return Ok(Vec::new(alloc));
     }
-    let now = vehicle_of(alloc, d, row, &town.routes.rows)?;
+    let now = vehicle_of(alloc, d, row, &day.town.routes.rows)?;
     let mut moves = Vec::new(alloc);
     moves.push(Move::New { now })?;
     Ok(moves)

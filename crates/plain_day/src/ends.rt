@@ -2,18 +2,16 @@
 
 ghost use Rattle.std.specs.Prelude.{◌≡◌, ◌<◌, ℕ, length, get_or};
 ghost use Rattle.std.specs.Option.{option_to_list};
-ghost use Rattle.town.specs.Views.{setup_in};
-ghost use Rattle.town.specs.Setups.{stay_of};
+ghost use Rattle.town.specs.Views.{setup};
 ghost use Rattle.traffic.specs.Persons.{same_vehicle, link_of_vehicle, stuck_at, stranded};
-ghost use Rattle.plain_day.specs.Fit.{streets};
 
-use crate::legs::{here, mode_of_trip, way};
+use crate::legs::{kind_in, mode_of_kind};
 use crate::waiters::{link_of_stop, person_at};
 use events::{Mode, More, VehicleId, Word};
 use plain_turns::of_person;
 use plain_world::World;
-use plans::{Act, Plan};
-use town::Town;
+use rows::{Act, act_in};
+use town::{DayInput, chosen_plan};
 use traffic::{Place, Row, Said};
 
 fn same_vehicle(a: VehicleId, b: VehicleId) -> bool
@@ -54,13 +52,20 @@ fn link_in(vehicle: VehicleId, world: &World) -> u32
 }
 
 /// The link on which a person at this place is stuck, where he is under way.
-fn stuck_at(town: &Town, world: &World, i: u32, here: Act, mode: Mode, place: Place) -> Option<Said>
-    ensures { option_to_list result ≡ stuck_at (streets town.now) world.now i (stay_of here) mode place }
+fn stuck_at(
+    day: &DayInput,
+    world: &World,
+    i: u32,
+    here: Act,
+    mode: Mode,
+    place: Place,
+) -> Option<Said>
+    ensures { option_to_list result ≡ stuck_at (setup day.now) world.now i here mode place }
 {
     let link = match place {
         Place::At { .. } => return None,
         Place::Flying { .. } => here.link,
-        Place::Waiting { stop, .. } => link_of_stop(town, stop),
+        Place::Waiting { stop, .. } => link_of_stop(day, stop),
         Place::Riding { vehicle } => link_in(vehicle, world),
         Place::Gone { .. } => return None,
     };
@@ -68,15 +73,14 @@ fn stuck_at(town: &Town, world: &World, i: u32, here: Act, mode: Mode, place: Pl
 }
 
 /// What the end of the day tells of a person: that he is stuck, where he is under way.
-pub fn stranded(town: &Town, chosen: &[Plan], i: u32, world: &World) -> Option<Said>
-    requires there { i < length chosen.now }
-    requires persons { length world.now.persons ≡ length chosen.now }
-    ensures { (iteration : ℕ)
-        → option_to_list result ≡ stranded (setup_in town.now chosen.now iteration) world.now i }
+pub fn stranded(day: &DayInput, i: u32, world: &World) -> Option<Said>
+    requires there { i < length day.now.chosen.now }
+    requires persons { length world.now.persons ≡ length day.now.chosen.now }
+    ensures { option_to_list result ≡ stranded (setup day.now) world.now i }
 {
-    let plan = &chosen[i as usize];
+    let plan = chosen_plan(day, i);
     let person = person_at(world, i);
-    let here = here(plan, person.element);
-    let mode = mode_of_trip(way(plan, person.element));
-    stuck_at(town, world, i, here, mode, person.place)
+    let here = act_in(plan, person.element);
+    let mode = mode_of_kind(kind_in(plan, person.element));
+    stuck_at(day, world, i, here, mode, person.place)
 }

@@ -2,30 +2,28 @@
 
 ghost use Rattle.std.specs.Prelude.{◌≡◌, ◌<◌, ◌+◌, ◌++◌, ◌∷◌, [], ℕ, List, Bool, true, length, map, get_or, OnOk, IfOk, if◌then◌else◌};
 ghost use Rattle.std.specs.List.{list_all};
-ghost use Rattle.plans.specs.declared.plan.Plan.{Plan};
-ghost use Rattle.plans.specs.Parts.{parts_of};
-ghost use Rattle.town.specs.declared.rows.Town.{Town};
+ghost use Rattle.rows.specs.PlanRows.{plan_rows, act_in, leg_in};
 ghost use Rattle.town.specs.Fits.{fits};
-ghost use Rattle.town.specs.Views.{setup_in, rows_of};
-ghost use Rattle.town.specs.Setups.{stay_of, way_of};
+ghost use Rattle.town.specs.Views.{rows_of, chosen_in, setup};
 ghost use Rattle.traffic.specs.declared.moves.Move.TheVariants.{Tell};
-ghost use Rattle.traffic.specs.Persons.{mode_of_way, lands, landing, landing_moves, departs, car, sets_out, leaving, leaving_moves};
-ghost use Rattle.traffic.specs.Setup.{Way};
-ghost use Rattle.plain_day.specs.Fit.{streets, CanLeave, plan_in};
-ghost use Rattle.plain_day.specs.Legs.{itinerary_in, stay_in, way_in, way_at, ends_in, HasRoute};
+ghost use Rattle.traffic.specs.Setup.{person_plan};
+ghost use Rattle.traffic.specs.Persons.{mode_of_leg, lands, landing, landing_moves, departs, car, sets_out, leaving, leaving_moves};
+ghost use Rattle.rows.specs.declared.plan.Leg.{Leg};
+ghost use Rattle.plain_day.specs.Fit.{CanLeave};
+ghost use Rattle.plain_day.specs.Legs.{nth_leg, ends_in, HasRoute};
 
-use crate::legs::{Trip, here, mode_of_trip, next, trip_of, way};
+use crate::legs::{LegKind, kind_in, kind_of, mode_of_kind};
 use crate::waiters::link_of_stop;
 use events::{Calls, Mode, More, Route, VehicleId, Word};
 use plain_turns::of_person;
-use plans::{Act, Leg, Legs, Plan};
+use rows::{Act, Leg, Legs, Plan, act_after, act_in};
 use std::alloc::{AllocError, Global};
-use town::Town;
+use town::{DayInput, chosen_plan};
 use traffic::{Move, Person, Place, Rider, Riders, Row, Said, SaidList, Stage, Vehicle};
 
 /// A teleported leg is over.
 fn lands(alloc: Global, i: u32, mode: Mode, seconds: u32, next: Act) -> Result<SaidList, AllocError>
-    ensures { IfOk result (λ says. says ≡ lands i mode seconds (stay_of next)) }
+    ensures { IfOk result (λ says. says ≡ lands i mode seconds next) }
 {
     let mut rows = Vec::new(alloc);
     rows.push(Said {
@@ -58,18 +56,18 @@ fn landing(
     person: Person,
 ) -> Result<Vec<Move>, AllocError>
     ensures { IfOk result (λ moves. moves.items
-        ≡ landing t i (way_in (itinerary_in plan.now) person.element) (stay_in (itinerary_in plan.now) (person.element + 2)) person.place) }
+        ≡ landing t i (leg_in (plan_rows plan.now) person.element) (act_in (plan_rows plan.now) (person.element + 2)) person.place) }
 {
     let Place::Flying { start } = person.place else {
         return Ok(Vec::new(alloc));
     };
-    let Trip::Teleport { mode, seconds } = way(plan, person.element) else {
+    let LegKind::Teleport { mode, seconds } = kind_in(plan, person.element) else {
         return Ok(Vec::new(alloc));
     };
     if u64::from(start) + u64::from(seconds) != u64::from(t) {
         return Ok(Vec::new(alloc));
     }
-    let says = lands(alloc, i, mode, seconds, next(plan, person.element))?;
+    let says = lands(alloc, i, mode, seconds, act_after(plan, person.element))?;
     let moves = tell(alloc, says)?;
     Ok(moves)
 }
@@ -77,23 +75,22 @@ fn landing(
 /// The moves of a person in the phase in which teleported legs end. Without such an end nothing is allocated.
 pub fn landing_moves(
     alloc: Global,
-    chosen: &[Plan],
+    day: &DayInput,
     t: u32,
     i: u32,
     person: Person,
 ) -> Result<Vec<Move>, AllocError>
-    requires { i < length chosen.now }
-    ensures { IfOk result (λ moves. (town : Town) (iteration : ℕ)
-        → moves.items ≡ landing_moves (setup_in town chosen.now iteration) t i person) }
+    requires { i < length day.now.chosen.now }
+    ensures { IfOk result (λ moves. moves.items ≡ landing_moves (setup day.now) t i person) }
 {
-    let plan = &chosen[i as usize];
+    let plan = chosen_plan(day, i);
     let moves = landing(alloc, t, i, plan, person)?;
     Ok(moves)
 }
 
 /// An activity ends, and the leg after it begins.
 fn departs(alloc: Global, i: u32, here: Act, mode: Mode) -> Result<SaidList, AllocError>
-    ensures { IfOk result (λ says. (w : Way) → mode_of_way w ≡ mode → says ≡ departs i (stay_of here) w) }
+    ensures { IfOk result (λ says. (w : Leg) → mode_of_leg w ≡ mode → says ≡ departs i here w) }
 {
     let mut rows = Vec::new(alloc);
     rows.push(of_person(Word::ActEnd, i, here.link, More::Kind(here.kind)))?;
@@ -140,14 +137,14 @@ fn car(alloc: Global, i: u32, route: &Route, kind: u32) -> Result<Row, AllocErro
 /// Appends how a leg begins.
 fn push_sets_out(
     alloc: Global,
-    town: &Town,
+    day: &DayInput,
     i: u32,
     leg: &Leg,
     next: Act,
     moves: &mut Vec<Move>,
 ) -> Result<(), AllocError>
-    requires { HasRoute (way_of leg.now) }
-    ensures { OnOk result (moves.new.items ≡ moves.old.items ++ sets_out (streets town.now) i (way_of leg.now) (stay_of next)) }
+    requires { HasRoute leg.now }
+    ensures { OnOk result (moves.new.items ≡ moves.old.items ++ sets_out (setup day.now) i leg.now next) }
 {
     match leg {
         Leg::Car { route } => {
@@ -161,7 +158,7 @@ fn push_sets_out(
             rows.push(of_person(
                 Word::WaitingForPt,
                 i,
-                link_of_stop(town, *access),
+                link_of_stop(day, *access),
                 More::Stop(*access),
             ))?;
             moves.push(Move::Tell {
@@ -175,7 +172,7 @@ fn push_sets_out(
 /// A person leaves for the leg at a place of the plan.
 fn leave(
     alloc: Global,
-    town: &Town,
+    day: &DayInput,
     i: u32,
     legs: &Legs,
     place: usize,
@@ -183,14 +180,14 @@ fn leave(
     next: Act,
 ) -> Result<Vec<Move>, AllocError>
     requires there { place < length legs.now }
-    requires route { HasRoute (way_at legs.now place) }
+    requires route { HasRoute (nth_leg legs.now place) }
     ensures { IfOk result (λ moves. moves.items
-        ≡ Tell (departs i (stay_of here) (way_at legs.now place)) ∷ sets_out (streets town.now) i (way_at legs.now place) (stay_of next)) }
+        ≡ Tell (departs i here (nth_leg legs.now place)) ∷ sets_out (setup day.now) i (nth_leg legs.now place) next) }
 {
     let leg = &legs.rows[place];
-    let says = departs(alloc, i, here, mode_of_trip(trip_of(leg)))?;
+    let says = departs(alloc, i, here, mode_of_kind(kind_of(leg)))?;
     let mut moves = tell(alloc, says)?;
-    push_sets_out(alloc, town, i, leg, next, &mut moves)?;
+    push_sets_out(alloc, day, i, leg, next, &mut moves)?;
     Ok(moves)
 }
 
@@ -211,43 +208,41 @@ fn ends_in(t: u32, place: Place) -> bool
 /// The moves of a person with this plan whose activity may end.
 fn leaving(
     alloc: Global,
-    town: &Town,
+    day: &DayInput,
     t: u32,
     i: u32,
     plan: &Plan,
     person: Person,
 ) -> Result<Vec<Move>, AllocError>
-    requires leg { CanLeave (itinerary_in plan.now) person }
-    requires fits { fits (rows_of town.now) (parts_of plan.now) ≡ true }
+    requires leg { CanLeave (plan_rows plan.now) person }
+    requires fits { fits (rows_of day.now.town.now) (plan_rows plan.now) ≡ true }
     ensures { IfOk result (λ moves. moves.items
-        ≡ leaving (streets town.now) t i (stay_in (itinerary_in plan.now) person.element) (way_in (itinerary_in plan.now) person.element) (stay_in (itinerary_in plan.now) (person.element + 2)) person.place) }
+        ≡ leaving (setup day.now) t i (act_in (plan_rows plan.now) person.element) (leg_in (plan_rows plan.now) person.element) (act_in (plan_rows plan.now) (person.element + 2)) person.place) }
 {
     if !ends_in(t, person.place) {
         return Ok(Vec::new(alloc));
     }
     let place = person.element as usize / 2;
-    let here = here(plan, person.element);
-    let next = next(plan, person.element);
-    let moves = leave(alloc, town, i, &plan.legs, place, here, next)?;
+    let here = act_in(plan, person.element);
+    let next = act_after(plan, person.element);
+    let moves = leave(alloc, day, i, &plan.legs, place, here, next)?;
     Ok(moves)
 }
 
 /// The moves of a person in the phase in which activities end. Without such an end nothing is allocated.
 pub fn leaving_moves(
     alloc: Global,
-    town: &Town,
-    chosen: &[Plan],
+    day: &DayInput,
     t: u32,
     i: u32,
     person: Person,
 ) -> Result<Vec<Move>, AllocError>
-    requires there { i < length chosen.now }
-    requires leg { CanLeave (plan_in chosen.now i) person }
-    requires fits { list_all (fits (rows_of town.now)) (map parts_of chosen.now) ≡ true }
-    ensures { IfOk result (λ moves. (iteration : ℕ)
-        → moves.items ≡ leaving_moves (setup_in town.now chosen.now iteration) t i person) }
+    requires there { i < length day.now.chosen.now }
+    requires leg { CanLeave (person_plan (setup day.now) i) person }
+    requires fits { list_all (fits (rows_of day.now.town.now)) (chosen_in day.now) ≡ true }
+    ensures { IfOk result (λ moves. moves.items ≡ leaving_moves (setup day.now) t i person) }
 {
-    let plan = &chosen[i as usize];
-    let moves = leaving(alloc, town, t, i, plan, person)?;
+    let plan = chosen_plan(day, i);
+    let moves = leaving(alloc, day, t, i, plan, person)?;
     Ok(moves)
 }

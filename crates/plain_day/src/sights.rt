@@ -2,42 +2,27 @@
 
 ghost use Rattle.std.specs.Prelude.{◌≡◌, ◌<◌, ◌≤◌, ℕ, length, map, filter, get_or, ◌==◌, Bool, true, IfOk};
 ghost use Rattle.std.specs.List.{list_any};
+ghost use Rattle.limits.specs.declared.TheConstants.{LAST_SECOND, MAX_LENGTH};
 ghost use Rattle.traffic.specs.Rows.{rank, on, at, holes_at, credit_of};
-ghost use Rattle.traffic.specs.declared.rows.Stage.TheVariants.{Queue, Buffer, Wait, Bay};
+ghost use Rattle.traffic.specs.declared.stage.Stage.TheVariants.{Queue, Buffer, Wait, Bay};
 ghost use Rattle.traffic.specs.declared.world.Hole.{Hole};
-ghost use Rattle.traffic.specs.Setup.{Setup, road, hole_of, into};
+ghost use Rattle.traffic.specs.Setup.{Setup, link_row, hole_of, into};
+ghost use Rattle.town.specs.Views.{setup};
 ghost use Rattle.traffic.specs.Links.{lane};
 ghost use Rattle.traffic.specs.Nodes.{entry, exit, taken_at, in_force};
 ghost use Rattle.plain_turns.specs.Lanes.{lane_of};
 ghost use Rattle.plain_turns.specs.Exits.{AreNear, IsEntry, AreEntries};
 ghost use Rattle.traffic.specs.Lists.{below};
-ghost use Rattle.plain_day.specs.Fit.{streets, stays_on, AreFit};
+ghost use Rattle.plain_day.specs.Fit.{stays_on, AreFit};
 ghost use Rattle.plain_day.specs.Sights.{exit_row, is_in, is_out, is_in_force};
 
 use crate::links::{hole_of, link_row, seconds_of, storage_of};
 use plain_turns::{ExitRow, LaneRows};
-use plain_world::World;
+use plain_world::{World, is_on, rank};
+use rows::green_in;
 use std::alloc::{AllocError, Global};
-use town::{Town, green_in};
+use town::DayInput;
 use traffic::{Entry, Exit, Hole, Row, RowList, Stage};
-
-pub(crate) fn rank(stage: Stage) -> u8
-    ensures { result ≡ rank stage }
-{
-    match stage {
-        Stage::Queue => 0,
-        Stage::Buffer => 1,
-        Stage::Wait => 2,
-        Stage::Bay => 3,
-    }
-}
-
-/// Whether a row stands on this link at this stage.
-fn is_on(link: u32, stage: Stage, row: &Row) -> bool
-    ensures { result ≡ on link stage row.now }
-{
-    rank(row.stage) == rank(stage) && row.link == link
-}
 
 /// The rows of a link at a stage.
 fn rows_at(alloc: Global, link: u32, stage: Stage, rows: &[Row]) -> Result<Vec<Row>, AllocError>
@@ -122,12 +107,12 @@ fn count_in_force(link: u32, t: u32, h: u32, holes: &[Hole]) -> usize
 
 /// The taken places of a link in second `t`. Places are counted by rows and holes in memory: where no number counts
 /// them, there is no memory for them.
-fn taken_at(town: &Town, t: u32, link: u32, world: &World) -> Result<u64, AllocError>
-    requires { link < length town.now.network.links }
-    ensures { IfOk result (λ taken. taken ≡ taken_at (streets town.now) t link world.now) }
+fn taken_at(day: &DayInput, t: u32, link: u32, world: &World) -> Result<u64, AllocError>
+    requires { link < length day.now.town.now.network.links }
+    ensures { IfOk result (λ taken. taken ≡ taken_at (setup day.now) t link world.now) }
 {
     let queue = count_at(link, Stage::Queue, &world.rows);
-    let h = hole_of(town, link);
+    let h = hole_of(day, link);
     let holes = count_in_force(link, t, h, &world.holes);
     let Some(taken) = (queue as u64).checked_add(holes as u64) else {
         return Err(AllocError);
@@ -136,14 +121,14 @@ fn taken_at(town: &Town, t: u32, link: u32, world: &World) -> Result<u64, AllocE
 }
 
 /// A link as the nodes at its start see it.
-fn exit_row(town: &Town, t: u32, link: u32, world: &World) -> Result<ExitRow, AllocError>
-    requires { link < length town.now.network.links }
-    ensures value { IfOk result (λ row. row ≡ exit_row (streets town.now) t world.now link) }
-    ensures near { IfOk result (λ row. row.exit.seconds ≤ 10000000) }
+fn exit_row(day: &DayInput, t: u32, link: u32, world: &World) -> Result<ExitRow, AllocError>
+    requires { link < length day.now.town.now.network.links }
+    ensures value { IfOk result (λ row. row ≡ exit_row (setup day.now) t world.now link) }
+    ensures near { IfOk result (λ row. row.exit.seconds ≤ MAX_LENGTH) }
 {
-    let taken = taken_at(town, t, link, world)?;
-    let storage = storage_of(town, link);
-    let seconds = seconds_of(town, link);
+    let taken = taken_at(day, t, link, world)?;
+    let storage = storage_of(day, link);
+    let seconds = seconds_of(day, link);
     Ok(ExitRow {
         link,
         exit: Exit {
@@ -154,36 +139,36 @@ fn exit_row(town: &Town, t: u32, link: u32, world: &World) -> Result<ExitRow, Al
     })
 }
 
-fn is_out(town: &Town, node: u32, link: u32) -> bool
-    requires { link < length town.now.network.links }
-    ensures { result ≡ is_out (streets town.now) node link }
+fn is_out(day: &DayInput, node: u32, link: u32) -> bool
+    requires { link < length day.now.town.now.network.links }
+    ensures { result ≡ is_out (setup day.now) node link }
 {
-    link_row(town, link).from == node
+    link_row(day, link).from == node
 }
 
-pub(crate) fn is_in(town: &Town, node: u32, link: u32) -> bool
-    requires { link < length town.now.network.links }
-    ensures { result ≡ is_in (streets town.now) node link }
+pub(crate) fn is_in(day: &DayInput, node: u32, link: u32) -> bool
+    requires { link < length day.now.town.now.network.links }
+    ensures { result ≡ is_in (setup day.now) node link }
 {
-    link_row(town, link).to == node
+    link_row(day, link).to == node
 }
 
 /// The links out of a node.
 pub(crate) fn exits(
     alloc: Global,
-    town: &Town,
+    day: &DayInput,
     t: u32,
     node: u32,
     world: &World,
 ) -> Result<Vec<ExitRow>, AllocError>
     ensures value { IfOk result (λ exits. exits.items
-        ≡ map (exit_row (streets town.now) t world.now) (filter (is_out (streets town.now) node) (below (length town.now.network.links)))) }
+        ≡ map (exit_row (setup day.now) t world.now) (filter (is_out (setup day.now) node) (below (length day.now.town.now.network.links)))) }
     ensures near { IfOk result (λ exits. AreNear exits.items) }
 {
     let mut exits = Vec::new(alloc);
-    for link in 0..town.network.links.len() as u32 {
-        if is_out(town, node, link) {
-            let row = exit_row(town, t, link, world)?;
+    for link in 0..day.town.network.links.len() as u32 {
+        if is_out(day, node, link) {
+            let row = exit_row(day, t, link, world)?;
             exits.push(row)?;
         }
     }
@@ -191,18 +176,24 @@ pub(crate) fn exits(
 }
 
 /// A link as the node at its end sees it.
-fn entry(alloc: Global, town: &Town, t: u32, link: u32, world: &World) -> Result<Entry, AllocError>
-    requires there { link < length town.now.network.links }
-    requires second_in { t < 172800 }
-    requires fit { AreFit (length town.now.network.links) world.now.rows }
-    ensures value { IfOk result (λ e. e ≡ entry (streets town.now) t world.now link) }
+fn entry(
+    alloc: Global,
+    day: &DayInput,
+    t: u32,
+    link: u32,
+    world: &World,
+) -> Result<Entry, AllocError>
+    requires there { link < length day.now.town.now.network.links }
+    requires second_in { t < LAST_SECOND }
+    requires fit { AreFit (length day.now.town.now.network.links) world.now.rows }
+    ensures value { IfOk result (λ e. e ≡ entry (setup day.now) t world.now link) }
     ensures fit_after { IfOk result (λ e. IsEntry e) }
 {
     let rows = rows_at(alloc, link, Stage::Buffer, &world.rows)?;
     Ok(Entry {
         link,
-        capacity: link_row(town, link).capacity,
-        green: green_in(&town.greens, link, t),
+        capacity: link_row(day, link).capacity,
+        green: green_in(&day.town.greens, link, t),
         rows: RowList { rows },
     })
 }
@@ -210,20 +201,20 @@ fn entry(alloc: Global, town: &Town, t: u32, link: u32, world: &World) -> Result
 /// The links into a node.
 pub(crate) fn entries(
     alloc: Global,
-    town: &Town,
+    day: &DayInput,
     t: u32,
     node: u32,
     world: &World,
 ) -> Result<Vec<Entry>, AllocError>
-    requires second_in { t < 172800 }
-    requires fit { AreFit (length town.now.network.links) world.now.rows }
-    ensures value { IfOk result (λ entries. entries.items ≡ map (entry (streets town.now) t world.now) (into (streets town.now) node)) }
+    requires second_in { t < LAST_SECOND }
+    requires fit { AreFit (length day.now.town.now.network.links) world.now.rows }
+    ensures value { IfOk result (λ entries. entries.items ≡ map (entry (setup day.now) t world.now) (into (setup day.now) node)) }
     ensures fit_after { IfOk result (λ entries. AreEntries entries.items) }
 {
     let mut entries = Vec::new(alloc);
-    for link in 0..town.network.links.len() as u32 {
-        if is_in(town, node, link) {
-            let seen = entry(alloc, town, t, link, world)?;
+    for link in 0..day.town.network.links.len() as u32 {
+        if is_in(day, node, link) {
+            let seen = entry(alloc, day, t, link, world)?;
             entries.push(seen)?;
         }
     }

@@ -2,25 +2,24 @@
 
 ghost use Rattle.std.specs.Prelude.{◌≡◌, ◌+◌, ◌<◌, length, get_or, map, ◌++◌, OnOk, IfOk};
 ghost use Rattle.std.specs.Option.{option_to_list};
-ghost use Rattle.town.specs.Views.{setup_in};
-ghost use Rattle.town.specs.Setups.{stay_of, link_of_row};
-ghost use Rattle.traffic.specs.Setup.{Way, link_of_stop};
+ghost use Rattle.town.specs.Views.{setup};
+ghost use Rattle.rows.specs.PlanRows.{plan_rows, act_in, leg_in};
+ghost use Rattle.rows.specs.Stops.{stop_link};
+ghost use Rattle.traffic.specs.Setup.{link_of_stop};
 ghost use Rattle.traffic.specs.Rows.{person_of};
 ghost use Rattle.traffic.specs.Persons.{waits, waits_on, waiter, waiters};
-ghost use Rattle.plain_day.specs.Fit.{streets};
-ghost use Rattle.plain_day.specs.Legs.{itinerary_in, stay_in, way_in, trip_of, waits_for};
+ghost use Rattle.plain_day.specs.Legs.{kind_of, waits_for};
 
-use crate::legs::{Trip, next, way};
+use crate::legs::{LegKind, kind_in};
 use plain_world::World;
-use plans::{Act, Plan};
-use schedule::StopList;
+use rows::{Act, Plan, StopList, act_after};
 use std::alloc::{AllocError, Global};
-use town::Town;
+use town::{DayInput, chosen_plan};
 use traffic::{Person, Place, Waiter};
 
 /// The link of a stop, which is 0 where there is no such stop.
-fn link_at(stops: &StopList, stop: u32) -> u32
-    ensures { result ≡ get_or (map link_of_row stops.now) stop 0 }
+fn stop_link(stops: &StopList, stop: u32) -> u32
+    ensures { result ≡ stop_link stops.now stop }
 {
     let place = stop as usize;
     if place < stops.rows.len() {
@@ -31,20 +30,20 @@ fn link_at(stops: &StopList, stop: u32) -> u32
 
 /// The same of a town.
 #[tactic(auto, unfolding(town::specs::Setups::setup_of))]
-pub(crate) fn link_of_stop(town: &Town, stop: u32) -> u32
-    ensures { result ≡ link_of_stop (streets town.now) stop }
+pub(crate) fn link_of_stop(day: &DayInput, stop: u32) -> u32
+    ensures { result ≡ link_of_stop (setup day.now) stop }
 {
-    link_at(&town.stops.rows, stop)
+    stop_link(&day.town.stops.rows, stop)
 }
 
 /// A person who waits at a stop for a transit leg.
-fn waits(person: u32, trip: Trip, next: Act, stop: u32, since: u32) -> Option<Waiter>
-    ensures { option_to_list result ≡ waits_for person trip (stay_of next) stop since }
+fn waits(person: u32, trip: LegKind, next: Act, stop: u32, since: u32) -> Option<Waiter>
+    ensures { option_to_list result ≡ waits_for person trip next stop since }
 {
     match trip {
-        Trip::Drive => None,
-        Trip::Teleport { .. } => None,
-        Trip::Transit { line, egress, .. } => Some(Waiter {
+        LegKind::Car => None,
+        LegKind::Teleport { .. } => None,
+        LegKind::Transit { line, egress, .. } => Some(Waiter {
             person,
             stop,
             line,
@@ -56,20 +55,20 @@ fn waits(person: u32, trip: Trip, next: Act, stop: u32, since: u32) -> Option<Wa
 }
 
 /// The person, where he waits at a stop of the link.
-fn waiter(town: &Town, link: u32, i: u32, plan: &Plan, person: Person) -> Option<Waiter>
+fn waiter(day: &DayInput, link: u32, i: u32, plan: &Plan, person: Person) -> Option<Waiter>
     ensures { option_to_list result
-        ≡ waits_on (streets town.now) link i (way_in (itinerary_in plan.now) person.element) (stay_in (itinerary_in plan.now) (person.element + 2)) person.place }
+        ≡ waits_on (setup day.now) link i (leg_in (plan_rows plan.now) person.element) (act_in (plan_rows plan.now) (person.element + 2)) person.place }
 {
     let Place::Waiting { stop, since } = person.place else {
         return None;
     };
-    if link_of_stop(town, stop) != link {
+    if link_of_stop(day, stop) != link {
         return None;
     }
     waits(
         i,
-        way(plan, person.element),
-        next(plan, person.element),
+        kind_in(plan, person.element),
+        act_after(plan, person.element),
         stop,
         since,
     )
@@ -84,34 +83,33 @@ pub(crate) fn person_at(world: &World, i: u32) -> Person
 }
 
 /// The same by the number of the person.
-fn waiter_at(town: &Town, chosen: &[Plan], link: u32, i: u32, world: &World) -> Option<Waiter>
-    requires there { i < length chosen.now }
-    requires persons { length world.now.persons ≡ length chosen.now }
-    ensures { option_to_list result ≡ waiter (setup_in town.now chosen.now 0) link i (person_of i world.now) }
+fn waiter_at(day: &DayInput, link: u32, i: u32, world: &World) -> Option<Waiter>
+    requires there { i < length day.now.chosen.now }
+    requires persons { length world.now.persons ≡ length day.now.chosen.now }
+    ensures { option_to_list result ≡ waiter (setup day.now) link i (person_of i world.now) }
 {
-    let plan = &chosen[i as usize];
+    let plan = chosen_plan(day, i);
     let person = person_at(world, i);
-    waiter(town, link, i, plan, person)
+    waiter(day, link, i, plan, person)
 }
 
 /// Appends the person of a number, where he waits there. Persons are kept in memory: where no number counts them,
 /// there is no memory for them.
 fn push_waiter(
-    town: &Town,
-    chosen: &[Plan],
+    day: &DayInput,
     link: u32,
     place: usize,
     world: &World,
     all: &mut Vec<Waiter>,
 ) -> Result<(), AllocError>
-    requires there { place < length chosen.now }
-    requires persons { length world.now.persons ≡ length chosen.now }
-    ensures { OnOk result (all.new.items ≡ all.old.items ++ waiter (setup_in town.now chosen.now 0) link place (person_of place world.now)) }
+    requires there { place < length day.now.chosen.now }
+    requires persons { length world.now.persons ≡ length day.now.chosen.now }
+    ensures { OnOk result (all.new.items ≡ all.old.items ++ waiter (setup day.now) link place (person_of place world.now)) }
 {
     let Ok(i) = u32::try_from(place) else {
         return Err(AllocError);
     };
-    let one = waiter_at(town, chosen, link, i, world);
+    let one = waiter_at(day, link, i, world);
     if let Some(one) = one {
         all.push(one)?;
     }
@@ -128,17 +126,16 @@ fn count_of(world: &World) -> usize
 /// Those who wait at the stops of a link, by their numbers.
 pub(crate) fn waiters(
     alloc: Global,
-    town: &Town,
-    chosen: &[Plan],
+    day: &DayInput,
     link: u32,
     world: &World,
 ) -> Result<Vec<Waiter>, AllocError>
-    requires { length world.now.persons ≡ length chosen.now }
-    ensures { IfOk result (λ all. all.items ≡ waiters (setup_in town.now chosen.now 0) link world.now) }
+    requires { length world.now.persons ≡ length day.now.chosen.now }
+    ensures { IfOk result (λ all. all.items ≡ waiters (setup day.now) link world.now) }
 {
     let mut all = Vec::new(alloc);
     for i in 0..count_of(world) {
-        push_waiter(town, chosen, link, i, world, &mut all)?;
+        push_waiter(day, link, i, world, &mut all)?;
     }
     Ok(all)
 }

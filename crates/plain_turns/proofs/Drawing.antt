@@ -4,10 +4,11 @@ use Rattle.std.specs.Prelude.{Bool, map, filter, not, sum}
 use Rattle.std.proofs.lemmas.Bool.{cases_Bool}
 use Rattle.std.specs.List.{remove}
 use Rattle.std.proofs.lemmas.List.Sums.{sum_by-cons}
-use Rattle.traffic.specs.declared.numbers.Stuck.{Stuck}
+use Rattle.rows.specs.declared.settings.Stuck.{Stuck}
 use Rattle.traffic.specs.declared.sight.Entry.{Entry}
 use Rattle.traffic.specs.declared.sight.Exit.{Exit}
 use Rattle.std.specs.Prelude.{Option}
+use Rattle.limits.specs.declared.TheConstants.{MAX_CAPACITY}
 use Rattle.traffic.specs.declared.moves.Move.{Move}
 use Rattle.traffic.specs.Lists.{is_nil, without_at}
 use Rattle.traffic.specs.Nodes.{drawn, draw, hand_all, exits_after, ready, no_entry}
@@ -19,7 +20,7 @@ sum_least (e ∷ es) h =
     let a = h.0.least in let b = sum_least es h.1 in
     let c : sum (map capacity_of (e ∷ es)) ≡ e.capacity + sum (map capacity_of es) = sum_by-cons (λ (x : ℕ). x) e.capacity (map capacity_of es) in omega arith
 
-pub sum_most : (es : List Entry) → AreEntries es → sum (map capacity_of es) ≤ 100000 * length es
+pub sum_most : (es : List Entry) → AreEntries es → sum (map capacity_of es) ≤ MAX_CAPACITY * length es
 sum_most [] h = omega arith
 sum_most (e ∷ es) h =
     let a = h.0.most in let b = sum_most es h.1 in

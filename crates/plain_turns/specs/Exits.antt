@@ -1,5 +1,6 @@
 -- The links out of a node, as a list.
 use Rattle.std.specs.Prelude.{ℕ, ◌+◌, ◌≤◌, ◌<◌, Bool, List, [], ◌∷◌, length, ◌==◌, if◌then◌else◌, Option, None, Some}
+use Rattle.limits.specs.declared.TheConstants.{MAX_CAPACITY, MAX_LENGTH}
 use Rattle.traffic.specs.declared.world.Row.{Row}
 use Rattle.traffic.specs.declared.sight.Exit.{Exit}
 use Rattle.traffic.specs.declared.sight.Entry.{Entry}
@@ -23,7 +24,7 @@ with_taken m (x ∷ xs) = if x.link == m then one_taken x ∷ xs else x ∷ with
 -- the free seconds of each are those of a link
 abbrev pub AreNear : List ExitRow → Type 0
 AreNear [] = Unit {0}
-AreNear (x ∷ xs) = (x.exit.seconds ≤ 10000000) × AreNear xs
+AreNear (x ∷ xs) = (x.exit.seconds ≤ MAX_LENGTH) × AreNear xs
 
 -- a vehicle has a next link, and its route is no longer than a number can count
 pub record HasNext (v : VehicleState) : Type 0 where
@@ -37,7 +38,7 @@ HaveNext (r ∷ rs) = HasNext r.vehicle × HaveNext rs
 -- a link into a node has a capacity, and each row of its buffer has a next link
 pub record IsEntry (e : Entry) : Type 0 where
   pub least : 1 ≤ e.capacity
-  pub most : e.capacity ≤ 100000
+  pub most : e.capacity ≤ MAX_CAPACITY
   pub rows : HaveNext e.rows
 
 abbrev pub AreEntries : List Entry → Type 0

@@ -1,6 +1,7 @@
 //! The links out of a node.
 
 ghost use Rattle.std.specs.Prelude.{◌≡◌, ◌≤◌, ◌++◌, OnOk, IfOk, IfSome};
+ghost use Rattle.limits.specs.declared.TheConstants.{MAX_LENGTH};
 ghost use Rattle.traffic.specs.Nodes.{one_more};
 ghost use Rattle.plain_turns.specs.Exits.{exits_in, with_taken, one_taken, AreNear};
 
@@ -19,7 +20,7 @@ pub struct ExitRow {
 pub fn exit_of(exits: &[ExitRow], link: u32) -> Option<Exit>
     requires { AreNear exits.now }
     ensures value { result ≡ exits_in exits.now link }
-    ensures near { IfSome result (λ e. e.seconds ≤ 10000000) }
+    ensures near { IfSome result (λ e. e.seconds ≤ MAX_LENGTH) }
 {
     for row in exits {
         if row.link == link {

@@ -1,12 +1,14 @@
 //! The turn of a link, as its moves.
 
 ghost use Rattle.std.specs.Prelude.{◌≡◌, ◌<◌, ◌≤◌, ◌+◌, ◌^◌, ◌++◌, ◌∷◌, [], length, true, map, filter, OnOk, IfOk, nat_le};
+ghost use Rattle.limits.specs.declared.TheConstants.{LAST_SECOND};
 ghost use Rattle.traffic.specs.declared.world.Row.{Row};
 ghost use Rattle.traffic.specs.Links.{waiting, leave_bay, is_last, buffered, may_pass, from_wait, from_queue, wait_after, link_moves};
 ghost use Rattle.traffic.specs.declared.moves.Move.TheVariants.{Put, Gone, Free, Credit};
-ghost use Rattle.traffic.specs.declared.rows.Stage.TheVariants.{Queue, Buffer, Wait, Bay};
+ghost use Rattle.traffic.specs.declared.stage.Stage.TheVariants.{Queue, Buffer, Wait, Bay};
 ghost use Rattle.plain_turns.specs.Lanes.{lane_of};
-ghost use Rattle.plain_turns.specs.Limits.{IsDwelling, AreSmall};
+ghost use Rattle.rows.specs.Settings.{IsDwelling};
+ghost use Rattle.plain_turns.specs.Limits.{AreSmall};
 
 use crate::lists::LaneRows;
 use crate::stops::{calls_on, serve};
@@ -208,7 +210,7 @@ fn push_from_wait(
     out: &mut Vec<Move>,
 ) -> Result<(), AllocError>
     requires dwell_in { IsDwelling at.rules.dwell }
-    requires second_in { at.second < 172800 }
+    requires second_in { at.second < LAST_SECOND }
     requires small { AreSmall rows.now }
     ensures { OnOk result (out.new.items
         ≡ out.old.items
@@ -253,7 +255,7 @@ fn push_from_queue(
     out: &mut Vec<Move>,
 ) -> Result<(), AllocError>
     requires dwell_in { IsDwelling at.rules.dwell }
-    requires second_in { at.second < 172800 }
+    requires second_in { at.second < LAST_SECOND }
     requires small { AreSmall rows.now }
     requires small_wait { AreSmall wait.now }
     ensures { OnOk result (out.new.items
@@ -351,7 +353,7 @@ pub fn link_moves(
     credit: u32,
 ) -> Result<Vec<Move>, AllocError>
     requires dwell_in { IsDwelling rules.now.dwell }
-    requires second_in { t < 172800 }
+    requires second_in { t < LAST_SECOND }
     requires small { AreSmall lane.now.queue.items }
     requires small_wait { AreSmall lane.now.wait.items }
     requires small_bay { AreSmall lane.now.bay.items }

@@ -1,9 +1,10 @@
 //! The turn of a node, as its moves.
 
 ghost use Rattle.std.specs.Prelude.{◌≡◌, ◌<◌, ◌≤◌, ◌+◌, ◌*◌, ◌-◌, ◌++◌, ◌∷◌, [], length, map, filter, not, OnOk, IfOk, IfSome};
+ghost use Rattle.limits.specs.declared.TheConstants.{LAST_SECOND, MAX_LENGTH};
 ghost use Rattle.draws.specs.Words.{word};
 ghost use Rattle.traffic.specs.declared.moves.Move.TheVariants.{Put, Gone, Mark};
-ghost use Rattle.traffic.specs.declared.rows.Stage.TheVariants.{Queue, Buffer};
+ghost use Rattle.traffic.specs.declared.stage.Stage.TheVariants.{Queue, Buffer};
 ghost use Rattle.traffic.specs.Lists.{is_nil};
 ghost use Rattle.traffic.specs.Moves.{at_second};
 ghost use Rattle.traffic.specs.Nodes.{next_link, is_stuck, may_enter, has_room, seconds_along, one_more, entered, hand, since_of, hand_all, draw, ready, red, candidates, mark, node_moves, exits_after};
@@ -12,8 +13,9 @@ ghost use Rattle.plain_turns.specs.Exits.{exits_in, AreNear, HasNext, HaveNext, 
 use crate::exits::{ExitRow, exit_of, with_taken};
 use crate::picks::{drawn, take_entry};
 use draws::Draws;
+use rows::Stuck;
 use std::alloc::{AllocError, Global};
-use traffic::{Entry, Exit, Move, Row, Stage, Stuck, Vehicle};
+use traffic::{Entry, Exit, Move, Row, Stage, Vehicle};
 
 /// The link after the one where the vehicle is.
 fn next_link(vehicle: &Vehicle) -> u32
@@ -47,10 +49,10 @@ fn may_enter(stuck: &Stuck, t: u32, since: u32, exit: Option<Exit>) -> bool
 
 /// Whether the exit has fewer taken places than its storage, and the seconds along it.
 fn place_of(exit: Option<Exit>) -> (bool, u32)
-    requires { IfSome exit (λ e. e.seconds ≤ 10000000) }
+    requires { IfSome exit (λ e. e.seconds ≤ MAX_LENGTH) }
     ensures room { result.0 ≡ has_room exit }
     ensures seconds { result.1 ≡ seconds_along exit }
-    ensures near { result.1 ≤ 10000000 }
+    ensures near { result.1 ≤ MAX_LENGTH }
 {
     match exit {
         None => (false, 0),
@@ -60,8 +62,8 @@ fn place_of(exit: Option<Exit>) -> (bool, u32)
 
 /// The row at the end of the queue of its next link.
 fn entered(t: u32, exit: Option<Exit>, vehicle: &Vehicle) -> Result<Row, AllocError>
-    requires second_in { t < 172800 }
-    requires near { IfSome exit (λ e. e.seconds ≤ 10000000) }
+    requires second_in { t < LAST_SECOND }
+    requires near { IfSome exit (λ e. e.seconds ≤ MAX_LENGTH) }
     requires next { HasNext vehicle.now }
     ensures { IfOk result (λ row. row ≡ entered t exit vehicle.now) }
 {
@@ -96,8 +98,8 @@ fn push_entering(
     row: &Row,
     out: &mut Vec<Move>,
 ) -> Result<(), AllocError>
-    requires second_in { t < 172800 }
-    requires near { IfSome exit (λ e. e.seconds ≤ 10000000) }
+    requires second_in { t < LAST_SECOND }
+    requires near { IfSome exit (λ e. e.seconds ≤ MAX_LENGTH) }
     requires next { HasNext row.now.vehicle }
     ensures { OnOk result (out.new.items
         ≡ out.old.items ++ Put a Buffer 0 (at_second since row.now) (entered t exit row.now.vehicle) ∷ Mark a t ∷ []) }
@@ -155,7 +157,7 @@ fn push_enters(
     row: &Row,
     out: &mut Vec<Move>,
 ) -> Result<Vec<ExitRow>, AllocError>
-    requires second_in { t < 172800 }
+    requires second_in { t < LAST_SECOND }
     requires near { AreNear exits.now }
     requires next { HasNext row.now.vehicle }
     ensures moves { OnOk result (out.new.items ≡ out.old.items
@@ -189,7 +191,7 @@ fn push_hand(
     rows: &[Row],
     out: &mut Vec<Move>,
 ) -> Result<Vec<ExitRow>, AllocError>
-    requires second_in { at.second < 172800 }
+    requires second_in { at.second < LAST_SECOND }
     requires near { AreNear exits.items }
     requires next { HaveNext rows.now }
     ensures moves { OnOk result (out.new.items ≡ out.old.items ++ hand at.stuck at.second a (exits_in exits.items) since rows.now) }
@@ -230,7 +232,7 @@ fn push_hand_all(
     entry: &Entry,
     out: &mut Vec<Move>,
 ) -> Result<Vec<ExitRow>, AllocError>
-    requires second_in { at.second < 172800 }
+    requires second_in { at.second < LAST_SECOND }
     requires near { AreNear exits.items }
     requires entry { IsEntry entry.now }
     ensures moves { OnOk result (out.new.items ≡ out.old.items ++ hand_all at.stuck at.second (exits_in exits.items) entry.now) }
@@ -253,7 +255,7 @@ fn push_pick(
     exits: Vec<ExitRow>,
     out: &mut Vec<Move>,
 ) -> Result<Vec<ExitRow>, AllocError>
-    requires second_in { at.second < 172800 }
+    requires second_in { at.second < LAST_SECOND }
     requires near { AreNear exits.items }
     requires entries { AreEntries entries.old.items }
     requires some { 0 < length entries.old.items }
@@ -283,7 +285,7 @@ fn push_draw(
     exits: Vec<ExitRow>,
     out: &mut Vec<Move>,
 ) -> Result<(), AllocError>
-    requires second_in { at.second < 172800 }
+    requires second_in { at.second < LAST_SECOND }
     requires near { AreNear exits.items }
     requires entries { AreEntries entries.items }
     requires few { length entries.items ≤ 16 }
@@ -354,7 +356,7 @@ pub fn node_moves(
     entries: Vec<Entry>,
     exits: Vec<ExitRow>,
 ) -> Result<Vec<Move>, AllocError>
-    requires second_in { t < 172800 }
+    requires second_in { t < LAST_SECOND }
     requires near { AreNear exits.items }
     requires entries { AreEntries entries.items }
     requires few { length entries.items ≤ 16 }

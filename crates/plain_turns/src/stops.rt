@@ -2,12 +2,15 @@
 
 ghost use Rattle.std.specs.Prelude.{◌≡◌, ◌<◌, ◌≤◌, ◌+◌, ◌*◌, ◌++◌, true, length, map, filter, not, OnOk, IfOk};
 ghost use Rattle.std.specs.List.{list_any};
-ghost use Rattle.traffic.specs.Stops.{call_at, next_call, calls_on, alights, alighting, staying, calls_at, may_board, in_turn, boarding, is_person, left_behind, rider, stand, not_before, served_row};
-ghost use Rattle.plain_turns.specs.Limits.{IsDwelling, IsSmall};
+ghost use Rattle.limits.specs.declared.TheConstants.{LAST_SECOND};
+ghost use Rattle.traffic.specs.Stops.{call_at, next_call, calls_on, alights, alighting, staying, may_board, in_turn, boarding, is_person, left_behind, rider, stand, not_before, served_row};
+ghost use Rattle.rows.specs.Settings.{IsDwelling};
+ghost use Rattle.plain_turns.specs.Limits.{IsSmall};
 
 use events::StopCall;
+use rows::{Dwelling, calls_at};
 use std::alloc::{AllocError, Global};
-use traffic::{Dwelling, Rider, Riders, Row, Stage, Vehicle, Waiter};
+use traffic::{Rider, Riders, Row, Stage, Vehicle, Waiter};
 
 const NO_CALL: StopCall = StopCall {
     stop: 0,
@@ -72,12 +75,6 @@ pub fn staying(alloc: Global, stop: u32, riders: &[Rider]) -> Result<Vec<Rider>,
         rest = later;
     }
     Ok(stay)
-}
-
-fn calls_at(stop: u32, calls: &[StopCall]) -> bool
-    ensures { result ≡ calls_at stop calls.now }
-{
-    calls.iter().any(|call| call.stop == stop)
 }
 
 /// Whether who waits may board the vehicle at its next call.
@@ -204,8 +201,8 @@ fn stand(dwell: &Dwelling, alighted: u32, boarded: u32) -> u32
 
 /// The second in which a vehicle with this call may go on.
 fn not_before(call: StopCall, departed: u32, second: u32) -> u32
-    requires departed_in { departed ≤ 172800 }
-    requires offset_in { call.offset ≤ 172800 }
+    requires departed_in { departed ≤ LAST_SECOND }
+    requires offset_in { call.offset ≤ LAST_SECOND }
     ensures { result ≡ not_before call departed second }
 {
     if call.wait {
@@ -217,7 +214,7 @@ fn not_before(call: StopCall, departed: u32, second: u32) -> u32
 /// The second in which the vehicle, served in second `t`, may go on, where so many board.
 fn stays_until(dwell: &Dwelling, t: u32, vehicle: &Vehicle, boarded: usize) -> u32
     requires dwell_in { IsDwelling dwell.now }
-    requires second_in { t < 172800 }
+    requires second_in { t < LAST_SECOND }
     requires small { IsSmall vehicle.now }
     requires few { boarded ≤ vehicle.now.seats }
     ensures { result ≡ not_before (next_call vehicle.now) vehicle.now.departed
@@ -263,7 +260,7 @@ pub fn serve(
     vehicle: &Vehicle,
 ) -> Result<Service, AllocError>
     requires dwell_in { IsDwelling dwell.now }
-    requires second_in { t < 172800 }
+    requires second_in { t < LAST_SECOND }
     requires small { IsSmall vehicle.now }
     requires calls { vehicle.now.served < length vehicle.now.calls }
     ensures row { IfOk result (λ service. service.row ≡ served_row dwell.now t l waiters.now vehicle.now) }

@@ -1,3 +1,2 @@
 pub mod Removals
-pub mod Itineraries
 pub mod Running

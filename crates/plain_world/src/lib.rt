@@ -3,10 +3,11 @@
 
 mod keys;
 mod moving;
-mod rows;
 mod steps;
+mod vehicle_rows;
 mod world;
 
 pub use keys::push_keyed;
 pub use moving::{do_credit, do_move, do_moves};
+pub use vehicle_rows::{is_on, rank};
 pub use world::World;

@@ -2,18 +2,17 @@
 
 ghost use Rattle.std.specs.Prelude.{◌≡◌, ◌++◌, ◌<◌, ◌^◌, length, slice_set, OnOk};
 ghost use Rattle.std.specs.List.{flat_map};
-ghost use Rattle.town.specs.Views.{setup_in};
+ghost use Rattle.town.specs.Views.{setup};
 ghost use Rattle.traffic.specs.declared.moves.Move.TheVariants.{Credit};
-ghost use Rattle.traffic.specs.Moves.{told, credits_after, holes_after, done, run};
+ghost use Rattle.traffic.specs.Moves.{told, rows_after, persons_after, credits_after, holes_after, done, run};
 
-use crate::rows::move_rows;
 use crate::steps::step_persons;
+use crate::vehicle_rows::move_rows;
 use crate::world::World;
 use plain_turns::push_told;
-use plans::Plan;
 use std::alloc::{AllocError, Global};
-use town::Town;
-use traffic::{Hole, Move, Said};
+use town::DayInput;
+use traffic::{Hole, Move, Person, Said};
 
 /// Gives a link this credit.
 fn set_credit(link: u32, credit: u32, credits: &mut [u32])
@@ -54,6 +53,39 @@ fn move_holes(step: &Move, holes: &mut Vec<Hole>) -> Result<(), AllocError>
     Ok(())
 }
 
+/// Appends what a move of this second tells, and does it to the persons.
+fn tell(
+    alloc: Global,
+    day: &DayInput,
+    second: u32,
+    step: &Move,
+    persons: &mut [Person],
+    said: &mut Vec<Said>,
+) -> Result<(), AllocError>
+    requires { second < 2 ^ 31 }
+    ensures persons { OnOk result (persons.new ≡ persons_after (setup day.now) second (told step.now) persons.old) }
+    ensures told { OnOk result (said.new.items ≡ said.old.items ++ told step.now) }
+{
+    let before = said.len();
+    push_told(alloc, step, said)?;
+    step_persons(day, second, &said[before..], persons)?;
+    Ok(())
+}
+
+/// Does a move to the rows of vehicles, to the credits and to the holes.
+fn move_vehicles(step: Move, world: &mut World) -> Result<(), AllocError>
+    ensures { OnOk result (world.new ≡ record world.old {
+      rows = rows_after step world.old.rows;
+      credits = credits_after step world.old.credits;
+      holes = holes_after step world.old.holes;
+    }) }
+{
+    move_credits(&step, &mut world.credits);
+    move_holes(&step, &mut world.holes)?;
+    move_rows(step, &mut world.rows)?;
+    Ok(())
+}
+
 /// Does a move of this second, and appends what it tells. After an error the world is of no use.
 ///
 /// # Errors
@@ -61,31 +93,18 @@ fn move_holes(step: &Move, holes: &mut Vec<Hole>) -> Result<(), AllocError>
 /// `AllocError`: there is no memory for a row, a hole or an event.
 pub fn do_move(
     alloc: Global,
-    town: &Town,
-    chosen: &[Plan],
-    iteration: u32,
+    day: &DayInput,
     second: u32,
     step: Move,
     world: &mut World,
     said: &mut Vec<Said>,
 ) -> Result<(), AllocError>
     requires { second < 2 ^ 31 }
-    ensures world { OnOk result (world.new ≡ done (setup_in town.now chosen.now iteration) second step world.old) }
+    ensures world { OnOk result (world.new ≡ done (setup day.now) second step world.old) }
     ensures told { OnOk result (said.new.items ≡ said.old.items ++ told step) }
 {
-    let before = said.len();
-    push_told(alloc, &step, said)?;
-    step_persons(
-        town,
-        chosen,
-        iteration,
-        second,
-        &said[before..],
-        &mut world.persons,
-    )?;
-    move_credits(&step, &mut world.credits);
-    move_holes(&step, &mut world.holes)?;
-    move_rows(step, &mut world.rows)?;
+    tell(alloc, day, second, &step, &mut world.persons, said)?;
+    move_vehicles(step, world)?;
     Ok(())
 }
 
@@ -97,20 +116,18 @@ pub fn do_move(
 /// `AllocError`: there is no memory for a row, a hole or an event.
 pub fn do_moves(
     alloc: Global,
-    town: &Town,
-    chosen: &[Plan],
-    iteration: u32,
+    day: &DayInput,
     second: u32,
     moves: Vec<Move>,
     world: &mut World,
     said: &mut Vec<Said>,
 ) -> Result<(), AllocError>
     requires { second < 2 ^ 31 }
-    ensures world { OnOk result (world.new ≡ run (setup_in town.now chosen.now iteration) second moves.items world.old) }
+    ensures world { OnOk result (world.new ≡ run (setup day.now) second moves.items world.old) }
     ensures told { OnOk result (said.new.items ≡ said.old.items ++ flat_map told moves.items) }
 {
     for step in moves {
-        do_move(alloc, town, chosen, iteration, second, step, world, said)?;
+        do_move(alloc, day, second, step, world, said)?;
     }
     Ok(())
 }

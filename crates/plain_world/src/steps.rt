@@ -1,42 +1,22 @@
 //! What an event makes of the row of its person.
 
 ghost use Rattle.std.specs.Prelude.{◌≡◌, ◌+◌, ◌/◌, ◌<◌, ◌^◌, OnOk, IfOk};
-ghost use Rattle.town.specs.Views.{setup_in};
-ghost use Rattle.traffic.specs.Setup.{stay};
+ghost use Rattle.town.specs.Views.{setup};
+ghost use Rattle.traffic.specs.Setup.{act_at};
 ghost use Rattle.traffic.specs.Moves.{ends_at, leave, arrive, start_act, ride, wait_at, lose, person_after, persons_by, persons_after};
-ghost use Rattle.plain_world.specs.Plans.{end_at};
 
 use events::{More, VehicleId, Word};
-use plans::Plan;
+use rows::act_in;
 use std::alloc::AllocError;
-use town::Town;
+use town::{DayInput, chosen_plan};
 use traffic::{Person, Place, Said};
 
-/// The planned end of the activity at this place of a plan.
-fn end_at(plan: &Plan, place: usize) -> Option<u32>
-    ensures { result ≡ end_at plan.now.acts place }
+/// The planned end of the activity at an element of a person's plan.
+fn planned_end(day: &DayInput, person: u32, element: u32) -> Option<u32>
+    ensures { result ≡ (act_at (setup day.now) person element).end }
 {
-    let acts = plan.acts.rows.as_slice();
-    if place < acts.len() {
-        return acts[place].end;
-    }
-    None
-}
-
-/// The planned end of the activity at an element of a person's plan. It is of the plan alone: the
-/// town and the iteration are those of the day that the plan belongs to.
-fn planned_end(
-    _town: &Town,
-    chosen: &[Plan],
-    _iteration: u32,
-    person: u32,
-    element: u32,
-) -> Option<u32>
-    ensures { result ≡ (stay (setup_in _town.now chosen.now _iteration) person element).end }
-{
-    let person = person as usize;
-    if person < chosen.len() {
-        return end_at(&chosen[person], (element / 2) as usize);
+    if (person as usize) < day.chosen.len() {
+        return act_in(chosen_plan(day, person), element).end;
     }
     None
 }
@@ -75,19 +55,12 @@ fn leave(second: u32, person: Person) -> Result<Person, AllocError>
 }
 
 /// The leg of a person ends, and the next activity begins.
-fn arrive(
-    town: &Town,
-    chosen: &[Plan],
-    iteration: u32,
-    second: u32,
-    number: u32,
-    person: Person,
-) -> Result<Person, AllocError>
+fn arrive(day: &DayInput, second: u32, number: u32, person: Person) -> Result<Person, AllocError>
     requires { second < 2 ^ 31 }
-    ensures { IfOk result (λ after. after ≡ arrive (setup_in town.now chosen.now iteration) second number person) }
+    ensures { IfOk result (λ after. after ≡ arrive (setup day.now) second number person) }
 {
     let element = next_element(person)?;
-    let planned = planned_end(town, chosen, iteration, number, element);
+    let planned = planned_end(day, number, element);
     Ok(Person {
         element,
         place: Place::At {
@@ -97,23 +70,16 @@ fn arrive(
 }
 
 /// The next activity begins; a person who waits at a stop has none to begin.
-fn start_act(
-    town: &Town,
-    chosen: &[Plan],
-    iteration: u32,
-    second: u32,
-    number: u32,
-    person: Person,
-) -> Result<Person, AllocError>
+fn start_act(day: &DayInput, second: u32, number: u32, person: Person) -> Result<Person, AllocError>
     requires { second < 2 ^ 31 }
-    ensures { IfOk result (λ after. after ≡ start_act (setup_in town.now chosen.now iteration) second number person person.place) }
+    ensures { IfOk result (λ after. after ≡ start_act (setup day.now) second number person person.place) }
 {
     match person.place {
         Place::Waiting { .. } => Ok(person),
-        Place::At { .. } => arrive(town, chosen, iteration, second, number, person),
-        Place::Flying { .. } => arrive(town, chosen, iteration, second, number, person),
-        Place::Riding { .. } => arrive(town, chosen, iteration, second, number, person),
-        Place::Gone { .. } => arrive(town, chosen, iteration, second, number, person),
+        Place::At { .. } => arrive(day, second, number, person),
+        Place::Flying { .. } => arrive(day, second, number, person),
+        Place::Riding { .. } => arrive(day, second, number, person),
+        Place::Gone { .. } => arrive(day, second, number, person),
     }
 }
 
@@ -166,22 +132,20 @@ fn lose(link: Option<u32>, person: Person) -> Person
 /// The row of the person of this number after an event.
 #[tactic(auto, unfolding(traffic::specs::Moves::person_after))]
 fn person_after(
-    town: &Town,
-    chosen: &[Plan],
-    iteration: u32,
+    day: &DayInput,
     second: u32,
     number: u32,
     said: &Said,
     person: Person,
 ) -> Result<Person, AllocError>
     requires { second < 2 ^ 31 }
-    ensures { IfOk result (λ after. after ≡ person_after (setup_in town.now chosen.now iteration) second number said.now person) }
+    ensures { IfOk result (λ after. after ≡ person_after (setup day.now) second number said.now person) }
 {
     match said.word {
         Word::Departure => leave(second, person),
         Word::WaitingForPt => Ok(wait_at(said.more, second, person)),
         Word::PersonEntersVehicle => Ok(ride(said.vehicle, person)),
-        Word::ActStart => start_act(town, chosen, iteration, second, number, person),
+        Word::ActStart => start_act(day, second, number, person),
         Word::StuckAndAbort => Ok(lose(said.link, person)),
         Word::ActEnd => Ok(person),
         Word::Travelled => Ok(person),
@@ -200,30 +164,20 @@ fn person_after(
 
 /// Does an event to the row of its person.
 fn step_by(
-    town: &Town,
-    chosen: &[Plan],
-    iteration: u32,
+    day: &DayInput,
     second: u32,
     said: &Said,
     persons: &mut [Person],
 ) -> Result<(), AllocError>
     requires { second < 2 ^ 31 }
-    ensures { OnOk result (persons.new ≡ persons_by (setup_in town.now chosen.now iteration) second said.now said.now.person persons.old) }
+    ensures { OnOk result (persons.new ≡ persons_by (setup day.now) second said.now said.now.person persons.old) }
 {
     let Some(number) = said.person else {
         return Ok(());
     };
     let place = number as usize;
     if place < persons.len() {
-        persons[place] = person_after(
-            town,
-            chosen,
-            iteration,
-            second,
-            number,
-            said,
-            persons[place],
-        )?;
+        persons[place] = person_after(day, second, number, said, persons[place])?;
     }
     Ok(())
 }
@@ -234,19 +188,17 @@ fn step_by(
 ///
 /// `AllocError`: no number counts the elements of a person's plan.
 pub(crate) fn step_persons(
-    town: &Town,
-    chosen: &[Plan],
-    iteration: u32,
+    day: &DayInput,
     second: u32,
     said: &[Said],
     persons: &mut [Person],
 ) -> Result<(), AllocError>
     requires { second < 2 ^ 31 }
-    ensures { OnOk result (persons.new ≡ persons_after (setup_in town.now chosen.now iteration) second said.now persons.old) }
+    ensures { OnOk result (persons.new ≡ persons_after (setup day.now) second said.now persons.old) }
 {
     let mut rest = said;
     while let [event, later @ ..] = rest {
-        step_by(town, chosen, iteration, second, event, persons)?;
+        step_by(day, second, event, persons)?;
         rest = later;
     }
     Ok(())

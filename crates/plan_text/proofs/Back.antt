@@ -3,6 +3,7 @@ use Rattle.std.proofs.Common.{◌≡◌, ℕ, ◌+◌, ◌<◌, ◌≤◌, ◌^�
 use Rattle.std.specs.Prelude.{nat_eq, nat_le, nat_lt, decimal, option_map}
 use Rattle.std.specs.List.{list_all, cons_option, join_with_byte}
 use Rattle.std.proofs.lemmas.Bool.Decides.{nat_tests}
+use Rattle.limits.specs.declared.TheConstants.{LAST_SECOND, MAX_LEGS}
 use Rattle.events.specs.declared.event.Book.{Book}
 use Rattle.events.specs.declared.event.Mode.{Mode}
 use Rattle.events.specs.declared.event.Mode.TheVariants as mode
@@ -13,10 +14,10 @@ use Rattle.records.specs.Rows.{Row}
 use Rattle.records.specs.Fields.{field}
 use Rattle.records.specs.Numbers.{number_in, are_digits}
 use Rattle.records.specs.Lists.{parts_of, items_in, numbers_of, with_number}
-use Rattle.plans.specs.declared.plan.Act.{Act}
-use Rattle.plans.specs.declared.plan.Leg.{Leg}
-use Rattle.plans.specs.declared.plan.Leg.TheVariants as leg
-use Rattle.plans.specs.Plan.{is_leg, is_teleported, has_end, is_open, is_end, are_acts}
+use Rattle.rows.specs.declared.plan.Act.{Act}
+use Rattle.rows.specs.declared.plan.Leg.{Leg}
+use Rattle.rows.specs.declared.plan.Leg.TheVariants as leg
+use Rattle.rows.specs.Plan.{is_leg, is_teleported, has_end, is_open, is_end, are_acts}
 use Rattle.plan_text.specs.Lines.{IsBook, end_text, act_row, leg_mode, route_names, route_text, leg_row, element_rows, element_lines, is_act_in, is_leg_in, are_in_book, are_plan}
 use Rattle.plan_text.specs.Elements.{numbered_act, act_in, numbered_transit, transit_in, leg_by, leg_of_mode, leg_in, rows_in, acts_in, legs_in}
 use Rattle.plan_text.proofs.Joins.{both, and_true, parts_back, join_first, behind_each}
@@ -25,15 +26,15 @@ use Rattle.plan_text.proofs.Clean.{is_row, is_time, all_weaker, name_bytes, name
 use Rattle.events.specs.Names.{is_name_byte}
 
 -- an end that is none, or in range, is read back
-end_back : (end : Option ℕ) → is_time end ≡ true → number_in 0 172800 (end_text end) ≡ end
+end_back : (end : Option ℕ) → is_time end ≡ true → number_in 0 LAST_SECOND (end_text end) ≡ end
 unfolding number_in are_digits
 end_back None h = refl
-end_back (Some second) h = number_back 0 172800 second (omega arith) (at_most second h) (short second h)
+end_back (Some second) h = number_back 0 LAST_SECOND second (omega arith) (at_most second h) (short second h)
   where
-    at_most : (n : ℕ) → nat_le n 172800 ≡ true → n ≤ 172800
+    at_most : (n : ℕ) → nat_le n LAST_SECOND ≡ true → n ≤ LAST_SECOND
     at_most n h = grind (arith, nat_tests)
 
-    short : (n : ℕ) → nat_le n 172800 ≡ true → n < 2 ^ 32
+    short : (n : ℕ) → nat_le n LAST_SECOND ≡ true → n < 2 ^ 32
     short n h = grind (arith, nat_tests)
 
 number_there : (names : List (List ℕ)) (n : ℕ) → AreNames names → nat_lt n (length names) ≡ true → number_of (name_at names n) names ≡ Some n
@@ -75,16 +76,16 @@ mode_back mode.Bike = refl
 mode_back mode.Ride = refl
 mode_back mode.Pt = refl
 
-seconds_back : (seconds : ℕ) → nat_le 1 seconds ≡ true → nat_le seconds 172800 ≡ true → number_in 1 172800 (decimal seconds) ≡ Some seconds
-seconds_back n some h = number_back 1 172800 n (least n some) (at_most n h) (short n h)
+seconds_back : (seconds : ℕ) → nat_le 1 seconds ≡ true → nat_le seconds LAST_SECOND ≡ true → number_in 1 LAST_SECOND (decimal seconds) ≡ Some seconds
+seconds_back n some h = number_back 1 LAST_SECOND n (least n some) (at_most n h) (short n h)
   where
     least : (n : ℕ) → nat_le 1 n ≡ true → 1 ≤ n
     least n h = grind (arith, nat_tests)
 
-    at_most : (n : ℕ) → nat_le n 172800 ≡ true → n ≤ 172800
+    at_most : (n : ℕ) → nat_le n LAST_SECOND ≡ true → n ≤ LAST_SECOND
     at_most n h = grind (arith, nat_tests)
 
-    short : (n : ℕ) → nat_le n 172800 ≡ true → n < 2 ^ 32
+    short : (n : ℕ) → nat_le n LAST_SECOND ≡ true → n < 2 ^ 32
     short n h = grind (arith, nat_tests)
 
 module _ (book : Book) (person index : ℕ) (are : IsBook book) where
@@ -92,8 +93,8 @@ module _ (book : Book) (person index : ℕ) (are : IsBook book) where
   unfolding act_in act_row
   act_back act in_book time =
       let parts = both (nat_lt act.kind (length book.kinds)) (nat_lt act.link (length book.links)) in_book in
-      ap (λ (o : Option ℕ). numbered_act o (number_of (name_at book.links act.link) book.links) (number_in 0 172800 (end_text act.end))) (number_there book.kinds act.kind are.kinds parts.0)
-      ∙ ap (λ (o : Option ℕ). numbered_act (Some act.kind) o (number_in 0 172800 (end_text act.end))) (number_there book.links act.link are.links parts.1)
+      ap (λ (o : Option ℕ). numbered_act o (number_of (name_at book.links act.link) book.links) (number_in 0 LAST_SECOND (end_text act.end))) (number_there book.kinds act.kind are.kinds parts.0)
+      ∙ ap (λ (o : Option ℕ). numbered_act (Some act.kind) o (number_in 0 LAST_SECOND (end_text act.end))) (number_there book.links act.link are.links parts.1)
       ∙ ap (λ (o : Option ℕ). numbered_act (Some act.kind) (Some act.link) o) (end_back act.end time)
 
   act_no_leg : (act : Act) → leg_in book (act_row book person index act) ≡ None
@@ -104,7 +105,7 @@ module _ (book : Book) (person index : ℕ) (are : IsBook book) where
   unfolding act_in leg_row
   leg_no_act leg = refl
 
-  by_mode : (mode : Mode) (seconds : ℕ) (row : Row) → is_teleported mode ≡ true → leg_by book mode row ≡ option_map (λ seconds. leg.Teleport mode seconds) (number_in 1 172800 (field row 5))
+  by_mode : (mode : Mode) (seconds : ℕ) (row : Row) → is_teleported mode ≡ true → leg_by book mode row ≡ option_map (λ seconds. leg.Teleport mode seconds) (number_in 1 LAST_SECOND (field row 5))
   unfolding leg_by
   by_mode mode.Car seconds row h = absurd (cc h)
   by_mode mode.Walk seconds row h = refl
@@ -118,7 +119,7 @@ module _ (book : Book) (person index : ℕ) (are : IsBook book) where
       ap (λ (items : List (List ℕ)). option_map (λ route. leg.Car route) (numbers_of items book.links)) (items_back (map (name_at book.links) route) (names_named book.links route are.links in_book))
       ∙ ap (option_map (λ route. leg.Car route)) (numbers_there book.links route are.links in_book)
   leg_by_back (leg.Teleport mode seconds) in_book sound =
-      let parts = three_parts (is_teleported mode) (nat_le 1 seconds) (nat_le seconds 172800) sound in
+      let parts = three_parts (is_teleported mode) (nat_le 1 seconds) (nat_le seconds LAST_SECOND) sound in
       by_mode mode seconds (leg_row book person index (leg.Teleport mode seconds)) parts.0 ∙ ap (option_map (λ seconds. leg.Teleport mode seconds)) (seconds_back seconds parts.1 parts.2)
   leg_by_back (leg.Transit line access egress) in_book sound =
       let parts = three_parts _ _ _ in_book in
@@ -217,7 +218,7 @@ module _ (book : Book) (person index : ℕ) (are : IsBook book) where
     unfolding are_plan are_in_book element_lines
     plan_back acts legs plan in_book =
         let named = both (list_all (is_act_in book) acts) _ in_book in
-        let four = both (nat_eq (length acts) (length legs + 1) && nat_le (length legs) 8 && are_acts acts) _ plan in
+        let four = both (nat_eq (length acts) (length legs + 1) && nat_le (length legs) MAX_LEGS && are_acts acts) _ plan in
         let three = three_parts _ _ _ four.0 in
         let times = times_of acts three.2 in
         let rows = rows_back (rows_of acts legs) (rows_clean acts legs named.0 times named.1 four.1) in

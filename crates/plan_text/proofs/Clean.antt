@@ -4,6 +4,7 @@ use Rattle.std.specs.Prelude.{nat_eq, nat_le, nat_lt, decimal}
 use Rattle.std.specs.List.{list_all, flat_map, join_with_byte}
 use Rattle.std.proofs.lemmas.Bool.Decides.{nat_tests}
 use Rattle.std.proofs.lemmas.List.Folds.{list_all-append}
+use Rattle.limits.specs.declared.TheConstants.{LAST_SECOND}
 use Rattle.events.specs.declared.event.Book.{Book}
 use Rattle.events.specs.declared.event.Mode.{Mode}
 use Rattle.events.specs.declared.event.Mode.TheVariants as mode
@@ -13,10 +14,10 @@ use Rattle.events.proofs.NameLists.{is_name-name_at}
 use Rattle.records.specs.Rows.{Row}
 use Rattle.records.specs.Numbers.{is_digit}
 use Rattle.records.specs.Lists.{parts_of}
-use Rattle.plans.specs.declared.plan.Act.{Act}
-use Rattle.plans.specs.declared.plan.Leg.{Leg}
-use Rattle.plans.specs.declared.plan.Leg.TheVariants as leg
-use Rattle.plans.specs.Plan.{is_leg, is_teleported}
+use Rattle.rows.specs.declared.plan.Act.{Act}
+use Rattle.rows.specs.declared.plan.Leg.{Leg}
+use Rattle.rows.specs.declared.plan.Leg.TheVariants as leg
+use Rattle.rows.specs.Plan.{is_leg, is_teleported}
 use Rattle.plan_text.specs.Lines.{IsBook, row_line, end_text, act_row, leg_mode, seconds_text, route_names, route_text, leg_row, is_act_in, is_leg_in}
 use Rattle.plan_text.specs.Elements.{rows_in}
 use Rattle.plan_text.proofs.Joins.{both, and_true, parts_back, part_off}
@@ -121,9 +122,9 @@ clean_mode mode.Pt = refl
 -- an end that is none, or at most 172,800
 abbrev pub is_time : Option ℕ → Bool
 is_time None = true
-is_time (Some second) = nat_le second 172800
+is_time (Some second) = nat_le second LAST_SECOND
 
-short : (n : ℕ) → nat_le n 172800 ≡ true → n < 2 ^ 64
+short : (n : ℕ) → nat_le n LAST_SECOND ≡ true → n < 2 ^ 64
 short n h = grind (arith, nat_tests)
 
 clean_end : (end : Option ℕ) → is_time end ≡ true → is_clean (end_text end) ≡ true
@@ -132,7 +133,7 @@ clean_end (Some second) h = clean_number second (short second h)
 
 clean_seconds : (leg : Leg) → is_leg leg ≡ true → is_clean (seconds_text leg) ≡ true
 clean_seconds (leg.Car route) h = refl
-clean_seconds (leg.Teleport mode seconds) h = clean_number seconds (short seconds (three_parts (is_teleported mode) (nat_le 1 seconds) (nat_le seconds 172800) h).2)
+clean_seconds (leg.Teleport mode seconds) h = clean_number seconds (short seconds (three_parts (is_teleported mode) (nat_le 1 seconds) (nat_le seconds LAST_SECOND) h).2)
 clean_seconds (leg.Transit line access egress) h = refl
 
 five_clean : (a b c d e : Bool) → a ≡ true → b ≡ true → c ≡ true → d ≡ true → e ≡ true → (a && (b && (true && (c && (d && (e && (true && true))))))) ≡ true

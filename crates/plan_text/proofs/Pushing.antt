@@ -3,8 +3,8 @@ use Rattle.std.proofs.Common.{◌≡◌, ℕ, zero, suc, ◌+◌, ◌<◌, ◌�
 use Rattle.std.specs.List.{list_all}
 use Rattle.std.proofs.lemmas.List.{drop_more}
 use Rattle.events.specs.declared.event.Book.{Book}
-use Rattle.plans.specs.declared.plan.Act.{Act}
-use Rattle.plans.specs.declared.plan.Leg.{Leg}
+use Rattle.rows.specs.declared.plan.Act.{Act}
+use Rattle.rows.specs.declared.plan.Leg.{Leg}
 use Rattle.plan_text.specs.Lines.{row_line, act_row, leg_row, element_rows, element_lines, is_act_in, is_leg_in, are_in_book}
 use Rattle.plan_text.proofs.Joins.{both}
 

@@ -9,9 +9,9 @@ use Rattle.events.specs.Words.{mode_of}
 use Rattle.records.specs.Rows.{Row}
 use Rattle.records.specs.Fields.{field}
 use Rattle.records.specs.Lists.{parts_of, numbers_of}
-use Rattle.plans.specs.declared.plan.Act.{Act}
-use Rattle.plans.specs.declared.plan.Leg.{Leg}
-use Rattle.plans.specs.declared.plan.Leg.TheVariants as leg
+use Rattle.rows.specs.declared.plan.Act.{Act}
+use Rattle.rows.specs.declared.plan.Leg.{Leg}
+use Rattle.rows.specs.declared.plan.Leg.TheVariants as leg
 use Rattle.plans.specs.Kinds.{end_in, seconds_in, items_of, item}
 
 -- the activity of this kind, link and end

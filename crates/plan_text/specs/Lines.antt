@@ -1,17 +1,18 @@
 -- The lines of a plan in plans.csv: `person,plan,kind,name,link,time,route`.
 use Rattle.std.specs.Prelude.{◌≡◌, ℕ, ◌+◌, Bool, true, ◌&&◌, nat_eq, nat_le, nat_lt, List, [], ◌∷◌, ◌++◌, length, map, codes, decimal, Option, None, Some}
 use Rattle.std.specs.List.{list_all, flat_map, join_with_byte}
+use Rattle.limits.specs.declared.TheConstants.{MAX_LEGS}
 use Rattle.events.specs.declared.event.Book.{Book}
 use Rattle.events.specs.declared.event.Mode.{Mode}
 use Rattle.events.specs.declared.event.Mode.TheVariants as mode
 use Rattle.events.specs.Names.{name_at, AreNames}
 use Rattle.events.specs.Words.{mode_text}
 use Rattle.records.specs.Rows.{Row}
-use Rattle.plans.specs.declared.plan.Act.{Act}
-use Rattle.plans.specs.declared.plan.Leg.{Leg}
-use Rattle.plans.specs.declared.plan.Leg.TheVariants as leg
-use Rattle.plans.specs.Plan.{is_leg, are_acts}
-use Rattle.plans.specs.Parts.{Parts}
+use Rattle.rows.specs.declared.plan.Act.{Act}
+use Rattle.rows.specs.declared.plan.Leg.{Leg}
+use Rattle.rows.specs.declared.plan.Leg.TheVariants as leg
+use Rattle.rows.specs.Plan.{is_leg, are_acts}
+use Rattle.rows.specs.PlanRows.{PlanRows}
 
 -- the line of a row: its fields with commas between them, and a line feed
 unfoldable pub row_line : Row → List ℕ
@@ -65,7 +66,7 @@ unfoldable pub element_lines : Book → ℕ → ℕ → List Act → List Leg �
 element_lines book person index acts legs = flat_map row_line (element_rows book person index acts legs)
 
 -- the lines of the plan of this number of a person
-abbrev pub plan_lines : ℕ → ℕ → Parts → Book → List ℕ
+abbrev pub plan_lines : ℕ → ℕ → PlanRows → Book → List ℕ
 plan_lines person index parts book = element_lines book person index parts.acts parts.legs
 
 -- the book's lists are lists of names
@@ -92,13 +93,13 @@ are_in_book book acts legs = list_all (is_act_in book) acts && list_all (is_leg_
 
 -- activities and legs that a plan may have: one activity more than legs, of which there are at most 8, each such as a plan keeps it
 unfoldable pub are_plan : List Act → List Leg → Bool
-are_plan acts legs = nat_eq (length acts) (length legs + 1) && nat_le (length legs) 8 && are_acts acts && list_all is_leg legs
+are_plan acts legs = nat_eq (length acts) (length legs + 1) && nat_le (length legs) MAX_LEGS && are_acts acts && list_all is_leg legs
 
 -- a plan whose numbers have names in the book
-abbrev pub is_plan_in : Book → Parts → Bool
+abbrev pub is_plan_in : Book → PlanRows → Bool
 is_plan_in book parts = are_plan parts.acts parts.legs && are_in_book book parts.acts parts.legs
 
 -- the bytes are the lines of this plan, and its numbers have names in the book
-pub record IsTextOf (person index : ℕ) (book : Book) (bytes : List ℕ) (plan : Parts) : Type 0 where
+pub record IsTextOf (person index : ℕ) (book : Book) (bytes : List ℕ) (plan : PlanRows) : Type 0 where
   pub fits : is_plan_in book plan ≡ true
   pub lines : plan_lines person index plan book ≡ bytes

@@ -3,10 +3,11 @@ ghost use Rattle.records.specs.Lists.{parts_of, numbers_of};
 ghost use Rattle.records.specs.Numbers.{number_in};
 ghost use Rattle.plan_text.specs.Elements.{act_in, transit_in, leg_by, leg_in, rows_in, acts_in, legs_in};
 
-use crate::rows::cell;
+use crate::fields::cell;
 use events::{Book, Mode, Route};
-use plans::{Act, Leg};
+use limits::LAST_SECOND;
 use records::{is_text, items_in, number_in, numbers_of, parts_of};
+use rows::{Act, Leg};
 use std::alloc::{AllocError, Global};
 
 /// The activities and the legs of the plan that a text may be.
@@ -30,7 +31,7 @@ fn act_in(row: &[&[u8]], book: &Book) -> Option<Act>
     let Some(link) = book.links.find(cell(row, 4)) else {
         return None;
     };
-    let end = number_in(cell(row, 5), 0, 172_800);
+    let end = number_in(cell(row, 5), 0, LAST_SECOND);
     Some(Act { kind, link, end })
 }
 
@@ -68,9 +69,9 @@ fn transit_leg(items: &[&[u8]], book: &Book) -> Option<Leg>
 
 /// The leg of a mode that takes the seconds in the field.
 fn teleported_leg(mode: Mode, seconds: &[u8]) -> Option<Leg>
-    ensures { result ≡ option_map (λ seconds. Leg.Teleport mode seconds) (number_in 1 172800 seconds.now) }
+    ensures { result ≡ option_map (λ seconds. Leg.Teleport mode seconds) (number_in 1 LAST_SECOND seconds.now) }
 {
-    match number_in(seconds, 1, 172_800) {
+    match number_in(seconds, 1, LAST_SECOND) {
         None => None,
         Some(seconds) => Some(Leg::Teleport { mode, seconds }),
     }

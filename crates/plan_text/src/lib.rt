@@ -2,8 +2,8 @@
 #![tactic(auto)]
 
 mod elements;
+mod fields;
 mod reading;
-mod rows;
 mod writing;
 
 pub use reading::read_body;

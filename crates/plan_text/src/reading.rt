@@ -1,21 +1,16 @@
 ghost use Rattle.std.specs.Prelude.{◌≡◌, ◌<◌, length, option_map, nat_lt, true, Some, IfOk, IfSome};
 ghost use Rattle.std.specs.List.{list_all};
-ghost use Rattle.plans.specs.Plan.{is_leg, is_end, has_end, is_open, are_acts, is_teleported};
-ghost use Rattle.plans.specs.Parts.{Parts, parts_of};
+ghost use Rattle.rows.specs.Plan.{is_leg, is_end, has_end, is_open, are_acts, is_teleported};
+ghost use Rattle.rows.specs.PlanRows.{PlanRows, plan_rows};
 ghost use Rattle.plan_text.specs.Lines.{IsBook, IsTextOf, is_act_in, is_leg_in, are_in_book, are_plan, is_plan_in};
 
 use crate::elements::{Elements, elements_in};
 use crate::writing::push_elements;
 use events::{Book, Mode};
-use plans::{Act, Acts, Leg, Legs, Plan};
+use limits::{LAST_SECOND, MAX_LEGS, MAX_ROUTE_LINKS};
 use records::is_text;
+use rows::{Act, Acts, Leg, Legs, Plan};
 use std::alloc::{AllocError, Global};
-
-const MAX_LEGS: usize = 8;
-
-const MAX_LINKS: usize = 1_000;
-
-const LAST_SECOND: u32 = 172_800;
 
 fn has_end(act: Act) -> bool
     ensures { result ≡ has_end act }
@@ -27,7 +22,7 @@ fn has_end(act: Act) -> bool
 }
 
 /// Whether every activity but the last has a planned end.
-#[tactic(auto, unfolding(plans::specs::Plan::are_acts))]
+#[tactic(auto, unfolding(rows::specs::Plan::are_acts))]
 fn are_acts(acts: &[Act]) -> bool
     ensures { result ≡ are_acts acts.now }
 {
@@ -62,7 +57,7 @@ fn is_leg(leg: &Leg) -> bool
     ensures { result ≡ is_leg leg.now }
 {
     match leg {
-        Leg::Car { route } => route.rows.len() <= MAX_LINKS,
+        Leg::Car { route } => route.rows.len() <= MAX_ROUTE_LINKS,
         Leg::Teleport { mode, seconds } => {
             is_teleported(*mode) && 1 <= *seconds && *seconds <= LAST_SECOND
         }
@@ -157,7 +152,7 @@ fn is_plan_in(book: &Book, acts: &[Act], legs: &[Leg]) -> bool
 #[tactic(auto, unfolding(crate::specs::Lines::are_plan))]
 fn plan_of(acts: Vec<Act>, legs: Vec<Leg>) -> Plan
     requires { are_plan acts.items legs.items ≡ true }
-    ensures { parts_of result ≡ record { acts = acts.items; legs = legs.items } }
+    ensures { plan_rows result ≡ record { acts = acts.items; legs = legs.items } }
 {
     Plan {
         acts: Acts { rows: acts },
@@ -186,8 +181,8 @@ pub fn read_body(
     book: &Book,
 ) -> Result<Option<Plan>, AllocError>
     requires { person < length book.now.persons }
-    ensures written { IfOk result (λ read. IfSome read (λ plan. IsTextOf person index book.now bytes.now (parts_of plan))) }
-    ensures read { IfOk result (λ read. (plan : Parts) → IsTextOf person index book.now bytes.now plan → option_map parts_of read ≡ Some plan) }
+    ensures written { IfOk result (λ read. IfSome read (λ plan. IsTextOf person index book.now bytes.now (plan_rows plan))) }
+    ensures read { IfOk result (λ read. (plan : PlanRows) → IsTextOf person index book.now bytes.now plan → option_map plan_rows read ≡ Some plan) }
 {
     know_names(book);
     let Elements { acts, legs } = elements_in(alloc, bytes, book)?;

@@ -1,13 +1,13 @@
 ghost use Rattle.std.specs.Prelude.{◌≡◌, ◌<◌, ◌+◌, ◌++◌, length, decimal, drop, map, true, OnOk, OnErr, IfOk};
 ghost use Rattle.std.specs.List.{list_all};
 ghost use Rattle.events.specs.Words.{mode_text};
-ghost use Rattle.plans.specs.Parts.{parts_of};
+ghost use Rattle.rows.specs.PlanRows.{plan_rows};
 ghost use Rattle.plan_text.specs.Lines.{end_text, seconds_text, route_text, leg_mode, row_line, act_row, leg_row, element_lines, plan_lines, is_act_in, is_leg_in, are_in_book, are_plan, is_plan_in};
 
-use crate::rows::{names_of, push_joined, push_row};
+use crate::fields::{names_of, push_joined, push_row};
 use events::{Book, Mode};
 use itoa::Buffer;
-use plans::{Act, Leg, Plan};
+use rows::{Act, Leg, Plan};
 use std::alloc::{AllocError, Global};
 
 /// The end in its field, written into the buffer where there is one.
@@ -205,9 +205,9 @@ pub fn write_plan(
 ) -> Result<(), AllocError>
     requires person { person < length book.now.persons }
     requires named { are_in_book book.now plan.now.acts plan.now.legs ≡ true }
-    ensures ok { OnOk result (out.new.items ≡ out.old.items ++ plan_lines person index (parts_of plan.now) book.now) }
+    ensures ok { OnOk result (out.new.items ≡ out.old.items ++ plan_lines person index (plan_rows plan.now) book.now) }
     ensures err { OnErr result (out.new.items ≡ out.old.items) }
-    ensures readable { is_plan_in book.now (parts_of plan.now) ≡ true }
+    ensures readable { is_plan_in book.now (plan_rows plan.now) ≡ true }
 {
     know_plan(plan);
     let mut text = Vec::new(*out.allocator());

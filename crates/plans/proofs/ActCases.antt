@@ -6,11 +6,11 @@ use Rattle.std.proofs.lemmas.List.{take_more, map-append, append-nil}
 use Rattle.events.specs.Names.{is_held, with_name}
 use Rattle.records.specs.Rows.{Row}
 use Rattle.records.specs.Fields.{field}
-use Rattle.plans.specs.declared.plan.Act.{Act}
-use Rattle.plans.specs.declared.plan.Leg.{Leg}
+use Rattle.rows.specs.declared.plan.Act.{Act}
+use Rattle.rows.specs.declared.plan.Leg.{Leg}
 use Rattle.plans.specs.declared.kinds.ElementKind.{ElementKind}
 use Rattle.plans.specs.declared.kinds.ElementKind.TheVariants as element
-use Rattle.plans.specs.Parts.{Parts}
+use Rattle.rows.specs.PlanRows.{PlanRows}
 use Rattle.plans.specs.Kinds.{kind_of, is_act, plan_number}
 use Rattle.plans.specs.Refusals.{same_person, same_plan, is_neither, starts_late, jumps}
 use Rattle.plans.specs.Runs.{runs}
@@ -121,8 +121,8 @@ act_of_new_plan links rows n latest p at person plan counted begins opened =
         split = ap (λ (l : List Row). runs same_person l) (take_more rows n [] at.within) ∙ runs_on same_person (take n rows) g.earlier g.front latest y g.split person;
         split_own = runs_new same_plan (g.front ++ latest ∷ []) g.others g.begun latest y g.split_own plan;
         plans_are = g.plans_are;
-        own_are = ap (λ (l : List Parts). l ++ closed_of p ∷ []) g.own_are
-            ∙ ap (λ (c : Parts). map (plan_among tables) g.others ++ c ∷ []) (closed_is tables (g.begun ++ latest ∷ []) p opened g.acts_are g.legs_are)
+        own_are = ap (λ (l : List PlanRows). l ++ closed_of p ∷ []) g.own_are
+            ∙ ap (λ (c : PlanRows). map (plan_among tables) g.others ++ c ∷ []) (closed_is tables (g.begun ++ latest ∷ []) p opened g.acts_are g.legs_are)
             ∙ sym (map-append (plan_among tables) g.others ((g.begun ++ latest ∷ []) ∷ []));
         acts_are = ap (λ (a : Act). a ∷ []) at.act_is ∙ sym (one_act tables y at.is_act_row);
         legs_are = sym (no_leg tables y at.is_act_row);
@@ -145,8 +145,8 @@ act_of_new_person links rows n latest p at person early begins opened =
     let g = at.groups in
     let count = legs_to_more rows n true element.Act (length p.legs) at.names.legs_count begins at.is_act_row in
     let own_is : p.own ++ closed_of p ∷ [] ≡ map (plan_among tables) (runs same_plan (g.front ++ latest ∷ [])) =
-    ap (λ (l : List Parts). l ++ closed_of p ∷ []) g.own_are
-    ∙ ap (λ (c : Parts). map (plan_among tables) g.others ++ c ∷ []) (closed_is tables (g.begun ++ latest ∷ []) p opened g.acts_are g.legs_are)
+    ap (λ (l : List PlanRows). l ++ closed_of p ∷ []) g.own_are
+    ∙ ap (λ (c : PlanRows). map (plan_among tables) g.others ++ c ∷ []) (closed_is tables (g.begun ++ latest ∷ []) p opened g.acts_are g.legs_are)
     ∙ sym (map-append (plan_among tables) g.others ((g.begun ++ latest ∷ []) ∷ []))
     ∙ ap (λ (l : List (List Row)). map (plan_among tables) l) (sym g.split_own) in (
       record {
@@ -171,8 +171,8 @@ act_of_new_person links rows n latest p at person early begins opened =
         begun = [];
         split = ap (λ (l : List Row). runs same_person l) (take_more rows n [] at.within) ∙ runs_new same_person (take n rows) g.earlier g.front latest y g.split person;
         split_own = runs_one same_plan y;
-        plans_are = ap (λ (l : List (List Parts)). l ++ (p.own ++ closed_of p ∷ []) ∷ []) g.plans_are
-            ∙ ap (λ (c : List Parts). map (plans_among tables) g.earlier ++ c ∷ []) own_is
+        plans_are = ap (λ (l : List (List PlanRows)). l ++ (p.own ++ closed_of p ∷ []) ∷ []) g.plans_are
+            ∙ ap (λ (c : List PlanRows). map (plans_among tables) g.earlier ++ c ∷ []) own_is
             ∙ sym (map-append (plans_among tables) g.earlier ((g.front ++ latest ∷ []) ∷ []));
         own_are = refl;
         acts_are = ap (λ (a : Act). a ∷ []) at.act_is ∙ sym (one_act tables y at.is_act_row);

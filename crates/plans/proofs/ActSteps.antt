@@ -8,11 +8,11 @@ use Rattle.std.proofs.lemmas.List.Elements.{filter-append}
 use Rattle.events.specs.Names.{is_held, number_of, with_name}
 use Rattle.records.specs.Rows.{Row}
 use Rattle.records.specs.Fields.{field}
-use Rattle.plans.specs.declared.plan.Act.{Act}
-use Rattle.plans.specs.declared.plan.Leg.{Leg}
+use Rattle.rows.specs.declared.plan.Act.{Act}
+use Rattle.rows.specs.declared.plan.Leg.{Leg}
 use Rattle.plans.specs.declared.kinds.ElementKind.{ElementKind}
 use Rattle.plans.specs.declared.kinds.ElementKind.TheVariants as element
-use Rattle.plans.specs.Parts.{Parts}
+use Rattle.rows.specs.PlanRows.{PlanRows}
 use Rattle.plans.specs.Kinds.{kind_of, is_act, is_leg, is_transit, items_of, item, end_in}
 use Rattle.plans.specs.Refusals.{lacks_link}
 use Rattle.plans.specs.Values.{Tables, tables_of, kind_in, line_in, stops_in, named_by, number_in_table, act_of, leg_of, endless, acts_among, legs_among, last_endless, plan_among, legs_to, starts_to, begins_at, is_act_named}
@@ -51,8 +51,8 @@ pub closed_is : (tables : Tables) (rows : List Row) (p : Progress) → is_some p
     → closed_of p ≡ plan_among tables rows
 unfolding plan_among
 closed_is tables rows p there acts legs =
-    ap (λ (a : List Act). let r : Parts = record { acts = a; legs = p.legs } in r) (closed_by p.acts p.last there ∙ ap last_endless acts)
-    ∙ ap (λ (l : List Leg). let r : Parts = record { acts = last_endless (acts_among tables rows); legs = l } in r) legs
+    ap (λ (a : List Act). let r : PlanRows = record { acts = a; legs = p.legs } in r) (closed_by p.acts p.last there ∙ ap last_endless acts)
+    ∙ ap (λ (l : List Leg). let r : PlanRows = record { acts = last_endless (acts_among tables rows); legs = l } in r) legs
 
 -- the names in an activity's row
 pub kind_in_act : (row : Row) → kind_of row ≡ element.Act → kind_in row ≡ field row 3 ∷ []

@@ -11,7 +11,7 @@ use Rattle.plans.specs.declared.kinds.ElementKind.{ElementKind}
 use Rattle.plans.specs.declared.kinds.ElementKind.TheVariants as element
 use Rattle.plans.specs.Kinds.{kind_of, plans_header}
 use Rattle.plans.specs.Refusals.{row_reason}
-use Rattle.plans.specs.Values.{PlanRows, row_before, row_behind, reason_at, rows_fault, values_of, plans_fault, plan_rows}
+use Rattle.plans.specs.Values.{PlanFileRows, row_before, row_behind, reason_at, rows_fault, values_of, plans_fault, file_rows}
 use Rattle.plans.specs.Progress.{Progress, IsReadTo, IsSound, step_first, step_act, step_leg, finish}
 use Rattle.plans.proofs.FileRead.{first_is, first_read, first_reason, reason_is, last_there, finish_is, finish_sound}
 use Rattle.plans.proofs.RowRead.{row_able, act_read, leg_read}
@@ -84,7 +84,7 @@ all_with links ends rows holds stays some none = by (length rows) refl
         (read_with links ends rows holds n stays (omega arith) (λ i less. each_none None (reason_at links ends rows) (length rows) i less none))
 
 -- what plans.csv gives where no row of it is refused: names for all numbers, and plans that keep the limits
-pub record AreFreePlans (links : List (List ℕ)) (ends : List (ℕ × ℕ)) (file : PlanRows) : Type 0 where
+pub record AreFreePlans (links : List (List ℕ)) (ends : List (ℕ × ℕ)) (file : PlanFileRows) : Type 0 where
   pub sound : IsSound links ends file
   pub plans : Each (Each IsPlan) file.plans
 
@@ -99,7 +99,7 @@ pub rows_free : (links : List (List ℕ)) (ends : List (ℕ × ℕ)) (rows : Lis
 rows_free links ends rows some none =
     let w = all_with links ends rows (λ _ p. Shaped p) (shape_stays links ends rows) some none in
     let is = finish_is links ends rows w.progress w.read in
-    subst (λ (file : PlanRows). AreFreePlans links ends file) is
+    subst (λ (file : PlanFileRows). AreFreePlans links ends file) is
     (record { sound = finish_sound links ends rows w.progress w.read; plans = shaped_all w.progress w.held (last_there links ends rows w.progress w.read) })
 
 -- a file without a fault has a row behind its header, and none of its rows is refused
@@ -116,7 +116,7 @@ file_free links ends bytes none =
       none = ap (λ (h : Option Reason). rows_fault h links ends (body_of bytes)) (sym head) ∙ none;
     }
 
-pub plans_free : (links : List (List ℕ)) (ends : List (ℕ × ℕ)) (bytes : List ℕ) → plans_fault links ends bytes ≡ None → AreFreePlans links ends (plan_rows links bytes)
+pub plans_free : (links : List (List ℕ)) (ends : List (ℕ × ℕ)) (bytes : List ℕ) → plans_fault links ends bytes ≡ None → AreFreePlans links ends (file_rows links bytes)
 plans_free links ends bytes none =
     let free = file_free links ends bytes none in
     rows_free links ends (body_of bytes) free.some free.none

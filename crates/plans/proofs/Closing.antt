@@ -1,8 +1,8 @@
 -- A plan is closed behind an activity.
 use Rattle.std.proofs.Common.{◌≡◌, Bool, true, ◌&&◌, List, [], ◌∷◌, ◌++◌, None, ap, arith}
 use Rattle.std.specs.List.{list_all}
-use Rattle.plans.specs.declared.plan.Act.{Act}
-use Rattle.plans.specs.Plan.{has_end, is_open, are_acts}
+use Rattle.rows.specs.declared.plan.Act.{Act}
+use Rattle.rows.specs.Plan.{has_end, is_open, are_acts}
 
 both : (a b : Bool) → (a && b) ≡ true → (a ≡ true) × (b ≡ true)
 both a b h = (grind arith, grind arith)

@@ -10,10 +10,10 @@ use Rattle.events.specs.Names.{with_name}
 use Rattle.records.specs.Rows.{Row}
 use Rattle.records.specs.Fields.{field}
 use Rattle.records.proofs.Faulty.{none_of_none, one_more, fault_here}
-use Rattle.plans.specs.declared.plan.Act.{Act}
+use Rattle.rows.specs.declared.plan.Act.{Act}
 use Rattle.plans.specs.declared.kinds.ElementKind.{ElementKind}
 use Rattle.plans.specs.declared.kinds.ElementKind.TheVariants as element
-use Rattle.plans.specs.Parts.{Parts}
+use Rattle.rows.specs.PlanRows.{PlanRows}
 use Rattle.plans.specs.Kinds.{kind_of, is_act, is_leg, plan_number}
 use Rattle.plans.specs.Refusals.{same_person, same_plan, is_neither, ends_plan, ends_with_leg, row_reason}
 use Rattle.plans.specs.Runs.{runs}
@@ -159,13 +159,13 @@ finish_is links ends rows p r =
     let whole = take_all (length rows) rows (omega arith) in
     let there_is = last_there links ends rows p r in
     let own_is : p.own ++ closed_of p ∷ [] ≡ map (plan_among tables) (runs same_plan (g.front ++ r.latest ∷ [])) =
-    ap (λ (l : List Parts). l ++ closed_of p ∷ []) g.own_are
-    ∙ ap (λ (c : Parts). map (plan_among tables) g.others ++ c ∷ []) (closed_is tables (g.begun ++ r.latest ∷ []) p there_is g.acts_are g.legs_are)
+    ap (λ (l : List PlanRows). l ++ closed_of p ∷ []) g.own_are
+    ∙ ap (λ (c : PlanRows). map (plan_among tables) g.others ++ c ∷ []) (closed_is tables (g.begun ++ r.latest ∷ []) p there_is g.acts_are g.legs_are)
     ∙ sym (map-append (plan_among tables) g.others ((g.begun ++ r.latest ∷ []) ∷ []))
     ∙ ap (λ (l : List (List Row)). map (plan_among tables) l) (sym g.split_own) in
     let plans_are : p.plans ++ (p.own ++ closed_of p ∷ []) ∷ [] ≡ map (plans_among tables) (runs same_person rows) =
-    ap (λ (l : List (List Parts)). l ++ (p.own ++ closed_of p ∷ []) ∷ []) g.plans_are
-    ∙ ap (λ (c : List Parts). map (plans_among tables) g.earlier ++ c ∷ []) own_is
+    ap (λ (l : List (List PlanRows)). l ++ (p.own ++ closed_of p ∷ []) ∷ []) g.plans_are
+    ∙ ap (λ (c : List PlanRows). map (plans_among tables) g.earlier ++ c ∷ []) own_is
     ∙ sym (map-append (plans_among tables) g.earlier ((g.front ++ r.latest ∷ []) ∷ []))
     ∙ ap (λ (l : List (List Row)). map (plans_among tables) l) (sym g.split ∙ ap (λ (l : List Row). runs same_person l) whole) in
     let persons = r.names.persons_are ∙ ap (λ (l : List Row). named_by person_in l) whole in

@@ -8,12 +8,12 @@ use Rattle.events.specs.declared.event.Mode.{Mode}
 use Rattle.events.specs.declared.event.Mode.TheVariants as mode
 use Rattle.events.specs.Names.{is_held, number_of, with_name}
 use Rattle.events.proofs.NameLists.{number_held, name_at-number_of}
-use Rattle.plans.specs.declared.plan.Leg.TheVariants as leg
+use Rattle.rows.specs.declared.plan.Leg.TheVariants as leg
 use Rattle.records.specs.Rows.{Row}
 use Rattle.records.specs.Fields.{field}
 use Rattle.records.specs.Lists.{numbers_of, with_number}
-use Rattle.plans.specs.declared.plan.Act.{Act}
-use Rattle.plans.specs.declared.plan.Leg.{Leg}
+use Rattle.rows.specs.declared.plan.Act.{Act}
+use Rattle.rows.specs.declared.plan.Leg.{Leg}
 use Rattle.plans.specs.declared.kinds.ElementKind.{ElementKind}
 use Rattle.plans.specs.declared.kinds.ElementKind.TheVariants as element
 use Rattle.plans.specs.Kinds.{kind_of, is_act, is_leg, is_transit, items_of, item}

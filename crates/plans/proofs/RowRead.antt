@@ -3,6 +3,7 @@ use Rattle.std.proofs.Common.{◌≡◌, ℕ, zero, suc, ◌+◌, ◌-◌, ◌<�
 use Rattle.std.specs.Prelude.{nat_eq, nat_le, nat_lt, is_none, is_some, unwrap_or}
 use Rattle.std.proofs.Math.Seq.{drop-cons}
 use Rattle.std.proofs.lemmas.Bool.Decides.{nat_tests}
+use Rattle.limits.specs.declared.TheConstants.{LAST_SECOND, MAX_LEGS, MAX_PERSONS, MAX_ROUTE_LINKS}
 use Rattle.edge_files.specs.declared.reasons.Reason.{Reason}
 use Rattle.events.specs.declared.event.Mode.{Mode}
 use Rattle.events.specs.Names.{number_of, with_name}
@@ -11,10 +12,10 @@ use Rattle.records.specs.Fields.{field, holds_name}
 use Rattle.records.specs.Numbers.{number_in, are_digits, value_of}
 use Rattle.records.specs.Faults.{first_fault}
 use Rattle.records.proofs.Faulty.{one_more}
-use Rattle.plans.specs.declared.plan.Act.{Act}
+use Rattle.rows.specs.declared.plan.Act.{Act}
 use Rattle.plans.specs.declared.kinds.ElementKind.{ElementKind}
 use Rattle.plans.specs.declared.kinds.ElementKind.TheVariants as element
-use Rattle.plans.specs.Plan.{is_end}
+use Rattle.rows.specs.Plan.{is_end}
 use Rattle.plans.specs.Kinds.{kind_of, is_act, is_leg, is_car, plan_in, plan_number, end_in, items_of}
 use Rattle.plans.specs.Refusals.{has_surplus, lacks_element_name, lacks_name, is_misfit, has_bad_time, has_bad_number, lacks_link, is_broken, same_person, same_plan, begins_person, begins_plan, ends_plan, is_one_too_many, is_neither, lacks_mode, row_reason}
 use Rattle.plans.specs.Values.{Tables, tables_of, act_of, is_act_named, row_before, first_row, row_behind, legs_to, reason_at}
@@ -258,11 +259,11 @@ ended_by : (b : Bool) (tables : Tables) (row : Row) (o : Option Act) → o ≡ c
 unfolding act_of
 ended_by b tables row o is act end = ap ends_well (is ∙ ap (λ (c : Bool). cond c (Some (act_of tables.kinds tables.links row)) None) act) ∙ end
 
-end_small : (b : Bool) (v : ℕ) → is_none (cond (b && nat_le v 172800) (Some v) None) ≡ false → is_end (cond (b && nat_le v 172800) (Some v) None) ≡ true
-end_small b v h = by (b && nat_le v 172800) refl h
+end_small : (b : Bool) (v : ℕ) → is_none (cond (b && nat_le v LAST_SECOND) (Some v) None) ≡ false → is_end (cond (b && nat_le v LAST_SECOND) (Some v) None) ≡ true
+end_small b v h = by (b && nat_le v LAST_SECOND) refl h
   where
-    by : (c : Bool) → (b && nat_le v 172800) ≡ c → is_none (cond c (Some v) None) ≡ false → is_end (cond c (Some v) None) ≡ true
-    by true is here = second b (nat_le v 172800) is
+    by : (c : Bool) → (b && nat_le v LAST_SECOND) ≡ c → is_none (cond c (Some v) None) ≡ false → is_end (cond c (Some v) None) ≡ true
+    by true is here = second b (nat_le v LAST_SECOND) is
       where
         second : (a b : Bool) → (a && b) ≡ true → b ≡ true
         second a b h = grind arith
@@ -309,10 +310,10 @@ act_able links ends persons legs before row next h is =
 or_rest : (a b : Bool) → (a || b) ≡ false → b ≡ false
 or_rest a b h = grind arith
 
-few_by : (a b : Bool) (n : ℕ) → (a || (true && nat_le 8 n) || b) ≡ false → n < 8
+few_by : (a b : Bool) (n : ℕ) → (a || (true && nat_le MAX_LEGS n) || b) ≡ false → n < MAX_LEGS
 few_by a b n h = grind (arith, nat_tests)
 
-links_by : (a b c : Bool) (n : ℕ) → (a || b || (c && nat_lt 1000 n)) ≡ false → c ≡ true → n ≤ 1000
+links_by : (a b c : Bool) (n : ℕ) → (a || b || (c && nat_lt MAX_ROUTE_LINKS n)) ≡ false → c ≡ true → n ≤ MAX_ROUTE_LINKS
 links_by a b c n h k = grind (arith, nat_tests)
 
 pub leg_able : (links : List (List ℕ)) (ends : List (ℕ × ℕ)) (persons : List (List ℕ)) (legs : ℕ) (before : Option Row) (row : Row) (next : Option Row) (mode : Mode) → row_reason links ends persons legs before row next ≡ no_reason
@@ -325,8 +326,8 @@ leg_able links ends persons legs before row next mode h is =
       names = or_rest (not (holds_name row 0)) (lacks_element_name k row) (ap (λ (e : ElementKind). lacks_name e row) (sym is) ∙ ok.named);
       times = or_rest (is_none (plan_in row)) (has_bad_time k row) (ap (λ (e : ElementKind). has_bad_number e row) (sym is) ∙ ok.numbered);
       found = ap (λ (e : ElementKind). lacks_link links e row) (sym is) ∙ ok.linked;
-      few_legs = few_by (begins_person before row && nat_le 65536 (length persons)) (is_car k && nat_lt 1000 (length (items_of row))) legs room;
-      few_links = links_by (begins_person before row && nat_le 65536 (length persons)) (is_leg k && nat_le 8 legs) (is_car k) (length (items_of row)) room;
+      few_legs = few_by (begins_person before row && nat_le MAX_PERSONS (length persons)) (is_car k && nat_lt MAX_ROUTE_LINKS (length (items_of row))) legs room;
+      few_links = links_by (begins_person before row && nat_le MAX_PERSONS (length persons)) (is_leg k && nat_le MAX_LEGS legs) (is_car k) (length (items_of row)) room;
     }
 
 -- a row of neither kind is refused, and so is a leg of no known mode

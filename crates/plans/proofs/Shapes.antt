@@ -3,16 +3,17 @@ use Rattle.std.proofs.Common.{◌≡◌, ℕ, ◌+◌, ◌<◌, ◌≤◌, Bool,
 use Rattle.std.specs.Prelude.{is_some, nat_le, option_to_list, unwrap_or}
 use Rattle.std.specs.List.{list_all, AllByRecursion as Each}
 use Rattle.std.proofs.lemmas.Bool.Decides.{nat_tests}
+use Rattle.limits.specs.declared.TheConstants.{LAST_SECOND, MAX_LEGS, MAX_ROUTE_LINKS}
 use Rattle.events.specs.declared.event.Mode.{Mode}
 use Rattle.events.specs.declared.event.Mode.TheVariants as mode
 use Rattle.records.specs.Rows.{Row}
 use Rattle.records.specs.Fields.{field}
 use Rattle.records.specs.Lists.{numbers_of}
-use Rattle.plans.specs.declared.plan.Act.{Act}
-use Rattle.plans.specs.declared.plan.Leg.{Leg}
+use Rattle.rows.specs.declared.plan.Act.{Act}
+use Rattle.rows.specs.declared.plan.Leg.{Leg}
 use Rattle.plans.specs.declared.kinds.ElementKind.TheVariants as element
-use Rattle.plans.specs.Plan.{is_leg, is_end, has_end, are_acts}
-use Rattle.plans.specs.Parts.{Parts}
+use Rattle.rows.specs.Plan.{is_leg, is_end, has_end, are_acts}
+use Rattle.rows.specs.PlanRows.{PlanRows}
 use Rattle.plans.specs.Kinds.{is_transit, items_of}
 use Rattle.plans.specs.Refusals.{has_bad_time, begins_plan}
 use Rattle.plans.specs.Values.{endless, leg_by}
@@ -23,9 +24,9 @@ use Rattle.plans.proofs.Items.{count_numbers}
 use Rattle.plans.proofs.Soundness.{all_push}
 
 -- what each plan keeps
-pub record IsPlan (p : Parts) : Type 0 where
+pub record IsPlan (p : PlanRows) : Type 0 where
   pub one_more : length p.acts ≡ length p.legs + 1
-  pub few : length p.legs ≤ 8
+  pub few : length p.legs ≤ MAX_LEGS
   pub ends : are_acts p.acts ≡ true
   pub legs : list_all is_leg p.legs ≡ true
 
@@ -34,7 +35,7 @@ pub record Shaped (p : Progress) : Type 0 where
   pub plans : Each (Each IsPlan) p.plans
   pub own : Each IsPlan p.own
   pub paired : length p.acts ≡ length p.legs
-  pub few : length p.legs ≤ 8
+  pub few : length p.legs ≤ MAX_LEGS
   pub ends : list_all has_end p.acts ≡ true
   pub legs : list_all is_leg p.legs ≡ true
 
@@ -42,7 +43,7 @@ pub each_push : {X : Type 0} (P : X → Type 0) (xs : List X) (x : X) → Each P
 each_push P [] x h one = (one, tt)
 each_push P (y ∷ xs) x h one = (h.0, each_push P xs x h.1 one)
 
-closed_plan : (acts : List Act) (legs : List Leg) (last : Option Act) → length acts ≡ length legs → length legs ≤ 8 → list_all has_end acts ≡ true → list_all is_leg legs ≡ true → is_some last ≡ true
+closed_plan : (acts : List Act) (legs : List Leg) (last : Option Act) → length acts ≡ length legs → length legs ≤ MAX_LEGS → list_all has_end acts ≡ true → list_all is_leg legs ≡ true → is_some last ≡ true
     → IsPlan (record { acts = closed_acts acts last; legs = legs })
 closed_plan acts legs None paired few ends sound there = cc
 closed_plan acts legs (Some last) paired few ends sound there =
@@ -73,20 +74,20 @@ shaped_act links p before row number s closes =
     let q : Shaped (with_kind p row) = record { plans = s.plans; own = s.own; paired = s.paired; few = s.few; ends = s.ends; legs = s.legs } in
     shaped_put (with_kind p row) _ _ row number _ q closes
 
-few_links : (items links : List (List ℕ)) (found : Option (List ℕ)) → numbers_of items links ≡ found → length items ≤ 1000 → nat_le (length (unwrap_or found [])) 1000 ≡ true
+few_links : (items links : List (List ℕ)) (found : Option (List ℕ)) → numbers_of items links ≡ found → length items ≤ MAX_ROUTE_LINKS → nat_le (length (unwrap_or found [])) MAX_ROUTE_LINKS ≡ true
 few_links items links None is few = refl
 few_links items links (Some numbers) is few = let count = count_numbers items links numbers is in at_most (length numbers) (length items) count few
   where
-    at_most : (m n : ℕ) → m ≡ n → n ≤ 1000 → nat_le m 1000 ≡ true
+    at_most : (m n : ℕ) → m ≡ n → n ≤ MAX_ROUTE_LINKS → nat_le m MAX_ROUTE_LINKS ≡ true
     at_most m n same few = grind (arith, nat_tests)
 
 -- what a leg's row gives is a leg
 leg_is_leg : (lines stops links : List (List ℕ)) (legs : ℕ) (mode : Mode) (row : Row) → LegAble links legs mode row → is_leg (leg_by lines stops links mode row) ≡ true
 unfolding leg_by has_bad_time
 leg_is_leg lines stops links legs mode.Car row able = few_links (items_of row) links (numbers_of (items_of row) links) refl (able.few_links refl)
-leg_is_leg lines stops links legs mode.Walk row able = number_in_range 1 172800 (field row 5) able.times
-leg_is_leg lines stops links legs mode.Bike row able = number_in_range 1 172800 (field row 5) able.times
-leg_is_leg lines stops links legs mode.Ride row able = number_in_range 1 172800 (field row 5) able.times
+leg_is_leg lines stops links legs mode.Walk row able = number_in_range 1 LAST_SECOND (field row 5) able.times
+leg_is_leg lines stops links legs mode.Bike row able = number_in_range 1 LAST_SECOND (field row 5) able.times
+leg_is_leg lines stops links legs mode.Ride row able = number_in_range 1 LAST_SECOND (field row 5) able.times
 leg_is_leg lines stops links legs mode.Pt row able = refl
 
 last_ends : (acts : List Act) (last : Option Act) → list_all has_end acts ≡ true → ends_well last ≡ true → list_all has_end (acts ++ option_to_list last) ≡ true

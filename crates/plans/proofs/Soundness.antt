@@ -4,11 +4,12 @@ use Rattle.std.specs.Prelude.{nat_le, nat_lt, is_some, option_to_list}
 use Rattle.std.specs.List.{list_all}
 use Rattle.std.proofs.lemmas.Bool.Decides.{nat_tests}
 use Rattle.std.proofs.lemmas.List.Folds.{list_all-append}
+use Rattle.limits.specs.declared.TheConstants.{MAX_LEGS, MAX_PERSONS, MAX_ROUTE_LINKS}
 use Rattle.events.specs.Names.{is_held, number_of}
 use Rattle.events.proofs.NameLists.{no_number-absent}
 use Rattle.records.specs.Rows.{Row}
 use Rattle.records.specs.Fields.{field}
-use Rattle.plans.specs.declared.plan.Act.{Act}
+use Rattle.rows.specs.declared.plan.Act.{Act}
 use Rattle.plans.specs.declared.kinds.ElementKind.{ElementKind}
 use Rattle.plans.specs.Kinds.{is_leg, is_car, items_of}
 use Rattle.plans.specs.Refusals.{begins_person, comes_again, is_one_too_many}
@@ -78,7 +79,7 @@ no_number a (Some n) h p = let no : (a && true) ≡ true = ap (λ (b : Bool). b 
 fresh_count : (held : Bool) (names : List (List ℕ)) (name : List ℕ) → held ≡ false → length (cond held names (names ++ name ∷ [])) ≡ length names + 1
 fresh_count held names name is = ap (λ (b : Bool). length (cond b names (names ++ name ∷ []))) is ∙ length-append names (name ∷ [])
 
-below : (a b c : Bool) (n : ℕ) → ((a && nat_le 65536 n) || b || c) ≡ false → a ≡ true → n < 65536
+below : (a b c : Bool) (n : ℕ) → ((a && nat_le MAX_PERSONS n) || b || c) ≡ false → a ≡ true → n < MAX_PERSONS
 below a b c n h p = grind (arith, nat_tests)
 
 -- it begins a person
@@ -88,7 +89,7 @@ pub sound_new_person : (tables : Tables) (ends : List (ℕ × ℕ)) (p : Progres
 sound_new_person tables ends p before kind row legs number act s named few begins again room =
     let fresh = no_number-absent p.persons (field row 0) (no_number (begins_person before row) (number_of (field row 0) p.persons) again begins) in
     let count = fresh_count (is_held (field row 0) p.persons) p.persons (field row 0) fresh in
-    let less = below (begins_person before row) (is_leg kind && nat_le 8 legs) (is_car kind && nat_lt 1000 (length (items_of row))) (length p.persons) room begins in
+    let less = below (begins_person before row) (is_leg kind && nat_le MAX_LEGS legs) (is_car kind && nat_lt MAX_ROUTE_LINKS (length (items_of row))) (length p.persons) room begins in
     let plans_count = length-append p.plans ((p.own ++ closed_of p ∷ []) ∷ []) in
     let each = s.each in
     record {

@@ -7,9 +7,9 @@ use Rattle.records.specs.Rows.{Row, rows_of}
 use Rattle.records.specs.Faults.{Answers}
 use Rattle.records.specs.Files.{begins_with, head_reason, body_of, TellsStop}
 use Rattle.records.proofs.Faulty.{answers_head}
-use Rattle.plans.specs.declared.plan.PlanFile.{PlanFile}
-use Rattle.plans.specs.Values.{PlanRows, reason_at, rows_fault, values_of}
-use Rattle.plans.specs.Read.{plan_rows_of}
+use Rattle.plans.specs.declared.plan_file.PlanFile.{PlanFile}
+use Rattle.plans.specs.Values.{PlanFileRows, reason_at, rows_fault, values_of}
+use Rattle.plans.specs.Read.{file_rows_of}
 
 if_none : (b : Bool) (why : Reason) (rest : Option Reason) → cond b (Some why) rest ≡ None → (b ≡ false) × (rest ≡ None)
 if_none true why rest h = cc
@@ -31,15 +31,15 @@ body_some names bytes h =
 
 -- what is answered of the rows is answered of the file
 pub answers_rows : (result : Result PlanFile RowStop) (head : Option Reason) (links : List (List ℕ)) (ends : List (ℕ × ℕ)) (bytes : List ℕ) (rows : List Row) → head ≡ None → rows ≡ body_of bytes
-    → Answers plan_rows_of result (rows_fault None links ends rows) (values_of links rows) → Answers plan_rows_of result (rows_fault head links ends (body_of bytes)) (values_of links (body_of bytes))
+    → Answers file_rows_of result (rows_fault None links ends rows) (values_of links rows) → Answers file_rows_of result (rows_fault head links ends (body_of bytes)) (values_of links (body_of bytes))
 answers_rows result head links ends bytes rows good same answers =
-    let at_body = subst (λ (l : List Row). Answers plan_rows_of result (rows_fault None links ends l) (values_of links l)) same answers in
-    subst (λ (h : Option Reason). Answers plan_rows_of result (rows_fault h links ends (body_of bytes)) (values_of links (body_of bytes))) (sym good) at_body
+    let at_body = subst (λ (l : List Row). Answers file_rows_of result (rows_fault None links ends l) (values_of links l)) same answers in
+    subst (λ (h : Option Reason). Answers file_rows_of result (rows_fault h links ends (body_of bytes)) (values_of links (body_of bytes))) (sym good) at_body
 
 -- what is told of row 0 is told of the file
-pub answers_stop : (told : RowStop) (head : Option Reason) (links : List (List ℕ)) (ends : List (ℕ × ℕ)) (rows : List Row) (value : PlanRows) → TellsStop told head → Answers plan_rows_of (Err told) (rows_fault head links ends rows) value
+pub answers_stop : (told : RowStop) (head : Option Reason) (links : List (List ℕ)) (ends : List (ℕ × ℕ)) (rows : List Row) (value : PlanFileRows) → TellsStop told head → Answers file_rows_of (Err told) (rows_fault head links ends rows) value
 unfolding rows_fault
-answers_stop told head links ends rows value tells = answers_head plan_rows_of told head (reason_at links ends rows) (length rows) value tells
+answers_stop told head links ends rows value tells = answers_head file_rows_of told head (reason_at links ends rows) (length rows) value tells
 
 pub body_is : (bytes : List ℕ) → drop 1 (rows_of bytes) ≡ body_of bytes
 unfolding body_of

@@ -1,5 +1,6 @@
 -- What a row of plans.csv is, and its fields: `person,plan,kind,name,link,time,route`.
 use Rattle.std.specs.Prelude.{ℕ, Bool, true, false, bytes_eq, codes, if◌then◌else◌, List, [], ◌∷◌, get_or, Option, None, Some, unwrap_or}
+use Rattle.limits.specs.declared.TheConstants.{LAST_SECOND}
 use Rattle.events.specs.declared.event.Mode.TheVariants as mode
 use Rattle.events.specs.Words.{mode_of}
 use Rattle.records.specs.Rows.{Row}
@@ -54,11 +55,11 @@ plan_number row = unwrap_or (plan_in row) 0
 
 -- the planned end of an activity, 0 to 172,800 s
 abbrev pub end_in : Row → Option ℕ
-end_in row = number_in 0 172800 (field row 5)
+end_in row = number_in 0 LAST_SECOND (field row 5)
 
 -- how long a teleported leg takes, 1 to 172,800 s
 abbrev pub seconds_in : Row → Option ℕ
-seconds_in row = number_in 1 172800 (field row 5)
+seconds_in row = number_in 1 LAST_SECOND (field row 5)
 
 -- the items of the route
 abbrev pub items_of : Row → List (List ℕ)

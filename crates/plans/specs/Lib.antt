@@ -1,5 +1,3 @@
-pub mod Plan
-pub mod Parts
 pub mod Kinds
 pub mod Refusals
 pub mod Runs

@@ -1,20 +1,21 @@
 -- The rows of plans.csv read one after the other, and what is known of those that are read.
 use Rattle.std.specs.Prelude.{◌≡◌, ◌≤◌, ◌<◌, ℕ, ◌+◌, Bool, true, false, if◌then◌else◌, List, [], ◌∷◌, ◌++◌, length, map, drop, take, Option, None, Some, is_some, option_to_list}
 use Rattle.std.specs.List.{list_all}
+use Rattle.limits.specs.declared.TheConstants.{MAX_LEGS, MAX_PERSONS, MAX_ROUTE_LINKS}
 use Rattle.plans.specs.declared.kinds.ElementKind.TheVariants as element
 use Rattle.events.specs.declared.event.Mode.{Mode}
 use Rattle.events.specs.Names.{is_name, is_held, number_of, with_name}
 use Rattle.records.specs.Rows.{Row}
 use Rattle.records.specs.Fields.{field}
 use Rattle.records.specs.Faults.{first_fault}
-use Rattle.plans.specs.declared.plan.Act.{Act}
-use Rattle.plans.specs.declared.plan.Leg.{Leg}
-use Rattle.plans.specs.Plan.{has_end}
-use Rattle.plans.specs.Parts.{Parts}
+use Rattle.rows.specs.declared.plan.Act.{Act}
+use Rattle.rows.specs.declared.plan.Leg.{Leg}
+use Rattle.rows.specs.Plan.{has_end}
+use Rattle.rows.specs.PlanRows.{PlanRows}
 use Rattle.plans.specs.Kinds.{kind_of, is_act, is_car, is_transit, plan_number, items_of, item}
 use Rattle.plans.specs.Refusals.{is_misfit, lacks_element_name, lacks_name, has_bad_time, has_bad_number, comes_again, lacks_link, is_out_of_order, is_broken, lacks_mode, is_one_too_many, begins_person, begins_plan, is_neither, ends_plan, same_person, same_plan}
 use Rattle.plans.specs.Runs.{runs}
-use Rattle.plans.specs.Values.{Tables, PlanRows, tables_of, person_in, kind_in, line_in, stops_in, named_by, act_of, leg_by, endless, acts_among, legs_among, plan_among, plans_among, row_before, first_row, legs_to, starts_to, reason_at, is_act_named, is_leg_named, is_plan_named, are_plans}
+use Rattle.plans.specs.Values.{Tables, PlanFileRows, tables_of, person_in, kind_in, line_in, stops_in, named_by, act_of, leg_by, endless, acts_among, legs_among, plan_among, plans_among, row_before, first_row, legs_to, starts_to, reason_at, is_act_named, is_leg_named, is_plan_named, are_plans}
 
 -- what the rows so far give: the plans of the persons before the last one, his plans before the open one, and that one's activities and legs
 pub record Progress : Type 0 where
@@ -22,8 +23,8 @@ pub record Progress : Type 0 where
   pub kinds : List (List ℕ)
   pub lines : List (List ℕ)
   pub stops : List (List ℕ)
-  pub plans : List (List Parts)
-  pub own : List Parts
+  pub plans : List (List PlanRows)
+  pub own : List PlanRows
   pub starts : List ℕ
   pub acts : List Act
   pub legs : List Leg
@@ -34,7 +35,7 @@ closed_acts acts None = acts
 closed_acts acts (Some last) = acts ++ endless last ∷ []
 
 -- the open plan, closed
-abbrev pub closed_of : Progress → Parts
+abbrev pub closed_of : Progress → PlanRows
 closed_of p = record { acts = closed_acts p.acts p.last; legs = p.legs }
 
 abbrev pub with_kind : Progress → Row → Progress
@@ -101,7 +102,7 @@ step_first links row = record {
 }
 
 -- the open plan and its person are closed at the end of the file
-unfoldable pub finish : Progress → PlanRows
+unfoldable pub finish : Progress → PlanFileRows
 finish p = record {
   persons = p.persons;
   kinds = p.kinds;
@@ -112,9 +113,9 @@ finish p = record {
 }
 
 -- every person has one plan to five, every number of them has a name, each car route is unbroken, and there are at most 65,536 persons
-pub record IsSound (links : List (List ℕ)) (ends : List (ℕ × ℕ)) (file : PlanRows) : Type 0 where
+pub record IsSound (links : List (List ℕ)) (ends : List (ℕ × ℕ)) (file : PlanFileRows) : Type 0 where
   pub each : length file.plans ≡ length file.persons
-  pub few : length file.persons ≤ 65536
+  pub few : length file.persons ≤ MAX_PERSONS
   pub sound : list_all (are_plans (record { kinds = file.kinds; lines = file.lines; stops = file.stops; links = links }) ends) file.plans ≡ true
 
 abbrev pub ends_well : Option Act → Bool
@@ -144,8 +145,8 @@ pub record LegAble (links : List (List ℕ)) (legs : ℕ) (mode : Mode) (row : R
   pub names : lacks_element_name (element.Leg (Some mode)) row ≡ false
   pub times : has_bad_time (element.Leg (Some mode)) row ≡ false
   pub found : lacks_link links (element.Leg (Some mode)) row ≡ false
-  pub few_legs : legs < 8
-  pub few_links : is_car (element.Leg (Some mode)) ≡ true → length (items_of row) ≤ 1000
+  pub few_legs : legs < MAX_LEGS
+  pub few_links : is_car (element.Leg (Some mode)) ≡ true → length (items_of row) ≤ MAX_ROUTE_LINKS
 
 -- what reading a row asks for: the open plan takes it, or is closed by it
 pub record RowAble (links : List (List ℕ)) (p : Progress) (before : Option Row) (row : Row) : Type 0 where
@@ -176,7 +177,7 @@ pub record Sound (tables : Tables) (ends : List (ℕ × ℕ)) (p : Progress) : T
   pub in_acts : list_all (is_act_named tables) (p.acts ++ option_to_list p.last) ≡ true
   pub in_legs : list_all (is_leg_named tables ends) p.legs ≡ true
   pub each : length p.plans + 1 ≡ length p.persons
-  pub few : length p.persons ≤ 65536
+  pub few : length p.persons ≤ MAX_PERSONS
 
 -- the names are those of the rows so far, and so are the places where plans begin
 pub record Named (rows : List Row) (n : ℕ) (p : Progress) : Type 0 where

@@ -3,10 +3,10 @@ use Rattle.std.specs.Prelude.{◌≡◌, ℕ, List, map, None, Some, Result, Ok,
 use Rattle.edge_files.specs.declared.reasons.RowStop.{RowStop}
 use Rattle.edge_files.specs.declared.reasons.RowStop.TheVariants as stop
 use Rattle.records.specs.Rows.{Row}
-use Rattle.plans.specs.Parts.{parts_of, all_parts}
-use Rattle.plans.specs.Values.{PlanRows, rows_fault}
+use Rattle.rows.specs.PlanRows.{plan_rows, all_plan_rows}
+use Rattle.plans.specs.Values.{PlanFileRows, rows_fault}
 use Rattle.plans.specs.Progress.{Progress, IsReadTo}
-use Rattle.plans.specs.declared.plan.PlanFile.{PlanFile}
+use Rattle.plans.specs.declared.plan_file.PlanFile.{PlanFile}
 use Rattle.plans.specs.declared.rows_read.RowsRead.{RowsRead}
 
 -- what the rows so far give
@@ -16,8 +16,8 @@ progress_of read = record {
   kinds = read.kinds;
   lines = read.lines;
   stops = read.stops;
-  plans = all_parts read.plans.items;
-  own = map parts_of read.own.items;
+  plans = all_plan_rows read.plans.items;
+  own = map plan_rows read.own.items;
   starts = read.starts.items;
   acts = read.current.acts.items;
   legs = read.current.legs.items;
@@ -25,13 +25,13 @@ progress_of read = record {
 }
 
 -- what a file gives
-abbrev pub plan_rows_of : PlanFile → PlanRows
-plan_rows_of file = record {
+abbrev pub file_rows_of : PlanFile → PlanFileRows
+file_rows_of file = record {
   persons = file.persons;
   kinds = file.kinds;
   lines = file.lines;
   stops = file.stops;
-  plans = all_parts file.plans;
+  plans = all_plan_rows file.plans;
   starts = file.starts;
 }
 

@@ -1,5 +1,6 @@
 -- Why a row of plans.csv is refused: one definition for each reason, and the least reason of a row.
 use Rattle.std.specs.Prelude.{ℕ, ◌+◌, Bool, true, false, not, ◌&&◌, ◌||◌, nat_eq, nat_le, nat_lt, bytes_eq, is_none, is_some, List, [], ◌∷◌, length, get_or, Option, None, Some, unwrap_or}
+use Rattle.limits.specs.declared.TheConstants.{MAX_LEGS, MAX_PERSONS, MAX_ROUTE_LINKS}
 use Rattle.edge_files.specs.declared.reasons.Reason.{Reason}
 use Rattle.edge_files.specs.declared.reasons.Reason.TheVariants as reason
 use Rattle.events.specs.declared.event.Mode.TheVariants as mode
@@ -152,7 +153,7 @@ lacks_mode element.Neither = false
 -- the 65,537th person, the ninth leg of a plan, or a car route of more than 1,000 links
 abbrev pub is_one_too_many : List (List ℕ) → ℕ → Option Row → ElementKind → Row → Bool
 is_one_too_many persons legs before kind row =
-    (begins_person before row && nat_le 65536 (length persons)) || (is_leg kind && nat_le 8 legs) || (is_car kind && nat_lt 1000 (length (items_of row)))
+    (begins_person before row && nat_le MAX_PERSONS (length persons)) || (is_leg kind && nat_le MAX_LEGS legs) || (is_car kind && nat_lt MAX_ROUTE_LINKS (length (items_of row)))
 
 -- the least reason against a row, by its kind, the persons and the legs of the plan before it, and the rows beside it
 abbrev pub kind_reason : List (List ℕ) → List (ℕ × ℕ) → List (List ℕ) → ℕ → Option Row → ElementKind → Row → Option Row → Option Reason

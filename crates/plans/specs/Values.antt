@@ -12,10 +12,10 @@ use Rattle.records.specs.Faults.{first_fault}
 use Rattle.records.specs.Files.{head_reason, body_of}
 use Rattle.plans.specs.declared.kinds.ElementKind.{ElementKind}
 use Rattle.plans.specs.declared.kinds.ElementKind.TheVariants as element
-use Rattle.plans.specs.declared.plan.Act.{Act}
-use Rattle.plans.specs.declared.plan.Leg.{Leg}
-use Rattle.plans.specs.declared.plan.Leg.TheVariants as leg
-use Rattle.plans.specs.Parts.{Parts}
+use Rattle.rows.specs.declared.plan.Act.{Act}
+use Rattle.rows.specs.declared.plan.Leg.{Leg}
+use Rattle.rows.specs.declared.plan.Leg.TheVariants as leg
+use Rattle.rows.specs.PlanRows.{PlanRows}
 use Rattle.plans.specs.Kinds.{kind_of, is_act, is_leg, is_transit, end_in, seconds_in, items_of, item, plans_header}
 use Rattle.plans.specs.Refusals.{row_reason, same_person, same_plan, begins_plan, route_of, is_joined}
 use Rattle.plans.specs.Runs.{runs}
@@ -95,15 +95,15 @@ last_endless (act ∷ []) = endless act ∷ []
 last_endless (act ∷ next ∷ acts) = act ∷ last_endless (next ∷ acts)
 
 -- the plan that rows are
-unfoldable pub plan_among : Tables → List Row → Parts
+unfoldable pub plan_among : Tables → List Row → PlanRows
 plan_among tables rows = record { acts = last_endless (acts_among tables rows); legs = legs_among tables rows }
 
 -- a person's plans: the rows, split where the plan's number changes
-unfoldable pub plans_among : Tables → List Row → List Parts
+unfoldable pub plans_among : Tables → List Row → List PlanRows
 plans_among tables rows = map (plan_among tables) (runs same_plan rows)
 
 -- each person's plans: the rows, split where the person changes
-unfoldable pub plan_lists : Tables → List Row → List (List Parts)
+unfoldable pub plan_lists : Tables → List Row → List (List PlanRows)
 plan_lists tables rows = map (plans_among tables) (runs same_person rows)
 
 -- the row before a place
@@ -139,16 +139,16 @@ reason_at links ends rows place =
     row_reason links ends (named_by person_in (take place rows)) (legs_to rows place) (row_before rows place) (get_or rows place []) (row_behind rows place)
 
 -- what plans.csv gives
-pub record PlanRows : Type 0 where
+pub record PlanFileRows : Type 0 where
   pub persons : List (List ℕ)
   pub kinds : List (List ℕ)
   pub lines : List (List ℕ)
   pub stops : List (List ℕ)
-  pub plans : List (List Parts)
+  pub plans : List (List PlanRows)
   pub starts : List ℕ
 
 -- what its rows behind the header give
-unfoldable pub values_of : List (List ℕ) → List Row → PlanRows
+unfoldable pub values_of : List (List ℕ) → List Row → PlanFileRows
 values_of links rows = record {
   persons = named_by person_in rows;
   kinds = named_by kind_in rows;
@@ -167,8 +167,8 @@ abbrev pub plans_fault : List (List ℕ) → List (ℕ × ℕ) → List ℕ → 
 plans_fault links ends bytes = rows_fault (head_reason plans_header bytes) links ends (body_of bytes)
 
 -- what plans.csv gives
-abbrev pub plan_rows : List (List ℕ) → List ℕ → PlanRows
-plan_rows links bytes = values_of links (body_of bytes)
+abbrev pub file_rows : List (List ℕ) → List ℕ → PlanFileRows
+file_rows links bytes = values_of links (body_of bytes)
 
 -- an activity's kind and link have names
 abbrev pub is_act_named : Tables → Act → Bool
@@ -182,9 +182,9 @@ is_leg_named tables ends (leg.Transit line access egress) =
     nat_lt line (length tables.lines) && nat_lt access (length tables.stops) && nat_lt egress (length tables.stops)
 
 -- every number of a plan has a name, and its car routes are unbroken
-unfoldable pub is_plan_named : Tables → List (ℕ × ℕ) → Parts → Bool
+unfoldable pub is_plan_named : Tables → List (ℕ × ℕ) → PlanRows → Bool
 is_plan_named tables ends parts = list_all (is_act_named tables) parts.acts && list_all (is_leg_named tables ends) parts.legs
 
 -- one to five plans, and every number of them has a name
-unfoldable pub are_plans : Tables → List (ℕ × ℕ) → List Parts → Bool
+unfoldable pub are_plans : Tables → List (ℕ × ℕ) → List PlanRows → Bool
 are_plans tables ends plans = nat_le 1 (length plans) && nat_le (length plans) 5 && list_all (is_plan_named tables ends) plans

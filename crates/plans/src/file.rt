@@ -1,9 +1,9 @@
 ghost use Rattle.std.specs.Prelude.{◌≡◌, ◌<◌, ◌≤◌, ◌+◌, ◌^◌, length, map, option_map, is_some, true, None, Some, IfOk, All};
 ghost use Rattle.csv.specs.Records.{fields_of};
 ghost use Rattle.records.specs.Faults.{Answers};
-ghost use Rattle.plans.specs.Values.{row_before, row_behind, plans_fault, plan_rows, rows_fault, values_of};
+ghost use Rattle.plans.specs.Values.{row_before, row_behind, plans_fault, file_rows, rows_fault, values_of};
 ghost use Rattle.plans.specs.Progress.{IsReadTo, IsSound, RowAble, step_first, step_act, step_leg, finish};
-ghost use Rattle.plans.specs.Read.{progress_of, plan_rows_of, Reads};
+ghost use Rattle.plans.specs.Read.{progress_of, file_rows_of, Reads};
 ghost use Rattle.events.specs.Names.{number_of, is_name};
 ghost use Rattle.events.specs.declared.event.Mode.{Mode};
 ghost use Rattle.records.specs.Fields.{field};
@@ -14,7 +14,7 @@ ghost use Rattle.plans.specs.declared.kinds.ElementKind.TheVariants as element;
 use crate::kinds::{ElementKind, cell, kind_of};
 use crate::leg_steps::step_leg;
 use crate::open_plan::begun;
-use crate::plan::{PlanFile, PlanList, PlanLists, RowNumbers};
+use crate::plan_file::{PlanFile, RowNumbers};
 use crate::refusals::{Named, refusal};
 use crate::rows_read::RowsRead;
 use crate::steps::{named_in, numbered_act, step_act, with_closed};
@@ -22,6 +22,7 @@ use csv::ByteRecord;
 use edge_files::RowStop;
 use events::Names;
 use records::{body, fault, number, read_file};
+use rows::{PlanList, PlanLists};
 use std::alloc::{AllocError, Global};
 
 /// The row before a place.
@@ -84,7 +85,7 @@ fn with_first(
 #[tactic(auto, unfolding(crate::specs::Progress::finish))]
 fn finished(read: RowsRead) -> Result<PlanFile, AllocError>
     requires { is_some read.current.last ≡ true }
-    ensures { IfOk result (λ file. plan_rows_of file ≡ finish (progress_of read)) }
+    ensures { IfOk result (λ file. file_rows_of file ≡ finish (progress_of read)) }
 {
     let RowsRead {
         persons,
@@ -207,8 +208,8 @@ fn read_rows(
 ) -> Result<PlanFile, RowStop>
     requires some { 0 < length rows.now }
     requires few { length rows.now < 2 ^ 30 }
-    ensures read { Answers plan_rows_of result (rows_fault None links.now ends.now (map fields_of rows.now)) (values_of links.now (map fields_of rows.now)) }
-    ensures sound { IfOk result (λ file. IsSound links.now ends.now (plan_rows_of file)) }
+    ensures read { Answers file_rows_of result (rows_fault None links.now ends.now (map fields_of rows.now)) (values_of links.now (map fields_of rows.now)) }
+    ensures sound { IfOk result (λ file. IsSound links.now ends.now (file_rows_of file)) }
     ensures starts { IfOk result (λ file. All (λ row. row < 2 ^ 30) file.starts) }
 {
     let mut read = match first_row(alloc, rows, links, ends) {
@@ -239,8 +240,8 @@ pub fn read_plans(
     ends: &[(u32, u32)],
 ) -> Result<PlanFile, RowStop>
     requires { length ends.now ≡ length links.now }
-    ensures read { Answers plan_rows_of result (plans_fault links.now ends.now bytes.now) (plan_rows links.now bytes.now) }
-    ensures sound { IfOk result (λ file. IsSound links.now ends.now (plan_rows_of file)) }
+    ensures read { Answers file_rows_of result (plans_fault links.now ends.now bytes.now) (file_rows links.now bytes.now) }
+    ensures sound { IfOk result (λ file. IsSound links.now ends.now (file_rows_of file)) }
     ensures starts { IfOk result (λ file. All (λ row. row < 2 ^ 30) file.starts) }
 {
     let header = ["person", "plan", "kind", "name", "link", "time", "route"];

@@ -5,6 +5,7 @@ ghost use Rattle.plans.specs.Kinds.{kind_of, is_act, is_leg, is_car, plan_in, pl
 
 use csv::ByteRecord;
 use events::Mode;
+use limits::LAST_SECOND;
 use records::{is_text, number_in};
 
 /// What a row of plans.csv is.
@@ -95,15 +96,15 @@ pub fn plan_number(row: &ByteRecord) -> u32
 /// The planned end of the activity that the row is, where it has one.
 pub fn end_in(row: &ByteRecord) -> Option<u32>
     ensures end { result ≡ end_in (fields_of row.now) }
-    ensures within { IfSome result (λ end. end ≤ 172800) }
+    ensures within { IfSome result (λ end. end ≤ LAST_SECOND) }
 {
-    number_in(cell(row, 5), 0, 172_800)
+    number_in(cell(row, 5), 0, LAST_SECOND)
 }
 
 /// The seconds of the teleported leg that the row is, where it has them.
 pub fn seconds_in(row: &ByteRecord) -> Option<u32>
     ensures seconds { result ≡ seconds_in (fields_of row.now) }
-    ensures within { IfSome result (λ seconds. (1 ≤ seconds) × (seconds ≤ 172800)) }
+    ensures within { IfSome result (λ seconds. (1 ≤ seconds) × (seconds ≤ LAST_SECOND)) }
 {
-    number_in(cell(row, 5), 1, 172_800)
+    number_in(cell(row, 5), 1, LAST_SECOND)
 }

@@ -1,10 +1,11 @@
 ghost use Rattle.std.specs.Prelude.{◌≡◌, ◌<◌, ◌≤◌, length, map, option_map, true, false, IfOk, OnOk, IfSome, is_some, Some, get_or, if◌then◌else◌};
 ghost use Rattle.csv.specs.Records.{fields_of};
+ghost use Rattle.limits.specs.declared.TheConstants.{MAX_LEGS, MAX_ROUTE_LINKS};
 ghost use Rattle.events.specs.Names.{number_of, with_name};
 ghost use Rattle.records.specs.Lists.{numbers_of, are_names};
 ghost use Rattle.plans.specs.Refusals.{lacks_element_name, has_bad_time, lacks_link};
 ghost use Rattle.plans.specs.declared.kinds.ElementKind.TheVariants as element;
-ghost use Rattle.plans.specs.Plan.{is_leg, is_teleported};
+ghost use Rattle.rows.specs.Plan.{is_leg, is_teleported};
 ghost use Rattle.plans.specs.Kinds.{is_car, is_transit, items_of, item, seconds_in};
 ghost use Rattle.plans.specs.Values.{number_in_table, leg_by};
 ghost use Rattle.plans.specs.Progress.{step_leg, lines_with, stops_with, ends_well};
@@ -12,12 +13,12 @@ ghost use Rattle.plans.specs.Read.{progress_of};
 
 use crate::kinds::seconds_in;
 use crate::open_plan::with_leg;
-use crate::plan::Leg;
 use crate::refusals::Named;
 use crate::rows_read::RowsRead;
 use csv::ByteRecord;
 use events::{Mode, Names, Route};
 use records::number;
+use rows::Leg;
 use std::alloc::{AllocError, Global};
 
 /// The number of the name among three, which is put into the list.
@@ -62,7 +63,7 @@ fn transit_leg(
 
 /// The leg by car over these links.
 fn car_leg(rows: Vec<u32>) -> Leg
-    requires { length rows.items ≤ 1000 }
+    requires { length rows.items ≤ MAX_ROUTE_LINKS }
     ensures leg { result ≡ Leg.Car rows.items }
     ensures sound { is_leg result ≡ true }
 {
@@ -100,7 +101,7 @@ fn numbered_leg(
     requires names { lacks_element_name (element.Leg (Some mode)) (fields_of row.now) ≡ false }
     requires times { has_bad_time (element.Leg (Some mode)) (fields_of row.now) ≡ false }
     requires found { lacks_link links.now (element.Leg (Some mode)) (fields_of row.now) ≡ false }
-    requires few { is_car (element.Leg (Some mode)) ≡ true → length (items_of (fields_of row.now)) ≤ 1000 }
+    requires few { is_car (element.Leg (Some mode)) ≡ true → length (items_of (fields_of row.now)) ≤ MAX_ROUTE_LINKS }
     ensures lines { OnOk result (lines.new ≡ lines_with (is_transit (element.Leg (Some mode))) lines.old (items_of (fields_of row.now))) }
     ensures stops { OnOk result (stops.new ≡ stops_with (is_transit (element.Leg (Some mode))) stops.old (items_of (fields_of row.now))) }
     ensures leg { IfOk result (λ leg. leg ≡ leg_by lines.new stops.new links.now mode (fields_of row.now)) }
@@ -134,8 +135,8 @@ pub fn step_leg(
     requires names { lacks_element_name (element.Leg (Some mode)) (fields_of row.now) ≡ false }
     requires times { has_bad_time (element.Leg (Some mode)) (fields_of row.now) ≡ false }
     requires found { lacks_link links.now (element.Leg (Some mode)) (fields_of row.now) ≡ false }
-    requires few_links { is_car (element.Leg (Some mode)) ≡ true → length (items_of (fields_of row.now)) ≤ 1000 }
-    requires few_legs { length read.current.legs.items < 8 }
+    requires few_links { is_car (element.Leg (Some mode)) ≡ true → length (items_of (fields_of row.now)) ≤ MAX_ROUTE_LINKS }
+    requires few_legs { length read.current.legs.items < MAX_LEGS }
     requires ended { ends_well read.current.last ≡ true }
     ensures { IfOk result (λ r. progress_of r ≡ step_leg links.now (progress_of read) mode (fields_of row.now)) }
 {

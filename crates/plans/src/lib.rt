@@ -6,10 +6,11 @@ mod kinds;
 mod leg_steps;
 mod open_plan;
 mod orders;
-mod plan;
+mod plan_file;
 mod refusals;
 mod rows_read;
 mod steps;
 
 pub use file::read_plans;
-pub use plan::{Act, Acts, Leg, Legs, Plan, PlanFile, PlanList, PlanLists, RowNumbers};
+pub use plan_file::{PlanFile, RowNumbers};
+pub use rows::{Act, Acts, Leg, Legs, Plan, PlanList, PlanLists};

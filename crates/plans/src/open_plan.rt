@@ -1,10 +1,11 @@
 ghost use Rattle.std.specs.Prelude.{◌≡◌, ◌≤◌, ◌<◌, ◌∷◌, ◌++◌, [], length, true, None, Some, IfOk};
 ghost use Rattle.std.specs.List.{list_all};
-ghost use Rattle.plans.specs.Plan.{has_end, is_leg};
+ghost use Rattle.limits.specs.declared.TheConstants.{MAX_LEGS};
+ghost use Rattle.rows.specs.Plan.{has_end, is_leg};
 ghost use Rattle.plans.specs.Values.{endless};
-ghost use Rattle.plans.specs.Parts.{parts_of};
+ghost use Rattle.rows.specs.PlanRows.{plan_rows};
 
-use crate::plan::{Act, Acts, Leg, Legs, Plan};
+use rows::{Act, Acts, Leg, Legs, Plan};
 use std::alloc::{AllocError, Global};
 
 /// A plan of which rows may still come: activities with the leg behind each, and an activity that
@@ -15,7 +16,7 @@ pub struct OpenPlan {
     pub legs: Vec<Leg>,
     pub last: Option<Act>,
     ghost paired: { length acts.items ≡ length legs.items },
-    ghost few: { length legs.items ≤ 8 },
+    ghost few: { length legs.items ≤ MAX_LEGS },
     ghost ends: { list_all has_end acts.items ≡ true },
     ghost sound: { list_all is_leg legs.items ≡ true },
 }
@@ -51,7 +52,7 @@ pub fn with_act(current: OpenPlan, act: Act) -> OpenPlan
 pub fn with_leg(current: OpenPlan, last: Act, leg: Leg) -> Result<OpenPlan, AllocError>
     requires end { has_end last ≡ true }
     requires leg { is_leg leg ≡ true }
-    requires few { length current.legs.items < 8 }
+    requires few { length current.legs.items < MAX_LEGS }
     ensures acts { IfOk result (λ o. o.acts.items ≡ current.acts.items ++ last ∷ []) }
     ensures legs { IfOk result (λ o. o.legs.items ≡ current.legs.items ++ leg ∷ []) }
     ensures last { IfOk result (λ o. o.last ≡ None) }
@@ -73,7 +74,7 @@ pub fn with_leg(current: OpenPlan, last: Act, leg: Leg) -> Result<OpenPlan, Allo
 /// The plan, when no further row comes behind its last activity.
 #[tactic(auto, using(crate::proofs::Closing::are_acts_closed))]
 pub fn closed(current: OpenPlan, last: Act) -> Result<Plan, AllocError>
-    ensures { IfOk result (λ plan. parts_of plan ≡ record { acts = current.acts.items ++ endless last ∷ []; legs = current.legs.items }) }
+    ensures { IfOk result (λ plan. plan_rows plan ≡ record { acts = current.acts.items ++ endless last ∷ []; legs = current.legs.items }) }
 {
     let OpenPlan { mut acts, legs, .. } = current;
     acts.push(Act {

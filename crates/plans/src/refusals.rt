@@ -11,14 +11,8 @@ use crate::orders::{begins_person, is_out_of_order};
 use csv::ByteRecord;
 use edge_files::Reason;
 use events::{Mode, Names, is_name};
+use limits::{MAX_LEGS, MAX_PERSONS, MAX_ROUTE_LINKS};
 use records::are_names;
-
-const MAX_PERSONS: u32 = 65_536;
-
-const MAX_LEGS: usize = 8;
-
-const MAX_LINKS: usize = 1_000;
-
 /// What a row names: the items of its route, its link, and the links of its route where it is a
 /// leg by car.
 #[derive(Drop)]
@@ -178,7 +172,7 @@ fn is_one_too_many(
 {
     (begins_person(before, row) && persons.len() >= MAX_PERSONS)
         || (is_leg(kind) && legs >= MAX_LEGS)
-        || (is_car(kind) && items.len() > MAX_LINKS)
+        || (is_car(kind) && items.len() > MAX_ROUTE_LINKS)
 }
 
 /// Whether a name that the row needs is none.

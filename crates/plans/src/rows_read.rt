@@ -1,6 +1,6 @@
 use crate::open_plan::OpenPlan;
-use crate::plan::{Plan, PlanList};
 use events::Names;
+use rows::{Plan, PlanList};
 
 /// What the rows so far give: names by first appearance, the plans of the persons before the last
 /// one, his plans before the current one, the rows in which plans begin, and the current plan.

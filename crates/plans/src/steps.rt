@@ -3,8 +3,8 @@ ghost use Rattle.csv.specs.Records.{fields_of};
 ghost use Rattle.events.specs.Names.{number_of, with_name, is_name};
 ghost use Rattle.records.specs.Fields.{field, holds_name};
 ghost use Rattle.records.specs.Lists.{numbers_of, are_names};
-ghost use Rattle.plans.specs.Plan.{is_leg, has_end};
-ghost use Rattle.plans.specs.Parts.{parts_of};
+ghost use Rattle.rows.specs.Plan.{is_leg, has_end};
+ghost use Rattle.rows.specs.PlanRows.{plan_rows};
 ghost use Rattle.plans.specs.Kinds.{kind_of, is_car, items_of, item};
 ghost use Rattle.plans.specs.Refusals.{begins_plan, begins_person};
 ghost use Rattle.plans.specs.Values.{act_of};
@@ -14,12 +14,12 @@ ghost use Rattle.plans.specs.Read.{progress_of};
 use crate::kinds::{ElementKind, cell, end_in, is_car, kind_of, seconds_in};
 use crate::open_plan::{OpenPlan, begun, closed, with_act, with_leg};
 use crate::orders::{begins_person, begins_plan};
-use crate::plan::{Act, Leg, Plan, PlanList};
 use crate::refusals::Named;
 use crate::rows_read::RowsRead;
 use csv::ByteRecord;
 use events::{Mode, Names, Route};
 use records::{items_in, number, numbers_of};
+use rows::{Act, Leg, Plan, PlanList};
 use std::alloc::{AllocError, Global};
 use std::mem::replace;
 
@@ -49,7 +49,7 @@ pub fn named_in<'a>(
 /// The person's plans, with the current one closed.
 pub fn with_closed(own: Vec<Plan>, current: OpenPlan) -> Result<Vec<Plan>, AllocError>
     requires { is_some current.last ≡ true }
-    ensures { IfOk result (λ v. map parts_of v.items ≡ map parts_of own.items ++ (record { acts = closed_acts current.acts.items current.last; legs = current.legs.items }) ∷ []) }
+    ensures { IfOk result (λ v. map plan_rows v.items ≡ map plan_rows own.items ++ (record { acts = closed_acts current.acts.items current.last; legs = current.legs.items }) ∷ []) }
 {
     let Some(last) = current.last else {
         unreachable!()

@@ -2,23 +2,20 @@
 use Rattle.std.proofs.Common.{◌≡◌, List, length, map, sym, ◌∙◌, ap}
 use Rattle.std.proofs.lemmas.List.{length-map}
 use Rattle.events.specs.declared.event.Event.{Event}
-use Rattle.plans.specs.declared.plan.Plan.{Plan}
-use Rattle.plans.specs.Parts.{Parts, parts_of, all_parts}
-use Rattle.town.specs.declared.rows.Town.{Town}
+use Rattle.rows.specs.declared.plan.Plan.{Plan}
+use Rattle.rows.specs.PlanRows.{PlanRows, plan_rows, all_plan_rows}
+use Rattle.town.specs.declared.town.Town.{Town}
 use Rattle.town.specs.Setups.{setup_of}
-use Rattle.town.specs.Views.{rows_of, setup_in}
+use Rattle.town.specs.Rows.{TownRows}
+use Rattle.town.specs.Views.{rows_of}
 use Rattle.traffic.specs.Day.{day}
 use Rattle.scenario.specs.Fitting.{first_plans, AreChosen}
-use Rattle.plain_day.specs.Given.{AreGiven}
 use Rattle.qsim_top.specs.Answer.{events_of}
 
-pub given : (town : Town) (plans : List (List Plan)) (chosen : List Plan) → length plans ≡ length town.book.persons → AreChosen (rows_of town) (all_parts plans) (map parts_of chosen) → AreGiven town chosen
-given town plans chosen e h = record {
-  each = sym e ∙ sym (length-map plans (map parts_of)) ∙ sym h.each ∙ length-map chosen parts_of;
-  fit = h.fit;
-}
+pub each_chosen : (town : Town) (plans : List (List Plan)) (chosen : List Plan) → length plans ≡ length town.book.persons → AreChosen (rows_of town) (all_plan_rows plans) (map plan_rows chosen) → length town.book.persons ≡ length chosen
+each_chosen town plans chosen e h = sym e ∙ sym (length-map plans (map plan_rows)) ∙ sym h.each ∙ length-map chosen plan_rows
 
-pub first_day : (town : Town) (plans : List (List Plan)) (chosen : List Plan) (events : List Event) → map parts_of chosen ≡ first_plans (all_parts plans) → events ≡ day (setup_in town chosen 0)
-    → events ≡ events_of (record { town = rows_of town; plans = all_parts plans })
+pub first_day : (T : TownRows) (plans : List (List Plan)) (chosen : List Plan) (events : List Event) → map plan_rows chosen ≡ first_plans (all_plan_rows plans) → events ≡ day (setup_of T (map plan_rows chosen) 0)
+    → events ≡ events_of (record { town = T; plans = all_plan_rows plans })
 unfolding events_of
-first_day town plans chosen events e f = f ∙ ap (λ (own : List Parts). day (setup_of (rows_of town) own 0)) e
+first_day T plans chosen events e f = f ∙ ap (λ (own : List PlanRows). day (setup_of T own 0)) e

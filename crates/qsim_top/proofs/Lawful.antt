@@ -1,9 +1,9 @@
 -- Every day is lawful, and that of files without a fault follows the plans.
-use Rattle.std.proofs.Common.{◌≡◌, ◌∙◌, ℕ, ◌<◌, List, length, map, None, ap, subst}
+use Rattle.std.proofs.Common.{◌≡◌, ◌∙◌, ℕ, ◌<◌, List, length, map, None, refl, ap, subst}
 use Rattle.std.proofs.lemmas.List.{length-map}
 use Rattle.std.proofs.lemmas.List.Elements.{All-from_recursion}
-use Rattle.plans.specs.Parts.{Parts}
-use Rattle.traffic.specs.declared.rows.Stage.TheVariants.{Buffer}
+use Rattle.rows.specs.PlanRows.{PlanRows}
+use Rattle.traffic.specs.declared.stage.Stage.TheVariants.{Buffer}
 use Rattle.traffic.specs.Setup.{Setup}
 use Rattle.traffic.specs.Day.{plan_of, world_at}
 use Rattle.traffic.proofs.Order.{day-ascends}
@@ -16,7 +16,7 @@ use Rattle.person_days.proofs.InTime.{day_until}
 use Rattle.sound_setups.proofs.Laws.{day_sound}
 use Rattle.sound_days.proofs.Towns.{rows_sound, rows_told}
 use Rattle.town.specs.Rows.{TownRows}
-use Rattle.town.specs.Setups.{itinerary_of, setup_of}
+use Rattle.town.specs.Setups.{setup_of}
 use Rattle.scenario.specs.Texts.{Texts}
 use Rattle.scenario.specs.Given.{ScenarioRows, scenario_fault, scenario_rows}
 use Rattle.scenario.specs.Fitting.{first_plans}
@@ -36,9 +36,9 @@ lawful S = record {
   in_time = day_until S;
 }
 
-persons_are : (T : TownRows) (chosen : List Parts) (k : ℕ) → length (setup_of T chosen k).persons ≡ length chosen
+persons_are : (T : TownRows) (chosen : List PlanRows) (k : ℕ) → length (setup_of T chosen k).persons ≡ length chosen
 unfolding setup_of
-persons_are T chosen k = length-map chosen itinerary_of
+persons_are T chosen k = refl
 
 follows : (S : ScenarioRows) → IsScenario S → FollowsPlans (first_day S)
 follows S valid =

@@ -4,7 +4,7 @@ use Rattle.events.specs.declared.event.Event.{Event}
 use Rattle.events.specs.declared.event.Phase.{Phase}
 use Rattle.events.specs.declared.event.Phase.TheVariants as phase
 use Rattle.traffic.specs.declared.moves.Move.{Move}
-use Rattle.traffic.specs.declared.rows.Stage.TheVariants.{Buffer}
+use Rattle.traffic.specs.declared.stage.Stage.TheVariants.{Buffer}
 use Rattle.traffic.specs.Setup.{Setup}
 use Rattle.traffic.specs.Rows.{World}
 use Rattle.traffic.specs.Moves.{run}
@@ -26,7 +26,7 @@ pub record IsLawful (S : Setup) : Type 0 where
   pub flow : FlowKept S (world_start S)
   pub flow_elsewhere : (t n : ℕ) (p : Phase) (W : World) → p ≢ phase.D → All (IsElsewhere Buffer) (plan_of S t p n W)
   pub order : Ascends (day S)
-  pub in_time : All (λ (e : Event). e.key.second ≤ S.end) (day S)
+  pub in_time : All (λ (e : Event). e.key.second ≤ S.settings.end_second) (day S)
 
 -- The laws of a day that is made from a town and plans that fit it: in every second each person and each vehicle fits the plans and the
 -- timetable that it comes from; and what is told of a person comes as his plan has it, in at most eight events for each leg.

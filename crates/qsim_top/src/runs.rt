@@ -1,10 +1,14 @@
 //! The answers of the commands.
 
-ghost use Rattle.std.specs.Prelude.{◌≡◌, length, true, IfOk};
+ghost use Rattle.std.specs.Prelude.{◌≡◌, length, map, true, IfOk};
+ghost use Rattle.std.specs.List.{list_all};
 ghost use Rattle.edge_files.specs.declared.effects.Effect.TheVariants as effect;
 ghost use Rattle.events.specs.Lines.{AreInBook};
-ghost use Rattle.plans.specs.Parts.{all_parts};
+ghost use Rattle.rows.specs.PlanRows.{plan_rows, all_plan_rows};
+ghost use Rattle.town.specs.Fits.{fits};
+ghost use Rattle.town.specs.Setups.{setup_of};
 ghost use Rattle.town.specs.Views.{rows_of};
+ghost use Rattle.traffic.specs.Day.{day};
 ghost use Rattle.scenario.specs.Fitting.{all_fit};
 ghost use Rattle.scenario.specs.Views.{texts_of, scenario_view};
 ghost use Rattle.qsim_top.specs.Texts.{refused_line, valid_line};
@@ -15,10 +19,10 @@ use crate::texts::{events_text, iteration_line, refused_line, valid_line};
 use edge_files::{Bytes, Effect, EffectList, OutFile};
 use events::{Book, Event};
 use plain_day::plain_day;
-use plans::PlanLists;
+use rows::{Plan, PlanLists};
 use scenario::{Files, Scenario, ScenarioFault, Stop, assemble, chosen_plans};
 use std::alloc::{AllocError, Global};
-use town::Town;
+use town::{DayInput, Town};
 use words::Command;
 
 fn write(file: OutFile, text: Vec<u8>) -> Effect
@@ -71,24 +75,40 @@ fn done_with(alloc: Global, events: &[Event], book: &Book) -> Result<Answer, All
     })
 }
 
+/// The events of the first day of a town on which each person follows the chosen plan.
+fn first_events(alloc: Global, town: &Town, chosen: &[Plan]) -> Result<Vec<Event>, AllocError>
+    requires each { length town.now.book.persons ≡ length chosen.now }
+    requires fit { list_all (fits (rows_of town.now)) (map plan_rows chosen.now) ≡ true }
+    ensures events { IfOk result (λ events. events.items ≡ day (setup_of (rows_of town.now) (map plan_rows chosen.now) 0)) }
+    ensures named { IfOk result (λ events. AreInBook events.items town.now.book) }
+{
+    let input = DayInput {
+        town,
+        chosen,
+        iteration: 0,
+    };
+    let events = plain_day(alloc, &input)?;
+    Ok(events)
+}
+
 /// The events of the day on which each person follows the first plan.
 #[tactic(auto, unfolding(crate::specs::Answer::events_of))]
 fn events_of(alloc: Global, town: &Town, plans: PlanLists) -> Result<Vec<Event>, AllocError>
     requires each { length plans ≡ length town.now.book.persons }
-    requires fit { all_fit (rows_of town.now) (all_parts plans) ≡ true }
-    ensures events { IfOk result (λ events. events.items ≡ events_of (record { town = rows_of town.now; plans = all_parts plans })) }
+    requires fit { all_fit (rows_of town.now) (all_plan_rows plans) ≡ true }
+    ensures events { IfOk result (λ events. events.items ≡ events_of (record { town = rows_of town.now; plans = all_plan_rows plans })) }
     ensures named { IfOk result (λ events. AreInBook events.items town.now.book) }
 {
     let chosen = chosen_plans(alloc, plans)?;
-    let events = plain_day(alloc, town, &chosen, 0)?;
+    let events = first_events(alloc, town, &chosen)?;
     Ok(events)
 }
 
 /// The day of a town and its plans, written.
 fn day_answer(alloc: Global, town: &Town, plans: PlanLists) -> Result<Answer, AllocError>
     requires each { length plans ≡ length town.now.book.persons }
-    requires fit { all_fit (rows_of town.now) (all_parts plans) ≡ true }
-    ensures { IfOk result (IsAnswer (done_with (events_of (record { town = rows_of town.now; plans = all_parts plans })) town.now.book)) }
+    requires fit { all_fit (rows_of town.now) (all_plan_rows plans) ≡ true }
+    ensures { IfOk result (IsAnswer (done_with (events_of (record { town = rows_of town.now; plans = all_plan_rows plans })) town.now.book)) }
 {
     let events = events_of(alloc, town, plans)?;
     let answer = done_with(alloc, &events, &town.book)?;

@@ -4,7 +4,8 @@ use crate::files::{are_read, first_miss, has_fault, have_fault, header_of, many,
 use crate::network_tables::{LINK_HEADS, LINKS, NODE_HEADS, NODES};
 use edge_files::{InFile, Reason};
 use events::Names;
-use network::{LinkList, LinkRow, NodeList, NodeRow, read_links, read_nodes};
+use network::{read_links, read_nodes};
+use rows::{LinkList, LinkRow, NodeList, NodeRow};
 use std::alloc::Global;
 
 #[test]

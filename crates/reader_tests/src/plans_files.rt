@@ -11,7 +11,8 @@ use crate::plans_tables::{
 };
 use edge_files::{InFile, Reason};
 use events::{Mode, Names};
-use plans::{Act, Leg, Plan, PlanFile, read_plans};
+use plans::{PlanFile, read_plans};
+use rows::{Act, Leg, Plan};
 use std::alloc::{AllocError, Global};
 
 const PLANS: InFile = InFile::Plans;

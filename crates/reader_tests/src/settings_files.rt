@@ -7,17 +7,18 @@ use std::alloc::{AllocError, Global};
 
 /// The values in the order of the keys, 0 where there is no speed of holes.
 fn values_of(settings: &Settings) -> [u64; 10] {
+    let traffic = settings.traffic;
     [
         settings.seed,
-        u64::from(settings.end_second),
-        u64::from(settings.flow_permille),
-        u64::from(settings.storage_permille),
-        u64::from(settings.stuck_seconds),
-        u64::from(settings.stuck_push),
-        u64::from(settings.hole_speed.unwrap_or(0)),
-        u64::from(settings.dwell_open),
-        u64::from(settings.dwell_alight),
-        u64::from(settings.dwell_board),
+        u64::from(traffic.end_second),
+        u64::from(traffic.flow_permille),
+        u64::from(traffic.storage_permille),
+        u64::from(traffic.stuck.seconds),
+        u64::from(traffic.stuck.push),
+        u64::from(traffic.hole_speed.unwrap_or(0)),
+        u64::from(traffic.dwell.per_stop),
+        u64::from(traffic.dwell.per_alight),
+        u64::from(traffic.dwell.per_board),
     ]
 }
 

@@ -7,8 +7,8 @@ use Rattle.std.proofs.lemmas.List.{length-map, drop_all}
 use Rattle.records.specs.Faults.{or_else}
 use Rattle.records.proofs.Sound.{both_true}
 use Rattle.records.proofs.Unrefused.{or_none}
-use Rattle.plans.specs.declared.plan.Plan.{Plan}
-use Rattle.plans.specs.Parts.{Parts, parts_of, all_parts}
+use Rattle.rows.specs.declared.plan.Plan.{Plan}
+use Rattle.rows.specs.PlanRows.{PlanRows, plan_rows, all_plan_rows}
 use Rattle.plans.specs.Values.{Tables, is_plan_named, are_plans}
 use Rattle.plans.proofs.Shapes.{IsPlan}
 use Rattle.town.specs.Rows.{TownRows}
@@ -28,13 +28,13 @@ drop_none : (n : ℕ) → drop n no_rows ≡ []
 drop_none n = drop_all n no_rows (omega arith)
 
 -- the faults of plans, part by part
-pub plans_fault-append : (W : Ways) (rows : List ℕ) (xs ys : List Parts) → plans_fault W rows (xs ++ ys) ≡ or_else (plans_fault W rows xs) (plans_fault W (drop (length xs) rows) ys)
+pub plans_fault-append : (W : Ways) (rows : List ℕ) (xs ys : List PlanRows) → plans_fault W rows (xs ++ ys) ≡ or_else (plans_fault W rows xs) (plans_fault W (drop (length xs) rows) ys)
 unfolding plans_fault
 plans_fault-append W rows [] ys = refl
 plans_fault-append W [] (x ∷ xs) ys = ap (λ rest. or_else (plan_fault W 0 x) rest) (plans_fault-append W [] xs ys) ∙ or_else_assoc (plan_fault W 0 x) (plans_fault W [] xs) (plans_fault W (drop (length xs) []) ys) ∙ ap (λ r. or_else (or_else (plan_fault W 0 x) (plans_fault W [] xs)) (plans_fault W r ys)) (drop_none (length xs))
 plans_fault-append W (row ∷ rows) (x ∷ xs) ys = ap (λ rest. or_else (plan_fault W row x) rest) (plans_fault-append W rows xs ys) ∙ or_else_assoc (plan_fault W row x) (plans_fault W rows xs) (plans_fault W (drop (length xs) rows) ys)
 
-own_meet : (T : TownRows) (W : Ways) (tables : Tables) (ends : List (ℕ × ℕ)) (rows : List ℕ) (plans : List Parts) → Meets T W tables ends
+own_meet : (T : TownRows) (W : Ways) (tables : Tables) (ends : List (ℕ × ℕ)) (rows : List ℕ) (plans : List PlanRows) → Meets T W tables ends
     → list_all (is_plan_named tables ends) plans ≡ true → Each IsPlan plans → plans_fault W rows plans ≡ None → list_all (fits T) (map (plan_in_town W.numbers) plans) ≡ true
 unfolding plans_fault
 own_meet T W tables ends rows [] m named kept none = refl
@@ -44,7 +44,7 @@ own_meet T W tables ends rows (plan ∷ plans) m named kept none =
     both_true _ _ (plan_meets T W tables ends (get_or rows 0 0) plan m parts.0 free.0 kept.0.one_more)
     (own_meet T W tables ends (drop 1 rows) plans m parts.1 kept.1 free.1)
 
-person_meets : (T : TownRows) (W : Ways) (tables : Tables) (ends : List (ℕ × ℕ)) (rows : List ℕ) (plans : List Parts) → Meets T W tables ends
+person_meets : (T : TownRows) (W : Ways) (tables : Tables) (ends : List (ℕ × ℕ)) (rows : List ℕ) (plans : List PlanRows) → Meets T W tables ends
     → are_plans tables ends plans ≡ true → Each IsPlan plans → plans_fault W rows plans ≡ None → are_fitting T (map (plan_in_town W.numbers) plans) ≡ true
 unfolding are_plans are_fitting
 person_meets T W tables ends rows plans m sound kept none =
@@ -56,7 +56,7 @@ person_meets T W tables ends rows plans m sound kept none =
     both_true _ _ (both_true _ _ some most) (own_meet T W tables ends rows plans m parts.1 kept none)
 
 -- all persons' plans fit
-pub all_meet : (T : TownRows) (W : Ways) (tables : Tables) (ends : List (ℕ × ℕ)) (rows : List ℕ) (plans : List (List Parts)) → Meets T W tables ends
+pub all_meet : (T : TownRows) (W : Ways) (tables : Tables) (ends : List (ℕ × ℕ)) (rows : List ℕ) (plans : List (List PlanRows)) → Meets T W tables ends
     → list_all (are_plans tables ends) plans ≡ true → Each (Each IsPlan) plans → all_plans_fault W rows plans ≡ None → all_fit T (map (map (plan_in_town W.numbers)) plans) ≡ true
 all_meet T W tables ends rows [] m sound kept none = refl
 all_meet T W tables ends rows (own ∷ plans) m sound kept none =
@@ -64,11 +64,11 @@ all_meet T W tables ends rows (own ∷ plans) m sound kept none =
     let free = or_none _ _ (sym (plans_fault-append W rows own (flat_map (λ x. x) plans)) ∙ none) in
     both_true _ _ (person_meets T W tables ends rows own m parts.0 kept.0 free.0) (all_meet T W tables ends (drop (length own) rows) plans m parts.1 kept.1 free.1)
 
-own_kept : (plans : List Plan) → Each IsPlan (map parts_of plans)
+own_kept : (plans : List Plan) → Each IsPlan (map plan_rows plans)
 own_kept [] = tt
 own_kept (plan ∷ plans) = (record { one_more = plan.one_more; few = plan.few; ends = plan.ends; legs = plan.sound }, own_kept plans)
 
 -- what the type of a plan keeps
-pub all_kept : (plans : List (List Plan)) → Each (Each IsPlan) (all_parts plans)
+pub all_kept : (plans : List (List Plan)) → Each (Each IsPlan) (all_plan_rows plans)
 all_kept [] = tt
 all_kept (own ∷ plans) = (own_kept own, all_kept plans)

@@ -1,8 +1,8 @@
 -- What the files on roads give, file by file.
 use Rattle.std.proofs.Common.{◌≡◌, ◌∙◌, ℕ, List, length, Option, None, Result, sym, ap, subst}
 use Rattle.std.proofs.lemmas.List.{length-map}
-use Rattle.network.specs.declared.rows.LinkRow.{LinkRow}
-use Rattle.plans.specs.Values.{PlanRows}
+use Rattle.rows.specs.declared.network.LinkRow.{LinkRow}
+use Rattle.plans.specs.Values.{PlanFileRows}
 use Rattle.settings.specs.Values.{Values}
 use Rattle.town.specs.Rows.{ends_of, ends_of_link}
 use Rattle.records.specs.Faults.{or_else, fault_at}
@@ -43,14 +43,14 @@ timetable_told s R plans stops routes departures ends is none told =
     (first_stop s _ _ (subst (λ (e : List (ℕ × ℕ)). StopsAt s (timetable_fault R.link_names e stops routes departures)) is told))
 
 -- the town with its plans, or the first leg that does not fit
-pub all_told : (r : Result Scenario Stop) (v : Values) (R : Roads) (P : PlanRows) (S : Timetable) (plans stops routes departures : Option (List ℕ)) (ends : List (ℕ × ℕ)) → ends ≡ ends_of R.links
+pub all_told : (r : Result Scenario Stop) (v : Values) (R : Roads) (P : PlanFileRows) (S : Timetable) (plans stops routes departures : Option (List ℕ)) (ends : List (ℕ × ℕ)) → ends ≡ ends_of R.links
     → persons_fault R.link_names ends plans ≡ None → timetable_fault R.link_names ends stops routes departures ≡ None → P ≡ persons_on R plans → S ≡ timetable_on R stops routes departures
     → Tells scenario_view r (plans_cross_fault P S) (scenario_of v R P S) → Tells scenario_view r (on_roads_fault R plans stops routes departures) (on_roads v R plans stops routes departures)
 unfolding on_roads_fault on_roads
 all_told r v R P S plans stops routes departures ends is no_persons no_timetable persons timetable told =
     let value = scenario_of v R (persons_on R plans) (timetable_on R stops routes departures) in
     let no_persons_on = subst (λ (e : List (ℕ × ℕ)). persons_fault R.link_names e plans ≡ None) is no_persons in
-    let with_persons = subst (λ (p : PlanRows). Tells scenario_view r (plans_cross_fault p S) (scenario_of v R p S)) persons told in
+    let with_persons = subst (λ (p : PlanFileRows). Tells scenario_view r (plans_cross_fault p S) (scenario_of v R p S)) persons told in
     let with_both = subst (λ (t : Timetable). Tells scenario_view r (plans_cross_fault (persons_on R plans) t) (scenario_of v R (persons_on R plans) t)) timetable with_persons in
     let row_by_row = subst (λ (f : Option ScenarioFault). Tells scenario_view r f value) (same_crossing R plans (timetable_on R stops routes departures) no_persons_on) with_both in
     told_behind scenario_view r _ _ value no_persons_on

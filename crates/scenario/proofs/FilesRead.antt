@@ -6,9 +6,9 @@ use Rattle.records.specs.Files.{body_of}
 use Rattle.schedule.specs.declared.lists.Stops.{Stops}
 use Rattle.schedule.specs.declared.lists.Routes.{Routes}
 use Rattle.schedule.specs.declared.lists.Departures.{Departures}
-use Rattle.schedule.specs.declared.rows.StopRow.{StopRow}
-use Rattle.schedule.specs.declared.rows.RouteRow.{RouteRow}
-use Rattle.schedule.specs.declared.rows.DepartureRow.{DepartureRow}
+use Rattle.rows.specs.declared.schedule.StopRow.{StopRow}
+use Rattle.rows.specs.declared.schedule.RouteRow.{RouteRow}
+use Rattle.rows.specs.declared.schedule.DepartureRow.{DepartureRow}
 use Rattle.schedule.specs.Stops.{stops_fault}
 use Rattle.schedule.specs.Routes.{routes_fault, lines_of, routes_of}
 use Rattle.schedule.specs.Departures.{departures_fault, departure_of}

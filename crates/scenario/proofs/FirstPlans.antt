@@ -6,33 +6,33 @@ use Rattle.std.proofs.lemmas.List.Elements.{filter_map-append}
 use Rattle.std.proofs.lemmas.List.{map-append}
 use Rattle.std.proofs.lemmas.Bool.{and_parts}
 use Rattle.records.proofs.Sound.{both_true}
-use Rattle.plans.specs.declared.plan.Plan.{Plan}
-use Rattle.plans.specs.Parts.{Parts, parts_of, all_parts}
+use Rattle.rows.specs.declared.plan.Plan.{Plan}
+use Rattle.rows.specs.PlanRows.{PlanRows, plan_rows, all_plan_rows}
 use Rattle.town.specs.Rows.{TownRows}
 use Rattle.town.specs.Fits.{fits}
 use Rattle.scenario.specs.Fitting.{are_fitting, all_fit, first_plan, first_plans, AreChosen}
 
-one : (own : List Parts) → filter_map first_plan (own ∷ []) ≡ option_to_list (first_plan own)
+one : (own : List PlanRows) → filter_map first_plan (own ∷ []) ≡ option_to_list (first_plan own)
 one [] = refl
 one (plan ∷ plans) = refl
 
-parts_more : (before : List Plan) (o : Option Plan) → map parts_of (before ++ option_to_list o) ≡ map parts_of before ++ option_to_list (option_map parts_of o)
-parts_more before None = map-append parts_of before []
-parts_more before (Some plan) = map-append parts_of before (plan ∷ [])
+parts_more : (before : List Plan) (o : Option Plan) → map plan_rows (before ++ option_to_list o) ≡ map plan_rows before ++ option_to_list (option_map plan_rows o)
+parts_more before None = map-append plan_rows before []
+parts_more before (Some plan) = map-append plan_rows before (plan ∷ [])
 
 -- one more person
-pub first_more : (persons : List (List Plan)) (own : List Plan) (o : Option Plan) (before after : List Plan) → option_map parts_of o ≡ first_plan (map parts_of own)
-    → map parts_of before ≡ first_plans (all_parts persons) → after ≡ before ++ option_to_list o → map parts_of after ≡ first_plans (all_parts (persons ++ own ∷ []))
+pub first_more : (persons : List (List Plan)) (own : List Plan) (o : Option Plan) (before after : List Plan) → option_map plan_rows o ≡ first_plan (map plan_rows own)
+    → map plan_rows before ≡ first_plans (all_plan_rows persons) → after ≡ before ++ option_to_list o → map plan_rows after ≡ first_plans (all_plan_rows (persons ++ own ∷ []))
 unfolding first_plans
 first_more persons own o before after first so_far is =
-    ap (λ (l : List Plan). map parts_of l) is ∙ parts_more before o ∙ ap (λ (l : List Parts). l ++ option_to_list (option_map parts_of o)) so_far
-    ∙ ap (λ (p : Option Parts). filter_map first_plan (all_parts persons) ++ option_to_list p) first
-    ∙ ap (λ (l : List Parts). filter_map first_plan (all_parts persons) ++ l) (sym (one (map parts_of own)))
-    ∙ sym (filter_map-append first_plan (all_parts persons) (map parts_of own ∷ []))
-    ∙ ap (λ (l : List (List Parts)). filter_map first_plan l) (sym (map-append (map parts_of) persons (own ∷ [])))
+    ap (λ (l : List Plan). map plan_rows l) is ∙ parts_more before o ∙ ap (λ (l : List PlanRows). l ++ option_to_list (option_map plan_rows o)) so_far
+    ∙ ap (λ (p : Option PlanRows). filter_map first_plan (all_plan_rows persons) ++ option_to_list p) first
+    ∙ ap (λ (l : List PlanRows). filter_map first_plan (all_plan_rows persons) ++ l) (sym (one (map plan_rows own)))
+    ∙ sym (filter_map-append first_plan (all_plan_rows persons) (map plan_rows own ∷ []))
+    ∙ ap (λ (l : List (List PlanRows)). filter_map first_plan l) (sym (map-append (map plan_rows) persons (own ∷ [])))
 
 -- of plans that fit the first ones are one for each person, and fit
-pub first_fit : (T : TownRows) (plans : List (List Parts)) → all_fit T plans ≡ true → AreChosen T plans (first_plans plans)
+pub first_fit : (T : TownRows) (plans : List (List PlanRows)) → all_fit T plans ≡ true → AreChosen T plans (first_plans plans)
 unfolding first_plans are_fitting
 first_fit T [] h = record { each = refl; fit = refl }
 first_fit T ([] ∷ plans) h = let no = and_parts (are_fitting T []) (all_fit T plans) h in absurd (cc (no.0))

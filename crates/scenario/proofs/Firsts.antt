@@ -6,8 +6,8 @@ use Rattle.std.proofs.Math.ListN.{get_or-map}
 use Rattle.std.proofs.lemmas.List.{length-map, drop_all}
 use Rattle.edge_files.specs.declared.reasons.RowFault.{RowFault}
 use Rattle.records.specs.Faults.{or_else}
-use Rattle.plans.specs.declared.plan.Plan.{Plan}
-use Rattle.plans.specs.Parts.{Parts, parts_of, all_parts}
+use Rattle.rows.specs.declared.plan.Plan.{Plan}
+use Rattle.rows.specs.PlanRows.{PlanRows, plan_rows, all_plan_rows}
 use Rattle.scenario.specs.Legs.{Ways, plan_fault, plans_fault, all_plans_fault}
 use Rattle.scenario.proofs.AllFit.{plans_fault-append}
 
@@ -35,56 +35,56 @@ told_behind fault one behind left all same split told none = sym (or_else-none f
 
 -- PLANS
 one_plan : (W : Ways) (rest : List ℕ) (plans : List Plan) (i : ℕ) (plan : Plan) → i < length plans → plan ≡ get_or plans i plan
-    → plans_fault W rest (drop i (map parts_of plans)) ≡ or_else (plan_fault W (get_or rest 0 0) (parts_of plan)) (plans_fault W (drop 1 rest) (drop (i + 1) (map parts_of plans)))
+    → plans_fault W rest (drop i (map plan_rows plans)) ≡ or_else (plan_fault W (get_or rest 0 0) (plan_rows plan)) (plans_fault W (drop 1 rest) (drop (i + 1) (map plan_rows plans)))
 unfolding plans_fault
-one_plan W rest plans i plan h is = ap (λ (left : List Parts). plans_fault W rest left) (taken parts_of plans i plan h is)
+one_plan W rest plans i plan h is = ap (λ (left : List PlanRows). plans_fault W rest left) (taken plan_rows plans i plan h is)
 
 pub plan_here : (W : Ways) (rows rest : List ℕ) (plans : List Plan) (i row : ℕ) (plan : Plan) (fault : Option RowFault)
-    → plans_fault W rest (drop i (map parts_of plans)) ≡ plans_fault W rows (map parts_of plans) → i < length plans → plan ≡ get_or plans i plan
-    → row ≡ get_or rest 0 0 → fault ≡ plan_fault W row (parts_of plan) → is_some fault ≡ true → fault ≡ plans_fault W rows (map parts_of plans)
+    → plans_fault W rest (drop i (map plan_rows plans)) ≡ plans_fault W rows (map plan_rows plans) → i < length plans → plan ≡ get_or plans i plan
+    → row ≡ get_or rest 0 0 → fault ≡ plan_fault W row (plan_rows plan) → is_some fault ≡ true → fault ≡ plans_fault W rows (map plan_rows plans)
 plan_here W rows rest plans i row plan fault left h is first told some =
-    told_here fault _ _ _ _ left (one_plan W rest plans i plan h is) (told ∙ ap (λ (r : ℕ). plan_fault W r (parts_of plan)) first) some
+    told_here fault _ _ _ _ left (one_plan W rest plans i plan h is) (told ∙ ap (λ (r : ℕ). plan_fault W r (plan_rows plan)) first) some
 
 pub plan_behind : (W : Ways) (rows rest after : List ℕ) (plans : List Plan) (i row : ℕ) (plan : Plan) (fault : Option RowFault)
-    → plans_fault W rest (drop i (map parts_of plans)) ≡ plans_fault W rows (map parts_of plans) → i < length plans → plan ≡ get_or plans i plan
-    → row ≡ get_or rest 0 0 → fault ≡ plan_fault W row (parts_of plan) → is_some fault ≡ false → after ≡ drop 1 rest
-    → plans_fault W after (drop (i + 1) (map parts_of plans)) ≡ plans_fault W rows (map parts_of plans)
+    → plans_fault W rest (drop i (map plan_rows plans)) ≡ plans_fault W rows (map plan_rows plans) → i < length plans → plan ≡ get_or plans i plan
+    → row ≡ get_or rest 0 0 → fault ≡ plan_fault W row (plan_rows plan) → is_some fault ≡ false → after ≡ drop 1 rest
+    → plans_fault W after (drop (i + 1) (map plan_rows plans)) ≡ plans_fault W rows (map plan_rows plans)
 plan_behind W rows rest after plans i row plan fault left h is first told none dropped =
-    ap (λ (r : List ℕ). plans_fault W r (drop (i + 1) (map parts_of plans))) dropped
-    ∙ told_behind fault _ _ _ _ left (one_plan W rest plans i plan h is) (told ∙ ap (λ (r : ℕ). plan_fault W r (parts_of plan)) first) none
+    ap (λ (r : List ℕ). plans_fault W r (drop (i + 1) (map plan_rows plans))) dropped
+    ∙ told_behind fault _ _ _ _ left (one_plan W rest plans i plan h is) (told ∙ ap (λ (r : ℕ). plan_fault W r (plan_rows plan)) first) none
 
 pub plan_none : (W : Ways) (rows rest : List ℕ) (plans : List Plan) (i : ℕ)
-    → plans_fault W rest (drop i (map parts_of plans)) ≡ plans_fault W rows (map parts_of plans) → i ≡ length plans → None ≡ plans_fault W rows (map parts_of plans)
+    → plans_fault W rest (drop i (map plan_rows plans)) ≡ plans_fault W rows (map plan_rows plans) → i ≡ length plans → None ≡ plans_fault W rows (map plan_rows plans)
 unfolding plans_fault
 plan_none W rows rest plans i left end =
-    let past : length (map parts_of plans) ≤ i = omega (arith, length-map plans parts_of, end) in
-    ap (λ (l : List Parts). plans_fault W rest l) (sym (drop_all i (map parts_of plans) past)) ∙ left
+    let past : length (map plan_rows plans) ≤ i = omega (arith, length-map plans plan_rows, end) in
+    ap (λ (l : List PlanRows). plans_fault W rest l) (sym (drop_all i (map plan_rows plans) past)) ∙ left
 
 -- PERSONS
 -- the first fault of those that are left is the person's, or else that of the ones behind
 one_person : (W : Ways) (rest : List ℕ) (plans : List (List Plan)) (i : ℕ) (own : List Plan) → i < length plans → own ≡ get_or plans i own
-    → all_plans_fault W rest (drop i (all_parts plans))
-    ≡ or_else (plans_fault W rest (map parts_of own)) (all_plans_fault W (drop (length (map parts_of own)) rest) (drop (i + 1) (all_parts plans)))
+    → all_plans_fault W rest (drop i (all_plan_rows plans))
+    ≡ or_else (plans_fault W rest (map plan_rows own)) (all_plans_fault W (drop (length (map plan_rows own)) rest) (drop (i + 1) (all_plan_rows plans)))
 one_person W rest plans i own h is =
-    ap (λ (left : List (List Parts)). all_plans_fault W rest left) (taken (map parts_of) plans i own h is)
-    ∙ plans_fault-append W rest (map parts_of own) (flat_map (λ x. x) (drop (i + 1) (all_parts plans)))
+    ap (λ (left : List (List PlanRows)). all_plans_fault W rest left) (taken (map plan_rows) plans i own h is)
+    ∙ plans_fault-append W rest (map plan_rows own) (flat_map (λ x. x) (drop (i + 1) (all_plan_rows plans)))
 
 pub fault_here : (W : Ways) (rows rest : List ℕ) (plans : List (List Plan)) (i : ℕ) (own : List Plan) (fault : Option RowFault)
-    → all_plans_fault W rest (drop i (all_parts plans)) ≡ all_plans_fault W rows (all_parts plans) → i < length plans → own ≡ get_or plans i own
-    → fault ≡ plans_fault W rest (map parts_of own) → is_some fault ≡ true → fault ≡ all_plans_fault W rows (all_parts plans)
+    → all_plans_fault W rest (drop i (all_plan_rows plans)) ≡ all_plans_fault W rows (all_plan_rows plans) → i < length plans → own ≡ get_or plans i own
+    → fault ≡ plans_fault W rest (map plan_rows own) → is_some fault ≡ true → fault ≡ all_plans_fault W rows (all_plan_rows plans)
 fault_here W rows rest plans i own fault left h is told some = told_here fault _ _ _ _ left (one_person W rest plans i own h is) told some
 
 pub fault_behind : (W : Ways) (rows rest after : List ℕ) (plans : List (List Plan)) (i count : ℕ) (own : List Plan) (fault : Option RowFault)
-    → all_plans_fault W rest (drop i (all_parts plans)) ≡ all_plans_fault W rows (all_parts plans) → i < length plans → own ≡ get_or plans i own
-    → fault ≡ plans_fault W rest (map parts_of own) → is_some fault ≡ false → count ≡ length own → after ≡ drop count rest
-    → all_plans_fault W after (drop (i + 1) (all_parts plans)) ≡ all_plans_fault W rows (all_parts plans)
+    → all_plans_fault W rest (drop i (all_plan_rows plans)) ≡ all_plans_fault W rows (all_plan_rows plans) → i < length plans → own ≡ get_or plans i own
+    → fault ≡ plans_fault W rest (map plan_rows own) → is_some fault ≡ false → count ≡ length own → after ≡ drop count rest
+    → all_plans_fault W after (drop (i + 1) (all_plan_rows plans)) ≡ all_plans_fault W rows (all_plan_rows plans)
 fault_behind W rows rest after plans i count own fault left h is told none counted dropped =
-    ap (λ (r : List ℕ). all_plans_fault W r (drop (i + 1) (all_parts plans))) (dropped ∙ ap (λ (n : ℕ). drop n rest) (counted ∙ sym (length-map own parts_of)))
+    ap (λ (r : List ℕ). all_plans_fault W r (drop (i + 1) (all_plan_rows plans))) (dropped ∙ ap (λ (n : ℕ). drop n rest) (counted ∙ sym (length-map own plan_rows)))
     ∙ told_behind fault _ _ _ _ left (one_person W rest plans i own h is) told none
 
 pub fault_none : (W : Ways) (rows rest : List ℕ) (plans : List (List Plan)) (i : ℕ)
-    → all_plans_fault W rest (drop i (all_parts plans)) ≡ all_plans_fault W rows (all_parts plans) → i ≡ length plans → None ≡ all_plans_fault W rows (all_parts plans)
+    → all_plans_fault W rest (drop i (all_plan_rows plans)) ≡ all_plans_fault W rows (all_plan_rows plans) → i ≡ length plans → None ≡ all_plans_fault W rows (all_plan_rows plans)
 unfolding plans_fault
 fault_none W rows rest plans i left end =
-    let past : length (all_parts plans) ≤ i = omega (arith, length-map plans (map parts_of), end) in
-    ap (λ (l : List (List Parts)). all_plans_fault W rest l) (sym (drop_all i (all_parts plans) past)) ∙ left
+    let past : length (all_plan_rows plans) ≤ i = omega (arith, length-map plans (map plan_rows), end) in
+    ap (λ (l : List (List PlanRows)). all_plans_fault W rest l) (sym (drop_all i (all_plan_rows plans) past)) ∙ left

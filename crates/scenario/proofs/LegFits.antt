@@ -8,11 +8,11 @@ use Rattle.edge_files.specs.declared.reasons.Reason.{Reason}
 use Rattle.records.specs.Faults.{or_else, fault_at}
 use Rattle.records.proofs.Sound.{both_true}
 use Rattle.records.proofs.Unrefused.{or_none, no_reason}
-use Rattle.plans.specs.declared.plan.Act.{Act}
-use Rattle.plans.specs.declared.plan.Leg.{Leg}
-use Rattle.plans.specs.declared.plan.Leg.TheVariants as leg
-use Rattle.plans.specs.Parts.{Parts}
-use Rattle.plans.specs.Plan.{is_known}
+use Rattle.rows.specs.declared.plan.Act.{Act}
+use Rattle.rows.specs.declared.plan.Leg.{Leg}
+use Rattle.rows.specs.declared.plan.Leg.TheVariants as leg
+use Rattle.rows.specs.PlanRows.{PlanRows}
+use Rattle.rows.specs.Plan.{is_known}
 use Rattle.plans.specs.Refusals.{is_joined}
 use Rattle.plans.specs.Values.{Tables, is_act_named, is_leg_named, is_plan_named}
 use Rattle.town.specs.Rows.{TownRows, ends_of}
@@ -88,7 +88,7 @@ acts_meet T tables acts links kinds named =
     subst (λ (n : ℕ). list_all (is_known n (length T.links)) acts ≡ true) (sym kinds) one
 
 -- a plan whose names are there, and against whose legs nothing speaks, fits
-pub plan_meets : (T : TownRows) (W : Ways) (tables : Tables) (ends : List (ℕ × ℕ)) (row : ℕ) (plan : Parts) → Meets T W tables ends
+pub plan_meets : (T : TownRows) (W : Ways) (tables : Tables) (ends : List (ℕ × ℕ)) (row : ℕ) (plan : PlanRows) → Meets T W tables ends
     → is_plan_named tables ends plan ≡ true → plan_fault W row plan ≡ None → length plan.acts ≡ length plan.legs + 1
     → fits T (plan_in_town W.numbers plan) ≡ true
 unfolding fits is_plan_named plan_fault

@@ -1,9 +1,9 @@
 -- Legs with the town's numbers stay legs.
 use Rattle.std.proofs.Common.{◌≡◌, ◌&&◌, List, [], ◌∷◌, map, refl, ap, ◌∙◌}
 use Rattle.std.specs.List.{list_all}
-use Rattle.plans.specs.declared.plan.Leg.{Leg}
-use Rattle.plans.specs.declared.plan.Leg.TheVariants as leg
-use Rattle.plans.specs.Plan.{is_leg}
+use Rattle.rows.specs.declared.plan.Leg.{Leg}
+use Rattle.rows.specs.declared.plan.Leg.TheVariants as leg
+use Rattle.rows.specs.Plan.{is_leg}
 use Rattle.scenario.specs.Legs.{Numbers, leg_in_town}
 
 still_leg : (N : Numbers) (l : Leg) → is_leg (leg_in_town N l) ≡ is_leg l

@@ -13,14 +13,14 @@ use Rattle.records.specs.Fields.{field}
 use Rattle.records.specs.Files.{body_of}
 use Rattle.records.specs.Faults.{or_else, fault_at, first_below, behind_head, first_fault}
 use Rattle.records.proofs.Faulty.{none_of_none}
-use Rattle.plans.specs.declared.plan.Act.{Act}
-use Rattle.plans.specs.declared.plan.Leg.{Leg}
+use Rattle.rows.specs.declared.plan.Act.{Act}
+use Rattle.rows.specs.declared.plan.Leg.{Leg}
 use Rattle.plans.specs.declared.kinds.ElementKind.{ElementKind}
 use Rattle.plans.specs.declared.kinds.ElementKind.TheVariants as element
-use Rattle.plans.specs.Parts.{Parts}
+use Rattle.rows.specs.PlanRows.{PlanRows}
 use Rattle.plans.specs.Kinds.{kind_of, is_act, is_leg}
 use Rattle.plans.specs.Refusals.{row_reason}
-use Rattle.plans.specs.Values.{Tables, PlanRows, tables_of, kind_in, act_of, leg_of, endless, row_before, row_behind, rows_fault, values_of, plans_fault as file_fault, plan_rows}
+use Rattle.plans.specs.Values.{Tables, PlanFileRows, tables_of, kind_in, act_of, leg_of, endless, row_before, row_behind, rows_fault, values_of, plans_fault as file_fault, file_rows}
 use Rattle.plans.specs.Progress.{Progress, IsReadTo, closed_acts, closed_of, with_kind, put_act, step_first, step_act, step_leg, finish}
 use Rattle.plans.proofs.ActSteps.{act_is, kind_in_act, one_name}
 use Rattle.plans.proofs.AllRows.{Stays, all_with, file_free}
@@ -82,7 +82,7 @@ legs_fault-endless W row (act ∷ acts) (l ∷ legs) last =
 
 -- PLANS THAT ARE CLOSED
 -- rows behind those of the plans do not count
-more_rows : (W : Ways) (rows more : List ℕ) (plans : List Parts) → length plans ≤ length rows → plans_fault W (rows ++ more) plans ≡ plans_fault W rows plans
+more_rows : (W : Ways) (rows more : List ℕ) (plans : List PlanRows) → length plans ≤ length rows → plans_fault W (rows ++ more) plans ≡ plans_fault W rows plans
 unfolding plans_fault
 more_rows W rows more [] few = refl
 more_rows W [] more (plan ∷ plans) few = absurd (omega arith)
@@ -94,7 +94,7 @@ drop_front (y ∷ xs) x zero same = absurd (omega arith)
 drop_front (y ∷ xs) x (suc n) same = drop_front xs x n (omega arith)
 
 -- one more plan, with its row
-plans_fault-push : (W : Ways) (rows : List ℕ) (row : ℕ) (plans : List Parts) (plan : Parts) → length rows ≡ length plans
+plans_fault-push : (W : Ways) (rows : List ℕ) (row : ℕ) (plans : List PlanRows) (plan : PlanRows) → length rows ≡ length plans
     → plans_fault W (rows ++ row ∷ []) (plans ++ plan ∷ []) ≡ or_else (plans_fault W rows plans) (plan_fault W row plan)
 unfolding plans_fault
 plans_fault-push W rows row plans plan each =
@@ -128,7 +128,7 @@ after_act W tables rows n is =
 
 -- THE ROWS READ SO FAR
 -- the plans that are closed
-abbrev closed_plans : Progress → List Parts
+abbrev closed_plans : Progress → List PlanRows
 closed_plans p = flat_map (λ own. own) p.plans ++ p.own
 
 -- the activity that the open plan ends with, or the one in the next row
@@ -168,10 +168,10 @@ closed_checked W tables rows n p c there =
     ∙ c.same
 
 -- a person is closed
-person_closed : (plans : List (List Parts)) (own : List Parts) (plan : Parts) → flat_map (λ own. own) (plans ++ (own ++ plan ∷ []) ∷ []) ≡ (flat_map (λ own. own) plans ++ own) ++ plan ∷ []
+person_closed : (plans : List (List PlanRows)) (own : List PlanRows) (plan : PlanRows) → flat_map (λ own. own) (plans ++ (own ++ plan ∷ []) ∷ []) ≡ (flat_map (λ own. own) plans ++ own) ++ plan ∷ []
 person_closed plans own plan =
-    flat_map-append (λ (own : List Parts). own) plans ((own ++ plan ∷ []) ∷ [])
-    ∙ ap (λ (l : List Parts). flat_map (λ own. own) plans ++ l) (append-nil (own ++ plan ∷ []))
+    flat_map-append (λ (own : List PlanRows). own) plans ((own ++ plan ∷ []) ∷ [])
+    ∙ ap (λ (l : List PlanRows). flat_map (λ own. own) plans ++ l) (append-nil (own ++ plan ∷ []))
     ∙ sym (append_assoc (flat_map (λ own. own) plans) own (plan ∷ []))
 
 -- a plan begins, with an activity
@@ -186,7 +186,7 @@ begun_checked W tables rows n p q act c there is starts closed acts legs last =
     let no_legs : length q.legs ≡ 0 = ap (λ (l : List Leg). length l) legs in
     let no_acts : length q.acts ≡ 0 = ap (λ (l : List Act). length l) acts in
     let begun : waits q.last ≡ 0 = ap waits last in
-    let count : length (closed_plans q) ≡ length (closed_plans p ++ closed_of p ∷ []) = ap (λ (l : List Parts). length l) closed in
+    let count : length (closed_plans q) ≡ length (closed_plans p ++ closed_of p ∷ []) = ap (λ (l : List PlanRows). length l) closed in
     record {
       earlier = c.earlier ++ c.start ∷ [];
       start = n + 1;
@@ -196,7 +196,7 @@ begun_checked W tables rows n p q act c there is starts closed acts legs last =
       place = omega arith;
       same = ap (λ (l : List Leg). or_else (plans_fault W (c.earlier ++ c.start ∷ []) (closed_plans q)) (legs_fault W (n + 1 + 1) (q.acts ++ ahead q.last (next_act tables rows (n + 1)) ∷ []) l)) legs
           ∙ or_else-None (plans_fault W (c.earlier ++ c.start ∷ []) (closed_plans q))
-          ∙ ap (λ (l : List Parts). plans_fault W (c.earlier ++ c.start ∷ []) l) closed
+          ∙ ap (λ (l : List PlanRows). plans_fault W (c.earlier ++ c.start ∷ []) l) closed
           ∙ ap (λ (l : List ℕ). plans_fault W l (closed_plans p ++ closed_of p ∷ [])) (sym c.starts)
           ∙ closed_checked W tables rows n p c there ∙ sym (after_act W tables rows n is);
     }
@@ -240,7 +240,7 @@ leg_checked W tables rows n p q m leg c before is same_leg starts closed acts le
     let more_acts : length q.acts ≡ length p.acts + 1 = ap (λ (l : List Act). length l) acts_are ∙ length-append p.acts (prev ∷ []) in
     let more_legs : length q.legs ≡ length p.legs + 1 = ap (λ (l : List Leg). length l) legs ∙ length-append p.legs (leg ∷ []) in
     let each = c.each in
-    let count : length (closed_plans q) ≡ length (closed_plans p) = ap (λ (l : List Parts). length l) closed in
+    let count : length (closed_plans q) ≡ length (closed_plans p) = ap (λ (l : List PlanRows). length l) closed in
     let list : q.acts ++ ahead q.last next ∷ [] ≡ p.acts ++ prev ∷ next ∷ [] =
     ap (λ (o : Option Act). q.acts ++ ahead o next ∷ []) last ∙ ap (λ (l : List Act). l ++ next ∷ []) acts_are ∙ append_assoc p.acts (prev ∷ []) (next ∷ []) in
     let old = legs_fault W (c.start + 1) (p.acts ++ prev ∷ []) p.legs in
@@ -255,7 +255,7 @@ leg_checked W tables rows n p q m leg c before is same_leg starts closed acts le
       each = omega arith;
       paired = omega arith;
       place = omega arith;
-      same = ap (λ (l : List Parts). or_else (plans_fault W c.earlier l) (legs_fault W (c.start + 1) (q.acts ++ ahead q.last next ∷ []) q.legs)) closed
+      same = ap (λ (l : List PlanRows). or_else (plans_fault W c.earlier l) (legs_fault W (c.start + 1) (q.acts ++ ahead q.last next ∷ []) q.legs)) closed
           ∙ ap (λ (l : List Act). or_else (plans_fault W c.earlier (closed_plans p)) (legs_fault W (c.start + 1) l q.legs)) list
           ∙ ap (λ (l : List Leg). or_else (plans_fault W c.earlier (closed_plans p)) (legs_fault W (c.start + 1) (p.acts ++ prev ∷ next ∷ []) l)) legs
           ∙ ap (λ (f : Option RowFault). or_else (plans_fault W c.earlier (closed_plans p)) f) (legs_fault-push W (c.start + 1) p.acts p.legs prev next leg paired)
@@ -311,8 +311,8 @@ row_by_row W links ends rows some none =
     let w = all_with links ends rows (Checked W (tables_of links rows) rows) (checked_stays W links ends rows) some none in
     let p = w.progress in
     let is = finish_is links ends rows p w.read in
-    ap (λ (file : PlanRows). all_plans_fault W file.starts file.plans) (sym is)
-    ∙ ap (λ (l : List Parts). plans_fault W p.starts l) (person_closed p.plans p.own (closed_of p))
+    ap (λ (file : PlanFileRows). all_plans_fault W file.starts file.plans) (sym is)
+    ∙ ap (λ (l : List PlanRows). plans_fault W p.starts l) (person_closed p.plans p.own (closed_of p))
     ∙ closed_checked W (tables_of links rows) rows (length rows) p w.held (last_there links ends rows p w.read)
 
 -- of plans.csv without a fault of its own
@@ -321,4 +321,4 @@ unfolding persons_fault plans_cross_fault cross_fault
 same_crossing R None S none = cc
 same_crossing R (Some bytes) S none =
     let free = file_free R.link_names (ends_of R.links) bytes (file_none file.Plans (file_fault R.link_names (ends_of R.links) bytes) none) in
-    ap (in_file file.Plans) (row_by_row (ways_in (plan_rows R.link_names bytes) S) R.link_names (ends_of R.links) (body_of bytes) free.some free.none)
+    ap (in_file file.Plans) (row_by_row (ways_in (file_rows R.link_names bytes) S) R.link_names (ends_of R.links) (body_of bytes) free.some free.none)

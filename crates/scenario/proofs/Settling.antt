@@ -4,9 +4,9 @@ use Rattle.std.specs.List.{list_all, AllByRecursion as Each}
 use Rattle.edge_files.specs.declared.files.InFile.{InFile}
 use Rattle.edge_files.specs.declared.files.InFile.TheVariants as file
 use Rattle.edge_files.specs.declared.reasons.RowFault.{RowFault}
-use Rattle.plans.specs.declared.plan.Plan.{Plan}
-use Rattle.plans.specs.Parts.{Parts, all_parts}
-use Rattle.plans.specs.Values.{Tables, PlanRows, are_plans}
+use Rattle.rows.specs.declared.plan.Plan.{Plan}
+use Rattle.rows.specs.PlanRows.{PlanRows, all_plan_rows}
+use Rattle.plans.specs.Values.{Tables, PlanFileRows, are_plans}
 use Rattle.plans.specs.Progress.{IsSound}
 use Rattle.plans.proofs.Shapes.{IsPlan}
 use Rattle.settings.specs.Values.{Values}
@@ -23,12 +23,12 @@ pub file_none : (f : InFile) (fault : Option RowFault) → in_file f fault ≡ N
 file_none f None h = refl
 file_none f (Some fault) h = cc
 
-meets : (v : Values) (R : Roads) (P : PlanRows) (S : Timetable) → AreThere (length S.lines) (ways_in P S) → length R.link_names ≡ length R.links
+meets : (v : Values) (R : Roads) (P : PlanFileRows) (S : Timetable) → AreThere (length S.lines) (ways_in P S) → length R.link_names ≡ length R.links
     → Meets (town_of v R P.persons P.kinds S) (ways_in P S) (record { kinds = P.kinds; lines = P.lines; stops = P.stops; links = R.link_names }) (ends_of R.links)
 unfolding town_of ways_in
 meets v R P S there each = record { there = there; same_stops = refl; same_routes = refl; same_links = sym each; same_kinds = refl; same_ends = refl }
 
-pub plans_fit : (v : Values) (R : Roads) (P : PlanRows) (S : Timetable) → AreThere (length S.lines) (ways_in P S) → length R.link_names ≡ length R.links → IsSound R.link_names (ends_of R.links) P → Each (Each IsPlan) P.plans
+pub plans_fit : (v : Values) (R : Roads) (P : PlanFileRows) (S : Timetable) → AreThere (length S.lines) (ways_in P S) → length R.link_names ≡ length R.links → IsSound R.link_names (ends_of R.links) P → Each (Each IsPlan) P.plans
     → plans_cross_fault P S ≡ None → all_fit (town_of v R P.persons P.kinds S) (map (map (plan_in_town (ways_in P S).numbers)) P.plans) ≡ true
 unfolding plans_cross_fault
 plans_fit v R P S there each sound kept none =

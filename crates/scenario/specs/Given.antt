@@ -5,38 +5,26 @@ use Rattle.events.specs.declared.event.Book.{Book}
 use Rattle.records.specs.Fields.{column}
 use Rattle.records.specs.Files.{body_of}
 use Rattle.records.specs.Faults.{or_else, fault_at}
-use Rattle.network.specs.declared.rows.NodeRow.{NodeRow}
-use Rattle.network.specs.declared.rows.LinkRow.{LinkRow}
+use Rattle.rows.specs.declared.network.NodeRow.{NodeRow}
+use Rattle.rows.specs.declared.network.LinkRow.{LinkRow}
 use Rattle.network.specs.Nodes.{nodes_fault, node_names, node_of}
 use Rattle.network.specs.Links.{links_fault, link_names, link_of}
-use Rattle.plans.specs.Parts.{Parts}
-use Rattle.plans.specs.Values.{PlanRows, tables_of, plans_fault, plan_rows}
-use Rattle.schedule.specs.declared.rows.StopRow.{StopRow}
-use Rattle.schedule.specs.declared.rows.RouteRow.{RouteRow}
-use Rattle.schedule.specs.declared.rows.DepartureRow.{DepartureRow}
+use Rattle.rows.specs.PlanRows.{PlanRows}
+use Rattle.plans.specs.Values.{PlanFileRows, tables_of, plans_fault, file_rows}
+use Rattle.rows.specs.declared.schedule.StopRow.{StopRow}
+use Rattle.rows.specs.declared.schedule.RouteRow.{RouteRow}
+use Rattle.rows.specs.declared.schedule.DepartureRow.{DepartureRow}
 use Rattle.schedule.specs.Stops.{stops_fault, stop_of}
 use Rattle.schedule.specs.Routes.{routes_fault, lines_of, routes_of}
 use Rattle.schedule.specs.Departures.{departures_fault, departure_of}
 use Rattle.settings.specs.Values.{Values}
 use Rattle.settings.specs.Faults.{settings_fault, settings_of}
-use Rattle.town.specs.Greens.{always}
-use Rattle.town.specs.Rows.{Numbers, TownRows, ends_of}
+use Rattle.rows.specs.Greens.{always}
+use Rattle.town.specs.Rows.{TownRows, ends_of}
 use Rattle.scenario.specs.declared.faults.ScenarioFault.{ScenarioFault}
 use Rattle.scenario.specs.Texts.{Texts, bytes_in}
 use Rattle.scenario.specs.Faults.{text_fault, in_file}
 use Rattle.scenario.specs.Legs.{Ways, numbers_in, plan_in_town, rows_cross_fault, all_plans_fault}
-
--- the settings of a town's traffic out of the settings of a run
-abbrev pub numbers_of : Values → Numbers
-numbers_of v = record {
-  seed = v.seed;
-  end = v.end_second;
-  flow_permille = v.flow_permille;
-  storage_permille = v.storage_permille;
-  stuck = record { seconds = v.stuck_seconds; push = v.stuck_push };
-  hole_speed = v.hole_speed;
-  dwell = record { per_stop = v.dwell_open; per_alight = v.dwell_alight; per_board = v.dwell_board };
-}
 
 -- names and rows of nodes and of links
 pub record Roads : Type 0 where
@@ -89,7 +77,7 @@ timetable_in links stops routes departures = record {
 }
 
 -- what the legs of the plans are held against
-unfoldable pub ways_in : PlanRows → Timetable → Ways
+unfoldable pub ways_in : PlanFileRows → Timetable → Ways
 ways_in plans timetable = record {
   numbers = record { lines = numbers_in plans.lines timetable.lines; stops = numbers_in plans.stops timetable.stop_names };
   stops = timetable.stops;
@@ -110,12 +98,13 @@ book_of roads persons kinds timetable = record {
 -- a town, and each person's plans in it
 pub record ScenarioRows : Type 0 where
   pub town : TownRows
-  pub plans : List (List Parts)
+  pub plans : List (List PlanRows)
 
 -- the town, with names of persons and of kinds of activities; no link has a signal
 unfoldable pub town_of : Values → Roads → List (List ℕ) → List (List ℕ) → Timetable → TownRows
 town_of settings roads persons kinds timetable = record {
-  numbers = numbers_of settings;
+  seed = settings.seed;
+  settings = settings.traffic;
   nodes = roads.nodes;
   links = roads.links;
   stops = timetable.stops;
@@ -126,11 +115,11 @@ town_of settings roads persons kinds timetable = record {
 }
 
 -- each person's plans, with the town's numbers of lines and stops
-abbrev pub plans_of : PlanRows → Timetable → List (List Parts)
+abbrev pub plans_of : PlanFileRows → Timetable → List (List PlanRows)
 plans_of plans timetable = map (map (plan_in_town (ways_in plans timetable).numbers)) plans.plans
 
 -- the town with its plans
-unfoldable pub scenario_of : Values → Roads → PlanRows → Timetable → ScenarioRows
+unfoldable pub scenario_of : Values → Roads → PlanFileRows → Timetable → ScenarioRows
 scenario_of settings roads plans timetable = record { town = town_of settings roads plans.persons plans.kinds timetable; plans = plans_of plans timetable }
 
 -- the first fault of nodes.csv and links.csv
@@ -153,15 +142,15 @@ timetable_fault links ends stops routes departures =
 -- the first leg of plans.csv that does not fit the files behind it: the least row, and the least of its reasons
 unfoldable pub cross_fault : Roads → List ℕ → Timetable → Option ScenarioFault
 cross_fault roads plans timetable =
-    in_file file.Plans (rows_cross_fault (ways_in (plan_rows roads.link_names plans) timetable) (tables_of roads.link_names (body_of plans)) (body_of plans))
+    in_file file.Plans (rows_cross_fault (ways_in (file_rows roads.link_names plans) timetable) (tables_of roads.link_names (body_of plans)) (body_of plans))
 
 -- the same of plans that were read, plan by plan
-unfoldable pub plans_cross_fault : PlanRows → Timetable → Option ScenarioFault
+unfoldable pub plans_cross_fault : PlanFileRows → Timetable → Option ScenarioFault
 plans_cross_fault plans timetable = in_file file.Plans (all_plans_fault (ways_in plans timetable) plans.starts plans.plans)
 
 -- what plans.csv gives on roads
-abbrev pub persons_on : Roads → Option (List ℕ) → PlanRows
-persons_on roads plans = plan_rows roads.link_names (bytes_in plans)
+abbrev pub persons_on : Roads → Option (List ℕ) → PlanFileRows
+persons_on roads plans = file_rows roads.link_names (bytes_in plans)
 
 -- the timetable on roads
 abbrev pub timetable_on : Roads → Option (List ℕ) → Option (List ℕ) → Option (List ℕ) → Timetable

@@ -7,14 +7,14 @@ use Rattle.edge_files.specs.declared.reasons.RowFault.{RowFault}
 use Rattle.events.specs.Names.{number_of}
 use Rattle.records.specs.Rows.{Row}
 use Rattle.records.specs.Faults.{or_else, fault_at, least, first_fault}
-use Rattle.plans.specs.declared.plan.Act.{Act}
-use Rattle.plans.specs.declared.plan.Leg.{Leg}
-use Rattle.plans.specs.declared.plan.Leg.TheVariants as leg
-use Rattle.plans.specs.Parts.{Parts}
+use Rattle.rows.specs.declared.plan.Act.{Act}
+use Rattle.rows.specs.declared.plan.Leg.{Leg}
+use Rattle.rows.specs.declared.plan.Leg.TheVariants as leg
+use Rattle.rows.specs.PlanRows.{PlanRows}
 use Rattle.plans.specs.Kinds.{kind_of, is_leg}
 use Rattle.plans.specs.Values.{Tables, act_of, leg_of}
-use Rattle.schedule.specs.declared.rows.StopRow.{StopRow}
-use Rattle.schedule.specs.declared.rows.RouteRow.{RouteRow}
+use Rattle.rows.specs.declared.schedule.StopRow.{StopRow}
+use Rattle.rows.specs.declared.schedule.RouteRow.{RouteRow}
 use Rattle.town.specs.Fits.{has_wrong_ends, has_wrong_stops, first_link}
 
 -- the numbers that the lines and the stops of the plans have in the town, where it has them
@@ -47,7 +47,7 @@ leg_in_town N (leg.Teleport mode seconds) = leg.Teleport mode seconds
 leg_in_town N (leg.Transit line access egress) = leg.Transit (in_town N.lines line) (in_town N.stops access) (in_town N.stops egress)
 
 -- a plan with such legs
-abbrev pub plan_in_town : Numbers → Parts → Parts
+abbrev pub plan_in_town : Numbers → PlanRows → PlanRows
 plan_in_town N plan = record { acts = plan.acts; legs = map (leg_in_town N) plan.legs }
 
 -- a transit leg of whose line, or of one of whose stops, the town has no such name
@@ -108,14 +108,14 @@ legs_fault W row (here ∷ acts) (leg ∷ legs) =
     or_else (fault_at row (leg_reason W here.link (first_link acts) leg)) (legs_fault W (row + 2) acts legs)
 
 -- the first fault of the legs of a plan that begins in a row
-unfoldable pub plan_fault : Ways → ℕ → Parts → Option RowFault
+unfoldable pub plan_fault : Ways → ℕ → PlanRows → Option RowFault
 plan_fault W row plan = legs_fault W (row + 1) plan.acts plan.legs
 
 -- the first fault of the legs of plans, with the rows in which the plans begin
-unfoldable pub plans_fault : Ways → List ℕ → List Parts → Option RowFault
+unfoldable pub plans_fault : Ways → List ℕ → List PlanRows → Option RowFault
 plans_fault W rows [] = None
 plans_fault W rows (plan ∷ plans) = or_else (plan_fault W (get_or rows 0 0) plan) (plans_fault W (drop 1 rows) plans)
 
 -- the same, of all persons one behind the other
-abbrev pub all_plans_fault : Ways → List ℕ → List (List Parts) → Option RowFault
+abbrev pub all_plans_fault : Ways → List ℕ → List (List PlanRows) → Option RowFault
 all_plans_fault W rows plans = plans_fault W rows (flat_map (λ own. own) plans)

@@ -1,7 +1,7 @@
 -- The values of the code as the definitions see them.
 use Rattle.edge_files.specs.declared.files.InFile.TheVariants as file
 use Rattle.network.specs.declared.lists.Network.{Network}
-use Rattle.plans.specs.Parts.{all_parts}
+use Rattle.rows.specs.PlanRows.{all_plan_rows}
 use Rattle.town.specs.Views.{rows_of}
 use Rattle.scenario.specs.declared.files.Files.{Files}
 use Rattle.scenario.specs.declared.scenario.Scenario.{Scenario}
@@ -39,4 +39,4 @@ timetable_view schedule = record {
 
 -- the scenario
 abbrev pub scenario_view : Scenario → ScenarioRows
-scenario_view scenario = record { town = rows_of scenario.town; plans = all_parts scenario.plans }
+scenario_view scenario = record { town = rows_of scenario.town; plans = all_plan_rows scenario.plans }

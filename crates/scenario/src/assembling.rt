@@ -5,10 +5,10 @@
 
 ghost use Rattle.std.specs.Prelude.{◌≡◌, ◌<◌, ◌≤◌, ◌^◌, ℕ, None, length, map, replicate, IfOk, All, List};
 ghost use Rattle.plans.specs.Progress.{IsSound};
-ghost use Rattle.plans.specs.Read.{plan_rows_of};
+ghost use Rattle.plans.specs.Read.{file_rows_of};
 ghost use Rattle.settings.specs.Faults.{settings_fault, settings_of, values_of};
 ghost use Rattle.records.specs.Faults.{fault_at};
-ghost use Rattle.town.specs.Greens.{always};
+ghost use Rattle.rows.specs.Greens.{always};
 ghost use Rattle.town.specs.Rows.{ends_of};
 ghost use Rattle.town.specs.Views.{rows_of};
 ghost use Rattle.scenario.specs.Texts.{text_in, bytes_in};
@@ -35,8 +35,8 @@ use network::Network;
 use plans::PlanFile;
 use settings::{Settings, read_settings};
 use std::alloc::{AllocError, Global};
-use town::{Green, GreenList, SpanList, Town};
-use traffic::{Dwelling, Stuck};
+use town::Town;
+use rows::{Green, GreenList, SpanList};
 
 /// What settings.json, which is let go, says, or its first fault.
 fn settings_in(alloc: Global, long: Option<InFile>, bytes: Bytes) -> Result<Settings, Stop>
@@ -60,7 +60,7 @@ fn numbering_in(
     plans: &PlanFile,
     schedule: &Schedule,
 ) -> Result<Numbering, AllocError>
-    ensures ways { IfOk result (λ n. ways_of n schedule.now ≡ ways_in (plan_rows_of plans.now) (timetable_view schedule.now)) }
+    ensures ways { IfOk result (λ n. ways_of n schedule.now ≡ ways_in (file_rows_of plans.now) (timetable_view schedule.now)) }
     ensures there { IfOk result (λ n. AreThere (length schedule.now.routes.lines) (ways_of n schedule.now)) }
 {
     let lines = numbers_in(alloc, &plans.lines, &schedule.routes.lines)?;
@@ -163,19 +163,7 @@ fn town_of(
     } = schedule;
     Town {
         seed: settings.seed,
-        end: settings.end_second,
-        flow_permille: settings.flow_permille,
-        storage_permille: settings.storage_permille,
-        stuck: Stuck {
-            seconds: settings.stuck_seconds,
-            push: settings.stuck_push,
-        },
-        hole_speed: settings.hole_speed,
-        dwell: Dwelling {
-            per_stop: settings.dwell_open,
-            per_alight: settings.dwell_alight,
-            per_board: settings.dwell_board,
-        },
+        settings: settings.traffic,
         network,
         stops,
         routes,
@@ -217,10 +205,10 @@ fn named_town(
 /// The first leg of the plans that does not fit the files behind plans.csv, where there is one.
 #[tactic(auto, unfolding(crate::specs::Given::plans_cross_fault))]
 fn crossed(numbering: &Numbering, schedule: &Schedule, plans: &PlanFile) -> Option<ScenarioFault>
-    requires ways { ways_of numbering.now schedule.now ≡ ways_in (plan_rows_of plans.now) (timetable_view schedule.now) }
+    requires ways { ways_of numbering.now schedule.now ≡ ways_in (file_rows_of plans.now) (timetable_view schedule.now) }
     requires there { AreThere (length schedule.now.routes.lines) (ways_of numbering.now schedule.now) }
     requires starts { All (λ row. row < 2 ^ 30) plans.now.starts }
-    ensures { result ≡ plans_cross_fault (plan_rows_of plans.now) (timetable_view schedule.now) }
+    ensures { result ≡ plans_cross_fault (file_rows_of plans.now) (timetable_view schedule.now) }
 {
     match all_plans_fault(numbering, schedule, &plans.starts.rows, &plans.plans.rows) {
         Some(fault) => Some(ScenarioFault {
@@ -242,12 +230,12 @@ fn settled(
     schedule: Schedule,
     numbering: Numbering,
 ) -> Result<Scenario, AllocError>
-    requires sound { IsSound network.link_names (ends_of network.links) (plan_rows_of file) }
+    requires sound { IsSound network.link_names (ends_of network.links) (file_rows_of file) }
     requires schedule { IsSchedule (length network.links) (ends_of network.links) schedule }
-    requires ways { ways_of numbering schedule ≡ ways_in (plan_rows_of file) (timetable_view schedule) }
+    requires ways { ways_of numbering schedule ≡ ways_in (file_rows_of file) (timetable_view schedule) }
     requires there { AreThere (length schedule.routes.lines) (ways_of numbering schedule) }
-    requires free { plans_cross_fault (plan_rows_of file) (timetable_view schedule) ≡ None }
-    ensures { IfOk result (λ scenario. scenario_view scenario ≡ scenario_of (values_of settings) (roads_view network) (plan_rows_of file) (timetable_view schedule)) }
+    requires free { plans_cross_fault (file_rows_of file) (timetable_view schedule) ≡ None }
+    ensures { IfOk result (λ scenario. scenario_view scenario ≡ scenario_of (values_of settings) (roads_view network) (file_rows_of file) (timetable_view schedule)) }
 {
     let PlanFile {
         persons,
@@ -283,11 +271,11 @@ fn together(
     file: PlanFile,
     schedule: Schedule,
 ) -> Result<Scenario, Stop>
-    requires sound { IsSound network.link_names (ends_of network.links) (plan_rows_of file) }
+    requires sound { IsSound network.link_names (ends_of network.links) (file_rows_of file) }
     requires starts { All (λ row. row < 2 ^ 30) file.starts }
     requires schedule { IsSchedule (length network.links) (ends_of network.links) schedule }
-    ensures { Tells scenario_view result (plans_cross_fault (plan_rows_of file) (timetable_view schedule))
-        (scenario_of (values_of settings) (roads_view network) (plan_rows_of file) (timetable_view schedule)) }
+    ensures { Tells scenario_view result (plans_cross_fault (file_rows_of file) (timetable_view schedule))
+        (scenario_of (values_of settings) (roads_view network) (file_rows_of file) (timetable_view schedule)) }
 {
     let Ok(numbering) = numbering_in(alloc, &file, &schedule) else {
         drop(file);

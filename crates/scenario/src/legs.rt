@@ -1,7 +1,6 @@
 ghost use Rattle.std.specs.Prelude.{◌≡◌, ℕ, ◌<◌, ◌+◌, ◌*◌, ◌^◌, length, map, drop, get_or, All};
-ghost use Rattle.plans.specs.Parts.{parts_of, all_parts};
-ghost use Rattle.town.specs.Fits.{first_link};
-ghost use Rattle.plans.specs.declared.plan.Leg.TheVariants as leg;
+ghost use Rattle.rows.specs.PlanRows.{plan_rows, all_plan_rows};
+ghost use Rattle.rows.specs.declared.plan.Leg.TheVariants as leg;
 ghost use Rattle.scenario.specs.Legs.{Ways, number_at, leg_reason, legs_fault, plan_fault, plans_fault, all_plans_fault};
 ghost use Rattle.scenario.specs.Ways.{ways_of, AreThere};
 
@@ -9,8 +8,8 @@ use crate::numbers::{Numbering, number_at};
 use crate::timetables::Schedule;
 use edge_files::{Reason, RowFault};
 use events::Route;
-use plans::{Act, Leg, Plan, PlanList};
-use town::{wrong_ends, wrong_stops};
+use rows::{Act, Leg, Plan, PlanList};
+use town::{first_link, wrong_ends, wrong_stops};
 
 /// The reason against a car route between activities on these two links.
 #[tactic(auto, unfolding(crate::specs::Legs::leg_reason))]
@@ -28,7 +27,7 @@ fn drive_reason(here: u32, there: u32, route: &Route) -> Option<Reason>
 
 /// The least reason against a ride between activities on these two links.
 #[tactic(auto, unfolding(crate::specs::Legs::leg_reason))]
-fn ride_reason(
+fn transit_reason(
     numbering: &Numbering,
     schedule: &Schedule,
     here: u32,
@@ -76,17 +75,7 @@ fn leg_reason(
             line,
             access,
             egress,
-        } => { ride_reason(numbering, schedule, here, there, *line, *access, *egress) }
-    }
-}
-
-/// The link of the first activity.
-fn first_link(acts: &[Act]) -> u32
-    ensures { result ≡ first_link acts.now }
-{
-    match acts {
-        [act, ..] => act.link,
-        [] => 0,
+        } => { transit_reason(numbering, schedule, here, there, *line, *access, *egress) }
     }
 }
 
@@ -121,7 +110,7 @@ fn legs_fault(
 fn plan_fault(numbering: &Numbering, schedule: &Schedule, row: u32, plan: &Plan) -> Option<RowFault>
     requires there { AreThere (length schedule.now.routes.lines) (ways_of numbering.now schedule.now) }
     requires early { row < 2 ^ 30 }
-    ensures { result ≡ plan_fault (ways_of numbering.now schedule.now) row (parts_of plan.now) }
+    ensures { result ≡ plan_fault (ways_of numbering.now schedule.now) row (plan_rows plan.now) }
 {
     let (acts, legs) = (&plan.acts.rows, &plan.legs.rows);
     legs_fault(numbering, schedule, row + 1, acts, legs)
@@ -158,7 +147,7 @@ fn plans_fault(
 ) -> Option<RowFault>
     requires there { AreThere (length schedule.now.routes.lines) (ways_of numbering.now schedule.now) }
     requires early { All (λ row. row < 2 ^ 30) rows.now }
-    ensures { result ≡ plans_fault (ways_of numbering.now schedule.now) rows.now (map parts_of plans.now) }
+    ensures { result ≡ plans_fault (ways_of numbering.now schedule.now) rows.now (map plan_rows plans.now) }
 {
     let mut rest = rows;
     for plan in plans {
@@ -180,7 +169,7 @@ fn own_fault(
 ) -> Option<RowFault>
     requires there { AreThere (length schedule.now.routes.lines) (ways_of numbering.now schedule.now) }
     requires early { All (λ row. row < 2 ^ 30) rows.now }
-    ensures { result ≡ plans_fault (ways_of numbering.now schedule.now) rows.now (map parts_of own.now) }
+    ensures { result ≡ plans_fault (ways_of numbering.now schedule.now) rows.now (map plan_rows own.now) }
 {
     plans_fault(numbering, schedule, rows, &own.rows)
 }
@@ -201,7 +190,7 @@ pub fn all_plans_fault(
 ) -> Option<RowFault>
     requires there { AreThere (length schedule.now.routes.lines) (ways_of numbering.now schedule.now) }
     requires early { All (λ row. row < 2 ^ 30) rows.now }
-    ensures { result ≡ all_plans_fault (ways_of numbering.now schedule.now) rows.now (all_parts plans.now) }
+    ensures { result ≡ all_plans_fault (ways_of numbering.now schedule.now) rows.now (all_plan_rows plans.now) }
 {
     let mut rest = rows;
     for own in plans {

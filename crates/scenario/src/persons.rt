@@ -1,7 +1,7 @@
 ghost use Rattle.std.specs.Prelude.{◌≡◌, ◌<◌, ◌^◌, length, IfOk, All};
 ghost use Rattle.plans.specs.Progress.{IsSound};
-ghost use Rattle.plans.specs.Read.{plan_rows_of};
-ghost use Rattle.plans.specs.Values.{plan_rows};
+ghost use Rattle.plans.specs.Read.{file_rows_of};
+ghost use Rattle.plans.specs.Values.{file_rows};
 ghost use Rattle.scenario.specs.Texts.{text_in, bytes_in};
 ghost use Rattle.scenario.specs.Faults.{Tells};
 ghost use Rattle.scenario.specs.Given.{persons_fault};
@@ -23,9 +23,9 @@ pub fn read_persons(
     ends: &[(u32, u32)],
 ) -> Result<PlanFile, Stop>
     requires { length ends.now ≡ length links.now }
-    ensures read { Tells plan_rows_of result (persons_fault links.now ends.now (text_in long InFile.Plans plans))
-        (plan_rows links.now (bytes_in (text_in long InFile.Plans plans))) }
-    ensures sound { IfOk result (λ file. IsSound links.now ends.now (plan_rows_of file)) }
+    ensures read { Tells file_rows_of result (persons_fault links.now ends.now (text_in long InFile.Plans plans))
+        (file_rows links.now (bytes_in (text_in long InFile.Plans plans))) }
+    ensures sound { IfOk result (λ file. IsSound links.now ends.now (file_rows_of file)) }
     ensures starts { IfOk result (λ file. All (λ row. row < 2 ^ 30) file.starts) }
 {
     if is_long(long, InFile::Plans) {

@@ -1,10 +1,10 @@
 ghost use Rattle.std.specs.Prelude.{◌≡◌, map, IfOk};
-ghost use Rattle.plans.specs.Parts.{parts_of, all_parts};
+ghost use Rattle.rows.specs.PlanRows.{plan_rows, all_plan_rows};
 ghost use Rattle.scenario.specs.Legs.{leg_in_town, plan_in_town};
 ghost use Rattle.scenario.specs.Ways.{numbers_of};
 
 use crate::numbers::{Numbering, in_town};
-use plans::{Leg, Legs, Plan, PlanList, PlanLists};
+use rows::{Leg, Legs, Plan, PlanList, PlanLists};
 use std::alloc::{AllocError, Global};
 
 /// A leg with the town's numbers of its line and its stops.
@@ -39,7 +39,7 @@ fn legs_in_town(alloc: Global, numbering: &Numbering, legs: Legs) -> Result<Legs
 
 /// The same for a plan.
 fn plan_in_town(alloc: Global, numbering: &Numbering, plan: Plan) -> Result<Plan, AllocError>
-    ensures { IfOk result (λ p. parts_of p ≡ plan_in_town (numbers_of numbering.now) (parts_of plan)) }
+    ensures { IfOk result (λ p. plan_rows p ≡ plan_in_town (numbers_of numbering.now) (plan_rows plan)) }
 {
     let Plan { acts, legs } = plan;
     let legs = legs_in_town(alloc, numbering, legs)?;
@@ -48,7 +48,7 @@ fn plan_in_town(alloc: Global, numbering: &Numbering, plan: Plan) -> Result<Plan
 
 /// The same for the plans of a person.
 fn own_in_town(alloc: Global, numbering: &Numbering, own: PlanList) -> Result<PlanList, AllocError>
-    ensures { IfOk result (λ r. map parts_of r ≡ map (plan_in_town (numbers_of numbering.now)) (map parts_of own)) }
+    ensures { IfOk result (λ r. map plan_rows r ≡ map (plan_in_town (numbers_of numbering.now)) (map plan_rows own)) }
 {
     let mut rows = Vec::new(alloc);
     for plan in own.rows {
@@ -63,7 +63,7 @@ pub fn plans_in_town(
     numbering: &Numbering,
     plans: PlanLists,
 ) -> Result<PlanLists, AllocError>
-    ensures { IfOk result (λ r. all_parts r ≡ map (map (plan_in_town (numbers_of numbering.now))) (all_parts plans)) }
+    ensures { IfOk result (λ r. all_plan_rows r ≡ map (map (plan_in_town (numbers_of numbering.now))) (all_plan_rows plans)) }
 {
     let mut rows = Vec::new(alloc);
     for own in plans.rows {

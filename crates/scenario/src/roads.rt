@@ -8,7 +8,8 @@ ghost use Rattle.scenario.specs.Views.{roads_view};
 use crate::faults::Stop;
 use crate::telling::{bytes_of, is_long, stop_in, too_long};
 use edge_files::{Bytes, InFile};
-use network::{LinkRow, Network, read_links, read_nodes};
+use network::{Network, read_links, read_nodes};
+use rows::LinkRow;
 use std::alloc::{AllocError, Global};
 
 /// The network of nodes.csv and links.csv, which are let go, or their first fault.

@@ -1,9 +1,9 @@
 ghost use Rattle.std.specs.Prelude.{◌≡◌, length, true};
-ghost use Rattle.plans.specs.Parts.{all_parts};
+ghost use Rattle.rows.specs.PlanRows.{all_plan_rows};
 ghost use Rattle.town.specs.Views.{rows_of};
 ghost use Rattle.scenario.specs.Fitting.{all_fit};
 
-use plans::PlanLists;
+use rows::PlanLists;
 use town::Town;
 
 /// A town, and each person's plans in it: one to five, the first of which is chosen at first.
@@ -15,5 +15,5 @@ pub struct Scenario {
     pub town: Town,
     pub plans: PlanLists,
     pub ghost each: { length plans ≡ length town.book.persons },
-    pub ghost fitting: { all_fit (rows_of town) (all_parts plans) ≡ true },
+    pub ghost fitting: { all_fit (rows_of town) (all_plan_rows plans) ≡ true },
 }

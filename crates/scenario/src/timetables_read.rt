@@ -1,5 +1,6 @@
 ghost use Rattle.std.specs.Prelude.{◌≡◌, ◌≤◌, true, map, length, IfOk};
 ghost use Rattle.std.specs.List.{list_all};
+ghost use Rattle.limits.specs.declared.TheConstants.{MAX_PERSONS, MAX_ROUTES, MAX_STOPS};
 ghost use Rattle.records.specs.Fields.{column};
 ghost use Rattle.records.specs.Files.{body_of};
 ghost use Rattle.schedule.specs.Stops.{stops_fault, is_stop};
@@ -24,7 +25,7 @@ use std::alloc::Global;
 fn stops_in(alloc: Global, long: Option<InFile>, bytes: Bytes, links: &Names) -> Result<Stops, Stop>
     ensures read { Tells stop_lists result (in_file InFile.Stops (text_fault (stops_fault links.now) (text_in long InFile.Stops bytes)))
         (stop_names (bytes_in (text_in long InFile.Stops bytes)), stop_rows links.now (bytes_in (text_in long InFile.Stops bytes))) }
-    ensures few { IfOk result (λ stops. length stops.rows ≤ 16384) }
+    ensures few { IfOk result (λ stops. length stops.rows ≤ MAX_STOPS) }
     ensures sound { IfOk result (λ stops. list_all (is_stop (length links.now)) stops.rows ≡ true) }
 {
     if is_long(long, InFile::Stops) {
@@ -52,7 +53,7 @@ fn routes_in(
           route_names (bytes_in (text_in long InFile.Routes bytes)),
           routes_of links.now stops.now.names stops.now.rows (body_of (bytes_in (text_in long InFile.Routes bytes))),
         ) }
-    ensures few { IfOk result (λ routes. length routes.rows ≤ 4096) }
+    ensures few { IfOk result (λ routes. length routes.rows ≤ MAX_ROUTES) }
     ensures sound { IfOk result (λ routes. list_all (is_route (length routes.lines) (length links.now) ends.now stops.now.rows) routes.rows ≡ true) }
 {
     if is_long(long, InFile::Routes) {
@@ -76,7 +77,7 @@ fn departures_in(
           column 0 (body_of (bytes_in (text_in long InFile.Departures bytes))),
           map (departure_of routes.now) (body_of (bytes_in (text_in long InFile.Departures bytes))),
         ) }
-    ensures few { IfOk result (λ departures. length departures.rows ≤ 65536) }
+    ensures few { IfOk result (λ departures. length departures.rows ≤ MAX_PERSONS) }
     ensures sound { IfOk result (λ departures. list_all (is_departure (length routes.now)) departures.rows ≡ true) }
 {
     if is_long(long, InFile::Departures) {

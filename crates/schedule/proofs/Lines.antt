@@ -10,9 +10,9 @@ use Rattle.records.specs.Rows.{Row}
 use Rattle.records.specs.Fields.{field, column}
 use Rattle.records.specs.Faults.{unless}
 use Rattle.records.proofs.Columns.{map_more}
-use Rattle.schedule.specs.declared.rows.StopRow.{StopRow}
-use Rattle.schedule.specs.declared.rows.RouteLists.{RouteLists}
-use Rattle.schedule.specs.declared.rows.RouteRow.{RouteRow}
+use Rattle.rows.specs.declared.schedule.StopRow.{StopRow}
+use Rattle.schedule.specs.declared.route_lists.RouteLists.{RouteLists}
+use Rattle.rows.specs.declared.schedule.RouteRow.{RouteRow}
 use Rattle.schedule.specs.Routes.{lines_of, route_of, lists_of}
 
 -- the lines so far, one more row read

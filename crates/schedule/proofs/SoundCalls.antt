@@ -3,16 +3,18 @@ use Rattle.std.proofs.Common.{◌≡◌, ℕ, ◌<◌, ◌≤◌, Bool, true, fa
 use Rattle.std.specs.Prelude.{is_some, nat_lt, nat_le, nat_eq, unwrap_or}
 use Rattle.std.specs.List.{list_all}
 use Rattle.std.proofs.lemmas.Bool.Decides.{nat_tests}
+use Rattle.limits.specs.declared.TheConstants.{LAST_SECOND, MAX_CALLS, MAX_ROUTES, MAX_ROUTE_LINKS}
 use Rattle.events.specs.Names.{number_of}
 use Rattle.events.specs.declared.lists.StopCall.{StopCall}
 use Rattle.records.specs.Lists.{parts_of, numbers_of}
 use Rattle.records.specs.Numbers.{number_in, are_digits, value_of}
 use Rattle.records.proofs.Numbering.{numbered_within}
 use Rattle.records.proofs.Sound.{numbers_known}
-use Rattle.schedule.specs.declared.rows.StopRow.{StopRow}
+use Rattle.rows.specs.declared.schedule.StopRow.{StopRow}
 use Rattle.schedule.specs.declared.calls.CallText.{CallText}
 use Rattle.schedule.specs.Routes.{is_way, is_too_much, is_unserved, are_drivable}
-use Rattle.schedule.specs.Calls.{part, text_of, call_text, link_at, call_of, is_sound_call}
+use Rattle.rows.specs.Stops.{stop_link}
+use Rattle.schedule.specs.Calls.{part, text_of, call_text, call_of, is_sound_call}
 
 -- a number of a range is at most its end
 in_range : (b : Bool) (n value high : ℕ) → cond b (Some value) None ≡ Some n → (b ≡ true → value ≤ high) → n ≤ high
@@ -26,21 +28,21 @@ number_most low high n bytes h = in_range _ n _ high h (λ test. last_le (are_di
     last_le : (a b : Bool) (v high : ℕ) → (a && b && nat_le v high) ≡ true → v ≤ high
     last_le a b v high test = grind (arith, nat_tests)
 
-three : (n l k m : ℕ) → n < l → m ≤ 172800 → (nat_lt n l && nat_eq k k && nat_le m 172800) ≡ true
+three : (n l k m : ℕ) → n < l → m ≤ LAST_SECOND → (nat_lt n l && nat_eq k k && nat_le m LAST_SECOND) ≡ true
 three n l k m p q = grind (arith, nat_tests)
 
 one_sound : (names : List (List ℕ)) (rows : List StopRow) (parts : List (List ℕ)) → length names ≡ length rows → is_some (text_of names parts).stop ≡ true → is_some (text_of names parts).offset ≡ true
     → is_sound_call rows (call_of rows (text_of names parts)) ≡ true
 unfolding text_of call_of is_sound_call
-one_sound names rows parts each stop offset = by (number_of (part parts 0) names) refl (number_in 0 172800 (part parts 1)) refl stop offset
+one_sound names rows parts each stop offset = by (number_of (part parts 0) names) refl (number_in 0 LAST_SECOND (part parts 1)) refl stop offset
   where
-    by : (o : Option ℕ) → number_of (part parts 0) names ≡ o → (p : Option ℕ) → number_in 0 172800 (part parts 1) ≡ p → is_some o ≡ true → is_some p ≡ true
-        → (nat_lt (unwrap_or o 0) (length rows) && nat_eq (link_at rows (unwrap_or o 0)) (link_at rows (unwrap_or o 0)) && nat_le (unwrap_or p 0) 172800) ≡ true
+    by : (o : Option ℕ) → number_of (part parts 0) names ≡ o → (p : Option ℕ) → number_in 0 LAST_SECOND (part parts 1) ≡ p → is_some o ≡ true → is_some p ≡ true
+        → (nat_lt (unwrap_or o 0) (length rows) && nat_eq (stop_link rows (unwrap_or o 0)) (stop_link rows (unwrap_or o 0)) && nat_le (unwrap_or p 0) LAST_SECOND) ≡ true
     by None held p at stop offset = cc
     by (Some n) held None at stop offset = cc
     by (Some n) held (Some m) at stop offset =
         let within = numbered_within names (part parts 0) n held in
-        three n (length rows) (link_at rows n) m (omega (arith, each, within)) (number_most 0 172800 m (part parts 1) at)
+        three n (length rows) (stop_link rows n) m (omega (arith, each, within)) (number_most 0 LAST_SECOND m (part parts 1) at)
 
 both_parts : (a b : Bool) → (a && b) ≡ true → (a ≡ true) × (b ≡ true)
 both_parts a b h = (grind arith, grind arith)
@@ -57,7 +59,7 @@ sound_calls names rows (item ∷ items) each stops offsets =
     let offset = both_parts (is_some (call_text names item).offset) _ offsets in
     and_true _ _ (one_sound names rows (parts_of 58 item) each stop.0 offset.0) (sound_calls names rows items each stop.1 offset.1)
 
-few_of : (a : Bool) (n m : ℕ) → (a || nat_lt 1000 n || nat_lt 200 m) ≡ false → (nat_le n 1000 ≡ true) × (nat_le m 200 ≡ true)
+few_of : (a : Bool) (n m : ℕ) → (a || nat_lt MAX_ROUTE_LINKS n || nat_lt MAX_CALLS m) ≡ false → (nat_le n MAX_ROUTE_LINKS ≡ true) × (nat_le m MAX_CALLS ≡ true)
 few_of a n m h = (grind (arith, nat_tests), grind (arith, nat_tests))
 
 six : (a b c d e f : Bool) → a ≡ true → b ≡ true → c ≡ true → d ≡ true → e ≡ false → f ≡ true → (a && b && c && d && not e && f) ≡ true
@@ -69,7 +71,7 @@ pub drivable : (links : List (List ℕ)) (ends : List (ℕ × ℕ)) (stops : Lis
     → is_way ends numbers ≡ true → is_too_much names numbers calls ≡ false → is_unserved calls numbers ≡ false → are_drivable (length links) ends rows numbers calls ≡ true
 unfolding are_drivable
 drivable links ends stops rows names items call_items numbers texts calls each found read made offsets known way few served =
-    let few_enough = few_of (nat_le 4096 (length names)) (length numbers) (length calls) few in
+    let few_enough = few_of (nat_le MAX_ROUTES (length names)) (length numbers) (length calls) few in
     let at_texts = ap (λ (l : List CallText). map (call_of rows) l) read in
     six _ _ _ _ _ _ (numbers_known items links numbers found) way few_enough.0
     (ap (λ (l : List StopCall). list_all (is_sound_call rows) l) (made ∙ at_texts)

@@ -1,10 +1,12 @@
 -- The stop calls of a route: `STOP:OFFSET` or `STOP:OFFSET:wait`.
 use Rattle.std.specs.Prelude.{ℕ, Bool, true, false, ◌&&◌, ◌||◌, nat_le, nat_lt, nat_eq, bytes_eq, codes, unwrap_or, List, [], ◌∷◌, length, drop, get_or, position, Option, None, Some}
+use Rattle.limits.specs.declared.TheConstants.{LAST_SECOND}
 use Rattle.events.specs.Names.{is_name, number_of}
 use Rattle.events.specs.declared.lists.StopCall.{StopCall}
 use Rattle.records.specs.Lists.{parts_of}
 use Rattle.records.specs.Numbers.{number_in}
-use Rattle.schedule.specs.declared.rows.StopRow.{StopRow}
+use Rattle.rows.specs.declared.schedule.StopRow.{StopRow}
+use Rattle.rows.specs.Stops.{stop_link}
 use Rattle.schedule.specs.declared.calls.CallText.{CallText}
 
 -- the part at a place between colons, or no bytes where there are not so many
@@ -20,7 +22,7 @@ unfoldable pub text_of : List (List ℕ) → List (List ℕ) → CallText
 text_of stops parts = record {
   is_call = is_call parts;
   stop = number_of (part parts 0) stops;
-  offset = number_in 0 172800 (part parts 1);
+  offset = number_in 0 LAST_SECOND (part parts 1);
   wait = nat_eq (length parts) 3;
 }
 
@@ -28,15 +30,11 @@ text_of stops parts = record {
 abbrev pub call_text : List (List ℕ) → List ℕ → CallText
 call_text stops item = text_of stops (parts_of 58 item)
 
--- the link of a stop
-abbrev pub link_at : List StopRow → ℕ → ℕ
-link_at rows stop = (get_or rows stop (record { link = 0 })).link
-
 -- the stop call of a text, on the link of its stop
 unfoldable pub call_of : List StopRow → CallText → StopCall
 call_of rows text = record {
   stop = unwrap_or text.stop 0;
-  link = link_at rows (unwrap_or text.stop 0);
+  link = stop_link rows (unwrap_or text.stop 0);
   offset = unwrap_or text.offset 0;
   wait = text.wait;
 }
@@ -52,4 +50,4 @@ are_served (call ∷ calls) links = served_from (are_served calls) links (positi
 
 -- the call is at one of the stops, on its link, at an offset of at most 172,800 s
 unfoldable pub is_sound_call : List StopRow → StopCall → Bool
-is_sound_call rows call = nat_lt call.stop (length rows) && nat_eq call.link (link_at rows call.stop) && nat_le call.offset 172800
+is_sound_call rows call = nat_lt call.stop (length rows) && nat_eq call.link (stop_link rows call.stop) && nat_le call.offset LAST_SECOND

@@ -1,5 +1,6 @@
 -- The rows of departures.csv: `departure,route,second,seats`.
 use Rattle.std.specs.Prelude.{ℕ, Bool, not, ◌&&◌, ◌||◌, nat_le, nat_lt, nat_eq, is_none, is_some, codes, unwrap_or, List, [], ◌∷◌, length, Option}
+use Rattle.limits.specs.declared.TheConstants.{LAST_SECOND, MAX_DEPARTURES, MAX_SEATS}
 use Rattle.edge_files.specs.declared.reasons.Reason.{Reason}
 use Rattle.edge_files.specs.declared.reasons.Reason.TheVariants as reason
 use Rattle.edge_files.specs.declared.reasons.RowFault.{RowFault}
@@ -10,18 +11,18 @@ use Rattle.records.specs.Numbers.{number_in}
 use Rattle.records.specs.Faults.{least}
 use Rattle.records.specs.Files.{optional_head_reason}
 use Rattle.records.specs.Reading.{file_fault}
-use Rattle.schedule.specs.declared.rows.DepartureRow.{DepartureRow}
+use Rattle.rows.specs.declared.schedule.DepartureRow.{DepartureRow}
 
 abbrev pub departure_header : List (List ℕ)
 departure_header = codes "departure" ∷ codes "route" ∷ codes "second" ∷ codes "seats" ∷ []
 
 -- seconds, 0 to 172,800
 abbrev pub second_in : Row → Option ℕ
-second_in row = number_in 0 172800 (field row 2)
+second_in row = number_in 0 LAST_SECOND (field row 2)
 
 -- seats, 1 to 1,000
 abbrev pub seats_in : Row → Option ℕ
-seats_in row = number_in 1 1000 (field row 3)
+seats_in row = number_in 1 MAX_SEATS (field row 3)
 
 -- why a row of departures.csv is refused, by the names of the departures in the rows before it
 unfoldable pub departure_reason : List (List ℕ) → List (List ℕ) → Row → Option Reason
@@ -31,7 +32,7 @@ departure_reason routes names row = least (
     ∷ (is_none (second_in row) || is_none (seats_in row), reason.BadNumber)
     ∷ (is_some (number_of (field row 0) names), reason.Twice)
     ∷ (is_none (number_of (field row 1) routes), reason.Unknown)
-    ∷ (nat_le 65536 (length names), reason.TooMany)
+    ∷ (nat_le MAX_DEPARTURES (length names), reason.TooMany)
     ∷ [])
 
 -- the departure of a row
@@ -44,4 +45,4 @@ departures_fault routes bytes = file_fault (optional_head_reason departure_heade
 
 -- the departure is one of a route of so many, at a second up to 172,800 and with 1 to 1,000 seats
 unfoldable pub is_departure : ℕ → DepartureRow → Bool
-is_departure routes departure = nat_lt departure.route routes && nat_le departure.second 172800 && nat_le 1 departure.seats && nat_le departure.seats 1000
+is_departure routes departure = nat_lt departure.route routes && nat_le departure.second LAST_SECOND && nat_le 1 departure.seats && nat_le departure.seats MAX_SEATS

@@ -1,6 +1,7 @@
 -- The rows of routes.csv: `line,route,links,stops`.
 use Rattle.std.specs.Prelude.{ℕ, Bool, true, false, not, ◌&&◌, ◌||◌, nat_le, nat_lt, nat_eq, is_none, is_some, codes, unwrap_or, List, [], ◌∷◌, length, map, get_or, Option, Some, if◌then◌else◌}
 use Rattle.std.specs.List.{list_all}
+use Rattle.limits.specs.declared.TheConstants.{MAX_CALLS, MAX_ROUTES, MAX_ROUTE_LINKS}
 use Rattle.edge_files.specs.declared.reasons.Reason.{Reason}
 use Rattle.edge_files.specs.declared.reasons.Reason.TheVariants as reason
 use Rattle.edge_files.specs.declared.reasons.RowFault.{RowFault}
@@ -12,10 +13,10 @@ use Rattle.records.specs.Lists.{items_in, are_names, numbers_of}
 use Rattle.records.specs.Faults.{least}
 use Rattle.records.specs.Files.{optional_head_reason, body_of}
 use Rattle.records.specs.Reading.{file_fault}
-use Rattle.schedule.specs.declared.rows.StopRow.{StopRow}
-use Rattle.schedule.specs.declared.rows.RouteRow.{RouteRow}
+use Rattle.rows.specs.declared.schedule.StopRow.{StopRow}
+use Rattle.rows.specs.declared.schedule.RouteRow.{RouteRow}
 use Rattle.schedule.specs.declared.calls.CallText.{CallText}
-use Rattle.schedule.specs.declared.rows.RouteLists.{RouteLists}
+use Rattle.schedule.specs.declared.route_lists.RouteLists.{RouteLists}
 use Rattle.schedule.specs.Calls.{call_text, call_of, are_served, is_sound_call}
 
 abbrev pub route_header : List (List ℕ)
@@ -65,7 +66,7 @@ lacks_stop texts = not (list_all (λ t. is_some t.stop) texts)
 
 -- with this row there are more than 4,096 routes, or it has more than 1,000 links or 200 calls
 abbrev pub is_too_much : List (List ℕ) → List ℕ → List StopCall → Bool
-is_too_much names numbers calls = nat_le 4096 (length names) || nat_lt 1000 (length numbers) || nat_lt 200 (length calls)
+is_too_much names numbers calls = nat_le MAX_ROUTES (length names) || nat_lt MAX_ROUTE_LINKS (length numbers) || nat_lt MAX_CALLS (length calls)
 
 -- there is no stop call, or not all of them can be served in order
 abbrev pub is_unserved : List StopCall → List ℕ → Bool
@@ -118,8 +119,8 @@ routes_fault links ends stops rows bytes =
 -- the links and the stop calls of a route are such as a transit vehicle can drive: 1 to 1,000 joined links that exist, and 1 to 200 calls that can be served in order
 unfoldable pub are_drivable : ℕ → List (ℕ × ℕ) → List StopRow → List ℕ → List StopCall → Bool
 are_drivable links ends rows numbers calls =
-    list_all (λ link. nat_lt link links) numbers && is_way ends numbers && nat_le (length numbers) 1000
-    && list_all (is_sound_call rows) calls && not (is_unserved calls numbers) && nat_le (length calls) 200
+    list_all (λ link. nat_lt link links) numbers && is_way ends numbers && nat_le (length numbers) MAX_ROUTE_LINKS
+    && list_all (is_sound_call rows) calls && not (is_unserved calls numbers) && nat_le (length calls) MAX_CALLS
 
 -- the route has a line of so many, and is drivable
 abbrev pub is_route : ℕ → ℕ → List (ℕ × ℕ) → List StopRow → RouteRow → Bool

@@ -1,5 +1,6 @@
 -- The rows of stops.csv: `stop,link`.
 use Rattle.std.specs.Prelude.{ℕ, Bool, not, ◌&&◌, nat_le, nat_lt, nat_eq, is_none, is_some, codes, unwrap_or, List, [], ◌∷◌, length, Option}
+use Rattle.limits.specs.declared.TheConstants.{MAX_STOPS}
 use Rattle.edge_files.specs.declared.reasons.Reason.{Reason}
 use Rattle.edge_files.specs.declared.reasons.Reason.TheVariants as reason
 use Rattle.edge_files.specs.declared.reasons.RowFault.{RowFault}
@@ -9,7 +10,7 @@ use Rattle.records.specs.Fields.{field, holds_name}
 use Rattle.records.specs.Faults.{least}
 use Rattle.records.specs.Files.{optional_head_reason}
 use Rattle.records.specs.Reading.{file_fault}
-use Rattle.schedule.specs.declared.rows.StopRow.{StopRow}
+use Rattle.rows.specs.declared.schedule.StopRow.{StopRow}
 
 abbrev pub stop_header : List (List ℕ)
 stop_header = codes "stop" ∷ codes "link" ∷ []
@@ -21,7 +22,7 @@ stop_reason links names row = least (
     ∷ (not (holds_name row 0 && holds_name row 1), reason.BadName)
     ∷ (is_some (number_of (field row 0) names), reason.Twice)
     ∷ (is_none (number_of (field row 1) links), reason.Unknown)
-    ∷ (nat_le 16384 (length names), reason.TooMany)
+    ∷ (nat_le MAX_STOPS (length names), reason.TooMany)
     ∷ [])
 
 -- the stop of a row

@@ -1,8 +1,8 @@
 -- What the files give, as lists.
 use Rattle.std.specs.Prelude.{ℕ, List}
-use Rattle.schedule.specs.declared.rows.StopRow.{StopRow}
-use Rattle.schedule.specs.declared.rows.RouteRow.{RouteRow}
-use Rattle.schedule.specs.declared.rows.DepartureRow.{DepartureRow}
+use Rattle.rows.specs.declared.schedule.StopRow.{StopRow}
+use Rattle.rows.specs.declared.schedule.RouteRow.{RouteRow}
+use Rattle.rows.specs.declared.schedule.DepartureRow.{DepartureRow}
 use Rattle.schedule.specs.declared.lists.Stops.{Stops}
 use Rattle.schedule.specs.declared.lists.Routes.{Routes}
 use Rattle.schedule.specs.declared.lists.Departures.{Departures}

@@ -1,12 +1,12 @@
 ghost use Rattle.std.specs.Prelude.{◌≡◌, ◌≤◌, ◌<◌, nat_eq, map, length, position, IfOk, IfSome};
-ghost use Rattle.schedule.specs.Calls.{part, is_call, text_of, call_text, link_at, call_of, are_served};
+ghost use Rattle.rows.specs.Stops.{stop_link};
+ghost use Rattle.schedule.specs.Calls.{part, is_call, text_of, call_text, call_of, are_served};
 
-use crate::rows::StopRow;
 use events::{Calls, Names, StopCall, is_name};
+use limits::LAST_SECOND;
 use records::{is_text, number_in, parts_of};
+use rows::StopRow;
 use std::alloc::{AllocError, Global};
-
-const MAX_OFFSET: u32 = 172_800;
 
 /// What the text of a stop call says: whether it has the form of one, the number of its stop, its
 /// offset in seconds, and whether the vehicle waits until then.
@@ -47,7 +47,7 @@ fn text_of(stops: &Names, parts: &[&[u8]]) -> CallText
     CallText {
         is_call: is_call(parts),
         stop: stops.find(part(parts, 0)),
-        offset: number_in(part(parts, 1), 0, MAX_OFFSET),
+        offset: number_in(part(parts, 1), 0, LAST_SECOND),
         wait: parts.len() == 3,
     }
 }
@@ -77,8 +77,8 @@ pub fn call_texts(
     Ok(texts)
 }
 
-fn link_at(rows: &[StopRow], stop: u32) -> u32
-    ensures { result ≡ link_at rows.now stop }
+fn stop_link(rows: &[StopRow], stop: u32) -> u32
+    ensures { result ≡ stop_link rows.now stop }
 {
     let place = stop as usize;
     if place < rows.len() {
@@ -94,7 +94,7 @@ fn call_of(rows: &[StopRow], text: &CallText) -> StopCall
     let stop = text.stop.unwrap_or(0);
     StopCall {
         stop,
-        link: link_at(rows, stop),
+        link: stop_link(rows, stop),
         offset: text.offset.unwrap_or(0),
         wait: text.wait,
     }

@@ -9,20 +9,14 @@ ghost use Rattle.records.specs.Reading.{body_fault};
 ghost use Rattle.schedule.specs.Views.{departure_lists};
 ghost use Rattle.schedule.specs.Departures.{departure_reason, departure_of, departures_fault, is_departure};
 
-use crate::lists::{DepartureList, Departures};
-use crate::rows::DepartureRow;
+use crate::lists::Departures;
 use csv::ByteRecord;
 use edge_files::{Reason, RowStop};
 use events::Names;
+use limits::{LAST_SECOND, MAX_DEPARTURES, MAX_SEATS};
 use records::{add_row, body, fault, field, holds_name, number_in, read_optional_file};
+use rows::{DepartureList, DepartureRow};
 use std::alloc::Global;
-
-const MAX_DEPARTURES: u32 = 65_536;
-
-const MAX_SECOND: u32 = 172_800;
-
-const MAX_SEATS: u32 = 1_000;
-
 /// The departure of a row, or the first reason against it.
 #[tactic(auto, using(records::proofs::Numbering::numbered_within, std::proofs::lemmas::Bool::Decides::nat_tests), unfolding(crate::specs::Departures::departure_reason, crate::specs::Departures::departure_of, crate::specs::Departures::is_departure))]
 fn departure_in(routes: &Names, names: &Names, row: &ByteRecord) -> Result<DepartureRow, Reason>
@@ -31,7 +25,7 @@ fn departure_in(routes: &Names, names: &Names, row: &ByteRecord) -> Result<Depar
     ensures fields { OnOk result (length (fields_of row.now) ≡ 4) }
     ensures name { OnOk result (holds_name (fields_of row.now) 0 ≡ true) }
     ensures fresh { OnOk result (number_of (field (fields_of row.now) 0) names.now ≡ None) }
-    ensures room { OnOk result (length names.now < 65536) }
+    ensures room { OnOk result (length names.now < MAX_DEPARTURES) }
     ensures sound { IfOk result (λ departure. is_departure (length routes.now) departure ≡ true) }
 {
     if row.len() != 4 {
@@ -40,7 +34,7 @@ fn departure_in(routes: &Names, names: &Names, row: &ByteRecord) -> Result<Depar
     if !holds_name(row, 0) || !holds_name(row, 1) {
         return Err(Reason::BadName);
     }
-    let Some(second) = number_in(field(row, 2), 0, MAX_SECOND) else {
+    let Some(second) = number_in(field(row, 2), 0, LAST_SECOND) else {
         return Err(Reason::BadNumber);
     };
     let Some(seats) = number_in(field(row, 3), 1, MAX_SEATS) else {
@@ -72,7 +66,7 @@ fn read_body(alloc: Global, rows: &[ByteRecord], routes: &Names) -> Result<Depar
           map (departure_of routes.now)
               (map fields_of rows.now),
         ) }
-    ensures few { IfOk result (λ d. length d.rows ≤ 65536) }
+    ensures few { IfOk result (λ d. length d.rows ≤ MAX_DEPARTURES) }
     ensures sound { IfOk result (λ d. list_all (is_departure (length routes.now)) d.rows ≡ true) }
 {
     let mut names = Names::new(alloc);
@@ -99,7 +93,7 @@ fn read_body(alloc: Global, rows: &[ByteRecord], routes: &Names) -> Result<Depar
 pub fn read_departures(alloc: Global, bytes: &[u8], routes: &Names) -> Result<Departures, RowStop>
     ensures read { Answers departure_lists result (departures_fault routes.now bytes.now)
         (column 0 (body_of bytes.now), map (departure_of routes.now) (body_of bytes.now)) }
-    ensures few { IfOk result (λ d. length d.rows ≤ 65536) }
+    ensures few { IfOk result (λ d. length d.rows ≤ MAX_DEPARTURES) }
     ensures sound { IfOk result (λ d. list_all (is_departure (length routes.now)) d.rows ≡ true) }
 {
     let header = ["departure", "route", "second", "seats"];

@@ -4,13 +4,13 @@
 mod calls;
 mod departures;
 mod lists;
+mod route_lists;
 mod routes;
-mod rows;
 mod stops;
 mod ways;
 
 pub use departures::read_departures;
-pub use lists::{DepartureList, Departures, RouteList, Routes, StopList, Stops};
+pub use lists::{Departures, Routes, Stops};
 pub use routes::read_routes;
-pub use rows::{DepartureRow, RouteRow, StopRow};
+pub use rows::{DepartureList, DepartureRow, RouteList, RouteRow, StopList, StopRow};
 pub use stops::read_stops;

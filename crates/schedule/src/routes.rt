@@ -10,23 +10,19 @@ ghost use Rattle.schedule.specs.Views.{route_lists};
 ghost use Rattle.schedule.specs.Routes.{has_bad_name, is_too_much, is_unserved, are_drivable, is_route, route_reason, route_of, lists_of, lines_of, routes_of, routes_fault};
 
 use crate::calls::{CallText, are_served, call_texts, calls_of};
-use crate::lists::{RouteList, Routes, Stops};
-use crate::rows::{RouteLists, RouteRow};
+use crate::lists::{Routes, Stops};
+use crate::route_lists::RouteLists;
 use crate::ways::is_way;
 use csv::ByteRecord;
 use edge_files::{Reason, RowStop};
 use events::{Calls, Names, Route, StopCall};
+use limits::{MAX_CALLS, MAX_ROUTE_LINKS, MAX_ROUTES};
 use records::{
     add_row, are_names, body, fault, field, holds_name, items_in, number, numbers_of,
     read_optional_file,
 };
+use rows::{RouteList, RouteRow};
 use std::alloc::{AllocError, Global};
-
-const MAX_ROUTES: u32 = 4_096;
-
-const MAX_LINKS: usize = 1_000;
-
-const MAX_CALLS: usize = 200;
 
 fn are_calls(texts: &[CallText]) -> bool
     ensures { result ≡ list_all (λ t. t.is_call) texts.now }
@@ -56,7 +52,7 @@ fn has_bad_name(row: &ByteRecord, items: &[&[u8]], texts: &[CallText]) -> bool
 fn is_too_much(names: &Names, links: &[u32], calls: &[StopCall]) -> bool
     ensures { result ≡ is_too_much names.now links.now calls.now }
 {
-    names.len() >= MAX_ROUTES || links.len() > MAX_LINKS || calls.len() > MAX_CALLS
+    names.len() >= MAX_ROUTES || links.len() > MAX_ROUTE_LINKS || calls.len() > MAX_CALLS
 }
 
 fn is_unserved(calls: &[StopCall], links: &[u32]) -> bool
@@ -81,7 +77,7 @@ fn route_in(
     ensures line { IfOk result (λ found. OnOk found (holds_name (fields_of row.now) 0 ≡ true)) }
     ensures name { IfOk result (λ found. OnOk found (holds_name (fields_of row.now) 1 ≡ true)) }
     ensures fresh { IfOk result (λ found. OnOk found (number_of (field (fields_of row.now) 1) names.now ≡ None)) }
-    ensures room { IfOk result (λ found. OnOk found (length names.now < 4096)) }
+    ensures room { IfOk result (λ found. OnOk found (length names.now < MAX_ROUTES)) }
     ensures sound { IfOk result (λ found. IfOk found (λ lists. are_drivable (length links.now) ends.now stops.now.rows lists.links lists.calls ≡ true)) }
 {
     if row.len() != 4 {
@@ -134,7 +130,7 @@ fn read_body(
         (λ names _. route_reason links.now ends.now stops.now.names stops.now.rows names)
         (map fields_of rows.now))
         (lines_of (map fields_of rows.now), column 1 (map fields_of rows.now), routes_of links.now stops.now.names stops.now.rows (map fields_of rows.now)) }
-    ensures few { IfOk result (λ r. length r.rows ≤ 4096) }
+    ensures few { IfOk result (λ r. length r.rows ≤ MAX_ROUTES) }
     ensures sound { IfOk result (λ r. list_all (is_route (length r.lines)
         (length links.now) ends.now stops.now.rows) r.rows ≡ true) }
 {
@@ -177,7 +173,7 @@ pub fn read_routes(
     requires { length ends.now ≡ length links.now }
     ensures read { Answers route_lists result (routes_fault links.now ends.now stops.now.names stops.now.rows bytes.now)
         (lines_of (body_of bytes.now), column 1 (body_of bytes.now), routes_of links.now stops.now.names stops.now.rows (body_of bytes.now)) }
-    ensures few { IfOk result (λ r. length r.rows ≤ 4096) }
+    ensures few { IfOk result (λ r. length r.rows ≤ MAX_ROUTES) }
     ensures sound { IfOk result (λ r. list_all (is_route (length r.lines)
         (length links.now) ends.now stops.now.rows) r.rows ≡ true) }
 {

@@ -9,15 +9,14 @@ ghost use Rattle.records.specs.Reading.{body_fault};
 ghost use Rattle.schedule.specs.Views.{stop_lists};
 ghost use Rattle.schedule.specs.Stops.{stop_reason, stop_of, stops_fault, is_stop};
 
-use crate::lists::{StopList, Stops};
-use crate::rows::StopRow;
+use crate::lists::Stops;
 use csv::ByteRecord;
 use edge_files::{Reason, RowStop};
 use events::Names;
+use limits::MAX_STOPS;
 use records::{add_row, body, fault, field, holds_name, read_optional_file};
+use rows::{StopList, StopRow};
 use std::alloc::Global;
-
-const MAX_STOPS: u32 = 16_384;
 
 /// The stop of a row, or the first reason against it.
 #[tactic(auto, using(records::proofs::Numbering::numbered_within, std::proofs::lemmas::Bool::Decides::nat_tests), unfolding(crate::specs::Stops::stop_reason, crate::specs::Stops::stop_of))]
@@ -27,7 +26,7 @@ fn stop_in(links: &Names, names: &Names, row: &ByteRecord) -> Result<StopRow, Re
     ensures fields { OnOk result (length (fields_of row.now) ≡ 2) }
     ensures name { OnOk result (holds_name (fields_of row.now) 0 ≡ true) }
     ensures fresh { OnOk result (number_of (field (fields_of row.now) 0) names.now ≡ None) }
-    ensures room { OnOk result (length names.now < 16384) }
+    ensures room { OnOk result (length names.now < MAX_STOPS) }
     ensures sound { IfOk result (λ stop. is_stop (length links.now) stop ≡ true) }
 {
     if row.len() != 2 {
@@ -55,7 +54,7 @@ fn read_body(alloc: Global, rows: &[ByteRecord], links: &Names) -> Result<Stops,
         (λ names _. stop_reason links.now names)
         (map fields_of rows.now))
         (column 0 (map fields_of rows.now), map (stop_of links.now) (map fields_of rows.now)) }
-    ensures few { IfOk result (λ s. length s.rows ≤ 16384) }
+    ensures few { IfOk result (λ s. length s.rows ≤ MAX_STOPS) }
     ensures sound { IfOk result (λ s. list_all (is_stop (length links.now)) s.rows ≡ true) }
 {
     let mut names = Names::new(alloc);
@@ -81,7 +80,7 @@ fn read_body(alloc: Global, rows: &[ByteRecord], links: &Names) -> Result<Stops,
 pub fn read_stops(alloc: Global, bytes: &[u8], links: &Names) -> Result<Stops, RowStop>
     ensures read { Answers stop_lists result (stops_fault links.now bytes.now)
         (column 0 (body_of bytes.now), map (stop_of links.now) (body_of bytes.now)) }
-    ensures few { IfOk result (λ s. length s.rows ≤ 16384) }
+    ensures few { IfOk result (λ s. length s.rows ≤ MAX_STOPS) }
     ensures sound { IfOk result (λ s. list_all (is_stop (length links.now)) s.rows ≡ true) }
 {
     let header = ["stop", "link"];

@@ -1,6 +1,7 @@
 -- Products of what a second is worth with seconds.
 use Rattle.std.proofs.Common.{◌≡◌, ℕ, suc, ◌+◌, ◌*◌, ◌≤◌, ℤ, pos, negsuc, ◌*ℤ◌, ◌≤ℤ◌, neg_ℤ, mul-le-mul, w64, to_z, of_z, ◌+ℤ◌, arith}
 use Rattle.std.proofs.lemmas.Int.{ints}
+use Rattle.limits.specs.declared.TheConstants.{LAST_SECOND}
 use Rattle.scoring.specs.Ranges.{IsWithin}
 
 -- a number from -m to m, so many times
@@ -13,12 +14,12 @@ product-within (negsuc a) k m n within few =
     let g : suc a * k ≤ m * n = mul-le-mul (omega (arith, ints)) few in (omega (arith, ints), omega (arith, ints))
 
 -- what the seconds of a leg are worth
-pub leg_fits : (z : ℤ) (k : ℕ) → IsWithin (pos 1000000) z → k ≤ 172800 → IsWithin (pos 172800000000) (z *ℤ pos k)
-leg_fits z k within few = product-within z k 1000000 172800 within few
+pub leg_fits : (z : ℤ) (k : ℕ) → IsWithin (pos 1000000) z → k ≤ LAST_SECOND → IsWithin (pos 172800000000) (z *ℤ pos k)
+leg_fits z k within few = product-within z k 1000000 LAST_SECOND within few
 
 -- what the seconds of lateness cost
-pub lateness_fits : (z : ℤ) (k : ℕ) → neg_ℤ (pos 1000000) ≤ℤ z → z ≤ℤ pos 0 → k ≤ 172800 → IsWithin (pos 172800000000) (z *ℤ pos k)
-lateness_fits z k low high few = product-within z k 1000000 172800 (omega (arith, ints), omega (arith, ints)) few
+pub lateness_fits : (z : ℤ) (k : ℕ) → neg_ℤ (pos 1000000) ≤ℤ z → z ≤ℤ pos 0 → k ≤ LAST_SECOND → IsWithin (pos 172800000000) (z *ℤ pos k)
+lateness_fits z k low high few = product-within z k 1000000 LAST_SECOND (omega (arith, ints), omega (arith, ints)) few
 
 -- what the code's sum of two numbers is, where both are far from the ends of 64 bits
 pub code_sum : (x y : ℤ) → IsWithin (pos 2000000000000000000) x → IsWithin (pos 2000000000000000000) y

@@ -11,7 +11,8 @@ use Rattle.events.specs.declared.event.Event.{Event}
 use Rattle.events.specs.declared.event.More.{More}
 use Rattle.events.specs.declared.event.Word.{Word}
 use Rattle.events.specs.declared.event.Word.TheVariants as word
-use Rattle.scoring.specs.declared.TheConstants.{MAX_PERSONS, MAX_SCORE}
+use Rattle.limits.specs.declared.TheConstants.{MAX_PERSONS}
+use Rattle.scoring.specs.declared.TheConstants.{MAX_SCORE}
 use Rattle.scoring.specs.declared.tables.Tables.{Tables}
 use Rattle.scoring.specs.Ranges.{IsWithin}
 use Rattle.scoring.specs.Points.{Point, are_rising, are_climbing, on_line, value, along}

@@ -1,12 +1,13 @@
 -- A scorer knows which event may come next.
 use Rattle.std.proofs.Common.{◌≡◌, ℕ, ◌<◌, ◌≤◌, Bool, true, false, cond, IsTrue, ◌↔◌, inl, inr, List, [], ◌∷◌, ◌++◌, length, refl, sym, ap, ◌∙◌, subst, append-nil, length-take, arith}
 use Rattle.std.proofs.lemmas.Bool.{cases_Bool}
+use Rattle.limits.specs.declared.TheConstants.{LAST_SECOND}
 use Rattle.events.specs.declared.event.Event.{Event}
 use Rattle.events.specs.declared.event.More.{More}
 use Rattle.events.specs.declared.event.More.TheVariants as more
 use Rattle.events.specs.declared.event.Word.{Word}
 use Rattle.events.specs.declared.event.Word.TheVariants as word
-use Rattle.scoring.specs.declared.TheConstants.{MAX_EVENTS, MAX_SECOND}
+use Rattle.scoring.specs.declared.TheConstants.{MAX_EVENTS}
 use Rattle.scoring.specs.declared.scorer.Doing.{Doing}
 use Rattle.scoring.specs.declared.scorer.Doing.TheVariants as doing
 use Rattle.scoring.specs.declared.scorer.Scorer.{Scorer}
@@ -69,7 +70,7 @@ turn_more es e turn behind =
           subst (Follow word.ActStart) (sym now) turn)
     ]
 
-pub may_take : (T : Tables) (s : Scorer) (es : List Event) (e : Event) → IsTakenBy T s es → length es < MAX_EVENTS → e.key.second ≤ MAX_SECOND
+pub may_take : (T : Tables) (s : Scorer) (es : List Event) (e : Event) → IsTakenBy T s es → length es < MAX_EVENTS → e.key.second ≤ LAST_SECOND
     → IsTrue (is_next e.word e.more s.doing) ↔ MayFollow es e
 may_take T s es e H few in_day = (
   (λ next. record {
@@ -81,7 +82,7 @@ may_take T s es e H few in_day = (
   (λ F. is_next_by e.word e.more s.doing (λ counts. (comes T s es e e.word e.more H F refl refl counts).after) F.told),
 )
 
-pub may_not_take : (es : List Event) (e : Event) → MAX_SECOND < e.key.second → IsTrue false ↔ MayFollow es e
+pub may_not_take : (es : List Event) (e : Event) → LAST_SECOND < e.key.second → IsTrue false ↔ MayFollow es e
 may_not_take es e late = ((λ x. cc), (λ F. let day = F.in_day in absurd (omega arith)))
 
 -- events that each follow those before them are few

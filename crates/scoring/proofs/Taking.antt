@@ -4,13 +4,14 @@ use Rattle.std.proofs.lemmas.Int.{ints}
 use Rattle.std.proofs.lemmas.Option.{none-some}
 use Rattle.std.specs.List.{cons_option}
 use Rattle.std.specs.Option.{ForSome}
+use Rattle.limits.specs.declared.TheConstants.{LAST_SECOND}
 use Rattle.events.specs.declared.event.Event.{Event}
 use Rattle.events.specs.declared.event.Mode.{Mode}
 use Rattle.events.specs.declared.event.More.{More}
 use Rattle.events.specs.declared.event.More.TheVariants as more
 use Rattle.events.specs.declared.event.Word.{Word}
 use Rattle.events.specs.declared.event.Word.TheVariants as word
-use Rattle.scoring.specs.declared.TheConstants.{MAX_EVENTS, MAX_SECOND, MAX_SCORE, MAX_WORTH}
+use Rattle.scoring.specs.declared.TheConstants.{MAX_EVENTS, MAX_SCORE, MAX_WORTH}
 use Rattle.scoring.specs.declared.scorer.Doing.{Doing}
 use Rattle.scoring.specs.declared.scorer.Doing.TheVariants as doing
 use Rattle.scoring.specs.declared.scorer.Scorer.{Scorer}
@@ -72,7 +73,7 @@ comes T s es e w m H F is with_more step =
 -- a scorer that keeps what the events show with one event more stands for them
 made : (T : Tables) (s : Scorer) (es : List Event) (e : Event) (a : List Activity) (d : List Leg) (n m k : List ℕ) (w : List Word)
     → Show (es ++ e ∷ []) a d n m k w → MayFollow es e → Keeps T s a d n m k → last_step (es ++ e ∷ []) ≡ word_of s.doing
-    → (last_step (es ++ e ∷ []) ≢ word.StuckAndAbort → k ≡ []) → length k ≤ 1 → ForSome s.first_end (λ second. second ≤ MAX_SECOND)
+    → (last_step (es ++ e ∷ []) ≢ word.StuckAndAbort → k ≡ []) → length k ≤ 1 → ForSome s.first_end (λ second. second ≤ LAST_SECOND)
     → IsWithin (bound_of (length es + 1) (length k)) s.sum → IsTakenBy T s (es ++ e ∷ [])
 made T s es e a d n m k w shown F K after free once left bound =
     let count : length (es ++ e ∷ []) ≡ length es + 1 = length-append es (e ∷ []) in
@@ -114,7 +115,7 @@ activity_ended T s es e (doing.Activity kind since) None H F C is first =
     (starts es) (departures es) (act_ends es ++ e.key.second ∷ []) (leg_ends es) (stuck_in es) (steps es ++ word.ActEnd ∷ [])
     (record { starts = kept _ _ C.shown.starts; departures = kept _ _ C.shown.departures; act_ends = C.shown.act_ends; leg_ends = kept _ _ C.shown.leg_ends; stuck = kept _ _ C.shown.stuck; steps = C.shown.steps })
     F (first-ends T s (starts es) (departures es) (act_ends es) (leg_ends es) (stuck_in es) e.key.second kind since H.keeps is first)
-    C.last (λ _. C.free) H.once (λ x second_is. let same : e.key.second ≡ x = cc in subst (λ (y : ℕ). y ≤ MAX_SECOND) same F.in_day)
+    C.last (λ _. C.free) H.once (λ x second_is. let same : e.key.second ≡ x = cc in subst (λ (y : ℕ). y ≤ LAST_SECOND) same F.in_day)
     (within_same (length es) (length (stuck_in es)) s.sum H.bound)
 activity_ended T s es e (doing.Activity kind since) (Some left) H F C is first =
     made T (record s { doing = doing.Leaving; sum = s.sum +ℤ activity_worth T.tables kind (e.key.second - since) }) es e
@@ -148,7 +149,7 @@ leg_begun T s es e (doing.Leg mode since) m H F C is = absurd (let x : word_of (
 leg_begun T s es e doing.Arriving m H F C is = absurd (let x : word_of doing.Arriving ≡ word.ActEnd = sym (ap word_of is) ∙ C.after in cc)
 leg_begun T s es e doing.Stuck m H F C is = absurd (let x : word_of doing.Stuck ≡ word.ActEnd = sym (ap word_of is) ∙ C.after in cc)
 
-leg_short : (T : Tables) (mode : Mode) (t since : ℕ) → t ≤ MAX_SECOND → IsWithin (pos 1172800000000) (leg_worth T.modes mode (t - since))
+leg_short : (T : Tables) (mode : Mode) (t since : ℕ) → t ≤ LAST_SECOND → IsWithin (pos 1172800000000) (leg_worth T.modes mode (t - since))
 leg_short T mode t since in_day = leg_worth-within T.modes mode (t - since) (omega arith)
 
 leg_arrived : (T : Tables) (s : Scorer) (es : List Event) (e : Event) (d : Doing) → IsTakenBy T s es → MayFollow es e
@@ -188,11 +189,11 @@ person_stuck T s es e doing.Leaving H F C is = absurd (let x : word_of doing.Lea
 person_stuck T s es e doing.Arriving H F C is = absurd (let x : word_of doing.Arriving ≡ word.Departure = sym (ap word_of is) ∙ C.after in cc)
 person_stuck T s es e doing.Stuck H F C is = absurd (let x : word_of doing.Stuck ≡ word.Departure = sym (ap word_of is) ∙ C.after in cc)
 
-late_little : (T : Tables) (kind t : ℕ) → t ≤ MAX_SECOND → IsWithin (pos 1200000000000) (T.late_per_second *ℤ pos (seconds_late T.tables kind t))
+late_little : (T : Tables) (kind t : ℕ) → t ≤ LAST_SECOND → IsWithin (pos 1200000000000) (T.late_per_second *ℤ pos (seconds_late T.tables kind t))
 late_little T kind t in_day =
     let costs = T.lateness in let low = costs.0 in let high = costs.1 in
-    let few : seconds_late T.tables kind t ≤ 172800 = omega (arith, seconds_late-most T.tables kind t) in
-    wider (pos 172800000000) (pos 1200000000000) _ (omega (arith, ints)) (product-within T.late_per_second (seconds_late T.tables kind t) 1000000 172800 (low, omega (arith, ints)) few)
+    let few : seconds_late T.tables kind t ≤ LAST_SECOND = omega (arith, seconds_late-most T.tables kind t) in
+    wider (pos 172800000000) (pos 1200000000000) _ (omega (arith, ints)) (product-within T.late_per_second (seconds_late T.tables kind t) 1000000 LAST_SECOND (low, omega (arith, ints)) few)
 
 activity_begun : (T : Tables) (s : Scorer) (es : List Event) (e : Event) (d : Doing) (m : More) → IsTakenBy T s es → MayFollow es e
     → Comes s es e word.ActStart m → s.doing ≡ d → IsTakenBy T (with_activity_begun T s e.key.second m) (es ++ e ∷ [])

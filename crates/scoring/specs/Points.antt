@@ -3,7 +3,8 @@ use Rattle.std.specs.Prelude.{ℕ, ◌-◌, Bool, true, ◌&&◌, nat_lt, nat_le
 use Rattle.std.specs.Int.{int_div_euclid}
 use Rattle.std.specs.List.{list_all}
 use Rattle.std.specs.Option.{option_map_or}
-use Rattle.scoring.specs.declared.TheConstants.{MAX_POINT_SECOND, MAX_POINTS, MAX_SECOND, MAX_WORTH}
+use Rattle.limits.specs.declared.TheConstants.{LAST_SECOND}
+use Rattle.scoring.specs.declared.TheConstants.{MAX_POINT_SECOND, MAX_POINTS, MAX_WORTH}
 use Rattle.scoring.specs.Ranges.{is_within}
 
 -- a second, and what is reached there, in micro-utils
@@ -29,7 +30,7 @@ are_rising (p ∷ points) = rise_from p.0 points
 abbrev pub is_table : List Point → Option ℕ → Bool
 is_table points latest =
     nat_le 1 (length points) && nat_le (length points) MAX_POINTS && list_all is_point points && are_rising points
-    && option_map_or (λ second. nat_le second MAX_SECOND) latest true
+    && option_map_or (λ second. nat_le second LAST_SECOND) latest true
 
 -- whether no point is lower than the one before it
 abbrev pub are_climbing : List Point → Bool

@@ -1,10 +1,11 @@
 -- What a scorer keeps of the events that it has taken.
 use Rattle.std.specs.Prelude.{◌≡◌, ◌≢◌, ℕ, ◌+◌, ◌*◌, ◌<◌, ◌≤◌, true, List, [], ◌∷◌, ◌++◌, map, length, get_or, take, drop, Option, None, Some, ℤ, pos, ◌+ℤ◌}
 use Rattle.std.specs.Option.{ForSome}
+use Rattle.limits.specs.declared.TheConstants.{LAST_SECOND}
 use Rattle.events.specs.declared.event.Event.{Event}
 use Rattle.events.specs.declared.event.Word.{Word}
 use Rattle.events.specs.declared.event.Word.TheVariants as word
-use Rattle.scoring.specs.declared.TheConstants.{MAX_EVENTS, MAX_SECOND}
+use Rattle.scoring.specs.declared.TheConstants.{MAX_EVENTS}
 use Rattle.scoring.specs.declared.scorer.Doing.{Doing}
 use Rattle.scoring.specs.declared.scorer.Doing.TheVariants as doing
 use Rattle.scoring.specs.declared.scorer.Scorer.{Scorer}
@@ -20,7 +21,7 @@ first_kind_of scorer = scorer.first_kind
 -- an event may be taken behind others: they are few, it is within the day and in turn, and it tells what it is scored by
 pub record MayFollow (taken : List Event) (event : Event) : Type 0 where
   pub few : length taken < MAX_EVENTS
-  pub in_day : event.key.second ≤ MAX_SECOND
+  pub in_day : event.key.second ≤ LAST_SECOND
   pub in_turn : InTurn (taken ++ event ∷ [])
   pub told : tells event.word event.more ≡ true
 
@@ -87,6 +88,6 @@ pub record IsTakenBy (tables : Tables) (scorer : Scorer) (events : List Event) :
   pub after : last_step events ≡ word_of scorer.doing
   pub free : last_step events ≢ word.StuckAndAbort → stuck_in events ≡ []
   pub once : length (stuck_in events) ≤ 1
-  pub left_in_day : ForSome scorer.first_end (λ second. second ≤ MAX_SECOND)
+  pub left_in_day : ForSome scorer.first_end (λ second. second ≤ LAST_SECOND)
   pub keeps : Keeps tables scorer (starts events) (departures events) (act_ends events) (leg_ends events) (stuck_in events)
   pub bound : IsWithin (bound_of (length events) (length (stuck_in events))) scorer.sum

@@ -4,7 +4,8 @@
 ghost use Rattle.std.specs.Prelude.{◌≡◌, ◌+◌, ◌*◌, ◌-◌, ◌<◌, ◌≤◌, ℕ, ℤ, pos, neg_ℤ, ◌+ℤ◌, ◌-ℤ◌, ◌*ℤ◌, ◌≤ℤ◌, ◌<ℤ◌, FitsSigned, List, [], ◌∷◌, ◌++◌, length, true, filter, All};
 ghost use Rattle.std.specs.Int.{w64};
 ghost use Rattle.events.specs.declared.event.Event.{Event};
-ghost use Rattle.scoring.specs.declared.TheConstants.{MAX_PERSONS, MAX_SCORE};
+ghost use Rattle.limits.specs.declared.TheConstants.{MAX_PERSONS};
+ghost use Rattle.scoring.specs.declared.TheConstants.{MAX_SCORE};
 ghost use Rattle.scoring.specs.declared.tables.Tables.{Tables};
 ghost use Rattle.scoring.specs.Ranges.{IsWithin};
 ghost use Rattle.scoring.specs.Points.{Point, are_rising, are_climbing, on_line, value};

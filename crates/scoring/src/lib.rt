@@ -27,9 +27,6 @@ pub use values::value;
 /// The day that is scored, in seconds: an activity that has not ended lasts until its end.
 pub const SCORING_DAY: u32 = 86_400;
 
-/// The last second of an event, and the last one from which an activity may count as late.
-pub const MAX_SECOND: u32 = 172_800;
-
 /// The most events of one person.
 pub const MAX_EVENTS: usize = 64;
 
@@ -52,6 +49,3 @@ pub const MAX_PER_SECOND: i64 = 1_000_000;
 
 /// No score is above this, or below its negative, in micro-utils.
 pub const MAX_SCORE: i64 = 100_000_000_000_000;
-
-/// The most persons.
-pub const MAX_PERSONS: usize = 65_536;

@@ -1,18 +1,19 @@
 ghost use Rattle.std.specs.Prelude.{◌≡◌, ◌<◌, ◌≤◌, ◌↔◌, pos, None, IsTrue, length, List, [], ◌∷◌, ◌++◌};
 ghost use Rattle.std.specs.Option.{ForSome};
 ghost use Rattle.events.specs.declared.event.Event.{Event};
-ghost use Rattle.scoring.specs.declared.TheConstants.{MAX_EVENTS, MAX_SCORE, MAX_SECOND, MAX_WORTH};
+ghost use Rattle.scoring.specs.declared.TheConstants.{MAX_EVENTS, MAX_SCORE, MAX_WORTH};
 ghost use Rattle.scoring.specs.declared.tables.Tables.{Tables};
 ghost use Rattle.scoring.specs.Ranges.{IsWithin};
 ghost use Rattle.scoring.specs.Score.{score};
 ghost use Rattle.scoring.specs.Taken.{first_kind_of, MayFollow, IsTakenBy};
 ghost use Rattle.scoring.specs.Steps.{with_activity_ended, with_leg_begun, with_leg_ended, with_activity_begun, with_event, last_worth, is_next};
 
+use crate::SCORING_DAY;
 use crate::table::TableList;
 use crate::tables::Tables;
 use crate::worths::{activity_worth, leg_worth, seconds_late};
-use crate::{MAX_SECOND, SCORING_DAY};
 use events::{Event, Mode, More, Word};
+use limits::LAST_SECOND;
 
 /// What the person is doing.
 #[derive(Clone, Copy, Debug, PartialEq, Eq)]
@@ -82,7 +83,7 @@ impl Scorer {
         ensures { (tables : Tables) (taken : List Event) → IsTakenBy tables self.now taken → length taken < MAX_EVENTS
             → IsTrue result ↔ MayFollow taken event.now }
     {
-        event.key.second <= MAX_SECOND && self.is_next(event.word, event.more)
+        event.key.second <= LAST_SECOND && self.is_next(event.word, event.more)
     }
 
     // Whether an event of a word comes next.
@@ -115,7 +116,7 @@ impl Scorer {
 
     // The scorer behind an event.
     fn with_event(self, tables: &Tables, event: &Event) -> Scorer
-        requires in_day { event.now.key.second ≤ MAX_SECOND }
+        requires in_day { event.now.key.second ≤ LAST_SECOND }
         requires small { IsWithin MAX_SCORE self.sum }
         ensures { result ≡ with_event tables.now self event.now.word event.now.more event.now.key.second }
     {
@@ -173,7 +174,7 @@ impl Scorer {
 
     // A leg ends: the person arrives or is stuck, and `paid` is added besides.
     fn with_leg_ended(self, tables: &Tables, second: u32, paid: i64, next: Doing) -> Scorer
-        requires in_day { second ≤ MAX_SECOND }
+        requires in_day { second ≤ LAST_SECOND }
         requires small { IsWithin MAX_SCORE self.sum }
         requires paid_in { IsWithin MAX_WORTH paid }
         ensures { result ≡ with_leg_ended tables.now self second paid next self.doing }
@@ -191,7 +192,7 @@ impl Scorer {
 
     // An activity starts, maybe late.
     fn with_activity_begun(self, tables: &Tables, more: More, second: u32) -> Scorer
-        requires in_day { second ≤ MAX_SECOND }
+        requires in_day { second ≤ LAST_SECOND }
         requires small { IsWithin MAX_SCORE self.sum }
         ensures { result ≡ with_activity_begun tables.now self second more }
     {
@@ -211,7 +212,7 @@ impl Scorer {
 
     // What the first activity and one that has not ended are worth.
     fn last_worth(self, tables: &TableList) -> i64
-        requires { ForSome self.first_end (λ second. second ≤ MAX_SECOND) }
+        requires { ForSome self.first_end (λ second. second ≤ LAST_SECOND) }
         ensures value { result ≡ last_worth tables.now self.first_kind self.first_end self.doing }
         ensures within { IsWithin (pos 2000000000000) result }
     {

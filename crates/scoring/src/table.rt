@@ -1,10 +1,12 @@
 ghost use Rattle.std.specs.Prelude.{◌≡◌, ◌≤◌, length, nat_le, is_some, true, IfSome};
 ghost use Rattle.std.specs.List.{list_all};
 ghost use Rattle.std.specs.Option.{option_map_or};
-ghost use Rattle.scoring.specs.declared.TheConstants.{MAX_POINTS, MAX_SECOND};
+ghost use Rattle.limits.specs.declared.TheConstants.{LAST_SECOND};
+ghost use Rattle.scoring.specs.declared.TheConstants.{MAX_POINTS};
 ghost use Rattle.scoring.specs.Points.{is_point, rise_from, are_rising, is_table};
 
-use crate::{MAX_POINT_SECOND, MAX_POINTS, MAX_SECOND, MAX_WORTH};
+use crate::{MAX_POINT_SECOND, MAX_POINTS, MAX_WORTH};
+use limits::LAST_SECOND;
 use std::marker::Model;
 
 /// The points of a table: seconds, and what is reached there, in micro-utils.
@@ -44,7 +46,7 @@ pub struct Table {
     pub ghost few: { length points ≤ MAX_POINTS },
     pub ghost within: { list_all is_point points ≡ true },
     pub ghost rising: { are_rising points ≡ true },
-    pub ghost by_the_end: { option_map_or (λ second. nat_le second MAX_SECOND) latest true ≡ true },
+    pub ghost by_the_end: { option_map_or (λ second. nat_le second LAST_SECOND) latest true ≡ true },
 }
 
 impl Table {
@@ -67,7 +69,7 @@ impl Table {
 fn is_table(points: &[(u32, i64)], latest: Option<u32>) -> bool
     ensures { result ≡ is_table points.now latest }
 {
-    let in_day = latest.is_none_or(|second| second <= MAX_SECOND);
+    let in_day = latest.is_none_or(|second| second <= LAST_SECOND);
     !points.is_empty()
         && points.len() <= MAX_POINTS
         && are_points(points)

@@ -1,5 +1,6 @@
 ghost use Rattle.std.specs.Prelude.{◌≡◌, ◌≤◌, Some, pos, option_copied, slice_get};
-ghost use Rattle.scoring.specs.declared.TheConstants.{MAX_SECOND, MAX_WORTH};
+ghost use Rattle.limits.specs.declared.TheConstants.{LAST_SECOND};
+ghost use Rattle.scoring.specs.declared.TheConstants.{MAX_WORTH};
 ghost use Rattle.scoring.specs.Ranges.{IsWithin};
 ghost use Rattle.scoring.specs.Tables.{table_of, activity_worth, place_of, leg_worth, seconds_late};
 
@@ -58,7 +59,7 @@ fn mode_score(modes: &[ModeScore; 5], mode: Mode) -> ModeScore
 /// What a leg by a mode is worth that takes so many seconds, in micro-utils.
 #[tactic(auto, unfolding(crate::specs::Tables::leg_worth))]
 pub fn leg_worth(modes: &[ModeScore; 5], mode: Mode, seconds: u32) -> i64
-    requires { seconds ≤ MAX_SECOND }
+    requires { seconds ≤ LAST_SECOND }
     ensures value { result ≡ leg_worth modes.now mode seconds }
     ensures within { IsWithin (pos 1172800000000) result }
 {

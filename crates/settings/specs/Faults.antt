@@ -43,15 +43,4 @@ settings_of bytes = values_in (members_of (value_of bytes))
 
 -- the values of settings that were read
 abbrev pub values_of : Settings → Values
-values_of settings = record {
-  seed = settings.seed;
-  end_second = settings.end_second;
-  flow_permille = settings.flow_permille;
-  storage_permille = settings.storage_permille;
-  stuck_seconds = settings.stuck_seconds;
-  stuck_push = settings.stuck_push;
-  hole_speed = settings.hole_speed;
-  dwell_open = settings.dwell_open;
-  dwell_alight = settings.dwell_alight;
-  dwell_board = settings.dwell_board;
-}
+values_of settings = record { seed = settings.seed; traffic = settings.traffic }

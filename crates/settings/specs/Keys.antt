@@ -3,6 +3,7 @@ use Rattle.std.specs.Prelude.{ℕ, ◌-◌, ◌^◌, Bool, false, not, ◌&&◌,
 use Rattle.std.specs.List.{list_any}
 use Rattle.serde_json.specs.Data.{Data, Members, no_members, member}
 use Rattle.serde_json.specs.Find.{get_member, as_number, as_u64}
+use Rattle.limits.specs.declared.TheConstants.{LAST_SECOND, MAX_DWELL, MAX_PERMILLE, MAX_SPEED}
 
 -- the whole number that a value is; `-0`, `-1`, `1.0`, `1e3` and numbers of 2^64 or more are none
 abbrev pub whole : Data → Option ℕ
@@ -25,15 +26,15 @@ Key = List ℕ × (Data → Bool)
 abbrev pub keys : List Key
 keys =
     (codes "seed", is_whole 0 (2 ^ 64 - 1))
-    ∷ (codes "end_second", is_whole 1 172800)
-    ∷ (codes "flow_permille", is_whole 1 2000)
-    ∷ (codes "storage_permille", is_whole 1 2000)
-    ∷ (codes "stuck_seconds", is_whole 1 172800)
+    ∷ (codes "end_second", is_whole 1 LAST_SECOND)
+    ∷ (codes "flow_permille", is_whole 1 MAX_PERMILLE)
+    ∷ (codes "storage_permille", is_whole 1 MAX_PERMILLE)
+    ∷ (codes "stuck_seconds", is_whole 1 LAST_SECOND)
     ∷ (codes "stuck_push", is_whole 0 1)
-    ∷ (codes "hole_speed", is_whole 1 10000)
-    ∷ (codes "dwell_open", is_whole 0 3600)
-    ∷ (codes "dwell_alight", is_whole 0 3600)
-    ∷ (codes "dwell_board", is_whole 0 3600)
+    ∷ (codes "hole_speed", is_whole 1 MAX_SPEED)
+    ∷ (codes "dwell_open", is_whole 0 MAX_DWELL)
+    ∷ (codes "dwell_alight", is_whole 0 MAX_DWELL)
+    ∷ (codes "dwell_board", is_whole 0 MAX_DWELL)
     ∷ []
 
 -- the table has a key of this name

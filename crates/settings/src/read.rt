@@ -8,11 +8,11 @@ ghost use Rattle.settings.specs.Faults.{value_of, members_of, value_tests, setti
 use crate::keys::{given, given_small, has_unknown_key};
 use crate::values::Settings;
 use edge_files::{Reason, RowStop};
+use limits::{LAST_SECOND, MAX_DWELL, MAX_FILE_BYTES, MAX_PERMILLE, MAX_SPEED};
 use records::fault;
+use rows::{Dwelling, Stuck, TrafficSettings};
 use serde_json::{Map, Value};
 use std::alloc::{AllocError, Global};
-
-const MAX_BYTES: usize = 1 << 28;
 
 /// The value that the bytes are, if they are one. No bytes are an object without keys.
 fn read_value(alloc: Global, bytes: &[u8]) -> Result<Option<Value>, AllocError>
@@ -42,26 +42,34 @@ fn values_in(settings: &Map<String, Value>) -> Result<Settings, Reason>
         × (values_of read ≡ values_in (members_view settings.now.entries))) }
 {
     let seed = given(settings, "seed", 0, u64::MAX)?.unwrap_or(4711);
-    let end_second = given_small(settings, "end_second", 1, 172_800)?.unwrap_or(108_000);
-    let flow_permille = given_small(settings, "flow_permille", 1, 2_000)?.unwrap_or(1_000);
-    let storage_permille = given_small(settings, "storage_permille", 1, 2_000)?.unwrap_or(1_000);
-    let stuck_seconds = given_small(settings, "stuck_seconds", 1, 172_800)?.unwrap_or(10);
+    let end_second = given_small(settings, "end_second", 1, LAST_SECOND)?.unwrap_or(108_000);
+    let flow_permille = given_small(settings, "flow_permille", 1, MAX_PERMILLE)?.unwrap_or(1_000);
+    let storage_permille = given_small(settings, "storage_permille", 1, MAX_PERMILLE)?.unwrap_or(
+        1_000,
+    );
+    let stuck_seconds = given_small(settings, "stuck_seconds", 1, LAST_SECOND)?.unwrap_or(10);
     let stuck_push = given_small(settings, "stuck_push", 0, 1)?.unwrap_or(0) == 1;
-    let hole_speed = given_small(settings, "hole_speed", 1, 10_000)?;
-    let dwell_open = given_small(settings, "dwell_open", 0, 3_600)?.unwrap_or(4);
-    let dwell_alight = given_small(settings, "dwell_alight", 0, 3_600)?.unwrap_or(1);
-    let dwell_board = given_small(settings, "dwell_board", 0, 3_600)?.unwrap_or(2);
+    let hole_speed = given_small(settings, "hole_speed", 1, MAX_SPEED)?;
+    let dwell_open = given_small(settings, "dwell_open", 0, MAX_DWELL)?.unwrap_or(4);
+    let dwell_alight = given_small(settings, "dwell_alight", 0, MAX_DWELL)?.unwrap_or(1);
+    let dwell_board = given_small(settings, "dwell_board", 0, MAX_DWELL)?.unwrap_or(2);
     Ok(Settings {
         seed,
-        end_second,
-        flow_permille,
-        storage_permille,
-        stuck_seconds,
-        stuck_push,
-        hole_speed,
-        dwell_open,
-        dwell_alight,
-        dwell_board,
+        traffic: TrafficSettings {
+            end_second,
+            flow_permille,
+            storage_permille,
+            stuck: Stuck {
+                seconds: stuck_seconds,
+                push: stuck_push,
+            },
+            hole_speed,
+            dwell: Dwelling {
+                per_stop: dwell_open,
+                per_alight: dwell_alight,
+                per_board: dwell_board,
+            },
+        },
     })
 }
 
@@ -89,7 +97,7 @@ fn settings_in(value: &Value) -> Result<Settings, RowStop>
 pub fn read_settings(alloc: Global, bytes: &[u8]) -> Result<Settings, RowStop>
     ensures { Answers values_of result (fault_at 0 (settings_fault bytes.now)) (settings_of bytes.now) }
 {
-    if bytes.len() > MAX_BYTES {
+    if bytes.len() > MAX_FILE_BYTES {
         return Err(fault(0, Reason::TooLong));
     }
     match read_value(alloc, bytes) {

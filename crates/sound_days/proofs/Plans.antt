@@ -3,23 +3,21 @@ use Rattle.std.proofs.Common.{◌≡◌, ℕ, zero, suc, ◌+◌, ◌-◌, ◌<�
 use Rattle.std.specs.Prelude.{map, not, nat_eq, nat_le, ◌&&◌, Option, None, Some}
 use Rattle.std.specs.List.{AllByRecursion as Each, list_all, list_any}
 use Rattle.std.proofs.lemmas.Bool.{cases_Bool, and_parts, eqb-true, eqb-false, leb-true, not-true}
-use Rattle.std.proofs.lemmas.List.{length-map}
 use Rattle.std.proofs.lemmas.List.Elements.{All-from_recursion}
-use Rattle.plans.specs.declared.plan.Act.{Act}
-use Rattle.plans.specs.declared.plan.Leg.{Leg}
-use Rattle.plans.specs.declared.plan.Leg.TheVariants as leg
-use Rattle.plans.specs.Plan.{is_teleported, is_leg, is_open, is_end, has_end, are_acts}
-use Rattle.plans.specs.Parts.{Parts}
-use Rattle.schedule.specs.declared.rows.StopRow.{StopRow}
-use Rattle.schedule.specs.Calls.{link_at}
+use Rattle.rows.specs.declared.plan.Act.{Act}
+use Rattle.rows.specs.declared.plan.Leg.{Leg}
+use Rattle.rows.specs.declared.plan.Leg.TheVariants as leg
+use Rattle.rows.specs.Plan.{is_teleported, is_leg, is_open, is_end, has_end, are_acts}
+use Rattle.rows.specs.PlanRows.{PlanRows}
+use Rattle.rows.specs.declared.schedule.StopRow.{StopRow}
+use Rattle.rows.specs.Stops.{stop_link}
 use Rattle.town.specs.Fits.{is_act_in, has_wrong_ends, has_wrong_stops, is_joining, leg_fits, legs_fit, fits}
 use Rattle.town.specs.Rows.{TownRows}
-use Rattle.town.specs.Setups.{stay_of, way_of, itinerary_of}
-use Rattle.traffic.specs.Setup.{Setup, Drive, link_of_stop}
+use Rattle.traffic.specs.Setup.{Setup, link_of_stop}
 use Rattle.traffic.specs.Worlds.{HasEnd}
 use Rattle.fit_days.specs.Setups.{IsPlanIn}
-use Rattle.sound_setups.specs.Setups.{IsSoundWay, EndsAsPlanned, IsSoundPlan}
-use Rattle.sound_setups.specs.Consistent.{LeadsFrom, link_of_stay, IsConsistentPlan}
+use Rattle.sound_setups.specs.Setups.{IsSoundLeg, EndsAsPlanned, IsSoundPlan}
+use Rattle.sound_setups.specs.Consistent.{LeadsFrom, link_of_act, IsConsistentPlan}
 
 -- PLANS
 open_last : (end : Option ℕ) → is_open end ≡ true → HasEnd true end
@@ -33,7 +31,7 @@ ends_before (Some second) h = refl
 -- the k-th activity has no end if it is the last one, and else it has one
 abbrev EndsAt : List Act → ℕ → Type 0
 EndsAt acts k =
-    let end = (get_or (map stay_of acts) k (record { kind = 0; link = 0; end = None })).end in
+    let end = (get_or acts k (record { kind = 0; link = 0; end = None })).end in
     (k + 1 ≡ length acts → HasEnd true end) × (k + 1 ≢ length acts → HasEnd false end)
 
 ends_at : (acts : List Act) (k : ℕ) → are_acts acts ≡ true → k < length acts → EndsAt acts k
@@ -45,16 +43,15 @@ ends_at (a ∷ b ∷ acts) zero h lt = ((λ e. absurd (omega arith)), (λ ne. en
 ends_at (a ∷ b ∷ acts) (suc k) h lt =
     let y = ends_at (b ∷ acts) k (and_parts (has_end a) (are_acts (b ∷ acts)) h).1 (omega arith) in ((λ e. y.0 (omega arith)), (λ ne. y.1 (λ e. ne (omega arith))))
 
-ends_planned : (acts : List Act) (k : ℕ) → are_acts acts ≡ true → k < length acts → EndsAsPlanned (map stay_of acts) k
+ends_planned : (acts : List Act) (k : ℕ) → are_acts acts ≡ true → k < length acts → EndsAsPlanned acts k
 ends_planned acts k h lt =
     let y = ends_at acts k h lt in
-    let n = length-map acts stay_of in
-    elim (cases_Bool (eqb (k + 1) (length (map stay_of acts)))) [
-      | inl e ↦ let q = eqb-true (k + 1) (length (map stay_of acts)) e in rw e (y.0 (omega arith))
-      | inr e ↦ let q = eqb-false (k + 1) (length (map stay_of acts)) e in rw e (y.1 (λ g. q (omega arith)))
+    elim (cases_Bool (eqb (k + 1) (length acts))) [
+      | inl e ↦ let q = eqb-true (k + 1) (length acts) e in rw e (y.0 (omega arith))
+      | inr e ↦ let q = eqb-false (k + 1) (length acts) e in rw e (y.1 (λ g. q (omega arith)))
     ]
 
-leg_sound : (T : TownRows) (here there : ℕ) (x : Leg) → leg_fits T here there x ≡ true → IsSoundWay (way_of x)
+leg_sound : (T : TownRows) (here there : ℕ) (x : Leg) → leg_fits T here there x ≡ true → IsSoundLeg x
 unfolding leg_fits
 leg_sound T here there (leg.Car route) h =
     let a = and_parts _ _ h in
@@ -62,22 +59,19 @@ leg_sound T here there (leg.Car route) h =
 leg_sound T here there (leg.Teleport mode seconds) h = tt
 leg_sound T here there (leg.Transit line access egress) h = tt
 
-legs_sound : (T : TownRows) (acts : List Act) (legs : List Leg) → legs_fit T acts legs ≡ true → Each IsSoundWay (map way_of legs)
+legs_sound : (T : TownRows) (acts : List Act) (legs : List Leg) → legs_fit T acts legs ≡ true → Each IsSoundLeg legs
 unfolding legs_fit
 legs_sound T acts [] h = tt
 legs_sound T [] (x ∷ legs) h = absurd (cc)
 legs_sound T (a ∷ acts) (x ∷ legs) h = let b = and_parts (leg_fits T a.link _ x) (legs_fit T acts legs) h in (leg_sound T a.link _ x b.0, legs_sound T acts legs b.1)
 
-pub plan_sound : (T : TownRows) (p : Parts) → IsPlanIn T p → IsSoundPlan (itinerary_of p)
-unfolding itinerary_of fits
+pub plan_sound : (T : TownRows) (p : PlanRows) → IsPlanIn T p → IsSoundPlan p
+unfolding fits
 plan_sound T p h =
-    let a = length-map p.acts stay_of in
-    let b = length-map p.legs way_of in
-    let c = h.one_more in
     record {
-      one_more = omega arith;
-      ends = λ k lt. ends_planned p.acts k h.ends (omega arith);
-      ways = All-from_recursion IsSoundWay (map way_of p.legs) (legs_sound T p.acts p.legs (and_parts (list_all (is_act_in T) p.acts) _ h.fit).1);
+      one_more = h.one_more;
+      ends = λ k lt. ends_planned p.acts k h.ends lt;
+      legs = All-from_recursion IsSoundLeg p.legs (legs_sound T p.acts p.legs (and_parts (list_all (is_act_in T) p.acts) _ h.fit).1);
     }
 
 -- FROM ACTIVITY TO ACTIVITY
@@ -87,9 +81,9 @@ not_not false e = absurd (cc)
 
 -- in a setup with the stops of the town
 abbrev pub AtStops : Setup → List StopRow → Type 0
-AtStops S stops = (n : ℕ) → link_of_stop S n ≡ link_at stops n
+AtStops S stops = (n : ℕ) → link_of_stop S n ≡ stop_link stops n
 
-leg_leads : (S : Setup) (T : TownRows) → AtStops S T.stops → (here there : ℕ) (x : Leg) → leg_fits T here there x ≡ true → is_leg x ≡ true → LeadsFrom S here there (way_of x)
+leg_leads : (S : Setup) (T : TownRows) → AtStops S T.stops → (here there : ℕ) (x : Leg) → leg_fits T here there x ≡ true → is_leg x ≡ true → LeadsFrom S here there x
 unfolding leg_fits has_wrong_ends has_wrong_stops
 leg_leads S T s here there (leg.Car route) h l =
     let a = and_parts _ _ h in
@@ -100,12 +94,12 @@ leg_leads S T s here there (leg.Teleport mode seconds) h l =
     let b = and_parts (is_teleported mode) (nat_le 1 seconds) a.0 in leb-true 1 seconds b.1
 leg_leads S T s here there (leg.Transit line access egress) h l =
     let a = and_parts _ _ h in
-    let b = and_parts (nat_eq (link_at T.stops access) here && nat_eq (link_at T.stops egress) there) (list_any (is_joining line access egress) T.routes) (not_not _ a.1) in
-    let c = and_parts (nat_eq (link_at T.stops access) here) (nat_eq (link_at T.stops egress) there) b.0 in
-    (s access ∙ eqb-true (link_at T.stops access) here c.0, s egress ∙ eqb-true (link_at T.stops egress) there c.1)
+    let b = and_parts (nat_eq (stop_link T.stops access) here && nat_eq (stop_link T.stops egress) there) (list_any (is_joining line access egress) T.routes) (not_not _ a.1) in
+    let c = and_parts (nat_eq (stop_link T.stops access) here) (nat_eq (stop_link T.stops egress) there) b.0 in
+    (s access ∙ eqb-true (stop_link T.stops access) here c.0, s egress ∙ eqb-true (stop_link T.stops egress) there c.1)
 
 legs_lead : (S : Setup) (T : TownRows) → AtStops S T.stops → (acts : List Act) (legs : List Leg) (k : ℕ) → legs_fit T acts legs ≡ true → list_all is_leg legs ≡ true → length acts ≡ length legs + 1 → k < length legs →
-    LeadsFrom S (link_of_stay (map stay_of acts) k) (link_of_stay (map stay_of acts) (suc k)) (get_or (map way_of legs) k (Drive []))
+    LeadsFrom S (link_of_act acts k) (link_of_act acts (suc k)) (get_or legs k (leg.Car []))
 unfolding legs_fit
 legs_lead S T s acts [] k h l n lt = absurd (omega arith)
 legs_lead S T s [] (x ∷ legs) k h l n lt = absurd (omega arith)
@@ -115,9 +109,8 @@ legs_lead S T s (a ∷ b ∷ acts) (x ∷ legs) zero h l n lt =
 legs_lead S T s (a ∷ b ∷ acts) (x ∷ legs) (suc k) h l n lt =
     legs_lead S T s (b ∷ acts) legs k (and_parts (leg_fits T a.link b.link x) (legs_fit T (b ∷ acts) legs) h).1 (and_parts (is_leg x) (list_all is_leg legs) l).1 (omega arith) (omega arith)
 
-pub plan_consistent : (S : Setup) (T : TownRows) → AtStops S T.stops → (p : Parts) → IsPlanIn T p → IsConsistentPlan S (itinerary_of p)
-unfolding itinerary_of fits
+pub plan_consistent : (S : Setup) (T : TownRows) → AtStops S T.stops → (p : PlanRows) → IsPlanIn T p → IsConsistentPlan S p
+unfolding fits
 plan_consistent S T s p h = λ k lt.
-    let n = length-map p.legs way_of in
     let next : k + 1 ≡ suc k = omega arith in
-    rw next (legs_lead S T s p.acts p.legs k (and_parts (list_all (is_act_in T) p.acts) (legs_fit T p.acts p.legs) h.fit).1 h.legs h.one_more (omega arith))
+    rw next (legs_lead S T s p.acts p.legs k (and_parts (list_all (is_act_in T) p.acts) (legs_fit T p.acts p.legs) h.fit).1 h.legs h.one_more lt)

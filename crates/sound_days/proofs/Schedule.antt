@@ -5,14 +5,15 @@ use Rattle.std.specs.List.{AllByRecursion as Each, list_all, position_or_len}
 use Rattle.std.proofs.lemmas.Bool.{cases_Bool, and_parts, ltb-true, eqb-true, eqb-false, eq-eqb, ne_eqb}
 use Rattle.std.proofs.lemmas.List.Elements.{All-get_or, All-from_recursion}
 use Rattle.events.specs.declared.lists.StopCall.{StopCall}
-use Rattle.schedule.specs.declared.rows.StopRow.{StopRow}
-use Rattle.schedule.specs.declared.rows.RouteRow.{RouteRow}
-use Rattle.schedule.specs.declared.rows.DepartureRow.{DepartureRow}
-use Rattle.schedule.specs.Calls.{are_served, link_at, is_sound_call}
+use Rattle.rows.specs.declared.schedule.StopRow.{StopRow}
+use Rattle.rows.specs.declared.schedule.RouteRow.{RouteRow}
+use Rattle.rows.specs.declared.schedule.DepartureRow.{DepartureRow}
+use Rattle.rows.specs.Stops.{stop_link}
+use Rattle.schedule.specs.Calls.{are_served, is_sound_call}
 use Rattle.schedule.specs.Routes.{is_way, are_drivable, is_route}
 use Rattle.schedule.specs.Departures.{is_departure}
 use Rattle.town.specs.Rows.{TownRows, ends_of}
-use Rattle.town.specs.Setups.{link_of_row, route_at, departure_of}
+use Rattle.town.specs.Setups.{route_at, departure_of}
 use Rattle.traffic.specs.Lists.{is_nil}
 use Rattle.traffic.specs.Setup.{Setup, link_of_stop}
 use Rattle.traffic.specs.Worlds.{AreServable, from_link}
@@ -59,11 +60,6 @@ is_second true b h = absurd (cc)
 is_second false true h = refl
 is_second false false h = absurd (cc)
 
-pub stops_at : (rows : List StopRow) (n : ℕ) → get_or (map link_of_row rows) n 0 ≡ link_at rows n
-stops_at [] n = refl
-stops_at (r ∷ rows) zero = refl
-stops_at (r ∷ rows) (suc n) = stops_at rows n
-
 -- what a route gives to its departures
 record IsRunning (S : Setup) (r : RouteRow) : Type 0 where
   some : 0 < length r.links
@@ -74,8 +70,8 @@ call_at_stop : (S : Setup) (stops : List StopRow) → AtStops S stops → (c : S
 unfolding is_sound_call
 call_at_stop S stops s c h =
     let a = and_parts _ _ h in
-    let b = and_parts (nat_lt c.stop (length stops)) (nat_eq c.link (link_at stops c.stop)) a.0 in
-    s c.stop ∙ sym (eqb-true c.link (link_at stops c.stop) b.1)
+    let b = and_parts (nat_lt c.stop (length stops)) (nat_eq c.link (stop_link stops c.stop)) a.0 in
+    s c.stop ∙ sym (eqb-true c.link (stop_link stops c.stop) b.1)
 
 route_sound : (S : Setup) (T : TownRows) → AtStops S T.stops → (r : RouteRow) → is_route (length T.book.lines) (length T.links) (ends_of T.links) T.stops r ≡ true → IsRunning S r
 unfolding are_drivable

@@ -1,10 +1,10 @@
 -- That whoever alights has his next activity there.
 use Rattle.std.specs.Prelude.{◌≡◌, ℕ, ◌+◌, ◌≤◌, true, false, List, count_by, ◌==◌}
 use Rattle.std.specs.List.{AllByRecursion as Each}
-use Rattle.traffic.specs.declared.rows.Rider.{Rider}
+use Rattle.traffic.specs.declared.riders.Rider.{Rider}
 use Rattle.traffic.specs.declared.world.Row.{Row}
 use Rattle.traffic.specs.Vehicles.{VehicleState}
-use Rattle.traffic.specs.Setup.{Setup, stay}
+use Rattle.traffic.specs.Setup.{Setup, act_at}
 use Rattle.traffic.specs.Stops.{next_call, alighting, calls_on}
 use Rattle.traffic.specs.Links.{is_last}
 
@@ -16,8 +16,8 @@ times_in i rs = count_by (λ (x : Rider). x.person == i) rs
 -- stop there and he is one of those who alight, and where its route ends there and he rides.
 abbrev pub Alights : Setup → ℕ → ℕ → ℕ → VehicleState → Type 0
 Alights S l i element v =
-    (calls_on l v ≡ true → 1 ≤ times_in i (alighting (next_call v).stop v.riders) → (stay S i (element + 1)).link ≡ l)
-    × (calls_on l v ≡ false → is_last v ≡ true → 1 ≤ times_in i v.riders → (stay S i (element + 1)).link ≡ l)
+    (calls_on l v ≡ true → 1 ≤ times_in i (alighting (next_call v).stop v.riders) → (act_at S i (element + 1)).link ≡ l)
+    × (calls_on l v ≡ false → is_last v ≡ true → 1 ≤ times_in i v.riders → (act_at S i (element + 1)).link ≡ l)
 
 -- the same of each of these rows
 abbrev pub AlightAll : Setup → ℕ → ℕ → ℕ → List Row → Type 0

@@ -2,17 +2,16 @@
 use Rattle.std.specs.Prelude.{ℕ, ◌-◌, Bool, true, false, not, ◌&&◌, ◌||◌, nat_eq, nat_lt, List, [], ◌∷◌, length, get_or}
 use Rattle.std.specs.List.{list_all, list_any}
 use Rattle.events.specs.declared.lists.StopCall.{StopCall}
-use Rattle.plans.specs.declared.plan.Act.{Act}
-use Rattle.plans.specs.declared.plan.Leg.{Leg}
-use Rattle.plans.specs.declared.plan.Leg.TheVariants as leg
-use Rattle.plans.specs.declared.plan.Plan.{Plan}
-use Rattle.plans.specs.Plan.{is_known}
-use Rattle.plans.specs.Parts.{Parts, parts_of}
+use Rattle.rows.specs.declared.plan.Act.{Act}
+use Rattle.rows.specs.declared.plan.Leg.{Leg}
+use Rattle.rows.specs.declared.plan.Leg.TheVariants as leg
+use Rattle.rows.specs.declared.plan.Plan.{Plan}
+use Rattle.rows.specs.Plan.{is_known}
+use Rattle.rows.specs.PlanRows.{PlanRows, plan_rows}
 use Rattle.plans.specs.Refusals.{is_joined}
-use Rattle.schedule.specs.declared.rows.StopRow.{StopRow}
-use Rattle.schedule.specs.declared.rows.RouteRow.{RouteRow}
-use Rattle.schedule.specs.Calls.{link_at}
-use Rattle.traffic.specs.Stops.{calls_at}
+use Rattle.rows.specs.declared.schedule.StopRow.{StopRow}
+use Rattle.rows.specs.declared.schedule.RouteRow.{RouteRow}
+use Rattle.rows.specs.Stops.{calls_at, stop_link}
 use Rattle.town.specs.Rows.{TownRows, ends_of}
 
 -- a car route that does not begin on the link of the activity before it, or does not end on that of the one after it
@@ -32,7 +31,7 @@ is_joining line access egress route = nat_eq route.line line && are_joining acce
 -- or of whose line no route calls at the one and later at the other
 unfoldable pub has_wrong_stops : List StopRow → List RouteRow → ℕ → ℕ → ℕ → ℕ → ℕ → Bool
 has_wrong_stops stops routes here there line access egress =
-    not (nat_eq (link_at stops access) here && nat_eq (link_at stops egress) there && list_any (is_joining line access egress) routes)
+    not (nat_eq (stop_link stops access) here && nat_eq (stop_link stops egress) there && list_any (is_joining line access egress) routes)
 
 -- an activity whose kind and link are in the town
 abbrev pub is_act_in : TownRows → Act → Bool
@@ -43,15 +42,15 @@ unfoldable pub is_drive : TownRows → List ℕ → Bool
 is_drive T route = list_all (λ l. nat_lt l (length T.links)) route && is_joined (ends_of T.links) route
 
 -- the line and the stops of a transit leg are in the town
-abbrev pub is_ride : TownRows → ℕ → ℕ → ℕ → Bool
-is_ride T line access egress = nat_lt line (length T.book.lines) && nat_lt access (length T.stops) && nat_lt egress (length T.stops)
+abbrev pub is_transit_leg : TownRows → ℕ → ℕ → ℕ → Bool
+is_transit_leg T line access egress = nat_lt line (length T.book.lines) && nat_lt access (length T.stops) && nat_lt egress (length T.stops)
 
 -- a leg between activities on these two links fits: its numbers are in the town, and it goes from the one to the other
 unfoldable pub leg_fits : TownRows → ℕ → ℕ → Leg → Bool
 leg_fits T here there (leg.Car route) = not (nat_eq (length route) 0) && is_drive T route && not (has_wrong_ends here there route)
 leg_fits T here there (leg.Teleport mode seconds) = true
 leg_fits T here there (leg.Transit line access egress) =
-    is_ride T line access egress && not (has_wrong_stops T.stops T.routes here there line access egress)
+    is_transit_leg T line access egress && not (has_wrong_stops T.stops T.routes here there line access egress)
 
 -- the link of the first activity
 abbrev pub first_link : List Act → ℕ
@@ -65,5 +64,5 @@ legs_fit T [] (leg ∷ legs) = false
 legs_fit T (here ∷ acts) (leg ∷ legs) = leg_fits T here.link (first_link acts) leg && legs_fit T acts legs
 
 -- a plan fits the town: its activities and its legs do
-unfoldable pub fits : TownRows → Parts → Bool
-fits T parts = list_all (is_act_in T) parts.acts && legs_fit T parts.acts parts.legs
+unfoldable pub fits : TownRows → PlanRows → Bool
+fits T plan = list_all (is_act_in T) plan.acts && legs_fit T plan.acts plan.legs

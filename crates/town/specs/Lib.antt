@@ -1,5 +1,3 @@
-pub mod Greens
-pub mod GreenViews
 pub mod Rows
 pub mod Fits
 pub mod Setups

@@ -1,19 +1,25 @@
--- A town as the definitions see it.
+-- A town, and what a day is made from, as the definitions see them.
 use Rattle.std.specs.Prelude.{ℕ, List, map}
-use Rattle.plans.specs.declared.plan.Plan.{Plan}
-use Rattle.plans.specs.Parts.{parts_of}
+use Rattle.rows.specs.declared.plan.Plan.{Plan}
+use Rattle.rows.specs.PlanRows.{PlanRows, plan_rows}
 use Rattle.traffic.specs.Setup.{Setup}
-use Rattle.town.specs.declared.rows.Town.{Town}
+use Rattle.town.specs.declared.town.Town.{Town}
+use Rattle.town.specs.declared.day_input.DayInput.{DayInput}
 use Rattle.town.specs.Rows.{TownRows, town_rows}
 use Rattle.town.specs.Setups.{setup_of}
 
--- its lists of rows
+-- the lists of rows of a town
 abbrev pub rows_of : Town → TownRows
-rows_of t =
-    town_rows
-    (record { seed = t.seed; end = t.end; flow_permille = t.flow_permille; storage_permille = t.storage_permille; stuck = t.stuck; hole_speed = t.hole_speed; dwell = t.dwell })
-    t.network t.stops t.routes t.departures t.book t.greens
+rows_of t = town_rows t.seed t.settings t.network t.stops t.routes t.departures t.book t.greens
 
--- the setup of a day in it, with these chosen plans
+-- the setup of a day in a town, with these chosen plans
 abbrev pub setup_in : Town → List Plan → ℕ → Setup
-setup_in t chosen iteration = setup_of (rows_of t) (map parts_of chosen) iteration
+setup_in t chosen iteration = setup_of (rows_of t) (map plan_rows chosen) iteration
+
+-- the chosen plans of a day
+abbrev pub chosen_in : DayInput → List PlanRows
+chosen_in day = map plan_rows day.chosen.now
+
+-- the setup of a day
+abbrev pub setup : DayInput → Setup
+setup day = setup_in day.town.now day.chosen.now day.iteration

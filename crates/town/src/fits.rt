@@ -1,12 +1,12 @@
 ghost use Rattle.std.specs.Prelude.{◌≡◌, ◌<◌, ◌≤◌, ◌+◌, length, drop, true, nat_lt};
 ghost use Rattle.std.specs.List.{list_any, list_all};
-ghost use Rattle.plans.specs.Parts.{parts_of};
-ghost use Rattle.town.specs.Fits.{is_act_in, is_drive, is_ride, leg_fits, first_link, legs_fit, fits};
+ghost use Rattle.rows.specs.PlanRows.{plan_rows};
+ghost use Rattle.town.specs.Fits.{is_act_in, is_drive, is_transit_leg, leg_fits, first_link, legs_fit, fits};
 ghost use Rattle.town.specs.Views.{rows_of};
 
 use crate::legs::{is_joined, wrong_ends, wrong_stops};
-use crate::rows::Town;
-use plans::{Act, Leg, Plan};
+use crate::town::Town;
+use rows::{Act, Leg, Plan};
 
 fn is_act_in(town: &Town, act: Act) -> bool
     ensures { result ≡ is_act_in (rows_of town.now) act }
@@ -30,8 +30,8 @@ fn is_drive(town: &Town, route: &[u32]) -> bool
 }
 
 /// Whether the line and the stops of a transit leg are in the town.
-fn is_ride(town: &Town, line: u32, access: u32, egress: u32) -> bool
-    ensures { result ≡ is_ride (rows_of town.now) line access egress }
+fn is_transit_leg(town: &Town, line: u32, access: u32, egress: u32) -> bool
+    ensures { result ≡ is_transit_leg (rows_of town.now) line access egress }
 {
     line < town.book.lines.len()
         && (access as usize) < town.stops.rows.len()
@@ -55,7 +55,7 @@ fn leg_fits(town: &Town, here: u32, there: u32, leg: &Leg) -> bool
             access,
             egress,
         } => {
-            is_ride(town, *line, *access, *egress)
+            is_transit_leg(town, *line, *access, *egress)
                 && !wrong_stops(
                     &town.stops.rows.rows,
                     &town.routes.rows.rows,
@@ -76,7 +76,7 @@ fn are_acts_in(town: &Town, acts: &[Act]) -> bool
 }
 
 /// The link of the first activity.
-fn first_link(acts: &[Act]) -> u32
+pub fn first_link(acts: &[Act]) -> u32
     ensures { result ≡ first_link acts.now }
 {
     match acts {
@@ -107,7 +107,7 @@ fn legs_fit(town: &Town, acts: &[Act], legs: &[Leg]) -> bool
 /// before it to the one after it.
 #[tactic(auto, unfolding(crate::specs::Fits::fits))]
 pub fn plan_fits(town: &Town, plan: &Plan) -> bool
-    ensures { result ≡ fits (rows_of town.now) (parts_of plan.now) }
+    ensures { result ≡ fits (rows_of town.now) (plan_rows plan.now) }
 {
     are_acts_in(town, &plan.acts.rows) && legs_fit(town, &plan.acts.rows, &plan.legs.rows)
 }

@@ -1,13 +1,11 @@
 ghost use Rattle.std.specs.Prelude.{◌≡◌, ◌<◌, length, get_or};
 ghost use Rattle.std.specs.List.{list_any};
 ghost use Rattle.plans.specs.Refusals.{is_joined};
-ghost use Rattle.traffic.specs.Stops.{calls_at};
 ghost use Rattle.town.specs.Fits.{has_wrong_ends, are_joining, is_joining, has_wrong_stops};
 ghost use Rattle.town.specs.Rows.{ends_of};
 
 use events::StopCall;
-use network::LinkRow;
-use schedule::{RouteRow, StopRow};
+use rows::{LinkRow, RouteRow, StopRow, calls_at};
 
 /// Whether a car route, which has a link, does not begin on the link of the activity before it, or does not end on that of the one after it.
 #[tactic(auto, unfolding(crate::specs::Fits::has_wrong_ends))]
@@ -16,12 +14,6 @@ pub fn wrong_ends(here: u32, there: u32, route: &[u32]) -> bool
     ensures { result ≡ has_wrong_ends here there route.now }
 {
     !(route[0] == here && route[route.len() - 1] == there)
-}
-
-fn calls_at(stop: u32, calls: &[StopCall]) -> bool
-    ensures { result ≡ calls_at stop calls.now }
-{
-    calls.iter().any(|call| call.stop == stop)
 }
 
 /// Whether one of the calls is at the stop of access and a later one at that of egress.

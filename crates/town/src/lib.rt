@@ -2,12 +2,13 @@
 //! signals and the settings of its traffic; which plans fit it; and the setup of a day in it.
 #![tactic(auto)]
 
+mod day_input;
 mod fits;
-mod greens;
 mod legs;
-mod rows;
+mod town;
 
-pub use fits::plan_fits;
-pub use greens::{Green, GreenList, SpanList, green_in};
+pub use day_input::{DayInput, chosen_plan};
+pub use fits::{first_link, plan_fits};
 pub use legs::{wrong_ends, wrong_stops};
-pub use rows::Town;
+pub use rows::{Green, GreenList, green_in};
+pub use town::Town;

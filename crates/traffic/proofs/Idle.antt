@@ -5,7 +5,11 @@ use Rattle.std.proofs.lemmas.Bool.{ne_eqb}
 use Rattle.events.specs.declared.event.Mode.{Mode}
 use Rattle.fixed_flow.specs.Flow.{raised}
 use Rattle.traffic.specs.Rows.{Row, Flying, At}
-use Rattle.traffic.specs.Setup.{Setup, Stay, Way, Teleport, Stuck, departure}
+use Rattle.rows.specs.declared.plan.Act.{Act}
+use Rattle.rows.specs.declared.plan.Leg.{Leg}
+use Rattle.rows.specs.declared.settings.Stuck.{Stuck}
+use Rattle.rows.specs.declared.plan.Leg.TheVariants as leg
+use Rattle.traffic.specs.Setup.{Setup, departure}
 use Rattle.traffic.specs.Stops.{Waiter}
 use Rattle.traffic.specs.Moves.{Credit}
 use Rattle.traffic.specs.Links.{Lane, Rules, leave_bay, from_wait, from_queue, link_moves}
@@ -33,10 +37,10 @@ unfolding node_moves
 node_idle K t word see e = none_ready K t word see.exits (ready see.entries) e
 
 -- a person whose leg or activity does not end in this second does nothing, and neither does a departure of another second
-pub landing_idle : (t i : ℕ) (mode : Mode) (seconds start : ℕ) (next : Stay) → start + seconds ≢ t → landing t i (Teleport mode seconds) next (Flying start) ≡ []
+pub landing_idle : (t i : ℕ) (mode : Mode) (seconds start : ℕ) (next : Act) → start + seconds ≢ t → landing t i (leg.Teleport mode seconds) next (Flying start) ≡ []
 landing_idle t i mode seconds start next ne = let e = ne_eqb (start + seconds) t ne in rw e refl
 
-pub leaving_idle : (S : Setup) (t i end : ℕ) (here : Stay) (w : Way) (next : Stay) → end ≢ t → leaving S t i here w next (At (Some end)) ≡ []
+pub leaving_idle : (S : Setup) (t i end : ℕ) (here : Act) (w : Leg) (next : Act) → end ≢ t → leaving S t i here w next (At (Some end)) ≡ []
 leaving_idle S t i end here w next ne = let e = ne_eqb end t ne in rw e refl
 
 pub departure_idle : (S : Setup) (t d : ℕ) → (departure S d).second ≢ t → departure_moves S t d ≡ []

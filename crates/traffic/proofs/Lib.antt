@@ -1,11 +1,16 @@
+pub mod Each
 pub mod Sublists
 pub mod Turns
 pub mod Nodes
 pub mod Links
 pub mod Waiting
+pub mod LeftBehind
 pub mod Persons
 pub mod Phases
 pub mod Order
 pub mod Idle
 pub mod ComeInTurn
 pub mod Moments
+pub mod NodeWalk
+pub mod LinkWalk
+pub mod Walks

@@ -4,8 +4,8 @@ use Rattle.std.specs.Prelude.{if◌then◌else◌, nat_le, nat_lt}
 use Rattle.std.proofs.lemmas.List.{get_or-set_other}
 use Rattle.std.proofs.lemmas.Bool.Decides.{nat_tests}
 use Rattle.fixed_flow.specs.declared.TheConstants.{VEHICLE_COST}
-use Rattle.traffic.specs.declared.rows.Stage.{Stage}
-use Rattle.traffic.specs.declared.rows.Stage.TheVariants.{Queue, Buffer, Wait, Bay}
+use Rattle.traffic.specs.declared.stage.Stage.{Stage}
+use Rattle.traffic.specs.declared.stage.Stage.TheVariants.{Queue, Buffer, Wait, Bay}
 use Rattle.traffic.specs.Rows.{Row, World, credit_of}
 use Rattle.traffic.specs.Setup.{Setup}
 use Rattle.traffic.specs.Stops.{Waiter, calls_on, left_behind}

@@ -4,11 +4,12 @@ use Rattle.std.specs.Prelude.{filter, map, ◌&&◌, ◌||◌, if◌then◌else�
 use Rattle.std.proofs.lemmas.Bool.{cases_Bool, and_parts}
 use Rattle.std.proofs.lemmas.Bool.Decides.{nat_tests}
 use Rattle.std.proofs.Math.Path.{fun_ext}
-use Rattle.traffic.specs.declared.rows.Stage.{Stage}
-use Rattle.traffic.specs.declared.rows.Stage.TheVariants.{Queue, Buffer, Wait, Bay}
+use Rattle.traffic.specs.declared.stage.Stage.{Stage}
+use Rattle.traffic.specs.declared.stage.Stage.TheVariants.{Queue, Buffer, Wait, Bay}
 use Rattle.traffic.specs.Lists.{is_nil, without_at, below}
 use Rattle.traffic.specs.Rows.{rank, Row, World, at, holes_at, credit_of}
-use Rattle.traffic.specs.Setup.{Setup, Stuck, road, hole_of, storage_of, seconds_of, into}
+use Rattle.rows.specs.declared.settings.Stuck.{Stuck}
+use Rattle.traffic.specs.Setup.{Setup, link_row, hole_of, storage_of, seconds_of, into}
 use Rattle.traffic.specs.Moves.{Move, Put, Gone, New, Mark, Credit, Free, Tell, run, done, same, hole_after_all}
 use Rattle.traffic.specs.Nodes.{Entry, Exit, Sight, in_force, entry, exit, sight, next_link, is_exit, has_room, one_more, with_one_more, is_stuck, may_enter, hand, since_of, hand_all, exits_by, exits_after, drawn, no_entry, draw, ready, red, candidates, mark, node_moves}
 use Rattle.traffic.specs.Day.{node_plan}
@@ -68,10 +69,10 @@ buffers-credit S t l (Tell says ∷ ms) W h = buffers-credit S t l ms (done S t 
 -- these are links into the node, and these links out of it
 abbrev Enter : Setup → ℕ → List Entry → Type 0
 Enter S n [] = Unit {0}
-Enter S n (e ∷ es) = (eqb (road S e.link).to n ≡ true) × Enter S n es
+Enter S n (e ∷ es) = (eqb (link_row S e.link).to n ≡ true) × Enter S n es
 
 abbrev Leave : Setup → ℕ → (ℕ → Option Exit) → Type 0
-Leave S n exits = (m : ℕ) → is_exit (exits m) ≡ true → eqb (road S m).from n ≡ true
+Leave S n exits = (m : ℕ) → is_exit (exits m) ≡ true → eqb (link_row S m).from n ≡ true
 
 Enter-filter : (S : Setup) (n : ℕ) (p : Entry → Bool) (es : List Entry) → Enter S n es → Enter S n (filter p es)
 Enter-filter S n p [] h = tt
@@ -82,12 +83,12 @@ Enter-without S n k [] h = tt
 Enter-without S n zero (e ∷ es) h = h.1
 Enter-without S n (suc k) (e ∷ es) h = (h.0, Enter-without S n k es h.1)
 
-Enter-entries : (S : Setup) (t n : ℕ) (W : World) (ls : List ℕ) → Enter S n (map (entry S t W) (filter (λ l. eqb (road S l).to n) ls))
+Enter-entries : (S : Setup) (t n : ℕ) (W : World) (ls : List ℕ) → Enter S n (map (entry S t W) (filter (λ l. eqb (link_row S l).to n) ls))
 Enter-entries S t n W [] = tt
-Enter-entries S t n W (l ∷ ls) = elim (cases_Bool (eqb (road S l).to n)) [ inl q ↦ simp q (refl, Enter-entries S t n W ls) | inr q ↦ simp q (Enter-entries S t n W ls) ]
+Enter-entries S t n W (l ∷ ls) = elim (cases_Bool (eqb (link_row S l).to n)) [ inl q ↦ simp q (refl, Enter-entries S t n W ls) | inr q ↦ simp q (Enter-entries S t n W ls) ]
 
 Leave-exit : (S : Setup) (t n : ℕ) (W : World) → Leave S n (exit S t n W)
-Leave-exit S t n W m = elim (cases_Bool (eqb (road S m).from n)) [ inl q ↦ λ h. q | inr q ↦ λ h. let g = simp q at h in cc ]
+Leave-exit S t n W m = elim (cases_Bool (eqb (link_row S m).from n)) [ inl q ↦ λ h. q | inr q ↦ λ h. let g = simp q at h in cc ]
 
 is_exit-more : (o : Option Exit) → is_exit (with_one_more o) ≡ is_exit o
 is_exit-more None = refl
@@ -110,19 +111,19 @@ Untouched-if : (l : ℕ) (s : Stage) (b : Bool) (xs ys : List Move) → (b ≡ t
 Untouched-if l s b xs ys h g = elim (cases_Bool b) [ inl e ↦ rw e (h e) | inr e ↦ rw e (g e) ]
 
 -- a buffer that the node sees is at none of the places that it does not see, and so is a queue
-from_seen : (S : Setup) (n l a : ℕ) (s : Stage) → sees S n l s ≡ false → eqb (road S a).to n ≡ true → same l s a Buffer ≡ false
+from_seen : (S : Setup) (n l a : ℕ) (s : Stage) → sees S n l s ≡ false → eqb (link_row S a).to n ≡ true → same l s a Buffer ≡ false
 from_seen S n l a Queue un h = grind arith
-from_seen S n l a Buffer un h = grind (arith, nat_tests, ap (λ x. eqb (road S x).to n))
+from_seen S n l a Buffer un h = grind (arith, nat_tests, ap (λ x. eqb (link_row S x).to n))
 from_seen S n l a Wait un h = grind arith
 from_seen S n l a Bay un h = grind arith
 
-into_seen : (S : Setup) (n l m : ℕ) (s : Stage) → sees S n l s ≡ false → eqb (road S m).from n ≡ true → (eqb (rank Queue) (rank s) && eqb m l) ≡ false
+into_seen : (S : Setup) (n l m : ℕ) (s : Stage) → sees S n l s ≡ false → eqb (link_row S m).from n ≡ true → (eqb (rank Queue) (rank s) && eqb m l) ≡ false
 into_seen S n l m Queue un h = grind (arith, nat_tests)
 into_seen S n l m Buffer un h = grind arith
 into_seen S n l m Wait un h = grind arith
 into_seen S n l m Bay un h = grind arith
 
-hand_untouched : (S : Setup) (n : ℕ) (K : Stuck) (t a l : ℕ) (s : Stage) → sees S n l s ≡ false → eqb (road S a).to n ≡ true → (exits : ℕ → Option Exit) → Leave S n exits → (since : ℕ) (xs : List Row) → Untouched l s (hand K t a exits since xs)
+hand_untouched : (S : Setup) (n : ℕ) (K : Stuck) (t a l : ℕ) (s : Stage) → sees S n l s ≡ false → eqb (link_row S a).to n ≡ true → (exits : ℕ → Option Exit) → Leave S n exits → (since : ℕ) (xs : List Row) → Untouched l s (hand K t a exits since xs)
 unfolding hand
 hand_untouched S n K t a l s un h exits out since [] = tt
 hand_untouched S n K t a l s un h exits out since (r ∷ rs) =
@@ -168,22 +169,22 @@ node_moves_untouched S n K t word l s un see h out =
 
 -- the turn of a node leaves each list that the node does not see as it was
 pub node_untouched : (S : Setup) (t n l : ℕ) (s : Stage) (W : World) → sees S n l s ≡ false → Untouched l s (node_plan S t n W)
-node_untouched S t n l s W un = node_moves_untouched S n S.stuck t (S.word n) l s un (sight S t n W) (Enter-sight S t n W) (Leave-exit S t n W)
+node_untouched S t n l s W un = node_moves_untouched S n S.settings.stuck t (S.word n) l s un (sight S t n W) (Enter-sight S t n W) (Leave-exit S t n W)
 
 same_sight : (A B : Sight) → A.entries ≡ B.entries → A.exits ≡ B.exits → A ≡ B
 same_sight A B e f = λ i. record { entries = e i; exits = f i }
 
-entries_agree : (S : Setup) (t n : ℕ) (W U : World) → ((l : ℕ) → eqb (road S l).to n ≡ true → at l Buffer W ≡ at l Buffer U) → (ls : List ℕ) → map (entry S t W) (filter (λ l. eqb (road S l).to n) ls) ≡ map (entry S t U) (filter (λ l. eqb (road S l).to n) ls)
+entries_agree : (S : Setup) (t n : ℕ) (W U : World) → ((l : ℕ) → eqb (link_row S l).to n ≡ true → at l Buffer W ≡ at l Buffer U) → (ls : List ℕ) → map (entry S t W) (filter (λ l. eqb (link_row S l).to n) ls) ≡ map (entry S t U) (filter (λ l. eqb (link_row S l).to n) ls)
 entries_agree S t n W U h [] = refl
 entries_agree S t n W U h (l ∷ ls) =
-    elim (cases_Bool (eqb (road S l).to n)) [
-      | inl q ↦ let e = h l q in let f = entries_agree S t n W U h ls in simp q (let g : entry S t W l ≡ entry S t U l = ap (λ rows. record { link = l; capacity = (road S l).capacity; green = S.green l t; rows = rows }) e in cc)
+    elim (cases_Bool (eqb (link_row S l).to n)) [
+      | inl q ↦ let e = h l q in let f = entries_agree S t n W U h ls in simp q (let g : entry S t W l ≡ entry S t U l = ap (λ rows. record { link = l; capacity = (link_row S l).capacity; green = S.green l t; rows = rows }) e in cc)
       | inr q ↦ simp q (entries_agree S t n W U h ls)
     ]
 
-exit_agree : (S : Setup) (t n : ℕ) (W U : World) → ((l : ℕ) → eqb (road S l).from n ≡ true → at l Queue W ≡ at l Queue U) → ((l : ℕ) → holes_at l W ≡ holes_at l U) → (m : ℕ) → exit S t n W m ≡ exit S t n U m
+exit_agree : (S : Setup) (t n : ℕ) (W U : World) → ((l : ℕ) → eqb (link_row S l).from n ≡ true → at l Queue W ≡ at l Queue U) → ((l : ℕ) → holes_at l W ≡ holes_at l U) → (m : ℕ) → exit S t n W m ≡ exit S t n U m
 exit_agree S t n W U h g m =
-    elim (cases_Bool (eqb (road S m).from n)) [
+    elim (cases_Bool (eqb (link_row S m).from n)) [
       | inl q ↦ let a = ap length (h m q) in let b = ap (in_force t (hole_of S m)) (g m) in rw q (ap (λ taken. Some (record { taken = taken; storage = storage_of S m; seconds = seconds_of S m })) (omega arith))
       | inr q ↦ rw q refl
     ]
@@ -203,6 +204,6 @@ sees_apart S n m l Bay ne h = grind arith
 
 pub nodes_apart : (S : Setup) (t : ℕ) → Apart S t (node_plan S t)
 nodes_apart S t n m W ne =
-    ap (node_moves S.stuck t (S.word n)) (sight_agree S t n (run S t (node_plan S t m W) W) W
+    ap (node_moves S.settings.stuck t (S.word n)) (sight_agree S t n (run S t (node_plan S t m W) W) W
     (λ l s h. at-run_untouched S t l s (node_plan S t m W) W (node_untouched S t m l s W (sees_apart S n m l s ne h)))
-    (λ l. holes-run S t l (node_plan S t m W) W ∙ buffers-holes l (node_plan S t m W) (holes_at l W) (node-buffers S.stuck t (S.word m) (sight S t m W))))
+    (λ l. holes-run S t l (node_plan S t m W) W ∙ buffers-holes l (node_plan S t m W) (holes_at l W) (node-buffers S.settings.stuck t (S.word m) (sight S t m W))))

@@ -178,6 +178,6 @@ from-ascends S W (suc t) =
 pub day-ascends : (S : Setup) → Ascends (day S)
 unfolding day end_events
 day-ascends S =
-    let T = S.end in
+    let T = S.settings.end_second in
     Ascends-append (Before T) (OfPhase T (phase_code phase.E) 0) (λ a b h g. by_second a.key b.key (let q = g.0 in omega arith)) (events_from S (world_start S) T) _
     (from-before S (world_start S) T) (told-of T (phase_code phase.E) 0 (length S.persons) (stranded S (world_at S T))) (from-ascends S (world_start S) T) (told-ascends T (phase_code phase.E) 0 (length S.persons) (stranded S (world_at S T)))

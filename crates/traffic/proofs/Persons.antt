@@ -3,7 +3,10 @@ use Rattle.std.proofs.Common.{◌≡◌, ℕ, ◌+◌, ◌≢◌, Bool, true, fa
 use Rattle.std.specs.Prelude.{if◌then◌else◌, Option, None, Some}
 use Rattle.std.proofs.lemmas.List.{get_or-set_other}
 use Rattle.traffic.specs.Rows.{World, Place, At, Flying, Person, person_of, nobody}
-use Rattle.traffic.specs.Setup.{Setup, Stay, Way, Drive, Teleport, Transit, stay, way, next_stay, departure}
+use Rattle.rows.specs.declared.plan.Act.{Act}
+use Rattle.rows.specs.declared.plan.Leg.{Leg}
+use Rattle.rows.specs.declared.plan.Leg.TheVariants as leg
+use Rattle.traffic.specs.Setup.{Setup, act_at, leg_at, act_after, departure}
 use Rattle.traffic.specs.Telling.{Said}
 use Rattle.traffic.specs.Moves.{Move, New, told, done, run, persons_by, persons_after}
 use Rattle.traffic.specs.Persons.{landing, landing_moves, sets_out, leaving, leaving_moves, transit_vehicle, departure_moves}
@@ -31,26 +34,26 @@ pub other_person : (S : Setup) (t i j : ℕ) (ms : List Move) (W : World) → j 
 other_person S t i j [] W ne h = refl
 other_person S t i j (m ∷ ms) W ne h = other_person S t i j ms (done S t m W) ne h.1 ∙ other_after S t i j (told m) W.persons ne h.0
 
-landing-of : (t i : ℕ) (w : Way) (next : Stay) (pl : Place) → TellOf i (landing t i w next pl)
-landing-of t i (Teleport mode seconds) next (Flying start) = TellOf-if i (eqb (start + seconds) t) _ _ ((refl, (refl, (refl, tt))), tt) tt
+landing-of : (t i : ℕ) (w : Leg) (next : Act) (pl : Place) → TellOf i (landing t i w next pl)
+landing-of t i (leg.Teleport mode seconds) next (Flying start) = TellOf-if i (eqb (start + seconds) t) _ _ ((refl, (refl, (refl, tt))), tt) tt
 landing-of t i _ next _ = tt
 
 pub landing_moves-of : (S : Setup) (t i : ℕ) (P : Person) → TellOf i (landing_moves S t i P)
 unfolding landing_moves
-landing_moves-of S t i P = landing-of t i (way S i P.element) (next_stay S i P.element) P.place
+landing_moves-of S t i P = landing-of t i (leg_at S i P.element) (act_after S i P.element) P.place
 
-sets_out-of : (S : Setup) (i : ℕ) (w : Way) (next : Stay) → TellOf i (sets_out S i w next)
-sets_out-of S i (Drive route) next = ((refl, tt), tt)
-sets_out-of S i (Teleport mode seconds) next = tt
-sets_out-of S i (Transit line access egress) next = ((refl, tt), tt)
+sets_out-of : (S : Setup) (i : ℕ) (w : Leg) (next : Act) → TellOf i (sets_out S i w next)
+sets_out-of S i (leg.Car route) next = ((refl, tt), tt)
+sets_out-of S i (leg.Teleport mode seconds) next = tt
+sets_out-of S i (leg.Transit line access egress) next = ((refl, tt), tt)
 
-leaving-of : (S : Setup) (t i : ℕ) (here : Stay) (w : Way) (next : Stay) (pl : Place) → TellOf i (leaving S t i here w next pl)
+leaving-of : (S : Setup) (t i : ℕ) (here : Act) (w : Leg) (next : Act) (pl : Place) → TellOf i (leaving S t i here w next pl)
 leaving-of S t i here w next (At (Some end)) = TellOf-if i (eqb end t) _ _ ((refl, (refl, tt)), sets_out-of S i w next) tt
 leaving-of S t i here w next _ = tt
 
 pub leaving_moves-of : (S : Setup) (t i : ℕ) (P : Person) → TellOf i (leaving_moves S t i P)
 unfolding leaving_moves
-leaving_moves-of S t i P = leaving-of S t i (stay S i P.element) (way S i P.element) (next_stay S i P.element) P.place
+leaving_moves-of S t i P = leaving-of S t i (act_at S i P.element) (leg_at S i P.element) (act_after S i P.element) P.place
 
 pub flights_apart : (S : Setup) (t : ℕ) → Apart S t (flight_plan S t)
 flights_apart S t n m W ne = ap (landing_moves S t n) (other_person S t m n (flight_plan S t m W) W ne (landing_moves-of S t m (person_of m W)))

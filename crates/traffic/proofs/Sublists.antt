@@ -1,12 +1,13 @@
 -- What a move does to each sublist of the rows, to each credit, to the holes of each link and to each person.
-use Rattle.std.proofs.Common.{◌≡◌, ℕ, zero, suc, ◌<◌, Bool, true, false, List, [], ◌∷◌, ◌++◌, length, refl, ap, sym, ◌∙◌, append-nil, eqb, arith, inl, inr, get_or}
-use Rattle.std.specs.Prelude.{filter, map, if◌then◌else◌, Option, None, Some}
+use Rattle.std.proofs.Common.{◌≡◌, ℕ, zero, suc, ◌<◌, Bool, true, false, List, [], ◌∷◌, ◌++◌, length, slice_get, refl, ap, sym, ◌∙◌, subst, append-nil, eqb, arith, inl, inr, get_or}
+use Rattle.std.specs.Prelude.{All, filter, map, if◌then◌else◌, Option, None, Some}
+use Rattle.std.proofs.lemmas.Option.{slice_get_within, get_or_from_slice_get}
 use Rattle.std.proofs.lemmas.Bool.{cases_Bool, and_parts, eqb-true, eqb-false, or_parts}
 use Rattle.std.proofs.lemmas.Bool.Decides.{nat_tests}
-use Rattle.std.proofs.lemmas.List.Elements.{filter-append, filter_agree}
+use Rattle.std.proofs.lemmas.List.Elements.{All-filter, filter-append, filter_agree, filter_passes}
 use Rattle.std.proofs.lemmas.List.{map-append, get_or-set_same, get_or-set_other, length-set}
-use Rattle.traffic.specs.declared.rows.Stage.{Stage}
-use Rattle.traffic.specs.declared.rows.Stage.TheVariants.{Buffer}
+use Rattle.traffic.specs.declared.stage.Stage.{Stage}
+use Rattle.traffic.specs.declared.stage.Stage.TheVariants.{Queue, Buffer, Wait, Bay}
 use Rattle.traffic.specs.Lists.{without, without_at, with_first, on_front}
 use Rattle.traffic.specs.Rows.{rank, Row, Hole, Person, World, on, at, holes_at, credit_of, person_of, nobody}
 use Rattle.traffic.specs.Setup.{Setup}
@@ -31,6 +32,25 @@ filter-with_first_same p f keeps (x ∷ xs) = grind (arith, keeps x, filter-with
 pub filter-with_first_other : {X : Type 0} (p q : X → Bool) (f : X → X) → ((x : X) → p x ≡ true → q x ≡ false) → ((x : X) → p x ≡ true → p (f x) ≡ true) → (xs : List X) → filter q (with_first p f xs) ≡ filter q xs
 filter-with_first_other p q f apart keeps [] = refl
 filter-with_first_other p q f apart keeps (x ∷ xs) = grind (arith, apart x, apart (f x), keeps x, filter-with_first_other p q f apart keeps xs)
+
+-- a row at a place of a link stands there, and is one of all rows
+pub stage_is : (s z : Stage) → eqb (rank s) (rank z) ≡ true → s ≡ z
+stage_is Queue Queue e = refl
+stage_is Buffer Buffer e = refl
+stage_is Wait Wait e = refl
+stage_is Bay Bay e = refl
+stage_is s z e = absurd (cc)
+
+pub on_is : (l : ℕ) (s : Stage) (r : Row) → on l s r ≡ true → (r.stage ≡ s) × (r.link ≡ l)
+on_is l s r e = let h = and_parts (eqb (rank r.stage) (rank s)) (eqb r.link l) e in (stage_is r.stage s h.0, eqb-true r.link l h.1)
+
+pub at_such : (P : Row → Type 0) (l : ℕ) (s : Stage) (k : ℕ) (r : Row) (rows : List Row) → All P rows → slice_get (filter (on l s) rows) k ≡ Some r → P r × (r.stage ≡ s) × (r.link ≡ l)
+at_such P l s k r rows h e =
+    let xs = filter (on l s) rows in
+    let q = get_or_from_slice_get xs k r r e in
+    let lt = slice_get_within xs k r e in
+    let there : on l s r ≡ true = subst (λ (x : Row). on l s x ≡ true) q (filter_passes (on l s) rows k r lt) in
+    let is = on_is l s r there in (subst P q (All-filter (on l s) P rows h k r lt), is.0, is.1)
 
 -- two places are one, or no row stands at both
 pub on_same : (l : ℕ) (s : Stage) (a : ℕ) (z : Stage) → same l s a z ≡ true → (r : Row) → on a z r ≡ on l s r

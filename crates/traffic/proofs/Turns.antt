@@ -3,7 +3,7 @@ use Rattle.std.proofs.Common.{◌≡◌, ℕ, zero, suc, ◌+◌, ◌<◌, ◌�
 use Rattle.std.specs.Prelude.{filter, map}
 use Rattle.std.specs.List.{flat_map}
 use Rattle.std.proofs.lemmas.Bool.{cases_Bool, ne_eqb, eqb-true, eqb-false}
-use Rattle.traffic.specs.declared.rows.Stage.{Stage}
+use Rattle.traffic.specs.declared.stage.Stage.{Stage}
 use Rattle.traffic.specs.Lists.{numbers, below}
 use Rattle.traffic.specs.Rows.{Row, World, at}
 use Rattle.traffic.specs.Setup.{Setup}

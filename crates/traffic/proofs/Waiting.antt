@@ -1,27 +1,32 @@
 -- A link's turn changes nobody who waits at a stop of another link.
-use Rattle.std.proofs.Common.{◌≡◌, ℕ, zero, suc, ◌+◌, ◌-◌, ◌<◌, ◌≤◌, ◌≢◌, Bool, true, false, List, [], ◌∷◌, ◌++◌, length, refl, ap, sym, ◌∙◌, eqb, arith, inl, inr, take}
-use Rattle.std.specs.Prelude.{filter, map, drop, if◌then◌else◌, nat_le, nat_lt, Option, None, Some}
-use Rattle.std.specs.List.{flat_map}
+use Rattle.std.proofs.Common.{◌≡◌, ℕ, zero, suc, ◌+◌, ◌-◌, ◌<◌, ◌≤◌, ◌≢◌, Bool, List, [], ◌∷◌, ◌++◌, length, refl, ap, sym, ◌∙◌, eqb, arith, inl, inr}
+use Rattle.std.specs.Prelude.{map, if◌then◌else◌, nat_le, nat_lt, Option, None, Some}
+use Rattle.std.specs.List.{AllByRecursion as Each, flat_map}
+use Rattle.std.proofs.Math.Seq.{drop-append_seam}
 use Rattle.std.proofs.lemmas.Bool.{cases_Bool, eqb-true, ne_eqb}
 use Rattle.events.specs.declared.event.VehicleId.{VehicleId}
 use Rattle.events.specs.declared.event.Word.{Word}
 use Rattle.events.specs.declared.event.Word.TheVariants as word
 use Rattle.fixed_flow.specs.declared.TheConstants.{VEHICLE_COST}
-use Rattle.traffic.specs.declared.rows.Rider.{Rider}
+use Rattle.traffic.specs.declared.riders.Rider.{Rider}
 use Rattle.traffic.specs.Rows.{Row, World, VehicleState, Place, At, Flying, Waiting, Riding, Gone as Removed, Person, person_of}
-use Rattle.traffic.specs.Setup.{Setup, Stay, Way, Drive, Teleport, Transit, Dwelling, way, next_stay, link_of_stop}
+use Rattle.rows.specs.declared.plan.Act.{Act}
+use Rattle.rows.specs.declared.plan.Leg.{Leg}
+use Rattle.rows.specs.declared.settings.Dwelling.{Dwelling}
+use Rattle.rows.specs.declared.plan.Leg.TheVariants as leg
+use Rattle.traffic.specs.Setup.{Setup, leg_at, act_after, link_of_stop}
 use Rattle.traffic.specs.Lists.{numbers, below}
-use Rattle.traffic.specs.Stops.{Waiter, next_call, alighting, staying, may_board, comes_first, among, in_turn, boarding, left_behind, rider, riders_after, served_vehicle, served_row, calls_on}
+use Rattle.traffic.specs.Stops.{Waiter, next_call, alighting, staying, boarding, left_behind, rider, riders_after, served_vehicle, served_row, calls_on}
 use Rattle.traffic.specs.Telling.{Said, leaves, enters, starts, arrives, boarded, serves}
 use Rattle.traffic.specs.Moves.{Move, told, run, done, start_act, ride, person_by, person_after, told_of, person_after_all}
 use Rattle.traffic.specs.Links.{Lane, Rules, leave_bay, is_last, may_pass, from_wait, from_queue, wait_after, link_moves}
 use Rattle.traffic.specs.Persons.{waits_on, waiter, waiters}
+use Rattle.traffic.proofs.Each.{each_append, each_if, each_boarding, each_left}
 use Rattle.traffic.proofs.Sublists.{persons-length, person_after_all-is}
 
 -- all of these persons are such
-abbrev pub Each : (ℕ → Type 0) → List Waiter → Type 0
-Each Q [] = Unit {0}
-Each Q (w ∷ ws) = Q w.person × Each Q ws
+abbrev pub AreSuch : (ℕ → Type 0) → List Waiter → Type 0
+AreSuch Q ws = Each (λ (w : Waiter). Q w.person) ws
 
 abbrev pub Such : (ℕ → Type 0) → Option ℕ → Type 0
 Such Q None = Unit {0}
@@ -36,114 +41,71 @@ Calm_word Q word.PersonEntersVehicle o = Such Q o
 Calm_word Q _ o = Unit {0}
 
 abbrev pub Calm : (ℕ → Type 0) → List Said → Type 0
-Calm Q [] = Unit {0}
-Calm Q (e ∷ es) = Calm_word Q e.word e.person × Calm Q es
+Calm Q es = Each (λ (e : Said). Calm_word Q e.word e.person) es
 
 abbrev pub Calm_moves : (ℕ → Type 0) → List Move → Type 0
-Calm_moves Q [] = Unit {0}
-Calm_moves Q (m ∷ ms) = Calm Q (told m) × Calm_moves Q ms
+Calm_moves Q ms = Each (λ (m : Move). Calm Q (told m)) ms
 
-Calm-append : (Q : ℕ → Type 0) (xs ys : List Said) → Calm Q xs → Calm Q ys → Calm Q (xs ++ ys)
-Calm-append Q [] ys h g = g
-Calm-append Q (x ∷ xs) ys h g = (h.0, Calm-append Q xs ys h.1 g)
-
-Calm_moves-append : (Q : ℕ → Type 0) (xs ys : List Move) → Calm_moves Q xs → Calm_moves Q ys → Calm_moves Q (xs ++ ys)
-Calm_moves-append Q [] ys h g = g
-Calm_moves-append Q (x ∷ xs) ys h g = (h.0, Calm_moves-append Q xs ys h.1 g)
+pub Calm-append : (Q : ℕ → Type 0) (xs ys : List Said) → Calm Q xs → Calm Q ys → Calm Q (xs ++ ys)
+Calm-append Q xs ys h g = each_append (λ (e : Said). Calm_word Q e.word e.person) xs ys h g
 
 Calm_moves-if : (Q : ℕ → Type 0) (b : Bool) (xs ys : List Move) → Calm_moves Q xs → Calm_moves Q ys → Calm_moves Q (if b then xs else ys)
-Calm_moves-if Q b xs ys h g = elim b as (λ c. Calm_moves Q (if c then xs else ys)) [ true ↦ h | false ↦ g ]
-
-Calm-if : (Q : ℕ → Type 0) (b : Bool) (xs ys : List Said) → Calm Q xs → Calm Q ys → Calm Q (if b then xs else ys)
-Calm-if Q b xs ys h g = elim b as (λ c. Calm Q (if c then xs else ys)) [ true ↦ h | false ↦ g ]
-
--- WHO BOARDS IS AMONG THOSE WHO WAIT
-Each-filter : (Q : ℕ → Type 0) (p : Waiter → Bool) (ws : List Waiter) → Each Q ws → Each Q (filter p ws)
-Each-filter Q p [] h = tt
-Each-filter Q p (w ∷ ws) h = elim (cases_Bool (p w)) [ inl q ↦ simp q (h.0, Each-filter Q p ws h.1) | inr q ↦ simp q (Each-filter Q p ws h.1) ]
-
-Each-append : (Q : ℕ → Type 0) (xs ys : List Waiter) → Each Q xs → Each Q ys → Each Q (xs ++ ys)
-Each-append Q [] ys h g = g
-Each-append Q (x ∷ xs) ys h g = (h.0, Each-append Q xs ys h.1 g)
-
-Each-take : (Q : ℕ → Type 0) (k : ℕ) (ws : List Waiter) → Each Q ws → Each Q (take k ws)
-Each-take Q zero ws h = tt
-Each-take Q (suc k) [] h = tt
-Each-take Q (suc k) (w ∷ ws) h = (h.0, Each-take Q k ws h.1)
-
-Each-among : (Q : ℕ → Type 0) (w : Waiter) (ws : List Waiter) → Q w.person → Each Q ws → Each Q (among w ws)
-unfolding among
-Each-among Q w [] q h = (q, tt)
-Each-among Q w (x ∷ xs) q h = elim (cases_Bool (comes_first w x)) [ inl e ↦ simp e (q, h) | inr e ↦ simp e (h.0, Each-among Q w xs q h.1) ]
-
-Each-in_turn : (Q : ℕ → Type 0) (ws : List Waiter) → Each Q ws → Each Q (in_turn ws)
-unfolding in_turn
-Each-in_turn Q [] h = tt
-Each-in_turn Q (w ∷ ws) h = Each-among Q w (in_turn ws) h.0 (Each-in_turn Q ws h.1)
-
-Each-boarding : (Q : ℕ → Type 0) (v : VehicleState) (ws : List Waiter) → Each Q ws → Each Q (boarding v ws)
-unfolding boarding
-Each-boarding Q v ws h = Each-take Q _ (in_turn (filter (may_board v) ws)) (Each-in_turn Q (filter (may_board v) ws) (Each-filter Q (may_board v) ws h))
-
-Each-left : (Q : ℕ → Type 0) (v : VehicleState) (ws : List Waiter) → Each Q ws → Each Q (left_behind v ws)
-unfolding left_behind
-Each-left Q v ws h = Each-filter Q _ ws h
+Calm_moves-if Q b xs ys h g = each_if (λ (m : Move). Calm Q (told m)) b xs ys h g
 
 -- WHAT A LINK'S TURN TELLS IS CALM
 calm_leaves : (Q : ℕ → Type 0) (v : VehicleId) (l : ℕ) (rs : List Rider) → Calm Q (flat_map (leaves v l) rs)
 calm_leaves Q v l [] = tt
 calm_leaves Q v l (r ∷ rs) = (tt, (tt, (tt, calm_leaves Q v l rs)))
 
-calm_enters : (Q : ℕ → Type 0) (v : VehicleId) (ws : List Waiter) → Each Q ws → Calm Q (flat_map (enters v) (map rider ws))
+calm_enters : (Q : ℕ → Type 0) (v : VehicleId) (ws : List Waiter) → AreSuch Q ws → Calm Q (flat_map (enters v) (map rider ws))
 calm_enters Q v [] h = tt
 calm_enters Q v (w ∷ ws) h = (h.0, calm_enters Q v ws h.1)
 
-drop_front : (xs ys : List Rider) → drop (length xs) (xs ++ ys) ≡ ys
-drop_front [] ys = refl
-drop_front (x ∷ xs) ys = drop_front xs ys
-
-boarded-are : (v : VehicleState) (ws : List Waiter) → boarded (next_call v).stop v.riders (riders_after v ws) ≡ map rider (boarding v ws)
+pub boarded-are : (v : VehicleState) (ws : List Waiter) → boarded (next_call v).stop v.riders (riders_after v ws) ≡ map rider (boarding v ws)
 unfolding riders_after
-boarded-are v ws = drop_front (staying (next_call v).stop v.riders) (map rider (boarding v ws))
+boarded-are v ws = drop-append_seam (staying (next_call v).stop v.riders) (map rider (boarding v ws))
 
-calm_serves : (Q : ℕ → Type 0) (D : Dwelling) (t l : ℕ) (ws : List Waiter) (r : Row) → Each Q ws → Calm Q (serves r (served_row D t l ws r.vehicle))
+pub calm_serves : (Q : ℕ → Type 0) (D : Dwelling) (t l : ℕ) (ws : List Waiter) (r : Row) → AreSuch Q (boarding r.vehicle ws) → Calm Q (serves r (served_row D t l ws r.vehicle))
 unfolding served_vehicle
 calm_serves Q D t l ws r h =
     let e = boarded-are r.vehicle ws in
-    (tt, Calm-append Q _ _ (calm_leaves Q r.vehicle.id r.link (alighting (next_call r.vehicle).stop r.vehicle.riders)) (rw e (calm_enters Q r.vehicle.id (boarding r.vehicle ws) (Each-boarding Q r.vehicle ws h))))
+    (tt, Calm-append Q _ _ (calm_leaves Q r.vehicle.id r.link (alighting (next_call r.vehicle).stop r.vehicle.riders)) (rw e (calm_enters Q r.vehicle.id (boarding r.vehicle ws) h)))
 
-calm_starts : (Q : ℕ → Type 0) (r : Row) → Calm Q (starts r)
-calm_starts Q r = Calm-if Q r.vehicle.started [] _ tt (tt, tt)
+pub calm_starts : (Q : ℕ → Type 0) (r : Row) → Calm Q (starts r)
+calm_starts Q r = each_if (λ (e : Said). Calm_word Q e.word e.person) r.vehicle.started [] _ tt (tt, tt)
 
-calm_arrives : (Q : ℕ → Type 0) (r : Row) → Calm Q (arrives r)
+pub calm_arrives : (Q : ℕ → Type 0) (r : Row) → Calm Q (arrives r)
 calm_arrives Q r = (tt, calm_leaves Q r.vehicle.id r.link r.vehicle.riders)
+
+such_boarding : (Q : ℕ → Type 0) (v : VehicleState) (ws : List Waiter) → AreSuch Q ws → AreSuch Q (boarding v ws)
+such_boarding Q v ws h = each_boarding (λ (w : Waiter). Q w.person) _ v (λ w e g. g) ws h
 
 leave_bay-calm : (Q : ℕ → Type 0) (t l k : ℕ) (xs : List Row) → Calm_moves Q (leave_bay t l k xs)
 unfolding leave_bay
 leave_bay-calm Q t l k [] = tt
 leave_bay-calm Q t l k (r ∷ rs) = Calm_moves-if Q (nat_le r.second t) _ _ ((tt, tt), leave_bay-calm Q t l k rs) (leave_bay-calm Q t l (k + 1) rs)
 
-from_wait-calm : (Q : ℕ → Type 0) (K : Rules) (t l : ℕ) (ws : List Waiter) → Each Q ws → (b c : ℕ) (xs : List Row) → Calm_moves Q (from_wait K t l ws b c xs)
+from_wait-calm : (Q : ℕ → Type 0) (K : Rules) (t l : ℕ) (ws : List Waiter) → AreSuch Q ws → (b c : ℕ) (xs : List Row) → Calm_moves Q (from_wait K t l ws b c xs)
 unfolding from_wait
 from_wait-calm Q K t l ws h b c [] = tt
 from_wait-calm Q K t l ws h b c (r ∷ rs) =
-    Calm_moves-if Q (calls_on l r.vehicle) _ _ (Calm-append Q _ _ (calm_starts Q r) (calm_serves Q K.dwell t l ws r h), from_wait-calm Q K t l (left_behind r.vehicle ws) (Each-left Q r.vehicle ws h) b c rs)
+    Calm_moves-if Q (calls_on l r.vehicle) _ _ (Calm-append Q _ _ (calm_starts Q r) (calm_serves Q K.dwell t l ws r (such_boarding Q r.vehicle ws h)), from_wait-calm Q K t l (left_behind r.vehicle ws) (each_left (λ (w : Waiter). Q w.person) r.vehicle ws h) b c rs)
     (Calm_moves-if Q (is_last r.vehicle) _ _ (Calm-append Q _ _ (calm_starts Q r) (calm_arrives Q r), from_wait-calm Q K t l ws h b c rs)
     (Calm_moves-if Q (may_pass K b c) _ _ (Calm-append Q _ _ (calm_starts Q r) tt, (tt, from_wait-calm Q K t l ws h (b + 1) (c - VEHICLE_COST) rs)) tt))
 
-from_queue-calm : (Q : ℕ → Type 0) (K : Rules) (t l : ℕ) (ws : List Waiter) → Each Q ws → (b c : ℕ) (xs ys : List Row) → Calm_moves Q (from_queue K t l ws b c xs ys)
+from_queue-calm : (Q : ℕ → Type 0) (K : Rules) (t l : ℕ) (ws : List Waiter) → AreSuch Q ws → (b c : ℕ) (xs ys : List Row) → Calm_moves Q (from_queue K t l ws b c xs ys)
 unfolding from_queue
 from_queue-calm Q K t l ws h b c [] ys = from_wait-calm Q K t l ws h b c ys
 from_queue-calm Q K t l ws h b c (r ∷ rs) ys =
     Calm_moves-if Q (nat_lt t r.second) _ _ (from_wait-calm Q K t l ws h b c ys)
-    (Calm_moves-if Q (calls_on l r.vehicle) _ _ (calm_serves Q K.dwell t l ws r h, (tt, from_queue-calm Q K t l (left_behind r.vehicle ws) (Each-left Q r.vehicle ws h) b c rs ys))
+    (Calm_moves-if Q (calls_on l r.vehicle) _ _ (calm_serves Q K.dwell t l ws r (such_boarding Q r.vehicle ws h), (tt, from_queue-calm Q K t l (left_behind r.vehicle ws) (each_left (λ (w : Waiter). Q w.person) r.vehicle ws h) b c rs ys))
     (Calm_moves-if Q (is_last r.vehicle) _ _ (calm_arrives Q r, (tt, from_queue-calm Q K t l ws h b c rs ys))
     (Calm_moves-if Q (may_pass K b c) _ _ (tt, (tt, (tt, from_queue-calm Q K t l ws h (b + 1) (c - VEHICLE_COST) rs ys)))
     (from_wait-calm Q K t l ws h b c ys))))
 
-pub link_moves-calm : (Q : ℕ → Type 0) (K : Rules) (t l : ℕ) (ws : List Waiter) (L : Lane) → Each Q ws → Calm_moves Q (link_moves K t l ws L)
+pub link_moves-calm : (Q : ℕ → Type 0) (K : Rules) (t l : ℕ) (ws : List Waiter) (L : Lane) → AreSuch Q ws → Calm_moves Q (link_moves K t l ws L)
 unfolding link_moves
-link_moves-calm Q K t l ws L h = Calm_moves-append Q (leave_bay t l 0 L.bay) _ (leave_bay-calm Q t l 0 L.bay) (tt, from_queue-calm Q K t l ws h (length L.buffer) _ L.queue (wait_after t l L))
+link_moves-calm Q K t l ws L h = each_append (λ (m : Move). Calm Q (told m)) (leave_bay t l 0 L.bay) _ (leave_bay-calm Q t l 0 L.bay) (tt, from_queue-calm Q K t l ws h (length L.buffer) _ L.queue (wait_after t l L))
 
 -- CALM EVENTS LEAVE THOSE WHO WAIT ELSEWHERE
 start_kept : (S : Setup) (t a i : ℕ) (P : Person) (pl : Place) → P.place ≡ pl → waiter S a i (start_act S t i P pl) ≡ waiter S a i P
@@ -174,7 +136,7 @@ said_kept S t a i Q e (Some j) P h c =
       | inr f ↦ rw f refl
     ]
 
-all_kept : (S : Setup) (t a i : ℕ) (Q : ℕ → Type 0) (es : List Said) (P : Person) → (Q i → waiter S a i P ≡ []) → Calm Q es → waiter S a i (person_after_all S t i es P) ≡ waiter S a i P
+pub all_kept : (S : Setup) (t a i : ℕ) (Q : ℕ → Type 0) (es : List Said) (P : Person) → (Q i → waiter S a i P ≡ []) → Calm Q es → waiter S a i (person_after_all S t i es P) ≡ waiter S a i P
 all_kept S t a i Q [] P h c = refl
 all_kept S t a i Q (e ∷ es) P h c =
     let f = said_kept S t a i Q e e.person P h c.0 in
@@ -197,12 +159,12 @@ run_kept S t a i Q (m ∷ ms) W lt h c =
 abbrev Elsewhere : Setup → ℕ → World → ℕ → Type 0
 Elsewhere S a W i = waiter S a i (person_of i W) ≡ []
 
-other_stop : (S : Setup) (l a i : ℕ) (Q : ℕ → Type 0) → a ≢ l → (w : Way) (next : Stay) (pl : Place) → (waits_on S a i w next pl ≡ [] → Q i) → Each Q (waits_on S l i w next pl)
+other_stop : (S : Setup) (l a i : ℕ) (Q : ℕ → Type 0) → a ≢ l → (w : Leg) (next : Act) (pl : Place) → (waits_on S a i w next pl ≡ [] → Q i) → AreSuch Q (waits_on S l i w next pl)
 other_stop S l a i Q ne w next (At end) h = tt
 other_stop S l a i Q ne w next (Flying start) h = tt
-other_stop S l a i Q ne (Drive route) next (Waiting stop since) h = elim (cases_Bool (eqb (link_of_stop S stop) l)) [ inl e ↦ simp e tt | inr e ↦ simp e tt ]
-other_stop S l a i Q ne (Teleport mode seconds) next (Waiting stop since) h = elim (cases_Bool (eqb (link_of_stop S stop) l)) [ inl e ↦ simp e tt | inr e ↦ simp e tt ]
-other_stop S l a i Q ne (Transit line access egress) next (Waiting stop since) h =
+other_stop S l a i Q ne (leg.Car route) next (Waiting stop since) h = elim (cases_Bool (eqb (link_of_stop S stop) l)) [ inl e ↦ simp e tt | inr e ↦ simp e tt ]
+other_stop S l a i Q ne (leg.Teleport mode seconds) next (Waiting stop since) h = elim (cases_Bool (eqb (link_of_stop S stop) l)) [ inl e ↦ simp e tt | inr e ↦ simp e tt ]
+other_stop S l a i Q ne (leg.Transit line access egress) next (Waiting stop since) h =
     elim (cases_Bool (eqb (link_of_stop S stop) l)) [
       | inl e ↦ let q = eqb-true (link_of_stop S stop) l e in let g = ne_eqb (link_of_stop S stop) a (λ p. ne (sym p ∙ q)) in let k = simp g at h in simp e (k refl, tt)
       | inr e ↦ simp e tt
@@ -210,11 +172,11 @@ other_stop S l a i Q ne (Transit line access egress) next (Waiting stop since) h
 other_stop S l a i Q ne w next (Riding v) h = tt
 other_stop S l a i Q ne w next (Removed m) h = tt
 
-waiters-elsewhere : (S : Setup) (l a : ℕ) (W : World) → a ≢ l → (is : List ℕ) → Each (Elsewhere S a W) (flat_map (λ i. waiter S l i (person_of i W)) is)
+waiters-elsewhere : (S : Setup) (l a : ℕ) (W : World) → a ≢ l → (is : List ℕ) → AreSuch (Elsewhere S a W) (flat_map (λ i. waiter S l i (person_of i W)) is)
 waiters-elsewhere S l a W ne [] = tt
 waiters-elsewhere S l a W ne (i ∷ is) =
     let P = person_of i W in
-    Each-append (Elsewhere S a W) (waiter S l i P) _ (other_stop S l a i (Elsewhere S a W) ne (way S i P.element) (next_stay S i P.element) P.place (λ h. h)) (waiters-elsewhere S l a W ne is)
+    each_append (λ (w : Waiter). Elsewhere S a W w.person) (waiter S l i P) _ (other_stop S l a i (Elsewhere S a W) ne (leg_at S i P.element) (act_after S i P.element) P.place (λ h. h)) (waiters-elsewhere S l a W ne is)
 
 same_waiters : (S : Setup) (a : ℕ) (W U : World) (k n : ℕ) → k + n ≤ length W.persons → ((i : ℕ) → i < length W.persons → waiter S a i (person_of i U) ≡ waiter S a i (person_of i W)) →
     flat_map (λ i. waiter S a i (person_of i U)) (numbers k n) ≡ flat_map (λ i. waiter S a i (person_of i W)) (numbers k n)
@@ -229,7 +191,7 @@ waiters-kept S t a ms W c =
     ap (λ n. flat_map (λ i. waiter S a i (person_of i U)) (below n)) (run-length S t ms W)
     ∙ same_waiters S a W U 0 (length W.persons) (omega arith) (λ i lt. run_kept S t a i (Elsewhere S a W) ms W lt (λ q. q) c)
 
-pub waiters-calm : (S : Setup) (a l : ℕ) (W : World) → a ≢ l → Each (Elsewhere S a W) (waiters S l W)
+pub waiters-calm : (S : Setup) (a l : ℕ) (W : World) → a ≢ l → AreSuch (Elsewhere S a W) (waiters S l W)
 unfolding waiters
 waiters-calm S a l W ne = waiters-elsewhere S l a W ne (below (length W.persons))
 

@@ -7,7 +7,9 @@ use Rattle.events.specs.declared.event.Phase.TheVariants as phase
 use Rattle.events.specs.Keys.{phase_code}
 use Rattle.fixed_flow.specs.declared.TheConstants.{VEHICLE_COST}
 use Rattle.traffic.specs.Rows.{At, Person, World, person_of}
-use Rattle.traffic.specs.Setup.{Setup, Itinerary, Stay}
+use Rattle.rows.specs.PlanRows.{PlanRows}
+use Rattle.rows.specs.declared.plan.Act.{Act}
+use Rattle.traffic.specs.Setup.{Setup}
 use Rattle.traffic.specs.Lists.{below}
 use Rattle.traffic.specs.Telling.{Said}
 use Rattle.traffic.specs.Moves.{Move, told, run}
@@ -34,7 +36,7 @@ abbrev pub departure_plan : Setup → ℕ → Plan
 departure_plan S t d W = departure_moves S t d
 
 abbrev pub node_plan : Setup → ℕ → Plan
-node_plan S t n W = node_moves S.stuck t (S.word n) (sight S t n W)
+node_plan S t n W = node_moves S.settings.stuck t (S.word n) (sight S t n W)
 
 abbrev pub link_plan : Setup → ℕ → Plan
 link_plan S t l W = link_moves (rules S l) t l (waiters S l W) (lane l W)
@@ -109,12 +111,12 @@ abbrev pub second_events : Setup → ℕ → World → List Event
 second_events S t W = told_in S t phases W
 
 -- the planned end of a plan's first activity
-abbrev pub first_end : List Stay → Option ℕ
+abbrev pub first_end : List Act → Option ℕ
 first_end [] = None
 first_end (s ∷ ss) = s.end
 
-abbrev pub at_home : Itinerary → Person
-at_home plan = record { element = 0; place = At (first_end plan.stays) }
+abbrev pub at_home : PlanRows → Person
+at_home plan = record { element = 0; place = At (first_end plan.acts) }
 
 -- the start of the day: each person at the first activity until its planned end, no vehicle, and credit for one vehicle on each link
 unfoldable pub world_start : Setup → World
@@ -140,4 +142,4 @@ world_at S t = world_from S (world_start S) t
 
 -- the events of the day: those of all its seconds, and of phase E at its end
 unfoldable pub day : Setup → List Event
-day S = events_from S (world_start S) S.end ++ end_events S S.end (world_at S S.end)
+day S = events_from S (world_start S) S.settings.end_second ++ end_events S S.settings.end_second (world_at S S.settings.end_second)

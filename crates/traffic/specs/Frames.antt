@@ -2,10 +2,10 @@
 use Rattle.std.specs.Prelude.{◌≡◌, ℕ, ◌≢◌, Bool, false, true, List, [], ◌∷◌, ◌==◌, Option, None, Some}
 use Rattle.events.specs.declared.event.Event.{Event}
 use Rattle.events.specs.Keys.{key_before}
-use Rattle.traffic.specs.declared.rows.Stage.{Stage}
-use Rattle.traffic.specs.declared.rows.Stage.TheVariants.{Queue, Buffer, Wait, Bay}
+use Rattle.traffic.specs.declared.stage.Stage.{Stage}
+use Rattle.traffic.specs.declared.stage.Stage.TheVariants.{Queue, Buffer, Wait, Bay}
 use Rattle.traffic.specs.Rows.{World}
-use Rattle.traffic.specs.Setup.{Setup, road}
+use Rattle.traffic.specs.Setup.{Setup, link_row}
 use Rattle.traffic.specs.Telling.{Said}
 use Rattle.traffic.specs.Moves.{Move, Put, Gone, New, Mark, Credit, Free, Tell, run, touches}
 use Rattle.traffic.specs.Day.{Plan, Turn}
@@ -54,8 +54,8 @@ AreOf i (e ∷ es) = IsOf i e.person × AreOf i es
 
 -- a node sees the buffers of the links into it and the queues of the links out of it
 abbrev pub sees : Setup → ℕ → ℕ → Stage → Bool
-sees S n l Queue = (road S l).from == n
-sees S n l Buffer = (road S l).to == n
+sees S n l Queue = (link_row S l).from == n
+sees S n l Buffer = (link_row S l).to == n
 sees S n l Wait = false
 sees S n l Bay = false
 

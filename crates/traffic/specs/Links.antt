@@ -2,7 +2,7 @@
 use Rattle.std.specs.Prelude.{ℕ, ◌+◌, ◌-◌, Bool, true, ◌&&◌, List, [], ◌∷◌, ◌++◌, length, map, filter, ◌==◌, nat_lt, nat_le, if◌then◌else◌}
 use Rattle.fixed_flow.specs.declared.TheConstants.{VEHICLE_COST}
 use Rattle.fixed_flow.specs.Flow.{raised}
-use Rattle.traffic.specs.declared.rows.Stage.TheVariants.{Queue, Buffer, Wait, Bay}
+use Rattle.traffic.specs.declared.stage.Stage.TheVariants.{Queue, Buffer, Wait, Bay}
 pub use Rattle.traffic.specs.declared.numbers.Rules.{Rules}
 use Rattle.traffic.specs.Rows.{VehicleState, Row, World, at, credit_of}
 use Rattle.traffic.specs.Setup.{Setup, gain_of, room_of}
@@ -22,7 +22,7 @@ lane l W = record { queue = at l Queue W; buffer = at l Buffer W; wait = at l Wa
 
 -- the numbers of a link that its turn needs
 abbrev pub rules : Setup → ℕ → Rules
-rules S l = record { room = room_of S l; gain = gain_of S l; dwell = S.dwell }
+rules S l = record { room = room_of S l; gain = gain_of S l; dwell = S.settings.dwell }
 
 -- a row at the end of the wait list
 abbrev pub waiting : ℕ → Row → Row

@@ -5,12 +5,12 @@ use Rattle.events.specs.declared.event.Word.TheVariants as word
 use Rattle.events.specs.declared.event.VehicleId.{VehicleId}
 use Rattle.events.specs.declared.event.More.{More}
 use Rattle.events.specs.declared.event.More.TheVariants as more
-use Rattle.traffic.specs.declared.rows.Stage.{Stage}
-use Rattle.traffic.specs.declared.rows.Stage.TheVariants.{Buffer}
+use Rattle.traffic.specs.declared.stage.Stage.{Stage}
+use Rattle.traffic.specs.declared.stage.Stage.TheVariants.{Buffer}
 pub use Rattle.traffic.specs.declared.moves.Move.{Move}
 pub use Rattle.traffic.specs.declared.moves.Move.TheVariants.{Put, Gone, New, Mark, Credit, Free, Tell}
 use Rattle.traffic.specs.Rows.{rank, on, Row, Hole, Place, At, Flying, Waiting, Riding, Gone as Removed, Person, World, nobody}
-use Rattle.traffic.specs.Setup.{Setup, stay}
+use Rattle.traffic.specs.Setup.{Setup, act_at}
 use Rattle.traffic.specs.Lists.{without, without_at, with_first, on_front}
 use Rattle.traffic.specs.Telling.{Said, told_put, told_gone, told_new}
 
@@ -39,7 +39,7 @@ leave t P = record { element = P.element + 1; place = Flying t }
 
 -- the leg of a person ends, and the next activity begins
 abbrev pub arrive : Setup → ℕ → ℕ → Person → Person
-arrive S t i P = record { element = P.element + 1; place = At (ends_at (stay S i (P.element + 1)).end t) }
+arrive S t i P = record { element = P.element + 1; place = At (ends_at (act_at S i (P.element + 1)).end t) }
 
 -- the next activity begins; a person who waits at a stop has none to begin, and in a day there is no such event
 abbrev pub start_act : Setup → ℕ → ℕ → Person → Place → Person

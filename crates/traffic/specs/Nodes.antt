@@ -1,11 +1,12 @@
 -- Phase C at one node, by the buffers of the links into it and the places of the links out of it.
 use Rattle.std.specs.Prelude.{ℕ, zero, suc, ◌+◌, ◌-◌, ◌*◌, Bool, true, false, not, ◌&&◌, ◌||◌, List, [], ◌∷◌, ◌++◌, length, map, filter, get_or, ◌==◌, nat_lt, nat_le, if◌then◌else◌, Option, None, Some}
 use Rattle.draws.specs.Choices.{pick}
-use Rattle.traffic.specs.declared.rows.Stage.TheVariants.{Queue, Buffer}
+use Rattle.traffic.specs.declared.stage.Stage.TheVariants.{Queue, Buffer}
 pub use Rattle.traffic.specs.declared.sight.Entry.{Entry}
 pub use Rattle.traffic.specs.declared.sight.Exit.{Exit}
 use Rattle.traffic.specs.Rows.{VehicleState, Row, World, at, holes_at}
-use Rattle.traffic.specs.Setup.{Setup, Stuck, road, seconds_of, storage_of, hole_of, into}
+use Rattle.rows.specs.declared.settings.Stuck.{Stuck}
+use Rattle.traffic.specs.Setup.{Setup, link_row, seconds_of, storage_of, hole_of, into}
 use Rattle.traffic.specs.Lists.{is_nil, without_at}
 use Rattle.traffic.specs.Moves.{Move, Put, Gone, Mark, at_second}
 
@@ -23,11 +24,11 @@ abbrev pub taken_at : Setup → ℕ → ℕ → World → ℕ
 taken_at S t m W = length (at m Queue W) + in_force t (hole_of S m) (holes_at m W)
 
 abbrev pub entry : Setup → ℕ → World → ℕ → Entry
-entry S t W l = record { link = l; capacity = (road S l).capacity; green = S.green l t; rows = at l Buffer W }
+entry S t W l = record { link = l; capacity = (link_row S l).capacity; green = S.green l t; rows = at l Buffer W }
 
 abbrev pub exit : Setup → ℕ → ℕ → World → ℕ → Option Exit
 exit S t n W m =
-    if (road S m).from == n
+    if (link_row S m).from == n
     then Some (record { taken = taken_at S t m W; storage = storage_of S m; seconds = seconds_of S m })
     else None
 

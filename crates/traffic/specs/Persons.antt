@@ -7,34 +7,37 @@ use Rattle.events.specs.declared.event.Word.TheVariants as word
 use Rattle.events.specs.declared.event.VehicleId.{VehicleId}
 use Rattle.events.specs.declared.event.VehicleId.TheVariants as vehicle
 use Rattle.events.specs.declared.event.More.TheVariants as more
-use Rattle.traffic.specs.declared.rows.Stage.TheVariants.{Wait}
+use Rattle.traffic.specs.declared.stage.Stage.TheVariants.{Wait}
 use Rattle.traffic.specs.Rows.{Row, Place, At, Flying, Waiting, Riding, Gone as Removed, Person, World, person_of}
-use Rattle.traffic.specs.Setup.{Setup, Stay, Way, Drive, Teleport, Transit, Departure, stay, way, next_stay, link_of_stop, departure}
+use Rattle.rows.specs.declared.plan.Act.{Act}
+use Rattle.rows.specs.declared.plan.Leg.{Leg}
+use Rattle.rows.specs.declared.plan.Leg.TheVariants as leg
+use Rattle.traffic.specs.Setup.{Setup, Departure, act_at, leg_at, act_after, link_of_stop, departure}
 use Rattle.traffic.specs.Lists.{below}
 use Rattle.traffic.specs.Stops.{Waiter}
 use Rattle.traffic.specs.Telling.{Said, of_person}
 use Rattle.traffic.specs.Moves.{Move, New, Tell}
 
 -- the mode of a leg
-abbrev pub mode_of_way : Way → Mode
-mode_of_way (Drive route) = mode.Car
-mode_of_way (Teleport mode seconds) = mode
-mode_of_way (Transit line access egress) = mode.Pt
+abbrev pub mode_of_leg : Leg → Mode
+mode_of_leg (leg.Car route) = mode.Car
+mode_of_leg (leg.Teleport mode seconds) = mode
+mode_of_leg (leg.Transit line access egress) = mode.Pt
 
 -- a teleported leg is over
-abbrev pub lands : ℕ → Mode → ℕ → Stay → List Said
+abbrev pub lands : ℕ → Mode → ℕ → Act → List Said
 lands i mode seconds next =
     (record { word = word.Travelled; person = Some i; vehicle = None; link = None; more = more.Seconds seconds })
     ∷ of_person word.Arrival i next.link (more.Mode mode)
     ∷ of_person word.ActStart i next.link (more.Kind next.kind) ∷ []
 
 -- phase A for a person at this place, whose leg this is and next activity that: where a teleported leg of d seconds began d seconds ago
-abbrev pub landing : ℕ → ℕ → Way → Stay → Place → List Move
-landing t i (Teleport mode seconds) next (Flying start) = if start + seconds == t then Tell (lands i mode seconds next) ∷ [] else []
+abbrev pub landing : ℕ → ℕ → Leg → Act → Place → List Move
+landing t i (leg.Teleport mode seconds) next (Flying start) = if start + seconds == t then Tell (lands i mode seconds next) ∷ [] else []
 landing t i _ next _ = []
 
 unfoldable pub landing_moves : Setup → ℕ → ℕ → Person → List Move
-landing_moves S t i P = landing t i (way S i P.element) (next_stay S i P.element) P.place
+landing_moves S t i P = landing t i (leg_at S i P.element) (act_after S i P.element) P.place
 
 -- a car with its driver, as it stands at the end of the wait list of the route's first link
 abbrev pub car : ℕ → List ℕ → ℕ → Row
@@ -59,22 +62,22 @@ car i route kind =
     }
 
 -- how a leg begins: a driver enters his car, a passenger waits at the access stop, and of a teleported leg nothing more is told
-abbrev pub sets_out : Setup → ℕ → Way → Stay → List Move
-sets_out S i (Drive route) next = New (car i route next.kind) ∷ []
-sets_out S i (Teleport mode seconds) next = []
-sets_out S i (Transit line access egress) next = Tell (of_person word.WaitingForPt i (link_of_stop S access) (more.Stop access) ∷ []) ∷ []
+abbrev pub sets_out : Setup → ℕ → Leg → Act → List Move
+sets_out S i (leg.Car route) next = New (car i route next.kind) ∷ []
+sets_out S i (leg.Teleport mode seconds) next = []
+sets_out S i (leg.Transit line access egress) next = Tell (of_person word.WaitingForPt i (link_of_stop S access) (more.Stop access) ∷ []) ∷ []
 
 -- an activity ends, and the leg after it begins
-abbrev pub departs : ℕ → Stay → Way → List Said
-departs i here w = of_person word.ActEnd i here.link (more.Kind here.kind) ∷ of_person word.Departure i here.link (more.Mode (mode_of_way w)) ∷ []
+abbrev pub departs : ℕ → Act → Leg → List Said
+departs i here w = of_person word.ActEnd i here.link (more.Kind here.kind) ∷ of_person word.Departure i here.link (more.Mode (mode_of_leg w)) ∷ []
 
 -- phase B1 for a person at this place, with this activity, leg and next activity: where his activity ends in second t
-abbrev pub leaving : Setup → ℕ → ℕ → Stay → Way → Stay → Place → List Move
+abbrev pub leaving : Setup → ℕ → ℕ → Act → Leg → Act → Place → List Move
 leaving S t i here w next (At (Some end)) = if end == t then Tell (departs i here w) ∷ sets_out S i w next else []
 leaving S t i here w next _ = []
 
 unfoldable pub leaving_moves : Setup → ℕ → ℕ → Person → List Move
-leaving_moves S t i P = leaving S t i (stay S i P.element) (way S i P.element) (next_stay S i P.element) P.place
+leaving_moves S t i P = leaving S t i (act_at S i P.element) (leg_at S i P.element) (act_after S i P.element) P.place
 
 -- the empty vehicle of a departure, at the end of the wait list of its route's first link
 abbrev pub transit_vehicle : ℕ → Departure → Row
@@ -103,18 +106,18 @@ unfoldable pub departure_moves : Setup → ℕ → ℕ → List Move
 departure_moves S t d = if (departure S d).second == t then New (transit_vehicle d (departure S d)) ∷ [] else []
 
 -- a person who waits at a stop, with his leg and the activity after it
-abbrev pub waits : ℕ → Way → Stay → ℕ → ℕ → List Waiter
-waits i (Transit line access egress) next stop since =
+abbrev pub waits : ℕ → Leg → Act → ℕ → ℕ → List Waiter
+waits i (leg.Transit line access egress) next stop since =
     (record { person = i; stop = stop; line = line; egress = egress; kind = next.kind; since = since }) ∷ []
 waits i _ next stop since = []
 
 -- where he waits at a stop on link l
-abbrev pub waits_on : Setup → ℕ → ℕ → Way → Stay → Place → List Waiter
+abbrev pub waits_on : Setup → ℕ → ℕ → Leg → Act → Place → List Waiter
 waits_on S l i w next (Waiting stop since) = if link_of_stop S stop == l then waits i w next stop since else []
 waits_on S l i w next _ = []
 
 abbrev pub waiter : Setup → ℕ → ℕ → Person → List Waiter
-waiter S l i P = waits_on S l i (way S i P.element) (next_stay S i P.element) P.place
+waiter S l i P = waits_on S l i (leg_at S i P.element) (act_after S i P.element) P.place
 
 -- those who wait at the stops on link l, by their numbers
 unfoldable pub waiters : Setup → ℕ → World → List Waiter
@@ -134,7 +137,7 @@ link_of_vehicle v (r ∷ rs) = if same_vehicle r.vehicle.id v then r.link else l
 
 -- phase E: who is under way is stuck: one who flies on the link of the activity that he left, one who waits on that of the stop, one
 -- who rides on that of the vehicle
-abbrev pub stuck_at : Setup → World → ℕ → Stay → Mode → Place → List Said
+abbrev pub stuck_at : Setup → World → ℕ → Act → Mode → Place → List Said
 stuck_at S W i here mode (At end) = []
 stuck_at S W i here mode (Flying start) = of_person word.StuckAndAbort i here.link (more.Mode mode) ∷ []
 stuck_at S W i here mode (Waiting stop since) = of_person word.StuckAndAbort i (link_of_stop S stop) (more.Mode mode) ∷ []
@@ -144,4 +147,4 @@ stuck_at S W i here mode (Removed l) = []
 unfoldable pub stranded : Setup → World → ℕ → List Said
 stranded S W i =
     let P = person_of i W in
-    stuck_at S W i (stay S i P.element) (mode_of_way (way S i P.element)) P.place
+    stuck_at S W i (act_at S i P.element) (mode_of_leg (leg_at S i P.element)) P.place

@@ -2,11 +2,12 @@
 use Rattle.std.specs.Prelude.{◌≡◌, ◌<◌, ◌≤◌, ◌⊎◌, ℕ, ◌+◌, ◌-◌, ◌*◌, max, Bool, true, false, not, ◌&&◌, ◌||◌, List, [], ◌∷◌, ◌++◌, length, map, filter, take, drop, get_or, ◌==◌, nat_lt, if◌then◌else◌, Option, None, Some}
 use Rattle.std.specs.List.{list_any}
 use Rattle.events.specs.declared.lists.StopCall.{StopCall}
-use Rattle.traffic.specs.declared.rows.Stage.TheVariants.{Bay}
-use Rattle.traffic.specs.declared.rows.Rider.{Rider}
+use Rattle.traffic.specs.declared.stage.Stage.TheVariants.{Bay}
+use Rattle.traffic.specs.declared.riders.Rider.{Rider}
 pub use Rattle.traffic.specs.declared.world.Waiter.{Waiter}
+use Rattle.rows.specs.Stops.{calls_at}
 use Rattle.traffic.specs.Rows.{VehicleState, Row}
-use Rattle.traffic.specs.Setup.{Dwelling}
+use Rattle.rows.specs.declared.settings.Dwelling.{Dwelling}
 
 -- the call of this number
 abbrev pub call_at : List StopCall → ℕ → StopCall
@@ -34,10 +35,6 @@ alighting stop riders = filter (alights stop) riders
 
 abbrev pub staying : ℕ → List Rider → List Rider
 staying stop riders = filter (λ r. not (alights stop r)) riders
-
--- whether one of these calls is at the stop
-abbrev pub calls_at : ℕ → List StopCall → Bool
-calls_at stop calls = list_any (λ (c : StopCall). c.stop == stop) calls
 
 -- who waits here may board where the line is his and his egress stop is among those that are still unserved
 abbrev pub may_board : VehicleState → Waiter → Bool

@@ -4,34 +4,47 @@ use Rattle.events.specs.declared.event.Event.{Event}
 use Rattle.events.specs.declared.event.VehicleId.TheVariants as vehicle
 use Rattle.events.specs.declared.event.Word.{Word}
 use Rattle.events.specs.declared.event.Word.TheVariants as word
-use Rattle.traffic.specs.declared.rows.Stage.{Stage}
-use Rattle.traffic.specs.declared.rows.Stage.TheVariants.{Queue, Buffer}
+use Rattle.traffic.specs.declared.stage.Stage.{Stage}
+use Rattle.traffic.specs.declared.stage.Stage.TheVariants.{Queue, Buffer}
 use Rattle.traffic.specs.Rows.{Row, World}
-use Rattle.traffic.specs.Setup.{Setup, Road, Way, Drive, Transit, Itinerary, Departure}
+use Rattle.rows.specs.declared.network.LinkRow.{LinkRow}
+use Rattle.rows.specs.declared.plan.Leg.{Leg}
+use Rattle.rows.specs.PlanRows.{PlanRows}
+use Rattle.rows.specs.declared.settings.TrafficSettings.{TrafficSettings}
+use Rattle.rows.specs.declared.plan.Leg.TheVariants as leg
+use Rattle.traffic.specs.Setup.{Setup, Departure}
 
 -- an event's second, word, person and link
 abbrev pub short : Event → ℕ × Word × Option ℕ × Option ℕ
 short e = (e.key.second, e.word, e.person, e.link)
 
-abbrev pub road : ℕ → ℕ → ℕ → ℕ → Road
-road a b length capacity = record { from = a; to = b; length_of = length; speed = 1000; capacity = capacity; lanes = 1 }
+-- a link of one lane
+abbrev pub one_lane : ℕ → ℕ → ℕ → ℕ → LinkRow
+one_lane a b length capacity = record { from = a; to = b; length = length; speed = 1000; capacity = capacity; lanes = 1 }
 
 -- a bus of one seat that starts in second 2, with a call on each of two links
 abbrev pub buses : List Departure
 buses = (record { second = 2; seats = 1; line = 0; route = 0 ∷ 1 ∷ []; calls = (record { stop = 0; link = 0; offset = 3; wait = true }) ∷ (record { stop = 1; link = 1; offset = 6; wait = false }) ∷ [] }) ∷ []
 
-abbrev pub town : List Road → List Departure → List Itinerary → Bool → ℕ → Setup
-town links departures persons push end =
+-- in a day of so many seconds a front is stuck after two seconds, and a vehicle stands one second at a stop, one for each who alights and two for each who boards
+abbrev pub traffic : Bool → ℕ → TrafficSettings
+traffic push end =
     record {
-      end = end;
+      end_second = end;
       flow_permille = 1000;
       storage_permille = 1000;
       stuck = record { seconds = 2; push = push };
       hole_speed = None;
       dwell = record { per_stop = 1; per_alight = 1; per_board = 2 };
+    }
+
+abbrev pub town : List LinkRow → List Departure → List PlanRows → TrafficSettings → Setup
+town links departures persons settings =
+    record {
+      settings = settings;
       nodes = 4;
       links = links;
-      stops = 0 ∷ 1 ∷ [];
+      stops = (record { link = 0 }) ∷ (record { link = 1 }) ∷ [];
       departures = departures;
       persons = persons;
       word = λ n q. 0;
@@ -39,18 +52,18 @@ town links departures persons push end =
     }
 
 -- at home on link 0 until second 0, then by this way to work on that link
-abbrev pub commuter : Way → ℕ → Itinerary
-commuter way link = record { stays = (record { kind = 0; link = 0; end = Some 0 }) ∷ (record { kind = 1; link = link; end = None }) ∷ []; ways = way ∷ [] }
+abbrev pub commuter : Leg → ℕ → PlanRows
+commuter leg link = record { acts = (record { kind = 0; link = 0; end = Some 0 }) ∷ (record { kind = 1; link = link; end = None }) ∷ []; legs = leg ∷ [] }
 
 -- two passengers
 abbrev pub bus : Setup
-bus = town (road 0 1 1000 3600 ∷ road 1 2 1000 3600 ∷ []) buses (commuter (Transit 0 0 1) 1 ∷ commuter (Transit 0 0 1) 1 ∷ []) false 11
+bus = town (one_lane 0 1 1000 3600 ∷ one_lane 1 2 1000 3600 ∷ []) buses (commuter (leg.Transit 0 0 1) 1 ∷ commuter (leg.Transit 0 0 1) 1 ∷ []) (traffic false 11)
 
 -- three cars, and a short link in their way through which one passes in an hour
 abbrev pub narrow : Bool → Setup
 narrow push =
-    let way = Drive (0 ∷ 1 ∷ 2 ∷ []) in
-    town (road 0 1 1000 3600 ∷ road 1 2 50 1 ∷ road 2 3 1000 3600 ∷ []) [] (commuter way 2 ∷ commuter way 2 ∷ commuter way 2 ∷ []) push 6
+    let drive = leg.Car (0 ∷ 1 ∷ 2 ∷ []) in
+    town (one_lane 0 1 1000 3600 ∷ one_lane 1 2 50 1 ∷ one_lane 2 3 1000 3600 ∷ []) [] (commuter drive 2 ∷ commuter drive 2 ∷ commuter drive 2 ∷ []) (traffic push 6)
 
 abbrev pub departing : ℕ → List (ℕ × Word × Option ℕ × Option ℕ)
 departing i = (0, word.ActEnd, Some i, Some 0) ∷ (0, word.Departure, Some i, Some 0) ∷ (0, word.PersonEntersVehicle, Some i, None) ∷ []
@@ -96,17 +109,18 @@ is_arrival _ = false
 abbrev pub arrivals : List Event → List (ℕ × Word × Option ℕ × Option ℕ)
 arrivals events = map short (filter (λ (e : Event). is_arrival e.word) events)
 
-abbrev pub driver_from : ℕ → List ℕ → ℕ → Itinerary
+abbrev pub driver_from : ℕ → List ℕ → ℕ → PlanRows
 driver_from link route work =
-    record { stays = (record { kind = 0; link = link; end = Some 0 }) ∷ (record { kind = 1; link = work; end = None }) ∷ []; ways = Drive route ∷ [] }
+    record { acts = (record { kind = 0; link = link; end = Some 0 }) ∷ (record { kind = 1; link = work; end = None }) ∷ []; legs = leg.Car route ∷ [] }
 
 -- two links of capacity 1,000 and 2,000 into one node, a car on each, and one place behind it; the word draws who goes first
 abbrev pub junction : ℕ → Setup
 junction w =
     record (
-    town (road 0 2 10000 1000 ∷ road 1 2 10000 2000 ∷ road 2 3 50 3600 ∷ []) []
-    (driver_from 0 (0 ∷ 2 ∷ []) 2 ∷ driver_from 1 (1 ∷ 2 ∷ []) 2 ∷ []) false 5
-    ) { word = λ n q. w; stuck = record { seconds = 10; push = false } }
+    town (one_lane 0 2 10000 1000 ∷ one_lane 1 2 10000 2000 ∷ one_lane 2 3 50 3600 ∷ []) []
+    (driver_from 0 (0 ∷ 2 ∷ []) 2 ∷ driver_from 1 (1 ∷ 2 ∷ []) 2 ∷ [])
+    (record (traffic false 5) { stuck = record { seconds = 10; push = false } })
+    ) { word = λ n q. w }
 
 abbrev pub junction_told : ℕ → ℕ → List (ℕ × Word × Option ℕ × Option ℕ)
 junction_told first second =
@@ -114,7 +128,7 @@ junction_told first second =
 
 -- one car, and a light that is red until second 3
 abbrev pub red_light : Setup
-red_light = record (town (road 0 1 1000 3600 ∷ road 1 2 1000 3600 ∷ []) [] (driver_from 0 (0 ∷ 1 ∷ []) 1 ∷ []) false 7) { green = λ l t. nat_le 3 t }
+red_light = record (town (one_lane 0 1 1000 3600 ∷ one_lane 1 2 1000 3600 ∷ []) [] (driver_from 0 (0 ∷ 1 ∷ []) 1 ∷ []) (traffic false 7)) { green = λ l t. nat_le 3 t }
 
 -- four short links in a line; in the queue and in the buffer of each of the first three a car stands, and all go to the fourth
 abbrev pub standing : Stage → ℕ → ℕ → Row
@@ -149,8 +163,9 @@ jam =
 
 abbrev pub line : Option ℕ → Setup
 line hole_speed =
-    record (town (road 0 1 50 3600 ∷ road 1 2 50 3600 ∷ road 2 3 50 3600 ∷ road 3 4 50 3600 ∷ []) [] [] false 6)
-    { nodes = 5; stuck = record { seconds = 100; push = false }; hole_speed = hole_speed }
+    record (town (one_lane 0 1 50 3600 ∷ one_lane 1 2 50 3600 ∷ one_lane 2 3 50 3600 ∷ one_lane 3 4 50 3600 ∷ []) [] []
+    (record (traffic false 6) { stuck = record { seconds = 100; push = false }; hole_speed = hole_speed }))
+    { nodes = 5 }
 
 -- cars that enter these links in these seconds
 abbrev pub entering : List (ℕ × ℕ) → List (ℕ × Word × Option ℕ × Option ℕ)

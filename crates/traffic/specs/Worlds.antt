@@ -7,13 +7,17 @@ use Rattle.events.specs.declared.event.VehicleId.TheVariants as vehicle
 use Rattle.events.specs.declared.lists.StopCall.{StopCall}
 use Rattle.fixed_flow.specs.declared.TheConstants.{VEHICLE_COST}
 use Rattle.fixed_flow.specs.Flow.{full_credit}
-use Rattle.traffic.specs.declared.rows.Stage.{Stage}
-use Rattle.traffic.specs.declared.rows.Stage.TheVariants.{Queue, Buffer, Wait, Bay}
-use Rattle.traffic.specs.declared.rows.Rider.{Rider}
+use Rattle.traffic.specs.declared.stage.Stage.{Stage}
+use Rattle.traffic.specs.declared.stage.Stage.TheVariants.{Queue, Buffer, Wait, Bay}
+use Rattle.traffic.specs.declared.riders.Rider.{Rider}
 use Rattle.traffic.specs.Lists.{is_nil}
 use Rattle.traffic.specs.Rows.{VehicleState, Row, Place, At, Flying, Waiting, Riding, Gone as Removed, World, on, at, person_of}
-use Rattle.traffic.specs.Setup.{Setup, Stay, Way, Drive, Teleport, Transit, Stuck, itinerary, way, next_stay, departure, storage_of, gain_of}
-use Rattle.traffic.specs.Stops.{calls_at}
+use Rattle.rows.specs.declared.plan.Act.{Act}
+use Rattle.rows.specs.declared.plan.Leg.{Leg}
+use Rattle.rows.specs.declared.settings.Stuck.{Stuck}
+use Rattle.rows.specs.declared.plan.Leg.TheVariants as leg
+use Rattle.traffic.specs.Setup.{Setup, person_plan, leg_at, act_after, departure, storage_of, gain_of}
+use Rattle.rows.specs.Stops.{calls_at}
 use Rattle.traffic.specs.Moves.{Move, Put}
 use Rattle.traffic.specs.Nodes.{Exit, has_room, is_stuck, exits_by}
 use Rattle.traffic.specs.Persons.{same_vehicle}
@@ -77,46 +81,46 @@ passing_in S W l t (suc n) = passing_in S W l t n + passing l (link_turn_moves S
 
 -- in any n seconds in a row no more vehicles enter a link's buffer than what they gain and what may be saved before pays for
 abbrev pub FlowKept : Setup → World → Type 0
-FlowKept S W = (l t n : ℕ) → l < length S.links → t + n ≤ S.end → passing_in S W l t n ≤ (n * gain_of S l + full_credit (gain_of S l)) / VEHICLE_COST
+FlowKept S W = (l t n : ℕ) → l < length S.links → t + n ≤ S.settings.end_second → passing_in S W l t n ≤ (n * gain_of S l + full_credit (gain_of S l)) / VEHICLE_COST
 
 -- SOUND
 -- the element is an activity of the plan, or a leg of it
 abbrev pub IsAct : Setup → ℕ → ℕ → Type 0
-IsAct S i element = (element % 2 ≡ 0) × (element / 2 < length (itinerary S i).stays)
+IsAct S i element = (element % 2 ≡ 0) × (element / 2 < length (person_plan S i).acts)
 
 abbrev pub IsLeg : Setup → ℕ → ℕ → Type 0
-IsLeg S i element = (element % 2 ≡ 1) × (element / 2 < length (itinerary S i).ways)
+IsLeg S i element = (element % 2 ≡ 1) × (element / 2 < length (person_plan S i).legs)
 
 -- whether it is the last activity of the plan
 abbrev pub is_last_act : Setup → ℕ → ℕ → Bool
-is_last_act S i element = element / 2 + 1 == length (itinerary S i).stays
+is_last_act S i element = element / 2 + 1 == length (person_plan S i).acts
 
 -- an activity has an end exactly where it is not the last one
 abbrev pub HasEnd : Bool → Option ℕ → Type 0
 HasEnd last None = last ≡ true
 HasEnd last (Some end) = last ≡ false
 
-abbrev pub IsFlight : Way → Type 0
-IsFlight (Teleport mode seconds) = Unit {0}
+abbrev pub IsFlight : Leg → Type 0
+IsFlight (leg.Teleport mode seconds) = Unit {0}
 IsFlight _ = ⊥
 
 -- a transit leg from this stop
-abbrev pub IsFrom : ℕ → Way → Type 0
-IsFrom stop (Transit line access egress) = access ≡ stop
+abbrev pub IsFrom : ℕ → Leg → Type 0
+IsFrom stop (leg.Transit line access egress) = access ≡ stop
 IsFrom stop _ = ⊥
 
 -- a leg in a vehicle
-abbrev pub IsRide : Way → Type 0
-IsRide (Teleport mode seconds) = ⊥
+abbrev pub IsRide : Leg → Type 0
+IsRide (leg.Teleport mode seconds) = ⊥
 IsRide _ = Unit {0}
 
 -- a person's element fits the place
 abbrev pub IsSoundPerson : Setup → ℕ → ℕ → Place → Type 0
 IsSoundPerson S i element (At end) = IsAct S i element × HasEnd (is_last_act S i element) end
-IsSoundPerson S i element (Flying start) = IsLeg S i element × IsFlight (way S i element)
-IsSoundPerson S i element (Waiting stop since) = IsLeg S i element × IsFrom stop (way S i element)
-IsSoundPerson S i element (Riding v) = IsLeg S i element × IsRide (way S i element)
-IsSoundPerson S i element (Removed l) = IsLeg S i element × IsRide (way S i element)
+IsSoundPerson S i element (Flying start) = IsLeg S i element × IsFlight (leg_at S i element)
+IsSoundPerson S i element (Waiting stop since) = IsLeg S i element × IsFrom stop (leg_at S i element)
+IsSoundPerson S i element (Riding v) = IsLeg S i element × IsRide (leg_at S i element)
+IsSoundPerson S i element (Removed l) = IsLeg S i element × IsRide (leg_at S i element)
 
 -- a vehicle in a bay has served a stop, and one in a buffer has a next link
 abbrev pub IsSoundStage : Stage → VehicleState → Type 0
@@ -141,23 +145,23 @@ AreServable [] links = Unit {0}
 AreServable (c ∷ cs) links = (is_nil (from_link c.link links) ≡ false) × AreServable cs (from_link c.link links)
 
 -- a rider has the egress stop of his leg, which is none for a car leg, and the kind of the activity after it
-abbrev pub HasLeg : Rider → Way → Stay → Type 0
-HasLeg r (Drive route) next = (r.egress ≡ None) × (r.kind ≡ next.kind)
-HasLeg r (Teleport mode seconds) next = ⊥
-HasLeg r (Transit line access egress) next = (r.egress ≡ Some egress) × (r.kind ≡ next.kind)
+abbrev pub HasLeg : Rider → Leg → Act → Type 0
+HasLeg r (leg.Car route) next = (r.egress ≡ None) × (r.kind ≡ next.kind)
+HasLeg r (leg.Teleport mode seconds) next = ⊥
+HasLeg r (leg.Transit line access egress) next = (r.egress ≡ Some egress) × (r.kind ≡ next.kind)
 
 -- the leg is by car along this route
-abbrev pub IsAlong : List ℕ → Way → Type 0
-IsAlong route (Drive links) = links ≡ route
+abbrev pub IsAlong : List ℕ → Leg → Type 0
+IsAlong route (leg.Car links) = links ≡ route
 IsAlong route _ = ⊥
 
 -- the leg is by this line to one of the stops that are still unserved
-abbrev pub IsOnLine : VehicleState → Way → Type 0
-IsOnLine v (Transit line access egress) = (line ≡ v.line) × (calls_at egress (drop v.served v.calls) ≡ true)
+abbrev pub IsOnLine : VehicleState → Leg → Type 0
+IsOnLine v (leg.Transit line access egress) = (line ≡ v.line) × (calls_at egress (drop v.served v.calls) ≡ true)
 IsOnLine v _ = ⊥
 
-abbrev pub leg_of : Setup → World → ℕ → Way
-leg_of S W i = way S i (person_of i W).element
+abbrev pub leg_of : Setup → World → ℕ → Leg
+leg_of S W i = leg_at S i (person_of i W).element
 
 -- a car has its driver alone, and the route of his leg; in a transit vehicle each rider is on a leg that it serves
 abbrev pub HasRiders : Setup → World → VehicleState → VehicleId → Type 0
@@ -196,7 +200,7 @@ pub record IsSoundRow (S : Setup) (W : World) (r : Row) : Type 0 where
   pub place : r.vehicle.place < length r.vehicle.route
   pub link : r.link ≡ get_or r.vehicle.route r.vehicle.place 0
   pub calls : AreServable (drop r.vehicle.served r.vehicle.calls) (ahead r.stage r.vehicle)
-  pub legs : All (λ (x : Rider). HasLeg x (leg_of S W x.person) (next_stay S x.person (person_of x.person W).element)) r.vehicle.riders
+  pub legs : All (λ (x : Rider). HasLeg x (leg_of S W x.person) (act_after S x.person (person_of x.person W).element)) r.vehicle.riders
   pub riders : HasRiders S W r.vehicle r.vehicle.id
 
 pub record Sound (S : Setup) (W : World) : Type 0 where

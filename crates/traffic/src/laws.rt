@@ -6,10 +6,14 @@ ghost use Rattle.events.specs.declared.event.Mode.{Mode};
 ghost use Rattle.events.specs.declared.event.Phase.{Phase};
 ghost use Rattle.events.specs.declared.event.Word.TheVariants.{EnteredLink, Arrival};
 ghost use Rattle.fixed_flow.specs.Flow.{raised};
-ghost use Rattle.traffic.specs.declared.rows.Stage.{Stage};
+ghost use Rattle.traffic.specs.declared.stage.Stage.{Stage};
 ghost use Rattle.traffic.specs.Lists.{below};
 ghost use Rattle.traffic.specs.Rows.{World, at, holes_at, credit_of, person_of, At, Flying};
-ghost use Rattle.traffic.specs.Setup.{Setup, Stay, Way, Teleport, Stuck, departure};
+ghost use Rattle.rows.specs.declared.plan.Act.{Act};
+ghost use Rattle.rows.specs.declared.plan.Leg.{Leg};
+ghost use Rattle.rows.specs.declared.settings.Stuck.{Stuck};
+ghost use Rattle.rows.specs.declared.plan.Leg.TheVariants as leg;
+ghost use Rattle.traffic.specs.Setup.{Setup, departure};
 ghost use Rattle.traffic.specs.Stops.{Waiter, ComesBefore, in_turn};
 ghost use Rattle.traffic.specs.Moves.{Move, Credit, told, done, run, at_after, hole_after, credit_after, person_after_all};
 ghost use Rattle.traffic.specs.Links.{Lane, lane, Rules, link_moves};
@@ -87,9 +91,9 @@ pub fn idle_turns_move_nothing()
         → link_moves K t l ws L ≡ Credit l (raised K.gain L.credit) ∷ [] }
     ensures nodes { (K : Stuck) (t : ℕ) (word : ℕ → ℕ) (see : Sight) → ready see.entries ≡ []
         → node_moves K t word see ≡ [] }
-    ensures flights { (t i : ℕ) (mode : Mode) (seconds start : ℕ) (next : Stay)
-        → start + seconds ≢ t → landing t i (Teleport mode seconds) next (Flying start) ≡ [] }
-    ensures leaves { (S : Setup) (t i end : ℕ) (here : Stay) (w : Way) (next : Stay)
+    ensures flights { (t i : ℕ) (mode : Mode) (seconds start : ℕ) (next : Act)
+        → start + seconds ≢ t → landing t i (leg.Teleport mode seconds) next (Flying start) ≡ [] }
+    ensures leaves { (S : Setup) (t i end : ℕ) (here : Act) (w : Leg) (next : Act)
         → end ≢ t → leaving S t i here w next (At (Some end)) ≡ [] }
     ensures departures { (S : Setup) (t d : ℕ) → (departure S d).second ≢ t
         → departure_moves S t d ≡ [] }

@@ -6,8 +6,9 @@
 mod laws;
 mod moves;
 mod numbers;
-mod rows;
+mod riders;
 mod sight;
+mod stage;
 mod vehicle;
 mod world;
 
@@ -16,8 +17,10 @@ pub use laws::{
     nodes_keep_apart, persons_keep_apart, phases_are_at_once, waiters_come_in_turn, worked_days,
 };
 pub use moves::{Move, Said, SaidList};
-pub use numbers::{Dwelling, Rules, Stuck};
-pub use rows::{Rider, Riders, Stage};
+pub use numbers::Rules;
+pub use riders::{Rider, Riders};
+pub use rows::{Dwelling, Stuck};
 pub use sight::{Entry, Exit};
+pub use stage::Stage;
 pub use vehicle::Vehicle;
 pub use world::{Hole, Person, Place, Row, RowList, Waiter};

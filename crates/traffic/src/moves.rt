@@ -1,7 +1,6 @@
-use crate::rows::Stage;
+use crate::stage::Stage;
 use crate::world::Row;
-use events::{More, VehicleId, Word};
-use std::marker::Model;
+use events::{More, Rows, VehicleId, Word};
 
 /// An event without its key.
 #[derive(Clone, Copy, Debug, PartialEq, Eq)]
@@ -14,19 +13,7 @@ pub struct Said {
 }
 
 /// What is told, in order.
-#[derive(Drop)]
-pub struct SaidList {
-    pub rows: Vec<Said>,
-}
-
-impl Model for SaidList {
-    ghost use Rattle.std.specs.Prelude.{List};
-    ghost use Rattle.traffic.specs.declared.moves.Said.{Said};
-
-    ghost Value = { List Said };
-
-    ghost view = { λ s. s.rows.items };
-}
+pub type SaidList = Rows<Said>;
 
 /// What happens. A row that is moved is the one at place `k` among those of link `l` at stage `s`.
 #[derive(Drop)]

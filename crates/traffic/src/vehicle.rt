@@ -1,6 +1,6 @@
 ghost use Rattle.std.specs.Prelude.{◌≡◌, IfOk};
 
-use crate::rows::Riders;
+use crate::riders::Riders;
 use events::{Calls, Route, VehicleId};
 use std::alloc::AllocError;
 use std::marker::Model;

@@ -1,10 +1,9 @@
 ghost use Rattle.std.specs.Prelude.{◌≡◌, IfOk};
 
-use crate::rows::Stage;
+use crate::stage::Stage;
 use crate::vehicle::Vehicle;
-use events::VehicleId;
+use events::{Rows, VehicleId};
 use std::alloc::AllocError;
-use std::marker::Model;
 
 /// Where a vehicle stands, and the second that its stage gives a meaning to.
 #[derive(Drop)]
@@ -31,19 +30,7 @@ impl Row {
 }
 
 /// Rows, in order.
-#[derive(Drop)]
-pub struct RowList {
-    pub rows: Vec<Row>,
-}
-
-impl Model for RowList {
-    ghost use Rattle.std.specs.Prelude.{List};
-    ghost use Rattle.traffic.specs.declared.world.Row.{Row};
-
-    ghost Value = { List Row };
-
-    ghost view = { λ r. r.rows.items };
-}
+pub type RowList = Rows<Row>;
 
 /// A place in the queue of a link that was left in this second.
 #[derive(Clone, Copy, Debug, PartialEq, Eq)]

@@ -8,7 +8,7 @@ use Rattle.travel_times.specs.declared.profiles.Bin.{Bin}
 use Rattle.travel_times.specs.declared.profiles.Profile.TheInside.{Inside}
 use Rattle.travel_times.specs.declared.tallies.Tally.{Tally}
 use Rattle.fixed_flow.specs.Link.{free_seconds}
-use Rattle.network.specs.declared.rows.LinkRow.{LinkRow}
+use Rattle.rows.specs.declared.network.LinkRow.{LinkRow}
 use Rattle.events.specs.declared.event.Event.{Event}
 use Rattle.travel_times.specs.declared.observations.Entry.{Entry}
 use Rattle.travel_times.specs.Times.{LinkProfile, time_in, profile_at, free_of}

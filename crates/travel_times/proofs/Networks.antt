@@ -5,7 +5,7 @@ use Rattle.std.specs.List.{list_all}
 use Rattle.std.proofs.lemmas.Bool.Decides.{nat_tests}
 use Rattle.std.proofs.lemmas.Bool.{and_parts}
 use Rattle.std.proofs.lemmas.List.Sums.{AllPass-from_list_all}
-use Rattle.network.specs.declared.rows.LinkRow.{LinkRow}
+use Rattle.rows.specs.declared.network.LinkRow.{LinkRow}
 use Rattle.network.specs.Limits.{is_link, are_measures}
 
 moves : (nodes : ℕ) (link : LinkRow) → is_link nodes link ≡ true → 0 < link.speed

@@ -8,7 +8,7 @@ use Rattle.events.specs.declared.event.VehicleId.{VehicleId}
 use Rattle.events.specs.declared.event.VehicleId.TheVariants as vehicle
 use Rattle.events.specs.declared.event.Word.{Word}
 use Rattle.events.specs.declared.event.Word.TheVariants as word
-use Rattle.network.specs.declared.rows.LinkRow.{LinkRow}
+use Rattle.rows.specs.declared.network.LinkRow.{LinkRow}
 use Rattle.travel_times.specs.declared.TheConstants.{BIN_SECONDS}
 use Rattle.travel_times.specs.Times.{free_of}
 

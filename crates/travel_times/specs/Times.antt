@@ -2,7 +2,7 @@
 use Rattle.std.specs.Prelude.{ℕ, ◌+◌, ◌-◌, ◌*◌, ◌/◌, max, List, [], map, fold, slice_index_or}
 use Rattle.std.specs.List.{range_with_len}
 use Rattle.fixed_flow.specs.Link.{free_seconds}
-use Rattle.network.specs.declared.rows.LinkRow.{LinkRow}
+use Rattle.rows.specs.declared.network.LinkRow.{LinkRow}
 use Rattle.walks.specs.Arrivals.{Arrivals}
 use Rattle.travel_times.specs.declared.TheConstants.{BIN_SECONDS}
 

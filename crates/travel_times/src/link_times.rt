@@ -8,7 +8,8 @@ use crate::profiles::Profile;
 use crate::seen::seen_profiles;
 use events::Event;
 use fixed_flow::free_seconds;
-use network::{LinkList, Network};
+use network::Network;
+use rows::LinkList;
 use std::alloc::{AllocError, Global};
 use std::marker::Model;
 

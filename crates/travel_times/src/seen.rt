@@ -8,7 +8,7 @@ use crate::BIN_SECONDS;
 use crate::profiles::{Bin, Profile};
 use crate::tallies::TallyRow;
 use fixed_flow::free_seconds;
-use network::LinkList;
+use rows::LinkList;
 use std::alloc::{AllocError, Global};
 
 /// How many bins there are up to the last in which a car was seen on the link.

@@ -12,8 +12,7 @@ use Rattle.records.proofs.Unrefused.{none_applies}
 use Rattle.settings.specs.Keys.{whole, is_from_to, is_whole, is_bad, keys, has_unknown_key, has_bad_value}
 use Rattle.settings.specs.Values.{given, values_in}
 use Rattle.settings.specs.Faults.{value_of, members_of, is_no_object, settings_fault, settings_of}
-use Rattle.town.specs.Rows.{is_hole_speed, AreNumbers}
-use Rattle.scenario.specs.Given.{numbers_of}
+use Rattle.rows.specs.Settings.{is_hole_speed, AreInRange}
 
 -- from low to high
 abbrev IsWithin : ℕ → ℕ → ℕ → Type 0
@@ -45,7 +44,7 @@ unfolding is_whole
 speed_within None good = refl
 speed_within (Some value) good = speed_by value (whole value) refl good
 
-members_free : (members : Members) → has_bad_value members ≡ false → AreNumbers (numbers_of (values_in members))
+members_free : (members : Members) → has_bad_value members ≡ false → AreInRange (values_in members).traffic
 unfolding has_bad_value values_in
 members_free members good =
     let a = or_parts _ _ good in
@@ -78,7 +77,7 @@ members_free members good =
       dwell = record { per_stop = per_stop.1; per_alight = per_alight.1; per_board = per_board.1 };
     }
 
-pub settings_free : (bytes : List ℕ) → settings_fault bytes ≡ None → AreNumbers (numbers_of (settings_of bytes))
+pub settings_free : (bytes : List ℕ) → settings_fault bytes ≡ None → AreInRange (settings_of bytes).traffic
 unfolding settings_fault settings_of
 settings_free bytes none =
     let value = value_of bytes in

@@ -6,9 +6,9 @@ use Rattle.std.proofs.lemmas.Bool.{and_parts}
 use Rattle.std.proofs.lemmas.Bool.Decides.{nat_tests}
 use Rattle.std.proofs.lemmas.List.{length-map}
 use Rattle.std.proofs.lemmas.List.Elements.{All-from_recursion, recursion_from_All}
-use Rattle.plans.specs.declared.plan.Leg.{Leg}
-use Rattle.plans.specs.Plan.{is_leg}
-use Rattle.plans.specs.Parts.{Parts}
+use Rattle.rows.specs.declared.plan.Leg.{Leg}
+use Rattle.rows.specs.Plan.{is_leg}
+use Rattle.rows.specs.PlanRows.{PlanRows}
 use Rattle.plans.proofs.Shapes.{IsPlan}
 use Rattle.town.specs.Rows.{TownRows}
 use Rattle.town.specs.Fits.{fits}
@@ -19,7 +19,7 @@ use Rattle.scenario.proofs.Renumbered.{still_legs}
 use Rattle.valid_files.specs.Valid.{AreOwnPlans}
 
 -- a plan with the town's numbers, which fits it
-in_town : (T : TownRows) (N : Numbers) (plan : Parts) → IsPlan plan → fits T (plan_in_town N plan) ≡ true → IsPlanIn T (plan_in_town N plan)
+in_town : (T : TownRows) (N : Numbers) (plan : PlanRows) → IsPlan plan → fits T (plan_in_town N plan) ≡ true → IsPlanIn T (plan_in_town N plan)
 in_town T N plan kept fit =
     let count = length-map plan.legs (leg_in_town N) in
     let more = kept.one_more in
@@ -32,7 +32,7 @@ in_town T N plan kept fit =
       fit = fit;
     }
 
-own_in_town : (T : TownRows) (N : Numbers) (plans : List Parts) → Each IsPlan plans → list_all (fits T) (map (plan_in_town N) plans) ≡ true → Each (IsPlanIn T) (map (plan_in_town N) plans)
+own_in_town : (T : TownRows) (N : Numbers) (plans : List PlanRows) → Each IsPlan plans → list_all (fits T) (map (plan_in_town N) plans) ≡ true → Each (IsPlanIn T) (map (plan_in_town N) plans)
 own_in_town T N [] kept fit = tt
 own_in_town T N (plan ∷ plans) kept fit =
     let parts = and_parts (fits T (plan_in_town N plan)) (list_all (fits T) (map (plan_in_town N) plans)) fit in
@@ -41,7 +41,7 @@ own_in_town T N (plan ∷ plans) kept fit =
 at_least : (m n : ℕ) → nat_le m n ≡ true → m ≤ n
 at_least m n h = grind (arith, nat_tests)
 
-person_in_town : (T : TownRows) (N : Numbers) (plans : List Parts) → Each IsPlan plans → are_fitting T (map (plan_in_town N) plans) ≡ true → AreOwnPlans T (map (plan_in_town N) plans)
+person_in_town : (T : TownRows) (N : Numbers) (plans : List PlanRows) → Each IsPlan plans → are_fitting T (map (plan_in_town N) plans) ≡ true → AreOwnPlans T (map (plan_in_town N) plans)
 unfolding are_fitting
 person_in_town T N plans kept fit =
     let own = map (plan_in_town N) plans in
@@ -54,14 +54,14 @@ person_in_town T N plans kept fit =
     }
 
 -- the plans of all persons
-pub all_in_town : (T : TownRows) (N : Numbers) (plans : List (List Parts)) → Each (Each IsPlan) plans → all_fit T (map (map (plan_in_town N)) plans) ≡ true → Each (AreOwnPlans T) (map (map (plan_in_town N)) plans)
+pub all_in_town : (T : TownRows) (N : Numbers) (plans : List (List PlanRows)) → Each (Each IsPlan) plans → all_fit T (map (map (plan_in_town N)) plans) ≡ true → Each (AreOwnPlans T) (map (map (plan_in_town N)) plans)
 all_in_town T N [] kept fit = tt
 all_in_town T N (own ∷ plans) kept fit =
     let parts = and_parts (are_fitting T (map (plan_in_town N) own)) (all_fit T (map (map (plan_in_town N)) plans)) fit in
     (person_in_town T N own kept.0 parts.0, all_in_town T N plans kept.1 parts.1)
 
 -- the first plan of each person
-pub firsts_in : (T : TownRows) (plans : List (List Parts)) → Each (AreOwnPlans T) plans → (length (first_plans plans) ≡ length plans) × Each (IsPlanIn T) (first_plans plans)
+pub firsts_in : (T : TownRows) (plans : List (List PlanRows)) → Each (AreOwnPlans T) plans → (length (first_plans plans) ≡ length plans) × Each (IsPlanIn T) (first_plans plans)
 unfolding first_plans
 firsts_in T [] each = (refl, tt)
 firsts_in T ([] ∷ plans) each = absurd (omega (arith, each.0.some))

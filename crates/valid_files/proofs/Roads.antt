@@ -12,7 +12,7 @@ use Rattle.records.specs.Fields.{field}
 use Rattle.records.specs.Files.{head_reason, body_of}
 use Rattle.records.proofs.Sound.{both_true}
 use Rattle.records.proofs.Unrefused.{none_applies, values_pass, few_rows, number_in_range, found_below}
-use Rattle.network.specs.declared.rows.LinkRow.{LinkRow}
+use Rattle.rows.specs.declared.network.LinkRow.{LinkRow}
 use Rattle.network.specs.Limits.{is_link, are_measures}
 use Rattle.network.specs.Nodes.{node_names, node_of}
 use Rattle.network.specs.Links.{link_header, link_of, measures_of, has_bad_measure, link_reason, links_fault, link_names, length_in, speed_in, capacity_in, lanes_in, lacks_name, lacks_node}

@@ -17,9 +17,9 @@ use Rattle.records.specs.Lists.{numbers_of, items_in}
 use Rattle.records.specs.Files.{optional_head_reason, body_of}
 use Rattle.records.proofs.Sound.{both_true}
 use Rattle.records.proofs.Unrefused.{none_applies, values_pass, few_rows, number_in_range, found_below}
-use Rattle.schedule.specs.declared.rows.StopRow.{StopRow}
-use Rattle.schedule.specs.declared.rows.RouteRow.{RouteRow}
-use Rattle.schedule.specs.declared.rows.DepartureRow.{DepartureRow}
+use Rattle.rows.specs.declared.schedule.StopRow.{StopRow}
+use Rattle.rows.specs.declared.schedule.RouteRow.{RouteRow}
+use Rattle.rows.specs.declared.schedule.DepartureRow.{DepartureRow}
 use Rattle.schedule.specs.declared.calls.CallText.{CallText}
 use Rattle.schedule.specs.Calls.{call_text, call_of}
 use Rattle.schedule.specs.Stops.{stop_header, stop_reason, stop_of, stops_fault, is_stop}

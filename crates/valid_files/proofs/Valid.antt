@@ -10,16 +10,17 @@ use Rattle.records.proofs.Unrefused.{or_none, no_reason}
 use Rattle.network.specs.Nodes.{node_names, nodes_fault}
 use Rattle.network.specs.Links.{links_fault}
 use Rattle.network.specs.Limits.{is_link}
-use Rattle.plans.specs.Parts.{Parts}
-use Rattle.plans.specs.Values.{PlanRows, plans_fault, plan_rows}
+use Rattle.rows.specs.PlanRows.{PlanRows}
+use Rattle.plans.specs.Values.{PlanFileRows, plans_fault, file_rows}
 use Rattle.plans.proofs.AllRows.{AreFreePlans, plans_free}
 use Rattle.schedule.specs.Stops.{is_stop, stops_fault}
 use Rattle.schedule.specs.Routes.{is_route, routes_fault}
 use Rattle.schedule.specs.Departures.{departures_fault}
 use Rattle.settings.specs.Values.{Values}
 use Rattle.settings.specs.Faults.{settings_fault, settings_of}
-use Rattle.town.specs.Greens.{always}
-use Rattle.town.specs.Rows.{TownRows, IsTown, AreNumbers, ends_of}
+use Rattle.rows.specs.Greens.{always}
+use Rattle.rows.specs.Settings.{AreInRange}
+use Rattle.town.specs.Rows.{TownRows, IsTown, ends_of}
 use Rattle.fit_days.specs.Setups.{IsPlanIn}
 use Rattle.scenario.specs.declared.faults.ScenarioFault.{ScenarioFault}
 use Rattle.scenario.specs.Texts.{Texts, bytes_in}
@@ -27,7 +28,7 @@ use Rattle.scenario.specs.Faults.{text_fault, in_file}
 use Rattle.scenario.specs.Legs.{numbers_in, plan_in_town}
 use Rattle.scenario.specs.Ways.{AreThere}
 use Rattle.scenario.specs.Fitting.{all_fit, first_plans}
-use Rattle.scenario.specs.Given.{Roads, Timetable, ScenarioRows, numbers_of, ways_in, town_of, plans_of, persons_on, timetable_on, scenario_of, on_roads, roads_in, roads_of, roads_fault, persons_fault, timetable_fault, plans_cross_fault, cross_fault, on_roads_fault, stop_names, stop_rows, route_names, scenario_fault, scenario_rows}
+use Rattle.scenario.specs.Given.{Roads, Timetable, ScenarioRows, ways_in, town_of, plans_of, persons_on, timetable_on, scenario_of, on_roads, roads_in, roads_of, roads_fault, persons_fault, timetable_fault, plans_cross_fault, cross_fault, on_roads_fault, stop_names, stop_rows, route_names, scenario_fault, scenario_rows}
 use Rattle.scenario.proofs.RowByRow.{same_crossing}
 use Rattle.scenario.proofs.Settling.{file_none, plans_fit}
 use Rattle.scenario.proofs.There.{are_there}
@@ -64,11 +65,11 @@ timetable_are roads stops routes departures none =
     (bytes_free (departures_fault (route_names (bytes_in routes))) departures (file_none file.Departures _ b.1))
 
 -- THE TOWN
-town_is : (v : Values) (roads : Roads) (persons kinds : List (List ℕ)) (t : Timetable) → AreNumbers (numbers_of v) → AreRoads roads → IsTimetable roads.link_names (ends_of roads.links) t → length persons ≤ 65536
+town_is : (v : Values) (roads : Roads) (persons kinds : List (List ℕ)) (t : Timetable) → AreInRange v.traffic → AreRoads roads → IsTimetable roads.link_names (ends_of roads.links) t → length persons ≤ 65536
     → IsTown (town_of v roads persons kinds t)
 unfolding town_of
-town_is v roads persons kinds t numbers r s few = record {
-  numbers = numbers;
+town_is v roads persons kinds t settings r s few = record {
+  settings = settings;
   few_persons = few;
   few_links = r.few;
   links = r.links;
@@ -86,22 +87,22 @@ unfolding town_of
 persons_named v roads persons kinds t = refl
 
 -- THE PLANS
-all_there : (P : PlanRows) (links : List (List ℕ)) (ends : List (ℕ × ℕ)) (t : Timetable) → IsTimetable links ends t → AreThere (length t.lines) (ways_in P t)
+all_there : (P : PlanFileRows) (links : List (List ℕ)) (ends : List (ℕ × ℕ)) (t : Timetable) → IsTimetable links ends t → AreThere (length t.lines) (ways_in P t)
 unfolding ways_in
 all_there P links ends t s = record {
   lines = λ n k h. are_there P.lines t.lines (numbers_in P.lines t.lines) refl n k h;
   stops = λ n k h. subst (λ (count : ℕ). k < count) s.each_stop (are_there P.stops t.stop_names (numbers_in P.stops t.stop_names) refl n k h);
 }
 
-scenario_is : (v : Values) (roads : Roads) (P : PlanRows) (t : Timetable) → AreNumbers (numbers_of v) → AreRoads roads → AreFreePlans roads.link_names (ends_of roads.links) P → IsTimetable roads.link_names (ends_of roads.links) t
+scenario_is : (v : Values) (roads : Roads) (P : PlanFileRows) (t : Timetable) → AreInRange v.traffic → AreRoads roads → AreFreePlans roads.link_names (ends_of roads.links) P → IsTimetable roads.link_names (ends_of roads.links) t
     → plans_cross_fault P t ≡ None → IsScenario (scenario_of v roads P t)
 unfolding scenario_of
-scenario_is v roads P t numbers r p s free =
+scenario_is v roads P t settings r p s free =
     let T = town_of v roads P.persons P.kinds t in
     let N = (ways_in P t).numbers in
     let fit : all_fit T (map (map (plan_in_town N)) P.plans) ≡ true = plans_fit v roads P t (all_there P roads.link_names (ends_of roads.links) t s) r.each_link p.sound p.plans free in
     record {
-      town = town_is v roads P.persons P.kinds t numbers r s p.sound.few;
+      town = town_is v roads P.persons P.kinds t settings r s p.sound.few;
       each = length-map P.plans (map (plan_in_town N)) ∙ p.sound.each ∙ persons_named v roads P.persons P.kinds t;
       plans = All-from_recursion (AreOwnPlans T) (map (map (plan_in_town N)) P.plans) (all_in_town T N P.plans p.plans fit);
     }

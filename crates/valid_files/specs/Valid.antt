@@ -1,12 +1,12 @@
 -- What files without a fault give.
 use Rattle.std.specs.Prelude.{◌≡◌, ◌≤◌, List, length, All}
-use Rattle.plans.specs.Parts.{Parts}
+use Rattle.rows.specs.PlanRows.{PlanRows}
 use Rattle.town.specs.Rows.{TownRows, IsTown}
 use Rattle.fit_days.specs.Setups.{IsPlanIn}
 use Rattle.scenario.specs.Given.{ScenarioRows}
 
 -- a person's plans: one to five, of each of which a day of the town can be made
-pub record AreOwnPlans (T : TownRows) (own : List Parts) : Type 0 where
+pub record AreOwnPlans (T : TownRows) (own : List PlanRows) : Type 0 where
   pub some : 1 ≤ length own
   pub few : length own ≤ 5
   pub plans : All (IsPlanIn T) own
@@ -18,6 +18,6 @@ pub record IsScenario (S : ScenarioRows) : Type 0 where
   pub plans : All (AreOwnPlans S.town) S.plans
 
 -- one plan for each person of the town, of each of which a day of it can be made
-pub record AreChosenIn (T : TownRows) (chosen : List Parts) : Type 0 where
+pub record AreChosenIn (T : TownRows) (chosen : List PlanRows) : Type 0 where
   pub each : length chosen ≡ length T.book.persons
   pub plans : All (IsPlanIn T) chosen

@@ -2,17 +2,16 @@
 use Rattle.std.proofs.Common.{◌≡◌, ◌+◌, ◌<◌, ℕ, List, [], ◌∷◌, ◌++◌, length, arith, subst, sym, ap, ◌∙◌}
 use Rattle.std.specs.Prelude.{All}
 use Rattle.std.proofs.lemmas.List.Elements.{All-from_recursion, All-append}
-use Rattle.plans.specs.declared.plan.Plan.{Plan}
-use Rattle.town.specs.declared.rows.Town.{Town}
-use Rattle.town.specs.Views.{setup_in}
-use Rattle.traffic.specs.declared.rows.Stage.{Stage}
+use Rattle.town.specs.declared.day_input.DayInput.{DayInput}
+use Rattle.town.specs.Views.{setup}
+use Rattle.traffic.specs.declared.stage.Stage.{Stage}
 use Rattle.traffic.specs.declared.world.Row.{Row}
 use Rattle.traffic.specs.Rows.{World}
 use Rattle.traffic.specs.Day.{world_start}
 use Rattle.traffic.specs.Worlds.{IsSoundStage}
 use Rattle.fit_days.specs.Rows.{Counts, IsFitLink, IsFitRider, IsFitCall, IsFitVehicle, IsFitRow, IsFitWorld}
 use Rattle.fit_days.specs.Setups.{counts_in}
-use Rattle.plain_day.specs.Given.{AreGiven}
+use Rattle.plain_day.specs.Plans.{HaveFittingPlans}
 use Rattle.plain_day.proofs.Dawn.{start_is_fit}
 use Rattle.worked_days.specs.Jams.{going, IsRoomy}
 
@@ -41,11 +40,10 @@ pub row_fit : (z : Counts) (place second : ℕ) (stage : Stage) → place < 3 �
     → IsFitRow z (record { vehicle = going place; link = place; stage = stage; second = second })
 row_fit z place second stage p sound is = record { vehicle = vehicle_fit z place p is; link = omega (p, is.links, arith); stage = sound }
 
-pub jam_fit : (town : Town) (chosen : List Plan) (W : World) (rows : List Row) → AreGiven town chosen → W ≡ world_start (setup_in town chosen 0)
-    → All (IsFitRow (counts_in town chosen)) rows
-    → IsFitWorld (counts_in town chosen) (record { rows = rows; persons = W.persons; credits = W.credits; holes = W.holes })
-jam_fit town chosen W rows given e fit =
-    let start = start_is_fit town chosen 0 W given e in
+pub jam_fit : (day : DayInput) (W : World) (rows : List Row) → HaveFittingPlans day → W ≡ world_start (setup day) → All (IsFitRow (counts_in day)) rows
+    → IsFitWorld (counts_in day) (record { rows = rows; persons = W.persons; credits = W.credits; holes = W.holes })
+jam_fit day W rows given e fit =
+    let start = start_is_fit day W given e in
     record { rows = fit; persons = start.persons; one_each = start.one_each; credits = start.credits; holes = start.holes }
 
 -- two more rows

@@ -3,7 +3,8 @@
 use crate::cases::Case;
 use crate::towns::{let_go, scenario_of};
 use events::{Name, Names};
-use plans::{PlanFile, PlanList, read_plans};
+use plans::{PlanFile, read_plans};
+use rows::PlanList;
 use scenario::Scenario;
 use std::alloc::Global;
 use town::{Town, plan_fits};

@@ -1,22 +1,21 @@
 //! A jam on short links, second by second.
 
-ghost use Rattle.std.specs.Prelude.{◌≡◌, ◌<◌, true, List, All, IfOk};
-ghost use Rattle.plans.specs.declared.plan.Plan.{Plan};
+ghost use Rattle.std.specs.Prelude.{◌≡◌, ◌<◌, true, All, IfOk};
 ghost use Rattle.fit_days.specs.Rows.{Counts, IsFitRow, IsFitWorld};
 ghost use Rattle.fit_days.specs.Setups.{counts_in};
-ghost use Rattle.plain_day.specs.Given.{AreGiven};
+ghost use Rattle.plain_day.specs.Plans.{HaveFittingPlans};
 ghost use Rattle.traffic.specs.Worlds.{IsSoundStage};
 ghost use Rattle.worked_days.specs.Jams.{going, IsRoomy};
 
 use crate::cases::Case;
-use crate::towns::{are_given, let_go, scenario_of};
+use crate::towns::{have_fitting_plans, let_go, scenario_of};
 use events::{Calls, Event, Route, VehicleId, Word};
 use plain_day::{fit_second, start};
 use plain_world::World;
-use plans::{Plan, PlanLists};
+use rows::{Plan, PlanLists};
 use scenario::{Scenario, chosen_plans};
 use std::alloc::{AllocError, Global};
-use town::Town;
+use town::{DayInput, Town};
 use traffic::{Riders, Row, Stage, Vehicle};
 
 /// Four links in a row with room for one vehicle each, somebody who stays at home, and a vehicle that is to start later.
@@ -102,40 +101,36 @@ fn with_rows(rows: Vec<Row>, world: World) -> World
 }
 
 /// The world of the jam.
-fn jam(alloc: Global, town: &Town, chosen: &[Plan]) -> Result<World, AllocError>
-    requires given { AreGiven town.now chosen.now }
-    requires roomy { IsRoomy (counts_in town.now chosen.now) }
-    ensures { IfOk result (IsFitWorld (counts_in town.now chosen.now)) }
+fn jam(alloc: Global, day: &DayInput) -> Result<World, AllocError>
+    requires given { HaveFittingPlans day.now }
+    requires roomy { IsRoomy (counts_in day.now) }
+    ensures { IfOk result (IsFitWorld (counts_in day.now)) }
 {
     let rows = rows_of(alloc)?;
-    let world = start(alloc, town, chosen, 0)?;
+    let world = start(alloc, day)?;
     let jammed = with_rows(rows, world);
     Ok(jammed)
 }
 
 /// The events of so many seconds from second 10 on.
-fn seconds_of(
-    alloc: Global,
-    town: &Town,
-    chosen: &[Plan],
-    count: u32,
-) -> Result<Vec<Event>, AllocError>
-    requires given { AreGiven town.now chosen.now }
-    requires roomy { IsRoomy (counts_in town.now chosen.now) }
+fn seconds_of(alloc: Global, day: &DayInput, count: u32) -> Result<Vec<Event>, AllocError>
+    requires given { HaveFittingPlans day.now }
+    requires roomy { IsRoomy (counts_in day.now) }
     requires few { count < 100 }
 {
-    let mut world = jam(alloc, town, chosen)?;
+    let mut world = jam(alloc, day)?;
     let mut events = Vec::new(alloc);
     for t in 10..10 + count {
-        fit_second(alloc, town, chosen, 0, t, &mut world, &mut events)?;
+        fit_second(alloc, day, t, &mut world, &mut events)?;
     }
     Ok(events)
 }
 
 /// Whether the town has four links, a line and a departure.
-fn is_roomy(town: &Town) -> bool
-    ensures { result ≡ true → (chosen : List Plan) → IsRoomy (counts_in town.now chosen) }
+fn is_roomy(day: &DayInput) -> bool
+    ensures { result ≡ true → IsRoomy (counts_in day.now) }
 {
+    let town = day.town;
     town.network.links.len() >= 4 && !town.book.lines.is_empty() && !town.departures.rows.is_empty()
 }
 
@@ -154,10 +149,15 @@ fn entered(alloc: Global, events: &[Event]) -> Vec<(u32, Option<u32>)> {
 fn entered_in(alloc: Global, town: &Town, chosen: &[Plan], count: u32) -> Vec<(u32, Option<u32>)>
     requires { count < 100 }
 {
-    if !is_roomy(town) || !are_given(town, chosen) {
+    let day = DayInput {
+        town,
+        chosen,
+        iteration: 0,
+    };
+    if !is_roomy(&day) || !have_fitting_plans(&day) {
         return Vec::new(alloc);
     }
-    match seconds_of(alloc, town, chosen, count) {
+    match seconds_of(alloc, &day, count) {
         Ok(events) => entered(alloc, &events),
         Err(_) => Vec::new(alloc),
     }

@@ -1,16 +1,16 @@
 //! A second in a world of which nothing is known but the laws of a world.
 
 ghost use Rattle.std.specs.Prelude.{◌<◌};
-ghost use Rattle.plain_day.specs.Given.{AreGiven};
+ghost use Rattle.plain_day.specs.Plans.{HaveFittingPlans};
 
 use crate::cases::Case;
-use crate::towns::{are_given, scenario_of};
+use crate::towns::{have_fitting_plans, scenario_of};
 use events::{Event, Word};
 use plain_day::{plain_second, start};
-use plans::{Plan, PlanLists};
+use rows::{Plan, PlanLists};
 use scenario::{Scenario, chosen_plans};
 use std::alloc::{AllocError, Global};
-use town::Town;
+use town::{DayInput, Town};
 
 /// A person who walks at second 100.
 const WALK: Case = Case {
@@ -24,12 +24,12 @@ const WALK: Case = Case {
 };
 
 /// The events of second 100 in the world at the start of the day.
-fn second_from_start(alloc: Global, town: &Town, chosen: &[Plan]) -> Result<Vec<Event>, AllocError>
-    requires { AreGiven town.now chosen.now }
+fn second_from_start(alloc: Global, day: &DayInput) -> Result<Vec<Event>, AllocError>
+    requires { HaveFittingPlans day.now }
 {
-    let mut world = start(alloc, town, chosen, 0)?;
+    let mut world = start(alloc, day)?;
     let mut events = Vec::new(alloc);
-    plain_second(alloc, town, chosen, 0, 100, &mut world, &mut events)?;
+    plain_second(alloc, day, 100, &mut world, &mut events)?;
     Ok(events)
 }
 
@@ -44,10 +44,15 @@ fn words_of(alloc: Global, events: &[Event]) -> Vec<(u32, Word)> {
 
 /// The same of that second in a town.
 fn words_in(alloc: Global, town: &Town, chosen: &[Plan]) -> Vec<(u32, Word)> {
-    if !are_given(town, chosen) {
+    let day = DayInput {
+        town,
+        chosen,
+        iteration: 0,
+    };
+    if !have_fitting_plans(&day) {
         return Vec::new(alloc);
     }
-    match second_from_start(alloc, town, chosen) {
+    match second_from_start(alloc, &day) {
         Ok(events) => words_of(alloc, &events),
         Err(_) => Vec::new(alloc),
     }

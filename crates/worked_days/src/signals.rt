@@ -3,13 +3,13 @@
 ghost use Rattle.std.specs.Prelude.{◌<◌};
 
 use crate::cases::{Case, DRIVE};
-use crate::towns::{are_given, let_go, scenario_of};
+use crate::towns::{have_fitting_plans, let_go, scenario_of};
 use events::{Event, Word};
 use plain_day::plain_day;
-use plans::{Plan, PlanLists};
+use rows::{Green, GreenList, Plan, PlanLists, SpanList, green_in};
 use scenario::{Scenario, chosen_plans};
 use std::alloc::Global;
-use town::{Green, GreenList, SpanList, Town, green_in};
+use town::{DayInput, Town};
 
 fn spans_to(alloc: Global, until: u32) -> SpanList {
     let mut rows = Vec::new(alloc);
@@ -68,10 +68,15 @@ fn driven(alloc: Global, events: &[Event]) -> Vec<(u32, Word)> {
 
 /// The same of a day of a town.
 fn driven_in(alloc: Global, town: &Town, chosen: &[Plan]) -> Vec<(u32, Word)> {
-    if !are_given(town, chosen) {
+    let day = DayInput {
+        town,
+        chosen,
+        iteration: 0,
+    };
+    if !have_fitting_plans(&day) {
         return Vec::new(alloc);
     }
-    match plain_day(alloc, town, chosen, 0) {
+    match plain_day(alloc, &day) {
         Ok(events) => driven(alloc, &events),
         Err(_) => Vec::new(alloc),
     }

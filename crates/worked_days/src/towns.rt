@@ -2,17 +2,17 @@
 
 ghost use Rattle.std.specs.Prelude.{◌≡◌, map, true};
 ghost use Rattle.std.specs.List.{list_all};
-ghost use Rattle.plans.specs.Parts.{parts_of};
+ghost use Rattle.rows.specs.PlanRows.{plan_rows};
 ghost use Rattle.town.specs.Fits.{fits};
 ghost use Rattle.town.specs.Views.{rows_of};
-ghost use Rattle.plain_day.specs.Given.{AreGiven};
+ghost use Rattle.plain_day.specs.Plans.{HaveFittingPlans};
 
 use crate::cases::{Case, plans_of};
 use edge_files::Bytes;
-use plans::Plan;
+use rows::Plan;
 use scenario::{Files, Scenario, assemble};
 use std::alloc::Global;
-use town::{Town, plan_fits};
+use town::{DayInput, Town, plan_fits};
 
 /// A text; no bytes where memory is wanting.
 fn bytes_of(alloc: Global, text: &str) -> Bytes {
@@ -52,7 +52,7 @@ pub(crate) fn scenario_of(alloc: Global, case: Case) -> Option<Scenario> {
 
 /// Whether each plan fits the town.
 fn all_fit(town: &Town, chosen: &[Plan]) -> bool
-    ensures { result ≡ list_all (fits (rows_of town.now)) (map parts_of chosen.now) }
+    ensures { result ≡ list_all (fits (rows_of town.now)) (map plan_rows chosen.now) }
 {
     for plan in chosen {
         if !plan_fits(town, plan) {
@@ -63,10 +63,10 @@ fn all_fit(town: &Town, chosen: &[Plan]) -> bool
 }
 
 /// Whether there is a plan for each person of the town, and each of them fits it.
-pub(crate) fn are_given(town: &Town, chosen: &[Plan]) -> bool
-    ensures { result ≡ true → AreGiven town.now chosen.now }
+pub(crate) fn have_fitting_plans(day: &DayInput) -> bool
+    ensures { result ≡ true → HaveFittingPlans day.now }
 {
-    town.book.persons.len() as usize == chosen.len() && all_fit(town, chosen)
+    day.town.book.persons.len() as usize == day.chosen.len() && all_fit(day.town, day.chosen)
 }
 
 /// Lets a town go.

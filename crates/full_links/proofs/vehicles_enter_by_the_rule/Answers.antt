@@ -1,5 +1,5 @@
 use Rattle.std.proofs.lemmas.List.Elements.{All-from_recursion}
-use Rattle.traffic.specs.declared.rows.Stage.TheVariants.{Queue}
+use Rattle.traffic.specs.declared.stage.Stage.TheVariants.{Queue}
 use Rattle.traffic.specs.Day.{plan_of, phases}
 use Rattle.full_links.specs.Moves.{IsElsewhere}
 use Rattle.full_links.proofs.Turns.{through_moves}

@@ -1,5 +1,5 @@
 use Rattle.town.specs.Setups.{setup_of}
-use Rattle.town.specs.Views.{setup_in}
+use Rattle.town.specs.Views.{setup}
 use Rattle.sound_setups.proofs.Laws.{day_sound}
 use Rattle.sound_days.proofs.Towns.{rows_sound, rows_consistent, town_sound, town_consistent}
 use Rattle.sound_days.proofs.towns_are_sound.Goals as goal
@@ -20,4 +20,4 @@ pub returns-clause-consistent : goal.returns-clause-consistent
 returns-clause-consistent c = town_consistent
 
 pub returns-clause-days : goal.returns-clause-days
-returns-clause-days c = λ town chosen k t h. day_sound (setup_in town chosen k) t (town_sound town chosen k h)
+returns-clause-days c = λ day t h. day_sound (setup day) t (town_sound day h)

@@ -3,7 +3,7 @@ use Rattle.std.proofs.lemmas.List.Elements.{All-from_recursion}
 use Rattle.traffic.specs.Moves.{told}
 use Rattle.traffic.specs.Persons.{stranded}
 use Rattle.traffic.specs.Day.{keyed, day}
-use Rattle.town.specs.Views.{setup_in}
+use Rattle.town.specs.Views.{setup}
 use Rattle.fit_days.specs.Setups.{counts_in}
 use Rattle.fit_days.proofs.Travellers.{stranded_fit}
 use Rattle.fit_days.proofs.Naming.{Named, keyed_named, told_fit}
@@ -23,5 +23,5 @@ pub returns-clause-day : goal.returns-clause-day
 returns-clause-day c = λ z book S b f. All-from_recursion (Named book) (day S) (day_named z book S b f)
 
 pub returns-clause-towns : goal.returns-clause-towns
-returns-clause-towns c = λ town chosen k h e.
-    All-from_recursion (Named town.book) (day (setup_in town chosen k)) (day_named (counts_in town chosen) town.book (setup_in town chosen k) (book_of town chosen e) (town_fit town chosen k h))
+returns-clause-towns c = λ d h e.
+    All-from_recursion (Named d.town.now.book) (day (setup d)) (day_named (counts_in d) d.town.now.book (setup d) (book_of d e) (town_fit d h))

@@ -3,7 +3,7 @@ use Rattle.edge_files.specs.declared.reasons.Reason.{Reason}
 use Rattle.events.specs.Names.{with_name}
 use Rattle.records.specs.Rows.{Row}
 use Rattle.records.proofs.InTurn.{read_none, read_more, read_fault, read_all, read_count}
-use Rattle.network.specs.declared.rows.NodeRow.{NodeRow}
+use Rattle.rows.specs.declared.network.NodeRow.{NodeRow}
 use Rattle.network.specs.Nodes.{node_reason, node_of}
 use Rattle.network.proofs.nodes.read_body.Goals as goal
 

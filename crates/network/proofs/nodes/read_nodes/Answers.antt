@@ -6,7 +6,7 @@ use Rattle.records.specs.Rows.{Row}
 use Rattle.records.specs.Fields.{column}
 use Rattle.records.specs.Files.{head_reason, body_of}
 use Rattle.records.proofs.InTurn.{answers_file, answers_stop}
-use Rattle.network.specs.declared.rows.NodeRow.{NodeRow}
+use Rattle.rows.specs.declared.network.NodeRow.{NodeRow}
 use Rattle.network.specs.Nodes.{node_header, node_reason, node_of}
 use Rattle.network.proofs.nodes.read_nodes.Goals as goal
 

@@ -1,8 +1,7 @@
 use Rattle.std.proofs.Common.{◌≡◌, map, take}
-use Rattle.plans.specs.Parts.{parts_of}
-use Rattle.town.specs.Setups.{itinerary_of}
+use Rattle.rows.specs.PlanRows.{plan_rows}
 use Rattle.traffic.specs.Day.{at_home}
 use Rattle.plain_day.proofs.days.all_at_home.Given as goal
 
 abbrev pub invariant-loop-plan : goal.invariant-loop-plan
-invariant-loop-plan l = l.persons.items ≡ map at_home (map itinerary_of (map parts_of (take l.plan-index l.chosen)))
+invariant-loop-plan l = l.persons.items ≡ map at_home (map plan_rows (take l.plan-index l.day.chosen.now))

@@ -8,11 +8,11 @@ push_stranded-requires-clause-there c = in_book c.loop-i.i c.len-i-end.result _ 
 
 pub loop-i-preserved : goal.loop-i-preserved
 loop-i-preserved c =
-    told_more (told_at_end c.args.town.now c.args.chosen.now c.args.iteration c.args.world.now) (length c.args.chosen.now) c.loop-i.i c.args.out.now.items c.loop-i.out.items c.push_stranded.new.out.items
+    told_more (told_at_end c.args.day.now c.args.world.now) (length c.args.day.now.chosen.now) c.loop-i.i c.args.out.now.items c.loop-i.out.items c.push_stranded.new.out.items
     (in_book c.loop-i.i c.len-i-end.result _ _ c.len-i-end.ensures.count c.requires.given.each c.loop-i-test.true) c.in_ok-push_stranded.ensures c.loop-i.invariant
 
 pub returns : goal.returns
 returns c =
-    ends_told c.args.town.now c.args.chosen.now c.args.iteration c.args.world.now c.args.out.now.items c.loop-i.out.items
-    (told_all (told_at_end c.args.town.now c.args.chosen.now c.args.iteration c.args.world.now) (length c.args.chosen.now) c.loop-i.i c.args.out.now.items c.loop-i.out.items
+    ends_told c.args.day.now c.args.world.now c.args.out.now.items c.loop-i.out.items
+    (told_all (told_at_end c.args.day.now c.args.world.now) (length c.args.day.now.chosen.now) c.loop-i.i c.args.out.now.items c.loop-i.out.items
     (past_book c.loop-i.i c.len-i-end.result _ _ c.len-i-end.ensures.count c.requires.given.each c.loop-i-test.false) c.loop-i.invariant)

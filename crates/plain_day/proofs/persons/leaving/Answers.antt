@@ -1,8 +1,6 @@
 use Rattle.std.proofs.Common.{sym, ◌∙◌, ◌/◌}
-use Rattle.plans.specs.Parts.{parts_of}
-use Rattle.town.specs.Setups.{stay_of}
-use Rattle.town.specs.Views.{rows_of}
-use Rattle.plain_day.specs.Fit.{streets}
+use Rattle.rows.specs.PlanRows.{plan_rows}
+use Rattle.town.specs.Views.{rows_of, setup}
 use Rattle.plain_day.proofs.Leaving.{has_leg, has_route, left_is}
 use Rattle.plain_day.proofs.persons.leaving.Goals as goal
 
@@ -11,10 +9,10 @@ leave-requires-clause-there c = has_leg c.args.plan.now c.args.person c.args.t (
 
 pub leave-requires-clause-route : goal.leave-requires-clause-route
 leave-requires-clause-route c =
-    has_route (rows_of c.args.town.now) (parts_of c.args.plan.now) (c.args.person.element / 2)
+    has_route (rows_of c.args.day.now.town.now) (plan_rows c.args.plan.now) (c.args.person.element / 2)
     (has_leg c.args.plan.now c.args.person c.args.t (sym c.ends_in.ensures ∙ c.if-not-ends_in.false) c.requires.leg) c.requires.fits
 
 pub returns : goal.returns
 returns c =
-    left_is (streets c.args.town.now) c.args.t c.args.i c.args.plan.now c.args.person (stay_of c.here-here.result) (stay_of c.next-next.result) c.in_ok-moves.moves.items
-    c.here-here.ensures c.next-next.ensures (sym c.ends_in.ensures ∙ c.if-not-ends_in.false) c.in_ok-moves.ensures
+    left_is (setup c.args.day.now) c.args.t c.args.i c.args.plan.now c.args.person c.act_in-here.result c.act_after-next.result c.in_ok-moves.moves.items
+    c.act_in-here.ensures c.act_after-next.ensures (sym c.ends_in.ensures ∙ c.if-not-ends_in.false) c.in_ok-moves.ensures

@@ -1,14 +1,14 @@
 use Rattle.plain_day.proofs.Phasing.{Going}
 use Rattle.fit_days.specs.Rows.{IsFitWorld}
 use Rattle.fit_days.specs.Setups.{counts_in}
-use Rattle.town.specs.Views.{setup_in}
+use Rattle.town.specs.Views.{setup}
 use Rattle.traffic.specs.Day.{count_of}
 use Rattle.plain_day.proofs.phases.do_phase.Given as goal
 
 abbrev pub invariant-loop-number : goal.invariant-loop-number
 invariant-loop-number l =
-    let S = setup_in l.town l.chosen l.iteration in
+    let S = setup l.day in
     record {
       going : Going S l.second l.phase (count_of S l.phase) l.number l.initial.world l.world l.initial.out.items l.out.items;
-      fit : IsFitWorld (counts_in l.town l.chosen) l.world;
+      fit : IsFitWorld (counts_in l.day) l.world;
     }

@@ -1,11 +1,19 @@
-use Rattle.std.proofs.Common.{◌∙◌, ap}
-use Rattle.town.specs.Views.{setup_in}
-use Rattle.traffic.specs.Moves.{run}
+use Rattle.std.proofs.Common.{◌∙◌, ◌++◌, ap}
+use Rattle.std.specs.List.{flat_map}
+use Rattle.events.specs.Keys.{phase_code}
+use Rattle.town.specs.Views.{setup}
+use Rattle.traffic.specs.Moves.{told, run}
+use Rattle.traffic.specs.Day.{keyed}
 use Rattle.plain_day.proofs.Fitness.{turn_keeps_fit}
 use Rattle.plain_day.proofs.phases.next_turn.Goals as goal
 
 pub returns-clause-fit : goal.returns-clause-fit
 returns-clause-fit c =
-    let S = setup_in c.args.town.now c.args.chosen.now c.args.iteration in
-    turn_keeps_fit c.args.town.now c.args.chosen.now c.args.iteration c.args.second c.args.number c.args.phase c.args.world.now _ c.requires.given c.requires.fit c.requires.there
-    (c.in_ok-do_turn.ensures.world ∙ ap (λ ms. run S c.args.second ms c.args.world.now) c.in_ok-moves.ensures)
+    let S = setup c.args.day.now in
+    turn_keeps_fit c.args.day.now c.args.second c.args.number c.args.phase c.args.world.now _ c.requires.given c.requires.fit c.requires.there
+    (c.in_ok-said.ensures.world ∙ ap (λ ms. run S c.args.second ms c.args.world.now) c.in_ok-moves.ensures)
+
+pub returns-clause-events : goal.returns-clause-events
+returns-clause-events c =
+    c.in_ok-push_keyed.ensures
+    ∙ ap (λ xs. c.args.out.now.items ++ keyed c.args.second (phase_code c.args.phase) c.args.number 0 xs) (c.deref.ensures.value ∙ c.in_ok-said.ensures.told ∙ ap (flat_map told) c.in_ok-moves.ensures)

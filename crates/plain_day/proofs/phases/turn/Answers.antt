@@ -1,28 +1,37 @@
-use Rattle.plain_day.proofs.Fitness.{lands_there, leaves_there, departs_there, link_there, person_there, rows_fit}
+use Rattle.std.proofs.Common.{subst, sym}
+use Rattle.town.specs.Views.{setup}
+use Rattle.traffic.specs.declared.world.Person.{Person}
+use Rattle.traffic.specs.Setup.{person_plan}
+use Rattle.plain_day.specs.Fit.{CanLeave}
+use Rattle.plain_day.proofs.Fitness.{can_leave, lands_there, leaves_there, departs_there, link_there, person_there, rows_fit}
 use Rattle.plain_day.proofs.phases.turn.Goals as goal
 
 pub landing_moves-requires : goal.landing_moves-requires
-landing_moves-requires c = lands_there c.args.town.now c.args.chosen.now c.args.iteration c.args.number c.args.phase c.in-A.is c.requires.there
+landing_moves-requires c = lands_there c.args.day.now c.args.number c.args.phase c.in-A.is c.requires.there
 
 pub person_of-requires : goal.person_of-requires
-person_of-requires c = person_there c.args.town.now c.args.chosen.now c.args.world.now c.args.number c.requires.fit
-    (lands_there c.args.town.now c.args.chosen.now c.args.iteration c.args.number c.args.phase c.in-A.is c.requires.there)
+person_of-requires c = person_there c.args.day.now c.args.world.now c.args.number c.requires.fit
+    (lands_there c.args.day.now c.args.number c.args.phase c.in-A.is c.requires.there)
 
 pub leaving_moves-requires-clause-there : goal.leaving_moves-requires-clause-there
-leaving_moves-requires-clause-there c = leaves_there c.args.town.now c.args.chosen.now c.args.iteration c.args.number c.args.phase c.in-B1.is c.requires.there
+leaving_moves-requires-clause-there c = leaves_there c.args.day.now c.args.number c.args.phase c.in-B1.is c.requires.there
 
 pub person_of-requires-in-B1 : goal.person_of-requires-in-B1
-person_of-requires-in-B1 c = person_there c.args.town.now c.args.chosen.now c.args.world.now c.args.number c.requires.fit
-    (leaves_there c.args.town.now c.args.chosen.now c.args.iteration c.args.number c.args.phase c.in-B1.is c.requires.there)
+person_of-requires-in-B1 c = person_there c.args.day.now c.args.world.now c.args.number c.requires.fit
+    (leaves_there c.args.day.now c.args.number c.args.phase c.in-B1.is c.requires.there)
 
 pub departure_moves-requires : goal.departure_moves-requires
-departure_moves-requires c = departs_there c.args.town.now c.args.chosen.now c.args.iteration c.args.number c.args.phase c.in-B2.is c.requires.there
+departure_moves-requires c = departs_there c.args.day.now c.args.number c.args.phase c.in-B2.is c.requires.there
 
 pub node_turn-requires-clause-fit : goal.node_turn-requires-clause-fit
-node_turn-requires-clause-fit c = rows_fit c.args.town.now c.args.chosen.now c.args.world.now c.requires.fit
+node_turn-requires-clause-fit c = rows_fit c.args.day.now c.args.world.now c.requires.fit
 
 pub link_turn-requires-clause-there : goal.link_turn-requires-clause-there
-link_turn-requires-clause-there c = link_there c.args.town.now c.args.chosen.now c.args.iteration c.args.number c.args.phase c.in-D.is c.requires.there
+link_turn-requires-clause-there c = link_there c.args.day.now c.args.number c.args.phase c.in-D.is c.requires.there
 
 pub link_turn-requires-clause-fit : goal.link_turn-requires-clause-fit
-link_turn-requires-clause-fit c = rows_fit c.args.town.now c.args.chosen.now c.args.world.now c.requires.fit
+link_turn-requires-clause-fit c = rows_fit c.args.day.now c.args.world.now c.requires.fit
+
+pub leaving_moves-requires-clause-leg : goal.leaving_moves-requires-clause-leg
+leaving_moves-requires-clause-leg c =
+    subst (λ (P : Person). CanLeave (person_plan (setup c.args.day.now) c.args.number) P) (sym c.person_of-in-B1.ensures) (can_leave c.args.day.now c.args.world.now c.args.number c.requires.fit)

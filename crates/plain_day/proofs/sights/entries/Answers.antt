@@ -2,7 +2,7 @@ use Rattle.std.proofs.Common.{sym, ap, ◌∙◌}
 use Rattle.std.specs.Prelude.{map, filter}
 use Rattle.traffic.specs.Lists.{below}
 use Rattle.traffic.specs.Nodes.{entry}
-use Rattle.plain_day.specs.Fit.{streets}
+use Rattle.town.specs.Views.{setup}
 use Rattle.plain_day.specs.Sights.{is_in}
 use Rattle.plain_day.proofs.Counting.{went_in, went_by, went_all}
 use Rattle.plain_day.proofs.Fitting.{entries_push}
@@ -12,7 +12,7 @@ use Rattle.plain_day.proofs.sights.entries.Goals as goal
 
 pub loop-link-preserved : goal.loop-link-preserved
 loop-link-preserved c =
-    let S = streets c.args.town.now in
+    let S = setup c.args.day.now in
     let is = is_in S c.args.node in
     let f = entry S c.args.t c.args.world.now in
     elim c.if-is_in.branch [
@@ -28,8 +28,8 @@ loop-link-preserved c =
 
 pub returns-clause-value : goal.returns-clause-value
 returns-clause-value c =
-    let S = streets c.args.town.now in
+    let S = setup c.args.day.now in
     let is = is_in S c.args.node in
     let f = entry S c.args.t c.args.world.now in
     went_all is f c.loop-link.link c.len-link-end.result c.loop-link.entries.items _ c.loop-link-test.false c.loop-link.invariant.seen
-    ∙ ap (λ n. map f (filter is (below n))) c.len-link-end.ensures ∙ sym (ap (map f) (into_is c.args.town.now c.args.node))
+    ∙ ap (λ n. map f (filter is (below n))) c.len-link-end.ensures ∙ sym (ap (map f) (into_is c.args.day.now c.args.node))

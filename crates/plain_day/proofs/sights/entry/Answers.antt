@@ -6,7 +6,7 @@ use Rattle.plain_day.proofs.sights.entry.Goals as goal
 
 pub returns-clause-value : goal.returns-clause-value
 returns-clause-value c =
-    entry_is c.args.town.now c.args.t c.args.link c.args.world.now c.link_row.result c.green_in.result c.deref.result.now c.in_ok-rows.rows.items c.link_row.ensures.road c.green_in.ensures
+    entry_is c.args.day.now c.args.t c.args.link c.args.world.now c.link_row.result c.green_in.result c.deref.result.now c.in_ok-rows.rows.items c.link_row.ensures.row c.green_in.ensures
     (c.deref.ensures.value ∙ ap (λ (W : World). W.rows) c.world.view_is) c.in_ok-rows.ensures
 
 pub returns-clause-fit_after : goal.returns-clause-fit_after
@@ -15,5 +15,5 @@ returns-clause-fit_after c =
     record {
       least = c.link_row.ensures.measures.some_capacity;
       most = c.link_row.ensures.measures.most_capacity;
-      rows = rw (c.in_ok-rows.ensures, e) (next_at (length c.args.town.now.network.links) c.args.link c.args.world.now.rows c.requires.fit);
+      rows = rw (c.in_ok-rows.ensures, e) (next_at (length c.args.day.now.town.now.network.links) c.args.link c.args.world.now.rows c.requires.fit);
     }

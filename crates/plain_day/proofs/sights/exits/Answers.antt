@@ -1,5 +1,5 @@
 use Rattle.std.proofs.Common.{sym, ◌∙◌}
-use Rattle.plain_day.specs.Fit.{streets}
+use Rattle.town.specs.Views.{setup}
 use Rattle.plain_day.specs.Sights.{exit_row, is_out}
 use Rattle.plain_day.proofs.Counting.{went_in, went_by}
 use Rattle.plain_day.proofs.Fitting.{near_push}
@@ -8,7 +8,7 @@ use Rattle.plain_day.proofs.sights.exits.Goals as goal
 
 pub loop-link-preserved : goal.loop-link-preserved
 loop-link-preserved c =
-    let S = streets c.args.town.now in
+    let S = setup c.args.day.now in
     let is = is_out S c.args.node in
     let f = exit_row S c.args.t c.args.world.now in
     elim c.if-is_out.branch [

@@ -1,8 +1,10 @@
+use Rattle.std.proofs.Common.{◌<◌, ℕ, sym, subst}
 use Rattle.std.specs.Option.{option_to_list}
 use Rattle.plain_day.proofs.PersonPlans.{waiter_is}
 use Rattle.plain_day.proofs.waiters.waiter_at.Goals as goal
 
 pub returns : goal.returns
 returns c =
-    waiter_is c.args.town.now c.args.chosen.now c.args.link c.args.i c.args.world.now c.index-chosen-i.result c.person_at-person.result (option_to_list c.waiter.result)
-    c.requires.there c.index-chosen-i.is c.requires.persons c.person_at-person.ensures c.waiter.ensures
+    let there = subst (λ (n : ℕ). c.args.i < n) (sym c.requires.persons) c.requires.there in
+    waiter_is c.args.day.now c.args.link c.args.i c.args.world.now c.chosen_plan-plan.result.now c.person_at-person.result (option_to_list c.waiter.result)
+    c.chosen_plan-plan.ensures there c.person_at-person.ensures c.waiter.ensures

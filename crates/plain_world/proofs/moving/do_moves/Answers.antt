@@ -1,17 +1,17 @@
 use Rattle.std.proofs.Common.{◌++◌, sym, ap, ◌∙◌}
 use Rattle.std.proofs.lemmas.List.{flat_map_more}
-use Rattle.town.specs.Views.{setup_in}
+use Rattle.town.specs.Views.{setup}
 use Rattle.traffic.specs.Moves.{told, done}
 use Rattle.plain_world.proofs.Running.{run_more}
 use Rattle.plain_world.proofs.moving.do_moves.Goals as goal
 
 pub loop-step-preserved : goal.loop-step-preserved
 loop-step-preserved c =
-    let day = setup_in c.args.town.now c.args.chosen.now c.args.iteration in
+    let S = setup c.args.day.now in
     record {
       world =
-          c.in_ok-do_move.ensures.world ∙ ap (done day c.args.second c.in-Some.step) c.loop-step.invariant.world
-          ∙ sym (run_more day c.args.second c.loop-step.yielded c.in-Some.step c.args.world.now);
+          c.in_ok-do_move.ensures.world ∙ ap (done S c.args.second c.in-Some.step) c.loop-step.invariant.world
+          ∙ sym (run_more S c.args.second c.loop-step.yielded c.in-Some.step c.args.world.now);
       told =
           c.in_ok-do_move.ensures.told ∙ ap (λ xs. xs ++ told c.in-Some.step) c.loop-step.invariant.told
           ∙ flat_map_more told c.args.said.now.items c.loop-step.yielded c.in-Some.step;

@@ -1,13 +1,12 @@
-use Rattle.std.proofs.Common.{◌∙◌}
-use Rattle.town.specs.Views.{rows_of}
-use Rattle.plain_world.proofs.Itineraries.{planned_there, planned_past}
+use Rattle.std.proofs.Common.{sym, ap, ◌∙◌}
+use Rattle.rows.specs.declared.plan.Act.{Act}
+use Rattle.rows.specs.PlanRows.{PlanRows, act_in}
+use Rattle.town.proofs.Chosen.{plan_past}
 use Rattle.plain_world.proofs.steps.planned_end.Goals as goal
 
-pub returns-then-person-chosen : goal.returns-then-person-chosen
-returns-then-person-chosen c =
-    c.end_at.ensures
-    ∙ planned_there (rows_of c.args._town.now) c.args._iteration c.args.chosen.now c.args.person c.args.element c.index-chosen-person.result
-    c.if-person-chosen.true c.index-chosen-person.is
+pub returns-then-person-day : goal.returns-then-person-day
+returns-then-person-day c =
+    ap (λ (a : Act). a.end) c.act_in.ensures ∙ sym (ap (λ (plan : PlanRows). (act_in plan c.args.element).end) c.chosen_plan.ensures)
 
 pub returns : goal.returns
-returns c = planned_past (rows_of c.args._town.now) c.args._iteration c.args.chosen.now c.args.person c.args.element c.if-person-chosen.false
+returns c = sym (ap (λ (plan : PlanRows). (act_in plan c.args.element).end) (plan_past c.args.day.now c.args.person c.if-person-day.false))

@@ -1,12 +1,12 @@
 use Rattle.std.proofs.Common.{◌≡◌, length}
-use Rattle.town.specs.Views.{setup_in}
+use Rattle.town.specs.Views.{setup}
 use Rattle.traffic.specs.Moves.{persons_after}
 use Rattle.plain_world.proofs.steps.step_persons.Given as goal
 
 abbrev pub invariant-loop-rest : goal.invariant-loop-rest
 invariant-loop-rest l =
-    persons_after (setup_in l.town l.chosen l.iteration) l.second l.rest l.persons
-    ≡ persons_after (setup_in l.town l.chosen l.iteration) l.second l.said l.initial.persons
+    persons_after (setup l.day) l.second l.rest l.persons
+    ≡ persons_after (setup l.day) l.second l.said l.initial.persons
 
 abbrev pub decreases-loop-rest : goal.decreases-loop-rest
 decreases-loop-rest l = length l.rest

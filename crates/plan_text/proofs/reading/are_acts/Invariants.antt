@@ -1,5 +1,5 @@
 use Rattle.std.proofs.Common.{◌≡◌, ◌∷◌, length}
-use Rattle.plans.specs.Plan.{are_acts}
+use Rattle.rows.specs.Plan.{are_acts}
 use Rattle.plan_text.proofs.reading.are_acts.Given as goal
 
 abbrev pub invariant-loop-rest : goal.invariant-loop-rest

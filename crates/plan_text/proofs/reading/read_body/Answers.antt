@@ -1,5 +1,5 @@
 use Rattle.std.proofs.Common.{◌∙◌, ◌++◌, List, ℕ, ap, Some}
-use Rattle.plans.specs.Parts.{Parts}
+use Rattle.rows.specs.PlanRows.{PlanRows}
 use Rattle.plan_text.specs.Lines.{element_lines}
 use Rattle.plan_text.proofs.Whole.{only_plan, fits_too, lines_too, same_bytes}
 use Rattle.plan_text.proofs.reading.read_body.Goals as goal
@@ -24,5 +24,5 @@ returns-then-not-is_text-clause-read c plan is =
 
 pub returns-clause-read : goal.returns-clause-read
 returns-clause-read c plan is =
-    ap (λ (p : Parts). Some p) (c.plan_of.ensures ∙ only_plan c.args.person c.args.index c.args.book.now c.args.bytes.now c.in_ok-acts.field-0.acts.items c.in_ok-acts.field-0.legs.items c.know_names.ensures
+    ap (λ (p : PlanRows). Some p) (c.plan_of.ensures ∙ only_plan c.args.person c.args.index c.args.book.now c.args.bytes.now c.in_ok-acts.field-0.acts.items c.in_ok-acts.field-0.legs.items c.know_names.ensures
     c.requires c.ranges.index.fits c.in_ok-acts.ensures.acts c.in_ok-acts.ensures.legs plan is)

@@ -1,5 +1,5 @@
 use Rattle.std.proofs.Common.{None}
-use Rattle.plans.specs.declared.plan.Act.{Act}
+use Rattle.rows.specs.declared.plan.Act.{Act}
 use Rattle.plan_text.proofs.Pushing.{act_in_book, leg_in_book, act_alone, act_and_leg}
 use Rattle.plan_text.proofs.writing.push_element.Goals as goal
 

@@ -2,7 +2,7 @@ use Rattle.std.proofs.Common.{◌≡◌, ◌∙◌, ℕ, ◌<◌, ◌^◌, sym, 
 use Rattle.std.specs.List.{All}
 use Rattle.std.proofs.lemmas.List.{length-map}
 use Rattle.csv.specs.Records.{fields_of}
-use Rattle.plans.specs.Values.{PlanRows}
+use Rattle.plans.specs.Values.{PlanFileRows}
 use Rattle.plans.specs.Progress.{IsSound}
 use Rattle.plans.specs.Read.{progress_of}
 use Rattle.plans.proofs.Answering.{all_read, none_left}
@@ -30,7 +30,7 @@ returns-in-Ok-finished-clause-sound c =
     let some = c.requires.some in
     let end : c.loop-place.place ≡ length c.args.rows.now = omega arith in
     let all = all_read c.args.links.now c.args.ends.now c.args.rows.now c.loop-place.place (progress_of c.loop-place.read) c.loop-place.invariant end in
-    subst (λ (file : PlanRows). IsSound c.args.links.now c.args.ends.now file) (sym c.in-Ok-finished.ensures)
+    subst (λ (file : PlanFileRows). IsSound c.args.links.now c.args.ends.now file) (sym c.in-Ok-finished.ensures)
     (finish_sound c.args.links.now c.args.ends.now (map fields_of c.args.rows.now) (progress_of c.loop-place.read) all)
 
 pub returns-in-Ok-finished-clause-starts : goal.returns-in-Ok-finished-clause-starts
@@ -40,5 +40,5 @@ returns-in-Ok-finished-clause-starts c =
     let end : c.loop-place.place ≡ length c.args.rows.now = omega arith in
     let rows = map fields_of c.args.rows.now in
     let all = all_read c.args.links.now c.args.ends.now c.args.rows.now c.loop-place.place (progress_of c.loop-place.read) c.loop-place.invariant end in
-    subst (λ (file : PlanRows). All (λ (row : ℕ). row < 2 ^ 30) file.starts) (sym c.in-Ok-finished.ensures)
+    subst (λ (file : PlanFileRows). All (λ (row : ℕ). row < 2 ^ 30) file.starts) (sym c.in-Ok-finished.ensures)
     (starts_early c.args.links.now c.args.ends.now rows (progress_of c.loop-place.read) (2 ^ 30) all (omega (arith, length-map c.args.rows.now fields_of)))

@@ -1,17 +1,26 @@
-use Rattle.std.proofs.Common.{List, ◌∙◌, ap, subst, sym}
-use Rattle.plans.specs.declared.plan.Plan.{Plan}
-use Rattle.town.specs.Views.{rows_of, setup_in}
+use Rattle.std.proofs.Common.{◌≡◌, List, length, map, true, ◌∙◌, ap, subst, sym}
+use Rattle.std.specs.List.{list_all}
+use Rattle.rows.specs.declared.plan.Plan.{Plan}
+use Rattle.rows.specs.PlanRows.{plan_rows}
+use Rattle.town.specs.Fits.{fits}
+use Rattle.town.specs.Setups.{setup_of}
+use Rattle.town.specs.Views.{rows_of}
 use Rattle.traffic.specs.Day.{day}
-use Rattle.plain_day.specs.Given.{AreGiven}
-use Rattle.qsim_top.proofs.Chosen.{given, first_day}
+use Rattle.qsim_top.proofs.Chosen.{each_chosen, first_day}
 use Rattle.qsim_top.proofs.runs.events_of.Goals as goal
 
-pub plain_day-requires : goal.plain_day-requires
-plain_day-requires c =
-    subst (λ (own : List Plan). AreGiven c.args.town.now own) (sym c.deref.ensures.value)
-    (given c.args.town.now c.args.plans c.in_ok-chosen.chosen.items c.requires.each (c.in_ok-chosen.ensures.fit (rows_of c.args.town.now) c.requires.fit))
+pub first_events-requires-clause-each : goal.first_events-requires-clause-each
+first_events-requires-clause-each c =
+    each_chosen c.args.town.now c.args.plans c.in_ok-chosen.chosen.items c.requires.each (c.in_ok-chosen.ensures.fit (rows_of c.args.town.now) c.requires.fit)
+    ∙ ap (λ (own : List Plan). length own) (sym c.deref.ensures.value)
+
+pub first_events-requires-clause-fit : goal.first_events-requires-clause-fit
+first_events-requires-clause-fit c =
+    let T = rows_of c.args.town.now in
+    subst (λ (own : List Plan). list_all (fits T) (map plan_rows own) ≡ true) (sym c.deref.ensures.value) (c.in_ok-chosen.ensures.fit T c.requires.fit).fit
 
 pub returns-clause-events : goal.returns-clause-events
 returns-clause-events c =
-    first_day c.args.town.now c.args.plans c.in_ok-chosen.chosen.items c.in_ok-events.events.items c.in_ok-chosen.ensures.first
-    (c.in_ok-events.ensures.events ∙ ap (λ (own : List Plan). day (setup_in c.args.town.now own 0)) c.deref.ensures.value)
+    let T = rows_of c.args.town.now in
+    first_day T c.args.plans c.in_ok-chosen.chosen.items c.in_ok-events.events.items c.in_ok-chosen.ensures.first
+    (c.in_ok-events.ensures.events ∙ ap (λ (own : List Plan). day (setup_of T (map plan_rows own) 0)) c.deref.ensures.value)

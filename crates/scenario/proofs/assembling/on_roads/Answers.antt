@@ -1,6 +1,6 @@
 use Rattle.std.proofs.Common.{◌≡◌, ◌∙◌, sym, subst, ℕ, List, length, None}
 use Rattle.edge_files.specs.declared.files.InFile.TheVariants as file
-use Rattle.plans.specs.Read.{plan_rows_of}
+use Rattle.plans.specs.Read.{file_rows_of}
 use Rattle.plans.specs.Progress.{IsSound}
 use Rattle.settings.specs.Faults.{values_of}
 use Rattle.scenario.specs.Texts.{text_in}
@@ -38,7 +38,7 @@ returns c =
 
 pub together-requires-clause-sound : goal.together-requires-clause-sound
 together-requires-clause-sound c =
-    subst (λ (e : List (ℕ × ℕ)). IsSound c.args.network.link_names e (plan_rows_of c.in-Ok-read_persons.file)) (c.deref.ensures.value ∙ c.in-Ok.ensures) c.in-Ok-read_persons.ensures.sound
+    subst (λ (e : List (ℕ × ℕ)). IsSound c.args.network.link_names e (file_rows_of c.in-Ok-read_persons.file)) (c.deref.ensures.value ∙ c.in-Ok.ensures) c.in-Ok-read_persons.ensures.sound
 
 pub together-requires-clause-schedule : goal.together-requires-clause-schedule
 together-requires-clause-schedule c =
@@ -53,6 +53,6 @@ returns-in-Ok-read_schedule c =
     let routes = text_in args.long file.Routes args.later.routes in
     let departures = text_in args.long file.Departures args.later.departures in
     let same = c.deref.ensures.value ∙ sym c.deref-2.ensures.value in
-    all_told c.together.result (values_of args.settings) (roads_view args.network) (plan_rows_of c.in-Ok-read_persons.file) (timetable_view c.in-Ok-read_schedule.schedule) plans stops routes departures c.deref-2.result.now
+    all_told c.together.result (values_of args.settings) (roads_view args.network) (file_rows_of c.in-Ok-read_persons.file) (timetable_view c.in-Ok-read_schedule.schedule) plans stops routes departures c.deref-2.result.now
     (c.deref-2.ensures.value ∙ c.in-Ok.ensures) (subst (λ (e : List (ℕ × ℕ)). persons_fault args.network.link_names e plans ≡ None) same c.in-Ok-read_persons.ensures.read.0) c.in-Ok-read_schedule.ensures.read.0
     c.in-Ok-read_persons.ensures.read.1 c.in-Ok-read_schedule.ensures.read.1 c.together.ensures

@@ -1,14 +1,14 @@
 use Rattle.std.proofs.Common.{sym, ap, map, List, None, Some}
 use Rattle.std.proofs.lemmas.List.{append-nil}
-use Rattle.plans.specs.declared.plan.Plan.{Plan}
-use Rattle.plans.specs.Parts.{parts_of}
+use Rattle.rows.specs.declared.plan.Plan.{Plan}
+use Rattle.rows.specs.PlanRows.{plan_rows}
 use Rattle.scenario.specs.Fitting.{first_plans}
 use Rattle.scenario.proofs.FirstPlans.{first_more}
 use Rattle.scenario.proofs.chosen.first_plans.Goals as goal
 
 pub loop-own-init : goal.loop-own-init
 unfolding first_plans
-loop-own-init c = ap (λ (l : List Plan). map parts_of l) c.new-chosen.ensures.items
+loop-own-init c = ap (λ (l : List Plan). map plan_rows l) c.new-chosen.ensures.items
 
 pub loop-own-preserved-in-Continue-1 : goal.loop-own-preserved-in-Continue-1
 loop-own-preserved-in-Continue-1 c =

@@ -1,9 +1,9 @@
 use Rattle.std.proofs.Common.{◌≡◌, map}
-use Rattle.plans.specs.Parts.{all_parts}
+use Rattle.rows.specs.PlanRows.{all_plan_rows}
 use Rattle.scenario.specs.Legs.{plan_in_town}
 use Rattle.scenario.specs.Ways.{numbers_of}
 use Rattle.scenario.proofs.renumbering.plans_in_town.Given as goal
 
 -- the persons so far have the town's numbers
 abbrev pub invariant-loop-own : goal.invariant-loop-own
-invariant-loop-own l = all_parts l.rows.items ≡ map (map (plan_in_town (numbers_of l.numbering))) (all_parts l.yielded)
+invariant-loop-own l = all_plan_rows l.rows.items ≡ map (map (plan_in_town (numbers_of l.numbering))) (all_plan_rows l.yielded)

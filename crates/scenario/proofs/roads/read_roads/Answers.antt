@@ -1,6 +1,6 @@
 use Rattle.std.proofs.Common.{◌∙◌, sym, ap, subst, ℕ, List, Some}
 use Rattle.edge_files.specs.declared.files.InFile.TheVariants as file
-use Rattle.network.specs.declared.rows.NodeRow.{NodeRow}
+use Rattle.rows.specs.declared.network.NodeRow.{NodeRow}
 use Rattle.network.specs.Nodes.{nodes_fault, node_names}
 use Rattle.network.specs.Links.{links_fault}
 use Rattle.scenario.specs.Texts.{text_in, bytes_in}

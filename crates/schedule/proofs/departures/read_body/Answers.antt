@@ -4,7 +4,7 @@ use Rattle.events.specs.Names.{with_name}
 use Rattle.records.specs.Rows.{Row}
 use Rattle.records.proofs.InTurn.{read_none, read_more, read_fault, read_all, read_count}
 use Rattle.schedule.specs.Views.{departure_lists}
-use Rattle.schedule.specs.declared.rows.DepartureRow.{DepartureRow}
+use Rattle.rows.specs.declared.schedule.DepartureRow.{DepartureRow}
 use Rattle.schedule.specs.Departures.{departure_reason, departure_of, is_departure}
 use Rattle.records.proofs.Sound.{all_push, all_none}
 use Rattle.schedule.proofs.departures.read_body.Goals as goal

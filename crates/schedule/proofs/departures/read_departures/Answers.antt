@@ -7,7 +7,7 @@ use Rattle.records.specs.Fields.{column}
 use Rattle.records.specs.Files.{optional_head_reason, body_of}
 use Rattle.records.proofs.InTurn.{answers_file, answers_stop}
 use Rattle.schedule.specs.Views.{departure_lists}
-use Rattle.schedule.specs.declared.rows.DepartureRow.{DepartureRow}
+use Rattle.rows.specs.declared.schedule.DepartureRow.{DepartureRow}
 use Rattle.schedule.specs.Departures.{departure_header, departure_reason, departure_of}
 use Rattle.schedule.proofs.departures.read_departures.Goals as goal
 

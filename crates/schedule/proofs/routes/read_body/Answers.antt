@@ -9,7 +9,7 @@ use Rattle.records.proofs.InTurn.{read_none, read_more, read_fault, read_all, re
 use Rattle.records.proofs.Sound.{all_none, all_push, both_true, number_known}
 use Rattle.std.specs.List.{list_all}
 use Rattle.schedule.specs.declared.lists.Stops.{Stops}
-use Rattle.schedule.specs.declared.rows.RouteRow.{RouteRow}
+use Rattle.rows.specs.declared.schedule.RouteRow.{RouteRow}
 use Rattle.schedule.specs.Views.{route_lists}
 use Rattle.schedule.specs.Routes.{route_reason, route_of, lists_of, lines_of, is_route}
 use Rattle.schedule.proofs.Lines.{lines_none, lines_more, lines_all, line_stays, route_found, route_why}

@@ -7,7 +7,7 @@ use Rattle.records.specs.Fields.{column}
 use Rattle.records.specs.Files.{optional_head_reason, body_of}
 use Rattle.records.proofs.InTurn.{answers_body, answers_stop}
 use Rattle.schedule.specs.declared.lists.Stops.{Stops}
-use Rattle.schedule.specs.declared.rows.RouteRow.{RouteRow}
+use Rattle.rows.specs.declared.schedule.RouteRow.{RouteRow}
 use Rattle.schedule.specs.Views.{route_lists}
 use Rattle.schedule.specs.Routes.{route_header, route_reason, route_of, lines_of, routes_of}
 use Rattle.schedule.proofs.routes.read_routes.Goals as goal

@@ -4,7 +4,7 @@ use Rattle.events.specs.Names.{with_name}
 use Rattle.records.specs.Rows.{Row}
 use Rattle.records.proofs.InTurn.{read_none, read_more, read_fault, read_all, read_count}
 use Rattle.schedule.specs.Views.{stop_lists}
-use Rattle.schedule.specs.declared.rows.StopRow.{StopRow}
+use Rattle.rows.specs.declared.schedule.StopRow.{StopRow}
 use Rattle.schedule.specs.Stops.{stop_reason, stop_of, is_stop}
 use Rattle.records.proofs.Sound.{all_push, all_none}
 use Rattle.schedule.proofs.stops.read_body.Goals as goal

@@ -7,7 +7,7 @@ use Rattle.records.specs.Fields.{column}
 use Rattle.records.specs.Files.{optional_head_reason, body_of}
 use Rattle.records.proofs.InTurn.{answers_file, answers_stop}
 use Rattle.schedule.specs.Views.{stop_lists}
-use Rattle.schedule.specs.declared.rows.StopRow.{StopRow}
+use Rattle.rows.specs.declared.schedule.StopRow.{StopRow}
 use Rattle.schedule.specs.Stops.{stop_header, stop_reason, stop_of}
 use Rattle.schedule.proofs.stops.read_stops.Goals as goal
 

@@ -3,4 +3,4 @@ use Rattle.fit_days.specs.Setups.{counts_in}
 use Rattle.worked_days.proofs.jams.seconds_of.Given as goal
 
 abbrev pub invariant-loop-t : goal.invariant-loop-t
-invariant-loop-t l = IsFitWorld (counts_in l.town l.chosen) l.world
+invariant-loop-t l = IsFitWorld (counts_in l.day) l.world

@@ -1,11 +1,11 @@
 use Rattle.std.proofs.Common.{◌≡◌, drop}
 use Rattle.std.specs.Prelude.{map}
 use Rattle.std.specs.List.{list_all}
-use Rattle.plans.specs.Parts.{parts_of}
+use Rattle.rows.specs.PlanRows.{plan_rows}
 use Rattle.town.specs.Fits.{fits}
 use Rattle.town.specs.Views.{rows_of}
 use Rattle.worked_days.proofs.towns.all_fit.Given as goal
 
 abbrev pub invariant-loop-plan : goal.invariant-loop-plan
 invariant-loop-plan l =
-    list_all (fits (rows_of l.town)) (map parts_of (drop l.plan-index l.chosen)) ≡ list_all (fits (rows_of l.town)) (map parts_of l.chosen)
+    list_all (fits (rows_of l.town)) (map plan_rows (drop l.plan-index l.chosen)) ≡ list_all (fits (rows_of l.town)) (map plan_rows l.chosen)

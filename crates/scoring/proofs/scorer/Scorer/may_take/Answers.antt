@@ -3,7 +3,7 @@ use Rattle.scoring.specs.Taken.{MayFollow}
 use Rattle.scoring.proofs.MayLemmas.{may_take}
 use Rattle.scoring.proofs.scorer.Scorer.may_take.Goals as goal
 
-pub returns-then-event-le-MAX_SECOND : goal.returns-then-event-le-MAX_SECOND
-returns-then-event-le-MAX_SECOND c = λ tables taken stands few.
+pub returns-then-event-le-LAST_SECOND : goal.returns-then-event-le-LAST_SECOND
+returns-then-event-le-LAST_SECOND c = λ tables taken stands few.
     subst (λ (b : Bool). IsTrue b ↔ MayFollow taken c.args.event.now) (sym c.is_next.ensures)
-    (may_take tables c.args.self.now taken c.args.event.now stands few c.if-event-le-MAX_SECOND.true)
+    (may_take tables c.args.self.now taken c.args.event.now stands few c.if-event-le-LAST_SECOND.true)

@@ -1,5 +1,6 @@
 use Rattle.std.proofs.Common.{ℕ, ℤ, pos, ◌≤◌, ◌+ℤ◌, ◌*ℤ◌, ap, ◌∙◌, arith}
 use Rattle.std.proofs.lemmas.Int.{ints}
+use Rattle.limits.specs.declared.TheConstants.{LAST_SECOND}
 use Rattle.scoring.specs.declared.scorer.Doing.TheVariants as doing
 use Rattle.scoring.specs.declared.scorer.Scorer.{Scorer}
 use Rattle.scoring.proofs.WorthLemmas.{late_sum_fits, late_sum_same}
@@ -7,13 +8,13 @@ use Rattle.scoring.proofs.scorer.Scorer.with_activity_begun.Goals as goal
 
 pub overflow_add-result : goal.overflow_add-result
 overflow_add-result c =
-    let few : c.seconds_late-late.result ≤ 172800 = omega (arith, c.seconds_late-late.ensures.most, c.requires.in_day) in
+    let few : c.seconds_late-late.result ≤ LAST_SECOND = omega (arith, c.seconds_late-late.ensures.most, c.requires.in_day) in
     let low = c.args.tables.now.lateness.0 in let high = c.args.tables.now.lateness.1 in
     late_sum_fits c.args.self.sum c.args.tables.now.late_per_second c.seconds_late-late.result c.from.result c.requires.small (low, omega (arith, ints)) few c.from.ensures
 
 pub returns : goal.returns
 returns c =
-    let few : c.seconds_late-late.result ≤ 172800 = omega (arith, c.seconds_late-late.ensures.most, c.requires.in_day) in
+    let few : c.seconds_late-late.result ≤ LAST_SECOND = omega (arith, c.seconds_late-late.ensures.most, c.requires.in_day) in
     let low = c.args.tables.now.lateness.0 in let high = c.args.tables.now.lateness.1 in
     rw (c.in-Kind.is)
     (ap (λ (z : ℤ). record c.args.self { doing = doing.Activity c.in-Kind.kind c.args.second; sum = z })

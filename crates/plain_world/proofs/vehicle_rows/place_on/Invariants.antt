@@ -1,0 +1,7 @@
+use Rattle.std.proofs.Common.{◌≡◌, drop}
+use Rattle.traffic.specs.Rows.{on}
+use Rattle.plain_world.specs.Places.{place_from}
+use Rattle.plain_world.proofs.vehicle_rows.place_on.Given as goal
+
+abbrev pub invariant-loop-place : goal.invariant-loop-place
+invariant-loop-place l = place_from (on l.link l.stage) l.left l.place (drop l.place l.rows) ≡ place_from (on l.link l.stage) l.k 0 l.rows

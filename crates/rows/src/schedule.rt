@@ -1,0 +1,43 @@
+ghost use Rattle.std.specs.Prelude.{◌≡◌};
+ghost use Rattle.std.specs.List.{list_any};
+ghost use Rattle.rows.specs.Stops.{calls_at};
+
+use events::{Calls, Route, Rows, StopCall};
+
+/// A stop, by the link on which it lies.
+#[derive(Clone, Copy, Debug, PartialEq, Eq)]
+pub struct StopRow {
+    pub link: u32,
+}
+
+/// A route of a line, over links and with calls at stops.
+#[derive(Drop)]
+pub struct RouteRow {
+    pub line: u32,
+    pub links: Route,
+    pub calls: Calls,
+}
+
+/// A departure of a vehicle on a route, at a second and with so many seats.
+#[derive(Clone, Copy, Debug, PartialEq, Eq)]
+pub struct DepartureRow {
+    pub route: u32,
+    pub second: u32,
+    pub seats: u32,
+}
+
+/// Stops, by their numbers.
+pub type StopList = Rows<StopRow>;
+
+/// Routes, by their numbers.
+pub type RouteList = Rows<RouteRow>;
+
+/// Departures, by their numbers.
+pub type DepartureList = Rows<DepartureRow>;
+
+/// Whether one of the calls is at the stop.
+pub fn calls_at(stop: u32, calls: &[StopCall]) -> bool
+    ensures { result ≡ calls_at stop calls.now }
+{
+    calls.iter().any(|call| call.stop == stop)
+}

@@ -1,0 +1,19 @@
+-- The chosen plans in the setup of a day.
+use Rattle.std.proofs.Common.{◌≡◌, ℕ, ◌<◌, ◌≤◌, [], length, map, get_or, sym, ◌∙◌, ap, arith}
+use Rattle.std.proofs.lemmas.List.{length-map, get_or-map, get_or_past}
+use Rattle.rows.specs.declared.plan.Plan.{Plan}
+use Rattle.rows.specs.PlanRows.{PlanRows, plan_rows}
+use Rattle.traffic.specs.Setup.{person_plan}
+use Rattle.town.specs.declared.day_input.DayInput.{DayInput}
+use Rattle.town.specs.Setups.{setup_of}
+use Rattle.town.specs.Views.{setup}
+
+-- the plan of a person who has one
+pub plan_there : (day : DayInput) (i : ℕ) (p : Plan) → i < length day.chosen.now → p ≡ get_or day.chosen.now i p → person_plan (setup day) i ≡ plan_rows p
+unfolding setup_of
+plan_there day i p lt e = get_or-map plan_rows day.chosen.now i p _ lt ∙ ap plan_rows (sym e)
+
+-- a person who has none
+pub plan_past : (day : DayInput) (i : ℕ) → length day.chosen.now ≤ i → person_plan (setup day) i ≡ record { acts = []; legs = [] }
+unfolding setup_of
+plan_past day i le = let e = length-map day.chosen.now plan_rows in get_or_past (map plan_rows day.chosen.now) i _ (omega arith)

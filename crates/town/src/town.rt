@@ -1,0 +1,27 @@
+ghost use Rattle.town.specs.Rows.{IsTown, IsBook, town_rows};
+
+use events::Book;
+use network::Network;
+use rows::{GreenList, TrafficSettings};
+use schedule::{Departures, Routes, Stops};
+
+/// A town: its settings, its network, its schedule and its signals, and the names of all that events tell of.
+///
+/// Every number in it names a row that is there, each link has a signal, and all is within the limits: a day of
+/// 1 to 172,800 seconds, factors of 1 to 2,000 permille, a patience of 1 to 172,800 seconds, holes of 1 to
+/// 10,000 centimetres a second where they travel, dwell times of at most 3,600 seconds, and at most 65,536 persons.
+#[derive(Drop)]
+pub struct Town {
+    /// Where all random words begin.
+    pub seed: u64,
+    /// The settings of its traffic.
+    pub settings: TrafficSettings,
+    pub network: Network,
+    pub stops: Stops,
+    pub routes: Routes,
+    pub departures: Departures,
+    pub book: Book,
+    pub greens: GreenList,
+    pub ghost sound: { IsTown (town_rows seed settings network stops routes departures book greens) },
+    pub ghost named: { IsBook book network stops routes departures },
+}

@@ -27,7 +27,7 @@ use Rattle.fit_days.proofs.Boarding.{IsFitWaiter}
 pub flight_fit : (z : Counts) (S : Setup) (t i : ℕ) (W : World) → IsFitSetup z S → i < z.persons → AreFitMoves z (flight_plan S t i W)
 flight_fit z S t i W f lt =
     let h = f.acts i ((person_of i W).element + 2) lt in
-    flight_walk (λ ms. AreFitMoves z ms) S t i W tt
+    flight_walk (λ ms. AreFitMoves z ms) S t i (person_of i W) tt
     (λ mode seconds start p w e. (
       (
         tt,
@@ -75,7 +75,7 @@ pub leave_fit : (z : Counts) (S : Setup) (t i : ℕ) (W : World) → IsFitSetup 
 leave_fit z S t i W f h lt =
     let P = person_of i W in
     let here = f.acts i P.element lt in
-    leave_walk (λ ms. AreFitMoves z ms) S t i W tt
+    leave_walk (λ ms. AreFitMoves z ms) S t i (person_of i W) tt
     (λ p. (
       (
         tt,
@@ -114,7 +114,7 @@ departure_fit z S t d W f lt =
     let within : d < z.departures = (let e = f.departures in omega arith) in
     let D : IsFitDeparture z (departure S d) = All-get_or (IsFitDeparture z) S.departures d _ lt f.runs in
     let r = transit_fit z d (departure S d) within D in
-    departure_walk (λ ms. AreFitMoves z ms) S t d W tt (λ e. ((r, (record { person = tt; vehicle = within; link = r.link; more = D.line }, tt)), tt))
+    departure_walk (λ ms. AreFitMoves z ms) S t d tt (λ e. ((r, (record { person = tt; vehicle = within; link = r.link; more = D.line }, tt)), tt))
 
 -- WHO WAITS
 waits_fit : (z : Counts) (i : ℕ) (w : Leg) (next : Act) (stop since : ℕ) → i < z.persons → IsFitAct z next → Each (IsFitWaiter z) (waits i w next stop since)

@@ -1,5 +1,5 @@
 -- Setups whose days stay fit, and the plans and towns that they come from.
-use Rattle.std.specs.Prelude.{◌≡◌, ◌<◌, ◌≤◌, ◌+◌, ◌/◌, ℕ, true, List, [], length, map, get_or, All, Some}
+use Rattle.std.specs.Prelude.{◌≡◌, ◌<◌, ◌≤◌, ◌+◌, ◌/◌, ℕ, true, List, [], length, get_or, All, Some}
 use Rattle.std.specs.List.{list_all}
 use Rattle.limits.specs.declared.TheConstants.{LAST_SECOND, MAX_CALLS, MAX_LEGS, MAX_ROUTE_LINKS, MAX_SEATS}
 use Rattle.rows.specs.Plan.{is_leg, are_acts}

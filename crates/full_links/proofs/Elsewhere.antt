@@ -54,9 +54,9 @@ out_start S i (leg.Transit line access egress) next = ((tt, tt, λ cs. refl), tt
 
 starts : (S : Setup) (t n : ℕ) (p : Phase) (W : World) → p ≢ phase.C → p ≢ phase.D → Each IsStart (plan_of S t p n W)
 unfolding plan_of
-starts S t n phase.A W c d = flight_walk (λ ms. Each IsStart ms) S t n W tt (λ mode seconds start e f g. ((tt, tt, λ cs. refl), tt))
-starts S t n phase.B1 W c d = let P = person_of n W in leave_walk (λ ms. Each IsStart ms) S t n W tt (λ e. ((tt, tt, λ cs. refl), out_start S n (leg_at S n P.element) (act_after S n P.element)))
-starts S t n phase.B2 W c d = departure_walk (λ ms. Each IsStart ms) S t n W tt (λ e. (((λ q. cc), (λ q. cc), λ cs. refl), tt))
+starts S t n phase.A W c d = flight_walk (λ ms. Each IsStart ms) S t n (person_of n W) tt (λ mode seconds start e f g. ((tt, tt, λ cs. refl), tt))
+starts S t n phase.B1 W c d = let P = person_of n W in leave_walk (λ ms. Each IsStart ms) S t n (person_of n W) tt (λ e. ((tt, tt, λ cs. refl), out_start S n (leg_at S n P.element) (act_after S n P.element)))
+starts S t n phase.B2 W c d = departure_walk (λ ms. Each IsStart ms) S t n tt (λ e. (((λ q. cc), (λ q. cc), λ cs. refl), tt))
 starts S t n phase.C W c d = absurd (c refl)
 starts S t n phase.D W c d = absurd (d refl)
 starts S t n phase.E W c d = tt

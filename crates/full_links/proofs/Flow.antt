@@ -3,7 +3,7 @@ use Rattle.std.proofs.Common.{◌≡◌, ◌≢◌, ℕ, zero, suc, ◌+◌, ◌
 use Rattle.std.specs.Prelude.{nat_le, nat_lt, if◌then◌else◌}
 use Rattle.std.specs.List.{AllByRecursion as Each, flat_map}
 use Rattle.std.proofs.lemmas.Bool.{cases_Bool, and_parts, and_right, eqb-true, eqb-false, eq-eqb, ne_eqb, leb-true}
-use Rattle.std.proofs.lemmas.List.{length-set, length-replicate, get_or-replicate}
+use Rattle.std.proofs.lemmas.List.{get_or-replicate}
 use Rattle.std.proofs.lemmas.List.Sums.{sum_by-cons}
 use Rattle.std.proofs.lemmas.Nat.{le-div}
 use Rattle.events.specs.declared.event.Phase.{Phase}
@@ -20,38 +20,23 @@ use Rattle.traffic.specs.declared.world.Waiter.{Waiter}
 use Rattle.traffic.specs.Stops.{calls_on, left_behind}
 use Rattle.traffic.specs.declared.moves.Move.{Move}
 use Rattle.traffic.specs.declared.moves.Move.TheVariants.{Put, Credit}
-use Rattle.traffic.specs.Moves.{done, run, credits_after, credit_after, credit_after_all}
+use Rattle.traffic.specs.Moves.{done, run, credit_after, credit_after_all}
 use Rattle.traffic.specs.declared.numbers.Rules.{Rules}
 use Rattle.traffic.specs.Links.{Lane, lane, rules, leave_bay, is_last, may_pass, from_wait, from_queue, waiting, wait_after, link_moves}
 use Rattle.traffic.specs.Persons.{waiters}
-use Rattle.traffic.specs.Day.{link_plan, phases, plan_of, moves_of, after, turns_in, through, second, world_start, world_from}
+use Rattle.traffic.specs.Day.{link_plan, plan_of, moves_of, after, turns_in, through, second, world_start, world_from}
 use Rattle.traffic.specs.Frames.{IsAt, AreAt}
 use Rattle.traffic.specs.Worlds.{buffers_one, passing, link_turn_moves, passing_in, FlowKept}
-use Rattle.traffic.proofs.Sublists.{credit-done}
+use Rattle.traffic.proofs.Sublists.{credit-run}
 use Rattle.traffic.proofs.Turns.{moves_of-map}
 use Rattle.traffic.proofs.Phases.{phase_at_once}
-use Rattle.traffic.proofs.Links.{link_moves-at}
+use Rattle.traffic.proofs.Links.{link-at}
 use Rattle.traffic.proofs.Each.{each_weaker}
-use Rattle.traffic.proofs.Walks.{phase_keeps, phases_keep, seconds_keep}
+use Rattle.traffic.proofs.Walks.{credits_start, credits_day, phase_keeps}
 use Rattle.full_links.specs.Moves.{IsElsewhere}
 use Rattle.full_links.proofs.Elsewhere.{IsFree, apart}
 
 -- CREDITS
-credit_length : (m : Move) (cs : List ℕ) → length (credits_after m cs) ≡ length cs
-credit_length (Credit l c) cs = length-set cs l c
-credit_length _ cs = refl
-
-credits_length : (S : Setup) (t : ℕ) (ms : List Move) (W : World) → length (run S t ms W).credits ≡ length W.credits
-credits_length S t [] W = refl
-credits_length S t (m ∷ ms) W = credits_length S t ms (done S t m W) ∙ credit_length m W.credits
-
-credit_run : (S : Setup) (t l : ℕ) (ms : List Move) (W : World) → l < length W.credits → credit_of l (run S t ms W) ≡ credit_after_all l ms (credit_of l W)
-credit_run S t l [] W lt = refl
-credit_run S t l (m ∷ ms) W lt =
-    let e = credit_length m W.credits in
-    let within : l < length (done S t m W).credits = omega arith in
-    credit_run S t l ms (done S t m W) within ∙ ap (credit_after_all l ms) (credit-done S t l m W lt)
-
 -- THE TURN OF A LINK PAYS
 -- from credit c on the moves leave of credit d what those who pass do not pay
 unfoldable pub Leaves : ℕ → ℕ → ℕ → List Move → Type 0
@@ -145,12 +130,9 @@ leaves_append l c d (m ∷ xs) ys h g =
     let f = sum_by-cons (buffers_one l) m (xs ++ ys) in
     let r = leaves_append l (credit_after l m c) (d - buffers_one l m * VEHICLE_COST) xs ys (omega arith) g in omega arith
 
-turn_at : (S : Setup) (t k : ℕ) (U : World) → AreAt k (link_plan S t k U)
-turn_at S t k U = link_moves-at (rules S k) t k (waiters S k U) (lane k U)
-
 past_links : (S : Setup) (t l c k n : ℕ) (U : World) → l < k → Leaves l c c (flat_map (λ x. link_plan S t x U) (numbers k n))
 past_links S t l c k zero U lt = leaves_none l c
-past_links S t l c k (suc n) U lt = leaves_other l k c c (link_plan S t k U) _ (λ q. omega arith) (turn_at S t k U) (past_links S t l c (k + 1) n U (omega arith))
+past_links S t l c k (suc n) U lt = leaves_other l k c c (link_plan S t k U) _ (λ q. omega arith) (link-at S t k U) (past_links S t l c (k + 1) n U (omega arith))
 
 all_links : (S : Setup) (t l c k n : ℕ) (U : World) → k ≤ l → l < k + n → Leaves l c (raised (gain_of S l) (credit_of l U)) (flat_map (λ x. link_plan S t x U) (numbers k n))
 all_links S t l c k zero U le lt = absurd (omega arith)
@@ -164,7 +146,7 @@ all_links S t l c k (suc n) U le lt =
           (λ x. past_links S t l x (k + 1) n U (omega arith))
       | inr e ↦
           let q : k ≢ l = eqb-false k l e in
-          leaves_other l k c d (link_plan S t k U) _ (λ z. q (sym z)) (turn_at S t k U) (all_links S t l c (k + 1) n U (omega arith) (omega arith))
+          leaves_other l k c d (link_plan S t k U) _ (λ z. q (sym z)) (link-at S t k U) (all_links S t l c (k + 1) n U (omega arith) (omega arith))
     ]
 
 -- SECONDS
@@ -192,16 +174,7 @@ second_pays S t l W lt e =
     let g = ap length f in
     let within : l < length U.credits = omega arith in
     let h : Leaves l (credit_of l U) (raised (gain_of S l) (credit_of l U)) ms = subst (Leaves l (credit_of l U) (raised (gain_of S l) (credit_of l U))) (sym (turns_are S t U)) (all_links S t l (credit_of l U) 0 (length S.links) U (omega arith) (omega arith)) in
-    ap (λ (c : ℕ). c + passing l ms * VEHICLE_COST) (credit_run S t l ms U within) ∙ h ∙ ap (λ (cs : List ℕ). raised (gain_of S l) (get_or cs l 0)) f
-
-credits_day : (S : Setup) (W : World) (t : ℕ) → length W.credits ≡ length S.links → length (world_from S W t).credits ≡ length S.links
-credits_day S W t e =
-    let I : World → Type 0 = λ V. length V.credits ≡ length S.links in
-    seconds_keep I S (λ s V f. phases_keep I S s (λ p n U lt g. credits_length S s (plan_of S s p n U) U ∙ g) phases V f) W t e
-
-credits_start : (S : Setup) → length (world_start S).credits ≡ length S.links
-unfolding world_start
-credits_start S = length-replicate (length S.links) VEHICLE_COST
+    ap (λ (c : ℕ). c + passing l ms * VEHICLE_COST) (credit-run S t l ms U within) ∙ h ∙ ap (λ (cs : List ℕ). raised (gain_of S l) (get_or cs l 0)) f
 
 credit_start : (S : Setup) (l : ℕ) → l < length S.links → credit_of l (world_start S) ≡ VEHICLE_COST
 unfolding world_start

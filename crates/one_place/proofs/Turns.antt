@@ -55,7 +55,7 @@ unfolding plan_of person_after
 flight_keeps S t j i W h =
     let P = person_of i W in
     let next = act_after S j (person_of j W).element in
-    flight_walk (λ ms. InOne i (run S t ms W)) S t j W h
+    flight_walk (λ ms. InOne i (run S t ms W)) S t j (person_of j W) h
     (λ mode seconds start p w e. told_keeps S t j i (lands j mode seconds next) W (λ q. simp q (start_off S t i P P.place refl)) (λ q. simp q) (λ q. rw (place_of j i W q ∙ p) tt) h)
 
 sets_out_keeps : (S : Setup) (t j i : ℕ) (w : Leg) (next : Act) (W : World) → Free_one j i W → InOne i W → InOne i (run S t (sets_out S j w next) W)
@@ -74,13 +74,13 @@ unfolding plan_of person_after
 leave_keeps S t j i W h =
     let P = person_of j W in
     let m = Tell (departs j (act_at S j P.element) (leg_at S j P.element)) in
-    leave_walk (λ ms. InOne i (run S t ms W)) S t j W h
+    leave_walk (λ ms. InOne i (run S t ms W)) S t j (person_of j W) h
     (λ p. sets_out_keeps S t j i (leg_at S j P.element) (act_after S j P.element) (done S t m W) (λ q. rw (person-done S t i m W h.there) (simp q tt))
     (told_keeps S t j i (departs j (act_at S j P.element) (leg_at S j P.element)) W (λ q. simp q tt) (λ q. simp q) (λ q. rw (place_of j i W q ∙ p) tt) h))
 
 -- NODES AND LINKS
 -- that a vehicle starts changes nobody
-started : (S : Setup) (t i : ℕ) (r : Row) (xs : List Said) (P : Person) → person_after_all S t i (starts r ++ xs) P ≡ person_after_all S t i xs P
+pub started : (S : Setup) (t i : ℕ) (r : Row) (xs : List Said) (P : Person) → person_after_all S t i (starts r ++ xs) P ≡ person_after_all S t i xs P
 started S t i r xs P = after-append S t i (starts r) xs P ∙ ap (person_after_all S t i xs) (starts_none S t i r P)
 
 pub told_front : (S : Setup) (t i : ℕ) (s : Bool) (r now : Row) (P : Person) → person_after_all S t i (told_put (lane_of s) r now) P ≡ person_after_all S t i (told_to now.stage r now) P
@@ -124,7 +124,7 @@ pub turn_keeps : (S : Setup) (t n i : ℕ) (p : Phase) (W : World) → InOne i W
 unfolding plan_of
 turn_keeps S t n i phase.A W h = flight_keeps S t n i W h
 turn_keeps S t n i phase.B1 W h = leave_keeps S t n i W h
-turn_keeps S t n i phase.B2 W h = departure_walk (λ ms. InOne i (run S t ms W)) S t n W h (λ e. move_keeps S t i (New (transit_vehicle n (departure S n))) W tt (Stays refl refl) h)
+turn_keeps S t n i phase.B2 W h = departure_walk (λ ms. InOne i (run S t ms W)) S t n h (λ e. move_keeps S t i (New (transit_vehicle n (departure S n))) W tt (Stays refl refl) h)
 turn_keeps S t n i phase.C W h = kept_along (InOne i) S t _ W (node_walk S t n (Keeps_one S t i) (nodes_keep S t n i) W) h
 turn_keeps S t n i phase.D W h = kept_along (InOne i) S t _ W (link_walk S t n (Keeps_one S t i) (links_keep S t n i) W) h
 turn_keeps S t n i phase.E W h = h

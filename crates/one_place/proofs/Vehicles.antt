@@ -97,8 +97,8 @@ out_few S t d b i (leg.Transit line access egress) next W few = few
 
 turn_few : (S : Setup) (t d b n : ℕ) (p : Phase) (W : World) → p ≢ phase.B2 → Few d b W → Few d b (run S t (plan_of S t p n W) W)
 unfolding plan_of
-turn_few S t d b n phase.A W ne few = flight_walk (λ ms. Few d b (run S t ms W)) S t n W few (λ mode seconds start e f g. few)
-turn_few S t d b n phase.B1 W ne few = let P = person_of n W in leave_walk (λ ms. Few d b (run S t ms W)) S t n W few (λ e. out_few S t d b n (leg_at S n P.element) (act_after S n P.element) _ few)
+turn_few S t d b n phase.A W ne few = flight_walk (λ ms. Few d b (run S t ms W)) S t n (person_of n W) few (λ mode seconds start e f g. few)
+turn_few S t d b n phase.B1 W ne few = let P = person_of n W in leave_walk (λ ms. Few d b (run S t ms W)) S t n (person_of n W) few (λ e. out_few S t d b n (leg_at S n P.element) (act_after S n P.element) _ few)
 turn_few S t d b n phase.B2 W ne few = absurd (ne refl)
 turn_few S t d b n phase.C W ne few = kept_along (Few d b) S t _ W (node_walk S t n (Keeps_few S t d b) (nodes_few S t n d b) W) few
 turn_few S t d b n phase.D W ne few = kept_along (Few d b) S t _ W (link_walk S t n (Keeps_few S t d b) (links_few S t n d b) W) few

@@ -521,7 +521,7 @@ lands_good A S t j i seconds start m next W p h f =
 pub flight_along : (A : Places) (S : Setup) (t j i : ℕ) (W : World) → IsPlan A S i → InOne i W → Along (Good A S t i) S t (flight_plan S t j W) W
 flight_along A S t j i W p h =
     let next = act_after S j (person_of j W).element in
-    flight_walk (λ ms. Along (Good A S t i) S t ms W) S t j W tt
+    flight_walk (λ ms. Along (Good A S t i) S t ms W) S t j (person_of j W) tt
     (λ m seconds start e w g. (
       lands_good A S t j i seconds start m next W p h (λ q. (place_of j i W q ∙ e, ap mode_of_leg (sym w) ∙ ap (λ (k : ℕ). mode_of_leg (leg_at S k (person_of k W).element)) (eqb-true j i q), next_act S i j W (eqb-true j i q))),
       tt,
@@ -587,12 +587,12 @@ leaves_along A S t j i here w next W p h f =
 pub leave_along : (A : Places) (S : Setup) (t j i : ℕ) (W : World) → IsPlan A S i → InOne i W → Along (Good A S t i) S t (leave_plan S t j W) W
 leave_along A S t j i W p h =
     let P = person_of j W in
-    leave_walk (λ ms. Along (Good A S t i) S t ms W) S t j W tt
+    leave_walk (λ ms. Along (Good A S t i) S t ms W) S t j (person_of j W) tt
     (λ a. leaves_along A S t j i (act_at S j P.element) (leg_at S j P.element) (act_after S j P.element) W p h
     (λ q. let e = eqb-true j i q in
     (place_of j i W q ∙ a, ap (λ (k : ℕ). act_at S k (person_of k W).element) e, ap (λ (k : ℕ). mode_of_leg (leg_at S k (person_of k W).element)) e, next_kind S i j W e)))
 
 pub departure_along : (A : Places) (S : Setup) (t d i : ℕ) (W : World) → i < length W.persons → Along (Good A S t i) S t (departure_plan S t d W) W
 departure_along A S t d i W lt =
-    departure_walk (λ ms. Along (Good A S t i) S t ms W) S t d W tt
+    departure_walk (λ ms. Along (Good A S t i) S t ms W) S t d tt
     (λ e. (quiet_good A S t i W (New (transit_vehicle d (departure S d))) tt lt refl (omega arith) (omega arith) (omega arith) (λ k. omega arith) ((λ q. cc), tt), tt))

@@ -8,6 +8,10 @@ use Rattle.traffic.specs.Lists.{without, without_at, with_first, numbers}
 use Rattle.traffic.specs.Vehicles.{VehicleState}
 use Rattle.traffic.specs.Stops.{may_board, comes_first, among, in_turn, boarding, left_behind}
 
+pub each_all : {X : Type 0} (P : X → Type 0) → ((x : X) → P x) → (xs : List X) → Each P xs
+each_all P f [] = tt
+each_all P f (x ∷ xs) = (f x, each_all P f xs)
+
 pub each_append : {X : Type 0} (P : X → Type 0) (xs ys : List X) → Each P xs → Each P ys → Each P (xs ++ ys)
 each_append P [] ys h g = g
 each_append P (x ∷ xs) ys h g = (h.0, each_append P xs ys h.1 g)
@@ -37,6 +41,13 @@ each_map P Q f g (x ∷ xs) h = (g x h.0, each_map P Q f g xs h.1)
 pub each_flat : {X Y : Type 0} (P : X → Type 0) (Q : Y → Type 0) (f : X → List Y) → ((x : X) → P x → Each Q (f x)) → (xs : List X) → Each P xs → Each Q (flat_map f xs)
 each_flat P Q f g [] h = tt
 each_flat P Q f g (x ∷ xs) h = each_append Q (f x) (flat_map f xs) (g x h.0) (each_flat P Q f g xs h.1)
+
+-- of many lists, or of those that pass
+pub each_flat_where : {X Y : Type 0} (Q : Y → Type 0) (f : X → List Y) (p : X → Bool) → ((x : X) → p x ≡ true → Each Q (f x)) → (xs : List X) → Each Q (flat_map f (filter p xs))
+each_flat_where Q f p h xs = each_flat (λ x. p x ≡ true) Q f h (filter p xs) (each_filter (λ x. Unit {0}) (λ x. p x ≡ true) p (λ x e u. e) xs (each_all (λ x. Unit {0}) (λ x. tt) xs))
+
+pub each_flat_all : {X Y : Type 0} (Q : Y → Type 0) (f : X → List Y) → ((x : X) → Each Q (f x)) → (xs : List X) → Each Q (flat_map f xs)
+each_flat_all Q f h xs = each_flat (λ x. Unit {0}) Q f (λ x u. h x) xs (each_all (λ x. Unit {0}) (λ x. tt) xs)
 
 pub each_take : {X : Type 0} (P : X → Type 0) (k : ℕ) (xs : List X) → Each P xs → Each P (take k xs)
 each_take P zero xs h = tt

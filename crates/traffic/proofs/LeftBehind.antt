@@ -7,8 +7,6 @@ use Rattle.std.proofs.lemmas.List.Elements.{filter-append}
 use Rattle.events.specs.declared.event.VehicleId.{VehicleId}
 use Rattle.events.specs.declared.event.Word.TheVariants as word
 use Rattle.events.specs.declared.event.More.TheVariants as more
-use Rattle.traffic.specs.declared.stage.Stage.{Stage}
-use Rattle.traffic.specs.declared.stage.Stage.TheVariants.{Queue, Wait}
 use Rattle.traffic.specs.Rows.{Row, World, Place, Waiting, Riding, Person, person_of}
 use Rattle.rows.specs.declared.plan.Act.{Act}
 use Rattle.rows.specs.declared.plan.Leg.{Leg}
@@ -21,8 +19,9 @@ use Rattle.traffic.specs.Telling.{Said, of_vehicle, leaves, enters, starts}
 use Rattle.traffic.specs.Moves.{Move, Put, told, done, person_after, told_of, person_after_all}
 use Rattle.traffic.specs.Persons.{waits, waits_on, waiter, waiters}
 use Rattle.traffic.proofs.Each.{each_if}
+pub use Rattle.traffic.proofs.LinkEach.{lane_of}
 use Rattle.traffic.proofs.Sublists.{person-done}
-use Rattle.traffic.proofs.Waiting.{AreSuch, Calm, Calm-append, all_kept, boarded-are, calm_serves, calm_starts, run-length, waiters-kept}
+use Rattle.traffic.proofs.Waiting.{Calm, all_kept, boarded-are, serve_calm, run-length, waiters-kept}
 
 -- what is told, one list after the other
 pub after-append : (S : Setup) (t i : ℕ) (xs ys : List Said) (P : Person) → person_after_all S t i (xs ++ ys) P ≡ person_after_all S t i ys (person_after_all S t i xs P)
@@ -75,12 +74,7 @@ each_line f g p m k zero le h = refl
 each_line f g p m k (suc n) le h =
     let e = h k (omega arith) in let y = each_line f g p m (k + 1) n (omega arith) h in let q = filter-append p (g k) (flat_map g (numbers (k + 1) n)) in cc
 
--- the queue of a link, or its wait list
-abbrev pub lane_of : Bool → Stage
-lane_of true = Wait
-lane_of false = Queue
-
--- the front of one of these is served at a stop
+-- the front of the queue or of the wait list is served at a stop
 abbrev pub serving : Bool → Dwelling → ℕ → ℕ → List Waiter → Row → Move
 serving s D t l ws r = Put l (lane_of s) 0 r (served_row D t l ws r.vehicle)
 
@@ -94,10 +88,6 @@ told_is : (s : Bool) (D : Dwelling) (t l : ℕ) (ws : List Waiter) (r : Row) →
 unfolding served_vehicle
 told_is true D t l ws r = rw (boarded-are r.vehicle ws) (sym (append_assoc (starts r) _ _))
 told_is false D t l ws r = rw (boarded-are r.vehicle ws) refl
-
-calm_serving : (Q : ℕ → Type 0) (s : Bool) (D : Dwelling) (t l : ℕ) (ws : List Waiter) (r : Row) → AreSuch Q (boarding r.vehicle ws) → Calm Q (told (serving s D t l ws r))
-calm_serving Q true D t l ws r h = Calm-append Q (starts r) _ (calm_starts Q r) (calm_serves Q D t l ws r h)
-calm_serving Q false D t l ws r h = calm_serves Q D t l ws r h
 
 -- a person's row of those who wait, after the service
 person_line : (S : Setup) (t l i : ℕ) (s : Bool) (D : Dwelling) (ws : List Waiter) (r : Row) (W : World) → i < length W.persons →
@@ -115,7 +105,7 @@ person_line S t l i s D ws r W lt =
           ap (λ (es : List Said). (person_after_all S t i es P).place) (told_is s D t l ws r) ∙ ap (λ (x : Person). x.place) (after-append S t i (first_told s (next_call v).stop r) _ P)
           ∙ boards S t i v.id (boarding v ws) (person_after_all S t i (first_told s (next_call v).stop r) P) e in
           ap (waits_on S l i (leg_at S i N.element) (act_after S i N.element)) place ∙ sym (keeps_none p i (waiter S l i P) own (ap not e))
-      | inr e ↦ all_kept S t l i (λ (j : ℕ). j ≢ i) (told m) P (λ q. absurd (q refl)) (calm_serving _ s D t l ws r (not_among i (boarding v ws) e)) ∙ sym (keeps_all p i (waiter S l i P) own (ap not e))
+      | inr e ↦ all_kept S t l i (λ (j : ℕ). j ≢ i) (told m) P (λ q. absurd (q refl)) (serve_calm _ D t l s ws r (not_among i (boarding v ws) e)) ∙ sym (keeps_all p i (waiter S l i P) own (ap not e))
     ])
 
 pub served_line : (S : Setup) (t l : ℕ) (s : Bool) (D : Dwelling) (r : Row) (ws : List Waiter) (W : World) → ws ≡ waiters S l W → left_behind r.vehicle ws ≡ waiters S l (done S t (serving s D t l ws r) W)

@@ -9,13 +9,12 @@ use Rattle.traffic.specs.Lists.{without_at}
 use Rattle.traffic.specs.Rows.{Row, World, on, at}
 use Rattle.traffic.specs.Setup.{Setup}
 use Rattle.traffic.specs.Stops.{Waiter, calls_on, left_behind, served_vehicle, served_row}
-use Rattle.traffic.specs.Telling.{starts, arrives}
-use Rattle.traffic.specs.Moves.{Move, Put, Gone, Credit, Free, told, run, done, at_after}
+use Rattle.traffic.specs.Moves.{Move, Put, Gone, Credit, Free, run, done, at_after}
 use Rattle.traffic.specs.Links.{lane, rules, waiting, leave_bay, is_last, buffered, may_pass, from_wait, from_queue, wait_after, link_moves}
 use Rattle.traffic.specs.Persons.{waiters}
 use Rattle.traffic.specs.Day.{link_plan}
 use Rattle.traffic.proofs.Sublists.{at-done}
-use Rattle.traffic.proofs.Waiting.{Calm, Calm-append, calm_starts, calm_arrives}
+use Rattle.traffic.proofs.Waiting.{gone_calm, pass_calm}
 use Rattle.traffic.proofs.LeftBehind.{lane_of, serving, served_line, calm_line}
 use Rattle.traffic.proofs.Moments.{Along, along_append, along_if}
 
@@ -41,14 +40,6 @@ front_put l true r now xs ys f g = let q = eq-eqb l l refl in (simp (q, g) (appe
 front_gone : (l : ℕ) (s : Bool) (r : Row) (xs ys : List Row) → (at_after l (lane_of s) (Gone l (lane_of s) 0 r) (r ∷ xs) ≡ xs) × (at_after l (lane_of (not s)) (Gone l (lane_of s) 0 r) ys ≡ ys)
 front_gone l false r xs ys = let q = eq-eqb l l refl in (simp q, refl)
 front_gone l true r xs ys = let q = eq-eqb l l refl in (simp q, refl)
-
-gone_calm : (l : ℕ) (s : Bool) (r : Row) (Q : ℕ → Type 0) → Calm Q (told (Gone l (lane_of s) 0 r))
-gone_calm l true r Q = Calm-append Q (starts r) (arrives r) (calm_starts Q r) (calm_arrives Q r)
-gone_calm l false r Q = calm_arrives Q r
-
-pass_calm : (t l b : ℕ) (s : Bool) (r : Row) (Q : ℕ → Type 0) → Calm Q (told (Put l (lane_of s) 0 r (buffered t l b r)))
-pass_calm t l b true r Q = Calm-append Q (starts r) [] (calm_starts Q r) tt
-pass_calm t l b false r Q = tt
 
 -- a row of the bay
 row_after : (xs ys : List Row) (r : Row) → slice_get (xs ++ r ∷ ys) (length xs) ≡ Some r
@@ -79,12 +70,12 @@ module _ (S : Setup) (t l : ℕ) (F : World → Move → Type 0) (cases : LinkCa
   served s ws r xs ys W h = moved s ws _ (serving s S.settings.dwell t l ws r) (r ∷ xs) ys xs W (front_put l s r (served_row S.settings.dwell t l ws r.vehicle) xs ys refl refl) (served_line S t l s S.settings.dwell r ws W h.line) h
 
   arrived : (s : Bool) (ws : List Waiter) (r : Row) (xs ys : List Row) (W : World) → IsMidst S l s ws (r ∷ xs) ys W → IsMidst S l s ws xs ys (done S t (Gone l (lane_of s) 0 r) W)
-  arrived s ws r xs ys W h = let m = Gone l (lane_of s) 0 r in moved s ws ws m (r ∷ xs) ys xs W (front_gone l s r xs ys) (calm_line S t l m ws W (gone_calm l s r) h.line) h
+  arrived s ws r xs ys W h = let m = Gone l (lane_of s) 0 r in moved s ws ws m (r ∷ xs) ys xs W (front_gone l s r xs ys) (calm_line S t l m ws W (λ Q. gone_calm Q l s r) h.line) h
 
   passed : (s : Bool) (ws : List Waiter) (b : ℕ) (r : Row) (xs ys : List Row) (W : World) → IsMidst S l s ws (r ∷ xs) ys W → IsMidst S l s ws xs ys (done S t (Put l (lane_of s) 0 r (buffered t l b r)) W)
   passed s ws b r xs ys W h =
       let now = buffered t l b r in
-      let m = Put l (lane_of s) 0 r now in moved s ws ws m (r ∷ xs) ys xs W (front_put l s r now xs ys refl refl) (calm_line S t l m ws W (pass_calm t l b s r) h.line) h
+      let m = Put l (lane_of s) 0 r now in moved s ws ws m (r ∷ xs) ys xs W (front_put l s r now xs ys refl refl) (calm_line S t l m ws W (λ Q. pass_calm Q t l b s r) h.line) h
 
   paid : (s : Bool) (ws : List Waiter) (c : ℕ) (xs ys : List Row) (W : World) → IsMidst S l s ws xs ys W → IsMidst S l s ws xs ys (done S t (Credit l c) W)
   paid s ws c xs ys W h = record { front = h.front; behind = h.behind; line = calm_line S t l (Credit l c) ws W (λ Q. tt) h.line }

@@ -1,25 +1,23 @@
 -- The turn of a person changes his own row alone.
-use Rattle.std.proofs.Common.{◌≡◌, ℕ, ◌+◌, ◌≢◌, Bool, true, false, List, [], ◌∷◌, refl, ap, ◌∙◌, eqb, arith, get_or}
-use Rattle.std.specs.Prelude.{if◌then◌else◌, Option, None, Some}
+use Rattle.std.proofs.Common.{◌≡◌, ℕ, ◌+◌, ◌≢◌, List, [], ◌∷◌, refl, ap, ◌∙◌, arith, get_or}
+use Rattle.std.specs.Prelude.{Option, None, Some}
 use Rattle.std.proofs.lemmas.List.{get_or-set_other}
-use Rattle.traffic.specs.Rows.{World, Place, At, Flying, Person, person_of, nobody}
+use Rattle.traffic.specs.Rows.{World, Person, person_of, nobody}
 use Rattle.rows.specs.declared.plan.Act.{Act}
 use Rattle.rows.specs.declared.plan.Leg.{Leg}
 use Rattle.rows.specs.declared.plan.Leg.TheVariants as leg
-use Rattle.traffic.specs.Setup.{Setup, act_at, leg_at, act_after, departure}
+use Rattle.traffic.specs.Setup.{Setup, leg_at, act_after}
 use Rattle.traffic.specs.Telling.{Said}
-use Rattle.traffic.specs.Moves.{Move, New, told, done, run, persons_by, persons_after}
-use Rattle.traffic.specs.Persons.{landing, landing_moves, sets_out, leaving, leaving_moves, transit_vehicle, departure_moves}
+use Rattle.traffic.specs.Moves.{Move, told, done, run, persons_by, persons_after}
+use Rattle.traffic.specs.Persons.{landing_moves, sets_out, leaving_moves, departure_moves}
 use Rattle.traffic.specs.Day.{flight_plan, leave_plan, departure_plan}
 use Rattle.traffic.specs.Frames.{IsOf, AreOf, Apart}
+use Rattle.traffic.proofs.Walks.{flight_walk, leave_walk, departure_walk}
 
 -- all that these moves tell is of person i
 abbrev pub TellOf : ℕ → List Move → Type 0
 TellOf i [] = Unit {0}
 TellOf i (m ∷ ms) = AreOf i (told m) × TellOf i ms
-
-TellOf-if : (i : ℕ) (b : Bool) (xs ys : List Move) → TellOf i xs → TellOf i ys → TellOf i (if b then xs else ys)
-TellOf-if i b xs ys h g = elim b as (λ c. TellOf i (if c then xs else ys)) [ true ↦ h | false ↦ g ]
 
 other_by : (S : Setup) (t i j : ℕ) (e : Said) (o : Option ℕ) (ps : List Person) → j ≢ i → IsOf i o → get_or (persons_by S t e o ps) j nobody ≡ get_or ps j nobody
 other_by S t i j e None ps ne h = refl
@@ -34,26 +32,16 @@ pub other_person : (S : Setup) (t i j : ℕ) (ms : List Move) (W : World) → j 
 other_person S t i j [] W ne h = refl
 other_person S t i j (m ∷ ms) W ne h = other_person S t i j ms (done S t m W) ne h.1 ∙ other_after S t i j (told m) W.persons ne h.0
 
-landing-of : (t i : ℕ) (w : Leg) (next : Act) (pl : Place) → TellOf i (landing t i w next pl)
-landing-of t i (leg.Teleport mode seconds) next (Flying start) = TellOf-if i (eqb (start + seconds) t) _ _ ((refl, (refl, (refl, tt))), tt) tt
-landing-of t i _ next _ = tt
-
 pub landing_moves-of : (S : Setup) (t i : ℕ) (P : Person) → TellOf i (landing_moves S t i P)
-unfolding landing_moves
-landing_moves-of S t i P = landing-of t i (leg_at S i P.element) (act_after S i P.element) P.place
+landing_moves-of S t i P = flight_walk (TellOf i) S t i P tt (λ mode seconds start p w e. ((refl, (refl, (refl, tt))), tt))
 
 sets_out-of : (S : Setup) (i : ℕ) (w : Leg) (next : Act) → TellOf i (sets_out S i w next)
 sets_out-of S i (leg.Car route) next = ((refl, tt), tt)
 sets_out-of S i (leg.Teleport mode seconds) next = tt
 sets_out-of S i (leg.Transit line access egress) next = ((refl, tt), tt)
 
-leaving-of : (S : Setup) (t i : ℕ) (here : Act) (w : Leg) (next : Act) (pl : Place) → TellOf i (leaving S t i here w next pl)
-leaving-of S t i here w next (At (Some end)) = TellOf-if i (eqb end t) _ _ ((refl, (refl, tt)), sets_out-of S i w next) tt
-leaving-of S t i here w next _ = tt
-
 pub leaving_moves-of : (S : Setup) (t i : ℕ) (P : Person) → TellOf i (leaving_moves S t i P)
-unfolding leaving_moves
-leaving_moves-of S t i P = leaving-of S t i (act_at S i P.element) (leg_at S i P.element) (act_after S i P.element) P.place
+leaving_moves-of S t i P = leave_walk (TellOf i) S t i P tt (λ e. ((refl, (refl, tt)), sets_out-of S i (leg_at S i P.element) (act_after S i P.element)))
 
 pub flights_apart : (S : Setup) (t : ℕ) → Apart S t (flight_plan S t)
 flights_apart S t n m W ne = ap (landing_moves S t n) (other_person S t m n (flight_plan S t m W) W ne (landing_moves-of S t m (person_of m W)))
@@ -64,10 +52,6 @@ leaves_apart S t n m W ne = ap (leaving_moves S t n) (other_person S t m n (leav
 pub departures_apart : (S : Setup) (t : ℕ) → Apart S t (departure_plan S t)
 departures_apart S t n m W ne = refl
 
-departure-of : (S : Setup) (t d i : ℕ) → TellOf i (departure_moves S t d)
-unfolding departure_moves
-departure-of S t d i = TellOf-if i (eqb (departure S d).second t) (New (transit_vehicle d (departure S d)) ∷ []) [] ((tt, tt), tt) tt
-
 -- the turn of a departure changes nobody's row
 pub departure_keeps : (S : Setup) (t d j : ℕ) (W : World) → person_of j (run S t (departure_plan S t d W) W) ≡ person_of j W
-departure_keeps S t d j W = other_person S t (j + 1) j (departure_moves S t d) W (λ e. omega arith) (departure-of S t d (j + 1))
+departure_keeps S t d j W = other_person S t (j + 1) j (departure_moves S t d) W (λ e. omega arith) (departure_walk (TellOf (j + 1)) S t d tt (λ e. ((tt, tt), tt)))

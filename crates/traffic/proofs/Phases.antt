@@ -7,18 +7,17 @@ use Rattle.traffic.specs.Lists.{below}
 use Rattle.traffic.specs.Rows.{World}
 use Rattle.traffic.specs.Setup.{Setup}
 use Rattle.traffic.specs.Links.{lane, rules}
-use Rattle.traffic.specs.Persons.{waiters}
 use Rattle.traffic.specs.Day.{link_plan, plan_of, count_of, turns_in}
 use Rattle.traffic.specs.Frames.{Apart, turn_of}
 use Rattle.traffic.proofs.Turns.{Distinct-numbers, turns_at_once}
 use Rattle.traffic.proofs.Nodes.{nodes_apart}
-use Rattle.traffic.proofs.Links.{link_moves-at, lane-other}
+use Rattle.traffic.proofs.Links.{link-at, lane-other}
 use Rattle.traffic.proofs.Waiting.{waiters-other}
 use Rattle.traffic.proofs.Persons.{flights_apart, leaves_apart, departures_apart}
 
 pub links_apart : (S : Setup) (t : ℕ) → Apart S t (link_plan S t)
 links_apart S t n m W ne =
-    let e = lane-other S t m n (link_plan S t m W) W ne (link_moves-at (rules S m) t m (waiters S m W) (lane m W)) in
+    let e = lane-other S t m n (link_plan S t m W) W ne (link-at S t m W) in
     let f = waiters-other S t m n (rules S m) (lane m W) W ne in cc
 
 pub plans_apart : (S : Setup) (t : ℕ) (p : Phase) → Apart S t (plan_of S t p)

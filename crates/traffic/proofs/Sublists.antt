@@ -12,7 +12,7 @@ use Rattle.traffic.specs.Lists.{without, without_at, with_first, on_front}
 use Rattle.traffic.specs.Rows.{rank, Row, Hole, Person, World, on, at, holes_at, credit_of, person_of, nobody}
 use Rattle.traffic.specs.Setup.{Setup}
 use Rattle.traffic.specs.Telling.{Said}
-use Rattle.traffic.specs.Moves.{Move, Put, Gone, New, Mark, Credit, Free, at_second, told, done, run, same, at_after, at_after_all, touches, hole_after, hole_after_all, credit_after, persons_by, persons_after, told_of, person_after_all}
+use Rattle.traffic.specs.Moves.{Move, Put, Gone, New, Mark, Credit, Free, at_second, told, done, run, same, at_after, at_after_all, touches, hole_after, hole_after_all, credit_after, credit_after_all, persons_by, persons_after, told_of, person_after_all}
 use Rattle.traffic.specs.Frames.{Untouched}
 
 pub filter-without_same : {X : Type 0} (p : X → Bool) (k : ℕ) (xs : List X) → filter p (without p k xs) ≡ without_at k (filter p xs)
@@ -151,6 +151,18 @@ credit-done S t l (Credit a c) W h =
       | inr e ↦ rw e (get_or-set_other W.credits a l c 0 (λ q. eqb-false a l e (sym q)))
     ]
 credit-done S t l _ W h = refl
+
+credits-done : (S : Setup) (t : ℕ) (m : Move) (W : World) → length (done S t m W).credits ≡ length W.credits
+credits-done S t (Credit a c) W = length-set W.credits a c
+credits-done S t _ W = refl
+
+pub credits-run : (S : Setup) (t : ℕ) (ms : List Move) (W : World) → length (run S t ms W).credits ≡ length W.credits
+credits-run S t [] W = refl
+credits-run S t (m ∷ ms) W = credits-run S t ms (done S t m W) ∙ credits-done S t m W
+
+pub credit-run : (S : Setup) (t l : ℕ) (ms : List Move) (W : World) → l < length W.credits → credit_of l (run S t ms W) ≡ credit_after_all l ms (credit_of l W)
+credit-run S t l [] W h = refl
+credit-run S t l (m ∷ ms) W h = let e = credits-done S t m W in credit-run S t l ms (done S t m W) (omega arith) ∙ ap (credit_after_all l ms) (credit-done S t l m W h)
 
 -- What an event does to the row of a person depends on that alone.
 persons-length_by : (S : Setup) (t : ℕ) (e : Said) (o : Option ℕ) (ps : List Person) → length (persons_by S t e o ps) ≡ length ps

@@ -1,13 +1,12 @@
 -- A link's turn changes nobody who waits at a stop of another link.
-use Rattle.std.proofs.Common.{◌≡◌, ℕ, zero, suc, ◌+◌, ◌-◌, ◌<◌, ◌≤◌, ◌≢◌, Bool, List, [], ◌∷◌, ◌++◌, length, refl, ap, sym, ◌∙◌, eqb, arith, inl, inr}
-use Rattle.std.specs.Prelude.{map, if◌then◌else◌, nat_le, nat_lt, Option, None, Some}
+use Rattle.std.proofs.Common.{◌≡◌, ℕ, zero, suc, ◌+◌, ◌<◌, ◌≤◌, ◌≢◌, Bool, true, false, List, [], ◌∷◌, ◌++◌, length, refl, ap, sym, ◌∙◌, eqb, arith, inl, inr}
+use Rattle.std.specs.Prelude.{map, Option, None, Some}
 use Rattle.std.specs.List.{AllByRecursion as Each, flat_map}
 use Rattle.std.proofs.Math.Seq.{drop-append_seam}
 use Rattle.std.proofs.lemmas.Bool.{cases_Bool, eqb-true, ne_eqb}
 use Rattle.events.specs.declared.event.VehicleId.{VehicleId}
 use Rattle.events.specs.declared.event.Word.{Word}
 use Rattle.events.specs.declared.event.Word.TheVariants as word
-use Rattle.fixed_flow.specs.declared.TheConstants.{VEHICLE_COST}
 use Rattle.traffic.specs.declared.riders.Rider.{Rider}
 use Rattle.traffic.specs.Rows.{Row, World, VehicleState, Place, At, Flying, Waiting, Riding, Gone as Removed, Person, person_of}
 use Rattle.rows.specs.declared.plan.Act.{Act}
@@ -16,12 +15,13 @@ use Rattle.rows.specs.declared.settings.Dwelling.{Dwelling}
 use Rattle.rows.specs.declared.plan.Leg.TheVariants as leg
 use Rattle.traffic.specs.Setup.{Setup, leg_at, act_after, link_of_stop}
 use Rattle.traffic.specs.Lists.{numbers, below}
-use Rattle.traffic.specs.Stops.{Waiter, next_call, alighting, staying, boarding, left_behind, rider, riders_after, served_vehicle, served_row, calls_on}
+use Rattle.traffic.specs.Stops.{Waiter, next_call, alighting, staying, boarding, rider, riders_after, served_vehicle, served_row}
 use Rattle.traffic.specs.Telling.{Said, leaves, enters, starts, arrives, boarded, serves}
-use Rattle.traffic.specs.Moves.{Move, told, run, done, start_act, ride, person_by, person_after, told_of, person_after_all}
-use Rattle.traffic.specs.Links.{Lane, Rules, leave_bay, is_last, may_pass, from_wait, from_queue, wait_after, link_moves}
+use Rattle.traffic.specs.Moves.{Move, Put, Gone as Quit, told, run, done, start_act, ride, person_by, person_after, told_of, person_after_all}
+use Rattle.traffic.specs.Links.{Lane, Rules, buffered, link_moves}
 use Rattle.traffic.specs.Persons.{waits_on, waiter, waiters}
-use Rattle.traffic.proofs.Each.{each_append, each_if, each_boarding, each_left}
+use Rattle.traffic.proofs.Each.{each_all, each_append, each_if, each_boarding, each_left}
+use Rattle.traffic.proofs.LinkEach.{lane_of, FrontMoves, Have, link_each}
 use Rattle.traffic.proofs.Sublists.{persons-length, person_after_all-is}
 
 -- all of these persons are such
@@ -46,11 +46,8 @@ Calm Q es = Each (λ (e : Said). Calm_word Q e.word e.person) es
 abbrev pub Calm_moves : (ℕ → Type 0) → List Move → Type 0
 Calm_moves Q ms = Each (λ (m : Move). Calm Q (told m)) ms
 
-pub Calm-append : (Q : ℕ → Type 0) (xs ys : List Said) → Calm Q xs → Calm Q ys → Calm Q (xs ++ ys)
+Calm-append : (Q : ℕ → Type 0) (xs ys : List Said) → Calm Q xs → Calm Q ys → Calm Q (xs ++ ys)
 Calm-append Q xs ys h g = each_append (λ (e : Said). Calm_word Q e.word e.person) xs ys h g
-
-Calm_moves-if : (Q : ℕ → Type 0) (b : Bool) (xs ys : List Move) → Calm_moves Q xs → Calm_moves Q ys → Calm_moves Q (if b then xs else ys)
-Calm_moves-if Q b xs ys h g = each_if (λ (m : Move). Calm Q (told m)) b xs ys h g
 
 -- WHAT A LINK'S TURN TELLS IS CALM
 calm_leaves : (Q : ℕ → Type 0) (v : VehicleId) (l : ℕ) (rs : List Rider) → Calm Q (flat_map (leaves v l) rs)
@@ -65,47 +62,48 @@ pub boarded-are : (v : VehicleState) (ws : List Waiter) → boarded (next_call v
 unfolding riders_after
 boarded-are v ws = drop-append_seam (staying (next_call v).stop v.riders) (map rider (boarding v ws))
 
-pub calm_serves : (Q : ℕ → Type 0) (D : Dwelling) (t l : ℕ) (ws : List Waiter) (r : Row) → AreSuch Q (boarding r.vehicle ws) → Calm Q (serves r (served_row D t l ws r.vehicle))
+calm_serves : (Q : ℕ → Type 0) (D : Dwelling) (t l : ℕ) (ws : List Waiter) (r : Row) → AreSuch Q (boarding r.vehicle ws) → Calm Q (serves r (served_row D t l ws r.vehicle))
 unfolding served_vehicle
 calm_serves Q D t l ws r h =
     let e = boarded-are r.vehicle ws in
     (tt, Calm-append Q _ _ (calm_leaves Q r.vehicle.id r.link (alighting (next_call r.vehicle).stop r.vehicle.riders)) (rw e (calm_enters Q r.vehicle.id (boarding r.vehicle ws) h)))
 
-pub calm_starts : (Q : ℕ → Type 0) (r : Row) → Calm Q (starts r)
+calm_starts : (Q : ℕ → Type 0) (r : Row) → Calm Q (starts r)
 calm_starts Q r = each_if (λ (e : Said). Calm_word Q e.word e.person) r.vehicle.started [] _ tt (tt, tt)
 
-pub calm_arrives : (Q : ℕ → Type 0) (r : Row) → Calm Q (arrives r)
+calm_arrives : (Q : ℕ → Type 0) (r : Row) → Calm Q (arrives r)
 calm_arrives Q r = (tt, calm_leaves Q r.vehicle.id r.link r.vehicle.riders)
 
 such_boarding : (Q : ℕ → Type 0) (v : VehicleState) (ws : List Waiter) → AreSuch Q ws → AreSuch Q (boarding v ws)
 such_boarding Q v ws h = each_boarding (λ (w : Waiter). Q w.person) _ v (λ w e g. g) ws h
 
-leave_bay-calm : (Q : ℕ → Type 0) (t l k : ℕ) (xs : List Row) → Calm_moves Q (leave_bay t l k xs)
-unfolding leave_bay
-leave_bay-calm Q t l k [] = tt
-leave_bay-calm Q t l k (r ∷ rs) = Calm_moves-if Q (nat_le r.second t) _ _ ((tt, tt), leave_bay-calm Q t l k rs) (leave_bay-calm Q t l (k + 1) rs)
+pub gone_calm : (Q : ℕ → Type 0) (l : ℕ) (s : Bool) (r : Row) → Calm Q (told (Quit l (lane_of s) 0 r))
+gone_calm Q l true r = Calm-append Q (starts r) (arrives r) (calm_starts Q r) (calm_arrives Q r)
+gone_calm Q l false r = calm_arrives Q r
 
-from_wait-calm : (Q : ℕ → Type 0) (K : Rules) (t l : ℕ) (ws : List Waiter) → AreSuch Q ws → (b c : ℕ) (xs : List Row) → Calm_moves Q (from_wait K t l ws b c xs)
-unfolding from_wait
-from_wait-calm Q K t l ws h b c [] = tt
-from_wait-calm Q K t l ws h b c (r ∷ rs) =
-    Calm_moves-if Q (calls_on l r.vehicle) _ _ (Calm-append Q _ _ (calm_starts Q r) (calm_serves Q K.dwell t l ws r (such_boarding Q r.vehicle ws h)), from_wait-calm Q K t l (left_behind r.vehicle ws) (each_left (λ (w : Waiter). Q w.person) r.vehicle ws h) b c rs)
-    (Calm_moves-if Q (is_last r.vehicle) _ _ (Calm-append Q _ _ (calm_starts Q r) (calm_arrives Q r), from_wait-calm Q K t l ws h b c rs)
-    (Calm_moves-if Q (may_pass K b c) _ _ (Calm-append Q _ _ (calm_starts Q r) tt, (tt, from_wait-calm Q K t l ws h (b + 1) (c - VEHICLE_COST) rs)) tt))
+pub pass_calm : (Q : ℕ → Type 0) (t l b : ℕ) (s : Bool) (r : Row) → Calm Q (told (Put l (lane_of s) 0 r (buffered t l b r)))
+pass_calm Q t l b true r = Calm-append Q (starts r) [] (calm_starts Q r) tt
+pass_calm Q t l b false r = tt
 
-from_queue-calm : (Q : ℕ → Type 0) (K : Rules) (t l : ℕ) (ws : List Waiter) → AreSuch Q ws → (b c : ℕ) (xs ys : List Row) → Calm_moves Q (from_queue K t l ws b c xs ys)
-unfolding from_queue
-from_queue-calm Q K t l ws h b c [] ys = from_wait-calm Q K t l ws h b c ys
-from_queue-calm Q K t l ws h b c (r ∷ rs) ys =
-    Calm_moves-if Q (nat_lt t r.second) _ _ (from_wait-calm Q K t l ws h b c ys)
-    (Calm_moves-if Q (calls_on l r.vehicle) _ _ (calm_serves Q K.dwell t l ws r (such_boarding Q r.vehicle ws h), (tt, from_queue-calm Q K t l (left_behind r.vehicle ws) (each_left (λ (w : Waiter). Q w.person) r.vehicle ws h) b c rs ys))
-    (Calm_moves-if Q (is_last r.vehicle) _ _ (calm_arrives Q r, (tt, from_queue-calm Q K t l ws h b c rs ys))
-    (Calm_moves-if Q (may_pass K b c) _ _ (tt, (tt, (tt, from_queue-calm Q K t l ws h (b + 1) (c - VEHICLE_COST) rs ys)))
-    (from_wait-calm Q K t l ws h b c ys))))
+pub serve_calm : (Q : ℕ → Type 0) (D : Dwelling) (t l : ℕ) (s : Bool) (ws : List Waiter) (r : Row) → AreSuch Q (boarding r.vehicle ws) → Calm Q (told (Put l (lane_of s) 0 r (served_row D t l ws r.vehicle)))
+unfolding served_vehicle
+serve_calm Q D t l true ws r h = Calm-append Q (starts r) _ (calm_starts Q r) (calm_serves Q D t l ws r h)
+serve_calm Q D t l false ws r h = calm_serves Q D t l ws r h
+
+front-calm : (Q : ℕ → Type 0) (K : Rules) (t l : ℕ) (s : Bool) → FrontMoves K t l (λ v. Unit {0}) (AreSuch Q) (λ m. Calm Q (told m)) s
+front-calm Q K t l s =
+    record {
+      serve = λ ws r h w. serve_calm Q K.dwell t l s ws r (such_boarding Q r.vehicle ws w);
+      left = λ v ws w. each_left (λ (x : Waiter). Q x.person) v ws w;
+      arrive = λ r h. gone_calm Q l s r;
+      pass = λ b r h. pass_calm Q t l b s r;
+      pay = λ c. tt;
+    }
 
 pub link_moves-calm : (Q : ℕ → Type 0) (K : Rules) (t l : ℕ) (ws : List Waiter) (L : Lane) → AreSuch Q ws → Calm_moves Q (link_moves K t l ws L)
-unfolding link_moves
-link_moves-calm Q K t l ws L h = each_append (λ (m : Move). Calm Q (told m)) (leave_bay t l 0 L.bay) _ (leave_bay-calm Q t l 0 L.bay) (tt, from_queue-calm Q K t l ws h (length L.buffer) _ L.queue (wait_after t l L))
+link_moves-calm Q K t l ws L h =
+    let all : (xs : List Row) → Have (λ v. Unit {0}) xs = λ xs. each_all _ (λ r. tt) xs in
+    link_each K t l (λ v. Unit {0}) (AreSuch Q) (λ m. Calm Q (told m)) (front-calm Q K t l) (λ k r g. (tt, tt)) tt ws L h (all L.queue) (all L.wait) (all L.bay)
 
 -- CALM EVENTS LEAVE THOSE WHO WAIT ELSEWHERE
 start_kept : (S : Setup) (t a i : ℕ) (P : Person) (pl : Place) → P.place ≡ pl → waiter S a i (start_act S t i P pl) ≡ waiter S a i P

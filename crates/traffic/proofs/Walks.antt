@@ -1,21 +1,23 @@
 -- The walk over a second: the turns of persons and departures, and turns, phases, seconds and days one after the other.
-use Rattle.std.proofs.Common.{◌≡◌, ℕ, zero, suc, ◌+◌, ◌<◌, List, [], ◌∷◌, ◌++◌, refl, ap, subst, eqb, arith, inl, inr}
+use Rattle.std.proofs.Common.{◌≡◌, ℕ, zero, suc, ◌+◌, ◌<◌, List, [], ◌∷◌, ◌++◌, length, ◌∙◌, refl, ap, subst, eqb, arith, inl, inr}
 use Rattle.std.specs.Prelude.{Some}
 use Rattle.std.specs.List.{AllByRecursion as Each}
 use Rattle.std.proofs.lemmas.Bool.{cases_Bool, eqb-true}
+use Rattle.std.proofs.lemmas.List.{length-replicate}
+use Rattle.fixed_flow.specs.declared.TheConstants.{VEHICLE_COST}
 use Rattle.events.specs.declared.event.Mode.{Mode}
 use Rattle.events.specs.declared.event.Phase.{Phase}
 use Rattle.traffic.specs.Lists.{numbers, below}
-use Rattle.traffic.specs.Rows.{World, Place, At, Flying, person_of}
+use Rattle.traffic.specs.Rows.{World, Place, At, Flying, Person}
 use Rattle.rows.specs.declared.plan.Act.{Act}
 use Rattle.rows.specs.declared.plan.Leg.{Leg}
 use Rattle.rows.specs.declared.plan.Leg.TheVariants as leg
 use Rattle.traffic.specs.Setup.{Setup, act_at, leg_at, act_after, departure}
 use Rattle.traffic.specs.Moves.{Move, New, Tell, run}
 use Rattle.traffic.specs.Persons.{lands, landing, landing_moves, sets_out, departs, leaving, leaving_moves, transit_vehicle, departure_moves}
-use Rattle.traffic.specs.Day.{Plan, flight_plan, leave_plan, departure_plan, plan_of, count_of, turns, moves_of, after, turns_in, through, second, world_from}
+use Rattle.traffic.specs.Day.{Plan, phases, world_start, plan_of, count_of, turns, moves_of, after, turns_in, through, second, world_from}
 use Rattle.traffic.proofs.Each.{each_number}
-use Rattle.traffic.proofs.Sublists.{run-append}
+use Rattle.traffic.proofs.Sublists.{run-append, credits-run}
 use Rattle.traffic.proofs.Moments.{Along, along_append}
 
 -- PERSONS AND DEPARTURES
@@ -24,27 +26,27 @@ landing_walk : (T : List Move → Type 0) (t j : ℕ) (w : Leg) (next : Act) (pl
 landing_walk T t j (leg.Teleport mode seconds) next (Flying start) none f = elim (cases_Bool (eqb (start + seconds) t)) [ inl e ↦ rw e (f mode seconds start refl refl (eqb-true (start + seconds) t e)) | inr e ↦ rw e none ]
 landing_walk T t j _ next _ none f = none
 
-pub flight_walk : (T : List Move → Type 0) (S : Setup) (t j : ℕ) (W : World) → T []
-    → ((mode : Mode) (seconds start : ℕ) → (person_of j W).place ≡ Flying start → leg_at S j (person_of j W).element ≡ leg.Teleport mode seconds → start + seconds ≡ t → T (Tell (lands j mode seconds (act_after S j (person_of j W).element)) ∷ []))
-    → T (flight_plan S t j W)
+pub flight_walk : (T : List Move → Type 0) (S : Setup) (t j : ℕ) (P : Person) → T []
+    → ((mode : Mode) (seconds start : ℕ) → P.place ≡ Flying start → leg_at S j P.element ≡ leg.Teleport mode seconds → start + seconds ≡ t → T (Tell (lands j mode seconds (act_after S j P.element)) ∷ []))
+    → T (landing_moves S t j P)
 unfolding landing_moves
-flight_walk T S t j W none f = let P = person_of j W in landing_walk T t j (leg_at S j P.element) (act_after S j P.element) P.place none f
+flight_walk T S t j P none f = landing_walk T t j (leg_at S j P.element) (act_after S j P.element) P.place none f
 
 -- and so of those by which his activity ends then, and the leg after it begins
 leaving_walk : (T : List Move → Type 0) (S : Setup) (t j : ℕ) (here : Act) (w : Leg) (next : Act) (pl : Place) → T [] → (pl ≡ At (Some t) → T (Tell (departs j here w) ∷ sets_out S j w next)) → T (leaving S t j here w next pl)
 leaving_walk T S t j here w next (At (Some end)) none f = elim (cases_Bool (eqb end t)) [ inl e ↦ rw e (f (ap (λ (x : ℕ). At (Some x)) (eqb-true end t e))) | inr e ↦ rw e none ]
 leaving_walk T S t j here w next _ none f = none
 
-pub leave_walk : (T : List Move → Type 0) (S : Setup) (t j : ℕ) (W : World) → T []
-    → ((person_of j W).place ≡ At (Some t) → T (Tell (departs j (act_at S j (person_of j W).element) (leg_at S j (person_of j W).element)) ∷ sets_out S j (leg_at S j (person_of j W).element) (act_after S j (person_of j W).element)))
-    → T (leave_plan S t j W)
+pub leave_walk : (T : List Move → Type 0) (S : Setup) (t j : ℕ) (P : Person) → T []
+    → (P.place ≡ At (Some t) → T (Tell (departs j (act_at S j P.element) (leg_at S j P.element)) ∷ sets_out S j (leg_at S j P.element) (act_after S j P.element)))
+    → T (leaving_moves S t j P)
 unfolding leaving_moves
-leave_walk T S t j W none f = let P = person_of j W in leaving_walk T S t j (act_at S j P.element) (leg_at S j P.element) (act_after S j P.element) P.place none f
+leave_walk T S t j P none f = leaving_walk T S t j (act_at S j P.element) (leg_at S j P.element) (act_after S j P.element) P.place none f
 
 -- and of that by which a departure's vehicle starts
-pub departure_walk : (T : List Move → Type 0) (S : Setup) (t d : ℕ) (W : World) → T [] → ((departure S d).second ≡ t → T (New (transit_vehicle d (departure S d)) ∷ [])) → T (departure_plan S t d W)
+pub departure_walk : (T : List Move → Type 0) (S : Setup) (t d : ℕ) → T [] → ((departure S d).second ≡ t → T (New (transit_vehicle d (departure S d)) ∷ [])) → T (departure_moves S t d)
 unfolding departure_moves
-departure_walk T S t d W none f = elim (cases_Bool (eqb (departure S d).second t)) [ inl e ↦ rw e (f (eqb-true (departure S d).second t e)) | inr e ↦ rw e none ]
+departure_walk T S t d none f = elim (cases_Bool (eqb (departure S d).second t)) [ inl e ↦ rw e (f (eqb-true (departure S d).second t e)) | inr e ↦ rw e none ]
 
 -- TURNS AND PHASES
 -- what holds of no moves, and of two lists of moves one after the other
@@ -101,3 +103,13 @@ pub seconds_keep : (I : World → Type 0) (S : Setup) → ((t : ℕ) (W : World)
 unfolding world_from
 seconds_keep I S f W zero h = h
 seconds_keep I S f W (suc t) h = f t (world_from S W t) (seconds_keep I S f W t h)
+
+-- each link has its credit
+pub credits_start : (S : Setup) → length (world_start S).credits ≡ length S.links
+unfolding world_start
+credits_start S = length-replicate (length S.links) VEHICLE_COST
+
+pub credits_day : (S : Setup) (W : World) (t : ℕ) → length W.credits ≡ length S.links → length (world_from S W t).credits ≡ length S.links
+credits_day S W t e =
+    let I : World → Type 0 = λ V. length V.credits ≡ length S.links in
+    seconds_keep I S (λ s V f. phases_keep I S s (λ p n U lt g. credits-run S s (plan_of S s p n U) U ∙ g) phases V f) W t e

@@ -12,8 +12,8 @@ use crate::schedule_tables::{
 };
 use edge_files::{InFile, Reason};
 use events::{Names, StopCall};
-use schedule::{Departures, Routes, Stops, read_departures, read_routes, read_stops};
 use rows::{DepartureRow, RouteRow, StopRow};
+use schedule::{Departures, Routes, Stops, read_departures, read_routes, read_stops};
 use std::alloc::{AllocError, Global};
 
 #[test]

@@ -33,10 +33,10 @@ use edge_files::{Bytes, InFile};
 use events::{Book, Names};
 use network::Network;
 use plans::PlanFile;
+use rows::{Green, GreenList, SpanList};
 use settings::{Settings, read_settings};
 use std::alloc::{AllocError, Global};
 use town::Town;
-use rows::{Green, GreenList, SpanList};
 
 /// What settings.json, which is let go, says, or its first fault.
 fn settings_in(alloc: Global, long: Option<InFile>, bytes: Bytes) -> Result<Settings, Stop>

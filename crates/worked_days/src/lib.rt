@@ -11,8 +11,6 @@ mod fits;
 #[cfg(test)]
 mod jams;
 #[cfg(test)]
-mod limits;
-#[cfg(test)]
 mod outside;
 #[cfg(test)]
 mod refusals;
@@ -20,5 +18,7 @@ mod refusals;
 mod seconds;
 #[cfg(test)]
 mod signals;
+#[cfg(test)]
+mod sizes;
 #[cfg(test)]
 mod towns;

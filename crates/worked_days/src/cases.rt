@@ -6,8 +6,7 @@ use std::alloc::{AllocError, Global};
 use std::sync::Wait;
 use std::thread::Threads;
 
-/// The texts of the files of a scenario; those of nodes.csv and plans.csv are their rows.
-#[derive(Clone, Copy)]
+/// The texts of the files of a scenario; that of plans.csv is its rows.
 pub(crate) struct Case {
     pub(crate) settings: &'static str,
     pub(crate) nodes: &'static str,
@@ -20,12 +19,27 @@ pub(crate) struct Case {
 
 const PLANS: &str = "person,plan,kind,name,link,time,route\n";
 
-/// Four nodes and three links in a line, of ten seconds each, through which a vehicle passes in each second.
+/// Four nodes.
+pub(crate) const NODES: &str = "node,x,y\nA,0,0\nB,0,0\nC,0,0\nD,0,0\n";
+
+/// Three links in a line between them, of ten seconds each, through which a vehicle passes in each second.
+pub(crate) const LINKS: &str = "link,from,to,length,speed,capacity,lanes\n\
+    L1,A,B,10000,1000,3600,1\nL2,B,C,10000,1000,3600,1\nL3,C,D,10000,1000,3600,1\n";
+
+/// A stop on the first link and one on the last.
+pub(crate) const STOPS: &str = "stop,link\ns1,L1\ns3,L3\n";
+
+/// A line along the links that waits at the first stop.
+pub(crate) const ROUTES: &str = "line,route,links,stops\nb,r1,L1 L2 L3,s1:20:wait s3:60\n";
+
+/// A vehicle of that line, of one seat.
+pub(crate) const DEPARTURES: &str = "departure,route,second,seats\nd1,r1,200,1\n";
+
+/// The line of links, and nobody.
 pub(crate) const LINE: Case = Case {
     settings: "",
-    nodes: "node,x,y\nA,0,0\nB,0,0\nC,0,0\nD,0,0\n",
-    links: "link,from,to,length,speed,capacity,lanes\n\
-        L1,A,B,10000,1000,3600,1\nL2,B,C,10000,1000,3600,1\nL3,C,D,10000,1000,3600,1\n",
+    nodes: NODES,
+    links: LINKS,
     plans: "",
     stops: "",
     routes: "",
@@ -49,9 +63,9 @@ pub(crate) const BUS: Case = Case {
     settings: "{\"dwell_open\":4,\"dwell_alight\":1,\"dwell_board\":2}",
     plans: "p1,0,act,home,L1,100,\np1,0,leg,pt,,,b s1 s3\np1,0,act,work,L3,,\n\
         p2,0,act,home,L1,100,\np2,0,leg,pt,,,b s1 s3\np2,0,act,work,L3,,\n",
-    stops: "stop,link\ns1,L1\ns3,L3\n",
-    routes: "line,route,links,stops\nb,r1,L1 L2 L3,s1:20:wait s3:60\n",
-    departures: "departure,route,second,seats\nd1,r1,200,1\n",
+    stops: STOPS,
+    routes: ROUTES,
+    departures: DEPARTURES,
     ..LINE
 };
 
@@ -80,7 +94,7 @@ fn put_plans(alloc: Global, inputs: &mut MemoryInputs, rows: &str) {
 }
 
 /// The files of a case.
-pub(crate) fn inputs_of(alloc: Global, case: Case) -> MemoryInputs {
+pub(crate) fn inputs_of(alloc: Global, case: &Case) -> MemoryInputs {
     let mut inputs = MemoryInputs::new(alloc);
     put(&mut inputs, InFile::Settings, case.settings);
     put(&mut inputs, InFile::Nodes, case.nodes);
@@ -140,7 +154,7 @@ pub(crate) fn is_answered<R: Threads + Wait + Sync>(
     rt: &R,
     alloc: Global,
     command: &str,
-    case: Case,
+    case: &Case,
     status: Status,
     report: &str,
     events: &str,

@@ -578,7 +578,7 @@ fn first_wrong<R: Threads + Wait + Sync>(rt: &R, alloc: Global, days: &[Day]) ->
             rt,
             alloc,
             "run",
-            day.case,
+            &day.case,
             Status::Done,
             day.report,
             day.events,

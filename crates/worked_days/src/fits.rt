@@ -10,7 +10,7 @@ use std::alloc::Global;
 use town::{Town, plan_fits};
 
 /// Three links in a row with a stop on each, line b along all three, and line c along two; activities are at home and at work.
-const TOWN: Case = Case {
+static TOWN: Case = Case {
     settings: "",
     nodes: "node,x,y\nA,0,0\nB,1,0\nC,2,0\nD,3,0\n",
     links: "link,from,to,length,speed,capacity,lanes\n\
@@ -124,7 +124,7 @@ fn are_fitting(alloc: Global) -> bool {
     let Some(file) = plans_of(alloc) else {
         return false;
     };
-    match scenario_of(alloc, TOWN) {
+    match scenario_of(alloc, &TOWN) {
         Some(scenario) => plans_fit_in(scenario, file),
         None => false,
     }

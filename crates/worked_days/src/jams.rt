@@ -183,20 +183,29 @@ fn entered_on(alloc: Global, scenario: Scenario, count: u32) -> Vec<(u32, Option
     entered
 }
 
-/// The same of the jam with these settings.
-fn entered_with(alloc: Global, settings: &'static str, count: u32) -> Vec<(u32, Option<u32>)>
+/// The same in the scenario of a case.
+fn entered_with(alloc: Global, case: &Case, count: u32) -> Vec<(u32, Option<u32>)>
     requires { count < 100 }
 {
-    match scenario_of(alloc, Case { settings, ..ROAD }) {
+    match scenario_of(alloc, case) {
         Some(scenario) => entered_on(alloc, scenario, count),
         None => Vec::new(alloc),
     }
 }
 
+/// The jam without holes.
+static PLACES: Case = ROAD;
+
+/// The jam where holes travel at 25 cm a second.
+static HOLES: Case = Case {
+    settings: "{\"hole_speed\":25}",
+    ..ROAD
+};
+
 /// A place is free in the second after it was left, so that the jam moves link by link.
 #[test]
 fn jams_move_as_places_come_free(rt: HostRuntime) {
-    let entered = entered_with(rt.alloc(), "", 3);
+    let entered = entered_with(rt.alloc(), &PLACES, 3);
     let told = [(10, Some(3)), (11, Some(2)), (12, Some(1)), (12, Some(3))];
     assert_eq!(rt; entered.as_slice(), told.as_slice());
 }
@@ -204,7 +213,7 @@ fn jams_move_as_places_come_free(rt: HostRuntime) {
 /// Where holes travel at 25 cm a second, a place of 50 cm is free two seconds after it was left.
 #[test]
 fn jams_move_as_holes_come(rt: HostRuntime) {
-    let entered = entered_with(rt.alloc(), "{\"hole_speed\":25}", 5);
+    let entered = entered_with(rt.alloc(), &HOLES, 5);
     let told = [(10, Some(3)), (12, Some(2)), (13, Some(3)), (14, Some(1))];
     assert_eq!(rt; entered.as_slice(), told.as_slice());
 }

@@ -1,7 +1,8 @@
 //! Words, reads and writes that fail, and files that are cut.
 
 use crate::cases::{
-    BUS, Case, DRIVE, LINE, are_written, inputs_of, is_written, put, status_of, words_of,
+    BUS, Case, DEPARTURES, DRIVE, LINE, LINKS, NODES, ROUTES, STOPS, are_written, inputs_of,
+    is_written, put, status_of, words_of,
 };
 use edge_files::{InFile, MemoryInputs, MemoryOutputs, OutFile};
 use qsim_top::Status;
@@ -22,6 +23,9 @@ static WORDS: [(&[&str], Status); 8] = [
     (&["qsim", "check", "-h"], Status::Done),
 ];
 
+/// A scenario without persons.
+static NOBODY: Case = LINE;
+
 /// The text that such words are answered with, where this is how the program ends.
 fn told_text(alloc: Global, words: &[&str], status: Status) -> Option<String> {
     match read_words(alloc, &words_of(alloc, words)) {
@@ -41,7 +45,7 @@ fn are_told<R: Threads + Wait + Sync>(
     let Some(text) = told_text(alloc, words, status) else {
         return false;
     };
-    let mut inputs = inputs_of(alloc, LINE);
+    let mut inputs = inputs_of(alloc, &NOBODY);
     let mut outputs = MemoryOutputs::new(alloc);
     let came = status_of(rt, alloc, words, &mut inputs, &mut outputs);
     came == status && !text.is_empty() && are_written(&outputs, text.as_str(), "")
@@ -63,7 +67,7 @@ fn words_are_answered(rt: HostRuntime) {
 }
 
 /// A short day of one car, its events and its report.
-const SHORT: Case = Case {
+static SHORT: Case = Case {
     settings: "{\"end_second\":120}",
     ..DRIVE
 };
@@ -97,7 +101,7 @@ fn is_front_written(outputs: &MemoryOutputs, status: Status, room: usize) -> boo
 
 /// The short day, where this call of reading fails.
 fn short_inputs(alloc: Global, failing: u64) -> MemoryInputs {
-    let mut inputs = inputs_of(alloc, SHORT);
+    let mut inputs = inputs_of(alloc, &SHORT);
     let _ = inputs.fail_at(failing);
     inputs
 }
@@ -135,14 +139,14 @@ fn a_failing_read_writes_nothing(rt: HostRuntime) {
 }
 
 /// The short day with settings that have a fault.
-const FAULTY: Case = Case {
+static FAULTY: Case = Case {
     settings: "{\"sead\":1}",
     ..DRIVE
 };
 
 /// Whether a last read that fails is told before the fault of the first file.
 fn is_read_first<R: Threads + Wait + Sync>(rt: &R, alloc: Global) -> bool {
-    let mut inputs = inputs_of(alloc, FAULTY);
+    let mut inputs = inputs_of(alloc, &FAULTY);
     let _ = inputs.fail_at(11);
     let mut outputs = MemoryOutputs::new(alloc);
     let came = status_of(rt, alloc, &["qsim", "run"], &mut inputs, &mut outputs);
@@ -173,9 +177,11 @@ fn a_failing_write_leaves_fronts(rt: HostRuntime) {
     assert!(rt; ends_so(&rt, rt.alloc(), 0, whole, Status::Done));
 }
 
-/// The day of the bus, up to a second behind its last event.
-const SHORT_BUS: Case = Case {
-    settings: "{\"end_second\":260}",
+/// Settings for the day of the bus, up to a second behind its last event.
+const BUS_SETTINGS: &str = "{\"end_second\":260}";
+
+static SHORT_BUS: Case = Case {
+    settings: BUS_SETTINGS,
     ..BUS
 };
 
@@ -187,7 +193,7 @@ fn outputs_with<R: Threads + Wait + Sync>(
     file: InFile,
     text: &str,
 ) -> (Status, MemoryOutputs) {
-    let mut inputs = inputs_of(alloc, SHORT_BUS);
+    let mut inputs = inputs_of(alloc, &SHORT_BUS);
     put(&mut inputs, file, text);
     let mut outputs = MemoryOutputs::new(alloc);
     let status = status_of(rt, alloc, &["qsim", command], &mut inputs, &mut outputs);
@@ -235,55 +241,68 @@ const BUS_PLANS: &str = "person,plan,kind,name,link,time,route\n\
     p1,0,act,home,L1,100,\np1,0,leg,pt,,,b s1 s3\np1,0,act,work,L3,,\n\
     p2,0,act,home,L1,100,\np2,0,leg,pt,,,b s1 s3\np2,0,act,work,L3,,\n";
 
-/// The text of a file on that day.
-fn text_of(file: InFile) -> &'static str {
-    match file {
-        InFile::Settings => SHORT_BUS.settings,
-        InFile::Nodes => SHORT_BUS.nodes,
-        InFile::Links => SHORT_BUS.links,
-        InFile::Plans => BUS_PLANS,
-        InFile::Stops => SHORT_BUS.stops,
-        InFile::Routes => SHORT_BUS.routes,
-        InFile::Departures => SHORT_BUS.departures,
-        InFile::Signals => "",
-    }
+/// The text of a file on the day of the bus, and the lengths of its fronts that leave a whole scenario.
+struct Cut {
+    file: InFile,
+    text: &'static str,
+    whole: &'static [usize],
 }
 
-/// The lengths of the fronts of each file that leave a whole scenario. A last line needs no line feed; settings and departures may be
-/// left out; a person stays where the plan ends with an activity; and the last stop call may be at 6 in place of 60.
-static WHOLE: [(InFile, &[usize]); 7] = [
-    (InFile::Settings, &[0]),
-    (InFile::Nodes, &[32]),
-    (InFile::Links, &[115]),
-    (InFile::Plans, &[59, 60, 100, 101, 122, 123, 163]),
-    (InFile::Stops, &[21]),
-    (InFile::Routes, &[52, 53]),
-    (InFile::Departures, &[0, 28, 29, 40]),
+/// A last line needs no line feed; settings and departures may be left out; a person stays where the plan ends with an activity; and
+/// the last stop call may be at 6 in place of 60.
+static CUTS: [Cut; 7] = [
+    Cut {
+        file: InFile::Settings,
+        text: BUS_SETTINGS,
+        whole: &[0],
+    },
+    Cut {
+        file: InFile::Nodes,
+        text: NODES,
+        whole: &[32],
+    },
+    Cut {
+        file: InFile::Links,
+        text: LINKS,
+        whole: &[115],
+    },
+    Cut {
+        file: InFile::Plans,
+        text: BUS_PLANS,
+        whole: &[59, 60, 100, 101, 122, 123, 163],
+    },
+    Cut {
+        file: InFile::Stops,
+        text: STOPS,
+        whole: &[21],
+    },
+    Cut {
+        file: InFile::Routes,
+        text: ROUTES,
+        whole: &[52, 53],
+    },
+    Cut {
+        file: InFile::Departures,
+        text: DEPARTURES,
+        whole: &[0, 28, 29, 40],
+    },
 ];
 
 /// The length of the first front of a file that is not answered so; or that of the file.
-fn first_cut<R: Threads + Wait + Sync>(
-    rt: &R,
-    alloc: Global,
-    file: InFile,
-    whole: &[usize],
-) -> usize {
-    let text = text_of(file);
-    for end in 0..text.len() {
-        if !are_alike(rt, alloc, file, front(text, end), whole.contains(&end)) {
+fn first_cut<R: Threads + Wait + Sync>(rt: &R, alloc: Global, cut: &Cut) -> usize {
+    for end in 0..cut.text.len() {
+        let is_whole = cut.whole.contains(&end);
+        if !are_alike(rt, alloc, cut.file, front(cut.text, end), is_whole) {
             return end;
         }
     }
-    text.len()
+    cut.text.len()
 }
 
 /// Each file is cut at every byte: both commands refuse what is left alike, but where it is whole.
 #[test]
 fn cut_files_are_done_or_refused(rt: HostRuntime) {
-    for (file, whole) in WHOLE {
-        assert_eq!(rt;
-            first_cut(&rt, rt.alloc(), file, whole),
-            text_of(file).len()
-        );
+    for cut in &CUTS {
+        assert_eq!(rt; first_cut(&rt, rt.alloc(), cut), cut.text.len());
     }
 }

@@ -1,6 +1,9 @@
 //! Scenarios that are refused, with their report, and those that are valid.
 
-use crate::cases::{BUS, Case, DRIVE, LINE, WALK, is_answered};
+use crate::cases::{
+    BUS, Case, DRIVE, LINE, WALK, are_written, inputs_of, is_answered, put, status_of,
+};
+use edge_files::{InFile, MemoryOutputs};
 use qsim_top::Status;
 use std::alloc::Global;
 use std::sync::Wait;
@@ -315,7 +318,7 @@ fn is_refused<R: Threads + Wait + Sync>(rt: &R, alloc: Global, refusal: &Refusal
         rt,
         alloc,
         "run",
-        refusal.case,
+        &refusal.case,
         Status::Refused,
         refusal.report,
         "",
@@ -323,7 +326,7 @@ fn is_refused<R: Threads + Wait + Sync>(rt: &R, alloc: Global, refusal: &Refusal
         rt,
         alloc,
         "check",
-        refusal.case,
+        &refusal.case,
         Status::Refused,
         refusal.report,
         "",
@@ -407,6 +410,8 @@ static NO_VALUES: [&str; 18] = [
      ]]]]]]]]]]]]]]]]]]]]]]]]]]]]]]]]]]]]]]]]]]]]]]]]]]}",
 ];
 
+static ONE_WALK: Case = WALK;
+
 /// Whether `check` refuses a walk with these settings so.
 fn is_told<R: Threads + Wait + Sync>(
     rt: &R,
@@ -414,8 +419,11 @@ fn is_told<R: Threads + Wait + Sync>(
     settings: &'static str,
     report: &str,
 ) -> bool {
-    let case = Case { settings, ..WALK };
-    is_answered(rt, alloc, "check", case, Status::Refused, report, "")
+    let mut inputs = inputs_of(alloc, &ONE_WALK);
+    put(&mut inputs, InFile::Settings, settings);
+    let mut outputs = MemoryOutputs::new(alloc);
+    let came = status_of(rt, alloc, &["qsim", "check"], &mut inputs, &mut outputs);
+    came == Status::Refused && are_written(&outputs, report, "")
 }
 
 /// The first of these settings that `check` does not refuse so.
@@ -448,12 +456,16 @@ fn settings_are_refused(rt: HostRuntime) {
 }
 
 /// Whether `check` tells these counts of a scenario.
-fn is_counted<R: Threads + Wait + Sync>(rt: &R, alloc: Global, case: Case, report: &str) -> bool {
+fn is_counted<R: Threads + Wait + Sync>(rt: &R, alloc: Global, case: &Case, report: &str) -> bool {
     is_answered(rt, alloc, "check", case, Status::Done, report, "")
 }
 
+static ONE_DRIVE: Case = DRIVE;
+
+static ONE_BUS: Case = BUS;
+
 #[test]
 fn check_tells_counts(rt: HostRuntime) {
-    assert!(rt; is_counted(&rt, rt.alloc(), DRIVE, "valid,4,3,1,0,0,0\n"));
-    assert!(rt; is_counted(&rt, rt.alloc(), BUS, "valid,4,3,2,2,1,1\n"));
+    assert!(rt; is_counted(&rt, rt.alloc(), &ONE_DRIVE, "valid,4,3,1,0,0,0\n"));
+    assert!(rt; is_counted(&rt, rt.alloc(), &ONE_BUS, "valid,4,3,2,2,1,1\n"));
 }

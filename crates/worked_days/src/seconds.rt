@@ -13,7 +13,7 @@ use std::alloc::{AllocError, Global};
 use town::{DayInput, Town};
 
 /// A person who walks at second 100.
-const WALK: Case = Case {
+static WALK: Case = Case {
     settings: "",
     nodes: "node,x,y\na,0,0\nb,1,0\n",
     links: "link,from,to,length,speed,capacity,lanes\nL1,a,b,10000,1000,3600,1\n",
@@ -67,7 +67,7 @@ fn words_by(alloc: Global, town: &Town, plans: PlanLists) -> Vec<(u32, Word)> {
 }
 
 /// The same in the scenario of a case.
-fn words_on(alloc: Global, case: Case) -> Vec<(u32, Word)> {
+fn words_on(alloc: Global, case: &Case) -> Vec<(u32, Word)> {
     let Some(scenario) = scenario_of(alloc, case) else {
         return Vec::new(alloc);
     };
@@ -80,7 +80,7 @@ fn words_on(alloc: Global, case: Case) -> Vec<(u32, Word)> {
 /// In its second the activity ends and the leg departs.
 #[test]
 fn a_second_is_told(rt: HostRuntime) {
-    let words = words_on(rt.alloc(), WALK);
+    let words = words_on(rt.alloc(), &WALK);
     let told = [(100, Word::ActEnd), (100, Word::Departure)];
     assert_eq!(rt; words.as_slice(), told.as_slice());
 }

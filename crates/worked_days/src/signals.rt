@@ -91,7 +91,7 @@ fn driven_by(alloc: Global, town: &Town, plans: PlanLists) -> Vec<(u32, Word)> {
 }
 
 /// A short day of one car over two links of three.
-const SHORT: Case = Case {
+static SHORT: Case = Case {
     settings: "{\"end_second\":200}",
     ..DRIVE
 };
@@ -111,7 +111,7 @@ fn driven_behind(alloc: Global, scenario: Scenario, offset: u32) -> Vec<(u32, Wo
 fn driven_with(alloc: Global, offset: u32) -> Vec<(u32, Word)>
     requires { offset < 60 }
 {
-    match scenario_of(alloc, SHORT) {
+    match scenario_of(alloc, &SHORT) {
         Some(scenario) => driven_behind(alloc, scenario, offset),
         None => Vec::new(alloc),
     }

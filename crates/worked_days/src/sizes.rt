@@ -55,14 +55,14 @@ fn persons(alloc: Global, count: u32) -> Result<String, AllocError> {
 }
 
 /// A day of 100 s.
-const SHORT: Case = Case {
+static SHORT: Case = Case {
     settings: "{\"end_second\":100}",
     ..LINE
 };
 
 /// That day with so many persons.
 fn day_of(alloc: Global, count: u32) -> MemoryInputs {
-    let mut inputs = inputs_of(alloc, SHORT);
+    let mut inputs = inputs_of(alloc, &SHORT);
     if let Ok(plans) = persons(alloc, count) {
         put(&mut inputs, InFile::Plans, plans.as_str());
     }

@@ -29,7 +29,7 @@ fn plans_in(alloc: Global, rows: &str) -> Bytes {
 }
 
 /// The files of a case, none of which is too long.
-fn files_of(alloc: Global, case: Case) -> Files {
+fn files_of(alloc: Global, case: &Case) -> Files {
     Files {
         settings: bytes_of(alloc, case.settings),
         nodes: bytes_of(alloc, case.nodes),
@@ -43,7 +43,7 @@ fn files_of(alloc: Global, case: Case) -> Files {
 }
 
 /// The scenario of a case, where it has no fault.
-pub(crate) fn scenario_of(alloc: Global, case: Case) -> Option<Scenario> {
+pub(crate) fn scenario_of(alloc: Global, case: &Case) -> Option<Scenario> {
     match assemble(alloc, files_of(alloc, case)) {
         Ok(scenario) => Some(scenario),
         Err(_) => None,

@@ -1,7 +1,7 @@
 //! Which plans fit a town.
 
 use crate::cases::Case;
-use crate::towns::{let_go, scenario_of};
+use crate::towns::scenario_of;
 use events::{Name, Names};
 use plans::{PlanFile, read_plans};
 use rows::PlanList;
@@ -50,6 +50,8 @@ const FIT: [bool; 18] = [
     false, false, false, false,
 ];
 
+static LINKS: [&str; 4] = ["L1", "L2", "L3", "L4"];
+
 fn add(alloc: Global, names: &mut Names, text: &str) {
     if names.len() < 4 {
         if let Ok(Some(name)) = Name::read(alloc, text.as_bytes()) {
@@ -58,10 +60,10 @@ fn add(alloc: Global, names: &mut Names, text: &str) {
     }
 }
 
-/// The names of four links.
-fn links_of(alloc: Global) -> Names {
+/// These names, numbered from 0; fewer where memory is wanting.
+fn names_of(alloc: Global, texts: &[&str]) -> Names {
     let mut names = Names::new(alloc);
-    for text in ["L1", "L2", "L3", "L4"] {
+    for text in texts {
         add(alloc, &mut names, text);
     }
     names
@@ -69,7 +71,7 @@ fn links_of(alloc: Global) -> Names {
 
 /// The plans, whose links' ends are all one node.
 fn plans_of(alloc: Global) -> Option<PlanFile> {
-    let links = links_of(alloc);
+    let links = names_of(alloc, &LINKS);
     if links.len() != 4 {
         return None;
     }
@@ -102,20 +104,16 @@ fn fit_as_told(town: &Town, plans: &[PlanList]) -> bool {
     told.is_empty()
 }
 
-fn let_plans_go(_file: PlanFile) {}
-
-/// Whether just those of the plans above fit the town.
-fn plans_fit(town: &Town, file: PlanFile) -> bool {
-    let fit = fit_as_told(town, &file.plans.rows);
-    let_plans_go(file);
-    fit
+/// Whether just those of the plans above fit the town of a scenario.
+fn plans_fit(scenario: &Scenario, file: &PlanFile) -> bool {
+    fit_as_told(&scenario.town, &file.plans.rows)
 }
 
-/// The same in the town of a scenario.
+/// The same, where scenario and plans are dropped.
 fn plans_fit_in(scenario: Scenario, file: PlanFile) -> bool {
-    let Scenario { town, .. } = scenario;
-    let fit = plans_fit(&town, file);
-    let_go(town);
+    let fit = plans_fit(&scenario, &file);
+    drop(scenario);
+    drop(file);
     fit
 }
 
@@ -126,7 +124,10 @@ fn are_fitting(alloc: Global) -> bool {
     };
     match scenario_of(alloc, &TOWN) {
         Some(scenario) => plans_fit_in(scenario, file),
-        None => false,
+        None => {
+            drop(file);
+            false
+        }
     }
 }
 

@@ -43,7 +43,8 @@ module _ {R S : Type 0} (right : R → ℕ → ℕ → ℕ → S → Type 0) (ru
   -- a port's view and its own word change, and slots and marks with them
   moved : (s : St) (h : K s) (id : ℕ) (v w : View R) → get_elem? s.views id ≡ some v → is_port v.role ≡ true → w.run ≡ v.run
       → w.role ≡ v.role → w.partition ≡ v.partition
-      → (words : List ℕ) (homes : List (maybe.Option (Option S))) (marked : ℕ → Bool) → length words ≡ WORDS_APART * count → length homes ≡ 64 * n
+      → (words : List ℕ) (homes : List (maybe.Option (Option S))) (marked : ℕ → Bool) → length words ≡ WORDS_APART * count
+      → length homes ≡ 64 * n
       → word_at words v.partition ≡ w.done → ((q : ℕ) → q ≢ v.partition → word_at words q ≡ word_at s.words q)
       → AreRings (right run) n from to lag twin (λ q. word_at words q) (λ k. get_elem? homes k) marked
       → ((e : ℕ) → e < n → to e ≡ v.partition → marked e ≡ contains w.marks e)

@@ -31,7 +31,8 @@ vacant-requires g c =
     starts_with g.T.Traffic.right record { run = c.of.result; count = c.args.count; channels = c.of-2.result } c.args.count
     (channels_of c.args.pairs.now) c.as_slice.result.now (64 * c.len.result)
     refl (channels_are g c) (are_channels c.args.count c.args.pairs.now c.requires.pairs) (ap length words
-    ∙ length-replicate (WORDS_APART * c.args.count) 0) (λ p. ap (λ z. slice_index z p) words ∙ zeros_at (WORDS_APART * c.args.count) p) (omega arith)
+    ∙ length-replicate (WORDS_APART * c.args.count) 0) (λ p. ap (λ z. slice_index z p) words ∙ zeros_at (WORDS_APART * c.args.count) p)
+    (omega arith)
 
 pub invariant_of-result : goal.invariant_of-result
 invariant_of-result g c =

@@ -1,6 +1,6 @@
 -- A look that is ready and a publishing keep the rings.
 use Rattle.std.proofs.Common.{◌≡◌, ◌≢◌, ℕ, ◌+◌, ◌-◌, ◌*◌, ◌/◌, ◌%◌, ◌<◌, ◌≤◌, Bool, true, false, cond, ◌||◌, suc, Option, Some, None, refl}
-use Rattle.std.proofs.Common.{sym, ap, ◌∙◌, subst, mod-lt, eq-eqb, ne_eqb, true≢false, arith}
+use Rattle.std.proofs.Common.{◌⊎◌, inl, inr, sym, ap, ◌∙◌, subst, mod-lt, eq-eqb, ne_eqb, true≢false, arith}
 use mathlib.Core.Option.{some, none}
 use mathlib.Core.Option as maybe
 use mathlib.Core.Logic.{dite}
@@ -22,6 +22,10 @@ second_in : (c i : ℕ) → i < 64 → (s : ℕ) × (c ≤ s) × (s < c + 64) ×
 second_in c i lt = let q : ℕ = c / 64 in let j : ℕ = c % 64 in let e : 64 * q + j ≡ c = omega arith in let b : j < 64 = omega arith in
     dite (dec_le j i) (λ le. (64 * q + i, omega arith, omega arith, omega arith))
     (λ no. (64 * q + 64 + i, omega arith, omega arith, omega arith))
+
+pub by_bool : {P : Type 0} (b : Bool) → (b ≡ true → P) → (b ≡ false → P) → P
+by_bool true f g = f refl
+by_bool false f g = g refl
 
 pub mark_here : (m : ℕ → Bool) (e x : ℕ) → x ≡ e → mark m e x ≡ true
 mark_here m e x is = ap (λ b. b || m x) (eq-eqb x e is)
@@ -124,15 +128,11 @@ module _ {S : Type 0} (right : ℕ → ℕ → ℕ → S → Type 0) (count n : 
       got (λ marked here. let c : W (to e) - lag e ≡ s = omega arith in
       no_parcel x (sym (r.received e in_n marked (omega arith)) ∙ ap (λ z. H (slot e z)) c ∙ at)))
       (λ unsent. absurd (dite (ℕ_discrete s (W (from e)))
-      (λ here. by_mark (m (twin e))
+      (λ here. by_bool (m (twin e))
       (λ marked. no_parcel x (sym (r.lent e in_n marked) ∙ ap (λ z. H (slot e z)) (sym here) ∙ at))
       (λ un. empty_parcel x (sym (r.free e s in_n (omega arith) (omega arith) (λ y. absurd (true≢false (sym y ∙ un)))) ∙ at)))
       (λ ne. empty_parcel x (sym (r.free e s in_n (omega arith) (omega arith) (λ _. ne)) ∙ at))))
     where
-      by_mark : {P : Type 0} (b : Bool) → (b ≡ true → P) → (b ≡ false → P) → P
-      by_mark true f g = f refl
-      by_mark false f g = g refl
-
       same_parcel : (y z : S) → some (some (Some y)) ≡ some (some (Some z)) → y ≡ z
       same_parcel y z e = cc
 
@@ -141,6 +141,17 @@ module _ {S : Type 0} (right : ℕ → ℕ → ℕ → S → Type 0) (count n : 
 
       empty_parcel : (z : S) → some (some None) ≡ some (some (Some z)) → ⊥
       empty_parcel z e = cc
+
+  -- a parcel that was sent and is still to be absorbed lies in its slot, or the receiver, whose turn it is to absorb it, has it out
+  pub stays : (W : ℕ → ℕ) (H : Slots) (m : ℕ → Bool) → Rings W H m → (e s : ℕ) → e < n → s < W (from e) → W (to e) ≤ s + lag e
+      → ((x : S) × (H (slot e s) ≡ some (some (Some x))) × right (from e) (to e) s x)
+      ⊎ ((W (to e) ≡ s + lag e) × (H (slot e s) ≡ some none))
+  stays W H m r e s in_n sent due = by_bool (m e)
+      (λ marked. dite (ℕ_discrete (W (to e)) (s + lag e))
+      (λ now. let c : W (to e) - lag e ≡ s = omega arith in
+      inr (now, ap (λ z. H (slot e z)) (sym c) ∙ r.received e in_n marked (omega arith)))
+      (λ later. inl (r.full e s in_n due sent (λ _. later))))
+      (λ un. inl (r.full e s in_n due sent (λ y. absurd (true≢false (sym y ∙ un)))))
 
   module _ (W : ℕ → ℕ) (H : Slots) (m : ℕ → Bool) (r : Rings W H m) (p t : ℕ) (here : W p ≡ t) (all : (e : ℕ) → e < n → to e ≡ p
       → m e ≡ true) (W' : ℕ → ℕ) (next : W' p ≡ t + 1) (other : (q : ℕ) → q ≢ p → W' q ≡ W q) (H' : Slots)

@@ -14,8 +14,8 @@ use Rattle.cells.specs.Rule.{contains, place, word_at, is_port, is_hub, hub_view
 use Rattle.cells.specs.Rule.{IsHubView, IsKeptBy}
 use Rattle.cells.specs.Rings.{slot, AreChannels}
 use Rattle.cells.proofs.Homes.{at_end, at_below}
-use Rattle.cells.proofs.Rings.{mark_here, mark_else, mark_more}
-use Rattle.cells.proofs.Steps.{by_bool, not_both, slot_in}
+use Rattle.cells.proofs.Rings.{by_bool, mark_here, mark_else, mark_more}
+use Rattle.cells.proofs.Steps.{not_both, slot_in}
 
 abbrev pub seat_at : (ℕ → ℕ) → ℕ → ℕ → ℕ → ℕ
 seat_at who p j x = cond (eqb x p) j (who x)

@@ -20,10 +20,7 @@ use Rattle.cells.specs.Rings.{slot, AreRings, mark, clear}
 use Rattle.cells.specs.Carried.{Carries, AreOfSecond, CarriesBoth}
 use Rattle.cells.proofs.Homes.{give_all, all_valid, all_given, home, home_long, home_at, at_below}
 use Rattle.cells.proofs.Rings as rings
-
-pub by_bool : {P : Type 0} (b : Bool) → (b ≡ true → P) → (b ≡ false → P) → P
-by_bool true f g = f refl
-by_bool false f g = g refl
+use Rattle.cells.proofs.Rings.{by_bool}
 
 pub not_both : (r : Role) → is_port r ≡ true → is_hub r ≡ true → ⊥
 not_both Hub a b = true≢false (sym a)

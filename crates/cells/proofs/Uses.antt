@@ -10,7 +10,7 @@ use Rattle.cells.specs.declared.board.Look.TheVariants.{Ready, NotYet}
 use Rattle.cells.specs.declared.table.Border.{Border}
 use Rattle.cells.specs.Ports.{border_at, handover_at, is_awaited, is_arrived, degree, handover, lag_from, SameSecond, Fetches, Answers}
 use Rattle.cells.specs.Ports.{IsUnreadOf, IsUnread, IsUntouched}
-use Rattle.cells.proofs.Steps.{by_bool}
+use Rattle.cells.proofs.Rings.{by_bool}
 
 module _ {P : Type 0} where
   unread_known : (l t : ℕ) (h : Handover P) → IsUnreadOf l t h → is_awaited h ≡ false

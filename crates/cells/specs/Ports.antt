@@ -2,7 +2,7 @@
 use Rattle.std.specs.Prelude.{◌≡◌, ◌≢◌, ℕ, ◌+◌, ◌-◌, ◌*◌, ◌%◌, ◌<◌, ◌≤◌, ◌⊎◌, Bool, true, false, cond, leb, List, [], ◌∷◌, ◌++◌, map}
 use Rattle.std.specs.Prelude.{length}
 use Rattle.std.specs.Prelude.{sum_by, Option, Some, None, slice_index_or, slice_set, vec_capacity}
-use mathlib.Core.Option.{some}
+use mathlib.Core.Option.{some, none}
 use lib.ListN.{get_elem?}
 use Rattle.atomic_table.specs.Table.{State}
 use Rattle.cells.specs.declared.TheConstants.{SLOTS}
@@ -18,6 +18,7 @@ use Rattle.cells.specs.declared.table.Border.{Border}
 use Rattle.cells.specs.declared.table.View.{View}
 use Rattle.cells.specs.Rule.{contains, no_border, word_at, from_of, to_of, lag_of, twin_of, is_port, is_hub, IsKept}
 use Rattle.cells.specs.Carried.{AreOfSecond, CarriesBoth}
+use Rattle.cells.specs.Pairs.{Pair, AreLags}
 use Rattle.cells.specs.Rings.{slot}
 
 -- BORDERS
@@ -161,6 +162,14 @@ module _ {T R P : Type 0} where
         → (t : ℕ) × (t % SLOTS ≡ i) × (t < word_at s.words (from_of (channels_in b) e))
         × (word_at s.words (to_of (channels_in b) e) ≤ t + lag_of (channels_in b) e)
         × right (run_of b) (from_of (channels_in b) e) (to_of (channels_in b) e) t x
+    -- each parcel of a second that its sender has done and its receiver is still to absorb lies in its slot and is the right one, unless
+    -- that receiver, which is about to do the very second of absorbing it, has it out
+    pub stays : (s : State (Option P) (View R)) → IsKept right b.table.shared.key s → (e t : ℕ) → e < length (channels_in b)
+        → t < word_at s.words (from_of (channels_in b) e)
+        → word_at s.words (to_of (channels_in b) e) ≤ t + lag_of (channels_in b) e
+        → ((x : P) × (get_elem? s.homes (slot e t) ≡ some (some (Some x)))
+        × right (run_of b) (from_of (channels_in b) e) (to_of (channels_in b) e) t x)
+        ⊎ ((word_at s.words (to_of (channels_in b) e) ≡ t + lag_of (channels_in b) e) × (get_elem? s.homes (slot e t) ≡ some none))
 
   -- HUBS
   -- the partitions that had a port, and those whose port was joined
@@ -256,6 +265,10 @@ module _ {T R P : Type 0} where
     pub fresh : AreApart p.order.items
     pub counted : sum_by ready_in p.handovers.items ≡ length p.order.items
     pub carried : p.seat.me.1 ≡ all_slots_of p.borders.items p.done p.order.items []
+
+  -- each port of this board has for neighbours those of its partition by the pairs xs, with the lags from them
+  abbrev pub FollowsPairs : (R → ℕ → ℕ → ℕ → P → Type 0) → Board T R P → List Pair → Type 0
+  FollowsPairs right b xs = (p : Port T R P) → IsPort right b p → AreLags xs (partition_of p) (borders_of p)
 
   -- nothing but handovers, and the counts of looks and waits, differs
   pub record SameSecond (old new : Port T R P) : Type 0 where

@@ -4,7 +4,7 @@
 //! second `t` once each neighbour `q` has done more than `t - lag` seconds, where the lag (the lookahead of the ordered pair, 1 to 32 s) is
 //! the number of seconds before which nothing that `q` does is felt at `p`. A [`Port`] stands for one partition. In each second it looks at
 //! its neighbours ([`Port::look`]), takes the parcel that each sent `lag` seconds ago ([`Port::take`]), puts one for each
-//! ([`Port::put`]) and publishes the second ([`Port::publish`]), by one atomic store. No call waits, locks or takes memory.
+//! ([`Port::put`]) and publishes the second ([`Port::publish`]), by one atomic store. None of these calls waits, locks or takes memory.
 //!
 //! What is sent is a [`Traffic`], whose one meaning is which parcel is right. Under every schedule of the threads that have the ports,
 //! `take` gives exactly the right parcel, and each parcel is taken exactly once.

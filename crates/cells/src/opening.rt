@@ -1,7 +1,7 @@
 // How a board is made.
 ghost use Rattle.std.specs.Prelude.{◌≡◌, ◌<◌, ◌≤◌, [], length, IfOk};
 ghost use Rattle.cells.specs.Pairs.{ArePairs, channels_of};
-ghost use Rattle.cells.specs.Ports.{IsHub, IsLawful, run_of, had_port, joined, count_of, channels_in};
+ghost use Rattle.cells.specs.Ports.{IsHub, IsLawful, FollowsPairs, run_of, had_port, joined, count_of, channels_in};
 
 use crate::board::{Board, Hub};
 use crate::table::{Channel, Layout, Traffic};
@@ -39,6 +39,9 @@ impl<T: Traffic> Board<T> {
     /// A board for `count` partitions, 1 to 64, and its hub. Each row of `pairs` is `(p, q, there, back)`: two neighbours, the lesser
     /// first, the lag from `p` to `q` and the lag from `q` to `p`, 1 to 32 s each. No two rows have the same neighbours; there may be no
     /// row. The one refusal is want of memory.
+    ///
+    /// Whatever the threads that have its ports do, and in whatever order: no partition is further than the lag ahead of a neighbour, what
+    /// lies in a slot is a right parcel on its way, and none that is on its way is missing (`lawful`).
     pub fn new(
         alloc: Global,
         run: &T::Run,
@@ -49,6 +52,7 @@ impl<T: Traffic> Board<T> {
         requires pairs { ArePairs count pairs.now }
         ensures board { IfOk result (λ b. (run_of b.0 ≡ run.now) × (count_of b.0 ≡ count) × (channels_in b.0 ≡ channels_of pairs.now)) }
         ensures hub { IfOk result (λ b. IsHub b.0 b.1 × (had_port b.1 ≡ []) × (joined b.1 ≡ [])) }
+        ensures neighbours { IfOk result (λ b. FollowsPairs T.right b.0 pairs.now) }
         ensures lawful { IfOk result (λ b. IsLawful T.right b.0) }
     {
         let channels = channels_for(alloc, pairs)?;

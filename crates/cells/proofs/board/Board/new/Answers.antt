@@ -4,9 +4,10 @@ use Rattle.cells.specs.declared.TheConstants.{WORDS_APART}
 use Rattle.cells.specs.declared.table.Channel.{Channel}
 use Rattle.cells.specs.Rule.{AreChannelsOf, AreSingle}
 use Rattle.cells.specs.Pairs.{channels_of}
+use Rattle.cells.specs.Ports.{AreBorders}
 use Rattle.cells.proofs.Allowed.{starts_with, zeros_at}
 use Rattle.cells.proofs.Lawful.{lawful}
-use Rattle.cells.proofs.Channels.{few_pairs, are_channels, are_single, length-channels_from}
+use Rattle.cells.proofs.Channels.{few_pairs, are_channels, are_single, length-channels_from, lags_are}
 use Rattle.cells.proofs.board.Board.new.Given.{Over}
 use Rattle.cells.proofs.board.Board.new.Goals as goal
 
@@ -53,3 +54,7 @@ invariant_of-result g c =
 
 pub returns-clause-lawful : goal.returns-clause-lawful
 returns-clause-lawful g c = lawful g.T.Traffic.right _
+
+pub returns-clause-neighbours : goal.returns-clause-neighbours
+returns-clause-neighbours g c = λ p is. lags_are c.args.pairs.now p.partition p.borders.items
+    (subst (λ cs. AreBorders cs p.partition p.borders.items) c.in_ok-channels.ensures is.borders)

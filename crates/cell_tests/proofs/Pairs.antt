@@ -13,6 +13,10 @@ module _ (count a b : ℕ) where
     pub ends : pair_at xs 0 ≡ (0, count - 1, b, a)
     pub steps : (k : ℕ) → k < n → pair_at xs (k + 1) ≡ (k, k + 1, a, b)
 
+  pub ring_one : (xs ys : List Pair) → xs ≡ [] → ys ≡ xs ++ (0, count - 1, b, a) ∷ [] → AreRing 0 ys
+  ring_one xs ys none is = let x : Pair = (0, count - 1, b, a) in let one : ys ≡ x ∷ [] = is ∙ ap (λ z. z ++ x ∷ []) none in
+      record { long = ap length one; ends = ap (λ z. pair_at z 0) one; steps = λ k lt. absurd (omega arith) }
+
   pub ring_more : (n : ℕ) (xs ys : List Pair) → AreRing n xs → ys ≡ xs ++ (n, n + 1, a, b) ∷ [] → AreRing (n + 1) ys
   ring_more n xs ys r is =
       let x : Pair = (n, n + 1, a, b) in let l = r.long in

@@ -1,14 +1,14 @@
-//! Tests of the border cells: two partitions and rings of many, on one thread and on several, with short and long lags; and callers that
-//! go over any number of neighbours by the contracts of `cells` alone.
+//! Tests of the border cells: two partitions and rings of 64, on one thread and on several, with short and long lags. The callers go over
+//! any number of neighbours and prove themselves by the contracts of `cells` alone.
 #![tactic(auto)]
 
-#[cfg(test)]
-mod many_partitions;
 mod members;
 mod numbers;
+#[cfg(test)]
 mod rings;
+#[cfg(test)]
 mod seconds;
 #[cfg(test)]
+mod trials;
+#[cfg(test)]
 mod two_partitions;
-
-pub use rings::runs_ring;

@@ -1,6 +1,6 @@
-// A port with what a test counts beside it.
+// What the tests know a port and a board by. Their functions are read for tests alone, so that each is proved once.
 use crate::numbers::Numbers;
-use cells::Port;
+use cells::{Board, Hub, Port};
 
 /// What a test counts of a port, by itself.
 #[derive(Clone, Copy, Drop)]
@@ -11,28 +11,8 @@ pub(crate) struct Tally {
     pub(crate) taken: u64,
     /// Those of them that were not the right number.
     pub(crate) wrong: u64,
-}
-
-impl Tally {
-    pub(crate) fn new() -> Tally {
-        Tally {
-            seconds: 0,
-            taken: 0,
-            wrong: 0,
-        }
-    }
-
-    /// Counts a parcel of run 5 from a neighbour with this lag. It is right where it is that of `lag` seconds ago.
-    pub(crate) fn count(&mut self, sender: u32, lag: u32, parcel: u64) {
-        self.taken = self.taken.saturating_add(1);
-        let is_right = match self.seconds.checked_sub(lag) {
-            Some(second) => parcel == 5_000_000 + 10_000 * u64::from(sender) + u64::from(second),
-            None => false,
-        };
-        if !is_right {
-            self.wrong = self.wrong.saturating_add(1);
-        }
-    }
+    /// The last one taken, and 0 before the first.
+    pub(crate) last: u64,
 }
 
 /// A port and its tally.
@@ -40,4 +20,15 @@ impl Tally {
 pub(crate) struct Member {
     pub(crate) port: Port<Numbers>,
     pub(crate) tally: Tally,
+    /// Whether it looked at nobody since it last published, so that it holds nothing and may be joined.
+    pub(crate) is_resting: bool,
+}
+
+/// A board, its hub, the number of its partitions, and its ports as members.
+#[derive(Drop)]
+pub(crate) struct Trial {
+    pub(crate) board: Board<Numbers>,
+    pub(crate) hub: Hub<Numbers>,
+    pub(crate) count: u32,
+    pub(crate) members: Vec<Member>,
 }

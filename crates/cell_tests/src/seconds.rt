@@ -10,26 +10,74 @@ ghost use Rattle.cells.specs.Ports.{
   is_taken,
   is_put,
   done_of,
-  partition_of,
 };
-ghost use Rattle.cell_tests.specs.Numbers.{IsNumber};
+ghost use Rattle.cell_tests.specs.Numbers.{IsNumber, number_of};
 ghost use Rattle.cell_tests.specs.Members.{IsMember, IsTestBoard};
 
 use crate::members::{Member, Tally};
-use crate::numbers::{Numbers, number};
-use cells::{Board, Look, Port, Traffic};
+use crate::numbers::Numbers;
+use cells::{Board, Look, Port};
+
+impl Tally {
+    pub(crate) fn new() -> Tally {
+        Tally {
+            seconds: 0,
+            taken: 0,
+            wrong: 0,
+            last: 0,
+        }
+    }
+
+    /// Counts a parcel of run 5 from a neighbour with this lag. It is right where it is that of `lag` seconds ago.
+    pub(crate) fn count(&mut self, sender: u32, lag: u32, parcel: u64) {
+        self.taken = self.taken.saturating_add(1);
+        self.last = parcel;
+        let is_right = match self.seconds.checked_sub(lag) {
+            Some(second) => parcel == 5_000_000 + 10_000 * u64::from(sender) + u64::from(second),
+            None => false,
+        };
+        if !is_right {
+            self.wrong = self.wrong.saturating_add(1);
+        }
+    }
+}
+
+/// The right parcel of a run, from a partition in a second.
+fn number(run: u64, sender: u32, second: u32) -> u64
+    requires { (run < 1000) × (sender < 64) }
+    ensures { result ≡ number_of run sender second }
+{
+    1_000_000 * run + 10_000 * u64::from(sender) + u64::from(second)
+}
+
+/// Looks at neighbour `k` of a port of which nothing was taken and nothing put in this second.
+pub(crate) fn look_at(board: &Board<Numbers>, port: &mut Port<Numbers>, k: usize) -> Look
+    requires port { IsPort IsNumber board.now port.old }
+    requires untouched { IsUntouched port.old }
+    requires neighbour { k < degree port.old }
+    ensures port { IsPort IsNumber board.now port.new }
+    ensures untouched { IsUntouched port.new }
+    ensures same { SameSecond port.old port.new }
+    ensures others { (j : ℕ) → IsUnread port.old j → IsUnread port.new j }
+    ensures ready { result ≡ Look.Ready → IsUnread port.new k }
+{
+    match port.look(board, k) {
+        Look::Ready => Look::Ready,
+        Look::NotYet { published } => Look::NotYet { published },
+    }
+}
 
 /// Looks at all neighbours, and answers whether all are ready.
-fn look_all<T: Traffic>(board: &Board<T>, port: &mut Port<T>) -> bool
-    requires port { IsPort T.right board.now port.old }
+fn look_all(board: &Board<Numbers>, port: &mut Port<Numbers>) -> bool
+    requires port { IsPort IsNumber board.now port.old }
     requires untouched { IsUntouched port.old }
-    ensures port { IsPort T.right board.now port.new }
+    ensures port { IsPort IsNumber board.now port.new }
     ensures untouched { IsUntouched port.new }
     ensures same { SameSecond port.old port.new }
     ensures ready { result ≡ true → (k : ℕ) → k < degree port.new → IsUnread port.new k }
 {
     for k in 0..port.neighbours().len() {
-        match port.look(board, k) {
+        match look_at(board, port, k) {
             Look::Ready => {}
             Look::NotYet { published: _ } => return false,
         }
@@ -71,15 +119,17 @@ fn put_all(board: &Board<Numbers>, port: &mut Port<Numbers>)
     }
 }
 
-/// Does the next second of a member where all its neighbours are ready, and answers whether it did.
+/// Does the next second of a member where all its neighbours are ready, and answers whether it did. It does no more than 4,000,000,000.
 pub(crate) fn second(board: &Board<Numbers>, member: &mut Member) -> bool
     requires board { IsTestBoard board.now }
     requires member { IsMember board.now member.old }
-    requires done { done_of member.old.port < 4000000000 }
     ensures member { IsMember board.now member.new }
-    ensures partition { partition_of member.new.port ≡ partition_of member.old.port }
     ensures done { done_of member.new.port ≡ (if result then done_of member.old.port + 1 else done_of member.old.port) }
 {
+    if member.port.done() >= 4_000_000_000 {
+        return false;
+    }
+    member.is_resting = false;
     if !look_all(board, &mut member.port) {
         return false;
     }
@@ -87,5 +137,6 @@ pub(crate) fn second(board: &Board<Numbers>, member: &mut Member) -> bool
     put_all(board, &mut member.port);
     member.port.publish(board);
     member.tally.seconds = member.tally.seconds.saturating_add(1);
+    member.is_resting = true;
     true
 }

@@ -1,198 +1,220 @@
-// Two partitions, whose ports have one neighbour each.
-ghost use Rattle.std.specs.Prelude.{◌≡◌, ℕ, ◌+◌, ◌-◌, ◌<◌, ◌≤◌, true, IfSome};
-ghost use Rattle.cells.specs.Ports.{
-  IsPort,
-  degree,
-  handover,
-  is_awaited,
-  neighbour,
-  lag_from,
-  done_of,
-  partition_of,
-  run_of,
-  count_of,
-};
-ghost use Rattle.cell_tests.specs.Numbers.{IsNumber, number_of};
-ghost use Rattle.cell_tests.specs.Members.{IsLone, IsTestBoard};
+// Two partitions, second by second on one thread, and on two threads.
+ghost use Rattle.std.specs.Prelude.{◌≡◌, ◌≤◌};
+ghost use Rattle.cell_tests.specs.Members.{AreMembers, IsMember, IsTestBoard};
 
-use crate::numbers::{Numbers, number};
-use cells::{Board, Hub, Look, Port};
-use std::test::Fail;
-use std::thread::{Threads, join};
+use crate::members::Member;
+use crate::numbers::Numbers;
+use crate::seconds::look_at;
+use crate::trials::{closes, new_trial, runs, step};
+use cells::{Board, Look};
+use std::alloc::Global;
 
-/// The looks after which a thread gives up.
-const MOST_LOOKS: u32 = 100_000_000;
-
-/// The seconds that each of two threads does.
-const SECONDS: u32 = 1_000;
-
-/// Whether a port has one neighbour, where nothing is held of any.
-fn is_lone(board: &Board<Numbers>, port: &Port<Numbers>) -> bool
-    requires port { IsPort IsNumber board.now port.now }
-    requires awaited { (k : ℕ) → k < degree port.now → is_awaited (handover port.now k) ≡ true }
-    ensures { result ≡ true → IsLone board.now port.now }
+/// Whether member `k` is partition `k`, about to do second 0, with one neighbour, the other partition, and this lag from it.
+fn begins(board: &Board<Numbers>, members: &[Member], k: usize, lag: u32) -> bool
+    requires members { AreMembers board.now members.now }
 {
-    port.neighbours().len() == 1
+    if k >= members.len() {
+        return false;
+    }
+    let port = &members[k].port;
+    port.done() == 0
+        && port.partition() as usize == k
+        && port.neighbours().len() == 1
+        && port.neighbours()[0] as usize + k == 1
+        && port.lag(0) == lag
 }
 
-/// Does the next second where the neighbour is ready, and gives the parcel that was taken, if one was.
-fn step(board: &Board<Numbers>, port: &mut Port<Numbers>) -> Option<u64>
-    requires board { IsTestBoard board.now }
-    requires port { IsLone board.now port.old }
-    requires done { done_of port.old < 4000000000 }
-    ensures port { IsLone board.now port.new }
-    ensures partition { partition_of port.new ≡ partition_of port.old }
-    ensures done { done_of port.new ≤ done_of port.old + 1 }
-    ensures right { IfSome result (λ x. x ≡ number_of 5 (neighbour port.old 0) (done_of port.old - lag_from port.old 0)) }
+/// Whether a member is not ready for its next second, and sees that its first neighbour has published so many.
+fn sees(board: &Board<Numbers>, member: &mut Member, seconds: u32) -> bool
+    requires member { IsMember board.now member.old }
+    ensures { IsMember board.now member.new }
 {
-    match port.look(board, 0) {
-        Look::NotYet { published: _ } => None,
-        Look::Ready => {
-            let t = port.done();
-            let taken = if port.lag(0) <= t {
-                Some(port.take(board, 0))
-            } else {
-                None
-            };
-            let p = port.partition();
-            port.put(board, 0, number(5, p, t));
-            port.publish(board);
-            taken
-        }
+    member.is_resting = false;
+    if member.port.neighbours().is_empty() {
+        return false;
+    }
+    match look_at(board, &mut member.port, 0) {
+        Look::Ready => false,
+        Look::NotYet { published } => published == seconds,
     }
 }
 
-#[test]
-fn first_two_seconds(rt: HostRuntime) -> Result<(), Fail> {
-    let (board, mut hub) = Board::<Numbers>::new(rt.alloc(), &5, 2, &[(0, 1, 1, 1)])?;
-    let mut one = hub.split(rt.alloc(), &board, 1)?;
-    let mut zero = hub.split(rt.alloc(), &board, 0)?;
-    assert!(rt; is_lone(&board, &one) && is_lone(&board, &zero));
-    assert!(rt; one.done() == 0 && one.partition() == 1 && zero.partition() == 0);
-    assert!(rt; one.lag(0) == 1 && one.neighbours()[0] == 0 && zero.neighbours()[0] == 1);
-    assert_eq!(rt; step(&board, &mut one), None);
-    assert_eq!(rt; one.done(), 1);
-    assert!(rt; matches!(one.look(&board, 0), Look::NotYet { published: 0 }));
-    assert_eq!(rt; step(&board, &mut zero), None);
-    assert_eq!(rt; zero.done(), 1);
-    assert_eq!(rt; step(&board, &mut one), Some(5_000_000));
-    assert_eq!(rt; step(&board, &mut zero), Some(5_010_000));
-    hub.join(&board, one);
-    hub.join(&board, zero);
-    board.close(hub);
-    Ok(())
-}
-
-/// Does the seconds of one thread, and answers whether the parcels were the right numbers, of the seconds from 0 on, each once.
-fn work(board: &Board<Numbers>, mut port: Port<Numbers>) -> (Port<Numbers>, bool)
-    requires board { IsTestBoard board.now }
-    requires port { IsLone board.now port }
-    requires done { done_of port ≡ 0 }
-    ensures { IsLone board.now result.0 × (partition_of result.0 ≡ partition_of port) }
+/// The same of member `k`.
+fn waits(board: &Board<Numbers>, members: &mut [Member], k: usize, seconds: u32) -> bool
+    requires members { AreMembers board.now members.old }
+    ensures { AreMembers board.now members.new }
 {
-    let sender = port.neighbours()[0];
-    let mut next = 5_000_000 + 10_000 * u64::from(sender);
-    let mut is_right = true;
-    for _ in 0..MOST_LOOKS {
-        if port.done() >= SECONDS {
-            break;
-        }
-        if let Some(parcel) = step(board, &mut port) {
-            if parcel != next {
-                is_right = false;
-            }
-            next = next.wrapping_add(1);
-        }
+    if k >= members.len() {
+        return false;
     }
-    (port, is_right)
+    sees(board, &mut members[k], seconds)
 }
 
-/// Two ports do their seconds in two threads. Answers the two ports, and whether all parcels came in order.
-fn work_both<R: Threads + Sync>(
-    rt: &R,
-    board: &Board<Numbers>,
-    zero: Port<Numbers>,
-    one: Port<Numbers>,
-) -> (Port<Numbers>, Port<Numbers>, bool)
+/// Does at most `most` seconds of member `k`, as long as it is ready.
+fn steps(board: &Board<Numbers>, members: &mut [Member], k: usize, most: u32)
     requires board { IsTestBoard board.now }
-    requires zero { IsLone board.now zero × (done_of zero ≡ 0) × (partition_of zero ≡ 0) }
-    requires one { IsLone board.now one × (done_of one ≡ 0) × (partition_of one ≡ 1) }
-    ensures zero { IsLone board.now result.0 × (partition_of result.0 ≡ 0) }
-    ensures one { IsLone board.now result.1 × (partition_of result.1 ≡ 1) }
-{
-    let ((zero, is_zero_right), (one, is_one_right)) = join(
-        rt,
-        move || -> (Port<Numbers>, bool)
-            requires { IsTestBoard board.now × IsLone board.now zero × (done_of zero ≡ 0) × (partition_of zero ≡ 0) }
-            ensures { IsLone board.entry.now result.0 × (partition_of result.0 ≡ 0) }
-        { work(board, zero) },
-        move || -> (Port<Numbers>, bool)
-            requires { IsTestBoard board.now × IsLone board.now one × (done_of one ≡ 0) × (partition_of one ≡ 1) }
-            ensures { IsLone board.entry.now result.0 × (partition_of result.0 ≡ 1) }
-        { work(board, one) },
-    );
-    (zero, one, is_zero_right && is_one_right)
-}
-
-#[test]
-fn two_threads_with_lags_of_one(rt: HostRuntime) -> Result<(), Fail> {
-    let (board, mut hub) = Board::<Numbers>::new(rt.alloc(), &5, 2, &[(0, 1, 1, 1)])?;
-    let zero = hub.split(rt.alloc(), &board, 0)?;
-    let one = hub.split(rt.alloc(), &board, 1)?;
-    assert!(rt; is_lone(&board, &zero) && is_lone(&board, &one));
-    let (zero, one, are_right) = work_both(&rt, &board, zero, one);
-    assert!(rt; are_right && zero.done() == SECONDS && one.done() == SECONDS);
-    hub.join(&board, one);
-    hub.join(&board, zero);
-    board.close(hub);
-    Ok(())
-}
-
-#[test]
-fn two_threads_with_lags_of_10_and_20(rt: HostRuntime) -> Result<(), Fail> {
-    let (board, mut hub) = Board::<Numbers>::new(rt.alloc(), &5, 2, &[(0, 1, 10, 20)])?;
-    let zero = hub.split(rt.alloc(), &board, 0)?;
-    let one = hub.split(rt.alloc(), &board, 1)?;
-    assert!(rt; is_lone(&board, &zero) && is_lone(&board, &one));
-    assert!(rt; zero.lag(0) == 20 && one.lag(0) == 10);
-    let (zero, one, are_right) = work_both(&rt, &board, zero, one);
-    assert!(rt; are_right && zero.done() == SECONDS && one.done() == SECONDS);
-    hub.join(&board, one);
-    hub.join(&board, zero);
-    board.close(hub);
-    Ok(())
-}
-
-/// Does seconds until the neighbour is not ready or `most` are done, and gives their number.
-fn steps_ahead(board: &Board<Numbers>, port: &mut Port<Numbers>, most: u32) -> u32
-    requires board { IsTestBoard board.now }
-    requires port { IsLone board.now port.old }
-    requires most { most ≤ 1000 }
-    ensures { IsLone board.now port.new }
+    requires members { AreMembers board.now members.old }
+    ensures { AreMembers board.now members.new }
 {
     for _ in 0..most {
-        let done = port.done();
-        if done >= most {
-            break;
-        }
-        let _ = step(board, port);
-        if port.done() == done {
+        if !step(board, members, k) {
             break;
         }
     }
-    port.done()
 }
 
-// From the start a partition does as many seconds as the lag from its neighbour lets it, and then sees the word 0.
+/// Whether member `k` has done so many seconds, and this was the last parcel that it took.
+fn took(members: &[Member], k: usize, done: u32, last: u64) -> bool {
+    k < members.len() && members[k].port.done() == done && members[k].tally.last == last
+}
+
+/// What a member does, and what is so of it then.
+#[derive(Clone, Copy, Drop)]
+struct Act {
+    /// Which member it is.
+    member: usize,
+    /// The seconds that it does, unless it has to wait before.
+    most: u32,
+    /// The seconds that it has done then.
+    done: u32,
+    /// The last parcel that it has taken, 0 for none.
+    last: u64,
+    /// Where it has to wait, the seconds that it sees its neighbour to have published.
+    sees: Option<u32>,
+}
+
+/// The first seconds with lags of 1: partition 1 does one and has to wait for partition 0; then each does one, and one more.
+static FIRST_SECONDS: [Act; 4] = [
+    Act {
+        member: 1,
+        most: 100,
+        done: 1,
+        last: 0,
+        sees: Some(0),
+    },
+    Act {
+        member: 0,
+        most: 1,
+        done: 1,
+        last: 0,
+        sees: None,
+    },
+    Act {
+        member: 1,
+        most: 1,
+        done: 2,
+        last: 5_000_000,
+        sees: None,
+    },
+    Act {
+        member: 0,
+        most: 1,
+        done: 2,
+        last: 5_010_000,
+        sees: None,
+    },
+];
+
+/// With lags of 10 to partition 1 and 20 to partition 0: from the start each does as many seconds as the lag lets it, and has to wait; then
+/// each does one more.
+static AHEAD: [Act; 4] = [
+    Act {
+        member: 1,
+        most: 100,
+        done: 10,
+        last: 0,
+        sees: Some(0),
+    },
+    Act {
+        member: 0,
+        most: 100,
+        done: 30,
+        last: 5_010_009,
+        sees: Some(10),
+    },
+    Act {
+        member: 1,
+        most: 1,
+        done: 11,
+        last: 5_000_000,
+        sees: None,
+    },
+    Act {
+        member: 0,
+        most: 1,
+        done: 31,
+        last: 5_010_010,
+        sees: None,
+    },
+];
+
+/// Has a member act, and answers whether all is then so.
+fn acts(board: &Board<Numbers>, members: &mut [Member], act: Act) -> bool
+    requires board { IsTestBoard board.now }
+    requires members { AreMembers board.now members.old }
+    ensures { AreMembers board.now members.new }
+{
+    steps(board, members, act.member, act.most);
+    if !took(members, act.member, act.done, act.last) {
+        return false;
+    }
+    match act.sees {
+        None => true,
+        Some(seconds) => waits(board, members, act.member, seconds),
+    }
+}
+
+/// Whether the members begin as two partitions with these lags, and act so in turn.
+fn act_all(
+    board: &Board<Numbers>,
+    members: &mut [Member],
+    there: u32,
+    back: u32,
+    all: &[Act],
+) -> bool
+    requires board { IsTestBoard board.now }
+    requires members { AreMembers board.now members.old }
+    ensures { AreMembers board.now members.new }
+{
+    if !begins(board, members, 0, back) || !begins(board, members, 1, there) {
+        return false;
+    }
+    for act in all {
+        if !acts(board, members, *act) {
+            return false;
+        }
+    }
+    true
+}
+
+/// Two partitions with these lags, from partition 0 to 1 and back, which act so.
+fn two(alloc: Global, there: u32, back: u32, all: &[Act]) -> bool
+    requires there { (1 ≤ there) × (there ≤ 32) }
+    requires back { (1 ≤ back) × (back ≤ 32) }
+{
+    let Ok(mut trial) = new_trial(alloc, 2, &[(0, 1, there, back)]) else {
+        return false;
+    };
+    let are_right = act_all(&trial.board, trial.members.as_mut_slice(), there, back, all);
+    closes(trial) && are_right
+}
+
 #[test]
-fn lags_let_run_ahead(rt: HostRuntime) -> Result<(), Fail> {
-    let (board, mut hub) = Board::<Numbers>::new(rt.alloc(), &5, 2, &[(0, 1, 10, 20)])?;
-    let mut zero = hub.split(rt.alloc(), &board, 0)?;
-    let mut one = hub.split(rt.alloc(), &board, 1)?;
-    assert!(rt; is_lone(&board, &zero) && is_lone(&board, &one));
-    assert_eq!(rt; steps_ahead(&board, &mut one, 100), 10);
-    assert!(rt; matches!(one.look(&board, 0), Look::NotYet { published: 0 }));
-    assert_eq!(rt; steps_ahead(&board, &mut zero, 100), 30);
-    assert!(rt; matches!(zero.look(&board, 0), Look::NotYet { published: 10 }));
-    Ok(())
+fn first_two_seconds(rt: HostRuntime) {
+    assert!(rt; two(rt.alloc(), 1, 1, &FIRST_SECONDS));
+}
+
+#[test]
+fn lags_let_run_ahead(rt: HostRuntime) {
+    assert!(rt; two(rt.alloc(), 10, 20, &AHEAD));
+}
+
+#[test]
+fn two_threads_with_lags_of_one(rt: HostRuntime) {
+    assert!(rt; runs(&rt, rt.alloc(), 2, &[(0, 1, 1, 1)], 1, 1000));
+}
+
+#[test]
+fn two_threads_with_lags_of_10_and_20(rt: HostRuntime) {
+    assert!(rt; runs(&rt, rt.alloc(), 2, &[(0, 1, 10, 20)], 1, 1000));
 }

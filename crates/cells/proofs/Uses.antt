@@ -26,7 +26,7 @@ module _ {P : Type 0} where
   full_here l t (Put y) le u = absurd u
 
 module _ {T R P : Type 0} where
-  moved_unread : (old new : Port T R P) (j : ℕ) → SameSecond old new → handover new j ≡ handover old j → IsUnread old j → IsUnread new j
+  pub moved_unread : (old new : Port T R P) (j : ℕ) → SameSecond old new → handover new j ≡ handover old j → IsUnread old j → IsUnread new j
   moved_unread old new j s e u = subst (λ z. IsUnreadOf (lag_from new j) new.done z) (sym e)
       (subst (λ z. IsUnreadOf z new.done (handover old j)) (sym (ap (λ (z : List Border). (border_at z j).lag) s.borders))
       (subst (λ z. IsUnreadOf (lag_from old j) z (handover old j)) (sym s.done) u))

@@ -1,5 +1,5 @@
 use Rattle.cell_tests.specs.Members.{AreMembers}
-use Rattle.cell_tests.proofs.rings.turns.Given as goal
+use Rattle.cell_tests.proofs.two_partitions.steps.Given as goal
 
 abbrev pub invariant-loop : goal.invariant-loop
 invariant-loop l = AreMembers l.board l.members

@@ -40,14 +40,15 @@ persons_are : (T : TownRows) (chosen : List PlanRows) (k : ℕ) → length (setu
 unfolding setup_of
 persons_are T chosen k = refl
 
-follows : (S : ScenarioRows) → IsScenario S → FollowsPlans (first_day S)
+follows : (S : ScenarioRows) → IsScenario S → FollowsPlans S
 follows S valid =
     let chosen = chosen_valid S valid in
     let plans = first_plans S.plans in
     record {
+      everybody = persons_are S.town plans 0 ∙ chosen.each;
       sound = λ t. day_sound (first_day S) t (rows_sound S.town plans 0 valid.town chosen.plans);
       told = λ i less. rows_told S.town plans 0 i valid.town chosen.plans (subst (λ (n : ℕ). i < n) (persons_are S.town plans 0) less);
     }
 
-pub files_follow : (texts : Texts) → scenario_fault texts ≡ None → FollowsPlans (first_day (scenario_rows texts))
+pub files_follow : (texts : Texts) → scenario_fault texts ≡ None → FollowsPlans (scenario_rows texts)
 files_follow texts none = follows (scenario_rows texts) (scenario_valid texts none)

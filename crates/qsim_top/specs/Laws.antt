@@ -13,6 +13,8 @@ use Rattle.traffic.specs.Frames.{Ascends}
 use Rattle.traffic.specs.Worlds.{OnePlace, Storage, FlowKept, Sound}
 use Rattle.full_links.specs.Moves.{IsElsewhere, second_moves, KeepsRule}
 use Rattle.sound_days.specs.Planned.{IsToldAsPlanned}
+use Rattle.scenario.specs.Given.{ScenarioRows}
+use Rattle.qsim_top.specs.Answer.{first_day}
 
 -- The laws of a day: in every second each person is in exactly one place; no queue has more rows that were not pushed in than its storage;
 -- at the moment when a vehicle enters a queue there is room, or it is stuck and is pushed in; no more vehicles pass than the flow allows, and
@@ -28,8 +30,10 @@ pub record IsLawful (S : Setup) : Type 0 where
   pub order : Ascends (day S)
   pub in_time : All (λ (e : Event). e.key.second ≤ S.settings.end_second) (day S)
 
--- The laws of a day that is made from a town and plans that fit it: in every second each person and each vehicle fits the plans and the
--- timetable that it comes from; and what is told of a person comes as his plan has it, in at most eight events for each leg.
-pub record FollowsPlans (S : Setup) : Type 0 where
-  pub sound : (t : ℕ) → Sound S (world_at S t)
-  pub told : (i : ℕ) → i < length S.persons → IsToldAsPlanned S i
+-- The laws of the day of a scenario of which each plan fits the town: it has each person that the town names; in every second each person and
+-- each vehicle fits the plans and the timetable that it comes from; and what is told of a person comes as his plan has it, in at most eight
+-- events for each leg.
+pub record FollowsPlans (scenario : ScenarioRows) : Type 0 where
+  pub everybody : length (first_day scenario).persons ≡ length scenario.town.book.persons
+  pub sound : (t : ℕ) → Sound (first_day scenario) (world_at (first_day scenario) t)
+  pub told : (i : ℕ) → i < length (first_day scenario).persons → IsToldAsPlanned (first_day scenario) i

@@ -9,5 +9,5 @@ ghost use Rattle.qsim_top.specs.Laws.{IsLawful, FollowsPlans};
 /// Knows the laws of the day of every scenario, and of that of files without a fault. Does nothing.
 pub fn know_days()
     ensures lawful { (S : ScenarioRows) → IsLawful (first_day S) }
-    ensures planned { (texts : Texts) → scenario_fault texts ≡ None → FollowsPlans (first_day (scenario_rows texts)) }
+    ensures planned { (texts : Texts) → scenario_fault texts ≡ None → FollowsPlans (scenario_rows texts) }
 {}

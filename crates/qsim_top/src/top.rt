@@ -146,7 +146,7 @@ pub fn qsim<R: Threads + Wait + Sync, I: Inputs, O: Outputs, K: Keeper, G: Gate>
 
     // Of the day of every scenario, and of that of files without a fault.
     ensures lawful { (scenario : ScenarioRows) → IsLawful (first_day scenario) }
-    ensures planned { (texts : Texts) → scenario_fault texts ≡ None → FollowsPlans (first_day (scenario_rows texts)) }
+    ensures planned { (texts : Texts) → scenario_fault texts ≡ None → FollowsPlans (scenario_rows texts) }
 {
     know_days();
     match read_words(alloc, words) {

@@ -1,14 +1,8 @@
 //! The program: the files of the current folder, and standard output for the report.
 #![tactic(auto)]
 
-mod inputs;
-mod outputs;
-#[cfg(test)]
-mod tests;
-
 use edge_files::{NoKeeper, OpenGate};
-use inputs::FileInputs;
-use outputs::FileOutputs;
+use folder_files::{FileInputs, FileOutputs};
 use qsim_top::{Status, qsim};
 use std::alloc::{AllocError, Global};
 use std::env;

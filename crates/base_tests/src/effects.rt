@@ -1,7 +1,7 @@
 //! Effects, done in order up to the first that fails.
 
 use edge_files::{
-    Bytes, Effect, EffectList, EffectStop, KeepFail, Keeper, KeptRow, KeptRows, MemoryOutputs,
+    Bytes, Effect, EffectError, EffectList, KeepFail, Keeper, KeptRow, KeptRows, MemoryOutputs,
     OutFile, perform,
 };
 use std::alloc::{AllocError, Global};
@@ -98,7 +98,7 @@ fn ends_so(
     effects: &EffectList,
     failing: u64,
     refuses: Option<KeepFail>,
-    stop: Option<EffectStop>,
+    stop: Option<EffectError>,
     done: usize,
 ) -> bool {
     let mut outputs = MemoryOutputs::new(alloc);
@@ -114,12 +114,12 @@ fn ends_so(
 }
 
 /// The call of writing that fails or 0, what the keeper refuses with, what stops the effects, and how many of them are done.
-static CASES: [(u64, Option<KeepFail>, Option<EffectStop>, usize); 5] = [
+static CASES: [(u64, Option<KeepFail>, Option<EffectError>, usize); 5] = [
     (0, None, None, 3),
-    (1, None, Some(EffectStop::WriteFailed), 0),
-    (2, None, Some(EffectStop::WriteFailed), 2),
-    (0, Some(KeepFail::Failed), Some(EffectStop::KeepFailed), 1),
-    (0, Some(KeepFail::NoMemory), Some(EffectStop::NoMemory), 1),
+    (1, None, Some(EffectError::WriteFailed), 0),
+    (2, None, Some(EffectError::WriteFailed), 2),
+    (0, Some(KeepFail::Failed), Some(EffectError::KeepFailed), 1),
+    (0, Some(KeepFail::NoMemory), Some(EffectError::NoMemory), 1),
 ];
 
 /// The first of these cases that ends otherwise, or their number.

@@ -155,3 +155,6 @@ all_steps-append first second = flat_map-append steps_of first second
 
 pub has_save-append : (first second : List Effect) → has_save (first ++ second) ≡ (has_save first || has_save second)
 has_save-append first second = list_any-append is_save first second
+
+-- what is done of one effect
+pub ruleset effect_steps = (writes_does, writes_part_does, save_does, save_part_does)

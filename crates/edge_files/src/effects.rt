@@ -9,6 +9,7 @@ use crate::files::{Failed, OutFile};
 use crate::keeping::{KeepFail, Keeper, KeptRows};
 use crate::writing::{Outputs, write_whole};
 use std::marker::Model;
+use thiserror::Error;
 
 /// What a run does outside: it writes a text behind a file, or has an iteration's plans kept.
 #[derive(Drop)]
@@ -33,19 +34,22 @@ impl Model for EffectList {
 }
 
 /// Why effects were not done to their end.
-#[derive(Clone, Copy, Debug, PartialEq, Eq)]
-pub enum EffectStop {
+#[derive(Clone, Copy, Debug, PartialEq, Eq, Error)]
+pub enum EffectError {
+    #[error("a write failed")]
     WriteFailed,
+    #[error("the keeper failed")]
     KeepFailed,
+    #[error("no memory")]
     NoMemory,
 }
 
-#[tactic(auto, using(crate::proofs::Worlds::writes_does, crate::proofs::Worlds::writes_part_does, crate::proofs::Worlds::save_does, crate::proofs::Worlds::save_part_does))]
+#[tactic(auto, using(crate::proofs::Worlds::effect_steps))]
 fn perform_one<O: Outputs, K: Keeper>(
     outputs: &mut O,
     keeper: &mut K,
     effect: &Effect,
-) -> Result<(), EffectStop>
+) -> Result<(), EffectError>
     ensures done { OnOk result (Does (outside (O.written outputs.old) (K.kept keeper.old))
         (outside (O.written outputs.new) (K.kept keeper.new))
         (steps_of effect.now)) }
@@ -54,21 +58,21 @@ fn perform_one<O: Outputs, K: Keeper>(
         (steps_of effect.now)) }
     ensures write_later { O.faults outputs.old ≤ O.faults outputs.new }
     ensures keep_later { K.faults keeper.old ≤ K.faults keeper.new }
-    ensures write_failed { result ≡ Err EffectStop.WriteFailed → Rose (O.faults outputs.old) (O.faults outputs.new) }
-    ensures keep_failed { result ≡ Err EffectStop.KeepFailed → Rose (K.faults keeper.old) (K.faults keeper.new) }
-    ensures told { result ≡ Err EffectStop.WriteFailed → StaysTold (K.kept keeper.old) (K.kept keeper.new) }
+    ensures write_failed { result ≡ Err EffectError.WriteFailed → Rose (O.faults outputs.old) (O.faults outputs.new) }
+    ensures keep_failed { result ≡ Err EffectError.KeepFailed → Rose (K.faults keeper.old) (K.faults keeper.new) }
+    ensures told { result ≡ Err EffectError.WriteFailed → StaysTold (K.kept keeper.old) (K.kept keeper.new) }
     ensures untouched { is_save effect.now ≡ false → keeper.new ≡ keeper.old }
-    ensures only_write { is_save effect.now ≡ false → OnErr result (result ≡ Err EffectStop.WriteFailed) }
+    ensures only_write { is_save effect.now ≡ false → OnErr result (result ≡ Err EffectError.WriteFailed) }
 {
     match effect {
         Effect::Write { file, text } => match write_whole(outputs, *file, &text.rows) {
             Ok(()) => Ok(()),
-            Err(Failed) => Err(EffectStop::WriteFailed),
+            Err(Failed) => Err(EffectError::WriteFailed),
         },
         Effect::Save { iteration, rows } => match keeper.save(*iteration, &rows.rows) {
             Ok(()) => Ok(()),
-            Err(KeepFail::Failed) => Err(EffectStop::KeepFailed),
-            Err(KeepFail::NoMemory) => Err(EffectStop::NoMemory),
+            Err(KeepFail::Failed) => Err(EffectError::KeepFailed),
+            Err(KeepFail::NoMemory) => Err(EffectError::NoMemory),
         },
     }
 }
@@ -79,7 +83,7 @@ pub fn perform<O: Outputs, K: Keeper>(
     outputs: &mut O,
     keeper: &mut K,
     effects: &[Effect],
-) -> Result<(), EffectStop>
+) -> Result<(), EffectError>
     ensures done { OnOk result (Does (outside (O.written outputs.old) (K.kept keeper.old))
         (outside (O.written outputs.new) (K.kept keeper.new))
         (all_steps effects.now)) }
@@ -88,18 +92,18 @@ pub fn perform<O: Outputs, K: Keeper>(
         (all_steps effects.now)) }
     ensures write_later { O.faults outputs.old ≤ O.faults outputs.new }
     ensures keep_later { K.faults keeper.old ≤ K.faults keeper.new }
-    ensures write_failed { result ≡ Err EffectStop.WriteFailed → Rose (O.faults outputs.old) (O.faults outputs.new) }
-    ensures keep_failed { result ≡ Err EffectStop.KeepFailed → Rose (K.faults keeper.old) (K.faults keeper.new) }
+    ensures write_failed { result ≡ Err EffectError.WriteFailed → Rose (O.faults outputs.old) (O.faults outputs.new) }
+    ensures keep_failed { result ≡ Err EffectError.KeepFailed → Rose (K.faults keeper.old) (K.faults keeper.new) }
 
     // Only a keeper's refusal lets it stop telling.
-    ensures told { result ≡ Err EffectStop.WriteFailed → StaysTold (K.kept keeper.old) (K.kept keeper.new) }
+    ensures told { result ≡ Err EffectError.WriteFailed → StaysTold (K.kept keeper.old) (K.kept keeper.new) }
     ensures untouched { has_save effects.now ≡ false → keeper.new ≡ keeper.old }
-    ensures only_write { has_save effects.now ≡ false → OnErr result (result ≡ Err EffectStop.WriteFailed) }
+    ensures only_write { has_save effects.now ≡ false → OnErr result (result ≡ Err EffectError.WriteFailed) }
 {
     for effect in effects {
         match perform_one(outputs, keeper, effect) {
             Ok(()) => {}
-            Err(stop) => return Err(stop),
+            Err(error) => return Err(error),
         }
     }
     Ok(())

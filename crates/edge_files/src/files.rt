@@ -1,6 +1,9 @@
 ghost use Rattle.std.specs.Prelude.{◌≡◌, ◌<◌, option_copied};
 ghost use Rattle.edge_files.specs.Files.{in_file_name, out_file_name, in_place, out_place};
 
+use std::fmt;
+use thiserror::Error;
+
 /// The files that a run reads, in the order in which it reads them.
 #[derive(Clone, Copy, Debug, PartialEq, Eq)]
 pub enum InFile {
@@ -41,6 +44,12 @@ impl InFile {
     }
 }
 
+impl fmt::Display for InFile {
+    fn fmt<W: fmt::Write>(&self, f: &mut fmt::Formatter<W>) -> fmt::Result {
+        f.write_str(self.name())
+    }
+}
+
 /// The files that a run writes. The report is no file of the folder: it goes to standard output.
 #[derive(Clone, Copy, Debug, PartialEq, Eq)]
 pub enum OutFile {
@@ -74,5 +83,6 @@ impl OutFile {
 }
 
 /// A read or a write failed outside.
-#[derive(Clone, Copy, Debug, PartialEq, Eq)]
+#[derive(Clone, Copy, Debug, PartialEq, Eq, Error)]
+#[error("a read or a write failed")]
 pub struct Failed;

@@ -4,6 +4,7 @@ ghost use Rattle.edge_files.specs.Causes.{KeepHasCause};
 
 use crate::bytes::Bytes;
 use std::marker::Model;
+use thiserror::Error;
 
 /// A plan as it is kept: whose it is, its place among the person's plans, whether it is the chosen one,
 /// its score if it has one, and its text.
@@ -32,9 +33,11 @@ impl Model for KeptRows {
 }
 
 /// Why a keeper refused.
-#[derive(Clone, Copy, Debug, PartialEq, Eq)]
+#[derive(Clone, Copy, Debug, PartialEq, Eq, Error)]
 pub enum KeepFail {
+    #[error("the keeper failed")]
     Failed,
+    #[error("no memory")]
     NoMemory,
 }
 

@@ -15,7 +15,7 @@ mod reasons;
 mod writing;
 
 pub use bytes::Bytes;
-pub use effects::{Effect, EffectList, EffectStop, perform};
+pub use effects::{Effect, EffectError, EffectList, perform};
 pub use files::{Failed, InFile, OutFile};
 pub use gate::{Gate, OpenGate};
 pub use keeping::{KeepFail, Keeper, KeptRow, KeptRows, NoKeeper};

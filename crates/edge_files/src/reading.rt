@@ -7,6 +7,7 @@ ghost use Rattle.edge_files.specs.declared.files.InFile.{InFile};
 
 use crate::files::{Failed, InFile};
 use std::alloc::Global;
+use thiserror::Error;
 
 /// The files that a run reads, each from its front to its end.
 pub trait Inputs {
@@ -27,10 +28,13 @@ pub trait Inputs {
 }
 
 /// Why a file was not read whole.
-#[derive(Clone, Copy, Debug, PartialEq, Eq)]
+#[derive(Clone, Copy, Debug, PartialEq, Eq, Error)]
 pub enum ReadStop {
+    #[error("a read failed")]
     Failed,
+    #[error("the file has too many bytes")]
     TooLong,
+    #[error("no memory")]
     NoMemory,
 }
 

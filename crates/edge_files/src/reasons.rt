@@ -1,6 +1,9 @@
 ghost use Rattle.std.specs.Prelude.{◌≡◌};
 ghost use Rattle.edge_files.specs.Reasons.{reason_number, reason_name};
 
+use std::fmt;
+use thiserror::Error;
+
 /// Why a row is refused, in the order of the reasons' numbers.
 #[derive(Clone, Copy, Debug, PartialEq, Eq)]
 pub enum Reason {
@@ -36,7 +39,7 @@ pub enum Reason {
     KeyUnknown,
     /// A value of the settings is not of its form or not in its range.
     ValueBad,
-    /// A ride does not fit its activities' links or its line.
+    /// A transit leg does not fit its activities' links or its line.
     StopsWrong,
     /// The link is one too many into its end node.
     InLinks,
@@ -94,16 +97,25 @@ impl Reason {
     }
 }
 
+impl fmt::Display for Reason {
+    fn fmt<W: fmt::Write>(&self, f: &mut fmt::Formatter<W>) -> fmt::Result {
+        f.write_str(self.name())
+    }
+}
+
 /// A fault of a file: the row, where 0 is the header or the whole file, and what is wrong with it.
-#[derive(Clone, Copy, Debug, PartialEq, Eq)]
+#[derive(Clone, Copy, Debug, PartialEq, Eq, Error)]
+#[error("row {row}: {reason}")]
 pub struct RowFault {
     pub row: u32,
     pub reason: Reason,
 }
 
 /// Why a file's rows were not read.
-#[derive(Clone, Copy, Debug, PartialEq, Eq)]
+#[derive(Clone, Copy, Debug, PartialEq, Eq, Error)]
 pub enum RowStop {
+    #[error("{0}")]
     Fault(RowFault),
+    #[error("no memory")]
     NoMemory,
 }

@@ -1,5 +1,6 @@
 ghost use Rattle.std.specs.Prelude.{◌≡◌, ◌++◌, take, length, decimal, codes, OnOk, OnErr, Err};
-ghost use Rattle.events.specs.Lines.{name_text, vehicle_text, more_text, field_text, event_line, event_lines, IsNamed, IsVehicleNamed, IsMoreNamed, IsInBook, AreInBook};
+ghost use Rattle.events.specs.Lines.{name_text, vehicle_text, more_text, field_text, event_line, event_lines, IsNamed, IsVehicleNamed};
+ghost use Rattle.events.specs.Lines.{IsMoreNamed, IsInBook, AreInBook};
 
 use crate::event::{Book, Event, More, VehicleId};
 use crate::names::Names;

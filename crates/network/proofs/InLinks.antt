@@ -1,15 +1,17 @@
 -- How many links end at each node, as links are added.
-use Rattle.std.proofs.Common.{◌≡◌, ◌≢◌, ℕ, ◌+◌, ◌<◌, ◌≤◌, Bool, true, cond, ◌&&◌, List, [], ◌∷◌, ◌++◌, length, get_or, inl, inr, refl, sym, ◌∙◌, ap, arith, replicate}
+use Rattle.std.proofs.Common.{◌≡◌, ◌≢◌, ℕ, ◌+◌, ◌<◌, ◌≤◌, cond, List, [], ◌∷◌, ◌++◌, length, get_or, inl, inr, refl, sym, ◌∙◌, ap, arith, replicate}
 use Rattle.std.specs.Prelude.{nat_eq, slice_set as set, slice_index}
-use Rattle.std.specs.List.{list_all}
 use Rattle.std.proofs.lemmas.Bool.Decides.{nat_tests}
 use Rattle.std.proofs.lemmas.List.{get_or-set_same, get_or-set_other, get_or-replicate, length-set, length-replicate, get_or_default}
 use Rattle.std.proofs.lemmas.Bool.{cases_eq}
 use Rattle.std.proofs.lemmas.List.Sums.{sum_by-append}
-use Rattle.std.proofs.lemmas.List.Folds.{list_all-append}
+use Rattle.records.proofs.Numbering.{numbered_within}
 use Rattle.limits.specs.declared.TheConstants.{MAX_IN_LINKS}
 use Rattle.rows.specs.declared.network.LinkRow.{LinkRow}
-use Rattle.network.specs.Limits.{in_links, is_link}
+use Rattle.network.specs.Limits.{in_links}
+
+-- the number of a node is among those of the nodes
+pub ruleset known_nodes = (numbered_within)
 
 pub in_links-none : (node : ℕ) → in_links [] node ≡ 0
 unfolding in_links
@@ -32,9 +34,6 @@ counted_start nodes into links zeros none node within =
 
 pub few_start : (links : List LinkRow) → links ≡ [] → (node : ℕ) → in_links links node ≤ MAX_IN_LINKS
 few_start links none node = let zero_links = ap (λ (ls : List LinkRow). in_links ls node) none ∙ in_links-none node in omega (arith, zero_links)
-
-pub sound_start : (nodes : ℕ) (links : List LinkRow) → links ≡ [] → list_all (is_link nodes) links ≡ true
-sound_start nodes links none = ap (λ (ls : List LinkRow). list_all (is_link nodes) ls) none
 
 at_node : (here before x node to : ℕ) → here ≡ before + (0 + cond (nat_eq to node) 1 0) → node ≡ to → x ≡ before → x + 1 ≡ here
 at_node here before x node to more same is = grind (arith, nat_tests)
@@ -67,11 +66,3 @@ pub few_push : (links links' : List LinkRow) (link : LinkRow) → ((node : ℕ) 
 few_push links links' link few room pushed node =
     let grown = ap (λ (ls : List LinkRow). in_links ls node) pushed ∙ in_links-push links link node in
     not_many (in_links links' node) (in_links links node) node link.to grown (few node) (λ same. let there = ap (λ (n : ℕ). in_links links n) same in omega (arith, there))
-
-pub sound_push : (nodes nodes' : ℕ) (links links' : List LinkRow) (link : LinkRow) → nodes' ≡ nodes → list_all (is_link nodes) links ≡ true → is_link nodes link ≡ true → links' ≡ links ++ link ∷ [] → list_all (is_link nodes') links' ≡ true
-sound_push nodes nodes' links links' link same sound here pushed =
-    ap (λ (n : ℕ). list_all (is_link n) links') same ∙ ap (λ (ls : List LinkRow). list_all (is_link nodes) ls) pushed ∙ list_all-append (is_link nodes) links (link ∷ [])
-    ∙ both (list_all (is_link nodes) links) (is_link nodes link) sound here
-  where
-    both : (a b : Bool) → a ≡ true → b ≡ true → (a && (b && true)) ≡ true
-    both a b p q = grind arith

@@ -1,1 +1,2 @@
 pub mod InLinks
+pub mod Free

@@ -1,4 +1,4 @@
-ghost use Rattle.std.specs.Prelude.{◌≡◌, ◌≤◌, ◌<◌, ◌^◌, ℕ, length, map, true, None, Some, IfOk, OnOk, IfSome, if◌then◌else◌};
+ghost use Rattle.std.specs.Prelude.{◌≡◌, ◌≤◌, ◌<◌, ◌^◌, ℕ, length, map, true, None, Some, IfOk, OnOk, if◌then◌else◌};
 ghost use Rattle.std.specs.List.{list_all};
 ghost use Rattle.csv.specs.Records.{fields_of};
 ghost use Rattle.events.specs.Names.{number_of};
@@ -6,7 +6,7 @@ ghost use Rattle.records.specs.Fields.{field, holds_name, column};
 ghost use Rattle.records.specs.Faults.{unless, Answers};
 ghost use Rattle.records.specs.Files.{body_of};
 ghost use Rattle.records.specs.Reading.{body_fault};
-ghost use Rattle.network.specs.Limits.{is_link, in_links, are_measures};
+ghost use Rattle.network.specs.Limits.{is_link, in_links};
 ghost use Rattle.network.specs.Links.{link_reason, link_of, has_bad_measure, measures_of, links_fault, link_names};
 
 use crate::links_read::{LinksRead, no_links, with_link};
@@ -18,12 +18,11 @@ use limits::{MAX_CAPACITY, MAX_IN_LINKS, MAX_LANES, MAX_LENGTH, MAX_LINKS, MAX_S
 use records::{body, fault, field, holds_name, number_in, read_file};
 use rows::{LinkList, LinkRow};
 use std::alloc::Global;
+
 /// The numbers of a row, where each is one and in its range.
-#[tactic(auto, using(std::proofs::lemmas::Bool::Decides::nat_tests), unfolding(crate::specs::Links::has_bad_measure, crate::specs::Links::measures_of, crate::specs::Limits::are_measures))]
+#[tactic(auto, unfolding(crate::specs::Links::has_bad_measure, crate::specs::Links::measures_of))]
 fn measures_in(row: &ByteRecord) -> Option<Measures>
-    requires { length (fields_of row.now) ≡ 7 }
-    ensures measures { result ≡ (if has_bad_measure (fields_of row.now) then None else Some (measures_of (fields_of row.now))) }
-    ensures within { IfSome result (λ m. are_measures m.length m.speed m.capacity m.lanes ≡ true) }
+    ensures { result ≡ (if has_bad_measure (fields_of row.now) then None else Some (measures_of (fields_of row.now))) }
 {
     let Some(length) = number_in(field(row, 3), 1, MAX_LENGTH) else {
         return None;
@@ -46,16 +45,13 @@ fn measures_in(row: &ByteRecord) -> Option<Measures>
 }
 
 /// The link of a row, or the first reason against it.
-#[tactic(auto, using(records::proofs::Numbering::numbered_within, std::proofs::lemmas::Bool::Decides::nat_tests), unfolding(crate::specs::Links::link_reason, crate::specs::Links::link_of, crate::specs::Limits::is_link))]
+#[tactic(auto, using(crate::proofs::InLinks::known_nodes), unfolding(crate::specs::Links::link_reason, crate::specs::Links::link_of))]
 fn link_in(nodes: &Names, read: &LinksRead, row: &ByteRecord) -> Result<LinkRow, Reason>
     requires { length read.now.into.items ≡ length nodes.now }
     ensures link { result ≡ unless (link_reason nodes.now read.now.names read.now.links.items (fields_of row.now))
         (link_of nodes.now (fields_of row.now)) }
-    ensures fields { OnOk result (length (fields_of row.now) ≡ 7) }
     ensures name { OnOk result (holds_name (fields_of row.now) 0 ≡ true) }
     ensures fresh { OnOk result (number_of (field (fields_of row.now) 0) read.now.names ≡ None) }
-    ensures room { OnOk result (length read.now.names < MAX_LINKS) }
-    ensures sound { IfOk result (λ link. is_link (length nodes.now) link ≡ true) }
     ensures node { IfOk result (λ link. link.to < length nodes.now) }
     ensures few { IfOk result (λ link. in_links read.now.links.items link.to < MAX_IN_LINKS) }
 {
@@ -105,9 +101,7 @@ fn read_body(
         (map fields_of rows.now))
         (column 0 (map fields_of rows.now), map (link_of nodes.now) (map fields_of rows.now)) }
     ensures each { IfOk result (λ r. length r.0 ≡ length r.1) }
-    ensures few { IfOk result (λ r. length r.1 ≤ MAX_LINKS) }
     ensures few_in_links { IfOk result (λ r. (node : ℕ) → in_links r.1 node ≤ MAX_IN_LINKS) }
-    ensures sound { IfOk result (λ r. list_all (is_link (length nodes.now)) r.1 ≡ true) }
 {
     let Ok(mut read) = no_links(alloc, nodes.len()) else {
         return Err(RowStop::NoMemory);
@@ -137,8 +131,8 @@ pub fn read_links(alloc: Global, bytes: &[u8], nodes: &Names) -> Result<(Names, 
     ensures few_in_links { IfOk result (λ r. (node : ℕ) → in_links r.1 node ≤ MAX_IN_LINKS) }
     ensures sound { IfOk result (λ r. list_all (is_link (length nodes.now)) r.1 ≡ true) }
 {
-    let header = ["link", "from", "to", "length", "speed", "capacity", "lanes"];
-    match read_file(alloc, bytes, &header) {
+    let names = ["link", "from", "to", "length", "speed", "capacity", "lanes"];
+    match read_file(alloc, bytes, &names) {
         Ok(rows) => read_body(alloc, body(&rows), nodes),
         Err(stop) => Err(stop),
     }

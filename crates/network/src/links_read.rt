@@ -1,8 +1,7 @@
-ghost use Rattle.std.specs.Prelude.{◌≡◌, ◌≢◌, ◌≤◌, ◌<◌, ◌∷◌, ◌++◌, [], ℕ, length, true, IfOk, slice_index, replicate};
-ghost use Rattle.std.specs.List.{list_all};
+ghost use Rattle.std.specs.Prelude.{◌≡◌, ◌≤◌, ◌<◌, ◌∷◌, ◌++◌, [], ℕ, length, true, IfOk, slice_index, replicate};
 ghost use Rattle.limits.specs.declared.TheConstants.{MAX_IN_LINKS};
 ghost use Rattle.events.specs.Names.{is_name, with_name};
-ghost use Rattle.network.specs.Limits.{is_link, in_links};
+ghost use Rattle.network.specs.Limits.{in_links};
 
 use events::Names;
 use records::add_row;
@@ -17,7 +16,6 @@ pub struct LinksRead {
     pub into: Vec<u8>,
     pub ghost counted: { (node : ℕ) → node < length into.items → slice_index into.items node ≡ in_links links.items node },
     pub ghost few: { (node : ℕ) → in_links links.items node ≤ MAX_IN_LINKS },
-    pub ghost sound: { list_all (is_link (length into.items)) links.items ≡ true },
 }
 
 fn zeros(alloc: Global, count: u32) -> Result<Vec<u8>, AllocError>
@@ -48,7 +46,6 @@ pub fn with_link(
     link: LinkRow,
 ) -> Result<LinksRead, AllocError>
     requires name { is_name name.now ≡ true }
-    requires link { is_link (length read.into.items) link ≡ true }
     requires node { link.to < length read.into.items }
     requires room { in_links read.links.items link.to < MAX_IN_LINKS }
     ensures names { IfOk result (λ after. after.names ≡ with_name read.names name.now) }

@@ -38,10 +38,10 @@ link_of_rider i (r ∷ rs) = if nat_lt 0 (listed_in i r) then r.link else link_o
 -- that of the next activity while he flies
 abbrev pub link_at : Setup → World → ℕ → ℕ → Place → ℕ
 link_at S W i element (place.At end) = (act_at S i element).link
-link_at S W i element (place.Flying start) = (act_after S i element).link
+link_at S W i element (place.Teleporting start) = (act_after S i element).link
 link_at S W i element (place.Waiting stop since) = link_of_stop S stop
 link_at S W i element (place.Riding v) = link_of_rider i W.rows
-link_at S W i element (place.Gone l) = l
+link_at S W i element (place.Aborted l) = l
 
 abbrev pub owner_of_person : Setup → Owner → World → ℕ → ℕ
 owner_of_person S own W i = owner_of S own (link_at S W i (person_of i W).element (person_of i W).place)

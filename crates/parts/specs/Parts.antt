@@ -60,20 +60,20 @@ part S own p t W =
 abbrev pub moves_in : Setup → ℕ → List Phase → Phase → List Move
 moves_in S t before p = moves_of (turns_in S t p (through S t before (world_at S t)))
 
-abbrev pub node_turns : Setup → ℕ → List Move
-node_turns S t = moves_in S t (phase.A ∷ phase.B1 ∷ phase.B2 ∷ []) phase.C
+abbrev pub node_phase_moves : Setup → ℕ → List Move
+node_phase_moves S t = moves_in S t (phase.A ∷ phase.B1 ∷ phase.B2 ∷ []) phase.C
 
-abbrev pub link_turns : Setup → ℕ → List Move
-link_turns S t = moves_in S t (phase.A ∷ phase.B1 ∷ phase.B2 ∷ phase.C ∷ []) phase.D
+abbrev pub link_phase_moves : Setup → ℕ → List Move
+link_phase_moves S t = moves_in S t (phase.A ∷ phase.B1 ∷ phase.B2 ∷ phase.C ∷ []) phase.D
 
 -- the rows that a move puts into a queue of these links
 abbrev pub enters_queue : (ℕ → Bool) → Move → List Row
-enters_queue p (move.Put l s k was now) = if p now.link && on now.link Queue now then now ∷ [] else []
+enters_queue p (move.Transfer l s k was now) = if p now.link && on now.link Queue now then now ∷ [] else []
 enters_queue p _ = []
 
 -- how many places of the queue of link l a move leaves
 abbrev pub frees : ℕ → Move → ℕ
-frees l (move.Free a t) = if a == l then 1 else 0
+frees l (move.LeaveHole a t) = if a == l then 1 else 0
 frees l _ = 0
 
 abbrev pub freed : ℕ → List Move → ℕ
@@ -81,10 +81,10 @@ freed l ms = sum_by (frees l) ms
 
 -- what phase C of second t put into the queue of link l, and how many rows left that queue in phase D
 abbrev pub came : Setup → ℕ → ℕ → List Row
-came S l t = flat_map (enters_queue (λ m. m == l)) (node_turns S t)
+came S l t = flat_map (enters_queue (λ m. m == l)) (node_phase_moves S t)
 
 abbrev pub went : Setup → ℕ → ℕ → ℕ
-went S l t = freed l (link_turns S t)
+went S l t = freed l (link_phase_moves S t)
 
 -- the same of the last k seconds before t
 unfoldable pub came_last : Setup → ℕ → ℕ → ℕ → List Row
@@ -139,7 +139,7 @@ seconds_of_way _ = 0
 
 -- the flight of a person at this place, where it began in second t
 abbrev pub flight_at : Setup → ℕ → ℕ → ℕ → Place → List Flight
-flight_at S t i element (place.Flying start) =
+flight_at S t i element (place.Teleporting start) =
     if start == t then record { person = i; element = element; due = start + seconds_of_way (leg_at S i element) } ∷ [] else []
 flight_at S t i element _ = []
 
@@ -158,7 +158,7 @@ flight_from S own p q t W i =
 unfoldable pub out : Setup → Owner → ℕ → ℕ → ℕ → Parcel
 out S own p q t =
     record {
-      vehicles = map (passed (world_at S t)) (flat_map (enters_queue (leads S own p q)) (node_turns S t));
+      vehicles = map (passed (world_at S t)) (flat_map (enters_queue (leads S own p q)) (node_phase_moves S t));
       flights = flat_map (flight_from S own p q t (world_at S (suc t))) (below (length S.persons));
       freed = filter is_some_freed (map (λ l. record { link = l; rows = went S l t }) (filter (leads S own q p) (links_of S)));
     }
@@ -195,7 +195,7 @@ all_late S own k p t = flat_map (late_rows S own k t) (filter (λ l. owner_of S 
 -- last k seconds before t in another partition.
 abbrev pub is_late : Setup → Owner → (ℕ → ℕ → ℕ) → ℕ → ℕ → ℕ → ℕ → Place → Bool
 is_late S own k p t i element (place.Riding v) = rides_in i (all_late S own k p t)
-is_late S own k p t i element (place.Flying start) =
+is_late S own k p t i element (place.Teleporting start) =
     let q = flies_from S own i element in
     not (q == p) && nat_le t (start + k q p)
 is_late S own k p t i element _ = false

@@ -1,78 +1,75 @@
--- What a node does depends only on the exits to which the rows in the buffers lead.
-use Rattle.std.proofs.Common.{◌≡◌, ℕ, zero, suc, ◌+◌, ◌*◌, ◌<◌, Bool, List, [], ◌∷◌, ◌++◌, length, refl, ap, ◌∙◌, inl, inr, eqb, get_or}
-use Rattle.std.specs.Prelude.{filter, map, not, Option, if◌then◌else◌}
-use Rattle.std.proofs.lemmas.Bool.{cases_Bool}
+-- What a node does depends only on the out-links to which the rows in the buffers lead.
+use Rattle.traffic.proofs.Common.{◌≡◌, ℕ, List, ◌∙◌, length, ap, refl, [], ◌∷◌, ◌<◌, ◌++◌, ◌+◌, Bool, inl, inr, suc, eqb, zero, get_or, ◌*◌, cases_Bool, map}
+use Rattle.traffic.proofs.Common.{filter, not, Option, if◌then◌else◌, Stuck, without_at, is_nil, with_one_more, since_of, pass_node_all, drawn, no_in_link}
+use Rattle.traffic.proofs.Common.{red, candidates, next_link, ready, node_moves, draw, one_more, pass_node, mark, out_links_after}
 use Rattle.traffic.specs.declared.moves.Move.{Move}
-use Rattle.traffic.specs.declared.moves.Move.TheVariants.{Put, Gone, New, Mark, Credit, Free, Tell}
-use Rattle.rows.specs.declared.settings.Stuck.{Stuck}
-use Rattle.traffic.specs.declared.sight.Entry.{Entry}
-use Rattle.traffic.specs.declared.sight.Exit.{Exit}
+use Rattle.traffic.specs.declared.moves.Move.TheVariants.{Transfer, Remove, Enter, SetFrontSince, Credit, LeaveHole, Report}
+use Rattle.traffic.specs.declared.node_views.InLink.{InLink}
+use Rattle.traffic.specs.declared.node_views.OutLink.{OutLink}
 use Rattle.traffic.specs.declared.world.Row.{Row}
-use Rattle.traffic.specs.Lists.{is_nil, without_at}
-use Rattle.traffic.specs.Nodes.{next_link, one_more, with_one_more, hand, since_of, hand_all, exits_after, drawn, no_entry, draw, ready, red, candidates, mark, node_moves}
 use Rattle.plain_day.proofs.Fitting.{GoWithin}
 
--- two nodes' exits are the same for so many links
-abbrev pub Agree : ℕ → (ℕ → Option Exit) → (ℕ → Option Exit) → Type 0
+-- two nodes' out-links are the same for so many links
+abbrev pub Agree : ℕ → (ℕ → Option OutLink) → (ℕ → Option OutLink) → Type 0
 Agree links e f = (m : ℕ) → m < links → e m ≡ f m
 
-agree_more : (links m : ℕ) (e f : ℕ → Option Exit) → Agree links e f → Agree links (one_more m e) (one_more m f)
+agree_more : (links m : ℕ) (e f : ℕ → Option OutLink) → Agree links e f → Agree links (one_more m e) (one_more m f)
 unfolding one_more
-agree_more links m e f h l b = ap (λ (x : Option Exit). if eqb l m then with_one_more x else x) (h l b)
+agree_more links m e f h l b = ap (λ (x : Option OutLink). if eqb l m then with_one_more x else x) (h l b)
 
-agree_after : (links : ℕ) (ms : List Move) (e f : ℕ → Option Exit) → Agree links e f → Agree links (exits_after ms e) (exits_after ms f)
+agree_after : (links : ℕ) (ms : List Move) (e f : ℕ → Option OutLink) → Agree links e f → Agree links (out_links_after ms e) (out_links_after ms f)
 agree_after links [] e f h = h
-agree_after links (Put l s k was now ∷ ms) e f h = agree_after links ms (one_more now.link e) (one_more now.link f) (agree_more links now.link e f h)
-agree_after links (Gone l s k was ∷ ms) e f h = agree_after links ms e f h
-agree_after links (New now ∷ ms) e f h = agree_after links ms e f h
-agree_after links (Mark l t ∷ ms) e f h = agree_after links ms e f h
+agree_after links (Transfer l s k was now ∷ ms) e f h = agree_after links ms (one_more now.link e) (one_more now.link f) (agree_more links now.link e f h)
+agree_after links (Remove l s k was ∷ ms) e f h = agree_after links ms e f h
+agree_after links (Enter now ∷ ms) e f h = agree_after links ms e f h
+agree_after links (SetFrontSince l t ∷ ms) e f h = agree_after links ms e f h
 agree_after links (Credit l c ∷ ms) e f h = agree_after links ms e f h
-agree_after links (Free l t ∷ ms) e f h = agree_after links ms e f h
-agree_after links (Tell says ∷ ms) e f h = agree_after links ms e f h
+agree_after links (LeaveHole l t ∷ ms) e f h = agree_after links ms e f h
+agree_after links (Report says ∷ ms) e f h = agree_after links ms e f h
 
-hand_same : (links : ℕ) (K : Stuck) (t a : ℕ) (e f : ℕ → Option Exit) (since : ℕ) (rows : List Row) → Agree links e f → GoWithin links rows → hand K t a e since rows ≡ hand K t a f since rows
-unfolding hand
-hand_same links K t a e f since [] h g = refl
-hand_same links K t a e f since (r ∷ rs) h g =
+pass_node_same : (links : ℕ) (K : Stuck) (t a : ℕ) (e f : ℕ → Option OutLink) (since : ℕ) (rows : List Row) → Agree links e f → GoWithin links rows → pass_node K t a e since rows ≡ pass_node K t a f since rows
+unfolding pass_node
+pass_node_same links K t a e f since [] h g = refl
+pass_node_same links K t a e f since (r ∷ rs) h g =
     let m = next_link r.vehicle in
     let q : e m ≡ f m = h m g.0 in
-    let i = hand_same links K t a (one_more m e) (one_more m f) t rs (agree_more links m e f h) g.1 in
-    let j = hand_same links K t a e f t rs h g.1 in
+    let i = pass_node_same links K t a (one_more m e) (one_more m f) t rs (agree_more links m e f h) g.1 in
+    let j = pass_node_same links K t a e f t rs h g.1 in
     rw (q, i, j) refl
 
-abbrev pub AllGo : ℕ → List Entry → Type 0
+abbrev pub AllGo : ℕ → List InLink → Type 0
 AllGo links [] = Unit {0}
 AllGo links (e ∷ es) = GoWithin links e.rows × AllGo links es
 
-go_at : (links k : ℕ) (es : List Entry) → AllGo links es → GoWithin links (get_or es k no_entry).rows
+go_at : (links k : ℕ) (es : List InLink) → AllGo links es → GoWithin links (get_or es k no_in_link).rows
 go_at links k [] h = tt
 go_at links zero (e ∷ es) h = h.0
 go_at links (suc k) (e ∷ es) h = go_at links k es h.1
 
-go_without : (links k : ℕ) (es : List Entry) → AllGo links es → AllGo links (without_at k es)
+go_without : (links k : ℕ) (es : List InLink) → AllGo links es → AllGo links (without_at k es)
 go_without links k [] h = tt
 go_without links zero (e ∷ es) h = h.1
 go_without links (suc k) (e ∷ es) h = (h.0, go_without links k es h.1)
 
-go_filter : (links : ℕ) (p : Entry → Bool) (es : List Entry) → AllGo links es → AllGo links (filter p es)
+go_filter : (links : ℕ) (p : InLink → Bool) (es : List InLink) → AllGo links es → AllGo links (filter p es)
 go_filter links p [] h = tt
 go_filter links p (e ∷ es) h = elim (cases_Bool (p e)) [ inl q ↦ simp q (h.0, go_filter links p es h.1) | inr q ↦ simp q (go_filter links p es h.1) ]
 
-draw_same : (links : ℕ) (K : Stuck) (t : ℕ) (word : ℕ → ℕ) (left j : ℕ) (es : List Entry) (e f : ℕ → Option Exit) → Agree links e f → AllGo links es →
+draw_same : (links : ℕ) (K : Stuck) (t : ℕ) (word : ℕ → ℕ) (left j : ℕ) (es : List InLink) (e f : ℕ → Option OutLink) → Agree links e f → AllGo links es →
     draw K t word left j es e ≡ draw K t word left j es f
 unfolding draw
 draw_same links K t word zero j es e f h g = refl
 draw_same links K t word (suc left) j es e f h g =
     let k = drawn es (word (16 * t + j)) in
-    let x = get_or es k no_entry in
-    let q : hand_all K t e x ≡ hand_all K t f x = hand_same links K t x.link e f (since_of x.rows) x.rows h (go_at links k es g) in
-    let i : draw K t word left (j + 1) (without_at k es) (exits_after (hand_all K t f x) e) ≡ draw K t word left (j + 1) (without_at k es) (exits_after (hand_all K t f x) f)
-    = draw_same links K t word left (j + 1) (without_at k es) (exits_after (hand_all K t f x) e) (exits_after (hand_all K t f x) f) (agree_after links (hand_all K t f x) e f h) (go_without links k es g) in
-    ap (λ (ms : List Move). ms ++ draw K t word left (j + 1) (without_at k es) (exits_after ms e)) q ∙ ap (λ (ms : List Move). hand_all K t f x ++ ms) i
+    let x = get_or es k no_in_link in
+    let q : pass_node_all K t e x ≡ pass_node_all K t f x = pass_node_same links K t x.link e f (since_of x.rows) x.rows h (go_at links k es g) in
+    let i : draw K t word left (j + 1) (without_at k es) (out_links_after (pass_node_all K t f x) e) ≡ draw K t word left (j + 1) (without_at k es) (out_links_after (pass_node_all K t f x) f)
+    = draw_same links K t word left (j + 1) (without_at k es) (out_links_after (pass_node_all K t f x) e) (out_links_after (pass_node_all K t f x) f) (agree_after links (pass_node_all K t f x) e f h) (go_without links k es g) in
+    ap (λ (ms : List Move). ms ++ draw K t word left (j + 1) (without_at k es) (out_links_after ms e)) q ∙ ap (λ (ms : List Move). pass_node_all K t f x ++ ms) i
 
-pub node_same : (links : ℕ) (K : Stuck) (t : ℕ) (word : ℕ → ℕ) (es : List Entry) (e f : ℕ → Option Exit) → Agree links e f → AllGo links es →
-    node_moves K t word (record { entries = es; exits = e }) ≡ node_moves K t word (record { entries = es; exits = f })
+pub node_same : (links : ℕ) (K : Stuck) (t : ℕ) (word : ℕ → ℕ) (es : List InLink) (e f : ℕ → Option OutLink) → Agree links e f → AllGo links es →
+    node_moves K t word (record { in_links = es; out_links = e }) ≡ node_moves K t word (record { in_links = es; out_links = f })
 unfolding node_moves
 node_same links K t word es e f h g =
-    let go = go_filter links (λ (x : Entry). x.green) (ready es) (go_filter links (λ (x : Entry). not (is_nil x.rows)) es g) in
+    let go = go_filter links (λ (x : InLink). x.green) (ready es) (go_filter links (λ (x : InLink). not (is_nil x.rows)) es g) in
     ap (λ (ms : List Move). map (mark t) (red es) ++ ms) (draw_same links K t word (length (candidates es)) 0 (candidates es) e f h go)

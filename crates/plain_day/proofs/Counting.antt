@@ -1,8 +1,6 @@
 -- Loops over the numbers of links and persons.
-use Rattle.std.proofs.Common.{◌≡◌, ℕ, suc, ◌+◌, ◌-◌, ◌<◌, ◌≤◌, Bool, true, false, List, [], ◌∷◌, ◌++◌, refl, ap, sym, ◌∙◌, arith, append_assoc, append-nil}
-use Rattle.std.specs.Prelude.{map, filter}
-use Rattle.std.specs.List.{flat_map}
-use Rattle.traffic.specs.Lists.{numbers}
+use Rattle.traffic.proofs.Common.{◌≡◌, ℕ, List, ◌∙◌, ap, refl, sym, [], ◌∷◌, arith, ◌<◌, true, ◌++◌, ◌+◌, Bool, ◌≤◌, false, suc, ◌-◌, append-nil}
+use Rattle.traffic.proofs.Common.{append_assoc, flat_map, map, filter, numbers}
 
 -- the numbers from k to n begin with k
 pub numbers-first : (k n : ℕ) → k < n → numbers k (n - k) ≡ k ∷ numbers (k + 1) (n - (k + 1))

@@ -1,27 +1,18 @@
 -- How a day begins and ends.
-use Rattle.std.proofs.Common.{◌≡◌, ◌<◌, ◌≤◌, ℕ, List, [], ◌++◌, length, map, refl, sym, ◌∙◌, ap, subst, arith}
-use Rattle.std.specs.List.{All, flat_map}
-use Rattle.std.proofs.lemmas.List.{length-map}
-use Rattle.std.proofs.lemmas.List.Elements.{All-from_recursion}
-use Rattle.events.specs.declared.event.Event.{Event}
+use Rattle.traffic.proofs.Common.{◌≡◌, ℕ, List, ◌∙◌, length, ap, refl, sym, [], arith, ◌<◌, ◌++◌, subst, ◌≤◌, length-map, All-from_recursion, flat_map, map}
+use Rattle.traffic.proofs.Common.{phase_code, Event, plan_rows, Plan, world_start, keyed, world_from, events_from, day, end_events, below, stranded, World}
+use Rattle.traffic.proofs.Common.{Setup}
+use Rattle.std.specs.List.{All}
 use Rattle.events.specs.declared.event.Phase.TheVariants as phase
-use Rattle.events.specs.Keys.{phase_code}
 use Rattle.events.specs.Lines.{AreInBook}
-use Rattle.rows.specs.declared.plan.Plan.{Plan}
-use Rattle.rows.specs.PlanRows.{plan_rows}
 use Rattle.town.specs.declared.day_input.DayInput.{DayInput}
 use Rattle.town.specs.Setups.{setup_of}
 use Rattle.town.specs.Views.{setup}
-use Rattle.traffic.specs.Rows.{World}
-use Rattle.traffic.specs.Lists.{below}
-use Rattle.traffic.specs.Setup.{Setup}
-use Rattle.traffic.specs.Persons.{stranded}
-use Rattle.traffic.specs.Day.{world_start, world_from, events_from, keyed, end_events, day}
-use Rattle.fit_days.specs.Rows.{IsFitWorld}
-use Rattle.fit_days.specs.Setups.{counts_in}
-use Rattle.fit_days.proofs.Towns.{town_fit, book_of}
-use Rattle.fit_days.proofs.Seconds.{start_fit, day_named}
-use Rattle.fit_days.proofs.Naming.{Named}
+use Rattle.law_in_range.specs.Rows.{IsFitWorld}
+use Rattle.law_in_range.specs.Setups.{counts_in}
+use Rattle.law_in_range.proofs.Towns.{town_fit, book_of}
+use Rattle.law_in_range.proofs.Seconds.{start_fit, day_named}
+use Rattle.law_in_range.proofs.Naming.{Named}
 use Rattle.plain_day.specs.Plans.{HaveFittingPlans}
 use Rattle.plain_day.proofs.Fitness.{plans_fit}
 

@@ -1,22 +1,13 @@
 -- Departures in the setup of a day.
-use Rattle.std.proofs.Common.{◌≡◌, ℕ, zero, suc, ◌<◌, ◌≢◌, true, List, [], ◌∷◌, length, get_or, refl, ap, sym, ◌∙◌, arith}
-use Rattle.std.specs.Prelude.{nat_lt}
-use Rattle.std.specs.List.{list_all}
-use Rattle.std.proofs.lemmas.List.{get_or-map}
-use Rattle.std.proofs.lemmas.Bool.{and_parts, eq-eqb}
-use Rattle.std.proofs.lemmas.Bool.Decides.{nat_tests}
-use Rattle.rows.specs.declared.schedule.RouteRow.{RouteRow}
-use Rattle.rows.specs.declared.schedule.DepartureRow.{DepartureRow}
-use Rattle.rows.specs.declared.schedule.StopRow.{StopRow}
+use Rattle.traffic.proofs.Common.{◌≡◌, ℕ, List, ◌∙◌, length, ap, refl, sym, [], ◌∷◌, arith, ◌<◌, true, suc, zero, get_or, ◌≢◌, and_parts, eq-eqb, nat_tests}
+use Rattle.traffic.proofs.Common.{get_or-map, list_all, nat_lt, DepartureRow, RouteRow, StopRow, departure_moves, transit_vehicle, departure, Departure}
+use Rattle.traffic.specs.declared.moves.Move.TheVariants.{Enter}
+use Rattle.traffic.specs.declared.world.Row.{Row}
 use Rattle.schedule.specs.Departures.{is_departure}
 use Rattle.schedule.specs.Routes.{is_way, are_drivable, is_route}
 use Rattle.town.specs.declared.day_input.DayInput.{DayInput}
 use Rattle.town.specs.Setups.{setup_of, on_route, departure_of, route_at}
 use Rattle.town.specs.Views.{setup}
-use Rattle.traffic.specs.declared.moves.Move.TheVariants.{New}
-use Rattle.traffic.specs.declared.world.Row.{Row}
-use Rattle.traffic.specs.Setup.{departure, Departure}
-use Rattle.traffic.specs.Persons.{transit_vehicle, departure_moves}
 use Rattle.traffic.proofs.Idle.{departure_idle}
 use Rattle.plain_day.proofs.Numbers.{there, passes_at, same_at}
 
@@ -44,12 +35,12 @@ unfolding setup_of
 departure_at day d row h e = get_or-map (departure_of day.town.now.routes.rows) day.town.now.departures.rows d row _ h ∙ ap (departure_of day.town.now.routes.rows) (sym e)
 
 pub departs_now : (day : DayInput) (t d : ℕ) (row : DepartureRow) (now : Row) → d < length day.town.now.departures.rows → row ≡ get_or day.town.now.departures.rows d row → row.second ≡ t →
-    now ≡ transit_vehicle d (departure_of day.town.now.routes.rows row) → New now ∷ [] ≡ departure_moves (setup day) t d
+    now ≡ transit_vehicle d (departure_of day.town.now.routes.rows row) → Enter now ∷ [] ≡ departure_moves (setup day) t d
 unfolding departure_moves
 departs_now day t d row now h e s v =
     let q = departure_at day d row h e in
     let a = eq-eqb row.second t s in
-    ap (λ (x : Row). New x ∷ []) v ∙ (rw (q, a) refl)
+    ap (λ (x : Row). Enter x ∷ []) v ∙ (rw (q, a) refl)
 
 pub departs_later : (day : DayInput) (t d : ℕ) (row : DepartureRow) → d < length day.town.now.departures.rows → row ≡ get_or day.town.now.departures.rows d row → row.second ≢ t →
     departure_moves (setup day) t d ≡ []

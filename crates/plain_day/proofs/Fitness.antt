@@ -1,43 +1,33 @@
 -- What a fit world gives the turns, and that a turn keeps it fit.
-use Rattle.std.proofs.Common.{◌≡◌, ◌<◌, ◌≤◌, ◌+◌, ◌/◌, ℕ, List, [], ◌∷◌, length, map, get_or, Bool, true, Option, None, Some, refl, sym, ◌∙◌, ap, subst, arith}
-use Rattle.std.specs.List.{All, list_all}
-use Rattle.std.proofs.lemmas.List.{length-map}
-use Rattle.std.proofs.lemmas.List.Elements.{All-from_recursion, recursion_from_All}
+use Rattle.traffic.proofs.Common.{◌≡◌, ℕ, List, ◌∙◌, length, ap, refl, sym, [], ◌∷◌, arith, ◌<◌, true, ◌+◌, Bool, subst, ◌≤◌, get_or, ◌/◌, length-map}
+use Rattle.traffic.proofs.Common.{All-from_recursion, recursion_from_All, list_all, map, Some, None, Option, Phase, plan_rows, Leg, Plan, turns_of, count_of}
+use Rattle.traffic.proofs.Common.{run, next_link, World, person_of, person_plan, VehicleState}
+use Rattle.traffic.specs.declared.stage.Stage.{Stage}
+use Rattle.traffic.specs.declared.stage.Stage.TheVariants.{Queue, Buffer, Wait, Bay}
+use Rattle.traffic.specs.declared.world.Person.{Person}
+use Rattle.traffic.specs.declared.world.Place.{Place}
+use Rattle.traffic.specs.declared.world.Place.TheVariants.{At, Teleporting, Waiting, Riding, Aborted}
+use Rattle.traffic.specs.declared.world.Row.{Row}
+use Rattle.std.specs.List.{All}
 use Rattle.std.proofs.lemmas.List.Folds.{list_all-map}
-use Rattle.events.specs.declared.event.Phase.{Phase}
 use Rattle.events.specs.declared.event.Phase.TheVariants as phase
-use Rattle.rows.specs.declared.plan.Plan.{Plan}
-use Rattle.rows.specs.PlanRows.{plan_rows}
 use Rattle.town.specs.declared.day_input.DayInput.{DayInput}
 use Rattle.town.specs.Rows.{TownRows}
 use Rattle.town.specs.Fits.{fits}
 use Rattle.town.specs.Setups.{setup_of}
-use Rattle.town.specs.Views.{rows_of, setup}
-use Rattle.traffic.specs.declared.stage.Stage.{Stage}
-use Rattle.traffic.specs.declared.stage.Stage.TheVariants.{Queue, Buffer, Wait, Bay}
-use Rattle.traffic.specs.declared.world.Row.{Row}
-use Rattle.traffic.specs.declared.world.Place.{Place}
-use Rattle.traffic.specs.declared.world.Place.TheVariants.{At, Flying, Waiting, Riding, Gone}
-use Rattle.traffic.specs.declared.world.Person.{Person}
-use Rattle.traffic.specs.Vehicles.{VehicleState}
-use Rattle.traffic.specs.Rows.{World, person_of}
-use Rattle.rows.specs.declared.plan.Leg.{Leg}
-use Rattle.traffic.specs.Setup.{person_plan}
-use Rattle.traffic.specs.Nodes.{next_link}
-use Rattle.traffic.specs.Moves.{run}
-use Rattle.traffic.specs.Day.{plan_of, count_of}
-use Rattle.fit_days.specs.Rows.{Counts, IsFitVehicle, IsFitRow, IsFitPlace, IsFitWorld}
-use Rattle.fit_days.specs.Setups.{counts_in}
-use Rattle.fit_days.proofs.Lists.{each_tested}
-use Rattle.fit_days.proofs.Sizes.{call_offset, buffer_next, buffer_next_link}
-use Rattle.fit_days.proofs.Towns.{town_fit}
-use Rattle.fit_days.proofs.Seconds.{turn_fit}
-use Rattle.fit_days.proofs.Kept.{run_fit}
+use Rattle.town.specs.Views.{rows_of, setup, ChosenFit}
+use Rattle.law_in_range.specs.Rows.{Counts, IsFitVehicle, IsFitRow, IsFitPlace, IsFitWorld}
+use Rattle.law_in_range.specs.Setups.{counts_in}
+use Rattle.law_in_range.proofs.Lists.{each_tested}
+use Rattle.law_in_range.proofs.Sizes.{call_offset, buffer_next, buffer_next_link}
+use Rattle.law_in_range.proofs.Towns.{town_fit}
+use Rattle.law_in_range.proofs.Seconds.{turn_fit}
+use Rattle.law_in_range.proofs.Kept.{run_fit}
 use Rattle.plain_turns.specs.Limits.{IsSmall}
 use Rattle.plain_day.specs.Fit.{GoesOn, IsFit, AreFit, HasLegAfter, CanLeave}
 use Rattle.plain_day.specs.Plans.{HaveFittingPlans}
 
-pub plans_fit : (day : DayInput) → HaveFittingPlans day → All (λ (p : Plan). fits (rows_of day.town.now) (plan_rows p) ≡ true) day.chosen.now
+pub plans_fit : (day : DayInput) → HaveFittingPlans day → ChosenFit day
 plans_fit day given =
     let test : Plan → Bool = λ p. fits (rows_of day.town.now) (plan_rows p) in
     let P : Plan → Type 0 = λ p. fits (rows_of day.town.now) (plan_rows p) ≡ true in
@@ -79,10 +69,10 @@ one_each day W h = h.one_each ∙ length-map day.chosen.now plan_rows
 leg_after : (z : Counts) (i element : ℕ) (legs : List Leg) (place : Place) → z.legs i ≡ length legs → IsFitPlace z i element place → HasLegAfter legs element place
 leg_after z i element legs (At None) e h = tt
 leg_after z i element legs (At (Some end)) e h = subst (λ (n : ℕ). element / 2 < n) e h
-leg_after z i element legs (Flying start) e h = tt
+leg_after z i element legs (Teleporting start) e h = tt
 leg_after z i element legs (Waiting stop since) e h = tt
 leg_after z i element legs (Riding vehicle) e h = tt
-leg_after z i element legs (Gone link) e h = tt
+leg_after z i element legs (Aborted link) e h = tt
 
 legs_are : (day : DayInput) (i : ℕ) → (counts_in day).legs i ≡ length (person_plan (setup day) i).legs
 unfolding setup_of
@@ -99,9 +89,9 @@ in_departures : (day : DayInput) → count_of (setup day) phase.B2 ≡ length da
 unfolding setup_of
 in_departures day = length-map day.town.now.departures.rows _
 
-in_links : (day : DayInput) → count_of (setup day) phase.D ≡ length day.town.now.network.links
+count_links : (day : DayInput) → count_of (setup day) phase.D ≡ length day.town.now.network.links
 unfolding setup_of
-in_links day = refl
+count_links day = refl
 
 -- who has a turn in a phase is there
 there : (n count some : ℕ) → count ≡ some → n < count → n < some
@@ -117,15 +107,15 @@ pub departs_there : (day : DayInput) (n : ℕ) (p : Phase) → p ≡ phase.B2 �
 departs_there day n p e h = there n _ _ (ap (count_of (setup day)) e ∙ in_departures day) h
 
 pub link_there : (day : DayInput) (n : ℕ) (p : Phase) → p ≡ phase.D → n < count_of (setup day) p → n < length day.town.now.network.links
-link_there day n p e h = there n _ _ (ap (count_of (setup day)) e ∙ in_links day) h
+link_there day n p e h = there n _ _ (ap (count_of (setup day)) e ∙ count_links day) h
 
 pub person_there : (day : DayInput) (W : World) (n : ℕ) → IsFitWorld (counts_in day) W → n < length day.chosen.now → n < length W.persons
 person_there day W n h lt = there n _ _ (sym (one_each day W h)) lt
 
 pub turn_keeps_fit : (day : DayInput) (t n : ℕ) (p : Phase) (W next : World) → HaveFittingPlans day → IsFitWorld (counts_in day) W
-    → n < count_of (setup day) p → next ≡ run (setup day) t (plan_of (setup day) t p n W) W → IsFitWorld (counts_in day) next
+    → n < count_of (setup day) p → next ≡ run (setup day) t (turns_of (setup day) t p n W) W → IsFitWorld (counts_in day) next
 turn_keeps_fit day t n p W next given fit there e =
     let S = setup day in
     let z = counts_in day in
     let f = town_fit day (plans_fit day given) in
-    subst (IsFitWorld z) (sym e) (run_fit z S t (plan_of S t p n W) W f fit (turn_fit z S t n p W f fit there))
+    subst (IsFitWorld z) (sym e) (run_fit z S t (turns_of S t p n W) W f fit (turn_fit z S t n p W f fit there))

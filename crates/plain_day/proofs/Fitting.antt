@@ -1,20 +1,14 @@
 -- Rows that are fit, by link and stage.
-use Rattle.std.proofs.Common.{◌≡◌, ℕ, ◌<◌, ◌≤◌, true, List, [], ◌∷◌, ◌++◌, inl, inr}
-use Rattle.std.specs.Prelude.{All, filter, ◌==◌, ◌&&◌}
-use Rattle.std.proofs.lemmas.Bool.{cases_Bool}
-use Rattle.std.proofs.lemmas.List.Elements.{All-head, All-tail}
-use Rattle.limits.specs.declared.TheConstants.{MAX_LENGTH}
+use Rattle.traffic.proofs.Common.{◌≡◌, ℕ, List, [], ◌∷◌, ◌<◌, true, ◌++◌, inl, inr, ◌≤◌, cases_Bool, All-head, All-tail, filter, ◌&&◌, All, ◌==◌, link_state}
+use Rattle.traffic.proofs.Common.{LinkState, next_link, World, on, rank, VehicleState}
+use Rattle.traffic.specs.declared.node_views.InLink.{InLink}
 use Rattle.traffic.specs.declared.stage.Stage.{Stage}
 use Rattle.traffic.specs.declared.stage.Stage.TheVariants.{Queue, Buffer, Wait, Bay}
 use Rattle.traffic.specs.declared.world.Row.{Row}
-use Rattle.traffic.specs.declared.sight.Entry.{Entry}
-use Rattle.traffic.specs.Vehicles.{VehicleState}
-use Rattle.traffic.specs.Rows.{rank, on, World}
-use Rattle.traffic.specs.Links.{Lane, lane}
-use Rattle.traffic.specs.Nodes.{next_link}
+use Rattle.limits.specs.declared.TheConstants.{MAX_LENGTH}
 use Rattle.plain_turns.specs.Limits.{AreSmall}
-use Rattle.plain_turns.specs.declared.exits.ExitRow.{ExitRow}
-use Rattle.plain_turns.specs.Exits.{HasNext, HaveNext, AreNear, IsEntry, AreEntries}
+use Rattle.plain_turns.specs.declared.out_links.OutLinkRow.{OutLinkRow}
+use Rattle.plain_turns.specs.OutLinks.{HasNext, HaveNext, AreNear, IsInLink, AreInLinks}
 use Rattle.plain_day.specs.Fit.{GoesOn, AreFit, IsFit}
 
 pub small_at : (links l : ℕ) (s : Stage) (rows : List Row) → AreFit links rows → AreSmall (filter (on l s) rows)
@@ -48,16 +42,16 @@ within_at links l (r ∷ rs) h =
       | inr e ↦ simp e (within_at links l rs h.1)
     ]
 
-pub near_push : (xs : List ExitRow) (x : ExitRow) → AreNear xs → x.exit.seconds ≤ MAX_LENGTH → AreNear (xs ++ x ∷ [])
+pub near_push : (xs : List OutLinkRow) (x : OutLinkRow) → AreNear xs → x.out_link.seconds ≤ MAX_LENGTH → AreNear (xs ++ x ∷ [])
 near_push [] x h g = (g, tt)
 near_push (y ∷ ys) x h g = (h.0, near_push ys x h.1 g)
 
-pub entries_push : (xs : List Entry) (x : Entry) → AreEntries xs → IsEntry x → AreEntries (xs ++ x ∷ [])
-entries_push [] x h g = (g, tt)
-entries_push (y ∷ ys) x h g = (h.0, entries_push ys x h.1 g)
+pub in_links_push : (xs : List InLink) (x : InLink) → AreInLinks xs → IsInLink x → AreInLinks (xs ++ x ∷ [])
+in_links_push [] x h g = (g, tt)
+in_links_push (y ∷ ys) x h g = (h.0, in_links_push ys x h.1 g)
 
-pub lane_small : (links l : ℕ) (W : World) (L : Lane) → AreFit links W.rows → L ≡ lane l W → AreSmall L.queue × AreSmall L.wait × AreSmall L.bay
-lane_small links l W L h e = rw e (small_at links l Queue W.rows h, small_at links l Wait W.rows h, small_at links l Bay W.rows h)
+pub state_small : (links l : ℕ) (W : World) (L : LinkState) → AreFit links W.rows → L ≡ link_state l W → AreSmall L.queue × AreSmall L.wait × AreSmall L.bay
+state_small links l W L h e = rw e (small_at links l Queue W.rows h, small_at links l Wait W.rows h, small_at links l Bay W.rows h)
 
 -- the same where each row is fit, by its place
 pub fit_from_all : (links : ℕ) (rows : List Row) → All (IsFit links) rows → AreFit links rows

@@ -1,28 +1,18 @@
 -- Who leaves has a leg, and a car has a route.
-use Rattle.std.proofs.Common.{◌≡◌, ℕ, zero, suc, ◌+◌, ◌/◌, ◌<◌, true, false, List, [], ◌∷◌, length, get_or, refl, ap, sym, subst, ◌∙◌, arith}
-use Rattle.std.specs.Prelude.{All, map, not, nat_eq, None, Some}
-use Rattle.std.specs.List.{list_all}
-use Rattle.std.proofs.lemmas.Bool.{and_parts}
-use Rattle.std.proofs.lemmas.List.Elements.{All-head, All-tail}
-use Rattle.std.proofs.lemmas.Bool.Decides.{nat_tests}
-use Rattle.std.proofs.lemmas.List.{length-map}
-use Rattle.rows.specs.declared.plan.Act.{Act}
-use Rattle.rows.specs.declared.plan.Leg.{Leg}
+use Rattle.traffic.proofs.Common.{◌≡◌, ℕ, List, ◌∙◌, length, ap, refl, sym, [], ◌∷◌, arith, ◌<◌, true, ◌+◌, subst, false, suc, zero, get_or, ◌/◌, and_parts}
+use Rattle.traffic.proofs.Common.{nat_tests, length-map, All-head, All-tail, list_all, map, Some, None, not, All, nat_eq, act_in, leg_in, PlanRows, plan_rows}
+use Rattle.traffic.proofs.Common.{Act, Leg, Plan, sets_out, departs, leaving, Setup, person_plan}
+use Rattle.traffic.specs.declared.moves.Move.{Move}
+use Rattle.traffic.specs.declared.moves.Move.TheVariants.{Report}
+use Rattle.traffic.specs.declared.world.Person.{Person}
+use Rattle.traffic.specs.declared.world.Place.{Place}
+use Rattle.traffic.specs.declared.world.Place.TheVariants.{At, Teleporting, Waiting, Riding, Aborted}
 use Rattle.rows.specs.declared.plan.Leg.TheVariants as leg
-use Rattle.rows.specs.declared.plan.Plan.{Plan}
-use Rattle.rows.specs.PlanRows.{PlanRows, plan_rows, act_in, leg_in}
 use Rattle.town.specs.declared.day_input.DayInput.{DayInput}
 use Rattle.town.specs.Rows.{TownRows}
 use Rattle.town.specs.Setups.{setup_of}
 use Rattle.town.specs.Views.{rows_of, chosen_in, setup}
 use Rattle.town.specs.Fits.{first_link, leg_fits, legs_fit, is_act_in, fits}
-use Rattle.traffic.specs.declared.moves.Move.{Move}
-use Rattle.traffic.specs.declared.moves.Move.TheVariants.{Tell}
-use Rattle.traffic.specs.declared.world.Person.{Person}
-use Rattle.traffic.specs.declared.world.Place.{Place}
-use Rattle.traffic.specs.declared.world.Place.TheVariants.{At, Flying, Waiting, Riding, Gone}
-use Rattle.traffic.specs.Setup.{Setup, person_plan}
-use Rattle.traffic.specs.Persons.{departs, sets_out, leaving}
 use Rattle.plain_day.specs.Fit.{HasLegAfter, CanLeave}
 use Rattle.plain_day.specs.Legs.{nth_leg, ends_in, HasRoute}
 use Rattle.plain_day.proofs.Numbers.{passes_at, same_at}
@@ -44,29 +34,29 @@ pub has_route : (T : TownRows) (plan : PlanRows) (k : ℕ) → k < length plan.l
 unfolding fits
 has_route T plan k b h = routed_at T plan.acts plan.legs k b (and_parts (list_all (is_act_in T) plan.acts) (legs_fit T plan.acts plan.legs) h).1
 
-pub leaves : (S : Setup) (t i : ℕ) (here : Act) (w : Leg) (next : Act) (place : Place) → ends_in t place ≡ true → leaving S t i here w next place ≡ Tell (departs i here w) ∷ sets_out S i w next
+pub leaves : (S : Setup) (t i : ℕ) (here : Act) (w : Leg) (next : Act) (place : Place) → ends_in t place ≡ true → leaving S t i here w next place ≡ Report (departs i here w) ∷ sets_out S i w next
 leaves S t i here w next (At (Some end)) h = rw h refl
 leaves S t i here w next (At None) h = absurd (cc)
-leaves S t i here w next (Flying start) h = absurd (cc)
+leaves S t i here w next (Teleporting start) h = absurd (cc)
 leaves S t i here w next (Waiting stop since) h = absurd (cc)
 leaves S t i here w next (Riding v) h = absurd (cc)
-leaves S t i here w next (Gone l) h = absurd (cc)
+leaves S t i here w next (Aborted l) h = absurd (cc)
 
 pub stays : (S : Setup) (t i : ℕ) (here : Act) (w : Leg) (next : Act) (place : Place) → ends_in t place ≡ false → leaving S t i here w next place ≡ []
 stays S t i here w next (At (Some end)) h = rw h refl
 stays S t i here w next (At None) h = refl
-stays S t i here w next (Flying start) h = refl
+stays S t i here w next (Teleporting start) h = refl
 stays S t i here w next (Waiting stop since) h = refl
 stays S t i here w next (Riding v) h = refl
-stays S t i here w next (Gone l) h = refl
+stays S t i here w next (Aborted l) h = refl
 
 leg_after : (legs : List Leg) (element t : ℕ) (place : Place) → ends_in t place ≡ true → HasLegAfter legs element place → element / 2 < length legs
 leg_after legs element t (At (Some end)) h g = g
 leg_after legs element t (At None) h g = absurd (cc)
-leg_after legs element t (Flying start) h g = absurd (cc)
+leg_after legs element t (Teleporting start) h g = absurd (cc)
 leg_after legs element t (Waiting stop since) h g = absurd (cc)
 leg_after legs element t (Riding v) h g = absurd (cc)
-leg_after legs element t (Gone l) h g = absurd (cc)
+leg_after legs element t (Aborted l) h g = absurd (cc)
 
 pub has_leg : (plan : Plan) (P : Person) (t : ℕ) → ends_in t P.place ≡ true → CanLeave (plan_rows plan) P → P.element / 2 < length plan.legs
 has_leg plan P t h g = leg_after plan.legs P.element t P.place h g
@@ -85,10 +75,10 @@ fits_at day i plan b e h =
     subst (λ (x : PlanRows). fits T x ≡ true) e (passes_at (fits T) (chosen_in day) i own h l (same_at i (chosen_in day) none own l))
 
 pub left_is : (S : Setup) (t i : ℕ) (plan : Plan) (P : Person) (here next : Act) (moves : List Move) → here ≡ act_in (plan_rows plan) P.element → next ≡ act_in (plan_rows plan) (P.element + 2) → ends_in t P.place ≡ true →
-    moves ≡ Tell (departs i here (nth_leg plan.legs (P.element / 2))) ∷ sets_out S i (nth_leg plan.legs (P.element / 2)) next →
+    moves ≡ Report (departs i here (nth_leg plan.legs (P.element / 2))) ∷ sets_out S i (nth_leg plan.legs (P.element / 2)) next →
     moves ≡ leaving S t i (act_in (plan_rows plan) P.element) (leg_in (plan_rows plan) P.element) (act_in (plan_rows plan) (P.element + 2)) P.place
 left_is S t i plan P here next moves h n e m =
     let w = nth_leg plan.legs (P.element / 2) in
     let a = act_in (plan_rows plan) P.element in
     let b = act_in (plan_rows plan) (P.element + 2) in
-    m ∙ ap (λ (x : Act). Tell (departs i x w) ∷ sets_out S i w next) h ∙ ap (λ (x : Act). Tell (departs i a w) ∷ sets_out S i w x) n ∙ sym (leaves S t i a w b P.place e)
+    m ∙ ap (λ (x : Act). Report (departs i x w) ∷ sets_out S i w next) h ∙ ap (λ (x : Act). Report (departs i a w) ∷ sets_out S i w x) n ∙ sym (leaves S t i a w b P.place e)

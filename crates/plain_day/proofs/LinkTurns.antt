@@ -1,10 +1,6 @@
 -- The turn of a link, by what it sees.
-use Rattle.std.proofs.Common.{◌≡◌, ℕ, Bool, true, false, List, [], ◌∷◌, refl, ap, sym, ◌∙◌}
-use Rattle.std.specs.Prelude.{filter, not, ◌&&◌, ◌||◌, ◌==◌}
-use Rattle.std.specs.List.{list_any}
-use Rattle.fixed_flow.specs.Flow.{raised}
-use Rattle.town.specs.declared.day_input.DayInput.{DayInput}
-use Rattle.town.specs.Views.{setup}
+use Rattle.traffic.proofs.Common.{◌≡◌, ℕ, List, ◌∙◌, ap, refl, sym, [], ◌∷◌, true, Bool, false, list_any, filter, not, ◌&&◌, ◌==◌, ◌||◌, raised, link_turns}
+use Rattle.traffic.proofs.Common.{rules, link_state, LinkState, link_moves, waiters, World, on, rank, credit_of, gain_of, Setup}
 use Rattle.traffic.specs.declared.moves.Move.{Move}
 use Rattle.traffic.specs.declared.moves.Move.TheVariants.{Credit}
 use Rattle.traffic.specs.declared.numbers.Rules.{Rules}
@@ -12,11 +8,8 @@ use Rattle.traffic.specs.declared.stage.Stage.{Stage}
 use Rattle.traffic.specs.declared.stage.Stage.TheVariants.{Queue, Buffer, Wait, Bay}
 use Rattle.traffic.specs.declared.world.Row.{Row}
 use Rattle.traffic.specs.declared.world.Waiter.{Waiter}
-use Rattle.traffic.specs.Rows.{World, rank, on, credit_of}
-use Rattle.traffic.specs.Setup.{Setup, gain_of}
-use Rattle.traffic.specs.Links.{Lane, lane, rules, link_moves}
-use Rattle.traffic.specs.Persons.{waiters}
-use Rattle.traffic.specs.Day.{link_plan}
+use Rattle.town.specs.declared.day_input.DayInput.{DayInput}
+use Rattle.town.specs.Views.{setup}
 use Rattle.traffic.proofs.Idle.{link_idle}
 use Rattle.plain_day.specs.Fit.{stays_on}
 
@@ -50,16 +43,16 @@ unused l s (r ∷ rs) h g =
 
 -- a link with nothing to do raises its credit alone
 pub idle_is : (day : DayInput) (t l : ℕ) (W : World) (rows : List Row) (gain before credit : ℕ) → rows ≡ W.rows → list_any (stays_on l) rows ≡ false →
-    gain ≡ gain_of (setup day) l → before ≡ credit_of l W → credit ≡ raised gain before → link_plan (setup day) t l W ≡ Credit l credit ∷ []
+    gain ≡ gain_of (setup day) l → before ≡ credit_of l W → credit ≡ raised gain before → link_turns (setup day) t l W ≡ Credit l credit ∷ []
 idle_is day t l W rows gain before credit r u g b c =
     let S = setup day in
     let v : list_any (stays_on l) W.rows ≡ false = rw (← r) u in
-    link_idle (rules S l) t l (waiters S l W) (lane l W) (unused l Queue W.rows refl v) (unused l Wait W.rows refl v) (unused l Bay W.rows refl v)
+    link_idle (rules S l) t l (waiters S l W) (link_state l W) (unused l Queue W.rows refl v) (unused l Wait W.rows refl v) (unused l Bay W.rows refl v)
     ∙ ap (λ x. Credit l x ∷ []) (sym (c ∙ ap (λ x. raised x before) g ∙ ap (λ x. raised (gain_of S l) x) b))
 
 -- the turn of a link, by its parts
-pub turn_is : (S : Setup) (t l : ℕ) (W : World) (K : Rules) (ws : List Waiter) (L : Lane) (moves : List Move) → K ≡ rules S l →
-    ws ≡ waiters S l W → L ≡ lane l W → moves ≡ link_moves K t l ws L → moves ≡ link_plan S t l W
+pub turn_is : (S : Setup) (t l : ℕ) (W : World) (K : Rules) (ws : List Waiter) (L : LinkState) (moves : List Move) → K ≡ rules S l →
+    ws ≡ waiters S l W → L ≡ link_state l W → moves ≡ link_moves K t l ws L → moves ≡ link_turns S t l W
 turn_is S t l W K ws L moves k w e m =
     m ∙ ap (λ (x : Rules). link_moves x t l ws L) k ∙ ap (λ (x : List Waiter). link_moves (rules S l) t l x L) w
-    ∙ ap (λ (x : Lane). link_moves (rules S l) t l (waiters S l W) x) e
+    ∙ ap (λ (x : LinkState). link_moves (rules S l) t l (waiters S l W) x) e

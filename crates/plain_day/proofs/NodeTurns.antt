@@ -1,32 +1,23 @@
 -- The turn of a node, by what it sees.
-use Rattle.std.proofs.Common.{◌≡◌, ℕ, zero, suc, ◌+◌, ◌<◌, ◌≤◌, Bool, true, false, List, [], ◌∷◌, length, refl, ap, sym, ◌∙◌, inl, inr, eqb, get_or, arith}
-use Rattle.std.specs.Prelude.{filter, map, ◌==◌, nat_lt, nat_eq, None}
-use Rattle.std.specs.List.{list_any}
-use Rattle.std.proofs.lemmas.Bool.{cases_Bool, and_parts, eqb-true, ne_eqb, eq-eqb, lt-ltb}
-use Rattle.std.proofs.lemmas.List.{length-map}
-use Rattle.std.proofs.lemmas.List.Sums.{length-filter}
-use Rattle.std.proofs.lemmas.Bool.Decides.{nat_tests}
+use Rattle.traffic.proofs.Common.{◌≡◌, ℕ, List, ◌∙◌, length, ap, refl, sym, [], ◌∷◌, arith, ◌<◌, true, ◌+◌, Bool, inl, inr, ◌≤◌, false, suc, eqb, zero}
+use Rattle.traffic.proofs.Common.{get_or, cases_Bool, eqb-true, and_parts, eq-eqb, ne_eqb, lt-ltb, nat_tests, length-map, length-filter, list_any, map}
+use Rattle.traffic.proofs.Common.{filter, None, nat_lt, ◌==◌, nat_eq, word, LinkRow, node_turns, below, numbers, in_link, node_view, out_link, ready}
+use Rattle.traffic.proofs.Common.{node_moves, World, on, rank, Setup, into}
+use Rattle.traffic.specs.declared.moves.Move.{Move}
+use Rattle.traffic.specs.declared.node_views.InLink.{InLink}
+use Rattle.traffic.specs.declared.stage.Stage.TheVariants.{Buffer}
+use Rattle.traffic.specs.declared.world.Row.{Row}
 use Rattle.limits.specs.declared.TheConstants.{MAX_IN_LINKS}
-use Rattle.draws.specs.Words.{Source, word, node_source}
-use Rattle.rows.specs.declared.network.LinkRow.{LinkRow}
-use Rattle.network.specs.Limits.{in_links}
+use Rattle.draws.specs.Words.{Source, node_source}
+use Rattle.network.specs.Limits.{in_links as count_in_links}
 use Rattle.town.specs.declared.day_input.DayInput.{DayInput}
 use Rattle.town.specs.Setups.{setup_of}
 use Rattle.town.specs.Views.{setup}
-use Rattle.traffic.specs.declared.moves.Move.{Move}
-use Rattle.traffic.specs.declared.stage.Stage.TheVariants.{Buffer}
-use Rattle.traffic.specs.declared.sight.Entry.{Entry}
-use Rattle.traffic.specs.declared.world.Row.{Row}
-use Rattle.traffic.specs.Lists.{numbers, below}
-use Rattle.traffic.specs.Rows.{World, rank, on}
-use Rattle.traffic.specs.Setup.{Setup, into}
-use Rattle.traffic.specs.Nodes.{entry, exit, sight, ready, node_moves}
-use Rattle.traffic.specs.Day.{node_plan}
 use Rattle.traffic.proofs.Idle.{node_idle}
-use Rattle.plain_turns.specs.declared.exits.ExitRow.{ExitRow}
-use Rattle.plain_turns.specs.Exits.{exits_in, sight_of}
+use Rattle.plain_turns.specs.declared.out_links.OutLinkRow.{OutLinkRow}
+use Rattle.plain_turns.specs.OutLinks.{out_links_in, node_view_of}
 use Rattle.plain_day.specs.Fit.{AreFit}
-use Rattle.plain_day.specs.Sights.{exit_row, is_out, is_in, is_before}
+use Rattle.plain_day.specs.Views.{out_link_row, is_out, is_in, is_before}
 use Rattle.plain_day.proofs.Agree.{Agree, AllGo, node_same}
 use Rattle.plain_day.proofs.Fitting.{within_at}
 use Rattle.plain_day.proofs.Seen.{into_is}
@@ -35,18 +26,18 @@ use Rattle.plain_day.proofs.LinkTurns.{or_parts}
 
 -- THE EXITS
 -- no link before the first number is among these
-before_first : (S : Setup) (t n : ℕ) (W : World) (l k m : ℕ) → l < k → exits_in (map (exit_row S t W) (filter (is_out S n) (numbers k m))) l ≡ None
-unfolding exits_in
+before_first : (S : Setup) (t n : ℕ) (W : World) (l k m : ℕ) → l < k → out_links_in (map (out_link_row S t W) (filter (is_out S n) (numbers k m))) l ≡ None
+unfolding out_links_in
 before_first S t n W l k zero h = refl
 before_first S t n W l k (suc m) h =
     let i = before_first S t n W l (k + 1) m (omega arith) in
     let e : eqb k l ≡ false = ne_eqb k l (λ p. omega arith) in
     elim (cases_Bool (is_out S n k)) [ inl q ↦ simp (q, e) i | inr q ↦ simp q i ]
 
-exits_from : (S : Setup) (t n : ℕ) (W : World) (l k m : ℕ) → k ≤ l → l < k + m → exits_in (map (exit_row S t W) (filter (is_out S n) (numbers k m))) l ≡ exit S t n W l
-unfolding exits_in
-exits_from S t n W l k zero h g = absurd (omega arith)
-exits_from S t n W l k (suc m) h g =
+out_links_from : (S : Setup) (t n : ℕ) (W : World) (l k m : ℕ) → k ≤ l → l < k + m → out_links_in (map (out_link_row S t W) (filter (is_out S n) (numbers k m))) l ≡ out_link S t n W l
+unfolding out_links_in
+out_links_from S t n W l k zero h g = absurd (omega arith)
+out_links_from S t n W l k (suc m) h g =
     elim (cases_Bool (eqb k l)) [
       | inl e ↦ let p : k ≡ l = eqb-true k l e in rw (← p) (
           let s : eqb k k ≡ true = eq-eqb k k refl in
@@ -56,17 +47,17 @@ exits_from S t n W l k (suc m) h g =
           ])
       | inr e ↦
           let b : k + 1 ≤ l = grind (arith, nat_tests, e) in
-          let i = exits_from S t n W l (k + 1) m b (omega arith) in
+          let i = out_links_from S t n W l (k + 1) m b (omega arith) in
           elim (cases_Bool (is_out S n k)) [ inl q ↦ simp (q, e) i | inr q ↦ simp q i ]
     ]
 
-pub exits_agree : (S : Setup) (t n links : ℕ) (W : World) → Agree links (exits_in (map (exit_row S t W) (filter (is_out S n) (below links)))) (exit S t n W)
-exits_agree S t n links W l h = exits_from S t n W l 0 links (omega arith) (omega arith)
+pub out_links_agree : (S : Setup) (t n links : ℕ) (W : World) → Agree links (out_links_in (map (out_link_row S t W) (filter (is_out S n) (below links)))) (out_link S t n W)
+out_links_agree S t n links W l h = out_links_from S t n W l 0 links (omega arith) (omega arith)
 
 -- THE ENTRIES
-entries_go : (S : Setup) (t links : ℕ) (W : World) (ls : List ℕ) → AreFit links W.rows → AllGo links (map (entry S t W) ls)
-entries_go S t links W [] h = tt
-entries_go S t links W (l ∷ ls) h = (within_at links l W.rows h, entries_go S t links W ls h)
+in_links_go : (S : Setup) (t links : ℕ) (W : World) (ls : List ℕ) → AreFit links W.rows → AllGo links (map (in_link S t W) ls)
+in_links_go S t links W [] h = tt
+in_links_go S t links W (l ∷ ls) h = (within_at links l W.rows h, in_links_go S t links W ls h)
 
 true_false : true ≡ false → ⊥
 true_false h = cc
@@ -88,7 +79,7 @@ no_row S links n l (r ∷ rs) h i g =
     ]
 
 none_ready : (S : Setup) (t links n : ℕ) (W : World) (k m : ℕ) → k + m ≤ links → list_any (is_before S links n) W.rows ≡ false →
-    ready (map (entry S t W) (filter (is_in S n) (numbers k m))) ≡ []
+    ready (map (in_link S t W) (filter (is_in S n) (numbers k m))) ≡ []
 none_ready S t links n W k zero h g = refl
 none_ready S t links n W k (suc m) h g =
     let i = none_ready S t links n W (k + 1) m (omega arith) g in
@@ -99,28 +90,28 @@ none_ready S t links n W k (suc m) h g =
 
 -- a node to which no row comes does nothing
 pub quiet_is : (day : DayInput) (t n : ℕ) (W : World) (rows : List Row) → rows ≡ W.rows → list_any (is_before (setup day) (length day.town.now.network.links) n) rows ≡ false →
-    node_plan (setup day) t n W ≡ []
+    node_turns (setup day) t n W ≡ []
 unfolding setup_of into
 quiet_is day t n W rows r g =
     let v : list_any (is_before (setup day) (length day.town.now.network.links) n) W.rows ≡ false = rw (← r) g in
-    let e : ready (map (entry (setup day) t W) (into (setup day) n)) ≡ []
-    = ap (λ (ls : List ℕ). ready (map (entry (setup day) t W) ls)) (into_is day n) ∙ none_ready (setup day) t (length day.town.now.network.links) n W 0 (length day.town.now.network.links) (omega arith) v in
-    node_idle (setup day).settings.stuck t ((setup day).word n) (sight (setup day) t n W) e
+    let e : ready (map (in_link (setup day) t W) (into (setup day) n)) ≡ []
+    = ap (λ (ls : List ℕ). ready (map (in_link (setup day) t W) ls)) (into_is day n) ∙ none_ready (setup day) t (length day.town.now.network.links) n W 0 (length day.town.now.network.links) (omega arith) v in
+    node_idle (setup day).settings.stuck t ((setup day).word n) (node_view (setup day) t n W) e
 
 -- the turn of a node, by its parts
-pub node_is : (day : DayInput) (t n : ℕ) (W : World) (entries : List Entry) (exits : List ExitRow) (draws : Source) (moves : List Move) → AreFit (length day.town.now.network.links) W.rows →
-    entries ≡ map (entry (setup day) t W) (into (setup day) n) →
-    exits ≡ map (exit_row (setup day) t W) (filter (is_out (setup day) n) (below (length day.town.now.network.links))) →
-    draws ≡ node_source day.town.now.seed day.iteration n → moves ≡ node_moves day.town.now.settings.stuck t (word draws) (sight_of entries exits) → moves ≡ node_plan (setup day) t n W
+pub node_is : (day : DayInput) (t n : ℕ) (W : World) (in_links : List InLink) (out_links : List OutLinkRow) (draws : Source) (moves : List Move) → AreFit (length day.town.now.network.links) W.rows →
+    in_links ≡ map (in_link (setup day) t W) (into (setup day) n) →
+    out_links ≡ map (out_link_row (setup day) t W) (filter (is_out (setup day) n) (below (length day.town.now.network.links))) →
+    draws ≡ node_source day.town.now.seed day.iteration n → moves ≡ node_moves day.town.now.settings.stuck t (word draws) (node_view_of in_links out_links) → moves ≡ node_turns (setup day) t n W
 unfolding setup_of into
-node_is day t n W entries exits draws moves fit e x d m =
+node_is day t n W in_links out_links draws moves fit e x d m =
     let S = setup day in
     let links = length day.town.now.network.links in
-    let es = map (entry S t W) (into S n) in
-    let agree : Agree links (exits_in exits) (exit S t n W) = rw x (exits_agree S t n links W) in
-    m ∙ ap (λ (ys : List Entry). node_moves day.town.now.settings.stuck t (word draws) (record { entries = ys; exits = exits_in exits })) e
-    ∙ node_same links day.town.now.settings.stuck t (word draws) es (exits_in exits) (exit S t n W) agree (entries_go S t links W (into S n) fit)
-    ∙ ap (λ (s : Source). node_moves day.town.now.settings.stuck t (word s) (sight S t n W)) d
+    let es = map (in_link S t W) (into S n) in
+    let agree : Agree links (out_links_in out_links) (out_link S t n W) = rw x (out_links_agree S t n links W) in
+    m ∙ ap (λ (ys : List InLink). node_moves day.town.now.settings.stuck t (word draws) (record { in_links = ys; out_links = out_links_in out_links })) e
+    ∙ node_same links day.town.now.settings.stuck t (word draws) es (out_links_in out_links) (out_link S t n W) agree (in_links_go S t links W (into S n) fit)
+    ∙ ap (λ (s : Source). node_moves day.town.now.settings.stuck t (word s) (node_view S t n W)) d
 
 -- AT MOST SIXTEEN LINKS
 as_many : {X : Type 0} (f : ℕ → Bool) (q : X → Bool) (d : X) (k : ℕ) (xs : List X) → ((j : ℕ) → j < length xs → f (k + j) ≡ q (get_or xs j d)) → length (filter f (numbers k (length xs))) ≡ length (filter q xs)
@@ -138,11 +129,11 @@ in_is day n j d h =
     let row = get_or day.town.now.network.links j d in
     ap (λ (r : LinkRow). r.to == n) (row_is day j row h (same_at j day.town.now.network.links d row h))
 
-pub few_entries : (day : DayInput) (t n : ℕ) (W : World) (entries : List Entry) → entries ≡ map (entry (setup day) t W) (into (setup day) n) → in_links day.town.now.network.links n ≤ MAX_IN_LINKS → length entries ≤ MAX_IN_LINKS
-unfolding in_links
-few_entries day t n W entries e h =
+pub few_in_links : (day : DayInput) (t n : ℕ) (W : World) (in_links : List InLink) → in_links ≡ map (in_link (setup day) t W) (into (setup day) n) → count_in_links day.town.now.network.links n ≤ MAX_IN_LINKS → length in_links ≤ MAX_IN_LINKS
+unfolding count_in_links
+few_in_links day t n W in_links e h =
     let d : LinkRow = record { from = 0; to = 0; length = 0; speed = 0; capacity = 0; lanes = 0 } in
-    let a : length entries ≡ length (into (setup day) n) = ap length e ∙ length-map (into (setup day) n) (entry (setup day) t W) in
+    let a : length in_links ≡ length (into (setup day) n) = ap length e ∙ length-map (into (setup day) n) (in_link (setup day) t W) in
     let b : length (into (setup day) n) ≡ length (filter (is_in (setup day) n) (below (length day.town.now.network.links))) = ap length (into_is day n) in
     let f : length (filter (is_in (setup day) n) (below (length day.town.now.network.links))) ≡ length (filter (λ (l : LinkRow). nat_eq l.to n) day.town.now.network.links)
     = as_many (is_in (setup day) n) (λ (l : LinkRow). nat_eq l.to n) d 0 day.town.now.network.links (λ j g. ap (is_in (setup day) n) (let q : 0 + j ≡ j = omega arith in q) ∙ in_is day n j d g) in

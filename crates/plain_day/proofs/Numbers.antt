@@ -1,17 +1,12 @@
 -- The rows of a town, and the setup of a day in it.
-use Rattle.std.proofs.Common.{◌≡◌, ℕ, zero, suc, ◌<◌, Bool, true, List, [], ◌∷◌, length, get_or, refl, ap, ◌∙◌, sym, arith}
-use Rattle.std.specs.List.{list_all}
-use Rattle.std.proofs.lemmas.Bool.{and_parts}
-use Rattle.std.proofs.lemmas.Bool.Decides.{nat_tests}
-use Rattle.rows.specs.declared.network.LinkRow.{LinkRow}
+use Rattle.traffic.proofs.Common.{◌≡◌, ℕ, List, ◌∙◌, length, ap, refl, sym, [], ◌∷◌, arith, ◌<◌, true, Bool, suc, zero, get_or, and_parts, nat_tests}
+use Rattle.traffic.proofs.Common.{list_all, credit_per_second, storage, buffer_room, LinkRow, rules, gain_of, link_row, hole_of, seconds_of, storage_of}
+use Rattle.traffic.proofs.Common.{hole_seconds}
+use Rattle.traffic.specs.declared.numbers.Rules.{Rules}
 use Rattle.network.specs.Limits.{is_link, are_measures}
-use Rattle.fixed_flow.specs.Link.{credit_per_second, storage, buffer_room}
 use Rattle.town.specs.declared.day_input.DayInput.{DayInput}
 use Rattle.town.specs.Setups.{setup_of}
 use Rattle.town.specs.Views.{setup}
-use Rattle.traffic.specs.Setup.{link_row, seconds_of, gain_of, storage_of, hole_seconds, hole_of}
-use Rattle.traffic.specs.declared.numbers.Rules.{Rules}
-use Rattle.traffic.specs.Links.{rules}
 use Rattle.plain_day.specs.Measures.{IsMeasured}
 
 -- what is there does not depend on the default

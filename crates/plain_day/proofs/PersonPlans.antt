@@ -1,22 +1,14 @@
 -- The plans of persons in the setup of a day.
-use Rattle.std.proofs.Common.{◌≡◌, ℕ, ◌+◌, ◌<◌, List, length, get_or, refl, ap, sym, ◌∙◌, arith}
-use Rattle.std.specs.List.{flat_map}
-use Rattle.events.specs.declared.event.Mode.{Mode}
-use Rattle.rows.specs.declared.plan.Act.{Act}
-use Rattle.rows.specs.declared.plan.Leg.{Leg}
-use Rattle.rows.specs.declared.plan.Leg.TheVariants as leg
-use Rattle.rows.specs.declared.plan.Plan.{Plan}
-use Rattle.rows.specs.PlanRows.{PlanRows, plan_rows, act_in, leg_in}
-use Rattle.town.specs.declared.day_input.DayInput.{DayInput}
-use Rattle.town.specs.Views.{setup}
-use Rattle.traffic.specs.declared.moves.Said.{Said}
+use Rattle.traffic.proofs.Common.{◌≡◌, ℕ, List, ◌∙◌, length, ap, refl, sym, arith, ◌<◌, ◌+◌, get_or, flat_map, Mode, act_in, leg_in, PlanRows, plan_rows, Act}
+use Rattle.traffic.proofs.Common.{Leg, Plan, below, landing, stuck_at, waiter, waits_on, waiters, landing_moves, leaving_moves, stranded, leaving}
+use Rattle.traffic.proofs.Common.{mode_of_leg, World, person_of, nobody, Setup, leg_at, act_at, person_plan}
 use Rattle.traffic.specs.declared.moves.Move.{Move}
+use Rattle.traffic.specs.declared.moves.Occurrence.{Occurrence}
 use Rattle.traffic.specs.declared.world.Person.{Person}
 use Rattle.traffic.specs.declared.world.Waiter.{Waiter}
-use Rattle.traffic.specs.Lists.{below}
-use Rattle.traffic.specs.Rows.{World, nobody, person_of}
-use Rattle.traffic.specs.Setup.{Setup, person_plan, act_at, leg_at}
-use Rattle.traffic.specs.Persons.{waits_on, waiter, waiters, landing, landing_moves, leaving, leaving_moves, mode_of_leg, stuck_at, stranded}
+use Rattle.rows.specs.declared.plan.Leg.TheVariants as leg
+use Rattle.town.specs.declared.day_input.DayInput.{DayInput}
+use Rattle.town.specs.Views.{setup}
 use Rattle.plain_day.specs.Legs.{kind_of, mode_of_kind}
 use Rattle.plain_day.proofs.Numbers.{there}
 
@@ -52,7 +44,7 @@ mode_is (leg.Car route) = refl
 mode_is (leg.Teleport mode seconds) = refl
 mode_is (leg.Transit line access egress) = refl
 
-pub stranded_is : (day : DayInput) (i : ℕ) (W : World) (plan : Plan) (P : Person) (here : Act) (mode : Mode) (said : List Said) → person_plan (setup day) i ≡ plan_rows plan →
+pub stranded_is : (day : DayInput) (i : ℕ) (W : World) (plan : Plan) (P : Person) (here : Act) (mode : Mode) (said : List Occurrence) → person_plan (setup day) i ≡ plan_rows plan →
     i < length W.persons → P ≡ get_or W.persons i P → here ≡ act_in (plan_rows plan) P.element → mode ≡ mode_of_kind (kind_of (leg_in (plan_rows plan) P.element)) →
     said ≡ stuck_at (setup day) W i here mode P.place → said ≡ stranded (setup day) W i
 unfolding stranded

@@ -1,23 +1,18 @@
 -- A phase turn by turn, and a day second by second.
-use Rattle.std.proofs.Common.{◌≡◌, ◌<◌, ◌≤◌, ℕ, suc, ◌+◌, ◌-◌, List, [], ◌∷◌, ◌++◌, refl, sym, ap, ◌∙◌, append_assoc, add-one, arith}
+use Rattle.traffic.proofs.Common.{◌≡◌, ℕ, List, ◌∙◌, ap, refl, sym, [], ◌∷◌, arith, ◌<◌, ◌++◌, ◌+◌, ◌≤◌, suc, ◌-◌, append_assoc, add-one, flat_map, Event}
+use Rattle.traffic.proofs.Common.{Phase, turns_of, turns_in, moves_of, through, world_from, after, events_from, count_of, events_in, told_in, Turn, second}
+use Rattle.traffic.proofs.Common.{turns, events_of, below, numbers, run, World, Setup}
 use Rattle.std.proofs.lemmas.List.{append-nil}
-use Rattle.events.specs.declared.event.Event.{Event}
-use Rattle.events.specs.declared.event.Phase.{Phase}
 use Rattle.events.specs.declared.event.Phase.TheVariants as phase
-use Rattle.std.specs.List.{flat_map}
-use Rattle.traffic.specs.Lists.{numbers, below}
-use Rattle.traffic.specs.Rows.{World}
-use Rattle.traffic.specs.Setup.{Setup}
-use Rattle.traffic.specs.Moves.{run}
-use Rattle.traffic.specs.Day.{Turn, plan_of, count_of, turns, turns_in, moves_of, after, events_of, events_in, through, told_in, second, second_events, world_from, events_from}
+use Rattle.traffic.specs.Day.{second_events}
 use Rattle.traffic.proofs.Sublists.{run-append}
 
 -- the turns from number n on, of so many, in the world that the ones before it left
 abbrev pub rest : Setup → ℕ → Phase → ℕ → ℕ → World → List Turn
-rest S t p count n W = turns S t (plan_of S t p) (numbers n (count - n)) W
+rest S t p count n W = turns S t (turns_of S t p) (numbers n (count - n)) W
 
 abbrev turn : Setup → ℕ → Phase → ℕ → World → Turn
-turn S t p n W = record { number = n; moves = plan_of S t p n W }
+turn S t p n W = record { number = n; moves = turns_of S t p n W }
 
 -- what the turns from n on give, done and told after what came before, is what all turns give
 pub record Going (S : Setup) (t : ℕ) (p : Phase) (count n : ℕ) (from now : World) (old out : List Event) : Type 0 where
@@ -27,20 +22,20 @@ pub record Going (S : Setup) (t : ℕ) (p : Phase) (count n : ℕ) (from now : W
 pub going_first : (S : Setup) (t : ℕ) (p : Phase) (count : ℕ) (from : World) (old : List Event) → Going S t p count 0 from from old old
 going_first S t p count from old = record { world = refl; events = refl }
 
-rest_more : (S : Setup) (t : ℕ) (p : Phase) (count n : ℕ) (W : World) → n < count → rest S t p count n W ≡ turn S t p n W ∷ rest S t p count (n + 1) (run S t (plan_of S t p n W) W)
+rest_more : (S : Setup) (t : ℕ) (p : Phase) (count n : ℕ) (W : World) → n < count → rest S t p count n W ≡ turn S t p n W ∷ rest S t p count (n + 1) (run S t (turns_of S t p n W) W)
 unfolding turns
 rest_more S t p count n W h =
     let e : count - n ≡ suc (count - (n + 1)) = omega arith in
-    ap (λ k. turns S t (plan_of S t p) (numbers n k) W) e
+    ap (λ k. turns S t (turns_of S t p) (numbers n k) W) e
 
 after_more : (S : Setup) (t : ℕ) (u : Turn) (us : List Turn) (W : World) → after S t (u ∷ us) W ≡ after S t us (run S t u.moves W)
 after_more S t u us W = run-append S t u.moves (moves_of us) W
 
 pub going_more : (S : Setup) (t : ℕ) (p : Phase) (count n : ℕ) (from now next : World) (old out more : List Event) → n < count
-    → next ≡ run S t (plan_of S t p n now) now → more ≡ out ++ events_of t p (turn S t p n now)
+    → next ≡ run S t (turns_of S t p n now) now → more ≡ out ++ events_of t p (turn S t p n now)
     → Going S t p count n from now old out → Going S t p count (n + 1) from next old more
 going_more S t p count n from now next old out more h e f g =
-    let us = rest S t p count (n + 1) (run S t (plan_of S t p n now) now) in
+    let us = rest S t p count (n + 1) (run S t (turns_of S t p n now) now) in
     let split = rest_more S t p count n now h in
     record {
       world =
@@ -60,7 +55,7 @@ rest_none : (S : Setup) (t : ℕ) (p : Phase) (count n : ℕ) (W : World) → co
 unfolding turns
 rest_none S t p count n W h =
     let e : count - n ≡ 0 = omega arith in
-    ap (λ k. turns S t (plan_of S t p) (numbers n k) W) e
+    ap (λ k. turns S t (turns_of S t p) (numbers n k) W) e
 
 going_world : (S : Setup) (t : ℕ) (p : Phase) (count n : ℕ) (from now : World) (old out : List Event) → count ≤ n
     → Going S t p count n from now old out → now ≡ after S t (rest S t p count 0 from) from
@@ -75,7 +70,7 @@ rest_all : (S : Setup) (t : ℕ) (p : Phase) (W : World) → rest S t p (count_o
 unfolding turns_in
 rest_all S t p W =
     let e : count_of S p - 0 ≡ count_of S p = omega arith in
-    ap (λ k. turns S t (plan_of S t p) (numbers 0 k) W) e
+    ap (λ k. turns S t (turns_of S t p) (numbers 0 k) W) e
 
 -- once all have had their turn the world is that after the phase, and its events are told
 pub gone_world : (S : Setup) (t : ℕ) (p : Phase) (n : ℕ) (from now : World) (old out : List Event) → count_of S p ≤ n

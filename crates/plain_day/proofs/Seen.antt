@@ -1,22 +1,15 @@
 -- What is seen of a world.
-use Rattle.std.proofs.Common.{◌≡◌, ℕ, suc, ◌+◌, Bool, List, [], ◌∷◌, length, refl, ap, sym, ◌∙◌, inl, inr, eqb}
-use Rattle.std.specs.Prelude.{filter, map, nat_lt, ◌==◌}
-use Rattle.std.proofs.lemmas.Bool.{cases_Bool}
-use Rattle.std.proofs.lemmas.List.{length-map}
-use Rattle.rows.specs.declared.network.LinkRow.{LinkRow}
+use Rattle.traffic.proofs.Common.{◌≡◌, ℕ, List, ◌∙◌, length, ap, refl, sym, [], ◌∷◌, ◌+◌, Bool, inl, inr, suc, eqb, cases_Bool, length-map, map, filter}
+use Rattle.traffic.proofs.Common.{nat_lt, ◌==◌, LinkRow, below, in_link, in_force, taken_at, World, on, holes_at, Setup, link_row, hole_of, into}
+use Rattle.traffic.specs.declared.node_views.InLink.{InLink}
+use Rattle.traffic.specs.declared.stage.Stage.TheVariants.{Queue, Buffer}
+use Rattle.traffic.specs.declared.world.Hole.{Hole}
+use Rattle.traffic.specs.declared.world.Row.{Row}
 use Rattle.town.specs.declared.day_input.DayInput.{DayInput}
 use Rattle.rows.specs.Greens.{is_green, green_at}
 use Rattle.town.specs.Setups.{setup_of}
-use Rattle.traffic.specs.declared.sight.Entry.{Entry}
-use Rattle.traffic.specs.declared.world.Row.{Row}
-use Rattle.traffic.specs.declared.world.Hole.{Hole}
-use Rattle.traffic.specs.declared.stage.Stage.TheVariants.{Queue, Buffer}
-use Rattle.traffic.specs.Setup.{Setup, link_row, hole_of, into}
-use Rattle.traffic.specs.Lists.{below}
-use Rattle.traffic.specs.Rows.{World, holes_at, on}
-use Rattle.traffic.specs.Nodes.{in_force, taken_at, entry}
 use Rattle.town.specs.Views.{setup}
-use Rattle.plain_day.specs.Sights.{is_in_force, is_in}
+use Rattle.plain_day.specs.Views.{is_in_force, is_in}
 
 -- the holes in force of a link, counted among all holes
 counted : (l t h : ℕ) (hs : List Hole) → in_force t h (map (λ (x : Hole). x.second) (filter (λ (x : Hole). x.link == l) hs)) ≡ length (filter (is_in_force l t h) hs)
@@ -39,11 +32,11 @@ taken_is S t l W rows hs queue h holes taken r s q e f g =
     (f ∙ ap (λ (xs : List Hole). length (filter (is_in_force l t h) xs)) s ∙ sym (holes_counted l t h W) ∙ ap (λ n. in_force t n (holes_at l W)) e)
 
 -- a link as the node at its end sees it
-pub entry_is : (day : DayInput) (t l : ℕ) (W : World) (row : LinkRow) (green : Bool) (rows here : List Row) → link_row (setup day) l ≡ row → green ≡ is_green (green_at day.town.now.greens l) t →
-    rows ≡ W.rows → here ≡ filter (on l Buffer) rows → ◌≡◌ {A = Entry} (record { link = l; capacity = row.capacity; green = green; rows = here }) (entry (setup day) t W l)
+pub in_link_is : (day : DayInput) (t l : ℕ) (W : World) (row : LinkRow) (green : Bool) (rows here : List Row) → link_row (setup day) l ≡ row → green ≡ is_green (green_at day.town.now.greens l) t →
+    rows ≡ W.rows → here ≡ filter (on l Buffer) rows → ◌≡◌ {A = InLink} (record { link = l; capacity = row.capacity; green = green; rows = here }) (in_link (setup day) t W l)
 unfolding setup_of
-entry_is day t l W row green rows here e g r h =
-    let f : ℕ → Bool → List Row → Entry = λ c b xs. record { link = l; capacity = c; green = b; rows = xs } in
+in_link_is day t l W row green rows here e g r h =
+    let f : ℕ → Bool → List Row → InLink = λ c b xs. record { link = l; capacity = c; green = b; rows = xs } in
     ap (λ (x : LinkRow). f x.capacity green here) (sym e)
     ∙ ap (λ b. f (link_row (setup day) l).capacity b here) g
     ∙ ap (λ xs. f (link_row (setup day) l).capacity (is_green (green_at day.town.now.greens l) t) xs) (h ∙ ap (λ (xs : List Row). filter (on l Buffer) xs) r)

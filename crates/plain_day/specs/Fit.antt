@@ -4,7 +4,7 @@ use Rattle.traffic.specs.declared.stage.Stage.{Stage}
 use Rattle.traffic.specs.declared.stage.Stage.TheVariants.{Queue, Buffer, Wait, Bay}
 use Rattle.traffic.specs.declared.world.Row.{Row}
 use Rattle.traffic.specs.declared.world.Place.{Place}
-use Rattle.traffic.specs.declared.world.Place.TheVariants.{At, Flying, Waiting, Riding, Gone}
+use Rattle.traffic.specs.declared.world.Place.TheVariants.{At, Teleporting, Waiting, Riding, Aborted}
 use Rattle.traffic.specs.declared.world.Person.{Person}
 use Rattle.traffic.specs.Vehicles.{VehicleState}
 use Rattle.traffic.specs.Rows.{rank}
@@ -12,7 +12,7 @@ use Rattle.rows.specs.declared.plan.Leg.{Leg}
 use Rattle.rows.specs.PlanRows.{PlanRows}
 use Rattle.traffic.specs.Nodes.{next_link}
 use Rattle.plain_turns.specs.Limits.{IsSmall}
-use Rattle.plain_turns.specs.Exits.{HasNext}
+use Rattle.plain_turns.specs.OutLinks.{HasNext}
 
 -- a vehicle in a buffer has a next link, which is one of so many
 abbrev pub GoesOn : ℕ → Stage → VehicleState → Type 0
@@ -34,10 +34,10 @@ AreFit links (r ∷ rs) = IsFit links r × AreFit links rs
 abbrev pub HasLegAfter : List Leg → ℕ → Place → Type 0
 HasLegAfter legs element (At None) = Unit {0}
 HasLegAfter legs element (At (Some end)) = element / 2 < length legs
-HasLegAfter legs element (Flying start) = Unit {0}
+HasLegAfter legs element (Teleporting start) = Unit {0}
 HasLegAfter legs element (Waiting stop since) = Unit {0}
 HasLegAfter legs element (Riding vehicle) = Unit {0}
-HasLegAfter legs element (Gone link) = Unit {0}
+HasLegAfter legs element (Aborted link) = Unit {0}
 
 abbrev pub CanLeave : PlanRows → Person → Type 0
 CanLeave plan P = HasLegAfter plan.legs P.element P.place

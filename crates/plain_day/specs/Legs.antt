@@ -4,7 +4,7 @@ use Rattle.events.specs.declared.event.Mode.{Mode}
 use Rattle.events.specs.declared.event.Mode.TheVariants as mode
 use Rattle.rows.specs.declared.plan.Leg.{Leg}
 use Rattle.traffic.specs.declared.world.Place.{Place}
-use Rattle.traffic.specs.declared.world.Place.TheVariants.{At, Flying, Waiting, Riding, Gone}
+use Rattle.traffic.specs.declared.world.Place.TheVariants.{At, Teleporting, Waiting, Riding, Aborted}
 use Rattle.traffic.specs.declared.world.Waiter.{Waiter}
 use Rattle.rows.specs.declared.plan.Act.{Act}
 use Rattle.rows.specs.declared.plan.Leg.TheVariants as leg
@@ -26,10 +26,10 @@ mode_of_kind (kind.Transit line access egress) = mode.Pt
 abbrev pub ends_in : ℕ → Place → Bool
 ends_in t (At None) = false
 ends_in t (At (Some end)) = end == t
-ends_in t (Flying start) = false
+ends_in t (Teleporting start) = false
 ends_in t (Waiting stop since) = false
 ends_in t (Riding vehicle) = false
-ends_in t (Gone link) = false
+ends_in t (Aborted link) = false
 
 -- who waits at a stop, where his leg is by transit
 abbrev pub waits_for : ℕ → LegKind → Act → ℕ → ℕ → List Waiter

@@ -1,5 +1,5 @@
 pub mod Fit
 pub mod Measures
-pub mod Sights
+pub mod Views
 pub mod Legs
 pub mod Plans

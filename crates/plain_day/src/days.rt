@@ -4,8 +4,8 @@ ghost use Rattle.std.specs.Prelude.{◌≡◌, ◌<◌, ◌++◌, length, map, r
 ghost use Rattle.limits.specs.declared.TheConstants.{LAST_SECOND};
 ghost use Rattle.events.specs.Lines.{AreInBook};
 ghost use Rattle.fixed_flow.specs.declared.TheConstants.{VEHICLE_COST};
-ghost use Rattle.fit_days.specs.Rows.{IsFitWorld};
-ghost use Rattle.fit_days.specs.Setups.{counts_in, HasItsLinks};
+ghost use Rattle.law_in_range.specs.Rows.{IsFitWorld};
+ghost use Rattle.law_in_range.specs.Setups.{counts_in, HasItsLinks};
 ghost use Rattle.traffic.specs.Worlds.{OnePlace, Sound};
 ghost use Rattle.town.specs.Views.{setup, chosen_in};
 ghost use Rattle.rows.specs.PlanRows.{plan_rows};

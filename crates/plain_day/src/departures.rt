@@ -72,22 +72,22 @@ fn row_at(departures: &DepartureList, d: u32) -> DepartureRow
     departures.rows[d as usize]
 }
 
-/// The moves of a departure in second `t`. In any other than its own nothing is allocated.
+/// The moves of a departure in this second. In any other than its own nothing is allocated.
 pub fn departure_moves(
     alloc: Global,
     day: &DayInput,
-    t: u32,
+    second: u32,
     d: u32,
 ) -> Result<Vec<Move>, AllocError>
     requires { d < length day.now.town.now.departures.rows }
-    ensures { IfOk result (λ moves. moves.items ≡ departure_moves (setup day.now) t d) }
+    ensures { IfOk result (λ moves. moves.items ≡ departure_moves (setup day.now) second d) }
 {
     let row = row_at(&day.town.departures.rows, d);
-    if row.second != t {
+    if row.second != second {
         return Ok(Vec::new(alloc));
     }
     let now = vehicle_of(alloc, d, row, &day.town.routes.rows)?;
     let mut moves = Vec::new(alloc);
-    moves.push(Move::New { now })?;
+    moves.push(Move::Enter { now })?;
     Ok(moves)
 }

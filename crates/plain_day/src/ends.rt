@@ -12,7 +12,7 @@ use plain_turns::of_person;
 use plain_world::World;
 use rows::{Act, act_in};
 use town::{DayInput, chosen_plan};
-use traffic::{Place, Row, Said};
+use traffic::{Occurrence, Place, Row};
 
 fn same_vehicle(a: VehicleId, b: VehicleId) -> bool
     ensures { result ≡ same_vehicle a b }
@@ -59,21 +59,21 @@ fn stuck_at(
     here: Act,
     mode: Mode,
     place: Place,
-) -> Option<Said>
+) -> Option<Occurrence>
     ensures { option_to_list result ≡ stuck_at (setup day.now) world.now i here mode place }
 {
     let link = match place {
         Place::At { .. } => return None,
-        Place::Flying { .. } => here.link,
+        Place::Teleporting { .. } => here.link,
         Place::Waiting { stop, .. } => link_of_stop(day, stop),
         Place::Riding { vehicle } => link_in(vehicle, world),
-        Place::Gone { .. } => return None,
+        Place::Aborted { .. } => return None,
     };
     Some(of_person(Word::StuckAndAbort, i, link, More::Mode(mode)))
 }
 
 /// What the end of the day tells of a person: that he is stuck, where he is under way.
-pub fn stranded(day: &DayInput, i: u32, world: &World) -> Option<Said>
+pub fn stranded(day: &DayInput, i: u32, world: &World) -> Option<Occurrence>
     requires there { i < length day.now.chosen.now }
     requires persons { length world.now.persons ≡ length day.now.chosen.now }
     ensures { option_to_list result ≡ stranded (setup day.now) world.now i }

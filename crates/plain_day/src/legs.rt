@@ -37,7 +37,7 @@ pub(crate) fn kind_of(leg: &Leg) -> LegKind
     }
 }
 
-/// The leg at a place; behind the last one a drive.
+/// The leg at a place; behind the last one a leg by car.
 fn kind_at(legs: &Legs, place: usize) -> LegKind
     ensures { result ≡ kind_of (nth_leg legs.now place) }
 {
@@ -54,10 +54,10 @@ pub(crate) fn kind_in(plan: &Plan, element: u32) -> LegKind
     kind_at(&plan.legs, element as usize / 2)
 }
 
-pub(crate) fn mode_of_kind(trip: LegKind) -> Mode
-    ensures { result ≡ mode_of_kind trip }
+pub(crate) fn mode_of_kind(leg: LegKind) -> Mode
+    ensures { result ≡ mode_of_kind leg }
 {
-    match trip {
+    match leg {
         LegKind::Car => Mode::Car,
         LegKind::Teleport { mode, .. } => mode,
         LegKind::Transit { .. } => Mode::Pt,

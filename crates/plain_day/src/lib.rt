@@ -8,8 +8,8 @@ mod legs;
 mod links;
 mod persons;
 mod phases;
-mod sights;
 mod turns;
+mod views;
 mod waiters;
 
 pub use days::{fit_second, plain_day, plain_second, start};

@@ -5,7 +5,7 @@ ghost use Rattle.std.specs.List.{list_all};
 ghost use Rattle.rows.specs.PlanRows.{plan_rows, act_in, leg_in};
 ghost use Rattle.town.specs.Fits.{fits};
 ghost use Rattle.town.specs.Views.{rows_of, chosen_in, setup};
-ghost use Rattle.traffic.specs.declared.moves.Move.TheVariants.{Tell};
+ghost use Rattle.traffic.specs.declared.moves.Move.TheVariants.{Report};
 ghost use Rattle.traffic.specs.Setup.{person_plan};
 ghost use Rattle.traffic.specs.Persons.{mode_of_leg, lands, landing, landing_moves, departs, car, sets_out, leaving, leaving_moves};
 ghost use Rattle.rows.specs.declared.plan.Leg.{Leg};
@@ -19,14 +19,22 @@ use plain_turns::of_person;
 use rows::{Act, Leg, Legs, Plan, act_after, act_in};
 use std::alloc::{AllocError, Global};
 use town::{DayInput, chosen_plan};
-use traffic::{Move, Person, Place, Rider, Riders, Row, Said, SaidList, Stage, Vehicle};
+use traffic::{
+    Move, Occurrence, OccurrenceList, Person, Place, Rider, Riders, Row, Stage, Vehicle,
+};
 
 /// A teleported leg is over.
-fn lands(alloc: Global, i: u32, mode: Mode, seconds: u32, next: Act) -> Result<SaidList, AllocError>
+fn lands(
+    alloc: Global,
+    i: u32,
+    mode: Mode,
+    seconds: u32,
+    next: Act,
+) -> Result<OccurrenceList, AllocError>
     ensures { IfOk result (λ says. says ≡ lands i mode seconds next) }
 {
     let mut rows = Vec::new(alloc);
-    rows.push(Said {
+    rows.push(Occurrence {
         word: Word::Travelled,
         person: Some(i),
         vehicle: None,
@@ -35,36 +43,36 @@ fn lands(alloc: Global, i: u32, mode: Mode, seconds: u32, next: Act) -> Result<S
     })?;
     rows.push(of_person(Word::Arrival, i, next.link, More::Mode(mode)))?;
     rows.push(of_person(Word::ActStart, i, next.link, More::Kind(next.kind)))?;
-    Ok(SaidList { rows })
+    Ok(OccurrenceList { rows })
 }
 
 /// One move that tells.
-fn tell(alloc: Global, says: SaidList) -> Result<Vec<Move>, AllocError>
-    ensures { IfOk result (λ moves. moves.items ≡ Tell says ∷ []) }
+fn tell(alloc: Global, says: OccurrenceList) -> Result<Vec<Move>, AllocError>
+    ensures { IfOk result (λ moves. moves.items ≡ Report says ∷ []) }
 {
     let mut moves = Vec::new(alloc);
-    moves.push(Move::Tell { says })?;
+    moves.push(Move::Report { says })?;
     Ok(moves)
 }
 
 /// The moves of a person with this plan whose leg may end.
 fn landing(
     alloc: Global,
-    t: u32,
+    second: u32,
     i: u32,
     plan: &Plan,
     person: Person,
 ) -> Result<Vec<Move>, AllocError>
     ensures { IfOk result (λ moves. moves.items
-        ≡ landing t i (leg_in (plan_rows plan.now) person.element) (act_in (plan_rows plan.now) (person.element + 2)) person.place) }
+        ≡ landing second i (leg_in (plan_rows plan.now) person.element) (act_in (plan_rows plan.now) (person.element + 2)) person.place) }
 {
-    let Place::Flying { start } = person.place else {
+    let Place::Teleporting { start } = person.place else {
         return Ok(Vec::new(alloc));
     };
     let LegKind::Teleport { mode, seconds } = kind_in(plan, person.element) else {
         return Ok(Vec::new(alloc));
     };
-    if u64::from(start) + u64::from(seconds) != u64::from(t) {
+    if u64::from(start) + u64::from(seconds) != u64::from(second) {
         return Ok(Vec::new(alloc));
     }
     let says = lands(alloc, i, mode, seconds, act_after(plan, person.element))?;
@@ -76,26 +84,26 @@ fn landing(
 pub fn landing_moves(
     alloc: Global,
     day: &DayInput,
-    t: u32,
+    second: u32,
     i: u32,
     person: Person,
 ) -> Result<Vec<Move>, AllocError>
     requires { i < length day.now.chosen.now }
-    ensures { IfOk result (λ moves. moves.items ≡ landing_moves (setup day.now) t i person) }
+    ensures { IfOk result (λ moves. moves.items ≡ landing_moves (setup day.now) second i person) }
 {
     let plan = chosen_plan(day, i);
-    let moves = landing(alloc, t, i, plan, person)?;
+    let moves = landing(alloc, second, i, plan, person)?;
     Ok(moves)
 }
 
 /// An activity ends, and the leg after it begins.
-fn departs(alloc: Global, i: u32, here: Act, mode: Mode) -> Result<SaidList, AllocError>
+fn departs(alloc: Global, i: u32, here: Act, mode: Mode) -> Result<OccurrenceList, AllocError>
     ensures { IfOk result (λ says. (w : Leg) → mode_of_leg w ≡ mode → says ≡ departs i here w) }
 {
     let mut rows = Vec::new(alloc);
     rows.push(of_person(Word::ActEnd, i, here.link, More::Kind(here.kind)))?;
     rows.push(of_person(Word::Departure, i, here.link, More::Mode(mode)))?;
-    Ok(SaidList { rows })
+    Ok(OccurrenceList { rows })
 }
 
 /// A car with its driver, at the end of the wait list of the first link of its route.
@@ -149,7 +157,7 @@ fn push_sets_out(
     match leg {
         Leg::Car { route } => {
             let now = car(alloc, i, route, next.kind)?;
-            moves.push(Move::New { now })?;
+            moves.push(Move::Enter { now })?;
             Ok(())
         }
         Leg::Teleport { .. } => Ok(()),
@@ -161,8 +169,8 @@ fn push_sets_out(
                 link_of_stop(day, *access),
                 More::Stop(*access),
             ))?;
-            moves.push(Move::Tell {
-                says: SaidList { rows },
+            moves.push(Move::Report {
+                says: OccurrenceList { rows },
             })?;
             Ok(())
         }
@@ -182,7 +190,7 @@ fn leave(
     requires there { place < length legs.now }
     requires route { HasRoute (nth_leg legs.now place) }
     ensures { IfOk result (λ moves. moves.items
-        ≡ Tell (departs i here (nth_leg legs.now place)) ∷ sets_out (setup day.now) i (nth_leg legs.now place) next) }
+        ≡ Report (departs i here (nth_leg legs.now place)) ∷ sets_out (setup day.now) i (nth_leg legs.now place) next) }
 {
     let leg = &legs.rows[place];
     let says = departs(alloc, i, here, mode_of_kind(kind_of(leg)))?;
@@ -191,17 +199,17 @@ fn leave(
     Ok(moves)
 }
 
-/// Whether an activity at this place ends in second `t`.
-fn ends_in(t: u32, place: Place) -> bool
-    ensures { result ≡ ends_in t place }
+/// Whether an activity at this place ends in this second.
+fn ends_in(second: u32, place: Place) -> bool
+    ensures { result ≡ ends_in second place }
 {
     match place {
-        Place::At { end: Some(end) } => end == t,
+        Place::At { end: Some(end) } => end == second,
         Place::At { end: None } => false,
-        Place::Flying { .. } => false,
+        Place::Teleporting { .. } => false,
         Place::Waiting { .. } => false,
         Place::Riding { .. } => false,
-        Place::Gone { .. } => false,
+        Place::Aborted { .. } => false,
     }
 }
 
@@ -209,7 +217,7 @@ fn ends_in(t: u32, place: Place) -> bool
 fn leaving(
     alloc: Global,
     day: &DayInput,
-    t: u32,
+    second: u32,
     i: u32,
     plan: &Plan,
     person: Person,
@@ -217,9 +225,10 @@ fn leaving(
     requires leg { CanLeave (plan_rows plan.now) person }
     requires fits { fits (rows_of day.now.town.now) (plan_rows plan.now) ≡ true }
     ensures { IfOk result (λ moves. moves.items
-        ≡ leaving (setup day.now) t i (act_in (plan_rows plan.now) person.element) (leg_in (plan_rows plan.now) person.element) (act_in (plan_rows plan.now) (person.element + 2)) person.place) }
+        ≡ leaving (setup day.now) second i (act_in (plan_rows plan.now) person.element) (leg_in (plan_rows plan.now) person.element)
+        (act_in (plan_rows plan.now) (person.element + 2)) person.place) }
 {
-    if !ends_in(t, person.place) {
+    if !ends_in(second, person.place) {
         return Ok(Vec::new(alloc));
     }
     let place = person.element as usize / 2;
@@ -233,16 +242,16 @@ fn leaving(
 pub fn leaving_moves(
     alloc: Global,
     day: &DayInput,
-    t: u32,
+    second: u32,
     i: u32,
     person: Person,
 ) -> Result<Vec<Move>, AllocError>
     requires there { i < length day.now.chosen.now }
     requires leg { CanLeave (person_plan (setup day.now) i) person }
     requires fits { list_all (fits (rows_of day.now.town.now)) (chosen_in day.now) ≡ true }
-    ensures { IfOk result (λ moves. moves.items ≡ leaving_moves (setup day.now) t i person) }
+    ensures { IfOk result (λ moves. moves.items ≡ leaving_moves (setup day.now) second i person) }
 {
     let plan = chosen_plan(day, i);
-    let moves = leaving(alloc, day, t, i, plan, person)?;
+    let moves = leaving(alloc, day, second, i, plan, person)?;
     Ok(moves)
 }

@@ -3,12 +3,12 @@
 ghost use Rattle.std.specs.Prelude.{◌≡◌, ◌<◌, ◌++◌, length, OnOk, IfOk};
 ghost use Rattle.std.specs.List.{flat_map};
 ghost use Rattle.limits.specs.declared.TheConstants.{LAST_SECOND};
-ghost use Rattle.fit_days.specs.Rows.{IsFitWorld};
-ghost use Rattle.fit_days.specs.Setups.{counts_in};
+ghost use Rattle.law_in_range.specs.Rows.{IsFitWorld};
+ghost use Rattle.law_in_range.specs.Setups.{counts_in};
 ghost use Rattle.town.specs.Views.{setup};
 ghost use Rattle.traffic.specs.Rows.{person_of};
 ghost use Rattle.traffic.specs.Moves.{told, run};
-ghost use Rattle.traffic.specs.Day.{plan_of, count_of, turns_in, after, events_of, events_in};
+ghost use Rattle.traffic.specs.Day.{turns_of, count_of, turns_in, after, events_of, events_in};
 ghost use Rattle.plain_day.specs.Plans.{HaveFittingPlans};
 
 use crate::departures::departure_moves;
@@ -19,7 +19,7 @@ use events::{Event, Phase};
 use plain_world::{World, do_moves, push_keyed};
 use std::alloc::{AllocError, Global};
 use town::DayInput;
-use traffic::{Move, Person, Said};
+use traffic::{Move, Occurrence, Person};
 
 /// How many have a turn in a phase.
 #[tactic(auto, unfolding(town::specs::Setups::setup_of))]
@@ -46,7 +46,7 @@ fn person_of(world: &World, number: u32) -> Person
 }
 
 /// The moves of one person, departure, node or link in its turn.
-#[tactic(auto, unfolding(traffic::specs::Day::plan_of))]
+#[tactic(auto, unfolding(traffic::specs::Day::turns_of))]
 fn turn(
     alloc: Global,
     day: &DayInput,
@@ -59,7 +59,7 @@ fn turn(
     requires given { HaveFittingPlans day.now }
     requires fit { IsFitWorld (counts_in day.now) world.now }
     requires there { number < count_of (setup day.now) phase }
-    ensures { IfOk result (λ moves. moves.items ≡ plan_of (setup day.now) second phase number world.now) }
+    ensures { IfOk result (λ moves. moves.items ≡ turns_of (setup day.now) second phase number world.now) }
 {
     match phase {
         Phase::A => landing_moves(alloc, day, second, number, person_of(world, number)),
@@ -78,7 +78,7 @@ fn do_turn(
     second: u32,
     moves: Vec<Move>,
     world: &mut World,
-) -> Result<Vec<Said>, AllocError>
+) -> Result<Vec<Occurrence>, AllocError>
     requires { second < LAST_SECOND }
     ensures world { OnOk result (world.new ≡ run (setup day.now) second moves.items world.old) }
     ensures told { IfOk result (λ said. said.items ≡ flat_map told moves.items) }
@@ -102,9 +102,10 @@ fn next_turn(
     requires given { HaveFittingPlans day.now }
     requires fit { IsFitWorld (counts_in day.now) world.old }
     requires there { number < count_of (setup day.now) phase }
-    ensures world { OnOk result (world.new ≡ run (setup day.now) second (plan_of (setup day.now) second phase number world.old) world.old) }
+    ensures world { OnOk result (world.new
+        ≡ run (setup day.now) second (turns_of (setup day.now) second phase number world.old) world.old) }
     ensures events { OnOk result (out.new.items ≡ out.old.items
-        ++ events_of second phase (record { number = number; moves = plan_of (setup day.now) second phase number world.old })) }
+        ++ events_of second phase (record { number = number; moves = turns_of (setup day.now) second phase number world.old })) }
     ensures fit { OnOk result (IsFitWorld (counts_in day.now) world.new) }
 {
     let moves = turn(alloc, day, second, phase, number, world)?;
@@ -126,7 +127,8 @@ pub(crate) fn do_phase(
     requires given { HaveFittingPlans day.now }
     requires fit { IsFitWorld (counts_in day.now) world.old }
     ensures world { OnOk result (world.new ≡ after (setup day.now) second (turns_in (setup day.now) second phase world.old) world.old) }
-    ensures events { OnOk result (out.new.items ≡ out.old.items ++ events_in second phase (turns_in (setup day.now) second phase world.old)) }
+    ensures events { OnOk result (out.new.items
+        ≡ out.old.items ++ events_in second phase (turns_in (setup day.now) second phase world.old)) }
     ensures fit { OnOk result (IsFitWorld (counts_in day.now) world.new) }
 {
     let count = count_of(day, phase);

@@ -12,35 +12,30 @@ ghost use Rattle.plain_day.specs.Legs.{kind_of, waits_for};
 
 use crate::legs::{LegKind, kind_in};
 use plain_world::World;
-use rows::{Act, Plan, StopList, act_after};
+use rows::{Act, Plan, StopList, act_after, stop_link};
 use std::alloc::{AllocError, Global};
 use town::{DayInput, chosen_plan};
 use traffic::{Person, Place, Waiter};
 
-/// The link of a stop, which is 0 where there is no such stop.
-fn stop_link(stops: &StopList, stop: u32) -> u32
+fn link_in(stops: &StopList, stop: u32) -> u32
     ensures { result ≡ stop_link stops.now stop }
 {
-    let place = stop as usize;
-    if place < stops.rows.len() {
-        return stops.rows[place].link;
-    }
-    0
+    stop_link(&stops.rows, stop)
 }
 
-/// The same of a town.
+/// The link of a stop of the town, which is 0 where there is no such stop.
 #[tactic(auto, unfolding(town::specs::Setups::setup_of))]
 pub(crate) fn link_of_stop(day: &DayInput, stop: u32) -> u32
     ensures { result ≡ link_of_stop (setup day.now) stop }
 {
-    stop_link(&day.town.stops.rows, stop)
+    link_in(&day.town.stops.rows, stop)
 }
 
 /// A person who waits at a stop for a transit leg.
-fn waits(person: u32, trip: LegKind, next: Act, stop: u32, since: u32) -> Option<Waiter>
-    ensures { option_to_list result ≡ waits_for person trip next stop since }
+fn waits(person: u32, leg: LegKind, next: Act, stop: u32, since: u32) -> Option<Waiter>
+    ensures { option_to_list result ≡ waits_for person leg next stop since }
 {
-    match trip {
+    match leg {
         LegKind::Car => None,
         LegKind::Teleport { .. } => None,
         LegKind::Transit { line, egress, .. } => Some(Waiter {
@@ -57,7 +52,8 @@ fn waits(person: u32, trip: LegKind, next: Act, stop: u32, since: u32) -> Option
 /// The person, where he waits at a stop of the link.
 fn waiter(day: &DayInput, link: u32, i: u32, plan: &Plan, person: Person) -> Option<Waiter>
     ensures { option_to_list result
-        ≡ waits_on (setup day.now) link i (leg_in (plan_rows plan.now) person.element) (act_in (plan_rows plan.now) (person.element + 2)) person.place }
+        ≡ waits_on (setup day.now) link i (leg_in (plan_rows plan.now) person.element)
+        (act_in (plan_rows plan.now) (person.element + 2)) person.place }
 {
     let Place::Waiting { stop, since } = person.place else {
         return None;

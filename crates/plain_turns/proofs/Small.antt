@@ -1,9 +1,6 @@
 -- Rows that change their stage stay small.
-use Rattle.std.proofs.Common.{◌≡◌, ℕ, List, [], ◌∷◌, ◌++◌, inl, inr}
-use Rattle.std.specs.Prelude.{filter, map, nat_le}
-use Rattle.std.proofs.lemmas.Bool.{cases_Bool}
+use Rattle.traffic.proofs.Common.{◌≡◌, ℕ, List, [], ◌∷◌, ◌++◌, inl, inr, cases_Bool, map, filter, nat_le, waiting}
 use Rattle.traffic.specs.declared.world.Row.{Row}
-use Rattle.traffic.specs.Links.{waiting}
 use Rattle.plain_turns.specs.Limits.{AreSmall}
 
 small_append : (xs ys : List Row) → AreSmall xs → AreSmall ys → AreSmall (xs ++ ys)

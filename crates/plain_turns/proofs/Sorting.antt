@@ -1,21 +1,17 @@
 -- A stable sort of those who wait, the last one first, is the order in which they come.
-use Rattle.std.proofs.Common.{◌≡◌, ℕ, suc, ◌<◌, Bool, true, false, cond, List, [], ◌∷◌, ◌++◌, length, get_or, refl, sym, ap, ◌∙◌, subst, inl, inr, arith}
+use Rattle.traffic.proofs.Common.{◌≡◌, ℕ, List, ◌∙◌, length, ap, refl, sym, [], ◌∷◌, arith, ◌<◌, true, ◌++◌, Bool, inl, inr, subst, false, suc, get_or, cond}
+use Rattle.traffic.proofs.Common.{fun_ext, cases_Bool, nat_tests, filter-append, IsSortedByKey, IsStableByKey, AllPairs, reverse, filter, ◌&&◌, nat_lt, ◌==◌}
+use Rattle.traffic.proofs.Common.{◌||◌, comes_first, ComesBefore, in_turn, among}
+use Rattle.traffic.specs.declared.world.Waiter.{Waiter}
 use native.Mathlib.Numerals.{unary_clauses}
-use Rattle.std.specs.Prelude.{◌&&◌, ◌||◌, ◌==◌, nat_lt, filter, reverse, AllPairs}
-use Rattle.std.specs.List.Sorted.{IsSortedBy, IsSortedByKey, IsStableBy, IsStableByKey, ties}
+use Rattle.std.specs.List.Sorted.{IsSortedBy, IsStableBy, ties}
 use Rattle.std.specs.Cmp.{IsStrictWeakOrder}
 use Rattle.std.specs.Ordering.{nat_cmp, ordering_then, is_lt}
 use Rattle.std.specs.declared.cmp.Ordering.{Ordering}
 use Rattle.std.specs.declared.cmp.Ordering.TheVariants.{Less, Equal, Greater}
-use Rattle.std.proofs.Math.Path.{fun_ext}
-use Rattle.std.proofs.lemmas.Bool.{cases_Bool}
-use Rattle.std.proofs.lemmas.Bool.Decides.{nat_tests}
 use Rattle.std.proofs.lemmas.List.{append-nil, reverse-append}
-use Rattle.std.proofs.lemmas.List.Elements.{filter-append}
 use Rattle.std.proofs.lemmas.List.Sorted.{sorted_far, ranks_by}
 use Rattle.std.proofs.lemmas.Cmp.{nat_cmp_total, on_total, then_total}
-use Rattle.traffic.specs.declared.world.Waiter.{Waiter}
-use Rattle.traffic.specs.Stops.{comes_first, ComesBefore, among, in_turn}
 use Rattle.traffic.proofs.ComeInTurn.{turn-order}
 
 -- nobody in the list comes before x

@@ -1,3 +1,3 @@
 pub mod Limits
-pub mod Lanes
-pub mod Exits
+pub mod LinkState
+pub mod OutLinks

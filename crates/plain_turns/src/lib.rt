@@ -2,16 +2,16 @@
 //! definitions of `traffic` say it, and what a move tells.
 #![tactic(auto)]
 
-mod exits;
 mod links;
 mod lists;
 mod nodes;
+mod out_links;
 mod picks;
 mod stops;
 mod telling;
 
-pub use exits::ExitRow;
 pub use links::link_moves;
-pub use lists::LaneRows;
+pub use lists::LinkVehicles;
 pub use nodes::node_moves;
+pub use out_links::OutLinkRow;
 pub use telling::{of_person, push_told};

@@ -4,13 +4,13 @@ ghost use Rattle.std.specs.Prelude.{◌≡◌, ◌<◌, ◌≤◌, ◌+◌, ◌^
 ghost use Rattle.limits.specs.declared.TheConstants.{LAST_SECOND};
 ghost use Rattle.traffic.specs.declared.world.Row.{Row};
 ghost use Rattle.traffic.specs.Links.{waiting, leave_bay, is_last, buffered, may_pass, from_wait, from_queue, wait_after, link_moves};
-ghost use Rattle.traffic.specs.declared.moves.Move.TheVariants.{Put, Gone, Free, Credit};
+ghost use Rattle.traffic.specs.declared.moves.Move.TheVariants.{Transfer, Remove, LeaveHole, Credit};
 ghost use Rattle.traffic.specs.declared.stage.Stage.TheVariants.{Queue, Buffer, Wait, Bay};
-ghost use Rattle.plain_turns.specs.Lanes.{lane_of};
+ghost use Rattle.plain_turns.specs.LinkState.{link_state_of};
 ghost use Rattle.rows.specs.Settings.{IsDwelling};
 ghost use Rattle.plain_turns.specs.Limits.{AreSmall};
 
-use crate::lists::LaneRows;
+use crate::lists::LinkVehicles;
 use crate::stops::{calls_on, serve};
 use fixed_flow::{VEHICLE_COST, raised_credit};
 use std::alloc::{AllocError, Global};
@@ -30,24 +30,24 @@ fn waiting(l: u32, row: &Row) -> Result<Row, AllocError>
 /// Step 1, from place `k` of the bay on.
 #[tactic(auto, unfolding(traffic::specs::Links::leave_bay))]
 fn push_leave_bay(
-    t: u32,
+    second: u32,
     l: u32,
     k: usize,
     bay: &[Row],
     out: &mut Vec<Move>,
 ) -> Result<(), AllocError>
     requires { k + length bay.now < 2 ^ 64 }
-    ensures { OnOk result (out.new.items ≡ out.old.items ++ leave_bay t l k bay.now) }
+    ensures { OnOk result (out.new.items ≡ out.old.items ++ leave_bay second l k bay.now) }
 {
     let mut k = k;
     for row in bay {
-        if row.second <= t {
+        if row.second <= second {
             let was = row.try_clone()?;
             let now = waiting(l, row)?;
-            out.push(Move::Put {
-                l,
-                s: Stage::Bay,
-                k,
+            out.push(Move::Transfer {
+                link: l,
+                stage: Stage::Bay,
+                place: k,
                 was,
                 now,
             })?;
@@ -65,8 +65,8 @@ fn is_last(vehicle: &Vehicle) -> bool
 }
 
 /// The row at the end of a buffer of `b` rows.
-fn buffered(t: u32, l: u32, b: usize, row: &Row) -> Result<Row, AllocError>
-    ensures { IfOk result (λ after. after ≡ buffered t l b row.now) }
+fn buffered(second: u32, l: u32, b: usize, row: &Row) -> Result<Row, AllocError>
+    ensures { IfOk result (λ after. after ≡ buffered second l b row.now) }
 {
     let mut vehicle = row.vehicle.try_clone()?;
     vehicle.started = true;
@@ -74,7 +74,7 @@ fn buffered(t: u32, l: u32, b: usize, row: &Row) -> Result<Row, AllocError>
         vehicle,
         link: l,
         stage: Stage::Buffer,
-        second: if b == 0 { t } else { 0 },
+        second: if b == 0 { second } else { 0 },
     })
 }
 
@@ -89,13 +89,13 @@ fn may_pass(rules: &Rules, b: usize, credit: u32) -> bool
 
 /// A row goes from the wait list into the bay or into the buffer.
 fn push_from_wait_to(l: u32, row: &Row, now: Row, out: &mut Vec<Move>) -> Result<(), AllocError>
-    ensures { OnOk result (out.new.items ≡ out.old.items ++ Put l Wait 0 row.now now ∷ []) }
+    ensures { OnOk result (out.new.items ≡ out.old.items ++ Transfer l Wait 0 row.now now ∷ []) }
 {
     let was = row.try_clone()?;
-    out.push(Move::Put {
-        l,
-        s: Stage::Wait,
-        k: 0,
+    out.push(Move::Transfer {
+        link: l,
+        stage: Stage::Wait,
+        place: 0,
         was,
         now,
     })?;
@@ -104,13 +104,13 @@ fn push_from_wait_to(l: u32, row: &Row, now: Row, out: &mut Vec<Move>) -> Result
 
 /// A row leaves the wait list for good.
 fn push_gone_from_wait(l: u32, row: &Row, out: &mut Vec<Move>) -> Result<(), AllocError>
-    ensures { OnOk result (out.new.items ≡ out.old.items ++ Gone l Wait 0 row.now ∷ []) }
+    ensures { OnOk result (out.new.items ≡ out.old.items ++ Remove l Wait 0 row.now ∷ []) }
 {
     let was = row.try_clone()?;
-    out.push(Move::Gone {
-        l,
-        s: Stage::Wait,
-        k: 0,
+    out.push(Move::Remove {
+        link: l,
+        stage: Stage::Wait,
+        place: 0,
         was,
     })?;
     Ok(())
@@ -118,54 +118,62 @@ fn push_gone_from_wait(l: u32, row: &Row, out: &mut Vec<Move>) -> Result<(), All
 
 /// A row goes from the queue into the bay or into the buffer, and leaves a place.
 fn push_from_queue_to(
-    t: u32,
+    second: u32,
     l: u32,
     row: &Row,
     now: Row,
     out: &mut Vec<Move>,
 ) -> Result<(), AllocError>
-    ensures { OnOk result (out.new.items ≡ out.old.items ++ Put l Queue 0 row.now now ∷ Free l t ∷ []) }
+    ensures { OnOk result (out.new.items ≡ out.old.items ++ Transfer l Queue 0 row.now now ∷ LeaveHole l second ∷ []) }
 {
     let was = row.try_clone()?;
-    out.push(Move::Put {
-        l,
-        s: Stage::Queue,
-        k: 0,
+    out.push(Move::Transfer {
+        link: l,
+        stage: Stage::Queue,
+        place: 0,
         was,
         now,
     })?;
-    out.push(Move::Free { l, t })?;
+    out.push(Move::LeaveHole { link: l, second })?;
     Ok(())
 }
 
 /// A row leaves the queue for good, and leaves a place.
-fn push_gone_from_queue(t: u32, l: u32, row: &Row, out: &mut Vec<Move>) -> Result<(), AllocError>
-    ensures { OnOk result (out.new.items ≡ out.old.items ++ Gone l Queue 0 row.now ∷ Free l t ∷ []) }
+fn push_gone_from_queue(
+    second: u32,
+    l: u32,
+    row: &Row,
+    out: &mut Vec<Move>,
+) -> Result<(), AllocError>
+    ensures { OnOk result (out.new.items ≡ out.old.items ++ Remove l Queue 0 row.now ∷ LeaveHole l second ∷ []) }
 {
     let was = row.try_clone()?;
-    out.push(Move::Gone {
-        l,
-        s: Stage::Queue,
-        k: 0,
+    out.push(Move::Remove {
+        link: l,
+        stage: Stage::Queue,
+        place: 0,
         was,
     })?;
-    out.push(Move::Free { l, t })?;
+    out.push(Move::LeaveHole { link: l, second })?;
     Ok(())
 }
 
 /// A row goes from the queue into the buffer, leaves a place, and pays.
 fn push_passing(
-    t: u32,
+    second: u32,
     l: u32,
     row: &Row,
     now: Row,
     paid: u32,
     out: &mut Vec<Move>,
 ) -> Result<(), AllocError>
-    ensures { OnOk result (out.new.items ≡ out.old.items ++ Put l Queue 0 row.now now ∷ Free l t ∷ Credit l paid ∷ []) }
+    ensures { OnOk result (out.new.items ≡ out.old.items ++ Transfer l Queue 0 row.now now ∷ LeaveHole l second ∷ Credit l paid ∷ []) }
 {
-    push_from_queue_to(t, l, row, now, out)?;
-    out.push(Move::Credit { l, credit: paid })?;
+    push_from_queue_to(second, l, row, now, out)?;
+    out.push(Move::Credit {
+        link: l,
+        credit: paid,
+    })?;
     Ok(())
 }
 
@@ -177,10 +185,13 @@ fn push_entering(
     paid: u32,
     out: &mut Vec<Move>,
 ) -> Result<(), AllocError>
-    ensures { OnOk result (out.new.items ≡ out.old.items ++ Put l Wait 0 row.now now ∷ Credit l paid ∷ []) }
+    ensures { OnOk result (out.new.items ≡ out.old.items ++ Transfer l Wait 0 row.now now ∷ Credit l paid ∷ []) }
 {
     push_from_wait_to(l, row, now, out)?;
-    out.push(Move::Credit { l, credit: paid })?;
+    out.push(Move::Credit {
+        link: l,
+        credit: paid,
+    })?;
     Ok(())
 }
 
@@ -305,12 +316,12 @@ fn push_rows(rows: &[Row], out: &mut Vec<Row>) -> Result<(), AllocError>
 }
 
 /// Appends the rows of a bay whose second has come, as they stand on the wait list.
-fn push_due(t: u32, l: u32, bay: &[Row], out: &mut Vec<Row>) -> Result<(), AllocError>
+fn push_due(second: u32, l: u32, bay: &[Row], out: &mut Vec<Row>) -> Result<(), AllocError>
     ensures { OnOk result (out.new.items
-        ≡ out.old.items ++ map (waiting l) (filter (λ (r : Row). nat_le r.second t) bay.now)) }
+        ≡ out.old.items ++ map (waiting l) (filter (λ (r : Row). nat_le r.second second) bay.now)) }
 {
     for row in bay {
-        if row.second <= t {
+        if row.second <= second {
             let after = waiting(l, row)?;
             out.push(after)?;
         }
@@ -319,61 +330,71 @@ fn push_due(t: u32, l: u32, bay: &[Row], out: &mut Vec<Row>) -> Result<(), Alloc
 }
 
 /// The wait list once the bay is left.
-fn wait_after(alloc: Global, t: u32, l: u32, lane: &LaneRows) -> Result<Vec<Row>, AllocError>
+fn wait_after(
+    alloc: Global,
+    second: u32,
+    l: u32,
+    link_state: &LinkVehicles,
+) -> Result<Vec<Row>, AllocError>
     ensures { IfOk result (λ after. after.items
-        ≡ lane.now.wait.items ++ map (waiting l) (filter (λ (r : Row). nat_le r.second t) lane.now.bay.items)) }
+        ≡ link_state.now.wait.items ++ map (waiting l) (filter (λ (r : Row). nat_le r.second second) link_state.now.bay.items)) }
 {
     let mut wait = Vec::new(alloc);
-    push_rows(&lane.wait, &mut wait)?;
-    push_due(t, l, &lane.bay, &mut wait)?;
+    push_rows(&link_state.wait, &mut wait)?;
+    push_due(second, l, &link_state.bay, &mut wait)?;
     Ok(wait)
 }
 
 /// The same, of rows that are small.
-fn small_wait_after(alloc: Global, t: u32, l: u32, lane: &LaneRows) -> Result<Vec<Row>, AllocError>
-    requires wait { AreSmall lane.now.wait.items }
-    requires bay { AreSmall lane.now.bay.items }
+fn small_wait_after(
+    alloc: Global,
+    second: u32,
+    l: u32,
+    link_state: &LinkVehicles,
+) -> Result<Vec<Row>, AllocError>
+    requires wait { AreSmall link_state.now.wait.items }
+    requires bay { AreSmall link_state.now.bay.items }
     ensures value { IfOk result (λ after. after.items
-        ≡ lane.now.wait.items ++ map (waiting l) (filter (λ (r : Row). nat_le r.second t) lane.now.bay.items)) }
+        ≡ link_state.now.wait.items ++ map (waiting l) (filter (λ (r : Row). nat_le r.second second) link_state.now.bay.items)) }
     ensures small { IfOk result (λ after. AreSmall after.items) }
 {
-    let after = wait_after(alloc, t, l, lane)?;
+    let after = wait_after(alloc, second, l, link_state)?;
     Ok(after)
 }
 
-/// The moves of link `l` in second `t`, by its lists, its credit and those who wait at its stops.
+/// The moves of link `l` in this second, by its lists, its credit and those who wait at its stops.
 #[tactic(auto, unfolding(traffic::specs::Links::link_moves))]
 pub fn link_moves(
     alloc: Global,
     rules: &Rules,
-    t: u32,
+    second: u32,
     l: u32,
     waiters: &[Waiter],
-    lane: &LaneRows,
+    link_state: &LinkVehicles,
     credit: u32,
 ) -> Result<Vec<Move>, AllocError>
     requires dwell_in { IsDwelling rules.now.dwell }
-    requires second_in { t < LAST_SECOND }
-    requires small { AreSmall lane.now.queue.items }
-    requires small_wait { AreSmall lane.now.wait.items }
-    requires small_bay { AreSmall lane.now.bay.items }
-    ensures { IfOk result (λ moves. moves.items ≡ link_moves rules.now t l waiters.now (lane_of lane.now credit)) }
+    requires second_in { second < LAST_SECOND }
+    requires small { AreSmall link_state.now.queue.items }
+    requires small_wait { AreSmall link_state.now.wait.items }
+    requires small_bay { AreSmall link_state.now.bay.items }
+    ensures { IfOk result (λ moves. moves.items ≡ link_moves rules.now second l waiters.now (link_state_of link_state.now credit)) }
 {
-    let wait = small_wait_after(alloc, t, l, lane)?;
+    let wait = small_wait_after(alloc, second, l, link_state)?;
     let credit = raised_credit(rules.gain, credit);
     let mut moves = Vec::new(alloc);
-    push_leave_bay(t, l, 0, &lane.bay, &mut moves)?;
-    moves.push(Move::Credit { l, credit })?;
+    push_leave_bay(second, l, 0, &link_state.bay, &mut moves)?;
+    moves.push(Move::Credit { link: l, credit })?;
     let at = LinkSecond {
         link: l,
-        second: t,
+        second,
         rules: *rules,
     };
     let passage = Passage {
         waiters: Vec::from_slice(alloc, waiters)?,
-        buffered: lane.buffer.len(),
+        buffered: link_state.buffer.len(),
         credit,
     };
-    push_from_queue(alloc, at, passage, &lane.queue, &wait, &mut moves)?;
+    push_from_queue(alloc, at, passage, &link_state.queue, &wait, &mut moves)?;
     Ok(moves)
 }

@@ -2,7 +2,7 @@ use traffic::Row;
 
 /// The rows of a link: its queue, its buffer, its wait list and its bay.
 #[derive(Drop)]
-pub struct LaneRows {
+pub struct LinkVehicles {
     pub queue: Vec<Row>,
     pub buffer: Vec<Row>,
     pub wait: Vec<Row>,

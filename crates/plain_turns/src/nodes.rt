@@ -1,21 +1,22 @@
 //! The turn of a node, as its moves.
 
-ghost use Rattle.std.specs.Prelude.{◌≡◌, ◌<◌, ◌≤◌, ◌+◌, ◌*◌, ◌-◌, ◌++◌, ◌∷◌, [], length, map, filter, not, OnOk, IfOk, IfSome};
-ghost use Rattle.limits.specs.declared.TheConstants.{LAST_SECOND, MAX_LENGTH};
+ghost use Rattle.std.specs.Prelude.{◌≡◌, Some, ◌<◌, ◌≤◌, ◌+◌, ◌*◌, ◌-◌, ◌++◌, ◌∷◌, [], length, map, filter, not, OnOk, IfOk, IfSome};
+ghost use Rattle.limits.specs.declared.TheConstants.{LAST_SECOND, MAX_IN_LINKS, MAX_LENGTH};
 ghost use Rattle.draws.specs.Words.{word};
-ghost use Rattle.traffic.specs.declared.moves.Move.TheVariants.{Put, Gone, Mark};
+ghost use Rattle.traffic.specs.declared.moves.Move.TheVariants.{Transfer, Remove, SetFrontSince};
 ghost use Rattle.traffic.specs.declared.stage.Stage.TheVariants.{Queue, Buffer};
 ghost use Rattle.traffic.specs.Lists.{is_nil};
 ghost use Rattle.traffic.specs.Moves.{at_second};
-ghost use Rattle.traffic.specs.Nodes.{next_link, is_stuck, may_enter, has_room, seconds_along, one_more, entered, hand, since_of, hand_all, draw, ready, red, candidates, mark, node_moves, exits_after};
-ghost use Rattle.plain_turns.specs.Exits.{exits_in, AreNear, HasNext, HaveNext, IsEntry, AreEntries, is_green, sight_of};
+ghost use Rattle.traffic.specs.Nodes.{next_link, is_stuck, may_enter, has_room, seconds_along, one_more, entered, pass_node, since_of};
+ghost use Rattle.traffic.specs.Nodes.{pass_node_all, draw, ready, red, candidates, mark, node_moves, out_links_after};
+ghost use Rattle.plain_turns.specs.OutLinks.{out_links_in, AreNear, HasNext, HaveNext, IsInLink, AreInLinks, is_green, node_view_of};
 
-use crate::exits::{ExitRow, exit_of, with_taken};
-use crate::picks::{drawn, take_entry};
+use crate::out_links::{OutLinkRow, out_link_of, with_taken};
+use crate::picks::{drawn, take_in_link};
 use draws::Draws;
 use rows::Stuck;
 use std::alloc::{AllocError, Global};
-use traffic::{Entry, Exit, Move, Row, Stage, Vehicle};
+use traffic::{InLink, Move, OutLink, Row, Stage, Vehicle};
 
 /// The link after the one where the vehicle is.
 fn next_link(vehicle: &Vehicle) -> u32
@@ -29,45 +30,51 @@ fn next_link(vehicle: &Vehicle) -> u32
 }
 
 /// Whether a front since this second is stuck.
-fn is_stuck(stuck: &Stuck, t: u32, since: u32) -> bool
-    ensures { result ≡ is_stuck stuck.now t since }
+fn is_stuck(stuck: &Stuck, second: u32, since: u32) -> bool
+    ensures { result ≡ is_stuck stuck.now second since }
 {
-    stuck.seconds <= t.saturating_sub(since)
+    stuck.seconds <= second.saturating_sub(since)
+}
+
+/// Whether a link has fewer taken places than its storage.
+fn has_free_place(out_link: OutLink) -> bool
+    ensures { result ≡ has_room (Some out_link) }
+{
+    out_link.taken < u64::from(out_link.storage)
 }
 
 /// Whether a front since this second may enter a link.
-fn may_enter(stuck: &Stuck, t: u32, since: u32, exit: Option<Exit>) -> bool
-    ensures { result ≡ may_enter stuck.now t since exit }
+fn may_enter(stuck: &Stuck, second: u32, since: u32, out_link: Option<OutLink>) -> bool
+    ensures { result ≡ may_enter stuck.now second since out_link }
 {
-    match exit {
+    match out_link {
         None => false,
-        Some(exit) => {
-            exit.taken < u64::from(exit.storage) || (stuck.push && is_stuck(stuck, t, since))
-        }
+        Some(out_link) => has_free_place(out_link)
+            || (stuck.push && is_stuck(stuck, second, since)),
     }
 }
 
-/// Whether the exit has fewer taken places than its storage, and the seconds along it.
-fn place_of(exit: Option<Exit>) -> (bool, u32)
-    requires { IfSome exit (λ e. e.seconds ≤ MAX_LENGTH) }
-    ensures room { result.0 ≡ has_room exit }
-    ensures seconds { result.1 ≡ seconds_along exit }
+/// Whether the out-link has fewer taken places than its storage, and the seconds along it.
+fn place_of(out_link: Option<OutLink>) -> (bool, u32)
+    requires { IfSome out_link (λ e. e.seconds ≤ MAX_LENGTH) }
+    ensures room { result.0 ≡ has_room out_link }
+    ensures seconds { result.1 ≡ seconds_along out_link }
     ensures near { result.1 ≤ MAX_LENGTH }
 {
-    match exit {
+    match out_link {
         None => (false, 0),
-        Some(exit) => (exit.taken < u64::from(exit.storage), exit.seconds),
+        Some(out_link) => (has_free_place(out_link), out_link.seconds),
     }
 }
 
 /// The row at the end of the queue of its next link.
-fn entered(t: u32, exit: Option<Exit>, vehicle: &Vehicle) -> Result<Row, AllocError>
-    requires second_in { t < LAST_SECOND }
-    requires near { IfSome exit (λ e. e.seconds ≤ MAX_LENGTH) }
+fn entered(second: u32, out_link: Option<OutLink>, vehicle: &Vehicle) -> Result<Row, AllocError>
+    requires second_in { second < LAST_SECOND }
+    requires near { IfSome out_link (λ e. e.seconds ≤ MAX_LENGTH) }
     requires next { HasNext vehicle.now }
-    ensures { IfOk result (λ row. row ≡ entered t exit vehicle.now) }
+    ensures { IfOk result (λ row. row ≡ entered second out_link vehicle.now) }
 {
-    let (room, seconds) = place_of(exit);
+    let (room, seconds) = place_of(out_link);
     let link = next_link(vehicle);
     let mut after = vehicle.try_clone()?;
     after.place += 1;
@@ -76,7 +83,7 @@ fn entered(t: u32, exit: Option<Exit>, vehicle: &Vehicle) -> Result<Row, AllocEr
         vehicle: after,
         link,
         stage: Stage::Queue,
-        second: t + seconds,
+        second: second + seconds,
     })
 }
 
@@ -91,85 +98,88 @@ fn at_second(second: u32, row: &Row) -> Result<Row, AllocError>
 
 /// The front of the buffer of link `a` enters its next link, and the one behind it is first.
 fn push_entering(
-    t: u32,
+    second: u32,
     a: u32,
     since: u32,
-    exit: Option<Exit>,
+    out_link: Option<OutLink>,
     row: &Row,
     out: &mut Vec<Move>,
 ) -> Result<(), AllocError>
-    requires second_in { t < LAST_SECOND }
-    requires near { IfSome exit (λ e. e.seconds ≤ MAX_LENGTH) }
+    requires second_in { second < LAST_SECOND }
+    requires near { IfSome out_link (λ e. e.seconds ≤ MAX_LENGTH) }
     requires next { HasNext row.now.vehicle }
     ensures { OnOk result (out.new.items
-        ≡ out.old.items ++ Put a Buffer 0 (at_second since row.now) (entered t exit row.now.vehicle) ∷ Mark a t ∷ []) }
+        ≡ out.old.items ++ Transfer a Buffer 0 (at_second since row.now) (entered second out_link row.now.vehicle)
+        ∷ SetFrontSince a second ∷ []) }
 {
     let was = at_second(since, row)?;
-    let now = entered(t, exit, &row.vehicle)?;
-    out.push(Move::Put {
-        l: a,
-        s: Stage::Buffer,
-        k: 0,
+    let now = entered(second, out_link, &row.vehicle)?;
+    out.push(Move::Transfer {
+        link: a,
+        stage: Stage::Buffer,
+        place: 0,
         was,
         now,
     })?;
-    out.push(Move::Mark { l: a, t })?;
+    out.push(Move::SetFrontSince { link: a, second })?;
     Ok(())
 }
 
 /// The front of the buffer of link `a` is removed, and the one behind it is first.
 fn push_removed(
-    t: u32,
+    second: u32,
     a: u32,
     since: u32,
     row: &Row,
     out: &mut Vec<Move>,
 ) -> Result<(), AllocError>
-    ensures { OnOk result (out.new.items ≡ out.old.items ++ Gone a Buffer 0 (at_second since row.now) ∷ Mark a t ∷ []) }
+    ensures { OnOk result (out.new.items ≡ out.old.items ++ Remove a Buffer 0 (at_second since row.now) ∷ SetFrontSince a second ∷ []) }
 {
     let was = at_second(since, row)?;
-    out.push(Move::Gone {
-        l: a,
-        s: Stage::Buffer,
-        k: 0,
+    out.push(Move::Remove {
+        link: a,
+        stage: Stage::Buffer,
+        place: 0,
         was,
     })?;
-    out.push(Move::Mark { l: a, t })?;
+    out.push(Move::SetFrontSince { link: a, second })?;
     Ok(())
 }
 
 /// Whether the front of a buffer, first since this second, may enter its next link.
-fn enters(stuck: &Stuck, t: u32, since: u32, exits: &[ExitRow], row: &Row) -> bool
-    requires { AreNear exits.now }
-    ensures { result ≡ may_enter stuck.now t since (exits_in exits.now (next_link row.now.vehicle)) }
+fn enters(stuck: &Stuck, second: u32, since: u32, out_links: &[OutLinkRow], row: &Row) -> bool
+    requires { AreNear out_links.now }
+    ensures { result ≡ may_enter stuck.now second since (out_links_in out_links.now (next_link row.now.vehicle)) }
 {
-    let exit = exit_of(exits, next_link(&row.vehicle));
-    may_enter(stuck, t, since, exit)
+    let out_link = out_link_of(out_links, next_link(&row.vehicle));
+    may_enter(stuck, second, since, out_link)
 }
 
-/// It enters it; answers the exits after that.
+/// A row enters its next link; answers the out-links after that.
 fn push_enters(
     alloc: Global,
-    t: u32,
+    second: u32,
     a: u32,
-    exits: &[ExitRow],
+    out_links: &[OutLinkRow],
     since: u32,
     row: &Row,
     out: &mut Vec<Move>,
-) -> Result<Vec<ExitRow>, AllocError>
-    requires second_in { t < LAST_SECOND }
-    requires near { AreNear exits.now }
+) -> Result<Vec<OutLinkRow>, AllocError>
+    requires second_in { second < LAST_SECOND }
+    requires near { AreNear out_links.now }
     requires next { HasNext row.now.vehicle }
     ensures moves { OnOk result (out.new.items ≡ out.old.items
-        ++ Put a Buffer 0 (at_second since row.now) (entered t (exits_in exits.now (next_link row.now.vehicle)) row.now.vehicle)
-        ∷ Mark a t ∷ []) }
-    ensures exits { IfOk result (λ after. exits_in after.items ≡ one_more (next_link row.now.vehicle) (exits_in exits.now)) }
+        ++ Transfer a Buffer 0 (at_second since row.now)
+        (entered second (out_links_in out_links.now (next_link row.now.vehicle)) row.now.vehicle)
+        ∷ SetFrontSince a second ∷ []) }
+    ensures out_links { IfOk result (λ after. out_links_in after.items
+        ≡ one_more (next_link row.now.vehicle) (out_links_in out_links.now)) }
     ensures near_after { IfOk result (λ after. AreNear after.items) }
 {
     let m = next_link(&row.vehicle);
-    let exit = exit_of(exits, m);
-    push_entering(t, a, since, exit, row, out)?;
-    let after = with_taken(alloc, m, exits)?;
+    let out_link = out_link_of(out_links, m);
+    push_entering(second, a, since, out_link, row, out)?;
+    let after = with_taken(alloc, m, out_links)?;
     Ok(after)
 }
 
@@ -180,38 +190,39 @@ struct NodeSecond {
     stuck: Stuck,
 }
 
-/// Link `a` hands over; answers the exits after that.
-#[tactic(auto, unfolding(traffic::specs::Nodes::hand))]
-fn push_hand(
+/// Link `a` hands over; answers the out-links after that.
+#[tactic(auto, unfolding(traffic::specs::Nodes::pass_node))]
+fn push_pass_node(
     alloc: Global,
     at: NodeSecond,
     a: u32,
-    exits: Vec<ExitRow>,
+    out_links: Vec<OutLinkRow>,
     since: u32,
     rows: &[Row],
     out: &mut Vec<Move>,
-) -> Result<Vec<ExitRow>, AllocError>
+) -> Result<Vec<OutLinkRow>, AllocError>
     requires second_in { at.second < LAST_SECOND }
-    requires near { AreNear exits.items }
+    requires near { AreNear out_links.items }
     requires next { HaveNext rows.now }
-    ensures moves { OnOk result (out.new.items ≡ out.old.items ++ hand at.stuck at.second a (exits_in exits.items) since rows.now) }
-    ensures exits { IfOk result (λ after. exits_in after.items
-        ≡ exits_after (hand at.stuck at.second a (exits_in exits.items) since rows.now) (exits_in exits.items)) }
+    ensures moves { OnOk result (out.new.items
+        ≡ out.old.items ++ pass_node at.stuck at.second a (out_links_in out_links.items) since rows.now) }
+    ensures out_links { IfOk result (λ after. out_links_in after.items
+        ≡ out_links_after (pass_node at.stuck at.second a (out_links_in out_links.items) since rows.now) (out_links_in out_links.items)) }
     ensures near_after { IfOk result (λ after. AreNear after.items) }
 {
-    let mut exits = exits;
+    let mut out_links = out_links;
     let mut since = since;
     for row in rows {
-        if enters(&at.stuck, at.second, since, &exits, row) {
-            exits = push_enters(alloc, at.second, a, &exits, since, row, out)?;
+        if enters(&at.stuck, at.second, since, &out_links, row) {
+            out_links = push_enters(alloc, at.second, a, &out_links, since, row, out)?;
         } else if is_stuck(&at.stuck, at.second, since) {
             push_removed(at.second, a, since, row, out)?;
         } else {
-            return Ok(exits);
+            return Ok(out_links);
         }
         since = at.second;
     }
-    Ok(exits)
+    Ok(out_links)
 }
 
 /// The second of the first row.
@@ -224,54 +235,63 @@ fn since_of(rows: &[Row]) -> u32
     }
 }
 
-/// A candidate hands over; answers the exits after that.
-fn push_hand_all(
+/// A candidate hands over; answers the out-links after that.
+fn push_pass_node_all(
     alloc: Global,
     at: NodeSecond,
-    exits: Vec<ExitRow>,
-    entry: &Entry,
+    out_links: Vec<OutLinkRow>,
+    in_link: &InLink,
     out: &mut Vec<Move>,
-) -> Result<Vec<ExitRow>, AllocError>
+) -> Result<Vec<OutLinkRow>, AllocError>
     requires second_in { at.second < LAST_SECOND }
-    requires near { AreNear exits.items }
-    requires entry { IsEntry entry.now }
-    ensures moves { OnOk result (out.new.items ≡ out.old.items ++ hand_all at.stuck at.second (exits_in exits.items) entry.now) }
-    ensures exits { IfOk result (λ after. exits_in after.items
-        ≡ exits_after (hand_all at.stuck at.second (exits_in exits.items) entry.now) (exits_in exits.items)) }
+    requires near { AreNear out_links.items }
+    requires in_link { IsInLink in_link.now }
+    ensures moves { OnOk result (out.new.items
+        ≡ out.old.items ++ pass_node_all at.stuck at.second (out_links_in out_links.items) in_link.now) }
+    ensures out_links { IfOk result (λ after. out_links_in after.items
+        ≡ out_links_after (pass_node_all at.stuck at.second (out_links_in out_links.items) in_link.now) (out_links_in out_links.items)) }
     ensures near_after { IfOk result (λ after. AreNear after.items) }
 {
-    let rows = entry.rows.rows.as_slice();
-    push_hand(alloc, at, entry.link, exits, since_of(rows), rows, out)
+    let rows = in_link.rows.rows.as_slice();
+    push_pass_node(
+        alloc,
+        at,
+        in_link.link,
+        out_links,
+        since_of(rows),
+        rows,
+        out,
+    )
 }
 
-/// Pick number `j`: the drawn candidate hands over and is no candidate any more; answers the exits
+/// Pick number `j`: the drawn candidate hands over and is no candidate any more; answers the out-links
 /// after that.
 fn push_pick(
     alloc: Global,
     at: NodeSecond,
     draws: &Draws,
     j: u32,
-    entries: &mut Vec<Entry>,
-    exits: Vec<ExitRow>,
+    in_links: &mut Vec<InLink>,
+    out_links: Vec<OutLinkRow>,
     out: &mut Vec<Move>,
-) -> Result<Vec<ExitRow>, AllocError>
+) -> Result<Vec<OutLinkRow>, AllocError>
     requires second_in { at.second < LAST_SECOND }
-    requires near { AreNear exits.items }
-    requires entries { AreEntries entries.old.items }
-    requires some { 0 < length entries.old.items }
-    requires few { j + length entries.old.items ≤ 16 }
+    requires near { AreNear out_links.items }
+    requires in_links { AreInLinks in_links.old.items }
+    requires some { 0 < length in_links.old.items }
+    requires few { j + length in_links.old.items ≤ MAX_IN_LINKS }
     ensures step { IfOk result (λ after. out.new.items
-        ++ draw at.stuck at.second (word draws.now) (length entries.new.items) (j + 1) entries.new.items (exits_in after.items)
+        ++ draw at.stuck at.second (word draws.now) (length in_links.new.items) (j + 1) in_links.new.items (out_links_in after.items)
         ≡ out.old.items
-        ++ draw at.stuck at.second (word draws.now) (length entries.old.items) j entries.old.items (exits_in exits.items)) }
+        ++ draw at.stuck at.second (word draws.now) (length in_links.old.items) j in_links.old.items (out_links_in out_links.items)) }
     ensures near_after { IfOk result (λ after. AreNear after.items) }
-    ensures entries_after { OnOk result (AreEntries entries.new.items) }
-    ensures count { OnOk result (length entries.new.items + 1 ≡ length entries.old.items) }
+    ensures in_links_after { OnOk result (AreInLinks in_links.new.items) }
+    ensures count { OnOk result (length in_links.new.items + 1 ≡ length in_links.old.items) }
 {
     let word = draws.word(16 * u64::from(at.second) + u64::from(j));
-    let k = drawn(alloc, entries, word)?;
-    let entry = take_entry(entries, k);
-    let after = push_hand_all(alloc, at, exits, &entry, out)?;
+    let k = drawn(alloc, in_links, word)?;
+    let in_link = take_in_link(in_links, k);
+    let after = push_pass_node_all(alloc, at, out_links, &in_link, out)?;
     Ok(after)
 }
 
@@ -281,95 +301,98 @@ fn push_draw(
     alloc: Global,
     at: NodeSecond,
     draws: &Draws,
-    entries: Vec<Entry>,
-    exits: Vec<ExitRow>,
+    in_links: Vec<InLink>,
+    out_links: Vec<OutLinkRow>,
     out: &mut Vec<Move>,
 ) -> Result<(), AllocError>
     requires second_in { at.second < LAST_SECOND }
-    requires near { AreNear exits.items }
-    requires entries { AreEntries entries.items }
-    requires few { length entries.items ≤ 16 }
+    requires near { AreNear out_links.items }
+    requires in_links { AreInLinks in_links.items }
+    requires few { length in_links.items ≤ MAX_IN_LINKS }
     ensures { OnOk result (out.new.items ≡ out.old.items
-        ++ draw at.stuck at.second (word draws.now) (length entries.items) 0 entries.items (exits_in exits.items)) }
+        ++ draw at.stuck at.second (word draws.now) (length in_links.items) 0 in_links.items (out_links_in out_links.items)) }
 {
-    let mut entries = entries;
-    let mut exits = exits;
-    let count = entries.len() as u32;
+    let mut in_links = in_links;
+    let mut out_links = out_links;
+    let count = in_links.len() as u32;
     for j in 0..count {
-        exits = push_pick(alloc, at, draws, j, &mut entries, exits, out)?;
+        out_links = push_pick(alloc, at, draws, j, &mut in_links, out_links, out)?;
     }
     Ok(())
 }
 
-fn is_ready(entry: &Entry) -> bool
-    ensures { result ≡ not (is_nil entry.now.rows) }
+fn is_ready(in_link: &InLink) -> bool
+    ensures { result ≡ not (is_nil in_link.now.rows) }
 {
-    !entry.rows.rows.is_empty()
+    !in_link.rows.rows.is_empty()
 }
 
 /// The fronts of red links are first since `t`.
-fn push_red(t: u32, entries: &[Entry], out: &mut Vec<Move>) -> Result<(), AllocError>
-    ensures { OnOk result (out.new.items ≡ out.old.items ++ map (mark t) (red entries.now)) }
+fn push_red(second: u32, in_links: &[InLink], out: &mut Vec<Move>) -> Result<(), AllocError>
+    ensures { OnOk result (out.new.items ≡ out.old.items ++ map (mark second) (red in_links.now)) }
 {
-    for entry in entries {
-        if is_ready(entry) && !entry.green {
-            out.push(Move::Mark { l: entry.link, t })?;
+    for in_link in in_links {
+        if is_ready(in_link) && !in_link.green {
+            out.push(Move::SetFrontSince {
+                link: in_link.link,
+                second,
+            })?;
         }
     }
     Ok(())
 }
 
-fn keep_ready(entries: &mut Vec<Entry>)
-    ensures { entries.new.items ≡ ready entries.old.items }
+fn keep_ready(in_links: &mut Vec<InLink>)
+    ensures { in_links.new.items ≡ ready in_links.old.items }
 {
-    entries.retain(|entry| is_ready(entry));
+    in_links.retain(|in_link| is_ready(in_link));
 }
 
-fn keep_green(entries: &mut Vec<Entry>)
-    ensures { entries.new.items ≡ filter is_green entries.old.items }
+fn keep_green(in_links: &mut Vec<InLink>)
+    ensures { in_links.new.items ≡ filter is_green in_links.old.items }
 {
-    entries.retain(|entry| entry.green);
+    in_links.retain(|in_link| in_link.green);
 }
 
 /// The green links with a nonempty buffer.
 #[tactic(auto, using(crate::proofs::Drawing::are_candidates, crate::proofs::Drawing::few_candidates))]
-fn candidates(entries: Vec<Entry>) -> Vec<Entry>
-    requires { AreEntries entries.items }
-    ensures value { result.items ≡ candidates entries.items }
-    ensures are { AreEntries result.items }
-    ensures few { length result.items ≤ length entries.items }
+fn candidates(in_links: Vec<InLink>) -> Vec<InLink>
+    requires { AreInLinks in_links.items }
+    ensures value { result.items ≡ candidates in_links.items }
+    ensures are { AreInLinks result.items }
+    ensures few { length result.items ≤ length in_links.items }
 {
-    let mut left = entries;
+    let mut left = in_links;
     keep_ready(&mut left);
     keep_green(&mut left);
     left
 }
 
-/// The moves of a node in second `t`, by the links into it, in order, the links out of it, and its
+/// The moves of a node in this second, by the links into it, in order, the links out of it, and its
 /// words.
 #[tactic(auto, unfolding(traffic::specs::Nodes::node_moves))]
 pub fn node_moves(
     alloc: Global,
     stuck: &Stuck,
-    t: u32,
+    second: u32,
     draws: &Draws,
-    entries: Vec<Entry>,
-    exits: Vec<ExitRow>,
+    in_links: Vec<InLink>,
+    out_links: Vec<OutLinkRow>,
 ) -> Result<Vec<Move>, AllocError>
-    requires second_in { t < LAST_SECOND }
-    requires near { AreNear exits.items }
-    requires entries { AreEntries entries.items }
-    requires few { length entries.items ≤ 16 }
+    requires second_in { second < LAST_SECOND }
+    requires near { AreNear out_links.items }
+    requires in_links { AreInLinks in_links.items }
+    requires few { length in_links.items ≤ MAX_IN_LINKS }
     ensures { IfOk result (λ moves. moves.items
-        ≡ node_moves stuck.now t (word draws.now) (sight_of entries.items exits.items)) }
+        ≡ node_moves stuck.now second (word draws.now) (node_view_of in_links.items out_links.items)) }
 {
     let mut moves = Vec::new(alloc);
-    push_red(t, &entries, &mut moves)?;
-    let links = candidates(entries);
+    push_red(second, &in_links, &mut moves)?;
+    let links = candidates(in_links);
     let at = NodeSecond {
-        second: t,
+        second,
         stuck: *stuck,
     };
-    push_draw(alloc, at, draws, links, exits, &mut moves)?;
+    push_draw(alloc, at, draws, links, out_links, &mut moves)?;
     Ok(moves)
 }

@@ -1,56 +1,57 @@
 //! The drawing of links at a node.
 
 ghost use Rattle.std.specs.Prelude.{◌≡◌, ◌<◌, ◌≤◌, ◌+◌, length, map, get_or, IfOk};
+ghost use Rattle.limits.specs.declared.TheConstants.{MAX_IN_LINKS};
 ghost use Rattle.traffic.specs.Lists.{without_at};
-ghost use Rattle.traffic.specs.Nodes.{drawn, no_entry};
-ghost use Rattle.plain_turns.specs.Exits.{IsEntry, AreEntries, capacity_of};
+ghost use Rattle.traffic.specs.Nodes.{drawn, no_in_link};
+ghost use Rattle.plain_turns.specs.OutLinks.{IsInLink, AreInLinks, capacity_of};
 
 use draws::pick;
 use std::alloc::{AllocError, Global};
-use traffic::Entry;
+use traffic::InLink;
 
-fn capacities(alloc: Global, entries: &[Entry]) -> Result<Vec<u64>, AllocError>
-    ensures { IfOk result (λ weights. weights.items ≡ map capacity_of entries.now) }
+fn capacities(alloc: Global, in_links: &[InLink]) -> Result<Vec<u64>, AllocError>
+    ensures { IfOk result (λ weights. weights.items ≡ map capacity_of in_links.now) }
 {
-    entries
+    in_links
         .iter()
-        .map(|entry| u64::from(entry.capacity))
+        .map(|in_link| u64::from(in_link.capacity))
         .collect(alloc)
 }
 
 /// The place that the word draws by these weights.
-fn pick_of(weights: &[u64], word: u32, entries: &[Entry]) -> usize
-    requires weights { weights.now ≡ map capacity_of entries.now }
-    requires are { AreEntries entries.now }
-    requires some { 0 < length entries.now }
-    requires few { length entries.now ≤ 16 }
-    ensures value { result ≡ drawn entries.now word }
-    ensures within { result < length entries.now }
+fn pick_of(weights: &[u64], word: u32, in_links: &[InLink]) -> usize
+    requires weights { weights.now ≡ map capacity_of in_links.now }
+    requires are { AreInLinks in_links.now }
+    requires some { 0 < length in_links.now }
+    requires few { length in_links.now ≤ MAX_IN_LINKS }
+    ensures value { result ≡ drawn in_links.now word }
+    ensures within { result < length in_links.now }
 {
     pick(weights, word)
 }
 
 /// The place of the candidate that the word draws.
-pub fn drawn(alloc: Global, entries: &[Entry], word: u32) -> Result<usize, AllocError>
-    requires are { AreEntries entries.now }
-    requires some { 0 < length entries.now }
-    requires few { length entries.now ≤ 16 }
-    ensures value { IfOk result (λ k. k ≡ drawn entries.now word) }
-    ensures within { IfOk result (λ k. k < length entries.now) }
+pub fn drawn(alloc: Global, in_links: &[InLink], word: u32) -> Result<usize, AllocError>
+    requires are { AreInLinks in_links.now }
+    requires some { 0 < length in_links.now }
+    requires few { length in_links.now ≤ MAX_IN_LINKS }
+    ensures value { IfOk result (λ k. k ≡ drawn in_links.now word) }
+    ensures within { IfOk result (λ k. k < length in_links.now) }
 {
-    let weights = capacities(alloc, entries)?;
-    Ok(pick_of(&weights, word, entries))
+    let weights = capacities(alloc, in_links)?;
+    Ok(pick_of(&weights, word, in_links))
 }
 
 /// Takes the candidate at a place out.
-pub fn take_entry(entries: &mut Vec<Entry>, k: usize) -> Entry
-    requires within { k < length entries.old.items }
-    requires are { AreEntries entries.old.items }
-    ensures value { result ≡ get_or entries.old.items k no_entry }
-    ensures rest { entries.new.items ≡ without_at k entries.old.items }
-    ensures count { length entries.new.items + 1 ≡ length entries.old.items }
-    ensures is { IsEntry result }
-    ensures are_after { AreEntries entries.new.items }
+pub fn take_in_link(in_links: &mut Vec<InLink>, k: usize) -> InLink
+    requires within { k < length in_links.old.items }
+    requires are { AreInLinks in_links.old.items }
+    ensures value { result ≡ get_or in_links.old.items k no_in_link }
+    ensures rest { in_links.new.items ≡ without_at k in_links.old.items }
+    ensures count { length in_links.new.items + 1 ≡ length in_links.old.items }
+    ensures is { IsInLink result }
+    ensures are_after { AreInLinks in_links.new.items }
 {
-    entries.remove(k)
+    in_links.remove(k)
 }

@@ -2,8 +2,9 @@
 
 ghost use Rattle.std.specs.Prelude.{◌≡◌, ◌<◌, ◌≤◌, ◌+◌, ◌*◌, ◌++◌, true, length, map, filter, not, OnOk, IfOk};
 ghost use Rattle.std.specs.List.{list_any};
-ghost use Rattle.limits.specs.declared.TheConstants.{LAST_SECOND};
-ghost use Rattle.traffic.specs.Stops.{call_at, next_call, calls_on, alights, alighting, staying, may_board, in_turn, boarding, is_person, left_behind, rider, stand, not_before, served_row};
+ghost use Rattle.limits.specs.declared.TheConstants.{LAST_SECOND, MAX_DWELL, MAX_PERSONS};
+ghost use Rattle.traffic.specs.Stops.{call_at, next_call, calls_on, alights, alighting, staying, may_board, in_turn, boarding, is_person};
+ghost use Rattle.traffic.specs.Stops.{left_behind, rider, stand, not_before, served_row};
 ghost use Rattle.rows.specs.Settings.{IsDwelling};
 ghost use Rattle.plain_turns.specs.Limits.{IsSmall};
 
@@ -191,10 +192,10 @@ fn riders_with(
 /// The seconds that a vehicle stands.
 fn stand(dwell: &Dwelling, alighted: u32, boarded: u32) -> u32
     requires dwell_in { IsDwelling dwell.now }
-    requires few_alighted { alighted ≤ 65536 }
-    requires few_boarded { boarded ≤ 65536 }
+    requires few_alighted { alighted ≤ MAX_PERSONS }
+    requires few_boarded { boarded ≤ MAX_PERSONS }
     ensures value { result ≡ stand dwell.now alighted boarded }
-    ensures small { result ≤ 500000000 }
+    ensures small { result ≤ MAX_DWELL * (1 + 2 * MAX_PERSONS) }
 {
     (dwell.per_stop + dwell.per_alight * alighted + dwell.per_board * boarded).max(1)
 }
@@ -211,19 +212,19 @@ fn not_before(call: StopCall, departed: u32, second: u32) -> u32
     second
 }
 
-/// The second in which the vehicle, served in second `t`, may go on, where so many board.
-fn stays_until(dwell: &Dwelling, t: u32, vehicle: &Vehicle, boarded: usize) -> u32
+/// The second in which the vehicle, served in this second, may go on, where so many board.
+fn stays_until(dwell: &Dwelling, second: u32, vehicle: &Vehicle, boarded: usize) -> u32
     requires dwell_in { IsDwelling dwell.now }
-    requires second_in { t < LAST_SECOND }
+    requires second_in { second < LAST_SECOND }
     requires small { IsSmall vehicle.now }
     requires few { boarded ≤ vehicle.now.seats }
     ensures { result ≡ not_before (next_call vehicle.now) vehicle.now.departed
-        (t + stand dwell.now (length (alighting (next_call vehicle.now).stop vehicle.now.riders)) boarded) }
+        (second + stand dwell.now (length (alighting (next_call vehicle.now).stop vehicle.now.riders)) boarded) }
 {
     let call = next_call(vehicle);
     let alighted = count_alighting(call.stop, &vehicle.riders.rows);
-    let second = t + stand(dwell, alighted as u32, boarded as u32);
-    not_before(call, vehicle.departed, second)
+    let served = second + stand(dwell, alighted as u32, boarded as u32);
+    not_before(call, vehicle.departed, served)
 }
 
 /// The vehicle after its next call is served, with these riders.
@@ -249,25 +250,25 @@ pub struct Service {
     pub left: Vec<Waiter>,
 }
 
-/// Serves a vehicle at its next call, on link `l` in second `t`.
-#[tactic(auto, unfolding(traffic::specs::Stops::left_behind, traffic::specs::Stops::riders_after, traffic::specs::Stops::stays_until, traffic::specs::Stops::served_vehicle))]
+/// Serves a vehicle at its next call, on link `l` in this second.
+#[tactic(auto, unfolding(traffic::specs::Stops::riders_after, traffic::specs::Stops::stays_until, traffic::specs::Stops::served_vehicle))]
 pub fn serve(
     alloc: Global,
     dwell: &Dwelling,
-    t: u32,
+    second: u32,
     l: u32,
     waiters: &[Waiter],
     vehicle: &Vehicle,
 ) -> Result<Service, AllocError>
     requires dwell_in { IsDwelling dwell.now }
-    requires second_in { t < LAST_SECOND }
+    requires second_in { second < LAST_SECOND }
     requires small { IsSmall vehicle.now }
     requires calls { vehicle.now.served < length vehicle.now.calls }
-    ensures row { IfOk result (λ service. service.row ≡ served_row dwell.now t l waiters.now vehicle.now) }
+    ensures row { IfOk result (λ service. service.row ≡ served_row dwell.now second l waiters.now vehicle.now) }
     ensures left { IfOk result (λ service. service.left.items ≡ left_behind vehicle.now waiters.now) }
 {
     let boards = boarding(alloc, vehicle, waiters)?;
-    let second = stays_until(dwell, t, vehicle, boards.len());
+    let until = stays_until(dwell, second, vehicle, boards.len());
     let riders = riders_with(alloc, vehicle, &boards)?;
     let after = served_with(vehicle, riders)?;
     let left = not_among(alloc, &boards, waiters)?;
@@ -275,7 +276,7 @@ pub fn serve(
         vehicle: after,
         link: l,
         stage: Stage::Bay,
-        second,
+        second: until,
     };
     Ok(Service { row, left })
 }

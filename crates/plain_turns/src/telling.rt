@@ -3,19 +3,21 @@
 ghost use Rattle.std.specs.Prelude.{◌≡◌, ◌<◌, ◌++◌, OnOk, IfOk};
 ghost use Rattle.std.specs.List.{flat_map};
 ghost use Rattle.traffic.specs.Stops.{alighting, staying};
-ghost use Rattle.traffic.specs.Telling.{of_person, of_rider, of_vehicle, of_driver, driver, mode_in, leaves, enters, starts, arrives, strands, aborts, boarded, serves, goes_on, changes_links, told_to, told_put, told_gone, told_new};
+ghost use Rattle.traffic.specs.Telling.{of_person, of_rider, of_vehicle, of_driver, driver, mode_in, leaves, enters, starts, arrives};
+ghost use Rattle.traffic.specs.Telling.{strands, aborts, boarded, serves, goes_on, changes_links, told_to, told_transfer, told_removal};
+ghost use Rattle.traffic.specs.Telling.{told_entering};
 ghost use Rattle.traffic.specs.Moves.{told};
 
 use crate::stops::{alights, call_at, next_call, staying};
 use events::{Mode, More, VehicleId, Word};
 use std::alloc::{AllocError, Global};
-use traffic::{Move, Rider, Row, Said, Stage};
+use traffic::{Move, Occurrence, Rider, Row, Stage};
 
 /// An event of a person on a link.
-pub fn of_person(word: Word, person: u32, link: u32, more: More) -> Said
+pub fn of_person(word: Word, person: u32, link: u32, more: More) -> Occurrence
     ensures { result ≡ of_person word person link more }
 {
-    Said {
+    Occurrence {
         word,
         person: Some(person),
         vehicle: None,
@@ -24,10 +26,10 @@ pub fn of_person(word: Word, person: u32, link: u32, more: More) -> Said
     }
 }
 
-fn of_rider(word: Word, person: u32, vehicle: VehicleId) -> Said
+fn of_rider(word: Word, person: u32, vehicle: VehicleId) -> Occurrence
     ensures { result ≡ of_rider word person vehicle }
 {
-    Said {
+    Occurrence {
         word,
         person: Some(person),
         vehicle: Some(vehicle),
@@ -36,10 +38,10 @@ fn of_rider(word: Word, person: u32, vehicle: VehicleId) -> Said
     }
 }
 
-fn of_vehicle(word: Word, vehicle: VehicleId, link: u32, more: More) -> Said
+fn of_vehicle(word: Word, vehicle: VehicleId, link: u32, more: More) -> Occurrence
     ensures { result ≡ of_vehicle word vehicle link more }
 {
-    Said {
+    Occurrence {
         word,
         person: None,
         vehicle: Some(vehicle),
@@ -68,10 +70,10 @@ fn mode_in(vehicle: VehicleId) -> Mode
     }
 }
 
-fn of_driver(word: Word, vehicle: VehicleId, link: u32) -> Said
+fn of_driver(word: Word, vehicle: VehicleId, link: u32) -> Occurrence
     ensures { result ≡ of_driver word vehicle link }
 {
-    Said {
+    Occurrence {
         word,
         person: driver(vehicle),
         vehicle: Some(vehicle),
@@ -85,7 +87,7 @@ fn push_leaves(
     vehicle: VehicleId,
     link: u32,
     rider: &Rider,
-    out: &mut Vec<Said>,
+    out: &mut Vec<Occurrence>,
 ) -> Result<(), AllocError>
     ensures { OnOk result (out.new.items ≡ out.old.items ++ leaves vehicle link rider.now) }
 {
@@ -104,7 +106,7 @@ fn push_all_leave(
     vehicle: VehicleId,
     link: u32,
     riders: &[Rider],
-    out: &mut Vec<Said>,
+    out: &mut Vec<Occurrence>,
 ) -> Result<(), AllocError>
     ensures { OnOk result (out.new.items ≡ out.old.items ++ flat_map (leaves vehicle link) riders.now) }
 {
@@ -117,7 +119,7 @@ fn push_all_leave(
 fn push_all_enter(
     vehicle: VehicleId,
     riders: &[Rider],
-    out: &mut Vec<Said>,
+    out: &mut Vec<Occurrence>,
 ) -> Result<(), AllocError>
     ensures { OnOk result (out.new.items ≡ out.old.items ++ flat_map (enters vehicle) riders.now) }
 {
@@ -131,7 +133,7 @@ fn push_all_strand(
     vehicle: VehicleId,
     link: u32,
     riders: &[Rider],
-    out: &mut Vec<Said>,
+    out: &mut Vec<Occurrence>,
 ) -> Result<(), AllocError>
     ensures { OnOk result (out.new.items ≡ out.old.items ++ flat_map (strands vehicle link) riders.now) }
 {
@@ -147,7 +149,7 @@ fn push_all_strand(
 }
 
 /// A vehicle that leaves the wait list for the first time enters traffic.
-fn push_starts(row: &Row, out: &mut Vec<Said>) -> Result<(), AllocError>
+fn push_starts(row: &Row, out: &mut Vec<Occurrence>) -> Result<(), AllocError>
     ensures { OnOk result (out.new.items ≡ out.old.items ++ starts row.now) }
 {
     if row.vehicle.started {
@@ -158,7 +160,7 @@ fn push_starts(row: &Row, out: &mut Vec<Said>) -> Result<(), AllocError>
 }
 
 /// A vehicle at the end of its route leaves traffic, and its riders leave it.
-fn push_arrives(row: &Row, out: &mut Vec<Said>) -> Result<(), AllocError>
+fn push_arrives(row: &Row, out: &mut Vec<Occurrence>) -> Result<(), AllocError>
     ensures { OnOk result (out.new.items ≡ out.old.items ++ arrives row.now) }
 {
     out.push(of_driver(Word::VehicleLeavesTraffic, row.vehicle.id, row.link))?;
@@ -166,7 +168,7 @@ fn push_arrives(row: &Row, out: &mut Vec<Said>) -> Result<(), AllocError>
 }
 
 /// A vehicle is removed with its riders.
-fn push_aborts(row: &Row, out: &mut Vec<Said>) -> Result<(), AllocError>
+fn push_aborts(row: &Row, out: &mut Vec<Occurrence>) -> Result<(), AllocError>
     ensures { OnOk result (out.new.items ≡ out.old.items ++ aborts row.now) }
 {
     out.push(of_vehicle(Word::VehicleAborts, row.vehicle.id, row.link, More::Nothing))?;
@@ -205,7 +207,12 @@ fn boarded(
 }
 
 /// A vehicle is served at its next call.
-fn push_serves(alloc: Global, was: &Row, now: &Row, out: &mut Vec<Said>) -> Result<(), AllocError>
+fn push_serves(
+    alloc: Global,
+    was: &Row,
+    now: &Row,
+    out: &mut Vec<Occurrence>,
+) -> Result<(), AllocError>
     ensures { OnOk result (out.new.items ≡ out.old.items ++ serves was.now now.now) }
 {
     let stop = next_call(&was.vehicle).stop;
@@ -228,7 +235,7 @@ fn push_serves(alloc: Global, was: &Row, now: &Row, out: &mut Vec<Said>) -> Resu
 }
 
 /// A vehicle goes on from the call that it served last.
-fn push_goes_on(row: &Row, out: &mut Vec<Said>) -> Result<(), AllocError>
+fn push_goes_on(row: &Row, out: &mut Vec<Occurrence>) -> Result<(), AllocError>
     ensures { OnOk result (out.new.items ≡ out.old.items ++ goes_on row.now) }
 {
     let call = call_at(&row.vehicle, row.vehicle.served.saturating_sub(1));
@@ -241,7 +248,7 @@ fn push_goes_on(row: &Row, out: &mut Vec<Said>) -> Result<(), AllocError>
     Ok(())
 }
 
-fn push_changes_links(was: &Row, now: &Row, out: &mut Vec<Said>) -> Result<(), AllocError>
+fn push_changes_links(was: &Row, now: &Row, out: &mut Vec<Occurrence>) -> Result<(), AllocError>
     ensures { OnOk result (out.new.items ≡ out.old.items ++ changes_links was.now now.now) }
 {
     out.push(of_vehicle(Word::LeftLink, was.vehicle.id, was.link, More::Nothing))?;
@@ -249,7 +256,12 @@ fn push_changes_links(was: &Row, now: &Row, out: &mut Vec<Said>) -> Result<(), A
     Ok(())
 }
 
-fn push_told_to(alloc: Global, was: &Row, now: &Row, out: &mut Vec<Said>) -> Result<(), AllocError>
+fn push_told_to(
+    alloc: Global,
+    was: &Row,
+    now: &Row,
+    out: &mut Vec<Occurrence>,
+) -> Result<(), AllocError>
     ensures { OnOk result (out.new.items ≡ out.old.items ++ told_to now.now.stage was.now now.now) }
 {
     match now.stage {
@@ -260,14 +272,14 @@ fn push_told_to(alloc: Global, was: &Row, now: &Row, out: &mut Vec<Said>) -> Res
     }
 }
 
-fn push_told_put(
+fn push_told_transfer(
     alloc: Global,
     stage: Stage,
     was: &Row,
     now: &Row,
-    out: &mut Vec<Said>,
+    out: &mut Vec<Occurrence>,
 ) -> Result<(), AllocError>
-    ensures { OnOk result (out.new.items ≡ out.old.items ++ told_put stage was.now now.now) }
+    ensures { OnOk result (out.new.items ≡ out.old.items ++ told_transfer stage was.now now.now) }
 {
     match stage {
         Stage::Queue => push_told_to(alloc, was, now, out),
@@ -280,8 +292,8 @@ fn push_told_put(
     }
 }
 
-fn push_told_gone(stage: Stage, was: &Row, out: &mut Vec<Said>) -> Result<(), AllocError>
-    ensures { OnOk result (out.new.items ≡ out.old.items ++ told_gone stage was.now) }
+fn push_told_removal(stage: Stage, was: &Row, out: &mut Vec<Occurrence>) -> Result<(), AllocError>
+    ensures { OnOk result (out.new.items ≡ out.old.items ++ told_removal stage was.now) }
 {
     match stage {
         Stage::Queue => push_arrives(was, out),
@@ -294,8 +306,8 @@ fn push_told_gone(stage: Stage, was: &Row, out: &mut Vec<Said>) -> Result<(), Al
     }
 }
 
-fn push_told_new(now: &Row, out: &mut Vec<Said>) -> Result<(), AllocError>
-    ensures { OnOk result (out.new.items ≡ out.old.items ++ told_new now.now.vehicle.id now.now.link now.now.vehicle.line) }
+fn push_told_entering(now: &Row, out: &mut Vec<Occurrence>) -> Result<(), AllocError>
+    ensures { OnOk result (out.new.items ≡ out.old.items ++ told_entering now.now.vehicle.id now.now.link now.now.vehicle.line) }
 {
     match now.vehicle.id {
         VehicleId::Car(person) => {
@@ -316,17 +328,22 @@ fn push_told_new(now: &Row, out: &mut Vec<Said>) -> Result<(), AllocError>
 }
 
 /// Appends what a move tells.
-pub fn push_told(alloc: Global, step: &Move, out: &mut Vec<Said>) -> Result<(), AllocError>
+pub fn push_told(alloc: Global, step: &Move, out: &mut Vec<Occurrence>) -> Result<(), AllocError>
     ensures { OnOk result (out.new.items ≡ out.old.items ++ told step.now) }
 {
     match step {
-        Move::Put { s, was, now, .. } => push_told_put(alloc, *s, was, now, out),
-        Move::Gone { s, was, .. } => push_told_gone(*s, was, out),
-        Move::New { now } => push_told_new(now, out),
-        Move::Mark { .. } => Ok(()),
+        Move::Transfer {
+            stage,
+            was,
+            now,
+            ..
+        } => push_told_transfer(alloc, *stage, was, now, out),
+        Move::Remove { stage, was, .. } => push_told_removal(*stage, was, out),
+        Move::Enter { now } => push_told_entering(now, out),
+        Move::SetFrontSince { .. } => Ok(()),
         Move::Credit { .. } => Ok(()),
-        Move::Free { .. } => Ok(()),
-        Move::Tell { says } => {
+        Move::LeaveHole { .. } => Ok(()),
+        Move::Report { says } => {
             out.extend_from_slice(&says.rows)?;
             Ok(())
         }

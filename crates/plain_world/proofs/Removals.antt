@@ -1,9 +1,6 @@
 -- What the place of the k-th element that passes says of the list without it, and of the list with the first one changed.
-use Rattle.std.proofs.Common.{◌≡◌, ℕ, zero, suc, ◌+◌, ◌-◌, Bool, false, List, [], ◌∷◌, set, get_or, refl, sym, ap, ◌∙◌, arith, inl, inr, subst}
-use Rattle.std.proofs.lemmas.Bool.{cases_Bool, ne_eqb}
-use Rattle.std.specs.Prelude.{Option, None, Some, nat_eq}
-use Rattle.std.specs.List.{remove}
-use Rattle.traffic.specs.Lists.{without, with_first}
+use Rattle.traffic.proofs.Common.{set, ◌≡◌, ℕ, List, ◌∙◌, ap, refl, sym, [], ◌∷◌, arith, ◌+◌, Bool, inl, inr, subst, false, suc, zero, ◌-◌, get_or}
+use Rattle.traffic.proofs.Common.{cases_Bool, ne_eqb, remove, Some, None, Option, nat_eq, without, with_first}
 use Rattle.plain_world.specs.Places.{place_from}
 
 -- the list without the element of this place, where the first one has place i

@@ -6,10 +6,10 @@ ghost use Rattle.traffic.specs.Day.{event_at, keyed};
 
 use events::{Event, Key, Phase};
 use std::alloc::AllocError;
-use traffic::Said;
+use traffic::Occurrence;
 
 /// What is told, with its key.
-fn event_at(second: u32, phase: u8, number: u32, index: u32, said: &Said) -> Event
+fn event_at(second: u32, phase: u8, number: u32, index: u32, said: &Occurrence) -> Event
     ensures { result ≡ event_at second phase number index said.now }
 {
     Event {
@@ -34,7 +34,7 @@ pub fn push_keyed(
     second: u32,
     phase: Phase,
     number: u32,
-    said: &[Said],
+    said: &[Occurrence],
     out: &mut Vec<Event>,
 ) -> Result<(), AllocError>
     ensures { OnOk result (out.new.items ≡ out.old.items ++ keyed second (phase_code phase) number 0 said.now) }

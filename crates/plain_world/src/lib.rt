@@ -8,6 +8,6 @@ mod vehicle_rows;
 mod world;
 
 pub use keys::push_keyed;
-pub use moving::{do_credit, do_move, do_moves};
+pub use moving::{do_move, do_moves};
 pub use vehicle_rows::{is_on, rank};
 pub use world::World;

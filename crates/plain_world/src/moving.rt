@@ -1,9 +1,8 @@
 //! What moves do to a world, in place.
 
-ghost use Rattle.std.specs.Prelude.{◌≡◌, ◌++◌, ◌<◌, ◌^◌, length, slice_set, OnOk};
+ghost use Rattle.std.specs.Prelude.{◌≡◌, ◌++◌, ◌<◌, ◌^◌, length, OnOk};
 ghost use Rattle.std.specs.List.{flat_map};
 ghost use Rattle.town.specs.Views.{setup};
-ghost use Rattle.traffic.specs.declared.moves.Move.TheVariants.{Credit};
 ghost use Rattle.traffic.specs.Moves.{told, rows_after, persons_after, credits_after, holes_after, done, run};
 
 use crate::steps::step_persons;
@@ -12,42 +11,28 @@ use crate::world::World;
 use plain_turns::push_told;
 use std::alloc::{AllocError, Global};
 use town::DayInput;
-use traffic::{Hole, Move, Person, Said};
-
-/// Gives a link this credit.
-fn set_credit(link: u32, credit: u32, credits: &mut [u32])
-    ensures { credits.new ≡ slice_set credits.old link credit }
-{
-    let link = link as usize;
-    if link < credits.len() {
-        credits[link] = credit;
-    }
-}
+use traffic::{Hole, Move, Occurrence, Person};
 
 /// Does a move to the credits.
 fn move_credits(step: &Move, credits: &mut [u32])
     ensures { credits.new ≡ credits_after step.now credits.old }
 {
-    if let Move::Credit { l, credit } = step {
-        set_credit(*l, *credit, credits);
+    if let Move::Credit { link, credit } = step {
+        let link = *link as usize;
+        if link < credits.len() {
+            credits[link] = *credit;
+        }
     }
-}
-
-/// Does the one move of a link that has nothing to do, which tells nothing and needs no memory.
-pub fn do_credit(link: u32, credit: u32, world: &mut World)
-    ensures { world.new ≡ record world.old { credits = credits_after (Credit link credit) world.old.credits } }
-{
-    set_credit(link, credit, &mut world.credits);
 }
 
 /// Does a move to the holes.
 fn move_holes(step: &Move, holes: &mut Vec<Hole>) -> Result<(), AllocError>
     ensures { OnOk result (holes.new.items ≡ holes_after step.now holes.old.items) }
 {
-    if let Move::Free { l, t } = step {
+    if let Move::LeaveHole { link, second } = step {
         holes.push(Hole {
-            link: *l,
-            second: *t,
+            link: *link,
+            second: *second,
         })?;
     }
     Ok(())
@@ -60,7 +45,7 @@ fn tell(
     second: u32,
     step: &Move,
     persons: &mut [Person],
-    said: &mut Vec<Said>,
+    said: &mut Vec<Occurrence>,
 ) -> Result<(), AllocError>
     requires { second < 2 ^ 31 }
     ensures persons { OnOk result (persons.new ≡ persons_after (setup day.now) second (told step.now) persons.old) }
@@ -97,7 +82,7 @@ pub fn do_move(
     second: u32,
     step: Move,
     world: &mut World,
-    said: &mut Vec<Said>,
+    said: &mut Vec<Occurrence>,
 ) -> Result<(), AllocError>
     requires { second < 2 ^ 31 }
     ensures world { OnOk result (world.new ≡ done (setup day.now) second step world.old) }
@@ -120,7 +105,7 @@ pub fn do_moves(
     second: u32,
     moves: Vec<Move>,
     world: &mut World,
-    said: &mut Vec<Said>,
+    said: &mut Vec<Occurrence>,
 ) -> Result<(), AllocError>
     requires { second < 2 ^ 31 }
     ensures world { OnOk result (world.new ≡ run (setup day.now) second moves.items world.old) }

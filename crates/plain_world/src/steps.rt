@@ -9,7 +9,7 @@ use events::{More, VehicleId, Word};
 use rows::act_in;
 use std::alloc::AllocError;
 use town::{DayInput, chosen_plan};
-use traffic::{Person, Place, Said};
+use traffic::{Occurrence, Person, Place};
 
 /// The planned end of the activity at an element of a person's plan.
 fn planned_end(day: &DayInput, person: u32, element: u32) -> Option<u32>
@@ -50,7 +50,7 @@ fn leave(second: u32, person: Person) -> Result<Person, AllocError>
     let element = next_element(person)?;
     Ok(Person {
         element,
-        place: Place::Flying { start: second },
+        place: Place::Teleporting { start: second },
     })
 }
 
@@ -77,9 +77,9 @@ fn start_act(day: &DayInput, second: u32, number: u32, person: Person) -> Result
     match person.place {
         Place::Waiting { .. } => Ok(person),
         Place::At { .. } => arrive(day, second, number, person),
-        Place::Flying { .. } => arrive(day, second, number, person),
+        Place::Teleporting { .. } => arrive(day, second, number, person),
         Place::Riding { .. } => arrive(day, second, number, person),
-        Place::Gone { .. } => arrive(day, second, number, person),
+        Place::Aborted { .. } => arrive(day, second, number, person),
     }
 }
 
@@ -124,7 +124,7 @@ fn lose(link: Option<u32>, person: Person) -> Person
         None => person,
         Some(link) => Person {
             element: person.element,
-            place: Place::Gone { link },
+            place: Place::Aborted { link },
         },
     }
 }
@@ -135,7 +135,7 @@ fn person_after(
     day: &DayInput,
     second: u32,
     number: u32,
-    said: &Said,
+    said: &Occurrence,
     person: Person,
 ) -> Result<Person, AllocError>
     requires { second < 2 ^ 31 }
@@ -166,7 +166,7 @@ fn person_after(
 fn step_by(
     day: &DayInput,
     second: u32,
-    said: &Said,
+    said: &Occurrence,
     persons: &mut [Person],
 ) -> Result<(), AllocError>
     requires { second < 2 ^ 31 }
@@ -190,7 +190,7 @@ fn step_by(
 pub(crate) fn step_persons(
     day: &DayInput,
     second: u32,
-    said: &[Said],
+    said: &[Occurrence],
     persons: &mut [Person],
 ) -> Result<(), AllocError>
     requires { second < 2 ^ 31 }

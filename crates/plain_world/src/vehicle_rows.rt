@@ -70,22 +70,27 @@ pub(crate) fn move_rows(step: Move, rows: &mut Vec<Row>) -> Result<(), AllocErro
     ensures { OnOk result (rows.new.items ≡ rows_after step rows.old.items) }
 {
     match step {
-        Move::Put {
-            l,
-            s,
-            k,
+        Move::Transfer {
+            link,
+            stage,
+            place,
             was: _was,
             now,
         } => {
-            take_out(l, s, k, rows);
+            take_out(link, stage, place, rows);
             rows.push(now)?;
         }
-        Move::Gone { l, s, k, was: _was } => take_out(l, s, k, rows),
-        Move::New { now } => rows.push(now)?,
-        Move::Mark { l, t } => mark_front(l, t, rows),
+        Move::Remove {
+            link,
+            stage,
+            place,
+            was: _was,
+        } => take_out(link, stage, place, rows),
+        Move::Enter { now } => rows.push(now)?,
+        Move::SetFrontSince { link, second } => mark_front(link, second, rows),
         Move::Credit { .. } => {}
-        Move::Free { .. } => {}
-        Move::Tell { says: _says } => {}
+        Move::LeaveHole { .. } => {}
+        Move::Report { says: _says } => {}
     }
     Ok(())
 }

@@ -1,19 +1,13 @@
 -- A plan's rows, read back: the same activities and legs.
-use Rattle.std.proofs.Common.{◌≡◌, ℕ, ◌+◌, ◌<◌, ◌≤◌, ◌^◌, Bool, true, false, ◌&&◌, cond, List, [], ◌∷◌, ◌++◌, length, map, Option, None, Some, refl, ◌∙◌, ap, arith, length-append}
-use Rattle.std.specs.Prelude.{nat_eq, nat_le, nat_lt, decimal, option_map}
-use Rattle.std.specs.List.{list_all, cons_option, join_with_byte}
-use Rattle.std.proofs.lemmas.Bool.Decides.{nat_tests}
-use Rattle.limits.specs.declared.TheConstants.{LAST_SECOND, MAX_LEGS}
-use Rattle.events.specs.declared.event.Book.{Book}
-use Rattle.events.specs.declared.event.Mode.{Mode}
+use Rattle.records.proofs.Common.{◌≡◌, List, ap, ℕ, length, ◌∙◌, arith, map, [], ◌<◌, None, Some, ◌++◌, ◌∷◌, refl, true, Bool, Option, ◌+◌, false, cond, ◌&&◌}
+use Rattle.records.proofs.Common.{◌≤◌, length-append, ◌^◌, nat_tests, list_all, join_with_byte, nat_eq, nat_lt, nat_le, decimal, option_map, number_of}
+use Rattle.records.proofs.Common.{is_name, name_at, Book, Mode, LAST_SECOND, MAX_LEGS, field, numbers_of, parts_of, with_number, are_digits, number_in, Row}
+use Rattle.std.specs.List.{cons_option}
 use Rattle.events.specs.declared.event.Mode.TheVariants as mode
-use Rattle.events.specs.Names.{is_name, name_at, number_of, AreNames}
+use Rattle.events.specs.Names.{AreNames}
 use Rattle.events.specs.Words.{mode_text, mode_of}
 use Rattle.events.proofs.NameLists.{number_of-name_at}
-use Rattle.records.specs.Rows.{Row}
-use Rattle.records.specs.Fields.{field}
-use Rattle.records.specs.Numbers.{number_in, are_digits}
-use Rattle.records.specs.Lists.{parts_of, items_in, numbers_of, with_number}
+use Rattle.records.specs.Lists.{items_in}
 use Rattle.rows.specs.declared.plan.Act.{Act}
 use Rattle.rows.specs.declared.plan.Leg.{Leg}
 use Rattle.rows.specs.declared.plan.Leg.TheVariants as leg

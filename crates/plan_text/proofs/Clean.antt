@@ -1,19 +1,12 @@
 -- What stands in the fields of a plan's rows: no comma, and no line feed.
-use Rattle.std.proofs.Common.{◌≡◌, ℕ, ◌<◌, ◌^◌, Bool, true, false, ◌&&◌, ◌||◌, List, [], ◌∷◌, ◌++◌, length, map, Option, None, Some, refl, ◌∙◌, ap, arith, append_assoc}
-use Rattle.std.specs.Prelude.{nat_eq, nat_le, nat_lt, decimal}
-use Rattle.std.specs.List.{list_all, flat_map, join_with_byte}
-use Rattle.std.proofs.lemmas.Bool.Decides.{nat_tests}
-use Rattle.std.proofs.lemmas.List.Folds.{list_all-append}
-use Rattle.limits.specs.declared.TheConstants.{LAST_SECOND}
-use Rattle.events.specs.declared.event.Book.{Book}
-use Rattle.events.specs.declared.event.Mode.{Mode}
+use Rattle.records.proofs.Common.{◌≡◌, List, ap, ℕ, length, ◌∙◌, arith, map, [], ◌<◌, None, Some, ◌++◌, ◌∷◌, refl, true, Bool, Option, false, ◌&&◌, ◌||◌}
+use Rattle.records.proofs.Common.{append_assoc, ◌^◌, nat_tests, list_all-append, list_all, join_with_byte, flat_map, nat_eq, nat_lt, nat_le, decimal, is_name}
+use Rattle.records.proofs.Common.{name_at, Book, Mode, LAST_SECOND, parts_of, Row}
 use Rattle.events.specs.declared.event.Mode.TheVariants as mode
-use Rattle.events.specs.Names.{is_name_byte, is_name, name_at, AreNames}
+use Rattle.events.specs.Names.{is_name_byte, AreNames}
 use Rattle.events.specs.Words.{mode_text}
 use Rattle.events.proofs.NameLists.{is_name-name_at}
-use Rattle.records.specs.Rows.{Row}
 use Rattle.records.specs.Numbers.{is_digit}
-use Rattle.records.specs.Lists.{parts_of}
 use Rattle.rows.specs.declared.plan.Act.{Act}
 use Rattle.rows.specs.declared.plan.Leg.{Leg}
 use Rattle.rows.specs.declared.plan.Leg.TheVariants as leg

@@ -1,12 +1,9 @@
 -- A decimal number, read back.
-use Rattle.std.proofs.Common.{◌≡◌, ℕ, ◌+◌, ◌*◌, ◌-◌, ◌/◌, ◌%◌, ◌<◌, ◌≤◌, ◌^◌, Bool, true, ◌&&◌, cond, List, [], ◌∷◌, ◌++◌, length, None, Some, ◌∙◌, ap, arith}
-use Rattle.std.specs.Prelude.{nat_le, decimal}
-use Rattle.std.specs.List.{list_all}
-use Rattle.std.proofs.lemmas.Bool.Decides.{nat_tests}
+use Rattle.records.proofs.Common.{◌≡◌, List, ap, ℕ, length, ◌∙◌, arith, [], ◌<◌, None, Some, ◌++◌, ◌∷◌, true, Bool, ◌+◌, cond, ◌&&◌, ◌≤◌, ◌^◌, ◌-◌, nat_tests}
+use Rattle.records.proofs.Common.{list_all-append, fold-append, list_all, nat_le, decimal, are_digits, number_in, value_of}
+use Rattle.std.proofs.Common.{◌*◌, ◌/◌, ◌%◌}
 use Rattle.std.proofs.lemmas.Fmt.{decimal_by_steps, decimal_nonempty, length-decimal-le}
-use Rattle.std.proofs.lemmas.List.Folds.{list_all-append}
-use Rattle.std.proofs.lemmas.List.Sums.{fold-append}
-use Rattle.records.specs.Numbers.{is_digit, more_digits, value_of, are_digits, number_in}
+use Rattle.records.specs.Numbers.{is_digit, more_digits}
 
 -- digits that write a number
 abbrev Writes : ℕ → List ℕ → Type 0

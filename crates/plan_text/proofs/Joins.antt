@@ -1,10 +1,9 @@
 -- Pieces joined by a byte, and cut again at that byte.
-use Rattle.std.proofs.Common.{◌≡◌, ◌≤◌, ◌-◌, ℕ, zero, suc, length, take, drop, get_or, Bool, true, false, ◌&&◌, List, [], ◌∷◌, ◌++◌, map, Bor, refl, sym, ◌∙◌, ap, arith, append_assoc}
+use Rattle.records.proofs.Common.{◌≡◌, List, ap, ℕ, length, ◌∙◌, arith, map, [], sym, ◌++◌, ◌∷◌, refl, true, Bool, false, get_or, ◌&&◌, ◌≤◌, drop, suc, take}
+use Rattle.records.proofs.Common.{zero, append_assoc, ◌-◌, Bor, nat_tests, list_all, join_with_byte, flat_map, parts_of}
 use Rattle.std.specs.Prelude.{◌==◌}
-use Rattle.std.specs.List.{list_all, flat_map, slice_split, onto_first, join_with_byte}
-use Rattle.std.proofs.lemmas.Bool.Decides.{nat_tests}
+use Rattle.std.specs.List.{slice_split, onto_first}
 use Rattle.std.proofs.lemmas.List.Splits.{slice_split-cons_yes, slice_split-cons_no}
-use Rattle.records.specs.Lists.{parts_of}
 
 -- pieces, each behind the byte
 abbrev pub behind_each : ℕ → List (List ℕ) → List ℕ

@@ -1,8 +1,7 @@
 -- The rows of one activity, and of the leg behind it, come off the front of those that are still to be written.
-use Rattle.std.proofs.Common.{◌≡◌, ℕ, zero, suc, ◌+◌, ◌<◌, ◌≤◌, Bool, true, List, [], ◌∷◌, ◌++◌, length, get_or, drop, refl, sym, ◌∙◌, ap, arith, append_assoc}
-use Rattle.std.specs.List.{list_all}
+use Rattle.records.proofs.Common.{◌≡◌, List, ap, ℕ, length, ◌∙◌, arith, [], ◌<◌, sym, ◌++◌, ◌∷◌, refl, true, Bool, ◌+◌, get_or, ◌≤◌, drop, suc, zero}
+use Rattle.records.proofs.Common.{append_assoc, list_all, Book}
 use Rattle.std.proofs.lemmas.List.{drop_more}
-use Rattle.events.specs.declared.event.Book.{Book}
 use Rattle.rows.specs.declared.plan.Act.{Act}
 use Rattle.rows.specs.declared.plan.Leg.{Leg}
 use Rattle.plan_text.specs.Lines.{row_line, act_row, leg_row, element_rows, element_lines, is_act_in, is_leg_in, are_in_book}

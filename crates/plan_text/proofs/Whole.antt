@@ -1,8 +1,6 @@
 -- A text has one plan at most.
-use Rattle.std.proofs.Common.{◌≡◌, ℕ, ◌<◌, ◌^◌, true, List, length, sym, ◌∙◌, ap}
-use Rattle.std.specs.Prelude.{bytes_eq}
+use Rattle.records.proofs.Common.{◌≡◌, List, ap, ℕ, length, ◌∙◌, ◌<◌, sym, true, ◌^◌, bytes_eq, Book}
 use Rattle.std.proofs.lemmas.Slice.Eq.{bytes_eq-Decides}
-use Rattle.events.specs.declared.event.Book.{Book}
 use Rattle.rows.specs.declared.plan.Act.{Act}
 use Rattle.rows.specs.declared.plan.Leg.{Leg}
 use Rattle.rows.specs.PlanRows.{PlanRows}

@@ -3,10 +3,9 @@ ghost use Rattle.records.specs.Lists.{parts_of, numbers_of};
 ghost use Rattle.records.specs.Numbers.{number_in};
 ghost use Rattle.plan_text.specs.Elements.{act_in, transit_in, leg_by, leg_in, rows_in, acts_in, legs_in};
 
-use crate::fields::cell;
 use events::{Book, Mode, Route};
 use limits::LAST_SECOND;
-use records::{is_text, items_in, number_in, numbers_of, parts_of};
+use records::{is_text, items_in, number_in, numbers_of, part, parts_of};
 use rows::{Act, Leg};
 use std::alloc::{AllocError, Global};
 
@@ -22,22 +21,23 @@ pub struct Elements {
 fn act_in(row: &[&[u8]], book: &Book) -> Option<Act>
     ensures { result ≡ act_in book.now (map (λ cell. cell.now) row.now) }
 {
-    if !is_text(cell(row, 2), b"act") {
+    if !is_text(part(row, 2), b"act") {
         return None;
     }
-    let Some(kind) = book.kinds.find(cell(row, 3)) else {
+    let Some(kind) = book.kinds.find(part(row, 3)) else {
         return None;
     };
-    let Some(link) = book.links.find(cell(row, 4)) else {
+    let Some(link) = book.links.find(part(row, 4)) else {
         return None;
     };
-    let end = number_in(cell(row, 5), 0, LAST_SECOND);
+    let end = number_in(part(row, 5), 0, LAST_SECOND);
     Some(Act { kind, link, end })
 }
 
 /// The leg by car over the links that the items name.
 fn car_leg(alloc: Global, items: &[&[u8]], book: &Book) -> Result<Option<Leg>, AllocError>
-    ensures { IfOk result (λ leg. leg ≡ option_map (λ route. Leg.Car route) (numbers_of (map (λ item. item.now) items.now) book.now.links)) }
+    ensures { IfOk result
+        (λ leg. leg ≡ option_map (λ route. Leg.Car route) (numbers_of (map (λ item. item.now) items.now) book.now.links)) }
 {
     match numbers_of(alloc, items, &book.links)? {
         None => Ok(None),
@@ -51,13 +51,13 @@ fn car_leg(alloc: Global, items: &[&[u8]], book: &Book) -> Result<Option<Leg>, A
 fn transit_leg(items: &[&[u8]], book: &Book) -> Option<Leg>
     ensures { result ≡ transit_in book.now (map (λ item. item.now) items.now) }
 {
-    let Some(line) = book.lines.find(cell(items, 0)) else {
+    let Some(line) = book.lines.find(part(items, 0)) else {
         return None;
     };
-    let Some(access) = book.stops.find(cell(items, 1)) else {
+    let Some(access) = book.stops.find(part(items, 1)) else {
         return None;
     };
-    let Some(egress) = book.stops.find(cell(items, 2)) else {
+    let Some(egress) = book.stops.find(part(items, 2)) else {
         return None;
     };
     Some(Leg::Transit {
@@ -82,13 +82,13 @@ fn teleported_leg(mode: Mode, seconds: &[u8]) -> Option<Leg>
 fn leg_by(alloc: Global, mode: Mode, row: &[&[u8]], book: &Book) -> Result<Option<Leg>, AllocError>
     ensures { IfOk result (λ leg. leg ≡ leg_by book.now mode (map (λ cell. cell.now) row.now)) }
 {
-    let items = items_in(alloc, cell(row, 6))?;
+    let items = items_in(alloc, part(row, 6))?;
     match mode {
         Mode::Car => car_leg(alloc, &items, book),
         Mode::Pt => Ok(transit_leg(&items, book)),
-        Mode::Walk => Ok(teleported_leg(Mode::Walk, cell(row, 5))),
-        Mode::Bike => Ok(teleported_leg(Mode::Bike, cell(row, 5))),
-        Mode::Ride => Ok(teleported_leg(Mode::Ride, cell(row, 5))),
+        Mode::Walk => Ok(teleported_leg(Mode::Walk, part(row, 5))),
+        Mode::Bike => Ok(teleported_leg(Mode::Bike, part(row, 5))),
+        Mode::Ride => Ok(teleported_leg(Mode::Ride, part(row, 5))),
     }
 }
 
@@ -97,10 +97,10 @@ fn leg_by(alloc: Global, mode: Mode, row: &[&[u8]], book: &Book) -> Result<Optio
 fn leg_in(alloc: Global, row: &[&[u8]], book: &Book) -> Result<Option<Leg>, AllocError>
     ensures { IfOk result (λ leg. leg ≡ leg_in book.now (map (λ cell. cell.now) row.now)) }
 {
-    if !is_text(cell(row, 2), b"leg") {
+    if !is_text(part(row, 2), b"leg") {
         return Ok(None);
     }
-    match Mode::read(cell(row, 3)) {
+    match Mode::read(part(row, 3)) {
         None => Ok(None),
         Some(mode) => leg_by(alloc, mode, row, book),
     }

@@ -1,21 +1,10 @@
 ghost use Rattle.std.specs.Prelude.{◌≡◌, ◌++◌, length, map, nat_lt, true, OnOk, IfOk};
 ghost use Rattle.std.specs.List.{list_all, join_with_byte};
 ghost use Rattle.events.specs.Names.{name_at};
-ghost use Rattle.records.specs.Fields.{field};
 ghost use Rattle.plan_text.specs.Lines.{row_line};
 
 use events::Names;
 use std::alloc::{AllocError, Global};
-
-/// The field at a place, or no bytes where the row is too short.
-pub fn cell<'a>(row: &[&'a [u8]], place: usize) -> &'a [u8]
-    ensures { result.now ≡ field (map (λ cell. cell.now) row.now) place }
-{
-    match row.get(place) {
-        Some(bytes) => bytes,
-        None => b"",
-    }
-}
 
 /// Appends the pieces with a separator between each two.
 #[tactic(auto, using(crate::proofs::Joins::piece_more, crate::proofs::Joins::join_first))]

@@ -182,7 +182,8 @@ pub fn read_body(
 ) -> Result<Option<Plan>, AllocError>
     requires { person < length book.now.persons }
     ensures written { IfOk result (λ read. IfSome read (λ plan. IsTextOf person index book.now bytes.now (plan_rows plan))) }
-    ensures read { IfOk result (λ read. (plan : PlanRows) → IsTextOf person index book.now bytes.now plan → option_map plan_rows read ≡ Some plan) }
+    ensures read { IfOk result
+        (λ read. (plan : PlanRows) → IsTextOf person index book.now bytes.now plan → option_map plan_rows read ≡ Some plan) }
 {
     know_names(book);
     let Elements { acts, legs } = elements_in(alloc, bytes, book)?;

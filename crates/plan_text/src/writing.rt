@@ -2,7 +2,8 @@ ghost use Rattle.std.specs.Prelude.{◌≡◌, ◌<◌, ◌+◌, ◌++◌, lengt
 ghost use Rattle.std.specs.List.{list_all};
 ghost use Rattle.events.specs.Words.{mode_text};
 ghost use Rattle.rows.specs.PlanRows.{plan_rows};
-ghost use Rattle.plan_text.specs.Lines.{end_text, seconds_text, route_text, leg_mode, row_line, act_row, leg_row, element_lines, plan_lines, is_act_in, is_leg_in, are_in_book, are_plan, is_plan_in};
+ghost use Rattle.plan_text.specs.Lines.{end_text, seconds_text, route_text, leg_mode, row_line, act_row, leg_row, element_lines};
+ghost use Rattle.plan_text.specs.Lines.{plan_lines, is_act_in, is_leg_in, are_in_book, are_plan, is_plan_in};
 
 use crate::fields::{names_of, push_joined, push_row};
 use events::{Book, Mode};
@@ -157,7 +158,9 @@ fn push_element(
     requires person { person < length book.now.persons }
     requires named { are_in_book book.now acts.now legs.now ≡ true }
     requires place { place < length acts.now }
-    ensures { OnOk result (text.new.items ++ element_lines book.now person index (drop (place + 1) acts.now) (drop (place + 1) legs.now) ≡ text.old.items ++ element_lines book.now person index (drop place acts.now) (drop place legs.now)) }
+    ensures { OnOk result
+        (text.new.items ++ element_lines book.now person index (drop (place + 1) acts.now) (drop (place + 1) legs.now)
+        ≡ text.old.items ++ element_lines book.now person index (drop place acts.now) (drop place legs.now)) }
 {
     push_act(book, person, index, acts[place], text)?;
     if place >= legs.len() {

@@ -1,11 +1,8 @@
 -- The three ways in which an activity is read: in the opened plan, as the first of a further plan, as the first of a person.
-use Rattle.std.proofs.Common.{◌≡◌, ℕ, ◌+◌, ◌<◌, Bool, true, false, not, ◌&&◌, cond, List, [], ◌∷◌, ◌++◌, length, map, take, drop, get_or, Option, None, Some, refl, sym, ◌∙◌, ap, add-zero, arith, length-append}
-use Rattle.std.specs.Prelude.{nat_eq, is_some, option_to_list}
-use Rattle.std.proofs.lemmas.Bool.Decides.{nat_tests}
-use Rattle.std.proofs.lemmas.List.{take_more, map-append, append-nil}
-use Rattle.events.specs.Names.{is_held, with_name}
-use Rattle.records.specs.Rows.{Row}
-use Rattle.records.specs.Fields.{field}
+use Rattle.records.proofs.Common.{◌≡◌, List, ap, ℕ, length, ◌∙◌, arith, map, [], ◌<◌, sym, None, Some, ◌++◌, ◌∷◌, refl, true, Bool, Option, ◌+◌, false, cond}
+use Rattle.records.proofs.Common.{get_or, ◌&&◌, drop, not, take, length-append, nat_tests, map-append, take_more, append-nil, nat_eq, is_some, option_to_list}
+use Rattle.records.proofs.Common.{with_name, is_held, field, Row}
+use Rattle.std.proofs.Common.{add-zero}
 use Rattle.rows.specs.declared.plan.Act.{Act}
 use Rattle.rows.specs.declared.plan.Leg.{Leg}
 use Rattle.plans.specs.declared.kinds.ElementKind.{ElementKind}

@@ -1,13 +1,9 @@
 -- An activity is read: what is known of the rows so far stays known.
-use Rattle.std.proofs.Common.{◌≡◌, ℕ, suc, ◌+◌, ◌<◌, Bool, true, false, ◌&&◌, cond, List, [], ◌∷◌, ◌++◌, length, map, take, get_or, Option, None, Some, refl, sym, ◌∙◌, ap, add-one, arith}
-use Rattle.std.specs.Prelude.{nat_lt, is_none, is_some, option_to_list}
-use Rattle.std.specs.List.{filter, fold}
-use Rattle.std.proofs.lemmas.Bool.Decides.{nat_tests}
-use Rattle.std.proofs.lemmas.List.{map-append}
+use Rattle.records.proofs.Common.{◌≡◌, List, ap, ℕ, length, ◌∙◌, arith, map, [], ◌<◌, sym, None, Some, ◌++◌, ◌∷◌, refl, true, Bool, Option, ◌+◌, false, cond}
+use Rattle.records.proofs.Common.{get_or, ◌&&◌, suc, take, add-one, nat_tests, map-append, fold, nat_lt, is_some, is_none, option_to_list, number_of}
+use Rattle.records.proofs.Common.{with_name, is_held, field, Row}
+use Rattle.std.specs.List.{filter}
 use Rattle.std.proofs.lemmas.List.Elements.{filter-append}
-use Rattle.events.specs.Names.{is_held, number_of, with_name}
-use Rattle.records.specs.Rows.{Row}
-use Rattle.records.specs.Fields.{field}
 use Rattle.rows.specs.declared.plan.Act.{Act}
 use Rattle.rows.specs.declared.plan.Leg.{Leg}
 use Rattle.plans.specs.declared.kinds.ElementKind.{ElementKind}

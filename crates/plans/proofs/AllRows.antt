@@ -1,11 +1,7 @@
 -- A file none of whose rows is refused is read to its end.
-use Rattle.std.proofs.Common.{◌≡◌, ℕ, zero, suc, ◌+◌, ◌<◌, ◌≤◌, List, [], ◌∷◌, length, get_or, Option, None, Some, refl, sym, ◌∙◌, ap, subst, arith}
-use Rattle.std.specs.Prelude.{is_some}
+use Rattle.records.proofs.Common.{◌≡◌, List, ap, ℕ, length, ◌∙◌, arith, [], ◌<◌, sym, None, Some, ◌∷◌, refl, Option, ◌+◌, get_or, ◌≤◌, suc, zero, subst}
+use Rattle.records.proofs.Common.{is_some, Reason, Mode, body_of, head_reason, Row, rows_of}
 use Rattle.std.specs.List.{AllByRecursion as Each}
-use Rattle.edge_files.specs.declared.reasons.Reason.{Reason}
-use Rattle.events.specs.declared.event.Mode.{Mode}
-use Rattle.records.specs.Rows.{Row, rows_of}
-use Rattle.records.specs.Files.{head_reason, body_of}
 use Rattle.records.proofs.Unrefused.{head_none, each_none}
 use Rattle.plans.specs.declared.kinds.ElementKind.{ElementKind}
 use Rattle.plans.specs.declared.kinds.ElementKind.TheVariants as element

@@ -1,13 +1,7 @@
 -- The records of the code are the rows of the definitions.
-use Rattle.std.proofs.Common.{◌≡◌, ℕ, zero, suc, ◌+◌, ◌-◌, ◌<◌, List, [], length, map, get_or, Option, None, Some, Err, sym, ◌∙◌, ap, arith, subst}
-use Rattle.std.proofs.lemmas.List.{get_or-map, length-map}
-use Rattle.csv.specs.declared.record.ByteRecord.{ByteRecord}
-use Rattle.csv.specs.Records.{fields_of}
-use Rattle.edge_files.specs.declared.reasons.Reason.{Reason}
-use Rattle.edge_files.specs.declared.reasons.RowStop.{RowStop}
+use Rattle.records.proofs.Common.{◌≡◌, List, ap, ℕ, length, ◌∙◌, arith, map, [], ◌<◌, sym, None, Some, Option, ◌+◌, get_or, suc, zero, subst, Err, ◌-◌}
+use Rattle.records.proofs.Common.{length-map, get_or-map, fields_of, ByteRecord, Reason, RowStop, Mode, Row}
 use Rattle.edge_files.specs.declared.reasons.RowStop.TheVariants as stop
-use Rattle.events.specs.declared.event.Mode.{Mode}
-use Rattle.records.specs.Rows.{Row}
 use Rattle.plans.specs.declared.kinds.ElementKind.TheVariants as element
 use Rattle.plans.specs.Kinds.{kind_of}
 use Rattle.plans.specs.Refusals.{row_reason}

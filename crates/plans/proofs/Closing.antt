@@ -1,6 +1,5 @@
 -- A plan is closed behind an activity.
-use Rattle.std.proofs.Common.{◌≡◌, Bool, true, ◌&&◌, List, [], ◌∷◌, ◌++◌, None, ap, arith}
-use Rattle.std.specs.List.{list_all}
+use Rattle.records.proofs.Common.{◌≡◌, List, ap, arith, [], None, ◌++◌, ◌∷◌, true, Bool, ◌&&◌, list_all}
 use Rattle.rows.specs.declared.plan.Act.{Act}
 use Rattle.rows.specs.Plan.{has_end, is_open, are_acts}
 

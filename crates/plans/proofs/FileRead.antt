@@ -1,14 +1,10 @@
 -- The first row and the end of the file.
-use Rattle.std.proofs.Common.{◌≡◌, ℕ, zero, suc, ◌+◌, ◌<◌, ◌≤◌, Bool, true, false, not, ◌&&◌, ◌||◌, cond, List, [], ◌∷◌, ◌++◌, length, map, get_or, Option, None, Some, refl, sym, ◌∙◌, ap, subst, arith, length-append}
-use Rattle.std.specs.Prelude.{nat_eq, is_some}
-use Rattle.std.specs.List.{list_all, All}
-use Rattle.std.proofs.lemmas.Bool.Decides.{nat_tests}
-use Rattle.std.proofs.lemmas.List.{take_more, take_all, drop_all, map-append}
+use Rattle.records.proofs.Common.{◌≡◌, List, ap, ℕ, length, ◌∙◌, arith, map, [], ◌<◌, sym, None, Some, ◌++◌, ◌∷◌, refl, true, Bool, Option, ◌+◌, false, cond}
+use Rattle.records.proofs.Common.{get_or, ◌&&◌, ◌≤◌, suc, not, zero, ◌||◌, subst, length-append, nat_tests, map-append, take_more, take_all, list_all, nat_eq}
+use Rattle.records.proofs.Common.{is_some, Reason, with_name, field, Row}
+use Rattle.std.specs.List.{All}
+use Rattle.std.proofs.lemmas.List.{drop_all}
 use Rattle.std.proofs.lemmas.List.Elements.{All-append, All-from_recursion, All-weaker}
-use Rattle.edge_files.specs.declared.reasons.Reason.{Reason}
-use Rattle.events.specs.Names.{with_name}
-use Rattle.records.specs.Rows.{Row}
-use Rattle.records.specs.Fields.{field}
 use Rattle.records.proofs.Faulty.{none_of_none, one_more, fault_here}
 use Rattle.rows.specs.declared.plan.Act.{Act}
 use Rattle.plans.specs.declared.kinds.ElementKind.{ElementKind}

@@ -1,8 +1,6 @@
 -- The items of a list of names, and their numbers.
-use Rattle.std.proofs.Common.{◌≡◌, ℕ, zero, suc, ◌<◌, ◌+◌, Bool, true, false, ◌&&◌, List, [], ◌∷◌, length, ◌++◌, cond, get_or, map, Bor, Option, None, Some, refl, sym, ap, arith}
-use Rattle.std.specs.List.{list_all}
-use Rattle.events.specs.Names.{is_name, is_held, number_of, with_name}
-use Rattle.records.specs.Lists.{numbers_of, with_number}
+use Rattle.records.proofs.Common.{◌≡◌, List, ap, ℕ, length, arith, map, [], ◌<◌, sym, None, Some, ◌++◌, ◌∷◌, refl, true, Bool, Option, ◌+◌, false, cond}
+use Rattle.records.proofs.Common.{get_or, ◌&&◌, suc, zero, Bor, list_all, number_of, with_name, is_held, is_name, numbers_of, with_number}
 use Rattle.events.proofs.NameLists.{number_of-kept}
 
 both : (a b : Bool) → (a && b) ≡ true → (a ≡ true) × (b ≡ true)

@@ -1,23 +1,17 @@
 -- A leg is read.
-use Rattle.std.proofs.Common.{◌≡◌, ℕ, ◌+◌, ◌<◌, Bool, true, false, not, ◌&&◌, cond, List, [], ◌∷◌, ◌++◌, length, map, take, drop, get_or, Option, None, Some, refl, sym, ◌∙◌, ap, arith, length-append}
-use Rattle.std.specs.Prelude.{nat_lt, is_none, option_to_list, unwrap_or}
-use Rattle.std.specs.List.{list_all, fold}
-use Rattle.std.proofs.lemmas.Bool.Decides.{nat_tests}
-use Rattle.std.proofs.lemmas.List.{take_more, append-nil}
-use Rattle.events.specs.declared.event.Mode.{Mode}
+use Rattle.records.proofs.Common.{◌≡◌, List, ap, ℕ, length, ◌∙◌, arith, map, [], ◌<◌, sym, None, Some, ◌++◌, ◌∷◌, refl, true, Bool, Option, ◌+◌, false, cond}
+use Rattle.records.proofs.Common.{get_or, ◌&&◌, drop, not, take, length-append, nat_tests, take_more, append-nil, list_all, fold, nat_lt, unwrap_or, is_none}
+use Rattle.records.proofs.Common.{option_to_list, number_of, with_name, is_held, Mode, field, numbers_of, with_number, Row}
 use Rattle.events.specs.declared.event.Mode.TheVariants as mode
-use Rattle.events.specs.Names.{is_held, number_of, with_name}
 use Rattle.events.proofs.NameLists.{number_held, name_at-number_of}
 use Rattle.rows.specs.declared.plan.Leg.TheVariants as leg
-use Rattle.records.specs.Rows.{Row}
-use Rattle.records.specs.Fields.{field}
-use Rattle.records.specs.Lists.{numbers_of, with_number}
 use Rattle.rows.specs.declared.plan.Act.{Act}
 use Rattle.rows.specs.declared.plan.Leg.{Leg}
 use Rattle.plans.specs.declared.kinds.ElementKind.{ElementKind}
 use Rattle.plans.specs.declared.kinds.ElementKind.TheVariants as element
 use Rattle.plans.specs.Kinds.{kind_of, is_act, is_leg, is_transit, items_of, item}
-use Rattle.plans.specs.Refusals.{same_person, same_plan, ends_plan, is_neither, lacks_link, is_broken, is_joined, route_of}
+use Rattle.rows.specs.Joined.{is_joined}
+use Rattle.plans.specs.Refusals.{same_person, same_plan, ends_plan, is_neither, lacks_link, is_broken, route_of}
 use Rattle.plans.specs.Runs.{runs}
 use Rattle.plans.specs.Values.{Tables, tables_of, person_in, kind_in, line_in, stops_in, named_by, number_in_table, act_of, leg_by, leg_of, leg_of_kind, acts_among, legs_among, first_row, begins_at, is_act_named, is_leg_named}
 use Rattle.plans.specs.Progress.{Progress, lines_with, stops_with, step_leg, Grouped, Sound, Named, Behind}

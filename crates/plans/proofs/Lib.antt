@@ -1,5 +1,4 @@
 pub mod Closing
-pub mod Cells
 pub mod Items
 pub mod RunsMore
 pub mod Naming

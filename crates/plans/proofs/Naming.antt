@@ -1,14 +1,12 @@
 -- Names numbered by first appearance in rows.
-use Rattle.std.proofs.Common.{◌≡◌, ℕ, ◌+◌, ◌<◌, Bool, true, false, ◌||◌, List, [], ◌∷◌, ◌++◌, length, take, drop, get_or, Option, None, Some, refl, sym, ◌∙◌, ap, append_assoc, arith}
-use Rattle.std.specs.Prelude.{unwrap_or, is_none, bytes_eq}
-use Rattle.std.specs.List.{fold, flat_map, position_or_len}
-use Rattle.std.proofs.lemmas.List.{take_more, append-nil, take-append-drop}
-use Rattle.std.proofs.lemmas.List.Sums.{fold-append}
+use Rattle.records.proofs.Common.{◌≡◌, List, ap, ℕ, length, ◌∙◌, arith, [], ◌<◌, sym, None, Some, ◌++◌, ◌∷◌, refl, true, Bool, Option, ◌+◌, false, get_or}
+use Rattle.records.proofs.Common.{drop, take, ◌||◌, append_assoc, take_more, append-nil, fold-append, fold, flat_map, unwrap_or, is_none, bytes_eq, number_of}
+use Rattle.records.proofs.Common.{with_name, is_held, firsts, Row}
+use Rattle.std.specs.List.{position_or_len}
+use Rattle.std.proofs.lemmas.List.{take-append-drop}
 use Rattle.std.proofs.lemmas.Grind.{flat_map-append}
 use Rattle.std.proofs.lemmas.Cmp.{nat_list_eq_equiv}
-use Rattle.events.specs.Names.{is_held, number_of, with_name, firsts}
 use Rattle.events.proofs.NameLists.{number_of-held, name_at-number_of, is_held-with_name, firsts-push}
-use Rattle.records.specs.Rows.{Row}
 use Rattle.plans.specs.Values.{named_by, number_in_table}
 use Rattle.plans.proofs.Items.{number_kept}
 

@@ -1,11 +1,7 @@
 -- What is known of a row against which nothing speaks.
-use Rattle.std.proofs.Common.{◌≡◌, ℕ, ◌+◌, Bool, true, false, not, ◌&&◌, ◌||◌, cond, List, length, Option, None, Some, refl, arith}
-use Rattle.std.specs.Prelude.{nat_eq, is_none, is_some}
-use Rattle.std.proofs.lemmas.Bool.Decides.{nat_tests}
+use Rattle.records.proofs.Common.{◌≡◌, List, ℕ, length, arith, None, Some, refl, true, Bool, Option, ◌+◌, false, cond, ◌&&◌, not, ◌||◌, nat_tests, nat_eq}
+use Rattle.records.proofs.Common.{is_some, is_none, Reason, field, holds_name, Row}
 use Rattle.std.proofs.lemmas.Slice.Eq.{bytes_eq-Decides}
-use Rattle.edge_files.specs.declared.reasons.Reason.{Reason}
-use Rattle.records.specs.Rows.{Row}
-use Rattle.records.specs.Fields.{field, holds_name}
 use Rattle.plans.specs.declared.kinds.ElementKind.{ElementKind}
 use Rattle.plans.specs.Kinds.{kind_of, is_act, is_leg, plan_in, plan_number, end_in}
 use Rattle.plans.specs.Refusals.{is_out_of_order, same_person, same_plan, is_neither, starts_late, jumps, begins_with_leg, repeats, follows_endless, ends_with_leg, ends_plan, row_reason}

@@ -1,16 +1,10 @@
 -- One more row is read.
-use Rattle.std.proofs.Common.{◌≡◌, ℕ, zero, suc, ◌+◌, ◌-◌, ◌<◌, ◌≤◌, Bool, true, false, not, ◌&&◌, ◌||◌, cond, List, [], length, drop, get_or, Option, None, Some, refl, sym, ◌∙◌, ap, add-one, arith, subst}
-use Rattle.std.specs.Prelude.{nat_eq, nat_le, nat_lt, is_none, is_some, unwrap_or}
+use Rattle.records.proofs.Common.{◌≡◌, List, ap, ℕ, length, ◌∙◌, arith, [], ◌<◌, sym, None, Some, refl, true, Bool, Option, ◌+◌, false, cond, get_or, ◌&&◌}
+use Rattle.records.proofs.Common.{◌≤◌, drop, suc, not, zero, ◌||◌, subst, ◌-◌, add-one, nat_tests, nat_eq, nat_lt, is_some, nat_le, unwrap_or, is_none}
+use Rattle.records.proofs.Common.{Reason, number_of, with_name, Mode, LAST_SECOND, MAX_ROUTE_LINKS, MAX_LEGS, first_fault, field, holds_name, are_digits}
+use Rattle.records.proofs.Common.{number_in, value_of, Row}
 use Rattle.std.proofs.Math.Seq.{drop-cons}
-use Rattle.std.proofs.lemmas.Bool.Decides.{nat_tests}
-use Rattle.limits.specs.declared.TheConstants.{LAST_SECOND, MAX_LEGS, MAX_PERSONS, MAX_ROUTE_LINKS}
-use Rattle.edge_files.specs.declared.reasons.Reason.{Reason}
-use Rattle.events.specs.declared.event.Mode.{Mode}
-use Rattle.events.specs.Names.{number_of, with_name}
-use Rattle.records.specs.Rows.{Row}
-use Rattle.records.specs.Fields.{field, holds_name}
-use Rattle.records.specs.Numbers.{number_in, are_digits, value_of}
-use Rattle.records.specs.Faults.{first_fault}
+use Rattle.limits.specs.declared.TheConstants.{MAX_PERSONS}
 use Rattle.records.proofs.Faulty.{one_more}
 use Rattle.rows.specs.declared.plan.Act.{Act}
 use Rattle.plans.specs.declared.kinds.ElementKind.{ElementKind}

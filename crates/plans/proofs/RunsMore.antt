@@ -1,6 +1,5 @@
 -- Runs as one more item comes.
-use Rattle.std.proofs.Common.{◌≡◌, Bool, true, false, List, [], ◌∷◌, ◌++◌, refl, sym, ◌∙◌, ap, append_assoc}
-use Rattle.std.proofs.lemmas.List.Sums.{fold-append}
+use Rattle.records.proofs.Common.{◌≡◌, List, ap, ◌∙◌, [], sym, ◌++◌, ◌∷◌, refl, true, Bool, false, append_assoc, fold-append}
 use Rattle.plans.specs.Runs.{goes_on, put_behind, put, runs}
 
 put_at : {X : Type 0} (like : X → X → Bool) (earlier : List (List X)) (run : List X) (x : X) → put like (earlier ++ run ∷ []) x ≡ earlier ++ put_behind (goes_on like run x) run x

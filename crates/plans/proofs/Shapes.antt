@@ -1,14 +1,9 @@
 -- What is read of a plan keeps the limits of plans.
-use Rattle.std.proofs.Common.{◌≡◌, ℕ, ◌+◌, ◌<◌, ◌≤◌, Bool, true, false, ◌&&◌, cond, List, [], ◌∷◌, ◌++◌, length, Option, None, Some, refl, sym, ◌∙◌, ap, arith, length-append}
-use Rattle.std.specs.Prelude.{is_some, nat_le, option_to_list, unwrap_or}
-use Rattle.std.specs.List.{list_all, AllByRecursion as Each}
-use Rattle.std.proofs.lemmas.Bool.Decides.{nat_tests}
-use Rattle.limits.specs.declared.TheConstants.{LAST_SECOND, MAX_LEGS, MAX_ROUTE_LINKS}
-use Rattle.events.specs.declared.event.Mode.{Mode}
+use Rattle.records.proofs.Common.{◌≡◌, List, ap, ℕ, length, ◌∙◌, arith, [], ◌<◌, sym, None, Some, ◌++◌, ◌∷◌, refl, true, Bool, Option, ◌+◌, false, cond, ◌&&◌}
+use Rattle.records.proofs.Common.{◌≤◌, length-append, nat_tests, list_all, is_some, nat_le, unwrap_or, option_to_list, Mode, LAST_SECOND, MAX_ROUTE_LINKS}
+use Rattle.records.proofs.Common.{MAX_LEGS, field, numbers_of, Row}
+use Rattle.std.specs.List.{AllByRecursion as Each}
 use Rattle.events.specs.declared.event.Mode.TheVariants as mode
-use Rattle.records.specs.Rows.{Row}
-use Rattle.records.specs.Fields.{field}
-use Rattle.records.specs.Lists.{numbers_of}
 use Rattle.rows.specs.declared.plan.Act.{Act}
 use Rattle.rows.specs.declared.plan.Leg.{Leg}
 use Rattle.plans.specs.declared.kinds.ElementKind.TheVariants as element

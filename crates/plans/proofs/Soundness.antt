@@ -1,14 +1,9 @@
 -- Every number stays one that has a name, and no limit is passed, as an activity is read.
-use Rattle.std.proofs.Common.{◌≡◌, ℕ, ◌+◌, ◌<◌, ◌≤◌, Bool, true, false, ◌&&◌, ◌||◌, cond, List, [], ◌∷◌, ◌++◌, length, Option, None, Some, refl, sym, ◌∙◌, ap, arith, length-append}
-use Rattle.std.specs.Prelude.{nat_le, nat_lt, is_some, option_to_list}
-use Rattle.std.specs.List.{list_all}
-use Rattle.std.proofs.lemmas.Bool.Decides.{nat_tests}
-use Rattle.std.proofs.lemmas.List.Folds.{list_all-append}
-use Rattle.limits.specs.declared.TheConstants.{MAX_LEGS, MAX_PERSONS, MAX_ROUTE_LINKS}
-use Rattle.events.specs.Names.{is_held, number_of}
+use Rattle.records.proofs.Common.{◌≡◌, List, ap, ℕ, length, ◌∙◌, arith, [], ◌<◌, sym, None, Some, ◌++◌, ◌∷◌, refl, true, Bool, Option, ◌+◌, false, cond, ◌&&◌}
+use Rattle.records.proofs.Common.{◌≤◌, ◌||◌, length-append, nat_tests, list_all-append, list_all, nat_lt, is_some, nat_le, option_to_list, number_of, is_held}
+use Rattle.records.proofs.Common.{MAX_ROUTE_LINKS, MAX_LEGS, field, Row}
+use Rattle.limits.specs.declared.TheConstants.{MAX_PERSONS}
 use Rattle.events.proofs.NameLists.{no_number-absent}
-use Rattle.records.specs.Rows.{Row}
-use Rattle.records.specs.Fields.{field}
 use Rattle.rows.specs.declared.plan.Act.{Act}
 use Rattle.plans.specs.declared.kinds.ElementKind.{ElementKind}
 use Rattle.plans.specs.Kinds.{is_leg, is_car, items_of}

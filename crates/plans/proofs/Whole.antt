@@ -1,11 +1,7 @@
 -- The header and the rows behind it.
-use Rattle.std.proofs.Common.{◌≡◌, ℕ, ◌<◌, Bool, true, false, not, cond, List, [], ◌∷◌, length, drop, Option, None, Some, Result, Err, refl, sym, subst, arith}
-use Rattle.std.specs.Prelude.{nat_eq}
-use Rattle.edge_files.specs.declared.reasons.Reason.{Reason}
-use Rattle.edge_files.specs.declared.reasons.RowStop.{RowStop}
-use Rattle.records.specs.Rows.{Row, rows_of}
-use Rattle.records.specs.Faults.{Answers}
-use Rattle.records.specs.Files.{begins_with, head_reason, body_of, TellsStop}
+use Rattle.records.proofs.Common.{◌≡◌, List, ℕ, length, arith, [], ◌<◌, sym, None, Some, ◌∷◌, refl, true, Bool, Option, false, cond, drop, not, subst, Err}
+use Rattle.records.proofs.Common.{Result, nat_eq, Reason, RowStop, Answers, body_of, head_reason, TellsStop, Row, rows_of}
+use Rattle.records.specs.Files.{begins_with}
 use Rattle.records.proofs.Faulty.{answers_head}
 use Rattle.plans.specs.declared.plan_file.PlanFile.{PlanFile}
 use Rattle.plans.specs.Values.{PlanFileRows, reason_at, rows_fault, values_of}

@@ -1,6 +1,6 @@
 -- What a row of plans.csv is, and its fields: `person,plan,kind,name,link,time,route`.
-use Rattle.std.specs.Prelude.{ℕ, Bool, true, false, bytes_eq, codes, if◌then◌else◌, List, [], ◌∷◌, get_or, Option, None, Some, unwrap_or}
-use Rattle.limits.specs.declared.TheConstants.{LAST_SECOND}
+use Rattle.std.specs.Prelude.{ℕ, ◌-◌, Bool, true, false, bytes_eq, codes, if◌then◌else◌, List, [], ◌∷◌, get_or, Option, None, Some, unwrap_or}
+use Rattle.limits.specs.declared.TheConstants.{LAST_SECOND, MAX_PLANS}
 use Rattle.events.specs.declared.event.Mode.TheVariants as mode
 use Rattle.events.specs.Words.{mode_of}
 use Rattle.records.specs.Rows.{Row}
@@ -46,9 +46,9 @@ is_transit (element.Leg (Some mode)) = false
 is_transit (element.Leg None) = false
 is_transit element.Neither = false
 
--- the number of the plan, 0 to 4
+-- the number of the plan, from 0 on
 abbrev pub plan_in : Row → Option ℕ
-plan_in row = number_in 0 4 (field row 1)
+plan_in row = number_in 0 (MAX_PLANS - 1) (field row 1)
 
 unfoldable pub plan_number : Row → ℕ
 plan_number row = unwrap_or (plan_in row) 0

@@ -9,6 +9,7 @@ use Rattle.records.specs.Rows.{Row}
 use Rattle.records.specs.Fields.{field, holds_name, is_blank}
 use Rattle.records.specs.Lists.{are_names, numbers_of}
 use Rattle.records.specs.Faults.{least}
+use Rattle.rows.specs.Joined.{is_joined}
 use Rattle.plans.specs.declared.kinds.ElementKind.{ElementKind}
 use Rattle.plans.specs.declared.kinds.ElementKind.TheVariants as element
 use Rattle.plans.specs.Kinds.{kind_of, is_act, is_leg, is_car, plan_in, plan_number, end_in, seconds_in, items_of}
@@ -128,12 +129,6 @@ abbrev pub is_out_of_order : Option Row → ElementKind → Row → Option Row �
 is_out_of_order before kind row next =
     is_neither kind || starts_late before row || jumps before row || begins_with_leg before kind row || repeats before kind row
     || follows_endless before kind row || ends_with_leg kind row next
-
--- each link begins where the one before it ends
-unfoldable pub is_joined : List (ℕ × ℕ) → List ℕ → Bool
-is_joined ends [] = true
-is_joined ends (link ∷ []) = true
-is_joined ends (link ∷ next ∷ route) = nat_eq (get_or ends link (0, 0)).1 (get_or ends next (0, 0)).0 && is_joined ends (next ∷ route)
 
 -- the links of a car route, by their numbers
 abbrev pub route_of : List (List ℕ) → Row → List ℕ

@@ -3,6 +3,7 @@ use Rattle.std.specs.Prelude.{ℕ, suc, zero, ◌+◌, Bool, true, ◌&&◌, nat
 use Rattle.std.specs.List.{flat_map, filter, list_all}
 use Rattle.edge_files.specs.declared.reasons.Reason.{Reason}
 use Rattle.edge_files.specs.declared.reasons.RowFault.{RowFault}
+use Rattle.limits.specs.declared.TheConstants.{MAX_PLANS}
 use Rattle.events.specs.declared.event.Mode.{Mode}
 use Rattle.events.specs.declared.event.Mode.TheVariants as mode
 use Rattle.events.specs.Names.{number_of, firsts}
@@ -17,7 +18,8 @@ use Rattle.rows.specs.declared.plan.Leg.{Leg}
 use Rattle.rows.specs.declared.plan.Leg.TheVariants as leg
 use Rattle.rows.specs.PlanRows.{PlanRows}
 use Rattle.plans.specs.Kinds.{kind_of, is_act, is_leg, is_transit, end_in, seconds_in, items_of, item, plans_header}
-use Rattle.plans.specs.Refusals.{row_reason, same_person, same_plan, begins_plan, route_of, is_joined}
+use Rattle.rows.specs.Joined.{is_joined}
+use Rattle.plans.specs.Refusals.{row_reason, same_person, same_plan, begins_plan, route_of}
 use Rattle.plans.specs.Runs.{runs}
 
 -- the names that numbers stand for
@@ -187,4 +189,4 @@ is_plan_named tables ends parts = list_all (is_act_named tables) parts.acts && l
 
 -- one to five plans, and every number of them has a name
 unfoldable pub are_plans : Tables → List (ℕ × ℕ) → List PlanRows → Bool
-are_plans tables ends plans = nat_le 1 (length plans) && nat_le (length plans) 5 && list_all (is_plan_named tables ends) plans
+are_plans tables ends plans = nat_le 1 (length plans) && nat_le (length plans) MAX_PLANS && list_all (is_plan_named tables ends) plans

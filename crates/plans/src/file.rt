@@ -11,17 +11,17 @@ ghost use Rattle.records.specs.Lists.{numbers_of};
 ghost use Rattle.plans.specs.Kinds.{kind_of, is_car, items_of};
 ghost use Rattle.plans.specs.declared.kinds.ElementKind.TheVariants as element;
 
-use crate::kinds::{ElementKind, cell, kind_of};
+use crate::kinds::{ElementKind, kind_of};
 use crate::leg_steps::step_leg;
 use crate::open_plan::begun;
 use crate::plan_file::{PlanFile, RowNumbers};
-use crate::refusals::{Named, refusal};
+use crate::refusals::{Between, Named, refusal};
 use crate::rows_read::RowsRead;
 use crate::steps::{named_in, numbered_act, step_act, with_closed};
 use csv::ByteRecord;
 use edge_files::RowStop;
 use events::Names;
-use records::{body, fault, number, read_file};
+use records::{body, fault, field, number, read_file};
 use rows::{PlanList, PlanLists};
 use std::alloc::{AllocError, Global};
 
@@ -64,7 +64,7 @@ fn with_first(
     ensures { IfOk result (λ r. progress_of r ≡ step_first links.now (fields_of row.now)) }
 {
     let mut persons = Names::new(alloc);
-    number(alloc, &mut persons, cell(row, 0))?;
+    number(alloc, &mut persons, field(row, 0))?;
     let mut kinds = Names::new(alloc);
     let act = numbered_act(alloc, &mut kinds, row, named, links)?;
     let mut starts = Vec::new(alloc);
@@ -125,16 +125,12 @@ fn first_row(
         Err(_) => return Err(RowStop::NoMemory),
     };
     let nobody = Names::new(alloc);
-    if let Some(reason) = refusal(
-        links,
-        ends,
-        &nobody,
-        0,
-        None,
+    let between = Between {
+        before: None,
         row,
-        row_behind(rows, 0),
-        &named,
-    ) {
+        next: row_behind(rows, 0),
+    };
+    if let Some(reason) = refusal(links, ends, &nobody, 0, &between, &named) {
         return Err(fault(1, reason));
     }
     match with_first(alloc, row, &named, links) {
@@ -155,10 +151,15 @@ fn with_row(
 ) -> Result<RowsRead, AllocError>
     requires items { map (λ item. item.now) named.items.items ≡ items_of (fields_of row.now) }
     requires link { named.link ≡ number_of (field (fields_of row.now) 4) links.now }
-    requires route { is_car (kind_of (fields_of row.now)) ≡ true → option_map (λ route. route.items) named.route ≡ numbers_of (items_of (fields_of row.now)) links.now }
+    requires route { is_car (kind_of (fields_of row.now)) ≡ true → option_map (λ route. route.items) named.route
+        ≡ numbers_of (items_of (fields_of row.now)) links.now }
     requires able { RowAble links.now (progress_of read) (option_map (λ r. fields_of r.now) before) (fields_of row.now) }
-    ensures act { IfOk result (λ r. kind_of (fields_of row.now) ≡ element.Act → progress_of r ≡ step_act links.now (progress_of read) (option_map (λ r. fields_of r.now) before.entry) (fields_of row.now) number_of_row) }
-    ensures leg { IfOk result (λ r. (mode : Mode) → kind_of (fields_of row.now) ≡ element.Leg (Some mode) → progress_of r ≡ step_leg links.now (progress_of read) mode (fields_of row.now)) }
+    ensures act { IfOk result
+        (λ r. kind_of (fields_of row.now) ≡ element.Act → progress_of r
+        ≡ step_act links.now (progress_of read) (option_map (λ r. fields_of r.now) before.entry) (fields_of row.now) number_of_row) }
+    ensures leg { IfOk result
+        (λ r. (mode : Mode) → kind_of (fields_of row.now) ≡ element.Leg (Some mode) → progress_of r
+        ≡ step_leg links.now (progress_of read) mode (fields_of row.now)) }
 {
     match kind_of(row) {
         ElementKind::Act => step_act(alloc, read, before, row, number_of_row, &named, links),
@@ -188,9 +189,13 @@ fn next_row(
         Ok(named) => named,
         Err(_) => return Err(RowStop::NoMemory),
     };
-    let next = row_behind(rows, place);
+    let between = Between {
+        before,
+        row,
+        next: row_behind(rows, place),
+    };
     let legs = read.current.legs.len();
-    if let Some(reason) = refusal(links, ends, &read.persons, legs, before, row, next, &named) {
+    if let Some(reason) = refusal(links, ends, &read.persons, legs, &between, &named) {
         return Err(fault(place as u32 + 1, reason));
     }
     match with_row(alloc, before, row, place as u32 + 1, named, links, read) {
@@ -208,7 +213,8 @@ fn read_rows(
 ) -> Result<PlanFile, RowStop>
     requires some { 0 < length rows.now }
     requires few { length rows.now < 2 ^ 30 }
-    ensures read { Answers file_rows_of result (rows_fault None links.now ends.now (map fields_of rows.now)) (values_of links.now (map fields_of rows.now)) }
+    ensures read { Answers file_rows_of result (rows_fault None links.now ends.now (map fields_of rows.now))
+        (values_of links.now (map fields_of rows.now)) }
     ensures sound { IfOk result (λ file. IsSound links.now ends.now (file_rows_of file)) }
     ensures starts { IfOk result (λ file. All (λ row. row < 2 ^ 30) file.starts) }
 {

@@ -1,12 +1,11 @@
-ghost use Rattle.std.specs.Prelude.{◌≡◌, ◌≤◌, IfSome};
+ghost use Rattle.std.specs.Prelude.{◌≡◌, ◌<◌, ◌≤◌, IfSome};
 ghost use Rattle.csv.specs.Records.{fields_of};
-ghost use Rattle.records.specs.Fields.{field};
 ghost use Rattle.plans.specs.Kinds.{kind_of, is_act, is_leg, is_car, plan_in, plan_number, end_in, seconds_in};
 
 use csv::ByteRecord;
 use events::Mode;
-use limits::LAST_SECOND;
-use records::{is_text, number_in};
+use limits::{LAST_SECOND, MAX_PLANS};
+use records::{field, is_text, number_in};
 
 /// What a row of plans.csv is.
 #[derive(Clone, Copy)]
@@ -17,26 +16,16 @@ pub enum ElementKind {
     Neither,
 }
 
-/// The field at a place, or no bytes where the row is too short.
-pub fn cell(row: &ByteRecord, place: usize) -> &[u8]
-    ensures { result.now ≡ field (fields_of row.now) place }
-{
-    match row.get(place) {
-        Some(bytes) => bytes,
-        None => b"",
-    }
-}
-
 /// What the row is.
 #[tactic(auto, unfolding(crate::specs::Kinds::kind_of))]
 pub fn kind_of(row: &ByteRecord) -> ElementKind
     ensures { result ≡ kind_of (fields_of row.now) }
 {
-    if is_text(cell(row, 2), b"act") {
+    if is_text(field(row, 2), b"act") {
         return ElementKind::Act;
     }
-    if is_text(cell(row, 2), b"leg") {
-        return ElementKind::Leg(Mode::read(cell(row, 3)));
+    if is_text(field(row, 2), b"leg") {
+        return ElementKind::Leg(Mode::read(field(row, 3)));
     }
     ElementKind::Neither
 }
@@ -76,16 +65,16 @@ pub fn is_car(kind: ElementKind) -> bool
 /// The number of the row's plan, where it is one.
 pub fn plan_in(row: &ByteRecord) -> Option<u32>
     ensures number { result ≡ plan_in (fields_of row.now) }
-    ensures few { IfSome result (λ n. n ≤ 4) }
+    ensures few { IfSome result (λ n. n < MAX_PLANS) }
 {
-    number_in(cell(row, 1), 0, 4)
+    number_in(field(row, 1), 0, MAX_PLANS - 1)
 }
 
 /// The number of the row's plan, or 0 where it is none.
 #[tactic(auto, unfolding(crate::specs::Kinds::plan_number))]
 pub fn plan_number(row: &ByteRecord) -> u32
     ensures number { result ≡ plan_number (fields_of row.now) }
-    ensures few { result ≤ 4 }
+    ensures few { result < MAX_PLANS }
 {
     match plan_in(row) {
         Some(number) => number,
@@ -98,7 +87,7 @@ pub fn end_in(row: &ByteRecord) -> Option<u32>
     ensures end { result ≡ end_in (fields_of row.now) }
     ensures within { IfSome result (λ end. end ≤ LAST_SECOND) }
 {
-    number_in(cell(row, 5), 0, LAST_SECOND)
+    number_in(field(row, 5), 0, LAST_SECOND)
 }
 
 /// The seconds of the teleported leg that the row is, where it has them.
@@ -106,5 +95,5 @@ pub fn seconds_in(row: &ByteRecord) -> Option<u32>
     ensures seconds { result ≡ seconds_in (fields_of row.now) }
     ensures within { IfSome result (λ seconds. (1 ≤ seconds) × (seconds ≤ LAST_SECOND)) }
 {
-    number_in(cell(row, 5), 1, LAST_SECOND)
+    number_in(field(row, 5), 1, LAST_SECOND)
 }

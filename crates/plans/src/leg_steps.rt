@@ -1,6 +1,7 @@
-ghost use Rattle.std.specs.Prelude.{◌≡◌, ◌<◌, ◌≤◌, length, map, option_map, true, false, IfOk, OnOk, IfSome, is_some, Some, get_or, if◌then◌else◌};
+ghost use Rattle.std.specs.Prelude.{◌≡◌, ◌<◌, ◌≤◌, ℕ, List, length, map, option_map, true, false, IfOk, OnOk, IfSome, is_some, Some};
+ghost use Rattle.std.specs.Prelude.{get_or};
 ghost use Rattle.csv.specs.Records.{fields_of};
-ghost use Rattle.limits.specs.declared.TheConstants.{MAX_LEGS, MAX_ROUTE_LINKS};
+ghost use Rattle.limits.specs.declared.TheConstants.{MAX_ROUTE_LINKS};
 ghost use Rattle.events.specs.Names.{number_of, with_name};
 ghost use Rattle.records.specs.Lists.{numbers_of, are_names};
 ghost use Rattle.plans.specs.Refusals.{lacks_element_name, has_bad_time, lacks_link};
@@ -8,7 +9,7 @@ ghost use Rattle.plans.specs.declared.kinds.ElementKind.TheVariants as element;
 ghost use Rattle.rows.specs.Plan.{is_leg, is_teleported};
 ghost use Rattle.plans.specs.Kinds.{is_car, is_transit, items_of, item, seconds_in};
 ghost use Rattle.plans.specs.Values.{number_in_table, leg_by};
-ghost use Rattle.plans.specs.Progress.{step_leg, lines_with, stops_with, ends_well};
+ghost use Rattle.plans.specs.Progress.{LegAble, step_leg, lines_with, stops_with, ends_well};
 ghost use Rattle.plans.specs.Read.{progress_of};
 
 use crate::kinds::seconds_in;
@@ -48,8 +49,13 @@ fn transit_leg(
     requires three { length items.now ≡ 3 }
     requires names { are_names (map (λ item. item.now) items.now) ≡ true }
     ensures lines { OnOk result (lines.new ≡ with_name lines.old (item (map (λ item. item.now) items.now) 0)) }
-    ensures stops { OnOk result (stops.new ≡ with_name (with_name stops.old (item (map (λ item. item.now) items.now) 1)) (item (map (λ item. item.now) items.now) 2)) }
-    ensures leg { IfOk result (λ leg. leg ≡ Leg.Transit (number_in_table (item (map (λ item. item.now) items.now) 0) lines.new) (number_in_table (item (map (λ item. item.now) items.now) 1) stops.new) (number_in_table (item (map (λ item. item.now) items.now) 2) stops.new)) }
+    ensures stops { OnOk result
+        (stops.new ≡ with_name (with_name stops.old (item (map (λ item. item.now) items.now) 1))
+        (item (map (λ item. item.now) items.now) 2)) }
+    ensures leg { IfOk result
+        (λ leg. leg ≡ Leg.Transit (number_in_table (item (map (λ item. item.now) items.now) 0) lines.new)
+        (number_in_table (item (map (λ item. item.now) items.now) 1) stops.new)
+        (number_in_table (item (map (λ item. item.now) items.now) 2) stops.new)) }
 {
     let line = numbered_item(alloc, lines, items, 0)?;
     let access = numbered_item(alloc, stops, items, 1)?;
@@ -61,14 +67,20 @@ fn transit_leg(
     })
 }
 
-/// The leg by car over these links.
-fn car_leg(rows: Vec<u32>) -> Leg
-    requires { length rows.items ≤ MAX_ROUTE_LINKS }
-    ensures leg { result ≡ Leg.Car rows.items }
+/// The leg by car over the links of the row.
+#[tactic(auto, using(crate::proofs::Items::count_numbers), unfolding(crate::specs::Values::leg_by, crate::specs::Refusals::lacks_link))]
+fn car_leg(route: Option<Vec<u32>>, row: &ByteRecord, links: &Names) -> Leg
+    requires route { option_map (λ route. route.items) route ≡ numbers_of (items_of (fields_of row.now)) links.now }
+    requires found { lacks_link links.now (element.Leg (Some Mode.Car)) (fields_of row.now) ≡ false }
+    requires few { length (items_of (fields_of row.now)) ≤ MAX_ROUTE_LINKS }
+    ensures leg { (lines stops : List (List ℕ)) → result ≡ leg_by lines stops links.now Mode.Car (fields_of row.now) }
     ensures sound { is_leg result ≡ true }
 {
-    Leg::Car {
-        route: Route { rows },
+    match route {
+        Some(rows) => Leg::Car {
+            route: Route { rows },
+        },
+        None => unreachable!(),
     }
 }
 
@@ -86,7 +98,7 @@ fn teleported_leg(mode: Mode, row: &ByteRecord) -> Leg
 }
 
 /// The leg of a mode that the row is, with its line and its stops among the names.
-#[tactic(auto, using(crate::proofs::Items::count_numbers), unfolding(crate::specs::Values::leg_by, crate::specs::Refusals::lacks_element_name, crate::specs::Refusals::has_bad_time, crate::specs::Refusals::lacks_link))]
+#[tactic(auto, unfolding(crate::specs::Values::leg_by, crate::specs::Refusals::lacks_element_name, crate::specs::Refusals::has_bad_time))]
 fn numbered_leg(
     alloc: Global,
     lines: &mut Names,
@@ -97,7 +109,8 @@ fn numbered_leg(
     links: &Names,
 ) -> Result<Leg, AllocError>
     requires items { map (λ item. item.now) named.items.items ≡ items_of (fields_of row.now) }
-    requires route { is_car (element.Leg (Some mode)) ≡ true → option_map (λ route. route.items) named.route ≡ numbers_of (items_of (fields_of row.now)) links.now }
+    requires route { is_car (element.Leg (Some mode)) ≡ true → option_map (λ route. route.items) named.route
+        ≡ numbers_of (items_of (fields_of row.now)) links.now }
     requires names { lacks_element_name (element.Leg (Some mode)) (fields_of row.now) ≡ false }
     requires times { has_bad_time (element.Leg (Some mode)) (fields_of row.now) ≡ false }
     requires found { lacks_link links.now (element.Leg (Some mode)) (fields_of row.now) ≡ false }
@@ -109,10 +122,7 @@ fn numbered_leg(
 {
     let Named { items, route, .. } = named;
     match mode {
-        Mode::Car => match route {
-            Some(rows) => Ok(car_leg(rows)),
-            None => unreachable!(),
-        },
+        Mode::Car => Ok(car_leg(route, row, links)),
         Mode::Pt => transit_leg(alloc, lines, stops, &items),
         Mode::Walk => Ok(teleported_leg(Mode::Walk, row)),
         Mode::Bike => Ok(teleported_leg(Mode::Bike, row)),
@@ -131,12 +141,9 @@ pub fn step_leg(
     links: &Names,
 ) -> Result<RowsRead, AllocError>
     requires items { map (λ item. item.now) named.items.items ≡ items_of (fields_of row.now) }
-    requires route { is_car (element.Leg (Some mode)) ≡ true → option_map (λ route. route.items) named.route ≡ numbers_of (items_of (fields_of row.now)) links.now }
-    requires names { lacks_element_name (element.Leg (Some mode)) (fields_of row.now) ≡ false }
-    requires times { has_bad_time (element.Leg (Some mode)) (fields_of row.now) ≡ false }
-    requires found { lacks_link links.now (element.Leg (Some mode)) (fields_of row.now) ≡ false }
-    requires few_links { is_car (element.Leg (Some mode)) ≡ true → length (items_of (fields_of row.now)) ≤ MAX_ROUTE_LINKS }
-    requires few_legs { length read.current.legs.items < MAX_LEGS }
+    requires route { is_car (element.Leg (Some mode)) ≡ true → option_map (λ route. route.items) named.route
+        ≡ numbers_of (items_of (fields_of row.now)) links.now }
+    requires able { LegAble links.now (length read.current.legs.items) mode (fields_of row.now) }
     requires ended { ends_well read.current.last ≡ true }
     ensures { IfOk result (λ r. progress_of r ≡ step_leg links.now (progress_of read) mode (fields_of row.now)) }
 {

@@ -2,18 +2,19 @@ ghost use Rattle.std.specs.Prelude.{◌≡◌, length, option_map};
 ghost use Rattle.csv.specs.Records.{fields_of};
 ghost use Rattle.records.specs.Fields.{field, holds_name};
 ghost use Rattle.plans.specs.Kinds.{kind_of, plan_in, plan_number};
-ghost use Rattle.plans.specs.Refusals.{same_person, same_plan, begins_person, begins_plan, is_neither, starts_late, jumps, begins_with_leg, repeats, follows_endless, is_of_other_plan, ends_plan, ends_with_leg, is_out_of_order};
+ghost use Rattle.plans.specs.Refusals.{same_person, same_plan, begins_person, begins_plan, is_neither, starts_late, jumps, begins_with_leg};
+ghost use Rattle.plans.specs.Refusals.{repeats, follows_endless, is_of_other_plan, ends_plan, ends_with_leg, is_out_of_order};
 
-use crate::kinds::{ElementKind, cell, end_in, is_act, is_leg, kind_of, plan_in, plan_number};
+use crate::kinds::{ElementKind, end_in, is_act, is_leg, kind_of, plan_in, plan_number};
 use csv::ByteRecord;
-use events::is_name;
+use records::{field, holds_name};
 
 /// Whether two rows are of one person.
 #[tactic(auto, unfolding(crate::specs::Refusals::same_person))]
 fn same_person(row: &ByteRecord, other: &ByteRecord) -> bool
     ensures { result ≡ same_person (fields_of row.now) (fields_of other.now) }
 {
-    cell(row, 0) == cell(other, 0)
+    field(row, 0) == field(other, 0)
 }
 
 /// Whether two rows are of one plan.
@@ -97,7 +98,7 @@ fn is_of_other_plan(row: &ByteRecord, next: &ByteRecord) -> bool
     if same_person(row, next) {
         return plan_in(next).is_some() && plan_number(row) != plan_number(next);
     }
-    is_name(cell(next, 0))
+    holds_name(next, 0)
 }
 
 /// Whether no row of the plan follows.
@@ -139,7 +140,8 @@ pub fn is_out_of_order(
     row: &ByteRecord,
     next: Option<&ByteRecord>,
 ) -> bool
-    ensures { result ≡ is_out_of_order (option_map (λ r. fields_of r.now) before.entry) kind (fields_of row.now) (option_map (λ r. fields_of r.now) next.entry) }
+    ensures { result ≡ is_out_of_order (option_map (λ r. fields_of r.now) before.entry) kind (fields_of row.now)
+        (option_map (λ r. fields_of r.now) next.entry) }
 {
     is_neither(kind)
         || starts_late(before, row)

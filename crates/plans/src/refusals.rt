@@ -1,18 +1,22 @@
 ghost use Rattle.std.specs.Prelude.{◌≡◌, length, map, option_map, get_or, true};
 ghost use Rattle.csv.specs.Records.{fields_of};
 ghost use Rattle.events.specs.Names.{number_of};
-ghost use Rattle.records.specs.Fields.{field, holds_name, is_blank};
+ghost use Rattle.records.specs.Fields.{field};
 ghost use Rattle.records.specs.Lists.{items_in, numbers_of};
 ghost use Rattle.plans.specs.Kinds.{kind_of, is_car, items_of};
-ghost use Rattle.plans.specs.Refusals.{has_surplus, is_misfit, lacks_element_name, lacks_name, has_bad_time, has_bad_number, lacks_link, is_joined, is_broken, lacks_mode, is_one_too_many, kind_reason, row_reason, comes_again};
+ghost use Rattle.plans.specs.Refusals.{has_surplus, is_misfit, lacks_element_name, lacks_name, has_bad_time, has_bad_number, lacks_link};
+ghost use Rattle.rows.specs.Joined.{is_joined};
+ghost use Rattle.plans.specs.Refusals.{is_broken, lacks_mode, is_one_too_many, kind_reason, row_reason, comes_again};
 
-use crate::kinds::{ElementKind, cell, end_in, is_car, is_leg, kind_of, plan_in, seconds_in};
+use crate::kinds::{ElementKind, end_in, is_car, is_leg, kind_of, plan_in, seconds_in};
 use crate::orders::{begins_person, is_out_of_order};
 use csv::ByteRecord;
 use edge_files::Reason;
-use events::{Mode, Names, is_name};
+use events::{Mode, Names};
 use limits::{MAX_LEGS, MAX_PERSONS, MAX_ROUTE_LINKS};
-use records::are_names;
+use records::{are_names, field, holds_name, is_blank};
+use rows::is_joined;
+
 /// What a row names: the items of its route, its link, and the links of its route where it is a
 /// leg by car.
 #[derive(Drop)]
@@ -22,16 +26,12 @@ pub struct Named<'a> {
     pub route: Option<Vec<u32>>,
 }
 
-fn holds_name(row: &ByteRecord, place: usize) -> bool
-    ensures { result ≡ holds_name (fields_of row.now) place }
-{
-    is_name(cell(row, place))
-}
-
-fn is_blank(row: &ByteRecord, place: usize) -> bool
-    ensures { result ≡ is_blank (fields_of row.now) place }
-{
-    cell(row, place).is_empty()
+/// A row between the rows beside it, where there are such.
+#[derive(Drop)]
+pub struct Between<'a> {
+    pub before: Option<&'a ByteRecord>,
+    pub row: &'a ByteRecord,
+    pub next: Option<&'a ByteRecord>,
 }
 
 /// Whether a field has bytes that is empty for such an element.
@@ -84,7 +84,8 @@ fn has_bad_time(kind: ElementKind, row: &ByteRecord) -> bool
 #[tactic(auto, unfolding(crate::specs::Refusals::lacks_link))]
 fn lacks_link(kind: ElementKind, row: &ByteRecord, named: &Named, links: &Names) -> bool
     requires link { named.now.link ≡ number_of (field (fields_of row.now) 4) links.now }
-    requires route { is_car kind ≡ true → option_map (λ route. route.items) named.now.route ≡ numbers_of (items_of (fields_of row.now)) links.now }
+    requires route { is_car kind ≡ true → option_map (λ route. route.items) named.now.route
+        ≡ numbers_of (items_of (fields_of row.now)) links.now }
     ensures { result ≡ lacks_link links.now kind (fields_of row.now) }
 {
     match kind {
@@ -96,36 +97,6 @@ fn lacks_link(kind: ElementKind, row: &ByteRecord, named: &Named, links: &Names)
     }
 }
 
-/// The start and end nodes of a link.
-fn ends_of(ends: &[(u32, u32)], link: u32) -> (u32, u32)
-    ensures { result ≡ get_or ends.now link (0, 0) }
-{
-    match ends.get(link as usize) {
-        Some(ends) => *ends,
-        None => (0, 0),
-    }
-}
-
-/// Whether each link begins where the one before it ends.
-#[tactic(auto, unfolding(crate::specs::Refusals::is_joined))]
-fn is_joined(ends: &[(u32, u32)], route: &[u32]) -> bool
-    ensures { result ≡ is_joined ends.now route.now }
-{
-    let [first, after @ ..] = route else {
-        return true;
-    };
-    let mut link = *first;
-    let mut rest = after;
-    while let [next, after @ ..] = rest {
-        if ends_of(ends, link).1 != ends_of(ends, *next).0 {
-            return false;
-        }
-        link = *next;
-        rest = after;
-    }
-    true
-}
-
 /// Whether a link of the car route does not begin where the one before it ends.
 fn is_broken(
     named: &Named,
@@ -134,7 +105,8 @@ fn is_broken(
     kind: ElementKind,
     row: &ByteRecord,
 ) -> bool
-    requires route { is_car kind ≡ true → option_map (λ route. route.items) named.now.route ≡ numbers_of (items_of (fields_of row.now)) links.now }
+    requires route { is_car kind ≡ true → option_map (λ route. route.items) named.now.route
+        ≡ numbers_of (items_of (fields_of row.now)) links.now }
     ensures { result ≡ is_broken links.now ends.now kind (fields_of row.now) }
 {
     if !is_car(kind) {
@@ -187,26 +159,28 @@ fn lacks_name(kind: ElementKind, row: &ByteRecord, items: &[&[u8]]) -> bool
 fn comes_again(persons: &Names, before: Option<&ByteRecord>, row: &ByteRecord) -> bool
     ensures { result ≡ comes_again persons.now (option_map (λ r. fields_of r.now) before.entry) (fields_of row.now) }
 {
-    begins_person(before, row) && persons.find(cell(row, 0)).is_some()
+    begins_person(before, row) && persons.find(field(row, 0)).is_some()
 }
 
-/// The least reason against a row that stands between these two.
+/// The least reason against a row, by the rows beside it, the persons before it, and the legs of its
+/// plan before it.
 #[tactic(auto, unfolding(crate::specs::Refusals::row_reason))]
 pub fn refusal(
     links: &Names,
     ends: &[(u32, u32)],
     persons: &Names,
     legs: usize,
-    before: Option<&ByteRecord>,
-    row: &ByteRecord,
-    next: Option<&ByteRecord>,
+    between: &Between,
     named: &Named,
 ) -> Option<Reason>
-    requires items { map (λ item. item.now) named.now.items.items ≡ items_of (fields_of row.now) }
-    requires link { named.now.link ≡ number_of (field (fields_of row.now) 4) links.now }
-    requires route { is_car (kind_of (fields_of row.now)) ≡ true → option_map (λ route. route.items) named.now.route ≡ numbers_of (items_of (fields_of row.now)) links.now }
-    ensures { result ≡ row_reason links.now ends.now persons.now legs (option_map (λ r. fields_of r.now) before.entry) (fields_of row.now) (option_map (λ r. fields_of r.now) next.entry) }
+    requires items { map (λ item. item.now) named.now.items.items ≡ items_of (fields_of between.now.row.now) }
+    requires link { named.now.link ≡ number_of (field (fields_of between.now.row.now) 4) links.now }
+    requires route { is_car (kind_of (fields_of between.now.row.now)) ≡ true → option_map (λ route. route.items) named.now.route
+        ≡ numbers_of (items_of (fields_of between.now.row.now)) links.now }
+    ensures { result ≡ row_reason links.now ends.now persons.now legs (option_map (λ r. fields_of r.now) between.now.before)
+        (fields_of between.now.row.now) (option_map (λ r. fields_of r.now) between.now.next) }
 {
+    let Between { before, row, next } = *between;
     let kind = kind_of(row);
     if row.len() != 7 || has_surplus(kind, row) {
         return Some(Reason::FieldCount);

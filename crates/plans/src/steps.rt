@@ -11,14 +11,14 @@ ghost use Rattle.plans.specs.Values.{act_of};
 ghost use Rattle.plans.specs.Progress.{closed_acts, new_person, new_plan, same_plan_act, put_act, step_act};
 ghost use Rattle.plans.specs.Read.{progress_of};
 
-use crate::kinds::{ElementKind, cell, end_in, is_car, kind_of, seconds_in};
+use crate::kinds::{ElementKind, end_in, is_car, kind_of, seconds_in};
 use crate::open_plan::{OpenPlan, begun, closed, with_act, with_leg};
 use crate::orders::{begins_person, begins_plan};
 use crate::refusals::Named;
 use crate::rows_read::RowsRead;
 use csv::ByteRecord;
 use events::{Mode, Names, Route};
-use records::{items_in, number, numbers_of};
+use records::{field, items_in, number, numbers_of};
 use rows::{Act, Leg, Plan, PlanList};
 use std::alloc::{AllocError, Global};
 use std::mem::replace;
@@ -31,10 +31,12 @@ pub fn named_in<'a>(
 ) -> Result<Named<'a>, AllocError>
     ensures items { IfOk result (λ named. map (λ item. item.now) named.items.items ≡ items_of (fields_of row.now)) }
     ensures link { IfOk result (λ named. named.link ≡ number_of (field (fields_of row.now) 4) links.now) }
-    ensures route { IfOk result (λ named. is_car (kind_of (fields_of row.now)) ≡ true → option_map (λ route. route.items) named.route ≡ numbers_of (items_of (fields_of row.now)) links.now) }
+    ensures route { IfOk result
+        (λ named. is_car (kind_of (fields_of row.now)) ≡ true → option_map (λ route. route.items) named.route
+        ≡ numbers_of (items_of (fields_of row.now)) links.now) }
 {
-    let items = items_in(alloc, cell(row, 6))?;
-    let link = links.find(cell(row, 4));
+    let items = items_in(alloc, field(row, 6))?;
+    let link = links.find(field(row, 4));
     if is_car(kind_of(row)) {
         let route = numbers_of(alloc, &items, links)?;
         return Ok(Named { items, link, route });
@@ -49,7 +51,9 @@ pub fn named_in<'a>(
 /// The person's plans, with the current one closed.
 pub fn with_closed(own: Vec<Plan>, current: OpenPlan) -> Result<Vec<Plan>, AllocError>
     requires { is_some current.last ≡ true }
-    ensures { IfOk result (λ v. map plan_rows v.items ≡ map plan_rows own.items ++ (record { acts = closed_acts current.acts.items current.last; legs = current.legs.items }) ∷ []) }
+    ensures { IfOk result
+        (λ v. map plan_rows v.items ≡ map plan_rows own.items
+        ++ (record { acts = closed_acts current.acts.items current.last; legs = current.legs.items }) ∷ []) }
 {
     let Some(last) = current.last else {
         unreachable!()
@@ -72,7 +76,7 @@ fn new_person(
     requires person { is_name (field (fields_of row.now) 0) ≡ true }
     ensures { OnOk result (progress_of read.new ≡ new_person (progress_of read.old) (fields_of row.now) number_of_row act) }
 {
-    number(alloc, &mut read.persons, cell(row, 0))?;
+    number(alloc, &mut read.persons, field(row, 0))?;
     let own = replace(&mut read.own, Vec::new(alloc));
     let current = replace(&mut read.current, begun(alloc, act));
     let rows = with_closed(own, current)?;
@@ -124,7 +128,7 @@ pub fn numbered_act(
     let Some(link) = named.link else {
         unreachable!()
     };
-    let kind = number(alloc, kinds, cell(row, 3))?;
+    let kind = number(alloc, kinds, field(row, 3))?;
     let end = end_in(row);
     Ok(Act { kind, link, end })
 }
@@ -140,8 +144,13 @@ fn put_act(
     act: Act,
 ) -> Result<(), AllocError>
     requires person { is_name (field (fields_of row.now) 0) ≡ true }
-    requires closes { begins_plan (option_map (λ r. fields_of r.now) before) (fields_of row.now) ≡ true → is_some read.old.current.last ≡ true }
-    ensures { OnOk result (progress_of read.new ≡ put_act (progress_of read.old) (begins_plan (option_map (λ r. fields_of r.now) before.entry) (fields_of row.now)) (begins_person (option_map (λ r. fields_of r.now) before.entry) (fields_of row.now)) (fields_of row.now) number_of_row act) }
+    requires closes { begins_plan (option_map (λ r. fields_of r.now) before) (fields_of row.now) ≡ true → is_some read.old.current.last
+        ≡ true }
+    ensures { OnOk result
+        (progress_of read.new
+        ≡ put_act (progress_of read.old) (begins_plan (option_map (λ r. fields_of r.now) before.entry) (fields_of row.now))
+        (begins_person (option_map (λ r. fields_of r.now) before.entry) (fields_of row.now))
+        (fields_of row.now) number_of_row act) }
 {
     if begins_plan(before, row) {
         if begins_person(before, row) {
@@ -169,7 +178,9 @@ pub fn step_act(
     requires link { named.now.link ≡ number_of (field (fields_of row.now) 4) links.now }
     requires found { is_some named.now.link ≡ true }
     requires closes { begins_plan (option_map (λ r. fields_of r.now) before) (fields_of row.now) ≡ true → is_some read.current.last ≡ true }
-    ensures { IfOk result (λ r. progress_of r ≡ step_act links.now (progress_of read) (option_map (λ r. fields_of r.now) before.entry) (fields_of row.now) number_of_row) }
+    ensures { IfOk result
+        (λ r. progress_of r ≡ step_act links.now (progress_of read) (option_map (λ r. fields_of r.now) before.entry)
+        (fields_of row.now) number_of_row) }
 {
     let mut read = read;
     let act = numbered_act(alloc, &mut read.kinds, row, named, links)?;

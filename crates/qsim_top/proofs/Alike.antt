@@ -1,20 +1,35 @@
--- Files of one first fault, and without one of one scenario, have one answer.
-use Rattle.std.proofs.Common.{◌≡◌, Option, None, Some, refl, ◌∙◌, ap}
-use Rattle.scenario.specs.declared.faults.ScenarioFault.{ScenarioFault}
-use Rattle.scenario.specs.Texts.{Texts}
-use Rattle.scenario.specs.Given.{ScenarioRows, scenario_fault, scenario_rows}
-use Rattle.words.specs.declared.commands.Command.{Command}
+-- Files of which each is the same have one answer.
+use Rattle.scenario.proofs.Common.{◌≡◌, List, ℕ, sym, ◌∙◌, refl, None, Option, InFile, persons_fault, scenario_fault, scenario_rows, schedule_fault}
+use Rattle.scenario.proofs.Common.{schedule_rows_of, network_fault, network_rows_of, on_network, on_network_fault, Texts}
+use Rattle.std.proofs.Common.{lit<}
+use Rattle.edge_files.specs.declared.files.InFile.TheVariants as file
+use Rattle.command_line.specs.declared.commands.Command.{Command}
 use Rattle.qsim_top.specs.declared.answers.Answer.{Answer}
-use Rattle.qsim_top.specs.Answer.{work, work_or_refusal, answer}
-use Rattle.qsim_top.specs.Packing.{Same}
+use Rattle.qsim_top.specs.Answer.{answer}
+use Rattle.qsim_top.specs.Contents.{AreAlike}
 
-same_work : (c : Command) (given told : Option ScenarioFault) (rows wanted : ScenarioRows) → given ≡ told → (told ≡ None → rows ≡ wanted) → work_or_refusal c given rows ≡ work_or_refusal c told wanted
-same_work c given None rows wanted e h = ap (λ (f : Option ScenarioFault). work_or_refusal c f rows) e ∙ ap (work c) (h refl)
-same_work c given (Some fault) rows wanted e h = ap (λ (f : Option ScenarioFault). work_or_refusal c f rows) e
+abbrev texts : (s n l p st r d : Option (List ℕ)) → Texts
+texts s n l p st r d file.Settings = s
+texts s n l p st r d file.Nodes = n
+texts s n l p st r d file.Links = l
+texts s n l p st r d file.Plans = p
+texts s n l p st r d file.Stops = st
+texts s n l p st r d file.Routes = r
+texts s n l p st r d file.Departures = d
+texts s n l p st r d file.Signals = None
 
-same_answer : (c : Command) (a b : Texts) → Same a b → answer c a ≡ answer c b
-unfolding answer
-same_answer c a b same = same_work c (scenario_fault a) (scenario_fault b) (scenario_rows a) (scenario_rows b) same.fault same.rows
+-- no other file counts
+these_count : (c : Command) (T : Texts) → answer c T ≡ answer c (texts (T file.Settings) (T file.Nodes) (T file.Links) (T file.Plans) (T file.Stops) (T file.Routes) (T file.Departures))
+unfolding answer scenario_fault scenario_rows network_rows_of network_fault persons_fault schedule_rows_of schedule_fault on_network on_network_fault
+these_count c T = refl
 
-pub answer_of_same : (c : Command) (a b : Texts) (told : Answer) → told ≡ answer c a → Same a b → told ≡ answer c b
-answer_of_same c a b told e same = e ∙ same_answer c a b same
+pub answer_of_alike : (c : Command) (a b : Texts) (told : Answer) → told ≡ answer c a → AreAlike a b → told ≡ answer c b
+answer_of_alike c a b told e alike =
+    let at_settings : a file.Settings ≡ b file.Settings = alike 0 file.Settings (lit< tt) in
+    let at_nodes : a file.Nodes ≡ b file.Nodes = alike 1 file.Settings (lit< tt) in
+    let at_links : a file.Links ≡ b file.Links = alike 2 file.Settings (lit< tt) in
+    let at_plans : a file.Plans ≡ b file.Plans = alike 3 file.Settings (lit< tt) in
+    let at_stops : a file.Stops ≡ b file.Stops = alike 4 file.Settings (lit< tt) in
+    let at_routes : a file.Routes ≡ b file.Routes = alike 5 file.Settings (lit< tt) in
+    let at_departures : a file.Departures ≡ b file.Departures = alike 6 file.Settings (lit< tt) in
+    e ∙ these_count c a ∙ (λ i. answer c (texts (at_settings i) (at_nodes i) (at_links i) (at_plans i) (at_stops i) (at_routes i) (at_departures i))) ∙ sym (these_count c b)

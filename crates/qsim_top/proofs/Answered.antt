@@ -1,14 +1,12 @@
 -- The answer to what was read is the answer to the files.
-use Rattle.std.proofs.Common.{Option, Result, Ok, Err, sym, subst}
+use Rattle.scenario.proofs.Common.{sym, subst, Option, Result, Tells, scenario_fault, scenario_rows, ScenarioRows, Texts}
+use Rattle.std.proofs.Common.{Ok, Err}
 use Rattle.scenario.specs.declared.faults.ScenarioFault.{ScenarioFault}
 use Rattle.scenario.specs.declared.faults.Stop.{Stop}
 use Rattle.scenario.specs.declared.faults.Stop.TheVariants as stop
 use Rattle.scenario.specs.declared.scenario.Scenario.{Scenario}
-use Rattle.scenario.specs.Faults.{Tells}
-use Rattle.scenario.specs.Texts.{Texts}
-use Rattle.scenario.specs.Given.{ScenarioRows, scenario_fault, scenario_rows}
 use Rattle.scenario.specs.Views.{scenario_view}
-use Rattle.words.specs.declared.commands.Command.{Command}
+use Rattle.command_line.specs.declared.commands.Command.{Command}
 use Rattle.qsim_top.specs.declared.answers.Answer.{Answer}
 use Rattle.qsim_top.specs.Answer.{work, work_or_refusal, answer, IsAnswer, AnswersRead, result_view}
 

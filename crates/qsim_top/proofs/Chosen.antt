@@ -1,15 +1,7 @@
 -- The chosen plans are what a day asks for.
-use Rattle.std.proofs.Common.{◌≡◌, List, length, map, sym, ◌∙◌, ap}
-use Rattle.std.proofs.lemmas.List.{length-map}
-use Rattle.events.specs.declared.event.Event.{Event}
-use Rattle.rows.specs.declared.plan.Plan.{Plan}
-use Rattle.rows.specs.PlanRows.{PlanRows, plan_rows, all_plan_rows}
+use Rattle.scenario.proofs.Common.{first_plans, AreChosen, TownRows, setup_of, rows_of}
+use Rattle.traffic.proofs.Common.{◌≡◌, List, ◌∙◌, length, ap, sym, length-map, map, Event, PlanRows, plan_rows, all_plan_rows, Plan, day}
 use Rattle.town.specs.declared.town.Town.{Town}
-use Rattle.town.specs.Setups.{setup_of}
-use Rattle.town.specs.Rows.{TownRows}
-use Rattle.town.specs.Views.{rows_of}
-use Rattle.traffic.specs.Day.{day}
-use Rattle.scenario.specs.Fitting.{first_plans, AreChosen}
 use Rattle.qsim_top.specs.Answer.{events_of}
 
 pub each_chosen : (town : Town) (plans : List (List Plan)) (chosen : List Plan) → length plans ≡ length town.book.persons → AreChosen (rows_of town) (all_plan_rows plans) (map plan_rows chosen) → length town.book.persons ≡ length chosen

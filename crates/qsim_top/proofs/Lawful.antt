@@ -1,27 +1,19 @@
 -- Every day is lawful, and that of files without a fault follows the plans.
-use Rattle.std.proofs.Common.{◌≡◌, ◌∙◌, ℕ, ◌<◌, List, length, map, None, refl, ap, subst}
-use Rattle.std.proofs.lemmas.List.{length-map}
-use Rattle.std.proofs.lemmas.List.Elements.{All-from_recursion}
-use Rattle.rows.specs.PlanRows.{PlanRows}
+use Rattle.scenario.proofs.Common.{scenario_fault, scenario_rows, ScenarioRows, first_plans, Texts, TownRows, setup_of}
+use Rattle.traffic.proofs.Common.{◌≡◌, ℕ, List, ◌∙◌, length, ap, refl, ◌<◌, subst, length-map, All-from_recursion, map, None, PlanRows, world_at, turns_of}
+use Rattle.traffic.proofs.Common.{Setup}
 use Rattle.traffic.specs.declared.stage.Stage.TheVariants.{Buffer}
-use Rattle.traffic.specs.Setup.{Setup}
-use Rattle.traffic.specs.Day.{plan_of, world_at}
 use Rattle.traffic.proofs.Order.{day-ascends}
-use Rattle.one_place.proofs.Turns.{always_kept}
-use Rattle.full_links.specs.Moves.{IsElsewhere}
-use Rattle.full_links.proofs.Queues.{day_storage}
-use Rattle.full_links.proofs.Elsewhere.{in_time, no_buffer}
-use Rattle.full_links.proofs.Flow.{day_flow}
-use Rattle.person_days.proofs.InTime.{day_until}
-use Rattle.sound_setups.proofs.Laws.{day_sound}
-use Rattle.sound_days.proofs.Towns.{rows_sound, rows_told}
-use Rattle.town.specs.Rows.{TownRows}
-use Rattle.town.specs.Setups.{setup_of}
-use Rattle.scenario.specs.Texts.{Texts}
-use Rattle.scenario.specs.Given.{ScenarioRows, scenario_fault, scenario_rows}
-use Rattle.scenario.specs.Fitting.{first_plans}
-use Rattle.valid_files.specs.Valid.{IsScenario}
-use Rattle.valid_files.proofs.Valid.{scenario_valid, chosen_valid}
+use Rattle.law_one_place.proofs.Turns.{always_kept}
+use Rattle.law_capacity.specs.Moves.{IsElsewhere}
+use Rattle.law_capacity.proofs.Queues.{day_storage}
+use Rattle.law_capacity.proofs.Elsewhere.{in_time, no_buffer}
+use Rattle.law_capacity.proofs.Flow.{day_flow}
+use Rattle.law_trips.proofs.InTime.{day_until}
+use Rattle.law_sound_setups.proofs.Laws.{day_sound}
+use Rattle.law_matches_plans.proofs.Towns.{rows_sound, rows_told}
+use Rattle.law_valid_files.specs.Valid.{IsScenario}
+use Rattle.law_valid_files.proofs.Valid.{scenario_valid, chosen_valid}
 use Rattle.qsim_top.specs.Answer.{first_day}
 use Rattle.qsim_top.specs.Laws.{IsLawful, FollowsPlans}
 
@@ -31,7 +23,7 @@ lawful S = record {
   storage = day_storage S;
   entering = λ t. in_time S t (world_at S t);
   flow = day_flow S;
-  flow_elsewhere = λ t n p W other. All-from_recursion (IsElsewhere Buffer) (plan_of S t p n W) (no_buffer S t n p W other);
+  flow_elsewhere = λ t n p W other. All-from_recursion (IsElsewhere Buffer) (turns_of S t p n W) (no_buffer S t n p W other);
   order = day-ascends S;
   in_time = day_until S;
 }

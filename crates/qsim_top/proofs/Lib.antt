@@ -1,5 +1,5 @@
 pub mod Reports
-pub mod FirstLong
+pub mod InTurn
 pub mod Chosen
 pub mod Answered
 pub mod Worked

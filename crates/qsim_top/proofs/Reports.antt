@@ -1,7 +1,6 @@
 -- A refusal writes to the report alone.
-use Rattle.std.proofs.Common.{◌≡◌, ◌≢◌, ℕ, Bool, true, false, cond, ◌&&◌, List, [], ◌∷◌, ◌++◌, refl, ◌∙◌, ap, subst, arith}
+use Rattle.traffic.proofs.Common.{◌≡◌, ℕ, List, ◌∙◌, ap, refl, [], ◌∷◌, arith, true, ◌++◌, Bool, subst, false, ◌≢◌, cond, list_all, ◌&&◌}
 use Rattle.std.specs.Io.KnownBytes.{Appends}
-use Rattle.std.specs.List.{list_all}
 use Rattle.edge_files.specs.declared.files.OutFile.{OutFile}
 use Rattle.edge_files.specs.declared.files.OutFile.TheVariants as out
 use Rattle.edge_files.specs.declared.effects.Effect.{Effect}

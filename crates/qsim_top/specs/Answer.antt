@@ -20,11 +20,11 @@ use Rattle.scenario.specs.declared.faults.Stop.TheVariants as stop
 use Rattle.scenario.specs.declared.scenario.Scenario.{Scenario}
 use Rattle.scenario.specs.Views.{scenario_view}
 use Rattle.scenario.specs.Texts.{Texts}
-use Rattle.scenario.specs.Given.{ScenarioRows, scenario_fault, scenario_rows}
+use Rattle.scenario.specs.FilesToScenario.{ScenarioRows, scenario_fault, scenario_rows}
 use Rattle.scenario.specs.Fitting.{first_plans}
-use Rattle.words.specs.declared.commands.Command.{Command}
-use Rattle.words.specs.declared.commands.Command.TheVariants as command
-use Rattle.words.specs.Cases.{Case, Work, Help, Refused}
+use Rattle.command_line.specs.declared.commands.Command.{Command}
+use Rattle.command_line.specs.declared.commands.Command.TheVariants as command
+use Rattle.command_line.specs.Cases.{Case, Work, Help, Refused}
 use Rattle.qsim_top.specs.declared.answers.Answer.{Answer}
 use Rattle.qsim_top.specs.declared.answers.Status.{Status}
 use Rattle.qsim_top.specs.declared.answers.Status.TheVariants as status

@@ -8,12 +8,12 @@ use Rattle.traffic.specs.declared.stage.Stage.TheVariants.{Buffer}
 use Rattle.traffic.specs.Setup.{Setup}
 use Rattle.traffic.specs.Rows.{World}
 use Rattle.traffic.specs.Moves.{run}
-use Rattle.traffic.specs.Day.{plan_of, world_start, world_at, day}
+use Rattle.traffic.specs.Day.{turns_of, world_start, world_at, day}
 use Rattle.traffic.specs.Frames.{Ascends}
 use Rattle.traffic.specs.Worlds.{OnePlace, Storage, FlowKept, Sound}
-use Rattle.full_links.specs.Moves.{IsElsewhere, second_moves, KeepsRule}
-use Rattle.sound_days.specs.Planned.{IsToldAsPlanned}
-use Rattle.scenario.specs.Given.{ScenarioRows}
+use Rattle.law_capacity.specs.Moves.{IsElsewhere, second_moves, KeepsRule}
+use Rattle.law_matches_plans.specs.Planned.{IsToldAsPlanned}
+use Rattle.scenario.specs.FilesToScenario.{ScenarioRows}
 use Rattle.qsim_top.specs.Answer.{first_day}
 
 -- The laws of a day: in every second each person is in exactly one place; no queue has more rows that were not pushed in than its storage;
@@ -26,7 +26,7 @@ pub record IsLawful (S : Setup) : Type 0 where
   pub entering : (t : ℕ) (before later : List Move) (m : Move)
       → second_moves S t (world_at S t) ≡ before ++ m ∷ later → KeepsRule S t (run S t before (world_at S t)) m
   pub flow : FlowKept S (world_start S)
-  pub flow_elsewhere : (t n : ℕ) (p : Phase) (W : World) → p ≢ phase.D → All (IsElsewhere Buffer) (plan_of S t p n W)
+  pub flow_elsewhere : (t n : ℕ) (p : Phase) (W : World) → p ≢ phase.D → All (IsElsewhere Buffer) (turns_of S t p n W)
   pub order : Ascends (day S)
   pub in_time : All (λ (e : Event). e.key.second ≤ S.settings.end_second) (day S)
 

@@ -1,5 +1,4 @@
 pub mod Contents
 pub mod Texts
 pub mod Answer
-pub mod Packing
 pub mod Laws

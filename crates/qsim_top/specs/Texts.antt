@@ -9,7 +9,7 @@ use Rattle.events.specs.Lines.{event_lines}
 use Rattle.edge_files.specs.Files.{in_file_name}
 use Rattle.edge_files.specs.Reasons.{reason_number, reason_name}
 use Rattle.scenario.specs.declared.faults.ScenarioFault.{ScenarioFault}
-use Rattle.scenario.specs.Given.{ScenarioRows}
+use Rattle.scenario.specs.FilesToScenario.{ScenarioRows}
 
 -- the events of iteration 0: a line that says so, and a line for each event
 unfoldable pub events_text : List Event → Book → List ℕ
@@ -38,9 +38,13 @@ is_stuck word.StuckAndAbort = true
 abbrev pub stuck_count : List Event → ℕ
 stuck_count events = count_by (λ event. is_stuck event.word) events
 
--- the report of iteration 0: its events, those of stuck persons, and the sum of the scores, which is 0 as long as none are made
-unfoldable pub iteration_line : List Event → List ℕ
-iteration_line events = codes "iteration,0," ++ decimal (length events) ++ codes "," ++ decimal (stuck_count events) ++ codes ",0\n"
+-- the report of iteration 0: how many events, how many of stuck persons, and the sum of the scores, which is 0 as long as none are made
+unfoldable pub iteration_counts : ℕ → ℕ → List ℕ
+iteration_counts events stuck = codes "iteration,0," ++ decimal events ++ codes "," ++ decimal stuck ++ codes ",0\n"
+
+-- the same of events
+abbrev pub iteration_line : List Event → List ℕ
+iteration_line events = iteration_counts (length events) (stuck_count events)
 
 -- the report of a refused scenario: the file, the row, and the reason by number and name
 unfoldable pub refused_line : ScenarioFault → List ℕ
@@ -48,8 +52,13 @@ refused_line fault =
     codes "refused," ++ in_file_name fault.file ++ codes "," ++ decimal fault.row ++ codes "," ++ decimal (reason_number fault.reason)
     ++ codes "," ++ reason_name fault.reason ++ codes "\n"
 
--- the report of a valid scenario: how many nodes, links, persons, stops, routes and departures it has
-unfoldable pub valid_line : ScenarioRows → List ℕ
+-- the report of a valid scenario: how many nodes, links, persons, stops, routes and departures
+unfoldable pub valid_counts : ℕ → ℕ → ℕ → ℕ → ℕ → ℕ → List ℕ
+valid_counts nodes links persons stops routes departures =
+    codes "valid," ++ decimal nodes ++ codes "," ++ decimal links ++ codes "," ++ decimal persons
+    ++ codes "," ++ decimal stops ++ codes "," ++ decimal routes ++ codes "," ++ decimal departures ++ codes "\n"
+
+-- the same of a scenario
+abbrev pub valid_line : ScenarioRows → List ℕ
 valid_line S =
-    codes "valid," ++ decimal (length S.town.nodes) ++ codes "," ++ decimal (length S.town.links) ++ codes "," ++ decimal (length S.town.book.persons)
-    ++ codes "," ++ decimal (length S.town.stops) ++ codes "," ++ decimal (length S.town.routes) ++ codes "," ++ decimal (length S.town.departures) ++ codes "\n"
+    valid_counts (length S.town.nodes) (length S.town.links) (length S.town.book.persons) (length S.town.stops) (length S.town.routes) (length S.town.departures)

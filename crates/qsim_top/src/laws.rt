@@ -2,7 +2,7 @@
 
 ghost use Rattle.std.specs.Prelude.{◌≡◌, None};
 ghost use Rattle.scenario.specs.Texts.{Texts};
-ghost use Rattle.scenario.specs.Given.{ScenarioRows, scenario_fault, scenario_rows};
+ghost use Rattle.scenario.specs.FilesToScenario.{ScenarioRows, scenario_fault, scenario_rows};
 ghost use Rattle.qsim_top.specs.Answer.{first_day};
 ghost use Rattle.qsim_top.specs.Laws.{IsLawful, FollowsPlans};
 

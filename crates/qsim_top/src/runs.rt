@@ -16,6 +16,7 @@ ghost use Rattle.qsim_top.specs.Answer.{report, events_of, done_with, work, answ
 
 use crate::answers::{Answer, Status};
 use crate::texts::{events_text, iteration_line, refused_line, valid_line};
+use command_line::Command;
 use edge_files::{Bytes, Effect, EffectList, OutFile};
 use events::{Book, Event};
 use plain_day::plain_day;
@@ -23,7 +24,6 @@ use rows::{Plan, PlanLists};
 use scenario::{Files, Scenario, ScenarioFault, Stop, assemble, chosen_plans};
 use std::alloc::{AllocError, Global};
 use town::{DayInput, Town};
-use words::Command;
 
 fn write(file: OutFile, text: Vec<u8>) -> Effect
     ensures { result ≡ effect.Write file text.items }
@@ -108,7 +108,8 @@ fn events_of(alloc: Global, town: &Town, plans: PlanLists) -> Result<Vec<Event>,
 fn day_answer(alloc: Global, town: &Town, plans: PlanLists) -> Result<Answer, AllocError>
     requires each { length plans ≡ length town.now.book.persons }
     requires fit { all_fit (rows_of town.now) (all_plan_rows plans) ≡ true }
-    ensures { IfOk result (IsAnswer (done_with (events_of (record { town = rows_of town.now; plans = all_plan_rows plans })) town.now.book)) }
+    ensures { IfOk result
+        (IsAnswer (done_with (events_of (record { town = rows_of town.now; plans = all_plan_rows plans })) town.now.book)) }
 {
     let events = events_of(alloc, town, plans)?;
     let answer = done_with(alloc, &events, &town.book)?;
@@ -172,7 +173,8 @@ fn work_or_refusal(
 pub fn answer(alloc: Global, command: Command, files: Files) -> Result<Answer, AllocError>
     ensures { IfOk result (IsAnswer (answer command (texts_of files))) }
 {
-    let read = assemble(alloc, files);
+    let read = assemble(alloc, &files);
+    drop(files);
     let answer = work_or_refusal(alloc, command, read)?;
     Ok(answer)
 }

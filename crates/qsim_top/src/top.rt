@@ -1,22 +1,22 @@
 ghost use Rattle.std.specs.Prelude.{◌≡◌, ◌≤◌, map, true, None, Err, IfOk, string_bytes};
 ghost use Rattle.edge_files.specs.Causes.{Rose};
 ghost use Rattle.edge_files.specs.World.{outside};
-ghost use Rattle.words.specs.Cases.{case_of, Work};
+ghost use Rattle.command_line.specs.Cases.{case_of, Work};
 ghost use Rattle.qsim_top.specs.Contents.{Contents, AreLeft, texts_in};
 ghost use Rattle.scenario.specs.Texts.{Texts};
-ghost use Rattle.scenario.specs.Given.{ScenarioRows, scenario_fault, scenario_rows};
+ghost use Rattle.scenario.specs.FilesToScenario.{ScenarioRows, scenario_fault, scenario_rows};
 ghost use Rattle.qsim_top.specs.Laws.{IsLawful, FollowsPlans};
 ghost use Rattle.qsim_top.specs.Answer.{first_day, answer, report, is_of_words, is_of_work, IsSound, Answers, AnswersCase, OnlyReports};
 
 use crate::answers::{Answer, Status};
 use crate::laws::know_days;
-use crate::reading::{Unread, read_files};
+use crate::reading::{ReadError, read_files};
 use crate::runs::{answer, report};
-use edge_files::{EffectStop, Gate, Inputs, Keeper, Outputs, perform};
+use command_line::{Asked, Command, read_words};
+use edge_files::{EffectError, Gate, Inputs, Keeper, Outputs, perform};
 use std::alloc::{AllocError, Global};
 use std::sync::Wait;
 use std::thread::Threads;
-use words::{Asked, Command, read_words};
 
 /// Does what an answer says outside.
 fn carry_out<O: Outputs, K: Keeper>(outputs: &mut O, keeper: &mut K, answer: Answer) -> Status
@@ -34,9 +34,9 @@ fn carry_out<O: Outputs, K: Keeper>(outputs: &mut O, keeper: &mut K, answer: Ans
     let Answer { status, effects } = answer;
     match perform(outputs, keeper, &effects.rows) {
         Ok(()) => status,
-        Err(EffectStop::WriteFailed) => Status::WriteFault,
-        Err(EffectStop::KeepFailed) => Status::KeepFault,
-        Err(EffectStop::NoMemory) => Status::NoMemory,
+        Err(EffectError::WriteFailed) => Status::WriteFault,
+        Err(EffectError::KeepFailed) => Status::KeepFault,
+        Err(EffectError::NoMemory) => Status::NoMemory,
     }
 }
 
@@ -45,17 +45,18 @@ fn answer_to_inputs<I: Inputs>(
     alloc: Global,
     command: Command,
     inputs: &mut I,
-) -> Result<Answer, Unread>
-    ensures answer { IfOk result (λ a. (contents : Contents) → AreLeft (I.left inputs.old) contents → a ≡ answer command (texts_in contents)) }
+) -> Result<Answer, ReadError>
+    ensures answer { IfOk result
+        (λ a. (contents : Contents) → AreLeft (I.left inputs.old) contents → a ≡ answer command (texts_in contents)) }
     ensures sound { IfOk result IsSound }
     ensures of_work { IfOk result (λ a. is_of_work a.status ≡ true) }
-    ensures read { result ≡ Err Unread.Failed → Rose (I.faults inputs.old) (I.faults inputs.new) }
+    ensures read { result ≡ Err ReadError.Failed → Rose (I.faults inputs.old) (I.faults inputs.new) }
     ensures later { I.faults inputs.old ≤ I.faults inputs.new }
 {
     let files = read_files(alloc, inputs)?;
     match answer(alloc, command, files) {
         Ok(answer) => Ok(answer),
-        Err(AllocError) => Err(Unread::NoMemory),
+        Err(AllocError) => Err(ReadError::NoMemory),
     }
 }
 
@@ -82,8 +83,8 @@ fn do_work<I: Inputs, O: Outputs, K: Keeper>(
 {
     match answer_to_inputs(alloc, command, inputs) {
         Ok(answer) => carry_out(outputs, keeper, answer),
-        Err(Unread::Failed) => Status::ReadFault,
-        Err(Unread::NoMemory) => Status::NoMemory,
+        Err(ReadError::Failed) => Status::ReadFault,
+        Err(ReadError::NoMemory) => Status::NoMemory,
     }
 }
 

@@ -1,10 +1,7 @@
 -- Rows read one after the other.
-use Rattle.std.proofs.Common.{◌≡◌, ℕ, ◌+◌, ◌<◌, List, [], ◌∷◌, ◌++◌, length, map, take, get_or, None, Bool, cond, sym, ◌∙◌, ap}
-use Rattle.std.proofs.lemmas.List.{take_more, map-append}
-use Rattle.events.specs.Names.{number_of, with_name}
+use Rattle.records.proofs.Common.{◌≡◌, List, ap, ℕ, length, ◌∙◌, map, [], ◌<◌, sym, None, ◌++◌, ◌∷◌, Bool, ◌+◌, cond, get_or, take, map-append, take_more}
+use Rattle.records.proofs.Common.{number_of, with_name, field, column, Row}
 use Rattle.events.proofs.NameLists.{no_number-absent}
-use Rattle.records.specs.Rows.{Row}
-use Rattle.records.specs.Fields.{field, column}
 
 -- the values of the rows so far, one more row read
 pub map_more : {A : Type 0} (value : Row → A) (rows : List Row) (n : ℕ) → n < length rows → map value (take (n + 1) rows) ≡ map value (take n rows) ++ value (get_or rows n []) ∷ []

@@ -1,10 +1,8 @@
 -- The first fault of a file, row by row.
-use Rattle.std.proofs.Common.{◌≡◌, ℕ, suc, ◌+◌, ◌<◌, Option, None, Some, Err, refl, sym, ◌∙◌, ap, arith}
-use Rattle.edge_files.specs.declared.reasons.Reason.{Reason}
-use Rattle.edge_files.specs.declared.reasons.RowStop.{RowStop}
+use Rattle.records.proofs.Common.{◌≡◌, ap, ℕ, ◌∙◌, arith, ◌<◌, sym, None, Some, refl, Option, ◌+◌, suc, Err, Reason, RowStop, Answers, first_fault}
+use Rattle.records.proofs.Common.{first_below, TellsStop}
 use Rattle.edge_files.specs.declared.reasons.RowStop.TheVariants as stop
-use Rattle.records.specs.Faults.{first_below, behind_head, first_fault, Answers}
-use Rattle.records.specs.Files.{TellsStop}
+use Rattle.records.specs.Faults.{behind_head}
 use Rattle.records.proofs.First.{none_more, first_here}
 
 -- no row has a fault where there is none

@@ -1,17 +1,11 @@
 -- Rows are read in turn, up to the first fault.
-use Rattle.std.proofs.Common.{◌≡◌, ℕ, ◌+◌, ◌<◌, ◌≤◌, List, [], ◌∷◌, ◌++◌, length, map, take, get_or, Option, None, Some, Result, Ok, Err, refl, sym, ◌∙◌, ap, subst, arith}
-use Rattle.std.proofs.lemmas.List.{get_or-map, length-map, length-take, take_all}
-use Rattle.csv.specs.declared.record.ByteRecord.{ByteRecord}
-use Rattle.csv.specs.Records.{fields_of}
-use Rattle.edge_files.specs.declared.reasons.Reason.{Reason}
-use Rattle.edge_files.specs.declared.reasons.RowStop.{RowStop}
+use Rattle.records.proofs.Common.{◌≡◌, List, ap, ℕ, length, ◌∙◌, arith, map, [], ◌<◌, sym, None, Some, ◌++◌, ◌∷◌, refl, Option, ◌+◌, get_or, ◌≤◌, take, subst}
+use Rattle.records.proofs.Common.{Err, Ok, Result, length-map, get_or-map, take_all, fields_of, ByteRecord, Reason, RowStop, number_of, with_name, Answers}
+use Rattle.records.proofs.Common.{first_fault, field, column, body_of, TellsStop, body_fault, Row}
+use Rattle.std.proofs.lemmas.List.{length-take}
 use Rattle.edge_files.specs.declared.reasons.RowStop.TheVariants as stop
-use Rattle.events.specs.Names.{number_of, with_name}
-use Rattle.records.specs.Rows.{Row}
-use Rattle.records.specs.Fields.{field, column}
-use Rattle.records.specs.Faults.{first_fault, unless, Answers}
-use Rattle.records.specs.Files.{body_of, TellsStop}
-use Rattle.records.specs.Reading.{reason_after, body_fault, file_fault}
+use Rattle.records.specs.Faults.{unless}
+use Rattle.records.specs.Reading.{reason_after, file_fault}
 use Rattle.records.proofs.Columns.{map_more, column_more}
 use Rattle.records.proofs.Faulty.{none_of_none, one_more, fault_here, answers_head}
 

@@ -8,3 +8,5 @@ pub mod Columns
 pub mod InTurn
 pub mod Sound
 pub mod Unrefused
+pub mod ByNames
+pub mod Common

@@ -1,11 +1,6 @@
 -- What passes a test, one after the other.
-use Rattle.std.proofs.Common.{◌≡◌, ◌<◌, ℕ, length, Option, None, Some, refl, sym, Bool, true, ◌&&◌, List, [], ◌∷◌, ◌++◌, ◌∙◌, ap, arith}
-use Rattle.std.specs.Prelude.{nat_lt}
-use Rattle.std.specs.List.{list_all}
-use Rattle.std.proofs.lemmas.Bool.Decides.{nat_tests}
-use Rattle.std.proofs.lemmas.List.Folds.{list_all-append}
-use Rattle.events.specs.Names.{number_of}
-use Rattle.records.specs.Lists.{with_number, numbers_of}
+use Rattle.records.proofs.Common.{◌≡◌, List, ap, ℕ, length, ◌∙◌, arith, [], ◌<◌, sym, None, Some, ◌++◌, ◌∷◌, refl, true, Bool, Option, ◌&&◌, nat_tests}
+use Rattle.records.proofs.Common.{list_all-append, list_all, nat_lt, number_of, numbers_of, with_number}
 use Rattle.records.proofs.Numbering.{numbered_within}
 
 both : (a b : Bool) → a ≡ true → b ≡ true → (a && (b && true)) ≡ true

@@ -1,17 +1,15 @@
 -- In a file without a fault no row has a reason; and what is then known of its numbers and names.
-use Rattle.std.proofs.Common.{◌≡◌, ℕ, zero, suc, ◌<◌, ◌≤◌, Bool, true, false, cond, ◌&&◌, List, [], ◌∷◌, length, map, take, get_or, Option, None, Some, refl, ◌∙◌, ap, inl, inr, arith}
-use Rattle.std.specs.Prelude.{is_none, nat_le, nat_lt, unwrap_or}
-use Rattle.std.specs.List.{list_all}
+use Rattle.records.proofs.Common.{◌≡◌, List, ap, ℕ, length, ◌∙◌, arith, map, [], ◌<◌, None, Some, ◌∷◌, refl, true, Bool, Option, false, cond, get_or, ◌&&◌}
+use Rattle.records.proofs.Common.{◌≤◌, suc, take, zero, inl, inr, nat_tests, length-map, list_all, nat_lt, nat_le, unwrap_or, is_none, Reason, number_of}
+use Rattle.records.proofs.Common.{first_fault, first_below, field, column, are_digits, number_in, value_of, body_fault, Row}
 use Rattle.std.proofs.lemmas.Bool.{cases_lt}
-use Rattle.std.proofs.lemmas.List.{length-map, length-take-le}
-use Rattle.edge_files.specs.declared.reasons.Reason.{Reason}
-use Rattle.events.specs.Names.{number_of}
-use Rattle.records.specs.Rows.{Row}
-use Rattle.records.specs.Numbers.{number_in, are_digits, value_of}
-use Rattle.records.specs.Fields.{field, column}
-use Rattle.records.specs.Faults.{or_else, fault_at, first_below, behind_head, first_fault}
-use Rattle.records.specs.Reading.{reason_after, body_fault}
+use Rattle.std.proofs.lemmas.List.{length-take-le}
+use Rattle.records.specs.Faults.{or_else, fault_at, behind_head}
+use Rattle.records.specs.Reading.{reason_after}
 use Rattle.records.proofs.Sound.{both_true, number_known}
+
+pub less_than : (limit n : ℕ) → nat_le limit n ≡ false → n < limit
+less_than limit n h = grind (arith, nat_tests)
 
 pub or_none : {A : Type 0} (a b : Option A) → or_else a b ≡ None → (a ≡ None) × (b ≡ None)
 or_none None b h = (refl, h)

@@ -1,5 +1,6 @@
 -- Row 0 of a file and the rows behind it.
-use Rattle.std.specs.Prelude.{◌≡◌, ℕ, ◌^◌, Bool, false, not, ◌&&◌, nat_eq, nat_lt, List, [], ◌∷◌, length, drop, Option, None, Some, Result, Ok, Err}
+use Rattle.std.specs.Prelude.{◌≡◌, ℕ, Bool, false, not, ◌&&◌, nat_eq, nat_lt, List, [], ◌∷◌, length, drop, Option, None, Some, Result, Ok, Err}
+use Rattle.limits.specs.declared.TheConstants.{MAX_FILE_BYTES}
 use Rattle.edge_files.specs.declared.reasons.Reason.{Reason}
 use Rattle.edge_files.specs.declared.reasons.Reason.TheVariants as reason
 use Rattle.edge_files.specs.declared.reasons.RowStop.{RowStop}
@@ -13,9 +14,9 @@ abbrev pub begins_with : List (List ℕ) → List Row → Bool
 begins_with names [] = false
 begins_with names (row ∷ rows) = is_header names row
 
--- more than 2^28 bytes
+-- more bytes than a file may have
 abbrev pub is_too_long : List ℕ → Bool
-is_too_long bytes = nat_lt (2 ^ 28) (length bytes)
+is_too_long bytes = nat_lt MAX_FILE_BYTES (length bytes)
 
 -- the reason of row 0 where a file must have rows: too many bytes (then nothing else counts), no header, no row behind it
 unfoldable pub head_reason : List (List ℕ) → List ℕ → Option Reason

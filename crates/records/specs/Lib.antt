@@ -5,3 +5,4 @@ pub mod Lists
 pub mod Faults
 pub mod Files
 pub mod Reading
+pub mod Tables

@@ -1,11 +1,15 @@
 -- Lists in a field.
-use Rattle.std.specs.Prelude.{ℕ, Bool, nat_eq, ◌==◌, if◌then◌else◌, List, [], ◌∷◌, length, Option, None, Some, option_map}
+use Rattle.std.specs.Prelude.{ℕ, Bool, nat_eq, ◌==◌, if◌then◌else◌, List, [], ◌∷◌, length, get_or, Option, None, Some, option_map}
 use Rattle.std.specs.List.{list_all, slice_split}
 use Rattle.events.specs.Names.{is_name, number_of}
 
 -- the parts between single separators; no bytes are one part without bytes
 unfoldable pub parts_of : ℕ → List ℕ → List (List ℕ)
 parts_of separator bytes = slice_split (λ b. b == separator) bytes
+
+-- the part at a place, or no bytes where there are not so many
+abbrev pub part : List (List ℕ) → ℕ → List ℕ
+part parts place = get_or parts place []
 
 -- the items that single spaces join; no bytes are no items
 unfoldable pub items_in : List ℕ → List (List ℕ)

@@ -1,19 +1,17 @@
-ghost use Rattle.std.specs.Prelude.{◌≡◌, ◌<◌, length, map, bytes_eq};
+ghost use Rattle.std.specs.Prelude.{◌≡◌, length, map, bytes_eq};
 ghost use Rattle.csv.specs.Records.{fields_of};
 ghost use Rattle.records.specs.Fields.{field, holds_name, is_blank, are_fields, is_header};
 
 use csv::ByteRecord;
 use events::is_name;
 
-/// The field at a place, from 0 on, of a row that has it.
-#[tactic(auto, using(crate::proofs::FieldAt::field_there))]
+/// The field at a place, from 0 on, or no bytes where the row is too short.
 pub fn field(row: &ByteRecord, place: usize) -> &[u8]
-    requires { place < length (fields_of row.now) }
     ensures { result.now ≡ field (fields_of row.now) place }
 {
     match row.get(place) {
         Some(bytes) => bytes,
-        None => unreachable!(),
+        None => b"",
     }
 }
 
@@ -26,7 +24,6 @@ pub fn is_text(bytes: &[u8], text: &[u8]) -> bool
 
 /// Whether the field at a place is a name: 1 to 64 letters, digits, `_`, `.` or `-`.
 pub fn holds_name(row: &ByteRecord, place: usize) -> bool
-    requires { place < length (fields_of row.now) }
     ensures { result ≡ holds_name (fields_of row.now) place }
 {
     is_name(field(row, place))
@@ -34,7 +31,6 @@ pub fn holds_name(row: &ByteRecord, place: usize) -> bool
 
 /// Whether the field at a place has no bytes.
 pub fn is_blank(row: &ByteRecord, place: usize) -> bool
-    requires { place < length (fields_of row.now) }
     ensures { result ≡ is_blank (fields_of row.now) place }
 {
     field(row, place).is_empty()

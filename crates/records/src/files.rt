@@ -8,9 +8,8 @@ use crate::fields::is_header;
 use crate::rows::read_rows;
 use csv::ByteRecord;
 use edge_files::{Reason, RowStop};
+use limits::MAX_FILE_BYTES;
 use std::alloc::{AllocError, Global};
-
-const MAX_BYTES: usize = 1 << 28;
 
 fn begins_with(rows: &[ByteRecord], names: &[&str]) -> bool
     ensures { result ≡ begins_with (map (λ n. n.now) names.now) (map fields_of rows.now) }
@@ -40,7 +39,7 @@ pub fn read_file(alloc: Global, bytes: &[u8], names: &[&str]) -> Result<Vec<Byte
     ensures rows { IfOk result (λ v. map fields_of v.items ≡ rows_of bytes.now) }
     ensures few { IfOk result (λ v. length v.items < 2 ^ 30) }
 {
-    if bytes.len() > MAX_BYTES {
+    if bytes.len() > MAX_FILE_BYTES {
         return Err(fault(0, Reason::TooLong));
     }
     let rows = match read_rows(alloc, bytes) {
@@ -70,7 +69,7 @@ pub fn read_optional_file(
     ensures rows { IfOk result (λ v. map fields_of v.items ≡ rows_of bytes.now) }
     ensures few { IfOk result (λ v. length v.items < 2 ^ 30) }
 {
-    if bytes.len() > MAX_BYTES {
+    if bytes.len() > MAX_FILE_BYTES {
         return Err(fault(0, Reason::TooLong));
     }
     let rows = match read_rows(alloc, bytes) {

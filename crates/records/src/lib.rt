@@ -13,12 +13,16 @@ mod lists;
 mod names;
 mod numbers;
 mod rows;
+mod table;
+mod table_read;
 
 pub use adding::add_row;
 pub use faults::fault;
 pub use fields::{field, holds_name, is_blank, is_header, is_text};
 pub use files::{body, read_file, read_optional_file};
-pub use lists::{are_names, items_in, numbers_of, parts_of};
+pub use lists::{are_names, items_in, numbers_of, part, parts_of};
 pub use names::number;
 pub use numbers::{number_in, signed_in};
 pub use rows::read_rows;
+pub use table::Table;
+pub use table_read::{RowReader, read_optional_table, read_table};

@@ -1,8 +1,7 @@
 ghost use Rattle.std.specs.Prelude.{◌≡◌, ◌==◌, map, length, position, IfOk, IfSome, ◌<◌, ◌+◌, ◌^◌, option_map};
 ghost use Rattle.std.specs.List.{list_all};
-ghost use Rattle.events.specs.Names.{is_name};
-ghost use Rattle.events.specs.Names.{number_of};
-ghost use Rattle.records.specs.Lists.{parts_of, items_in, are_names, numbers_of};
+ghost use Rattle.events.specs.Names.{is_name, number_of};
+ghost use Rattle.records.specs.Lists.{part, parts_of, items_in, are_names, numbers_of};
 
 use events::{Names, is_name};
 use std::alloc::{AllocError, Global};
@@ -39,6 +38,16 @@ pub fn items_in(alloc: Global, bytes: &[u8]) -> Result<Vec<&[u8]>, AllocError>
     parts_of(alloc, bytes, b' ')
 }
 
+/// The part or the item at a place, from 0 on, or no bytes where there are not so many.
+pub fn part<'a>(parts: &[&'a [u8]], place: usize) -> &'a [u8]
+    ensures { result.now ≡ part (map (λ p. p.now) parts.now) place }
+{
+    match parts.get(place) {
+        Some(bytes) => bytes,
+        None => b"",
+    }
+}
+
 /// Whether each item is a name.
 pub fn are_names(items: &[&[u8]]) -> bool
     ensures { result ≡ are_names (map (λ item. item.now) items.now) }
@@ -60,7 +69,8 @@ pub fn numbers_of(
     items: &[&[u8]],
     names: &Names,
 ) -> Result<Option<Vec<u32>>, AllocError>
-    ensures { IfOk result (λ found. option_map (λ numbers. numbers.items) found ≡ numbers_of (map (λ item. item.now) items.now) names.now) }
+    ensures { IfOk result (λ found. option_map (λ numbers. numbers.items) found
+        ≡ numbers_of (map (λ item. item.now) items.now) names.now) }
 {
     let mut numbers = Vec::new(alloc);
     let mut rest = items;

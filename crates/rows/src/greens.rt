@@ -8,7 +8,7 @@ use std::marker::Model;
 /// Spans of seconds of a cycle, each from its first second to the one behind its last.
 pub type SpanList = Rows<(u32, u32)>;
 
-/// When a link is green: its signal repeats after `cycle` seconds, of 1 to 3,600, is shifted by `offset` seconds,
+/// When a link is green: its signal repeats after `cycle` seconds, of 1 to `MAX_CYCLE`, is shifted by `offset` seconds,
 /// fewer than these, and is green in the spans of the cycle.
 #[derive(Debug, Drop)]
 pub struct Green {

@@ -4,6 +4,7 @@
 
 mod elements;
 mod greens;
+mod joined;
 mod network;
 mod plan;
 mod schedule;
@@ -11,7 +12,10 @@ mod settings;
 
 pub use elements::{act_after, act_in};
 pub use greens::{Green, GreenList, SpanList, green_in};
+pub use joined::is_joined;
 pub use network::{LinkList, LinkRow, NodeList, NodeRow};
 pub use plan::{Act, Acts, Leg, Legs, Plan, PlanList, PlanLists};
-pub use schedule::{DepartureList, DepartureRow, RouteList, RouteRow, StopList, StopRow, calls_at};
+pub use schedule::{
+    DepartureList, DepartureRow, RouteList, RouteRow, StopList, StopRow, calls_at, stop_link,
+};
 pub use settings::{Dwelling, Stuck, TrafficSettings};

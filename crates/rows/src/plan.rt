@@ -13,7 +13,7 @@ pub struct Act {
     pub end: Option<u32>,
 }
 
-/// The way from one activity to the next.
+/// How a person comes from one activity to the next.
 #[derive(Drop)]
 pub enum Leg {
     /// By car over these links; without a link a route is still to be found.
@@ -32,9 +32,9 @@ pub type Legs = Rows<Leg>;
 
 /// A day plan: activities, one more than legs.
 ///
-/// Every activity but the last has a planned end from 0 to 172,800 s, and the last one has none.
-/// A plan has at most 8 legs; a car route has at most 1,000 links; a teleported leg is a walk, bike
-/// or ride of 1 to 172,800 s.
+/// Every activity but the last has a planned end from 0 to `LAST_SECOND`, and the last one has none.
+/// A plan has at most `MAX_LEGS` legs; a car route has at most `MAX_ROUTE_LINKS` links; a teleported leg is a walk, bike
+/// or ride of 1 to `LAST_SECOND` seconds.
 #[derive(Drop)]
 pub struct Plan {
     pub acts: Acts,

@@ -1,6 +1,6 @@
 ghost use Rattle.std.specs.Prelude.{◌≡◌};
 ghost use Rattle.std.specs.List.{list_any};
-ghost use Rattle.rows.specs.Stops.{calls_at};
+ghost use Rattle.rows.specs.Stops.{calls_at, stop_link};
 
 use events::{Calls, Route, Rows, StopCall};
 
@@ -34,6 +34,16 @@ pub type RouteList = Rows<RouteRow>;
 
 /// Departures, by their numbers.
 pub type DepartureList = Rows<DepartureRow>;
+
+/// The link of a stop, which is 0 where there is no such stop.
+pub fn stop_link(stops: &[StopRow], stop: u32) -> u32
+    ensures { result ≡ stop_link stops.now stop }
+{
+    match stops.get(stop as usize) {
+        Some(row) => row.link,
+        None => 0,
+    }
+}
 
 /// Whether one of the calls is at the stop.
 pub fn calls_at(stop: u32, calls: &[StopCall]) -> bool

@@ -1,20 +1,13 @@
 -- The plans of all persons fit, where nothing speaks against a leg of any.
-use Rattle.std.proofs.Common.{◌≡◌, ℕ, true, ◌&&◌, List, [], ◌∷◌, ◌++◌, length, map, drop, get_or, Option, None, refl, sym, ◌∙◌, ap, arith}
-use Rattle.std.specs.Prelude.{nat_le}
-use Rattle.std.specs.List.{list_all, flat_map, AllByRecursion as Each}
-use Rattle.std.proofs.lemmas.Bool.{and_parts}
-use Rattle.std.proofs.lemmas.List.{length-map, drop_all}
-use Rattle.records.specs.Faults.{or_else}
+use Rattle.scenario.proofs.Common.{◌≡◌, List, ℕ, map, sym, ◌∙◌, ap, length, refl, None, true, Option, arith, [], ◌∷◌, ◌&&◌, drop, get_or, ◌++◌, and_parts}
+use Rattle.scenario.proofs.Common.{length-map, list_all, flat_map, nat_le, Tables, or_else, PlanRows, all_plan_rows, plan_rows, Plan, all_fit, are_fitting}
+use Rattle.scenario.proofs.Common.{plan_in_town, plans_fault, LegChecks, all_plans_fault, plan_fault, fits, TownRows}
+use Rattle.std.specs.List.{AllByRecursion as Each}
+use Rattle.std.proofs.lemmas.List.{drop_all}
 use Rattle.records.proofs.Sound.{both_true}
 use Rattle.records.proofs.Unrefused.{or_none}
-use Rattle.rows.specs.declared.plan.Plan.{Plan}
-use Rattle.rows.specs.PlanRows.{PlanRows, plan_rows, all_plan_rows}
-use Rattle.plans.specs.Values.{Tables, is_plan_named, are_plans}
+use Rattle.plans.specs.Values.{is_plan_named, are_plans}
 use Rattle.plans.proofs.Shapes.{IsPlan}
-use Rattle.town.specs.Rows.{TownRows}
-use Rattle.town.specs.Fits.{fits}
-use Rattle.scenario.specs.Legs.{Ways, plan_in_town, plan_fault, plans_fault, all_plans_fault}
-use Rattle.scenario.specs.Fitting.{are_fitting, all_fit}
 use Rattle.scenario.proofs.LegFits.{Meets, plan_meets}
 
 pub or_else_assoc : {A : Type 0} (a b c : Option A) → or_else a (or_else b c) ≡ or_else (or_else a b) c
@@ -28,13 +21,13 @@ drop_none : (n : ℕ) → drop n no_rows ≡ []
 drop_none n = drop_all n no_rows (omega arith)
 
 -- the faults of plans, part by part
-pub plans_fault-append : (W : Ways) (rows : List ℕ) (xs ys : List PlanRows) → plans_fault W rows (xs ++ ys) ≡ or_else (plans_fault W rows xs) (plans_fault W (drop (length xs) rows) ys)
+pub plans_fault-append : (W : LegChecks) (rows : List ℕ) (xs ys : List PlanRows) → plans_fault W rows (xs ++ ys) ≡ or_else (plans_fault W rows xs) (plans_fault W (drop (length xs) rows) ys)
 unfolding plans_fault
 plans_fault-append W rows [] ys = refl
 plans_fault-append W [] (x ∷ xs) ys = ap (λ rest. or_else (plan_fault W 0 x) rest) (plans_fault-append W [] xs ys) ∙ or_else_assoc (plan_fault W 0 x) (plans_fault W [] xs) (plans_fault W (drop (length xs) []) ys) ∙ ap (λ r. or_else (or_else (plan_fault W 0 x) (plans_fault W [] xs)) (plans_fault W r ys)) (drop_none (length xs))
 plans_fault-append W (row ∷ rows) (x ∷ xs) ys = ap (λ rest. or_else (plan_fault W row x) rest) (plans_fault-append W rows xs ys) ∙ or_else_assoc (plan_fault W row x) (plans_fault W rows xs) (plans_fault W (drop (length xs) rows) ys)
 
-own_meet : (T : TownRows) (W : Ways) (tables : Tables) (ends : List (ℕ × ℕ)) (rows : List ℕ) (plans : List PlanRows) → Meets T W tables ends
+own_meet : (T : TownRows) (W : LegChecks) (tables : Tables) (ends : List (ℕ × ℕ)) (rows : List ℕ) (plans : List PlanRows) → Meets T W tables ends
     → list_all (is_plan_named tables ends) plans ≡ true → Each IsPlan plans → plans_fault W rows plans ≡ None → list_all (fits T) (map (plan_in_town W.numbers) plans) ≡ true
 unfolding plans_fault
 own_meet T W tables ends rows [] m named kept none = refl
@@ -44,7 +37,7 @@ own_meet T W tables ends rows (plan ∷ plans) m named kept none =
     both_true _ _ (plan_meets T W tables ends (get_or rows 0 0) plan m parts.0 free.0 kept.0.one_more)
     (own_meet T W tables ends (drop 1 rows) plans m parts.1 kept.1 free.1)
 
-person_meets : (T : TownRows) (W : Ways) (tables : Tables) (ends : List (ℕ × ℕ)) (rows : List ℕ) (plans : List PlanRows) → Meets T W tables ends
+person_meets : (T : TownRows) (W : LegChecks) (tables : Tables) (ends : List (ℕ × ℕ)) (rows : List ℕ) (plans : List PlanRows) → Meets T W tables ends
     → are_plans tables ends plans ≡ true → Each IsPlan plans → plans_fault W rows plans ≡ None → are_fitting T (map (plan_in_town W.numbers) plans) ≡ true
 unfolding are_plans are_fitting
 person_meets T W tables ends rows plans m sound kept none =
@@ -56,7 +49,7 @@ person_meets T W tables ends rows plans m sound kept none =
     both_true _ _ (both_true _ _ some most) (own_meet T W tables ends rows plans m parts.1 kept none)
 
 -- all persons' plans fit
-pub all_meet : (T : TownRows) (W : Ways) (tables : Tables) (ends : List (ℕ × ℕ)) (rows : List ℕ) (plans : List (List PlanRows)) → Meets T W tables ends
+pub all_meet : (T : TownRows) (W : LegChecks) (tables : Tables) (ends : List (ℕ × ℕ)) (rows : List ℕ) (plans : List (List PlanRows)) → Meets T W tables ends
     → list_all (are_plans tables ends) plans ≡ true → Each (Each IsPlan) plans → all_plans_fault W rows plans ≡ None → all_fit T (map (map (plan_in_town W.numbers)) plans) ≡ true
 all_meet T W tables ends rows [] m sound kept none = refl
 all_meet T W tables ends rows (own ∷ plans) m sound kept none =

@@ -1,16 +1,12 @@
 -- The first plans of persons whose plans fit.
-use Rattle.std.proofs.Common.{◌≡◌, true, ◌&&◌, List, [], ◌∷◌, ◌++◌, length, map, Option, None, Some, refl, sym, ◌∙◌, ap, arith}
-use Rattle.std.specs.Prelude.{nat_le, option_map, option_to_list}
-use Rattle.std.specs.List.{list_all, filter_map}
+use Rattle.scenario.proofs.Common.{◌≡◌, List, map, sym, ◌∙◌, ap, length, refl, None, true, Option, arith, Some, [], ◌∷◌, ◌&&◌, ◌++◌, and_parts, list_all}
+use Rattle.scenario.proofs.Common.{nat_le, PlanRows, all_plan_rows, plan_rows, Plan, first_plans, all_fit, AreChosen, are_fitting, fits, TownRows}
+use Rattle.std.specs.Prelude.{option_map, option_to_list}
+use Rattle.std.specs.List.{filter_map}
 use Rattle.std.proofs.lemmas.List.Elements.{filter_map-append}
 use Rattle.std.proofs.lemmas.List.{map-append}
-use Rattle.std.proofs.lemmas.Bool.{and_parts}
 use Rattle.records.proofs.Sound.{both_true}
-use Rattle.rows.specs.declared.plan.Plan.{Plan}
-use Rattle.rows.specs.PlanRows.{PlanRows, plan_rows, all_plan_rows}
-use Rattle.town.specs.Rows.{TownRows}
-use Rattle.town.specs.Fits.{fits}
-use Rattle.scenario.specs.Fitting.{are_fitting, all_fit, first_plan, first_plans, AreChosen}
+use Rattle.scenario.specs.Fitting.{first_plan}
 
 one : (own : List PlanRows) → filter_map first_plan (own ∷ []) ≡ option_to_list (first_plan own)
 one [] = refl

@@ -1,14 +1,11 @@
 -- The first fault of all persons' plans, person by person, and their first plans.
-use Rattle.std.proofs.Common.{◌≡◌, ℕ, suc, ◌+◌, ◌<◌, ◌≤◌, true, false, List, ◌∷◌, length, map, drop, get_or, Option, None, Some, refl, sym, ◌∙◌, ap, arith, drop-cons, add-one}
+use Rattle.scenario.proofs.Common.{◌≡◌, List, ℕ, map, sym, ◌∙◌, ap, length, refl, None, true, Option, arith, ◌<◌, Some, ◌≤◌, ◌∷◌, drop, false, get_or, suc}
+use Rattle.scenario.proofs.Common.{◌+◌, length-map, flat_map, RowFault, or_else, PlanRows, all_plan_rows, plan_rows, Plan, plans_fault, LegChecks}
+use Rattle.scenario.proofs.Common.{all_plans_fault, plan_fault}
+use Rattle.std.proofs.Common.{drop-cons, add-one}
 use Rattle.std.specs.Prelude.{is_some}
-use Rattle.std.specs.List.{flat_map}
 use Rattle.std.proofs.Math.ListN.{get_or-map}
-use Rattle.std.proofs.lemmas.List.{length-map, drop_all}
-use Rattle.edge_files.specs.declared.reasons.RowFault.{RowFault}
-use Rattle.records.specs.Faults.{or_else}
-use Rattle.rows.specs.declared.plan.Plan.{Plan}
-use Rattle.rows.specs.PlanRows.{PlanRows, plan_rows, all_plan_rows}
-use Rattle.scenario.specs.Legs.{Ways, plan_fault, plans_fault, all_plans_fault}
+use Rattle.std.proofs.lemmas.List.{drop_all}
 use Rattle.scenario.proofs.AllFit.{plans_fault-append}
 
 or_else-some : {A : Type 0} (a b : Option A) → is_some a ≡ true → or_else a b ≡ a
@@ -34,18 +31,18 @@ told_behind : (fault one behind left all : Option RowFault) → left ≡ all →
 told_behind fault one behind left all same split told none = sym (or_else-none fault behind none) ∙ ap (λ (f : Option RowFault). or_else f behind) told ∙ sym split ∙ same
 
 -- PLANS
-one_plan : (W : Ways) (rest : List ℕ) (plans : List Plan) (i : ℕ) (plan : Plan) → i < length plans → plan ≡ get_or plans i plan
+one_plan : (W : LegChecks) (rest : List ℕ) (plans : List Plan) (i : ℕ) (plan : Plan) → i < length plans → plan ≡ get_or plans i plan
     → plans_fault W rest (drop i (map plan_rows plans)) ≡ or_else (plan_fault W (get_or rest 0 0) (plan_rows plan)) (plans_fault W (drop 1 rest) (drop (i + 1) (map plan_rows plans)))
 unfolding plans_fault
 one_plan W rest plans i plan h is = ap (λ (left : List PlanRows). plans_fault W rest left) (taken plan_rows plans i plan h is)
 
-pub plan_here : (W : Ways) (rows rest : List ℕ) (plans : List Plan) (i row : ℕ) (plan : Plan) (fault : Option RowFault)
+pub plan_here : (W : LegChecks) (rows rest : List ℕ) (plans : List Plan) (i row : ℕ) (plan : Plan) (fault : Option RowFault)
     → plans_fault W rest (drop i (map plan_rows plans)) ≡ plans_fault W rows (map plan_rows plans) → i < length plans → plan ≡ get_or plans i plan
     → row ≡ get_or rest 0 0 → fault ≡ plan_fault W row (plan_rows plan) → is_some fault ≡ true → fault ≡ plans_fault W rows (map plan_rows plans)
 plan_here W rows rest plans i row plan fault left h is first told some =
     told_here fault _ _ _ _ left (one_plan W rest plans i plan h is) (told ∙ ap (λ (r : ℕ). plan_fault W r (plan_rows plan)) first) some
 
-pub plan_behind : (W : Ways) (rows rest after : List ℕ) (plans : List Plan) (i row : ℕ) (plan : Plan) (fault : Option RowFault)
+pub plan_behind : (W : LegChecks) (rows rest after : List ℕ) (plans : List Plan) (i row : ℕ) (plan : Plan) (fault : Option RowFault)
     → plans_fault W rest (drop i (map plan_rows plans)) ≡ plans_fault W rows (map plan_rows plans) → i < length plans → plan ≡ get_or plans i plan
     → row ≡ get_or rest 0 0 → fault ≡ plan_fault W row (plan_rows plan) → is_some fault ≡ false → after ≡ drop 1 rest
     → plans_fault W after (drop (i + 1) (map plan_rows plans)) ≡ plans_fault W rows (map plan_rows plans)
@@ -53,7 +50,7 @@ plan_behind W rows rest after plans i row plan fault left h is first told none d
     ap (λ (r : List ℕ). plans_fault W r (drop (i + 1) (map plan_rows plans))) dropped
     ∙ told_behind fault _ _ _ _ left (one_plan W rest plans i plan h is) (told ∙ ap (λ (r : ℕ). plan_fault W r (plan_rows plan)) first) none
 
-pub plan_none : (W : Ways) (rows rest : List ℕ) (plans : List Plan) (i : ℕ)
+pub plan_none : (W : LegChecks) (rows rest : List ℕ) (plans : List Plan) (i : ℕ)
     → plans_fault W rest (drop i (map plan_rows plans)) ≡ plans_fault W rows (map plan_rows plans) → i ≡ length plans → None ≡ plans_fault W rows (map plan_rows plans)
 unfolding plans_fault
 plan_none W rows rest plans i left end =
@@ -62,19 +59,19 @@ plan_none W rows rest plans i left end =
 
 -- PERSONS
 -- the first fault of those that are left is the person's, or else that of the ones behind
-one_person : (W : Ways) (rest : List ℕ) (plans : List (List Plan)) (i : ℕ) (own : List Plan) → i < length plans → own ≡ get_or plans i own
+one_person : (W : LegChecks) (rest : List ℕ) (plans : List (List Plan)) (i : ℕ) (own : List Plan) → i < length plans → own ≡ get_or plans i own
     → all_plans_fault W rest (drop i (all_plan_rows plans))
     ≡ or_else (plans_fault W rest (map plan_rows own)) (all_plans_fault W (drop (length (map plan_rows own)) rest) (drop (i + 1) (all_plan_rows plans)))
 one_person W rest plans i own h is =
     ap (λ (left : List (List PlanRows)). all_plans_fault W rest left) (taken (map plan_rows) plans i own h is)
     ∙ plans_fault-append W rest (map plan_rows own) (flat_map (λ x. x) (drop (i + 1) (all_plan_rows plans)))
 
-pub fault_here : (W : Ways) (rows rest : List ℕ) (plans : List (List Plan)) (i : ℕ) (own : List Plan) (fault : Option RowFault)
+pub fault_here : (W : LegChecks) (rows rest : List ℕ) (plans : List (List Plan)) (i : ℕ) (own : List Plan) (fault : Option RowFault)
     → all_plans_fault W rest (drop i (all_plan_rows plans)) ≡ all_plans_fault W rows (all_plan_rows plans) → i < length plans → own ≡ get_or plans i own
     → fault ≡ plans_fault W rest (map plan_rows own) → is_some fault ≡ true → fault ≡ all_plans_fault W rows (all_plan_rows plans)
 fault_here W rows rest plans i own fault left h is told some = told_here fault _ _ _ _ left (one_person W rest plans i own h is) told some
 
-pub fault_behind : (W : Ways) (rows rest after : List ℕ) (plans : List (List Plan)) (i count : ℕ) (own : List Plan) (fault : Option RowFault)
+pub fault_behind : (W : LegChecks) (rows rest after : List ℕ) (plans : List (List Plan)) (i count : ℕ) (own : List Plan) (fault : Option RowFault)
     → all_plans_fault W rest (drop i (all_plan_rows plans)) ≡ all_plans_fault W rows (all_plan_rows plans) → i < length plans → own ≡ get_or plans i own
     → fault ≡ plans_fault W rest (map plan_rows own) → is_some fault ≡ false → count ≡ length own → after ≡ drop count rest
     → all_plans_fault W after (drop (i + 1) (all_plan_rows plans)) ≡ all_plans_fault W rows (all_plan_rows plans)
@@ -82,7 +79,7 @@ fault_behind W rows rest after plans i count own fault left h is told none count
     ap (λ (r : List ℕ). all_plans_fault W r (drop (i + 1) (all_plan_rows plans))) (dropped ∙ ap (λ (n : ℕ). drop n rest) (counted ∙ sym (length-map own plan_rows)))
     ∙ told_behind fault _ _ _ _ left (one_person W rest plans i own h is) told none
 
-pub fault_none : (W : Ways) (rows rest : List ℕ) (plans : List (List Plan)) (i : ℕ)
+pub fault_none : (W : LegChecks) (rows rest : List ℕ) (plans : List (List Plan)) (i : ℕ)
     → all_plans_fault W rest (drop i (all_plan_rows plans)) ≡ all_plans_fault W rows (all_plan_rows plans) → i ≡ length plans → None ≡ all_plans_fault W rows (all_plan_rows plans)
 unfolding plans_fault
 fault_none W rows rest plans i left end =

@@ -1,27 +1,22 @@
 -- A plan against whose legs nothing speaks fits the town, with the town's numbers.
-use Rattle.std.proofs.Common.{◌≡◌, ℕ, ◌+◌, ◌<◌, Bool, true, false, not, ◌&&◌, ◌||◌, List, [], ◌∷◌, length, map, Option, None, Some, refl, sym, ap, subst, arith}
-use Rattle.std.specs.Prelude.{nat_eq, nat_lt, is_none, unwrap_or, if◌then◌else◌}
-use Rattle.std.specs.List.{list_all}
-use Rattle.std.proofs.lemmas.Bool.{and_parts}
-use Rattle.std.proofs.lemmas.Bool.Decides.{nat_tests}
+use Rattle.scenario.proofs.Common.{◌≡◌, List, ℕ, map, sym, ap, length, refl, subst, None, true, Option, arith, ◌<◌, Some, [], ◌∷◌, ◌&&◌, Bool, false, not}
+use Rattle.scenario.proofs.Common.{◌+◌, and_parts, nat_tests, list_all, unwrap_or, Tables, or_else, fault_at, ends_of, PlanRows, Leg, AreThere, plan_in_town}
+use Rattle.scenario.proofs.Common.{LegChecks, leg_in_town, plan_fault, fits, TownRows}
+use Rattle.std.proofs.Common.{◌||◌}
+use Rattle.std.specs.Prelude.{nat_eq, nat_lt, is_none, if◌then◌else◌}
 use Rattle.edge_files.specs.declared.reasons.Reason.{Reason}
-use Rattle.records.specs.Faults.{or_else, fault_at}
 use Rattle.records.proofs.Sound.{both_true}
 use Rattle.records.proofs.Unrefused.{or_none, no_reason}
 use Rattle.rows.specs.declared.plan.Act.{Act}
-use Rattle.rows.specs.declared.plan.Leg.{Leg}
 use Rattle.rows.specs.declared.plan.Leg.TheVariants as leg
-use Rattle.rows.specs.PlanRows.{PlanRows}
 use Rattle.rows.specs.Plan.{is_known}
-use Rattle.plans.specs.Refusals.{is_joined}
-use Rattle.plans.specs.Values.{Tables, is_act_named, is_leg_named, is_plan_named}
-use Rattle.town.specs.Rows.{TownRows, ends_of}
-use Rattle.town.specs.Fits.{has_wrong_ends, has_wrong_stops, is_act_in, is_drive, leg_fits, first_link, legs_fit, fits}
-use Rattle.scenario.specs.Legs.{Ways, number_at, in_town, leg_in_town, plan_in_town, leg_reason, legs_fault, plan_fault}
-use Rattle.scenario.specs.Ways.{AreThere}
+use Rattle.rows.specs.Joined.{is_joined}
+use Rattle.plans.specs.Values.{is_act_named, is_leg_named, is_plan_named}
+use Rattle.town.specs.Fits.{has_wrong_ends, has_wrong_stops, is_act_in, is_car_leg, leg_fits, first_link, legs_fit}
+use Rattle.scenario.specs.Legs.{number_at, in_town, leg_reason, legs_fault}
 
 -- what legs are held against is the town's, and so are the names in the plans
-pub record Meets (T : TownRows) (W : Ways) (tables : Tables) (ends : List (ℕ × ℕ)) : Type 0 where
+pub record Meets (T : TownRows) (W : LegChecks) (tables : Tables) (ends : List (ℕ × ℕ)) : Type 0 where
   pub there : AreThere (length T.book.lines) W
   pub same_stops : T.stops ≡ W.stops
   pub same_routes : T.routes ≡ W.routes
@@ -48,9 +43,9 @@ ride_none (Some l) (Some a) None wrong x y h = (cc, (cc, (cc, cc)))
 ride_none (Some l) (Some a) (Some e) true x y h = (cc, (cc, (cc, cc)))
 ride_none (Some l) (Some a) (Some e) false x y h = (refl, (refl, (refl, refl)))
 
-leg_meets : (T : TownRows) (W : Ways) (tables : Tables) (ends : List (ℕ × ℕ)) (here there : ℕ) (l : Leg) → Meets T W tables ends
+leg_meets : (T : TownRows) (W : LegChecks) (tables : Tables) (ends : List (ℕ × ℕ)) (here there : ℕ) (l : Leg) → Meets T W tables ends
     → is_leg_named tables ends l ≡ true → leg_reason W here there l ≡ None → leg_fits T here there (leg_in_town W.numbers l) ≡ true
-unfolding leg_fits is_drive leg_reason
+unfolding leg_fits is_car_leg leg_reason
 leg_meets T W tables ends here there (leg.Car route) m named none =
     let free = drive_none (nat_eq (length route) 0) (has_wrong_ends here there route) _ _ none in
     let parts = and_parts (list_all (λ link. nat_lt link (length tables.links)) route) (is_joined ends route) named in
@@ -69,7 +64,7 @@ leg_meets T W tables ends here there (leg.Transit line access egress) m named no
     let to_stop : nat_lt (in_town N.stops egress) (length T.stops) ≡ true = rw m.same_stops (less _ _ (m.there.stops egress _ free.1.1.0)) in
     both_true _ _ (both_true _ _ (both_true _ _ in_lines from_stop) to_stop) (not_false _ (rw (m.same_stops, m.same_routes) free.1.1.1))
 
-legs_meet : (T : TownRows) (W : Ways) (tables : Tables) (ends : List (ℕ × ℕ)) (row : ℕ) (acts : List Act) (legs : List Leg) → Meets T W tables ends
+legs_meet : (T : TownRows) (W : LegChecks) (tables : Tables) (ends : List (ℕ × ℕ)) (row : ℕ) (acts : List Act) (legs : List Leg) → Meets T W tables ends
     → list_all (is_leg_named tables ends) legs ≡ true → legs_fault W row acts legs ≡ None → length acts ≡ length legs + 1
     → legs_fit T acts (map (leg_in_town W.numbers) legs) ≡ true
 unfolding legs_fit legs_fault
@@ -88,7 +83,7 @@ acts_meet T tables acts links kinds named =
     subst (λ (n : ℕ). list_all (is_known n (length T.links)) acts ≡ true) (sym kinds) one
 
 -- a plan whose names are there, and against whose legs nothing speaks, fits
-pub plan_meets : (T : TownRows) (W : Ways) (tables : Tables) (ends : List (ℕ × ℕ)) (row : ℕ) (plan : PlanRows) → Meets T W tables ends
+pub plan_meets : (T : TownRows) (W : LegChecks) (tables : Tables) (ends : List (ℕ × ℕ)) (row : ℕ) (plan : PlanRows) → Meets T W tables ends
     → is_plan_named tables ends plan ≡ true → plan_fault W row plan ≡ None → length plan.acts ≡ length plan.legs + 1
     → fits T (plan_in_town W.numbers plan) ≡ true
 unfolding fits is_plan_named plan_fault

@@ -5,7 +5,9 @@ pub mod Firsts
 pub mod There
 pub mod Told
 pub mod FilesRead
+pub mod FreeSchedules
 pub mod FirstPlans
 pub mod Settling
 pub mod RowByRow
 pub mod Composed
+pub mod Common

@@ -1,10 +1,7 @@
 -- Legs with the town's numbers stay legs.
-use Rattle.std.proofs.Common.{◌≡◌, ◌&&◌, List, [], ◌∷◌, map, refl, ap, ◌∙◌}
-use Rattle.std.specs.List.{list_all}
-use Rattle.rows.specs.declared.plan.Leg.{Leg}
+use Rattle.scenario.proofs.Common.{◌≡◌, List, map, ◌∙◌, ap, refl, [], ◌∷◌, ◌&&◌, list_all, is_leg, Leg, leg_in_town}
 use Rattle.rows.specs.declared.plan.Leg.TheVariants as leg
-use Rattle.rows.specs.Plan.{is_leg}
-use Rattle.scenario.specs.Legs.{Numbers, leg_in_town}
+use Rattle.scenario.specs.Legs.{Numbers}
 
 still_leg : (N : Numbers) (l : Leg) → is_leg (leg_in_town N l) ≡ is_leg l
 still_leg N (leg.Car route) = refl

@@ -1,39 +1,34 @@
 -- The first leg that does not fit, plan by plan, is the first one row by row.
-use Rattle.std.proofs.Common.{◌≡◌, ℕ, zero, suc, ◌+◌, ◌-◌, ◌*◌, ◌<◌, ◌≤◌, Bool, true, false, not, cond, List, [], ◌∷◌, ◌++◌, length, map, drop, get_or, Option, None, Some, refl, sym, ◌∙◌, ap, subst, add-one, arith, append_assoc, length-append}
+use Rattle.scenario.proofs.Common.{◌≡◌, List, ℕ, map, sym, ◌∙◌, ap, length, refl, subst, None, true, Option, arith, ◌<◌, Some, ◌≤◌, [], ◌∷◌, drop, Bool}
+use Rattle.scenario.proofs.Common.{false, get_or, append_assoc, not, suc, ◌++◌, ◌+◌, flat_map, unwrap_or, RowFault, PlanFileRows, Tables, file_rows, or_else}
+use Rattle.scenario.proofs.Common.{fault_at, field, body_of, Row, ends_of, PlanRows, Leg, in_file, persons_fault, NetworkRows, ScheduleRows, leg_checks_in}
+use Rattle.scenario.proofs.Common.{plans_cross_fault, persons_on, plans_fault, LegChecks, all_plans_fault, plan_fault, Texts, bytes_in}
+use Rattle.std.proofs.Common.{zero, ◌-◌, ◌*◌, cond, add-one, length-append}
 use Rattle.std.specs.Prelude.{is_some, option_to_list}
-use Rattle.std.specs.List.{flat_map}
 use Rattle.std.proofs.lemmas.List.{append-nil}
 use Rattle.std.proofs.lemmas.Grind.{flat_map-append}
 use Rattle.edge_files.specs.declared.files.InFile.TheVariants as file
 use Rattle.edge_files.specs.declared.reasons.Reason.{Reason}
-use Rattle.edge_files.specs.declared.reasons.RowFault.{RowFault}
 use Rattle.events.specs.declared.event.Mode.{Mode}
-use Rattle.records.specs.Rows.{Row}
-use Rattle.records.specs.Fields.{field}
-use Rattle.records.specs.Files.{body_of}
-use Rattle.records.specs.Faults.{or_else, fault_at, first_below, behind_head, first_fault}
+use Rattle.records.specs.Faults.{first_below, behind_head, first_fault}
 use Rattle.records.proofs.Faulty.{none_of_none}
 use Rattle.rows.specs.declared.plan.Act.{Act}
-use Rattle.rows.specs.declared.plan.Leg.{Leg}
 use Rattle.plans.specs.declared.kinds.ElementKind.{ElementKind}
 use Rattle.plans.specs.declared.kinds.ElementKind.TheVariants as element
-use Rattle.rows.specs.PlanRows.{PlanRows}
 use Rattle.plans.specs.Kinds.{kind_of, is_act, is_leg}
 use Rattle.plans.specs.Refusals.{row_reason}
-use Rattle.plans.specs.Values.{Tables, PlanFileRows, tables_of, kind_in, act_of, leg_of, endless, row_before, row_behind, rows_fault, values_of, plans_fault as file_fault, file_rows}
+use Rattle.plans.specs.Values.{tables_of, kind_in, act_of, leg_of, endless, row_before, row_behind, rows_fault, values_of, plans_fault as file_fault}
 use Rattle.plans.specs.Progress.{Progress, IsReadTo, closed_acts, closed_of, with_kind, put_act, step_first, step_act, step_leg, finish}
 use Rattle.plans.proofs.ActSteps.{act_is, kind_in_act, one_name}
 use Rattle.plans.proofs.AllRows.{Stays, all_with, file_free}
 use Rattle.plans.proofs.FileRead.{last_there, finish_is}
 use Rattle.plans.proofs.LegCases.{leg_put}
 use Rattle.plans.proofs.RowRead.{row_able, vacant_at, last_at}
-use Rattle.town.specs.Rows.{ends_of}
 use Rattle.town.specs.Fits.{first_link}
-use Rattle.scenario.specs.Texts.{bytes_in}
-use Rattle.scenario.specs.Faults.{in_file}
-use Rattle.scenario.specs.Given.{Roads, Timetable, ways_in, persons_on, persons_fault, cross_fault, plans_cross_fault}
-use Rattle.scenario.specs.Legs.{Ways, leg_reason, legs_fault, plan_fault, plans_fault, all_plans_fault, link_in, leg_reason_at, rows_cross_fault}
-use Rattle.scenario.proofs.Settling.{file_none}
+use Rattle.scenario.specs.Faults.{text_fault}
+use Rattle.scenario.specs.FilesToScenario.{cross_fault}
+use Rattle.scenario.specs.Legs.{leg_reason, legs_fault, link_in, leg_reason_at, rows_cross_fault}
+use Rattle.scenario.proofs.Told.{file_none}
 use Rattle.scenario.proofs.AllFit.{plans_fault-append, or_else_assoc}
 
 or_else-None : {A : Type 0} (a : Option A) → or_else a None ≡ a
@@ -47,7 +42,7 @@ first_of_more [] last next = refl
 first_of_more (act ∷ acts) last next = refl
 
 -- one more leg, behind an activity for each leg and one more
-legs_fault-push : (W : Ways) (row : ℕ) (acts : List Act) (legs : List Leg) (last next : Act) (leg : Leg) → length acts ≡ length legs
+legs_fault-push : (W : LegChecks) (row : ℕ) (acts : List Act) (legs : List Leg) (last next : Act) (leg : Leg) → length acts ≡ length legs
     → legs_fault W row (acts ++ last ∷ next ∷ []) (legs ++ leg ∷ []) ≡ or_else (legs_fault W row (acts ++ last ∷ []) legs) (fault_at (row + 2 * length legs) (leg_reason W last.link next.link leg))
 unfolding legs_fault
 legs_fault-push W row [] [] last next leg paired =
@@ -71,7 +66,7 @@ endless_link [] last = refl
 endless_link (act ∷ acts) last = refl
 
 -- an end that is not kept changes nothing
-legs_fault-endless : (W : Ways) (row : ℕ) (acts : List Act) (legs : List Leg) (last : Act) → legs_fault W row (acts ++ endless last ∷ []) legs ≡ legs_fault W row (acts ++ last ∷ []) legs
+legs_fault-endless : (W : LegChecks) (row : ℕ) (acts : List Act) (legs : List Leg) (last : Act) → legs_fault W row (acts ++ endless last ∷ []) legs ≡ legs_fault W row (acts ++ last ∷ []) legs
 unfolding legs_fault
 legs_fault-endless W row [] [] last = refl
 legs_fault-endless W row [] (l ∷ legs) last = refl
@@ -82,7 +77,7 @@ legs_fault-endless W row (act ∷ acts) (l ∷ legs) last =
 
 -- PLANS THAT ARE CLOSED
 -- rows behind those of the plans do not count
-more_rows : (W : Ways) (rows more : List ℕ) (plans : List PlanRows) → length plans ≤ length rows → plans_fault W (rows ++ more) plans ≡ plans_fault W rows plans
+more_rows : (W : LegChecks) (rows more : List ℕ) (plans : List PlanRows) → length plans ≤ length rows → plans_fault W (rows ++ more) plans ≡ plans_fault W rows plans
 unfolding plans_fault
 more_rows W rows more [] few = refl
 more_rows W [] more (plan ∷ plans) few = absurd (omega arith)
@@ -94,7 +89,7 @@ drop_front (y ∷ xs) x zero same = absurd (omega arith)
 drop_front (y ∷ xs) x (suc n) same = drop_front xs x n (omega arith)
 
 -- one more plan, with its row
-plans_fault-push : (W : Ways) (rows : List ℕ) (row : ℕ) (plans : List PlanRows) (plan : PlanRows) → length rows ≡ length plans
+plans_fault-push : (W : LegChecks) (rows : List ℕ) (row : ℕ) (plans : List PlanRows) (plan : PlanRows) → length rows ≡ length plans
     → plans_fault W (rows ++ row ∷ []) (plans ++ plan ∷ []) ≡ or_else (plans_fault W rows plans) (plan_fault W row plan)
 unfolding plans_fault
 plans_fault-push W rows row plans plan each =
@@ -112,16 +107,16 @@ first_fault-more reasons n =
     ∙ ap (λ (m : ℕ). or_else (first_below (behind_head None reasons) (suc n)) (fault_at m (reasons n))) (sym same)
 
 -- a row that is an activity has no reason
-act_free : (W : Ways) (tables : Tables) (rows : List Row) (n : ℕ) → kind_of (get_or rows n []) ≡ element.Act → leg_reason_at W tables rows n ≡ None
+act_free : (W : LegChecks) (tables : Tables) (rows : List Row) (n : ℕ) → kind_of (get_or rows n []) ≡ element.Act → leg_reason_at W tables rows n ≡ None
 unfolding leg_reason_at
 act_free W tables rows n is = ap (λ (k : ElementKind). cond (is_leg k) (leg_reason W (link_in tables (get_or rows (n - 1) [])) (link_in tables (get_or rows (n + 1) [])) (leg_of tables.lines tables.stops tables.links (get_or rows n []))) None) is
 
-leg_at : (W : Ways) (tables : Tables) (rows : List Row) (n : ℕ) (m : Option Mode) → kind_of (get_or rows n []) ≡ element.Leg m
+leg_at : (W : LegChecks) (tables : Tables) (rows : List Row) (n : ℕ) (m : Option Mode) → kind_of (get_or rows n []) ≡ element.Leg m
     → leg_reason_at W tables rows n ≡ leg_reason W (link_in tables (get_or rows (n - 1) [])) (link_in tables (get_or rows (n + 1) [])) (leg_of tables.lines tables.stops tables.links (get_or rows n []))
 unfolding leg_reason_at
 leg_at W tables rows n m is = ap (λ (k : ElementKind). cond (is_leg k) (leg_reason W (link_in tables (get_or rows (n - 1) [])) (link_in tables (get_or rows (n + 1) [])) (leg_of tables.lines tables.stops tables.links (get_or rows n []))) None) is
 
-after_act : (W : Ways) (tables : Tables) (rows : List Row) (n : ℕ) → kind_of (get_or rows n []) ≡ element.Act → first_fault None (leg_reason_at W tables rows) (n + 1) ≡ first_fault None (leg_reason_at W tables rows) n
+after_act : (W : LegChecks) (tables : Tables) (rows : List Row) (n : ℕ) → kind_of (get_or rows n []) ≡ element.Act → first_fault None (leg_reason_at W tables rows) (n + 1) ≡ first_fault None (leg_reason_at W tables rows) n
 after_act W tables rows n is =
     first_fault-more (leg_reason_at W tables rows) n ∙ ap (λ (r : Option Reason). or_else (first_fault None (leg_reason_at W tables rows) n) (fault_at (n + 1) r)) (act_free W tables rows n is)
     ∙ or_else-None (first_fault None (leg_reason_at W tables rows) n)
@@ -144,7 +139,7 @@ abbrev next_act : Tables → List Row → ℕ → Act
 next_act tables rows n = act_of tables.kinds tables.links (get_or rows n [])
 
 -- what the plans so far say is what the first n rows say
-record Checked (W : Ways) (tables : Tables) (rows : List Row) (n : ℕ) (p : Progress) : Type 0 where
+record Checked (W : LegChecks) (tables : Tables) (rows : List Row) (n : ℕ) (p : Progress) : Type 0 where
   earlier : List ℕ
   start : ℕ
   starts : p.starts ≡ earlier ++ start ∷ []
@@ -153,12 +148,12 @@ record Checked (W : Ways) (tables : Tables) (rows : List Row) (n : ℕ) (p : Pro
   place : start + 2 * length p.legs ≡ n + waits p.last
   same : or_else (plans_fault W earlier (closed_plans p)) (legs_fault W (start + 1) (p.acts ++ ahead p.last (next_act tables rows n) ∷ []) p.legs) ≡ first_fault None (leg_reason_at W tables rows) n
 
-closed_same : (W : Ways) (row : ℕ) (acts : List Act) (legs : List Leg) (last : Option Act) (next : Act) → is_some last ≡ true → legs_fault W row (closed_acts acts last) legs ≡ legs_fault W row (acts ++ ahead last next ∷ []) legs
+closed_same : (W : LegChecks) (row : ℕ) (acts : List Act) (legs : List Leg) (last : Option Act) (next : Act) → is_some last ≡ true → legs_fault W row (closed_acts acts last) legs ≡ legs_fault W row (acts ++ ahead last next ∷ []) legs
 closed_same W row acts legs None next there = cc
 closed_same W row acts legs (Some last) next there = legs_fault-endless W row acts legs last
 
 -- with the open plan closed
-closed_checked : (W : Ways) (tables : Tables) (rows : List Row) (n : ℕ) (p : Progress) → Checked W tables rows n p → is_some p.last ≡ true
+closed_checked : (W : LegChecks) (tables : Tables) (rows : List Row) (n : ℕ) (p : Progress) → Checked W tables rows n p → is_some p.last ≡ true
     → plans_fault W p.starts (closed_plans p ++ closed_of p ∷ []) ≡ first_fault None (leg_reason_at W tables rows) n
 unfolding plan_fault
 closed_checked W tables rows n p c there =
@@ -175,7 +170,7 @@ person_closed plans own plan =
     ∙ sym (append_assoc (flat_map (λ own. own) plans) own (plan ∷ []))
 
 -- a plan begins, with an activity
-begun_checked : (W : Ways) (tables : Tables) (rows : List Row) (n : ℕ) (p q : Progress) (act : Act) → Checked W tables rows n p → is_some p.last ≡ true → kind_of (get_or rows n []) ≡ element.Act
+begun_checked : (W : LegChecks) (tables : Tables) (rows : List Row) (n : ℕ) (p q : Progress) (act : Act) → Checked W tables rows n p → is_some p.last ≡ true → kind_of (get_or rows n []) ≡ element.Act
     → q.starts ≡ p.starts ++ (n + 1) ∷ [] → closed_plans q ≡ closed_plans p ++ closed_of p ∷ [] → q.acts ≡ [] → q.legs ≡ [] → q.last ≡ Some act → Checked W tables rows (n + 1) q
 unfolding legs_fault
 begun_checked W tables rows n p q act c there is starts closed acts legs last =
@@ -202,7 +197,7 @@ begun_checked W tables rows n p q act c there is starts closed acts legs last =
     }
 
 -- an activity goes on with a plan, or begins one
-put_checked : (W : Ways) (tables : Tables) (rows : List Row) (n : ℕ) (p : Progress) (plan person : Bool) (row : Row) (act : Act) → Checked W tables rows n p → act ≡ next_act tables rows n
+put_checked : (W : LegChecks) (tables : Tables) (rows : List Row) (n : ℕ) (p : Progress) (plan person : Bool) (row : Row) (act : Act) → Checked W tables rows n p → act ≡ next_act tables rows n
     → kind_of (get_or rows n []) ≡ element.Act → (plan ≡ true → is_some p.last ≡ true) → (plan ≡ false → p.last ≡ None) → Checked W tables rows (n + 1) (put_act p plan person row (n + 1) act)
 unfolding put_act
 put_checked W tables rows n p true true row act c here is closes vacant =
@@ -225,7 +220,7 @@ put_checked W tables rows n p false person row act c here is closes vacant =
     }
 
 -- a leg comes behind the last activity
-leg_checked : (W : Ways) (tables : Tables) (rows : List Row) (n : ℕ) (p q : Progress) (m : Option Mode) (leg : Leg) → Checked W tables rows n p → p.last ≡ Some (next_act tables rows (n - 1)) → kind_of (get_or rows n []) ≡ element.Leg m
+leg_checked : (W : LegChecks) (tables : Tables) (rows : List Row) (n : ℕ) (p q : Progress) (m : Option Mode) (leg : Leg) → Checked W tables rows n p → p.last ≡ Some (next_act tables rows (n - 1)) → kind_of (get_or rows n []) ≡ element.Leg m
     → leg ≡ leg_of tables.lines tables.stops tables.links (get_or rows n []) → q.starts ≡ p.starts → closed_plans q ≡ closed_plans p → q.acts ≡ p.acts ++ option_to_list p.last → q.legs ≡ p.legs ++ leg ∷ [] → q.last ≡ None
     → Checked W tables rows (n + 1) q
 leg_checked W tables rows n p q m leg c before is same_leg starts closed acts legs last =
@@ -266,7 +261,7 @@ leg_checked W tables rows n p q m leg c before is same_leg starts closed acts le
           ∙ sym (first_fault-more reasons n);
     }
 
-first_checked : (W : Ways) (links : List (List ℕ)) (rows : List Row) → kind_of (get_or rows 0 []) ≡ element.Act → Checked W (tables_of links rows) rows 1 (step_first links (get_or rows 0 []))
+first_checked : (W : LegChecks) (links : List (List ℕ)) (rows : List Row) → kind_of (get_or rows 0 []) ≡ element.Act → Checked W (tables_of links rows) rows 1 (step_first links (get_or rows 0 []))
 unfolding step_first plans_fault legs_fault
 first_checked W links rows is = record {
   earlier = [];
@@ -278,7 +273,7 @@ first_checked W links rows is = record {
   same = sym (after_act W (tables_of links rows) rows 0 is ∙ none_of_none (leg_reason_at W (tables_of links rows) rows));
 }
 
-act_checked : (W : Ways) (links : List (List ℕ)) (ends : List (ℕ × ℕ)) (rows : List Row) (n : ℕ) (p : Progress) → n < length rows → IsReadTo links ends rows n p
+act_checked : (W : LegChecks) (links : List (List ℕ)) (ends : List (ℕ × ℕ)) (rows : List Row) (n : ℕ) (p : Progress) → n < length rows → IsReadTo links ends rows n p
     → row_reason links ends p.persons (length p.legs) (row_before rows n) (get_or rows n []) (row_behind rows n) ≡ None → kind_of (get_or rows n []) ≡ element.Act → Checked W (tables_of links rows) rows n p
     → Checked W (tables_of links rows) rows (n + 1) (step_act links p (row_before rows n) (get_or rows n []) (n + 1))
 unfolding step_act
@@ -288,7 +283,7 @@ act_checked W links ends rows n p less read free is c =
     put_checked W (tables_of links rows) rows n (with_kind p y) _ _ y _ named (act_is links rows n p.kinds y (one_name kind_in rows n p.kinds (field y 3) less read.names.kinds_are (kind_in_act y is))) is
     (row_able links ends rows n p read less free).closes (vacant_at links ends rows n p read free is)
 
-step_leg_checked : (W : Ways) (links : List (List ℕ)) (ends : List (ℕ × ℕ)) (rows : List Row) (n : ℕ) (p : Progress) (mode : Mode) → n < length rows → IsReadTo links ends rows n p
+step_leg_checked : (W : LegChecks) (links : List (List ℕ)) (ends : List (ℕ × ℕ)) (rows : List Row) (n : ℕ) (p : Progress) (mode : Mode) → n < length rows → IsReadTo links ends rows n p
     → row_reason links ends p.persons (length p.legs) (row_before rows n) (get_or rows n []) (row_behind rows n) ≡ None → kind_of (get_or rows n []) ≡ element.Leg (Some mode) → Checked W (tables_of links rows) rows n p
     → Checked W (tables_of links rows) rows (n + 1) (step_leg links p mode (get_or rows n []))
 unfolding step_leg
@@ -296,7 +291,7 @@ step_leg_checked W links ends rows n p mode less read free is c =
     leg_checked W (tables_of links rows) rows n p (step_leg links p mode (get_or rows n [])) (Some mode) _ c (last_at links ends rows n p read ((row_able links ends rows n p read less free).ended mode is)) is
     (leg_put links rows n p mode less read.names is) refl refl refl refl refl
 
-checked_stays : (W : Ways) (links : List (List ℕ)) (ends : List (ℕ × ℕ)) (rows : List Row) → Stays links ends rows (Checked W (tables_of links rows) rows)
+checked_stays : (W : LegChecks) (links : List (List ℕ)) (ends : List (ℕ × ℕ)) (rows : List Row) → Stays links ends rows (Checked W (tables_of links rows) rows)
 checked_stays W links ends rows = record {
   first = λ read is. first_checked W links rows is;
   act = λ n p less read free is c. act_checked W links ends rows n p less read free is c;
@@ -304,7 +299,7 @@ checked_stays W links ends rows = record {
 }
 
 -- of rows none of which is refused by itself
-pub row_by_row : (W : Ways) (links : List (List ℕ)) (ends : List (ℕ × ℕ)) (rows : List Row) → 0 < length rows → rows_fault None links ends rows ≡ None
+pub row_by_row : (W : LegChecks) (links : List (List ℕ)) (ends : List (ℕ × ℕ)) (rows : List Row) → 0 < length rows → rows_fault None links ends rows ≡ None
     → all_plans_fault W (values_of links rows).starts (values_of links rows).plans ≡ rows_cross_fault W (tables_of links rows) rows
 unfolding rows_cross_fault finish
 row_by_row W links ends rows some none =
@@ -316,9 +311,14 @@ row_by_row W links ends rows some none =
     ∙ closed_checked W (tables_of links rows) rows (length rows) p w.held (last_there links ends rows p w.read)
 
 -- of plans.csv without a fault of its own
-pub same_crossing : (R : Roads) (plans : Option (List ℕ)) (S : Timetable) → persons_fault R.link_names (ends_of R.links) plans ≡ None → plans_cross_fault (persons_on R plans) S ≡ cross_fault R (bytes_in plans) S
-unfolding persons_fault plans_cross_fault cross_fault
-same_crossing R None S none = cc
-same_crossing R (Some bytes) S none =
+text_crossing : (R : NetworkRows) (text : Option (List ℕ)) (S : ScheduleRows) → in_file file.Plans (text_fault (file_fault R.link_names (ends_of R.links)) text) ≡ None
+    → plans_cross_fault (file_rows R.link_names (unwrap_or text [])) S ≡ cross_fault R (unwrap_or text []) S
+unfolding plans_cross_fault cross_fault
+text_crossing R None S none = cc
+text_crossing R (Some bytes) S none =
     let free = file_free R.link_names (ends_of R.links) bytes (file_none file.Plans (file_fault R.link_names (ends_of R.links) bytes) none) in
-    ap (in_file file.Plans) (row_by_row (ways_in (file_rows R.link_names bytes) S) R.link_names (ends_of R.links) (body_of bytes) free.some free.none)
+    ap (in_file file.Plans) (row_by_row (leg_checks_in (file_rows R.link_names bytes) S) R.link_names (ends_of R.links) (body_of bytes) free.some free.none)
+
+pub same_crossing : (R : NetworkRows) (T : Texts) (S : ScheduleRows) → persons_fault R.link_names (ends_of R.links) T ≡ None → plans_cross_fault (persons_on R T) S ≡ cross_fault R (bytes_in T file.Plans) S
+unfolding persons_fault
+same_crossing R T S none = text_crossing R (T file.Plans) S none

@@ -1,46 +1,61 @@
 -- What is told of one file, and of files one after the other.
-use Rattle.std.proofs.Common.{◌≡◌, ℕ, Bool, true, false, List, Option, None, Some, Err, sym, ◌∙◌, ap, subst}
-use Rattle.std.specs.Prelude.{if◌then◌else◌}
-use Rattle.edge_files.specs.declared.files.InFile.{InFile}
+use Rattle.scenario.proofs.Common.{◌≡◌, List, ℕ, sym, ◌∙◌, ap, refl, subst, None, Option, Some, [], Result, unwrap_or, InFile, RowFault, or_else, StopsAt}
+use Rattle.scenario.proofs.Common.{Tells, fault_in, in_file, Texts, bytes_in}
+use Rattle.std.proofs.Common.{Ok, Err, IfOk}
 use Rattle.edge_files.specs.declared.reasons.Reason.TheVariants as reason
-use Rattle.edge_files.specs.declared.reasons.RowFault.{RowFault}
 use Rattle.edge_files.specs.declared.reasons.RowStop.{RowStop}
 use Rattle.edge_files.specs.declared.reasons.RowStop.TheVariants as row_stop
-use Rattle.records.specs.Faults.{or_else, Answers}
+use Rattle.records.specs.Faults.{Answers}
 use Rattle.scenario.specs.declared.faults.ScenarioFault.{ScenarioFault}
 use Rattle.scenario.specs.declared.faults.Stop.{Stop}
 use Rattle.scenario.specs.declared.faults.Stop.TheVariants as stop
-use Rattle.scenario.specs.Texts.{is_long, text_in, bytes_in}
-use Rattle.scenario.specs.Faults.{text_fault, in_file, stop_in, StopsAt}
-
-pub long_text : (long : Option InFile) (file : InFile) (bytes : List ℕ) → is_long long file ≡ true → text_in long file bytes ≡ None
-long_text long file bytes h = ap (λ (b : Bool). if b then None else Some bytes) h
-
-pub short_text : (long : Option InFile) (file : InFile) (bytes : List ℕ) → is_long long file ≡ false → text_in long file bytes ≡ Some bytes
-short_text long file bytes h = ap (λ (b : Bool). if b then None else Some bytes) h
+use Rattle.scenario.specs.Faults.{text_fault, with_file}
 
 -- a file that is too long
-pub told_long : (s : Stop) (file : InFile) (fault : List ℕ → Option RowFault) (text : Option (List ℕ)) → text ≡ None
-    → s ≡ stop.Fault (record { file = file; row = 0; reason = reason.TooLong }) → StopsAt s (in_file file (text_fault fault text))
-told_long s file fault text none is =
-    let told : in_file file (text_fault fault text) ≡ Some (record { file = file; row = 0; reason = reason.TooLong }) = ap (λ (t : Option (List ℕ)). in_file file (text_fault fault t)) none in
-    subst (λ (x : Stop). StopsAt x (in_file file (text_fault fault text))) (sym is) told
+pub told_long : (s : Stop) (T : Texts) (file : InFile) (fault : List ℕ → Option RowFault) → T file ≡ None
+    → s ≡ stop.Fault (record { file = file; row = 0; reason = reason.TooLong }) → StopsAt s (fault_in T file fault)
+told_long s T file fault none is =
+    let told : fault_in T file fault ≡ Some (record { file = file; row = 0; reason = reason.TooLong }) = ap (λ (t : Option (List ℕ)). in_file file (text_fault fault t)) none in
+    subst (λ (x : Stop). StopsAt x (fault_in T file fault)) (sym is) told
 
-stop_told : {A B : Type 0} (view : A → B) (value : B) (file : InFile) (fault : List ℕ → Option RowFault) (text : Option (List ℕ)) (bytes : List ℕ) (told : RowStop) → text ≡ Some bytes
-    → Answers view (Err told) (fault bytes) value → StopsAt (stop_in file told) (in_file file (text_fault fault text))
-stop_told view value file fault text bytes (row_stop.Fault found) same answer =
-    ap (λ (t : Option (List ℕ)). in_file file (text_fault fault t)) same ∙ ap (λ (f : Option RowFault). in_file file f) answer
-stop_told view value file fault text bytes row_stop.NoMemory same answer = tt
+-- a file whose bytes are read
+module _ {A B : Type 0} (view : A → B) (T : Texts) (file : InFile) (fault : List ℕ → Option RowFault) (value : List ℕ → B) (bytes : List ℕ) where
+  fault_is : T file ≡ Some bytes → fault_in T file fault ≡ in_file file (fault bytes)
+  fault_is same = ap (λ (t : Option (List ℕ)). in_file file (text_fault fault t)) same
 
--- a file that has a fault
-pub told_stop : {A B : Type 0} (view : A → B) (value : B) (s : Stop) (file : InFile) (fault : List ℕ → Option RowFault) (text : Option (List ℕ)) (bytes : List ℕ) (told : RowStop) → text ≡ Some bytes
-    → Answers view (Err told) (fault bytes) value → s ≡ stop_in file told → StopsAt s (in_file file (text_fault fault text))
-told_stop view value s file fault text bytes told same answer is =
-    subst (λ (x : Stop). StopsAt x (in_file file (text_fault fault text))) (sym is) (stop_told view value file fault text bytes told same answer)
+  read_told : (read : Result A RowStop) → T file ≡ Some bytes → Answers view read (fault bytes) (value bytes) → Tells view (with_file file read) (fault_in T file fault) (value (bytes_in T file))
+  read_told (Ok read) same answer = (
+    fault_is same ∙ ap (λ (f : Option RowFault). in_file file f) answer.0,
+    answer.1 ∙ sym (ap (λ (t : Option (List ℕ)). value (unwrap_or t [])) same),
+  )
+  read_told (Err (row_stop.Fault found)) same answer = fault_is same ∙ ap (λ (f : Option RowFault). in_file file f) answer
+  read_told (Err row_stop.NoMemory) same answer = tt
 
--- a file that has none
-pub told_none : (file : InFile) (fault : List ℕ → Option RowFault) (text : Option (List ℕ)) (bytes : List ℕ) → text ≡ Some bytes → fault bytes ≡ None → in_file file (text_fault fault text) ≡ None
-told_none file fault text bytes same none = ap (λ (t : Option (List ℕ)). in_file file (text_fault fault t)) same ∙ ap (λ (f : Option RowFault). in_file file f) none
+  pub told_in : (read : Result A RowStop) (told : Result A Stop) → T file ≡ Some bytes → Answers view read (fault bytes) (value bytes) → told ≡ with_file file read
+      → Tells view told (fault_in T file fault) (value (bytes_in T file))
+  told_in read told same answer is = subst (λ (r : Result A Stop). Tells view r (fault_in T file fault) (value (bytes_in T file))) (sym is) (read_told read same answer)
+
+-- what holds of what was read of a file
+module _ {A : Type 0} (file : InFile) (P : A → Type 0) where
+  with_known : (read : Result A RowStop) → IfOk read P → IfOk (with_file file read) P
+  with_known (Ok read) known = known
+  with_known (Err why) known = tt
+
+  pub known_in : (read : Result A RowStop) (told : Result A Stop) → told ≡ with_file file read → IfOk read P → IfOk told P
+  known_in read told is known = subst (λ (r : Result A Stop). IfOk r P) (sym is) (with_known read known)
+
+-- a file has no fault where its bytes have none
+pub file_none : (file : InFile) (fault : Option RowFault) → in_file file fault ≡ None → fault ≡ None
+file_none file None none = refl
+file_none file (Some fault) none = cc
+
+text_free : (fault : List ℕ → Option RowFault) (text : Option (List ℕ)) → text_fault fault text ≡ None → fault (unwrap_or text []) ≡ None
+text_free fault None none = cc
+text_free fault (Some bytes) none = none
+
+-- a file without a fault is not too long, and its bytes have none
+pub bytes_free : (T : Texts) (file : InFile) (fault : List ℕ → Option RowFault) → fault_in T file fault ≡ None → fault (bytes_in T file) ≡ None
+bytes_free T file fault none = text_free fault (T file) (file_none file (text_fault fault (T file)) none)
 
 -- the first of two is told
 pub first_stop : (s : Stop) (a b : Option ScenarioFault) → StopsAt s a → StopsAt s (or_else a b)
@@ -54,7 +69,3 @@ later_stop s a b none h = subst (λ (x : Option ScenarioFault). StopsAt s (or_el
 -- neither has one
 pub both_none : (a b : Option ScenarioFault) → a ≡ None → b ≡ None → or_else a b ≡ None
 both_none a b none h = ap (λ (x : Option ScenarioFault). or_else x b) none ∙ h
-
--- what is read of a file that is not too long
-pub same_bytes : (text : Option (List ℕ)) (bytes : List ℕ) → text ≡ Some bytes → bytes_in text ≡ bytes
-same_bytes text bytes same = ap (λ (t : Option (List ℕ)). bytes_in t) same

@@ -9,6 +9,7 @@ use Rattle.records.specs.Faults.{fault_at}
 use Rattle.scenario.specs.declared.faults.ScenarioFault.{ScenarioFault}
 use Rattle.scenario.specs.declared.faults.Stop.{Stop}
 use Rattle.scenario.specs.declared.faults.Stop.TheVariants as stop
+use Rattle.scenario.specs.Texts.{Texts}
 
 -- the fault of a file by that of its bytes: one that is too long has this fault alone
 abbrev pub text_fault : (List ℕ → Option RowFault) → Option (List ℕ) → Option RowFault
@@ -20,10 +21,19 @@ abbrev pub in_file : InFile → Option RowFault → Option ScenarioFault
 in_file file None = None
 in_file file (Some fault) = Some (record { file = file; row = fault.row; reason = fault.reason })
 
+-- the first fault of a file by itself
+abbrev pub fault_in : Texts → InFile → (List ℕ → Option RowFault) → Option ScenarioFault
+fault_in T file fault = in_file file (text_fault fault (T file))
+
 -- why a file was not read, with the file
-abbrev pub stop_in : InFile → RowStop → Stop
-stop_in file (row_stop.Fault fault) = stop.Fault (record { file = file; row = fault.row; reason = fault.reason })
-stop_in file row_stop.NoMemory = stop.NoMemory
+abbrev pub error_in : InFile → RowStop → Stop
+error_in file (row_stop.Fault fault) = stop.Fault (record { file = file; row = fault.row; reason = fault.reason })
+error_in file row_stop.NoMemory = stop.NoMemory
+
+-- what was read of a file, or why it was not, with the file
+abbrev pub with_file : {A : Type 0} → InFile → Result A RowStop → Result A Stop
+with_file file (Ok read) = Ok read
+with_file file (Err why) = Err (error_in file why)
 
 -- the stop is this fault; want of memory may come at any time
 abbrev pub StopsAt : Stop → Option ScenarioFault → Type 0

@@ -1,13 +1,14 @@
 -- Each person's plans fit the town.
 use Rattle.std.specs.Prelude.{◌≡◌, Bool, true, ◌&&◌, nat_le, List, [], ◌∷◌, length, Option, None, Some}
 use Rattle.std.specs.List.{list_all, filter_map}
+use Rattle.limits.specs.declared.TheConstants.{MAX_PLANS}
 use Rattle.rows.specs.PlanRows.{PlanRows}
 use Rattle.town.specs.Rows.{TownRows}
 use Rattle.town.specs.Fits.{fits}
 
 -- one to five plans, each of which fits the town
 unfoldable pub are_fitting : TownRows → List PlanRows → Bool
-are_fitting T plans = nat_le 1 (length plans) && nat_le (length plans) 5 && list_all (fits T) plans
+are_fitting T plans = nat_le 1 (length plans) && nat_le (length plans) MAX_PLANS && list_all (fits T) plans
 
 -- the same for every person
 abbrev pub all_fit : TownRows → List (List PlanRows) → Bool

@@ -23,7 +23,7 @@ pub record Numbers : Type 0 where
   pub stops : List (Option ℕ)
 
 -- what legs are held against: these numbers, and the town's stops and routes
-pub record Ways : Type 0 where
+pub record LegChecks : Type 0 where
   pub numbers : Numbers
   pub stops : List StopRow
   pub routes : List RouteRow
@@ -64,7 +64,7 @@ ends_elsewhere here there (leg.Teleport mode seconds) = false
 ends_elsewhere here there (leg.Transit line access egress) = false
 
 -- a transit leg, with the town's numbers, from or to a stop on another link than that of the activity, or which no route of the line joins
-abbrev pub stops_elsewhere : Ways → ℕ → ℕ → Leg → Bool
+abbrev pub stops_elsewhere : LegChecks → ℕ → ℕ → Leg → Bool
 stops_elsewhere W here there (leg.Car route) = false
 stops_elsewhere W here there (leg.Teleport mode seconds) = false
 stops_elsewhere W here there (leg.Transit line access egress) = has_wrong_stops W.stops W.routes here there line access egress
@@ -76,7 +76,7 @@ lacks_route (leg.Teleport mode seconds) = false
 lacks_route (leg.Transit line access egress) = false
 
 -- the least reason against a leg between activities on these two links
-unfoldable pub leg_reason : Ways → ℕ → ℕ → Leg → Option Reason
+unfoldable pub leg_reason : LegChecks → ℕ → ℕ → Leg → Option Reason
 leg_reason W here there leg = least (
     (is_unknown W.numbers leg, reason.Unknown)
     ∷ (ends_elsewhere here there leg, reason.EndWrong)
@@ -89,33 +89,33 @@ abbrev pub link_in : Tables → Row → ℕ
 link_in tables row = (act_of tables.kinds tables.links row).link
 
 -- the least reason against the leg in a row of plans.csv, by the activities in the rows before and behind it; a row that is no leg has none
-unfoldable pub leg_reason_at : Ways → Tables → List Row → ℕ → Option Reason
+unfoldable pub leg_reason_at : LegChecks → Tables → List Row → ℕ → Option Reason
 leg_reason_at W tables rows place =
     if is_leg (kind_of (get_or rows place [])) then
     leg_reason W (link_in tables (get_or rows (place - 1) [])) (link_in tables (get_or rows (place + 1) [])) (leg_of tables.lines tables.stops tables.links (get_or rows place []))
     else None
 
 -- the first fault of these legs: the least row that has a reason, and the least of its reasons
-unfoldable pub rows_cross_fault : Ways → Tables → List Row → Option RowFault
+unfoldable pub rows_cross_fault : LegChecks → Tables → List Row → Option RowFault
 rows_cross_fault W tables rows = first_fault None (leg_reason_at W tables rows) (length rows)
 
 -- THE SAME, PLAN BY PLAN
 -- the first fault of the legs of a plan, which stand in every second row from this one on
-unfoldable pub legs_fault : Ways → ℕ → List Act → List Leg → Option RowFault
+unfoldable pub legs_fault : LegChecks → ℕ → List Act → List Leg → Option RowFault
 legs_fault W row acts [] = None
 legs_fault W row [] (leg ∷ legs) = None
 legs_fault W row (here ∷ acts) (leg ∷ legs) =
     or_else (fault_at row (leg_reason W here.link (first_link acts) leg)) (legs_fault W (row + 2) acts legs)
 
 -- the first fault of the legs of a plan that begins in a row
-unfoldable pub plan_fault : Ways → ℕ → PlanRows → Option RowFault
+unfoldable pub plan_fault : LegChecks → ℕ → PlanRows → Option RowFault
 plan_fault W row plan = legs_fault W (row + 1) plan.acts plan.legs
 
 -- the first fault of the legs of plans, with the rows in which the plans begin
-unfoldable pub plans_fault : Ways → List ℕ → List PlanRows → Option RowFault
+unfoldable pub plans_fault : LegChecks → List ℕ → List PlanRows → Option RowFault
 plans_fault W rows [] = None
 plans_fault W rows (plan ∷ plans) = or_else (plan_fault W (get_or rows 0 0) plan) (plans_fault W (drop 1 rows) plans)
 
 -- the same, of all persons one behind the other
-abbrev pub all_plans_fault : Ways → List ℕ → List (List PlanRows) → Option RowFault
+abbrev pub all_plans_fault : LegChecks → List ℕ → List (List PlanRows) → Option RowFault
 all_plans_fault W rows plans = plans_fault W rows (flat_map (λ own. own) plans)

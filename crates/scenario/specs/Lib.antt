@@ -1,8 +1,8 @@
 pub mod Texts
 pub mod Faults
 pub mod Legs
-pub mod Given
+pub mod FilesToScenario
 pub mod Fitting
-pub mod Ways
+pub mod LegChecks
 pub mod Towns
 pub mod Views

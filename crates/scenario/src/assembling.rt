@@ -4,32 +4,35 @@
 //! whose contract it knows, in place of all that the value is made of.
 
 ghost use Rattle.std.specs.Prelude.{◌≡◌, ◌<◌, ◌≤◌, ◌^◌, ℕ, None, length, map, replicate, IfOk, All, List};
+ghost use Rattle.limits.specs.declared.TheConstants.{MAX_PERSONS};
 ghost use Rattle.plans.specs.Progress.{IsSound};
 ghost use Rattle.plans.specs.Read.{file_rows_of};
 ghost use Rattle.settings.specs.Faults.{settings_fault, settings_of, values_of};
 ghost use Rattle.records.specs.Faults.{fault_at};
 ghost use Rattle.rows.specs.Greens.{always};
-ghost use Rattle.town.specs.Rows.{ends_of};
+ghost use Rattle.rows.specs.Joined.{ends_of};
 ghost use Rattle.town.specs.Views.{rows_of};
-ghost use Rattle.scenario.specs.Texts.{text_in, bytes_in};
-ghost use Rattle.scenario.specs.Faults.{text_fault, in_file, Tells};
-ghost use Rattle.scenario.specs.Ways.{ways_of, AreThere};
+ghost use Rattle.scenario.specs.Texts.{bytes_in};
+ghost use Rattle.scenario.specs.Faults.{fault_in, Tells};
+ghost use Rattle.scenario.specs.LegChecks.{leg_checks_of, AreThere};
 ghost use Rattle.scenario.specs.Towns.{IsSchedule};
-ghost use Rattle.scenario.specs.Given.{ways_in, book_of, town_of, plans_cross_fault, scenario_of, on_roads, on_roads_fault, scenario_fault, scenario_rows};
-ghost use Rattle.scenario.specs.Views.{roads_view, timetable_view, scenario_view, texts_of};
+ghost use Rattle.scenario.specs.FilesToScenario.{leg_checks_in, book_of, town_of, plans_cross_fault, scenario_of};
+ghost use Rattle.scenario.specs.FilesToScenario.{on_network, on_network_fault, scenario_fault};
+ghost use Rattle.scenario.specs.FilesToScenario.{scenario_rows};
+ghost use Rattle.scenario.specs.Views.{network_view, schedule_view, scenario_view, texts_of};
 
 use crate::faults::{ScenarioFault, Stop};
-use crate::files::{Files, LaterFiles};
+use crate::files::Files;
 use crate::legs::all_plans_fault;
-use crate::numbers::{Numbering, numbers_in};
-use crate::persons::read_persons;
+use crate::network_read::{ends_in, read_network};
+use crate::numbering::{Numbering, numbers_in};
+use crate::plans_read::read_plan_file;
+use crate::reading::{bytes_of, with_file};
 use crate::renumbering::plans_in_town;
-use crate::roads::{ends_in, read_roads};
 use crate::scenario::Scenario;
-use crate::telling::{bytes_of, is_long, stop_in, too_long};
-use crate::timetables::Schedule;
-use crate::timetables_read::read_schedule;
-use edge_files::{Bytes, InFile};
+use crate::schedule_read::read_schedule;
+use crate::schedules::Schedule;
+use edge_files::InFile;
 use events::{Book, Names};
 use network::Network;
 use plans::PlanFile;
@@ -38,30 +41,27 @@ use settings::{Settings, read_settings};
 use std::alloc::{AllocError, Global};
 use town::Town;
 
-/// What settings.json, which is let go, says, or its first fault.
-fn settings_in(alloc: Global, long: Option<InFile>, bytes: Bytes) -> Result<Settings, Stop>
-    ensures { Tells values_of result
-        (in_file InFile.Settings (text_fault (λ b. fault_at 0 (settings_fault b)) (text_in long InFile.Settings bytes)))
-        (settings_of (bytes_in (text_in long InFile.Settings bytes))) }
+/// What settings.json says, or its first fault.
+fn settings_in(alloc: Global, files: &Files) -> Result<Settings, Stop>
+    ensures { Tells values_of result (fault_in (texts_of files.now) InFile.Settings (λ bytes. fault_at 0 (settings_fault bytes)))
+        (settings_of (bytes_in (texts_of files.now) InFile.Settings)) }
 {
-    if is_long(long, InFile::Settings) {
-        return Err(too_long(InFile::Settings));
-    }
-    match read_settings(alloc, bytes_of(&bytes)) {
-        Ok(settings) => Ok(settings),
-        Err(stop) => Err(stop_in(InFile::Settings, stop)),
+    match bytes_of(files, InFile::Settings) {
+        Ok(bytes) => with_file(InFile::Settings, read_settings(alloc, bytes)),
+        Err(error) => Err(error),
     }
 }
 
 /// The numbers that the lines and the stops of the plans have in the town.
-#[tactic(auto, unfolding(crate::specs::Given::ways_in))]
+#[tactic(auto, unfolding(crate::specs::FilesToScenario::leg_checks_in))]
 fn numbering_in(
     alloc: Global,
     plans: &PlanFile,
     schedule: &Schedule,
 ) -> Result<Numbering, AllocError>
-    ensures ways { IfOk result (λ n. ways_of n schedule.now ≡ ways_in (file_rows_of plans.now) (timetable_view schedule.now)) }
-    ensures there { IfOk result (λ n. AreThere (length schedule.now.routes.lines) (ways_of n schedule.now)) }
+    ensures leg_checks { IfOk result (λ n. leg_checks_of n schedule.now
+        ≡ leg_checks_in (file_rows_of plans.now) (schedule_view schedule.now)) }
+    ensures there { IfOk result (λ n. AreThere (length schedule.now.routes.lines) (leg_checks_of n schedule.now)) }
 {
     let lines = numbers_in(alloc, &plans.lines, &schedule.routes.lines)?;
     let stops = numbers_in(alloc, &plans.stops, &schedule.stops.names)?;
@@ -115,7 +115,7 @@ fn book_of(
     network: &Network,
     schedule: &Schedule,
 ) -> Result<Book, AllocError>
-    ensures { IfOk result (λ book. book ≡ book_of (roads_view network.now) persons kinds (timetable_view schedule.now)) }
+    ensures { IfOk result (λ book. book ≡ book_of (network_view network.now) persons kinds (schedule_view schedule.now)) }
 {
     let Ok((links, stops)) = copies(&network.link_names, &schedule.stops.names) else {
         drop(persons);
@@ -141,8 +141,8 @@ fn book_of(
     }
 }
 
-/// The town of these settings, roads and rows, with this book and these signals.
-#[tactic(auto, unfolding(crate::specs::Given::town_of))]
+/// The town of these settings, network and rows, with this book and these signals.
+#[tactic(auto, unfolding(crate::specs::FilesToScenario::town_of))]
 fn town_of(
     settings: Settings,
     network: Network,
@@ -150,11 +150,11 @@ fn town_of(
     book: Book,
     greens: GreenList,
 ) -> Town
-    requires schedule { IsSchedule (length network.links) (ends_of network.links) schedule }
-    requires book { book ≡ book_of (roads_view network) book.persons book.kinds (timetable_view schedule) }
+    requires schedule { IsSchedule (length network.links) (ends_of network.links) (schedule_view schedule) }
+    requires book { book ≡ book_of (network_view network) book.persons book.kinds (schedule_view schedule) }
     requires greens { greens ≡ replicate (length network.links) always }
-    requires few { length book.persons ≤ 65536 }
-    ensures { rows_of result ≡ town_of (values_of settings) (roads_view network) book.persons book.kinds (timetable_view schedule) }
+    requires few { length book.persons ≤ MAX_PERSONS }
+    ensures { rows_of result ≡ town_of (values_of settings) (network_view network) book.persons book.kinds (schedule_view schedule) }
 {
     let Schedule {
         stops,
@@ -173,8 +173,8 @@ fn town_of(
     }
 }
 
-/// The town of these settings, roads and rows, with names of persons and of kinds of activities.
-fn named_town(
+/// The town of these settings, network and rows, with names of persons and of kinds of activities.
+fn town_with_names(
     alloc: Global,
     settings: Settings,
     network: Network,
@@ -182,9 +182,10 @@ fn named_town(
     persons: Names,
     kinds: Names,
 ) -> Result<Town, AllocError>
-    requires schedule { IsSchedule (length network.links) (ends_of network.links) schedule }
-    requires few { length persons ≤ 65536 }
-    ensures { IfOk result (λ town. rows_of town ≡ town_of (values_of settings) (roads_view network) persons kinds (timetable_view schedule)) }
+    requires schedule { IsSchedule (length network.links) (ends_of network.links) (schedule_view schedule) }
+    requires few { length persons ≤ MAX_PERSONS }
+    ensures { IfOk result
+        (λ town. rows_of town ≡ town_of (values_of settings) (network_view network) persons kinds (schedule_view schedule)) }
 {
     let Ok(book) = book_of(persons, kinds, &network, &schedule) else {
         drop(network);
@@ -203,12 +204,12 @@ fn named_town(
 }
 
 /// The first leg of the plans that does not fit the files behind plans.csv, where there is one.
-#[tactic(auto, unfolding(crate::specs::Given::plans_cross_fault))]
-fn crossed(numbering: &Numbering, schedule: &Schedule, plans: &PlanFile) -> Option<ScenarioFault>
-    requires ways { ways_of numbering.now schedule.now ≡ ways_in (file_rows_of plans.now) (timetable_view schedule.now) }
-    requires there { AreThere (length schedule.now.routes.lines) (ways_of numbering.now schedule.now) }
+#[tactic(auto, unfolding(crate::specs::FilesToScenario::plans_cross_fault))]
+fn leg_fault(numbering: &Numbering, schedule: &Schedule, plans: &PlanFile) -> Option<ScenarioFault>
+    requires leg_checks { leg_checks_of numbering.now schedule.now ≡ leg_checks_in (file_rows_of plans.now) (schedule_view schedule.now) }
+    requires there { AreThere (length schedule.now.routes.lines) (leg_checks_of numbering.now schedule.now) }
     requires starts { All (λ row. row < 2 ^ 30) plans.now.starts }
-    ensures { result ≡ plans_cross_fault (file_rows_of plans.now) (timetable_view schedule.now) }
+    ensures { result ≡ plans_cross_fault (file_rows_of plans.now) (schedule_view schedule.now) }
 {
     match all_plans_fault(numbering, schedule, &plans.starts.rows, &plans.plans.rows) {
         Some(fault) => Some(ScenarioFault {
@@ -221,8 +222,8 @@ fn crossed(numbering: &Numbering, schedule: &Schedule, plans: &PlanFile) -> Opti
 }
 
 /// The town with its plans, against no leg of which anything speaks.
-#[tactic(auto, unfolding(crate::specs::Given::scenario_of))]
-fn settled(
+#[tactic(auto, unfolding(crate::specs::FilesToScenario::scenario_of))]
+fn scenario_of_parts(
     alloc: Global,
     settings: Settings,
     network: Network,
@@ -231,11 +232,13 @@ fn settled(
     numbering: Numbering,
 ) -> Result<Scenario, AllocError>
     requires sound { IsSound network.link_names (ends_of network.links) (file_rows_of file) }
-    requires schedule { IsSchedule (length network.links) (ends_of network.links) schedule }
-    requires ways { ways_of numbering schedule ≡ ways_in (file_rows_of file) (timetable_view schedule) }
-    requires there { AreThere (length schedule.routes.lines) (ways_of numbering schedule) }
-    requires free { plans_cross_fault (file_rows_of file) (timetable_view schedule) ≡ None }
-    ensures { IfOk result (λ scenario. scenario_view scenario ≡ scenario_of (values_of settings) (roads_view network) (file_rows_of file) (timetable_view schedule)) }
+    requires schedule { IsSchedule (length network.links) (ends_of network.links) (schedule_view schedule) }
+    requires leg_checks { leg_checks_of numbering schedule ≡ leg_checks_in (file_rows_of file) (schedule_view schedule) }
+    requires there { AreThere (length schedule.routes.lines) (leg_checks_of numbering schedule) }
+    requires free { plans_cross_fault (file_rows_of file) (schedule_view schedule) ≡ None }
+    ensures { IfOk result
+        (λ scenario. scenario_view scenario
+        ≡ scenario_of (values_of settings) (network_view network) (file_rows_of file) (schedule_view schedule)) }
 {
     let PlanFile {
         persons,
@@ -254,7 +257,7 @@ fn settled(
         drop(schedule);
         return Err(AllocError);
     };
-    match named_town(alloc, settings, network, schedule, persons, kinds) {
+    match town_with_names(alloc, settings, network, schedule, persons, kinds) {
         Ok(town) => Ok(Scenario { town, plans }),
         Err(_) => {
             drop(plans);
@@ -264,7 +267,7 @@ fn settled(
 }
 
 /// The town with its plans, or the first leg of theirs that does not fit it.
-fn together(
+fn scenario_or_fault(
     alloc: Global,
     settings: Settings,
     network: Network,
@@ -273,9 +276,9 @@ fn together(
 ) -> Result<Scenario, Stop>
     requires sound { IsSound network.link_names (ends_of network.links) (file_rows_of file) }
     requires starts { All (λ row. row < 2 ^ 30) file.starts }
-    requires schedule { IsSchedule (length network.links) (ends_of network.links) schedule }
-    ensures { Tells scenario_view result (plans_cross_fault (file_rows_of file) (timetable_view schedule))
-        (scenario_of (values_of settings) (roads_view network) (file_rows_of file) (timetable_view schedule)) }
+    requires schedule { IsSchedule (length network.links) (ends_of network.links) (schedule_view schedule) }
+    ensures { Tells scenario_view result (plans_cross_fault (file_rows_of file) (schedule_view schedule))
+        (scenario_of (values_of settings) (network_view network) (file_rows_of file) (schedule_view schedule)) }
 {
     let Ok(numbering) = numbering_in(alloc, &file, &schedule) else {
         drop(file);
@@ -283,90 +286,63 @@ fn together(
         drop(schedule);
         return Err(Stop::NoMemory);
     };
-    if let Some(fault) = crossed(&numbering, &schedule, &file) {
+    if let Some(fault) = leg_fault(&numbering, &schedule, &file) {
         drop(file);
         drop(network);
         drop(schedule);
         return Err(Stop::Fault(fault));
     }
-    match settled(alloc, settings, network, file, schedule, numbering) {
+    match scenario_of_parts(alloc, settings, network, file, schedule, numbering) {
         Ok(scenario) => Ok(scenario),
         Err(_) => Err(Stop::NoMemory),
     }
 }
 
-/// What the files that are read over roads, which are let go, give on these, or their first fault.
-fn on_roads(
+/// What the files that are read over network give on these, or their first fault.
+fn on_network(
     alloc: Global,
-    long: Option<InFile>,
+    files: &Files,
     settings: Settings,
     network: Network,
-    later: LaterFiles,
 ) -> Result<Scenario, Stop>
-    ensures { Tells scenario_view result
-        (on_roads_fault (roads_view network) (text_in long InFile.Plans later.plans) (text_in long InFile.Stops later.stops) (text_in long InFile.Routes later.routes) (text_in long InFile.Departures later.departures))
-        (on_roads (values_of settings) (roads_view network) (text_in long InFile.Plans later.plans) (text_in long InFile.Stops later.stops) (text_in long InFile.Routes later.routes) (text_in long InFile.Departures later.departures)) }
+    ensures { Tells scenario_view result (on_network_fault (network_view network) (texts_of files.now))
+        (on_network (values_of settings) (network_view network) (texts_of files.now)) }
 {
-    let LaterFiles {
-        plans,
-        stops,
-        routes,
-        departures,
-    } = later;
     let Ok(ends) = ends_in(alloc, &network) else {
         drop(network);
         return Err(Stop::NoMemory);
     };
-    let file = match read_persons(alloc, long, plans, &network.link_names, &ends) {
+    let file = match read_plan_file(alloc, files, &network.link_names, &ends) {
         Ok(file) => file,
-        Err(stop) => {
+        Err(error) => {
             drop(network);
-            return Err(stop);
+            return Err(error);
         }
     };
-    match read_schedule(
-        alloc,
-        long,
-        stops,
-        routes,
-        departures,
-        &network.link_names,
-        &ends,
-    ) {
-        Ok(schedule) => together(alloc, settings, network, file, schedule),
-        Err(stop) => {
+    match read_schedule(alloc, files, &network.link_names, &ends) {
+        Ok(schedule) => scenario_or_fault(alloc, settings, network, file, schedule),
+        Err(error) => {
             drop(file);
             drop(network);
-            Err(stop)
+            Err(error)
         }
     }
 }
 
-/// Reads the files of a scenario, each of which is let go once it is read.
+/// Reads the files of a scenario.
 ///
 /// The first fault is told where there is one: of each file by itself, in the order of the files, and only then of the legs of
 /// plans.csv that do not fit the files behind it.
-#[tactic(auto, unfolding(crate::specs::Views::texts_of, crate::specs::Given::scenario_fault, crate::specs::Given::scenario_rows))]
-pub fn assemble(alloc: Global, files: Files) -> Result<Scenario, Stop>
-    ensures { Tells scenario_view result (scenario_fault (texts_of files)) (scenario_rows (texts_of files)) }
+#[tactic(auto, unfolding(crate::specs::FilesToScenario::scenario_fault, crate::specs::FilesToScenario::scenario_rows))]
+pub fn assemble(alloc: Global, files: &Files) -> Result<Scenario, Stop>
+    ensures { Tells scenario_view result (scenario_fault (texts_of files.now)) (scenario_rows (texts_of files.now)) }
 {
-    let Files {
-        settings,
-        nodes,
-        links,
-        plans,
-        stops,
-        routes,
-        departures,
-        long,
-    } = files;
-    let settings = settings_in(alloc, long, settings)?;
-    let network = read_roads(alloc, long, nodes, links)?;
-    let later = LaterFiles {
-        plans,
-        stops,
-        routes,
-        departures,
+    let settings = match settings_in(alloc, files) {
+        Ok(settings) => settings,
+        Err(error) => return Err(error),
     };
-    on_roads(alloc, long, settings, network, later)
+    match read_network(alloc, files) {
+        Ok(network) => on_network(alloc, files, settings, network),
+        Err(error) => Err(error),
+    }
 }

@@ -31,7 +31,9 @@ fn first_plans(alloc: Global, plans: PlanLists) -> Result<Vec<Plan>, AllocError>
 /// Of plans that fit a town there is one for each person, and it fits.
 pub fn chosen_plans(alloc: Global, plans: PlanLists) -> Result<Vec<Plan>, AllocError>
     ensures first { IfOk result (λ chosen. map plan_rows chosen.items ≡ first_plans (all_plan_rows plans)) }
-    ensures fit { IfOk result (λ chosen. (T : TownRows) → all_fit T (all_plan_rows plans) ≡ true → AreChosen T (all_plan_rows plans) (map plan_rows chosen.items)) }
+    ensures fit { IfOk result
+        (λ chosen. (T : TownRows) → all_fit T (all_plan_rows plans) ≡ true
+        → AreChosen T (all_plan_rows plans) (map plan_rows chosen.items)) }
 {
     let chosen = first_plans(alloc, plans)?;
     Ok(chosen)

@@ -1,25 +1,69 @@
-use edge_files::{Bytes, InFile};
+ghost use Rattle.std.specs.Prelude.{◌≡◌, ◌≢◌, [], Some, option_map, find, is_none};
+ghost use Rattle.edge_files.specs.declared.files.InFile.{InFile};
+ghost use Rattle.scenario.specs.Views.{texts_of};
 
-/// The bytes of the files of a scenario.
-///
-/// `long` names the first file that has more than 2^28 bytes, where there is one; its bytes are not read.
+use edge_files::{Bytes, InFile};
+use std::alloc::Global;
+use std::array;
+
+/// The files of a scenario, in the order in which they are read.
+pub const SCENARIO_FILES: [InFile; 7] = [
+    InFile::Settings,
+    InFile::Nodes,
+    InFile::Links,
+    InFile::Plans,
+    InFile::Stops,
+    InFile::Routes,
+    InFile::Departures,
+];
+
+/// What was read of each file: its bytes, or nothing where it has more than 2^28 of them.
 #[derive(Drop)]
 pub struct Files {
-    pub settings: Bytes,
-    pub nodes: Bytes,
-    pub links: Bytes,
-    pub plans: Bytes,
-    pub stops: Bytes,
-    pub routes: Bytes,
-    pub departures: Bytes,
-    pub long: Option<InFile>,
+    texts: [Option<Bytes>; 8],
 }
 
-/// The bytes of the files that are read over roads.
-#[derive(Drop)]
-pub struct LaterFiles {
-    pub plans: Bytes,
-    pub stops: Bytes,
-    pub routes: Bytes,
-    pub departures: Bytes,
+impl Files {
+    /// Files of no bytes.
+    pub fn new(alloc: Global) -> Self
+        ensures { (file : InFile) → texts_of result file ≡ Some [] }
+    {
+        Files {
+            texts: array::from_fn(|_| Some(Bytes::new(alloc))),
+        }
+    }
+
+    /// Replaces what was read of a file.
+    pub fn put(&mut self, file: InFile, text: Option<Bytes>)
+        ensures put { texts_of self.new file ≡ text }
+        ensures others { (other : InFile) → other ≢ file → texts_of self.new other ≡ texts_of self.old other }
+    {
+        self.texts[file.place()] = text;
+    }
+
+    /// The bytes of a file, or nothing where it is too long.
+    pub fn text(&self, file: InFile) -> Option<&[u8]>
+        ensures { option_map (λ bytes. bytes.now) result ≡ texts_of self.now file }
+    {
+        match &self.texts[file.place()] {
+            Some(bytes) => Some(&bytes.rows),
+            None => None,
+        }
+    }
+
+    fn is_long(&self, file: InFile) -> bool
+        ensures { result ≡ is_none (texts_of self.now file) }
+    {
+        self.texts[file.place()].is_none()
+    }
+
+    /// The first file of a scenario that is too long, where there is one.
+    pub fn long(&self) -> Option<InFile>
+        ensures { result ≡ find (λ file. is_none (texts_of self.now file)) SCENARIO_FILES }
+    {
+        SCENARIO_FILES
+            .iter()
+            .copied()
+            .find(|file| self.is_long(*file))
+    }
 }

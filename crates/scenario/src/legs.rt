@@ -1,11 +1,11 @@
 ghost use Rattle.std.specs.Prelude.{◌≡◌, ℕ, ◌<◌, ◌+◌, ◌*◌, ◌^◌, length, map, drop, get_or, All};
 ghost use Rattle.rows.specs.PlanRows.{plan_rows, all_plan_rows};
 ghost use Rattle.rows.specs.declared.plan.Leg.TheVariants as leg;
-ghost use Rattle.scenario.specs.Legs.{Ways, number_at, leg_reason, legs_fault, plan_fault, plans_fault, all_plans_fault};
-ghost use Rattle.scenario.specs.Ways.{ways_of, AreThere};
+ghost use Rattle.scenario.specs.Legs.{LegChecks, number_at, leg_reason, legs_fault, plan_fault, plans_fault, all_plans_fault};
+ghost use Rattle.scenario.specs.LegChecks.{leg_checks_of, AreThere};
 
-use crate::numbers::{Numbering, number_at};
-use crate::timetables::Schedule;
+use crate::numbering::{Numbering, number_at};
+use crate::schedules::Schedule;
 use edge_files::{Reason, RowFault};
 use events::Route;
 use rows::{Act, Leg, Plan, PlanList};
@@ -13,8 +13,8 @@ use town::{first_link, wrong_ends, wrong_stops};
 
 /// The reason against a car route between activities on these two links.
 #[tactic(auto, unfolding(crate::specs::Legs::leg_reason))]
-fn drive_reason(here: u32, there: u32, route: &Route) -> Option<Reason>
-    ensures { (W : Ways) → result ≡ leg_reason W here there (leg.Car route.now) }
+fn car_reason(here: u32, there: u32, route: &Route) -> Option<Reason>
+    ensures { (W : LegChecks) → result ≡ leg_reason W here there (leg.Car route.now) }
 {
     if route.is_empty() {
         return Some(Reason::NoRoute);
@@ -25,7 +25,7 @@ fn drive_reason(here: u32, there: u32, route: &Route) -> Option<Reason>
     None
 }
 
-/// The least reason against a ride between activities on these two links.
+/// The least reason against a transit leg between activities on these two links.
 #[tactic(auto, unfolding(crate::specs::Legs::leg_reason))]
 fn transit_reason(
     numbering: &Numbering,
@@ -36,8 +36,8 @@ fn transit_reason(
     access: u32,
     egress: u32,
 ) -> Option<Reason>
-    requires { AreThere (length schedule.now.routes.lines) (ways_of numbering.now schedule.now) }
-    ensures { result ≡ leg_reason (ways_of numbering.now schedule.now) here there (leg.Transit line access egress) }
+    requires { AreThere (length schedule.now.routes.lines) (leg_checks_of numbering.now schedule.now) }
+    ensures { result ≡ leg_reason (leg_checks_of numbering.now schedule.now) here there (leg.Transit line access egress) }
 {
     let Some(line) = number_at(&numbering.lines, line) else {
         return Some(Reason::Unknown);
@@ -65,11 +65,11 @@ fn leg_reason(
     there: u32,
     leg: &Leg,
 ) -> Option<Reason>
-    requires { AreThere (length schedule.now.routes.lines) (ways_of numbering.now schedule.now) }
-    ensures { result ≡ leg_reason (ways_of numbering.now schedule.now) here there leg.now }
+    requires { AreThere (length schedule.now.routes.lines) (leg_checks_of numbering.now schedule.now) }
+    ensures { result ≡ leg_reason (leg_checks_of numbering.now schedule.now) here there leg.now }
 {
     match leg {
-        Leg::Car { route } => drive_reason(here, there, route),
+        Leg::Car { route } => car_reason(here, there, route),
         Leg::Teleport { .. } => None,
         Leg::Transit {
             line,
@@ -88,9 +88,9 @@ fn legs_fault(
     acts: &[Act],
     legs: &[Leg],
 ) -> Option<RowFault>
-    requires there { AreThere (length schedule.now.routes.lines) (ways_of numbering.now schedule.now) }
+    requires there { AreThere (length schedule.now.routes.lines) (leg_checks_of numbering.now schedule.now) }
     requires early { row + 2 * length legs.now < 2 ^ 31 }
-    ensures { result ≡ legs_fault (ways_of numbering.now schedule.now) row acts.now legs.now }
+    ensures { result ≡ legs_fault (leg_checks_of numbering.now schedule.now) row acts.now legs.now }
 {
     let [leg, later @ ..] = legs else {
         return None;
@@ -108,9 +108,9 @@ fn legs_fault(
 /// The first fault of the legs of a plan that begins in a row.
 #[tactic(auto, unfolding(crate::specs::Legs::plan_fault))]
 fn plan_fault(numbering: &Numbering, schedule: &Schedule, row: u32, plan: &Plan) -> Option<RowFault>
-    requires there { AreThere (length schedule.now.routes.lines) (ways_of numbering.now schedule.now) }
+    requires there { AreThere (length schedule.now.routes.lines) (leg_checks_of numbering.now schedule.now) }
     requires early { row < 2 ^ 30 }
-    ensures { result ≡ plan_fault (ways_of numbering.now schedule.now) row (plan_rows plan.now) }
+    ensures { result ≡ plan_fault (leg_checks_of numbering.now schedule.now) row (plan_rows plan.now) }
 {
     let (acts, legs) = (&plan.acts.rows, &plan.legs.rows);
     legs_fault(numbering, schedule, row + 1, acts, legs)
@@ -145,9 +145,9 @@ fn plans_fault(
     rows: &[u32],
     plans: &[Plan],
 ) -> Option<RowFault>
-    requires there { AreThere (length schedule.now.routes.lines) (ways_of numbering.now schedule.now) }
+    requires there { AreThere (length schedule.now.routes.lines) (leg_checks_of numbering.now schedule.now) }
     requires early { All (λ row. row < 2 ^ 30) rows.now }
-    ensures { result ≡ plans_fault (ways_of numbering.now schedule.now) rows.now (map plan_rows plans.now) }
+    ensures { result ≡ plans_fault (leg_checks_of numbering.now schedule.now) rows.now (map plan_rows plans.now) }
 {
     let mut rest = rows;
     for plan in plans {
@@ -167,9 +167,9 @@ fn own_fault(
     rows: &[u32],
     own: &PlanList,
 ) -> Option<RowFault>
-    requires there { AreThere (length schedule.now.routes.lines) (ways_of numbering.now schedule.now) }
+    requires there { AreThere (length schedule.now.routes.lines) (leg_checks_of numbering.now schedule.now) }
     requires early { All (λ row. row < 2 ^ 30) rows.now }
-    ensures { result ≡ plans_fault (ways_of numbering.now schedule.now) rows.now (map plan_rows own.now) }
+    ensures { result ≡ plans_fault (leg_checks_of numbering.now schedule.now) rows.now (map plan_rows own.now) }
 {
     plans_fault(numbering, schedule, rows, &own.rows)
 }
@@ -188,9 +188,9 @@ pub fn all_plans_fault(
     rows: &[u32],
     plans: &[PlanList],
 ) -> Option<RowFault>
-    requires there { AreThere (length schedule.now.routes.lines) (ways_of numbering.now schedule.now) }
+    requires there { AreThere (length schedule.now.routes.lines) (leg_checks_of numbering.now schedule.now) }
     requires early { All (λ row. row < 2 ^ 30) rows.now }
-    ensures { result ≡ all_plans_fault (ways_of numbering.now schedule.now) rows.now (all_plan_rows plans.now) }
+    ensures { result ≡ all_plans_fault (leg_checks_of numbering.now schedule.now) rows.now (all_plan_rows plans.now) }
 {
     let mut rest = rows;
     for own in plans {

@@ -1,9 +1,9 @@
 ghost use Rattle.std.specs.Prelude.{◌≡◌, map, IfOk};
 ghost use Rattle.rows.specs.PlanRows.{plan_rows, all_plan_rows};
 ghost use Rattle.scenario.specs.Legs.{leg_in_town, plan_in_town};
-ghost use Rattle.scenario.specs.Ways.{numbers_of};
+ghost use Rattle.scenario.specs.LegChecks.{numbers_of};
 
-use crate::numbers::{Numbering, in_town};
+use crate::numbering::{Numbering, in_town};
 use rows::{Leg, Legs, Plan, PlanList, PlanLists};
 use std::alloc::{AllocError, Global};
 

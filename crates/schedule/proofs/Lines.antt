@@ -1,13 +1,10 @@
 -- The lines of routes, numbered as they first appear.
-use Rattle.std.proofs.Common.{◌≡◌, ℕ, ◌+◌, ◌<◌, ◌≤◌, Bool, true, false, cond, List, [], ◌∷◌, ◌++◌, length, take, drop, get_or, Option, None, Some, Ok, Err, sym, ◌∙◌, ap}
-use Rattle.std.specs.Prelude.{fold, unwrap_or}
-use Rattle.std.proofs.lemmas.List.{take-append-drop, take_all, map-append}
-use Rattle.std.proofs.lemmas.List.Sums.{fold-append}
-use Rattle.edge_files.specs.declared.reasons.Reason.{Reason}
-use Rattle.events.specs.Names.{number_of, with_name, is_held, firsts}
+use Rattle.records.proofs.Common.{◌≡◌, List, ap, ℕ, length, ◌∙◌, [], ◌<◌, sym, None, Some, ◌++◌, ◌∷◌, true, Bool, Option, ◌+◌, false, cond, get_or, ◌≤◌, drop}
+use Rattle.records.proofs.Common.{take, Err, Ok, map-append, take_all, fold-append, unwrap_or, Reason, number_of, with_name, is_held, firsts, field, column}
+use Rattle.records.proofs.Common.{Row}
+use Rattle.std.specs.Prelude.{fold}
+use Rattle.std.proofs.lemmas.List.{take-append-drop}
 use Rattle.events.proofs.NameLists.{number_of-kept, firsts-push}
-use Rattle.records.specs.Rows.{Row}
-use Rattle.records.specs.Fields.{field, column}
 use Rattle.records.specs.Faults.{unless}
 use Rattle.records.proofs.Columns.{map_more}
 use Rattle.rows.specs.declared.schedule.StopRow.{StopRow}

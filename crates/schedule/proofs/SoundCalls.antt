@@ -1,20 +1,17 @@
 -- Stop calls whose stop and offset are read are sound.
-use Rattle.std.proofs.Common.{◌≡◌, ℕ, ◌<◌, ◌≤◌, Bool, true, false, not, ◌&&◌, ◌||◌, List, [], ◌∷◌, length, map, Option, None, Some, refl, sym, ◌∙◌, ap, arith, cond}
-use Rattle.std.specs.Prelude.{is_some, nat_lt, nat_le, nat_eq, unwrap_or}
-use Rattle.std.specs.List.{list_all}
-use Rattle.std.proofs.lemmas.Bool.Decides.{nat_tests}
-use Rattle.limits.specs.declared.TheConstants.{LAST_SECOND, MAX_CALLS, MAX_ROUTES, MAX_ROUTE_LINKS}
-use Rattle.events.specs.Names.{number_of}
+use Rattle.records.proofs.Common.{◌≡◌, List, ap, ℕ, length, ◌∙◌, arith, map, [], ◌<◌, sym, None, Some, ◌∷◌, refl, true, Bool, Option, false, cond, ◌&&◌, ◌≤◌}
+use Rattle.records.proofs.Common.{not, ◌||◌, nat_tests, list_all, nat_eq, nat_lt, is_some, nat_le, unwrap_or, number_of, LAST_SECOND, MAX_ROUTE_LINKS}
+use Rattle.records.proofs.Common.{MAX_ROUTES, numbers_of, parts_of, are_digits, number_in, value_of}
+use Rattle.limits.specs.declared.TheConstants.{MAX_CALLS}
 use Rattle.events.specs.declared.lists.StopCall.{StopCall}
-use Rattle.records.specs.Lists.{parts_of, numbers_of}
-use Rattle.records.specs.Numbers.{number_in, are_digits, value_of}
 use Rattle.records.proofs.Numbering.{numbered_within}
 use Rattle.records.proofs.Sound.{numbers_known}
 use Rattle.rows.specs.declared.schedule.StopRow.{StopRow}
 use Rattle.schedule.specs.declared.calls.CallText.{CallText}
 use Rattle.schedule.specs.Routes.{is_way, is_too_much, is_unserved, are_drivable}
 use Rattle.rows.specs.Stops.{stop_link}
-use Rattle.schedule.specs.Calls.{part, text_of, call_text, call_of, is_sound_call}
+use Rattle.records.specs.Lists.{part}
+use Rattle.schedule.specs.Calls.{text_of, call_text, call_of, is_sound_call}
 
 -- a number of a range is at most its end
 in_range : (b : Bool) (n value high : ℕ) → cond b (Some value) None ≡ Some n → (b ≡ true → value ≤ high) → n ≤ high

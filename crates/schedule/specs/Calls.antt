@@ -3,15 +3,11 @@ use Rattle.std.specs.Prelude.{ℕ, Bool, true, false, ◌&&◌, ◌||◌, nat_le
 use Rattle.limits.specs.declared.TheConstants.{LAST_SECOND}
 use Rattle.events.specs.Names.{is_name, number_of}
 use Rattle.events.specs.declared.lists.StopCall.{StopCall}
-use Rattle.records.specs.Lists.{parts_of}
+use Rattle.records.specs.Lists.{part, parts_of}
 use Rattle.records.specs.Numbers.{number_in}
 use Rattle.rows.specs.declared.schedule.StopRow.{StopRow}
 use Rattle.rows.specs.Stops.{stop_link}
 use Rattle.schedule.specs.declared.calls.CallText.{CallText}
-
--- the part at a place between colons, or no bytes where there are not so many
-abbrev pub part : List (List ℕ) → ℕ → List ℕ
-part parts place = get_or parts place []
 
 -- two parts, or three of which the last is `wait`; the first is a name
 unfoldable pub is_call : List (List ℕ) → Bool

@@ -13,6 +13,7 @@ use Rattle.records.specs.Lists.{items_in, are_names, numbers_of}
 use Rattle.records.specs.Faults.{least}
 use Rattle.records.specs.Files.{optional_head_reason, body_of}
 use Rattle.records.specs.Reading.{file_fault}
+use Rattle.rows.specs.Joined.{is_joined}
 use Rattle.rows.specs.declared.schedule.StopRow.{StopRow}
 use Rattle.rows.specs.declared.schedule.RouteRow.{RouteRow}
 use Rattle.schedule.specs.declared.calls.CallText.{CallText}
@@ -22,23 +23,10 @@ use Rattle.schedule.specs.Calls.{call_text, call_of, are_served, is_sound_call}
 abbrev pub route_header : List (List ℕ)
 route_header = codes "line" ∷ codes "route" ∷ codes "links" ∷ codes "stops" ∷ []
 
--- the node where a link begins
-abbrev pub start_of : List (ℕ × ℕ) → ℕ → ℕ
-start_of ends link = (get_or ends link (0, 0)).0
-
--- the node where a link ends
-abbrev pub end_of : List (ℕ × ℕ) → ℕ → ℕ
-end_of ends link = (get_or ends link (0, 0)).1
-
--- the links go on from a node: each begins where the one before it ends
-unfoldable pub goes_on : List ℕ → List (ℕ × ℕ) → ℕ → Bool
-goes_on [] ends node = true
-goes_on (link ∷ links) ends node = nat_eq (start_of ends link) node && goes_on links ends (end_of ends link)
-
 -- there are links, and each but the first begins where the one before it ends
 abbrev pub is_way : List (ℕ × ℕ) → List ℕ → Bool
 is_way ends [] = false
-is_way ends (link ∷ links) = goes_on links ends (end_of ends link)
+is_way ends (link ∷ links) = is_joined ends (link ∷ links)
 
 -- the names in the field of links
 abbrev pub link_items : Row → List (List ℕ)

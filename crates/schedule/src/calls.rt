@@ -1,11 +1,10 @@
 ghost use Rattle.std.specs.Prelude.{◌≡◌, ◌≤◌, ◌<◌, nat_eq, map, length, position, IfOk, IfSome};
-ghost use Rattle.rows.specs.Stops.{stop_link};
-ghost use Rattle.schedule.specs.Calls.{part, is_call, text_of, call_text, call_of, are_served};
+ghost use Rattle.schedule.specs.Calls.{is_call, text_of, call_text, call_of, are_served};
 
 use events::{Calls, Names, StopCall, is_name};
 use limits::LAST_SECOND;
-use records::{is_text, number_in, parts_of};
-use rows::StopRow;
+use records::{is_text, number_in, part, parts_of};
+use rows::{StopRow, stop_link};
 use std::alloc::{AllocError, Global};
 
 /// What the text of a stop call says: whether it has the form of one, the number of its stop, its
@@ -16,15 +15,6 @@ pub struct CallText {
     pub stop: Option<u32>,
     pub offset: Option<u32>,
     pub wait: bool,
-}
-
-fn part<'a>(parts: &[&'a [u8]], place: usize) -> &'a [u8]
-    ensures { result.now ≡ part (map (λ p. p.now) parts.now) place }
-{
-    if place < parts.len() {
-        return parts[place];
-    }
-    &[]
 }
 
 #[tactic(auto, unfolding(crate::specs::Calls::is_call))]
@@ -75,16 +65,6 @@ pub fn call_texts(
         rest = after;
     }
     Ok(texts)
-}
-
-fn stop_link(rows: &[StopRow], stop: u32) -> u32
-    ensures { result ≡ stop_link rows.now stop }
-{
-    let place = stop as usize;
-    if place < rows.len() {
-        return rows[place].link;
-    }
-    0
 }
 
 #[tactic(auto, unfolding(crate::specs::Calls::call_of))]

@@ -7,7 +7,6 @@ mod lists;
 mod route_lists;
 mod routes;
 mod stops;
-mod ways;
 
 pub use departures::read_departures;
 pub use lists::{Departures, Routes, Stops};

@@ -7,12 +7,12 @@ ghost use Rattle.records.specs.Faults.{unless, Answers};
 ghost use Rattle.records.specs.Files.{body_of};
 ghost use Rattle.records.specs.Reading.{body_fault};
 ghost use Rattle.schedule.specs.Views.{route_lists};
-ghost use Rattle.schedule.specs.Routes.{has_bad_name, is_too_much, is_unserved, are_drivable, is_route, route_reason, route_of, lists_of, lines_of, routes_of, routes_fault};
+ghost use Rattle.schedule.specs.Routes.{has_bad_name, is_way, is_too_much, is_unserved, is_route, route_reason};
+ghost use Rattle.schedule.specs.Routes.{route_of, lists_of, lines_of, routes_of, routes_fault};
 
 use crate::calls::{CallText, are_served, call_texts, calls_of};
 use crate::lists::{Routes, Stops};
 use crate::route_lists::RouteLists;
-use crate::ways::is_way;
 use csv::ByteRecord;
 use edge_files::{Reason, RowStop};
 use events::{Calls, Names, Route, StopCall};
@@ -21,7 +21,7 @@ use records::{
     add_row, are_names, body, fault, field, holds_name, items_in, number, numbers_of,
     read_optional_file,
 };
-use rows::{RouteList, RouteRow};
+use rows::{RouteList, RouteRow, is_joined};
 use std::alloc::{AllocError, Global};
 
 fn are_calls(texts: &[CallText]) -> bool
@@ -43,10 +43,19 @@ fn have_stops(texts: &[CallText]) -> bool
 }
 
 fn has_bad_name(row: &ByteRecord, items: &[&[u8]], texts: &[CallText]) -> bool
-    requires { length (fields_of row.now) ≡ 4 }
     ensures { result ≡ has_bad_name (fields_of row.now) (map (λ item. item.now) items.now) texts.now }
 {
     !(holds_name(row, 0) && holds_name(row, 1) && are_names(items) && are_calls(texts))
+}
+
+/// Whether there are links, each of which but the first begins where the one before it ends.
+fn is_way(ends: &[(u32, u32)], links: &[u32]) -> bool
+    ensures { result ≡ is_way ends.now links.now }
+{
+    match links {
+        [_, ..] => is_joined(ends, links),
+        [] => false,
+    }
 }
 
 fn is_too_much(names: &Names, links: &[u32], calls: &[StopCall]) -> bool
@@ -71,14 +80,12 @@ fn route_in(
     names: &Names,
     row: &ByteRecord,
 ) -> Result<Result<RouteLists, Reason>, AllocError>
-    ensures lists { IfOk result (λ found. found ≡ unless (route_reason links.now ends.now stops.now.names stops.now.rows names.now (fields_of row.now))
+    ensures lists { IfOk result (λ found. found ≡ unless
+        (route_reason links.now ends.now stops.now.names stops.now.rows names.now (fields_of row.now))
         (lists_of links.now stops.now.names stops.now.rows (fields_of row.now))) }
-    ensures fields { IfOk result (λ found. OnOk found (length (fields_of row.now) ≡ 4)) }
     ensures line { IfOk result (λ found. OnOk found (holds_name (fields_of row.now) 0 ≡ true)) }
     ensures name { IfOk result (λ found. OnOk found (holds_name (fields_of row.now) 1 ≡ true)) }
     ensures fresh { IfOk result (λ found. OnOk found (number_of (field (fields_of row.now) 1) names.now ≡ None)) }
-    ensures room { IfOk result (λ found. OnOk found (length names.now < MAX_ROUTES)) }
-    ensures sound { IfOk result (λ found. IfOk found (λ lists. are_drivable (length links.now) ends.now stops.now.rows lists.links lists.calls ≡ true)) }
 {
     if row.len() != 4 {
         return Ok(Err(Reason::FieldCount));
@@ -126,13 +133,14 @@ fn read_body(
     stops: &Stops,
 ) -> Result<Routes, RowStop>
     requires { length rows.now < 2 ^ 30 }
-    ensures read { Answers route_lists result (body_fault None 1 (route_of links.now stops.now.names stops.now.rows (lines_of (map fields_of rows.now)))
+    ensures { Answers route_lists result
+        (body_fault None 1 (route_of links.now stops.now.names stops.now.rows (lines_of (map fields_of rows.now)))
         (λ names _. route_reason links.now ends.now stops.now.names stops.now.rows names)
-        (map fields_of rows.now))
-        (lines_of (map fields_of rows.now), column 1 (map fields_of rows.now), routes_of links.now stops.now.names stops.now.rows (map fields_of rows.now)) }
-    ensures few { IfOk result (λ r. length r.rows ≤ MAX_ROUTES) }
-    ensures sound { IfOk result (λ r. list_all (is_route (length r.lines)
-        (length links.now) ends.now stops.now.rows) r.rows ≡ true) }
+        (map fields_of rows.now)) (
+          lines_of (map fields_of rows.now),
+          column 1 (map fields_of rows.now),
+          routes_of links.now stops.now.names stops.now.rows (map fields_of rows.now),
+        ) }
 {
     let mut lines = Names::new(alloc);
     let mut names = Names::new(alloc);
@@ -171,8 +179,11 @@ pub fn read_routes(
     stops: &Stops,
 ) -> Result<Routes, RowStop>
     requires { length ends.now ≡ length links.now }
-    ensures read { Answers route_lists result (routes_fault links.now ends.now stops.now.names stops.now.rows bytes.now)
-        (lines_of (body_of bytes.now), column 1 (body_of bytes.now), routes_of links.now stops.now.names stops.now.rows (body_of bytes.now)) }
+    ensures read { Answers route_lists result (routes_fault links.now ends.now stops.now.names stops.now.rows bytes.now) (
+      lines_of (body_of bytes.now),
+      column 1 (body_of bytes.now),
+      routes_of links.now stops.now.names stops.now.rows (body_of bytes.now),
+    ) }
     ensures few { IfOk result (λ r. length r.rows ≤ MAX_ROUTES) }
     ensures sound { IfOk result (λ r. list_all (is_route (length r.lines)
         (length links.now) ends.now stops.now.rows) r.rows ≡ true) }

@@ -6,7 +6,8 @@ ghost use Rattle.scoring.specs.declared.tables.Tables.{Tables};
 ghost use Rattle.scoring.specs.Ranges.{IsWithin};
 ghost use Rattle.scoring.specs.Score.{score};
 ghost use Rattle.scoring.specs.Taken.{first_kind_of, MayFollow, IsTakenBy};
-ghost use Rattle.scoring.specs.Steps.{with_activity_ended, with_leg_begun, with_leg_ended, with_activity_begun, with_event, last_worth, is_next};
+ghost use Rattle.scoring.specs.Steps.{with_activity_ended, with_leg_begun, with_leg_ended, with_activity_begun, with_event, last_worth};
+ghost use Rattle.scoring.specs.Steps.{is_next};
 
 use crate::SCORING_DAY;
 use crate::table::TableList;

@@ -50,8 +50,9 @@ static PASSENGERS: [Case; 3] = [
         report: "iteration,0,262200,65536,0\ndone,0\n",
         ..LINE
     },
-    // 1,000 persons, as many as a bus may have seats, wait, enter, and leave it all together: seven events each. The bus starts, enters traffic, calls at two
-    // stops, changes links twice, and leaves traffic: eleven events.
+    // 1,000 persons, as many as a bus may have seats, wait, enter, and leave it all together: seven
+    // events each. The bus starts, enters traffic, calls at two stops, changes links twice, and leaves
+    // traffic: eleven events.
     Case {
         settings: &[(
             1,

@@ -1,9 +1,6 @@
 -- The chosen plans in the setup of a day.
-use Rattle.std.proofs.Common.{◌≡◌, ℕ, ◌<◌, ◌≤◌, [], length, map, get_or, sym, ◌∙◌, ap, arith}
-use Rattle.std.proofs.lemmas.List.{length-map, get_or-map, get_or_past}
-use Rattle.rows.specs.declared.plan.Plan.{Plan}
-use Rattle.rows.specs.PlanRows.{PlanRows, plan_rows}
-use Rattle.traffic.specs.Setup.{person_plan}
+use Rattle.traffic.proofs.Common.{◌≡◌, ℕ, ◌∙◌, length, ap, sym, [], arith, ◌<◌, ◌≤◌, get_or, length-map, get_or_past, get_or-map, map, PlanRows, plan_rows}
+use Rattle.traffic.proofs.Common.{Plan, person_plan}
 use Rattle.town.specs.declared.day_input.DayInput.{DayInput}
 use Rattle.town.specs.Setups.{setup_of}
 use Rattle.town.specs.Views.{setup}

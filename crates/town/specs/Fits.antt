@@ -8,11 +8,12 @@ use Rattle.rows.specs.declared.plan.Leg.TheVariants as leg
 use Rattle.rows.specs.declared.plan.Plan.{Plan}
 use Rattle.rows.specs.Plan.{is_known}
 use Rattle.rows.specs.PlanRows.{PlanRows, plan_rows}
-use Rattle.plans.specs.Refusals.{is_joined}
+use Rattle.rows.specs.Joined.{is_joined}
 use Rattle.rows.specs.declared.schedule.StopRow.{StopRow}
 use Rattle.rows.specs.declared.schedule.RouteRow.{RouteRow}
 use Rattle.rows.specs.Stops.{calls_at, stop_link}
-use Rattle.town.specs.Rows.{TownRows, ends_of}
+use Rattle.rows.specs.Joined.{ends_of}
+use Rattle.town.specs.Rows.{TownRows}
 
 -- a car route that does not begin on the link of the activity before it, or does not end on that of the one after it
 unfoldable pub has_wrong_ends : ℕ → ℕ → List ℕ → Bool
@@ -38,8 +39,8 @@ abbrev pub is_act_in : TownRows → Act → Bool
 is_act_in T act = is_known (length T.book.kinds) (length T.links) act
 
 -- a car route over links of the town, each of which begins where the one before it ends
-unfoldable pub is_drive : TownRows → List ℕ → Bool
-is_drive T route = list_all (λ l. nat_lt l (length T.links)) route && is_joined (ends_of T.links) route
+unfoldable pub is_car_leg : TownRows → List ℕ → Bool
+is_car_leg T route = list_all (λ l. nat_lt l (length T.links)) route && is_joined (ends_of T.links) route
 
 -- the line and the stops of a transit leg are in the town
 abbrev pub is_transit_leg : TownRows → ℕ → ℕ → ℕ → Bool
@@ -47,7 +48,7 @@ is_transit_leg T line access egress = nat_lt line (length T.book.lines) && nat_l
 
 -- a leg between activities on these two links fits: its numbers are in the town, and it goes from the one to the other
 unfoldable pub leg_fits : TownRows → ℕ → ℕ → Leg → Bool
-leg_fits T here there (leg.Car route) = not (nat_eq (length route) 0) && is_drive T route && not (has_wrong_ends here there route)
+leg_fits T here there (leg.Car route) = not (nat_eq (length route) 0) && is_car_leg T route && not (has_wrong_ends here there route)
 leg_fits T here there (leg.Teleport mode seconds) = true
 leg_fits T here there (leg.Transit line access egress) =
     is_transit_leg T line access egress && not (has_wrong_stops T.stops T.routes here there line access egress)

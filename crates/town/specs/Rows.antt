@@ -1,9 +1,10 @@
 -- A town as lists of rows.
-use Rattle.std.specs.Prelude.{◌≡◌, ℕ, ◌≤◌, true, List, length, map}
+use Rattle.std.specs.Prelude.{◌≡◌, ℕ, ◌≤◌, true, List, length}
 use Rattle.std.specs.List.{list_all}
 use Rattle.limits.specs.declared.TheConstants.{MAX_DEPARTURES, MAX_LINKS, MAX_PERSONS, MAX_ROUTES, MAX_STOPS}
 use Rattle.events.specs.declared.event.Book.{Book}
 use Rattle.network.specs.declared.lists.Network.{Network}
+use Rattle.rows.specs.Joined.{ends_of}
 use Rattle.rows.specs.declared.network.NodeRow.{NodeRow}
 use Rattle.rows.specs.declared.network.LinkRow.{LinkRow}
 use Rattle.network.specs.Limits.{is_link}
@@ -32,14 +33,6 @@ pub record TownRows : Type 0 where
   pub greens : List Phases
   -- the names of persons, links, kinds, stops, lines and departures
   pub book : Book
-
--- where a link begins and where it ends
-abbrev pub ends_of_link : LinkRow → ℕ × ℕ
-ends_of_link l = (l.from, l.to)
-
--- the same of all links
-unfoldable pub ends_of : List LinkRow → List (ℕ × ℕ)
-ends_of links = map ends_of_link links
 
 -- every row of a town names rows that are there, within the limits; there are at most 65,536 persons, and a signal for each link
 pub record IsTown (T : TownRows) : Type 0 where

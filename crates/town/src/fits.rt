@@ -1,7 +1,7 @@
 ghost use Rattle.std.specs.Prelude.{◌≡◌, ◌<◌, ◌≤◌, ◌+◌, length, drop, true, nat_lt};
 ghost use Rattle.std.specs.List.{list_any, list_all};
 ghost use Rattle.rows.specs.PlanRows.{plan_rows};
-ghost use Rattle.town.specs.Fits.{is_act_in, is_drive, is_transit_leg, leg_fits, first_link, legs_fit, fits};
+ghost use Rattle.town.specs.Fits.{is_act_in, is_car_leg, is_transit_leg, leg_fits, first_link, legs_fit, fits};
 ghost use Rattle.town.specs.Views.{rows_of};
 
 use crate::legs::{is_joined, wrong_ends, wrong_stops};
@@ -22,9 +22,9 @@ fn are_links(count: usize, route: &[u32]) -> bool
 }
 
 /// Whether the links of a route are in the town and joined.
-#[tactic(auto, unfolding(crate::specs::Fits::is_drive))]
-fn is_drive(town: &Town, route: &[u32]) -> bool
-    ensures { result ≡ is_drive (rows_of town.now) route.now }
+#[tactic(auto, unfolding(crate::specs::Fits::is_car_leg))]
+fn is_car_leg(town: &Town, route: &[u32]) -> bool
+    ensures { result ≡ is_car_leg (rows_of town.now) route.now }
 {
     are_links(town.network.links.len(), route) && is_joined(&town.network.links.rows, route)
 }
@@ -46,7 +46,7 @@ fn leg_fits(town: &Town, here: u32, there: u32, leg: &Leg) -> bool
     match leg {
         Leg::Car { route } => {
             !route.is_empty()
-                && is_drive(town, &route.rows)
+                && is_car_leg(town, &route.rows)
                 && !wrong_ends(here, there, &route.rows)
         }
         Leg::Teleport { .. } => true,

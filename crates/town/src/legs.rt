@@ -1,13 +1,14 @@
 ghost use Rattle.std.specs.Prelude.{◌≡◌, ◌<◌, length, get_or};
 ghost use Rattle.std.specs.List.{list_any};
-ghost use Rattle.plans.specs.Refusals.{is_joined};
+ghost use Rattle.rows.specs.Joined.{is_joined};
 ghost use Rattle.town.specs.Fits.{has_wrong_ends, are_joining, is_joining, has_wrong_stops};
-ghost use Rattle.town.specs.Rows.{ends_of};
+ghost use Rattle.rows.specs.Joined.{ends_of};
 
 use events::StopCall;
 use rows::{LinkRow, RouteRow, StopRow, calls_at};
 
-/// Whether a car route, which has a link, does not begin on the link of the activity before it, or does not end on that of the one after it.
+/// Whether a car route, which has a link, does not begin on the link of the activity before it, or
+/// does not end on that of the one after it.
 #[tactic(auto, unfolding(crate::specs::Fits::has_wrong_ends))]
 pub fn wrong_ends(here: u32, there: u32, route: &[u32]) -> bool
     requires { 0 < length route.now }
@@ -67,7 +68,7 @@ pub fn wrong_stops(
 }
 
 /// Where a link begins and where it ends.
-#[tactic(auto, unfolding(crate::specs::Rows::ends_of))]
+#[tactic(auto, unfolding(rows::specs::Joined::ends_of))]
 fn ends_of(links: &[LinkRow], link: u32) -> (u32, u32)
     ensures { result ≡ get_or (ends_of links.now) link (0, 0) }
 {
@@ -79,7 +80,7 @@ fn ends_of(links: &[LinkRow], link: u32) -> (u32, u32)
 }
 
 /// Whether each link of a route begins where the one before it ends.
-#[tactic(auto, unfolding(plans::specs::Refusals::is_joined))]
+#[tactic(auto, unfolding(rows::specs::Joined::is_joined))]
 pub fn is_joined(links: &[LinkRow], route: &[u32]) -> bool
     ensures { result ≡ is_joined (ends_of links.now) route.now }
 {

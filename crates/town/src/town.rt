@@ -7,9 +7,8 @@ use schedule::{Departures, Routes, Stops};
 
 /// A town: its settings, its network, its schedule and its signals, and the names of all that events tell of.
 ///
-/// Every number in it names a row that is there, each link has a signal, and all is within the limits: a day of
-/// 1 to 172,800 seconds, factors of 1 to 2,000 permille, a patience of 1 to 172,800 seconds, holes of 1 to
-/// 10,000 centimetres a second where they travel, dwell times of at most 3,600 seconds, and at most 65,536 persons.
+/// Every number in it names a row that is there, each link has a signal, and all is within the limits
+/// (`limits`): its settings, and at most `MAX_PERSONS` persons.
 #[derive(Drop)]
 pub struct Town {
     /// Where all random words begin.

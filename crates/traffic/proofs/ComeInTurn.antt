@@ -1,12 +1,8 @@
 -- Those who wait come in turn.
-use Rattle.std.proofs.Common.{◌≡◌, true, false, List, [], ◌∷◌, arith, inl, inr}
-use Rattle.std.specs.Prelude.{All, AllPairs, IsPermutation}
-use Rattle.std.proofs.lemmas.Bool.{cases_Bool}
-use Rattle.std.proofs.lemmas.Bool.Decides.{nat_tests}
-use Rattle.std.proofs.lemmas.List.Elements.{All-nil, All-cons, All-weaker}
+use Rattle.traffic.proofs.Common.{◌≡◌, List, [], ◌∷◌, arith, true, inl, inr, false, cases_Bool, nat_tests, All-nil, All-cons, All-weaker, IsPermutation-refl}
+use Rattle.traffic.proofs.Common.{IsPermutation-trans, AllPairs, IsPermutation, All, Waiter, comes_first, ComesBefore, in_turn, among}
 use Rattle.std.proofs.lemmas.List.Kept.{AllPairs-cons}
-use Rattle.std.proofs.lemmas.List.Sorted.{IsPermutation-refl, IsPermutation-sym, IsPermutation-trans, IsPermutation-cons, IsPermutation-middle, All-permutation}
-use Rattle.traffic.specs.Stops.{Waiter, comes_first, ComesBefore, among, in_turn}
+use Rattle.std.proofs.lemmas.List.Sorted.{IsPermutation-sym, IsPermutation-cons, IsPermutation-middle, All-permutation}
 
 -- THE SAME PERSONS
 among-same : (w : Waiter) (ws : List Waiter) → IsPermutation (w ∷ ws) (among w ws)

@@ -1,12 +1,9 @@
 -- What holds of each element of a list, and of each person who waits.
-use Rattle.std.proofs.Common.{◌≡◌, ℕ, zero, suc, ◌+◌, ◌<◌, ◌≤◌, Bool, true, false, List, [], ◌∷◌, ◌++◌, get_or, take, arith, inl, inr}
-use Rattle.std.specs.Prelude.{filter, map, if◌then◌else◌}
-use Rattle.std.specs.List.{AllByRecursion as Each, flat_map}
-use Rattle.std.proofs.lemmas.Bool.{cases_Bool}
+use Rattle.traffic.proofs.Common.{◌≡◌, ℕ, List, [], ◌∷◌, arith, ◌<◌, true, ◌++◌, ◌+◌, Bool, inl, inr, ◌≤◌, false, suc, zero, get_or, take, cases_Bool}
+use Rattle.traffic.proofs.Common.{flat_map, map, filter, if◌then◌else◌, numbers, without_at, without, with_first, comes_first, boarding, left_behind, in_turn}
+use Rattle.traffic.proofs.Common.{may_board, among, VehicleState}
 use Rattle.traffic.specs.declared.world.Waiter.{Waiter}
-use Rattle.traffic.specs.Lists.{without, without_at, with_first, numbers}
-use Rattle.traffic.specs.Vehicles.{VehicleState}
-use Rattle.traffic.specs.Stops.{may_board, comes_first, among, in_turn, boarding, left_behind}
+use Rattle.std.specs.List.{AllByRecursion as Each}
 
 pub each_all : {X : Type 0} (P : X → Type 0) → ((x : X) → P x) → (xs : List X) → Each P xs
 each_all P f [] = tt

@@ -1,30 +1,22 @@
 -- In a link's turn those who wait there are, in the world of each move, the ones whom the services before it left behind.
-use Rattle.std.proofs.Common.{◌≡◌, ℕ, zero, suc, ◌+◌, ◌<◌, ◌≤◌, ◌≢◌, Bool, true, false, List, [], ◌∷◌, ◌++◌, length, refl, ap, sym, ◌∙◌, append_assoc, eqb, arith, inl, inr}
-use Rattle.std.specs.Prelude.{filter, map, not, if◌then◌else◌}
-use Rattle.std.specs.List.{AllByRecursion as Each, flat_map, list_any}
-use Rattle.std.proofs.lemmas.Bool.{cases_Bool, eqb-false, or_parts}
-use Rattle.std.proofs.lemmas.List.Elements.{filter-append}
-use Rattle.events.specs.declared.event.VehicleId.{VehicleId}
+use Rattle.traffic.proofs.Common.{◌≡◌, ℕ, List, ◌∙◌, length, ap, refl, sym, [], ◌∷◌, arith, ◌<◌, true, ◌++◌, ◌+◌, Bool, inl, inr, ◌≤◌, false, suc, eqb, zero}
+use Rattle.traffic.proofs.Common.{◌≢◌, append_assoc, cases_Bool, eqb-false, or_parts, filter-append, flat_map, list_any, map, filter, not, if◌then◌else◌}
+use Rattle.traffic.proofs.Common.{VehicleId, Act, Leg, Dwelling, below, numbers, Move, Transfer, done, told, person_after_all, person_after, told_of, waiter}
+use Rattle.traffic.proofs.Common.{waits_on, waiters, waits, Row, Place, Waiting, Riding, Person, World, person_of, Setup, act_after, leg_at, link_of_stop}
+use Rattle.traffic.proofs.Common.{Waiter, served_row, next_call, alighting, rider, served_vehicle, boarding, left_behind, is_person, Occurrence, enters}
+use Rattle.traffic.proofs.Common.{leaves, starts}
+use Rattle.std.specs.List.{AllByRecursion as Each}
 use Rattle.events.specs.declared.event.Word.TheVariants as word
 use Rattle.events.specs.declared.event.More.TheVariants as more
-use Rattle.traffic.specs.Rows.{Row, World, Place, Waiting, Riding, Person, person_of}
-use Rattle.rows.specs.declared.plan.Act.{Act}
-use Rattle.rows.specs.declared.plan.Leg.{Leg}
-use Rattle.rows.specs.declared.settings.Dwelling.{Dwelling}
 use Rattle.rows.specs.declared.plan.Leg.TheVariants as leg
-use Rattle.traffic.specs.Setup.{Setup, leg_at, act_after, link_of_stop}
-use Rattle.traffic.specs.Lists.{numbers, below}
-use Rattle.traffic.specs.Stops.{Waiter, next_call, alighting, boarding, is_person, left_behind, rider, served_vehicle, served_row}
-use Rattle.traffic.specs.Telling.{Said, of_vehicle, leaves, enters, starts}
-use Rattle.traffic.specs.Moves.{Move, Put, told, done, person_after, told_of, person_after_all}
-use Rattle.traffic.specs.Persons.{waits, waits_on, waiter, waiters}
+use Rattle.traffic.specs.Telling.{of_vehicle}
 use Rattle.traffic.proofs.Each.{each_if}
-pub use Rattle.traffic.proofs.LinkEach.{lane_of}
+pub use Rattle.traffic.proofs.LinkEach.{serving_stage}
 use Rattle.traffic.proofs.Sublists.{person-done}
 use Rattle.traffic.proofs.Waiting.{Calm, all_kept, boarded-are, serve_calm, run-length, waiters-kept}
 
 -- what is told, one list after the other
-pub after-append : (S : Setup) (t i : ℕ) (xs ys : List Said) (P : Person) → person_after_all S t i (xs ++ ys) P ≡ person_after_all S t i ys (person_after_all S t i xs P)
+pub after-append : (S : Setup) (t i : ℕ) (xs ys : List Occurrence) (P : Person) → person_after_all S t i (xs ++ ys) P ≡ person_after_all S t i ys (person_after_all S t i xs P)
 after-append S t i [] ys P = refl
 after-append S t i (x ∷ xs) ys P = after-append S t i xs ys (told_of S t i x x.person P)
 
@@ -76,10 +68,10 @@ each_line f g p m k (suc n) le h =
 
 -- the front of the queue or of the wait list is served at a stop
 abbrev pub serving : Bool → Dwelling → ℕ → ℕ → List Waiter → Row → Move
-serving s D t l ws r = Put l (lane_of s) 0 r (served_row D t l ws r.vehicle)
+serving s D t l ws r = Transfer l (serving_stage s) 0 r (served_row D t l ws r.vehicle)
 
 -- what is told of it before whoever boards enters
-abbrev first_told : Bool → ℕ → Row → List Said
+abbrev first_told : Bool → ℕ → Row → List Occurrence
 first_told s stop r =
     let v = r.vehicle in
     (if s then starts r else []) ++ of_vehicle word.VehicleArrivesAtFacility v.id r.link (more.Stop stop) ∷ flat_map (leaves v.id r.link) (alighting stop v.riders)
@@ -102,7 +94,7 @@ person_line S t l i s D ws r W lt =
     rw (person-done S t i m W lt) (elim (cases_Bool (is_among i (boarding v ws))) [
       | inl e ↦
           let place : N.place ≡ Riding v.id =
-          ap (λ (es : List Said). (person_after_all S t i es P).place) (told_is s D t l ws r) ∙ ap (λ (x : Person). x.place) (after-append S t i (first_told s (next_call v).stop r) _ P)
+          ap (λ (es : List Occurrence). (person_after_all S t i es P).place) (told_is s D t l ws r) ∙ ap (λ (x : Person). x.place) (after-append S t i (first_told s (next_call v).stop r) _ P)
           ∙ boards S t i v.id (boarding v ws) (person_after_all S t i (first_told s (next_call v).stop r) P) e in
           ap (waits_on S l i (leg_at S i N.element) (act_after S i N.element)) place ∙ sym (keeps_none p i (waiter S l i P) own (ap not e))
       | inr e ↦ all_kept S t l i (λ (j : ℕ). j ≢ i) (told m) P (λ q. absurd (q refl)) (serve_calm _ D t l s ws r (not_among i (boarding v ws) e)) ∙ sym (keeps_all p i (waiter S l i P) own (ap not e))

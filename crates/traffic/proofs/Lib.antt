@@ -15,3 +15,4 @@ pub mod Phases
 pub mod Order
 pub mod Idle
 pub mod ComeInTurn
+pub mod Common

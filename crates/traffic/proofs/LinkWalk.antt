@@ -1,43 +1,35 @@
 -- The walk over a link's turn: each of its moves, in the world in which it is made.
-use Rattle.std.proofs.Common.{◌≡◌, ℕ, ◌+◌, ◌-◌, Bool, true, false, List, [], ◌∷◌, ◌++◌, length, slice_get, refl, ap, sym, ◌∙◌, subst, append-nil, append_assoc, length-append, inl, inr}
-use Rattle.std.specs.Prelude.{filter, map, not, nat_le, nat_lt, Some}
-use Rattle.std.proofs.lemmas.Bool.{cases_Bool, eq-eqb}
-use Rattle.fixed_flow.specs.declared.TheConstants.{VEHICLE_COST}
-use Rattle.fixed_flow.specs.Flow.{raised}
+use Rattle.traffic.proofs.Common.{◌≡◌, ℕ, List, ◌∙◌, length, ap, refl, sym, [], ◌∷◌, true, ◌++◌, ◌+◌, Bool, inl, inr, subst, false, ◌-◌, append-nil}
+use Rattle.traffic.proofs.Common.{append_assoc, length-append, slice_get, cases_Bool, eq-eqb, map, filter, Some, not, nat_lt, nat_le, raised, VEHICLE_COST}
+use Rattle.traffic.proofs.Common.{link_turns, rules, link_state, waiting, buffered, is_last, may_pass, link_moves, leave_bay, from_queue, from_wait}
+use Rattle.traffic.proofs.Common.{wait_after, without_at, Credit, Move, Transfer, Remove, LeaveHole, run, done, at_after, waiters, Row, World, at, on, Setup}
+use Rattle.traffic.proofs.Common.{Waiter, served_row, calls_on, served_vehicle, left_behind}
 use Rattle.traffic.specs.declared.stage.Stage.TheVariants.{Queue, Wait, Bay}
-use Rattle.traffic.specs.Lists.{without_at}
-use Rattle.traffic.specs.Rows.{Row, World, on, at}
-use Rattle.traffic.specs.Setup.{Setup}
-use Rattle.traffic.specs.Stops.{Waiter, calls_on, left_behind, served_vehicle, served_row}
-use Rattle.traffic.specs.Moves.{Move, Put, Gone, Credit, Free, run, done, at_after}
-use Rattle.traffic.specs.Links.{lane, rules, waiting, leave_bay, is_last, buffered, may_pass, from_wait, from_queue, wait_after, link_moves}
-use Rattle.traffic.specs.Persons.{waiters}
-use Rattle.traffic.specs.Day.{link_plan}
 use Rattle.traffic.proofs.Sublists.{at-done}
 use Rattle.traffic.proofs.Waiting.{gone_calm, pass_calm}
-use Rattle.traffic.proofs.LeftBehind.{lane_of, serving, served_line, calm_line}
+use Rattle.traffic.proofs.LeftBehind.{serving_stage, serving, served_line, calm_line}
 use Rattle.traffic.proofs.Moments.{Along, along_append, along_if}
 
 -- What is said of each move of a link's turn in its world: a row whose second has come leaves the bay; the front of the queue or of the wait
 -- list is served at a stop, where these wait, or arrives at the end of its route, or passes into the buffer; the credit changes; and a place
 -- in the queue is left.
 pub record LinkCases (S : Setup) (t l : ℕ) (F : World → Move → Type 0) : Type 0 where
-  pub due : (k : ℕ) (r : Row) (W : World) → slice_get (at l Bay W) k ≡ Some r → nat_le r.second t ≡ true → F W (Put l Bay k r (waiting l r))
-  pub serve : (s : Bool) (ws : List Waiter) (r : Row) (xs : List Row) (W : World) → at l (lane_of s) W ≡ r ∷ xs → calls_on l r.vehicle ≡ true
-      → ws ≡ waiters S l W → F W (Put l (lane_of s) 0 r (served_row S.settings.dwell t l ws r.vehicle))
-  pub arrive : (s : Bool) (r : Row) (xs : List Row) (W : World) → at l (lane_of s) W ≡ r ∷ xs → calls_on l r.vehicle ≡ false
-      → is_last r.vehicle ≡ true → F W (Gone l (lane_of s) 0 r)
-  pub pass : (s : Bool) (b : ℕ) (r : Row) (xs : List Row) (W : World) → at l (lane_of s) W ≡ r ∷ xs → calls_on l r.vehicle ≡ false
-      → is_last r.vehicle ≡ false → F W (Put l (lane_of s) 0 r (buffered t l b r))
+  pub due : (k : ℕ) (r : Row) (W : World) → slice_get (at l Bay W) k ≡ Some r → nat_le r.second t ≡ true → F W (Transfer l Bay k r (waiting l r))
+  pub serve : (s : Bool) (ws : List Waiter) (r : Row) (xs : List Row) (W : World) → at l (serving_stage s) W ≡ r ∷ xs → calls_on l r.vehicle ≡ true
+      → ws ≡ waiters S l W → F W (Transfer l (serving_stage s) 0 r (served_row S.settings.dwell t l ws r.vehicle))
+  pub arrive : (s : Bool) (r : Row) (xs : List Row) (W : World) → at l (serving_stage s) W ≡ r ∷ xs → calls_on l r.vehicle ≡ false
+      → is_last r.vehicle ≡ true → F W (Remove l (serving_stage s) 0 r)
+  pub pass : (s : Bool) (b : ℕ) (r : Row) (xs : List Row) (W : World) → at l (serving_stage s) W ≡ r ∷ xs → calls_on l r.vehicle ≡ false
+      → is_last r.vehicle ≡ false → F W (Transfer l (serving_stage s) 0 r (buffered t l b r))
   pub pay : (credit : ℕ) (W : World) → F W (Credit l credit)
-  pub free : (W : World) → F W (Free l t)
+  pub free : (W : World) → F W (LeaveHole l t)
 
 -- a row at the front goes elsewhere, or for good
-front_put : (l : ℕ) (s : Bool) (r now : Row) (xs ys : List Row) → on l Queue now ≡ false → on l Wait now ≡ false → (at_after l (lane_of s) (Put l (lane_of s) 0 r now) (r ∷ xs) ≡ xs) × (at_after l (lane_of (not s)) (Put l (lane_of s) 0 r now) ys ≡ ys)
+front_put : (l : ℕ) (s : Bool) (r now : Row) (xs ys : List Row) → on l Queue now ≡ false → on l Wait now ≡ false → (at_after l (serving_stage s) (Transfer l (serving_stage s) 0 r now) (r ∷ xs) ≡ xs) × (at_after l (serving_stage (not s)) (Transfer l (serving_stage s) 0 r now) ys ≡ ys)
 front_put l false r now xs ys f g = let q = eq-eqb l l refl in (simp (q, f) (append-nil xs), rw g (append-nil ys))
 front_put l true r now xs ys f g = let q = eq-eqb l l refl in (simp (q, g) (append-nil xs), rw f (append-nil ys))
 
-front_gone : (l : ℕ) (s : Bool) (r : Row) (xs ys : List Row) → (at_after l (lane_of s) (Gone l (lane_of s) 0 r) (r ∷ xs) ≡ xs) × (at_after l (lane_of (not s)) (Gone l (lane_of s) 0 r) ys ≡ ys)
+front_gone : (l : ℕ) (s : Bool) (r : Row) (xs ys : List Row) → (at_after l (serving_stage s) (Remove l (serving_stage s) 0 r) (r ∷ xs) ≡ xs) × (at_after l (serving_stage (not s)) (Remove l (serving_stage s) 0 r) ys ≡ ys)
 front_gone l false r xs ys = let q = eq-eqb l l refl in (simp q, refl)
 front_gone l true r xs ys = let q = eq-eqb l l refl in (simp q, refl)
 
@@ -52,8 +44,8 @@ without_after (x ∷ xs) ys r = ap (λ zs. x ∷ zs) (without_after xs ys r)
 
 -- in the midst of a link's turn these rows are left in the one list and in the other, and these wait
 record IsMidst (S : Setup) (l : ℕ) (s : Bool) (ws : List Waiter) (xs ys : List Row) (W : World) : Type 0 where
-  front : at l (lane_of s) W ≡ xs
-  behind : at l (lane_of (not s)) W ≡ ys
+  front : at l (serving_stage s) W ≡ xs
+  behind : at l (serving_stage (not s)) W ≡ ys
   line : ws ≡ waiters S l W
 
 swapped : (S : Setup) (l : ℕ) (ws : List Waiter) (xs ys : List Row) (W : World) → IsMidst S l false ws xs ys W → IsMidst S l true ws ys xs W
@@ -61,27 +53,27 @@ swapped S l ws xs ys W h = record { front = h.behind; behind = h.front; line = h
 
 module _ (S : Setup) (t l : ℕ) (F : World → Move → Type 0) (cases : LinkCases S t l F) where
   -- one move
-  moved : (s : Bool) (ws left : List Waiter) (m : Move) (xs ys zs : List Row) (W : World) → (at_after l (lane_of s) m xs ≡ zs) × (at_after l (lane_of (not s)) m ys ≡ ys) → left ≡ waiters S l (done S t m W) → IsMidst S l s ws xs ys W → IsMidst S l s left zs ys (done S t m W)
+  moved : (s : Bool) (ws left : List Waiter) (m : Move) (xs ys zs : List Row) (W : World) → (at_after l (serving_stage s) m xs ≡ zs) × (at_after l (serving_stage (not s)) m ys ≡ ys) → left ≡ waiters S l (done S t m W) → IsMidst S l s ws xs ys W → IsMidst S l s left zs ys (done S t m W)
   moved s ws left m xs ys zs W p e h =
-      record { front = at-done S t l (lane_of s) m W ∙ ap (at_after l (lane_of s) m) h.front ∙ p.0; behind = at-done S t l (lane_of (not s)) m W ∙ ap (at_after l (lane_of (not s)) m) h.behind ∙ p.1; line = e }
+      record { front = at-done S t l (serving_stage s) m W ∙ ap (at_after l (serving_stage s) m) h.front ∙ p.0; behind = at-done S t l (serving_stage (not s)) m W ∙ ap (at_after l (serving_stage (not s)) m) h.behind ∙ p.1; line = e }
 
   served : (s : Bool) (ws : List Waiter) (r : Row) (xs ys : List Row) (W : World) → IsMidst S l s ws (r ∷ xs) ys W → IsMidst S l s (left_behind r.vehicle ws) xs ys (done S t (serving s S.settings.dwell t l ws r) W)
   unfolding served_vehicle
   served s ws r xs ys W h = moved s ws _ (serving s S.settings.dwell t l ws r) (r ∷ xs) ys xs W (front_put l s r (served_row S.settings.dwell t l ws r.vehicle) xs ys refl refl) (served_line S t l s S.settings.dwell r ws W h.line) h
 
-  arrived : (s : Bool) (ws : List Waiter) (r : Row) (xs ys : List Row) (W : World) → IsMidst S l s ws (r ∷ xs) ys W → IsMidst S l s ws xs ys (done S t (Gone l (lane_of s) 0 r) W)
-  arrived s ws r xs ys W h = let m = Gone l (lane_of s) 0 r in moved s ws ws m (r ∷ xs) ys xs W (front_gone l s r xs ys) (calm_line S t l m ws W (λ Q. gone_calm Q l s r) h.line) h
+  arrived : (s : Bool) (ws : List Waiter) (r : Row) (xs ys : List Row) (W : World) → IsMidst S l s ws (r ∷ xs) ys W → IsMidst S l s ws xs ys (done S t (Remove l (serving_stage s) 0 r) W)
+  arrived s ws r xs ys W h = let m = Remove l (serving_stage s) 0 r in moved s ws ws m (r ∷ xs) ys xs W (front_gone l s r xs ys) (calm_line S t l m ws W (λ Q. gone_calm Q l s r) h.line) h
 
-  passed : (s : Bool) (ws : List Waiter) (b : ℕ) (r : Row) (xs ys : List Row) (W : World) → IsMidst S l s ws (r ∷ xs) ys W → IsMidst S l s ws xs ys (done S t (Put l (lane_of s) 0 r (buffered t l b r)) W)
+  passed : (s : Bool) (ws : List Waiter) (b : ℕ) (r : Row) (xs ys : List Row) (W : World) → IsMidst S l s ws (r ∷ xs) ys W → IsMidst S l s ws xs ys (done S t (Transfer l (serving_stage s) 0 r (buffered t l b r)) W)
   passed s ws b r xs ys W h =
       let now = buffered t l b r in
-      let m = Put l (lane_of s) 0 r now in moved s ws ws m (r ∷ xs) ys xs W (front_put l s r now xs ys refl refl) (calm_line S t l m ws W (λ Q. pass_calm Q t l b s r) h.line) h
+      let m = Transfer l (serving_stage s) 0 r now in moved s ws ws m (r ∷ xs) ys xs W (front_put l s r now xs ys refl refl) (calm_line S t l m ws W (λ Q. pass_calm Q t l b s r) h.line) h
 
   paid : (s : Bool) (ws : List Waiter) (c : ℕ) (xs ys : List Row) (W : World) → IsMidst S l s ws xs ys W → IsMidst S l s ws xs ys (done S t (Credit l c) W)
   paid s ws c xs ys W h = record { front = h.front; behind = h.behind; line = calm_line S t l (Credit l c) ws W (λ Q. tt) h.line }
 
-  freed : (s : Bool) (ws : List Waiter) (xs ys : List Row) (W : World) → IsMidst S l s ws xs ys W → IsMidst S l s ws xs ys (done S t (Free l t) W)
-  freed s ws xs ys W h = record { front = h.front; behind = h.behind; line = calm_line S t l (Free l t) ws W (λ Q. tt) h.line }
+  freed : (s : Bool) (ws : List Waiter) (xs ys : List Row) (W : World) → IsMidst S l s ws xs ys W → IsMidst S l s ws xs ys (done S t (LeaveHole l t) W)
+  freed s ws xs ys W h = record { front = h.front; behind = h.behind; line = calm_line S t l (LeaveHole l t) ws W (λ Q. tt) h.line }
 
   -- THE STEPS OF THE TURN
   wait_walk : (ws : List Waiter) (b c : ℕ) (xs ys : List Row) (W : World) → IsMidst S l true ws xs ys W → Along F S t (from_wait (rules S l) t l ws b c xs) W
@@ -113,7 +105,7 @@ module _ (S : Setup) (t l : ℕ) (F : World → Move → Type 0) (cases : LinkCa
   unfolding leave_bay
   bay_walk ws [] wait queue front W e h = (tt, rw (append-nil wait) h)
   bay_walk ws (r ∷ rs) wait queue front W e h =
-      let m = Put l Bay (length front) r (waiting l r) in
+      let m = Transfer l Bay (length front) r (waiting l r) in
       let q = eq-eqb l l refl in
       let due : Row → Bool = λ x. nat_le x.second t in
       elim (cases_Bool (nat_le r.second t)) [
@@ -129,10 +121,10 @@ module _ (S : Setup) (t l : ℕ) (F : World → Move → Type 0) (cases : LinkCa
       ]
 
   -- each move of a link's turn is such in the world in which it is made
-  pub link_walk : (W : World) → Along F S t (link_plan S t l W) W
+  pub link_walk : (W : World) → Along F S t (link_turns S t l W) W
   unfolding link_moves
   link_walk W =
-      let L = lane l W in
+      let L = link_state l W in
       let ws = waiters S l W in
       let c = raised (rules S l).gain L.credit in
       let y = bay_walk ws L.bay L.wait L.queue [] W refl (record { front = refl; behind = refl; line = refl }) in

@@ -1,15 +1,8 @@
 -- A link's turn leaves all other links as they were, and depends on its own lists and credit, and on those who wait at its stops.
-use Rattle.std.proofs.Common.{◌≡◌, ℕ, ◌≢◌, false, List, [], ◌∷◌, refl, ◌∙◌, arith}
-use Rattle.std.proofs.lemmas.List.{get_or-set_other}
-use Rattle.std.proofs.lemmas.Bool.Decides.{nat_tests}
+use Rattle.traffic.proofs.Common.{◌≡◌, ℕ, List, ◌∙◌, refl, [], ◌∷◌, arith, false, ◌≢◌, nat_tests, get_or-set_other, link_turns, Untouched, AreAt, IsAt}
+use Rattle.traffic.proofs.Common.{link_state, Credit, Move, Transfer, Remove, Enter, SetFrontSince, run, done, touches, World, credit_of, Setup}
 use Rattle.traffic.specs.declared.stage.Stage.{Stage}
 use Rattle.traffic.specs.declared.stage.Stage.TheVariants.{Queue, Buffer, Wait, Bay}
-use Rattle.traffic.specs.Rows.{World, credit_of}
-use Rattle.traffic.specs.Setup.{Setup}
-use Rattle.traffic.specs.Moves.{Move, Put, Gone, New, Mark, Credit, run, done, touches}
-use Rattle.traffic.specs.Links.{lane}
-use Rattle.traffic.specs.Day.{link_plan}
-use Rattle.traffic.specs.Frames.{Untouched, IsAt, AreAt}
 use Rattle.traffic.proofs.Moments.{Along}
 use Rattle.traffic.proofs.LinkWalk.{LinkCases, link_walk}
 use Rattle.traffic.proofs.Sublists.{at-run_untouched}
@@ -30,14 +23,14 @@ at_along S t l [] W h = tt
 at_along S t l (m ∷ ms) W h = (h.0, at_along S t l ms (done S t m W) h.1)
 
 -- all that a link's turn changes of vehicles is at that link
-pub link-at : (S : Setup) (t l : ℕ) (W : World) → AreAt l (link_plan S t l W)
-link-at S t l W = at_along S t l (link_plan S t l W) W (link_walk S t l _ (link_cases S t l) W)
+pub link-at : (S : Setup) (t l : ℕ) (W : World) → AreAt l (link_turns S t l W)
+link-at S t l W = at_along S t l (link_turns S t l W) W (link_walk S t l _ (link_cases S t l) W)
 
 untouched_move : (l a : ℕ) (s : Stage) (m : Move) → a ≢ l → IsAt l m → touches a s m ≡ false
-untouched_move l a s (Put b z k was now) ne h = let e0 = h.0 in let e1 = h.1 in grind (arith, nat_tests)
-untouched_move l a s (Gone b z k was) ne h = grind (arith, nat_tests)
-untouched_move l a s (New now) ne h = grind (arith, nat_tests)
-untouched_move l a s (Mark b t) ne h = grind (arith, nat_tests)
+untouched_move l a s (Transfer b z k was now) ne h = let e0 = h.0 in let e1 = h.1 in grind (arith, nat_tests)
+untouched_move l a s (Remove b z k was) ne h = grind (arith, nat_tests)
+untouched_move l a s (Enter now) ne h = grind (arith, nat_tests)
+untouched_move l a s (SetFrontSince b t) ne h = grind (arith, nat_tests)
 untouched_move l a s _ ne h = refl
 
 pub untouched_all : (l a : ℕ) (s : Stage) (ms : List Move) → a ≢ l → AreAt l ms → Untouched a s ms
@@ -52,9 +45,9 @@ pub credit_kept_all : (S : Setup) (t l a : ℕ) (ms : List Move) (W : World) →
 credit_kept_all S t l a [] W ne h = refl
 credit_kept_all S t l a (m ∷ ms) W ne h = credit_kept_all S t l a ms (done S t m W) ne h.1 ∙ credit_kept S t l a m W ne h.0
 
--- moves at link l leave the lane of every other link as it was
-pub lane-other : (S : Setup) (t l a : ℕ) (ms : List Move) (W : World) → a ≢ l → AreAt l ms → lane a (run S t ms W) ≡ lane a W
-lane-other S t l a ms W ne h =
+-- moves at link l leave the lists of every other link as it was
+pub link_state-other : (S : Setup) (t l a : ℕ) (ms : List Move) (W : World) → a ≢ l → AreAt l ms → link_state a (run S t ms W) ≡ link_state a W
+link_state-other S t l a ms W ne h =
     let q = at-run_untouched S t a Queue ms W (untouched_all l a Queue ms ne h) in
     let b = at-run_untouched S t a Buffer ms W (untouched_all l a Buffer ms ne h) in
     let w = at-run_untouched S t a Wait ms W (untouched_all l a Wait ms ne h) in

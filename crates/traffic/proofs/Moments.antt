@@ -1,10 +1,6 @@
 -- What holds of each move in the world in which it is made.
-use Rattle.std.proofs.Common.{◌≡◌, ℕ, Bool, true, false, List, [], ◌∷◌, ◌++◌, refl, subst}
-use Rattle.std.specs.Prelude.{if◌then◌else◌}
+use Rattle.traffic.proofs.Common.{◌≡◌, ℕ, List, refl, [], ◌∷◌, true, ◌++◌, Bool, subst, false, if◌then◌else◌, Move, run, done, World, Setup}
 use Rattle.std.specs.List.{AllByRecursion as Each}
-use Rattle.traffic.specs.Rows.{World}
-use Rattle.traffic.specs.Setup.{Setup}
-use Rattle.traffic.specs.Moves.{Move, done, run}
 
 -- each move is such in the world that those before it left
 abbrev pub Along : (World → Move → Type 0) → Setup → ℕ → List Move → World → Type 0

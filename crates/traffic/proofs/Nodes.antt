@@ -1,18 +1,11 @@
 -- A node's turn changes no list that the node does not see, and depends on those alone.
-use Rattle.std.proofs.Common.{◌≡◌, ℕ, ◌≢◌, true, false, List, [], ◌∷◌, length, refl, ap, sym, ◌∙◌, eqb, arith, inl, inr}
-use Rattle.std.specs.Prelude.{filter, map, ◌&&◌, ◌||◌, Option, Some}
-use Rattle.std.proofs.lemmas.Bool.{cases_Bool, and_parts}
-use Rattle.std.proofs.lemmas.Bool.Decides.{nat_tests}
-use Rattle.std.proofs.Math.Path.{fun_ext}
+use Rattle.traffic.proofs.Common.{◌≡◌, ℕ, List, ◌∙◌, length, ap, refl, sym, [], ◌∷◌, arith, true, inl, inr, false, eqb, ◌≢◌, fun_ext, cases_Bool, and_parts}
+use Rattle.traffic.proofs.Common.{nat_tests, map, filter, Some, Option, ◌&&◌, ◌||◌, node_turns, IsFromBuffer, AreFromBuffers, sees, Untouched, Apart, below}
+use Rattle.traffic.proofs.Common.{Credit, Move, LeaveHole, run, done, touches, same, hole_after_all, hole_after, NodeView, OutLink, is_out_link, next_link}
+use Rattle.traffic.proofs.Common.{in_link, has_room, in_force, node_view, out_link, node_moves, is_stuck, World, at, rank, holes_at, credit_of, Setup}
+use Rattle.traffic.proofs.Common.{link_row, hole_of, seconds_of, storage_of, into}
 use Rattle.traffic.specs.declared.stage.Stage.{Stage}
 use Rattle.traffic.specs.declared.stage.Stage.TheVariants.{Queue, Buffer, Wait, Bay}
-use Rattle.traffic.specs.Lists.{below}
-use Rattle.traffic.specs.Rows.{rank, World, at, holes_at, credit_of}
-use Rattle.traffic.specs.Setup.{Setup, link_row, hole_of, storage_of, seconds_of, into}
-use Rattle.traffic.specs.Moves.{Move, Credit, Free, run, done, same, touches, hole_after, hole_after_all}
-use Rattle.traffic.specs.Nodes.{Exit, Sight, in_force, entry, exit, sight, next_link, is_exit, has_room, is_stuck, node_moves}
-use Rattle.traffic.specs.Day.{node_plan}
-use Rattle.traffic.specs.Frames.{Untouched, IsFromBuffer, AreFromBuffers, sees, Apart}
 use Rattle.traffic.proofs.Moments.{Along}
 use Rattle.traffic.proofs.NodeWalk.{NodeCases, node_walk}
 use Rattle.traffic.proofs.Sublists.{at-run_untouched, holes-run}
@@ -22,13 +15,13 @@ buffers_along : (S : Setup) (t : ℕ) (ms : List Move) (W : World) → Along (λ
 buffers_along S t [] W h = tt
 buffers_along S t (m ∷ ms) W h = (h.0, buffers_along S t ms (done S t m W) h.1)
 
-pub node-buffers : (S : Setup) (t n : ℕ) (W : World) → AreFromBuffers (node_plan S t n W)
+pub node-buffers : (S : Setup) (t n : ℕ) (W : World) → AreFromBuffers (node_turns S t n W)
 node-buffers S t n W =
-    buffers_along S t (node_plan S t n W) W
+    buffers_along S t (node_turns S t n W) W
     (node_walk S t n (λ V m. IsFromBuffer m) (record { enter = λ a e r xs V f q c. refl; abort = λ a r xs V f c. refl; mark = λ a V c. tt }) W)
 
 buffer_hole : (l : ℕ) (m : Move) (hs : List ℕ) → IsFromBuffer m → hole_after l m hs ≡ hs
-buffer_hole l (Free a t) hs h = absurd h
+buffer_hole l (LeaveHole a t) hs h = absurd h
 buffer_hole l _ hs h = refl
 
 pub buffers-holes : (l : ℕ) (ms : List Move) (hs : List ℕ) → AreFromBuffers ms → hole_after_all l ms hs ≡ hs
@@ -58,15 +51,15 @@ into_seen S n l m Wait un h = grind arith
 into_seen S n l m Bay un h = grind arith
 
 -- a front enters the queue of a link out of the node
-pub out_of : (S : Setup) (t n m : ℕ) (W : World) (e : Option Exit) → e ≡ exit S t n W m → is_exit e ≡ true → eqb (link_row S m).from n ≡ true
-out_of S t n m W e q c = elim (cases_Bool (eqb (link_row S m).from n)) [ inl f ↦ f | inr f ↦ let g = simp f at (ap is_exit (sym q) ∙ c) in cc ]
+pub out_of : (S : Setup) (t n m : ℕ) (W : World) (e : Option OutLink) → e ≡ out_link S t n W m → is_out_link e ≡ true → eqb (link_row S m).from n ≡ true
+out_of S t n m W e q c = elim (cases_Bool (eqb (link_row S m).from n)) [ inl f ↦ f | inr f ↦ let g = simp f at (ap is_out_link (sym q) ∙ c) in cc ]
 
 node_cases : (S : Setup) (t n l : ℕ) (s : Stage) → sees S n l s ≡ false → NodeCases S t n (λ W m. touches l s m ≡ false)
 node_cases S t n l s un =
     record {
       enter = λ a e r xs W f q c. (
           let here = from_seen S n l a s un f.into in
-          let there = into_seen S n l (next_link r.vehicle) s un (out_of S t n (next_link r.vehicle) W e q (and_parts (is_exit e) (has_room e || (S.settings.stuck.push && is_stuck S.settings.stuck t r.second)) c).0) in
+          let there = into_seen S n l (next_link r.vehicle) s un (out_of S t n (next_link r.vehicle) W e q (and_parts (is_out_link e) (has_room e || (S.settings.stuck.push && is_stuck S.settings.stuck t r.second)) c).0) in
           rw (here, there) refl
           );
       abort = λ a r xs W f c. from_seen S n l a s un f.into;
@@ -78,32 +71,32 @@ untouched_along S t l s [] W h = tt
 untouched_along S t l s (m ∷ ms) W h = (h.0, untouched_along S t l s ms (done S t m W) h.1)
 
 -- the turn of a node leaves each list that the node does not see as it was
-pub node_untouched : (S : Setup) (t n l : ℕ) (s : Stage) (W : World) → sees S n l s ≡ false → Untouched l s (node_plan S t n W)
-node_untouched S t n l s W un = untouched_along S t l s (node_plan S t n W) W (node_walk S t n _ (node_cases S t n l s un) W)
+pub node_untouched : (S : Setup) (t n l : ℕ) (s : Stage) (W : World) → sees S n l s ≡ false → Untouched l s (node_turns S t n W)
+node_untouched S t n l s W un = untouched_along S t l s (node_turns S t n W) W (node_walk S t n _ (node_cases S t n l s un) W)
 
-same_sight : (A B : Sight) → A.entries ≡ B.entries → A.exits ≡ B.exits → A ≡ B
-same_sight A B e f = λ i. record { entries = e i; exits = f i }
+same_node_view : (A B : NodeView) → A.in_links ≡ B.in_links → A.out_links ≡ B.out_links → A ≡ B
+same_node_view A B e f = λ i. record { in_links = e i; out_links = f i }
 
-entries_agree : (S : Setup) (t n : ℕ) (W U : World) → ((l : ℕ) → eqb (link_row S l).to n ≡ true → at l Buffer W ≡ at l Buffer U) → (ls : List ℕ) → map (entry S t W) (filter (λ l. eqb (link_row S l).to n) ls) ≡ map (entry S t U) (filter (λ l. eqb (link_row S l).to n) ls)
-entries_agree S t n W U h [] = refl
-entries_agree S t n W U h (l ∷ ls) =
+in_links_agree : (S : Setup) (t n : ℕ) (W U : World) → ((l : ℕ) → eqb (link_row S l).to n ≡ true → at l Buffer W ≡ at l Buffer U) → (ls : List ℕ) → map (in_link S t W) (filter (λ l. eqb (link_row S l).to n) ls) ≡ map (in_link S t U) (filter (λ l. eqb (link_row S l).to n) ls)
+in_links_agree S t n W U h [] = refl
+in_links_agree S t n W U h (l ∷ ls) =
     elim (cases_Bool (eqb (link_row S l).to n)) [
-      | inl q ↦ let e = h l q in let f = entries_agree S t n W U h ls in simp q (let g : entry S t W l ≡ entry S t U l = ap (λ rows. record { link = l; capacity = (link_row S l).capacity; green = S.green l t; rows = rows }) e in cc)
-      | inr q ↦ simp q (entries_agree S t n W U h ls)
+      | inl q ↦ let e = h l q in let f = in_links_agree S t n W U h ls in simp q (let g : in_link S t W l ≡ in_link S t U l = ap (λ rows. record { link = l; capacity = (link_row S l).capacity; green = S.green l t; rows = rows }) e in cc)
+      | inr q ↦ simp q (in_links_agree S t n W U h ls)
     ]
 
-exit_agree : (S : Setup) (t n : ℕ) (W U : World) → ((l : ℕ) → eqb (link_row S l).from n ≡ true → at l Queue W ≡ at l Queue U) → ((l : ℕ) → holes_at l W ≡ holes_at l U) → (m : ℕ) → exit S t n W m ≡ exit S t n U m
-exit_agree S t n W U h g m =
+out_link_agree : (S : Setup) (t n : ℕ) (W U : World) → ((l : ℕ) → eqb (link_row S l).from n ≡ true → at l Queue W ≡ at l Queue U) → ((l : ℕ) → holes_at l W ≡ holes_at l U) → (m : ℕ) → out_link S t n W m ≡ out_link S t n U m
+out_link_agree S t n W U h g m =
     elim (cases_Bool (eqb (link_row S m).from n)) [
       | inl q ↦ let a = ap length (h m q) in let b = ap (in_force t (hole_of S m)) (g m) in rw q (ap (λ taken. Some (record { taken = taken; storage = storage_of S m; seconds = seconds_of S m })) (omega arith))
       | inr q ↦ rw q refl
     ]
 
 -- what a node sees depends on these lists and on the holes alone
-pub sight_agree : (S : Setup) (t n : ℕ) (W U : World) → ((l : ℕ) (s : Stage) → sees S n l s ≡ true → at l s W ≡ at l s U) → ((l : ℕ) → holes_at l W ≡ holes_at l U) → sight S t n W ≡ sight S t n U
+pub node_view_agree : (S : Setup) (t n : ℕ) (W U : World) → ((l : ℕ) (s : Stage) → sees S n l s ≡ true → at l s W ≡ at l s U) → ((l : ℕ) → holes_at l W ≡ holes_at l U) → node_view S t n W ≡ node_view S t n U
 unfolding into
-sight_agree S t n W U h g =
-    same_sight (sight S t n W) (sight S t n U) (entries_agree S t n W U (λ l q. h l Buffer q) (below (length S.links))) (fun_ext (exit_agree S t n W U (λ l q. h l Queue q) g))
+node_view_agree S t n W U h g =
+    same_node_view (node_view S t n W) (node_view S t n U) (in_links_agree S t n W U (λ l q. h l Buffer q) (below (length S.links))) (fun_ext (out_link_agree S t n W U (λ l q. h l Queue q) g))
 
 -- two nodes see no list in common
 pub sees_apart : (S : Setup) (n m l : ℕ) (s : Stage) → n ≢ m → sees S n l s ≡ true → sees S m l s ≡ false
@@ -112,8 +105,8 @@ sees_apart S n m l Buffer ne h = grind (arith, nat_tests)
 sees_apart S n m l Wait ne h = grind arith
 sees_apart S n m l Bay ne h = grind arith
 
-pub nodes_apart : (S : Setup) (t : ℕ) → Apart S t (node_plan S t)
+pub nodes_apart : (S : Setup) (t : ℕ) → Apart S t (node_turns S t)
 nodes_apart S t n m W ne =
-    ap (node_moves S.settings.stuck t (S.word n)) (sight_agree S t n (run S t (node_plan S t m W) W) W
-    (λ l s h. at-run_untouched S t l s (node_plan S t m W) W (node_untouched S t m l s W (sees_apart S n m l s ne h)))
-    (λ l. holes-run S t l (node_plan S t m W) W ∙ buffers-holes l (node_plan S t m W) (holes_at l W) (node-buffers S t m W)))
+    ap (node_moves S.settings.stuck t (S.word n)) (node_view_agree S t n (run S t (node_turns S t m W) W) W
+    (λ l s h. at-run_untouched S t l s (node_turns S t m W) W (node_untouched S t m l s W (sees_apart S n m l s ne h)))
+    (λ l. holes-run S t l (node_turns S t m W) W ∙ buffers-holes l (node_turns S t m W) (holes_at l W) (node-buffers S t m W)))

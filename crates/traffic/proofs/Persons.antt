@@ -1,17 +1,9 @@
 -- The turn of a person changes his own row alone.
-use Rattle.std.proofs.Common.{◌≡◌, ℕ, ◌+◌, ◌≢◌, List, [], ◌∷◌, refl, ap, ◌∙◌, arith, get_or}
-use Rattle.std.specs.Prelude.{Option, None, Some}
-use Rattle.std.proofs.lemmas.List.{get_or-set_other}
-use Rattle.traffic.specs.Rows.{World, Person, person_of, nobody}
-use Rattle.rows.specs.declared.plan.Act.{Act}
-use Rattle.rows.specs.declared.plan.Leg.{Leg}
+use Rattle.traffic.proofs.Common.{◌≡◌, ℕ, List, ◌∙◌, ap, refl, [], ◌∷◌, arith, ◌+◌, get_or, ◌≢◌, get_or-set_other, Some, None, Option, Act, Leg}
+use Rattle.traffic.proofs.Common.{landing_turns, leaving_turns, departure_turns, IsOf, AreOf, Apart, Move, persons_by, run, done, told, persons_after}
+use Rattle.traffic.proofs.Common.{sets_out, landing_moves, leaving_moves, departure_moves, Person, World, person_of, nobody, Setup, act_after, leg_at}
+use Rattle.traffic.proofs.Common.{Occurrence}
 use Rattle.rows.specs.declared.plan.Leg.TheVariants as leg
-use Rattle.traffic.specs.Setup.{Setup, leg_at, act_after}
-use Rattle.traffic.specs.Telling.{Said}
-use Rattle.traffic.specs.Moves.{Move, told, done, run, persons_by, persons_after}
-use Rattle.traffic.specs.Persons.{landing_moves, sets_out, leaving_moves, departure_moves}
-use Rattle.traffic.specs.Day.{flight_plan, leave_plan, departure_plan}
-use Rattle.traffic.specs.Frames.{IsOf, AreOf, Apart}
 use Rattle.traffic.proofs.Walks.{flight_walk, leave_walk, departure_walk}
 
 -- all that these moves tell is of person i
@@ -19,11 +11,11 @@ abbrev pub TellOf : ℕ → List Move → Type 0
 TellOf i [] = Unit {0}
 TellOf i (m ∷ ms) = AreOf i (told m) × TellOf i ms
 
-other_by : (S : Setup) (t i j : ℕ) (e : Said) (o : Option ℕ) (ps : List Person) → j ≢ i → IsOf i o → get_or (persons_by S t e o ps) j nobody ≡ get_or ps j nobody
+other_by : (S : Setup) (t i j : ℕ) (e : Occurrence) (o : Option ℕ) (ps : List Person) → j ≢ i → IsOf i o → get_or (persons_by S t e o ps) j nobody ≡ get_or ps j nobody
 other_by S t i j e None ps ne h = refl
 other_by S t i j e (Some k) ps ne h = get_or-set_other ps k j _ nobody (λ q. ne (q ∙ h))
 
-other_after : (S : Setup) (t i j : ℕ) (es : List Said) (ps : List Person) → j ≢ i → AreOf i es → get_or (persons_after S t es ps) j nobody ≡ get_or ps j nobody
+other_after : (S : Setup) (t i j : ℕ) (es : List Occurrence) (ps : List Person) → j ≢ i → AreOf i es → get_or (persons_after S t es ps) j nobody ≡ get_or ps j nobody
 other_after S t i j [] ps ne h = refl
 other_after S t i j (e ∷ es) ps ne h = other_after S t i j es (persons_by S t e e.person ps) ne h.1 ∙ other_by S t i j e e.person ps ne h.0
 
@@ -43,15 +35,15 @@ sets_out-of S i (leg.Transit line access egress) next = ((refl, tt), tt)
 pub leaving_moves-of : (S : Setup) (t i : ℕ) (P : Person) → TellOf i (leaving_moves S t i P)
 leaving_moves-of S t i P = leave_walk (TellOf i) S t i P tt (λ e. ((refl, (refl, tt)), sets_out-of S i (leg_at S i P.element) (act_after S i P.element)))
 
-pub flights_apart : (S : Setup) (t : ℕ) → Apart S t (flight_plan S t)
-flights_apart S t n m W ne = ap (landing_moves S t n) (other_person S t m n (flight_plan S t m W) W ne (landing_moves-of S t m (person_of m W)))
+pub flights_apart : (S : Setup) (t : ℕ) → Apart S t (landing_turns S t)
+flights_apart S t n m W ne = ap (landing_moves S t n) (other_person S t m n (landing_turns S t m W) W ne (landing_moves-of S t m (person_of m W)))
 
-pub leaves_apart : (S : Setup) (t : ℕ) → Apart S t (leave_plan S t)
-leaves_apart S t n m W ne = ap (leaving_moves S t n) (other_person S t m n (leave_plan S t m W) W ne (leaving_moves-of S t m (person_of m W)))
+pub leaves_apart : (S : Setup) (t : ℕ) → Apart S t (leaving_turns S t)
+leaves_apart S t n m W ne = ap (leaving_moves S t n) (other_person S t m n (leaving_turns S t m W) W ne (leaving_moves-of S t m (person_of m W)))
 
-pub departures_apart : (S : Setup) (t : ℕ) → Apart S t (departure_plan S t)
+pub departures_apart : (S : Setup) (t : ℕ) → Apart S t (departure_turns S t)
 departures_apart S t n m W ne = refl
 
 -- the turn of a departure changes nobody's row
-pub departure_keeps : (S : Setup) (t d j : ℕ) (W : World) → person_of j (run S t (departure_plan S t d W) W) ≡ person_of j W
+pub departure_keeps : (S : Setup) (t d j : ℕ) (W : World) → person_of j (run S t (departure_turns S t d W) W) ≡ person_of j W
 departure_keeps S t d j W = other_person S t (j + 1) j (departure_moves S t d) W (λ e. omega arith) (departure_walk (TellOf (j + 1)) S t d tt (λ e. ((tt, tt), tt)))

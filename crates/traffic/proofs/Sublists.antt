@@ -1,19 +1,16 @@
 -- What a move does to each sublist of the rows, to each credit, to the holes of each link and to each person.
-use Rattle.std.proofs.Common.{◌≡◌, ℕ, zero, suc, ◌<◌, Bool, true, false, List, [], ◌∷◌, ◌++◌, length, slice_get, refl, ap, sym, ◌∙◌, subst, append-nil, eqb, arith, inl, inr, get_or}
-use Rattle.std.specs.Prelude.{All, filter, map, if◌then◌else◌, Option, None, Some}
-use Rattle.std.proofs.lemmas.Option.{slice_get_within, get_or_from_slice_get}
-use Rattle.std.proofs.lemmas.Bool.{cases_Bool, and_parts, eqb-true, eqb-false, or_parts}
-use Rattle.std.proofs.lemmas.Bool.Decides.{nat_tests}
-use Rattle.std.proofs.lemmas.List.Elements.{All-filter, filter-append, filter_agree, filter_passes}
-use Rattle.std.proofs.lemmas.List.{map-append, get_or-set_same, get_or-set_other, length-set}
+use Rattle.traffic.proofs.Common.{◌≡◌, ℕ, List, ◌∙◌, length, ap, refl, sym, [], ◌∷◌, arith, ◌<◌, true, ◌++◌, Bool, inl, inr, subst, false, suc, eqb, zero}
+use Rattle.traffic.proofs.Common.{get_or, append-nil, slice_get, cases_Bool, eqb-true, and_parts, eqb-false, or_parts, nat_tests, get_or-set_same, length-set}
+use Rattle.traffic.proofs.Common.{map-append, get_or-set_other, filter-append, All-filter, map, filter, Some, None, Option, if◌then◌else◌, All, Untouched}
+use Rattle.traffic.proofs.Common.{on_front, without_at, without, with_first, Credit, Move, Transfer, Remove, LeaveHole, Enter, SetFrontSince, persons_by, run}
+use Rattle.traffic.proofs.Common.{done, told, person_after_all, at_after_all, at_second, touches, credit_after_all, same, told_of, at_after, hole_after_all}
+use Rattle.traffic.proofs.Common.{credit_after, hole_after, persons_after, Row, Person, World, person_of, at, on, nobody, rank, holes_at, credit_of, Setup}
+use Rattle.traffic.proofs.Common.{Occurrence}
 use Rattle.traffic.specs.declared.stage.Stage.{Stage}
 use Rattle.traffic.specs.declared.stage.Stage.TheVariants.{Queue, Buffer, Wait, Bay}
-use Rattle.traffic.specs.Lists.{without, without_at, with_first, on_front}
-use Rattle.traffic.specs.Rows.{rank, Row, Hole, Person, World, on, at, holes_at, credit_of, person_of, nobody}
-use Rattle.traffic.specs.Setup.{Setup}
-use Rattle.traffic.specs.Telling.{Said}
-use Rattle.traffic.specs.Moves.{Move, Put, Gone, New, Mark, Credit, Free, at_second, told, done, run, same, at_after, at_after_all, touches, hole_after, hole_after_all, credit_after, credit_after_all, persons_by, persons_after, told_of, person_after_all}
-use Rattle.traffic.specs.Frames.{Untouched}
+use Rattle.std.proofs.lemmas.Option.{slice_get_within, get_or_from_slice_get}
+use Rattle.std.proofs.lemmas.List.Elements.{filter_agree, filter_passes}
+use Rattle.traffic.specs.Rows.{Hole}
 
 pub filter-without_same : {X : Type 0} (p : X → Bool) (k : ℕ) (xs : List X) → filter p (without p k xs) ≡ without_at k (filter p xs)
 filter-without_same p k [] = refl
@@ -90,10 +87,10 @@ marked l s a t xs =
 
 -- What a move does to a sublist of the rows depends on that sublist alone.
 pub at-done : (S : Setup) (t l : ℕ) (s : Stage) (m : Move) (W : World) → at l s (done S t m W) ≡ at_after l s m (at l s W)
-at-done S t l s (Put a z k was now) W = put l s now (without (on a z) k W.rows) ∙ ap (λ ys. ys ++ (if on l s now then now ∷ [] else [])) (cut l s a z k W.rows)
-at-done S t l s (Gone a z k was) W = cut l s a z k W.rows
-at-done S t l s (New now) W = put l s now W.rows
-at-done S t l s (Mark a u) W = marked l s a u W.rows
+at-done S t l s (Transfer a z k was now) W = put l s now (without (on a z) k W.rows) ∙ ap (λ ys. ys ++ (if on l s now then now ∷ [] else [])) (cut l s a z k W.rows)
+at-done S t l s (Remove a z k was) W = cut l s a z k W.rows
+at-done S t l s (Enter now) W = put l s now W.rows
+at-done S t l s (SetFrontSince a u) W = marked l s a u W.rows
 at-done S t l s _ W = refl
 
 -- the same for moves one after the other
@@ -103,10 +100,10 @@ at-run S t l s (m ∷ ms) W = at-run S t l s ms (done S t m W) ∙ ap (at_after_
 
 -- a move that does not touch a list leaves it as it was
 pub at_after-untouched : (l : ℕ) (s : Stage) (m : Move) (xs : List Row) → touches l s m ≡ false → at_after l s m xs ≡ xs
-at_after-untouched l s (Put a z k was now) xs e = let h = or_parts (same l s a z) (on l s now) e in rw (h.0, h.1) (append-nil xs)
-at_after-untouched l s (Gone a z k was) xs e = rw e refl
-at_after-untouched l s (New now) xs e = rw e (append-nil xs)
-at_after-untouched l s (Mark a t) xs e = rw e refl
+at_after-untouched l s (Transfer a z k was now) xs e = let h = or_parts (same l s a z) (on l s now) e in rw (h.0, h.1) (append-nil xs)
+at_after-untouched l s (Remove a z k was) xs e = rw e refl
+at_after-untouched l s (Enter now) xs e = rw e (append-nil xs)
+at_after-untouched l s (SetFrontSince a t) xs e = rw e refl
 at_after-untouched l s _ xs e = refl
 
 pub Untouched-append : (l : ℕ) (s : Stage) (xs ys : List Move) → Untouched l s xs → Untouched l s ys → Untouched l s (xs ++ ys)
@@ -131,7 +128,7 @@ at-run_untouched S t l s ms W h = at-run S t l s ms W ∙ at_after_all-untouched
 
 -- What a move does to the holes of a link depends on those alone.
 pub holes-done : (S : Setup) (t l : ℕ) (m : Move) (W : World) → holes_at l (done S t m W) ≡ hole_after l m (holes_at l W)
-holes-done S t l (Free a u) W =
+holes-done S t l (LeaveHole a u) W =
     let e = filter-append (λ (x : Hole). eqb x.link l) W.holes (record { link = a; second = u } ∷ []) in
     elim (cases_Bool (eqb a l)) [
       | inl f ↦ let g = simp f at e in simp f (ap (map (λ (x : Hole). x.second)) g ∙ map-append _ _ _)
@@ -165,15 +162,15 @@ credit-run S t l [] W h = refl
 credit-run S t l (m ∷ ms) W h = let e = credits-done S t m W in credit-run S t l ms (done S t m W) (omega arith) ∙ ap (credit_after_all l ms) (credit-done S t l m W h)
 
 -- What an event does to the row of a person depends on that alone.
-persons-length_by : (S : Setup) (t : ℕ) (e : Said) (o : Option ℕ) (ps : List Person) → length (persons_by S t e o ps) ≡ length ps
+persons-length_by : (S : Setup) (t : ℕ) (e : Occurrence) (o : Option ℕ) (ps : List Person) → length (persons_by S t e o ps) ≡ length ps
 persons-length_by S t e None ps = refl
 persons-length_by S t e (Some i) ps = length-set ps i _
 
-pub persons-length : (S : Setup) (t : ℕ) (es : List Said) (ps : List Person) → length (persons_after S t es ps) ≡ length ps
+pub persons-length : (S : Setup) (t : ℕ) (es : List Occurrence) (ps : List Person) → length (persons_after S t es ps) ≡ length ps
 persons-length S t [] ps = refl
 persons-length S t (e ∷ es) ps = persons-length S t es (persons_by S t e e.person ps) ∙ persons-length_by S t e e.person ps
 
-person_by : (S : Setup) (t i : ℕ) (e : Said) (o : Option ℕ) (ps : List Person) → i < length ps → get_or (persons_by S t e o ps) i nobody ≡ told_of S t i e o (get_or ps i nobody)
+person_by : (S : Setup) (t i : ℕ) (e : Occurrence) (o : Option ℕ) (ps : List Person) → i < length ps → get_or (persons_by S t e o ps) i nobody ≡ told_of S t i e o (get_or ps i nobody)
 person_by S t i e None ps h = refl
 person_by S t i e (Some j) ps h =
     elim (cases_Bool (eqb j i)) [
@@ -181,7 +178,7 @@ person_by S t i e (Some j) ps h =
       | inr f ↦ rw f (get_or-set_other ps j i _ nobody (λ q. eqb-false j i f (sym q)))
     ]
 
-pub person_after_all-is : (S : Setup) (t i : ℕ) (es : List Said) (ps : List Person) → i < length ps → get_or (persons_after S t es ps) i nobody ≡ person_after_all S t i es (get_or ps i nobody)
+pub person_after_all-is : (S : Setup) (t i : ℕ) (es : List Occurrence) (ps : List Person) → i < length ps → get_or (persons_after S t es ps) i nobody ≡ person_after_all S t i es (get_or ps i nobody)
 person_after_all-is S t i [] ps h = refl
 person_after_all-is S t i (e ∷ es) ps h =
     person_after_all-is S t i es (persons_by S t e e.person ps) (let q = persons-length_by S t e e.person ps in omega arith)

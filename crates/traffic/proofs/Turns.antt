@@ -1,15 +1,8 @@
 -- Where no turn changes what another one sees, all turns of a phase are those of the world at its start.
-use Rattle.std.proofs.Common.{◌≡◌, ℕ, zero, suc, ◌+◌, ◌<◌, ◌≤◌, ◌≢◌, Bool, false, List, [], ◌∷◌, ◌++◌, refl, ap, sym, ◌∙◌, append-nil, eqb, arith, inl, inr}
-use Rattle.std.specs.Prelude.{filter, map}
-use Rattle.std.specs.List.{flat_map}
-use Rattle.std.proofs.lemmas.Bool.{cases_Bool, ne_eqb, eqb-true, eqb-false}
+use Rattle.traffic.proofs.Common.{◌≡◌, ℕ, List, ◌∙◌, ap, refl, sym, [], ◌∷◌, arith, ◌<◌, ◌++◌, ◌+◌, Bool, inl, inr, ◌≤◌, false, suc, eqb, zero, ◌≢◌}
+use Rattle.traffic.proofs.Common.{append-nil, cases_Bool, eqb-true, eqb-false, ne_eqb, flat_map, map, filter, moves_of, after, turns, TurnMoves, Untouched}
+use Rattle.traffic.proofs.Common.{Apart, turn_of, below, numbers, Move, run, at_after_all, Row, World, at, Setup}
 use Rattle.traffic.specs.declared.stage.Stage.{Stage}
-use Rattle.traffic.specs.Lists.{numbers, below}
-use Rattle.traffic.specs.Rows.{Row, World, at}
-use Rattle.traffic.specs.Setup.{Setup}
-use Rattle.traffic.specs.Moves.{Move, run, at_after_all}
-use Rattle.traffic.specs.Day.{Plan, turns, moves_of, after}
-use Rattle.traffic.specs.Frames.{Untouched, Apart, turn_of}
 use Rattle.traffic.proofs.Sublists.{at_after_all-untouched, at_after_all-append, at-run}
 
 abbrev pub Fresh : ℕ → List ℕ → Type 0
@@ -28,19 +21,19 @@ pub Distinct-numbers : (k n : ℕ) → Distinct (numbers k n)
 Distinct-numbers k zero = tt
 Distinct-numbers k (suc n) = (Fresh-numbers k (k + 1) n (omega arith), Distinct-numbers (k + 1) n)
 
-turns_seen : (S : Setup) (t : ℕ) (plan : Plan) → Apart S t plan → (m : ℕ) (W : World) (ns : List ℕ) → Fresh m ns → map (turn_of plan (run S t (plan m W) W)) ns ≡ map (turn_of plan W) ns
+turns_seen : (S : Setup) (t : ℕ) (plan : TurnMoves) → Apart S t plan → (m : ℕ) (W : World) (ns : List ℕ) → Fresh m ns → map (turn_of plan (run S t (plan m W) W)) ns ≡ map (turn_of plan W) ns
 turns_seen S t plan apart m W [] h = refl
 turns_seen S t plan apart m W (n ∷ ns) h = let e = apart n m W h.0 in let f = turns_seen S t plan apart m W ns h.1 in cc
 
 -- the fold is a map over the world at the start
-pub turns_at_once : (S : Setup) (t : ℕ) (plan : Plan) → Apart S t plan → (ns : List ℕ) (W : World) → Distinct ns → turns S t plan ns W ≡ map (turn_of plan W) ns
+pub turns_at_once : (S : Setup) (t : ℕ) (plan : TurnMoves) → Apart S t plan → (ns : List ℕ) (W : World) → Distinct ns → turns S t plan ns W ≡ map (turn_of plan W) ns
 unfolding turns
 turns_at_once S t plan apart [] W h = refl
 turns_at_once S t plan apart (n ∷ ns) W h =
     let e = turns_at_once S t plan apart ns (run S t (plan n W) W) h.1 in
     let f = turns_seen S t plan apart n W ns h.0 in cc
 
-pub moves_of-map : (plan : Plan) (W : World) (ns : List ℕ) → moves_of (map (turn_of plan W) ns) ≡ flat_map (λ n. plan n W) ns
+pub moves_of-map : (plan : TurnMoves) (W : World) (ns : List ℕ) → moves_of (map (turn_of plan W) ns) ≡ flat_map (λ n. plan n W) ns
 moves_of-map plan W [] = refl
 moves_of-map plan W (n ∷ ns) = ap (λ ys. plan n W ++ ys) (moves_of-map plan W ns)
 
@@ -55,7 +48,7 @@ at_after_all-filter plan mine l s h (n ∷ ns) xs =
     ]
 
 -- a list after a whole phase, by the moves of those who touch it
-pub at-phase : (S : Setup) (t : ℕ) (plan : Plan) → Apart S t plan → (mine : ℕ → Bool) (l : ℕ) (s : Stage) (W : World) → ((n : ℕ) → mine n ≡ false → Untouched l s (plan n W)) →
+pub at-phase : (S : Setup) (t : ℕ) (plan : TurnMoves) → Apart S t plan → (mine : ℕ → Bool) (l : ℕ) (s : Stage) (W : World) → ((n : ℕ) → mine n ≡ false → Untouched l s (plan n W)) →
     (ns : List ℕ) → Distinct ns → at l s (after S t (turns S t plan ns W) W) ≡ at_after_all l s (flat_map (λ n. plan n W) (filter mine ns)) (at l s W)
 at-phase S t plan apart mine l s W h ns d =
     at-run S t l s (moves_of (turns S t plan ns W)) W
@@ -76,7 +69,7 @@ filter_one x k (suc n) h g =
     ]
 
 -- a list that only the turn of x changes in this phase
-pub at-phase_one : (S : Setup) (t : ℕ) (plan : Plan) → Apart S t plan → (x n l : ℕ) (s : Stage) (W : World) → x < n → ((m : ℕ) → eqb m x ≡ false → Untouched l s (plan m W)) →
+pub at-phase_one : (S : Setup) (t : ℕ) (plan : TurnMoves) → Apart S t plan → (x n l : ℕ) (s : Stage) (W : World) → x < n → ((m : ℕ) → eqb m x ≡ false → Untouched l s (plan m W)) →
     at l s (after S t (turns S t plan (below n) W) W) ≡ at_after_all l s (plan x W) (at l s W)
 at-phase_one S t plan apart x n l s W lt h =
     at-phase S t plan apart (λ y. eqb y x) l s W h (below n) (Distinct-numbers 0 n)

@@ -1,27 +1,18 @@
 -- A link's turn changes nobody who waits at a stop of another link.
-use Rattle.std.proofs.Common.{◌≡◌, ℕ, zero, suc, ◌+◌, ◌<◌, ◌≤◌, ◌≢◌, Bool, true, false, List, [], ◌∷◌, ◌++◌, length, refl, ap, sym, ◌∙◌, eqb, arith, inl, inr}
-use Rattle.std.specs.Prelude.{map, Option, None, Some}
-use Rattle.std.specs.List.{AllByRecursion as Each, flat_map}
-use Rattle.std.proofs.Math.Seq.{drop-append_seam}
-use Rattle.std.proofs.lemmas.Bool.{cases_Bool, eqb-true, ne_eqb}
-use Rattle.events.specs.declared.event.VehicleId.{VehicleId}
-use Rattle.events.specs.declared.event.Word.{Word}
-use Rattle.events.specs.declared.event.Word.TheVariants as word
+use Rattle.traffic.proofs.Common.{◌≡◌, ℕ, List, ◌∙◌, length, ap, refl, sym, [], ◌∷◌, arith, ◌<◌, true, ◌++◌, ◌+◌, Bool, inl, inr, ◌≤◌, false, suc, eqb, zero}
+use Rattle.traffic.proofs.Common.{◌≢◌, drop-append_seam, cases_Bool, eqb-true, ne_eqb, flat_map, map, Some, None, Option, VehicleId, Word, Act, Leg, Dwelling}
+use Rattle.traffic.proofs.Common.{Rules, buffered, LinkState, link_moves, below, numbers, Move, Transfer, ride, person_by, run, done, told, person_after_all}
+use Rattle.traffic.proofs.Common.{start_act, person_after, told_of, waiter, waits_on, waiters, Row, Teleporting, At, Place, Waiting, Riding, Person, World}
+use Rattle.traffic.proofs.Common.{person_of, Setup, act_after, leg_at, link_of_stop, Waiter, served_row, next_call, alighting, rider, staying, served_vehicle}
+use Rattle.traffic.proofs.Common.{boarding, riders_after, Occurrence, boarded, arrives, enters, leaves, starts, serves}
 use Rattle.traffic.specs.declared.riders.Rider.{Rider}
-use Rattle.traffic.specs.Rows.{Row, World, VehicleState, Place, At, Flying, Waiting, Riding, Gone as Removed, Person, person_of}
-use Rattle.rows.specs.declared.plan.Act.{Act}
-use Rattle.rows.specs.declared.plan.Leg.{Leg}
-use Rattle.rows.specs.declared.settings.Dwelling.{Dwelling}
+use Rattle.std.specs.List.{AllByRecursion as Each}
+use Rattle.events.specs.declared.event.Word.TheVariants as word
+use Rattle.traffic.specs.Rows.{VehicleState, Aborted}
 use Rattle.rows.specs.declared.plan.Leg.TheVariants as leg
-use Rattle.traffic.specs.Setup.{Setup, leg_at, act_after, link_of_stop}
-use Rattle.traffic.specs.Lists.{numbers, below}
-use Rattle.traffic.specs.Stops.{Waiter, next_call, alighting, staying, boarding, rider, riders_after, served_vehicle, served_row}
-use Rattle.traffic.specs.Telling.{Said, leaves, enters, starts, arrives, boarded, serves}
-use Rattle.traffic.specs.Moves.{Move, Put, Gone as Quit, told, run, done, start_act, ride, person_by, person_after, told_of, person_after_all}
-use Rattle.traffic.specs.Links.{Lane, Rules, buffered, link_moves}
-use Rattle.traffic.specs.Persons.{waits_on, waiter, waiters}
+use Rattle.traffic.specs.Moves.{Remove as Quit}
 use Rattle.traffic.proofs.Each.{each_all, each_append, each_if, each_boarding, each_left}
-use Rattle.traffic.proofs.LinkEach.{lane_of, FrontMoves, Have, link_each}
+use Rattle.traffic.proofs.LinkEach.{serving_stage, FrontMoves, Have, link_each}
 use Rattle.traffic.proofs.Sublists.{persons-length, person_after_all-is}
 
 -- all of these persons are such
@@ -40,14 +31,14 @@ Calm_word Q word.StuckAndAbort o = ⊥
 Calm_word Q word.PersonEntersVehicle o = Such Q o
 Calm_word Q _ o = Unit {0}
 
-abbrev pub Calm : (ℕ → Type 0) → List Said → Type 0
-Calm Q es = Each (λ (e : Said). Calm_word Q e.word e.person) es
+abbrev pub Calm : (ℕ → Type 0) → List Occurrence → Type 0
+Calm Q es = Each (λ (e : Occurrence). Calm_word Q e.word e.person) es
 
 abbrev pub Calm_moves : (ℕ → Type 0) → List Move → Type 0
 Calm_moves Q ms = Each (λ (m : Move). Calm Q (told m)) ms
 
-Calm-append : (Q : ℕ → Type 0) (xs ys : List Said) → Calm Q xs → Calm Q ys → Calm Q (xs ++ ys)
-Calm-append Q xs ys h g = each_append (λ (e : Said). Calm_word Q e.word e.person) xs ys h g
+Calm-append : (Q : ℕ → Type 0) (xs ys : List Occurrence) → Calm Q xs → Calm Q ys → Calm Q (xs ++ ys)
+Calm-append Q xs ys h g = each_append (λ (e : Occurrence). Calm_word Q e.word e.person) xs ys h g
 
 -- WHAT A LINK'S TURN TELLS IS CALM
 calm_leaves : (Q : ℕ → Type 0) (v : VehicleId) (l : ℕ) (rs : List Rider) → Calm Q (flat_map (leaves v l) rs)
@@ -69,7 +60,7 @@ calm_serves Q D t l ws r h =
     (tt, Calm-append Q _ _ (calm_leaves Q r.vehicle.id r.link (alighting (next_call r.vehicle).stop r.vehicle.riders)) (rw e (calm_enters Q r.vehicle.id (boarding r.vehicle ws) h)))
 
 calm_starts : (Q : ℕ → Type 0) (r : Row) → Calm Q (starts r)
-calm_starts Q r = each_if (λ (e : Said). Calm_word Q e.word e.person) r.vehicle.started [] _ tt (tt, tt)
+calm_starts Q r = each_if (λ (e : Occurrence). Calm_word Q e.word e.person) r.vehicle.started [] _ tt (tt, tt)
 
 calm_arrives : (Q : ℕ → Type 0) (r : Row) → Calm Q (arrives r)
 calm_arrives Q r = (tt, calm_leaves Q r.vehicle.id r.link r.vehicle.riders)
@@ -77,15 +68,15 @@ calm_arrives Q r = (tt, calm_leaves Q r.vehicle.id r.link r.vehicle.riders)
 such_boarding : (Q : ℕ → Type 0) (v : VehicleState) (ws : List Waiter) → AreSuch Q ws → AreSuch Q (boarding v ws)
 such_boarding Q v ws h = each_boarding (λ (w : Waiter). Q w.person) _ v (λ w e g. g) ws h
 
-pub gone_calm : (Q : ℕ → Type 0) (l : ℕ) (s : Bool) (r : Row) → Calm Q (told (Quit l (lane_of s) 0 r))
+pub gone_calm : (Q : ℕ → Type 0) (l : ℕ) (s : Bool) (r : Row) → Calm Q (told (Quit l (serving_stage s) 0 r))
 gone_calm Q l true r = Calm-append Q (starts r) (arrives r) (calm_starts Q r) (calm_arrives Q r)
 gone_calm Q l false r = calm_arrives Q r
 
-pub pass_calm : (Q : ℕ → Type 0) (t l b : ℕ) (s : Bool) (r : Row) → Calm Q (told (Put l (lane_of s) 0 r (buffered t l b r)))
+pub pass_calm : (Q : ℕ → Type 0) (t l b : ℕ) (s : Bool) (r : Row) → Calm Q (told (Transfer l (serving_stage s) 0 r (buffered t l b r)))
 pass_calm Q t l b true r = Calm-append Q (starts r) [] (calm_starts Q r) tt
 pass_calm Q t l b false r = tt
 
-pub serve_calm : (Q : ℕ → Type 0) (D : Dwelling) (t l : ℕ) (s : Bool) (ws : List Waiter) (r : Row) → AreSuch Q (boarding r.vehicle ws) → Calm Q (told (Put l (lane_of s) 0 r (served_row D t l ws r.vehicle)))
+pub serve_calm : (Q : ℕ → Type 0) (D : Dwelling) (t l : ℕ) (s : Bool) (ws : List Waiter) (r : Row) → AreSuch Q (boarding r.vehicle ws) → Calm Q (told (Transfer l (serving_stage s) 0 r (served_row D t l ws r.vehicle)))
 unfolding served_vehicle
 serve_calm Q D t l true ws r h = Calm-append Q (starts r) _ (calm_starts Q r) (calm_serves Q D t l ws r h)
 serve_calm Q D t l false ws r h = calm_serves Q D t l ws r h
@@ -100,7 +91,7 @@ front-calm Q K t l s =
       pay = λ c. tt;
     }
 
-pub link_moves-calm : (Q : ℕ → Type 0) (K : Rules) (t l : ℕ) (ws : List Waiter) (L : Lane) → AreSuch Q ws → Calm_moves Q (link_moves K t l ws L)
+pub link_moves-calm : (Q : ℕ → Type 0) (K : Rules) (t l : ℕ) (ws : List Waiter) (L : LinkState) → AreSuch Q ws → Calm_moves Q (link_moves K t l ws L)
 link_moves-calm Q K t l ws L h =
     let all : (xs : List Row) → Have (λ v. Unit {0}) xs = λ xs. each_all _ (λ r. tt) xs in
     link_each K t l (λ v. Unit {0}) (AreSuch Q) (λ m. Calm Q (told m)) (front-calm Q K t l) (λ k r g. (tt, tt)) tt ws L h (all L.queue) (all L.wait) (all L.bay)
@@ -108,16 +99,16 @@ link_moves-calm Q K t l ws L h =
 -- CALM EVENTS LEAVE THOSE WHO WAIT ELSEWHERE
 start_kept : (S : Setup) (t a i : ℕ) (P : Person) (pl : Place) → P.place ≡ pl → waiter S a i (start_act S t i P pl) ≡ waiter S a i P
 start_kept S t a i P (At end) e = rw e refl
-start_kept S t a i P (Flying start) e = rw e refl
+start_kept S t a i P (Teleporting start) e = rw e refl
 start_kept S t a i P (Waiting stop since) e = refl
 start_kept S t a i P (Riding v) e = rw e refl
-start_kept S t a i P (Removed l) e = rw e refl
+start_kept S t a i P (Aborted l) e = rw e refl
 
 ride_kept : (S : Setup) (a i : ℕ) (o : Option VehicleId) (P : Person) → waiter S a i P ≡ [] → waiter S a i (ride o P) ≡ waiter S a i P
 ride_kept S a i None P h = refl
 ride_kept S a i (Some v) P h = sym h
 
-word_kept : (S : Setup) (t a i : ℕ) (Q : ℕ → Type 0) (e : Said) (w : Word) (P : Person) → (Q i → waiter S a i P ≡ []) → Calm_word Q w (Some i) → waiter S a i (person_by S t i e w P) ≡ waiter S a i P
+word_kept : (S : Setup) (t a i : ℕ) (Q : ℕ → Type 0) (e : Occurrence) (w : Word) (P : Person) → (Q i → waiter S a i P ≡ []) → Calm_word Q w (Some i) → waiter S a i (person_by S t i e w P) ≡ waiter S a i P
 word_kept S t a i Q e word.Departure P h c = absurd c
 word_kept S t a i Q e word.WaitingForPt P h c = absurd c
 word_kept S t a i Q e word.StuckAndAbort P h c = absurd c
@@ -125,7 +116,7 @@ word_kept S t a i Q e word.PersonEntersVehicle P h c = ride_kept S a i e.vehicle
 word_kept S t a i Q e word.ActStart P h c = start_kept S t a i P P.place refl
 word_kept S t a i Q e _ P h c = refl
 
-said_kept : (S : Setup) (t a i : ℕ) (Q : ℕ → Type 0) (e : Said) (o : Option ℕ) (P : Person) → (Q i → waiter S a i P ≡ []) → Calm_word Q e.word o → waiter S a i (told_of S t i e o P) ≡ waiter S a i P
+said_kept : (S : Setup) (t a i : ℕ) (Q : ℕ → Type 0) (e : Occurrence) (o : Option ℕ) (P : Person) → (Q i → waiter S a i P ≡ []) → Calm_word Q e.word o → waiter S a i (told_of S t i e o P) ≡ waiter S a i P
 unfolding person_after
 said_kept S t a i Q e None P h c = refl
 said_kept S t a i Q e (Some j) P h c =
@@ -134,7 +125,7 @@ said_kept S t a i Q e (Some j) P h c =
       | inr f ↦ rw f refl
     ]
 
-pub all_kept : (S : Setup) (t a i : ℕ) (Q : ℕ → Type 0) (es : List Said) (P : Person) → (Q i → waiter S a i P ≡ []) → Calm Q es → waiter S a i (person_after_all S t i es P) ≡ waiter S a i P
+pub all_kept : (S : Setup) (t a i : ℕ) (Q : ℕ → Type 0) (es : List Occurrence) (P : Person) → (Q i → waiter S a i P ≡ []) → Calm Q es → waiter S a i (person_after_all S t i es P) ≡ waiter S a i P
 all_kept S t a i Q [] P h c = refl
 all_kept S t a i Q (e ∷ es) P h c =
     let f = said_kept S t a i Q e e.person P h c.0 in
@@ -159,7 +150,7 @@ Elsewhere S a W i = waiter S a i (person_of i W) ≡ []
 
 other_stop : (S : Setup) (l a i : ℕ) (Q : ℕ → Type 0) → a ≢ l → (w : Leg) (next : Act) (pl : Place) → (waits_on S a i w next pl ≡ [] → Q i) → AreSuch Q (waits_on S l i w next pl)
 other_stop S l a i Q ne w next (At end) h = tt
-other_stop S l a i Q ne w next (Flying start) h = tt
+other_stop S l a i Q ne w next (Teleporting start) h = tt
 other_stop S l a i Q ne (leg.Car route) next (Waiting stop since) h = elim (cases_Bool (eqb (link_of_stop S stop) l)) [ inl e ↦ simp e tt | inr e ↦ simp e tt ]
 other_stop S l a i Q ne (leg.Teleport mode seconds) next (Waiting stop since) h = elim (cases_Bool (eqb (link_of_stop S stop) l)) [ inl e ↦ simp e tt | inr e ↦ simp e tt ]
 other_stop S l a i Q ne (leg.Transit line access egress) next (Waiting stop since) h =
@@ -168,7 +159,7 @@ other_stop S l a i Q ne (leg.Transit line access egress) next (Waiting stop sinc
       | inr e ↦ simp e tt
     ]
 other_stop S l a i Q ne w next (Riding v) h = tt
-other_stop S l a i Q ne w next (Removed m) h = tt
+other_stop S l a i Q ne w next (Aborted m) h = tt
 
 waiters-elsewhere : (S : Setup) (l a : ℕ) (W : World) → a ≢ l → (is : List ℕ) → AreSuch (Elsewhere S a W) (flat_map (λ i. waiter S l i (person_of i W)) is)
 waiters-elsewhere S l a W ne [] = tt
@@ -194,6 +185,6 @@ unfolding waiters
 waiters-calm S a l W ne = waiters-elsewhere S l a W ne (below (length W.persons))
 
 -- the turn of a link leaves those who wait on another one as they were
-pub waiters-other : (S : Setup) (t l a : ℕ) (K : Rules) (L : Lane) (W : World) → a ≢ l → waiters S a (run S t (link_moves K t l (waiters S l W) L) W) ≡ waiters S a W
+pub waiters-other : (S : Setup) (t l a : ℕ) (K : Rules) (L : LinkState) (W : World) → a ≢ l → waiters S a (run S t (link_moves K t l (waiters S l W) L) W) ≡ waiters S a W
 waiters-other S t l a K L W ne =
     waiters-kept S t a (link_moves K t l (waiters S l W) L) W (link_moves-calm (Elsewhere S a W) K t l (waiters S l W) L (waiters-calm S a l W ne))

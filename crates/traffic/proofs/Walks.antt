@@ -1,50 +1,41 @@
 -- The walk over a second: the turns of persons and departures, and turns, phases, seconds and days one after the other.
-use Rattle.std.proofs.Common.{◌≡◌, ℕ, zero, suc, ◌+◌, ◌<◌, List, [], ◌∷◌, ◌++◌, length, ◌∙◌, refl, ap, subst, eqb, arith, inl, inr}
-use Rattle.std.specs.Prelude.{Some}
+use Rattle.traffic.proofs.Common.{◌≡◌, ℕ, List, ◌∙◌, length, ap, refl, [], ◌∷◌, arith, ◌<◌, ◌++◌, ◌+◌, inl, inr, subst, suc, eqb, zero, cases_Bool, eqb-true}
+use Rattle.traffic.proofs.Common.{length-replicate, Some, Mode, Phase, VEHICLE_COST, Act, Leg, moves_of, after, turns_of, turns_in, world_start, through}
+use Rattle.traffic.proofs.Common.{world_from, count_of, phases, second, turns, TurnMoves, below, numbers, Move, Enter, run, landing, sets_out}
+use Rattle.traffic.proofs.Common.{transit_vehicle, departs, landing_moves, leaving_moves, departure_moves, lands, leaving, Teleporting, At, Place, Person}
+use Rattle.traffic.proofs.Common.{World, Setup, act_after, leg_at, act_at, departure}
 use Rattle.std.specs.List.{AllByRecursion as Each}
-use Rattle.std.proofs.lemmas.Bool.{cases_Bool, eqb-true}
-use Rattle.std.proofs.lemmas.List.{length-replicate}
-use Rattle.fixed_flow.specs.declared.TheConstants.{VEHICLE_COST}
-use Rattle.events.specs.declared.event.Mode.{Mode}
-use Rattle.events.specs.declared.event.Phase.{Phase}
-use Rattle.traffic.specs.Lists.{numbers, below}
-use Rattle.traffic.specs.Rows.{World, Place, At, Flying, Person}
-use Rattle.rows.specs.declared.plan.Act.{Act}
-use Rattle.rows.specs.declared.plan.Leg.{Leg}
 use Rattle.rows.specs.declared.plan.Leg.TheVariants as leg
-use Rattle.traffic.specs.Setup.{Setup, act_at, leg_at, act_after, departure}
-use Rattle.traffic.specs.Moves.{Move, New, Tell, run}
-use Rattle.traffic.specs.Persons.{lands, landing, landing_moves, sets_out, departs, leaving, leaving_moves, transit_vehicle, departure_moves}
-use Rattle.traffic.specs.Day.{Plan, phases, world_start, plan_of, count_of, turns, moves_of, after, turns_in, through, second, world_from}
+use Rattle.traffic.specs.Moves.{Report}
 use Rattle.traffic.proofs.Each.{each_number}
 use Rattle.traffic.proofs.Sublists.{run-append, credits-run}
 use Rattle.traffic.proofs.Moments.{Along, along_append}
 
 -- PERSONS AND DEPARTURES
 -- T holds of no moves, and of those by which a teleported leg of person j ends in second t
-landing_walk : (T : List Move → Type 0) (t j : ℕ) (w : Leg) (next : Act) (pl : Place) → T [] → ((mode : Mode) (seconds start : ℕ) → pl ≡ Flying start → w ≡ leg.Teleport mode seconds → start + seconds ≡ t → T (Tell (lands j mode seconds next) ∷ [])) → T (landing t j w next pl)
-landing_walk T t j (leg.Teleport mode seconds) next (Flying start) none f = elim (cases_Bool (eqb (start + seconds) t)) [ inl e ↦ rw e (f mode seconds start refl refl (eqb-true (start + seconds) t e)) | inr e ↦ rw e none ]
+landing_walk : (T : List Move → Type 0) (t j : ℕ) (w : Leg) (next : Act) (pl : Place) → T [] → ((mode : Mode) (seconds start : ℕ) → pl ≡ Teleporting start → w ≡ leg.Teleport mode seconds → start + seconds ≡ t → T (Report (lands j mode seconds next) ∷ [])) → T (landing t j w next pl)
+landing_walk T t j (leg.Teleport mode seconds) next (Teleporting start) none f = elim (cases_Bool (eqb (start + seconds) t)) [ inl e ↦ rw e (f mode seconds start refl refl (eqb-true (start + seconds) t e)) | inr e ↦ rw e none ]
 landing_walk T t j _ next _ none f = none
 
 pub flight_walk : (T : List Move → Type 0) (S : Setup) (t j : ℕ) (P : Person) → T []
-    → ((mode : Mode) (seconds start : ℕ) → P.place ≡ Flying start → leg_at S j P.element ≡ leg.Teleport mode seconds → start + seconds ≡ t → T (Tell (lands j mode seconds (act_after S j P.element)) ∷ []))
+    → ((mode : Mode) (seconds start : ℕ) → P.place ≡ Teleporting start → leg_at S j P.element ≡ leg.Teleport mode seconds → start + seconds ≡ t → T (Report (lands j mode seconds (act_after S j P.element)) ∷ []))
     → T (landing_moves S t j P)
 unfolding landing_moves
 flight_walk T S t j P none f = landing_walk T t j (leg_at S j P.element) (act_after S j P.element) P.place none f
 
 -- and so of those by which his activity ends then, and the leg after it begins
-leaving_walk : (T : List Move → Type 0) (S : Setup) (t j : ℕ) (here : Act) (w : Leg) (next : Act) (pl : Place) → T [] → (pl ≡ At (Some t) → T (Tell (departs j here w) ∷ sets_out S j w next)) → T (leaving S t j here w next pl)
+leaving_walk : (T : List Move → Type 0) (S : Setup) (t j : ℕ) (here : Act) (w : Leg) (next : Act) (pl : Place) → T [] → (pl ≡ At (Some t) → T (Report (departs j here w) ∷ sets_out S j w next)) → T (leaving S t j here w next pl)
 leaving_walk T S t j here w next (At (Some end)) none f = elim (cases_Bool (eqb end t)) [ inl e ↦ rw e (f (ap (λ (x : ℕ). At (Some x)) (eqb-true end t e))) | inr e ↦ rw e none ]
 leaving_walk T S t j here w next _ none f = none
 
 pub leave_walk : (T : List Move → Type 0) (S : Setup) (t j : ℕ) (P : Person) → T []
-    → (P.place ≡ At (Some t) → T (Tell (departs j (act_at S j P.element) (leg_at S j P.element)) ∷ sets_out S j (leg_at S j P.element) (act_after S j P.element)))
+    → (P.place ≡ At (Some t) → T (Report (departs j (act_at S j P.element) (leg_at S j P.element)) ∷ sets_out S j (leg_at S j P.element) (act_after S j P.element)))
     → T (leaving_moves S t j P)
 unfolding leaving_moves
 leave_walk T S t j P none f = leaving_walk T S t j (act_at S j P.element) (leg_at S j P.element) (act_after S j P.element) P.place none f
 
 -- and of that by which a departure's vehicle starts
-pub departure_walk : (T : List Move → Type 0) (S : Setup) (t d : ℕ) → T [] → ((departure S d).second ≡ t → T (New (transit_vehicle d (departure S d)) ∷ [])) → T (departure_moves S t d)
+pub departure_walk : (T : List Move → Type 0) (S : Setup) (t d : ℕ) → T [] → ((departure S d).second ≡ t → T (Enter (transit_vehicle d (departure S d)) ∷ [])) → T (departure_moves S t d)
 unfolding departure_moves
 departure_walk T S t d none f = elim (cases_Bool (eqb (departure S d).second t)) [ inl e ↦ rw e (f (eqb-true (departure S d).second t e)) | inr e ↦ rw e none ]
 
@@ -68,13 +59,13 @@ kept_is I T S t walk =
       append = λ xs ys W f g i. let x = f i in let y = g x.1 in (walk.append xs ys W x.0 y.0, rw (run-append S t xs ys W) y.1);
     }
 
-turns_walk : (T : World → List Move → Type 0) (S : Setup) (t m : ℕ) (plan : Plan) → IsWalk S t T → ((n : ℕ) (W : World) → n < m → T W (plan n W)) → (ns : List ℕ) (W : World) → Each (λ n. n < m) ns → T W (moves_of (turns S t plan ns W))
+turns_walk : (T : World → List Move → Type 0) (S : Setup) (t m : ℕ) (plan : TurnMoves) → IsWalk S t T → ((n : ℕ) (W : World) → n < m → T W (plan n W)) → (ns : List ℕ) (W : World) → Each (λ n. n < m) ns → T W (moves_of (turns S t plan ns W))
 unfolding turns
 turns_walk T S t m plan walk f [] W h = walk.none W
 turns_walk T S t m plan walk f (n ∷ ns) W h = walk.append (plan n W) _ W (f n W h.0) (turns_walk T S t m plan walk f ns (run S t (plan n W) W) h.1)
 
 -- by number: I holds of the number of whose turn comes next
-pub numbers_walk : (I : ℕ → World → Type 0) (S : Setup) (t : ℕ) (plan : Plan) → ((n : ℕ) (W : World) → I n W → I (n + 1) (run S t (plan n W) W)) → (k n : ℕ) (W : World) → I k W → I (k + n) (after S t (turns S t plan (numbers k n) W) W)
+pub numbers_walk : (I : ℕ → World → Type 0) (S : Setup) (t : ℕ) (plan : TurnMoves) → ((n : ℕ) (W : World) → I n W → I (n + 1) (run S t (plan n W) W)) → (k n : ℕ) (W : World) → I k W → I (k + n) (after S t (turns S t plan (numbers k n) W) W)
 unfolding turns
 numbers_walk I S t plan f k zero W h = subst (λ (m : ℕ). I m W) (omega arith) h
 numbers_walk I S t plan f k (suc n) W h =
@@ -83,18 +74,18 @@ numbers_walk I S t plan f k (suc n) W h =
     let e : (k + 1) + n ≡ k + suc n = omega arith in
     rw (run-append S t (plan k W) (moves_of us) W) (subst (λ (m : ℕ). I m (after S t us V)) e (numbers_walk I S t plan f (k + 1) n V (f k W h)))
 
-pub phase_walk : (T : World → List Move → Type 0) (S : Setup) (t : ℕ) (p : Phase) → IsWalk S t T → ((n : ℕ) (W : World) → n < count_of S p → T W (plan_of S t p n W)) → (W : World) → T W (moves_of (turns_in S t p W))
+pub phase_walk : (T : World → List Move → Type 0) (S : Setup) (t : ℕ) (p : Phase) → IsWalk S t T → ((n : ℕ) (W : World) → n < count_of S p → T W (turns_of S t p n W)) → (W : World) → T W (moves_of (turns_in S t p W))
 unfolding turns_in
-phase_walk T S t p walk f W = turns_walk T S t (count_of S p) (plan_of S t p) walk f (below (count_of S p)) W (each_number (count_of S p) 0 (count_of S p) (omega arith))
+phase_walk T S t p walk f W = turns_walk T S t (count_of S p) (turns_of S t p) walk f (below (count_of S p)) W (each_number (count_of S p) 0 (count_of S p) (omega arith))
 
 -- WHAT ALL TURNS KEEP
 keep_is : (I : World → Type 0) (S : Setup) (t : ℕ) → IsWalk S t (λ W ms. I W → I (run S t ms W))
 keep_is I S t = record { none = λ W i. i; append = λ xs ys W f g i. rw (run-append S t xs ys W) (g (f i)) }
 
-pub phase_keeps : (I : World → Type 0) (S : Setup) (t : ℕ) (p : Phase) → ((n : ℕ) (W : World) → n < count_of S p → I W → I (run S t (plan_of S t p n W) W)) → (W : World) → I W → I (after S t (turns_in S t p W) W)
+pub phase_keeps : (I : World → Type 0) (S : Setup) (t : ℕ) (p : Phase) → ((n : ℕ) (W : World) → n < count_of S p → I W → I (run S t (turns_of S t p n W) W)) → (W : World) → I W → I (after S t (turns_in S t p W) W)
 phase_keeps I S t p f W = phase_walk (λ V ms. I V → I (run S t ms V)) S t p (keep_is I S t) f W
 
-pub phases_keep : (I : World → Type 0) (S : Setup) (t : ℕ) → ((p : Phase) (n : ℕ) (W : World) → n < count_of S p → I W → I (run S t (plan_of S t p n W) W)) → (ps : List Phase) (W : World) → I W → I (through S t ps W)
+pub phases_keep : (I : World → Type 0) (S : Setup) (t : ℕ) → ((p : Phase) (n : ℕ) (W : World) → n < count_of S p → I W → I (run S t (turns_of S t p n W) W)) → (ps : List Phase) (W : World) → I W → I (through S t ps W)
 unfolding through
 phases_keep I S t f [] W h = h
 phases_keep I S t f (p ∷ ps) W h = phases_keep I S t f ps (after S t (turns_in S t p W) W) (phase_keeps I S t p (f p) W h)
@@ -112,4 +103,4 @@ credits_start S = length-replicate (length S.links) VEHICLE_COST
 pub credits_day : (S : Setup) (W : World) (t : ℕ) → length W.credits ≡ length S.links → length (world_from S W t).credits ≡ length S.links
 credits_day S W t e =
     let I : World → Type 0 = λ V. length V.credits ≡ length S.links in
-    seconds_keep I S (λ s V f. phases_keep I S s (λ p n U lt g. credits-run S s (plan_of S s p n U) U ∙ g) phases V f) W t e
+    seconds_keep I S (λ s V f. phases_keep I S s (λ p n U lt g. credits-run S s (turns_of S s p n U) U ∙ g) phases V f) W t e

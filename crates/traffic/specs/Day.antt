@@ -11,10 +11,10 @@ use Rattle.rows.specs.PlanRows.{PlanRows}
 use Rattle.rows.specs.declared.plan.Act.{Act}
 use Rattle.traffic.specs.Setup.{Setup}
 use Rattle.traffic.specs.Lists.{below}
-use Rattle.traffic.specs.Telling.{Said}
+use Rattle.traffic.specs.Telling.{Occurrence}
 use Rattle.traffic.specs.Moves.{Move, told, run}
-use Rattle.traffic.specs.Links.{lane, rules, link_moves}
-use Rattle.traffic.specs.Nodes.{sight, node_moves}
+use Rattle.traffic.specs.Links.{link_state, rules, link_moves}
+use Rattle.traffic.specs.Nodes.{node_view, node_moves}
 use Rattle.traffic.specs.Persons.{landing_moves, leaving_moves, departure_moves, waiters, stranded}
 
 -- what one person, departure, node or link did in its turn, with its number
@@ -22,33 +22,33 @@ pub record Turn : Type 0 where
   pub number : ℕ
   pub moves : List Move
 
--- the moves of each by its number, in a world
-abbrev pub Plan : Type 0
-Plan = ℕ → World → List Move
+-- the moves of each in its turn, by its number and the world that it finds
+abbrev pub TurnMoves : Type 0
+TurnMoves = ℕ → World → List Move
 
-abbrev pub flight_plan : Setup → ℕ → Plan
-flight_plan S t i W = landing_moves S t i (person_of i W)
+abbrev pub landing_turns : Setup → ℕ → TurnMoves
+landing_turns S t i W = landing_moves S t i (person_of i W)
 
-abbrev pub leave_plan : Setup → ℕ → Plan
-leave_plan S t i W = leaving_moves S t i (person_of i W)
+abbrev pub leaving_turns : Setup → ℕ → TurnMoves
+leaving_turns S t i W = leaving_moves S t i (person_of i W)
 
-abbrev pub departure_plan : Setup → ℕ → Plan
-departure_plan S t d W = departure_moves S t d
+abbrev pub departure_turns : Setup → ℕ → TurnMoves
+departure_turns S t d W = departure_moves S t d
 
-abbrev pub node_plan : Setup → ℕ → Plan
-node_plan S t n W = node_moves S.settings.stuck t (S.word n) (sight S t n W)
+abbrev pub node_turns : Setup → ℕ → TurnMoves
+node_turns S t n W = node_moves S.settings.stuck t (S.word n) (node_view S t n W)
 
-abbrev pub link_plan : Setup → ℕ → Plan
-link_plan S t l W = link_moves (rules S l) t l (waiters S l W) (lane l W)
+abbrev pub link_turns : Setup → ℕ → TurnMoves
+link_turns S t l W = link_moves (rules S l) t l (waiters S l W) (link_state l W)
 
--- the plan of a phase of second t, and how many have a turn in it; phase E has none
-unfoldable pub plan_of : Setup → ℕ → Phase → Plan
-plan_of S t phase.A = flight_plan S t
-plan_of S t phase.B1 = leave_plan S t
-plan_of S t phase.B2 = departure_plan S t
-plan_of S t phase.C = node_plan S t
-plan_of S t phase.D = link_plan S t
-plan_of S t phase.E = λ n W. []
+-- the moves of the turns of a phase of second t, and how many have a turn in it; phase E has none
+unfoldable pub turns_of : Setup → ℕ → Phase → TurnMoves
+turns_of S t phase.A = landing_turns S t
+turns_of S t phase.B1 = leaving_turns S t
+turns_of S t phase.B2 = departure_turns S t
+turns_of S t phase.C = node_turns S t
+turns_of S t phase.D = link_turns S t
+turns_of S t phase.E = λ n W. []
 
 abbrev pub count_of : Setup → Phase → ℕ
 count_of S phase.A = length S.persons
@@ -59,9 +59,9 @@ count_of S phase.D = length S.links
 count_of S phase.E = 0
 
 -- the turns of those whose numbers are listed, each in the world that the ones before it left
-unfoldable pub turns : Setup → ℕ → Plan → List ℕ → World → List Turn
-turns S t plan [] W = []
-turns S t plan (n ∷ ns) W = record { number = n; moves = plan n W } ∷ turns S t plan ns (run S t (plan n W) W)
+unfoldable pub turns : Setup → ℕ → TurnMoves → List ℕ → World → List Turn
+turns S t moves [] W = []
+turns S t moves (n ∷ ns) W = record { number = n; moves = moves n W } ∷ turns S t moves ns (run S t (moves n W) W)
 
 abbrev pub moves_of : List Turn → List Move
 moves_of us = flat_map (λ (u : Turn). u.moves) us
@@ -72,15 +72,15 @@ after S t us W = run S t (moves_of us) W
 
 -- the turns of a phase, by number
 unfoldable pub turns_in : Setup → ℕ → Phase → World → List Turn
-turns_in S t p W = turns S t (plan_of S t p) (below (count_of S p)) W
+turns_in S t p W = turns S t (turns_of S t p) (below (count_of S p)) W
 
 -- an event with its key
-abbrev pub event_at : ℕ → ℕ → ℕ → ℕ → Said → Event
+abbrev pub event_at : ℕ → ℕ → ℕ → ℕ → Occurrence → Event
 event_at t code n index x =
     record { key = record { second = t; phase = code; number = n; index = index }; word = x.word; person = x.person; vehicle = x.vehicle; link = x.link; more = x.more }
 
 -- what is told in one turn, with indices that count from this one on
-unfoldable pub keyed : ℕ → ℕ → ℕ → ℕ → List Said → List Event
+unfoldable pub keyed : ℕ → ℕ → ℕ → ℕ → List Occurrence → List Event
 keyed t code n index [] = []
 keyed t code n index (x ∷ xs) = event_at t code n index x ∷ keyed t code n (index + 1) xs
 

@@ -6,9 +6,9 @@ use Rattle.traffic.specs.declared.stage.Stage.{Stage}
 use Rattle.traffic.specs.declared.stage.Stage.TheVariants.{Queue, Buffer, Wait, Bay}
 use Rattle.traffic.specs.Rows.{World}
 use Rattle.traffic.specs.Setup.{Setup, link_row}
-use Rattle.traffic.specs.Telling.{Said}
-use Rattle.traffic.specs.Moves.{Move, Put, Gone, New, Mark, Credit, Free, Tell, run, touches}
-use Rattle.traffic.specs.Day.{Plan, Turn}
+use Rattle.traffic.specs.Telling.{Occurrence}
+use Rattle.traffic.specs.Moves.{Move, Transfer, Remove, Enter, SetFrontSince, Credit, LeaveHole, Report, run, touches}
+use Rattle.traffic.specs.Day.{TurnMoves, Turn}
 
 -- no move changes the rows of link l at stage s
 abbrev pub Untouched : ℕ → Stage → List Move → Type 0
@@ -17,13 +17,13 @@ Untouched l s (m ∷ ms) = (touches l s m ≡ false) × Untouched l s ms
 
 -- all that a move changes of vehicles is at link l
 abbrev pub IsAt : ℕ → Move → Type 0
-IsAt l (Put a s k was now) = (a ≡ l) × (now.link ≡ l)
-IsAt l (Gone a s k was) = a ≡ l
-IsAt l (New now) = now.link ≡ l
-IsAt l (Mark a t) = a ≡ l
+IsAt l (Transfer a s k was now) = (a ≡ l) × (now.link ≡ l)
+IsAt l (Remove a s k was) = a ≡ l
+IsAt l (Enter now) = now.link ≡ l
+IsAt l (SetFrontSince a t) = a ≡ l
 IsAt l (Credit a c) = a ≡ l
-IsAt l (Free a t) = a ≡ l
-IsAt l (Tell says) = Unit {0}
+IsAt l (LeaveHole a t) = a ≡ l
+IsAt l (Report says) = Unit {0}
 
 abbrev pub AreAt : ℕ → List Move → Type 0
 AreAt l [] = Unit {0}
@@ -31,13 +31,13 @@ AreAt l (m ∷ ms) = IsAt l m × AreAt l ms
 
 -- a move takes rows out of buffers alone, and changes no credit and no hole
 abbrev pub IsFromBuffer : Move → Type 0
-IsFromBuffer (Put a s k was now) = s ≡ Buffer
-IsFromBuffer (Gone a s k was) = s ≡ Buffer
-IsFromBuffer (New now) = Unit {0}
-IsFromBuffer (Mark a t) = Unit {0}
+IsFromBuffer (Transfer a s k was now) = s ≡ Buffer
+IsFromBuffer (Remove a s k was) = s ≡ Buffer
+IsFromBuffer (Enter now) = Unit {0}
+IsFromBuffer (SetFrontSince a t) = Unit {0}
 IsFromBuffer (Credit a c) = ⊥
-IsFromBuffer (Free a t) = ⊥
-IsFromBuffer (Tell says) = Unit {0}
+IsFromBuffer (LeaveHole a t) = ⊥
+IsFromBuffer (Report says) = Unit {0}
 
 abbrev pub AreFromBuffers : List Move → Type 0
 AreFromBuffers [] = Unit {0}
@@ -48,7 +48,7 @@ abbrev pub IsOf : ℕ → Option ℕ → Type 0
 IsOf i None = Unit {0}
 IsOf i (Some j) = j ≡ i
 
-abbrev pub AreOf : ℕ → List Said → Type 0
+abbrev pub AreOf : ℕ → List Occurrence → Type 0
 AreOf i [] = Unit {0}
 AreOf i (e ∷ es) = IsOf i e.person × AreOf i es
 
@@ -59,13 +59,13 @@ sees S n l Buffer = (link_row S l).to == n
 sees S n l Wait = false
 sees S n l Bay = false
 
--- no turn of the plan changes what another one sees
-abbrev pub Apart : Setup → ℕ → Plan → Type 0
-Apart S t plan = (n m : ℕ) (W : World) → n ≢ m → plan n (run S t (plan m W) W) ≡ plan n W
+-- no one's turn changes what another one sees
+abbrev pub Apart : Setup → ℕ → TurnMoves → Type 0
+Apart S t moves = (n m : ℕ) (W : World) → n ≢ m → moves n (run S t (moves m W) W) ≡ moves n W
 
 -- the turn of n in a world
-abbrev pub turn_of : Plan → World → ℕ → Turn
-turn_of plan W n = record { number = n; moves = plan n W }
+abbrev pub turn_of : TurnMoves → World → ℕ → Turn
+turn_of moves W n = record { number = n; moves = moves n W }
 
 -- each event's key is before those of all later ones
 abbrev pub IsBefore : Event → Event → Type 0

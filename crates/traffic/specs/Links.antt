@@ -7,18 +7,18 @@ pub use Rattle.traffic.specs.declared.numbers.Rules.{Rules}
 use Rattle.traffic.specs.Rows.{VehicleState, Row, World, at, credit_of}
 use Rattle.traffic.specs.Setup.{Setup, gain_of, room_of}
 use Rattle.traffic.specs.Stops.{Waiter, calls_on, left_behind, served_row}
-use Rattle.traffic.specs.Moves.{Move, Put, Gone, Credit, Free}
+use Rattle.traffic.specs.Moves.{Move, Transfer, Remove, Credit, LeaveHole}
 
 -- what a link's turn sees of the world besides those who wait
-pub record Lane : Type 0 where
+pub record LinkState : Type 0 where
   pub queue : List Row
   pub buffer : List Row
   pub wait : List Row
   pub bay : List Row
   pub credit : ℕ
 
-abbrev pub lane : ℕ → World → Lane
-lane l W = record { queue = at l Queue W; buffer = at l Buffer W; wait = at l Wait W; bay = at l Bay W; credit = credit_of l W }
+abbrev pub link_state : ℕ → World → LinkState
+link_state l W = record { queue = at l Queue W; buffer = at l Buffer W; wait = at l Wait W; bay = at l Bay W; credit = credit_of l W }
 
 -- the numbers of a link that its turn needs
 abbrev pub rules : Setup → ℕ → Rules
@@ -31,7 +31,7 @@ waiting l r = record r { link = l; stage = Wait; second = 0 }
 -- step 1, from place k of the bay on: those whose second has come go to the end of the wait list
 unfoldable pub leave_bay : ℕ → ℕ → ℕ → List Row → List Move
 leave_bay t l k [] = []
-leave_bay t l k (r ∷ rs) = if nat_le r.second t then Put l Bay k r (waiting l r) ∷ leave_bay t l k rs else leave_bay t l (k + 1) rs
+leave_bay t l k (r ∷ rs) = if nat_le r.second t then Transfer l Bay k r (waiting l r) ∷ leave_bay t l k rs else leave_bay t l (k + 1) rs
 
 -- whether a vehicle is at the last place of its route
 abbrev pub is_last : VehicleState → Bool
@@ -53,11 +53,11 @@ unfoldable pub from_wait : Rules → ℕ → ℕ → List Waiter → ℕ → ℕ
 from_wait K t l ws b credit [] = []
 from_wait K t l ws b credit (r ∷ rs) =
     if calls_on l r.vehicle
-    then Put l Wait 0 r (served_row K.dwell t l ws r.vehicle) ∷ from_wait K t l (left_behind r.vehicle ws) b credit rs
+    then Transfer l Wait 0 r (served_row K.dwell t l ws r.vehicle) ∷ from_wait K t l (left_behind r.vehicle ws) b credit rs
     else if is_last r.vehicle
-    then Gone l Wait 0 r ∷ from_wait K t l ws b credit rs
+    then Remove l Wait 0 r ∷ from_wait K t l ws b credit rs
     else if may_pass K b credit
-    then Put l Wait 0 r (buffered t l b r) ∷ Credit l (credit - VEHICLE_COST) ∷ from_wait K t l ws (b + 1) (credit - VEHICLE_COST) rs
+    then Transfer l Wait 0 r (buffered t l b r) ∷ Credit l (credit - VEHICLE_COST) ∷ from_wait K t l ws (b + 1) (credit - VEHICLE_COST) rs
     else []
 
 -- step 3, the same for the front of the queue while its second has come, where each row that leaves frees its place; and then step 4
@@ -67,19 +67,19 @@ from_queue K t l ws b credit (r ∷ rs) wait =
     if nat_lt t r.second
     then from_wait K t l ws b credit wait
     else if calls_on l r.vehicle
-    then Put l Queue 0 r (served_row K.dwell t l ws r.vehicle) ∷ Free l t ∷ from_queue K t l (left_behind r.vehicle ws) b credit rs wait
+    then Transfer l Queue 0 r (served_row K.dwell t l ws r.vehicle) ∷ LeaveHole l t ∷ from_queue K t l (left_behind r.vehicle ws) b credit rs wait
     else if is_last r.vehicle
-    then Gone l Queue 0 r ∷ Free l t ∷ from_queue K t l ws b credit rs wait
+    then Remove l Queue 0 r ∷ LeaveHole l t ∷ from_queue K t l ws b credit rs wait
     else if may_pass K b credit
-    then Put l Queue 0 r (buffered t l b r) ∷ Free l t ∷ Credit l (credit - VEHICLE_COST) ∷ from_queue K t l ws (b + 1) (credit - VEHICLE_COST) rs wait
+    then Transfer l Queue 0 r (buffered t l b r) ∷ LeaveHole l t ∷ Credit l (credit - VEHICLE_COST) ∷ from_queue K t l ws (b + 1) (credit - VEHICLE_COST) rs wait
     else from_wait K t l ws b credit wait
 
 -- the wait list after step 1
-abbrev pub wait_after : ℕ → ℕ → Lane → List Row
+abbrev pub wait_after : ℕ → ℕ → LinkState → List Row
 wait_after t l L = L.wait ++ map (waiting l) (filter (λ (r : Row). nat_le r.second t) L.bay)
 
 -- phase D at link l in second t: step 1, step 2 raises the credit, steps 3 and 4
-unfoldable pub link_moves : Rules → ℕ → ℕ → List Waiter → Lane → List Move
+unfoldable pub link_moves : Rules → ℕ → ℕ → List Waiter → LinkState → List Move
 link_moves K t l ws L =
     let credit = raised K.gain L.credit in
     leave_bay t l 0 L.bay ++ Credit l credit ∷ from_queue K t l ws (length L.buffer) credit L.queue (wait_after t l L)

@@ -8,25 +8,25 @@ use Rattle.events.specs.declared.event.More.TheVariants as more
 use Rattle.traffic.specs.declared.stage.Stage.{Stage}
 use Rattle.traffic.specs.declared.stage.Stage.TheVariants.{Buffer}
 pub use Rattle.traffic.specs.declared.moves.Move.{Move}
-pub use Rattle.traffic.specs.declared.moves.Move.TheVariants.{Put, Gone, New, Mark, Credit, Free, Tell}
-use Rattle.traffic.specs.Rows.{rank, on, Row, Hole, Place, At, Flying, Waiting, Riding, Gone as Removed, Person, World, nobody}
+pub use Rattle.traffic.specs.declared.moves.Move.TheVariants.{Transfer, Remove, Enter, SetFrontSince, Credit, LeaveHole, Report}
+use Rattle.traffic.specs.Rows.{rank, on, Row, Hole, Place, At, Teleporting, Waiting, Riding, Aborted, Person, World, nobody}
 use Rattle.traffic.specs.Setup.{Setup, act_at}
 use Rattle.traffic.specs.Lists.{without, without_at, with_first, on_front}
-use Rattle.traffic.specs.Telling.{Said, told_put, told_gone, told_new}
+use Rattle.traffic.specs.Telling.{Occurrence, told_transfer, told_removal, told_entering}
 
 -- the row with this second
 abbrev pub at_second : ℕ → Row → Row
 at_second t r = record r { second = t }
 
 -- what a move tells
-abbrev pub told : Move → List Said
-told (Put l s k was now) = told_put s was now
-told (Gone l s k was) = told_gone s was
-told (New now) = told_new now.vehicle.id now.link now.vehicle.line
-told (Mark l t) = []
+abbrev pub told : Move → List Occurrence
+told (Transfer l s k was now) = told_transfer s was now
+told (Remove l s k was) = told_removal s was
+told (Enter now) = told_entering now.vehicle.id now.link now.vehicle.line
+told (SetFrontSince l t) = []
 told (Credit l c) = []
-told (Free l t) = []
-told (Tell says) = says
+told (LeaveHole l t) = []
+told (Report says) = says
 
 -- an activity begun in second t ends as planned, but not before the next second; the last one never ends
 abbrev pub ends_at : Option ℕ → ℕ → Option ℕ
@@ -35,7 +35,7 @@ ends_at (Some planned) t = Some (max planned (t + 1))
 
 -- the leg of a person begins
 abbrev pub leave : ℕ → Person → Person
-leave t P = record { element = P.element + 1; place = Flying t }
+leave t P = record { element = P.element + 1; place = Teleporting t }
 
 -- the leg of a person ends, and the next activity begins
 abbrev pub arrive : Setup → ℕ → ℕ → Person → Person
@@ -56,11 +56,11 @@ wait_at _ t P = P
 
 abbrev pub lose : Option ℕ → Person → Person
 lose None P = P
-lose (Some l) P = record P { place = Removed l }
+lose (Some l) P = record P { place = Aborted l }
 
 -- What an event of person i in second t, of this word, makes of his row: with a departure he is under way, and the next event tells
 -- where if the leg is not teleported; from then on he is in a vehicle, at a stop, at his next activity, or removed.
-abbrev pub person_by : Setup → ℕ → ℕ → Said → Word → Person → Person
+abbrev pub person_by : Setup → ℕ → ℕ → Occurrence → Word → Person → Person
 person_by S t i e word.Departure P = leave t P
 person_by S t i e word.WaitingForPt P = wait_at e.more t P
 person_by S t i e word.PersonEntersVehicle P = ride e.vehicle P
@@ -68,24 +68,24 @@ person_by S t i e word.ActStart P = start_act S t i P P.place
 person_by S t i e word.StuckAndAbort P = lose e.link P
 person_by S t i e _ P = P
 
-unfoldable pub person_after : Setup → ℕ → ℕ → Said → Person → Person
+unfoldable pub person_after : Setup → ℕ → ℕ → Occurrence → Person → Person
 person_after S t i e P = person_by S t i e e.word P
 
 -- of the rows of all persons an event changes that of its person alone
-abbrev pub persons_by : Setup → ℕ → Said → Option ℕ → List Person → List Person
+abbrev pub persons_by : Setup → ℕ → Occurrence → Option ℕ → List Person → List Person
 persons_by S t e None ps = ps
 persons_by S t e (Some i) ps = set ps i (person_after S t i e (get_or ps i nobody))
 
-abbrev pub persons_after : Setup → ℕ → List Said → List Person → List Person
+abbrev pub persons_after : Setup → ℕ → List Occurrence → List Person → List Person
 persons_after S t [] ps = ps
 persons_after S t (e ∷ es) ps = persons_after S t es (persons_by S t e e.person ps)
 
 -- what a move does to the rows of vehicles, to credits and to holes
 abbrev pub rows_after : Move → List Row → List Row
-rows_after (Put l s k was now) rows = without (on l s) k rows ++ now ∷ []
-rows_after (Gone l s k was) rows = without (on l s) k rows
-rows_after (New now) rows = rows ++ now ∷ []
-rows_after (Mark l t) rows = with_first (on l Buffer) (at_second t) rows
+rows_after (Transfer l s k was now) rows = without (on l s) k rows ++ now ∷ []
+rows_after (Remove l s k was) rows = without (on l s) k rows
+rows_after (Enter now) rows = rows ++ now ∷ []
+rows_after (SetFrontSince l t) rows = with_first (on l Buffer) (at_second t) rows
 rows_after _ rows = rows
 
 abbrev pub credits_after : Move → List ℕ → List ℕ
@@ -93,7 +93,7 @@ credits_after (Credit l c) cs = set cs l c
 credits_after _ cs = cs
 
 abbrev pub holes_after : Move → List Hole → List Hole
-holes_after (Free l t) hs = hs ++ record { link = l; second = t } ∷ []
+holes_after (LeaveHole l t) hs = hs ++ record { link = l; second = t } ∷ []
 holes_after _ hs = hs
 
 -- the world after a move of second t
@@ -117,11 +117,11 @@ same l s a z = (rank z == rank s) && (a == l)
 
 -- what a move does to the rows of link l at stage s, whatever the others are
 abbrev pub at_after : ℕ → Stage → Move → List Row → List Row
-at_after l s (Put a z k was now) xs =
+at_after l s (Transfer a z k was now) xs =
     (if same l s a z then without_at k xs else xs) ++ (if on l s now then now ∷ [] else [])
-at_after l s (Gone a z k was) xs = if same l s a z then without_at k xs else xs
-at_after l s (New now) xs = xs ++ (if on l s now then now ∷ [] else [])
-at_after l s (Mark a t) xs = if same l s a Buffer then on_front (at_second t) xs else xs
+at_after l s (Remove a z k was) xs = if same l s a z then without_at k xs else xs
+at_after l s (Enter now) xs = xs ++ (if on l s now then now ∷ [] else [])
+at_after l s (SetFrontSince a t) xs = if same l s a Buffer then on_front (at_second t) xs else xs
 at_after l s _ xs = xs
 
 -- what it does to the credit and to the holes of link l
@@ -130,15 +130,15 @@ credit_after l (Credit a c') c = if a == l then c' else c
 credit_after l _ c = c
 
 abbrev pub hole_after : ℕ → Move → List ℕ → List ℕ
-hole_after l (Free a t) hs = if a == l then hs ++ t ∷ [] else hs
+hole_after l (LeaveHole a t) hs = if a == l then hs ++ t ∷ [] else hs
 hole_after l _ hs = hs
 
 -- what an event does to the row of person i
-abbrev pub told_of : Setup → ℕ → ℕ → Said → Option ℕ → Person → Person
+abbrev pub told_of : Setup → ℕ → ℕ → Occurrence → Option ℕ → Person → Person
 told_of S t i e None P = P
 told_of S t i e (Some j) P = if j == i then person_after S t i e P else P
 
-abbrev pub person_after_all : Setup → ℕ → ℕ → List Said → Person → Person
+abbrev pub person_after_all : Setup → ℕ → ℕ → List Occurrence → Person → Person
 person_after_all S t i [] P = P
 person_after_all S t i (e ∷ es) P = person_after_all S t i es (told_of S t i e e.person P)
 
@@ -157,8 +157,8 @@ credit_after_all l (m ∷ ms) c = credit_after_all l ms (credit_after l m c)
 
 -- whether a move may change the rows of link l at stage s
 abbrev pub touches : ℕ → Stage → Move → Bool
-touches l s (Put a z k was now) = same l s a z || on l s now
-touches l s (Gone a z k was) = same l s a z
-touches l s (New now) = on l s now
-touches l s (Mark a t) = same l s a Buffer
+touches l s (Transfer a z k was now) = same l s a z || on l s now
+touches l s (Remove a z k was) = same l s a z
+touches l s (Enter now) = on l s now
+touches l s (SetFrontSince a t) = same l s a Buffer
 touches l s _ = false

@@ -8,15 +8,15 @@ use Rattle.events.specs.declared.event.VehicleId.{VehicleId}
 use Rattle.events.specs.declared.event.VehicleId.TheVariants as vehicle
 use Rattle.events.specs.declared.event.More.TheVariants as more
 use Rattle.traffic.specs.declared.stage.Stage.TheVariants.{Wait}
-use Rattle.traffic.specs.Rows.{Row, Place, At, Flying, Waiting, Riding, Gone as Removed, Person, World, person_of}
+use Rattle.traffic.specs.Rows.{Row, Place, At, Teleporting, Waiting, Riding, Aborted, Person, World, person_of}
 use Rattle.rows.specs.declared.plan.Act.{Act}
 use Rattle.rows.specs.declared.plan.Leg.{Leg}
 use Rattle.rows.specs.declared.plan.Leg.TheVariants as leg
 use Rattle.traffic.specs.Setup.{Setup, Departure, act_at, leg_at, act_after, link_of_stop, departure}
 use Rattle.traffic.specs.Lists.{below}
 use Rattle.traffic.specs.Stops.{Waiter}
-use Rattle.traffic.specs.Telling.{Said, of_person}
-use Rattle.traffic.specs.Moves.{Move, New, Tell}
+use Rattle.traffic.specs.Telling.{Occurrence, of_person}
+use Rattle.traffic.specs.Moves.{Move, Enter, Report}
 
 -- the mode of a leg
 abbrev pub mode_of_leg : Leg → Mode
@@ -25,7 +25,7 @@ mode_of_leg (leg.Teleport mode seconds) = mode
 mode_of_leg (leg.Transit line access egress) = mode.Pt
 
 -- a teleported leg is over
-abbrev pub lands : ℕ → Mode → ℕ → Act → List Said
+abbrev pub lands : ℕ → Mode → ℕ → Act → List Occurrence
 lands i mode seconds next =
     (record { word = word.Travelled; person = Some i; vehicle = None; link = None; more = more.Seconds seconds })
     ∷ of_person word.Arrival i next.link (more.Mode mode)
@@ -33,7 +33,7 @@ lands i mode seconds next =
 
 -- phase A for a person at this place, whose leg this is and next activity that: where a teleported leg of d seconds began d seconds ago
 abbrev pub landing : ℕ → ℕ → Leg → Act → Place → List Move
-landing t i (leg.Teleport mode seconds) next (Flying start) = if start + seconds == t then Tell (lands i mode seconds next) ∷ [] else []
+landing t i (leg.Teleport mode seconds) next (Teleporting start) = if start + seconds == t then Report (lands i mode seconds next) ∷ [] else []
 landing t i _ next _ = []
 
 unfoldable pub landing_moves : Setup → ℕ → ℕ → Person → List Move
@@ -63,17 +63,17 @@ car i route kind =
 
 -- how a leg begins: a driver enters his car, a passenger waits at the access stop, and of a teleported leg nothing more is told
 abbrev pub sets_out : Setup → ℕ → Leg → Act → List Move
-sets_out S i (leg.Car route) next = New (car i route next.kind) ∷ []
+sets_out S i (leg.Car route) next = Enter (car i route next.kind) ∷ []
 sets_out S i (leg.Teleport mode seconds) next = []
-sets_out S i (leg.Transit line access egress) next = Tell (of_person word.WaitingForPt i (link_of_stop S access) (more.Stop access) ∷ []) ∷ []
+sets_out S i (leg.Transit line access egress) next = Report (of_person word.WaitingForPt i (link_of_stop S access) (more.Stop access) ∷ []) ∷ []
 
 -- an activity ends, and the leg after it begins
-abbrev pub departs : ℕ → Act → Leg → List Said
+abbrev pub departs : ℕ → Act → Leg → List Occurrence
 departs i here w = of_person word.ActEnd i here.link (more.Kind here.kind) ∷ of_person word.Departure i here.link (more.Mode (mode_of_leg w)) ∷ []
 
 -- phase B1 for a person at this place, with this activity, leg and next activity: where his activity ends in second t
 abbrev pub leaving : Setup → ℕ → ℕ → Act → Leg → Act → Place → List Move
-leaving S t i here w next (At (Some end)) = if end == t then Tell (departs i here w) ∷ sets_out S i w next else []
+leaving S t i here w next (At (Some end)) = if end == t then Report (departs i here w) ∷ sets_out S i w next else []
 leaving S t i here w next _ = []
 
 unfoldable pub leaving_moves : Setup → ℕ → ℕ → Person → List Move
@@ -103,7 +103,7 @@ transit_vehicle d D =
 
 -- phase B2 for a departure: in its second
 unfoldable pub departure_moves : Setup → ℕ → ℕ → List Move
-departure_moves S t d = if (departure S d).second == t then New (transit_vehicle d (departure S d)) ∷ [] else []
+departure_moves S t d = if (departure S d).second == t then Enter (transit_vehicle d (departure S d)) ∷ [] else []
 
 -- a person who waits at a stop, with his leg and the activity after it
 abbrev pub waits : ℕ → Leg → Act → ℕ → ℕ → List Waiter
@@ -137,14 +137,14 @@ link_of_vehicle v (r ∷ rs) = if same_vehicle r.vehicle.id v then r.link else l
 
 -- phase E: who is under way is stuck: one who flies on the link of the activity that he left, one who waits on that of the stop, one
 -- who rides on that of the vehicle
-abbrev pub stuck_at : Setup → World → ℕ → Act → Mode → Place → List Said
+abbrev pub stuck_at : Setup → World → ℕ → Act → Mode → Place → List Occurrence
 stuck_at S W i here mode (At end) = []
-stuck_at S W i here mode (Flying start) = of_person word.StuckAndAbort i here.link (more.Mode mode) ∷ []
+stuck_at S W i here mode (Teleporting start) = of_person word.StuckAndAbort i here.link (more.Mode mode) ∷ []
 stuck_at S W i here mode (Waiting stop since) = of_person word.StuckAndAbort i (link_of_stop S stop) (more.Mode mode) ∷ []
 stuck_at S W i here mode (Riding v) = of_person word.StuckAndAbort i (link_of_vehicle v W.rows) (more.Mode mode) ∷ []
-stuck_at S W i here mode (Removed l) = []
+stuck_at S W i here mode (Aborted l) = []
 
-unfoldable pub stranded : Setup → World → ℕ → List Said
+unfoldable pub stranded : Setup → World → ℕ → List Occurrence
 stranded S W i =
     let P = person_of i W in
     stuck_at S W i (act_at S i P.element) (mode_of_leg (leg_at S i P.element)) P.place

@@ -6,7 +6,7 @@ pub use Rattle.traffic.specs.Vehicles.{VehicleState}
 pub use Rattle.traffic.specs.declared.world.Row.{Row}
 pub use Rattle.traffic.specs.declared.world.Hole.{Hole}
 pub use Rattle.traffic.specs.declared.world.Place.{Place}
-pub use Rattle.traffic.specs.declared.world.Place.TheVariants.{At, Flying, Waiting, Riding, Gone}
+pub use Rattle.traffic.specs.declared.world.Place.TheVariants.{At, Teleporting, Waiting, Riding, Aborted}
 pub use Rattle.traffic.specs.declared.world.Person.{Person}
 
 -- the number of a stage
@@ -44,7 +44,7 @@ credit_of l W = get_or W.credits l 0
 
 -- the row that stands for a person who is not there
 abbrev pub nobody : Person
-nobody = record { element = 0; place = Gone 0 }
+nobody = record { element = 0; place = Aborted 0 }
 
 -- the row of a person
 abbrev pub person_of : ℕ → World → Person

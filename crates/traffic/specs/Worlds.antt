@@ -11,15 +11,15 @@ use Rattle.traffic.specs.declared.stage.Stage.{Stage}
 use Rattle.traffic.specs.declared.stage.Stage.TheVariants.{Queue, Buffer, Wait, Bay}
 use Rattle.traffic.specs.declared.riders.Rider.{Rider}
 use Rattle.traffic.specs.Lists.{is_nil}
-use Rattle.traffic.specs.Rows.{VehicleState, Row, Place, At, Flying, Waiting, Riding, Gone as Removed, World, on, at, person_of}
+use Rattle.traffic.specs.Rows.{VehicleState, Row, Place, At, Teleporting, Waiting, Riding, Aborted, World, on, at, person_of}
 use Rattle.rows.specs.declared.plan.Act.{Act}
 use Rattle.rows.specs.declared.plan.Leg.{Leg}
 use Rattle.rows.specs.declared.settings.Stuck.{Stuck}
 use Rattle.rows.specs.declared.plan.Leg.TheVariants as leg
 use Rattle.traffic.specs.Setup.{Setup, person_plan, leg_at, act_after, departure, storage_of, gain_of}
 use Rattle.rows.specs.Stops.{calls_at}
-use Rattle.traffic.specs.Moves.{Move, Put}
-use Rattle.traffic.specs.Nodes.{Exit, has_room, is_stuck, exits_by}
+use Rattle.traffic.specs.Moves.{Move, Transfer}
+use Rattle.traffic.specs.Nodes.{OutLink, has_room, is_stuck, out_links_by}
 use Rattle.traffic.specs.Persons.{same_vehicle}
 use Rattle.traffic.specs.Day.{moves_of, turns_in, through, world_from}
 
@@ -50,21 +50,21 @@ abbrev pub Storage : Setup → World → Type 0
 Storage S W = (l : ℕ) → l < length S.links → count_by (λ (r : Row). not r.vehicle.pushed) (at l Queue W) ≤ storage_of S l
 
 -- a row goes into a queue because there is room, or it is stuck and is pushed in; and it knows which
-abbrev pub IsEntering : Stuck → ℕ → Option Exit → Row → Row → Type 0
+abbrev pub IsEntering : Stuck → ℕ → Option OutLink → Row → Row → Type 0
 IsEntering K t e was now =
     ((has_room e ≡ true) × (now.vehicle.pushed ≡ false))
     ⊎ ((has_room e ≡ false) × (K.push ≡ true) × (is_stuck K t was.second ≡ true) × (now.vehicle.pushed ≡ true))
 
 -- each move of a node's turn that takes a row out of a buffer into a queue does so, by the taken places that the ones before it left
-abbrev pub EnterByRule : Stuck → ℕ → (ℕ → Option Exit) → List Move → Type 0
-EnterByRule K t exits [] = Unit {0}
-EnterByRule K t exits (Put l s k was now ∷ ms) = IsEntering K t (exits now.link) was now × EnterByRule K t (exits_by (Put l s k was now) exits) ms
-EnterByRule K t exits (_ ∷ ms) = EnterByRule K t exits ms
+abbrev pub EnterByRule : Stuck → ℕ → (ℕ → Option OutLink) → List Move → Type 0
+EnterByRule K t out_links [] = Unit {0}
+EnterByRule K t out_links (Transfer l s k was now ∷ ms) = IsEntering K t (out_links now.link) was now × EnterByRule K t (out_links_by (Transfer l s k was now) out_links) ms
+EnterByRule K t out_links (_ ∷ ms) = EnterByRule K t out_links ms
 
 -- FLOW
 -- how many rows moves put into the buffer of link l
 abbrev pub buffers_one : ℕ → Move → ℕ
-buffers_one l (Put a s k was now) = if on l Buffer now then 1 else 0
+buffers_one l (Transfer a s k was now) = if on l Buffer now then 1 else 0
 buffers_one l _ = 0
 
 abbrev pub passing : ℕ → List Move → ℕ
@@ -100,9 +100,9 @@ abbrev pub HasEnd : Bool → Option ℕ → Type 0
 HasEnd last None = last ≡ true
 HasEnd last (Some end) = last ≡ false
 
-abbrev pub IsFlight : Leg → Type 0
-IsFlight (leg.Teleport mode seconds) = Unit {0}
-IsFlight _ = ⊥
+abbrev pub IsTeleported : Leg → Type 0
+IsTeleported (leg.Teleport mode seconds) = Unit {0}
+IsTeleported _ = ⊥
 
 -- a transit leg from this stop
 abbrev pub IsFrom : ℕ → Leg → Type 0
@@ -110,17 +110,17 @@ IsFrom stop (leg.Transit line access egress) = access ≡ stop
 IsFrom stop _ = ⊥
 
 -- a leg in a vehicle
-abbrev pub IsRide : Leg → Type 0
-IsRide (leg.Teleport mode seconds) = ⊥
-IsRide _ = Unit {0}
+abbrev pub IsInVehicle : Leg → Type 0
+IsInVehicle (leg.Teleport mode seconds) = ⊥
+IsInVehicle _ = Unit {0}
 
 -- a person's element fits the place
 abbrev pub IsSoundPerson : Setup → ℕ → ℕ → Place → Type 0
 IsSoundPerson S i element (At end) = IsAct S i element × HasEnd (is_last_act S i element) end
-IsSoundPerson S i element (Flying start) = IsLeg S i element × IsFlight (leg_at S i element)
+IsSoundPerson S i element (Teleporting start) = IsLeg S i element × IsTeleported (leg_at S i element)
 IsSoundPerson S i element (Waiting stop since) = IsLeg S i element × IsFrom stop (leg_at S i element)
-IsSoundPerson S i element (Riding v) = IsLeg S i element × IsRide (leg_at S i element)
-IsSoundPerson S i element (Removed l) = IsLeg S i element × IsRide (leg_at S i element)
+IsSoundPerson S i element (Riding v) = IsLeg S i element × IsInVehicle (leg_at S i element)
+IsSoundPerson S i element (Aborted l) = IsLeg S i element × IsInVehicle (leg_at S i element)
 
 -- a vehicle in a bay has served a stop, and one in a buffer has a next link
 abbrev pub IsSoundStage : Stage → VehicleState → Type 0

@@ -8,7 +8,7 @@ ghost use Rattle.events.specs.declared.event.Word.TheVariants.{EnteredLink, Arri
 ghost use Rattle.fixed_flow.specs.Flow.{raised};
 ghost use Rattle.traffic.specs.declared.stage.Stage.{Stage};
 ghost use Rattle.traffic.specs.Lists.{below};
-ghost use Rattle.traffic.specs.Rows.{World, at, holes_at, credit_of, person_of, At, Flying};
+ghost use Rattle.traffic.specs.Rows.{World, at, holes_at, credit_of, person_of, At, Teleporting};
 ghost use Rattle.rows.specs.declared.plan.Act.{Act};
 ghost use Rattle.rows.specs.declared.plan.Leg.{Leg};
 ghost use Rattle.rows.specs.declared.settings.Stuck.{Stuck};
@@ -16,12 +16,14 @@ ghost use Rattle.rows.specs.declared.plan.Leg.TheVariants as leg;
 ghost use Rattle.traffic.specs.Setup.{Setup, departure};
 ghost use Rattle.traffic.specs.Stops.{Waiter, ComesBefore, in_turn};
 ghost use Rattle.traffic.specs.Moves.{Move, Credit, told, done, run, at_after, hole_after, credit_after, person_after_all};
-ghost use Rattle.traffic.specs.Links.{Lane, lane, Rules, link_moves};
-ghost use Rattle.traffic.specs.Nodes.{Sight, ready, node_moves};
+ghost use Rattle.traffic.specs.Links.{LinkState, link_state, Rules, link_moves};
+ghost use Rattle.traffic.specs.Nodes.{NodeView, ready, node_moves};
 ghost use Rattle.traffic.specs.Persons.{waiters, landing, leaving, departure_moves};
-ghost use Rattle.traffic.specs.Day.{flight_plan, leave_plan, departure_plan, node_plan, link_plan, plan_of, count_of, turns_in, events_from, day};
+ghost use Rattle.traffic.specs.Day.{landing_turns, leaving_turns, departure_turns, node_turns, link_turns, turns_of, count_of, turns_in};
+ghost use Rattle.traffic.specs.Day.{events_from, day};
 ghost use Rattle.traffic.specs.Frames.{Untouched, AreAt, AreFromBuffers, sees, turn_of, Ascends};
-ghost use Rattle.traffic.specs.Worked.{short, bus, bus_told, narrow, narrow_told, arrivals, junction, junction_told, red_light, jam, line, entering};
+ghost use Rattle.traffic.specs.Worked.{short, bus, bus_told, narrow, narrow_told, arrivals, junction, junction_told, red_light, jam, line};
+ghost use Rattle.traffic.specs.Worked.{entering};
 
 /// What a move does to the rows of a link at a stage, to the holes and the credit of a link, and to
 /// the row of a person depends on each of these alone.
@@ -38,38 +40,38 @@ pub fn moves_are_local()
 
 /// The turn of a link changes no other link, nor anyone who waits at a stop there.
 pub fn links_keep_apart()
-    ensures moves { (S : Setup) (t l : ℕ) (W : World) → AreAt l (link_plan S t l W) }
-    ensures lanes { (S : Setup) (t l a : ℕ) (W : World) → a ≢ l
-        → lane a (run S t (link_plan S t l W) W) ≡ lane a W }
+    ensures moves { (S : Setup) (t l : ℕ) (W : World) → AreAt l (link_turns S t l W) }
+    ensures link_state { (S : Setup) (t l a : ℕ) (W : World) → a ≢ l
+        → link_state a (run S t (link_turns S t l W) W) ≡ link_state a W }
     ensures waiters { (S : Setup) (t l a : ℕ) (W : World) → a ≢ l
-        → waiters S a (run S t (link_plan S t l W) W) ≡ waiters S a W }
+        → waiters S a (run S t (link_turns S t l W) W) ≡ waiters S a W }
 {}
 
 /// The turn of a node changes no list that the node does not see, no credit and no hole.
 pub fn nodes_keep_apart()
     ensures lists { (S : Setup) (t n l : ℕ) (s : Stage) (W : World) → sees S n l s ≡ false
-        → at l s (run S t (node_plan S t n W) W) ≡ at l s W }
+        → at l s (run S t (node_turns S t n W) W) ≡ at l s W }
     ensures credits { (S : Setup) (t n l : ℕ) (W : World)
-        → credit_of l (run S t (node_plan S t n W) W) ≡ credit_of l W }
+        → credit_of l (run S t (node_turns S t n W) W) ≡ credit_of l W }
     ensures holes { (S : Setup) (t n l : ℕ) (W : World)
-        → holes_at l (run S t (node_plan S t n W) W) ≡ holes_at l W }
+        → holes_at l (run S t (node_turns S t n W) W) ≡ holes_at l W }
 {}
 
 /// The turn of a person changes the row of no other person, and the turn of a departure that of none.
 pub fn persons_keep_apart()
     ensures flights { (S : Setup) (t i j : ℕ) (W : World) → j ≢ i
-        → person_of j (run S t (flight_plan S t i W) W) ≡ person_of j W }
+        → person_of j (run S t (landing_turns S t i W) W) ≡ person_of j W }
     ensures leaves { (S : Setup) (t i j : ℕ) (W : World) → j ≢ i
-        → person_of j (run S t (leave_plan S t i W) W) ≡ person_of j W }
+        → person_of j (run S t (leaving_turns S t i W) W) ≡ person_of j W }
     ensures departures { (S : Setup) (t d j : ℕ) (W : World)
-        → person_of j (run S t (departure_plan S t d W) W) ≡ person_of j W }
+        → person_of j (run S t (departure_turns S t d W) W) ≡ person_of j W }
 {}
 
 /// The turns of a phase, made by number and each in the world that those before it left, are those
 /// of the world at its start.
 pub fn phases_are_at_once()
     ensures { (S : Setup) (t : ℕ) (p : Phase) (W : World)
-        → turns_in S t p W ≡ map (turn_of (plan_of S t p) W) (below (count_of S p)) }
+        → turns_in S t p W ≡ map (turn_of (turns_of S t p) W) (below (count_of S p)) }
 {}
 
 /// The events of a day are in the order of their keys.
@@ -86,13 +88,13 @@ pub fn waiters_come_in_turn()
 
 /// A turn that has nothing to do makes no moves, but for the credit of a link, which is raised.
 pub fn idle_turns_move_nothing()
-    ensures links { (K : Rules) (t l : ℕ) (ws : List Waiter) (L : Lane)
+    ensures links { (K : Rules) (t l : ℕ) (ws : List Waiter) (L : LinkState)
         → L.queue ≡ [] → L.wait ≡ [] → L.bay ≡ []
         → link_moves K t l ws L ≡ Credit l (raised K.gain L.credit) ∷ [] }
-    ensures nodes { (K : Stuck) (t : ℕ) (word : ℕ → ℕ) (see : Sight) → ready see.entries ≡ []
+    ensures nodes { (K : Stuck) (t : ℕ) (word : ℕ → ℕ) (see : NodeView) → ready see.in_links ≡ []
         → node_moves K t word see ≡ [] }
     ensures flights { (t i : ℕ) (mode : Mode) (seconds start : ℕ) (next : Act)
-        → start + seconds ≢ t → landing t i (leg.Teleport mode seconds) next (Flying start) ≡ [] }
+        → start + seconds ≢ t → landing t i (leg.Teleport mode seconds) next (Teleporting start) ≡ [] }
     ensures leaves { (S : Setup) (t i end : ℕ) (here : Act) (w : Leg) (next : Act)
         → end ≢ t → leaving S t i here w next (At (Some end)) ≡ [] }
     ensures departures { (S : Setup) (t d : ℕ) → (departure S d).second ≢ t

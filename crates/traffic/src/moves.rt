@@ -4,7 +4,7 @@ use events::{More, Rows, VehicleId, Word};
 
 /// An event without its key.
 #[derive(Clone, Copy, Debug, PartialEq, Eq)]
-pub struct Said {
+pub struct Occurrence {
     pub word: Word,
     pub person: Option<u32>,
     pub vehicle: Option<VehicleId>,
@@ -13,47 +13,47 @@ pub struct Said {
 }
 
 /// What is told, in order.
-pub type SaidList = Rows<Said>;
+pub type OccurrenceList = Rows<Occurrence>;
 
-/// What happens. A row that is moved is the one at place `k` among those of link `l` at stage `s`.
+/// What happens. A row that is moved is the one at this place among those of a link at a stage.
 #[derive(Drop)]
 pub enum Move {
     /// It is taken out, and `now`, the row as it is from now on, is put last.
-    Put {
-        l: u32,
-        s: Stage,
-        k: usize,
+    Transfer {
+        link: u32,
+        stage: Stage,
+        place: usize,
         was: Row,
         now: Row,
     },
     /// It is taken out for good.
-    Gone {
-        l: u32,
-        s: Stage,
-        k: usize,
+    Remove {
+        link: u32,
+        stage: Stage,
+        place: usize,
         was: Row,
     },
     /// A new row is put last.
-    New {
+    Enter {
         now: Row,
     },
-    /// The front of the buffer of `l` gets the second `t` where it stands.
-    Mark {
-        l: u32,
-        t: u32,
+    /// The front of the buffer of a link gets this second where it stands.
+    SetFrontSince {
+        link: u32,
+        second: u32,
     },
-    /// The credit of `l` is now this.
+    /// The credit of a link is now this.
     Credit {
-        l: u32,
+        link: u32,
         credit: u32,
     },
-    /// A place in the queue of `l` is left in second `t`.
-    Free {
-        l: u32,
-        t: u32,
+    /// A place in the queue of a link is left in this second.
+    LeaveHole {
+        link: u32,
+        second: u32,
     },
     /// This is told of persons, and moves no vehicle.
-    Tell {
-        says: SaidList,
+    Report {
+        says: OccurrenceList,
     },
 }

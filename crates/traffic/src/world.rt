@@ -45,13 +45,13 @@ pub enum Place {
     /// At an activity that ends at this second, or never.
     At { end: Option<u32> },
     /// On a teleported leg since this second.
-    Flying { start: u32 },
+    Teleporting { start: u32 },
     /// At this stop since this second.
     Waiting { stop: u32, since: u32 },
     /// In this vehicle.
     Riding { vehicle: VehicleId },
     /// Removed with a vehicle from this link.
-    Gone { link: u32 },
+    Aborted { link: u32 },
 }
 
 /// A person: the element of the plan, where `2k` is activity `k` and `2k + 1` the leg after it, and

@@ -1,16 +1,12 @@
 -- Vehicles that go along four links are fit, and so is a world of them.
-use Rattle.std.proofs.Common.{◌≡◌, ◌+◌, ◌<◌, ℕ, List, [], ◌∷◌, ◌++◌, length, arith, subst, sym, ap, ◌∙◌}
-use Rattle.std.specs.Prelude.{All}
-use Rattle.std.proofs.lemmas.List.Elements.{All-from_recursion, All-append}
-use Rattle.town.specs.declared.day_input.DayInput.{DayInput}
-use Rattle.town.specs.Views.{setup}
+use Rattle.traffic.proofs.Common.{◌≡◌, ℕ, List, ◌∙◌, length, ap, sym, [], ◌∷◌, arith, ◌<◌, ◌++◌, ◌+◌, subst, All-append, All-from_recursion, All, world_start}
+use Rattle.traffic.proofs.Common.{World, IsSoundStage}
 use Rattle.traffic.specs.declared.stage.Stage.{Stage}
 use Rattle.traffic.specs.declared.world.Row.{Row}
-use Rattle.traffic.specs.Rows.{World}
-use Rattle.traffic.specs.Day.{world_start}
-use Rattle.traffic.specs.Worlds.{IsSoundStage}
-use Rattle.fit_days.specs.Rows.{Counts, IsFitLink, IsFitRider, IsFitCall, IsFitVehicle, IsFitRow, IsFitWorld}
-use Rattle.fit_days.specs.Setups.{counts_in}
+use Rattle.town.specs.declared.day_input.DayInput.{DayInput}
+use Rattle.town.specs.Views.{setup}
+use Rattle.law_in_range.specs.Rows.{Counts, IsFitLink, IsFitRider, IsFitCall, IsFitVehicle, IsFitRow, IsFitWorld}
+use Rattle.law_in_range.specs.Setups.{counts_in}
 use Rattle.plain_day.specs.Plans.{HaveFittingPlans}
 use Rattle.plain_day.proofs.Dawn.{start_is_fit}
 use Rattle.worked_days.specs.Jams.{going, IsRoomy}

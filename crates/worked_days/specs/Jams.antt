@@ -2,7 +2,7 @@
 use Rattle.std.specs.Prelude.{ℕ, ◌<◌, ◌≤◌, true, false, [], ◌∷◌}
 use Rattle.events.specs.declared.event.VehicleId.TheVariants as vehicle
 use Rattle.traffic.specs.Vehicles.{VehicleState}
-use Rattle.fit_days.specs.Rows.{Counts}
+use Rattle.law_in_range.specs.Rows.{Counts}
 
 -- a vehicle of the first departure, which has entered traffic and goes along four links without a stop
 abbrev pub going : ℕ → VehicleState

@@ -1,8 +1,8 @@
 //! A jam on short links, second by second.
 
 ghost use Rattle.std.specs.Prelude.{◌≡◌, ◌<◌, true, All, IfOk};
-ghost use Rattle.fit_days.specs.Rows.{Counts, IsFitRow, IsFitWorld};
-ghost use Rattle.fit_days.specs.Setups.{counts_in};
+ghost use Rattle.law_in_range.specs.Rows.{Counts, IsFitRow, IsFitWorld};
+ghost use Rattle.law_in_range.specs.Setups.{counts_in};
 ghost use Rattle.plain_day.specs.Plans.{HaveFittingPlans};
 ghost use Rattle.traffic.specs.Worlds.{IsSoundStage};
 ghost use Rattle.worked_days.specs.Jams.{going, IsRoomy};

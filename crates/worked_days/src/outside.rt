@@ -4,12 +4,12 @@ use crate::cases::{
     BUS, Case, DEPARTURES, DRIVE, LINE, LINKS, NODES, ROUTES, STOPS, are_written, inputs_of,
     is_written, put, status_of, words_of,
 };
+use command_line::{Asked, read_words};
 use edge_files::{InFile, MemoryInputs, MemoryOutputs, OutFile};
 use qsim_top::Status;
 use std::alloc::Global;
 use std::sync::Wait;
 use std::thread::Threads;
-use words::{Asked, read_words};
 
 /// Wrong words and help, which ends well.
 static WORDS: [(&[&str], Status); 8] = [

@@ -8,7 +8,7 @@ ghost use Rattle.town.specs.Views.{rows_of};
 ghost use Rattle.plain_day.specs.Plans.{HaveFittingPlans};
 
 use crate::cases::{Case, plans_of};
-use edge_files::Bytes;
+use edge_files::{Bytes, InFile};
 use rows::Plan;
 use scenario::{Files, Scenario, assemble};
 use std::alloc::Global;
@@ -30,24 +30,20 @@ fn plans_in(alloc: Global, rows: &str) -> Bytes {
 
 /// The files of a case, none of which is too long.
 fn files_of(alloc: Global, case: &Case) -> Files {
-    Files {
-        settings: bytes_of(alloc, case.settings),
-        nodes: bytes_of(alloc, case.nodes),
-        links: bytes_of(alloc, case.links),
-        plans: plans_in(alloc, case.plans),
-        stops: bytes_of(alloc, case.stops),
-        routes: bytes_of(alloc, case.routes),
-        departures: bytes_of(alloc, case.departures),
-        long: None,
-    }
+    let mut files = Files::new(alloc);
+    files.put(InFile::Settings, Some(bytes_of(alloc, case.settings)));
+    files.put(InFile::Nodes, Some(bytes_of(alloc, case.nodes)));
+    files.put(InFile::Links, Some(bytes_of(alloc, case.links)));
+    files.put(InFile::Plans, Some(plans_in(alloc, case.plans)));
+    files.put(InFile::Stops, Some(bytes_of(alloc, case.stops)));
+    files.put(InFile::Routes, Some(bytes_of(alloc, case.routes)));
+    files.put(InFile::Departures, Some(bytes_of(alloc, case.departures)));
+    files
 }
 
 /// The scenario of a case, where it has no fault.
 pub(crate) fn scenario_of(alloc: Global, case: &Case) -> Option<Scenario> {
-    match assemble(alloc, files_of(alloc, case)) {
-        Ok(scenario) => Some(scenario),
-        Err(_) => None,
-    }
+    assemble(alloc, &files_of(alloc, case)).ok()
 }
 
 /// Whether each plan fits the town.

@@ -1,5 +1,4 @@
-use Rattle.std.proofs.Common.{◌≡◌, ◌≤◌, length}
-use Rattle.limits.specs.declared.TheConstants.{MAX_LINKS}
+use Rattle.std.proofs.Common.{◌≡◌, length}
 use Rattle.records.proofs.InTurn.{IsReadTo}
 use Rattle.network.specs.Links.{link_reason, link_of}
 use Rattle.network.proofs.links.read_body.Given as goal
@@ -7,6 +6,5 @@ use Rattle.network.proofs.links.read_body.Given as goal
 abbrev pub invariant-loop-place : goal.invariant-loop-place
 invariant-loop-place l = record {
   so_far : IsReadTo 0 (link_of l.nodes) (link_reason l.nodes) l.rows l.place l.read.names l.read.links.items;
-  few : l.place ≤ MAX_LINKS;
   nodes : length l.read.into.items ≡ length l.nodes;
 }

@@ -1,11 +1,7 @@
-use Rattle.std.proofs.Common.{List, ap, ◌∙◌, map, drop}
-use Rattle.csv.specs.declared.record.ByteRecord.{ByteRecord}
-use Rattle.csv.specs.Records.{fields_of}
-use Rattle.records.specs.Rows.{Row}
-use Rattle.records.specs.Fields.{column}
-use Rattle.records.specs.Files.{head_reason, body_of}
+use Rattle.records.proofs.Common.{List, ap, ◌∙◌, map, drop, fields_of, ByteRecord, column, body_of, head_reason, Row}
 use Rattle.records.proofs.InTurn.{answers_file, answers_stop}
 use Rattle.network.specs.Links.{link_header, link_reason, link_of}
+use Rattle.network.proofs.Free.{read_few, read_sound}
 use Rattle.network.proofs.links.read_links.Goals as goal
 
 pub returns-in-Ok-clause-read : goal.returns-in-Ok-clause-read
@@ -18,3 +14,9 @@ returns-in-Ok-clause-read c =
 pub returns-in-Err-clause-read : goal.returns-in-Err-clause-read
 returns-in-Err-clause-read c =
     answers_stop (λ r. r) _ 0 (link_of c.args.nodes.now) (link_reason c.args.nodes.now) c.args.bytes.now c.in-Err.stop (head_reason link_header c.args.bytes.now) c.in-Err.ensures.head
+
+pub returns-in-Ok-clause-few : goal.returns-in-Ok-clause-few
+returns-in-Ok-clause-few c = read_few c.args.nodes.now c.args.bytes.now c.read_body.result (returns-in-Ok-clause-read c)
+
+pub returns-in-Ok-clause-sound : goal.returns-in-Ok-clause-sound
+returns-in-Ok-clause-sound c = read_sound c.args.nodes.now c.args.bytes.now c.read_body.result (returns-in-Ok-clause-read c)

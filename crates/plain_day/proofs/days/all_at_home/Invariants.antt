@@ -1,6 +1,4 @@
-use Rattle.std.proofs.Common.{◌≡◌, map, take}
-use Rattle.rows.specs.PlanRows.{plan_rows}
-use Rattle.traffic.specs.Day.{at_home}
+use Rattle.traffic.proofs.Common.{◌≡◌, take, map, plan_rows, at_home}
 use Rattle.plain_day.proofs.days.all_at_home.Given as goal
 
 abbrev pub invariant-loop-plan : goal.invariant-loop-plan

@@ -1,8 +1,7 @@
-use Rattle.std.proofs.Common.{◌≡◌}
-use Rattle.fit_days.specs.Rows.{IsFitWorld}
-use Rattle.fit_days.specs.Setups.{counts_in}
+use Rattle.traffic.proofs.Common.{◌≡◌, world_from, events_from}
+use Rattle.law_in_range.specs.Rows.{IsFitWorld}
+use Rattle.law_in_range.specs.Setups.{counts_in}
 use Rattle.town.specs.Views.{setup}
-use Rattle.traffic.specs.Day.{world_from, events_from}
 use Rattle.plain_day.proofs.days.all_seconds.Given as goal
 
 abbrev pub invariant-loop-t : goal.invariant-loop-t

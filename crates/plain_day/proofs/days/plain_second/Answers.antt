@@ -1,4 +1,4 @@
-use Rattle.fit_days.proofs.Towns.{town_sound_fit}
+use Rattle.law_in_range.proofs.Towns.{town_sound_fit}
 use Rattle.plain_day.proofs.Fitness.{plans_fit}
 use Rattle.plain_day.proofs.days.plain_second.Goals as goal
 

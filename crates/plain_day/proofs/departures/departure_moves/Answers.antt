@@ -1,13 +1,12 @@
-use Rattle.std.proofs.Common.{sym, ◌∙◌, length}
+use Rattle.traffic.proofs.Common.{◌∙◌, length, sym, ends_of}
 use Rattle.schedule.specs.Departures.{is_departure}
-use Rattle.town.specs.Rows.{ends_of}
 use Rattle.plain_day.proofs.Numbers.{passes_at}
 use Rattle.plain_day.proofs.Departing.{departs_on, long_at, departs_now, departs_later}
 use Rattle.plain_day.proofs.departures.departure_moves.Goals as goal
 
-pub returns-then-row-t : goal.returns-then-row-t
-returns-then-row-t c =
-    c.new.ensures.items ∙ sym (departs_later c.args.day.now c.args.t c.args.d c.row_at-row.result c.requires c.row_at-row.ensures c.if-row-t.true)
+pub returns-then-row-second : goal.returns-then-row-second
+returns-then-row-second c =
+    c.new.ensures.items ∙ sym (departs_later c.args.day.now c.args.second c.args.d c.row_at-row.result c.requires c.row_at-row.ensures c.if-row-second.true)
 
 pub vehicle_of-requires-clause-there : goal.vehicle_of-requires-clause-there
 vehicle_of-requires-clause-there c =
@@ -25,4 +24,4 @@ vehicle_of-requires-clause-long c =
 pub returns : goal.returns
 returns c =
     rw (c.in_ok-push.ensures.items, c.new-moves.ensures.items)
-    (departs_now c.args.day.now c.args.t c.args.d c.row_at-row.result c.in_ok-now.now c.requires c.row_at-row.ensures c.if-row-t.false c.in_ok-now.ensures)
+    (departs_now c.args.day.now c.args.second c.args.d c.row_at-row.result c.in_ok-now.now c.requires c.row_at-row.ensures c.if-row-second.false c.in_ok-now.ensures)

@@ -1,5 +1,4 @@
-use Rattle.std.proofs.Common.{◌≡◌, length}
-use Rattle.traffic.specs.Persons.{link_of_vehicle}
+use Rattle.traffic.proofs.Common.{◌≡◌, length, link_of_vehicle}
 use Rattle.plain_day.proofs.ends.link_of_vehicle.Given as goal
 
 abbrev pub invariant-loop-rest : goal.invariant-loop-rest

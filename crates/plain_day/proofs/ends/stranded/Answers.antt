@@ -1,5 +1,4 @@
-use Rattle.std.proofs.Common.{◌<◌, ℕ, ap, sym, subst, ◌∙◌}
-use Rattle.std.specs.Option.{option_to_list}
+use Rattle.traffic.proofs.Common.{ℕ, ◌∙◌, ap, sym, ◌<◌, subst, option_to_list}
 use Rattle.plain_day.specs.Legs.{mode_of_kind}
 use Rattle.plain_day.proofs.PersonPlans.{stranded_is}
 use Rattle.plain_day.proofs.ends.stranded.Goals as goal

@@ -11,4 +11,4 @@ leaving-requires-clause-fits c = fits_at c.args.day.now c.args.i c.chosen_plan-p
 
 pub returns : goal.returns
 returns c =
-    leaving_is c.args.day.now c.args.t c.args.i c.chosen_plan-plan.result.now c.args.person c.in_ok-moves.moves.items c.chosen_plan-plan.ensures c.in_ok-moves.ensures
+    leaving_is c.args.day.now c.args.second c.args.i c.chosen_plan-plan.result.now c.args.person c.in_ok-moves.moves.items c.chosen_plan-plan.ensures c.in_ok-moves.ensures

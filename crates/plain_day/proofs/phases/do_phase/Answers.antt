@@ -1,6 +1,5 @@
-use Rattle.std.proofs.Common.{◌<◌, ◌≤◌, ℕ, subst}
+use Rattle.traffic.proofs.Common.{ℕ, ◌<◌, subst, ◌≤◌, count_of}
 use Rattle.town.specs.Views.{setup}
-use Rattle.traffic.specs.Day.{count_of}
 use Rattle.plain_day.proofs.Phasing.{going_more, gone_world, gone_events}
 use Rattle.plain_day.proofs.phases.do_phase.Goals as goal
 

@@ -1,6 +1,6 @@
 use Rattle.plain_day.proofs.Phasing.{Going}
-use Rattle.fit_days.specs.Rows.{IsFitWorld}
-use Rattle.fit_days.specs.Setups.{counts_in}
+use Rattle.law_in_range.specs.Rows.{IsFitWorld}
+use Rattle.law_in_range.specs.Setups.{counts_in}
 use Rattle.town.specs.Views.{setup}
 use Rattle.traffic.specs.Day.{count_of}
 use Rattle.plain_day.proofs.phases.do_phase.Given as goal

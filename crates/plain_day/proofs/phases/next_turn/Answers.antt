@@ -1,9 +1,5 @@
-use Rattle.std.proofs.Common.{◌∙◌, ◌++◌, ap}
-use Rattle.std.specs.List.{flat_map}
-use Rattle.events.specs.Keys.{phase_code}
+use Rattle.traffic.proofs.Common.{◌∙◌, ap, ◌++◌, flat_map, phase_code, keyed, run, told}
 use Rattle.town.specs.Views.{setup}
-use Rattle.traffic.specs.Moves.{told, run}
-use Rattle.traffic.specs.Day.{keyed}
 use Rattle.plain_day.proofs.Fitness.{turn_keeps_fit}
 use Rattle.plain_day.proofs.phases.next_turn.Goals as goal
 

@@ -1,7 +1,6 @@
-use Rattle.std.proofs.Common.{subst, sym}
-use Rattle.town.specs.Views.{setup}
+use Rattle.traffic.proofs.Common.{sym, subst, person_plan}
 use Rattle.traffic.specs.declared.world.Person.{Person}
-use Rattle.traffic.specs.Setup.{person_plan}
+use Rattle.town.specs.Views.{setup}
 use Rattle.plain_day.specs.Fit.{CanLeave}
 use Rattle.plain_day.proofs.Fitness.{can_leave, lands_there, leaves_there, departs_there, link_there, person_there, rows_fit}
 use Rattle.plain_day.proofs.phases.turn.Goals as goal

@@ -1,5 +1,4 @@
-use Rattle.std.proofs.Common.{ap, sym, ◌∙◌}
-use Rattle.traffic.specs.Rows.{World}
+use Rattle.traffic.proofs.Common.{◌∙◌, ap, sym, World}
 use Rattle.plain_day.proofs.LinkTurns.{idle_is}
 use Rattle.plain_day.proofs.turns.idle_credit.Goals as goal
 

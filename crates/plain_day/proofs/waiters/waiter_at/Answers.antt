@@ -1,5 +1,4 @@
-use Rattle.std.proofs.Common.{◌<◌, ℕ, sym, subst}
-use Rattle.std.specs.Option.{option_to_list}
+use Rattle.traffic.proofs.Common.{ℕ, sym, ◌<◌, subst, option_to_list}
 use Rattle.plain_day.proofs.PersonPlans.{waiter_is}
 use Rattle.plain_day.proofs.waiters.waiter_at.Goals as goal
 

@@ -1,7 +1,5 @@
-use Rattle.std.proofs.Common.{ℕ, refl}
+use Rattle.traffic.proofs.Common.{ℕ, refl, waiter, person_of}
 use Rattle.town.specs.Views.{setup}
-use Rattle.traffic.specs.Rows.{person_of}
-use Rattle.traffic.specs.Persons.{waiter}
 use Rattle.plain_day.proofs.Counting.{went_on, went_through}
 use Rattle.plain_day.proofs.PersonPlans.{waiters_are}
 use Rattle.plain_day.proofs.waiters.waiters.Goals as goal

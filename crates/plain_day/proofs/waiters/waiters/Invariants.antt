@@ -1,9 +1,5 @@
-use Rattle.std.proofs.Common.{◌≡◌, ◌++◌, ◌-◌}
-use Rattle.std.specs.List.{flat_map}
+use Rattle.traffic.proofs.Common.{◌≡◌, ◌++◌, ◌-◌, flat_map, below, numbers, waiter, person_of}
 use Rattle.town.specs.Views.{setup}
-use Rattle.traffic.specs.Lists.{numbers, below}
-use Rattle.traffic.specs.Rows.{person_of}
-use Rattle.traffic.specs.Persons.{waiter}
 use Rattle.plain_day.proofs.waiters.waiters.Given as goal
 
 abbrev pub invariant-loop-i : goal.invariant-loop-i

@@ -1,5 +1,4 @@
-use Rattle.std.proofs.Common.{◌≡◌, ◌++◌, drop}
-use Rattle.traffic.specs.Links.{from_queue}
+use Rattle.traffic.proofs.Common.{◌≡◌, ◌++◌, drop, from_queue}
 use Rattle.plain_turns.specs.Limits.{AreSmall}
 use Rattle.plain_turns.proofs.links.push_from_queue.Given as goal
 

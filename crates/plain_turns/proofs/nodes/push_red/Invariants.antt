@@ -1,7 +1,5 @@
-use Rattle.std.proofs.Common.{◌≡◌, ◌++◌, drop}
-use Rattle.std.specs.Prelude.{map}
-use Rattle.traffic.specs.Nodes.{red, mark}
+use Rattle.traffic.proofs.Common.{◌≡◌, ◌++◌, drop, map, red, mark}
 use Rattle.plain_turns.proofs.nodes.push_red.Given as goal
 
-abbrev pub invariant-loop-entry : goal.invariant-loop-entry
-invariant-loop-entry l = l.out.items ++ map (mark l.t) (red (drop l.entry-index l.entries)) ≡ l.initial.out.items ++ map (mark l.t) (red l.entries)
+abbrev pub invariant-loop-in_link : goal.invariant-loop-in_link
+invariant-loop-in_link l = l.out.items ++ map (mark l.second) (red (drop l.in_link-index l.in_links)) ≡ l.initial.out.items ++ map (mark l.second) (red l.in_links)

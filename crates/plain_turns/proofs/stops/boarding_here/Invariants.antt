@@ -1,6 +1,4 @@
-use Rattle.std.proofs.Common.{◌≡◌, ◌++◌, length}
-use Rattle.std.specs.Prelude.{filter}
-use Rattle.traffic.specs.Stops.{may_board}
+use Rattle.traffic.proofs.Common.{◌≡◌, length, ◌++◌, filter, may_board}
 use Rattle.plain_turns.proofs.stops.boarding_here.Given as goal
 
 abbrev pub invariant-loop-rest : goal.invariant-loop-rest

@@ -1,8 +1,5 @@
-use Rattle.std.proofs.Common.{◌≡◌, ◌++◌, length}
-use Rattle.std.specs.Prelude.{filter, not}
-use Rattle.std.specs.List.{list_any}
+use Rattle.traffic.proofs.Common.{◌≡◌, length, ◌++◌, list_any, filter, not, is_person}
 use Rattle.traffic.specs.declared.world.Waiter.{Waiter}
-use Rattle.traffic.specs.Stops.{is_person}
 use Rattle.plain_turns.proofs.stops.not_among.Given as goal
 
 abbrev pub invariant-loop-rest : goal.invariant-loop-rest

@@ -1,6 +1,4 @@
-use Rattle.std.proofs.Common.{◌≡◌, ◌++◌, length}
-use Rattle.std.specs.Prelude.{map}
-use Rattle.traffic.specs.Stops.{rider}
+use Rattle.traffic.proofs.Common.{◌≡◌, length, ◌++◌, map, rider}
 use Rattle.plain_turns.proofs.stops.push_riders.Given as goal
 
 abbrev pub invariant-loop-rest : goal.invariant-loop-rest

@@ -1,5 +1,4 @@
-use Rattle.std.proofs.Common.{◌≡◌, ◌++◌, length}
-use Rattle.traffic.specs.Stops.{staying}
+use Rattle.traffic.proofs.Common.{◌≡◌, length, ◌++◌, staying}
 use Rattle.plain_turns.proofs.stops.staying.Given as goal
 
 abbrev pub invariant-loop-rest : goal.invariant-loop-rest

@@ -1,5 +1,4 @@
-use Rattle.std.proofs.Common.{◌≡◌, ◌++◌, length}
-use Rattle.traffic.specs.Stops.{alighting}
+use Rattle.traffic.proofs.Common.{◌≡◌, length, ◌++◌, alighting}
 use Rattle.plain_turns.proofs.telling.alighting.Given as goal
 
 abbrev pub invariant-loop-rest : goal.invariant-loop-rest

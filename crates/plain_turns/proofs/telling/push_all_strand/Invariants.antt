@@ -1,6 +1,4 @@
-use Rattle.std.proofs.Common.{◌≡◌, ◌++◌, drop}
-use Rattle.std.specs.List.{flat_map}
-use Rattle.traffic.specs.Telling.{strands}
+use Rattle.traffic.proofs.Common.{◌≡◌, ◌++◌, drop, flat_map, strands}
 use Rattle.plain_turns.proofs.telling.push_all_strand.Given as goal
 
 abbrev pub invariant-loop-rider : goal.invariant-loop-rider

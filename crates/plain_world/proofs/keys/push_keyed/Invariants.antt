@@ -1,5 +1,4 @@
-use Rattle.std.proofs.Common.{◌≡◌, ◌++◌, length}
-use Rattle.traffic.specs.Day.{keyed}
+use Rattle.traffic.proofs.Common.{◌≡◌, length, ◌++◌, keyed}
 use Rattle.plain_world.proofs.keys.push_keyed.Given as goal
 
 abbrev pub invariant-loop-rest : goal.invariant-loop-rest

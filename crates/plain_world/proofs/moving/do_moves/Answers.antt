@@ -1,7 +1,6 @@
-use Rattle.std.proofs.Common.{◌++◌, sym, ap, ◌∙◌}
+use Rattle.traffic.proofs.Common.{◌∙◌, ap, sym, ◌++◌, done, told}
 use Rattle.std.proofs.lemmas.List.{flat_map_more}
 use Rattle.town.specs.Views.{setup}
-use Rattle.traffic.specs.Moves.{told, done}
 use Rattle.plain_world.proofs.Running.{run_more}
 use Rattle.plain_world.proofs.moving.do_moves.Goals as goal
 

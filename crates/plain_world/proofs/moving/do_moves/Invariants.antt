@@ -1,7 +1,5 @@
-use Rattle.std.proofs.Common.{◌≡◌, ◌++◌}
-use Rattle.std.specs.List.{flat_map}
+use Rattle.traffic.proofs.Common.{◌≡◌, ◌++◌, flat_map, run, told}
 use Rattle.town.specs.Views.{setup}
-use Rattle.traffic.specs.Moves.{told, run}
 use Rattle.plain_world.proofs.moving.do_moves.Given as goal
 
 abbrev pub invariant-loop-step : goal.invariant-loop-step

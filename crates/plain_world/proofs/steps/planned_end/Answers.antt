@@ -1,6 +1,4 @@
-use Rattle.std.proofs.Common.{sym, ap, ◌∙◌}
-use Rattle.rows.specs.declared.plan.Act.{Act}
-use Rattle.rows.specs.PlanRows.{PlanRows, act_in}
+use Rattle.traffic.proofs.Common.{◌∙◌, ap, sym, act_in, PlanRows, Act}
 use Rattle.town.proofs.Chosen.{plan_past}
 use Rattle.plain_world.proofs.steps.planned_end.Goals as goal
 

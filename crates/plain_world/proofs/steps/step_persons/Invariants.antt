@@ -1,6 +1,5 @@
-use Rattle.std.proofs.Common.{◌≡◌, length}
+use Rattle.traffic.proofs.Common.{◌≡◌, length, persons_after}
 use Rattle.town.specs.Views.{setup}
-use Rattle.traffic.specs.Moves.{persons_after}
 use Rattle.plain_world.proofs.steps.step_persons.Given as goal
 
 abbrev pub invariant-loop-rest : goal.invariant-loop-rest

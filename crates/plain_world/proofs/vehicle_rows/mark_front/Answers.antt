@@ -1,7 +1,5 @@
-use Rattle.std.proofs.Common.{ap, get_or}
+use Rattle.traffic.proofs.Common.{ap, get_or, at_second, on}
 use Rattle.traffic.specs.declared.stage.Stage.TheVariants.{Buffer}
-use Rattle.traffic.specs.Rows.{on}
-use Rattle.traffic.specs.Moves.{at_second}
 use Rattle.plain_world.proofs.Removals.{first_done, none_done}
 use Rattle.plain_world.proofs.vehicle_rows.mark_front.Goals as goal
 

@@ -1,5 +1,4 @@
-use Rattle.std.proofs.Common.{◌≡◌, drop}
-use Rattle.traffic.specs.Rows.{on}
+use Rattle.traffic.proofs.Common.{◌≡◌, drop, on}
 use Rattle.plain_world.specs.Places.{place_from}
 use Rattle.plain_world.proofs.vehicle_rows.place_on.Given as goal
 

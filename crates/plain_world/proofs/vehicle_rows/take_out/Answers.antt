@@ -1,5 +1,4 @@
-use Rattle.std.proofs.Common.{◌∙◌}
-use Rattle.traffic.specs.Rows.{on}
+use Rattle.traffic.proofs.Common.{◌∙◌, on}
 use Rattle.plain_world.proofs.Removals.{taken_out, none_out}
 use Rattle.plain_world.proofs.vehicle_rows.take_out.Goals as goal
 

@@ -1,5 +1,4 @@
-use Rattle.std.proofs.Common.{◌≡◌, ◌++◌, length, map}
-use Rattle.records.specs.Lists.{parts_of}
+use Rattle.records.proofs.Common.{◌≡◌, length, map, ◌++◌, parts_of}
 use Rattle.plan_text.specs.Elements.{acts_in, legs_in}
 use Rattle.plan_text.proofs.elements.elements_in.Given as goal
 

@@ -1,7 +1,4 @@
-use Rattle.std.proofs.Common.{◌≡◌, ◌++◌, length, map, true}
-use Rattle.std.specs.Prelude.{nat_lt}
-use Rattle.std.specs.List.{list_all}
-use Rattle.events.specs.Names.{name_at}
+use Rattle.records.proofs.Common.{◌≡◌, length, map, ◌++◌, true, list_all, nat_lt, name_at}
 use Rattle.plan_text.proofs.fields.names_of.Given as goal
 
 abbrev pub invariant-loop-rest : goal.invariant-loop-rest

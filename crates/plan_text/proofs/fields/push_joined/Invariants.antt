@@ -1,5 +1,4 @@
-use Rattle.std.proofs.Common.{◌≡◌, ◌++◌, length, map}
-use Rattle.std.specs.List.{join_with_byte}
+use Rattle.records.proofs.Common.{◌≡◌, length, map, ◌++◌, join_with_byte}
 use Rattle.plan_text.proofs.Joins.{behind_each}
 use Rattle.plan_text.proofs.fields.push_joined.Given as goal
 

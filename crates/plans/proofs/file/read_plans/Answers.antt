@@ -1,8 +1,4 @@
-use Rattle.std.proofs.Common.{◌≡◌, ◌∙◌, List, ap, map, length, drop, arith}
-use Rattle.std.proofs.lemmas.List.{length-map}
-use Rattle.csv.specs.declared.record.ByteRecord.{ByteRecord}
-use Rattle.csv.specs.Records.{fields_of}
-use Rattle.records.specs.Rows.{Row, rows_of}
+use Rattle.records.proofs.Common.{◌≡◌, List, ap, length, ◌∙◌, arith, map, drop, length-map, fields_of, ByteRecord, Row, rows_of}
 use Rattle.plans.specs.Kinds.{plans_header}
 use Rattle.plans.proofs.Whole.{body_some, body_is, answers_rows, answers_stop}
 use Rattle.plans.proofs.file.read_plans.Goals as goal

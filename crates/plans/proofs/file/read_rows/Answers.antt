@@ -1,7 +1,5 @@
-use Rattle.std.proofs.Common.{◌≡◌, ◌∙◌, ℕ, ◌<◌, ◌^◌, sym, length, map, arith, subst}
+use Rattle.records.proofs.Common.{◌≡◌, ℕ, length, ◌∙◌, arith, map, ◌<◌, sym, subst, ◌^◌, length-map, fields_of}
 use Rattle.std.specs.List.{All}
-use Rattle.std.proofs.lemmas.List.{length-map}
-use Rattle.csv.specs.Records.{fields_of}
 use Rattle.plans.specs.Values.{PlanFileRows}
 use Rattle.plans.specs.Progress.{IsSound}
 use Rattle.plans.specs.Read.{progress_of}

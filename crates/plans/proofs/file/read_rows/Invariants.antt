@@ -1,5 +1,4 @@
-use Rattle.std.proofs.Common.{map}
-use Rattle.csv.specs.Records.{fields_of}
+use Rattle.records.proofs.Common.{map, fields_of}
 use Rattle.plans.specs.Progress.{IsReadTo}
 use Rattle.plans.specs.Read.{progress_of}
 use Rattle.plans.proofs.file.read_rows.Given as goal

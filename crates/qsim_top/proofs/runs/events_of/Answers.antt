@@ -1,11 +1,5 @@
-use Rattle.std.proofs.Common.{◌≡◌, List, length, map, true, ◌∙◌, ap, subst, sym}
-use Rattle.std.specs.List.{list_all}
-use Rattle.rows.specs.declared.plan.Plan.{Plan}
-use Rattle.rows.specs.PlanRows.{plan_rows}
-use Rattle.town.specs.Fits.{fits}
-use Rattle.town.specs.Setups.{setup_of}
-use Rattle.town.specs.Views.{rows_of}
-use Rattle.traffic.specs.Day.{day}
+use Rattle.scenario.proofs.Common.{fits, setup_of, rows_of}
+use Rattle.traffic.proofs.Common.{◌≡◌, List, ◌∙◌, length, ap, sym, true, subst, list_all, map, plan_rows, Plan, day}
 use Rattle.qsim_top.proofs.Chosen.{each_chosen, first_day}
 use Rattle.qsim_top.proofs.runs.events_of.Goals as goal
 

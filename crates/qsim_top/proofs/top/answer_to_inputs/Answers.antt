@@ -1,8 +1,8 @@
 use Rattle.scenario.specs.Views.{texts_of}
 use Rattle.qsim_top.specs.Contents.{texts_in}
-use Rattle.qsim_top.proofs.Alike.{answer_of_same}
+use Rattle.qsim_top.proofs.Alike.{answer_of_alike}
 use Rattle.qsim_top.proofs.top.answer_to_inputs.Goals as goal
 
 pub returns-in-Ok-clause-answer : goal.returns-in-Ok-clause-answer
 returns-in-Ok-clause-answer g c = λ contents left.
-    answer_of_same c.args.command (texts_of c.in_ok-files.files) (texts_in contents) c.in-Ok.answer c.in-Ok.ensures.same (c.in_ok-files.ensures.files contents left)
+    answer_of_alike c.args.command (texts_of c.in_ok-files.files) (texts_in contents) c.in-Ok.answer c.in-Ok.ensures.same (c.in_ok-files.ensures.files contents left)

@@ -1,5 +1,4 @@
-use Rattle.std.proofs.Common.{◌≡◌, ◌+◌, length, map}
-use Rattle.csv.specs.Records.{fields_of}
+use Rattle.records.proofs.Common.{◌≡◌, length, map, ◌+◌, fields_of}
 use Rattle.records.specs.Fields.{are_fields}
 use Rattle.records.proofs.fields.are_fields.Given as goal
 

@@ -1,6 +1,4 @@
-use Rattle.std.proofs.Common.{◌≡◌, ◌++◌, length, map}
-use Rattle.std.specs.Prelude.{option_map}
-use Rattle.records.specs.Lists.{numbers_of}
+use Rattle.records.proofs.Common.{◌≡◌, length, map, ◌++◌, option_map, numbers_of}
 use Rattle.records.proofs.lists.numbers_of.Given as goal
 
 -- the numbers so far, and those of the rest, are all the numbers

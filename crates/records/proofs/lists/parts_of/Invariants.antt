@@ -1,5 +1,4 @@
-use Rattle.std.proofs.Common.{◌≡◌, ◌++◌, length, map}
-use Rattle.records.specs.Lists.{parts_of}
+use Rattle.records.proofs.Common.{◌≡◌, length, map, ◌++◌, parts_of}
 use Rattle.records.proofs.lists.parts_of.Given as goal
 
 -- the parts so far, and those of the rest, are all the parts

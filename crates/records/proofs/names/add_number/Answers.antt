@@ -1,5 +1,4 @@
-use Rattle.std.proofs.Common.{ℕ, List, ap, ◌∙◌}
-use Rattle.events.specs.Names.{number_of}
+use Rattle.records.proofs.Common.{List, ap, ℕ, ◌∙◌, number_of}
 use Rattle.events.proofs.NameLists.{with_name-Adds}
 use Rattle.records.proofs.Numbering.{numbered_new, numbered_within}
 use Rattle.records.proofs.names.add_number.Goals as goal

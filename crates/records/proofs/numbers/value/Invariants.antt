@@ -1,5 +1,4 @@
-use Rattle.std.proofs.Common.{◌≡◌, ◌<◌, ◌^◌, take}
-use Rattle.records.specs.Numbers.{value_of}
+use Rattle.records.proofs.Common.{◌≡◌, ◌<◌, take, ◌^◌, value_of}
 use Rattle.records.proofs.numbers.value.Given as goal
 
 abbrev pub invariant-loop-b : goal.invariant-loop-b

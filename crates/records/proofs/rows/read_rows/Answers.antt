@@ -1,11 +1,9 @@
-use Rattle.std.proofs.Common.{Bor, List, ℕ, ◌≡◌, ◌∙◌, sym, refl, rules, inl, inr, true, map, Some, ◌∷◌, [], arith}
+use Rattle.records.proofs.Common.{◌≡◌, List, ℕ, ◌∙◌, arith, map, [], sym, Some, ◌∷◌, refl, true, Bor, inl, inr, rules, length-map, map-append, Reached}
+use Rattle.records.proofs.Common.{strip_bom, fields_of, rows_of}
 use Rattle.std.specs.Result.{is_ok}
-use Rattle.std.proofs.lemmas.List.{map-append, length-map}
-use Rattle.csv.specs.Reading.{Reached, default_config, strip_bom}
-use Rattle.csv.specs.Records.{fields_of}
+use Rattle.csv.specs.Reading.{default_config}
 use Rattle.csv.specs.declared.parser.State.TheVariants as st
 use Rattle.csv.proofs.ReadFacts.{rows-end, rows-more}
-use Rattle.records.specs.Rows.{rows_of}
 use Rattle.records.proofs.Records.{all_records, few, length-strip_bom}
 use Rattle.records.proofs.rows.read_rows.Goals as goal
 

@@ -1,6 +1,5 @@
-use Rattle.std.proofs.Common.{◌≡◌, ◌<◌, ℕ, List, Some, map}
-use Rattle.csv.specs.Reading.{Reached, Ready, default_config, source_of, strip_bom}
-use Rattle.csv.specs.Records.{fields_of}
+use Rattle.records.proofs.Common.{◌≡◌, List, ℕ, map, ◌<◌, Some, Reached, strip_bom, fields_of}
+use Rattle.csv.specs.Reading.{Ready, default_config, source_of}
 use Rattle.csv.specs.declared.parser.State.TheVariants as st
 use Rattle.csv.specs.declared.reader.Trim.TheVariants as trim
 use Rattle.records.proofs.rows.read_rows.Given as goal

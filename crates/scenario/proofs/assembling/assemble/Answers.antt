@@ -1,16 +1,16 @@
-use Rattle.std.proofs.lemmas.Result.{err_from_is_err_and}
-use Rattle.settings.specs.Faults.{values_of}
-use Rattle.scenario.specs.Given.{scenario_fault}
-use Rattle.scenario.specs.Views.{texts_of, roads_view}
-use Rattle.scenario.proofs.Told.{first_stop}
+use Rattle.scenario.proofs.Common.{scenario_fault, texts_of, network_view, values_of}
+use Rattle.scenario.proofs.Told.{first_stop, later_stop}
 use Rattle.scenario.proofs.Composed.{files_told}
 use Rattle.scenario.proofs.assembling.assemble.Goals as goal
 
-pub returns-in_err-settings : goal.returns-in_err-settings
-unfolding texts_of scenario_fault
-returns-in_err-settings c = let p = err_from_is_err_and c.from_residual.result c.from_residual.ensures.1 in rw (p.1, p.2) (first_stop _ _ _ c.in_err-settings.ensures)
+pub returns-in-Err : goal.returns-in-Err
+unfolding scenario_fault
+returns-in-Err c = first_stop c.in-Err.error _ _ c.in-Err.ensures
 
-pub returns : goal.returns
-unfolding texts_of
-returns c =
-    files_told c.on_roads.result (texts_of c.args.files) (values_of c.in_ok-settings.settings) (roads_view c.in_ok-network.network) c.in_ok-settings.ensures.0 c.in_ok-network.ensures.0 c.in_ok-settings.ensures.1 c.in_ok-network.ensures.1 c.on_roads.ensures
+pub returns-in-Err-read_network : goal.returns-in-Err-read_network
+unfolding scenario_fault
+returns-in-Err-read_network c = later_stop c.in-Err-read_network.error _ _ c.in-Ok.ensures.0 (first_stop c.in-Err-read_network.error _ _ c.in-Err-read_network.ensures)
+
+pub returns-in-Ok-read_network : goal.returns-in-Ok-read_network
+returns-in-Ok-read_network c =
+    files_told c.on_network.result (texts_of c.args.files.now) (values_of c.in-Ok.settings) (network_view c.in-Ok-read_network.network) c.in-Ok.ensures.0 c.in-Ok-read_network.ensures.0 c.in-Ok.ensures.1 c.in-Ok-read_network.ensures.1 c.on_network.ensures

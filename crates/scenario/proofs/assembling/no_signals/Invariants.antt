@@ -1,6 +1,5 @@
-use Rattle.std.proofs.Common.{◌≡◌}
+use Rattle.scenario.proofs.Common.{◌≡◌, always}
 use Rattle.std.specs.Prelude.{replicate}
-use Rattle.rows.specs.Greens.{always}
 use Rattle.scenario.proofs.assembling.no_signals.Given as goal
 
 -- a signal for each link so far

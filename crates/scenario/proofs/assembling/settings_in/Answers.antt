@@ -1,12 +1,12 @@
-use Rattle.std.proofs.Common.{◌∙◌, sym, ap, ℕ, List, Some}
+use Rattle.scenario.proofs.Common.{fault_at, texts_of, values_of, settings_fault, settings_of}
 use Rattle.edge_files.specs.declared.files.InFile.TheVariants as file
-use Rattle.records.specs.Faults.{fault_at}
-use Rattle.settings.specs.Faults.{settings_fault, values_of}
-use Rattle.scenario.proofs.Told.{short_text, told_stop}
+use Rattle.scenario.proofs.Told.{told_long, told_in}
 use Rattle.scenario.proofs.assembling.settings_in.Goals as goal
 
-pub returns : goal.returns
-returns c =
-    let args = c.args in
-    let same = short_text args.long file.Settings args.bytes (sym c.is_long.ensures ∙ c.if-is_long.false) ∙ ap (λ (b : List ℕ). Some b) (sym c.bytes_of.ensures) in
-    told_stop values_of _ c.stop_in.result file.Settings (λ b. fault_at 0 (settings_fault b)) _ c.bytes_of.result.now c.in-Err.stop same c.in-Err.ensures c.stop_in.ensures
+pub returns-in-Ok : goal.returns-in-Ok
+returns-in-Ok c =
+    told_in values_of (texts_of c.args.files.now) file.Settings (λ bytes. fault_at 0 (settings_fault bytes)) settings_of
+    c.in-Ok.bytes.now c.read_settings.result c.with_file.result c.in-Ok.ensures.ok c.read_settings.ensures c.with_file.ensures
+
+pub returns-in-Err : goal.returns-in-Err
+returns-in-Err c = told_long c.in-Err.error (texts_of c.args.files.now) file.Settings (λ bytes. fault_at 0 (settings_fault bytes)) c.in-Err.ensures.long.0 c.in-Err.ensures.long.1

@@ -1,10 +1,8 @@
-use Rattle.std.proofs.Common.{◌≡◌, ℕ, List, ap, sym, ◌∙◌, length, true, subst}
-use Rattle.std.specs.List.{list_all}
+use Rattle.scenario.proofs.Common.{◌≡◌, List, ℕ, sym, ◌∙◌, ap, length, subst, true, list_all, always, ends_of}
 use Rattle.std.proofs.lemmas.List.{length-replicate}
 use Rattle.events.specs.declared.event.Book.{Book}
 use Rattle.schedule.specs.Routes.{is_route}
-use Rattle.rows.specs.Greens.{Phases, always}
-use Rattle.town.specs.Rows.{ends_of}
+use Rattle.rows.specs.Greens.{Phases}
 use Rattle.scenario.proofs.assembling.town_of.Goals as goal
 
 pub invariant_of-result : goal.invariant_of-result

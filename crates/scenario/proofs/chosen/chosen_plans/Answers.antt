@@ -1,6 +1,4 @@
-use Rattle.std.proofs.Common.{sym, subst, List}
-use Rattle.rows.specs.PlanRows.{PlanRows, all_plan_rows}
-use Rattle.scenario.specs.Fitting.{AreChosen}
+use Rattle.scenario.proofs.Common.{List, sym, subst, PlanRows, all_plan_rows, AreChosen}
 use Rattle.scenario.proofs.FirstPlans.{first_fit}
 use Rattle.scenario.proofs.chosen.chosen_plans.Goals as goal
 

@@ -1,8 +1,5 @@
-use Rattle.std.proofs.Common.{sym, ap, map, List, None, Some}
+use Rattle.scenario.proofs.Common.{List, map, sym, ap, None, Some, plan_rows, Plan, first_plans}
 use Rattle.std.proofs.lemmas.List.{append-nil}
-use Rattle.rows.specs.declared.plan.Plan.{Plan}
-use Rattle.rows.specs.PlanRows.{plan_rows}
-use Rattle.scenario.specs.Fitting.{first_plans}
 use Rattle.scenario.proofs.FirstPlans.{first_more}
 use Rattle.scenario.proofs.chosen.first_plans.Goals as goal
 

@@ -1,6 +1,4 @@
-use Rattle.std.proofs.Common.{◌≡◌, map}
-use Rattle.rows.specs.PlanRows.{plan_rows, all_plan_rows}
-use Rattle.scenario.specs.Fitting.{first_plans}
+use Rattle.scenario.proofs.Common.{◌≡◌, map, all_plan_rows, plan_rows, first_plans}
 use Rattle.scenario.proofs.chosen.first_plans.Given as goal
 
 -- the first plans of the persons so far are taken

@@ -1,6 +1,4 @@
-use Rattle.std.proofs.Common.{◌≡◌, map}
-use Rattle.scenario.specs.Legs.{leg_in_town}
-use Rattle.scenario.specs.Ways.{numbers_of}
+use Rattle.scenario.proofs.Common.{◌≡◌, map, numbers_of, leg_in_town}
 use Rattle.scenario.proofs.renumbering.legs_in_town.Given as goal
 
 -- the legs so far have the town's numbers

@@ -1,7 +1,4 @@
-use Rattle.std.proofs.Common.{◌≡◌, map}
-use Rattle.rows.specs.PlanRows.{plan_rows}
-use Rattle.scenario.specs.Legs.{plan_in_town}
-use Rattle.scenario.specs.Ways.{numbers_of}
+use Rattle.scenario.proofs.Common.{◌≡◌, map, plan_rows, numbers_of, plan_in_town}
 use Rattle.scenario.proofs.renumbering.own_in_town.Given as goal
 
 -- the plans so far have the town's numbers

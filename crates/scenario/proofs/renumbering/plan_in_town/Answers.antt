@@ -1,10 +1,4 @@
-use Rattle.std.proofs.Common.{◌≡◌, List, ap, ◌∙◌, length, arith}
-use Rattle.std.specs.List.{list_all}
-use Rattle.std.proofs.lemmas.List.{length-map}
-use Rattle.rows.specs.declared.plan.Leg.{Leg}
-use Rattle.rows.specs.Plan.{is_leg}
-use Rattle.scenario.specs.Legs.{leg_in_town}
-use Rattle.scenario.specs.Ways.{numbers_of}
+use Rattle.scenario.proofs.Common.{◌≡◌, List, ◌∙◌, ap, length, arith, length-map, list_all, is_leg, Leg, numbers_of, leg_in_town}
 use Rattle.scenario.proofs.Renumbered.{still_legs}
 use Rattle.scenario.proofs.renumbering.plan_in_town.Goals as goal
 

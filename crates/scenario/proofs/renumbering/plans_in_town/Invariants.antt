@@ -1,7 +1,4 @@
-use Rattle.std.proofs.Common.{◌≡◌, map}
-use Rattle.rows.specs.PlanRows.{all_plan_rows}
-use Rattle.scenario.specs.Legs.{plan_in_town}
-use Rattle.scenario.specs.Ways.{numbers_of}
+use Rattle.scenario.proofs.Common.{◌≡◌, map, all_plan_rows, numbers_of, plan_in_town}
 use Rattle.scenario.proofs.renumbering.plans_in_town.Given as goal
 
 -- the persons so far have the town's numbers

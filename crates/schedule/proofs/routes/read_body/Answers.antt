@@ -1,17 +1,10 @@
-use Rattle.std.proofs.Common.{ℕ, ◌+◌, ◌<◌, ◌≤◌, List, Option, ap, ◌∙◌, sym, refl, arith, length, map}
-use Rattle.std.proofs.lemmas.List.{length-map}
-use Rattle.edge_files.specs.declared.reasons.Reason.{Reason}
-use Rattle.csv.specs.Records.{fields_of}
-use Rattle.events.specs.Names.{with_name, number_of}
-use Rattle.records.specs.Rows.{Row}
-use Rattle.records.specs.Fields.{field}
+use Rattle.records.proofs.Common.{List, ap, ℕ, length, ◌∙◌, arith, map, ◌<◌, sym, refl, Option, ◌+◌, ◌≤◌, length-map, fields_of, Reason, number_of, with_name}
+use Rattle.records.proofs.Common.{field, Row}
 use Rattle.records.proofs.InTurn.{read_none, read_more, read_fault, read_all, read_count, row_at}
-use Rattle.records.proofs.Sound.{all_none, all_push, both_true, number_known}
-use Rattle.std.specs.List.{list_all}
 use Rattle.schedule.specs.declared.lists.Stops.{Stops}
 use Rattle.rows.specs.declared.schedule.RouteRow.{RouteRow}
 use Rattle.schedule.specs.Views.{route_lists}
-use Rattle.schedule.specs.Routes.{route_reason, route_of, lists_of, lines_of, is_route}
+use Rattle.schedule.specs.Routes.{route_reason, route_of, lists_of, lines_of}
 use Rattle.schedule.proofs.Lines.{lines_none, lines_more, lines_all, line_stays, route_found, route_why}
 use Rattle.schedule.proofs.routes.read_body.Goals as goal
 
@@ -27,8 +20,6 @@ loop-place-init c =
     record {
       read = read_none 1 (value args.links.now args.stops.now (map fields_of args.rows.now)) (why args.links.now args.ends.now args.stops.now) args.rows.now _ _ c.new-names.ensures c.new-routes.ensures.items;
       lines = lines_none _ c.new-lines.ensures;
-      few = omega arith;
-      sound = all_none _ _ c.new-routes.ensures.items;
     }
 
 pub loop-place-preserved : goal.loop-place-preserved
@@ -41,14 +32,11 @@ loop-place-preserved c =
     let reason = why args.links.now args.ends.now args.stops.now in
     let record_at = c.index-rows-place.result in
     let row = fields_of record_at in
-    let count = read_count 1 of reason args.rows.now n c.loop-place.names c.loop-place.routes.items read (omega arith) in
     let at = row_at args.rows.now n record_at c.loop-place-test.true c.index-rows-place.is in
     let within : n < length rows = omega (arith, length-map args.rows.now fields_of, c.loop-place-test.true) in
     let found = c.in-Ok-Ok in
     let lists = sym found.field-0-is ∙ found.ensures.lists in
     let fresh = rw found.field-0-is at found.ensures.fresh in
-    let room = rw found.field-0-is at found.ensures.room in
-    let sound = rw found.field-0-is at found.ensures.sound in
     let lines = lines_more rows n row c.loop-place.lines c.number.new.names within at c.loop-place.invariant.lines
     (c.in-Ok.ensures.names ∙ ap (λ (name : List ℕ). with_name c.loop-place.lines name) c.field.ensures) in
     let line = line_stays rows (n + 1) (field row 0) c.in-Ok.line
@@ -59,13 +47,10 @@ loop-place-preserved c =
           (route_found (reason c.loop-place.names c.loop-place.routes.items row) args.links.now args.stops.now.names args.stops.now.rows (lines_of rows) row found.lists c.in-Ok.line _ lists line refl) fresh
           (c.in-Ok-add_row.ensures.names ∙ ap (λ (name : List ℕ). with_name c.loop-place.names name) c.field-in-loop-place.ensures) c.in-Ok-add_row.ensures.rows;
       lines = lines;
-      few = omega (arith, count.0, room);
-      sound = all_push (is_route (length (lines_of rows)) (length args.links.now) args.ends.now args.stops.now.rows) c.loop-place.routes.items _ _ c.loop-place.invariant.sound
-          (both_true _ _ (number_known (lines_of rows) (field row 0) c.in-Ok.line line) sound) c.in-Ok-add_row.ensures.rows;
     }
 
-pub returns-in-Ok-Err-clause-read : goal.returns-in-Ok-Err-clause-read
-returns-in-Ok-Err-clause-read c =
+pub returns-in-Ok-Err : goal.returns-in-Ok-Err
+returns-in-Ok-Err c =
     let args = c.args in
     let of = value args.links.now args.stops.now (map fields_of args.rows.now) in
     let reason = why args.links.now args.ends.now args.stops.now in
@@ -75,8 +60,8 @@ returns-in-Ok-Err-clause-read c =
     (route_why (reason c.loop-place.names c.loop-place.routes.items row) (lists_of args.links.now args.stops.now.names args.stops.now.rows row) (of row) c.in-Ok-Err.reason (sym c.in-Ok-Err.field-0-is ∙ c.in-Ok-Err.ensures.lists))
     c.fault.ensures
 
-pub returns-clause-read : goal.returns-clause-read
-returns-clause-read c =
+pub returns : goal.returns
+returns c =
     let args = c.args in
     let rows = map fields_of args.rows.now in
     let of = value args.links.now args.stops.now rows in
@@ -86,14 +71,6 @@ returns-clause-read c =
     let lines = lines_all rows c.loop-place.place c.loop-place.lines end c.loop-place.invariant.lines in
     (all.0, cc (lines, all.1, all.2))
 
-pub returns-clause-few : goal.returns-clause-few
-returns-clause-few c =
-    let args = c.args in
-    let of = value args.links.now args.stops.now (map fields_of args.rows.now) in
-    let reason = why args.links.now args.ends.now args.stops.now in
-    let count = read_count 1 of reason args.rows.now c.loop-place.place c.loop-place.names c.loop-place.routes.items c.loop-place.invariant.read (omega arith) in
-    omega (arith, count.0, count.1)
-
 pub invariant_of-result : goal.invariant_of-result
 invariant_of-result c =
     let args = c.args in
@@ -101,11 +78,3 @@ invariant_of-result c =
     let reason = why args.links.now args.ends.now args.stops.now in
     let count = read_count 1 of reason args.rows.now c.loop-place.place c.loop-place.names c.loop-place.routes.items c.loop-place.invariant.read (omega arith) in
     omega (arith, count.0, count.1)
-
-pub returns-clause-sound : goal.returns-clause-sound
-returns-clause-sound c =
-    let args = c.args in
-    let rows = map fields_of args.rows.now in
-    let end : length rows ≤ c.loop-place.place = omega (arith, length-map args.rows.now fields_of, c.loop-place-test.false) in
-    let lines = lines_all rows c.loop-place.place c.loop-place.lines end c.loop-place.invariant.lines in
-    ap (λ (l : List (List ℕ)). list_all (is_route (length l) (length args.links.now) args.ends.now args.stops.now.rows) c.loop-place.routes.items) lines ∙ c.loop-place.invariant.sound

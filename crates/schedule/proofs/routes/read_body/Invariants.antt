@@ -1,15 +1,10 @@
-use Rattle.std.proofs.Common.{◌≡◌, ◌≤◌, length, map, take, true}
-use Rattle.std.specs.List.{list_all}
-use Rattle.csv.specs.Records.{fields_of}
-use Rattle.limits.specs.declared.TheConstants.{MAX_ROUTES}
+use Rattle.records.proofs.Common.{◌≡◌, map, take, fields_of, MAX_ROUTES}
 use Rattle.records.proofs.InTurn.{IsReadTo}
-use Rattle.schedule.specs.Routes.{route_reason, route_of, lines_of, is_route}
+use Rattle.schedule.specs.Routes.{route_reason, route_of, lines_of}
 use Rattle.schedule.proofs.routes.read_body.Given as goal
 
 abbrev pub invariant-loop-place : goal.invariant-loop-place
 invariant-loop-place l = record {
   read : IsReadTo 1 (route_of l.links l.stops.names l.stops.rows (lines_of (map fields_of l.rows))) (λ names _. route_reason l.links l.ends l.stops.names l.stops.rows names) l.rows l.place l.names l.routes.items;
   lines : l.lines ≡ lines_of (take l.place (map fields_of l.rows));
-  few : l.place ≤ MAX_ROUTES;
-  sound : list_all (is_route (length (lines_of (map fields_of l.rows))) (length l.links) l.ends l.stops.rows) l.routes.items ≡ true;
 }

@@ -1,15 +1,10 @@
-use Rattle.std.proofs.Common.{ℕ, List, Option, ap, ◌∙◌, map, drop}
-use Rattle.edge_files.specs.declared.reasons.Reason.{Reason}
-use Rattle.csv.specs.declared.record.ByteRecord.{ByteRecord}
-use Rattle.csv.specs.Records.{fields_of}
-use Rattle.records.specs.Rows.{Row}
-use Rattle.records.specs.Fields.{column}
-use Rattle.records.specs.Files.{optional_head_reason, body_of}
+use Rattle.records.proofs.Common.{List, ap, ℕ, ◌∙◌, map, Option, drop, fields_of, ByteRecord, Reason, column, body_of, optional_head_reason, Row}
 use Rattle.records.proofs.InTurn.{answers_body, answers_stop}
 use Rattle.schedule.specs.declared.lists.Stops.{Stops}
 use Rattle.rows.specs.declared.schedule.RouteRow.{RouteRow}
 use Rattle.schedule.specs.Views.{route_lists}
 use Rattle.schedule.specs.Routes.{route_header, route_reason, route_of, lines_of, routes_of}
+use Rattle.schedule.proofs.Free.{routes_few, routes_sound}
 use Rattle.schedule.proofs.routes.read_routes.Goals as goal
 
 abbrev why : List (List ℕ) → List (ℕ × ℕ) → Stops → List (List ℕ) → List RouteRow → Row → Option Reason
@@ -25,8 +20,18 @@ returns-in-Ok-clause-read c =
     let stops = c.args.stops.now in
     answers_body route_lists c.read_body.result (optional_head_reason route_header c.args.bytes.now) 1 (value links stops) (why links c.args.ends.now stops) c.args.bytes.now (map fields_of c.body.result.now)
     (λ rows. (lines_of rows, column 1 rows, routes_of links stops.names stops.rows rows)) c.in-Ok.ensures.head
-    (c.body.ensures ∙ ap (λ (rows : List ByteRecord). drop 1 (map fields_of rows)) c.deref.ensures.value ∙ ap (λ (rows : List Row). drop 1 rows) c.in-Ok.ensures.rows) c.read_body.ensures.read
+    (c.body.ensures ∙ ap (λ (rows : List ByteRecord). drop 1 (map fields_of rows)) c.deref.ensures.value ∙ ap (λ (rows : List Row). drop 1 rows) c.in-Ok.ensures.rows) c.read_body.ensures
 
 pub returns-in-Err-clause-read : goal.returns-in-Err-clause-read
 returns-in-Err-clause-read c =
     answers_stop route_lists _ 1 (value c.args.links.now c.args.stops.now (body_of c.args.bytes.now)) (why c.args.links.now c.args.ends.now c.args.stops.now) c.args.bytes.now c.in-Err.stop (optional_head_reason route_header c.args.bytes.now) c.in-Err.ensures.head
+
+pub returns-in-Ok-clause-few : goal.returns-in-Ok-clause-few
+returns-in-Ok-clause-few c =
+    let stops = c.args.stops.now in
+    routes_few c.args.links.now c.args.ends.now stops.names stops.rows c.args.bytes.now stops.each c.read_body.result (returns-in-Ok-clause-read c)
+
+pub returns-in-Ok-clause-sound : goal.returns-in-Ok-clause-sound
+returns-in-Ok-clause-sound c =
+    let stops = c.args.stops.now in
+    routes_sound c.args.links.now c.args.ends.now stops.names stops.rows c.args.bytes.now stops.each c.read_body.result (returns-in-Ok-clause-read c)

@@ -1,26 +1,10 @@
-use Rattle.std.proofs.Common.{ℕ, List, Option, ap, ◌∙◌, map, drop}
-use Rattle.edge_files.specs.declared.reasons.Reason.{Reason}
-use Rattle.csv.specs.declared.record.ByteRecord.{ByteRecord}
-use Rattle.csv.specs.Records.{fields_of}
-use Rattle.records.specs.Rows.{Row}
-use Rattle.records.specs.Fields.{column}
-use Rattle.records.specs.Files.{optional_head_reason, body_of}
-use Rattle.records.proofs.InTurn.{answers_file, answers_stop}
-use Rattle.schedule.specs.Views.{stop_lists}
+use Rattle.std.proofs.Common.{ℕ, List, ap}
 use Rattle.rows.specs.declared.schedule.StopRow.{StopRow}
-use Rattle.schedule.specs.Stops.{stop_header, stop_reason, stop_of}
+use Rattle.schedule.proofs.Free.{few_stops, sound_stops}
 use Rattle.schedule.proofs.stops.read_stops.Goals as goal
 
-abbrev why : List (List ℕ) → List (List ℕ) → List StopRow → Row → Option Reason
-why links names values row = stop_reason links names row
+pub returns-in-Ok-clause-few : goal.returns-in-Ok-clause-few
+returns-in-Ok-clause-few c = few_stops c.args.links.now c.args.bytes.now c.in-Ok.field-0.rows.items c.in-Ok.ensures.0 (ap (λ (p : List (List ℕ) × List StopRow). p.1) c.in-Ok.ensures.1)
 
-pub returns-in-Ok-clause-read : goal.returns-in-Ok-clause-read
-unfolding body_of
-returns-in-Ok-clause-read c =
-    answers_file stop_lists c.read_body.result (optional_head_reason stop_header c.args.bytes.now) 0 (stop_of c.args.links.now) (why c.args.links.now) c.args.bytes.now (map fields_of c.body.result.now)
-    (λ rows. (column 0 rows, map (stop_of c.args.links.now) rows)) c.in-Ok.ensures.head
-    (c.body.ensures ∙ ap (λ (rows : List ByteRecord). drop 1 (map fields_of rows)) c.deref.ensures.value ∙ ap (λ (rows : List Row). drop 1 rows) c.in-Ok.ensures.rows) c.read_body.ensures.read
-
-pub returns-in-Err-clause-read : goal.returns-in-Err-clause-read
-returns-in-Err-clause-read c =
-    answers_stop stop_lists _ 0 (stop_of c.args.links.now) (why c.args.links.now) c.args.bytes.now c.in-Err.stop (optional_head_reason stop_header c.args.bytes.now) c.in-Err.ensures.head
+pub returns-in-Ok-clause-sound : goal.returns-in-Ok-clause-sound
+returns-in-Ok-clause-sound c = sound_stops c.args.links.now c.args.bytes.now c.in-Ok.field-0.rows.items c.in-Ok.ensures.0 (ap (λ (p : List (List ℕ) × List StopRow). p.1) c.in-Ok.ensures.1)

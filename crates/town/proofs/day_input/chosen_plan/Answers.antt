@@ -1,5 +1,4 @@
-use Rattle.std.proofs.Common.{◌∙◌, ap}
-use Rattle.rows.specs.PlanRows.{plan_rows}
+use Rattle.traffic.proofs.Common.{◌∙◌, ap, plan_rows}
 use Rattle.town.proofs.Chosen.{plan_there}
 use Rattle.town.proofs.day_input.chosen_plan.Goals as goal
 

@@ -1,6 +1,5 @@
-use Rattle.std.proofs.Common.{◌≡◌, ◌∷◌, length}
-use Rattle.plans.specs.Refusals.{is_joined}
-use Rattle.town.specs.Rows.{ends_of}
+use Rattle.traffic.proofs.Common.{◌≡◌, length, ◌∷◌, ends_of}
+use Rattle.rows.specs.Joined.{is_joined}
 use Rattle.town.proofs.legs.is_joined.Given as goal
 
 abbrev pub invariant-loop-rest : goal.invariant-loop-rest

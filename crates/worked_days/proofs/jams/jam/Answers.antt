@@ -1,7 +1,6 @@
-use Rattle.std.proofs.Common.{subst, sym}
-use Rattle.traffic.specs.Rows.{World}
-use Rattle.fit_days.specs.Rows.{IsFitWorld}
-use Rattle.fit_days.specs.Setups.{counts_in}
+use Rattle.traffic.proofs.Common.{sym, subst, World}
+use Rattle.law_in_range.specs.Rows.{IsFitWorld}
+use Rattle.law_in_range.specs.Setups.{counts_in}
 use Rattle.worked_days.proofs.Going.{jam_fit}
 use Rattle.worked_days.proofs.jams.jam.Goals as goal
 

@@ -1,4 +1,4 @@
-use Rattle.fit_days.specs.Rows.{IsFitRow}
+use Rattle.law_in_range.specs.Rows.{IsFitRow}
 use Rattle.worked_days.proofs.Going.{two_fit}
 use Rattle.worked_days.proofs.jams.rows_of.Goals as goal
 

@@ -1,5 +1,5 @@
 use Rattle.std.specs.Prelude.{All}
-use Rattle.fit_days.specs.Rows.{Counts, IsFitRow}
+use Rattle.law_in_range.specs.Rows.{Counts, IsFitRow}
 use Rattle.worked_days.specs.Jams.{IsRoomy}
 use Rattle.worked_days.proofs.jams.rows_of.Given as goal
 

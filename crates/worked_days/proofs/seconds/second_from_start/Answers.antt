@@ -1,12 +1,10 @@
-use Rattle.std.proofs.Common.{sym, subst}
-use Rattle.traffic.specs.Rows.{World}
-use Rattle.traffic.specs.Worlds.{OnePlace, Sound}
+use Rattle.traffic.proofs.Common.{sym, subst, World, OnePlace, Sound}
 use Rattle.town.specs.Views.{setup}
-use Rattle.fit_days.specs.Setups.{HasItsLinks}
-use Rattle.fit_days.proofs.Seconds.{start_links}
-use Rattle.one_place.proofs.Turns.{start_kept}
-use Rattle.sound_setups.proofs.Laws.{start_sound}
-use Rattle.sound_days.proofs.Towns.{town_sound}
+use Rattle.law_in_range.specs.Setups.{HasItsLinks}
+use Rattle.law_in_range.proofs.Seconds.{start_links}
+use Rattle.law_one_place.proofs.Turns.{start_kept}
+use Rattle.law_sound_setups.proofs.Laws.{start_sound}
+use Rattle.law_matches_plans.proofs.Towns.{town_sound}
 use Rattle.plain_day.proofs.Fitness.{plans_fit}
 use Rattle.worked_days.proofs.seconds.second_from_start.Goals as goal
 

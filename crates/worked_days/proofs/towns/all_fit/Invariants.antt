@@ -1,7 +1,4 @@
-use Rattle.std.proofs.Common.{◌≡◌, drop}
-use Rattle.std.specs.Prelude.{map}
-use Rattle.std.specs.List.{list_all}
-use Rattle.rows.specs.PlanRows.{plan_rows}
+use Rattle.traffic.proofs.Common.{◌≡◌, drop, list_all, map, plan_rows}
 use Rattle.town.specs.Fits.{fits}
 use Rattle.town.specs.Views.{rows_of}
 use Rattle.worked_days.proofs.towns.all_fit.Given as goal

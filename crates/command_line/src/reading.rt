@@ -1,0 +1,87 @@
+ghost use Rattle.std.specs.Prelude.{◌≡◌, ◌≢◌, ◌∷◌, IfOk, map, string_bytes};
+ghost use Rattle.clap.specs.Words.{kind_of};
+ghost use Rattle.command_line.specs.Cases.{asks_for_help, asked_case, case_of, kind_case, simple_case};
+
+use crate::commands::{Command, command_named, simple_command};
+use crate::usage::{USAGE, no_command, not_a_command};
+use clap::Error;
+use clap::error::ErrorKind;
+use std::alloc::{AllocError, Global};
+
+/// What words ask for, with the text for the user where no command is to work.
+#[derive(Drop)]
+pub enum Asked {
+    /// The work of a command.
+    Work(Command),
+    /// To be told how the program, or a command, is used.
+    Help(String),
+    /// Nothing that the program has: the text says what is wrong.
+    Refused(String),
+}
+
+/// Whether the word asks how the program is used.
+fn asks_for_help(word: &str) -> bool
+    ensures { result ≡ asks_for_help word.now }
+{
+    word == "-h" || word == "--help"
+}
+
+/// What `clap` tells the user in place of matches.
+fn told(alloc: Global, error: &Error) -> Result<Asked, AllocError>
+    ensures { IfOk result (λ asked. (kind_of error.now ≢ ErrorKind.OutOfMemory)
+        × (asked_case asked ≡ kind_case (kind_of error.now))) }
+{
+    let text = format!(in alloc; "{error}")?;
+    match error.kind() {
+        ErrorKind::OutOfMemory => Err(AllocError),
+        ErrorKind::DisplayHelp => Ok(Asked::Help(text)),
+        _ => Ok(Asked::Refused(text)),
+    }
+}
+
+/// What the program's name and the words behind the command's name ask for.
+fn read_simple(alloc: Global, command: Command, words: &[&str]) -> Result<Asked, AllocError>
+    ensures { IfOk result (λ asked. asked_case asked ≡ simple_case command (map (λ s. s.now) words.now)) }
+{
+    let parser = simple_command(alloc, command)?;
+    match parser.try_get_matches_from(words) {
+        Ok(_) => Ok(Asked::Work(command)),
+        Err(error) => told(alloc, &error),
+    }
+}
+
+/// The words without the command's name.
+fn without_command<'a>(
+    alloc: Global,
+    program: &'a String,
+    others: &'a [String],
+) -> Result<Vec<&'a str>, AllocError>
+    ensures { IfOk result (λ v. map (λ s. s.now) v.items ≡ string_bytes program.now ∷ map string_bytes others.now) }
+{
+    let mut kept = Vec::new(alloc);
+    kept.push(program.as_str())?;
+    for word in others {
+        kept.push(word.as_str())?;
+    }
+    Ok(kept)
+}
+
+/// Reads the words of the command line, the program's name first.
+///
+/// Fails only for want of memory.
+#[tactic(auto, unfolding(crate::specs::Cases::case_of))]
+pub fn read_words(alloc: Global, words: &[String]) -> Result<Asked, AllocError>
+    ensures { IfOk result (λ asked. asked_case asked ≡ case_of (map string_bytes words.now)) }
+{
+    let [program, second, others @ ..] = words else {
+        return Ok(Asked::Refused(no_command(alloc)?));
+    };
+    if asks_for_help(second) {
+        return Ok(Asked::Help(String::from_str(alloc, USAGE)?));
+    }
+    let Some(command) = command_named(second) else {
+        return Ok(Asked::Refused(not_a_command(alloc, second)?));
+    };
+    let kept = without_command(alloc, program, others)?;
+    read_simple(alloc, command, &kept)
+}

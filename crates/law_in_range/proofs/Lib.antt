@@ -1,0 +1,12 @@
+pub mod Lists
+pub mod Telling
+pub mod Boarding
+pub mod Kept
+pub mod Sizes
+pub mod Travellers
+pub mod LinkState
+pub mod Junctions
+pub mod Naming
+pub mod Seconds
+pub mod Sounding
+pub mod Towns

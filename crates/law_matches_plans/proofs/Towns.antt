@@ -1,0 +1,99 @@
+-- The setup of a day in a town is sound and consistent, and its days follow the plans.
+use Rattle.traffic.proofs.Common.{◌≡◌, ℕ, List, length, refl, [], ◌∷◌, arith, ◌<◌, true, ◌≤◌, length-map, All-map, All-from_recursion, All-get_or, All-weaker}
+use Rattle.traffic.proofs.Common.{map, All, PlanRows, plan_rows, Plan, DepartureRow, Setup, Departure}
+use Rattle.std.specs.List.{AllByRecursion as Each}
+use Rattle.town.specs.Fits.{fits}
+use Rattle.town.specs.Rows.{TownRows, IsTown}
+use Rattle.town.specs.Setups.{departure_of, setup_of}
+use Rattle.town.specs.Views.{rows_of, chosen_in, setup, ChosenFit}
+use Rattle.town.specs.declared.day_input.DayInput.{DayInput}
+use Rattle.law_in_range.specs.Setups.{IsPlanIn}
+use Rattle.law_in_range.proofs.Towns.{plans_fit}
+use Rattle.law_trips.specs.Trips.{IsPlanned, legs}
+use Rattle.law_trips.proofs.Days.{stuck_last}
+use Rattle.law_trips.proofs.Sound.{sound_planned, has_sound_day}
+use Rattle.law_sound_setups.specs.Setups.{IsSoundPlan, IsSoundRun, IsSoundSetup}
+use Rattle.law_sound_setups.specs.Consistent.{IsConsistentPlan, AreAtStops, IsConsistentSetup}
+use Rattle.law_matches_plans.specs.Planned.{IsToldAsPlanned}
+use Rattle.law_matches_plans.proofs.Plans.{AtStops, plan_sound, plan_consistent}
+use Rattle.law_matches_plans.proofs.Schedule.{runs}
+
+-- SETUPS
+all_plans : (P : PlanRows → Type 0) (T : TownRows) (chosen : List PlanRows) → ((p : PlanRows) → IsPlanIn T p → P p) → All (IsPlanIn T) chosen → All P chosen
+all_plans P T chosen f h = All-weaker (IsPlanIn T) P f chosen h
+
+abbrev Runs : Setup → List DepartureRow → TownRows → Type 0
+Runs S ds T = Each (λ (d : DepartureRow). IsSoundRun (departure_of T.routes d) × AreAtStops S (departure_of T.routes d).calls) ds
+
+run_sound : (S : Setup) (T : TownRows) (ds : List DepartureRow) → Runs S ds T → Each (λ (d : DepartureRow). IsSoundRun (departure_of T.routes d)) ds
+run_sound S T [] h = tt
+run_sound S T (d ∷ ds) h = (h.0.0, run_sound S T ds h.1)
+
+run_consistent : (S : Setup) (T : TownRows) (ds : List DepartureRow) → Runs S ds T → Each (λ (d : DepartureRow). AreAtStops S (departure_of T.routes d).calls) ds
+run_consistent S T [] h = tt
+run_consistent S T (d ∷ ds) h = (h.0.1, run_consistent S T ds h.1)
+
+at_stops : (T : TownRows) (chosen : List PlanRows) (k : ℕ) → AtStops (setup_of T chosen k) T.stops
+unfolding setup_of
+at_stops T chosen k = λ n. refl
+
+pub rows_sound : (T : TownRows) (chosen : List PlanRows) (k : ℕ) → IsTown T → All (IsPlanIn T) chosen → IsSoundSetup (setup_of T chosen k)
+unfolding setup_of
+rows_sound T chosen k town h =
+    let S = setup_of T chosen k in
+    record {
+      persons = all_plans IsSoundPlan T chosen (plan_sound T) h;
+      departures = All-map IsSoundRun (departure_of T.routes) T.departures (All-from_recursion _ T.departures (run_sound S T T.departures (runs S T (at_stops T chosen k) town.routes town.departures)));
+    }
+
+pub rows_consistent : (T : TownRows) (chosen : List PlanRows) (k : ℕ) → IsTown T → All (IsPlanIn T) chosen → IsConsistentSetup (setup_of T chosen k)
+unfolding setup_of
+rows_consistent T chosen k town h =
+    let S = setup_of T chosen k in
+    let stops = at_stops T chosen k in
+    record {
+      persons = all_plans (IsConsistentPlan S) T chosen (plan_consistent S T stops) h;
+      departures = All-map (λ (d : Departure). AreAtStops S d.calls) (departure_of T.routes) T.departures (All-from_recursion _ T.departures (run_consistent S T T.departures (runs S T stops town.routes town.departures)));
+    }
+
+-- PERSONS
+abbrev FewLegs : PlanRows → Type 0
+FewLegs plan = length plan.legs ≤ 8
+
+few_legs : (T : TownRows) (p : PlanRows) → IsPlanIn T p → FewLegs p
+few_legs T p h = h.few
+
+few_in : (T : TownRows) (chosen : List PlanRows) (k i : ℕ) → All (IsPlanIn T) chosen → i < length chosen → legs (setup_of T chosen k) i ≤ 8
+unfolding setup_of
+few_in T chosen k i h lt =
+    All-get_or FewLegs chosen i (record { acts = []; legs = [] }) lt (all_plans FewLegs T chosen (few_legs T) h)
+
+persons_are : (T : TownRows) (chosen : List PlanRows) (k : ℕ) → length (setup_of T chosen k).persons ≡ length chosen
+unfolding setup_of
+persons_are T chosen k = refl
+
+pub rows_planned : (T : TownRows) (chosen : List PlanRows) (k i : ℕ) → IsTown T → All (IsPlanIn T) chosen → i < length chosen → IsPlanned (setup_of T chosen k) i
+rows_planned T chosen k i town h lt = let n = persons_are T chosen k in sound_planned (setup_of T chosen k) i (rows_sound T chosen k town h) (omega arith)
+
+pub rows_told : (T : TownRows) (chosen : List PlanRows) (k i : ℕ) → IsTown T → All (IsPlanIn T) chosen → i < length chosen → IsToldAsPlanned (setup_of T chosen k) i
+rows_told T chosen k i town h lt =
+    let S = setup_of T chosen k in
+    let n = persons_are T chosen k in
+    let there : i < length S.persons = omega arith in
+    let sound = rows_sound T chosen k town h in
+    let d = has_sound_day S i sound (rows_consistent T chosen k town h) there in
+    let few = d.1 in
+    let legs = few_in T chosen k i h lt in
+    record { turn = d.0; last = stuck_last S i (sound_planned S i sound there) there; few = few; most = omega arith }
+
+-- TOWNS
+pub town_sound : (day : DayInput) → ChosenFit day → IsSoundSetup (setup day)
+town_sound day h = rows_sound (rows_of day.town.now) (chosen_in day) day.iteration day.town.now.sound (plans_fit (rows_of day.town.now) day.chosen.now h)
+
+pub town_consistent : (day : DayInput) → ChosenFit day → IsConsistentSetup (setup day)
+town_consistent day h = rows_consistent (rows_of day.town.now) (chosen_in day) day.iteration day.town.now.sound (plans_fit (rows_of day.town.now) day.chosen.now h)
+
+pub town_told : (day : DayInput) (i : ℕ) → ChosenFit day → i < length day.chosen.now → IsToldAsPlanned (setup day) i
+town_told day i h lt =
+    let n = length-map day.chosen.now plan_rows in
+    rows_told (rows_of day.town.now) (chosen_in day) day.iteration i day.town.now.sound (plans_fit (rows_of day.town.now) day.chosen.now h) (omega arith)

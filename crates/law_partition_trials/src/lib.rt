@@ -1,0 +1,44 @@
+//! Small days in parts, computed from the definitions alone.
+#![tactic(auto)]
+
+ghost use Rattle.std.specs.Prelude.{◌≡◌, List, [], ◌∷◌, length, true};
+ghost use Rattle.traffic.specs.Worked.{bus, narrow};
+ghost use Rattle.traffic.specs.Day.{day};
+ghost use Rattle.parts.specs.Owners.{lag};
+ghost use Rattle.parts.specs.Parts.{out, ready};
+ghost use Rattle.law_partitions.specs.Alone.{parcel_to};
+ghost use Rattle.law_partition_trials.specs.Trials.{whereabouts, once, told_in_parts, each_node, mixed, of_car, of_walker, of_place};
+ghost use Rattle.law_partition_trials.specs.Trials.{of_nothing};
+
+/// Three small days whose nodes are partitions of their own: one who drives over three links and one who
+/// walks over two borders; two passengers and a bus of one seat; and three cars, of which two are pushed
+/// into a short link. In each of these seconds each person is in one part or in one parcel that is not
+/// absorbed, and the partitions tell as many events as the day.
+pub fn worked_days_in_parts()
+    ensures lags { lag mixed each_node 0 1 ∷ lag mixed each_node 1 2 ∷ lag mixed each_node 0 2
+        ∷ lag mixed each_node 2 0 ∷ lag mixed each_node 1 3 ∷ lag mixed each_node 3 1
+        ∷ lag mixed each_node 1 0 ∷ lag mixed each_node 2 1 ∷ []
+        ≡ 3 ∷ 2 ∷ 32 ∷ 32 ∷ 2 ∷ 9 ∷ 1 ∷ 1 ∷ [] }
+    ensures mixed_places { whereabouts mixed each_node 4 2 (0 ∷ 1 ∷ 2 ∷ 3 ∷ 4 ∷ 5 ∷ 6 ∷ 7 ∷ 8 ∷ [])
+        ≡ once 2 (0 ∷ 1 ∷ 2 ∷ 3 ∷ 4 ∷ 5 ∷ 6 ∷ 7 ∷ 8 ∷ []) }
+    ensures bus_places { whereabouts bus each_node 4 2 (1 ∷ 2 ∷ 3 ∷ 6 ∷ 7 ∷ 8 ∷ 11 ∷ [])
+        ≡ once 2 (1 ∷ 2 ∷ 3 ∷ 6 ∷ 7 ∷ 8 ∷ 11 ∷ []) }
+    ensures narrow_places { whereabouts (narrow true) each_node 4 3 (0 ∷ 1 ∷ 2 ∷ 3 ∷ 4 ∷ 5 ∷ 6 ∷ [])
+        ≡ once 3 (0 ∷ 1 ∷ 2 ∷ 3 ∷ 4 ∷ 5 ∷ 6 ∷ []) }
+    ensures mixed_events { told_in_parts mixed each_node 4 ≡ length (day mixed) }
+    ensures bus_events { told_in_parts bus each_node 4 ≡ length (day bus) }
+    ensures narrow_events { told_in_parts (narrow true) each_node 4 ≡ length (day (narrow true)) }
+{}
+
+/// Parcels of the first of these days: the car enters the second link in second 1, with its driver on his
+/// first leg, and drives there until second 3; the walk that begins in second 0 is over in second 2; in
+/// second 3 the car leaves its place in the queue of the second link, and in second 2 nothing is sent back.
+/// A partition by itself makes the same ones.
+pub fn worked_parcels()
+    ensures car { out mixed each_node 1 2 1 ≡ of_car }
+    ensures walker { out mixed each_node 1 3 0 ≡ of_walker }
+    ensures place { out mixed each_node 2 1 3 ≡ of_place }
+    ensures nothing { out mixed each_node 2 1 2 ≡ of_nothing }
+    ensures car_alone { parcel_to mixed each_node 1 1 (ready mixed each_node 1 1) 2 ≡ of_car }
+    ensures place_alone { parcel_to mixed each_node 2 3 (ready mixed each_node 2 3) 1 ≡ of_place }
+{}

@@ -1,0 +1,25 @@
+//! The laws of a day in parts, of towns: they hold of every town, of every choice of plans that fit it,
+//! and of every way to give its nodes to partitions.
+#![tactic(auto)]
+
+ghost use Rattle.std.specs.Prelude.{◌≡◌, ℕ, true, List, All};
+ghost use Rattle.rows.specs.PlanRows.{PlanRows};
+ghost use Rattle.town.specs.Rows.{TownRows, IsTown};
+ghost use Rattle.town.specs.Setups.{setup_of};
+ghost use Rattle.town.specs.Views.{setup, ChosenFit};
+ghost use Rattle.town.specs.declared.day_input.DayInput.{DayInput};
+ghost use Rattle.law_in_range.specs.Setups.{IsPlanIn};
+ghost use Rattle.parts.specs.Owners.{Owner};
+ghost use Rattle.law_partitions.specs.Laws.{IsOwner, GoesInParts};
+
+/// The day of a town in parts: a partition's second is that of the day there; in whatever order the lags
+/// allow partitions advance, each holds, has told and has sent what the day says, and each person is in
+/// one part or in one parcel that is not absorbed; some may always advance, and all come to the end;
+/// and what they tell, merged, is the day.
+pub fn towns_go_in_parts()
+    ensures rows { (T : TownRows) (chosen : List PlanRows) (k : ℕ) (own : Owner) (parts : ℕ) → IsTown T
+        → All (IsPlanIn T) chosen → IsOwner own parts → GoesInParts (setup_of T chosen k) own parts }
+    ensures towns { (day : DayInput) (own : Owner) (parts : ℕ)
+        → ChosenFit day → IsOwner own parts
+        → GoesInParts (setup day) own parts }
+{}

@@ -1,0 +1,38 @@
+-- Setups whose days stay sound.
+use Rattle.std.specs.Prelude.{◌≡◌, ◌<◌, ◌+◌, ◌==◌, ℕ, List, length, get_or, All, None}
+use Rattle.rows.specs.declared.plan.Act.{Act}
+use Rattle.rows.specs.declared.plan.Leg.{Leg}
+use Rattle.rows.specs.PlanRows.{PlanRows}
+use Rattle.rows.specs.declared.plan.Leg.TheVariants as leg
+use Rattle.traffic.specs.Setup.{Setup, Departure}
+use Rattle.traffic.specs.Worlds.{HasEnd, AreServable}
+
+-- a drive's route has a link
+abbrev pub IsSoundLeg : Leg → Type 0
+IsSoundLeg (leg.Car route) = 0 < length route
+IsSoundLeg (leg.Teleport mode seconds) = Unit {0}
+IsSoundLeg (leg.Transit line access egress) = Unit {0}
+
+-- the k-th activity of a plan has an end exactly where it is not the last one
+abbrev pub EndsAsPlanned : List Act → ℕ → Type 0
+EndsAsPlanned acts k = HasEnd (k + 1 == length acts) (get_or acts k (record { kind = 0; link = 0; end = None })).end
+
+pub record IsSoundPlan (plan : PlanRows) : Type 0 where
+  -- there is one activity more than legs
+  pub one_more : length plan.acts ≡ length plan.legs + 1
+  -- every activity but the last has an end, and the last has none
+  pub ends : (k : ℕ) → k < length plan.acts → EndsAsPlanned plan.acts k
+  -- each leg by car has a route with a link
+  pub legs : All IsSoundLeg plan.legs
+
+pub record IsSoundRun (departure : Departure) : Type 0 where
+  -- the route has a link
+  pub some : 0 < length departure.route
+  -- the calls can all be served in order along the route
+  pub calls : AreServable departure.calls departure.route
+
+pub record IsSoundSetup (S : Setup) : Type 0 where
+  -- each person's chosen plan is sound
+  pub persons : All IsSoundPlan S.persons
+  -- so is each departure
+  pub departures : All IsSoundRun S.departures

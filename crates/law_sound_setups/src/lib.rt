@@ -1,0 +1,40 @@
+//! The laws of soundness: in every second of a day each person and each vehicle fits the plans and the
+//! timetable that it comes from, and whoever alights is where his next activity is. Each is the contract
+//! of a call that does nothing.
+#![tactic(auto)]
+
+ghost use Rattle.std.specs.Prelude.{ℕ, ◌<◌, ◌≤◌, List, length};
+ghost use Rattle.events.specs.declared.event.Phase.{Phase};
+ghost use Rattle.events.specs.declared.event.VehicleId.{VehicleId};
+ghost use Rattle.traffic.specs.declared.stage.Stage.{Stage};
+ghost use Rattle.traffic.specs.Rows.{World, at, person_of};
+ghost use Rattle.traffic.specs.Setup.{Setup};
+ghost use Rattle.traffic.specs.Day.{second, through, world_start, world_at};
+ghost use Rattle.traffic.specs.Worlds.{OnePlace, Sound, rows_of};
+ghost use Rattle.law_sound_setups.specs.Setups.{IsSoundSetup};
+ghost use Rattle.law_sound_setups.specs.Consistent.{IsConsistentSetup};
+ghost use Rattle.law_sound_setups.specs.Alighting.{AlightAll};
+
+/// Where the plans and the departures of a setup are sound, a day begins sound, a second keeps sound a
+/// world in which each person is in one place, and so every second of the day is sound, and between its
+/// phases it is, too.
+pub fn days_stay_sound()
+    ensures start { (S : Setup) → IsSoundSetup S → Sound S (world_start S) }
+    ensures kept { (S : Setup) (t : ℕ) (W : World) → IsSoundSetup S → OnePlace S W → Sound S W
+        → Sound S (second S t W) }
+    ensures always { (S : Setup) (t : ℕ) → IsSoundSetup S → Sound S (world_at S t) }
+    ensures between { (S : Setup) (t : ℕ) (ps : List Phase) → IsSoundSetup S
+        → Sound S (through S t ps (world_at S t)) }
+{}
+
+/// Where the plans and the calls of a setup are on the links that they name, in a sound world in which
+/// each person is in one place whoever would alight from a row on a link has his next activity there.
+pub fn riders_alight_at_their_activities()
+    ensures { (S : Setup) (i l : ℕ) (s : Stage) (W : World) → IsConsistentSetup S → OnePlace S W → Sound S W
+        → i < length S.persons → AlightAll S l i (person_of i W).element (at l s W) }
+{}
+
+/// In a sound setup no vehicle stands in two rows, in every second.
+pub fn vehicles_stand_once()
+    ensures { (S : Setup) (t : ℕ) (v : VehicleId) → IsSoundSetup S → length (rows_of v (world_at S t).rows) ≤ 1 }
+{}

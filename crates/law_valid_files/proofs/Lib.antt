@@ -1,0 +1,4 @@
+mod NetworkRows
+mod Numbers
+mod Persons
+pub mod Valid

@@ -1,0 +1,89 @@
+-- The settings of a file without a fault are in their ranges.
+use Rattle.std.proofs.Common.{◌≡◌, ℕ, ◌≤◌, ◌-◌, ◌^◌, Bool, true, false, not, ◌&&◌, ◌||◌, List, Option, None, Some, refl, arith}
+use Rattle.std.specs.Prelude.{codes, nat_le, option_and_then, unwrap_or}
+use Rattle.std.specs.List.{list_any}
+use Rattle.std.proofs.lemmas.Bool.{or_parts}
+use Rattle.std.proofs.lemmas.Bool.Decides.{nat_tests}
+use Rattle.limits.specs.declared.TheConstants.{LAST_SECOND, MAX_PERMILLE, MAX_SPEED, MAX_DWELL}
+use Rattle.serde_json.specs.Data.{Data, Members}
+use Rattle.serde_json.specs.Find.{get_member}
+use Rattle.edge_files.specs.declared.reasons.Reason.TheVariants as reason
+use Rattle.records.specs.Files.{is_too_long}
+use Rattle.records.proofs.Unrefused.{none_applies}
+use Rattle.settings.specs.Keys.{whole, is_from_to, is_whole, is_bad, keys, has_unknown_key, has_bad_value}
+use Rattle.settings.specs.Values.{given, values_in}
+use Rattle.settings.specs.Faults.{value_of, members_of, is_no_object, settings_fault, settings_of}
+use Rattle.rows.specs.Settings.{is_hole_speed, AreInRange}
+
+-- from low to high
+abbrev IsWithin : ℕ → ℕ → ℕ → Type 0
+IsWithin low high n = (low ≤ n) × (n ≤ high)
+
+tested : (low high n : ℕ) → not (nat_le low n && nat_le n high) ≡ false → IsWithin low high n
+tested low high n h = (grind (arith, nat_tests), grind (arith, nat_tests))
+
+-- a value that is no fault, or the default
+value_within : (low high default : ℕ) (value : Data) (o : Option ℕ) → whole value ≡ o → not (is_from_to low high o) ≡ false → IsWithin low high default → IsWithin low high (unwrap_or o default)
+value_within low high default value None is good d = cc
+value_within low high default value (Some n) is good d = tested low high n good
+
+key_within : (low high default : ℕ) (o : Option Data) → is_bad (is_whole low high) o ≡ false → IsWithin low high default → IsWithin low high (unwrap_or (option_and_then whole o) default)
+unfolding is_whole
+key_within low high default None good d = d
+key_within low high default (Some value) good d = value_within low high default value (whole value) refl good d
+
+speed_by : (value : Data) (o : Option ℕ) → whole value ≡ o → not (is_from_to 1 MAX_SPEED o) ≡ false → is_hole_speed o ≡ true
+speed_by value None is good = cc
+speed_by value (Some n) is good = holds (nat_le 1 n && nat_le n MAX_SPEED) good
+  where
+    holds : (b : Bool) → not b ≡ false → b ≡ true
+    holds true h = refl
+    holds false h = cc
+
+speed_within : (o : Option Data) → is_bad (is_whole 1 MAX_SPEED) o ≡ false → is_hole_speed (option_and_then whole o) ≡ true
+unfolding is_whole
+speed_within None good = refl
+speed_within (Some value) good = speed_by value (whole value) refl good
+
+members_free : (members : Members) → has_bad_value members ≡ false → AreInRange (values_in members).traffic
+unfolding has_bad_value values_in
+members_free members good =
+    let a = or_parts _ _ good in
+    let b = or_parts _ _ a.1 in
+    let c = or_parts _ _ b.1 in
+    let d = or_parts _ _ c.1 in
+    let e = or_parts _ _ d.1 in
+    let f = or_parts _ _ e.1 in
+    let g = or_parts _ _ f.1 in
+    let h = or_parts _ _ g.1 in
+    let i = or_parts _ _ h.1 in
+    let j = or_parts _ _ i.1 in
+    let end = key_within 1 LAST_SECOND 108000 (get_member (codes "end_second") members) b.0 (omega arith, omega arith) in
+    let flow = key_within 1 MAX_PERMILLE 1000 (get_member (codes "flow_permille") members) c.0 (omega arith, omega arith) in
+    let storage = key_within 1 MAX_PERMILLE 1000 (get_member (codes "storage_permille") members) d.0 (omega arith, omega arith) in
+    let patience = key_within 1 LAST_SECOND 10 (get_member (codes "stuck_seconds") members) e.0 (omega arith, omega arith) in
+    let per_stop = key_within 0 MAX_DWELL 4 (get_member (codes "dwell_open") members) h.0 (omega arith, omega arith) in
+    let per_alight = key_within 0 MAX_DWELL 1 (get_member (codes "dwell_alight") members) i.0 (omega arith, omega arith) in
+    let per_board = key_within 0 MAX_DWELL 2 (get_member (codes "dwell_board") members) j.0 (omega arith, omega arith) in
+    record {
+      begins = end.0;
+      ends = end.1;
+      some_flow = flow.0;
+      most_flow = flow.1;
+      some_storage = storage.0;
+      most_storage = storage.1;
+      some_patience = patience.0;
+      most_patience = patience.1;
+      holes = speed_within (get_member (codes "hole_speed") members) g.0;
+      dwell = record { per_stop = per_stop.1; per_alight = per_alight.1; per_board = per_board.1 };
+    }
+
+pub settings_free : (bytes : List ℕ) → settings_fault bytes ≡ None → AreInRange (settings_of bytes).traffic
+unfolding settings_fault settings_of
+settings_free bytes none =
+    let value = value_of bytes in
+    let a = none_applies (is_too_long bytes) reason.TooLong _ none in
+    let b = none_applies (is_no_object value) reason.NotJson _ a.1 in
+    let c = none_applies (has_unknown_key (members_of value)) reason.KeyUnknown _ b.1 in
+    let d = none_applies (has_bad_value (members_of value)) reason.ValueBad _ c.1 in
+    members_free (members_of value) d.0

@@ -1,0 +1,95 @@
+-- Files without a fault give a town, and plans of which its days can be made.
+use Rattle.scenario.proofs.Common.{◌≡◌, List, ℕ, map, sym, ◌∙◌, ap, length, refl, subst, None, true, arith, ◌<◌, ◌≤◌, length-map, list_all, is_link}
+use Rattle.scenario.proofs.Common.{links_fault, node_names, PlanFileRows, file_rows, fault_at, always, ends_of, PlanRows, persons_fault, scenario_fault}
+use Rattle.scenario.proofs.Common.{scenario_rows, NetworkRows, schedule_rows_of, ScenarioRows, ScheduleRows, leg_checks_in, network_fault, network_rows_of}
+use Rattle.scenario.proofs.Common.{plans_cross_fault, on_network, on_network_fault, persons_on, scenario_of, town_of, first_plans, all_fit, AreThere}
+use Rattle.scenario.proofs.Common.{plan_in_town, numbers_in, Texts, bytes_in, IsSchedule, settings_fault, settings_of, Values, TownRows}
+use Rattle.std.specs.List.{AllByRecursion as Each}
+use Rattle.std.proofs.lemmas.List.{length-replicate}
+use Rattle.std.proofs.lemmas.List.Elements.{All-from_recursion, recursion_from_All}
+use Rattle.edge_files.specs.declared.files.InFile.TheVariants as file
+use Rattle.records.proofs.Unrefused.{or_none, no_reason}
+use Rattle.plans.specs.Values.{plans_fault}
+use Rattle.plans.proofs.AllRows.{AreFreePlans, plans_free}
+use Rattle.schedule.specs.Stops.{is_stop}
+use Rattle.schedule.specs.Routes.{is_route}
+use Rattle.rows.specs.Settings.{AreInRange}
+use Rattle.town.specs.Rows.{IsTown}
+use Rattle.law_in_range.specs.Setups.{IsPlanIn}
+use Rattle.scenario.specs.declared.faults.ScenarioFault.{ScenarioFault}
+use Rattle.scenario.specs.FilesToScenario.{plans_of}
+use Rattle.scenario.proofs.RowByRow.{same_crossing}
+use Rattle.scenario.proofs.Told.{bytes_free}
+use Rattle.scenario.proofs.FreeSchedules.{schedule_free}
+use Rattle.scenario.proofs.Settling.{plans_fit}
+use Rattle.scenario.proofs.There.{are_there}
+use Rattle.law_valid_files.specs.Valid.{IsScenario, AreChosenIn, AreOwnPlans}
+use Rattle.law_valid_files.proofs.NetworkRows.{AreNetworkRows, network_free}
+use Rattle.law_valid_files.proofs.Numbers.{settings_free}
+use Rattle.law_valid_files.proofs.Persons.{all_in_town, firsts_in}
+
+-- THE TOWN
+town_is : (v : Values) (network : NetworkRows) (persons kinds : List (List ℕ)) (t : ScheduleRows) → AreInRange v.traffic → AreNetworkRows network → IsSchedule (length network.link_names) (ends_of network.links) t → length persons ≤ 65536
+    → IsTown (town_of v network persons kinds t)
+unfolding town_of
+town_is v network persons kinds t settings r s few = record {
+  settings = settings;
+  few_persons = few;
+  few_links = r.few;
+  links = r.links;
+  few_stops = s.few_stops;
+  stops = subst (λ (n : ℕ). list_all (is_stop n) t.stops ≡ true) r.each_link s.stops;
+  few_routes = s.few_routes;
+  routes = subst (λ (n : ℕ). list_all (is_route (length t.lines) n (ends_of network.links) t.stops) t.routes ≡ true) r.each_link s.routes;
+  few_departures = s.few_departures;
+  departures = s.departures;
+  greens = length-replicate (length network.links) always;
+}
+
+persons_named : (v : Values) (network : NetworkRows) (persons kinds : List (List ℕ)) (t : ScheduleRows) → length persons ≡ length (town_of v network persons kinds t).book.persons
+unfolding town_of
+persons_named v network persons kinds t = refl
+
+-- THE PLANS
+all_there : (P : PlanFileRows) (links : ℕ) (ends : List (ℕ × ℕ)) (t : ScheduleRows) → IsSchedule links ends t → AreThere (length t.lines) (leg_checks_in P t)
+unfolding leg_checks_in
+all_there P links ends t s = record {
+  lines = λ n k h. are_there P.lines t.lines (numbers_in P.lines t.lines) refl n k h;
+  stops = λ n k h. subst (λ (count : ℕ). k < count) s.each_stop (are_there P.stops t.stop_names (numbers_in P.stops t.stop_names) refl n k h);
+}
+
+scenario_is : (v : Values) (network : NetworkRows) (P : PlanFileRows) (t : ScheduleRows) → AreInRange v.traffic → AreNetworkRows network → AreFreePlans network.link_names (ends_of network.links) P → IsSchedule (length network.link_names) (ends_of network.links) t
+    → plans_cross_fault P t ≡ None → IsScenario (scenario_of v network P t)
+unfolding scenario_of
+scenario_is v network P t settings r p s free =
+    let T = town_of v network P.persons P.kinds t in
+    let N = (leg_checks_in P t).numbers in
+    let fit : all_fit T (map (map (plan_in_town N)) P.plans) ≡ true = plans_fit v network P t (all_there P (length network.link_names) (ends_of network.links) t s) r.each_link p.sound p.plans free in
+    record {
+      town = town_is v network P.persons P.kinds t settings r s p.sound.few;
+      each = length-map P.plans (map (plan_in_town N)) ∙ p.sound.each ∙ persons_named v network P.persons P.kinds t;
+      plans = All-from_recursion (AreOwnPlans T) (map (map (plan_in_town N)) P.plans) (all_in_town T N P.plans p.plans fit);
+    }
+
+-- ALL FILES
+pub scenario_valid : (texts : Texts) → scenario_fault texts ≡ None → IsScenario (scenario_rows texts)
+unfolding scenario_fault network_fault on_network_fault scenario_rows on_network persons_fault
+scenario_valid T none =
+    let a = or_none _ _ none in
+    let b = or_none _ _ a.1 in
+    let n = or_none _ _ b.0 in
+    let c = or_none _ _ b.1 in
+    let d = or_none _ _ c.1 in
+    let network = network_rows_of T in
+    let ends = ends_of network.links in
+    let t = schedule_rows_of network.link_names T in
+    let settings = settings_free (bytes_in T file.Settings) (no_reason 0 _ (bytes_free T file.Settings (λ bytes. fault_at 0 (settings_fault bytes)) a.0)) in
+    let r = network_free T (bytes_free T file.Links (links_fault (node_names (bytes_in T file.Nodes))) n.1) in
+    let p = plans_free network.link_names ends (bytes_in T file.Plans) (bytes_free T file.Plans (plans_fault network.link_names ends) c.0) in
+    let s = schedule_free network.link_names ends T d.0 in
+    scenario_is (settings_of (bytes_in T file.Settings)) network (persons_on network T) t settings r p s (same_crossing network T t c.0 ∙ d.1)
+
+pub chosen_valid : (S : ScenarioRows) → IsScenario S → AreChosenIn S.town (first_plans S.plans)
+chosen_valid S valid =
+    let firsts = firsts_in S.town S.plans (recursion_from_All (AreOwnPlans S.town) S.plans valid.plans) in
+    record { each = firsts.0 ∙ valid.each; plans = All-from_recursion (IsPlanIn S.town) (first_plans S.plans) firsts.1 }

@@ -1,5 +1,0 @@
-use Rattle.person_days.proofs.Days.{has_some_day}
-use Rattle.person_days.proofs.few_events.Goals as goal
-
-pub returns : goal.returns
-returns c = λ S i p lt. (has_some_day S i p lt).1

@@ -1,0 +1,41 @@
+use Rattle.scenario.proofs.Common.{◌≡◌, List, ℕ, map, sym, ◌∙◌, ap, length, refl, subst, length-map, file_rows_of, PlanRows, all_plan_rows, plan_rows}
+use Rattle.scenario.proofs.Common.{ScenarioRows, leg_checks_in, scenario_of, town_of, all_fit, AreThere, plan_in_town, LegChecks, schedule_view, network_view}
+use Rattle.scenario.proofs.Common.{values_of, TownRows, rows_of}
+use Rattle.scenario.proofs.AllFit.{all_kept}
+use Rattle.scenario.proofs.Settling.{plans_fit, persons_are}
+use Rattle.scenario.proofs.assembling.scenario_of_parts.Goals as goal
+
+pub invariant_of-result : goal.invariant_of-result
+invariant_of-result c =
+    let args = c.args in
+    let v = values_of args.settings in
+    let R = network_view args.network in
+    let P = file_rows_of args.file in
+    let S = schedule_view args.schedule in
+    let T = town_of v R P.persons P.kinds S in
+    let plans = c.in-Ok.plans in
+    let town_is : rows_of c.in-Ok-town_with_names.town ≡ T = c.in-Ok-town_with_names.ensures in
+    let plans_are : all_plan_rows plans ≡ map (map (plan_in_town (leg_checks_in P S).numbers)) (all_plan_rows args.file.plans) =
+    c.in-Ok.ensures ∙ ap (λ (W : LegChecks). map (map (plan_in_town W.numbers)) (all_plan_rows args.file.plans)) c.requires.leg_checks in
+    let there = subst (λ (W : LegChecks). AreThere (length S.lines) W) c.requires.leg_checks c.requires.there in
+    let count = sym (length-map plans (map plan_rows)) ∙ ap (λ (l : List (List PlanRows)). length l) plans_are
+    ∙ length-map (all_plan_rows args.file.plans) (map (plan_in_town (leg_checks_in P S).numbers)) ∙ c.requires.sound.each in
+    record {
+      each = count ∙ sym (ap (λ (names : List (List ℕ)). length names) (persons_are v R P.persons P.kinds S (rows_of c.in-Ok-town_with_names.town) town_is));
+      fitting = ap (λ (t : TownRows). all_fit t (all_plan_rows plans)) town_is ∙ ap (λ (l : List (List PlanRows)). all_fit T l) plans_are
+          ∙ plans_fit v R P S there args.network.each_link c.requires.sound (all_kept args.file.plans) c.requires.free;
+    }
+
+pub returns-in-Ok-town_with_names : goal.returns-in-Ok-town_with_names
+unfolding scenario_of
+returns-in-Ok-town_with_names c =
+    let args = c.args in
+    let P = file_rows_of args.file in
+    let S = schedule_view args.schedule in
+    let T = town_of (values_of args.settings) (network_view args.network) P.persons P.kinds S in
+    let plans = c.in-Ok.plans in
+    let town_is : rows_of c.in-Ok-town_with_names.town ≡ T = c.in-Ok-town_with_names.ensures in
+    let plans_are : all_plan_rows plans ≡ map (map (plan_in_town (leg_checks_in P S).numbers)) (all_plan_rows args.file.plans) =
+    c.in-Ok.ensures ∙ ap (λ (W : LegChecks). map (map (plan_in_town W.numbers)) (all_plan_rows args.file.plans)) c.requires.leg_checks in
+    let both : TownRows → List (List PlanRows) → ScenarioRows = λ t l. record { town = t; plans = l } in
+    ap (λ (t : TownRows). both t (all_plan_rows plans)) town_is ∙ ap (λ (l : List (List PlanRows)). both T l) plans_are

@@ -1,0 +1,176 @@
+-- What the files of a scenario give, or their first fault.
+use Rattle.std.specs.Prelude.{ℕ, List, length, map, replicate, Option}
+use Rattle.edge_files.specs.declared.files.InFile.TheVariants as file
+use Rattle.events.specs.declared.event.Book.{Book}
+use Rattle.records.specs.Fields.{column}
+use Rattle.records.specs.Files.{body_of}
+use Rattle.records.specs.Faults.{or_else, fault_at}
+use Rattle.rows.specs.declared.network.NodeRow.{NodeRow}
+use Rattle.rows.specs.declared.network.LinkRow.{LinkRow}
+use Rattle.network.specs.Nodes.{nodes_fault, node_names, node_of}
+use Rattle.network.specs.Links.{links_fault, link_names, link_of}
+use Rattle.rows.specs.PlanRows.{PlanRows}
+use Rattle.plans.specs.Values.{PlanFileRows, tables_of, plans_fault, file_rows}
+use Rattle.rows.specs.declared.schedule.StopRow.{StopRow}
+use Rattle.rows.specs.declared.schedule.RouteRow.{RouteRow}
+use Rattle.rows.specs.declared.schedule.DepartureRow.{DepartureRow}
+use Rattle.schedule.specs.Stops.{stops_fault, stop_of}
+use Rattle.schedule.specs.Routes.{routes_fault, lines_of, routes_of}
+use Rattle.schedule.specs.Departures.{departures_fault, departure_of}
+use Rattle.settings.specs.Values.{Values}
+use Rattle.settings.specs.Faults.{settings_fault, settings_of}
+use Rattle.rows.specs.Greens.{always}
+use Rattle.rows.specs.Joined.{ends_of}
+use Rattle.town.specs.Rows.{TownRows}
+use Rattle.scenario.specs.declared.faults.ScenarioFault.{ScenarioFault}
+use Rattle.scenario.specs.Texts.{Texts, bytes_in}
+use Rattle.scenario.specs.Faults.{in_file, fault_in}
+use Rattle.scenario.specs.Legs.{LegChecks, numbers_in, plan_in_town, rows_cross_fault, all_plans_fault}
+
+-- names and rows of nodes and of links
+pub record NetworkRows : Type 0 where
+  pub node_names : List (List ℕ)
+  pub nodes : List NodeRow
+  pub link_names : List (List ℕ)
+  pub links : List LinkRow
+
+-- what nodes.csv and links.csv give
+unfoldable pub network_rows_of : Texts → NetworkRows
+network_rows_of T = record {
+  node_names = node_names (bytes_in T file.Nodes);
+  nodes = map node_of (body_of (bytes_in T file.Nodes));
+  link_names = link_names (bytes_in T file.Links);
+  links = map (link_of (node_names (bytes_in T file.Nodes))) (body_of (bytes_in T file.Links));
+}
+
+-- names and rows of stops, of routes, which have lines, and of departures
+pub record ScheduleRows : Type 0 where
+  pub stop_names : List (List ℕ)
+  pub stops : List StopRow
+  pub lines : List (List ℕ)
+  pub route_names : List (List ℕ)
+  pub routes : List RouteRow
+  pub departure_names : List (List ℕ)
+  pub departures : List DepartureRow
+
+-- the names of the stops
+abbrev pub stop_names : List ℕ → List (List ℕ)
+stop_names stops = column 0 (body_of stops)
+
+-- the stops on links of these names
+abbrev pub stop_rows : List (List ℕ) → List ℕ → List StopRow
+stop_rows links stops = map (stop_of links) (body_of stops)
+
+-- the names of the routes
+abbrev pub route_names : List ℕ → List (List ℕ)
+route_names routes = column 1 (body_of routes)
+
+-- what stops.csv, routes.csv and departures.csv give, on links of these names
+unfoldable pub schedule_rows_of : List (List ℕ) → Texts → ScheduleRows
+schedule_rows_of links T = record {
+  stop_names = stop_names (bytes_in T file.Stops);
+  stops = stop_rows links (bytes_in T file.Stops);
+  lines = lines_of (body_of (bytes_in T file.Routes));
+  route_names = route_names (bytes_in T file.Routes);
+  routes = routes_of links (stop_names (bytes_in T file.Stops)) (stop_rows links (bytes_in T file.Stops)) (body_of (bytes_in T file.Routes));
+  departure_names = column 0 (body_of (bytes_in T file.Departures));
+  departures = map (departure_of (route_names (bytes_in T file.Routes))) (body_of (bytes_in T file.Departures));
+}
+
+-- what the legs of the plans are held against
+unfoldable pub leg_checks_in : PlanFileRows → ScheduleRows → LegChecks
+leg_checks_in plans schedule = record {
+  numbers = record { lines = numbers_in plans.lines schedule.lines; stops = numbers_in plans.stops schedule.stop_names };
+  stops = schedule.stops;
+  routes = schedule.routes;
+}
+
+-- names for all that events tell of
+abbrev pub book_of : NetworkRows → List (List ℕ) → List (List ℕ) → ScheduleRows → Book
+book_of network persons kinds schedule = record {
+  persons = persons;
+  links = network.link_names;
+  kinds = kinds;
+  stops = schedule.stop_names;
+  lines = schedule.lines;
+  departures = schedule.departure_names;
+}
+
+-- a town, and each person's plans in it
+pub record ScenarioRows : Type 0 where
+  pub town : TownRows
+  pub plans : List (List PlanRows)
+
+-- the town, with names of persons and of kinds of activities; no link has a signal
+unfoldable pub town_of : Values → NetworkRows → List (List ℕ) → List (List ℕ) → ScheduleRows → TownRows
+town_of settings network persons kinds schedule = record {
+  seed = settings.seed;
+  settings = settings.traffic;
+  nodes = network.nodes;
+  links = network.links;
+  stops = schedule.stops;
+  routes = schedule.routes;
+  departures = schedule.departures;
+  greens = replicate (length network.links) always;
+  book = book_of network persons kinds schedule;
+}
+
+-- each person's plans, with the town's numbers of lines and stops
+abbrev pub plans_of : PlanFileRows → ScheduleRows → List (List PlanRows)
+plans_of plans schedule = map (map (plan_in_town (leg_checks_in plans schedule).numbers)) plans.plans
+
+-- the town with its plans
+unfoldable pub scenario_of : Values → NetworkRows → PlanFileRows → ScheduleRows → ScenarioRows
+scenario_of settings network plans schedule = record { town = town_of settings network plans.persons plans.kinds schedule; plans = plans_of plans schedule }
+
+-- the first fault of nodes.csv and links.csv
+unfoldable pub network_fault : Texts → Option ScenarioFault
+network_fault T =
+    or_else (fault_in T file.Nodes nodes_fault) (
+    fault_in T file.Links (links_fault (node_names (bytes_in T file.Nodes))))
+
+-- the first fault of plans.csv by itself, over links of these names and ends
+unfoldable pub persons_fault : List (List ℕ) → List (ℕ × ℕ) → Texts → Option ScenarioFault
+persons_fault links ends T = fault_in T file.Plans (plans_fault links ends)
+
+-- the first fault of stops.csv, routes.csv and departures.csv, over links of these names and ends
+unfoldable pub schedule_fault : List (List ℕ) → List (ℕ × ℕ) → Texts → Option ScenarioFault
+schedule_fault links ends T =
+    or_else (fault_in T file.Stops (stops_fault links)) (
+    or_else (fault_in T file.Routes (routes_fault links ends (stop_names (bytes_in T file.Stops)) (stop_rows links (bytes_in T file.Stops)))) (
+    fault_in T file.Departures (departures_fault (route_names (bytes_in T file.Routes)))))
+
+-- the first leg of plans.csv that does not fit the files behind it: the least row, and the least of its reasons
+unfoldable pub cross_fault : NetworkRows → List ℕ → ScheduleRows → Option ScenarioFault
+cross_fault network plans schedule =
+    in_file file.Plans (rows_cross_fault (leg_checks_in (file_rows network.link_names plans) schedule) (tables_of network.link_names (body_of plans)) (body_of plans))
+
+-- the same of plans that were read, plan by plan
+unfoldable pub plans_cross_fault : PlanFileRows → ScheduleRows → Option ScenarioFault
+plans_cross_fault plans schedule = in_file file.Plans (all_plans_fault (leg_checks_in plans schedule) plans.starts plans.plans)
+
+-- what plans.csv gives on network
+abbrev pub persons_on : NetworkRows → Texts → PlanFileRows
+persons_on network T = file_rows network.link_names (bytes_in T file.Plans)
+
+-- the first fault of the files on network: each by itself, in their order, and only then the first leg that does not fit
+unfoldable pub on_network_fault : NetworkRows → Texts → Option ScenarioFault
+on_network_fault network T =
+    or_else (persons_fault network.link_names (ends_of network.links) T) (
+    or_else (schedule_fault network.link_names (ends_of network.links) T) (
+    cross_fault network (bytes_in T file.Plans) (schedule_rows_of network.link_names T)))
+
+-- the scenario on network
+unfoldable pub on_network : Values → NetworkRows → Texts → ScenarioRows
+on_network settings network T = scenario_of settings network (persons_on network T) (schedule_rows_of network.link_names T)
+
+-- the first fault of the files: each by itself, in their order, and only then the first leg of plans.csv that does not fit
+unfoldable pub scenario_fault : Texts → Option ScenarioFault
+scenario_fault T =
+    or_else (fault_in T file.Settings (λ bytes. fault_at 0 (settings_fault bytes))) (
+    or_else (network_fault T) (
+    on_network_fault (network_rows_of T) T))
+
+-- the scenario that files without a fault give
+unfoldable pub scenario_rows : Texts → ScenarioRows
+scenario_rows T = on_network (settings_of (bytes_in T file.Settings)) (network_rows_of T) T

@@ -1,0 +1,107 @@
+ghost use Rattle.std.specs.Prelude.{◌≡◌, map, length};
+ghost use Rattle.records.specs.Fields.{column};
+ghost use Rattle.records.specs.Files.{body_of};
+ghost use Rattle.schedule.specs.Stops.{stops_fault};
+ghost use Rattle.schedule.specs.Routes.{routes_fault, routes_of, lines_of};
+ghost use Rattle.schedule.specs.Departures.{departures_fault, departure_of};
+ghost use Rattle.schedule.specs.Views.{stop_lists, route_lists, departure_lists};
+ghost use Rattle.scenario.specs.Texts.{bytes_in};
+ghost use Rattle.scenario.specs.Faults.{fault_in, Tells};
+ghost use Rattle.scenario.specs.FilesToScenario.{stop_names, stop_rows, route_names, schedule_fault, schedule_rows_of};
+ghost use Rattle.scenario.specs.Views.{schedule_view, texts_of};
+
+use crate::faults::Stop;
+use crate::files::Files;
+use crate::reading::{bytes_of, with_file};
+use crate::schedules::Schedule;
+use edge_files::InFile;
+use events::Names;
+use schedule::{Departures, Routes, Stops, read_departures, read_routes, read_stops};
+use std::alloc::Global;
+
+/// The stops of stops.csv on links of these names, or its first fault.
+fn stops_in(alloc: Global, files: &Files, links: &Names) -> Result<Stops, Stop>
+    ensures { Tells stop_lists result (fault_in (texts_of files.now) InFile.Stops (stops_fault links.now))
+        (stop_names (bytes_in (texts_of files.now) InFile.Stops), stop_rows links.now (bytes_in (texts_of files.now) InFile.Stops)) }
+{
+    match bytes_of(files, InFile::Stops) {
+        Ok(bytes) => with_file(InFile::Stops, read_stops(alloc, bytes, links)),
+        Err(error) => Err(error),
+    }
+}
+
+/// The routes of routes.csv on links of these names and ends and on these stops, or its first fault.
+fn routes_in(
+    alloc: Global,
+    files: &Files,
+    links: &Names,
+    ends: &[(u32, u32)],
+    stops: &Stops,
+) -> Result<Routes, Stop>
+    requires { length ends.now ≡ length links.now }
+    ensures { Tells route_lists result
+        (fault_in (texts_of files.now) InFile.Routes (routes_fault links.now ends.now stops.now.names stops.now.rows)) (
+          lines_of (body_of (bytes_in (texts_of files.now) InFile.Routes)),
+          route_names (bytes_in (texts_of files.now) InFile.Routes),
+          routes_of links.now stops.now.names stops.now.rows (body_of (bytes_in (texts_of files.now) InFile.Routes)),
+        ) }
+{
+    match bytes_of(files, InFile::Routes) {
+        Ok(bytes) => with_file(
+            InFile::Routes,
+            read_routes(alloc, bytes, links, ends, stops),
+        ),
+        Err(error) => Err(error),
+    }
+}
+
+/// The departures of departures.csv on routes of these names, or its first fault.
+fn departures_in(alloc: Global, files: &Files, routes: &Names) -> Result<Departures, Stop>
+    ensures { Tells departure_lists result
+        (fault_in (texts_of files.now) InFile.Departures (departures_fault routes.now)) (
+          column 0 (body_of (bytes_in (texts_of files.now) InFile.Departures)),
+          map (departure_of routes.now) (body_of (bytes_in (texts_of files.now) InFile.Departures)),
+        ) }
+{
+    match bytes_of(files, InFile::Departures) {
+        Ok(bytes) => with_file(InFile::Departures, read_departures(alloc, bytes, routes)),
+        Err(error) => Err(error),
+    }
+}
+
+/// What stops.csv, routes.csv and departures.csv give over links of these names and ends, or their first fault.
+#[tactic(auto, unfolding(crate::specs::FilesToScenario::schedule_fault, crate::specs::FilesToScenario::schedule_rows_of))]
+pub fn read_schedule(
+    alloc: Global,
+    files: &Files,
+    links: &Names,
+    ends: &[(u32, u32)],
+) -> Result<Schedule, Stop>
+    requires { length ends.now ≡ length links.now }
+    ensures { Tells schedule_view result (schedule_fault links.now ends.now (texts_of files.now))
+        (schedule_rows_of links.now (texts_of files.now)) }
+{
+    let stops = match stops_in(alloc, files, links) {
+        Ok(stops) => stops,
+        Err(error) => return Err(error),
+    };
+    let routes = match routes_in(alloc, files, links, ends, &stops) {
+        Ok(routes) => routes,
+        Err(error) => {
+            drop(stops);
+            return Err(error);
+        }
+    };
+    match departures_in(alloc, files, &routes.names) {
+        Ok(departures) => Ok(Schedule {
+            stops,
+            routes,
+            departures,
+        }),
+        Err(error) => {
+            drop(stops);
+            drop(routes);
+            Err(error)
+        }
+    }
+}

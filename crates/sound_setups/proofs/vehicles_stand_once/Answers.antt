@@ -1,5 +1,0 @@
-use Rattle.sound_setups.proofs.Vehicles.{vehicle_once}
-use Rattle.sound_setups.proofs.vehicles_stand_once.Goals as goal
-
-pub returns : goal.returns
-returns c = vehicle_once

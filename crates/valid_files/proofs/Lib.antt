@@ -1,5 +1,0 @@
-mod Roads
-mod Timetables
-mod Numbers
-mod Persons
-pub mod Valid

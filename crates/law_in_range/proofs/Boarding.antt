@@ -1,7 +1,8 @@
 -- A row that gets another second, and a vehicle that drives on or is served at a stop, stay fit.
-use Rattle.traffic.proofs.Common.{ℕ, List, length, [], ◌∷◌, arith, ◌<◌, Bool, inl, inr, ◌≤◌, ◌-◌, cases_Bool, length-map, All-append, All-from_recursion}
+use Rattle.traffic.proofs.Common.{ℕ, List, length, [], ◌∷◌, arith, ◌<◌, ◌+◌, true, Bool, inl, inr, ◌≤◌, ◌-◌, cases_Bool, length-map, All-append, All-from_recursion}
 use Rattle.traffic.proofs.Common.{All-filter, map, filter, not, All, Dwelling, at_second, served_row, next_call, rider, staying, served_vehicle, boarding}
 use Rattle.traffic.proofs.Common.{in_turn, riders_after, alights, may_board, VehicleState}
+use Rattle.traffic.specs.declared.riders.Rider.{Rider}
 use Rattle.traffic.specs.declared.world.Row.{Row}
 use Rattle.traffic.specs.declared.world.Waiter.{Waiter}
 use Rattle.std.specs.List.{AllByRecursion as Each}
@@ -15,22 +16,26 @@ pub record IsFitWaiter (z : Counts) (w : Waiter) : Type 0 where
   pub person : w.person < z.persons
   pub kind : w.kind < z.kinds
 
-pub driven : (z : Counts) (v : VehicleState) (place : ℕ) (started pushed : Bool) → IsFitVehicle z v → place < length v.route → IsFitVehicle z (record v { place = place; started = started; pushed = pushed })
-driven z v place started pushed h lt =
+changed : (z : Counts) (v : VehicleState) (place : ℕ) (started pushed : Bool) (riders : List Rider) (served : ℕ) → IsFitVehicle z v → place < length v.route → All (IsFitRider z) riders → length riders ≤ MAX_PERSONS → served ≤ length v.calls →
+    IsFitVehicle z (record v { place = place; started = started; pushed = pushed; riders = riders; served = served })
+changed z v place started pushed riders served h lt fit few most =
     record {
       id = h.id;
       line = h.line;
       route = h.route;
       few_links = h.few_links;
       place = lt;
-      riders = h.riders;
-      few_riders = h.few_riders;
+      riders = fit;
+      few_riders = few;
       calls = h.calls;
       few_calls = h.few_calls;
-      served = h.served;
+      served = most;
       seats = h.seats;
       departed = h.departed;
     }
+
+pub driven : (z : Counts) (v : VehicleState) (place : ℕ) (started pushed : Bool) → IsFitVehicle z v → place < length v.route → IsFitVehicle z (record v { place = place; started = started; pushed = pushed })
+driven z v place started pushed h lt = changed z v place started pushed v.riders v.served h lt h.riders h.few_riders h.served
 
 pub second_fit : (z : Counts) (t : ℕ) (r : Row) → IsFitRow z r → IsFitRow z (at_second t r)
 second_fit z t r h = record { vehicle = h.vehicle; link = h.link; stage = h.stage }
@@ -69,21 +74,7 @@ served_riders z v ws h g = riders_fit z v ws h g
 
 served_fit : (z : Counts) (v : VehicleState) (ws : List Waiter) → IsFitVehicle z v → Each (IsFitWaiter z) ws → v.served < length v.calls → IsFitVehicle z (served_vehicle v ws)
 unfolding served_vehicle
-served_fit z v ws h g lt =
-    record {
-      id = h.id;
-      line = h.line;
-      route = h.route;
-      few_links = h.few_links;
-      place = h.place;
-      riders = riders_fit z v ws h g;
-      few_riders = few_riders z v ws h;
-      calls = h.calls;
-      few_calls = h.few_calls;
-      served = omega arith;
-      seats = h.seats;
-      departed = h.departed;
-    }
+served_fit z v ws h g lt = changed z v v.place true v.pushed (riders_after v ws) (v.served + 1) h h.place (riders_fit z v ws h g) (few_riders z v ws h) (omega arith)
 
 some_served : (v : VehicleState) (ws : List Waiter) → 1 ≤ (served_vehicle v ws).served
 unfolding served_vehicle

@@ -115,18 +115,18 @@ call_fit T chosen c h =
     let b = and_parts _ _ a.0 in
     record { stop = ltb-true c.stop (length T.stops) b.0; offset = leb-true c.offset LAST_SECOND a.1 }
 
-some_links : (ends : List (ℕ × ℕ)) (route : List ℕ) → is_way ends route ≡ true → 0 < length route
+pub some_links : (ends : List (ℕ × ℕ)) (route : List ℕ) → is_way ends route ≡ true → 0 < length route
 some_links ends [] h = absurd (cc)
 some_links ends (l ∷ route) h = omega arith
 
 -- the line, the links and the calls of a route are there
-record IsFitLine (z : Counts) (r : RouteRow) : Type 0 where
-  line : r.line < z.lines
-  route : IsFitRoute z r.links
-  calls : All (IsFitCall z) r.calls
-  few : length r.calls ≤ MAX_CALLS
+pub record IsFitLine (z : Counts) (r : RouteRow) : Type 0 where
+  pub line : r.line < z.lines
+  pub route : IsFitRoute z r.links
+  pub calls : All (IsFitCall z) r.calls
+  pub few : length r.calls ≤ MAX_CALLS
 
-route_fit : (T : TownRows) (chosen : List PlanRows) (r : RouteRow) → is_route (length T.book.lines) (length T.links) (ends_of T.links) T.stops r ≡ true → IsFitLine (counts_of T chosen) r
+pub route_fit : (T : TownRows) (chosen : List PlanRows) (r : RouteRow) → is_route (length T.book.lines) (length T.links) (ends_of T.links) T.stops r ≡ true → IsFitLine (counts_of T chosen) r
 unfolding are_drivable
 route_fit T chosen r h =
     let z = counts_of T chosen in
@@ -178,14 +178,11 @@ setup_fit T chosen k town plans =
       legs = λ i element lt g. plan_at T chosen (Legs z) i none (plan_legs T chosen) plans lt (element / 2) g;
     }
 
-one_more_act : (T : TownRows) (p : PlanRows) → IsPlanIn T p → length p.acts ≡ length p.legs + 1
-one_more_act T p plan = plan.one_more
-
 pub has_plans : (T : TownRows) (chosen : List PlanRows) (k : ℕ) → All (IsPlanIn T) chosen → HasPlans (counts_of T chosen) (setup_of T chosen k)
 unfolding setup_of
 has_plans T chosen k plans = record {
   legs = λ i there. refl;
-  one_more = λ i there. plan_at T chosen (λ plan. length plan.acts ≡ length plan.legs + 1) i (record { acts = []; legs = [] }) (one_more_act T) plans there;
+  one_more = λ i there. plan_at T chosen (λ plan. length plan.acts ≡ length plan.legs + 1) i (record { acts = []; legs = [] }) (λ plan h. h.one_more) plans there;
 }
 
 -- TOWNS

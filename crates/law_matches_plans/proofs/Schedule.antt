@@ -5,17 +5,15 @@ use Rattle.traffic.proofs.Common.{not, All, nat_lt, ◌||◌, nat_eq, StopCall, 
 use Rattle.traffic.proofs.Common.{from_link, AreServable}
 use Rattle.std.specs.List.{AllByRecursion as Each, position_or_len}
 use Rattle.schedule.specs.Calls.{are_served, is_sound_call}
-use Rattle.schedule.specs.Routes.{is_way, are_drivable, is_route}
+use Rattle.schedule.specs.Routes.{are_drivable, is_route}
 use Rattle.schedule.specs.Departures.{is_departure}
 use Rattle.town.specs.Rows.{TownRows}
 use Rattle.town.specs.Setups.{route_at, departure_of}
 use Rattle.law_sound_setups.specs.Setups.{IsSoundRun}
 use Rattle.law_sound_setups.specs.Consistent.{AreAtStops}
+use Rattle.law_in_range.proofs.Lists.{each_tested}
+use Rattle.law_in_range.proofs.Towns.{some_links}
 use Rattle.law_matches_plans.proofs.Plans.{AtStops}
-
-tested : {X : Type 0} (P : X → Type 0) (p : X → Bool) → ((x : X) → p x ≡ true → P x) → (xs : List X) → list_all p xs ≡ true → Each P xs
-tested P p f [] h = tt
-tested P p f (x ∷ xs) h = let g = and_parts (p x) (list_all p xs) h in (f x g.0, tested P p f xs g.1)
 
 -- SERVED IN ORDER
 from_drop : (l : ℕ) (xs : List ℕ) → drop (position_or_len (nat_eq l) xs) xs ≡ from_link l xs
@@ -42,10 +40,6 @@ served_servable (c ∷ cs) links h =
           subst (λ (xs : List ℕ). (is_nil xs ≡ false) × AreServable cs xs) (from_drop c.link links) (some_left k links (ltb-true _ _ lt), served_servable cs (drop k links) g)
       | inr ge ↦ let g : false ≡ true = simp ge at h in absurd (cc)
     ]
-
-some_links : (ends : List (ℕ × ℕ)) (route : List ℕ) → is_way ends route ≡ true → 0 < length route
-some_links ends [] h = absurd (cc)
-some_links ends (l ∷ route) h = omega arith
 
 is_second : (a b : Bool) → not (a || not b) ≡ true → b ≡ true
 is_second true b h = absurd (cc)
@@ -77,7 +71,7 @@ route_sound S T s r h =
     record {
       some = some_links (ends_of T.links) r.links f.1;
       served = served_servable r.calls r.links (is_second (nat_eq (length r.calls) 0) (are_served r.calls r.links) c.1);
-      at = All-from_recursion _ r.calls (tested (λ (c : StopCall). link_of_stop S c.stop ≡ c.link) (is_sound_call T.stops) (call_at_stop S T.stops s) r.calls d.1);
+      at = All-from_recursion _ r.calls (each_tested (λ (c : StopCall). link_of_stop S c.stop ≡ c.link) (is_sound_call T.stops) (call_at_stop S T.stops s) r.calls d.1);
     }
 
 run_of : (S : Setup) (T : TownRows) (d : DepartureRow) → All (IsRunning S) T.routes → is_departure (length T.routes) d ≡ true → IsRunning S (route_at T.routes d.route)
@@ -92,5 +86,5 @@ run_of S T d h g =
 pub runs : (S : Setup) (T : TownRows) → AtStops S T.stops → list_all (is_route (length T.book.lines) (length T.links) (ends_of T.links) T.stops) T.routes ≡ true → list_all (is_departure (length T.routes)) T.departures ≡ true →
     Each (λ (d : DepartureRow). IsSoundRun (departure_of T.routes d) × AreAtStops S (departure_of T.routes d).calls) T.departures
 runs S T s routes departures =
-    let all = All-from_recursion (IsRunning S) T.routes (tested (IsRunning S) (is_route (length T.book.lines) (length T.links) (ends_of T.links) T.stops) (route_sound S T s) T.routes routes) in
-    tested _ (is_departure (length T.routes)) (λ d g. let r = run_of S T d all g in (record { some = r.some; calls = r.served }, r.at)) T.departures departures
+    let all = All-from_recursion (IsRunning S) T.routes (each_tested (IsRunning S) (is_route (length T.book.lines) (length T.links) (ends_of T.links) T.stops) (route_sound S T s) T.routes routes) in
+    each_tested _ (is_departure (length T.routes)) (λ d g. let r = run_of S T d all g in (record { some = r.some; calls = r.served }, r.at)) T.departures departures

@@ -1,7 +1,7 @@
 -- The setup of a day in a town is sound and consistent, and its days follow the plans.
 use Rattle.traffic.proofs.Common.{◌≡◌, ℕ, List, length, refl, [], ◌∷◌, arith, ◌<◌, true, ◌≤◌, length-map, All-map, All-from_recursion, All-get_or, All-weaker}
 use Rattle.traffic.proofs.Common.{map, All, PlanRows, plan_rows, Plan, DepartureRow, Setup, Departure}
-use Rattle.std.specs.List.{AllByRecursion as Each}
+use Rattle.traffic.proofs.Each.{each_map}
 use Rattle.town.specs.Fits.{fits}
 use Rattle.town.specs.Rows.{TownRows, IsTown}
 use Rattle.town.specs.Setups.{departure_of, setup_of}
@@ -22,16 +22,11 @@ use Rattle.law_matches_plans.proofs.Schedule.{runs}
 all_plans : (P : PlanRows → Type 0) (T : TownRows) (chosen : List PlanRows) → ((p : PlanRows) → IsPlanIn T p → P p) → All (IsPlanIn T) chosen → All P chosen
 all_plans P T chosen f h = All-weaker (IsPlanIn T) P f chosen h
 
-abbrev Runs : Setup → List DepartureRow → TownRows → Type 0
-Runs S ds T = Each (λ (d : DepartureRow). IsSoundRun (departure_of T.routes d) × AreAtStops S (departure_of T.routes d).calls) ds
-
-run_sound : (S : Setup) (T : TownRows) (ds : List DepartureRow) → Runs S ds T → Each (λ (d : DepartureRow). IsSoundRun (departure_of T.routes d)) ds
-run_sound S T [] h = tt
-run_sound S T (d ∷ ds) h = (h.0.0, run_sound S T ds h.1)
-
-run_consistent : (S : Setup) (T : TownRows) (ds : List DepartureRow) → Runs S ds T → Each (λ (d : DepartureRow). AreAtStops S (departure_of T.routes d).calls) ds
-run_consistent S T [] h = tt
-run_consistent S T (d ∷ ds) h = (h.0.1, run_consistent S T ds h.1)
+-- what holds of each departure, of its row in the setup
+each_run : (S : Setup) (T : TownRows) (P : Departure → Type 0) → AtStops S T.stops → IsTown T → ((d : Departure) → IsSoundRun d × AreAtStops S d.calls → P d) → All P (map (departure_of T.routes) T.departures)
+each_run S T P stops town f =
+    All-from_recursion P (map (departure_of T.routes) T.departures)
+    (each_map (λ (d : DepartureRow). IsSoundRun (departure_of T.routes d) × AreAtStops S (departure_of T.routes d).calls) P (departure_of T.routes) (λ d h. f (departure_of T.routes d) h) T.departures (runs S T stops town.routes town.departures))
 
 at_stops : (T : TownRows) (chosen : List PlanRows) (k : ℕ) → AtStops (setup_of T chosen k) T.stops
 unfolding setup_of
@@ -43,7 +38,7 @@ rows_sound T chosen k town h =
     let S = setup_of T chosen k in
     record {
       persons = all_plans IsSoundPlan T chosen (plan_sound T) h;
-      departures = All-map IsSoundRun (departure_of T.routes) T.departures (All-from_recursion _ T.departures (run_sound S T T.departures (runs S T (at_stops T chosen k) town.routes town.departures)));
+      departures = each_run S T IsSoundRun (at_stops T chosen k) town (λ d h. h.0);
     }
 
 pub rows_consistent : (T : TownRows) (chosen : List PlanRows) (k : ℕ) → IsTown T → All (IsPlanIn T) chosen → IsConsistentSetup (setup_of T chosen k)
@@ -53,22 +48,16 @@ rows_consistent T chosen k town h =
     let stops = at_stops T chosen k in
     record {
       persons = all_plans (IsConsistentPlan S) T chosen (plan_consistent S T stops) h;
-      departures = All-map (λ (d : Departure). AreAtStops S d.calls) (departure_of T.routes) T.departures (All-from_recursion _ T.departures (run_consistent S T T.departures (runs S T stops town.routes town.departures)));
+      departures = each_run S T (λ (d : Departure). AreAtStops S d.calls) stops town (λ d h. h.1);
     }
 
 -- PERSONS
-abbrev FewLegs : PlanRows → Type 0
-FewLegs plan = length plan.legs ≤ 8
-
-few_legs : (T : TownRows) (p : PlanRows) → IsPlanIn T p → FewLegs p
-few_legs T p h = h.few
-
 few_in : (T : TownRows) (chosen : List PlanRows) (k i : ℕ) → All (IsPlanIn T) chosen → i < length chosen → legs (setup_of T chosen k) i ≤ 8
 unfolding setup_of
 few_in T chosen k i h lt =
-    All-get_or FewLegs chosen i (record { acts = []; legs = [] }) lt (all_plans FewLegs T chosen (few_legs T) h)
+    All-get_or (λ (p : PlanRows). length p.legs ≤ 8) chosen i (record { acts = []; legs = [] }) lt (all_plans (λ (p : PlanRows). length p.legs ≤ 8) T chosen (λ p g. g.few) h)
 
-persons_are : (T : TownRows) (chosen : List PlanRows) (k : ℕ) → length (setup_of T chosen k).persons ≡ length chosen
+pub persons_are : (T : TownRows) (chosen : List PlanRows) (k : ℕ) → length (setup_of T chosen k).persons ≡ length chosen
 unfolding setup_of
 persons_are T chosen k = refl
 

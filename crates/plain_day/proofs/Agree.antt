@@ -1,12 +1,14 @@
 -- What a node does depends only on the out-links to which the rows in the buffers lead.
-use Rattle.traffic.proofs.Common.{◌≡◌, ℕ, List, ◌∙◌, length, ap, refl, [], ◌∷◌, ◌<◌, ◌++◌, ◌+◌, Bool, inl, inr, suc, eqb, zero, get_or, ◌*◌, cases_Bool, map}
-use Rattle.traffic.proofs.Common.{filter, not, Option, if◌then◌else◌, Stuck, without_at, is_nil, with_one_more, since_of, pass_node_all, drawn, no_in_link}
+use Rattle.traffic.proofs.Common.{◌≡◌, ℕ, List, ◌∙◌, length, ap, refl, [], ◌∷◌, ◌<◌, ◌++◌, ◌+◌, suc, eqb, zero, get_or, ◌*◌, map}
+use Rattle.traffic.proofs.Common.{not, Option, if◌then◌else◌, Stuck, without_at, is_nil, with_one_more, since_of, pass_node_all, drawn, no_in_link}
 use Rattle.traffic.proofs.Common.{red, candidates, next_link, ready, node_moves, draw, one_more, pass_node, mark, out_links_after}
 use Rattle.traffic.specs.declared.moves.Move.{Move}
 use Rattle.traffic.specs.declared.moves.Move.TheVariants.{Transfer, Remove, Enter, SetFrontSince, Credit, LeaveHole, Report}
 use Rattle.traffic.specs.declared.node_views.InLink.{InLink}
 use Rattle.traffic.specs.declared.node_views.OutLink.{OutLink}
 use Rattle.traffic.specs.declared.world.Row.{Row}
+use Rattle.std.specs.List.{AllByRecursion as Each}
+use Rattle.traffic.proofs.Each.{each_get_or, each_without_at, each_kept}
 use Rattle.plain_day.proofs.Fitting.{GoWithin}
 
 -- two nodes' out-links are the same for so many links
@@ -37,39 +39,25 @@ pass_node_same links K t a e f since (r ∷ rs) h g =
     let j = pass_node_same links K t a e f t rs h g.1 in
     rw (q, i, j) refl
 
-abbrev pub AllGo : ℕ → List InLink → Type 0
-AllGo links [] = Unit {0}
-AllGo links (e ∷ es) = GoWithin links e.rows × AllGo links es
+-- all rows before a node go on within these links
+abbrev pub Goes : ℕ → InLink → Type 0
+Goes links e = GoWithin links e.rows
 
-go_at : (links k : ℕ) (es : List InLink) → AllGo links es → GoWithin links (get_or es k no_in_link).rows
-go_at links k [] h = tt
-go_at links zero (e ∷ es) h = h.0
-go_at links (suc k) (e ∷ es) h = go_at links k es h.1
-
-go_without : (links k : ℕ) (es : List InLink) → AllGo links es → AllGo links (without_at k es)
-go_without links k [] h = tt
-go_without links zero (e ∷ es) h = h.1
-go_without links (suc k) (e ∷ es) h = (h.0, go_without links k es h.1)
-
-go_filter : (links : ℕ) (p : InLink → Bool) (es : List InLink) → AllGo links es → AllGo links (filter p es)
-go_filter links p [] h = tt
-go_filter links p (e ∷ es) h = elim (cases_Bool (p e)) [ inl q ↦ simp q (h.0, go_filter links p es h.1) | inr q ↦ simp q (go_filter links p es h.1) ]
-
-draw_same : (links : ℕ) (K : Stuck) (t : ℕ) (word : ℕ → ℕ) (left j : ℕ) (es : List InLink) (e f : ℕ → Option OutLink) → Agree links e f → AllGo links es →
+draw_same : (links : ℕ) (K : Stuck) (t : ℕ) (word : ℕ → ℕ) (left j : ℕ) (es : List InLink) (e f : ℕ → Option OutLink) → Agree links e f → Each (Goes links) es →
     draw K t word left j es e ≡ draw K t word left j es f
 unfolding draw
 draw_same links K t word zero j es e f h g = refl
 draw_same links K t word (suc left) j es e f h g =
     let k = drawn es (word (16 * t + j)) in
     let x = get_or es k no_in_link in
-    let q : pass_node_all K t e x ≡ pass_node_all K t f x = pass_node_same links K t x.link e f (since_of x.rows) x.rows h (go_at links k es g) in
+    let q : pass_node_all K t e x ≡ pass_node_all K t f x = pass_node_same links K t x.link e f (since_of x.rows) x.rows h (each_get_or (Goes links) es k no_in_link tt g) in
     let i : draw K t word left (j + 1) (without_at k es) (out_links_after (pass_node_all K t f x) e) ≡ draw K t word left (j + 1) (without_at k es) (out_links_after (pass_node_all K t f x) f)
-    = draw_same links K t word left (j + 1) (without_at k es) (out_links_after (pass_node_all K t f x) e) (out_links_after (pass_node_all K t f x) f) (agree_after links (pass_node_all K t f x) e f h) (go_without links k es g) in
+    = draw_same links K t word left (j + 1) (without_at k es) (out_links_after (pass_node_all K t f x) e) (out_links_after (pass_node_all K t f x) f) (agree_after links (pass_node_all K t f x) e f h) (each_without_at (Goes links) k es g) in
     ap (λ (ms : List Move). ms ++ draw K t word left (j + 1) (without_at k es) (out_links_after ms e)) q ∙ ap (λ (ms : List Move). pass_node_all K t f x ++ ms) i
 
-pub node_same : (links : ℕ) (K : Stuck) (t : ℕ) (word : ℕ → ℕ) (es : List InLink) (e f : ℕ → Option OutLink) → Agree links e f → AllGo links es →
+pub node_same : (links : ℕ) (K : Stuck) (t : ℕ) (word : ℕ → ℕ) (es : List InLink) (e f : ℕ → Option OutLink) → Agree links e f → Each (Goes links) es →
     node_moves K t word (record { in_links = es; out_links = e }) ≡ node_moves K t word (record { in_links = es; out_links = f })
 unfolding node_moves
 node_same links K t word es e f h g =
-    let go = go_filter links (λ (x : InLink). x.green) (ready es) (go_filter links (λ (x : InLink). not (is_nil x.rows)) es g) in
+    let go = each_kept (Goes links) (λ (x : InLink). x.green) (ready es) (each_kept (Goes links) (λ (x : InLink). not (is_nil x.rows)) es g) in
     ap (λ (ms : List Move). map (mark t) (red es) ++ ms) (draw_same links K t word (length (candidates es)) 0 (candidates es) e f h go)

@@ -59,13 +59,7 @@ persons_of : (day : DayInput) → length (setup day).persons ≡ length day.chos
 unfolding setup_of
 persons_of day = length-map day.chosen.now plan_rows
 
-pub ends_told : (day : DayInput) (W : World) (old out : List Event) → out ≡ old ++ flat_map (told_at_end day W) (below (length day.chosen.now))
+pub ends_told : (day : DayInput) (W : World) (count : ℕ) (old out : List Event) → count ≡ length day.chosen.now → out ≡ old ++ flat_map (told_at_end day W) (below count)
     → out ≡ old ++ end_events (setup day) day.town.now.settings.end_second W
 unfolding end_events
-ends_told day W old out e = e ∙ ap (λ (n : ℕ). old ++ flat_map (told_at_end day W) (below n)) (sym (persons_of day))
-
-pub in_book : (i count persons chosen : ℕ) → count ≡ persons → persons ≡ chosen → i < count → i < chosen
-in_book i count persons chosen e f h = omega (e, f, h, arith)
-
-pub past_book : (i count persons chosen : ℕ) → count ≡ persons → persons ≡ chosen → count ≤ i → chosen ≤ i
-past_book i count persons chosen e f h = omega (e, f, h, arith)
+ends_told day W count old out c e = e ∙ ap (λ (n : ℕ). old ++ flat_map (told_at_end day W) (below n)) (c ∙ sym (persons_of day))

@@ -1,30 +1,22 @@
 -- What a fit world gives the turns, and that a turn keeps it fit.
-use Rattle.traffic.proofs.Common.{◌≡◌, ℕ, List, ◌∙◌, length, ap, refl, sym, [], ◌∷◌, arith, ◌<◌, true, ◌+◌, Bool, subst, ◌≤◌, get_or, ◌/◌, length-map}
-use Rattle.traffic.proofs.Common.{All-from_recursion, recursion_from_All, list_all, map, Some, None, Option, Phase, plan_rows, Leg, Plan, turns_of, count_of}
-use Rattle.traffic.proofs.Common.{run, next_link, World, person_of, person_plan, VehicleState}
-use Rattle.traffic.specs.declared.stage.Stage.{Stage}
-use Rattle.traffic.specs.declared.stage.Stage.TheVariants.{Queue, Buffer, Wait, Bay}
+use Rattle.traffic.proofs.Common.{◌≡◌, ℕ, List, ◌∙◌, length, ap, refl, sym, arith, ◌<◌, true, Bool, subst, ◌/◌, length-map, All-from_recursion, list_all, Some}
+use Rattle.traffic.proofs.Common.{None, Phase, plan_rows, Leg, Plan, turns_of, count_of, run, World, person_of, person_plan}
 use Rattle.traffic.specs.declared.world.Person.{Person}
 use Rattle.traffic.specs.declared.world.Place.{Place}
 use Rattle.traffic.specs.declared.world.Place.TheVariants.{At, Teleporting, Waiting, Riding, Aborted}
-use Rattle.traffic.specs.declared.world.Row.{Row}
-use Rattle.std.specs.List.{All}
 use Rattle.std.proofs.lemmas.List.Folds.{list_all-map}
 use Rattle.events.specs.declared.event.Phase.TheVariants as phase
 use Rattle.town.specs.declared.day_input.DayInput.{DayInput}
-use Rattle.town.specs.Rows.{TownRows}
 use Rattle.town.specs.Fits.{fits}
 use Rattle.town.specs.Setups.{setup_of}
 use Rattle.town.specs.Views.{rows_of, setup, ChosenFit}
-use Rattle.law_in_range.specs.Rows.{Counts, IsFitVehicle, IsFitRow, IsFitPlace, IsFitWorld}
+use Rattle.law_in_range.specs.Rows.{Counts, IsFitPlace, IsFitWorld}
 use Rattle.law_in_range.specs.Setups.{counts_in}
 use Rattle.law_in_range.proofs.Lists.{each_tested}
-use Rattle.law_in_range.proofs.Sizes.{call_offset, buffer_next, buffer_next_link}
 use Rattle.law_in_range.proofs.Towns.{town_fit}
 use Rattle.law_in_range.proofs.Seconds.{turn_fit}
 use Rattle.law_in_range.proofs.Kept.{run_fit}
-use Rattle.plain_turns.specs.Limits.{IsSmall}
-use Rattle.plain_day.specs.Fit.{GoesOn, IsFit, AreFit, HasLegAfter, CanLeave}
+use Rattle.plain_day.specs.Fit.{HasLegAfter, CanLeave}
 use Rattle.plain_day.specs.Plans.{HaveFittingPlans}
 
 pub plans_fit : (day : DayInput) → HaveFittingPlans day → ChosenFit day
@@ -33,35 +25,6 @@ plans_fit day given =
     let P : Plan → Type 0 = λ p. fits (rows_of day.town.now) (plan_rows p) ≡ true in
     let passed : list_all test day.chosen.now ≡ true = sym (list_all-map (fits (rows_of day.town.now)) plan_rows day.chosen.now) ∙ given.fit in
     All-from_recursion P day.chosen.now (each_tested P test (λ p h. h) day.chosen.now passed)
-
-is_small : (z : Counts) (v : VehicleState) → IsFitVehicle z v → IsSmall v
-is_small z v h =
-    let a = h.few_riders in
-    let b = h.seats in
-    let d = h.few_calls in
-    record { riders = omega arith; seats = omega arith; departed = h.departed; offset = call_offset z v h; calls = omega arith }
-
-goes_on : (z : Counts) (s : Stage) (v : VehicleState) → length v.route ≤ 1000 → (s ≡ Buffer → v.place + 1 < length v.route) → (s ≡ Buffer → next_link v < z.links) → GoesOn z.links s v
-goes_on z Queue v e f g = tt
-goes_on z Buffer v e f g = (record { next = f refl; route = omega arith }, g refl)
-goes_on z Wait v e f g = tt
-goes_on z Bay v e f g = tt
-
-is_fit : (z : Counts) (r : Row) → IsFitRow z r → IsFit z.links r
-is_fit z r h = record {
-  small = is_small z r.vehicle h.vehicle;
-  next = goes_on z r.stage r.vehicle h.vehicle.few_links (buffer_next z r h) (buffer_next_link z r h);
-}
-
--- the head and the tail of what holds of each
-are_fit : (z : Counts) (rs : List Row) → All (IsFitRow z) rs → AreFit z.links rs
-are_fit z [] h = tt
-are_fit z (r ∷ rs) h =
-    let parts = recursion_from_All (IsFitRow z) (r ∷ rs) h in
-    (is_fit z r parts.0, are_fit z rs (All-from_recursion (IsFitRow z) rs parts.1))
-
-pub rows_fit : (day : DayInput) (W : World) → IsFitWorld (counts_in day) W → AreFit (length day.town.now.network.links) W.rows
-rows_fit day W h = are_fit (counts_in day) W.rows h.rows
 
 pub one_each : (day : DayInput) (W : World) → IsFitWorld (counts_in day) W → length W.persons ≡ length day.chosen.now
 one_each day W h = h.one_each ∙ length-map day.chosen.now plan_rows

@@ -1,46 +1,56 @@
--- Rows that are fit, by link and stage.
-use Rattle.traffic.proofs.Common.{◌≡◌, ℕ, List, [], ◌∷◌, ◌<◌, true, ◌++◌, inl, inr, ◌≤◌, cases_Bool, All-head, All-tail, filter, ◌&&◌, All, ◌==◌, link_state}
-use Rattle.traffic.proofs.Common.{LinkState, next_link, World, on, rank, VehicleState}
+-- Rows of a fit world are small, and those in a buffer go on.
+use Rattle.traffic.proofs.Common.{◌≡◌, ℕ, List, length, [], ◌∷◌, arith, ◌<◌, true, ◌++◌, ◌≤◌, recursion_from_All, filter, link_state, LinkState, next_link}
+use Rattle.traffic.proofs.Common.{World, on, VehicleState}
 use Rattle.traffic.specs.declared.node_views.InLink.{InLink}
 use Rattle.traffic.specs.declared.stage.Stage.{Stage}
 use Rattle.traffic.specs.declared.stage.Stage.TheVariants.{Queue, Buffer, Wait, Bay}
 use Rattle.traffic.specs.declared.world.Row.{Row}
+use Rattle.std.specs.List.{AllByRecursion as Each}
 use Rattle.limits.specs.declared.TheConstants.{MAX_LENGTH}
-use Rattle.plain_turns.specs.Limits.{AreSmall}
+use Rattle.traffic.proofs.Each.{each_filter, each_kept}
+use Rattle.traffic.proofs.Sublists.{on_is}
+use Rattle.law_in_range.specs.Rows.{Counts, IsFitVehicle, IsFitRow, IsFitWorld}
+use Rattle.law_in_range.proofs.Sizes.{call_offset, buffer_next, buffer_next_link}
+use Rattle.plain_turns.specs.Limits.{IsSmall, AreSmall}
 use Rattle.plain_turns.specs.declared.out_links.OutLinkRow.{OutLinkRow}
 use Rattle.plain_turns.specs.OutLinks.{HasNext, HaveNext, AreNear, IsInLink, AreInLinks}
-use Rattle.plain_day.specs.Fit.{GoesOn, AreFit, IsFit}
 
-pub small_at : (links l : ℕ) (s : Stage) (rows : List Row) → AreFit links rows → AreSmall (filter (on l s) rows)
-small_at links l s [] h = tt
-small_at links l s (r ∷ rs) h = elim (cases_Bool (on l s r)) [ inl e ↦ simp e (h.0.small, small_at links l s rs h.1) | inr e ↦ simp e (small_at links l s rs h.1) ]
+is_small : (z : Counts) (v : VehicleState) → IsFitVehicle z v → IsSmall v
+is_small z v h =
+    let a = h.few_riders in
+    let b = h.seats in
+    let d = h.few_calls in
+    record { riders = omega arith; seats = omega arith; departed = h.departed; offset = call_offset z v h; calls = omega arith }
 
-going : (links l link : ℕ) (s : Stage) (v : VehicleState) → (rank s == rank Buffer) && (link == l) ≡ true → GoesOn links s v → HasNext v × (next_link v < links)
-going links l link Queue v e h = absurd (cc)
-going links l link Buffer v e h = h
-going links l link Wait v e h = absurd (cc)
-going links l link Bay v e h = absurd (cc)
+are_small : (z : Counts) (rows : List Row) → Each (IsFitRow z) rows → AreSmall rows
+are_small z [] h = tt
+are_small z (r ∷ rs) h = (is_small z r.vehicle h.0.vehicle, are_small z rs h.1)
 
-pub next_at : (links l : ℕ) (rows : List Row) → AreFit links rows → HaveNext (filter (on l Buffer) rows)
-next_at links l [] h = tt
-next_at links l (r ∷ rs) h =
-    elim (cases_Bool (on l Buffer r)) [
-      | inl e ↦ simp e ((going links l r.link r.stage r.vehicle e h.0.next).0, next_at links l rs h.1)
-      | inr e ↦ simp e (next_at links l rs h.1)
-    ]
+small_at : (z : Counts) (l : ℕ) (s : Stage) (W : World) → IsFitWorld z W → AreSmall (filter (on l s) W.rows)
+small_at z l s W h = are_small z (filter (on l s) W.rows) (each_kept (IsFitRow z) (on l s) W.rows (recursion_from_All (IsFitRow z) W.rows h.rows))
+
+pub state_small : (z : Counts) (l : ℕ) (W : World) (L : LinkState) → IsFitWorld z W → L ≡ link_state l W → AreSmall L.queue × AreSmall L.wait × AreSmall L.bay
+state_small z l W L h e = rw e (small_at z l Queue W h, small_at z l Wait W h, small_at z l Bay W h)
 
 -- the next links of all these are among so many
 abbrev pub GoWithin : ℕ → List Row → Type 0
-GoWithin links [] = Unit {0}
-GoWithin links (r ∷ rs) = (next_link r.vehicle < links) × GoWithin links rs
+GoWithin links rows = Each (λ (r : Row). next_link r.vehicle < links) rows
 
-pub within_at : (links l : ℕ) (rows : List Row) → AreFit links rows → GoWithin links (filter (on l Buffer) rows)
-within_at links l [] h = tt
-within_at links l (r ∷ rs) h =
-    elim (cases_Bool (on l Buffer r)) [
-      | inl e ↦ simp e ((going links l r.link r.stage r.vehicle e h.0.next).1, within_at links l rs h.1)
-      | inr e ↦ simp e (within_at links l rs h.1)
-    ]
+abbrev GoesOn : ℕ → Row → Type 0
+GoesOn links r = HasNext r.vehicle × (next_link r.vehicle < links)
+
+goes_on : (z : Counts) (l : ℕ) (r : Row) → on l Buffer r ≡ true → IsFitRow z r → GoesOn z.links r
+goes_on z l r e h =
+    let buffer = (on_is l Buffer r e).0 in
+    let few : length r.vehicle.route ≤ 1000 = h.vehicle.few_links in
+    (record { next = buffer_next z r h buffer; route = omega arith }, buffer_next_link z r h buffer)
+
+they_go : (links : ℕ) (rows : List Row) → Each (GoesOn links) rows → HaveNext rows × GoWithin links rows
+they_go links [] h = (tt, tt)
+they_go links (r ∷ rs) h = let rest = they_go links rs h.1 in ((h.0.0, rest.0), (h.0.1, rest.1))
+
+pub going_at : (z : Counts) (l : ℕ) (W : World) → IsFitWorld z W → HaveNext (filter (on l Buffer) W.rows) × GoWithin z.links (filter (on l Buffer) W.rows)
+going_at z l W h = they_go z.links (filter (on l Buffer) W.rows) (each_filter (IsFitRow z) (GoesOn z.links) (on l Buffer) (goes_on z l) W.rows (recursion_from_All (IsFitRow z) W.rows h.rows))
 
 pub near_push : (xs : List OutLinkRow) (x : OutLinkRow) → AreNear xs → x.out_link.seconds ≤ MAX_LENGTH → AreNear (xs ++ x ∷ [])
 near_push [] x h g = (g, tt)
@@ -49,11 +59,3 @@ near_push (y ∷ ys) x h g = (h.0, near_push ys x h.1 g)
 pub in_links_push : (xs : List InLink) (x : InLink) → AreInLinks xs → IsInLink x → AreInLinks (xs ++ x ∷ [])
 in_links_push [] x h g = (g, tt)
 in_links_push (y ∷ ys) x h g = (h.0, in_links_push ys x h.1 g)
-
-pub state_small : (links l : ℕ) (W : World) (L : LinkState) → AreFit links W.rows → L ≡ link_state l W → AreSmall L.queue × AreSmall L.wait × AreSmall L.bay
-state_small links l W L h e = rw e (small_at links l Queue W.rows h, small_at links l Wait W.rows h, small_at links l Bay W.rows h)
-
--- the same where each row is fit, by its place
-pub fit_from_all : (links : ℕ) (rows : List Row) → All (IsFit links) rows → AreFit links rows
-fit_from_all links [] h = tt
-fit_from_all links (r ∷ rs) h = (All-head (IsFit links) r rs h, fit_from_all links rs (All-tail (IsFit links) r rs h))

@@ -15,7 +15,8 @@ use Rattle.town.specs.Views.{rows_of, chosen_in, setup}
 use Rattle.town.specs.Fits.{first_link, leg_fits, legs_fit, is_act_in, fits}
 use Rattle.plain_day.specs.Fit.{HasLegAfter, CanLeave}
 use Rattle.plain_day.specs.Legs.{nth_leg, ends_in, HasRoute}
-use Rattle.plain_day.proofs.Numbers.{passes_at, same_at}
+use Rattle.std.proofs.lemmas.List.{get_or_default}
+use Rattle.plain_day.proofs.Numbers.{passes_at}
 
 routed : (T : TownRows) (here there : ℕ) (l : Leg) → leg_fits T here there l ≡ true → HasRoute l
 unfolding leg_fits
@@ -72,7 +73,7 @@ fits_at day i plan b e h =
     let none : PlanRows = record { acts = []; legs = [] } in
     let l : i < length (chosen_in day) = rw (length-map day.chosen.now plan_rows) b in
     let own = get_or (chosen_in day) i none in
-    subst (λ (x : PlanRows). fits T x ≡ true) e (passes_at (fits T) (chosen_in day) i own h l (same_at i (chosen_in day) none own l))
+    subst (λ (x : PlanRows). fits T x ≡ true) e (passes_at (fits T) (chosen_in day) i own h l (get_or_default (chosen_in day) i none own l))
 
 pub left_is : (S : Setup) (t i : ℕ) (plan : Plan) (P : Person) (here next : Act) (moves : List Move) → here ≡ act_in (plan_rows plan) P.element → next ≡ act_in (plan_rows plan) (P.element + 2) → ends_in t P.place ≡ true →
     moves ≡ Report (departs i here (nth_leg plan.legs (P.element / 2))) ∷ sets_out S i (nth_leg plan.legs (P.element / 2)) next →

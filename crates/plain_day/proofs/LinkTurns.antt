@@ -1,5 +1,5 @@
 -- The turn of a link, by what it sees.
-use Rattle.traffic.proofs.Common.{◌≡◌, ℕ, List, ◌∙◌, ap, refl, sym, [], ◌∷◌, true, Bool, false, list_any, filter, not, ◌&&◌, ◌==◌, ◌||◌, raised, link_turns}
+use Rattle.traffic.proofs.Common.{◌≡◌, ℕ, List, ◌∙◌, ap, refl, sym, [], ◌∷◌, true, Bool, false, list_any, filter, not, ◌&&◌, ◌==◌, or_parts, raised, link_turns}
 use Rattle.traffic.proofs.Common.{rules, link_state, LinkState, link_moves, waiters, World, on, rank, credit_of, gain_of, Setup}
 use Rattle.traffic.specs.declared.moves.Move.{Move}
 use Rattle.traffic.specs.declared.moves.Move.TheVariants.{Credit}
@@ -29,10 +29,6 @@ apart Bay s false h g = and_false (rank Bay == rank s)
 apart Queue s true h g = absurd (cc)
 apart Wait s true h g = absurd (cc)
 apart Bay s true h g = absurd (cc)
-
-pub or_parts : (a b : Bool) → a || b ≡ false → (a ≡ false) × (b ≡ false)
-or_parts true b h = absurd (cc)
-or_parts false b h = (refl, h)
 
 pub unused : (l : ℕ) (s : Stage) (rows : List Row) → (rank s == rank Buffer) ≡ false → list_any (stays_on l) rows ≡ false → filter (on l s) rows ≡ []
 unused l s [] h g = refl

@@ -2,13 +2,17 @@
 use Rattle.traffic.proofs.Common.{◌≡◌, ℕ, List, ◌∙◌, length, ap, refl, sym, [], ◌∷◌, arith, ◌<◌, true, ◌+◌, Bool, inl, inr, ◌≤◌, false, suc, eqb, zero}
 use Rattle.traffic.proofs.Common.{get_or, cases_Bool, eqb-true, and_parts, eq-eqb, ne_eqb, lt-ltb, nat_tests, length-map, length-filter, list_any, map}
 use Rattle.traffic.proofs.Common.{filter, None, nat_lt, ◌==◌, nat_eq, word, LinkRow, node_turns, below, numbers, in_link, node_view, out_link, ready}
-use Rattle.traffic.proofs.Common.{node_moves, World, on, rank, Setup, into}
+use Rattle.traffic.proofs.Common.{node_moves, World, on, rank, Setup, into, or_parts, true≢false}
 use Rattle.traffic.specs.declared.moves.Move.{Move}
 use Rattle.traffic.specs.declared.node_views.InLink.{InLink}
 use Rattle.traffic.specs.declared.stage.Stage.TheVariants.{Buffer}
 use Rattle.traffic.specs.declared.world.Row.{Row}
 use Rattle.limits.specs.declared.TheConstants.{MAX_IN_LINKS}
+use Rattle.std.specs.List.{AllByRecursion as Each}
+use Rattle.std.proofs.lemmas.List.{get_or_default}
 use Rattle.draws.specs.Words.{Source, node_source}
+use Rattle.law_in_range.specs.Rows.{Counts, IsFitWorld}
+use Rattle.law_in_range.specs.Setups.{counts_in}
 use Rattle.network.specs.Limits.{in_links as count_in_links}
 use Rattle.town.specs.declared.day_input.DayInput.{DayInput}
 use Rattle.town.specs.Setups.{setup_of}
@@ -16,13 +20,11 @@ use Rattle.town.specs.Views.{setup}
 use Rattle.traffic.proofs.Idle.{node_idle}
 use Rattle.plain_turns.specs.declared.out_links.OutLinkRow.{OutLinkRow}
 use Rattle.plain_turns.specs.OutLinks.{out_links_in, node_view_of}
-use Rattle.plain_day.specs.Fit.{AreFit}
 use Rattle.plain_day.specs.Views.{out_link_row, is_out, is_in, is_before}
-use Rattle.plain_day.proofs.Agree.{Agree, AllGo, node_same}
-use Rattle.plain_day.proofs.Fitting.{within_at}
+use Rattle.plain_day.proofs.Agree.{Agree, Goes, node_same}
+use Rattle.plain_day.proofs.Fitting.{going_at}
 use Rattle.plain_day.proofs.Seen.{into_is}
-use Rattle.plain_day.proofs.Numbers.{row_is, same_at}
-use Rattle.plain_day.proofs.LinkTurns.{or_parts}
+use Rattle.plain_day.proofs.Numbers.{row_is}
 
 -- THE EXITS
 -- no link before the first number is among these
@@ -55,12 +57,9 @@ pub out_links_agree : (S : Setup) (t n links : ℕ) (W : World) → Agree links 
 out_links_agree S t n links W l h = out_links_from S t n W l 0 links (omega arith) (omega arith)
 
 -- THE ENTRIES
-in_links_go : (S : Setup) (t links : ℕ) (W : World) (ls : List ℕ) → AreFit links W.rows → AllGo links (map (in_link S t W) ls)
-in_links_go S t links W [] h = tt
-in_links_go S t links W (l ∷ ls) h = (within_at links l W.rows h, in_links_go S t links W ls h)
-
-true_false : true ≡ false → ⊥
-true_false h = cc
+in_links_go : (S : Setup) (t : ℕ) (z : Counts) (W : World) (ls : List ℕ) → IsFitWorld z W → Each (Goes z.links) (map (in_link S t W) ls)
+in_links_go S t z W [] h = tt
+in_links_go S t z W (l ∷ ls) h = ((going_at z l W h).1, in_links_go S t z W ls h)
 
 -- a buffer in which no row stands is empty
 no_row : (S : Setup) (links n l : ℕ) (rows : List Row) → l < links → is_in S n l ≡ true → list_any (is_before S links n) rows ≡ false → filter (on l Buffer) rows ≡ []
@@ -74,7 +73,7 @@ no_row S links n l (r ∷ rs) h i g =
           let b : nat_lt r.link links ≡ true = lt-ltb r.link links (omega arith) in
           let c : is_in S n r.link ≡ true = ap (is_in S n) q ∙ i in
           let d : is_before S links n r ≡ true = (rw (a.0, b, c) refl) in
-          absurd (true_false (sym d ∙ p.0))
+          absurd (true≢false (sym d ∙ p.0))
       | inr e ↦ simp e (no_row S links n l rs h i p.1)
     ]
 
@@ -99,7 +98,7 @@ quiet_is day t n W rows r g =
     node_idle (setup day).settings.stuck t ((setup day).word n) (node_view (setup day) t n W) e
 
 -- the turn of a node, by its parts
-pub node_is : (day : DayInput) (t n : ℕ) (W : World) (in_links : List InLink) (out_links : List OutLinkRow) (draws : Source) (moves : List Move) → AreFit (length day.town.now.network.links) W.rows →
+pub node_is : (day : DayInput) (t n : ℕ) (W : World) (in_links : List InLink) (out_links : List OutLinkRow) (draws : Source) (moves : List Move) → IsFitWorld (counts_in day) W →
     in_links ≡ map (in_link (setup day) t W) (into (setup day) n) →
     out_links ≡ map (out_link_row (setup day) t W) (filter (is_out (setup day) n) (below (length day.town.now.network.links))) →
     draws ≡ node_source day.town.now.seed day.iteration n → moves ≡ node_moves day.town.now.settings.stuck t (word draws) (node_view_of in_links out_links) → moves ≡ node_turns (setup day) t n W
@@ -110,7 +109,7 @@ node_is day t n W in_links out_links draws moves fit e x d m =
     let es = map (in_link S t W) (into S n) in
     let agree : Agree links (out_links_in out_links) (out_link S t n W) = rw x (out_links_agree S t n links W) in
     m ∙ ap (λ (ys : List InLink). node_moves day.town.now.settings.stuck t (word draws) (record { in_links = ys; out_links = out_links_in out_links })) e
-    ∙ node_same links day.town.now.settings.stuck t (word draws) es (out_links_in out_links) (out_link S t n W) agree (in_links_go S t links W (into S n) fit)
+    ∙ node_same links day.town.now.settings.stuck t (word draws) es (out_links_in out_links) (out_link S t n W) agree (in_links_go S t (counts_in day) W (into S n) fit)
     ∙ ap (λ (s : Source). node_moves day.town.now.settings.stuck t (word s) (node_view S t n W)) d
 
 -- AT MOST SIXTEEN LINKS
@@ -127,7 +126,7 @@ as_many f q d k (x ∷ xs) h =
 in_is : (day : DayInput) (n j : ℕ) (d : LinkRow) → j < length day.town.now.network.links → is_in (setup day) n j ≡ nat_eq (get_or day.town.now.network.links j d).to n
 in_is day n j d h =
     let row = get_or day.town.now.network.links j d in
-    ap (λ (r : LinkRow). r.to == n) (row_is day j row h (same_at j day.town.now.network.links d row h))
+    ap (λ (r : LinkRow). r.to == n) (row_is day j row h (get_or_default day.town.now.network.links j d row h))
 
 pub few_in_links : (day : DayInput) (t n : ℕ) (W : World) (in_links : List InLink) → in_links ≡ map (in_link (setup day) t W) (into (setup day) n) → count_in_links day.town.now.network.links n ≤ MAX_IN_LINKS → length in_links ≤ MAX_IN_LINKS
 unfolding count_in_links

@@ -1,45 +1,36 @@
 -- The rows of a town, and the setup of a day in it.
-use Rattle.traffic.proofs.Common.{◌≡◌, ℕ, List, ◌∙◌, length, ap, refl, sym, [], ◌∷◌, arith, ◌<◌, true, Bool, suc, zero, get_or, and_parts, nat_tests}
+use Rattle.traffic.proofs.Common.{◌≡◌, ℕ, List, ◌∙◌, length, ap, sym, arith, ◌<◌, true, Bool, inl, inr, get_or, cases_Bool, true≢false, nat_tests}
 use Rattle.traffic.proofs.Common.{list_all, credit_per_second, storage, buffer_room, LinkRow, rules, gain_of, link_row, hole_of, seconds_of, storage_of}
 use Rattle.traffic.proofs.Common.{hole_seconds}
 use Rattle.traffic.specs.declared.numbers.Rules.{Rules}
+use Rattle.std.proofs.lemmas.List.{get_or_default}
+use Rattle.std.proofs.lemmas.List.Folds.{list_all_at}
 use Rattle.network.specs.Limits.{is_link, are_measures}
 use Rattle.town.specs.declared.day_input.DayInput.{DayInput}
 use Rattle.town.specs.Setups.{setup_of}
 use Rattle.town.specs.Views.{setup}
 use Rattle.plain_day.specs.Measures.{IsMeasured}
 
--- what is there does not depend on the default
-pub there : {X : Type 0} (k : ℕ) (xs : List X) (x d : X) → k < length xs → x ≡ get_or xs k x → x ≡ get_or xs k d
-there k [] x d h e = absurd (omega arith)
-there zero (y ∷ ys) x d h e = e
-there (suc k) (y ∷ ys) x d h e = there k ys x d (omega arith) e
-
-pub same_at : {X : Type 0} (k : ℕ) (xs : List X) (d e : X) → k < length xs → get_or xs k d ≡ get_or xs k e
-same_at k [] d e h = absurd (omega arith)
-same_at zero (y ∷ ys) d e h = refl
-same_at (suc k) (y ∷ ys) d e h = same_at k ys d e (omega arith)
-
 pub passes_at : {X : Type 0} (p : X → Bool) (xs : List X) (k : ℕ) (x : X) → list_all p xs ≡ true → k < length xs → x ≡ get_or xs k x → p x ≡ true
-passes_at p [] k x h l e = absurd (omega arith)
-passes_at p (y ∷ ys) zero x h l e = ap p e ∙ (and_parts (p y) (list_all p ys) h).0
-passes_at p (y ∷ ys) (suc k) x h l e = passes_at p ys k x (and_parts (p y) (list_all p ys) h).1 (omega arith) e
+passes_at p xs k x h l e = elim (cases_Bool (p x)) [ inl t ↦ t | inr f ↦ absurd (true≢false (sym h ∙ list_all_at p xs k x l (ap p (sym e) ∙ f))) ]
 
 -- the row of a link
 pub row_is : (day : DayInput) (l : ℕ) (row : LinkRow) → l < length day.town.now.network.links → row ≡ get_or day.town.now.network.links l row → link_row (setup day) l ≡ row
 unfolding setup_of
-row_is day l row h e = sym (there l day.town.now.network.links row _ h e)
+row_is day l row h e = sym (e ∙ get_or_default day.town.now.network.links l row _ h)
 
-pub measured : (nodes : ℕ) (row : LinkRow) → is_link nodes row ≡ true → IsMeasured row
+pub measured : (day : DayInput) (l : ℕ) (row : LinkRow) → l < length day.town.now.network.links → row ≡ get_or day.town.now.network.links l row → IsMeasured row
 unfolding is_link are_measures
-measured nodes row h = record {
-  some_length = grind (arith, nat_tests, h);
-  most_length = grind (arith, nat_tests, h);
-  some_speed = grind (arith, nat_tests, h);
-  some_capacity = grind (arith, nat_tests, h);
-  most_capacity = grind (arith, nat_tests, h);
-  most_lanes = grind (arith, nat_tests, h);
-}
+measured day l row lt e =
+    let h = passes_at (is_link (length day.town.now.network.nodes)) day.town.now.network.links l row day.town.now.sound.links lt e in
+    record {
+      some_length = grind (arith, nat_tests, h);
+      most_length = grind (arith, nat_tests, h);
+      some_speed = grind (arith, nat_tests, h);
+      some_capacity = grind (arith, nat_tests, h);
+      most_capacity = grind (arith, nat_tests, h);
+      most_lanes = grind (arith, nat_tests, h);
+    }
 
 pub gain_is : (day : DayInput) (l : ℕ) (row : LinkRow) (v : ℕ) → link_row (setup day) l ≡ row → v ≡ credit_per_second row.capacity day.town.now.settings.flow_permille → v ≡ gain_of (setup day) l
 unfolding setup_of

@@ -10,10 +10,10 @@ use Rattle.rows.specs.declared.plan.Leg.TheVariants as leg
 use Rattle.town.specs.declared.day_input.DayInput.{DayInput}
 use Rattle.town.specs.Views.{setup}
 use Rattle.plain_day.specs.Legs.{kind_of, mode_of_kind}
-use Rattle.plain_day.proofs.Numbers.{there}
+use Rattle.std.proofs.lemmas.List.{get_or_default}
 
 pub person_is : (W : World) (i : ℕ) (P : Person) → i < length W.persons → P ≡ get_or W.persons i P → P ≡ person_of i W
-person_is W i P h e = there i W.persons P nobody h e
+person_is W i P h e = e ∙ get_or_default W.persons i P nobody h
 
 pub waiter_is : (day : DayInput) (l i : ℕ) (W : World) (plan : Plan) (P : Person) (o : List Waiter) → person_plan (setup day) i ≡ plan_rows plan →
     i < length W.persons → P ≡ get_or W.persons i P →

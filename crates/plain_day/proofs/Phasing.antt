@@ -19,9 +19,6 @@ pub record Going (S : Setup) (t : ℕ) (p : Phase) (count n : ℕ) (from now : W
   pub world : after S t (rest S t p count n now) now ≡ after S t (rest S t p count 0 from) from
   pub events : out ++ events_in t p (rest S t p count n now) ≡ old ++ events_in t p (rest S t p count 0 from)
 
-pub going_first : (S : Setup) (t : ℕ) (p : Phase) (count : ℕ) (from : World) (old : List Event) → Going S t p count 0 from from old old
-going_first S t p count from old = record { world = refl; events = refl }
-
 rest_more : (S : Setup) (t : ℕ) (p : Phase) (count n : ℕ) (W : World) → n < count → rest S t p count n W ≡ turn S t p n W ∷ rest S t p count (n + 1) (run S t (turns_of S t p n W) W)
 unfolding turns
 rest_more S t p count n W h =
@@ -90,20 +87,10 @@ second_world S t W a b1 b2 c d ea eb1 eb2 ec ed =
     ed ∙ ap (f phase.D) (ec ∙ ap (f phase.C) (eb2 ∙ ap (f phase.B2) (eb1 ∙ ap (f phase.B1) ea)))
 
 one_list : (o o1 o2 o3 o4 o5 a b c d e : List Event) → o1 ≡ o ++ a → o2 ≡ o1 ++ b → o3 ≡ o2 ++ c → o4 ≡ o3 ++ d → o5 ≡ o4 ++ e → o5 ≡ o ++ (a ++ (b ++ (c ++ (d ++ (e ++ [])))))
-one_list o o1 o2 o3 o4 o5 a b c d e e1 e2 e3 e4 e5 =
-    let f1 = e2 ∙ ap (λ (l : List Event). l ++ b) e1 ∙ append_assoc o a b in
-    let f2 = e3 ∙ ap (λ (l : List Event). l ++ c) f1 ∙ append_assoc o (a ++ b) c ∙ ap (λ (l : List Event). o ++ l) (append_assoc a b c) in
-    let f3 = e4 ∙ ap (λ (l : List Event). l ++ d) f2 ∙ append_assoc o (a ++ (b ++ c)) d ∙ ap (λ (l : List Event). o ++ l) (append_assoc a (b ++ c) d ∙ ap (λ (l : List Event). a ++ l) (append_assoc b c d)) in
-    let f4 = e5 ∙ ap (λ (l : List Event). l ++ e) f3 ∙ append_assoc o (a ++ (b ++ (c ++ d))) e
-    ∙ ap (λ (l : List Event). o ++ l) (append_assoc a (b ++ (c ++ d)) e ∙ ap (λ (l : List Event). a ++ l) (append_assoc b (c ++ d) e ∙ ap (λ (l : List Event). b ++ l) (append_assoc c d e))) in
-    f4 ∙ ap (λ (l : List Event). o ++ (a ++ (b ++ (c ++ (d ++ l))))) (sym (append-nil e))
+one_list o o1 o2 o3 o4 o5 a b c d e e1 e2 e3 e4 e5 = rw (e5, e4, e3, e2, e1) (simp (append_assoc, append-nil))
 
 same_lists : (o a b c d e b' c' d' e' : List Event) → b ≡ b' → c ≡ c' → d ≡ d' → e ≡ e' → o ++ (a ++ (b ++ (c ++ (d ++ (e ++ []))))) ≡ o ++ (a ++ (b' ++ (c' ++ (d' ++ (e' ++ [])))))
-same_lists o a b c d e b' c' d' e' p q r s =
-    ap (λ (l : List Event). o ++ (a ++ (l ++ (c ++ (d ++ (e ++ [])))))) p
-    ∙ ap (λ (l : List Event). o ++ (a ++ (b' ++ (l ++ (d ++ (e ++ [])))))) q
-    ∙ ap (λ (l : List Event). o ++ (a ++ (b' ++ (c' ++ (l ++ (e ++ [])))))) r
-    ∙ ap (λ (l : List Event). o ++ (a ++ (b' ++ (c' ++ (d' ++ (l ++ [])))))) s
+same_lists o a b c d e b' c' d' e' p q r s = rw (p, q, r, s) refl
 
 pub second_told : (S : Setup) (t : ℕ) (W a b1 b2 c : World) (o o1 o2 o3 o4 o5 : List Event) → a ≡ after S t (turns_in S t phase.A W) W → b1 ≡ after S t (turns_in S t phase.B1 a) a
     → b2 ≡ after S t (turns_in S t phase.B2 b1) b1 → c ≡ after S t (turns_in S t phase.C b2) b2
@@ -130,19 +117,3 @@ pub events_more : (S : Setup) (W : World) (t : ℕ) (now : World) (out more : Li
 unfolding events_from
 events_more S W t now out more e f g =
     g ∙ ap (λ (l : List Event). l ++ second_events S t now) f ∙ ap (λ (X : World). events_from S W t ++ second_events S t X) e ∙ ap (events_from S W) (sym (add-one t))
-
--- what is told of the persons from number i on, of so many
-abbrev pub told_from : (ℕ → List Event) → ℕ → ℕ → List Event
-told_from f count i = flat_map f (numbers i (count - i))
-
-pub told_more : (f : ℕ → List Event) (count i : ℕ) (old out more : List Event) → i < count → more ≡ out ++ f i
-    → out ++ told_from f count i ≡ old ++ told_from f count 0 → more ++ told_from f count (i + 1) ≡ old ++ told_from f count 0
-told_more f count i old out more h e g =
-    let k : count - i ≡ suc (count - (i + 1)) = omega arith in
-    ap (λ (l : List Event). l ++ told_from f count (i + 1)) e ∙ append_assoc out (f i) (told_from f count (i + 1)) ∙ ap (λ (m : ℕ). out ++ flat_map f (numbers i m)) (sym k) ∙ g
-
-pub told_all : (f : ℕ → List Event) (count i : ℕ) (old out : List Event) → count ≤ i → out ++ told_from f count i ≡ old ++ told_from f count 0 → out ≡ old ++ flat_map f (below count)
-told_all f count i old out h g =
-    let k : count - i ≡ 0 = omega arith in
-    let z : count - 0 ≡ count = omega arith in
-    sym (append-nil out) ∙ ap (λ (m : ℕ). out ++ flat_map f (numbers i m)) (sym k) ∙ g ∙ ap (λ (m : ℕ). old ++ flat_map f (numbers 0 m)) z

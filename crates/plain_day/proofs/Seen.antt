@@ -21,15 +21,12 @@ counted l t h (x ∷ xs) =
       | inr e ↦ simp e g
     ]
 
-pub holes_counted : (l t h : ℕ) (W : World) → in_force t h (holes_at l W) ≡ length (filter (is_in_force l t h) W.holes)
-holes_counted l t h W = counted l t h W.holes
-
 pub taken_is : (S : Setup) (t l : ℕ) (W : World) (rows : List Row) (hs : List Hole) (queue h holes taken : ℕ) → rows ≡ W.rows → hs ≡ W.holes →
     queue ≡ length (filter (on l Queue) rows) → h ≡ hole_of S l → holes ≡ length (filter (is_in_force l t h) hs) → taken ≡ queue + holes → taken ≡ taken_at S t l W
 taken_is S t l W rows hs queue h holes taken r s q e f g =
     g ∙ ap (λ n. n + holes) (q ∙ ap (λ (xs : List Row). length (filter (on l Queue) xs)) r)
     ∙ ap (λ n. length (filter (on l Queue) W.rows) + n)
-    (f ∙ ap (λ (xs : List Hole). length (filter (is_in_force l t h) xs)) s ∙ sym (holes_counted l t h W) ∙ ap (λ n. in_force t n (holes_at l W)) e)
+    (f ∙ ap (λ (xs : List Hole). length (filter (is_in_force l t h) xs)) s ∙ sym (counted l t h W.holes) ∙ ap (λ n. in_force t n (holes_at l W)) e)
 
 -- a link as the node at its end sees it
 pub in_link_is : (day : DayInput) (t l : ℕ) (W : World) (row : LinkRow) (green : Bool) (rows here : List Row) → link_row (setup day) l ≡ row → green ≡ is_green (green_at day.town.now.greens l) t →

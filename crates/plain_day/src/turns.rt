@@ -3,10 +3,12 @@
 ghost use Rattle.std.specs.Prelude.{◌≡◌, ◌<◌, ◌∷◌, [], ℕ, List, length, true, IfOk, IfSome, IfNone};
 ghost use Rattle.std.specs.List.{list_any};
 ghost use Rattle.limits.specs.declared.TheConstants.{LAST_SECOND};
+ghost use Rattle.law_in_range.specs.Rows.{IsFitWorld};
+ghost use Rattle.law_in_range.specs.Setups.{counts_in};
 ghost use Rattle.town.specs.Views.{setup};
 ghost use Rattle.traffic.specs.declared.moves.Move.TheVariants.{Credit};
 ghost use Rattle.traffic.specs.Day.{link_turns, node_turns};
-ghost use Rattle.plain_day.specs.Fit.{AreFit, stays_on};
+ghost use Rattle.plain_day.specs.Fit.{stays_on};
 ghost use Rattle.plain_day.specs.Views.{is_before};
 
 use crate::links::{gain_of, rules};
@@ -44,8 +46,7 @@ fn busy_turn(
 ) -> Result<Vec<Move>, AllocError>
     requires there { link < length day.now.town.now.network.links }
     requires second_in { second < LAST_SECOND }
-    requires persons { length world.now.persons ≡ length day.now.chosen.now }
-    requires fit { AreFit (length day.now.town.now.network.links) world.now.rows }
+    requires fit { IsFitWorld (counts_in day.now) world.now }
     ensures { IfOk result (λ moves. moves.items ≡ link_turns (setup day.now) second link world.now) }
 {
     let rules = rules(day, link);
@@ -66,8 +67,7 @@ pub fn link_turn(
 ) -> Result<Vec<Move>, AllocError>
     requires there { link < length day.now.town.now.network.links }
     requires second_in { second < LAST_SECOND }
-    requires persons { length world.now.persons ≡ length day.now.chosen.now }
-    requires fit { AreFit (length day.now.town.now.network.links) world.now.rows }
+    requires fit { IsFitWorld (counts_in day.now) world.now }
     ensures { IfOk result (λ moves. moves.items ≡ link_turns (setup day.now) second link world.now) }
 {
     match idle_credit(day, link, world) {
@@ -105,7 +105,7 @@ fn awaited_turn(
     world: &World,
 ) -> Result<Vec<Move>, AllocError>
     requires second_in { second < LAST_SECOND }
-    requires fit { AreFit (length day.now.town.now.network.links) world.now.rows }
+    requires fit { IsFitWorld (counts_in day.now) world.now }
     ensures { IfOk result (λ moves. moves.items ≡ node_turns (setup day.now) second node world.now) }
 {
     let in_links = in_links(alloc, day, second, node, world)?;
@@ -131,7 +131,7 @@ pub fn node_turn(
     world: &World,
 ) -> Result<Vec<Move>, AllocError>
     requires second_in { second < LAST_SECOND }
-    requires fit { AreFit (length day.now.town.now.network.links) world.now.rows }
+    requires fit { IsFitWorld (counts_in day.now) world.now }
     ensures { IfOk result (λ moves. moves.items ≡ node_turns (setup day.now) second node world.now) }
 {
     if !is_awaited(day, node, &world.rows) {

@@ -7,13 +7,15 @@ ghost use Rattle.traffic.specs.Rows.{rank, on, at, holes_at, credit_of};
 ghost use Rattle.traffic.specs.declared.stage.Stage.TheVariants.{Queue, Buffer, Wait, Bay};
 ghost use Rattle.traffic.specs.declared.world.Hole.{Hole};
 ghost use Rattle.traffic.specs.Setup.{Setup, link_row, hole_of, into};
+ghost use Rattle.law_in_range.specs.Rows.{IsFitWorld};
+ghost use Rattle.law_in_range.specs.Setups.{counts_in};
 ghost use Rattle.town.specs.Views.{setup};
 ghost use Rattle.traffic.specs.Links.{link_state};
 ghost use Rattle.traffic.specs.Nodes.{in_link, out_link, taken_at, in_force};
 ghost use Rattle.plain_turns.specs.LinkState.{link_state_of};
 ghost use Rattle.plain_turns.specs.OutLinks.{AreNear, IsInLink, AreInLinks};
 ghost use Rattle.traffic.specs.Lists.{below};
-ghost use Rattle.plain_day.specs.Fit.{stays_on, AreFit};
+ghost use Rattle.plain_day.specs.Fit.{stays_on};
 ghost use Rattle.plain_day.specs.Views.{out_link_row, is_in, is_out, is_in_force};
 
 use crate::links::{hole_of, link_row, seconds_of, storage_of};
@@ -195,7 +197,7 @@ fn in_link(
 ) -> Result<InLink, AllocError>
     requires there { link < length day.now.town.now.network.links }
     requires second_in { second < LAST_SECOND }
-    requires fit { AreFit (length day.now.town.now.network.links) world.now.rows }
+    requires fit { IsFitWorld (counts_in day.now) world.now }
     ensures value { IfOk result (λ e. e ≡ in_link (setup day.now) second world.now link) }
     ensures fit_after { IfOk result (λ e. IsInLink e) }
 {
@@ -217,7 +219,7 @@ pub(crate) fn in_links(
     world: &World,
 ) -> Result<Vec<InLink>, AllocError>
     requires second_in { second < LAST_SECOND }
-    requires fit { AreFit (length day.now.town.now.network.links) world.now.rows }
+    requires fit { IsFitWorld (counts_in day.now) world.now }
     ensures value { IfOk result (λ in_links. in_links.items ≡ map (in_link (setup day.now) second world.now) (into (setup day.now) node)) }
     ensures fit_after { IfOk result (λ in_links. AreInLinks in_links.items) }
 {

@@ -1,7 +1,7 @@
 -- Files are read one after the other.
 use Rattle.scenario.proofs.Common.{All, InFile, Texts}
 use Rattle.traffic.proofs.Common.{◌≡◌, ℕ, List, ◌∙◌, length, ap, refl, sym, [], ◌∷◌, arith, ◌<◌, true, ◌+◌, Bool, inl, inr, ◌≤◌, suc, zero, get_or, ◌≢◌}
-use Rattle.traffic.proofs.Common.{and_parts, cases_lt, nat_tests, Some, Option, ◌&&◌, nat_eq}
+use Rattle.traffic.proofs.Common.{and_parts, cases_lt, eqb-true, Some, Option, ◌&&◌, nat_eq}
 use Rattle.std.proofs.lemmas.List.{get_or_default}
 use Rattle.edge_files.specs.Files.{in_place}
 use Rattle.edge_files.specs.Inputs.{Left, OthersStay}
@@ -13,13 +13,10 @@ are_placed : ℕ → List InFile → Bool
 are_placed n [] = true
 are_placed n (file ∷ files) = nat_eq (in_place file) n && are_placed (suc n) files
 
-same_number : (n m : ℕ) → nat_eq n m ≡ true → n ≡ m
-same_number n m h = grind (arith, nat_tests)
-
 place_at : (files : List InFile) (n k : ℕ) (d : InFile) → k < length files → are_placed n files ≡ true → in_place (get_or files k d) ≡ n + k
 unfolding are_placed
 place_at [] n k d less placed = absurd (omega arith)
-place_at (file ∷ files) n zero d less placed = let first = same_number (in_place file) n (and_parts _ _ placed).0 in omega arith
+place_at (file ∷ files) n zero d less placed = let first = eqb-true (in_place file) n (and_parts _ _ placed).0 in omega arith
 place_at (file ∷ files) n (suc k) d less placed = let later = place_at files (suc n) k d (omega arith) (and_parts _ _ placed).1 in omega arith
 
 -- the place of a file of a scenario is its place in the order in which they are read

@@ -1,6 +1,6 @@
 -- Every day is lawful, and that of files without a fault follows the plans.
-use Rattle.scenario.proofs.Common.{scenario_fault, scenario_rows, ScenarioRows, first_plans, Texts, TownRows, setup_of}
-use Rattle.traffic.proofs.Common.{◌≡◌, ℕ, List, ◌∙◌, length, ap, refl, ◌<◌, subst, length-map, All-from_recursion, map, None, PlanRows, world_at, turns_of}
+use Rattle.scenario.proofs.Common.{scenario_fault, scenario_rows, ScenarioRows, first_plans, Texts}
+use Rattle.traffic.proofs.Common.{◌≡◌, ℕ, ◌∙◌, ◌<◌, subst, All-from_recursion, None, world_at, turns_of}
 use Rattle.traffic.proofs.Common.{Setup}
 use Rattle.traffic.specs.declared.stage.Stage.TheVariants.{Buffer}
 use Rattle.traffic.proofs.Order.{day-ascends}
@@ -11,7 +11,7 @@ use Rattle.law_capacity.proofs.Elsewhere.{in_time, no_buffer}
 use Rattle.law_capacity.proofs.Flow.{day_flow}
 use Rattle.law_trips.proofs.InTime.{day_until}
 use Rattle.law_sound_setups.proofs.Laws.{day_sound}
-use Rattle.law_matches_plans.proofs.Towns.{rows_sound, rows_told}
+use Rattle.law_matches_plans.proofs.Towns.{persons_are, rows_sound, rows_told}
 use Rattle.law_valid_files.specs.Valid.{IsScenario}
 use Rattle.law_valid_files.proofs.Valid.{scenario_valid, chosen_valid}
 use Rattle.qsim_top.specs.Answer.{first_day}
@@ -27,10 +27,6 @@ lawful S = record {
   order = day-ascends S;
   in_time = day_until S;
 }
-
-persons_are : (T : TownRows) (chosen : List PlanRows) (k : ℕ) → length (setup_of T chosen k).persons ≡ length chosen
-unfolding setup_of
-persons_are T chosen k = refl
 
 follows : (S : ScenarioRows) → IsScenario S → FollowsPlans S
 follows S valid =

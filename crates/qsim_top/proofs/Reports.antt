@@ -1,5 +1,5 @@
 -- A refusal writes to the report alone.
-use Rattle.traffic.proofs.Common.{◌≡◌, ℕ, List, ◌∙◌, ap, refl, [], ◌∷◌, arith, true, ◌++◌, Bool, subst, false, ◌≢◌, cond, list_all, ◌&&◌}
+use Rattle.traffic.proofs.Common.{◌≡◌, ℕ, List, ◌∙◌, ap, refl, [], ◌∷◌, true, ◌++◌, Bool, subst, false, ◌≢◌, cond, list_all, and_parts}
 use Rattle.std.specs.Io.KnownBytes.{Appends}
 use Rattle.edge_files.specs.declared.files.OutFile.{OutFile}
 use Rattle.edge_files.specs.declared.files.OutFile.TheVariants as out
@@ -16,9 +16,6 @@ other_file out.Scores h = refl
 other_file out.Plans h = refl
 other_file out.Report h = absurd (h refl)
 
-no_bytes : List ℕ
-no_bytes = []
-
 none_of : (file : OutFile) (text : List ℕ) → is_same file out.Report ≡ false → bytes_of file (byte_steps out.Report text) ≡ []
 none_of file [] other = refl
 none_of file (b ∷ text) other = ap (λ (same : Bool). cond same (b ∷ bytes_of file (byte_steps out.Report text)) (bytes_of file (byte_steps out.Report text))) other ∙ none_of file text other
@@ -33,13 +30,10 @@ none_of_effect : (file : OutFile) (effect : Effect) → is_same file out.Report 
 none_of_effect file (effect.Write to text) other same = none_of_write file to text other same
 none_of_effect file (effect.Save iteration rows) other same = cc
 
-both : (a b : Bool) → (a && b) ≡ true → (a ≡ true) × (b ≡ true)
-both a b h = (grind arith, grind arith)
-
 none_of_all : (file : OutFile) (effects : List Effect) → is_same file out.Report ≡ false → list_all is_report effects ≡ true → bytes_of file (all_steps effects) ≡ []
 none_of_all file [] other all = refl
 none_of_all file (effect ∷ effects) other all =
-    let parts = both (is_report effect) (list_all is_report effects) all in
+    let parts = and_parts (is_report effect) (list_all is_report effects) all in
     bytes_of-append file (steps_of effect) (all_steps effects)
     ∙ ap (λ (bytes : List ℕ). bytes ++ bytes_of file (all_steps effects)) (none_of_effect file effect other parts.0)
     ∙ none_of_all file effects other parts.1

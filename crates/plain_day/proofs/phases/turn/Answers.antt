@@ -2,7 +2,7 @@ use Rattle.traffic.proofs.Common.{sym, subst, person_plan}
 use Rattle.traffic.specs.declared.world.Person.{Person}
 use Rattle.town.specs.Views.{setup}
 use Rattle.plain_day.specs.Fit.{CanLeave}
-use Rattle.plain_day.proofs.Fitness.{can_leave, lands_there, leaves_there, departs_there, link_there, person_there, rows_fit}
+use Rattle.plain_day.proofs.Fitness.{can_leave, lands_there, leaves_there, departs_there, link_there, person_there}
 use Rattle.plain_day.proofs.phases.turn.Goals as goal
 
 pub landing_moves-requires : goal.landing_moves-requires
@@ -22,14 +22,8 @@ person_of-requires-in-B1 c = person_there c.args.day.now c.args.world.now c.args
 pub departure_moves-requires : goal.departure_moves-requires
 departure_moves-requires c = departs_there c.args.day.now c.args.number c.args.phase c.in-B2.is c.requires.there
 
-pub node_turn-requires-clause-fit : goal.node_turn-requires-clause-fit
-node_turn-requires-clause-fit c = rows_fit c.args.day.now c.args.world.now c.requires.fit
-
 pub link_turn-requires-clause-there : goal.link_turn-requires-clause-there
 link_turn-requires-clause-there c = link_there c.args.day.now c.args.number c.args.phase c.in-D.is c.requires.there
-
-pub link_turn-requires-clause-fit : goal.link_turn-requires-clause-fit
-link_turn-requires-clause-fit c = rows_fit c.args.day.now c.args.world.now c.requires.fit
 
 pub leaving_moves-requires-clause-leg : goal.leaving_moves-requires-clause-leg
 leaving_moves-requires-clause-leg c =

@@ -1,4 +1,5 @@
-use Rattle.std.proofs.Common.{ap, ◌∙◌, length}
+use Rattle.std.proofs.Common.{ap, ◌∙◌}
+use Rattle.law_in_range.specs.Setups.{counts_in}
 use Rattle.town.specs.Views.{setup}
 use Rattle.plain_turns.specs.LinkState.{link_state_of}
 use Rattle.plain_day.proofs.LinkTurns.{turn_is}
@@ -6,13 +7,13 @@ use Rattle.plain_day.proofs.Fitting.{state_small}
 use Rattle.plain_day.proofs.turns.busy_turn.Goals as goal
 
 pub link_moves-requires-clause-small : goal.link_moves-requires-clause-small
-link_moves-requires-clause-small c = (state_small (length c.args.day.now.town.now.network.links) c.args.link c.args.world.now _ c.requires.fit c.in_ok-link_state.ensures).0
+link_moves-requires-clause-small c = (state_small (counts_in c.args.day.now) c.args.link c.args.world.now _ c.requires.fit c.in_ok-link_state.ensures).0
 
 pub link_moves-requires-clause-small_wait : goal.link_moves-requires-clause-small_wait
-link_moves-requires-clause-small_wait c = (state_small (length c.args.day.now.town.now.network.links) c.args.link c.args.world.now _ c.requires.fit c.in_ok-link_state.ensures).1
+link_moves-requires-clause-small_wait c = (state_small (counts_in c.args.day.now) c.args.link c.args.world.now _ c.requires.fit c.in_ok-link_state.ensures).1
 
 pub link_moves-requires-clause-small_bay : goal.link_moves-requires-clause-small_bay
-link_moves-requires-clause-small_bay c = (state_small (length c.args.day.now.town.now.network.links) c.args.link c.args.world.now _ c.requires.fit c.in_ok-link_state.ensures).2
+link_moves-requires-clause-small_bay c = (state_small (counts_in c.args.day.now) c.args.link c.args.world.now _ c.requires.fit c.in_ok-link_state.ensures).2
 
 pub returns : goal.returns
 returns c =

@@ -1,6 +1,7 @@
-use Rattle.traffic.proofs.Common.{◌∙◌, length, ap, World}
+use Rattle.traffic.proofs.Common.{◌∙◌, ap, World}
+use Rattle.law_in_range.specs.Setups.{counts_in}
 use Rattle.plain_day.proofs.Seen.{in_link_is}
-use Rattle.plain_day.proofs.Fitting.{next_at}
+use Rattle.plain_day.proofs.Fitting.{going_at}
 use Rattle.plain_day.proofs.views.in_link.Goals as goal
 
 pub returns-clause-value : goal.returns-clause-value
@@ -14,5 +15,5 @@ returns-clause-fit_after c =
     record {
       least = c.link_row.ensures.measures.some_capacity;
       most = c.link_row.ensures.measures.most_capacity;
-      rows = rw (c.in_ok-rows.ensures, e) (next_at (length c.args.day.now.town.now.network.links) c.args.link c.args.world.now.rows c.requires.fit);
+      rows = rw (c.in_ok-rows.ensures, e) (going_at (counts_in c.args.day.now) c.args.link c.args.world.now c.requires.fit).0;
     }

@@ -1,6 +1,8 @@
 pub mod Arriving
 pub mod Held
+pub mod Free
 pub mod Networks
+pub mod Orders
 pub mod Stays
 pub mod Known
 pub mod Binning

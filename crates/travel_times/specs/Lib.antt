@@ -3,3 +3,4 @@ pub mod Profiles
 pub mod Observed
 pub mod Tallies
 pub mod Binned
+pub mod Worked

@@ -1,5 +1,4 @@
 ghost use Rattle.std.specs.Prelude.{◌≡◌, ℕ, ◌+◌, ◌^◌, ◌<◌, ◌≤◌, max, List, length, nat_eq, IfOk, All};
-ghost use Rattle.walks.specs.Arrivals.{IsFifo};
 ghost use Rattle.travel_times.specs.Times.{LinkProfile, time_in, arrival_by, profile_at, free_of, arrivals, free_times};
 ghost use Rattle.travel_times.specs.Observed.{AreInOrder, AreOnLinks, link_at, observed_time};
 
@@ -98,8 +97,3 @@ impl LinkTimes {
         profile.arrive(second)
     }
 }
-
-/// Whatever is known of links, an arrival is later than the entry, and who enters later arrives no earlier.
-pub fn links_are_first_in_first_out()
-    ensures { (times : List LinkProfile) → IsFifo (arrivals times) }
-{}

@@ -5,3 +5,4 @@ pub mod Kept
 pub mod Least
 pub mod Followed
 pub mod Settled
+pub mod Delayed

@@ -3,4 +3,5 @@ pub mod Walks
 pub mod Rounds
 pub mod Certificates
 pub mod Chosen
+pub mod Alike
 pub mod Worked

@@ -11,6 +11,7 @@ ghost use Rattle.walks.specs.Walks.{Ends, AreWithin, IsWalk, NoWalk, arrival, Is
 ghost use Rattle.walks.specs.Rounds.{Labels, label_at, least_labels};
 ghost use Rattle.walks.specs.Certificates.{IsKept, IsCertificate};
 ghost use Rattle.walks.specs.Chosen.{chosen_route};
+ghost use Rattle.walks.specs.Alike.{TakesAlike, delayed};
 ghost use Rattle.walks.specs.Worked.{two_ways, ten_seconds, full_minutes};
 
 /// A certificate bounds every walk from its start: the walk ends at a labelled node, and arrives there no earlier than its label.
@@ -40,6 +41,16 @@ pub fn chosen_routes_are_least()
         × (arrival arrive second (chosen_route nodes ends arrive (least_labels nodes ends arrive from second) from to) ≡ at) }
 {}
 
+/// Where links take as long whenever they are entered, a search that begins in a later second finds what the one from second 0
+/// finds, later by as much, and chooses the same routes.
+pub fn later_searches_find_alike()
+    ensures labels { (nodes : ℕ) (ends : Ends) (arrive : Arrivals) (from second : ℕ) → TakesAlike arrive
+        → least_labels nodes ends arrive from second ≡ delayed second (least_labels nodes ends arrive from 0) }
+    ensures routes { (nodes : ℕ) (ends : Ends) (arrive : Arrivals) (from second to : ℕ) → TakesAlike arrive
+        → chosen_route nodes ends arrive (least_labels nodes ends arrive from second) from to
+        ≡ chosen_route nodes ends arrive (least_labels nodes ends arrive from 0) from to }
+{}
+
 /// What the definitions give of four nodes with two ways from the first to the last, computed from them alone: the way by the
 /// lesser link where both take as long, the faster one else, and nothing against the direction of the links.
 pub fn worked_routes()
@@ -50,3 +61,14 @@ pub fn worked_routes()
     ensures faster { least_labels 4 two_ways full_minutes 0 55 ≡ Some 55 ∷ Some 65 ∷ Some 60 ∷ Some 70 ∷ [] }
     ensures way_back { chosen_route 4 two_ways full_minutes (least_labels 4 two_ways full_minutes 0 55) 0 3 ≡ 1 ∷ 3 ∷ [] }
 {}
+
+/// The label of a node, or `None` where it has none or is not there.
+pub fn label_of(labels: &[Option<u64>], node: u32) -> Option<u64>
+    ensures { result ≡ label_at labels.now node }
+{
+    if (node as usize) < labels.len() {
+        labels[node as usize]
+    } else {
+        None
+    }
+}

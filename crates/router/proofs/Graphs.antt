@@ -1,0 +1,117 @@
+-- The graph that is kept is that of the network.
+use Rattle.std.proofs.Common.{◌≡◌, ℕ, ◌<◌, true, List, [], ◌∷◌, length, map, inl, inr, refl, sym, ◌∙◌, ap, subst, arith}
+use Rattle.std.specs.Prelude.{slice_index, slice_index_or, All, Contains}
+use Rattle.std.specs.List.{list_all, zip}
+use Rattle.std.proofs.Math.Path.{fun_ext}
+use Rattle.std.proofs.lemmas.Bool.{cases_lt}
+use Rattle.std.proofs.lemmas.Bool.Decides.{nat_tests}
+use Rattle.std.proofs.lemmas.List.{get_or_past}
+use Rattle.std.proofs.lemmas.List.Elements.{All-map}
+use Rattle.std.proofs.lemmas.List.Sums.{AllPass-from_list_all}
+use Rattle.std.proofs.lemmas.Slice.Zip.{length-zip, get_or-zip}
+use Rattle.rows.specs.declared.network.LinkRow.{LinkRow}
+use Rattle.network.specs.Limits.{is_link, are_measures}
+use Rattle.travel_times.specs.Times.{ends_of}
+use Rattle.walks.specs.Walks.{start_of, end_of, AreWithin}
+use Rattle.router.specs.declared.adjacency.Adjacency.TheInside.{Inside}
+use Rattle.router.specs.Graphs.{Graph, kept_graph, IsAdjacency}
+
+pub pair_at : (xs ys : List ℕ) (k : ℕ) → length ys ≡ length xs → slice_index_or (zip xs ys) k (0, 0) ≡ (slice_index xs k, slice_index ys k)
+pair_at xs ys k same =
+    elim (cases_lt k (length xs)) [
+      | inl within ↦ get_or-zip xs ys k (0, 0) within (omega arith)
+      | inr past ↦
+          let count = length-zip xs ys in
+          let x = get_or_past xs k 0 past in
+          let y = get_or_past ys k 0 (omega arith) in
+          get_or_past (zip xs ys) k (0, 0) (omega arith) ∙ ap (λ (n : ℕ). (n, 0)) (sym x) ∙ ap (λ (n : ℕ). (slice_index xs k, n)) (sym y)
+    ]
+
+pub start_is : (xs ys : List ℕ) → length ys ≡ length xs → slice_index xs ≡ start_of (zip xs ys)
+start_is xs ys same = fun_ext (λ k. sym (ap (λ (p : ℕ × ℕ). p.0) (pair_at xs ys k same)))
+
+pub end_is : (xs ys : List ℕ) → length ys ≡ length xs → slice_index ys ≡ end_of (zip xs ys)
+end_is xs ys same = fun_ext (λ k. sym (ap (λ (p : ℕ × ℕ). p.1) (pair_at xs ys k same)))
+
+-- the ends of links that were read one side after the other
+pub zip_ends : (links : List LinkRow) → zip (map (λ (l : LinkRow). l.from) links) (map (λ (l : LinkRow). l.to) links) ≡ ends_of links
+zip_ends [] = refl
+zip_ends (link ∷ links) = ap (λ (ends : List (ℕ × ℕ)). (link.from, link.to) ∷ ends) (zip_ends links)
+
+ends_within : (nodes : ℕ) (link : LinkRow) → is_link nodes link ≡ true → (link.from < nodes) × (link.to < nodes)
+unfolding is_link are_measures
+ends_within nodes link sound = (grind (arith, nat_tests), grind (arith, nat_tests))
+
+pub network_within : (nodes : ℕ) (links : List LinkRow) → list_all (is_link nodes) links ≡ true → AreWithin nodes (ends_of links)
+network_within nodes links sound =
+    All-map (λ (p : ℕ × ℕ). (p.0 < nodes) × (p.1 < nodes)) (λ (l : LinkRow). (l.from, l.to)) links
+    (λ k d within. ends_within nodes (slice_index_or links k d) (AllPass-from_list_all (is_link nodes) links sound k d within))
+
+pub starts_within_nodes : (nodes : ℕ) (links : List LinkRow) (xs : List ℕ) → xs ≡ map (λ (l : LinkRow). l.from) links →
+    list_all (is_link nodes) links ≡ true → All (λ node. node < nodes) xs
+starts_within_nodes nodes links xs is sound =
+    let P : List ℕ → Type 0 = λ ns. All (λ node. node < nodes) ns in
+    subst P (sym is) (All-map (λ (n : ℕ). n < nodes) (λ (l : LinkRow). l.from) links
+    (λ k d within. (ends_within nodes (slice_index_or links k d) (AllPass-from_list_all (is_link nodes) links sound k d within)).0))
+
+pub ends_within_nodes : (nodes : ℕ) (links : List LinkRow) (xs : List ℕ) → xs ≡ map (λ (l : LinkRow). l.to) links →
+    list_all (is_link nodes) links ≡ true → All (λ node. node < nodes) xs
+ends_within_nodes nodes links xs is sound =
+    let P : List ℕ → Type 0 = λ ns. All (λ node. node < nodes) ns in
+    subst P (sym is) (All-map (λ (n : ℕ). n < nodes) (λ (l : LinkRow). l.to) links
+    (λ k d within. (ends_within nodes (slice_index_or links k d) (AllPass-from_list_all (is_link nodes) links sound k d within)).1))
+
+length-ends : (xs ys : List ℕ) → length ys ≡ length xs → length (zip xs ys) ≡ length xs
+length-ends xs ys same = let count = length-zip xs ys in omega arith
+
+-- what is kept of a graph says where its links begin and end
+module _ (a : Inside) (g : Graph) (kept : IsAdjacency a) (view : kept_graph a ≡ g) where
+  link_within : (link : ℕ) → link < length g.ends → link < length a.from.items
+  link_within link within =
+      let same = ap (λ (h : Graph). length h.ends) view in
+      let count = length-ends a.from.items a.to.items kept.each in
+      omega arith
+
+  pub start_kept : (link : ℕ) → link < length g.ends →
+      (link < length a.from.items) × (slice_index a.from.items link ≡ start_of g.ends link) × (slice_index a.from.items link < g.nodes)
+  start_kept link within =
+      let here = link_within link within in
+      let is : slice_index a.from.items link ≡ start_of (zip a.from.items a.to.items) link =
+      ap (λ (f : ℕ → ℕ). f link) (start_is a.from.items a.to.items kept.each) in
+      let inside = (kept.inside link (0, 0) (let count = length-ends a.from.items a.to.items kept.each in omega arith)).0 in
+      let nodes = ap (λ (h : Graph). h.nodes) view in
+      (here, is ∙ ap (λ (h : Graph). start_of h.ends link) view, omega arith)
+
+  pub end_kept : (link : ℕ) → link < length g.ends → (link < length a.to.items) × (slice_index a.to.items link ≡ end_of g.ends link) ×
+      (slice_index a.to.items link < g.nodes)
+  end_kept link within =
+      let here = link_within link within in
+      let is : slice_index a.to.items link ≡ end_of (zip a.from.items a.to.items) link =
+      ap (λ (f : ℕ → ℕ). f link) (end_is a.from.items a.to.items kept.each) in
+      let inside = (kept.inside link (0, 0) (let count = length-ends a.from.items a.to.items kept.each in omega arith)).1 in
+      let nodes = ap (λ (h : Graph). h.nodes) view in
+      (let each = kept.each in omega arith, is ∙ ap (λ (h : Graph). end_of h.ends link) view, omega arith)
+
+  pub out_each : (node : ℕ) → All (λ link. (link < length g.ends) × (start_of g.ends link ≡ node)) (slice_index_or a.out node [])
+  out_each node =
+      let P : Graph → Type 0 = λ h. All (λ link. (link < length h.ends) × (start_of h.ends link ≡ node)) (slice_index_or a.out node []) in
+      let Q : ℕ → Type 0 = λ n. All (λ link. (link < n) × (start_of (zip a.from.items a.to.items) link ≡ node))
+      (slice_index_or a.out node []) in
+      subst P view (subst Q (sym (length-ends a.from.items a.to.items kept.each)) (kept.out.each node))
+
+  pub out_every : (node link : ℕ) → link < length g.ends → start_of g.ends link ≡ node → Contains (slice_index_or a.out node []) link
+  out_every node link within begins =
+      let P : ℕ → Type 0 = λ n. Contains (slice_index_or a.out n []) link in
+      subst P (ap (λ (h : Graph). start_of h.ends link) view ∙ begins) (kept.out.every link (link_within link within))
+
+  pub into_each : (node : ℕ) → All (λ link. (link < length g.ends) × (end_of g.ends link ≡ node)) (slice_index_or a.into node [])
+  into_each node =
+      let P : Graph → Type 0 = λ h. All (λ link. (link < length h.ends) × (end_of h.ends link ≡ node)) (slice_index_or a.into node []) in
+      let Q : ℕ → Type 0 = λ n. All (λ link. (link < n) × (end_of (zip a.from.items a.to.items) link ≡ node))
+      (slice_index_or a.into node []) in
+      subst P view (subst Q (sym (length-ends a.from.items a.to.items kept.each)) (kept.into.each node))
+
+  pub into_every : (node link : ℕ) → link < length g.ends → end_of g.ends link ≡ node → Contains (slice_index_or a.into node []) link
+  into_every node link within ends =
+      let P : ℕ → Type 0 = λ n. Contains (slice_index_or a.into n []) link in
+      subst P (ap (λ (h : Graph). end_of h.ends link) view ∙ ends) (kept.into.every link (link_within link within))

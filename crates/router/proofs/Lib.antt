@@ -1,0 +1,5 @@
+pub mod Stars
+pub mod Graphs
+pub mod Searching
+pub mod Backs
+pub mod Answering

@@ -1,0 +1,71 @@
+use Rattle.std.proofs.Common.{arith, ◌≡◌, ◌<◌, ℕ, List, length, map, ap, sym, ◌∙◌, subst}
+use Rattle.std.specs.Prelude.{All, slice_index}
+use Rattle.std.specs.List.{zip}
+use Rattle.std.proofs.lemmas.List.{length-map}
+use Rattle.rows.specs.declared.network.LinkRow.{LinkRow}
+use Rattle.travel_times.specs.Times.{ends_of}
+use Rattle.walks.specs.Walks.{end_of, AreWithin}
+use Rattle.router.specs.Graphs.{Graph}
+use Rattle.router.specs.Stars.{AreBeside}
+use Rattle.router.proofs.Graphs.{start_is, end_is, zip_ends, network_within, starts_within_nodes, ends_within_nodes}
+use Rattle.router.proofs.adjacency.Adjacency.of.Goals as goal
+
+pub star_beside-requires-clause-within : goal.star_beside-requires-clause-within
+star_beside-requires-clause-within c =
+    let P : ℕ → Type 0 = λ n. All (λ node. node < n) c.deref.result.now in
+    subst P (sym c.len-nodes.ensures)
+    (starts_within_nodes (length c.args.network.now.nodes) c.args.network.now.links c.deref.result.now
+    (c.deref.ensures.value ∙ c.in_ok-from.ensures) c.args.network.now.sound)
+
+pub star_beside-requires-2-clause-within : goal.star_beside-requires-2-clause-within
+star_beside-requires-2-clause-within c =
+    let P : ℕ → Type 0 = λ n. All (λ node. node < n) c.deref-2.result.now in
+    subst P (sym c.len-nodes.ensures)
+    (ends_within_nodes (length c.args.network.now.nodes) c.args.network.now.links c.deref-2.result.now
+    (c.deref-2.ensures.value ∙ c.in_ok-to.ensures) c.args.network.now.sound)
+
+pub invariant_of-result : goal.invariant_of-result
+invariant_of-result c =
+    let links = c.args.network.now.links in
+    let from : List ℕ = c.in_ok-from.from.items in
+    let to : List ℕ = c.in_ok-to.to.items in
+    let from_is : from ≡ map (λ (l : LinkRow). l.from) links = c.in_ok-from.ensures in
+    let to_is : to ≡ map (λ (l : LinkRow). l.to) links = c.in_ok-to.ensures in
+    let count_from = ap (λ (xs : List ℕ). length xs) from_is ∙ length-map links (λ (l : LinkRow). l.from) in
+    let count_to = ap (λ (xs : List ℕ). length xs) to_is ∙ length-map links (λ (l : LinkRow). l.to) in
+    let each : length to ≡ length from = count_to ∙ sym count_from in
+    let nodes : length c.in_ok-out.out ≡ length c.args.network.now.nodes = c.in_ok-out.ensures.count ∙ c.len-nodes.ensures in
+    let ends : zip from to ≡ ends_of links = ap (λ (xs : List ℕ). zip xs to) from_is ∙ ap
+    (λ (ys : List ℕ). zip (map (λ (l : LinkRow). l.from) links) ys) to_is ∙ zip_ends links in
+    let P : List (ℕ × ℕ) → Type 0 = λ es. AreWithin (length c.in_ok-out.out) es in
+    let Q : ℕ → Type 0 = λ n. AreWithin n (ends_of links) in
+    let read_from : c.deref.result.now ≡ from = c.deref.ensures.value in
+    let read_to : c.deref-2.result.now ≡ to = c.deref-2.ensures.value in
+    let R : List ℕ → Type 0 = λ xs. AreBeside (slice_index xs) (length xs) c.in_ok-out.out in
+    let S : (ℕ → ℕ) → Type 0 = λ f. AreBeside f (length from) c.in_ok-out.out in
+    let T : List ℕ → Type 0 = λ ys. AreBeside (slice_index ys) (length ys) c.in_ok-into.into in
+    let U : (ℕ → ℕ) → Type 0 = λ f. AreBeside f (length to) c.in_ok-into.into in
+    let V : ℕ → Type 0 = λ n. AreBeside (end_of (zip from to)) n c.in_ok-into.into in
+    record {
+      few = let most = c.args.network.now.few_nodes in omega arith;
+      each = each;
+      same = c.in_ok-into.ensures.count ∙ sym c.in_ok-out.ensures.count;
+      inside = subst P (sym ends) (subst Q (sym nodes) (network_within (length c.args.network.now.nodes) links c.args.network.now.sound));
+      out = subst S (start_is from to each) (subst R read_from c.in_ok-out.ensures.lists);
+      into = subst V each (subst U (end_is from to each) (subst T read_to c.in_ok-into.ensures.lists));
+    }
+
+pub returns : goal.returns
+returns c =
+    let links = c.args.network.now.links in
+    let from : List ℕ = c.in_ok-from.from.items in
+    let to : List ℕ = c.in_ok-to.to.items in
+    let from_is : from ≡ map (λ (l : LinkRow). l.from) links = c.in_ok-from.ensures in
+    let to_is : to ≡ map (λ (l : LinkRow). l.to) links = c.in_ok-to.ensures in
+    let nodes : length c.in_ok-out.out ≡ length c.args.network.now.nodes = c.in_ok-out.ensures.count ∙ c.len-nodes.ensures in
+    let ends : zip from to ≡ ends_of links = ap (λ (xs : List ℕ). zip xs to) from_is ∙ ap
+    (λ (ys : List ℕ). zip (map (λ (l : LinkRow). l.from) links) ys) to_is ∙ zip_ends links in
+    ap (λ (n : ℕ). made n (zip from to)) nodes ∙ ap (λ (es : List (ℕ × ℕ)). made (length c.args.network.now.nodes) es) ends
+  where
+    made : ℕ → List (ℕ × ℕ) → Graph
+    made n es = record { nodes = n; ends = es }

@@ -1,0 +1,21 @@
+use Rattle.std.proofs.Common.{◌≡◌, ℕ, List, length, ap, ◌∙◌}
+use Rattle.travel_times.specs.Times.{LinkProfile}
+use Rattle.router.specs.Graphs.{Graph}
+use Rattle.router.specs.Ways.{Query, least_of, query_on}
+use Rattle.router.proofs.Graphs.{network_within}
+use Rattle.router.proofs.Answering.{is_certificate}
+use Rattle.router.proofs.found.least.Goals as goal
+
+pub returns-clause-certificate : goal.returns-clause-certificate
+returns-clause-certificate c =
+    let network = c.args.network.now in
+    let asked : c.in-Ok-way_to.search ≡ query_on network c.args.times.now c.args.from c.args.second =
+    c.in-Ok-way_to.ensures.same ∙ c.in-Ok-new.ensures ∙ ap (λ (g : Graph). on g c.args.times.now c.args.from c.args.second)
+    c.in-Ok.ensures in
+    is_certificate (query_on network c.args.times.now c.args.from c.args.second) c.in-Ok-finish.labels
+    (network_within (length network.nodes) network.links network.sound) c.requires.from
+      (c.in-Ok-finish.ensures.least ∙ ap (λ (q : Query). least_of q) asked)
+    c.in-Ok-finish.ensures.small
+  where
+    on : Graph → List LinkProfile → ℕ → ℕ → Query
+    on graph times from second = record { graph = graph; times = times; from = from; second = second }

@@ -1,0 +1,10 @@
+use Rattle.std.proofs.Common.{◌≡◌, ℕ, map, length, Vec, Global}
+use Rattle.std.specs.Prelude.{slice_index}
+use Rattle.router.specs.Stars.{AreBeside}
+use Rattle.router.proofs.star.lists_beside.Given as goal
+
+abbrev pub invariant-loop-link : goal.invariant-loop-link
+invariant-loop-link l = record {
+  count : length l.lists.items ≡ l.nodes;
+  lists : AreBeside (slice_index l.beside) l.link (map (λ (list : Vec ℕ Global). list.items) l.lists.items);
+}

@@ -1,0 +1,5 @@
+use Rattle.std.proofs.Common.{◌≡◌, ℕ, [], map, replicate, Vec, Global}
+use Rattle.router.proofs.star.no_lists.Given as goal
+
+abbrev pub invariant-loop : goal.invariant-loop
+invariant-loop l = map (λ (list : Vec ℕ Global). list.items) l.lists.items ≡ replicate l.counter []

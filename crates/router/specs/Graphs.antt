@@ -1,0 +1,29 @@
+-- The nodes and the links that a search goes along.
+use Rattle.std.specs.Prelude.{◌≡◌, ℕ, ◌≤◌, List, length}
+use Rattle.std.specs.List.{zip}
+use Rattle.network.specs.declared.lists.Network.{Network}
+use Rattle.travel_times.specs.Times.{ends_of}
+use Rattle.walks.specs.Walks.{start_of, end_of, AreWithin}
+use Rattle.router.specs.declared.adjacency.Adjacency.TheInside.{Inside}
+use Rattle.router.specs.Stars.{AreBeside}
+
+-- how many nodes there are, and where each link begins and ends
+pub record Graph : Type 0 where
+  pub nodes : ℕ
+  pub ends : List (ℕ × ℕ)
+
+-- the graph of a network
+abbrev pub graph_of : Network → Graph
+graph_of network = record { nodes = length network.nodes; ends = ends_of network.links }
+
+-- the graph that is kept with the links beside each node
+abbrev pub kept_graph : Inside → Graph
+kept_graph adjacency = record { nodes = length adjacency.out; ends = zip adjacency.from.items adjacency.to.items }
+
+pub record IsAdjacency (adjacency : Inside) : Type 0 where
+  pub few : length adjacency.out ≤ 131072
+  pub each : length adjacency.to.items ≡ length adjacency.from.items
+  pub same : length adjacency.into ≡ length adjacency.out
+  pub inside : AreWithin (length adjacency.out) (zip adjacency.from.items adjacency.to.items)
+  pub out : AreBeside (start_of (zip adjacency.from.items adjacency.to.items)) (length adjacency.from.items) adjacency.out
+  pub into : AreBeside (end_of (zip adjacency.from.items adjacency.to.items)) (length adjacency.from.items) adjacency.into

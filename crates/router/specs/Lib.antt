@@ -1,0 +1,5 @@
+pub mod Stars
+pub mod Graphs
+pub mod Frontiers
+pub mod Ways
+pub mod Searches

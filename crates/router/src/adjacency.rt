@@ -1,0 +1,118 @@
+ghost use Rattle.std.specs.Prelude.{◌≡◌, ℕ, ◌^◌, ◌≤◌, ◌<◌, length, map, slice_index_or, slice_index, [], IfOk, All, Contains};
+ghost use Rattle.walks.specs.Walks.{start_of, end_of, AreWithin};
+ghost use Rattle.router.specs.Stars.{AreBeside};
+
+use crate::star::{Star, star_beside};
+use network::Network;
+use rows::LinkList;
+use std::alloc::{AllocError, Global};
+use std::marker::Model;
+
+/// The nodes of a network with the links out of each and into each: made once for a network, and shared by all searches on it.
+#[derive(Debug, Drop)]
+pub struct Adjacency {
+    /// Where each link begins.
+    from: Vec<u32>,
+    /// Where each link ends.
+    to: Vec<u32>,
+    out: Star,
+    into: Star,
+}
+
+impl Model for Adjacency {
+    ghost use Rattle.router.specs.Graphs.{Graph, kept_graph, IsAdjacency};
+
+    ghost Value = { Graph };
+
+    ghost view = { kept_graph };
+
+    ghost invariant = { IsAdjacency };
+}
+
+/// The nodes where the links begin.
+fn starts_of(alloc: Global, links: &LinkList) -> Result<Vec<u32>, AllocError>
+    ensures { IfOk result (λ nodes. nodes.items ≡ map (λ link. link.from) links.now) }
+{
+    links.rows.iter().map(|link| link.from).collect(alloc)
+}
+
+/// The nodes where the links end.
+fn ends_of(alloc: Global, links: &LinkList) -> Result<Vec<u32>, AllocError>
+    ensures { IfOk result (λ nodes. nodes.items ≡ map (λ link. link.to) links.now) }
+{
+    links.rows.iter().map(|link| link.to).collect(alloc)
+}
+
+/// The node beside a link.
+fn node_at(nodes: &[u32], link: u32) -> u32
+    requires { link < length nodes.now }
+    ensures { result ≡ slice_index nodes.now link }
+{
+    nodes[link as usize]
+}
+
+impl Adjacency {
+    ghost use Rattle.router.specs.Graphs.{graph_of};
+
+    /// The nodes of a network with the links beside them.
+    pub fn of(alloc: Global, network: &Network) -> Result<Adjacency, AllocError>
+        ensures { IfOk result (λ adjacency. adjacency ≡ graph_of network.now) }
+    {
+        let from = starts_of(alloc, &network.links)?;
+        let to = ends_of(alloc, &network.links)?;
+        let nodes = network.nodes.len();
+        let out = star_beside(alloc, nodes, &from)?;
+        let into = star_beside(alloc, nodes, &to)?;
+        Ok(Adjacency {
+            from,
+            to,
+            out,
+            into,
+        })
+    }
+
+    /// How many nodes there are.
+    pub fn nodes(&self) -> usize
+        ensures count { result ≡ self.now.nodes }
+        ensures few { self.now.nodes ≤ 131072 }
+        ensures inside { AreWithin self.now.nodes self.now.ends }
+    {
+        self.out.len()
+    }
+
+    /// Where a link begins.
+    pub fn start(&self, link: u32) -> u32
+        requires { link < length self.now.ends }
+        ensures node { result ≡ start_of self.now.ends link }
+        ensures within { result < self.now.nodes }
+    {
+        node_at(&self.from, link)
+    }
+
+    /// Where a link ends.
+    pub fn end(&self, link: u32) -> u32
+        requires { link < length self.now.ends }
+        ensures node { result ≡ end_of self.now.ends link }
+        ensures within { result < self.now.nodes }
+    {
+        node_at(&self.to, link)
+    }
+
+    /// The links that begin at a node.
+    pub fn out_of(&self, node: u32) -> &[u32]
+        requires { node < self.now.nodes }
+        ensures each { All (λ link. (link < length self.now.ends) × (start_of self.now.ends link ≡ node)) result.now }
+        ensures every { (link : ℕ) → link < length self.now.ends → start_of self.now.ends link ≡ node → Contains result.now link }
+    {
+        self.out.links_of(node as usize)
+    }
+
+    /// The links that end at a node.
+    pub fn into(&self, node: u32) -> &[u32]
+        requires { node < self.now.nodes }
+        ensures each { All (λ link. (link < length self.now.ends) × (end_of self.now.ends link ≡ node)) result.now }
+        ensures every { (link : ℕ) → link < length self.now.ends → end_of self.now.ends link ≡ node → Contains result.now link }
+    {
+        self.into.links_of(node as usize)
+    }
+}

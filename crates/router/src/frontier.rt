@@ -1,0 +1,257 @@
+ghost use Rattle.std.specs.Prelude.{
+  ◌≡◌,
+  ℕ,
+  ◌+◌,
+  ◌*◌,
+  ◌^◌,
+  ◌<◌,
+  ◌≤◌,
+  [],
+  List,
+  length,
+  drop,
+  slice_index,
+  replicate,
+  IfOk,
+  OnOk,
+  IfSome,
+  IfNone,
+  Contains,
+  None,
+  Some,
+  IsTrue,
+  ◌↔◌,
+  IsSomeAnd,
+  All,
+};
+ghost use Rattle.std.specs.Bool.{OnTrue, OnFalse};
+ghost use Rattle.std.specs.BinaryHeap.{heap_items, IsHeap};
+ghost use Rattle.travel_times.specs.Times.{arrivals};
+ghost use Rattle.walks.specs.Arrivals.{Arrivals};
+ghost use Rattle.walks.specs.Walks.{Ends, start_of, AreWithin};
+ghost use Rattle.walks.specs.Rounds.{label_at, least_labels};
+ghost use Rattle.walks.specs.Certificates.{AreSmall};
+ghost use Rattle.router.specs.Frontiers.{is_later, IsRelabelled, IsFrontier, GoesOn, IsSettledAt, IsNext, IsDone, entry_cmp, work};
+
+use crate::adjacency::Adjacency;
+use std::alloc::{AllocError, Global};
+use std::cmp::Reverse;
+use std::collections::BinaryHeap;
+use travel_times::LinkTimes;
+
+/// A node that waits for its links to be looked along, by the second of its label.
+#[derive(Clone, Copy, Debug, PartialEq, Eq, PartialOrd, Ord)]
+pub struct Entry {
+    pub second: u64,
+    pub node: u32,
+}
+
+/// How far a search has come.
+#[derive(Drop)]
+pub struct Frontier {
+    pub from: u32,
+    pub second: u64,
+    /// Nodes with a label of at most this second are settled.
+    pub horizon: u64,
+    pub labels: Vec<Option<u64>>,
+    pub queue: BinaryHeap<Reverse<Entry>>,
+}
+
+/// No label for each of so many nodes.
+fn no_labels(alloc: Global, nodes: usize) -> Result<Vec<Option<u64>>, AllocError>
+    ensures { IfOk result (λ labels. labels.items ≡ replicate nodes None) }
+{
+    vec![in alloc; None; nodes]
+}
+
+/// The search from a node in a second, before any link is looked along.
+pub fn start(alloc: Global, nodes: usize, from: u32, second: u64) -> Result<Frontier, AllocError>
+    requires from { from < nodes }
+    requires second { second ≤ 2 ^ 33 }
+    ensures search { IfOk result (λ frontier. (ends : Ends) (arrive : Arrivals) → IsFrontier nodes ends arrive frontier []) }
+    ensures from { IfOk result (λ frontier. frontier.from ≡ from) }
+    ensures second { IfOk result (λ frontier. frontier.second ≡ second) }
+{
+    let mut labels = no_labels(alloc, nodes)?;
+    labels[from as usize] = Some(second);
+    let mut queue = BinaryHeap::new(alloc);
+    queue.push(Reverse(Entry { second, node: from }))?;
+    Ok(Frontier {
+        from,
+        second,
+        horizon: 0,
+        labels,
+        queue,
+    })
+}
+
+/// Whether a label is later than a second, as no label is.
+fn is_later(label: Option<u64>, second: u64) -> bool
+    ensures { result ≡ is_later label second }
+{
+    match label {
+        None => true,
+        Some(reached) => second < reached,
+    }
+}
+
+/// Gives a node an earlier label, with which it waits.
+fn relabel(frontier: &mut Frontier, node: u32, second: u64) -> Result<(), AllocError>
+    requires { node < length frontier.old.labels.items }
+    ensures { OnOk result (IsRelabelled frontier.old frontier.new node second) }
+{
+    frontier.labels[node as usize] = Some(second);
+    frontier.queue.push(Reverse(Entry { second, node }))?;
+    Ok(())
+}
+
+/// Looks along the link at this place, of links that begin at a node with the label `left`.
+fn look(
+    frontier: &mut Frontier,
+    adjacency: &Adjacency,
+    times: &LinkTimes,
+    links: &[u32],
+    place: usize,
+    left: u64,
+) -> Result<(), AllocError>
+    requires place { place < length links.now }
+    requires link { slice_index links.now place < length adjacency.now.ends }
+    requires few { adjacency.now.nodes ≤ 131072 }
+    requires times { length times.now ≡ length adjacency.now.ends }
+    requires search { IsFrontier adjacency.now.nodes adjacency.now.ends (arrivals times.now) frontier.old (drop place links.now) }
+    requires left { label_at frontier.old.labels.items (start_of adjacency.now.ends (slice_index links.now place)) ≡ Some left }
+    requires horizon { frontier.old.horizon ≤ left }
+    ensures search { OnOk result (IsFrontier adjacency.now.nodes adjacency.now.ends (arrivals times.now) frontier.new
+        (drop (place + 1) links.now)) }
+    ensures left { OnOk result ((node : ℕ) → label_at frontier.old.labels.items node ≡ Some left →
+        label_at frontier.new.labels.items node ≡ Some left) }
+    ensures goes_on { OnOk result (GoesOn frontier.old frontier.new × (frontier.new.horizon ≡ frontier.old.horizon) ×
+        (work frontier.new ≤ work frontier.old)) }
+{
+    let link = links[place];
+    let arrival = times.arrive(link, left);
+    let node = adjacency.end(link);
+    if is_later(frontier.labels[node as usize], arrival) {
+        relabel(frontier, node, arrival)?;
+        return Ok(());
+    }
+    Ok(())
+}
+
+/// Looks along all these links, which begin at a node with the label `left`.
+fn look_along(
+    frontier: &mut Frontier,
+    adjacency: &Adjacency,
+    times: &LinkTimes,
+    node: u32,
+    left: u64,
+) -> Result<(), AllocError>
+    requires node { node < adjacency.now.nodes }
+    requires few { adjacency.now.nodes ≤ 131072 }
+    requires times { length times.now ≡ length adjacency.now.ends }
+    requires search { (open_links : List ℕ) → ((link : ℕ) → link < length adjacency.now.ends → start_of adjacency.now.ends link ≡ node →
+        Contains open_links link)
+        → IsFrontier adjacency.now.nodes adjacency.now.ends (arrivals times.now) frontier.old open_links }
+    requires left { label_at frontier.old.labels.items node ≡ Some left }
+    requires horizon { frontier.old.horizon ≤ left }
+    ensures search { OnOk result (IsFrontier adjacency.now.nodes adjacency.now.ends (arrivals times.now) frontier.new []) }
+    ensures goes_on { OnOk result (GoesOn frontier.old frontier.new × (work frontier.new ≤ work frontier.old)) }
+{
+    let links = adjacency.out_of(node);
+    for place in 0..links.len() {
+        look(frontier, adjacency, times, links, place, left)?;
+    }
+    Ok(())
+}
+
+/// The next node whose label stands, and its label. It is settled from now on.
+fn next(frontier: &mut Frontier) -> Option<Entry>
+    requires heap { IsHeap entry_cmp (heap_items frontier.old.queue) }
+    requires there { All (λ entry. entry.0.node < length frontier.old.labels.items) (heap_items frontier.old.queue) }
+    ensures some { IfSome result (λ entry. IsNext frontier.old frontier.new entry) }
+    ensures none { IfNone result (IsDone frontier.old frontier.new) }
+{
+    while let Some(Reverse(entry)) = frontier.queue.pop() {
+        if frontier.labels[entry.node as usize] == Some(entry.second) {
+            frontier.horizon = entry.second;
+            return Some(entry);
+        }
+    }
+    None
+}
+
+/// Settles the next node, and looks along its links; `false` where no node is left to settle.
+fn settle_next(
+    frontier: &mut Frontier,
+    adjacency: &Adjacency,
+    times: &LinkTimes,
+) -> Result<bool, AllocError>
+    requires few { adjacency.now.nodes ≤ 131072 }
+    requires times { length times.now ≡ length adjacency.now.ends }
+    requires search { IsFrontier adjacency.now.nodes adjacency.now.ends (arrivals times.now) frontier.old [] }
+    ensures search { OnOk result (IsFrontier adjacency.now.nodes adjacency.now.ends (arrivals times.now) frontier.new []) }
+    ensures goes_on { OnOk result (GoesOn frontier.old frontier.new) }
+    ensures less { IfOk result (λ more. OnTrue more (work frontier.new < work frontier.old)) }
+    ensures all { IfOk result (λ more. OnFalse more (heap_items frontier.new.queue ≡ [])) }
+{
+    let Some(entry) = next(frontier) else {
+        return Ok(false);
+    };
+    look_along(frontier, adjacency, times, entry.node, entry.second)?;
+    Ok(true)
+}
+
+/// Whether the label of a node is settled.
+fn is_settled(frontier: &Frontier, node: u32) -> bool
+    requires { node < length frontier.now.labels.items }
+    ensures { IsTrue result ↔ IsSomeAnd (label_at frontier.now.labels.items node) (λ label. label ≤ frontier.now.horizon) }
+{
+    match frontier.labels[node as usize] {
+        None => false,
+        Some(label) => label <= frontier.horizon,
+    }
+}
+
+/// Goes on until this node is settled, or no node is left.
+pub fn settle(
+    frontier: &mut Frontier,
+    adjacency: &Adjacency,
+    times: &LinkTimes,
+    node: u32,
+) -> Result<(), AllocError>
+    requires node { node < adjacency.now.nodes }
+    requires from { frontier.old.from < adjacency.now.nodes }
+    requires inside { AreWithin adjacency.now.nodes adjacency.now.ends }
+    requires few { adjacency.now.nodes ≤ 131072 }
+    requires times { length times.now ≡ length adjacency.now.ends }
+    requires search { IsFrontier adjacency.now.nodes adjacency.now.ends (arrivals times.now) frontier.old [] }
+    ensures search { OnOk result (IsFrontier adjacency.now.nodes adjacency.now.ends (arrivals times.now) frontier.new []) }
+    ensures goes_on { OnOk result (GoesOn frontier.old frontier.new) }
+    ensures settled { OnOk result (IsSettledAt adjacency.now.nodes adjacency.now.ends (arrivals times.now) frontier.new node) }
+{
+    while !is_settled(frontier, node) {
+        if !settle_next(frontier, adjacency, times)? {
+            return Ok(());
+        }
+    }
+    Ok(())
+}
+
+/// Goes on until no node is left.
+pub fn settle_all(
+    frontier: &mut Frontier,
+    adjacency: &Adjacency,
+    times: &LinkTimes,
+) -> Result<(), AllocError>
+    requires from { frontier.old.from < adjacency.now.nodes }
+    requires inside { AreWithin adjacency.now.nodes adjacency.now.ends }
+    requires few { adjacency.now.nodes ≤ 131072 }
+    requires times { length times.now ≡ length adjacency.now.ends }
+    requires search { IsFrontier adjacency.now.nodes adjacency.now.ends (arrivals times.now) frontier.old [] }
+    ensures labels { OnOk result (frontier.new.labels.items
+        ≡ least_labels adjacency.now.nodes adjacency.now.ends (arrivals times.now) frontier.old.from frontier.old.second) }
+    ensures small { OnOk result (AreSmall frontier.new.labels.items) }
+{
+    while settle_next(frontier, adjacency, times)? {}
+    Ok(())
+}

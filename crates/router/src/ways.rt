@@ -1,0 +1,114 @@
+ghost use Rattle.std.specs.Prelude.{◌≡◌, ℕ, ◌+◌, ◌^◌, ◌<◌, ◌≤◌, ◌++◌, length, reverse, IfOk, IfSome, IsSome};
+ghost use Rattle.travel_times.specs.Times.{arrivals};
+ghost use Rattle.walks.specs.Rounds.{label_at};
+ghost use Rattle.walks.specs.Certificates.{AreSmall};
+ghost use Rattle.walks.specs.Chosen.{leads, link_before, followed};
+ghost use Rattle.router.specs.Ways.{is_below};
+
+use crate::adjacency::Adjacency;
+use std::alloc::{AllocError, Global};
+use travel_times::LinkTimes;
+use walks::label_of;
+
+/// Whether a link leads to a node: it begins at a labelled node, and the node is reached along it in the second of its label.
+fn is_leading(
+    adjacency: &Adjacency,
+    times: &LinkTimes,
+    labels: &[Option<u64>],
+    node: u32,
+    link: u32,
+) -> bool
+    requires link { link < length adjacency.now.ends }
+    requires times { length times.now ≡ length adjacency.now.ends }
+    requires small { AreSmall labels.now }
+    ensures { result ≡ leads adjacency.now.ends (arrivals times.now) labels.now node link }
+{
+    if adjacency.end(link) != node {
+        return false;
+    }
+    let Some(left) = label_of(labels, adjacency.start(link)) else {
+        return false;
+    };
+    label_of(labels, node) == Some(times.arrive(link, left))
+}
+
+/// The link before a node: of the links that lead there the one of the least number.
+fn link_before(
+    adjacency: &Adjacency,
+    times: &LinkTimes,
+    labels: &[Option<u64>],
+    node: u32,
+) -> Option<u32>
+    requires node { node < adjacency.now.nodes }
+    requires times { length times.now ≡ length adjacency.now.ends }
+    requires small { AreSmall labels.now }
+    ensures { result ≡ link_before adjacency.now.ends (arrivals times.now) labels.now node }
+{
+    let mut least: Option<u32> = None;
+    for &link in adjacency.into(node) {
+        if is_leading(adjacency, times, labels, node, link) && is_below(link, least) {
+            least = Some(link);
+        }
+    }
+    least
+}
+
+/// Whether a link has a lower number than another, or there is no other.
+fn is_below(link: u32, other: Option<u32>) -> bool
+    ensures { result ≡ is_below link other }
+{
+    match other {
+        None => true,
+        Some(number) => link < number,
+    }
+}
+
+/// The links from a node back to the start of a search, the last one first.
+fn links_back(
+    alloc: Global,
+    adjacency: &Adjacency,
+    times: &LinkTimes,
+    labels: &[Option<u64>],
+    from: u32,
+    to: u32,
+) -> Result<Vec<u32>, AllocError>
+    requires to { to < adjacency.now.nodes }
+    requires times { length times.now ≡ length adjacency.now.ends }
+    requires labels { length labels.now ≡ adjacency.now.nodes }
+    requires small { AreSmall labels.now }
+    requires label { IsSome (label_at labels.now to) }
+    ensures { IfOk result (λ links. followed adjacency.now.ends (arrivals times.now) labels.now from adjacency.now.nodes to
+        ≡ reverse links.items) }
+{
+    let mut links = Vec::new(alloc);
+    let mut node = to;
+    while node != from {
+        let Some(link) = link_before(adjacency, times, labels, node) else {
+            return Ok(links);
+        };
+        links.push(link)?;
+        node = adjacency.start(link);
+    }
+    Ok(links)
+}
+
+/// The links from the start of a search to a node, followed back by the labels.
+pub fn followed_back(
+    alloc: Global,
+    adjacency: &Adjacency,
+    times: &LinkTimes,
+    labels: &[Option<u64>],
+    from: u32,
+    to: u32,
+) -> Result<Vec<u32>, AllocError>
+    requires to { to < adjacency.now.nodes }
+    requires times { length times.now ≡ length adjacency.now.ends }
+    requires labels { length labels.now ≡ adjacency.now.nodes }
+    requires small { AreSmall labels.now }
+    requires label { IsSome (label_at labels.now to) }
+    ensures { IfOk result (λ links. links.items ≡ followed adjacency.now.ends (arrivals times.now) labels.now from adjacency.now.nodes to) }
+{
+    let mut links = links_back(alloc, adjacency, times, labels, from, to)?;
+    links.reverse();
+    Ok(links)
+}

@@ -1,15 +1,16 @@
 -- The ends of a link that was read.
 use Rattle.std.proofs.Common.{◌≡◌, ℕ, ◌<◌, List, length, Option, sym, ◌∙◌, ap, subst, arith}
 use Rattle.std.specs.Prelude.{slice_index_or}
-use Rattle.std.proofs.lemmas.List.{get_or-map, length-map}
+use Rattle.std.proofs.lemmas.List.{get_or-map}
 use Rattle.rows.specs.declared.network.LinkRow.{LinkRow}
-use Rattle.travel_times.specs.Times.{ends_of}
+use Rattle.rows.specs.Joined.{ends_of}
+use Rattle.travel_times.proofs.Networks.{length-ends_of}
 use Rattle.walks.specs.Arrivals.{Arrivals}
 use Rattle.walks.specs.Certificates.{IsInTime, IsKept}
 
 pub is_link : (links rows : List LinkRow) (number : ℕ) → rows ≡ links → number < length rows → number < length (ends_of links)
 is_link links rows number same within =
-    let count : length (ends_of links) ≡ length links = length-map links (λ (l : LinkRow). (l.from, l.to)) in
+    let count = length-ends_of links in
     let rows_count = ap (λ (ls : List LinkRow). length ls) same in
     omega arith
 
@@ -19,6 +20,7 @@ module _ (links rows : List LinkRow) (arrive : Arrivals) (labels : List (Option 
   link = slice_index_or rows number default
 
   ends_at : slice_index_or (ends_of links) number (0, 0) ≡ (link.from, link.to)
+  unfolding ends_of
   ends_at =
       get_or-map (λ (l : LinkRow). (l.from, l.to)) links number default (0, 0)
       (let rows_count = ap (λ (ls : List LinkRow). length ls) same in omega arith)

@@ -2,7 +2,8 @@
 #![tactic(auto)]
 
 ghost use Rattle.std.specs.Prelude.{◌≡◌, ℕ, ◌^◌, ◌<◌, ◌≤◌, ◌↔◌, List, length, IsTrue, Some, IfSome};
-ghost use Rattle.travel_times.specs.Times.{arrivals, ends_of};
+ghost use Rattle.travel_times.specs.Times.{arrivals};
+ghost use Rattle.rows.specs.Joined.{ends_of};
 ghost use Rattle.walks.specs.Walks.{IsWalk, arrival};
 ghost use Rattle.walks.specs.Rounds.{label_at};
 ghost use Rattle.walks.specs.Certificates.{IsInTime, IsKept, AreSmall, IsCertificate};

@@ -11,7 +11,7 @@ use Rattle.std.proofs.lemmas.List.Sums.{AllPass-from_list_all}
 use Rattle.std.proofs.lemmas.Slice.Zip.{length-zip, get_or-zip}
 use Rattle.rows.specs.declared.network.LinkRow.{LinkRow}
 use Rattle.network.specs.Limits.{is_link, are_measures}
-use Rattle.travel_times.specs.Times.{ends_of}
+use Rattle.rows.specs.Joined.{ends_of}
 use Rattle.walks.specs.Walks.{start_of, end_of, AreWithin}
 use Rattle.router.specs.declared.adjacency.Adjacency.TheInside.{Inside}
 use Rattle.router.specs.Graphs.{Graph, kept_graph, IsAdjacency}
@@ -35,6 +35,7 @@ end_is xs ys same = fun_ext (λ k. sym (ap (λ (p : ℕ × ℕ). p.1) (pair_at x
 
 -- the ends of links that were read one side after the other
 pub zip_ends : (links : List LinkRow) → zip (map (λ (l : LinkRow). l.from) links) (map (λ (l : LinkRow). l.to) links) ≡ ends_of links
+unfolding ends_of
 zip_ends [] = refl
 zip_ends (link ∷ links) = ap (λ (ends : List (ℕ × ℕ)). (link.from, link.to) ∷ ends) (zip_ends links)
 
@@ -43,6 +44,7 @@ unfolding is_link are_measures
 ends_within nodes link sound = (grind (arith, nat_tests), grind (arith, nat_tests))
 
 pub network_within : (nodes : ℕ) (links : List LinkRow) → list_all (is_link nodes) links ≡ true → AreWithin nodes (ends_of links)
+unfolding ends_of
 network_within nodes links sound =
     All-map (λ (p : ℕ × ℕ). (p.0 < nodes) × (p.1 < nodes)) (λ (l : LinkRow). (l.from, l.to)) links
     (λ k d within. ends_within nodes (slice_index_or links k d) (AllPass-from_list_all (is_link nodes) links sound k d within))

@@ -1,6 +1,38 @@
 -- A search: its start, a link looked along, a node settled, and what stands where it stops.
-use Rattle.std.proofs.Common.{◌≡◌, ℕ, zero, suc, ◌+◌, ◌*◌, ◌^◌, ◌<◌, ◌≤◌, max, Bool, true, false, cond, List, [], ◌∷◌, length, drop,
-  replicate, Option, None, Some, ◌⊎◌, inl, inr, refl, sym, ◌∙◌, ap, subst, arith}
+use Rattle.std.proofs.Common.{
+  ◌≡◌,
+  ℕ,
+  zero,
+  suc,
+  ◌+◌,
+  ◌*◌,
+  ◌^◌,
+  ◌<◌,
+  ◌≤◌,
+  max,
+  Bool,
+  true,
+  false,
+  cond,
+  List,
+  [],
+  ◌∷◌,
+  length,
+  drop,
+  replicate,
+  Option,
+  None,
+  Some,
+  ◌⊎◌,
+  inl,
+  inr,
+  refl,
+  sym,
+  ◌∙◌,
+  ap,
+  subst,
+  arith,
+}
 use Rattle.std.specs.Prelude.{nat_lt, nat_eq, sum_by, slice_index_or, slice_set, All, Contains}
 use Rattle.std.specs.List.Sorted.{IsPermutation}
 use Rattle.std.specs.BinaryHeap.{heap_items, IsHeap, IsUpperBound}
@@ -33,8 +65,19 @@ use Rattle.walks.proofs.Least.{reached_more}
 use Rattle.walks.proofs.Settled.{IsSettledTo, settled_is_least, same_followed, kept_are_least}
 use Rattle.router.specs.declared.frontier.Entry.{Entry}
 use Rattle.router.specs.declared.frontier.Frontier.{Frontier}
-use Rattle.router.specs.Frontiers.{queued, is_later, IsSearch, IsFrontier, entry_cmp, weight, work, IsRelabelled, IsNext, IsDone,
-  IsSettledAt}
+use Rattle.router.specs.Frontiers.{
+  queued,
+  is_later,
+  IsSearch,
+  IsFrontier,
+  entry_cmp,
+  weight,
+  work,
+  IsRelabelled,
+  IsNext,
+  IsDone,
+  IsSettledAt,
+}
 
 abbrev pub Queue : Type 0
 Queue = List (Reverse Entry)

@@ -2,7 +2,7 @@
 use Rattle.std.specs.Prelude.{◌≡◌, ℕ, ◌≤◌, List, length}
 use Rattle.std.specs.List.{zip}
 use Rattle.network.specs.declared.lists.Network.{Network}
-use Rattle.travel_times.specs.Times.{ends_of}
+use Rattle.rows.specs.Joined.{ends_of}
 use Rattle.walks.specs.Walks.{start_of, end_of, AreWithin}
 use Rattle.router.specs.declared.adjacency.Adjacency.TheInside.{Inside}
 use Rattle.router.specs.Stars.{AreBeside}

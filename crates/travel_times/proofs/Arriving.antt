@@ -1,5 +1,31 @@
 -- When the end of a link is reached: nobody who enters later is there earlier.
-use Rattle.std.proofs.Common.{◌≡◌, ℕ, zero, suc, ◌+◌, ◌-◌, ◌*◌, ◌/◌, ◌<◌, ◌≤◌, max, List, [], ◌∷◌, ◌++◌, length, map, fold, inl, inr, refl, sym, ◌∙◌, ap, arith}
+use Rattle.std.proofs.Common.{
+  ◌≡◌,
+  ℕ,
+  zero,
+  suc,
+  ◌+◌,
+  ◌-◌,
+  ◌*◌,
+  ◌/◌,
+  ◌<◌,
+  ◌≤◌,
+  max,
+  List,
+  [],
+  ◌∷◌,
+  ◌++◌,
+  length,
+  map,
+  fold,
+  inl,
+  inr,
+  refl,
+  sym,
+  ◌∙◌,
+  ap,
+  arith,
+}
 use Rattle.std.specs.List.{range_with_len}
 use Rattle.std.proofs.lemmas.Bool.{cases_lt, cases_eq}
 use Rattle.std.specs.Prelude.{slice_index_or}
@@ -35,7 +61,8 @@ held_more time bin =
     ∙ fold_push max 0 (map f (range_with_len 0 bin)) (f bin)
 
 -- the arrival is the own one, or that of those who are held
-pub arrival_is : (time : ℕ → ℕ) (second : ℕ) → arrival_by time second ≡ max (second + time (second / BIN_SECONDS)) (held time (second / BIN_SECONDS))
+pub arrival_is : (time : ℕ → ℕ) (second : ℕ) → arrival_by time second
+    ≡ max (second + time (second / BIN_SECONDS)) (held time (second / BIN_SECONDS))
 unfolding arrival_by held
 arrival_is time second =
     let own : ℕ = second + time (second / BIN_SECONDS) in
@@ -111,7 +138,9 @@ arrivals_are_fifo times = record {
 }
 
 -- the arrival by a profile that was read is that of its link
-pub read_arrival : (times : List LinkProfile) (link second reached : ℕ) (profile : LinkProfile) → link < length times → profile ≡ slice_index_or times link profile
+pub read_arrival : (times : List LinkProfile) (link second reached : ℕ) (profile : LinkProfile) → link < length times → profile
+    ≡ slice_index_or times link profile
     → reached ≡ arrival_by (time_in profile) second → reached ≡ arrivals times link second
 read_arrival times link second reached profile within read is =
-    is ∙ ap (λ (p : LinkProfile). arrival_by (time_in p) second) (get_or_read times link profile within read (record { free = 1; times = [] }))
+    is ∙ ap (λ (p : LinkProfile). arrival_by (time_in p) second)
+    (get_or_read times link profile within read (record { free = 1; times = [] }))

@@ -1,5 +1,32 @@
 -- What a profile says of the second of arrival.
-use Rattle.std.proofs.Common.{◌≡◌, ℕ, zero, suc, ◌+◌, ◌-◌, ◌*◌, ◌/◌, ◌^◌, ◌<◌, ◌≤◌, max, min, List, [], ◌∷◌, length, map, get_or, inl, inr, refl, sym, ◌∙◌, ap, arith}
+use Rattle.std.proofs.Common.{
+  ◌≡◌,
+  ℕ,
+  zero,
+  suc,
+  ◌+◌,
+  ◌-◌,
+  ◌*◌,
+  ◌/◌,
+  ◌^◌,
+  ◌<◌,
+  ◌≤◌,
+  max,
+  min,
+  List,
+  [],
+  ◌∷◌,
+  length,
+  map,
+  get_or,
+  inl,
+  inr,
+  refl,
+  sym,
+  ◌∙◌,
+  ap,
+  arith,
+}
 use Rattle.std.specs.Prelude.{slice_index_or}
 use Rattle.std.proofs.lemmas.Bool.{cases_lt, cases_eq}
 use Rattle.std.proofs.lemmas.List.{get_or_past, get_or-map, get_or_read, length-map}
@@ -13,7 +40,8 @@ use Rattle.travel_times.proofs.Arriving.{held, held_none, held_more, held_in_ord
 -- the time of a bin that is there, and of one that is not
 time_of_bin : (p : Inside) (k : ℕ) → IsProfile p → k < length p.bins.items → time_in (profile_of p) k ≡ (bin_at p k).time
 time_of_bin p k kept within =
-    let at : slice_index_or (profile_of p).times k p.free ≡ (bin_at p k).time = get_or-map (λ (b : Bin). b.time) p.bins.items k (record { time = 1; hold = 0 }) p.free within in
+    let at : slice_index_or (profile_of p).times k p.free ≡ (bin_at p k).time =
+    get_or-map (λ (b : Bin). b.time) p.bins.items k (record { time = 1; hold = 0 }) p.free within in
     let least = kept.each k in
     grind arith
 
@@ -29,7 +57,8 @@ free_past p k kept past =
     ]
 
 -- the latest arrival of those in earlier bins, but not before the bin starts
-hold_is : (p : Inside) (k : ℕ) → IsProfile p → k < length p.bins.items → (bin_at p k).hold ≡ held (time_in (profile_of p)) k - BIN_SECONDS * k
+hold_is : (p : Inside) (k : ℕ) → IsProfile p → k < length p.bins.items → (bin_at p k).hold
+    ≡ held (time_in (profile_of p)) k - BIN_SECONDS * k
 hold_is p zero kept within = let none = held_none (time_in (profile_of p)) in let first = kept.first within in omega arith
 hold_is p (suc k) kept within =
     let before = hold_is p k kept (omega arith) in
@@ -37,14 +66,17 @@ hold_is p (suc k) kept within =
     let more = held_more (time_in (profile_of p)) k in
     let same = time_of_bin p k kept (omega arith) in
     let least = kept.each k in
-    step (held (time_in (profile_of p)) k) (held (time_in (profile_of p)) (suc k)) (bin_at p k).hold (bin_at p (suc k)).hold (bin_at p k).time k before next
+    step (held (time_in (profile_of p)) k) (held (time_in (profile_of p)) (suc k)) (bin_at p k).hold (bin_at p (suc k)).hold
+    (bin_at p k).time k before next
     (more ∙ ap (λ (t : ℕ). max (held (time_in (profile_of p)) k) (last_second k + t)) same) least
   where
-    step : (h h' x y t k : ℕ) → x ≡ h - BIN_SECONDS * k → y ≡ max (x - BIN_SECONDS) (t - 1) → h' ≡ max h (last_second k + t) → 1 ≤ t → y ≡ h' - BIN_SECONDS * suc k
+    step : (h h' x y t k : ℕ) → x ≡ h - BIN_SECONDS * k → y ≡ max (x - BIN_SECONDS) (t - 1) → h' ≡ max h (last_second k + t) → 1 ≤ t → y
+        ≡ h' - BIN_SECONDS * suc k
     step h h' x y t k before next more least = grind arith
 
 -- where all bins from one on take as long, later ones hold nobody else
-held_free : (time : ℕ → ℕ) (free low more : ℕ) → ((bin : ℕ) → low ≤ bin → time bin ≡ free) → held time (more + low) ≤ max (held time low) (BIN_SECONDS * (more + low) - 1 + free)
+held_free : (time : ℕ → ℕ) (free low more : ℕ) → ((bin : ℕ) → low ≤ bin → time bin ≡ free) →
+    held time (more + low) ≤ max (held time low) (BIN_SECONDS * (more + low) - 1 + free)
 held_free time free low zero same = let at = ap (held time) (at_zero low) in grind arith
   where
     at_zero : (n : ℕ) → 0 + n ≡ n
@@ -69,22 +101,26 @@ arrival_free time free low second least same past =
     let up = held_in_order time low bin past in
     let back : bin - low + low ≡ bin = omega arith in
     let most : held time bin ≤ max (held time low) (BIN_SECONDS * bin - 1 + free) =
-    let h = held_free time free low (bin - low) same in let at = ap (held time) back in let start = ap (λ (n : ℕ). BIN_SECONDS * n - 1 + free) back in grind arith in
+    let h = held_free time free low (bin - low) same in let at = ap (held time) back in let start =
+    ap (λ (n : ℕ). BIN_SECONDS * n - 1 + free) back in grind arith in
     let within : BIN_SECONDS * bin ≤ second = omega arith in
     grind arith
 
-pub arrival_known : (time : ℕ → ℕ) (second : ℕ) → arrival_by time second ≡ max (second + time (second / BIN_SECONDS)) (held time (second / BIN_SECONDS))
+pub arrival_known : (time : ℕ → ℕ) (second : ℕ) → arrival_by time second
+    ≡ max (second + time (second / BIN_SECONDS)) (held time (second / BIN_SECONDS))
 arrival_known time second = arrival_is time second
 
 -- what a profile with no bins gives
-pub free_is : (p : Inside) (second : ℕ) → IsProfile p → length p.bins.items ≡ 0 → second + p.free ≡ arrival_by (time_in (profile_of p)) second
+pub free_is : (p : Inside) (second : ℕ) → IsProfile p → length p.bins.items ≡ 0 → second + p.free
+    ≡ arrival_by (time_in (profile_of p)) second
 free_is p second kept none =
     let is = arrival_free (time_in (profile_of p)) p.free 0 second kept.least (λ bin _. free_past p bin kept (omega arith)) (omega arith) in
     let nobody = held_none (time_in (profile_of p)) in
     omega arith
 
 -- what a profile gives by the bin of a second, or by its last one
-pub binned_is : (p : Inside) (second last place : ℕ) → IsProfile p → suc last ≡ length p.bins.items → place ≡ min (second / BIN_SECONDS) last
+pub binned_is : (p : Inside) (second last place : ℕ) → IsProfile p → suc last ≡ length p.bins.items → place
+    ≡ min (second / BIN_SECONDS) last
     → max (second + (bin_at p place).time) (place * BIN_SECONDS + (bin_at p place).hold) ≡ arrival_by (time_in (profile_of p)) second
 binned_is p second last place kept count at =
     let time : ℕ → ℕ = time_in (profile_of p) in
@@ -97,24 +133,30 @@ binned_is p second last place kept count at =
           let same : place ≡ last = omega arith in
           let is = arrival_free time p.free place second kept.least (λ bin later. free_past p bin kept (omega arith)) (omega arith) in
           let free = kept.last place (omega arith) in
-          joined second (bin_at p place).time p.free place (bin_at p place).hold (held time place) (arrival_by time second) start free hold is
+          joined second (bin_at p place).time p.free place (bin_at p place).hold (held time place)
+          (arrival_by time second) start free hold is
       | inr known ↦
           let same : second / BIN_SECONDS ≡ place = omega arith in
           let is = arrival_is time second ∙ ap (λ (b : ℕ). max (second + time b) (held time b)) same in
-          joined second (bin_at p place).time (time place) place (bin_at p place).hold (held time place) (arrival_by time second) start (sym took) hold is
+          joined second (bin_at p place).time (time place) place (bin_at p place).hold (held time place) (arrival_by time second) start
+          (sym took) hold is
     ]
   where
-    joined : (second t u place hold h a : ℕ) → place * BIN_SECONDS ≤ second → t ≡ u → hold ≡ h - BIN_SECONDS * place → a ≡ max (second + u) h
+    joined : (second t u place hold h a : ℕ) → place * BIN_SECONDS ≤ second → t ≡ u → hold ≡ h - BIN_SECONDS * place → a
+        ≡ max (second + u) h
         → max (second + t) (place * BIN_SECONDS + hold) ≡ a
     joined second t u place hold h a start same is arrived = grind arith
 
 -- the same of a bin that was read
-pub binned_read : (p : Inside) (second last place time hold reached : ℕ) (bin : Bin) → IsProfile p → suc last ≡ length p.bins.items → place ≡ min (second / BIN_SECONDS) last
-    → bin ≡ slice_index_or p.bins.items place bin → time ≡ bin.time → hold ≡ bin.hold → reached ≡ max (second + time) (place * BIN_SECONDS + hold)
+pub binned_read : (p : Inside) (second last place time hold reached : ℕ) (bin : Bin) → IsProfile p → suc last ≡ length p.bins.items →
+    place ≡ min (second / BIN_SECONDS) last
+    → bin ≡ slice_index_or p.bins.items place bin → time ≡ bin.time → hold ≡ bin.hold → reached
+    ≡ max (second + time) (place * BIN_SECONDS + hold)
     → reached ≡ arrival_by (time_in (profile_of p)) second
 binned_read p second last place time hold reached bin kept count at read time_is hold_is' is =
     let there : bin ≡ bin_at p place = get_or_read p.bins.items place bin (omega arith) read (record { time = 1; hold = 0 }) in
     let time_there : time ≡ (bin_at p place).time = time_is ∙ ap (λ (b : Bin). b.time) there in
     let hold_there : hold ≡ (bin_at p place).hold = hold_is' ∙ ap (λ (b : Bin). b.hold) there in
     is ∙ ap (λ (n : ℕ). max (second + n) (place * BIN_SECONDS + hold)) time_there
-    ∙ ap (λ (n : ℕ). max (second + (bin_at p place).time) (place * BIN_SECONDS + n)) hold_there ∙ binned_is p second last place kept count at
+    ∙ ap (λ (n : ℕ). max (second + (bin_at p place).time) (place * BIN_SECONDS + n)) hold_there ∙ binned_is p second last place kept
+    count at

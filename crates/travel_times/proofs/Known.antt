@@ -1,5 +1,38 @@
 -- What is known of the cars after one event more.
-use Rattle.std.proofs.Common.{◌≡◌, ℕ, zero, suc, ◌+◌, ◌-◌, ◌^◌, ◌<◌, ◌≤◌, Bool, true, false, cond, List, [], ◌∷◌, ◌++◌, length, get_or, take, Option, None, Some, ◌⊎◌, inl, inr, refl, sym, ◌∙◌, ap, subst, arith}
+use Rattle.std.proofs.Common.{
+  ◌≡◌,
+  ℕ,
+  zero,
+  suc,
+  ◌+◌,
+  ◌-◌,
+  ◌^◌,
+  ◌<◌,
+  ◌≤◌,
+  Bool,
+  true,
+  false,
+  cond,
+  List,
+  [],
+  ◌∷◌,
+  ◌++◌,
+  length,
+  get_or,
+  take,
+  Option,
+  None,
+  Some,
+  ◌⊎◌,
+  inl,
+  inr,
+  refl,
+  sym,
+  ◌∙◌,
+  ap,
+  subst,
+  arith,
+}
 use Rattle.std.specs.Prelude.{nat_eq, sum, sum_by, slice_index_or, IfSome}
 use Rattle.std.specs.List.{cons_option}
 use Rattle.std.specs.Option.{option_map_or}
@@ -11,10 +44,22 @@ use Rattle.travel_times.specs.declared.tallies.Tally.{Tally}
 use Rattle.travel_times.specs.declared.observations.Entry.{Entry}
 use Rattle.travel_times.specs.Observed.{AreInOrder, AreOnLinks, car_of, tells_of, observed_from, observed}
 use Rattle.travel_times.specs.Tallies.{no_tally, with_stay, row_at, tally_at, HasRows, entry_of, ended_stay, EndsStay, entry_after, IsKnown}
-use Rattle.travel_times.proofs.Stays.{entry_other, entry_own, tells_same, tells_none, weight, total, total_car, observed_other, entered_by, entry_tells}
+use Rattle.travel_times.proofs.Stays.{
+  entry_other,
+  entry_own,
+  tells_same,
+  tells_none,
+  weight,
+  total,
+  total_car,
+  observed_other,
+  entered_by,
+  entry_tells,
+}
 
 -- before the first event nothing is known
-pub known_none : (links : ℕ) (rows : List (List Tally)) (entries : List (Option Entry)) → rows ≡ [] → entries ≡ [] → IsKnown links [] rows entries
+pub known_none : (links : ℕ) (rows : List (List Tally)) (entries : List (Option Entry)) → rows ≡ [] → entries ≡ [] →
+    IsKnown links [] rows entries
 unfolding entry_after observed
 known_none links rows entries no_rows no_entries =
     let P : List (List Tally) → Type 0 = λ rs. IsKnown links [] rs entries in
@@ -27,15 +72,18 @@ known_none links rows entries no_rows no_entries =
     }))
 
 -- nor does an event of no car tell anything
-pub known_other : (links place : ℕ) (events : List Event) (rows : List (List Tally)) (entries : List (Option Entry)) (d : Event) → place < length events
-    → car_of (slice_index_or events place d).vehicle ≡ None → IsKnown links (take place events) rows entries → IsKnown links (take (place + 1) events) rows entries
+pub known_other : (links place : ℕ) (events : List Event) (rows : List (List Tally)) (entries : List (Option Entry)) (d : Event) →
+    place < length events
+    → car_of (slice_index_or events place d).vehicle ≡ None → IsKnown links (take place events) rows entries →
+    IsKnown links (take (place + 1) events) rows entries
 known_other links place events rows entries d within told known =
     let x : Event = slice_index_or events place d in
     let P : List Event → Type 0 = λ es. IsKnown links es rows entries in
     subst P (sym (take_more events place d within)) (record {
       rows_kept = known.rows_kept;
       cars = λ link bin. known.cars link bin ∙ ap (λ (xs : List ℕ). length xs) (sym (observed_other link bin (take place events) x told));
-      seconds = λ link bin. known.seconds link bin ∙ ap (λ (xs : List ℕ). sum xs) (sym (observed_other link bin (take place events) x told));
+      seconds = λ link bin. known.seconds link bin ∙ ap (λ (xs : List ℕ). sum xs)
+          (sym (observed_other link bin (take place events) x told));
       entered = λ car. known.entered car ∙ sym (entry_other car (take place events) x (tells_none car x told));
     })
 
@@ -44,16 +92,19 @@ count_is [] = refl
 count_is (x ∷ xs) = let rest = count_is xs in let first = sum_by-cons (λ (_ : ℕ). 1) x xs in omega arith
 
 -- what the stay that ends adds to a tally
-cars_more : (tally : Tally) (o : Option ℕ) → (option_map_or (λ seconds. with_stay tally seconds) o tally).cars ≡ tally.cars + weight (λ _. 1) o
+cars_more : (tally : Tally) (o : Option ℕ) → (option_map_or (λ seconds. with_stay tally seconds) o tally).cars
+    ≡ tally.cars + weight (λ _. 1) o
 cars_more tally None = omega arith
 cars_more tally (Some seconds) = refl
 
-seconds_more : (tally : Tally) (o : Option ℕ) → (option_map_or (λ seconds. with_stay tally seconds) o tally).seconds ≡ tally.seconds + weight (λ s. s) o
+seconds_more : (tally : Tally) (o : Option ℕ) → (option_map_or (λ seconds. with_stay tally seconds) o tally).seconds
+    ≡ tally.seconds + weight (λ s. s) o
 seconds_more tally None = omega arith
 seconds_more tally (Some seconds) = refl
 
 cars_seen : (link bin c : ℕ) (events : List Event) (x : Event) → car_of x.vehicle ≡ Some c
-    → length (observed link bin (events ++ x ∷ [])) ≡ length (observed link bin events) + weight (λ _. 1) (ended_stay link bin (entry_after c events) x)
+    → length (observed link bin (events ++ x ∷ [])) ≡ length (observed link bin events) + weight (λ _. 1)
+    (ended_stay link bin (entry_after c events) x)
 unfolding total
 cars_seen link bin c events x told =
     let more = total_car (λ _. 1) link bin c events x told in
@@ -62,14 +113,17 @@ cars_seen link bin c events x told =
     omega arith
 
 seconds_seen : (link bin c : ℕ) (events : List Event) (x : Event) → car_of x.vehicle ≡ Some c
-    → sum (observed link bin (events ++ x ∷ [])) ≡ sum (observed link bin events) + weight (λ s. s) (ended_stay link bin (entry_after c events) x)
+    → sum (observed link bin (events ++ x ∷ [])) ≡ sum (observed link bin events) + weight (λ s. s)
+    (ended_stay link bin (entry_after c events) x)
 unfolding total
 seconds_seen link bin c events x told = total_car (λ s. s) link bin c events x told
 
 -- an event of a car ends its stay, where it is on a link, and tells where it is now
-pub known_car : (links place c : ℕ) (events : List Event) (rows new_rows : List (List Tally)) (entries new_entries : List (Option Entry)) (entry now : Option Entry) (d : Event) → place < length events
+pub known_car : (links place c : ℕ) (events : List Event) (rows new_rows : List (List Tally)) (entries new_entries : List (Option Entry))
+    (entry now : Option Entry) (d : Event) → place < length events
     → car_of (slice_index_or events place d).vehicle ≡ Some c → IsKnown links (take place events) rows entries → HasRows links new_rows
-    → entry ≡ entry_after c (take place events) → EndsStay (slice_index_or events place d) entry rows new_rows → now ≡ entry_of (slice_index_or events place d)
+    → entry ≡ entry_after c (take place events) → EndsStay (slice_index_or events place d) entry rows new_rows → now
+    ≡ entry_of (slice_index_or events place d)
     → ((other : ℕ) → slice_index_or new_entries other None ≡ cond (nat_eq other c) now (slice_index_or entries other None))
     → IsKnown links (take (place + 1) events) new_rows new_entries
 known_car links place c events rows new_rows entries new_entries entry now d within told known kept on_link ends_entry tells set =
@@ -82,15 +136,20 @@ known_car links place c events rows new_rows entries new_entries entry now d wit
       rows_kept = kept;
       cars = λ link bin.
           ap (λ (t : Tally). t.cars) (ends link bin) ∙ cars_more (tally_at rows link bin) (ended_stay link bin (entry_after c before) x)
-          ∙ ap (λ (n : ℕ). n + weight (λ _. 1) (ended_stay link bin (entry_after c before) x)) (known.cars link bin) ∙ sym (cars_seen link bin c before x told);
+          ∙ ap (λ (n : ℕ). n + weight (λ _. 1) (ended_stay link bin (entry_after c before) x)) (known.cars link bin) ∙ sym
+          (cars_seen link bin c before x told);
       seconds = λ link bin.
-          ap (λ (t : Tally). t.seconds) (ends link bin) ∙ seconds_more (tally_at rows link bin) (ended_stay link bin (entry_after c before) x)
-          ∙ ap (λ (n : ℕ). n + weight (λ s. s) (ended_stay link bin (entry_after c before) x)) (known.seconds link bin) ∙ sym (seconds_seen link bin c before x told);
-      entered = λ car. set car ∙ ap (λ (o : Option Entry). cond (nat_eq car c) o (slice_index_or entries car None)) tells ∙ placed car (cases_eq car c);
+          ap (λ (t : Tally). t.seconds) (ends link bin) ∙ seconds_more (tally_at rows link bin)
+          (ended_stay link bin (entry_after c before) x)
+          ∙ ap (λ (n : ℕ). n + weight (λ s. s) (ended_stay link bin (entry_after c before) x)) (known.seconds link bin) ∙ sym
+          (seconds_seen link bin c before x told);
+      entered = λ car. set car ∙ ap (λ (o : Option Entry). cond (nat_eq car c) o (slice_index_or entries car None)) tells ∙ placed car
+          (cases_eq car c);
     })
   where
     placed : (car : ℕ) → (car ≡ c) ⊎ (car ≡ c → ⊥)
-        → cond (nat_eq car c) (entry_of (slice_index_or events place d)) (slice_index_or entries car None) ≡ entry_after car (take place events ++ slice_index_or events place d ∷ [])
+        → cond (nat_eq car c) (entry_of (slice_index_or events place d)) (slice_index_or entries car None)
+        ≡ entry_after car (take place events ++ slice_index_or events place d ∷ [])
     placed car (inl same) =
         let x : Event = slice_index_or events place d in
         ap (λ (b : Bool). cond b (entry_of x) (slice_index_or entries car None)) (eq-eqb car c same)
@@ -101,17 +160,21 @@ known_car links place c events rows new_rows entries new_entries entry now d wit
         ∙ sym (entry_other car (take place events) x (tells_same car c x told ∙ ne_eqb c car (λ same. apart (sym same))))
 
 -- a car that is on a link is on one of them, and entered it by now
-pub on_a_link : (links place car : ℕ) (events : List Event) (entry : Option Entry) (d : Event) → place < length events → AreInOrder events → AreOnLinks links events
-    → entry ≡ entry_after car (take place events) → IfSome entry (λ e. (e.link < links) × (e.second ≤ (slice_index_or events place d).key.second))
+pub on_a_link : (links place car : ℕ) (events : List Event) (entry : Option Entry) (d : Event) → place < length events →
+    AreInOrder events → AreOnLinks links events
+    → entry ≡ entry_after car (take place events) → IfSome entry
+    (λ e. (e.link < links) × (e.second ≤ (slice_index_or events place d).key.second))
 on_a_link links place car events entry d within order on_links is = by_entry entry is
   where
-    by_entry : (o : Option Entry) → o ≡ entry_after car (take place events) → IfSome o (λ e. (e.link < links) × (e.second ≤ (slice_index_or events place d).key.second))
+    by_entry : (o : Option Entry) → o ≡ entry_after car (take place events) →
+        IfSome o (λ e. (e.link < links) × (e.second ≤ (slice_index_or events place d).key.second))
     by_entry None same = tt
     by_entry (Some e) same =
         let found = entered_by car (take place events) e (sym same) in
         let short : length (take place events) ≡ place = length-take-le place events (omega arith) in
         let before : found.0 < place = let h = found.1 in omega arith in
-        let there : slice_index_or (take place events) found.0 d ≡ slice_index_or events found.0 d = get_or-take place events found.0 d before in
+        let there : slice_index_or (take place events) found.0 d ≡ slice_index_or events found.0 d =
+        get_or-take place events found.0 d before in
         let tells = entry_tells (slice_index_or events found.0 d) e (ap entry_of (sym there) ∙ found.2 d) in
         let in_order = order found.0 place d before within in
         let second = tells.1 in
@@ -122,14 +185,16 @@ on_a_link links place car events entry d within order on_links is = by_entry ent
 observed_few : (link bin : ℕ) (events : List Event) → length (observed link bin events) ≤ length events
 unfolding observed
 observed_few link bin [] = omega arith
-observed_few link bin (y ∷ ys) = let rest = observed_few link bin ys in one_more (observed_from link bin y ys) (observed link bin ys) (length ys) rest
+observed_few link bin (y ∷ ys) = let rest = observed_few link bin ys in one_more (observed_from link bin y ys) (observed link bin ys)
+    (length ys) rest
   where
     one_more : (o : Option ℕ) (xs : List ℕ) (n : ℕ) → length xs ≤ n → length (cons_option o xs) ≤ suc n
     one_more None xs n h = omega arith
     one_more (Some x) xs n h = omega arith
 
 -- no tally has more cars than there were events
-pub cars_few : (links place : ℕ) (events : List Event) (rows : List (List Tally)) (entries : List (Option Entry)) → place < length events → length events < 2 ^ 64
+pub cars_few : (links place : ℕ) (events : List Event) (rows : List (List Tally)) (entries : List (Option Entry)) →
+    place < length events → length events < 2 ^ 64
     → IsKnown links (take place events) rows entries → (link bin : ℕ) → (tally_at rows link bin).cars < 2 ^ 64 - 1
 cars_few links place events rows entries within fits known link bin =
     let are = known.cars link bin in

@@ -1,5 +1,40 @@
 -- The stays that one more event ends: at most one, that of the car that it tells of, on the link that the car has entered.
-use Rattle.std.proofs.Common.{◌≡◌, ℕ, zero, suc, ◌+◌, ◌-◌, ◌/◌, ◌<◌, ◌≤◌, Bool, true, false, cond, ◌&&◌, List, [], ◌∷◌, ◌++◌, length, get_or, fold, Option, None, Some, ◌⊎◌, inl, inr, refl, sym, ◌∙◌, ap, subst, arith, add_assoc}
+use Rattle.std.proofs.Common.{
+  ◌≡◌,
+  ℕ,
+  zero,
+  suc,
+  ◌+◌,
+  ◌-◌,
+  ◌/◌,
+  ◌<◌,
+  ◌≤◌,
+  Bool,
+  true,
+  false,
+  cond,
+  ◌&&◌,
+  List,
+  [],
+  ◌∷◌,
+  ◌++◌,
+  length,
+  get_or,
+  fold,
+  Option,
+  None,
+  Some,
+  ◌⊎◌,
+  inl,
+  inr,
+  refl,
+  sym,
+  ◌∙◌,
+  ap,
+  subst,
+  arith,
+  add_assoc,
+}
 use Rattle.std.specs.Prelude.{nat_eq, find, sum, sum_by, slice_index_or, option_and_then, IfSome}
 use Rattle.std.specs.List.{cons_option}
 use Rattle.std.specs.Option.{option_eq, option_map, option_map_or, option_or}
@@ -16,9 +51,11 @@ abbrev pub step : ℕ → Option Entry → Event → Option Entry
 step car last event = cond (tells_of car event) (entry_of event) last
 
 -- an event of another car, or of none, leaves a car where it is
-pub entry_other : (car : ℕ) (events : List Event) (x : Event) → tells_of car x ≡ false → entry_after car (events ++ x ∷ []) ≡ entry_after car events
+pub entry_other : (car : ℕ) (events : List Event) (x : Event) → tells_of car x ≡ false → entry_after car (events ++ x ∷ [])
+    ≡ entry_after car events
 unfolding entry_after
-entry_other car events x apart = fold_push (step car) None events x ∙ ap (λ (b : Bool). cond b (entry_of x) (fold (step car) None events)) apart
+entry_other car events x apart = fold_push (step car) None events x ∙ ap
+    (λ (b : Bool). cond b (entry_of x) (fold (step car) None events)) apart
 
 -- an event of the car tells where it is
 pub entry_own : (car : ℕ) (events : List Event) (x : Event) → tells_of car x ≡ true → entry_after car (events ++ x ∷ []) ≡ entry_of x
@@ -43,12 +80,14 @@ unseen car last (y ∷ ys) e =
     ]
 
 -- where one does, it does not matter where it was
-seen : (car : ℕ) (last before : Option Entry) (ys : List Event) (z : Event) → find (tells_of car) ys ≡ Some z → fold (step car) last ys ≡ fold (step car) before ys
+seen : (car : ℕ) (last before : Option Entry) (ys : List Event) (z : Event) → find (tells_of car) ys ≡ Some z → fold (step car) last ys
+    ≡ fold (step car) before ys
 seen car last before [] z e = absurd (cc e)
 seen car last before (y ∷ ys) z e =
     elim (cases_Bool (tells_of car y)) [
       | inl own ↦
-          ap (λ (b : Bool). fold (step car) (cond b (entry_of y) last) ys) own ∙ sym (ap (λ (b : Bool). fold (step car) (cond b (entry_of y) before) ys) own)
+          ap (λ (b : Bool). fold (step car) (cond b (entry_of y) last) ys) own ∙ sym
+          (ap (λ (b : Bool). fold (step car) (cond b (entry_of y) before) ys) own)
       | inr other ↦
           let rest : find (tells_of car) ys ≡ Some z = sym (ap (λ (b : Bool). cond b (Some y) (find (tells_of car) ys)) other) ∙ e in
           ap (λ (b : Bool). fold (step car) (cond b (entry_of y) last) ys) other ∙ seen car last before ys z rest
@@ -69,7 +108,8 @@ sum-cons_option f None xs = at_none (sum_by f xs)
     at_none n = omega arith
 sum-cons_option f (Some x) xs = sum_by-cons f x xs
 
-total-cons : (f : ℕ → ℕ) (link bin : ℕ) (y : Event) (ys : List Event) → total f link bin (y ∷ ys) ≡ weight f (observed_from link bin y ys) + total f link bin ys
+total-cons : (f : ℕ → ℕ) (link bin : ℕ) (y : Event) (ys : List Event) → total f link bin (y ∷ ys)
+    ≡ weight f (observed_from link bin y ys) + total f link bin ys
 unfolding total observed
 total-cons f link bin y ys = sum-cons_option f (observed_from link bin y ys) (observed link bin ys)
 
@@ -83,7 +123,8 @@ begins link bin y = enters link y && nat_eq (bin_of y) bin
 
 from_none : (link bin : ℕ) (y : Event) (later : List Event) → car_of y.vehicle ≡ None → observed_from link bin y later ≡ None
 from_none link bin y later none =
-    ap (λ (o : Option ℕ). cond (begins link bin y) (option_and_then (λ car. seconds_until link y.key.second car later) o) None) none ∙ none_either (begins link bin y)
+    ap (λ (o : Option ℕ). cond (begins link bin y) (option_and_then (λ car. seconds_until link y.key.second car later) o) None) none ∙
+    none_either (begins link bin y)
 
 from_car : (link bin c : ℕ) (y : Event) (later : List Event) → car_of y.vehicle ≡ Some c
     → observed_from link bin y later ≡ cond (begins link bin y) (seconds_until link y.key.second c later) None
@@ -94,17 +135,21 @@ from_car link bin c y later is =
 abbrev ends_by : ℕ → ℕ → Option Event → Option ℕ
 ends_by link second next = option_and_then (λ n. cond (leaves link n) (Some (n.key.second - second)) None) next
 
-same_next : (link bin c : ℕ) (y : Event) (later other : List Event) (next : Option Event) → car_of y.vehicle ≡ Some c → find (tells_of c) later ≡ next → find (tells_of c) other ≡ next
+same_next : (link bin c : ℕ) (y : Event) (later other : List Event) (next : Option Event) → car_of y.vehicle ≡ Some c →
+    find (tells_of c) later ≡ next → find (tells_of c) other ≡ next
     → observed_from link bin y later ≡ observed_from link bin y other
 same_next link bin c y later other next is first second =
-    from_car link bin c y later is ∙ ap (λ (o : Option Event). cond (begins link bin y) (ends_by link y.key.second o) None) (first ∙ sym second) ∙ sym (from_car link bin c y other is)
+    from_car link bin c y later is ∙ ap (λ (o : Option Event). cond (begins link bin y) (ends_by link y.key.second o) None)
+    (first ∙ sym second) ∙ sym (from_car link bin c y other is)
 
 -- a stay that the very next event of the car ends
-ended_at_once : (link bin : ℕ) (y x : Event) → cond (begins link bin y) (ends_by link y.key.second (Some x)) None ≡ ended_stay link bin (entry_of y) x
+ended_at_once : (link bin : ℕ) (y x : Event) → cond (begins link bin y) (ends_by link y.key.second (Some x)) None
+    ≡ ended_stay link bin (entry_of y) x
 ended_at_once link bin y x = by_word (is_entry y.word) y.link
   where
     by_link : (l : ℕ) (here in_bin : Bool) → nat_eq l link ≡ here
-        → cond (here && in_bin) (cond (leaves link x) (Some (x.key.second - y.key.second)) None) None ≡ cond (here && in_bin) (cond (leaves l x) (Some (x.key.second - y.key.second)) None) None
+        → cond (here && in_bin) (cond (leaves link x) (Some (x.key.second - y.key.second)) None) None
+        ≡ cond (here && in_bin) (cond (leaves l x) (Some (x.key.second - y.key.second)) None) None
     by_link l true in_bin same =
         ap (λ (k : ℕ). cond in_bin (cond (leaves k x) (Some (x.key.second - y.key.second)) None) None) (sym (eqb-true l link same))
     by_link l false in_bin same = refl
@@ -118,7 +163,8 @@ ended_at_once link bin y x = by_word (is_entry y.word) y.link
 
 find_push : (c : ℕ) (ys : List Event) (x : Event) (found : Option Event) → find (tells_of c) ys ≡ found
     → find (tells_of c) (ys ++ x ∷ []) ≡ option_or found (cond (tells_of c x) (Some x) None)
-find_push c ys x found e = find-append (tells_of c) ys (x ∷ []) ∙ ap (λ (o : Option Event). option_or o (cond (tells_of c x) (Some x) None)) e
+find_push c ys x found e = find-append (tells_of c) ys (x ∷ []) ∙ ap
+    (λ (o : Option Event). option_or o (cond (tells_of c x) (Some x) None)) e
 
 or_none : {T : Type 0} → (o : Option T) → option_or o None ≡ o
 or_none None = refl
@@ -127,7 +173,8 @@ or_none (Some x) = refl
 -- an event of another car ends no stay of this one
 find_other : (c : ℕ) (ys : List Event) (x : Event) → tells_of c x ≡ false → find (tells_of c) (ys ++ x ∷ []) ≡ find (tells_of c) ys
 find_other c ys x apart =
-    find_push c ys x (find (tells_of c) ys) refl ∙ ap (λ (b : Bool). option_or (find (tells_of c) ys) (cond b (Some x) None)) apart ∙ or_none (find (tells_of c) ys)
+    find_push c ys x (find (tells_of c) ys) refl ∙ ap (λ (b : Bool). option_or (find (tells_of c) ys) (cond b (Some x) None)) apart ∙
+    or_none (find (tells_of c) ys)
 
 -- what the first event of a list counts for, where an event of a car is added
 abbrev Pushes : (ℕ → ℕ) → ℕ → ℕ → ℕ → Event → List Event → Event → Type 0
@@ -136,7 +183,8 @@ Pushes f link bin c y ys x =
     ≡ weight f (observed_from link bin y ys) + weight f (ended_stay link bin (entry_after c (y ∷ ys)) x)
 
 -- it is the same where the first event is not the one that begins the stay
-pushes_apart : (f : ℕ → ℕ) (link bin c : ℕ) (y : Event) (ys : List Event) (x : Event) → observed_from link bin y (ys ++ x ∷ []) ≡ observed_from link bin y ys
+pushes_apart : (f : ℕ → ℕ) (link bin c : ℕ) (y : Event) (ys : List Event) (x : Event) → observed_from link bin y (ys ++ x ∷ [])
+    ≡ observed_from link bin y ys
     → entry_after c (y ∷ ys) ≡ entry_after c ys → Pushes f link bin c y ys x
 pushes_apart f link bin c y ys x same before =
     ap (λ (o : Option ℕ). weight f o + weight f (ended_stay link bin (entry_after c ys) x)) same
@@ -146,11 +194,13 @@ entry_first_other : (c : ℕ) (y : Event) (ys : List Event) → tells_of c y ≡
 unfolding entry_after
 entry_first_other c y ys apart = ap (λ (b : Bool). fold (step c) (cond b (entry_of y) None) ys) apart
 
-entry_first_seen : (c : ℕ) (y : Event) (ys : List Event) (z : Event) → find (tells_of c) ys ≡ Some z → entry_after c (y ∷ ys) ≡ entry_after c ys
+entry_first_seen : (c : ℕ) (y : Event) (ys : List Event) (z : Event) → find (tells_of c) ys ≡ Some z → entry_after c (y ∷ ys)
+    ≡ entry_after c ys
 unfolding entry_after
 entry_first_seen c y ys z e = seen c (step c None y) None ys z e
 
-entry_first_own : (c : ℕ) (y : Event) (ys : List Event) → tells_of c y ≡ true → find (tells_of c) ys ≡ None → (entry_after c (y ∷ ys) ≡ entry_of y) × (entry_after c ys ≡ None)
+entry_first_own : (c : ℕ) (y : Event) (ys : List Event) → tells_of c y ≡ true → find (tells_of c) ys ≡ None →
+    (entry_after c (y ∷ ys) ≡ entry_of y) × (entry_after c ys ≡ None)
 unfolding entry_after
 entry_first_own c y ys own e =
     (ap (λ (b : Bool). fold (step c) (cond b (entry_of y) None) ys) own ∙ unseen c (entry_of y) ys e, unseen c None ys e)
@@ -162,14 +212,17 @@ pushes f link bin c y ys x told = by_car (car_of y.vehicle) refl
     itself = tells_same c c x told ∙ eq-eqb c c refl
 
     own_car : car_of y.vehicle ≡ Some c → (found : Option Event) → find (tells_of c) ys ≡ found → Pushes f link bin c y ys x
-    own_car is (Some z) e = pushes_apart f link bin c y ys x (same_next link bin c y (ys ++ x ∷ []) ys (Some z) is (find_push c ys x (Some z) e) e) (entry_first_seen c y ys z e)
+    own_car is (Some z) e = pushes_apart f link bin c y ys x
+        (same_next link bin c y (ys ++ x ∷ []) ys (Some z) is (find_push c ys x (Some z) e) e) (entry_first_seen c y ys z e)
     own_car is None e =
         let first = entry_first_own c y ys (tells_same c c y is ∙ eq-eqb c c refl) e in
         let next : find (tells_of c) (ys ++ x ∷ []) ≡ Some x = find_push c ys x None e ∙ ap (λ (b : Bool). cond b (Some x) None) itself in
         let now : observed_from link bin y (ys ++ x ∷ []) ≡ ended_stay link bin (entry_of y) x =
-        from_car link bin c y (ys ++ x ∷ []) is ∙ ap (λ (o : Option Event). cond (begins link bin y) (ends_by link y.key.second o) None) next ∙ ended_at_once link bin y x in
+        from_car link bin c y (ys ++ x ∷ []) is ∙ ap (λ (o : Option Event). cond (begins link bin y) (ends_by link y.key.second o) None)
+        next ∙ ended_at_once link bin y x in
         let before : observed_from link bin y ys ≡ None =
-        from_car link bin c y ys is ∙ ap (λ (o : Option Event). cond (begins link bin y) (ends_by link y.key.second o) None) e ∙ none_either (begins link bin y) in
+        from_car link bin c y ys is ∙ ap (λ (o : Option Event). cond (begins link bin y) (ends_by link y.key.second o) None) e ∙
+        none_either (begins link bin y) in
         ap (λ (o : Option ℕ). weight f o + weight f (ended_stay link bin (entry_after c ys) x)) now
         ∙ ap (λ (e : Option Entry). weight f (ended_stay link bin (entry_of y) x) + weight f (ended_stay link bin e x)) first.1
         ∙ turned (weight f (ended_stay link bin (entry_of y) x))
@@ -181,13 +234,15 @@ pushes f link bin c y ys x told = by_car (car_of y.vehicle) refl
 
     by_car : (o : Option ℕ) → car_of y.vehicle ≡ o → Pushes f link bin c y ys x
     by_car None is =
-        pushes_apart f link bin c y ys x (from_none link bin y (ys ++ x ∷ []) is ∙ sym (from_none link bin y ys is)) (entry_first_other c y ys (tells_none c y is))
+        pushes_apart f link bin c y ys x (from_none link bin y (ys ++ x ∷ []) is ∙ sym (from_none link bin y ys is))
+        (entry_first_other c y ys (tells_none c y is))
     by_car (Some d) is =
         elim (cases_eq d c) [
           | inl same ↦ own_car (is ∙ ap (λ (n : ℕ). Some n) same) (find (tells_of c) ys) refl
           | inr apart ↦
               let differ : tells_of d x ≡ false = tells_same d c x told ∙ ne_eqb c d (λ same. apart (sym same)) in
-              pushes_apart f link bin c y ys x (same_next link bin d y (ys ++ x ∷ []) ys (find (tells_of d) ys) is (find_other d ys x differ) refl)
+              pushes_apart f link bin c y ys x (same_next link bin d y (ys ++ x ∷ []) ys (find (tells_of d) ys) is
+              (find_other d ys x differ) refl)
               (entry_first_other c y ys (tells_same c d y is ∙ ne_eqb d c apart))
         ]
 
@@ -195,7 +250,8 @@ total_alone : (f : ℕ → ℕ) (link bin c : ℕ) (x : Event) → car_of x.vehi
     → total f link bin (x ∷ []) ≡ total f link bin [] + weight f (ended_stay link bin (entry_after c []) x)
 unfolding total observed entry_after
 total_alone f link bin c x told =
-    total-cons f link bin x [] ∙ ap (λ (o : Option ℕ). weight f o + total f link bin []) (from_car link bin c x [] told ∙ none_either (begins link bin x))
+    total-cons f link bin x [] ∙ ap (λ (o : Option ℕ). weight f o + total f link bin [])
+    (from_car link bin c x [] told ∙ none_either (begins link bin x))
 
 -- one more event of a car counts for the stay that it ends
 pub total_car : (f : ℕ → ℕ) (link bin c : ℕ) (events : List Event) (x : Event) → car_of x.vehicle ≡ Some c
@@ -209,7 +265,8 @@ total_car f link bin c (y ∷ ys) x told =
     omega arith
 
 -- one more event of no car counts for nothing
-pub observed_other : (link bin : ℕ) (events : List Event) (x : Event) → car_of x.vehicle ≡ None → observed link bin (events ++ x ∷ []) ≡ observed link bin events
+pub observed_other : (link bin : ℕ) (events : List Event) (x : Event) → car_of x.vehicle ≡ None → observed link bin (events ++ x ∷ [])
+    ≡ observed link bin events
 unfolding observed
 observed_other link bin [] x told = ap (λ (o : Option ℕ). cons_option o []) (from_none link bin x [] told)
 observed_other link bin (y ∷ ys) x told =
@@ -221,7 +278,8 @@ observed_other link bin (y ∷ ys) x told =
     first (Some d) is = same_next link bin d y (ys ++ x ∷ []) ys (find (tells_of d) ys) is (find_other d ys x (tells_none d x told)) refl
 
 -- a car that is on a link entered it by an event
-pub entered_by : (car : ℕ) (events : List Event) (entry : Entry) → entry_after car events ≡ Some entry → (k : ℕ) × (k < length events) × ((d : Event) → entry_of (get_or events k d) ≡ Some entry)
+pub entered_by : (car : ℕ) (events : List Event) (entry : Entry) → entry_after car events ≡ Some entry →
+    (k : ℕ) × (k < length events) × ((d : Event) → entry_of (get_or events k d) ≡ Some entry)
 unfolding entry_after
 entered_by car events entry e = elim (from_start car None events entry e) [ inl none ↦ absurd (cc none) | inr found ↦ found ]
   where
@@ -241,7 +299,8 @@ entered_by car events entry e = elim (from_start car None events entry e) [ inl 
 pub entry_tells : (x : Event) (entry : Entry) → entry_of x ≡ Some entry → (x.link ≡ Some entry.link) × (x.key.second ≡ entry.second)
 entry_tells x entry e = by_word (is_entry x.word) x.link refl e
   where
-    by_word : (b : Bool) (at : Option ℕ) → x.link ≡ at → cond b (option_map (λ l. record { link = l; second = x.key.second }) at) None ≡ Some entry
+    by_word : (b : Bool) (at : Option ℕ) → x.link ≡ at → cond b (option_map (λ l. record { link = l; second = x.key.second }) at) None
+        ≡ Some entry
         → (x.link ≡ Some entry.link) × (x.key.second ≡ entry.second)
     by_word false at is none = absurd (cc none)
     by_word true None is none = absurd (cc none)

@@ -1,6 +1,33 @@
 -- What the events of a day show of travel times. A car is observed on a link where it enters the link and the next event that tells
 -- of the car is that it leaves this link. Transit vehicles are not observed, since they dwell.
-use Rattle.std.specs.Prelude.{ℕ, ◌≤◌, ◌-◌, ◌/◌, ◌<◌, max, nat_eq, sum, Bool, true, false, ◌&&◌, if◌then◌else◌, List, [], ◌∷◌, length, find, All, AllPairs, slice_index_or, Option, None, Some, option_and_then, IfSome}
+use Rattle.std.specs.Prelude.{
+  ℕ,
+  ◌≤◌,
+  ◌-◌,
+  ◌/◌,
+  ◌<◌,
+  max,
+  nat_eq,
+  sum,
+  Bool,
+  true,
+  false,
+  ◌&&◌,
+  if◌then◌else◌,
+  List,
+  [],
+  ◌∷◌,
+  length,
+  find,
+  All,
+  AllPairs,
+  slice_index_or,
+  Option,
+  None,
+  Some,
+  option_and_then,
+  IfSome,
+}
 use Rattle.std.specs.List.{cons_option}
 use Rattle.std.specs.Option.{option_eq, option_map}
 use Rattle.events.specs.declared.event.Event.{Event}
@@ -58,7 +85,8 @@ seconds_until link second car later =
 -- the seconds that a car is observed on the link, where the event is that it enters in this bin
 abbrev pub observed_from : ℕ → ℕ → Event → List Event → Option ℕ
 observed_from link bin event later =
-    if enters link event && nat_eq (bin_of event) bin then option_and_then (λ car. seconds_until link event.key.second car later) (car_of event.vehicle) else None
+    if enters link event && nat_eq (bin_of event) bin then option_and_then (λ car. seconds_until link event.key.second car later)
+    (car_of event.vehicle) else None
 
 -- the observed seconds of all cars that enter the link in this bin, in the order in which they enter
 unfoldable pub observed : ℕ → ℕ → List Event → List ℕ
@@ -76,4 +104,5 @@ link_at links link = slice_index_or links link (record { from = 0; to = 0; lengt
 
 -- the seconds of a link that is entered in a bin, by the events of a day: the average of the observed ones
 abbrev pub observed_time : List LinkRow → List Event → ℕ → ℕ → ℕ
-observed_time links events link bin = average_or (free_of (link_at links link)) (length (observed link bin events)) (sum (observed link bin events))
+observed_time links events link bin = average_or (free_of (link_at links link)) (length (observed link bin events))
+    (sum (observed link bin events))

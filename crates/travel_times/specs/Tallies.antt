@@ -1,5 +1,27 @@
 -- What is known of cars while the events of a day are gone through: on which link each is, and what was seen of each link and bin.
-use Rattle.std.specs.Prelude.{◌≡◌, ℕ, ◌+◌, ◌-◌, ◌*◌, ◌/◌, ◌≤◌, ◌⊎◌, max, nat_eq, ◌&&◌, sum, List, [], length, fold, slice_index_or, Option, None, Some, if◌then◌else◌}
+use Rattle.std.specs.Prelude.{
+  ◌≡◌,
+  ℕ,
+  ◌+◌,
+  ◌-◌,
+  ◌*◌,
+  ◌/◌,
+  ◌≤◌,
+  ◌⊎◌,
+  max,
+  nat_eq,
+  ◌&&◌,
+  sum,
+  List,
+  [],
+  length,
+  fold,
+  slice_index_or,
+  Option,
+  None,
+  Some,
+  if◌then◌else◌,
+}
 use Rattle.std.specs.Option.{option_map, option_map_or}
 use Rattle.events.specs.declared.event.Event.{Event}
 use Rattle.travel_times.specs.declared.tallies.Tally.{Tally}
@@ -50,12 +72,14 @@ stay_of event entry = if leaves entry.link event then Some (event.key.second - e
 -- the seconds of the stay on this link since this bin that the event ends, of a car with this entry
 abbrev pub ended_stay : ℕ → ℕ → Option Entry → Event → Option ℕ
 ended_stay link bin None event = None
-ended_stay link bin (Some entry) event = if nat_eq entry.link link && nat_eq (entry.second / BIN_SECONDS) bin then stay_of event entry else None
+ended_stay link bin (Some entry) event = if nat_eq entry.link link && nat_eq
+    (entry.second / BIN_SECONDS) bin then stay_of event entry else None
 
 -- the new tallies are the old ones and the stay that the event ends, of a car with this entry
 abbrev pub EndsStay : Event → Option Entry → List (List Tally) → List (List Tally) → Type 0
 EndsStay event entry old new =
-    (link bin : ℕ) → tally_at new link bin ≡ option_map_or (λ seconds. with_stay (tally_at old link bin) seconds) (ended_stay link bin entry event) (tally_at old link bin)
+    (link bin : ℕ) → tally_at new link bin ≡ option_map_or (λ seconds. with_stay (tally_at old link bin) seconds)
+    (ended_stay link bin entry event) (tally_at old link bin)
 
 -- where a car is by the last of these events that tells of it: on a link that it has entered, or anywhere
 unfoldable pub entry_after : ℕ → List Event → Option Entry
@@ -71,4 +95,5 @@ pub record IsKnown (links : ℕ) (events : List Event) (rows : List (List Tally)
 -- the times of a profile are the averages of what was seen of this link
 abbrev pub IsSeen : ℕ → ℕ → List (List Tally) → LinkProfile → Type 0
 IsSeen free link rows profile =
-    (profile.free ≡ free) × ((bin : ℕ) → time_in profile bin ≡ max 1 (average_or free (tally_at rows link bin).cars (tally_at rows link bin).seconds))
+    (profile.free ≡ free) × ((bin : ℕ) → time_in profile bin
+    ≡ max 1 (average_or free (tally_at rows link bin).cars (tally_at rows link bin).seconds))

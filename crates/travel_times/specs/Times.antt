@@ -40,7 +40,3 @@ free_of link = free_seconds link.length link.speed
 -- the times of links at their free speed
 abbrev pub free_times : List LinkRow → List LinkProfile
 free_times links = map (λ link. record { free = free_of link; times = [] }) links
-
--- the nodes where each link begins and ends
-abbrev pub ends_of : List LinkRow → List (ℕ × ℕ)
-ends_of links = map (λ link. (link.from, link.to)) links

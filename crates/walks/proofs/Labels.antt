@@ -1,5 +1,38 @@
 -- Labels: which is earlier, and what a node's label is after a round.
-use Rattle.std.proofs.Common.{◌≡◌, ℕ, zero, suc, ◌+◌, ◌<◌, ◌≤◌, min, Bool, true, false, cond, List, [], ◌∷◌, ◌++◌, length, get_or, map, Option, None, Some, ◌⊎◌, inl, inr, refl, sym, ◌∙◌, ap, subst, arith, fold}
+use Rattle.std.proofs.Common.{
+  ◌≡◌,
+  ℕ,
+  zero,
+  suc,
+  ◌+◌,
+  ◌<◌,
+  ◌≤◌,
+  min,
+  Bool,
+  true,
+  false,
+  cond,
+  List,
+  [],
+  ◌∷◌,
+  ◌++◌,
+  length,
+  get_or,
+  map,
+  Option,
+  None,
+  Some,
+  ◌⊎◌,
+  inl,
+  inr,
+  refl,
+  sym,
+  ◌∙◌,
+  ap,
+  subst,
+  arith,
+  fold,
+}
 use Rattle.std.specs.Prelude.{nat_eq, filter, IsSomeAnd}
 use Rattle.std.specs.List.{enumerate_from, range_with_len}
 use Rattle.std.specs.Option.{option_map}
@@ -94,10 +127,13 @@ best_by arrive labels node i [] best second h = h
 best_by arrive labels node i (link ∷ ends) best second h =
     let P : Option ℕ → Type 0 = λ o. IsBy o second in
     subst P (sym (one_more arrive labels node i link ends best))
-    (best_by arrive labels node (i + 1) ends (looked arrive labels node i link best) second (looked_by arrive labels node i link best second h))
+    (best_by arrive labels node (i + 1) ends (looked arrive labels node i link best) second
+    (looked_by arrive labels node i link best second h))
 
-best_along : (arrive : Arrivals) (labels : Labels) (node i : ℕ) (ends : Ends) (best : Option ℕ) (second e j : ℕ) → j ≡ i + e → e < length ends
-    → end_of ends e ≡ node → IsBy (along arrive labels (j, get_or ends e (0, 0))) second → IsBy (best_of arrive labels node i ends best) second
+best_along : (arrive : Arrivals) (labels : Labels) (node i : ℕ) (ends : Ends) (best : Option ℕ) (second e j : ℕ) → j ≡ i + e →
+    e < length ends
+    → end_of ends e ≡ node → IsBy (along arrive labels (j, get_or ends e (0, 0))) second →
+    IsBy (best_of arrive labels node i ends best) second
 best_along arrive labels node i [] best second e j at within ends h = absurd (omega arith)
 best_along arrive labels node i (link ∷ ends) best second zero j at within here h =
     let P : Option ℕ → Type 0 = λ o. IsBy o second in
@@ -120,7 +156,8 @@ best_cases : (arrive : Arrivals) (labels : Labels) (node i : ℕ) (ends : Ends) 
     → best_of arrive labels node i ends best ≡ Some second → (best ≡ Some second) ⊎ IsFound arrive labels node i ends second
 best_cases arrive labels node i [] best second e = inl e
 best_cases arrive labels node i (link ∷ ends) best second e =
-    elim (best_cases arrive labels node (i + 1) ends (looked arrive labels node i link best) second (sym (one_more arrive labels node i link ends best) ∙ e)) [
+    elim (best_cases arrive labels node (i + 1) ends (looked arrive labels node i link best) second
+    (sym (one_more arrive labels node i link ends best) ∙ e)) [
       | inl before ↦ elim (looked_cases arrive labels node i link best second before) [
         | inl own ↦ inl own
         | inr now ↦ inr (0, omega arith, now.0, ap (λ (k : ℕ). along arrive labels (k, link)) (same_place i) ∙ now.1)
@@ -160,13 +197,17 @@ pub relabelled_along : (ends : Ends) (arrive : Arrivals) (labels : Labels) (link
     → label_at labels (start_of ends link) ≡ Some left → IsBy (relabelled ends arrive labels (end_of ends link)) (arrive link left)
 unfolding relabelled
 relabelled_along ends arrive labels link left within is =
-    best_along arrive labels (end_of ends link) 0 ends (label_at labels (end_of ends link)) (arrive link left) link link (omega arith) within refl
-    (by_some (along arrive labels (link, get_or ends link (0, 0))) (arrive link left) (arrive link left) (ap (λ (o : Option ℕ). option_map (arrive link) o) is) (omega arith))
+    best_along arrive labels (end_of ends link) 0 ends (label_at labels (end_of ends link)) (arrive link left) link link
+    (omega arith) within refl
+    (by_some (along arrive labels (link, get_or ends link (0, 0))) (arrive link left) (arrive link left)
+    (ap (λ (o : Option ℕ). option_map (arrive link) o) is) (omega arith))
 
 -- and it is its own, or one along a link into it
-pub relabelled_cases : (ends : Ends) (arrive : Arrivals) (labels : Labels) (node second : ℕ) → relabelled ends arrive labels node ≡ Some second
+pub relabelled_cases : (ends : Ends) (arrive : Arrivals) (labels : Labels) (node second : ℕ) → relabelled ends arrive labels node
+    ≡ Some second
     → (label_at labels node ≡ Some second)
-    ⊎ ((link left : ℕ) × (link < length ends) × (end_of ends link ≡ node) × (label_at labels (start_of ends link) ≡ Some left) × (arrive link left ≡ second))
+    ⊎ ((link left : ℕ) × (link < length ends) × (end_of ends link ≡ node) × (label_at labels (start_of ends link) ≡ Some left) ×
+    (arrive link left ≡ second))
 unfolding relabelled
 relabelled_cases ends arrive labels node second e =
     elim (best_cases arrive labels node 0 ends (label_at labels node) second e) [

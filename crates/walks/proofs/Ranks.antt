@@ -1,5 +1,31 @@
 -- How many labels are earlier than a second.
-use Rattle.std.proofs.Common.{◌≡◌, ℕ, zero, suc, ◌+◌, ◌<◌, ◌≤◌, Bool, true, false, cond, List, [], ◌∷◌, length, get_or, Option, None, Some, refl, sym, ◌∙◌, ap, subst, arith}
+use Rattle.std.proofs.Common.{
+  ◌≡◌,
+  ℕ,
+  zero,
+  suc,
+  ◌+◌,
+  ◌<◌,
+  ◌≤◌,
+  Bool,
+  true,
+  false,
+  cond,
+  List,
+  [],
+  ◌∷◌,
+  length,
+  get_or,
+  Option,
+  None,
+  Some,
+  refl,
+  sym,
+  ◌∙◌,
+  ap,
+  subst,
+  arith,
+}
 use Rattle.std.specs.Prelude.{nat_lt, count_by, IsSomeAnd}
 use Rattle.std.proofs.lemmas.Bool.{lt-ltb, le-ltb}
 use Rattle.std.proofs.lemmas.Bool.Decides.{nat_tests}
@@ -19,7 +45,8 @@ unfolding rank
 rank-le-length labels second = count_by-le-length (is_before second) labels
 
 -- what one label counts for does not fall where the second or the label becomes better
-one_by : (label better : Option ℕ) (earlier second : ℕ) → earlier ≤ second → ((a : ℕ) → label ≡ Some a → IsBy better a) → one label earlier ≤ one better second
+one_by : (label better : Option ℕ) (earlier second : ℕ) → earlier ≤ second → ((a : ℕ) → label ≡ Some a → IsBy better a) →
+    one label earlier ≤ one better second
 unfolding one
 one_by None better earlier second before by = grind arith
 one_by (Some a) better earlier second before by = at_some better (by a refl)

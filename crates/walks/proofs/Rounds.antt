@@ -1,5 +1,37 @@
 -- The labels after rounds: where they come from, that they only fall, and that they are the arrivals of walks.
-use Rattle.std.proofs.Common.{◌≡◌, ℕ, zero, suc, ◌+◌, ◌-◌, ◌<◌, ◌≤◌, Bool, true, false, cond, List, [], ◌∷◌, ◌++◌, length, get_or, map, Option, None, Some, ◌⊎◌, inl, inr, refl, sym, ◌∙◌, ap, subst, arith}
+use Rattle.std.proofs.Common.{
+  ◌≡◌,
+  ℕ,
+  zero,
+  suc,
+  ◌+◌,
+  ◌-◌,
+  ◌<◌,
+  ◌≤◌,
+  Bool,
+  true,
+  false,
+  cond,
+  List,
+  [],
+  ◌∷◌,
+  ◌++◌,
+  length,
+  get_or,
+  map,
+  Option,
+  None,
+  Some,
+  ◌⊎◌,
+  inl,
+  inr,
+  refl,
+  sym,
+  ◌∙◌,
+  ap,
+  subst,
+  arith,
+}
 use Rattle.std.specs.Prelude.{nat_eq, IsSomeAnd, slice_index_or, All}
 use Rattle.std.specs.List.{range_with_len}
 use Rattle.std.proofs.lemmas.Bool.{cases_Bool, cases_lt, eq-eqb, eqb-true}
@@ -15,7 +47,8 @@ label_of : (f : ℕ → Option ℕ) (nodes node : ℕ) → node < nodes → labe
 label_of f nodes node within = get_or-map-range_with_len f 0 nodes node node None within (omega arith)
 
 no_label_past : (f : ℕ → Option ℕ) (nodes node : ℕ) → nodes ≤ node → label_at (map f (range_with_len 0 nodes)) node ≡ None
-no_label_past f nodes node past = get_or_past (map f (range_with_len 0 nodes)) node None (omega (arith, length-map-range_with_len f 0 nodes))
+no_label_past f nodes node past = get_or_past (map f (range_with_len 0 nodes)) node None
+    (omega (arith, length-map-range_with_len f 0 nodes))
 
 -- a node that has a label is there
 labelled_within : (f : ℕ → Option ℕ) (nodes node a : ℕ) → label_at (map f (range_with_len 0 nodes)) node ≡ Some a → node < nodes
@@ -32,7 +65,8 @@ start_only : (nodes from second node a : ℕ) → label_at (start_labels nodes f
 unfolding start_labels
 start_only nodes from second node a e =
     let within = labelled_within (λ n. cond (nat_eq n from) (Some second) None) nodes node a e in
-    let at : cond (nat_eq node from) (Some second) None ≡ Some a = sym (label_of (λ n. cond (nat_eq n from) (Some second) None) nodes node within) ∙ e in
+    let at : cond (nat_eq node from) (Some second) None ≡ Some a =
+    sym (label_of (λ n. cond (nat_eq n from) (Some second) None) nodes node within) ∙ e in
     elim (cases_Bool (nat_eq node from)) [
       | inl here ↦ let given : Some second ≡ Some a = simp here at at in (eqb-true node from here, cc given)
       | inr elsewhere ↦ let none : None ≡ Some a = simp elsewhere at at in absurd (cc none)
@@ -66,7 +100,8 @@ module _ (nodes : ℕ) (ends : Ends) (arrive : Arrivals) (from second : ℕ) whe
       let label = some_by (label_at (after rounds) node) at h in
       let within = after_within rounds node label.0 label.1 in
       let P : Option ℕ → Type 0 = λ o. IsBy o at in
-      subst P (sym (label_of (relabelled ends arrive (after rounds)) nodes node within)) (relabelled_own ends arrive (after rounds) node at h)
+      subst P (sym (label_of (relabelled ends arrive (after rounds)) nodes node within))
+      (relabelled_own ends arrive (after rounds) node at h)
 
   pub after_more : (rounds more node at : ℕ) → IsBy (label_at (after rounds) node) at → IsBy (label_at (after (more + rounds)) node) at
   after_more rounds zero node at h =
@@ -78,14 +113,16 @@ module _ (nodes : ℕ) (ends : Ends) (arrive : Arrivals) (from second : ℕ) whe
       let same : suc (more + rounds) ≡ suc more + rounds = omega arith in
       subst P same (after_own (more + rounds) node at (after_more rounds more node at h))
 
-  pub after_later : (rounds later node at : ℕ) → rounds ≤ later → IsBy (label_at (after rounds) node) at → IsBy (label_at (after later) node) at
+  pub after_later : (rounds later node at : ℕ) → rounds ≤ later → IsBy (label_at (after rounds) node) at →
+      IsBy (label_at (after later) node) at
   after_later rounds later node at before h =
       let P : ℕ → Type 0 = λ k. IsBy (label_at (after k) node) at in
       let same : later - rounds + rounds ≡ later = omega arith in
       subst P same (after_more rounds (later - rounds) node at h)
 
   -- a round looks along every link
-  pub after_along : AreWithin nodes ends → (rounds link left : ℕ) → link < length ends → label_at (after rounds) (start_of ends link) ≡ Some left
+  pub after_along : AreWithin nodes ends → (rounds link left : ℕ) → link < length ends → label_at (after rounds) (start_of ends link)
+      ≡ Some left
       → IsBy (label_at (after (suc rounds)) (end_of ends link)) (arrive link left)
   unfolding labels_after
   after_along inside rounds link left within is =
@@ -111,7 +148,8 @@ module _ (nodes : ℕ) (ends : Ends) (arrive : Arrivals) (from second : ℕ) whe
   origin zero node at e = inl (start_only nodes from second node at e)
   origin (suc rounds) node at e =
       let within = after_within (suc rounds) node at e in
-      let made : relabelled ends arrive (after rounds) node ≡ Some at = sym (label_of (relabelled ends arrive (after rounds)) nodes node within) ∙ e in
+      let made : relabelled ends arrive (after rounds) node ≡ Some at =
+      sym (label_of (relabelled ends arrive (after rounds)) nodes node within) ∙ e in
       elim (relabelled_cases ends arrive (after rounds) node at made) [
         | inl own ↦ origin_more rounds node at (origin rounds node at own)
         | inr step ↦ inr (rounds, step.0, step.1, omega arith, step.2, step.3, step.4, step.5)

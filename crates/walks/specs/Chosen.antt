@@ -10,7 +10,8 @@ use Rattle.walks.specs.Rounds.{Labels, label_at}
 abbrev pub leads : Ends → Arrivals → Labels → ℕ → ℕ → Bool
 leads ends arrive labels node link =
     nat_eq (end_of ends link) node
-    && option_map_or (λ left. option_eq nat_eq (Some (arrive link left)) (label_at labels node)) (label_at labels (start_of ends link)) false
+    && option_map_or (λ left. option_eq nat_eq (Some (arrive link left)) (label_at labels node))
+    (label_at labels (start_of ends link)) false
 
 -- the link before a node: of those that lead there the one of the least number
 unfoldable pub link_before : Ends → Arrivals → Labels → ℕ → Option ℕ
@@ -21,7 +22,8 @@ unfoldable pub followed : Ends → Arrivals → Labels → ℕ → ℕ → ℕ �
 followed ends arrive labels from zero node = []
 followed ends arrive labels from (suc most) node =
     if nat_eq node from then []
-    else option_map_or (λ link. followed ends arrive labels from most (start_of ends link) ++ link ∷ []) (link_before ends arrive labels node) []
+    else option_map_or (λ link. followed ends arrive labels from most (start_of ends link) ++ link ∷ [])
+    (link_before ends arrive labels node) []
 
 -- the route to a node
 abbrev pub chosen_route : ℕ → Ends → Arrivals → Labels → ℕ → ℕ → List ℕ

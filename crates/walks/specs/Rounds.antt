@@ -1,5 +1,27 @@
 -- The least arrivals at all nodes, found by rounds: after k rounds those of walks of at most k links.
-use Rattle.std.specs.Prelude.{ℕ, ◌≤◌, zero, suc, nat_eq, nat_lt, min, Bool, false, count_by, IsSomeAnd, List, ◌∷◌, map, filter, fold, slice_index_or, Option, None, Some, if◌then◌else◌}
+use Rattle.std.specs.Prelude.{
+  ℕ,
+  ◌≤◌,
+  zero,
+  suc,
+  nat_eq,
+  nat_lt,
+  min,
+  Bool,
+  false,
+  count_by,
+  IsSomeAnd,
+  List,
+  ◌∷◌,
+  map,
+  filter,
+  fold,
+  slice_index_or,
+  Option,
+  None,
+  Some,
+  if◌then◌else◌,
+}
 use Rattle.std.specs.List.{enumerate_from, range_with_len}
 use Rattle.std.specs.Option.{option_map}
 use Rattle.walks.specs.Arrivals.{Arrivals}

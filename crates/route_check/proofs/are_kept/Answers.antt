@@ -1,6 +1,9 @@
-use Rattle.std.proofs.Common.{arith, ◌≡◌, inl, inr, ℕ, refl, sym, ◌∙◌, subst}
+use Rattle.std.proofs.Common.{arith, ◌≡◌, ◌<◌, inl, inr, ℕ, List, length, refl, sym, ◌∙◌, ap, subst}
 use Rattle.std.proofs.lemmas.Bool.{cases_eq}
-use Rattle.travel_times.specs.Times.{arrivals, ends_of}
+use Rattle.travel_times.specs.Times.{arrivals}
+use Rattle.rows.specs.Joined.{ends_of}
+use Rattle.travel_times.proofs.Networks.{length-ends_of}
+use Rattle.rows.specs.declared.network.LinkRow.{LinkRow}
 use Rattle.walks.specs.Certificates.{IsKept}
 use Rattle.route_check.proofs.Ends.{is_link, kept_by_row, row_kept}
 use Rattle.route_check.proofs.are_kept.Goals as goal
@@ -25,3 +28,13 @@ loop-number-preserved c k less = elim (cases_eq k c.loop-number.number) [
       c.loop-number.number _ same c.loop-number-test.true (c.if-not-is_kept.ensures.0 refl))
   | inr other ↦ c.loop-number.invariant k (omega arith)
 ]
+
+pub returns : goal.returns
+returns c = (
+  λ holds link within.
+      let count = length-ends_of c.args.links.now in
+      let same = ap (λ (ls : List LinkRow). length ls) (c.deref-link-items.ensures.value ∙ c.links.view_is) in
+      let end = c.loop-number-test.false in
+      c.loop-number.invariant link (omega arith),
+  λ kept. refl,
+)

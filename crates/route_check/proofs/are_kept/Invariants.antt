@@ -1,5 +1,6 @@
 use Rattle.std.proofs.Common.{ℕ, ◌<◌}
-use Rattle.travel_times.specs.Times.{arrivals, ends_of}
+use Rattle.travel_times.specs.Times.{arrivals}
+use Rattle.rows.specs.Joined.{ends_of}
 use Rattle.walks.specs.Certificates.{IsKept}
 use Rattle.route_check.proofs.are_kept.Given as goal
 

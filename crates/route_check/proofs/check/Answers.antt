@@ -1,5 +1,6 @@
 use Rattle.std.proofs.Common.{rules, ◌≡◌, ℕ, Some, Option, subst}
-use Rattle.travel_times.specs.Times.{arrivals, ends_of}
+use Rattle.travel_times.specs.Times.{arrivals}
+use Rattle.rows.specs.Joined.{ends_of}
 use Rattle.travel_times.proofs.Arriving.{arrivals_are_fifo}
 use Rattle.walks.specs.Rounds.{label_at, IsBy}
 use Rattle.walks.specs.Walks.{arrival}

@@ -35,7 +35,7 @@ step : (c : goal.After-start-node) →
     (label_at c.args.labels.now c.start-node.result ≡ Some (label_or_0 c.args.labels.now c.start-node.result))
     × (label_or_0 c.args.labels.now c.start-node.result < label_or_0 c.args.labels.now c.loop-node.node)
     × (rank c.args.labels.now (label_or_0 c.args.labels.now c.start-node.result) + length c.push.new.self.items ≤
-      c.args.adjacency.now.nodes)
+    c.args.adjacency.now.nodes)
     × (followed c.args.adjacency.now.ends (arrivals c.args.times.now) c.args.labels.now c.args.from c.args.adjacency.now.nodes c.args.to
     ≡ followed c.args.adjacency.now.ends (arrivals c.args.times.now) c.args.labels.now c.args.from
     (c.args.adjacency.now.nodes - length c.push.new.self.items) c.start-node.result ++ reverse c.push.new.self.items)

@@ -4,4 +4,5 @@ use Rattle.travel_times.proofs.seen.binned.Given as goal
 
 -- what the rows that are left give behind what is there is what all rows give
 abbrev pub invariant-loop-row : goal.invariant-loop-row
-invariant-loop-row l = l.bins.items ++ bins_from l.free l.hold (tallies_of l.link (drop l.row-index l.rows)) ≡ bins_from l.free 0 (tallies_of l.link l.rows)
+invariant-loop-row l = l.bins.items ++ bins_from l.free l.hold (tallies_of l.link (drop l.row-index l.rows))
+    ≡ bins_from l.free 0 (tallies_of l.link l.rows)

@@ -14,8 +14,11 @@ invariant_of-result c =
     let mapped = length-map front (λ (row : List Tally). slice_index_or row c.args.link no_tally) in
     let cut = length-take-le c.seen_bins-seen.result c.args.rows.now c.seen_bins-seen.ensures.within in
     omega arith in
-    makes_profile (record { free = c.args.free; bins = c.in_ok-bins.bins }) (tallies_of c.args.link front) c.in_ok-bins.ensures c.requires.free few
+    makes_profile (record { free = c.args.free; bins = c.in_ok-bins.bins })
+    (tallies_of c.args.link front) c.in_ok-bins.ensures c.requires.free few
 
 pub returns : goal.returns
 returns c =
-    seen_is c.args.link c.seen_bins-seen.result c.args.rows.now (record { free = c.args.free; bins = c.in_ok-bins.bins }) c.seen_bins-seen.ensures.within c.seen_bins-seen.ensures.unseen c.in_ok-bins.ensures
+    seen_is c.args.link c.seen_bins-seen.result c.args.rows.now
+    (record { free = c.args.free; bins = c.in_ok-bins.bins }) c.seen_bins-seen.ensures.within c.seen_bins-seen.ensures.unseen
+    c.in_ok-bins.ensures

@@ -3,7 +3,7 @@ use Rattle.std.specs.Prelude.{All, slice_index}
 use Rattle.std.specs.List.{zip}
 use Rattle.std.proofs.lemmas.List.{length-map}
 use Rattle.rows.specs.declared.network.LinkRow.{LinkRow}
-use Rattle.travel_times.specs.Times.{ends_of}
+use Rattle.rows.specs.Joined.{ends_of}
 use Rattle.walks.specs.Walks.{end_of, AreWithin}
 use Rattle.router.specs.Graphs.{Graph}
 use Rattle.router.specs.Stars.{AreBeside}

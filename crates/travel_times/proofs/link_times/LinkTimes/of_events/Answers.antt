@@ -10,11 +10,13 @@ seen_profiles-requires-clause-moving c = all_move (length c.args.network.now.nod
 
 pub returns-clause-times : goal.returns-clause-times
 returns-clause-times c link bin within =
-    seen_time c.args.network.now.links c.args.events.now c.len.result c.in_ok-known.known.rows.items c.deref.result.now c.in_ok-known.known.entries.items link bin
+    seen_time c.args.network.now.links c.args.events.now c.len.result c.in_ok-known.known.rows.items c.deref.result.now
+    c.in_ok-known.known.entries.items link bin
     (profile_at c.in_ok-links.links.items link) c.deref.ensures.value c.in_ok-known.ensures (c.in_ok-links.ensures.seen link within)
 
 pub returns-clause-arrivals : goal.returns-clause-arrivals
 returns-clause-arrivals c link second within =
     ap (λ (time : ℕ → ℕ). arrival_by time second) (fun_ext (λ bin.
-    seen_time c.args.network.now.links c.args.events.now c.len.result c.in_ok-known.known.rows.items c.deref.result.now c.in_ok-known.known.entries.items link bin
+    seen_time c.args.network.now.links c.args.events.now c.len.result c.in_ok-known.known.rows.items c.deref.result.now
+    c.in_ok-known.known.entries.items link bin
     (profile_at c.in_ok-links.links.items link) c.deref.ensures.value c.in_ok-known.ensures (c.in_ok-links.ensures.seen link within)))

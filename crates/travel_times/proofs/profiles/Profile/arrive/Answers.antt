@@ -14,7 +14,8 @@ value_is : (c : goal.After-max) → c.max.result ≡ arrival_by (time_in c.args.
 value_is c =
     let count : c.len.result ≡ length c.self.inside.bins.items = search rules in
     let some : suc c.in-Some.last ≡ length c.self.inside.bins.items = let from_len = c.in-Some.ensures in omega arith in
-    binned_read c.self.inside c.args.second c.in-Some.last c.min-place.result c.from-2.result c.from-3.result c.max.result c.index.result.now c.self.invariant some
+    binned_read c.self.inside c.args.second c.in-Some.last c.min-place.result c.from-2.result c.from-3.result c.max.result
+    c.index.result.now c.self.invariant some
     c.min-place.ensures c.index.ensures c.from-2.ensures c.from-3.ensures c.max.ensures
     ∙ ap (λ (p : LinkProfile). arrival_by (time_in p) c.args.second) c.self.view_is
 

@@ -142,6 +142,7 @@ fn is_found(
 }
 
 /// Whether a search that is asked for one node and then for another gives the plain routes to both.
+#[tactic(auto, unfolding(rows::specs::Joined::ends_of))]
 fn are_asked(
     alloc: Global,
     town: &Town,

@@ -1,0 +1,13 @@
+pub mod Passing
+pub mod Reading
+pub mod Credits
+pub mod Resting
+pub mod Sleep
+pub mod Marking
+pub mod Waking
+pub mod Starts
+pub mod Places
+pub mod Whole
+pub mod Skipping
+pub mod Settling
+pub mod Exhausting

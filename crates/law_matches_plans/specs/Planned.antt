@@ -1,10 +1,11 @@
 -- What the day of a town tells of a person.
-use Rattle.std.specs.Prelude.{◌≡◌, ◌≤◌, ◌*◌, ℕ, List, [], ◌∷◌, ◌++◌, length, filter}
+use Rattle.std.specs.Prelude.{◌≡◌, ◌≤◌, ◌*◌, ℕ, List, [], ◌∷◌, ◌++◌, length}
 use Rattle.events.specs.declared.event.Event.{Event}
 use Rattle.events.specs.declared.event.Word.TheVariants.{StuckAndAbort}
 use Rattle.traffic.specs.Setup.{Setup}
 use Rattle.traffic.specs.Day.{day}
-use Rattle.law_trips.specs.Trips.{InTurn, at_activities, steps, legs, of_person}
+use Rattle.events.specs.Persons.{own_events}
+use Rattle.law_trips.specs.Trips.{InTurn, at_activities, steps, legs}
 
 -- the events of person i come as his plan says
 pub record IsToldAsPlanned (S : Setup) (i : ℕ) : Type 0 where
@@ -12,8 +13,8 @@ pub record IsToldAsPlanned (S : Setup) (i : ℕ) : Type 0 where
   -- stuck
   pub turn : InTurn (at_activities S i) S i 0 (steps i (day S))
   -- after he is stuck nothing more is told of him
-  pub last : (before later : List Event) (e : Event) → filter (of_person i) (day S) ≡ before ++ e ∷ later → e.word ≡ StuckAndAbort
+  pub last : (before later : List Event) (e : Event) → own_events i (day S) ≡ before ++ e ∷ later → e.word ≡ StuckAndAbort
       → later ≡ []
   -- at most eight events name him for each leg of his plan, and so at most 64
-  pub few : length (filter (of_person i) (day S)) ≤ 8 * legs S i
-  pub most : length (filter (of_person i) (day S)) ≤ 64
+  pub few : length (own_events i (day S)) ≤ 8 * legs S i
+  pub most : length (own_events i (day S)) ≤ 64

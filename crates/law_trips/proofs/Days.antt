@@ -21,7 +21,8 @@ use Rattle.traffic.proofs.Moments.{Along}
 use Rattle.traffic.proofs.Walks.{IsWalk, phase_walk}
 use Rattle.law_one_place.proofs.Places.{InOne}
 use Rattle.law_one_place.proofs.Turns.{turn_keeps, start_kept}
-use Rattle.law_trips.specs.Trips.{Places, anywhere, leg, legs, IsPlanned, names, of_person, is_step, steps, InTurn}
+use Rattle.events.specs.Persons.{names, of_person, is_step}
+use Rattle.law_trips.specs.Trips.{Places, anywhere, leg, legs, IsPlanned, steps, InTurn}
 use Rattle.law_trips.proofs.Events.{IsPlan, IsLast, own, told_steps, steps_append, Rest, worth, HasLeg, IsFitAt}
 use Rattle.law_trips.proofs.Turns.{AlightsAt, MayAlight, IsSane, Good, Passes, passes_append, passes_none, moves_pass, link_along, node_along, flight_along, leave_along, departure_along}
 

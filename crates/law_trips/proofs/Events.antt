@@ -22,7 +22,8 @@ use Rattle.events.specs.declared.event.Word.TheVariants as word
 use Rattle.traffic.proofs.Each.{each_append, each_kept}
 use Rattle.traffic.proofs.LeftBehind.{serving_stage, after-append}
 use Rattle.law_one_place.proofs.Places.{among_riders, rides}
-use Rattle.law_trips.specs.Trips.{act, leg, legs, IsPlanned, names, is_step, Step, Places, Departs, Arrives, IsStuck, InTurn}
+use Rattle.events.specs.Persons.{names, is_step}
+use Rattle.law_trips.specs.Trips.{act, leg, legs, IsPlanned, Step, Places, Departs, Arrives, IsStuck, InTurn}
 
 pub half_two : (e : ℕ) → (e + 2) / 2 ≡ e / 2 + 1
 half_two e = omega arith

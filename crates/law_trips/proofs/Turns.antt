@@ -35,7 +35,8 @@ use Rattle.traffic.proofs.Moments.{Along, along_both, along_given, held_along}
 use Rattle.law_one_place.proofs.Places.{vehicles, stands, after_move, listed_once, weight, weight-without, weighed, IsTaken, took, brought, rides, rides_in, counted, listed-rows_of, listed_part, InOne, among_riders, rides_few}
 use Rattle.law_one_place.proofs.Boarding.{IsInLine, in_line, board_few, as_riders, riders_are, served_are, waits_few, line_one, waiters_in_line}
 use Rattle.law_one_place.proofs.Turns.{place_of, told_front, told_end, nodes_keep, links_keep}
-use Rattle.law_trips.specs.Trips.{Places, act, names, leg, legs}
+use Rattle.events.specs.Persons.{names}
+use Rattle.law_trips.specs.Trips.{Places, act, leg, legs}
 use Rattle.law_trips.proofs.Events.{IsPlan, IsCalm, worth, worth_at, IsLast, Stops, stops_last, calm_put, calm_gone, stuck_count, stuck_place, own, told_steps, steps_append, IsFit, Goes, Does, goes_append, after_own, car_worth, half_two, does_nil, goes_less, IsFitAt, lands_does, departs_does, waits_does, enters_car, IsIn, kind_next, AreRight, wrong, wrong_few, all_right, count_yes, count_no, IsWaiting, IsRight, none_wrong, change_element, riders_change, arrives_does, nobody_arrives, front_does, put_front, gone_front, riders_stuck, nobody_stuck}
 
 -- what the cars of person i are worth, and how many calls cars have

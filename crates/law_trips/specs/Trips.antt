@@ -1,10 +1,11 @@
 -- What a day tells of one person: the events of his trips, and of all that he does.
-use Rattle.std.specs.Prelude.{◌≡◌, ◌<◌, ◌≤◌, ℕ, ◌+◌, Bool, true, false, List, [], ◌∷◌, length, map, filter, get_or, ◌==◌, Option, None, Some}
+use Rattle.std.specs.Prelude.{◌≡◌, ◌<◌, ◌≤◌, ℕ, ◌+◌, List, [], ◌∷◌, length, map, filter, get_or, Option, None, Some}
 use Rattle.events.specs.declared.event.Event.{Event}
 use Rattle.events.specs.declared.event.More.{More}
 use Rattle.events.specs.declared.event.More.TheVariants as more
 use Rattle.events.specs.declared.event.Word.{Word}
 use Rattle.events.specs.declared.event.Word.TheVariants as word
+use Rattle.events.specs.Persons.{is_step, own_events}
 use Rattle.rows.specs.declared.plan.Act.{Act}
 use Rattle.rows.specs.declared.plan.Leg.{Leg}
 use Rattle.rows.specs.declared.plan.Leg.TheVariants.{Car}
@@ -27,31 +28,13 @@ legs S i = length (person_plan S i).legs
 pub record IsPlanned (S : Setup) (i : ℕ) : Type 0 where
   pub last : (k : ℕ) → legs S i ≤ k → (act S i k).end ≡ None
 
--- whether a field of an event names person i
-abbrev pub names : ℕ → Option ℕ → Bool
-names i None = false
-names i (Some j) = j == i
-
--- the events of a person: those that name him in their field of a person
-abbrev pub of_person : ℕ → Event → Bool
-of_person i e = names i e.person
-
--- the words of a trip: the activity before it ends, its leg departs, arrives or is stuck, and the activity after it starts
-abbrev pub is_step : Word → Bool
-is_step word.ActEnd = true
-is_step word.Departure = true
-is_step word.Arrival = true
-is_step word.ActStart = true
-is_step word.StuckAndAbort = true
-is_step _ = false
-
 -- a word, the link that it names, and what more it tells
 abbrev pub Step : Type 0
 Step = Word × Option ℕ × More
 
 -- the steps of a person's trips, in the order of these events
 unfoldable pub steps : ℕ → List Event → List Step
-steps i es = map (λ (e : Event). (e.word, e.link, e.more)) (filter (λ (e : Event). is_step e.word) (filter (of_person i) es))
+steps i es = map (λ (e : Event). (e.word, e.link, e.more)) (filter (λ (e : Event). is_step e.word) (own_events i es))
 
 -- which links an event of activity k may name: any, or that of the activity alone
 abbrev pub Places : Type 1

@@ -9,8 +9,7 @@ use Rattle.scoring.specs.declared.TheConstants.{SCORING_DAY}
 use Rattle.scoring.specs.declared.scorer.Doing.{Doing}
 use Rattle.scoring.specs.declared.scorer.Doing.TheVariants as doing
 use Rattle.scoring.specs.declared.scorer.Scorer.{Scorer}
-use Rattle.scoring.specs.declared.tables.Tables.{Tables}
-use Rattle.scoring.specs.Tables.{activity_worth}
+use Rattle.scoring.specs.Tables.{ScoringRows, activity_worth}
 use Rattle.scoring.specs.Score.{Activity, starts, departures, act_ends, leg_ends, stuck_in, ended, unended, until, until_midnight, over_midnight, with_night, spells, spell_worth, spells_worth, rides_worth, lateness_costs, stuck_costs, total, score}
 use Rattle.scoring.specs.Taken.{activity_of, first_of, last_step, word_of, settled, Keeps, IsTakenBy}
 use Rattle.scoring.specs.Steps.{last_worth}
@@ -20,7 +19,7 @@ from_zero : (x : ℕ) → x - 0 ≡ x
 from_zero x = omega arith
 
 -- the first activity has not ended: it is the only one
-only-spell : (T : Tables) (f : ℕ) (a : List Activity) (kind since : ℕ) → (kind, since) ∷ [] ≡ (f, 0) ∷ a
+only-spell : (T : ScoringRows) (f : ℕ) (a : List Activity) (kind since : ℕ) → (kind, since) ∷ [] ≡ (f, 0) ∷ a
     → spells_worth T (map until_midnight ((f, 0) ∷ a)) ≡ activity_worth T.tables kind (SCORING_DAY - since)
 unfolding total
 only-spell T f a kind since e =
@@ -29,7 +28,7 @@ only-spell T f a kind since e =
     ap (λ z. spells_worth T (map until_midnight ((f, 0) ∷ z))) none ∙ ap (λ (z : Activity). activity_worth T.tables z.0 (SCORING_DAY - z.1) +ℤ pos 0) same ∙ omega (arith, ints)
 
 -- the first activity and one that has not ended, joined or apart, with those between them
-last-spells : (T : Tables) (f x : ℕ) (b : Bool) (zs : List (ℕ × ℕ)) (kind since : ℕ) → nat_eq kind f ≡ b
+last-spells : (T : ScoringRows) (f x : ℕ) (b : Bool) (zs : List (ℕ × ℕ)) (kind since : ℕ) → nat_eq kind f ≡ b
     → spells_worth T (with_night (over_midnight f (x ∷ []) ((kind, since) ∷ []) []) ((f, x - 0) ∷ zs) ((kind, SCORING_DAY - since) ∷ []))
     ≡ spells_worth T zs +ℤ last_worth T.tables f (Some x) (doing.Activity kind since)
 unfolding total
@@ -38,11 +37,11 @@ last-spells T f x false zs kind since e =
     rw (e, from_zero x) (let g = total-push (spell_worth T) zs (kind, SCORING_DAY - since) in omega (arith, ints))
 
 -- the person is at no activity
-no-last : (T : Tables) (f x : ℕ) (zs : List (ℕ × ℕ)) → spells_worth T (((f, x - 0) ∷ zs) ++ []) ≡ spells_worth T zs +ℤ activity_worth T.tables f x
+no-last : (T : ScoringRows) (f x : ℕ) (zs : List (ℕ × ℕ)) → spells_worth T (((f, x - 0) ∷ zs) ++ []) ≡ spells_worth T zs +ℤ activity_worth T.tables f x
 unfolding total
 no-last T f x zs = rw (append-nil zs, from_zero x) (omega (arith, ints))
 
-spells-last : (T : Tables) (f : ℕ) (a : List Activity) (n k : List ℕ) (d : Doing) (l : Option ℕ)
+spells-last : (T : ScoringRows) (f : ℕ) (a : List Activity) (n k : List ℕ) (d : Doing) (l : Option ℕ)
     → l ≡ first_of n → activity_of d ≡ unended f a n → ((kind since : ℕ) → d ≡ doing.Activity kind since → k ≡ [])
     → spells_worth T (spells f a n k) ≡ spells_worth T (drop 1 (map until (ended f a n))) +ℤ last_worth T.tables f l d
 unfolding total
@@ -56,7 +55,7 @@ four : (A B C D E F : ℤ) → E ≡ A +ℤ F → A +ℤ B +ℤ C +ℤ D +ℤ F 
 four A B C D E F e = omega (arith, ints)
 
 -- what is added at the end to what was settled is the score
-pub score_is : (T : Tables) (s : Scorer) (es : List Event) → IsTakenBy T s es
+pub score_is : (T : ScoringRows) (s : Scorer) (es : List Event) → IsTakenBy T s es
     → s.sum +ℤ last_worth T.tables s.first_kind s.first_end s.doing ≡ score T s.first_kind es
 unfolding score settled
 score_is T s es H =

@@ -7,8 +7,7 @@ use Rattle.events.specs.declared.event.Mode.{Mode}
 use Rattle.scoring.specs.declared.scorer.Doing.{Doing}
 use Rattle.scoring.specs.declared.scorer.Doing.TheVariants as doing
 use Rattle.scoring.specs.declared.scorer.Scorer.{Scorer}
-use Rattle.scoring.specs.declared.tables.Tables.{Tables}
-use Rattle.scoring.specs.Tables.{activity_worth, leg_worth, seconds_late}
+use Rattle.scoring.specs.Tables.{ScoringRows, activity_worth, leg_worth, seconds_late}
 use Rattle.scoring.specs.Score.{Activity, Leg, ended, unended, until, spell_worth, spells_worth, ride_worth, rides_worth, lateness_cost, lateness_costs, stuck_costs, total}
 use Rattle.scoring.specs.Taken.{activity_of, leg_of, first_of, settled, Keeps}
 use Rattle.scoring.proofs.Pairs.{zip-close, zip-open, zip-nil, drop-close, drop-open, total-push}
@@ -24,16 +23,16 @@ grow_both : (s A B C D E F w v : ℤ) → s ≡ A +ℤ B +ℤ C +ℤ D → E ≡
 grow_both s A B C D E F w v e f g = omega (arith, ints)
 
 -- what is kept of the activity and the leg, where it is known what the person is doing
-activity_known : (T : Tables) (s : Scorer) (a : List Activity) (d : List Leg) (n m k : List ℕ) (x : List Activity)
+activity_known : (T : ScoringRows) (s : Scorer) (a : List Activity) (d : List Leg) (n m k : List ℕ) (x : List Activity)
     → Keeps T s a d n m k → activity_of s.doing ≡ x → (unended s.first_kind a n ≡ x) × (length n + length x ≡ length a + 1)
 activity_known T s a d n m k x K is = (sym K.activity ∙ is, subst (λ (y : List Activity). length n + length y ≡ length a + 1) is K.activities)
 
-leg_known : (T : Tables) (s : Scorer) (a : List Activity) (d : List Leg) (n m k : List ℕ) (x : List Leg)
+leg_known : (T : ScoringRows) (s : Scorer) (a : List Activity) (d : List Leg) (n m k : List ℕ) (x : List Leg)
     → Keeps T s a d n m k → leg_of s.doing ≡ x → (drop (length m) d ≡ x) × (length m + length x ≡ length d)
 leg_known T s a d n m k x K is = (sym K.leg ∙ is, subst (λ (y : List Leg). length m + length y ≡ length d) is K.legs)
 
 -- the first activity ends
-pub first-ends : (T : Tables) (s : Scorer) (a : List Activity) (d : List Leg) (n m k : List ℕ) (t kind since : ℕ)
+pub first-ends : (T : ScoringRows) (s : Scorer) (a : List Activity) (d : List Leg) (n m k : List ℕ) (t kind since : ℕ)
     → Keeps T s a d n m k → s.doing ≡ doing.Activity kind since → s.first_end ≡ None
     → Keeps T (record s { first_end = Some t; doing = doing.Leaving }) a d (n ++ t ∷ []) m k
 unfolding settled
@@ -52,7 +51,7 @@ first-ends T s a d [] m k t kind since K is first =
 first-ends T s a d (x ∷ n) m k t kind since K is first = absurd (let e = K.left in cc)
 
 -- another activity ends
-pub activity-ends : (T : Tables) (s : Scorer) (a : List Activity) (d : List Leg) (n m k : List ℕ) (t kind since left : ℕ)
+pub activity-ends : (T : ScoringRows) (s : Scorer) (a : List Activity) (d : List Leg) (n m k : List ℕ) (t kind since left : ℕ)
     → Keeps T s a d n m k → s.doing ≡ doing.Activity kind since → s.first_end ≡ Some left
     → Keeps T (record s { doing = doing.Leaving; sum = s.sum +ℤ activity_worth T.tables kind (t - since) }) a d (n ++ t ∷ []) m k
 unfolding settled
@@ -75,7 +74,7 @@ activity-ends T s a d (x ∷ n) m k t kind since left K is first =
     }
 
 -- a leg departs
-pub leg-begins : (T : Tables) (s : Scorer) (a : List Activity) (d : List Leg) (n m k : List ℕ) (t : ℕ) (mode : Mode)
+pub leg-begins : (T : ScoringRows) (s : Scorer) (a : List Activity) (d : List Leg) (n m k : List ℕ) (t : ℕ) (mode : Mode)
     → Keeps T s a d n m k → s.doing ≡ doing.Leaving
     → Keeps T (record s { doing = doing.Leg mode t }) a (d ++ (mode, t) ∷ []) n m k
 unfolding settled
@@ -93,7 +92,7 @@ leg-begins T s a d n m k t mode K is =
     }
 
 -- a leg ends, and something is paid besides
-pub leg-ends : (T : Tables) (s : Scorer) (a : List Activity) (d : List Leg) (n m k l : List ℕ) (t since : ℕ) (mode : Mode) (paid : ℤ) (next : Doing)
+pub leg-ends : (T : ScoringRows) (s : Scorer) (a : List Activity) (d : List Leg) (n m k l : List ℕ) (t since : ℕ) (mode : Mode) (paid : ℤ) (next : Doing)
     → Keeps T s a d n m k → s.doing ≡ doing.Leg mode since → stuck_costs T l ≡ stuck_costs T k +ℤ paid → activity_of next ≡ [] → leg_of next ≡ []
     → Keeps T (record s { doing = next; sum = s.sum +ℤ (leg_worth T.modes mode (t - since) +ℤ paid) }) a d n (m ++ t ∷ []) l
 unfolding settled
@@ -113,7 +112,7 @@ leg-ends T s a d n m k l t since mode paid next K is costs no_activity no_leg =
     }
 
 -- an activity starts
-pub activity-begins : (T : Tables) (s : Scorer) (a : List Activity) (d : List Leg) (n m k : List ℕ) (t kind : ℕ)
+pub activity-begins : (T : ScoringRows) (s : Scorer) (a : List Activity) (d : List Leg) (n m k : List ℕ) (t kind : ℕ)
     → Keeps T s a d n m k → s.doing ≡ doing.Arriving
     → Keeps T (record s { doing = doing.Activity kind t; sum = s.sum +ℤ T.late_per_second *ℤ pos (seconds_late T.tables kind t) }) (a ++ (kind, t) ∷ []) d n m k
 unfolding settled

@@ -1,37 +1,42 @@
--- Kinds of tables, by the places of the tables.
-use Rattle.std.proofs.Common.{◌≡◌, ℕ, suc, ◌+◌, ◌-◌, ◌<◌, ◌≤◌, ◌||◌, Bool, true, false, nat_eq, List, [], ◌∷◌, map, length, get_or, take, drop, drop-cons, add-one, take_all, length-drop, refl, sym, ap, ◌∙◌, subst, arith}
+-- Keys of rows, as the kinds of tables: whether one comes again behind its place.
+use Rattle.std.proofs.Common.{◌≡◌, ℕ, suc, ◌+◌, ◌-◌, ◌<◌, ◌&&◌, ◌||◌, not, Bool, true, false, List, [], ◌∷◌, map, length, get_or, take, drop, drop-cons, add-one, take_all, length-drop, refl, sym, ap, ◌∙◌, subst, arith}
 use Rattle.std.specs.List.{list_any}
-use Rattle.scoring.specs.declared.table.Table.{Table}
-use Rattle.scoring.specs.Kinds.{kind_of, are_distinct}
 
--- the tables from a place on, as the code cuts them
-pub rest_is : (ts : List Table) (i : ℕ) → take (length ts - i) (drop i ts) ≡ drop i ts
-rest_is ts i = take_all (length ts - i) (drop i ts) (omega (arith, length-drop i ts))
+-- the rows from a place on, as code cuts them
+rest_is : {X : Type 0} (xs : List X) (i : ℕ) → take (length xs - i) (drop i xs) ≡ drop i xs
+rest_is xs i = take_all (length xs - i) (drop i xs) (omega (arith, length-drop i xs))
 
-any_kind : (k : ℕ) (ts : List Table) → list_any (λ (t : Table). nat_eq k t.kind) ts ≡ list_any (λ n. nat_eq k n) (map kind_of ts)
-any_kind k [] = refl
-any_kind k (t ∷ ts) = ap (λ b. nat_eq k t.kind || b) (any_kind k ts)
+any_key : {X K : Type 0} (key : X → K) (p : K → Bool) (xs : List X) → list_any (λ (x : X). p (key x)) xs ≡ list_any p (map key xs)
+any_key key p [] = refl
+any_key key p (x ∷ xs) = ap (λ (b : Bool). p (key x) || b) (any_key key p xs)
 
--- whether the kind at a place comes again, as the code asks it
-pub again_is : (ts : List Table) (i : ℕ) (d : Table) (b : Bool)
-    → list_any (λ (t : Table). nat_eq (get_or ts i d).kind t.kind) (take (length ts - (i + 1)) (drop (i + 1) ts)) ≡ b
-    → list_any (λ n. nat_eq (get_or ts i d).kind n) (map kind_of (drop (suc i) ts)) ≡ b
-again_is ts i d b e =
-    subst (λ (m : ℕ). list_any (λ n. nat_eq (get_or ts i d).kind n) (map kind_of (drop m ts)) ≡ b) (add-one i)
-    (sym (any_kind (get_or ts i d).kind (drop (i + 1) ts))
-    ∙ subst (λ (xs : List Table). list_any (λ (t : Table). nat_eq (get_or ts i d).kind t.kind) xs ≡ b) (rest_is ts (i + 1)) e)
+-- whether a key behind a place passes a test, as code asks it
+later_is : {X K : Type 0} (key : X → K) (p : K → Bool) (xs : List X) (i : ℕ) (b : Bool)
+    → list_any (λ (x : X). p (key x)) (take (length xs - (i + 1)) (drop (i + 1) xs)) ≡ b → list_any p (map key (drop (suc i) xs)) ≡ b
+later_is {X} key p xs i b e =
+    subst (λ (m : ℕ). list_any p (map key (drop m xs)) ≡ b) (add-one i)
+    (sym (any_key key p (drop (i + 1) xs)) ∙ subst (λ (ys : List X). list_any (λ (x : X). p (key x)) ys ≡ b) (rest_is xs (i + 1)) e)
 
--- it comes again
-pub kind_again : (ts : List Table) (i : ℕ) (d : Table) → i < length ts
-    → list_any (λ (t : Table). nat_eq (get_or ts i d).kind t.kind) (take (length ts - (i + 1)) (drop (i + 1) ts)) ≡ true
-    → are_distinct (map kind_of (drop i ts)) ≡ false
-kind_again ts i d here again = let e = again_is ts i d true again in rw (drop-cons ts i d, e)
+-- what tells whether keys are distinct: the first one does not come again, and the others are distinct
+abbrev pub TellsDistinct : {K : Type 0} → (K → K → Bool) → (List K → Bool) → Type 0
+TellsDistinct {K} same distinct = (k : K) (ks : List K) → distinct (k ∷ ks) ≡ (not (list_any (same k) ks) && distinct ks)
+
+-- a key comes again
+pub key_again : {X K : Type 0} (key : X → K) (same : K → K → Bool) (distinct : List K → Bool) → TellsDistinct same distinct → (xs : List X) (i : ℕ) (d : X) → i < length xs
+    → list_any (λ (x : X). same (key (get_or xs i d)) (key x)) (take (length xs - (i + 1)) (drop (i + 1) xs)) ≡ true → distinct (map key (drop i xs)) ≡ false
+key_again {X} key same distinct tells xs i d here again =
+    let k = key (get_or xs i d) in
+    let later = distinct (map key (drop (suc i) xs)) in
+    let e = later_is key (same k) xs i true again in
+    ap (λ (ys : List X). distinct (map key ys)) (drop-cons xs i d here) ∙ tells k (map key (drop (suc i) xs)) ∙ ap (λ (b : Bool). not b && later) e
 
 -- or it does not
-pub kind_alone : (ts : List Table) (i : ℕ) (d : Table) → i < length ts
-    → list_any (λ (t : Table). nat_eq (get_or ts i d).kind t.kind) (take (length ts - (i + 1)) (drop (i + 1) ts)) ≡ false
-    → are_distinct (map kind_of (drop i ts)) ≡ are_distinct (map kind_of (drop (i + 1) ts))
-kind_alone ts i d here alone =
-    let e = again_is ts i d false alone in
-    let f : are_distinct (map kind_of (drop i ts)) ≡ are_distinct (map kind_of (drop (suc i) ts)) = rw (drop-cons ts i d, e) in
-    f ∙ ap (λ (m : ℕ). are_distinct (map kind_of (drop m ts))) (sym (add-one i))
+pub key_alone : {X K : Type 0} (key : X → K) (same : K → K → Bool) (distinct : List K → Bool) → TellsDistinct same distinct → (xs : List X) (i : ℕ) (d : X) → i < length xs
+    → list_any (λ (x : X). same (key (get_or xs i d)) (key x)) (take (length xs - (i + 1)) (drop (i + 1) xs)) ≡ false
+    → distinct (map key (drop i xs)) ≡ distinct (map key (drop (i + 1) xs))
+key_alone {X} key same distinct tells xs i d here alone =
+    let k = key (get_or xs i d) in
+    let later = distinct (map key (drop (suc i) xs)) in
+    let e = later_is key (same k) xs i false alone in
+    ap (λ (ys : List X). distinct (map key ys)) (drop-cons xs i d here) ∙ tells k (map key (drop (suc i) xs)) ∙ ap (λ (b : Bool). not b && later) e
+    ∙ ap (λ (m : ℕ). distinct (map key (drop m xs))) (sym (add-one i))

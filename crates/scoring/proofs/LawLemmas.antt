@@ -12,11 +12,12 @@ use Rattle.events.specs.declared.event.More.{More}
 use Rattle.events.specs.declared.event.Word.{Word}
 use Rattle.events.specs.declared.event.Word.TheVariants as word
 use Rattle.limits.specs.declared.TheConstants.{MAX_PERSONS}
+use Rattle.events.specs.Persons.{is_step}
 use Rattle.scoring.specs.declared.TheConstants.{MAX_SCORE}
-use Rattle.scoring.specs.declared.tables.Tables.{Tables}
 use Rattle.scoring.specs.Ranges.{IsWithin}
 use Rattle.scoring.specs.Points.{Point, are_rising, are_climbing, on_line, value, along}
-use Rattle.scoring.specs.Turns.{scores, steps, Follow, InTurn}
+use Rattle.scoring.specs.Turns.{steps, Follow, InTurn}
+use Rattle.scoring.specs.Tables.{ScoringRows}
 use Rattle.scoring.specs.Score.{started, departed, act_ended, leg_ended, got_stuck, starts, departures, act_ends, leg_ends, stuck_in, spells, spells_worth, rides_worth, lateness_costs, stuck_costs, total, score}
 use borrow.Author.Differences.{neg_is}
 use Rattle.scoring.proofs.Lines.{on_line-between, on_line-mono}
@@ -179,31 +180,31 @@ filter_map-filter h p none (e ∷ es) =
       | inr fails ↦ rw (fails, ← none e fails) rest
     ]
 
-quiet_started : (w : Word) (m : More) (t : ℕ) → scores w ≡ false → None ≡ started w m t
+quiet_started : (w : Word) (m : More) (t : ℕ) → is_step w ≡ false → None ≡ started w m t
 quiet_started word.ActStart m t fails = cc
 quiet_started _ m t fails = refl
 
-quiet_departed : (w : Word) (m : More) (t : ℕ) → scores w ≡ false → None ≡ departed w m t
+quiet_departed : (w : Word) (m : More) (t : ℕ) → is_step w ≡ false → None ≡ departed w m t
 quiet_departed word.Departure m t fails = cc
 quiet_departed _ m t fails = refl
 
-quiet_act_ended : (w : Word) (t : ℕ) → scores w ≡ false → None ≡ act_ended w t
+quiet_act_ended : (w : Word) (t : ℕ) → is_step w ≡ false → None ≡ act_ended w t
 quiet_act_ended word.ActEnd t fails = cc
 quiet_act_ended _ t fails = refl
 
-quiet_leg_ended : (w : Word) (t : ℕ) → scores w ≡ false → None ≡ leg_ended w t
+quiet_leg_ended : (w : Word) (t : ℕ) → is_step w ≡ false → None ≡ leg_ended w t
 quiet_leg_ended word.Arrival t fails = cc
 quiet_leg_ended word.StuckAndAbort t fails = cc
 quiet_leg_ended _ t fails = refl
 
-quiet_stuck : (w : Word) (t : ℕ) → scores w ≡ false → None ≡ got_stuck w t
+quiet_stuck : (w : Word) (t : ℕ) → is_step w ≡ false → None ≡ got_stuck w t
 quiet_stuck word.StuckAndAbort t fails = cc
 quiet_stuck _ t fails = refl
 
 abbrev scoring_event : Event → Bool
-scoring_event e = scores e.word
+scoring_event e = is_step e.word
 
-pub score-filter : (T : Tables) (f : ℕ) (es : List Event) → score T f es ≡ score T f (filter (λ (e : Event). scores e.word) es)
+pub score-filter : (T : ScoringRows) (f : ℕ) (es : List Event) → score T f es ≡ score T f (filter (λ (e : Event). is_step e.word) es)
 unfolding score starts departures act_ends leg_ends stuck_in
 score-filter T f es =
     rw (
@@ -222,7 +223,7 @@ Follow-front b (w ∷ ws) vs turn = (turn.0, Follow-front w ws vs turn.1)
 pub InTurn-front : (es later : List Event) → InTurn (es ++ later) → InTurn es
 InTurn-front es later turn =
     let parts : steps (es ++ later) ≡ steps es ++ steps later =
-    ap (filter scores) (map-append (λ (x : Event). x.word) es later) ∙ filter-append scores (map (λ (x : Event). x.word) es) (map (λ (x : Event). x.word) later) in
+    ap (filter is_step) (map-append (λ (x : Event). x.word) es later) ∙ filter-append is_step (map (λ (x : Event). x.word) es) (map (λ (x : Event). x.word) later) in
     Follow-front word.ActStart (steps es) (steps later) (subst (Follow word.ActStart) parts turn)
 
 total-within : (zs : List ℤ) → All (IsWithin MAX_SCORE) zs → IsWithin (pos (100000000000000 * length zs)) (total zs)

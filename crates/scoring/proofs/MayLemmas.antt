@@ -7,19 +7,20 @@ use Rattle.events.specs.declared.event.More.{More}
 use Rattle.events.specs.declared.event.More.TheVariants as more
 use Rattle.events.specs.declared.event.Word.{Word}
 use Rattle.events.specs.declared.event.Word.TheVariants as word
+use Rattle.events.specs.Persons.{is_step}
 use Rattle.scoring.specs.declared.TheConstants.{MAX_EVENTS}
 use Rattle.scoring.specs.declared.scorer.Doing.{Doing}
 use Rattle.scoring.specs.declared.scorer.Doing.TheVariants as doing
 use Rattle.scoring.specs.declared.scorer.Scorer.{Scorer}
-use Rattle.scoring.specs.declared.tables.Tables.{Tables}
-use Rattle.scoring.specs.Turns.{scores, steps, word_before, Follow, InTurn, tells}
+use Rattle.scoring.specs.Turns.{steps, word_before, Follow, InTurn, tells}
+use Rattle.scoring.specs.Tables.{ScoringRows}
 use Rattle.scoring.specs.Taken.{MayFollow, AllFollow, last_of, last_step, word_of, IsTakenBy}
 use Rattle.scoring.specs.Steps.{is_next}
 use Rattle.scoring.proofs.Shown.{added}
 use Rattle.scoring.proofs.Taking.{comes}
 
 -- what comes next comes right behind what the person is doing, and tells what it is scored by
-next_before : (w : Word) (m : More) (d : Doing) → is_next w m d ≡ true → scores w ≡ true → word_before w ≡ word_of d
+next_before : (w : Word) (m : More) (d : Doing) → is_next w m d ≡ true → is_step w ≡ true → word_before w ≡ word_of d
 next_before word.ActEnd m (doing.Activity kind since) h s = refl
 next_before word.ActEnd m _ h s = cc
 next_before word.Departure (more.Mode mode) doing.Leaving h s = refl
@@ -40,7 +41,7 @@ next_tells word.ActStart _ d h = cc
 next_tells _ m d h = refl
 
 -- and what comes behind it and tells that comes next
-is_next_by : (w : Word) (m : More) (d : Doing) → (scores w ≡ true → word_of d ≡ word_before w) → tells w m ≡ true → is_next w m d ≡ true
+is_next_by : (w : Word) (m : More) (d : Doing) → (is_step w ≡ true → word_of d ≡ word_before w) → tells w m ≡ true → is_next w m d ≡ true
 is_next_by word.ActEnd m (doing.Activity kind since) behind told = refl
 is_next_by word.ActEnd m _ behind told = absurd (let x = behind refl in cc)
 is_next_by word.Departure (more.Mode mode) doing.Leaving behind told = refl
@@ -61,16 +62,16 @@ Follow-push b [] w turn behind = (behind, tt)
 Follow-push b (v ∷ ws) w turn behind = (turn.0, Follow-push v ws w turn.1 behind)
 
 -- with an event that comes next events in turn stay so
-turn_more : (es : List Event) (e : Event) → InTurn es → (scores e.word ≡ true → word_before e.word ≡ last_step es) → InTurn (es ++ e ∷ [])
+turn_more : (es : List Event) (e : Event) → InTurn es → (is_step e.word ≡ true → word_before e.word ≡ last_step es) → InTurn (es ++ e ∷ [])
 turn_more es e turn behind =
-    elim (cases_Bool (scores e.word)) [
+    elim (cases_Bool (is_step e.word)) [
       | inl counts ↦ (let now : steps (es ++ e ∷ []) ≡ steps es ++ e.word ∷ [] = (added es e).steps ∙ ap (λ b. steps es ++ cond b (e.word ∷ []) []) counts in
           subst (Follow word.ActStart) (sym now) (Follow-push word.ActStart (steps es) e.word turn (behind counts)))
       | inr other ↦ (let now : steps (es ++ e ∷ []) ≡ steps es = (added es e).steps ∙ ap (λ b. steps es ++ cond b (e.word ∷ []) []) other ∙ append-nil (steps es) in
           subst (Follow word.ActStart) (sym now) turn)
     ]
 
-pub may_take : (T : Tables) (s : Scorer) (es : List Event) (e : Event) → IsTakenBy T s es → length es < MAX_EVENTS → e.key.second ≤ LAST_SECOND
+pub may_take : (T : ScoringRows) (s : Scorer) (es : List Event) (e : Event) → IsTakenBy T s es → length es < MAX_EVENTS → e.key.second ≤ LAST_SECOND
     → IsTrue (is_next e.word e.more s.doing) ↔ MayFollow es e
 may_take T s es e H few in_day = (
   (λ next. record {

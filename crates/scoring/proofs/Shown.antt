@@ -6,9 +6,10 @@ use Rattle.std.specs.List.{cons_option}
 use Rattle.events.specs.declared.event.Event.{Event}
 use Rattle.events.specs.declared.event.More.{More}
 use Rattle.events.specs.declared.event.Word.{Word}
+use Rattle.events.specs.Persons.{is_step}
 use Rattle.scoring.specs.declared.scorer.Scorer.{Scorer}
-use Rattle.scoring.specs.declared.tables.Tables.{Tables}
-use Rattle.scoring.specs.Turns.{scores, steps}
+use Rattle.scoring.specs.Turns.{steps}
+use Rattle.scoring.specs.Tables.{ScoringRows}
 use Rattle.scoring.specs.Score.{Activity, Leg, started, departed, act_ended, leg_ended, got_stuck, starts, departures, act_ends, leg_ends, stuck_in}
 use Rattle.scoring.specs.Taken.{Keeps}
 
@@ -26,7 +27,7 @@ abbrev pub Adds : List Event → Event → Word → More → Type 0
 Adds es e w m =
     Show (es ++ e ∷ []) (starts es ++ cons_option (started w m e.key.second) []) (departures es ++ cons_option (departed w m e.key.second) [])
     (act_ends es ++ cons_option (act_ended w e.key.second) []) (leg_ends es ++ cons_option (leg_ended w e.key.second) [])
-    (stuck_in es ++ cons_option (got_stuck w e.key.second) []) (steps es ++ cond (scores w) (w ∷ []) [])
+    (stuck_in es ++ cons_option (got_stuck w e.key.second) []) (steps es ++ cond (is_step w) (w ∷ []) [])
 
 -- what an event adds to what events show
 pub added : (es : List Event) (e : Event) → Adds es e e.word e.more
@@ -37,7 +38,7 @@ added es e = record {
   act_ends = filter_map-append _ es (e ∷ []);
   leg_ends = filter_map-append _ es (e ∷ []);
   stuck = filter_map-append _ es (e ∷ []);
-  steps = ap (filter scores) (map-append (λ (x : Event). x.word) es (e ∷ [])) ∙ filter-append scores (map (λ (x : Event). x.word) es) (e.word ∷ []);
+  steps = ap (filter is_step) (map-append (λ (x : Event). x.word) es (e ∷ [])) ∙ filter-append is_step (map (λ (x : Event). x.word) es) (e.word ∷ []);
 }
 
 pub adds : (es : List Event) (e : Event) (w : Word) (m : More) → e.word ≡ w → e.more ≡ m → Adds es e w m
@@ -48,6 +49,6 @@ pub kept : {A : Type 0} (xs ys : List A) → xs ≡ ys ++ [] → xs ≡ ys
 kept xs ys e = e ∙ append-nil ys
 
 -- what is kept of what events show is kept of the events
-pub keeps-shown : (T : Tables) (s : Scorer) (es : List Event) (a : List Activity) (d : List Leg) (n m k : List ℕ) (w : List Word)
+pub keeps-shown : (T : ScoringRows) (s : Scorer) (es : List Event) (a : List Activity) (d : List Leg) (n m k : List ℕ) (w : List Word)
     → Show es a d n m k w → Keeps T s a d n m k → Keeps T s (starts es) (departures es) (act_ends es) (leg_ends es) (stuck_in es)
 keeps-shown T s es a d n m k w H K = rw (H.starts, H.departures, H.act_ends, H.leg_ends, H.stuck) K

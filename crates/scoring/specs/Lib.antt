@@ -1,6 +1,6 @@
 pub mod Ranges
 pub mod Points
-pub mod Kinds
+pub mod Limits
 pub mod Tables
 pub mod Turns
 pub mod Score

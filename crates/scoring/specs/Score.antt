@@ -8,8 +8,7 @@ use Rattle.events.specs.declared.event.More.TheVariants as more
 use Rattle.events.specs.declared.event.Word.{Word}
 use Rattle.events.specs.declared.event.Word.TheVariants as word
 use Rattle.scoring.specs.declared.TheConstants.{SCORING_DAY}
-use Rattle.scoring.specs.declared.tables.Tables.{Tables}
-use Rattle.scoring.specs.Tables.{activity_worth, leg_worth, seconds_late}
+use Rattle.scoring.specs.Tables.{ScoringRows, activity_worth, leg_worth, seconds_late}
 
 -- an activity that has begun: its kind, and since when; a leg that has begun: its mode, and since when
 abbrev pub Activity : Type 0
@@ -102,33 +101,33 @@ total [] = pos 0
 total (z ∷ zs) = z +ℤ total zs
 
 -- what spells at activities are worth
-abbrev pub spell_worth : Tables → Spell → ℤ
+abbrev pub spell_worth : ScoringRows → Spell → ℤ
 spell_worth tables spell = activity_worth tables.tables spell.0 spell.1
 
-abbrev pub spells_worth : Tables → List Spell → ℤ
+abbrev pub spells_worth : ScoringRows → List Spell → ℤ
 spells_worth tables spells = total (map (spell_worth tables) spells)
 
 -- what legs that have ended are worth, each by its mode
-abbrev pub ride_worth : Tables → Leg × ℕ → ℤ
+abbrev pub ride_worth : ScoringRows → Leg × ℕ → ℤ
 ride_worth tables leg = leg_worth tables.modes leg.0.0 (leg.1 - leg.0.1)
 
-abbrev pub rides_worth : Tables → List Leg → List ℕ → ℤ
+abbrev pub rides_worth : ScoringRows → List Leg → List ℕ → ℤ
 rides_worth tables departed ends = total (map (ride_worth tables) (zip departed ends))
 
 -- what it costs that activities started late
-abbrev pub lateness_cost : Tables → Activity → ℤ
+abbrev pub lateness_cost : ScoringRows → Activity → ℤ
 lateness_cost tables a = tables.late_per_second *ℤ pos (seconds_late tables.tables a.0 a.1)
 
-abbrev pub lateness_costs : Tables → List Activity → ℤ
+abbrev pub lateness_costs : ScoringRows → List Activity → ℤ
 lateness_costs tables started = total (map (lateness_cost tables) started)
 
 -- what it costs to be stuck, so many times
-abbrev pub stuck_costs : Tables → List ℕ → ℤ
+abbrev pub stuck_costs : ScoringRows → List ℕ → ℤ
 stuck_costs tables stuck = total (map (λ _. tables.stuck) stuck)
 
 -- The score of a person whose first activity is of the kind `first`, in micro-utils: what his activities are worth and what his legs are
 -- worth, and what he pays for being late at activities and for being stuck.
-unfoldable pub score : Tables → ℕ → List Event → ℤ
+unfoldable pub score : ScoringRows → ℕ → List Event → ℤ
 score tables first events =
     spells_worth tables (spells first (starts events) (act_ends events) (stuck_in events))
     +ℤ rides_worth tables (departures events) (leg_ends events)

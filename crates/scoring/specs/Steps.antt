@@ -9,8 +9,7 @@ use Rattle.scoring.specs.declared.scorer.Doing.{Doing}
 use Rattle.scoring.specs.declared.scorer.Doing.TheVariants as doing
 use Rattle.scoring.specs.declared.scorer.Scorer.{Scorer}
 use Rattle.scoring.specs.declared.table.Table.{Table}
-use Rattle.scoring.specs.declared.tables.Tables.{Tables}
-use Rattle.scoring.specs.Tables.{activity_worth, leg_worth, seconds_late}
+use Rattle.scoring.specs.Tables.{ScoringRows, activity_worth, leg_worth, seconds_late}
 
 -- an activity ends: of the first one it is kept when, any other one is worth what it took
 abbrev pub with_activity_ended : List Table → Scorer → ℕ → Doing → Option ℕ → Scorer
@@ -25,19 +24,19 @@ with_leg_begun s second (more.Mode mode) = record s { doing = doing.Leg mode sec
 with_leg_begun s second _ = s
 
 -- a leg ends: the person arrives or is stuck, and something is paid besides
-abbrev pub with_leg_ended : Tables → Scorer → ℕ → ℤ → Doing → Doing → Scorer
+abbrev pub with_leg_ended : ScoringRows → Scorer → ℕ → ℤ → Doing → Doing → Scorer
 with_leg_ended tables s second paid next (doing.Leg mode since) =
     record s { doing = next; sum = s.sum +ℤ (leg_worth tables.modes mode (second - since) +ℤ paid) }
 with_leg_ended tables s second paid next _ = s
 
 -- an activity starts, maybe late
-abbrev pub with_activity_begun : Tables → Scorer → ℕ → More → Scorer
+abbrev pub with_activity_begun : ScoringRows → Scorer → ℕ → More → Scorer
 with_activity_begun tables s second (more.Kind kind) =
     record s { doing = doing.Activity kind second; sum = s.sum +ℤ tables.late_per_second *ℤ pos (seconds_late tables.tables kind second) }
 with_activity_begun tables s second _ = s
 
 -- the scorer behind an event
-abbrev pub with_event : Tables → Scorer → Word → More → ℕ → Scorer
+abbrev pub with_event : ScoringRows → Scorer → Word → More → ℕ → Scorer
 with_event tables s word.ActEnd more second = with_activity_ended tables.tables s second s.doing s.first_end
 with_event tables s word.Departure more second = with_leg_begun s second more
 with_event tables s word.Arrival more second = with_leg_ended tables s second (pos 0) doing.Arriving s.doing

@@ -3,9 +3,21 @@ use Rattle.std.specs.Prelude.{ℕ, ◌-◌, nat_eq, List, slice_get, find, Optio
 use Rattle.std.specs.Option.{option_map_or}
 use Rattle.events.specs.declared.event.Mode.{Mode}
 use Rattle.events.specs.declared.event.Mode.TheVariants as mode
-use Rattle.scoring.specs.declared.tables.ModeScore.{ModeScore}
+use Rattle.scoring.specs.declared.table.ModeScore.{ModeScore}
 use Rattle.scoring.specs.declared.table.Table.{Table}
+use Rattle.scoring.specs.declared.tables.Tables.{Tables}
 use Rattle.scoring.specs.Points.{value}
+
+-- what a day is scored by: tables for kinds of activities, what a leg is worth by each of the five modes, in their order, and what each
+-- second costs by which an activity begins late and what it costs to be stuck, in micro-utils
+pub record ScoringRows : Type 0 where
+  pub tables : List Table
+  pub modes : List ModeScore
+  pub late_per_second : ℤ
+  pub stuck : ℤ
+
+abbrev pub scoring_rows : Tables → ScoringRows
+scoring_rows tables = record { tables = tables.tables; modes = tables.modes; late_per_second = tables.late_per_second; stuck = tables.stuck }
 
 -- the table of a kind of activity
 abbrev pub table_of : List Table → ℕ → Option Table

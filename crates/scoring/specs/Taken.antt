@@ -9,8 +9,8 @@ use Rattle.scoring.specs.declared.TheConstants.{MAX_EVENTS}
 use Rattle.scoring.specs.declared.scorer.Doing.{Doing}
 use Rattle.scoring.specs.declared.scorer.Doing.TheVariants as doing
 use Rattle.scoring.specs.declared.scorer.Scorer.{Scorer}
-use Rattle.scoring.specs.declared.tables.Tables.{Tables}
 use Rattle.scoring.specs.Ranges.{IsWithin}
+use Rattle.scoring.specs.Tables.{ScoringRows}
 use Rattle.scoring.specs.Turns.{steps, InTurn, tells}
 use Rattle.scoring.specs.Score.{Activity, Leg, starts, departures, act_ends, leg_ends, stuck_in, ended, unended, until, spells_worth, rides_worth, lateness_costs, stuck_costs}
 
@@ -56,7 +56,7 @@ word_of doing.Stuck = word.StuckAndAbort
 
 -- what activities that started, legs that departed and their ends are worth, without the first activity and one that has not ended,
 -- and what each time of being stuck costs
-unfoldable pub settled : Tables → ℕ → List Activity → List Leg → List ℕ → List ℕ → List ℕ → ℤ
+unfoldable pub settled : ScoringRows → ℕ → List Activity → List Leg → List ℕ → List ℕ → List ℕ → ℤ
 settled tables first started departed act_ends leg_ends stuck =
     spells_worth tables (drop 1 (map until (ended first started act_ends)))
     +ℤ rides_worth tables departed leg_ends
@@ -73,7 +73,7 @@ first_of (n ∷ ns) = Some n
 
 -- What a scorer keeps of the activities that started, the legs that departed, the ends of both, and of being stuck: when the first
 -- activity ended, what the person is doing, and what all that has ended is worth, but for the first activity.
-pub record Keeps (tables : Tables) (scorer : Scorer) (started : List Activity) (departed : List Leg) (act_ends leg_ends stuck : List ℕ) : Type 0 where
+pub record Keeps (tables : ScoringRows) (scorer : Scorer) (started : List Activity) (departed : List Leg) (act_ends leg_ends stuck : List ℕ) : Type 0 where
   pub left : scorer.first_end ≡ first_of act_ends
   pub activity : activity_of scorer.doing ≡ unended scorer.first_kind started act_ends
   pub activities : length act_ends + length (activity_of scorer.doing) ≡ length started + 1
@@ -82,7 +82,7 @@ pub record Keeps (tables : Tables) (scorer : Scorer) (started : List Activity) (
   pub sum : scorer.sum ≡ settled tables scorer.first_kind started departed act_ends leg_ends stuck
 
 -- By these tables the scorer stands for the events that it has taken: they came in turn, and it keeps what they show.
-pub record IsTakenBy (tables : Tables) (scorer : Scorer) (events : List Event) : Type 0 where
+pub record IsTakenBy (tables : ScoringRows) (scorer : Scorer) (events : List Event) : Type 0 where
   pub few : length events ≤ MAX_EVENTS
   pub in_turn : InTurn events
   pub after : last_step events ≡ word_of scorer.doing

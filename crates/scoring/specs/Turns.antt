@@ -5,19 +5,11 @@ use Rattle.events.specs.declared.event.More.{More}
 use Rattle.events.specs.declared.event.More.TheVariants as more
 use Rattle.events.specs.declared.event.Word.{Word}
 use Rattle.events.specs.declared.event.Word.TheVariants as word
-
--- whether a word is one of the five: an activity ends, a leg departs, arrives or is stuck, the next activity starts
-abbrev pub scores : Word → Bool
-scores word.ActEnd = true
-scores word.Departure = true
-scores word.Arrival = true
-scores word.ActStart = true
-scores word.StuckAndAbort = true
-scores _ = false
+use Rattle.events.specs.Persons.{is_step}
 
 -- the five words of some events, in the order of the events
 abbrev pub steps : List Event → List Word
-steps events = filter scores (map (λ (e : Event). e.word) events)
+steps events = filter is_step (map (λ (e : Event). e.word) events)
 
 -- the word that comes right before each of the five, round after round: a stuck person is one who would have arrived
 abbrev pub word_before : Word → Word

@@ -1,6 +1,5 @@
 -- Worked days, each told by its events.
-use Rattle.std.specs.Prelude.{ℕ, List, [], ◌∷◌, ◌++◌, length, refl, Option, None, Some, ℤ, pos, negsuc}
-use Rattle.std.proofs.Common.{lit≤}
+use Rattle.std.specs.Prelude.{ℕ, List, [], ◌∷◌, ◌++◌, Option, None, Some, ℤ, pos, negsuc}
 use Rattle.events.specs.declared.event.Event.{Event}
 use Rattle.events.specs.declared.event.Mode.{Mode}
 use Rattle.events.specs.declared.event.Mode.TheVariants as mode
@@ -9,9 +8,9 @@ use Rattle.events.specs.declared.event.More.TheVariants as more
 use Rattle.events.specs.declared.event.Word.{Word}
 use Rattle.events.specs.declared.event.Word.TheVariants as word
 use Rattle.scoring.specs.declared.table.Table.{Table}
-use Rattle.scoring.specs.declared.tables.ModeScore.{ModeScore}
-use Rattle.scoring.specs.declared.tables.Tables.{Tables}
+use Rattle.scoring.specs.declared.table.ModeScore.{ModeScore}
 use Rattle.scoring.specs.Points.{Point}
+use Rattle.scoring.specs.Tables.{ScoringRows}
 
 -- home and work, as the activities of a day
 abbrev pub home : ℕ
@@ -40,25 +39,19 @@ arrives second by kind = event second word.Arrival (more.Mode by) ∷ event seco
 
 -- each second of a leg costs 1,666 micro-utils, by any mode
 abbrev pub usual_mode : ModeScore
-usual_mode = record {
-  constant = pos 0;
-  per_second = negsuc 1665;
-  constant_in = (record { le = tt }, record { le = tt });
-  per_second_in = (record { le = tt }, record { le = tt });
-}
+usual_mode = record { constant = pos 0; per_second = negsuc 1665 }
 
 -- a second of lateness costs 5,000 and being stuck 100,000,000 micro-utils
-abbrev pub no_tables : Tables
-no_tables = record {
-  tables = [];
+abbrev pub by_tables : List Table → ScoringRows
+by_tables tables = record {
+  tables = tables;
   modes = usual_mode ∷ usual_mode ∷ usual_mode ∷ usual_mode ∷ usual_mode ∷ [];
   late_per_second = negsuc 4999;
   stuck = negsuc 99999999;
-  few = lit≤ tt;
-  distinct = refl;
-  lateness = (record { le = tt }, record { le = tt });
-  stuckness = (record { le = tt }, record { le = tt });
 }
+
+abbrev pub no_tables : ScoringRows
+no_tables = by_tables []
 
 -- a walk of 50 seconds to work, and a drive of 11 seconds; in traffic other words are told beside the five
 abbrev pub walk : List Event
@@ -85,20 +78,20 @@ abbrev pub falling_points : List Point
 falling_points = (0, pos 10) ∷ (3, pos 0) ∷ []
 
 abbrev pub home_table : Table
-home_table = record { kind = home; points = home_points; latest = None; some = lit≤ tt; few = lit≤ tt; within = refl; rising = refl; by_the_end = refl }
+home_table = record { kind = home; points = home_points; latest = None }
 
 abbrev pub work_table : Table
-work_table = record { kind = work; points = work_points; latest = None; some = lit≤ tt; few = lit≤ tt; within = refl; rising = refl; by_the_end = refl }
+work_table = record { kind = work; points = work_points; latest = None }
 
 -- the same, where work begins late after 28,800
 abbrev pub strict_table : Table
-strict_table = record { kind = work; points = work_points; latest = Some 28800; some = lit≤ tt; few = lit≤ tt; within = refl; rising = refl; by_the_end = refl }
+strict_table = record { kind = work; points = work_points; latest = Some 28800 }
 
-abbrev pub two_tables : Tables
-two_tables = record no_tables { tables = home_table ∷ work_table ∷ []; few = lit≤ tt; distinct = refl }
+abbrev pub two_tables : ScoringRows
+two_tables = by_tables (home_table ∷ work_table ∷ [])
 
-abbrev pub strict_tables : Tables
-strict_tables = record no_tables { tables = home_table ∷ strict_table ∷ []; few = lit≤ tt; distinct = refl }
+abbrev pub strict_tables : ScoringRows
+strict_tables = by_tables (home_table ∷ strict_table ∷ [])
 
 -- to work in the morning and home in the afternoon, by car
 abbrev pub commute : List Event

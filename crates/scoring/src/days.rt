@@ -2,6 +2,7 @@ ghost use Rattle.std.specs.Prelude.{◌≡◌, ◌↔◌, IsSome, IfSome};
 ghost use Rattle.scoring.specs.declared.TheConstants.{MAX_SCORE};
 ghost use Rattle.scoring.specs.Ranges.{IsWithin};
 ghost use Rattle.scoring.specs.Score.{score};
+ghost use Rattle.scoring.specs.Tables.{scoring_rows};
 ghost use Rattle.scoring.specs.Taken.{AllFollow};
 
 use crate::MAX_EVENTS;
@@ -12,7 +13,7 @@ use events::Event;
 /// The score of a person with these events, in micro-utils, or `None` exactly where one of them may
 /// not follow those before it.
 pub fn score_of(tables: &Tables, first_kind: u32, events: &[Event]) -> Option<i64>
-    ensures score { IfSome result (λ s. s ≡ score tables.now first_kind events.now) }
+    ensures score { IfSome result (λ s. s ≡ score (scoring_rows tables.now) first_kind events.now) }
     ensures small { IfSome result (IsWithin MAX_SCORE) }
     ensures all { IsSome result ↔ AllFollow events.now }
 {

@@ -5,13 +5,14 @@ ghost use Rattle.std.specs.Prelude.{◌≡◌, ◌+◌, ◌*◌, ◌-◌, ◌<�
 ghost use Rattle.std.specs.Prelude.{◌∷◌, ◌++◌, length, true, filter, All};
 ghost use Rattle.std.specs.Int.{w64};
 ghost use Rattle.events.specs.declared.event.Event.{Event};
+ghost use Rattle.events.specs.Persons.{is_step};
 ghost use Rattle.limits.specs.declared.TheConstants.{MAX_PERSONS};
 ghost use Rattle.scoring.specs.declared.TheConstants.{MAX_SCORE};
-ghost use Rattle.scoring.specs.declared.tables.Tables.{Tables};
 ghost use Rattle.scoring.specs.Ranges.{IsWithin};
 ghost use Rattle.scoring.specs.Points.{Point, are_rising, are_climbing, on_line, value};
-ghost use Rattle.scoring.specs.Turns.{scores, InTurn};
+ghost use Rattle.scoring.specs.Turns.{InTurn};
 ghost use Rattle.scoring.specs.Score.{total, score};
+ghost use Rattle.scoring.specs.Tables.{ScoringRows};
 ghost use Rattle.scoring.specs.Worked.{home, home_points, falling_points, no_tables, two_tables, strict_tables, walk, drive, passenger};
 ghost use Rattle.scoring.specs.Worked.{left_behind, commute, to_work, stuck_in_the_evening};
 
@@ -43,8 +44,8 @@ pub fn values_round_down()
 
 /// A score goes by the five words alone, and a front of events in turn is in turn.
 pub fn other_events_do_not_score()
-    ensures scores { (tables : Tables) (first : ℕ) (events : List Event)
-        → score tables first events ≡ score tables first (filter (λ (e : Event). scores e.word) events) }
+    ensures scores { (tables : ScoringRows) (first : ℕ) (events : List Event)
+        → score tables first events ≡ score tables first (filter (λ (e : Event). is_step e.word) events) }
     ensures fronts { (events later : List Event) → InTurn (events ++ later) → InTurn events }
 {}
 

@@ -20,8 +20,8 @@ pub use laws::{
     worked_scores,
 };
 pub use scorer::Scorer;
-pub use table::{Points, Table, TableList};
-pub use tables::{ModeScore, Tables};
+pub use table::{ModeScore, Points, Table, TableList, is_table};
+pub use tables::Tables;
 pub use values::value;
 
 /// The day that is scored, in seconds: an activity that has not ended lasts until its end.

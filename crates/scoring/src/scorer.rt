@@ -2,15 +2,14 @@ ghost use Rattle.std.specs.Prelude.{◌≡◌, ◌<◌, ◌≤◌, ◌↔◌, po
 ghost use Rattle.std.specs.Option.{ForSome};
 ghost use Rattle.events.specs.declared.event.Event.{Event};
 ghost use Rattle.scoring.specs.declared.TheConstants.{MAX_EVENTS, MAX_SCORE, MAX_WORTH};
-ghost use Rattle.scoring.specs.declared.tables.Tables.{Tables};
 ghost use Rattle.scoring.specs.Ranges.{IsWithin};
 ghost use Rattle.scoring.specs.Score.{score};
+ghost use Rattle.scoring.specs.Tables.{ScoringRows, scoring_rows};
 ghost use Rattle.scoring.specs.Taken.{first_kind_of, MayFollow, IsTakenBy};
 ghost use Rattle.scoring.specs.Steps.{with_activity_ended, with_leg_begun, with_leg_ended, with_activity_begun, with_event, last_worth};
 ghost use Rattle.scoring.specs.Steps.{is_next};
 
 use crate::SCORING_DAY;
-use crate::table::TableList;
 use crate::tables::Tables;
 use crate::worths::{activity_worth, leg_worth, seconds_late};
 use events::{Event, Mode, More, Word};
@@ -50,7 +49,7 @@ impl Scorer {
     /// The scorer of a person whose first activity is of this kind. It has taken no event.
     pub fn new(first_kind: u32) -> Scorer
         ensures kind { first_kind_of result ≡ first_kind }
-        ensures stands { (tables : Tables) → IsTakenBy tables result [] }
+        ensures stands { (tables : ScoringRows) → IsTakenBy tables result [] }
     {
         Scorer {
             first_kind,
@@ -70,10 +69,10 @@ impl Scorer {
     /// nothing.
     #[tactic(auto)]
     pub fn take(&mut self, tables: &Tables, event: &Event)
-        requires { (taken : List Event) × IsTakenBy tables.now self.old taken × MayFollow taken event.now }
+        requires { (taken : List Event) × IsTakenBy (scoring_rows tables.now) self.old taken × MayFollow taken event.now }
         ensures kind { first_kind_of self.new ≡ first_kind_of self.old }
-        ensures stands { (taken : List Event) → IsTakenBy tables.now self.old taken → MayFollow taken event.now
-            → IsTakenBy tables.now self.new (taken ++ event.now ∷ []) }
+        ensures stands { (taken : List Event) → IsTakenBy (scoring_rows tables.now) self.old taken → MayFollow taken event.now
+            → IsTakenBy (scoring_rows tables.now) self.new (taken ++ event.now ∷ []) }
     {
         *self = self.with_event(tables, event);
     }
@@ -81,7 +80,7 @@ impl Scorer {
     /// Whether an event may be taken next, of a scorer that has taken fewer than 64: it is within the
     /// day and in turn, and it tells what it is scored by.
     pub fn may_take(&self, event: &Event) -> bool
-        ensures { (tables : Tables) (taken : List Event) → IsTakenBy tables self.now taken → length taken < MAX_EVENTS
+        ensures { (tables : ScoringRows) (taken : List Event) → IsTakenBy tables self.now taken → length taken < MAX_EVENTS
             → IsTrue result ↔ MayFollow taken event.now }
     {
         event.key.second <= LAST_SECOND && self.is_next(event.word, event.more)
@@ -107,23 +106,23 @@ impl Scorer {
     /// The score of the events that were taken, in micro-utils, by the tables by which they were.
     #[tactic(auto)]
     pub fn finish(self, tables: &Tables) -> i64
-        requires { (taken : List Event) × IsTakenBy tables.now self taken }
-        ensures score { (taken : List Event) → IsTakenBy tables.now self taken
-            → result ≡ score tables.now (first_kind_of self) taken }
+        requires { (taken : List Event) × IsTakenBy (scoring_rows tables.now) self taken }
+        ensures score { (taken : List Event) → IsTakenBy (scoring_rows tables.now) self taken
+            → result ≡ score (scoring_rows tables.now) (first_kind_of self) taken }
         ensures small { IsWithin MAX_SCORE result }
     {
-        self.sum + self.last_worth(&tables.tables)
+        self.sum + self.last_worth(tables)
     }
 
     // The scorer behind an event.
     fn with_event(self, tables: &Tables, event: &Event) -> Scorer
         requires in_day { event.now.key.second ≤ LAST_SECOND }
         requires small { IsWithin MAX_SCORE self.sum }
-        ensures { result ≡ with_event tables.now self event.now.word event.now.more event.now.key.second }
+        ensures { result ≡ with_event (scoring_rows tables.now) self event.now.word event.now.more event.now.key.second }
     {
         let second = event.key.second;
         match event.word {
-            Word::ActEnd => self.with_activity_ended(&tables.tables, second),
+            Word::ActEnd => self.with_activity_ended(tables, second),
             Word::Departure => self.with_leg_begun(event.more, second),
             Word::Arrival => self.with_leg_ended(tables, second, 0, Doing::Arriving),
             Word::ActStart => self.with_activity_begun(tables, event.more, second),
@@ -135,9 +134,9 @@ impl Scorer {
     }
 
     // An activity ends: of the first one it is kept when, any other one is worth what it took.
-    fn with_activity_ended(self, tables: &TableList, second: u32) -> Scorer
+    fn with_activity_ended(self, tables: &Tables, second: u32) -> Scorer
         requires { IsWithin MAX_SCORE self.sum }
-        ensures { result ≡ with_activity_ended tables.now self second self.doing self.first_end }
+        ensures { result ≡ with_activity_ended tables.now.tables self second self.doing self.first_end }
     {
         let Doing::Activity { kind, since } = self.doing else {
             return self;
@@ -178,12 +177,12 @@ impl Scorer {
         requires in_day { second ≤ LAST_SECOND }
         requires small { IsWithin MAX_SCORE self.sum }
         requires paid_in { IsWithin MAX_WORTH paid }
-        ensures { result ≡ with_leg_ended tables.now self second paid next self.doing }
+        ensures { result ≡ with_leg_ended (scoring_rows tables.now) self second paid next self.doing }
     {
         let Doing::Leg { mode, since } = self.doing else {
             return self;
         };
-        let worth = leg_worth(&tables.modes, mode, second.saturating_sub(since));
+        let worth = leg_worth(tables, mode, second.saturating_sub(since));
         Scorer {
             doing: next,
             sum: self.sum + (worth + paid),
@@ -195,12 +194,12 @@ impl Scorer {
     fn with_activity_begun(self, tables: &Tables, more: More, second: u32) -> Scorer
         requires in_day { second ≤ LAST_SECOND }
         requires small { IsWithin MAX_SCORE self.sum }
-        ensures { result ≡ with_activity_begun tables.now self second more }
+        ensures { result ≡ with_activity_begun (scoring_rows tables.now) self second more }
     {
         let More::Kind(kind) = more else {
             return self;
         };
-        let late = seconds_late(&tables.tables, kind, second);
+        let late = seconds_late(tables, kind, second);
         Scorer {
             doing: Doing::Activity {
                 kind,
@@ -212,9 +211,9 @@ impl Scorer {
     }
 
     // What the first activity and one that has not ended are worth.
-    fn last_worth(self, tables: &TableList) -> i64
+    fn last_worth(self, tables: &Tables) -> i64
         requires { ForSome self.first_end (λ second. second ≤ LAST_SECOND) }
-        ensures value { result ≡ last_worth tables.now self.first_kind self.first_end self.doing }
+        ensures value { result ≡ last_worth tables.now.tables self.first_kind self.first_end self.doing }
         ensures within { IsWithin (pos 2000000000000) result }
     {
         let Some(left) = self.first_end else {
@@ -230,8 +229,8 @@ impl Scorer {
     }
 
     // What an activity that has not ended is worth by itself.
-    fn open_worth(self, tables: &TableList) -> i64
-        ensures value { result ≡ last_worth tables.now self.first_kind None self.doing }
+    fn open_worth(self, tables: &Tables) -> i64
+        ensures value { result ≡ last_worth tables.now.tables self.first_kind None self.doing }
         ensures within { IsWithin MAX_WORTH result }
     {
         let Doing::Activity { kind, since } = self.doing else {

@@ -1,13 +1,17 @@
-ghost use Rattle.std.specs.Prelude.{◌≡◌, ◌≤◌, length, nat_le, is_some, true, IfSome};
+ghost use Rattle.std.specs.Prelude.{◌≡◌};
 ghost use Rattle.std.specs.List.{list_all};
-ghost use Rattle.std.specs.Option.{option_map_or};
-ghost use Rattle.limits.specs.declared.TheConstants.{LAST_SECOND};
-ghost use Rattle.scoring.specs.declared.TheConstants.{MAX_POINTS};
 ghost use Rattle.scoring.specs.Points.{is_point, rise_from, are_rising, is_table};
 
 use crate::{MAX_POINT_SECOND, MAX_POINTS, MAX_WORTH};
 use limits::LAST_SECOND;
 use std::marker::Model;
+
+/// What a leg by a mode is worth, in micro-utils: a constant, and so much for each second.
+#[derive(Clone, Copy, Debug, PartialEq, Eq)]
+pub struct ModeScore {
+    pub constant: i64,
+    pub per_second: i64,
+}
 
 /// The points of a table: seconds, and what is reached there, in micro-utils.
 #[derive(Drop)]
@@ -33,40 +37,18 @@ impl Points {
 }
 
 /// What activities of a kind are worth, by how long they take.
-///
-/// A table has 1 to 32 points, at seconds from 0 to 1,000,000 that rise, each worth at most
-/// 1,000,000,000,000 micro-utils, or as much below zero.
 #[derive(Drop)]
 pub struct Table {
     pub kind: u32,
     pub points: Points,
-    /// The second from which an activity of the kind begins late, at most 172,800.
+    /// The second from which an activity of the kind begins late.
     pub latest: Option<u32>,
-    pub ghost some: { 1 ≤ length points },
-    pub ghost few: { length points ≤ MAX_POINTS },
-    pub ghost within: { list_all is_point points ≡ true },
-    pub ghost rising: { are_rising points ≡ true },
-    pub ghost by_the_end: { option_map_or (λ second. nat_le second LAST_SECOND) latest true ≡ true },
 }
 
-impl Table {
-    /// The table of a kind, or `None` exactly where the points or `latest` are those of no table.
-    pub fn new(kind: u32, points: Points, latest: Option<u32>) -> Option<Table>
-        ensures table { IfSome result (λ table. (table.kind ≡ kind) × (table.points ≡ points) × (table.latest ≡ latest)) }
-        ensures which { is_some result ≡ is_table points latest }
-    {
-        if !is_table(points.as_slice(), latest) {
-            return None;
-        }
-        Some(Table {
-            kind,
-            points,
-            latest,
-        })
-    }
-}
-
-fn is_table(points: &[(u32, i64)], latest: Option<u32>) -> bool
+/// Whether points and the second from which an activity begins late are those of a table: 1 to 32
+/// points, at seconds from 0 to 1,000,000 that rise, each worth at most 1,000,000,000,000
+/// micro-utils, or as much below zero; and a second of at most 172,800.
+pub fn is_table(points: &[(u32, i64)], latest: Option<u32>) -> bool
     ensures { result ≡ is_table points.now latest }
 {
     let in_day = latest.is_none_or(|second| second <= LAST_SECOND);
@@ -114,7 +96,7 @@ fn rise_from(second: u32, points: &[(u32, i64)]) -> bool
     true
 }
 
-/// Tables, of which no two are for one kind.
+/// Tables, one for each of some kinds.
 #[derive(Drop)]
 pub struct TableList {
     pub rows: Vec<Table>,

@@ -1,10 +1,11 @@
 use Rattle.std.proofs.Common.{◌≡◌, ◌<◌, ℕ, get_or, take}
 use Rattle.events.specs.declared.event.Event.{Event}
+use Rattle.scoring.specs.Tables.{scoring_rows}
 use Rattle.scoring.specs.Taken.{first_kind_of, MayFollow, IsTakenBy}
 use Rattle.scoring.proofs.days.score_of.Given as goal
 
 abbrev pub invariant-loop-place : goal.invariant-loop-place
 invariant-loop-place l =
     (first_kind_of l.scorer ≡ l.first_kind)
-    × IsTakenBy l.tables l.scorer (take l.place l.events)
+    × IsTakenBy (scoring_rows l.tables) l.scorer (take l.place l.events)
     × ((k : ℕ) → k < l.place → (d : Event) → MayFollow (take k l.events) (get_or l.events k d))

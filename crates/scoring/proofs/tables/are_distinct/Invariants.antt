@@ -1,5 +1,5 @@
 use Rattle.std.proofs.Common.{◌≡◌, drop, map}
-use Rattle.scoring.specs.Kinds.{are_distinct, kind_of}
+use Rattle.scoring.specs.Limits.{are_distinct, kind_of}
 use Rattle.scoring.proofs.tables.are_distinct.Given as goal
 
 abbrev pub invariant-loop-place : goal.invariant-loop-place

@@ -64,7 +64,7 @@ fn gives(alloc: Global, text: &[u8], place: usize, value: u64) -> bool {
         *own = value;
     }
     match read_settings(alloc, text) {
-        Ok(settings) => values_of(&settings) == wanted,
+        Ok(file) => values_of(&file.settings) == wanted,
         Err(_) => false,
     }
 }

@@ -4,4 +4,6 @@
 #[cfg(test)]
 mod days;
 #[cfg(test)]
+mod keys;
+#[cfg(test)]
 mod scores;

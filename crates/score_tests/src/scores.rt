@@ -40,9 +40,11 @@ fn add_table(
     latest: Option<u32>,
 ) {
     if let Ok(points) = Vec::from_slice(alloc, points) {
-        if let Some(table) = Table::new(kind, Points { rows: points }, latest) {
-            let _ = rows.push(table);
-        }
+        let _ = rows.push(Table {
+            kind,
+            points: Points { rows: points },
+            latest,
+        });
     }
 }
 
@@ -64,7 +66,7 @@ fn both(alloc: Global, latest: Option<u32>) -> Option<Tables> {
 }
 
 /// The score of a day that begins at home.
-fn score(alloc: Global, tables: Option<Tables>, told: &[Told]) -> Option<i64> {
+pub fn score(alloc: Global, tables: Option<Tables>, told: &[Told]) -> Option<i64> {
     match tables {
         Some(tables) => score_of(&tables, HOME, &events(alloc, told)),
         None => None,

@@ -1,11 +1,11 @@
--- The values of the settings.
+-- The values of the settings of a day.
 use Rattle.std.specs.Prelude.{ℕ, nat_eq, codes, List, unwrap_or, Option, option_and_then}
 use Rattle.serde_json.specs.Data.{Members}
 use Rattle.serde_json.specs.Find.{get_member}
 use Rattle.rows.specs.declared.settings.TrafficSettings.{TrafficSettings}
-use Rattle.settings.specs.Keys.{whole}
+use Rattle.settings.specs.Looking.{whole}
 
--- what the settings say
+-- what the settings say of a day
 pub record Values : Type 0 where
   pub seed : ℕ
   pub traffic : TrafficSettings

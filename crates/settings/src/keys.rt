@@ -1,55 +1,17 @@
-ghost use Rattle.std.specs.Prelude.{◌≡◌, ◌≤◌, ◌<◌, ◌^◌, true, false, Some, IfOk, OnOk, IfErr, IfSome, option_map, string_bytes};
-ghost use Rattle.std.specs.List.{list_all};
+ghost use Rattle.std.specs.Prelude.{◌≡◌, ◌≤◌, ◌<◌, ◌^◌, ◌≤ℤ◌, true, false, Some, IfOk, OnOk, IfErr, IfSome, option_map, is_some};
 ghost use Rattle.serde_json.specs.Find.{get_member};
 ghost use Rattle.serde_json.specs.View.{view, members_view};
-ghost use Rattle.settings.specs.Keys.{whole, is_whole, is_key, is_bad, has_unknown_key};
+ghost use Rattle.settings.specs.Looking.{whole_in, signed_in};
+ghost use Rattle.settings.specs.Keys.{is_whole, is_signed, is_bad};
 ghost use Rattle.settings.specs.Values.{given};
+ghost use Rattle.settings.specs.Scoring.{given_signed};
 
+use crate::looking::{member, signed_in, small_in, whole_in};
 use edge_files::Reason;
 use serde_json::{Map, Value};
 
-/// Whether there is a key of this name.
-#[tactic(auto, unfolding(crate::specs::Keys::is_key))]
-fn is_key(name: &str) -> bool
-    ensures { result ≡ is_key name.now }
-{
-    matches!(
-        name,
-        "seed"
-            | "end_second"
-            | "flow_permille"
-            | "storage_permille"
-            | "stuck_seconds"
-            | "stuck_push"
-            | "hole_speed"
-            | "dwell_open"
-            | "dwell_alight"
-            | "dwell_board"
-    )
-}
-
-/// Whether each key that is given is one that there is.
-fn are_keys(settings: &Map<String, Value>) -> bool
-    ensures { result ≡ list_all (λ entry. is_key (string_bytes entry.0)) settings.now.entries }
-{
-    settings.iter().all(|(name, _)| is_key(name.as_str()))
-}
-
-/// Whether a key is given that there is not.
-pub fn has_unknown_key(settings: &Map<String, Value>) -> bool
-    ensures { result ≡ has_unknown_key (members_view settings.now.entries) }
-{
-    !are_keys(settings)
-}
-
-fn member<'v>(settings: &'v Map<String, Value>, name: &str) -> Option<&'v Value>
-    ensures { option_map (λ v. view v.now) result ≡ get_member name.now (members_view settings.now.entries) }
-{
-    settings.get(name)
-}
-
 /// The whole number that a key is given, where it is given one from `low` to `high` or nothing.
-#[tactic(auto, using(std::proofs::lemmas::Bool::Decides::nat_tests), unfolding(crate::specs::Keys::is_whole))]
+#[tactic(auto, using(crate::proofs::Numbers::whole_given))]
 pub fn given(
     settings: &Map<String, Value>,
     name: &str,
@@ -66,9 +28,9 @@ pub fn given(
     let Some(value) = member(settings, name) else {
         return Ok(None);
     };
-    match value.as_u64() {
-        Some(number) if low <= number && number <= high => Ok(Some(number)),
-        _ => Err(Reason::ValueBad),
+    match whole_in(value, low, high) {
+        Some(number) => Ok(Some(number)),
+        None => Err(Reason::ValueBad),
     }
 }
 
@@ -91,4 +53,29 @@ pub fn given_small(
         Ok(None) => Ok(None),
         Err(reason) => Err(reason),
     }
+}
+
+/// The same, of a number that may be below zero.
+#[tactic(auto, using(crate::proofs::Numbers::signed_kept))]
+pub fn given_signed(
+    settings: &Map<String, Value>,
+    name: &str,
+    low: i64,
+    high: i64,
+) -> Result<Option<i64>, Reason>
+    ensures bad { IfErr result (λ reason. (reason ≡ Reason.ValueBad)
+        × (is_bad (is_signed low high) (get_member name.now (members_view settings.now.entries)) ≡ true)) }
+    ensures good { OnOk result
+        (is_bad (is_signed low high) (get_member name.now (members_view settings.now.entries)) ≡ false) }
+    ensures number { IfOk result (λ n. n ≡ given_signed name.now (members_view settings.now.entries)) }
+    ensures within { IfOk result (λ o. IfSome o (λ n. (low ≤ℤ n) × (n ≤ℤ high))) }
+{
+    let Some(value) = member(settings, name) else {
+        return Ok(None);
+    };
+    let number = signed_in(value, low, high);
+    if number.is_none() {
+        return Err(Reason::ValueBad);
+    }
+    Ok(number)
 }

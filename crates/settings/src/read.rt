@@ -1,12 +1,17 @@
-ghost use Rattle.std.specs.Prelude.{◌≡◌, Some, IfOk, IfErr, true, false, option_map};
+ghost use Rattle.std.specs.Prelude.{◌≡◌, ◌∷◌, [], Some, IfOk, IfErr, true, false, option_map};
 ghost use Rattle.serde_json.specs.View.{view, members_view};
 ghost use Rattle.records.specs.Faults.{least, Answers, fault_at};
-ghost use Rattle.settings.specs.Keys.{has_bad_value};
+ghost use Rattle.settings.specs.Looking.{members_of};
+ghost use Rattle.settings.specs.Keys.{has_bad_value, has_bad_scoring};
 ghost use Rattle.settings.specs.Values.{values_in};
-ghost use Rattle.settings.specs.Faults.{value_of, members_of, value_tests, settings_fault, settings_of, values_of};
+ghost use Rattle.settings.specs.Scoring.{scoring_in, has_wrong_table};
+ghost use Rattle.settings.specs.Faults.{value_of, value_tests, settings_fault, settings_of, scoring_values, values_of};
+ghost use Rattle.settings.specs.Faults.{file_in, file_of, file_values};
 
-use crate::keys::{given, given_small, has_unknown_key};
-use crate::values::Settings;
+use crate::keys::{given, given_small};
+use crate::names::has_unknown_key;
+use crate::scores::scoring_in;
+use crate::values::{Settings, SettingsFile};
 use edge_files::{Reason, RowStop};
 use limits::{LAST_SECOND, MAX_DWELL, MAX_FILE_BYTES, MAX_PERMILLE, MAX_SPEED};
 use records::fault;
@@ -73,10 +78,27 @@ fn values_in(settings: &Map<String, Value>) -> Result<Settings, Reason>
     })
 }
 
+/// What the settings say, of which the values of a day were read, or what is wrong with the others.
+fn with_scoring(
+    alloc: Global,
+    settings: Settings,
+    object: &Map<String, Value>,
+) -> Result<SettingsFile, RowStop>
+    ensures { Answers file_values result
+        (fault_at 0 (least ((has_bad_scoring (members_view object.now.entries), Reason.ValueBad)
+        ∷ (has_wrong_table (members_view object.now.entries), Reason.TableWrong) ∷ [])))
+        (record { day = values_of settings; scoring = scoring_in (members_view object.now.entries) }) }
+{
+    match scoring_in(alloc, object) {
+        Ok(scoring) => Ok(SettingsFile { settings, scoring }),
+        Err(stop) => Err(stop),
+    }
+}
+
 /// What an object of settings says, or the first fault of the value.
-fn settings_in(value: &Value) -> Result<Settings, RowStop>
-    ensures { Answers values_of result (fault_at 0 (least (value_tests (Some (view value.now)))))
-        (values_in (members_of (Some (view value.now)))) }
+fn settings_in(alloc: Global, value: &Value) -> Result<SettingsFile, RowStop>
+    ensures { Answers file_values result (fault_at 0 (least (value_tests (Some (view value.now)))))
+        (file_in (members_of (Some (view value.now)))) }
 {
     let Some(settings) = value.as_object() else {
         return Err(fault(0, Reason::NotJson));
@@ -85,7 +107,7 @@ fn settings_in(value: &Value) -> Result<Settings, RowStop>
         return Err(fault(0, Reason::KeyUnknown));
     }
     match values_in(settings) {
-        Ok(values) => Ok(values),
+        Ok(values) => with_scoring(alloc, values, settings),
         Err(reason) => Err(fault(0, reason)),
     }
 }
@@ -93,15 +115,15 @@ fn settings_in(value: &Value) -> Result<Settings, RowStop>
 /// Reads settings.json: one object, of whose keys each may be left out. No bytes give all defaults.
 ///
 /// The first fault is told where there is one, by the reason's number; it is that of row 0.
-#[tactic(auto, unfolding(crate::specs::Faults::settings_fault, crate::specs::Faults::settings_of))]
-pub fn read_settings(alloc: Global, bytes: &[u8]) -> Result<Settings, RowStop>
-    ensures { Answers values_of result (fault_at 0 (settings_fault bytes.now)) (settings_of bytes.now) }
+#[tactic(auto, unfolding(crate::specs::Faults::settings_fault, crate::specs::Faults::settings_of, crate::specs::Faults::scoring_values))]
+pub fn read_settings(alloc: Global, bytes: &[u8]) -> Result<SettingsFile, RowStop>
+    ensures { Answers file_values result (fault_at 0 (settings_fault bytes.now)) (file_of bytes.now) }
 {
     if bytes.len() > MAX_FILE_BYTES {
         return Err(fault(0, Reason::TooLong));
     }
     match read_value(alloc, bytes) {
-        Ok(Some(value)) => settings_in(&value),
+        Ok(Some(value)) => settings_in(alloc, &value),
         Ok(None) => Err(fault(0, Reason::NotJson)),
         Err(_) => Err(RowStop::NoMemory),
     }

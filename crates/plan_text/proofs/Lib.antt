@@ -4,3 +4,4 @@ pub mod Clean
 pub mod Back
 pub mod Whole
 pub mod Pushing
+pub mod PlanFiles

@@ -8,12 +8,12 @@ use Rattle.plan_text.specs.Lines.{row_line, act_row, leg_row, element_rows, elem
 use Rattle.plan_text.proofs.Joins.{both}
 
 -- what holds of each holds of the one at a place
-all_at : {X : Type 0} (p : X → Bool) (xs : List X) (i : ℕ) (x : X) → list_all p xs ≡ true → i < length xs → p (get_or xs i x) ≡ true
+pub all_at : {X : Type 0} (p : X → Bool) (xs : List X) (i : ℕ) (x : X) → list_all p xs ≡ true → i < length xs → p (get_or xs i x) ≡ true
 all_at p [] i x all less = absurd (omega arith)
 all_at p (y ∷ ys) zero x all less = (both (p y) (list_all p ys) all).0
 all_at p (y ∷ ys) (suc i) x all less = all_at p ys i x (both (p y) (list_all p ys) all).1 (omega arith)
 
-drop_past : {X : Type 0} (xs : List X) (i : ℕ) → length xs ≤ i → drop i xs ≡ []
+pub drop_past : {X : Type 0} (xs : List X) (i : ℕ) → length xs ≤ i → drop i xs ≡ []
 drop_past [] zero few = refl
 drop_past [] (suc i) few = refl
 drop_past (x ∷ xs) zero few = absurd (omega arith)

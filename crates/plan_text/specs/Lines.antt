@@ -1,13 +1,14 @@
 -- The lines of a plan in plans.csv: `person,plan,kind,name,link,time,route`.
 use Rattle.std.specs.Prelude.{◌≡◌, ℕ, ◌+◌, Bool, true, ◌&&◌, nat_eq, nat_le, nat_lt, List, [], ◌∷◌, ◌++◌, length, map, codes, decimal, Option, None, Some}
-use Rattle.std.specs.List.{list_all, flat_map, join_with_byte}
-use Rattle.limits.specs.declared.TheConstants.{MAX_LEGS}
+use Rattle.std.specs.List.{list_all, flat_map, enumerate_from, join_with_byte}
+use Rattle.limits.specs.declared.TheConstants.{MAX_LEGS, MAX_PLANS}
 use Rattle.events.specs.declared.event.Book.{Book}
 use Rattle.events.specs.declared.event.Mode.{Mode}
 use Rattle.events.specs.declared.event.Mode.TheVariants as mode
 use Rattle.events.specs.Names.{name_at, AreNames}
 use Rattle.events.specs.Words.{mode_text}
 use Rattle.records.specs.Rows.{Row}
+use Rattle.plans.specs.Kinds.{plans_header}
 use Rattle.rows.specs.declared.plan.Act.{Act}
 use Rattle.rows.specs.declared.plan.Leg.{Leg}
 use Rattle.rows.specs.declared.plan.Leg.TheVariants as leg
@@ -103,3 +104,23 @@ is_plan_in book parts = are_plan parts.acts parts.legs && are_in_book book parts
 pub record IsTextOf (person index : ℕ) (book : Book) (bytes : List ℕ) (plan : PlanRows) : Type 0 where
   pub fits : is_plan_in book plan ≡ true
   pub lines : plan_lines person index plan book ≡ bytes
+
+-- the lines of the plans of a person, numbered from a number on
+abbrev pub own_lines : Book → ℕ → ℕ → List PlanRows → List ℕ
+own_lines book person index plans = flat_map (λ (p : ℕ × PlanRows). plan_lines person p.0 p.1 book) (enumerate_from index plans)
+
+-- the same of persons, numbered from a number on
+abbrev pub persons_lines : Book → ℕ → List (List PlanRows) → List ℕ
+persons_lines book person plans = flat_map (λ (own : ℕ × List PlanRows). own_lines book own.0 0 own.1) (enumerate_from person plans)
+
+-- a file of plans: the header, and the lines of each person's plans
+unfoldable pub plans_text : List (List PlanRows) → Book → List ℕ
+plans_text plans book = row_line plans_header ++ persons_lines book 0 plans
+
+-- every number of each of a person's plans has a name in the book, and no person has more plans than a file may have of him
+abbrev pub are_own_in : Book → List PlanRows → Bool
+are_own_in book plans = nat_le (length plans) MAX_PLANS && list_all (λ (p : PlanRows). are_in_book book p.acts p.legs) plans
+
+-- the same of all persons
+abbrev pub are_all_in : Book → List (List PlanRows) → Bool
+are_all_in book plans = list_all (are_own_in book) plans

@@ -3,8 +3,10 @@
 
 mod elements;
 mod fields;
+mod files;
 mod reading;
 mod writing;
 
+pub use files::plans_text;
 pub use reading::read_body;
 pub use writing::write_plan;

@@ -1,0 +1,4 @@
+pub mod Persons
+pub mod Standing
+pub mod Ending
+pub mod LinesWritten

@@ -1,0 +1,102 @@
+-- Scorers that take the events of a day stand for them.
+use Rattle.std.proofs.Common.{◌≡◌, ◌≢◌, ℕ, zero, suc, ◌+◌, ◌<◌, ◌≤◌, Bool, true, false, nat_eq, List, [], ◌∷◌, ◌++◌, length, map, get_or, take, Option, None, Some, refl, sym, ap, ◌∙◌, subst, inl, inr, length-append, arith}
+use Rattle.std.proofs.Math.ListN.{set, get_or-append, get_or-map}
+use Rattle.std.proofs.Math.Seq.{get_or-append_seam}
+use Rattle.std.proofs.lemmas.Bool.{cases_Bool, cases_lt, eq-eqb, ne_eqb, eqb-true}
+use Rattle.std.proofs.lemmas.Grind.{get_or-set_at}
+use Rattle.std.proofs.lemmas.List.{length-set, get_or-set_other, set-get_or, length-map, map-append, take_more}
+use Rattle.events.specs.declared.event.Event.{Event}
+use Rattle.events.specs.Persons.{of_person, own_events}
+use Rattle.scoring.specs.declared.scorer.Scorer.{Scorer}
+use Rattle.scoring.specs.Tables.{ScoringRows}
+use Rattle.scoring.specs.Taken.{first_kind_of, MayFollow, IsTakenBy}
+use Rattle.day_scores.specs.Standing.{StandFor, MayCome, AllCome}
+use Rattle.day_scores.proofs.Persons.{own-other, own-more, nobody, another, himself}
+
+-- ---- new scorers
+
+pub none_stand : (R : ScoringRows) → StandFor R [] []
+none_stand R = record { each = λ i d here. absurd (omega arith) }
+
+-- one scorer more that has taken nothing
+pub stand-push : (R : ScoringRows) (ss : List Scorer) (s : Scorer) → StandFor R ss [] → IsTakenBy R s [] → StandFor R (ss ++ s ∷ []) []
+stand-push R ss s H new = record {
+  each = λ i d here. elim (cases_lt i (length ss)) [
+    | inl before ↦ subst (λ (x : Scorer). IsTakenBy R x []) (sym (get_or-append ss (s ∷ []) d i before)) (H.each i d before)
+    | inr last ↦
+        let same : i ≡ length ss = omega (arith, length-append ss (s ∷ [])) in
+        let at : get_or (ss ++ s ∷ []) i d ≡ s = ap (λ (k : ℕ). get_or (ss ++ s ∷ []) k d) same ∙ get_or-append_seam ss s [] d in
+        subst (λ (x : Scorer). IsTakenBy R x []) (sym at) new
+  ];
+}
+
+-- ---- one event more
+
+-- that names none of the persons
+skipped : (R : ScoringRows) (ss : List Scorer) (es : List Event) (e : Event) → ((i : ℕ) → i < length ss → of_person i e ≡ false)
+    → StandFor R ss es → StandFor R ss (es ++ e ∷ [])
+skipped R ss es e none H = record {
+  each = λ i d here. subst (IsTakenBy R (get_or ss i d)) (sym (own-other i es e (none i here))) (H.each i d here);
+}
+
+pub nobody_named : (R : ScoringRows) (ss : List Scorer) (es : List Event) (e : Event) → e.person ≡ None → StandFor R ss es → StandFor R ss (es ++ e ∷ [])
+nobody_named R ss es e none H = skipped R ss es e (λ i here. nobody i e none) H
+
+pub stranger_named : (R : ScoringRows) (ss : List Scorer) (es : List Event) (e : Event) (j : ℕ) → e.person ≡ Some j → length ss ≤ j
+    → StandFor R ss es → StandFor R ss (es ++ e ∷ [])
+stranger_named R ss es e j is far H = skipped R ss es e (λ i here. another i j e is (ne_eqb j i (λ same. absurd (omega arith)))) H
+
+-- that names one of them
+pub person_named : (R : ScoringRows) (ss : List Scorer) (es : List Event) (e : Event) (j : ℕ) (s : Scorer) → e.person ≡ Some j → j < length ss
+    → IsTakenBy R s (own_events j es ++ e ∷ []) → StandFor R ss es → StandFor R (set ss j s) (es ++ e ∷ [])
+person_named R ss es e j s is there taken H = record {
+  each = λ i d here. elim (cases_Bool (nat_eq j i)) [
+    | inl same ↦
+        let equal : j ≡ i = eqb-true j i same in
+        let at : get_or (set ss j s) i d ≡ s = get_or-set_at ss j i s d (sym equal) there in
+        let own : own_events i (es ++ e ∷ []) ≡ own_events j es ++ e ∷ [] =
+        own-more i es e (himself i j e is same) ∙ ap (λ (k : ℕ). own_events k es ++ e ∷ []) (sym equal) in
+        subst (λ (x : Scorer). IsTakenBy R x (own_events i (es ++ e ∷ []))) (sym at) (subst (IsTakenBy R s) (sym own) taken)
+    | inr other ↦
+        let few : i < length ss = omega (arith, length-set ss j s) in
+        let apart : i ≢ j = λ equal. let x = eq-eqb j i (sym equal) in cc in
+        let at : get_or (set ss j s) i d ≡ get_or ss i d = get_or-set_other ss j i s d apart in
+        subst (λ (x : Scorer). IsTakenBy R x (own_events i (es ++ e ∷ []))) (sym at)
+        (subst (IsTakenBy R (get_or ss i d)) (sym (own-other i es e (another i j e is other))) (H.each i d few))
+  ];
+}
+
+-- ---- the kinds stay
+
+kind-set : (ss : List Scorer) (j : ℕ) (s : Scorer) → set (map first_kind_of ss) j (first_kind_of s) ≡ map first_kind_of (set ss j s)
+kind-set [] j s = refl
+kind-set (x ∷ ss) zero s = refl
+kind-set (x ∷ ss) (suc j) s = ap (λ (ks : List ℕ). first_kind_of x ∷ ks) (kind-set ss j s)
+
+-- a scorer of the same kind in a place changes no kind
+pub kinds-set : (ss : List Scorer) (j : ℕ) (d s : Scorer) → j < length ss → first_kind_of s ≡ first_kind_of (get_or ss j d)
+    → map first_kind_of (set ss j s) ≡ map first_kind_of ss
+kinds-set ss j d s there same =
+    sym (kind-set ss j s) ∙ ap (λ (k : ℕ). set (map first_kind_of ss) j k) (same ∙ sym (get_or-map first_kind_of ss j d))
+    ∙ set-get_or (map first_kind_of ss) j (first_kind_of d)
+
+-- ---- all scorers, one kind more
+
+pub kinds-push : (ss : List Scorer) (s : Scorer) (kinds : List ℕ) (i : ℕ) (d : ℕ) → i < length kinds → first_kind_of s ≡ get_or kinds i d
+    → map first_kind_of ss ≡ take i kinds → map first_kind_of (ss ++ s ∷ []) ≡ take (i + 1) kinds
+kinds-push ss s kinds i d here kind so_far =
+    map-append first_kind_of ss (s ∷ []) ∙ ap (λ (ks : List ℕ). ks ++ first_kind_of s ∷ []) so_far
+    ∙ ap (λ (k : ℕ). take i kinds ++ k ∷ []) kind ∙ sym (take_more kinds i d here)
+
+-- as many kinds as scorers
+pub kinds-count : (ss : List Scorer) (kinds : List ℕ) → map first_kind_of ss ≡ kinds → length kinds ≡ length ss
+kinds-count ss kinds e = sym (ap (λ (ks : List ℕ). length ks) e) ∙ length-map ss first_kind_of
+
+-- one event more, behind those of a place of the day
+pub come-more : (R : ScoringRows) (ss rs : List Scorer) (n : ℕ) (es : List Event) (i : ℕ) (d : Event) → i < length es → n ≡ length ss → AllCome n es
+    → StandFor R ss (take i es)
+    → ((taken : List Event) → StandFor R ss taken → MayCome (length ss) taken (get_or es i d) → StandFor R rs (taken ++ get_or es i d ∷ []))
+    → StandFor R rs (take (i + 1) es)
+come-more R ss rs n es i d here count comes stands goes =
+    subst (StandFor R rs) (sym (take_more es i d here))
+    (goes (take i es) stands (subst (λ (m : ℕ). MayCome m (take i es) (get_or es i d)) count (comes i here d)))

@@ -1,0 +1,18 @@
+use Rattle.std.proofs.Common.{◌≡◌, ◌++◌, List, map, drop}
+use Rattle.std.specs.List.{enumerate_from, All}
+use Rattle.events.specs.declared.event.Event.{Event}
+use Rattle.scoring.specs.declared.TheConstants.{MAX_SCORE}
+use Rattle.scoring.specs.Ranges.{IsWithin}
+use Rattle.scoring.specs.Tables.{scoring_rows}
+use Rattle.scoring.specs.Taken.{first_kind_of}
+use Rattle.day_scores.specs.Scores.{score_of}
+use Rattle.day_scores.specs.Standing.{StandFor}
+use Rattle.day_scores.proofs.scorers.finished.Given as goal
+
+-- the scores so far and those from here on are all
+abbrev pub invariant-loop-scorer : goal.invariant-loop-scorer
+invariant-loop-scorer l =
+    ((taken : List Event) → StandFor (scoring_rows l.tables) l.scorers taken
+    → l.scores.items ++ map (score_of (scoring_rows l.tables) taken) (enumerate_from l.scorer-index (drop l.scorer-index (map first_kind_of l.scorers)))
+    ≡ map (score_of (scoring_rows l.tables) taken) (enumerate_from 0 (map first_kind_of l.scorers)))
+    × All (IsWithin MAX_SCORE) l.scores.items

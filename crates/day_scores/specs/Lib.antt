@@ -1,0 +1,3 @@
+pub mod Scores
+pub mod Standing
+pub mod Texts

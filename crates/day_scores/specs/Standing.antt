@@ -1,0 +1,23 @@
+-- What the scorers of a day's persons stand for.
+use Rattle.std.specs.Prelude.{◌≡◌, ◌<◌, ℕ, true, List, length, get_or, take}
+use Rattle.events.specs.declared.event.Event.{Event}
+use Rattle.events.specs.Persons.{of_person, own_events}
+use Rattle.scoring.specs.declared.scorer.Scorer.{Scorer}
+use Rattle.scoring.specs.Tables.{ScoringRows}
+use Rattle.scoring.specs.Taken.{MayFollow, AllFollow, IsTakenBy}
+
+-- by these tables each of the scorers stands for the events that name the person of its place
+pub record StandFor (scoring : ScoringRows) (scorers : List Scorer) (events : List Event) : Type 0 where
+  pub each : (i : ℕ) (d : Scorer) → i < length scorers → IsTakenBy scoring (get_or scorers i d) (own_events i events)
+
+-- an event may come behind others: it may be taken behind those of the person whom it names, where he is one of the first n
+pub record MayCome (n : ℕ) (taken : List Event) (event : Event) : Type 0 where
+  pub follows : (i : ℕ) → i < n → of_person i event ≡ true → MayFollow (own_events i taken) event
+
+-- each event may come behind those before it
+abbrev pub AllCome : ℕ → List Event → Type 0
+AllCome n events = (k : ℕ) → k < length events → (d : Event) → MayCome n (take k events) (get_or events k d)
+
+-- the events of each of the first n persons may be taken one after the other
+abbrev pub AreScored : ℕ → List Event → Type 0
+AreScored n events = (i : ℕ) → i < n → AllFollow (own_events i events)

@@ -1,0 +1,14 @@
+//! What a day is worth to its persons: the score of each, out of one pass over the events of all, with the
+//! sum of the scores and their lines in scores.csv.
+#![tactic(auto)]
+
+mod kinds;
+mod scorers;
+mod scores;
+mod sums;
+mod texts;
+
+pub use kinds::first_kinds;
+pub use scores::scores_of;
+pub use sums::sum_of;
+pub use texts::scores_text;

@@ -1,6 +1,6 @@
 -- The settings of a file without a fault are in their ranges.
 use Rattle.std.proofs.Common.{◌≡◌, ℕ, ◌≤◌, ◌-◌, ◌^◌, Bool, true, false, not, ◌&&◌, ◌||◌, List, Option, None, Some, refl, arith}
-use Rattle.std.specs.Prelude.{codes, nat_le, option_and_then, unwrap_or}
+use Rattle.std.specs.Prelude.{codes, cond, is_some, nat_le, option_and_then, unwrap_or}
 use Rattle.std.specs.List.{list_any}
 use Rattle.std.proofs.lemmas.Bool.{or_parts}
 use Rattle.std.proofs.lemmas.Bool.Decides.{nat_tests}
@@ -10,40 +10,42 @@ use Rattle.serde_json.specs.Find.{get_member}
 use Rattle.edge_files.specs.declared.reasons.Reason.TheVariants as reason
 use Rattle.records.specs.Files.{is_too_long}
 use Rattle.records.proofs.Unrefused.{none_applies}
-use Rattle.settings.specs.Keys.{whole, is_from_to, is_whole, is_bad, keys, has_unknown_key, has_bad_value}
+use Rattle.settings.specs.Keys.{is_whole, is_bad, keys, has_unknown_key, has_bad_value, has_bad_scoring}
+use Rattle.settings.specs.Looking.{members_of, whole, if_from_to, whole_in}
 use Rattle.settings.specs.Values.{given, values_in}
-use Rattle.settings.specs.Faults.{value_of, members_of, is_no_object, settings_fault, settings_of}
+use Rattle.settings.specs.Faults.{value_of, is_no_object, settings_fault, settings_of}
 use Rattle.rows.specs.Settings.{is_hole_speed, AreInRange}
 
 -- from low to high
 abbrev IsWithin : ℕ → ℕ → ℕ → Type 0
 IsWithin low high n = (low ≤ n) × (n ≤ high)
 
-tested : (low high n : ℕ) → not (nat_le low n && nat_le n high) ≡ false → IsWithin low high n
+tested : (low high n : ℕ) → (nat_le low n && nat_le n high) ≡ true → IsWithin low high n
 tested low high n h = (grind (arith, nat_tests), grind (arith, nat_tests))
 
+-- a number that is no fault
+chosen : (b : Bool) (n : ℕ) → not (is_some (cond b (Some n) None)) ≡ false → b ≡ true
+chosen true n h = refl
+chosen false n h = cc
+
 -- a value that is no fault, or the default
-value_within : (low high default : ℕ) (value : Data) (o : Option ℕ) → whole value ≡ o → not (is_from_to low high o) ≡ false → IsWithin low high default → IsWithin low high (unwrap_or o default)
-value_within low high default value None is good d = cc
-value_within low high default value (Some n) is good d = tested low high n good
+value_within : (low high default : ℕ) (o : Option ℕ) → not (is_some (if_from_to low high o)) ≡ false → IsWithin low high default → IsWithin low high (unwrap_or o default)
+value_within low high default None good d = cc
+value_within low high default (Some n) good d = tested low high n (chosen (nat_le low n && nat_le n high) n good)
 
 key_within : (low high default : ℕ) (o : Option Data) → is_bad (is_whole low high) o ≡ false → IsWithin low high default → IsWithin low high (unwrap_or (option_and_then whole o) default)
-unfolding is_whole
+unfolding whole_in
 key_within low high default None good d = d
-key_within low high default (Some value) good d = value_within low high default value (whole value) refl good d
+key_within low high default (Some value) good d = value_within low high default (whole value) good d
 
-speed_by : (value : Data) (o : Option ℕ) → whole value ≡ o → not (is_from_to 1 MAX_SPEED o) ≡ false → is_hole_speed o ≡ true
-speed_by value None is good = cc
-speed_by value (Some n) is good = holds (nat_le 1 n && nat_le n MAX_SPEED) good
-  where
-    holds : (b : Bool) → not b ≡ false → b ≡ true
-    holds true h = refl
-    holds false h = cc
+speed_by : (o : Option ℕ) → not (is_some (if_from_to 1 MAX_SPEED o)) ≡ false → is_hole_speed o ≡ true
+speed_by None good = cc
+speed_by (Some n) good = chosen (nat_le 1 n && nat_le n MAX_SPEED) n good
 
 speed_within : (o : Option Data) → is_bad (is_whole 1 MAX_SPEED) o ≡ false → is_hole_speed (option_and_then whole o) ≡ true
-unfolding is_whole
+unfolding whole_in
 speed_within None good = refl
-speed_within (Some value) good = speed_by value (whole value) refl good
+speed_within (Some value) good = speed_by (whole value) good
 
 members_free : (members : Members) → has_bad_value members ≡ false → AreInRange (values_in members).traffic
 unfolding has_bad_value values_in
@@ -85,5 +87,5 @@ settings_free bytes none =
     let a = none_applies (is_too_long bytes) reason.TooLong _ none in
     let b = none_applies (is_no_object value) reason.NotJson _ a.1 in
     let c = none_applies (has_unknown_key (members_of value)) reason.KeyUnknown _ b.1 in
-    let d = none_applies (has_bad_value (members_of value)) reason.ValueBad _ c.1 in
-    members_free (members_of value) d.0
+    let d = none_applies (has_bad_value (members_of value) || has_bad_scoring (members_of value)) reason.ValueBad _ c.1 in
+    members_free (members_of value) (or_parts _ _ d.0).0

@@ -1,24 +1,35 @@
 -- Files without a fault give a town, and plans of which its days can be made.
-use Rattle.scenario.proofs.Common.{◌≡◌, List, ℕ, map, sym, ◌∙◌, ap, length, refl, subst, None, true, arith, ◌<◌, ◌≤◌, length-map, list_all, is_link}
-use Rattle.scenario.proofs.Common.{links_fault, node_names, PlanFileRows, file_rows, fault_at, always, ends_of, PlanRows, persons_fault, scenario_fault}
-use Rattle.scenario.proofs.Common.{scenario_rows, NetworkRows, schedule_rows_of, ScenarioRows, ScheduleRows, leg_checks_in, network_fault, network_rows_of}
-use Rattle.scenario.proofs.Common.{plans_cross_fault, on_network, on_network_fault, persons_on, scenario_of, town_of, first_plans, all_fit, AreThere}
-use Rattle.scenario.proofs.Common.{plan_in_town, numbers_in, Texts, bytes_in, IsSchedule, settings_fault, settings_of, Values, TownRows}
-use Rattle.std.specs.List.{AllByRecursion as Each}
-use Rattle.std.proofs.lemmas.List.{length-replicate}
+use Rattle.std.proofs.Common.{◌≡◌, ℕ, ◌<◌, ◌≤◌, true, List, length, map, None, refl, sym, ◌∙◌, ap, subst, arith}
+use Rattle.std.specs.List.{list_all, AllByRecursion as Each}
+use Rattle.std.proofs.lemmas.List.{length-map, length-replicate}
 use Rattle.std.proofs.lemmas.List.Elements.{All-from_recursion, recursion_from_All}
 use Rattle.edge_files.specs.declared.files.InFile.TheVariants as file
+use Rattle.records.specs.Faults.{fault_at}
 use Rattle.records.proofs.Unrefused.{or_none, no_reason}
-use Rattle.plans.specs.Values.{plans_fault}
+use Rattle.network.specs.Nodes.{node_names}
+use Rattle.network.specs.Links.{links_fault}
+use Rattle.network.specs.Limits.{is_link}
+use Rattle.rows.specs.PlanRows.{PlanRows}
+use Rattle.plans.specs.Values.{PlanFileRows, plans_fault, file_rows}
 use Rattle.plans.proofs.AllRows.{AreFreePlans, plans_free}
 use Rattle.schedule.specs.Stops.{is_stop}
 use Rattle.schedule.specs.Routes.{is_route}
+use Rattle.settings.specs.Values.{Values}
+use Rattle.settings.specs.Faults.{settings_fault, settings_of, scoring_values}
+use Rattle.settings.specs.Scoring.{ScoringValues}
+use Rattle.rows.specs.Greens.{always}
 use Rattle.rows.specs.Settings.{AreInRange}
-use Rattle.town.specs.Rows.{IsTown}
+use Rattle.rows.specs.Joined.{ends_of}
+use Rattle.town.specs.Rows.{TownRows, IsTown}
 use Rattle.law_in_range.specs.Setups.{IsPlanIn}
 use Rattle.scenario.specs.declared.faults.ScenarioFault.{ScenarioFault}
-use Rattle.scenario.specs.FilesToScenario.{plans_of}
+use Rattle.scenario.specs.Texts.{Texts, bytes_in}
+use Rattle.scenario.specs.Legs.{numbers_in, plan_in_town}
+use Rattle.scenario.specs.LegChecks.{AreThere}
+use Rattle.scenario.specs.Fitting.{all_fit, first_plans}
+use Rattle.scenario.specs.FilesToScenario.{NetworkRows, ScheduleRows, ScenarioRows, leg_checks_in, town_of, plans_of, persons_on, schedule_rows_of, planned_of, scored_by, on_network, network_rows_of, network_fault, persons_fault, plans_cross_fault, on_network_fault, scenario_fault, scenario_rows}
 use Rattle.scenario.proofs.RowByRow.{same_crossing}
+use Rattle.scenario.specs.Towns.{IsSchedule}
 use Rattle.scenario.proofs.Told.{bytes_free}
 use Rattle.scenario.proofs.FreeSchedules.{schedule_free}
 use Rattle.scenario.proofs.Settling.{plans_fit}
@@ -58,10 +69,10 @@ all_there P links ends t s = record {
   stops = λ n k h. subst (λ (count : ℕ). k < count) s.each_stop (are_there P.stops t.stop_names (numbers_in P.stops t.stop_names) refl n k h);
 }
 
-scenario_is : (v : Values) (network : NetworkRows) (P : PlanFileRows) (t : ScheduleRows) → AreInRange v.traffic → AreNetworkRows network → AreFreePlans network.link_names (ends_of network.links) P → IsSchedule (length network.link_names) (ends_of network.links) t
-    → plans_cross_fault P t ≡ None → IsScenario (scenario_of v network P t)
-unfolding scenario_of
-scenario_is v network P t settings r p s free =
+scenario_is : (v : Values) (network : NetworkRows) (P : PlanFileRows) (t : ScheduleRows) (scoring : ScoringValues) → AreInRange v.traffic → AreNetworkRows network → AreFreePlans network.link_names (ends_of network.links) P → IsSchedule (length network.link_names) (ends_of network.links) t
+    → plans_cross_fault P t ≡ None → IsScenario (scored_by (planned_of v network P t) scoring)
+unfolding planned_of
+scenario_is v network P t scoring settings r p s free =
     let T = town_of v network P.persons P.kinds t in
     let N = (leg_checks_in P t).numbers in
     let fit : all_fit T (map (map (plan_in_town N)) P.plans) ≡ true = plans_fit v network P t (all_there P (length network.link_names) (ends_of network.links) t s) r.each_link p.sound p.plans free in
@@ -87,7 +98,7 @@ scenario_valid T none =
     let r = network_free T (bytes_free T file.Links (links_fault (node_names (bytes_in T file.Nodes))) n.1) in
     let p = plans_free network.link_names ends (bytes_in T file.Plans) (bytes_free T file.Plans (plans_fault network.link_names ends) c.0) in
     let s = schedule_free network.link_names ends T d.0 in
-    scenario_is (settings_of (bytes_in T file.Settings)) network (persons_on network T) t settings r p s (same_crossing network T t c.0 ∙ d.1)
+    scenario_is (settings_of (bytes_in T file.Settings)) network (persons_on network T) t (scoring_values (bytes_in T file.Settings)) settings r p s (same_crossing network T t c.0 ∙ d.1)
 
 pub chosen_valid : (S : ScenarioRows) → IsScenario S → AreChosenIn S.town (first_plans S.plans)
 chosen_valid S valid =

@@ -31,7 +31,7 @@ pub use Rattle.rows.specs.declared.plan.Plan.{Plan}
 pub use Rattle.scenario.specs.Faults.{StopsAt, Tells, fault_in, in_file}
 pub use Rattle.scenario.specs.FilesToScenario.{NetworkRows, ScenarioRows, ScheduleRows, persons_on, route_names, stop_names, stop_rows}
 unfoldable pub use Rattle.scenario.specs.FilesToScenario.{persons_fault, scenario_fault, scenario_rows, schedule_fault, schedule_rows_of, leg_checks_in}
-unfoldable pub use Rattle.scenario.specs.FilesToScenario.{network_fault, network_rows_of, plans_cross_fault, on_network, on_network_fault, scenario_of}
+unfoldable pub use Rattle.scenario.specs.FilesToScenario.{network_fault, network_rows_of, plans_cross_fault, on_network, on_network_fault, planned_of}
 unfoldable pub use Rattle.scenario.specs.FilesToScenario.{town_of}
 pub use Rattle.scenario.specs.Fitting.{all_fit, AreChosen}
 unfoldable pub use Rattle.scenario.specs.Fitting.{first_plans, are_fitting}

@@ -1,18 +1,28 @@
 -- What the files on network give, file by file.
-use Rattle.scenario.proofs.Common.{◌≡◌, List, ℕ, map, sym, ◌∙◌, ap, length, refl, subst, None, Option, Result, length-map, links_fault, link_of, node_names}
-use Rattle.scenario.proofs.Common.{node_of, PlanFileRows, or_else, fault_at, body_of, ends_of, LinkRow, NodeRow, StopsAt, Tells, fault_in, persons_fault}
-use Rattle.scenario.proofs.Common.{scenario_fault, scenario_rows, NetworkRows, schedule_fault, schedule_rows_of, ScheduleRows, network_fault, network_rows_of}
-use Rattle.scenario.proofs.Common.{plans_cross_fault, on_network, on_network_fault, persons_on, scenario_of, Texts, bytes_in, IsSchedule, schedule_view}
-use Rattle.scenario.proofs.Common.{settings_fault, settings_of, Values}
+use Rattle.std.proofs.Common.{◌≡◌, ◌∙◌, ℕ, List, length, map, Option, None, Result, Ok, refl, sym, ap, subst}
+use Rattle.std.proofs.lemmas.List.{length-map}
+use Rattle.records.specs.Files.{body_of}
+use Rattle.records.specs.Faults.{or_else, fault_at}
 use Rattle.edge_files.specs.declared.files.InFile.TheVariants as file
-use Rattle.network.specs.Nodes.{nodes_fault}
-use Rattle.network.specs.Links.{link_names}
-use Rattle.rows.specs.Joined.{ends_of_link}
+use Rattle.rows.specs.declared.network.NodeRow.{NodeRow}
+use Rattle.rows.specs.declared.network.LinkRow.{LinkRow}
+use Rattle.network.specs.Nodes.{nodes_fault, node_names, node_of}
+use Rattle.network.specs.Links.{links_fault, link_names, link_of}
+use Rattle.plans.specs.Values.{PlanFileRows}
+use Rattle.settings.specs.Values.{Values}
+use Rattle.settings.specs.Faults.{FileValues, settings_fault, file_of}
+use Rattle.settings.specs.Scoring.{ScoringValues}
+use Rattle.rows.specs.Joined.{ends_of, ends_of_link}
 use Rattle.scenario.specs.declared.faults.ScenarioFault.{ScenarioFault}
 use Rattle.scenario.specs.declared.faults.Stop.{Stop}
+use Rattle.scenario.specs.declared.planned.PlannedTown.{PlannedTown}
 use Rattle.scenario.specs.declared.scenario.Scenario.{Scenario}
 use Rattle.scenario.specs.declared.schedules.Schedule.{Schedule}
-use Rattle.scenario.specs.Views.{scenario_view}
+use Rattle.scenario.specs.Texts.{Texts, bytes_in}
+use Rattle.scenario.specs.Faults.{fault_in, StopsAt, Tells}
+use Rattle.scenario.specs.FilesToScenario.{NetworkRows, ScheduleRows, PlannedRows, persons_fault, schedule_fault, plans_cross_fault, persons_on, schedule_rows_of, planned_of, scored_by, on_network, on_network_fault, network_fault, network_rows_of, scenario_fault, scenario_rows}
+use Rattle.scenario.specs.Towns.{IsSchedule}
+use Rattle.scenario.specs.Views.{planned_view, scenario_view, schedule_view}
 use Rattle.scenario.proofs.RowByRow.{same_crossing}
 use Rattle.scenario.proofs.Told.{first_stop, later_stop, both_none}
 use Rattle.scenario.proofs.FreeSchedules.{schedule_free}
@@ -70,26 +80,34 @@ schedule_sound R T ends schedule is each none view =
     subst (λ (t : ScheduleRows). IsSchedule (length R.links) (ends_of R.links) t) (sym view) (subst (λ (e : List (ℕ × ℕ)). IsSchedule (length R.links) e (schedule_rows_of R.link_names T)) is given)
 
 -- the town with its plans, or the first leg that does not fit
-pub all_told : (r : Result Scenario Stop) (v : Values) (R : NetworkRows) (P : PlanFileRows) (S : ScheduleRows) (T : Texts) (ends : List (ℕ × ℕ)) → ends ≡ ends_of R.links
+pub all_told : (r : Result PlannedTown Stop) (v : Values) (R : NetworkRows) (P : PlanFileRows) (S : ScheduleRows) (T : Texts) (ends : List (ℕ × ℕ)) → ends ≡ ends_of R.links
     → persons_fault R.link_names ends T ≡ None → schedule_fault R.link_names ends T ≡ None → P ≡ persons_on R T → S ≡ schedule_rows_of R.link_names T
-    → Tells scenario_view r (plans_cross_fault P S) (scenario_of v R P S) → Tells scenario_view r (on_network_fault R T) (on_network v R T)
+    → Tells planned_view r (plans_cross_fault P S) (planned_of v R P S) → Tells planned_view r (on_network_fault R T) (on_network v R T)
 unfolding on_network_fault on_network
 all_told r v R P S T ends is no_persons no_schedule persons schedule told =
-    let value = scenario_of v R (persons_on R T) (schedule_rows_of R.link_names T) in
+    let value = planned_of v R (persons_on R T) (schedule_rows_of R.link_names T) in
     let no_persons_on = subst (λ (e : List (ℕ × ℕ)). persons_fault R.link_names e T ≡ None) is no_persons in
-    let with_persons = subst (λ (p : PlanFileRows). Tells scenario_view r (plans_cross_fault p S) (scenario_of v R p S)) persons told in
-    let with_both = subst (λ (t : ScheduleRows). Tells scenario_view r (plans_cross_fault (persons_on R T) t) (scenario_of v R (persons_on R T) t)) schedule with_persons in
-    let row_by_row = subst (λ (f : Option ScenarioFault). Tells scenario_view r f value) (same_crossing R T (schedule_rows_of R.link_names T) no_persons_on) with_both in
-    told_behind scenario_view r _ _ value no_persons_on
-    (told_behind scenario_view r _ _ value (subst (λ (e : List (ℕ × ℕ)). schedule_fault R.link_names e T ≡ None) is no_schedule) row_by_row)
+    let with_persons = subst (λ (p : PlanFileRows). Tells planned_view r (plans_cross_fault p S) (planned_of v R p S)) persons told in
+    let with_both = subst (λ (t : ScheduleRows). Tells planned_view r (plans_cross_fault (persons_on R T) t) (planned_of v R (persons_on R T) t)) schedule with_persons in
+    let row_by_row = subst (λ (f : Option ScenarioFault). Tells planned_view r f value) (same_crossing R T (schedule_rows_of R.link_names T) no_persons_on) with_both in
+    told_behind planned_view r _ _ value no_persons_on
+    (told_behind planned_view r _ _ value (subst (λ (e : List (ℕ × ℕ)). schedule_fault R.link_names e T ≡ None) is no_schedule) row_by_row)
 
 -- ALL FILES
+-- what days are scored by is told beside what the files on network tell
+pub scored_told : (planned : PlannedTown) (scenario : Scenario) (fault : Option ScenarioFault) (value : PlannedRows) (x : ScoringValues)
+    → Tells planned_view (Ok planned) fault value → scenario_view scenario ≡ scored_by (planned_view planned) x
+    → Tells scenario_view (Ok scenario) fault (scored_by value x)
+scored_told planned scenario fault value x told is = (told.0, is ∙ ap (λ (p : PlannedRows). scored_by p x) told.1)
+
 -- what the files on network tell is what all files tell, where settings and network have no fault
-pub files_told : (r : Result Scenario Stop) (T : Texts) (v : Values) (R : NetworkRows) → fault_in T file.Settings (λ bytes. fault_at 0 (settings_fault bytes)) ≡ None → network_fault T ≡ None
-    → v ≡ settings_of (bytes_in T file.Settings) → R ≡ network_rows_of T → Tells scenario_view r (on_network_fault R T) (on_network v R T) → Tells scenario_view r (scenario_fault T) (scenario_rows T)
+pub files_told : (r : Result Scenario Stop) (T : Texts) (v : FileValues) (R : NetworkRows) → fault_in T file.Settings (λ bytes. fault_at 0 (settings_fault bytes)) ≡ None → network_fault T ≡ None
+    → v ≡ file_of (bytes_in T file.Settings) → R ≡ network_rows_of T → Tells scenario_view r (on_network_fault R T) (scored_by (on_network v.day R T) v.scoring)
+    → Tells scenario_view r (scenario_fault T) (scenario_rows T)
 unfolding scenario_fault scenario_rows
 files_told r T v R no_settings no_network settings network told =
-    let value = on_network (settings_of (bytes_in T file.Settings)) (network_rows_of T) T in
-    let with_settings = subst (λ (s : Values). Tells scenario_view r (on_network_fault R T) (on_network s R T)) settings told in
-    let with_network = subst (λ (q : NetworkRows). Tells scenario_view r (on_network_fault q T) (on_network (settings_of (bytes_in T file.Settings)) q T)) network with_settings in
+    let said = file_of (bytes_in T file.Settings) in
+    let value = scored_by (on_network said.day (network_rows_of T) T) said.scoring in
+    let with_settings = subst (λ (s : FileValues). Tells scenario_view r (on_network_fault R T) (scored_by (on_network s.day R T) s.scoring)) settings told in
+    let with_network = subst (λ (q : NetworkRows). Tells scenario_view r (on_network_fault q T) (scored_by (on_network said.day q T) said.scoring)) network with_settings in
     told_behind scenario_view r _ _ value no_settings (told_behind scenario_view r _ _ value no_network with_network)

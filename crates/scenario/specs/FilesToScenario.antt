@@ -17,8 +17,11 @@ use Rattle.rows.specs.declared.schedule.DepartureRow.{DepartureRow}
 use Rattle.schedule.specs.Stops.{stops_fault, stop_of}
 use Rattle.schedule.specs.Routes.{routes_fault, lines_of, routes_of}
 use Rattle.schedule.specs.Departures.{departures_fault, departure_of}
+use Rattle.scoring.specs.Tables.{ScoringRows}
 use Rattle.settings.specs.Values.{Values}
-use Rattle.settings.specs.Faults.{settings_fault, settings_of}
+use Rattle.settings.specs.Faults.{settings_fault, settings_of, scoring_values}
+use Rattle.settings.specs.Numbered.{by_number}
+use Rattle.settings.specs.Scoring.{ScoringValues}
 use Rattle.rows.specs.Greens.{always}
 use Rattle.rows.specs.Joined.{ends_of}
 use Rattle.town.specs.Rows.{TownRows}
@@ -97,9 +100,15 @@ book_of network persons kinds schedule = record {
 }
 
 -- a town, and each person's plans in it
+pub record PlannedRows : Type 0 where
+  pub town : TownRows
+  pub plans : List (List PlanRows)
+
+-- the same, and what a day of it is scored by
 pub record ScenarioRows : Type 0 where
   pub town : TownRows
   pub plans : List (List PlanRows)
+  pub scoring : ScoringRows
 
 -- the town, with names of persons and of kinds of activities; no link has a signal
 unfoldable pub town_of : Values → NetworkRows → List (List ℕ) → List (List ℕ) → ScheduleRows → TownRows
@@ -120,8 +129,8 @@ abbrev pub plans_of : PlanFileRows → ScheduleRows → List (List PlanRows)
 plans_of plans schedule = map (map (plan_in_town (leg_checks_in plans schedule).numbers)) plans.plans
 
 -- the town with its plans
-unfoldable pub scenario_of : Values → NetworkRows → PlanFileRows → ScheduleRows → ScenarioRows
-scenario_of settings network plans schedule = record { town = town_of settings network plans.persons plans.kinds schedule; plans = plans_of plans schedule }
+unfoldable pub planned_of : Values → NetworkRows → PlanFileRows → ScheduleRows → PlannedRows
+planned_of settings network plans schedule = record { town = town_of settings network plans.persons plans.kinds schedule; plans = plans_of plans schedule }
 
 -- the first fault of nodes.csv and links.csv
 unfoldable pub network_fault : Texts → Option ScenarioFault
@@ -160,9 +169,13 @@ on_network_fault network T =
     or_else (schedule_fault network.link_names (ends_of network.links) T) (
     cross_fault network (bytes_in T file.Plans) (schedule_rows_of network.link_names T)))
 
--- the scenario on network
-unfoldable pub on_network : Values → NetworkRows → Texts → ScenarioRows
-on_network settings network T = scenario_of settings network (persons_on network T) (schedule_rows_of network.link_names T)
+-- the town with its plans on network
+unfoldable pub on_network : Values → NetworkRows → Texts → PlannedRows
+on_network settings network T = planned_of settings network (persons_on network T) (schedule_rows_of network.link_names T)
+
+-- with what its days are scored by: tables for the kinds of activities that plans have, with their numbers
+abbrev pub scored_by : PlannedRows → ScoringValues → ScenarioRows
+scored_by planned scoring = record { town = planned.town; plans = planned.plans; scoring = by_number planned.town.book.kinds scoring }
 
 -- the first fault of the files: each by itself, in their order, and only then the first leg of plans.csv that does not fit
 unfoldable pub scenario_fault : Texts → Option ScenarioFault
@@ -173,4 +186,5 @@ scenario_fault T =
 
 -- the scenario that files without a fault give
 unfoldable pub scenario_rows : Texts → ScenarioRows
-scenario_rows T = on_network (settings_of (bytes_in T file.Settings)) (network_rows_of T) T
+scenario_rows T =
+    scored_by (on_network (settings_of (bytes_in T file.Settings)) (network_rows_of T) T) (scoring_values (bytes_in T file.Settings))

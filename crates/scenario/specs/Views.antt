@@ -1,14 +1,19 @@
 -- The values of the code as the definitions see them.
-use Rattle.std.specs.Prelude.{get_or, None}
+use Rattle.std.specs.Prelude.{get_or, List, None}
 use Rattle.edge_files.specs.Files.{in_place}
 use Rattle.network.specs.declared.lists.Network.{Network}
+use Rattle.rows.specs.declared.plan.Plan.{Plan}
 use Rattle.rows.specs.PlanRows.{all_plan_rows}
+use Rattle.scoring.specs.declared.tables.Tables.{Tables}
+use Rattle.scoring.specs.Tables.{scoring_rows}
+use Rattle.town.specs.declared.town.Town.{Town}
 use Rattle.town.specs.Views.{rows_of}
 use Rattle.scenario.specs.declared.files.Files.{Files}
+use Rattle.scenario.specs.declared.planned.PlannedTown.{PlannedTown}
 use Rattle.scenario.specs.declared.scenario.Scenario.{Scenario}
 use Rattle.scenario.specs.Texts.{Texts}
 use Rattle.scenario.specs.declared.schedules.Schedule.{Schedule}
-use Rattle.scenario.specs.FilesToScenario.{NetworkRows, ScheduleRows, ScenarioRows}
+use Rattle.scenario.specs.FilesToScenario.{NetworkRows, ScheduleRows, PlannedRows, ScenarioRows}
 
 -- what was read of each file
 abbrev pub texts_of : Files → Texts
@@ -30,6 +35,14 @@ schedule_view schedule = record {
   departures = schedule.departures.rows;
 }
 
+-- the town with its plans
+abbrev pub planned_view : PlannedTown → PlannedRows
+planned_view planned = record { town = rows_of planned.town; plans = all_plan_rows planned.plans }
+
+-- a town, each person's plans, and what days are scored by
+abbrev pub scenario_parts : Town → List (List Plan) → Tables → ScenarioRows
+scenario_parts town plans tables = record { town = rows_of town; plans = all_plan_rows plans; scoring = scoring_rows tables }
+
 -- the scenario
 abbrev pub scenario_view : Scenario → ScenarioRows
-scenario_view scenario = record { town = rows_of scenario.town; plans = all_plan_rows scenario.plans }
+scenario_view scenario = scenario_parts scenario.town scenario.plans scenario.tables

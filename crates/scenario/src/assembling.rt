@@ -7,7 +7,8 @@ ghost use Rattle.std.specs.Prelude.{◌≡◌, ◌<◌, ◌≤◌, ◌^◌, ℕ,
 ghost use Rattle.limits.specs.declared.TheConstants.{MAX_PERSONS};
 ghost use Rattle.plans.specs.Progress.{IsSound};
 ghost use Rattle.plans.specs.Read.{file_rows_of};
-ghost use Rattle.settings.specs.Faults.{settings_fault, settings_of, values_of};
+ghost use Rattle.settings.specs.Faults.{settings_fault, file_of, values_of, file_values};
+ghost use Rattle.settings.specs.Scoring.{scoring_of};
 ghost use Rattle.records.specs.Faults.{fault_at};
 ghost use Rattle.rows.specs.Greens.{always};
 ghost use Rattle.rows.specs.Joined.{ends_of};
@@ -16,16 +17,16 @@ ghost use Rattle.scenario.specs.Texts.{bytes_in};
 ghost use Rattle.scenario.specs.Faults.{fault_in, Tells};
 ghost use Rattle.scenario.specs.LegChecks.{leg_checks_of, AreThere};
 ghost use Rattle.scenario.specs.Towns.{IsSchedule};
-ghost use Rattle.scenario.specs.FilesToScenario.{leg_checks_in, book_of, town_of, plans_cross_fault, scenario_of};
-ghost use Rattle.scenario.specs.FilesToScenario.{on_network, on_network_fault, scenario_fault};
-ghost use Rattle.scenario.specs.FilesToScenario.{scenario_rows};
-ghost use Rattle.scenario.specs.Views.{network_view, schedule_view, scenario_view, texts_of};
+ghost use Rattle.scenario.specs.FilesToScenario.{leg_checks_in, book_of, town_of, plans_cross_fault, planned_of};
+ghost use Rattle.scenario.specs.FilesToScenario.{on_network, on_network_fault, scored_by, scenario_fault, scenario_rows};
+ghost use Rattle.scenario.specs.Views.{network_view, schedule_view, planned_view, scenario_view, texts_of};
 
 use crate::faults::{ScenarioFault, Stop};
 use crate::files::Files;
 use crate::legs::all_plans_fault;
 use crate::network_read::{ends_in, read_network};
 use crate::numbering::{Numbering, numbers_in};
+use crate::planned::PlannedTown;
 use crate::plans_read::read_plan_file;
 use crate::reading::{bytes_of, with_file};
 use crate::renumbering::plans_in_town;
@@ -37,14 +38,14 @@ use events::{Book, Names};
 use network::Network;
 use plans::PlanFile;
 use rows::{Green, GreenList, SpanList};
-use settings::{Settings, read_settings};
+use settings::{Scoring, Settings, SettingsFile, by_number, read_settings};
 use std::alloc::{AllocError, Global};
 use town::Town;
 
 /// What settings.json says, or its first fault.
-fn settings_in(alloc: Global, files: &Files) -> Result<Settings, Stop>
-    ensures { Tells values_of result (fault_in (texts_of files.now) InFile.Settings (λ bytes. fault_at 0 (settings_fault bytes)))
-        (settings_of (bytes_in (texts_of files.now) InFile.Settings)) }
+fn settings_in(alloc: Global, files: &Files) -> Result<SettingsFile, Stop>
+    ensures { Tells file_values result (fault_in (texts_of files.now) InFile.Settings (λ bytes. fault_at 0 (settings_fault bytes)))
+        (file_of (bytes_in (texts_of files.now) InFile.Settings)) }
 {
     match bytes_of(files, InFile::Settings) {
         Ok(bytes) => with_file(InFile::Settings, read_settings(alloc, bytes)),
@@ -222,23 +223,23 @@ fn leg_fault(numbering: &Numbering, schedule: &Schedule, plans: &PlanFile) -> Op
 }
 
 /// The town with its plans, against no leg of which anything speaks.
-#[tactic(auto, unfolding(crate::specs::FilesToScenario::scenario_of))]
-fn scenario_of_parts(
+#[tactic(auto, unfolding(crate::specs::FilesToScenario::planned_of))]
+fn planned_of_parts(
     alloc: Global,
     settings: Settings,
     network: Network,
     file: PlanFile,
     schedule: Schedule,
     numbering: Numbering,
-) -> Result<Scenario, AllocError>
+) -> Result<PlannedTown, AllocError>
     requires sound { IsSound network.link_names (ends_of network.links) (file_rows_of file) }
     requires schedule { IsSchedule (length network.links) (ends_of network.links) (schedule_view schedule) }
     requires leg_checks { leg_checks_of numbering schedule ≡ leg_checks_in (file_rows_of file) (schedule_view schedule) }
     requires there { AreThere (length schedule.routes.lines) (leg_checks_of numbering schedule) }
     requires free { plans_cross_fault (file_rows_of file) (schedule_view schedule) ≡ None }
     ensures { IfOk result
-        (λ scenario. scenario_view scenario
-        ≡ scenario_of (values_of settings) (network_view network) (file_rows_of file) (schedule_view schedule)) }
+        (λ planned. planned_view planned
+        ≡ planned_of (values_of settings) (network_view network) (file_rows_of file) (schedule_view schedule)) }
 {
     let PlanFile {
         persons,
@@ -258,7 +259,7 @@ fn scenario_of_parts(
         return Err(AllocError);
     };
     match town_with_names(alloc, settings, network, schedule, persons, kinds) {
-        Ok(town) => Ok(Scenario { town, plans }),
+        Ok(town) => Ok(PlannedTown { town, plans }),
         Err(_) => {
             drop(plans);
             Err(AllocError)
@@ -267,18 +268,18 @@ fn scenario_of_parts(
 }
 
 /// The town with its plans, or the first leg of theirs that does not fit it.
-fn scenario_or_fault(
+fn planned_or_fault(
     alloc: Global,
     settings: Settings,
     network: Network,
     file: PlanFile,
     schedule: Schedule,
-) -> Result<Scenario, Stop>
+) -> Result<PlannedTown, Stop>
     requires sound { IsSound network.link_names (ends_of network.links) (file_rows_of file) }
     requires starts { All (λ row. row < 2 ^ 30) file.starts }
     requires schedule { IsSchedule (length network.links) (ends_of network.links) (schedule_view schedule) }
-    ensures { Tells scenario_view result (plans_cross_fault (file_rows_of file) (schedule_view schedule))
-        (scenario_of (values_of settings) (network_view network) (file_rows_of file) (schedule_view schedule)) }
+    ensures { Tells planned_view result (plans_cross_fault (file_rows_of file) (schedule_view schedule))
+        (planned_of (values_of settings) (network_view network) (file_rows_of file) (schedule_view schedule)) }
 {
     let Ok(numbering) = numbering_in(alloc, &file, &schedule) else {
         drop(file);
@@ -292,8 +293,8 @@ fn scenario_or_fault(
         drop(schedule);
         return Err(Stop::Fault(fault));
     }
-    match scenario_of_parts(alloc, settings, network, file, schedule, numbering) {
-        Ok(scenario) => Ok(scenario),
+    match planned_of_parts(alloc, settings, network, file, schedule, numbering) {
+        Ok(planned) => Ok(planned),
         Err(_) => Err(Stop::NoMemory),
     }
 }
@@ -304,8 +305,8 @@ fn on_network(
     files: &Files,
     settings: Settings,
     network: Network,
-) -> Result<Scenario, Stop>
-    ensures { Tells scenario_view result (on_network_fault (network_view network) (texts_of files.now))
+) -> Result<PlannedTown, Stop>
+    ensures { Tells planned_view result (on_network_fault (network_view network) (texts_of files.now))
         (on_network (values_of settings) (network_view network) (texts_of files.now)) }
 {
     let Ok(ends) = ends_in(alloc, &network) else {
@@ -320,12 +321,55 @@ fn on_network(
         }
     };
     match read_schedule(alloc, files, &network.link_names, &ends) {
-        Ok(schedule) => scenario_or_fault(alloc, settings, network, file, schedule),
+        Ok(schedule) => planned_or_fault(alloc, settings, network, file, schedule),
         Err(error) => {
             drop(file);
             drop(network);
             Err(error)
         }
+    }
+}
+
+/// The town with its plans, and what its days are scored by.
+fn scored(alloc: Global, planned: PlannedTown, scoring: Scoring) -> Result<Scenario, AllocError>
+    ensures { IfOk result (λ scenario. scenario_view scenario ≡ scored_by (planned_view planned) (scoring_of scoring)) }
+{
+    let PlannedTown { town, plans } = planned;
+    match by_number(alloc, scoring, &town.book.kinds) {
+        Ok(tables) => Ok(Scenario {
+            town,
+            plans,
+            tables,
+        }),
+        Err(_) => {
+            drop(town);
+            drop(plans);
+            Err(AllocError)
+        }
+    }
+}
+
+/// What the files that are read over network give on these, with what days are scored by, or their first fault.
+fn scored_on_network(
+    alloc: Global,
+    files: &Files,
+    file: SettingsFile,
+    network: Network,
+) -> Result<Scenario, Stop>
+    ensures { Tells scenario_view result (on_network_fault (network_view network) (texts_of files.now))
+        (scored_by (on_network (values_of file.settings) (network_view network) (texts_of files.now)) (scoring_of file.scoring)) }
+{
+    let SettingsFile { settings, scoring } = file;
+    let planned = match on_network(alloc, files, settings, network) {
+        Ok(planned) => planned,
+        Err(error) => {
+            drop(scoring);
+            return Err(error);
+        }
+    };
+    match scored(alloc, planned, scoring) {
+        Ok(scenario) => Ok(scenario),
+        Err(_) => Err(Stop::NoMemory),
     }
 }
 
@@ -337,12 +381,15 @@ fn on_network(
 pub fn assemble(alloc: Global, files: &Files) -> Result<Scenario, Stop>
     ensures { Tells scenario_view result (scenario_fault (texts_of files.now)) (scenario_rows (texts_of files.now)) }
 {
-    let settings = match settings_in(alloc, files) {
-        Ok(settings) => settings,
+    let file = match settings_in(alloc, files) {
+        Ok(file) => file,
         Err(error) => return Err(error),
     };
     match read_network(alloc, files) {
-        Ok(network) => on_network(alloc, files, settings, network),
-        Err(error) => Err(error),
+        Ok(network) => scored_on_network(alloc, files, file, network),
+        Err(error) => {
+            drop(file);
+            Err(error)
+        }
     }
 }

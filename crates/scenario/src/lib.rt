@@ -8,6 +8,7 @@ mod files;
 mod legs;
 mod network_read;
 mod numbering;
+mod planned;
 mod plans_read;
 mod reading;
 mod renumbering;

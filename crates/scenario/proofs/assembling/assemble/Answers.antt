@@ -1,4 +1,6 @@
-use Rattle.scenario.proofs.Common.{scenario_fault, texts_of, network_view, values_of}
+use Rattle.settings.specs.Faults.{file_values}
+use Rattle.scenario.specs.FilesToScenario.{scenario_fault}
+use Rattle.scenario.specs.Views.{texts_of, network_view}
 use Rattle.scenario.proofs.Told.{first_stop, later_stop}
 use Rattle.scenario.proofs.Composed.{files_told}
 use Rattle.scenario.proofs.assembling.assemble.Goals as goal
@@ -13,4 +15,4 @@ returns-in-Err-read_network c = later_stop c.in-Err-read_network.error _ _ c.in-
 
 pub returns-in-Ok-read_network : goal.returns-in-Ok-read_network
 returns-in-Ok-read_network c =
-    files_told c.on_network.result (texts_of c.args.files.now) (values_of c.in-Ok.settings) (network_view c.in-Ok-read_network.network) c.in-Ok.ensures.0 c.in-Ok-read_network.ensures.0 c.in-Ok.ensures.1 c.in-Ok-read_network.ensures.1 c.on_network.ensures
+    files_told c.scored_on_network.result (texts_of c.args.files.now) (file_values c.in-Ok.file) (network_view c.in-Ok-read_network.network) c.in-Ok.ensures.0 c.in-Ok-read_network.ensures.0 c.in-Ok.ensures.1 c.in-Ok-read_network.ensures.1 c.scored_on_network.ensures

@@ -19,12 +19,12 @@ returns c =
     schedule_told c.in-Err-read_schedule.error (network_view c.args.network) (texts_of c.args.files.now) c.deref-2.result.now (c.deref-2.ensures.value ∙ c.in-Ok.ensures)
     (subst (λ (e : List (ℕ × ℕ)). persons_fault c.args.network.link_names e (texts_of c.args.files.now) ≡ None) same c.in-Ok-read_plan_file.ensures.read.0) c.in-Err-read_schedule.ensures
 
-pub scenario_or_fault-requires-clause-sound : goal.scenario_or_fault-requires-clause-sound
-scenario_or_fault-requires-clause-sound c =
+pub planned_or_fault-requires-clause-sound : goal.planned_or_fault-requires-clause-sound
+planned_or_fault-requires-clause-sound c =
     subst (λ (e : List (ℕ × ℕ)). IsSound c.args.network.link_names e (file_rows_of c.in-Ok-read_plan_file.file)) (c.deref.ensures.value ∙ c.in-Ok.ensures) c.in-Ok-read_plan_file.ensures.sound
 
-pub scenario_or_fault-requires-clause-schedule : goal.scenario_or_fault-requires-clause-schedule
-scenario_or_fault-requires-clause-schedule c =
+pub planned_or_fault-requires-clause-schedule : goal.planned_or_fault-requires-clause-schedule
+planned_or_fault-requires-clause-schedule c =
     schedule_sound (network_view c.args.network) (texts_of c.args.files.now) c.deref-2.result.now c.in-Ok-read_schedule.schedule (c.deref-2.ensures.value ∙ c.in-Ok.ensures) c.args.network.each_link
     c.in-Ok-read_schedule.ensures.0 c.in-Ok-read_schedule.ensures.1
 
@@ -32,6 +32,6 @@ pub returns-in-Ok-read_schedule : goal.returns-in-Ok-read_schedule
 returns-in-Ok-read_schedule c =
     let T = texts_of c.args.files.now in
     let same = c.deref.ensures.value ∙ sym c.deref-2.ensures.value in
-    all_told c.scenario_or_fault.result (values_of c.args.settings) (network_view c.args.network) (file_rows_of c.in-Ok-read_plan_file.file) (schedule_view c.in-Ok-read_schedule.schedule) T c.deref-2.result.now
+    all_told c.planned_or_fault.result (values_of c.args.settings) (network_view c.args.network) (file_rows_of c.in-Ok-read_plan_file.file) (schedule_view c.in-Ok-read_schedule.schedule) T c.deref-2.result.now
     (c.deref-2.ensures.value ∙ c.in-Ok.ensures) (subst (λ (e : List (ℕ × ℕ)). persons_fault c.args.network.link_names e T ≡ None) same c.in-Ok-read_plan_file.ensures.read.0) c.in-Ok-read_schedule.ensures.0
-    c.in-Ok-read_plan_file.ensures.read.1 c.in-Ok-read_schedule.ensures.1 c.scenario_or_fault.ensures
+    c.in-Ok-read_plan_file.ensures.read.1 c.in-Ok-read_schedule.ensures.1 c.planned_or_fault.ensures

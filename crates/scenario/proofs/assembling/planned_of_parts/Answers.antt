@@ -1,9 +1,18 @@
-use Rattle.scenario.proofs.Common.{◌≡◌, List, ℕ, map, sym, ◌∙◌, ap, length, refl, subst, length-map, file_rows_of, PlanRows, all_plan_rows, plan_rows}
-use Rattle.scenario.proofs.Common.{ScenarioRows, leg_checks_in, scenario_of, town_of, all_fit, AreThere, plan_in_town, LegChecks, schedule_view, network_view}
-use Rattle.scenario.proofs.Common.{values_of, TownRows, rows_of}
+use Rattle.std.proofs.Common.{◌≡◌, ◌∙◌, sym, refl, ap, subst, ℕ, List, length, map}
+use Rattle.std.proofs.lemmas.List.{length-map}
+use Rattle.rows.specs.PlanRows.{PlanRows, plan_rows, all_plan_rows}
+use Rattle.plans.specs.Read.{file_rows_of}
+use Rattle.settings.specs.Faults.{values_of}
+use Rattle.town.specs.Rows.{TownRows}
+use Rattle.town.specs.Views.{rows_of}
+use Rattle.scenario.specs.Legs.{LegChecks, plan_in_town}
+use Rattle.scenario.specs.LegChecks.{AreThere}
+use Rattle.scenario.specs.FilesToScenario.{PlannedRows, leg_checks_in, town_of, planned_of}
+use Rattle.scenario.specs.Views.{network_view, schedule_view}
+use Rattle.scenario.specs.Fitting.{all_fit}
 use Rattle.scenario.proofs.AllFit.{all_kept}
 use Rattle.scenario.proofs.Settling.{plans_fit, persons_are}
-use Rattle.scenario.proofs.assembling.scenario_of_parts.Goals as goal
+use Rattle.scenario.proofs.assembling.planned_of_parts.Goals as goal
 
 pub invariant_of-result : goal.invariant_of-result
 invariant_of-result c =
@@ -27,7 +36,7 @@ invariant_of-result c =
     }
 
 pub returns-in-Ok-town_with_names : goal.returns-in-Ok-town_with_names
-unfolding scenario_of
+unfolding planned_of
 returns-in-Ok-town_with_names c =
     let args = c.args in
     let P = file_rows_of args.file in
@@ -37,5 +46,5 @@ returns-in-Ok-town_with_names c =
     let town_is : rows_of c.in-Ok-town_with_names.town ≡ T = c.in-Ok-town_with_names.ensures in
     let plans_are : all_plan_rows plans ≡ map (map (plan_in_town (leg_checks_in P S).numbers)) (all_plan_rows args.file.plans) =
     c.in-Ok.ensures ∙ ap (λ (W : LegChecks). map (map (plan_in_town W.numbers)) (all_plan_rows args.file.plans)) c.requires.leg_checks in
-    let both : TownRows → List (List PlanRows) → ScenarioRows = λ t l. record { town = t; plans = l } in
+    let both : TownRows → List (List PlanRows) → PlannedRows = λ t l. record { town = t; plans = l } in
     ap (λ (t : TownRows). both t (all_plan_rows plans)) town_is ∙ ap (λ (l : List (List PlanRows)). both T l) plans_are

@@ -4,7 +4,7 @@ use std::alloc::{AllocError, Global};
 /// How the program is used: its commands, and the files that they read and write.
 pub const USAGE: &str = "qsim simulates a day of traffic of the files in the current folder.
 
-Usage: qsim run      simulates the day; writes events.csv and its report
+Usage: qsim run      simulates the day and scores it; writes events.csv, scores.csv, plans_out.csv and its report
        qsim check    reads the files; reports their counts or their first fault
 
 Reads: settings.json nodes.csv links.csv plans.csv stops.csv routes.csv departures.csv

@@ -1,8 +1,8 @@
 -- Files of which each is the same have one answer.
-use Rattle.scenario.proofs.Common.{◌≡◌, List, ℕ, sym, ◌∙◌, refl, None, Option, InFile, persons_fault, scenario_fault, scenario_rows, schedule_fault}
-use Rattle.scenario.proofs.Common.{schedule_rows_of, network_fault, network_rows_of, on_network, on_network_fault, Texts}
-use Rattle.std.proofs.Common.{lit<}
+use Rattle.std.proofs.Common.{◌≡◌, ℕ, List, Option, None, refl, sym, ◌∙◌, lit<}
 use Rattle.edge_files.specs.declared.files.InFile.TheVariants as file
+use Rattle.scenario.specs.Texts.{Texts}
+use Rattle.scenario.specs.FilesToScenario.{scenario_fault, scenario_rows, network_rows_of, network_fault, persons_fault, schedule_rows_of, schedule_fault, on_network, on_network_fault}
 use Rattle.command_line.specs.declared.commands.Command.{Command}
 use Rattle.qsim_top.specs.declared.answers.Answer.{Answer}
 use Rattle.qsim_top.specs.Answer.{answer}

@@ -1,7 +1,7 @@
 -- Every day is lawful, and that of files without a fault follows the plans.
 use Rattle.scenario.proofs.Common.{scenario_fault, scenario_rows, ScenarioRows, first_plans, Texts}
-use Rattle.traffic.proofs.Common.{◌≡◌, ℕ, ◌∙◌, ◌<◌, subst, All-from_recursion, None, world_at, turns_of}
-use Rattle.traffic.proofs.Common.{Setup}
+use Rattle.traffic.proofs.Common.{◌≡◌, ℕ, List, ◌∙◌, length, refl, sym, ◌<◌, subst, All-from_recursion, None, PlanRows, world_at, turns_of}
+use Rattle.traffic.proofs.Common.{Setup, day}
 use Rattle.traffic.specs.declared.stage.Stage.TheVariants.{Buffer}
 use Rattle.traffic.proofs.Order.{day-ascends}
 use Rattle.law_one_place.proofs.Turns.{always_kept}
@@ -12,8 +12,12 @@ use Rattle.law_capacity.proofs.Flow.{day_flow}
 use Rattle.law_trips.proofs.InTime.{day_until}
 use Rattle.law_sound_setups.proofs.Laws.{day_sound}
 use Rattle.law_matches_plans.proofs.Towns.{persons_are, rows_sound, rows_told}
+use Rattle.law_scores.proofs.Towns.{rows_scored}
+use Rattle.town.specs.Rows.{TownRows}
+use Rattle.town.specs.Setups.{setup_of}
 use Rattle.law_valid_files.specs.Valid.{IsScenario}
 use Rattle.law_valid_files.proofs.Valid.{scenario_valid, chosen_valid}
+use Rattle.day_scores.specs.Standing.{AreScored}
 use Rattle.qsim_top.specs.Answer.{first_day}
 use Rattle.qsim_top.specs.Laws.{IsLawful, FollowsPlans}
 
@@ -36,6 +40,7 @@ follows S valid =
       everybody = persons_are S.town plans 0 ∙ chosen.each;
       sound = λ t. day_sound (first_day S) t (rows_sound S.town plans 0 valid.town chosen.plans);
       told = λ i less. rows_told S.town plans 0 i valid.town chosen.plans (subst (λ (n : ℕ). i < n) (persons_are S.town plans 0) less);
+      scored = subst (λ (n : ℕ). AreScored n (day (first_day S))) (sym (persons_are S.town plans 0)) (λ i less. rows_scored S.town plans 0 i valid.town chosen.plans less);
     }
 
 pub files_follow : (texts : Texts) → scenario_fault texts ≡ None → FollowsPlans (scenario_rows texts)

@@ -1,6 +1,7 @@
 pub mod Reports
 pub mod InTurn
-pub mod Chosen
+pub mod Named
+pub mod ScoredDays
 pub mod Answered
 pub mod Worked
 pub mod Alike

@@ -1,5 +1,5 @@
 -- What a run answers and does outside.
-use Rattle.std.specs.Prelude.{◌≡◌, ◌≢◌, ℕ, Bool, true, false, codes, List, [], ◌∷◌, Option, None, Some, Result, Ok, Err}
+use Rattle.std.specs.Prelude.{◌≡◌, ◌≢◌, ℕ, Bool, true, false, List, [], ◌∷◌, ◌++◌, length, map, replicate, Option, None, Some, Result, Ok, Err, ℤ}
 use Rattle.std.specs.List.{list_all}
 use Rattle.std.specs.Io.KnownBytes.{Appends}
 use Rattle.edge_files.specs.declared.files.OutFile.{OutFile}
@@ -11,6 +11,9 @@ use Rattle.edge_files.specs.Inputs.{Left}
 use Rattle.edge_files.specs.World.{World, Written, is_same, Does, DoesPart}
 use Rattle.events.specs.declared.event.Event.{Event}
 use Rattle.events.specs.declared.event.Book.{Book}
+use Rattle.day_scores.specs.Scores.{first_kind, scores_of}
+use Rattle.day_scores.specs.Texts.{scores_text}
+use Rattle.plan_text.specs.Lines.{plans_text}
 use Rattle.traffic.specs.Setup.{Setup}
 use Rattle.traffic.specs.Day.{day}
 use Rattle.town.specs.Setups.{setup_of}
@@ -29,7 +32,7 @@ use Rattle.qsim_top.specs.declared.answers.Answer.{Answer}
 use Rattle.qsim_top.specs.declared.answers.Status.{Status}
 use Rattle.qsim_top.specs.declared.answers.Status.TheVariants as status
 use Rattle.qsim_top.specs.Contents.{Contents, AreLeft, texts_in}
-use Rattle.qsim_top.specs.Texts.{events_text, iteration_line, refused_line, valid_line}
+use Rattle.qsim_top.specs.Texts.{events_text, iteration_line, done_line, refused_line, valid_line}
 
 -- a text goes to the report, and nothing else is done
 abbrev pub report : Status → List ℕ → Answer
@@ -43,16 +46,36 @@ first_day S = setup_of S.town (first_plans S.plans) 0
 unfoldable pub events_of : ScenarioRows → List Event
 events_of S = day (first_day S)
 
--- a day is written: its events, the report of its one iteration, and the end
-abbrev pub done_with : List Event → Book → Answer
-done_with events book = record {
+-- what each person's own events of that day are worth to him
+unfoldable pub first_scores : ScenarioRows → List ℤ
+first_scores S = scores_of S.scoring (map first_kind (first_plans S.plans)) (events_of S)
+
+-- an iteration is written: its events, the scores of the plans of these numbers, one of each person, and its report
+abbrev pub iteration_effects : ℕ → List Event → List ℕ → List ℤ → Book → List Effect
+iteration_effects iteration events chosen scores book =
+    effect.Write out.Events (events_text iteration events book)
+    ∷ effect.Write out.Scores (scores_text iteration book.persons chosen scores)
+    ∷ effect.Write out.Report (iteration_line iteration events scores)
+    ∷ []
+
+-- the end is written: the text of the plans, and the number of the last iteration
+abbrev pub end_effects : ℕ → List ℕ → List Effect
+end_effects last plans = effect.Write out.Plans plans ∷ effect.Write out.Report (done_line last) ∷ []
+
+-- the number of the first plan, for each of so many persons
+abbrev pub first_numbers : ℕ → List ℕ
+first_numbers persons = replicate persons 0
+
+-- a run of one day is written: its iteration, in which each person follows the first plan, and the end
+abbrev pub done_with : List Event → List ℤ → List ℕ → Book → Answer
+done_with events scores plans book = record {
   status = status.Done;
-  effects = effect.Write out.Events (events_text events book) ∷ effect.Write out.Report (iteration_line events) ∷ effect.Write out.Report (codes "done,0\n") ∷ [];
+  effects = iteration_effects 0 events (first_numbers (length book.persons)) scores book ++ end_effects 0 plans;
 }
 
--- the work of a command on a valid scenario: the day, or its counts
+-- the work of a command on a valid scenario: the day, with its scores and the plans, or its counts
 abbrev pub work : Command → ScenarioRows → Answer
-work command.Run S = done_with (events_of S) S.town.book
+work command.Run S = done_with (events_of S) (first_scores S) (plans_text S.plans S.town.book) S.town.book
 work command.Check S = report status.Done (valid_line S)
 
 -- a scenario with a fault is refused by its first one

@@ -14,6 +14,7 @@ use Rattle.traffic.specs.Worlds.{OnePlace, Storage, FlowKept, Sound}
 use Rattle.law_capacity.specs.Moves.{IsElsewhere, second_moves, KeepsRule}
 use Rattle.law_matches_plans.specs.Planned.{IsToldAsPlanned}
 use Rattle.scenario.specs.FilesToScenario.{ScenarioRows}
+use Rattle.day_scores.specs.Standing.{AreScored}
 use Rattle.qsim_top.specs.Answer.{first_day}
 
 -- The laws of a day: in every second each person is in exactly one place; no queue has more rows that were not pushed in than its storage;
@@ -31,9 +32,10 @@ pub record IsLawful (S : Setup) : Type 0 where
   pub in_time : All (λ (e : Event). e.key.second ≤ S.settings.end_second) (day S)
 
 -- The laws of the day of a scenario of which each plan fits the town: it has each person that the town names; in every second each person and
--- each vehicle fits the plans and the timetable that it comes from; and what is told of a person comes as his plan has it, in at most eight
--- events for each leg.
+-- each vehicle fits the plans and the timetable that it comes from; what is told of a person comes as his plan has it, in at most eight
+-- events for each leg; and so the events of each can be scored one after the other.
 pub record FollowsPlans (scenario : ScenarioRows) : Type 0 where
   pub everybody : length (first_day scenario).persons ≡ length scenario.town.book.persons
   pub sound : (t : ℕ) → Sound (first_day scenario) (world_at (first_day scenario) t)
   pub told : (i : ℕ) → i < length (first_day scenario).persons → IsToldAsPlanned (first_day scenario) i
+  pub scored : AreScored (length (first_day scenario).persons) (day (first_day scenario))

@@ -1,4 +1,5 @@
 pub mod Contents
 pub mod Texts
 pub mod Answer
+pub mod ScoredDays
 pub mod Laws

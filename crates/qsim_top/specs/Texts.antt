@@ -1,5 +1,6 @@
 -- What a run writes.
-use Rattle.std.specs.Prelude.{ℕ, Bool, true, false, codes, decimal, List, ◌++◌, length}
+use Rattle.std.specs.Prelude.{ℕ, Bool, true, false, codes, decimal, List, ◌++◌, length, ℤ}
+use Rattle.std.specs.Fmt.{signed_decimal}
 use Rattle.std.specs.List.{count_by}
 use Rattle.events.specs.declared.event.Event.{Event}
 use Rattle.events.specs.declared.event.Book.{Book}
@@ -10,10 +11,11 @@ use Rattle.edge_files.specs.Files.{in_file_name}
 use Rattle.edge_files.specs.Reasons.{reason_number, reason_name}
 use Rattle.scenario.specs.declared.faults.ScenarioFault.{ScenarioFault}
 use Rattle.scenario.specs.FilesToScenario.{ScenarioRows}
+use Rattle.scoring.specs.Score.{total}
 
--- the events of iteration 0: a line that says so, and a line for each event
-unfoldable pub events_text : List Event → Book → List ℕ
-events_text events book = codes "iteration,0\n" ++ event_lines events book
+-- the events of an iteration: a line with its number, and a line for each event
+unfoldable pub events_text : ℕ → List Event → Book → List ℕ
+events_text iteration events book = codes "iteration," ++ decimal iteration ++ codes "\n" ++ event_lines events book
 
 abbrev pub is_stuck : Word → Bool
 is_stuck word.ActEnd = false
@@ -38,13 +40,19 @@ is_stuck word.StuckAndAbort = true
 abbrev pub stuck_count : List Event → ℕ
 stuck_count events = count_by (λ event. is_stuck event.word) events
 
--- the report of iteration 0: how many events, how many of stuck persons, and the sum of the scores, which is 0 as long as none are made
-unfoldable pub iteration_counts : ℕ → ℕ → List ℕ
-iteration_counts events stuck = codes "iteration,0," ++ decimal events ++ codes "," ++ decimal stuck ++ codes ",0\n"
+-- the report of an iteration: its number, how many events, how many of stuck persons, and the sum of the scores in micro-utils
+unfoldable pub iteration_counts : ℕ → ℕ → ℕ → ℤ → List ℕ
+iteration_counts iteration events stuck sum =
+    codes "iteration," ++ decimal iteration ++ codes "," ++ decimal events ++ codes "," ++ decimal stuck ++ codes "," ++ signed_decimal sum
+    ++ codes "\n"
 
--- the same of events
-abbrev pub iteration_line : List Event → List ℕ
-iteration_line events = iteration_counts (length events) (stuck_count events)
+-- the same of events and scores
+abbrev pub iteration_line : ℕ → List Event → List ℤ → List ℕ
+iteration_line iteration events scores = iteration_counts iteration (length events) (stuck_count events) (total scores)
+
+-- the end of the report: the number of the last iteration
+unfoldable pub done_line : ℕ → List ℕ
+done_line last = codes "done," ++ decimal last ++ codes "\n"
 
 -- the report of a refused scenario: the file, the row, and the reason by number and name
 unfoldable pub refused_line : ScenarioFault → List ℕ

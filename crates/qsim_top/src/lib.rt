@@ -1,4 +1,4 @@
-//! The top call: words and files in, events and a report out.
+//! The top call: words and files in, events, scores, plans and a report out.
 //!
 //! What it does is one definition, `answer` in specs/: a status and a list of effects outside. Its
 //! contract says that exactly these effects were done, or a front of their steps, and what holds of
@@ -9,6 +9,7 @@ mod answers;
 mod laws;
 mod reading;
 mod runs;
+mod scored_days;
 mod texts;
 mod top;
 

@@ -1,29 +1,29 @@
 //! The answers of the commands.
 
-ghost use Rattle.std.specs.Prelude.{◌≡◌, length, map, true, IfOk};
-ghost use Rattle.std.specs.List.{list_all};
+ghost use Rattle.std.specs.Prelude.{◌≡◌, ◌++◌, length, true, IfOk, OnOk};
 ghost use Rattle.edge_files.specs.declared.effects.Effect.TheVariants as effect;
-ghost use Rattle.events.specs.Lines.{AreInBook};
-ghost use Rattle.rows.specs.PlanRows.{plan_rows, all_plan_rows};
-ghost use Rattle.town.specs.Fits.{fits};
-ghost use Rattle.town.specs.Setups.{setup_of};
+ghost use Rattle.rows.specs.PlanRows.{all_plan_rows};
 ghost use Rattle.town.specs.Views.{rows_of};
-ghost use Rattle.traffic.specs.Day.{day};
 ghost use Rattle.scenario.specs.Fitting.{all_fit};
-ghost use Rattle.scenario.specs.Views.{texts_of, scenario_view};
+ghost use Rattle.scenario.specs.Views.{texts_of, scenario_parts, scenario_view};
 ghost use Rattle.qsim_top.specs.Texts.{refused_line, valid_line};
-ghost use Rattle.qsim_top.specs.Answer.{report, events_of, done_with, work, answer, is_whole, IsSound, IsAnswer, AnswersRead, result_view};
+ghost use Rattle.qsim_top.specs.ScoredDays.{IsWritable};
+ghost use Rattle.qsim_top.specs.Answer.{report, iteration_effects, end_effects, first_numbers, done_with, work, answer, is_whole, IsSound};
+ghost use Rattle.qsim_top.specs.Answer.{IsAnswer, AnswersRead, result_view};
 
 use crate::answers::{Answer, Status};
-use crate::texts::{events_text, iteration_line, refused_line, valid_line};
+use crate::scored_days::{ScoredDay, first_day};
+use crate::texts::{done_line, events_text, iteration_line, refused_line, valid_line};
 use command_line::Command;
+use day_scores::scores_text;
 use edge_files::{Bytes, Effect, EffectList, OutFile};
-use events::{Book, Event};
-use plain_day::plain_day;
-use rows::{Plan, PlanLists};
-use scenario::{Files, Scenario, ScenarioFault, Stop, assemble, chosen_plans};
+use events::Book;
+use plan_text::plans_text;
+use rows::PlanLists;
+use scenario::{Files, Scenario, ScenarioFault, Stop, assemble};
+use scoring::Tables;
 use std::alloc::{AllocError, Global};
-use town::{DayInput, Town};
+use town::Town;
 
 fn write(file: OutFile, text: Vec<u8>) -> Effect
     ensures { result ≡ effect.Write file text.items }
@@ -57,62 +57,90 @@ fn refused(alloc: Global, fault: ScenarioFault) -> Result<Answer, AllocError>
     Ok(answer)
 }
 
-/// What is written of a day: its events, the report of the iteration, and the end.
-fn done_with(alloc: Global, events: &[Event], book: &Book) -> Result<Answer, AllocError>
-    requires { AreInBook events.now book.now }
-    ensures { IfOk result (IsAnswer (done_with events.now book.now)) }
+/// Adds what is written of an iteration: the events of its day, the scores of the plans that each person followed, by
+/// the numbers of these, and its report.
+fn push_iteration(
+    alloc: Global,
+    effects: &mut Vec<Effect>,
+    iteration: u32,
+    day: &ScoredDay,
+    chosen: &[u32],
+    book: &Book,
+) -> Result<(), AllocError>
+    requires day { IsWritable book.now day.now.events.items day.now.scores.items }
+    requires each { length chosen.now ≡ length book.now.persons }
+    ensures { OnOk result (effects.new.items
+        ≡ effects.old.items ++ iteration_effects iteration day.now.events.items chosen.now day.now.scores.items book.now) }
 {
-    let mut effects = Vec::new(alloc);
-    let text = events_text(alloc, events, book)?;
+    let text = events_text(alloc, iteration, &day.events, book)?;
     effects.push(write(OutFile::Events, text))?;
-    let line = iteration_line(alloc, events)?;
+    let text = scores_text(alloc, iteration, &book.persons, chosen, &day.scores)?;
+    effects.push(write(OutFile::Scores, text))?;
+    let line = iteration_line(alloc, iteration, &day.events, &day.scores)?;
     effects.push(write(OutFile::Report, line))?;
-    let end = Vec::from_slice(alloc, b"done,0\n")?;
-    effects.push(write(OutFile::Report, end))?;
+    Ok(())
+}
+
+/// Adds what is written at the end: the plans, and the number of the last iteration.
+fn push_end(
+    alloc: Global,
+    effects: &mut Vec<Effect>,
+    last: u32,
+    plans: Vec<u8>,
+) -> Result<(), AllocError>
+    ensures { OnOk result (effects.new.items ≡ effects.old.items ++ end_effects last plans.items) }
+{
+    effects.push(write(OutFile::Plans, plans))?;
+    let line = done_line(alloc, last)?;
+    effects.push(write(OutFile::Report, line))?;
+    Ok(())
+}
+
+/// The number of the first plan, for each of so many persons.
+fn first_numbers(alloc: Global, persons: u32) -> Result<Vec<u32>, AllocError>
+    ensures { IfOk result (λ numbers. numbers.items ≡ first_numbers persons) }
+{
+    let mut numbers = Vec::new(alloc);
+    for _ in 0..persons {
+        numbers.push(0)?;
+    }
+    Ok(numbers)
+}
+
+/// What is written of a run of one day, with this text of the plans.
+fn done_with(
+    alloc: Global,
+    day: &ScoredDay,
+    plans: Vec<u8>,
+    book: &Book,
+) -> Result<Answer, AllocError>
+    requires { IsWritable book.now day.now.events.items day.now.scores.items }
+    ensures { IfOk result (IsAnswer (done_with day.now.events.items day.now.scores.items plans.items book.now)) }
+{
+    let chosen = first_numbers(alloc, book.persons.len())?;
+    let mut effects = Vec::new(alloc);
+    push_iteration(alloc, &mut effects, 0, day, &chosen, book)?;
+    push_end(alloc, &mut effects, 0, plans)?;
     Ok(Answer {
         status: Status::Done,
         effects: EffectList { rows: effects },
     })
 }
 
-/// The events of the first day of a town on which each person follows the chosen plan.
-fn first_events(alloc: Global, town: &Town, chosen: &[Plan]) -> Result<Vec<Event>, AllocError>
-    requires each { length town.now.book.persons ≡ length chosen.now }
-    requires fit { list_all (fits (rows_of town.now)) (map plan_rows chosen.now) ≡ true }
-    ensures events { IfOk result (λ events. events.items ≡ day (setup_of (rows_of town.now) (map plan_rows chosen.now) 0)) }
-    ensures named { IfOk result (λ events. AreInBook events.items town.now.book) }
-{
-    let input = DayInput {
-        town,
-        chosen,
-        iteration: 0,
-    };
-    let events = plain_day(alloc, &input)?;
-    Ok(events)
-}
-
-/// The events of the day on which each person follows the first plan.
-#[tactic(auto, unfolding(crate::specs::Answer::events_of))]
-fn events_of(alloc: Global, town: &Town, plans: PlanLists) -> Result<Vec<Event>, AllocError>
+/// The first day of a town, written with its scores, and the plans.
+fn day_answer(
+    alloc: Global,
+    town: &Town,
+    tables: &Tables,
+    plans: PlanLists,
+) -> Result<Answer, AllocError>
     requires each { length plans ≡ length town.now.book.persons }
     requires fit { all_fit (rows_of town.now) (all_plan_rows plans) ≡ true }
-    ensures events { IfOk result (λ events. events.items ≡ events_of (record { town = rows_of town.now; plans = all_plan_rows plans })) }
-    ensures named { IfOk result (λ events. AreInBook events.items town.now.book) }
+    ensures { IfOk result (IsAnswer (work Command.Run (scenario_parts town.now plans tables.now))) }
 {
-    let chosen = chosen_plans(alloc, plans)?;
-    let events = first_events(alloc, town, &chosen)?;
-    Ok(events)
-}
-
-/// The day of a town and its plans, written.
-fn day_answer(alloc: Global, town: &Town, plans: PlanLists) -> Result<Answer, AllocError>
-    requires each { length plans ≡ length town.now.book.persons }
-    requires fit { all_fit (rows_of town.now) (all_plan_rows plans) ≡ true }
-    ensures { IfOk result
-        (IsAnswer (done_with (events_of (record { town = rows_of town.now; plans = all_plan_rows plans })) town.now.book)) }
-{
-    let events = events_of(alloc, town, plans)?;
-    let answer = done_with(alloc, &events, &town.book)?;
+    let text = plans_text(alloc, &plans, &town.book)?;
+    let day = first_day(alloc, town, tables, plans)?;
+    let answer = done_with(alloc, &day, text, &town.book)?;
     Ok(answer)
 }
 
@@ -120,9 +148,14 @@ fn day_answer(alloc: Global, town: &Town, plans: PlanLists) -> Result<Answer, Al
 fn run(alloc: Global, scenario: Scenario) -> Result<Answer, AllocError>
     ensures { IfOk result (IsAnswer (work Command.Run (scenario_view scenario))) }
 {
-    let Scenario { town, plans } = scenario;
-    let answer = day_answer(alloc, &town, plans);
+    let Scenario {
+        town,
+        plans,
+        tables,
+    } = scenario;
+    let answer = day_answer(alloc, &town, &tables, plans);
     drop(town);
+    drop(tables);
     answer
 }
 

@@ -1,20 +1,37 @@
-ghost use Rattle.std.specs.Prelude.{◌≡◌, IfOk};
+ghost use Rattle.std.specs.Prelude.{◌≡◌, ◌≤◌, ◌++◌, codes, decimal, length, IfOk, All};
 ghost use Rattle.events.specs.Lines.{AreInBook};
+ghost use Rattle.limits.specs.declared.TheConstants.{MAX_PERSONS};
 ghost use Rattle.scenario.specs.Views.{scenario_view};
-ghost use Rattle.qsim_top.specs.Texts.{events_text, is_stuck, stuck_count, iteration_counts, iteration_line};
+ghost use Rattle.scoring.specs.declared.TheConstants.{MAX_SCORE};
+ghost use Rattle.scoring.specs.Ranges.{IsWithin};
+ghost use Rattle.qsim_top.specs.Texts.{events_text, is_stuck, stuck_count, iteration_counts, iteration_line, done_line};
 ghost use Rattle.qsim_top.specs.Texts.{refused_line, valid_counts, valid_line};
 
+use day_scores::sum_of;
 use events::{Book, Event, Word, lines};
 use scenario::{Scenario, ScenarioFault};
 use std::alloc::{AllocError, Global};
 
-/// The text of the events of iteration 0.
-#[tactic(auto, unfolding(crate::specs::Texts::events_text))]
-pub fn events_text(alloc: Global, events: &[Event], book: &Book) -> Result<Vec<u8>, AllocError>
-    requires { AreInBook events.now book.now }
-    ensures { IfOk result (λ text. text.items ≡ events_text events.now book.now) }
+/// The line with which an iteration's events begin.
+fn events_header(alloc: Global, iteration: u32) -> Result<Vec<u8>, AllocError>
+    ensures { IfOk result (λ text. text.items ≡ codes "iteration," ++ decimal iteration ++ codes "\n") }
 {
-    let mut text = Vec::from_slice(alloc, b"iteration,0\n")?;
+    let line = format!(in alloc; "iteration,{iteration}\n")?;
+    Ok(line.into_bytes())
+}
+
+/// The text of the events of an iteration.
+#[tactic(auto, unfolding(crate::specs::Texts::events_text))]
+pub fn events_text(
+    alloc: Global,
+    iteration: u32,
+    events: &[Event],
+    book: &Book,
+) -> Result<Vec<u8>, AllocError>
+    requires { AreInBook events.now book.now }
+    ensures { IfOk result (λ text. text.items ≡ events_text iteration events.now book.now) }
+{
+    let mut text = events_header(alloc, iteration)?;
     lines(events, book, &mut text)?;
     Ok(text)
 }
@@ -31,20 +48,49 @@ fn stuck_count(events: &[Event]) -> usize
     events.iter().filter(|event| is_stuck(event.word)).count()
 }
 
-/// The report of iteration 0, by the number of its events and of those of persons who are stuck.
+/// The report of an iteration, by the number of its events and of those of persons who are stuck, and by the sum of
+/// the scores in micro-utils.
 #[tactic(auto, unfolding(crate::specs::Texts::iteration_counts))]
-fn iteration_counts(alloc: Global, events: usize, stuck: usize) -> Result<Vec<u8>, AllocError>
-    ensures { IfOk result (λ line. line.items ≡ iteration_counts events stuck) }
+fn iteration_counts(
+    alloc: Global,
+    iteration: u32,
+    events: usize,
+    stuck: usize,
+    sum: i64,
+) -> Result<Vec<u8>, AllocError>
+    ensures { IfOk result (λ line. line.items ≡ iteration_counts iteration events stuck sum) }
 {
-    let line = format!(in alloc; "iteration,0,{events},{stuck},0\n")?;
+    let line = format!(in alloc; "iteration,{iteration},{events},{stuck},{sum}\n")?;
     Ok(line.into_bytes())
 }
 
-/// The report of iteration 0.
-pub fn iteration_line(alloc: Global, events: &[Event]) -> Result<Vec<u8>, AllocError>
-    ensures { IfOk result (λ line. line.items ≡ iteration_line events.now) }
+/// The report of an iteration, by its events and by the scores, in micro-utils.
+pub fn iteration_line(
+    alloc: Global,
+    iteration: u32,
+    events: &[Event],
+    scores: &[i64],
+) -> Result<Vec<u8>, AllocError>
+    requires few { length scores.now ≤ MAX_PERSONS }
+    requires within { All (IsWithin MAX_SCORE) scores.now }
+    ensures { IfOk result (λ line. line.items ≡ iteration_line iteration events.now scores.now) }
 {
-    iteration_counts(alloc, events.len(), stuck_count(events))
+    iteration_counts(
+        alloc,
+        iteration,
+        events.len(),
+        stuck_count(events),
+        sum_of(scores),
+    )
+}
+
+/// The end of the report.
+#[tactic(auto, unfolding(crate::specs::Texts::done_line))]
+pub fn done_line(alloc: Global, last: u32) -> Result<Vec<u8>, AllocError>
+    ensures { IfOk result (λ line. line.items ≡ done_line last) }
+{
+    let line = format!(in alloc; "done,{last}\n")?;
+    Ok(line.into_bytes())
 }
 
 /// The report of a refused scenario.

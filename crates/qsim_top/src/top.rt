@@ -113,8 +113,9 @@ fn tell<O: Outputs, K: Keeper>(
     }
 }
 
-/// Does what the words ask for: `qsim run` simulates the day of a scenario, `qsim check` reads it
-/// and reports its counts or its first fault.
+/// Does what the words ask for: `qsim run` simulates the day of a scenario, tells what it is worth to
+/// each person, and writes the plans; `qsim check` reads the scenario and reports its counts or its
+/// first fault.
 ///
 /// The words are read first, then all files, and then all that the answer holds is done outside. The
 /// keeper and the gate are not called, and no thread is started.

@@ -1,4 +1,5 @@
-//! Days on which many do the same in one second. How many events are told, and how many persons are stuck, is worked out by hand.
+//! Days on which many do the same in one second. How many events are told, how many persons are stuck, and the sum of the scores, is
+//! worked out by hand: each second of a leg is worth -1,666, and who is stuck -100,000,000.
 
 use crate::scenarios::{Case, Pieces, count_answered};
 use qsim_top::Status;
@@ -47,7 +48,7 @@ static PASSENGERS: [Case; 3] = [
         stops: STOPS,
         routes: ROUTE,
         departures: &[(1, DEPARTURES), (1, "d,r,2,50\n")],
-        report: "iteration,0,262200,65536,0\ndone,0\n",
+        report: "iteration,0,262200,65536,-6554145914880\ndone,0\n",
         ..LINE
     },
     // 1,000 persons, as many as a bus may have seats, wait, enter, and leave it all together: seven
@@ -62,7 +63,7 @@ static PASSENGERS: [Case; 3] = [
         stops: STOPS,
         routes: ROUTE,
         departures: &[(1, DEPARTURES), (1, "d,r,2,1000\n")],
-        report: "iteration,0,7011,0,0\ndone,0\n",
+        report: "iteration,0,7011,0,-11662000\ndone,0\n",
         ..LINE
     },
     // L2 has one place and lets one vehicle through in an hour. The first car passes it (12 events), the second one stays on it (7
@@ -88,7 +89,7 @@ static PASSENGERS: [Case; 3] = [
         stops: STOPS,
         routes: ROUTE,
         departures: &[(1, DEPARTURES), (1, "d,r,2,1000\n")],
-        report: "iteration,0,5024,1001,0\ndone,0\n",
+        report: "iteration,0,5024,1001,-100108348326\ndone,0\n",
         ..LINE
     },
 ];
@@ -154,7 +155,7 @@ static VEHICLES: [Case; 4] = [
                 "p#,0,act,home,L1,1,\np#,0,leg,car,,,L1 L2\np#,0,act,work,L2,,\n",
             ),
         ],
-        report: "iteration,0,10028,2,0\ndone,0\n",
+        report: "iteration,0,10028,2,-322001180\ndone,0\n",
         ..LINE
     },
 ];
@@ -175,7 +176,7 @@ static WALKERS: [Case; 2] = [
                 "p#,0,act,home,L1,1,\np#,0,leg,walk,,2,\np#,0,act,work,L3,,\n",
             ),
         ],
-        report: "iteration,0,327680,0,0\ndone,0\n",
+        report: "iteration,0,327680,0,-218365952\ndone,0\n",
         ..LINE
     },
     // They are under way when the day ends: three events each.
@@ -187,7 +188,7 @@ static WALKERS: [Case; 2] = [
                 "p#,0,act,home,L1,1,\np#,0,leg,walk,,9,\np#,0,act,work,L3,,\n",
             ),
         ],
-        report: "iteration,0,196608,65536,0\ndone,0\n",
+        report: "iteration,0,196608,65536,-6554145914880\ndone,0\n",
         ..LINE
     },
 ];
@@ -227,7 +228,7 @@ static ROUTES: [Case; 2] = [
             (1, "\n"),
         ],
         departures: &[(1, DEPARTURES), (1, "d,r,2,5\n")],
-        report: "iteration,0,29,2,0\ndone,0\n",
+        report: "iteration,0,29,2,-200029988\ndone,0\n",
         ..LINE
     },
     // 5,000 links lead out of a node, and a car takes the last of them: ten events.
@@ -247,7 +248,7 @@ static ROUTES: [Case; 2] = [
                 "c,0,act,home,L1,1,\nc,0,leg,car,,,L1 M4999\nc,0,act,work,M4999,,\n",
             ),
         ],
-        report: "iteration,0,10,0,0\ndone,0\n",
+        report: "iteration,0,10,0,-3332\ndone,0\n",
         ..LINE
     },
 ];

@@ -149,6 +149,26 @@ pub(crate) fn are_written(outputs: &MemoryOutputs, report: &str, events: &str) -
         && is_written(outputs, OutFile::Plans, "")
 }
 
+/// Whether a run of a case is done with this report, these scores and events, and this text of the plans.
+pub(crate) fn is_run_to<R: Threads + Wait + Sync>(
+    rt: &R,
+    alloc: Global,
+    case: &Case,
+    report: &str,
+    scores: &str,
+    events: &str,
+    plans: &str,
+) -> bool {
+    let mut inputs = inputs_of(alloc, case);
+    let mut outputs = MemoryOutputs::new(alloc);
+    let came = status_of(rt, alloc, &["qsim", "run"], &mut inputs, &mut outputs);
+    came == Status::Done
+        && is_written(&outputs, OutFile::Report, report)
+        && is_written(&outputs, OutFile::Scores, scores)
+        && is_written(&outputs, OutFile::Events, events)
+        && is_written(&outputs, OutFile::Plans, plans)
+}
+
 /// Whether a command answers to a case with this status, report and events, and writes to no other file.
 pub(crate) fn is_answered<R: Threads + Wait + Sync>(
     rt: &R,

@@ -1,15 +1,16 @@
-//! Days from files to events, each worked by hand.
+//! Days from files to events and scores, each worked by hand.
 
-use crate::cases::{BUS, Case, DRIVE, LINE, WALK, is_answered};
-use qsim_top::Status;
+use crate::cases::{BUS, Case, DRIVE, LINE, WALK, is_run_to, plans_of};
 use std::alloc::Global;
 use std::sync::Wait;
 use std::thread::Threads;
 
-/// A day: its files, its report and its events.
+/// A day: its files, its report, its scores, which an independent program computed, and its events. The plans come out as they
+/// went in.
 struct Day {
     case: Case,
     report: &'static str,
+    scores: &'static str,
     events: &'static str,
 }
 
@@ -17,7 +18,8 @@ struct Day {
 static WALKERS: [Day; 4] = [
     Day {
         case: WALK,
-        report: "iteration,0,5,0,0\ndone,0\n",
+        report: "iteration,0,5,0,-83300\ndone,0\n",
+        scores: "0,p1,0,-83300\n",
         events: "iteration,0\n\
             100,actend,p1,,L1,home\n\
             100,departure,p1,,L1,walk\n\
@@ -33,7 +35,8 @@ static WALKERS: [Day; 4] = [
                 p1,0,leg,walk,,50,\np1,0,act,home,L1,,\n",
             ..LINE
         },
-        report: "iteration,0,10,0,0\ndone,0\n",
+        report: "iteration,0,10,0,-166600\ndone,0\n",
+        scores: "0,p1,0,-166600\n",
         events: "iteration,0\n\
             100,actend,p1,,L1,home\n\
             100,departure,p1,,L1,walk\n\
@@ -53,7 +56,8 @@ static WALKERS: [Day; 4] = [
             plans: "p1,0,act,home,L1,100,\np1,0,leg,walk,,1,\np1,0,act,work,L3,,\n",
             ..LINE
         },
-        report: "iteration,0,5,0,0\ndone,0\n",
+        report: "iteration,0,5,0,-1666\ndone,0\n",
+        scores: "0,p1,0,-1666\n",
         events: "iteration,0\n\
             100,actend,p1,,L1,home\n\
             100,departure,p1,,L1,walk\n\
@@ -72,7 +76,8 @@ static WALKERS: [Day; 4] = [
                 p3,1,act,home,L3,,\n",
             ..LINE
         },
-        report: "iteration,0,15,0,0\ndone,0\n",
+        report: "iteration,0,15,0,-133280\ndone,0\n",
+        scores: "0,p1,0,-16660\n0,p2,0,-83300\n0,p3,0,-33320\n",
         events: "iteration,0\n\
             0,actend,p3,,L3,home\n\
             0,departure,p3,,L3,ride\n\
@@ -126,7 +131,8 @@ static CARS: [Day; 6] = [
             settings: "{\"end_second\":112}",
             ..DRIVE
         },
-        report: "iteration,0,10,0,0\ndone,0\n",
+        report: "iteration,0,10,0,-18326\ndone,0\n",
+        scores: "0,p1,0,-18326\n",
         events: "iteration,0\n\
             100,actend,p1,,L1,home\n\
             100,departure,p1,,L1,car\n\
@@ -147,6 +153,7 @@ static CARS: [Day; 6] = [
             ..LINE
         },
         report: "iteration,0,8,0,0\ndone,0\n",
+        scores: "0,p1,0,0\n",
         events: "iteration,0\n\
             100,actend,p1,,L1,home\n\
             100,departure,p1,,L1,car\n\
@@ -166,7 +173,8 @@ static CARS: [Day; 6] = [
             plans: TWO_DRIVES,
             ..LINE
         },
-        report: "iteration,0,20,0,0\ndone,0\n",
+        report: "iteration,0,20,0,-39984\ndone,0\n",
+        scores: "0,p1,0,-18326\n0,p2,0,-21658\n",
         events: TWO_SECONDS_APART,
     },
     // The same, since half of the flow is let through.
@@ -176,7 +184,8 @@ static CARS: [Day; 6] = [
             plans: TWO_DRIVES,
             ..LINE
         },
-        report: "iteration,0,20,0,0\ndone,0\n",
+        report: "iteration,0,20,0,-39984\ndone,0\n",
+        scores: "0,p1,0,-18326\n0,p2,0,-21658\n",
         events: TWO_SECONDS_APART,
     },
     // One vehicle passes the first link in an hour.
@@ -188,7 +197,8 @@ static CARS: [Day; 6] = [
             plans: TWO_DRIVES,
             ..LINE
         },
-        report: "iteration,0,20,0,0\ndone,0\n",
+        report: "iteration,0,20,0,-6034252\ndone,0\n",
+        scores: "0,p1,0,-18326\n0,p2,0,-6015926\n",
         events: "iteration,0\n\
             100,actend,p1,,L1,home\n\
             100,departure,p1,,L1,car\n\
@@ -217,7 +227,8 @@ static CARS: [Day; 6] = [
             settings: "{\"end_second\":111}",
             ..DRIVE
         },
-        report: "iteration,0,7,1,0\ndone,0\n",
+        report: "iteration,0,7,1,-100018326\ndone,0\n",
+        scores: "0,p1,0,-100018326\n",
         events: "iteration,0\n\
             100,actend,p1,,L1,home\n\
             100,departure,p1,,L1,car\n\
@@ -243,7 +254,8 @@ const MEETING: Case = Case {
 static MEETINGS: [Day; 2] = [
     Day {
         case: MEETING,
-        report: "iteration,0,20,0,0\ndone,0\n",
+        report: "iteration,0,20,0,-9996\ndone,0\n",
+        scores: "0,p1,0,-3332\n0,p2,0,-6664\n",
         events: "iteration,0\n\
             100,actend,p1,,L1,home\n\
             100,departure,p1,,L1,car\n\
@@ -271,7 +283,8 @@ static MEETINGS: [Day; 2] = [
             settings: "{\"end_second\":200,\"seed\":1}",
             ..MEETING
         },
-        report: "iteration,0,20,0,0\ndone,0\n",
+        report: "iteration,0,20,0,-9996\ndone,0\n",
+        scores: "0,p1,0,-6664\n0,p2,0,-3332\n",
         events: "iteration,0\n\
             100,actend,p1,,L1,home\n\
             100,departure,p1,,L1,car\n\
@@ -311,7 +324,8 @@ const NARROW: Case = Case {
 static NARROWS: [Day; 3] = [
     Day {
         case: NARROW,
-        report: "iteration,0,30,1,0\ndone,0\n",
+        report: "iteration,0,30,1,-106062574\ndone,0\n",
+        scores: "0,p1,0,-21658\n0,p2,0,-6019258\n0,p3,0,-100021658\n",
         events: "iteration,0\n\
             100,actend,p1,,L1,home\n\
             100,departure,p1,,L1,car\n\
@@ -349,7 +363,8 @@ static NARROWS: [Day; 3] = [
             settings: "{\"stuck_seconds\":5,\"end_second\":110}",
             ..NARROW
         },
-        report: "iteration,0,22,3,0\ndone,0\n",
+        report: "iteration,0,22,3,-300046648\ndone,0\n",
+        scores: "0,p1,0,-100016660\n0,p2,0,-100016660\n0,p3,0,-100013328\n",
         events: "iteration,0\n\
             100,actend,p1,,L1,home\n\
             100,departure,p1,,L1,car\n\
@@ -379,7 +394,8 @@ static NARROWS: [Day; 3] = [
             settings: "{\"end_second\":8000,\"stuck_push\":1}",
             ..NARROW
         },
-        report: "iteration,0,36,0,0\ndone,0\n",
+        report: "iteration,0,36,0,-18057774\ndone,0\n",
+        scores: "0,p1,0,-21658\n0,p2,0,-6019258\n0,p3,0,-12016858\n",
         events: "iteration,0\n\
             100,actend,p1,,L1,home\n\
             100,departure,p1,,L1,car\n\
@@ -425,7 +441,8 @@ static BUSES: [Day; 3] = [
     // The second person is left waiting.
     Day {
         case: BUS,
-        report: "iteration,0,22,1,0\ndone,0\n",
+        report: "iteration,0,22,1,-279997972\ndone,0\n",
+        scores: "0,p1,0,-236572\n0,p2,0,-279761400\n",
         events: "iteration,0\n\
             100,actend,p1,,L1,home\n\
             100,departure,p1,,L1,pt\n\
@@ -457,7 +474,8 @@ static BUSES: [Day; 3] = [
             departures: "departure,route,second,seats\nd1,r1,200,1\nd2,r1,300,1\n",
             ..BUS
         },
-        report: "iteration,0,36,0,0\ndone,0\n",
+        report: "iteration,0,36,0,-639744\ndone,0\n",
+        scores: "0,p1,0,-236572\n0,p2,0,-403172\n",
         events: "iteration,0\n\
             100,actend,p1,,L1,home\n\
             100,departure,p1,,L1,pt\n\
@@ -506,7 +524,8 @@ static BUSES: [Day; 3] = [
             routes: "line,route,links,stops\nb,r1,L1 L2 L3,s1:20 s3:60\n",
             ..BUS
         },
-        report: "iteration,0,22,1,0\ndone,0\n",
+        report: "iteration,0,22,1,-100541450\ndone,0\n",
+        scores: "0,p1,0,-100316540\n0,p2,0,-224910\n",
         events: "iteration,0\n\
             100,actend,p2,,L1,home\n\
             100,departure,p2,,L1,pt\n\
@@ -546,7 +565,8 @@ static UNDER_WAY: [Day; 1] = [Day {
         departures: "departure,route,second,seats\nd1,r1,110,1\n",
         ..LINE
     },
-    report: "iteration,0,21,3,0\ndone,0\n",
+    report: "iteration,0,21,3,-300074970\ndone,0\n",
+    scores: "0,p1,0,-100008330\n0,p2,0,-100033320\n0,p3,0,0\n0,p4,0,-100033320\n",
     events: "iteration,0\n\
         100,actend,p2,,L1,home\n\
         100,departure,p2,,L1,walk\n\
@@ -574,14 +594,15 @@ static UNDER_WAY: [Day; 1] = [Day {
 /// The report of the first of these days that does not go as told; or nothing.
 fn first_wrong<R: Threads + Wait + Sync>(rt: &R, alloc: Global, days: &[Day]) -> &'static str {
     for day in days {
-        if !is_answered(
+        let plans = plans_of(alloc, day.case.plans);
+        if !is_run_to(
             rt,
             alloc,
-            "run",
             &day.case,
-            Status::Done,
             day.report,
+            day.scores,
             day.events,
+            plans.as_str(),
         ) {
             return day.report;
         }

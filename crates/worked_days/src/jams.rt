@@ -177,7 +177,11 @@ fn entered_by(alloc: Global, town: &Town, plans: PlanLists, count: u32) -> Vec<(
 fn entered_on(alloc: Global, scenario: Scenario, count: u32) -> Vec<(u32, Option<u32>)>
     requires { count < 100 }
 {
-    let Scenario { town, plans } = scenario;
+    let Scenario {
+        town,
+        plans,
+        tables: _,
+    } = scenario;
     let entered = entered_by(alloc, &town, plans, count);
     let_go(town);
     entered

@@ -1,4 +1,4 @@
-//! Worked days: files in, and the events and the report that they give, worked by hand. Above the top call, the slow day and
+//! Worked days: files in, and the events, scores, plans and report that they give, worked by hand. Above the top call, the slow day and
 //! the reading of a scenario; tests alone.
 #![tactic(auto)]
 
@@ -14,6 +14,8 @@ mod jams;
 mod outside;
 #[cfg(test)]
 mod refusals;
+#[cfg(test)]
+mod scores;
 #[cfg(test)]
 mod seconds;
 #[cfg(test)]

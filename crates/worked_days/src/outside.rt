@@ -66,7 +66,7 @@ fn words_are_answered(rt: HostRuntime) {
     assert_eq!(rt; count_told(&rt, rt.alloc()), 8);
 }
 
-/// A short day of one car, its events and its report.
+/// A short day of one car, and what is written of it, file by file.
 static SHORT: Case = Case {
     settings: "{\"end_second\":120}",
     ..DRIVE
@@ -84,19 +84,48 @@ const SHORT_EVENTS: &str = "iteration,0\n\
     111,arrival,p1,,L2,car\n\
     111,actstart,p1,,L2,work\n";
 
-const SHORT_REPORT: &str = "iteration,0,10,0,0\ndone,0\n";
+const SHORT_SCORES: &str = "0,p1,0,-18326\n";
+
+const SHORT_REPORT: &str = "iteration,0,10,0,-18326\ndone,0\n";
+
+/// The length of the report's first line, behind which the plans are written.
+const FIRST_LINE: usize = 24;
+
+const SHORT_PLANS: &str = "person,plan,kind,name,link,time,route\n\
+    p1,0,act,home,L1,100,\np1,0,leg,car,,,L1 L2\np1,0,act,work,L2,,\n";
 
 /// A front of a text, of so many bytes where it has them.
 fn front(text: &'static str, count: usize) -> &'static str {
     text.get(..count).unwrap_or(text)
 }
 
-/// Whether these outputs hold all that there is room for of the short day, and nothing where a read failed.
+/// How many of so many bytes are written where there is room for this many, with those before them.
+fn within(room: usize, before: usize, count: usize) -> usize {
+    room.saturating_sub(before).min(count)
+}
+
+/// Whether these outputs hold all that there is room for of the short day, and nothing where a read failed: its events, its scores,
+/// the line of its report, its plans, and the last line of the report.
 fn is_front_written(outputs: &MemoryOutputs, status: Status, room: usize) -> bool {
     let room = if status == Status::ReadFault { 0 } else { room };
-    let rest = room.saturating_sub(SHORT_EVENTS.len());
+    let scores = SHORT_EVENTS.len();
+    let line = scores + SHORT_SCORES.len();
+    let plans = line + FIRST_LINE;
+    let done = plans + SHORT_PLANS.len();
+    let last_line = SHORT_REPORT.len().saturating_sub(FIRST_LINE);
+    let report = within(room, line, FIRST_LINE) + within(room, done, last_line);
     is_written(outputs, OutFile::Events, front(SHORT_EVENTS, room))
-        && is_written(outputs, OutFile::Report, front(SHORT_REPORT, rest))
+        && is_written(
+            outputs,
+            OutFile::Scores,
+            front(SHORT_SCORES, within(room, scores, SHORT_SCORES.len())),
+        )
+        && is_written(outputs, OutFile::Report, front(SHORT_REPORT, report))
+        && is_written(
+            outputs,
+            OutFile::Plans,
+            front(SHORT_PLANS, within(room, plans, SHORT_PLANS.len())),
+        )
 }
 
 /// The short day, where this call of reading fails.
@@ -172,7 +201,7 @@ fn first_torn<R: Threads + Wait + Sync>(rt: &R, alloc: Global, whole: usize) -> 
 /// There is room for each number of bytes, and each file is a front of its text.
 #[test]
 fn a_failing_write_leaves_fronts(rt: HostRuntime) {
-    let whole = SHORT_EVENTS.len() + SHORT_REPORT.len();
+    let whole = SHORT_EVENTS.len() + SHORT_SCORES.len() + SHORT_PLANS.len() + SHORT_REPORT.len();
     assert_eq!(rt; first_torn(&rt, rt.alloc(), whole), whole);
     assert!(rt; ends_so(&rt, rt.alloc(), 0, whole, Status::Done));
 }
@@ -206,8 +235,19 @@ fn are_done(run: &MemoryOutputs, check: &MemoryOutputs) -> bool {
     report.starts_with(b"iteration,0,")
         && report.ends_with(b"done,0\n")
         && run.written(OutFile::Events).starts_with(b"iteration,0\n")
+        && run.written(OutFile::Scores).starts_with(b"0,p1,0,")
+        && run
+            .written(OutFile::Plans)
+            .starts_with(b"person,plan,kind,")
         && check.written(OutFile::Report).starts_with(b"valid,")
-        && is_written(check, OutFile::Events, "")
+        && is_reported_alone(check)
+}
+
+/// Whether no file but the report is written to.
+fn is_reported_alone(outputs: &MemoryOutputs) -> bool {
+    is_written(outputs, OutFile::Events, "")
+        && is_written(outputs, OutFile::Scores, "")
+        && is_written(outputs, OutFile::Plans, "")
 }
 
 /// Whether both reports are the same refusal, and nothing else is written.
@@ -215,8 +255,8 @@ fn are_refused(run: &MemoryOutputs, check: &MemoryOutputs) -> bool {
     let report = run.written(OutFile::Report);
     report.starts_with(b"refused,")
         && report == check.written(OutFile::Report)
-        && is_written(run, OutFile::Events, "")
-        && is_written(check, OutFile::Events, "")
+        && is_reported_alone(run)
+        && is_reported_alone(check)
 }
 
 /// Whether both commands take a file with this text, or both refuse it alike.

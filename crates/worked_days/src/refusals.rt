@@ -377,15 +377,17 @@ static NO_OBJECTS: [&str; 14] = [
 ];
 
 /// Objects with a key that is not there.
-static NO_KEYS: [&str; 4] = [
+static NO_KEYS: [&str; 6] = [
     "{\"sead\":1}",
     "{\"Seed\":1}",
     "{\"\":1}",
     "{\"sead\":1,\"seed\":-1}",
+    "{\"modes\":{\"walk\":{\"cost\":1}}}",
+    "{\"tables\":[{\"kind\":\"home\",\"points\":[[0,0]],\"earliest\":0}]}",
 ];
 
 /// Objects with a value that is not of its form or out of its range.
-static NO_VALUES: [&str; 18] = [
+static NO_VALUES: [&str; 22] = [
     "{\"seed\":1.5}",
     "{\"seed\":1.0}",
     "{\"seed\":1e3}",
@@ -403,11 +405,23 @@ static NO_VALUES: [&str; 18] = [
     "{\"stuck_push\":2}",
     "{\"stuck_push\":true}",
     "{\"hole_speed\":0}",
+    "{\"late_per_second\":1}",
+    "{\"stuck\":-1000000000001}",
+    "{\"modes\":{\"car\":{\"per_second\":1000001}}}",
+    "{\"tables\":[{\"kind\":\"home\"}]}",
     // A hundred brackets in an object.
     "{\"seed\":[[[[[[[[[[[[[[[[[[[[[[[[[[[[[[[[[[[[[[[[[[[[[[[[[[\
      [[[[[[[[[[[[[[[[[[[[[[[[[[[[[[[[[[[[[[[[[[[[[[[[[[\
      ]]]]]]]]]]]]]]]]]]]]]]]]]]]]]]]]]]]]]]]]]]]]]]]]]]\
      ]]]]]]]]]]]]]]]]]]]]]]]]]]]]]]]]]]]]]]]]]]]]]]]]]]}",
+];
+
+/// Tables of which the points do not rise, are none or too many, or that are two for one kind.
+static NO_TABLES: [&str; 4] = [
+    "{\"tables\":[{\"kind\":\"home\",\"points\":[]}]}",
+    "{\"tables\":[{\"kind\":\"home\",\"points\":[[5,0],[5,1]]}]}",
+    "{\"tables\":[{\"kind\":\"home\",\"points\":[[5,0],[4,1]]}]}",
+    "{\"tables\":[{\"kind\":\"home\",\"points\":[[0,0]]},{\"kind\":\"home\",\"points\":[[0,0]]}]}",
 ];
 
 static ONE_WALK: Case = WALK;
@@ -445,6 +459,8 @@ const NOT_JSON: &str = "refused,settings.json,0,14,NotJson\n";
 
 const KEY_UNKNOWN: &str = "refused,settings.json,0,15,KeyUnknown\n";
 
+const TABLE_WRONG: &str = "refused,settings.json,0,20,TableWrong\n";
+
 const VALUE_BAD: &str = "refused,settings.json,0,16,ValueBad\n";
 
 #[test]
@@ -453,6 +469,7 @@ fn settings_are_refused(rt: HostRuntime) {
     assert_eq!(rt; first_other(&rt, alloc, &NO_OBJECTS, NOT_JSON), None);
     assert_eq!(rt; first_other(&rt, alloc, &NO_KEYS, KEY_UNKNOWN), None);
     assert_eq!(rt; first_other(&rt, alloc, &NO_VALUES, VALUE_BAD), None);
+    assert_eq!(rt; first_other(&rt, alloc, &NO_TABLES, TABLE_WRONG), None);
 }
 
 /// Whether `check` tells these counts of a scenario.

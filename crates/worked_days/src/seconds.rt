@@ -71,7 +71,11 @@ fn words_on(alloc: Global, case: &Case) -> Vec<(u32, Word)> {
     let Some(scenario) = scenario_of(alloc, case) else {
         return Vec::new(alloc);
     };
-    let Scenario { town, plans } = scenario;
+    let Scenario {
+        town,
+        plans,
+        tables: _,
+    } = scenario;
     let words = words_by(alloc, &town, plans);
     drop(town);
     words

@@ -100,7 +100,11 @@ static SHORT: Case = Case {
 fn driven_behind(alloc: Global, scenario: Scenario, offset: u32) -> Vec<(u32, Word)>
     requires { offset < 60 }
 {
-    let Scenario { mut town, plans } = scenario;
+    let Scenario {
+        mut town,
+        plans,
+        tables: _,
+    } = scenario;
     set_signals(&mut town, greens_of(alloc, offset));
     let driven = driven_by(alloc, &town, plans);
     let_go(town);

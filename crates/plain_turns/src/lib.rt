@@ -8,10 +8,9 @@ mod nodes;
 mod out_links;
 mod picks;
 mod stops;
-mod telling;
 
 pub use links::link_moves;
 pub use lists::LinkVehicles;
 pub use nodes::node_moves;
 pub use out_links::OutLinkRow;
-pub use telling::{of_person, push_told};
+pub use vehicles::{of_person, push_told};

@@ -11,10 +11,11 @@ ghost use Rattle.rows.specs.Settings.{IsDwelling};
 ghost use Rattle.plain_turns.specs.Limits.{AreSmall};
 
 use crate::lists::LinkVehicles;
-use crate::stops::{calls_on, serve};
+use crate::stops::serve;
 use fixed_flow::{VEHICLE_COST, raised_credit};
 use std::alloc::{AllocError, Global};
-use traffic::{Move, Row, Rules, Stage, Vehicle, Waiter};
+use traffic::{Move, Row, Rules, Stage, Waiter};
+use vehicles::{calls_on, is_last};
 
 /// A row at the end of the wait list of link `l`.
 fn waiting(l: u32, row: &Row) -> Result<Row, AllocError>
@@ -56,12 +57,6 @@ fn push_leave_bay(
         }
     }
     Ok(())
-}
-
-fn is_last(vehicle: &Vehicle) -> bool
-    ensures { result ≡ is_last vehicle.now }
-{
-    vehicle.place as usize + 1 == vehicle.route.len()
 }
 
 /// The row at the end of a buffer of `b` rows.

@@ -17,42 +17,7 @@ use draws::Draws;
 use rows::Stuck;
 use std::alloc::{AllocError, Global};
 use traffic::{InLink, Move, OutLink, Row, Stage, Vehicle};
-
-/// The link after the one where the vehicle is.
-fn next_link(vehicle: &Vehicle) -> u32
-    ensures { result ≡ next_link vehicle.now }
-{
-    let place = vehicle.place as usize + 1;
-    if place < vehicle.route.len() {
-        return vehicle.route.rows[place];
-    }
-    0
-}
-
-/// Whether a front since this second is stuck.
-fn is_stuck(stuck: &Stuck, second: u32, since: u32) -> bool
-    ensures { result ≡ is_stuck stuck.now second since }
-{
-    stuck.seconds <= second.saturating_sub(since)
-}
-
-/// Whether a link has fewer taken places than its storage.
-fn has_free_place(out_link: OutLink) -> bool
-    ensures { result ≡ has_room (Some out_link) }
-{
-    out_link.taken < u64::from(out_link.storage)
-}
-
-/// Whether a front since this second may enter a link.
-fn may_enter(stuck: &Stuck, second: u32, since: u32, out_link: Option<OutLink>) -> bool
-    ensures { result ≡ may_enter stuck.now second since out_link }
-{
-    match out_link {
-        None => false,
-        Some(out_link) => has_free_place(out_link)
-            || (stuck.push && is_stuck(stuck, second, since)),
-    }
-}
+use vehicles::{has_free_place, is_stuck, may_enter, next_link};
 
 /// Whether the out-link has fewer taken places than its storage, and the seconds along it.
 fn place_of(out_link: Option<OutLink>) -> (bool, u32)

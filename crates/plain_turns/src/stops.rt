@@ -2,58 +2,16 @@
 
 ghost use Rattle.std.specs.Prelude.{◌≡◌, ◌<◌, ◌≤◌, ◌+◌, ◌*◌, ◌++◌, true, length, map, filter, not, OnOk, IfOk};
 ghost use Rattle.std.specs.List.{list_any};
-ghost use Rattle.limits.specs.declared.TheConstants.{LAST_SECOND, MAX_DWELL, MAX_PERSONS};
-ghost use Rattle.traffic.specs.Stops.{call_at, next_call, calls_on, alights, alighting, staying, may_board, in_turn, boarding, is_person};
+ghost use Rattle.limits.specs.declared.TheConstants.{LAST_SECOND};
+ghost use Rattle.traffic.specs.Stops.{next_call, alights, alighting, staying, may_board, in_turn, boarding, is_person};
 ghost use Rattle.traffic.specs.Stops.{left_behind, rider, stand, not_before, served_row};
 ghost use Rattle.rows.specs.Settings.{IsDwelling};
 ghost use Rattle.plain_turns.specs.Limits.{IsSmall};
 
-use events::StopCall;
-use rows::{Dwelling, calls_at};
+use rows::Dwelling;
 use std::alloc::{AllocError, Global};
 use traffic::{Rider, Riders, Row, Stage, Vehicle, Waiter};
-
-const NO_CALL: StopCall = StopCall {
-    stop: 0,
-    link: 0,
-    offset: 0,
-    wait: false,
-};
-
-/// The call of this number.
-pub fn call_at(vehicle: &Vehicle, number: u32) -> StopCall
-    ensures { result ≡ call_at vehicle.now.calls number }
-{
-    let number = number as usize;
-    if number < vehicle.calls.len() {
-        return vehicle.calls.rows[number];
-    }
-    NO_CALL
-}
-
-/// The next unserved call.
-pub fn next_call(vehicle: &Vehicle) -> StopCall
-    ensures { result ≡ next_call vehicle.now }
-{
-    call_at(vehicle, vehicle.served)
-}
-
-/// Whether the next unserved call lies on this link.
-pub fn calls_on(link: u32, vehicle: &Vehicle) -> bool
-    ensures { result ≡ calls_on link vehicle.now }
-{
-    let served = vehicle.served as usize;
-    served < vehicle.calls.len() && next_call(vehicle).link == link
-}
-
-pub fn alights(stop: u32, rider: &Rider) -> bool
-    ensures { result ≡ alights stop rider.now }
-{
-    match rider.egress {
-        None => false,
-        Some(egress) => egress == stop,
-    }
-}
+use vehicles::{alights, may_board, next_call, not_before, stand, staying};
 
 /// How many alight.
 fn count_alighting(stop: u32, riders: &[Rider]) -> usize
@@ -61,32 +19,6 @@ fn count_alighting(stop: u32, riders: &[Rider]) -> usize
     ensures few { result ≤ length riders.now }
 {
     riders.iter().filter(|rider| alights(stop, rider)).count()
-}
-
-/// Those who stay in the vehicle.
-pub fn staying(alloc: Global, stop: u32, riders: &[Rider]) -> Result<Vec<Rider>, AllocError>
-    ensures { IfOk result (λ stay. stay.items ≡ staying stop riders.now) }
-{
-    let mut stay = Vec::new(alloc);
-    let mut rest = riders;
-    while let [rider, later @ ..] = rest {
-        if !alights(stop, rider) {
-            stay.push(*rider)?;
-        }
-        rest = later;
-    }
-    Ok(stay)
-}
-
-/// Whether who waits may board the vehicle at its next call.
-fn may_board(vehicle: &Vehicle, waiter: &Waiter) -> bool
-    requires { vehicle.now.served < length vehicle.now.calls }
-    ensures { result ≡ may_board vehicle.now waiter.now }
-{
-    let served = vehicle.served as usize;
-    waiter.stop == next_call(vehicle).stop
-        && waiter.line == vehicle.line
-        && calls_at(waiter.egress, &vehicle.calls.rows[served + 1..])
 }
 
 /// Those who wait, in the order in which they come. The sort keeps the order of equal keys, and the definition turns it
@@ -187,29 +119,6 @@ fn riders_with(
     let mut riders = staying(alloc, next_call(vehicle).stop, &vehicle.riders.rows)?;
     push_riders(boards, &mut riders)?;
     Ok(riders)
-}
-
-/// The seconds that a vehicle stands.
-fn stand(dwell: &Dwelling, alighted: u32, boarded: u32) -> u32
-    requires dwell_in { IsDwelling dwell.now }
-    requires few_alighted { alighted ≤ MAX_PERSONS }
-    requires few_boarded { boarded ≤ MAX_PERSONS }
-    ensures value { result ≡ stand dwell.now alighted boarded }
-    ensures small { result ≤ MAX_DWELL * (1 + 2 * MAX_PERSONS) }
-{
-    (dwell.per_stop + dwell.per_alight * alighted + dwell.per_board * boarded).max(1)
-}
-
-/// The second in which a vehicle with this call may go on.
-fn not_before(call: StopCall, departed: u32, second: u32) -> u32
-    requires departed_in { departed ≤ LAST_SECOND }
-    requires offset_in { call.offset ≤ LAST_SECOND }
-    ensures { result ≡ not_before call departed second }
-{
-    if call.wait {
-        return second.max(departed + call.offset);
-    }
-    second
 }
 
 /// The second in which the vehicle, served in this second, may go on, where so many board.

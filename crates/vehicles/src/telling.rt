@@ -26,7 +26,8 @@ pub fn of_person(word: Word, person: u32, link: u32, more: More) -> Occurrence
     }
 }
 
-fn of_rider(word: Word, person: u32, vehicle: VehicleId) -> Occurrence
+/// An event of a person and a vehicle.
+pub fn of_rider(word: Word, person: u32, vehicle: VehicleId) -> Occurrence
     ensures { result ≡ of_rider word person vehicle }
 {
     Occurrence {
@@ -38,7 +39,8 @@ fn of_rider(word: Word, person: u32, vehicle: VehicleId) -> Occurrence
     }
 }
 
-fn of_vehicle(word: Word, vehicle: VehicleId, link: u32, more: More) -> Occurrence
+/// An event of a vehicle on a link.
+pub fn of_vehicle(word: Word, vehicle: VehicleId, link: u32, more: More) -> Occurrence
     ensures { result ≡ of_vehicle word vehicle link more }
 {
     Occurrence {
@@ -70,7 +72,8 @@ fn mode_in(vehicle: VehicleId) -> Mode
     }
 }
 
-fn of_driver(word: Word, vehicle: VehicleId, link: u32) -> Occurrence
+/// An event of a vehicle and its driver on a link.
+pub fn of_driver(word: Word, vehicle: VehicleId, link: u32) -> Occurrence
     ensures { result ≡ of_driver word vehicle link }
 {
     Occurrence {
@@ -102,7 +105,8 @@ fn push_leaves(
     Ok(())
 }
 
-fn push_all_leave(
+/// Riders leave the vehicle, in order, and their next activities begin.
+pub fn push_all_leave(
     vehicle: VehicleId,
     link: u32,
     riders: &[Rider],
@@ -116,7 +120,8 @@ fn push_all_leave(
     Ok(())
 }
 
-fn push_all_enter(
+/// Persons enter the vehicle, in order.
+pub fn push_all_enter(
     vehicle: VehicleId,
     riders: &[Rider],
     out: &mut Vec<Occurrence>,
@@ -129,7 +134,8 @@ fn push_all_enter(
     Ok(())
 }
 
-fn push_all_strand(
+/// The riders of a vehicle that is removed, in order.
+pub fn push_all_strand(
     vehicle: VehicleId,
     link: u32,
     riders: &[Rider],
@@ -149,7 +155,7 @@ fn push_all_strand(
 }
 
 /// A vehicle that leaves the wait list for the first time enters traffic.
-fn push_starts(row: &Row, out: &mut Vec<Occurrence>) -> Result<(), AllocError>
+pub fn push_starts(row: &Row, out: &mut Vec<Occurrence>) -> Result<(), AllocError>
     ensures { OnOk result (out.new.items ≡ out.old.items ++ starts row.now) }
 {
     if row.vehicle.started {
@@ -160,7 +166,7 @@ fn push_starts(row: &Row, out: &mut Vec<Occurrence>) -> Result<(), AllocError>
 }
 
 /// A vehicle at the end of its route leaves traffic, and its riders leave it.
-fn push_arrives(row: &Row, out: &mut Vec<Occurrence>) -> Result<(), AllocError>
+pub fn push_arrives(row: &Row, out: &mut Vec<Occurrence>) -> Result<(), AllocError>
     ensures { OnOk result (out.new.items ≡ out.old.items ++ arrives row.now) }
 {
     out.push(of_driver(Word::VehicleLeavesTraffic, row.vehicle.id, row.link))?;
@@ -168,7 +174,7 @@ fn push_arrives(row: &Row, out: &mut Vec<Occurrence>) -> Result<(), AllocError>
 }
 
 /// A vehicle is removed with its riders.
-fn push_aborts(row: &Row, out: &mut Vec<Occurrence>) -> Result<(), AllocError>
+pub fn push_aborts(row: &Row, out: &mut Vec<Occurrence>) -> Result<(), AllocError>
     ensures { OnOk result (out.new.items ≡ out.old.items ++ aborts row.now) }
 {
     out.push(of_vehicle(Word::VehicleAborts, row.vehicle.id, row.link, More::Nothing))?;
@@ -176,7 +182,7 @@ fn push_aborts(row: &Row, out: &mut Vec<Occurrence>) -> Result<(), AllocError>
 }
 
 /// Those who alight.
-fn alighting(alloc: Global, stop: u32, riders: &[Rider]) -> Result<Vec<Rider>, AllocError>
+pub fn alighting(alloc: Global, stop: u32, riders: &[Rider]) -> Result<Vec<Rider>, AllocError>
     ensures { IfOk result (λ leave. leave.items ≡ alighting stop riders.now) }
 {
     let mut leave = Vec::new(alloc);
@@ -235,7 +241,7 @@ fn push_serves(
 }
 
 /// A vehicle goes on from the call that it served last.
-fn push_goes_on(row: &Row, out: &mut Vec<Occurrence>) -> Result<(), AllocError>
+pub fn push_goes_on(row: &Row, out: &mut Vec<Occurrence>) -> Result<(), AllocError>
     ensures { OnOk result (out.new.items ≡ out.old.items ++ goes_on row.now) }
 {
     let call = call_at(&row.vehicle, row.vehicle.served.saturating_sub(1));
@@ -248,7 +254,8 @@ fn push_goes_on(row: &Row, out: &mut Vec<Occurrence>) -> Result<(), AllocError>
     Ok(())
 }
 
-fn push_changes_links(was: &Row, now: &Row, out: &mut Vec<Occurrence>) -> Result<(), AllocError>
+/// A vehicle leaves its link and enters the next one.
+pub fn push_changes_links(was: &Row, now: &Row, out: &mut Vec<Occurrence>) -> Result<(), AllocError>
     ensures { OnOk result (out.new.items ≡ out.old.items ++ changes_links was.now now.now) }
 {
     out.push(of_vehicle(Word::LeftLink, was.vehicle.id, was.link, More::Nothing))?;

@@ -1,5 +1,6 @@
-use Rattle.traffic.proofs.Common.{◌≡◌, length, ◌++◌, staying}
-use Rattle.plain_turns.proofs.stops.staying.Given as goal
+use Rattle.std.proofs.Common.{◌≡◌, ◌++◌, length}
+use Rattle.traffic.specs.Stops.{staying}
+use Rattle.vehicles.proofs.stops.staying.Given as goal
 
 abbrev pub invariant-loop-rest : goal.invariant-loop-rest
 invariant-loop-rest l = l.stay.items ++ staying l.stop l.rest ≡ staying l.stop l.riders

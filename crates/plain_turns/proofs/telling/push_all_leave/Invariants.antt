@@ -1,5 +1,0 @@
-use Rattle.traffic.proofs.Common.{◌≡◌, ◌++◌, drop, flat_map, leaves}
-use Rattle.plain_turns.proofs.telling.push_all_leave.Given as goal
-
-abbrev pub invariant-loop-rider : goal.invariant-loop-rider
-invariant-loop-rider l = l.out.items ++ flat_map (leaves l.vehicle l.link) (drop l.rider-index l.riders) ≡ l.initial.out.items ++ flat_map (leaves l.vehicle l.link) l.riders

@@ -1,0 +1,8 @@
+use Rattle.std.proofs.Common.{◌≡◌, ◌++◌, drop}
+use Rattle.std.specs.List.{flat_map}
+use Rattle.traffic.specs.Telling.{leaves}
+use Rattle.vehicles.proofs.telling.push_all_leave.Given as goal
+
+abbrev pub invariant-loop-rider : goal.invariant-loop-rider
+invariant-loop-rider l = l.out.items ++ flat_map (leaves l.vehicle l.link) (drop l.rider-index l.riders)
+    ≡ l.initial.out.items ++ flat_map (leaves l.vehicle l.link) l.riders

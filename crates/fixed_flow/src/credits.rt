@@ -69,6 +69,13 @@ impl Credit {
         self.units = gained.min(u64::from(per_second.max(VEHICLE_COST))) as u32;
     }
 
+    /// The credit, in units.
+    pub fn units(&self) -> u32
+        ensures { result ≡ self.now }
+    {
+        self.units
+    }
+
     /// Whether the credit pays for a vehicle.
     pub fn can_pass(&self) -> bool
         ensures { IsTrue result ↔ (VEHICLE_COST ≤ self.now) }

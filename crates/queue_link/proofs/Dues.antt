@@ -1,0 +1,78 @@
+-- When a front that is held up may go, and the vehicles of a link by their places.
+use Rattle.std.proofs.Common.{◌≡◌, ◌≢◌, ℕ, zero, suc, ◌+◌, ◌-◌, ◌*◌, ◌<◌, ◌≤◌, List, [], ◌∷◌, ◌++◌, length, get_or, refl, ap, ◌∙◌}
+use Rattle.std.proofs.Common.{arith, inl, inr}
+use Rattle.std.proofs.Math.Nat.{mul_comm, mul-le-mul_left}
+use Rattle.std.specs.Prelude.{nat_le, ◌==◌, if◌then◌else◌, Option, None, Some}
+use Rattle.std.specs.Int.{div_ceil}
+use Rattle.std.proofs.lemmas.Bool.{cases_lt, lt-leb, ne_eqb}
+use Rattle.std.proofs.lemmas.Grind.{div_ceil_times}
+use Rattle.fixed_flow.specs.declared.TheConstants.{VEHICLE_COST}
+use Rattle.fixed_flow.specs.Link.{ceiling}
+use Rattle.traffic.specs.declared.world.Row.{Row}
+use Rattle.law_sleeping.proofs.Credits.{up_to, from_up}
+use Rattle.queue_link.specs.Links.{vehicle_at}
+use Rattle.queue_link.specs.Waking.{earlier}
+
+pub earlier_assoc : (a b c : Option ℕ) → earlier (earlier a b) c ≡ earlier a (earlier b c)
+earlier_assoc None b c = refl
+earlier_assoc (Some a) None c = refl
+earlier_assoc (Some a) (Some b) None = refl
+earlier_assoc (Some a) (Some b) (Some c) = ap (λ (n : ℕ). Some n) (grind arith)
+
+-- a quotient that is rounded up, by its bounds
+not_less : (a g q : ℕ) → 0 < g → q * g < a + g → q ≤ ceiling a g
+not_less a g q pos h =
+    elim (cases_lt (ceiling a g) q) [
+      | inl lt ↦
+          let c = ceiling a g in
+          let u : a ≤ g * c = up_to a g c pos (omega arith) in
+          let m : g * (c + 1) ≤ g * q = mul-le-mul_left g (omega arith) in
+          let e : g * (c + 1) ≡ g * c + g = omega arith in
+          let f : q * g ≡ g * q = mul_comm q g in
+          absurd (omega arith)
+      | inr le ↦ le
+    ]
+
+is_ceiling : (a g : ℕ) → 0 < g → div_ceil a g ≡ ceiling a g
+is_ceiling a g pos =
+    let t = div_ceil_times a g pos in
+    let f : div_ceil a g * g ≡ g * div_ceil a g = mul_comm (div_ceil a g) g in
+    let low : ceiling a g ≤ div_ceil a g = from_up a g (div_ceil a g) pos (let z = t.0 in omega arith) in
+    let high : div_ceil a g ≤ ceiling a g = not_less a g (div_ceil a g) pos t.1 in
+    omega arith
+
+pub held_is : (room b gain t credit d : ℕ) → b < room → gain ≢ 0 → d ≡ div_ceil (VEHICLE_COST - credit) gain
+    → Some (t + d) ≡ (if nat_le room b then None else if gain == 0 then None else Some (t + ceiling (VEHICLE_COST - credit) gain))
+held_is room b gain t credit d lt ne e =
+    let p = lt-leb room b lt in
+    let q = ne_eqb gain 0 ne in
+    let g : d ≡ ceiling (VEHICLE_COST - credit) gain = e ∙ is_ceiling (VEHICLE_COST - credit) gain (omega arith) in
+    rw (p, q, g) refl
+
+-- VEHICLES BY THEIR PLACES
+pub vehicle_found : (place : ℕ) (rows : List Row) (r : Row) → place < length rows → r ≡ get_or rows place r → Some r.vehicle
+    ≡ vehicle_at place rows
+vehicle_found place [] r lt e = absurd (omega arith)
+vehicle_found zero (x ∷ rows) r lt e = ap (λ (y : Row). Some y.vehicle) e
+vehicle_found (suc place) (x ∷ rows) r lt e = vehicle_found place rows r (omega arith) e
+
+pub vehicle_read : (place : ℕ) (rows : List Row) (d : Row) → place < length rows → Some (get_or rows place d).vehicle
+    ≡ vehicle_at place rows
+vehicle_read place [] d lt = absurd (omega arith)
+vehicle_read zero (x ∷ rows) d lt = refl
+vehicle_read (suc place) (x ∷ rows) d lt = vehicle_read place rows d (omega arith)
+
+pub vehicle_none : (place : ℕ) (rows : List Row) → length rows ≤ place → None ≡ vehicle_at place rows
+vehicle_none place [] le = refl
+vehicle_none zero (x ∷ rows) le = absurd (omega arith)
+vehicle_none (suc place) (x ∷ rows) le = vehicle_none place rows (omega arith)
+
+pub vehicle_left : (place : ℕ) (xs ys : List Row) → place < length xs → vehicle_at place (xs ++ ys) ≡ vehicle_at place xs
+vehicle_left place [] ys lt = absurd (omega arith)
+vehicle_left zero (x ∷ xs) ys lt = refl
+vehicle_left (suc place) (x ∷ xs) ys lt = vehicle_left place xs ys (omega arith)
+
+pub vehicle_right : (place k : ℕ) (xs ys : List Row) → place ≡ length xs + k → vehicle_at place (xs ++ ys) ≡ vehicle_at k ys
+vehicle_right place k [] ys e = let q : place ≡ k = omega arith in ap (λ (n : ℕ). vehicle_at n ys) q
+vehicle_right zero k (x ∷ xs) ys e = absurd (omega arith)
+vehicle_right (suc place) k (x ∷ xs) ys e = vehicle_right place k xs ys (omega arith)

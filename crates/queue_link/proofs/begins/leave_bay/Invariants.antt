@@ -1,0 +1,14 @@
+use Rattle.std.proofs.Common.{◌≡◌, ◌++◌}
+use Rattle.std.specs.Prelude.{map, filter}
+use Rattle.std.specs.List.{flat_map}
+use Rattle.traffic.specs.Telling.{goes_on}
+use Rattle.traffic.specs.Links.{waiting}
+use Rattle.queue_link.specs.Turns.{is_due, left_in_bay}
+use Rattle.queue_link.proofs.begins.leave_bay.Given as goal
+
+abbrev pub invariant-loop-row : goal.invariant-loop-row
+invariant-loop-row l = record {
+  left : l.left.items ≡ left_in_bay l.second l.yielded;
+  wait : l.wait.items ≡ l.initial.wait.items ++ map (waiting l.link) (filter (is_due l.second) l.yielded);
+  told : l.said.items ≡ l.initial.said.items ++ flat_map goes_on (filter (is_due l.second) l.yielded);
+}

@@ -1,0 +1,6 @@
+pub mod Numbers
+pub mod Links
+pub mod Views
+pub mod Turns
+pub mod Waking
+pub use Rattle.law_sleeping.specs.Quiet

@@ -1,0 +1,24 @@
+-- When a link has to be woken.
+use Rattle.std.specs.Prelude.{ℕ, List, [], ◌∷◌, length, min, Option, None, Some}
+use Rattle.traffic.specs.declared.world.Row.{Row}
+use Rattle.traffic.specs.Links.{LinkState}
+use Rattle.law_sleeping.specs.Quiet.{queue_due, wait_due}
+use Rattle.queue_link.specs.declared.numbers.LinkNumbers.{LinkNumbers}
+use Rattle.queue_link.specs.Numbers.{rules_of, no_dwelling}
+
+-- the earlier one of two seconds, where there is any
+abbrev pub earlier : Option ℕ → Option ℕ → Option ℕ
+earlier None u = u
+earlier (Some t) None = Some t
+earlier (Some t) (Some u) = Some (min t u)
+
+-- the least second of the rows of a bay
+unfoldable pub bay_due : List Row → Option ℕ
+bay_due [] = None
+bay_due (r ∷ rs) = earlier (Some r.second) (bay_due rs)
+
+-- the second in which a link that has done second t may next have something to do, if nobody else does anything
+abbrev pub due_of : LinkNumbers → ℕ → LinkState → Option ℕ
+due_of n t L =
+    let K = rules_of n no_dwelling in
+    earlier (queue_due K t (length L.buffer) L.credit L.queue) (earlier (wait_due K t (length L.buffer) L.credit L.wait) (bay_due L.bay))

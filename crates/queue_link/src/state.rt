@@ -1,0 +1,28 @@
+use crate::numbers::LinkNumbers;
+use fixed_flow::Credit;
+use std::collections::VecDeque;
+use std::marker::Model;
+use traffic::Row;
+
+/// A link: its numbers, its four lists, each in order, and its credit, with the seconds whose gains it has.
+#[derive(Drop)]
+pub struct LinkState {
+    pub(crate) numbers: LinkNumbers,
+    pub(crate) credit: Credit,
+    pub(crate) raised: u32,
+    pub(crate) queue: VecDeque<Row>,
+    pub(crate) buffer: VecDeque<Row>,
+    pub(crate) wait: VecDeque<Row>,
+    pub(crate) bay: Vec<Row>,
+}
+
+impl Model for LinkState {
+    ghost use Rattle.queue_link.specs.Links.{LinkView};
+    ghost use Rattle.queue_link.specs.Views.{link_view, link_invariant};
+
+    ghost Value = { LinkView };
+
+    ghost view = { link_view };
+
+    ghost invariant = { link_invariant };
+}

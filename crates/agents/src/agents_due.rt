@@ -1,0 +1,18 @@
+use crate::due::DueList;
+use std::marker::Model;
+
+/// Whose activity and whose teleported leg end in which second.
+#[derive(Drop)]
+pub struct Agents {
+    pub(crate) ends: DueList,
+    pub(crate) flights: DueList,
+}
+
+impl Model for Agents {
+    ghost use Rattle.agents.specs.Due.{AgentsView};
+    ghost use Rattle.agents.specs.AgentsViews.{agents_view};
+
+    ghost Value = { AgentsView };
+
+    ghost view = { agents_view };
+}

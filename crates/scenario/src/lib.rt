@@ -1,4 +1,5 @@
-//! A scenario out of its files: the town and each person's plans in it, or the first fault of the files.
+//! A scenario out of its files: the town, each person's plans in it and the tables of
+//! scores, or the first fault of the files.
 #![tactic(auto)]
 
 mod assembling;

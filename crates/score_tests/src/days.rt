@@ -9,7 +9,7 @@ pub const HOME: u32 = 0;
 
 pub const WORK: u32 = 1;
 
-/// What a second at home and a second at work is worth in the tables.
+/// What so many seconds at home, and at work, are worth in the tables.
 pub static HOME_POINTS: [(u32, i64); 3] = [
     (0, -20_000_000),
     (43_200, 60_000_000),
@@ -57,6 +57,24 @@ pub static COMMUTE: [Told; 8] = [
     (57_600, Word::Departure, More::Mode(Mode::Car)),
     (57_611, Word::Arrival, More::Mode(Mode::Car)),
     (57_611, Word::ActStart, More::Kind(HOME)),
+];
+
+/// Work begins behind 86,400, where a day of activities ends: it has no duration.
+pub static AT_WORK_BEHIND_MIDNIGHT: [Told; 5] = [
+    (100, Word::ActEnd, More::Kind(HOME)),
+    (100, Word::Departure, More::Mode(Mode::Walk)),
+    (90_100, Word::Travelled, More::Seconds(90_000)),
+    (90_100, Word::Arrival, More::Mode(Mode::Walk)),
+    (90_100, Word::ActStart, More::Kind(WORK)),
+];
+
+/// Home again a day later, and longer away than a night would last.
+pub static AT_HOME_BEHIND_MIDNIGHT: [Told; 5] = [
+    (100, Word::ActEnd, More::Kind(HOME)),
+    (100, Word::Departure, More::Mode(Mode::Walk)),
+    (90_100, Word::Travelled, More::Seconds(90_000)),
+    (90_100, Word::Arrival, More::Mode(Mode::Walk)),
+    (90_100, Word::ActStart, More::Kind(HOME)),
 ];
 
 /// An arrival without a departure.

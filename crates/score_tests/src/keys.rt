@@ -1,6 +1,8 @@
 //! What settings.json says of scores.
 
-use crate::days::{AT_HOME, COMMUTE, DRIVE, LEFT_BEHIND, Told};
+use crate::days::{
+    AT_HOME, AT_HOME_BEHIND_MIDNIGHT, AT_WORK_BEHIND_MIDNIGHT, COMMUTE, DRIVE, LEFT_BEHIND, Told,
+};
 use crate::scores::score;
 use edge_files::{Reason, RowStop};
 use events::{Name, Names};
@@ -20,7 +22,8 @@ fn is_read(alloc: Global, text: &str) -> bool {
     read_settings(alloc, text.as_bytes()).is_ok()
 }
 
-static READ: [&str; 8] = [
+static READ: [&str; 9] = [
+    "{\"stuck\":1,\"stuck\":0}",
     "{\"late_per_second\":0,\"stuck\":0}",
     "{\"late_per_second\":-1000000,\"stuck\":-1000000000000}",
     "{\"modes\":{},\"tables\":[]}",
@@ -31,7 +34,69 @@ static READ: [&str; 8] = [
     "{\"tables\":[{\"kind\":\"home\",\"kind\":\"work\",\"points\":[[0,0]]},{\"kind\":\"home\",\"points\":[[0,0]]}]}",
 ];
 
-static REFUSED: [(&str, Reason); 27] = [
+static REFUSED: [(&str, Reason); 47] = [
+    ("{\"tables\":null}", Reason::ValueBad),
+    ("{\"modes\":null}", Reason::ValueBad),
+    ("{\"modes\":{\"car\":null}}", Reason::ValueBad),
+    ("{\"late_per_second\":null}", Reason::ValueBad),
+    ("{\"late_per_second\":\"0\"}", Reason::ValueBad),
+    (
+        "{\"modes\":{\"car\":{\"constant\":-1000000000001}}}",
+        Reason::ValueBad,
+    ),
+    (
+        "{\"tables\":[{\"kind\":7,\"points\":[[0,0]]}]}",
+        Reason::ValueBad,
+    ),
+    (
+        "{\"tables\":[{\"kind\":\"\",\"points\":[[0,0]]}]}",
+        Reason::ValueBad,
+    ),
+    (
+        "{\"tables\":[{\"kind\":\"k23456789a123456789b123456789c123456789d123456789e123456789f12345\",\"points\":[[0,0]]}]}",
+        Reason::ValueBad,
+    ),
+    (
+        "{\"tables\":[{\"kind\":\"home\",\"points\":[[0,1000000000001]]}]}",
+        Reason::ValueBad,
+    ),
+    (
+        "{\"tables\":[{\"kind\":\"home\",\"points\":[[0,-1000000000001]]}]}",
+        Reason::ValueBad,
+    ),
+    (
+        "{\"tables\":[{\"kind\":\"home\",\"points\":[[-1,0]]}]}",
+        Reason::ValueBad,
+    ),
+    (
+        "{\"tables\":[{\"kind\":\"home\",\"points\":[[0.5,0]]}]}",
+        Reason::ValueBad,
+    ),
+    (
+        "{\"tables\":[{\"kind\":\"home\",\"points\":[[\"0\",0]]}]}",
+        Reason::ValueBad,
+    ),
+    (
+        "{\"tables\":[{\"kind\":\"home\",\"points\":{}}]}",
+        Reason::ValueBad,
+    ),
+    (
+        "{\"tables\":[{\"kind\":\"home\",\"points\":[0]}]}",
+        Reason::ValueBad,
+    ),
+    (
+        "{\"tables\":[{\"kind\":\"home\",\"points\":[[0,0]],\"latest\":-1}]}",
+        Reason::ValueBad,
+    ),
+    (
+        "{\"tables\":[{\"kind\":\"home\",\"points\":[[0,0]],\"latest\":null}]}",
+        Reason::ValueBad,
+    ),
+    ("{\"stuck\":0,\"stuck\":1}", Reason::ValueBad),
+    (
+        "{\"tables\":[{\"kind\":\"home\",\"points\":[[5,0],[4,1]]}]}",
+        Reason::TableWrong,
+    ),
     ("{\"late_per_second\":1}", Reason::ValueBad),
     ("{\"late_per_second\":-1000001}", Reason::ValueBad),
     ("{\"late_per_second\":-0}", Reason::ValueBad),
@@ -141,6 +206,17 @@ fn tables_text(alloc: Global, many: u32) -> String {
     text
 }
 
+/// One table more than there may be, and in the last one what else it holds.
+fn surplus_text(alloc: Global, last: &str) -> String {
+    let mut text = String::new(alloc);
+    let _ = write!(text, "{{\"tables\":[{{\"kind\":\"k\",\"points\":[[0,0]]}}");
+    for number in 1..64 {
+        let _ = write!(text, ",{{\"kind\":\"k{number}\",\"points\":[[0,0]]}}");
+    }
+    let _ = write!(text, ",{{\"kind\":\"last\",{last}}}]}}");
+    text
+}
+
 /// A table with so many points.
 fn points_text(alloc: Global, many: u32) -> String {
     let mut text = String::new(alloc);
@@ -158,6 +234,17 @@ fn most_tables_and_points(rt: HostRuntime) {
     assert!(rt; is_read(alloc, tables_text(alloc, 64).as_str()));
     assert_eq!(rt;
         refusal(alloc, tables_text(alloc, 65).as_str()),
+        Some(Reason::ValueBad)
+    );
+    assert_eq!(rt;
+        refusal(
+            alloc,
+            surplus_text(alloc, "\"points\":[[0,0]],\"earliest\":0").as_str()
+        ),
+        Some(Reason::KeyUnknown)
+    );
+    assert_eq!(rt;
+        refusal(alloc, surplus_text(alloc, "\"points\":[]").as_str()),
         Some(Reason::ValueBad)
     );
     assert!(rt; is_read(alloc, points_text(alloc, 32).as_str()));
@@ -206,6 +293,11 @@ const BOTH: &str = "{\"tables\":[\
     {\"kind\":\"home\",\"points\":[[0,-20000000],[43200,60000000],[86400,80000000]]},\
     {\"kind\":\"work\",\"latest\":28800,\"points\":[[0,-20000000],[28800,60000000]]}]}";
 
+/// The same tables where no activity begins late.
+const EVER_IN_TIME: &str = "{\"tables\":[\
+    {\"kind\":\"home\",\"points\":[[0,-20000000],[43200,60000000],[86400,80000000]]},\
+    {\"kind\":\"work\",\"points\":[[0,-20000000],[28800,60000000]]}]}";
+
 /// A table for a kind of which no activity is.
 const STRANGE: &str = "{\"tables\":[{\"kind\":\"sleep\",\"points\":[[0,77]]},\
     {\"kind\":\"home\",\"points\":[[0,-20000000],[43200,60000000],[86400,80000000]]}]}";
@@ -219,6 +311,14 @@ fn scores_by_settings(rt: HostRuntime) {
     assert_eq!(rt; score_by(alloc, "", &DRIVE), Some(-18_326));
     assert_eq!(rt; score_by(alloc, BOTH, &COMMUTE), Some(126_539_366));
     assert_eq!(rt; score_by(alloc, STRANGE, &AT_HOME), Some(80_000_000));
+    assert_eq!(rt;
+        score_by(alloc, EVER_IN_TIME, &AT_WORK_BEHIND_MIDNIGHT),
+        Some(-189_754_815)
+    );
+    assert_eq!(rt;
+        score_by(alloc, EVER_IN_TIME, &AT_HOME_BEHIND_MIDNIGHT),
+        Some(-169_940_000)
+    );
     assert_eq!(rt; score_by(alloc, OTHER, &DRIVE), Some(-32));
     assert_eq!(rt; score_by(alloc, OTHER, &LEFT_BEHIND), Some(-7));
 }

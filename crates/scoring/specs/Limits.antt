@@ -16,7 +16,7 @@ abbrev pub are_distinct : List ℕ → Bool
 are_distinct [] = true
 are_distinct (n ∷ ns) = not (list_any (λ m. nat_eq n m) ns) && are_distinct ns
 
--- whether a table has points, and a second from which an activity begins late, as a table may have them
+-- whether a table has points, and a last second in which an activity begins in time, as a table may have them
 abbrev pub is_right : Table → Bool
 is_right table = is_table table.points table.latest
 

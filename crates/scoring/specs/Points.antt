@@ -25,7 +25,7 @@ abbrev pub are_rising : List Point → Bool
 are_rising [] = true
 are_rising (p ∷ points) = rise_from p.0 points
 
--- whether points and the second from which an activity begins late are those of a table: 1 to 32 points within its limits, at seconds
+-- whether points and the last second in which an activity begins in time are those of a table: 1 to 32 points within its limits, at seconds
 -- that rise, and a second up to the last one of an event
 abbrev pub is_table : List Point → Option ℕ → Bool
 is_table points latest =

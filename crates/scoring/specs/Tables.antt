@@ -9,7 +9,7 @@ use Rattle.scoring.specs.declared.tables.Tables.{Tables}
 use Rattle.scoring.specs.Points.{value}
 
 -- what a day is scored by: tables for kinds of activities, what a leg is worth by each of the five modes, in their order, and what each
--- second costs by which an activity begins late and what it costs to be stuck, in micro-utils
+-- second adds by which an activity begins late, and what being stuck adds, in micro-utils
 pub record ScoringRows : Type 0 where
   pub tables : List Table
   pub modes : List ModeScore
@@ -40,7 +40,7 @@ unfoldable pub leg_worth : List ModeScore → Mode → ℕ → ℤ
 leg_worth modes mode seconds =
     option_map_or (λ (m : ModeScore). m.constant +ℤ m.per_second *ℤ pos seconds) (slice_get modes (place_of mode)) (pos 0)
 
--- the second from which an activity of a kind begins late
+-- the last second in which an activity of a kind begins in time
 abbrev pub latest_of : List Table → ℕ → Option ℕ
 latest_of tables kind = option_and_then (λ (t : Table). t.latest) (table_of tables kind)
 

@@ -83,7 +83,7 @@ home_table = record { kind = home; points = home_points; latest = None }
 abbrev pub work_table : Table
 work_table = record { kind = work; points = work_points; latest = None }
 
--- the same, where work begins late after 28,800
+-- the same, where work begins late behind 28,800
 abbrev pub strict_table : Table
 strict_table = record { kind = work; points = work_points; latest = Some 28800 }
 

@@ -39,13 +39,14 @@ impl Points {
 /// What activities of a kind are worth, by how long they take.
 #[derive(Drop)]
 pub struct Table {
+    /// The number of the kind of activity.
     pub kind: u32,
     pub points: Points,
-    /// The second from which an activity of the kind begins late.
+    /// The last second in which an activity of the kind begins in time.
     pub latest: Option<u32>,
 }
 
-/// Whether points and the second from which an activity begins late are those of a table: 1 to 32
+/// Whether points and the last second in which an activity begins in time are those of a table: 1 to 32
 /// points, at seconds from 0 to 1,000,000 that rise, each worth at most 1,000,000,000,000
 /// micro-utils, or as much below zero; and a second of at most 172,800.
 pub fn is_table(points: &[(u32, i64)], latest: Option<u32>) -> bool

@@ -14,9 +14,9 @@ pub struct Tables {
     /// By the modes, in their order: car, walk, bike, ride, pt. A constant is at most
     /// 1,000,000,000,000 micro-utils and a second of a leg 1,000,000, or as much below zero.
     pub modes: [ModeScore; 5],
-    /// What each second costs by which an activity begins late, from -1,000,000 to 0 micro-utils.
+    /// What each second adds by which an activity begins late, from -1,000,000 to 0 micro-utils.
     pub late_per_second: i64,
-    /// What it costs to be stuck, from -1,000,000,000,000 to 0 micro-utils.
+    /// What being stuck adds, from -1,000,000,000,000 to 0 micro-utils.
     pub stuck: i64,
     pub ghost tables_in: { are_tables tables ≡ true },
     pub ghost modes_in: { list_all is_mode modes ≡ true },

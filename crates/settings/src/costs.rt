@@ -25,9 +25,9 @@ pub struct Scoring {
     pub tables: Rows<NamedTable>,
     /// By the modes, in their order: car, walk, bike, ride, pt.
     pub modes: [ModeScore; 5],
-    /// What each second is worth by which an activity begins late, in micro-utils.
+    /// What each second adds by which an activity begins late, in micro-utils.
     pub late_per_second: i64,
-    /// What it is worth to be stuck, in micro-utils.
+    /// What being stuck adds, in micro-utils.
     pub stuck: i64,
     pub ghost few: { length tables ≤ MAX_TABLES },
     pub ghost right: { are_right tables ≡ true },

@@ -16,8 +16,8 @@ use scoring::{MAX_POINT_SECOND, MAX_TABLES, MAX_WORTH, Points, is_table};
 use serde_json::{Map, Value};
 use std::alloc::{AllocError, Global};
 
-/// A table as the settings give it: the name of a kind of activity, points, and the second from
-/// which an activity of the kind begins late.
+/// A table as the settings give it: the name of a kind of activity, points, and the last
+/// second in which an activity of the kind begins in time.
 #[derive(Drop)]
 pub struct NamedTable {
     pub kind: Name,
@@ -90,7 +90,7 @@ fn kind_in(alloc: Global, value: &Value) -> Result<Option<Name>, AllocError>
     Ok(name)
 }
 
-/// The second from which an activity begins late, if it is given; `None` where it may not be.
+/// The last second in which an activity begins in time, if it is given; `None` where it may not be.
 #[tactic(auto, unfolding(crate::specs::NamedTables::latest_in))]
 fn latest_in(table: &Map<String, Value>) -> Option<Option<u32>>
     ensures { result ≡ or_default latest_in None (get_member (codes "latest") (members_view table.now.entries)) }

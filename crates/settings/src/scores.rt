@@ -18,7 +18,7 @@ use scoring::{MAX_PER_SECOND, MAX_WORTH};
 use serde_json::{Map, Value};
 use std::alloc::Global;
 
-/// What each second is worth by which an activity begins late, and what it is worth to be stuck, where
+/// What each second adds by which an activity begins late, and what being stuck adds, where
 /// the keys are not given, in micro-utils.
 const USUAL_LATE_PER_SECOND: i64 = -5_000;
 

@@ -20,7 +20,7 @@ static COMMUTE: Case = Case {
     ..LINE
 };
 
-/// The same where work begins late from 28,800 on, with a table for a kind of which there is no activity.
+/// The same where work begins late behind 28,800, with a table for a kind of which there is no activity.
 static LATE: Case = Case {
     settings: "{\"end_second\":57700,\"tables\":[{\"kind\":\"sleep\",\"points\":[[0,1]]},\
         {\"kind\":\"work\",\"latest\":28800,\"points\":[[0,-20000000],[28800,60000000]]},\
@@ -50,6 +50,28 @@ const COMMUTE_EVENTS: &str = "iteration,0\n\
     57611,PersonLeavesVehicle,p1,p1,,\n\
     57611,arrival,p1,,L3,car\n\
     57611,actstart,p1,,L3,home\n";
+
+/// Work begins behind its planned end, and ends a second later: what it is worth goes by the second in which it did end.
+static BEHIND_ITS_END: Case = Case {
+    settings: "{\"end_second\":300,\"tables\":[\
+        {\"kind\":\"home\",\"points\":[[0,-20000000],[43200,60000000],[86400,80000000]]},\
+        {\"kind\":\"work\",\"points\":[[0,-20000000],[28800,60000000]]}]}",
+    plans: "p1,0,act,home,L1,100,\np1,0,leg,walk,,50,\np1,0,act,work,L2,120,\n\
+        p1,0,leg,walk,,50,\np1,0,act,home,L1,,\n",
+    ..LINE
+};
+
+const BEHIND_ITS_END_EVENTS: &str = "iteration,0\n\
+    100,actend,p1,,L1,home\n\
+    100,departure,p1,,L1,walk\n\
+    150,travelled,p1,,,50\n\
+    150,arrival,p1,,L2,walk\n\
+    150,actstart,p1,,L2,work\n\
+    151,actend,p1,,L2,work\n\
+    151,departure,p1,,L2,walk\n\
+    201,travelled,p1,,,50\n\
+    201,arrival,p1,,L1,walk\n\
+    201,actstart,p1,,L1,home\n";
 
 /// Whether a run of a case is so, and its plans come out as they went in.
 fn is_run<R: Threads + Wait + Sync>(
@@ -85,6 +107,20 @@ fn tables_are_followed(rt: HostRuntime) {
             "iteration,0,20,0,126539366\ndone,0\n",
             "0,p1,0,126539366\n",
             COMMUTE_EVENTS
+        )
+    );
+}
+
+#[test]
+fn an_activity_ends_when_it_did(rt: HostRuntime) {
+    assert!(rt;
+        is_run(
+            &rt,
+            rt.alloc(),
+            &BEHIND_ITS_END,
+            "iteration,0,10,0,59789417\ndone,0\n",
+            "0,p1,0,59789417\n",
+            BEHIND_ITS_END_EVENTS
         )
     );
 }

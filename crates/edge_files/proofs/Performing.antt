@@ -4,23 +4,21 @@ use Rattle.std.proofs.lemmas.List.{drop_more}
 use Rattle.std.proofs.lemmas.List.Folds.{list_any_at}
 use Rattle.std.proofs.lemmas.Bool.{false_from_ne_true}
 use Rattle.edge_files.specs.declared.effects.Effect.{Effect}
-use Rattle.edge_files.specs.Causes.{Rose}
 use Rattle.edge_files.specs.Effects.{steps_of, all_steps, is_save, has_save}
 use Rattle.edge_files.specs.World.{World, Step, Does, DoesPart}
 use Rattle.edge_files.proofs.Worlds.{Performing, performing_more, performing_part}
 
-pub rose_later : (a b c : ℕ) → a ≤ b → Rose b c → Rose a c
-rose_later a b c later rose = omega (arith, later, rose)
-
 module _ (effects : List Effect) (i : ℕ) (effect : Effect) (less : i < length effects) (is : effect ≡ get_or effects i effect) where
-  next_effect : all_steps (drop i effects) ≡ steps_of effect ++ all_steps (drop (i + 1) effects)
-  next_effect = ap all_steps (drop_more effects i effect less) ∙ ap (λ (e : Effect). steps_of e ++ all_steps (drop (i + 1) effects)) (sym is)
+  module _ (a b c : World) (all one : List Step) (same : steps_of effect ≡ one) (so_far : Performing a b all (all_steps (drop i effects))) where
+    next_effect : Performing a b all (one ++ all_steps (drop (i + 1) effects))
+    next_effect = subst (λ (l : List Step). Performing a b all l)
+        (ap all_steps (drop_more effects i effect less) ∙ ap (λ (e : Effect). steps_of e ++ all_steps (drop (i + 1) effects)) (sym is) ∙ ap (λ (l : List Step). l ++ all_steps (drop (i + 1) effects)) same) so_far
 
-  pub one_more : (a b c : World) (all : List Step) → Performing a b all (all_steps (drop i effects)) → Does b c (steps_of effect) → Performing a c all (all_steps (drop (i + 1) effects))
-  one_more a b c all so_far does = performing_more a b c all (steps_of effect) _ (subst (λ (l : List Step). Performing a b all l) next_effect so_far) does
+    pub one_more : Does b c one → Performing a c all (all_steps (drop (i + 1) effects))
+    one_more does = performing_more a b c all one _ next_effect does
 
-  pub one_in_part : (a b c : World) (all : List Step) → Performing a b all (all_steps (drop i effects)) → DoesPart b c (steps_of effect) → DoesPart a c all
-  one_in_part a b c all so_far part = performing_part a b c all (steps_of effect) (all_steps (drop (i + 1) effects)) (subst (λ (l : List Step). Performing a b all l) next_effect so_far) part
+    pub one_in_part : DoesPart b c one → DoesPart a c all
+    one_in_part part = performing_part a b c all one (all_steps (drop (i + 1) effects)) next_effect part
 
   pub no_save_here : has_save effects ≡ false → is_save effect ≡ false
   no_save_here none = false_from_ne_true (is_save effect) (λ save.

@@ -2,13 +2,13 @@ ghost use Rattle.std.specs.Prelude.{◌≡◌, ◌≤◌, false, Err, OnOk, OnEr
 ghost use Rattle.edge_files.specs.Causes.{Rose};
 ghost use Rattle.edge_files.specs.Keeping.{StaysTold};
 ghost use Rattle.edge_files.specs.World.{Does, DoesPart, outside};
-ghost use Rattle.edge_files.specs.Effects.{steps_of, all_steps, is_save, has_save};
+ghost use Rattle.edge_files.specs.Effects.{all_steps, has_save};
 
 use crate::bytes::Bytes;
-use crate::files::{Failed, OutFile};
+use crate::files::OutFile;
 use crate::keeping::{KeepFail, Keeper, KeptRows};
 use crate::writing::{Outputs, write_whole};
-use std::marker::Model;
+use events::Rows;
 use thiserror::Error;
 
 /// What a run does outside: it writes a text behind a file, or has an iteration's plans kept.
@@ -18,20 +18,8 @@ pub enum Effect {
     Save { iteration: u32, rows: KeptRows },
 }
 
-/// Effects, seen as a list.
-#[derive(Drop)]
-pub struct EffectList {
-    pub rows: Vec<Effect>,
-}
-
-impl Model for EffectList {
-    ghost use Rattle.std.specs.Prelude.{List};
-    ghost use Rattle.edge_files.specs.declared.effects.Effect.{Effect};
-
-    ghost Value = { List Effect };
-
-    ghost view = { λ e. e.rows.items };
-}
+/// Effects, in order.
+pub type EffectList = Rows<Effect>;
 
 /// Why effects were not done to their end.
 #[derive(Clone, Copy, Debug, PartialEq, Eq, Error)]
@@ -44,36 +32,14 @@ pub enum EffectError {
     NoMemory,
 }
 
-#[tactic(auto, using(crate::proofs::Worlds::effect_steps))]
-fn perform_one<O: Outputs, K: Keeper>(
-    outputs: &mut O,
-    keeper: &mut K,
-    effect: &Effect,
-) -> Result<(), EffectError>
-    ensures done { OnOk result (Does (outside (O.written outputs.old) (K.kept keeper.old))
-        (outside (O.written outputs.new) (K.kept keeper.new))
-        (steps_of effect.now)) }
-    ensures part { OnErr result (DoesPart (outside (O.written outputs.old) (K.kept keeper.old))
-        (outside (O.written outputs.new) (K.kept keeper.new))
-        (steps_of effect.now)) }
-    ensures write_later { O.faults outputs.old ≤ O.faults outputs.new }
-    ensures keep_later { K.faults keeper.old ≤ K.faults keeper.new }
-    ensures write_failed { result ≡ Err EffectError.WriteFailed → Rose (O.faults outputs.old) (O.faults outputs.new) }
-    ensures keep_failed { result ≡ Err EffectError.KeepFailed → Rose (K.faults keeper.old) (K.faults keeper.new) }
-    ensures told { result ≡ Err EffectError.WriteFailed → StaysTold (K.kept keeper.old) (K.kept keeper.new) }
-    ensures untouched { is_save effect.now ≡ false → keeper.new ≡ keeper.old }
-    ensures only_write { is_save effect.now ≡ false → OnErr result (result ≡ Err EffectError.WriteFailed) }
+/// What a keeper's refusal is among the errors of effects.
+fn refusal(error: KeepFail) -> EffectError
+    ensures failed { result ≡ EffectError.KeepFailed → error ≡ KeepFail.Failed }
+    ensures keeps { result ≡ EffectError.WriteFailed → ⊥ }
 {
-    match effect {
-        Effect::Write { file, text } => match write_whole(outputs, *file, &text.rows) {
-            Ok(()) => Ok(()),
-            Err(Failed) => Err(EffectError::WriteFailed),
-        },
-        Effect::Save { iteration, rows } => match keeper.save(*iteration, &rows.rows) {
-            Ok(()) => Ok(()),
-            Err(KeepFail::Failed) => Err(EffectError::KeepFailed),
-            Err(KeepFail::NoMemory) => Err(EffectError::NoMemory),
-        },
+    match error {
+        KeepFail::Failed => EffectError::KeepFailed,
+        KeepFail::NoMemory => EffectError::NoMemory,
     }
 }
 
@@ -101,9 +67,17 @@ pub fn perform<O: Outputs, K: Keeper>(
     ensures only_write { has_save effects.now ≡ false → OnErr result (result ≡ Err EffectError.WriteFailed) }
 {
     for effect in effects {
-        match perform_one(outputs, keeper, effect) {
-            Ok(()) => {}
-            Err(error) => return Err(error),
+        match effect {
+            Effect::Write { file, text } => {
+                if write_whole(outputs, *file, &text.rows).is_err() {
+                    return Err(EffectError::WriteFailed);
+                }
+            }
+            Effect::Save { iteration, rows } => {
+                if let Err(error) = keeper.save(*iteration, &rows.rows) {
+                    return Err(refusal(error));
+                }
+            }
         }
     }
     Ok(())

@@ -3,7 +3,7 @@ ghost use Rattle.edge_files.specs.Keeping.{Told, kept_of, Becomes, Stays, StaysI
 ghost use Rattle.edge_files.specs.Causes.{KeepHasCause};
 
 use crate::bytes::Bytes;
-use std::marker::Model;
+use events::Rows;
 use thiserror::Error;
 
 /// A plan as it is kept: whose it is, its place among the person's plans, whether it is the chosen one,
@@ -17,20 +17,8 @@ pub struct KeptRow {
     pub body: Bytes,
 }
 
-/// Kept plans, seen as a list.
-#[derive(Drop)]
-pub struct KeptRows {
-    pub rows: Vec<KeptRow>,
-}
-
-impl Model for KeptRows {
-    ghost use Rattle.std.specs.Prelude.{List};
-    ghost use Rattle.edge_files.specs.declared.keeping.KeptRow.{KeptRow};
-
-    ghost Value = { List KeptRow };
-
-    ghost view = { λ k. k.rows.items };
-}
+/// Kept plans, in order.
+pub type KeptRows = Rows<KeptRow>;
 
 /// Why a keeper refused.
 #[derive(Clone, Copy, Debug, PartialEq, Eq, Error)]

@@ -1,13 +1,13 @@
 ghost use Rattle.std.specs.Prelude.{◌≡◌, ◌≤◌, length, map, IfOk};
 ghost use Rattle.records.specs.Faults.{Answers};
-ghost use Rattle.records.specs.Files.{body_of};
-ghost use Rattle.network.specs.Nodes.{node_reason, node_of, nodes_fault, node_names};
+ghost use Rattle.records.specs.Files.{head_reason, body_of};
+ghost use Rattle.network.specs.Nodes.{node_header, node_reason, node_of, nodes_fault, node_names};
 
 use csv::ByteRecord;
 use edge_files::{Reason, RowStop};
 use events::Names;
 use limits::{MAX_COORDINATE, MAX_NODES};
-use records::{RowReader, Table, field, holds_name, read_table, signed_in};
+use records::{RowReader, Table, field, holds_name, read_file, read_table, signed_in};
 use rows::{NodeList, NodeRow};
 use std::alloc::Global;
 
@@ -16,9 +16,15 @@ use std::alloc::Global;
 struct NodeReader;
 
 impl RowReader<NodeRow> for NodeReader {
+    ghost head = { λ _. head_reason node_header };
+
     ghost reason = { λ _. node_reason };
 
     ghost value = { λ _. node_of };
+
+    fn read_rows(&self, alloc: Global, bytes: &[u8]) -> Result<Vec<ByteRecord>, RowStop> {
+        read_file(alloc, bytes, &["node", "x", "y"])
+    }
 
     #[tactic(auto, unfolding(crate::specs::Nodes::node_reason, crate::specs::Nodes::node_of))]
     fn read_row(&self, names: &Names, row: &ByteRecord) -> Result<NodeRow, Reason> {
@@ -53,7 +59,7 @@ pub fn read_nodes(alloc: Global, bytes: &[u8]) -> Result<(Names, NodeList), RowS
     ensures each { IfOk result (λ r. length r.0 ≡ length r.1) }
     ensures few { IfOk result (λ r. length r.1 ≤ MAX_NODES) }
 {
-    match read_table(alloc, bytes, &["node", "x", "y"], &NodeReader) {
+    match read_table(alloc, bytes, &NodeReader) {
         Ok(Table { names, rows }) => Ok((names, NodeList { rows })),
         Err(stop) => Err(stop),
     }

@@ -25,4 +25,4 @@ pub use names::number;
 pub use numbers::{number_in, signed_in};
 pub use rows::read_rows;
 pub use table::Table;
-pub use table_read::{RowReader, read_optional_table, read_table};
+pub use table_read::{RowReader, read_table};

@@ -1,33 +1,42 @@
 //! Files of rows of which each has its name in the first field.
 
-ghost use Rattle.std.specs.Prelude.{◌≡◌, ◌<◌, ◌^◌, ℕ, List, Option, None, true, length, map, OnOk};
+ghost use Rattle.std.specs.Prelude.{◌≡◌, ◌<◌, ◌^◌, ℕ, List, Option, None, true, length, map, IfOk, OnOk};
 ghost use Rattle.csv.specs.Records.{fields_of};
 ghost use Rattle.edge_files.specs.declared.reasons.Reason.{Reason};
 ghost use Rattle.events.specs.Names.{number_of};
-ghost use Rattle.records.specs.Rows.{Row};
+ghost use Rattle.records.specs.Rows.{Row, rows_of};
 ghost use Rattle.records.specs.Fields.{field, holds_name, column};
 ghost use Rattle.records.specs.Faults.{unless, Answers};
-ghost use Rattle.records.specs.Files.{head_reason, optional_head_reason, body_of};
+ghost use Rattle.records.specs.Files.{TellsHead, body_of};
 ghost use Rattle.records.specs.Reading.{body_fault, file_fault};
 ghost use Rattle.records.specs.Tables.{table_lists};
 
 use crate::adding::add_row;
 use crate::faults::fault;
 use crate::fields::field;
-use crate::files::{body, read_file, read_optional_file};
+use crate::files::body;
 use crate::table::Table;
 use csv::ByteRecord;
 use edge_files::{Reason, RowStop};
 use events::Names;
 use std::alloc::Global;
 
-/// What the rows of a file say, each by itself and by the names of the rows before it.
+/// What a file and its rows say, each row by itself and by the names of the rows before it.
 pub trait RowReader<T> {
+    /// The reason against row 0, by the bytes of the file.
+    ghost head: { Self → List ℕ → Option Reason };
+
     /// The least reason against a row, by the names of the rows before it.
     ghost reason: { Self → List (List ℕ) → Row → Option Reason };
 
     /// The value of a row against which there is no reason.
     ghost value: { Self → Row → T };
+
+    /// All rows of the file, the header among them, or the reason against row 0.
+    fn read_rows(&self, alloc: Global, bytes: &[u8]) -> Result<Vec<ByteRecord>, RowStop>
+        ensures head { TellsHead result (head self.now bytes.now) }
+        ensures rows { IfOk result (λ v. map fields_of v.items ≡ rows_of bytes.now) }
+        ensures few { IfOk result (λ v. length v.items < 2 ^ 30) };
 
     /// The value of a row, or the least reason against it.
     fn read_row(&self, names: &Names, row: &ByteRecord) -> Result<T, Reason>
@@ -64,41 +73,19 @@ fn read_body<T: Drop, R: RowReader<T>>(
     })
 }
 
-/// Reads a file that must have a header of these names and rows behind it.
+/// Reads a file whose rows have each its name in the first field.
 ///
 /// The first fault is told where there is one, by row and then by the reason's number.
 pub fn read_table<T: Drop, R: RowReader<T>>(
     alloc: Global,
     bytes: &[u8],
-    names: &[&str],
     reader: &R,
 ) -> Result<Table<T>, RowStop>
     ensures { Answers table_lists result
-        (file_fault (head_reason (map (λ n. n.now) names.now) bytes.now) 0
-        (R.value reader.now) (λ names _. R.reason reader.now names) bytes.now)
+        (file_fault (R.head reader.now bytes.now) 0 (R.value reader.now) (λ names _. R.reason reader.now names) bytes.now)
         (column 0 (body_of bytes.now), map (R.value reader.now) (body_of bytes.now)) }
 {
-    match read_file(alloc, bytes, names) {
-        Ok(rows) => read_body(alloc, body(&rows), reader),
-        Err(stop) => Err(stop),
-    }
-}
-
-/// Reads a file that may be left out: one of no bytes has no rows, and any other must have a header of these names.
-///
-/// The first fault is told where there is one, by row and then by the reason's number.
-pub fn read_optional_table<T: Drop, R: RowReader<T>>(
-    alloc: Global,
-    bytes: &[u8],
-    names: &[&str],
-    reader: &R,
-) -> Result<Table<T>, RowStop>
-    ensures { Answers table_lists result
-        (file_fault (optional_head_reason (map (λ n. n.now) names.now) bytes.now) 0
-        (R.value reader.now) (λ names _. R.reason reader.now names) bytes.now)
-        (column 0 (body_of bytes.now), map (R.value reader.now) (body_of bytes.now)) }
-{
-    match read_optional_file(alloc, bytes, names) {
+    match reader.read_rows(alloc, bytes) {
         Ok(rows) => read_body(alloc, body(&rows), reader),
         Err(stop) => Err(stop),
     }

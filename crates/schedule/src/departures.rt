@@ -2,16 +2,16 @@ ghost use Rattle.std.specs.Prelude.{◌≡◌, ◌≤◌, length, map, true, IfO
 ghost use Rattle.std.specs.List.{list_all};
 ghost use Rattle.records.specs.Fields.{column};
 ghost use Rattle.records.specs.Faults.{Answers};
-ghost use Rattle.records.specs.Files.{body_of};
+ghost use Rattle.records.specs.Files.{optional_head_reason, body_of};
 ghost use Rattle.schedule.specs.Views.{departure_lists};
-ghost use Rattle.schedule.specs.Departures.{departure_reason, departure_of, departures_fault, is_departure};
+ghost use Rattle.schedule.specs.Departures.{departure_header, departure_reason, departure_of, departures_fault, is_departure};
 
 use crate::lists::Departures;
 use csv::ByteRecord;
 use edge_files::{Reason, RowStop};
 use events::Names;
 use limits::{LAST_SECOND, MAX_DEPARTURES, MAX_SEATS};
-use records::{RowReader, Table, field, holds_name, number_in, read_optional_table};
+use records::{RowReader, Table, field, holds_name, number_in, read_optional_file, read_table};
 use rows::{DepartureList, DepartureRow};
 use std::alloc::Global;
 
@@ -22,9 +22,15 @@ struct DepartureReader<'a> {
 }
 
 impl RowReader<DepartureRow> for DepartureReader<'_> {
+    ghost head = { λ _. optional_head_reason departure_header };
+
     ghost reason = { λ d. departure_reason d.routes.now };
 
     ghost value = { λ d. departure_of d.routes.now };
+
+    fn read_rows(&self, alloc: Global, bytes: &[u8]) -> Result<Vec<ByteRecord>, RowStop> {
+        read_optional_file(alloc, bytes, &["departure", "route", "second", "seats"])
+    }
 
     #[tactic(auto, unfolding(crate::specs::Departures::departure_reason, crate::specs::Departures::departure_of))]
     fn read_row(&self, names: &Names, row: &ByteRecord) -> Result<DepartureRow, Reason> {
@@ -67,8 +73,7 @@ pub fn read_departures(alloc: Global, bytes: &[u8], routes: &Names) -> Result<De
     ensures few { IfOk result (λ d. length d.rows ≤ MAX_DEPARTURES) }
     ensures sound { IfOk result (λ d. list_all (is_departure (length routes.now)) d.rows ≡ true) }
 {
-    let header = ["departure", "route", "second", "seats"];
-    match read_optional_table(alloc, bytes, &header, &DepartureReader { routes }) {
+    match read_table(alloc, bytes, &DepartureReader { routes }) {
         Ok(Table { names, rows }) => Ok(Departures {
             names,
             rows: DepartureList { rows },

@@ -2,16 +2,16 @@ ghost use Rattle.std.specs.Prelude.{◌≡◌, ◌≤◌, length, map, true, IfO
 ghost use Rattle.std.specs.List.{list_all};
 ghost use Rattle.records.specs.Fields.{column};
 ghost use Rattle.records.specs.Faults.{Answers};
-ghost use Rattle.records.specs.Files.{body_of};
+ghost use Rattle.records.specs.Files.{optional_head_reason, body_of};
 ghost use Rattle.schedule.specs.Views.{stop_lists};
-ghost use Rattle.schedule.specs.Stops.{stop_reason, stop_of, stops_fault, is_stop};
+ghost use Rattle.schedule.specs.Stops.{stop_header, stop_reason, stop_of, stops_fault, is_stop};
 
 use crate::lists::Stops;
 use csv::ByteRecord;
 use edge_files::{Reason, RowStop};
 use events::Names;
 use limits::MAX_STOPS;
-use records::{RowReader, Table, field, holds_name, read_optional_table};
+use records::{RowReader, Table, field, holds_name, read_optional_file, read_table};
 use rows::{StopList, StopRow};
 use std::alloc::Global;
 
@@ -22,9 +22,15 @@ struct StopReader<'a> {
 }
 
 impl RowReader<StopRow> for StopReader<'_> {
+    ghost head = { λ _. optional_head_reason stop_header };
+
     ghost reason = { λ s. stop_reason s.links.now };
 
     ghost value = { λ s. stop_of s.links.now };
+
+    fn read_rows(&self, alloc: Global, bytes: &[u8]) -> Result<Vec<ByteRecord>, RowStop> {
+        read_optional_file(alloc, bytes, &["stop", "link"])
+    }
 
     #[tactic(auto, unfolding(crate::specs::Stops::stop_reason, crate::specs::Stops::stop_of))]
     fn read_row(&self, names: &Names, row: &ByteRecord) -> Result<StopRow, Reason> {
@@ -56,7 +62,7 @@ pub fn read_stops(alloc: Global, bytes: &[u8], links: &Names) -> Result<Stops, R
     ensures few { IfOk result (λ s. length s.rows ≤ MAX_STOPS) }
     ensures sound { IfOk result (λ s. list_all (is_stop (length links.now)) s.rows ≡ true) }
 {
-    match read_optional_table(alloc, bytes, &["stop", "link"], &StopReader { links }) {
+    match read_table(alloc, bytes, &StopReader { links }) {
         Ok(Table { names, rows }) => Ok(Stops {
             names,
             rows: StopList { rows },

@@ -1,3 +1,5 @@
 mod Plans
 mod Schedule
+pub mod Scored
+pub mod ScoredTowns
 pub mod Towns

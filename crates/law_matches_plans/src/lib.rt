@@ -1,7 +1,9 @@
 //! Laws of days in towns, where each chosen plan fits the town: in every second each person and each
-//! vehicle fits the plans and the timetable, and what is told of a person follows his plan. Each is the
-//! contract of a call that does nothing, said of a town's rows and of a `Town`.
+//! vehicle fits the plans and the timetable, and what is told of a person follows his plan and can be scored.
+//! Each is the contract of a call that does nothing, said of a town's rows and of a `Town`.
 #![tactic(auto)]
+
+mod scores;
 
 ghost use Rattle.std.specs.Prelude.{◌≡◌, ◌<◌, ℕ, true, List, length, All};
 ghost use Rattle.rows.specs.PlanRows.{PlanRows};
@@ -17,6 +19,8 @@ ghost use Rattle.law_trips.specs.Trips.{IsPlanned};
 ghost use Rattle.law_sound_setups.specs.Setups.{IsSoundSetup};
 ghost use Rattle.law_sound_setups.specs.Consistent.{IsConsistentSetup};
 ghost use Rattle.law_matches_plans.specs.Planned.{IsToldAsPlanned};
+
+pub use scores::{days_can_be_scored, towns_can_be_scored};
 
 /// The setup of a day in a town is sound, and its plans and calls are on the links that they name, where
 /// each chosen plan fits the town; so every second of the day is sound.

@@ -12,7 +12,7 @@ use Rattle.law_capacity.proofs.Flow.{day_flow}
 use Rattle.law_trips.proofs.InTime.{day_until}
 use Rattle.law_sound_setups.proofs.Laws.{day_sound}
 use Rattle.law_matches_plans.proofs.Towns.{persons_are, rows_sound, rows_told}
-use Rattle.law_scores.proofs.Towns.{rows_scored}
+use Rattle.law_matches_plans.proofs.ScoredTowns.{rows_scored}
 use Rattle.town.specs.Rows.{TownRows}
 use Rattle.town.specs.Setups.{setup_of}
 use Rattle.law_valid_files.specs.Valid.{IsScenario}

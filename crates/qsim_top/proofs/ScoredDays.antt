@@ -1,7 +1,7 @@
 -- A day can be written with its scores.
 use Rattle.traffic.proofs.Common.{◌≡◌, ℕ, List, ◌∙◌, length, ap, sym, subst, true, ◌<◌, length-map, list_all, map, Event, PlanRows, plan_rows, Plan, day}
 use Rattle.std.specs.Prelude.{ℤ}
-use Rattle.law_scores.proofs.Towns.{plans_scored}
+use Rattle.law_matches_plans.proofs.ScoredTowns.{plans_scored}
 use Rattle.day_scores.specs.Scores.{first_kind, scores_of}
 use Rattle.day_scores.specs.Standing.{AreScored}
 use Rattle.day_scores.proofs.Ending.{scores-count}

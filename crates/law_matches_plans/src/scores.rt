@@ -1,6 +1,4 @@
-//! Laws of scores: the events that a day tells of a person can be scored one after the other. Each is the
-//! contract of a call that does nothing.
-#![tactic(auto)]
+//! The events that a day tells of a person can be scored one after the other.
 
 ghost use Rattle.std.specs.Prelude.{◌≡◌, ℕ, ◌<◌, ◌≤◌, true, List, length, map, All};
 ghost use Rattle.std.specs.List.{list_all};

@@ -19,7 +19,7 @@ use Rattle.law_in_range.proofs.Towns.{plans_fit}
 use Rattle.law_matches_plans.proofs.Towns.{rows_told}
 use Rattle.law_trips.specs.Trips.{at_activities}
 use Rattle.scoring.specs.Taken.{AllFollow}
-use Rattle.law_scores.proofs.Scored.{can_be_scored}
+use Rattle.law_matches_plans.proofs.Scored.{can_be_scored}
 
 ends_in : (T : TownRows) (chosen : List PlanRows) (k : ℕ) → IsTown T → (setup_of T chosen k).settings.end_second ≤ LAST_SECOND
 unfolding setup_of

@@ -1,5 +1,5 @@
-use Rattle.law_scores.proofs.Towns.{rows_scored, plans_scored}
-use Rattle.law_scores.proofs.towns_can_be_scored.Goals as goal
+use Rattle.law_matches_plans.proofs.ScoredTowns.{rows_scored, plans_scored}
+use Rattle.law_matches_plans.proofs.scores.towns_can_be_scored.Goals as goal
 
 pub returns-clause-rows : goal.returns-clause-rows
 returns-clause-rows c = rows_scored

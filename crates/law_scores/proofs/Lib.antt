@@ -1,2 +1,0 @@
-pub mod Scored
-pub mod Towns

@@ -50,6 +50,10 @@ module _ (S : Setup) (own : Owner) (p t : ℕ) (law : Lawful S) (arrivals : Arri
   abbrev short : Short S own p t (late_of S own (less S own) p t) mine_p V E
   short = sh S own p t law.long (calm S own p t law)
 
+  -- what the nodes of a part do, as in the second of all
+  pub my_turns : moves_of (C_part S own p t E) ≡ flat_map (λ n. node_turns S t n V) (my_nodes S own p)
+  my_turns = C_part-moves S own p t (late_of S own (less S own) p t) mine_p V E short
+
   has-range : (k : ℕ → ℕ → ℕ) (s i : ℕ) → has S own k p s i ≡ true → i < length S.persons
   has-range k s i e = ltb-true i (length S.persons) (and_parts (is_person S i) _ e).0
 
@@ -81,7 +85,7 @@ module _ (S : Setup) (own : Owner) (p t : ℕ) (law : Lawful S) (arrivals : Arri
   alone-person = fun_ext (λ i.
       let P1 = person_of i (world_at S (suc t)) in
       let rows = sent_out S own p (moves_of (C_part S own p t E)) in
-      let same : rows ≡ sent_out S own p (flat_map (λ n. node_turns S t n V) (my_nodes S own p)) = ap (sent_out S own p) (C_part-moves S own p t (late_of S own (less S own) p t) mine_p V E short) in
+      let same : rows ≡ sent_out S own p (flat_map (λ n. node_turns S t n V) (my_nodes S own p)) = ap (sent_out S own p) my_turns in
       ap (if_stays S own p t rows i) (D_after-person i)
       ∙ stays_mine S own p t rows i (mine_p i) P1
       ∙ elim (cases_lt i (length S.persons)) [

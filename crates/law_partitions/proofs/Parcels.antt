@@ -19,15 +19,14 @@ use Rattle.law_one_place.proofs.Turns.{always_kept}
 use Rattle.parts.specs.Owners.{Owner, owner_of, begins_in, leads, links_of, link_at}
 use Rattle.parts.specs.Parts.{Held, Passed, Flight, Freed, is_some_freed, Parcel, passed, mine, has, enters_queue, node_phase_moves, freed, went, flies_from, flight_at, flight_from, out, unheard, ready}
 use Rattle.law_partitions.specs.Alone.{my_nodes, C_part, D_part, early, after_C, after_D, element_in, passed_here, flight_to, parcel_to}
-use Rattle.law_partitions.proofs.Second.{C_moves-are, Short, C_part-moves}
+use Rattle.law_partitions.proofs.Second.{C_moves-are}
 use Rattle.law_partitions.proofs.Early.{mid}
-use Rattle.law_partitions.proofs.Heard.{late_of}
-use Rattle.law_partitions.proofs.Ends.{less, sh, frees_own}
+use Rattle.law_partitions.proofs.Ends.{less, frees_own}
 use Rattle.law_partitions.proofs.Tells.{listed-cons}
 use Rattle.law_partitions.proofs.Home.{Lawful, IsHome}
 use Rattle.law_partitions.proofs.Calms.{calm, node_spare_away}
 use Rattle.law_partitions.proofs.Owning.{Arrivals, home_next}
-use Rattle.law_partitions.proofs.Locality.{D_after-person}
+use Rattle.law_partitions.proofs.Locality.{my_turns, D_after-person}
 use Rattle.law_partitions.proofs.Spare.{Carries, spare-enters}
 
 no_row : (b : Bool) (now : Row) → (if b && false then now ∷ [] else []) ≡ []
@@ -98,14 +97,8 @@ module _ (S : Setup) (own : Owner) (p q t : ℕ) (law : Lawful S) (arrivals : Ar
   abbrev R : Held
   R = ready S own p t
 
-  abbrev E : Held
-  E = early S own p t R
-
   abbrev A : Held
-  A = after_C S own p t E
-
-  abbrev B : Held
-  B = after_D S own p t A
+  A = after_C S own p t (early S own p t R)
 
   abbrev mine_p : ℕ → Bool
   mine_p = has S own (less S own) p t
@@ -115,9 +108,6 @@ module _ (S : Setup) (own : Owner) (p q t : ℕ) (law : Lawful S) (arrivals : Ar
 
   abbrev W1 : World
   W1 = world_at S (suc t)
-
-  abbrev short : Short S own p t (late_of S own (less S own) p t) mine_p V E
-  short = sh S own p t law.long (calm S own p t law)
 
   abbrev rows : List Row
   rows = flat_map (enters_queue (leads S own p q)) (flat_map (λ n. node_turns S t n V) (my_nodes S own p))
@@ -144,9 +134,9 @@ module _ (S : Setup) (own : Owner) (p q t : ℕ) (law : Lawful S) (arrivals : Ar
         ]
       ]
 
-  vehicles_same : map (passed_here R) (flat_map (enters_queue (leads S own p q)) (moves_of (C_part S own p t E))) ≡ map (passed (world_at S t)) (flat_map (enters_queue (leads S own p q)) (node_phase_moves S t))
+  vehicles_same : map (passed_here R) (flat_map (enters_queue (leads S own p q)) (moves_of (C_part S own p t (early S own p t R)))) ≡ map (passed (world_at S t)) (flat_map (enters_queue (leads S own p q)) (node_phase_moves S t))
   vehicles_same =
-      ap (λ ms. map (passed_here R) (flat_map (enters_queue (leads S own p q)) ms)) (C_part-moves S own p t (late_of S own (less S own) p t) mine_p V E short)
+      ap (λ ms. map (passed_here R) (flat_map (enters_queue (leads S own p q)) ms)) (my_turns S own p t law arrivals)
       ∙ same_passed R (world_at S t) rows elements_known
       ∙ ap (map (passed (world_at S t))) (sym (ap (flat_map (enters_queue (leads S own p q))) turns_are ∙ leads_mine S own p q t V (below S.nodes)))
 
@@ -169,7 +159,7 @@ module _ (S : Setup) (own : Owner) (p q t : ℕ) (law : Lawful S) (arrivals : Ar
   flight_of i true P = refl
   flight_of i false P = refl
 
-  one_flight : (i : ℕ) → i < length S.persons → flight_to S own q t i (B.person i) ≡ flight_from S own p q t W1 i
+  one_flight : (i : ℕ) → i < length S.persons → flight_to S own q t i ((after_D S own p t A).person i) ≡ flight_from S own p q t W1 i
   one_flight i lt =
       let P1 = person_of i W1 in
       ap (flight_to S own q t i) (D_after-person S own p t law arrivals i) ∙ flight_of i (mine_p i) P1
@@ -186,5 +176,5 @@ module _ (S : Setup) (own : Owner) (p q t : ℕ) (law : Lawful S) (arrivals : Ar
   pub parcel_is : parcel_to S own p t R q ≡ out S own p q t
   unfolding parcel_to out
   parcel_is = same_parcel (parcel_to S own p t R q) (out S own p q t) vehicles_same
-      (same_numbers (λ i. flight_to S own q t i (B.person i)) (flight_from S own p q t W1) (length S.persons) one_flight 0 (length S.persons) (omega arith))
+      (same_numbers (λ i. flight_to S own q t i ((after_D S own p t A).person i)) (flight_from S own p q t W1) (length S.persons) one_flight 0 (length S.persons) (omega arith))
       freed_same

@@ -6,6 +6,7 @@ pub mod Sleep
 pub mod Marking
 pub mod Waking
 pub mod Starts
+pub mod OneLink
 pub mod Places
 pub mod Whole
 pub mod Skipping

@@ -3,7 +3,7 @@ use Rattle.std.proofs.Common.{◌≡◌, ◌≢◌, ℕ, zero, suc, ◌+◌, ◌
 use Rattle.std.proofs.Common.{◌∙◌, subst, eqb, arith, inl, inr, append-nil, length-append}
 use Rattle.std.specs.Prelude.{filter, if◌then◌else◌, ◌⊎◌, replicate, nat_le, nat_lt}
 use Rattle.std.specs.List.{flat_map}
-use Rattle.std.proofs.lemmas.Bool.{cases_Bool, cases_lt, eqb-true, eqb-false, ne_eqb, eq-eqb, lt-ltb}
+use Rattle.std.proofs.lemmas.Bool.{cases_Bool, cases_lt, eqb-false, ne_eqb, eq-eqb, lt-ltb}
 use Rattle.std.proofs.lemmas.List.Elements.{filter-append}
 use Rattle.events.specs.declared.event.Phase.TheVariants as phase
 use Rattle.fixed_flow.specs.declared.TheConstants.{VEHICLE_COST}
@@ -31,6 +31,7 @@ use Rattle.traffic.proofs.Nodes.{node-buffers, buffers-holes}
 use Rattle.traffic.proofs.Links.{link-at, untouched_all}
 use Rattle.traffic.proofs.Phases.{links_apart}
 use Rattle.law_sleeping.proofs.Starts.{phase_moves}
+use Rattle.law_sleeping.proofs.OneLink.{none_of, one_of}
 
 -- A LINK'S OWN TURN
 -- rows leave this queue, each for a hole
@@ -163,32 +164,6 @@ other_holes : (l m : ℕ) (ms : List Move) (hs : List ℕ) → m ≢ l → AreAt
 other_holes l m [] hs ne h = refl
 other_holes l m (x ∷ ms) hs ne h = ap (hole_after_all m ms) (other_hole l m x hs ne h.0) ∙ other_holes l m ms hs ne h.1
 
-links_none : (S : Setup) (t m : ℕ) (V : World) (k count : ℕ) (hs : List ℕ) → m < k
-    → hole_after_all m (flat_map (λ l. link_turns S t l V) (numbers k count)) hs ≡ hs
-links_none S t m V k zero hs h = refl
-links_none S t m V k (suc count) hs h =
-    let later = flat_map (λ l. link_turns S t l V) (numbers (k + 1) count) in
-    holes_append m (link_turns S t k V) later hs
-    ∙ ap (hole_after_all m later) (other_holes k m (link_turns S t k V) hs (λ q. omega arith) (link-at S t k V))
-    ∙ links_none S t m V (k + 1) count hs (omega arith)
-
-links_one : (S : Setup) (t m : ℕ) (V : World) (k count : ℕ) (hs : List ℕ) → k ≤ m → m < k + count
-    → hole_after_all m (flat_map (λ l. link_turns S t l V) (numbers k count)) hs ≡ hole_after_all m (link_turns S t m V) hs
-links_one S t m V k zero hs low high = absurd (omega arith)
-links_one S t m V k (suc count) hs low high =
-    let later = flat_map (λ l. link_turns S t l V) (numbers (k + 1) count) in
-    holes_append m (link_turns S t k V) later hs
-    ∙ elim (cases_Bool (eqb k m)) [
-      | inl e ↦
-          let q = eqb-true k m e in
-          links_none S t m V (k + 1) count (hole_after_all m (link_turns S t k V) hs) (omega arith)
-          ∙ ap (λ (l : ℕ). hole_after_all m (link_turns S t l V) hs) q
-      | inr e ↦
-          let q : k ≢ m = eqb-false k m e in
-          ap (hole_after_all m later) (other_holes k m (link_turns S t k V) hs (λ i. q (sym i)) (link-at S t k V))
-          ∙ links_one S t m V (k + 1) count hs (omega arith) (omega arith)
-    ]
-
 -- the holes and the queue after the phase of links
 links_holes : (S : Setup) (t m : ℕ) (V : World) → m < length S.links → holes_at m (after S t (turns_in S t phase.D V) V)
     ≡ hole_after_all m (link_turns S t m V) (holes_at m V)
@@ -196,7 +171,7 @@ unfolding turns_of
 links_holes S t m V lt =
     holes-run S t m (moves_of (turns_in S t phase.D V)) V
     ∙ ap (λ (ms : List Move). hole_after_all m ms (holes_at m V)) (phase_moves S t phase.D V)
-    ∙ links_one S t m V 0 (length S.links) (holes_at m V) (omega arith) (omega arith)
+    ∙ one_of (hole_after_all m) S t m V (holes_append m) (λ l. other_holes l m) 0 (length S.links) (holes_at m V) (omega arith) (omega arith)
 
 links_queue : (S : Setup) (t m : ℕ) (V : World) → m < length S.links → at m Queue (after S t (turns_in S t phase.D V) V)
     ≡ at_after_all m Queue (link_turns S t m V) (at m Queue V)
@@ -240,21 +215,12 @@ numbers_none : (m k count : ℕ) → k + count ≤ m → filter (λ y. eqb y m) 
 numbers_none m k zero le = refl
 numbers_none m k (suc count) le = let e = ne_eqb k m (λ q. omega arith) in simp e (numbers_none m (k + 1) count (omega arith))
 
-holes_beyond : (S : Setup) (t m : ℕ) (V : World) (k count : ℕ) (hs : List ℕ) → k + count ≤ m
-    → hole_after_all m (flat_map (λ l. link_turns S t l V) (numbers k count)) hs ≡ hs
-holes_beyond S t m V k zero hs h = refl
-holes_beyond S t m V k (suc count) hs h =
-    let later = flat_map (λ l. link_turns S t l V) (numbers (k + 1) count) in
-    holes_append m (link_turns S t k V) later hs
-    ∙ ap (hole_after_all m later) (other_holes k m (link_turns S t k V) hs (λ q. omega arith) (link-at S t k V))
-    ∙ holes_beyond S t m V (k + 1) count hs (omega arith)
-
 beyond_holes : (S : Setup) (t m : ℕ) (V : World) → length S.links ≤ m → holes_at m (after S t (turns_in S t phase.D V) V) ≡ holes_at m V
 unfolding turns_of
 beyond_holes S t m V le =
     holes-run S t m (moves_of (turns_in S t phase.D V)) V
     ∙ ap (λ (ms : List Move). hole_after_all m ms (holes_at m V)) (phase_moves S t phase.D V)
-    ∙ holes_beyond S t m V 0 (length S.links) (holes_at m V) (omega arith)
+    ∙ none_of (hole_after_all m) S t m V (holes_append m) (λ l. other_holes l m) 0 (length S.links) (holes_at m V) (λ l low high same. omega arith)
 
 beyond_queue : (S : Setup) (t m : ℕ) (V : World) → length S.links ≤ m → at m Queue (after S t (turns_in S t phase.D V) V) ≡ at m Queue V
 unfolding turns_in turns_of

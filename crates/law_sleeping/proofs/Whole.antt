@@ -1,9 +1,9 @@
 -- Whole seconds: places, buffers, lists.
 use Rattle.std.proofs.Common.{◌≡◌, ◌≢◌, ℕ, zero, suc, ◌+◌, ◌-◌, ◌<◌, ◌≤◌, Bool, true, false, List, [], ◌∷◌, ◌++◌, length, refl, ap, sym}
-use Rattle.std.proofs.Common.{◌∙◌, subst, eqb, arith, inl, inr, append-nil, append_assoc}
+use Rattle.std.proofs.Common.{◌∙◌, subst, arith, inl, inr, append-nil, append_assoc}
 use Rattle.std.specs.Prelude.{replicate, if◌then◌else◌, ◌⊎◌, nat_le, nat_lt}
-use Rattle.std.specs.List.{flat_map, AllByRecursion as Each}
-use Rattle.std.proofs.lemmas.Bool.{cases_Bool, eqb-true, eqb-false, ne_eqb, eq-eqb}
+use Rattle.std.specs.List.{AllByRecursion as Each}
+use Rattle.std.proofs.lemmas.Bool.{cases_Bool, ne_eqb, eq-eqb}
 use Rattle.events.specs.declared.event.Phase.TheVariants as phase
 use Rattle.fixed_flow.specs.declared.TheConstants.{VEHICLE_COST}
 use Rattle.fixed_flow.specs.Flow.{raised, raised_times}
@@ -14,7 +14,6 @@ use Rattle.traffic.specs.declared.stage.Stage.{Stage}
 use Rattle.traffic.specs.declared.stage.Stage.TheVariants.{Queue, Buffer, Wait, Bay}
 use Rattle.traffic.specs.declared.world.Row.{Row}
 use Rattle.traffic.specs.declared.world.Waiter.{Waiter}
-use Rattle.traffic.specs.Lists.{numbers}
 use Rattle.traffic.specs.Rows.{World, on, at, holes_at}
 use Rattle.traffic.specs.Setup.{Setup, link_row, hole_of}
 use Rattle.traffic.specs.Stops.{calls_on, left_behind, served_row}
@@ -27,11 +26,12 @@ use Rattle.traffic.specs.Day.{link_turns, turns_of, turns_in, moves_of, after, t
 use Rattle.traffic.specs.Frames.{IsAt, AreAt}
 use Rattle.traffic.proofs.Sublists.{at_after-untouched, holes-run}
 use Rattle.traffic.proofs.Nodes.{buffers-holes}
-use Rattle.traffic.proofs.Links.{link-at, untouched_all}
+use Rattle.traffic.proofs.Links.{untouched_all}
 use Rattle.law_sleeping.specs.Quiet.{Sleeps, link_state_after, link_state_after_all}
 use Rattle.law_sleeping.specs.Marks.{IsBehind, Buffers, AreBehind, buffers_after, buffers_second}
 use Rattle.law_sleeping.specs.Waking.{NodeSleeps, SameFront, ForFront, IsRedUntil, NoneFree, NoneLeft}
 use Rattle.law_sleeping.proofs.Starts.{phase_moves, early_kept, early_holes, early_buffers}
+use Rattle.law_sleeping.proofs.OneLink.{one_of}
 use Rattle.law_sleeping.proofs.Places.{links_free, links_keep_places, nodes_keep_places, run_places, nodes_buffers}
 use Rattle.law_sleeping.proofs.Marking.{phase_behind, phase_links}
 use Rattle.law_sleeping.proofs.Waking.{node_kept}
@@ -232,32 +232,6 @@ pub link_state_append : (l : ℕ) (xs ys : List Move) (L : LinkState) → link_s
 link_state_append l [] ys L = refl
 link_state_append l (x ∷ xs) ys L = link_state_append l xs ys (link_state_after l x L)
 
-link_state_none_of : (S : Setup) (t m : ℕ) (V : World) (k count : ℕ) (L : LinkState) → m < k
-    → link_state_after_all m (flat_map (λ l. link_turns S t l V) (numbers k count)) L ≡ L
-link_state_none_of S t m V k zero L h = refl
-link_state_none_of S t m V k (suc count) L h =
-    let later = flat_map (λ l. link_turns S t l V) (numbers (k + 1) count) in
-    link_state_append m (link_turns S t k V) later L
-    ∙ ap (link_state_after_all m later) (link_state_other k m (link_turns S t k V) L (λ q. omega arith) (link-at S t k V))
-    ∙ link_state_none_of S t m V (k + 1) count L (omega arith)
-
-link_state_one_of : (S : Setup) (t m : ℕ) (V : World) (k count : ℕ) (L : LinkState) → k ≤ m → m < k + count
-    → link_state_after_all m (flat_map (λ l. link_turns S t l V) (numbers k count)) L ≡ link_state_after_all m (link_turns S t m V) L
-link_state_one_of S t m V k zero L low high = absurd (omega arith)
-link_state_one_of S t m V k (suc count) L low high =
-    let later = flat_map (λ l. link_turns S t l V) (numbers (k + 1) count) in
-    link_state_append m (link_turns S t k V) later L
-    ∙ elim (cases_Bool (eqb k m)) [
-      | inl e ↦
-          let q = eqb-true k m e in
-          link_state_none_of S t m V (k + 1) count (link_state_after_all m (link_turns S t k V) L) (omega arith)
-          ∙ ap (λ (l : ℕ). link_state_after_all m (link_turns S t l V) L) q
-      | inr e ↦
-          let q : k ≢ m = eqb-false k m e in
-          ap (link_state_after_all m later) (link_state_other k m (link_turns S t k V) L (λ i. q (sym i)) (link-at S t k V))
-          ∙ link_state_one_of S t m V (k + 1) count L (omega arith) (omega arith)
-    ]
-
 -- the lists of a link after all links had their turns is what its own turn made of it
 pub links_link_state : (S : Setup) (t l : ℕ) (V : World) → l < length S.links → l < length V.credits
     → link_state l (after S t (turns_in S t phase.D V) V) ≡ link_state_after_all l (link_turns S t l V) (link_state l V)
@@ -265,7 +239,7 @@ unfolding turns_of
 links_link_state S t l V lt long =
     link_state_run S t l (moves_of (turns_in S t phase.D V)) V long
     ∙ ap (λ (ms : List Move). link_state_after_all l ms (link_state l V)) (phase_moves S t phase.D V)
-    ∙ link_state_one_of S t l V 0 (length S.links) (link_state l V) (omega arith) (omega arith)
+    ∙ one_of (link_state_after_all l) S t l V (link_state_append l) (λ a. link_state_other a l) 0 (length S.links) (link_state l V) (omega arith) (omega arith)
 
 credit_alone : (l c : ℕ) (L : LinkState) → link_state_after_all l (Credit l c ∷ []) L ≡ record L { credit = c }
 credit_alone l c L = let e = eq-eqb l l refl in rw e refl

@@ -77,49 +77,36 @@ module _ (count : ℕ) (xs : List Pair) (ok : ArePairs count xs) where
   abbrev cs : List Channel
   cs = channels_of xs
 
+  -- which way of its pair a channel is
+  abbrev Ends : ℕ → ℕ → Type 0
+  Ends d k = ((from_of cs d ≡ (pair_at xs k).0) × (to_of cs d ≡ (pair_at xs k).1) × (d ≡ 2 * k) × (twin_of cs d ≡ 2 * k + 1))
+      ⊎ ((from_of cs d ≡ (pair_at xs k).1) × (to_of cs d ≡ (pair_at xs k).0) × (d ≡ 2 * k + 1) × (twin_of cs d ≡ 2 * k))
+
   -- a channel, its pair and the channel back
   record Known (d : ℕ) : Type 0 where
     k : ℕ
     below : k < length xs
     twin_in : twin_of cs d < length cs
-    ends : ((from_of cs d ≡ (pair_at xs k).0) × (to_of cs d ≡ (pair_at xs k).1) × (d ≡ 2 * k) × (twin_of cs d ≡ 2 * k + 1))
-        ⊎ ((from_of cs d ≡ (pair_at xs k).1) × (to_of cs d ≡ (pair_at xs k).0) × (d ≡ 2 * k + 1) × (twin_of cs d ≡ 2 * k))
+    ends : Ends d k
     soon : 1 ≤ lag_of cs d
     late : lag_of cs d ≤ 32
+
+  known_by : (d k : ℕ) (is : Channel) → k < length xs → get_or cs d no_channel ≡ is → is.twin < length cs → 1 ≤ is.lag → is.lag ≤ 32
+      → (from_of cs d ≡ is.from → to_of cs d ≡ is.to → twin_of cs d ≡ is.twin → Ends d k) → Known d
+  known_by d k is below e twin soon late ends = let tw = ap (λ (x : Channel). x.twin) e in let lg = ap (λ (x : Channel). x.lag) e in record {
+    k = k;
+    below = below;
+    twin_in = omega arith;
+    ends = ends (ap (λ (x : Channel). x.from) e) (ap (λ (x : Channel). x.to) e) tw;
+    soon = omega arith;
+    late = omega arith;
+  }
 
   known : (d : ℕ) → d < length cs → Known d
   known d lt = let l = length-channels_from 0 xs in let h = channel_is 0 xs d (omega arith) in let k : ℕ = h.0 in
       let b : k < length xs = h.1 in let p = ok.each k b in ⊎_elim
-      (λ u. let tw : twin_of cs d ≡ 0 + 2 * k + 1 = ap (λ (x : Channel). x.twin) u.1 in let lg = ap (λ (x : Channel). x.lag) u.1 in
-      let lo = p.2 in let hi = p.3 in
-      record {
-        k = k;
-        below = b;
-        twin_in = omega arith;
-        ends = inl (
-          ap (λ (x : Channel). x.from) u.1,
-          ap (λ (x : Channel). x.to) u.1,
-          u.0,
-          omega arith,
-        );
-        soon = omega arith;
-        late = omega arith;
-      })
-      (λ u. let tw : twin_of cs d ≡ 0 + 2 * k = ap (λ (x : Channel). x.twin) u.1 in let lg = ap (λ (x : Channel). x.lag) u.1 in
-      let lo = p.4 in let hi = p.5 in
-      record {
-        k = k;
-        below = b;
-        twin_in = omega arith;
-        ends = inr (
-          ap (λ (x : Channel). x.from) u.1,
-          ap (λ (x : Channel). x.to) u.1,
-          u.0,
-          omega arith,
-        );
-        soon = omega arith;
-        late = omega arith;
-      })
+      (λ u. known_by d k (channel_there (pair_at xs k) (0 + 2 * k)) b u.1 (omega arith) p.2 p.3 (λ from to twin. inl (from, to, u.0, omega arith)))
+      (λ u. known_by d k (channel_back (pair_at xs k) (0 + 2 * k)) b u.1 (omega arith) p.4 p.5 (λ from to twin. inr (from, to, u.0, omega arith)))
       h.2
 
   ends_of : (d : ℕ) → d < length cs → (from_of cs d < count) × (to_of cs d < count) × (from_of cs d ≢ to_of cs d)

@@ -1,0 +1,5 @@
+pub mod Entries
+pub mod Runs
+pub mod Fronts
+pub mod Places
+pub mod Drawing

@@ -1,7 +1,9 @@
 -- The keys of the settings, and which values each may have.
-use Rattle.std.specs.Prelude.{ℕ, ◌-◌, ◌^◌, Bool, false, not, ◌||◌, bytes_eq, codes, is_some, List, [], ◌∷◌, ◌++◌, Option, None, Some, ℤ, pos, neg_ℤ}
+use Rattle.std.specs.Prelude.{◌≡◌, ℕ, ◌-◌, ◌^◌, Bool, true, false, not, ◌||◌, bytes_eq, codes, is_some, List, [], ◌∷◌, ◌++◌, Option, None, Some, option_and_then, Result, Ok, Err, ℤ, pos, neg_ℤ}
 use Rattle.std.specs.List.{list_any}
 use Rattle.limits.specs.declared.TheConstants.{LAST_SECOND, MAX_DWELL, MAX_PERMILLE, MAX_SPEED}
+use Rattle.edge_files.specs.declared.reasons.Reason.{Reason}
+use Rattle.edge_files.specs.declared.reasons.Reason.TheVariants as reason
 use Rattle.scoring.specs.declared.TheConstants.{MAX_PER_SECOND, MAX_WORTH}
 use Rattle.serde_json.specs.Data.{Data, Members}
 use Rattle.serde_json.specs.Find.{get_member}
@@ -58,6 +60,11 @@ has_unknown_key members =
 abbrev pub is_bad : (Data → Bool) → Option Data → Bool
 is_bad allowed None = false
 is_bad allowed (Some value) = not (allowed value)
+
+-- what is told of a key: the number that it is given, or that its value is not allowed
+abbrev pub TellsKey : {A : Type 0} → (Data → Bool) → (Data → Option A) → Option Data → Result (Option A) Reason → Type 0
+TellsKey allowed says value (Ok number) = (is_bad allowed value ≡ false) × (number ≡ option_and_then says value)
+TellsKey allowed says value (Err why) = (why ≡ reason.ValueBad) × (is_bad allowed value ≡ true)
 
 -- a key of a day is given a value that it may not have, and a key of scores
 unfoldable pub has_bad_value : Members → Bool

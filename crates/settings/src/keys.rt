@@ -1,28 +1,20 @@
-ghost use Rattle.std.specs.Prelude.{◌≡◌, ◌≤◌, ◌<◌, ◌^◌, ◌≤ℤ◌, true, false, Some, IfOk, OnOk, IfErr, IfSome, option_map, is_some};
+ghost use Rattle.std.specs.Prelude.{◌≤◌, ◌≤ℤ◌, IfOk, IfSome};
 ghost use Rattle.serde_json.specs.Find.{get_member};
-ghost use Rattle.serde_json.specs.View.{view, members_view};
-ghost use Rattle.settings.specs.Looking.{whole_in, signed_in};
-ghost use Rattle.settings.specs.Keys.{is_whole, is_signed, is_bad};
-ghost use Rattle.settings.specs.Values.{given};
-ghost use Rattle.settings.specs.Scoring.{given_signed};
+ghost use Rattle.serde_json.specs.View.{members_view};
+ghost use Rattle.settings.specs.Looking.{whole, signed};
+ghost use Rattle.settings.specs.Keys.{is_whole, is_signed, TellsKey};
 
-use crate::looking::{member, signed_in, small_in, whole_in};
+use crate::looking::{member, signed_in, whole_in};
 use edge_files::Reason;
 use serde_json::{Map, Value};
 
+/// The number that a key is given, or the reason against its value.
+pub type Given<T> = Result<Option<T>, Reason>;
+
 /// The whole number that a key is given, where it is given one from `low` to `high` or nothing.
 #[tactic(auto, using(crate::proofs::Numbers::whole_given))]
-pub fn given(
-    settings: &Map<String, Value>,
-    name: &str,
-    low: u64,
-    high: u64,
-) -> Result<Option<u64>, Reason>
-    ensures bad { IfErr result (λ reason. (reason ≡ Reason.ValueBad)
-        × (is_bad (is_whole low high) (get_member name.now (members_view settings.now.entries)) ≡ true)) }
-    ensures good { OnOk result
-        (is_bad (is_whole low high) (get_member name.now (members_view settings.now.entries)) ≡ false) }
-    ensures number { IfOk result (λ n. n ≡ given name.now (members_view settings.now.entries)) }
+pub fn given(settings: &Map<String, Value>, name: &str, low: u64, high: u64) -> Given<u64>
+    ensures key { TellsKey (is_whole low high) whole (get_member name.now (members_view settings.now.entries)) result }
     ensures within { IfOk result (λ o. IfSome o (λ n. (low ≤ n) × (n ≤ high))) }
 {
     let Some(value) = member(settings, name) else {
@@ -35,17 +27,8 @@ pub fn given(
 }
 
 /// The same, of a number of 32 bits.
-pub fn given_small(
-    settings: &Map<String, Value>,
-    name: &str,
-    low: u32,
-    high: u32,
-) -> Result<Option<u32>, Reason>
-    ensures bad { IfErr result (λ reason. (reason ≡ Reason.ValueBad)
-        × (is_bad (is_whole low high) (get_member name.now (members_view settings.now.entries)) ≡ true)) }
-    ensures good { OnOk result
-        (is_bad (is_whole low high) (get_member name.now (members_view settings.now.entries)) ≡ false) }
-    ensures number { IfOk result (λ n. n ≡ given name.now (members_view settings.now.entries)) }
+pub fn given_small(settings: &Map<String, Value>, name: &str, low: u32, high: u32) -> Given<u32>
+    ensures key { TellsKey (is_whole low high) whole (get_member name.now (members_view settings.now.entries)) result }
     ensures within { IfOk result (λ o. IfSome o (λ n. (low ≤ n) × (n ≤ high))) }
 {
     match given(settings, name, u64::from(low), u64::from(high)) {
@@ -56,18 +39,8 @@ pub fn given_small(
 }
 
 /// The same, of a number that may be below zero.
-#[tactic(auto, using(crate::proofs::Numbers::signed_kept))]
-pub fn given_signed(
-    settings: &Map<String, Value>,
-    name: &str,
-    low: i64,
-    high: i64,
-) -> Result<Option<i64>, Reason>
-    ensures bad { IfErr result (λ reason. (reason ≡ Reason.ValueBad)
-        × (is_bad (is_signed low high) (get_member name.now (members_view settings.now.entries)) ≡ true)) }
-    ensures good { OnOk result
-        (is_bad (is_signed low high) (get_member name.now (members_view settings.now.entries)) ≡ false) }
-    ensures number { IfOk result (λ n. n ≡ given_signed name.now (members_view settings.now.entries)) }
+pub fn given_signed(settings: &Map<String, Value>, name: &str, low: i64, high: i64) -> Given<i64>
+    ensures key { TellsKey (is_signed low high) signed (get_member name.now (members_view settings.now.entries)) result }
     ensures within { IfOk result (λ o. IfSome o (λ n. (low ≤ℤ n) × (n ≤ℤ high))) }
 {
     let Some(value) = member(settings, name) else {

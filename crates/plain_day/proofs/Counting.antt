@@ -1,6 +1,6 @@
 -- Loops over the numbers of links and persons.
 use Rattle.traffic.proofs.Common.{◌≡◌, ℕ, List, ◌∙◌, ap, refl, sym, [], ◌∷◌, arith, ◌<◌, true, ◌++◌, ◌+◌, Bool, ◌≤◌, false, suc, ◌-◌, append-nil}
-use Rattle.traffic.proofs.Common.{append_assoc, flat_map, map, filter, numbers}
+use Rattle.traffic.proofs.Common.{append_assoc, flat_map, map, filter, numbers, below}
 
 -- the numbers from k to n begin with k
 pub numbers-first : (k n : ℕ) → k < n → numbers k (n - k) ≡ k ∷ numbers (k + 1) (n - (k + 1))
@@ -38,3 +38,19 @@ went_all p f k n out all h g = let e : n - k ≡ 0 = omega arith in sym (append-
 
 pub went_through : {X : Type 0} (f : ℕ → List X) (k n : ℕ) (out all : List X) → n ≤ k → out ++ flat_map f (numbers k (n - k)) ≡ all → out ≡ all
 went_through f k n out all h g = let e : n - k ≡ 0 = omega arith in sym (append-nil out) ∙ (rw e at g)
+
+-- of the numbers below n those below k were seen: what passes of them gave a list, and the list is right
+pub record AreSeen {X : Type 0} (p : ℕ → Bool) (f : ℕ → X) (IsRight : List X → Type 0) (k n : ℕ) (out : List X) : Type 0 where
+  pub seen : out ++ map f (filter p (numbers k (n - k))) ≡ map f (filter p (below n))
+  pub right : IsRight out
+
+module _ {X : Type 0} (p : ℕ → Bool) (f : ℕ → X) (IsRight : List X → Type 0) where
+  pub seen_none : (n : ℕ) → IsRight [] → AreSeen p f IsRight 0 n []
+  seen_none n right = record { seen = ap (λ m. map f (filter p (numbers 0 m))) (omega arith); right = right }
+
+  pub seen_more : (k n : ℕ) (out : List X) (x : X) → AreSeen p f IsRight k n out → k < n → p k ≡ true → x ≡ f k → IsRight (out ++ x ∷ [])
+      → AreSeen p f IsRight (k + 1) n (out ++ x ∷ [])
+  seen_more k n out x so_far less passes is right = record { seen = went_in p f k n out x _ less passes is so_far.seen; right = right }
+
+  pub seen_past : (k n : ℕ) (out : List X) → AreSeen p f IsRight k n out → k < n → p k ≡ false → AreSeen p f IsRight (k + 1) n out
+  seen_past k n out so_far less passes = record { seen = went_by p f k n out _ less passes so_far.seen; right = so_far.right }

@@ -113,7 +113,8 @@ fn is_front_written(outputs: &MemoryOutputs, status: Status, room: usize) -> boo
     let plans = line + FIRST_LINE;
     let done = plans + SHORT_PLANS.len();
     let last_line = SHORT_REPORT.len().saturating_sub(FIRST_LINE);
-    let report = within(room, line, FIRST_LINE) + within(room, done, last_line);
+    let last = within(room, done, last_line);
+    let report = within(room, line, FIRST_LINE).saturating_add(last);
     is_written(outputs, OutFile::Events, front(SHORT_EVENTS, room))
         && is_written(
             outputs,

@@ -47,7 +47,7 @@ queue_moves_arrive : (K : Rules) (t l : ℕ) (ws : List Waiter) (b c : ℕ) (r :
 unfolding from_queue
 queue_moves_arrive K t l ws b c r rs w e0 e1 e2 = rw (e0, e1, e2) refl
 
-queue_moves_stay : (n : LinkNumbers) (dwell : Dwelling) (t : ℕ) (ws : List Waiter) (b c : ℕ) (q w : List Row) → queue_fate n t b c q ≡ Stays
+pub queue_moves_stay : (n : LinkNumbers) (dwell : Dwelling) (t : ℕ) (ws : List Waiter) (b c : ℕ) (q w : List Row) → queue_fate n t b c q ≡ Stays
     → from_queue (rules_of n dwell) t n.link ws b c q w ≡ from_wait (rules_of n dwell) t n.link ws b c w
 unfolding from_queue
 queue_moves_stay n dwell t ws b c [] w e = refl
@@ -92,7 +92,7 @@ halt_arrive l r ms rs b w y c said =
     λ i. record { turn = Arrive r.vehicle; lists = e i; told = said ++ arrives r }
 
 -- one more row is counted
-counted : (b : List Row) (r : Row) → length (b ++ r ∷ []) ≡ length b + 1
+pub counted : (b : List Row) (r : Row) → length (b ++ r ∷ []) ≡ length b + 1
 counted b r = length-append b (r ∷ [])
 
 passes_not_stays : Passes ≢ Stays
@@ -162,13 +162,64 @@ wait_moves_arrive : (K : Rules) (t l : ℕ) (ws : List Waiter) (b c : ℕ) (r : 
 unfolding from_wait
 wait_moves_arrive K t l ws b c r rs e1 e2 = rw (e1, e2) refl
 
-wait_moves_stay : (n : LinkNumbers) (dwell : Dwelling) (t : ℕ) (ws : List Waiter) (b c : ℕ) (w : List Row) → wait_fate n b c w ≡ Stays
+pub wait_moves_stay : (n : LinkNumbers) (dwell : Dwelling) (t : ℕ) (ws : List Waiter) (b c : ℕ) (w : List Row) → wait_fate n b c w ≡ Stays
     → from_wait (rules_of n dwell) t n.link ws b c w ≡ []
 unfolding from_wait
 wait_moves_stay n dwell t ws b c [] e = refl
 wait_moves_stay n dwell t ws b c (r ∷ rs) e =
     let h = stays_by (calls_on n.link r.vehicle) (is_last r.vehicle) (may_pass (rules_of n no_dwelling) b c) e in
     rw (h.0, h.1, h.2) refl
+
+-- the moves of a front by what comes of it
+pub queue_front_moves_pass : (n : LinkNumbers) (dwell : Dwelling) (t : ℕ) (ws : List Waiter) (b c : ℕ) (r : Row) (rs w : List Row)
+    → queue_fate n t b c (r ∷ rs) ≡ Passes
+    → from_queue (rules_of n dwell) t n.link ws b c (r ∷ rs) w ≡ Transfer n.link Queue 0 r (buffered t n.link b r) ∷ LeaveHole n.link t
+    ∷ Credit n.link (c - VEHICLE_COST) ∷ from_queue (rules_of n dwell) t n.link ws (b + 1) (c - VEHICLE_COST) rs w
+queue_front_moves_pass n dwell t ws b c r rs w e =
+    let d = due_by (nat_lt t r.second) (fate_of n b c r.vehicle) Passes e passes_not_stays in
+    let h = passes_by (calls_on n.link r.vehicle) (is_last r.vehicle) (may_pass (rules_of n no_dwelling) b c) d.1 in
+    queue_moves_pass (rules_of n dwell) t n.link ws b c r rs w d.0 h.0 h.1 h.2
+
+pub queue_front_moves_stop : (n : LinkNumbers) (dwell : Dwelling) (t : ℕ) (ws : List Waiter) (b c : ℕ) (r : Row) (rs w : List Row)
+    → queue_fate n t b c (r ∷ rs) ≡ Stops
+    → from_queue (rules_of n dwell) t n.link ws b c (r ∷ rs) w ≡ Transfer n.link Queue 0 r (served_row dwell t n.link ws r.vehicle)
+    ∷ LeaveHole n.link t ∷ from_queue (rules_of n dwell) t n.link (left_behind r.vehicle ws) b c rs w
+queue_front_moves_stop n dwell t ws b c r rs w e =
+    let d = due_by (nat_lt t r.second) (fate_of n b c r.vehicle) Stops e stops_not_stays in
+    let h = stops_by (calls_on n.link r.vehicle) (is_last r.vehicle) (may_pass (rules_of n no_dwelling) b c) d.1 in
+    queue_moves_stop (rules_of n dwell) t n.link ws b c r rs w d.0 h
+
+pub queue_front_moves_arrive : (n : LinkNumbers) (dwell : Dwelling) (t : ℕ) (ws : List Waiter) (b c : ℕ) (r : Row) (rs w : List Row)
+    → queue_fate n t b c (r ∷ rs) ≡ Arrives
+    → from_queue (rules_of n dwell) t n.link ws b c (r ∷ rs) w ≡ Remove n.link Queue 0 r ∷ LeaveHole n.link t
+    ∷ from_queue (rules_of n dwell) t n.link ws b c rs w
+queue_front_moves_arrive n dwell t ws b c r rs w e =
+    let d = due_by (nat_lt t r.second) (fate_of n b c r.vehicle) Arrives e arrives_not_stays in
+    let h = arrives_by (calls_on n.link r.vehicle) (is_last r.vehicle) (may_pass (rules_of n no_dwelling) b c) d.1 in
+    queue_moves_arrive (rules_of n dwell) t n.link ws b c r rs w d.0 h.0 h.1
+
+pub wait_front_moves_pass : (n : LinkNumbers) (dwell : Dwelling) (t : ℕ) (ws : List Waiter) (b c : ℕ) (r : Row) (rs : List Row)
+    → wait_fate n b c (r ∷ rs) ≡ Passes
+    → from_wait (rules_of n dwell) t n.link ws b c (r ∷ rs) ≡ Transfer n.link Wait 0 r (buffered t n.link b r)
+    ∷ Credit n.link (c - VEHICLE_COST) ∷ from_wait (rules_of n dwell) t n.link ws (b + 1) (c - VEHICLE_COST) rs
+wait_front_moves_pass n dwell t ws b c r rs e =
+    let h = passes_by (calls_on n.link r.vehicle) (is_last r.vehicle) (may_pass (rules_of n no_dwelling) b c) e in
+    wait_moves_pass (rules_of n dwell) t n.link ws b c r rs h.0 h.1 h.2
+
+pub wait_front_moves_stop : (n : LinkNumbers) (dwell : Dwelling) (t : ℕ) (ws : List Waiter) (b c : ℕ) (r : Row) (rs : List Row)
+    → wait_fate n b c (r ∷ rs) ≡ Stops
+    → from_wait (rules_of n dwell) t n.link ws b c (r ∷ rs) ≡ Transfer n.link Wait 0 r (served_row dwell t n.link ws r.vehicle)
+    ∷ from_wait (rules_of n dwell) t n.link (left_behind r.vehicle ws) b c rs
+wait_front_moves_stop n dwell t ws b c r rs e =
+    wait_moves_stop (rules_of n dwell) t n.link ws b c r rs
+    (stops_by (calls_on n.link r.vehicle) (is_last r.vehicle) (may_pass (rules_of n no_dwelling) b c) e)
+
+pub wait_front_moves_arrive : (n : LinkNumbers) (dwell : Dwelling) (t : ℕ) (ws : List Waiter) (b c : ℕ) (r : Row) (rs : List Row)
+    → wait_fate n b c (r ∷ rs) ≡ Arrives
+    → from_wait (rules_of n dwell) t n.link ws b c (r ∷ rs) ≡ Remove n.link Wait 0 r ∷ from_wait (rules_of n dwell) t n.link ws b c rs
+wait_front_moves_arrive n dwell t ws b c r rs e =
+    let h = arrives_by (calls_on n.link r.vehicle) (is_last r.vehicle) (may_pass (rules_of n no_dwelling) b c) e in
+    wait_moves_arrive (rules_of n dwell) t n.link ws b c r rs h.0 h.1
 
 wait_halt_pass : (l t d : ℕ) (r : Row) (ms : List Move) (q rs b y : List Row) (c : ℕ) (said : List Occurrence)
     → until_halt l (Transfer l Wait 0 r (buffered t l (length b) r) ∷ Credit l d ∷ ms) (lists_with q b (r ∷ rs) y c) said

@@ -6,11 +6,13 @@
 mod accesses;
 mod begins;
 mod fates;
+mod laws;
 mod numbers;
 mod sleeps;
 mod state;
 mod turns;
 
+pub use laws::turns_are_the_second;
 pub use numbers::{LinkNumbers, numbers_of};
 pub use state::LinkState;
 pub use turns::Turn;

@@ -1,7 +1,7 @@
 -- Those who wait at one stop.
-use Rattle.std.specs.Prelude.{◌≢◌, ℕ, List, [], ◌∷◌}
+use Rattle.std.specs.Prelude.{◌≢◌, ℕ, List, [], ◌∷◌, filter, ◌==◌}
 use Rattle.traffic.specs.declared.world.Waiter.{Waiter}
-use Rattle.traffic.specs.Stops.{ComesBefore}
+use Rattle.traffic.specs.Stops.{ComesBefore, in_turn}
 
 -- none of these is the person
 abbrev pub NobodyIs : ℕ → List Waiter → Type 0
@@ -21,3 +21,12 @@ ComesBeforeAll w (x ∷ xs) = ComesBefore w x × ComesBeforeAll w xs
 abbrev pub AreWaiting : List Waiter → Type 0
 AreWaiting [] = Unit {0}
 AreWaiting (w ∷ ws) = ComesBeforeAll w ws × NobodyIs w.person ws × AreWaiting ws
+
+-- each of these waits once
+abbrev pub AreOnce : List Waiter → Type 0
+AreOnce [] = Unit {0}
+AreOnce (w ∷ ws) = NobodyIs w.person ws × AreOnce ws
+
+-- those of them who wait at stop s, in turn
+abbrev pub at_stop : ℕ → List Waiter → List Waiter
+at_stop s ws = in_turn (filter (λ (w : Waiter). w.stop == s) ws)

@@ -2,8 +2,10 @@
 //! exactly as `traffic` says it.
 #![tactic(auto)]
 
+mod laws;
 mod serves;
 mod waiting;
 
+pub use laws::stops_keep_apart;
 pub use serves::Served;
 pub use waiting::Waiting;

@@ -1,0 +1,3 @@
+pub mod Dropping
+pub mod Weights
+pub mod Orders

@@ -1,0 +1,111 @@
+-- Among scores there is one that stands to all as the worst does, and one that stands to all as the best does.
+use Rattle.std.proofs.Common.{◌≡◌, ℕ, zero, suc, ◌+◌, ◌<◌, ◌≤◌, Bool, true, false, cond, ◌&&◌, List, [], ◌∷◌, length, get_or, ltb, Option, None, Some, ℤ, inl, inr, refl, sym, ◌∙◌, ap, subst, arith}
+use Rattle.std.specs.Prelude.{position, unwrap_or}
+use Rattle.std.specs.List.{list_all, position_or_len}
+use Rattle.std.proofs.lemmas.Int.{ints}
+use Rattle.std.proofs.lemmas.Bool.{and_from, and_parts, cases_lt}
+use Rattle.std.proofs.lemmas.Bool.Decides.{nat_tests}
+use Rattle.std.proofs.lemmas.List.Sums.{fails_before_first, passes_at_first}
+use Rattle.plan_memory.specs.Scores.{is_at_most, is_at_least, is_lowest, is_highest, worst, best}
+
+-- one score stands to itself, one of two stands to the other, and what stands to one that stands to a third stands to the third
+pub record IsOrder (stands : Option ℤ → Option ℤ → Bool) : Type 0 where
+  pub itself : (x : Option ℤ) → stands x x ≡ true
+  pub total : (x y : Option ℤ) → stands x y ≡ false → stands y x ≡ true
+  pub along : (x y z : Option ℤ) → stands x y ≡ true → stands y z ≡ true → stands x z ≡ true
+
+most_itself : (x : Option ℤ) → is_at_most x x ≡ true
+most_itself None = refl
+most_itself (Some a) = grind (arith, ints)
+
+most_total : (x y : Option ℤ) → is_at_most x y ≡ false → is_at_most y x ≡ true
+most_total None y e = cc
+most_total (Some a) None e = refl
+most_total (Some a) (Some b) e = grind (arith, ints)
+
+most_along : (x y z : Option ℤ) → is_at_most x y ≡ true → is_at_most y z ≡ true → is_at_most x z ≡ true
+most_along None y z p q = refl
+most_along (Some a) None z p q = cc
+most_along (Some a) (Some b) None p q = cc
+most_along (Some a) (Some b) (Some c) p q = grind (arith, ints)
+
+at_most : IsOrder is_at_most
+at_most = record { itself = most_itself; total = most_total; along = most_along }
+
+least_itself : (x : Option ℤ) → is_at_least x x ≡ true
+least_itself None = refl
+least_itself (Some a) = grind (arith, ints)
+
+least_total : (x y : Option ℤ) → is_at_least x y ≡ false → is_at_least y x ≡ true
+least_total None y e = cc
+least_total (Some a) None e = refl
+least_total (Some a) (Some b) e = grind (arith, ints)
+
+least_along : (x y z : Option ℤ) → is_at_least x y ≡ true → is_at_least y z ≡ true → is_at_least x z ≡ true
+least_along None y z p q = refl
+least_along (Some a) None z p q = cc
+least_along (Some a) (Some b) None p q = cc
+least_along (Some a) (Some b) (Some c) p q = grind (arith, ints)
+
+at_least : IsOrder is_at_least
+at_least = record { itself = least_itself; total = least_total; along = least_along }
+
+-- the first place at which a test passes, where there is one
+at_first : (p : Option ℤ → Bool) (xs : List (Option ℤ)) → position_or_len p xs < length xs
+    → unwrap_or (position p xs) 0 ≡ position_or_len p xs
+at_first p xs there = let is : ltb (position_or_len p xs) (length xs) ≡ true = grind (arith, nat_tests) in rw is refl
+
+-- where a test passes at some place, it passes at the first one
+first_passes : (p : Option ℤ → Bool) (xs : List (Option ℤ)) (i : ℕ) → i < length xs → p (get_or xs i None) ≡ true
+    → p (get_or xs (unwrap_or (position p xs) 0) None) ≡ true
+first_passes p xs i within passes = elim (cases_lt (position_or_len p xs) (length xs)) [
+  inl there ↦ rw (at_first p xs there) (passes_at_first p xs None there)
+  | inr none ↦ let fails = fails_before_first p xs i None (omega arith) in cc
+]
+
+-- a score of a list that stands to all of it
+record First (stands : Option ℤ → Option ℤ → Bool) (scores : List (Option ℤ)) : Type 0 where
+  place : ℕ
+  within : place < length scores
+  to_all : list_all (stands (get_or scores place None)) scores ≡ true
+
+module _ (stands : Option ℤ → Option ℤ → Bool) (order : IsOrder stands) where
+  along_all : (x m : Option ℤ) → stands x m ≡ true → (ys : List (Option ℤ)) → list_all (stands m) ys ≡ true → list_all (stands x) ys ≡ true
+  along_all x m e [] all = refl
+  along_all x m e (y ∷ ys) all =
+      and_from (stands x y) (list_all (stands x) ys) (order.along x m y e ((and_parts (stands m y) (list_all (stands m) ys) all).0))
+      (along_all x m e ys ((and_parts (stands m y) (list_all (stands m) ys) all).1))
+
+  one_more : (x : Option ℤ) (ys : List (Option ℤ)) → (rest : First stands ys) → (b : Bool) → stands x (get_or ys rest.place None) ≡ b
+      → First stands (x ∷ ys)
+  one_more x ys rest true e = record {
+    place = zero;
+    within = omega arith;
+    to_all = and_from (stands x x) (list_all (stands x) ys) (order.itself x) (along_all x (get_or ys rest.place None) e ys rest.to_all);
+  }
+  one_more x ys rest false e = record {
+    place = suc rest.place;
+    within = omega (arith, rest.within);
+    to_all =
+        and_from (stands (get_or ys rest.place None) x) (list_all (stands (get_or ys rest.place None)) ys)
+        (order.total x (get_or ys rest.place None) e) rest.to_all;
+  }
+
+  first : (x : Option ℤ) (xs : List (Option ℤ)) → First stands (x ∷ xs)
+  first x [] = record { place = zero; within = omega arith; to_all = and_from (stands x x) true (order.itself x) refl }
+  first x (y ∷ ys) = one_more x (y ∷ ys) (first y ys) (stands x (get_or (y ∷ ys) (first y ys).place None)) refl
+
+  pub stands_first : (scores : List (Option ℤ)) → 0 < length scores
+      → list_all (stands (get_or scores (unwrap_or (position (λ score. list_all (stands score) scores) scores) 0) None)) scores ≡ true
+  stands_first [] some = absurd (omega arith)
+  stands_first (x ∷ xs) some =
+      let f = first x xs in
+      first_passes (λ score. list_all (stands score) (x ∷ xs)) (x ∷ xs) f.place f.within f.to_all
+
+pub worst_is_lowest : (scores : List (Option ℤ)) → 0 < length scores → is_lowest scores (get_or scores (worst scores) None) ≡ true
+unfolding worst is_lowest
+worst_is_lowest scores some = stands_first is_at_most at_most scores some
+
+pub best_is_highest : (scores : List (Option ℤ)) → 0 < length scores → is_highest scores (get_or scores (best scores) None) ≡ true
+unfolding best is_highest
+best_is_highest scores some = stands_first is_at_least at_least scores some

@@ -1,0 +1,4 @@
+pub mod Scores
+pub mod Choices
+pub mod Memories
+pub mod Views

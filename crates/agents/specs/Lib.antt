@@ -1,3 +1,2 @@
 pub mod Due
-pub mod DueViews
 pub mod AgentsViews

@@ -1,11 +1,11 @@
-use crate::due::DueList;
+use calendar::Calendar;
 use std::marker::Model;
 
 /// Whose activity and whose teleported leg end in which second.
 #[derive(Drop)]
 pub struct Agents {
-    pub(crate) ends: DueList,
-    pub(crate) flights: DueList,
+    pub(crate) ends: Calendar,
+    pub(crate) flights: Calendar,
 }
 
 impl Model for Agents {

@@ -2,8 +2,6 @@
 #![tactic(auto)]
 
 mod agents_due;
-mod due;
-mod due_lists;
 mod phases;
 
 pub use agents_due::Agents;

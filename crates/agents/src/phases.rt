@@ -2,10 +2,11 @@
 
 ghost use Rattle.std.specs.Prelude.{◌≡◌, [], OnOk, IsPermutation, IsSorted};
 ghost use Rattle.std.specs.Ordering.{nat_cmp};
-ghost use Rattle.agents.specs.Due.{due_at, HasNone, HasOneMore, HasOneMoreWhere};
+ghost use Rattle.calendar.specs.Due.{due_at, HasNone, HasOneMore};
+ghost use Rattle.agents.specs.Due.{HasOneMoreWhere};
 
 use crate::agents_due::Agents;
-use crate::due::DueList;
+use calendar::Calendar;
 use events::Rows;
 use std::alloc::{AllocError, Global};
 
@@ -13,7 +14,7 @@ use std::alloc::{AllocError, Global};
 pub type PersonList = Rows<u32>;
 
 /// Those who are due in a second, by number.
-fn in_order(due: &mut DueList, second: u32) -> PersonList
+fn in_order(due: &mut Calendar, second: u32) -> PersonList
     ensures same { IsPermutation (due_at second due.old) result }
     ensures order { IsSorted nat_cmp result }
     ensures rest { HasNone second due.old due.new }
@@ -30,8 +31,8 @@ impl Agents {
         ensures flights { result.flights ≡ [] }
     {
         Agents {
-            ends: DueList::new(alloc),
-            flights: DueList::new(alloc),
+            ends: Calendar::new(alloc),
+            flights: Calendar::new(alloc),
         }
     }
 

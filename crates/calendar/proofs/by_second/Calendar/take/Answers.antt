@@ -1,6 +1,6 @@
 use Rattle.std.proofs.Common.{rules}
-use Rattle.agents.proofs.Tables.{taken_row}
-use Rattle.agents.proofs.due.DueList.take.Goals as goal
+use Rattle.calendar.proofs.Tables.{taken_row}
+use Rattle.calendar.proofs.by_second.Calendar.take.Goals as goal
 
 pub returns-then-place-len-clause-rest : goal.returns-then-place-len-clause-rest
 returns-then-place-len-clause-rest c = rw (← c.self.view_is)

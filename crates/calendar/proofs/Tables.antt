@@ -1,10 +1,10 @@
--- A table of persons by second, with one second more, one person more, or nobody in a second.
+-- A table of numbers by second, with one second more, one number more, or none in a second.
 use Rattle.std.proofs.Common.{◌≡◌, ℕ, zero, suc, ◌<◌, ◌≤◌, List, [], ◌∷◌, ◌++◌, length, get_or, refl, ap, sym, ◌∙◌, arith}
 use Rattle.std.proofs.Common.{inl, inr, Vec, Global}
 use Rattle.std.specs.Prelude.{map, set, vec_items, ◌==◌, if◌then◌else◌}
 use Rattle.std.proofs.lemmas.Bool.{cases_Bool, eqb-true, eqb-false}
 use Rattle.std.proofs.lemmas.List.{get_or-set_same, get_or-set_other, length-map, map-set}
-use Rattle.agents.specs.Due.{Due, due_at, HasOneMore, HasNone}
+use Rattle.calendar.specs.Due.{Due, due_at, HasOneMore, HasNone}
 
 pub reached : (due : Due) (u : ℕ) → due_at u (due ++ [] ∷ []) ≡ due_at u due
 reached [] zero = refl
@@ -73,3 +73,9 @@ taken_row rows t w lt e =
 
 pub within : (rows : List (Vec ℕ Global)) (t : ℕ) → t < length (map vec_items rows) → t < length rows
 within rows t lt = let n = length-map rows vec_items in omega arith
+
+pub kept_row : (rows : List (Vec ℕ Global)) (t : ℕ) (v w : Vec ℕ Global) → t < length rows → v ≡ get_or rows t v → w.items ≡ v.items
+    → map vec_items (set rows t w) ≡ map vec_items rows
+kept_row [] t v w lt e f = absurd (omega arith)
+kept_row (x ∷ rows) zero v w lt e f = ap (λ (ys : List ℕ). ys ∷ map vec_items rows) (f ∙ ap vec_items e)
+kept_row (x ∷ rows) (suc t) v w lt e f = ap (λ (ys : List (List ℕ)). vec_items x ∷ ys) (kept_row rows t v w (omega arith) e f)

@@ -1,7 +1,7 @@
 use Rattle.std.proofs.Common.{◌≡◌, ℕ, ◌+◌, ◌-◌, length}
-use Rattle.agents.specs.Due.{due_at}
-use Rattle.agents.specs.DueViews.{due_view}
-use Rattle.agents.proofs.due.DueList.reach.Given as goal
+use Rattle.calendar.specs.Due.{due_at}
+use Rattle.calendar.specs.DueViews.{due_view}
+use Rattle.calendar.proofs.by_second.Calendar.reach.Given as goal
 
 abbrev pub invariant-rows : goal.invariant-rows
 invariant-rows l = (u : ℕ) → due_at u (due_view l.self-inside) ≡ due_at u (due_view l.initial.self-inside)

@@ -1,0 +1,4 @@
+pub mod Due
+pub mod DueViews
+pub mod Waking
+pub mod WakesViews

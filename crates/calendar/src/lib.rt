@@ -1,0 +1,10 @@
+//! Numbers by the second in which they are due, so that in each second only those are looked at that have something to do.
+#![tactic(auto)]
+
+mod by_second;
+mod seconds;
+mod wake_ups;
+mod waking;
+
+pub use by_second::Calendar;
+pub use wake_ups::Wakes;

@@ -1,0 +1,69 @@
+//! Numbers come to a second, and are taken from it.
+
+ghost use Rattle.std.specs.Prelude.{◌≡◌, ℕ, ◌<◌, [], length, OnOk, OnErr};
+ghost use Rattle.calendar.specs.Due.{due_at, HasOneMore, HasNone};
+
+use crate::by_second::Calendar;
+use std::alloc::{AllocError, Global};
+use std::mem::replace;
+
+impl Calendar {
+    /// No number is due.
+    pub fn new(alloc: Global) -> Calendar
+        ensures { result ≡ [] }
+    {
+        Calendar {
+            rows: Vec::new(alloc),
+        }
+    }
+
+    /// The table reaches over this second from now on.
+    fn reach(&mut self, second: usize) -> Result<(), AllocError>
+        ensures long { OnOk result (second < length self.new) }
+        ensures same { (u : ℕ) → due_at u self.new ≡ due_at u self.old }
+    {
+        let alloc = *self.rows.allocator();
+        'rows: while self.rows.len() <= second {
+            self.rows.push(Vec::new(alloc))?;
+        }
+        Ok(())
+    }
+
+    /// The number is due in this second.
+    fn put(&mut self, second: usize, number: u32) -> Result<(), AllocError>
+        requires { second < length self.old }
+        ensures ok { OnOk result (HasOneMore second number self.old self.new) }
+        ensures err { OnErr result (self.new ≡ self.old) }
+    {
+        self.rows[second].push(number)?;
+        Ok(())
+    }
+
+    /// One number more is due in this second. There is a list for each second up to the last one that was given.
+    ///
+    /// # Errors
+    ///
+    /// `AllocError`: there is no memory for one more, or for the seconds up to then. The same ones are due then as before.
+    pub fn add(&mut self, second: u32, number: u32) -> Result<(), AllocError>
+        ensures ok { OnOk result (HasOneMore second number self.old self.new) }
+        ensures err { OnErr result ((u : ℕ) → due_at u self.new ≡ due_at u self.old) }
+    {
+        let place = second as usize;
+        self.reach(place)?;
+        self.put(place, number)?;
+        Ok(())
+    }
+
+    /// Takes those that are due in this second, in the order in which they came.
+    pub fn take(&mut self, second: u32) -> Vec<u32>
+        ensures due { result.items ≡ due_at second self.old }
+        ensures rest { HasNone second self.old self.new }
+    {
+        let alloc = *self.rows.allocator();
+        let place = second as usize;
+        if place < self.rows.len() {
+            return replace(&mut self.rows[place], Vec::new(alloc));
+        }
+        Vec::new(alloc)
+    }
+}

@@ -1,0 +1,139 @@
+//! Numbers are given the second in which they are woken, and are woken in it.
+
+ghost use Rattle.std.specs.Prelude.{◌≡◌, ◌<◌, ℕ, length, map, filter, set, replicate, None, OnOk, IfOk};
+ghost use Rattle.std.specs.List.{Contains};
+ghost use Rattle.std.specs.List.Sorted.{IsStrictlyIncreasing};
+ghost use Rattle.calendar.specs.Waking.{wake_of, is_second, is_woken, woken, slept, asleep, earlier};
+
+use crate::by_second::Calendar;
+use crate::wake_ups::Wakes;
+use std::alloc::{AllocError, Global};
+
+/// The same numbers, ascending, each once.
+fn ascending(numbers: Vec<u32>) -> Vec<u32>
+    ensures order { IsStrictlyIncreasing result.items }
+    ensures same { (n : ℕ) → Contains numbers.items n → Contains result.items n }
+    ensures no_more { (n : ℕ) → Contains result.items n → Contains numbers.items n }
+{
+    let mut ascending = numbers;
+    ascending.sort_unstable();
+    ascending.dedup();
+    ascending
+}
+
+/// Whether this is the second.
+fn is_second(second: u32, due: Option<u32>) -> bool
+    ensures { result ≡ is_second second due }
+{
+    match due {
+        None => false,
+        Some(due) => due == second,
+    }
+}
+
+/// The second of a number, where it has one.
+fn wake_of(due: &[Option<u32>], number: u32) -> Option<u32>
+    ensures { result ≡ wake_of due.now number }
+{
+    let place = number as usize;
+    if place < due.len() {
+        return due[place];
+    }
+    None
+}
+
+/// Keeps those of the numbers that are woken in this second.
+fn keep_woken(second: u32, due: &[Option<u32>], numbers: &mut Vec<u32>)
+    ensures { numbers.new.items ≡ filter (is_woken second due.now) numbers.old.items }
+{
+    numbers.retain(|number| is_second(second, wake_of(due, *number)));
+}
+
+/// These numbers are not woken any more.
+fn lull(numbers: &[u32], due: &mut Vec<Option<u32>>)
+    ensures { due.new.items ≡ asleep numbers.now due.old.items }
+{
+    for number in numbers {
+        let place = *number as usize;
+        if place < due.len() {
+            due[place] = None;
+        }
+    }
+}
+
+/// No second for so many numbers.
+fn no_seconds(alloc: Global, count: usize) -> Result<Vec<Option<u32>>, AllocError>
+    ensures { IfOk result (λ due. due.items ≡ replicate count None) }
+{
+    let mut due = Vec::new(alloc);
+    due.resize(count, None)?;
+    Ok(due)
+}
+
+impl Wakes {
+    /// So many numbers, of which none is woken.
+    ///
+    /// # Errors
+    ///
+    /// `AllocError`: there is no memory for them.
+    #[tactic(auto, using(crate::proofs::Hung::hung_fresh))]
+    pub fn new(alloc: Global, count: usize) -> Result<Wakes, AllocError>
+        ensures { IfOk result (λ wakes. wakes ≡ replicate count None) }
+    {
+        let due = no_seconds(alloc, count)?;
+        Ok(Wakes {
+            due,
+            calendar: Calendar::new(alloc),
+        })
+    }
+
+    /// The second in which a number is woken, where it is.
+    pub fn due(&self, number: u32) -> Option<u32>
+        ensures { result ≡ wake_of self.now number }
+    {
+        wake_of(&self.due, number)
+    }
+
+    /// A number is woken in this second, or not at all, whatever was asked before.
+    ///
+    /// # Errors
+    ///
+    /// `AllocError`: there is no memory for it. The table is then of no use.
+    pub fn set(&mut self, number: u32, second: Option<u32>) -> Result<(), AllocError>
+        requires { number < length self.old }
+        ensures { OnOk result (self.new ≡ set self.old number second) }
+    {
+        if let Some(second) = second {
+            self.calendar.add(second, number)?;
+        }
+        self.due[number as usize] = second;
+        Ok(())
+    }
+
+    /// A number is woken in this second at the latest.
+    ///
+    /// # Errors
+    ///
+    /// `AllocError`: there is no memory for it. The table is then of no use.
+    pub fn wake(&mut self, number: u32, second: u32) -> Result<(), AllocError>
+        requires { number < length self.old }
+        ensures { OnOk result (self.new ≡ set self.old number (earlier second (wake_of self.old number))) }
+    {
+        let second = match self.due(number) {
+            None => second,
+            Some(due) => second.min(due),
+        };
+        self.set(number, Some(second))
+    }
+
+    /// Takes those who are woken in this second, ascending; they are not woken any more then.
+    pub fn take(&mut self, second: u32) -> Vec<u32>
+        ensures woken { result.items ≡ woken second self.old }
+        ensures slept { self.new ≡ map (slept second) self.old }
+    {
+        let mut numbers = ascending(self.calendar.take(second));
+        keep_woken(second, &self.due, &mut numbers);
+        lull(&numbers, &mut self.due);
+        numbers
+    }
+}

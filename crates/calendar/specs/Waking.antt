@@ -1,5 +1,5 @@
 -- When each of some numbers is next woken.
-use Rattle.std.specs.Prelude.{◌≡◌, ℕ, zero, suc, ◌<◌, Bool, false, List, [], ◌∷◌, length, get_or, min, set, ◌==◌, if◌then◌else◌, Option, None, Some}
+use Rattle.std.specs.Prelude.{◌≡◌, ℕ, suc, Bool, false, List, [], ◌∷◌, get_or, min, set, ◌==◌, if◌then◌else◌, Option, None, Some}
 use Rattle.std.specs.List.{Contains}
 use Rattle.calendar.specs.Due.{Due, due_at}
 

@@ -1,6 +1,5 @@
 -- The turns of a link, one after the other, are its moves.
-use Rattle.std.proofs.Common.{◌≡◌, ℕ, ◌+◌, ◌-◌, Bool, true, false, List, [], ◌∷◌, ◌++◌, length, refl, ap, sym, ◌∙◌, subst, append-nil, append_assoc}
-use Rattle.std.specs.Prelude.{nat_lt}
+use Rattle.std.proofs.Common.{◌≡◌, ℕ, ◌+◌, ◌-◌, List, [], ◌∷◌, ◌++◌, length, refl, ap, sym, ◌∙◌, subst, append-nil, append_assoc}
 use Rattle.std.specs.List.{flat_map}
 use Rattle.fixed_flow.specs.declared.TheConstants.{VEHICLE_COST}
 use Rattle.rows.specs.declared.settings.Dwelling.{Dwelling}
@@ -11,10 +10,10 @@ use Rattle.traffic.specs.declared.moves.Occurrence.{Occurrence}
 use Rattle.traffic.specs.declared.numbers.Rules.{Rules}
 use Rattle.traffic.specs.declared.world.Row.{Row}
 use Rattle.traffic.specs.declared.world.Waiter.{Waiter}
-use Rattle.traffic.specs.Stops.{left_behind, served_row, served_vehicle}
+use Rattle.traffic.specs.Stops.{left_behind, served_row}
 use Rattle.traffic.specs.Telling.{starts, arrives, serves}
 use Rattle.traffic.specs.Moves.{told}
-use Rattle.traffic.specs.Links.{LinkState, is_last, may_pass, buffered, from_wait, from_queue}
+use Rattle.traffic.specs.Links.{LinkState, buffered, from_wait, from_queue}
 use Rattle.law_sleeping.specs.Quiet.{link_state_after, link_state_after_all}
 use Rattle.law_sleeping.proofs.Settling.{lists_with, wait_served, wait_removed, wait_passed, queue_served, queue_removed, queue_passed, credited}
 use Rattle.queue_link.specs.declared.numbers.LinkNumbers.{LinkNumbers}

@@ -15,12 +15,10 @@ use Rattle.traffic.specs.Telling.{serves}
 use Rattle.traffic.specs.Moves.{told}
 use Rattle.traffic.specs.Links.{LinkState}
 use Rattle.law_sleeping.specs.Quiet.{link_state_after_all}
-use Rattle.queue_link.specs.declared.numbers.LinkNumbers.{LinkNumbers}
 use Rattle.queue_link.specs.declared.turns.Turn.{Turn}
-use Rattle.queue_link.specs.declared.turns.Turn.TheVariants.{Stop, Arrive, Done}
-use Rattle.queue_link.specs.Numbers.{rules_of}
+use Rattle.queue_link.specs.declared.turns.Turn.TheVariants.{Stop, Done}
 use Rattle.queue_link.specs.Links.{row_on}
-use Rattle.queue_link.specs.Turns.{Outcome, in_bay, moves_left, goes_on}
+use Rattle.queue_link.specs.Turns.{Outcome, in_bay, moves_left}
 
 -- the place that a vehicle leaves in the queue of which it comes
 abbrev pub hole_of : ℕ → ℕ → Stage → List Move

@@ -7,6 +7,7 @@ mod files;
 mod reading;
 mod writing;
 
+pub use fields::{names_of, push_joined};
 pub use files::plans_text;
 pub use reading::read_body;
 pub use writing::write_plan;

@@ -1,27 +1,38 @@
 -- What clap's answer to the words of a command says.
 use Rattle.std.proofs.Common.{◌≡◌, ◌≢◌, ◌∙◌, arith, inl, inr, ℕ, true, List, [], ◌∷◌, refl, sym, ap, subst}
 use Rattle.clap.specs.Kinds.{HasKind, IsAmong, Kinds}
-use Rattle.clap.specs.Words.{App, fault_of, is_simple_and_free, kind_of}
+use Rattle.clap.specs.Words.{App, HasMatchesOf, fault_of, found_of, is_simple, is_simple_and_free, kind_of, matches_of, rows_of}
 use Rattle.clap.specs.declared.error.Error.{Error}
+use Rattle.clap.specs.declared.parser.matches.ArgMatches.{ArgMatches}
 use Rattle.clap.specs.declared.error.kind.ErrorKind.{ErrorKind}
 use Rattle.clap.specs.declared.error.kind.ErrorKind.TheVariants.{OutOfMemory}
 use Rattle.clap.proofs.OnLiterals.{clap_on_literals}
 use Rattle.command_line.specs.Cases.{Work, kind_case, kinds_case, simple_case}
-use Rattle.command_line.specs.Commands.{simple_command}
+use Rattle.command_line.specs.Commands.{simple_command, command_with}
 use Rattle.command_line.specs.declared.commands.Command.{Command}
-use Rattle.command_line.specs.declared.commands.Command.TheVariants.{Run, Check}
+use Rattle.command_line.specs.declared.commands.CommandName.{CommandName}
+use Rattle.command_line.specs.declared.commands.CommandName.TheVariants.{Run, Check, Route}
 use Rattle.command_line.proofs.OneKind.{Few, one_kind}
 
 -- clap tells exactly which words it takes
-is_plain : (command : Command) → is_simple_and_free (simple_command command) ≡ true
+is_plain : (name : CommandName) → is_simple_and_free (simple_command name) ≡ true
 unfolding clap_on_literals
 is_plain Run = refl
 is_plain Check = refl
+is_plain Route = refl
+
+-- and what it finds in them
+is_single : (name : CommandName) → is_simple (simple_command name) ≡ true
+unfolding clap_on_literals
+is_single Run = refl
+is_single Check = refl
+is_single Route = refl
 
 -- it answers the words of a command by one kind at most
-few_kinds : (command : Command) (words : List (List ℕ)) → Few (fault_of (simple_command command) words)
+few_kinds : (name : CommandName) (words : List (List ℕ)) → Few (fault_of (simple_command name) words)
 few_kinds Run words = one_kind _ _ _ refl (refl, refl)
 few_kinds Check words = one_kind _ _ _ refl (refl, refl)
+few_kinds Route words = one_kind _ _ _ refl (refl, refl)
 
 -- a kind that is among few kinds is the only one
 the_kind : (kinds : Kinds) (kind : ErrorKind) → Few kinds → IsAmong kind kinds → kinds ≡ kind ∷ []
@@ -31,21 +42,33 @@ the_kind (x ∷ []) kind few (inr none) = absurd none
 the_kind (x ∷ y ∷ kinds) kind few among = absurd (omega (arith, few.few))
 
 -- an error that is no want of memory has that kind
-as_told : (command : Command) (kinds : Kinds) (e : Error) → Few kinds → HasKind kinds e → kind_of e ≢ OutOfMemory → kind_case (kind_of e) ≡ kinds_case command kinds
+as_told : (command : Command) (kinds : Kinds) (e : Error) → Few kinds → HasKind kinds e → kind_of e ≢ OutOfMemory → kind_case (kind_of e)
+    ≡ kinds_case command kinds
 as_told command kinds e few (inl memory) other = absurd (other memory)
 as_told command kinds e few (inr among) other = sym (ap (kinds_case command) (the_kind kinds _ few among))
 
-module _ (command : Command) (a : App) (words : List (List ℕ)) (is : a ≡ simple_command command) where
+module _ (name : CommandName) (a : App) (words : List (List ℕ)) (is : a ≡ simple_command name) where
   plain : is_simple_and_free a ≡ true
-  plain = ap is_simple_and_free is ∙ is_plain command
+  plain = ap is_simple_and_free is ∙ is_plain name
 
-  same_case : kinds_case command (fault_of a words) ≡ simple_case command words
-  same_case = ap (λ b. kinds_case command (fault_of b words)) is
+  simple : is_simple a ≡ true
+  simple = ap is_simple is ∙ is_single name
+
+  same_case : kinds_case (command_with name (matches_of a words)) (fault_of a words) ≡ simple_case name words
+  same_case = ap (λ b. kinds_case (command_with name (matches_of b words)) (fault_of b words)) is
 
   -- words that it takes ask for the command's work
-  pub taken : (is_simple_and_free a ≡ true → fault_of a words ≡ []) → Work command ≡ simple_case command words
-  taken none = sym (ap (kinds_case command) (none plain)) ∙ same_case
+  pub taken : (command : Command) → command ≡ command_with name (matches_of a words) →
+      (is_simple_and_free a ≡ true → fault_of a words ≡ []) → Work command ≡ simple_case name words
+  taken command made_is none = ap Work made_is ∙ sym (ap (kinds_case (command_with name (matches_of a words))) (none plain)) ∙ same_case
 
   -- the others ask for what the kind of its error says
-  pub not_taken : (e : Error) → (is_simple_and_free a ≡ true → HasKind (fault_of a words) e) → kind_of e ≢ OutOfMemory → kind_case (kind_of e) ≡ simple_case command words
-  not_taken e has other = as_told command _ e (subst (λ b. Few (fault_of b words)) (sym is) (few_kinds command words)) (has plain) other ∙ same_case
+  pub not_taken : (e : Error) → (is_simple_and_free a ≡ true → HasKind (fault_of a words) e) → kind_of e ≢ OutOfMemory →
+      kind_case (kind_of e) ≡ simple_case name words
+  not_taken e has other = as_told (command_with name (matches_of a words)) _ e
+      (subst (λ b. Few (fault_of b words)) (sym is) (few_kinds name words)) (has plain) other ∙ same_case
+
+  -- the command that its matches make
+  pub made : (command : Command) (m : ArgMatches) → HasMatchesOf a words m → command ≡ command_with name (rows_of (found_of m))
+      → command ≡ command_with name (matches_of a words)
+  made command m has told = told ∙ ap (command_with name) (has simple).0

@@ -1,2 +1,4 @@
 mod Answered
 mod OneKind
+pub mod Positions
+pub mod Words

@@ -1,11 +1,12 @@
 -- What the words of the command line ask for.
 use Rattle.std.specs.Prelude.{ℕ, Bool, ◌||◌, bytes_eq, codes, if◌then◌else◌, List, [], ◌∷◌, Option, None, Some}
 use Rattle.clap.specs.Kinds.{Kinds}
-use Rattle.clap.specs.Words.{fault_of}
+use Rattle.clap.specs.Words.{fault_of, matches_of}
 use Rattle.clap.specs.declared.error.kind.ErrorKind.{ErrorKind}
 use Rattle.clap.specs.declared.error.kind.ErrorKind.TheVariants.{DisplayHelp}
-use Rattle.command_line.specs.Commands.{command_named, simple_command}
+use Rattle.command_line.specs.Commands.{command_named, simple_command, command_with}
 use Rattle.command_line.specs.declared.commands.Command.{Command}
+use Rattle.command_line.specs.declared.commands.CommandName.{CommandName}
 use Rattle.command_line.specs.declared.reading.Asked.{Asked}
 use Rattle.command_line.specs.declared.reading.Asked.TheVariants as asked
 
@@ -36,13 +37,13 @@ kinds_case command [] = Work command
 kinds_case command (kind ∷ kinds) = kind_case kind
 
 -- clap reads the program's name and the words behind the command's name
-abbrev pub simple_case : Command → List (List ℕ) → Case
-simple_case command words = kinds_case command (fault_of (simple_command command) words)
+abbrev pub simple_case : CommandName → List (List ℕ) → Case
+simple_case name words = kinds_case (command_with name (matches_of (simple_command name) words)) (fault_of (simple_command name) words)
 
 -- words that name no command are refused
-abbrev pub command_case : Option Command → List (List ℕ) → Case
+abbrev pub command_case : Option CommandName → List (List ℕ) → Case
 command_case None words = Refused
-command_case (Some command) words = simple_case command words
+command_case (Some name) words = simple_case name words
 
 -- the first two words are the program's name and that of the command, or a question for help
 unfoldable pub case_of : List (List ℕ) → Case

@@ -5,6 +5,7 @@
 #![tactic(auto)]
 
 mod commands;
+mod given;
 mod reading;
 #[cfg(test)]
 mod tests;

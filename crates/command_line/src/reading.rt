@@ -1,8 +1,10 @@
-ghost use Rattle.std.specs.Prelude.{◌≡◌, ◌≢◌, ◌∷◌, IfOk, map, string_bytes};
-ghost use Rattle.clap.specs.Words.{kind_of};
+ghost use Rattle.std.specs.Prelude.{◌≡◌, ◌≢◌, ◌∷◌, IfOk, List, map, string_bytes};
+ghost use Rattle.clap.specs.Words.{Row, kind_of};
+ghost use Rattle.command_line.specs.Commands.{command_with};
 ghost use Rattle.command_line.specs.Cases.{asks_for_help, asked_case, case_of, kind_case, simple_case};
 
-use crate::commands::{Command, command_named, simple_command};
+use crate::commands::{Command, CommandName, command_named, route_command, simple_command};
+use crate::given::route_asked;
 use crate::usage::{USAGE, no_command, not_a_command};
 use clap::Error;
 use clap::error::ErrorKind;
@@ -39,14 +41,45 @@ fn told(alloc: Global, error: &Error) -> Result<Asked, AllocError>
     }
 }
 
-/// What the program's name and the words behind the command's name ask for.
-fn read_simple(alloc: Global, command: Command, words: &[&str]) -> Result<Asked, AllocError>
-    ensures { IfOk result (λ asked. asked_case asked ≡ simple_case command (map (λ s. s.now) words.now)) }
+/// What the words of a command without positions ask for.
+fn read_plain(
+    alloc: Global,
+    name: CommandName,
+    command: Command,
+    words: &[&str],
+) -> Result<Asked, AllocError>
+    requires { (rows : List Row) → command_with name rows ≡ command }
+    ensures { IfOk result (λ asked. asked_case asked ≡ simple_case name (map (λ s. s.now) words.now)) }
 {
-    let parser = simple_command(alloc, command)?;
+    let parser = simple_command(alloc, name)?;
     match parser.try_get_matches_from(words) {
         Ok(_) => Ok(Asked::Work(command)),
         Err(error) => told(alloc, &error),
+    }
+}
+
+/// What the words of `route` ask for.
+fn read_route(alloc: Global, words: &[&str]) -> Result<Asked, AllocError>
+    ensures { IfOk result (λ asked. asked_case asked ≡ simple_case CommandName.Route (map (λ s. s.now) words.now)) }
+{
+    let parser = route_command(alloc)?;
+    match parser.try_get_matches_from(words) {
+        Ok(matches) => {
+            let command = route_asked(alloc, &matches)?;
+            Ok(Asked::Work(command))
+        }
+        Err(error) => told(alloc, &error),
+    }
+}
+
+/// What the program's name and the words behind the command's name ask for.
+fn read_simple(alloc: Global, name: CommandName, words: &[&str]) -> Result<Asked, AllocError>
+    ensures { IfOk result (λ asked. asked_case asked ≡ simple_case name (map (λ s. s.now) words.now)) }
+{
+    match name {
+        CommandName::Run => read_plain(alloc, name, Command::Run, words),
+        CommandName::Check => read_plain(alloc, name, Command::Check, words),
+        CommandName::Route => read_route(alloc, words),
     }
 }
 
@@ -79,9 +112,9 @@ pub fn read_words(alloc: Global, words: &[String]) -> Result<Asked, AllocError>
     if asks_for_help(second) {
         return Ok(Asked::Help(String::from_str(alloc, USAGE)?));
     }
-    let Some(command) = command_named(second) else {
+    let Some(name) = command_named(second) else {
         return Ok(Asked::Refused(not_a_command(alloc, second)?));
     };
     let kept = without_command(alloc, program, others)?;
-    read_simple(alloc, command, &kept)
+    read_simple(alloc, name, &kept)
 }

@@ -11,7 +11,7 @@ fn asked(alloc: Global, texts: &[&str]) -> Result<Asked, Fail> {
     Ok(asked)
 }
 
-/// Help of the program tells of both commands, help of a command of that one.
+/// Help of the program tells of all commands, help of a command of that one.
 #[test]
 fn help_is_told(rt: HostRuntime) -> Result<(), Fail> {
     let alloc = rt.alloc();
@@ -23,6 +23,11 @@ fn help_is_told(rt: HostRuntime) -> Result<(), Fail> {
         (
             ["qsim", "check", "--help"].as_slice(),
             "Usage: qsim check\n",
+        ),
+        (["qsim", "--help"].as_slice(), "qsim route FROM TO SECOND "),
+        (
+            ["qsim", "route", "-h"].as_slice(),
+            "Usage: qsim route FROM TO SECOND\n",
         ),
     ];
     for (texts, part) in told {
@@ -48,6 +53,8 @@ fn other_words_are_refused(rt: HostRuntime) -> Result<(), Fail> {
         (["qsim", "run", "--version"].as_slice(), "'--version'"),
         (["qsim", "run", "-V"].as_slice(), "'-V'"),
         (["qsim", "check", "run"].as_slice(), "Usage: qsim check\n"),
+        (["qsim", "route", "a", "b"].as_slice(), "SECOND"),
+        (["qsim", "route", "a", "b", "172801"].as_slice(), "172801"),
     ];
     for (texts, part) in refused {
         let Asked::Refused(text) = asked(alloc, texts)? else {

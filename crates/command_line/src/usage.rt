@@ -4,8 +4,9 @@ use std::alloc::{AllocError, Global};
 /// How the program is used: its commands, and the files that they read and write.
 pub const USAGE: &str = "qsim simulates a day of traffic of the files in the current folder.
 
-Usage: qsim run      simulates the day and scores it; writes events.csv, scores.csv, plans_out.csv and its report
-       qsim check    reads the files; reports their counts or their first fault
+Usage: qsim run                     simulates the day and scores it; writes events.csv, scores.csv, plans_out.csv and its report
+       qsim check                   reads the files; reports their counts or their first fault
+       qsim route FROM TO SECOND    reports the route of least arrival from a node to another, left in a second, at free speed
 
 Reads: settings.json nodes.csv links.csv plans.csv stops.csv routes.csv departures.csv
 The report goes to standard output. 'qsim COMMAND --help' tells more of a command.

@@ -7,6 +7,7 @@ use Rattle.network.proofs.Free.{few_links, sound_links}
 
 -- what nodes.csv and links.csv give
 pub record AreNetworkRows (network : NetworkRows) : Type 0 where
+  pub each_node : length network.node_names ≡ length network.nodes
   pub each_link : length network.link_names ≡ length network.links
   pub few : length network.links ≤ MAX_LINKS
   pub links : list_all (is_link (length network.nodes)) network.links ≡ true
@@ -20,6 +21,7 @@ network_free T none =
     let rows = map (link_of names) (body_of links) in
     let each_node : length names ≡ length (map node_of nodes) = length-map nodes (λ (row : Row). field row 0) ∙ sym (length-map nodes node_of) in
     record {
+      each_node = each_node;
       each_link = length-map (body_of links) (λ (row : Row). field row 0) ∙ sym (length-map (body_of links) (link_of names));
       few = few_links names links rows none refl;
       links = subst (λ (n : ℕ). list_all (is_link n) rows ≡ true) each_node (sound_links names links rows none refl);

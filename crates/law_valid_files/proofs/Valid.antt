@@ -61,6 +61,11 @@ persons_named : (v : Values) (network : NetworkRows) (persons kinds : List (List
 unfolding town_of
 persons_named v network persons kinds t = refl
 
+nodes_are : (v : Values) (network : NetworkRows) (persons kinds : List (List ℕ)) (t : ScheduleRows)
+    → length network.nodes ≡ length (town_of v network persons kinds t).nodes
+unfolding town_of
+nodes_are v network persons kinds t = refl
+
 -- THE PLANS
 all_there : (P : PlanFileRows) (links : ℕ) (ends : List (ℕ × ℕ)) (t : ScheduleRows) → IsSchedule links ends t → AreThere (length t.lines) (leg_checks_in P t)
 unfolding leg_checks_in
@@ -78,6 +83,7 @@ scenario_is v network P t scoring settings r p s free =
     let fit : all_fit T (map (map (plan_in_town N)) P.plans) ≡ true = plans_fit v network P t (all_there P (length network.link_names) (ends_of network.links) t s) r.each_link p.sound p.plans free in
     record {
       town = town_is v network P.persons P.kinds t settings r s p.sound.few;
+      each_node = r.each_node ∙ nodes_are v network P.persons P.kinds t;
       each = length-map P.plans (map (plan_in_town N)) ∙ p.sound.each ∙ persons_named v network P.persons P.kinds t;
       plans = All-from_recursion (AreOwnPlans T) (map (map (plan_in_town N)) P.plans) (all_in_town T N P.plans p.plans fit);
     }

@@ -12,9 +12,10 @@ pub record AreOwnPlans (T : TownRows) (own : List PlanRows) : Type 0 where
   pub few : length own ≤ MAX_PLANS
   pub plans : All (IsPlanIn T) own
 
--- every row of the town names rows that are there, within the limits, and each person has plans
+-- every row of the town names rows that are there, within the limits; each node has a name, and each person has plans
 pub record IsScenario (S : ScenarioRows) : Type 0 where
   pub town : IsTown S.town
+  pub each_node : length S.node_names ≡ length S.town.nodes
   pub each : length S.plans ≡ length S.town.book.persons
   pub plans : All (AreOwnPlans S.town) S.plans
 

@@ -6,3 +6,4 @@ pub mod Answered
 pub mod Worked
 pub mod Alike
 mod Lawful
+mod Routed

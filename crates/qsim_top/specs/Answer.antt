@@ -14,8 +14,10 @@ use Rattle.events.specs.declared.event.Book.{Book}
 use Rattle.day_scores.specs.Scores.{first_kind, scores_of}
 use Rattle.day_scores.specs.Texts.{scores_text}
 use Rattle.plan_text.specs.Lines.{plans_text}
+use Rattle.route_report.specs.Report.{RoadMap, route_text}
 use Rattle.traffic.specs.Setup.{Setup}
 use Rattle.traffic.specs.Day.{day}
+use Rattle.town.specs.declared.town.Town.{Town}
 use Rattle.town.specs.Setups.{setup_of}
 use Rattle.scenario.specs.declared.faults.ScenarioFault.{ScenarioFault}
 use Rattle.scenario.specs.declared.faults.Stop.{Stop}
@@ -32,7 +34,7 @@ use Rattle.qsim_top.specs.declared.answers.Answer.{Answer}
 use Rattle.qsim_top.specs.declared.answers.Status.{Status}
 use Rattle.qsim_top.specs.declared.answers.Status.TheVariants as status
 use Rattle.qsim_top.specs.Contents.{Contents, AreLeft, texts_in}
-use Rattle.qsim_top.specs.Texts.{events_text, iteration_line, done_line, refused_line, valid_line}
+use Rattle.qsim_top.specs.Texts.{events_text, iteration_line, done_line, no_way_line, refused_line, valid_line}
 
 -- a text goes to the report, and nothing else is done
 abbrev pub report : Status → List ℕ → Answer
@@ -73,10 +75,24 @@ done_with events scores plans book = record {
   effects = iteration_effects 0 events (first_numbers (length book.persons)) scores book ++ end_effects 0 plans;
 }
 
--- the work of a command on a valid scenario: the day, with its scores and the plans, or its counts
+-- the nodes and the links of a scenario, with their names
+abbrev pub road_map : ScenarioRows → RoadMap
+road_map S = record { node_names = S.node_names; link_names = S.town.book.links; links = S.town.links }
+
+-- the same of a town
+abbrev pub roads_of : Town → RoadMap
+roads_of town = record { node_names = town.network.node_names; link_names = town.book.links; links = town.network.links }
+
+-- the report of a route, or that no way joins the two nodes
+abbrev pub route_or_none : Option (List ℕ) → Answer
+route_or_none None = report status.NoWay no_way_line
+route_or_none (Some text) = report status.Done text
+
+-- the work of a command on a valid scenario: the day, with its scores and the plans, its counts, or a route
 abbrev pub work : Command → ScenarioRows → Answer
 work command.Run S = done_with (events_of S) (first_scores S) (plans_text S.plans S.town.book) S.town.book
 work command.Check S = report status.Done (valid_line S)
+work (command.Route from to second) S = route_or_none (route_text (road_map S) from to second)
 
 -- a scenario with a fault is refused by its first one
 abbrev pub work_or_refusal : Command → Option ScenarioFault → ScenarioRows → Answer
@@ -101,24 +117,30 @@ Answers a status.WriteFault old new = DoesPart old new (all_steps a.effects)
 Answers a status.NoMemory old new = DoesPart old new (all_steps a.effects)
 Answers a status.KeepFault old new = DoesPart old new (all_steps a.effects)
 
--- the statuses with which the work of a command may end: the usage is told of refused words alone, and no command of the program goes on from
--- what is kept or looks for a way
-abbrev pub is_of_work : Status → Bool
-is_of_work status.Done = true
-is_of_work status.Usage = false
-is_of_work status.Refused = true
-is_of_work status.NothingKept = false
-is_of_work status.Foreign = false
-is_of_work status.NoWay = false
-is_of_work status.ReadFault = true
-is_of_work status.WriteFault = true
-is_of_work status.NoMemory = true
-is_of_work status.KeepFault = true
+-- the command looks for a way
+abbrev pub looks_for_way : Command → Bool
+looks_for_way command.Run = false
+looks_for_way command.Check = false
+looks_for_way (command.Route from to second) = true
+
+-- the statuses with which the work of a command may end: the usage is told of refused words alone, no command of the program goes on from
+-- what is kept, and one alone looks for a way
+abbrev pub is_of_work : Command → Status → Bool
+is_of_work c status.Done = true
+is_of_work c status.Usage = false
+is_of_work c status.Refused = true
+is_of_work c status.NothingKept = false
+is_of_work c status.Foreign = false
+is_of_work c status.NoWay = looks_for_way c
+is_of_work c status.ReadFault = true
+is_of_work c status.WriteFault = true
+is_of_work c status.NoMemory = true
+is_of_work c status.KeepFault = true
 
 -- What came of words is tied to the files' bytes where all of them are told. Help and refused words are told some text of the program's
 -- own, whatever the files hold; and only refused words have the usage told.
 abbrev pub AnswersCase : Case → Left → Status → World → World → Type 0
-AnswersCase (Work c) left came old new = ((contents : Contents) → AreLeft left contents → Answers (answer c (texts_in contents)) came old new) × (is_of_work came ≡ true)
+AnswersCase (Work c) left came old new = ((contents : Contents) → AreLeft left contents → Answers (answer c (texts_in contents)) came old new) × (is_of_work c came ≡ true)
 AnswersCase Help left came old new = (text : List ℕ) × Answers (report status.Done text) came old new
 AnswersCase Refused left came old new = (text : List ℕ) × Answers (report status.Usage text) came old new
 
@@ -152,11 +174,10 @@ pub record IsSound (a : Answer) : Type 0 where
   pub kept : has_save a.effects ≡ false
   pub refusal : a.status ≡ status.Refused → list_all is_report a.effects ≡ true
 
--- it is this answer, which is sound and is one of work
+-- it is this answer, which is sound
 pub record IsAnswer (told a : Answer) : Type 0 where
   pub same : a ≡ told
   pub sound : IsSound a
-  pub of_work : is_of_work a.status ≡ true
 
 -- what was read of a scenario: its rows, or why there are none
 abbrev pub result_view : Result Scenario Stop → Result ScenarioRows Stop

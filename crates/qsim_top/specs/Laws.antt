@@ -1,5 +1,5 @@
 -- What holds of every day of a scenario.
-use Rattle.std.specs.Prelude.{◌≡◌, ◌≢◌, ◌<◌, ◌≤◌, ℕ, List, ◌∷◌, ◌++◌, length, All}
+use Rattle.std.specs.Prelude.{◌≡◌, ◌≢◌, ◌↔◌, ◌<◌, ◌≤◌, ℕ, List, ◌∷◌, ◌++◌, length, All}
 use Rattle.events.specs.declared.event.Event.{Event}
 use Rattle.events.specs.declared.event.Phase.{Phase}
 use Rattle.events.specs.declared.event.Phase.TheVariants as phase
@@ -15,7 +15,10 @@ use Rattle.law_capacity.specs.Moves.{IsElsewhere, second_moves, KeepsRule}
 use Rattle.law_matches_plans.specs.Planned.{IsToldAsPlanned}
 use Rattle.scenario.specs.FilesToScenario.{ScenarioRows}
 use Rattle.day_scores.specs.Standing.{AreScored}
-use Rattle.qsim_top.specs.Answer.{first_day}
+use Rattle.command_line.specs.declared.commands.Command.TheVariants as command
+use Rattle.route_report.specs.Reported.{NoWay, IsReport}
+use Rattle.qsim_top.specs.declared.answers.Status.TheVariants as status
+use Rattle.qsim_top.specs.Answer.{first_day, road_map, report, work}
 
 -- The laws of a day: in every second each person is in exactly one place; no queue has more rows that were not pushed in than its storage;
 -- at the moment when a vehicle enters a queue there is room, or it is stuck and is pushed in; no more vehicles pass than the flow allows, and
@@ -39,3 +42,12 @@ pub record FollowsPlans (scenario : ScenarioRows) : Type 0 where
   pub sound : (t : ℕ) → Sound (first_day scenario) (world_at (first_day scenario) t)
   pub told : (i : ℕ) → i < length (first_day scenario).persons → IsToldAsPlanned (first_day scenario) i
   pub scored : AreScored (length (first_day scenario).persons) (day (first_day scenario))
+
+-- The laws of what is reported of routes: there is no way exactly where no walk joins a node of the one name to a node of the other; and any
+-- other report tells a walk between such nodes, with the second in which it arrives, than which none arrives earlier, and the least arrivals
+-- at all nodes.
+pub record ReportsRoutes (scenario : ScenarioRows) : Type 0 where
+  pub no_way : (from to : List ℕ) (second : ℕ)
+      → ((work (command.Route from to second) scenario).status ≡ status.NoWay) ↔ NoWay (road_map scenario) from to
+  pub least : (from to : List ℕ) (second : ℕ) (text : List ℕ) → work (command.Route from to second) scenario ≡ report status.Done text
+      → IsReport (road_map scenario) from to second text

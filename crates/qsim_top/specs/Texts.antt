@@ -60,6 +60,10 @@ refused_line fault =
     codes "refused," ++ in_file_name fault.file ++ codes "," ++ decimal fault.row ++ codes "," ++ decimal (reason_number fault.reason)
     ++ codes "," ++ reason_name fault.reason ++ codes "\n"
 
+-- the report of a route that does not exist
+abbrev pub no_way_line : List ℕ
+no_way_line = codes "no way\n"
+
 -- the report of a valid scenario: how many nodes, links, persons, stops, routes and departures
 unfoldable pub valid_counts : ℕ → ℕ → ℕ → ℕ → ℕ → ℕ → List ℕ
 valid_counts nodes links persons stops routes departures =

@@ -1,24 +1,27 @@
 //! The answers of the commands.
 
-ghost use Rattle.std.specs.Prelude.{◌≡◌, ◌++◌, length, true, IfOk, OnOk};
+ghost use Rattle.std.specs.Prelude.{◌≡◌, ◌++◌, length, option_map, true, IfOk, OnOk};
 ghost use Rattle.edge_files.specs.declared.effects.Effect.TheVariants as effect;
 ghost use Rattle.rows.specs.PlanRows.{all_plan_rows};
 ghost use Rattle.town.specs.Views.{rows_of};
+ghost use Rattle.route_report.specs.Report.{route_text};
 ghost use Rattle.scenario.specs.Fitting.{all_fit};
 ghost use Rattle.scenario.specs.Views.{texts_of, scenario_parts, scenario_view};
 ghost use Rattle.qsim_top.specs.Texts.{refused_line, valid_line};
 ghost use Rattle.qsim_top.specs.ScoredDays.{IsWritable};
-ghost use Rattle.qsim_top.specs.Answer.{report, iteration_effects, end_effects, first_numbers, done_with, work, answer, is_whole, IsSound};
+ghost use Rattle.qsim_top.specs.Answer.{report, iteration_effects, end_effects, first_numbers, done_with, roads_of, route_or_none};
+ghost use Rattle.qsim_top.specs.Answer.{work, answer, is_whole, IsSound};
 ghost use Rattle.qsim_top.specs.Answer.{IsAnswer, AnswersRead, result_view};
 
 use crate::answers::{Answer, Status};
 use crate::scored_days::{ScoredDay, first_day};
-use crate::texts::{done_line, events_text, iteration_line, refused_line, valid_line};
+use crate::texts::{done_line, events_text, iteration_line, no_way_line, refused_line, valid_line};
 use command_line::Command;
 use day_scores::scores_text;
 use edge_files::{Bytes, Effect, EffectList, OutFile};
 use events::Book;
 use plan_text::plans_text;
+use route_report::route_text;
 use rows::PlanLists;
 use scenario::{Files, Scenario, ScenarioFault, Stop, assemble};
 use scoring::Tables;
@@ -177,6 +180,62 @@ fn check(alloc: Global, scenario: Scenario) -> Result<Answer, AllocError>
     answer
 }
 
+/// A text goes to the report, or that no way joins the two nodes.
+fn route_or_none(alloc: Global, text: Option<Vec<u8>>) -> Result<Answer, AllocError>
+    ensures { IfOk result (IsAnswer (route_or_none (option_map (λ lines. lines.items) text))) }
+{
+    match text {
+        Some(lines) => {
+            let answer = report(alloc, Status::Done, lines)?;
+            Ok(answer)
+        }
+        None => {
+            let line = no_way_line(alloc)?;
+            let answer = report(alloc, Status::NoWay, line)?;
+            Ok(answer)
+        }
+    }
+}
+
+/// The bytes as a slice.
+fn bytes_of(bytes: &Bytes) -> &[u8]
+    ensures { result.now ≡ bytes.now }
+{
+    &bytes.rows
+}
+
+/// The route of least arrival between nodes of these names that is left in a second, told.
+fn route_between(
+    alloc: Global,
+    town: &Town,
+    from: &Bytes,
+    to: &Bytes,
+    second: u32,
+) -> Result<Answer, AllocError>
+    ensures { IfOk result (IsAnswer (route_or_none (route_text (roads_of town.now) from.now to.now second))) }
+{
+    let start = bytes_of(from);
+    let end = bytes_of(to);
+    let text = route_text(alloc, &town.network, start, end, second)?;
+    let answer = route_or_none(alloc, text)?;
+    Ok(answer)
+}
+
+/// The same in a scenario, which is let go.
+fn route(
+    alloc: Global,
+    scenario: Scenario,
+    from: Bytes,
+    to: Bytes,
+    second: u32,
+) -> Result<Answer, AllocError>
+    ensures { IfOk result (IsAnswer (work (Command.Route from to second) (scenario_view scenario))) }
+{
+    let answer = route_between(alloc, &scenario.town, &from, &to, second);
+    drop(scenario);
+    answer
+}
+
 /// The work of a command on a valid scenario.
 fn work(alloc: Global, command: Command, scenario: Scenario) -> Result<Answer, AllocError>
     ensures { IfOk result (IsAnswer (work command (scenario_view scenario))) }
@@ -184,6 +243,7 @@ fn work(alloc: Global, command: Command, scenario: Scenario) -> Result<Answer, A
     match command {
         Command::Run => run(alloc, scenario),
         Command::Check => check(alloc, scenario),
+        Command::Route { from, to, second } => route(alloc, scenario, from, to, second),
     }
 }
 

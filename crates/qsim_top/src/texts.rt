@@ -5,7 +5,7 @@ ghost use Rattle.scenario.specs.Views.{scenario_view};
 ghost use Rattle.scoring.specs.declared.TheConstants.{MAX_SCORE};
 ghost use Rattle.scoring.specs.Ranges.{IsWithin};
 ghost use Rattle.qsim_top.specs.Texts.{events_text, is_stuck, stuck_count, iteration_counts, iteration_line, done_line};
-ghost use Rattle.qsim_top.specs.Texts.{refused_line, valid_counts, valid_line};
+ghost use Rattle.qsim_top.specs.Texts.{no_way_line, refused_line, valid_counts, valid_line};
 
 use day_scores::sum_of;
 use events::{Book, Event, Word, lines};
@@ -104,6 +104,14 @@ pub fn refused_line(alloc: Global, fault: ScenarioFault) -> Result<Vec<u8>, Allo
     let reason = fault.reason.name();
     let line = format!(in alloc; "refused,{file},{row},{number},{reason}\n")?;
     Ok(line.into_bytes())
+}
+
+/// The report of a route that does not exist.
+pub fn no_way_line(alloc: Global) -> Result<Vec<u8>, AllocError>
+    ensures { IfOk result (λ line. line.items ≡ no_way_line) }
+{
+    let line = Vec::from_slice(alloc, b"no way\n")?;
+    Ok(line)
 }
 
 /// The report of a valid scenario, by the numbers of its rows.

@@ -5,7 +5,7 @@ ghost use Rattle.command_line.specs.Cases.{case_of, Work};
 ghost use Rattle.qsim_top.specs.Contents.{Contents, AreLeft, texts_in};
 ghost use Rattle.scenario.specs.Texts.{Texts};
 ghost use Rattle.scenario.specs.FilesToScenario.{ScenarioRows, scenario_fault, scenario_rows};
-ghost use Rattle.qsim_top.specs.Laws.{IsLawful, FollowsPlans};
+ghost use Rattle.qsim_top.specs.Laws.{IsLawful, FollowsPlans, ReportsRoutes};
 ghost use Rattle.qsim_top.specs.Answer.{first_day, answer, report, is_of_words, is_of_work, IsSound, Answers, AnswersCase, OnlyReports};
 
 use crate::answers::{Answer, Status};
@@ -49,7 +49,7 @@ fn answer_to_inputs<I: Inputs>(
     ensures answer { IfOk result
         (λ a. (contents : Contents) → AreLeft (I.left inputs.old) contents → a ≡ answer command (texts_in contents)) }
     ensures sound { IfOk result IsSound }
-    ensures of_work { IfOk result (λ a. is_of_work a.status ≡ true) }
+    ensures of_work { IfOk result (λ a. is_of_work command a.status ≡ true) }
     ensures read { result ≡ Err ReadError.Failed → Rose (I.faults inputs.old) (I.faults inputs.new) }
     ensures later { I.faults inputs.old ≤ I.faults inputs.new }
 {
@@ -115,7 +115,7 @@ fn tell<O: Outputs, K: Keeper>(
 
 /// Does what the words ask for: `qsim run` simulates the day of a scenario, tells what it is worth to
 /// each person, and writes the plans; `qsim check` reads the scenario and reports its counts or its
-/// first fault.
+/// first fault; `qsim route` reads it and reports the route of least arrival between two nodes.
 ///
 /// The words are read first, then all files, and then all that the answer holds is done outside. The
 /// keeper and the gate are not called, and no thread is started.
@@ -146,9 +146,10 @@ pub fn qsim<R: Threads + Wait + Sync, I: Inputs, O: Outputs, K: Keeper, G: Gate>
     ensures keeper { keeper.new ≡ keeper.old }
     ensures unkept { result ≡ Status.KeepFault → ⊥ }
 
-    // Of the day of every scenario, and of that of files without a fault.
+    // Of the day of every scenario, and of the day and the routes of files without a fault.
     ensures lawful { (scenario : ScenarioRows) → IsLawful (first_day scenario) }
     ensures planned { (texts : Texts) → scenario_fault texts ≡ None → FollowsPlans (scenario_rows texts) }
+    ensures routed { (texts : Texts) → scenario_fault texts ≡ None → ReportsRoutes (scenario_rows texts) }
 {
     know_days();
     match read_words(alloc, words) {

@@ -99,14 +99,16 @@ book_of network persons kinds schedule = record {
   departures = schedule.departure_names;
 }
 
--- a town, and each person's plans in it
+-- a town, the names of its nodes, and each person's plans in it
 pub record PlannedRows : Type 0 where
   pub town : TownRows
+  pub node_names : List (List ℕ)
   pub plans : List (List PlanRows)
 
 -- the same, and what a day of it is scored by
 pub record ScenarioRows : Type 0 where
   pub town : TownRows
+  pub node_names : List (List ℕ)
   pub plans : List (List PlanRows)
   pub scoring : ScoringRows
 
@@ -130,7 +132,11 @@ plans_of plans schedule = map (map (plan_in_town (leg_checks_in plans schedule).
 
 -- the town with its plans
 unfoldable pub planned_of : Values → NetworkRows → PlanFileRows → ScheduleRows → PlannedRows
-planned_of settings network plans schedule = record { town = town_of settings network plans.persons plans.kinds schedule; plans = plans_of plans schedule }
+planned_of settings network plans schedule = record {
+  town = town_of settings network plans.persons plans.kinds schedule;
+  node_names = network.node_names;
+  plans = plans_of plans schedule;
+}
 
 -- the first fault of nodes.csv and links.csv
 unfoldable pub network_fault : Texts → Option ScenarioFault
@@ -175,7 +181,12 @@ on_network settings network T = planned_of settings network (persons_on network 
 
 -- with what its days are scored by: tables for the kinds of activities that plans have, with their numbers
 abbrev pub scored_by : PlannedRows → ScoringValues → ScenarioRows
-scored_by planned scoring = record { town = planned.town; plans = planned.plans; scoring = by_number planned.town.book.kinds scoring }
+scored_by planned scoring = record {
+  town = planned.town;
+  node_names = planned.node_names;
+  plans = planned.plans;
+  scoring = by_number planned.town.book.kinds scoring;
+}
 
 -- the first fault of the files: each by itself, in their order, and only then the first leg of plans.csv that does not fit
 unfoldable pub scenario_fault : Texts → Option ScenarioFault

@@ -37,11 +37,16 @@ schedule_view schedule = record {
 
 -- the town with its plans
 abbrev pub planned_view : PlannedTown → PlannedRows
-planned_view planned = record { town = rows_of planned.town; plans = all_plan_rows planned.plans }
+planned_view planned = record { town = rows_of planned.town; node_names = planned.town.network.node_names; plans = all_plan_rows planned.plans }
 
--- a town, each person's plans, and what days are scored by
+-- a town, with the names of its nodes, each person's plans, and what days are scored by
 abbrev pub scenario_parts : Town → List (List Plan) → Tables → ScenarioRows
-scenario_parts town plans tables = record { town = rows_of town; plans = all_plan_rows plans; scoring = scoring_rows tables }
+scenario_parts town plans tables = record {
+  town = rows_of town;
+  node_names = town.network.node_names;
+  plans = all_plan_rows plans;
+  scoring = scoring_rows tables;
+}
 
 -- the scenario
 abbrev pub scenario_view : Scenario → ScenarioRows

@@ -155,7 +155,8 @@ fn town_of(
     requires book { book ≡ book_of (network_view network) book.persons book.kinds (schedule_view schedule) }
     requires greens { greens ≡ replicate (length network.links) always }
     requires few { length book.persons ≤ MAX_PERSONS }
-    ensures { rows_of result ≡ town_of (values_of settings) (network_view network) book.persons book.kinds (schedule_view schedule) }
+    ensures rows { rows_of result ≡ town_of (values_of settings) (network_view network) book.persons book.kinds (schedule_view schedule) }
+    ensures node_names { result.network.node_names ≡ network.node_names }
 {
     let Schedule {
         stops,
@@ -185,8 +186,9 @@ fn town_with_names(
 ) -> Result<Town, AllocError>
     requires schedule { IsSchedule (length network.links) (ends_of network.links) (schedule_view schedule) }
     requires few { length persons ≤ MAX_PERSONS }
-    ensures { IfOk result
+    ensures rows { IfOk result
         (λ town. rows_of town ≡ town_of (values_of settings) (network_view network) persons kinds (schedule_view schedule)) }
+    ensures node_names { IfOk result (λ town. town.network.node_names ≡ network.node_names) }
 {
     let Ok(book) = book_of(persons, kinds, &network, &schedule) else {
         drop(network);
@@ -194,7 +196,10 @@ fn town_with_names(
         return Err(AllocError);
     };
     match no_signals(alloc, network.links.len()) {
-        Ok(greens) => Ok(town_of(settings, network, schedule, book, greens)),
+        Ok(greens) => {
+            let town = town_of(settings, network, schedule, book, greens);
+            Ok(town)
+        }
         Err(_) => {
             drop(network);
             drop(schedule);

@@ -15,6 +15,8 @@ mod outside;
 #[cfg(test)]
 mod refusals;
 #[cfg(test)]
+mod routes;
+#[cfg(test)]
 mod scores;
 #[cfg(test)]
 mod seconds;

@@ -1,5 +1,6 @@
 use Rattle.qsim_top.specs.Answer.{first_day}
 use Rattle.qsim_top.proofs.Lawful.{lawful, files_follow}
+use Rattle.qsim_top.proofs.Routed.{files_report}
 use Rattle.qsim_top.proofs.laws.know_days.Goals as goal
 
 pub returns-clause-lawful : goal.returns-clause-lawful
@@ -7,3 +8,6 @@ returns-clause-lawful c = λ S. lawful (first_day S)
 
 pub returns-clause-planned : goal.returns-clause-planned
 returns-clause-planned c = files_follow
+
+pub returns-clause-routed : goal.returns-clause-routed
+returns-clause-routed c = files_report

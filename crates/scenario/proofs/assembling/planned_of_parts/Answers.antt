@@ -23,7 +23,7 @@ invariant_of-result c =
     let S = schedule_view args.schedule in
     let T = town_of v R P.persons P.kinds S in
     let plans = c.in-Ok.plans in
-    let town_is : rows_of c.in-Ok-town_with_names.town ≡ T = c.in-Ok-town_with_names.ensures in
+    let town_is : rows_of c.in-Ok-town_with_names.town ≡ T = c.in-Ok-town_with_names.ensures.rows in
     let plans_are : all_plan_rows plans ≡ map (map (plan_in_town (leg_checks_in P S).numbers)) (all_plan_rows args.file.plans) =
     c.in-Ok.ensures ∙ ap (λ (W : LegChecks). map (map (plan_in_town W.numbers)) (all_plan_rows args.file.plans)) c.requires.leg_checks in
     let there = subst (λ (W : LegChecks). AreThere (length S.lines) W) c.requires.leg_checks c.requires.there in
@@ -43,8 +43,11 @@ returns-in-Ok-town_with_names c =
     let S = schedule_view args.schedule in
     let T = town_of (values_of args.settings) (network_view args.network) P.persons P.kinds S in
     let plans = c.in-Ok.plans in
-    let town_is : rows_of c.in-Ok-town_with_names.town ≡ T = c.in-Ok-town_with_names.ensures in
+    let town = c.in-Ok-town_with_names.town in
+    let town_is : rows_of town ≡ T = c.in-Ok-town_with_names.ensures.rows in
     let plans_are : all_plan_rows plans ≡ map (map (plan_in_town (leg_checks_in P S).numbers)) (all_plan_rows args.file.plans) =
     c.in-Ok.ensures ∙ ap (λ (W : LegChecks). map (map (plan_in_town W.numbers)) (all_plan_rows args.file.plans)) c.requires.leg_checks in
-    let both : TownRows → List (List PlanRows) → PlannedRows = λ t l. record { town = t; plans = l } in
-    ap (λ (t : TownRows). both t (all_plan_rows plans)) town_is ∙ ap (λ (l : List (List PlanRows)). both T l) plans_are
+    let all : TownRows → List (List ℕ) → List (List PlanRows) → PlannedRows = λ t n l. record { town = t; node_names = n; plans = l } in
+    ap (λ (t : TownRows). all t town.network.node_names (all_plan_rows plans)) town_is
+    ∙ ap (λ (n : List (List ℕ)). all T n (all_plan_rows plans)) c.in-Ok-town_with_names.ensures.node_names
+    ∙ ap (λ (l : List (List PlanRows)). all T args.network.node_names l) plans_are

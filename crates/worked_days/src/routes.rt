@@ -1,0 +1,140 @@
+//! Routes that are asked for: their report, and the words that ask for none.
+
+use crate::cases::{Case, LINE, are_written, inputs_of, put, status_of};
+use edge_files::{InFile, MemoryOutputs};
+use qsim_top::Status;
+use std::alloc::Global;
+use std::sync::Wait;
+use std::thread::Threads;
+
+/// Two ways from a to d along two links each, of ten seconds a link, and somebody who stays at home.
+static TWO_WAYS: Case = Case {
+    nodes: "node,x,y\na,0,0\nb,0,0\nc,0,0\nd,0,0\n",
+    links: "link,from,to,length,speed,capacity,lanes\n\
+        e0,a,b,10000,1000,3600,1\ne1,a,c,10000,1000,3600,1\n\
+        e2,b,d,10000,1000,3600,1\ne3,c,d,10000,1000,3600,1\n",
+    plans: "p1,0,act,home,e0,,\n",
+    ..LINE
+};
+
+/// What is asked of `qsim route`, and its answer.
+struct Asked {
+    words: [&'static str; 3],
+    status: Status,
+    report: &'static str,
+}
+
+static ASKED: [Asked; 7] = [
+    // Both ways take as long: the one by the lesser link is chosen.
+    Asked {
+        words: ["a", "d", "0"],
+        status: Status::Done,
+        report: "route,20\nlinks,e0 e2\nlabel,a,0\nlabel,b,10\nlabel,c,10\nlabel,d,20\n",
+    },
+    // The links lead one way alone.
+    Asked {
+        words: ["d", "a", "0"],
+        status: Status::NoWay,
+        report: "no way\n",
+    },
+    Asked {
+        words: ["a", "a", "7"],
+        status: Status::Done,
+        report: "route,7\nlinks,\nlabel,a,7\nlabel,b,17\nlabel,c,17\nlabel,d,27\n",
+    },
+    // What is not reached has no label.
+    Asked {
+        words: ["c", "d", "172800"],
+        status: Status::Done,
+        report: "route,172810\nlinks,e3\nlabel,c,172800\nlabel,d,172810\n",
+    },
+    Asked {
+        words: ["b", "c", "+5"],
+        status: Status::NoWay,
+        report: "no way\n",
+    },
+    // A name of no node.
+    Asked {
+        words: ["a", "e0", "0"],
+        status: Status::NoWay,
+        report: "no way\n",
+    },
+    Asked {
+        words: ["", "d", "0"],
+        status: Status::NoWay,
+        report: "no way\n",
+    },
+];
+
+/// How the program ends with words behind its name on the two ways, and what it writes.
+fn came_of<R: Threads + Wait + Sync>(
+    rt: &R,
+    alloc: Global,
+    words: &[&str],
+    outputs: &mut MemoryOutputs,
+) -> Status {
+    let mut inputs = inputs_of(alloc, &TWO_WAYS);
+    status_of(rt, alloc, words, &mut inputs, outputs)
+}
+
+/// Whether a route that is asked for is told so, and nothing else is written.
+fn is_told<R: Threads + Wait + Sync>(rt: &R, alloc: Global, asked: &Asked) -> bool {
+    let [from, to, second] = asked.words;
+    let mut outputs = MemoryOutputs::new(alloc);
+    let came = came_of(
+        rt,
+        alloc,
+        &["qsim", "route", from, to, second],
+        &mut outputs,
+    );
+    came == asked.status && are_written(&outputs, asked.report, "")
+}
+
+/// The report of the first of these that is told otherwise.
+fn first_other<R: Threads + Wait + Sync>(
+    rt: &R,
+    alloc: Global,
+    asked: &'static [Asked],
+) -> Option<&'static str> {
+    for one in asked {
+        if !is_told(rt, alloc, one) {
+            return Some(one.report);
+        }
+    }
+    None
+}
+
+#[test]
+fn routes_are_told(rt: HostRuntime) {
+    assert_eq!(rt; first_other(&rt, rt.alloc(), &ASKED), None);
+}
+
+/// Whether words are refused as no words of the program.
+fn are_refused<R: Threads + Wait + Sync>(rt: &R, alloc: Global, words: &[&str]) -> bool {
+    let mut outputs = MemoryOutputs::new(alloc);
+    came_of(rt, alloc, words, &mut outputs) == Status::Usage
+}
+
+#[test]
+fn words_of_routes_are_refused(rt: HostRuntime) {
+    let alloc = rt.alloc();
+    assert!(rt; are_refused(&rt, alloc, &["qsim", "route"]));
+    assert!(rt; are_refused(&rt, alloc, &["qsim", "route", "a", "d"]));
+    assert!(rt; are_refused(&rt, alloc, &["qsim", "route", "a", "d", "noon"]));
+    assert!(rt; are_refused(&rt, alloc, &["qsim", "route", "a", "d", "172801"]));
+    assert!(rt; are_refused(&rt, alloc, &["qsim", "route", "a", "d", "-1"]));
+    assert!(rt; are_refused(&rt, alloc, &["qsim", "route", "a", "d", "0", "0"]));
+}
+
+/// A scenario with a fault is refused before a route is looked for.
+#[test]
+fn faults_come_first(rt: HostRuntime) {
+    let alloc = rt.alloc();
+    let mut inputs = inputs_of(alloc, &TWO_WAYS);
+    put(&mut inputs, InFile::Settings, "{\"sead\":1}");
+    let mut outputs = MemoryOutputs::new(alloc);
+    let words = ["qsim", "route", "x", "d", "0"];
+    let came = status_of(&rt, alloc, &words, &mut inputs, &mut outputs);
+    assert_eq!(rt; came, Status::Refused);
+    assert!(rt; are_written(&outputs, "refused,settings.json,0,15,KeyUnknown\n", ""));
+}

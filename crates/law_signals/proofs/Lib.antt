@@ -1,0 +1,2 @@
+pub mod Greens
+pub mod Days

@@ -1,0 +1,5 @@
+pub mod Numbers
+pub mod Meeting
+pub mod Exact
+pub mod Steps
+pub mod Lawful

@@ -1,0 +1,7 @@
+use Rattle.std.proofs.Common.{◌≡◌, None}
+use Rattle.std.specs.Prelude.{replicate}
+use Rattle.signals.proofs.signals_read.no_signals.Given as goal
+
+-- no signal for each link so far
+abbrev pub invariant-loop : goal.invariant-loop
+invariant-loop l = l.signals.items ≡ replicate l.counter None

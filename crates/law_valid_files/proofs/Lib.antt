@@ -1,3 +1,4 @@
+pub mod Conflicts
 mod NetworkRows
 mod Numbers
 mod Persons

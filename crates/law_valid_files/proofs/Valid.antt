@@ -1,10 +1,11 @@
 -- Files without a fault give a town, and plans of which its days can be made.
 use Rattle.std.proofs.Common.{◌≡◌, ℕ, ◌<◌, ◌≤◌, true, List, length, map, None, refl, sym, ◌∙◌, ap, subst, arith}
 use Rattle.std.specs.List.{list_all, AllByRecursion as Each}
-use Rattle.std.proofs.lemmas.List.{length-map, length-replicate}
+use Rattle.std.proofs.lemmas.List.{length-map}
 use Rattle.std.proofs.lemmas.List.Elements.{All-from_recursion, recursion_from_All}
 use Rattle.edge_files.specs.declared.files.InFile.TheVariants as file
 use Rattle.records.specs.Faults.{fault_at}
+use Rattle.records.specs.Files.{body_of}
 use Rattle.records.proofs.Unrefused.{or_none, no_reason}
 use Rattle.network.specs.Nodes.{node_names}
 use Rattle.network.specs.Links.{links_fault}
@@ -15,9 +16,10 @@ use Rattle.plans.proofs.AllRows.{AreFreePlans, plans_free}
 use Rattle.schedule.specs.Stops.{is_stop}
 use Rattle.schedule.specs.Routes.{is_route}
 use Rattle.settings.specs.Values.{Values}
+use Rattle.signals.proofs.Steps.{greens_length}
 use Rattle.settings.specs.Faults.{settings_fault, settings_of, scoring_values}
 use Rattle.settings.specs.Scoring.{ScoringValues}
-use Rattle.rows.specs.Greens.{always}
+use Rattle.rows.specs.Greens.{Phases}
 use Rattle.rows.specs.Settings.{AreInRange}
 use Rattle.rows.specs.Joined.{ends_of}
 use Rattle.town.specs.Rows.{TownRows, IsTown}
@@ -27,7 +29,7 @@ use Rattle.scenario.specs.Texts.{Texts, bytes_in}
 use Rattle.scenario.specs.Legs.{numbers_in, plan_in_town}
 use Rattle.scenario.specs.LegChecks.{AreThere}
 use Rattle.scenario.specs.Fitting.{all_fit, first_plans}
-use Rattle.scenario.specs.FilesToScenario.{NetworkRows, ScheduleRows, ScenarioRows, leg_checks_in, town_of, plans_of, persons_on, schedule_rows_of, planned_of, scored_by, on_network, network_rows_of, network_fault, persons_fault, plans_cross_fault, on_network_fault, scenario_fault, scenario_rows}
+use Rattle.scenario.specs.FilesToScenario.{NetworkRows, ScheduleRows, ScenarioRows, leg_checks_in, town_of, plans_of, persons_on, schedule_rows_of, signals_on, planned_of, scored_by, on_network, network_rows_of, network_fault, persons_fault, plans_cross_fault, on_network_fault, scenario_fault, scenario_rows}
 use Rattle.scenario.proofs.RowByRow.{same_crossing}
 use Rattle.scenario.specs.Towns.{IsSchedule}
 use Rattle.scenario.proofs.Told.{bytes_free}
@@ -40,10 +42,10 @@ use Rattle.law_valid_files.proofs.Numbers.{settings_free}
 use Rattle.law_valid_files.proofs.Persons.{all_in_town, firsts_in}
 
 -- THE TOWN
-town_is : (v : Values) (network : NetworkRows) (persons kinds : List (List ℕ)) (t : ScheduleRows) → AreInRange v.traffic → AreNetworkRows network → IsSchedule (length network.link_names) (ends_of network.links) t → length persons ≤ 65536
-    → IsTown (town_of v network persons kinds t)
+town_is : (v : Values) (network : NetworkRows) (persons kinds : List (List ℕ)) (t : ScheduleRows) (greens : List Phases) → AreInRange v.traffic → AreNetworkRows network → IsSchedule (length network.link_names) (ends_of network.links) t → length persons ≤ 65536
+    → length greens ≡ length network.links → IsTown (town_of v network persons kinds t greens)
 unfolding town_of
-town_is v network persons kinds t settings r s few = record {
+town_is v network persons kinds t greens settings r s few each_green = record {
   settings = settings;
   few_persons = few;
   few_links = r.few;
@@ -54,17 +56,17 @@ town_is v network persons kinds t settings r s few = record {
   routes = subst (λ (n : ℕ). list_all (is_route (length t.lines) n (ends_of network.links) t.stops) t.routes ≡ true) r.each_link s.routes;
   few_departures = s.few_departures;
   departures = s.departures;
-  greens = length-replicate (length network.links) always;
+  greens = each_green;
 }
 
-persons_named : (v : Values) (network : NetworkRows) (persons kinds : List (List ℕ)) (t : ScheduleRows) → length persons ≡ length (town_of v network persons kinds t).book.persons
+persons_named : (v : Values) (network : NetworkRows) (persons kinds : List (List ℕ)) (t : ScheduleRows) (greens : List Phases) → length persons ≡ length (town_of v network persons kinds t greens).book.persons
 unfolding town_of
-persons_named v network persons kinds t = refl
+persons_named v network persons kinds t greens = refl
 
-nodes_are : (v : Values) (network : NetworkRows) (persons kinds : List (List ℕ)) (t : ScheduleRows)
-    → length network.nodes ≡ length (town_of v network persons kinds t).nodes
+nodes_are : (v : Values) (network : NetworkRows) (persons kinds : List (List ℕ)) (t : ScheduleRows) (greens : List Phases)
+    → length network.nodes ≡ length (town_of v network persons kinds t greens).nodes
 unfolding town_of
-nodes_are v network persons kinds t = refl
+nodes_are v network persons kinds t greens = refl
 
 -- THE PLANS
 all_there : (P : PlanFileRows) (links : ℕ) (ends : List (ℕ × ℕ)) (t : ScheduleRows) → IsSchedule links ends t → AreThere (length t.lines) (leg_checks_in P t)
@@ -74,29 +76,31 @@ all_there P links ends t s = record {
   stops = λ n k h. subst (λ (count : ℕ). k < count) s.each_stop (are_there P.stops t.stop_names (numbers_in P.stops t.stop_names) refl n k h);
 }
 
-scenario_is : (v : Values) (network : NetworkRows) (P : PlanFileRows) (t : ScheduleRows) (scoring : ScoringValues) → AreInRange v.traffic → AreNetworkRows network → AreFreePlans network.link_names (ends_of network.links) P → IsSchedule (length network.link_names) (ends_of network.links) t
-    → plans_cross_fault P t ≡ None → IsScenario (scored_by (planned_of v network P t) scoring)
+scenario_is : (v : Values) (network : NetworkRows) (P : PlanFileRows) (t : ScheduleRows) (greens : List Phases) (scoring : ScoringValues) → AreInRange v.traffic → AreNetworkRows network → AreFreePlans network.link_names (ends_of network.links) P → IsSchedule (length network.link_names) (ends_of network.links) t
+    → length greens ≡ length network.links → plans_cross_fault P t ≡ None → IsScenario (scored_by (planned_of v network P t greens) scoring)
 unfolding planned_of
-scenario_is v network P t scoring settings r p s free =
-    let T = town_of v network P.persons P.kinds t in
+scenario_is v network P t greens scoring settings r p s each_green free =
+    let T = town_of v network P.persons P.kinds t greens in
     let N = (leg_checks_in P t).numbers in
-    let fit : all_fit T (map (map (plan_in_town N)) P.plans) ≡ true = plans_fit v network P t (all_there P (length network.link_names) (ends_of network.links) t s) r.each_link p.sound p.plans free in
+    let fit : all_fit T (map (map (plan_in_town N)) P.plans) ≡ true = plans_fit v network P t greens (all_there P (length network.link_names) (ends_of network.links) t s) r.each_link p.sound p.plans free in
     record {
-      town = town_is v network P.persons P.kinds t settings r s p.sound.few;
-      each_node = r.each_node ∙ nodes_are v network P.persons P.kinds t;
-      each = length-map P.plans (map (plan_in_town N)) ∙ p.sound.each ∙ persons_named v network P.persons P.kinds t;
+      town = town_is v network P.persons P.kinds t greens settings r s p.sound.few each_green;
+      each_node = r.each_node ∙ nodes_are v network P.persons P.kinds t greens;
+      each = length-map P.plans (map (plan_in_town N)) ∙ p.sound.each ∙ persons_named v network P.persons P.kinds t greens;
       plans = All-from_recursion (AreOwnPlans T) (map (map (plan_in_town N)) P.plans) (all_in_town T N P.plans p.plans fit);
     }
 
 -- ALL FILES
 pub scenario_valid : (texts : Texts) → scenario_fault texts ≡ None → IsScenario (scenario_rows texts)
-unfolding scenario_fault network_fault on_network_fault scenario_rows on_network persons_fault
+unfolding scenario_fault network_fault on_network_fault scenario_rows on_network persons_fault signals_on
 scenario_valid T none =
     let a = or_none _ _ none in
     let b = or_none _ _ a.1 in
     let n = or_none _ _ b.0 in
     let c = or_none _ _ b.1 in
     let d = or_none _ _ c.1 in
+    let e = or_none _ _ d.1 in
+    let f = or_none _ _ e.1 in
     let network = network_rows_of T in
     let ends = ends_of network.links in
     let t = schedule_rows_of network.link_names T in
@@ -104,7 +108,8 @@ scenario_valid T none =
     let r = network_free T (bytes_free T file.Links (links_fault (node_names (bytes_in T file.Nodes))) n.1) in
     let p = plans_free network.link_names ends (bytes_in T file.Plans) (bytes_free T file.Plans (plans_fault network.link_names ends) c.0) in
     let s = schedule_free network.link_names ends T d.0 in
-    scenario_is (settings_of (bytes_in T file.Settings)) network (persons_on network T) t (scoring_values (bytes_in T file.Settings)) settings r p s (same_crossing network T t c.0 ∙ d.1)
+    scenario_is (settings_of (bytes_in T file.Settings)) network (persons_on network T) t (signals_on network.link_names T).greens (scoring_values (bytes_in T file.Settings)) settings r p s
+    (greens_length network.link_names (body_of (bytes_in T file.Signals)) ∙ r.each_link) (same_crossing network T t c.0 ∙ f.0)
 
 pub chosen_valid : (S : ScenarioRows) → IsScenario S → AreChosenIn S.town (first_plans S.plans)
 chosen_valid S valid =

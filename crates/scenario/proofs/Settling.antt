@@ -6,23 +6,24 @@ use Rattle.std.specs.List.{AllByRecursion as Each}
 use Rattle.edge_files.specs.declared.files.InFile.TheVariants as file
 use Rattle.plans.specs.Values.{are_plans}
 use Rattle.plans.proofs.Shapes.{IsPlan}
+use Rattle.rows.specs.Greens.{Phases}
 use Rattle.scenario.proofs.LegFits.{Meets}
 use Rattle.scenario.proofs.Told.{file_none}
 use Rattle.scenario.proofs.AllFit.{all_meet}
 
-meets : (v : Values) (R : NetworkRows) (P : PlanFileRows) (S : ScheduleRows) → AreThere (length S.lines) (leg_checks_in P S) → length R.link_names ≡ length R.links
-    → Meets (town_of v R P.persons P.kinds S) (leg_checks_in P S) (record { kinds = P.kinds; lines = P.lines; stops = P.stops; links = R.link_names }) (ends_of R.links)
+meets : (v : Values) (R : NetworkRows) (P : PlanFileRows) (S : ScheduleRows) (G : List Phases) → AreThere (length S.lines) (leg_checks_in P S) → length R.link_names ≡ length R.links
+    → Meets (town_of v R P.persons P.kinds S G) (leg_checks_in P S) (record { kinds = P.kinds; lines = P.lines; stops = P.stops; links = R.link_names }) (ends_of R.links)
 unfolding town_of leg_checks_in
-meets v R P S there each = record { there = there; same_stops = refl; same_routes = refl; same_links = sym each; same_kinds = refl; same_ends = refl }
+meets v R P S G there each = record { there = there; same_stops = refl; same_routes = refl; same_links = sym each; same_kinds = refl; same_ends = refl }
 
-pub plans_fit : (v : Values) (R : NetworkRows) (P : PlanFileRows) (S : ScheduleRows) → AreThere (length S.lines) (leg_checks_in P S) → length R.link_names ≡ length R.links → IsSound R.link_names (ends_of R.links) P → Each (Each IsPlan) P.plans
-    → plans_cross_fault P S ≡ None → all_fit (town_of v R P.persons P.kinds S) (map (map (plan_in_town (leg_checks_in P S).numbers)) P.plans) ≡ true
+pub plans_fit : (v : Values) (R : NetworkRows) (P : PlanFileRows) (S : ScheduleRows) (G : List Phases) → AreThere (length S.lines) (leg_checks_in P S) → length R.link_names ≡ length R.links → IsSound R.link_names (ends_of R.links) P → Each (Each IsPlan) P.plans
+    → plans_cross_fault P S ≡ None → all_fit (town_of v R P.persons P.kinds S G) (map (map (plan_in_town (leg_checks_in P S).numbers)) P.plans) ≡ true
 unfolding plans_cross_fault
-plans_fit v R P S there each sound kept none =
+plans_fit v R P S G there each sound kept none =
     let tables : Tables = record { kinds = P.kinds; lines = P.lines; stops = P.stops; links = R.link_names } in
-    all_meet (town_of v R P.persons P.kinds S) (leg_checks_in P S) tables (ends_of R.links) P.starts P.plans (meets v R P S there each) sound.sound kept
+    all_meet (town_of v R P.persons P.kinds S G) (leg_checks_in P S) tables (ends_of R.links) P.starts P.plans (meets v R P S G there each) sound.sound kept
     (file_none file.Plans (all_plans_fault (leg_checks_in P S) P.starts P.plans) none)
 
-pub persons_are : (v : Values) (R : NetworkRows) (persons kinds : List (List ℕ)) (S : ScheduleRows) (T : TownRows) → T ≡ town_of v R persons kinds S → T.book.persons ≡ persons
+pub persons_are : (v : Values) (R : NetworkRows) (persons kinds : List (List ℕ)) (S : ScheduleRows) (G : List Phases) (T : TownRows) → T ≡ town_of v R persons kinds S G → T.book.persons ≡ persons
 unfolding town_of
-persons_are v R persons kinds S T is = ap (λ (t : TownRows). t.book.persons) is
+persons_are v R persons kinds S G T is = ap (λ (t : TownRows). t.book.persons) is

@@ -1,5 +1,5 @@
 -- What the files of a scenario give, or their first fault.
-use Rattle.std.specs.Prelude.{ℕ, List, length, map, replicate, Option}
+use Rattle.std.specs.Prelude.{ℕ, List, map, Option}
 use Rattle.edge_files.specs.declared.files.InFile.TheVariants as file
 use Rattle.events.specs.declared.event.Book.{Book}
 use Rattle.records.specs.Fields.{column}
@@ -18,11 +18,13 @@ use Rattle.schedule.specs.Stops.{stops_fault, stop_of}
 use Rattle.schedule.specs.Routes.{routes_fault, lines_of, routes_of}
 use Rattle.schedule.specs.Departures.{departures_fault, departure_of}
 use Rattle.scoring.specs.Tables.{ScoringRows}
+use Rattle.signals.specs.declared.conflict.Conflict.{Conflict}
+use Rattle.signals.specs.Signals.{SignalRows, signals_fault, signal_rows_of, clash_fault}
 use Rattle.settings.specs.Values.{Values}
 use Rattle.settings.specs.Faults.{settings_fault, settings_of, scoring_values}
 use Rattle.settings.specs.Numbered.{by_number}
 use Rattle.settings.specs.Scoring.{ScoringValues}
-use Rattle.rows.specs.Greens.{always}
+use Rattle.rows.specs.Greens.{Phases}
 use Rattle.rows.specs.Joined.{ends_of}
 use Rattle.town.specs.Rows.{TownRows}
 use Rattle.scenario.specs.declared.faults.ScenarioFault.{ScenarioFault}
@@ -80,6 +82,10 @@ schedule_rows_of links T = record {
   departures = map (departure_of (route_names (bytes_in T file.Routes))) (body_of (bytes_in T file.Departures));
 }
 
+-- what signals.csv gives, on links of these names
+unfoldable pub signals_on : List (List ℕ) → Texts → SignalRows
+signals_on links T = signal_rows_of links (body_of (bytes_in T file.Signals))
+
 -- what the legs of the plans are held against
 unfoldable pub leg_checks_in : PlanFileRows → ScheduleRows → LegChecks
 leg_checks_in plans schedule = record {
@@ -112,9 +118,9 @@ pub record ScenarioRows : Type 0 where
   pub plans : List (List PlanRows)
   pub scoring : ScoringRows
 
--- the town, with names of persons and of kinds of activities; no link has a signal
-unfoldable pub town_of : Values → NetworkRows → List (List ℕ) → List (List ℕ) → ScheduleRows → TownRows
-town_of settings network persons kinds schedule = record {
+-- the town, with names of persons and of kinds of activities, and with these signals of its links
+unfoldable pub town_of : Values → NetworkRows → List (List ℕ) → List (List ℕ) → ScheduleRows → List Phases → TownRows
+town_of settings network persons kinds schedule greens = record {
   seed = settings.seed;
   settings = settings.traffic;
   nodes = network.nodes;
@@ -122,7 +128,7 @@ town_of settings network persons kinds schedule = record {
   stops = schedule.stops;
   routes = schedule.routes;
   departures = schedule.departures;
-  greens = replicate (length network.links) always;
+  greens = greens;
   book = book_of network persons kinds schedule;
 }
 
@@ -131,9 +137,9 @@ abbrev pub plans_of : PlanFileRows → ScheduleRows → List (List PlanRows)
 plans_of plans schedule = map (map (plan_in_town (leg_checks_in plans schedule).numbers)) plans.plans
 
 -- the town with its plans
-unfoldable pub planned_of : Values → NetworkRows → PlanFileRows → ScheduleRows → PlannedRows
-planned_of settings network plans schedule = record {
-  town = town_of settings network plans.persons plans.kinds schedule;
+unfoldable pub planned_of : Values → NetworkRows → PlanFileRows → ScheduleRows → List Phases → PlannedRows
+planned_of settings network plans schedule greens = record {
+  town = town_of settings network plans.persons plans.kinds schedule greens;
   node_names = network.node_names;
   plans = plans_of plans schedule;
 }
@@ -155,6 +161,14 @@ schedule_fault links ends T =
     or_else (fault_in T file.Routes (routes_fault links ends (stop_names (bytes_in T file.Stops)) (stop_rows links (bytes_in T file.Stops)))) (
     fault_in T file.Departures (departures_fault (route_names (bytes_in T file.Routes)))))
 
+-- the first fault of signals.csv by itself, over links of these names and ends
+unfoldable pub signals_file_fault : List (List ℕ) → List (ℕ × ℕ) → Texts → Option ScenarioFault
+signals_file_fault links ends T = fault_in T file.Signals (signals_fault links ends)
+
+-- the first conflict of signals.csv whose links are both green in some second
+unfoldable pub conflict_fault : SignalRows → Option ScenarioFault
+conflict_fault signals = in_file file.Signals (clash_fault signals)
+
 -- the first leg of plans.csv that does not fit the files behind it: the least row, and the least of its reasons
 unfoldable pub cross_fault : NetworkRows → List ℕ → ScheduleRows → Option ScenarioFault
 cross_fault network plans schedule =
@@ -168,16 +182,19 @@ plans_cross_fault plans schedule = in_file file.Plans (all_plans_fault (leg_chec
 abbrev pub persons_on : NetworkRows → Texts → PlanFileRows
 persons_on network T = file_rows network.link_names (bytes_in T file.Plans)
 
--- the first fault of the files on network: each by itself, in their order, and only then the first leg that does not fit
+-- the first fault of the files on network: each by itself, in their order, and only then the first leg that does not fit, and the first conflict
 unfoldable pub on_network_fault : NetworkRows → Texts → Option ScenarioFault
 on_network_fault network T =
     or_else (persons_fault network.link_names (ends_of network.links) T) (
     or_else (schedule_fault network.link_names (ends_of network.links) T) (
-    cross_fault network (bytes_in T file.Plans) (schedule_rows_of network.link_names T)))
+    or_else (signals_file_fault network.link_names (ends_of network.links) T) (
+    or_else (cross_fault network (bytes_in T file.Plans) (schedule_rows_of network.link_names T)) (
+    conflict_fault (signals_on network.link_names T)))))
 
 -- the town with its plans on network
 unfoldable pub on_network : Values → NetworkRows → Texts → PlannedRows
-on_network settings network T = planned_of settings network (persons_on network T) (schedule_rows_of network.link_names T)
+on_network settings network T =
+    planned_of settings network (persons_on network T) (schedule_rows_of network.link_names T) (signals_on network.link_names T).greens
 
 -- with what its days are scored by: tables for the kinds of activities that plans have, with their numbers
 abbrev pub scored_by : PlannedRows → ScoringValues → ScenarioRows
@@ -188,12 +205,17 @@ scored_by planned scoring = record {
   scoring = by_number planned.town.book.kinds scoring;
 }
 
--- the first fault of the files: each by itself, in their order, and only then the first leg of plans.csv that does not fit
+-- the first fault of the files: each by itself, in their order, and only then the first leg of plans.csv that does not fit, and the first conflict
+-- of signals.csv
 unfoldable pub scenario_fault : Texts → Option ScenarioFault
 scenario_fault T =
     or_else (fault_in T file.Settings (λ bytes. fault_at 0 (settings_fault bytes))) (
     or_else (network_fault T) (
     on_network_fault (network_rows_of T) T))
+
+-- the conflicts of signals.csv
+abbrev pub conflicts_in : Texts → List Conflict
+conflicts_in T = (signals_on (network_rows_of T).link_names T).conflicts
 
 -- the scenario that files without a fault give
 unfoldable pub scenario_rows : Texts → ScenarioRows

@@ -3,21 +3,21 @@
 //! What an early return leaves is dropped by name there, and not by the end of its scope: a proof then meets one call for each value,
 //! whose contract it knows, in place of all that the value is made of.
 
-ghost use Rattle.std.specs.Prelude.{◌≡◌, ◌<◌, ◌≤◌, ◌^◌, ℕ, None, length, map, replicate, IfOk, All, List};
+ghost use Rattle.std.specs.Prelude.{◌≡◌, ◌<◌, ◌≤◌, ◌^◌, ℕ, None, length, IfOk, All, List};
 ghost use Rattle.limits.specs.declared.TheConstants.{MAX_PERSONS};
 ghost use Rattle.plans.specs.Progress.{IsSound};
 ghost use Rattle.plans.specs.Read.{file_rows_of};
 ghost use Rattle.settings.specs.Faults.{settings_fault, file_of, values_of, file_values};
 ghost use Rattle.settings.specs.Scoring.{scoring_of};
-ghost use Rattle.records.specs.Faults.{fault_at};
-ghost use Rattle.rows.specs.Greens.{always};
+ghost use Rattle.records.specs.Faults.{fault_at, or_else};
 ghost use Rattle.rows.specs.Joined.{ends_of};
+ghost use Rattle.signals.specs.Views.{signal_view};
 ghost use Rattle.town.specs.Views.{rows_of};
 ghost use Rattle.scenario.specs.Texts.{bytes_in};
 ghost use Rattle.scenario.specs.Faults.{fault_in, Tells};
 ghost use Rattle.scenario.specs.LegChecks.{leg_checks_of, AreThere};
 ghost use Rattle.scenario.specs.Towns.{IsSchedule};
-ghost use Rattle.scenario.specs.FilesToScenario.{leg_checks_in, book_of, town_of, plans_cross_fault, planned_of};
+ghost use Rattle.scenario.specs.FilesToScenario.{leg_checks_in, book_of, town_of, plans_cross_fault, conflict_fault, planned_of};
 ghost use Rattle.scenario.specs.FilesToScenario.{on_network, on_network_fault, scored_by, scenario_fault, scenario_rows};
 ghost use Rattle.scenario.specs.Views.{network_view, schedule_view, planned_view, scenario_view, texts_of};
 
@@ -33,12 +33,14 @@ use crate::renumbering::plans_in_town;
 use crate::scenario::Scenario;
 use crate::schedule_read::read_schedule;
 use crate::schedules::Schedule;
-use edge_files::InFile;
+use crate::signals_read::read_signal_file;
+use edge_files::{InFile, Reason};
 use events::{Book, Names};
 use network::Network;
 use plans::PlanFile;
-use rows::{Green, GreenList, SpanList};
+use rows::GreenList;
 use settings::{Scoring, Settings, SettingsFile, by_number, read_settings};
+use signals::{Signals, first_clash};
 use std::alloc::{AllocError, Global};
 use town::Town;
 
@@ -67,30 +69,6 @@ fn numbering_in(
     let lines = numbers_in(alloc, &plans.lines, &schedule.routes.lines)?;
     let stops = numbers_in(alloc, &plans.stops, &schedule.stops.names)?;
     Ok(Numbering { lines, stops })
-}
-
-/// A link that is always green.
-fn always_green(alloc: Global) -> Result<Green, AllocError>
-    ensures { IfOk result (λ green. green ≡ always) }
-{
-    let mut rows = Vec::new(alloc);
-    rows.push((0, 1))?;
-    Ok(Green {
-        cycle: 1,
-        offset: 0,
-        spans: SpanList { rows },
-    })
-}
-
-/// So many links without a signal.
-fn no_signals(alloc: Global, links: usize) -> Result<GreenList, AllocError>
-    ensures { IfOk result (λ greens. greens ≡ replicate links always) }
-{
-    let mut rows = Vec::new(alloc);
-    for _ in 0..links {
-        rows.push(always_green(alloc)?)?;
-    }
-    Ok(GreenList { rows })
 }
 
 /// Copies of two lists of names.
@@ -153,9 +131,9 @@ fn town_of(
 ) -> Town
     requires schedule { IsSchedule (length network.links) (ends_of network.links) (schedule_view schedule) }
     requires book { book ≡ book_of (network_view network) book.persons book.kinds (schedule_view schedule) }
-    requires greens { greens ≡ replicate (length network.links) always }
+    requires greens { length greens ≡ length network.links }
     requires few { length book.persons ≤ MAX_PERSONS }
-    ensures rows { rows_of result ≡ town_of (values_of settings) (network_view network) book.persons book.kinds (schedule_view schedule) }
+    ensures rows { rows_of result ≡ town_of (values_of settings) (network_view network) book.persons book.kinds (schedule_view schedule) greens }
     ensures node_names { result.network.node_names ≡ network.node_names }
 {
     let Schedule {
@@ -175,35 +153,31 @@ fn town_of(
     }
 }
 
-/// The town of these settings, network and rows, with names of persons and of kinds of activities.
+/// The town of these settings, network, rows and signals, with names of persons and of kinds of activities.
 fn town_with_names(
-    alloc: Global,
     settings: Settings,
     network: Network,
     schedule: Schedule,
     persons: Names,
     kinds: Names,
+    greens: GreenList,
 ) -> Result<Town, AllocError>
     requires schedule { IsSchedule (length network.links) (ends_of network.links) (schedule_view schedule) }
     requires few { length persons ≤ MAX_PERSONS }
+    requires greens { length greens ≡ length network.links }
     ensures rows { IfOk result
-        (λ town. rows_of town ≡ town_of (values_of settings) (network_view network) persons kinds (schedule_view schedule)) }
+        (λ town. rows_of town ≡ town_of (values_of settings) (network_view network) persons kinds (schedule_view schedule) greens) }
     ensures node_names { IfOk result (λ town. town.network.node_names ≡ network.node_names) }
 {
-    let Ok(book) = book_of(persons, kinds, &network, &schedule) else {
-        drop(network);
-        drop(schedule);
-        return Err(AllocError);
-    };
-    match no_signals(alloc, network.links.len()) {
-        Ok(greens) => {
+    match book_of(persons, kinds, &network, &schedule) {
+        Ok(book) => {
             let town = town_of(settings, network, schedule, book, greens);
             Ok(town)
         }
         Err(_) => {
             drop(network);
             drop(schedule);
-            drop(book);
+            drop(greens);
             Err(AllocError)
         }
     }
@@ -236,15 +210,17 @@ fn planned_of_parts(
     file: PlanFile,
     schedule: Schedule,
     numbering: Numbering,
+    greens: GreenList,
 ) -> Result<PlannedTown, AllocError>
     requires sound { IsSound network.link_names (ends_of network.links) (file_rows_of file) }
     requires schedule { IsSchedule (length network.links) (ends_of network.links) (schedule_view schedule) }
     requires leg_checks { leg_checks_of numbering schedule ≡ leg_checks_in (file_rows_of file) (schedule_view schedule) }
     requires there { AreThere (length schedule.routes.lines) (leg_checks_of numbering schedule) }
     requires free { plans_cross_fault (file_rows_of file) (schedule_view schedule) ≡ None }
+    requires greens { length greens ≡ length network.links }
     ensures { IfOk result
         (λ planned. planned_view planned
-        ≡ planned_of (values_of settings) (network_view network) (file_rows_of file) (schedule_view schedule)) }
+        ≡ planned_of (values_of settings) (network_view network) (file_rows_of file) (schedule_view schedule) greens) }
 {
     let PlanFile {
         persons,
@@ -261,9 +237,10 @@ fn planned_of_parts(
         drop(kinds);
         drop(network);
         drop(schedule);
+        drop(greens);
         return Err(AllocError);
     };
-    match town_with_names(alloc, settings, network, schedule, persons, kinds) {
+    match town_with_names(settings, network, schedule, persons, kinds, greens) {
         Ok(town) => Ok(PlannedTown { town, plans }),
         Err(_) => {
             drop(plans);
@@ -272,35 +249,101 @@ fn planned_of_parts(
     }
 }
 
-/// The town with its plans, or the first leg of theirs that does not fit it.
+/// The first conflict whose links are both green in some second, where there is one.
+#[tactic(auto, unfolding(crate::specs::FilesToScenario::conflict_fault))]
+fn conflict_fault(signals: &Signals) -> Option<ScenarioFault>
+    ensures { result ≡ conflict_fault (signal_view signals.now) }
+{
+    match first_clash(&signals.greens, &signals.conflicts) {
+        Some(conflict) => Some(ScenarioFault {
+            file: InFile::Signals,
+            row: conflict.row,
+            reason: Reason::Conflict,
+        }),
+        None => None,
+    }
+}
+
+/// The town with its plans and signals, or the first leg that does not fit it, or else the first conflict.
 fn planned_or_fault(
     alloc: Global,
     settings: Settings,
     network: Network,
     file: PlanFile,
     schedule: Schedule,
+    signals: Signals,
 ) -> Result<PlannedTown, Stop>
     requires sound { IsSound network.link_names (ends_of network.links) (file_rows_of file) }
     requires starts { All (λ row. row < 2 ^ 30) file.starts }
     requires schedule { IsSchedule (length network.links) (ends_of network.links) (schedule_view schedule) }
-    ensures { Tells planned_view result (plans_cross_fault (file_rows_of file) (schedule_view schedule))
-        (planned_of (values_of settings) (network_view network) (file_rows_of file) (schedule_view schedule)) }
+    requires greens { length signals.greens ≡ length network.links }
+    ensures { Tells planned_view result
+        (or_else (plans_cross_fault (file_rows_of file) (schedule_view schedule)) (conflict_fault (signal_view signals)))
+        (planned_of (values_of settings) (network_view network) (file_rows_of file) (schedule_view schedule) signals.greens) }
 {
     let Ok(numbering) = numbering_in(alloc, &file, &schedule) else {
         drop(file);
         drop(network);
         drop(schedule);
+        drop(signals);
         return Err(Stop::NoMemory);
     };
     if let Some(fault) = leg_fault(&numbering, &schedule, &file) {
         drop(file);
         drop(network);
         drop(schedule);
+        drop(signals);
         return Err(Stop::Fault(fault));
     }
-    match planned_of_parts(alloc, settings, network, file, schedule, numbering) {
+    if let Some(fault) = conflict_fault(&signals) {
+        drop(file);
+        drop(network);
+        drop(schedule);
+        drop(signals);
+        return Err(Stop::Fault(fault));
+    }
+    let Signals { greens, .. } = signals;
+    match planned_of_parts(alloc, settings, network, file, schedule, numbering, greens) {
         Ok(planned) => Ok(planned),
         Err(_) => Err(Stop::NoMemory),
+    }
+}
+
+/// What the files that are read over network give on links with these ends, or their first fault.
+fn on_ends(
+    alloc: Global,
+    files: &Files,
+    settings: Settings,
+    network: Network,
+    ends: &[(u32, u32)],
+) -> Result<PlannedTown, Stop>
+    requires { ends.now ≡ ends_of network.links }
+    ensures { Tells planned_view result (on_network_fault (network_view network) (texts_of files.now))
+        (on_network (values_of settings) (network_view network) (texts_of files.now)) }
+{
+    let file = match read_plan_file(alloc, files, &network.link_names, ends) {
+        Ok(file) => file,
+        Err(error) => {
+            drop(network);
+            return Err(error);
+        }
+    };
+    let schedule = match read_schedule(alloc, files, &network.link_names, ends) {
+        Ok(schedule) => schedule,
+        Err(error) => {
+            drop(file);
+            drop(network);
+            return Err(error);
+        }
+    };
+    match read_signal_file(alloc, files, &network.link_names, ends) {
+        Ok(signals) => planned_or_fault(alloc, settings, network, file, schedule, signals),
+        Err(error) => {
+            drop(file);
+            drop(network);
+            drop(schedule);
+            Err(error)
+        }
     }
 }
 
@@ -314,23 +357,11 @@ fn on_network(
     ensures { Tells planned_view result (on_network_fault (network_view network) (texts_of files.now))
         (on_network (values_of settings) (network_view network) (texts_of files.now)) }
 {
-    let Ok(ends) = ends_in(alloc, &network) else {
-        drop(network);
-        return Err(Stop::NoMemory);
-    };
-    let file = match read_plan_file(alloc, files, &network.link_names, &ends) {
-        Ok(file) => file,
-        Err(error) => {
+    match ends_in(alloc, &network) {
+        Ok(ends) => on_ends(alloc, files, settings, network, &ends),
+        Err(_) => {
             drop(network);
-            return Err(error);
-        }
-    };
-    match read_schedule(alloc, files, &network.link_names, &ends) {
-        Ok(schedule) => planned_or_fault(alloc, settings, network, file, schedule),
-        Err(error) => {
-            drop(file);
-            drop(network);
-            Err(error)
+            Err(Stop::NoMemory)
         }
     }
 }
@@ -381,7 +412,7 @@ fn scored_on_network(
 /// Reads the files of a scenario.
 ///
 /// The first fault is told where there is one: of each file by itself, in the order of the files, and only then of the legs of
-/// plans.csv that do not fit the files behind it.
+/// plans.csv that do not fit the files behind it, and of the conflicts of signals.csv.
 #[tactic(auto, unfolding(crate::specs::FilesToScenario::scenario_fault, crate::specs::FilesToScenario::scenario_rows))]
 pub fn assemble(alloc: Global, files: &Files) -> Result<Scenario, Stop>
     ensures { Tells scenario_view result (scenario_fault (texts_of files.now)) (scenario_rows (texts_of files.now)) }

@@ -7,7 +7,7 @@ use std::alloc::Global;
 use std::array;
 
 /// The files of a scenario, in the order in which they are read.
-pub const SCENARIO_FILES: [InFile; 7] = [
+pub const SCENARIO_FILES: [InFile; 8] = [
     InFile::Settings,
     InFile::Nodes,
     InFile::Links,
@@ -15,6 +15,7 @@ pub const SCENARIO_FILES: [InFile; 7] = [
     InFile::Stops,
     InFile::Routes,
     InFile::Departures,
+    InFile::Signals,
 ];
 
 /// What was read of each file: its bytes, or nothing where it has more than 2^28 of them.

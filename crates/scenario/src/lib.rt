@@ -16,6 +16,7 @@ mod renumbering;
 mod scenario;
 mod schedule_read;
 mod schedules;
+mod signals_read;
 
 pub use assembling::assemble;
 pub use chosen::chosen_plans;

@@ -21,7 +21,8 @@ invariant_of-result c =
     let R = network_view args.network in
     let P = file_rows_of args.file in
     let S = schedule_view args.schedule in
-    let T = town_of v R P.persons P.kinds S in
+    let G = args.greens in
+    let T = town_of v R P.persons P.kinds S G in
     let plans = c.in-Ok.plans in
     let town_is : rows_of c.in-Ok-town_with_names.town ≡ T = c.in-Ok-town_with_names.ensures.rows in
     let plans_are : all_plan_rows plans ≡ map (map (plan_in_town (leg_checks_in P S).numbers)) (all_plan_rows args.file.plans) =
@@ -30,9 +31,9 @@ invariant_of-result c =
     let count = sym (length-map plans (map plan_rows)) ∙ ap (λ (l : List (List PlanRows)). length l) plans_are
     ∙ length-map (all_plan_rows args.file.plans) (map (plan_in_town (leg_checks_in P S).numbers)) ∙ c.requires.sound.each in
     record {
-      each = count ∙ sym (ap (λ (names : List (List ℕ)). length names) (persons_are v R P.persons P.kinds S (rows_of c.in-Ok-town_with_names.town) town_is));
+      each = count ∙ sym (ap (λ (names : List (List ℕ)). length names) (persons_are v R P.persons P.kinds S G (rows_of c.in-Ok-town_with_names.town) town_is));
       fitting = ap (λ (t : TownRows). all_fit t (all_plan_rows plans)) town_is ∙ ap (λ (l : List (List PlanRows)). all_fit T l) plans_are
-          ∙ plans_fit v R P S there args.network.each_link c.requires.sound (all_kept args.file.plans) c.requires.free;
+          ∙ plans_fit v R P S G there args.network.each_link c.requires.sound (all_kept args.file.plans) c.requires.free;
     }
 
 pub returns-in-Ok-town_with_names : goal.returns-in-Ok-town_with_names
@@ -41,7 +42,7 @@ returns-in-Ok-town_with_names c =
     let args = c.args in
     let P = file_rows_of args.file in
     let S = schedule_view args.schedule in
-    let T = town_of (values_of args.settings) (network_view args.network) P.persons P.kinds S in
+    let T = town_of (values_of args.settings) (network_view args.network) P.persons P.kinds S args.greens in
     let plans = c.in-Ok.plans in
     let town = c.in-Ok-town_with_names.town in
     let town_is : rows_of town ≡ T = c.in-Ok-town_with_names.ensures.rows in

@@ -1,8 +1,6 @@
-use Rattle.scenario.proofs.Common.{◌≡◌, List, ℕ, sym, ◌∙◌, ap, length, subst, true, list_all, always, ends_of}
-use Rattle.std.proofs.lemmas.List.{length-replicate}
+use Rattle.scenario.proofs.Common.{◌≡◌, List, ℕ, sym, ◌∙◌, ap, length, subst, true, list_all, ends_of}
 use Rattle.events.specs.declared.event.Book.{Book}
 use Rattle.schedule.specs.Routes.{is_route}
-use Rattle.rows.specs.Greens.{Phases}
 use Rattle.scenario.proofs.assembling.town_of.Goals as goal
 
 pub invariant_of-result : goal.invariant_of-result
@@ -23,7 +21,7 @@ invariant_of-result c =
         routes = subst (λ (names : List (List ℕ)). list_all (is_route (length names) (length network.links) (ends_of network.links) schedule.stops.rows) schedule.routes.rows ≡ true) (sym lines) is.routes;
         few_departures = is.few_departures;
         departures = is.departures;
-        greens = ap (λ (l : List Phases). length l) c.requires.greens ∙ length-replicate (length network.links) always;
+        greens = c.requires.greens;
       };
       named = record {
         links = ap (λ (b : Book). b.links) c.requires.book;

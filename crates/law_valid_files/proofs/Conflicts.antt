@@ -1,0 +1,25 @@
+-- The links of a conflict in files without a fault are never green together.
+use Rattle.std.proofs.Common.{◌≡◌, None}
+use Rattle.std.specs.List.{All}
+use Rattle.edge_files.specs.declared.files.InFile.TheVariants as file
+use Rattle.records.specs.Files.{body_of}
+use Rattle.records.proofs.Unrefused.{or_none}
+use Rattle.rows.specs.Joined.{ends_of}
+use Rattle.signals.specs.Signals.{signals_fault, signal_rows_of, clash_fault, AreNeverGreen}
+use Rattle.signals.proofs.Lawful.{never_both}
+use Rattle.scenario.specs.Texts.{Texts, bytes_in}
+use Rattle.scenario.specs.FilesToScenario.{network_rows_of, town_of, planned_of, on_network, signals_on, signals_file_fault, conflict_fault, on_network_fault, scenario_fault, scenario_rows, conflicts_in}
+use Rattle.scenario.proofs.Told.{bytes_free, file_none}
+
+pub conflicts_kept : (texts : Texts) → scenario_fault texts ≡ None → All (AreNeverGreen (scenario_rows texts).town.greens) (conflicts_in texts)
+unfolding scenario_fault on_network_fault signals_file_fault conflict_fault scenario_rows on_network planned_of town_of signals_on
+conflicts_kept T none =
+    let a = or_none _ _ none in
+    let b = or_none _ _ a.1 in
+    let c = or_none _ _ b.1 in
+    let d = or_none _ _ c.1 in
+    let e = or_none _ _ d.1 in
+    let f = or_none _ _ e.1 in
+    let network = network_rows_of T in
+    let ends = ends_of network.links in
+    never_both network.link_names ends (bytes_in T file.Signals) (bytes_free T file.Signals (signals_fault network.link_names ends) e.0) (file_none file.Signals (clash_fault (signal_rows_of network.link_names (body_of (bytes_in T file.Signals)))) f.1)

@@ -13,7 +13,10 @@ use Rattle.traffic.specs.Frames.{Ascends}
 use Rattle.traffic.specs.Worlds.{OnePlace, Storage, FlowKept, Sound}
 use Rattle.law_capacity.specs.Moves.{IsElsewhere, second_moves, KeepsRule}
 use Rattle.law_matches_plans.specs.Planned.{IsToldAsPlanned}
-use Rattle.scenario.specs.FilesToScenario.{ScenarioRows}
+use Rattle.law_signals.specs.Signals.{KeepsSignals, NeverTogether}
+use Rattle.scenario.specs.Texts.{Texts}
+use Rattle.scenario.specs.FilesToScenario.{ScenarioRows, conflicts_in}
+use Rattle.signals.specs.declared.conflict.Conflict.{Conflict}
 use Rattle.day_scores.specs.Standing.{AreScored}
 use Rattle.command_line.specs.declared.commands.Command.TheVariants as command
 use Rattle.route_report.specs.Reported.{NoWay, IsReport}
@@ -22,8 +25,8 @@ use Rattle.qsim_top.specs.Answer.{first_day, road_map, report, work}
 
 -- The laws of a day: in every second each person is in exactly one place; no queue has more rows that were not pushed in than its storage;
 -- at the moment when a vehicle enters a queue there is room, or it is stuck and is pushed in; no more vehicles pass than the flow allows, and
--- only the turns of links, which these are counted of, bring a vehicle to a buffer; and the events are in the order of their keys, none of a
--- second past the end.
+-- only the turns of links, which these are counted of, bring a vehicle to a buffer; a vehicle leaves a link, or is removed from its buffer, only
+-- where the link is green; and the events are in the order of their keys, none of a second past the end.
 pub record IsLawful (S : Setup) : Type 0 where
   pub one_place : (t : ℕ) → OnePlace S (world_at S t)
   pub storage : (t : ℕ) → Storage S (world_at S t)
@@ -31,6 +34,7 @@ pub record IsLawful (S : Setup) : Type 0 where
       → second_moves S t (world_at S t) ≡ before ++ m ∷ later → KeepsRule S t (run S t before (world_at S t)) m
   pub flow : FlowKept S (world_start S)
   pub flow_elsewhere : (t n : ℕ) (p : Phase) (W : World) → p ≢ phase.D → All (IsElsewhere Buffer) (turns_of S t p n W)
+  pub green : All (KeepsSignals S) (day S)
   pub order : Ascends (day S)
   pub in_time : All (λ (e : Event). e.key.second ≤ S.settings.end_second) (day S)
 
@@ -42,6 +46,10 @@ pub record FollowsPlans (scenario : ScenarioRows) : Type 0 where
   pub sound : (t : ℕ) → Sound (first_day scenario) (world_at (first_day scenario) t)
   pub told : (i : ℕ) → i < length (first_day scenario).persons → IsToldAsPlanned (first_day scenario) i
   pub scored : AreScored (length (first_day scenario).persons) (day (first_day scenario))
+
+-- in no second of the day do vehicles leave both links of a conflict of signals.csv
+abbrev pub KeepsConflicts : Texts → Setup → Type 0
+KeepsConflicts texts S = All (λ (conflict : Conflict). NeverTogether S conflict.first conflict.second) (conflicts_in texts)
 
 -- The laws of what is reported of routes: there is no way exactly where no walk joins a node of the one name to a node of the other; and any
 -- other report tells a walk between such nodes, with the second in which it arrives, than which none arrives earlier, and the least arrivals

@@ -5,7 +5,7 @@ ghost use Rattle.command_line.specs.Cases.{case_of, Work};
 ghost use Rattle.qsim_top.specs.Contents.{Contents, AreLeft, texts_in};
 ghost use Rattle.scenario.specs.Texts.{Texts};
 ghost use Rattle.scenario.specs.FilesToScenario.{ScenarioRows, scenario_fault, scenario_rows};
-ghost use Rattle.qsim_top.specs.Laws.{IsLawful, FollowsPlans, ReportsRoutes};
+ghost use Rattle.qsim_top.specs.Laws.{IsLawful, FollowsPlans, KeepsConflicts, ReportsRoutes};
 ghost use Rattle.qsim_top.specs.Answer.{first_day, answer, report, is_of_words, is_of_work, IsSound, Answers, AnswersCase, OnlyReports};
 
 use crate::answers::{Answer, Status};
@@ -149,6 +149,7 @@ pub fn qsim<R: Threads + Wait + Sync, I: Inputs, O: Outputs, K: Keeper, G: Gate>
     // Of the day of every scenario, and of the day and the routes of files without a fault.
     ensures lawful { (scenario : ScenarioRows) → IsLawful (first_day scenario) }
     ensures planned { (texts : Texts) → scenario_fault texts ≡ None → FollowsPlans (scenario_rows texts) }
+    ensures conflicts { (texts : Texts) → scenario_fault texts ≡ None → KeepsConflicts texts (first_day (scenario_rows texts)) }
     ensures routed { (texts : Texts) → scenario_fault texts ≡ None → ReportsRoutes (scenario_rows texts) }
 {
     know_days();

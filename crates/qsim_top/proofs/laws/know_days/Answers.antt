@@ -1,5 +1,5 @@
 use Rattle.qsim_top.specs.Answer.{first_day}
-use Rattle.qsim_top.proofs.Lawful.{lawful, files_follow}
+use Rattle.qsim_top.proofs.Lawful.{lawful, files_follow, files_keep}
 use Rattle.qsim_top.proofs.Routed.{files_report}
 use Rattle.qsim_top.proofs.laws.know_days.Goals as goal
 
@@ -11,3 +11,6 @@ returns-clause-planned c = files_follow
 
 pub returns-clause-routed : goal.returns-clause-routed
 returns-clause-routed c = files_report
+
+pub returns-clause-conflicts : goal.returns-clause-conflicts
+returns-clause-conflicts c = files_keep

@@ -8,6 +8,7 @@ use network::{read_links, read_nodes};
 use plans::{PlanFile, read_plans};
 use schedule::{Stops, read_departures, read_routes, read_stops};
 use settings::read_settings;
+use signals::read_signals;
 use std::alloc::{AllocError, Global};
 
 /// Three links in a row, one back from their end to the end of the first, and one from a node to itself.
@@ -53,7 +54,8 @@ pub(crate) fn header_of(file: InFile) -> &'static str {
         InFile::Stops => "stop,link\n",
         InFile::Routes => "line,route,links,stops\n",
         InFile::Departures => "departure,route,second,seats\n",
-        InFile::Settings | InFile::Signals => "",
+        InFile::Signals => "kind,link,other,cycle,offset,greens\n",
+        InFile::Settings => "",
     }
 }
 
@@ -93,7 +95,7 @@ fn routes_stop(alloc: Global, bytes: &[u8]) -> Option<RowStop> {
 }
 
 /// What stops the reading of a file with these bytes, where something does. Links lie between the nodes A and B, departures are of
-/// the routes r1 and r2, and signals are not read.
+/// the routes r1 and r2.
 pub(crate) fn stop_of(alloc: Global, file: InFile, bytes: &[u8]) -> Option<RowStop> {
     match file {
         InFile::Settings => read_settings(alloc, bytes).err(),
@@ -103,7 +105,7 @@ pub(crate) fn stop_of(alloc: Global, file: InFile, bytes: &[u8]) -> Option<RowSt
         InFile::Stops => read_stops(alloc, bytes, &links_of(alloc)).err(),
         InFile::Routes => routes_stop(alloc, bytes),
         InFile::Departures => read_departures(alloc, bytes, &names_of(alloc, &["r1", "r2"])).err(),
-        InFile::Signals => None,
+        InFile::Signals => read_signals(alloc, bytes, &links_of(alloc), &ENDS).err(),
     }
 }
 

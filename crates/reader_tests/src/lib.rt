@@ -19,3 +19,7 @@ mod schedule_files;
 mod schedule_tables;
 #[cfg(test)]
 mod settings_files;
+#[cfg(test)]
+mod signals_files;
+#[cfg(test)]
+mod signals_tables;

@@ -1,5 +1,5 @@
 -- Spans that meet are exactly what lets two signals be green in one second.
-use Rattle.std.proofs.Common.{◌≡◌, ℕ, ◌+◌, ◌-◌, ◌*◌, ◌<◌, ◌≤◌, refl, sym, ◌∙◌, ap, subst, arith, inl, inr, true, false, Bool, ◌&&◌, ◌||◌, List, [], ◌∷◌, zero, suc}
+use Rattle.std.proofs.Common.{◌≡◌, ℕ, ◌+◌, ◌-◌, ◌*◌, ◌<◌, ◌≤◌, refl, sym, ◌∙◌, ap, subst, arith, inl, inr, true, Bool, ◌&&◌, List, [], ◌∷◌, zero, suc}
 use Rattle.std.specs.Prelude.{◌%◌, nat_lt, nat_le, min}
 use Rattle.std.specs.Bool.{Decides}
 use Rattle.std.specs.List.{list_any}
@@ -12,9 +12,8 @@ use Rattle.std.proofs.Math.Nat.{mod-add-mod}
 use Rattle.rows.specs.Greens.{Phases, IsLawful, holds, phase_of, is_green}
 use Rattle.signals.specs.Arcs.{IsBetween, arc_of, meet, meets_some, some_meet}
 use Rattle.signals.specs.Clash.{clash_below, clash, AreGreenTogether}
-use Rattle.signals.specs.declared.arcs.Arc.{Arc}
-use Rattle.signals.proofs.Numbers.{IsBehindBoth, behind_both, place_is, same_over, place_again}
-use Rattle.signals.proofs.Meeting.{arc, HaveInCommon, meet_where, meet_there}
+use Rattle.signals.proofs.Numbers.{behind_both, place_is, same_over, place_again}
+use Rattle.signals.proofs.Meeting.{arc, meet_where, meet_there}
 
 -- an element that passes, with all other tests that it passes
 pub some_of : {X : Type 0} (p : X → Bool) (xs : List X) → list_any p xs ≡ true → (x : X) × (p x ≡ true) × ((q : X → Bool) → q x ≡ true → list_any q xs ≡ true)

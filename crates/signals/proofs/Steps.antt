@@ -1,9 +1,9 @@
 -- The rows of signals.csv, read one after the other up to the first fault.
-use Rattle.records.proofs.Common.{◌≡◌, List, ap, ℕ, length, ◌∙◌, arith, map, [], ◌<◌, sym, None, Some, ◌++◌, ◌∷◌, refl, Option, ◌+◌, get_or, ◌≤◌, take, subst, true, Bool, cond, suc}
+use Rattle.records.proofs.Common.{◌≡◌, List, ap, ℕ, length, ◌∙◌, arith, map, [], ◌<◌, sym, None, Some, ◌++◌, ◌∷◌, refl, Option, ◌+◌, get_or, take, subst, true, Bool, cond, suc}
 use Rattle.std.proofs.Common.{◌≢◌, IfOk}
 use Rattle.edge_files.specs.declared.reasons.RowFault.{RowFault}
 use Rattle.records.proofs.Common.{Err, Ok, Result, length-map, take_all, take_more, fields_of, ByteRecord, Reason, RowStop, Answers, first_fault, body_of, TellsStop, Row, nat_eq}
-use Rattle.std.specs.Prelude.{replicate, set}
+use Rattle.std.specs.Prelude.{replicate}
 use Rattle.std.proofs.lemmas.Bool.{ne_eqb, eq-eqb}
 use Rattle.std.proofs.lemmas.List.{length-take-le, length-set, length-replicate}
 use Rattle.edge_files.specs.declared.reasons.Reason.TheVariants as reason

@@ -1,5 +1,5 @@
 -- What is read of signals.csv, as the definitions see it.
-use Rattle.std.specs.Prelude.{◌≡◌, ℕ, true, List, length, Option, None, Some, Result, Ok, Err}
+use Rattle.std.specs.Prelude.{◌≡◌, ℕ, true, length, Option, None, Some, Result, Ok, Err}
 use Rattle.std.specs.List.{list_all}
 use Rattle.edge_files.specs.declared.reasons.Reason.{Reason}
 use Rattle.signals.specs.declared.lists.Signals.{Signals}

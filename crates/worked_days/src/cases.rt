@@ -15,6 +15,7 @@ pub(crate) struct Case {
     pub(crate) stops: &'static str,
     pub(crate) routes: &'static str,
     pub(crate) departures: &'static str,
+    pub(crate) signals: &'static str,
 }
 
 const PLANS: &str = "person,plan,kind,name,link,time,route\n";
@@ -44,6 +45,7 @@ pub(crate) const LINE: Case = Case {
     stops: "",
     routes: "",
     departures: "",
+    signals: "",
 };
 
 /// A person at home until 100, a walk of 50 s, and work.
@@ -103,6 +105,7 @@ pub(crate) fn inputs_of(alloc: Global, case: &Case) -> MemoryInputs {
     put(&mut inputs, InFile::Stops, case.stops);
     put(&mut inputs, InFile::Routes, case.routes);
     put(&mut inputs, InFile::Departures, case.departures);
+    put(&mut inputs, InFile::Signals, case.signals);
     inputs
 }
 

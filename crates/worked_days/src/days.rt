@@ -242,7 +242,7 @@ static CARS: [Day; 6] = [
 
 /// Two links into a node with one place behind it, and a car on each. A word of the node draws who goes first: with seed 4711 it
 /// is 239,327,664 and with seed 1 it is 3,934,034,169, and the first link is drawn up to 1,431,655,765.
-const MEETING: Case = Case {
+pub(crate) const MEETING: Case = Case {
     settings: "{\"end_second\":200}",
     links: "link,from,to,length,speed,capacity,lanes\n\
         L1,A,C,10000,1000,1000,1\nL2,B,C,10000,1000,2000,1\nL3,C,D,50,1000,3600,1\n",
@@ -250,6 +250,51 @@ const MEETING: Case = Case {
         p2,0,act,home,L2,100,\np2,0,leg,car,,,L2 L3\np2,0,act,work,L3,,\n",
     ..LINE
 };
+
+/// A car before a signal that is green for half of each minute: it is red from 90 on, and the car, first from 100 on, waits until 120 and
+/// is not stuck; shifted by 40 it is green from 100 on.
+static SIGNALS: [Day; 2] = [
+    Day {
+        case: Case {
+            settings: "{\"end_second\":200}",
+            signals: "kind,link,other,cycle,offset,greens\nsignal,L1,,60,0,0-30\n",
+            ..DRIVE
+        },
+        report: "iteration,0,10,0,-49980\ndone,0\n",
+        scores: "0,p1,0,-49980\n",
+        events: "iteration,0\n\
+            100,actend,p1,,L1,home\n\
+            100,departure,p1,,L1,car\n\
+            100,PersonEntersVehicle,p1,p1,,\n\
+            100,vehicle enters traffic,p1,p1,L1,\n\
+            120,left link,,p1,L1,\n\
+            120,entered link,,p1,L2,\n\
+            130,vehicle leaves traffic,p1,p1,L2,\n\
+            130,PersonLeavesVehicle,p1,p1,,\n\
+            130,arrival,p1,,L2,car\n\
+            130,actstart,p1,,L2,work\n",
+    },
+    Day {
+        case: Case {
+            settings: "{\"end_second\":200}",
+            signals: "kind,link,other,cycle,offset,greens\nsignal,L1,,60,40,0-30\n",
+            ..DRIVE
+        },
+        report: "iteration,0,10,0,-18326\ndone,0\n",
+        scores: "0,p1,0,-18326\n",
+        events: "iteration,0\n\
+            100,actend,p1,,L1,home\n\
+            100,departure,p1,,L1,car\n\
+            100,PersonEntersVehicle,p1,p1,,\n\
+            100,vehicle enters traffic,p1,p1,L1,\n\
+            101,left link,,p1,L1,\n\
+            101,entered link,,p1,L2,\n\
+            111,vehicle leaves traffic,p1,p1,L2,\n\
+            111,PersonLeavesVehicle,p1,p1,,\n\
+            111,arrival,p1,,L2,car\n\
+            111,actstart,p1,,L2,work\n",
+    },
+];
 
 static MEETINGS: [Day; 2] = [
     Day {
@@ -620,6 +665,7 @@ fn walkers_and_cars_have_their_day(rt: HostRuntime) {
 fn cars_wait_for_one_another(rt: HostRuntime) {
     assert_eq!(rt; first_wrong(&rt, rt.alloc(), &MEETINGS), "");
     assert_eq!(rt; first_wrong(&rt, rt.alloc(), &NARROWS), "");
+    assert_eq!(rt; first_wrong(&rt, rt.alloc(), &SIGNALS), "");
 }
 
 #[test]

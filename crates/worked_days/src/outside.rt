@@ -282,6 +282,9 @@ const BUS_PLANS: &str = "person,plan,kind,name,link,time,route\n\
     p1,0,act,home,L1,100,\np1,0,leg,pt,,,b s1 s3\np1,0,act,work,L3,,\n\
     p2,0,act,home,L1,100,\np2,0,leg,pt,,,b s1 s3\np2,0,act,work,L3,,\n";
 
+/// A signal of the first link.
+const SIGNALS: &str = "kind,link,other,cycle,offset,greens\nsignal,L1,,60,0,0-30\n";
+
 /// The text of a file on the day of the bus, and the lengths of its fronts that leave a whole scenario.
 struct Cut {
     file: InFile,
@@ -289,9 +292,9 @@ struct Cut {
     whole: &'static [usize],
 }
 
-/// A last line needs no line feed; settings and departures may be left out; a person stays where the plan ends with an activity; and
-/// the last stop call may be at 6 in place of 60.
-static CUTS: [Cut; 7] = [
+/// A last line needs no line feed; settings, departures and signals may be left out; a person stays where the plan ends with an activity;
+/// the last stop call may be at 6 in place of 60; and a signal may never be green, or only in its first seconds.
+static CUTS: [Cut; 8] = [
     Cut {
         file: InFile::Settings,
         text: BUS_SETTINGS,
@@ -326,6 +329,11 @@ static CUTS: [Cut; 7] = [
         file: InFile::Departures,
         text: DEPARTURES,
         whole: &[0, 28, 29, 40],
+    },
+    Cut {
+        file: InFile::Signals,
+        text: SIGNALS,
+        whole: &[0, 35, 36, 52, 55, 56],
     },
 ];
 

@@ -3,6 +3,7 @@
 use crate::cases::{
     BUS, Case, DRIVE, LINE, WALK, are_written, inputs_of, is_answered, put, status_of,
 };
+use crate::days::MEETING;
 use edge_files::{InFile, MemoryOutputs};
 use qsim_top::Status;
 use std::alloc::Global;
@@ -354,6 +355,55 @@ fn faults_are_named(rt: HostRuntime) {
     assert_eq!(rt; first_taken(&rt, rt.alloc(), &TIMETABLES), "");
 }
 
+/// Faults of signals.csv, and behind them those of plans.csv and of conflicts.
+static SIGNALS: [Refusal; 5] = [
+    Refusal {
+        case: Case {
+            signals: "kind,link,other,cycle,offset,greens\nsignal,L1,,60,60,0-30\n",
+            ..MEETING
+        },
+        report: "refused,signals.csv,1,22,SignalWrong\n",
+    },
+    // Both are green at 8.
+    Refusal {
+        case: Case {
+            signals: "kind,link,other,cycle,offset,greens\n\
+                signal,L1,,4,0,0-1\nsignal,L2,,6,0,2-3\nconflict,L1,L2,,,\n",
+            ..MEETING
+        },
+        report: "refused,signals.csv,3,23,Conflict\n",
+    },
+    Refusal {
+        case: Case {
+            signals: "kind,link,other,cycle,offset,greens\nconflict,L1,L2,,,\n",
+            ..MEETING
+        },
+        report: "refused,signals.csv,1,23,Conflict\n",
+    },
+    // A leg that does not fit comes behind the rows of signals.csv and before its conflicts.
+    Refusal {
+        case: Case {
+            plans: "p1,0,act,home,L1,100,\np1,0,leg,car,,,\np1,0,act,work,L3,,\n",
+            signals: "kind,link,other,cycle,offset,greens\nconflict,L1,L2,,,\nconflict,L1,L3,,,\n",
+            ..MEETING
+        },
+        report: "refused,signals.csv,2,22,SignalWrong\n",
+    },
+    Refusal {
+        case: Case {
+            plans: "p1,0,act,home,L1,100,\np1,0,leg,car,,,\np1,0,act,work,L3,,\n",
+            signals: "kind,link,other,cycle,offset,greens\nconflict,L1,L2,,,\n",
+            ..MEETING
+        },
+        report: "refused,plans.csv,2,19,NoRoute\n",
+    },
+];
+
+#[test]
+fn faults_of_signals_are_named(rt: HostRuntime) {
+    assert_eq!(rt; first_taken(&rt, rt.alloc(), &SIGNALS), "");
+}
+
 /// Texts that are no JSON or no object.
 static NO_OBJECTS: [&str; 14] = [
     " ",
@@ -481,8 +531,15 @@ static ONE_DRIVE: Case = DRIVE;
 
 static ONE_BUS: Case = BUS;
 
+/// The two signals are never green together.
+static TURNS: Case = Case {
+    signals: "kind,link,other,cycle,offset,greens\nsignal,L1,,4,0,0-1\nsignal,L2,,6,0,3-4\nconflict,L1,L2,,,\n",
+    ..MEETING
+};
+
 #[test]
 fn check_tells_counts(rt: HostRuntime) {
     assert!(rt; is_counted(&rt, rt.alloc(), &ONE_DRIVE, "valid,4,3,1,0,0,0\n"));
     assert!(rt; is_counted(&rt, rt.alloc(), &ONE_BUS, "valid,4,3,2,2,1,1\n"));
+    assert!(rt; is_counted(&rt, rt.alloc(), &TURNS, "valid,4,3,2,0,0,0\n"));
 }

@@ -1,4 +1,4 @@
-use Rattle.std.proofs.Common.{◌≡◌, ◌∙◌, sym, subst}
+use Rattle.std.proofs.Common.{◌∙◌, sym, subst}
 use Rattle.std.specs.Int.{IsGcd}
 use Rattle.rows.specs.Greens.{Phases, IsLawful}
 use Rattle.signals.specs.Arcs.{IsBetween}

@@ -1,4 +1,4 @@
-use Rattle.records.proofs.Common.{◌∙◌, ap, arith, ℕ, List, None, [], map, fields_of}
+use Rattle.records.proofs.Common.{◌∙◌, ap, arith, ℕ, None, [], map, fields_of}
 use Rattle.std.specs.Prelude.{replicate}
 use Rattle.signals.specs.Rows.{Seen}
 use Rattle.signals.specs.Signals.{SignalRows, signal_rows_of, or_always}

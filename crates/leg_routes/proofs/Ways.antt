@@ -32,7 +32,7 @@ no_way query to inside within none =
     none
 
 -- the chosen route is the one of the definition
-pub least_way : (query : Query) (to : ℕ) (links : List ℕ) (at : ℕ) → IsLeastWay query to links at 
+pub least_way : (query : Query) (to : ℕ) (links : List ℕ) (at : ℕ) → IsLeastWay query to links at
     → way_to query.graph (arrivals query.times) query.from query.second to ≡ Some links
 unfolding way_to
 least_way query to links at way = rw way.label (ap Some (sym way.chosen))

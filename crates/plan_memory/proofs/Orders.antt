@@ -59,7 +59,7 @@ at_first p xs there = let is : ltb (position_or_len p xs) (length xs) ≡ true =
 first_passes : (p : Option ℤ → Bool) (xs : List (Option ℤ)) (i : ℕ) → i < length xs → p (get_or xs i None) ≡ true
     → p (get_or xs (unwrap_or (position p xs) 0) None) ≡ true
 first_passes p xs i within passes = elim (cases_lt (position_or_len p xs) (length xs)) [
-  inl there ↦ rw (at_first p xs there) (passes_at_first p xs None there)
+  | inl there ↦ rw (at_first p xs there) (passes_at_first p xs None there)
   | inr none ↦ let fails = fails_before_first p xs i None (omega arith) in cc
 ]
 

@@ -1,9 +1,9 @@
 //! Files and counts at their limits.
 
-use crate::cases::{Case, LINE, are_written, inputs_of, put, status_of};
-use edge_files::{Failed, InFile, Inputs, MemoryInputs, MemoryOutputs};
+use crate::cases::{Case, LINE, are_written, inputs_of, is_written, put, status_of};
+use edge_files::{Failed, InFile, Inputs, MemoryOutputs, OutFile};
 use qsim_top::Status;
-use std::alloc::{AllocError, Global};
+use std::alloc::Global;
 use std::sync::Wait;
 use std::thread::Threads;
 
@@ -45,13 +45,22 @@ fn a_long_file_is_refused(rt: HostRuntime) {
 }
 
 /// A plans.csv of so many persons of one activity each.
-fn persons(alloc: Global, count: u32) -> Result<String, AllocError> {
-    let mut plans = String::from_str(alloc, "person,plan,kind,name,link,time,route\n")?;
+fn persons(alloc: Global, count: u32) -> String {
+    let mut plans = String::new(alloc);
+    let _ = write!(plans, "person,plan,kind,name,link,time,route\n");
     for person in 0..count {
-        let row = format!(in alloc; "p{person},0,act,home,L1,,\n")?;
-        plans.push_str(row.as_str())?;
+        let _ = write!(plans, "p{person},0,act,home,L1,,\n");
     }
-    Ok(plans)
+    plans
+}
+
+/// Their scores, each of them 0.
+fn scores(alloc: Global, count: u32) -> String {
+    let mut scores = String::new(alloc);
+    for person in 0..count {
+        let _ = write!(scores, "0,p{person},0,0\n");
+    }
+    scores
 }
 
 /// A day of 100 s.
@@ -60,35 +69,44 @@ static SHORT: Case = Case {
     ..LINE
 };
 
-/// That day with so many persons.
-fn day_of(alloc: Global, count: u32) -> MemoryInputs {
-    let mut inputs = inputs_of(alloc, &SHORT);
-    if let Ok(plans) = persons(alloc, count) {
-        put(&mut inputs, InFile::Plans, plans.as_str());
-    }
-    inputs
-}
-
-/// Whether such a day ends so, with this report and these events.
-fn ends_so<R: Threads + Wait + Sync>(
+/// How that day ends with these plans, and what it writes.
+fn run_of<R: Threads + Wait + Sync>(
     rt: &R,
     alloc: Global,
-    count: u32,
-    status: Status,
-    report: &str,
-    events: &str,
-) -> bool {
-    let mut inputs = day_of(alloc, count);
+    plans: &str,
+    outputs: &mut MemoryOutputs,
+) -> Status {
+    let mut inputs = inputs_of(alloc, &SHORT);
+    put(&mut inputs, InFile::Plans, plans);
+    status_of(rt, alloc, &["qsim", "run"], &mut inputs, outputs)
+}
+
+/// Whether that day is done, with these scores, and the plans come out of it as they went in.
+fn is_done<R: Threads + Wait + Sync>(rt: &R, alloc: Global, plans: &str, scores: &str) -> bool {
     let mut outputs = MemoryOutputs::new(alloc);
-    let came = status_of(rt, alloc, &["qsim", "run"], &mut inputs, &mut outputs);
-    came == status && are_written(&outputs, report, events)
+    let came = run_of(rt, alloc, plans, &mut outputs);
+    came == Status::Done
+        && is_written(&outputs, OutFile::Report, "iteration,0,0,0,0\ndone,0\n")
+        && is_written(&outputs, OutFile::Events, "iteration,0\n")
+        && is_written(&outputs, OutFile::Scores, scores)
+        && is_written(&outputs, OutFile::Plans, plans)
+}
+
+/// Whether these plans are refused, with this report.
+fn is_refused<R: Threads + Wait + Sync>(rt: &R, alloc: Global, plans: &str, report: &str) -> bool {
+    let mut outputs = MemoryOutputs::new(alloc);
+    let came = run_of(rt, alloc, plans, &mut outputs);
+    came == Status::Refused && are_written(&outputs, report, "")
 }
 
 /// As many persons as there may be, and one more.
 #[test]
 fn the_limit_of_persons_is_kept(rt: HostRuntime) {
-    let done = "iteration,0,0,0,0\ndone,0\n";
-    assert!(rt; ends_so(&rt, rt.alloc(), 65_536, Status::Done, done, "iteration,0\n"));
+    let alloc = rt.alloc();
+    let most = persons(alloc, 65_536);
+    let their_scores = scores(alloc, 65_536);
+    assert!(rt; is_done(&rt, alloc, most.as_str(), their_scores.as_str()));
+    let too_many = persons(alloc, 65_537);
     let refused = "refused,plans.csv,65537,11,TooMany\n";
-    assert!(rt; ends_so(&rt, rt.alloc(), 65_537, Status::Refused, refused, ""));
+    assert!(rt; is_refused(&rt, alloc, too_many.as_str(), refused));
 }

@@ -1,0 +1,4 @@
+pub mod Moved
+pub mod Rerouted
+pub mod Numbers
+pub mod Kept

@@ -1,0 +1,4 @@
+pub mod Acts
+pub mod Legs
+pub mod Persons
+pub mod Views

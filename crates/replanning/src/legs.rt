@@ -1,0 +1,118 @@
+//! Legs copied, with their routes or with new ones.
+
+ghost use Rattle.std.specs.Prelude.{◌≡◌, ◌<◌, ◌≤◌, ◌+◌, ◌∷◌, ◌++◌, length, drop, true, IfOk};
+ghost use Rattle.std.specs.List.{list_all};
+ghost use Rattle.rows.specs.Plan.{is_leg};
+ghost use Rattle.travel_times.specs.Times.{arrivals};
+ghost use Rattle.replanning.specs.Legs.{rerouted_leg, rerouted_legs, are_on};
+
+use leg_routes::leg_route;
+use router::Adjacency;
+use rows::{Act, Leg};
+use std::alloc::{AllocError, Global};
+use travel_times::LinkTimes;
+
+fn copied_leg(leg: &Leg) -> Result<Leg, AllocError>
+    ensures { IfOk result (λ copy. copy ≡ leg.now) }
+{
+    match leg {
+        Leg::Car { route } => {
+            let route = route.try_clone()?;
+            Ok(Leg::Car { route })
+        }
+        Leg::Teleport { mode, seconds } => Ok(Leg::Teleport {
+            mode: *mode,
+            seconds: *seconds,
+        }),
+        Leg::Transit {
+            line,
+            access,
+            egress,
+        } => Ok(Leg::Transit {
+            line: *line,
+            access: *access,
+            egress: *egress,
+        }),
+    }
+}
+
+pub fn copied_legs(alloc: Global, legs: &[Leg]) -> Result<Vec<Leg>, AllocError>
+    ensures { IfOk result (λ copies. copies.items ≡ legs.now) }
+{
+    let mut copies = Vec::new(alloc);
+    for leg in legs {
+        copies.push(copied_leg(leg)?)?;
+    }
+    Ok(copies)
+}
+
+/// A leg between an activity and one on a link: a car leg has a new route, where there is one that is short enough.
+#[tactic(auto, unfolding(crate::specs::Legs::rerouted_leg))]
+fn rerouted_leg(
+    alloc: Global,
+    adjacency: &Adjacency,
+    times: &LinkTimes,
+    here: Act,
+    there: u32,
+    leg: &Leg,
+) -> Result<Leg, AllocError>
+    requires times { length times.now ≡ length adjacency.now.ends }
+    requires here { here.link < length adjacency.now.ends }
+    requires there { there < length adjacency.now.ends }
+    ensures leg { IfOk result (λ new. new ≡ rerouted_leg adjacency.now (arrivals times.now) here there leg.now) }
+    ensures sound { IfOk result (λ new. is_leg leg.now ≡ true → is_leg new ≡ true) }
+{
+    let Leg::Car { route: _ } = leg else {
+        return copied_leg(leg);
+    };
+    let second = here.end.unwrap_or(0);
+    match leg_route(alloc, adjacency, times, second, here.link, there)? {
+        Some(route) => Ok(Leg::Car { route }),
+        None => copied_leg(leg),
+    }
+}
+
+/// The leg at a place, between the activity before it and the one after it.
+#[tactic(auto, using(crate::proofs::Rerouted::rerouted_more))]
+fn rerouted_at(
+    alloc: Global,
+    adjacency: &Adjacency,
+    times: &LinkTimes,
+    acts: &[Act],
+    legs: &[Leg],
+    place: usize,
+) -> Result<Leg, AllocError>
+    requires times { length times.now ≡ length adjacency.now.ends }
+    requires acts { length acts.now ≡ length legs.now + 1 }
+    requires on { are_on (length adjacency.now.ends) acts.now ≡ true }
+    requires place { place < length legs.now }
+    ensures leg { IfOk result (λ new. rerouted_legs adjacency.now (arrivals times.now) (drop place acts.now) (drop place legs.now)
+        ≡ new ∷ rerouted_legs adjacency.now (arrivals times.now) (drop (place + 1) acts.now) (drop (place + 1) legs.now)) }
+    ensures sound { IfOk result (λ new. list_all is_leg legs.now ≡ true → is_leg new ≡ true) }
+{
+    let there = acts[place + 1].link;
+    let leg = rerouted_leg(alloc, adjacency, times, acts[place], there, &legs[place])?;
+    Ok(leg)
+}
+
+/// Each leg between the activity before it and the one after it.
+pub fn rerouted_legs(
+    alloc: Global,
+    adjacency: &Adjacency,
+    times: &LinkTimes,
+    acts: &[Act],
+    legs: &[Leg],
+) -> Result<Vec<Leg>, AllocError>
+    requires times { length times.now ≡ length adjacency.now.ends }
+    requires acts { length acts.now ≡ length legs.now + 1 }
+    requires on { are_on (length adjacency.now.ends) acts.now ≡ true }
+    ensures legs { IfOk result (λ new. new.items ≡ rerouted_legs adjacency.now (arrivals times.now) acts.now legs.now) }
+    ensures sound { IfOk result (λ new. list_all is_leg legs.now ≡ true → list_all is_leg new.items ≡ true) }
+    ensures count { IfOk result (λ new. length new.items ≡ length legs.now) }
+{
+    let mut new = Vec::new(alloc);
+    for place in 0..legs.len() {
+        new.push(rerouted_at(alloc, adjacency, times, acts, legs, place)?)?;
+    }
+    Ok(new)
+}

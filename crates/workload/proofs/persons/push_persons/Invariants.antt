@@ -1,0 +1,8 @@
+use Rattle.std.proofs.Common.{◌≡◌, ◌++◌, codes, string_bytes}
+use Rattle.std.specs.List.{flat_map, range_with_len}
+use Rattle.plan_text.specs.Lines.{row_line}
+use Rattle.workload.specs.Texts.{person_lines}
+use Rattle.workload.proofs.persons.push_persons.Given as goal
+
+abbrev pub invariant-loop-person : goal.invariant-loop-person
+invariant-loop-person l = string_bytes l.text ≡ string_bytes l.initial.text ++ flat_map (person_lines l.size l.links l.seed) (range_with_len 0 l.person)

@@ -1,0 +1,5 @@
+pub mod Grids
+pub mod Links
+pub mod Commuters
+pub mod Rows
+pub mod Texts

@@ -9,6 +9,8 @@ mod days;
 #[cfg(test)]
 mod fits;
 #[cfg(test)]
+mod greens;
+#[cfg(test)]
 mod jams;
 #[cfg(test)]
 mod outside;
@@ -20,8 +22,6 @@ mod routes;
 mod scores;
 #[cfg(test)]
 mod seconds;
-#[cfg(test)]
-mod signals;
 #[cfg(test)]
 mod sizes;
 #[cfg(test)]

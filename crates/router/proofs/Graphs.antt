@@ -63,43 +63,37 @@ ends_within_nodes nodes links xs is sound =
     subst P (sym is) (All-map (λ (n : ℕ). n < nodes) (λ (l : LinkRow). l.to) links
     (λ k d within. (ends_within nodes (slice_index_or links k d) (AllPass-from_list_all (is_link nodes) links sound k d within)).1))
 
-length-ends : (xs ys : List ℕ) → length ys ≡ length xs → length (zip xs ys) ≡ length xs
-length-ends xs ys same = let count = length-zip xs ys in omega arith
+pub ends_in_step : (xs ys : List ℕ) → length ys ≡ length xs → length (zip xs ys) ≡ length xs
+ends_in_step xs ys same = let count = length-zip xs ys in omega arith
+
+-- both ends of a link are among the nodes
+sides_within : (a : Inside) (link : ℕ) → IsAdjacency a → link < length a.from.items →
+    (slice_index a.from.items link < length a.out) × (slice_index a.to.items link < length a.out)
+sides_within a link kept within =
+    let P : ℕ × ℕ → Type 0 = λ p. (p.0 < length a.out) × (p.1 < length a.out) in
+    subst P (pair_at a.from.items a.to.items link kept.each)
+    (kept.inside link (0, 0) (let count = ends_in_step a.from.items a.to.items kept.each in omega arith))
+
+pub start_within : (a : Inside) (link : ℕ) → IsAdjacency a → link < length a.from.items → slice_index a.from.items link < length a.out
+start_within a link kept within = (sides_within a link kept within).0
+
+pub end_within : (a : Inside) (link : ℕ) → IsAdjacency a → link < length a.from.items → slice_index a.to.items link < length a.out
+end_within a link kept within = (sides_within a link kept within).1
 
 -- what is kept of a graph says where its links begin and end
 module _ (a : Inside) (g : Graph) (kept : IsAdjacency a) (view : kept_graph a ≡ g) where
   link_within : (link : ℕ) → link < length g.ends → link < length a.from.items
   link_within link within =
       let same = ap (λ (h : Graph). length h.ends) view in
-      let count = length-ends a.from.items a.to.items kept.each in
+      let count = ends_in_step a.from.items a.to.items kept.each in
       omega arith
-
-  pub start_kept : (link : ℕ) → link < length g.ends →
-      (link < length a.from.items) × (slice_index a.from.items link ≡ start_of g.ends link) × (slice_index a.from.items link < g.nodes)
-  start_kept link within =
-      let here = link_within link within in
-      let is : slice_index a.from.items link ≡ start_of (zip a.from.items a.to.items) link =
-      ap (λ (f : ℕ → ℕ). f link) (start_is a.from.items a.to.items kept.each) in
-      let inside = (kept.inside link (0, 0) (let count = length-ends a.from.items a.to.items kept.each in omega arith)).0 in
-      let nodes = ap (λ (h : Graph). h.nodes) view in
-      (here, is ∙ ap (λ (h : Graph). start_of h.ends link) view, omega arith)
-
-  pub end_kept : (link : ℕ) → link < length g.ends → (link < length a.to.items) × (slice_index a.to.items link ≡ end_of g.ends link) ×
-      (slice_index a.to.items link < g.nodes)
-  end_kept link within =
-      let here = link_within link within in
-      let is : slice_index a.to.items link ≡ end_of (zip a.from.items a.to.items) link =
-      ap (λ (f : ℕ → ℕ). f link) (end_is a.from.items a.to.items kept.each) in
-      let inside = (kept.inside link (0, 0) (let count = length-ends a.from.items a.to.items kept.each in omega arith)).1 in
-      let nodes = ap (λ (h : Graph). h.nodes) view in
-      (let each = kept.each in omega arith, is ∙ ap (λ (h : Graph). end_of h.ends link) view, omega arith)
 
   pub out_each : (node : ℕ) → All (λ link. (link < length g.ends) × (start_of g.ends link ≡ node)) (slice_index_or a.out node [])
   out_each node =
       let P : Graph → Type 0 = λ h. All (λ link. (link < length h.ends) × (start_of h.ends link ≡ node)) (slice_index_or a.out node []) in
       let Q : ℕ → Type 0 = λ n. All (λ link. (link < n) × (start_of (zip a.from.items a.to.items) link ≡ node))
       (slice_index_or a.out node []) in
-      subst P view (subst Q (sym (length-ends a.from.items a.to.items kept.each)) (kept.out.each node))
+      subst P view (subst Q (sym (ends_in_step a.from.items a.to.items kept.each)) (kept.out.each node))
 
   pub out_every : (node link : ℕ) → link < length g.ends → start_of g.ends link ≡ node → Contains (slice_index_or a.out node []) link
   out_every node link within begins =
@@ -111,7 +105,7 @@ module _ (a : Inside) (g : Graph) (kept : IsAdjacency a) (view : kept_graph a �
       let P : Graph → Type 0 = λ h. All (λ link. (link < length h.ends) × (end_of h.ends link ≡ node)) (slice_index_or a.into node []) in
       let Q : ℕ → Type 0 = λ n. All (λ link. (link < n) × (end_of (zip a.from.items a.to.items) link ≡ node))
       (slice_index_or a.into node []) in
-      subst P view (subst Q (sym (length-ends a.from.items a.to.items kept.each)) (kept.into.each node))
+      subst P view (subst Q (sym (ends_in_step a.from.items a.to.items kept.each)) (kept.into.each node))
 
   pub into_every : (node link : ℕ) → link < length g.ends → end_of g.ends link ≡ node → Contains (slice_index_or a.into node []) link
   into_every node link within ends =

@@ -81,6 +81,7 @@ impl Adjacency {
     }
 
     /// Where a link begins.
+    #[tactic(auto, using(crate::proofs::Graphs::pair_at, crate::proofs::Graphs::ends_in_step, crate::proofs::Graphs::start_within))]
     pub fn start(&self, link: u32) -> u32
         requires { link < length self.now.ends }
         ensures node { result ≡ start_of self.now.ends link }
@@ -90,6 +91,7 @@ impl Adjacency {
     }
 
     /// Where a link ends.
+    #[tactic(auto, using(crate::proofs::Graphs::pair_at, crate::proofs::Graphs::ends_in_step, crate::proofs::Graphs::end_within))]
     pub fn end(&self, link: u32) -> u32
         requires { link < length self.now.ends }
         ensures node { result ≡ end_of self.now.ends link }

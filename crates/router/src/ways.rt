@@ -1,4 +1,4 @@
-ghost use Rattle.std.specs.Prelude.{◌≡◌, ℕ, ◌+◌, ◌^◌, ◌<◌, ◌≤◌, ◌++◌, length, reverse, IfOk, IfSome, IsSome};
+ghost use Rattle.std.specs.Prelude.{◌≡◌, ℕ, ◌+◌, ◌^◌, ◌<◌, ◌≤◌, length, IfOk, IfSome, IsSome};
 ghost use Rattle.travel_times.specs.Times.{arrivals};
 ghost use Rattle.walks.specs.Rounds.{label_at};
 ghost use Rattle.walks.specs.Certificates.{AreSmall};
@@ -63,35 +63,6 @@ fn is_below(link: u32, other: Option<u32>) -> bool
     }
 }
 
-/// The links from a node back to the start of a search, the last one first.
-fn links_back(
-    alloc: Global,
-    adjacency: &Adjacency,
-    times: &LinkTimes,
-    labels: &[Option<u64>],
-    from: u32,
-    to: u32,
-) -> Result<Vec<u32>, AllocError>
-    requires to { to < adjacency.now.nodes }
-    requires times { length times.now ≡ length adjacency.now.ends }
-    requires labels { length labels.now ≡ adjacency.now.nodes }
-    requires small { AreSmall labels.now }
-    requires label { IsSome (label_at labels.now to) }
-    ensures { IfOk result (λ links. followed adjacency.now.ends (arrivals times.now) labels.now from adjacency.now.nodes to
-        ≡ reverse links.items) }
-{
-    let mut links = Vec::new(alloc);
-    let mut node = to;
-    while node != from {
-        let Some(link) = link_before(adjacency, times, labels, node) else {
-            return Ok(links);
-        };
-        links.push(link)?;
-        node = adjacency.start(link);
-    }
-    Ok(links)
-}
-
 /// The links from the start of a search to a node, followed back by the labels.
 pub fn followed_back(
     alloc: Global,
@@ -108,7 +79,15 @@ pub fn followed_back(
     requires label { IsSome (label_at labels.now to) }
     ensures { IfOk result (λ links. links.items ≡ followed adjacency.now.ends (arrivals times.now) labels.now from adjacency.now.nodes to) }
 {
-    let mut links = links_back(alloc, adjacency, times, labels, from, to)?;
+    let mut links = Vec::new(alloc);
+    let mut node = to;
+    while node != from {
+        let Some(link) = link_before(adjacency, times, labels, node) else {
+            break;
+        };
+        links.push(link)?;
+        node = adjacency.start(link);
+    }
     links.reverse();
     Ok(links)
 }

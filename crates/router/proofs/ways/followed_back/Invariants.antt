@@ -3,7 +3,7 @@ use Rattle.travel_times.specs.Times.{arrivals}
 use Rattle.walks.specs.Rounds.{label_at, rank}
 use Rattle.walks.specs.Chosen.{followed}
 use Rattle.router.specs.Ways.{label_or_0}
-use Rattle.router.proofs.ways.links_back.Given as goal
+use Rattle.router.proofs.ways.followed_back.Given as goal
 
 -- what is followed back from here and what was gathered is what is followed back from the end
 abbrev pub invariant-loop-node : goal.invariant-loop-node

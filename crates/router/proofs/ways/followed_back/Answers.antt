@@ -1,4 +1,4 @@
-use Rattle.std.proofs.Common.{◌≡◌, ◌<◌, ◌+◌, ◌-◌, ◌≤◌, ◌++◌, ℕ, List, length, reverse, Some, ap, sym, ◌∙◌}
+use Rattle.std.proofs.Common.{◌≡◌, ◌<◌, ◌+◌, ◌-◌, ◌≤◌, ◌++◌, ℕ, List, [], length, reverse, Some, ap, sym, ◌∙◌}
 use Rattle.travel_times.specs.Times.{arrivals}
 use Rattle.travel_times.proofs.Arriving.{arrivals_are_fifo}
 use Rattle.walks.specs.Rounds.{label_at, rank}
@@ -6,7 +6,8 @@ use Rattle.walks.specs.Chosen.{followed}
 use Rattle.walks.proofs.Followed.{link_leads}
 use Rattle.router.specs.Ways.{label_or_0}
 use Rattle.router.proofs.Backs.{labelled, back_start, back_more, back_none, back_here}
-use Rattle.router.proofs.ways.links_back.Goals as goal
+use Rattle.router.proofs.ways.followed_back.Goals as goal
+use Rattle.router.proofs.ways.followed_back.Goals.{else-loop-node-test, then-loop-node-test+in_default}
 
 pub loop-node-init : goal.loop-node-init
 loop-node-init c =
@@ -18,13 +19,6 @@ loop-node-init c =
       left = begin.0;
       way = begin.1;
     }
-
-pub returns-in_default : goal.returns-in_default
-returns-in_default c =
-    c.loop-node.invariant.way ∙ ap (λ (links : List ℕ). links ++ reverse c.loop-node.links.items)
-    (back_none c.args.adjacency.now.ends (arrivals c.args.times.now) c.args.labels.now c.args.from
-    (c.args.adjacency.now.nodes - length c.loop-node.links.items) c.loop-node.node
-    (sym c.link_before.ensures ∙ c.in_default.is))
 
 pub start-node-requires : goal.start-node-requires
 start-node-requires c =
@@ -58,6 +52,14 @@ loop-node-preserved c = record {
 
 pub returns : goal.returns
 returns c =
-    c.loop-node.invariant.way ∙ ap (λ (links : List ℕ). links ++ reverse c.loop-node.links.items)
-    (back_here c.args.adjacency.now.ends (arrivals c.args.times.now) c.args.labels.now c.args.from
-    (c.args.adjacency.now.nodes - length c.loop-node.links.items) c.loop-node.node c.loop-node-test.false)
+    let most = c.args.adjacency.now.nodes - length c.loop-node.links.items in
+    let nothing_left : followed c.args.adjacency.now.ends (arrivals c.args.times.now) c.args.labels.now c.args.from most c.loop-node.node ≡ [] =
+    elim c.loop-node-test.branch [
+      | else-loop-node-test w ↦
+          back_here c.args.adjacency.now.ends (arrivals c.args.times.now) c.args.labels.now c.args.from most c.loop-node.node
+          w.loop-node-test.false
+      | then-loop-node-test+in_default w ↦
+          back_none c.args.adjacency.now.ends (arrivals c.args.times.now) c.args.labels.now c.args.from most c.loop-node.node
+          (sym w.link_before.ensures ∙ w.in_default.is)
+    ] in
+    c.reverse.ensures.items ∙ sym (c.loop-node.invariant.way ∙ ap (λ (links : List ℕ). links ++ reverse c.loop-node.links.items) nothing_left)

@@ -121,14 +121,22 @@ static PAIRS: [(u32, u32, u32, u32, u32, u32, u32, u32, bool); 10] = [
     (10, 0, 5, 4_000_000_000, 10, 0, 9, 4_000_000_000, true),
 ];
 
+/// Whether some second has both signals of a pair green, where they are signals.
+fn clash_of(alloc: Global, pair: &(u32, u32, u32, u32, u32, u32, u32, u32, bool)) -> Option<bool> {
+    let Some(first) = one_span(alloc, pair.0, pair.1, pair.2, pair.3) else {
+        return None;
+    };
+    let Some(second) = one_span(alloc, pair.4, pair.5, pair.6, pair.7) else {
+        return None;
+    };
+    Some(clash(&first, &second))
+}
+
 /// The first of these pairs of which that is not told, or their number.
 fn first_other(alloc: Global) -> usize {
     for (place, pair) in PAIRS.iter().enumerate() {
-        let first = one_span(alloc, pair.0, pair.1, pair.2, pair.3);
-        let second = one_span(alloc, pair.4, pair.5, pair.6, pair.7);
-        match (first, second) {
-            (Some(first), Some(second)) if clash(&first, &second) == pair.8 => {}
-            _ => return place,
+        if clash_of(alloc, pair) != Some(pair.8) {
+            return place;
         }
     }
     PAIRS.len()

@@ -20,6 +20,7 @@ static TOWN: Case = Case {
     routes: "line,route,links,stops\n\
         b,r1,L1 L2 L3,s1:0 s2:10 s3:20\nc,r2,L1 L2,s1:0 s2:10\n",
     departures: "departure,route,second,seats\nd1,r1,100,1\n",
+    signals: "",
 };
 
 /// Plans over four links that all begin and end at one node, so that each car route is joined there: a person each.

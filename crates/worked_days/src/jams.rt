@@ -28,6 +28,7 @@ const ROAD: Case = Case {
     stops: "stop,link\ns1,K1\n",
     routes: "line,route,links,stops\nl,r,K1 K2 K3 K4,s1:0\n",
     departures: "departure,route,second,seats\nv,r,900,1\n",
+    signals: "",
 };
 
 /// A vehicle that goes along all four links, at this place.

@@ -21,6 +21,7 @@ static WALK: Case = Case {
     stops: "",
     routes: "",
     departures: "",
+    signals: "",
 };
 
 /// The events of second 100 in the world at the start of the day.

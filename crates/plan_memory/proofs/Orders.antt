@@ -1,6 +1,6 @@
 -- Among scores there is one that stands to all as the worst does, and one that stands to all as the best does.
 use Rattle.std.proofs.Common.{◌≡◌, ℕ, zero, suc, ◌+◌, ◌<◌, ◌≤◌, Bool, true, false, cond, ◌&&◌, List, [], ◌∷◌, length, get_or, ltb, Option, None, Some, ℤ, inl, inr, refl, sym, ◌∙◌, ap, subst, arith}
-use Rattle.std.specs.Prelude.{position, unwrap_or}
+use Rattle.std.specs.Prelude.{int_le, position, unwrap_or}
 use Rattle.std.specs.List.{list_all, position_or_len}
 use Rattle.std.proofs.lemmas.Int.{ints}
 use Rattle.std.proofs.lemmas.Bool.{and_from, and_parts, cases_lt}
@@ -14,41 +14,36 @@ pub record IsOrder (stands : Option ℤ → Option ℤ → Bool) : Type 0 where
   pub total : (x y : Option ℤ) → stands x y ≡ false → stands y x ≡ true
   pub along : (x y z : Option ℤ) → stands x y ≡ true → stands y z ≡ true → stands x z ≡ true
 
-most_itself : (x : Option ℤ) → is_at_most x x ≡ true
-most_itself None = refl
-most_itself (Some a) = grind (arith, ints)
+-- an order of numbers is one of scores, where none stands to all and no number to none
+module _ (stands : Option ℤ → Option ℤ → Bool) (on : ℤ → ℤ → Bool)
+    (none : (y : Option ℤ) → stands None y ≡ true) (one : (a : ℤ) → stands (Some a) None ≡ false)
+    (both : (a b : ℤ) → stands (Some a) (Some b) ≡ on a b) (same : (a : ℤ) → on a a ≡ true)
+    (other : (a b : ℤ) → on a b ≡ false → on b a ≡ true) (joined : (a b c : ℤ) → on a b ≡ true → on b c ≡ true → on a c ≡ true) where
+  order_itself : (x : Option ℤ) → stands x x ≡ true
+  order_itself None = none None
+  order_itself (Some a) = both a a ∙ same a
 
-most_total : (x y : Option ℤ) → is_at_most x y ≡ false → is_at_most y x ≡ true
-most_total None y e = cc
-most_total (Some a) None e = refl
-most_total (Some a) (Some b) e = grind (arith, ints)
+  order_total : (x y : Option ℤ) → stands x y ≡ false → stands y x ≡ true
+  order_total None y e = let no : true ≡ false = sym (none y) ∙ e in cc
+  order_total (Some a) None e = none (Some a)
+  order_total (Some a) (Some b) e = both b a ∙ other a b (sym (both a b) ∙ e)
 
-most_along : (x y z : Option ℤ) → is_at_most x y ≡ true → is_at_most y z ≡ true → is_at_most x z ≡ true
-most_along None y z p q = refl
-most_along (Some a) None z p q = cc
-most_along (Some a) (Some b) None p q = cc
-most_along (Some a) (Some b) (Some c) p q = grind (arith, ints)
+  order_along : (x y z : Option ℤ) → stands x y ≡ true → stands y z ≡ true → stands x z ≡ true
+  order_along None y z p q = none z
+  order_along (Some a) None z p q = let no : false ≡ true = sym (one a) ∙ p in cc
+  order_along (Some a) (Some b) None p q = let no : false ≡ true = sym (one b) ∙ q in cc
+  order_along (Some a) (Some b) (Some c) p q = both a c ∙ joined a b c (sym (both a b) ∙ p) (sym (both b c) ∙ q)
+
+  order_of : IsOrder stands
+  order_of = record { itself = order_itself; total = order_total; along = order_along }
 
 at_most : IsOrder is_at_most
-at_most = record { itself = most_itself; total = most_total; along = most_along }
-
-least_itself : (x : Option ℤ) → is_at_least x x ≡ true
-least_itself None = refl
-least_itself (Some a) = grind (arith, ints)
-
-least_total : (x y : Option ℤ) → is_at_least x y ≡ false → is_at_least y x ≡ true
-least_total None y e = cc
-least_total (Some a) None e = refl
-least_total (Some a) (Some b) e = grind (arith, ints)
-
-least_along : (x y z : Option ℤ) → is_at_least x y ≡ true → is_at_least y z ≡ true → is_at_least x z ≡ true
-least_along None y z p q = refl
-least_along (Some a) None z p q = cc
-least_along (Some a) (Some b) None p q = cc
-least_along (Some a) (Some b) (Some c) p q = grind (arith, ints)
+at_most = order_of is_at_most (λ a b. int_le a b) (λ y. refl) (λ a. refl) (λ a b. refl)
+    (λ a. grind (arith, ints)) (λ a b e. grind (arith, ints)) (λ a b c p q. grind (arith, ints))
 
 at_least : IsOrder is_at_least
-at_least = record { itself = least_itself; total = least_total; along = least_along }
+at_least = order_of is_at_least (λ a b. int_le b a) (λ y. refl) (λ a. refl) (λ a b. refl)
+    (λ a. grind (arith, ints)) (λ a b e. grind (arith, ints)) (λ a b c p q. grind (arith, ints))
 
 -- the first place at which a test passes, where there is one
 at_first : (p : Option ℤ → Bool) (xs : List (Option ℤ)) → position_or_len p xs < length xs

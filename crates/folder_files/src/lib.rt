@@ -6,6 +6,8 @@
 
 mod inputs;
 mod outputs;
+mod streams;
 
 pub use inputs::FileInputs;
 pub use outputs::FileOutputs;
+pub use streams::StandardStreams;

@@ -2,7 +2,7 @@
 #![tactic(auto)]
 
 use edge_files::{NoKeeper, OpenGate};
-use folder_files::{FileInputs, FileOutputs};
+use folder_files::{FileInputs, FileOutputs, StandardStreams};
 use qsim_top::{Status, qsim};
 use std::alloc::{AllocError, Global};
 use std::env;
@@ -20,6 +20,7 @@ fn words(alloc: Global, rt: &(impl Env + AllocGlobal)) -> Result<Vec<String>, Al
 /// The files tell on standard error what went wrong with them; here it is want of memory.
 fn main(rt: HostRuntime) -> ExitCode {
     let alloc = rt.alloc();
+    let _streams = StandardStreams::hold(&rt);
     let mut inputs = FileInputs::new(&rt);
     let mut outputs = FileOutputs::new(&rt);
     let mut keeper = NoKeeper::new();

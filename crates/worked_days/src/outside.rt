@@ -161,11 +161,11 @@ fn first_unheard<R: Threads + Wait + Sync>(rt: &R, alloc: Global, calls: u64) ->
     calls
 }
 
-/// Each read fails in turn, and nothing is written. Seven files are read by eleven calls: an empty one by one, another one by two.
+/// Each read fails in turn, and nothing is written. Eight files are read by twelve calls: an empty one by one, another one by two.
 #[test]
 fn a_failing_read_writes_nothing(rt: HostRuntime) {
-    assert_eq!(rt; first_unheard(&rt, rt.alloc(), 12), 12);
-    assert!(rt; ends_so(&rt, rt.alloc(), 12, 1_000, Status::Done));
+    assert_eq!(rt; first_unheard(&rt, rt.alloc(), 13), 13);
+    assert!(rt; ends_so(&rt, rt.alloc(), 13, 1_000, Status::Done));
 }
 
 /// The short day with settings that have a fault.
@@ -177,7 +177,7 @@ static FAULTY: Case = Case {
 /// Whether a last read that fails is told before the fault of the first file.
 fn is_read_first<R: Threads + Wait + Sync>(rt: &R, alloc: Global) -> bool {
     let mut inputs = inputs_of(alloc, &FAULTY);
-    let _ = inputs.fail_at(11);
+    let _ = inputs.fail_at(12);
     let mut outputs = MemoryOutputs::new(alloc);
     let came = status_of(rt, alloc, &["qsim", "run"], &mut inputs, &mut outputs);
     came == Status::ReadFault && is_written(&outputs, OutFile::Report, "")

@@ -50,7 +50,8 @@ impl<T: Traffic> Board<T> {
     ) -> Result<(Board<T>, Hub<T>), AllocError>
         requires count { (1 ≤ count) × (count ≤ MAX_PARTITIONS) }
         requires pairs { ArePairs count pairs.now }
-        ensures board { IfOk result (λ b. (run_of b.0 ≡ run.now) × (count_of b.0 ≡ count) × (channels_in b.0 ≡ channels_of pairs.now)) }
+        ensures board { IfOk result (λ b. (run_of b.0 ≡ run.now) × (count_of b.0 ≡ count)
+            × (channels_in b.0 ≡ channels_of pairs.now)) }
         ensures hub { IfOk result (λ b. IsHub b.0 b.1 × (had_port b.1 ≡ []) × (joined b.1 ≡ [])) }
         ensures neighbours { IfOk result (λ b. FollowsPairs T.right b.0 pairs.now) }
         ensures lawful { IfOk result (λ b. IsLawful T.right b.0) }

@@ -24,7 +24,8 @@ pub(crate) fn unload<T: Traffic>(
 ) -> Handover<T::Parcel>
     requires table { seat.old.table_id ≡ board.now.table.shared.table_id }
     requires there { border.lag ≤ t
-        → (c : List (ℕ × Option T.Parcel)) × (x : T.Parcel) × (seat.old.me.1 ≡ (slot border.inward (t - border.lag), Some x) ∷ c) }
+        → (c : List (ℕ × Option T.Parcel)) × (x : T.Parcel)
+        × (seat.old.me.1 ≡ (slot border.inward (t - border.lag), Some x) ∷ c) }
     ensures same { (seat.new.table_id ≡ seat.old.table_id) × (seat.new.id ≡ seat.old.id) × (seat.new.me.0 ≡ seat.old.me.0) }
     ensures parcel { border.lag ≤ t
         → (c : List (ℕ × Option T.Parcel)) (x : T.Parcel) → seat.old.me.1 ≡ (slot border.inward (t - border.lag), Some x) ∷ c

@@ -26,7 +26,8 @@ pub enum Command {
     Run,
     /// Reads the files, and reports their counts or their first fault.
     Check,
-    /// Reports the route of least arrival between two nodes, by their names, that is left in a second, from 0 to 172,800.
+    /// Reports the route of least arrival between two nodes, by their names, that is left in a second of at most
+    /// `LAST_SECOND`.
     Route { from: Bytes, to: Bytes, second: u32 },
 }
 
@@ -78,7 +79,7 @@ fn position<'a>(alloc: Global, id: &'a str, help: &'a str) -> Arg<'a>
         .action(ArgAction::Set)
 }
 
-/// A position for a second of the day, from 0 to 172,800.
+/// A position for a second of the day, from 0 to `LAST_SECOND`.
 fn second_position<'a>(alloc: Global, id: &'a str, help: &'a str) -> Arg<'a>
     ensures { IsPosition (second_position id.entry.now) result }
 {

@@ -1,4 +1,5 @@
-ghost use Rattle.std.specs.Prelude.{◌≡◌, ◌∷◌, ◌++◌, ◌<◌, ℕ, List, [], true, false, None, Some, Ok, length, replicate, IsErr, OnOk, OnErr};
+ghost use Rattle.std.specs.Prelude.{◌≡◌, ◌∷◌, ◌++◌, ◌<◌, ℕ, List, [], true, false, None, Some, Ok};
+ghost use Rattle.std.specs.Prelude.{length, replicate, IsErr, OnOk, OnErr};
 ghost use Rattle.std.specs.Prelude.{◌⊎◌};
 ghost use Rattle.edge_files.specs.InMemory.{no_calls, next_fails, failed_call, written_to, fits, write_count, refused_write, taken_write};
 ghost use Rattle.edge_files.specs.InMemory.{TakesOrFails};
@@ -89,7 +90,8 @@ impl Outputs for MemoryOutputs {
 
     fn write(&mut self, file: OutFile, piece: &[u8]) -> Result<usize, Failed>
         ensures empty { length piece.now ≡ 0 → (result ≡ Ok 0) × (self.new ≡ self.old) }
-        ensures fails { 0 < length piece.now → (next_fails self.old.calls ≡ true) ⊎ (write_count self.old (length piece.now) ≡ 0) →
+        ensures fails { 0 < length piece.now → (next_fails self.old.calls ≡ true) ⊎
+            (write_count self.old (length piece.now) ≡ 0) →
             IsErr result × (self.new ≡ refused_write self.old) }
         ensures takes { next_fails self.old.calls ≡ false → 0 < write_count self.old (length piece.now) →
             TakesOrFails self.old self.new file piece.now result }

@@ -1,6 +1,7 @@
 //! Links that gain credit alone, and until when.
 
-ghost use Rattle.std.specs.Prelude.{◌≡◌, ◌≢◌, ◌⊎◌, false, ℕ, suc, ◌+◌, ◌-◌, ◌*◌, ◌<◌, ◌≤◌, ◌↔◌, min, Bool, List, [], ◌∷◌, length};
+ghost use Rattle.std.specs.Prelude.{◌≡◌, ◌≢◌, ◌⊎◌, false, ℕ, suc, ◌+◌, ◌-◌, ◌*◌, ◌<◌};
+ghost use Rattle.std.specs.Prelude.{◌≤◌, ◌↔◌, min, Bool, List, [], ◌∷◌, length};
 ghost use Rattle.fixed_flow.specs.declared.TheConstants.{VEHICLE_COST};
 ghost use Rattle.fixed_flow.specs.Flow.{full_credit, raised, raised_times};
 ghost use Rattle.fixed_flow.specs.Link.{ceiling};

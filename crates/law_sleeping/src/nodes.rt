@@ -1,6 +1,7 @@
 //! Nodes in which nobody can leave, and words that need not be read.
 
-ghost use Rattle.std.specs.Prelude.{◌⊎◌, ◌≡◌, ◌≢◌, ℕ, suc, ◌+◌, ◌*◌, ◌<◌, ◌≤◌, true, false, List, [], ◌∷◌, ◌++◌, length, map, filter};
+ghost use Rattle.std.specs.Prelude.{◌⊎◌, ◌≡◌, ◌≢◌, ℕ, suc, ◌+◌, ◌*◌, ◌<◌, ◌≤◌, true};
+ghost use Rattle.std.specs.Prelude.{false, List, [], ◌∷◌, ◌++◌, length, map, filter};
 ghost use Rattle.std.specs.Prelude.{get_or, All, Option};
 ghost use Rattle.traffic.specs.declared.moves.Move.{Move};
 ghost use Rattle.rows.specs.declared.settings.Stuck.{Stuck};
@@ -56,7 +57,8 @@ pub fn draws_are_of_the_able()
 pub fn few_words_are_read()
     ensures now { (K : Stuck) (t : ℕ) (out_links : ℕ → Option OutLink) → HasAble K t (able_now K t) out_links }
     ensures before { (K : Stuck) (t : ℕ) (out_links : ℕ → Option OutLink) → HasAble K t (able_before K t out_links) out_links }
-    ensures lazily { (K : Stuck) (t : ℕ) (word : ℕ → ℕ) (p : Choice) (left j : ℕ) (es : List InLink) (out_links : ℕ → Option OutLink)
+    ensures lazily { (K : Stuck) (t : ℕ) (word : ℕ → ℕ) (p : Choice) (left j : ℕ) (es : List InLink)
+        (out_links : ℕ → Option OutLink)
         → AreWords word → HasAble K t p out_links → AreWeighted es → left ≡ length es
         → draw K t word left j es out_links ≡ draw_lazily p K t word left j es out_links }
     ensures moves { (K : Stuck) (t : ℕ) (word : ℕ → ℕ) (p : Choice) (see : NodeView)

@@ -1,6 +1,7 @@
 //! Sleep through whole phases and seconds.
 
-ghost use Rattle.std.specs.Prelude.{◌≡◌, ◌≢◌, ℕ, suc, ◌+◌, ◌<◌, ◌≤◌, ◌⊎◌, Bool, false, List, [], ◌∷◌, ◌++◌, length, map, filter, All};
+ghost use Rattle.std.specs.Prelude.{◌≡◌, ◌≢◌, ℕ, suc, ◌+◌, ◌<◌, ◌≤◌, ◌⊎◌, Bool, false};
+ghost use Rattle.std.specs.Prelude.{List, [], ◌∷◌, ◌++◌, length, map, filter, All};
 ghost use Rattle.std.specs.List.{flat_map};
 ghost use Rattle.events.specs.declared.event.Phase.{Phase};
 ghost use Rattle.events.specs.declared.event.Phase.TheVariants.{C, D};

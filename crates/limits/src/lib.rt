@@ -69,3 +69,9 @@ pub const MAX_DWELL: u32 = 3_600;
 
 /// The longest cycle of a signal, in seconds.
 pub const MAX_CYCLE: u32 = 3_600;
+
+/// The most spans of a signal.
+pub const MAX_SPANS: usize = 32;
+
+/// The most conflicts of signals.
+pub const MAX_CONFLICTS: usize = 65_536;

@@ -1,6 +1,7 @@
 //! The links into a node that are green and have somebody at the front.
 
-ghost use Rattle.std.specs.Prelude.{◌≡◌, ℕ, ◌^◌, ◌<◌, ◌≤◌, ◌&&◌, List, not, true, length, map, sum, get_or, filter, IfOk};
+ghost use Rattle.std.specs.Prelude.{◌≡◌, ℕ, ◌^◌, ◌<◌, ◌≤◌, ◌&&◌, List, not, true, length, map};
+ghost use Rattle.std.specs.Prelude.{sum, get_or, filter, IfOk};
 ghost use Rattle.traffic.specs.declared.moves.Move.{Move};
 ghost use Rattle.traffic.specs.declared.node_views.InLink.{InLink};
 ghost use Rattle.draws.specs.Choices.{pick};

@@ -30,7 +30,8 @@ fn pass_at(
     requires apart { AreApart in_links.old }
     ensures run { OnOk result (
         node_state in_links.new (places_in space.new) crossings.new.entering.items crossings.new.removed.items said.new.items
-        ≡ node_run (pass_node_all turn.now.stuck turn.now.second (places_in space.old) (in_link_of (get_or in_links.old place no_link) true))
+        ≡ node_run (pass_node_all turn.now.stuck turn.now.second (places_in space.old)
+        (in_link_of (get_or in_links.old place no_link) true))
         (node_state in_links.old (places_in space.old) crossings.old.entering.items crossings.old.removed.items said.old.items)) }
     ensures ready { OnOk result (AreReady in_links.new) }
     ensures apart { OnOk result (AreApart in_links.new) }

@@ -1,6 +1,7 @@
 //! How many places of links are taken.
 
-ghost use Rattle.std.specs.Prelude.{◌≡◌, ℕ, ◌+◌, ◌<◌, [], ◌==◌, length, if◌then◌else◌, option_map, Option, Some, OnOk, OnErr, IfSome};
+ghost use Rattle.std.specs.Prelude.{◌≡◌, ℕ, ◌+◌, ◌<◌, [], ◌==◌, length, if◌then◌else◌};
+ghost use Rattle.std.specs.Prelude.{option_map, Option, Some, OnOk, OnErr, IfSome};
 ghost use Rattle.traffic.specs.declared.node_views.OutLink.{OutLink};
 ghost use Rattle.traffic.specs.Nodes.{one_more};
 ghost use Rattle.node_move.specs.Spaces.{places_in};

@@ -1,6 +1,7 @@
 //! The turns of persons and departures.
 
-ghost use Rattle.std.specs.Prelude.{◌≡◌, ◌<◌, ◌+◌, ◌++◌, ◌∷◌, [], ℕ, List, Bool, true, length, map, get_or, OnOk, IfOk, if◌then◌else◌};
+ghost use Rattle.std.specs.Prelude.{◌≡◌, ◌<◌, ◌+◌, ◌++◌, ◌∷◌, [], ℕ, List, Bool, true, length};
+ghost use Rattle.std.specs.Prelude.{map, get_or, OnOk, IfOk, if◌then◌else◌};
 ghost use Rattle.std.specs.List.{list_all};
 ghost use Rattle.rows.specs.PlanRows.{plan_rows, act_in, leg_in};
 ghost use Rattle.town.specs.Fits.{fits};

@@ -220,7 +220,8 @@ pub(crate) fn in_links(
 ) -> Result<Vec<InLink>, AllocError>
     requires second_in { second < LAST_SECOND }
     requires fit { IsFitWorld (counts_in day.now) world.now }
-    ensures value { IfOk result (λ in_links. in_links.items ≡ map (in_link (setup day.now) second world.now) (into (setup day.now) node)) }
+    ensures value { IfOk result (λ in_links. in_links.items
+        ≡ map (in_link (setup day.now) second world.now) (into (setup day.now) node)) }
     ensures fit_after { IfOk result (λ in_links. AreInLinks in_links.items) }
 {
     let mut in_links = Vec::new(alloc);

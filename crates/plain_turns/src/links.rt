@@ -1,6 +1,7 @@
 //! The turn of a link, as its moves.
 
-ghost use Rattle.std.specs.Prelude.{◌≡◌, ◌<◌, ◌≤◌, ◌+◌, ◌^◌, ◌++◌, ◌∷◌, [], length, true, map, filter, OnOk, IfOk, nat_le};
+ghost use Rattle.std.specs.Prelude.{◌≡◌, ◌<◌, ◌≤◌, ◌+◌, ◌^◌, ◌++◌, ◌∷◌, [], length, true};
+ghost use Rattle.std.specs.Prelude.{map, filter, OnOk, IfOk, nat_le};
 ghost use Rattle.limits.specs.declared.TheConstants.{LAST_SECOND};
 ghost use Rattle.traffic.specs.declared.world.Row.{Row};
 ghost use Rattle.traffic.specs.Links.{waiting, leave_bay, is_last, buffered, may_pass, from_wait, from_queue, wait_after, link_moves};
@@ -162,7 +163,8 @@ fn push_passing(
     paid: u32,
     out: &mut Vec<Move>,
 ) -> Result<(), AllocError>
-    ensures { OnOk result (out.new.items ≡ out.old.items ++ Transfer l Queue 0 row.now now ∷ LeaveHole l second ∷ Credit l paid ∷ []) }
+    ensures { OnOk result (out.new.items ≡ out.old.items ++ Transfer l Queue 0 row.now now
+        ∷ LeaveHole l second ∷ Credit l paid ∷ []) }
 {
     push_from_queue_to(second, l, row, now, out)?;
     out.push(Move::Credit {

@@ -1,6 +1,7 @@
 //! The turn of a node, as its moves.
 
-ghost use Rattle.std.specs.Prelude.{◌≡◌, Some, ◌<◌, ◌≤◌, ◌+◌, ◌*◌, ◌-◌, ◌++◌, ◌∷◌, [], length, map, filter, not, OnOk, IfOk, IfSome};
+ghost use Rattle.std.specs.Prelude.{◌≡◌, Some, ◌<◌, ◌≤◌, ◌+◌, ◌*◌, ◌-◌, ◌++◌, ◌∷◌};
+ghost use Rattle.std.specs.Prelude.{[], length, map, filter, not, OnOk, IfOk, IfSome};
 ghost use Rattle.limits.specs.declared.TheConstants.{LAST_SECOND, MAX_IN_LINKS, MAX_LENGTH};
 ghost use Rattle.draws.specs.Words.{word};
 ghost use Rattle.traffic.specs.declared.moves.Move.TheVariants.{Transfer, Remove, SetFrontSince};
@@ -98,7 +99,8 @@ fn push_removed(
     row: &Row,
     out: &mut Vec<Move>,
 ) -> Result<(), AllocError>
-    ensures { OnOk result (out.new.items ≡ out.old.items ++ Remove a Buffer 0 (at_second since row.now) ∷ SetFrontSince a second ∷ []) }
+    ensures { OnOk result (out.new.items ≡ out.old.items ++ Remove a Buffer 0 (at_second since row.now)
+        ∷ SetFrontSince a second ∷ []) }
 {
     let was = at_second(since, row)?;
     out.push(Move::Remove {

@@ -1,14 +1,17 @@
 //! What holds of the worst and the best plan. Each law is the contract of a call that does nothing.
 
-ghost use Rattle.std.specs.Prelude.{◌≡◌, ◌<◌, ◌^◌, ℤ, pos, neg_ℤ, List, [], ◌∷◌, length, slice_index_or, true, Option, None, Some};
+ghost use Rattle.std.specs.Prelude.{◌≡◌, ◌<◌, ◌^◌, ℤ, pos, neg_ℤ, List, [], ◌∷◌, length};
+ghost use Rattle.std.specs.Prelude.{slice_index_or, true, Option, None, Some};
 ghost use Rattle.plan_memory.specs.Scores.{is_lowest, is_highest, worst, best};
 ghost use Rattle.plan_memory.specs.Choices.{logit_weights};
 
 /// Of any plans the worst one has a score that is no higher than any, and the best one has a score that is no lower than any. A plan
 /// without a score counts as the worst and as the best.
 pub fn worst_and_best_plans_are_there()
-    ensures worst { (scores : List (Option ℤ)) → 0 < length scores → is_lowest scores (slice_index_or scores (worst scores) None) ≡ true }
-    ensures best { (scores : List (Option ℤ)) → 0 < length scores → is_highest scores (slice_index_or scores (best scores) None) ≡ true }
+    ensures worst { (scores : List (Option ℤ)) → 0 < length scores
+        → is_lowest scores (slice_index_or scores (worst scores) None) ≡ true }
+    ensures best { (scores : List (Option ℤ)) → 0 < length scores
+        → is_highest scores (slice_index_or scores (best scores) None) ≡ true }
 {}
 
 /// What the definitions give of some scores, computed from them alone: the first of two equal scores is the worst; a plan without a score

@@ -1,4 +1,5 @@
-ghost use Rattle.std.specs.Prelude.{◌≡◌, ◌<◌, ◌≤◌, ◌+◌, ◌^◌, length, map, option_map, is_some, true, None, Some, IfOk, All};
+ghost use Rattle.std.specs.Prelude.{◌≡◌, ◌<◌, ◌≤◌, ◌+◌, ◌^◌, length, map, option_map, is_some};
+ghost use Rattle.std.specs.Prelude.{true, None, Some, IfOk, All};
 ghost use Rattle.csv.specs.Records.{fields_of};
 ghost use Rattle.records.specs.Faults.{Answers};
 ghost use Rattle.plans.specs.Values.{row_before, row_behind, plans_fault, file_rows, rows_fault, values_of};

@@ -74,7 +74,10 @@ pub fn with_leg(current: OpenPlan, last: Act, leg: Leg) -> Result<OpenPlan, Allo
 /// The plan, when no further row comes behind its last activity.
 #[tactic(auto, using(crate::proofs::Closing::are_acts_closed))]
 pub fn closed(current: OpenPlan, last: Act) -> Result<Plan, AllocError>
-    ensures { IfOk result (λ plan. plan_rows plan ≡ record { acts = current.acts.items ++ endless last ∷ []; legs = current.legs.items }) }
+    ensures { IfOk result (λ plan. plan_rows plan ≡ record {
+      acts = current.acts.items ++ endless last ∷ [];
+      legs = current.legs.items;
+    }) }
 {
     let OpenPlan { mut acts, legs, .. } = current;
     acts.push(Act {

@@ -1,4 +1,5 @@
-ghost use Rattle.std.specs.Prelude.{◌≡◌, ◌<◌, ◌++◌, ◌∷◌, [], length, map, option_map, true, false, IfOk, OnOk, is_some, Some, nat_eq};
+ghost use Rattle.std.specs.Prelude.{◌≡◌, ◌<◌, ◌++◌, ◌∷◌, [], length, map, option_map, true, false};
+ghost use Rattle.std.specs.Prelude.{IfOk, OnOk, is_some, Some, nat_eq};
 ghost use Rattle.csv.specs.Records.{fields_of};
 ghost use Rattle.events.specs.Names.{number_of, with_name, is_name};
 ghost use Rattle.records.specs.Fields.{field, holds_name};
@@ -177,7 +178,8 @@ pub fn step_act(
     requires kind { is_name (field (fields_of row.now) 3) ≡ true }
     requires link { named.now.link ≡ number_of (field (fields_of row.now) 4) links.now }
     requires found { is_some named.now.link ≡ true }
-    requires closes { begins_plan (option_map (λ r. fields_of r.now) before) (fields_of row.now) ≡ true → is_some read.current.last ≡ true }
+    requires closes { begins_plan (option_map (λ r. fields_of r.now) before) (fields_of row.now) ≡ true
+        → is_some read.current.last ≡ true }
     ensures { IfOk result
         (λ r. progress_of r ≡ step_act links.now (progress_of read) (option_map (λ r. fields_of r.now) before.entry)
         (fields_of row.now) number_of_row) }

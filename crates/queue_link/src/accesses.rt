@@ -1,6 +1,7 @@
 //! What comes to a link, what is taken from it, and what it tells of itself.
 
-ghost use Rattle.std.specs.Prelude.{◌≡◌, ◌+◌, ◌^◌, ◌<◌, ◌≤◌, ◌↔◌, [], ◌∷◌, ◌++◌, length, max, OnOk, IfSome, IsTrue};
+ghost use Rattle.std.specs.Prelude.{◌≡◌, ◌+◌, ◌^◌, ◌<◌, ◌≤◌, ◌↔◌, [], ◌∷◌, ◌++◌};
+ghost use Rattle.std.specs.Prelude.{length, max, OnOk, IfSome, IsTrue};
 ghost use Rattle.std.specs.Option.{option_copied};
 ghost use Rattle.limits.specs.declared.TheConstants.{LAST_SECOND};
 ghost use Rattle.traffic.specs.declared.stage.Stage.TheVariants.{Queue, Wait, Bay};
@@ -159,7 +160,8 @@ impl LinkState {
     pub fn take_front(&mut self, second: u32) -> Row
         requires { 0 < length self.old.lists.buffer }
         ensures front { first_row self.old.lists.buffer ≡ Some result }
-        ensures rest { self.new ≡ record self.old { lists = record self.old.lists { buffer = behind_front second self.old.lists.buffer } } }
+        ensures rest { self.new
+            ≡ record self.old { lists = record self.old.lists { buffer = behind_front second self.old.lists.buffer } } }
     {
         let Some(row) = self.buffer.pop_front() else {
             unreachable!()
@@ -172,7 +174,8 @@ impl LinkState {
     pub fn hand_over(&mut self, second: u32) -> Vehicle
         requires { 0 < length self.old.lists.buffer }
         ensures front { front_vehicle self.old.lists.buffer ≡ Some result }
-        ensures rest { self.new ≡ record self.old { lists = record self.old.lists { buffer = behind_front second self.old.lists.buffer } } }
+        ensures rest { self.new
+            ≡ record self.old { lists = record self.old.lists { buffer = behind_front second self.old.lists.buffer } } }
     {
         let row = self.take_front(second);
         vehicle_of(row)

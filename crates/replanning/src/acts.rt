@@ -1,6 +1,8 @@
 //! TimeMutation: a plan whose activities end at other seconds.
 
-ghost use Rattle.std.specs.Prelude.{◌≡◌, ◌<◌, ◌≤◌, ◌+◌, ◌^◌, ◌∷◌, ◌++◌, [], ◌≤ℤ◌, ℤ, pos, neg_ℤ, length, map, take, slice_index_or, None, true, IfOk};
+ghost use Rattle.std.specs.Prelude.{◌≡◌, ◌<◌, ◌≤◌, ◌+◌, ◌^◌, ◌∷◌, ◌++◌, [], ◌≤ℤ◌};
+ghost use Rattle.std.specs.Prelude.{ℤ, pos, neg_ℤ};
+ghost use Rattle.std.specs.Prelude.{length, map, take, slice_index_or, None, true, IfOk};
 ghost use Rattle.std.specs.List.{enumerate_from};
 ghost use Rattle.limits.specs.declared.TheConstants.{LAST_SECOND};
 ghost use Rattle.rows.specs.Plan.{are_acts};

@@ -23,7 +23,8 @@ struct Numbered {
 /// Adds a memory with the next number. More persons than there are numbers is want of memory.
 fn push_numbered(all: &mut Vec<Numbered>, memory: Memory) -> Result<(), AllocError>
     ensures memory { OnOk result (map {B = ℕ × MemoryRows} (λ (one : Numbered). (one.person, one.memory)) all.new.items
-        ≡ map {B = ℕ × MemoryRows} (λ (one : Numbered). (one.person, one.memory)) all.old.items ++ (length all.old.items, memory) ∷ []) }
+        ≡ map {B = ℕ × MemoryRows} (λ (one : Numbered). (one.person, one.memory)) all.old.items
+        ++ (length all.old.items, memory) ∷ []) }
     ensures count { OnOk result (length all.new.items ≡ length all.old.items + 1) }
 {
     if all.len() > u32::MAX as usize {

@@ -11,7 +11,8 @@ ghost use Rattle.riders.specs.Waiting.{AreWaiting, AreOnce, at_stop};
 /// have a list of its own.
 pub fn stops_keep_apart()
     ensures waiting { (s : ℕ) (ws : List Waiter) → AreOnce ws → AreWaiting (at_stop s ws) }
-    ensures boarding { (v : VehicleState) (ws : List Waiter) → AreOnce ws → boarding v (at_stop (next_call v).stop ws) ≡ boarding v ws }
+    ensures boarding { (v : VehicleState) (ws : List Waiter) → AreOnce ws → boarding v (at_stop (next_call v).stop ws)
+        ≡ boarding v ws }
     ensures row { (D : Dwelling) (t l : ℕ) (v : VehicleState) (ws : List Waiter) → AreOnce ws
         → served_row D t l (at_stop (next_call v).stop ws) v ≡ served_row D t l ws v }
     ensures left { (v : VehicleState) (ws : List Waiter) → AreOnce ws

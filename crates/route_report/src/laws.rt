@@ -11,6 +11,7 @@ ghost use Rattle.route_report.specs.Reported.{NoWay, IsReport};
 pub fn reports_are_least()
     ensures none { (M : RoadMap) (from to : List ℕ) (second : ℕ) → AreWithin (length M.node_names) (ends_of M.links)
         → ((route_text M from to second ≡ None) ↔ NoWay M from to) }
-    ensures least { (M : RoadMap) (from to : List ℕ) (second : ℕ) (text : List ℕ) → AreWithin (length M.node_names) (ends_of M.links)
+    ensures least { (M : RoadMap) (from to : List ℕ) (second : ℕ) (text : List ℕ)
+        → AreWithin (length M.node_names) (ends_of M.links)
         → route_text M from to second ≡ Some text → IsReport M from to second text }
 {}

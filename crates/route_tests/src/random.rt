@@ -3,6 +3,7 @@
 use crate::drawn::{Dice, drawn_events, drawn_network};
 use crate::networks::number_of;
 use crate::plain::Town;
+use limits::LAST_SECOND;
 use network::Network;
 use route_check::check;
 use router::{Adjacency, Found, RouteStop, Search, Way, least};
@@ -125,7 +126,7 @@ fn is_found(
     if claim.from as usize >= nodes || claim.to as usize >= nodes {
         return false;
     }
-    if times.len() != network.links.len() || claim.second > 172_800 {
+    if times.len() != network.links.len() || claim.second > LAST_SECOND {
         return false;
     }
     let answer = least(alloc, network, times, claim.from, claim.to, claim.second);
@@ -159,7 +160,7 @@ fn are_asked(
     if claim.from as usize >= nodes || claim.to as usize >= nodes || then as usize >= nodes {
         return false;
     }
-    if times.len() != network.links.len() || claim.second > 172_800 {
+    if times.len() != network.links.len() || claim.second > LAST_SECOND {
         return false;
     }
     let Ok(search) = Search::new(alloc, &adjacency, times, claim.from, claim.second) else {

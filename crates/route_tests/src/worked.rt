@@ -2,6 +2,7 @@
 
 use crate::networks::{event, network};
 use events::{Event, VehicleId, Word};
+use limits::LAST_SECOND;
 use network::Network;
 use route_check::check;
 use router::{RouteStop, least};
@@ -143,7 +144,7 @@ fn slow_events() -> [Event; 9] {
 
 /// Whether the end of a link is reached in this second.
 fn arrives(times: &LinkTimes, link: u32, second: u64, arrival: u64) -> bool {
-    if link as usize >= times.len() || second > 172_800 {
+    if link as usize >= times.len() || second > LAST_SECOND {
         return false;
     }
     times.arrive(link, second) == arrival

@@ -149,7 +149,8 @@ fn look_along(
     requires node { node < adjacency.now.nodes }
     requires few { adjacency.now.nodes ≤ 131072 }
     requires times { length times.now ≡ length adjacency.now.ends }
-    requires search { (open_links : List ℕ) → ((link : ℕ) → link < length adjacency.now.ends → start_of adjacency.now.ends link ≡ node →
+    requires search { (open_links : List ℕ) → (
+        (link : ℕ) → link < length adjacency.now.ends → start_of adjacency.now.ends link ≡ node →
         Contains open_links link)
         → IsFrontier adjacency.now.nodes adjacency.now.ends (arrivals times.now) frontier.old open_links }
     requires left { label_at frontier.old.labels.items node ≡ Some left }

@@ -77,7 +77,8 @@ pub fn followed_back(
     requires labels { length labels.now ≡ adjacency.now.nodes }
     requires small { AreSmall labels.now }
     requires label { IsSome (label_at labels.now to) }
-    ensures { IfOk result (λ links. links.items ≡ followed adjacency.now.ends (arrivals times.now) labels.now from adjacency.now.nodes to) }
+    ensures { IfOk result (λ links. links.items
+        ≡ followed adjacency.now.ends (arrivals times.now) labels.now from adjacency.now.nodes to) }
 {
     let mut links = Vec::new(alloc);
     let mut node = to;

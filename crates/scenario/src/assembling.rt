@@ -133,7 +133,8 @@ fn town_of(
     requires book { book ≡ book_of (network_view network) book.persons book.kinds (schedule_view schedule) }
     requires greens { length greens ≡ length network.links }
     requires few { length book.persons ≤ MAX_PERSONS }
-    ensures rows { rows_of result ≡ town_of (values_of settings) (network_view network) book.persons book.kinds (schedule_view schedule) greens }
+    ensures rows { rows_of result
+        ≡ town_of (values_of settings) (network_view network) book.persons book.kinds (schedule_view schedule) greens }
     ensures node_names { result.network.node_names ≡ network.node_names }
 {
     let Schedule {

@@ -1,7 +1,8 @@
 //! What holds of values, of scores and of the order of events: each the contract of a call that does
 //! nothing.
 
-ghost use Rattle.std.specs.Prelude.{◌≡◌, ◌+◌, ◌*◌, ◌-◌, ◌<◌, ◌≤◌, ℕ, ℤ, pos, neg_ℤ, ◌+ℤ◌, ◌-ℤ◌, ◌*ℤ◌, ◌≤ℤ◌, ◌<ℤ◌, FitsSigned, List, []};
+ghost use Rattle.std.specs.Prelude.{◌≡◌, ◌+◌, ◌*◌, ◌-◌, ◌<◌, ◌≤◌, ℕ, ℤ, pos, neg_ℤ};
+ghost use Rattle.std.specs.Prelude.{◌+ℤ◌, ◌-ℤ◌, ◌*ℤ◌, ◌≤ℤ◌, ◌<ℤ◌, FitsSigned, List, []};
 ghost use Rattle.std.specs.Prelude.{◌∷◌, ◌++◌, length, true, filter, All};
 ghost use Rattle.std.specs.Int.{w64};
 ghost use Rattle.events.specs.declared.event.Event.{Event};

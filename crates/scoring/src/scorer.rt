@@ -63,7 +63,7 @@ impl Scorer {
     }
 
     /// Takes the next event of the person, by the same tables as the events before it: one of at most 64
-    /// in all, at a second of at most 172,800.
+    /// in all, at a second of at most `LAST_SECOND`.
     ///
     /// The five words that score come in turn: `actend`, `departure`, `arrival`, `actstart` and so
     /// on, and nothing behind a `stuckAndAbort` in the place of an arrival. Other words change

@@ -48,7 +48,7 @@ pub struct Table {
 
 /// Whether points and the last second in which an activity begins in time are those of a table: 1 to 32
 /// points, at seconds from 0 to 1,000,000 that rise, each worth at most 1,000,000,000,000
-/// micro-utils, or as much below zero; and a second of at most 172,800.
+/// micro-utils, or as much below zero; and a second of at most `LAST_SECOND`.
 pub fn is_table(points: &[(u32, i64)], latest: Option<u32>) -> bool
     ensures { result ≡ is_table points.now latest }
 {

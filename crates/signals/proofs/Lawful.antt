@@ -9,9 +9,8 @@ use Rattle.edge_files.specs.declared.reasons.Reason.TheVariants as reason
 use Rattle.records.specs.Fields.{is_blank}
 use Rattle.records.specs.Files.{optional_head_reason, body_of}
 use Rattle.records.proofs.Unrefused.{none_applies, number_in_range, each_none}
-use Rattle.limits.specs.declared.TheConstants.{MAX_CYCLE}
+use Rattle.limits.specs.declared.TheConstants.{MAX_CYCLE, MAX_SPANS}
 use Rattle.rows.specs.Greens.{Phases, IsLawful, always, green_at}
-use Rattle.signals.specs.declared.bounds.TheConstants.{MAX_SPANS}
 use Rattle.signals.specs.declared.conflict.Conflict.{Conflict}
 use Rattle.signals.specs.declared.kinds.RowKind.{RowKind}
 use Rattle.signals.specs.declared.kinds.RowKind.TheVariants as kind

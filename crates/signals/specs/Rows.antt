@@ -1,7 +1,7 @@
 -- The rows of signals.csv: `kind,link,other,cycle,offset,greens`.
 use Rattle.std.specs.Prelude.{ℕ, ◌+◌, ◌-◌, Bool, false, not, ◌&&◌, ◌||◌, nat_le, nat_lt, nat_eq, is_none, is_some, bytes_eq, codes, unwrap_or, replicate, List, [], ◌∷◌, ◌++◌, length, map, get_or, set, Option, None, Some, if◌then◌else◌}
 use Rattle.std.specs.List.{list_all}
-use Rattle.limits.specs.declared.TheConstants.{MAX_CYCLE}
+use Rattle.limits.specs.declared.TheConstants.{MAX_CYCLE, MAX_SPANS, MAX_CONFLICTS}
 use Rattle.edge_files.specs.declared.reasons.Reason.{Reason}
 use Rattle.edge_files.specs.declared.reasons.Reason.TheVariants as reason
 use Rattle.events.specs.Names.{number_of}
@@ -14,7 +14,6 @@ use Rattle.rows.specs.Greens.{Phases}
 use Rattle.signals.specs.declared.conflict.Conflict.{Conflict}
 use Rattle.signals.specs.declared.kinds.RowKind.{RowKind}
 use Rattle.signals.specs.declared.kinds.RowKind.TheVariants as kind
-use Rattle.signals.specs.declared.bounds.TheConstants.{MAX_SPANS, MAX_CONFLICTS}
 use Rattle.signals.specs.declared.spans.SpanText.{SpanText}
 use Rattle.signals.specs.Spans.{span_text, has_numbers, span_of, ascend}
 

@@ -2,7 +2,6 @@
 #![tactic(auto)]
 
 mod arcs;
-mod bounds;
 mod clashes;
 mod conflict;
 mod kinds;

@@ -65,7 +65,11 @@ fn with_conflict(
 ) -> Result<Result<SignalsRead, Reason>, AllocError>
     requires { AreSeen (length links.now) (seen_of read) }
     ensures read { IfOk result (λ found. Reads found (conflict_reason links.now ends.now (length read.conflicts.items) (fields_of row.now))
-        (record { signals = read.signals.items; conflicts = read.conflicts.items ++ conflict_of links.now number (fields_of row.now) ∷ [] })) }
+        (record {
+          signals = read.signals.items;
+          conflicts = read.conflicts.items
+              ++ conflict_of links.now number (fields_of row.now) ∷ [];
+        })) }
     ensures there { IfOk result (λ found. ReadSeen (length links.now) found) }
 {
     let SignalsRead {
@@ -118,7 +122,8 @@ fn with_row(
 /// The signals of all links, and the conflicts.
 fn signals_of(alloc: Global, read: SignalsRead) -> Result<Signals, AllocError>
     requires { list_all (is_among (length read.signals.items)) read.conflicts.items ≡ true }
-    ensures { IfOk result (λ signals. signal_view signals ≡ record { greens = map or_always read.signals.items; conflicts = read.conflicts.items }) }
+    ensures { IfOk result (λ signals. signal_view signals
+        ≡ record { greens = map or_always read.signals.items; conflicts = read.conflicts.items }) }
 {
     let SignalsRead { signals, conflicts } = read;
     let greens = greens_of(alloc, signals)?;

@@ -4,12 +4,11 @@ ghost use Rattle.records.specs.Faults.{unless};
 ghost use Rattle.signals.specs.Rows.{has_signal, signal_reason, link_in, phases_in};
 ghost use Rattle.signals.specs.Rows.{end_of, are_apart, other_in, conflict_reason};
 
-use crate::bounds::{MAX_CONFLICTS, MAX_SPANS};
 use crate::spans::{are_spans, ascend, have_numbers, span_texts, spans_of};
 use csv::ByteRecord;
 use edge_files::Reason;
 use events::Names;
-use limits::MAX_CYCLE;
+use limits::{MAX_CONFLICTS, MAX_CYCLE, MAX_SPANS};
 use records::{field, holds_name, is_blank, items_in, number_in};
 use rows::Green;
 use std::alloc::{AllocError, Global};

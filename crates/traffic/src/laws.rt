@@ -1,7 +1,8 @@
 //! The laws of the day: what the crates above take from its definitions. Each is the contract of a
 //! call that does nothing.
 
-ghost use Rattle.std.specs.Prelude.{◌≡◌, ◌≢◌, ℕ, ◌+◌, ◌<◌, List, [], ◌∷◌, length, map, true, false, None, Some, AllPairs, IsPermutation};
+ghost use Rattle.std.specs.Prelude.{◌≡◌, ◌≢◌, ℕ, ◌+◌, ◌<◌, List, [], ◌∷◌, length, map, true};
+ghost use Rattle.std.specs.Prelude.{false, None, Some, AllPairs, IsPermutation};
 ghost use Rattle.events.specs.declared.event.Mode.{Mode};
 ghost use Rattle.events.specs.declared.event.Phase.{Phase};
 ghost use Rattle.events.specs.declared.event.Word.TheVariants.{EnteredLink, Arrival};

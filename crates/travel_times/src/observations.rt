@@ -1,4 +1,5 @@
-ghost use Rattle.std.specs.Prelude.{◌≡◌, ℕ, ◌+◌, ◌-◌, ◌^◌, ◌<◌, ◌≤◌, length, take, slice_index_or, IfOk, OnOk, IfSome, None, nat_eq};
+ghost use Rattle.std.specs.Prelude.{◌≡◌, ℕ, ◌+◌, ◌-◌, ◌^◌, ◌<◌, ◌≤◌, length, take};
+ghost use Rattle.std.specs.Prelude.{slice_index_or, IfOk, OnOk, IfSome, None, nat_eq};
 ghost use Rattle.std.specs.Prelude.{if◌then◌else◌};
 ghost use Rattle.travel_times.specs.Observed.{AreInOrder, AreOnLinks, car_of};
 ghost use Rattle.travel_times.specs.Tallies.{entry_of, stay_of, tally_at, HasRows, EndsStay, IsKnown};

@@ -5,7 +5,8 @@
 //! entry that is first in, first out.
 #![tactic(auto)]
 
-ghost use Rattle.std.specs.Prelude.{◌≡◌, ℕ, ◌<◌, List, [], ◌∷◌, length, MatchOption, IsSomeAnd, ◌≤◌, None, Some, Option};
+ghost use Rattle.std.specs.Prelude.{◌≡◌, ℕ, ◌<◌, List, [], ◌∷◌, length, MatchOption, IsSomeAnd};
+ghost use Rattle.std.specs.Prelude.{◌≤◌, None, Some, Option};
 ghost use Rattle.walks.specs.Arrivals.{Arrivals, IsFifo};
 ghost use Rattle.walks.specs.Walks.{Ends, AreWithin, IsWalk, NoWalk, arrival, IsLeast};
 ghost use Rattle.walks.specs.Rounds.{Labels, label_at, least_labels};

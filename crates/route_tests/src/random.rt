@@ -126,7 +126,7 @@ fn is_found(
     if claim.from as usize >= nodes || claim.to as usize >= nodes {
         return false;
     }
-    if times.len() != network.links.len() || claim.second > LAST_SECOND {
+    if times.len() != network.links.len() || claim.second > u64::from(LAST_SECOND) {
         return false;
     }
     let answer = least(alloc, network, times, claim.from, claim.to, claim.second);
@@ -160,7 +160,7 @@ fn are_asked(
     if claim.from as usize >= nodes || claim.to as usize >= nodes || then as usize >= nodes {
         return false;
     }
-    if times.len() != network.links.len() || claim.second > LAST_SECOND {
+    if times.len() != network.links.len() || claim.second > u64::from(LAST_SECOND) {
         return false;
     }
     let Ok(search) = Search::new(alloc, &adjacency, times, claim.from, claim.second) else {

@@ -144,7 +144,7 @@ fn slow_events() -> [Event; 9] {
 
 /// Whether the end of a link is reached in this second.
 fn arrives(times: &LinkTimes, link: u32, second: u64, arrival: u64) -> bool {
-    if link as usize >= times.len() || second > LAST_SECOND {
+    if link as usize >= times.len() || second > u64::from(LAST_SECOND) {
         return false;
     }
     times.arrive(link, second) == arrival

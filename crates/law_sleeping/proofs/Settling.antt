@@ -297,7 +297,7 @@ settle_queue K t l ws b c (r ∷ rs) buffer w y n g =
     settle_wait K t l ws b c w (r ∷ rs) buffer y n (and_right (nat_le r.second t) (can_leave K l b c r) f) g))))
 
 -- step 1 on the lists
-stays : ℕ → List Row → List Row
+pub stays : ℕ → List Row → List Row
 stays t [] = []
 stays t (r ∷ rs) = if nat_le r.second t then stays t rs else r ∷ stays t rs
 
@@ -309,7 +309,7 @@ stays_later t (r ∷ rs) = elim (cases_Bool (nat_le r.second t)) [
   | inr e ↦ rw e (leb-false r.second t e, stays_later t rs)
 ]
 
-bay_link_state : (t l k : ℕ) (rows kept q b w : List Row) (c : ℕ) → k ≡ length kept
+pub bay_link_state : (t l k : ℕ) (rows kept q b w : List Row) (c : ℕ) → k ≡ length kept
     → link_state_after_all l (leave_bay t l k rows) (lists_with q b w (kept ++ rows) c)
     ≡ lists_with q b (w ++ map (waiting l) (filter (λ (r : Row). nat_le r.second t) rows)) (kept ++ stays t rows) c
 unfolding leave_bay stays

@@ -75,7 +75,7 @@ impl LinkState {
         fate: Fate,
         said: &mut Vec<Occurrence>,
     ) -> Result<Option<Turn>, AllocError>
-        requires is { queue_fate self.old.numbers second (length self.old.lists.buffer) self.old.lists.credit self.old.lists.queue ≡ fate }
+        requires is { let L = self.old.lists in queue_fate self.old.numbers second (length L.buffer) L.credit L.queue ≡ fate }
         requires goes { fate ≢ Stays }
         ensures leads { (dwell : Dwelling) (ws : List Waiter) → IfOk result (λ left.
             LeadsTo self.old.numbers dwell ws second self.old.lists said.old.items left self.new.lists said.new.items) }

@@ -186,7 +186,7 @@ impl Waiting {
     /// # Errors
     ///
     /// `AllocError`: there is no memory for a rider, one who waits, or an event. The vehicle and those who wait are then of no use.
-    #[tactic(auto, unfolding(traffic::specs::Stops::served_vehicle, traffic::specs::Stops::riders_after, traffic::specs::Stops::stays_until))]
+    #[tactic(auto, unfolding(traffic::specs::Stops::served_vehicle, traffic::specs::Stops::riders_after))]
     pub fn serve(
         &mut self,
         second: u32,

@@ -1,1 +1,4 @@
 pub mod Ways
+pub mod Joining
+pub mod Walking
+pub mod Gathered

@@ -46,7 +46,7 @@ module _ (graph : Graph) (arrive : Arrivals) (second here there : ℕ) where
       (eq-eqb here there same)
 
   -- a leg to another link
-  route_there : (here ≡ there → ⊥) → leg_route graph arrive second here there
+  pub route_there : (here ≡ there → ⊥) → leg_route graph arrive second here there
       ≡ option_map (λ way. here ∷ way ++ there ∷ []) (way_to graph arrive (end_of graph.ends here) second (start_of graph.ends there))
   unfolding leg_route
   route_there apart = ap (λ (b : Bool). cond b (Some (here ∷ []))

@@ -11,7 +11,7 @@ use std::alloc::{AllocError, Global};
 use travel_times::LinkTimes;
 
 /// The route over one link.
-fn one_link(alloc: Global, link: u32) -> Result<Route, AllocError>
+pub fn one_link(alloc: Global, link: u32) -> Result<Route, AllocError>
     ensures { IfOk result (λ route. route ≡ link ∷ []) }
 {
     let mut rows = Vec::new(alloc);
@@ -30,6 +30,41 @@ fn joined(alloc: Global, here: u32, way: &Route, there: u32) -> Result<Route, Al
     Ok(Route { rows })
 }
 
+/// The route from one link to another along those between them, where it has no more links than a leg may have.
+pub fn route_along(
+    alloc: Global,
+    here: u32,
+    way: &Route,
+    there: u32,
+) -> Result<Option<Route>, AllocError>
+    ensures route { IfOk result (λ route. route ≡ allowed (Some (here ∷ way.now ++ there ∷ []))) }
+    ensures short { IfOk result (λ found. IfSome found (λ route. length route ≤ MAX_ROUTE_LINKS)) }
+{
+    let route = joined(alloc, here, way, there)?;
+    Ok(if_allowed(route))
+}
+
+/// The chosen route to a node, or none where no walk leads there; and the search, which has gone on.
+#[tactic(auto, using(crate::proofs::Ways::no_way, crate::proofs::Ways::least_way))]
+pub fn way_by<'a>(
+    alloc: Global,
+    search: Search<'a>,
+    to: u32,
+) -> Result<(Search<'a>, Option<Route>), AllocError>
+    requires to { to < search.graph.nodes }
+    requires from { search.from < search.graph.nodes }
+    requires inside { AreWithin search.graph.nodes search.graph.ends }
+    ensures same { IfOk result (λ found. found.0 ≡ search.entry) }
+    ensures way { IfOk result (λ found. found.1
+        ≡ way_to search.entry.graph (arrivals search.entry.times) search.entry.from search.entry.second to) }
+{
+    let (search, way) = search.way_to(alloc, to)?;
+    match way {
+        Some(way) => Ok((search, Some(way.links))),
+        None => Ok((search, None)),
+    }
+}
+
 /// The links of a network lead from one of its nodes to another.
 fn know_links(adjacency: &Adjacency)
     ensures { AreWithin adjacency.now.nodes adjacency.now.ends }
@@ -38,7 +73,6 @@ fn know_links(adjacency: &Adjacency)
 }
 
 /// The chosen route from the end of a link, left in a second, to a node; or none where no walk leads there.
-#[tactic(auto, using(crate::proofs::Ways::no_way, crate::proofs::Ways::least_way))]
 fn way_to<'a>(
     alloc: Global,
     adjacency: &'a Adjacency,
@@ -55,11 +89,8 @@ fn way_to<'a>(
     know_links(adjacency);
     let from = adjacency.end(here);
     let search = Search::new(alloc, adjacency, times, from, u64::from(second))?;
-    let (_, way) = search.way_to(alloc, to)?;
-    match way {
-        Some(way) => Ok(Some(way.links)),
-        None => Ok(None),
-    }
+    let (_, way) = way_by(alloc, search, to)?;
+    Ok(way)
 }
 
 /// The route of a car leg from one link, left in a second, to another: of least arrival, as the travel times of links say. A leg to the
@@ -87,8 +118,8 @@ pub fn leg_route(
     let Some(way) = way_to(alloc, adjacency, times, second, here, node)? else {
         return Ok(None);
     };
-    let route = joined(alloc, here, &way, there)?;
-    Ok(if_allowed(route))
+    let route = route_along(alloc, here, &way, there)?;
+    Ok(route)
 }
 
 /// The route, where it has no more links than a leg may have.

@@ -1,4 +1,3 @@
 pub mod Moved
-pub mod Rerouted
 pub mod Numbers
 pub mod Kept

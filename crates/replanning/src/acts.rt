@@ -9,8 +9,8 @@ ghost use Rattle.rows.specs.Plan.{are_acts};
 ghost use Rattle.rows.specs.PlanRows.{plan_rows};
 ghost use Rattle.replanning.specs.Acts.{moved, move_of, moved_act, moved_acts, mutated_plan};
 
-use crate::legs::copied_legs;
 use draws::{Draws, between};
+use leg_routes::copied_legs;
 use rows::{Act, Acts, Legs, Plan};
 use std::alloc::{AllocError, Global};
 

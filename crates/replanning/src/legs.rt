@@ -1,50 +1,17 @@
-//! Legs copied, with their routes or with new ones.
+//! Legs with new routes.
 
 ghost use Rattle.std.specs.Prelude.{◌≡◌, ◌<◌, ◌≤◌, ◌+◌, ◌∷◌, ◌++◌, length, drop, true, IfOk};
 ghost use Rattle.std.specs.List.{list_all};
 ghost use Rattle.rows.specs.Plan.{is_leg};
 ghost use Rattle.travel_times.specs.Times.{arrivals};
-ghost use Rattle.replanning.specs.Legs.{rerouted_leg, rerouted_legs, are_on};
+ghost use Rattle.leg_routes.specs.Legs.{are_on};
+ghost use Rattle.replanning.specs.Legs.{rerouted_leg, rerouted_legs};
 
-use leg_routes::leg_route;
+use leg_routes::{copied_leg, leg_route};
 use router::Adjacency;
 use rows::{Act, Leg};
 use std::alloc::{AllocError, Global};
 use travel_times::LinkTimes;
-
-fn copied_leg(leg: &Leg) -> Result<Leg, AllocError>
-    ensures { IfOk result (λ copy. copy ≡ leg.now) }
-{
-    match leg {
-        Leg::Car { route } => {
-            let route = route.try_clone()?;
-            Ok(Leg::Car { route })
-        }
-        Leg::Teleport { mode, seconds } => Ok(Leg::Teleport {
-            mode: *mode,
-            seconds: *seconds,
-        }),
-        Leg::Transit {
-            line,
-            access,
-            egress,
-        } => Ok(Leg::Transit {
-            line: *line,
-            access: *access,
-            egress: *egress,
-        }),
-    }
-}
-
-pub fn copied_legs(alloc: Global, legs: &[Leg]) -> Result<Vec<Leg>, AllocError>
-    ensures { IfOk result (λ copies. copies.items ≡ legs.now) }
-{
-    let mut copies = Vec::new(alloc);
-    for leg in legs {
-        copies.push(copied_leg(leg)?)?;
-    }
-    Ok(copies)
-}
 
 /// A leg between an activity and one on a link: a car leg has a new route, where there is one that is short enough.
 #[tactic(auto, unfolding(crate::specs::Legs::rerouted_leg))]
@@ -73,7 +40,7 @@ fn rerouted_leg(
 }
 
 /// The leg at a place, between the activity before it and the one after it.
-#[tactic(auto, using(crate::proofs::Rerouted::rerouted_more))]
+#[tactic(auto, using(leg_routes::proofs::Walking::leg_more))]
 fn rerouted_at(
     alloc: Global,
     adjacency: &Adjacency,

@@ -1,7 +1,7 @@
-use Rattle.std.proofs.Common.{◌≡◌, ℕ, List, None, Some, sym, ◌∙◌, ap}
+use Rattle.std.proofs.Common.{◌≡◌, None, Some, sym, ◌∙◌}
 use Rattle.travel_times.specs.Times.{arrivals}
 use Rattle.walks.specs.Walks.{start_of, end_of}
-use Rattle.leg_routes.specs.Routes.{way_to, allowed}
+use Rattle.leg_routes.specs.Routes.{way_to}
 use Rattle.leg_routes.proofs.Ways.{route_here, no_route, some_route}
 use Rattle.leg_routes.proofs.routes.leg_route.Goals as goal
 
@@ -20,7 +20,6 @@ returns-in_default-clause-route c =
 pub returns-clause-route : goal.returns-clause-route
 returns-clause-route c =
     let e = c.in_ok-way.ensures in
-    let route = c.in_ok-route-2.ensures in
     let some : way_to c.args.adjacency.now (arrivals c.args.times.now) (end_of c.args.adjacency.now.ends c.args.here) c.args.second (start_of c.args.adjacency.now.ends c.args.there) ≡ Some c.in-Some.way = cc in
     let is = some_route c.args.adjacency.now (arrivals c.args.times.now) c.args.second c.args.here c.args.there c.in-Some.way c.if-here-there.false some in
-    c.if_allowed.ensures.route ∙ ap (λ (r : List ℕ). allowed (Some r)) route ∙ sym is
+    c.in_ok-route-2.ensures.route ∙ sym is

@@ -2,10 +2,12 @@ use Rattle.std.proofs.Common.{◌++◌, List, sym, ◌∙◌, ap, arith}
 use Rattle.std.proofs.lemmas.List.{append-nil}
 use Rattle.rows.specs.declared.plan.Leg.{Leg}
 use Rattle.travel_times.specs.Times.{arrivals}
-use Rattle.replanning.proofs.Rerouted.{none_left}
+use Rattle.leg_routes.proofs.Walking.{none_left}
+use Rattle.replanning.specs.Legs.{rerouted_leg}
 use Rattle.replanning.proofs.legs.rerouted_legs.Goals as goal
 
 pub returns-clause-legs : goal.returns-clause-legs
 returns-clause-legs c =
-    let none = none_left c.args.adjacency.now (arrivals c.args.times.now) c.args.acts.now c.args.legs.now c.loop-place.place (omega arith) in
+    let none = none_left (rerouted_leg c.args.adjacency.now (arrivals c.args.times.now)) c.args.acts.now c.args.legs.now c.loop-place.place
+        (omega arith) in
     sym (append-nil c.loop-place.new.items) ∙ ap (λ (t : List Leg). c.loop-place.new.items ++ t) (sym none) ∙ c.loop-place.invariant.0

@@ -3,7 +3,8 @@ use Rattle.plan_memory.specs.Memories.{MemoryRows}
 use Rattle.replanning.specs.declared.spread.Numbered.{Numbered}
 use Rattle.replanning.specs.Persons.{replanned, is_on}
 use Rattle.replanning.specs.Views.{basis_of}
-use Rattle.replanning.proofs.Numbers.{all_numbered, by_pairs, gathered}
+use Rattle.leg_routes.proofs.Gathered.{gathered}
+use Rattle.replanning.proofs.Numbers.{all_numbered, by_pairs}
 use Rattle.replanning.proofs.spread.replan.Goals as goal
 
 pub collect-requires-clause-ready : goal.collect-requires-clause-ready

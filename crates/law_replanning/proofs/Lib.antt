@@ -1,0 +1,4 @@
+pub mod Rerouted
+pub mod Mutated
+pub mod Choosing
+pub mod Remembered

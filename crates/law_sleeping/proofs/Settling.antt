@@ -297,7 +297,7 @@ settle_queue K t l ws b c (r ∷ rs) buffer w y n g =
     settle_wait K t l ws b c w (r ∷ rs) buffer y n (and_right (nat_le r.second t) (can_leave K l b c r) f) g))))
 
 -- step 1 on the lists
-pub stays : ℕ → List Row → List Row
+unfoldable pub stays : ℕ → List Row → List Row
 stays t [] = []
 stays t (r ∷ rs) = if nat_le r.second t then stays t rs else r ∷ stays t rs
 

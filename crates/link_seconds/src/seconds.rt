@@ -15,7 +15,8 @@ use rows::Dwelling;
 use std::alloc::AllocError;
 use traffic::Occurrence;
 
-/// Goes on with a second that was begun, up to the next vehicle that halts, which is served where it stops; answers whether it has to go on.
+/// Goes on with a second that was begun, up to the next vehicle that halts, which is served where it stops; answers whether it has to go
+/// on.
 fn one_turn(
     second: u32,
     dwell: &Dwelling,
@@ -79,8 +80,8 @@ fn all_turns(
 /// The second of a link: vehicles leave the bay, the credit is raised, the queue and then the wait list let their fronts go, and who stops
 /// on the link is served by those who wait in the line of the stop. Appends what that tells.
 ///
-/// The lists, the lines and what is told are those of the moves that `traffic` gives the link in this second, for all who wait at its stops,
-/// and whichever stops lie on it.
+/// The lists, the lines and what is told are those of the moves that `traffic` gives the link in this second, for all who wait at its
+/// stops, and whichever stops lie on it.
 ///
 /// # Errors
 ///

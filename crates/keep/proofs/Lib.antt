@@ -1,0 +1,10 @@
+pub mod Tests
+pub mod PlanViews
+pub mod RowLists
+pub mod PlanTexts
+pub mod Told
+pub mod Wholes
+pub mod Fronts
+pub mod Answered
+pub mod Pushing
+pub mod MemoryLaws

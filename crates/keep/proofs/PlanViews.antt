@@ -1,0 +1,11 @@
+-- The plans of a list, as their activities and legs: how many, and one more.
+use Rattle.std.proofs.Common.{◌≡◌, List, [], ◌∷◌, ◌++◌, length, map}
+use Rattle.std.proofs.lemmas.List.{length-map, map-append}
+use Rattle.rows.specs.declared.plan.Plan.{Plan}
+use Rattle.rows.specs.PlanRows.{PlanRows, plan_rows}
+
+pub plans_count : (plans : List Plan) → length (map plan_rows plans) ≡ length plans
+plans_count plans = length-map plans plan_rows
+
+pub plans_push : (plans : List Plan) (plan : Plan) → map plan_rows (plans ++ plan ∷ []) ≡ map plan_rows plans ++ plan_rows plan ∷ []
+plans_push plans plan = map-append plan_rows plans (plan ∷ [])

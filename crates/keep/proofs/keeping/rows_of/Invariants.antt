@@ -1,0 +1,11 @@
+use Rattle.std.proofs.Common.{◌≡◌, ◌++◌, drop, take}
+use Rattle.std.specs.Prelude.{All}
+use Rattle.keep.specs.Kept.{persons_rows}
+use Rattle.keep.specs.Fitting.{IsReadable}
+use Rattle.keep.proofs.keeping.rows_of.Given as goal
+
+abbrev pub invariant-loop-person : goal.invariant-loop-person
+invariant-loop-person l = record {
+  rows : l.rows.items ++ persons_rows l.book l.person (drop l.person l.memories) ≡ persons_rows l.book 0 l.memories;
+  sound : All (IsReadable l.book) (take l.person l.memories);
+}

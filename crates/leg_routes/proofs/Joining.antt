@@ -1,6 +1,5 @@
 -- The route of a leg leads from the one link to the other.
-use Rattle.std.proofs.Common.{◌≡◌, ℕ, zero, suc, ◌+◌, ◌-◌, ◌<◌, ◌≤◌, Bool, true, false, cond, ◌&&◌, List, [], ◌∷◌, ◌++◌, length, get_or, Option, None, Some,
-  ◌⊎◌, inl, inr, refl, sym, ◌∙◌, ap, subst, arith, length-append}
+use Rattle.std.proofs.Common.{◌≡◌, ℕ, zero, suc, ◌+◌, ◌-◌, ◌<◌, ◌≤◌, Bool, true, false, cond, ◌&&◌, List, [], ◌∷◌, ◌++◌, length, get_or, Option, None, Some, ◌⊎◌, inl, inr, refl, sym, ◌∙◌, ap, subst, arith, length-append}
 use Rattle.std.specs.Prelude.{nat_eq, nat_lt, nat_le, IfSome}
 use Rattle.std.specs.List.{list_all}
 use Rattle.std.specs.Option.{option_map}
@@ -132,10 +131,10 @@ module _ (graph : Graph) (arrive : Arrivals) (fifo : IsFifo arrive) (inside : Ar
       let far : Option (List ℕ) = option_map (λ way. here ∷ way ++ there ∷ [])
       (way_to graph arrive (end_of graph.ends here) second (start_of graph.ends there)) in
       elim (cases_eq here there) [
-        inl same ↦
+        | inl same ↦
             let one : Some (here ∷ []) ≡ Some route = sym (ap (λ (b : Bool). cond b (Some (here ∷ []))
-                (option_map (λ way. here ∷ way ++ there ∷ []) (way_to graph arrive (end_of graph.ends here) second (start_of graph.ends there))))
-                (eq-eqb here there same)) ∙ both.0 in
+            (option_map (λ way. here ∷ way ++ there ∷ []) (way_to graph arrive (end_of graph.ends here) second (start_of graph.ends there))))
+            (eq-eqb here there same)) ∙ both.0 in
             let route_is : here ∷ [] ≡ route = cc in
             subst (Joins graph.ends here there) route_is (one_joins graph.ends here there here_in there_in same)
         | inr apart ↦

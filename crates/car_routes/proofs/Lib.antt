@@ -1,0 +1,3 @@
+pub mod Wanting
+pub mod Finding
+pub mod Routing

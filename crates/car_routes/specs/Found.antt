@@ -1,0 +1,31 @@
+-- The routes that were found, from each node in the order in which they are wanted.
+use Rattle.std.specs.Prelude.{◌≡◌, ℕ, ◌+◌, nat_le, List, map, length, Option, None, Some, if◌then◌else◌}
+use Rattle.limits.specs.declared.TheConstants.{MAX_ROUTE_LINKS}
+use Rattle.travel_times.specs.Times.{LinkProfile}
+use Rattle.walks.specs.Arrivals.{Arrivals}
+use Rattle.router.specs.Graphs.{Graph}
+use Rattle.leg_routes.specs.Routes.{way_to}
+use Rattle.car_routes.specs.Wanted.{Pairs, wanted_from, row_of, AreNodes}
+
+-- a way that is too long for a leg, with the leg's own two links, counts as none
+abbrev pub short : Option (List ℕ) → Option (List ℕ)
+short None = None
+short (Some way) = if nat_le (length way + 2) MAX_ROUTE_LINKS then Some way else None
+
+-- the way from a node, left in second 0, to another
+abbrev pub short_way : Graph → Arrivals → ℕ → ℕ → Option (List ℕ)
+short_way graph arrive from to = short (way_to graph arrive from 0 to)
+
+-- those to these nodes
+abbrev pub ways_from : Graph → Arrivals → ℕ → List ℕ → List (Option (List ℕ))
+ways_from graph arrive from to = map (short_way graph arrive from) to
+
+-- the routes that are left are the wanted ones
+abbrev pub AreNext : Graph → Arrivals → List (List (Option (List ℕ))) → Pairs → Type 0
+AreNext graph arrive found pairs = (node : ℕ) → row_of found node ≡ ways_from graph arrive node (wanted_from node pairs)
+
+-- there is a list of targets for each node, and a travel time for each link
+pub record AreTargets (graph : Graph) (times : List LinkProfile) (targets : List (List ℕ)) : Type 0 where
+  pub nodes : length targets ≡ graph.nodes
+  pub timed : length times ≡ length graph.ends
+  pub inside : AreNodes graph.nodes targets

@@ -1,0 +1,3 @@
+pub mod Plans
+pub mod Wanted
+pub mod Found

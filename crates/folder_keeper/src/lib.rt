@@ -1,0 +1,151 @@
+//! The keeper in the file `kept.db` of the current folder.
+//!
+//! What the file holds is not told: no contract can say what a disk gives back. The count of faults is.
+#![tactic(auto)]
+
+ghost use Rattle.std.specs.Prelude.{◌≡◌, ◌≤◌, None, OnOk, IsSome};
+ghost use Rattle.edge_files.specs.Causes.{KeepHasCause, Rose};
+
+use edge_files::{KeepFail, Keeper, KeptRow};
+use keep_sql::SqlKeeper;
+use sqlite::{Connection, Error, ErrorCode, File, FileStore};
+use std::io::Eprint;
+
+/// The database of the current folder.
+const NAME: &str = "kept.db";
+
+/// A keeper in the file `kept.db` of the current folder, which is opened, and made where it is missing, at the first call: a command that
+/// keeps nothing makes no file. A line on standard error says why a call failed. What the file holds is not told.
+///
+/// While it is open no other program can use it. What is saved stands in `kept.db` and in its log `kept.db-wal`, which belong together,
+/// until the keeper is closed, and then in `kept.db` alone.
+#[derive(Drop)]
+pub struct FolderKeeper<'a> {
+    rt: &'a HostRuntime,
+    opened: Option<SqlKeeper<FileStore<File>>>,
+    faults: u64,
+}
+
+impl<'a> FolderKeeper<'a> {
+    /// No file is opened yet.
+    pub fn new(rt: &'a HostRuntime) -> Self
+        ensures { result.faults ≡ 0 }
+    {
+        FolderKeeper {
+            rt,
+            opened: None,
+            faults: 0,
+        }
+    }
+
+    /// Opens the database, unless it is open.
+    fn open(&mut self) -> Result<(), KeepFail>
+        ensures cause { KeepHasCause self.old.faults self.new.faults result }
+        ensures opened { OnOk result (IsSome self.new.opened) }
+    {
+        if self.opened.is_some() {
+            return Ok(());
+        }
+        match Connection::open(self.rt, NAME) {
+            Ok(connection) => {
+                self.opened = Some(SqlKeeper::over(self.rt.alloc(), connection));
+                Ok(())
+            }
+            Err(Error::SqliteFailure(ErrorCode::OutOfMemory)) => Err(KeepFail::NoMemory),
+            Err(error) => {
+                self.faults = self.faults.saturating_add(1);
+                let _ = eprintln!(self.rt; "qsim: {NAME} could not be opened: {error}");
+                Err(KeepFail::Failed)
+            }
+        }
+    }
+
+    /// Counts a call that failed, and says why it did.
+    fn refuse(&mut self, fail: KeepFail, done: &str) -> KeepFail
+        ensures same { result ≡ fail }
+        ensures later { self.old.faults ≤ self.new.faults }
+        ensures rose { fail ≡ KeepFail.Failed → Rose self.old.faults self.new.faults }
+    {
+        if fail == KeepFail::Failed {
+            self.faults = self.faults.saturating_add(1);
+            self.tell(done);
+        }
+        fail
+    }
+
+    /// Says why the last call of the database failed.
+    fn tell(&self, done: &str) {
+        let fault = match &self.opened {
+            Some(keeper) => keeper.fault(),
+            None => None,
+        };
+        if let Some(fault) = fault {
+            let _ = eprintln!(self.rt; "qsim: {NAME} could not be {done}: {fault}");
+        }
+    }
+
+    /// Copies the log into `kept.db` and closes the files, where they are open. What was saved is kept also where that fails.
+    pub fn close(self) {
+        let FolderKeeper {
+            rt,
+            opened,
+            faults: _,
+        } = self;
+        let Some(keeper) = opened else {
+            return;
+        };
+        if let Err(error) = keeper.close().close() {
+            let _ = eprintln!(rt;
+                "qsim: {NAME} and {NAME}-wal belong together, since the one could not be copied into the other: {error}"
+            );
+        }
+    }
+}
+
+impl Keeper for FolderKeeper<'_> {
+    ghost kept = { λ _. None };
+
+    ghost faults = { λ k. k.faults };
+
+    fn save(&mut self, iteration: u32, rows: &[KeptRow]) -> Result<(), KeepFail> {
+        if let Err(fail) = self.open() {
+            return Err(fail);
+        }
+        let saved = match &mut self.opened {
+            Some(keeper) => keeper.save(iteration, rows),
+            None => unreachable!(),
+        };
+        match saved {
+            Ok(()) => Ok(()),
+            Err(fail) => Err(self.refuse(fail, "written")),
+        }
+    }
+
+    fn last(&mut self) -> Result<Option<u32>, KeepFail> {
+        if let Err(fail) = self.open() {
+            return Err(fail);
+        }
+        let last = match &mut self.opened {
+            Some(keeper) => keeper.last(),
+            None => unreachable!(),
+        };
+        match last {
+            Ok(last) => Ok(last),
+            Err(fail) => Err(self.refuse(fail, "read")),
+        }
+    }
+
+    fn load(&mut self, rows: &mut Vec<KeptRow>) -> Result<(), KeepFail> {
+        if let Err(fail) = self.open() {
+            return Err(fail);
+        }
+        let loaded = match &mut self.opened {
+            Some(keeper) => keeper.load(rows),
+            None => unreachable!(),
+        };
+        match loaded {
+            Ok(()) => Ok(()),
+            Err(fail) => Err(self.refuse(fail, "read")),
+        }
+    }
+}

@@ -1,6 +1,5 @@
 -- Legs and plans with the routes that were found for them, one after the other.
-use Rattle.std.proofs.Common.{◌≡◌, ℕ, zero, suc, ◌+◌, ◌-◌, ◌<◌, ◌≤◌, Bool, true, List, [], ◌∷◌, ◌++◌, length, map, drop, inl, inr, refl, sym, ◌∙◌, ap, subst, arith,
-  append_assoc}
+use Rattle.std.proofs.Common.{◌≡◌, ℕ, zero, suc, ◌+◌, ◌-◌, ◌<◌, ◌≤◌, Bool, true, List, [], ◌∷◌, ◌++◌, length, map, drop, inl, inr, refl, sym, ◌∙◌, ap, subst, arith, append_assoc}
 use Rattle.std.specs.Prelude.{slice_index_or}
 use Rattle.std.specs.List.{list_all, range_with_len}
 use Rattle.std.proofs.lemmas.Bool.{and_from, and_parts, cases_lt}
@@ -128,7 +127,7 @@ in_range n len k d same less =
 -- the list of a node, where each node has one by a function, and no node beyond has any
 pub ranged : {X : Type 0} (f : ℕ → List X) (n node : ℕ) → (n ≤ node → f node ≡ []) → row_of (map f (range_with_len 0 n)) node ≡ f node
 ranged f n node beyond = elim (cases_lt node n) [
-  inl less ↦ get_or-map-range_with_len f 0 n node node [] less (omega arith)
+  | inl less ↦ get_or-map-range_with_len f 0 n node node [] less (omega arith)
   | inr past ↦ get_or_past (map f (range_with_len 0 n)) node [] (omega (arith, length-map-range_with_len f 0 n)) ∙ sym (beyond past)
 ]
 

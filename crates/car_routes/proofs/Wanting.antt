@@ -1,6 +1,5 @@
 -- The wanted routes, gathered leg by leg.
-use Rattle.std.proofs.Common.{◌≡◌, ℕ, zero, suc, ◌+◌, ◌<◌, ◌≤◌, Bool, true, false, cond, ◌&&◌, List, [], ◌∷◌, ◌++◌, length, map, drop, replicate,
-  Option, None, Some, ◌⊎◌, inl, inr, refl, sym, ◌∙◌, ap, subst, arith, append_assoc, length-append}
+use Rattle.std.proofs.Common.{◌≡◌, ℕ, zero, suc, ◌+◌, ◌<◌, ◌≤◌, Bool, true, false, cond, ◌&&◌, List, [], ◌∷◌, ◌++◌, length, map, drop, replicate, Option, None, Some, ◌⊎◌, inl, inr, refl, sym, ◌∙◌, ap, subst, arith, append_assoc, length-append}
 use Rattle.std.specs.Prelude.{nat_eq, not, filter, slice_index_or, slice_set, option_to_list, All}
 use Rattle.std.specs.List.{cons_option, flat_map}
 use Rattle.std.proofs.lemmas.Bool.{cases_eq, eq-eqb, ne_eqb}
@@ -65,16 +64,16 @@ wants_one nodes from to old new within target is = record {
 }
   where
     by_node : (node : ℕ) → (node ≡ from) ⊎ (node ≡ from → ⊥) → row_of (slice_set old from (row_of old from ++ to ∷ [])) node
-      ≡ row_of old node ++ wanted_from node ((from, to) ∷ [])
+        ≡ row_of old node ++ wanted_from node ((from, to) ∷ [])
     by_node node (inl same) =
         let P : ℕ → Type 0 = λ n. row_of (slice_set old from (row_of old from ++ to ∷ [])) n
-          ≡ row_of old n ++ wanted_from n ((from, to) ∷ []) in
+        ≡ row_of old n ++ wanted_from n ((from, to) ∷ []) in
         subst P (sym same) (get_or-set_same old from (row_of old from ++ to ∷ []) [] within ∙ sym
-          (ap (λ (ns : List ℕ). row_of old from ++ ns) (from_here from to [] ∙ ap (λ (ns : List ℕ). to ∷ ns) (from_nothing from))))
+        (ap (λ (ns : List ℕ). row_of old from ++ ns) (from_here from to [] ∙ ap (λ (ns : List ℕ). to ∷ ns) (from_nothing from))))
     by_node node (inr apart) =
         get_or-set_other old from node (row_of old from ++ to ∷ []) [] apart
         ∙ sym (ap (λ (ns : List ℕ). row_of old node ++ ns) (from_elsewhere node from to [] (λ same. apart (sym same)) ∙ from_nothing node)
-          ∙ append-nil (row_of old node))
+        ∙ append-nil (row_of old node))
 
 -- what a leg wants is put down
 pub put_down : (nodes : ℕ) (wants : Option (ℕ × ℕ)) (from to : ℕ) (old new : List (List ℕ)) → wants ≡ Some (from, to)
@@ -112,7 +111,7 @@ on_way_end nodes left all start now way none = record {
   count = way.count;
   each = λ node.
       sym (append-nil (row_of now node)) ∙ ap (λ (ns : List ℕ). row_of now node ++ ns)
-        (sym (from_nothing node) ∙ ap (wanted_from node) (sym none))
+      (sym (from_nothing node) ∙ ap (wanted_from node) (sym none))
       ∙ way.each node;
   inside = way.inside;
 }
@@ -132,14 +131,14 @@ wanted_step ends acts legs place d e l pairs within own =
     let a : drop place acts ≡ slice_index_or acts place d ∷ drop (place + 1) acts = drop_more acts place d (omega arith) in
     let b : drop (place + 1) acts ≡ slice_index_or acts (place + 1) e ∷ drop (place + 1 + 1) acts = drop_more acts (place + 1) e (omega arith) in
     let c : drop place legs ≡ l ∷ drop (place + 1) legs =
-      drop_more legs place l within ∙ ap (λ (x : Leg). x ∷ drop (place + 1) legs) (sym own) in
+    drop_more legs place l within ∙ ap (λ (x : Leg). x ∷ drop (place + 1) legs) (sym own) in
     let P : List Act → Type 0 = λ after. wanted_in ends (drop place acts) (drop place legs)
-      ≡ option_to_list (wanted ends (slice_index_or acts place d).link (slice_index_or acts (place + 1) e).link l)
-      ++ wanted_in ends after (drop (place + 1) legs) in
+    ≡ option_to_list (wanted ends (slice_index_or acts place d).link (slice_index_or acts (place + 1) e).link l)
+    ++ wanted_in ends after (drop (place + 1) legs) in
     subst P (sym b)
     (ap (λ (after : List Act). wanted_in ends after (drop place legs)) (a ∙ ap (λ (after : List Act). slice_index_or acts place d ∷ after) b)
-      ∙ ap (λ (ls : List Leg). wanted_in ends (slice_index_or acts place d ∷ slice_index_or acts (place + 1) e ∷ drop (place + 1 + 1) acts) ls) c
-      ∙ wanted_pair ends (slice_index_or acts place d) (slice_index_or acts (place + 1) e) (drop (place + 1 + 1) acts) l (drop (place + 1) legs))
+    ∙ ap (λ (ls : List Leg). wanted_in ends (slice_index_or acts place d ∷ slice_index_or acts (place + 1) e ∷ drop (place + 1 + 1) acts) ls) c
+    ∙ wanted_pair ends (slice_index_or acts place d) (slice_index_or acts (place + 1) e) (drop (place + 1 + 1) acts) l (drop (place + 1) legs))
 
 pub wanted_end : (ends : Ends) (acts : List Act) (legs : List Leg) → legs ≡ [] → wanted_in ends acts legs ≡ []
 unfolding wanted_in

@@ -114,7 +114,13 @@ fn ways_of(
     ensures { IfOk result (λ ways. ways ≡ ways_from adjacency.now (arrivals times.now) node (row_of targets.now node)) }
 {
     know_links(adjacency);
-    let ways = own_ways(alloc, adjacency, times, node as u32, targets_of(targets, node))?;
+    let ways = own_ways(
+        alloc,
+        adjacency,
+        times,
+        node as u32,
+        targets_of(targets, node),
+    )?;
     Ok(ways)
 }
 

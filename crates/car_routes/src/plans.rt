@@ -157,7 +157,7 @@ pub fn with_routes<R: Threads + Sync>(
     network: &Network,
     plans: PlanLists,
 ) -> Result<PlanLists, AllocError>
-    requires { all_are_on (length network.now.links) (all_plan_rows plans) ≡ true }
+    requires on { all_are_on (length network.now.links) (all_plan_rows plans) ≡ true }
     ensures { IfOk result (λ routed. all_plan_rows routed
         ≡ all_routed (graph_of network.now) (arrivals (free_times network.now.links)) (all_plan_rows plans)) }
 {

@@ -7,7 +7,7 @@ use Rattle.car_routes.proofs.plans.with_routes.Goals as goal
 pub routed_by-requires-clause-on : goal.routed_by-requires-clause-on
 routed_by-requires-clause-on g c κs within =
     subst (λ (n : ℕ). all_are_on n (all_plan_rows c.args.plans) ≡ true)
-    (sym (links_counted (length c.args.network.now.nodes) c.args.network.now.links c.in_ok-adjacency.adjacency c.in_ok-adjacency.ensures)) c.requires
+    (sym (links_counted (length c.args.network.now.nodes) c.args.network.now.links c.in_ok-adjacency.adjacency c.in_ok-adjacency.ensures)) c.requires.on
 
 pub routed_by-requires-clause-times : goal.routed_by-requires-clause-times
 routed_by-requires-clause-times g c κs within =

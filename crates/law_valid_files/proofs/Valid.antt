@@ -29,7 +29,9 @@ use Rattle.scenario.specs.Texts.{Texts, bytes_in}
 use Rattle.scenario.specs.Legs.{numbers_in, plan_in_town}
 use Rattle.scenario.specs.LegChecks.{AreThere}
 use Rattle.scenario.specs.Fitting.{all_fit, first_plans}
-use Rattle.scenario.specs.FilesToScenario.{NetworkRows, ScheduleRows, ScenarioRows, leg_checks_in, town_of, plans_of, persons_on, schedule_rows_of, signals_on, planned_of, scored_by, on_network, network_rows_of, network_fault, persons_fault, plans_cross_fault, on_network_fault, scenario_fault, scenario_rows}
+use Rattle.scenario.specs.FilesToScenario.{NetworkRows, ScheduleRows, ScenarioRows, leg_checks_in, town_of, plans_of, persons_on, schedule_rows_of, signals_on, planned_of, filled_in, scored_by, on_network, network_rows_of, network_fault, persons_fault, plans_cross_fault, on_network_fault, scenario_fault, scenario_rows}
+use Rattle.router.proofs.Graphs.{network_within}
+use Rattle.scenario.proofs.Filled.{filled_sound, filled_kept}
 use Rattle.scenario.proofs.RowByRow.{same_crossing}
 use Rattle.scenario.specs.Towns.{IsSchedule}
 use Rattle.scenario.proofs.Told.{bytes_free}
@@ -76,10 +78,11 @@ all_there P links ends t s = record {
   stops = λ n k h. subst (λ (count : ℕ). k < count) s.each_stop (are_there P.stops t.stop_names (numbers_in P.stops t.stop_names) refl n k h);
 }
 
-scenario_is : (v : Values) (network : NetworkRows) (P : PlanFileRows) (t : ScheduleRows) (greens : List Phases) (scoring : ScoringValues) → AreInRange v.traffic → AreNetworkRows network → AreFreePlans network.link_names (ends_of network.links) P → IsSchedule (length network.link_names) (ends_of network.links) t
+-- plans whose routes are filled
+planned_is : (v : Values) (network : NetworkRows) (P : PlanFileRows) (t : ScheduleRows) (greens : List Phases) (scoring : ScoringValues) → AreInRange v.traffic → AreNetworkRows network → AreFreePlans network.link_names (ends_of network.links) P → IsSchedule (length network.link_names) (ends_of network.links) t
     → length greens ≡ length network.links → plans_cross_fault P t ≡ None → IsScenario (scored_by (planned_of v network P t greens) scoring)
 unfolding planned_of
-scenario_is v network P t greens scoring settings r p s each_green free =
+planned_is v network P t greens scoring settings r p s each_green free =
     let T = town_of v network P.persons P.kinds t greens in
     let N = (leg_checks_in P t).numbers in
     let fit : all_fit T (map (map (plan_in_town N)) P.plans) ≡ true = plans_fit v network P t greens (all_there P (length network.link_names) (ends_of network.links) t s) r.each_link p.sound p.plans free in
@@ -89,6 +92,17 @@ scenario_is v network P t greens scoring settings r p s each_green free =
       each = length-map P.plans (map (plan_in_town N)) ∙ p.sound.each ∙ persons_named v network P.persons P.kinds t greens;
       plans = All-from_recursion (AreOwnPlans T) (map (map (plan_in_town N)) P.plans) (all_in_town T N P.plans p.plans fit);
     }
+
+-- plans as they were read
+scenario_is : (v : Values) (network : NetworkRows) (P : PlanFileRows) (t : ScheduleRows) (greens : List Phases) (scoring : ScoringValues) → AreInRange v.traffic → AreNetworkRows network → AreFreePlans network.link_names (ends_of network.links) P → IsSchedule (length network.link_names) (ends_of network.links) t
+    → length greens ≡ length network.links → plans_cross_fault (filled_in network P) t ≡ None
+    → IsScenario (scored_by (planned_of v network (filled_in network P) t greens) scoring)
+scenario_is v network P t greens scoring settings r p s each_green free =
+    let inside = network_within (length network.nodes) network.links r.links in
+    planned_is v network (filled_in network P) t greens scoring settings r (record {
+      sound = filled_sound network inside P r.each_link p.sound;
+      plans = filled_kept network inside P r.each_link p.sound p.plans;
+    }) s each_green free
 
 -- ALL FILES
 pub scenario_valid : (texts : Texts) → scenario_fault texts ≡ None → IsScenario (scenario_rows texts)
@@ -109,7 +123,7 @@ scenario_valid T none =
     let p = plans_free network.link_names ends (bytes_in T file.Plans) (bytes_free T file.Plans (plans_fault network.link_names ends) c.0) in
     let s = schedule_free network.link_names ends T d.0 in
     scenario_is (settings_of (bytes_in T file.Settings)) network (persons_on network T) t (signals_on network.link_names T).greens (scoring_values (bytes_in T file.Settings)) settings r p s
-    (greens_length network.link_names (body_of (bytes_in T file.Signals)) ∙ r.each_link) (same_crossing network T t c.0 ∙ f.0)
+    (greens_length network.link_names (body_of (bytes_in T file.Signals)) ∙ r.each_link) (same_crossing network T t (network_within (length network.nodes) network.links r.links) r.each_link c.0 ∙ f.0)
 
 pub chosen_valid : (S : ScenarioRows) → IsScenario S → AreChosenIn S.town (first_plans S.plans)
 chosen_valid S valid =

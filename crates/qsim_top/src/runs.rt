@@ -26,6 +26,7 @@ use rows::PlanLists;
 use scenario::{Files, Scenario, ScenarioFault, Stop, assemble};
 use scoring::Tables;
 use std::alloc::{AllocError, Global};
+use std::thread::Threads;
 use town::Town;
 
 fn write(file: OutFile, text: Vec<u8>) -> Effect
@@ -263,10 +264,15 @@ fn work_or_refusal(
 }
 
 /// The answer of a command to files.
-pub fn answer(alloc: Global, command: Command, files: Files) -> Result<Answer, AllocError>
+pub fn answer<R: Threads + Sync>(
+    rt: &R,
+    alloc: Global,
+    command: Command,
+    files: Files,
+) -> Result<Answer, AllocError>
     ensures { IfOk result (IsAnswer (answer command (texts_of files))) }
 {
-    let read = assemble(alloc, &files);
+    let read = assemble(rt, alloc, &files);
     drop(files);
     let answer = work_or_refusal(alloc, command, read)?;
     Ok(answer)

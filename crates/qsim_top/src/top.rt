@@ -41,7 +41,8 @@ fn carry_out<O: Outputs, K: Keeper>(outputs: &mut O, keeper: &mut K, answer: Ans
 }
 
 /// Reads the files and finds a command's answer.
-fn answer_to_inputs<I: Inputs>(
+fn answer_to_inputs<R: Threads + Sync, I: Inputs>(
+    rt: &R,
     alloc: Global,
     command: Command,
     inputs: &mut I,
@@ -54,7 +55,7 @@ fn answer_to_inputs<I: Inputs>(
     ensures later { I.faults inputs.old ≤ I.faults inputs.new }
 {
     let files = read_files(alloc, inputs)?;
-    match answer(alloc, command, files) {
+    match answer(rt, alloc, command, files) {
         Ok(answer) => Ok(answer),
         Err(AllocError) => Err(ReadError::NoMemory),
     }
@@ -62,7 +63,8 @@ fn answer_to_inputs<I: Inputs>(
 
 /// Does the work of a command: all files are read before any of them is checked.
 #[tactic(auto, using(crate::proofs::Worked::came_of_work))]
-fn do_work<I: Inputs, O: Outputs, K: Keeper>(
+fn do_work<R: Threads + Sync, I: Inputs, O: Outputs, K: Keeper>(
+    rt: &R,
     alloc: Global,
     command: Command,
     inputs: &mut I,
@@ -81,7 +83,7 @@ fn do_work<I: Inputs, O: Outputs, K: Keeper>(
     ensures keeper { keeper.new ≡ keeper.old }
     ensures unread { result ≡ Status.ReadFault → outputs.new ≡ outputs.old }
 {
-    match answer_to_inputs(alloc, command, inputs) {
+    match answer_to_inputs(rt, alloc, command, inputs) {
         Ok(answer) => carry_out(outputs, keeper, answer),
         Err(ReadError::Failed) => Status::ReadFault,
         Err(ReadError::NoMemory) => Status::NoMemory,
@@ -117,10 +119,11 @@ fn tell<O: Outputs, K: Keeper>(
 /// each person, and writes the plans; `qsim check` reads the scenario and reports its counts or its
 /// first fault; `qsim route` reads it and reports the route of least arrival between two nodes.
 ///
-/// The words are read first, then all files, and then all that the answer holds is done outside. The
-/// keeper and the gate are not called, and no thread is started.
+/// The words are read first, then all files, and then all that the answer holds is done outside. The routes of car
+/// legs that have none are searched by as many threads as there are processors, each of which is joined. The keeper
+/// and the gate are not called.
 pub fn qsim<R: Threads + Wait + Sync, I: Inputs, O: Outputs, K: Keeper, G: Gate>(
-    _rt: &R,
+    rt: &R,
     alloc: Global,
     words: &[String],
     inputs: &mut I,
@@ -154,7 +157,7 @@ pub fn qsim<R: Threads + Wait + Sync, I: Inputs, O: Outputs, K: Keeper, G: Gate>
 {
     know_days();
     match read_words(alloc, words) {
-        Ok(Asked::Work(command)) => do_work(alloc, command, inputs, outputs, keeper),
+        Ok(Asked::Work(command)) => do_work(rt, alloc, command, inputs, outputs, keeper),
         Ok(Asked::Help(text)) => tell(alloc, Status::Done, text, outputs, keeper),
         Ok(Asked::Refused(text)) => tell(alloc, Status::Usage, text, outputs, keeper),
         Err(AllocError) => Status::NoMemory,

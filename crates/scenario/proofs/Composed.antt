@@ -21,7 +21,8 @@ use Rattle.scenario.specs.declared.scenario.Scenario.{Scenario}
 use Rattle.scenario.specs.declared.schedules.Schedule.{Schedule}
 use Rattle.scenario.specs.Texts.{Texts, bytes_in}
 use Rattle.scenario.specs.Faults.{fault_in, StopsAt, Tells}
-use Rattle.scenario.specs.FilesToScenario.{NetworkRows, ScheduleRows, PlannedRows, persons_fault, schedule_fault, signals_file_fault, conflict_fault, plans_cross_fault, persons_on, schedule_rows_of, signals_on, planned_of, scored_by, on_network, on_network_fault, network_fault, network_rows_of, scenario_fault, scenario_rows}
+use Rattle.scenario.specs.FilesToScenario.{NetworkRows, ScheduleRows, PlannedRows, persons_fault, schedule_fault, signals_file_fault, conflict_fault, plans_cross_fault, filled_in, persons_on, schedule_rows_of, signals_on, planned_of, scored_by, on_network, on_network_fault, network_fault, network_rows_of, scenario_fault, scenario_rows}
+use Rattle.walks.specs.Walks.{AreWithin}
 use Rattle.scenario.specs.Towns.{IsSchedule}
 use Rattle.scenario.specs.Views.{planned_view, scenario_view, schedule_view}
 use Rattle.scenario.proofs.RowByRow.{same_crossing}
@@ -90,18 +91,18 @@ schedule_sound R T ends schedule is each none view =
     subst (λ (t : ScheduleRows). IsSchedule (length R.links) (ends_of R.links) t) (sym view) (subst (λ (e : List (ℕ × ℕ)). IsSchedule (length R.links) e (schedule_rows_of R.link_names T)) is given)
 
 -- the town with its plans and signals, or the first leg that does not fit, or else the first conflict
-pub all_told : (r : Result PlannedTown Stop) (v : Values) (R : NetworkRows) (P : PlanFileRows) (S : ScheduleRows) (G : SignalRows) (T : Texts) (ends : List (ℕ × ℕ)) → ends ≡ ends_of R.links
+pub all_told : (r : Result PlannedTown Stop) (v : Values) (R : NetworkRows) (P : PlanFileRows) (S : ScheduleRows) (G : SignalRows) (T : Texts) (ends : List (ℕ × ℕ)) → AreWithin (length R.nodes) (ends_of R.links) → length R.link_names ≡ length R.links → ends ≡ ends_of R.links
     → persons_fault R.link_names ends T ≡ None → schedule_fault R.link_names ends T ≡ None → signals_file_fault R.link_names ends T ≡ None
     → P ≡ persons_on R T → S ≡ schedule_rows_of R.link_names T → G ≡ signals_on R.link_names T
-    → Tells planned_view r (or_else (plans_cross_fault P S) (conflict_fault G)) (planned_of v R P S G.greens) → Tells planned_view r (on_network_fault R T) (on_network v R T)
+    → Tells planned_view r (or_else (plans_cross_fault (filled_in R P) S) (conflict_fault G)) (planned_of v R (filled_in R P) S G.greens) → Tells planned_view r (on_network_fault R T) (on_network v R T)
 unfolding on_network_fault on_network
-all_told r v R P S G T ends is no_persons no_schedule no_signals persons schedule signals told =
-    let value = planned_of v R (persons_on R T) (schedule_rows_of R.link_names T) (signals_on R.link_names T).greens in
+all_told r v R P S G T ends inside each is no_persons no_schedule no_signals persons schedule signals told =
+    let value = planned_of v R (filled_in R (persons_on R T)) (schedule_rows_of R.link_names T) (signals_on R.link_names T).greens in
     let no_persons_on = subst (λ (e : List (ℕ × ℕ)). persons_fault R.link_names e T ≡ None) is no_persons in
-    let with_persons = subst (λ (p : PlanFileRows). Tells planned_view r (or_else (plans_cross_fault p S) (conflict_fault G)) (planned_of v R p S G.greens)) persons told in
-    let with_both = subst (λ (t : ScheduleRows). Tells planned_view r (or_else (plans_cross_fault (persons_on R T) t) (conflict_fault G)) (planned_of v R (persons_on R T) t G.greens)) schedule with_persons in
-    let with_all = subst (λ (g : SignalRows). Tells planned_view r (or_else (plans_cross_fault (persons_on R T) (schedule_rows_of R.link_names T)) (conflict_fault g)) (planned_of v R (persons_on R T) (schedule_rows_of R.link_names T) g.greens)) signals with_both in
-    let row_by_row = subst (λ (f : Option ScenarioFault). Tells planned_view r (or_else f (conflict_fault (signals_on R.link_names T))) value) (same_crossing R T (schedule_rows_of R.link_names T) no_persons_on) with_all in
+    let with_persons = subst (λ (p : PlanFileRows). Tells planned_view r (or_else (plans_cross_fault (filled_in R p) S) (conflict_fault G)) (planned_of v R (filled_in R p) S G.greens)) persons told in
+    let with_both = subst (λ (t : ScheduleRows). Tells planned_view r (or_else (plans_cross_fault (filled_in R (persons_on R T)) t) (conflict_fault G)) (planned_of v R (filled_in R (persons_on R T)) t G.greens)) schedule with_persons in
+    let with_all = subst (λ (g : SignalRows). Tells planned_view r (or_else (plans_cross_fault (filled_in R (persons_on R T)) (schedule_rows_of R.link_names T)) (conflict_fault g)) (planned_of v R (filled_in R (persons_on R T)) (schedule_rows_of R.link_names T) g.greens)) signals with_both in
+    let row_by_row = subst (λ (f : Option ScenarioFault). Tells planned_view r (or_else f (conflict_fault (signals_on R.link_names T))) value) (same_crossing R T (schedule_rows_of R.link_names T) inside each no_persons_on) with_all in
     told_behind planned_view r _ _ value no_persons_on
     (told_behind planned_view r _ _ value (subst (λ (e : List (ℕ × ℕ)). schedule_fault R.link_names e T ≡ None) is no_schedule)
     (told_behind planned_view r _ _ value (subst (λ (e : List (ℕ × ℕ)). signals_file_fault R.link_names e T ≡ None) is no_signals) row_by_row))

@@ -23,6 +23,7 @@ pub record Meets (T : TownRows) (W : LegChecks) (tables : Tables) (ends : List (
   pub same_links : length T.links ≡ length tables.links
   pub same_kinds : length T.book.kinds ≡ length tables.kinds
   pub same_ends : ends_of T.links ≡ ends
+  pub settled : (here : Act) (there : ℕ) → W.searched here there ≡ None
 
 not_false : (a : Bool) → a ≡ false → not a ≡ true
 not_false a h = grind arith
@@ -30,10 +31,12 @@ not_false a h = grind arith
 less : (n m : ℕ) → n < m → nat_lt n m ≡ true
 less n m h = grind (arith, nat_tests)
 
-drive_none : (empty wrong : Bool) (x y : Reason) → (if not empty && wrong then Some x else (if empty then Some y else None)) ≡ None → (empty ≡ false) × (wrong ≡ false)
-drive_none true wrong x y h = (cc, cc)
-drive_none false true x y h = (cc, cc)
-drive_none false false x y h = (refl, refl)
+drive_none : (empty wrong : Bool) (searched : Option (List ℕ)) (x y : Reason) → searched ≡ None
+    → (if not empty && wrong then Some x else (if empty && is_none searched then Some y else None)) ≡ None → (empty ≡ false) × (wrong ≡ false)
+drive_none true wrong None x y none h = (cc, cc)
+drive_none true wrong (Some route) x y none h = (cc, cc)
+drive_none false true searched x y none h = (cc, cc)
+drive_none false false searched x y none h = (refl, refl)
 
 ride_none : (l a e : Option ℕ) (wrong : Bool) (x y : Reason) → (if is_none l || is_none a || is_none e then Some x else (if wrong then Some y else None)) ≡ None
     → (l ≡ Some (unwrap_or l 0)) × ((a ≡ Some (unwrap_or a 0)) × ((e ≡ Some (unwrap_or e 0)) × (wrong ≡ false)))
@@ -43,11 +46,11 @@ ride_none (Some l) (Some a) None wrong x y h = (cc, (cc, (cc, cc)))
 ride_none (Some l) (Some a) (Some e) true x y h = (cc, (cc, (cc, cc)))
 ride_none (Some l) (Some a) (Some e) false x y h = (refl, (refl, (refl, refl)))
 
-leg_meets : (T : TownRows) (W : LegChecks) (tables : Tables) (ends : List (ℕ × ℕ)) (here there : ℕ) (l : Leg) → Meets T W tables ends
-    → is_leg_named tables ends l ≡ true → leg_reason W here there l ≡ None → leg_fits T here there (leg_in_town W.numbers l) ≡ true
+leg_meets : (T : TownRows) (W : LegChecks) (tables : Tables) (ends : List (ℕ × ℕ)) (here : Act) (there : ℕ) (l : Leg) → Meets T W tables ends
+    → is_leg_named tables ends l ≡ true → leg_reason W here there l ≡ None → leg_fits T here.link there (leg_in_town W.numbers l) ≡ true
 unfolding leg_fits is_car_leg leg_reason
 leg_meets T W tables ends here there (leg.Car route) m named none =
-    let free = drive_none (nat_eq (length route) 0) (has_wrong_ends here there route) _ _ none in
+    let free = drive_none (nat_eq (length route) 0) (has_wrong_ends here.link there route) (W.searched here there) _ _ (m.settled here there) none in
     let parts = and_parts (list_all (λ link. nat_lt link (length tables.links)) route) (is_joined ends route) named in
     let linked : list_all (λ link. nat_lt link (length T.links)) route ≡ true =
     subst (λ (n : ℕ). list_all (λ link. nat_lt link n) route ≡ true) (sym m.same_links) parts.0 in
@@ -56,7 +59,7 @@ leg_meets T W tables ends here there (leg.Car route) m named none =
 leg_meets T W tables ends here there (leg.Teleport mode seconds) m named none = refl
 leg_meets T W tables ends here there (leg.Transit line access egress) m named none =
     let N = W.numbers in
-    let wrong = has_wrong_stops W.stops W.routes here there (in_town N.lines line) (in_town N.stops access) (in_town N.stops egress) in
+    let wrong = has_wrong_stops W.stops W.routes here.link there (in_town N.lines line) (in_town N.stops access) (in_town N.stops egress) in
     let free = ride_none (number_at N.lines line) (number_at N.stops access) (number_at N.stops egress) wrong _ _ none in
     let count = ap (λ (rows : _). length rows) m.same_stops in
     let in_lines = less _ _ (m.there.lines line _ free.0) in
@@ -72,8 +75,8 @@ legs_meet T W tables ends row acts [] m named none more = refl
 legs_meet T W tables ends row [] (leg ∷ legs) m named none more = absurd (omega arith)
 legs_meet T W tables ends row (here ∷ acts) (leg ∷ legs) m named none more =
     let parts = and_parts (is_leg_named tables ends leg) (list_all (is_leg_named tables ends) legs) named in
-    let free = or_none (fault_at row (leg_reason W here.link (first_link acts) leg)) (legs_fault W (row + 2) acts legs) none in
-    both_true _ _ (leg_meets T W tables ends here.link (first_link acts) leg m parts.0 (no_reason row _ free.0))
+    let free = or_none (fault_at row (leg_reason W here (first_link acts) leg)) (legs_fault W (row + 2) acts legs) none in
+    both_true _ _ (leg_meets T W tables ends here (first_link acts) leg m parts.0 (no_reason row _ free.0))
     (legs_meet T W tables ends (row + 2) acts legs m parts.1 free.1 (omega arith))
 
 acts_meet : (T : TownRows) (tables : Tables) (acts : List Act) → length T.links ≡ length tables.links → length T.book.kinds ≡ length tables.kinds

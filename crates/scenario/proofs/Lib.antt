@@ -8,6 +8,7 @@ pub mod FilesRead
 pub mod FreeSchedules
 pub mod FirstPlans
 pub mod Settling
+pub mod Filled
 pub mod RowByRow
 pub mod Composed
 pub mod Common

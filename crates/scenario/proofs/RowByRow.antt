@@ -20,15 +20,17 @@ use Rattle.plans.specs.Refusals.{row_reason}
 use Rattle.plans.specs.Values.{tables_of, kind_in, act_of, leg_of, endless, row_before, row_behind, rows_fault, values_of, plans_fault as file_fault}
 use Rattle.plans.specs.Progress.{Progress, IsReadTo, closed_acts, closed_of, with_kind, put_act, step_first, step_act, step_leg, finish}
 use Rattle.plans.proofs.ActSteps.{act_is, kind_in_act, one_name}
-use Rattle.plans.proofs.AllRows.{Stays, all_with, file_free}
+use Rattle.plans.proofs.AllRows.{Stays, all_with, file_free, plans_free}
 use Rattle.plans.proofs.FileRead.{last_there, finish_is}
 use Rattle.plans.proofs.LegCases.{leg_put}
 use Rattle.plans.proofs.RowRead.{row_able, vacant_at, last_at}
 use Rattle.town.specs.Fits.{first_link}
 use Rattle.scenario.specs.Faults.{text_fault}
-use Rattle.scenario.specs.FilesToScenario.{cross_fault}
-use Rattle.scenario.specs.Legs.{leg_reason, legs_fault, link_in, leg_reason_at, rows_cross_fault}
-use Rattle.scenario.proofs.Told.{file_none}
+use Rattle.walks.specs.Walks.{AreWithin}
+use Rattle.scenario.specs.FilesToScenario.{cross_fault, with_search, filled_in}
+use Rattle.scenario.specs.Legs.{leg_reason, legs_fault, act_in, leg_reason_at, rows_cross_fault}
+use Rattle.scenario.proofs.Told.{file_none, bytes_free}
+use Rattle.scenario.proofs.Filled.{filled_crossing}
 use Rattle.scenario.proofs.AllFit.{plans_fault-append, or_else_assoc}
 
 or_else-None : {A : Type 0} (a : Option A) → or_else a None ≡ a
@@ -43,11 +45,11 @@ first_of_more (act ∷ acts) last next = refl
 
 -- one more leg, behind an activity for each leg and one more
 legs_fault-push : (W : LegChecks) (row : ℕ) (acts : List Act) (legs : List Leg) (last next : Act) (leg : Leg) → length acts ≡ length legs
-    → legs_fault W row (acts ++ last ∷ next ∷ []) (legs ++ leg ∷ []) ≡ or_else (legs_fault W row (acts ++ last ∷ []) legs) (fault_at (row + 2 * length legs) (leg_reason W last.link next.link leg))
+    → legs_fault W row (acts ++ last ∷ next ∷ []) (legs ++ leg ∷ []) ≡ or_else (legs_fault W row (acts ++ last ∷ []) legs) (fault_at (row + 2 * length legs) (leg_reason W last next.link leg))
 unfolding legs_fault
 legs_fault-push W row [] [] last next leg paired =
     let same : row ≡ row + 2 * 0 = omega arith in
-    or_else-None (fault_at row (leg_reason W last.link next.link leg)) ∙ ap (λ (m : ℕ). fault_at m (leg_reason W last.link next.link leg)) same
+    or_else-None (fault_at row (leg_reason W last next.link leg)) ∙ ap (λ (m : ℕ). fault_at m (leg_reason W last next.link leg)) same
 legs_fault-push W row [] (l ∷ legs) last next leg paired = absurd (omega arith)
 legs_fault-push W row (act ∷ acts) [] last next leg paired = absurd (omega arith)
 legs_fault-push W row (act ∷ acts) (l ∷ legs) last next leg paired =
@@ -55,25 +57,25 @@ legs_fault-push W row (act ∷ acts) (l ∷ legs) last next leg paired =
     let later = legs_fault-push W (row + 2) acts legs last next leg (omega arith) in
     let same : row + 2 + 2 * length legs ≡ row + 2 * suc (length legs) = omega arith in
     let rest = legs_fault W (row + 2) (acts ++ last ∷ []) legs in
-    let here : ℕ → Option RowFault = λ link. fault_at row (leg_reason W act.link link l) in
+    let here : ℕ → Option RowFault = λ link. fault_at row (leg_reason W act link l) in
     ap (λ (link : ℕ). or_else (here link) (legs_fault W (row + 2) (acts ++ last ∷ next ∷ []) (legs ++ leg ∷ []))) there
     ∙ ap (λ (f : Option RowFault). or_else (here (first_link (acts ++ last ∷ []))) f) later
-    ∙ ap (λ (m : ℕ). or_else (here (first_link (acts ++ last ∷ []))) (or_else rest (fault_at m (leg_reason W last.link next.link leg)))) same
-    ∙ or_else_assoc (here (first_link (acts ++ last ∷ []))) rest (fault_at (row + 2 * suc (length legs)) (leg_reason W last.link next.link leg))
+    ∙ ap (λ (m : ℕ). or_else (here (first_link (acts ++ last ∷ []))) (or_else rest (fault_at m (leg_reason W last next.link leg)))) same
+    ∙ or_else_assoc (here (first_link (acts ++ last ∷ []))) rest (fault_at (row + 2 * suc (length legs)) (leg_reason W last next.link leg))
 
 endless_link : (acts : List Act) (last : Act) → first_link (acts ++ endless last ∷ []) ≡ first_link (acts ++ last ∷ [])
 endless_link [] last = refl
 endless_link (act ∷ acts) last = refl
 
--- an end that is not kept changes nothing
-legs_fault-endless : (W : LegChecks) (row : ℕ) (acts : List Act) (legs : List Leg) (last : Act) → legs_fault W row (acts ++ endless last ∷ []) legs ≡ legs_fault W row (acts ++ last ∷ []) legs
+-- an end that is not kept changes nothing, behind an activity for each leg
+legs_fault-endless : (W : LegChecks) (row : ℕ) (acts : List Act) (legs : List Leg) (last : Act) → length acts ≡ length legs → legs_fault W row (acts ++ endless last ∷ []) legs ≡ legs_fault W row (acts ++ last ∷ []) legs
 unfolding legs_fault
-legs_fault-endless W row [] [] last = refl
-legs_fault-endless W row [] (l ∷ legs) last = refl
-legs_fault-endless W row (act ∷ acts) [] last = refl
-legs_fault-endless W row (act ∷ acts) (l ∷ legs) last =
-    ap (λ (link : ℕ). or_else (fault_at row (leg_reason W act.link link l)) (legs_fault W (row + 2) (acts ++ endless last ∷ []) legs)) (endless_link acts last)
-    ∙ ap (λ (f : Option RowFault). or_else (fault_at row (leg_reason W act.link (first_link (acts ++ last ∷ [])) l)) f) (legs_fault-endless W (row + 2) acts legs last)
+legs_fault-endless W row [] [] last paired = refl
+legs_fault-endless W row [] (l ∷ legs) last paired = absurd (omega arith)
+legs_fault-endless W row (act ∷ acts) [] last paired = absurd (omega arith)
+legs_fault-endless W row (act ∷ acts) (l ∷ legs) last paired =
+    ap (λ (link : ℕ). or_else (fault_at row (leg_reason W act link l)) (legs_fault W (row + 2) (acts ++ endless last ∷ []) legs)) (endless_link acts last)
+    ∙ ap (λ (f : Option RowFault). or_else (fault_at row (leg_reason W act (first_link (acts ++ last ∷ [])) l)) f) (legs_fault-endless W (row + 2) acts legs last (omega arith))
 
 -- PLANS THAT ARE CLOSED
 -- rows behind those of the plans do not count
@@ -109,12 +111,12 @@ first_fault-more reasons n =
 -- a row that is an activity has no reason
 act_free : (W : LegChecks) (tables : Tables) (rows : List Row) (n : ℕ) → kind_of (get_or rows n []) ≡ element.Act → leg_reason_at W tables rows n ≡ None
 unfolding leg_reason_at
-act_free W tables rows n is = ap (λ (k : ElementKind). cond (is_leg k) (leg_reason W (link_in tables (get_or rows (n - 1) [])) (link_in tables (get_or rows (n + 1) [])) (leg_of tables.lines tables.stops tables.links (get_or rows n []))) None) is
+act_free W tables rows n is = ap (λ (k : ElementKind). cond (is_leg k) (leg_reason W (act_in tables (get_or rows (n - 1) [])) (act_in tables (get_or rows (n + 1) [])).link (leg_of tables.lines tables.stops tables.links (get_or rows n []))) None) is
 
 leg_at : (W : LegChecks) (tables : Tables) (rows : List Row) (n : ℕ) (m : Option Mode) → kind_of (get_or rows n []) ≡ element.Leg m
-    → leg_reason_at W tables rows n ≡ leg_reason W (link_in tables (get_or rows (n - 1) [])) (link_in tables (get_or rows (n + 1) [])) (leg_of tables.lines tables.stops tables.links (get_or rows n []))
+    → leg_reason_at W tables rows n ≡ leg_reason W (act_in tables (get_or rows (n - 1) [])) (act_in tables (get_or rows (n + 1) [])).link (leg_of tables.lines tables.stops tables.links (get_or rows n []))
 unfolding leg_reason_at
-leg_at W tables rows n m is = ap (λ (k : ElementKind). cond (is_leg k) (leg_reason W (link_in tables (get_or rows (n - 1) [])) (link_in tables (get_or rows (n + 1) [])) (leg_of tables.lines tables.stops tables.links (get_or rows n []))) None) is
+leg_at W tables rows n m is = ap (λ (k : ElementKind). cond (is_leg k) (leg_reason W (act_in tables (get_or rows (n - 1) [])) (act_in tables (get_or rows (n + 1) [])).link (leg_of tables.lines tables.stops tables.links (get_or rows n []))) None) is
 
 after_act : (W : LegChecks) (tables : Tables) (rows : List Row) (n : ℕ) → kind_of (get_or rows n []) ≡ element.Act → first_fault None (leg_reason_at W tables rows) (n + 1) ≡ first_fault None (leg_reason_at W tables rows) n
 after_act W tables rows n is =
@@ -148,9 +150,9 @@ record Checked (W : LegChecks) (tables : Tables) (rows : List Row) (n : ℕ) (p 
   place : start + 2 * length p.legs ≡ n + waits p.last
   same : or_else (plans_fault W earlier (closed_plans p)) (legs_fault W (start + 1) (p.acts ++ ahead p.last (next_act tables rows n) ∷ []) p.legs) ≡ first_fault None (leg_reason_at W tables rows) n
 
-closed_same : (W : LegChecks) (row : ℕ) (acts : List Act) (legs : List Leg) (last : Option Act) (next : Act) → is_some last ≡ true → legs_fault W row (closed_acts acts last) legs ≡ legs_fault W row (acts ++ ahead last next ∷ []) legs
-closed_same W row acts legs None next there = cc
-closed_same W row acts legs (Some last) next there = legs_fault-endless W row acts legs last
+closed_same : (W : LegChecks) (row : ℕ) (acts : List Act) (legs : List Leg) (last : Option Act) (next : Act) → is_some last ≡ true → length acts ≡ length legs → legs_fault W row (closed_acts acts last) legs ≡ legs_fault W row (acts ++ ahead last next ∷ []) legs
+closed_same W row acts legs None next there paired = cc
+closed_same W row acts legs (Some last) next there paired = legs_fault-endless W row acts legs last paired
 
 -- with the open plan closed
 closed_checked : (W : LegChecks) (tables : Tables) (rows : List Row) (n : ℕ) (p : Progress) → Checked W tables rows n p → is_some p.last ≡ true
@@ -159,7 +161,7 @@ unfolding plan_fault
 closed_checked W tables rows n p c there =
     ap (λ (l : List ℕ). plans_fault W l (closed_plans p ++ closed_of p ∷ [])) c.starts
     ∙ plans_fault-push W c.earlier c.start (closed_plans p) (closed_of p) c.each
-    ∙ ap (λ (f : Option RowFault). or_else (plans_fault W c.earlier (closed_plans p)) f) (closed_same W (c.start + 1) p.acts p.legs p.last (next_act tables rows n) there)
+    ∙ ap (λ (f : Option RowFault). or_else (plans_fault W c.earlier (closed_plans p)) f) (closed_same W (c.start + 1) p.acts p.legs p.last (next_act tables rows n) there c.paired)
     ∙ c.same
 
 -- a person is closed
@@ -242,7 +244,7 @@ leg_checked W tables rows n p q m leg c before is same_leg starts closed acts le
     let so_far : or_else (plans_fault W c.earlier (closed_plans p)) old ≡ first_fault None reasons n =
     ap (λ (o : Option Act). or_else (plans_fault W c.earlier (closed_plans p)) (legs_fault W (c.start + 1) (p.acts ++ ahead o (next_act tables rows n) ∷ []) p.legs)) (sym before) ∙ c.same in
     let at_row : c.start + 1 + 2 * length p.legs ≡ n + 1 = omega arith in
-    let reason : leg_reason W prev.link next.link leg ≡ reasons n = ap (λ (l : Leg). leg_reason W prev.link next.link l) same_leg ∙ sym (leg_at W tables rows n m is) in
+    let reason : leg_reason W prev next.link leg ≡ reasons n = ap (λ (l : Leg). leg_reason W prev next.link l) same_leg ∙ sym (leg_at W tables rows n m is) in
     record {
       earlier = c.earlier;
       start = c.start;
@@ -254,9 +256,9 @@ leg_checked W tables rows n p q m leg c before is same_leg starts closed acts le
           ∙ ap (λ (l : List Act). or_else (plans_fault W c.earlier (closed_plans p)) (legs_fault W (c.start + 1) l q.legs)) list
           ∙ ap (λ (l : List Leg). or_else (plans_fault W c.earlier (closed_plans p)) (legs_fault W (c.start + 1) (p.acts ++ prev ∷ next ∷ []) l)) legs
           ∙ ap (λ (f : Option RowFault). or_else (plans_fault W c.earlier (closed_plans p)) f) (legs_fault-push W (c.start + 1) p.acts p.legs prev next leg paired)
-          ∙ or_else_assoc (plans_fault W c.earlier (closed_plans p)) old (fault_at (c.start + 1 + 2 * length p.legs) (leg_reason W prev.link next.link leg))
-          ∙ ap (λ (f : Option RowFault). or_else f (fault_at (c.start + 1 + 2 * length p.legs) (leg_reason W prev.link next.link leg))) so_far
-          ∙ ap (λ (k : ℕ). or_else (first_fault None reasons n) (fault_at k (leg_reason W prev.link next.link leg))) at_row
+          ∙ or_else_assoc (plans_fault W c.earlier (closed_plans p)) old (fault_at (c.start + 1 + 2 * length p.legs) (leg_reason W prev next.link leg))
+          ∙ ap (λ (f : Option RowFault). or_else f (fault_at (c.start + 1 + 2 * length p.legs) (leg_reason W prev next.link leg))) so_far
+          ∙ ap (λ (k : ℕ). or_else (first_fault None reasons n) (fault_at k (leg_reason W prev next.link leg))) at_row
           ∙ ap (λ (r : Option Reason). or_else (first_fault None reasons n) (fault_at (n + 1) r)) reason
           ∙ sym (first_fault-more reasons n);
     }
@@ -312,13 +314,20 @@ row_by_row W links ends rows some none =
 
 -- of plans.csv without a fault of its own
 text_crossing : (R : NetworkRows) (text : Option (List ℕ)) (S : ScheduleRows) → in_file file.Plans (text_fault (file_fault R.link_names (ends_of R.links)) text) ≡ None
-    → plans_cross_fault (file_rows R.link_names (unwrap_or text [])) S ≡ cross_fault R (unwrap_or text []) S
-unfolding plans_cross_fault cross_fault
+    → in_file file.Plans (all_plans_fault (with_search R (leg_checks_in (file_rows R.link_names (unwrap_or text [])) S))
+    (file_rows R.link_names (unwrap_or text [])).starts (file_rows R.link_names (unwrap_or text [])).plans)
+    ≡ cross_fault R (unwrap_or text []) S
+unfolding cross_fault
 text_crossing R None S none = cc
 text_crossing R (Some bytes) S none =
     let free = file_free R.link_names (ends_of R.links) bytes (file_none file.Plans (file_fault R.link_names (ends_of R.links) bytes) none) in
-    ap (in_file file.Plans) (row_by_row (leg_checks_in (file_rows R.link_names bytes) S) R.link_names (ends_of R.links) (body_of bytes) free.some free.none)
+    ap (in_file file.Plans) (row_by_row (with_search R (leg_checks_in (file_rows R.link_names bytes) S)) R.link_names (ends_of R.links) (body_of bytes) free.some free.none)
 
-pub same_crossing : (R : NetworkRows) (T : Texts) (S : ScheduleRows) → persons_fault R.link_names (ends_of R.links) T ≡ None → plans_cross_fault (persons_on R T) S ≡ cross_fault R (bytes_in T file.Plans) S
+-- the first leg that does not fit, plan by plan and with routes filled, is the first one row by row
+pub same_crossing : (R : NetworkRows) (T : Texts) (S : ScheduleRows) → AreWithin (length R.nodes) (ends_of R.links) → length R.link_names ≡ length R.links
+    → persons_fault R.link_names (ends_of R.links) T ≡ None → plans_cross_fault (filled_in R (persons_on R T)) S ≡ cross_fault R (bytes_in T file.Plans) S
 unfolding persons_fault
-same_crossing R T S none = text_crossing R (T file.Plans) S none
+same_crossing R T S inside each none =
+    let read = plans_free R.link_names (ends_of R.links) (bytes_in T file.Plans)
+    (bytes_free T file.Plans (file_fault R.link_names (ends_of R.links)) none) in
+    filled_crossing R inside (persons_on R T) S each read.sound read.plans ∙ text_crossing R (T file.Plans) S none

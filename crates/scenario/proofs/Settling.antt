@@ -14,7 +14,7 @@ use Rattle.scenario.proofs.AllFit.{all_meet}
 meets : (v : Values) (R : NetworkRows) (P : PlanFileRows) (S : ScheduleRows) (G : List Phases) → AreThere (length S.lines) (leg_checks_in P S) → length R.link_names ≡ length R.links
     → Meets (town_of v R P.persons P.kinds S G) (leg_checks_in P S) (record { kinds = P.kinds; lines = P.lines; stops = P.stops; links = R.link_names }) (ends_of R.links)
 unfolding town_of leg_checks_in
-meets v R P S G there each = record { there = there; same_stops = refl; same_routes = refl; same_links = sym each; same_kinds = refl; same_ends = refl }
+meets v R P S G there each = record { there = there; same_stops = refl; same_routes = refl; same_links = sym each; same_kinds = refl; same_ends = refl; settled = λ here there. refl }
 
 pub plans_fit : (v : Values) (R : NetworkRows) (P : PlanFileRows) (S : ScheduleRows) (G : List Phases) → AreThere (length S.lines) (leg_checks_in P S) → length R.link_names ≡ length R.links → IsSound R.link_names (ends_of R.links) P → Each (Each IsPlan) P.plans
     → plans_cross_fault P S ≡ None → all_fit (town_of v R P.persons P.kinds S G) (map (map (plan_in_town (leg_checks_in P S).numbers)) P.plans) ≡ true

@@ -1,5 +1,5 @@
 -- What the files of a scenario give, or their first fault.
-use Rattle.std.specs.Prelude.{ℕ, List, map, Option}
+use Rattle.std.specs.Prelude.{ℕ, List, length, map, Option}
 use Rattle.edge_files.specs.declared.files.InFile.TheVariants as file
 use Rattle.events.specs.declared.event.Book.{Book}
 use Rattle.records.specs.Fields.{column}
@@ -27,10 +27,15 @@ use Rattle.settings.specs.Scoring.{ScoringValues}
 use Rattle.rows.specs.Greens.{Phases}
 use Rattle.rows.specs.Joined.{ends_of}
 use Rattle.town.specs.Rows.{TownRows}
+use Rattle.travel_times.specs.Times.{arrivals, free_times}
+use Rattle.walks.specs.Arrivals.{Arrivals}
+use Rattle.router.specs.Graphs.{Graph}
+use Rattle.leg_routes.specs.Legs.{route_between}
+use Rattle.car_routes.specs.Plans.{all_routed}
 use Rattle.scenario.specs.declared.faults.ScenarioFault.{ScenarioFault}
 use Rattle.scenario.specs.Texts.{Texts, bytes_in}
 use Rattle.scenario.specs.Faults.{in_file, fault_in}
-use Rattle.scenario.specs.Legs.{LegChecks, numbers_in, plan_in_town, rows_cross_fault, all_plans_fault}
+use Rattle.scenario.specs.Legs.{LegChecks, numbers_in, settled, plan_in_town, rows_cross_fault, all_plans_fault}
 
 -- names and rows of nodes and of links
 pub record NetworkRows : Type 0 where
@@ -86,12 +91,39 @@ schedule_rows_of links T = record {
 unfoldable pub signals_on : List (List ℕ) → Texts → SignalRows
 signals_on links T = signal_rows_of links (body_of (bytes_in T file.Signals))
 
--- what the legs of the plans are held against
+-- what the legs of plans are held against whose routes are filled
 unfoldable pub leg_checks_in : PlanFileRows → ScheduleRows → LegChecks
-leg_checks_in plans schedule = record {
-  numbers = record { lines = numbers_in plans.lines schedule.lines; stops = numbers_in plans.stops schedule.stop_names };
-  stops = schedule.stops;
-  routes = schedule.routes;
+leg_checks_in plans schedule =
+    settled (record { lines = numbers_in plans.lines schedule.lines; stops = numbers_in plans.stops schedule.stop_names })
+    schedule.stops schedule.routes
+
+-- the network as searches go along it
+abbrev pub graph_in : NetworkRows → Graph
+graph_in network = record { nodes = length network.nodes; ends = ends_of network.links }
+
+-- when the end of each link is reached at its free speed
+abbrev pub free_arrivals : NetworkRows → Arrivals
+free_arrivals network = arrivals (free_times network.links)
+
+-- what the legs of plans.csv are held against: the route of a car leg without a link is that of least arrival at free speed, left at the
+-- planned end of the activity before it, where there is one of at most 1,000 links
+abbrev pub with_search : NetworkRows → LegChecks → LegChecks
+with_search network W = record {
+  numbers = W.numbers;
+  stops = W.stops;
+  routes = W.routes;
+  searched = route_between (graph_in network) (free_arrivals network);
+}
+
+-- the plans with these routes for the car legs that have no link, as far as there are any
+unfoldable pub filled_in : NetworkRows → PlanFileRows → PlanFileRows
+filled_in network plans = record {
+  persons = plans.persons;
+  kinds = plans.kinds;
+  lines = plans.lines;
+  stops = plans.stops;
+  plans = all_routed (graph_in network) (free_arrivals network) plans.plans;
+  starts = plans.starts;
 }
 
 -- names for all that events tell of
@@ -172,13 +204,13 @@ conflict_fault signals = in_file file.Signals (clash_fault signals)
 -- the first leg of plans.csv that does not fit the files behind it: the least row, and the least of its reasons
 unfoldable pub cross_fault : NetworkRows → List ℕ → ScheduleRows → Option ScenarioFault
 cross_fault network plans schedule =
-    in_file file.Plans (rows_cross_fault (leg_checks_in (file_rows network.link_names plans) schedule) (tables_of network.link_names (body_of plans)) (body_of plans))
+    in_file file.Plans (rows_cross_fault (with_search network (leg_checks_in (file_rows network.link_names plans) schedule)) (tables_of network.link_names (body_of plans)) (body_of plans))
 
--- the same of plans that were read, plan by plan
+-- the same of plans that were read and whose routes are filled, plan by plan
 unfoldable pub plans_cross_fault : PlanFileRows → ScheduleRows → Option ScenarioFault
 plans_cross_fault plans schedule = in_file file.Plans (all_plans_fault (leg_checks_in plans schedule) plans.starts plans.plans)
 
--- what plans.csv gives on network
+-- what plans.csv gives on network, as it was read
 abbrev pub persons_on : NetworkRows → Texts → PlanFileRows
 persons_on network T = file_rows network.link_names (bytes_in T file.Plans)
 
@@ -191,10 +223,10 @@ on_network_fault network T =
     or_else (cross_fault network (bytes_in T file.Plans) (schedule_rows_of network.link_names T)) (
     conflict_fault (signals_on network.link_names T)))))
 
--- the town with its plans on network
+-- the town with its plans on network, each car leg of which has a route
 unfoldable pub on_network : Values → NetworkRows → Texts → PlannedRows
 on_network settings network T =
-    planned_of settings network (persons_on network T) (schedule_rows_of network.link_names T) (signals_on network.link_names T).greens
+    planned_of settings network (filled_in network (persons_on network T)) (schedule_rows_of network.link_names T) (signals_on network.link_names T).greens
 
 -- with what its days are scored by: tables for the kinds of activities that plans have, with their numbers
 abbrev pub scored_by : PlannedRows → ScoringValues → ScenarioRows

@@ -1,6 +1,6 @@
 -- What legs are held against, as the code has it.
 use Rattle.std.specs.Prelude.{◌≡◌, ℕ, ◌<◌, length, Some}
-use Rattle.scenario.specs.Legs.{Numbers, LegChecks, number_at}
+use Rattle.scenario.specs.Legs.{Numbers, LegChecks, number_at, settled}
 use Rattle.scenario.specs.declared.numbering.Numbering.{Numbering}
 use Rattle.scenario.specs.declared.schedules.Schedule.{Schedule}
 
@@ -8,9 +8,9 @@ use Rattle.scenario.specs.declared.schedules.Schedule.{Schedule}
 abbrev pub numbers_of : Numbering → Numbers
 numbers_of numbering = record { lines = numbering.lines.items; stops = numbering.stops.items }
 
--- the numbers in the town, and the town's stops and routes
+-- the numbers in the town, and the town's stops and routes; the code fills routes first, and then searches none
 abbrev pub leg_checks_of : Numbering → Schedule → LegChecks
-leg_checks_of numbering schedule = record { numbers = numbers_of numbering; stops = schedule.stops.rows; routes = schedule.routes.rows }
+leg_checks_of numbering schedule = settled (numbers_of numbering) schedule.stops.rows schedule.routes.rows
 
 -- every number of a line or a stop in the town is below that of the lines or stops there
 pub record AreThere (count : ℕ) (W : LegChecks) : Type 0 where

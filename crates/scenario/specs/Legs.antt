@@ -22,11 +22,21 @@ pub record Numbers : Type 0 where
   pub lines : List (Option ℕ)
   pub stops : List (Option ℕ)
 
--- what legs are held against: these numbers, and the town's stops and routes
+-- what legs are held against: these numbers, the town's stops and routes, and the route of a car leg without a link, between an activity and
+-- one on a link, where one is searched and there is one
 pub record LegChecks : Type 0 where
   pub numbers : Numbers
   pub stops : List StopRow
   pub routes : List RouteRow
+  pub searched : Act → ℕ → Option (List ℕ)
+
+-- no route is searched any more
+abbrev pub none_searched : Act → ℕ → Option (List ℕ)
+none_searched here there = None
+
+-- what legs are held against whose routes are filled as far as there are any
+abbrev pub settled : Numbers → List StopRow → List RouteRow → LegChecks
+settled numbers stops routes = record { numbers = numbers; stops = stops; routes = routes; searched = none_searched }
 
 -- the number that each name has among the town's
 unfoldable pub numbers_in : List (List ℕ) → List (List ℕ) → List (Option ℕ)
@@ -69,30 +79,30 @@ stops_elsewhere W here there (leg.Car route) = false
 stops_elsewhere W here there (leg.Teleport mode seconds) = false
 stops_elsewhere W here there (leg.Transit line access egress) = has_wrong_stops W.stops W.routes here there line access egress
 
--- a car route that is still to be found: none is found yet
-abbrev pub lacks_route : Leg → Bool
-lacks_route (leg.Car route) = nat_eq (length route) 0
-lacks_route (leg.Teleport mode seconds) = false
-lacks_route (leg.Transit line access egress) = false
+-- a car leg without a link for which no route is found
+abbrev pub lacks_route : LegChecks → Act → ℕ → Leg → Bool
+lacks_route W here there (leg.Car route) = nat_eq (length route) 0 && is_none (W.searched here there)
+lacks_route W here there (leg.Teleport mode seconds) = false
+lacks_route W here there (leg.Transit line access egress) = false
 
--- the least reason against a leg between activities on these two links
-unfoldable pub leg_reason : LegChecks → ℕ → ℕ → Leg → Option Reason
+-- the least reason against a leg between an activity and one on this link
+unfoldable pub leg_reason : LegChecks → Act → ℕ → Leg → Option Reason
 leg_reason W here there leg = least (
     (is_unknown W.numbers leg, reason.Unknown)
-    ∷ (ends_elsewhere here there leg, reason.EndWrong)
-    ∷ (stops_elsewhere W here there (leg_in_town W.numbers leg), reason.StopsWrong)
-    ∷ (lacks_route leg, reason.NoRoute)
+    ∷ (ends_elsewhere here.link there leg, reason.EndWrong)
+    ∷ (stops_elsewhere W here.link there (leg_in_town W.numbers leg), reason.StopsWrong)
+    ∷ (lacks_route W here there leg, reason.NoRoute)
     ∷ [])
 
--- the link of the activity in a row of plans.csv
-abbrev pub link_in : Tables → Row → ℕ
-link_in tables row = (act_of tables.kinds tables.links row).link
+-- the activity in a row of plans.csv
+abbrev pub act_in : Tables → Row → Act
+act_in tables row = act_of tables.kinds tables.links row
 
 -- the least reason against the leg in a row of plans.csv, by the activities in the rows before and behind it; a row that is no leg has none
 unfoldable pub leg_reason_at : LegChecks → Tables → List Row → ℕ → Option Reason
 leg_reason_at W tables rows place =
     if is_leg (kind_of (get_or rows place [])) then
-    leg_reason W (link_in tables (get_or rows (place - 1) [])) (link_in tables (get_or rows (place + 1) [])) (leg_of tables.lines tables.stops tables.links (get_or rows place []))
+    leg_reason W (act_in tables (get_or rows (place - 1) [])) (act_in tables (get_or rows (place + 1) [])).link (leg_of tables.lines tables.stops tables.links (get_or rows place []))
     else None
 
 -- the first fault of these legs: the least row that has a reason, and the least of its reasons
@@ -105,7 +115,7 @@ unfoldable pub legs_fault : LegChecks → ℕ → List Act → List Leg → Opti
 legs_fault W row acts [] = None
 legs_fault W row [] (leg ∷ legs) = None
 legs_fault W row (here ∷ acts) (leg ∷ legs) =
-    or_else (fault_at row (leg_reason W here.link (first_link acts) leg)) (legs_fault W (row + 2) acts legs)
+    or_else (fault_at row (leg_reason W here (first_link acts) leg)) (legs_fault W (row + 2) acts legs)
 
 -- the first fault of the legs of a plan that begins in a row
 unfoldable pub plan_fault : LegChecks → ℕ → PlanRows → Option RowFault

@@ -17,7 +17,7 @@ ghost use Rattle.scenario.specs.Texts.{bytes_in};
 ghost use Rattle.scenario.specs.Faults.{fault_in, Tells};
 ghost use Rattle.scenario.specs.LegChecks.{leg_checks_of, AreThere};
 ghost use Rattle.scenario.specs.Towns.{IsSchedule};
-ghost use Rattle.scenario.specs.FilesToScenario.{leg_checks_in, book_of, town_of, plans_cross_fault, conflict_fault, planned_of};
+ghost use Rattle.scenario.specs.FilesToScenario.{filled_in, leg_checks_in, book_of, town_of, plans_cross_fault, conflict_fault, planned_of};
 ghost use Rattle.scenario.specs.FilesToScenario.{on_network, on_network_fault, scored_by, scenario_fault, scenario_rows};
 ghost use Rattle.scenario.specs.Views.{network_view, schedule_view, planned_view, scenario_view, texts_of};
 
@@ -34,6 +34,7 @@ use crate::scenario::Scenario;
 use crate::schedule_read::read_schedule;
 use crate::schedules::Schedule;
 use crate::signals_read::read_signal_file;
+use car_routes::with_routes;
 use edge_files::{InFile, Reason};
 use events::{Book, Names};
 use network::Network;
@@ -42,6 +43,7 @@ use rows::GreenList;
 use settings::{Scoring, Settings, SettingsFile, by_number, read_settings};
 use signals::{Signals, first_clash};
 use std::alloc::{AllocError, Global};
+use std::thread::Threads;
 use town::Town;
 
 /// What settings.json says, or its first fault.
@@ -265,8 +267,8 @@ fn conflict_fault(signals: &Signals) -> Option<ScenarioFault>
     }
 }
 
-/// The town with its plans and signals, or the first leg that does not fit it, or else the first conflict.
-fn planned_or_fault(
+/// The town with its plans, whose routes are filled, and signals, or the first leg that does not fit it, or else the first conflict.
+fn settled_or_fault(
     alloc: Global,
     settings: Settings,
     network: Network,
@@ -310,15 +312,89 @@ fn planned_or_fault(
     }
 }
 
+/// The names and the plans that were read, each car leg of which has a route, as far as there is one.
+#[tactic(auto, unfolding(crate::specs::FilesToScenario::filled_in))]
+fn filled<R: Threads + Sync>(
+    rt: &R,
+    alloc: Global,
+    network: &Network,
+    file: PlanFile,
+) -> Result<PlanFile, AllocError>
+    requires sound { IsSound network.now.link_names (ends_of network.now.links) (file_rows_of file) }
+    requires starts { All (λ row. row < 2 ^ 30) file.starts }
+    ensures rows { IfOk result (λ filled. file_rows_of filled ≡ filled_in (network_view network.now) (file_rows_of file)) }
+    ensures sound { IfOk result (λ filled. IsSound network.now.link_names (ends_of network.now.links) (file_rows_of filled)) }
+    ensures starts { IfOk result (λ filled. All (λ row. row < 2 ^ 30) filled.starts) }
+{
+    let PlanFile {
+        persons,
+        kinds,
+        lines,
+        stops,
+        plans,
+        starts,
+    } = file;
+    match with_routes(rt, alloc, network, plans) {
+        Ok(plans) => Ok(PlanFile {
+            persons,
+            kinds,
+            lines,
+            stops,
+            plans,
+            starts,
+        }),
+        Err(_) => {
+            drop(persons);
+            drop(kinds);
+            drop(lines);
+            drop(stops);
+            Err(AllocError)
+        }
+    }
+}
+
+/// The town with its plans, each car leg of which has a route, and signals, or the first leg that does not fit it, or else the first
+/// conflict.
+fn planned_or_fault<R: Threads + Sync>(
+    rt: &R,
+    alloc: Global,
+    settings: Settings,
+    network: Network,
+    file: PlanFile,
+    schedule: Schedule,
+    signals: Signals,
+) -> Result<PlannedTown, Stop>
+    requires sound { IsSound network.link_names (ends_of network.links) (file_rows_of file) }
+    requires starts { All (λ row. row < 2 ^ 30) file.starts }
+    requires schedule { IsSchedule (length network.links) (ends_of network.links) (schedule_view schedule) }
+    requires greens { length signals.greens ≡ length network.links }
+    ensures { Tells planned_view result
+        (or_else (plans_cross_fault (filled_in (network_view network) (file_rows_of file)) (schedule_view schedule))
+        (conflict_fault (signal_view signals)))
+        (planned_of (values_of settings) (network_view network) (filled_in (network_view network) (file_rows_of file))
+        (schedule_view schedule) signals.greens) }
+{
+    match filled(rt, alloc, &network, file) {
+        Ok(file) => settled_or_fault(alloc, settings, network, file, schedule, signals),
+        Err(_) => {
+            drop(network);
+            drop(schedule);
+            drop(signals);
+            Err(Stop::NoMemory)
+        }
+    }
+}
+
 /// What the files that are read over network give on links with these ends, or their first fault.
-fn on_ends(
+fn on_ends<R: Threads + Sync>(
+    rt: &R,
     alloc: Global,
     files: &Files,
     settings: Settings,
     network: Network,
     ends: &[(u32, u32)],
 ) -> Result<PlannedTown, Stop>
-    requires { ends.now ≡ ends_of network.links }
+    requires ends { ends.now ≡ ends_of network.links }
     ensures { Tells planned_view result (on_network_fault (network_view network) (texts_of files.now))
         (on_network (values_of settings) (network_view network) (texts_of files.now)) }
 {
@@ -338,7 +414,7 @@ fn on_ends(
         }
     };
     match read_signal_file(alloc, files, &network.link_names, ends) {
-        Ok(signals) => planned_or_fault(alloc, settings, network, file, schedule, signals),
+        Ok(signals) => planned_or_fault(rt, alloc, settings, network, file, schedule, signals),
         Err(error) => {
             drop(file);
             drop(network);
@@ -349,7 +425,8 @@ fn on_ends(
 }
 
 /// What the files that are read over network give on these, or their first fault.
-fn on_network(
+fn on_network<R: Threads + Sync>(
+    rt: &R,
     alloc: Global,
     files: &Files,
     settings: Settings,
@@ -359,7 +436,7 @@ fn on_network(
         (on_network (values_of settings) (network_view network) (texts_of files.now)) }
 {
     match ends_in(alloc, &network) {
-        Ok(ends) => on_ends(alloc, files, settings, network, &ends),
+        Ok(ends) => on_ends(rt, alloc, files, settings, network, &ends),
         Err(_) => {
             drop(network);
             Err(Stop::NoMemory)
@@ -387,7 +464,8 @@ fn scored(alloc: Global, planned: PlannedTown, scoring: Scoring) -> Result<Scena
 }
 
 /// What the files that are read over network give on these, with what days are scored by, or their first fault.
-fn scored_on_network(
+fn scored_on_network<R: Threads + Sync>(
+    rt: &R,
     alloc: Global,
     files: &Files,
     file: SettingsFile,
@@ -397,7 +475,7 @@ fn scored_on_network(
         (scored_by (on_network (values_of file.settings) (network_view network) (texts_of files.now)) (scoring_of file.scoring)) }
 {
     let SettingsFile { settings, scoring } = file;
-    let planned = match on_network(alloc, files, settings, network) {
+    let planned = match on_network(rt, alloc, files, settings, network) {
         Ok(planned) => planned,
         Err(error) => {
             drop(scoring);
@@ -413,9 +491,14 @@ fn scored_on_network(
 /// Reads the files of a scenario.
 ///
 /// The first fault is told where there is one: of each file by itself, in the order of the files, and only then of the legs of
-/// plans.csv that do not fit the files behind it, and of the conflicts of signals.csv.
+/// plans.csv that do not fit the files behind it, and of the conflicts of signals.csv. Each car leg without a link has the route of least
+/// arrival at free speed; the searches are spread over as many threads as there are processors, and each thread is joined.
 #[tactic(auto, unfolding(crate::specs::FilesToScenario::scenario_fault, crate::specs::FilesToScenario::scenario_rows))]
-pub fn assemble(alloc: Global, files: &Files) -> Result<Scenario, Stop>
+pub fn assemble<R: Threads + Sync>(
+    rt: &R,
+    alloc: Global,
+    files: &Files,
+) -> Result<Scenario, Stop>
     ensures { Tells scenario_view result (scenario_fault (texts_of files.now)) (scenario_rows (texts_of files.now)) }
 {
     let file = match settings_in(alloc, files) {
@@ -423,7 +506,7 @@ pub fn assemble(alloc: Global, files: &Files) -> Result<Scenario, Stop>
         Err(error) => return Err(error),
     };
     match read_network(alloc, files) {
-        Ok(network) => scored_on_network(alloc, files, file, network),
+        Ok(network) => scored_on_network(rt, alloc, files, file, network),
         Err(error) => {
             drop(file);
             Err(error)

@@ -1,7 +1,9 @@
-ghost use Rattle.std.specs.Prelude.{◌≡◌, ℕ, ◌<◌, ◌+◌, ◌*◌, ◌^◌, length, map, drop, get_or, All};
+ghost use Rattle.std.specs.Prelude.{◌≡◌, ℕ, ◌<◌, ◌+◌, ◌*◌, ◌^◌, List, length, map, drop, get_or, All};
+ghost use Rattle.rows.specs.declared.schedule.StopRow.{StopRow};
+ghost use Rattle.rows.specs.declared.schedule.RouteRow.{RouteRow};
 ghost use Rattle.rows.specs.PlanRows.{plan_rows, all_plan_rows};
 ghost use Rattle.rows.specs.declared.plan.Leg.TheVariants as leg;
-ghost use Rattle.scenario.specs.Legs.{LegChecks, number_at, leg_reason, legs_fault, plan_fault, plans_fault, all_plans_fault};
+ghost use Rattle.scenario.specs.Legs.{Numbers, number_at, settled, leg_reason, legs_fault, plan_fault, plans_fault, all_plans_fault};
 ghost use Rattle.scenario.specs.LegChecks.{leg_checks_of, AreThere};
 
 use crate::numbering::{Numbering, number_at};
@@ -11,26 +13,27 @@ use events::Route;
 use rows::{Act, Leg, Plan, PlanList};
 use town::{first_link, wrong_ends, wrong_stops};
 
-/// The reason against a car route between activities on these two links.
+/// The reason against a car route between an activity and one on this link. The route is filled where there is one.
 #[tactic(auto, unfolding(crate::specs::Legs::leg_reason))]
-fn car_reason(here: u32, there: u32, route: &Route) -> Option<Reason>
-    ensures { (W : LegChecks) → result ≡ leg_reason W here there (leg.Car route.now) }
+fn car_reason(here: Act, there: u32, route: &Route) -> Option<Reason>
+    ensures { (numbers : Numbers) (stops : List StopRow) (routes : List RouteRow)
+        → result ≡ leg_reason (settled numbers stops routes) here there (leg.Car route.now) }
 {
     if route.is_empty() {
         return Some(Reason::NoRoute);
     }
-    if wrong_ends(here, there, &route.rows) {
+    if wrong_ends(here.link, there, &route.rows) {
         return Some(Reason::EndWrong);
     }
     None
 }
 
-/// The least reason against a transit leg between activities on these two links.
+/// The least reason against a transit leg between an activity and one on this link.
 #[tactic(auto, unfolding(crate::specs::Legs::leg_reason))]
 fn transit_reason(
     numbering: &Numbering,
     schedule: &Schedule,
-    here: u32,
+    here: Act,
     there: u32,
     line: u32,
     access: u32,
@@ -50,18 +53,18 @@ fn transit_reason(
     };
     let stops = &schedule.stops.rows.rows;
     let routes = &schedule.routes.rows.rows;
-    if wrong_stops(stops, routes, here, there, line, access, egress) {
+    if wrong_stops(stops, routes, here.link, there, line, access, egress) {
         return Some(Reason::StopsWrong);
     }
     None
 }
 
-/// The least reason against a leg between activities on these two links.
+/// The least reason against a leg between an activity and one on this link.
 #[tactic(auto, unfolding(crate::specs::Legs::leg_reason))]
 fn leg_reason(
     numbering: &Numbering,
     schedule: &Schedule,
-    here: u32,
+    here: Act,
     there: u32,
     leg: &Leg,
 ) -> Option<Reason>
@@ -99,7 +102,7 @@ fn legs_fault(
         return None;
     };
     let there = first_link(rest);
-    if let Some(reason) = leg_reason(numbering, schedule, here.link, there, leg) {
+    if let Some(reason) = leg_reason(numbering, schedule, *here, there, leg) {
         return Some(RowFault { row, reason });
     }
     legs_fault(numbering, schedule, row + 2, rest, later)

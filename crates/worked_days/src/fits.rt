@@ -7,6 +7,7 @@ use plans::{PlanFile, read_plans};
 use rows::PlanList;
 use scenario::Scenario;
 use std::alloc::Global;
+use std::thread::Threads;
 use town::{Town, plan_fits};
 
 /// Three links in a row with a stop on each, line b along all three, and line c along two; activities are at home and at work.
@@ -119,11 +120,11 @@ fn plans_fit_in(scenario: Scenario, file: PlanFile) -> bool {
 }
 
 /// The same in the town above.
-fn are_fitting(alloc: Global) -> bool {
+fn are_fitting<R: Threads + Sync>(rt: &R, alloc: Global) -> bool {
     let Some(file) = plans_of(alloc) else {
         return false;
     };
-    match scenario_of(alloc, &TOWN) {
+    match scenario_of(rt, alloc, &TOWN) {
         Some(scenario) => plans_fit_in(scenario, file),
         None => {
             drop(file);
@@ -134,5 +135,5 @@ fn are_fitting(alloc: Global) -> bool {
 
 #[test]
 fn plans_fit_a_town(rt: HostRuntime) {
-    assert!(rt; are_fitting(rt.alloc()));
+    assert!(rt; are_fitting(&rt, rt.alloc()));
 }

@@ -15,6 +15,7 @@ use plain_world::World;
 use rows::{Plan, PlanLists};
 use scenario::{Scenario, chosen_plans};
 use std::alloc::{AllocError, Global};
+use std::thread::Threads;
 use town::{DayInput, Town};
 use traffic::{Riders, Row, Stage, Vehicle};
 
@@ -189,10 +190,15 @@ fn entered_on(alloc: Global, scenario: Scenario, count: u32) -> Vec<(u32, Option
 }
 
 /// The same in the scenario of a case.
-fn entered_with(alloc: Global, case: &Case, count: u32) -> Vec<(u32, Option<u32>)>
+fn entered_with<R: Threads + Sync>(
+    rt: &R,
+    alloc: Global,
+    case: &Case,
+    count: u32,
+) -> Vec<(u32, Option<u32>)>
     requires { count < 100 }
 {
-    match scenario_of(alloc, case) {
+    match scenario_of(rt, alloc, case) {
         Some(scenario) => entered_on(alloc, scenario, count),
         None => Vec::new(alloc),
     }
@@ -210,7 +216,7 @@ static HOLES: Case = Case {
 /// A place is free in the second after it was left, so that the jam moves link by link.
 #[test]
 fn jams_move_as_places_come_free(rt: HostRuntime) {
-    let entered = entered_with(rt.alloc(), &PLACES, 3);
+    let entered = entered_with(&rt, rt.alloc(), &PLACES, 3);
     let told = [(10, Some(3)), (11, Some(2)), (12, Some(1)), (12, Some(3))];
     assert_eq!(rt; entered.as_slice(), told.as_slice());
 }
@@ -218,7 +224,7 @@ fn jams_move_as_places_come_free(rt: HostRuntime) {
 /// Where holes travel at 25 cm a second, a place of 50 cm is free two seconds after it was left.
 #[test]
 fn jams_move_as_holes_come(rt: HostRuntime) {
-    let entered = entered_with(rt.alloc(), &HOLES, 5);
+    let entered = entered_with(&rt, rt.alloc(), &HOLES, 5);
     let told = [(10, Some(3)), (12, Some(2)), (13, Some(3)), (14, Some(1))];
     assert_eq!(rt; entered.as_slice(), told.as_slice());
 }

@@ -7,6 +7,8 @@ mod cases;
 #[cfg(test)]
 mod days;
 #[cfg(test)]
+mod filled;
+#[cfg(test)]
 mod fits;
 #[cfg(test)]
 mod greens;

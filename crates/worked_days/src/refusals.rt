@@ -383,7 +383,7 @@ static SIGNALS: [Refusal; 5] = [
     // A leg that does not fit comes behind the rows of signals.csv and before its conflicts.
     Refusal {
         case: Case {
-            plans: "p1,0,act,home,L1,100,\np1,0,leg,car,,,\np1,0,act,work,L3,,\n",
+            plans: "p1,0,act,home,L3,100,\np1,0,leg,car,,,\np1,0,act,work,L1,,\n",
             signals: "kind,link,other,cycle,offset,greens\nconflict,L1,L2,,,\nconflict,L1,L3,,,\n",
             ..MEETING
         },
@@ -391,7 +391,7 @@ static SIGNALS: [Refusal; 5] = [
     },
     Refusal {
         case: Case {
-            plans: "p1,0,act,home,L1,100,\np1,0,leg,car,,,\np1,0,act,work,L3,,\n",
+            plans: "p1,0,act,home,L3,100,\np1,0,leg,car,,,\np1,0,act,work,L1,,\n",
             signals: "kind,link,other,cycle,offset,greens\nconflict,L1,L2,,,\n",
             ..MEETING
         },

@@ -1,7 +1,7 @@
 //! Routes that are asked for: their report, and the words that ask for none.
 
-use crate::cases::{Case, LINE, are_written, inputs_of, put, status_of};
-use edge_files::{InFile, MemoryOutputs};
+use crate::cases::{Case, LINE, are_written, inputs_of, is_written, put, status_of};
+use edge_files::{InFile, MemoryOutputs, OutFile};
 use qsim_top::Status;
 use std::alloc::Global;
 use std::sync::Wait;
@@ -124,6 +124,37 @@ fn words_of_routes_are_refused(rt: HostRuntime) {
     assert!(rt; are_refused(&rt, alloc, &["qsim", "route", "a", "d", "172801"]));
     assert!(rt; are_refused(&rt, alloc, &["qsim", "route", "a", "d", "-1"]));
     assert!(rt; are_refused(&rt, alloc, &["qsim", "route", "a", "d", "0", "0"]));
+}
+
+/// Two nodes, the name of one of which begins with a dash.
+static DASHED: Case = Case {
+    nodes: "node,x,y\n-a,0,0\nb,0,0\n",
+    links: "link,from,to,length,speed,capacity,lanes\ne0,-a,b,10000,1000,3600,1\n",
+    plans: "p1,0,act,home,e0,,\n",
+    ..LINE
+};
+
+/// Whether words are answered so on these two nodes.
+fn is_dashed<R: Threads + Wait + Sync>(
+    rt: &R,
+    alloc: Global,
+    words: &[&str],
+    status: Status,
+    report: &str,
+) -> bool {
+    let mut inputs = inputs_of(alloc, &DASHED);
+    let mut outputs = MemoryOutputs::new(alloc);
+    let came = status_of(rt, alloc, words, &mut inputs, &mut outputs);
+    came == status && is_written(&outputs, OutFile::Report, report)
+}
+
+/// Such a name is told from an option by a word `--` before it.
+#[test]
+fn names_may_begin_with_a_dash(rt: HostRuntime) {
+    let alloc = rt.alloc();
+    let words = ["qsim", "route", "--", "-a", "b", "0"];
+    let report = "route,10\nlinks,e0\nlabel,-a,0\nlabel,b,10\n";
+    assert!(rt; is_dashed(&rt, alloc, &words, Status::Done, report));
 }
 
 /// A scenario with a fault is refused before a route is looked for.

@@ -10,6 +10,7 @@ use plain_day::{plain_second, start};
 use rows::{Plan, PlanLists};
 use scenario::{Scenario, chosen_plans};
 use std::alloc::{AllocError, Global};
+use std::thread::Threads;
 use town::{DayInput, Town};
 
 /// A person who walks at second 100.
@@ -68,8 +69,8 @@ fn words_by(alloc: Global, town: &Town, plans: PlanLists) -> Vec<(u32, Word)> {
 }
 
 /// The same in the scenario of a case.
-fn words_on(alloc: Global, case: &Case) -> Vec<(u32, Word)> {
-    let Some(scenario) = scenario_of(alloc, case) else {
+fn words_on<R: Threads + Sync>(rt: &R, alloc: Global, case: &Case) -> Vec<(u32, Word)> {
+    let Some(scenario) = scenario_of(rt, alloc, case) else {
         return Vec::new(alloc);
     };
     let Scenario {
@@ -85,7 +86,7 @@ fn words_on(alloc: Global, case: &Case) -> Vec<(u32, Word)> {
 /// In its second the activity ends and the leg departs.
 #[test]
 fn a_second_is_told(rt: HostRuntime) {
-    let words = words_on(rt.alloc(), &WALK);
+    let words = words_on(&rt, rt.alloc(), &WALK);
     let told = [(100, Word::ActEnd), (100, Word::Departure)];
     assert_eq!(rt; words.as_slice(), told.as_slice());
 }

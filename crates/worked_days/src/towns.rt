@@ -12,6 +12,7 @@ use edge_files::{Bytes, InFile};
 use rows::Plan;
 use scenario::{Files, Scenario, assemble};
 use std::alloc::Global;
+use std::thread::Threads;
 use town::{DayInput, Town, plan_fits};
 
 /// A text; no bytes where memory is wanting.
@@ -42,8 +43,12 @@ fn files_of(alloc: Global, case: &Case) -> Files {
 }
 
 /// The scenario of a case, where it has no fault.
-pub(crate) fn scenario_of(alloc: Global, case: &Case) -> Option<Scenario> {
-    assemble(alloc, &files_of(alloc, case)).ok()
+pub(crate) fn scenario_of<R: Threads + Sync>(
+    rt: &R,
+    alloc: Global,
+    case: &Case,
+) -> Option<Scenario> {
+    assemble(rt, alloc, &files_of(alloc, case)).ok()
 }
 
 /// Whether each plan fits the town.

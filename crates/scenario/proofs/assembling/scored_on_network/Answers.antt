@@ -6,7 +6,7 @@ use Rattle.scenario.proofs.Composed.{scored_told}
 use Rattle.scenario.proofs.assembling.scored_on_network.Goals as goal
 
 pub returns-in-Ok-scored : goal.returns-in-Ok-scored
-returns-in-Ok-scored c =
+returns-in-Ok-scored g c =
     let T = texts_of c.args.files.now in
     let R = network_view c.args.network in
     scored_told c.in-Ok.planned c.in-Ok-scored.scenario (on_network_fault R T) (on_network (values_of c.args.file.settings) R T) (scoring_of c.args.file.scoring)

@@ -169,9 +169,9 @@ module _ (R : NetworkRows) (inside : AreWithin (length R.nodes) (ends_of R.links
   leg_named tables each here there (leg.Car route) here_in there_in named =
       named_by tables (ends_of R.links) route (nat_eq (length route) 0) (route_between (graph_in R) (free_arrivals R) here there) named
       (λ found is.
-        let joins = free_joins here there found here_in there_in is in
-        and_from (list_all (λ link. nat_lt link (length tables.links)) found) (is_joined (ends_of R.links) found)
-        (subst (λ (n : ℕ). list_all (λ link. nat_lt link n) found ≡ true) (ends_count R.links ∙ sym each) joins.within) joins.joined)
+      let joins = free_joins here there found here_in there_in is in
+      and_from (list_all (λ link. nat_lt link (length tables.links)) found) (is_joined (ends_of R.links) found)
+      (subst (λ (n : ℕ). list_all (λ link. nat_lt link n) found ≡ true) (ends_count R.links ∙ sym each) joins.within) joins.joined)
   leg_named tables each here there (leg.Teleport mode seconds) here_in there_in named = named
   leg_named tables each here there (leg.Transit line access egress) here_in there_in named = named
 

@@ -494,11 +494,7 @@ fn scored_on_network<R: Threads + Sync>(
 /// plans.csv that do not fit the files behind it, and of the conflicts of signals.csv. Each car leg without a link has the route of least
 /// arrival at free speed; the searches are spread over as many threads as there are processors, and each thread is joined.
 #[tactic(auto, unfolding(crate::specs::FilesToScenario::scenario_fault, crate::specs::FilesToScenario::scenario_rows))]
-pub fn assemble<R: Threads + Sync>(
-    rt: &R,
-    alloc: Global,
-    files: &Files,
-) -> Result<Scenario, Stop>
+pub fn assemble<R: Threads + Sync>(rt: &R, alloc: Global, files: &Files) -> Result<Scenario, Stop>
     ensures { Tells scenario_view result (scenario_fault (texts_of files.now)) (scenario_rows (texts_of files.now)) }
 {
     let file = match settings_in(alloc, files) {

@@ -155,7 +155,17 @@ fn a_leg_without_a_way_is_refused(rt: HostRuntime) {
     );
     let refused = "refused,plans.csv,2,19,NoRoute\n";
     let (nodes, links) = (TWO_WAYS.nodes, TWO_WAYS.links);
-    assert!(rt; is_checked(&rt, alloc, nodes, links, plans.as_str(), Status::Refused, refused));
+    assert!(rt;
+        is_checked(
+            &rt,
+            alloc,
+            nodes,
+            links,
+            plans.as_str(),
+            Status::Refused,
+            refused
+        )
+    );
 }
 
 /// So many links in a line.

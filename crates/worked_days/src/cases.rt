@@ -7,6 +7,7 @@ use std::sync::Wait;
 use std::thread::Threads;
 
 /// The texts of the files of a scenario; that of plans.csv is its rows.
+#[derive(Drop)]
 pub(crate) struct Case {
     pub(crate) settings: &'static str,
     pub(crate) nodes: &'static str,

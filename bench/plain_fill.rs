@@ -106,5 +106,5 @@ fn main() {
             }
         }
     }
-    println!("routes,{routes}\nlinks,{count}\nsearches,{searches}\nms,{}", started.elapsed().as_millis());
+    println!("routes,{routes}\nlinks,{count}\nsearches,{searches}\nms,{:.3}", started.elapsed().as_secs_f64() * 1000.0);
 }

@@ -94,7 +94,8 @@ impl Wakes {
         wake_of(&self.due, number)
     }
 
-    /// A number is woken in this second, or not at all, whatever was asked before.
+    /// A number is woken in this second, or not at all, whatever was asked before. Nothing is added where that is so already. The
+    /// calendar has a list for each second up to the last one that was given, so a second behind that of the day is best given as none.
     ///
     /// # Errors
     ///
@@ -103,6 +104,9 @@ impl Wakes {
         requires { number < length self.old }
         ensures { OnOk result (self.new ≡ set self.old number second) }
     {
+        if self.due(number) == second {
+            return Ok(());
+        }
         if let Some(second) = second {
             self.calendar.add(second, number)?;
         }
@@ -110,7 +114,7 @@ impl Wakes {
         Ok(())
     }
 
-    /// A number is woken in this second at the latest.
+    /// A number is woken in this second at the latest. Nothing is added where it is woken by then already.
     ///
     /// # Errors
     ///

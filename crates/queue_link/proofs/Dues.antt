@@ -1,17 +1,22 @@
 -- When a front that is held up may go, and the vehicles of a link by their places.
-use Rattle.std.proofs.Common.{◌≡◌, ◌≢◌, ℕ, zero, suc, ◌+◌, ◌-◌, ◌*◌, ◌<◌, ◌≤◌, List, [], ◌∷◌, ◌++◌, length, get_or, refl, ap, ◌∙◌}
-use Rattle.std.proofs.Common.{arith, inl, inr}
+use Rattle.std.proofs.Common.{◌≡◌, ◌≢◌, ℕ, zero, suc, ◌+◌, ◌-◌, ◌*◌, ◌<◌, ◌≤◌, false, List, [], ◌∷◌, ◌++◌, length, get_or, refl, ap, sym, ◌∙◌}
+use Rattle.std.proofs.Common.{arith, inl, inr, append-nil}
 use Rattle.std.proofs.Math.Nat.{mul_comm, mul-le-mul_left}
-use Rattle.std.specs.Prelude.{nat_le, ◌==◌, if◌then◌else◌, Option, None, Some}
+use Rattle.std.specs.Prelude.{min, map, filter, nat_le, ◌==◌, if◌then◌else◌, Option, None, Some}
 use Rattle.std.specs.Int.{div_ceil}
-use Rattle.std.proofs.lemmas.Bool.{cases_lt, lt-leb, ne_eqb}
+use Rattle.std.proofs.lemmas.Bool.{cases_lt, lt-leb, leb-false, ne_eqb}
 use Rattle.std.proofs.lemmas.Grind.{div_ceil_times}
 use Rattle.fixed_flow.specs.declared.TheConstants.{VEHICLE_COST}
 use Rattle.fixed_flow.specs.Link.{ceiling}
+use Rattle.std.specs.List.{flat_map}
+use Rattle.traffic.specs.declared.moves.Occurrence.{Occurrence}
 use Rattle.traffic.specs.declared.world.Row.{Row}
+use Rattle.traffic.specs.Telling.{goes_on}
+use Rattle.traffic.specs.Links.{waiting, wait_after}
 use Rattle.law_sleeping.proofs.Credits.{up_to, from_up}
-use Rattle.queue_link.specs.Links.{vehicle_at}
-use Rattle.queue_link.specs.Waking.{earlier}
+use Rattle.queue_link.specs.Links.{LinkView, vehicle_at}
+use Rattle.queue_link.specs.Turns.{is_due, left_in_bay}
+use Rattle.queue_link.specs.Waking.{earlier, bay_due, is_by}
 
 pub earlier_assoc : (a b c : Option ℕ) → earlier (earlier a b) c ≡ earlier a (earlier b c)
 earlier_assoc None b c = refl
@@ -76,3 +81,51 @@ pub vehicle_right : (place k : ℕ) (xs ys : List Row) → place ≡ length xs +
 vehicle_right place k [] ys e = let q : place ≡ k = omega arith in ap (λ (n : ℕ). vehicle_at n ys) q
 vehicle_right zero k (x ∷ xs) ys e = absurd (omega arith)
 vehicle_right (suc place) k (x ∷ xs) ys e = vehicle_right place k xs ys (omega arith)
+
+-- THE LEAST SECOND OF A BAY
+pub bay_more : (rows : List Row) (r : Row) → bay_due (rows ++ r ∷ []) ≡ earlier (bay_due rows) (Some r.second)
+unfolding bay_due
+bay_more [] r = refl
+bay_more (x ∷ rows) r = ap (earlier (Some x.second)) (bay_more rows r) ∙ sym (earlier_assoc (Some x.second) (bay_due rows) (Some r.second))
+
+-- while that is later than second t, nobody leaves
+first_later : (t u : ℕ) (d : Option ℕ) → is_by t (earlier (Some u) d) ≡ false → nat_le u t ≡ false
+first_later t u None e = e
+first_later t u (Some v) e = let lt = leb-false (min u v) t e in lt-leb u t (omega arith)
+
+others_later : (t u : ℕ) (d : Option ℕ) → is_by t (earlier (Some u) d) ≡ false → is_by t d ≡ false
+others_later t u None e = refl
+others_later t u (Some v) e = let lt = leb-false (min u v) t e in lt-leb v t (omega arith)
+
+pub none_leaves : (t : ℕ) (rows : List Row) → is_by t (bay_due rows) ≡ false
+    → (filter (is_due t) rows ≡ []) × (left_in_bay t rows ≡ rows)
+unfolding bay_due
+none_leaves t [] e = (refl, refl)
+none_leaves t (r ∷ rows) e =
+    let f : is_due t r ≡ false = first_later t r.second (bay_due rows) e in
+    let i = none_leaves t rows (others_later t r.second (bay_due rows) e) in
+    (rw f i.0, rw f (ap (λ (xs : List Row). r ∷ xs) i.1))
+
+pub bay_none : (rows : List Row) → rows ≡ [] → None ≡ bay_due rows
+unfolding bay_due
+bay_none rows e = sym (ap bay_due e)
+
+pub bay_grows : (rows later : List Row) (r : Row) (d e : Option ℕ) → later ≡ rows ++ r ∷ [] → d ≡ bay_due rows → e ≡ earlier d (Some r.second)
+    → e ≡ bay_due later
+bay_grows rows later r d e n h g = g ∙ ap (λ (o : Option ℕ). earlier o (Some r.second)) h ∙ sym (bay_more rows r) ∙ ap bay_due (sym n)
+
+-- the link then stays as it is
+with_lists : LinkView → List Row → List Row → LinkView
+with_lists v wait bay = record v { lists = record v.lists { wait = wait; bay = bay } }
+
+pub bay_stays : (t : ℕ) (v : LinkView) → is_by t (bay_due v.lists.bay) ≡ false
+    → v ≡ record v { lists = record v.lists { wait = wait_after t v.numbers.link v.lists; bay = left_in_bay t v.lists.bay } }
+unfolding with_lists
+bay_stays t v e =
+    let n = none_leaves t v.lists.bay e in
+    let w : v.lists.wait ≡ wait_after t v.numbers.link v.lists
+    = sym (append-nil v.lists.wait) ∙ ap (λ (xs : List Row). v.lists.wait ++ map (waiting v.numbers.link) xs) (sym n.0) in
+    ap (λ (xs : List Row). with_lists v xs v.lists.bay) w ∙ ap (with_lists v (wait_after t v.numbers.link v.lists)) (sym n.1)
+
+pub nobody_tells : (t : ℕ) (bay : List Row) (said : List Occurrence) → is_by t (bay_due bay) ≡ false → said ≡ said ++ flat_map goes_on (filter (is_due t) bay)
+nobody_tells t bay said e = sym (append-nil said) ∙ ap (λ (xs : List Row). said ++ flat_map goes_on xs) (sym (none_leaves t bay e).0)

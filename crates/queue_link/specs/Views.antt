@@ -1,9 +1,10 @@
 -- A link's fields as contracts see them, and what they keep.
-use Rattle.std.specs.Prelude.{◌≤◌}
+use Rattle.std.specs.Prelude.{◌≡◌, ◌≤◌}
 use Rattle.limits.specs.declared.TheConstants.{LAST_SECOND}
 use Rattle.queue_link.specs.declared.state.LinkState.TheInside.{Inside}
 use Rattle.queue_link.specs.Numbers.{AreNumbers}
 use Rattle.queue_link.specs.Links.{LinkView}
+use Rattle.queue_link.specs.Waking.{bay_due}
 
 abbrev pub link_view : Inside → LinkView
 link_view s =
@@ -14,4 +15,4 @@ link_view s =
     }
 
 abbrev pub link_invariant : Inside → Type 0
-link_invariant s = AreNumbers s.numbers × (s.raised ≤ LAST_SECOND)
+link_invariant s = AreNumbers s.numbers × (s.raised ≤ LAST_SECOND) × (s.bay_due ≡ bay_due s.bay.items)

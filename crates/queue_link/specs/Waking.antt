@@ -1,5 +1,5 @@
 -- When a link has to be woken.
-use Rattle.std.specs.Prelude.{ℕ, List, [], ◌∷◌, length, min, Option, None, Some}
+use Rattle.std.specs.Prelude.{ℕ, Bool, false, List, [], ◌∷◌, length, min, nat_le, Option, None, Some}
 use Rattle.traffic.specs.declared.world.Row.{Row}
 use Rattle.traffic.specs.Links.{LinkState}
 use Rattle.law_sleeping.specs.Quiet.{queue_due, wait_due}
@@ -16,6 +16,11 @@ earlier (Some t) (Some u) = Some (min t u)
 unfoldable pub bay_due : List Row → Option ℕ
 bay_due [] = None
 bay_due (r ∷ rs) = earlier (Some r.second) (bay_due rs)
+
+-- whether this second, where there is one, is t or before it
+abbrev pub is_by : ℕ → Option ℕ → Bool
+is_by t None = false
+is_by t (Some u) = nat_le u t
 
 -- the second in which a link that has done second t may next have something to do, if nobody else does anything
 abbrev pub due_of : LinkNumbers → ℕ → LinkState → Option ℕ

@@ -12,6 +12,7 @@ ghost use Rattle.queue_link.specs.Numbers.{AreNumbers};
 ghost use Rattle.queue_link.specs.Links.{fresh, row_on, behind_front, all_rows, first_row, front_vehicle, front_second, vehicle_at};
 
 use crate::numbers::LinkNumbers;
+use crate::sleeps::earlier;
 use crate::state::LinkState;
 use crate::turns::vehicle_of;
 use fixed_flow::Credit;
@@ -54,6 +55,7 @@ impl LinkState {
             buffer: VecDeque::new(alloc),
             wait: VecDeque::new(alloc),
             bay: Vec::new(alloc),
+            bay_due: None,
         }
     }
 
@@ -126,6 +128,7 @@ impl LinkState {
             stage: Stage::Bay,
             second: until,
         })?;
+        self.bay_due = earlier(self.bay_due, Some(until));
         Ok(())
     }
 

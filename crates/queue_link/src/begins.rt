@@ -4,9 +4,11 @@ ghost use Rattle.std.specs.Prelude.{◌≡◌, ◌+◌, ◌-◌, ◌<◌, ◌≤
 ghost use Rattle.std.specs.List.{flat_map};
 ghost use Rattle.limits.specs.declared.TheConstants.{LAST_SECOND};
 ghost use Rattle.traffic.specs.Telling.{goes_on};
-ghost use Rattle.traffic.specs.Links.{waiting};
+ghost use Rattle.traffic.specs.Links.{waiting, wait_after};
 ghost use Rattle.queue_link.specs.Turns.{is_due, left_in_bay, begun};
+ghost use Rattle.queue_link.specs.Waking.{is_by};
 
+use crate::sleeps::bay_due;
 use crate::state::LinkState;
 use std::alloc::AllocError;
 use std::collections::VecDeque;
@@ -49,7 +51,41 @@ fn leave_bay(
     Ok(left)
 }
 
+/// Whether this second has come.
+fn has_come(second: u32, due: Option<u32>) -> bool
+    ensures { result ≡ is_by second due }
+{
+    match due {
+        None => false,
+        Some(due) => due <= second,
+    }
+}
+
 impl LinkState {
+    /// Step 1: the vehicles in the bay whose second has come go to the end of the wait list, which tells that they go on. The bay is not
+    /// looked through where that is none.
+    fn let_leave(&mut self, second: u32, said: &mut Vec<Occurrence>) -> Result<(), AllocError>
+        ensures left { OnOk result (self.new ≡ record self.old {
+          lists = record self.old.lists {
+            wait = wait_after second self.old.numbers.link self.old.lists;
+            bay = left_in_bay second self.old.lists.bay;
+          };
+        }) }
+        ensures told { OnOk result (said.new.items ≡ said.old.items
+            ++ flat_map goes_on (filter (is_due second) self.old.lists.bay)) }
+    {
+        if !has_come(second, self.bay_due) {
+            return Ok(());
+        }
+        let alloc = *self.bay.allocator();
+        let bay = replace(&mut self.bay, Vec::new(alloc));
+        self.bay_due = None;
+        let left = leave_bay(second, self.numbers.link, bay, &mut self.wait, said)?;
+        self.bay_due = bay_due(&left);
+        self.bay = left;
+        Ok(())
+    }
+
     /// Begins a second: the vehicles in the bay whose second has come go to the end of the wait list, which tells that they go on, and the
     /// credit is raised, once for this second and once for each before it for which it was not.
     ///
@@ -66,9 +102,7 @@ impl LinkState {
         ensures told { OnOk result (said.new.items ≡ said.old.items
             ++ flat_map goes_on (filter (is_due second) self.old.lists.bay)) }
     {
-        let alloc = *self.bay.allocator();
-        let bay = replace(&mut self.bay, Vec::new(alloc));
-        self.bay = leave_bay(second, self.numbers.link, bay, &mut self.wait, said)?;
+        self.let_leave(second, said)?;
         self.credit
             .raise_by(self.numbers.gain, second + 1 - self.raised);
         self.raised = second + 1;

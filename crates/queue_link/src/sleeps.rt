@@ -13,7 +13,7 @@ use fixed_flow::{Credit, VEHICLE_COST};
 use traffic::Row;
 
 /// The earlier one of two seconds, where there is any.
-fn earlier(second: Option<u32>, other: Option<u32>) -> Option<u32>
+pub(crate) fn earlier(second: Option<u32>, other: Option<u32>) -> Option<u32>
     ensures { result ≡ earlier second other }
 {
     match (second, other) {
@@ -25,7 +25,7 @@ fn earlier(second: Option<u32>, other: Option<u32>) -> Option<u32>
 
 /// The least second of the rows of a bay.
 #[tactic(auto, unfolding(crate::specs::Waking::bay_due))]
-fn bay_due(bay: &[Row]) -> Option<u32>
+pub(crate) fn bay_due(bay: &[Row]) -> Option<u32>
     ensures { result ≡ bay_due bay.now }
 {
     let mut due = None;
@@ -85,7 +85,7 @@ impl LinkState {
         requires { second < LAST_SECOND }
         ensures { result ≡ due_of self.now.numbers second self.now.lists }
     {
-        let held = earlier(self.wait_due(second), bay_due(&self.bay));
+        let held = earlier(self.wait_due(second), self.bay_due);
         earlier(self.queue_due(second), held)
     }
 

@@ -4,7 +4,8 @@ use std::collections::VecDeque;
 use std::marker::Model;
 use traffic::Row;
 
-/// A link: its numbers, its four lists, each in order, and its credit, with the seconds whose gains it has.
+/// A link: its numbers, its four lists, each in order, and its credit, with the seconds whose gains it has. The least second of the rows
+/// of its bay is kept beside them, so that a bay is looked through only where somebody leaves it.
 #[derive(Drop)]
 pub struct LinkState {
     pub(crate) numbers: LinkNumbers,
@@ -14,6 +15,7 @@ pub struct LinkState {
     pub(crate) buffer: VecDeque<Row>,
     pub(crate) wait: VecDeque<Row>,
     pub(crate) bay: Vec<Row>,
+    pub(crate) bay_due: Option<u32>,
 }
 
 impl Model for LinkState {

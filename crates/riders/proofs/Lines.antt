@@ -3,7 +3,7 @@ use Rattle.std.proofs.Common.{◌≡◌, ◌≢◌, ℕ, zero, suc, Bool, true, 
 use Rattle.std.proofs.Common.{append_assoc, append-nil, inl, inr, ◌+◌, ◌-◌, ◌<◌, ◌≤◌, drop, get_or}
 use Rattle.std.specs.Prelude.{not, ◌&&◌, nat_lt, map, filter, if◌then◌else◌}
 use Rattle.std.specs.List.{list_any, flat_map}
-use Rattle.std.proofs.lemmas.Bool.{cases_Bool, eq-eqb, ne_eqb, and_parts, ltb-true, lt-ltb}
+use Rattle.std.proofs.lemmas.Bool.{cases_Bool, eq-eqb, ne_eqb, and_parts, or_parts, ltb-true, lt-ltb}
 use Rattle.std.proofs.lemmas.List.{drop_more}
 use Rattle.std.proofs.lemmas.Bool.Decides.{nat_tests}
 use Rattle.events.specs.declared.event.Word.TheVariants as word
@@ -252,3 +252,37 @@ pub left_by : (v : VehicleState) (ws rows read : List Waiter) (stay seats : ℕ)
 left_by v ws rows read stay seats h e r c s =
     ap (λ (k : ℕ). left_over k (may_board v) read) (s ∙ ap (λ (k : ℕ). v.seats - k) c)
     ∙ ap (left_over (free v) (may_board v)) r ∙ left v rows h ∙ ap (left_behind v) (sym e)
+
+-- WHERE NOBODY BOARDS
+none_pass : (p : Waiter → Bool) (ws : List Waiter) → list_any p ws ≡ false → filter p ws ≡ []
+none_pass p [] e = refl
+none_pass p (w ∷ ws) e = let q = or_parts (p w) (list_any p ws) e in let f = q.0 in rw f (none_pass p ws q.1)
+
+none_taken : (k : ℕ) (p : Waiter → Bool) (ws : List Waiter) → (nat_lt 0 k && list_any p ws) ≡ false → take k (filter p ws) ≡ []
+none_taken zero p ws e = refl
+none_taken (suc k) p ws e =
+    let f : list_any p ws ≡ false = rw (lt-ltb 0 (suc k) (omega arith)) at e in ap (take (suc k)) (none_pass p ws f)
+
+stay_over : (k : ℕ) (p : Waiter → Bool) (ws : List Waiter) → list_any p ws ≡ false → left_over (suc k) p ws ≡ ws
+unfolding left_over
+stay_over k p [] e = refl
+stay_over k p (w ∷ ws) e =
+    let q = or_parts (p w) (list_any p ws) e in let f = q.0 in rw f (ap (λ (xs : List Waiter). w ∷ xs) (stay_over k p ws q.1))
+
+all_over : (k : ℕ) (p : Waiter → Bool) (ws : List Waiter) → (nat_lt 0 k && list_any p ws) ≡ false → left_over k p ws ≡ ws
+unfolding left_over
+all_over zero p ws e = refl
+all_over (suc k) p ws e =
+    let f : list_any p ws ≡ false = rw (lt-ltb 0 (suc k) (omega arith)) at e in stay_over k p ws f
+
+pub nobody_boards : (v : VehicleState) (ws rows read : List Waiter) (stay seats : ℕ) → AreWaiting rows → ws ≡ rows → read ≡ rows
+    → stay ≡ length (staying (next_call v).stop v.riders) → seats ≡ v.seats - stay
+    → (nat_lt 0 seats && list_any (may_board v) read) ≡ false → [] ≡ map rider (boarding v ws)
+nobody_boards v ws rows read stay seats h e r c s n =
+    ap (map rider) (sym (none_taken seats (may_board v) read n) ∙ boards_by v ws rows read stay seats h e r c s)
+
+pub all_left : (v : VehicleState) (ws rows read : List Waiter) (stay seats : ℕ) → AreWaiting rows → ws ≡ rows → read ≡ rows
+    → stay ≡ length (staying (next_call v).stop v.riders) → seats ≡ v.seats - stay
+    → (nat_lt 0 seats && list_any (may_board v) read) ≡ false → ws ≡ left_behind v ws
+all_left v ws rows read stay seats h e r c s n =
+    e ∙ sym r ∙ sym (all_over seats (may_board v) read n) ∙ left_by v ws rows read stay seats h e r c s

@@ -2,6 +2,7 @@
 
 ghost use Rattle.std.specs.Prelude.{◌≡◌, ◌+◌, ◌<◌, ◌≤◌, ◌++◌, [], ◌∷◌, length, filter, map};
 ghost use Rattle.std.specs.Prelude.{take, true, ◌==◌, ◌&&◌, nat_lt, OnOk, IfOk};
+ghost use Rattle.std.specs.List.{list_any};
 ghost use Rattle.limits.specs.declared.TheConstants.{LAST_SECOND, MAX_CALLS, MAX_PERSONS};
 ghost use Rattle.rows.specs.Settings.{IsDwelling};
 ghost use Rattle.traffic.specs.Stops.{next_call, alighting, staying, may_board, boarding, left_behind, rider};
@@ -107,6 +108,22 @@ fn board(
     Ok(Boarding { boarded, left })
 }
 
+/// Whether anybody of those who wait may board.
+fn anybody_may_board(vehicle: &Vehicle, waiters: &[Waiter]) -> bool
+    requires { vehicle.now.served < length vehicle.now.calls }
+    ensures { result ≡ list_any (may_board vehicle.now) waiters.now }
+{
+    waiters.iter().any(|waiter| may_board(vehicle, waiter))
+}
+
+/// Whether anybody takes a seat: there is one, and somebody may board.
+fn anybody_boards(vehicle: &Vehicle, seats: usize, waiters: &[Waiter]) -> bool
+    requires { vehicle.now.served < length vehicle.now.calls }
+    ensures { result ≡ (nat_lt 0 seats && list_any (may_board vehicle.now) waiters.now) }
+{
+    seats > 0 && anybody_may_board(vehicle, waiters)
+}
+
 /// A vehicle has these riders from now on, and has served one call more.
 fn seat_riders(
     vehicle: &mut Vehicle,
@@ -167,17 +184,22 @@ impl Waiting {
         self.rows.is_empty()
     }
 
-    /// Those who board a vehicle in which so many stay, and those who are left.
-    fn board(&self, vehicle: &Vehicle, stay: usize) -> Result<Boarding, AllocError>
+    /// Those who board a vehicle in which so many stay do not wait any more. Nobody is copied where nobody boards.
+    fn take_boarding(&mut self, vehicle: &Vehicle, stay: usize) -> Result<Vec<Rider>, AllocError>
         requires calls { vehicle.now.served < length vehicle.now.calls }
         requires count { stay ≡ length (staying (next_call vehicle.now).stop vehicle.now.riders) }
-        ensures boarded { IfOk result (λ all. all.boarded.items ≡ map rider (boarding vehicle.now self.now)) }
-        ensures left { IfOk result (λ all. all.left.items ≡ left_behind vehicle.now self.now) }
-        ensures few { IfOk result (λ all. length all.boarded.items ≤ length self.now) }
+        ensures boarded { IfOk result (λ boarded. boarded.items ≡ map rider (boarding vehicle.now self.old)) }
+        ensures left { OnOk result (self.new ≡ left_behind vehicle.now self.old) }
+        ensures few { IfOk result (λ boarded. length boarded.items ≤ length self.old) }
     {
+        let alloc = *self.rows.allocator();
         let seats = (vehicle.seats as usize).saturating_sub(stay);
-        let all = board(*self.rows.allocator(), vehicle, seats, &self.rows)?;
-        Ok(all)
+        if !anybody_boards(vehicle, seats, &self.rows) {
+            return Ok(Vec::new(alloc));
+        }
+        let all = board(alloc, vehicle, seats, &self.rows)?;
+        self.rows = all.left;
+        Ok(all.boarded)
     }
 
     /// Serves a vehicle at its next call, on this link in this second: its riders alight whose stop it is, then board those who wait here
@@ -215,7 +237,7 @@ impl Waiting {
         let id = vehicle.id;
         let call = next_call(vehicle);
         let parted = part_riders(alloc, call.stop, &vehicle.riders.rows)?;
-        let boarding = self.board(vehicle, parted.staying.len())?;
+        let boarded = self.take_boarding(vehicle, parted.staying.len())?;
         said.push(of_vehicle(
             Word::VehicleArrivesAtFacility,
             id,
@@ -223,22 +245,15 @@ impl Waiting {
             More::Stop(call.stop),
         ))?;
         push_all_leave(id, link, &parted.alighted, said)?;
-        push_all_enter(id, &boarding.boarded, said)?;
-        let stands = stand(
-            dwell,
-            parted.alighted.len() as u32,
-            boarding.boarded.len() as u32,
-        );
+        push_all_enter(id, &boarded, said)?;
+        let stands = stand(dwell, parted.alighted.len() as u32, boarded.len() as u32);
         let until = not_before(call, vehicle.departed, second + stands);
-        seat_riders(vehicle, parted.staying, &boarding.boarded)?;
-        self.rows = boarding.left;
+        seat_riders(vehicle, parted.staying, &boarded)?;
         Ok(Served {
             alighted: Riders {
                 rows: parted.alighted,
             },
-            boarded: Riders {
-                rows: boarding.boarded,
-            },
+            boarded: Riders { rows: boarded },
             until,
         })
     }

@@ -15,9 +15,9 @@ use Rattle.walks.specs.Chosen.{chosen_route}
 use Rattle.walks.specs.Alike.{TakesAlike, delayed}
 use Rattle.walks.proofs.Delayed.{delayed_label, delayed_labels, delayed_route}
 use Rattle.router.specs.Graphs.{Graph}
-use Rattle.leg_routes.specs.Routes.{way_to, leg_route, allowed}
-use Rattle.leg_routes.specs.Legs.{route_between}
-use Rattle.leg_routes.proofs.Ways.{route_here, route_there}
+use Rattle.router.specs.Routes.{way_to, leg_route, allowed}
+use Rattle.router.specs.Legs.{route_between}
+use Rattle.router.proofs.LegWays.{route_here, route_there}
 use Rattle.car_routes.specs.Plans.{filled}
 use Rattle.car_routes.specs.Wanted.{Pairs, wanted, wanted_from, row_of}
 use Rattle.car_routes.specs.Found.{short, short_way, ways_from, AreNext}

@@ -14,8 +14,8 @@ use Rattle.rows.specs.PlanRows.{PlanRows}
 use Rattle.travel_times.specs.Times.{LinkProfile, arrivals, free_of, free_times}
 use Rattle.travel_times.proofs.Free.{free_alike}
 use Rattle.walks.specs.Alike.{TakesAlike}
-use Rattle.leg_routes.specs.Legs.{each_leg}
-use Rattle.leg_routes.proofs.Ways.{ends_count}
+use Rattle.router.specs.Legs.{each_leg}
+use Rattle.router.proofs.LegWays.{ends_count}
 use Rattle.car_routes.specs.Plans.{routed_leg, routed_plan, all_routed}
 use Rattle.rows.specs.Plan.{is_leg}
 use Rattle.walks.specs.Arrivals.{Arrivals}

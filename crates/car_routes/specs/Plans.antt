@@ -6,7 +6,7 @@ use Rattle.rows.specs.declared.plan.Leg.{Leg}
 use Rattle.rows.specs.PlanRows.{PlanRows}
 use Rattle.walks.specs.Arrivals.{Arrivals}
 use Rattle.router.specs.Graphs.{Graph}
-use Rattle.leg_routes.specs.Legs.{route_between, with_route, each_leg, are_on}
+use Rattle.router.specs.Legs.{route_between, with_route, each_leg, are_on}
 
 -- a route with links as it is; one without links is the route of least arrival between the activity, at whose planned end it is left, and
 -- the link, where there is one of at most 1,000 links

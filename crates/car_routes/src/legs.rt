@@ -9,16 +9,15 @@ ghost use Rattle.rows.specs.declared.plan.Leg.TheVariants as leg;
 ghost use Rattle.walks.specs.Arrivals.{Arrivals};
 ghost use Rattle.walks.specs.Walks.{start_of, end_of};
 ghost use Rattle.walks.specs.Alike.{TakesAlike};
-ghost use Rattle.leg_routes.specs.Routes.{way_to, allowed};
-ghost use Rattle.leg_routes.specs.Legs.{each_leg, are_on};
+ghost use Rattle.router.specs.Routes.{way_to, allowed};
+ghost use Rattle.router.specs.Legs.{each_leg, are_on};
 ghost use Rattle.car_routes.specs.Plans.{filled, routed_leg};
 ghost use Rattle.car_routes.specs.Wanted.{Pairs, wanted, wanted_in};
 ghost use Rattle.car_routes.specs.Found.{AreNext};
 
 use crate::found::{Found, take_next};
 use events::Route;
-use leg_routes::{copied_leg, one_link, route_along};
-use router::Adjacency;
+use router::{Adjacency, copied_leg, one_link, route_along};
 use rows::{Act, Leg};
 use std::alloc::{AllocError, Global};
 

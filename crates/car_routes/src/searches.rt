@@ -2,6 +2,7 @@
 
 ghost use Rattle.std.specs.Prelude.{◌≡◌, ◌<◌, ◌≤◌, [], ℕ, length, map, All, IfOk};
 ghost use Rattle.std.specs.List.{range_with_len};
+ghost use Rattle.limits.specs.declared.TheConstants.{MAX_NODES};
 ghost use Rattle.travel_times.specs.Times.{arrivals};
 ghost use Rattle.walks.specs.Walks.{AreWithin};
 ghost use Rattle.car_routes.specs.Wanted.{row_of};
@@ -10,10 +11,9 @@ ghost use Rattle.car_routes.specs.Found.{short, ways_from, AreTargets};
 use crate::found::{Found, Ways};
 use crate::wanted::Targets;
 use events::Route;
-use leg_routes::way_by;
 use limits::MAX_ROUTE_LINKS;
 use rayon::prelude::*;
-use router::{Adjacency, Search};
+use router::{Adjacency, Search, way_by};
 use std::alloc::{AllocError, Global};
 use std::collections::VecDeque;
 use std::thread::Threads;
@@ -22,7 +22,7 @@ use travel_times::LinkTimes;
 /// The links of a network lead from one of its nodes to another.
 fn know_links(adjacency: &Adjacency)
     ensures inside { AreWithin adjacency.now.nodes adjacency.now.ends }
-    ensures few { adjacency.now.nodes ≤ 131072 }
+    ensures few { adjacency.now.nodes ≤ MAX_NODES }
 {
     let _ = adjacency.nodes();
 }

@@ -3,7 +3,7 @@
 ghost use Rattle.std.specs.Prelude.{◌≡◌, ◌<◌, ◌+◌, ◌++◌, [], ◌∷◌, slice_set, length, map, replicate, true};
 ghost use Rattle.std.specs.Prelude.{IfOk, IfSome, OnOk, option_to_list};
 ghost use Rattle.rows.specs.PlanRows.{plan_rows, all_plan_rows};
-ghost use Rattle.leg_routes.specs.Legs.{are_on};
+ghost use Rattle.router.specs.Legs.{are_on};
 ghost use Rattle.car_routes.specs.Plans.{own_are_on, all_are_on};
 ghost use Rattle.car_routes.specs.Wanted.{wanted, wanted_in, wanted_by, wanted_by_all, row_of, WantsMore};
 

@@ -11,7 +11,7 @@ use Rattle.command_line.specs.Cases.{Work, kind_case, kinds_case, simple_case}
 use Rattle.command_line.specs.Commands.{simple_command, command_with}
 use Rattle.command_line.specs.declared.commands.Command.{Command}
 use Rattle.command_line.specs.declared.commands.CommandName.{CommandName}
-use Rattle.command_line.specs.declared.commands.CommandName.TheVariants.{Run, Check, Route}
+use Rattle.command_line.specs.declared.commands.CommandName.TheVariants.{Run, Check, Route, Generate}
 use Rattle.command_line.proofs.OneKind.{Few, one_kind}
 
 -- clap tells exactly which words it takes
@@ -20,6 +20,7 @@ unfolding clap_on_literals
 is_plain Run = refl
 is_plain Check = refl
 is_plain Route = refl
+is_plain Generate = refl
 
 -- and what it finds in them
 is_single : (name : CommandName) → is_simple (simple_command name) ≡ true
@@ -27,12 +28,14 @@ unfolding clap_on_literals
 is_single Run = refl
 is_single Check = refl
 is_single Route = refl
+is_single Generate = refl
 
 -- it answers the words of a command by one kind at most
 few_kinds : (name : CommandName) (words : List (List ℕ)) → Few (fault_of (simple_command name) words)
 few_kinds Run words = one_kind _ _ _ refl (refl, refl)
 few_kinds Check words = one_kind _ _ _ refl (refl, refl)
 few_kinds Route words = one_kind _ _ _ refl (refl, refl)
+few_kinds Generate words = one_kind _ _ _ refl (refl, refl)
 
 -- a kind that is among few kinds is the only one
 the_kind : (kinds : Kinds) (kind : ErrorKind) → Few kinds → IsAmong kind kinds → kinds ≡ kind ∷ []

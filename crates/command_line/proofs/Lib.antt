@@ -1,4 +1,4 @@
 mod Answered
 mod OneKind
-pub mod Positions
+pub mod Arguments
 pub mod Words

@@ -1,10 +1,10 @@
 -- What the words of the command line ask for.
-use Rattle.std.specs.Prelude.{ℕ, Bool, ◌||◌, bytes_eq, codes, if◌then◌else◌, List, [], ◌∷◌, Option, None, Some}
+use Rattle.std.specs.Prelude.{⊤, ℕ, Bool, ◌||◌, bytes_eq, codes, if◌then◌else◌, List, [], ◌∷◌, Option, None, Some}
 use Rattle.clap.specs.Kinds.{Kinds}
 use Rattle.clap.specs.Words.{fault_of, matches_of}
 use Rattle.clap.specs.declared.error.kind.ErrorKind.{ErrorKind}
 use Rattle.clap.specs.declared.error.kind.ErrorKind.TheVariants.{DisplayHelp}
-use Rattle.command_line.specs.Commands.{command_named, simple_command, command_with}
+use Rattle.command_line.specs.Commands.{command_named, simple_command, command_with, IsInRange}
 use Rattle.command_line.specs.declared.commands.Command.{Command}
 use Rattle.command_line.specs.declared.commands.CommandName.{CommandName}
 use Rattle.command_line.specs.declared.reading.Asked.{Asked}
@@ -21,6 +21,12 @@ abbrev pub asked_case : Asked → Case
 asked_case (asked.Work command) = Work command
 asked_case (asked.Help text) = Help
 asked_case (asked.Refused text) = Refused
+
+-- the numbers of the command that is asked for are within their bounds
+abbrev pub AsksInRange : Asked → Type 0
+AsksInRange (asked.Work command) = IsInRange command
+AsksInRange (asked.Help text) = ⊤
+AsksInRange (asked.Refused text) = ⊤
 
 -- the word asks how the program is used
 abbrev pub asks_for_help : List ℕ → Bool

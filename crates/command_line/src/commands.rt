@@ -3,13 +3,16 @@
 ghost use Rattle.std.specs.Prelude.{◌≡◌, IfOk};
 ghost use Rattle.clap.specs.Words.{IsParsedFrom, app_of, found_of};
 ghost use Rattle.clap.specs.declared.parser.matches.ArgMatches.{ArgMatches};
-ghost use Rattle.command_line.specs.Commands.{command_named, position, second_position, simple_command};
-ghost use Rattle.command_line.specs.Given.{IsPosition, HasSecond};
+ghost use Rattle.command_line.specs.Commands.{command_named, position, second_position, size_position, seed_position};
+ghost use Rattle.command_line.specs.Commands.{iteration_option, simple_command};
+ghost use Rattle.command_line.specs.Given.{IsArgument, HasSecond, HasGrid};
 
 use clap::{Arg, ArgAction};
 use edge_files::Bytes;
+use learning::LAST_ITERATION;
 use limits::LAST_SECOND;
 use std::alloc::{AllocError, Global};
+use workload::{LEAST_SIZE, MOST_SIZE};
 
 /// What the second word may name.
 #[derive(Clone, Copy, Debug, PartialEq, Eq)]
@@ -17,6 +20,7 @@ pub enum CommandName {
     Run,
     Check,
     Route,
+    Generate,
 }
 
 /// A command of the program, with what it is to work on.
@@ -28,7 +32,18 @@ pub enum Command {
     Check,
     /// Reports the route of least arrival between two nodes, by their names, that is left in a second of at most
     /// `LAST_SECOND`.
-    Route { from: Bytes, to: Bytes, second: u32 },
+    Route {
+        from: Bytes,
+        to: Bytes,
+        second: u32,
+    },
+    /// Simulates the days of a generated grid: its size, `LEAST_SIZE` to `MOST_SIZE`, where its random words begin, and the number
+    /// of its last iteration, at most `LAST_ITERATION`.
+    Generate {
+        size: u32,
+        seed: u64,
+        last_iteration: u32,
+    },
 }
 
 /// The command that a word names.
@@ -42,6 +57,8 @@ pub fn command_named(word: &str) -> Option<CommandName>
         Some(CommandName::Check)
     } else if word == "route" {
         Some(CommandName::Route)
+    } else if word == "generate" {
+        Some(CommandName::Generate)
     } else {
         None
     }
@@ -54,7 +71,9 @@ fn run_command<'a>(alloc: Global) -> clap::Command<'a>
     clap::Command::new(alloc, "run")
         .override_usage("qsim run")
         .about("Simulates the day of the files in the current folder.")
-        .after_help("Writes events.csv, and the report to standard output.")
+        .after_help(
+            "Writes events.csv, scores.csv and plans_out.csv; the report goes to standard output.",
+        )
 }
 
 /// `qsim check`.
@@ -71,7 +90,7 @@ fn check_command<'a>(alloc: Global) -> clap::Command<'a>
 
 /// A position that must be given.
 fn position<'a>(alloc: Global, id: &'a str, help: &'a str) -> Arg<'a>
-    ensures { IsPosition (position id.entry.now) result }
+    ensures { IsArgument (position id.entry.now) result }
 {
     Arg::new(alloc, id)
         .help(help)
@@ -81,11 +100,39 @@ fn position<'a>(alloc: Global, id: &'a str, help: &'a str) -> Arg<'a>
 
 /// A position for a second of the day, from 0 to `LAST_SECOND`.
 fn second_position<'a>(alloc: Global, id: &'a str, help: &'a str) -> Arg<'a>
-    ensures { IsPosition (second_position id.entry.now) result }
+    ensures { IsArgument (second_position id.entry.now) result }
 {
     position(alloc, id, help).value_parser(clap::value_parser!(u32).range(
         0..=i64::from(LAST_SECOND),
     ))
+}
+
+/// A position for the size of a grid, `LEAST_SIZE` to `MOST_SIZE`.
+fn size_position<'a>(alloc: Global, id: &'a str, help: &'a str) -> Arg<'a>
+    ensures { IsArgument (size_position id.entry.now) result }
+{
+    position(alloc, id, help).value_parser(clap::value_parser!(u32).range(
+        i64::from(LEAST_SIZE)..=i64::from(MOST_SIZE),
+    ))
+}
+
+/// A position for any number of 64 bits.
+fn seed_position<'a>(alloc: Global, id: &'a str, help: &'a str) -> Arg<'a>
+    ensures { IsArgument (seed_position id.entry.now) result }
+{
+    position(alloc, id, help).value_parser(clap::value_parser!(u64))
+}
+
+/// An option for the number of an iteration, from 0 to `LAST_ITERATION`. `clap` refuses it where it is given twice.
+fn iteration_option<'a>(alloc: Global, id: &'a str, help: &'a str) -> Arg<'a>
+    ensures { IsArgument (iteration_option id.entry.now) result }
+{
+    Arg::new(alloc, id)
+        .help(help)
+        .long(id)
+        .value_name("N")
+        .action(ArgAction::Set)
+        .value_parser(clap::value_parser!(u32).range(0..=i64::from(LAST_ITERATION)))
 }
 
 /// `qsim route FROM TO SECOND`. Where `clap` takes its words, a number is given for the second.
@@ -107,10 +154,45 @@ pub fn route_command<'a>(alloc: Global) -> Result<clap::Command<'a>, AllocError>
     let command = clap::Command::new(alloc, "route")
         .override_usage("qsim route FROM TO SECOND")
         .about("Reports the route of least arrival between two nodes at the links' free speed.")
-        .after_help("Writes no file; the report goes to standard output.")
+        .after_help(
+            "Writes no file; the report goes to standard output. Where a name begins with '-', the words stand behind '--', \
+             as in 'qsim route -- -a b 0'.",
+        )
         .arg(from)?
         .arg(to)?
         .arg(second)?;
+    Ok(command)
+}
+
+/// `qsim generate SIZE SEED`. Where `clap` takes its words, numbers within the bounds of a grid are given.
+pub fn generate_command<'a>(alloc: Global) -> Result<clap::Command<'a>, AllocError>
+    ensures app { IfOk result (λ c. app_of c ≡ simple_command CommandName.Generate) }
+    ensures grid { IfOk result (λ c. (m : ArgMatches) → IsParsedFrom c m → HasGrid (found_of m)) }
+{
+    let size = size_position(
+        alloc,
+        "SIZE",
+        "How many rows and columns of nodes the grid has, from 3 to 100",
+    );
+    let seed = seed_position(
+        alloc,
+        "SEED",
+        "Where all random words begin, from 0 to 18446744073709551615",
+    );
+    let last_iteration = iteration_option(
+        alloc,
+        "last-iteration",
+        "The number of the last iteration, from 0 to 1000; 1 where it is not given",
+    );
+    let command = clap::Command::new(alloc, "generate")
+        .override_usage("qsim generate SIZE SEED [--last-iteration N]")
+        .about("Makes a town of SIZE times SIZE nodes, and simulates its days.")
+        .after_help(
+            "Reads no file; writes events.csv, scores.csv and plans_out.csv; the report goes to standard output.",
+        )
+        .arg(size)?
+        .arg(seed)?
+        .arg(last_iteration)?;
     Ok(command)
 }
 
@@ -124,6 +206,10 @@ pub fn simple_command<'a>(alloc: Global, name: CommandName) -> Result<clap::Comm
         CommandName::Check => Ok(check_command(alloc)),
         CommandName::Route => {
             let command = route_command(alloc)?;
+            Ok(command)
+        }
+        CommandName::Generate => {
+            let command = generate_command(alloc)?;
             Ok(command)
         }
     }

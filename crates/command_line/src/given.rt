@@ -1,9 +1,12 @@
-//! What `clap` gives for the positions of a command.
-ghost use Rattle.std.specs.Prelude.{◌≡◌, IfOk};
+//! What `clap` gives for the positions and options of a command.
+ghost use Rattle.std.specs.Prelude.{◌≡◌, ◌≤◌, IfOk, codes};
 ghost use Rattle.clap.specs.Words.{found_of, rows_of};
-ghost use Rattle.command_line.specs.Commands.{text_in, command_with};
-ghost use Rattle.command_line.specs.Given.{HasSecond};
+ghost use Rattle.learning.specs.declared.TheConstants.{LAST_ITERATION};
+ghost use Rattle.workload.specs.declared.TheConstants.{LEAST_SIZE, MOST_SIZE};
+ghost use Rattle.command_line.specs.Commands.{text_in, number_in, number_or, command_with, IsInRange};
+ghost use Rattle.command_line.specs.Given.{HasNumber, HasLongNumber, MayHaveNumber, HasSecond, HasGrid};
 
+use crate::DEFAULT_LAST_ITERATION;
 use crate::commands::{Command, CommandName};
 use clap::ArgMatches;
 use edge_files::Bytes;
@@ -23,7 +26,8 @@ fn word_for(alloc: Global, matches: &ArgMatches<'_>, id: &str) -> Result<Bytes, 
 /// The route that is asked for.
 pub fn route_asked(alloc: Global, matches: &ArgMatches<'_>) -> Result<Command, AllocError>
     requires { HasSecond (found_of matches.now) }
-    ensures { IfOk result (λ command. command ≡ command_with CommandName.Route (rows_of (found_of matches.now))) }
+    ensures command { IfOk result (λ command. command ≡ command_with CommandName.Route (rows_of (found_of matches.now))) }
+    ensures in_range { IfOk result IsInRange }
 {
     let Some(second) = matches.get_one::<u32>("SECOND") else {
         unreachable!()
@@ -31,4 +35,52 @@ pub fn route_asked(alloc: Global, matches: &ArgMatches<'_>) -> Result<Command, A
     let from = word_for(alloc, matches, "FROM")?;
     let to = word_for(alloc, matches, "TO")?;
     Ok(Command::Route { from, to, second })
+}
+
+/// The number of the last iteration that was given, or its default.
+fn last_iteration_given(matches: &ArgMatches<'_>) -> u32
+    requires { MayHaveNumber 0 LAST_ITERATION (codes "last-iteration") (found_of matches.now) }
+    ensures number { result ≡ number_or (codes "last-iteration") DEFAULT_LAST_ITERATION (rows_of (found_of matches.now)) }
+    ensures in_range { result ≤ LAST_ITERATION }
+{
+    let Some(number) = matches.get_one::<u32>("last-iteration") else {
+        return DEFAULT_LAST_ITERATION;
+    };
+    number
+}
+
+/// The size of the grid that is asked for.
+fn size_given(matches: &ArgMatches<'_>) -> u32
+    requires { HasNumber LEAST_SIZE MOST_SIZE (codes "SIZE") (found_of matches.now) }
+    ensures number { result ≡ number_in (codes "SIZE") (rows_of (found_of matches.now)) }
+    ensures in_range { (LEAST_SIZE ≤ result) × (result ≤ MOST_SIZE) }
+{
+    let Some(number) = matches.get_one::<u32>("SIZE") else {
+        unreachable!()
+    };
+    number
+}
+
+/// The number where the random words of the grid begin.
+fn seed_given(matches: &ArgMatches<'_>) -> u64
+    requires { HasLongNumber (codes "SEED") (found_of matches.now) }
+    ensures { result ≡ number_in (codes "SEED") (rows_of (found_of matches.now)) }
+{
+    let Some(number) = matches.get_one::<u64>("SEED") else {
+        unreachable!()
+    };
+    number
+}
+
+/// The grid that is asked for.
+pub fn grid_asked(matches: &ArgMatches<'_>) -> Command
+    requires { HasGrid (found_of matches.now) }
+    ensures command { result ≡ command_with CommandName.Generate (rows_of (found_of matches.now)) }
+    ensures in_range { IsInRange result }
+{
+    Command::Generate {
+        size: size_given(matches),
+        seed: seed_given(matches),
+        last_iteration: last_iteration_given(matches),
+    }
 }

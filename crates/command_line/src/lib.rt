@@ -13,3 +13,6 @@ mod usage;
 
 pub use commands::Command;
 pub use reading::{Asked, read_words};
+
+/// The number of the last iteration of a generated grid, where none is given.
+pub const DEFAULT_LAST_ITERATION: u32 = 1;

@@ -1,10 +1,12 @@
 ghost use Rattle.std.specs.Prelude.{◌≡◌, ◌≢◌, ◌∷◌, IfOk, List, map, string_bytes};
 ghost use Rattle.clap.specs.Words.{Row, kind_of};
-ghost use Rattle.command_line.specs.Commands.{command_with};
-ghost use Rattle.command_line.specs.Cases.{asks_for_help, asked_case, case_of, kind_case, simple_case};
+ghost use Rattle.command_line.specs.Commands.{command_with, IsInRange};
+ghost use Rattle.command_line.specs.Cases.{asks_for_help, asked_case, case_of, kind_case, simple_case, AsksInRange};
 
-use crate::commands::{Command, CommandName, command_named, route_command, simple_command};
-use crate::given::route_asked;
+use crate::commands::{
+    Command, CommandName, command_named, generate_command, route_command, simple_command,
+};
+use crate::given::{grid_asked, route_asked};
 use crate::usage::{USAGE, no_command, not_a_command};
 use clap::Error;
 use clap::error::ErrorKind;
@@ -30,8 +32,9 @@ fn asks_for_help(word: &str) -> bool
 
 /// What `clap` tells the user in place of matches.
 fn told(alloc: Global, error: &Error) -> Result<Asked, AllocError>
-    ensures { IfOk result (λ asked. (kind_of error.now ≢ ErrorKind.OutOfMemory)
+    ensures case { IfOk result (λ asked. (kind_of error.now ≢ ErrorKind.OutOfMemory)
         × (asked_case asked ≡ kind_case (kind_of error.now))) }
+    ensures in_range { IfOk result AsksInRange }
 {
     let text = format!(in alloc; "{error}")?;
     match error.kind() {
@@ -48,8 +51,10 @@ fn read_plain(
     command: Command,
     words: &[&str],
 ) -> Result<Asked, AllocError>
-    requires { (rows : List Row) → command_with name rows ≡ command }
-    ensures { IfOk result (λ asked. asked_case asked ≡ simple_case name (map (λ s. s.now) words.now)) }
+    requires always { (rows : List Row) → command_with name rows ≡ command }
+    requires in_range { IsInRange command }
+    ensures case { IfOk result (λ asked. asked_case asked ≡ simple_case name (map (λ s. s.now) words.now)) }
+    ensures in_range { IfOk result AsksInRange }
 {
     let parser = simple_command(alloc, name)?;
     match parser.try_get_matches_from(words) {
@@ -60,7 +65,8 @@ fn read_plain(
 
 /// What the words of `route` ask for.
 fn read_route(alloc: Global, words: &[&str]) -> Result<Asked, AllocError>
-    ensures { IfOk result (λ asked. asked_case asked ≡ simple_case CommandName.Route (map (λ s. s.now) words.now)) }
+    ensures case { IfOk result (λ asked. asked_case asked ≡ simple_case CommandName.Route (map (λ s. s.now) words.now)) }
+    ensures in_range { IfOk result AsksInRange }
 {
     let parser = route_command(alloc)?;
     match parser.try_get_matches_from(words) {
@@ -72,14 +78,31 @@ fn read_route(alloc: Global, words: &[&str]) -> Result<Asked, AllocError>
     }
 }
 
+/// What the words of `generate` ask for.
+fn read_generate(alloc: Global, words: &[&str]) -> Result<Asked, AllocError>
+    ensures case { IfOk result (λ asked. asked_case asked ≡ simple_case CommandName.Generate (map (λ s. s.now) words.now)) }
+    ensures in_range { IfOk result AsksInRange }
+{
+    let parser = generate_command(alloc)?;
+    match parser.try_get_matches_from(words) {
+        Ok(matches) => {
+            let command = grid_asked(&matches);
+            Ok(Asked::Work(command))
+        }
+        Err(error) => told(alloc, &error),
+    }
+}
+
 /// What the program's name and the words behind the command's name ask for.
 fn read_simple(alloc: Global, name: CommandName, words: &[&str]) -> Result<Asked, AllocError>
-    ensures { IfOk result (λ asked. asked_case asked ≡ simple_case name (map (λ s. s.now) words.now)) }
+    ensures case { IfOk result (λ asked. asked_case asked ≡ simple_case name (map (λ s. s.now) words.now)) }
+    ensures in_range { IfOk result AsksInRange }
 {
     match name {
         CommandName::Run => read_plain(alloc, name, Command::Run, words),
         CommandName::Check => read_plain(alloc, name, Command::Check, words),
         CommandName::Route => read_route(alloc, words),
+        CommandName::Generate => read_generate(alloc, words),
     }
 }
 
@@ -101,10 +124,11 @@ fn without_command<'a>(
 
 /// Reads the words of the command line, the program's name first.
 ///
-/// Fails only for want of memory.
+/// The numbers of a command are within their bounds. Fails only for want of memory.
 #[tactic(auto, unfolding(crate::specs::Cases::case_of))]
 pub fn read_words(alloc: Global, words: &[String]) -> Result<Asked, AllocError>
-    ensures { IfOk result (λ asked. asked_case asked ≡ case_of (map string_bytes words.now)) }
+    ensures case { IfOk result (λ asked. asked_case asked ≡ case_of (map string_bytes words.now)) }
+    ensures in_range { IfOk result AsksInRange }
 {
     let [program, second, others @ ..] = words else {
         return Ok(Asked::Refused(no_command(alloc)?));

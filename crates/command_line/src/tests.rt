@@ -1,4 +1,4 @@
-use crate::{Asked, read_words};
+use crate::{Asked, Command, read_words};
 use std::alloc::Global;
 use std::test::Fail;
 
@@ -25,9 +25,19 @@ fn help_is_told(rt: HostRuntime) -> Result<(), Fail> {
             "Usage: qsim check\n",
         ),
         (["qsim", "--help"].as_slice(), "qsim route FROM TO SECOND "),
+        (["qsim", "-h"].as_slice(), " signals.csv\n"),
+        (
+            ["qsim", "run", "--help"].as_slice(),
+            " scores.csv and plans_out.csv",
+        ),
         (
             ["qsim", "route", "-h"].as_slice(),
             "Usage: qsim route FROM TO SECOND\n",
+        ),
+        (["qsim", "route", "-h"].as_slice(), "'qsim route -- -a b 0'"),
+        (
+            ["qsim", "generate", "-h"].as_slice(),
+            "Usage: qsim generate SIZE SEED [--last-iteration N]\n",
         ),
     ];
     for (texts, part) in told {
@@ -55,12 +65,81 @@ fn other_words_are_refused(rt: HostRuntime) -> Result<(), Fail> {
         (["qsim", "check", "run"].as_slice(), "Usage: qsim check\n"),
         (["qsim", "route", "a", "b"].as_slice(), "SECOND"),
         (["qsim", "route", "a", "b", "172801"].as_slice(), "172801"),
+        (["qsim", "route", "-a", "b", "0"].as_slice(), "'-a'"),
+        (["qsim", "generate", "4"].as_slice(), "SEED"),
+        (["qsim", "generate", "2", "7"].as_slice(), "'2'"),
+        (["qsim", "generate", "101", "7"].as_slice(), "'101'"),
+        (
+            ["qsim", "generate", "4", "18446744073709551616"].as_slice(),
+            "18446744073709551616",
+        ),
+        (
+            ["qsim", "generate", "4", "7", "--last-iteration", "1001"].as_slice(),
+            "1001",
+        ),
+        (
+            [
+                "qsim",
+                "generate",
+                "4",
+                "7",
+                "--last-iteration=1",
+                "--last-iteration=1",
+            ]
+            .as_slice(),
+            "'--last-iteration",
+        ),
+        (
+            ["qsim", "generate", "4", "7", "--workers", "2"].as_slice(),
+            "'--workers'",
+        ),
     ];
     for (texts, part) in refused {
         let Asked::Refused(text) = asked(alloc, texts)? else {
             panic!(rt; "not refused: {texts:?}")
         };
         assert!(rt; text.as_str().contains(part), "{text}");
+    }
+    Ok(())
+}
+
+/// A grid is asked for by its size, its seed and the number of its last iteration, 1 where that is not given.
+#[test]
+fn grids_are_asked_for(rt: HostRuntime) -> Result<(), Fail> {
+    let alloc = rt.alloc();
+    let grids = [
+        (["qsim", "generate", "4", "7"].as_slice(), (4, 7, 1)),
+        (
+            ["qsim", "generate", "3", "0", "--last-iteration", "0"].as_slice(),
+            (3, 0, 0),
+        ),
+        (
+            [
+                "qsim",
+                "generate",
+                "--last-iteration=1000",
+                "100",
+                "18446744073709551615",
+            ]
+            .as_slice(),
+            (100, u64::MAX, 1000),
+        ),
+    ];
+    for (texts, (wanted_size, wanted_seed, wanted_last)) in grids {
+        let Asked::Work(
+            Command::Generate {
+                size,
+                seed,
+                last_iteration,
+            },
+        ) = asked(alloc, texts)?
+        else {
+            panic!(rt; "no grid: {texts:?}")
+        };
+        assert!(rt;
+            size == wanted_size && seed == wanted_seed && last_iteration == wanted_last,
+            "{texts:?}"
+        );
     }
     Ok(())
 }

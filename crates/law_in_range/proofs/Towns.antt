@@ -6,10 +6,10 @@ use Rattle.traffic.proofs.Common.{Plan, DepartureRow, RouteRow, StopRow, World, 
 use Rattle.std.specs.List.{AllByRecursion as Each}
 use Rattle.limits.specs.declared.TheConstants.{LAST_SECOND, MAX_CALLS}
 use Rattle.rows.specs.declared.plan.Leg.TheVariants as leg
-use Rattle.schedule.specs.Calls.{is_sound_call}
-use Rattle.schedule.specs.Stops.{is_stop}
-use Rattle.schedule.specs.Routes.{is_way, are_drivable, is_route}
-use Rattle.schedule.specs.Departures.{is_departure}
+use Rattle.rows.specs.Schedules.{is_sound_call}
+use Rattle.rows.specs.Schedules.{is_stop}
+use Rattle.rows.specs.Schedules.{is_way, are_drivable, is_route}
+use Rattle.rows.specs.Schedules.{is_departure}
 use Rattle.town.specs.Fits.{is_act_in, is_car_leg, is_transit_leg, leg_fits, legs_fit, fits}
 use Rattle.town.specs.Rows.{TownRows, IsTown}
 use Rattle.town.specs.Setups.{route_at, departure_of, setup_of}

@@ -1,3 +1,8 @@
+pub mod Events
+pub mod Turns
+pub mod Days
+pub mod Sound
+pub mod InTime
 mod Plans
 mod Schedule
 pub mod Scored

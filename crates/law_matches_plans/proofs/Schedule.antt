@@ -4,9 +4,9 @@ use Rattle.traffic.proofs.Common.{drop, cases_Bool, eqb-true, and_parts, eq-eqb,
 use Rattle.traffic.proofs.Common.{not, All, nat_lt, ◌||◌, nat_eq, StopCall, ends_of, stop_link, DepartureRow, RouteRow, StopRow, is_nil, Setup, link_of_stop}
 use Rattle.traffic.proofs.Common.{from_link, AreServable}
 use Rattle.std.specs.List.{AllByRecursion as Each, position_or_len}
-use Rattle.schedule.specs.Calls.{are_served, is_sound_call}
-use Rattle.schedule.specs.Routes.{are_drivable, is_route}
-use Rattle.schedule.specs.Departures.{is_departure}
+use Rattle.rows.specs.Schedules.{are_served, is_sound_call}
+use Rattle.rows.specs.Schedules.{are_drivable, is_route}
+use Rattle.rows.specs.Schedules.{is_departure}
 use Rattle.town.specs.Rows.{TownRows}
 use Rattle.town.specs.Setups.{route_at, departure_of}
 use Rattle.law_sound_setups.specs.Setups.{IsSoundRun}

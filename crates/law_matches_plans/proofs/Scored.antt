@@ -14,10 +14,10 @@ use Rattle.events.specs.declared.event.Word.TheVariants as word
 use Rattle.events.specs.Persons.{of_person, own_events, is_step}
 use Rattle.traffic.specs.Setup.{Setup}
 use Rattle.traffic.specs.Day.{day}
-use Rattle.law_trips.specs.Trips.{Places, anywhere, legs, IsPlanned, Step, steps}
-use Rattle.law_trips.specs.Trips as trips
-use Rattle.law_trips.proofs.Days.{has_some_day}
-use Rattle.law_trips.proofs.InTime.{day_until}
+use Rattle.law_matches_plans.specs.Trips.{Places, anywhere, legs, IsPlanned, Step, steps}
+use Rattle.law_matches_plans.specs.Trips as trips
+use Rattle.law_matches_plans.proofs.Days.{has_some_day}
+use Rattle.law_matches_plans.proofs.InTime.{day_until}
 use Rattle.scoring.specs.declared.TheConstants.{MAX_EVENTS}
 use Rattle.scoring.specs.Turns.{word_before, Follow, InTurn, tells}
 use Rattle.scoring.specs.Turns as turns

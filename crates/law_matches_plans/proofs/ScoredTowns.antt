@@ -17,7 +17,7 @@ use Rattle.law_in_range.specs.Setups.{IsPlanIn}
 use Rattle.law_in_range.proofs.Lists.{each_tested}
 use Rattle.law_in_range.proofs.Towns.{plans_fit}
 use Rattle.law_matches_plans.proofs.Towns.{rows_told}
-use Rattle.law_trips.specs.Trips.{at_activities}
+use Rattle.law_matches_plans.specs.Trips.{at_activities}
 use Rattle.scoring.specs.Taken.{AllFollow}
 use Rattle.law_matches_plans.proofs.Scored.{can_be_scored}
 

@@ -9,9 +9,9 @@ use Rattle.town.specs.Views.{rows_of, chosen_in, setup, ChosenFit}
 use Rattle.town.specs.declared.day_input.DayInput.{DayInput}
 use Rattle.law_in_range.specs.Setups.{IsPlanIn}
 use Rattle.law_in_range.proofs.Towns.{plans_fit}
-use Rattle.law_trips.specs.Trips.{IsPlanned, legs}
-use Rattle.law_trips.proofs.Days.{stuck_last}
-use Rattle.law_trips.proofs.Sound.{sound_planned, has_sound_day}
+use Rattle.law_matches_plans.specs.Trips.{IsPlanned, legs}
+use Rattle.law_matches_plans.proofs.Days.{stuck_last}
+use Rattle.law_matches_plans.proofs.Sound.{sound_planned, has_sound_day}
 use Rattle.law_sound_setups.specs.Setups.{IsSoundPlan, IsSoundRun, IsSoundSetup}
 use Rattle.law_sound_setups.specs.Consistent.{IsConsistentPlan, AreAtStops, IsConsistentSetup}
 use Rattle.law_matches_plans.specs.Planned.{IsToldAsPlanned}

@@ -5,7 +5,7 @@ use Rattle.events.specs.declared.event.Word.TheVariants.{StuckAndAbort}
 use Rattle.traffic.specs.Setup.{Setup}
 use Rattle.traffic.specs.Day.{day}
 use Rattle.events.specs.Persons.{own_events}
-use Rattle.law_trips.specs.Trips.{InTurn, at_activities, steps, legs}
+use Rattle.law_matches_plans.specs.Trips.{InTurn, at_activities, steps, legs}
 
 -- the events of person i come as his plan says
 pub record IsToldAsPlanned (S : Setup) (i : ℕ) : Type 0 where

@@ -4,6 +4,7 @@
 #![tactic(auto)]
 
 mod scores;
+mod trips;
 
 ghost use Rattle.std.specs.Prelude.{◌≡◌, ◌<◌, ℕ, true, List, length, All};
 ghost use Rattle.rows.specs.PlanRows.{PlanRows};
@@ -15,12 +16,13 @@ ghost use Rattle.town.specs.declared.day_input.DayInput.{DayInput};
 ghost use Rattle.traffic.specs.Day.{world_at};
 ghost use Rattle.traffic.specs.Worlds.{Sound};
 ghost use Rattle.law_in_range.specs.Setups.{IsPlanIn};
-ghost use Rattle.law_trips.specs.Trips.{IsPlanned};
+ghost use Rattle.law_matches_plans.specs.Trips.{IsPlanned};
 ghost use Rattle.law_sound_setups.specs.Setups.{IsSoundSetup};
 ghost use Rattle.law_sound_setups.specs.Consistent.{IsConsistentSetup};
 ghost use Rattle.law_matches_plans.specs.Planned.{IsToldAsPlanned};
 
 pub use scores::{days_can_be_scored, towns_can_be_scored};
+pub use trips::{events_are_in_time, events_come_in_turn, few_events, sound_plans_are_planned};
 
 /// The setup of a day in a town is sound, and its plans and calls are on the links that they name, where
 /// each chosen plan fits the town; so every second of the day is sound.

@@ -12,7 +12,7 @@ ghost use Rattle.town.specs.Fits.{fits};
 ghost use Rattle.town.specs.Rows.{TownRows, IsTown};
 ghost use Rattle.town.specs.Setups.{setup_of};
 ghost use Rattle.law_in_range.specs.Setups.{IsPlanIn};
-ghost use Rattle.law_trips.specs.Trips.{IsPlanned, legs};
+ghost use Rattle.law_matches_plans.specs.Trips.{IsPlanned, legs};
 ghost use Rattle.scoring.specs.Taken.{AllFollow};
 
 /// Of each person whose plan has at most eight legs, the events of a day that is over by the last second

@@ -15,10 +15,10 @@ use Rattle.town.specs.Rows.{TownRows}
 use Rattle.town.specs.Fits.{is_act_in, is_car_leg, has_wrong_ends, leg_fits, first_link, legs_fit, fits}
 use Rattle.walks.specs.Arrivals.{Arrivals, IsFifo}
 use Rattle.walks.specs.Walks.{AreWithin}
-use Rattle.leg_routes.specs.Routes.{leg_route, allowed}
-use Rattle.leg_routes.specs.Legs.{route_between, with_route, each_leg, Joins}
-use Rattle.leg_routes.proofs.Ways.{ends_count}
-use Rattle.leg_routes.proofs.Joining.{leg_joins}
+use Rattle.router.specs.Routes.{leg_route, allowed}
+use Rattle.router.specs.Legs.{route_between, with_route, each_leg, Joins}
+use Rattle.router.proofs.LegWays.{ends_count}
+use Rattle.router.proofs.Joining.{leg_joins}
 use Rattle.replanning.specs.Legs.{rerouted_leg, rerouted_plan}
 use Rattle.law_in_range.specs.Setups.{IsPlanIn}
 use Rattle.law_replanning.specs.Towns.{graph_in}

@@ -1,47 +1,45 @@
--- Files without a fault give a town, and plans of which its days can be made.
-use Rattle.std.proofs.Common.{◌≡◌, ℕ, ◌<◌, ◌≤◌, true, List, length, map, None, refl, sym, ◌∙◌, ap, subst, arith}
-use Rattle.std.specs.List.{list_all, AllByRecursion as Each}
+-- Files without a fault give a scenario of which a run can be made.
+use Rattle.std.proofs.Common.{◌≡◌, ℕ, ◌<◌, ◌≤◌, true, List, length, map, None, refl, ◌∙◌, ap, subst}
+use Rattle.std.specs.List.{list_all}
 use Rattle.std.proofs.lemmas.List.{length-map}
-use Rattle.std.proofs.lemmas.List.Elements.{All-from_recursion, recursion_from_All}
+use Rattle.std.proofs.lemmas.List.Elements.{All-from_recursion}
 use Rattle.edge_files.specs.declared.files.InFile.TheVariants as file
 use Rattle.records.specs.Faults.{fault_at}
 use Rattle.records.specs.Files.{body_of}
-use Rattle.records.proofs.Unrefused.{or_none, no_reason}
+use Rattle.records.proofs.Unrefused.{no_reason}
 use Rattle.network.specs.Nodes.{node_names}
 use Rattle.network.specs.Links.{links_fault}
-use Rattle.network.specs.Limits.{is_link}
-use Rattle.rows.specs.PlanRows.{PlanRows}
-use Rattle.plans.specs.Values.{PlanFileRows, plans_fault, file_rows}
+use Rattle.plan_memory.specs.Memories.{first_memory}
+use Rattle.plans.specs.Values.{PlanFileRows, plans_fault}
 use Rattle.plans.proofs.AllRows.{AreFreePlans, plans_free}
-use Rattle.schedule.specs.Stops.{is_stop}
-use Rattle.schedule.specs.Routes.{is_route}
+use Rattle.rows.specs.Schedules.{is_stop}
+use Rattle.rows.specs.Schedules.{is_route}
 use Rattle.settings.specs.Values.{Values}
 use Rattle.signals.proofs.Steps.{greens_length}
-use Rattle.settings.specs.Faults.{settings_fault, settings_of, scoring_values}
-use Rattle.settings.specs.Scoring.{ScoringValues}
+use Rattle.settings.specs.Faults.{FileValues, settings_fault, file_of}
 use Rattle.rows.specs.Greens.{Phases}
 use Rattle.rows.specs.Settings.{AreInRange}
 use Rattle.rows.specs.Joined.{ends_of}
-use Rattle.town.specs.Rows.{TownRows, IsTown}
-use Rattle.law_in_range.specs.Setups.{IsPlanIn}
-use Rattle.scenario.specs.declared.faults.ScenarioFault.{ScenarioFault}
+use Rattle.town.specs.Rows.{IsTown}
+use Rattle.law_replanning.specs.Memories.{IsMemoryIn}
 use Rattle.scenario.specs.Texts.{Texts, bytes_in}
 use Rattle.scenario.specs.Legs.{numbers_in, plan_in_town}
 use Rattle.scenario.specs.LegChecks.{AreThere}
-use Rattle.scenario.specs.Fitting.{all_fit, first_plans}
-use Rattle.scenario.specs.FilesToScenario.{NetworkRows, ScheduleRows, ScenarioRows, leg_checks_in, town_of, plans_of, persons_on, schedule_rows_of, signals_on, planned_of, filled_in, scored_by, on_network, network_rows_of, network_fault, persons_fault, plans_cross_fault, on_network_fault, scenario_fault, scenario_rows}
+use Rattle.scenario.specs.Fitting.{all_fit}
+use Rattle.scenario.specs.FilesToScenario.{NetworkRows, ScheduleRows, leg_checks_in, town_of, persons_on, schedule_rows_of, signals_on, planned_of, filled_in, scenario_of, on_network, network_rows_of, persons_fault, plans_cross_fault, scenario_fault, scenario_rows}
 use Rattle.router.proofs.Graphs.{network_within}
 use Rattle.scenario.proofs.Filled.{filled_sound, filled_kept}
 use Rattle.scenario.proofs.RowByRow.{same_crossing}
 use Rattle.scenario.specs.Towns.{IsSchedule}
 use Rattle.scenario.proofs.Told.{bytes_free}
+use Rattle.scenario.proofs.Free.{free_files}
 use Rattle.scenario.proofs.FreeSchedules.{schedule_free}
 use Rattle.scenario.proofs.Settling.{plans_fit}
 use Rattle.scenario.proofs.There.{are_there}
-use Rattle.law_valid_files.specs.Valid.{IsScenario, AreChosenIn, AreOwnPlans}
+use Rattle.law_valid_files.specs.Valid.{IsScenario, IsFirst}
 use Rattle.law_valid_files.proofs.NetworkRows.{AreNetworkRows, network_free}
-use Rattle.law_valid_files.proofs.Numbers.{settings_free}
-use Rattle.law_valid_files.proofs.Persons.{all_in_town, firsts_in}
+use Rattle.law_valid_files.proofs.Numbers.{AreSound, settings_free}
+use Rattle.law_valid_files.proofs.Persons.{all_in_town, each_memory, each_first}
 
 -- THE TOWN
 town_is : (v : Values) (network : NetworkRows) (persons kinds : List (List ℕ)) (t : ScheduleRows) (greens : List Phases) → AreInRange v.traffic → AreNetworkRows network → IsSchedule (length network.link_names) (ends_of network.links) t → length persons ≤ 65536
@@ -79,53 +77,51 @@ all_there P links ends t s = record {
 }
 
 -- plans whose routes are filled
-planned_is : (v : Values) (network : NetworkRows) (P : PlanFileRows) (t : ScheduleRows) (greens : List Phases) (scoring : ScoringValues) → AreInRange v.traffic → AreNetworkRows network → AreFreePlans network.link_names (ends_of network.links) P → IsSchedule (length network.link_names) (ends_of network.links) t
-    → length greens ≡ length network.links → plans_cross_fault P t ≡ None → IsScenario (scored_by (planned_of v network P t greens) scoring)
+planned_is : (v : FileValues) (network : NetworkRows) (P : PlanFileRows) (t : ScheduleRows) (greens : List Phases) → AreSound v.day → AreNetworkRows network → AreFreePlans network.link_names (ends_of network.links) P
+    → IsSchedule (length network.link_names) (ends_of network.links) t → length greens ≡ length network.links → plans_cross_fault P t ≡ None
+    → IsScenario (scenario_of v (planned_of v.day network P t greens))
 unfolding planned_of
-planned_is v network P t greens scoring settings r p s each_green free =
-    let T = town_of v network P.persons P.kinds t greens in
+planned_is v network P t greens settings r p s each_green free =
+    let T = town_of v.day network P.persons P.kinds t greens in
     let N = (leg_checks_in P t).numbers in
-    let fit : all_fit T (map (map (plan_in_town N)) P.plans) ≡ true = plans_fit v network P t greens (all_there P (length network.link_names) (ends_of network.links) t s) r.each_link p.sound p.plans free in
+    let plans = map (map (plan_in_town N)) P.plans in
+    let memories = map first_memory plans in
+    let fit : all_fit T plans ≡ true = plans_fit v.day network P t greens (all_there P (length network.link_names) (ends_of network.links) t s) r.each_link p.sound p.plans free in
+    let all = all_in_town T N P.plans p.plans fit in
     record {
-      town = town_is v network P.persons P.kinds t greens settings r s p.sound.few each_green;
-      each_node = r.each_node ∙ nodes_are v network P.persons P.kinds t greens;
-      each = length-map P.plans (map (plan_in_town N)) ∙ p.sound.each ∙ persons_named v network P.persons P.kinds t greens;
-      plans = All-from_recursion (AreOwnPlans T) (map (map (plan_in_town N)) P.plans) (all_in_town T N P.plans p.plans fit);
+      town = town_is v.day network P.persons P.kinds t greens settings.traffic r s p.sound.few each_green;
+      each_node = r.each_node ∙ nodes_are v.day network P.persons P.kinds t greens;
+      each = length-map plans first_memory ∙ length-map P.plans (map (plan_in_town N)) ∙ p.sound.each ∙ persons_named v.day network P.persons P.kinds t greens;
+      memories = All-from_recursion (IsMemoryIn T) memories (each_memory T memories all);
+      first = All-from_recursion IsFirst memories (each_first T memories all);
+      learning = settings.learning;
+      few_iterations = settings.few_iterations;
     }
 
 -- plans as they were read
-scenario_is : (v : Values) (network : NetworkRows) (P : PlanFileRows) (t : ScheduleRows) (greens : List Phases) (scoring : ScoringValues) → AreInRange v.traffic → AreNetworkRows network → AreFreePlans network.link_names (ends_of network.links) P → IsSchedule (length network.link_names) (ends_of network.links) t
-    → length greens ≡ length network.links → plans_cross_fault (filled_in network P) t ≡ None
-    → IsScenario (scored_by (planned_of v network (filled_in network P) t greens) scoring)
-scenario_is v network P t greens scoring settings r p s each_green free =
+scenario_is : (v : FileValues) (network : NetworkRows) (P : PlanFileRows) (t : ScheduleRows) (greens : List Phases) → AreSound v.day → AreNetworkRows network → AreFreePlans network.link_names (ends_of network.links) P
+    → IsSchedule (length network.link_names) (ends_of network.links) t → length greens ≡ length network.links → plans_cross_fault (filled_in network P) t ≡ None
+    → IsScenario (scenario_of v (planned_of v.day network (filled_in network P) t greens))
+scenario_is v network P t greens settings r p s each_green free =
     let inside = network_within (length network.nodes) network.links r.links in
-    planned_is v network (filled_in network P) t greens scoring settings r (record {
+    planned_is v network (filled_in network P) t greens settings r (record {
       sound = filled_sound network inside P r.each_link p.sound;
       plans = filled_kept network inside P r.each_link p.sound p.plans;
     }) s each_green free
 
 -- ALL FILES
 pub scenario_valid : (texts : Texts) → scenario_fault texts ≡ None → IsScenario (scenario_rows texts)
-unfolding scenario_fault network_fault on_network_fault scenario_rows on_network persons_fault signals_on
+unfolding scenario_rows on_network persons_fault signals_on
 scenario_valid T none =
-    let a = or_none _ _ none in
-    let b = or_none _ _ a.1 in
-    let n = or_none _ _ b.0 in
-    let c = or_none _ _ b.1 in
-    let d = or_none _ _ c.1 in
-    let e = or_none _ _ d.1 in
-    let f = or_none _ _ e.1 in
+    let free = free_files T none in
     let network = network_rows_of T in
     let ends = ends_of network.links in
     let t = schedule_rows_of network.link_names T in
-    let settings = settings_free (bytes_in T file.Settings) (no_reason 0 _ (bytes_free T file.Settings (λ bytes. fault_at 0 (settings_fault bytes)) a.0)) in
-    let r = network_free T (bytes_free T file.Links (links_fault (node_names (bytes_in T file.Nodes))) n.1) in
-    let p = plans_free network.link_names ends (bytes_in T file.Plans) (bytes_free T file.Plans (plans_fault network.link_names ends) c.0) in
-    let s = schedule_free network.link_names ends T d.0 in
-    scenario_is (settings_of (bytes_in T file.Settings)) network (persons_on network T) t (signals_on network.link_names T).greens (scoring_values (bytes_in T file.Settings)) settings r p s
-    (greens_length network.link_names (body_of (bytes_in T file.Signals)) ∙ r.each_link) (same_crossing network T t (network_within (length network.nodes) network.links r.links) r.each_link c.0 ∙ f.0)
-
-pub chosen_valid : (S : ScenarioRows) → IsScenario S → AreChosenIn S.town (first_plans S.plans)
-chosen_valid S valid =
-    let firsts = firsts_in S.town S.plans (recursion_from_All (AreOwnPlans S.town) S.plans valid.plans) in
-    record { each = firsts.0 ∙ valid.each; plans = All-from_recursion (IsPlanIn S.town) (first_plans S.plans) firsts.1 }
+    let settings = settings_free (bytes_in T file.Settings) (no_reason 0 _ (bytes_free T file.Settings (λ bytes. fault_at 0 (settings_fault bytes)) free.settings)) in
+    let r = network_free T (bytes_free T file.Links (links_fault (node_names (bytes_in T file.Nodes))) free.links) in
+    let inside = network_within (length network.nodes) network.links r.links in
+    let p = plans_free network.link_names ends (bytes_in T file.Plans) (bytes_free T file.Plans (plans_fault network.link_names ends) free.others.persons) in
+    let s = schedule_free network.link_names ends T free.others.schedule in
+    let each_green = greens_length network.link_names (body_of (bytes_in T file.Signals)) ∙ r.each_link in
+    scenario_is (file_of (bytes_in T file.Settings)) network (persons_on network T) t (signals_on network.link_names T).greens settings r p s each_green
+    (same_crossing network T t inside r.each_link free.others.persons ∙ free.others.legs)

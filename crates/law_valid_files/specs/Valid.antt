@@ -1,25 +1,25 @@
 -- What files without a fault give.
-use Rattle.std.specs.Prelude.{◌≡◌, ◌≤◌, List, length, All}
+use Rattle.std.specs.Prelude.{◌≡◌, ◌≤◌, length, All}
+use Rattle.learning.specs.declared.TheConstants.{LAST_ITERATION}
+use Rattle.learning.specs.Ranges.{AreInRange}
 use Rattle.limits.specs.declared.TheConstants.{MAX_PLANS}
-use Rattle.rows.specs.PlanRows.{PlanRows}
-use Rattle.town.specs.Rows.{TownRows, IsTown}
-use Rattle.law_in_range.specs.Setups.{IsPlanIn}
+use Rattle.plan_memory.specs.Memories.{MemoryRows, first_memory}
+use Rattle.town.specs.Rows.{IsTown}
+use Rattle.law_replanning.specs.Memories.{IsMemoryIn}
 use Rattle.scenario.specs.FilesToScenario.{ScenarioRows}
 
--- a person's plans: one to five, of each of which a day of the town can be made
-pub record AreOwnPlans (T : TownRows) (own : List PlanRows) : Type 0 where
-  pub some : 1 ≤ length own
-  pub few : length own ≤ MAX_PLANS
-  pub plans : All (IsPlanIn T) own
+-- what a person remembers at first: at most five plans, none of which has a score, and the first one is chosen
+pub record IsFirst (m : MemoryRows) : Type 0 where
+  pub few : length m.plans ≤ MAX_PLANS
+  pub untried : m ≡ first_memory m.plans
 
--- every row of the town names rows that are there, within the limits; each node has a name, and each person has plans
+-- every row of the town names rows that are there, within the limits; each node has a name; each person remembers plans of each of which a
+-- day of the town can be made; and the settings of replanning are in their ranges
 pub record IsScenario (S : ScenarioRows) : Type 0 where
   pub town : IsTown S.town
   pub each_node : length S.node_names ≡ length S.town.nodes
-  pub each : length S.plans ≡ length S.town.book.persons
-  pub plans : All (AreOwnPlans S.town) S.plans
-
--- one plan for each person of the town, of each of which a day of it can be made
-pub record AreChosenIn (T : TownRows) (chosen : List PlanRows) : Type 0 where
-  pub each : length chosen ≡ length T.book.persons
-  pub plans : All (IsPlanIn T) chosen
+  pub each : length S.memories ≡ length S.town.book.persons
+  pub memories : All (IsMemoryIn S.town) S.memories
+  pub first : All IsFirst S.memories
+  pub learning : AreInRange S.learning
+  pub few_iterations : S.last_iteration ≤ LAST_ITERATION

@@ -1,19 +1,16 @@
-//! Laws of files: where the files of a scenario have no fault, they give a town within its limits, and each of its persons
-//! has one plan to five, of each of which a day of the town can be made.
+//! Laws of files: where the files of a scenario have no fault, they give a town within its limits, whose persons remember one to five
+//! plans each, of each of which a day of the town can be made, and settings of replanning in their ranges.
 #![tactic(auto)]
 
 ghost use Rattle.std.specs.Prelude.{◌≡◌, None, All};
 ghost use Rattle.scenario.specs.Texts.{Texts};
 ghost use Rattle.scenario.specs.FilesToScenario.{scenario_fault, scenario_rows, conflicts_in};
-ghost use Rattle.scenario.specs.Fitting.{first_plans};
-ghost use Rattle.law_valid_files.specs.Valid.{IsScenario, AreChosenIn};
+ghost use Rattle.law_valid_files.specs.Valid.{IsScenario};
 ghost use Rattle.signals.specs.Signals.{AreNeverGreen};
 
-/// Files without a fault give a town, and plans of which its days can be made: so of the first plan of each person.
-pub fn files_give_towns()
-    ensures scenario { (texts : Texts) → scenario_fault texts ≡ None → IsScenario (scenario_rows texts) }
-    ensures chosen { (texts : Texts) → scenario_fault texts ≡ None
-        → AreChosenIn (scenario_rows texts).town (first_plans (scenario_rows texts).plans) }
+/// Files without a fault give a scenario of which a run can be made, whatever its settings of replanning are.
+pub fn files_give_scenarios()
+    ensures { (texts : Texts) → scenario_fault texts ≡ None → IsScenario (scenario_rows texts) }
 {}
 
 /// The two links of a conflict in files without a fault are never green in one second, also after the end of the day.

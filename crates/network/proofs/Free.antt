@@ -10,7 +10,7 @@ use Rattle.records.proofs.Unrefused.{none_applies, values_pass, few_rows, number
 use Rattle.limits.specs.declared.TheConstants.{MAX_CAPACITY, MAX_LANES, MAX_LENGTH, MAX_LINKS, MAX_NODES, MAX_SPEED}
 use Rattle.rows.specs.declared.network.NodeRow.{NodeRow}
 use Rattle.rows.specs.declared.network.LinkRow.{LinkRow}
-use Rattle.network.specs.Limits.{is_link, are_measures}
+use Rattle.rows.specs.Networks.{is_link, are_measures}
 use Rattle.network.specs.Nodes.{node_header, node_of, node_reason, nodes_fault, has_bad_coordinate}
 use Rattle.network.specs.Links.{link_header, link_of, measures_of, has_bad_measure, link_reason, links_fault, length_in, speed_in, capacity_in, lanes_in, lacks_name, lacks_node, link_names}
 

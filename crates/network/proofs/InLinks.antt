@@ -8,7 +8,7 @@ use Rattle.std.proofs.lemmas.List.Sums.{sum_by-append}
 use Rattle.records.proofs.Numbering.{numbered_within}
 use Rattle.limits.specs.declared.TheConstants.{MAX_IN_LINKS}
 use Rattle.rows.specs.declared.network.LinkRow.{LinkRow}
-use Rattle.network.specs.Limits.{in_links}
+use Rattle.rows.specs.Networks.{in_links}
 
 -- the number of a node is among those of the nodes
 pub ruleset known_nodes = (numbered_within)

@@ -13,7 +13,7 @@ use Rattle.records.specs.Files.{head_reason, body_of}
 use Rattle.records.specs.Reading.{file_fault}
 use Rattle.rows.specs.declared.network.LinkRow.{LinkRow}
 use Rattle.network.specs.declared.measures.Measures.{Measures}
-use Rattle.network.specs.Limits.{in_links}
+use Rattle.rows.specs.Networks.{in_links}
 
 abbrev pub link_header : List (List ℕ)
 link_header = codes "link" ∷ codes "from" ∷ codes "to" ∷ codes "length" ∷ codes "speed" ∷ codes "capacity" ∷ codes "lanes" ∷ []

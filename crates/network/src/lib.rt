@@ -3,11 +3,9 @@
 
 mod links;
 mod links_read;
-mod lists;
 mod measures;
 mod nodes;
 
 pub use links::read_links;
-pub use lists::Network;
 pub use nodes::read_nodes;
-pub use rows::{LinkList, LinkRow, NodeList, NodeRow};
+pub use rows::{LinkList, LinkRow, Network, NodeList, NodeRow};

@@ -7,7 +7,7 @@ ghost use Rattle.records.specs.Fields.{field, holds_name, column};
 ghost use Rattle.records.specs.Faults.{unless, Answers};
 ghost use Rattle.records.specs.Files.{body_of};
 ghost use Rattle.records.specs.Reading.{body_fault};
-ghost use Rattle.network.specs.Limits.{is_link, in_links};
+ghost use Rattle.rows.specs.Networks.{is_link, in_links};
 ghost use Rattle.network.specs.Links.{link_reason, link_of, has_bad_measure, measures_of, links_fault, link_names};
 
 use crate::links_read::{LinksRead, no_links, with_link};

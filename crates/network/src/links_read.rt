@@ -2,7 +2,7 @@ ghost use Rattle.std.specs.Prelude.{◌≡◌, ◌≤◌, ◌<◌, ◌∷◌, �
 ghost use Rattle.std.specs.Prelude.{slice_index, replicate};
 ghost use Rattle.limits.specs.declared.TheConstants.{MAX_IN_LINKS};
 ghost use Rattle.events.specs.Names.{is_name, with_name};
-ghost use Rattle.network.specs.Limits.{in_links};
+ghost use Rattle.rows.specs.Networks.{in_links};
 
 use events::Names;
 use records::add_row;

@@ -4,8 +4,8 @@ use Rattle.traffic.proofs.Common.{departure_moves, transit_vehicle, departure, D
 use Rattle.traffic.specs.declared.moves.Move.TheVariants.{Enter}
 use Rattle.traffic.specs.declared.world.Row.{Row}
 use Rattle.std.proofs.lemmas.List.{get_or_default}
-use Rattle.schedule.specs.Departures.{is_departure}
-use Rattle.schedule.specs.Routes.{is_route}
+use Rattle.rows.specs.Schedules.{is_departure}
+use Rattle.rows.specs.Schedules.{is_route}
 use Rattle.town.specs.declared.day_input.DayInput.{DayInput}
 use Rattle.town.specs.Setups.{setup_of, departure_of, route_at}
 use Rattle.town.specs.Views.{rows_of, setup}

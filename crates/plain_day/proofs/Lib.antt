@@ -1,3 +1,5 @@
+pub mod Removals
+pub mod Running
 pub mod Numbers
 pub mod Seen
 pub mod Counting

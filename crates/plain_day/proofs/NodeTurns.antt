@@ -13,7 +13,7 @@ use Rattle.std.proofs.lemmas.List.{get_or_default}
 use Rattle.draws.specs.Words.{Source, node_source}
 use Rattle.law_in_range.specs.Rows.{Counts, IsFitWorld}
 use Rattle.law_in_range.specs.Setups.{counts_in}
-use Rattle.network.specs.Limits.{in_links as count_in_links}
+use Rattle.rows.specs.Networks.{in_links as count_in_links}
 use Rattle.town.specs.declared.day_input.DayInput.{DayInput}
 use Rattle.town.specs.Setups.{setup_of}
 use Rattle.town.specs.Views.{setup}

@@ -5,7 +5,7 @@ use Rattle.traffic.proofs.Common.{hole_seconds}
 use Rattle.traffic.specs.declared.numbers.Rules.{Rules}
 use Rattle.std.proofs.lemmas.List.{get_or_default}
 use Rattle.std.proofs.lemmas.List.Folds.{list_all_at}
-use Rattle.network.specs.Limits.{is_link, are_measures}
+use Rattle.rows.specs.Networks.{is_link, are_measures}
 use Rattle.town.specs.declared.day_input.DayInput.{DayInput}
 use Rattle.town.specs.Setups.{setup_of}
 use Rattle.town.specs.Views.{setup}

@@ -1,3 +1,5 @@
+pub mod Worlds
+pub mod Places
 pub mod Fit
 pub mod Measures
 pub mod Views

@@ -17,10 +17,11 @@ ghost use Rattle.events.specs.declared.event.Phase.TheVariants as phase;
 ghost use Rattle.plain_day.specs.Plans.{HaveFittingPlans};
 
 use crate::ends::stranded;
+use crate::keys::push_keyed;
 use crate::phases::do_phase;
+use crate::world::World;
 use events::{Event, Phase};
 use fixed_flow::VEHICLE_COST;
-use plain_world::{World, push_keyed};
 use rows::Plan;
 use std::alloc::{AllocError, Global};
 use town::DayInput;

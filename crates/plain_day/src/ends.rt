@@ -7,9 +7,9 @@ ghost use Rattle.traffic.specs.Persons.{same_vehicle, link_of_vehicle, stuck_at,
 
 use crate::legs::{kind_in, mode_of_kind};
 use crate::waiters::{link_of_stop, person_at};
+use crate::world::World;
 use events::{Mode, More, VehicleId, Word};
 use plain_turns::of_person;
-use plain_world::World;
 use rows::{Act, act_in};
 use town::{DayInput, chosen_plan};
 use traffic::{Occurrence, Place, Row};

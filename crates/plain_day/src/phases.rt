@@ -12,11 +12,13 @@ ghost use Rattle.traffic.specs.Day.{turns_of, count_of, turns_in, after, events_
 ghost use Rattle.plain_day.specs.Plans.{HaveFittingPlans};
 
 use crate::departures::departure_moves;
+use crate::keys::push_keyed;
+use crate::moving::do_moves;
 use crate::persons::{landing_moves, leaving_moves};
 use crate::turns::{link_turn, node_turn};
 use crate::waiters::person_at;
+use crate::world::World;
 use events::{Event, Phase};
-use plain_world::{World, do_moves, push_keyed};
 use std::alloc::{AllocError, Global};
 use town::DayInput;
 use traffic::{Move, Occurrence, Person};

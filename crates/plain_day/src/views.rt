@@ -19,8 +19,9 @@ ghost use Rattle.plain_day.specs.Fit.{stays_on};
 ghost use Rattle.plain_day.specs.Views.{out_link_row, is_in, is_out, is_in_force};
 
 use crate::links::{hole_of, link_row, seconds_of, storage_of};
+use crate::vehicle_rows::is_on;
+use crate::world::World;
 use plain_turns::{LinkVehicles, OutLinkRow};
-use plain_world::{World, is_on};
 use rows::green_in;
 use std::alloc::{AllocError, Global};
 use town::DayInput;

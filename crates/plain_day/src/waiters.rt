@@ -11,7 +11,7 @@ ghost use Rattle.traffic.specs.Persons.{waits, waits_on, waiter, waiters};
 ghost use Rattle.plain_day.specs.Legs.{kind_of, waits_for};
 
 use crate::legs::{LegKind, kind_in};
-use plain_world::World;
+use crate::world::World;
 use rows::{Act, Plan, StopList, act_after, stop_link};
 use std::alloc::{AllocError, Global};
 use town::{DayInput, chosen_plan};

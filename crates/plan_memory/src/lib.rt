@@ -12,7 +12,7 @@ mod scores;
 pub use choices::Choice;
 pub use laws::{worked_scores, worst_and_best_plans_are_there};
 pub use memory::{Memory, MemoryList};
-pub use scores::ScoreList;
+pub use scores::{ScoreList, worst};
 
 /// The most plans that a memory holds: as many as a file has of a person, and a new one.
 pub const MAX_HELD: usize = 6;

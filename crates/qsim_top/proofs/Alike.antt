@@ -1,36 +1,43 @@
--- Files of which each is the same have one answer.
-use Rattle.std.proofs.Common.{◌≡◌, ℕ, List, Option, refl, sym, ◌∙◌, lit<}
-use Rattle.edge_files.specs.declared.files.InFile.TheVariants as file
-use Rattle.scenario.specs.Texts.{Texts}
-use Rattle.scenario.specs.FilesToScenario.{scenario_fault, scenario_rows, network_rows_of, network_fault, persons_fault, schedule_rows_of, schedule_fault, signals_on, signals_file_fault, on_network, on_network_fault}
+-- Files of which each is the same are the same.
+use Rattle.std.specs.Prelude.{IfOk}
+use Rattle.std.proofs.Common.{◌≡◌, ◌<◌, List, length, get_or, Result, Ok, Err, true, refl, sym, ◌∙◌, subst, lit<}
 use Rattle.command_line.specs.declared.commands.Command.{Command}
-use Rattle.qsim_top.specs.declared.answers.Answer.{Answer}
-use Rattle.qsim_top.specs.Answer.{answer}
-use Rattle.qsim_top.specs.Contents.{AreAlike}
+use Rattle.command_line.specs.declared.commands.Command.TheVariants as command
+use Rattle.edge_files.specs.Inputs.{Left}
+use Rattle.edge_files.specs.declared.files.InFile.{InFile}
+use Rattle.edge_files.specs.declared.files.InFile.TheVariants as file
+use Rattle.edge_files.specs.Files.{in_place}
+use Rattle.scenario.specs.declared.files.TheConstants.{SCENARIO_FILES}
+use Rattle.scenario.specs.Texts.{Texts}
+use Rattle.scenario.specs.Views.{texts_of}
+use Rattle.scenario.specs.declared.files.Files.{Files}
+use Rattle.qsim_top.specs.Came.{AreRead, HasFiles, reads_files}
+use Rattle.qsim_top.specs.Contents.{Contents, AreLeft, AreAlike, texts_in}
 
-abbrev texts : (s n l p st r d g : Option (List ℕ)) → Texts
-texts s n l p st r d g file.Settings = s
-texts s n l p st r d g file.Nodes = n
-texts s n l p st r d g file.Links = l
-texts s n l p st r d g file.Plans = p
-texts s n l p st r d g file.Stops = st
-texts s n l p st r d g file.Routes = r
-texts s n l p st r d g file.Departures = d
-texts s n l p st r d g file.Signals = g
+-- each file is among those of a scenario, at its place
+pub there : (f : InFile) → (in_place f < length SCENARIO_FILES) × (get_or SCENARIO_FILES (in_place f) f ≡ f)
+there file.Settings = (lit< tt, refl)
+there _ = (lit< tt, refl)
 
--- they are all that count
-these_count : (c : Command) (T : Texts) → answer c T ≡ answer c (texts (T file.Settings) (T file.Nodes) (T file.Links) (T file.Plans) (T file.Stops) (T file.Routes) (T file.Departures) (T file.Signals))
-unfolding answer scenario_fault scenario_rows network_rows_of network_fault persons_fault schedule_rows_of schedule_fault signals_on signals_file_fault on_network on_network_fault
-these_count c T = refl
+pub alike_texts : (a b : Texts) → AreAlike a b → a ≡ b
+alike_texts a b alike = λ i f. each f i
+  where
+    each : (f : InFile) → a f ≡ b f
+    each f = subst (λ (g : InFile). a g ≡ b g) (there f).1 (alike (in_place f) f (there f).0)
 
-pub answer_of_alike : (c : Command) (a b : Texts) (told : Answer) → told ≡ answer c a → AreAlike a b → told ≡ answer c b
-answer_of_alike c a b told e alike =
-    let at_settings : a file.Settings ≡ b file.Settings = alike 0 file.Settings (lit< tt) in
-    let at_nodes : a file.Nodes ≡ b file.Nodes = alike 1 file.Settings (lit< tt) in
-    let at_links : a file.Links ≡ b file.Links = alike 2 file.Settings (lit< tt) in
-    let at_plans : a file.Plans ≡ b file.Plans = alike 3 file.Settings (lit< tt) in
-    let at_stops : a file.Stops ≡ b file.Stops = alike 4 file.Settings (lit< tt) in
-    let at_routes : a file.Routes ≡ b file.Routes = alike 5 file.Settings (lit< tt) in
-    let at_departures : a file.Departures ≡ b file.Departures = alike 6 file.Settings (lit< tt) in
-    let at_signals : a file.Signals ≡ b file.Signals = alike 7 file.Settings (lit< tt) in
-    e ∙ these_count c a ∙ (λ i. answer c (texts (at_settings i) (at_nodes i) (at_links i) (at_plans i) (at_stops i) (at_routes i) (at_departures i) (at_signals i))) ∙ sym (these_count c b)
+-- a command that makes no files has those that are read
+read_has : (c : Command) (left : Left) (texts : Texts) → reads_files c ≡ true → HasFiles c left texts → AreRead left texts
+read_has command.Run left texts reads has = has
+read_has command.Check left texts reads has = has
+read_has (command.Route from to second) left texts reads has = has
+read_has (command.Generate size seed last_iteration) left texts reads has = absurd (cc)
+
+alike_read : (files : Files) (left : Left) (texts : Texts)
+    → ((contents : Contents) → AreLeft left contents → AreAlike (texts_of files) (texts_in contents)) → AreRead left texts → texts_of files ≡ texts
+alike_read files left texts read (contents, told, same) = alike_texts (texts_of files) (texts_in contents) (read contents told) ∙ sym same
+
+pub files_read : {E : Type 0} (r : Result Files E) (c : Command) (left : Left) → reads_files c ≡ true
+    → IfOk r (λ files. (contents : Contents) → AreLeft left contents → AreAlike (texts_of files) (texts_in contents))
+    → IfOk r (λ files. (texts : Texts) → HasFiles c left texts → texts_of files ≡ texts)
+files_read (Ok files) c left reads read = λ texts has. alike_read files left texts read (read_has c left texts reads has)
+files_read (Err e) c left reads read = tt

@@ -28,32 +28,56 @@ placed k d less = let at = place_at SCENARIO_FILES 0 k d less refl in omega arit
 others : (a b : InFile) (n k : ℕ) → in_place a ≡ n → in_place b ≡ k → (n ≡ k → ⊥) → a ≢ b
 others a b n k at_a at_b differ same = differ (sym at_a ∙ ap in_place same ∙ at_b)
 
+-- the first n files are these
+pub record PutTo (texts wanted : Texts) (n : ℕ) : Type 0 where
+  pub put : (k : ℕ) (d : InFile) → k < n → texts (get_or SCENARIO_FILES k d) ≡ wanted (get_or SCENARIO_FILES k d)
+
+pub put_none : (texts wanted : Texts) → PutTo texts wanted 0
+put_none texts wanted = record { put = λ k d less. absurd (omega arith) }
+
+here : (n k : ℕ) (e d file : InFile) → n < length SCENARIO_FILES → file ≡ get_or SCENARIO_FILES n e → k ≡ n → get_or SCENARIO_FILES k d ≡ file
+here n k e d file less is same = ap (λ (m : ℕ). get_or SCENARIO_FILES m d) same ∙ get_or_default SCENARIO_FILES n d e less ∙ sym is
+
+-- one more file
+pub put_more : (texts more wanted : Texts) (n : ℕ) (e file : InFile) → PutTo texts wanted n → n < length SCENARIO_FILES → file ≡ get_or SCENARIO_FILES n e
+    → more file ≡ wanted file → ((other : InFile) → other ≢ file → more other ≡ texts other) → PutTo more wanted (n + 1)
+put_more texts more wanted n e file so_far less is put kept =
+    let place : in_place file ≡ n = ap in_place is ∙ placed n e less in
+    record {
+      put = λ k d within. elim (cases_lt k n) [
+        | inl earlier ↦ kept (get_or SCENARIO_FILES k d) (others (get_or SCENARIO_FILES k d) file k n (placed k d (omega arith)) place (λ same. omega arith))
+            ∙ so_far.put k d earlier
+        | inr last ↦
+            let same : k ≡ n = omega arith in
+            ap more (here n k e d file less is same) ∙ put ∙ ap wanted (sym (here n k e d file less is same))
+      ];
+    }
+
+-- all files are these
+pub put_all : (texts wanted : Texts) (n : ℕ) → PutTo texts wanted n → length SCENARIO_FILES ≤ n → AreAlike texts wanted
+put_all texts wanted n so_far all = λ k d less. so_far.put k d (omega arith)
+
 -- the first n files were read, and of the others as much is left as at first
 pub record ReadTo (before now : Left) (texts : Texts) (n : ℕ) : Type 0 where
-  pub read : (contents : Contents) → AreLeft before contents → (k : ℕ) (d : InFile) → k < n → texts (get_or SCENARIO_FILES k d) ≡ texts_in contents (get_or SCENARIO_FILES k d)
+  pub read : (contents : Contents) → AreLeft before contents → PutTo texts (texts_in contents) n
   pub left : (k : ℕ) (d : InFile) → n ≤ k → k < length SCENARIO_FILES → now (get_or SCENARIO_FILES k d) ≡ before (get_or SCENARIO_FILES k d)
 
 pub read_none : (before : Left) (texts : Texts) → ReadTo before before texts 0
-read_none before texts = record { read = λ contents left k d less. absurd (omega arith); left = λ k d more less. refl }
+read_none before texts = record { read = λ contents left. put_none texts (texts_in contents); left = λ k d more less. refl }
 
 -- one more file
 pub read_more : (before now after : Left) (texts more : Texts) (n : ℕ) (e file : InFile) (text : Option (List ℕ)) → ReadTo before now texts n → n < length SCENARIO_FILES → file ≡ get_or SCENARIO_FILES n e
     → ((bytes : List ℕ) → now file ≡ Some bytes → text ≡ text_of bytes) → OthersStay now after file → more file ≡ text → ((other : InFile) → other ≢ file → more other ≡ texts other) → ReadTo before after more (n + 1)
 read_more before now after texts more n e file text so_far less is given stay put kept =
     let place : in_place file ≡ n = ap in_place is ∙ placed n e less in
-    let here : (k : ℕ) (d : InFile) → k ≡ n → get_or SCENARIO_FILES k d ≡ file = λ k d same. ap (λ (m : ℕ). get_or SCENARIO_FILES m d) same ∙ get_or_default SCENARIO_FILES n d e less ∙ sym is in
     record {
-      read = λ contents left k d within. elim (cases_lt k n) [
-        | inl earlier ↦ kept (get_or SCENARIO_FILES k d) (others (get_or SCENARIO_FILES k d) file k n (placed k d (omega arith)) place (λ same. omega arith)) ∙ so_far.read contents left k d earlier
-        | inr last ↦
-            let same : k ≡ n = omega arith in
-            let told : now file ≡ Some (contents file) = ap now is ∙ so_far.left n e (omega arith) less ∙ left n e less ∙ ap (λ (f : InFile). Some (contents f)) (sym is) in
-            ap more (here k d same) ∙ put ∙ given (contents file) told ∙ ap (texts_in contents) (sym (here k d same))
-      ];
+      read = λ contents left.
+          let told : now file ≡ Some (contents file) = ap now is ∙ so_far.left n e (omega arith) less ∙ left n e less ∙ ap (λ (f : InFile). Some (contents f)) (sym is) in
+          put_more texts more (texts_in contents) n e file (so_far.read contents left) less is (put ∙ given (contents file) told) kept;
       left = λ k d later within.
           stay (get_or SCENARIO_FILES k d) (others (get_or SCENARIO_FILES k d) file k n (placed k d within) place (λ same. omega arith)) ∙ so_far.left k d (omega arith) within;
     }
 
 -- all files were read
 pub read_all : (before now : Left) (texts : Texts) (n : ℕ) → ReadTo before now texts n → length SCENARIO_FILES ≤ n → (contents : Contents) → AreLeft before contents → AreAlike texts (texts_in contents)
-read_all before now texts n read all contents left = λ k d less. read.read contents left k d (omega arith)
+read_all before now texts n read all contents left = put_all texts (texts_in contents) n (read.read contents left) all

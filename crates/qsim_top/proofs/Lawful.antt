@@ -1,5 +1,5 @@
--- Every day is lawful, and that of files without a fault follows the plans.
-use Rattle.scenario.proofs.Common.{scenario_fault, scenario_rows, ScenarioRows, first_plans, Texts}
+-- Every day is lawful, and those of files without a fault follow the plans.
+use Rattle.scenario.proofs.Common.{scenario_fault, scenario_rows, ScenarioRows, Texts}
 use Rattle.traffic.proofs.Common.{◌≡◌, ℕ, List, ◌∙◌, length, refl, sym, ◌<◌, subst, All-from_recursion, None, PlanRows, world_at, turns_of}
 use Rattle.traffic.proofs.Common.{Setup, day}
 use Rattle.traffic.specs.declared.stage.Stage.TheVariants.{Buffer}
@@ -10,23 +10,31 @@ use Rattle.law_capacity.proofs.Queues.{day_storage}
 use Rattle.law_capacity.proofs.Elsewhere.{in_time, no_buffer}
 use Rattle.law_capacity.proofs.Flow.{day_flow}
 use Rattle.law_signals.proofs.Days.{day_keeps, never_together}
-use Rattle.law_trips.proofs.InTime.{day_until}
+use Rattle.law_matches_plans.proofs.InTime.{day_until}
 use Rattle.law_sound_setups.proofs.Laws.{day_sound}
 use Rattle.law_matches_plans.proofs.Towns.{persons_are, rows_sound, rows_told}
 use Rattle.law_matches_plans.proofs.ScoredTowns.{rows_scored}
-use Rattle.town.specs.Rows.{TownRows}
+use Rattle.town.specs.Rows.{TownRows, IsTown}
 use Rattle.town.specs.Setups.{setup_of}
+use Rattle.law_in_range.specs.Setups.{IsPlanIn}
+use Rattle.law_replanning.specs.Memories.{IsMemoryIn}
+use Rattle.plan_memory.specs.Memories.{MemoryRows}
+use Rattle.iterations.specs.Runs.{RunRows}
+use Rattle.iterations.specs.Acts.{memories_at}
+use Rattle.iterations.specs.Days.{followed_plans, day_in}
+use Rattle.iterations.proofs.Staying.{always_in, followed_in, always_count, followed_count}
 use Rattle.law_valid_files.specs.Valid.{IsScenario}
 use Rattle.signals.specs.Signals.{AreNeverGreen}
-use Rattle.law_valid_files.proofs.Valid.{scenario_valid, chosen_valid}
+use Rattle.law_valid_files.proofs.Valid.{scenario_valid}
 use Rattle.law_valid_files.proofs.Conflicts.{conflicts_kept}
 use Rattle.day_scores.specs.Standing.{AreScored}
 use Rattle.std.proofs.lemmas.List.Elements.{All-weaker}
+use Rattle.std.specs.Prelude.{All}
 use Rattle.signals.specs.declared.conflict.Conflict.{Conflict}
 use Rattle.scenario.specs.FilesToScenario.{conflicts_in}
 use Rattle.law_signals.specs.Signals.{NeverTogether}
-use Rattle.qsim_top.specs.Answer.{first_day}
-use Rattle.qsim_top.specs.Laws.{IsLawful, FollowsPlans, KeepsConflicts}
+use Rattle.qsim_top.specs.Answer.{run_rows_of}
+use Rattle.qsim_top.specs.Laws.{day_of, IsLawful, FollowsPlans, KeepsConflicts}
 
 pub lawful : (S : Setup) → IsLawful S
 lawful S = record {
@@ -40,24 +48,36 @@ lawful S = record {
   in_time = day_until S;
 }
 
-follows : (S : ScenarioRows) → IsScenario S → FollowsPlans S
-follows S valid =
-    let chosen = chosen_valid S valid in
-    let plans = first_plans S.plans in
+-- the day of an iteration on which as many persons as the town has follow plans of the town
+pub follows : (R : RunRows) (k : ℕ) (memories : List MemoryRows) → IsTown R.town → length memories ≡ length R.town.book.persons
+    → All (IsMemoryIn R.town) memories → FollowsPlans R.town (day_in R k memories)
+follows R k memories town each all =
+    let plans : List PlanRows = followed_plans memories in
+    let fit : All (IsPlanIn R.town) plans = followed_in R.town memories all in
+    let S : Setup = setup_of R.town plans k in
+    let persons : length S.persons ≡ length plans = persons_are R.town plans k in
     record {
-      everybody = persons_are S.town plans 0 ∙ chosen.each;
-      sound = λ t. day_sound (first_day S) t (rows_sound S.town plans 0 valid.town chosen.plans);
-      told = λ i less. rows_told S.town plans 0 i valid.town chosen.plans (subst (λ (n : ℕ). i < n) (persons_are S.town plans 0) less);
-      scored = subst (λ (n : ℕ). AreScored n (day (first_day S))) (sym (persons_are S.town plans 0)) (λ i less. rows_scored S.town plans 0 i valid.town chosen.plans less);
+      everybody = persons ∙ followed_count memories ∙ each;
+      sound = λ t. day_sound S t (rows_sound R.town plans k town fit);
+      told = λ i less. rows_told R.town plans k i town fit (subst (λ (n : ℕ). i < n) persons less);
+      scored = subst (λ (n : ℕ). AreScored n (day S)) (sym persons) (λ i less. rows_scored R.town plans k i town fit less);
     }
 
-pub files_follow : (texts : Texts) → scenario_fault texts ≡ None → FollowsPlans (scenario_rows texts)
-files_follow texts none = follows (scenario_rows texts) (scenario_valid texts none)
+-- the same of every iteration of a valid scenario
+scenario_follows : (S : ScenarioRows) (k : ℕ) → IsScenario S → FollowsPlans S.town (day_of S k)
+scenario_follows S k valid =
+    let R : RunRows = run_rows_of S in
+    follows R k (memories_at R S.memories k) valid.town (always_count R S.memories k ∙ valid.each)
+    (always_in R valid.town valid.learning S.memories valid.memories k)
+
+pub files_follow : (texts : Texts) (k : ℕ) → scenario_fault texts ≡ None
+    → FollowsPlans (scenario_rows texts).town (day_of (scenario_rows texts) k)
+files_follow texts k none = scenario_follows (scenario_rows texts) k (scenario_valid texts none)
 
 -- the links of a conflict are never green together, so no vehicles leave them in one second
-pub files_keep : (texts : Texts) → scenario_fault texts ≡ None → KeepsConflicts texts (first_day (scenario_rows texts))
+pub files_keep : (texts : Texts) (k : ℕ) → scenario_fault texts ≡ None → KeepsConflicts texts (day_of (scenario_rows texts) k)
 unfolding setup_of
-files_keep texts none =
-    let S = first_day (scenario_rows texts) in
+files_keep texts k none =
+    let S = day_of (scenario_rows texts) k in
     All-weaker (AreNeverGreen (scenario_rows texts).town.greens) (λ (conflict : Conflict). NeverTogether S conflict.first conflict.second)
     (λ conflict kept. never_together S conflict.first conflict.second kept) (conflicts_in texts) (conflicts_kept texts none)

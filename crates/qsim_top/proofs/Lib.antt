@@ -1,9 +1,8 @@
 pub mod Reports
-pub mod InTurn
-pub mod Named
-pub mod ScoredDays
-pub mod Answered
+pub mod Ending
 pub mod Worked
+pub mod Grids
+pub mod InTurn
 pub mod Alike
 mod Lawful
 mod Routed

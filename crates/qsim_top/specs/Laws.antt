@@ -1,4 +1,4 @@
--- What holds of every day of a scenario.
+-- What holds of the day of every iteration of a scenario.
 use Rattle.std.specs.Prelude.{◌≡◌, ◌≢◌, ◌↔◌, ◌<◌, ◌≤◌, ℕ, List, ◌∷◌, ◌++◌, length, All}
 use Rattle.events.specs.declared.event.Event.{Event}
 use Rattle.events.specs.declared.event.Phase.{Phase}
@@ -18,10 +18,16 @@ use Rattle.scenario.specs.Texts.{Texts}
 use Rattle.scenario.specs.FilesToScenario.{ScenarioRows, conflicts_in}
 use Rattle.signals.specs.declared.conflict.Conflict.{Conflict}
 use Rattle.day_scores.specs.Standing.{AreScored}
-use Rattle.command_line.specs.declared.commands.Command.TheVariants as command
 use Rattle.route_report.specs.Reported.{NoWay, IsReport}
 use Rattle.qsim_top.specs.declared.answers.Status.TheVariants as status
-use Rattle.qsim_top.specs.Answer.{first_day, road_map, report, work}
+use Rattle.town.specs.Rows.{TownRows}
+use Rattle.iterations.specs.Acts.{memories_at}
+use Rattle.iterations.specs.Days.{day_in}
+use Rattle.qsim_top.specs.Answer.{run_rows_of, road_map, report, route_answer}
+
+-- the setup of the day of an iteration, on which each person follows the plan that he has chosen by then
+abbrev pub day_of : ScenarioRows → ℕ → Setup
+day_of scenario k = day_in (run_rows_of scenario) k (memories_at (run_rows_of scenario) scenario.memories k)
 
 -- The laws of a day: in every second each person is in exactly one place; no queue has more rows that were not pushed in than its storage;
 -- at the moment when a vehicle enters a queue there is room, or it is stuck and is pushed in; no more vehicles pass than the flow allows, and
@@ -38,14 +44,14 @@ pub record IsLawful (S : Setup) : Type 0 where
   pub order : Ascends (day S)
   pub in_time : All (λ (e : Event). e.key.second ≤ S.settings.end_second) (day S)
 
--- The laws of the day of a scenario of which each plan fits the town: it has each person that the town names; in every second each person and
--- each vehicle fits the plans and the timetable that it comes from; what is told of a person comes as his plan has it, in at most eight
--- events for each leg; and so the events of each can be scored one after the other.
-pub record FollowsPlans (scenario : ScenarioRows) : Type 0 where
-  pub everybody : length (first_day scenario).persons ≡ length scenario.town.book.persons
-  pub sound : (t : ℕ) → Sound (first_day scenario) (world_at (first_day scenario) t)
-  pub told : (i : ℕ) → i < length (first_day scenario).persons → IsToldAsPlanned (first_day scenario) i
-  pub scored : AreScored (length (first_day scenario).persons) (day (first_day scenario))
+-- The laws of a day in a town of which each plan that is followed fits the town: it has each person that the town names; in every second each
+-- person and each vehicle fits the plans and the timetable that it comes from; what is told of a person comes as his plan has it, in at most
+-- eight events for each leg; and so the events of each can be scored one after the other.
+pub record FollowsPlans (town : TownRows) (S : Setup) : Type 0 where
+  pub everybody : length S.persons ≡ length town.book.persons
+  pub sound : (t : ℕ) → Sound S (world_at S t)
+  pub told : (i : ℕ) → i < length S.persons → IsToldAsPlanned S i
+  pub scored : AreScored (length S.persons) (day S)
 
 -- in no second of the day do vehicles leave both links of a conflict of signals.csv
 abbrev pub KeepsConflicts : Texts → Setup → Type 0
@@ -56,6 +62,6 @@ KeepsConflicts texts S = All (λ (conflict : Conflict). NeverTogether S conflict
 -- at all nodes.
 pub record ReportsRoutes (scenario : ScenarioRows) : Type 0 where
   pub no_way : (from to : List ℕ) (second : ℕ)
-      → ((work (command.Route from to second) scenario).status ≡ status.NoWay) ↔ NoWay (road_map scenario) from to
-  pub least : (from to : List ℕ) (second : ℕ) (text : List ℕ) → work (command.Route from to second) scenario ≡ report status.Done text
+      → ((route_answer from to second scenario).status ≡ status.NoWay) ↔ NoWay (road_map scenario) from to
+  pub least : (from to : List ℕ) (second : ℕ) (text : List ℕ) → route_answer from to second scenario ≡ report status.Done text
       → IsReport (road_map scenario) from to second text

@@ -1,5 +1,6 @@
 pub mod Contents
 pub mod Texts
 pub mod Answer
-pub mod ScoredDays
+pub mod Came
+pub mod Reading
 pub mod Laws

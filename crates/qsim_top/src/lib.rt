@@ -2,16 +2,18 @@
 //!
 //! What it does is one definition, `answer` in specs/: a status and a list of effects outside. Its
 //! contract says that exactly these effects were done, or a front of their steps, and what holds of
-//! every day that it runs.
+//! the day of every iteration. The effects of a run are done as they are made, and are never there as a list.
 #![tactic(auto)]
 
 mod answers;
 mod laws;
+mod outcomes;
 mod reading;
-mod runs;
-mod scored_days;
+mod reporting;
+mod running;
 mod texts;
 mod top;
+mod working;
 
 pub use answers::Status;
 pub use top::qsim;

@@ -1,97 +1,11 @@
-ghost use Rattle.std.specs.Prelude.{◌≡◌, ◌≤◌, ◌++◌, codes, decimal, length, IfOk, All};
-ghost use Rattle.events.specs.Lines.{AreInBook};
-ghost use Rattle.limits.specs.declared.TheConstants.{MAX_PERSONS};
+ghost use Rattle.std.specs.Prelude.{◌≡◌, ◌≤◌, IfOk};
 ghost use Rattle.scenario.specs.Views.{scenario_view};
-ghost use Rattle.scoring.specs.declared.TheConstants.{MAX_SCORE};
-ghost use Rattle.scoring.specs.Ranges.{IsWithin};
-ghost use Rattle.qsim_top.specs.Texts.{events_text, is_stuck, stuck_count, iteration_counts, iteration_line, done_line};
-ghost use Rattle.qsim_top.specs.Texts.{no_way_line, refused_line, valid_counts, valid_line};
+ghost use Rattle.workload.specs.declared.TheConstants.{LEAST_SIZE, MOST_SIZE};
+ghost use Rattle.qsim_top.specs.Texts.{grid_counts, grid_line, no_way_line, refused_line, valid_counts, valid_line};
 
-use day_scores::sum_of;
-use events::{Book, Event, Word, lines};
 use scenario::{Scenario, ScenarioFault};
 use std::alloc::{AllocError, Global};
-
-/// The line with which an iteration's events begin.
-fn events_header(alloc: Global, iteration: u32) -> Result<Vec<u8>, AllocError>
-    ensures { IfOk result (λ text. text.items ≡ codes "iteration," ++ decimal iteration ++ codes "\n") }
-{
-    let line = format!(in alloc; "iteration,{iteration}\n")?;
-    Ok(line.into_bytes())
-}
-
-/// The text of the events of an iteration.
-#[tactic(auto, unfolding(crate::specs::Texts::events_text))]
-pub fn events_text(
-    alloc: Global,
-    iteration: u32,
-    events: &[Event],
-    book: &Book,
-) -> Result<Vec<u8>, AllocError>
-    requires { AreInBook events.now book.now }
-    ensures { IfOk result (λ text. text.items ≡ events_text iteration events.now book.now) }
-{
-    let mut text = events_header(alloc, iteration)?;
-    lines(events, book, &mut text)?;
-    Ok(text)
-}
-
-fn is_stuck(word: Word) -> bool
-    ensures { result ≡ is_stuck word }
-{
-    word == Word::StuckAndAbort
-}
-
-fn stuck_count(events: &[Event]) -> usize
-    ensures { result ≡ stuck_count events.now }
-{
-    events.iter().filter(|event| is_stuck(event.word)).count()
-}
-
-/// The report of an iteration, by the number of its events and of those of persons who are stuck, and by the sum of
-/// the scores in micro-utils.
-#[tactic(auto, unfolding(crate::specs::Texts::iteration_counts))]
-fn iteration_counts(
-    alloc: Global,
-    iteration: u32,
-    events: usize,
-    stuck: usize,
-    sum: i64,
-) -> Result<Vec<u8>, AllocError>
-    ensures { IfOk result (λ line. line.items ≡ iteration_counts iteration events stuck sum) }
-{
-    let line = format!(in alloc; "iteration,{iteration},{events},{stuck},{sum}\n")?;
-    Ok(line.into_bytes())
-}
-
-/// The report of an iteration, by its events and by the scores, in micro-utils.
-pub fn iteration_line(
-    alloc: Global,
-    iteration: u32,
-    events: &[Event],
-    scores: &[i64],
-) -> Result<Vec<u8>, AllocError>
-    requires few { length scores.now ≤ MAX_PERSONS }
-    requires within { All (IsWithin MAX_SCORE) scores.now }
-    ensures { IfOk result (λ line. line.items ≡ iteration_line iteration events.now scores.now) }
-{
-    iteration_counts(
-        alloc,
-        iteration,
-        events.len(),
-        stuck_count(events),
-        sum_of(scores),
-    )
-}
-
-/// The end of the report.
-#[tactic(auto, unfolding(crate::specs::Texts::done_line))]
-pub fn done_line(alloc: Global, last: u32) -> Result<Vec<u8>, AllocError>
-    ensures { IfOk result (λ line. line.items ≡ done_line last) }
-{
-    let line = format!(in alloc; "done,{last}\n")?;
-    Ok(line.into_bytes())
-}
+use workload::PERSONS_PER_NODE;
 
 /// The report of a refused scenario.
 #[tactic(auto, unfolding(crate::specs::Texts::refused_line))]
@@ -111,6 +25,35 @@ pub fn no_way_line(alloc: Global) -> Result<Vec<u8>, AllocError>
     ensures { IfOk result (λ line. line.items ≡ no_way_line) }
 {
     let line = Vec::from_slice(alloc, b"no way\n")?;
+    Ok(line)
+}
+
+/// The first line of the report of a grid, by its size and seed, and the numbers of its nodes, links and persons.
+#[tactic(auto, unfolding(crate::specs::Texts::grid_counts))]
+fn grid_counts(
+    alloc: Global,
+    size: u32,
+    seed: u64,
+    nodes: u32,
+    links: u32,
+    persons: u32,
+) -> Result<Vec<u8>, AllocError>
+    ensures { IfOk result (λ line. line.items ≡ grid_counts size seed nodes links persons) }
+{
+    let line = format!(in alloc; "grid,{size},{seed},{nodes},{links},{persons}\n")?;
+    Ok(line.into_bytes())
+}
+
+/// The first line of the report of a grid of this size and seed.
+pub fn grid_line(alloc: Global, size: u32, seed: u64) -> Result<Vec<u8>, AllocError>
+    requires least { LEAST_SIZE ≤ size }
+    requires most { size ≤ MOST_SIZE }
+    ensures { IfOk result (λ line. line.items ≡ grid_line size seed) }
+{
+    let nodes = size * size;
+    let links = 4 * size * (size - 1);
+    let persons = PERSONS_PER_NODE * size * size;
+    let line = grid_counts(alloc, size, seed, nodes, links, persons)?;
     Ok(line)
 }
 

@@ -6,10 +6,13 @@ use settings::{Settings, read_settings};
 use std::alloc::{AllocError, Global};
 
 /// The values in the order of the keys, 0 where there is no speed of holes.
-fn values_of(settings: &Settings) -> [u64; 10] {
+fn values_of(settings: &Settings) -> [u64; 21] {
     let traffic = settings.traffic;
+    let learning = settings.learning;
+    let weights = learning.weights;
     [
         settings.seed,
+        u64::from(settings.last_iteration),
         u64::from(traffic.end_second),
         u64::from(traffic.flow_permille),
         u64::from(traffic.storage_permille),
@@ -19,15 +22,29 @@ fn values_of(settings: &Settings) -> [u64; 10] {
         u64::from(traffic.dwell.per_stop),
         u64::from(traffic.dwell.per_alight),
         u64::from(traffic.dwell.per_board),
+        u64::from(learning.memory_size),
+        learning.logit_unit,
+        u64::from(learning.mutation_range),
+        u64::from(learning.innovation_last),
+        weights.keep_last_selected,
+        weights.best_score,
+        weights.select_random,
+        weights.select_logit,
+        weights.reroute,
+        weights.time_mutation,
     ]
 }
 
 /// What the settings are where no key is given.
-const DEFAULTS: [u64; 10] = [4_711, 108_000, 1_000, 1_000, 10, 0, 0, 4, 1, 2];
+const DEFAULTS: [u64; 21] = [
+    4_711, 0, 108_000, 1_000, 1_000, 10, 0, 0, 4, 1, 2, 5, 1_000_000, 1_800, 1_000, 1, 0, 0, 0, 0,
+    0,
+];
 
 /// Each key with its least and its largest number, and texts of numbers that are too small and too large.
-static RANGES: [(&str, u64, u64, &str, &str); 10] = [
+static RANGES: [(&str, u64, u64, &str, &str); 21] = [
     ("seed", 0, u64::MAX, "-1", "18446744073709551616"),
+    ("last_iteration", 0, 1_000, "-1", "1001"),
     ("end_second", 1, 172_800, "0", "172801"),
     ("flow_permille", 1, 2_000, "0", "2001"),
     ("storage_permille", 1, 2_000, "0", "2001"),
@@ -37,6 +54,16 @@ static RANGES: [(&str, u64, u64, &str, &str); 10] = [
     ("dwell_open", 0, 3_600, "-1", "3601"),
     ("dwell_alight", 0, 3_600, "-1", "3601"),
     ("dwell_board", 0, 3_600, "-1", "3601"),
+    ("memory_size", 1, 5, "0", "6"),
+    ("logit_unit", 1, 1_000_000_000_000, "0", "1000000000001"),
+    ("mutation_range", 0, 172_800, "-1", "172801"),
+    ("innovation_last", 0, 1_000, "-1", "1001"),
+    ("weight_keep", 0, 1_000_000, "-1", "1000001"),
+    ("weight_best", 0, 1_000_000, "-1", "1000001"),
+    ("weight_random", 0, 1_000_000, "-1", "1000001"),
+    ("weight_logit", 0, 1_000_000, "-1", "1000001"),
+    ("weight_reroute", 0, 1_000_000, "-1", "1000001"),
+    ("weight_time", 0, 1_000_000, "-1", "1000001"),
 ];
 
 fn object(alloc: Global, key: &str, value: &str) -> Result<Vec<u8>, AllocError> {

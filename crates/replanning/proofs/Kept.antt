@@ -6,7 +6,7 @@ use Rattle.std.proofs.lemmas.Bool.{and_from, and_parts}
 use Rattle.rows.specs.PlanRows.{PlanRows}
 use Rattle.plan_memory.specs.Scores.{worst}
 use Rattle.plan_memory.specs.Memories.{MemoryRows, without, after_drops, reduced}
-use Rattle.leg_routes.specs.Legs.{are_on}
+use Rattle.router.specs.Legs.{are_on}
 use Rattle.replanning.specs.Persons.{is_on}
 
 all_left : {A : Type 0} (p : A → Bool) (xs : List A) (i : ℕ) → list_all p xs ≡ true → list_all p (remove xs i) ≡ true

@@ -5,7 +5,7 @@ use Rattle.rows.specs.declared.plan.Leg.{Leg}
 use Rattle.rows.specs.PlanRows.{PlanRows}
 use Rattle.walks.specs.Arrivals.{Arrivals}
 use Rattle.router.specs.Graphs.{Graph}
-use Rattle.leg_routes.specs.Legs.{route_between, with_route, each_leg}
+use Rattle.router.specs.Legs.{route_between, with_route, each_leg}
 
 -- a leg between an activity and one on a link: a car leg has a new route, left at the planned end of the first activity, or its old one
 -- where there is no new one of at most 1,000 links

@@ -14,7 +14,7 @@ use Rattle.rows.specs.PlanRows.{PlanRows}
 use Rattle.plan_memory.specs.declared.choices.Choice.TheVariants as choice
 use Rattle.plan_memory.specs.Memories.{MemoryRows, chosen_plan, with_plan, with_choice, reduced}
 use Rattle.replanning.specs.Acts.{mutated_plan}
-use Rattle.leg_routes.specs.Legs.{are_on}
+use Rattle.router.specs.Legs.{are_on}
 use Rattle.replanning.specs.Legs.{rerouted_plan}
 
 -- what persons replan by before an iteration: the network, when the end of each link is reached by the travel times of the day before, the settings, where all random words begin,

@@ -10,7 +10,7 @@ ghost use Rattle.rows.specs.PlanRows.{plan_rows};
 ghost use Rattle.replanning.specs.Acts.{moved, move_of, moved_act, moved_acts, mutated_plan};
 
 use draws::{Draws, between};
-use leg_routes::copied_legs;
+use router::copied_legs;
 use rows::{Act, Acts, Legs, Plan};
 use std::alloc::{AllocError, Global};
 

@@ -4,11 +4,10 @@ ghost use Rattle.std.specs.Prelude.{◌≡◌, ◌<◌, ◌≤◌, ◌+◌, ◌�
 ghost use Rattle.std.specs.List.{list_all};
 ghost use Rattle.rows.specs.Plan.{is_leg};
 ghost use Rattle.travel_times.specs.Times.{arrivals};
-ghost use Rattle.leg_routes.specs.Legs.{are_on};
+ghost use Rattle.router.specs.Legs.{are_on};
 ghost use Rattle.replanning.specs.Legs.{rerouted_leg, rerouted_legs};
 
-use leg_routes::{copied_leg, leg_route};
-use router::Adjacency;
+use router::{Adjacency, copied_leg, leg_route};
 use rows::{Act, Leg};
 use std::alloc::{AllocError, Global};
 use travel_times::LinkTimes;
@@ -40,7 +39,7 @@ fn rerouted_leg(
 }
 
 /// The leg at a place, between the activity before it and the one after it.
-#[tactic(auto, using(leg_routes::proofs::Walking::leg_more))]
+#[tactic(auto, using(router::proofs::Walking::leg_more))]
 fn rerouted_at(
     alloc: Global,
     adjacency: &Adjacency,

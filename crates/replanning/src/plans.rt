@@ -3,7 +3,7 @@
 ghost use Rattle.std.specs.Prelude.{◌≡◌, length, true, IfOk};
 ghost use Rattle.rows.specs.PlanRows.{plan_rows};
 ghost use Rattle.travel_times.specs.Times.{arrivals};
-ghost use Rattle.leg_routes.specs.Legs.{are_on};
+ghost use Rattle.router.specs.Legs.{are_on};
 ghost use Rattle.replanning.specs.Legs.{rerouted_plan};
 
 use crate::legs::rerouted_legs;

@@ -2,14 +2,14 @@
 #![tactic(auto)]
 
 ghost use Rattle.std.specs.Prelude.{◌≡◌, ℕ, ◌^◌, ◌<◌, ◌≤◌, ◌↔◌, List, length, IsTrue, Some, IfSome};
+ghost use Rattle.limits.specs.declared.TheConstants.{MAX_LINKS};
 ghost use Rattle.travel_times.specs.Times.{arrivals};
 ghost use Rattle.rows.specs.Joined.{ends_of};
 ghost use Rattle.walks.specs.Walks.{IsWalk, arrival};
 ghost use Rattle.walks.specs.Rounds.{label_at};
 ghost use Rattle.walks.specs.Certificates.{IsInTime, IsKept, AreSmall, IsCertificate};
 
-use network::Network;
-use rows::{LinkList, LinkRow};
+use rows::{LinkList, LinkRow, Network};
 use travel_times::LinkTimes;
 use walks::label_of;
 
@@ -47,7 +47,7 @@ fn is_kept(times: &LinkTimes, labels: &[Option<u64>], number: u32, link: &LinkRo
 
 /// Whether every link is kept.
 fn are_kept(links: &LinkList, times: &LinkTimes, labels: &[Option<u64>]) -> bool
-    requires few { length links.now ≤ 262144 }
+    requires few { length links.now ≤ MAX_LINKS }
     requires times { length times.now ≡ length links.now }
     requires small { AreSmall labels.now }
     ensures { IsTrue result ↔ ((link : ℕ) → link < length (ends_of links.now)

@@ -4,7 +4,7 @@ use Rattle.std.specs.Prelude.{nat_lt}
 use Rattle.std.specs.List.{list_all}
 use Rattle.std.specs.Option.{option_map}
 use Rattle.std.proofs.lemmas.List.{length-map}
-use Rattle.network.specs.declared.lists.Network.{Network}
+use Rattle.rows.specs.declared.network.Network.{Network}
 use Rattle.rows.specs.Joined.{ends_of, ends_of_link}
 use Rattle.rows.specs.declared.network.LinkRow.{LinkRow}
 use Rattle.travel_times.specs.Times.{LinkProfile, free_times}

@@ -3,7 +3,7 @@ use Rattle.std.specs.Prelude.{ℕ, List, [], ◌∷◌, ◌++◌, length, map, c
 use Rattle.std.specs.List.{join_with_byte}
 use Rattle.std.specs.Option.{option_map}
 use Rattle.events.specs.Names.{name_at, number_of}
-use Rattle.network.specs.declared.lists.Network.{Network}
+use Rattle.rows.specs.declared.network.Network.{Network}
 use Rattle.rows.specs.declared.network.LinkRow.{LinkRow}
 use Rattle.travel_times.specs.Times.{free_times}
 use Rattle.rows.specs.Joined.{ends_of}

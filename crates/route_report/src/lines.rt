@@ -4,9 +4,9 @@ ghost use Rattle.route_report.specs.Report.{RoadMap, map_of, label_line, label_t
 
 use events::Names;
 use itoa::Buffer;
-use network::Network;
 use plan_text::{names_of, push_joined};
 use router::Found;
+use rows::Network;
 use std::alloc::{AllocError, Global};
 
 /// Appends the line of a node that is reached in a second.

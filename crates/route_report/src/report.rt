@@ -6,9 +6,9 @@ ghost use Rattle.router.specs.Ways.{least_of, query_on, IsLeastWay};
 ghost use Rattle.route_report.specs.Report.{map_of, search_on, route_lines, text_of, route_text};
 
 use crate::lines::route_lines;
-use network::Network;
 use route_check::check;
 use router::{Found, RouteStop, least};
+use rows::Network;
 use std::alloc::{AllocError, Global};
 use travel_times::LinkTimes;
 

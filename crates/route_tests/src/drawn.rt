@@ -5,7 +5,7 @@ ghost use Rattle.std.specs.Prelude.{◌<◌};
 use crate::networks::{event, network};
 use draws::{Draws, between};
 use events::{Event, VehicleId, Word};
-use network::Network;
+use rows::Network;
 use std::alloc::Global;
 
 /// Names of nodes and of links.

@@ -1,7 +1,8 @@
 //! Networks and events of tests.
 
 use events::{Event, Key, More, VehicleId, Word};
-use network::{Network, read_links, read_nodes};
+use network::{read_links, read_nodes};
+use rows::Network;
 use std::alloc::Global;
 
 /// The network of two files.

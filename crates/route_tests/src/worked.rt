@@ -3,9 +3,9 @@
 use crate::networks::{event, network};
 use events::{Event, VehicleId, Word};
 use limits::LAST_SECOND;
-use network::Network;
 use route_check::check;
 use router::{RouteStop, least};
+use rows::Network;
 use std::alloc::Global;
 use travel_times::{LinkTimes, are_in_order, are_on_links};
 

@@ -1,6 +1,7 @@
 -- What a search answers: the way to a settled node, or that there is none, and labels that are a certificate.
 use Rattle.std.proofs.Common.{◌≡◌, ℕ, ◌^◌, ◌<◌, ◌≤◌, List, Option, None, Some, refl, sym, ◌∙◌, ap, subst}
 use Rattle.std.specs.Prelude.{IfSome}
+use Rattle.limits.specs.declared.TheConstants.{MAX_NODES}
 use Rattle.travel_times.specs.Times.{arrivals}
 use Rattle.travel_times.proofs.Arriving.{arrivals_are_fifo}
 use Rattle.walks.specs.Arrivals.{Arrivals, IsFifo}
@@ -18,7 +19,7 @@ use Rattle.router.proofs.Searching.{look_small}
 
 -- the labels of a frontier are small
 pub small_labels : (nodes : ℕ) (ends : Ends) (arrive : Arrivals) (frontier : Frontier) (open_links : List ℕ) → IsFifo arrive →
-    nodes ≤ 131072 → IsFrontier nodes ends arrive frontier open_links → AreSmall frontier.labels.items
+    nodes ≤ MAX_NODES → IsFrontier nodes ends arrive frontier open_links → AreSmall frontier.labels.items
 small_labels nodes ends arrive frontier open_links fifo few kept node = by_label (label_at frontier.labels.items node) refl
   where
     by_label : (o : Option ℕ) → label_at frontier.labels.items node ≡ o → IfSome o (λ label. label < 2 ^ 60)

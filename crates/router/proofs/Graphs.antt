@@ -10,7 +10,7 @@ use Rattle.std.proofs.lemmas.List.Elements.{All-map}
 use Rattle.std.proofs.lemmas.List.Sums.{AllPass-from_list_all}
 use Rattle.std.proofs.lemmas.Slice.Zip.{length-zip, get_or-zip}
 use Rattle.rows.specs.declared.network.LinkRow.{LinkRow}
-use Rattle.network.specs.Limits.{is_link, are_measures}
+use Rattle.rows.specs.Networks.{is_link, are_measures}
 use Rattle.rows.specs.Joined.{ends_of}
 use Rattle.walks.specs.Walks.{start_of, end_of, AreWithin}
 use Rattle.router.specs.declared.adjacency.Adjacency.TheInside.{Inside}

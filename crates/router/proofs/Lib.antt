@@ -3,3 +3,7 @@ pub mod Graphs
 pub mod Searching
 pub mod Backs
 pub mod Answering
+pub mod LegWays
+pub mod Joining
+pub mod Walking
+pub mod Gathered

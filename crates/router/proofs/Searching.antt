@@ -54,6 +54,7 @@ use Rattle.std.proofs.lemmas.List.{
 use Rattle.std.proofs.lemmas.List.Sums.{sum_by-set}
 use Rattle.std.proofs.lemmas.List.Elements.{All-nil, All-cons, All-weaker, All-contains, Contains-get_or, All-from_recursion}
 use Rattle.std.proofs.lemmas.List.Sorted.{All-permutation, Contains-permutation, IsPermutation-sym, length_permutation}
+use Rattle.limits.specs.declared.TheConstants.{MAX_NODES}
 use Rattle.walks.specs.Arrivals.{Arrivals, IsFifo}
 use Rattle.walks.specs.Walks.{Ends, start_of, end_of, AreWithin, Reached}
 use Rattle.walks.specs.Rounds.{Labels, label_at, IsBy, rank, least_labels}
@@ -168,8 +169,8 @@ later_some (Some b) a second e is = let same : b ≡ a = cc is in let less = ltb
 
 module _ (nodes : ℕ) (ends : Ends) (arrive : Arrivals) (fifo : IsFifo arrive) (from second now : ℕ) (labels : Labels) (queue : Queue) where
   -- an arrival is no later than its label lets it be
-  pub small : (few : nodes ≤ 131072) (open_links : List ℕ) → IsSearch nodes ends arrive from second now labels queue open_links →
-      (node at : ℕ) → label_at labels node ≡ Some at → at ≤ 2 ^ 33 + 2 ^ 32 * 131072
+  pub small : (few : nodes ≤ MAX_NODES) (open_links : List ℕ) → IsSearch nodes ends arrive from second now labels queue open_links →
+      (node at : ℕ) → label_at labels node ≡ Some at → at ≤ 2 ^ 33 + 2 ^ 32 * MAX_NODES
   small few open_links search node at is =
       let bound = search.bounded node at is in
       let count = rank-le-length labels at in
@@ -208,7 +209,7 @@ module _ (nodes : ℕ) (ends : Ends) (arrive : Arrivals) (fifo : IsFifo arrive) 
           subst P (sym same) (subst Q left_same by)
 
   -- the first open link gives its end an earlier label
-  module _ (few : nodes ≤ 131072) (link : ℕ) (rest : List ℕ) (left : ℕ)
+  module _ (few : nodes ≤ MAX_NODES) (link : ℕ) (rest : List ℕ) (left : ℕ)
       (search : IsSearch nodes ends arrive from second now labels queue (link ∷ rest)) (is_link : link < length ends)
       (starts : label_at labels (start_of ends link) ≡ Some left) (after_now : now ≤ left) (end_within : end_of ends link < nodes)
       (soon : arrive link left ≤ max left (2 ^ 33) + 2 ^ 32)
@@ -503,7 +504,7 @@ settled_by_now nodes ends arrive fifo inside frontier node within kept by =
 
 -- the labels of a frontier are small
 pub look_small : (nodes : ℕ) (ends : Ends) (arrive : Arrivals) (frontier : Frontier) (open_links : List ℕ) (node left : ℕ) →
-    IsFifo arrive → nodes ≤ 131072 → IsFrontier nodes ends arrive frontier open_links
+    IsFifo arrive → nodes ≤ MAX_NODES → IsFrontier nodes ends arrive frontier open_links
     → label_at frontier.labels.items node ≡ Some left → left < 2 ^ 60
 look_small nodes ends arrive frontier open_links node left fifo few kept is =
     let bound = small nodes ends arrive fifo frontier.from frontier.second frontier.horizon frontier.labels.items
@@ -538,7 +539,7 @@ looked_kept nodes ends arrive frontier links place left reached node fifo within
 
 -- a link along which its end is reached earlier
 pub looked_earlier : (nodes : ℕ) (ends : Ends) (arrive : Arrivals) (old new : Frontier) (links : List ℕ) (place left reached node : ℕ) →
-    IsFifo arrive → nodes ≤ 131072 → place < length links
+    IsFifo arrive → nodes ≤ MAX_NODES → place < length links
     → slice_index_or links place 0 < length ends → IsFrontier nodes ends arrive old (drop place links) →
     label_at old.labels.items (start_of ends (slice_index_or links place 0)) ≡ Some left
     → old.horizon ≤ left → reached ≡ arrive (slice_index_or links place 0) left → reached ≤ max left (2 ^ 33) + 2 ^ 32 → node

@@ -1,7 +1,8 @@
 -- The nodes and the links that a search goes along.
 use Rattle.std.specs.Prelude.{◌≡◌, ℕ, ◌≤◌, List, length}
 use Rattle.std.specs.List.{zip}
-use Rattle.network.specs.declared.lists.Network.{Network}
+use Rattle.limits.specs.declared.TheConstants.{MAX_NODES}
+use Rattle.rows.specs.declared.network.Network.{Network}
 use Rattle.rows.specs.Joined.{ends_of}
 use Rattle.walks.specs.Walks.{start_of, end_of, AreWithin}
 use Rattle.router.specs.declared.adjacency.Adjacency.TheInside.{Inside}
@@ -21,7 +22,7 @@ abbrev pub kept_graph : Inside → Graph
 kept_graph adjacency = record { nodes = length adjacency.out; ends = zip adjacency.from.items adjacency.to.items }
 
 pub record IsAdjacency (adjacency : Inside) : Type 0 where
-  pub few : length adjacency.out ≤ 131072
+  pub few : length adjacency.out ≤ MAX_NODES
   pub each : length adjacency.to.items ≡ length adjacency.from.items
   pub same : length adjacency.into ≡ length adjacency.out
   pub inside : AreWithin (length adjacency.out) (zip adjacency.from.items adjacency.to.items)

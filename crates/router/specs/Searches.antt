@@ -1,5 +1,6 @@
 -- What a search keeps: the question, and how far it has come.
 use Rattle.std.specs.Prelude.{◌≡◌, ◌<◌, ◌≤◌, List, [], length}
+use Rattle.limits.specs.declared.TheConstants.{MAX_NODES}
 use Rattle.travel_times.specs.Times.{LinkProfile, arrivals}
 use Rattle.walks.specs.Walks.{AreWithin}
 use Rattle.router.specs.declared.frontier.Frontier.{Frontier}
@@ -17,7 +18,7 @@ query_of s = asked s.adjacency.now s.times.now s.frontier
 
 -- the start and the links are on the graph, and the search is that from the start
 pub record IsAsked (s : Inside) : Type 0 where
-  pub few : s.adjacency.now.nodes ≤ 131072
+  pub few : s.adjacency.now.nodes ≤ MAX_NODES
   pub inside : AreWithin s.adjacency.now.nodes s.adjacency.now.ends
   pub from : s.frontier.from < s.adjacency.now.nodes
   pub times : length s.times.now ≡ length s.adjacency.now.ends

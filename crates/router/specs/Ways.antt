@@ -4,7 +4,7 @@ use Rattle.travel_times.specs.Times.{LinkProfile, arrivals}
 use Rattle.walks.specs.Walks.{IsWalk, arrival, IsLeast}
 use Rattle.walks.specs.Rounds.{label_at, least_labels}
 use Rattle.walks.specs.Chosen.{chosen_route}
-use Rattle.network.specs.declared.lists.Network.{Network}
+use Rattle.rows.specs.declared.network.Network.{Network}
 use Rattle.router.specs.Graphs.{Graph, graph_of}
 
 -- a search on a graph by travel times, from a node in a second

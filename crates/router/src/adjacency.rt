@@ -1,11 +1,11 @@
 ghost use Rattle.std.specs.Prelude.{◌≡◌, ℕ, ◌^◌, ◌≤◌, ◌<◌, length, map, slice_index_or, slice_index};
 ghost use Rattle.std.specs.Prelude.{[], IfOk, All, Contains};
+ghost use Rattle.limits.specs.declared.TheConstants.{MAX_NODES};
 ghost use Rattle.walks.specs.Walks.{start_of, end_of, AreWithin};
 ghost use Rattle.router.specs.Stars.{AreBeside};
 
 use crate::star::{Star, star_beside};
-use network::Network;
-use rows::LinkList;
+use rows::{LinkList, Network};
 use std::alloc::{AllocError, Global};
 use std::marker::Model;
 
@@ -75,7 +75,7 @@ impl Adjacency {
     /// How many nodes there are.
     pub fn nodes(&self) -> usize
         ensures count { result ≡ self.now.nodes }
-        ensures few { self.now.nodes ≤ 131072 }
+        ensures few { self.now.nodes ≤ MAX_NODES }
         ensures inside { AreWithin self.now.nodes self.now.ends }
     {
         self.out.len()

@@ -8,7 +8,7 @@ ghost use Rattle.router.specs.Ways.{least_of, IsLeastWay, query_on};
 use crate::adjacency::Adjacency;
 use crate::search::{Labels, Search, Way};
 use events::Route;
-use network::Network;
+use rows::Network;
 use std::alloc::{AllocError, Global};
 use travel_times::LinkTimes;
 

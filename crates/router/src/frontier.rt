@@ -26,6 +26,7 @@ ghost use Rattle.std.specs.Prelude.{
 };
 ghost use Rattle.std.specs.Bool.{OnTrue, OnFalse};
 ghost use Rattle.std.specs.BinaryHeap.{heap_items, IsHeap};
+ghost use Rattle.limits.specs.declared.TheConstants.{MAX_NODES};
 ghost use Rattle.travel_times.specs.Times.{arrivals};
 ghost use Rattle.walks.specs.Arrivals.{Arrivals};
 ghost use Rattle.walks.specs.Walks.{Ends, start_of, AreWithin};
@@ -116,7 +117,7 @@ fn look(
 ) -> Result<(), AllocError>
     requires place { place < length links.now }
     requires link { slice_index links.now place < length adjacency.now.ends }
-    requires few { adjacency.now.nodes ≤ 131072 }
+    requires few { adjacency.now.nodes ≤ MAX_NODES }
     requires times { length times.now ≡ length adjacency.now.ends }
     requires search { IsFrontier adjacency.now.nodes adjacency.now.ends (arrivals times.now) frontier.old (drop place links.now) }
     requires left { label_at frontier.old.labels.items (start_of adjacency.now.ends (slice_index links.now place)) ≡ Some left }
@@ -147,7 +148,7 @@ fn look_along(
     left: u64,
 ) -> Result<(), AllocError>
     requires node { node < adjacency.now.nodes }
-    requires few { adjacency.now.nodes ≤ 131072 }
+    requires few { adjacency.now.nodes ≤ MAX_NODES }
     requires times { length times.now ≡ length adjacency.now.ends }
     requires search { (open_links : List ℕ) → (
         (link : ℕ) → link < length adjacency.now.ends → start_of adjacency.now.ends link ≡ node →
@@ -187,7 +188,7 @@ fn settle_next(
     adjacency: &Adjacency,
     times: &LinkTimes,
 ) -> Result<bool, AllocError>
-    requires few { adjacency.now.nodes ≤ 131072 }
+    requires few { adjacency.now.nodes ≤ MAX_NODES }
     requires times { length times.now ≡ length adjacency.now.ends }
     requires search { IsFrontier adjacency.now.nodes adjacency.now.ends (arrivals times.now) frontier.old [] }
     ensures search { OnOk result (IsFrontier adjacency.now.nodes adjacency.now.ends (arrivals times.now) frontier.new []) }
@@ -223,7 +224,7 @@ pub fn settle(
     requires node { node < adjacency.now.nodes }
     requires from { frontier.old.from < adjacency.now.nodes }
     requires inside { AreWithin adjacency.now.nodes adjacency.now.ends }
-    requires few { adjacency.now.nodes ≤ 131072 }
+    requires few { adjacency.now.nodes ≤ MAX_NODES }
     requires times { length times.now ≡ length adjacency.now.ends }
     requires search { IsFrontier adjacency.now.nodes adjacency.now.ends (arrivals times.now) frontier.old [] }
     ensures search { OnOk result (IsFrontier adjacency.now.nodes adjacency.now.ends (arrivals times.now) frontier.new []) }
@@ -246,7 +247,7 @@ pub fn settle_all(
 ) -> Result<(), AllocError>
     requires from { frontier.old.from < adjacency.now.nodes }
     requires inside { AreWithin adjacency.now.nodes adjacency.now.ends }
-    requires few { adjacency.now.nodes ≤ 131072 }
+    requires few { adjacency.now.nodes ≤ MAX_NODES }
     requires times { length times.now ≡ length adjacency.now.ends }
     requires search { IsFrontier adjacency.now.nodes adjacency.now.ends (arrivals times.now) frontier.old [] }
     ensures labels { OnOk result (frontier.new.labels.items

@@ -1,4 +1,5 @@
 ghost use Rattle.std.specs.Prelude.{◌≡◌, ℕ, ◌^◌, ◌<◌, ◌≤◌, [], length, IfOk, MatchOption};
+ghost use Rattle.limits.specs.declared.TheConstants.{MAX_NODES};
 ghost use Rattle.travel_times.specs.Times.{arrivals};
 ghost use Rattle.walks.specs.Walks.{AreWithin, NoWalk};
 ghost use Rattle.walks.specs.Certificates.{AreSmall};
@@ -56,7 +57,7 @@ fn settled_way(
     requires from { frontier.now.from < adjacency.now.nodes }
     requires to { to < adjacency.now.nodes }
     requires inside { AreWithin adjacency.now.nodes adjacency.now.ends }
-    requires few { adjacency.now.nodes ≤ 131072 }
+    requires few { adjacency.now.nodes ≤ MAX_NODES }
     requires times { length times.now ≡ length adjacency.now.ends }
     requires search { IsFrontier adjacency.now.nodes adjacency.now.ends (arrivals times.now) frontier.now [] }
     requires settled { IsSettledAt adjacency.now.nodes adjacency.now.ends (arrivals times.now) frontier.now to }

@@ -5,3 +5,5 @@ pub mod Joined
 pub mod Settings
 pub mod Greens
 pub mod GreenViews
+pub mod Networks
+pub mod Schedules

@@ -13,9 +13,10 @@ mod settings;
 pub use elements::{act_after, act_in};
 pub use greens::{Green, GreenList, SpanList, green_in};
 pub use joined::is_joined;
-pub use network::{LinkList, LinkRow, NodeList, NodeRow};
+pub use network::{LinkList, LinkRow, Network, NodeList, NodeRow};
 pub use plan::{Act, Acts, Leg, Legs, Plan, PlanList, PlanLists};
 pub use schedule::{
-    DepartureList, DepartureRow, RouteList, RouteRow, StopList, StopRow, calls_at, stop_link,
+    DepartureList, DepartureRow, Departures, RouteList, RouteRow, Routes, StopList, StopRow, Stops,
+    calls_at, stop_link,
 };
 pub use settings::{Dwelling, Stuck, TrafficSettings};

@@ -1,8 +1,8 @@
-ghost use Rattle.std.specs.Prelude.{◌≡◌};
+ghost use Rattle.std.specs.Prelude.{◌≡◌, length};
 ghost use Rattle.std.specs.List.{list_any};
 ghost use Rattle.rows.specs.Stops.{calls_at, stop_link};
 
-use events::{Calls, Route, Rows, StopCall};
+use events::{Calls, Names, Route, Rows, StopCall};
 
 /// A stop, by the link on which it lies.
 #[derive(Clone, Copy, Debug, PartialEq, Eq)]
@@ -50,4 +50,29 @@ pub fn calls_at(stop: u32, calls: &[StopCall]) -> bool
     ensures { result ≡ calls_at stop calls.now }
 {
     calls.iter().any(|call| call.stop == stop)
+}
+
+/// Stops, with a name each.
+#[derive(Drop)]
+pub struct Stops {
+    pub names: Names,
+    pub rows: StopList,
+    pub ghost each: { length names ≡ length rows },
+}
+
+/// Routes, with a name each, and the names of their lines.
+#[derive(Drop)]
+pub struct Routes {
+    pub lines: Names,
+    pub names: Names,
+    pub rows: RouteList,
+    pub ghost each: { length names ≡ length rows },
+}
+
+/// Departures, with a name each.
+#[derive(Drop)]
+pub struct Departures {
+    pub names: Names,
+    pub rows: DepartureList,
+    pub ghost each: { length names ≡ length rows },
 }

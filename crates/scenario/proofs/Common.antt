@@ -8,7 +8,7 @@ pub use Rattle.std.specs.List.{list_all, All, flat_map}
 pub use Rattle.std.specs.Prelude.{nat_le, unwrap_or}
 pub use Rattle.edge_files.specs.declared.files.InFile.{InFile}
 pub use Rattle.edge_files.specs.declared.reasons.RowFault.{RowFault}
-unfoldable pub use Rattle.network.specs.Limits.{is_link}
+unfoldable pub use Rattle.rows.specs.Networks.{is_link}
 pub use Rattle.network.specs.Links.{links_fault}
 unfoldable pub use Rattle.network.specs.Links.{link_of}
 pub use Rattle.network.specs.Nodes.{node_names}
@@ -33,8 +33,8 @@ pub use Rattle.scenario.specs.FilesToScenario.{NetworkRows, ScenarioRows, Schedu
 unfoldable pub use Rattle.scenario.specs.FilesToScenario.{persons_fault, scenario_fault, scenario_rows, schedule_fault, schedule_rows_of, leg_checks_in}
 unfoldable pub use Rattle.scenario.specs.FilesToScenario.{network_fault, network_rows_of, plans_cross_fault, on_network, on_network_fault, planned_of}
 unfoldable pub use Rattle.scenario.specs.FilesToScenario.{town_of}
-pub use Rattle.scenario.specs.Fitting.{all_fit, AreChosen}
-unfoldable pub use Rattle.scenario.specs.Fitting.{first_plans, are_fitting}
+pub use Rattle.scenario.specs.Fitting.{all_fit, are_few}
+unfoldable pub use Rattle.scenario.specs.Fitting.{are_fitting}
 pub use Rattle.scenario.specs.LegChecks.{AreThere, leg_checks_of, numbers_of}
 pub use Rattle.scenario.specs.Legs.{plan_in_town, LegChecks, all_plans_fault, leg_in_town}
 unfoldable pub use Rattle.scenario.specs.Legs.{plans_fault, plan_fault, numbers_in}

@@ -12,7 +12,6 @@ use Rattle.plans.specs.Values.{PlanFileRows}
 use Rattle.signals.specs.Signals.{SignalRows}
 use Rattle.settings.specs.Values.{Values}
 use Rattle.settings.specs.Faults.{FileValues, settings_fault, file_of}
-use Rattle.settings.specs.Scoring.{ScoringValues}
 use Rattle.rows.specs.Joined.{ends_of, ends_of_link}
 use Rattle.scenario.specs.declared.faults.ScenarioFault.{ScenarioFault}
 use Rattle.scenario.specs.declared.faults.Stop.{Stop}
@@ -21,7 +20,7 @@ use Rattle.scenario.specs.declared.scenario.Scenario.{Scenario}
 use Rattle.scenario.specs.declared.schedules.Schedule.{Schedule}
 use Rattle.scenario.specs.Texts.{Texts, bytes_in}
 use Rattle.scenario.specs.Faults.{fault_in, StopsAt, Tells}
-use Rattle.scenario.specs.FilesToScenario.{NetworkRows, ScheduleRows, PlannedRows, persons_fault, schedule_fault, signals_file_fault, conflict_fault, plans_cross_fault, filled_in, persons_on, schedule_rows_of, signals_on, planned_of, scored_by, on_network, on_network_fault, network_fault, network_rows_of, scenario_fault, scenario_rows}
+use Rattle.scenario.specs.FilesToScenario.{NetworkRows, ScheduleRows, PlannedRows, persons_fault, schedule_fault, signals_file_fault, conflict_fault, plans_cross_fault, filled_in, persons_on, schedule_rows_of, signals_on, planned_of, scenario_of, scenario_on, on_network, on_network_fault, network_fault, network_rows_of, scenario_fault, scenario_rows}
 use Rattle.walks.specs.Walks.{AreWithin}
 use Rattle.scenario.specs.Towns.{IsSchedule}
 use Rattle.scenario.specs.Views.{planned_view, scenario_view, schedule_view}
@@ -108,20 +107,20 @@ all_told r v R P S G T ends inside each is no_persons no_schedule no_signals per
     (told_behind planned_view r _ _ value (subst (λ (e : List (ℕ × ℕ)). signals_file_fault R.link_names e T ≡ None) is no_signals) row_by_row))
 
 -- ALL FILES
--- what days are scored by is told beside what the files on network tell
-pub scored_told : (planned : PlannedTown) (scenario : Scenario) (fault : Option ScenarioFault) (value : PlannedRows) (x : ScoringValues)
-    → Tells planned_view (Ok planned) fault value → scenario_view scenario ≡ scored_by (planned_view planned) x
-    → Tells scenario_view (Ok scenario) fault (scored_by value x)
-scored_told planned scenario fault value x told is = (told.0, is ∙ ap (λ (p : PlannedRows). scored_by p x) told.1)
+-- the scenario is told beside what the files on network tell
+pub scenario_told : (planned : PlannedTown) (scenario : Scenario) (fault : Option ScenarioFault) (value : PlannedRows) (v : FileValues)
+    → Tells planned_view (Ok planned) fault value → scenario_view scenario ≡ scenario_of v (planned_view planned)
+    → Tells scenario_view (Ok scenario) fault (scenario_of v value)
+scenario_told planned scenario fault value v told is = (told.0, is ∙ ap (λ (p : PlannedRows). scenario_of v p) told.1)
 
 -- what the files on network tell is what all files tell, where settings and network have no fault
 pub files_told : (r : Result Scenario Stop) (T : Texts) (v : FileValues) (R : NetworkRows) → fault_in T file.Settings (λ bytes. fault_at 0 (settings_fault bytes)) ≡ None → network_fault T ≡ None
-    → v ≡ file_of (bytes_in T file.Settings) → R ≡ network_rows_of T → Tells scenario_view r (on_network_fault R T) (scored_by (on_network v.day R T) v.scoring)
+    → v ≡ file_of (bytes_in T file.Settings) → R ≡ network_rows_of T → Tells scenario_view r (on_network_fault R T) (scenario_on v R T)
     → Tells scenario_view r (scenario_fault T) (scenario_rows T)
 unfolding scenario_fault scenario_rows
 files_told r T v R no_settings no_network settings network told =
     let said = file_of (bytes_in T file.Settings) in
-    let value = scored_by (on_network said.day (network_rows_of T) T) said.scoring in
-    let with_settings = subst (λ (s : FileValues). Tells scenario_view r (on_network_fault R T) (scored_by (on_network s.day R T) s.scoring)) settings told in
-    let with_network = subst (λ (q : NetworkRows). Tells scenario_view r (on_network_fault q T) (scored_by (on_network said.day q T) said.scoring)) network with_settings in
+    let value = scenario_on said (network_rows_of T) T in
+    let with_settings = subst (λ (s : FileValues). Tells scenario_view r (on_network_fault R T) (scenario_on s R T)) settings told in
+    let with_network = subst (λ (q : NetworkRows). Tells scenario_view r (on_network_fault q T) (scenario_on said q T)) network with_settings in
     told_behind scenario_view r _ _ value no_settings (told_behind scenario_view r _ _ value no_network with_network)

@@ -4,9 +4,9 @@ use Rattle.scenario.proofs.Common.{stop_names, stop_rows, Texts, bytes_in, sched
 use Rattle.scenario.proofs.Common.{stops_fault}
 use Rattle.edge_files.specs.declared.files.InFile.TheVariants as file
 use Rattle.records.specs.Fields.{column}
-use Rattle.schedule.specs.declared.lists.Stops.{Stops}
-use Rattle.schedule.specs.declared.lists.Routes.{Routes}
-use Rattle.schedule.specs.declared.lists.Departures.{Departures}
+use Rattle.rows.specs.declared.schedule.Stops.{Stops}
+use Rattle.rows.specs.declared.schedule.Routes.{Routes}
+use Rattle.rows.specs.declared.schedule.Departures.{Departures}
 use Rattle.rows.specs.declared.schedule.StopRow.{StopRow}
 use Rattle.rows.specs.declared.schedule.RouteRow.{RouteRow}
 use Rattle.rows.specs.declared.schedule.DepartureRow.{DepartureRow}

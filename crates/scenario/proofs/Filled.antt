@@ -23,10 +23,10 @@ use Rattle.travel_times.proofs.Arriving.{arrivals_are_fifo}
 use Rattle.walks.specs.Arrivals.{Arrivals}
 use Rattle.walks.specs.Walks.{AreWithin}
 use Rattle.router.specs.Graphs.{Graph}
-use Rattle.leg_routes.specs.Legs.{route_between, each_leg, are_on, Joins}
-use Rattle.leg_routes.proofs.Joining.{allowed_joins}
-use Rattle.leg_routes.proofs.Walking.{below_is, leg_count, leg_kept}
-use Rattle.leg_routes.proofs.Ways.{ends_count}
+use Rattle.router.specs.Legs.{route_between, each_leg, are_on, Joins}
+use Rattle.router.proofs.Joining.{allowed_joins}
+use Rattle.router.proofs.Walking.{below_is, leg_count, leg_kept}
+use Rattle.router.proofs.LegWays.{ends_count}
 use Rattle.car_routes.specs.Plans.{filled, routed_leg, routed_plan, all_routed, own_are_on, all_are_on}
 use Rattle.town.specs.Fits.{has_wrong_ends, first_link}
 use Rattle.scenario.specs.Legs.{settled, leg_reason, legs_fault}

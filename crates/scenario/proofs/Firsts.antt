@@ -1,4 +1,4 @@
--- The first fault of all persons' plans, person by person, and their first plans.
+-- The first fault of all persons' plans, person by person.
 use Rattle.scenario.proofs.Common.{◌≡◌, List, ℕ, map, sym, ◌∙◌, ap, length, refl, None, true, Option, arith, ◌<◌, Some, ◌≤◌, ◌∷◌, drop, false, get_or, suc}
 use Rattle.scenario.proofs.Common.{◌+◌, length-map, flat_map, RowFault, or_else, PlanRows, all_plan_rows, plan_rows, Plan, plans_fault, LegChecks}
 use Rattle.scenario.proofs.Common.{all_plans_fault, plan_fault}

@@ -6,7 +6,7 @@ use Rattle.edge_files.specs.declared.files.InFile.TheVariants as file
 use Rattle.records.proofs.Unrefused.{or_none}
 use Rattle.schedule.specs.Stops.{stop_of}
 use Rattle.schedule.specs.Routes.{route_of}
-use Rattle.schedule.specs.Departures.{is_departure}
+use Rattle.rows.specs.Schedules.{is_departure}
 use Rattle.schedule.proofs.Free.{few_stops, sound_stops, few_routes, sound_routes, few_departures, sound_departures}
 use Rattle.scenario.proofs.Told.{bytes_free}
 

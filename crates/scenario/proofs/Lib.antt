@@ -4,9 +4,11 @@ pub mod Renumbered
 pub mod Firsts
 pub mod There
 pub mod Told
+pub mod Free
+pub mod SameTexts
 pub mod FilesRead
 pub mod FreeSchedules
-pub mod FirstPlans
+pub mod Remembered
 pub mod Settling
 pub mod Filled
 pub mod RowByRow

@@ -10,6 +10,8 @@ use Rattle.rows.specs.declared.network.LinkRow.{LinkRow}
 use Rattle.network.specs.Nodes.{nodes_fault, node_names, node_of}
 use Rattle.network.specs.Links.{links_fault, link_names, link_of}
 use Rattle.rows.specs.PlanRows.{PlanRows}
+use Rattle.learning.specs.declared.settings.Learning.{Learning}
+use Rattle.plan_memory.specs.Memories.{MemoryRows, first_memory}
 use Rattle.plans.specs.Values.{PlanFileRows, tables_of, plans_fault, file_rows}
 use Rattle.rows.specs.declared.schedule.StopRow.{StopRow}
 use Rattle.rows.specs.declared.schedule.RouteRow.{RouteRow}
@@ -21,16 +23,15 @@ use Rattle.scoring.specs.Tables.{ScoringRows}
 use Rattle.signals.specs.declared.conflict.Conflict.{Conflict}
 use Rattle.signals.specs.Signals.{SignalRows, signals_fault, signal_rows_of, clash_fault}
 use Rattle.settings.specs.Values.{Values}
-use Rattle.settings.specs.Faults.{settings_fault, settings_of, scoring_values}
+use Rattle.settings.specs.Faults.{FileValues, settings_fault, file_of}
 use Rattle.settings.specs.Numbered.{by_number}
-use Rattle.settings.specs.Scoring.{ScoringValues}
 use Rattle.rows.specs.Greens.{Phases}
 use Rattle.rows.specs.Joined.{ends_of}
 use Rattle.town.specs.Rows.{TownRows}
 use Rattle.travel_times.specs.Times.{arrivals, free_times}
 use Rattle.walks.specs.Arrivals.{Arrivals}
 use Rattle.router.specs.Graphs.{Graph}
-use Rattle.leg_routes.specs.Legs.{route_between}
+use Rattle.router.specs.Legs.{route_between}
 use Rattle.car_routes.specs.Plans.{all_routed}
 use Rattle.scenario.specs.declared.faults.ScenarioFault.{ScenarioFault}
 use Rattle.scenario.specs.Texts.{Texts, bytes_in}
@@ -143,12 +144,15 @@ pub record PlannedRows : Type 0 where
   pub node_names : List (List ℕ)
   pub plans : List (List PlanRows)
 
--- the same, and what a day of it is scored by
+-- a town, the names of its nodes, what each person remembers at first, what a day is scored by, what persons replan by, and the number of
+-- the last iteration
 pub record ScenarioRows : Type 0 where
   pub town : TownRows
   pub node_names : List (List ℕ)
-  pub plans : List (List PlanRows)
+  pub memories : List MemoryRows
   pub scoring : ScoringRows
+  pub learning : Learning
+  pub last_iteration : ℕ
 
 -- the town, with names of persons and of kinds of activities, and with these signals of its links
 unfoldable pub town_of : Values → NetworkRows → List (List ℕ) → List (List ℕ) → ScheduleRows → List Phases → TownRows
@@ -228,14 +232,21 @@ unfoldable pub on_network : Values → NetworkRows → Texts → PlannedRows
 on_network settings network T =
     planned_of settings network (filled_in network (persons_on network T)) (schedule_rows_of network.link_names T) (signals_on network.link_names T).greens
 
--- with what its days are scored by: tables for the kinds of activities that plans have, with their numbers
-abbrev pub scored_by : PlannedRows → ScoringValues → ScenarioRows
-scored_by planned scoring = record {
+-- the scenario of a town with its plans: each person remembers his plans, of which he has tried none and follows the first one; days are
+-- scored by tables for the kinds of activities that plans have, with their numbers
+abbrev pub scenario_of : FileValues → PlannedRows → ScenarioRows
+scenario_of settings planned = record {
   town = planned.town;
   node_names = planned.node_names;
-  plans = planned.plans;
-  scoring = by_number planned.town.book.kinds scoring;
+  memories = map first_memory planned.plans;
+  scoring = by_number planned.town.book.kinds settings.scoring;
+  learning = settings.day.learning;
+  last_iteration = settings.day.last_iteration;
 }
+
+-- the scenario that the files give on network, by what settings.json says
+abbrev pub scenario_on : FileValues → NetworkRows → Texts → ScenarioRows
+scenario_on settings network T = scenario_of settings (on_network settings.day network T)
 
 -- the first fault of the files: each by itself, in their order, and only then the first leg of plans.csv that does not fit, and the first conflict
 -- of signals.csv
@@ -251,5 +262,4 @@ conflicts_in T = (signals_on (network_rows_of T).link_names T).conflicts
 
 -- the scenario that files without a fault give
 unfoldable pub scenario_rows : Texts → ScenarioRows
-scenario_rows T =
-    scored_by (on_network (settings_of (bytes_in T file.Settings)) (network_rows_of T) T) (scoring_values (bytes_in T file.Settings))
+scenario_rows T = scenario_on (file_of (bytes_in T file.Settings)) (network_rows_of T) T

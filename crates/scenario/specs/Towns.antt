@@ -2,9 +2,9 @@
 use Rattle.std.specs.Prelude.{◌≡◌, ℕ, ◌≤◌, true, List, length}
 use Rattle.std.specs.List.{list_all}
 use Rattle.limits.specs.declared.TheConstants.{MAX_DEPARTURES, MAX_ROUTES, MAX_STOPS}
-use Rattle.schedule.specs.Stops.{is_stop}
-use Rattle.schedule.specs.Routes.{is_route}
-use Rattle.schedule.specs.Departures.{is_departure}
+use Rattle.rows.specs.Schedules.{is_stop}
+use Rattle.rows.specs.Schedules.{is_route}
+use Rattle.rows.specs.Schedules.{is_departure}
 use Rattle.scenario.specs.FilesToScenario.{ScheduleRows}
 
 -- the stops, which have a name each, the routes and the departures are within their limits, and name links, lines, stops and routes that are there

@@ -1,12 +1,9 @@
 -- The values of the code as the definitions see them.
-use Rattle.std.specs.Prelude.{get_or, List, None}
+use Rattle.std.specs.Prelude.{get_or, None}
 use Rattle.edge_files.specs.Files.{in_place}
-use Rattle.network.specs.declared.lists.Network.{Network}
-use Rattle.rows.specs.declared.plan.Plan.{Plan}
+use Rattle.rows.specs.declared.network.Network.{Network}
 use Rattle.rows.specs.PlanRows.{all_plan_rows}
-use Rattle.scoring.specs.declared.tables.Tables.{Tables}
 use Rattle.scoring.specs.Tables.{scoring_rows}
-use Rattle.town.specs.declared.town.Town.{Town}
 use Rattle.town.specs.Views.{rows_of}
 use Rattle.scenario.specs.declared.files.Files.{Files}
 use Rattle.scenario.specs.declared.planned.PlannedTown.{PlannedTown}
@@ -39,15 +36,13 @@ schedule_view schedule = record {
 abbrev pub planned_view : PlannedTown → PlannedRows
 planned_view planned = record { town = rows_of planned.town; node_names = planned.town.network.node_names; plans = all_plan_rows planned.plans }
 
--- a town, with the names of its nodes, each person's plans, and what days are scored by
-abbrev pub scenario_parts : Town → List (List Plan) → Tables → ScenarioRows
-scenario_parts town plans tables = record {
-  town = rows_of town;
-  node_names = town.network.node_names;
-  plans = all_plan_rows plans;
-  scoring = scoring_rows tables;
-}
-
 -- the scenario
 abbrev pub scenario_view : Scenario → ScenarioRows
-scenario_view scenario = scenario_parts scenario.town scenario.plans scenario.tables
+scenario_view scenario = record {
+  town = rows_of scenario.town;
+  node_names = scenario.town.network.node_names;
+  memories = scenario.memories;
+  scoring = scoring_rows scenario.tables;
+  learning = scenario.learning;
+  last_iteration = scenario.last_iteration;
+}

@@ -8,7 +8,6 @@ ghost use Rattle.limits.specs.declared.TheConstants.{MAX_PERSONS};
 ghost use Rattle.plans.specs.Progress.{IsSound};
 ghost use Rattle.plans.specs.Read.{file_rows_of};
 ghost use Rattle.settings.specs.Faults.{settings_fault, file_of, values_of, file_values};
-ghost use Rattle.settings.specs.Scoring.{scoring_of};
 ghost use Rattle.records.specs.Faults.{fault_at, or_else};
 ghost use Rattle.rows.specs.Joined.{ends_of};
 ghost use Rattle.signals.specs.Views.{signal_view};
@@ -18,12 +17,14 @@ ghost use Rattle.scenario.specs.Faults.{fault_in, Tells};
 ghost use Rattle.scenario.specs.LegChecks.{leg_checks_of, AreThere};
 ghost use Rattle.scenario.specs.Towns.{IsSchedule};
 ghost use Rattle.scenario.specs.FilesToScenario.{filled_in, leg_checks_in, book_of, town_of, plans_cross_fault, conflict_fault, planned_of};
-ghost use Rattle.scenario.specs.FilesToScenario.{on_network, on_network_fault, scored_by, scenario_fault, scenario_rows};
+ghost use Rattle.scenario.specs.FilesToScenario.{on_network, on_network_fault, scenario_of, scenario_on};
+ghost use Rattle.scenario.specs.FilesToScenario.{scenario_fault, scenario_rows};
 ghost use Rattle.scenario.specs.Views.{network_view, schedule_view, planned_view, scenario_view, texts_of};
 
 use crate::faults::{ScenarioFault, Stop};
 use crate::files::Files;
 use crate::legs::all_plans_fault;
+use crate::memories::first_memories;
 use crate::network_read::{ends_in, read_network};
 use crate::numbering::{Numbering, numbers_in};
 use crate::planned::PlannedTown;
@@ -40,7 +41,7 @@ use events::{Book, Names};
 use network::Network;
 use plans::PlanFile;
 use rows::GreenList;
-use settings::{Scoring, Settings, SettingsFile, by_number, read_settings};
+use settings::{Settings, SettingsFile, by_number, read_settings};
 use signals::{Signals, first_clash};
 use std::alloc::{AllocError, Global};
 use std::thread::Threads;
@@ -444,27 +445,39 @@ fn on_network<R: Threads + Sync>(
     }
 }
 
-/// The town with its plans, and what its days are scored by.
-fn scored(alloc: Global, planned: PlannedTown, scoring: Scoring) -> Result<Scenario, AllocError>
-    ensures { IfOk result (λ scenario. scenario_view scenario ≡ scored_by (planned_view planned) (scoring_of scoring)) }
+/// The scenario of a town with its plans, by what settings.json says.
+fn scenario_of(
+    alloc: Global,
+    planned: PlannedTown,
+    file: SettingsFile,
+) -> Result<Scenario, AllocError>
+    ensures { IfOk result (λ scenario. scenario_view scenario ≡ scenario_of (file_values file) (planned_view planned)) }
 {
     let PlannedTown { town, plans } = planned;
+    let SettingsFile { settings, scoring } = file;
+    let Ok(memories) = first_memories(alloc, plans) else {
+        drop(town);
+        drop(scoring);
+        return Err(AllocError);
+    };
     match by_number(alloc, scoring, &town.book.kinds) {
         Ok(tables) => Ok(Scenario {
             town,
-            plans,
+            memories,
             tables,
+            learning: settings.learning,
+            last_iteration: settings.last_iteration,
         }),
         Err(_) => {
             drop(town);
-            drop(plans);
+            drop(memories);
             Err(AllocError)
         }
     }
 }
 
-/// What the files that are read over network give on these, with what days are scored by, or their first fault.
-fn scored_on_network<R: Threads + Sync>(
+/// The scenario that the files read over network give on these, by what settings.json says, or their first fault.
+fn scenario_on<R: Threads + Sync>(
     rt: &R,
     alloc: Global,
     files: &Files,
@@ -472,17 +485,16 @@ fn scored_on_network<R: Threads + Sync>(
     network: Network,
 ) -> Result<Scenario, Stop>
     ensures { Tells scenario_view result (on_network_fault (network_view network) (texts_of files.now))
-        (scored_by (on_network (values_of file.settings) (network_view network) (texts_of files.now)) (scoring_of file.scoring)) }
+        (scenario_on (file_values file) (network_view network) (texts_of files.now)) }
 {
-    let SettingsFile { settings, scoring } = file;
-    let planned = match on_network(rt, alloc, files, settings, network) {
+    let planned = match on_network(rt, alloc, files, file.settings, network) {
         Ok(planned) => planned,
         Err(error) => {
-            drop(scoring);
+            drop(file);
             return Err(error);
         }
     };
-    match scored(alloc, planned, scoring) {
+    match scenario_of(alloc, planned, file) {
         Ok(scenario) => Ok(scenario),
         Err(_) => Err(Stop::NoMemory),
     }
@@ -502,7 +514,7 @@ pub fn assemble<R: Threads + Sync>(rt: &R, alloc: Global, files: &Files) -> Resu
         Err(error) => return Err(error),
     };
     match read_network(alloc, files) {
-        Ok(network) => scored_on_network(rt, alloc, files, file, network),
+        Ok(network) => scenario_on(rt, alloc, files, file, network),
         Err(error) => {
             drop(file);
             Err(error)

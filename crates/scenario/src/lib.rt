@@ -1,12 +1,11 @@
-//! A scenario out of its files: the town, each person's plans in it and the tables of
-//! scores, or the first fault of the files.
+//! A scenario out of its files: the town, what each person remembers at first, and what a run goes by, or the first fault of the files.
 #![tactic(auto)]
 
 mod assembling;
-mod chosen;
 mod faults;
 mod files;
 mod legs;
+mod memories;
 mod network_read;
 mod numbering;
 mod planned;
@@ -19,7 +18,6 @@ mod schedules;
 mod signals_read;
 
 pub use assembling::assemble;
-pub use chosen::chosen_plans;
 pub use faults::{ScenarioFault, Stop};
 pub use files::{Files, SCENARIO_FILES};
 pub use scenario::Scenario;

@@ -2,7 +2,7 @@ ghost use Rattle.std.specs.Prelude.{◌≡◌, ◌≤◌, ℕ, length, map, true
 ghost use Rattle.std.specs.List.{list_all};
 ghost use Rattle.limits.specs.declared.TheConstants.{MAX_IN_LINKS, MAX_LINKS, MAX_NODES};
 ghost use Rattle.records.specs.Files.{body_of};
-ghost use Rattle.network.specs.Limits.{is_link, in_links};
+ghost use Rattle.rows.specs.Networks.{is_link, in_links};
 ghost use Rattle.network.specs.Nodes.{nodes_fault, node_names, node_of};
 ghost use Rattle.network.specs.Links.{links_fault, link_names, link_of};
 ghost use Rattle.rows.specs.Joined.{ends_of};

@@ -18,12 +18,15 @@ use Rattle.rows.specs.declared.schedule.StopRow.{StopRow}
 use Rattle.rows.specs.declared.schedule.RouteRow.{RouteRow}
 use Rattle.rows.specs.declared.schedule.DepartureRow.{DepartureRow}
 use Rattle.schedule.specs.declared.calls.CallText.{CallText}
-use Rattle.schedule.specs.declared.lists.Routes.{Routes}
+use Rattle.rows.specs.declared.schedule.Routes.{Routes}
 use Rattle.schedule.specs.Views.{route_lists}
 use Rattle.schedule.specs.Calls.{call_text, call_of}
-use Rattle.schedule.specs.Stops.{stop_header, stop_reason, stop_of, stops_fault, is_stop}
-use Rattle.schedule.specs.Routes.{route_header, link_items, call_texts, lists_of, route_of, route_reason, parts_reason, routes_fault, lines_of, routes_of, is_way, is_too_much, is_unserved, are_drivable, is_route}
-use Rattle.schedule.specs.Departures.{departure_header, departure_reason, departure_of, departures_fault, is_departure, second_in, seats_in}
+use Rattle.schedule.specs.Stops.{stop_header, stop_reason, stop_of, stops_fault}
+use Rattle.rows.specs.Schedules.{is_stop}
+use Rattle.schedule.specs.Routes.{route_header, link_items, call_texts, lists_of, route_of, route_reason, parts_reason, routes_fault, lines_of, routes_of, is_too_much}
+use Rattle.rows.specs.Schedules.{is_way, is_unserved, are_drivable, is_route}
+use Rattle.schedule.specs.Departures.{departure_header, departure_reason, departure_of, departures_fault, second_in, seats_in}
+use Rattle.rows.specs.Schedules.{is_departure}
 use Rattle.schedule.proofs.SoundCalls.{drivable}
 
 -- STOPS

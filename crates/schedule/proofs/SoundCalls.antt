@@ -8,10 +8,12 @@ use Rattle.records.proofs.Numbering.{numbered_within}
 use Rattle.records.proofs.Sound.{numbers_known}
 use Rattle.rows.specs.declared.schedule.StopRow.{StopRow}
 use Rattle.schedule.specs.declared.calls.CallText.{CallText}
-use Rattle.schedule.specs.Routes.{is_way, is_too_much, is_unserved, are_drivable}
+use Rattle.rows.specs.Schedules.{is_way, is_unserved, are_drivable}
+use Rattle.schedule.specs.Routes.{is_too_much}
 use Rattle.rows.specs.Stops.{stop_link}
 use Rattle.records.specs.Lists.{part}
-use Rattle.schedule.specs.Calls.{text_of, call_text, call_of, is_sound_call}
+use Rattle.schedule.specs.Calls.{text_of, call_text, call_of}
+use Rattle.rows.specs.Schedules.{is_sound_call}
 
 -- a number of a range is at most its end
 in_range : (b : Bool) (n value high : ℕ) → cond b (Some value) None ≡ Some n → (b ≡ true → value ≤ high) → n ≤ high

@@ -34,16 +34,3 @@ call_of rows text = record {
   offset = unwrap_or text.offset 0;
   wait = text.wait;
 }
-
-abbrev pub served_from : (List ℕ → Bool) → List ℕ → Option ℕ → Bool
-served_from others links None = false
-served_from others links (Some place) = others (drop place links)
-
--- each call is served on the first link, from the place of the call before it on, that is its stop's link
-unfoldable pub are_served : List StopCall → List ℕ → Bool
-are_served [] links = true
-are_served (call ∷ calls) links = served_from (are_served calls) links (position (nat_eq call.link) links)
-
--- the call is at one of the stops, on its link, at an offset of at most 172,800 s
-unfoldable pub is_sound_call : List StopRow → StopCall → Bool
-is_sound_call rows call = nat_lt call.stop (length rows) && nat_eq call.link (stop_link rows call.stop) && nat_le call.offset LAST_SECOND

@@ -42,7 +42,3 @@ departure_of routes row = record { route = unwrap_or (number_of (field row 1) ro
 -- the first fault of departures.csv
 abbrev pub departures_fault : List (List ℕ) → List ℕ → Option RowFault
 departures_fault routes bytes = file_fault (optional_head_reason departure_header bytes) 0 (departure_of routes) (λ names _. departure_reason routes names) bytes
-
--- the departure is one of a route of so many, at a second up to 172,800 and with 1 to 1,000 seats
-unfoldable pub is_departure : ℕ → DepartureRow → Bool
-is_departure routes departure = nat_lt departure.route routes && nat_le departure.second LAST_SECOND && nat_le 1 departure.seats && nat_le departure.seats MAX_SEATS

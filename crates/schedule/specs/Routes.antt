@@ -18,15 +18,11 @@ use Rattle.rows.specs.declared.schedule.StopRow.{StopRow}
 use Rattle.rows.specs.declared.schedule.RouteRow.{RouteRow}
 use Rattle.schedule.specs.declared.calls.CallText.{CallText}
 use Rattle.schedule.specs.declared.route_lists.RouteLists.{RouteLists}
-use Rattle.schedule.specs.Calls.{call_text, call_of, are_served, is_sound_call}
+use Rattle.schedule.specs.Calls.{call_text, call_of}
+use Rattle.rows.specs.Schedules.{is_way, is_unserved}
 
 abbrev pub route_header : List (List ℕ)
 route_header = codes "line" ∷ codes "route" ∷ codes "links" ∷ codes "stops" ∷ []
-
--- there are links, and each but the first begins where the one before it ends
-abbrev pub is_way : List (ℕ × ℕ) → List ℕ → Bool
-is_way ends [] = false
-is_way ends (link ∷ links) = is_joined ends (link ∷ links)
 
 -- the names in the field of links
 abbrev pub link_items : Row → List (List ℕ)
@@ -55,10 +51,6 @@ lacks_stop texts = not (list_all (λ t. is_some t.stop) texts)
 -- with this row there are more than 4,096 routes, or it has more than 1,000 links or 200 calls
 abbrev pub is_too_much : List (List ℕ) → List ℕ → List StopCall → Bool
 is_too_much names numbers calls = nat_le MAX_ROUTES (length names) || nat_lt MAX_ROUTE_LINKS (length numbers) || nat_lt MAX_CALLS (length calls)
-
--- there is no stop call, or not all of them can be served in order
-abbrev pub is_unserved : List StopCall → List ℕ → Bool
-is_unserved calls numbers = nat_eq (length calls) 0 || not (are_served calls numbers)
 
 -- why a row is refused that has all its fields, by its items, the texts of its stop calls, the numbers of its links and its stop calls
 unfoldable pub parts_reason : List (ℕ × ℕ) → List (List ℕ) → Row → List (List ℕ) → List CallText → Option (List ℕ) → List StopCall → Option Reason
@@ -103,13 +95,3 @@ routes_of links stops rows body = map (route_of links stops rows (lines_of body)
 abbrev pub routes_fault : List (List ℕ) → List (ℕ × ℕ) → List (List ℕ) → List StopRow → List ℕ → Option RowFault
 routes_fault links ends stops rows bytes =
     file_fault (optional_head_reason route_header bytes) 1 (route_of links stops rows (lines_of (body_of bytes))) (λ names _. route_reason links ends stops rows names) bytes
-
--- the links and the stop calls of a route are such as a transit vehicle can drive: 1 to 1,000 joined links that exist, and 1 to 200 calls that can be served in order
-unfoldable pub are_drivable : ℕ → List (ℕ × ℕ) → List StopRow → List ℕ → List StopCall → Bool
-are_drivable links ends rows numbers calls =
-    list_all (λ link. nat_lt link links) numbers && is_way ends numbers && nat_le (length numbers) MAX_ROUTE_LINKS
-    && list_all (is_sound_call rows) calls && not (is_unserved calls numbers) && nat_le (length calls) MAX_CALLS
-
--- the route has a line of so many, and is drivable
-abbrev pub is_route : ℕ → ℕ → List (ℕ × ℕ) → List StopRow → RouteRow → Bool
-is_route lines links ends rows route = nat_lt route.line lines && are_drivable links ends rows route.links route.calls

@@ -32,7 +32,3 @@ stop_of links row = record { link = unwrap_or (number_of (field row 1) links) 0 
 -- the first fault of stops.csv
 abbrev pub stops_fault : List (List ℕ) → List ℕ → Option RowFault
 stops_fault links bytes = file_fault (optional_head_reason stop_header bytes) 0 (stop_of links) (λ names _. stop_reason links names) bytes
-
--- the stop lies on one of so many links
-abbrev pub is_stop : ℕ → StopRow → Bool
-is_stop links stop = nat_lt stop.link links

@@ -3,9 +3,9 @@ use Rattle.std.specs.Prelude.{ℕ, List}
 use Rattle.rows.specs.declared.schedule.StopRow.{StopRow}
 use Rattle.rows.specs.declared.schedule.RouteRow.{RouteRow}
 use Rattle.rows.specs.declared.schedule.DepartureRow.{DepartureRow}
-use Rattle.schedule.specs.declared.lists.Stops.{Stops}
-use Rattle.schedule.specs.declared.lists.Routes.{Routes}
-use Rattle.schedule.specs.declared.lists.Departures.{Departures}
+use Rattle.rows.specs.declared.schedule.Stops.{Stops}
+use Rattle.rows.specs.declared.schedule.Routes.{Routes}
+use Rattle.rows.specs.declared.schedule.Departures.{Departures}
 
 -- names and stops
 abbrev pub stop_lists : Stops → List (List ℕ) × List StopRow

@@ -1,5 +1,6 @@
 ghost use Rattle.std.specs.Prelude.{◌≡◌, ◌≤◌, ◌<◌, nat_eq, map, length, position, IfOk, IfSome};
-ghost use Rattle.schedule.specs.Calls.{is_call, text_of, call_text, call_of, are_served};
+ghost use Rattle.schedule.specs.Calls.{is_call, text_of, call_text, call_of};
+ghost use Rattle.rows.specs.Schedules.{are_served};
 
 use events::{Calls, Names, StopCall, is_name};
 use limits::LAST_SECOND;
@@ -101,7 +102,7 @@ fn first_place(links: &[u32], link: u32) -> Option<usize>
 }
 
 /// Whether the calls can be served in order along the links.
-#[tactic(auto, unfolding(crate::specs::Calls::are_served))]
+#[tactic(auto, unfolding(rows::specs::Schedules::are_served))]
 pub fn are_served(calls: &[StopCall], links: &[u32]) -> bool
     ensures { result ≡ are_served calls.now links.now }
 {

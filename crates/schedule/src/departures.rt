@@ -4,15 +4,15 @@ ghost use Rattle.records.specs.Fields.{column};
 ghost use Rattle.records.specs.Faults.{Answers};
 ghost use Rattle.records.specs.Files.{optional_head_reason, body_of};
 ghost use Rattle.schedule.specs.Views.{departure_lists};
-ghost use Rattle.schedule.specs.Departures.{departure_header, departure_reason, departure_of, departures_fault, is_departure};
+ghost use Rattle.schedule.specs.Departures.{departure_header, departure_reason, departure_of, departures_fault};
+ghost use Rattle.rows.specs.Schedules.{is_departure};
 
-use crate::lists::Departures;
 use csv::ByteRecord;
 use edge_files::{Reason, RowStop};
 use events::Names;
 use limits::{LAST_SECOND, MAX_DEPARTURES, MAX_SEATS};
 use records::{RowReader, Table, field, holds_name, number_in, read_optional_file, read_table};
-use rows::{DepartureList, DepartureRow};
+use rows::{DepartureList, DepartureRow, Departures};
 use std::alloc::Global;
 
 /// Reads the rows of departures.csv, of these routes.

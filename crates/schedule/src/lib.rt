@@ -3,13 +3,13 @@
 
 mod calls;
 mod departures;
-mod lists;
 mod route_lists;
 mod routes;
 mod stops;
 
 pub use departures::read_departures;
-pub use lists::{Departures, Routes, Stops};
 pub use routes::read_routes;
-pub use rows::{DepartureList, DepartureRow, RouteList, RouteRow, StopList, StopRow};
+pub use rows::{
+    DepartureList, DepartureRow, Departures, RouteList, RouteRow, Routes, StopList, StopRow, Stops,
+};
 pub use stops::read_stops;

@@ -7,11 +7,11 @@ ghost use Rattle.records.specs.Faults.{unless, Answers};
 ghost use Rattle.records.specs.Files.{body_of};
 ghost use Rattle.records.specs.Reading.{body_fault};
 ghost use Rattle.schedule.specs.Views.{route_lists};
-ghost use Rattle.schedule.specs.Routes.{has_bad_name, is_way, is_too_much, is_unserved, is_route, route_reason};
+ghost use Rattle.schedule.specs.Routes.{has_bad_name, is_too_much, route_reason};
+ghost use Rattle.rows.specs.Schedules.{is_way, is_unserved, is_route};
 ghost use Rattle.schedule.specs.Routes.{route_of, lists_of, lines_of, routes_of, routes_fault};
 
 use crate::calls::{CallText, are_served, call_texts, calls_of};
-use crate::lists::{Routes, Stops};
 use crate::route_lists::RouteLists;
 use csv::ByteRecord;
 use edge_files::{Reason, RowStop};
@@ -21,7 +21,7 @@ use records::{
     add_row, are_names, body, fault, field, holds_name, items_in, number, numbers_of,
     read_optional_file,
 };
-use rows::{RouteList, RouteRow, is_joined};
+use rows::{RouteList, RouteRow, Routes, Stops, is_joined};
 use std::alloc::{AllocError, Global};
 
 fn are_calls(texts: &[CallText]) -> bool

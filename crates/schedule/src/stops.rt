@@ -4,15 +4,15 @@ ghost use Rattle.records.specs.Fields.{column};
 ghost use Rattle.records.specs.Faults.{Answers};
 ghost use Rattle.records.specs.Files.{optional_head_reason, body_of};
 ghost use Rattle.schedule.specs.Views.{stop_lists};
-ghost use Rattle.schedule.specs.Stops.{stop_header, stop_reason, stop_of, stops_fault, is_stop};
+ghost use Rattle.schedule.specs.Stops.{stop_header, stop_reason, stop_of, stops_fault};
+ghost use Rattle.rows.specs.Schedules.{is_stop};
 
-use crate::lists::Stops;
 use csv::ByteRecord;
 use edge_files::{Reason, RowStop};
 use events::Names;
 use limits::MAX_STOPS;
 use records::{RowReader, Table, field, holds_name, read_optional_file, read_table};
-use rows::{StopList, StopRow};
+use rows::{StopList, StopRow, Stops};
 use std::alloc::Global;
 
 /// Reads the rows of stops.csv, over these links.

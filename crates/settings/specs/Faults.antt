@@ -15,7 +15,7 @@ use Rattle.settings.specs.Scoring.{ScoringValues, scoring_in, scoring_of, has_wr
 use Rattle.settings.specs.declared.values.Settings.{Settings}
 use Rattle.settings.specs.declared.values.SettingsFile.{SettingsFile}
 
--- what settings.json says: of a day, and of its scores
+-- what settings.json says: of the days of a run, and of their scores
 pub record FileValues : Type 0 where
   pub day : Values
   pub scoring : ScoringValues
@@ -43,7 +43,7 @@ value_tests value =
 unfoldable pub settings_fault : List ℕ → Option Reason
 settings_fault bytes = least ((is_too_long bytes, reason.TooLong) ∷ value_tests (value_of bytes))
 
--- the values of settings without a fault: of a day, and of its scores
+-- the values of settings without a fault: of the days of a run, and of their scores
 unfoldable pub settings_of : List ℕ → Values
 settings_of bytes = values_in (members_of (value_of bytes))
 
@@ -59,7 +59,12 @@ file_of bytes = record { day = settings_of bytes; scoring = scoring_values bytes
 
 -- the values of settings that were read
 abbrev pub values_of : Settings → Values
-values_of settings = record { seed = settings.seed; traffic = settings.traffic }
+values_of settings = record {
+  seed = settings.seed;
+  last_iteration = settings.last_iteration;
+  traffic = settings.traffic;
+  learning = settings.learning;
+}
 
 abbrev pub file_values : SettingsFile → FileValues
 file_values file = record { day = values_of file.settings; scoring = scoring_of file.scoring }

@@ -9,6 +9,7 @@ mod named_tables;
 mod names;
 mod numbered;
 mod read;
+mod replanning;
 mod scores;
 mod values;
 

@@ -5,6 +5,7 @@ ghost use Rattle.std.specs.List.{list_all};
 ghost use Rattle.serde_json.specs.Find.{get_member};
 ghost use Rattle.serde_json.specs.View.{view, members_view};
 ghost use Rattle.settings.specs.Looking.{members_of, has_other_key};
+ghost use Rattle.settings.specs.Keys.{run_keys, traffic_keys, learning_keys, weight_keys, cost_keys, is_in};
 ghost use Rattle.settings.specs.Keys.{is_key, has_unknown_key};
 ghost use Rattle.settings.specs.Modes.{is_mode_name, is_mode_key, has_unknown_mode_key};
 ghost use Rattle.settings.specs.NamedTables.{is_table_key, has_unknown_table_key};
@@ -13,15 +14,21 @@ use crate::looking::member;
 use events::Mode;
 use serde_json::{Map, Value};
 
-/// Whether there is a key of this name.
-#[tactic(auto, unfolding(crate::specs::Keys::is_key))]
-fn is_key(name: &str) -> bool
-    ensures { result ≡ is_key name.now }
+/// Whether there is a key of a run of this name, one of traffic, one of replanning, one of a strategy's weight, and one of scores.
+#[tactic(auto, unfolding(crate::specs::Keys::is_in))]
+fn is_run_key(name: &str) -> bool
+    ensures { result ≡ is_in run_keys name.now }
+{
+    matches!(name, "seed" | "last_iteration")
+}
+
+#[tactic(auto, unfolding(crate::specs::Keys::is_in))]
+fn is_traffic_key(name: &str) -> bool
+    ensures { result ≡ is_in traffic_keys name.now }
 {
     matches!(
         name,
-        "seed"
-            | "end_second"
+        "end_second"
             | "flow_permille"
             | "storage_permille"
             | "stuck_seconds"
@@ -30,11 +37,51 @@ fn is_key(name: &str) -> bool
             | "dwell_open"
             | "dwell_alight"
             | "dwell_board"
-            | "late_per_second"
-            | "stuck"
-            | "modes"
-            | "tables"
     )
+}
+
+#[tactic(auto, unfolding(crate::specs::Keys::is_in))]
+fn is_learning_key(name: &str) -> bool
+    ensures { result ≡ is_in learning_keys name.now }
+{
+    matches!(
+        name,
+        "memory_size" | "logit_unit" | "mutation_range" | "innovation_last"
+    )
+}
+
+#[tactic(auto, unfolding(crate::specs::Keys::is_in))]
+fn is_weight_key(name: &str) -> bool
+    ensures { result ≡ is_in weight_keys name.now }
+{
+    matches!(
+        name,
+        "weight_keep"
+            | "weight_best"
+            | "weight_random"
+            | "weight_logit"
+            | "weight_reroute"
+            | "weight_time"
+    )
+}
+
+#[tactic(auto, unfolding(crate::specs::Keys::is_in))]
+fn is_scoring_key(name: &str) -> bool
+    ensures { result ≡ (is_in cost_keys name.now || bytes_eq name.now (codes "tables")) }
+{
+    matches!(name, "late_per_second" | "stuck" | "modes" | "tables")
+}
+
+/// Whether there is a key of this name.
+#[tactic(auto, unfolding(crate::specs::Keys::is_key))]
+fn is_key(name: &str) -> bool
+    ensures { result ≡ is_key name.now }
+{
+    is_run_key(name)
+        || is_traffic_key(name)
+        || is_learning_key(name)
+        || is_weight_key(name)
+        || is_scoring_key(name)
 }
 
 /// Whether each key that is given is one that there is.

@@ -2,17 +2,20 @@ ghost use Rattle.std.specs.Prelude.{◌≡◌, ◌∷◌, [], Some, IfOk, IfErr,
 ghost use Rattle.serde_json.specs.View.{view, members_view};
 ghost use Rattle.records.specs.Faults.{least, Answers, fault_at};
 ghost use Rattle.settings.specs.Looking.{members_of};
-ghost use Rattle.settings.specs.Keys.{has_bad_value, has_bad_scoring};
-ghost use Rattle.settings.specs.Values.{values_in};
+ghost use Rattle.rows.specs.Settings.{AreInRange};
+ghost use Rattle.settings.specs.Keys.{has_bad_traffic, has_bad_value, has_bad_scoring};
+ghost use Rattle.settings.specs.Values.{traffic_in, values_in};
 ghost use Rattle.settings.specs.Scoring.{scoring_in, has_wrong_table};
 ghost use Rattle.settings.specs.Faults.{value_of, value_tests, settings_fault, settings_of, scoring_values, values_of};
 ghost use Rattle.settings.specs.Faults.{file_in, file_of, file_values};
 
 use crate::keys::{given, given_small};
 use crate::names::has_unknown_key;
+use crate::replanning::learning_in;
 use crate::scores::scoring_in;
 use crate::values::{Settings, SettingsFile};
 use edge_files::{Reason, RowStop};
+use learning::LAST_ITERATION;
 use limits::{LAST_SECOND, MAX_DWELL, MAX_FILE_BYTES, MAX_PERMILLE, MAX_SPEED};
 use records::fault;
 use rows::{Dwelling, Stuck, TrafficSettings};
@@ -38,15 +41,15 @@ fn read_value(alloc: Global, bytes: &[u8]) -> Result<Option<Value>, AllocError>
     }
 }
 
-/// What the values of the keys say, or that one of them is not allowed.
-#[tactic(auto, unfolding(crate::specs::Keys::has_bad_value, crate::specs::Values::values_in))]
-fn values_in(settings: &Map<String, Value>) -> Result<Settings, Reason>
+/// What the settings say of traffic, or that one of them is not allowed.
+#[tactic(auto, unfolding(crate::specs::Keys::has_bad_traffic, crate::specs::Values::traffic_in))]
+fn traffic_in(settings: &Map<String, Value>) -> Result<TrafficSettings, Reason>
     ensures bad { IfErr result (λ reason. (reason ≡ Reason.ValueBad)
-        × (has_bad_value (members_view settings.now.entries) ≡ true)) }
-    ensures good { IfOk result (λ read. (has_bad_value (members_view settings.now.entries) ≡ false)
-        × (values_of read ≡ values_in (members_view settings.now.entries))) }
+        × (has_bad_traffic (members_view settings.now.entries) ≡ true)) }
+    ensures good { IfOk result (λ traffic. (has_bad_traffic (members_view settings.now.entries) ≡ false)
+        × (traffic ≡ traffic_in (members_view settings.now.entries))) }
+    ensures within { IfOk result AreInRange }
 {
-    let seed = given(settings, "seed", 0, u64::MAX)?.unwrap_or(4711);
     let end_second = given_small(settings, "end_second", 1, LAST_SECOND)?.unwrap_or(108_000);
     let flow_permille = given_small(settings, "flow_permille", 1, MAX_PERMILLE)?.unwrap_or(1_000);
     let storage_permille = given_small(settings, "storage_permille", 1, MAX_PERMILLE)?.unwrap_or(
@@ -58,27 +61,44 @@ fn values_in(settings: &Map<String, Value>) -> Result<Settings, Reason>
     let dwell_open = given_small(settings, "dwell_open", 0, MAX_DWELL)?.unwrap_or(4);
     let dwell_alight = given_small(settings, "dwell_alight", 0, MAX_DWELL)?.unwrap_or(1);
     let dwell_board = given_small(settings, "dwell_board", 0, MAX_DWELL)?.unwrap_or(2);
-    Ok(Settings {
-        seed,
-        traffic: TrafficSettings {
-            end_second,
-            flow_permille,
-            storage_permille,
-            stuck: Stuck {
-                seconds: stuck_seconds,
-                push: stuck_push,
-            },
-            hole_speed,
-            dwell: Dwelling {
-                per_stop: dwell_open,
-                per_alight: dwell_alight,
-                per_board: dwell_board,
-            },
+    Ok(TrafficSettings {
+        end_second,
+        flow_permille,
+        storage_permille,
+        stuck: Stuck {
+            seconds: stuck_seconds,
+            push: stuck_push,
+        },
+        hole_speed,
+        dwell: Dwelling {
+            per_stop: dwell_open,
+            per_alight: dwell_alight,
+            per_board: dwell_board,
         },
     })
 }
 
-/// What the settings say, of which the values of a day were read, or what is wrong with the others.
+/// What the values of all keys but those of scores say, or that one of them is not allowed.
+#[tactic(auto, unfolding(crate::specs::Keys::has_bad_value, crate::specs::Values::values_in))]
+fn values_in(settings: &Map<String, Value>) -> Result<Settings, Reason>
+    ensures bad { IfErr result (λ reason. (reason ≡ Reason.ValueBad)
+        × (has_bad_value (members_view settings.now.entries) ≡ true)) }
+    ensures good { IfOk result (λ read. (has_bad_value (members_view settings.now.entries) ≡ false)
+        × (values_of read ≡ values_in (members_view settings.now.entries))) }
+{
+    let seed = given(settings, "seed", 0, u64::MAX)?.unwrap_or(4711);
+    let last_iteration = given_small(settings, "last_iteration", 0, LAST_ITERATION)?.unwrap_or(0);
+    let traffic = traffic_in(settings)?;
+    let learning = learning_in(settings)?;
+    Ok(Settings {
+        seed,
+        last_iteration,
+        traffic,
+        learning,
+    })
+}
+
+/// What the settings say, of which all values but those of scores were read, or what is wrong with the others.
 fn with_scoring(
     alloc: Global,
     settings: Settings,

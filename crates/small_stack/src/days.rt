@@ -30,7 +30,7 @@ const LINE: Case = Case {
     departures: &[],
     command: "run",
     status: Status::Done,
-    report: "",
+    report: &[],
 };
 
 /// Persons who leave L1 in second 1 for a bus to L3.
@@ -48,7 +48,7 @@ static PASSENGERS: [Case; 3] = [
         stops: STOPS,
         routes: ROUTE,
         departures: &[(1, DEPARTURES), (1, "d,r,2,50\n")],
-        report: "iteration,0,262200,65536,-6554145914880\ndone,0\n",
+        report: &[(1, "iteration,0,262200,65536,-6554145914880\ndone,0\n")],
         ..LINE
     },
     // 1,000 persons, as many as a bus may have seats, wait, enter, and leave it all together: seven
@@ -63,7 +63,7 @@ static PASSENGERS: [Case; 3] = [
         stops: STOPS,
         routes: ROUTE,
         departures: &[(1, DEPARTURES), (1, "d,r,2,1000\n")],
-        report: "iteration,0,7011,0,-11662000\ndone,0\n",
+        report: &[(1, "iteration,0,7011,0,-11662000\ndone,0\n")],
         ..LINE
     },
     // L2 has one place and lets one vehicle through in an hour. The first car passes it (12 events), the second one stays on it (7
@@ -89,7 +89,7 @@ static PASSENGERS: [Case; 3] = [
         stops: STOPS,
         routes: ROUTE,
         departures: &[(1, DEPARTURES), (1, "d,r,2,1000\n")],
-        report: "iteration,0,5024,1001,-100108348326\ndone,0\n",
+        report: &[(1, "iteration,0,5024,1001,-100108348326\ndone,0\n")],
         ..LINE
     },
 ];
@@ -110,7 +110,7 @@ static VEHICLES: [Case; 4] = [
         stops: STOPS,
         routes: ROUTE,
         departures: &[(1, DEPARTURES), (5_000, "d#,r,2,1\n")],
-        report: "iteration,0,20000,0,0\ndone,0\n",
+        report: &[(1, "iteration,0,20000,0,0\ndone,0\n")],
         ..LINE
     },
     // 65,536 buses start at once, of which 27 enter traffic.
@@ -119,7 +119,7 @@ static VEHICLES: [Case; 4] = [
         stops: STOPS,
         routes: &[(1, "line,route,links,stops\nb,r,L1 L2 L3,s3:0\n")],
         departures: &[(1, DEPARTURES), (65_536, "d#,r,2,1\n")],
-        report: "iteration,0,65563,0,0\ndone,0\n",
+        report: &[(1, "iteration,0,65563,0,0\ndone,0\n")],
         ..LINE
     },
     // 5,000 cars start on the link on which they arrive: eight events each.
@@ -132,7 +132,7 @@ static VEHICLES: [Case; 4] = [
                 "p#,0,act,home,L1,1,\np#,0,leg,car,,,L1\np#,0,act,work,L1,,\n",
             ),
         ],
-        report: "iteration,0,40000,0,0\ndone,0\n",
+        report: &[(1, "iteration,0,40000,0,0\ndone,0\n")],
         ..LINE
     },
     // L3 has one place, and its 60 seconds are over when 1,000 cars stand in the queue of L2, on which they arrive, behind two that
@@ -155,7 +155,7 @@ static VEHICLES: [Case; 4] = [
                 "p#,0,act,home,L1,1,\np#,0,leg,car,,,L1 L2\np#,0,act,work,L2,,\n",
             ),
         ],
-        report: "iteration,0,10028,2,-322001180\ndone,0\n",
+        report: &[(1, "iteration,0,10028,2,-322001180\ndone,0\n")],
         ..LINE
     },
 ];
@@ -176,7 +176,7 @@ static WALKERS: [Case; 2] = [
                 "p#,0,act,home,L1,1,\np#,0,leg,walk,,2,\np#,0,act,work,L3,,\n",
             ),
         ],
-        report: "iteration,0,327680,0,-218365952\ndone,0\n",
+        report: &[(1, "iteration,0,327680,0,-218365952\ndone,0\n")],
         ..LINE
     },
     // They are under way when the day ends: three events each.
@@ -188,7 +188,7 @@ static WALKERS: [Case; 2] = [
                 "p#,0,act,home,L1,1,\np#,0,leg,walk,,9,\np#,0,act,work,L3,,\n",
             ),
         ],
-        report: "iteration,0,196608,65536,-6554145914880\ndone,0\n",
+        report: &[(1, "iteration,0,196608,65536,-6554145914880\ndone,0\n")],
         ..LINE
     },
 ];
@@ -228,7 +228,7 @@ static ROUTES: [Case; 2] = [
             (1, "\n"),
         ],
         departures: &[(1, DEPARTURES), (1, "d,r,2,5\n")],
-        report: "iteration,0,29,2,-200029988\ndone,0\n",
+        report: &[(1, "iteration,0,29,2,-200029988\ndone,0\n")],
         ..LINE
     },
     // 5,000 links lead out of a node, and a car takes the last of them: ten events.
@@ -248,7 +248,7 @@ static ROUTES: [Case; 2] = [
                 "c,0,act,home,L1,1,\nc,0,leg,car,,,L1 M4999\nc,0,act,work,M4999,,\n",
             ),
         ],
-        report: "iteration,0,10,0,-3332\ndone,0\n",
+        report: &[(1, "iteration,0,10,0,-3332\ndone,0\n")],
         ..LINE
     },
 ];
@@ -257,4 +257,35 @@ static ROUTES: [Case; 2] = [
 #[test]
 fn long_routes(rt: HostRuntime) {
     assert_eq!(rt; count_answered(rt, rt.alloc(), &ROUTES), 2);
+}
+
+static ITERATIONS: [Case; 2] = [
+    // One person, at home, on 1,001 days.
+    Case {
+        settings: &[(1, "{\"end_second\":3,\"last_iteration\":1000}")],
+        report: &[(1_001, "iteration,#,0,0,0\n"), (1, "done,1000\n")],
+        ..LINE
+    },
+    // 65,536 persons copy their plans between two days on which they leave at once and arrive at once.
+    Case {
+        settings: &[(
+            1,
+            "{\"end_second\":6,\"last_iteration\":1,\"weight_keep\":0,\"weight_time\":1,\"mutation_range\":0}",
+        )],
+        plans: &[
+            (1, HEADER),
+            (
+                65_536,
+                "p#,0,act,home,L1,1,\np#,0,leg,walk,,2,\np#,0,act,work,L3,,\n",
+            ),
+        ],
+        report: &[(2, "iteration,#,327680,0,-218365952\n"), (1, "done,1\n")],
+        ..LINE
+    },
+];
+
+/// Many iterations, and many persons who replan.
+#[test]
+fn many_iterations(rt: HostRuntime) {
+    assert_eq!(rt; count_answered(rt, rt.alloc(), &ITERATIONS), 2);
 }

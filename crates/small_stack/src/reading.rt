@@ -21,7 +21,7 @@ const SMALL: Case = Case {
     departures: &[],
     command: "check",
     status: Status::Done,
-    report: "",
+    report: &[],
 };
 
 static MANY_ROWS: [Case; 3] = [
@@ -30,7 +30,7 @@ static MANY_ROWS: [Case; 3] = [
         nodes: &[(1, "node,x,y\n"), (20_001, "N#,#,0\n")],
         links: &[(1, LINKS), (20_000, "L#,N#,N@,100,100,3600,1\n")],
         plans: &[(1, PLANS), (1, "p,0,act,home,L7,,\n")],
-        report: "valid,20001,20000,1,0,0,0\n",
+        report: &[(1, "valid,20001,20000,1,0,0,0\n")],
         ..SMALL
     },
     // Two plans of eight legs for each of many persons.
@@ -44,7 +44,7 @@ static MANY_ROWS: [Case; 3] = [
                 p#,1,leg,walk,,5,\np#,1,act,shop,L,1,\np#,1,leg,walk,,5,\np#,1,act,shop,L,1,\np#,1,leg,walk,,5,\np#,1,act,home,L,,\n",
             ),
         ],
-        report: "valid,2,2,5000,0,0,0\n",
+        report: &[(1, "valid,2,2,5000,0,0,0\n")],
         ..SMALL
     },
     // Stops, routes, and departures.
@@ -55,7 +55,7 @@ static MANY_ROWS: [Case; 3] = [
             (1, "departure,route,second,seats\n"),
             (4_096, "d#,r#,#,1\n"),
         ],
-        report: "valid,2,2,1,16384,4096,4096\n",
+        report: &[(1, "valid,2,2,1,16384,4096,4096\n")],
         ..SMALL
     },
 ];
@@ -71,20 +71,20 @@ static LONG_FIELDS: [Case; 5] = [
     Case {
         settings: &[(100_000, "[")],
         status: Status::Refused,
-        report: "refused,settings.json,0,14,NotJson\n",
+        report: &[(1, "refused,settings.json,0,14,NotJson\n")],
         ..SMALL
     },
     Case {
         settings: &[(100_000, "{\"seed\":")],
         status: Status::Refused,
-        report: "refused,settings.json,0,14,NotJson\n",
+        report: &[(1, "refused,settings.json,0,14,NotJson\n")],
         ..SMALL
     },
     // A field in quotes that is never closed.
     Case {
         plans: &[(1, PLANS), (1, "\""), (1_000_000, "p")],
         status: Status::Refused,
-        report: "refused,plans.csv,1,2,FieldCount\n",
+        report: &[(1, "refused,plans.csv,1,2,FieldCount\n")],
         ..SMALL
     },
     // A route of too many links, and one of too many calls.
@@ -96,7 +96,7 @@ static LONG_FIELDS: [Case; 5] = [
             (1, "\np,0,act,work,L,,\n"),
         ],
         status: Status::Refused,
-        report: "refused,plans.csv,2,11,TooMany\n",
+        report: &[(1, "refused,plans.csv,2,11,TooMany\n")],
         ..SMALL
     },
     Case {
@@ -107,7 +107,7 @@ static LONG_FIELDS: [Case; 5] = [
             (1, "\n"),
         ],
         status: Status::Refused,
-        report: "refused,routes.csv,1,11,TooMany\n",
+        report: &[(1, "refused,routes.csv,1,11,TooMany\n")],
         ..SMALL
     },
 ];

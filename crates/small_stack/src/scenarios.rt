@@ -22,7 +22,7 @@ pub(crate) struct Case {
     pub(crate) departures: Pieces,
     pub(crate) command: &'static str,
     pub(crate) status: Status,
-    pub(crate) report: &'static str,
+    pub(crate) report: Pieces,
 }
 
 /// Appends a piece with these numbers.
@@ -86,6 +86,14 @@ fn words_of(alloc: Global, command: &str) -> Result<Vec<String>, AllocError> {
     Ok(words)
 }
 
+/// Whether this is the whole report.
+fn is_report(alloc: Global, outputs: &MemoryOutputs, report: Pieces) -> bool {
+    match text_of(alloc, report) {
+        Ok(text) => outputs.written(OutFile::Report) == text.as_bytes(),
+        Err(_) => false,
+    }
+}
+
 /// Whether the program answers so to a case.
 fn is_answered<R: Threads + Wait + Sync>(rt: &R, alloc: Global, case: &Case) -> bool {
     let Ok(words) = words_of(alloc, case.command) else {
@@ -104,7 +112,7 @@ fn is_answered<R: Threads + Wait + Sync>(rt: &R, alloc: Global, case: &Case) -> 
         &mut keeper,
         &gate,
     );
-    status == case.status && outputs.written(OutFile::Report) == case.report.as_bytes()
+    status == case.status && is_report(alloc, &outputs, case.report)
 }
 
 /// The stack of a thread, in bytes. A block of 64 KiB that is read is a part of it.

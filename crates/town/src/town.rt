@@ -1,9 +1,7 @@
 ghost use Rattle.town.specs.Rows.{IsTown, IsBook, town_rows};
 
 use events::Book;
-use network::Network;
-use rows::{GreenList, TrafficSettings};
-use schedule::{Departures, Routes, Stops};
+use rows::{Departures, GreenList, Network, Routes, Stops, TrafficSettings};
 
 /// A town: its settings, its network, its schedule and its signals, and the names of all that events tell of.
 ///

@@ -8,7 +8,7 @@ use Rattle.std.proofs.lemmas.List.{length-map}
 use Rattle.std.proofs.lemmas.List.Sums.{AllPass-from_list_all}
 use Rattle.rows.specs.declared.network.LinkRow.{LinkRow}
 use Rattle.rows.specs.Joined.{ends_of, ends_of_link}
-use Rattle.network.specs.Limits.{is_link, are_measures}
+use Rattle.rows.specs.Networks.{is_link, are_measures}
 
 moves : (nodes : ℕ) (link : LinkRow) → is_link nodes link ≡ true → 0 < link.speed
 unfolding is_link are_measures

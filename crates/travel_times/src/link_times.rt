@@ -7,8 +7,7 @@ use crate::profiles::Profile;
 use crate::seen::seen_profiles;
 use events::Event;
 use fixed_flow::free_seconds;
-use network::Network;
-use rows::LinkList;
+use rows::{LinkList, Network};
 use std::alloc::{AllocError, Global};
 use std::marker::Model;
 

@@ -8,12 +8,11 @@ ghost use Rattle.traffic.specs.Worlds.{IsSoundStage};
 ghost use Rattle.worked_days.specs.Jams.{going, IsRoomy};
 
 use crate::cases::Case;
-use crate::towns::{have_fitting_plans, let_go, scenario_of};
+use crate::towns::{chosen_plans, have_fitting_plans, let_go, scenario_of};
 use events::{Calls, Event, Route, VehicleId, Word};
-use plain_day::{fit_second, start};
-use plain_world::World;
-use rows::{Plan, PlanLists};
-use scenario::{Scenario, chosen_plans};
+use plain_day::{World, fit_second, start};
+use rows::Plan;
+use scenario::Scenario;
 use std::alloc::{AllocError, Global};
 use std::thread::Threads;
 use town::{DayInput, Town};
@@ -165,26 +164,19 @@ fn entered_in(alloc: Global, town: &Town, chosen: &[Plan], count: u32) -> Vec<(u
     }
 }
 
-/// The same where each person follows the first of these plans.
-fn entered_by(alloc: Global, town: &Town, plans: PlanLists, count: u32) -> Vec<(u32, Option<u32>)>
-    requires { count < 100 }
-{
-    match chosen_plans(alloc, plans) {
-        Ok(chosen) => entered_in(alloc, town, &chosen, count),
-        Err(_) => Vec::new(alloc),
-    }
-}
-
 /// The same in a scenario.
 fn entered_on(alloc: Global, scenario: Scenario, count: u32) -> Vec<(u32, Option<u32>)>
     requires { count < 100 }
 {
     let Scenario {
         town,
-        plans,
+        memories,
         tables: _,
+        learning: _,
+        last_iteration: _,
     } = scenario;
-    let entered = entered_by(alloc, &town, plans, count);
+    let chosen = chosen_plans(alloc, &memories.rows);
+    let entered = entered_in(alloc, &town, &chosen, count);
     let_go(town);
     entered
 }

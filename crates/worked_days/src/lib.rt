@@ -13,6 +13,8 @@ mod fits;
 #[cfg(test)]
 mod greens;
 #[cfg(test)]
+mod grids;
+#[cfg(test)]
 mod jams;
 #[cfg(test)]
 mod outside;
@@ -24,6 +26,8 @@ mod routes;
 mod scores;
 #[cfg(test)]
 mod seconds;
+#[cfg(test)]
+mod several_days;
 #[cfg(test)]
 mod sizes;
 #[cfg(test)]

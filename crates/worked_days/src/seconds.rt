@@ -4,11 +4,11 @@ ghost use Rattle.std.specs.Prelude.{◌<◌};
 ghost use Rattle.plain_day.specs.Plans.{HaveFittingPlans};
 
 use crate::cases::Case;
-use crate::towns::{have_fitting_plans, scenario_of};
+use crate::towns::{chosen_plans, have_fitting_plans, scenario_of};
 use events::{Event, Word};
 use plain_day::{plain_second, start};
-use rows::{Plan, PlanLists};
-use scenario::{Scenario, chosen_plans};
+use rows::Plan;
+use scenario::Scenario;
 use std::alloc::{AllocError, Global};
 use std::thread::Threads;
 use town::{DayInput, Town};
@@ -60,14 +60,6 @@ fn words_in(alloc: Global, town: &Town, chosen: &[Plan]) -> Vec<(u32, Word)> {
     }
 }
 
-/// The same where each person follows the first of these plans.
-fn words_by(alloc: Global, town: &Town, plans: PlanLists) -> Vec<(u32, Word)> {
-    match chosen_plans(alloc, plans) {
-        Ok(chosen) => words_in(alloc, town, &chosen),
-        Err(_) => Vec::new(alloc),
-    }
-}
-
 /// The same in the scenario of a case.
 fn words_on<R: Threads + Sync>(rt: &R, alloc: Global, case: &Case) -> Vec<(u32, Word)> {
     let Some(scenario) = scenario_of(rt, alloc, case) else {
@@ -75,10 +67,13 @@ fn words_on<R: Threads + Sync>(rt: &R, alloc: Global, case: &Case) -> Vec<(u32, 
     };
     let Scenario {
         town,
-        plans,
+        memories,
         tables: _,
+        learning: _,
+        last_iteration: _,
     } = scenario;
-    let words = words_by(alloc, &town, plans);
+    let chosen = chosen_plans(alloc, &memories.rows);
+    let words = words_in(alloc, &town, &chosen);
     drop(town);
     words
 }

@@ -9,9 +9,11 @@ ghost use Rattle.plain_day.specs.Plans.{HaveFittingPlans};
 
 use crate::cases::{Case, plans_of};
 use edge_files::{Bytes, InFile};
-use rows::Plan;
+use plan_memory::Memory;
+use router::copied_legs;
+use rows::{Legs, Plan};
 use scenario::{Files, Scenario, assemble};
-use std::alloc::Global;
+use std::alloc::{AllocError, Global};
 use std::thread::Threads;
 use town::{DayInput, Town, plan_fits};
 
@@ -68,6 +70,31 @@ pub(crate) fn have_fitting_plans(day: &DayInput) -> bool
     ensures { result ≡ true → HaveFittingPlans day.now }
 {
     day.town.book.persons.len() as usize == day.chosen.len() && all_fit(day.town, day.chosen)
+}
+
+fn copied_plan(alloc: Global, plan: &Plan) -> Result<Plan, AllocError> {
+    let acts = plan.acts.try_clone()?;
+    let legs = copied_legs(alloc, &plan.legs.rows)?;
+    Ok(Plan {
+        acts,
+        legs: Legs { rows: legs },
+    })
+}
+
+fn copied_plans(alloc: Global, memories: &[Memory]) -> Result<Vec<Plan>, AllocError> {
+    let mut plans = Vec::new(alloc);
+    for memory in memories {
+        plans.push(copied_plan(alloc, memory.chosen_plan())?)?;
+    }
+    Ok(plans)
+}
+
+/// The plans that persons have chosen; none where memory is wanting.
+pub(crate) fn chosen_plans(alloc: Global, memories: &[Memory]) -> Vec<Plan> {
+    match copied_plans(alloc, memories) {
+        Ok(plans) => plans,
+        Err(_) => Vec::new(alloc),
+    }
 }
 
 /// Lets a town go.

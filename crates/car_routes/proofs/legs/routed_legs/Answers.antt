@@ -1,7 +1,7 @@
 use Rattle.std.proofs.Common.{◌∙◌, ap, arith}
 use Rattle.std.specs.List.{list_all}
 use Rattle.rows.specs.Plan.{is_leg}
-use Rattle.leg_routes.proofs.Walking.{leg_more, none_left}
+use Rattle.router.proofs.Walking.{leg_more, none_left}
 use Rattle.car_routes.specs.Plans.{routed_leg}
 use Rattle.car_routes.proofs.Wanting.{wanted_step, wanted_past}
 use Rattle.car_routes.proofs.Routing.{go_step, go_end, sound_push}

@@ -3,7 +3,7 @@ use Rattle.std.specs.List.{list_all}
 use Rattle.rows.specs.Plan.{is_leg}
 use Rattle.walks.specs.Arrivals.{Arrivals}
 use Rattle.walks.specs.Alike.{TakesAlike}
-use Rattle.leg_routes.specs.Legs.{each_leg}
+use Rattle.router.specs.Legs.{each_leg}
 use Rattle.car_routes.specs.Plans.{routed_leg}
 use Rattle.car_routes.specs.Wanted.{Pairs, wanted_in}
 use Rattle.car_routes.specs.Found.{AreNext}

@@ -2,7 +2,7 @@ use Rattle.std.proofs.Common.{◌∙◌, ◌∷◌, [], List, map, ap}
 use Rattle.std.proofs.lemmas.List.{map-append}
 use Rattle.rows.specs.declared.plan.Plan.{Plan}
 use Rattle.rows.specs.PlanRows.{plan_rows}
-use Rattle.leg_routes.specs.Legs.{are_on}
+use Rattle.router.specs.Legs.{are_on}
 use Rattle.car_routes.specs.Plans.{routed_plan}
 use Rattle.car_routes.proofs.Wanting.{by_step, by_past}
 use Rattle.car_routes.proofs.Routing.{go_step, go_end, made_more, made_all, at_mapped}

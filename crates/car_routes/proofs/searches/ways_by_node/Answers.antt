@@ -1,7 +1,7 @@
 use Rattle.std.proofs.Common.{◌≡◌, ◌-◌, ℕ, List, length, map, IfOk, subst, ◌∙◌, ap, arith}
 use Rattle.std.specs.List.{range_with_len}
 use Rattle.travel_times.specs.Times.{arrivals}
-use Rattle.leg_routes.proofs.Gathered.{gathered}
+use Rattle.router.proofs.Gathered.{gathered}
 use Rattle.rayon.specs.Numbers.{nat_range}
 use Rattle.car_routes.specs.Wanted.{row_of}
 use Rattle.car_routes.specs.Found.{ways_from}

@@ -1,17 +1,17 @@
-use Rattle.std.proofs.Common.{rules, refl}
-use Rattle.clap.proofs.CallerReads.{required_reads}
-use Rattle.command_line.proofs.Positions.{app_is, plain_is, second_given}
+use Rattle.std.proofs.Common.{rules, refl, arith, codes}
+use Rattle.clap.specs.Words.{new_app}
+use Rattle.limits.specs.declared.TheConstants.{LAST_SECOND}
+use Rattle.command_line.specs.Commands.{second_position}
+use Rattle.command_line.proofs.Arguments.{app_is, plain_is, third_stands, own_name, number_read}
 use Rattle.command_line.proofs.commands.route_command.Goals as goal
 
 pub returns-clause-app : goal.returns-clause-app
-returns-clause-app c = app_is _ _ _ _ _ _ _ c.position-from.ensures c.position-to.ensures c.second_position-second.ensures c.in_ok-arg.ensures
-    c.in_ok-arg-2.ensures c.in_ok-command.ensures (search rules)
+returns-clause-app c = app_is _ _ _ _ _ _ _ _ _ _ c.position-from.ensures c.position-to.ensures c.second_position-second.ensures c.in_ok-arg.ensures
+    c.in_ok-arg-2.ensures c.in_ok-command.ensures (new_app (codes "route")) (search rules)
 
 pub returns-clause-second : goal.returns-clause-second
-returns-clause-second c = λ m parsed. second_given _ _ _ _ _ _ _ c.position-from.ensures c.position-to.ensures c.second_position-second.ensures
-    c.in_ok-arg.ensures c.in_ok-arg-2.ensures c.in_ok-command.ensures m (search rules)
-    (required_reads c.in_ok-command.command m parsed
-    (plain_is _ _ _ _ _ _ _ c.position-from.ensures c.position-to.ensures c.second_position-second.ensures c.in_ok-arg.ensures
+returns-clause-second c = λ m parsed. number_read c.in_ok-command.command m parsed
+    (plain_is _ _ _ _ _ _ _ _ _ _ c.position-from.ensures c.position-to.ensures c.second_position-second.ensures c.in_ok-arg.ensures
     c.in_ok-arg-2.ensures c.in_ok-command.ensures (search rules) (search rules))
     (rw (
       c.in_ok-command.ensures.globals,
@@ -33,4 +33,10 @@ returns-clause-second c = λ m parsed. second_given _ _ _ _ _ _ _ c.position-fro
       c.about.ensures,
       c.override_usage.ensures,
       c.new.ensures.negates,
-    ) refl))
+    ) refl)
+    2 (second_position (codes "SECOND")) _
+    (third_stands _ _ _ _ _ _ _ _ _ _ c.position-from.ensures c.position-to.ensures c.second_position-second.ensures c.in_ok-arg.ensures
+    c.in_ok-arg-2.ensures c.in_ok-command.ensures (search rules)
+    refl refl)
+    (own_name (codes "SECOND") (λ e. omega (arith, e)) (λ e. omega (arith, e)) (λ e. omega (arith, e)))
+    refl refl 0 LAST_SECOND refl

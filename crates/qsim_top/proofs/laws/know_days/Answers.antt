@@ -1,10 +1,10 @@
-use Rattle.qsim_top.specs.Answer.{first_day}
+use Rattle.qsim_top.specs.Laws.{day_of}
 use Rattle.qsim_top.proofs.Lawful.{lawful, files_follow, files_keep}
 use Rattle.qsim_top.proofs.Routed.{files_report}
 use Rattle.qsim_top.proofs.laws.know_days.Goals as goal
 
 pub returns-clause-lawful : goal.returns-clause-lawful
-returns-clause-lawful c = λ S. lawful (first_day S)
+returns-clause-lawful c = λ S k. lawful (day_of S k)
 
 pub returns-clause-planned : goal.returns-clause-planned
 returns-clause-planned c = files_follow

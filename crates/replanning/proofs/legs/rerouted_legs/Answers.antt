@@ -2,7 +2,7 @@ use Rattle.std.proofs.Common.{◌++◌, List, sym, ◌∙◌, ap, arith}
 use Rattle.std.proofs.lemmas.List.{append-nil}
 use Rattle.rows.specs.declared.plan.Leg.{Leg}
 use Rattle.travel_times.specs.Times.{arrivals}
-use Rattle.leg_routes.proofs.Walking.{none_left}
+use Rattle.router.proofs.Walking.{none_left}
 use Rattle.replanning.specs.Legs.{rerouted_leg}
 use Rattle.replanning.proofs.legs.rerouted_legs.Goals as goal
 

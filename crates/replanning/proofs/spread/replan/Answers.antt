@@ -3,7 +3,7 @@ use Rattle.plan_memory.specs.Memories.{MemoryRows}
 use Rattle.replanning.specs.declared.spread.Numbered.{Numbered}
 use Rattle.replanning.specs.Persons.{replanned, is_on}
 use Rattle.replanning.specs.Views.{basis_of}
-use Rattle.leg_routes.proofs.Gathered.{gathered}
+use Rattle.router.proofs.Gathered.{gathered}
 use Rattle.replanning.proofs.Numbers.{all_numbered, by_pairs}
 use Rattle.replanning.proofs.spread.replan.Goals as goal
 

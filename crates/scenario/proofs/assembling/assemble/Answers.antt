@@ -15,4 +15,4 @@ returns-in-Err-read_network g c = later_stop c.in-Err-read_network.error _ _ c.i
 
 pub returns-in-Ok-read_network : goal.returns-in-Ok-read_network
 returns-in-Ok-read_network g c =
-    files_told c.scored_on_network.result (texts_of c.args.files.now) (file_values c.in-Ok.file) (network_view c.in-Ok-read_network.network) c.in-Ok.ensures.0 c.in-Ok-read_network.ensures.0 c.in-Ok.ensures.1 c.in-Ok-read_network.ensures.1 c.scored_on_network.ensures
+    files_told c.scenario_on.result (texts_of c.args.files.now) (file_values c.in-Ok.file) (network_view c.in-Ok-read_network.network) c.in-Ok.ensures.0 c.in-Ok-read_network.ensures.0 c.in-Ok.ensures.1 c.in-Ok-read_network.ensures.1 c.scenario_on.ensures

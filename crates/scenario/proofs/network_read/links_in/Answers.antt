@@ -1,7 +1,7 @@
 use Rattle.scenario.proofs.Common.{◌≡◌, List, ℕ, map, length, true, ◌≤◌, list_all, is_link, links_fault, link_of, body_of, LinkRow, texts_of}
 use Rattle.edge_files.specs.declared.files.InFile.TheVariants as file
 use Rattle.limits.specs.declared.TheConstants.{MAX_IN_LINKS, MAX_LINKS}
-use Rattle.network.specs.Limits.{in_links}
+use Rattle.rows.specs.Networks.{in_links}
 use Rattle.network.specs.Links.{link_names}
 use Rattle.scenario.proofs.Told.{known_in, told_long, told_in}
 use Rattle.scenario.proofs.network_read.links_in.Goals as goal

@@ -1,5 +1,5 @@
 use Rattle.std.proofs.Common.{◌≡◌, length}
-use Rattle.schedule.specs.Calls.{are_served}
+use Rattle.rows.specs.Schedules.{are_served}
 use Rattle.schedule.proofs.calls.are_served.Given as goal
 
 abbrev pub invariant-loop-left : goal.invariant-loop-left

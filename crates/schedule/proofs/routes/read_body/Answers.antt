@@ -1,7 +1,7 @@
 use Rattle.records.proofs.Common.{List, ap, ℕ, length, ◌∙◌, arith, map, ◌<◌, sym, refl, Option, ◌+◌, ◌≤◌, length-map, fields_of, Reason, number_of, with_name}
 use Rattle.records.proofs.Common.{field, Row}
 use Rattle.records.proofs.InTurn.{read_none, read_more, read_fault, read_all, read_count, row_at}
-use Rattle.schedule.specs.declared.lists.Stops.{Stops}
+use Rattle.rows.specs.declared.schedule.Stops.{Stops}
 use Rattle.rows.specs.declared.schedule.RouteRow.{RouteRow}
 use Rattle.schedule.specs.Views.{route_lists}
 use Rattle.schedule.specs.Routes.{route_reason, route_of, lists_of, lines_of}

@@ -1,6 +1,6 @@
 use Rattle.records.proofs.Common.{List, ap, ℕ, ◌∙◌, map, Option, drop, fields_of, ByteRecord, Reason, column, body_of, optional_head_reason, Row}
 use Rattle.records.proofs.InTurn.{answers_body, answers_stop}
-use Rattle.schedule.specs.declared.lists.Stops.{Stops}
+use Rattle.rows.specs.declared.schedule.Stops.{Stops}
 use Rattle.rows.specs.declared.schedule.RouteRow.{RouteRow}
 use Rattle.schedule.specs.Views.{route_lists}
 use Rattle.schedule.specs.Routes.{route_header, route_reason, route_of, lines_of, routes_of}

@@ -1,0 +1,12 @@
+pub mod Outside
+pub mod Seen
+pub mod Marked
+pub mod Going
+pub mod Named
+pub mod ScoredDays
+pub mod Places
+pub mod PlanLines
+pub mod Tails
+pub mod Staying
+pub mod Basing
+pub mod Looping

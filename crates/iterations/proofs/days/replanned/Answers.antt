@@ -1,0 +1,25 @@
+use Rattle.std.proofs.Common.{◌≡◌, length, sym, ◌∙◌, ap}
+use Rattle.router.specs.Graphs.{Graph}
+use Rattle.router.proofs.LegWays.{ends_count}
+use Rattle.iterations.specs.Views.{run_rows}
+use Rattle.iterations.proofs.Basing.{all_on, replanned_as}
+use Rattle.iterations.proofs.days.replanned.Goals as goal
+
+pub replan-requires-clause-basis : goal.replan-requires-clause-basis
+replan-requires-clause-basis g c κs within =
+    let links = c.args.run.now.town.now.network.links in
+    record {
+      times = c.in_ok-times.ensures.count ∙ sym (ends_count links) ∙ sym (ap (λ (n : Graph). length n.ends) c.requires.network);
+      basis = record { learning = c.requires.can.learning; end_second = c.args.run.now.town.now.sound.settings.ends };
+    }
+
+pub replan-requires-clause-on : goal.replan-requires-clause-on
+replan-requires-clause-on g c κs within =
+    all_on (run_rows c.args.run.now) (length c.args.adjacency.now.ends) c.args.memories.items c.requires.can
+    (ap (λ (n : Graph). length n.ends) c.requires.network ∙ ends_count c.args.run.now.town.now.network.links)
+
+pub returns : goal.returns
+returns g c =
+    replanned_as (run_rows c.args.run.now) c.args.iteration c.args.adjacency.now c.in_ok-times.times c.deref.result.now c.args.events.items
+    c.args.memories.items c.in_ok-new.new.items c.requires.network c.deref.ensures.value c.in_ok-times.ensures.count c.requires.links
+    c.in_ok-times.ensures.arrivals c.in_ok-new.ensures

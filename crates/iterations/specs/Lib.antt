@@ -1,0 +1,9 @@
+pub mod Runs
+pub mod Texts
+pub mod Days
+pub mod Scored
+pub mod Written
+pub mod Acts
+pub mod Continued
+pub mod Performed
+pub mod Views

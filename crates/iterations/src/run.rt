@@ -1,0 +1,15 @@
+use learning::Learning;
+use scoring::Tables;
+use town::Town;
+
+/// What a run of several days is made from, beside what its persons remember at first.
+#[derive(Clone, Copy)]
+pub struct RunInput<'a> {
+    pub town: &'a Town,
+    /// What a day is worth to a person.
+    pub tables: &'a Tables,
+    /// What persons replan by.
+    pub learning: Learning,
+    /// The number of the last iteration; the first one has the number 0.
+    pub last_iteration: u32,
+}

@@ -1,4 +1,0 @@
-pub mod Ways
-pub mod Joining
-pub mod Walking
-pub mod Gathered

@@ -1,0 +1,22 @@
+use Rattle.std.specs.Prelude.{IfOk}
+use Rattle.std.proofs.Common.{◌≡◌, ℕ, List, Vec, Global, string_bytes, ap, subst}
+use Rattle.qsim_top.specs.declared.answers.Answer.{Answer}
+use Rattle.qsim_top.specs.Answer.{report}
+use Rattle.qsim_top.proofs.Ending.{not_refused}
+use Rattle.qsim_top.proofs.top.tell.Goals as goal
+
+pub returns-clause-done : goal.returns-clause-done
+returns-clause-done g c =
+    c.carry_out.ensures.done (report c.args.status (string_bytes c.args.text))
+    (subst (λ (l : List ℕ). IfOk c.report-answer.result (λ (a : Answer). a ≡ report c.args.status l))
+    (ap (λ (v : Vec ℕ Global). v.items) c.into_bytes.ensures.value) c.report-answer.ensures.answer)
+
+pub returns-clause-refused : goal.returns-clause-refused
+returns-clause-refused g c =
+    let did = c.carry_out.ensures.done (report c.args.status c.into_bytes.result.items) c.report-answer.ensures.answer in
+    not_refused c.args.status c.carry_out.result c.requires did.ends
+
+pub returns-clause-kept : goal.returns-clause-kept
+returns-clause-kept g c =
+    let did = c.carry_out.ensures.done (report c.args.status c.into_bytes.result.items) c.report-answer.ensures.answer in
+    did.causes.keep

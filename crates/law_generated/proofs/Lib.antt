@@ -1,0 +1,14 @@
+pub mod Lines
+pub mod Fields
+pub mod Names
+pub mod Tables
+pub mod Rules
+pub mod Grid
+pub mod Nodes
+pub mod Links
+pub mod Departures
+pub mod Stops
+pub mod Signals
+pub mod Settings
+pub mod Routes
+pub mod Given

@@ -8,3 +8,4 @@ pub mod Fronts
 pub mod Answered
 pub mod Pushing
 pub mod MemoryLaws
+pub mod Either

@@ -12,6 +12,7 @@ mod reading;
 mod steps;
 
 pub use keeping::rows_of;
-pub use laws::worked_rows;
+pub use laws::{rows_fit_or_are_foreign, worked_rows};
 pub use memory_keeper::MemoryKeeper;
 pub use reading::{KeptStop, memories_of};
+pub use steps::know_names;

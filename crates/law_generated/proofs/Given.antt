@@ -12,7 +12,7 @@ use Rattle.schedule.specs.Routes.{routes_fault}
 use Rattle.schedule.specs.Stops.{stop_of, stops_fault}
 use Rattle.workload.specs.Links.{grid_links}
 use Rattle.workload.specs.Rows.{link_name, link_row, node_name, stop_name, stop_row}
-use Rattle.workload.specs.Texts.{departures_text, links_text, routes_text, stops_text}
+use Rattle.workload.specs.Texts.{departures_text, links_text, plans_text, routes_text, stops_text}
 use Rattle.workload.specs.declared.TheConstants.{DEPARTURES}
 use Rattle.law_generated.specs.Files.{link_ends, links_named, nodes_named, routes_named, stops_named, stops_placed}
 use Rattle.law_generated.proofs.Departures.{departures_pass}
@@ -21,6 +21,8 @@ use Rattle.law_generated.proofs.Links.{links_file, links_pass, row_link}
 use Rattle.law_generated.proofs.Links as links
 use Rattle.law_generated.proofs.Nodes.{nodes_file, numbers}
 use Rattle.law_generated.proofs.Nodes as nodes
+use Rattle.plans.specs.Values.{plans_fault}
+use Rattle.law_generated.proofs.Plans.{plans_pass}
 use Rattle.law_generated.proofs.Routes.{grid_line, line_file, line_row, place_of, routes_pass}
 use Rattle.law_generated.proofs.Stops.{stops_file, stops_pass}
 use Rattle.law_generated.proofs.Stops as stops
@@ -84,3 +86,8 @@ module _ (size : ℕ) (some : 3 ≤ size) (few : size ≤ 100) where
   departures_valid =
       ap (λ (names : List (List ℕ)). departures_fault names (departures_text DEPARTURES)) routes_are
       ∙ departures_pass DEPARTURES (omega arith) (codes "east" ∷ []) refl
+
+  -- nor has plans.csv one by itself
+  pub plans_valid : (seed : ℕ) → plans_fault (links_named size) (link_ends size) (plans_text size seed) ≡ None
+  plans_valid seed =
+      ap (λ (names : List (List ℕ)). plans_fault names (link_ends size) (plans_text size seed)) links_are ∙ plans_pass size seed some few (link_ends size)

@@ -12,3 +12,7 @@ pub mod Signals
 pub mod Settings
 pub mod Routes
 pub mod Given
+pub mod Elements
+pub mod Travellers
+pub mod Commuting
+pub mod Plans

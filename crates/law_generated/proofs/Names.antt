@@ -20,7 +20,7 @@ neither a b p q = grind arith
 distinct_step : (a b : Bool) → a ≡ false → b ≡ true → (not a && b) ≡ true
 distinct_step a b p q = grind arith
 
-differ : (a b : List ℕ) → (a ≡ b → ⊥) → bytes_eq a b ≡ false
+pub differ : (a b : List ℕ) → (a ≡ b → ⊥) → bytes_eq a b ≡ false
 differ a b apart = by (bytes_eq a b) refl
   where
     by : (t : Bool) → bytes_eq a b ≡ t → bytes_eq a b ≡ false

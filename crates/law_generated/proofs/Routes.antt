@@ -54,10 +54,10 @@ unfolding are_fields
 header_named = refl
 
 -- a byte of an item, behind the space and the comma
-abbrev is_item_byte : ℕ → Bool
+abbrev pub is_item_byte : ℕ → Bool
 is_item_byte b = nat_lt 44 b
 
-name_item : (b : ℕ) → is_name_byte b ≡ true → is_item_byte b ≡ true
+pub name_item : (b : ℕ) → is_name_byte b ≡ true → is_item_byte b ≡ true
 name_item b h = grind (arith, nat_tests)
 
 item_plain : (b : ℕ) → is_item_byte b ≡ true → is_plain_byte b ≡ true
@@ -67,7 +67,7 @@ filled : (n : ℕ) → 1 ≤ n → nat_eq n 0 ≡ false
 filled n some = grind (arith, nat_tests)
 
 -- items with spaces between them, cut there
-items_back : (x : List ℕ) (xs : List (List ℕ)) → 1 ≤ length x → list_all (list_all is_item_byte) (x ∷ xs) ≡ true → items_in (join_with_byte 32 (x ∷ xs)) ≡ x ∷ xs
+pub items_back : (x : List ℕ) (xs : List (List ℕ)) → 1 ≤ length x → list_all (list_all is_item_byte) (x ∷ xs) ≡ true → items_in (join_with_byte 32 (x ∷ xs)) ≡ x ∷ xs
 unfolding items_in
 items_back x xs some h =
     let joined = join_first 32 x xs in

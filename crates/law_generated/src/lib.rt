@@ -5,13 +5,14 @@
 ghost use Rattle.std.specs.Prelude.{◌≡◌, ◌<◌, ◌^◌, ℕ, List, [], None};
 ghost use Rattle.network.specs.Links.{links_fault};
 ghost use Rattle.network.specs.Nodes.{nodes_fault};
+ghost use Rattle.plans.specs.Values.{plans_fault};
 ghost use Rattle.schedule.specs.Departures.{departures_fault};
 ghost use Rattle.schedule.specs.Routes.{routes_fault};
 ghost use Rattle.schedule.specs.Stops.{stops_fault};
 ghost use Rattle.settings.specs.Faults.{settings_fault};
 ghost use Rattle.signals.specs.Signals.{signals_fault};
 ghost use Rattle.workload.specs.Grids.{IsGrid};
-ghost use Rattle.workload.specs.Texts.{departures_text, links_text, nodes_text, routes_text, settings_text, stops_text};
+ghost use Rattle.workload.specs.Texts.{departures_text, links_text, nodes_text, plans_text, routes_text, settings_text, stops_text};
 ghost use Rattle.workload.specs.declared.TheConstants.{DEPARTURES};
 ghost use Rattle.law_generated.specs.Files.{link_ends, links_named, nodes_named, routes_named, stops_named, stops_placed};
 
@@ -34,4 +35,9 @@ pub fn schedules_are_valid()
 pub fn settings_are_valid()
     ensures settings { (size seed last : ℕ) → IsGrid size last → seed < 2 ^ 64 → settings_fault (settings_text seed last) ≡ None }
     ensures signals { (links : List (List ℕ)) (ends : List (ℕ × ℕ)) → signals_fault links ends [] ≡ None }
+{}
+
+/// The plans of a grid have no fault by themselves.
+pub fn plans_are_valid()
+    ensures { (size seed last : ℕ) → IsGrid size last → plans_fault (links_named size) (link_ends size) (plans_text size seed) ≡ None }
 {}

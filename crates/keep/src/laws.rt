@@ -15,8 +15,8 @@ pub fn worked_rows()
     ensures { kept_rows book memories ≡ rows }
 {}
 
-/// Any rows fit a town whose lists of names are such, or are foreign to it, and not both. Those that fit are the rows of one list of memories,
-/// and those that are foreign are so at one place.
+/// Any rows fit a town whose lists of names are such, or are foreign to it, and not both. Those that fit are the rows of one list of
+/// memories, and those that are foreign are so at one place.
 pub fn rows_fit_or_are_foreign()
     ensures either { (T : TownRows) (rows : List KeptRow) → IsBook T.book
         → ((memories : List MemoryRows) × AreRowsOf T rows memories) ⊎ ((place : ℕ) × IsForeignAt T rows place) }

@@ -39,5 +39,6 @@ pub fn settings_are_valid()
 
 /// The plans of a grid have no fault by themselves.
 pub fn plans_are_valid()
-    ensures { (size seed last : ℕ) → IsGrid size last → plans_fault (links_named size) (link_ends size) (plans_text size seed) ≡ None }
+    ensures { (size seed last : ℕ) → IsGrid size last
+        → plans_fault (links_named size) (link_ends size) (plans_text size seed) ≡ None }
 {}

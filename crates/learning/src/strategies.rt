@@ -1,4 +1,5 @@
 ghost use Rattle.std.specs.Prelude.{◌≡◌, ◌≢◌, ◌<◌, ◌≤◌, ◌*◌, ℕ, sum};
+ghost use Rattle.learning.specs.declared.TheConstants.{MAX_WEIGHT};
 ghost use Rattle.learning.specs.declared.settings.Learning.{Learning};
 ghost use Rattle.learning.specs.Ranges.{AreInRange};
 ghost use Rattle.learning.specs.Strategies.{innovating, weights_in, strategy_of, HaveNoOtherWeight};
@@ -49,7 +50,7 @@ fn innovating(learning: &Learning, iteration: u32, weight: u64) -> u64
 fn weights_in(learning: &Learning, iteration: u32) -> [u64; 6]
     requires { AreInRange learning.now }
     ensures weights { result ≡ weights_in learning.now iteration }
-    ensures small { sum result ≤ 6000000 }
+    ensures small { sum result ≤ 6 * MAX_WEIGHT }
 {
     let weights = learning.weights;
     [

@@ -75,9 +75,9 @@ fn tell<O: Outputs, K: Keeper>(
     carry_out(answer, outputs, keeper)
 }
 
-/// Does what the words ask for: `qsim run` simulates the days of a scenario, tells what each is worth to each person, and
-/// writes the plans at the end; `qsim check` reads the scenario and reports its counts or its first fault; `qsim route` reads it and reports
-/// the route of least arrival between two nodes; `qsim generate` makes a grid and runs it, and reads no file.
+/// Does what the words ask for: `qsim run` simulates the days of a scenario, tells what each is worth to each person, and writes the
+/// plans at the end; `qsim check` reads the scenario and reports its counts or its first fault; `qsim route` reads it and reports the
+/// route of least arrival between two nodes; `qsim generate` makes a grid and runs it, and reads no file.
 ///
 /// The words are read first, then all files, and then all that the answer holds is done outside, what is written of an iteration as soon as
 /// it is over. Routes are searched, and persons replan, by as many threads as there are processors, each of which is joined. The keeper and

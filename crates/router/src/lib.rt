@@ -2,7 +2,7 @@
 //!
 //! A search settles nodes in the order of their arrivals, as Dijkstra's does (E. W. Dijkstra, A note on two problems in connexion with
 //! graphs, 1959), and goes on only as far as it is asked. Among routes of least arrival the chosen one is followed back by the link of the
-//! least number. The route of a car leg leads from the end of its first link to the start of its last one; docs/PROFILE.md states the rules.
+//! least number. The route of a car leg leads from the end of its first link to the start of its last one. docs/PROFILE.md has the rules.
 #![tactic(auto)]
 
 mod adjacency;

@@ -2,6 +2,7 @@
 
 ghost use Rattle.std.specs.Prelude.{◌≡◌, ◌<◌, ◌≤◌, ◌+◌, ◌*◌, ◌++◌, length, OnOk, IfOk};
 ghost use Rattle.workload.specs.Links.{link_if, links_from, grid_links};
+ghost use Rattle.workload.specs.declared.TheConstants.{MOST_SIZE};
 
 use std::alloc::{AllocError, Global};
 
@@ -21,7 +22,7 @@ fn push_if(there: bool, from: u32, to: u32, links: &mut Vec<(u32, u32)>) -> Resu
 #[tactic(auto, unfolding(crate::specs::Links::links_from))]
 fn push_links_from(size: u32, node: u32, links: &mut Vec<(u32, u32)>) -> Result<(), AllocError>
     requires some { 1 ≤ size }
-    requires few { size ≤ 100 }
+    requires few { size ≤ MOST_SIZE }
     requires node { node < size * size }
     ensures links { OnOk result (links.new.items ≡ links.old.items ++ links_from size node) }
     ensures count { OnOk result (length links.new.items ≤ length links.old.items + 4) }
@@ -38,7 +39,7 @@ fn push_links_from(size: u32, node: u32, links: &mut Vec<(u32, u32)>) -> Result<
 #[tactic(auto, using(crate::proofs::Lines::more_pieces), unfolding(crate::specs::Links::grid_links))]
 pub fn grid_links(alloc: Global, size: u32) -> Result<Vec<(u32, u32)>, AllocError>
     requires some { 1 ≤ size }
-    requires few { size ≤ 100 }
+    requires few { size ≤ MOST_SIZE }
     ensures links { IfOk result (λ links. links.items ≡ grid_links size) }
     ensures count { IfOk result (λ links. length links.items ≤ 4 * (size * size)) }
 {

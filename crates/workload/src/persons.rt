@@ -7,6 +7,7 @@ ghost use Rattle.plan_text.specs.Lines.{row_line};
 ghost use Rattle.workload.specs.Commuters.{commuter};
 ghost use Rattle.workload.specs.Rows.{act_row, walk_row, leg_row, way_there, way_back, person_rows};
 ghost use Rattle.workload.specs.Texts.{lines_of, person_lines, plans_text};
+ghost use Rattle.workload.specs.declared.TheConstants.{MOST_SIZE};
 
 use crate::commuters::{Commute, Commuter, commuter_of};
 use crate::links::grid_links;
@@ -129,7 +130,7 @@ fn push_persons(
 #[tactic(auto, unfolding(crate::specs::Texts::plans_text))]
 pub fn plans_text(alloc: Global, size: u32, seed: u64) -> Result<String, AllocError>
     requires some { 2 ≤ size }
-    requires few { size ≤ 100 }
+    requires few { size ≤ MOST_SIZE }
     ensures { IfOk result (λ text. string_bytes text ≡ plans_text size seed) }
 {
     let links = grid_links(alloc, size)?;

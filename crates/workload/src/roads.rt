@@ -4,6 +4,7 @@ ghost use Rattle.std.specs.Prelude.{◌≡◌, ◌<◌, ◌≤◌, ◌*◌, ◌+
 ghost use Rattle.plan_text.specs.Lines.{row_line};
 ghost use Rattle.workload.specs.Rows.{node_row, link_row};
 ghost use Rattle.workload.specs.Texts.{nodes_text, links_text};
+ghost use Rattle.workload.specs.declared.TheConstants.{MOST_SIZE};
 
 use crate::links::grid_links;
 use crate::{FREE_SPEED, LINK_CAPACITY, NODE_DISTANCE};
@@ -12,7 +13,7 @@ use std::alloc::{AllocError, Global};
 #[tactic(auto, unfolding(plan_text::specs::Lines::row_line))]
 fn push_node(size: u32, node: u32, text: &mut String) -> Result<(), AllocError>
     requires some { 1 ≤ size }
-    requires few { size ≤ 100 }
+    requires few { size ≤ MOST_SIZE }
     requires node { node < size * size }
     ensures { OnOk result (string_bytes text.new ≡ string_bytes text.old ++ row_line (node_row size node)) }
 {
@@ -35,7 +36,7 @@ fn push_link(link: (u32, u32), text: &mut String) -> Result<(), AllocError>
 #[tactic(auto, using(crate::proofs::Lines::more_pieces), unfolding(crate::specs::Texts::nodes_text))]
 pub fn nodes_text(alloc: Global, size: u32) -> Result<String, AllocError>
     requires some { 1 ≤ size }
-    requires few { size ≤ 100 }
+    requires few { size ≤ MOST_SIZE }
     ensures { IfOk result (λ text. string_bytes text ≡ nodes_text size) }
 {
     let mut text = String::from_str(alloc, "node,x,y\n")?;
@@ -48,7 +49,7 @@ pub fn nodes_text(alloc: Global, size: u32) -> Result<String, AllocError>
 #[tactic(auto, unfolding(crate::specs::Texts::links_text))]
 pub fn links_text(alloc: Global, size: u32) -> Result<String, AllocError>
     requires some { 1 ≤ size }
-    requires few { size ≤ 100 }
+    requires few { size ≤ MOST_SIZE }
     ensures { IfOk result (λ text. string_bytes text ≡ links_text size) }
 {
     let links = grid_links(alloc, size)?;

@@ -5,13 +5,14 @@ ghost use Rattle.std.specs.List.{flat_map, range_with_len};
 ghost use Rattle.plan_text.specs.Lines.{row_line};
 ghost use Rattle.workload.specs.Rows.{stop_row, departure_row, call_text, link_name};
 ghost use Rattle.workload.specs.Texts.{stops_text, routes_text, departures_text};
+ghost use Rattle.workload.specs.declared.TheConstants.{DEPARTURES, MOST_SIZE};
 
 use crate::{DEPARTURE_GAP, FIRST_DEPARTURE, SEATS, STOP_SECONDS};
 use std::alloc::{AllocError, Global};
 
 #[tactic(auto, unfolding(plan_text::specs::Lines::row_line))]
 fn push_stop(stop: u32, text: &mut String) -> Result<(), AllocError>
-    requires { stop < 100 }
+    requires { stop < MOST_SIZE }
     ensures { OnOk result (string_bytes text.new ≡ string_bytes text.old ++ row_line (stop_row stop)) }
 {
     let next = stop + 1;
@@ -21,7 +22,7 @@ fn push_stop(stop: u32, text: &mut String) -> Result<(), AllocError>
 #[tactic(auto, using(crate::proofs::Lines::more_pieces), unfolding(crate::specs::Texts::stops_text))]
 pub fn stops_text(alloc: Global, size: u32) -> Result<String, AllocError>
     requires some { 1 ≤ size }
-    requires few { size ≤ 100 }
+    requires few { size ≤ MOST_SIZE }
     ensures { IfOk result (λ text. string_bytes text ≡ stops_text size) }
 {
     let mut text = String::from_str(alloc, "stop,link\n")?;
@@ -33,7 +34,7 @@ pub fn stops_text(alloc: Global, size: u32) -> Result<String, AllocError>
 
 /// Appends the link of the route on which a stop lies.
 fn push_link_name(stop: u32, text: &mut String) -> Result<(), AllocError>
-    requires { stop < 100 }
+    requires { stop < MOST_SIZE }
     ensures { OnOk result (string_bytes text.new ≡ string_bytes text.old ++ link_name (stop, stop + 1)) }
 {
     let next = stop + 1;
@@ -42,7 +43,7 @@ fn push_link_name(stop: u32, text: &mut String) -> Result<(), AllocError>
 
 /// Appends the call of the route at a stop.
 fn push_call_text(stop: u32, text: &mut String) -> Result<(), AllocError>
-    requires { stop < 100 }
+    requires { stop < MOST_SIZE }
     ensures { OnOk result (string_bytes text.new ≡ string_bytes text.old ++ call_text stop) }
 {
     let offset = stop * STOP_SECONDS;
@@ -51,7 +52,7 @@ fn push_call_text(stop: u32, text: &mut String) -> Result<(), AllocError>
 
 /// Appends a link of the route, behind others.
 fn push_link(stop: u32, text: &mut String) -> Result<(), AllocError>
-    requires { stop < 100 }
+    requires { stop < MOST_SIZE }
     ensures { OnOk result (string_bytes text.new ≡ string_bytes text.old ++ (32 ∷ link_name (stop, stop + 1))) }
 {
     let next = stop + 1;
@@ -60,7 +61,7 @@ fn push_link(stop: u32, text: &mut String) -> Result<(), AllocError>
 
 /// Appends a call of the route, behind others.
 fn push_call(stop: u32, text: &mut String) -> Result<(), AllocError>
-    requires { stop < 100 }
+    requires { stop < MOST_SIZE }
     ensures { OnOk result (string_bytes text.new ≡ string_bytes text.old ++ (32 ∷ call_text stop)) }
 {
     let offset = stop * STOP_SECONDS;
@@ -71,7 +72,7 @@ fn push_call(stop: u32, text: &mut String) -> Result<(), AllocError>
 #[tactic(auto, using(crate::proofs::Lines::more_from_one))]
 fn push_links(size: u32, text: &mut String) -> Result<(), AllocError>
     requires some { 2 ≤ size }
-    requires few { size ≤ 100 }
+    requires few { size ≤ MOST_SIZE }
     ensures { OnOk result (string_bytes text.new ≡ string_bytes text.old
         ++ flat_map (λ stop. 32 ∷ link_name (stop, stop + 1)) (range_with_len 1 (size - 1 - 1))) }
 {
@@ -85,7 +86,7 @@ fn push_links(size: u32, text: &mut String) -> Result<(), AllocError>
 #[tactic(auto, using(crate::proofs::Lines::more_from_one))]
 fn push_calls(size: u32, text: &mut String) -> Result<(), AllocError>
     requires some { 2 ≤ size }
-    requires few { size ≤ 100 }
+    requires few { size ≤ MOST_SIZE }
     ensures { OnOk result (string_bytes text.new ≡ string_bytes text.old
         ++ flat_map (λ stop. 32 ∷ call_text stop) (range_with_len 1 (size - 1 - 1))) }
 {
@@ -97,7 +98,7 @@ fn push_calls(size: u32, text: &mut String) -> Result<(), AllocError>
 
 pub fn routes_text(alloc: Global, size: u32) -> Result<String, AllocError>
     requires some { 2 ≤ size }
-    requires few { size ≤ 100 }
+    requires few { size ≤ MOST_SIZE }
     ensures { IfOk result (λ text. string_bytes text ≡ routes_text size) }
 {
     let mut text = String::from_str(alloc, "line,route,links,stops\nbus,east,")?;
@@ -112,7 +113,7 @@ pub fn routes_text(alloc: Global, size: u32) -> Result<String, AllocError>
 
 #[tactic(auto, unfolding(plan_text::specs::Lines::row_line))]
 fn push_departure(departure: u32, text: &mut String) -> Result<(), AllocError>
-    requires { departure < 100 }
+    requires { departure < DEPARTURES }
     ensures { OnOk result (string_bytes text.new ≡ string_bytes text.old ++ row_line (departure_row departure)) }
 {
     let second = FIRST_DEPARTURE + departure * DEPARTURE_GAP;
@@ -121,7 +122,7 @@ fn push_departure(departure: u32, text: &mut String) -> Result<(), AllocError>
 
 #[tactic(auto, using(crate::proofs::Lines::more_pieces), unfolding(crate::specs::Texts::departures_text))]
 pub fn departures_text(alloc: Global, count: u32) -> Result<String, AllocError>
-    requires { count ≤ 100 }
+    requires { count ≤ DEPARTURES }
     ensures { IfOk result (λ text. string_bytes text ≡ departures_text count) }
 {
     let mut text = String::from_str(alloc, "departure,route,second,seats\n")?;

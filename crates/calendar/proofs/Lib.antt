@@ -1,3 +1,4 @@
 pub mod Tables
 pub mod Ascending
 pub mod Hung
+pub mod Woken

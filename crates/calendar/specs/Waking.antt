@@ -1,5 +1,5 @@
 -- When each of some numbers is next woken.
-use Rattle.std.specs.Prelude.{◌≡◌, ℕ, suc, Bool, false, List, [], ◌∷◌, get_or, min, set, ◌==◌, if◌then◌else◌, Option, None, Some}
+use Rattle.std.specs.Prelude.{◌≡◌, ℕ, suc, Bool, false, List, [], ◌∷◌, get_or, min, set, ◌==◌, nat_lt, if◌then◌else◌, Option, None, Some}
 use Rattle.std.specs.List.{Contains}
 use Rattle.calendar.specs.Due.{Due, due_at}
 
@@ -42,3 +42,8 @@ asleep (n ∷ ns) due = asleep ns (set due n None)
 abbrev pub earlier : ℕ → Option ℕ → Option ℕ
 earlier t None = Some t
 earlier t (Some u) = Some (min t u)
+
+-- a second, where it is before the end
+abbrev pub within : ℕ → Option ℕ → Option ℕ
+within end None = None
+within end (Some u) = if nat_lt u end then Some u else None

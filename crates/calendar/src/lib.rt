@@ -8,3 +8,4 @@ mod waking;
 
 pub use by_second::Calendar;
 pub use wake_ups::Wakes;
+pub use waking::within;

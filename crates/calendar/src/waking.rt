@@ -3,7 +3,7 @@
 ghost use Rattle.std.specs.Prelude.{◌≡◌, ◌<◌, ℕ, length, map, filter, set, replicate, None, OnOk, IfOk};
 ghost use Rattle.std.specs.List.{Contains};
 ghost use Rattle.std.specs.List.Sorted.{IsStrictlyIncreasing};
-ghost use Rattle.calendar.specs.Waking.{wake_of, is_second, is_woken, woken, slept, asleep, earlier};
+ghost use Rattle.calendar.specs.Waking.{wake_of, is_second, is_woken, woken, slept, asleep, earlier, within};
 
 use crate::by_second::Calendar;
 use crate::wake_ups::Wakes;
@@ -28,6 +28,21 @@ fn is_second(second: u32, due: Option<u32>) -> bool
     match due {
         None => false,
         Some(due) => due == second,
+    }
+}
+
+/// The second, where it is before the end of a day: so a table reaches no further than the day.
+pub fn within(end: u32, second: Option<u32>) -> Option<u32>
+    ensures { result ≡ within end second }
+{
+    match second {
+        None => None,
+        Some(second) => {
+            if second < end {
+                return Some(second);
+            }
+            None
+        }
     }
 }
 

@@ -1,0 +1,4 @@
+mod Keys
+mod Counts
+mod Merged
+pub mod Told

@@ -1,0 +1,402 @@
+-- What the turns of those links that are woken make is what the turns of all links make.
+use Rattle.traffic.proofs.Common.{◌≡◌, ◌≢◌, ℕ, zero, suc, ◌+◌, ◌-◌, ◌<◌, ◌≤◌, Bool, true, false, List, ◌∙◌, ap, refl, sym, subst, [], ◌∷◌, ◌++◌, inl, inr, arith}
+use Rattle.traffic.proofs.Common.{length, eqb, eqb-true, eqb-false, cases_Bool, length-map, get_or-map, ne_eqb, eq-eqb}
+use Rattle.traffic.proofs.Common.{map, filter, flat_map, flat_map-append, Option, None, Some, Event, Setup, World, Turn, told, phase_code, keyed, link_turns, link_state, rules, raised, waiters, LinkState}
+use Rattle.traffic.proofs.Common.{run, after, turns, turns_in, turns_of, turn_of, moves_of, events_in, below, numbers, nat_lt}
+use Rattle.std.specs.Prelude.{max}
+use Rattle.std.specs.List.{AllByRecursion as Each}
+use Rattle.std.proofs.lemmas.Bool.{ltb-false}
+use Rattle.events.specs.declared.event.Phase.TheVariants as phase
+use Rattle.fixed_flow.specs.Flow.{raised_times}
+use Rattle.rows.specs.declared.settings.Dwelling.{Dwelling}
+use Rattle.traffic.specs.declared.moves.Move.{Move}
+use Rattle.traffic.specs.declared.moves.Move.TheVariants.{Credit}
+use Rattle.traffic.specs.declared.moves.Occurrence.{Occurrence}
+use Rattle.traffic.specs.declared.numbers.Rules.{Rules}
+use Rattle.traffic.specs.declared.world.Waiter.{Waiter}
+use Rattle.traffic.proofs.Sublists.{run-append}
+use Rattle.traffic.proofs.Turns.{Fresh, Distinct, Distinct-numbers, moves_of-map}
+use Rattle.traffic.proofs.Phases.{links_apart, phase_at_once}
+use Rattle.traffic.proofs.Waiting.{waiters-other}
+use Rattle.law_sleeping.specs.Quiet.{IsQuiet, IsSettled, IsBy, link_state_after_all}
+use Rattle.law_sleeping.proofs.Resting.{link_rest}
+use Rattle.law_sleeping.proofs.Settling.{turn_settles}
+use Rattle.law_sleeping.proofs.Sleep.{credits_run}
+use Rattle.law_sleeping.proofs.Whole.{links_link_state}
+use Rattle.calendar.specs.Waking.{wake_of, is_second, is_woken, woken, slept, within}
+use Rattle.queue_link.specs.Links.{LinkView}
+use Rattle.queue_link.specs.Numbers.{rules_of}
+use Rattle.queue_link.specs.Waking.{due_of}
+use Rattle.link_seconds.specs.Seconds.{HaveLines, lists_at, left_after}
+use Rattle.law_waking.specs.Resting.{Rests, sleeps_to}
+use Rattle.law_waking.proofs.Resting.{settled_rests}
+use Rattle.law_waking.proofs.Lines.{turn_leaves}
+use Rattle.traffic.proofs.Each.{each_number, each_weaker}
+use Rattle.calendar.proofs.Woken.{woken_is}
+use Rattle.node_seconds.specs.Networks.{lane, is_among, AreIn, AreOnce}
+use Rattle.part_links.specs.Links.{IsLink, LinksStand, LinesStand, AreAsleep, lies_on, no_sooner, wake_after}
+use Rattle.part_links.specs.Phase.{turned, keyed_by, told_by, waiting_behind, AreTurned, IsPhase}
+use Rattle.part_links.proofs.Numbers.{among_passed, once_passed}
+use Rattle.part_links.proofs.Standing.{link_is, rules_are}
+
+-- WHO IS WOKEN
+woken_below : (t : ℕ) (due : List (Option ℕ)) → woken t due ≡ filter (is_woken t due) (below (length due))
+woken_below t due = woken_is numbers t due (record { none = λ n. refl; more = λ n count. refl })
+
+-- WHO WAITS AFTER THE PHASE
+fresh_apart : (l : ℕ) (ns : List ℕ) → Fresh l ns → is_among l ns ≡ false
+fresh_apart l [] h = refl
+fresh_apart l (n ∷ ns) h = let e : eqb n l ≡ false = ne_eqb n l h.0 in rw e (fresh_apart l ns h.1)
+
+after_first : (S : Setup) (t n : ℕ) (ns : List ℕ) (V : World) → after S t (turns S t (link_turns S t) (n ∷ ns) V) V
+    ≡ after S t (turns S t (link_turns S t) ns (run S t (link_turns S t n V) V)) (run S t (link_turns S t n V) V)
+unfolding turns
+after_first S t n ns V =
+    run-append S t (link_turns S t n V) (moves_of (turns S t (link_turns S t) ns (run S t (link_turns S t n V) V))) V
+
+waiting_after : (S : Setup) (t l : ℕ) (ns : List ℕ) (V : World) → Distinct ns
+    → waiters S l (after S t (turns S t (link_turns S t) ns V) V) ≡ waiting_behind S t l V (is_among l ns)
+unfolding turns
+waiting_after S t l [] V h = refl
+waiting_after S t l (n ∷ ns) V h =
+    let U = run S t (link_turns S t n V) V in
+    let first = ap (waiters S l) (after_first S t n ns V) in
+    let rest = waiting_after S t l ns U h.1 in
+    elim (cases_Bool (eqb n l)) [
+      | inl e ↦
+          let same : n ≡ l = eqb-true n l e in
+          let none : is_among l ns ≡ false = subst (λ (k : ℕ). is_among k ns ≡ false) same (fresh_apart n ns h.0) in
+          let own : waiters S l U ≡ left_after (link_turns S t l V) (waiters S l V)
+          = subst (λ (k : ℕ). waiters S l (run S t (link_turns S t k V) V) ≡ left_after (link_turns S t l V) (waiters S l V)) (sym same)
+          (turn_leaves S t l (rules S l) (link_state l V) V) in
+          first ∙ rest ∙ ap (waiting_behind S t l U) none ∙ own ∙ ap (λ (b : Bool). waiting_behind S t l V b) (sym (among_first n l ns e))
+      | inr e ↦
+          let ne : l ≢ n = λ q. eqb-false n l e (sym q) in
+          let kept : waiters S l U ≡ waiters S l V = waiters-other S t n l (rules S n) (link_state n V) V ne in
+          let plan : link_turns S t l U ≡ link_turns S t l V = links_apart S t l n V ne in
+          first ∙ rest ∙ behind_same S t l U V (is_among l ns) kept plan
+          ∙ ap (λ (b : Bool). waiting_behind S t l V b) (sym (among_later n l ns e))
+    ]
+  where
+    among_first : (a b : ℕ) (xs : List ℕ) → eqb a b ≡ true → is_among b (a ∷ xs) ≡ true
+    among_first a b xs q = rw q refl
+
+    among_later : (a b : ℕ) (xs : List ℕ) → eqb a b ≡ false → is_among b (a ∷ xs) ≡ is_among b xs
+    among_later a b xs q = rw q refl
+
+    behind_same : (R : Setup) (u k : ℕ) (A B : World) (b : Bool) → waiters R k A ≡ waiters R k B → link_turns R u k A ≡ link_turns R u k B
+        → waiting_behind R u k A b ≡ waiting_behind R u k B b
+    behind_same R u k A B true w p = ap (λ (ms : List Move). left_after ms (waiters R k A)) p ∙ ap (left_after (link_turns R u k B)) w
+    behind_same R u k A B false w p = w
+
+among_below : (l k n : ℕ) → k ≤ l → l < k + n → is_among l (numbers k n) ≡ true
+among_below l k zero low high = absurd (omega arith)
+among_below l k (suc n) low high =
+    elim (cases_Bool (eqb k l)) [
+      | inl e ↦ rw e refl
+      | inr e ↦ let ne : k ≢ l = eqb-false k l e in rw e (among_below l (k + 1) n (omega arith) (omega arith))
+    ]
+
+pub all_waiting : (S : Setup) (t l : ℕ) (V : World) → l < length S.links
+    → waiters S l (after S t (turns_in S t phase.D V) V) ≡ left_after (link_turns S t l V) (waiters S l V)
+unfolding turns_in turns_of
+all_waiting S t l V lt =
+    waiting_after S t l (below (length S.links)) V (Distinct-numbers 0 (length S.links))
+    ∙ ap (waiting_behind S t l V) (among_below l 0 (length S.links) (omega arith) (omega arith))
+
+-- A LINK THAT IS NOT WOKEN
+quiet_turn : (S : Setup) (t l : ℕ) (V : World) (v : LinkView) → IsLink S l v → lists_at t v ≡ link_state l V
+    → IsQuiet (rules_of v.numbers S.settings.dwell) t v.numbers.link (lists_at t v)
+    → link_turns S t l V ≡ Credit l (raised (rules S l).gain (link_state l V).credit) ∷ []
+quiet_turn S t l V v h e q =
+    let a : IsQuiet (rules S l) t v.numbers.link (lists_at t v) = subst (λ (K : Rules). IsQuiet K t v.numbers.link (lists_at t v)) (rules_are S l v h) q in
+    let b : IsQuiet (rules S l) t l (lists_at t v) = subst (λ (k : ℕ). IsQuiet (rules S l) t k (lists_at t v)) (link_is S l v h) a in
+    let c : IsQuiet (rules S l) t l (link_state l V) = subst (λ (L : LinkState). IsQuiet (rules S l) t l L) e b in
+    link_rest (rules S l) t l (waiters S l V) (link_state l V) c
+
+-- with the gain of one second more
+one_gain : (gain t k credit : ℕ) → k ≤ t → raised_times gain (t + 1 - k) credit ≡ raised gain (raised_times gain (t - k) credit)
+unfolding raised_times
+one_gain gain t k credit le = let e : t + 1 - k ≡ suc (t - k) = omega arith in ap (λ (n : ℕ). raised_times gain n credit) e
+
+no_gain : (gain t credit : ℕ) → raised_times gain (t + 1 - (t + 1)) credit ≡ credit
+unfolding raised_times
+no_gain gain t credit = let e : t + 1 - (t + 1) ≡ 0 = omega arith in ap (λ (n : ℕ). raised_times gain n credit) e
+
+credit_after : (l c : ℕ) (L : LinkState) → link_state_after_all l (Credit l c ∷ []) L ≡ record L { credit = c }
+credit_after l c L = let e = eq-eqb l l refl in rw e refl
+
+gain_is : (S : Setup) (l : ℕ) (v : LinkView) → IsLink S l v → v.numbers.gain ≡ (rules S l).gain
+gain_is S l v h = ap (λ (K : Rules). K.gain) (rules_are S l v h)
+
+quiet_lists : (S : Setup) (t l : ℕ) (V : World) (v : LinkView) → IsLink S l v → lists_at t v ≡ link_state l V → v.raised ≤ t
+    → link_turns S t l V ≡ Credit l (raised (rules S l).gain (link_state l V).credit) ∷ []
+    → lists_at (t + 1) v ≡ link_state_after_all l (link_turns S t l V) (link_state l V)
+quiet_lists S t l V v h e le q =
+    let gain = v.numbers.gain in
+    let a : lists_at (t + 1) v ≡ record (lists_at t v) { credit = raised gain (lists_at t v).credit }
+    = ap (λ (c : ℕ). record v.lists { credit = c }) (one_gain gain t v.raised v.lists.credit le) in
+    a ∙ ap (λ (g : ℕ). record (lists_at t v) { credit = raised g (lists_at t v).credit }) (gain_is S l v h)
+    ∙ ap (λ (L : LinkState). record L { credit = raised (rules S l).gain L.credit }) e
+    ∙ sym (credit_after l (raised (rules S l).gain (link_state l V).credit) (link_state l V))
+    ∙ ap (λ (ms : List Move). link_state_after_all l ms (link_state l V)) (sym q)
+
+turned_lists : (S : Setup) (t l : ℕ) (V : World) (v w : LinkView) → w ≡ turned S t l V v
+    → lists_at (t + 1) w ≡ link_state_after_all l (link_turns S t l V) (link_state l V)
+turned_lists S t l V v w e =
+    let M = link_state_after_all l (link_turns S t l V) (link_state l V) in
+    ap (lists_at (t + 1)) e ∙ ap (λ (c : ℕ). record M { credit = c }) (no_gain v.numbers.gain t M.credit)
+
+-- WHEN IT IS WOKEN AGAIN
+later_due : (t u : ℕ) (d : Option ℕ) → no_sooner t d ≡ Some u → t ≤ u
+later_due t u None e = absurd (let z : None ≡ Some u = e in cc)
+later_due t u (Some w) e = let z : max t w ≡ u = (let y : Some (max t w) ≡ Some u = e in cc) in omega arith
+
+within_is : (end u : ℕ) (d : Option ℕ) → within end d ≡ Some u → d ≡ Some u
+within_is end u None e = e
+within_is end u (Some w) e = elim (cases_Bool (nat_lt w end)) [ inl q ↦ rw q at e | inr q ↦ absurd (let z : None ≡ Some u = rw q at e in cc) ]
+
+woken_later : (end t u : ℕ) (v : LinkView) → wake_after end t v ≡ Some u → t + 1 ≤ u
+woken_later end t u v e = later_due (t + 1) u (due_of v.numbers t v.lists) (within_is end u (no_sooner (t + 1) (due_of v.numbers t v.lists)) e)
+
+rests_less : (D : Dwelling) (now less due : ℕ) (v : LinkView) → ((x : ℕ) → now ≤ x → x < less → x < due) → Rests D now due v → Rests D now less v
+rests_less D now less due v le h = λ x low high. h x low (le x low high)
+
+rests_by : (D : Dwelling) (end t : ℕ) (v : LinkView) (d : Option ℕ) → ((due : ℕ) → IsBy due d → Rests D (t + 1) due v)
+    → Rests D (t + 1) (sleeps_to end (within end (no_sooner (t + 1) d))) v
+rests_by D end t v None h = h end tt
+rests_by D end t v (Some u) h =
+    let r = h u (omega arith) in
+    elim (cases_Bool (nat_lt (max (t + 1) u) end)) [
+      | inl q ↦ rw q (rests_less D (t + 1) (max (t + 1) u) u v (λ x low high. omega arith) r)
+      | inr q ↦ let past : end ≤ max (t + 1) u = ltb-false (max (t + 1) u) end q in rw q (rests_less D (t + 1) end u v (λ x low high. omega arith) r)
+    ]
+
+turned_rests : (S : Setup) (end t l : ℕ) (V : World) (v w : LinkView) → IsLink S l v → w ≡ turned S t l V v
+    → Rests S.settings.dwell (t + 1) (sleeps_to end (wake_after end t w)) w
+turned_rests S end t l V v w h e =
+    let D = S.settings.dwell in
+    let W = turned S t l V v in
+    let own = turn_settles (rules S l) t l (waiters S l V) (link_state l V) in
+    subst (λ (x : LinkView). Rests D (t + 1) (sleeps_to end (wake_after end t x)) x) (sym e)
+    (rests_by D end t W (due_of W.numbers t W.lists) (λ due by. settled_rests D t due W refl
+    (subst (λ (k : ℕ). IsSettled (rules_of v.numbers D) t k W.lists) (sym (link_is S l v h))
+    (subst (λ (K : Rules). IsSettled K t l W.lists) (sym (rules_are S l v h)) own)) by))
+
+-- THE WHOLE PHASE
+-- the links that are woken in second t are those of these numbers
+pub record Awake (S : Setup) (end t : ℕ) (V : World) (ns : List ℕ) (old : List LinkView) (before now : List (Option ℕ)) : Type 0 where
+  pub stand : LinksStand S t old V
+  pub asleep : AreAsleep S.settings.dwell end t old before
+  pub in_day : t < end
+  pub are : ns ≡ woken t before
+  pub slept : now ≡ map (slept t) before
+
+slots : (S : Setup) (end t : ℕ) (V : World) (ns : List ℕ) (old : List LinkView) (before now : List (Option ℕ)) → Awake S end t V ns old before now
+    → length before ≡ length S.links
+slots S end t V ns old before now g = g.asleep.count ∙ g.stand.count
+
+numbers_are : (S : Setup) (end t : ℕ) (V : World) (ns : List ℕ) (old : List LinkView) (before now : List (Option ℕ)) → Awake S end t V ns old before now
+    → ns ≡ filter (is_woken t before) (below (length S.links))
+numbers_are S end t V ns old before now g =
+    g.are ∙ woken_below t before ∙ ap (λ (k : ℕ). filter (is_woken t before) (below k)) (slots S end t V ns old before now g)
+
+among_is : (S : Setup) (end t l : ℕ) (V : World) (ns : List ℕ) (old : List LinkView) (before now : List (Option ℕ)) → Awake S end t V ns old before now
+    → l < length S.links → is_among l ns ≡ is_second t (wake_of before l)
+among_is S end t l V ns old before now g lt =
+    ap (is_among l) (numbers_are S end t V ns old before now g) ∙ among_passed (is_woken t before) l 0 (length S.links) (omega arith) (omega arith)
+
+sleeps_past : (end t : ℕ) (d : Option ℕ) → t < end → ((u : ℕ) → d ≡ Some u → t ≤ u) → is_second t d ≡ false → t < sleeps_to end d
+sleeps_past end t None lt h e = lt
+sleeps_past end t (Some u) lt h e = let ne : u ≢ t = eqb-false u t e in let le = h u refl in omega arith
+
+quiet_at : (S : Setup) (end t l : ℕ) (V : World) (ns : List ℕ) (old : List LinkView) (before now : List (Option ℕ)) → Awake S end t V ns old before now
+    → l < length S.links → is_among l ns ≡ false → link_turns S t l V ≡ Credit l (raised (rules S l).gain (link_state l V).credit) ∷ []
+quiet_at S end t l V ns old before now g lt out_of =
+    let within_old : l < length old = (let a = g.stand.count in omega arith) in
+    let off : is_second t (wake_of before l) ≡ false = sym (among_is S end t l V ns old before now g lt) ∙ out_of in
+    let past = sleeps_past end t (wake_of before l) g.in_day (λ u e. g.asleep.later l u within_old e) off in
+    quiet_turn S t l V (lane old l) (g.stand.numbers l lt) (g.stand.lists l lt) (g.asleep.rests l within_old t (omega arith) past)
+
+-- the links
+all_links : (S : Setup) (end t : ℕ) (V : World) (ns : List ℕ) (old links : List LinkView) (lines : List (List Waiter)) (before now wakes : List (Option ℕ))
+    (events out : List Event) (said heard : List Occurrence) → Awake S end t V ns old before now
+    → AreTurned S end t V ns old links lines now wakes events out said heard → LinksStand S (t + 1) links (after S t (turns_in S t phase.D V) V)
+all_links S end t V ns old links lines before now wakes events out said heard g h =
+    let After = after S t (turns_in S t phase.D V) V in
+    let in_old : (l : ℕ) → l < length S.links → l < length old = λ l lt. (let a = g.stand.count in omega arith) in
+    let whole : (l : ℕ) → l < length S.links → link_state l After ≡ link_state_after_all l (link_turns S t l V) (link_state l V)
+    = λ l lt. links_link_state S t l V lt (let a = g.stand.credits in omega arith) in
+    record {
+      count = h.count ∙ g.stand.count;
+      credits = credits_run S t (moves_of (turns_in S t phase.D V)) V ∙ g.stand.credits;
+      numbers = λ l lt.
+          let q = g.stand.numbers l lt in
+          elim (cases_Bool (is_among l ns)) [
+            | inl a ↦ subst (IsLink S l) (sym (h.done l (in_old l lt) a)) (record { numbers = q.numbers })
+            | inr a ↦ subst (IsLink S l) (sym (h.left l a)) q
+          ];
+      raised = λ l lt.
+          let le = g.stand.raised l lt in
+          elim (cases_Bool (is_among l ns)) [
+            | inl a ↦ let e : (lane links l).raised ≡ t + 1 = ap (λ (v : LinkView). v.raised) (h.done l (in_old l lt) a) in omega arith
+            | inr a ↦ let e : (lane links l).raised ≡ (lane old l).raised = ap (λ (v : LinkView). v.raised) (h.left l a) in omega arith
+          ];
+      lists = λ l lt.
+          elim (cases_Bool (is_among l ns)) [
+            | inl a ↦ turned_lists S t l V (lane old l) (lane links l) (h.done l (in_old l lt) a) ∙ sym (whole l lt)
+            | inr a ↦
+                ap (lists_at (t + 1)) (h.left l a)
+                ∙ quiet_lists S t l V (lane old l) (g.stand.numbers l lt) (g.stand.lists l lt) (g.stand.raised l lt)
+                (quiet_at S end t l V ns old before now g lt a) ∙ sym (whole l lt)
+          ];
+    }
+
+-- the lines
+all_lines : (S : Setup) (end t : ℕ) (V : World) (ns : List ℕ) (old links : List LinkView) (lines : List (List Waiter)) (before now wakes : List (Option ℕ))
+    (events out : List Event) (said heard : List Occurrence) → Awake S end t V ns old before now
+    → AreTurned S end t V ns old links lines now wakes events out said heard → LinesStand S lines (after S t (turns_in S t phase.D V) V)
+all_lines S end t V ns old links lines before now wakes events out said heard g h = λ l lt.
+    let w = h.waits l (let a = g.stand.count in omega arith) in
+    let whole = all_waiting S t l V lt in
+    let quiet : is_among l ns ≡ false → left_after (link_turns S t l V) (waiters S l V) ≡ waiters S l V
+    = λ a. ap (λ (ms : List Move). left_after ms (waiters S l V)) (quiet_at S end t l V ns old before now g lt a) in
+    let behind : waiting_behind S t l V (is_among l ns) ≡ left_after (link_turns S t l V) (waiters S l V)
+    = elim (cases_Bool (is_among l ns)) [
+      | inl a ↦ ap (waiting_behind S t l V) a
+      | inr a ↦ ap (waiting_behind S t l V) a ∙ sym (quiet a)
+    ] in
+    subst (HaveLines (lies_on S l) lines) (behind ∙ sym whole) w
+
+-- who sleeps
+slept_off : (t : ℕ) (d : Option ℕ) → is_second t d ≡ false → slept t d ≡ d
+slept_off t d e = rw e refl
+
+wake_kept : (S : Setup) (end t l : ℕ) (V : World) (ns : List ℕ) (old : List LinkView) (before now : List (Option ℕ)) → Awake S end t V ns old before now
+    → l < length S.links → is_among l ns ≡ false → wake_of now l ≡ wake_of before l
+wake_kept S end t l V ns old before now g lt out_of =
+    let off : is_second t (wake_of before l) ≡ false = sym (among_is S end t l V ns old before now g lt) ∙ out_of in
+    let there : l < length before = (let a = slots S end t V ns old before now g in omega arith) in
+    ap (λ (xs : List (Option ℕ)). wake_of xs l) g.slept ∙ get_or-map (slept t) before l None None there ∙ slept_off t (wake_of before l) off
+
+all_asleep : (S : Setup) (end t : ℕ) (V : World) (ns : List ℕ) (old links : List LinkView) (lines : List (List Waiter)) (before now wakes : List (Option ℕ))
+    (events out : List Event) (said heard : List Occurrence) → Awake S end t V ns old before now
+    → AreTurned S end t V ns old links lines now wakes events out said heard → AreAsleep S.settings.dwell end (t + 1) links wakes
+all_asleep S end t V ns old links lines before now wakes events out said heard g h =
+    let D = S.settings.dwell in
+    let in_old : (l : ℕ) → l < length links → l < length old = λ l lt. (let a = h.count in omega arith) in
+    let known : (l : ℕ) → l < length links → l < length S.links = λ l lt. (let a = h.count in let b = g.stand.count in omega arith) in
+    let kept : (l : ℕ) → l < length links → is_among l ns ≡ false → wake_of wakes l ≡ wake_of before l
+    = λ l lt a. h.asleep l a ∙ wake_kept S end t l V ns old before now g (known l lt) a in
+    record {
+      count = h.slots ∙ ap length g.slept ∙ length-map before (slept t) ∙ g.asleep.count ∙ sym h.count;
+      rests = λ l lt.
+          elim (cases_Bool (is_among l ns)) [
+            | inl a ↦
+                subst (λ (d : Option ℕ). Rests D (t + 1) (sleeps_to end d) (lane links l)) (sym (h.woken l (in_old l lt) a))
+                (turned_rests S end t l V (lane old l) (lane links l) (g.stand.numbers l (known l lt)) (h.done l (in_old l lt) a))
+            | inr a ↦
+                subst (λ (v : LinkView). Rests D (t + 1) (sleeps_to end (wake_of wakes l)) v) (sym (h.left l a))
+                (subst (λ (d : Option ℕ). Rests D (t + 1) (sleeps_to end d) (lane old l)) (sym (kept l lt a))
+                (λ x low high. g.asleep.rests l (in_old l lt) x (omega arith) high))
+          ];
+      later = λ l u lt e.
+          elim (cases_Bool (is_among l ns)) [
+            | inl a ↦ woken_later end t u (lane links l) (sym (h.woken l (in_old l lt) a) ∙ e)
+            | inr a ↦
+                let was : wake_of before l ≡ Some u = sym (kept l lt a) ∙ e in
+                let le = g.asleep.later l u (in_old l lt) was in
+                let off : is_second t (Some u) ≡ false
+                = ap (is_second t) (sym was) ∙ sym (among_is S end t l V ns old before now g (known l lt)) ∙ a in
+                let ne : u ≢ t = eqb-false u t off in
+                omega arith
+          ];
+    }
+
+-- what is told
+told_skip : (X : Type 0) (p : ℕ → Bool) (f : ℕ → List X) (ns : List ℕ) → Each (λ (n : ℕ). p n ≡ false → f n ≡ []) ns → flat_map f (filter p ns) ≡ flat_map f ns
+told_skip X p f [] h = refl
+told_skip X p f (n ∷ ns) h =
+    let rest = told_skip X p f ns h.1 in
+    elim (cases_Bool (p n)) [
+      | inl e ↦ rw e (ap (λ (xs : List X). f n ++ xs) rest)
+      | inr e ↦ rw e (rest ∙ ap (λ (xs : List X). xs ++ flat_map f ns) (sym (h.0 e)))
+    ]
+
+events_map : (S : Setup) (t : ℕ) (V : World) (ns : List ℕ) → events_in t phase.D (map (turn_of (link_turns S t) V) ns) ≡ flat_map (keyed_by S t V) ns
+events_map S t V [] = refl
+events_map S t V (n ∷ ns) = ap (λ (xs : List Event). keyed_by S t V n ++ xs) (events_map S t V ns)
+
+told_map : (S : Setup) (t : ℕ) (V : World) (ns : List ℕ) → flat_map told (flat_map (λ n. link_turns S t n V) ns) ≡ flat_map (told_by S t V) ns
+told_map S t V [] = refl
+told_map S t V (n ∷ ns) =
+    flat_map-append told (link_turns S t n V) (flat_map (λ m. link_turns S t m V) ns) ∙ ap (λ (xs : List Occurrence). told_by S t V n ++ xs) (told_map S t V ns)
+
+quiet_told : (S : Setup) (t n : ℕ) (V : World) (c : ℕ) → link_turns S t n V ≡ Credit n c ∷ [] → told_by S t V n ≡ []
+quiet_told S t n V c e = ap (λ (ms : List Move). flat_map told ms) e
+
+quiet_keyed : (S : Setup) (t n : ℕ) (V : World) → told_by S t V n ≡ [] → keyed_by S t V n ≡ []
+unfolding keyed
+quiet_keyed S t n V e = ap (λ (xs : List Occurrence). keyed t (phase_code phase.D) n 0 xs) e
+
+each_quiet : (S : Setup) (end t : ℕ) (V : World) (ns : List ℕ) (old : List LinkView) (before now : List (Option ℕ)) → Awake S end t V ns old before now
+    → Each (λ (n : ℕ). is_woken t before n ≡ false → told_by S t V n ≡ []) (below (length S.links))
+each_quiet S end t V ns old before now g =
+    each_weaker (λ (n : ℕ). n < length S.links) (λ (n : ℕ). is_woken t before n ≡ false → told_by S t V n ≡ [])
+    (λ n lt e. quiet_told S t n V (raised (rules S n).gain (link_state n V).credit)
+    (quiet_at S end t n V ns old before now g lt (among_is S end t n V ns old before now g lt ∙ e))) (below (length S.links))
+    (each_number (length S.links) 0 (length S.links) (omega arith))
+
+all_told : (S : Setup) (end t : ℕ) (V : World) (ns : List ℕ) (old : List LinkView) (before now : List (Option ℕ)) → Awake S end t V ns old before now
+    → (flat_map (keyed_by S t V) ns ≡ events_in t phase.D (turns_in S t phase.D V))
+    × (flat_map (told_by S t V) ns ≡ flat_map told (moves_of (turns_in S t phase.D V)))
+unfolding turns_of
+all_told S end t V ns old before now g =
+    let p = is_woken t before in
+    let all = below (length S.links) in
+    let quiet = each_quiet S end t V ns old before now g in
+    let silent = each_weaker (λ (n : ℕ). p n ≡ false → told_by S t V n ≡ []) (λ (n : ℕ). p n ≡ false → keyed_by S t V n ≡ [])
+    (λ n h e. quiet_keyed S t n V (h e)) all quiet in
+    let at_once = phase_at_once S t phase.D V in
+    let are = numbers_are S end t V ns old before now g in (
+      ap (flat_map (keyed_by S t V)) are ∙ told_skip Event p (keyed_by S t V) all silent ∙ sym (events_map S t V all) ∙ ap (events_in t phase.D) (sym at_once),
+      ap (flat_map (told_by S t V)) are ∙ told_skip Occurrence p (told_by S t V) all quiet ∙ sym (told_map S t V all)
+          ∙ ap (λ (ms : List Move). flat_map told ms) (sym (moves_of-map (link_turns S t) V all)) ∙ ap (λ (us : List Turn). flat_map told (moves_of us)) (sym at_once),
+    )
+
+pub phase_is : (S : Setup) (end t : ℕ) (V : World) (D : Dwelling) (ns : List ℕ) (old links : List LinkView) (lines : List (List Waiter))
+    (before now wakes : List (Option ℕ)) (events out : List Event) (said heard : List Occurrence)
+    → S.settings.dwell ≡ D → LinksStand S t old V → AreAsleep D end t old before → t < end → ns ≡ woken t before → now ≡ map (slept t) before
+    → AreTurned S end t V ns old links lines now wakes events out said heard → IsPhase S end t V links lines wakes events out said heard
+phase_is S end t V D ns old links lines before now wakes events out said heard d stand asleep lt ns_are now_is h =
+    let g : Awake S end t V ns old before now
+    = record {
+      stand = stand;
+      asleep = subst (λ (E : Dwelling). AreAsleep E end t old before) (sym d) asleep;
+      in_day = lt;
+      are = ns_are;
+      slept = now_is;
+    } in
+    let all = all_told S end t V ns old before now g in
+    record {
+      links = all_links S end t V ns old links lines before now wakes events out said heard g h;
+      lines = all_lines S end t V ns old links lines before now wakes events out said heard g h;
+      asleep = all_asleep S end t V ns old links lines before now wakes events out said heard g h;
+      events = h.events ∙ ap (λ (xs : List Event). events ++ xs) all.0;
+      said = h.said ∙ ap (λ (xs : List Occurrence). said ++ xs) all.1;
+    }
+
+-- the numbers of links that are woken: each is there, and stands once
+pub woken_there : (t count : ℕ) (before : List (Option ℕ)) (ns : List ℕ) → ns ≡ woken t before → length before ≡ count → AreIn count ns
+woken_there t count before ns e len =
+    subst (AreIn count) (sym (e ∙ woken_below t before ∙ ap (λ (k : ℕ). filter (is_woken t before) (below k)) len)) (all_in (is_woken t before) count 0 count (omega arith))
+  where
+    all_in : (p : ℕ → Bool) (bound k n : ℕ) → k + n ≤ bound → AreIn bound (filter p (numbers k n))
+    all_in p bound k zero le = tt
+    all_in p bound k (suc n) le =
+        let rest = all_in p bound (k + 1) n (omega arith) in
+        let first : k < bound = omega arith in
+        elim (cases_Bool (p k)) [ inl q ↦ rw q (first, rest) | inr q ↦ rw q rest ]
+
+pub woken_once : (t : ℕ) (before : List (Option ℕ)) (ns : List ℕ) → ns ≡ woken t before → AreOnce ns
+woken_once t before ns e = subst AreOnce (sym (e ∙ woken_below t before)) (once_passed (is_woken t before) (length before))

@@ -1,0 +1,65 @@
+-- The links of a network and the lines of its stops, as they stand for those of a world, and when the links are woken.
+use Rattle.std.specs.Prelude.{◌≡◌, ℕ, ◌+◌, ◌<◌, ◌≤◌, max, Bool, List, length, ◌==◌, Option, None, Some}
+use Rattle.std.specs.List.{AllByRecursion as Each}
+use Rattle.rows.specs.declared.settings.Dwelling.{Dwelling}
+use Rattle.traffic.specs.declared.world.Waiter.{Waiter}
+use Rattle.traffic.specs.Rows.{World}
+use Rattle.traffic.specs.Setup.{Setup, link_row, link_of_stop}
+use Rattle.traffic.specs.Links.{link_state}
+use Rattle.traffic.specs.Persons.{waiters}
+use Rattle.calendar.specs.Waking.{wake_of, within}
+use Rattle.queue_link.specs.Links.{LinkView}
+use Rattle.queue_link.specs.Numbers.{numbers_of}
+use Rattle.queue_link.specs.Waking.{due_of}
+use Rattle.link_seconds.specs.Seconds.{AreReady, IsReady, StopThere, IsThere, HaveLines, lists_at}
+use Rattle.law_waking.specs.Resting.{Rests, sleeps_to}
+use Rattle.node_seconds.specs.Networks.{lane}
+
+-- THE LINKS
+-- the numbers of link l are those of the setup
+pub record IsLink (S : Setup) (l : ℕ) (v : LinkView) : Type 0 where
+  pub numbers : v.numbers ≡ numbers_of l (link_row S l) S.settings
+
+-- Before the turns of second t the links stand for those of world V: with the gains of all seconds before t each has the lists of V.
+pub record LinksStand (S : Setup) (t : ℕ) (links : List LinkView) (V : World) : Type 0 where
+  pub count : length links ≡ length S.links
+  pub credits : length V.credits ≡ length S.links
+  pub numbers : (l : ℕ) → l < length S.links → IsLink S l (lane links l)
+  pub raised : (l : ℕ) → l < length S.links → (lane links l).raised ≤ t
+  pub lists : (l : ℕ) → l < length S.links → lists_at t (lane links l) ≡ link_state l V
+
+-- THE LINES
+-- whether a stop lies on link l
+abbrev pub lies_on : Setup → ℕ → ℕ → Bool
+lies_on S l stop = link_of_stop S stop == l
+
+-- who waits at the stops of a link in world V stands in their lines, in turn
+abbrev pub LinesStand : Setup → List (List Waiter) → World → Type 0
+LinesStand S lines V = (l : ℕ) → l < length S.links → HaveLines (lies_on S l) lines (waiters S l V)
+
+-- a link has had no turn in second t, and each of its vehicles can stop at one of so many stops
+pub record CanTurn (stops t : ℕ) (v : LinkView) : Type 0 where
+  pub raised : v.raised ≤ t
+  pub ready : AreReady stops v
+  pub bay : Each (IsReady stops v.numbers.link) v.lists.bay
+
+-- a vehicle whose next call is on link l stops where the setup has the stop on that link
+pub record StopsThere (S : Setup) (l : ℕ) (v : LinkView) : Type 0 where
+  pub there : StopThere (lies_on S l) v
+  pub bay : Each (IsThere (lies_on S l) v.numbers.link) v.lists.bay
+
+-- WAKES
+-- no sooner than this second
+abbrev pub no_sooner : ℕ → Option ℕ → Option ℕ
+no_sooner t None = None
+no_sooner t (Some u) = Some (max t u)
+
+-- when a link that had its turn in second t is woken again, where that is before the end
+abbrev pub wake_after : ℕ → ℕ → LinkView → Option ℕ
+wake_after end t v = within end (no_sooner (t + 1) (due_of v.numbers t v.lists))
+
+-- From second t on each link rests up to the second in which it is woken, or up to the end; none is woken before t.
+pub record AreAsleep (D : Dwelling) (end t : ℕ) (links : List LinkView) (wakes : List (Option ℕ)) : Type 0 where
+  pub count : length wakes ≡ length links
+  pub rests : (l : ℕ) → l < length links → Rests D t (sleeps_to end (wake_of wakes l)) (lane links l)
+  pub later : (l u : ℕ) → l < length links → wake_of wakes l ≡ Some u → t ≤ u

@@ -1,0 +1,166 @@
+//! The turn of a link that is woken.
+
+ghost use Rattle.std.specs.Prelude.{◌≡◌, ℕ, ◌+◌, ◌<◌, ◌++◌, Bool, List, [], length, set, OnOk, IfOk};
+ghost use Rattle.std.specs.List.{AllByRecursion as Each};
+ghost use Rattle.events.specs.declared.event.Phase.TheVariants.{D};
+ghost use Rattle.events.specs.Keys.{phase_code};
+ghost use Rattle.limits.specs.declared.TheConstants.{LAST_SECOND};
+ghost use Rattle.rows.specs.Settings.{IsDwelling};
+ghost use Rattle.traffic.specs.declared.world.Waiter.{Waiter};
+ghost use Rattle.traffic.specs.Day.{keyed};
+ghost use Rattle.queue_link.specs.Numbers.{rules_of};
+ghost use Rattle.queue_link.specs.Waking.{due_of};
+ghost use Rattle.link_seconds.specs.Seconds.{AreShort, HaveLines, IsThere, StopThere, IsSecond, lists_at};
+ghost use Rattle.node_seconds.specs.Networks.{lane};
+ghost use Rattle.part_links.specs.Links.{CanTurn, no_sooner, wake_after};
+ghost use Rattle.part_links.specs.Phase.{IsTurn};
+
+use calendar::{Wakes, within};
+use events::{Event, Phase};
+use link_seconds::link_second;
+use plain_day::push_keyed;
+use queue_link::LinkState;
+use riders::Waiting;
+use rows::Dwelling;
+use std::alloc::{AllocError, Global};
+use traffic::Occurrence;
+
+/// A second of a day in which links move: the second, the end of the day, and how long vehicles stand at stops.
+#[derive(Clone, Copy, Debug, PartialEq, Eq)]
+pub struct LinkPhase {
+    /// The second, from the start of the day.
+    pub second: u32,
+    /// The second in which the day ends; nobody is woken from then on.
+    pub end: u32,
+    /// How long vehicles stand at stops.
+    pub dwell: Dwelling,
+}
+
+/// What is told: as events with their keys, and as it concerns persons.
+#[derive(Drop)]
+pub struct Told {
+    /// The events, in the order of their keys.
+    pub events: Vec<Event>,
+    /// The same without keys.
+    pub said: Vec<Occurrence>,
+}
+
+/// The second of the link of a number; answers what it tells.
+#[tactic(auto, using(node_move::proofs::Places::is_at, crate::proofs::Standing::lane_set))]
+fn turn_at(
+    alloc: Global,
+    phase: &LinkPhase,
+    number: u32,
+    links: &mut [LinkState],
+    lines: &mut [Waiting],
+) -> Result<Vec<Occurrence>, AllocError>
+    requires second_in { phase.now.second < LAST_SECOND }
+    requires dwell_in { IsDwelling phase.now.dwell }
+    requires there { number < length links.old }
+    requires able { CanTurn (length lines.old) phase.now.second (lane links.old number) }
+    requires short { AreShort lines.old }
+    ensures second { (lies : ℕ → Bool) (ws : List Waiter) → HaveLines lies lines.old ws → StopThere lies (lane links.old number)
+        → Each (IsThere lies (lane links.old number).numbers.link) (lane links.old number).lists.bay
+        → IfOk result (λ said. IsSecond lies (rules_of (lane links.old number).numbers phase.now.dwell) phase.now.second
+        (lane links.old number).numbers.link ws (lists_at phase.now.second (lane links.old number)) [] lines.old
+        (lane links.new number).lists said.items lines.new) }
+    ensures link { OnOk result (lane links.new number
+        ≡ record (lane links.old number) { lists = (lane links.new number).lists; raised = phase.now.second + 1 }) }
+    ensures others { OnOk result (links.new ≡ set links.old number (lane links.new number)) }
+    ensures short { OnOk result (AreShort lines.new) }
+{
+    let mut said = Vec::new(alloc);
+    let link = &mut links[number as usize];
+    link_second(phase.second, &phase.dwell, link, lines, &mut said)?;
+    Ok(said)
+}
+
+/// No sooner than this second, where there is one.
+fn no_sooner(second: u32, due: Option<u32>) -> Option<u32>
+    ensures { result ≡ no_sooner second due }
+{
+    match due {
+        None => None,
+        Some(due) => Some(second.max(due)),
+    }
+}
+
+/// When a link is due after its turn in this second.
+#[tactic(auto, using(node_move::proofs::Places::is_at))]
+fn due_at(links: &[LinkState], number: u32, second: u32) -> Option<u32>
+    requires second_in { second < LAST_SECOND }
+    requires there { number < length links.now }
+    ensures { result ≡ due_of (lane links.now number).numbers second (lane links.now number).lists }
+{
+    let link = &links[number as usize];
+    link.due(second)
+}
+
+/// A link that had its turn is woken again when it may have something to do.
+fn wake_again(
+    phase: &LinkPhase,
+    number: u32,
+    links: &[LinkState],
+    wakes: &mut Wakes,
+) -> Result<(), AllocError>
+    requires second_in { phase.now.second < LAST_SECOND }
+    requires there { number < length links.now }
+    requires count { length wakes.old ≡ length links.now }
+    ensures { OnOk result (wakes.new ≡ set wakes.old number (wake_after phase.now.end phase.now.second (lane links.now number))) }
+{
+    let due = due_at(links, number, phase.second);
+    let later = no_sooner(phase.second + 1, due);
+    wakes.set(number, within(phase.end, later))?;
+    Ok(())
+}
+
+/// Appends what a link tells.
+fn tell(
+    phase: &LinkPhase,
+    number: u32,
+    said: &[Occurrence],
+    told: &mut Told,
+) -> Result<(), AllocError>
+    ensures events { OnOk result (told.new.events.items
+        ≡ told.old.events.items ++ keyed phase.now.second (phase_code D) number 0 said.now) }
+    ensures said { OnOk result (told.new.said.items ≡ told.old.said.items ++ said.now) }
+{
+    push_keyed(phase.second, Phase::D, number, said, &mut told.events)?;
+    told.said.extend_from_slice(said)?;
+    Ok(())
+}
+
+/// The turn of the link of a number, which is then woken again when it may have something to do.
+///
+/// # Errors
+///
+/// `AllocError`: there is no memory for a row, a rider or an event. The links are then of no use.
+pub(crate) fn turn_link(
+    alloc: Global,
+    phase: &LinkPhase,
+    number: u32,
+    links: &mut [LinkState],
+    lines: &mut [Waiting],
+    wakes: &mut Wakes,
+    told: &mut Told,
+) -> Result<(), AllocError>
+    requires second_in { phase.now.second < LAST_SECOND }
+    requires dwell_in { IsDwelling phase.now.dwell }
+    requires there { number < length links.old }
+    requires count { length wakes.old ≡ length links.old }
+    requires able { CanTurn (length lines.old) phase.now.second (lane links.old number) }
+    requires short { AreShort lines.old }
+    ensures turn { (lies : ℕ → Bool) (ws : List Waiter) → HaveLines lies lines.old ws → StopThere lies (lane links.old number)
+        → Each (IsThere lies (lane links.old number).numbers.link) (lane links.old number).lists.bay
+        → OnOk result (IsTurn lies phase.now.dwell phase.now.second number ws (lane links.old number) (lane links.new number)
+        lines.old lines.new told.old.events.items told.new.events.items told.old.said.items told.new.said.items) }
+    ensures others { OnOk result (links.new ≡ set links.old number (lane links.new number)) }
+    ensures woken { OnOk result (wakes.new
+        ≡ set wakes.old number (wake_after phase.now.end phase.now.second (lane links.new number))) }
+    ensures short { OnOk result (AreShort lines.new) }
+{
+    let said = turn_at(alloc, phase, number, links, lines)?;
+    wake_again(phase, number, links, wakes)?;
+    tell(phase, number, &said, told)?;
+    Ok(())
+}

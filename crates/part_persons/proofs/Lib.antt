@@ -1,0 +1,7 @@
+pub mod Following
+pub mod Told
+pub mod InOrder
+pub mod Skipping
+pub mod Early
+pub mod Departing
+pub mod Joining

@@ -1,0 +1,156 @@
+-- Who is told of is followed, and nobody else is changed.
+use Rattle.std.proofs.Common.{◌≡◌, ◌≢◌, ℕ, ◌+◌, ◌<◌, ◌≤◌, Bool, true, false, List, [], ◌∷◌, ◌++◌, length, get_or, refl, ap, sym, ◌∙◌, inl, inr, arith, eqb}
+use Rattle.std.specs.Prelude.{Option, None, Some, nat_lt, ◌||◌}
+use Rattle.std.specs.List.{flat_map}
+use Rattle.std.proofs.lemmas.Bool.{cases_Bool, eqb-true, eqb-false, or_parts, lt-ltb}
+use Rattle.std.proofs.lemmas.List.{get_or-set_same, get_or-set_other}
+use Rattle.traffic.specs.declared.moves.Move.{Move}
+use Rattle.traffic.specs.declared.moves.Move.TheVariants.{Report}
+use Rattle.traffic.specs.declared.moves.Occurrence.{Occurrence}
+use Rattle.traffic.specs.declared.world.Person.{Person}
+use Rattle.traffic.specs.Rows.{World, nobody}
+use Rattle.traffic.specs.Setup.{Setup}
+use Rattle.traffic.specs.Moves.{told, run, done, persons_by, persons_after}
+use Rattle.traffic.proofs.Sublists.{persons-length}
+use Rattle.calendar.specs.Waking.{wake_of, within}
+use Rattle.part_persons.specs.Dues.{person_due, followed, followed_all, AreFollowed}
+use Rattle.part_persons.proofs.Following.{followed_length}
+
+-- whether a person is told of
+pub is_his : ℕ → Option ℕ → Bool
+is_his i None = false
+is_his i (Some j) = eqb j i
+
+pub mentions : ℕ → List Occurrence → Bool
+mentions i [] = false
+mentions i (e ∷ es) = is_his i e.person || mentions i es
+
+-- NOBODY ELSE
+other_by : (S : Setup) (t i : ℕ) (e : Occurrence) (o : Option ℕ) (ps : List Person) → is_his i o ≡ false → get_or (persons_by S t e o ps) i nobody ≡ get_or ps i nobody
+unfolding is_his
+other_by S t i e None ps h = refl
+other_by S t i e (Some j) ps h = get_or-set_other ps j i _ nobody (λ q. eqb-false j i h (sym q))
+
+pub other_after : (S : Setup) (t i : ℕ) (es : List Occurrence) (ps : List Person) → mentions i es ≡ false → get_or (persons_after S t es ps) i nobody ≡ get_or ps i nobody
+unfolding mentions
+other_after S t i [] ps h = refl
+other_after S t i (e ∷ es) ps h =
+    let p = or_parts (is_his i e.person) (mentions i es) h in
+    other_after S t i es (persons_by S t e e.person ps) p.1 ∙ other_by S t i e e.person ps p.0
+
+other_wake : (S : Setup) (end i : ℕ) (persons : List Person) (o : Option ℕ) (wakes : List (Option ℕ)) → is_his i o ≡ false → wake_of (followed S end persons o wakes) i ≡ wake_of wakes i
+unfolding is_his
+other_wake S end i persons None wakes h = refl
+other_wake S end i persons (Some j) wakes h =
+    elim (cases_Bool (nat_lt j (length persons))) [
+      | inl e ↦ simp e (get_or-set_other wakes j i (within end (person_due S j (get_or persons j nobody))) None (λ q. eqb-false j i h (sym q)))
+      | inr e ↦ simp e refl
+    ]
+
+other_wakes : (S : Setup) (end i : ℕ) (persons : List Person) (es : List Occurrence) (wakes : List (Option ℕ)) → mentions i es ≡ false → wake_of (followed_all S end persons es wakes) i ≡ wake_of wakes i
+unfolding mentions followed_all
+other_wakes S end i persons [] wakes h = refl
+other_wakes S end i persons (e ∷ es) wakes h =
+    let p = or_parts (is_his i e.person) (mentions i es) h in
+    other_wakes S end i persons es (followed S end persons e.person wakes) p.1 ∙ other_wake S end i persons e.person wakes p.0
+
+-- WHO IS TOLD OF
+either : (a b : Bool) → (a || b) ≡ true → b ≡ false → a ≡ true
+either true b h m = refl
+either false b h m = absurd (cc)
+
+his_wake : (S : Setup) (end i : ℕ) (persons : List Person) (o : Option ℕ) (wakes : List (Option ℕ)) → is_his i o ≡ true → i < length persons → length wakes ≡ length persons
+    → wake_of (followed S end persons o wakes) i ≡ within end (person_due S i (get_or persons i nobody))
+unfolding is_his
+his_wake S end i persons None wakes h lt n = absurd (cc)
+his_wake S end i persons (Some j) wakes h lt n =
+    let q = eqb-true j i h in
+    let e : nat_lt i (length persons) ≡ true = lt-ltb i (length persons) lt in
+    let within_wakes : i < length wakes = omega arith in
+    rw q (simp e (get_or-set_same wakes i (within end (person_due S i (get_or persons i nobody))) None within_wakes))
+
+his_wakes : (S : Setup) (end i : ℕ) (persons : List Person) (es : List Occurrence) (wakes : List (Option ℕ)) → mentions i es ≡ true → i < length persons → length wakes ≡ length persons
+    → wake_of (followed_all S end persons es wakes) i ≡ within end (person_due S i (get_or persons i nobody))
+unfolding mentions followed_all
+his_wakes S end i persons [] wakes h lt n = absurd (cc)
+his_wakes S end i persons (e ∷ es) wakes h lt n =
+    let later = followed S end persons e.person wakes in
+    elim (cases_Bool (mentions i es)) [
+      | inl m ↦ his_wakes S end i persons es later m lt (followed_length S end persons e.person wakes ∙ n)
+      | inr m ↦
+          let g : is_his i e.person ≡ true = either (is_his i e.person) (mentions i es) h m in
+          other_wakes S end i persons es later m ∙ his_wake S end i persons e.person wakes g lt n
+    ]
+
+pub followed_all_length : (S : Setup) (end : ℕ) (persons : List Person) (es : List Occurrence) (wakes : List (Option ℕ)) → length (followed_all S end persons es wakes) ≡ length wakes
+unfolding followed_all
+followed_all_length S end persons [] wakes = refl
+followed_all_length S end persons (e ∷ es) wakes =
+    followed_all_length S end persons es (followed S end persons e.person wakes) ∙ followed_length S end persons e.person wakes
+
+-- ALL TOGETHER
+in_time : (u end : ℕ) (o : Option ℕ) → u < end → o ≡ Some u → within end o ≡ Some u
+in_time u end o lt e = let f : nat_lt u end ≡ true = lt-ltb u end lt in rw e (simp f refl)
+
+pub all_followed : (S : Setup) (end t s : ℕ) (es : List Occurrence) (persons now : List Person) (wakes later : List (Option ℕ)) → length wakes ≡ length persons
+    → now ≡ persons_after S t es persons → later ≡ followed_all S end now es wakes
+    → AreFollowed S end s persons wakes → AreFollowed S end s now later
+all_followed S end t s es persons now wakes later n e f h = λ i u lt from to due.
+    let same : length now ≡ length persons = ap length e ∙ persons-length S t es persons in
+    let within_old : i < length persons = omega arith in
+    rw f (elim (cases_Bool (mentions i es)) [
+      | inl m ↦ his_wakes S end i now es wakes m lt (n ∙ sym same) ∙ in_time u end (person_due S i (get_or now i nobody)) to due
+      | inr m ↦
+          let p : get_or now i nobody ≡ get_or persons i nobody = ap (λ (ps : List Person). get_or ps i nobody) e ∙ other_after S t i es persons m in
+          other_wakes S end i now es wakes m ∙ h i u within_old from to (sym (ap (person_due S i) p) ∙ due)
+    ])
+
+-- what moves do to the persons is what they tell
+persons_both : (S : Setup) (t : ℕ) (xs ys : List Occurrence) (ps : List Person) → persons_after S t (xs ++ ys) ps ≡ persons_after S t ys (persons_after S t xs ps)
+persons_both S t [] ys ps = refl
+persons_both S t (x ∷ xs) ys ps = persons_both S t xs ys (persons_by S t x x.person ps)
+
+pub run_persons : (S : Setup) (t : ℕ) (ms : List Move) (W : World) → (run S t ms W).persons ≡ persons_after S t (flat_map told ms) W.persons
+run_persons S t [] W = refl
+run_persons S t (m ∷ ms) W = run_persons S t ms (done S t m W) ∙ sym (persons_both S t (told m) (flat_map told ms) W.persons)
+
+-- A TURN
+pub followed_by : (S : Setup) (end t s : ℕ) (ms : List Move) (es : List Occurrence) (W V : World) (wakes later : List (Option ℕ))
+    → length wakes ≡ length W.persons → V ≡ run S t ms W → es ≡ flat_map told ms → later ≡ followed_all S end V.persons es wakes
+    → AreFollowed S end s W.persons wakes → AreFollowed S end s V.persons later
+followed_by S end t s ms es W V wakes later n v e f h =
+    let p : V.persons ≡ persons_after S t es W.persons
+    = ap (λ (X : World). X.persons) v ∙ run_persons S t ms W ∙ ap (λ (xs : List Occurrence). persons_after S t xs W.persons) (sym e) in
+    all_followed S end t s es W.persons V.persons wakes later n p f h
+
+pub wakes_by : (S : Setup) (end t : ℕ) (ms : List Move) (es : List Occurrence) (W V : World) (wakes later : List (Option ℕ))
+    → length wakes ≡ length W.persons → V ≡ run S t ms W → later ≡ followed_all S end V.persons es wakes → length later ≡ length V.persons
+wakes_by S end t ms es W V wakes later n v f =
+    ap length f ∙ followed_all_length S end V.persons es wakes ∙ n
+    ∙ sym (ap (λ (X : World). length X.persons) v ∙ ap length (run_persons S t ms W) ∙ persons-length S t (flat_map told ms) W.persons)
+
+pub persons_stay : (S : Setup) (t : ℕ) (ms : List Move) (W V : World) → V ≡ run S t ms W → length V.persons ≡ length W.persons
+persons_stay S t ms W V v = ap (λ (X : World). length X.persons) v ∙ ap length (run_persons S t ms W) ∙ persons-length S t (flat_map told ms) W.persons
+
+-- one move that tells
+pub heard : (S : Setup) (t : ℕ) (said : List Occurrence) (ms : List Move) (W V : World) → ms ≡ Report said ∷ [] → V ≡ run S t ms W
+    → V ≡ record W { persons = persons_after S t said W.persons }
+heard S t said ms W V m e = e ∙ ap (λ (xs : List Move). run S t xs W) m
+
+-- EVERYBODY
+pub everybody_more : (S : Setup) (end k : ℕ) (persons : List Person) (wakes later : List (Option ℕ)) → length wakes ≡ length persons
+    → later ≡ followed S end persons (Some k) wakes
+    → ((i : ℕ) → i < k → i < length persons → wake_of wakes i ≡ within end (person_due S i (get_or persons i nobody)))
+    → (i : ℕ) → i < k + 1 → i < length persons → wake_of later i ≡ within end (person_due S i (get_or persons i nobody))
+unfolding is_his
+everybody_more S end k persons wakes later n e h = λ i lt there.
+    ap (λ (xs : List (Option ℕ)). wake_of xs i) e
+    ∙ elim (cases_Bool (eqb k i)) [
+      | inl q ↦ his_wake S end i persons (Some k) wakes q there n
+      | inr q ↦ let ne : k ≢ i = eqb-false k i q in other_wake S end i persons (Some k) wakes q ∙ h i (omega arith) there
+    ]
+
+pub everybody_followed : (S : Setup) (end k t : ℕ) (persons : List Person) (wakes : List (Option ℕ)) → length persons ≤ k
+    → ((i : ℕ) → i < k → i < length persons → wake_of wakes i ≡ within end (person_due S i (get_or persons i nobody))) → AreFollowed S end t persons wakes
+everybody_followed S end k t persons wakes le h = λ i u there from to due.
+    h i (omega arith) there ∙ in_time u end (person_due S i (get_or persons i nobody)) to due

@@ -1,0 +1,13 @@
+use Rattle.std.proofs.Common.{◌≡◌, ◌∙◌, List, ap, subst}
+use Rattle.town.specs.Views.{setup}
+use Rattle.traffic.specs.Rows.{World}
+use Rattle.traffic.specs.declared.world.Person.{Person}
+use Rattle.part_persons.specs.Dues.{AreFollowed}
+use Rattle.part_persons.proofs.persons.first_wakes.Goals as goal
+
+pub returns-clause-followed : goal.returns-clause-followed
+returns-clause-followed c = λ t.
+    let end = c.args.day.now.town.now.settings.end_second in
+    let same : c.deref.result.now ≡ c.args.world.now.persons = c.deref.ensures.value ∙ ap (λ (W : World). W.persons) c.world.view_is in
+    subst (λ (ps : List Person). AreFollowed (setup c.args.day.now) end t ps c.follow_everybody.new.wakes) same
+    (c.in_ok-follow_everybody.ensures.followed t)

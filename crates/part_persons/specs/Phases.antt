@@ -1,0 +1,33 @@
+-- The phases before the nodes and links have theirs.
+use Rattle.std.specs.Prelude.{ℕ, ◌+◌, ◌<◌, List, [], ◌∷◌, ◌++◌, length, filter, ◌==◌, if◌then◌else◌}
+use Rattle.std.specs.List.{AllByRecursion as Each}
+use Rattle.events.specs.declared.event.Phase.{Phase}
+use Rattle.events.specs.declared.event.Phase.TheVariants as phase
+use Rattle.rows.specs.declared.schedule.DepartureRow.{DepartureRow}
+use Rattle.traffic.specs.Lists.{below}
+use Rattle.traffic.specs.Rows.{World}
+use Rattle.traffic.specs.Setup.{Setup, departure}
+use Rattle.part_persons.specs.declared.phases.EarlyPhase.{EarlyPhase}
+use Rattle.part_persons.specs.declared.phases.EarlyPhase.TheVariants.{Land, Leave, Start}
+
+abbrev pub phase_of : EarlyPhase → Phase
+phase_of Land = phase.A
+phase_of Leave = phase.B1
+phase_of Start = phase.B2
+
+-- these numbers are below that one
+abbrev pub AreBelow : ℕ → List ℕ → Type 0
+AreBelow count ns = Each (λ (n : ℕ). n < count) ns
+
+-- the departures of second t, by number
+abbrev pub departs_in : Setup → ℕ → List ℕ
+departs_in S t = filter (λ d. (departure S d).second == t) (below (length S.departures))
+
+-- the same of rows, the first of which has this number
+abbrev pub numbers_at : ℕ → ℕ → List DepartureRow → List ℕ
+numbers_at t n [] = []
+numbers_at t n (r ∷ rs) = if r.second == t then n ∷ numbers_at t (n + 1) rs else numbers_at t (n + 1) rs
+
+-- a world with these persons, in which the vehicles that they or departures let in stand last
+abbrev pub joined : World → World → World
+joined W P = record { rows = W.rows ++ P.rows; persons = P.persons; credits = W.credits; holes = W.holes }

@@ -1,0 +1,72 @@
+//! Who is told of is looked at again when it is his time.
+
+ghost use Rattle.std.specs.Prelude.{◌≡◌, ℕ, ◌<◌, length, OnOk};
+ghost use Rattle.town.specs.Views.{setup};
+ghost use Rattle.part_persons.specs.Dues.{followed, followed_in, AreFollowedIn};
+
+use crate::dues::person_due;
+use calendar::Wakes;
+use std::alloc::AllocError;
+use town::DayInput;
+use traffic::{Occurrence, Person};
+
+/// A person is looked at when his activity or his flight ends, if it does in the day.
+fn follow(
+    day: &DayInput,
+    persons: &[Person],
+    person: Option<u32>,
+    wakes: &mut Wakes,
+) -> Result<(), AllocError>
+    requires plans { length persons.now ≡ length day.now.chosen.now }
+    requires wakes { length wakes.old ≡ length persons.now }
+    ensures { OnOk result (wakes.new ≡ followed (setup day.now) day.now.town.now.settings.end_second persons.now person wakes.old) }
+{
+    let Some(number) = person else {
+        return Ok(());
+    };
+    let place = number as usize;
+    if place >= persons.len() {
+        return Ok(());
+    }
+    let due = person_due(day, number, persons[place]);
+    wakes.set(number, due)?;
+    Ok(())
+}
+
+/// So are all who are told of.
+#[tactic(auto, unfolding(crate::specs::Dues::followed_all), using(crate::proofs::Following::followed_length))]
+pub(crate) fn follow_all(
+    day: &DayInput,
+    persons: &[Person],
+    said: &[Occurrence],
+    wakes: &mut Wakes,
+) -> Result<(), AllocError>
+    requires plans { length persons.now ≡ length day.now.chosen.now }
+    requires wakes { length wakes.old ≡ length persons.now }
+    ensures { OnOk result (wakes.new ≡ followed_in day.now persons.now said.now wakes.old) }
+{
+    let mut rest = said;
+    while let [event, later @ ..] = rest {
+        follow(day, persons, event.person, wakes)?;
+        rest = later;
+    }
+    Ok(())
+}
+
+/// So is everybody.
+pub(crate) fn follow_everybody(
+    day: &DayInput,
+    persons: &[Person],
+    wakes: &mut Wakes,
+) -> Result<(), AllocError>
+    requires names { length day.now.town.now.book.persons ≡ length day.now.chosen.now }
+    requires plans { length persons.now ≡ length day.now.chosen.now }
+    requires wakes { length wakes.old ≡ length persons.now }
+    ensures followed { (t : ℕ) → OnOk result (AreFollowedIn day.now t persons.now wakes.new) }
+    ensures wakes { OnOk result (length wakes.new ≡ length wakes.old) }
+{
+    for number in 0..day.town.book.persons.len() {
+        follow(day, persons, Some(number), wakes)?;
+    }
+    Ok(())
+}

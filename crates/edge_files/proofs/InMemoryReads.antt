@@ -6,11 +6,11 @@ use Rattle.std.specs.Io.{ReadsAtMost}
 use Rattle.std.specs.Io.KnownBytes.{ReadConsumes}
 use Rattle.edge_files.specs.declared.files.Failed.{Failed}
 use Rattle.edge_files.specs.declared.files.InFile.{InFile}
-use Rattle.edge_files.specs.declared.files.InFile.TheVariants as file
 use Rattle.edge_files.specs.Causes.{up, Rose, HasCause}
 use Rattle.edge_files.specs.Files.{in_place}
 use Rattle.edge_files.specs.Inputs.{Left, OthersStay}
 use Rattle.edge_files.specs.InMemory.{CallCounts, next_fails, passed_call, failed_call, left_of, with_left, read_count, InputsHeld, Reads}
+use Rattle.edge_files.proofs.Placed.{same_place}
 
 -- what inputs promise of a read
 pub record ReadTells (old new : Left) (before now : ℕ) (file : InFile) (into after : List ℕ) (result : Result ℕ Failed) : Type 0 where
@@ -20,29 +20,9 @@ pub record ReadTells (old new : Left) (before now : ℕ) (file : InFile) (into a
   pub empty : length into ≡ 0 → result ≡ Ok 0
   pub cause : HasCause before now result
 
-abbrev in_file_at : ℕ → InFile
-in_file_at zero = file.Settings
-in_file_at (suc zero) = file.Nodes
-in_file_at (suc (suc zero)) = file.Links
-in_file_at (suc (suc (suc zero))) = file.Plans
-in_file_at (suc (suc (suc (suc zero)))) = file.Stops
-in_file_at (suc (suc (suc (suc (suc zero))))) = file.Routes
-in_file_at (suc (suc (suc (suc (suc (suc zero)))))) = file.Departures
-in_file_at (suc (suc (suc (suc (suc (suc (suc n))))))) = file.Signals
-
-in_file_at-in_place : (f : InFile) → in_file_at (in_place f) ≡ f
-in_file_at-in_place file.Settings = refl
-in_file_at-in_place file.Nodes = refl
-in_file_at-in_place file.Links = refl
-in_file_at-in_place file.Plans = refl
-in_file_at-in_place file.Stops = refl
-in_file_at-in_place file.Routes = refl
-in_file_at-in_place file.Departures = refl
-in_file_at-in_place file.Signals = refl
-
 others_left : (files : List (List ℕ)) (f other : InFile) (bytes : List ℕ) → other ≢ f → left_of (with_left files f bytes) other ≡ left_of files other
-others_left files f other bytes differs = get_or-set_other files (in_place f) (in_place other) bytes [] (λ same.
-    differs (sym (in_file_at-in_place other) ∙ ap in_file_at same ∙ in_file_at-in_place f))
+others_left files f other bytes differs =
+    get_or-set_other files (in_place f) (in_place other) bytes [] (λ same. differs (same_place other f same))
 
 -- what a file has left after so many bytes were taken, also of a file that there is not
 dropped : (files : List (List ℕ)) (i n : ℕ) → get_or (set files i (drop n (get_or files i []))) i [] ≡ drop n (get_or files i [])

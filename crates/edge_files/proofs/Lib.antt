@@ -1,3 +1,4 @@
+pub mod Placed
 pub mod Written
 pub mod Worlds
 pub mod Read

@@ -1,20 +1,19 @@
 -- The files' names in the current folder, and their order.
-use Rattle.std.specs.Prelude.{ℕ, List, codes, Option, None, Some}
+use Rattle.std.specs.Prelude.{ℕ, List, [], get_or, codes, Option, None, Some}
+use denote.Enum.Declared.{tag_of}
+use Rattle.edge_files.specs.contracts.files.InFile.{the_type}
 use Rattle.edge_files.specs.declared.files.InFile.{InFile}
-use Rattle.edge_files.specs.declared.files.InFile.TheVariants as file
+use Rattle.edge_files.specs.declared.files.TheConstants.{FILE_NAMES}
 use Rattle.edge_files.specs.declared.files.OutFile.{OutFile}
 use Rattle.edge_files.specs.declared.files.OutFile.TheVariants as out
 
--- the name of a file that is read
+-- the place of a file that is read among all of them: its number in the enumeration, from 0
+abbrev pub in_place : InFile → ℕ
+in_place file = tag_of the_type file
+
+-- the name of a file that is read: that of its place
 unfoldable pub in_file_name : InFile → List ℕ
-in_file_name file.Settings = codes "settings.json"
-in_file_name file.Nodes = codes "nodes.csv"
-in_file_name file.Links = codes "links.csv"
-in_file_name file.Plans = codes "plans.csv"
-in_file_name file.Stops = codes "stops.csv"
-in_file_name file.Routes = codes "routes.csv"
-in_file_name file.Departures = codes "departures.csv"
-in_file_name file.Signals = codes "signals.csv"
+in_file_name file = (get_or FILE_NAMES (in_place file) (file, record { now = [] })).1.now
 
 -- the name of a file that is written; the report is none of the folder
 unfoldable pub out_file_name : OutFile → Option (List ℕ)
@@ -22,17 +21,6 @@ out_file_name out.Events = Some (codes "events.csv")
 out_file_name out.Scores = Some (codes "scores.csv")
 out_file_name out.Plans = Some (codes "plans_out.csv")
 out_file_name out.Report = None
-
--- the place of a file that is read among all of them
-abbrev pub in_place : InFile → ℕ
-in_place file.Settings = 0
-in_place file.Nodes = 1
-in_place file.Links = 2
-in_place file.Plans = 3
-in_place file.Stops = 4
-in_place file.Routes = 5
-in_place file.Departures = 6
-in_place file.Signals = 7
 
 -- the place of a file that is written among all of them
 abbrev pub out_place : OutFile → ℕ

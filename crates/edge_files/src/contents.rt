@@ -1,8 +1,9 @@
 ghost use Rattle.std.specs.Prelude.{◌≡◌, ◌++◌, ℕ, List, [], min, length, take, drop, replicate, OnOk, OnErr};
 ghost use Rattle.edge_files.specs.InMemory.{left_of, with_left, read_count};
 
-use crate::files::InFile;
+use crate::files::{FILE_COUNT, InFile};
 use std::alloc::{AllocError, Global};
+use std::array;
 use std::marker::Model;
 
 /// The bytes of a file, of which the first have been read. Seen as those that are left.
@@ -63,7 +64,7 @@ impl Content {
 /// What is left of all files that are read, in their order.
 #[derive(Drop)]
 pub struct Contents {
-    files: [Content; 8],
+    files: [Content; FILE_COUNT],
 }
 
 impl Model for Contents {
@@ -76,19 +77,10 @@ impl Model for Contents {
 
 impl Contents {
     pub fn new(alloc: Global) -> Self
-        ensures { result ≡ replicate 8 [] }
+        ensures { result ≡ replicate FILE_COUNT [] }
     {
         Contents {
-            files: [
-                Content::new(alloc),
-                Content::new(alloc),
-                Content::new(alloc),
-                Content::new(alloc),
-                Content::new(alloc),
-                Content::new(alloc),
-                Content::new(alloc),
-                Content::new(alloc),
-            ],
+            files: array::from_fn(|_| Content::new(alloc)),
         }
     }
 

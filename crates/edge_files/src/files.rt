@@ -1,4 +1,5 @@
-ghost use Rattle.std.specs.Prelude.{◌≡◌, ◌<◌, option_copied};
+ghost use Rattle.std.specs.Prelude.{◌≡◌, ◌<◌, map, option_copied};
+ghost use Rattle.std.specs.List.{slice_index_or};
 ghost use Rattle.edge_files.specs.Files.{in_file_name, out_file_name, in_place, out_place};
 
 use std::fmt;
@@ -17,28 +18,48 @@ pub enum InFile {
     Signals,
 }
 
+/// The files that a run reads, in the order in which it reads them.
+pub const SCENARIO_FILES: [InFile; 8] = [
+    InFile::Settings,
+    InFile::Nodes,
+    InFile::Links,
+    InFile::Plans,
+    InFile::Stops,
+    InFile::Routes,
+    InFile::Departures,
+    InFile::Signals,
+];
+
+/// How many files a run reads.
+pub const FILE_COUNT: usize = SCENARIO_FILES.len();
+
+/// Each file's name in the current folder, in the same order.
+pub const FILE_NAMES: [(InFile, &str); FILE_COUNT] = [
+    (InFile::Settings, "settings.json"),
+    (InFile::Nodes, "nodes.csv"),
+    (InFile::Links, "links.csv"),
+    (InFile::Plans, "plans.csv"),
+    (InFile::Stops, "stops.csv"),
+    (InFile::Routes, "routes.csv"),
+    (InFile::Departures, "departures.csv"),
+    (InFile::Signals, "signals.csv"),
+];
+
 impl InFile {
     /// The file's name in the current folder.
     #[tactic(auto, unfolding(crate::specs::Files::in_file_name))]
     pub fn name(self) -> &'static str
-        ensures { result.now ≡ in_file_name self }
+        ensures name { result.now ≡ in_file_name self }
+        ensures each { map (λ named. named.0) FILE_NAMES ≡ SCENARIO_FILES }
     {
-        match self {
-            InFile::Settings => "settings.json",
-            InFile::Nodes => "nodes.csv",
-            InFile::Links => "links.csv",
-            InFile::Plans => "plans.csv",
-            InFile::Stops => "stops.csv",
-            InFile::Routes => "routes.csv",
-            InFile::Departures => "departures.csv",
-            InFile::Signals => "signals.csv",
-        }
+        FILE_NAMES[self.place()].1
     }
 
     /// The file's place among all of them, from 0.
     pub fn place(self) -> usize
         ensures place { result ≡ in_place self }
-        ensures below { result < 8 }
+        ensures below { result < FILE_COUNT }
+        ensures listed { slice_index_or SCENARIO_FILES result InFile.Settings ≡ self }
     {
         self as usize
     }

@@ -16,7 +16,7 @@ mod writing;
 
 pub use bytes::Bytes;
 pub use effects::{Effect, EffectError, EffectList, perform};
-pub use files::{Failed, InFile, OutFile};
+pub use files::{FILE_COUNT, FILE_NAMES, Failed, InFile, OutFile, SCENARIO_FILES};
 pub use gate::{Gate, OpenGate};
 pub use keeping::{KeepFail, Keeper, KeptRow, KeptRows, NoKeeper};
 pub use memory_inputs::{MemoryInputs, SureInputs};

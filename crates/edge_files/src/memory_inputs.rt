@@ -1,5 +1,6 @@
 ghost use Rattle.std.specs.Prelude.{◌≡◌, ◌∷◌, ◌++◌, ◌<◌, ℕ, List, [], true, false, Ok, length};
 ghost use Rattle.std.specs.Prelude.{replicate, IsErr, OnOk, OnErr};
+ghost use Rattle.edge_files.specs.declared.files.TheConstants.{FILE_COUNT};
 ghost use Rattle.edge_files.specs.InMemory.{no_calls, next_fails, passed_call, failed_call, with_left, Reads};
 
 use crate::calls::Calls;
@@ -27,7 +28,7 @@ impl Model for MemoryInputs {
 impl MemoryInputs {
     /// Empty files, of which no read fails.
     pub fn new(alloc: Global) -> Self
-        ensures { result ≡ record { left = replicate 8 []; calls = no_calls } }
+        ensures { result ≡ record { left = replicate FILE_COUNT []; calls = no_calls } }
     {
         MemoryInputs {
             files: Contents::new(alloc),
@@ -97,7 +98,7 @@ impl Model for SureInputs {
 impl SureInputs {
     /// Empty files.
     pub fn new(alloc: Global) -> Self
-        ensures { result ≡ replicate 8 [] }
+        ensures { result ≡ replicate FILE_COUNT [] }
     {
         SureInputs {
             files: Contents::new(alloc),

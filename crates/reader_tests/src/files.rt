@@ -55,7 +55,7 @@ pub(crate) fn header_of(file: InFile) -> &'static str {
         InFile::Routes => "line,route,links,stops\n",
         InFile::Departures => "departure,route,second,seats\n",
         InFile::Signals => "kind,link,other,cycle,offset,greens\n",
-        InFile::Settings => "",
+        _ => "",
     }
 }
 

@@ -47,7 +47,7 @@ settings_text seed last_iteration =
     ++ codes "{\"kind\":\"work\",\"latest\":32400,\"points\":[[0,-20000000],[28800,60000000]]}],"
     ++ codes "\"weight_keep\":0,\"weight_logit\":70,\"weight_reroute\":20,\"weight_time\":10}"
 
--- the text of a file; there are no signals
+-- the text of a file; what else a scenario may have is empty: there are no signals
 abbrev pub file_text : ℕ → ℕ → ℕ → InFile → List ℕ
 file_text size seed last_iteration file.Settings = settings_text seed last_iteration
 file_text size seed last_iteration file.Nodes = nodes_text size
@@ -56,4 +56,4 @@ file_text size seed last_iteration file.Plans = plans_text size seed
 file_text size seed last_iteration file.Stops = stops_text size
 file_text size seed last_iteration file.Routes = routes_text size
 file_text size seed last_iteration file.Departures = departures_text DEPARTURES
-file_text size seed last_iteration file.Signals = []
+file_text size seed last_iteration _ = []

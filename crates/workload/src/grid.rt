@@ -23,7 +23,7 @@ pub struct Grid {
     pub ghost in_range: { IsGrid size last_iteration },
 }
 
-/// The text of a file of a generated scenario. There are no signals.
+/// The text of a file of a generated scenario. What else a scenario may have is empty: there are no signals.
 pub fn file_text(alloc: Global, grid: &Grid, file: InFile) -> Result<String, AllocError>
     ensures { IfOk result (λ text. string_bytes text ≡ file_text grid.now.size grid.now.seed grid.now.last_iteration file) }
 {
@@ -35,6 +35,6 @@ pub fn file_text(alloc: Global, grid: &Grid, file: InFile) -> Result<String, All
         InFile::Stops => stops_text(alloc, grid.size),
         InFile::Routes => routes_text(alloc, grid.size),
         InFile::Departures => departures_text(alloc, DEPARTURES),
-        InFile::Signals => Ok(String::new(alloc)),
+        _ => Ok(String::new(alloc)),
     }
 }

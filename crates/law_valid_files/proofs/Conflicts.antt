@@ -7,12 +7,12 @@ use Rattle.rows.specs.Joined.{ends_of}
 use Rattle.signals.specs.Signals.{signals_fault, signal_rows_of, clash_fault, AreNeverGreen}
 use Rattle.signals.proofs.Lawful.{never_both}
 use Rattle.scenario.specs.Texts.{Texts, bytes_in}
-use Rattle.scenario.specs.FilesToScenario.{network_rows_of, town_of, planned_of, on_network, signals_on, signals_file_fault, conflict_fault, scenario_fault, scenario_rows, conflicts_in}
+use Rattle.scenario.specs.FilesToScenario.{network_rows_of, town_of, planned_of, on_network, conflict_fault, scenario_fault, scenario_rows, conflicts_in}
 use Rattle.scenario.proofs.Free.{free_files}
 use Rattle.scenario.proofs.Told.{bytes_free, file_none}
 
 pub conflicts_kept : (texts : Texts) → scenario_fault texts ≡ None → All (AreNeverGreen (scenario_rows texts).town.greens) (conflicts_in texts)
-unfolding signals_file_fault conflict_fault scenario_rows on_network planned_of town_of signals_on
+unfolding conflict_fault scenario_rows on_network planned_of town_of
 conflicts_kept T none =
     let free = (free_files T none).others in
     let network = network_rows_of T in

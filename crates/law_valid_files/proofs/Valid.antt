@@ -26,11 +26,10 @@ use Rattle.scenario.specs.Texts.{Texts, bytes_in}
 use Rattle.scenario.specs.Legs.{numbers_in, plan_in_town}
 use Rattle.scenario.specs.LegChecks.{AreThere}
 use Rattle.scenario.specs.Fitting.{all_fit}
-use Rattle.scenario.specs.FilesToScenario.{NetworkRows, ScheduleRows, leg_checks_in, town_of, persons_on, schedule_rows_of, signals_on, planned_of, filled_in, scenario_of, on_network, network_rows_of, persons_fault, plans_cross_fault, scenario_fault, scenario_rows}
+use Rattle.scenario.specs.FilesToScenario.{NetworkRows, ScheduleRows, IsSchedule, leg_checks_in, town_of, persons_on, schedule_rows_of, signals_on, planned_of, filled_in, scenario_of, on_network, network_rows_of, plans_cross_fault, scenario_fault, scenario_rows}
 use Rattle.router.proofs.Graphs.{network_within}
 use Rattle.scenario.proofs.Filled.{filled_sound, filled_kept}
 use Rattle.scenario.proofs.RowByRow.{same_crossing}
-use Rattle.scenario.specs.Towns.{IsSchedule}
 use Rattle.scenario.proofs.Told.{bytes_free}
 use Rattle.scenario.proofs.Free.{free_files}
 use Rattle.scenario.proofs.FreeSchedules.{schedule_free}
@@ -111,7 +110,7 @@ scenario_is v network P t greens settings r p s each_green free =
 
 -- ALL FILES
 pub scenario_valid : (texts : Texts) → scenario_fault texts ≡ None → IsScenario (scenario_rows texts)
-unfolding scenario_rows on_network persons_fault signals_on
+unfolding scenario_rows on_network
 scenario_valid T none =
     let free = free_files T none in
     let network = network_rows_of T in
@@ -123,5 +122,5 @@ scenario_valid T none =
     let p = plans_free network.link_names ends (bytes_in T file.Plans) (bytes_free T file.Plans (plans_fault network.link_names ends) free.others.persons) in
     let s = schedule_free network.link_names ends T free.others.schedule in
     let each_green = greens_length network.link_names (body_of (bytes_in T file.Signals)) ∙ r.each_link in
-    scenario_is (file_of (bytes_in T file.Settings)) network (persons_on network T) t (signals_on network.link_names T).greens settings r p s each_green
+    scenario_is (file_of (bytes_in T file.Settings)) network (persons_on network.link_names T) t (signals_on network.link_names T).greens settings r p s each_green
     (same_crossing network T t inside r.each_link free.others.persons ∙ free.others.legs)

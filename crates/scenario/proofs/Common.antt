@@ -29,8 +29,8 @@ pub use Rattle.rows.specs.declared.network.NodeRow.{NodeRow}
 pub use Rattle.rows.specs.declared.plan.Leg.{Leg}
 pub use Rattle.rows.specs.declared.plan.Plan.{Plan}
 pub use Rattle.scenario.specs.Faults.{StopsAt, Tells, fault_in, in_file}
-pub use Rattle.scenario.specs.FilesToScenario.{NetworkRows, ScenarioRows, ScheduleRows, persons_on, route_names, stop_names, stop_rows}
-unfoldable pub use Rattle.scenario.specs.FilesToScenario.{persons_fault, scenario_fault, scenario_rows, schedule_fault, schedule_rows_of, leg_checks_in}
+pub use Rattle.scenario.specs.FilesToScenario.{IsSchedule, NetworkRows, ScenarioRows, ScheduleRows, persons_fault, persons_on, route_names, schedule_view, stop_names, stop_rows}
+unfoldable pub use Rattle.scenario.specs.FilesToScenario.{scenario_fault, scenario_rows, schedule_fault, schedule_rows_of, leg_checks_in}
 unfoldable pub use Rattle.scenario.specs.FilesToScenario.{network_fault, network_rows_of, plans_cross_fault, on_network, on_network_fault, planned_of}
 unfoldable pub use Rattle.scenario.specs.FilesToScenario.{town_of}
 pub use Rattle.scenario.specs.Fitting.{all_fit, are_few}
@@ -39,8 +39,7 @@ pub use Rattle.scenario.specs.LegChecks.{AreThere, leg_checks_of, numbers_of}
 pub use Rattle.scenario.specs.Legs.{plan_in_town, LegChecks, all_plans_fault, leg_in_town}
 unfoldable pub use Rattle.scenario.specs.Legs.{plans_fault, plan_fault, numbers_in}
 pub use Rattle.scenario.specs.Texts.{Texts, bytes_in}
-pub use Rattle.scenario.specs.Towns.{IsSchedule}
-pub use Rattle.scenario.specs.Views.{texts_of, schedule_view, network_view}
+pub use Rattle.scenario.specs.Views.{texts_of, network_view}
 pub use Rattle.schedule.specs.Departures.{departures_fault}
 unfoldable pub use Rattle.schedule.specs.Departures.{departure_of}
 pub use Rattle.schedule.specs.Routes.{lines_of, routes_fault, routes_of}

@@ -1,6 +1,7 @@
 -- What the files on network give, file by file.
-use Rattle.std.proofs.Common.{◌≡◌, ◌∙◌, ℕ, List, length, map, Option, None, Result, Ok, refl, sym, ap, subst}
+use Rattle.std.proofs.Common.{◌≡◌, ◌<◌, ◌^◌, ◌∙◌, ℕ, List, length, map, Option, None, Result, Ok, refl, sym, ap, subst, lit<}
 use Rattle.std.proofs.lemmas.List.{length-map}
+use Rattle.std.specs.List.{All}
 use Rattle.records.specs.Files.{body_of}
 use Rattle.records.specs.Faults.{or_else, fault_at}
 use Rattle.edge_files.specs.declared.files.InFile.TheVariants as file
@@ -8,8 +9,8 @@ use Rattle.rows.specs.declared.network.NodeRow.{NodeRow}
 use Rattle.rows.specs.declared.network.LinkRow.{LinkRow}
 use Rattle.network.specs.Nodes.{nodes_fault, node_names, node_of}
 use Rattle.network.specs.Links.{links_fault, link_names, link_of}
+use Rattle.plans.specs.Progress.{IsSound}
 use Rattle.plans.specs.Values.{PlanFileRows}
-use Rattle.signals.specs.Signals.{SignalRows}
 use Rattle.settings.specs.Values.{Values}
 use Rattle.settings.specs.Faults.{FileValues, settings_fault, file_of}
 use Rattle.rows.specs.Joined.{ends_of, ends_of_link}
@@ -17,16 +18,15 @@ use Rattle.scenario.specs.declared.faults.ScenarioFault.{ScenarioFault}
 use Rattle.scenario.specs.declared.faults.Stop.{Stop}
 use Rattle.scenario.specs.declared.planned.PlannedTown.{PlannedTown}
 use Rattle.scenario.specs.declared.scenario.Scenario.{Scenario}
-use Rattle.scenario.specs.declared.schedules.Schedule.{Schedule}
 use Rattle.scenario.specs.Texts.{Texts, bytes_in}
 use Rattle.scenario.specs.Faults.{fault_in, StopsAt, Tells}
-use Rattle.scenario.specs.FilesToScenario.{NetworkRows, ScheduleRows, PlannedRows, persons_fault, schedule_fault, signals_file_fault, conflict_fault, plans_cross_fault, filled_in, persons_on, schedule_rows_of, signals_on, planned_of, scenario_of, scenario_on, on_network, on_network_fault, network_fault, network_rows_of, scenario_fault, scenario_rows}
+use Rattle.scenario.specs.FilesToScenario.{NetworkRows, ReadRows, IsReadOn, PlannedRows, network_rows_of, schedule_rows_of, signals_on, read_on, with_filled, planned_from}
+use Rattle.scenario.specs.FilesToScenario.{network_fault, persons_fault, read_faults, read_fault, conflict_fault, joint_fault, filled_fault, on_network, on_network_fault}
+use Rattle.scenario.specs.FilesToScenario.{scenario_of, scenario_on, scenario_fault, scenario_rows}
 use Rattle.walks.specs.Walks.{AreWithin}
-use Rattle.scenario.specs.Towns.{IsSchedule}
-use Rattle.scenario.specs.Views.{planned_view, scenario_view, schedule_view}
+use Rattle.scenario.specs.Views.{planned_view, scenario_view}
 use Rattle.scenario.proofs.RowByRow.{same_crossing}
-use Rattle.scenario.proofs.Told.{first_stop, later_stop, both_none}
-use Rattle.scenario.proofs.FreeSchedules.{schedule_free}
+use Rattle.scenario.proofs.Told.{first_stop, later_stop, both_none, none_of}
 
 -- THE NETWORK
 -- a stop at links.csv, behind nodes.csv
@@ -58,53 +58,45 @@ ends_count ends links names is each = ap (λ (l : List (ℕ × ℕ)). length l) 
 pub told_behind : {A B : Type 0} (view : A → B) (r : Result A Stop) (a b : Option ScenarioFault) (value : B) → a ≡ None → Tells view r b value → Tells view r (or_else a b) value
 told_behind view r a b value none told = subst (λ (x : Option ScenarioFault). Tells view r (or_else x b) value) (sym none) told
 
--- a stop at plans.csv
-pub persons_told : (s : Stop) (R : NetworkRows) (T : Texts) (ends : List (ℕ × ℕ)) → ends ≡ ends_of R.links
-    → StopsAt s (persons_fault R.link_names ends T) → StopsAt s (on_network_fault R T)
+-- a stop at the files that are read over the network
+pub read_told : (s : Stop) (R : NetworkRows) (T : Texts) (ends : List (ℕ × ℕ)) → ends ≡ ends_of R.links → StopsAt s (read_fault R.link_names ends T) → StopsAt s (on_network_fault R T)
 unfolding on_network_fault
-persons_told s R T ends is told =
-    first_stop s _ _ (subst (λ (e : List (ℕ × ℕ)). StopsAt s (persons_fault R.link_names e T)) is told)
+read_told s R T ends is told = first_stop s _ _ (subst (λ (e : List (ℕ × ℕ)). StopsAt s (read_fault R.link_names e T)) is told)
 
--- a stop behind it
-pub schedule_told : (s : Stop) (R : NetworkRows) (T : Texts) (ends : List (ℕ × ℕ)) → ends ≡ ends_of R.links → persons_fault R.link_names ends T ≡ None
-    → StopsAt s (schedule_fault R.link_names ends T) → StopsAt s (on_network_fault R T)
-unfolding on_network_fault
-schedule_told s R T ends is none told =
-    later_stop s _ _ (subst (λ (e : List (ℕ × ℕ)). persons_fault R.link_names e T ≡ None) is none)
-    (first_stop s _ _ (subst (λ (e : List (ℕ × ℕ)). StopsAt s (schedule_fault R.link_names e T)) is told))
+persons_none : (links : List (List ℕ)) (ends : List (ℕ × ℕ)) (T : Texts) → read_fault links ends T ≡ None → persons_fault links ends T ≡ None
+persons_none links ends T none = none_of (read_faults links ends T) none 0 None (lit< tt)
 
--- a stop at signals.csv
-pub signals_told : (s : Stop) (R : NetworkRows) (T : Texts) (ends : List (ℕ × ℕ)) → ends ≡ ends_of R.links → persons_fault R.link_names ends T ≡ None → schedule_fault R.link_names ends T ≡ None
-    → StopsAt s (signals_file_fault R.link_names ends T) → StopsAt s (on_network_fault R T)
-unfolding on_network_fault
-signals_told s R T ends is no_persons no_schedule told =
-    later_stop s _ _ (subst (λ (e : List (ℕ × ℕ)). persons_fault R.link_names e T ≡ None) is no_persons)
-    (later_stop s _ _ (subst (λ (e : List (ℕ × ℕ)). schedule_fault R.link_names e T ≡ None) is no_schedule)
-    (first_stop s _ _ (subst (λ (e : List (ℕ × ℕ)). StopsAt s (signals_file_fault R.link_names e T)) is told)))
+-- what was read fits the network whose ends and names these are
+pub read_sound : (R : NetworkRows) (ends : List (ℕ × ℕ)) (read : ReadRows) → ends ≡ ends_of R.links → length R.link_names ≡ length R.links
+    → IsReadOn (length R.link_names) R.link_names ends read → IsReadOn (length R.links) R.link_names (ends_of R.links) read
+read_sound R ends read is each fitting =
+    subst (λ (e : List (ℕ × ℕ)). IsReadOn (length R.links) R.link_names e read) is
+    (subst (λ (count : ℕ). IsReadOn count R.link_names ends read) each fitting)
 
--- a schedule that was read is one
-pub schedule_sound : (R : NetworkRows) (T : Texts) (ends : List (ℕ × ℕ)) (schedule : Schedule) → ends ≡ ends_of R.links → length R.link_names ≡ length R.links → schedule_fault R.link_names ends T ≡ None
-    → schedule_view schedule ≡ schedule_rows_of R.link_names T → IsSchedule (length R.links) (ends_of R.links) (schedule_view schedule)
-schedule_sound R T ends schedule is each none view =
-    let given = subst (λ (n : ℕ). IsSchedule n ends (schedule_rows_of R.link_names T)) each (schedule_free R.link_names ends T none) in
-    subst (λ (t : ScheduleRows). IsSchedule (length R.links) (ends_of R.links) t) (sym view) (subst (λ (e : List (ℕ × ℕ)). IsSchedule (length R.links) e (schedule_rows_of R.link_names T)) is given)
+-- and it does so with other plans that fit
+pub fitting_plans : (count : ℕ) (links : List (List ℕ)) (ends : List (ℕ × ℕ)) (read : ReadRows) (plans : PlanFileRows) → IsReadOn count links ends read → IsSound links ends plans
+    → All (λ row. row < 2 ^ 30) plans.starts → IsReadOn count links ends (record read { plans = plans })
+fitting_plans count links ends read plans fitting sound starts = assumption (fitting, sound, starts)
 
--- the town with its plans and signals, or the first leg that does not fit, or else the first conflict
-pub all_told : (r : Result PlannedTown Stop) (v : Values) (R : NetworkRows) (P : PlanFileRows) (S : ScheduleRows) (G : SignalRows) (T : Texts) (ends : List (ℕ × ℕ)) → AreWithin (length R.nodes) (ends_of R.links) → length R.link_names ≡ length R.links → ends ≡ ends_of R.links
-    → persons_fault R.link_names ends T ≡ None → schedule_fault R.link_names ends T ≡ None → signals_file_fault R.link_names ends T ≡ None
-    → P ≡ persons_on R T → S ≡ schedule_rows_of R.link_names T → G ≡ signals_on R.link_names T
-    → Tells planned_view r (or_else (plans_cross_fault (filled_in R P) S) (conflict_fault G)) (planned_of v R (filled_in R P) S G.greens) → Tells planned_view r (on_network_fault R T) (on_network v R T)
+-- what may be wrong with files that have no fault by themselves, row by row and plan by plan
+joint_is : (R : NetworkRows) (T : Texts) → AreWithin (length R.nodes) (ends_of R.links) → length R.link_names ≡ length R.links → persons_fault R.link_names (ends_of R.links) T ≡ None
+    → filled_fault (with_filled R (read_on R.link_names T)) ≡ joint_fault R T (read_on R.link_names T)
+unfolding filled_fault joint_fault
+joint_is R T inside each none =
+    ap (λ (f : Option ScenarioFault). or_else f (conflict_fault (signals_on R.link_names T))) (same_crossing R T (schedule_rows_of R.link_names T) inside each none)
+
+-- the town of what was read, or the first fault of it together, is that of the files
+pub all_told : (r : Result PlannedTown Stop) (v : Values) (R : NetworkRows) (read : ReadRows) (T : Texts) (ends : List (ℕ × ℕ)) → AreWithin (length R.nodes) (ends_of R.links)
+    → length R.link_names ≡ length R.links → ends ≡ ends_of R.links → read_fault R.link_names ends T ≡ None → read ≡ read_on R.link_names T
+    → Tells planned_view r (filled_fault (with_filled R read)) (planned_from v R (with_filled R read)) → Tells planned_view r (on_network_fault R T) (on_network v R T)
 unfolding on_network_fault on_network
-all_told r v R P S G T ends inside each is no_persons no_schedule no_signals persons schedule signals told =
-    let value = planned_of v R (filled_in R (persons_on R T)) (schedule_rows_of R.link_names T) (signals_on R.link_names T).greens in
-    let no_persons_on = subst (λ (e : List (ℕ × ℕ)). persons_fault R.link_names e T ≡ None) is no_persons in
-    let with_persons = subst (λ (p : PlanFileRows). Tells planned_view r (or_else (plans_cross_fault (filled_in R p) S) (conflict_fault G)) (planned_of v R (filled_in R p) S G.greens)) persons told in
-    let with_both = subst (λ (t : ScheduleRows). Tells planned_view r (or_else (plans_cross_fault (filled_in R (persons_on R T)) t) (conflict_fault G)) (planned_of v R (filled_in R (persons_on R T)) t G.greens)) schedule with_persons in
-    let with_all = subst (λ (g : SignalRows). Tells planned_view r (or_else (plans_cross_fault (filled_in R (persons_on R T)) (schedule_rows_of R.link_names T)) (conflict_fault g)) (planned_of v R (filled_in R (persons_on R T)) (schedule_rows_of R.link_names T) g.greens)) signals with_both in
-    let row_by_row = subst (λ (f : Option ScenarioFault). Tells planned_view r (or_else f (conflict_fault (signals_on R.link_names T))) value) (same_crossing R T (schedule_rows_of R.link_names T) inside each no_persons_on) with_all in
-    told_behind planned_view r _ _ value no_persons_on
-    (told_behind planned_view r _ _ value (subst (λ (e : List (ℕ × ℕ)). schedule_fault R.link_names e T ≡ None) is no_schedule)
-    (told_behind planned_view r _ _ value (subst (λ (e : List (ℕ × ℕ)). signals_file_fault R.link_names e T ≡ None) is no_signals) row_by_row))
+all_told r v R read T ends inside each is none same told =
+    let given = read_on R.link_names T in
+    let value = planned_from v R (with_filled R given) in
+    let no_fault = subst (λ (e : List (ℕ × ℕ)). read_fault R.link_names e T ≡ None) is none in
+    let as_given = subst (λ (w : ReadRows). Tells planned_view r (filled_fault (with_filled R w)) (planned_from v R (with_filled R w))) same told in
+    let row_by_row = subst (λ (f : Option ScenarioFault). Tells planned_view r f value) (joint_is R T inside each (persons_none R.link_names (ends_of R.links) T no_fault)) as_given in
+    told_behind planned_view r _ _ value no_fault row_by_row
 
 -- ALL FILES
 -- the scenario is told beside what the files on network tell

@@ -1,13 +1,16 @@
 -- Stops, routes and departures of files without a fault name links, stops and routes that are there, within the limits.
 use Rattle.scenario.proofs.Common.{◌≡◌, List, ℕ, map, sym, ◌∙◌, length, refl, subst, None, true, length-map, list_all, field, body_of, Row, schedule_fault}
 use Rattle.scenario.proofs.Common.{schedule_rows_of, route_names, stop_names, stop_rows, Texts, bytes_in, IsSchedule, departure_of, departures_fault}
-use Rattle.scenario.proofs.Common.{lines_of, routes_fault, routes_of, stops_fault}
+use Rattle.scenario.proofs.Common.{lines_of, routes_fault, routes_of, stops_fault, schedule_view, ScheduleRows, Tells}
+use Rattle.std.proofs.Common.{Result, Ok, Err, IfOk}
 use Rattle.edge_files.specs.declared.files.InFile.TheVariants as file
 use Rattle.records.proofs.Unrefused.{or_none}
 use Rattle.schedule.specs.Stops.{stop_of}
 use Rattle.schedule.specs.Routes.{route_of}
 use Rattle.rows.specs.Schedules.{is_departure}
 use Rattle.schedule.proofs.Free.{few_stops, sound_stops, few_routes, sound_routes, few_departures, sound_departures}
+use Rattle.scenario.specs.declared.faults.Stop.{Stop}
+use Rattle.scenario.specs.declared.schedules.Schedule.{Schedule}
 use Rattle.scenario.proofs.Told.{bytes_free}
 
 pub schedule_free : (links : List (List ℕ)) (ends : List (ℕ × ℕ)) (T : Texts) → schedule_fault links ends T ≡ None → IsSchedule (length links) ends (schedule_rows_of links T)
@@ -37,3 +40,9 @@ schedule_free links ends T none =
       few_departures = few_departures (route_names routes) departures departure_list no_departures refl;
       departures = subst (λ (n : ℕ). list_all (is_departure n) departure_list ≡ true) each_route (sound_departures (route_names routes) departures departure_list no_departures refl);
     }
+
+-- and so does a schedule that was read
+pub schedule_told : (links : List (List ℕ)) (ends : List (ℕ × ℕ)) (T : Texts) (r : Result Schedule Stop) → Tells schedule_view r (schedule_fault links ends T) (schedule_rows_of links T)
+    → IfOk r (λ schedule. IsSchedule (length links) ends (schedule_view schedule))
+schedule_told links ends T (Ok schedule) told = subst (λ (t : ScheduleRows). IsSchedule (length links) ends t) (sym told.1) (schedule_free links ends T told.0)
+schedule_told links ends T (Err stop) told = tt

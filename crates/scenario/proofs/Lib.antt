@@ -5,8 +5,7 @@ pub mod Firsts
 pub mod There
 pub mod Told
 pub mod Free
-pub mod SameTexts
-pub mod FilesRead
+pub mod ScheduleFiles
 pub mod FreeSchedules
 pub mod Remembered
 pub mod Settling

@@ -325,9 +325,8 @@ text_crossing R (Some bytes) S none =
 
 -- the first leg that does not fit, plan by plan and with routes filled, is the first one row by row
 pub same_crossing : (R : NetworkRows) (T : Texts) (S : ScheduleRows) → AreWithin (length R.nodes) (ends_of R.links) → length R.link_names ≡ length R.links
-    → persons_fault R.link_names (ends_of R.links) T ≡ None → plans_cross_fault (filled_in R (persons_on R T)) S ≡ cross_fault R (bytes_in T file.Plans) S
-unfolding persons_fault
+    → persons_fault R.link_names (ends_of R.links) T ≡ None → plans_cross_fault (filled_in R (persons_on R.link_names T)) S ≡ cross_fault R (bytes_in T file.Plans) S
 same_crossing R T S inside each none =
     let read = plans_free R.link_names (ends_of R.links) (bytes_in T file.Plans)
     (bytes_free T file.Plans (file_fault R.link_names (ends_of R.links)) none) in
-    filled_crossing R inside (persons_on R T) S each read.sound read.plans ∙ text_crossing R (T file.Plans) S none
+    filled_crossing R inside (persons_on R.link_names T) S each read.sound read.plans ∙ text_crossing R (T file.Plans) S none

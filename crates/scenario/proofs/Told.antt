@@ -1,7 +1,8 @@
 -- What is told of one file, and of files one after the other.
 use Rattle.scenario.proofs.Common.{◌≡◌, List, ℕ, sym, ◌∙◌, ap, refl, subst, None, Option, Some, [], Result, unwrap_or, InFile, RowFault, or_else, StopsAt}
 use Rattle.scenario.proofs.Common.{Tells, fault_in, in_file, Texts, bytes_in}
-use Rattle.std.proofs.Common.{Ok, Err, IfOk}
+use Rattle.std.proofs.Common.{Ok, Err, IfOk, ◌∷◌, zero, suc, arith}
+use Rattle.std.specs.List.{All}
 use Rattle.edge_files.specs.declared.reasons.Reason.TheVariants as reason
 use Rattle.edge_files.specs.declared.reasons.RowStop.{RowStop}
 use Rattle.edge_files.specs.declared.reasons.RowStop.TheVariants as row_stop
@@ -9,35 +10,46 @@ use Rattle.records.specs.Faults.{Answers}
 use Rattle.scenario.specs.declared.faults.ScenarioFault.{ScenarioFault}
 use Rattle.scenario.specs.declared.faults.Stop.{Stop}
 use Rattle.scenario.specs.declared.faults.Stop.TheVariants as stop
-use Rattle.scenario.specs.Faults.{text_fault, with_file}
+use Rattle.records.proofs.Unrefused.{or_none}
+use Rattle.scenario.specs.Faults.{text_fault, with_file, first_of, TellsFile}
 
--- a file that is too long
-pub told_long : (s : Stop) (T : Texts) (file : InFile) (fault : List ℕ → Option RowFault) → T file ≡ None
-    → s ≡ stop.Fault (record { file = file; row = 0; reason = reason.TooLong }) → StopsAt s (fault_in T file fault)
-told_long s T file fault none is =
-    let told : fault_in T file fault ≡ Some (record { file = file; row = 0; reason = reason.TooLong }) = ap (λ (t : Option (List ℕ)). in_file file (text_fault fault t)) none in
-    subst (λ (x : Stop). StopsAt x (fault_in T file fault)) (sym is) told
-
+-- ONE FILE
 -- a file whose bytes are read
-module _ {A B : Type 0} (view : A → B) (T : Texts) (file : InFile) (fault : List ℕ → Option RowFault) (value : List ℕ → B) (bytes : List ℕ) where
-  fault_is : T file ≡ Some bytes → fault_in T file fault ≡ in_file file (fault bytes)
-  fault_is same = ap (λ (t : Option (List ℕ)). in_file file (text_fault fault t)) same
+module _ {A B : Type 0} (view : A → B) (T : Texts) (file : InFile) (fault : List ℕ → Option RowFault) (value : List ℕ → B) where
+  -- a file that is too long
+  long_told : (s : Stop) → T file ≡ None → s ≡ stop.Fault (record { file = file; row = 0; reason = reason.TooLong }) → StopsAt s (fault_in T file fault)
+  long_told s none is =
+      let told : fault_in T file fault ≡ Some (record { file = file; row = 0; reason = reason.TooLong }) = ap (λ (t : Option (List ℕ)). in_file file (text_fault fault t)) none in
+      subst (λ (x : Stop). StopsAt x (fault_in T file fault)) (sym is) told
 
-  read_told : (read : Result A RowStop) → T file ≡ Some bytes → Answers view read (fault bytes) (value bytes) → Tells view (with_file file read) (fault_in T file fault) (value (bytes_in T file))
-  read_told (Ok read) same answer = (
-    fault_is same ∙ ap (λ (f : Option RowFault). in_file file f) answer.0,
+  pub told_long : (s : Stop) → T file ≡ None → s ≡ stop.Fault (record { file = file; row = 0; reason = reason.TooLong }) → TellsFile view (Err s) T file fault value
+  unfolding TellsFile
+  told_long s none is = long_told s none is
+
+  fault_is : (bytes : List ℕ) → T file ≡ Some bytes → fault_in T file fault ≡ in_file file (fault bytes)
+  fault_is bytes same = ap (λ (t : Option (List ℕ)). in_file file (text_fault fault t)) same
+
+  read_told : (bytes : List ℕ) (read : Result A RowStop) → T file ≡ Some bytes → Answers view read (fault bytes) (value bytes) → Tells view (with_file file read) (fault_in T file fault) (value (bytes_in T file))
+  unfolding with_file
+  read_told bytes (Ok read) same answer = (
+    fault_is bytes same ∙ ap (λ (f : Option RowFault). in_file file f) answer.0,
     answer.1 ∙ sym (ap (λ (t : Option (List ℕ)). value (unwrap_or t [])) same),
   )
-  read_told (Err (row_stop.Fault found)) same answer = fault_is same ∙ ap (λ (f : Option RowFault). in_file file f) answer
-  read_told (Err row_stop.NoMemory) same answer = tt
+  read_told bytes (Err (row_stop.Fault found)) same answer = fault_is bytes same ∙ ap (λ (f : Option RowFault). in_file file f) answer
+  read_told bytes (Err row_stop.NoMemory) same answer = tt
 
-  pub told_in : (read : Result A RowStop) (told : Result A Stop) → T file ≡ Some bytes → Answers view read (fault bytes) (value bytes) → told ≡ with_file file read
-      → Tells view told (fault_in T file fault) (value (bytes_in T file))
-  told_in read told same answer is = subst (λ (r : Result A Stop). Tells view r (fault_in T file fault) (value (bytes_in T file))) (sym is) (read_told read same answer)
+  pub told_in : (bytes : List ℕ) (found : Option RowFault) (given : B) (read : Result A RowStop) (told : Result A Stop) → told ≡ with_file file read → T file ≡ Some bytes
+      → Answers view read found given → fault bytes ≡ found → value bytes ≡ given → TellsFile view told T file fault value
+  unfolding TellsFile
+  told_in bytes found given read told is same answer fault_is_found value_is_given =
+      let with_fault = subst (λ (f : Option RowFault). Answers view read f given) (sym fault_is_found) answer in
+      let answered = subst (λ (v : B). Answers view read (fault bytes) v) (sym value_is_given) with_fault in
+      subst (λ (r : Result A Stop). Tells view r (fault_in T file fault) (value (bytes_in T file))) (sym is) (read_told bytes read same answered)
 
 -- what holds of what was read of a file
 module _ {A : Type 0} (file : InFile) (P : A → Type 0) where
   with_known : (read : Result A RowStop) → IfOk read P → IfOk (with_file file read) P
+  unfolding with_file
   with_known (Ok read) known = known
   with_known (Err why) known = tt
 
@@ -69,3 +81,20 @@ later_stop s a b none h = subst (λ (x : Option ScenarioFault). StopsAt s (or_el
 -- neither has one
 pub both_none : (a b : Option ScenarioFault) → a ≡ None → b ≡ None → or_else a b ≡ None
 both_none a b none h = ap (λ (x : Option ScenarioFault). or_else x b) none ∙ h
+
+-- of faults of which there is no first one none is there
+pub none_of : (faults : List (Option ScenarioFault)) → first_of faults ≡ None → All (λ fault. fault ≡ None) faults
+none_of (fault ∷ faults) none zero d less = (or_none fault (first_of faults) none).0
+none_of (fault ∷ faults) none (suc k) d less = none_of faults (or_none fault (first_of faults) none).1 k d (omega arith)
+none_of [] none k d less = absurd (omega arith)
+
+-- and where none is there, there is no first one
+pub all_none : (faults : List (Option ScenarioFault)) → All (λ fault. fault ≡ None) faults → first_of faults ≡ None
+all_none [] none = refl
+all_none (fault ∷ faults) none = both_none fault (first_of faults) (none 0 None (omega arith)) (all_none faults (λ k d less. none (suc k) d (omega arith)))
+
+-- what a file by itself tells, and what holds of what was read of it
+pub ruleset of_file = (told_long, told_in, known_in)
+
+-- what files tell that are read one after the other
+pub ruleset in_turn = (first_stop, later_stop, both_none)

@@ -1,7 +1,9 @@
 -- What the files of a scenario give, or their first fault.
-use Rattle.std.specs.Prelude.{ℕ, List, length, map, Option}
+use Rattle.std.specs.Prelude.{◌≡◌, ℕ, ◌<◌, ◌≤◌, ◌^◌, true, List, [], ◌∷◌, length, map, Option, All}
+use Rattle.std.specs.List.{list_all}
 use Rattle.edge_files.specs.declared.files.InFile.TheVariants as file
 use Rattle.events.specs.declared.event.Book.{Book}
+use Rattle.limits.specs.declared.TheConstants.{MAX_DEPARTURES, MAX_ROUTES, MAX_STOPS}
 use Rattle.records.specs.Fields.{column}
 use Rattle.records.specs.Files.{body_of}
 use Rattle.records.specs.Faults.{or_else, fault_at}
@@ -12,16 +14,20 @@ use Rattle.network.specs.Links.{links_fault, link_names, link_of}
 use Rattle.rows.specs.PlanRows.{PlanRows}
 use Rattle.learning.specs.declared.settings.Learning.{Learning}
 use Rattle.plan_memory.specs.Memories.{MemoryRows, first_memory}
+use Rattle.plans.specs.Progress.{IsSound}
+use Rattle.plans.specs.Read.{file_rows_of}
 use Rattle.plans.specs.Values.{PlanFileRows, tables_of, plans_fault, file_rows}
 use Rattle.rows.specs.declared.schedule.StopRow.{StopRow}
 use Rattle.rows.specs.declared.schedule.RouteRow.{RouteRow}
 use Rattle.rows.specs.declared.schedule.DepartureRow.{DepartureRow}
+use Rattle.rows.specs.Schedules.{is_stop, is_route, is_departure}
 use Rattle.schedule.specs.Stops.{stops_fault, stop_of}
 use Rattle.schedule.specs.Routes.{routes_fault, lines_of, routes_of}
 use Rattle.schedule.specs.Departures.{departures_fault, departure_of}
 use Rattle.scoring.specs.Tables.{ScoringRows}
 use Rattle.signals.specs.declared.conflict.Conflict.{Conflict}
 use Rattle.signals.specs.Signals.{SignalRows, signals_fault, signal_rows_of, clash_fault}
+use Rattle.signals.specs.Views.{signal_view}
 use Rattle.settings.specs.Values.{Values}
 use Rattle.settings.specs.Faults.{FileValues, settings_fault, file_of}
 use Rattle.settings.specs.Numbered.{by_number}
@@ -34,8 +40,10 @@ use Rattle.router.specs.Graphs.{Graph}
 use Rattle.router.specs.Legs.{route_between}
 use Rattle.car_routes.specs.Plans.{all_routed}
 use Rattle.scenario.specs.declared.faults.ScenarioFault.{ScenarioFault}
+use Rattle.scenario.specs.declared.files_read.FilesRead.{FilesRead}
+use Rattle.scenario.specs.declared.schedules.Schedule.{Schedule}
 use Rattle.scenario.specs.Texts.{Texts, bytes_in}
-use Rattle.scenario.specs.Faults.{in_file, fault_in}
+use Rattle.scenario.specs.Faults.{in_file, fault_in, first_of}
 use Rattle.scenario.specs.Legs.{LegChecks, numbers_in, settled, plan_in_town, rows_cross_fault, all_plans_fault}
 
 -- names and rows of nodes and of links
@@ -64,6 +72,28 @@ pub record ScheduleRows : Type 0 where
   pub departure_names : List (List ℕ)
   pub departures : List DepartureRow
 
+-- the schedule that the code has, as definitions see it
+abbrev pub schedule_view : Schedule → ScheduleRows
+schedule_view schedule = record {
+  stop_names = schedule.stops.names;
+  stops = schedule.stops.rows;
+  lines = schedule.routes.lines;
+  route_names = schedule.routes.names;
+  routes = schedule.routes.rows;
+  departure_names = schedule.departures.names;
+  departures = schedule.departures.rows;
+}
+
+-- the stops, which have a name each, the routes and the departures are within their limits, and name links, lines, stops and routes that are there
+pub record IsSchedule (links : ℕ) (ends : List (ℕ × ℕ)) (t : ScheduleRows) : Type 0 where
+  pub each_stop : length t.stop_names ≡ length t.stops
+  pub few_stops : length t.stops ≤ MAX_STOPS
+  pub stops : list_all (is_stop links) t.stops ≡ true
+  pub few_routes : length t.routes ≤ MAX_ROUTES
+  pub routes : list_all (is_route (length t.lines) links ends t.stops) t.routes ≡ true
+  pub few_departures : length t.departures ≤ MAX_DEPARTURES
+  pub departures : list_all (is_departure (length t.routes)) t.departures ≡ true
+
 -- the names of the stops
 abbrev pub stop_names : List ℕ → List (List ℕ)
 stop_names stops = column 0 (body_of stops)
@@ -89,9 +119,68 @@ schedule_rows_of links T = record {
 }
 
 -- what signals.csv gives, on links of these names
-unfoldable pub signals_on : List (List ℕ) → Texts → SignalRows
+abbrev pub signals_on : List (List ℕ) → Texts → SignalRows
 signals_on links T = signal_rows_of links (body_of (bytes_in T file.Signals))
 
+-- what plans.csv gives, on links of these names
+abbrev pub persons_on : List (List ℕ) → Texts → PlanFileRows
+persons_on links T = file_rows links (bytes_in T file.Plans)
+
+-- WHAT IS READ OVER A NETWORK
+-- the first fault of plans.csv by itself, over links of these names and ends
+abbrev pub persons_fault : List (List ℕ) → List (ℕ × ℕ) → Texts → Option ScenarioFault
+persons_fault links ends T = fault_in T file.Plans (plans_fault links ends)
+
+-- the first fault of stops.csv, routes.csv and departures.csv, over links of these names and ends
+unfoldable pub schedule_fault : List (List ℕ) → List (ℕ × ℕ) → Texts → Option ScenarioFault
+schedule_fault links ends T =
+    or_else (fault_in T file.Stops (stops_fault links)) (
+    or_else (fault_in T file.Routes (routes_fault links ends (stop_names (bytes_in T file.Stops)) (stop_rows links (bytes_in T file.Stops)))) (
+    fault_in T file.Departures (departures_fault (route_names (bytes_in T file.Routes)))))
+
+-- the first fault of signals.csv by itself, over links of these names and ends
+abbrev pub signals_file_fault : List (List ℕ) → List (ℕ × ℕ) → Texts → Option ScenarioFault
+signals_file_fault links ends T = fault_in T file.Signals (signals_fault links ends)
+
+-- the first fault of each file that is read over a network, in their order, over links of these names and ends
+abbrev pub read_faults : List (List ℕ) → List (ℕ × ℕ) → Texts → List (Option ScenarioFault)
+read_faults links ends T =
+    persons_fault links ends T
+    ∷ schedule_fault links ends T
+    ∷ signals_file_fault links ends T
+    ∷ []
+
+-- the first of them
+abbrev pub read_fault : List (List ℕ) → List (ℕ × ℕ) → Texts → Option ScenarioFault
+read_fault links ends T = first_of (read_faults links ends T)
+
+-- plans, schedule and signals
+pub record ReadRows : Type 0 where
+  pub plans : PlanFileRows
+  pub schedule : ScheduleRows
+  pub signals : SignalRows
+
+-- what the files give that are read over a network, on links of these names
+abbrev pub read_on : List (List ℕ) → Texts → ReadRows
+read_on links T = record {
+  plans = persons_on links T;
+  schedule = schedule_rows_of links T;
+  signals = signals_on links T;
+}
+
+-- the same as the code has it
+abbrev pub read_view : FilesRead → ReadRows
+read_view read = record { plans = file_rows_of read.plans; schedule = schedule_view read.schedule; signals = signal_view read.signals }
+
+-- each fits the network: plans, which begin in rows that can be numbered, and the schedule name what is there, and each link has its signal
+-- or none
+pub record IsReadOn (count : ℕ) (links : List (List ℕ)) (ends : List (ℕ × ℕ)) (read : ReadRows) : Type 0 where
+  pub plans : IsSound links ends read.plans
+  pub starts : All (λ row. row < 2 ^ 30) read.plans.starts
+  pub schedule : IsSchedule count ends read.schedule
+  pub greens : length read.signals.greens ≡ count
+
+-- THE TOWN
 -- what the legs of plans are held against whose routes are filled
 unfoldable pub leg_checks_in : PlanFileRows → ScheduleRows → LegChecks
 leg_checks_in plans schedule =
@@ -126,6 +215,10 @@ filled_in network plans = record {
   plans = all_routed (graph_in network) (free_arrivals network) plans.plans;
   starts = plans.starts;
 }
+
+-- what was read, with its plans so
+abbrev pub with_filled : NetworkRows → ReadRows → ReadRows
+with_filled network read = record read { plans = filled_in network read.plans }
 
 -- names for all that events tell of
 abbrev pub book_of : NetworkRows → List (List ℕ) → List (List ℕ) → ScheduleRows → Book
@@ -180,26 +273,15 @@ planned_of settings network plans schedule greens = record {
   plans = plans_of plans schedule;
 }
 
+-- the same of what was read
+abbrev pub planned_from : Values → NetworkRows → ReadRows → PlannedRows
+planned_from settings network read = planned_of settings network read.plans read.schedule read.signals.greens
+
 -- the first fault of nodes.csv and links.csv
 unfoldable pub network_fault : Texts → Option ScenarioFault
 network_fault T =
     or_else (fault_in T file.Nodes nodes_fault) (
     fault_in T file.Links (links_fault (node_names (bytes_in T file.Nodes))))
-
--- the first fault of plans.csv by itself, over links of these names and ends
-unfoldable pub persons_fault : List (List ℕ) → List (ℕ × ℕ) → Texts → Option ScenarioFault
-persons_fault links ends T = fault_in T file.Plans (plans_fault links ends)
-
--- the first fault of stops.csv, routes.csv and departures.csv, over links of these names and ends
-unfoldable pub schedule_fault : List (List ℕ) → List (ℕ × ℕ) → Texts → Option ScenarioFault
-schedule_fault links ends T =
-    or_else (fault_in T file.Stops (stops_fault links)) (
-    or_else (fault_in T file.Routes (routes_fault links ends (stop_names (bytes_in T file.Stops)) (stop_rows links (bytes_in T file.Stops)))) (
-    fault_in T file.Departures (departures_fault (route_names (bytes_in T file.Routes)))))
-
--- the first fault of signals.csv by itself, over links of these names and ends
-unfoldable pub signals_file_fault : List (List ℕ) → List (ℕ × ℕ) → Texts → Option ScenarioFault
-signals_file_fault links ends T = fault_in T file.Signals (signals_fault links ends)
 
 -- the first conflict of signals.csv whose links are both green in some second
 unfoldable pub conflict_fault : SignalRows → Option ScenarioFault
@@ -214,23 +296,22 @@ cross_fault network plans schedule =
 unfoldable pub plans_cross_fault : PlanFileRows → ScheduleRows → Option ScenarioFault
 plans_cross_fault plans schedule = in_file file.Plans (all_plans_fault (leg_checks_in plans schedule) plans.starts plans.plans)
 
--- what plans.csv gives on network, as it was read
-abbrev pub persons_on : NetworkRows → Texts → PlanFileRows
-persons_on network T = file_rows network.link_names (bytes_in T file.Plans)
+-- the first leg of plans.csv that does not fit, and only then the first conflict of signals.csv: of files that have no fault by themselves
+unfoldable pub joint_fault : NetworkRows → Texts → ReadRows → Option ScenarioFault
+joint_fault network T read = or_else (cross_fault network (bytes_in T file.Plans) read.schedule) (conflict_fault read.signals)
 
--- the first fault of the files on network: each by itself, in their order, and only then the first leg that does not fit, and the first conflict
+-- the same of what was read, whose routes are filled
+unfoldable pub filled_fault : ReadRows → Option ScenarioFault
+filled_fault read = or_else (plans_cross_fault read.plans read.schedule) (conflict_fault read.signals)
+
+-- the first fault of the files on network: each by itself, and only then together
 unfoldable pub on_network_fault : NetworkRows → Texts → Option ScenarioFault
 on_network_fault network T =
-    or_else (persons_fault network.link_names (ends_of network.links) T) (
-    or_else (schedule_fault network.link_names (ends_of network.links) T) (
-    or_else (signals_file_fault network.link_names (ends_of network.links) T) (
-    or_else (cross_fault network (bytes_in T file.Plans) (schedule_rows_of network.link_names T)) (
-    conflict_fault (signals_on network.link_names T)))))
+    or_else (read_fault network.link_names (ends_of network.links) T) (joint_fault network T (read_on network.link_names T))
 
 -- the town with its plans on network, each car leg of which has a route
 unfoldable pub on_network : Values → NetworkRows → Texts → PlannedRows
-on_network settings network T =
-    planned_of settings network (filled_in network (persons_on network T)) (schedule_rows_of network.link_names T) (signals_on network.link_names T).greens
+on_network settings network T = planned_from settings network (with_filled network (read_on network.link_names T))
 
 -- the scenario of a town with its plans: each person remembers his plans, of which he has tried none and follows the first one; days are
 -- scored by tables for the kinds of activities that plans have, with their numbers

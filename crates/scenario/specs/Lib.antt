@@ -4,5 +4,4 @@ pub mod Legs
 pub mod FilesToScenario
 pub mod Fitting
 pub mod LegChecks
-pub mod Towns
 pub mod Views

@@ -9,8 +9,7 @@ use Rattle.scenario.specs.declared.files.Files.{Files}
 use Rattle.scenario.specs.declared.planned.PlannedTown.{PlannedTown}
 use Rattle.scenario.specs.declared.scenario.Scenario.{Scenario}
 use Rattle.scenario.specs.Texts.{Texts}
-use Rattle.scenario.specs.declared.schedules.Schedule.{Schedule}
-use Rattle.scenario.specs.FilesToScenario.{NetworkRows, ScheduleRows, PlannedRows, ScenarioRows}
+use Rattle.scenario.specs.FilesToScenario.{NetworkRows, PlannedRows, ScenarioRows}
 
 -- what was read of each file
 abbrev pub texts_of : Files → Texts
@@ -19,18 +18,6 @@ texts_of files file = get_or files.texts (in_place file) None
 -- the network
 abbrev pub network_view : Network → NetworkRows
 network_view network = record { node_names = network.node_names; nodes = network.nodes; link_names = network.link_names; links = network.links }
-
--- the schedule
-abbrev pub schedule_view : Schedule → ScheduleRows
-schedule_view schedule = record {
-  stop_names = schedule.stops.names;
-  stops = schedule.stops.rows;
-  lines = schedule.routes.lines;
-  route_names = schedule.routes.names;
-  routes = schedule.routes.rows;
-  departure_names = schedule.departures.names;
-  departures = schedule.departures.rows;
-}
 
 -- the town with its plans
 abbrev pub planned_view : PlannedTown → PlannedRows

@@ -3,38 +3,36 @@
 //! What an early return leaves is dropped by name there, and not by the end of its scope: a proof then meets one call for each value,
 //! whose contract it knows, in place of all that the value is made of.
 
-ghost use Rattle.std.specs.Prelude.{◌≡◌, ◌<◌, ◌≤◌, ◌^◌, ℕ, None, length, IfOk, All, List};
+ghost use Rattle.std.specs.Prelude.{◌≡◌, ◌<◌, ◌≤◌, ◌^◌, None, length, IfOk, All};
 ghost use Rattle.limits.specs.declared.TheConstants.{MAX_PERSONS};
 ghost use Rattle.plans.specs.Progress.{IsSound};
 ghost use Rattle.plans.specs.Read.{file_rows_of};
 ghost use Rattle.settings.specs.Faults.{settings_fault, file_of, values_of, file_values};
-ghost use Rattle.records.specs.Faults.{fault_at, or_else};
+ghost use Rattle.records.specs.Faults.{fault_at};
 ghost use Rattle.rows.specs.Joined.{ends_of};
 ghost use Rattle.signals.specs.Views.{signal_view};
 ghost use Rattle.town.specs.Views.{rows_of};
-ghost use Rattle.scenario.specs.Texts.{bytes_in};
-ghost use Rattle.scenario.specs.Faults.{fault_in, Tells};
+ghost use Rattle.scenario.specs.Faults.{Tells, TellsFile};
 ghost use Rattle.scenario.specs.LegChecks.{leg_checks_of, AreThere};
-ghost use Rattle.scenario.specs.Towns.{IsSchedule};
-ghost use Rattle.scenario.specs.FilesToScenario.{filled_in, leg_checks_in, book_of, town_of, plans_cross_fault, conflict_fault, planned_of};
+ghost use Rattle.scenario.specs.FilesToScenario.{filled_in, with_filled, leg_checks_in, book_of, town_of, plans_cross_fault};
+ghost use Rattle.scenario.specs.FilesToScenario.{conflict_fault, filled_fault, planned_of, planned_from};
+ghost use Rattle.scenario.specs.FilesToScenario.{schedule_view, read_view, IsSchedule, IsReadOn};
 ghost use Rattle.scenario.specs.FilesToScenario.{on_network, on_network_fault, scenario_of, scenario_on};
 ghost use Rattle.scenario.specs.FilesToScenario.{scenario_fault, scenario_rows};
-ghost use Rattle.scenario.specs.Views.{network_view, schedule_view, planned_view, scenario_view, texts_of};
+ghost use Rattle.scenario.specs.Views.{network_view, planned_view, scenario_view, texts_of};
 
 use crate::faults::{ScenarioFault, Stop};
 use crate::files::Files;
+use crate::files_read::{FilesRead, read_over};
 use crate::legs::all_plans_fault;
 use crate::memories::first_memories;
 use crate::network_read::{ends_in, read_network};
 use crate::numbering::{Numbering, numbers_in};
 use crate::planned::PlannedTown;
-use crate::plans_read::read_plan_file;
 use crate::reading::{bytes_of, with_file};
 use crate::renumbering::plans_in_town;
 use crate::scenario::Scenario;
-use crate::schedule_read::read_schedule;
 use crate::schedules::Schedule;
-use crate::signals_read::read_signal_file;
 use car_routes::with_routes;
 use edge_files::{InFile, Reason};
 use events::{Book, Names};
@@ -48,9 +46,9 @@ use std::thread::Threads;
 use town::Town;
 
 /// What settings.json says, or its first fault.
+#[tactic(auto, using(crate::proofs::Told::of_file))]
 fn settings_in(alloc: Global, files: &Files) -> Result<SettingsFile, Stop>
-    ensures { Tells file_values result (fault_in (texts_of files.now) InFile.Settings (λ bytes. fault_at 0 (settings_fault bytes)))
-        (file_of (bytes_in (texts_of files.now) InFile.Settings)) }
+    ensures { TellsFile file_values result (texts_of files.now) InFile.Settings (λ bytes. fault_at 0 (settings_fault bytes)) file_of }
 {
     match bytes_of(files, InFile::Settings) {
         Ok(bytes) => with_file(InFile::Settings, read_settings(alloc, bytes)),
@@ -268,46 +266,46 @@ fn conflict_fault(signals: &Signals) -> Option<ScenarioFault>
     }
 }
 
-/// The town with its plans, whose routes are filled, and signals, or the first leg that does not fit it, or else the first conflict.
+/// The town of what was read, whose routes are filled, or the first leg that does not fit it, or else the first conflict.
+#[tactic(auto, unfolding(crate::specs::FilesToScenario::filled_fault))]
 fn settled_or_fault(
     alloc: Global,
     settings: Settings,
     network: Network,
-    file: PlanFile,
-    schedule: Schedule,
-    signals: Signals,
+    read: FilesRead,
 ) -> Result<PlannedTown, Stop>
-    requires sound { IsSound network.link_names (ends_of network.links) (file_rows_of file) }
-    requires starts { All (λ row. row < 2 ^ 30) file.starts }
-    requires schedule { IsSchedule (length network.links) (ends_of network.links) (schedule_view schedule) }
-    requires greens { length signals.greens ≡ length network.links }
-    ensures { Tells planned_view result
-        (or_else (plans_cross_fault (file_rows_of file) (schedule_view schedule)) (conflict_fault (signal_view signals)))
-        (planned_of (values_of settings) (network_view network) (file_rows_of file) (schedule_view schedule) signals.greens) }
+    requires { IsReadOn (length network.links) network.link_names (ends_of network.links) (read_view read) }
+    ensures { Tells planned_view result (filled_fault (read_view read))
+        (planned_from (values_of settings) (network_view network) (read_view read)) }
 {
-    let Ok(numbering) = numbering_in(alloc, &file, &schedule) else {
-        drop(file);
+    let FilesRead {
+        plans,
+        schedule,
+        signals,
+    } = read;
+    let Ok(numbering) = numbering_in(alloc, &plans, &schedule) else {
+        drop(plans);
         drop(network);
         drop(schedule);
         drop(signals);
         return Err(Stop::NoMemory);
     };
-    if let Some(fault) = leg_fault(&numbering, &schedule, &file) {
-        drop(file);
+    if let Some(fault) = leg_fault(&numbering, &schedule, &plans) {
+        drop(plans);
         drop(network);
         drop(schedule);
         drop(signals);
         return Err(Stop::Fault(fault));
     }
     if let Some(fault) = conflict_fault(&signals) {
-        drop(file);
+        drop(plans);
         drop(network);
         drop(schedule);
         drop(signals);
         return Err(Stop::Fault(fault));
     }
     let Signals { greens, .. } = signals;
-    match planned_of_parts(alloc, settings, network, file, schedule, numbering, greens) {
+    match planned_of_parts(alloc, settings, network, plans, schedule, numbering, greens) {
         Ok(planned) => Ok(planned),
         Err(_) => Err(Stop::NoMemory),
     }
@@ -354,29 +352,32 @@ fn filled<R: Threads + Sync>(
     }
 }
 
-/// The town with its plans, each car leg of which has a route, and signals, or the first leg that does not fit it, or else the first
-/// conflict.
+/// The town of what was read, each car leg of which has a route, or the first leg that does not fit it, or else the first conflict.
 fn planned_or_fault<R: Threads + Sync>(
     rt: &R,
     alloc: Global,
     settings: Settings,
     network: Network,
-    file: PlanFile,
-    schedule: Schedule,
-    signals: Signals,
+    read: FilesRead,
 ) -> Result<PlannedTown, Stop>
-    requires sound { IsSound network.link_names (ends_of network.links) (file_rows_of file) }
-    requires starts { All (λ row. row < 2 ^ 30) file.starts }
-    requires schedule { IsSchedule (length network.links) (ends_of network.links) (schedule_view schedule) }
-    requires greens { length signals.greens ≡ length network.links }
-    ensures { Tells planned_view result
-        (or_else (plans_cross_fault (filled_in (network_view network) (file_rows_of file)) (schedule_view schedule))
-        (conflict_fault (signal_view signals)))
-        (planned_of (values_of settings) (network_view network) (filled_in (network_view network) (file_rows_of file))
-        (schedule_view schedule) signals.greens) }
+    requires read { IsReadOn (length network.links) network.link_names (ends_of network.links) (read_view read) }
+    ensures { Tells planned_view result (filled_fault (with_filled (network_view network) (read_view read)))
+        (planned_from (values_of settings) (network_view network) (with_filled (network_view network) (read_view read))) }
 {
-    match filled(rt, alloc, &network, file) {
-        Ok(file) => settled_or_fault(alloc, settings, network, file, schedule, signals),
+    let FilesRead {
+        plans,
+        schedule,
+        signals,
+    } = read;
+    match filled(rt, alloc, &network, plans) {
+        Ok(plans) => {
+            let read = FilesRead {
+                plans,
+                schedule,
+                signals,
+            };
+            settled_or_fault(alloc, settings, network, read)
+        }
         Err(_) => {
             drop(network);
             drop(schedule);
@@ -399,27 +400,10 @@ fn on_ends<R: Threads + Sync>(
     ensures { Tells planned_view result (on_network_fault (network_view network) (texts_of files.now))
         (on_network (values_of settings) (network_view network) (texts_of files.now)) }
 {
-    let file = match read_plan_file(alloc, files, &network.link_names, ends) {
-        Ok(file) => file,
+    match read_over(alloc, files, &network.link_names, ends) {
+        Ok(read) => planned_or_fault(rt, alloc, settings, network, read),
         Err(error) => {
             drop(network);
-            return Err(error);
-        }
-    };
-    let schedule = match read_schedule(alloc, files, &network.link_names, ends) {
-        Ok(schedule) => schedule,
-        Err(error) => {
-            drop(file);
-            drop(network);
-            return Err(error);
-        }
-    };
-    match read_signal_file(alloc, files, &network.link_names, ends) {
-        Ok(signals) => planned_or_fault(rt, alloc, settings, network, file, schedule, signals),
-        Err(error) => {
-            drop(file);
-            drop(network);
-            drop(schedule);
             Err(error)
         }
     }

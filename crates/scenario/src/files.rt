@@ -2,26 +2,14 @@ ghost use Rattle.std.specs.Prelude.{◌≡◌, ◌≢◌, [], Some, option_map, 
 ghost use Rattle.edge_files.specs.declared.files.InFile.{InFile};
 ghost use Rattle.scenario.specs.Views.{texts_of};
 
-use edge_files::{Bytes, InFile};
+use edge_files::{Bytes, FILE_COUNT, InFile, SCENARIO_FILES};
 use std::alloc::Global;
 use std::array;
-
-/// The files of a scenario, in the order in which they are read.
-pub const SCENARIO_FILES: [InFile; 8] = [
-    InFile::Settings,
-    InFile::Nodes,
-    InFile::Links,
-    InFile::Plans,
-    InFile::Stops,
-    InFile::Routes,
-    InFile::Departures,
-    InFile::Signals,
-];
 
 /// What was read of each file: its bytes, or nothing where it has more than 2^28 of them.
 #[derive(Drop)]
 pub struct Files {
-    texts: [Option<Bytes>; 8],
+    texts: [Option<Bytes>; FILE_COUNT],
 }
 
 impl Files {

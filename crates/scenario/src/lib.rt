@@ -4,20 +4,19 @@
 mod assembling;
 mod faults;
 mod files;
+mod files_read;
 mod legs;
 mod memories;
 mod network_read;
 mod numbering;
 mod planned;
-mod plans_read;
 mod reading;
 mod renumbering;
 mod scenario;
 mod schedule_read;
 mod schedules;
-mod signals_read;
 
 pub use assembling::assemble;
 pub use faults::{ScenarioFault, Stop};
-pub use files::{Files, SCENARIO_FILES};
+pub use files::Files;
 pub use scenario::Scenario;

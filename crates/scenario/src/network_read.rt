@@ -6,8 +6,7 @@ ghost use Rattle.rows.specs.Networks.{is_link, in_links};
 ghost use Rattle.network.specs.Nodes.{nodes_fault, node_names, node_of};
 ghost use Rattle.network.specs.Links.{links_fault, link_names, link_of};
 ghost use Rattle.rows.specs.Joined.{ends_of};
-ghost use Rattle.scenario.specs.Texts.{bytes_in};
-ghost use Rattle.scenario.specs.Faults.{fault_in, Tells};
+ghost use Rattle.scenario.specs.Faults.{Tells, TellsFile};
 ghost use Rattle.scenario.specs.FilesToScenario.{network_fault, network_rows_of};
 ghost use Rattle.scenario.specs.Views.{network_view, texts_of};
 
@@ -21,9 +20,10 @@ use rows::{LinkList, LinkRow, NodeList};
 use std::alloc::{AllocError, Global};
 
 /// The names and the nodes of nodes.csv, or its first fault.
+#[tactic(auto, using(crate::proofs::Told::of_file))]
 fn nodes_in(alloc: Global, files: &Files) -> Result<(Names, NodeList), Stop>
-    ensures read { Tells (λ r. r) result (fault_in (texts_of files.now) InFile.Nodes nodes_fault)
-        (node_names (bytes_in (texts_of files.now) InFile.Nodes), map node_of (body_of (bytes_in (texts_of files.now) InFile.Nodes))) }
+    ensures read { TellsFile (λ r. r) result (texts_of files.now) InFile.Nodes nodes_fault
+        (λ bytes. (node_names bytes, map node_of (body_of bytes))) }
     ensures each { IfOk result (λ r. length r.0 ≡ length r.1) }
     ensures few { IfOk result (λ r. length r.1 ≤ MAX_NODES) }
 {
@@ -34,12 +34,10 @@ fn nodes_in(alloc: Global, files: &Files) -> Result<(Names, NodeList), Stop>
 }
 
 /// The names and the links of links.csv, between nodes of these names, or its first fault.
+#[tactic(auto, using(crate::proofs::Told::of_file))]
 fn links_in(alloc: Global, files: &Files, nodes: &Names) -> Result<(Names, LinkList), Stop>
-    ensures read { Tells (λ r. r) result (fault_in (texts_of files.now) InFile.Links (links_fault nodes.now)) (
-      link_names (bytes_in (texts_of files.now) InFile.Links),
-      map (link_of nodes.now)
-          (body_of (bytes_in (texts_of files.now) InFile.Links)),
-    ) }
+    ensures read { TellsFile (λ r. r) result (texts_of files.now) InFile.Links (links_fault nodes.now)
+        (λ bytes. (link_names bytes, map (link_of nodes.now) (body_of bytes))) }
     ensures each { IfOk result (λ r. length r.0 ≡ length r.1) }
     ensures few { IfOk result (λ r. length r.1 ≤ MAX_LINKS) }
     ensures few_in_links { IfOk result (λ r. (node : ℕ) → in_links r.1 node ≤ MAX_IN_LINKS) }

@@ -39,6 +39,7 @@ fn error_in(file: InFile, error: RowStop) -> Stop
 }
 
 /// What was read of a file, or why it was not, with the file.
+#[tactic(auto, unfolding(crate::specs::Faults::with_file))]
 pub fn with_file<T: Drop>(file: InFile, read: Result<T, RowStop>) -> Result<T, Stop>
     ensures { result ≡ with_file file read }
 {

@@ -1,14 +1,14 @@
-ghost use Rattle.std.specs.Prelude.{◌≡◌, map, length};
+ghost use Rattle.std.specs.Prelude.{◌≡◌, map, length, IfOk};
 ghost use Rattle.records.specs.Fields.{column};
 ghost use Rattle.records.specs.Files.{body_of};
 ghost use Rattle.schedule.specs.Stops.{stops_fault};
 ghost use Rattle.schedule.specs.Routes.{routes_fault, routes_of, lines_of};
 ghost use Rattle.schedule.specs.Departures.{departures_fault, departure_of};
 ghost use Rattle.schedule.specs.Views.{stop_lists, route_lists, departure_lists};
-ghost use Rattle.scenario.specs.Texts.{bytes_in};
-ghost use Rattle.scenario.specs.Faults.{fault_in, Tells};
+ghost use Rattle.scenario.specs.Faults.{Tells, TellsFile};
 ghost use Rattle.scenario.specs.FilesToScenario.{stop_names, stop_rows, route_names, schedule_fault, schedule_rows_of};
-ghost use Rattle.scenario.specs.Views.{schedule_view, texts_of};
+ghost use Rattle.scenario.specs.FilesToScenario.{schedule_view, IsSchedule};
+ghost use Rattle.scenario.specs.Views.{texts_of};
 
 use crate::faults::Stop;
 use crate::files::Files;
@@ -20,9 +20,10 @@ use schedule::{Departures, Routes, Stops, read_departures, read_routes, read_sto
 use std::alloc::Global;
 
 /// The stops of stops.csv on links of these names, or its first fault.
+#[tactic(auto, using(crate::proofs::Told::of_file))]
 fn stops_in(alloc: Global, files: &Files, links: &Names) -> Result<Stops, Stop>
-    ensures { Tells stop_lists result (fault_in (texts_of files.now) InFile.Stops (stops_fault links.now))
-        (stop_names (bytes_in (texts_of files.now) InFile.Stops), stop_rows links.now (bytes_in (texts_of files.now) InFile.Stops)) }
+    ensures { TellsFile stop_lists result (texts_of files.now) InFile.Stops (stops_fault links.now)
+        (λ bytes. (stop_names bytes, stop_rows links.now bytes)) }
 {
     match bytes_of(files, InFile::Stops) {
         Ok(bytes) => with_file(InFile::Stops, read_stops(alloc, bytes, links)),
@@ -31,6 +32,7 @@ fn stops_in(alloc: Global, files: &Files, links: &Names) -> Result<Stops, Stop>
 }
 
 /// The routes of routes.csv on links of these names and ends and on these stops, or its first fault.
+#[tactic(auto, using(crate::proofs::Told::of_file))]
 fn routes_in(
     alloc: Global,
     files: &Files,
@@ -39,12 +41,9 @@ fn routes_in(
     stops: &Stops,
 ) -> Result<Routes, Stop>
     requires { length ends.now ≡ length links.now }
-    ensures { Tells route_lists result
-        (fault_in (texts_of files.now) InFile.Routes (routes_fault links.now ends.now stops.now.names stops.now.rows)) (
-          lines_of (body_of (bytes_in (texts_of files.now) InFile.Routes)),
-          route_names (bytes_in (texts_of files.now) InFile.Routes),
-          routes_of links.now stops.now.names stops.now.rows (body_of (bytes_in (texts_of files.now) InFile.Routes)),
-        ) }
+    ensures { TellsFile route_lists result (texts_of files.now) InFile.Routes
+        (routes_fault links.now ends.now stops.now.names stops.now.rows)
+        (λ bytes. (lines_of (body_of bytes), route_names bytes, routes_of links.now stops.now.names stops.now.rows (body_of bytes))) }
 {
     match bytes_of(files, InFile::Routes) {
         Ok(bytes) => with_file(
@@ -56,12 +55,10 @@ fn routes_in(
 }
 
 /// The departures of departures.csv on routes of these names, or its first fault.
+#[tactic(auto, using(crate::proofs::Told::of_file))]
 fn departures_in(alloc: Global, files: &Files, routes: &Names) -> Result<Departures, Stop>
-    ensures { Tells departure_lists result
-        (fault_in (texts_of files.now) InFile.Departures (departures_fault routes.now)) (
-          column 0 (body_of (bytes_in (texts_of files.now) InFile.Departures)),
-          map (departure_of routes.now) (body_of (bytes_in (texts_of files.now) InFile.Departures)),
-        ) }
+    ensures { TellsFile departure_lists result (texts_of files.now) InFile.Departures (departures_fault routes.now)
+        (λ bytes. (column 0 (body_of bytes), map (departure_of routes.now) (body_of bytes))) }
 {
     match bytes_of(files, InFile::Departures) {
         Ok(bytes) => with_file(InFile::Departures, read_departures(alloc, bytes, routes)),
@@ -71,7 +68,7 @@ fn departures_in(alloc: Global, files: &Files, routes: &Names) -> Result<Departu
 
 /// What stops.csv, routes.csv and departures.csv give over links of these names and ends, or their first fault.
 #[tactic(auto, unfolding(crate::specs::FilesToScenario::schedule_fault, crate::specs::FilesToScenario::schedule_rows_of))]
-pub fn read_schedule(
+fn schedule_in(
     alloc: Global,
     files: &Files,
     links: &Names,
@@ -104,4 +101,19 @@ pub fn read_schedule(
             Err(error)
         }
     }
+}
+
+/// The same, with what holds of it.
+pub fn read_schedule(
+    alloc: Global,
+    files: &Files,
+    links: &Names,
+    ends: &[(u32, u32)],
+) -> Result<Schedule, Stop>
+    requires { length ends.now ≡ length links.now }
+    ensures read { Tells schedule_view result (schedule_fault links.now ends.now (texts_of files.now))
+        (schedule_rows_of links.now (texts_of files.now)) }
+    ensures fitting { IfOk result (λ schedule. IsSchedule (length links.now) ends.now (schedule_view schedule)) }
+{
+    schedule_in(alloc, files, links, ends)
 }

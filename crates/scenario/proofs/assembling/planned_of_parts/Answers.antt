@@ -7,8 +7,8 @@ use Rattle.town.specs.Rows.{TownRows}
 use Rattle.town.specs.Views.{rows_of}
 use Rattle.scenario.specs.Legs.{LegChecks, plan_in_town}
 use Rattle.scenario.specs.LegChecks.{AreThere}
-use Rattle.scenario.specs.FilesToScenario.{PlannedRows, leg_checks_in, town_of, planned_of}
-use Rattle.scenario.specs.Views.{network_view, schedule_view}
+use Rattle.scenario.specs.FilesToScenario.{PlannedRows, leg_checks_in, town_of, planned_of, schedule_view}
+use Rattle.scenario.specs.Views.{network_view}
 use Rattle.scenario.specs.Fitting.{all_fit}
 use Rattle.scenario.proofs.AllFit.{all_kept}
 use Rattle.scenario.proofs.Settling.{plans_fit, persons_are}

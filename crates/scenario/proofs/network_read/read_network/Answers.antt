@@ -1,17 +1,20 @@
 use Rattle.scenario.proofs.Common.{List, ℕ, ap, LinkRow, NodeRow, network_fault, texts_of}
+use Rattle.scenario.specs.Faults.{TellsFile}
 use Rattle.scenario.proofs.Told.{first_stop}
 use Rattle.scenario.proofs.Composed.{links_told, network_none, network_is}
 use Rattle.scenario.proofs.network_read.read_network.Goals as goal
 
 pub returns-in-Err : goal.returns-in-Err
-unfolding network_fault
+unfolding TellsFile network_fault
 returns-in-Err c = first_stop c.in-Err.error _ _ c.in-Err.ensures.read
 
 pub returns-in-Err-links_in : goal.returns-in-Err-links_in
+unfolding TellsFile
 returns-in-Err-links_in c =
     links_told c.in-Err-links_in.error (texts_of c.args.files.now) c.in-Ok.read.0 c.in-Ok.ensures.read.0 (ap (λ (p : List (List ℕ) × List NodeRow). p.0) c.in-Ok.ensures.read.1) c.in-Err-links_in.ensures.read
 
 pub returns-in-Ok-links_in : goal.returns-in-Ok-links_in
+unfolding TellsFile
 returns-in-Ok-links_in c =
     let T = texts_of c.args.files.now in
     let nodes = c.in-Ok.ensures.read in

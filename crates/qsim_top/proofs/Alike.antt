@@ -1,29 +1,24 @@
 -- Files of which each is the same are the same.
 use Rattle.std.specs.Prelude.{IfOk}
-use Rattle.std.proofs.Common.{◌≡◌, ◌<◌, List, length, get_or, Result, Ok, Err, true, refl, sym, ◌∙◌, subst, lit<}
+use Rattle.std.proofs.Common.{◌≡◌, Result, Ok, Err, true, sym, ◌∙◌, subst}
 use Rattle.command_line.specs.declared.commands.Command.{Command}
 use Rattle.command_line.specs.declared.commands.Command.TheVariants as command
 use Rattle.edge_files.specs.Inputs.{Left}
 use Rattle.edge_files.specs.declared.files.InFile.{InFile}
 use Rattle.edge_files.specs.declared.files.InFile.TheVariants as file
 use Rattle.edge_files.specs.Files.{in_place}
-use Rattle.scenario.specs.declared.files.TheConstants.{SCENARIO_FILES}
+use Rattle.edge_files.proofs.Placed.{is_among, file_at_place}
 use Rattle.scenario.specs.Texts.{Texts}
 use Rattle.scenario.specs.Views.{texts_of}
 use Rattle.scenario.specs.declared.files.Files.{Files}
 use Rattle.qsim_top.specs.Came.{AreRead, HasFiles, reads_files}
 use Rattle.qsim_top.specs.Contents.{Contents, AreLeft, AreAlike, texts_in}
 
--- each file is among those of a scenario, at its place
-pub there : (f : InFile) → (in_place f < length SCENARIO_FILES) × (get_or SCENARIO_FILES (in_place f) f ≡ f)
-there file.Settings = (lit< tt, refl)
-there _ = (lit< tt, refl)
-
 pub alike_texts : (a b : Texts) → AreAlike a b → a ≡ b
 alike_texts a b alike = λ i f. each f i
   where
     each : (f : InFile) → a f ≡ b f
-    each f = subst (λ (g : InFile). a g ≡ b g) (there f).1 (alike (in_place f) f (there f).0)
+    each f = subst (λ (g : InFile). a g ≡ b g) (file_at_place f) (alike (in_place f) file.Settings (is_among f))
 
 -- a command that makes no files has those that are read
 read_has : (c : Command) (left : Left) (texts : Texts) → reads_files c ≡ true → HasFiles c left texts → AreRead left texts

@@ -3,7 +3,7 @@ use Rattle.std.specs.Prelude.{◌≡◌, ℕ, List, All, Option, None, Some, if�
 use Rattle.edge_files.specs.declared.files.InFile.{InFile}
 use Rattle.edge_files.specs.Inputs.{Left}
 use Rattle.records.specs.Files.{is_too_long}
-use Rattle.scenario.specs.declared.files.TheConstants.{SCENARIO_FILES}
+use Rattle.edge_files.specs.declared.files.TheConstants.{SCENARIO_FILES}
 use Rattle.scenario.specs.Texts.{Texts}
 
 -- the bytes of each file

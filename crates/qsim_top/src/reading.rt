@@ -11,9 +11,9 @@ ghost use Rattle.qsim_top.specs.Contents.{Contents, AreLeft, AreAlike, text_of, 
 ghost use Rattle.qsim_top.specs.Reading.{IsGridOf, IsRead};
 
 use command_line::Command;
-use edge_files::{Bytes, InFile, Inputs, ReadStop, read_whole};
+use edge_files::{Bytes, InFile, Inputs, ReadStop, SCENARIO_FILES, read_whole};
 use limits::MAX_FILE_BYTES;
-use scenario::{Files, SCENARIO_FILES, Scenario, Stop, assemble};
+use scenario::{Files, Scenario, Stop, assemble};
 use std::alloc::{AllocError, Global};
 use std::thread::Threads;
 use thiserror::Error;

@@ -1,6 +1,6 @@
 use Rattle.scenario.proofs.Common.{refl, arith, get_or, texts_of}
 use Rattle.edge_files.specs.declared.files.InFile.TheVariants as file
-use Rattle.scenario.specs.declared.files.TheConstants.{SCENARIO_FILES}
+use Rattle.edge_files.specs.declared.files.TheConstants.{SCENARIO_FILES}
 use Rattle.qsim_top.proofs.InTurn.{read_none, read_more, read_all}
 use Rattle.qsim_top.proofs.reading.read_files.Goals as goal
 

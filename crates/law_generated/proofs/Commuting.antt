@@ -1,12 +1,10 @@
 -- The persons of a grid: their links are there, and their rows are five that may stand in plans.csv.
-use Rattle.records.proofs.Common.{◌≡◌, List, ap, ℕ, length, ◌∙◌, arith, [], ◌<◌, None, Some, ◌++◌, ◌∷◌, refl, true, Bool, ◌+◌, false, ◌≤◌, ◌^◌, ◌&&◌, ◌||◌, not, sym, subst, map, ◌-◌}
-use Rattle.records.proofs.Common.{Row, field, is_some, is_none, is_name, is_held, number_of, numbers_of, Option, decimal, flat_map, get_or-map, list_all, list_all-append, length-append, append_assoc, join_with_byte, nat_tests}
-use Rattle.std.proofs.Common.{◌*◌, ◌%◌}
-use Rattle.std.specs.Prelude.{codes, get_or, if◌then◌else◌, nat_eq}
-use Rattle.std.specs.Fmt.{digits}
-use Rattle.std.specs.List.{range_with_len}
+use Rattle.records.proofs.Common.{◌≡◌, List, ap, ℕ, length, ◌∙◌, arith, [], ◌<◌, None, Some, ◌++◌, ◌∷◌, refl, true, Bool, ◌+◌, false, ◌≤◌}
+use Rattle.records.proofs.Common.{◌^◌, ◌&&◌, not, subst, map, ◌-◌}
+use Rattle.records.proofs.Common.{Row, is_none, is_name, number_of, numbers_of, Option, decimal, list_all}
+use Rattle.std.specs.Prelude.{codes, nat_eq}
 use Rattle.draws.specs.Choices.{below}
-use Rattle.draws.specs.Words.{Source, word}
+use Rattle.draws.specs.Words.{word}
 use Rattle.draws.proofs.Ranges.{below_within, word_fits}
 use Rattle.events.specs.Names.{is_name_byte}
 use Rattle.events.specs.Words.{mode_of}
@@ -16,12 +14,12 @@ use Rattle.limits.specs.declared.TheConstants.{LAST_SECOND}
 use Rattle.plan_text.proofs.Clean.{all_weaker, name_bytes}
 use Rattle.plan_text.proofs.Decimals.{number_back}
 use Rattle.plans.specs.declared.kinds.ElementKind.TheVariants as element
-use Rattle.plans.specs.Kinds.{end_in, items_of, kind_of, plan_in, seconds_in}
-use Rattle.plans.specs.Refusals.{has_bad_time, has_surplus, is_broken, lacks_element_name, lacks_link, route_of}
-use Rattle.records.specs.Lists.{are_names, items_in, parts_of}
+use Rattle.plans.specs.Kinds.{end_in, kind_of}
+use Rattle.plans.specs.Refusals.{has_bad_time, has_surplus, lacks_element_name, lacks_link}
+use Rattle.records.specs.Lists.{are_names, items_in}
 use Rattle.records.specs.Numbers.{are_digits, number_in}
 use Rattle.rows.specs.Joined.{is_joined}
-use Rattle.workload.specs.Commuters.{bus_home, bus_work, commute_of, commuter, home_of, leaving, link_drawn, work_of, words_of}
+use Rattle.workload.specs.Commuters.{commute_of, commuter, home_of, link_drawn, work_of, words_of}
 use Rattle.workload.specs.Links.{grid_links}
 use Rattle.workload.specs.Rows.{act_row, leg_row, link_name, person_name, person_rows, stop_name, walk_row, way_back, way_there}
 use Rattle.workload.specs.declared.TheConstants.{FIRST_LEAVING, LEAVING_SPAN, WALK_SECONDS, WORK_SECONDS}
@@ -29,7 +27,7 @@ use Rattle.workload.specs.declared.commuters.Commute.{Commute}
 use Rattle.workload.specs.declared.commuters.Commute.TheVariants as commute
 use Rattle.workload.specs.declared.commuters.Commuter.{Commuter}
 use Rattle.law_generated.proofs.Elements.{IsOwn, IsSound}
-use Rattle.law_generated.proofs.Fields.{lettered, number_of_name}
+use Rattle.law_generated.proofs.Fields.{lettered}
 use Rattle.law_generated.proofs.Grid.{IsLink, each_link}
 use Rattle.law_generated.proofs.Links.{held_right, link_named, links_distinct, some_links}
 use Rattle.law_generated.proofs.Names.{number_at}
@@ -175,7 +173,7 @@ module _ (size : ℕ) (some : 3 ≤ size) (few : size ≤ 100) where
     sound_car links ends = record { is = refl; element = refl; fits = refl; named = refl; timed = refl; linked = refl; joined = refl; moded = refl; short = refl }
 
     -- the three names of a way by bus
-    bus_items : items_in (codes "bus s0 " ++ stop_name (size - 2)) ≡ codes "bus" ∷ codes "s0" ∷ stop_name (size - 2) ∷ []
+    pub bus_items : items_in (codes "bus s0 " ++ stop_name (size - 2)) ≡ codes "bus" ∷ codes "s0" ∷ stop_name (size - 2) ∷ []
     bus_items =
         items_back (codes "bus") (codes "s0" ∷ stop_name (size - 2) ∷ []) (omega arith)
         (three_all (list_all is_item_byte (codes "bus")) (list_all is_item_byte (codes "s0")) (list_all is_item_byte (stop_name (size - 2))) refl refl

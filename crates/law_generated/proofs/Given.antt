@@ -1,23 +1,27 @@
 -- What the files of a grid give to the files behind them.
-use Rattle.records.proofs.Common.{◌≡◌, List, ap, ℕ, ◌∙◌, arith, [], ◌++◌, ◌∷◌, refl, ◌≤◌, map, sym, suc, ◌-◌, None, Row, body_of, column, number_of, append-nil}
-use Rattle.std.proofs.Common.{ap₂}
+use Rattle.records.proofs.Common.{◌≡◌, List, ap, ℕ, ◌∙◌, arith, [], ◌++◌, ◌∷◌, refl, ◌≤◌, map, sym, suc, ◌-◌, None, Row, body_of, column}
+use Rattle.records.proofs.Common.{number_of, append-nil, length, length-map}
+use Rattle.std.proofs.Common.{◌*◌, ap₂}
 use Rattle.std.specs.Prelude.{codes}
 use Rattle.std.specs.List.{AllByRecursion as Each, range_with_len}
+use Rattle.std.proofs.lemmas.List.FromFn.{length-range_with_len}
 use Rattle.network.specs.Links.{link_of, links_fault}
+use Rattle.network.specs.Nodes.{node_of}
 use Rattle.plan_text.specs.Lines.{row_line}
 use Rattle.rows.specs.Joined.{ends_of, ends_of_link}
+use Rattle.rows.specs.declared.network.LinkRow.{LinkRow}
 use Rattle.rows.specs.declared.schedule.StopRow.{StopRow}
 use Rattle.schedule.specs.Departures.{departures_fault}
 use Rattle.schedule.specs.Routes.{routes_fault}
 use Rattle.schedule.specs.Stops.{stop_of, stops_fault}
 use Rattle.workload.specs.Links.{grid_links}
-use Rattle.workload.specs.Rows.{link_name, link_row, node_name, stop_name, stop_row}
-use Rattle.workload.specs.Texts.{departures_text, links_text, plans_text, routes_text, stops_text}
+use Rattle.workload.specs.Rows.{link_name, link_row, node_name, node_row, stop_name, stop_row}
+use Rattle.workload.specs.Texts.{departures_text, links_text, nodes_text, plans_text, routes_text, stops_text}
 use Rattle.workload.specs.declared.TheConstants.{DEPARTURES}
 use Rattle.law_generated.specs.Files.{link_ends, links_named, nodes_named, routes_named, stops_named, stops_placed}
 use Rattle.law_generated.proofs.Departures.{departures_pass}
 use Rattle.law_generated.proofs.Grid.{IsLink, each_link}
-use Rattle.law_generated.proofs.Links.{links_file, links_pass, row_link}
+use Rattle.law_generated.proofs.Links.{grid_link, links_file, links_pass, row_link}
 use Rattle.law_generated.proofs.Links as links
 use Rattle.law_generated.proofs.Nodes.{nodes_file, numbers}
 use Rattle.law_generated.proofs.Nodes as nodes
@@ -28,11 +32,11 @@ use Rattle.law_generated.proofs.Stops.{stops_file, stops_pass}
 use Rattle.law_generated.proofs.Stops as stops
 
 module _ (size : ℕ) (some : 3 ≤ size) (few : size ≤ 100) where
-  nodes_are : nodes_named size ≡ map node_name (numbers size)
+  pub nodes_are : nodes_named size ≡ map node_name (numbers size)
   nodes_are =
       ap (column 0) (nodes_file size (omega (arith, some)) few).body ∙ nodes.names_are size (omega (arith, some)) few
 
-  links_are : links_named size ≡ map link_name (grid_links size)
+  pub links_are : links_named size ≡ map link_name (grid_links size)
   links_are = ap (column 0) (links_file size some few).body ∙ links.names_are size some few
 
   ends_of_rows : (xs : List (ℕ × ℕ)) → Each (IsLink size) xs → ends_of (map (link_of (map node_name (numbers size))) (map link_row xs)) ≡ xs
@@ -41,15 +45,31 @@ module _ (size : ℕ) (some : 3 ≤ size) (few : size ≤ 100) where
   ends_of_rows (x ∷ xs) all =
       ap₂ (λ (e : ℕ × ℕ) (l : List (ℕ × ℕ)). e ∷ l) (ap ends_of_link (row_link size some few x all.0)) (ends_of_rows xs all.1)
 
-  ends_are : link_ends size ≡ grid_links size
+  pub ends_are : link_ends size ≡ grid_links size
   ends_are =
       ap₂ (λ (names : List (List ℕ)) (rows : List Row). ends_of (map (link_of names) rows)) nodes_are (links_file size some few).body
       ∙ ends_of_rows (grid_links size) (each_link size (omega (arith, some)))
 
-  stops_are : stops_named size ≡ map stop_name (range_with_len 0 (size - 1))
+  rows_back : (xs : List (ℕ × ℕ)) → Each (IsLink size) xs → map (link_of (map node_name (numbers size))) (map link_row xs) ≡ map grid_link xs
+  rows_back [] all = refl
+  rows_back (x ∷ xs) all = ap₂ (λ (l : LinkRow) (ls : List LinkRow). l ∷ ls) (row_link size some few x all.0) (rows_back xs all.1)
+
+  -- what links.csv gives
+  pub link_rows_are : map (link_of (nodes_named size)) (body_of (links_text size)) ≡ map grid_link (grid_links size)
+  link_rows_are =
+      ap₂ (λ (names : List (List ℕ)) (rows : List Row). map (link_of names) rows) nodes_are (links_file size some few).body
+      ∙ rows_back (grid_links size) (each_link size (omega (arith, some)))
+
+  -- there are as many nodes as rows of nodes.csv
+  pub node_count : length (map node_of (body_of (nodes_text size))) ≡ size * size
+  node_count =
+      ap (λ (rows : List Row). length (map node_of rows)) (nodes_file size (omega (arith, some)) few).body
+      ∙ length-map (map (node_row size) (numbers size)) node_of ∙ length-map (numbers size) (node_row size) ∙ length-range_with_len 0 (size * size)
+
+  pub stops_are : stops_named size ≡ map stop_name (range_with_len 0 (size - 1))
   stops_are = ap (column 0) (stops_file size some few).body ∙ stops.names_are size some few
 
-  placed_are : stops_placed size ≡ map (stop_of (map link_name (grid_links size))) (map stop_row (range_with_len 0 (size - 1)))
+  pub placed_are : stops_placed size ≡ map (stop_of (map link_name (grid_links size))) (map stop_row (range_with_len 0 (size - 1)))
   placed_are = ap₂ (λ (names : List (List ℕ)) (rows : List Row). map (stop_of names) rows) links_are (stops_file size some few).body
 
   -- links.csv has no fault
@@ -68,17 +88,21 @@ module _ (size : ℕ) (some : 3 ≤ size) (few : size ≤ 100) where
       stops_are placed_are
       ∙ routes_pass size some few
 
-  -- its one route is called `east`
-  routes_are : routes_named size ≡ codes "east" ∷ []
+  -- its one row
+  pub route_row_is : body_of (routes_text size) ≡ line_row (suc (size - 2)) ∷ []
   unfolding routes_text row_line
-  routes_are =
+  route_row_is =
       let n = size - 2 in
       let count : size - 1 ≡ suc n = omega (arith, some) in
-      ap (λ (bytes : List ℕ). column 1 (body_of bytes))
+      ap body_of
       (ap (λ (m : ℕ). codes "line,route,links,stops\n" ++ row_line (line_row m)) count
       ∙ ap (λ (t : List ℕ). codes "line,route,links,stops\n" ++ t) (sym (append-nil (row_line (line_row (suc n))))))
-      ∙ ap (column 1) (line_file n (place_of size some few) (map link_name (grid_links size)) (grid_links size) (map stop_name (range_with_len 0 (size - 1)))
+      ∙ (line_file n (place_of size some few) (map link_name (grid_links size)) (grid_links size) (map stop_name (range_with_len 0 (size - 1)))
       (map (stop_of (map link_name (grid_links size))) (map stop_row (range_with_len 0 (size - 1)))) (grid_line size some few n count)).body
+
+  -- its one route is called `east`
+  routes_are : routes_named size ≡ codes "east" ∷ []
+  routes_are = ap (column 1) route_row_is
 
   -- nor has departures.csv a fault
   pub departures_valid : departures_fault (routes_named size) (departures_text DEPARTURES) ≡ None

@@ -1,5 +1,6 @@
 -- The nodes and the links of a grid. Node q * size + r is that of row q and column r.
-use Rattle.std.proofs.Common.{◌≡◌, ◌≢◌, ◌⊎◌, ◌<◌, ◌≤◌, ◌+◌, ◌-◌, ◌*◌, ◌/◌, ◌%◌, ℕ, zero, suc, arith, ap, refl, inl, inr, Bool, true, false, List, [], ◌∷◌, ◌++◌, length, length-append}
+use Rattle.std.proofs.Common.{◌≡◌, ◌≢◌, ◌⊎◌, ◌<◌, ◌≤◌, ◌+◌, ◌-◌, ◌*◌, ◌/◌, ◌%◌, ℕ, zero, suc, arith, ap, refl, inl, inr, Bool, true}
+use Rattle.std.proofs.Common.{false, List, [], ◌∷◌, ◌++◌, length, length-append}
 use Rattle.std.specs.Prelude.{nat_eq, nat_lt, if◌then◌else◌}
 use Rattle.std.specs.List.{AllByRecursion as Each, flat_map, range_with_len}
 use Rattle.std.proofs.lemmas.Bool.{cases_eq}
@@ -30,12 +31,12 @@ module _ (size : ℕ) (some : 2 ≤ size) (node : ℕ) (less : node < size * siz
   split = div-add-mod' node size
 
   -- the nodes beside a node, as far as they are there
-  right_there : node % size + 1 < size → node + 1 < size * size
+  pub right_there : node % size + 1 < size → node + 1 < size * size
   right_there within =
       let row = mul-le (node / size + 1) size size size (omega (arith, div_below node size size positive less)) (omega arith) in
       omega (arith, row, split, within)
 
-  down_there : node / size + 1 < size → node + size < size * size
+  pub down_there : node / size + 1 < size → node + size < size * size
   down_there within =
       let row = mul-le (node / size + 2) size size size (omega (arith, within)) (omega arith) in
       omega (arith, row, split, mod_below node size positive)
@@ -78,7 +79,7 @@ pub each_append : {A : Type 0} (P : A → Type 0) (xs ys : List A) → Each P xs
 each_append P [] ys first second = second
 each_append P (x ∷ xs) ys first second = (first.0, each_append P xs ys first.1 second)
 
-each_weaker : {A : Type 0} (P Q : A → Type 0) → ((x : A) → P x → Q x) → (xs : List A) → Each P xs → Each Q xs
+pub each_weaker : {A : Type 0} (P Q : A → Type 0) → ((x : A) → P x → Q x) → (xs : List A) → Each P xs → Each Q xs
 each_weaker P Q weaker [] all = tt
 each_weaker P Q weaker (x ∷ xs) all = (weaker x all.0, each_weaker P Q weaker xs all.1)
 

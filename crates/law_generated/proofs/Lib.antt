@@ -16,3 +16,8 @@ pub mod Elements
 pub mod Travellers
 pub mod Commuting
 pub mod Plans
+pub mod Ways
+pub mod Steps
+pub mod CarRoutes
+pub mod Legs
+pub mod Whole

@@ -1,11 +1,11 @@
 -- plans.csv of a grid.
-use Rattle.records.proofs.Common.{◌≡◌, List, ap, ℕ, length, ◌∙◌, arith, [], ◌<◌, None, Some, ◌++◌, ◌∷◌, refl, true, Bool, ◌+◌, false, ◌≤◌, ◌^◌, ◌&&◌, map, sym, subst, list_all, list_all-append, flat_map, Row, Reason, Option, decimal, body_of, head_reason, is_name, append_assoc, length-append, suc, zero, ◌-◌, nat_le, nat_tests}
+use Rattle.records.proofs.Common.{◌≡◌, List, ap, ℕ, length, ◌∙◌, arith, [], ◌<◌, None, Some, ◌++◌, ◌∷◌, refl, true, Bool, ◌+◌, ◌≤◌, ◌^◌}
+use Rattle.records.proofs.Common.{◌&&◌, map, sym, subst, list_all, list_all-append, flat_map, Row, decimal, head_reason, is_name}
+use Rattle.records.proofs.Common.{length-append, suc, zero, ◌-◌, nat_le, nat_tests}
 use Rattle.std.proofs.Common.{◌*◌}
-use Rattle.std.specs.Prelude.{codes}
-use Rattle.std.specs.List.{AllByRecursion as Each, range_with_len}
+use Rattle.std.specs.Prelude.{codes, get_or}
+use Rattle.std.specs.List.{range_with_len}
 use Rattle.std.proofs.lemmas.List.Concat.{flat_map-append}
-use Rattle.std.proofs.lemmas.Nat.{mul-le}
-use Rattle.limits.specs.declared.TheConstants.{LAST_SECOND}
 use Rattle.plan_text.specs.Lines.{row_line}
 use Rattle.plan_text.proofs.Joins.{and_true}
 use Rattle.plans.specs.Kinds.{plans_header}
@@ -14,8 +14,8 @@ use Rattle.records.specs.Fields.{are_fields, is_header}
 use Rattle.workload.specs.Commuters.{commuter}
 use Rattle.workload.specs.Links.{grid_links}
 use Rattle.workload.specs.Rows.{act_row, leg_row, link_name, person_name, person_rows, stop_name, way_back, way_there}
-use Rattle.workload.specs.Texts.{person_lines, plans_text}
-use Rattle.workload.specs.declared.TheConstants.{FIRST_LEAVING, LEAVING_SPAN, PERSONS_PER_NODE, WALK_SECONDS, WORK_SECONDS}
+use Rattle.workload.specs.Texts.{plans_text}
+use Rattle.workload.specs.declared.TheConstants.{PERSONS_PER_NODE, WALK_SECONDS, WORK_SECONDS}
 use Rattle.workload.specs.declared.commuters.Commute.{Commute}
 use Rattle.workload.specs.declared.commuters.Commute.TheVariants as commute
 use Rattle.workload.specs.declared.commuters.Commuter.{Commuter}
@@ -26,7 +26,7 @@ use Rattle.law_generated.proofs.Lines.{is_plain, is_row, is_short, is_short_row}
 use Rattle.law_generated.proofs.Links.{link_named}
 use Rattle.law_generated.proofs.Stops.{stop_named}
 use Rattle.law_generated.proofs.Tables.{IsFile, head_passes, lines_are_file, no_fault}
-use Rattle.law_generated.proofs.Travellers.{no_row_refused, long}
+use Rattle.law_generated.proofs.Travellers.{no_row_refused, long, row_at}
 
 header_named : is_header plans_header plans_header ≡ true
 unfolding are_fields
@@ -128,13 +128,13 @@ module _ (size seed : ℕ) (some : 3 ≤ size) (few : size ≤ 100) where
   abbrev count : ℕ
   count = PERSONS_PER_NODE * size * size
 
-  few_persons : PERSONS_PER_NODE * size * size ≤ 50000
+  pub few_persons : PERSONS_PER_NODE * size * size ≤ 50000
   few_persons = omega (arith, square_small size few)
 
   some_persons : 5 ≤ PERSONS_PER_NODE * size * size
   some_persons = omega (arith, square_some size (omega (arith, some)))
 
-  abbrev block : ℕ → List Row
+  abbrev pub block : ℕ → List Row
   block person = person_rows size person (commuter size (grid_links size) seed person)
 
   bus_name : is_name (stop_name (size - 2)) ≡ true
@@ -167,12 +167,12 @@ module _ (size seed : ℕ) (some : 3 ≤ size) (few : size ≤ 100) where
   tells_apart i j p q same = number_of_name 112 i j (omega (arith, p, few_persons)) (omega (arith, q, few_persons)) same
 
   module _ (ends : List (ℕ × ℕ)) where
-    row_count : length (flat_map block (range_with_len 0 (PERSONS_PER_NODE * size * size))) ≡ 5 * (PERSONS_PER_NODE * size * size)
+    pub row_count : length (flat_map block (range_with_len 0 (PERSONS_PER_NODE * size * size))) ≡ 5 * (PERSONS_PER_NODE * size * size)
     row_count =
         long (map link_name (grid_links size)) ends person_name block (PERSONS_PER_NODE * size * size) (omega (arith, few_persons))
         (λ i less. travel size some few i (omega (arith, less, few_persons)) ends (commuter size (grid_links size) seed i) (commutes size some few seed i)) tells_apart
 
-    plans_file : IsFile plans_header (flat_map block (range_with_len 0 (PERSONS_PER_NODE * size * size))) (plans_text size seed)
+    pub plans_file : IsFile plans_header (flat_map block (range_with_len 0 (PERSONS_PER_NODE * size * size))) (plans_text size seed)
     unfolding plans_text row_line
     plans_file =
         subst (IsFile plans_header (flat_map block (range_with_len 0 (PERSONS_PER_NODE * size * size))))
@@ -182,6 +182,13 @@ module _ (size seed : ℕ) (some : 3 ≤ size) (few : size ≤ 100) where
         (all_blocks is_row block (PERSONS_PER_NODE * size * size) blocks_plain 0 (PERSONS_PER_NODE * size * size) (omega arith))
         (all_blocks is_short_row block (PERSONS_PER_NODE * size * size) blocks_short 0 (PERSONS_PER_NODE * size * size) (omega arith))
         (omega (arith, row_count, few_persons)))
+
+    -- a row of a person
+    pub row_of_person : (i j : ℕ) → i < PERSONS_PER_NODE * size * size → j < 5
+        → get_or (flat_map block (range_with_len 0 (PERSONS_PER_NODE * size * size))) (5 * i + j) [] ≡ get_or (block i) j []
+    row_of_person =
+        row_at (map link_name (grid_links size)) ends person_name block (PERSONS_PER_NODE * size * size) (omega (arith, few_persons))
+        (λ i less. travel size some few i (omega (arith, less, few_persons)) ends (commuter size (grid_links size) seed i) (commutes size some few seed i)) tells_apart
 
     -- plans.csv has no fault by itself
     pub plans_pass : plans_fault (map link_name (grid_links size)) ends (plans_text size seed) ≡ None

@@ -1,10 +1,14 @@
 -- routes.csv of a grid: its one row.
-use Rattle.records.proofs.Common.{◌≡◌, List, ap, ℕ, length, ◌∙◌, arith, [], ◌<◌, None, Some, ◌++◌, ◌∷◌, refl, true, Bool, ◌+◌, false, ◌≤◌, ◌&&◌, ◌||◌, not, map, sym, suc, zero, ◌-◌, cond}
-use Rattle.records.proofs.Common.{list_all-append, nat_tests, list_all, flat_map, Row, column, field, get_or-map, length-map, is_some, is_none, nat_le, nat_lt, nat_eq, Option, body_fault, append-nil, take}
-use Rattle.records.proofs.Common.{is_name, number_of, numbers_of, with_number, join_with_byte, parts_of, append_assoc, length-append, unwrap_or, decimal}
-use Rattle.std.proofs.Common.{◌*◌, ap₂}
+use Rattle.records.proofs.Common.{◌≡◌, List, ap, ℕ, length, ◌∙◌, arith, [], ◌<◌, None, Some, ◌++◌, ◌∷◌, refl, true, Bool, ◌+◌, false, ◌≤◌}
+use Rattle.records.proofs.Common.{◌&&◌, ◌||◌, not, map, sym, suc, zero, ◌-◌, cond, inl, inr}
+use Rattle.records.proofs.Common.{list_all-append, nat_tests, list_all, flat_map, Row, column, field, get_or-map, length-map, is_some}
+use Rattle.records.proofs.Common.{is_none, nat_le, nat_lt, nat_eq, Option, body_fault, append-nil, take}
+use Rattle.records.proofs.Common.{is_name, number_of, numbers_of, with_number, join_with_byte, parts_of, append_assoc, length-append}
+use Rattle.records.proofs.Common.{unwrap_or, decimal}
+use Rattle.std.proofs.Common.{◌*◌, ◌⊎◌, ap₂}
 use Rattle.std.specs.Prelude.{codes, get_or, if◌then◌else◌, position}
 use Rattle.std.specs.List.{position_or_len, range_with_len}
+use Rattle.std.proofs.lemmas.Bool.{cases_eq}
 use Rattle.std.proofs.lemmas.List.FromFn.{get_or-map-range_with_len, length-range_with_len}
 use Rattle.edge_files.specs.declared.reasons.Reason.TheVariants as reason
 use Rattle.events.specs.Names.{is_name_byte}
@@ -20,12 +24,15 @@ use Rattle.records.specs.Files.{optional_head_reason}
 use Rattle.records.specs.Lists.{are_names, items_in}
 use Rattle.records.specs.Numbers.{is_digit}
 use Rattle.rows.specs.Joined.{is_joined}
+use Rattle.rows.specs.Stops.{calls_at}
 use Rattle.rows.specs.Schedules.{are_served, is_unserved, is_way, served_from}
 use Rattle.rows.specs.declared.schedule.StopRow.{StopRow}
 use Rattle.schedule.specs.Calls.{call_of, call_text, is_call, text_of}
-use Rattle.schedule.specs.Routes.{has_bad_name, has_bad_offset, is_too_much, lacks_stop, lines_of, parts_reason, route_header, route_of, route_reason, routes_fault}
+use Rattle.schedule.specs.Routes.{has_bad_name, has_bad_offset, is_too_much, lacks_stop, lines_of, parts_reason, route_header, route_of}
+use Rattle.schedule.specs.Routes.{route_reason, routes_fault}
 use Rattle.schedule.specs.Stops.{stop_of}
 use Rattle.schedule.specs.declared.calls.CallText.{CallText}
+use Rattle.town.specs.Fits.{are_joining}
 use Rattle.workload.specs.Links.{grid_links}
 use Rattle.workload.specs.Rows.{link_name, stop_name, stop_row}
 use Rattle.workload.specs.Rows as rows
@@ -211,6 +218,29 @@ module _ (n : ℕ) (number : ℕ → ℕ) (links : List (List ℕ)) (ends : List
       sym (is.joins a (omega (arith, less))) ∙ ap (λ (k : ℕ). get_or ends k (0, 0)) same ∙ is.joins (a + 1) less in
       let first : a ≡ a + 1 = ap (λ (p : ℕ × ℕ). p.0) ends_same in
       omega (arith, first)
+
+  -- the calls of its text
+  pub row_calls : map (call_of places) (map (call_text stops) (items_in (join_with_byte 32 call_items))) ≡ map call (range_with_len 0 (suc n))
+  row_calls = ap (map (call_of places)) (ap (map (call_text stops)) calls_read ∙ texts_read) ∙ calls_made
+
+  either_way : (a b : Bool) → (a ≡ true) ⊎ (b ≡ true) → (a || b) ≡ true
+  either_way a b h = grind arith
+
+  -- one of the calls is at the last stop
+  called : (m a : ℕ) → a ≤ n → n < a + m → calls_at n (map call (range_with_len a m)) ≡ true
+  called zero a least less = absurd (omega (arith, least, less))
+  called (suc m) a least less =
+      either_way (nat_eq a n) (calls_at n (map call (range_with_len (a + 1) m))) (elim (cases_eq a n) [
+        | inl here ↦ inl (ap (nat_eq a) (sym here) ∙ same_number a)
+        | inr later ↦ inr (called m (a + 1) (omega (arith, least, later)) (omega (arith, less)))
+      ])
+
+  -- the line goes from the first stop to the last one
+  pub calls_join : 1 ≤ n → are_joining 0 n (map call (range_with_len 0 (suc n))) ≡ true
+  unfolding are_joining
+  calls_join some =
+      either_way (nat_eq 0 0 && calls_at n (map call (range_with_len 1 n))) (are_joining 0 n (map call (range_with_len 1 n)))
+      (inl (called n 1 some (omega arith)))
 
   served : (m a : ℕ) → a + suc m ≤ suc n → are_served (map call (range_with_len (a + 1) m)) (map number (range_with_len a (suc m))) ≡ true
   unfolding are_served

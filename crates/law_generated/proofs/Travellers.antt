@@ -1,15 +1,15 @@
 -- plans.csv of persons who each have five rows: an activity, a leg, an activity, a leg and an activity.
-use Rattle.records.proofs.Common.{◌≡◌, List, ap, ℕ, length, ◌∙◌, arith, [], ◌<◌, None, Some, ◌++◌, ◌∷◌, refl, true, Bool, ◌+◌, false, ◌≤◌, ◌&&◌, ◌||◌, not, sym, subst, suc, zero, take, drop, map, nat_tests}
-use Rattle.records.proofs.Common.{Row, Reason, field, is_some, is_none, is_name, number_of, is_held, with_name, flat_map, length-append, length-map, bytes_eq, fold, cond, Option}
-use Rattle.std.proofs.Common.{◌*◌, ◌/◌, ◌%◌, add-one, inl, inr}
+use Rattle.records.proofs.Common.{◌≡◌, List, ap, ℕ, length, ◌∙◌, arith, [], ◌<◌, None, Some, ◌++◌, ◌∷◌, refl, true, Bool, ◌+◌, false, ◌≤◌}
+use Rattle.records.proofs.Common.{◌&&◌, ◌||◌, not, sym, subst, suc, zero, take, drop, map}
+use Rattle.records.proofs.Common.{Row, field, is_none, is_name, number_of, is_held, with_name, flat_map, length-append, length-map}
+use Rattle.records.proofs.Common.{bytes_eq, Option}
+use Rattle.std.proofs.Common.{◌*◌, ◌/◌, ◌%◌}
 use Rattle.std.specs.Prelude.{get_or, if◌then◌else◌}
-use Rattle.std.specs.List.{AllByRecursion as Each, range_with_len}
-use Rattle.std.proofs.lemmas.Bool.{cases_eq}
+use Rattle.std.specs.List.{range_with_len}
 use Rattle.std.proofs.lemmas.List.FromFn.{length-range_with_len, map-range_with_len_more}
 use Rattle.events.proofs.NameLists.{number_of-absent}
 use Rattle.events.specs.declared.event.Mode.{Mode}
 use Rattle.limits.specs.declared.TheConstants.{MAX_LEGS, MAX_PERSONS}
-use Rattle.plans.specs.declared.kinds.ElementKind.{ElementKind}
 use Rattle.plans.specs.declared.kinds.ElementKind.TheVariants as element
 use Rattle.plans.specs.Kinds.{end_in, is_leg, kind_of}
 use Rattle.plans.specs.Refusals.{begins_plan, row_reason, same_person, same_plan}
@@ -18,7 +18,7 @@ use Rattle.plans.proofs.Naming.{named_more, named_none}
 use Rattle.plans.proofs.RowRead.{before_more}
 use Rattle.records.proofs.Columns.{with_fresh}
 use Rattle.law_generated.proofs.Names.{differ, held_later, same}
-use Rattle.law_generated.proofs.Elements.{IsInOrder, IsOwn, IsSound, act_order, first_order, leg_order, next_order, row_passes, two_persons}
+use Rattle.law_generated.proofs.Elements.{IsOwn, IsSound, act_order, first_order, leg_order, next_order, row_passes, two_persons}
 
 -- the five rows of a person
 pub record IsTravel (links : List (List ℕ)) (ends : List (ℕ × ℕ)) (me : List ℕ) (rows : List Row) : Type 0 where
@@ -94,7 +94,7 @@ module _ (links : List (List ℕ)) (ends : List (ℕ × ℕ)) (me : ℕ → List
       ∙ at_from (a + 1) n k j (omega (arith, within)) (omega (arith, less)) small
       ∙ ap (λ (i : ℕ). get_or (block i) j []) next
 
-  row_at : (i j : ℕ) → i < count → j < 5 → get_or (flat_map block (range_with_len 0 count)) (5 * i + j) [] ≡ get_or (block i) j []
+  pub row_at : (i j : ℕ) → i < count → j < 5 → get_or (flat_map block (range_with_len 0 count)) (5 * i + j) [] ≡ get_or (block i) j []
   row_at i j less small =
       let first : 0 + i ≡ i = omega arith in
       at_from 0 count i j (omega arith) less small ∙ ap (λ (k : ℕ). get_or (block k) j []) first

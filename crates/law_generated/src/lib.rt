@@ -1,11 +1,12 @@
-//! Laws of generated grids: of each size, each seed and each number of a last iteration that `workload` takes, these files have no fault,
-//! each by what the files before it give. Of plans.csv nothing is said here.
+//! Laws of generated grids: of each size, each seed and each number of a last iteration that `workload` takes, the files are a valid
+//! scenario. None has a fault by itself, by what the files before it give; and together they have none, so that each car leg has a route.
 #![tactic(auto)]
 
 ghost use Rattle.std.specs.Prelude.{◌≡◌, ◌<◌, ◌^◌, ℕ, List, [], None};
 ghost use Rattle.network.specs.Links.{links_fault};
 ghost use Rattle.network.specs.Nodes.{nodes_fault};
 ghost use Rattle.plans.specs.Values.{plans_fault};
+ghost use Rattle.scenario.specs.FilesToScenario.{scenario_fault};
 ghost use Rattle.schedule.specs.Departures.{departures_fault};
 ghost use Rattle.schedule.specs.Routes.{routes_fault};
 ghost use Rattle.schedule.specs.Stops.{stops_fault};
@@ -14,7 +15,7 @@ ghost use Rattle.signals.specs.Signals.{signals_fault};
 ghost use Rattle.workload.specs.Grids.{IsGrid};
 ghost use Rattle.workload.specs.Texts.{departures_text, links_text, nodes_text, plans_text, routes_text, settings_text, stops_text};
 ghost use Rattle.workload.specs.declared.TheConstants.{DEPARTURES};
-ghost use Rattle.law_generated.specs.Files.{link_ends, links_named, nodes_named, routes_named, stops_named, stops_placed};
+ghost use Rattle.law_generated.specs.Files.{grid_texts, link_ends, links_named, nodes_named, routes_named, stops_named, stops_placed};
 
 /// The nodes and the links of a grid have no fault.
 pub fn networks_are_valid()
@@ -41,4 +42,11 @@ pub fn settings_are_valid()
 pub fn plans_are_valid()
     ensures { (size seed last : ℕ) → IsGrid size last
         → plans_fault (links_named size) (link_ends size) (plans_text size seed) ≡ None }
+{}
+
+/// The files of a grid, all together, have no fault: besides, the legs of its plans fit its schedule, there is a route of at most 1,000
+/// links for each of its car legs, and no signals are in conflict.
+pub fn scenarios_are_valid()
+    ensures { (size seed last : ℕ) → IsGrid size last → seed < 2 ^ 64
+        → scenario_fault (grid_texts size seed last) ≡ None }
 {}

@@ -3,3 +3,5 @@ mod NetworkRows
 mod Numbers
 mod Persons
 pub mod Valid
+mod RowNames
+pub mod Books

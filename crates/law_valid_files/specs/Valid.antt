@@ -4,7 +4,8 @@ use Rattle.learning.specs.declared.TheConstants.{LAST_ITERATION}
 use Rattle.learning.specs.Ranges.{AreInRange}
 use Rattle.limits.specs.declared.TheConstants.{MAX_PLANS}
 use Rattle.plan_memory.specs.Memories.{MemoryRows, first_memory}
-use Rattle.town.specs.Rows.{IsTown}
+use Rattle.plan_text.specs.Lines.{IsBook}
+use Rattle.town.specs.Rows.{TownRows, IsTown}
 use Rattle.law_replanning.specs.Memories.{IsMemoryIn}
 use Rattle.scenario.specs.FilesToScenario.{ScenarioRows}
 
@@ -23,3 +24,9 @@ pub record IsScenario (S : ScenarioRows) : Type 0 where
   pub first : All IsFirst S.memories
   pub learning : AreInRange S.learning
   pub few_iterations : S.last_iteration ≤ LAST_ITERATION
+
+-- the book of the town has names alone, of which none comes twice, one for each link and one for each stop
+pub record IsNamed (T : TownRows) : Type 0 where
+  pub book : IsBook T.book
+  pub each_link : length T.book.links ≡ length T.links
+  pub each_stop : length T.book.stops ≡ length T.stops

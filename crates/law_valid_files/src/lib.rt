@@ -5,12 +5,14 @@
 ghost use Rattle.std.specs.Prelude.{◌≡◌, None, All};
 ghost use Rattle.scenario.specs.Texts.{Texts};
 ghost use Rattle.scenario.specs.FilesToScenario.{scenario_fault, scenario_rows, conflicts_in};
-ghost use Rattle.law_valid_files.specs.Valid.{IsScenario};
+ghost use Rattle.law_valid_files.specs.Valid.{IsScenario, IsNamed};
 ghost use Rattle.signals.specs.Signals.{AreNeverGreen};
 
-/// Files without a fault give a scenario of which a run can be made, whatever its settings of replanning are.
+/// Files without a fault give a scenario of which a run can be made, whatever its settings of replanning are, with a name for all that
+/// events tell of.
 pub fn files_give_scenarios()
-    ensures { (texts : Texts) → scenario_fault texts ≡ None → IsScenario (scenario_rows texts) }
+    ensures scenario { (texts : Texts) → scenario_fault texts ≡ None → IsScenario (scenario_rows texts) }
+    ensures named { (texts : Texts) → scenario_fault texts ≡ None → IsNamed (scenario_rows texts).town }
 {}
 
 /// The two links of a conflict in files without a fault are never green in one second, also after the end of the day.

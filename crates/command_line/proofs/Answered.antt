@@ -11,13 +11,14 @@ use Rattle.command_line.specs.Cases.{Work, kind_case, kinds_case, simple_case}
 use Rattle.command_line.specs.Commands.{simple_command, command_with}
 use Rattle.command_line.specs.declared.commands.Command.{Command}
 use Rattle.command_line.specs.declared.commands.CommandName.{CommandName}
-use Rattle.command_line.specs.declared.commands.CommandName.TheVariants.{Run, Check, Route, Generate}
+use Rattle.command_line.specs.declared.commands.CommandName.TheVariants.{Run, Resume, Check, Route, Generate}
 use Rattle.command_line.proofs.OneKind.{Few, one_kind}
 
 -- clap tells exactly which words it takes
 is_plain : (name : CommandName) → is_simple_and_free (simple_command name) ≡ true
 unfolding clap_on_literals
 is_plain Run = refl
+is_plain Resume = refl
 is_plain Check = refl
 is_plain Route = refl
 is_plain Generate = refl
@@ -26,6 +27,7 @@ is_plain Generate = refl
 is_single : (name : CommandName) → is_simple (simple_command name) ≡ true
 unfolding clap_on_literals
 is_single Run = refl
+is_single Resume = refl
 is_single Check = refl
 is_single Route = refl
 is_single Generate = refl
@@ -33,6 +35,7 @@ is_single Generate = refl
 -- it answers the words of a command by one kind at most
 few_kinds : (name : CommandName) (words : List (List ℕ)) → Few (fault_of (simple_command name) words)
 few_kinds Run words = one_kind _ _ _ refl (refl, refl)
+few_kinds Resume words = one_kind _ _ _ refl (refl, refl)
 few_kinds Check words = one_kind _ _ _ refl (refl, refl)
 few_kinds Route words = one_kind _ _ _ refl (refl, refl)
 few_kinds Generate words = one_kind _ _ _ refl (refl, refl)

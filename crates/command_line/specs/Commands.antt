@@ -13,15 +13,16 @@ use Rattle.command_line.specs.declared.TheConstants.{DEFAULT_LAST_ITERATION}
 use Rattle.command_line.specs.declared.commands.Command.{Command}
 use Rattle.command_line.specs.declared.commands.Command.TheVariants as command
 use Rattle.command_line.specs.declared.commands.CommandName.{CommandName}
-use Rattle.command_line.specs.declared.commands.CommandName.TheVariants.{Run, Check, Route, Generate}
+use Rattle.command_line.specs.declared.commands.CommandName.TheVariants.{Run, Resume, Check, Route, Generate}
 
 -- the command that a word names
 unfoldable pub command_named : List ℕ → Option CommandName
 command_named word =
     if bytes_eq word (codes "run") then Some Run
+    else (if bytes_eq word (codes "resume") then Some Resume
     else (if bytes_eq word (codes "check") then Some Check
     else (if bytes_eq word (codes "route") then Some Route
-    else (if bytes_eq word (codes "generate") then Some Generate else None)))
+    else (if bytes_eq word (codes "generate") then Some Generate else None))))
 
 -- a position that must be given
 abbrev pub position : List ℕ → Rule
@@ -51,6 +52,7 @@ iteration_option id =
 -- what clap reads behind a command's name: its positions and options, but no subcommand and no version flag
 abbrev pub simple_command : CommandName → App
 simple_command Run = new_app (codes "run")
+simple_command Resume = new_app (codes "resume")
 simple_command Check = new_app (codes "check")
 simple_command Route = with_rule (with_rule (with_rule (new_app (codes "route")) (position (codes "FROM"))) (position (codes "TO")))
     (second_position (codes "SECOND"))
@@ -76,6 +78,7 @@ number_or id default rows = option_map_or number_of (one_of id rows) default
 -- a command with what was given for its positions and options
 abbrev pub command_with : CommandName → List Row → Command
 command_with Run rows = command.Run
+command_with Resume rows = command.Resume
 command_with Check rows = command.Check
 command_with Route rows = command.Route (text_in (codes "FROM") rows) (text_in (codes "TO") rows) (number_in (codes "SECOND") rows)
 command_with Generate rows = command.Generate (number_in (codes "SIZE") rows) (number_in (codes "SEED") rows)
@@ -84,6 +87,7 @@ command_with Generate rows = command.Generate (number_in (codes "SIZE") rows) (n
 -- the numbers of a command are within their bounds
 abbrev pub IsInRange : Command → Type 0
 IsInRange command.Run = ⊤
+IsInRange command.Resume = ⊤
 IsInRange command.Check = ⊤
 IsInRange (command.Route from to second) = second ≤ LAST_SECOND
 IsInRange (command.Generate size seed last_iteration) = IsGrid size last_iteration

@@ -18,6 +18,7 @@ use workload::{LEAST_SIZE, MOST_SIZE};
 #[derive(Clone, Copy, Debug, PartialEq, Eq)]
 pub enum CommandName {
     Run,
+    Resume,
     Check,
     Route,
     Generate,
@@ -26,8 +27,10 @@ pub enum CommandName {
 /// A command of the program, with what it is to work on.
 #[derive(Drop)]
 pub enum Command {
-    /// Simulates the day.
+    /// Simulates the days, and keeps what the persons remember after each.
     Run,
+    /// Goes on with a run, behind the last iteration after which anything was kept.
+    Resume,
     /// Reads the files, and reports their counts or their first fault.
     Check,
     /// Reports the route of least arrival between two nodes, by their names, that is left in a second of at most
@@ -53,6 +56,8 @@ pub fn command_named(word: &str) -> Option<CommandName>
 {
     if word == "run" {
         Some(CommandName::Run)
+    } else if word == "resume" {
+        Some(CommandName::Resume)
     } else if word == "check" {
         Some(CommandName::Check)
     } else if word == "route" {
@@ -70,9 +75,24 @@ fn run_command<'a>(alloc: Global) -> clap::Command<'a>
 {
     clap::Command::new(alloc, "run")
         .override_usage("qsim run")
-        .about("Simulates the day of the files in the current folder.")
+        .about("Simulates the days of the files in the current folder.")
         .after_help(
-            "Writes events.csv, scores.csv and plans_out.csv; the report goes to standard output.",
+            "Writes events.csv, scores.csv and plans_out.csv; the report goes to standard output. What persons remember after each \
+             iteration is kept in kept.db.",
+        )
+}
+
+/// `qsim resume`.
+fn resume_command<'a>(alloc: Global) -> clap::Command<'a>
+    ensures { app_of result ≡ simple_command CommandName.Resume }
+{
+    clap::Command::new(alloc, "resume")
+        .override_usage("qsim resume")
+        .about(
+            "Goes on with a run of the files in the current folder, behind the last iteration that kept.db holds.",
+        )
+        .after_help(
+            "Writes events.csv, scores.csv and plans_out.csv of the iterations behind that one; the report goes to standard output.",
         )
 }
 
@@ -203,6 +223,7 @@ pub fn simple_command<'a>(alloc: Global, name: CommandName) -> Result<clap::Comm
 {
     match name {
         CommandName::Run => Ok(run_command(alloc)),
+        CommandName::Resume => Ok(resume_command(alloc)),
         CommandName::Check => Ok(check_command(alloc)),
         CommandName::Route => {
             let command = route_command(alloc)?;

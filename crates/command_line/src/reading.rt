@@ -100,6 +100,7 @@ fn read_simple(alloc: Global, name: CommandName, words: &[&str]) -> Result<Asked
 {
     match name {
         CommandName::Run => read_plain(alloc, name, Command::Run, words),
+        CommandName::Resume => read_plain(alloc, name, Command::Resume, words),
         CommandName::Check => read_plain(alloc, name, Command::Check, words),
         CommandName::Route => read_route(alloc, words),
         CommandName::Generate => read_generate(alloc, words),

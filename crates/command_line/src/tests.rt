@@ -63,6 +63,7 @@ fn other_words_are_refused(rt: HostRuntime) -> Result<(), Fail> {
         (["qsim", "run", "--version"].as_slice(), "'--version'"),
         (["qsim", "run", "-V"].as_slice(), "'-V'"),
         (["qsim", "check", "run"].as_slice(), "Usage: qsim check\n"),
+        (["qsim", "resume", "4"].as_slice(), "Usage: qsim resume\n"),
         (["qsim", "route", "a", "b"].as_slice(), "SECOND"),
         (["qsim", "route", "a", "b", "172801"].as_slice(), "172801"),
         (["qsim", "route", "-a", "b", "0"].as_slice(), "'-a'"),

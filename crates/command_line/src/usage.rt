@@ -5,12 +5,14 @@ use std::alloc::{AllocError, Global};
 pub const USAGE: &str = "qsim simulates days of traffic of the files in the current folder.
 
 Usage: qsim run                     simulates the days and scores them; writes events.csv, scores.csv, plans_out.csv and a report
+       qsim resume                  goes on with a run, behind the last iteration that kept.db holds; writes what run writes of the rest
        qsim check                   reads the files; reports their counts or their first fault
        qsim route FROM TO SECOND    reports the route of least arrival from a node to another, left in a second, at free speed
        qsim generate SIZE SEED [--last-iteration N]
                                     does what run does, with a generated town of SIZE times SIZE nodes; reads no file
 
 Reads: settings.json nodes.csv links.csv plans.csv stops.csv routes.csv departures.csv signals.csv
+Keeps: what persons remember after each iteration of run and resume, in kept.db
 The report goes to standard output. 'qsim COMMAND --help' tells more of a command.
 ";
 

@@ -6,7 +6,9 @@ pub mod Named
 pub mod ScoredDays
 pub mod Places
 pub mod PlanLines
-pub mod Tails
 pub mod Staying
+pub mod ReadBack
+pub mod Tails
 pub mod Basing
+pub mod OneDay
 pub mod Looping

@@ -1,16 +1,16 @@
 -- Plans that fit a town have their numbers in its book.
-use Rattle.traffic.proofs.Common.{◌≡◌, ℕ, List, length, refl, [], ◌∷◌, true, subst, sym, and_parts, list_all, nat_lt, nat_le, ◌&&◌, PlanRows, Act, Leg}
+use Rattle.std.proofs.lemmas.Bool.{and_from}
+use Rattle.traffic.proofs.Common.{◌≡◌, ℕ, List, length, refl, [], ◌∷◌, true, subst, sym, and_parts, list_all, nat_lt, ◌&&◌, PlanRows, Act, Leg}
 use Rattle.rows.specs.declared.plan.Leg.TheVariants as leg
 use Rattle.plan_text.specs.Lines.{is_leg_in, are_in_book}
 use Rattle.plan_text.specs.Lines as lines
 use Rattle.rows.specs.Plan.{is_known}
 use Rattle.town.specs.Fits.{is_act_in, is_car_leg, is_transit_leg, leg_fits, legs_fit, fits}
 use Rattle.town.specs.Rows.{TownRows}
-
--- the book has a name for each link and stop
-pub record HasNames (T : TownRows) : Type 0 where
-  pub links : length T.book.links ≡ length T.links
-  pub stops : length T.book.stops ≡ length T.stops
+use Rattle.law_replanning.specs.Memories.{hold_fitting, all_hold_fitting}
+use Rattle.plan_memory.specs.Memories.{MemoryRows}
+use Rattle.keep.specs.Fitting.{are_named, all_named}
+use Rattle.iterations.specs.Runs.{HasNames}
 
 acts_named : (T : TownRows) (acts : List Act) → HasNames T → list_all (is_act_in T) acts ≡ true → list_all (lines.is_act_in T.book) acts ≡ true
 acts_named T acts names h =
@@ -41,3 +41,18 @@ unfolding fits are_in_book
 plan_named T p names h =
     let parts = and_parts (list_all (is_act_in T) p.acts) (legs_fit T p.acts p.legs) h in
     rw (acts_named T p.acts names parts.0) (legs_named T p.acts p.legs names parts.1)
+
+-- the same of plans, and of memories
+plans_named : (T : TownRows) (plans : List PlanRows) → HasNames T → list_all (fits T) plans ≡ true
+    → list_all (λ (p : PlanRows). are_in_book T.book p.acts p.legs) plans ≡ true
+plans_named T [] names fit = refl
+plans_named T (p ∷ plans) names fit =
+    let parts = and_parts (fits T p) (list_all (fits T) plans) fit in
+    and_from (are_in_book T.book p.acts p.legs) (list_all (λ (q : PlanRows). are_in_book T.book q.acts q.legs) plans) (plan_named T p names parts.0)
+    (plans_named T plans names parts.1)
+
+pub memories_named : (T : TownRows) (memories : List MemoryRows) → HasNames T → all_hold_fitting T memories ≡ true → all_named T.book memories ≡ true
+memories_named T [] names fit = refl
+memories_named T (m ∷ memories) names fit =
+    let parts = and_parts (hold_fitting T m) (all_hold_fitting T memories) fit in
+    and_from (are_named T.book m) (all_named T.book memories) (plans_named T m.plans names parts.0) (memories_named T memories names parts.1)

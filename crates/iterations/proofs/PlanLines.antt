@@ -13,7 +13,8 @@ use Rattle.town.specs.Fits.{fits}
 use Rattle.town.specs.Rows.{TownRows}
 use Rattle.law_replanning.specs.Memories.{hold_fitting, all_hold_fitting}
 use Rattle.iterations.specs.Written.{plan_at, written_places, written_plans}
-use Rattle.iterations.proofs.Named.{HasNames, plan_named}
+use Rattle.iterations.specs.Runs.{HasNames}
+use Rattle.iterations.proofs.Named.{plan_named}
 use Rattle.iterations.proofs.Places.{found, passes_at}
 
 abbrev none : PlanRows

@@ -11,7 +11,7 @@ use Rattle.town.specs.Fits.{fits}
 use Rattle.town.specs.Rows.{TownRows, IsTown}
 use Rattle.town.specs.Setups.{setup_of}
 use Rattle.town.specs.Views.{rows_of}
-use Rattle.iterations.proofs.Named.{HasNames}
+use Rattle.iterations.specs.Runs.{HasNames}
 
 -- the events of a day of plans that fit can be scored, where their first activities are of these kinds
 pub day_scored : (T : TownRows) (chosen : List Plan) (iteration : ℕ) (kinds : List ℕ) (events : List Event) → IsTown T → list_all (fits T) (map plan_rows chosen) ≡ true

@@ -1,14 +1,12 @@
 -- In every iteration the memories are memories of the town, and a day of it can be made of the plans that are followed.
-use Rattle.std.proofs.Common.{◌≡◌, ℕ, zero, suc, ◌+◌, ◌<◌, ◌≤◌, List, [], ◌∷◌, length, map, Option, None, Some, ℤ, refl, sym, ◌∙◌, ap, subst, arith}
+use Rattle.std.proofs.Common.{◌≡◌, ℕ, zero, suc, ◌+◌, List, [], ◌∷◌, length, map, Option, None, Some, ℤ, refl, ◌∙◌}
 use Rattle.std.specs.Prelude.{All, slice_get}
 use Rattle.std.specs.List.{enumerate_from, AllByRecursion as Each}
 use Rattle.std.proofs.Math.ListN.{length-set}
-use Rattle.std.proofs.lemmas.List.{length-map}
 use Rattle.std.proofs.lemmas.List.Elements.{All-from_recursion, recursion_from_All}
 use Rattle.events.specs.declared.event.Event.{Event}
 use Rattle.learning.specs.Ranges.{AreInRange}
-use Rattle.rows.specs.PlanRows.{PlanRows}
-use Rattle.plan_memory.specs.Memories.{MemoryRows, chosen_plan, with_score}
+use Rattle.plan_memory.specs.Memories.{MemoryRows, chosen_plan}
 use Rattle.town.specs.Rows.{TownRows, IsTown}
 use Rattle.law_in_range.specs.Setups.{IsPlanIn}
 use Rattle.law_replanning.specs.Memories.{IsMemoryIn}
@@ -16,7 +14,7 @@ use Rattle.law_replanning.specs.Towns.{IsBasisIn}
 use Rattle.law_replanning.proofs.Remembered.{all_in, chosen_in, replanned_count}
 use Rattle.iterations.specs.Runs.{RunRows}
 use Rattle.iterations.specs.Days.{followed_plans, events_of, scores_in, with_own_score, scored, memories_after, basis_after, next_memories}
-use Rattle.iterations.specs.Acts.{memories_at}
+use Rattle.iterations.specs.Acts.{memories_behind, memories_at}
 use Rattle.iterations.proofs.Seen.{seen_fifo}
 use Rattle.iterations.proofs.Marked.{scored_count}
 
@@ -61,10 +59,20 @@ module _ (R : RunRows) (town : IsTown R.town) (learning : AreInRange R.learning)
       all_in R.town town (basis_after R (k + 1) events) own (scored memories (scores_in R k memories))
       (scored_in R.town memories (scores_in R k memories) all)
 
+  always_behind : (from : ℕ) (memories : List MemoryRows) → All (IsMemoryIn R.town) memories → (n : ℕ)
+      → All (IsMemoryIn R.town) (memories_behind R from memories n)
+  unfolding memories_behind
+  always_behind from memories all zero = all
+  always_behind from memories all (suc n) = next_in (from + n) (memories_behind R from memories n) (always_behind from memories all n)
+
   pub always_in : (first : List MemoryRows) → All (IsMemoryIn R.town) first → (k : ℕ) → All (IsMemoryIn R.town) (memories_at R first k)
-  unfolding memories_at
-  always_in first all zero = all
-  always_in first all (suc k) = next_in k (memories_at R first k) (always_in first all k)
+  always_in first all k = always_behind 0 first all k
+
+  -- and with their scores
+  pub after_in : (first : List MemoryRows) → All (IsMemoryIn R.town) first → (k : ℕ)
+      → All (IsMemoryIn R.town) (memories_after R k (memories_at R first k))
+  unfolding memories_after
+  after_in first all k = scored_in R.town (memories_at R first k) (scores_in R k (memories_at R first k)) (always_in first all k)
 
 next_count : (R : RunRows) (k : ℕ) (memories : List MemoryRows) → length (next_memories R k memories) ≡ length memories
 unfolding next_memories memories_after
@@ -72,10 +80,10 @@ next_count R k memories =
     replanned_count (basis_after R (k + 1) (events_of R k memories)) (scored memories (scores_in R k memories))
     ∙ scored_count memories (scores_in R k memories)
 
-pub always_count : (R : RunRows) (first : List MemoryRows) (k : ℕ) → length (memories_at R first k) ≡ length first
-unfolding memories_at
-always_count R first zero = refl
-always_count R first (suc k) = next_count R k (memories_at R first k) ∙ always_count R first k
+behind_count : (R : RunRows) (from : ℕ) (memories : List MemoryRows) (n : ℕ) → length (memories_behind R from memories n) ≡ length memories
+unfolding memories_behind
+behind_count R from memories zero = refl
+behind_count R from memories (suc n) = next_count R (from + n) (memories_behind R from memories n) ∙ behind_count R from memories n
 
-pub followed_count : (memories : List MemoryRows) → length (followed_plans memories) ≡ length memories
-followed_count memories = length-map memories chosen_plan
+pub always_count : (R : RunRows) (first : List MemoryRows) (k : ℕ) → length (memories_at R first k) ≡ length first
+always_count R first k = behind_count R 0 first k

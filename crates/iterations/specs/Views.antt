@@ -10,4 +10,5 @@ run_rows run = record {
   scoring = scoring_rows run.tables.now;
   learning = run.learning;
   last_iteration = run.last_iteration;
+  keeps = run.keeps;
 }

@@ -3,14 +3,14 @@
 ghost use Rattle.std.specs.Prelude.{◌≡◌, ◌<◌, ◌≤◌, ◌+◌, ◌++◌, length, map, drop, true, None};
 ghost use Rattle.std.specs.Prelude.{slice_index_or, IfOk, OnOk};
 ghost use Rattle.edge_files.specs.Effects.{all_steps};
-ghost use Rattle.edge_files.specs.World.{outside, byte_steps};
+ghost use Rattle.edge_files.specs.World.{byte_steps};
 ghost use Rattle.law_replanning.specs.Memories.{hold_fitting, all_hold_fitting};
 ghost use Rattle.plan_text.specs.Lines.{own_lines, persons_lines, plans_text};
 ghost use Rattle.town.specs.Views.{rows_of};
 ghost use Rattle.plan_memory.specs.Scores.{worst};
 ghost use Rattle.iterations.specs.Acts.{end_effects};
 ghost use Rattle.iterations.specs.Texts.{done_line};
-ghost use Rattle.iterations.specs.Performed.{IsPerformed};
+ghost use Rattle.iterations.specs.Performed.{IsWritten, moment};
 ghost use Rattle.iterations.specs.Runs.{CanRun};
 ghost use Rattle.iterations.specs.Views.{run_rows};
 ghost use Rattle.iterations.specs.Written.{other_places, scores_at, kept_places, written_places, written_plans};
@@ -166,9 +166,9 @@ fn write_some_plans<O: Outputs, K: Keeper>(
 ) -> Result<(), EffectError>
     requires persons { first + length memories.now ≤ length town.now.book.persons }
     requires fit { all_hold_fitting (rows_of town.now) memories.now ≡ true }
-    ensures performed { IsPerformed (outside (O.written outputs.old) (K.kept keeper.old))
-        (outside (O.written outputs.new) (K.kept keeper.new))
-        (O.faults outputs.old) (O.faults outputs.new)
+    ensures performed { IsWritten
+        (moment (O.written outputs.old) (K.kept keeper.old) (O.faults outputs.old) (K.faults keeper.old))
+        (moment (O.written outputs.new) (K.kept keeper.new) (O.faults outputs.new) (K.faults keeper.new))
         (byte_steps OutFile.Plans (persons_lines town.now.book first (map written_plans memories.now))) result }
     ensures keeper { keeper.new ≡ keeper.old }
 {
@@ -189,9 +189,9 @@ fn write_persons<O: Outputs, K: Keeper>(
 ) -> Result<(), EffectError>
     requires persons { length memories.now ≡ length town.now.book.persons }
     requires fit { all_hold_fitting (rows_of town.now) memories.now ≡ true }
-    ensures performed { IsPerformed (outside (O.written outputs.old) (K.kept keeper.old))
-        (outside (O.written outputs.new) (K.kept keeper.new))
-        (O.faults outputs.old) (O.faults outputs.new)
+    ensures performed { IsWritten
+        (moment (O.written outputs.old) (K.kept keeper.old) (O.faults outputs.old) (K.faults keeper.old))
+        (moment (O.written outputs.new) (K.kept keeper.new) (O.faults outputs.new) (K.faults keeper.new))
         (byte_steps OutFile.Plans (persons_lines town.now.book 0 (map written_plans memories.now))) result }
     ensures keeper { keeper.new ≡ keeper.old }
 {
@@ -222,9 +222,9 @@ fn write_plans<O: Outputs, K: Keeper>(
 ) -> Result<(), EffectError>
     requires persons { length memories.now ≡ length town.now.book.persons }
     requires fit { all_hold_fitting (rows_of town.now) memories.now ≡ true }
-    ensures performed { IsPerformed (outside (O.written outputs.old) (K.kept keeper.old))
-        (outside (O.written outputs.new) (K.kept keeper.new))
-        (O.faults outputs.old) (O.faults outputs.new)
+    ensures performed { IsWritten
+        (moment (O.written outputs.old) (K.kept keeper.old) (O.faults outputs.old) (K.faults keeper.old))
+        (moment (O.written outputs.new) (K.kept keeper.new) (O.faults outputs.new) (K.faults keeper.new))
         (byte_steps OutFile.Plans (plans_text (map written_plans memories.now) town.now.book)) result }
     ensures keeper { keeper.new ≡ keeper.old }
 {
@@ -244,9 +244,10 @@ fn write_done<O: Outputs, K: Keeper>(
     outputs: &mut O,
     keeper: &mut K,
 ) -> Result<(), EffectError>
-    ensures performed { IsPerformed (outside (O.written outputs.old) (K.kept keeper.old))
-        (outside (O.written outputs.new) (K.kept keeper.new))
-        (O.faults outputs.old) (O.faults outputs.new) (byte_steps OutFile.Report (done_line last)) result }
+    ensures performed { IsWritten
+        (moment (O.written outputs.old) (K.kept keeper.old) (O.faults outputs.old) (K.faults keeper.old))
+        (moment (O.written outputs.new) (K.kept keeper.new) (O.faults outputs.new) (K.faults keeper.new))
+        (byte_steps OutFile.Report (done_line last)) result }
     ensures keeper { keeper.new ≡ keeper.old }
 {
     match done_line(alloc, last) {
@@ -265,9 +266,10 @@ pub fn write_end<O: Outputs, K: Keeper>(
     keeper: &mut K,
 ) -> Result<(), EffectError>
     requires { CanRun (run_rows run.now) memories.now }
-    ensures performed { IsPerformed (outside (O.written outputs.old) (K.kept keeper.old))
-        (outside (O.written outputs.new) (K.kept keeper.new))
-        (O.faults outputs.old) (O.faults outputs.new) (all_steps (end_effects (run_rows run.now) memories.now)) result }
+    ensures performed { IsWritten
+        (moment (O.written outputs.old) (K.kept keeper.old) (O.faults outputs.old) (K.faults keeper.old))
+        (moment (O.written outputs.new) (K.kept keeper.new) (O.faults outputs.new) (K.faults keeper.new))
+        (all_steps (end_effects (run_rows run.now) memories.now)) result }
     ensures keeper { keeper.new ≡ keeper.old }
 {
     match write_plans(alloc, run.town, memories, outputs, keeper) {

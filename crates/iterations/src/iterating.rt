@@ -1,24 +1,28 @@
 //! The loop.
 
-ghost use Rattle.std.specs.Prelude.{◌≡◌, ◌++◌, length, IfOk};
+ghost use Rattle.std.specs.Prelude.{◌≡◌, ◌<◌, ◌≤◌, ◌-◌, ◌++◌, false, length, IfOk};
 ghost use Rattle.edge_files.specs.Effects.{all_steps};
-ghost use Rattle.edge_files.specs.World.{outside};
+ghost use Rattle.edge_files.specs.World.{byte_steps};
 ghost use Rattle.travel_times.specs.Observed.{AreInOrder, AreOnLinks};
-ghost use Rattle.iterations.specs.Acts.{iteration_effects, end_effects, acts};
+ghost use Rattle.iterations.specs.Acts.{saves, iteration_effects, end_effects, acts_behind};
+ghost use Rattle.iterations.specs.Continued.{begun_after, continued, acts_after};
 ghost use Rattle.iterations.specs.Days.{events_of, memories_after};
-ghost use Rattle.iterations.specs.Performed.{IsPerformed};
+ghost use Rattle.iterations.specs.Performed.{IsPerformed, moment};
 ghost use Rattle.iterations.specs.Runs.{CanRun};
+ghost use Rattle.iterations.specs.Scored.{IsWritable};
+ghost use Rattle.iterations.specs.Texts.{iteration_line};
 ghost use Rattle.iterations.specs.Views.{run_rows};
 
 use crate::days::{ScoredDay, chosen_numbers, replanned, scored, simulate};
 use crate::ends::write_end;
-use crate::performing::write_iteration;
+use crate::performing::{write_day, write_line};
 use crate::run::RunInput;
-use edge_files::{EffectError, Keeper, Outputs};
+use crate::saving::save;
+use edge_files::{EffectError, Keeper, OutFile, Outputs};
 use events::Event;
 use plan_memory::Memory;
 use router::Adjacency;
-use std::alloc::Global;
+use std::alloc::{AllocError, Global};
 use std::thread::Threads;
 
 /// What is left of an iteration that is over: the events of its day, and the memories with its scores.
@@ -28,8 +32,33 @@ struct Iterated {
     memories: Vec<Memory>,
 }
 
-/// Simulates the day of an iteration, and writes it.
-#[tactic(auto, unfolding(crate::specs::Acts::iteration_effects, crate::specs::Days::memories_after))]
+/// Keeps what is remembered after an iteration, and writes its line of the report.
+fn save_and_report<O: Outputs, K: Keeper>(
+    alloc: Global,
+    run: &RunInput,
+    iteration: u32,
+    day: &ScoredDay,
+    memories: &[Memory],
+    outputs: &mut O,
+    keeper: &mut K,
+) -> Result<(), EffectError>
+    requires can { CanRun (run_rows run.now) memories.now }
+    requires day { IsWritable run.now.town.now.book day.now.events.items day.now.scores.items }
+    ensures performed { IsPerformed run.now.keeps
+        (moment (O.written outputs.old) (K.kept keeper.old) (O.faults outputs.old) (K.faults keeper.old))
+        (moment (O.written outputs.new) (K.kept keeper.new) (O.faults outputs.new) (K.faults keeper.new))
+        (all_steps (saves (run_rows run.now) iteration memories.now)
+        ++ byte_steps OutFile.Report (iteration_line iteration day.now.events.items day.now.scores.items)) result }
+    ensures keeper { run.now.keeps ≡ false → keeper.new ≡ keeper.old }
+{
+    match save(alloc, run, iteration, memories, outputs, keeper) {
+        Ok(()) => write_line(alloc, iteration, day, &run.town.book, outputs, keeper),
+        Err(error) => Err(error),
+    }
+}
+
+/// Simulates the day of an iteration and writes it, and keeps what is remembered of it.
+#[tactic(auto, unfolding(crate::specs::Days::memories_after))]
 fn do_iteration<O: Outputs, K: Keeper>(
     alloc: Global,
     run: &RunInput,
@@ -39,16 +68,16 @@ fn do_iteration<O: Outputs, K: Keeper>(
     keeper: &mut K,
 ) -> Result<Iterated, EffectError>
     requires { CanRun (run_rows run.now) memories.items }
-    ensures performed { IsPerformed (outside (O.written outputs.old) (K.kept keeper.old))
-        (outside (O.written outputs.new) (K.kept keeper.new))
-        (O.faults outputs.old) (O.faults outputs.new)
+    ensures performed { IsPerformed run.now.keeps
+        (moment (O.written outputs.old) (K.kept keeper.old) (O.faults outputs.old) (K.faults keeper.old))
+        (moment (O.written outputs.new) (K.kept keeper.new) (O.faults outputs.new) (K.faults keeper.new))
         (all_steps (iteration_effects (run_rows run.now) iteration memories.items)) result }
     ensures events { IfOk result (λ one. one.events.items ≡ events_of (run_rows run.now) iteration memories.items) }
     ensures order { IfOk result (λ one. AreInOrder one.events.items) }
     ensures links { IfOk result (λ one. AreOnLinks (length run.now.town.now.network.links) one.events.items) }
     ensures memories { IfOk result (λ one. one.memories.items ≡ memories_after (run_rows run.now) iteration memories.items) }
     ensures can { IfOk result (λ one. CanRun (run_rows run.now) one.memories.items) }
-    ensures keeper { keeper.new ≡ keeper.old }
+    ensures keeper { run.now.keeps ≡ false → keeper.new ≡ keeper.old }
 {
     let Ok(day) = simulate(alloc, run, iteration, &memories) else {
         return Err(EffectError::NoMemory);
@@ -57,14 +86,19 @@ fn do_iteration<O: Outputs, K: Keeper>(
         return Err(EffectError::NoMemory);
     };
     let book = &run.town.book;
-    match write_iteration(alloc, iteration, &day, &chosen, book, outputs, keeper) {
+    match write_day(alloc, iteration, &day, &chosen, book, outputs, keeper) {
         Ok(()) => {}
         Err(error) => return Err(error),
     }
-    let ScoredDay { events, scores } = day;
-    match scored(alloc, memories, &scores) {
-        Ok(memories) => Ok(Iterated { events, memories }),
-        Err(_) => Err(EffectError::NoMemory),
+    let Ok(memories) = scored(alloc, memories, &day.scores) else {
+        return Err(EffectError::NoMemory);
+    };
+    match save_and_report(alloc, run, iteration, &day, &memories, outputs, keeper) {
+        Ok(()) => {
+            let ScoredDay { events, scores: _ } = day;
+            Ok(Iterated { events, memories })
+        }
+        Err(error) => Err(error),
     }
 }
 
@@ -77,12 +111,12 @@ fn finish<O: Outputs, K: Keeper>(
     keeper: &mut K,
 ) -> Result<(), EffectError>
     requires { CanRun (run_rows run.now) memories.items }
-    ensures performed { IsPerformed (outside (O.written outputs.old) (K.kept keeper.old))
-        (outside (O.written outputs.new) (K.kept keeper.new))
-        (O.faults outputs.old) (O.faults outputs.new)
+    ensures performed { IsPerformed run.now.keeps
+        (moment (O.written outputs.old) (K.kept keeper.old) (O.faults outputs.old) (K.faults keeper.old))
+        (moment (O.written outputs.new) (K.kept keeper.new) (O.faults outputs.new) (K.faults keeper.new))
         (all_steps (iteration_effects (run_rows run.now) run.now.last_iteration memories.items)
         ++ all_steps (end_effects (run_rows run.now) (memories_after (run_rows run.now) run.now.last_iteration memories.items))) result }
-    ensures keeper { keeper.new ≡ keeper.old }
+    ensures keeper { run.now.keeps ≡ false → keeper.new ≡ keeper.old }
 {
     match do_iteration(alloc, run, run.last_iteration, memories, outputs, keeper) {
         Ok(one) => {
@@ -94,34 +128,29 @@ fn finish<O: Outputs, K: Keeper>(
     }
 }
 
-/// Does a run: its iterations from 0 to the last, each with its day, whose events, scores and report are written when it is over, and
-/// then the end, with the plans. Before each iteration but the first one persons replan, by what they have seen on the day before,
-/// spread over as many threads as there are processors.
-///
-/// At an `Err` a front of what is to be written was written, and nothing after it.
-///
-/// # Errors
-///
-/// `WriteFailed`: a write failed. `NoMemory`: memory was wanting.
-pub fn iterate<R: Threads + Sync, O: Outputs, K: Keeper>(
+/// Does the iterations from one on that begins with these memories to the last one, and the end.
+fn iterate_from<R: Threads + Sync, O: Outputs, K: Keeper>(
     rt: &R,
     alloc: Global,
     run: &RunInput,
+    first: u32,
     memories: Vec<Memory>,
     outputs: &mut O,
     keeper: &mut K,
 ) -> Result<(), EffectError>
-    requires { CanRun (run_rows run.now) memories.items }
-    ensures performed { IsPerformed (outside (O.written outputs.old) (K.kept keeper.old))
-        (outside (O.written outputs.new) (K.kept keeper.new))
-        (O.faults outputs.old) (O.faults outputs.new) (all_steps (acts (run_rows run.now) memories.items)) result }
-    ensures keeper { keeper.new ≡ keeper.old }
+    requires can { CanRun (run_rows run.now) memories.items }
+    requires within { first ≤ run.now.last_iteration }
+    ensures performed { IsPerformed run.now.keeps
+        (moment (O.written outputs.old) (K.kept keeper.old) (O.faults outputs.old) (K.faults keeper.old))
+        (moment (O.written outputs.new) (K.kept keeper.new) (O.faults outputs.new) (K.faults keeper.new))
+        (all_steps (acts_behind (run_rows run.now) first memories.items (run.now.last_iteration - first))) result }
+    ensures keeper { run.now.keeps ≡ false → keeper.new ≡ keeper.old }
 {
     let Ok(adjacency) = Adjacency::of(alloc, &run.town.network) else {
         return Err(EffectError::NoMemory);
     };
     let mut memories = memories;
-    for iteration in 0..run.last_iteration {
+    for iteration in first..run.last_iteration {
         let one = match do_iteration(alloc, run, iteration, memories, outputs, keeper) {
             Ok(one) => one,
             Err(error) => return Err(error),
@@ -136,4 +165,88 @@ pub fn iterate<R: Threads + Sync, O: Outputs, K: Keeper>(
         };
     }
     finish(alloc, run, memories, outputs, keeper)
+}
+
+/// What persons make, before the next iteration, of what was kept after this one: the day of the plans that they have chosen is
+/// simulated once more for its travel times, and nothing of it is written.
+fn begun_after<R: Threads + Sync>(
+    rt: &R,
+    alloc: Global,
+    run: &RunInput,
+    iteration: u32,
+    memories: Vec<Memory>,
+) -> Result<Vec<Memory>, AllocError>
+    requires can { CanRun (run_rows run.now) memories.items }
+    requires within { iteration < run.now.last_iteration }
+    ensures begun { IfOk result (λ new. new.items ≡ begun_after (run_rows run.now) iteration memories.items) }
+    ensures can { IfOk result (λ new. CanRun (run_rows run.now) new.items) }
+{
+    let day = simulate(alloc, run, iteration, &memories)?;
+    let ScoredDay { events, scores: _ } = day;
+    let adjacency = Adjacency::of(alloc, &run.town.network)?;
+    let new = replanned(rt, alloc, run, &adjacency, iteration + 1, events, memories)?;
+    Ok(new)
+}
+
+/// Goes on from what was kept after an iteration.
+#[tactic(auto, unfolding(crate::specs::Continued::continued))]
+fn go_on<R: Threads + Sync, O: Outputs, K: Keeper>(
+    rt: &R,
+    alloc: Global,
+    run: &RunInput,
+    kept: u32,
+    memories: Vec<Memory>,
+    outputs: &mut O,
+    keeper: &mut K,
+) -> Result<(), EffectError>
+    requires { CanRun (run_rows run.now) memories.items }
+    ensures performed { IsPerformed run.now.keeps
+        (moment (O.written outputs.old) (K.kept keeper.old) (O.faults outputs.old) (K.faults keeper.old))
+        (moment (O.written outputs.new) (K.kept keeper.new) (O.faults outputs.new) (K.faults keeper.new))
+        (all_steps (continued (run_rows run.now) kept memories.items)) result }
+    ensures keeper { run.now.keeps ≡ false → keeper.new ≡ keeper.old }
+{
+    if kept >= run.last_iteration {
+        return write_end(alloc, run, &memories, outputs, keeper);
+    }
+    match begun_after(rt, alloc, run, kept, memories) {
+        Ok(begun) => iterate_from(rt, alloc, run, kept + 1, begun, outputs, keeper),
+        Err(_) => Err(EffectError::NoMemory),
+    }
+}
+
+/// Does a run: its iterations from 0 to the last, each with its day, whose events and scores are written when it is over; then what
+/// the persons remember of it is kept, where the run keeps anything, and its line of the report is written. At the end the plans are
+/// written. Before each iteration but the first one persons replan, by what they have seen on the day before, spread over as many
+/// threads as there are processors.
+///
+/// With `after` the run goes on from memories that were kept after this iteration: their day is simulated once more for its travel
+/// times, and the iterations behind it are done, and the end. Where the kept iteration is the last one or lies behind it, the end
+/// alone is done.
+///
+/// At an `Err` a front of what is to be done was done, and nothing after it.
+///
+/// # Errors
+///
+/// `WriteFailed`: a write failed. `KeepFailed`: the keeper failed. `NoMemory`: memory was wanting, also the keeper's.
+pub fn iterate<R: Threads + Sync, O: Outputs, K: Keeper>(
+    rt: &R,
+    alloc: Global,
+    run: &RunInput,
+    after: Option<u32>,
+    memories: Vec<Memory>,
+    outputs: &mut O,
+    keeper: &mut K,
+) -> Result<(), EffectError>
+    requires { CanRun (run_rows run.now) memories.items }
+    ensures performed { IsPerformed run.now.keeps
+        (moment (O.written outputs.old) (K.kept keeper.old) (O.faults outputs.old) (K.faults keeper.old))
+        (moment (O.written outputs.new) (K.kept keeper.new) (O.faults outputs.new) (K.faults keeper.new))
+        (all_steps (acts_after (run_rows run.now) after memories.items)) result }
+    ensures keeper { run.now.keeps ≡ false → keeper.new ≡ keeper.old }
+{
+    match after {
+        None => iterate_from(rt, alloc, run, 0, memories, outputs, keeper),
+        Some(kept) => go_on(rt, alloc, run, kept, memories, outputs, keeper),
+    }
 }

@@ -2,10 +2,10 @@
 
 ghost use Rattle.std.specs.Prelude.{◌≡◌, ◌++◌, length, codes, decimal};
 ghost use Rattle.edge_files.specs.Effects.{all_steps};
-ghost use Rattle.edge_files.specs.World.{outside, byte_steps};
+ghost use Rattle.edge_files.specs.World.{byte_steps};
 ghost use Rattle.events.specs.Lines.{AreInBook, event_lines};
 ghost use Rattle.day_scores.specs.Texts.{scores_text};
-ghost use Rattle.iterations.specs.Performed.{IsPerformed};
+ghost use Rattle.iterations.specs.Performed.{IsWritten, moment};
 ghost use Rattle.iterations.specs.Scored.{IsWritable};
 ghost use Rattle.iterations.specs.Texts.{events_text, iteration_line};
 
@@ -26,9 +26,10 @@ pub fn write<O: Outputs, K: Keeper>(
     file: OutFile,
     text: Vec<u8>,
 ) -> Result<(), EffectError>
-    ensures performed { IsPerformed (outside (O.written outputs.old) (K.kept keeper.old))
-        (outside (O.written outputs.new) (K.kept keeper.new))
-        (O.faults outputs.old) (O.faults outputs.new) (byte_steps file text.items) result }
+    ensures performed { IsWritten
+        (moment (O.written outputs.old) (K.kept keeper.old) (O.faults outputs.old) (K.faults keeper.old))
+        (moment (O.written outputs.new) (K.kept keeper.new) (O.faults outputs.new) (K.faults keeper.new))
+        (byte_steps file text.items) result }
     ensures keeper { keeper.new ≡ keeper.old }
 {
     let effects = [Effect::Write {
@@ -47,9 +48,10 @@ fn write_some_lines<O: Outputs, K: Keeper>(
     keeper: &mut K,
 ) -> Result<(), EffectError>
     requires { AreInBook events.now book.now }
-    ensures performed { IsPerformed (outside (O.written outputs.old) (K.kept keeper.old))
-        (outside (O.written outputs.new) (K.kept keeper.new))
-        (O.faults outputs.old) (O.faults outputs.new) (byte_steps OutFile.Events (event_lines events.now book.now)) result }
+    ensures performed { IsWritten
+        (moment (O.written outputs.old) (K.kept keeper.old) (O.faults outputs.old) (K.faults keeper.old))
+        (moment (O.written outputs.new) (K.kept keeper.new) (O.faults outputs.new) (K.faults keeper.new))
+        (byte_steps OutFile.Events (event_lines events.now book.now)) result }
     ensures keeper { keeper.new ≡ keeper.old }
 {
     let mut text = Vec::new(alloc);
@@ -68,9 +70,10 @@ fn write_lines<O: Outputs, K: Keeper>(
     keeper: &mut K,
 ) -> Result<(), EffectError>
     requires { AreInBook events.now book.now }
-    ensures performed { IsPerformed (outside (O.written outputs.old) (K.kept keeper.old))
-        (outside (O.written outputs.new) (K.kept keeper.new))
-        (O.faults outputs.old) (O.faults outputs.new) (byte_steps OutFile.Events (event_lines events.now book.now)) result }
+    ensures performed { IsWritten
+        (moment (O.written outputs.old) (K.kept keeper.old) (O.faults outputs.old) (K.faults keeper.old))
+        (moment (O.written outputs.new) (K.kept keeper.new) (O.faults outputs.new) (K.faults keeper.new))
+        (byte_steps OutFile.Events (event_lines events.now book.now)) result }
     ensures keeper { keeper.new ≡ keeper.old }
 {
     let mut rest = events;
@@ -95,9 +98,10 @@ fn write_events<O: Outputs, K: Keeper>(
     keeper: &mut K,
 ) -> Result<(), EffectError>
     requires { AreInBook events.now book.now }
-    ensures performed { IsPerformed (outside (O.written outputs.old) (K.kept keeper.old))
-        (outside (O.written outputs.new) (K.kept keeper.new))
-        (O.faults outputs.old) (O.faults outputs.new) (byte_steps OutFile.Events (events_text iteration events.now book.now)) result }
+    ensures performed { IsWritten
+        (moment (O.written outputs.old) (K.kept keeper.old) (O.faults outputs.old) (K.faults keeper.old))
+        (moment (O.written outputs.new) (K.kept keeper.new) (O.faults outputs.new) (K.faults keeper.new))
+        (byte_steps OutFile.Events (events_text iteration events.now book.now)) result }
     ensures keeper { keeper.new ≡ keeper.old }
 {
     let Ok(header) = events_header(alloc, iteration) else {
@@ -121,9 +125,9 @@ fn write_scores<O: Outputs, K: Keeper>(
 ) -> Result<(), EffectError>
     requires each_score { length scores.now ≡ length book.now.persons }
     requires each_plan { length chosen.now ≡ length book.now.persons }
-    ensures performed { IsPerformed (outside (O.written outputs.old) (K.kept keeper.old))
-        (outside (O.written outputs.new) (K.kept keeper.new))
-        (O.faults outputs.old) (O.faults outputs.new)
+    ensures performed { IsWritten
+        (moment (O.written outputs.old) (K.kept keeper.old) (O.faults outputs.old) (K.faults keeper.old))
+        (moment (O.written outputs.new) (K.kept keeper.new) (O.faults outputs.new) (K.faults keeper.new))
         (byte_steps OutFile.Scores (scores_text iteration book.now.persons chosen.now scores.now)) result }
     ensures keeper { keeper.new ≡ keeper.old }
 {
@@ -134,7 +138,7 @@ fn write_scores<O: Outputs, K: Keeper>(
 }
 
 /// Writes the line of the report of an iteration.
-fn write_line<O: Outputs, K: Keeper>(
+pub fn write_line<O: Outputs, K: Keeper>(
     alloc: Global,
     iteration: u32,
     day: &ScoredDay,
@@ -143,9 +147,9 @@ fn write_line<O: Outputs, K: Keeper>(
     keeper: &mut K,
 ) -> Result<(), EffectError>
     requires { IsWritable book.now day.now.events.items day.now.scores.items }
-    ensures performed { IsPerformed (outside (O.written outputs.old) (K.kept keeper.old))
-        (outside (O.written outputs.new) (K.kept keeper.new))
-        (O.faults outputs.old) (O.faults outputs.new)
+    ensures performed { IsWritten
+        (moment (O.written outputs.old) (K.kept keeper.old) (O.faults outputs.old) (K.faults keeper.old))
+        (moment (O.written outputs.new) (K.kept keeper.new) (O.faults outputs.new) (K.faults keeper.new))
         (byte_steps OutFile.Report (iteration_line iteration day.now.events.items day.now.scores.items)) result }
     ensures keeper { keeper.new ≡ keeper.old }
 {
@@ -155,8 +159,8 @@ fn write_line<O: Outputs, K: Keeper>(
     }
 }
 
-/// Writes an iteration: the events of its day, the scores of the plans of these numbers, and its line of the report.
-pub fn write_iteration<O: Outputs, K: Keeper>(
+/// Writes the day of an iteration: its events, and the scores of the plans of these numbers.
+pub fn write_day<O: Outputs, K: Keeper>(
     alloc: Global,
     iteration: u32,
     day: &ScoredDay,
@@ -167,20 +171,15 @@ pub fn write_iteration<O: Outputs, K: Keeper>(
 ) -> Result<(), EffectError>
     requires day { IsWritable book.now day.now.events.items day.now.scores.items }
     requires each { length chosen.now ≡ length book.now.persons }
-    ensures performed { IsPerformed (outside (O.written outputs.old) (K.kept keeper.old))
-        (outside (O.written outputs.new) (K.kept keeper.new))
-        (O.faults outputs.old) (O.faults outputs.new)
+    ensures performed { IsWritten
+        (moment (O.written outputs.old) (K.kept keeper.old) (O.faults outputs.old) (K.faults keeper.old))
+        (moment (O.written outputs.new) (K.kept keeper.new) (O.faults outputs.new) (K.faults keeper.new))
         (byte_steps OutFile.Events (events_text iteration day.now.events.items book.now)
-        ++ (byte_steps OutFile.Scores (scores_text iteration book.now.persons chosen.now day.now.scores.items)
-        ++ byte_steps OutFile.Report (iteration_line iteration day.now.events.items day.now.scores.items))) result }
+        ++ byte_steps OutFile.Scores (scores_text iteration book.now.persons chosen.now day.now.scores.items)) result }
     ensures keeper { keeper.new ≡ keeper.old }
 {
     match write_events(alloc, iteration, &day.events, book, outputs, keeper) {
-        Ok(()) => {}
-        Err(error) => return Err(error),
-    }
-    match write_scores(alloc, iteration, &day.scores, chosen, book, outputs, keeper) {
-        Ok(()) => write_line(alloc, iteration, day, book, outputs, keeper),
+        Ok(()) => write_scores(alloc, iteration, &day.scores, chosen, book, outputs, keeper),
         Err(error) => Err(error),
     }
 }

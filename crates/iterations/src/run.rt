@@ -12,4 +12,6 @@ pub struct RunInput<'a> {
     pub learning: Learning,
     /// The number of the last iteration; the first one has the number 0.
     pub last_iteration: u32,
+    /// Whether what the persons remember after each iteration is kept.
+    pub keeps: bool,
 }

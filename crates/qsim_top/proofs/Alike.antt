@@ -23,6 +23,7 @@ alike_texts a b alike = λ i f. each f i
 -- a command that makes no files has those that are read
 read_has : (c : Command) (left : Left) (texts : Texts) → reads_files c ≡ true → HasFiles c left texts → AreRead left texts
 read_has command.Run left texts reads has = has
+read_has command.Resume left texts reads has = has
 read_has command.Check left texts reads has = has
 read_has (command.Route from to second) left texts reads has = has
 read_has (command.Generate size seed last_iteration) left texts reads has = absurd (cc)

@@ -7,15 +7,15 @@ use Rattle.edge_files.specs.declared.effects.EffectError.TheVariants as error
 use Rattle.edge_files.specs.declared.effects.Effect.{Effect}
 use Rattle.edge_files.specs.Causes.{Rose}
 use Rattle.edge_files.specs.Effects.{all_steps, has_save}
+use Rattle.edge_files.specs.Keeping.{StaysTold}
 use Rattle.edge_files.specs.World.{World, Does, DoesPart}
 use Rattle.edge_files.proofs.Worlds.{part_nothing}
-use Rattle.iterations.specs.Performed.{IsPerformed}
+use Rattle.iterations.specs.Performed.{Moment, IsPerformed}
 use Rattle.qsim_top.specs.declared.answers.Answer.{Answer}
 use Rattle.qsim_top.specs.declared.answers.Status.{Status}
 use Rattle.qsim_top.specs.declared.answers.Status.TheVariants as status
 use Rattle.qsim_top.specs.Answer.{is_whole, is_of_words, is_report, Answers, IsSound, IsAnswer}
 use Rattle.qsim_top.specs.Came.{status_after, is_fault, HasCauses, IsCarriedOut}
-use Rattle.iterations.proofs.Outside.{performed_by}
 use Rattle.qsim_top.proofs.Reports.{only_reports}
 
 -- a status of an answer is none of the others
@@ -37,74 +37,110 @@ done_as a status.NoMemory old new whole is does = absurd (cc)
 done_as a status.KeepFault old new whole is does = absurd (cc)
 
 -- an answer whose status says that all is done, and which writes to the report alone where it refuses
-pub ended : (a : Answer) (old new : World) (before now : ℕ) (r : Result (Unit {0}) EffectError) → is_whole a.status ≡ true
-    → (a.status ≡ status.Refused → list_all is_report a.effects ≡ true) → IsPerformed old new before now (all_steps a.effects) r
-    → IsCarriedOut a (status_after a.status r) old new before now
-ended a old new before now (Ok done) whole refusal did = record {
-  acts = done_as a a.status old new whole refl did.done;
+pub ended : (keeps : Bool) (a : Answer) (old new : Moment) (r : Result (Unit {0}) EffectError) → is_whole a.status ≡ true
+    → (a.status ≡ status.Refused → list_all is_report a.effects ≡ true) → IsPerformed keeps old new (all_steps a.effects) r
+    → IsCarriedOut keeps a (status_after a.status r) old new
+ended keeps a old new (Ok done) whole refusal did = record {
+  acts = done_as a a.status old.world new.world whole refl did.done;
   ends = inr refl;
   causes = record {
-    later = did.later;
+    write_later = did.write_later;
+    keep_later = did.keep_later;
     write = λ is. absurd (whole_is_not a.status status.WriteFault whole refl is);
-    keep = λ is. whole_is_not a.status status.KeepFault whole refl is;
+    keep = λ is. absurd (whole_is_not a.status status.KeepFault whole refl is);
     read = λ is. whole_is_not a.status status.ReadFault whole refl is;
-    reports = λ is. only_reports old new a.effects (refusal is) did.done;
+    reports = λ is. only_reports old.world new.world a.effects (refusal is) did.done;
   };
 }
-ended a old new before now (Err error.WriteFailed) whole refusal did = record {
+ended keeps a old new (Err error.WriteFailed) whole refusal did = record {
   acts = did.part;
   ends = inl refl;
   causes = record {
-    later = did.later;
+    write_later = did.write_later;
+    keep_later = did.keep_later;
     write = λ is. did.write_failed refl;
     keep = λ is. cc;
     read = λ is. cc;
-    reports = λ is. absurd (cc);
+    reports = λ is. cc;
   };
 }
-ended a old new before now (Err error.KeepFailed) whole refusal did = absurd (did.not_kept refl)
-ended a old new before now (Err error.NoMemory) whole refusal did = record {
+ended keeps a old new (Err error.KeepFailed) whole refusal did = record {
+  acts = did.part;
+  ends = inl (did.keep_failed refl).0;
+  causes = record {
+    write_later = did.write_later;
+    keep_later = did.keep_later;
+    write = λ is. cc;
+    keep = λ is. (did.keep_failed refl).1;
+    read = λ is. cc;
+    reports = λ is. cc;
+  };
+}
+ended keeps a old new (Err error.NoMemory) whole refusal did = record {
   acts = did.part;
   ends = inl refl;
   causes = record {
-    later = did.later;
-    write = λ is. absurd (cc);
+    write_later = did.write_later;
+    keep_later = did.keep_later;
+    write = λ is. cc;
     keep = λ is. cc;
     read = λ is. cc;
-    reports = λ is. absurd (cc);
+    reports = λ is. cc;
   };
 }
 
 -- the same of a status that is that one
-pub ended_as : (a : Answer) (came : Status) (old new : World) (before now : ℕ) (r : Result (Unit {0}) EffectError) → came ≡ status_after a.status r
+pub ended_as : (keeps : Bool) (a : Answer) (came : Status) (old new : Moment) (r : Result (Unit {0}) EffectError) → came ≡ status_after a.status r
     → is_whole a.status ≡ true → (a.status ≡ status.Refused → list_all is_report a.effects ≡ true)
-    → IsPerformed old new before now (all_steps a.effects) r → IsCarriedOut a came old new before now
-ended_as a came old new before now r is whole refusal did =
-    subst (λ (s : Status). IsCarriedOut a s old new before now) (sym is) (ended a old new before now r whole refusal did)
+    → IsPerformed keeps old new (all_steps a.effects) r → IsCarriedOut keeps a came old new
+ended_as keeps a came old new r is whole refusal did =
+    subst (λ (s : Status). IsCarriedOut keeps a s old new) (sym is) (ended keeps a old new r whole refusal did)
+
+only_writes : (r : Result (Unit {0}) EffectError) → OnErr r (r ≡ Err error.WriteFailed) → r ≡ Err error.KeepFailed → ⊥
+only_writes (Ok x) only is = cc
+only_writes (Err e) only is = cc
+
+-- effects that keep nothing are performed
+pub performed : (effects : List Effect) (old new : Moment) (r : Result (Unit {0}) EffectError) → has_save effects ≡ false
+    → OnOk r (Does old.world new.world (all_steps effects)) → OnErr r (DoesPart old.world new.world (all_steps effects))
+    → old.writes ≤ new.writes → old.keeps ≤ new.keeps → (r ≡ Err error.WriteFailed → Rose old.writes new.writes)
+    → (r ≡ Err error.WriteFailed → StaysTold old.world.kept new.world.kept) → (has_save effects ≡ false → OnErr r (r ≡ Err error.WriteFailed))
+    → IsPerformed false old new (all_steps effects) r
+performed effects old new r none done part writes keeps failed told only = record {
+  done = done;
+  part = part;
+  write_later = writes;
+  keep_later = keeps;
+  write_failed = failed;
+  keep_failed = λ is. absurd (only_writes r (only none) is);
+  told = told;
+}
 
 -- a sound answer whose effects these are
-pub carried : (a : Answer) (came : Status) (effects : List Effect) (old new : World) (before now : ℕ) (r : Result (Unit {0}) EffectError)
+pub carried : (a : Answer) (came : Status) (effects : List Effect) (old new : Moment) (r : Result (Unit {0}) EffectError)
     → came ≡ status_after a.status r → effects ≡ a.effects → IsSound a
-    → OnOk r (Does old new (all_steps effects)) → OnErr r (DoesPart old new (all_steps effects))
-    → before ≤ now → (r ≡ Err error.WriteFailed → Rose before now) → (has_save effects ≡ false → OnErr r (r ≡ Err error.WriteFailed))
-    → IsCarriedOut a came old new before now
-carried a came effects old new before now r is same sound done part later failed only =
-    ended_as a came old new before now r is sound.whole sound.refusal
-    (performed_by old new before now effects (all_steps a.effects) r (ap all_steps same) (ap has_save same ∙ sound.kept) done part later failed only)
+    → OnOk r (Does old.world new.world (all_steps effects)) → OnErr r (DoesPart old.world new.world (all_steps effects))
+    → old.writes ≤ new.writes → old.keeps ≤ new.keeps → (r ≡ Err error.WriteFailed → Rose old.writes new.writes)
+    → (r ≡ Err error.WriteFailed → StaysTold old.world.kept new.world.kept) → (has_save effects ≡ false → OnErr r (r ≡ Err error.WriteFailed))
+    → IsCarriedOut false a came old new
+carried a came effects old new r is same sound done part writes keeps failed told only =
+    ended_as false a came old new r is sound.whole sound.refusal
+    (subst (λ (l : List Effect). IsPerformed false old new (all_steps l) r) same
+    (performed effects old new r (ap has_save same ∙ sound.kept) done part writes keeps failed told only))
 
 -- memory was wanting, and nothing was done
-pub wanting : (a : Answer) (w : World) (count : ℕ) → IsCarriedOut a status.NoMemory w w count count
-wanting a w count = record {
-  acts = part_nothing w (all_steps a.effects);
-  ends = inl refl;
-  causes = record {
-    later = omega arith;
-    write = λ is. absurd (cc);
-    keep = λ is. cc;
-    read = λ is. cc;
-    reports = λ is. absurd (cc);
-  };
+pub wanting_causes : (m : Moment) → HasCauses status.NoMemory m m
+wanting_causes m = record {
+  write_later = omega arith;
+  keep_later = omega arith;
+  write = λ is. cc;
+  keep = λ is. cc;
+  read = λ is. cc;
+  reports = λ is. cc;
 }
+
+pub wanting : (keeps : Bool) (a : Answer) (m : Moment) → IsCarriedOut keeps a status.NoMemory m m
+wanting keeps a m = record { acts = part_nothing m.world (all_steps a.effects); ends = inl refl; causes = wanting_causes m }
 
 -- an answer for which there was memory
 pub told_same : {E : Type 0} (r : Result Answer E) (told : Answer) → IfOk r (IsAnswer told) → IfOk r (λ a. a ≡ told)
@@ -115,7 +151,10 @@ pub told_sound : {E : Type 0} (r : Result Answer E) (told : Answer) → IfOk r (
 told_sound (Ok a) told is = is.sound
 told_sound (Err e) told is = tt
 
--- words are not answered with a refusal of a scenario
-pub not_refused : (whole came : Status) → is_of_words whole ≡ true → (is_fault came ≡ true) ⊎ (came ≡ whole) → came ≡ status.Refused → ⊥
-not_refused whole came of (inl fault) is = let bad : true ≡ false = sym fault ∙ ap is_fault is in absurd (cc)
-not_refused whole came of (inr same) is = let bad : true ≡ false = sym of ∙ ap is_of_words (sym same ∙ is) in absurd (cc)
+-- words are answered neither with a refusal of a scenario nor with a failure of the keeper
+pub not_of_words : (whole came other : Status) → is_of_words whole ≡ true → is_of_words other ≡ false → is_fault false other ≡ false
+    → (is_fault false came ≡ true) ⊎ (came ≡ whole) → came ≡ other → ⊥
+not_of_words whole came other of none no_fault (inl fault) is =
+    let bad : true ≡ false = sym fault ∙ ap (is_fault false) is ∙ no_fault in absurd (cc)
+not_of_words whole came other of none no_fault (inr same) is =
+    let bad : true ≡ false = sym of ∙ ap is_of_words (sym same ∙ is) ∙ none in absurd (cc)

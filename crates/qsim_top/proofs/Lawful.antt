@@ -18,18 +18,19 @@ use Rattle.town.specs.Rows.{TownRows, IsTown}
 use Rattle.town.specs.Setups.{setup_of}
 use Rattle.law_in_range.specs.Setups.{IsPlanIn}
 use Rattle.law_replanning.specs.Memories.{IsMemoryIn}
-use Rattle.plan_memory.specs.Memories.{MemoryRows}
+use Rattle.plan_memory.specs.Memories.{MemoryRows, chosen_plan}
 use Rattle.iterations.specs.Runs.{RunRows}
 use Rattle.iterations.specs.Acts.{memories_at}
 use Rattle.iterations.specs.Days.{followed_plans, day_in}
-use Rattle.iterations.proofs.Staying.{always_in, followed_in, always_count, followed_count}
+use Rattle.iterations.proofs.Staying.{always_in, followed_in, always_count}
 use Rattle.law_valid_files.specs.Valid.{IsScenario}
 use Rattle.signals.specs.Signals.{AreNeverGreen}
 use Rattle.law_valid_files.proofs.Valid.{scenario_valid}
 use Rattle.law_valid_files.proofs.Conflicts.{conflicts_kept}
 use Rattle.day_scores.specs.Standing.{AreScored}
+use Rattle.std.proofs.lemmas.List.{length-map}
 use Rattle.std.proofs.lemmas.List.Elements.{All-weaker}
-use Rattle.std.specs.Prelude.{All}
+use Rattle.std.specs.Prelude.{All, Bool}
 use Rattle.signals.specs.declared.conflict.Conflict.{Conflict}
 use Rattle.scenario.specs.FilesToScenario.{conflicts_in}
 use Rattle.law_signals.specs.Signals.{NeverTogether}
@@ -57,27 +58,27 @@ follows R k memories town each all =
     let S : Setup = setup_of R.town plans k in
     let persons : length S.persons ≡ length plans = persons_are R.town plans k in
     record {
-      everybody = persons ∙ followed_count memories ∙ each;
+      everybody = persons ∙ length-map memories chosen_plan ∙ each;
       sound = λ t. day_sound S t (rows_sound R.town plans k town fit);
       told = λ i less. rows_told R.town plans k i town fit (subst (λ (n : ℕ). i < n) persons less);
       scored = subst (λ (n : ℕ). AreScored n (day S)) (sym persons) (λ i less. rows_scored R.town plans k i town fit less);
     }
 
 -- the same of every iteration of a valid scenario
-scenario_follows : (S : ScenarioRows) (k : ℕ) → IsScenario S → FollowsPlans S.town (day_of S k)
-scenario_follows S k valid =
-    let R : RunRows = run_rows_of S in
+scenario_follows : (keeps : Bool) (S : ScenarioRows) (k : ℕ) → IsScenario S → FollowsPlans S.town (day_of keeps S k)
+scenario_follows keeps S k valid =
+    let R : RunRows = run_rows_of keeps S in
     follows R k (memories_at R S.memories k) valid.town (always_count R S.memories k ∙ valid.each)
     (always_in R valid.town valid.learning S.memories valid.memories k)
 
-pub files_follow : (texts : Texts) (k : ℕ) → scenario_fault texts ≡ None
-    → FollowsPlans (scenario_rows texts).town (day_of (scenario_rows texts) k)
-files_follow texts k none = scenario_follows (scenario_rows texts) k (scenario_valid texts none)
+pub files_follow : (keeps : Bool) (texts : Texts) (k : ℕ) → scenario_fault texts ≡ None
+    → FollowsPlans (scenario_rows texts).town (day_of keeps (scenario_rows texts) k)
+files_follow keeps texts k none = scenario_follows keeps (scenario_rows texts) k (scenario_valid texts none)
 
 -- the links of a conflict are never green together, so no vehicles leave them in one second
-pub files_keep : (texts : Texts) (k : ℕ) → scenario_fault texts ≡ None → KeepsConflicts texts (day_of (scenario_rows texts) k)
+pub files_keep : (keeps : Bool) (texts : Texts) (k : ℕ) → scenario_fault texts ≡ None → KeepsConflicts texts (day_of keeps (scenario_rows texts) k)
 unfolding setup_of
-files_keep texts k none =
-    let S = day_of (scenario_rows texts) k in
+files_keep keeps texts k none =
+    let S = day_of keeps (scenario_rows texts) k in
     All-weaker (AreNeverGreen (scenario_rows texts).town.greens) (λ (conflict : Conflict). NeverTogether S conflict.first conflict.second)
     (λ conflict kept. never_together S conflict.first conflict.second kept) (conflicts_in texts) (conflicts_kept texts none)

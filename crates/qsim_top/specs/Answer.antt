@@ -1,5 +1,5 @@
 -- What a run answers and does outside.
-use Rattle.std.specs.Prelude.{◌≡◌, ◌≢◌, ℕ, Bool, true, false, List, [], ◌∷◌, Option, None, Some}
+use Rattle.std.specs.Prelude.{◌≡◌, ◌≢◌, ◌⊎◌, ℕ, Bool, true, false, List, [], ◌∷◌, Option, None, Some}
 use Rattle.std.specs.List.{list_all}
 use Rattle.std.specs.Io.KnownBytes.{Appends}
 use Rattle.edge_files.specs.declared.files.OutFile.{OutFile}
@@ -7,9 +7,13 @@ use Rattle.edge_files.specs.declared.files.OutFile.TheVariants as out
 use Rattle.edge_files.specs.declared.effects.Effect.{Effect}
 use Rattle.edge_files.specs.declared.effects.Effect.TheVariants as effect
 use Rattle.edge_files.specs.Effects.{all_steps, has_save}
+use Rattle.edge_files.specs.Keeping.{Kept}
 use Rattle.edge_files.specs.World.{World, Written, is_same, Does, DoesPart}
+use Rattle.keep.specs.Fitting.{AreRowsOf, IsForeignAt}
+use Rattle.plan_memory.specs.Memories.{MemoryRows}
 use Rattle.iterations.specs.Runs.{RunRows}
 use Rattle.iterations.specs.Acts.{acts}
+use Rattle.iterations.specs.Continued.{continued}
 use Rattle.route_report.specs.Report.{RoadMap, route_text}
 use Rattle.town.specs.declared.town.Town.{Town}
 use Rattle.scenario.specs.declared.faults.ScenarioFault.{ScenarioFault}
@@ -20,26 +24,43 @@ use Rattle.command_line.specs.declared.commands.Command.TheVariants as command
 use Rattle.qsim_top.specs.declared.answers.Answer.{Answer}
 use Rattle.qsim_top.specs.declared.answers.Status.{Status}
 use Rattle.qsim_top.specs.declared.answers.Status.TheVariants as status
-use Rattle.qsim_top.specs.Texts.{grid_line, no_way_line, refused_line, valid_line}
+use Rattle.qsim_top.specs.Texts.{grid_line, no_way_line, nothing_kept_line, foreign_line, refused_line, valid_line}
 
 -- a text goes to the report, and nothing else is done
 abbrev pub report : Status → List ℕ → Answer
 report status text = record { status = status; effects = effect.Write out.Report text ∷ [] }
 
--- what a run of a scenario is made from, beside what its persons remember at first
-abbrev pub run_rows_of : ScenarioRows → RunRows
-run_rows_of S = record { town = S.town; scoring = S.scoring; learning = S.learning; last_iteration = S.last_iteration }
+-- what a run of a scenario is made from, beside what its persons remember at first: whether what they remember after each iteration is kept
+abbrev pub run_rows_of : Bool → ScenarioRows → RunRows
+run_rows_of keeps S = record {
+  town = S.town;
+  scoring = S.scoring;
+  learning = S.learning;
+  last_iteration = S.last_iteration;
+  keeps = keeps;
+}
 
 -- all iterations of a scenario are done, and its end
 abbrev pub run_answer : ScenarioRows → Answer
-run_answer S = record { status = status.Done; effects = acts (run_rows_of S) S.memories }
+run_answer S = record { status = status.Done; effects = acts (run_rows_of true S) S.memories }
 
--- a grid of this size and seed is told, and all iterations of its scenario are done, and its end
+-- a grid of this size and seed is told, and all iterations of its scenario are done, and its end; nothing is kept
 abbrev pub grid_answer : ℕ → ℕ → ScenarioRows → Answer
 grid_answer size seed S = record {
   status = status.Done;
-  effects = effect.Write out.Report (grid_line size seed) ∷ acts (run_rows_of S) S.memories;
+  effects = effect.Write out.Report (grid_line size seed) ∷ acts (run_rows_of false S) S.memories;
 }
+
+-- the iterations behind one after which these memories were kept are done, and the end
+abbrev pub resumed_answer : ScenarioRows → ℕ → List MemoryRows → Answer
+resumed_answer S iteration memories = record { status = status.Done; effects = continued (run_rows_of true S) iteration memories }
+
+-- A run goes on from what is kept, if anything is: from the memories whose rows these are, or the first row that is foreign is told.
+abbrev pub Resumes : ScenarioRows → Option Kept → Answer → Type 0
+Resumes S None a = a ≡ report status.NothingKept nothing_kept_line
+Resumes S (Some kept) a =
+    ((memories : List MemoryRows) × AreRowsOf S.town kept.rows memories × (a ≡ resumed_answer S kept.iteration memories))
+    ⊎ ((place : ℕ) × IsForeignAt S.town kept.rows place × (a ≡ report status.Foreign (foreign_line place)))
 
 -- the nodes and the links of a scenario, with their names
 abbrev pub road_map : ScenarioRows → RoadMap
@@ -58,21 +79,22 @@ route_or_none (Some text) = report status.Done text
 abbrev pub route_answer : List ℕ → List ℕ → ℕ → ScenarioRows → Answer
 route_answer from to second S = route_or_none (route_text (road_map S) from to second)
 
--- the work of a command on a valid scenario: its iterations, its counts, a route, or the iterations of a grid
-abbrev pub work : Command → ScenarioRows → Answer
-work command.Run S = run_answer S
-work command.Check S = report status.Done (valid_line S)
-work (command.Route from to second) S = route_answer from to second S
-work (command.Generate size seed last_iteration) S = grid_answer size seed S
+-- what the work of a command on a valid scenario is, by what is kept, on which `resume` alone depends
+abbrev pub Works : Command → ScenarioRows → Option Kept → Answer → Type 0
+Works command.Run S kept a = a ≡ run_answer S
+Works command.Resume S kept a = Resumes S kept a
+Works command.Check S kept a = a ≡ report status.Done (valid_line S)
+Works (command.Route from to second) S kept a = a ≡ route_answer from to second S
+Works (command.Generate size seed last_iteration) S kept a = a ≡ grid_answer size seed S
 
 -- a scenario with a fault is refused by its first one
-abbrev pub work_or_refusal : Command → Option ScenarioFault → ScenarioRows → Answer
-work_or_refusal c None S = work c S
-work_or_refusal c (Some fault) S = report status.Refused (refused_line fault)
+abbrev pub WorksOrRefused : Command → Option ScenarioFault → ScenarioRows → Option Kept → Answer → Type 0
+WorksOrRefused c None S kept a = Works c S kept a
+WorksOrRefused c (Some fault) S kept a = a ≡ report status.Refused (refused_line fault)
 
--- the answer of a command to files
-unfoldable pub answer : Command → Texts → Answer
-answer c texts = work_or_refusal c (scenario_fault texts) (scenario_rows texts)
+-- the answer to a command with these files, by what is kept
+unfoldable pub IsAnswerTo : Command → Texts → Option Kept → Answer → Type 0
+IsAnswerTo c texts kept a = WorksOrRefused c (scenario_fault texts) (scenario_rows texts) kept a
 
 -- With a status of an answer all its effects were done, in order and nothing else; with any other a front of their steps.
 -- A failed read comes before all of them.

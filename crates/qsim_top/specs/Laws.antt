@@ -1,5 +1,8 @@
 -- What holds of the day of every iteration of a scenario.
-use Rattle.std.specs.Prelude.{◌≡◌, ◌≢◌, ◌↔◌, ◌<◌, ◌≤◌, ℕ, List, ◌∷◌, ◌++◌, length, All}
+use Rattle.std.specs.Prelude.{◌≡◌, ◌≢◌, ◌↔◌, ◌⊎◌, ◌<◌, ◌≤◌, ℕ, suc, Bool, true, List, ◌∷◌, ◌++◌, length, All, Option, Some}
+use Rattle.edge_files.specs.Effects.{all_steps}
+use Rattle.edge_files.specs.Keeping.{Kept, kept_of}
+use Rattle.edge_files.specs.World.{Step, kept_after}
 use Rattle.events.specs.declared.event.Event.{Event}
 use Rattle.events.specs.declared.event.Phase.{Phase}
 use Rattle.events.specs.declared.event.Phase.TheVariants as phase
@@ -21,13 +24,16 @@ use Rattle.day_scores.specs.Standing.{AreScored}
 use Rattle.route_report.specs.Reported.{NoWay, IsReport}
 use Rattle.qsim_top.specs.declared.answers.Status.TheVariants as status
 use Rattle.town.specs.Rows.{TownRows}
-use Rattle.iterations.specs.Acts.{memories_at}
-use Rattle.iterations.specs.Days.{day_in}
-use Rattle.qsim_top.specs.Answer.{run_rows_of, road_map, report, route_answer}
+use Rattle.keep.specs.Kept.{kept_rows}
+use Rattle.iterations.specs.Acts.{memories_at, iterations_effects, acts}
+use Rattle.iterations.specs.Days.{day_in, memories_after}
+use Rattle.qsim_top.specs.declared.answers.Answer.{Answer}
+use Rattle.qsim_top.specs.Answer.{run_rows_of, road_map, report, route_answer, Resumes}
 
--- the setup of the day of an iteration, on which each person follows the plan that he has chosen by then
-abbrev pub day_of : ScenarioRows → ℕ → Setup
-day_of scenario k = day_in (run_rows_of scenario) k (memories_at (run_rows_of scenario) scenario.memories k)
+-- the setup of the day of an iteration of a run that keeps what is remembered or does not, on which each person follows the plan that he has
+-- chosen by then
+abbrev pub day_of : Bool → ScenarioRows → ℕ → Setup
+day_of keeps scenario k = day_in (run_rows_of keeps scenario) k (memories_at (run_rows_of keeps scenario) scenario.memories k)
 
 -- The laws of a day: in every second each person is in exactly one place; no queue has more rows that were not pushed in than its storage;
 -- at the moment when a vehicle enters a queue there is room, or it is stuck and is pushed in; no more vehicles pass than the flow allows, and
@@ -65,3 +71,33 @@ pub record ReportsRoutes (scenario : ScenarioRows) : Type 0 where
       → ((route_answer from to second scenario).status ≡ status.NoWay) ↔ NoWay (road_map scenario) from to
   pub least : (from to : List ℕ) (second : ℕ) (text : List ℕ) → route_answer from to second scenario ≡ report status.Done text
       → IsReport (road_map scenario) from to second text
+
+-- the same scenario with another last iteration
+abbrev pub until : ScenarioRows → ℕ → ScenarioRows
+until scenario last = record {
+  town = scenario.town;
+  node_names = scenario.node_names;
+  memories = scenario.memories;
+  scoring = scenario.scoring;
+  learning = scenario.learning;
+  last_iteration = last;
+}
+
+-- what a run of a scenario keeps after an iteration
+abbrev pub kept_by : ScenarioRows → ℕ → Kept
+kept_by scenario k =
+    kept_of k (kept_rows scenario.town.book
+    (memories_after (run_rows_of true scenario) k (memories_at (run_rows_of true scenario) scenario.memories k)))
+
+-- The laws of what is kept: however far a run has come, what is kept is what was kept before it or what it keeps after one of its iterations;
+-- whatever is kept, going on from it has one answer; and from what a run keeps after an iteration the rest of the run is done, and nothing
+-- else, also of the same run to another last iteration.
+pub record ResumesRuns (scenario : ScenarioRows) : Type 0 where
+  pub kept : (before : Option Kept) (done rest : List Step) → done ++ rest ≡ all_steps (acts (run_rows_of true scenario) scenario.memories)
+      → (kept_after before done ≡ before)
+      ⊎ ((k : ℕ) × (k ≤ scenario.last_iteration) × (kept_after before done ≡ Some (kept_by scenario k)))
+  pub answered : (kept : Option Kept) → (a : Answer) × Resumes scenario kept a
+  pub one_answer : (kept : Option Kept) (a b : Answer) → Resumes scenario kept a → Resumes scenario kept b → a ≡ b
+  pub tail : (last k : ℕ) (a : Answer) → k ≤ last → Resumes (until scenario last) (Some (kept_by scenario k)) a
+      → (a.status ≡ status.Done) × (acts (run_rows_of true (until scenario last)) scenario.memories
+      ≡ iterations_effects (run_rows_of true scenario) 0 scenario.memories (suc k) ++ a.effects)

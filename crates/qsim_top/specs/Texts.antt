@@ -16,6 +16,14 @@ refused_line fault =
 abbrev pub no_way_line : List ℕ
 no_way_line = codes "no way\n"
 
+-- the report that nothing is kept from which a run could go on
+abbrev pub nothing_kept_line : List ℕ
+nothing_kept_line = codes "nothing kept\n"
+
+-- the report of kept rows that do not fit: the place of the first one with which it shows
+unfoldable pub foreign_line : ℕ → List ℕ
+foreign_line place = codes "foreign," ++ decimal place ++ codes "\n"
+
 -- the first line of the report of a grid: its size and seed, and how many nodes, links and persons it has
 unfoldable pub grid_counts : ℕ → ℕ → ℕ → ℕ → ℕ → List ℕ
 grid_counts size seed nodes links persons =

@@ -10,6 +10,7 @@ mod laws;
 mod outcomes;
 mod reading;
 mod reporting;
+mod resuming;
 mod running;
 mod texts;
 mod top;

@@ -1,7 +1,7 @@
 //! What comes of an answer.
 
-ghost use Rattle.std.specs.Prelude.{◌≡◌, IfOk};
-ghost use Rattle.edge_files.specs.World.{outside};
+ghost use Rattle.std.specs.Prelude.{◌≡◌, false, IfOk};
+ghost use Rattle.iterations.specs.Performed.{moment};
 ghost use Rattle.qsim_top.specs.declared.answers.Answer.{Answer};
 ghost use Rattle.qsim_top.specs.Answer.{IsSound, IsAnswer};
 ghost use Rattle.qsim_top.specs.Came.{status_after, IsCarriedOut};
@@ -25,10 +25,9 @@ pub fn status_after(whole: Status, outcome: Result<(), EffectError>) -> Status
 /// Does outside what an answer says that keeps nothing.
 fn do_answer<O: Outputs, K: Keeper>(answer: Answer, outputs: &mut O, keeper: &mut K) -> Status
     requires sound { IsSound answer }
-    ensures done { IsCarriedOut answer result
-        (outside (O.written outputs.old) (K.kept keeper.old))
-        (outside (O.written outputs.new) (K.kept keeper.new))
-        (O.faults outputs.old) (O.faults outputs.new) }
+    ensures done { IsCarriedOut false answer result
+        (moment (O.written outputs.old) (K.kept keeper.old) (O.faults outputs.old) (K.faults keeper.old))
+        (moment (O.written outputs.new) (K.kept keeper.new) (O.faults outputs.new) (K.faults keeper.new)) }
     ensures keeper { keeper.new ≡ keeper.old }
 {
     let Answer { status, effects } = answer;
@@ -43,10 +42,9 @@ pub fn carry_out<O: Outputs, K: Keeper>(
     keeper: &mut K,
 ) -> Status
     requires sound { IfOk answer IsSound }
-    ensures done { (told : Answer) → IfOk answer (λ a. a ≡ told) → IsCarriedOut told result
-        (outside (O.written outputs.old) (K.kept keeper.old))
-        (outside (O.written outputs.new) (K.kept keeper.new))
-        (O.faults outputs.old) (O.faults outputs.new) }
+    ensures done { (told : Answer) → IfOk answer (λ a. a ≡ told) → IsCarriedOut false told result
+        (moment (O.written outputs.old) (K.kept keeper.old) (O.faults outputs.old) (K.faults keeper.old))
+        (moment (O.written outputs.new) (K.kept keeper.new) (O.faults outputs.new) (K.faults keeper.new)) }
     ensures keeper { keeper.new ≡ keeper.old }
 {
     match answer {

@@ -110,6 +110,7 @@ fn grid_of(command: &Command) -> Option<Grid>
             last_iteration: *last_iteration,
         }),
         Command::Run => None,
+        Command::Resume => None,
         Command::Check => None,
         Command::Route { .. } => None,
     }

@@ -4,11 +4,11 @@ ghost use Rattle.std.specs.Prelude.{◌≡◌, option_map, true, IfOk};
 ghost use Rattle.edge_files.specs.declared.effects.Effect.TheVariants as effect;
 ghost use Rattle.route_report.specs.Report.{route_text};
 ghost use Rattle.scenario.specs.Views.{scenario_view};
-ghost use Rattle.qsim_top.specs.Texts.{refused_line, valid_line};
+ghost use Rattle.qsim_top.specs.Texts.{foreign_line, nothing_kept_line, refused_line, valid_line};
 ghost use Rattle.qsim_top.specs.Answer.{report, roads_of, route_or_none, route_answer, is_whole, IsSound, IsAnswer};
 
 use crate::answers::{Answer, Status};
-use crate::texts::{no_way_line, refused_line, valid_line};
+use crate::texts::{foreign_line, no_way_line, nothing_kept_line, refused_line, valid_line};
 use edge_files::{Bytes, Effect, EffectList, OutFile};
 use route_report::route_text;
 use scenario::{Scenario, ScenarioFault};
@@ -44,6 +44,24 @@ pub fn refused(alloc: Global, fault: ScenarioFault) -> Result<Answer, AllocError
 {
     let line = refused_line(alloc, fault)?;
     let answer = report(alloc, Status::Refused, line)?;
+    Ok(answer)
+}
+
+/// Nothing is kept from which a run could go on.
+pub fn nothing_kept(alloc: Global) -> Result<Answer, AllocError>
+    ensures { IfOk result (IsAnswer (report Status.NothingKept nothing_kept_line)) }
+{
+    let line = nothing_kept_line(alloc)?;
+    let answer = report(alloc, Status::NothingKept, line)?;
+    Ok(answer)
+}
+
+/// The kept rows do not fit the scenario, as the row at this place shows, or, where it is their number, rows are missing.
+pub fn foreign(alloc: Global, place: u32) -> Result<Answer, AllocError>
+    ensures { IfOk result (IsAnswer (report Status.Foreign (foreign_line place))) }
+{
+    let line = foreign_line(alloc, place)?;
+    let answer = report(alloc, Status::Foreign, line)?;
     Ok(answer)
 }
 

@@ -1,12 +1,15 @@
 //! Runs of scenarios.
 
-ghost use Rattle.std.specs.Prelude.{◌≡◌, ℕ, List, IfOk};
+ghost use Rattle.std.specs.Prelude.{◌≡◌, ℕ, List, false, true, IfOk};
 ghost use Rattle.edge_files.specs.Effects.{all_steps};
-ghost use Rattle.edge_files.specs.World.{outside, byte_steps};
+ghost use Rattle.edge_files.specs.World.{byte_steps};
 ghost use Rattle.iterations.specs.Acts.{acts};
-ghost use Rattle.iterations.specs.Performed.{IsPerformed};
+ghost use Rattle.iterations.specs.Continued.{continued};
+ghost use Rattle.iterations.specs.Performed.{moment, IsPerformed};
+ghost use Rattle.keep.specs.Fitting.{AreMemories};
 ghost use Rattle.scenario.specs.Views.{scenario_view};
-ghost use Rattle.qsim_top.specs.Answer.{run_rows_of, run_answer, grid_answer};
+ghost use Rattle.town.specs.Views.{rows_of};
+ghost use Rattle.qsim_top.specs.Answer.{run_rows_of, run_answer, grid_answer, resumed_answer};
 ghost use Rattle.qsim_top.specs.Came.{IsCarriedOut};
 ghost use Rattle.qsim_top.specs.Texts.{grid_line};
 
@@ -14,6 +17,7 @@ use crate::answers::Status;
 use crate::outcomes::status_after;
 use edge_files::{Bytes, Effect, EffectError, Keeper, OutFile, Outputs, perform};
 use iterations::{RunInput, iterate};
+use plan_memory::MemoryList;
 use scenario::Scenario;
 use std::alloc::{AllocError, Global};
 use std::thread::Threads;
@@ -23,15 +27,15 @@ fn iterate_all<R: Threads + Sync, O: Outputs, K: Keeper>(
     rt: &R,
     alloc: Global,
     scenario: Scenario,
+    keeps: bool,
     outputs: &mut O,
     keeper: &mut K,
 ) -> Result<(), EffectError>
-    ensures performed { IsPerformed
-        (outside (O.written outputs.old) (K.kept keeper.old))
-        (outside (O.written outputs.new) (K.kept keeper.new))
-        (O.faults outputs.old) (O.faults outputs.new)
-        (all_steps (acts (run_rows_of (scenario_view scenario)) (scenario_view scenario).memories)) result }
-    ensures keeper { keeper.new ≡ keeper.old }
+    ensures performed { IsPerformed keeps
+        (moment (O.written outputs.old) (K.kept keeper.old) (O.faults outputs.old) (K.faults keeper.old))
+        (moment (O.written outputs.new) (K.kept keeper.new) (O.faults outputs.new) (K.faults keeper.new))
+        (all_steps (acts (run_rows_of keeps (scenario_view scenario)) (scenario_view scenario).memories)) result }
+    ensures keeper { keeps ≡ false → keeper.new ≡ keeper.old }
 {
     let Scenario {
         town,
@@ -45,14 +49,15 @@ fn iterate_all<R: Threads + Sync, O: Outputs, K: Keeper>(
         tables: &tables,
         learning,
         last_iteration,
+        keeps,
     };
-    let outcome = iterate(rt, alloc, &run, memories.rows, outputs, keeper);
+    let outcome = iterate(rt, alloc, &run, None, memories.rows, outputs, keeper);
     drop(town);
     drop(tables);
     outcome
 }
 
-/// Runs a scenario: all its iterations.
+/// Runs a scenario: all its iterations, each of which is kept.
 pub fn run<R: Threads + Sync, O: Outputs, K: Keeper>(
     rt: &R,
     alloc: Global,
@@ -60,13 +65,48 @@ pub fn run<R: Threads + Sync, O: Outputs, K: Keeper>(
     outputs: &mut O,
     keeper: &mut K,
 ) -> Status
-    ensures done { IsCarriedOut (run_answer (scenario_view scenario)) result
-        (outside (O.written outputs.old) (K.kept keeper.old))
-        (outside (O.written outputs.new) (K.kept keeper.new))
-        (O.faults outputs.old) (O.faults outputs.new) }
-    ensures keeper { keeper.new ≡ keeper.old }
+    ensures { IsCarriedOut true (run_answer (scenario_view scenario)) result
+        (moment (O.written outputs.old) (K.kept keeper.old) (O.faults outputs.old) (K.faults keeper.old))
+        (moment (O.written outputs.new) (K.kept keeper.new) (O.faults outputs.new) (K.faults keeper.new)) }
 {
-    let outcome = iterate_all(rt, alloc, scenario, outputs, keeper);
+    let outcome = iterate_all(rt, alloc, scenario, true, outputs, keeper);
+    status_after(Status::Done, outcome)
+}
+
+/// Goes on with a scenario from memories that were kept after an iteration: does the iterations behind it, each of which is kept, and the
+/// end.
+pub fn go_on<R: Threads + Sync, O: Outputs, K: Keeper>(
+    rt: &R,
+    alloc: Global,
+    scenario: Scenario,
+    kept: u32,
+    memories: MemoryList,
+    outputs: &mut O,
+    keeper: &mut K,
+) -> Status
+    requires fit { AreMemories (rows_of scenario.town) memories }
+    ensures { IsCarriedOut true (resumed_answer (scenario_view scenario) kept memories) result
+        (moment (O.written outputs.old) (K.kept keeper.old) (O.faults outputs.old) (K.faults keeper.old))
+        (moment (O.written outputs.new) (K.kept keeper.new) (O.faults outputs.new) (K.faults keeper.new)) }
+{
+    let Scenario {
+        town,
+        memories: first,
+        tables,
+        learning,
+        last_iteration,
+    } = scenario;
+    drop(first);
+    let run = RunInput {
+        town: &town,
+        tables: &tables,
+        learning,
+        last_iteration,
+        keeps: true,
+    };
+    let outcome = iterate(rt, alloc, &run, Some(kept), memories.rows, outputs, keeper);
+    drop(town);
+    drop(tables);
     status_after(Status::Done, outcome)
 }
 
@@ -76,10 +116,9 @@ fn write_line<O: Outputs, K: Keeper>(
     outputs: &mut O,
     keeper: &mut K,
 ) -> Result<(), EffectError>
-    ensures performed { (told : List ℕ) → IfOk line (λ text. text.items ≡ told) → IsPerformed
-        (outside (O.written outputs.old) (K.kept keeper.old))
-        (outside (O.written outputs.new) (K.kept keeper.new))
-        (O.faults outputs.old) (O.faults outputs.new)
+    ensures performed { (told : List ℕ) → IfOk line (λ text. text.items ≡ told) → IsPerformed false
+        (moment (O.written outputs.old) (K.kept keeper.old) (O.faults outputs.old) (K.faults keeper.old))
+        (moment (O.written outputs.new) (K.kept keeper.new) (O.faults outputs.new) (K.faults keeper.new))
         (byte_steps OutFile.Report told) result }
     ensures keeper { keeper.new ≡ keeper.old }
 {
@@ -93,7 +132,7 @@ fn write_line<O: Outputs, K: Keeper>(
     perform(outputs, keeper, &effects)
 }
 
-/// Tells a grid and runs its scenario.
+/// Tells a grid of this size and seed and runs its scenario. Nothing is kept.
 pub fn run_grid<R: Threads + Sync, O: Outputs, K: Keeper>(
     rt: &R,
     alloc: Global,
@@ -103,15 +142,14 @@ pub fn run_grid<R: Threads + Sync, O: Outputs, K: Keeper>(
     keeper: &mut K,
 ) -> Status
     ensures done { (size seed : ℕ) → IfOk line (λ text. text.items ≡ grid_line size seed)
-        → IsCarriedOut (grid_answer size seed (scenario_view scenario)) result
-        (outside (O.written outputs.old) (K.kept keeper.old))
-        (outside (O.written outputs.new) (K.kept keeper.new))
-        (O.faults outputs.old) (O.faults outputs.new) }
+        → IsCarriedOut false (grid_answer size seed (scenario_view scenario)) result
+        (moment (O.written outputs.old) (K.kept keeper.old) (O.faults outputs.old) (K.faults keeper.old))
+        (moment (O.written outputs.new) (K.kept keeper.new) (O.faults outputs.new) (K.faults keeper.new)) }
     ensures keeper { keeper.new ≡ keeper.old }
 {
     match write_line(line, outputs, keeper) {
         Ok(()) => {
-            let outcome = iterate_all(rt, alloc, scenario, outputs, keeper);
+            let outcome = iterate_all(rt, alloc, scenario, false, outputs, keeper);
             status_after(Status::Done, outcome)
         }
         Err(error) => {

@@ -1,7 +1,8 @@
 ghost use Rattle.std.specs.Prelude.{◌≡◌, ◌≤◌, IfOk};
 ghost use Rattle.scenario.specs.Views.{scenario_view};
 ghost use Rattle.workload.specs.declared.TheConstants.{LEAST_SIZE, MOST_SIZE};
-ghost use Rattle.qsim_top.specs.Texts.{grid_counts, grid_line, no_way_line, refused_line, valid_counts, valid_line};
+ghost use Rattle.qsim_top.specs.Texts.{foreign_line, grid_counts, grid_line, no_way_line, nothing_kept_line};
+ghost use Rattle.qsim_top.specs.Texts.{refused_line, valid_counts, valid_line};
 
 use scenario::{Scenario, ScenarioFault};
 use std::alloc::{AllocError, Global};
@@ -26,6 +27,23 @@ pub fn no_way_line(alloc: Global) -> Result<Vec<u8>, AllocError>
 {
     let line = Vec::from_slice(alloc, b"no way\n")?;
     Ok(line)
+}
+
+/// The report that nothing is kept from which a run could go on.
+pub fn nothing_kept_line(alloc: Global) -> Result<Vec<u8>, AllocError>
+    ensures { IfOk result (λ line. line.items ≡ nothing_kept_line) }
+{
+    let line = Vec::from_slice(alloc, b"nothing kept\n")?;
+    Ok(line)
+}
+
+/// The report of kept rows that do not fit, by the place of the first one with which it shows.
+#[tactic(auto, unfolding(crate::specs::Texts::foreign_line))]
+pub fn foreign_line(alloc: Global, place: u32) -> Result<Vec<u8>, AllocError>
+    ensures { IfOk result (λ line. line.items ≡ foreign_line place) }
+{
+    let line = format!(in alloc; "foreign,{place}\n")?;
+    Ok(line.into_bytes())
 }
 
 /// The first line of the report of a grid, by its size and seed, and the numbers of its nodes, links and persons.

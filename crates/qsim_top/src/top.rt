@@ -1,13 +1,14 @@
-ghost use Rattle.std.specs.Prelude.{◌≡◌, ◌≤◌, map, ℕ, true, None, string_bytes};
+ghost use Rattle.std.specs.Prelude.{◌≡◌, ◌≤◌, map, ℕ, Bool, false, true, None, string_bytes};
 ghost use Rattle.command_line.specs.Cases.{case_of, Work};
 ghost use Rattle.command_line.specs.Commands.{IsInRange};
 ghost use Rattle.edge_files.specs.Causes.{Rose};
 ghost use Rattle.edge_files.specs.World.{outside};
+ghost use Rattle.iterations.specs.Performed.{moment};
 ghost use Rattle.scenario.specs.Texts.{Texts};
 ghost use Rattle.scenario.specs.FilesToScenario.{ScenarioRows, scenario_fault, scenario_rows};
 ghost use Rattle.qsim_top.specs.Answer.{report, is_of_words, OnlyReports};
-ghost use Rattle.qsim_top.specs.Came.{AnswersCase, IsCarriedOut};
-ghost use Rattle.qsim_top.specs.Laws.{day_of, IsLawful, FollowsPlans, KeepsConflicts, ReportsRoutes};
+ghost use Rattle.qsim_top.specs.Came.{uses_keeper, may_keep, AnswersCase, IsCarriedOut};
+ghost use Rattle.qsim_top.specs.Laws.{day_of, IsLawful, FollowsPlans, KeepsConflicts, ReportsRoutes, ResumesRuns};
 
 use crate::answers::Status;
 use crate::laws::know_days;
@@ -37,11 +38,13 @@ fn do_work<R: Threads + Sync, I: Inputs, O: Outputs, K: Keeper>(
         (outside (O.written outputs.new) (K.kept keeper.new)) }
     ensures read { result ≡ Status.ReadFault → Rose (I.faults inputs.old) (I.faults inputs.new) }
     ensures write { result ≡ Status.WriteFault → Rose (O.faults outputs.old) (O.faults outputs.new) }
-    ensures kept { result ≡ Status.KeepFault → ⊥ }
+    ensures keep { result ≡ Status.KeepFault → Rose (K.faults keeper.old) (K.faults keeper.new) }
     ensures reports { result ≡ Status.Refused → OnlyReports (O.written outputs.old) (O.written outputs.new) }
     ensures read_later { I.faults inputs.old ≤ I.faults inputs.new }
     ensures write_later { O.faults outputs.old ≤ O.faults outputs.new }
-    ensures keeper { keeper.new ≡ keeper.old }
+    ensures keep_later { K.faults keeper.old ≤ K.faults keeper.new }
+    ensures keeper { uses_keeper command ≡ false → keeper.new ≡ keeper.old }
+    ensures unkept { uses_keeper command ≡ false → result ≡ Status.KeepFault → ⊥ }
     ensures unread { result ≡ Status.ReadFault → outputs.new ≡ outputs.old }
 {
     match scenario_for(rt, alloc, &command, inputs) {
@@ -63,10 +66,9 @@ fn tell<O: Outputs, K: Keeper>(
     keeper: &mut K,
 ) -> Status
     requires { is_of_words status ≡ true }
-    ensures done { IsCarriedOut (report status (string_bytes text)) result
-        (outside (O.written outputs.old) (K.kept keeper.old))
-        (outside (O.written outputs.new) (K.kept keeper.new))
-        (O.faults outputs.old) (O.faults outputs.new) }
+    ensures done { IsCarriedOut false (report status (string_bytes text)) result
+        (moment (O.written outputs.old) (K.kept keeper.old) (O.faults outputs.old) (K.faults keeper.old))
+        (moment (O.written outputs.new) (K.kept keeper.new) (O.faults outputs.new) (K.faults keeper.new)) }
     ensures refused { result ≡ Status.Refused → ⊥ }
     ensures kept { result ≡ Status.KeepFault → ⊥ }
     ensures keeper { keeper.new ≡ keeper.old }
@@ -75,13 +77,14 @@ fn tell<O: Outputs, K: Keeper>(
     carry_out(answer, outputs, keeper)
 }
 
-/// Does what the words ask for: `qsim run` simulates the days of a scenario, tells what each is worth to each person, and writes the
-/// plans at the end; `qsim check` reads the scenario and reports its counts or its first fault; `qsim route` reads it and reports the
-/// route of least arrival between two nodes; `qsim generate` makes a grid and runs it, and reads no file.
+/// Does what the words ask for: `qsim run` simulates the days of a scenario, tells what each is worth to each person, keeps what they
+/// remember after it, and writes the plans at the end; `qsim resume` goes on from what is kept; `qsim check` reads the scenario and reports
+/// its counts or its first fault; `qsim route` reads it and reports the route of least arrival between two nodes; `qsim generate` makes a
+/// grid and runs it, and reads and keeps nothing.
 ///
-/// The words are read first, then all files, and then all that the answer holds is done outside, what is written of an iteration as soon as
-/// it is over. Routes are searched, and persons replan, by as many threads as there are processors, each of which is joined. The keeper and
-/// the gate are not called.
+/// The words are read first, then all files, then what is kept, and then all that the answer holds is done outside, what is written and
+/// kept of an iteration as soon as it is over. Routes are searched, and persons replan, by as many threads as there are processors,
+/// each of which is joined. The gate is not called.
 pub fn qsim<R: Threads + Wait + Sync, I: Inputs, O: Outputs, K: Keeper, G: Gate>(
     rt: &R,
     alloc: Global,
@@ -104,18 +107,22 @@ pub fn qsim<R: Threads + Wait + Sync, I: Inputs, O: Outputs, K: Keeper, G: Gate>
     ensures unread { result ≡ Status.ReadFault → outputs.new ≡ outputs.old }
     ensures read_later { I.faults inputs.old ≤ I.faults inputs.new }
     ensures write_later { O.faults outputs.old ≤ O.faults outputs.new }
+    ensures keep_later { K.faults keeper.old ≤ K.faults keeper.new }
 
-    // No command keeps anything yet.
-    ensures keeper { keeper.new ≡ keeper.old }
-    ensures unkept { result ≡ Status.KeepFault → ⊥ }
+    // Only what runs the scenario of files, or goes on with it, calls the keeper.
+    ensures keeper { may_keep (case_of (map string_bytes words.now)) ≡ false → keeper.new ≡ keeper.old }
+    ensures unkept { may_keep (case_of (map string_bytes words.now)) ≡ false → result ≡ Status.KeepFault → ⊥ }
 
     // Of the day of every iteration of every scenario, and of the days and the routes of files without a fault.
-    ensures lawful { (scenario : ScenarioRows) (k : ℕ) → IsLawful (day_of scenario k) }
-    ensures planned { (texts : Texts) (k : ℕ) → scenario_fault texts ≡ None
-        → FollowsPlans (scenario_rows texts).town (day_of (scenario_rows texts) k) }
-    ensures conflicts { (texts : Texts) (k : ℕ) → scenario_fault texts ≡ None
-        → KeepsConflicts texts (day_of (scenario_rows texts) k) }
+    ensures lawful { (keeps : Bool) (scenario : ScenarioRows) (k : ℕ) → IsLawful (day_of keeps scenario k) }
+    ensures planned { (keeps : Bool) (texts : Texts) (k : ℕ) → scenario_fault texts ≡ None
+        → FollowsPlans (scenario_rows texts).town (day_of keeps (scenario_rows texts) k) }
+    ensures conflicts { (keeps : Bool) (texts : Texts) (k : ℕ) → scenario_fault texts ≡ None
+        → KeepsConflicts texts (day_of keeps (scenario_rows texts) k) }
     ensures routed { (texts : Texts) → scenario_fault texts ≡ None → ReportsRoutes (scenario_rows texts) }
+
+    // A run that was stopped behind a save and is resumed does what is left of it.
+    ensures resumed { (texts : Texts) → scenario_fault texts ≡ None → ResumesRuns (scenario_rows texts) }
 {
     know_days();
     match read_words(alloc, words) {

@@ -1,15 +1,15 @@
 //! The work of the commands.
 
-ghost use Rattle.std.specs.Prelude.{◌≡◌};
+ghost use Rattle.std.specs.Prelude.{◌≡◌, false};
 ghost use Rattle.command_line.specs.Commands.{IsInRange};
-ghost use Rattle.edge_files.specs.World.{outside};
+ghost use Rattle.iterations.specs.Performed.{moment};
 ghost use Rattle.scenario.specs.Views.{scenario_view};
-ghost use Rattle.qsim_top.specs.Answer.{work};
-ghost use Rattle.qsim_top.specs.Came.{IsWorked};
+ghost use Rattle.qsim_top.specs.Came.{uses_keeper, IsWorked};
 
 use crate::answers::Status;
 use crate::outcomes::carry_out;
 use crate::reporting::{check, route};
+use crate::resuming::resume;
 use crate::running::{run, run_grid};
 use crate::texts::grid_line;
 use command_line::Command;
@@ -28,14 +28,14 @@ pub fn work<R: Threads + Sync, O: Outputs, K: Keeper>(
     keeper: &mut K,
 ) -> Status
     requires in_range { IsInRange command }
-    ensures done { IsWorked command (work command (scenario_view scenario)) result
-        (outside (O.written outputs.old) (K.kept keeper.old))
-        (outside (O.written outputs.new) (K.kept keeper.new))
-        (O.faults outputs.old) (O.faults outputs.new) }
-    ensures keeper { keeper.new ≡ keeper.old }
+    ensures done { IsWorked command (scenario_view scenario) result
+        (moment (O.written outputs.old) (K.kept keeper.old) (O.faults outputs.old) (K.faults keeper.old))
+        (moment (O.written outputs.new) (K.kept keeper.new) (O.faults outputs.new) (K.faults keeper.new)) }
+    ensures keeper { uses_keeper command ≡ false → keeper.new ≡ keeper.old }
 {
     match command {
         Command::Run => run(rt, alloc, scenario, outputs, keeper),
+        Command::Resume => resume(rt, alloc, scenario, outputs, keeper),
         Command::Check => carry_out(check(alloc, scenario), outputs, keeper),
         Command::Route { from, to, second } => {
             let answer = route(alloc, scenario, from, to, second);

@@ -5,4 +5,4 @@ use Rattle.iterations.proofs.ends.write_end.Goals as goal
 pub returns-in-Ok-clause-performed : goal.returns-in-Ok-clause-performed
 unfolding end_effects
 returns-in-Ok-clause-performed g c =
-    same_steps _ _ _ _ _ _ _ (two_effects _ _ _ _) (one_then _ _ _ _ _ _ _ _ _ _ c.in-Ok.ensures.performed c.write_done.ensures.performed)
+    same_steps _ _ _ _ _ (two_effects _ _ _ _) (one_then _ _ _ _ _ _ _ c.in-Ok.ensures.performed c.write_done.ensures.performed)

@@ -6,7 +6,7 @@ use Rattle.iterations.proofs.ends.write_persons.Goals as goal
 
 pub loop-rest-preserved : goal.loop-rest-preserved
 loop-rest-preserved g c = record {
-  going = going_text _ _ _ _ _ _ _ _ _ _ _ _
+  going = going_text _ _ _ _ _ _ _ _ _
       (persons_behind c.args.town.now.book c.loop-rest.first c.min-count.result _ c.loop-rest.rest.now _ _ (omega (arith, c.min-count.ensures))
       c.split_at.ensures.front c.split_at.ensures.back refl)
       c.loop-rest.invariant.going c.in-Ok.ensures.performed;
@@ -17,7 +17,7 @@ loop-rest-preserved g c = record {
 
 pub returns-in-Err-clause-performed : goal.returns-in-Err-clause-performed
 returns-in-Err-clause-performed g c =
-    going_text_failed _ _ _ _ _ _ _ _ _ _ _ _
+    going_text_failed _ _ _ _ _ _ _ _ _
     (persons_behind c.args.town.now.book c.loop-rest.first c.min-count.result _ c.loop-rest.rest.now _ _ (omega (arith, c.min-count.ensures))
     c.split_at.ensures.front c.split_at.ensures.back refl)
     c.loop-rest.invariant.going c.in-Err.ensures.performed

@@ -1,7 +1,17 @@
-use Rattle.std.proofs.Common.{List, ap, ◌∙◌}
-use Rattle.iterations.proofs.Outside.{one_then}
+use Rattle.std.proofs.Common.{◌∙◌}
+use Rattle.iterations.proofs.Outside.{one_then, first_failed, written}
 use Rattle.iterations.proofs.iterating.finish.Goals as goal
 
 pub returns-in-Ok-clause-performed : goal.returns-in-Ok-clause-performed
 returns-in-Ok-clause-performed g c =
-    one_then _ _ _ _ _ _ _ _ _ _ c.in-Ok.ensures.performed (rw (c.deref.ensures.value ∙ c.in-Ok.ensures.memories) at c.write_end.ensures.performed)
+    one_then _ _ _ _ _ _ _ c.in-Ok.ensures.performed
+    (written _ _ _ _ _ (rw (c.deref.ensures.value ∙ c.in-Ok.ensures.memories) at c.write_end.ensures.performed))
+
+pub returns-in-Ok-clause-keeper : goal.returns-in-Ok-clause-keeper
+returns-in-Ok-clause-keeper g c off = c.write_end.ensures.keeper ∙ c.in-Ok.ensures.keeper off
+
+pub returns-in-Err-clause-performed : goal.returns-in-Err-clause-performed
+returns-in-Err-clause-performed g c = first_failed _ _ _ _ _ c.in-Err.ensures.performed
+
+pub returns-in-Err-clause-keeper : goal.returns-in-Err-clause-keeper
+returns-in-Err-clause-keeper g c off = c.in-Err.ensures.keeper off

@@ -1,10 +1,11 @@
 use Rattle.qsim_top.specs.Laws.{day_of}
 use Rattle.qsim_top.proofs.Lawful.{lawful, files_follow, files_keep}
+use Rattle.qsim_top.proofs.Resumes.{files_resume}
 use Rattle.qsim_top.proofs.Routed.{files_report}
 use Rattle.qsim_top.proofs.laws.know_days.Goals as goal
 
 pub returns-clause-lawful : goal.returns-clause-lawful
-returns-clause-lawful c = λ S k. lawful (day_of S k)
+returns-clause-lawful c = λ keeps S k. lawful (day_of keeps S k)
 
 pub returns-clause-planned : goal.returns-clause-planned
 returns-clause-planned c = files_follow
@@ -14,3 +15,6 @@ returns-clause-routed c = files_report
 
 pub returns-clause-conflicts : goal.returns-clause-conflicts
 returns-clause-conflicts c = files_keep
+
+pub returns-clause-resumed : goal.returns-clause-resumed
+returns-clause-resumed c = files_resume

@@ -1,10 +1,10 @@
-use Rattle.std.proofs.Common.{refl}
+use Rattle.std.proofs.Common.{true, refl}
 use Rattle.scenario.specs.Views.{scenario_view}
 use Rattle.qsim_top.specs.Answer.{run_answer}
 use Rattle.qsim_top.proofs.Ending.{ended_as}
 use Rattle.qsim_top.proofs.running.run.Goals as goal
 
-pub returns-clause-done : goal.returns-clause-done
-returns-clause-done g c =
-    ended_as (run_answer (scenario_view c.args.scenario)) c.status_after.result _ _ _ _ c.iterate_all-outcome.result c.status_after.ensures refl
+pub returns : goal.returns
+returns g c =
+    ended_as true (run_answer (scenario_view c.args.scenario)) c.status_after.result _ _ c.iterate_all-outcome.result c.status_after.ensures refl
     (λ bad. cc) c.iterate_all-outcome.ensures.performed

@@ -1,8 +1,9 @@
 use Rattle.std.specs.Prelude.{IfOk}
-use Rattle.std.proofs.Common.{◌≡◌, ℕ, List, Vec, Global, string_bytes, ap, subst}
+use Rattle.std.proofs.Common.{◌≡◌, ℕ, List, Vec, Global, string_bytes, ap, refl, subst}
 use Rattle.qsim_top.specs.declared.answers.Answer.{Answer}
+use Rattle.qsim_top.specs.declared.answers.Status.TheVariants as status
 use Rattle.qsim_top.specs.Answer.{report}
-use Rattle.qsim_top.proofs.Ending.{not_refused}
+use Rattle.qsim_top.proofs.Ending.{not_of_words}
 use Rattle.qsim_top.proofs.top.tell.Goals as goal
 
 pub returns-clause-done : goal.returns-clause-done
@@ -14,9 +15,9 @@ returns-clause-done g c =
 pub returns-clause-refused : goal.returns-clause-refused
 returns-clause-refused g c =
     let did = c.carry_out.ensures.done (report c.args.status c.into_bytes.result.items) c.report-answer.ensures.answer in
-    not_refused c.args.status c.carry_out.result c.requires did.ends
+    not_of_words c.args.status c.carry_out.result status.Refused c.requires refl refl did.ends
 
 pub returns-clause-kept : goal.returns-clause-kept
 returns-clause-kept g c =
     let did = c.carry_out.ensures.done (report c.args.status c.into_bytes.result.items) c.report-answer.ensures.answer in
-    did.causes.keep
+    not_of_words c.args.status c.carry_out.result status.KeepFault c.requires refl refl did.ends

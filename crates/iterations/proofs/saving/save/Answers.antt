@@ -1,0 +1,8 @@
+use Rattle.town.specs.Views.{rows_of}
+use Rattle.iterations.proofs.Named.{memories_named}
+use Rattle.iterations.proofs.ScoredDays.{town_names}
+use Rattle.iterations.proofs.saving.save.Goals as goal
+
+pub rows_of-requires-clause-named : goal.rows_of-requires-clause-named
+rows_of-requires-clause-named g c =
+    memories_named (rows_of c.args.run.now.town.now) c.args.memories.now (town_names c.args.run.now.town.now) c.requires.fit

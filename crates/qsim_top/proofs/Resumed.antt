@@ -1,0 +1,233 @@
+-- Going on from what is kept.
+use Rattle.std.proofs.Common.{◌≡◌, ◌⊎◌, ◌<◌, ◌≤◌, ◌+◌, ℕ, Bool, true, false, List, [], ◌∷◌, ◌++◌, length, Option, None, Some, Result, Ok, Err, refl, sym, ◌∙◌, ap, subst, inl, inr, arith}
+use Rattle.std.proofs.lemmas.Bool.{and_from}
+use Rattle.std.specs.Prelude.{All, option_map}
+use Rattle.std.specs.List.{list_all, AllByRecursion as Each}
+use Rattle.std.proofs.lemmas.List.Elements.{recursion_from_All}
+use Rattle.edge_files.specs.declared.keeping.KeptRow.{KeptRow}
+use Rattle.edge_files.specs.declared.keeping.KeepFail.{KeepFail}
+use Rattle.edge_files.specs.declared.keeping.KeepFail.TheVariants as fail
+use Rattle.edge_files.specs.Causes.{Rose, KeepHasCause}
+use Rattle.edge_files.specs.Effects.{all_steps}
+use Rattle.edge_files.specs.Keeping.{Kept, Told, Stays, StaysIfTold, IsTold, Loads, kept_of, rows_of}
+use Rattle.edge_files.specs.World.{World, Written, Step, outside, KeptBecomes, KeptBecomesIfTold, Does, DoesPart}
+use Rattle.edge_files.proofs.Written.{writes_nothing}
+use Rattle.edge_files.proofs.Worlds.{does_then, part_then, part_nothing}
+use Rattle.keep.specs.declared.reading.KeptStop.{KeptStop}
+use Rattle.keep.specs.declared.reading.KeptStop.TheVariants as kept_stop
+use Rattle.keep.specs.Fitting.{IsMemoryIn, AreMemories, AreRowsOf, IsForeignAt, IsRead}
+use Rattle.keep.proofs.Either.{one_place}
+use Rattle.plan_memory.specs.Memories.{MemoryRows}
+use Rattle.law_replanning.specs.Memories.{hold_fitting, all_hold_fitting}
+use Rattle.learning.specs.Ranges.{AreInRange}
+use Rattle.iterations.specs.Runs.{RunRows, CanRun}
+use Rattle.iterations.specs.Performed.{Moment, moment}
+use Rattle.scenario.specs.FilesToScenario.{ScenarioRows}
+use Rattle.town.specs.Rows.{TownRows}
+use Rattle.town.specs.Fits.{fits}
+use Rattle.command_line.specs.declared.commands.Command.TheVariants as command
+use Rattle.qsim_top.specs.declared.answers.Answer.{Answer}
+use Rattle.qsim_top.specs.declared.answers.Status.{Status}
+use Rattle.qsim_top.specs.declared.answers.Status.TheVariants as status
+use Rattle.qsim_top.specs.Answer.{report, resumed_answer, Resumes, Answers}
+use Rattle.qsim_top.specs.Came.{is_of_work, is_fault, HasCauses, IsCarriedOut, IsWorked}
+use Rattle.qsim_top.specs.declared.resuming.Held.{Held}
+use Rattle.qsim_top.specs.Held.{held_view, IsHeld, IsResumed}
+use Rattle.qsim_top.specs.Texts.{nothing_kept_line, foreign_line}
+use Rattle.qsim_top.proofs.Ending.{wanting_causes}
+use Rattle.qsim_top.proofs.Worked.{ends_of_work}
+
+-- MEMORIES THAT WERE KEPT
+each_fits : (T : TownRows) (memories : List MemoryRows) → Each (IsMemoryIn T) memories → all_hold_fitting T memories ≡ true
+each_fits T [] all = refl
+each_fits T (m ∷ memories) all =
+    and_from (hold_fitting T m) (all_hold_fitting T memories) all.0.fit (each_fits T memories all.1)
+
+-- a run can go on with them
+pub can_go_on : (R : RunRows) (memories : List MemoryRows) → AreInRange R.learning → AreMemories R.town memories → CanRun R memories
+can_go_on R memories learning are = record {
+  learning = learning;
+  each = are.count;
+  fit = each_fits R.town memories (recursion_from_All (IsMemoryIn R.town) memories are.each);
+}
+
+-- WHAT IS HELD
+pub held_none : (told : Told) (last : Option ℕ) → IsTold told last → last ≡ None → IsHeld told None
+held_none told None is none None held = refl
+held_none told None is none (Some kept) held =
+    let same : None ≡ Some kept.iteration = subst (λ (t : Told). IsTold t None) held is in absurd (cc)
+held_none told (Some last) is none kept held = absurd (cc)
+
+pub held_as : (told : Told) (f held : Option Held) → f ≡ held → IsHeld told (option_map held_view f) → IsHeld told (option_map held_view held)
+held_as told f held is same = subst (λ (o : Option Held). IsHeld told (option_map held_view o)) is same
+
+-- the iteration that is told is that of the kept rows
+pub last_is : (told : Told) (last : Option ℕ) (iteration : ℕ) (kept : Option Kept) → IsTold told last → last ≡ Some iteration → told ≡ Some kept
+    → (k : Kept) × (kept ≡ Some k) × (iteration ≡ k.iteration)
+last_is told last iteration None is some held =
+    let same : last ≡ None = subst (λ (t : Told). IsTold t last) held is in let bad : None ≡ Some iteration = sym same ∙ some in absurd (cc)
+last_is told last iteration (Some k) is some held =
+    let same : last ≡ Some k.iteration = subst (λ (t : Told). IsTold t last) held is in
+    let one : Some iteration ≡ Some k.iteration = sym some ∙ same in
+    (k, refl, cc)
+
+pub stays_told : (a b : Told) (kept : Option Kept) → Stays a b → a ≡ Some kept → b ≡ Some kept
+stays_told a b kept stays is = subst (λ (t : Told). Stays t b) is stays
+
+-- the rows that were loaded are the kept ones
+pub loaded : (a : Told) (kept : Kept) (iteration : ℕ) (rows : List KeptRow) → Loads a [] rows → a ≡ Some (Some kept) → iteration ≡ kept.iteration
+    → kept_of iteration rows ≡ kept
+loaded a kept iteration rows loads is same =
+    let rows_are : rows ≡ kept.rows = subst (λ (t : Told). Loads t [] rows) is loads in
+    ap (λ (n : ℕ). kept_of n rows) same ∙ ap (λ (l : List KeptRow). kept_of kept.iteration l) rows_are
+
+pub stays_then : (a b c : Told) → Stays a b → Stays b c → Stays a c
+stays_then None b c first second = tt
+stays_then (Some kept) b c first second = subst (λ (t : Told). Stays t c) first second
+
+pub stays_then_if : (a b c : Told) → Stays a b → StaysIfTold b c → StaysIfTold a c
+stays_then_if None b c first second = tt
+stays_then_if (Some kept) b c first second = subst (λ (t : Told). StaysIfTold t c) first second
+
+pub causes_then : {A B : Type 0} (a b c : ℕ) (x : A) (r : Result B KeepFail) → KeepHasCause a b (Ok x) → KeepHasCause b c r → KeepHasCause a c r
+causes_then a b c x r first second =
+    let early = first.later in
+    let late = second.later in
+    record { later = omega arith; failed = λ is. let rose = second.failed is in omega (arith, rose) }
+
+-- WHAT COMES OF IT
+as_answer : (a told : Answer) (came : Status) (old new : World) → a ≡ told → Answers told came old new → Answers a came old new
+as_answer a told came old new same did = subst (λ (b : Answer). Answers b came old new) (sym same) did
+
+-- memories were read
+pub resumed_by : (S : ScenarioRows) (kept : Kept) (memories : List MemoryRows) (came : Status) (old new : Moment)
+    → AreRowsOf S.town kept.rows memories → ((others : List MemoryRows) → AreRowsOf S.town kept.rows others → others ≡ memories)
+    → IsCarriedOut true (resumed_answer S kept.iteration memories) came old new → IsResumed S (Some kept) came old new
+resumed_by S kept memories came old new are only did = record {
+  acts = λ a resumes. one a resumes;
+  of_work = ends_of_work command.Resume true came status.Done (λ is. refl) refl did.ends;
+  causes = did.causes;
+}
+  where
+    one : (a : Answer) → Resumes S (Some kept) a → Answers a came old.world new.world
+    one a (inl (others, rows, is)) =
+        as_answer a (resumed_answer S kept.iteration memories) came old.world new.world
+        (is ∙ ap (resumed_answer S kept.iteration) (only others rows)) did.acts
+    one a (inr (place, foreign, is)) = absurd (foreign.unfit memories are)
+
+-- what is told of rows that are foreign
+pub foreign_read : (T : TownRows) (rows : List KeptRow) (why : KeptStop) (place : ℕ) → why ≡ kept_stop.Foreign place
+    → IsRead T rows (Err why) → IsForeignAt T rows place
+foreign_read T rows why place is read = subst (λ (stop : KeptStop). IsRead T rows (Err stop)) is read
+
+-- a row was foreign
+pub foreign_by : (S : ScenarioRows) (kept : Kept) (place : ℕ) (came : Status) (old new : Moment) → IsForeignAt S.town kept.rows place
+    → IsCarriedOut false (report status.Foreign (foreign_line place)) came old new → IsResumed S (Some kept) came old new
+foreign_by S kept place came old new foreign did = record {
+  acts = λ a resumes. one a resumes;
+  of_work = ends_of_work command.Resume false came status.Foreign (λ is. cc) refl did.ends;
+  causes = did.causes;
+}
+  where
+    one : (a : Answer) → Resumes S (Some kept) a → Answers a came old.world new.world
+    one a (inl (others, rows, is)) = absurd (foreign.unfit others rows)
+    one a (inr (there, also, is)) =
+        as_answer a (report status.Foreign (foreign_line place)) came old.world new.world
+        (is ∙ ap (λ (n : ℕ). report status.Foreign (foreign_line n)) (one_place S.town kept.rows there place also foreign)) did.acts
+
+pub wanting_resumed : (S : ScenarioRows) (kept : Option Kept) (m : Moment) → IsResumed S kept status.NoMemory m m
+wanting_resumed S kept m = record {
+  acts = λ a resumes. part_nothing m.world (all_steps a.effects);
+  of_work = refl;
+  causes = wanting_causes m;
+}
+
+-- nothing was kept
+pub nothing_resumed : (S : ScenarioRows) (came : Status) (old new : Moment) → IsCarriedOut false (report status.NothingKept nothing_kept_line) came old new
+    → IsResumed S None came old new
+nothing_resumed S came old new did = record {
+  acts = λ a resumes. as_answer a (report status.NothingKept nothing_kept_line) came old.world new.world resumes did.acts;
+  of_work = ends_of_work command.Resume false came status.NothingKept (λ is. cc) refl did.ends;
+  causes = did.causes;
+}
+
+-- THE KEEPER FIRST
+stays_world : (w : Written) (a b : Told) → Stays a b → Does (outside w a) (outside w b) []
+stays_world w None b stays = record { files = writes_nothing w; keeper = tt }
+stays_world w (Some kept) b stays = record { files = writes_nothing w; keeper = stays }
+
+becomes_if : (a b : Told) → StaysIfTold a b → KeptBecomesIfTold a b []
+becomes_if None b stays = tt
+becomes_if (Some kept) None stays = tt
+becomes_if (Some kept) (Some after) stays = stays
+
+refused_world : (w : Written) (a b : Told) (steps : List Step) → StaysIfTold a b → DoesPart (outside w a) (outside w b) steps
+refused_world w a b steps stays = record { done = []; rest = steps; front = refl; files = writes_nothing w; keeper = becomes_if a b stays }
+
+answers_behind : (a : Answer) (came : Status) (old mid new : World) → Does old mid [] → Answers a came mid new → Answers a came old new
+answers_behind a status.Done old mid new did (is, does) = (is, does_then old mid new [] (all_steps a.effects) did does)
+answers_behind a status.Usage old mid new did (is, does) = (is, does_then old mid new [] (all_steps a.effects) did does)
+answers_behind a status.Refused old mid new did (is, does) = (is, does_then old mid new [] (all_steps a.effects) did does)
+answers_behind a status.NothingKept old mid new did (is, does) = (is, does_then old mid new [] (all_steps a.effects) did does)
+answers_behind a status.Foreign old mid new did (is, does) = (is, does_then old mid new [] (all_steps a.effects) did does)
+answers_behind a status.NoWay old mid new did (is, does) = (is, does_then old mid new [] (all_steps a.effects) did does)
+answers_behind a status.ReadFault old mid new did does = does_then old mid new [] [] did does
+answers_behind a status.WriteFault old mid new did part = part_then old mid new [] (all_steps a.effects) did part
+answers_behind a status.NoMemory old mid new did part = part_then old mid new [] (all_steps a.effects) did part
+answers_behind a status.KeepFault old mid new did part = part_then old mid new [] (all_steps a.effects) did part
+
+causes_behind : (came : Status) (w : Written) (a b : Told) (writes k l : ℕ) (new : Moment) → k ≤ l → HasCauses came (moment w b writes l) new
+    → HasCauses came (moment w a writes k) new
+causes_behind came w a b writes k l new later causes =
+    let late = causes.keep_later in
+    record {
+      write_later = causes.write_later;
+      keep_later = omega arith;
+      write = causes.write;
+      keep = λ is. let rose = causes.keep is in omega (arith, rose);
+      read = causes.read;
+      reports = causes.reports;
+    }
+
+-- the keeper told what it holds, and then it was gone on from that
+pub worked_behind : {A : Type 0} (S : ScenarioRows) (held : Option Kept) (came : Status) (w : Written) (a b : Told) (writes k l : ℕ) (new : Moment) (x : A)
+    → IsHeld a held → Stays a b → KeepHasCause k l (Ok x) → IsResumed S held came (moment w b writes l) new
+    → IsWorked command.Resume S came (moment w a writes k) new
+worked_behind S held came w a b writes k l new x is stays cause did = record {
+  acts = λ kept answer told works.
+      answers_behind answer came (outside w a) (outside w b) new.world (stays_world w a b stays)
+      (did.acts answer (subst (λ (o : Option Kept). Resumes S o answer) (sym (is kept told)) works));
+  of_work = did.of_work;
+  causes = causes_behind came w a b writes k l new cause.later did.causes;
+}
+
+-- the keeper failed, or memory was wanting
+pub keeper_failed : {A : Type 0} (S : ScenarioRows) (w : Written) (a b : Told) (writes k l : ℕ) (e : KeepFail) → e ≡ fail.Failed
+    → StaysIfTold a b → KeepHasCause {T = A} k l (Err e) → IsWorked command.Resume S status.KeepFault (moment w a writes k) (moment w b writes l)
+keeper_failed S w a b writes k l e same stays cause = record {
+  acts = λ kept answer told works. refused_world w a b (all_steps answer.effects) stays;
+  of_work = refl;
+  causes = record {
+    write_later = omega arith;
+    keep_later = cause.later;
+    write = λ is. cc;
+    keep = λ is. cause.failed (ap Err same);
+    read = λ is. cc;
+    reports = λ is. cc;
+  };
+}
+
+pub keeper_wanting : {A : Type 0} (S : ScenarioRows) (w : Written) (a b : Told) (writes k l : ℕ) (e : KeepFail) → StaysIfTold a b
+    → KeepHasCause {T = A} k l (Err e) → IsWorked command.Resume S status.NoMemory (moment w a writes k) (moment w b writes l)
+keeper_wanting S w a b writes k l e stays cause = record {
+  acts = λ kept answer told works. refused_world w a b (all_steps answer.effects) stays;
+  of_work = refl;
+  causes = record {
+    write_later = omega arith;
+    keep_later = cause.later;
+    write = λ is. cc;
+    keep = λ is. cc;
+    read = λ is. cc;
+    reports = λ is. cc;
+  };
+}

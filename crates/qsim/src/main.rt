@@ -1,8 +1,9 @@
-//! The program: the files of the current folder, and standard output for the report.
+//! The program: the files of the current folder, standard output for the report, and kept.db for what a run keeps.
 #![tactic(auto)]
 
-use edge_files::{NoKeeper, OpenGate};
+use edge_files::OpenGate;
 use folder_files::{FileInputs, FileOutputs, StandardStreams};
+use folder_keeper::FolderKeeper;
 use qsim_top::{Status, qsim};
 use std::alloc::{AllocError, Global};
 use std::env;
@@ -23,7 +24,7 @@ fn main(rt: HostRuntime) -> ExitCode {
     let _streams = StandardStreams::hold(&rt);
     let mut inputs = FileInputs::new(&rt);
     let mut outputs = FileOutputs::new(&rt);
-    let mut keeper = NoKeeper::new();
+    let mut keeper = FolderKeeper::new(&rt);
     let gate = OpenGate::new();
     let status = match words(alloc, &rt) {
         Ok(words) => qsim(
@@ -37,6 +38,7 @@ fn main(rt: HostRuntime) -> ExitCode {
         ),
         Err(_) => Status::NoMemory,
     };
+    keeper.close();
     if status == Status::NoMemory {
         let _ = rt.eprintln("qsim: out of memory");
     }

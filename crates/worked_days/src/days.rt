@@ -1,9 +1,9 @@
 //! Days from files to events and scores, each worked by hand.
 
-use crate::cases::{BUS, Case, DRIVE, LINE, WALK, is_run_to, plans_of};
 use std::alloc::Global;
 use std::sync::Wait;
 use std::thread::Threads;
+use worked_cases::{BUS, Case, DRIVE, LINE, WALK, is_run_to, plans_of};
 
 /// A day: its files, its report, its scores, which an independent program computed, and its events. The plans come out as they
 /// went in.

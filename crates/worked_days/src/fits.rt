@@ -1,6 +1,5 @@
 //! Which plans fit a town.
 
-use crate::cases::Case;
 use crate::towns::scenario_of;
 use events::{Name, Names};
 use plans::{PlanFile, read_plans};
@@ -9,6 +8,7 @@ use scenario::Scenario;
 use std::alloc::Global;
 use std::thread::Threads;
 use town::{Town, plan_fits};
+use worked_cases::Case;
 
 /// Three links in a row with a stop on each, line b along all three, and line c along two; activities are at home and at work.
 static TOWN: Case = Case {

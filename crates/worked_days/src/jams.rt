@@ -7,7 +7,6 @@ ghost use Rattle.plain_day.specs.Plans.{HaveFittingPlans};
 ghost use Rattle.traffic.specs.Worlds.{IsSoundStage};
 ghost use Rattle.worked_days.specs.Jams.{going, IsRoomy};
 
-use crate::cases::Case;
 use crate::towns::{chosen_plans, have_fitting_plans, let_go, scenario_of};
 use events::{Calls, Event, Route, VehicleId, Word};
 use plain_day::{World, fit_second, start};
@@ -17,6 +16,7 @@ use std::alloc::{AllocError, Global};
 use std::thread::Threads;
 use town::{DayInput, Town};
 use traffic::{Riders, Row, Stage, Vehicle};
+use worked_cases::Case;
 
 /// Four links in a row with room for one vehicle each, somebody who stays at home, and a vehicle that is to start later.
 const ROAD: Case = Case {

@@ -3,8 +3,6 @@
 #![tactic(auto)]
 
 #[cfg(test)]
-mod cases;
-#[cfg(test)]
 mod days;
 #[cfg(test)]
 mod filled;
@@ -13,11 +11,7 @@ mod fits;
 #[cfg(test)]
 mod greens;
 #[cfg(test)]
-mod grids;
-#[cfg(test)]
 mod jams;
-#[cfg(test)]
-mod outside;
 #[cfg(test)]
 mod refusals;
 #[cfg(test)]
@@ -26,8 +20,6 @@ mod routes;
 mod scores;
 #[cfg(test)]
 mod seconds;
-#[cfg(test)]
-mod several_days;
 #[cfg(test)]
 mod sizes;
 #[cfg(test)]

@@ -1,14 +1,14 @@
 //! Scenarios that are refused, with their report, and those that are valid.
 
-use crate::cases::{
-    BUS, Case, DRIVE, LINE, WALK, are_written, inputs_of, is_answered, put, status_of,
-};
 use crate::days::MEETING;
 use edge_files::{InFile, MemoryOutputs};
 use qsim_top::Status;
 use std::alloc::Global;
 use std::sync::Wait;
 use std::thread::Threads;
+use worked_cases::{
+    BUS, Case, DRIVE, LINE, WALK, are_written, inputs_of, is_answered, put, status_of,
+};
 
 /// A scenario that is refused, and its report.
 struct Refusal {

@@ -1,10 +1,10 @@
 //! Days with tables and modes of their own, and plans that come out of a run and go into another one. The scores were computed by an
 //! independent program.
 
-use crate::cases::{BUS, Case, LINE, WALK, is_run_to, plans_of};
 use std::alloc::Global;
 use std::sync::Wait;
 use std::thread::Threads;
+use worked_cases::{BUS, Case, LINE, WALK, is_run_to, plans_of};
 
 /// From home to work, and home.
 const COMMUTE_PLANS: &str =

@@ -3,7 +3,6 @@
 ghost use Rattle.std.specs.Prelude.{◌<◌};
 ghost use Rattle.plain_day.specs.Plans.{HaveFittingPlans};
 
-use crate::cases::Case;
 use crate::towns::{chosen_plans, have_fitting_plans, scenario_of};
 use events::{Event, Word};
 use plain_day::{plain_second, start};
@@ -12,6 +11,7 @@ use scenario::Scenario;
 use std::alloc::{AllocError, Global};
 use std::thread::Threads;
 use town::{DayInput, Town};
+use worked_cases::Case;
 
 /// A person who walks at second 100.
 static WALK: Case = Case {

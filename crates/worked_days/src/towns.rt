@@ -7,7 +7,6 @@ ghost use Rattle.town.specs.Fits.{fits};
 ghost use Rattle.town.specs.Views.{rows_of};
 ghost use Rattle.plain_day.specs.Plans.{HaveFittingPlans};
 
-use crate::cases::{Case, plans_of};
 use edge_files::{Bytes, InFile};
 use plan_memory::Memory;
 use router::copied_legs;
@@ -16,6 +15,7 @@ use scenario::{Files, Scenario, assemble};
 use std::alloc::{AllocError, Global};
 use std::thread::Threads;
 use town::{DayInput, Town, plan_fits};
+use worked_cases::{Case, plans_of};
 
 /// A text; no bytes where memory is wanting.
 fn bytes_of(alloc: Global, text: &str) -> Bytes {

@@ -1,6 +1,9 @@
-//! Cases: the texts of a scenario's files, and what a command answers to them.
+//! Cases: the texts of a scenario's files, and what a command answers to them. Tests stand on them; no contract speaks of them.
+#![tactic(auto)]
 
-use edge_files::{InFile, Inputs, MemoryInputs, MemoryOutputs, NoKeeper, OpenGate, OutFile};
+use edge_files::{
+    InFile, Inputs, Keeper, MemoryInputs, MemoryOutputs, NoKeeper, OpenGate, OutFile,
+};
 use qsim_top::{Status, qsim};
 use std::alloc::{AllocError, Global};
 use std::sync::Wait;
@@ -8,37 +11,39 @@ use std::thread::Threads;
 
 /// The texts of the files of a scenario; that of plans.csv is its rows.
 #[derive(Drop)]
-pub(crate) struct Case {
-    pub(crate) settings: &'static str,
-    pub(crate) nodes: &'static str,
-    pub(crate) links: &'static str,
-    pub(crate) plans: &'static str,
-    pub(crate) stops: &'static str,
-    pub(crate) routes: &'static str,
-    pub(crate) departures: &'static str,
-    pub(crate) signals: &'static str,
+pub struct Case {
+    /// settings.json.
+    pub settings: &'static str,
+    /// nodes.csv, and so on.
+    pub nodes: &'static str,
+    pub links: &'static str,
+    pub plans: &'static str,
+    pub stops: &'static str,
+    pub routes: &'static str,
+    pub departures: &'static str,
+    pub signals: &'static str,
 }
 
 const PLANS: &str = "person,plan,kind,name,link,time,route\n";
 
 /// Four nodes.
-pub(crate) const NODES: &str = "node,x,y\nA,0,0\nB,0,0\nC,0,0\nD,0,0\n";
+pub const NODES: &str = "node,x,y\nA,0,0\nB,0,0\nC,0,0\nD,0,0\n";
 
 /// Three links in a line between them, of ten seconds each, through which a vehicle passes in each second.
-pub(crate) const LINKS: &str = "link,from,to,length,speed,capacity,lanes\n\
+pub const LINKS: &str = "link,from,to,length,speed,capacity,lanes\n\
     L1,A,B,10000,1000,3600,1\nL2,B,C,10000,1000,3600,1\nL3,C,D,10000,1000,3600,1\n";
 
 /// A stop on the first link and one on the last.
-pub(crate) const STOPS: &str = "stop,link\ns1,L1\ns3,L3\n";
+pub const STOPS: &str = "stop,link\ns1,L1\ns3,L3\n";
 
 /// A line along the links that waits at the first stop.
-pub(crate) const ROUTES: &str = "line,route,links,stops\nb,r1,L1 L2 L3,s1:20:wait s3:60\n";
+pub const ROUTES: &str = "line,route,links,stops\nb,r1,L1 L2 L3,s1:20:wait s3:60\n";
 
 /// A vehicle of that line, of one seat.
-pub(crate) const DEPARTURES: &str = "departure,route,second,seats\nd1,r1,200,1\n";
+pub const DEPARTURES: &str = "departure,route,second,seats\nd1,r1,200,1\n";
 
 /// The line of links, and nobody.
-pub(crate) const LINE: Case = Case {
+pub const LINE: Case = Case {
     settings: "",
     nodes: NODES,
     links: LINKS,
@@ -50,19 +55,19 @@ pub(crate) const LINE: Case = Case {
 };
 
 /// A person at home until 100, a walk of 50 s, and work.
-pub(crate) const WALK: Case = Case {
+pub const WALK: Case = Case {
     plans: "p1,0,act,home,L1,100,\np1,0,leg,walk,,50,\np1,0,act,work,L2,,\n",
     ..LINE
 };
 
 /// A person at home until 100, who drives to work on the next link.
-pub(crate) const DRIVE: Case = Case {
+pub const DRIVE: Case = Case {
     plans: "p1,0,act,home,L1,100,\np1,0,leg,car,,,L1 L2\np1,0,act,work,L2,,\n",
     ..LINE
 };
 
 /// Two persons at home until 100 who want a bus of one seat, which leaves not before 220.
-pub(crate) const BUS: Case = Case {
+pub const BUS: Case = Case {
     settings: "{\"dwell_open\":4,\"dwell_alight\":1,\"dwell_board\":2}",
     plans: "p1,0,act,home,L1,100,\np1,0,leg,pt,,,b s1 s3\np1,0,act,work,L3,,\n\
         p2,0,act,home,L1,100,\np2,0,leg,pt,,,b s1 s3\np2,0,act,work,L3,,\n",
@@ -79,7 +84,7 @@ fn joined(alloc: Global, rows: &str) -> Result<String, AllocError> {
 }
 
 /// The text of plans.csv; of no bytes where memory is wanting.
-pub(crate) fn plans_of(alloc: Global, rows: &str) -> String {
+pub fn plans_of(alloc: Global, rows: &str) -> String {
     match joined(alloc, rows) {
         Ok(plans) => plans,
         Err(_) => String::new(alloc),
@@ -87,7 +92,7 @@ pub(crate) fn plans_of(alloc: Global, rows: &str) -> String {
 }
 
 /// Puts a text into a file, which is empty where memory is wanting.
-pub(crate) fn put(inputs: &mut MemoryInputs, file: InFile, text: &str) {
+pub fn put(inputs: &mut MemoryInputs, file: InFile, text: &str) {
     let _ = inputs.put(file, text.as_bytes());
 }
 
@@ -97,7 +102,7 @@ fn put_plans(alloc: Global, inputs: &mut MemoryInputs, rows: &str) {
 }
 
 /// The files of a case.
-pub(crate) fn inputs_of(alloc: Global, case: &Case) -> MemoryInputs {
+pub fn inputs_of(alloc: Global, case: &Case) -> MemoryInputs {
     let mut inputs = MemoryInputs::new(alloc);
     put(&mut inputs, InFile::Settings, case.settings);
     put(&mut inputs, InFile::Nodes, case.nodes);
@@ -119,34 +124,46 @@ fn copied(alloc: Global, texts: &[&str]) -> Result<Vec<String>, AllocError> {
 }
 
 /// Words; none where memory is wanting.
-pub(crate) fn words_of(alloc: Global, texts: &[&str]) -> Vec<String> {
+pub fn words_of(alloc: Global, texts: &[&str]) -> Vec<String> {
     match copied(alloc, texts) {
         Ok(words) => words,
         Err(_) => Vec::new(alloc),
     }
 }
 
-/// How the program ends with these words over inputs and outputs.
-pub(crate) fn status_of<R: Threads + Wait + Sync, I: Inputs>(
+/// How the program ends with these words over inputs, outputs and a keeper.
+pub fn status_with<R: Threads + Wait + Sync, I: Inputs, K: Keeper>(
+    rt: &R,
+    alloc: Global,
+    texts: &[&str],
+    inputs: &mut I,
+    outputs: &mut MemoryOutputs,
+    keeper: &mut K,
+) -> Status {
+    let words = words_of(alloc, texts);
+    let gate = OpenGate::new();
+    qsim(rt, alloc, &words, inputs, outputs, keeper, &gate)
+}
+
+/// The same over a keeper that keeps nothing.
+pub fn status_of<R: Threads + Wait + Sync, I: Inputs>(
     rt: &R,
     alloc: Global,
     texts: &[&str],
     inputs: &mut I,
     outputs: &mut MemoryOutputs,
 ) -> Status {
-    let words = words_of(alloc, texts);
     let mut keeper = NoKeeper::new();
-    let gate = OpenGate::new();
-    qsim(rt, alloc, &words, inputs, outputs, &mut keeper, &gate)
+    status_with(rt, alloc, texts, inputs, outputs, &mut keeper)
 }
 
 /// Whether just this was written to a file.
-pub(crate) fn is_written(outputs: &MemoryOutputs, file: OutFile, text: &str) -> bool {
+pub fn is_written(outputs: &MemoryOutputs, file: OutFile, text: &str) -> bool {
     outputs.written(file) == text.as_bytes()
 }
 
 /// Whether these are the report and the events, and no other file was written to.
-pub(crate) fn are_written(outputs: &MemoryOutputs, report: &str, events: &str) -> bool {
+pub fn are_written(outputs: &MemoryOutputs, report: &str, events: &str) -> bool {
     is_written(outputs, OutFile::Report, report)
         && is_written(outputs, OutFile::Events, events)
         && is_written(outputs, OutFile::Scores, "")
@@ -154,7 +171,7 @@ pub(crate) fn are_written(outputs: &MemoryOutputs, report: &str, events: &str) -
 }
 
 /// Whether a run of a case is done with this report, these scores and events, and this text of the plans.
-pub(crate) fn is_run_to<R: Threads + Wait + Sync>(
+pub fn is_run_to<R: Threads + Wait + Sync>(
     rt: &R,
     alloc: Global,
     case: &Case,
@@ -174,7 +191,7 @@ pub(crate) fn is_run_to<R: Threads + Wait + Sync>(
 }
 
 /// Whether a command answers to a case with this status, report and events, and writes to no other file.
-pub(crate) fn is_answered<R: Threads + Wait + Sync>(
+pub fn is_answered<R: Threads + Wait + Sync>(
     rt: &R,
     alloc: Global,
     command: &str,

@@ -1,15 +1,15 @@
 //! Words, reads and writes that fail, and files that are cut.
 
-use crate::cases::{
-    BUS, Case, DEPARTURES, DRIVE, LINE, LINKS, NODES, ROUTES, STOPS, are_written, inputs_of,
-    is_written, put, status_of, words_of,
-};
 use command_line::{Asked, read_words};
 use edge_files::{InFile, MemoryInputs, MemoryOutputs, OutFile};
 use qsim_top::Status;
 use std::alloc::Global;
 use std::sync::Wait;
 use std::thread::Threads;
+use worked_cases::{
+    BUS, Case, DEPARTURES, DRIVE, LINE, LINKS, NODES, ROUTES, STOPS, are_written, inputs_of,
+    is_written, put, status_of, words_of,
+};
 
 /// Wrong words and help, which ends well.
 static WORDS: [(&[&str], Status); 8] = [

@@ -1,0 +1,12 @@
+//! Worked runs: words, reads, writes and keepers that fail; runs of several days, what is kept of them, and runs that go on from that;
+//! and generated scenarios. Above the top call; tests alone.
+#![tactic(auto)]
+
+#[cfg(test)]
+mod grids;
+#[cfg(test)]
+mod kept;
+#[cfg(test)]
+mod outside;
+#[cfg(test)]
+mod several_days;

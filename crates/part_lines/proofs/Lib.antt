@@ -1,0 +1,6 @@
+pub mod Behind
+pub mod News
+pub mod Standing
+pub mod Ready
+pub mod Stops
+pub mod Together

@@ -1,0 +1,40 @@
+-- The places of a second come free.
+use Rattle.std.proofs.Common.{◌≡◌, ◌≢◌, ℕ, ◌+◌, ◌-◌, ◌<◌, ◌≤◌, List, [], length, get_or, refl, ap, ◌∙◌, arith, eqb, false}
+use Rattle.std.specs.Prelude.{◌==◌, if◌then◌else◌, Option, Some}
+use Rattle.std.proofs.lemmas.Bool.{ne_eqb}
+use Rattle.traffic.specs.declared.node_views.OutLink.{OutLink}
+use Rattle.calendar.specs.Due.{due_at, HasNone}
+use Rattle.node_move.specs.Spaces.{places_in}
+use Rattle.part_places.specs.declared.places.Places.{Places}
+use Rattle.part_places.specs.Taking.{Taking, AreTaken, fewer, still, times}
+use Rattle.part_places.proofs.Counting.{still_split}
+
+with_taken : ℕ → ℕ → Taking → Option OutLink
+with_taken n m T = Some (record { taken = n; storage = T.storage m; seconds = T.seconds m })
+
+pub freed_is : (count end t : ℕ) (T : Taking) (P Q : Places) (ls : List ℕ) → t < end → ls ≡ due_at t P.freed → HasNone t P.freed Q.freed
+    → ((m : ℕ) → places_in Q.space m ≡ fewer (times m ls) (places_in P.space m))
+    → ((m : ℕ) → get_or Q.holes.items m 0 ≡ get_or P.holes.items m 0 - times m ls)
+    → length Q.holes.items ≡ length P.holes.items
+    → AreTaken count end t T P → AreTaken count end (t + 1) T Q
+unfolding with_taken
+freed_is count end t T P Q ls lt e none space holes n h =
+    let gone : (m : ℕ) → m < count → times m ls ≡ times t (T.frees m) = λ m in_count. ap (times m) e ∙ h.freed m t in_count (omega arith) lt in
+    record {
+      places = λ m in_count.
+          let a = gone m in_count in
+          let b = still_split t (T.frees m) in
+          let c : T.queued m + still t (T.frees m) - times m ls ≡ T.queued m + still (t + 1) (T.frees m) = omega arith in
+          space m ∙ ap (fewer (times m ls)) (h.places m in_count) ∙ ap (λ (k : ℕ). with_taken k m T) c;
+      reach = n ∙ h.reach;
+      holes = λ m in_count.
+          let a = gone m in_count in
+          let b = still_split t (T.frees m) in
+          let c = holes m in
+          let d = h.holes m in_count in
+          omega arith;
+      freed = λ m u in_count from to.
+          let ne : eqb u t ≡ false = ne_eqb u t (λ (z : u ≡ t). absurd (omega arith)) in
+          let f : due_at u Q.freed ≡ due_at u P.freed = none u ∙ rw ne refl in
+          ap (times m) f ∙ h.freed m u in_count (omega arith) to;
+    }

@@ -1,0 +1,69 @@
+-- How the places of links are taken: by the rows of their queues, and by places that were left and are not free yet.
+use Rattle.std.specs.Prelude.{◌≡◌, ℕ, ◌+◌, ◌-◌, ◌<◌, ◌≤◌, List, [], ◌++◌, length, get_or, replicate, count_by, nat_le, ◌==◌, if◌then◌else◌, Option, None, Some}
+use Rattle.traffic.specs.declared.node_views.OutLink.{OutLink}
+use Rattle.calendar.specs.Due.{due_at}
+use Rattle.queue_link.specs.Links.{LinkView}
+use Rattle.node_move.specs.Spaces.{places_in}
+use Rattle.node_move.specs.NodeStates.{no_link}
+use Rattle.part_places.specs.declared.places.Places.{Places}
+
+-- Of links by their numbers: how many places each has and how long it takes; how many vehicles its queue has, and the seconds in which
+-- places of it that were left are free again.
+pub record Taking : Type 0 where
+  pub storage : ℕ → ℕ
+  pub seconds : ℕ → ℕ
+  pub queued : ℕ → ℕ
+  pub frees : ℕ → List ℕ
+
+-- how many of these seconds are t or later ones
+abbrev pub still : ℕ → List ℕ → ℕ
+still t frees = count_by (λ (u : ℕ). nat_le t u) frees
+
+-- how often a number stands in a list
+abbrev pub times : ℕ → List ℕ → ℕ
+times m ns = count_by (λ (n : ℕ). n == m) ns
+
+-- the places of a link, where those are taken that are not free before second t
+abbrev pub places_of : ℕ → Taking → ℕ → OutLink
+places_of t T m = record { taken = T.queued m + still t (T.frees m); storage = T.storage m; seconds = T.seconds m }
+
+-- These are the places of so many links, where those that were left are free in second t or later, and in each of these seconds before
+-- the end those come free that do.
+pub record AreTaken (count end t : ℕ) (T : Taking) (P : Places) : Type 0 where
+  pub places : (m : ℕ) → m < count → places_in P.space m ≡ Some (places_of t T m)
+  pub reach : length P.holes.items ≡ count
+  pub holes : (m : ℕ) → m < count → get_or P.holes.items m 0 ≡ still t (T.frees m)
+  pub freed : (m u : ℕ) → m < count → t ≤ u → u < end → times m (due_at u P.freed) ≡ times u (T.frees m)
+
+-- nobody is on these links, and no place of them was left
+abbrev pub empty : List LinkView → Taking
+empty links = record {
+  storage = λ m. (get_or links m no_link).numbers.storage;
+  seconds = λ m. (get_or links m no_link).numbers.seconds;
+  queued = λ m. 0;
+  frees = λ m. [];
+}
+
+-- no place of them is taken
+abbrev pub free_place : LinkView → OutLink
+free_place v = record { taken = 0; storage = v.numbers.storage; seconds = v.numbers.seconds }
+
+abbrev pub IsFree : List LinkView → List (Option OutLink) → Type 0
+IsFree links space = (m : ℕ) → m < length links → places_in space m ≡ Some (free_place (get_or links m no_link))
+
+-- so many fewer places are taken
+abbrev pub fewer : ℕ → Option OutLink → Option OutLink
+fewer k None = None
+fewer k (Some e) = Some (record e { taken = e.taken - k })
+
+abbrev pub taken_in : Option OutLink → ℕ
+taken_in None = 0
+taken_in (Some e) = e.taken
+
+-- link l has a queue of so many vehicles now, and the places that the others left are free in this second
+abbrev pub later : ℕ → ℕ → ℕ → Taking → Taking
+later l queued second T =
+    record T {
+      queued = λ m. if m == l then queued else T.queued m;
+      frees = λ m. if m == l then T.frees m ++ replicate (T.queued m - queued) second else T.frees m;
+    }

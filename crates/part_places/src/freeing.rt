@@ -1,0 +1,67 @@
+//! Places come free.
+
+ghost use Rattle.std.specs.Prelude.{◌≡◌, ℕ, ◌+◌, ◌-◌, ◌<◌, ◌==◌, length, get_or, set, count_by, if◌then◌else◌, OnOk};
+ghost use Rattle.node_move.specs.Spaces.{places_in};
+ghost use Rattle.part_places.specs.Taking.{Taking, AreTaken, fewer, times};
+
+use crate::places::Places;
+use node_move::Space;
+use std::alloc::AllocError;
+use traffic::OutLink;
+
+/// One place of a link is taken no more.
+fn free_place(space: &mut Space, link: u32) -> Result<(), AllocError>
+    ensures { OnOk result ((m : ℕ) → places_in space.new m ≡ (if m == link then fewer 1 (places_in space.old m) else places_in space.old m)) }
+{
+    if let Some(places) = space.places(link) {
+        let taken = places.taken.saturating_sub(1);
+        space.set(
+            link,
+            OutLink {
+                taken,
+                storage: places.storage,
+                seconds: places.seconds,
+            },
+        )?;
+    }
+    Ok(())
+}
+
+/// One hole of a link is over.
+#[tactic(auto, using(std::proofs::lemmas::List::set_past))]
+fn end_hole(holes: &mut [u64], link: u32)
+    ensures { holes.new ≡ set holes.old link (get_or holes.old link 0 - 1) }
+{
+    let place = link as usize;
+    if place < holes.len() {
+        holes[place] = holes[place].saturating_sub(1);
+    }
+}
+
+/// One place of each of these links is free, once for each time that the link stands there.
+fn free_all(links: &[u32], space: &mut Space, holes: &mut [u64]) -> Result<(), AllocError>
+    ensures space { OnOk result ((m : ℕ) → places_in space.new m ≡ fewer (times m links.now) (places_in space.old m)) }
+    ensures holes { OnOk result ((m : ℕ) → get_or holes.new m 0 ≡ get_or holes.old m 0 - times m links.now) }
+{
+    for link in links {
+        free_place(space, *link)?;
+        end_hole(holes, *link);
+    }
+    Ok(())
+}
+
+impl Places {
+    /// The places that come free in this second are free.
+    ///
+    /// # Errors
+    ///
+    /// `AllocError`: there is no memory for it. The places are then of no use.
+    pub fn free(&mut self, second: u32) -> Result<(), AllocError>
+        ensures { (count end : ℕ) (T : Taking) → second < end → AreTaken count end second T self.old
+            → OnOk result (AreTaken count end (second + 1) T self.new) }
+    {
+        let links = self.freed.take(second);
+        free_all(&links, &mut self.space, &mut self.holes)?;
+        Ok(())
+    }
+}

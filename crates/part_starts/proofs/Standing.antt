@@ -1,0 +1,236 @@
+-- The links stand for those of a world, and sleep, once the vehicles that start in a second came to them.
+use Rattle.traffic.proofs.Common.{◌≡◌, ◌≢◌, ℕ, ◌<◌, ◌≤◌, false, List, [], ◌∷◌, ◌++◌, ◌∙◌, ap, refl, sym, subst, arith, inl, inr, cases_Bool, eqb, eqb-true, eqb-false, eq-eqb, ne_eqb, lt-ltb}
+use Rattle.traffic.proofs.Common.{length, get_or, filter, filter-append, append-nil, append_assoc, Option, None, Some, Setup, World, at, on, All-head, All-tail}
+use Rattle.std.specs.List.{All, AllByRecursion as Each}
+use Rattle.std.proofs.lemmas.List.{get_or-set_same, get_or-set_other}
+use Rattle.rows.specs.declared.settings.Dwelling.{Dwelling}
+use Rattle.traffic.specs.declared.stage.Stage.{Stage}
+use Rattle.traffic.specs.declared.stage.Stage.TheVariants.{Queue, Buffer, Wait, Bay}
+use Rattle.traffic.specs.declared.world.Row.{Row}
+use Rattle.traffic.specs.Vehicles.{VehicleState}
+use Rattle.traffic.specs.Links.{LinkState, link_state}
+use Rattle.calendar.specs.Waking.{wake_of, earlier}
+use Rattle.queue_link.specs.Links.{LinkView, row_on}
+use Rattle.queue_link.specs.declared.numbers.LinkNumbers.{LinkNumbers}
+use Rattle.queue_link.specs.Numbers.{numbers_of}
+use Rattle.node_move.specs.NodeStates.{no_link}
+use Rattle.link_seconds.specs.Seconds.{lists_at}
+use Rattle.law_waking.specs.Resting.{Rests, sleeps_to}
+use Rattle.node_seconds.specs.Networks.{lane}
+use Rattle.part_links.specs.Links.{IsLink, LinksStand, AreAsleep}
+use Rattle.law_in_range.specs.Rows.{Counts, IsFitRow}
+use Rattle.part_persons.specs.Phases.{joined}
+use Rattle.part_persons.proofs.Joining.{AtStart}
+use Rattle.part_starts.specs.Starting.{with_waiting, started, all_started, woken_for, woken_for_all}
+use Rattle.part_starts.proofs.Lists.{started_length, woken_length}
+
+-- a row at the end of the wait list of a link that is there, as it comes there
+pub record Starts (count : ℕ) (r : Row) : Type 0 where
+  pub link : r.link < count
+  pub row : r ≡ row_on r.link Wait 0 r.vehicle
+
+-- LANES
+own_lane : (r : Row) (links : List LinkView) → r.link < length links → lane (started r links) r.link ≡ with_waiting r.vehicle (lane links r.link)
+own_lane r links lt =
+    let e = lt-ltb r.link (length links) lt in
+    rw e (get_or-set_same links r.link (with_waiting r.vehicle (lane links r.link)) no_link lt)
+
+other_lane : (r : Row) (l : ℕ) (links : List LinkView) → r.link < length links → l ≢ r.link → lane (started r links) l ≡ lane links l
+other_lane r l links lt ne =
+    let e = lt-ltb r.link (length links) lt in
+    rw e (get_or-set_other links r.link l (with_waiting r.vehicle (lane links r.link)) no_link ne)
+
+-- a world with one more row
+abbrev pub with_row : Row → World → World
+with_row r W = record W { rows = W.rows ++ r ∷ [] }
+
+abbrev alone : ℕ → Stage → Row → List Row
+alone l s r = filter (on l s) (r ∷ [])
+
+at_more : (l : ℕ) (s : Stage) (r : Row) (W : World) → at l s (with_row r W) ≡ at l s W ++ alone l s r
+at_more l s r W = filter-append (on l s) W.rows (r ∷ [])
+
+-- what it adds to the lists of its own link, and of another one
+waits_there : (l : ℕ) (c : VehicleState) → alone l Wait (row_on l Wait 0 c) ≡ row_on l Wait 0 c ∷ []
+waits_there l c = let e = eq-eqb l l refl in rw e refl
+
+waits_elsewhere : (l m : ℕ) (c : VehicleState) → l ≢ m → alone l Wait (row_on m Wait 0 c) ≡ []
+waits_elsewhere l m c ne = let e : eqb m l ≡ false = ne_eqb m l (λ q. ne (sym q)) in rw e refl
+
+-- the lists of a link with one more row in the wait list
+abbrev longer : LinkState → List Row → LinkState
+longer L rs = record L { wait = L.wait ++ rs }
+
+state_more : (l m : ℕ) (c : VehicleState) (W : World) → link_state l (with_row (row_on m Wait 0 c) W) ≡ longer (link_state l W) (alone l Wait (row_on m Wait 0 c))
+state_more l m c W =
+    let r = row_on m Wait 0 c in
+    let q : at l Queue (with_row r W) ≡ at l Queue W = at_more l Queue r W ∙ append-nil (at l Queue W) in
+    let b : at l Buffer (with_row r W) ≡ at l Buffer W = at_more l Buffer r W ∙ append-nil (at l Buffer W) in
+    let y : at l Bay (with_row r W) ≡ at l Bay W = at_more l Bay r W ∙ append-nil (at l Bay W) in
+    let w = at_more l Wait r W in
+    let state = λ (q b w y : List Row). (let L : LinkState = record { queue = q; buffer = b; wait = w; bay = y; credit = get_or W.credits l 0 } in L) in
+    ap (λ (xs : List Row). state xs (at l Buffer (with_row r W)) (at l Wait (with_row r W)) (at l Bay (with_row r W))) q
+    ∙ ap (λ (xs : List Row). state (at l Queue W) xs (at l Wait (with_row r W)) (at l Bay (with_row r W))) b
+    ∙ ap (λ (xs : List Row). state (at l Queue W) (at l Buffer W) xs (at l Bay (with_row r W))) w
+    ∙ ap (λ (xs : List Row). state (at l Queue W) (at l Buffer W) (at l Wait W ++ alone l Wait r) xs) y
+
+-- ONE VEHICLE
+link_number : (S : Setup) (l : ℕ) (v : LinkView) → IsLink S l v → v.numbers.link ≡ l
+unfolding numbers_of
+link_number S l v h = ap (λ (n : LinkNumbers). n.link) h.numbers
+
+one_stands : (S : Setup) (t : ℕ) (r : Row) (links : List LinkView) (W : World) → Starts (length links) r → LinksStand S t links W
+    → LinksStand S t (started r links) (with_row r W)
+one_stands S t r links W st h =
+    let many = started_length r links in
+    let own : lane (started r links) r.link ≡ with_waiting r.vehicle (lane links r.link) = own_lane r links st.link in
+    let is : (l : ℕ) → link_state l (with_row r W) ≡ longer (link_state l W) (alone l Wait (row_on r.link Wait 0 r.vehicle))
+    = λ l. ap (λ (x : Row). link_state l (with_row x W)) st.row ∙ state_more l r.link r.vehicle W in
+    record {
+      count = many ∙ h.count;
+      credits = h.credits;
+      numbers = λ l lt.
+          elim (cases_Bool (eqb l r.link)) [
+            | inl q ↦
+                let same : l ≡ r.link = eqb-true l r.link q in
+                subst (λ (k : ℕ). IsLink S k (lane (started r links) k)) (sym same)
+                (subst (λ (v : LinkView). IsLink S r.link v) (sym own) (record { numbers = (h.numbers r.link (let k = h.count in let p = st.link in omega arith)).numbers }))
+            | inr q ↦ subst (λ (v : LinkView). IsLink S l v) (sym (other_lane r l links st.link (eqb-false l r.link q))) (h.numbers l lt)
+          ];
+      raised = λ l lt.
+          elim (cases_Bool (eqb l r.link)) [
+            | inl q ↦
+                let same : l ≡ r.link = eqb-true l r.link q in
+                subst (λ (k : ℕ). (lane (started r links) k).raised ≤ t) (sym same)
+                (subst (λ (v : LinkView). v.raised ≤ t) (sym own) (h.raised r.link (let k = h.count in let p = st.link in omega arith)))
+            | inr q ↦ subst (λ (v : LinkView). v.raised ≤ t) (sym (other_lane r l links st.link (eqb-false l r.link q))) (h.raised l lt)
+          ];
+      lists = λ l lt.
+          elim (cases_Bool (eqb l r.link)) [
+            | inl q ↦
+                let same : l ≡ r.link = eqb-true l r.link q in
+                let there : r.link < length S.links = (let k = h.count in let p = st.link in omega arith) in
+                let number : (lane links r.link).numbers.link ≡ r.link = link_number S r.link (lane links r.link) (h.numbers r.link there) in
+                subst (λ (k : ℕ). lists_at t (lane (started r links) k) ≡ link_state k (with_row r W)) (sym same)
+                (ap (lists_at t) own ∙ ap (λ (k : ℕ). longer (lists_at t (lane links r.link)) (row_on k Wait 0 r.vehicle ∷ [])) number
+                ∙ ap (λ (L : LinkState). longer L (row_on r.link Wait 0 r.vehicle ∷ [])) (h.lists r.link there)
+                ∙ ap (longer (link_state r.link W)) (sym (waits_there r.link r.vehicle)) ∙ sym (is r.link))
+            | inr q ↦
+                let ne = eqb-false l r.link q in
+                ap (lists_at t) (other_lane r l links st.link ne) ∙ h.lists l lt
+                ∙ ap (λ (xs : List Row). (let L : LinkState = record (link_state l W) { wait = xs } in L)) (sym (append-nil (at l Wait W)))
+                ∙ ap (longer (link_state l W)) (sym (waits_elsewhere l r.link r.vehicle ne)) ∙ sym (is l)
+          ];
+    }
+
+own_wake : (t : ℕ) (r : Row) (wakes : List (Option ℕ)) → r.link < length wakes → wake_of (woken_for t r wakes) r.link ≡ earlier t (wake_of wakes r.link)
+own_wake t r wakes lt =
+    let e = lt-ltb r.link (length wakes) lt in
+    rw e (get_or-set_same wakes r.link (earlier t (wake_of wakes r.link)) None lt)
+
+other_wake : (t : ℕ) (r : Row) (l : ℕ) (wakes : List (Option ℕ)) → r.link < length wakes → l ≢ r.link → wake_of (woken_for t r wakes) l ≡ wake_of wakes l
+other_wake t r l wakes lt ne =
+    let e = lt-ltb r.link (length wakes) lt in
+    rw e (get_or-set_other wakes r.link l (earlier t (wake_of wakes r.link)) None ne)
+
+-- who sleeps to this second or longer is woken in it
+at_once : (t : ℕ) (o : Option ℕ) → ((u : ℕ) → o ≡ Some u → t ≤ u) → earlier t o ≡ Some t
+at_once t None h = refl
+at_once t (Some u) h = let le = h u refl in ap (λ (n : ℕ). Some n) (omega arith)
+
+woken_at : (t : ℕ) (r : Row) (wakes : List (Option ℕ)) → r.link < length wakes → ((u : ℕ) → wake_of wakes r.link ≡ Some u → t ≤ u)
+    → wake_of (woken_for t r wakes) r.link ≡ Some t
+woken_at t r wakes lt h = own_wake t r wakes lt ∙ at_once t (wake_of wakes r.link) h
+
+rests_none : (D : Dwelling) (t : ℕ) (v : LinkView) → Rests D t t v
+rests_none D t v = λ u from to. absurd (omega arith)
+
+one_asleep : (D : Dwelling) (end t : ℕ) (r : Row) (links : List LinkView) (wakes : List (Option ℕ)) → t < end → r.link < length links
+    → AreAsleep D end t links wakes → AreAsleep D end t (started r links) (woken_for t r wakes)
+one_asleep D end t r links wakes early there h =
+    let many = started_length r links in
+    let slots = woken_length t r wakes in
+    let n = h.count in
+    let slot : r.link < length wakes = omega arith in
+    let at : wake_of (woken_for t r wakes) r.link ≡ Some t = woken_at t r wakes slot (λ u e. h.later r.link u there e) in
+    record {
+      count = slots ∙ n ∙ sym many;
+      rests = λ l lt.
+          elim (cases_Bool (eqb l r.link)) [
+            | inl q ↦
+                let same : l ≡ r.link = eqb-true l r.link q in
+                subst (λ (k : ℕ). Rests D t (sleeps_to end (wake_of (woken_for t r wakes) k)) (lane (started r links) k)) (sym same)
+                (subst (λ (o : Option ℕ). Rests D t (sleeps_to end o) (lane (started r links) r.link)) (sym at) (rests_none D t (lane (started r links) r.link)))
+            | inr q ↦
+                let ne = eqb-false l r.link q in
+                subst (λ (v : LinkView). Rests D t (sleeps_to end (wake_of (woken_for t r wakes) l)) v) (sym (other_lane r l links there ne))
+                (subst (λ (o : Option ℕ). Rests D t (sleeps_to end o) (lane links l)) (sym (other_wake t r l wakes slot ne)) (h.rests l (omega arith)))
+          ];
+      later = λ l u lt e.
+          elim (cases_Bool (eqb l r.link)) [
+            | inl q ↦
+                let same : l ≡ r.link = eqb-true l r.link q in
+                let is : Some u ≡ Some t = sym e ∙ ap (wake_of (woken_for t r wakes)) same ∙ at in
+                let k : u ≡ t = cc in
+                omega arith
+            | inr q ↦ h.later l u (omega arith) (sym (other_wake t r l wakes slot (eqb-false l r.link q)) ∙ e)
+          ];
+    }
+
+-- ALL OF THEM
+-- a world with these rows besides
+abbrev pub with_rows : List Row → World → World
+with_rows rs W = record W { rows = W.rows ++ rs }
+
+pub all_stand : (S : Setup) (t count : ℕ) (rs : List Row) (links : List LinkView) (W : World) → count ≡ length links → Each (Starts count) rs
+    → LinksStand S t links W → LinksStand S t (all_started rs links) (with_rows rs W)
+unfolding all_started
+all_stand S t count [] links W c st h = subst (λ (xs : List Row). LinksStand S t links (record W { rows = xs })) (sym (append-nil W.rows)) h
+all_stand S t count (r ∷ rs) links W c st h =
+    let first : Starts (length links) r = subst (λ (n : ℕ). Starts n r) c st.0 in
+    subst (λ (xs : List Row). LinksStand S t (all_started rs (started r links)) (record W { rows = xs })) (append_assoc W.rows (r ∷ []) rs)
+    (all_stand S t count rs (started r links) (with_row r W) (c ∙ sym (started_length r links)) st.1 (one_stands S t r links W first h))
+
+pub all_asleep : (D : Dwelling) (end t count : ℕ) (rs : List Row) (links : List LinkView) (wakes : List (Option ℕ)) → t < end → count ≡ length links
+    → Each (Starts count) rs → AreAsleep D end t links wakes → AreAsleep D end t (all_started rs links) (woken_for_all t rs wakes)
+unfolding all_started woken_for_all
+all_asleep D end t count [] links wakes early c st h = h
+all_asleep D end t count (r ∷ rs) links wakes early c st h =
+    let there : r.link < length links = subst (λ (n : ℕ). r.link < n) c st.0.link in
+    all_asleep D end t count rs (started r links) (woken_for t r wakes) early (c ∙ sym (started_length r links)) st.1
+    (one_asleep D end t r links wakes early there h)
+
+-- THE WORLD
+-- a row that stands last in a wait list, of a link that is there
+starts_at : (count : ℕ) (r : Row) → r.link < count → AtStart r → Starts count r
+starts_at count r lt h =
+    let stages : r ≡ record { vehicle = r.vehicle; link = r.link; stage = Wait; second = r.second }
+    = ap (λ (s : Stage). (let x : Row = record { vehicle = r.vehicle; link = r.link; stage = s; second = r.second } in x)) h.stage in
+    let seconds = ap (λ (n : ℕ). (let x : Row = record { vehicle = r.vehicle; link = r.link; stage = Wait; second = n } in x)) h.second in
+    record { link = lt; row = stages ∙ seconds }
+
+pub all_start : (z : Counts) (count : ℕ) (rs : List Row) → z.links ≡ count → All (IsFitRow z) rs → Each AtStart rs → Each (Starts count) rs
+all_start z count [] e f h = tt
+all_start z count (r ∷ rs) e f h =
+    let fit = All-head (IsFitRow z) r rs f in
+    (starts_at count r (subst (λ (n : ℕ). r.link < n) e fit.link) h.0, all_start z count rs e (All-tail (IsFitRow z) r rs f) h.1)
+
+-- links that stand for those of a world stand for those of any with the same rows of vehicles and the same credits
+pub stand_alike : (S : Setup) (t : ℕ) (links : List LinkView) (W V : World) → V.rows ≡ W.rows → V.credits ≡ W.credits → LinksStand S t links W
+    → LinksStand S t links V
+stand_alike S t links W V e c h = record {
+  count = h.count;
+  credits = ap (λ (cs : List ℕ). length cs) c ∙ h.credits;
+  numbers = h.numbers;
+  raised = h.raised;
+  lists = λ l lt.
+      h.lists l lt
+      ∙ ap (λ (rs : List Row). link_state l (record W { rows = rs })) (sym e)
+      ∙ ap (λ (cs : List ℕ). link_state l (record W { rows = V.rows; credits = cs })) (sym c);
+}
+
+-- once the vehicles that persons and departures let in came to their links, these stand for the links of the world
+pub joined_stand : (S : Setup) (t count : ℕ) (links : List LinkView) (W P : World) → count ≡ length links → Each (Starts count) P.rows → LinksStand S t links W
+    → LinksStand S t (all_started P.rows links) (joined W P)
+joined_stand S t count links W P c st h =
+    stand_alike S t (all_started P.rows links) (with_rows P.rows W) (joined W P) refl refl (all_stand S t count P.rows links W c st h)

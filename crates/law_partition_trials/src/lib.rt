@@ -1,14 +1,16 @@
 //! Small days in parts, computed from the definitions alone.
 #![tactic(auto)]
 
-ghost use Rattle.std.specs.Prelude.{◌≡◌, List, [], ◌∷◌, length, true};
+ghost use Rattle.std.specs.Prelude.{◌≡◌, List, [], ◌∷◌, length, map, true};
 ghost use Rattle.traffic.specs.Worked.{bus, narrow};
 ghost use Rattle.traffic.specs.Day.{day};
 ghost use Rattle.parts.specs.Owners.{lag};
 ghost use Rattle.parts.specs.Parts.{out, ready};
 ghost use Rattle.law_partitions.specs.Alone.{parcel_to};
 ghost use Rattle.law_partition_trials.specs.Trials.{whereabouts, once, told_in_parts, each_node, mixed, of_car, of_walker, of_place};
-ghost use Rattle.law_partition_trials.specs.Trials.{of_nothing};
+ghost use Rattle.law_partition_trials.specs.Trials.{of_nothing, places_apart};
+ghost use Rattle.partition.specs.declared.axes.Axis.TheVariants.{X, Y};
+ghost use Rattle.partition.specs.Cuts.{Cut, nodes_before, cuts};
 
 /// Three small days whose nodes are partitions of their own: one who drives over three links and one who
 /// walks over two borders; two passengers and a bus of one seat; and three cars, of which two are pushed
@@ -41,4 +43,21 @@ pub fn worked_parcels()
     ensures nothing { out mixed each_node 2 1 2 ≡ of_nothing }
     ensures car_alone { parcel_to mixed each_node 1 1 (ready mixed each_node 1 1) 2 ≡ of_car }
     ensures place_alone { parcel_to mixed each_node 2 3 (ready mixed each_node 2 3) 1 ≡ of_place }
+{}
+
+/// The first of these days again, where its partitions stand at different seconds: partition by partition at 1, 2, 4 and 4, and at 4, 3, 2
+/// and 4. Each of the two persons is in one part or in one parcel that is not absorbed.
+pub fn worked_moments()
+    ensures early { places_apart mixed each_node 4 (1 ∷ 2 ∷ 4 ∷ 4 ∷ []) 0 ∷ places_apart mixed each_node 4 (1 ∷ 2 ∷ 4 ∷ 4 ∷ []) 1 ∷ []
+        ≡ 1 ∷ 1 ∷ [] }
+    ensures late { places_apart mixed each_node 4 (4 ∷ 3 ∷ 2 ∷ 4 ∷ []) 0 ∷ places_apart mixed each_node 4 (4 ∷ 3 ∷ 2 ∷ 4 ∷ []) 1 ∷ []
+        ≡ 1 ∷ 1 ∷ [] }
+{}
+
+/// Five partitions are parted by four cuts: two of them from three by x, each of the two and one of the three by y, and the last two by x.
+/// Of seven nodes they get 1, 1, 2, 1 and 2.
+pub fn worked_cuts()
+    ensures five { cuts 5 ≡ record { axis = X; first = 0; middle = 2; end = 5 } ∷ record { axis = Y; first = 0; middle = 1; end = 2 }
+        ∷ record { axis = Y; first = 2; middle = 3; end = 5 } ∷ record { axis = X; first = 3; middle = 4; end = 5 } ∷ [] }
+    ensures seven { map (nodes_before 7 5) (0 ∷ 1 ∷ 2 ∷ 3 ∷ 4 ∷ 5 ∷ []) ≡ 0 ∷ 1 ∷ 2 ∷ 4 ∷ 5 ∷ 7 ∷ [] }
 {}

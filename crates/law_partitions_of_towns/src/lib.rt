@@ -2,7 +2,7 @@
 //! and of every way to give its nodes to partitions.
 #![tactic(auto)]
 
-ghost use Rattle.std.specs.Prelude.{◌≡◌, ℕ, true, List, All};
+ghost use Rattle.std.specs.Prelude.{◌≡◌, ℕ, true, List, All, map};
 ghost use Rattle.rows.specs.PlanRows.{PlanRows};
 ghost use Rattle.town.specs.Rows.{TownRows, IsTown};
 ghost use Rattle.town.specs.Setups.{setup_of};
@@ -10,7 +10,12 @@ ghost use Rattle.town.specs.Views.{setup, ChosenFit};
 ghost use Rattle.town.specs.declared.day_input.DayInput.{DayInput};
 ghost use Rattle.law_in_range.specs.Setups.{IsPlanIn};
 ghost use Rattle.parts.specs.Owners.{Owner};
+ghost use Rattle.traffic.specs.Lists.{below};
 ghost use Rattle.law_partitions.specs.Laws.{IsOwner, GoesInParts};
+ghost use Rattle.law_partitions.specs.Whole.{all_told};
+ghost use Rattle.event_merge.specs.Lists.{CanMerge};
+ghost use Rattle.partition.specs.declared.owner.Owner.{Owner as OwnerOfNodes};
+ghost use Rattle.partition.specs.Owned.{owner_in};
 
 /// The day of a town in parts: a partition's second is that of the day there; in whatever order the lags
 /// allow partitions advance, each holds, has told and has sent what the day says, and each person is in
@@ -22,4 +27,11 @@ pub fn towns_go_in_parts()
     ensures towns { (day : DayInput) (own : Owner) (parts : ℕ)
         → ChosenFit day → IsOwner own parts
         → GoesInParts (setup day) own parts }
+{}
+
+/// The same of every list of the nodes' partitions, as a network cut by halves has one; and what its partitions tell can be merged.
+pub fn divided_towns_go_in_parts()
+    ensures parts { (day : DayInput) (owner : OwnerOfNodes) → ChosenFit day → GoesInParts (setup day) (owner_in owner.of_node) owner.parts }
+    ensures lists { (day : DayInput) (owner : OwnerOfNodes) → ChosenFit day
+        → CanMerge (map (all_told (setup day) (owner_in owner.of_node) owner.parts) (below owner.parts)) }
 {}

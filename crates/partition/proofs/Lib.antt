@@ -1,0 +1,10 @@
+mod Numbers
+mod Shares
+mod Order
+mod Arranged
+mod Dealt
+mod Tables
+mod Crossed
+mod Loops
+mod Pairs
+mod Ends

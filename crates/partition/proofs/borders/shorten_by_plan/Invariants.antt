@@ -1,0 +1,13 @@
+use Rattle.std.proofs.Common.{◌≡◌, length}
+use Rattle.std.specs.List.{flat_map}
+use Rattle.traffic.specs.Lists.{below}
+use Rattle.rows.specs.PlanRows.{plan_rows}
+use Rattle.partition.specs.Owned.{owner_in}
+use Rattle.partition.specs.Neighbours.{AreShorter, shortest, seconds_of_hop, hop_leads_over, hop_in}
+use Rattle.partition.proofs.borders.shorten_by_plan.Given as goal
+
+abbrev pub invariant-loop-leg : goal.invariant-loop-leg
+invariant-loop-leg l = record {
+  long : length l.lags ≡ 4096;
+  short : AreShorter (λ p q n. shortest seconds_of_hop (hop_leads_over (owner_in l.owner.of_node) l.links p q) (flat_map (hop_in (plan_rows l.plan)) (below l.leg)) n) l.initial.lags l.lags;
+}

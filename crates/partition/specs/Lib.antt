@@ -1,0 +1,5 @@
+pub mod Owned
+pub mod Axes
+pub mod Cuts
+pub mod Halves
+pub mod Neighbours

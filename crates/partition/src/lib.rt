@@ -1,0 +1,16 @@
+//! How a network is divided into partitions, which of them are neighbours, and with which lags.
+#![tactic(auto)]
+
+mod axes;
+mod borders;
+mod crossings;
+mod cutting;
+mod halving;
+mod joining;
+mod owner;
+
+pub use axes::Axis;
+pub use borders::{LagPair, lags};
+pub use halving::halve;
+pub use joining::{Pair, neighbours};
+pub use owner::{MAX_PARTITIONS, Owner, OwnerList};

@@ -48,9 +48,11 @@ pub fn worked_parcels()
 /// The first of these days again, where its partitions stand at different seconds: partition by partition at 1, 2, 4 and 4, and at 4, 3, 2
 /// and 4. Each of the two persons is in one part or in one parcel that is not absorbed.
 pub fn worked_moments()
-    ensures early { places_apart mixed each_node 4 (1 ∷ 2 ∷ 4 ∷ 4 ∷ []) 0 ∷ places_apart mixed each_node 4 (1 ∷ 2 ∷ 4 ∷ 4 ∷ []) 1 ∷ []
+    ensures early { places_apart mixed each_node 4 (1 ∷ 2 ∷ 4 ∷ 4 ∷ []) 0
+        ∷ places_apart mixed each_node 4 (1 ∷ 2 ∷ 4 ∷ 4 ∷ []) 1 ∷ []
         ≡ 1 ∷ 1 ∷ [] }
-    ensures late { places_apart mixed each_node 4 (4 ∷ 3 ∷ 2 ∷ 4 ∷ []) 0 ∷ places_apart mixed each_node 4 (4 ∷ 3 ∷ 2 ∷ 4 ∷ []) 1 ∷ []
+    ensures late { places_apart mixed each_node 4 (4 ∷ 3 ∷ 2 ∷ 4 ∷ []) 0
+        ∷ places_apart mixed each_node 4 (4 ∷ 3 ∷ 2 ∷ 4 ∷ []) 1 ∷ []
         ≡ 1 ∷ 1 ∷ [] }
 {}
 

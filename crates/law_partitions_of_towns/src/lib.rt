@@ -31,7 +31,8 @@ pub fn towns_go_in_parts()
 
 /// The same of every list of the nodes' partitions, as a network cut by halves has one; and what its partitions tell can be merged.
 pub fn divided_towns_go_in_parts()
-    ensures parts { (day : DayInput) (owner : OwnerOfNodes) → ChosenFit day → GoesInParts (setup day) (owner_in owner.of_node) owner.parts }
+    ensures parts { (day : DayInput) (owner : OwnerOfNodes) → ChosenFit day
+        → GoesInParts (setup day) (owner_in owner.of_node) owner.parts }
     ensures lists { (day : DayInput) (owner : OwnerOfNodes) → ChosenFit day
         → CanMerge (map (all_told (setup day) (owner_in owner.of_node) owner.parts) (below owner.parts)) }
 {}

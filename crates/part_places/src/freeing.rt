@@ -11,7 +11,8 @@ use traffic::OutLink;
 
 /// One place of a link is taken no more.
 fn free_place(space: &mut Space, link: u32) -> Result<(), AllocError>
-    ensures { OnOk result ((m : ℕ) → places_in space.new m ≡ (if m == link then fewer 1 (places_in space.old m) else places_in space.old m)) }
+    ensures { OnOk result
+        ((m : ℕ) → places_in space.new m ≡ (if m == link then fewer 1 (places_in space.old m) else places_in space.old m)) }
 {
     if let Some(places) = space.places(link) {
         let taken = places.taken.saturating_sub(1);

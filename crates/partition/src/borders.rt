@@ -7,7 +7,8 @@ ghost use Rattle.rows.specs.PlanRows.{plan_rows};
 ghost use Rattle.rows.specs.Settings.{is_hole_speed};
 ghost use Rattle.town.specs.Views.{setup};
 ghost use Rattle.partition.specs.Owned.{owner_in};
-ghost use Rattle.partition.specs.Neighbours.{AreShorter, AreLags, shortened, shortest, hops_in, leads_over, hop_leads_over, lags_of, free_of, hole_at, seconds_of_hop, IsPairOf};
+ghost use Rattle.partition.specs.Neighbours.{AreShorter, AreLags, shortened, shortest, free_of, hole_at, seconds_of_hop, IsPairOf};
+ghost use Rattle.partition.specs.Neighbours.{hops_in, leads_over, hop_leads_over, lags_of};
 
 use crate::crossings::{end_node, hole_seconds, hop_of, link_seconds};
 use crate::joining::{PLACES, Pair, place_of};

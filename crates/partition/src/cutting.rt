@@ -38,7 +38,8 @@ pub(crate) fn arrange(division: &Division, axis: Axis, first: u32, count: u32, m
         ≡ nodes_before (length division.now.nodes.now) division.now.parts (first + count) }
     ensures same { IsPermutation members.old members.new }
     ensures cut { (depth : ℕ) → count ≤ depth
-        → Each (is_sorted_at division.now.nodes.now division.now.parts (nodes_before (length division.now.nodes.now) division.now.parts first) members.new)
+        → Each (is_sorted_at division.now.nodes.now division.now.parts
+        (nodes_before (length division.now.nodes.now) division.now.parts first) members.new)
         (cuts_from depth axis first count) }
 {
     if count <= 1 {

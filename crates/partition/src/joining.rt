@@ -5,7 +5,8 @@ ghost use Rattle.std.specs.List.{list_any, flat_map};
 ghost use Rattle.rows.specs.PlanRows.{plan_rows};
 ghost use Rattle.town.specs.Views.{setup};
 ghost use Rattle.partition.specs.Owned.{owner_in};
-ghost use Rattle.partition.specs.Neighbours.{AreJoined, place_of, joined_in, is_either, is_over, is_hop_over, hops_in, pairs_from, neighbours_of, AreNear, is_joined};
+ghost use Rattle.partition.specs.Neighbours.{AreJoined, AreNear, place_of, joined_in, is_either, is_over, is_hop_over};
+ghost use Rattle.partition.specs.Neighbours.{hops_in, pairs_from, neighbours_of, is_joined};
 
 use crate::crossings::{end_node, hop_of};
 use crate::owner::{MAX_PARTITIONS, Owner, owner_of_node};
@@ -59,7 +60,8 @@ fn join_by_links(owner: &Owner, links: &[LinkRow], joined: &mut [bool])
 /// Those are joined between which a teleported leg of a plan leads.
 fn join_by_plan(owner: &Owner, links: &LinkList, plan: &Plan, joined: &mut [bool])
     requires { length joined.old ≡ PLACES }
-    ensures { AreJoined (λ a b. list_any (is_hop_over (owner_in owner.now.of_node) links.now a b) (hops_in (plan_rows plan.now))) joined.old joined.new }
+    ensures { AreJoined (λ a b. list_any (is_hop_over (owner_in owner.now.of_node) links.now a b) (hops_in (plan_rows plan.now)))
+        joined.old joined.new }
 {
     for leg in 0..plan.legs.rows.len() as u32 {
         if let Some(hop) = hop_of(plan, leg) {

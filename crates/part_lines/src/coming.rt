@@ -47,7 +47,8 @@ fn waiter_at(
 
 /// So on the leg of this element of a plan.
 fn waiter_in(plan: &Plan, number: u32, element: u32, stop: u32, since: u32) -> Option<Waiter>
-    ensures { result ≡ waiter_on number (leg_in (plan_rows plan.now) element) (act_in (plan_rows plan.now) (element + 2)).kind stop since }
+    ensures { result
+        ≡ waiter_on number (leg_in (plan_rows plan.now) element) (act_in (plan_rows plan.now) (element + 2)).kind stop since }
 {
     let kind = act_after(plan, element).kind;
     waiter_at(&plan.legs, element as usize / 2, number, kind, stop, since)

@@ -1,6 +1,7 @@
 //! Places come free.
 
-ghost use Rattle.std.specs.Prelude.{◌≡◌, ℕ, ◌+◌, ◌-◌, ◌<◌, ◌==◌, length, get_or, set, count_by, if◌then◌else◌, OnOk};
+ghost use Rattle.std.specs.Prelude.{◌≡◌, ℕ, ◌+◌, ◌-◌, ◌<◌, ◌==◌, if◌then◌else◌};
+ghost use Rattle.std.specs.Prelude.{length, get_or, set, count_by, OnOk};
 ghost use Rattle.node_move.specs.Spaces.{places_in};
 ghost use Rattle.part_places.specs.Taking.{Taking, AreTaken, fewer, times};
 

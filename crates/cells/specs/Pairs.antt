@@ -1,6 +1,6 @@
 -- The pairs of neighbours, and their channels.
 use Rattle.std.specs.Prelude.{◌≡◌, ℕ, ◌+◌, ◌<◌, ◌≤◌, ◌⊎◌, List, [], ◌∷◌, length, slice_index_or}
-use Rattle.cells.specs.declared.TheConstants.{MAX_LAG}
+use Rattle.limits.specs.declared.TheConstants.{MAX_LAG}
 use Rattle.cells.specs.declared.table.Channel.{Channel}
 use Rattle.cells.specs.declared.table.Border.{Border}
 use Rattle.cells.specs.Rule.{no_border}

@@ -4,7 +4,8 @@
 use Rattle.std.specs.Prelude.{◌≡◌, ◌≢◌, ℕ, ◌+◌, ◌-◌, ◌*◌, ◌%◌, ◌<◌, ◌≤◌, Bool, true, false, cond, ◌||◌, eqb, Option, Some, None}
 use mathlib.Core.Option.{some, none}
 use mathlib.Core.Option as maybe
-use Rattle.cells.specs.declared.TheConstants.{SLOTS, MAX_LAG}
+use Rattle.cells.specs.declared.TheConstants.{SLOTS}
+use Rattle.limits.specs.declared.TheConstants.{MAX_LAG}
 
 -- the slot of a channel for the parcel of a second
 abbrev pub slot : ℕ → ℕ → ℕ

@@ -21,13 +21,8 @@ mod table;
 mod taking;
 
 pub use board::{Board, Handover, Hub, Look, Port};
+use limits::MAX_LAG;
 pub use table::Traffic;
-
-/// The most partitions of a board.
-pub const MAX_PARTITIONS: u32 = 64;
-
-/// The longest lag between two neighbours, in seconds.
-pub const MAX_LAG: u32 = 32;
 
 /// The slots of each ordered pair of neighbours: as many as two of the longest lags, so that no two parcels on their way share one.
 pub const SLOTS: u32 = 2 * MAX_LAG;

@@ -1,11 +1,12 @@
 // How a board is made.
 ghost use Rattle.std.specs.Prelude.{◌≡◌, ◌<◌, ◌≤◌, [], length, IfOk};
+ghost use Rattle.limits.specs.declared.TheConstants.{MAX_PARTITIONS};
 ghost use Rattle.cells.specs.Pairs.{ArePairs, channels_of};
 ghost use Rattle.cells.specs.Ports.{IsHub, IsLawful, FollowsPairs, run_of, had_port, joined, count_of, channels_in};
 
 use crate::board::{Board, Hub};
 use crate::table::{Channel, Layout, Traffic};
-use crate::{MAX_PARTITIONS, SLOTS, WORDS_APART};
+use crate::{SLOTS, WORDS_APART};
 use atomic_table::Table;
 use std::alloc::{AllocError, Global};
 use std::snapshot::Snapshot;

@@ -75,3 +75,9 @@ pub const MAX_SPANS: usize = 32;
 
 /// The most conflicts of signals.
 pub const MAX_CONFLICTS: usize = 65_536;
+
+/// The most partitions of a network, and the most workers that run them.
+pub const MAX_PARTITIONS: u32 = 64;
+
+/// The longest lag (lookahead) from a partition to its neighbour, in seconds.
+pub const MAX_LAG: u32 = 32;

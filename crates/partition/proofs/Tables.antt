@@ -6,7 +6,7 @@ use Rattle.std.proofs.lemmas.List.{get_or-set_same, get_or-set_other, map-append
 use Rattle.std.proofs.lemmas.List.Elements.{filter-append}
 use Rattle.traffic.proofs.Common.{cases_Bool, eqb-true, eq-eqb, and_parts, eqb}
 use Rattle.parts.specs.Owners.{least}
-use Rattle.partition.specs.declared.owner.TheConstants.{MAX_PARTITIONS}
+use Rattle.limits.specs.declared.TheConstants.{MAX_PARTITIONS}
 use Rattle.partition.specs.Neighbours.{place_of, joined_in, lag_in, AreJoined, is_either, AreShorter, shortest, shortened}
 
 -- TESTS

@@ -9,7 +9,7 @@ use Rattle.traffic.specs.Lists.{below, numbers}
 use Rattle.fixed_flow.specs.Link.{free_seconds}
 use Rattle.traffic.specs.Setup.{Setup, hole_seconds}
 use Rattle.parts.specs.Owners.{Owner, Hop, hop, near, lag, least}
-use Rattle.partition.specs.declared.owner.TheConstants.{MAX_PARTITIONS}
+use Rattle.limits.specs.declared.TheConstants.{MAX_PARTITIONS}
 use Rattle.partition.specs.declared.joining.Pair.{Pair}
 use Rattle.partition.specs.declared.borders.LagPair.{LagPair}
 

@@ -2,6 +2,7 @@
 
 ghost use Rattle.std.specs.Prelude.{◌≡◌, ◌<◌, true, length, map, All, IfOk};
 ghost use Rattle.std.specs.List.{list_all, flat_map};
+ghost use Rattle.limits.specs.declared.TheConstants.{MAX_PARTITIONS};
 ghost use Rattle.rows.specs.Networks.{is_link};
 ghost use Rattle.rows.specs.PlanRows.{plan_rows};
 ghost use Rattle.rows.specs.Settings.{is_hole_speed};
@@ -12,7 +13,8 @@ ghost use Rattle.partition.specs.Neighbours.{hops_in, leads_over, hop_leads_over
 
 use crate::crossings::{end_node, hole_seconds, hop_of, link_seconds};
 use crate::joining::{PLACES, Pair, place_of};
-use crate::owner::{MAX_PARTITIONS, Owner, owner_of_node};
+use crate::owner::{Owner, owner_of_node};
+use limits::MAX_LAG;
 use rows::{LinkList, LinkRow, Plan};
 use std::alloc::{AllocError, Global};
 use town::DayInput;
@@ -24,9 +26,6 @@ pub struct LagPair {
     pub there: u32,
     pub back: u32,
 }
-
-/// The most seconds of a lag.
-const LONGEST_LAG: u32 = 32;
 
 /// The lag from a partition to another one is no longer than so many seconds.
 fn shorten(from: u32, to: u32, seconds: u32, lags: &mut [u32])
@@ -92,7 +91,7 @@ fn shorten_by_plans(owner: &Owner, links: &LinkList, chosen: &[Plan], lags: &mut
 fn lags_of_day(alloc: Global, day: &DayInput, owner: &Owner) -> Result<Vec<u32>, AllocError>
     ensures { IfOk result (λ lags. (length lags.items ≡ PLACES) × AreLags (setup day.now) (owner_in owner.now.of_node) lags.items) }
 {
-    let mut lags = vec![in alloc; LONGEST_LAG; PLACES]?;
+    let mut lags = vec![in alloc; MAX_LAG; PLACES]?;
     let links = &day.town.network.links;
     let nodes = day.town.network.nodes.len();
     let hole_speed = day.town.settings.hole_speed;

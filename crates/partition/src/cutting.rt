@@ -2,11 +2,10 @@
 
 ghost use Rattle.std.specs.Prelude.{◌≡◌, ◌≤◌, ◌-◌, ◌+◌, ℕ, length, IsPermutation};
 ghost use Rattle.std.specs.List.{AllByRecursion as Each};
-ghost use Rattle.limits.specs.declared.TheConstants.{MAX_NODES};
+ghost use Rattle.limits.specs.declared.TheConstants.{MAX_NODES, MAX_PARTITIONS};
 ghost use Rattle.partition.specs.Cuts.{nodes_before, cuts_from, is_sorted_at};
 
 use crate::axes::{Axis, sort_along};
-use crate::owner::MAX_PARTITIONS;
 use rows::NodeRow;
 
 /// The nodes of a network, and among how many partitions they are divided.

@@ -1,13 +1,13 @@
 //! A network is divided among partitions.
 
 ghost use Rattle.std.specs.Prelude.{◌≡◌, ◌≤◌, ◌<◌, ◌+◌, length, get_or, IfOk, IsPermutation};
-ghost use Rattle.limits.specs.declared.TheConstants.{MAX_NODES};
+ghost use Rattle.limits.specs.declared.TheConstants.{MAX_NODES, MAX_PARTITIONS};
 ghost use Rattle.traffic.specs.Lists.{below};
 ghost use Rattle.partition.specs.Halves.{IsHalved, partition_at, AreDealt};
 
 use crate::axes::Axis;
 use crate::cutting::{Division, arrange};
-use crate::owner::{MAX_PARTITIONS, Owner};
+use crate::owner::Owner;
 use events::Rows;
 use rows::Network;
 use std::alloc::{AllocError, Global};

@@ -2,6 +2,7 @@
 
 ghost use Rattle.std.specs.Prelude.{◌≡◌, ◌≤◌, ◌<◌, ◌+◌, ◌++◌, length, map, filter, IfOk, OnOk};
 ghost use Rattle.std.specs.List.{list_any, flat_map};
+ghost use Rattle.limits.specs.declared.TheConstants.{MAX_PARTITIONS};
 ghost use Rattle.rows.specs.PlanRows.{plan_rows};
 ghost use Rattle.town.specs.Views.{setup};
 ghost use Rattle.partition.specs.Owned.{owner_in};
@@ -9,7 +10,8 @@ ghost use Rattle.partition.specs.Neighbours.{AreJoined, AreNear, place_of, joine
 ghost use Rattle.partition.specs.Neighbours.{hops_in, pairs_from, neighbours_of, is_joined};
 
 use crate::crossings::{end_node, hop_of};
-use crate::owner::{MAX_PARTITIONS, Owner, owner_of_node};
+use crate::owner::{Owner, owner_of_node};
+use limits::MAX_PARTITIONS;
 use rows::{LinkList, LinkRow, Plan};
 use std::alloc::{AllocError, Global};
 use town::DayInput;

@@ -13,4 +13,4 @@ pub use axes::Axis;
 pub use borders::{LagPair, lags};
 pub use halving::halve;
 pub use joining::{Pair, neighbours};
-pub use owner::{MAX_PARTITIONS, Owner, OwnerList};
+pub use owner::{Owner, OwnerList};

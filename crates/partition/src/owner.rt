@@ -1,11 +1,8 @@
 ghost use Rattle.std.specs.Prelude.{◌≡◌, ◌≤◌, ◌<◌, ℕ};
 ghost use Rattle.partition.specs.Owned.{owner_in};
-ghost use Rattle.partition.specs.declared.owner.TheConstants.{MAX_PARTITIONS};
+ghost use Rattle.limits.specs.declared.TheConstants.{MAX_PARTITIONS};
 
 use events::Rows;
-
-/// The most partitions of a network.
-pub const MAX_PARTITIONS: u32 = 64;
 
 /// The partition of each node, by the nodes' numbers.
 pub type OwnerList = Rows<u32>;

@@ -1,6 +1,7 @@
 -- Which partition owns what, which partitions are neighbours, and by how many seconds what one does may stay unknown to the other.
 use Rattle.std.specs.Prelude.{ℕ, ◌*◌, min, Bool, not, ◌&&◌, ◌||◌, List, [], ◌∷◌, ◌++◌, length, map, filter, get_or, nat_lt, ◌==◌, if◌then◌else◌}
 use Rattle.std.specs.List.{flat_map, list_any}
+use Rattle.limits.specs.declared.TheConstants.{MAX_LAG}
 use Rattle.events.specs.declared.event.Event.{Event}
 use Rattle.traffic.specs.Lists.{below}
 use Rattle.traffic.specs.declared.world.Place.{Place}
@@ -87,7 +88,7 @@ least n (x ∷ xs) = min x (least n xs)
 
 -- the most seconds of a lag
 abbrev pub longest_lag : ℕ
-longest_lag = 32
+longest_lag = MAX_LAG
 
 -- The lag from q to p: what q does in a second changes nothing at p before so many seconds have passed. It is no longer than the free
 -- seconds of each link from q to p, than the hole seconds of each link from p to q, and than each teleported leg from q to p.

@@ -10,3 +10,4 @@ pub mod Naming
 pub mod Seconds
 pub mod Sounding
 pub mod Towns
+pub mod Days

@@ -96,3 +96,8 @@ pub record HasPlans (z : Counts) (S : Setup) : Type 0 where
 pub record HasItsLinks (S : Setup) (W : World) : Type 0 where
   pub credits : length W.credits ≡ length S.links
   pub holes : All (λ (h : Hole). h.link < length S.links) W.holes
+
+-- one plan for each person of the town, which fits it
+pub record HaveFittingPlans (day : DayInput) : Type 0 where
+  pub each : length day.town.now.book.persons ≡ length day.chosen.now
+  pub fit : list_all (fits (rows_of day.town.now)) (chosen_in day) ≡ true

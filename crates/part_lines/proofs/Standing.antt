@@ -19,7 +19,8 @@ use Rattle.riders.specs.Waiting.{NobodyIs, AreOnce, at_stop}
 use Rattle.part_persons.specs.Dues.{due_at_place, person_due}
 use Rattle.part_persons.proofs.InOrder.{after_more}
 use Rattle.part_persons.proofs.Early.{lands_not, leaves_not}
-use Rattle.part_lines.specs.Coming.{waiter_on, came_to, came, with_one, joined_lines, CanJoin, CanAllJoin}
+use Rattle.person_moves.specs.Waiting.{waiter_on}
+use Rattle.part_lines.specs.Coming.{came_to, came, with_one, joined_lines, CanJoin, CanAllJoin}
 use Rattle.part_lines.proofs.Behind.{IsEarlier, Joins, come_behind}
 use Rattle.part_lines.proofs.News.{WaitsFrom, IsNews, IsBefore, WaitBefore, news_through, many_through}
 

@@ -6,13 +6,13 @@ use Rattle.traffic.specs.declared.world.Waiter.{Waiter}
 use Rattle.traffic.specs.declared.world.Place.{Place}
 use Rattle.traffic.specs.declared.world.Place.TheVariants.{At, Teleporting, Waiting, Riding, Aborted}
 use Rattle.law_in_range.specs.Rows.{Counts, IsFitPlace, IsFitWorld}
-use Rattle.law_in_range.specs.Setups.{IsFitSetup, IsFitStop, counts_in}
+use Rattle.law_in_range.specs.Setups.{IsFitSetup, IsFitStop, HaveFittingPlans, counts_in}
+use Rattle.law_in_range.proofs.Days.{chosen_fit}
 use Rattle.law_in_range.proofs.Towns.{town_fit}
-use Rattle.plain_day.specs.Plans.{HaveFittingPlans}
-use Rattle.plain_day.proofs.Fitness.{plans_fit}
 use Rattle.town.specs.declared.day_input.DayInput.{DayInput}
 use Rattle.town.specs.Views.{setup}
-use Rattle.part_lines.specs.Coming.{waiter_on, came_to}
+use Rattle.person_moves.specs.Waiting.{waiter_on}
+use Rattle.part_lines.specs.Coming.{came_to}
 use Rattle.part_lines.proofs.Ready.{HasStop, HaveStops}
 
 on_leg : (i : ℕ) (w : Leg) (kind stop since : ℕ) (x : Waiter) → waiter_on i w kind stop since ≡ Some x → x.stop ≡ stop
@@ -50,4 +50,4 @@ fit_stops z S t count W f fit c = λ i x lt e.
 
 pub have_stops : (day : DayInput) (t count : ℕ) (W : World) → HaveFittingPlans day → IsFitWorld (counts_in day) W → count ≡ length (setup day).stops
     → HaveStops (setup day) t count W.persons
-have_stops day t count W given fit c = fit_stops (counts_in day) (setup day) t count W (town_fit day (plans_fit day given)) fit c
+have_stops day t count W given fit c = fit_stops (counts_in day) (setup day) t count W (town_fit day (chosen_fit day given)) fit c

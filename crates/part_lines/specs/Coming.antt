@@ -1,7 +1,6 @@
 -- Who comes to the line of a stop in a second, and what the lines are then.
 use Rattle.std.specs.Prelude.{ℕ, ◌<◌, List, [], ◌∷◌, ◌++◌, length, get_or, set, ◌==◌, if◌then◌else◌, Option, None, Some}
 use Rattle.rows.specs.declared.plan.Leg.{Leg}
-use Rattle.rows.specs.declared.plan.Leg.TheVariants as leg
 use Rattle.traffic.specs.declared.world.Place.{Place}
 use Rattle.traffic.specs.declared.world.Place.TheVariants.{At, Teleporting, Waiting, Riding, Aborted}
 use Rattle.traffic.specs.declared.world.Person.{Person}
@@ -9,16 +8,10 @@ use Rattle.traffic.specs.declared.world.Waiter.{Waiter}
 use Rattle.traffic.specs.Rows.{nobody}
 use Rattle.traffic.specs.Setup.{Setup, leg_at, act_after}
 use Rattle.link_seconds.specs.Seconds.{line_at}
+use Rattle.person_moves.specs.Waiting.{waiter_on}
 use Rattle.riders.specs.Waiting.{NobodyIs, AllBefore}
 
--- a person on this leg, with an activity of this kind after it, who waits at a stop
-abbrev pub waiter_on : ℕ → Leg → ℕ → ℕ → ℕ → Option Waiter
-waiter_on i (leg.Car route) kind stop since = None
-waiter_on i (leg.Teleport mode seconds) kind stop since = None
-waiter_on i (leg.Transit line access egress) kind stop since =
-    Some (record { person = i; stop = stop; line = line; egress = egress; kind = kind; since = since })
-
--- where he waits since second t
+-- a person on this leg, with an activity of this kind after it, where he waits at a stop since second t
 abbrev pub came_to : ℕ → ℕ → Leg → ℕ → Place → Option Waiter
 came_to t i w kind (At end) = None
 came_to t i w kind (Teleporting start) = None

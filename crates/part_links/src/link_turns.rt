@@ -18,7 +18,7 @@ ghost use Rattle.part_links.specs.Phase.{IsTurn};
 use calendar::{Wakes, within};
 use events::{Event, Phase};
 use link_seconds::link_second;
-use plain_day::push_keyed;
+use person_moves::push_keyed;
 use queue_link::LinkState;
 use riders::Waiting;
 use rows::Dwelling;

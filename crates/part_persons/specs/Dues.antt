@@ -12,10 +12,7 @@ use Rattle.calendar.specs.Waking.{wake_of, within}
 use Rattle.town.specs.declared.day_input.DayInput.{DayInput}
 use Rattle.town.specs.Views.{setup}
 
--- the leg at a place, and the seconds of a leg, where it is teleported
-abbrev pub nth_leg : List Leg → ℕ → Leg
-nth_leg legs place = get_or legs place (leg.Car [])
-
+-- the seconds of a leg, where it is teleported
 abbrev pub seconds_of : Leg → Option ℕ
 seconds_of (leg.Car route) = None
 seconds_of (leg.Teleport mode seconds) = Some seconds

@@ -5,7 +5,8 @@ ghost use Rattle.rows.specs.PlanRows.{plan_rows, leg_in};
 ghost use Rattle.rows.specs.declared.plan.Leg.TheVariants as leg;
 ghost use Rattle.calendar.specs.Waking.{within};
 ghost use Rattle.town.specs.Views.{setup};
-ghost use Rattle.part_persons.specs.Dues.{seconds_of, nth_leg, person_due};
+ghost use Rattle.person_moves.specs.Legs.{nth_leg};
+ghost use Rattle.part_persons.specs.Dues.{seconds_of, person_due};
 
 use calendar::within;
 use rows::{Leg, Legs, Plan};

@@ -2,15 +2,14 @@
 
 ghost use Rattle.std.specs.Prelude.{◌≡◌, ℕ, ◌<◌, length, IfOk};
 ghost use Rattle.law_in_range.specs.Rows.{IsFitWorld};
-ghost use Rattle.law_in_range.specs.Setups.{counts_in};
+ghost use Rattle.law_in_range.specs.Setups.{counts_in, HaveFittingPlans};
 ghost use Rattle.town.specs.Views.{setup};
 ghost use Rattle.traffic.specs.Day.{world_start};
-ghost use Rattle.plain_day.specs.Plans.{HaveFittingPlans};
 ghost use Rattle.part_persons.specs.Dues.{AreFollowedIn};
 
 use crate::hearing::follow_everybody;
 use calendar::Wakes;
-use plain_day::{World, start};
+use person_moves::{World, start};
 use std::alloc::{AllocError, Global};
 use town::DayInput;
 

@@ -4,14 +4,13 @@ ghost use Rattle.std.specs.Prelude.{◌≡◌, ℕ, ◌+◌, ◌<◌, ◌++◌, 
 ghost use Rattle.limits.specs.declared.TheConstants.{LAST_SECOND};
 ghost use Rattle.events.specs.declared.event.Phase.TheVariants as phase;
 ghost use Rattle.law_in_range.specs.Rows.{IsFitWorld};
-ghost use Rattle.law_in_range.specs.Setups.{counts_in};
+ghost use Rattle.law_in_range.specs.Setups.{counts_in, HaveFittingPlans};
 ghost use Rattle.town.specs.Views.{setup};
-ghost use Rattle.traffic.specs.Rows.{person_of, nobody};
+ghost use Rattle.traffic.specs.Rows.{person_of};
 ghost use Rattle.traffic.specs.Moves.{run};
 ghost use Rattle.traffic.specs.Day.{turns_of, count_of, turns, after, events_of, events_in, through, told_in};
 ghost use Rattle.calendar.specs.Due.{due_at, HasNone};
 ghost use Rattle.calendar.specs.Waking.{woken, is_woken};
-ghost use Rattle.plain_day.specs.Plans.{HaveFittingPlans};
 ghost use Rattle.part_persons.specs.Dues.{AreFollowedIn};
 ghost use Rattle.part_persons.specs.Phases.{phase_of, AreBelow, departs_in};
 
@@ -19,10 +18,10 @@ use crate::persons::Persons;
 use crate::turns::PhaseTurn;
 use calendar::Calendar;
 use events::{Event, Phase};
-use plain_day::{World, departure_moves, landing_moves, leaving_moves};
+use person_moves::{World, departure_moves, landing_moves, leaving_moves, person_of};
 use std::alloc::{AllocError, Global};
 use town::DayInput;
-use traffic::{Move, Person};
+use traffic::Move;
 
 /// A phase before the nodes and links have theirs.
 #[derive(Clone, Copy, Debug, PartialEq, Eq)]
@@ -46,21 +45,6 @@ impl EarlyPhase {
             EarlyPhase::Start => Phase::B2,
         }
     }
-}
-
-/// The row of a person.
-fn person_at(persons: &[Person], number: u32) -> Person
-    requires { number < length persons.now }
-    ensures { result ≡ get_or persons.now number nobody }
-{
-    persons[number as usize]
-}
-
-fn person_of(world: &World, number: u32) -> Person
-    requires { number < length world.now.persons }
-    ensures { result ≡ person_of number world.now }
-{
-    person_at(&world.persons, number)
 }
 
 /// The moves of a person or a departure in its turn.

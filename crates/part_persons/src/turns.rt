@@ -14,7 +14,7 @@ use crate::hearing::follow_all;
 use crate::persons::Persons;
 use calendar::Wakes;
 use events::{Event, Phase};
-use plain_day::{World, do_moves, push_keyed};
+use person_moves::{World, do_moves, push_keyed};
 use std::alloc::{AllocError, Global};
 use town::DayInput;
 use traffic::{Move, Occurrence, OccurrenceList};

@@ -8,17 +8,11 @@ use Rattle.events.specs.Lines.{AreInBook}
 use Rattle.town.specs.declared.day_input.DayInput.{DayInput}
 use Rattle.town.specs.Setups.{setup_of}
 use Rattle.town.specs.Views.{setup}
-use Rattle.law_in_range.specs.Rows.{IsFitWorld}
-use Rattle.law_in_range.specs.Setups.{counts_in}
+use Rattle.law_in_range.specs.Setups.{counts_in, HaveFittingPlans}
+use Rattle.law_in_range.proofs.Days.{chosen_fit}
 use Rattle.law_in_range.proofs.Towns.{town_fit, book_of}
-use Rattle.law_in_range.proofs.Seconds.{start_fit, day_named}
+use Rattle.law_in_range.proofs.Seconds.{day_named}
 use Rattle.law_in_range.proofs.Naming.{Named}
-use Rattle.plain_day.specs.Plans.{HaveFittingPlans}
-use Rattle.plain_day.proofs.Fitness.{plans_fit}
-
-pub start_is_fit : (day : DayInput) (W : World) → HaveFittingPlans day → W ≡ world_start (setup day) → IsFitWorld (counts_in day) W
-start_is_fit day W given e =
-    subst (IsFitWorld (counts_in day)) (sym e) (start_fit (counts_in day) (setup day) (town_fit day (plans_fit day given)))
 
 pub world_none : (S : Setup) (W : World) → W ≡ world_from S W 0
 unfolding world_from
@@ -48,7 +42,7 @@ pub day_in_book : (d : DayInput) (out : List Event) → HaveFittingPlans d → o
 day_in_book d out given e =
     let S = setup d in
     let z = counts_in d in
-    let named = day_named z d.town.now.book S (book_of d given.each) (town_fit d (plans_fit d given)) in
+    let named = day_named z d.town.now.book S (book_of d given.each) (town_fit d (chosen_fit d given)) in
     subst (λ (xs : List Event). AreInBook xs d.town.now.book) (sym e) (All-from_recursion (Named d.town.now.book) (day S) named)
 
 -- what is told of each person at the end of the day

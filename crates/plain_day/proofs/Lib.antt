@@ -1,5 +1,3 @@
-pub mod Removals
-pub mod Running
 pub mod Numbers
 pub mod Seen
 pub mod Counting
@@ -7,9 +5,6 @@ pub mod Fitting
 pub mod Agree
 pub mod LinkTurns
 pub mod PersonPlans
-pub mod Leaving
-pub mod Departing
 pub mod NodeTurns
 pub mod Phasing
-pub mod Fitness
 pub mod Dawn

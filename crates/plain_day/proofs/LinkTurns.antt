@@ -11,7 +11,7 @@ use Rattle.traffic.specs.declared.world.Waiter.{Waiter}
 use Rattle.town.specs.declared.day_input.DayInput.{DayInput}
 use Rattle.town.specs.Views.{setup}
 use Rattle.traffic.proofs.Idle.{link_idle}
-use Rattle.plain_day.specs.Fit.{stays_on}
+use Rattle.plain_day.specs.Views.{stays_on}
 
 -- a link with no row but in its buffer has no row in its queue, its wait list or its bay
 and_false : (b : Bool) → b && false ≡ false

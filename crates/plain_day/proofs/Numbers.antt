@@ -1,18 +1,15 @@
 -- The rows of a town, and the setup of a day in it.
-use Rattle.traffic.proofs.Common.{◌≡◌, ℕ, List, ◌∙◌, length, ap, sym, arith, ◌<◌, true, Bool, inl, inr, get_or, cases_Bool, true≢false, nat_tests}
-use Rattle.traffic.proofs.Common.{list_all, credit_per_second, storage, buffer_room, LinkRow, rules, gain_of, link_row, hole_of, seconds_of, storage_of}
+use Rattle.traffic.proofs.Common.{◌≡◌, ℕ, ◌∙◌, length, ap, sym, arith, ◌<◌, get_or, nat_tests}
+use Rattle.traffic.proofs.Common.{credit_per_second, storage, buffer_room, LinkRow, rules, gain_of, link_row, hole_of, seconds_of, storage_of}
 use Rattle.traffic.proofs.Common.{hole_seconds}
 use Rattle.traffic.specs.declared.numbers.Rules.{Rules}
 use Rattle.std.proofs.lemmas.List.{get_or_default}
-use Rattle.std.proofs.lemmas.List.Folds.{list_all_at}
 use Rattle.rows.specs.Networks.{is_link, are_measures}
 use Rattle.town.specs.declared.day_input.DayInput.{DayInput}
 use Rattle.town.specs.Setups.{setup_of}
 use Rattle.town.specs.Views.{setup}
+use Rattle.person_moves.proofs.Lists.{passes_at}
 use Rattle.plain_day.specs.Measures.{IsMeasured}
-
-pub passes_at : {X : Type 0} (p : X → Bool) (xs : List X) (k : ℕ) (x : X) → list_all p xs ≡ true → k < length xs → x ≡ get_or xs k x → p x ≡ true
-passes_at p xs k x h l e = elim (cases_Bool (p x)) [ inl t ↦ t | inr f ↦ absurd (true≢false (sym h ∙ list_all_at p xs k x l (ap p (sym e) ∙ f))) ]
 
 -- the row of a link
 pub row_is : (day : DayInput) (l : ℕ) (row : LinkRow) → l < length day.town.now.network.links → row ≡ get_or day.town.now.network.links l row → link_row (setup day) l ≡ row

@@ -1,5 +1,5 @@
--- What nodes see of a world, as lists.
-use Rattle.std.specs.Prelude.{ℕ, ◌+◌, Bool, ◌&&◌, ◌==◌, nat_lt}
+-- What links and nodes see of a world, as lists.
+use Rattle.std.specs.Prelude.{ℕ, ◌+◌, Bool, not, ◌&&◌, ◌==◌, nat_lt}
 use Rattle.traffic.specs.declared.world.Hole.{Hole}
 use Rattle.traffic.specs.declared.stage.Stage.TheVariants.{Buffer}
 use Rattle.traffic.specs.declared.world.Row.{Row}
@@ -7,6 +7,10 @@ use Rattle.traffic.specs.Rows.{World, rank}
 use Rattle.traffic.specs.Setup.{Setup, link_row, seconds_of, storage_of}
 use Rattle.traffic.specs.Nodes.{taken_at}
 use Rattle.plain_turns.specs.declared.out_links.OutLinkRow.{OutLinkRow}
+
+-- whether a row stands on the link and not in its buffer
+abbrev pub stays_on : ℕ → Row → Bool
+stays_on l r = (r.link == l) && not (rank r.stage == rank Buffer)
 
 -- a hole on the link that counts as a taken place in second t, where each does for h seconds
 abbrev pub is_in_force : ℕ → ℕ → ℕ → Hole → Bool

@@ -1,31 +1,24 @@
 //! A second, and a day.
 
-ghost use Rattle.std.specs.Prelude.{◌≡◌, ◌<◌, ◌++◌, length, map, replicate, [], OnOk, IfOk};
+ghost use Rattle.std.specs.Prelude.{◌≡◌, ◌<◌, ◌++◌, length, [], OnOk, IfOk};
 ghost use Rattle.limits.specs.declared.TheConstants.{LAST_SECOND};
 ghost use Rattle.events.specs.Lines.{AreInBook};
-ghost use Rattle.fixed_flow.specs.declared.TheConstants.{VEHICLE_COST};
 ghost use Rattle.law_in_range.specs.Rows.{IsFitWorld};
-ghost use Rattle.law_in_range.specs.Setups.{counts_in, HasItsLinks};
+ghost use Rattle.law_in_range.specs.Setups.{counts_in, HasItsLinks, HaveFittingPlans};
 ghost use Rattle.traffic.specs.Worlds.{OnePlace, Sound};
-ghost use Rattle.town.specs.Views.{setup, chosen_in};
-ghost use Rattle.rows.specs.PlanRows.{plan_rows};
+ghost use Rattle.town.specs.Views.{setup};
 ghost use Rattle.traffic.specs.Persons.{stranded};
-ghost use Rattle.traffic.specs.Day.{second, second_events, at_home, world_start, world_from, events_from, keyed, end_events};
+ghost use Rattle.traffic.specs.Day.{second, second_events, world_start, world_from, events_from, keyed, end_events};
 ghost use Rattle.traffic.specs.Day as traffic_day;
 ghost use Rattle.events.specs.Keys.{phase_code};
 ghost use Rattle.events.specs.declared.event.Phase.TheVariants as phase;
-ghost use Rattle.plain_day.specs.Plans.{HaveFittingPlans};
 
 use crate::ends::stranded;
-use crate::keys::push_keyed;
 use crate::phases::do_phase;
-use crate::world::World;
 use events::{Event, Phase};
-use fixed_flow::VEHICLE_COST;
-use rows::Plan;
+use person_moves::{World, push_keyed, start};
 use std::alloc::{AllocError, Global};
 use town::DayInput;
-use traffic::{Person, Place};
 
 /// A second of a day in a fit world: persons land, persons leave, departures start, nodes hand over, links move.
 /// Appends its events. After an error the world is of no use.
@@ -81,54 +74,6 @@ pub fn plain_second(
 {
     fit_second(alloc, day, t, world, out)?;
     Ok(())
-}
-
-/// A person at the first activity of a plan.
-fn at_home(plan: &Plan) -> Person
-    ensures { result ≡ at_home (plan_rows plan.now) }
-{
-    Person {
-        element: 0,
-        place: Place::At {
-            end: plan.acts.rows[0].end,
-        },
-    }
-}
-
-/// All persons at home.
-fn all_at_home(alloc: Global, day: &DayInput) -> Result<Vec<Person>, AllocError>
-    ensures { IfOk result (λ persons. persons.items ≡ map at_home (chosen_in day.now)) }
-{
-    let mut persons = Vec::new(alloc);
-    for plan in day.chosen {
-        persons.push(at_home(plan))?;
-    }
-    Ok(persons)
-}
-
-/// So many credits of one vehicle each.
-fn first_credits(alloc: Global, count: usize) -> Result<Vec<u32>, AllocError>
-    ensures { IfOk result (λ credits. credits.items ≡ replicate count VEHICLE_COST) }
-{
-    let mut credits = Vec::new(alloc);
-    credits.resize(count, VEHICLE_COST)?;
-    Ok(credits)
-}
-
-/// The world at the start of a day: each person at the first activity, no vehicle and no hole, and
-/// credit for one vehicle on each link.
-#[tactic(auto, unfolding(traffic::specs::Day::world_start, town::specs::Setups::setup_of))]
-pub fn start(alloc: Global, day: &DayInput) -> Result<World, AllocError>
-    ensures { IfOk result (λ world. world ≡ world_start (setup day.now)) }
-{
-    let persons = all_at_home(alloc, day)?;
-    let credits = first_credits(alloc, day.town.network.links.len())?;
-    Ok(World {
-        rows: Vec::new(alloc),
-        persons,
-        credits,
-        holes: Vec::new(alloc),
-    })
 }
 
 /// The world at the start, which is fit.

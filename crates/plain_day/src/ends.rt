@@ -5,14 +5,12 @@ ghost use Rattle.std.specs.Option.{option_to_list};
 ghost use Rattle.town.specs.Views.{setup};
 ghost use Rattle.traffic.specs.Persons.{same_vehicle, link_of_vehicle, stuck_at, stranded};
 
-use crate::legs::{kind_in, mode_of_kind};
-use crate::waiters::{link_of_stop, person_at};
-use crate::world::World;
 use events::{Mode, More, VehicleId, Word};
-use plain_turns::of_person;
+use person_moves::{World, link_of_stop, mode_in, person_of};
 use rows::{Act, act_in};
 use town::{DayInput, chosen_plan};
 use traffic::{Occurrence, Place, Row};
+use vehicles::of_person;
 
 fn same_vehicle(a: VehicleId, b: VehicleId) -> bool
     ensures { result ≡ same_vehicle a b }
@@ -79,8 +77,8 @@ pub fn stranded(day: &DayInput, i: u32, world: &World) -> Option<Occurrence>
     ensures { option_to_list result ≡ stranded (setup day.now) world.now i }
 {
     let plan = chosen_plan(day, i);
-    let person = person_at(world, i);
+    let person = person_of(world, i);
     let here = act_in(plan, person.element);
-    let mode = mode_of_kind(kind_in(plan, person.element));
+    let mode = mode_in(plan, person.element);
     stuck_at(day, world, i, here, mode, person.place)
 }

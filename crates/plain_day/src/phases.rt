@@ -4,24 +4,19 @@ ghost use Rattle.std.specs.Prelude.{◌≡◌, ◌<◌, ◌++◌, length, OnOk, 
 ghost use Rattle.std.specs.List.{flat_map};
 ghost use Rattle.limits.specs.declared.TheConstants.{LAST_SECOND};
 ghost use Rattle.law_in_range.specs.Rows.{IsFitWorld};
-ghost use Rattle.law_in_range.specs.Setups.{counts_in};
+ghost use Rattle.law_in_range.specs.Setups.{counts_in, HaveFittingPlans};
 ghost use Rattle.town.specs.Views.{setup};
-ghost use Rattle.traffic.specs.Rows.{person_of};
 ghost use Rattle.traffic.specs.Moves.{told, run};
 ghost use Rattle.traffic.specs.Day.{turns_of, count_of, turns_in, after, events_of, events_in};
-ghost use Rattle.plain_day.specs.Plans.{HaveFittingPlans};
 
-use crate::departures::departure_moves;
-use crate::keys::push_keyed;
-use crate::moving::do_moves;
-use crate::persons::{landing_moves, leaving_moves};
 use crate::turns::{link_turn, node_turn};
-use crate::waiters::person_at;
-use crate::world::World;
 use events::{Event, Phase};
+use person_moves::{
+    World, departure_moves, do_moves, landing_moves, leaving_moves, person_of, push_keyed,
+};
 use std::alloc::{AllocError, Global};
 use town::DayInput;
-use traffic::{Move, Occurrence, Person};
+use traffic::{Move, Occurrence};
 
 /// How many have a turn in a phase.
 #[tactic(auto, unfolding(town::specs::Setups::setup_of))]
@@ -37,14 +32,6 @@ fn count_of(day: &DayInput, phase: Phase) -> u32
         Phase::D => day.town.network.links.len() as u32,
         Phase::E => 0,
     }
-}
-
-/// The row of a person.
-fn person_of(world: &World, number: u32) -> Person
-    requires { number < length world.now.persons }
-    ensures { result ≡ person_of number world.now }
-{
-    person_at(world, number)
 }
 
 /// The moves of one person, departure, node or link in its turn.

@@ -8,15 +8,14 @@ ghost use Rattle.law_in_range.specs.Setups.{counts_in};
 ghost use Rattle.town.specs.Views.{setup};
 ghost use Rattle.traffic.specs.declared.moves.Move.TheVariants.{Credit};
 ghost use Rattle.traffic.specs.Day.{link_turns, node_turns};
-ghost use Rattle.plain_day.specs.Fit.{stays_on};
-ghost use Rattle.plain_day.specs.Views.{is_before};
+ghost use Rattle.plain_day.specs.Views.{stays_on, is_before};
 
 use crate::links::{gain_of, rules};
 use crate::views::{credit_of, in_links, is_in, is_used, link_vehicles, out_links};
 use crate::waiters::waiters;
-use crate::world::World;
 use draws::Draws;
 use fixed_flow::raised_credit;
+use person_moves::World;
 use plain_turns::{link_moves, node_moves};
 use std::alloc::{AllocError, Global};
 use town::DayInput;

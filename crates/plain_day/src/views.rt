@@ -15,12 +15,10 @@ ghost use Rattle.traffic.specs.Nodes.{in_link, out_link, taken_at, in_force};
 ghost use Rattle.plain_turns.specs.LinkState.{link_state_of};
 ghost use Rattle.plain_turns.specs.OutLinks.{AreNear, IsInLink, AreInLinks};
 ghost use Rattle.traffic.specs.Lists.{below};
-ghost use Rattle.plain_day.specs.Fit.{stays_on};
-ghost use Rattle.plain_day.specs.Views.{out_link_row, is_in, is_out, is_in_force};
+ghost use Rattle.plain_day.specs.Views.{stays_on, out_link_row, is_in, is_out, is_in_force};
 
 use crate::links::{hole_of, link_row, seconds_of, storage_of};
-use crate::vehicle_rows::is_on;
-use crate::world::World;
+use person_moves::{World, is_on};
 use plain_turns::{LinkVehicles, OutLinkRow};
 use rows::green_in;
 use std::alloc::{AllocError, Global};

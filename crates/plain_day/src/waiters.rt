@@ -1,53 +1,17 @@
 //! Who waits at the stops of a link.
 
-ghost use Rattle.std.specs.Prelude.{◌≡◌, ◌+◌, ◌<◌, length, get_or, map, ◌++◌, OnOk, IfOk};
+ghost use Rattle.std.specs.Prelude.{◌≡◌, ◌+◌, ◌<◌, length, ◌++◌, OnOk, IfOk};
 ghost use Rattle.std.specs.Option.{option_to_list};
 ghost use Rattle.town.specs.Views.{setup};
 ghost use Rattle.rows.specs.PlanRows.{plan_rows, act_in, leg_in};
-ghost use Rattle.rows.specs.Stops.{stop_link};
-ghost use Rattle.traffic.specs.Setup.{link_of_stop};
 ghost use Rattle.traffic.specs.Rows.{person_of};
-ghost use Rattle.traffic.specs.Persons.{waits, waits_on, waiter, waiters};
-ghost use Rattle.plain_day.specs.Legs.{kind_of, waits_for};
+ghost use Rattle.traffic.specs.Persons.{waits_on, waiter, waiters};
 
-use crate::legs::{LegKind, kind_in};
-use crate::world::World;
-use rows::{Act, Plan, StopList, act_after, stop_link};
+use person_moves::{World, link_of_stop, person_of, waiter_in};
+use rows::Plan;
 use std::alloc::{AllocError, Global};
 use town::{DayInput, chosen_plan};
 use traffic::{Person, Place, Waiter};
-
-fn link_in(stops: &StopList, stop: u32) -> u32
-    ensures { result ≡ stop_link stops.now stop }
-{
-    stop_link(&stops.rows, stop)
-}
-
-/// The link of a stop of the town, which is 0 where there is no such stop.
-#[tactic(auto, unfolding(town::specs::Setups::setup_of))]
-pub(crate) fn link_of_stop(day: &DayInput, stop: u32) -> u32
-    ensures { result ≡ link_of_stop (setup day.now) stop }
-{
-    link_in(&day.town.stops.rows, stop)
-}
-
-/// A person who waits at a stop for a transit leg.
-fn waits(person: u32, leg: LegKind, next: Act, stop: u32, since: u32) -> Option<Waiter>
-    ensures { option_to_list result ≡ waits_for person leg next stop since }
-{
-    match leg {
-        LegKind::Car => None,
-        LegKind::Teleport { .. } => None,
-        LegKind::Transit { line, egress, .. } => Some(Waiter {
-            person,
-            stop,
-            line,
-            egress,
-            kind: next.kind,
-            since,
-        }),
-    }
-}
 
 /// The person, where he waits at a stop of the link.
 fn waiter(day: &DayInput, link: u32, i: u32, plan: &Plan, person: Person) -> Option<Waiter>
@@ -61,21 +25,7 @@ fn waiter(day: &DayInput, link: u32, i: u32, plan: &Plan, person: Person) -> Opt
     if link_of_stop(day, stop) != link {
         return None;
     }
-    waits(
-        i,
-        kind_in(plan, person.element),
-        act_after(plan, person.element),
-        stop,
-        since,
-    )
-}
-
-/// The row of a person.
-pub(crate) fn person_at(world: &World, i: u32) -> Person
-    requires { i < length world.now.persons }
-    ensures { result ≡ get_or world.now.persons i result }
-{
-    world.persons[i as usize]
+    waiter_in(plan, i, person.element, stop, since)
 }
 
 /// The same by the number of the person.
@@ -85,7 +35,7 @@ fn waiter_at(day: &DayInput, link: u32, i: u32, world: &World) -> Option<Waiter>
     ensures { option_to_list result ≡ waiter (setup day.now) link i (person_of i world.now) }
 {
     let plan = chosen_plan(day, i);
-    let person = person_at(world, i);
+    let person = person_of(world, i);
     waiter(day, link, i, plan, person)
 }
 

@@ -6,9 +6,8 @@ use Rattle.traffic.specs.declared.world.Row.{Row}
 use Rattle.town.specs.declared.day_input.DayInput.{DayInput}
 use Rattle.town.specs.Views.{setup}
 use Rattle.law_in_range.specs.Rows.{Counts, IsFitLink, IsFitRider, IsFitCall, IsFitVehicle, IsFitRow, IsFitWorld}
-use Rattle.law_in_range.specs.Setups.{counts_in}
-use Rattle.plain_day.specs.Plans.{HaveFittingPlans}
-use Rattle.plain_day.proofs.Dawn.{start_is_fit}
+use Rattle.law_in_range.specs.Setups.{counts_in, HaveFittingPlans}
+use Rattle.law_in_range.proofs.Days.{start_is_fit}
 use Rattle.worked_days.specs.Jams.{going, IsRoomy}
 
 links_fit : (z : Counts) → IsRoomy z → All (IsFitLink z) (0 ∷ 1 ∷ 2 ∷ 3 ∷ [])

@@ -2,14 +2,14 @@
 
 ghost use Rattle.std.specs.Prelude.{◌≡◌, ◌<◌, true, All, IfOk};
 ghost use Rattle.law_in_range.specs.Rows.{Counts, IsFitRow, IsFitWorld};
-ghost use Rattle.law_in_range.specs.Setups.{counts_in};
-ghost use Rattle.plain_day.specs.Plans.{HaveFittingPlans};
+ghost use Rattle.law_in_range.specs.Setups.{counts_in, HaveFittingPlans};
 ghost use Rattle.traffic.specs.Worlds.{IsSoundStage};
 ghost use Rattle.worked_days.specs.Jams.{going, IsRoomy};
 
 use crate::towns::{chosen_plans, have_fitting_plans, let_go, scenario_of};
 use events::{Calls, Event, Route, VehicleId, Word};
-use plain_day::{World, fit_second, start};
+use person_moves::{World, start};
+use plain_day::fit_second;
 use rows::Plan;
 use scenario::Scenario;
 use std::alloc::{AllocError, Global};

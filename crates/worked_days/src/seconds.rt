@@ -1,11 +1,12 @@
 //! A second in a world of which nothing is known but the laws of a world.
 
 ghost use Rattle.std.specs.Prelude.{◌<◌};
-ghost use Rattle.plain_day.specs.Plans.{HaveFittingPlans};
+ghost use Rattle.law_in_range.specs.Setups.{HaveFittingPlans};
 
 use crate::towns::{chosen_plans, have_fitting_plans, scenario_of};
 use events::{Event, Word};
-use plain_day::{plain_second, start};
+use person_moves::start;
+use plain_day::plain_second;
 use rows::Plan;
 use scenario::Scenario;
 use std::alloc::{AllocError, Global};

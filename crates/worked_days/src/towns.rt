@@ -5,7 +5,7 @@ ghost use Rattle.std.specs.List.{list_all};
 ghost use Rattle.rows.specs.PlanRows.{plan_rows};
 ghost use Rattle.town.specs.Fits.{fits};
 ghost use Rattle.town.specs.Views.{rows_of};
-ghost use Rattle.plain_day.specs.Plans.{HaveFittingPlans};
+ghost use Rattle.law_in_range.specs.Setups.{HaveFittingPlans};
 
 use edge_files::{Bytes, InFile};
 use plan_memory::Memory;

@@ -1,8 +1,8 @@
 use Rattle.traffic.proofs.Common.{ap, sym, subst, person_plan}
 use Rattle.traffic.specs.declared.world.Person.{Person}
 use Rattle.town.specs.Views.{setup}
-use Rattle.plain_day.specs.Fit.{CanLeave}
-use Rattle.plain_day.proofs.Fitness.{can_leave, lands_there, leaves_there, departs_there, person_there}
+use Rattle.person_moves.specs.Legs.{CanLeave}
+use Rattle.law_in_range.proofs.Days.{can_leave, lands_there, leaves_there, departs_there, person_there}
 use Rattle.part_persons.specs.Phases.{phase_of}
 use Rattle.part_persons.proofs.phases.early_moves.Goals as goal
 

@@ -1,4 +1,4 @@
-use Rattle.plain_day.proofs.Dawn.{start_is_fit}
+use Rattle.law_in_range.proofs.Days.{start_is_fit}
 use Rattle.plain_day.proofs.days.fit_start.Goals as goal
 
 pub returns-clause-fit : goal.returns-clause-fit

@@ -1,6 +1,6 @@
 use Rattle.traffic.proofs.Common.{◌∙◌, ap, ◌++◌, flat_map, phase_code, keyed, run, told}
 use Rattle.town.specs.Views.{setup}
-use Rattle.plain_day.proofs.Fitness.{turn_keeps_fit}
+use Rattle.law_in_range.proofs.Days.{turn_keeps_fit}
 use Rattle.plain_day.proofs.phases.next_turn.Goals as goal
 
 pub returns-clause-fit : goal.returns-clause-fit

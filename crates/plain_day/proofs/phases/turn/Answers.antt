@@ -1,8 +1,8 @@
 use Rattle.traffic.proofs.Common.{sym, subst, person_plan}
 use Rattle.traffic.specs.declared.world.Person.{Person}
 use Rattle.town.specs.Views.{setup}
-use Rattle.plain_day.specs.Fit.{CanLeave}
-use Rattle.plain_day.proofs.Fitness.{can_leave, lands_there, leaves_there, departs_there, link_there, person_there}
+use Rattle.person_moves.specs.Legs.{CanLeave}
+use Rattle.law_in_range.proofs.Days.{can_leave, lands_there, leaves_there, departs_there, link_there, person_there}
 use Rattle.plain_day.proofs.phases.turn.Goals as goal
 
 pub landing_moves-requires : goal.landing_moves-requires

@@ -5,7 +5,7 @@ use Rattle.law_in_range.proofs.Seconds.{start_links}
 use Rattle.law_one_place.proofs.Turns.{start_kept}
 use Rattle.law_sound_setups.proofs.Laws.{start_sound}
 use Rattle.law_matches_plans.proofs.Towns.{town_sound}
-use Rattle.plain_day.proofs.Fitness.{plans_fit}
+use Rattle.law_in_range.proofs.Days.{chosen_fit}
 use Rattle.worked_days.proofs.seconds.second_from_start.Goals as goal
 
 pub plain_second-requires-clause-links : goal.plain_second-requires-clause-links
@@ -22,4 +22,4 @@ pub plain_second-requires-clause-sound : goal.plain_second-requires-clause-sound
 plain_second-requires-clause-sound c =
     let day = c.args.day.now in
     let S = setup day in
-    subst (λ (W : World). Sound S W) (sym c.in_ok-world.ensures) (start_sound S (town_sound day (plans_fit day c.requires)))
+    subst (λ (W : World). Sound S W) (sym c.in_ok-world.ensures) (start_sound S (town_sound day (chosen_fit day c.requires)))

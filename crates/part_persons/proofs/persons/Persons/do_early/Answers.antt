@@ -1,6 +1,6 @@
 use Rattle.traffic.proofs.Common.{◌∙◌, ap, ◌++◌, flat_map, phase_code, keyed, run, told}
 use Rattle.town.specs.Views.{setup}
-use Rattle.plain_day.proofs.Fitness.{turn_keeps_fit, one_each}
+use Rattle.law_in_range.proofs.Days.{turn_keeps_fit, one_each}
 use Rattle.part_persons.specs.Phases.{phase_of}
 use Rattle.part_persons.proofs.persons.Persons.do_early.Goals as goal
 

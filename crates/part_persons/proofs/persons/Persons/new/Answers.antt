@@ -1,5 +1,4 @@
-use Rattle.plain_day.proofs.Dawn.{start_is_fit}
-use Rattle.plain_day.proofs.Fitness.{one_each}
+use Rattle.law_in_range.proofs.Days.{start_is_fit, one_each}
 use Rattle.part_persons.proofs.persons.Persons.new.Goals as goal
 
 pub first_wakes-requires-clause-plans : goal.first_wakes-requires-clause-plans

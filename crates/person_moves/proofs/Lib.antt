@@ -1,0 +1,6 @@
+pub mod Removals
+pub mod Running
+pub mod Lists
+pub mod PersonPlans
+pub mod Leaving
+pub mod Departing

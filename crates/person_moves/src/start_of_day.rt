@@ -1,0 +1,66 @@
+//! The world at the start of a day.
+
+ghost use Rattle.std.specs.Prelude.{◌≡◌, map, replicate, IfOk};
+ghost use Rattle.fixed_flow.specs.declared.TheConstants.{VEHICLE_COST};
+ghost use Rattle.town.specs.Views.{setup, chosen_in};
+ghost use Rattle.rows.specs.PlanRows.{plan_rows};
+ghost use Rattle.traffic.specs.Day.{at_home, world_start};
+
+use crate::world::World;
+use fixed_flow::VEHICLE_COST;
+use rows::Plan;
+use std::alloc::{AllocError, Global};
+use town::DayInput;
+use traffic::{Person, Place};
+
+/// A person at the first activity of a plan.
+fn at_home(plan: &Plan) -> Person
+    ensures { result ≡ at_home (plan_rows plan.now) }
+{
+    Person {
+        element: 0,
+        place: Place::At {
+            end: plan.acts.rows[0].end,
+        },
+    }
+}
+
+/// All persons at home.
+fn all_at_home(alloc: Global, day: &DayInput) -> Result<Vec<Person>, AllocError>
+    ensures { IfOk result (λ persons. persons.items ≡ map at_home (chosen_in day.now)) }
+{
+    let mut persons = Vec::new(alloc);
+    for plan in day.chosen {
+        persons.push(at_home(plan))?;
+    }
+    Ok(persons)
+}
+
+/// So many credits of one vehicle each.
+fn first_credits(alloc: Global, count: usize) -> Result<Vec<u32>, AllocError>
+    ensures { IfOk result (λ credits. credits.items ≡ replicate count VEHICLE_COST) }
+{
+    let mut credits = Vec::new(alloc);
+    credits.resize(count, VEHICLE_COST)?;
+    Ok(credits)
+}
+
+/// The world at the start of a day: each person at the first activity, no vehicle and no hole, and
+/// credit for one vehicle on each link.
+///
+/// # Errors
+///
+/// `AllocError`: there is no memory for the persons or the credits.
+#[tactic(auto, unfolding(traffic::specs::Day::world_start, town::specs::Setups::setup_of))]
+pub fn start(alloc: Global, day: &DayInput) -> Result<World, AllocError>
+    ensures { IfOk result (λ world. world ≡ world_start (setup day.now)) }
+{
+    let persons = all_at_home(alloc, day)?;
+    let credits = first_credits(alloc, day.town.network.links.len())?;
+    Ok(World {
+        rows: Vec::new(alloc),
+        persons,
+        credits,
+        holes: Vec::new(alloc),
+    })
+}

@@ -7,7 +7,6 @@ use events::{Name, Names};
 use network::{read_links, read_nodes};
 use plans::{PlanFile, read_plans};
 use schedule::{Stops, read_departures, read_routes, read_stops};
-use settings::read_settings;
 use signals::read_signals;
 use std::alloc::{AllocError, Global};
 
@@ -94,11 +93,10 @@ fn routes_stop(alloc: Global, bytes: &[u8]) -> Option<RowStop> {
     }
 }
 
-/// What stops the reading of a file with these bytes, where something does. Links lie between the nodes A and B, departures are of
-/// the routes r1 and r2.
+/// What stops the reading of a file of rows with these bytes, where something does. Links lie between the nodes A and B, departures
+/// are of the routes r1 and r2. Of any other file nothing is read, as where memory is wanting.
 pub(crate) fn stop_of(alloc: Global, file: InFile, bytes: &[u8]) -> Option<RowStop> {
     match file {
-        InFile::Settings => read_settings(alloc, bytes).err(),
         InFile::Nodes => read_nodes(alloc, bytes).err(),
         InFile::Links => read_links(alloc, bytes, &names_of(alloc, &["A", "B"])).err(),
         InFile::Plans => plans_stop(alloc, bytes),
@@ -106,6 +104,7 @@ pub(crate) fn stop_of(alloc: Global, file: InFile, bytes: &[u8]) -> Option<RowSt
         InFile::Routes => routes_stop(alloc, bytes),
         InFile::Departures => read_departures(alloc, bytes, &names_of(alloc, &["r1", "r2"])).err(),
         InFile::Signals => read_signals(alloc, bytes, &links_of(alloc), &ENDS).err(),
+        _ => Some(RowStop::NoMemory),
     }
 }
 

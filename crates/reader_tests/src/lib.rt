@@ -18,8 +18,6 @@ mod schedule_files;
 #[cfg(test)]
 mod schedule_tables;
 #[cfg(test)]
-mod settings_files;
-#[cfg(test)]
 mod signals_files;
 #[cfg(test)]
 mod signals_tables;

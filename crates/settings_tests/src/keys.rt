@@ -1,7 +1,6 @@
-//! settings.json, read.
+//! The keys of settings.json.
 
-use crate::files::{has_fault, made};
-use edge_files::{InFile, Reason};
+use edge_files::{Reason, RowStop};
 use settings::{Settings, read_settings};
 use std::alloc::{AllocError, Global};
 
@@ -71,9 +70,12 @@ fn object(alloc: Global, key: &str, value: &str) -> Result<Vec<u8>, AllocError> 
     Vec::from_slice(alloc, text.as_bytes())
 }
 
-/// The text of an object of one key.
+/// The text of an object of one key, or no bytes where memory is wanting.
 fn text_of(alloc: Global, key: &str, value: &str) -> Vec<u8> {
-    made(alloc, object(alloc, key, value))
+    match object(alloc, key, value) {
+        Ok(text) => text,
+        Err(_) => Vec::new(alloc),
+    }
 }
 
 /// The number of so many digits.
@@ -104,8 +106,10 @@ fn is_taken(alloc: Global, place: usize, key: &str, value: u64) -> bool {
 
 /// Whether an object of this key and value is refused.
 fn is_refused(alloc: Global, key: &str, value: &str) -> bool {
-    let text = text_of(alloc, key, value);
-    has_fault(alloc, InFile::Settings, &text, 0, Reason::ValueBad)
+    match read_settings(alloc, &text_of(alloc, key, value)) {
+        Err(RowStop::Fault(fault)) => fault.row == 0 && fault.reason == Reason::ValueBad,
+        _ => false,
+    }
 }
 
 /// The first key that has another range than told.

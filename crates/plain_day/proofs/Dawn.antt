@@ -1,8 +1,7 @@
 -- How a day begins and ends.
-use Rattle.traffic.proofs.Common.{◌≡◌, ℕ, List, ◌∙◌, length, ap, refl, sym, [], arith, ◌<◌, ◌++◌, subst, ◌≤◌, length-map, All-from_recursion, flat_map, map}
-use Rattle.traffic.proofs.Common.{phase_code, Event, plan_rows, Plan, world_start, keyed, world_from, events_from, day, end_events, below, stranded, World}
+use Rattle.traffic.proofs.Common.{◌≡◌, ℕ, List, ◌∙◌, length, ap, refl, sym, [], ◌++◌, subst, length-map, All-from_recursion, flat_map}
+use Rattle.traffic.proofs.Common.{phase_code, Event, plan_rows, world_start, keyed, world_from, events_from, day, end_events, below, stranded, World}
 use Rattle.traffic.proofs.Common.{Setup}
-use Rattle.std.specs.List.{All}
 use Rattle.events.specs.declared.event.Phase.TheVariants as phase
 use Rattle.events.specs.Lines.{AreInBook}
 use Rattle.town.specs.declared.day_input.DayInput.{DayInput}

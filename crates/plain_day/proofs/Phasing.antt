@@ -1,7 +1,7 @@
 -- A phase turn by turn, and a day second by second.
-use Rattle.traffic.proofs.Common.{◌≡◌, ℕ, List, ◌∙◌, ap, refl, sym, [], ◌∷◌, arith, ◌<◌, ◌++◌, ◌+◌, ◌≤◌, suc, ◌-◌, append_assoc, add-one, flat_map, Event}
+use Rattle.traffic.proofs.Common.{◌≡◌, ℕ, List, ◌∙◌, ap, refl, sym, [], ◌∷◌, arith, ◌<◌, ◌++◌, ◌+◌, ◌≤◌, suc, ◌-◌, append_assoc, add-one, Event}
 use Rattle.traffic.proofs.Common.{Phase, turns_of, turns_in, moves_of, through, world_from, after, events_from, count_of, events_in, told_in, Turn, second}
-use Rattle.traffic.proofs.Common.{turns, events_of, below, numbers, run, World, Setup}
+use Rattle.traffic.proofs.Common.{turns, events_of, numbers, run, World, Setup}
 use Rattle.std.proofs.lemmas.List.{append-nil}
 use Rattle.events.specs.declared.event.Phase.TheVariants as phase
 use Rattle.traffic.specs.Day.{second_events}

@@ -1,5 +1,5 @@
 -- What is seen of a world.
-use Rattle.traffic.proofs.Common.{◌≡◌, ℕ, List, ◌∙◌, length, ap, refl, sym, [], ◌∷◌, ◌+◌, Bool, inl, inr, suc, eqb, cases_Bool, length-map, map, filter}
+use Rattle.traffic.proofs.Common.{◌≡◌, ℕ, List, ◌∙◌, length, ap, refl, sym, [], ◌∷◌, ◌+◌, Bool, inl, inr, suc, eqb, cases_Bool, map, filter}
 use Rattle.traffic.proofs.Common.{nat_lt, ◌==◌, LinkRow, below, in_link, in_force, taken_at, World, on, holes_at, Setup, link_row, hole_of, into}
 use Rattle.traffic.specs.declared.node_views.InLink.{InLink}
 use Rattle.traffic.specs.declared.stage.Stage.TheVariants.{Queue, Buffer}

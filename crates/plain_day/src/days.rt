@@ -51,7 +51,7 @@ pub fn fit_second(
     Ok(())
 }
 
-/// The same in a world where each person is in exactly one place, and every row fits the plans and the timetable;
+/// A second of a day in a world where each person is in exactly one place, and every row fits the plans and the timetable;
 /// it has a credit for each link, and no hole of another. Such a world is fit.
 ///
 /// # Errors

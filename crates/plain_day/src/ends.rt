@@ -1,6 +1,6 @@
 //! Who is under way when the day ends.
 
-ghost use Rattle.std.specs.Prelude.{◌≡◌, ◌<◌, ℕ, length, get_or};
+ghost use Rattle.std.specs.Prelude.{◌≡◌, ◌<◌, length};
 ghost use Rattle.std.specs.Option.{option_to_list};
 ghost use Rattle.town.specs.Views.{setup};
 ghost use Rattle.traffic.specs.Persons.{same_vehicle, link_of_vehicle, stuck_at, stranded};
@@ -12,6 +12,7 @@ use town::{DayInput, chosen_plan};
 use traffic::{Occurrence, Place, Row};
 use vehicles::of_person;
 
+/// Whether two numbers are those of one vehicle.
 fn same_vehicle(a: VehicleId, b: VehicleId) -> bool
     ensures { result ≡ same_vehicle a b }
 {
@@ -42,7 +43,7 @@ fn link_of_vehicle(vehicle: VehicleId, rows: &[Row]) -> u32
     0
 }
 
-/// The same in a world.
+/// The link of a vehicle in a world, which is 0 where it has no row.
 fn link_in(vehicle: VehicleId, world: &World) -> u32
     ensures { result ≡ link_of_vehicle vehicle world.now.rows }
 {

@@ -68,7 +68,7 @@ pub(crate) fn storage_of(day: &DayInput, link: u32) -> u32
     )
 }
 
-/// For how many seconds a place that was left stays taken.
+/// For how many seconds a place that was left on a link of this length stays taken.
 #[tactic(auto, unfolding(traffic::specs::Setup::hole_seconds))]
 fn hole_seconds(length: u32, speed: Option<u32>) -> u32
     requires { is_hole_speed speed ≡ true }
@@ -80,7 +80,7 @@ fn hole_seconds(length: u32, speed: Option<u32>) -> u32
     }
 }
 
-/// The same on a link.
+/// For how many seconds a place that was left on the link stays taken.
 pub(crate) fn hole_of(day: &DayInput, link: u32) -> u32
     requires { link < length day.now.town.now.network.links }
     ensures { result ≡ hole_of (setup day.now) link }

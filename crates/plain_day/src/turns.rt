@@ -88,7 +88,7 @@ fn is_before(day: &DayInput, node: u32, row: &Row) -> bool
         && is_in(day, node, row.link)
 }
 
-/// Whether some row does.
+/// Whether some row stands in the buffer of a link into the node.
 fn is_awaited(day: &DayInput, node: u32, rows: &[Row]) -> bool
     ensures { result ≡ list_any (is_before (setup day.now) (length day.now.town.now.network.links) node) rows.now }
 {

@@ -1,9 +1,9 @@
 //! What links and nodes see of a world.
 
-ghost use Rattle.std.specs.Prelude.{◌≡◌, ◌<◌, ◌≤◌, ℕ, length, map, filter, get_or, ◌==◌, Bool, true, IfOk};
+ghost use Rattle.std.specs.Prelude.{◌≡◌, ◌<◌, ◌≤◌, length, map, filter, IfOk};
 ghost use Rattle.std.specs.List.{list_any};
 ghost use Rattle.limits.specs.declared.TheConstants.{LAST_SECOND, MAX_LENGTH};
-ghost use Rattle.traffic.specs.Rows.{rank, on, at, holes_at, credit_of};
+ghost use Rattle.traffic.specs.Rows.{on, credit_of};
 ghost use Rattle.traffic.specs.declared.stage.Stage.TheVariants.{Queue, Buffer, Wait, Bay};
 ghost use Rattle.traffic.specs.declared.world.Hole.{Hole};
 ghost use Rattle.traffic.specs.Setup.{Setup, link_row, hole_of, into};
@@ -100,7 +100,7 @@ fn is_in_force(link: u32, second: u32, h: u32, hole: &Hole) -> bool
     hole.link == link && u64::from(second) < u64::from(hole.second) + u64::from(h)
 }
 
-/// How many do.
+/// How many holes of a link count as taken places in this second.
 fn count_in_force(link: u32, second: u32, h: u32, holes: &[Hole]) -> usize
     ensures { result ≡ length (filter (is_in_force link second h) holes.now) }
 {
@@ -149,6 +149,7 @@ fn out_link_row(
     })
 }
 
+/// Whether a link leads out of the node.
 fn is_out(day: &DayInput, node: u32, link: u32) -> bool
     requires { link < length day.now.town.now.network.links }
     ensures { result ≡ is_out (setup day.now) node link }
@@ -156,6 +157,7 @@ fn is_out(day: &DayInput, node: u32, link: u32) -> bool
     link_row(day, link).from == node
 }
 
+/// Whether a link leads into the node.
 pub(crate) fn is_in(day: &DayInput, node: u32, link: u32) -> bool
     requires { link < length day.now.town.now.network.links }
     ensures { result ≡ is_in (setup day.now) node link }

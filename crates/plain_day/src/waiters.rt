@@ -28,7 +28,7 @@ fn waiter(day: &DayInput, link: u32, i: u32, plan: &Plan, person: Person) -> Opt
     waiter_in(plan, i, person.element, stop, since)
 }
 
-/// The same by the number of the person.
+/// The person of this number, where he waits at a stop of the link.
 fn waiter_at(day: &DayInput, link: u32, i: u32, world: &World) -> Option<Waiter>
     requires there { i < length day.now.chosen.now }
     requires persons { length world.now.persons ≡ length day.now.chosen.now }
@@ -63,7 +63,7 @@ fn push_waiter(
 }
 
 /// How many persons there are.
-fn count_of(world: &World) -> usize
+fn count_persons(world: &World) -> usize
     ensures { result ≡ length world.now.persons }
 {
     world.persons.len()
@@ -80,7 +80,7 @@ pub(crate) fn waiters(
     ensures { IfOk result (λ all. all.items ≡ waiters (setup day.now) link world.now) }
 {
     let mut all = Vec::new(alloc);
-    for i in 0..count_of(world) {
+    for i in 0..count_persons(world) {
         push_waiter(day, link, i, world, &mut all)?;
     }
     Ok(all)

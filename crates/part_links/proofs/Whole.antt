@@ -5,7 +5,7 @@ use Rattle.traffic.proofs.Common.{map, filter, flat_map, flat_map-append, Option
 use Rattle.traffic.proofs.Common.{run, after, turns, turns_in, turns_of, turn_of, moves_of, events_in, below, numbers, nat_lt}
 use Rattle.std.specs.Prelude.{max}
 use Rattle.std.specs.List.{AllByRecursion as Each}
-use Rattle.std.proofs.lemmas.Bool.{ltb-false}
+use Rattle.std.proofs.lemmas.Bool.{ltb-false, ltb-true}
 use Rattle.events.specs.declared.event.Phase.TheVariants as phase
 use Rattle.fixed_flow.specs.Flow.{raised_times}
 use Rattle.rows.specs.declared.settings.Dwelling.{Dwelling}
@@ -159,6 +159,17 @@ within_is end u (Some w) e = elim (cases_Bool (nat_lt w end)) [ inl q ↦ rw q a
 woken_later : (end t u : ℕ) (v : LinkView) → wake_after end t v ≡ Some u → t + 1 ≤ u
 woken_later end t u v e = later_due (t + 1) u (due_of v.numbers t v.lists) (within_is end u (no_sooner (t + 1) (due_of v.numbers t v.lists)) e)
 
+within_soon : (end u : ℕ) (d : Option ℕ) → within end d ≡ Some u → u < end
+within_soon end u None e = absurd (let z : None ≡ Some u = e in cc)
+within_soon end u (Some w) e =
+    elim (cases_Bool (nat_lt w end)) [
+      | inl q ↦ let same : w ≡ u = (let z : Some w ≡ Some u = rw q at e in cc) in subst (λ (k : ℕ). k < end) same (ltb-true w end q)
+      | inr q ↦ absurd (let z : None ≡ Some u = rw q at e in cc)
+    ]
+
+woken_soon : (end t u : ℕ) (v : LinkView) → wake_after end t v ≡ Some u → u < end
+woken_soon end t u v e = within_soon end u (no_sooner (t + 1) (due_of v.numbers t v.lists)) e
+
 rests_less : (D : Dwelling) (now less due : ℕ) (v : LinkView) → ((x : ℕ) → now ≤ x → x < less → x < due) → Rests D now due v → Rests D now less v
 rests_less D now less due v le h = λ x low high. h x low (le x low high)
 
@@ -310,6 +321,11 @@ all_asleep S end t V ns old links lines before now wakes events out said heard g
                 = ap (is_second t) (sym was) ∙ sym (among_is S end t l V ns old before now g (known l lt)) ∙ a in
                 let ne : u ≢ t = eqb-false u t off in
                 omega arith
+          ];
+      soon = λ l u lt e.
+          elim (cases_Bool (is_among l ns)) [
+            | inl a ↦ woken_soon end t u (lane links l) (sym (h.woken l (in_old l lt) a) ∙ e)
+            | inr a ↦ g.asleep.soon l u (in_old l lt) (sym (kept l lt a) ∙ e)
           ];
     }
 

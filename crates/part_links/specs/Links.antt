@@ -58,8 +58,9 @@ no_sooner t (Some u) = Some (max t u)
 abbrev pub wake_after : ℕ → ℕ → LinkView → Option ℕ
 wake_after end t v = within end (no_sooner (t + 1) (due_of v.numbers t v.lists))
 
--- From second t on each link rests up to the second in which it is woken, or up to the end; none is woken before t.
+-- From second t on each link rests up to the second in which it is woken, or up to the end; none is woken before t, nor from the end on.
 pub record AreAsleep (D : Dwelling) (end t : ℕ) (links : List LinkView) (wakes : List (Option ℕ)) : Type 0 where
   pub count : length wakes ≡ length links
   pub rests : (l : ℕ) → l < length links → Rests D t (sleeps_to end (wake_of wakes l)) (lane links l)
   pub later : (l u : ℕ) → l < length links → wake_of wakes l ≡ Some u → t ≤ u
+  pub soon : (l u : ℕ) → l < length links → wake_of wakes l ≡ Some u → u < end

@@ -175,6 +175,15 @@ one_asleep D end t r links wakes early there h =
                 omega arith
             | inr q ↦ h.later l u (omega arith) (sym (other_wake t r l wakes slot (eqb-false l r.link q)) ∙ e)
           ];
+      soon = λ l u lt e.
+          elim (cases_Bool (eqb l r.link)) [
+            | inl q ↦
+                let same : l ≡ r.link = eqb-true l r.link q in
+                let is : Some u ≡ Some t = sym e ∙ ap (wake_of (woken_for t r wakes)) same ∙ at in
+                let k : u ≡ t = cc in
+                omega arith
+            | inr q ↦ h.soon l u (omega arith) (sym (other_wake t r l wakes slot (eqb-false l r.link q)) ∙ e)
+          ];
     }
 
 -- ALL OF THEM

@@ -1,0 +1,10 @@
+pub mod Clear
+pub mod Into
+pub mod Leading
+pub mod Seen
+pub mod Ready
+pub mod Crossings
+pub mod Entered
+pub mod Rested
+pub mod Passed
+pub mod Skipped

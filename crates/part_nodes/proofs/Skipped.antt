@@ -1,0 +1,259 @@
+-- The turns of the nodes that are woken, one after the other, are those of all nodes.
+use Rattle.traffic.proofs.Common.{◌≡◌, ◌≢◌, ℕ, List, ◌∙◌, length, ap, refl, sym, [], ◌∷◌, ◌++◌, arith, ◌<◌, ◌≤◌, ◌+◌, true, false, Bool, inl, inr, suc, zero, eqb, subst, flat_map, map, filter, not, append_assoc, append-nil}
+use Rattle.traffic.proofs.Common.{Some, None, Option, cases_Bool, eqb-true, eqb-false, eq-eqb, ne_eqb, or_parts, true≢false}
+use Rattle.traffic.proofs.Common.{node_turns, node_view, in_link, World, at, Setup, into, link_row, run, told, numbers, below, sees, keyed, phase_code, ready, is_nil, at_after_all}
+use Rattle.traffic.proofs.Common.{turns, turns_of, turns_in, after, moves_of, events_in, events_of, Turn, Event}
+use Rattle.traffic.specs.declared.moves.Move.{Move}
+use Rattle.traffic.specs.declared.moves.Occurrence.{Occurrence}
+use Rattle.traffic.specs.declared.stage.Stage.TheVariants.{Buffer}
+use Rattle.std.specs.List.{AllByRecursion as Each}
+use Rattle.std.proofs.lemmas.Grind.{flat_map-append}
+use Rattle.events.specs.declared.event.Phase.TheVariants as phase
+use Rattle.traffic.proofs.Sublists.{run-append, at-run_untouched}
+use Rattle.traffic.specs.Frames.{Untouched}
+use Rattle.traffic.proofs.Phases.{plans_apart}
+use Rattle.traffic.proofs.Turns.{Distinct-numbers, turns_at_once, moves_of-map, at-phase_one}
+use Rattle.traffic.proofs.Nodes.{node_untouched}
+use Rattle.traffic.proofs.Idle.{node_idle}
+use Rattle.law_in_range.specs.Rows.{Counts}
+use Rattle.calendar.specs.Waking.{wake_of, is_second, is_woken, woken}
+use Rattle.calendar.proofs.Woken.{woken_is}
+use Rattle.node_seconds.specs.Networks.{is_among, AreIn, AreOnce}
+use Rattle.part_links.proofs.Numbers.{among_other, among_passed, once_passed}
+use Rattle.part_persons.proofs.Skipping.{Idle, distinct_filter, skip_world, skip_events}
+use Rattle.part_nodes.specs.declared.network.Network.{Network}
+use Rattle.part_nodes.proofs.Seen.{into_there, among_into}
+use Rattle.part_nodes.specs.Phase.{StandsFor, AreAwaited, IsTurn, AreTurned, IsPhase}
+
+-- ONE AFTER THE OTHER
+plan_is : (S : Setup) (t n : ℕ) (V : World) → turns_of S t phase.C n V ≡ node_turns S t n V
+unfolding turns_of
+plan_is S t n V = refl
+
+abbrev all : Setup → ℕ → List ℕ → World → List Turn
+all S t ns V = turns S t (turns_of S t phase.C) ns V
+
+abbrev world : Setup → ℕ → List ℕ → World → World
+world S t ns V = after S t (all S t ns V) V
+
+turns_last : (S : Setup) (t n : ℕ) (ns : List ℕ) (V : World)
+    → all S t (ns ++ n ∷ []) V ≡ all S t ns V ++ (record { number = n; moves = turns_of S t phase.C n (world S t ns V) }) ∷ []
+unfolding turns
+turns_last S t n [] V = refl
+turns_last S t n (m ∷ ns) V =
+    let ms = turns_of S t phase.C m V in
+    let U = run S t ms V in
+    let rest = turns_last S t n ns U in
+    let w : world S t ns U ≡ after S t ((record { number = m; moves = ms }) ∷ all S t ns U) V = sym (run-append S t ms (moves_of (all S t ns U)) V) in
+    ap (λ (us : List Turn). (record { number = m; moves = ms }) ∷ us) (rest ∙ ap (λ (X : World). all S t ns U ++ (record { number = n; moves = turns_of S t phase.C n X }) ∷ []) w)
+
+moves_last : (us : List Turn) (u : Turn) → moves_of (us ++ u ∷ []) ≡ moves_of us ++ u.moves
+moves_last [] u = append-nil u.moves
+moves_last (x ∷ us) u = ap (λ (ms : List Move). x.moves ++ ms) (moves_last us u) ∙ sym (append_assoc x.moves (moves_of us) u.moves)
+
+world_last : (S : Setup) (t n : ℕ) (ns : List ℕ) (V : World)
+    → world S t (ns ++ n ∷ []) V ≡ run S t (node_turns S t n (world S t ns V)) (world S t ns V)
+world_last S t n ns V =
+    let u : Turn = record { number = n; moves = turns_of S t phase.C n (world S t ns V) } in
+    ap (λ (us : List Turn). after S t us V) (turns_last S t n ns V)
+    ∙ ap (λ (ms : List Move). run S t ms V) (moves_last (all S t ns V) u)
+    ∙ run-append S t (moves_of (all S t ns V)) u.moves V
+    ∙ ap (λ (ms : List Move). run S t ms (world S t ns V)) (plan_is S t n (world S t ns V))
+
+told_last : (us : List Turn) (u : Turn) → flat_map told (moves_of (us ++ u ∷ [])) ≡ flat_map told (moves_of us) ++ flat_map told u.moves
+told_last us u = ap (flat_map told) (moves_last us u) ∙ flat_map-append told (moves_of us) u.moves
+
+events_last : (t : ℕ) (us : List Turn) (u : Turn) → events_in t phase.C (us ++ u ∷ []) ≡ events_in t phase.C us ++ events_of t phase.C u
+events_last t [] u = append-nil (events_of t phase.C u)
+events_last t (x ∷ us) u =
+    ap (λ (es : List Event). events_of t phase.C x ++ es) (events_last t us u) ∙ sym (append_assoc (events_of t phase.C x) (events_in t phase.C us) (events_of t phase.C u))
+
+-- nobody has had a turn
+pub turned_none : (z : Counts) (S : Setup) (end t : ℕ) (V : World) (N : Network) (events : List Event) (said : List Occurrence) → StandsFor z S end t N V
+    → AreTurned z S end t V [] N N events events said said
+unfolding turns
+turned_none z S end t V N events said h = record {
+  stands = h;
+  holes = refl;
+  freed = refl;
+  others = λ m a. refl;
+  awaited = λ m l a w lt to. absurd (true≢false (sym a));
+  events = sym (append-nil events);
+  said = sym (append-nil said);
+}
+
+pub turned_last : (z : Counts) (S : Setup) (end t n : ℕ) (V : World) (ns : List ℕ) (old now next : Network) (events out more : List Event)
+    (said heard last : List Occurrence) → is_among n ns ≡ false
+    → AreTurned z S end t V ns old now events out said heard
+    → IsTurn z S end t n (after S t (turns S t (turns_of S t phase.C) ns V) V) now next out more heard last
+    → AreTurned z S end t V (ns ++ n ∷ []) old next events more said last
+turned_last z S end t n V ns old now next events out more said heard last fresh h g =
+    let W = world S t ns V in
+    let U = run S t (node_turns S t n W) W in
+    let w = world_last S t n ns V in
+    let u : Turn = record { number = n; moves = turns_of S t phase.C n W } in
+    let p = plan_is S t n W in
+    record {
+      stands = subst (StandsFor z S end t next) (sym w) g.stands;
+      holes = g.holes ∙ h.holes;
+      freed = g.freed ∙ h.freed;
+      others = λ m a.
+          let q = not_last m n ns a in
+          g.others m (λ (e : m ≡ n). eqb-false n m q.1 (sym e)) ∙ h.others m q.0;
+      awaited = λ m l a not_woken lt to.
+          ap (λ (X : World). at l Buffer X) w
+          ∙ elim (cases_Bool (eqb n m)) [
+            | inl e ↦
+                let s = eqb-true n m e in
+                g.awaited l (λ (y : wake_of next.node_wakes n ≡ Some (t + 1)). not_woken (ap (wake_of next.node_wakes) (sym s) ∙ y)) lt (to ∙ sym s)
+            | inr e ↦
+                let ne = eqb-false n m e in
+                let b : is_among m ns ≡ true = sym (among_other m n ns e) ∙ a in
+                let same = g.others m (λ (y : m ≡ n). ne (sym y)) in
+                let unseen : sees S n l Buffer ≡ false = ne_eqb (link_row S l).to n (λ (y : (link_row S l).to ≡ n). ne (sym y ∙ to)) in
+                at-run_untouched S t l Buffer (node_turns S t n W) W (node_untouched S t n l Buffer W unseen)
+                ∙ h.awaited m l b (λ (y : wake_of now.node_wakes m ≡ Some (t + 1)). not_woken (same ∙ y)) lt to
+          ];
+      events =
+          g.events ∙ ap (λ (xs : List Event). xs ++ keyed t (phase_code phase.C) n 0 (flat_map told (node_turns S t n W))) h.events
+          ∙ append_assoc events (events_in t phase.C (all S t ns V)) (keyed t (phase_code phase.C) n 0 (flat_map told (node_turns S t n W)))
+          ∙ ap (λ (xs : List Event). events ++ xs)
+          (ap (λ (ms : List Move). events_in t phase.C (all S t ns V) ++ keyed t (phase_code phase.C) n 0 (flat_map told ms)) (sym p)
+          ∙ sym (events_last t (all S t ns V) u) ∙ ap (events_in t phase.C) (sym (turns_last S t n ns V)));
+      said =
+          g.said ∙ ap (λ (xs : List Occurrence). xs ++ flat_map told (node_turns S t n W)) h.said
+          ∙ append_assoc said (flat_map told (moves_of (all S t ns V))) (flat_map told (node_turns S t n W))
+          ∙ ap (λ (xs : List Occurrence). said ++ xs)
+          (ap (λ (ms : List Move). flat_map told (moves_of (all S t ns V)) ++ flat_map told ms) (sym p)
+          ∙ sym (told_last (all S t ns V) u) ∙ ap (λ (us : List Turn). flat_map told (moves_of us)) (sym (turns_last S t n ns V)));
+    }
+  where
+    not_last : (m n : ℕ) (ns : List ℕ) → is_among m (ns ++ n ∷ []) ≡ false → (is_among m ns ≡ false) × (eqb n m ≡ false)
+    not_last m n [] a = (refl, (or_parts (eqb n m) false a).0)
+    not_last m n (k ∷ ns) a =
+        let q = or_parts (eqb k m) (is_among m (ns ++ n ∷ [])) a in
+        let r = not_last m n ns q.1 in
+        let e = q.0 in (rw e r.0, r.1)
+
+-- ALL OF THEM
+not_second : (t : ℕ) (w : Option ℕ) → is_second t w ≡ false → w ≢ Some t
+not_second t None h e = absurd (cc)
+not_second t (Some u) h e = let q : u ≡ t = cc in eqb-false u t h q
+
+nothing_ready : (S : Setup) (t n : ℕ) (V : World) (ls : List ℕ) → ((l : ℕ) → is_among l ls ≡ true → at l Buffer V ≡ []) → ready (map (in_link S t V) ls) ≡ []
+nothing_ready S t n V [] h = refl
+nothing_ready S t n V (l ∷ ls) h =
+    let own : is_among l (l ∷ ls) ≡ true = (let q = eq-eqb l l refl in rw q refl) in
+    let e = h l own in
+    let rest = nothing_ready S t n V ls (λ k a. h k (later k l ls a)) in
+    let s : not (is_nil (at l Buffer V)) ≡ false = rw e refl in
+    rw s rest
+  where
+    later : (k l : ℕ) (ls : List ℕ) → is_among k ls ≡ true → is_among k (l ∷ ls) ≡ true
+    later k l ls a = elim (cases_Bool (eqb l k)) [ inl q ↦ rw q refl | inr q ↦ rw q a ]
+
+among_in : (l count : ℕ) (ls : List ℕ) → AreIn count ls → is_among l ls ≡ true → l < count
+among_in l count [] h a = absurd (true≢false (sym a))
+among_in l count (k ∷ ls) h a =
+    elim (cases_Bool (eqb k l)) [
+      | inl q ↦ let s = eqb-true k l q in let lt = h.0 in omega arith
+      | inr q ↦ let b : is_among l ls ≡ true = rw q at a in among_in l count ls h.1 b
+    ]
+
+idle_node : (S : Setup) (t n : ℕ) (wakes : List (Option ℕ)) (V : World) → n < S.nodes → AreAwaited S t wakes V → is_woken t wakes n ≡ false
+    → AreIn (length S.links) (into S n) → ((l : ℕ) → l < length S.links → is_among l (into S n) ≡ true → (link_row S l).to ≡ n)
+    → turns_of S t phase.C n V ≡ []
+idle_node S t n wakes V lt h w there to =
+    plan_is S t n V
+    ∙ node_idle S.settings.stuck t (S.word n) (node_view S t n V)
+    (nothing_ready S t n V (into S n) (λ l a.
+    let in_links = among_in l (length S.links) (into S n) there a in
+    h n l lt (not_second t (wake_of wakes n) w) in_links (to l in_links a)))
+
+idle_at : (S : Setup) (t : ℕ) (wakes : List (Option ℕ)) (V : World) → AreAwaited S t wakes V
+    → (n : ℕ) → n < S.nodes → Idle (is_woken t wakes) (λ (k : ℕ). turns_of S t phase.C k V) n
+idle_at S t wakes V h n lt w =
+    idle_node S t n wakes V lt h w (into_there S n) (λ l in_links a. eqb-true (link_row S l).to n (sym (among_into S n l in_links) ∙ a))
+
+idle_all : (S : Setup) (t : ℕ) (wakes : List (Option ℕ)) (V : World) → AreAwaited S t wakes V
+    → (k count : ℕ) → k + count ≤ S.nodes → Each (Idle (is_woken t wakes) (λ (n : ℕ). turns_of S t phase.C n V)) (numbers k count)
+idle_all S t wakes V h k zero le = tt
+idle_all S t wakes V h k (suc count) le = (idle_at S t wakes V h k (omega arith), idle_all S t wakes V h (k + 1) count (omega arith))
+
+idle_moves : (p : ℕ → Bool) (f : ℕ → List Move) (ns : List ℕ) → Each (Idle p f) ns → flat_map f ns ≡ flat_map f (filter p ns)
+idle_moves p f [] h = refl
+idle_moves p f (n ∷ ns) h =
+    elim (cases_Bool (p n)) [
+      | inl e ↦ simp e (ap (λ (xs : List Move). f n ++ xs) (idle_moves p f ns h.1))
+      | inr e ↦ simp e (ap (λ (xs : List Move). xs ++ flat_map f ns) (h.0 e) ∙ idle_moves p f ns h.1)
+    ]
+
+woken_are : (t count : ℕ) (wakes : List (Option ℕ)) → length wakes ≡ count → woken t wakes ≡ filter (is_woken t wakes) (below count)
+woken_are t count wakes n =
+    woken_is numbers t wakes (record { none = λ k. refl; more = λ k c. refl }) ∙ ap (λ (c : ℕ). filter (is_woken t wakes) (numbers 0 c)) n
+
+pub whole : (z : Counts) (S : Setup) (end t : ℕ) (V : World) (ns : List ℕ) (old mid new : Network) (events out : List Event) (said heard : List Occurrence)
+    → StandsFor z S end t old V → AreAwaited S t old.node_wakes V → ns ≡ woken t old.node_wakes
+    → mid.places.holes.items ≡ old.places.holes.items → mid.places.freed ≡ old.places.freed
+    → AreTurned z S end t V ns mid new events out said heard → IsPhase z S end t V old new events out said heard
+unfolding turns_in
+whole z S end t V ns old mid new events out said heard st aw e ho fr h =
+    let wakes = old.node_wakes in
+    let p = is_woken t wakes in
+    let f = λ (n : ℕ). turns_of S t phase.C n V in
+    let apart = plans_apart S t phase.C in
+    let distinct = Distinct-numbers 0 S.nodes in
+    let idle = idle_all S t wakes V aw 0 S.nodes (omega arith) in
+    let ns_are : ns ≡ filter p (below S.nodes) = e ∙ woken_are t S.nodes wakes st.nodes in
+    let w : world S t ns V ≡ after S t (turns S t (turns_of S t phase.C) (below S.nodes) V) V
+    = ap (λ (ks : List ℕ). world S t ks V) ns_are ∙ skip_world S t (turns_of S t phase.C) p (below S.nodes) V apart distinct idle in
+    let moves : moves_of (all S t ns V) ≡ moves_of (turns S t (turns_of S t phase.C) (below S.nodes) V)
+    = ap (λ (ks : List ℕ). moves_of (all S t ks V)) ns_are
+    ∙ ap (λ us. moves_of us) (turns_at_once S t (turns_of S t phase.C) apart (filter p (below S.nodes)) V (distinct_filter p (below S.nodes) distinct))
+    ∙ moves_of-map (turns_of S t phase.C) V (filter p (below S.nodes)) ∙ sym (idle_moves p f (below S.nodes) idle)
+    ∙ sym (moves_of-map (turns_of S t phase.C) V (below S.nodes))
+    ∙ sym (ap (λ us. moves_of us) (turns_at_once S t (turns_of S t phase.C) apart (below S.nodes) V distinct)) in
+    record {
+      stands = subst (StandsFor z S end t new) w h.stands;
+      holes = h.holes ∙ ho;
+      freed = h.freed ∙ fr;
+      awaited = λ n l lt not_woken there to.
+          elim (cases_Bool (is_among n ns)) [
+            | inl a ↦ ap (λ (X : World). at l Buffer X) (sym w) ∙ h.awaited n l a not_woken there to
+            | inr a ↦
+                let q : is_woken t wakes n ≡ false
+                = sym (among_passed p n 0 S.nodes (omega arith) (omega arith)) ∙ ap (is_among n) (sym ns_are) ∙ a in
+                let none : at l Buffer V ≡ [] = aw n l lt (not_second t (wake_of wakes n) q) there to in
+                let own : turns_of S t phase.C n V ≡ [] = idle_at S t wakes V aw n lt q in
+                at-phase_one S t (turns_of S t phase.C) apart n S.nodes l Buffer V lt
+                (λ m ne. subst (Untouched l Buffer) (sym (plan_is S t m V))
+                (node_untouched S t m l Buffer V (ne_eqb (link_row S l).to m (λ (y : (link_row S l).to ≡ m). eqb-false m n ne (sym y ∙ to)))))
+                ∙ ap (λ (ms : List Move). at_after_all l Buffer ms (at l Buffer V)) own ∙ none
+          ];
+      events =
+          h.events ∙ ap (λ (xs : List Event). events ++ xs)
+          (ap (λ (ks : List ℕ). events_in t phase.C (all S t ks V)) ns_are
+          ∙ skip_events S t phase.C (turns_of S t phase.C) p (below S.nodes) V apart distinct idle);
+      said = h.said ∙ ap (λ (ms : List Move). said ++ flat_map told ms) moves;
+    }
+
+-- WHO HAS A TURN
+in_below : (p : ℕ → Bool) (k count all : ℕ) → k + count ≤ all → AreIn all (filter p (numbers k count))
+in_below p k zero all le = tt
+in_below p k (suc count) all le =
+    let rest = in_below p (k + 1) count all (omega arith) in
+    elim (cases_Bool (p k)) [ inl e ↦ rw e (omega arith, rest) | inr e ↦ rw e rest ]
+
+pub woken_there : (t count : ℕ) (wakes : List (Option ℕ)) (ns : List ℕ) → length wakes ≡ count → ns ≡ woken t wakes → AreIn count ns
+woken_there t count wakes ns n e =
+    subst (AreIn count) (sym (e ∙ woken_are t count wakes n)) (in_below (is_woken t wakes) 0 count count (omega arith))
+
+pub woken_once : (t count : ℕ) (wakes : List (Option ℕ)) (ns : List ℕ) → length wakes ≡ count → ns ≡ woken t wakes → AreOnce ns
+woken_once t count wakes ns n e = subst AreOnce (sym (e ∙ woken_are t count wakes n)) (once_passed (is_woken t wakes) count)
+
+-- a network whose nodes are woken at other times stands for the same world
+pub stands_with : (z : Counts) (S : Setup) (end t : ℕ) (V : World) (N M : Network) (wakes : List (Option ℕ)) → M ≡ record N { node_wakes = wakes }
+    → length wakes ≡ length N.node_wakes → StandsFor z S end t N V → StandsFor z S end t M V
+stands_with z S end t V N M wakes e n h =
+    subst (λ (X : Network). StandsFor z S end t X V) (sym e)
+    (record { links = h.links; nodes = n ∙ h.nodes })

@@ -1,0 +1,6 @@
+use Rattle.std.proofs.Common.{◌≡◌, []}
+use Rattle.std.specs.Prelude.{map, replicate, vec_items}
+use Rattle.part_nodes.proofs.in_link_rows.InLinks.none.Given as goal
+
+abbrev pub invariant-loop-node : goal.invariant-loop-node
+invariant-loop-node l = map vec_items l.rows.items ≡ replicate l._node []

@@ -1,0 +1,14 @@
+use Rattle.std.proofs.Common.{◌≡◌, ◌++◌, length}
+use Rattle.std.specs.Prelude.{map}
+use Rattle.node_seconds.specs.Networks.{AreIn}
+use Rattle.part_nodes.specs.Turns.{buffered_in}
+use Rattle.part_nodes.proofs.node_turns.buffers_of.Given as goal
+
+abbrev pub invariant-loop-rest : goal.invariant-loop-rest
+invariant-loop-rest l = record {
+  so_far : l.counts.items ++ map (buffered_in l.links) l.rest ≡ map (buffered_in l.links) l.numbers;
+  there : AreIn (length l.links) l.rest;
+}
+
+abbrev pub decreases-loop-rest : goal.decreases-loop-rest
+decreases-loop-rest l = length l.rest

@@ -1,0 +1,4 @@
+pub mod InLinkViews
+pub mod InLinks
+pub mod Turns
+pub mod Phase

@@ -1,0 +1,79 @@
+//! The phase in which the nodes of a network let vehicles pass.
+
+ghost use Rattle.std.specs.Prelude.{◌≡◌, ℕ, ◌<◌, [], length, get_or, OnOk};
+ghost use Rattle.limits.specs.declared.TheConstants.{LAST_SECOND};
+ghost use Rattle.law_in_range.specs.Setups.{counts_in, HaveFittingPlans};
+ghost use Rattle.town.specs.Views.{setup};
+ghost use Rattle.traffic.specs.Rows.{World};
+ghost use Rattle.traffic.specs.Setup.{into};
+ghost use Rattle.node_seconds.specs.Networks.{AreIn, AreOnce};
+ghost use Rattle.part_nodes.specs.Phase.{StandsFor, Stands, AreAwaited, AreTurned, IsPhase};
+
+use crate::in_link_rows::InLinks;
+use crate::network::Network;
+use crate::node_turns::{NodePhase, turn_node};
+use part_links::Told;
+use std::alloc::{AllocError, Global};
+
+/// The turns of the nodes of these numbers, one after the other.
+fn turn_nodes(
+    alloc: Global,
+    phase: &NodePhase,
+    in_links: &InLinks,
+    numbers: &[u32],
+    network: &mut Network,
+    told: &mut Told,
+) -> Result<(), AllocError>
+    requires second_in { phase.now.second < LAST_SECOND }
+    requires in_day { phase.now.second < phase.now.day.now.town.now.settings.end_second }
+    requires given { HaveFittingPlans phase.now.day.now }
+    requires nodes { length in_links.now ≡ (setup phase.now.day.now).nodes }
+    requires into { (n : ℕ) → n < (setup phase.now.day.now).nodes → get_or in_links.now n [] ≡ into (setup phase.now.day.now) n }
+    requires there { AreIn (setup phase.now.day.now).nodes numbers.now }
+    requires once { AreOnce numbers.now }
+    requires stands { Stands (counts_in phase.now.day.now) (setup phase.now.day.now) phase.now.day.now.town.now.settings.end_second
+        phase.now.second network.old }
+    ensures { (V : World) → StandsFor (counts_in phase.now.day.now) (setup phase.now.day.now)
+        phase.now.day.now.town.now.settings.end_second phase.now.second network.old V
+        → OnOk result (AreTurned (counts_in phase.now.day.now) (setup phase.now.day.now)
+        phase.now.day.now.town.now.settings.end_second phase.now.second V numbers.now network.old network.new
+        told.old.events.items told.new.events.items told.old.said.items told.new.said.items) }
+{
+    for number in numbers {
+        let into = in_links.of_node(*number);
+        turn_node(alloc, phase, *number, into, network, told)?;
+    }
+    Ok(())
+}
+
+/// The nodes let vehicles pass in a second: those that are woken in it have their turns, by number, and are woken again in the next second
+/// while somebody is in the buffer of a link into them. Appends what that tells.
+///
+/// # Errors
+///
+/// `AllocError`: there is no memory for a vehicle or an event. The network is then of no use.
+pub fn move_nodes(
+    alloc: Global,
+    phase: &NodePhase,
+    in_links: &InLinks,
+    network: &mut Network,
+    told: &mut Told,
+) -> Result<(), AllocError>
+    requires second_in { phase.now.second < LAST_SECOND }
+    requires in_day { phase.now.second < phase.now.day.now.town.now.settings.end_second }
+    requires given { HaveFittingPlans phase.now.day.now }
+    requires nodes { length in_links.now ≡ (setup phase.now.day.now).nodes }
+    requires into { (n : ℕ) → n < (setup phase.now.day.now).nodes → get_or in_links.now n [] ≡ into (setup phase.now.day.now) n }
+    requires stands { Stands (counts_in phase.now.day.now) (setup phase.now.day.now) phase.now.day.now.town.now.settings.end_second
+        phase.now.second network.old }
+    ensures { (V : World) → StandsFor (counts_in phase.now.day.now) (setup phase.now.day.now)
+        phase.now.day.now.town.now.settings.end_second phase.now.second network.old V
+        → AreAwaited (setup phase.now.day.now) phase.now.second network.old.node_wakes V
+        → OnOk result (IsPhase (counts_in phase.now.day.now) (setup phase.now.day.now)
+        phase.now.day.now.town.now.settings.end_second phase.now.second V network.old network.new
+        told.old.events.items told.new.events.items told.old.said.items told.new.said.items) }
+{
+    let numbers = network.node_wakes.take(phase.second);
+    turn_nodes(alloc, phase, in_links, &numbers, network, told)?;
+    Ok(())
+}

@@ -14,8 +14,18 @@ use std::io::Eprint;
 /// The database of the current folder.
 const NAME: &str = "kept.db";
 
+/// Says what a database holds, where it holds anything. Where it cannot be read, the next call says why.
+fn tell_replaced(rt: &HostRuntime, keeper: &mut SqlKeeper<FileStore<File>>) {
+    if let Ok(Some(iteration)) = keeper.last() {
+        let _ = eprintln!(rt;
+            "qsim: {NAME} held iteration {iteration} of a run before, and is replaced"
+        );
+    }
+}
+
 /// A keeper in the file `kept.db` of the current folder, which is opened, and made where it is missing, at the first call: a command that
-/// keeps nothing makes no file. A line on standard error says why a call failed. What the file holds is not told.
+/// keeps nothing makes no file. A line on standard error says why a call failed, and one says that the first save of a run replaces what
+/// another run kept. What the file holds is not told.
 ///
 /// While it is open no other program can use it. What is saved stands in `kept.db` and in its log `kept.db-wal`, which belong together,
 /// until the keeper is closed, and then in `kept.db` alone.
@@ -38,8 +48,8 @@ impl<'a> FolderKeeper<'a> {
         }
     }
 
-    /// Opens the database, unless it is open.
-    fn open(&mut self) -> Result<(), KeepFail>
+    /// Opens the database, unless it is open, and then says what is kept there, where that is to be replaced.
+    fn open(&mut self, replaces: bool) -> Result<(), KeepFail>
         ensures cause { KeepHasCause self.old.faults self.new.faults result }
         ensures opened { OnOk result (IsSome self.new.opened) }
     {
@@ -48,7 +58,11 @@ impl<'a> FolderKeeper<'a> {
         }
         match Connection::open(self.rt, NAME) {
             Ok(connection) => {
-                self.opened = Some(SqlKeeper::over(self.rt.alloc(), connection));
+                let mut keeper = SqlKeeper::over(self.rt.alloc(), connection);
+                if replaces {
+                    tell_replaced(self.rt, &mut keeper);
+                }
+                self.opened = Some(keeper);
                 Ok(())
             }
             Err(Error::SqliteFailure(ErrorCode::OutOfMemory)) => Err(KeepFail::NoMemory),
@@ -108,7 +122,7 @@ impl Keeper for FolderKeeper<'_> {
     ghost faults = { λ k. k.faults };
 
     fn save(&mut self, iteration: u32, rows: &[KeptRow]) -> Result<(), KeepFail> {
-        if let Err(fail) = self.open() {
+        if let Err(fail) = self.open(true) {
             return Err(fail);
         }
         let saved = match &mut self.opened {
@@ -122,7 +136,7 @@ impl Keeper for FolderKeeper<'_> {
     }
 
     fn last(&mut self) -> Result<Option<u32>, KeepFail> {
-        if let Err(fail) = self.open() {
+        if let Err(fail) = self.open(false) {
             return Err(fail);
         }
         let last = match &mut self.opened {
@@ -136,7 +150,7 @@ impl Keeper for FolderKeeper<'_> {
     }
 
     fn load(&mut self, rows: &mut Vec<KeptRow>) -> Result<(), KeepFail> {
-        if let Err(fail) = self.open() {
+        if let Err(fail) = self.open(false) {
             return Err(fail);
         }
         let loaded = match &mut self.opened {

@@ -42,7 +42,7 @@ alike f g same [] = refl
 alike f g same (k ∷ ks) = ap (λ (l : List Effect). l ++ flat_map f ks) (same k) ∙ ap (λ (l : List Effect). g k ++ l) (alike f g same ks)
 
 module _ (R : RunRows) (from : ℕ) (memories : List MemoryRows) where
-  memories_split : (n m : ℕ) → memories_behind R from memories (n + m) ≡ memories_behind R (from + n) (memories_behind R from memories n) m
+  pub memories_split : (n m : ℕ) → memories_behind R from memories (n + m) ≡ memories_behind R (from + n) (memories_behind R from memories n) m
   unfolding memories_behind
   memories_split n zero = ap (memories_behind R from memories) (add-zero n)
   memories_split n (suc m) =

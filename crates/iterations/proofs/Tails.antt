@@ -60,6 +60,16 @@ module _ (R : RunRows) (first : List MemoryRows) where
   unfolding continued
   goes_on k within = going_by k (nat_lt k R.last_iteration) refl within
 
+  -- what is done behind an iteration: the next one and those behind it, and the end
+  pub continues : (k : ℕ) → continued R k (memories_after R k (memories_at R first k))
+      ≡ cond (nat_lt k R.last_iteration) (acts_behind R (k + 1) (memories_at R first (k + 1)) (R.last_iteration - (k + 1)))
+      (end_effects R (memories_after R k (memories_at R first k)))
+  unfolding continued
+  continues k =
+      let next : suc k ≡ k + 1 = omega arith in
+      ap (λ (ms : List MemoryRows). cond (nat_lt k R.last_iteration) (acts_behind R (k + 1) ms (R.last_iteration - (k + 1)))
+      (end_effects R (memories_after R k (memories_at R first k)))) (begun_at k ∙ ap (λ (n : ℕ). memories_at R first n) next)
+
 -- ANOTHER LAST ITERATION CHANGES NOTHING OF AN ITERATION
 module _ (R : RunRows) (last : ℕ) where
   after_until : (k : ℕ) (memories : List MemoryRows) → memories_after (until R last) k memories ≡ memories_after R k memories
@@ -80,6 +90,10 @@ module _ (R : RunRows) (last : ℕ) where
   behind_until from memories (suc n) =
       next_until (from + n) (memories_behind (until R last) from memories n) ∙ ap (next_memories R (from + n)) (behind_until from memories n)
 
+  pub kept_until : (first : List MemoryRows) (k : ℕ)
+      → memories_after (until R last) k (memories_at (until R last) first k) ≡ memories_after R k (memories_at R first k)
+  kept_until first k = after_until k (memories_at (until R last) first k) ∙ ap (memories_after R k) (behind_until 0 first k)
+
   all_until : (from : ℕ) (memories : List MemoryRows) (count : ℕ)
       → iterations_effects (until R last) from memories count ≡ iterations_effects R from memories count
   unfolding iterations_effects
@@ -95,15 +109,22 @@ module _ (R : RunRows) (last : ℕ) where
       goes_on (until R last) first k within
       ∙ ap (λ (l : List Effect). l ++ continued (until R last) k (memories_after (until R last) k (memories_at (until R last) first k))) (all_until 0 first (suc k))
       ∙ ap (λ (ms : List MemoryRows). iterations_effects R 0 first (suc k) ++ continued (until R last) k ms)
-      (after_until k (memories_at (until R last) first k) ∙ ap (memories_after R k) (behind_until 0 first k))
+      (kept_until first k)
+
+  -- what was kept is read back, and so what is done is the rest
+  pub rest_of : (first : List MemoryRows) (k : ℕ) (effects : List Effect) → IsRun R first
+      → GoesOn (until R last) (kept_of k (kept_rows R.town.book (memories_after R k (memories_at R first k)))) effects
+      → effects ≡ continued (until R last) k (memories_after (until R last) k (memories_at (until R last) first k))
+  rest_of first k effects is goes =
+      let after : List MemoryRows = memories_after R k (memories_at R first k) in
+      let same : goes.0 ≡ after = one_list R.town is.book (kept_rows R.town.book after) after goes.0 (run_back R first is k) goes.1 in
+      goes.2 ∙ ap (continued (until R last) k) (same ∙ sym (kept_until first k))
 
   -- so does a run that goes on from what was kept
   pub resumes : (first : List MemoryRows) (k : ℕ) (effects : List Effect) → IsRun R first → k ≤ last
       → GoesOn (until R last) (kept_of k (kept_rows R.town.book (memories_after R k (memories_at R first k)))) effects
       → acts (until R last) first ≡ iterations_effects R 0 first (suc k) ++ effects
   resumes first k effects is within goes =
-      let after : List MemoryRows = memories_after R k (memories_at R first k) in
-      let same : goes.0 ≡ after = one_list R.town is.book (kept_rows R.town.book after) after goes.0 (run_back R first is k) goes.1 in
       goes_further first k within
-      ∙ ap (λ (ms : List MemoryRows). iterations_effects R 0 first (suc k) ++ continued (until R last) k ms) (sym same)
-      ∙ ap (λ (l : List Effect). iterations_effects R 0 first (suc k) ++ l) (sym goes.2)
+      ∙ ap (λ (ms : List MemoryRows). iterations_effects R 0 first (suc k) ++ continued (until R last) k ms) (sym (kept_until first k))
+      ∙ ap (λ (l : List Effect). iterations_effects R 0 first (suc k) ++ l) (sym (rest_of first k effects is goes))

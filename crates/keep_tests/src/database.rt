@@ -1,8 +1,8 @@
 //! The keeper in a database.
 
-use crate::kept::{Kept, ONE, TWO, are_rows, holds, holds_nothing, rows_of, saves};
 use edge_files::{KeepFail, Keeper};
 use keep_sql::{Fault, SqlKeeper, pack, unpack};
+use kept_tables::{Kept, ONE, TWO, are_rows, holds, holds_nothing, rows_of, saves};
 use sqlite::{Connection, Error, MemStore, params};
 use std::alloc::Global;
 

@@ -1,8 +1,8 @@
 //! The keeper in the current folder.
 
-use crate::kept::{Kept, ONE, TWO, holds, holds_nothing, saves};
 use edge_files::{KeepFail, Keeper};
 use folder_keeper::FolderKeeper;
+use kept_tables::{Kept, ONE, TWO, holds, holds_nothing, saves};
 use std::fs;
 
 static TEXT: &str = "no database, but some text that is longer than a header of one";

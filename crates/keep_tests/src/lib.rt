@@ -8,6 +8,4 @@ mod folder;
 #[cfg(test)]
 mod in_memory;
 #[cfg(test)]
-mod kept;
-#[cfg(test)]
 mod memories;

@@ -1,8 +1,8 @@
 //! Rows of memories, and memories of rows.
 
-use crate::kept::{Kept, are_rows, bytes_of, rows_of};
 use edge_files::{Bytes, InFile};
 use keep::{KeptStop, memories_of};
+use kept_tables::{Kept, are_rows, bytes_of, rows_of};
 use scenario::{Files, Scenario, assemble};
 use std::alloc::Global;
 use std::thread::Threads;

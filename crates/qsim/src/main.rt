@@ -1,10 +1,9 @@
 //! The program: the files of the current folder, standard output for the report, and kept.db for what a run keeps.
 #![tactic(auto)]
 
-use edge_files::OpenGate;
-use folder_files::{FileInputs, FileOutputs, StandardStreams};
-use folder_keeper::FolderKeeper;
-use qsim_top::{Status, qsim};
+use folder_files::StandardStreams;
+use in_folder::qsim_in_folder;
+use qsim_top::Status;
 use std::alloc::{AllocError, Global};
 use std::env;
 use std::process::ExitCode;
@@ -20,25 +19,11 @@ fn words(alloc: Global, rt: &(impl Env + AllocGlobal)) -> Result<Vec<String>, Al
 
 /// The files tell on standard error what went wrong with them; here it is want of memory.
 fn main(rt: HostRuntime) -> ExitCode {
-    let alloc = rt.alloc();
     let _streams = StandardStreams::hold(&rt);
-    let mut inputs = FileInputs::new(&rt);
-    let mut outputs = FileOutputs::new(&rt);
-    let mut keeper = FolderKeeper::new(&rt);
-    let gate = OpenGate::new();
-    let status = match words(alloc, &rt) {
-        Ok(words) => qsim(
-            &rt,
-            alloc,
-            &words,
-            &mut inputs,
-            &mut outputs,
-            &mut keeper,
-            &gate,
-        ),
+    let status = match words(rt.alloc(), &rt) {
+        Ok(words) => qsim_in_folder(&rt, &words),
         Err(_) => Status::NoMemory,
     };
-    keeper.close();
     if status == Status::NoMemory {
         let _ = rt.eprintln("qsim: out of memory");
     }

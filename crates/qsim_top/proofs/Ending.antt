@@ -14,7 +14,7 @@ use Rattle.iterations.specs.Performed.{Moment, IsPerformed}
 use Rattle.qsim_top.specs.declared.answers.Answer.{Answer}
 use Rattle.qsim_top.specs.declared.answers.Status.{Status}
 use Rattle.qsim_top.specs.declared.answers.Status.TheVariants as status
-use Rattle.qsim_top.specs.Answer.{is_whole, is_of_words, is_report, Answers, IsSound, IsAnswer}
+use Rattle.qsim_top.specs.Answer.{is_whole, is_of_words, is_report, reports_alone, Answers, IsSound, IsAnswer}
 use Rattle.qsim_top.specs.Came.{status_after, is_fault, HasCauses, IsCarriedOut}
 use Rattle.qsim_top.proofs.Reports.{only_reports}
 
@@ -36,11 +36,11 @@ done_as a status.WriteFault old new whole is does = absurd (cc)
 done_as a status.NoMemory old new whole is does = absurd (cc)
 done_as a status.KeepFault old new whole is does = absurd (cc)
 
--- an answer whose status says that all is done, and which writes to the report alone where it refuses
+-- an answer whose status says that all is done, and which writes to the report alone where it tells why nothing was
 pub ended : (keeps : Bool) (a : Answer) (old new : Moment) (r : Result (Unit {0}) EffectError) → is_whole a.status ≡ true
-    → (a.status ≡ status.Refused → list_all is_report a.effects ≡ true) → IsPerformed keeps old new (all_steps a.effects) r
+    → (reports_alone a.status ≡ true → list_all is_report a.effects ≡ true) → IsPerformed keeps old new (all_steps a.effects) r
     → IsCarriedOut keeps a (status_after a.status r) old new
-ended keeps a old new (Ok done) whole refusal did = record {
+ended keeps a old new (Ok done) whole alone did = record {
   acts = done_as a a.status old.world new.world whole refl did.done;
   ends = inr refl;
   causes = record {
@@ -49,10 +49,11 @@ ended keeps a old new (Ok done) whole refusal did = record {
     write = λ is. absurd (whole_is_not a.status status.WriteFault whole refl is);
     keep = λ is. absurd (whole_is_not a.status status.KeepFault whole refl is);
     read = λ is. whole_is_not a.status status.ReadFault whole refl is;
-    reports = λ is. only_reports old.world new.world a.effects (refusal is) did.done;
+    told = λ is. absurd (whole_is_not a.status status.WriteFault whole refl is);
+    reports = λ is. only_reports old.world new.world a.effects (alone is) did.done;
   };
 }
-ended keeps a old new (Err error.WriteFailed) whole refusal did = record {
+ended keeps a old new (Err error.WriteFailed) whole alone did = record {
   acts = did.part;
   ends = inl refl;
   causes = record {
@@ -61,10 +62,11 @@ ended keeps a old new (Err error.WriteFailed) whole refusal did = record {
     write = λ is. did.write_failed refl;
     keep = λ is. cc;
     read = λ is. cc;
+    told = λ is. did.told refl;
     reports = λ is. cc;
   };
 }
-ended keeps a old new (Err error.KeepFailed) whole refusal did = record {
+ended keeps a old new (Err error.KeepFailed) whole alone did = record {
   acts = did.part;
   ends = inl (did.keep_failed refl).0;
   causes = record {
@@ -73,10 +75,11 @@ ended keeps a old new (Err error.KeepFailed) whole refusal did = record {
     write = λ is. cc;
     keep = λ is. (did.keep_failed refl).1;
     read = λ is. cc;
+    told = λ is. cc;
     reports = λ is. cc;
   };
 }
-ended keeps a old new (Err error.NoMemory) whole refusal did = record {
+ended keeps a old new (Err error.NoMemory) whole alone did = record {
   acts = did.part;
   ends = inl refl;
   causes = record {
@@ -85,16 +88,17 @@ ended keeps a old new (Err error.NoMemory) whole refusal did = record {
     write = λ is. cc;
     keep = λ is. cc;
     read = λ is. cc;
+    told = λ is. cc;
     reports = λ is. cc;
   };
 }
 
 -- the same of a status that is that one
 pub ended_as : (keeps : Bool) (a : Answer) (came : Status) (old new : Moment) (r : Result (Unit {0}) EffectError) → came ≡ status_after a.status r
-    → is_whole a.status ≡ true → (a.status ≡ status.Refused → list_all is_report a.effects ≡ true)
+    → is_whole a.status ≡ true → (reports_alone a.status ≡ true → list_all is_report a.effects ≡ true)
     → IsPerformed keeps old new (all_steps a.effects) r → IsCarriedOut keeps a came old new
-ended_as keeps a came old new r is whole refusal did =
-    subst (λ (s : Status). IsCarriedOut keeps a s old new) (sym is) (ended keeps a old new r whole refusal did)
+ended_as keeps a came old new r is whole alone did =
+    subst (λ (s : Status). IsCarriedOut keeps a s old new) (sym is) (ended keeps a old new r whole alone did)
 
 only_writes : (r : Result (Unit {0}) EffectError) → OnErr r (r ≡ Err error.WriteFailed) → r ≡ Err error.KeepFailed → ⊥
 only_writes (Ok x) only is = cc
@@ -124,7 +128,7 @@ pub carried : (a : Answer) (came : Status) (effects : List Effect) (old new : Mo
     → (r ≡ Err error.WriteFailed → StaysTold old.world.kept new.world.kept) → (has_save effects ≡ false → OnErr r (r ≡ Err error.WriteFailed))
     → IsCarriedOut false a came old new
 carried a came effects old new r is same sound done part writes keeps failed told only =
-    ended_as false a came old new r is sound.whole sound.refusal
+    ended_as false a came old new r is sound.whole sound.alone
     (subst (λ (l : List Effect). IsPerformed false old new (all_steps l) r) same
     (performed effects old new r (ap has_save same ∙ sound.kept) done part writes keeps failed told only))
 
@@ -136,6 +140,7 @@ wanting_causes m = record {
   write = λ is. cc;
   keep = λ is. cc;
   read = λ is. cc;
+  told = λ is. cc;
   reports = λ is. cc;
 }
 

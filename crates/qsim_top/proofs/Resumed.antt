@@ -9,7 +9,7 @@ use Rattle.edge_files.specs.declared.keeping.KeepFail.{KeepFail}
 use Rattle.edge_files.specs.declared.keeping.KeepFail.TheVariants as fail
 use Rattle.edge_files.specs.Causes.{Rose, KeepHasCause}
 use Rattle.edge_files.specs.Effects.{all_steps}
-use Rattle.edge_files.specs.Keeping.{Kept, Told, Stays, StaysIfTold, IsTold, Loads, kept_of, rows_of}
+use Rattle.edge_files.specs.Keeping.{Kept, Told, Stays, StaysTold, StaysIfTold, IsTold, Loads, kept_of, rows_of}
 use Rattle.edge_files.specs.World.{World, Written, Step, outside, KeptBecomes, KeptBecomesIfTold, Does, DoesPart}
 use Rattle.edge_files.proofs.Written.{writes_nothing}
 use Rattle.edge_files.proofs.Worlds.{does_then, part_then, part_nothing}
@@ -176,9 +176,13 @@ answers_behind a status.WriteFault old mid new did part = part_then old mid new 
 answers_behind a status.NoMemory old mid new did part = part_then old mid new [] (all_steps a.effects) did part
 answers_behind a status.KeepFault old mid new did part = part_then old mid new [] (all_steps a.effects) did part
 
-causes_behind : (came : Status) (w : Written) (a b : Told) (writes k l : ℕ) (new : Moment) → k ≤ l → HasCauses came (moment w b writes l) new
-    → HasCauses came (moment w a writes k) new
-causes_behind came w a b writes k l new later causes =
+told_behind : (a b c : Told) → Stays a b → StaysTold b c → StaysTold a c
+told_behind None b c stays told = tt
+told_behind (Some kept) b c stays told = subst (λ (t : Told). StaysTold t c) stays told
+
+causes_behind : (came : Status) (w : Written) (a b : Told) (writes k l : ℕ) (new : Moment) → Stays a b → k ≤ l
+    → HasCauses came (moment w b writes l) new → HasCauses came (moment w a writes k) new
+causes_behind came w a b writes k l new stays later causes =
     let late = causes.keep_later in
     record {
       write_later = causes.write_later;
@@ -186,6 +190,7 @@ causes_behind came w a b writes k l new later causes =
       write = causes.write;
       keep = λ is. let rose = causes.keep is in omega (arith, rose);
       read = causes.read;
+      told = λ is. told_behind a b new.world.kept stays (causes.told is);
       reports = causes.reports;
     }
 
@@ -198,7 +203,7 @@ worked_behind S held came w a b writes k l new x is stays cause did = record {
       answers_behind answer came (outside w a) (outside w b) new.world (stays_world w a b stays)
       (did.acts answer (subst (λ (o : Option Kept). Resumes S o answer) (sym (is kept told)) works));
   of_work = did.of_work;
-  causes = causes_behind came w a b writes k l new cause.later did.causes;
+  causes = causes_behind came w a b writes k l new stays cause.later did.causes;
 }
 
 -- the keeper failed, or memory was wanting
@@ -213,6 +218,7 @@ keeper_failed S w a b writes k l e same stays cause = record {
     write = λ is. cc;
     keep = λ is. cause.failed (ap Err same);
     read = λ is. cc;
+    told = λ is. cc;
     reports = λ is. cc;
   };
 }
@@ -228,6 +234,7 @@ keeper_wanting S w a b writes k l e stays cause = record {
     write = λ is. cc;
     keep = λ is. cc;
     read = λ is. cc;
+    told = λ is. cc;
     reports = λ is. cc;
   };
 }

@@ -1,7 +1,9 @@
 -- From what a run keeps the rest of it is done.
-use Rattle.std.proofs.Common.{◌≡◌, ◌⊎◌, ℕ, ◌≤◌, suc, true, List, ◌++◌, length, Option, None, Some, refl, sym, ◌∙◌, ap, inl, inr}
+use Rattle.std.proofs.Common.{◌≡◌, ◌⊎◌, ℕ, ◌<◌, ◌≤◌, suc, true, List, ◌++◌, length, Option, None, Some, refl, sym, ◌∙◌, ap, inl, inr}
 use Rattle.edge_files.specs.declared.effects.Effect.{Effect}
+use Rattle.edge_files.specs.Effects.{all_steps}
 use Rattle.edge_files.specs.Keeping.{Kept}
+use Rattle.edge_files.specs.World.{Step, kept_after}
 use Rattle.keep.specs.Fitting.{AreRowsOf, IsForeignAt}
 use Rattle.keep.proofs.Either.{fit_or_foreign, one_list, one_place}
 use Rattle.plan_memory.specs.Memories.{MemoryRows}
@@ -11,7 +13,7 @@ use Rattle.iterations.specs.Runs.{RunRows, HasNames, IsRun}
 use Rattle.iterations.specs.Acts.{memories_at, iterations_effects, acts}
 use Rattle.iterations.specs.Days.{memories_after}
 use Rattle.iterations.proofs.ReadBack.{run_back}
-use Rattle.iterations.proofs.Tails.{resumes}
+use Rattle.iterations.proofs.Tails.{resumes, rest_of}
 use Rattle.law_valid_files.specs.Valid.{IsScenario}
 use Rattle.law_valid_files.proofs.Books.{scenario_named}
 use Rattle.law_valid_files.proofs.Valid.{scenario_valid}
@@ -22,7 +24,7 @@ use Rattle.qsim_top.specs.declared.answers.Status.TheVariants as status
 use Rattle.qsim_top.specs.Answer.{run_rows_of, report, resumed_answer, Resumes}
 use Rattle.qsim_top.specs.Laws.{until, kept_by, ResumesRuns}
 use Rattle.qsim_top.specs.Texts.{nothing_kept_line, foreign_line}
-use Rattle.qsim_top.proofs.Stopped.{kept_of_run}
+use Rattle.qsim_top.proofs.Stopped.{kept_of_run, kept_of_rest}
 
 module _ (S : ScenarioRows) (book : IsBook S.town.book) where
   answered : (kept : Option Kept) → (a : Answer) × Resumes S kept a
@@ -67,12 +69,24 @@ tail S run last k a within (inr (place, foreign, is)) =
     let R : RunRows = run_rows_of true S in
     absurd (foreign.unfit (memories_after R k (memories_at R S.memories k)) (run_back R S.memories run k))
 
+again : (S : ScenarioRows) → IsRun (run_rows_of true S) S.memories → (last k : ℕ) (a : Answer) → k ≤ last
+    → Resumes (until S last) (Some (kept_by S k)) a → (done rest : List Step) → done ++ rest ≡ all_steps a.effects
+    → (kept_after (Some (kept_by S k)) done ≡ Some (kept_by S k))
+    ⊎ ((j : ℕ) × (k < j) × (j ≤ last) × (kept_after (Some (kept_by S k)) done ≡ Some (kept_by S j)))
+again S run last k a within (inl (memories, rows, is)) done rest split =
+    kept_of_rest S last k a.effects
+    (rest_of (run_rows_of true S) last S.memories k a.effects run (memories, rows, ap (λ (one : Answer). one.effects) is)) done rest split
+again S run last k a within (inr (place, foreign, is)) done rest split =
+    let R : RunRows = run_rows_of true S in
+    absurd (foreign.unfit (memories_after R k (memories_at R S.memories k)) (run_back R S.memories run k))
+
 resumes_runs : (S : ScenarioRows) → IsScenario S → IsBook S.town.book → HasNames S.town → ResumesRuns S
 resumes_runs S valid book names = record {
   kept = kept_of_run S;
   answered = answered S book;
   one_answer = one_answer S book;
   tail = tail S (run_of S valid book names);
+  kept_again = again S (run_of S valid book names);
 }
 
 -- what is kept of files without a fault

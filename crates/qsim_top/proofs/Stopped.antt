@@ -1,5 +1,7 @@
 -- What is kept of a run, however far it has come.
-use Rattle.std.proofs.Common.{◌≡◌, ◌⊎◌, ◌<◌, ◌≤◌, ◌+◌, ℕ, zero, suc, true, List, [], ◌∷◌, ◌++◌, map, Option, Some, refl, zero-add, sym, ◌∙◌, ap, subst, inl, inr, arith}
+use Rattle.std.proofs.Common.{◌≡◌, ◌⊎◌, ◌<◌, ◌≤◌, ◌+◌, ◌-◌, ℕ, zero, suc, Bool, true, false, cond, List, [], ◌∷◌, ◌++◌, map, Option, Some, refl, zero-add, sym, ◌∙◌, ap, subst, inl, inr, arith}
+use Rattle.std.specs.Prelude.{nat_lt}
+use Rattle.std.proofs.lemmas.Bool.Decides.{nat_tests}
 use Rattle.std.specs.List.{flat_map, range_with_len}
 use Rattle.edge_files.specs.declared.effects.Effect.{Effect}
 use Rattle.edge_files.specs.declared.effects.Effect.TheVariants as effect
@@ -15,12 +17,15 @@ use Rattle.plan_memory.specs.Memories.{MemoryRows}
 use Rattle.plan_text.specs.Lines.{plans_text}
 use Rattle.iterations.specs.Runs.{RunRows}
 use Rattle.iterations.specs.Acts.{chosen_numbers, saves, iteration_effects, end_effects, memories_behind, memories_at, iterations_effects, acts_behind, acts}
+use Rattle.iterations.specs.Continued.{continued}
 use Rattle.iterations.specs.Days.{events_of, scores_in, memories_after}
 use Rattle.iterations.specs.Texts.{events_text, iteration_line, done_line}
 use Rattle.iterations.specs.Written.{written_plans}
+use Rattle.iterations.proofs.Going.{memories_split}
+use Rattle.iterations.proofs.Tails.{continues, kept_until}
 use Rattle.scenario.specs.FilesToScenario.{ScenarioRows}
 use Rattle.qsim_top.specs.Answer.{run_rows_of}
-use Rattle.qsim_top.specs.Laws.{kept_by}
+use Rattle.qsim_top.specs.Laws.{until, kept_by}
 
 -- of each save among steps, or among effects, this holds
 abbrev SavesAre : (Kept → Type 0) → List Step → Type 0
@@ -73,45 +78,97 @@ module _ (P : Kept → Type 0) where
   none_kept file last text line =
       both (byte_steps file text) (byte_steps last line ++ []) (no_saves file text) (both (byte_steps last line) [] (no_saves last line) tt)
 
--- it is what the run keeps after one of its iterations
-abbrev IsKeptBy : ScenarioRows → Kept → Type 0
-IsKeptBy S kept = (k : ℕ) × (k ≤ S.last_iteration) × (kept ≡ kept_by S k)
+-- it is what the run keeps after one of its iterations, from this one on
+abbrev IsKeptBy : ScenarioRows → ℕ → Kept → Type 0
+IsKeptBy S from kept = (k : ℕ) × (from ≤ k) × (k ≤ S.last_iteration) × (kept ≡ kept_by S k)
 
-module _ (S : ScenarioRows) where
-  one_save : (k : ℕ) (memories : List MemoryRows) → k ≤ S.last_iteration → memories ≡ memories_at (run_rows_of true S) S.memories k
-      → SavesAre (IsKeptBy S) (all_steps (iteration_effects (run_rows_of true S) k memories))
+module _ (S : ScenarioRows) (from : ℕ) where
+  one_save : (k : ℕ) (memories : List MemoryRows) → from ≤ k → k ≤ S.last_iteration → memories ≡ memories_at (run_rows_of true S) S.memories k
+      → SavesAre (IsKeptBy S from) (all_steps (iteration_effects (run_rows_of true S) k memories))
   unfolding iteration_effects saves
-  one_save k memories within is =
+  one_save k memories behind within is =
       let R : RunRows = run_rows_of true S in
-      one_kept (IsKeptBy S) out.Events out.Scores out.Report (events_text k (events_of R k memories) S.town.book)
+      one_kept (IsKeptBy S from) out.Events out.Scores out.Report (events_text k (events_of R k memories) S.town.book)
       (scores_text k S.town.book.persons (chosen_numbers memories) (scores_in R k memories))
       (iteration_line k (events_of R k memories) (scores_in R k memories))
       (kept_of k (kept_rows S.town.book (memories_after R k memories)))
-      (k, within, ap (λ (ms : List MemoryRows). kept_of k (kept_rows S.town.book (memories_after R k ms))) is)
+      (k, behind, within, ap (λ (ms : List MemoryRows). kept_of k (kept_rows S.town.book (memories_after R k ms))) is)
 
-  end_saves : (memories : List MemoryRows) → SavesAre (IsKeptBy S) (all_steps (end_effects (run_rows_of true S) memories))
+  end_saves : (memories : List MemoryRows) → SavesAre (IsKeptBy S from) (all_steps (end_effects (run_rows_of true S) memories))
   unfolding end_effects
   end_saves memories =
-      none_kept (IsKeptBy S) out.Plans out.Report (plans_text (map written_plans memories) S.town.book) (done_line S.last_iteration)
+      none_kept (IsKeptBy S from) out.Plans out.Report (plans_text (map written_plans memories) S.town.book) (done_line S.last_iteration)
 
-  run_saves : SavesAre (IsKeptBy S) (all_steps (acts (run_rows_of true S) S.memories))
-  unfolding acts_behind iterations_effects
-  run_saves =
+  begun_behind : (n : ℕ) → memories_behind (run_rows_of true S) from (memories_at (run_rows_of true S) S.memories from) n
+      ≡ memories_at (run_rows_of true S) S.memories (from + n)
+  begun_behind n =
       let R : RunRows = run_rows_of true S in
-      let last : ℕ = S.last_iteration in
-      let f : ℕ → List Effect = λ n. iteration_effects R (0 + n) (memories_behind R 0 S.memories n) in
-      let after : List MemoryRows = memories_after R (0 + last) (memories_behind R 0 S.memories last) in
-      let each : (i : ℕ) → i < 0 + suc last → SavesAre (IsKeptBy S) (all_steps (f i)) = λ i less.
-      one_save (0 + i) (memories_behind R 0 S.memories i) (omega arith) (ap (memories_behind R 0 S.memories) (sym (zero-add i))) in
-      subst (SavesAre (IsKeptBy S)) (sym (all_steps-append (flat_map f (range_with_len 0 (suc last))) (end_effects R after)))
-      (both (IsKeptBy S) (all_steps (flat_map f (range_with_len 0 (suc last)))) (all_steps (end_effects R after))
-      (each_of (IsKeptBy S) f 0 (suc last) each) (end_saves after))
+      sym (memories_split R 0 S.memories from n
+      ∙ ap (λ (k : ℕ). memories_behind R k (memories_at R S.memories from) n) (zero-add from))
 
-  pub kept_of_run : (before : Option Kept) (done rest : List Step) → done ++ rest ≡ all_steps (acts (run_rows_of true S) S.memories)
-      → (kept_after before done ≡ before)
-      ⊎ ((k : ℕ) × (k ≤ S.last_iteration) × (kept_after before done ≡ Some (kept_by S k)))
-  kept_of_run before done rest is =
-      elim (kept_of_steps (IsKeptBy S) done before (front (IsKeptBy S) done rest (subst (SavesAre (IsKeptBy S)) (sym is) run_saves))) [
-        | inl same ↦ inl same
-        | inr later ↦ inr (later.1.0, later.1.1, later.2 ∙ ap (λ (one : Kept). Some one) later.1.2)
-      ]
+  -- this iteration and those behind it
+  behind_saves : (count : ℕ) → from + count ≡ S.last_iteration
+      → SavesAre (IsKeptBy S from) (all_steps (acts_behind (run_rows_of true S) from (memories_at (run_rows_of true S) S.memories from) count))
+  unfolding acts_behind iterations_effects
+  behind_saves count last =
+      let R : RunRows = run_rows_of true S in
+      let begun : List MemoryRows = memories_at R S.memories from in
+      let f : ℕ → List Effect = λ n. iteration_effects R (from + n) (memories_behind R from begun n) in
+      let after : List MemoryRows = memories_after R (from + count) (memories_behind R from begun count) in
+      let each : (i : ℕ) → i < 0 + suc count → SavesAre (IsKeptBy S from) (all_steps (f i)) = λ i less.
+      one_save (from + i) (memories_behind R from begun i) (omega arith) (omega arith) (begun_behind i) in
+      subst (SavesAre (IsKeptBy S from)) (sym (all_steps-append (flat_map f (range_with_len 0 (suc count))) (end_effects R after)))
+      (both (IsKeptBy S from) (all_steps (flat_map f (range_with_len 0 (suc count)))) (all_steps (end_effects R after))
+      (each_of (IsKeptBy S from) f 0 (suc count) each) (end_saves after))
+
+-- A WHOLE RUN
+run_saves : (S : ScenarioRows) → SavesAre (IsKeptBy S 0) (all_steps (acts (run_rows_of true S) S.memories))
+unfolding memories_behind
+run_saves S = behind_saves S 0 S.last_iteration (zero-add S.last_iteration)
+
+pub kept_of_run : (S : ScenarioRows) (before : Option Kept) (done rest : List Step) → done ++ rest ≡ all_steps (acts (run_rows_of true S) S.memories)
+    → (kept_after before done ≡ before) ⊎ ((k : ℕ) × (k ≤ S.last_iteration) × (kept_after before done ≡ Some (kept_by S k)))
+kept_of_run S before done rest is =
+    elim (kept_of_steps (IsKeptBy S 0) done before (front (IsKeptBy S 0) done rest (subst (SavesAre (IsKeptBy S 0)) (sym is) (run_saves S)))) [
+      | inl same ↦ inl same
+      | inr later ↦ inr (later.1.0, later.1.2, later.2 ∙ ap (λ (one : Kept). Some one) later.1.3)
+    ]
+
+-- A RUN THAT GOES ON
+below : (a b : ℕ) → nat_lt a b ≡ true → a < b
+below a b is = grind (arith, nat_tests)
+
+rest_saves : (S : ScenarioRows) (k : ℕ) (b : Bool) → nat_lt k S.last_iteration ≡ b
+    → SavesAre (IsKeptBy S (k + 1)) (all_steps (cond b
+    (acts_behind (run_rows_of true S) (k + 1) (memories_at (run_rows_of true S) S.memories (k + 1)) (S.last_iteration - (k + 1)))
+    (end_effects (run_rows_of true S) (memories_after (run_rows_of true S) k (memories_at (run_rows_of true S) S.memories k)))))
+rest_saves S k true is =
+    let less : k < S.last_iteration = below k S.last_iteration is in
+    behind_saves S (k + 1) (S.last_iteration - (k + 1)) (omega arith)
+rest_saves S k false is =
+    end_saves S (k + 1) (memories_after (run_rows_of true S) k (memories_at (run_rows_of true S) S.memories k))
+
+-- what is kept does not hang on the last iteration
+same_kept : (S : ScenarioRows) (last k : ℕ) → kept_by (until S last) k ≡ kept_by S k
+same_kept S last k =
+    ap (λ (ms : List MemoryRows). kept_of k (kept_rows S.town.book ms)) (kept_until (run_rows_of true S) last S.memories k)
+
+-- what is kept of the rest of a run, behind an iteration
+pub kept_of_rest : (S : ScenarioRows) (last k : ℕ) (effects : List Effect)
+    → effects ≡ continued (run_rows_of true (until S last)) k
+    (memories_after (run_rows_of true (until S last)) k (memories_at (run_rows_of true (until S last)) S.memories k))
+    → (done rest : List Step) → done ++ rest ≡ all_steps effects
+    → (kept_after (Some (kept_by S k)) done ≡ Some (kept_by S k))
+    ⊎ ((j : ℕ) × (k < j) × (j ≤ last) × (kept_after (Some (kept_by S k)) done ≡ Some (kept_by S j)))
+kept_of_rest S last k effects is done rest split =
+    let T : ScenarioRows = until S last in
+    let P : Kept → Type 0 = IsKeptBy T (k + 1) in
+    let saved : SavesAre P (all_steps effects) =
+    subst (λ (l : List Effect). SavesAre P (all_steps l)) (sym (is ∙ continues (run_rows_of true T) S.memories k))
+    (rest_saves T k (nat_lt k last) refl) in
+    elim (kept_of_steps P done (Some (kept_by S k)) (front P done rest (subst (SavesAre P) (sym split) saved))) [
+      | inl same ↦ inl same
+      | inr later ↦
+          let behind : k + 1 ≤ later.1.0 = later.1.1 in
+          inr (later.1.0, omega (arith, behind), later.1.2, later.2 ∙ ap (λ (one : Kept). Some one) (later.1.3 ∙ same_kept S last later.1.0))
+    ]

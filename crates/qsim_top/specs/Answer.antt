@@ -129,17 +129,26 @@ is_of_words status.Done = true
 is_of_words status.Usage = true
 is_of_words _ = false
 
+-- the statuses with which the report tells why nothing was done, and nothing else is written
+abbrev pub reports_alone : Status → Bool
+reports_alone status.Usage = true
+reports_alone status.Refused = true
+reports_alone status.NothingKept = true
+reports_alone status.Foreign = true
+reports_alone status.NoWay = true
+reports_alone _ = false
+
 -- an effect that writes to the report
 abbrev pub is_report : Effect → Bool
 is_report (effect.Write file text) = is_same file out.Report
 is_report (effect.Save iteration rows) = false
 
--- what holds of every answer whose effects are there as a list: its status says that all is done, nothing is kept, and a refusal writes to
--- the report alone
+-- what holds of every answer whose effects are there as a list: its status says that all is done, nothing is kept, and one that tells why
+-- nothing was done writes to the report alone
 pub record IsSound (a : Answer) : Type 0 where
   pub whole : is_whole a.status ≡ true
   pub kept : has_save a.effects ≡ false
-  pub refusal : a.status ≡ status.Refused → list_all is_report a.effects ≡ true
+  pub alone : reports_alone a.status ≡ true → list_all is_report a.effects ≡ true
 
 -- it is this answer, which is sound
 pub record IsAnswer (told a : Answer) : Type 0 where

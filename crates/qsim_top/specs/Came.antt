@@ -4,10 +4,10 @@ use Rattle.edge_files.specs.declared.effects.EffectError.{EffectError}
 use Rattle.edge_files.specs.declared.effects.EffectError.TheVariants as error
 use Rattle.edge_files.specs.Causes.{Rose}
 use Rattle.edge_files.specs.Inputs.{Left}
-use Rattle.edge_files.specs.Keeping.{Kept, Told}
+use Rattle.edge_files.specs.Keeping.{Kept, Told, StaysTold}
 use Rattle.edge_files.specs.World.{World}
 use Rattle.iterations.specs.Performed.{Moment}
-use Rattle.scenario.specs.FilesToScenario.{ScenarioRows}
+use Rattle.scenario.specs.FilesToScenario.{ScenarioRows, scenario_fault}
 use Rattle.scenario.specs.Texts.{Texts}
 use Rattle.workload.specs.Texts.{file_text}
 use Rattle.command_line.specs.declared.commands.Command.{Command}
@@ -17,7 +17,7 @@ use Rattle.qsim_top.specs.declared.answers.Answer.{Answer}
 use Rattle.qsim_top.specs.declared.answers.Status.{Status}
 use Rattle.qsim_top.specs.declared.answers.Status.TheVariants as status
 use Rattle.qsim_top.specs.Contents.{Contents, AreLeft, texts_in}
-use Rattle.qsim_top.specs.Answer.{IsAnswerTo, Works, report, Answers, OnlyReports}
+use Rattle.qsim_top.specs.Answer.{IsAnswerTo, Works, report, reports_alone, Answers, OnlyReports}
 
 -- the files of a grid, none of which is too long
 abbrev pub grid_texts : ℕ → ℕ → ℕ → Texts
@@ -29,19 +29,13 @@ AreRead left texts = (contents : Contents) × AreLeft left contents × (texts �
 
 -- the files of a command: those of the grid that it makes, or those that it reads
 abbrev pub HasFiles : Command → Left → Texts → Type 0
-HasFiles command.Run left texts = AreRead left texts
-HasFiles command.Resume left texts = AreRead left texts
-HasFiles command.Check left texts = AreRead left texts
-HasFiles (command.Route from to second) left texts = AreRead left texts
 HasFiles (command.Generate size seed last_iteration) left texts = texts ≡ grid_texts size seed last_iteration
+HasFiles _ left texts = AreRead left texts
 
 -- what is kept, which is told, where the command goes on from it
 abbrev pub HasKept : Command → Told → Option Kept → Type 0
-HasKept command.Run told kept = Unit {0}
 HasKept command.Resume told kept = told ≡ Some kept
-HasKept command.Check told kept = Unit {0}
-HasKept (command.Route from to second) told kept = Unit {0}
-HasKept (command.Generate size seed last_iteration) told kept = Unit {0}
+HasKept _ told kept = Unit {0}
 
 -- the command reads files
 abbrev pub reads_files : Command → Bool
@@ -88,11 +82,12 @@ is_of_work c status.NothingKept = goes_on c
 is_of_work c status.Foreign = goes_on c
 is_of_work c status.NoWay = looks_for_way c
 
--- What came of a command's work is what its answer says, by its files, where these are told, and by what is kept, where it goes on from that.
+-- What came of a command's work is what its answer says, by its files, where these are told, and by what is kept, where it goes on from that:
+-- of files with a fault, also where that is not told.
 abbrev pub AnswersWork : Command → Left → Status → World → World → Type 0
 AnswersWork c left came old new =
-    (texts : Texts) (kept : Option Kept) (a : Answer) → HasFiles c left texts → HasKept c old.kept kept → IsAnswerTo c texts kept a
-    → Answers a came old new
+    (texts : Texts) (kept : Option Kept) (a : Answer) → HasFiles c left texts
+    → (scenario_fault texts ≡ None → HasKept c old.kept kept) → IsAnswerTo c texts kept a → Answers a came old new
 
 -- Help and refused words are told some text of the program's own, whatever the files hold; and only refused words have the usage told.
 abbrev pub AnswersCase : Case → Left → Status → World → World → Type 0
@@ -113,15 +108,16 @@ status_after whole (Err error.WriteFailed) = status.WriteFault
 status_after whole (Err error.KeepFailed) = status.KeepFault
 status_after whole (Err error.NoMemory) = status.NoMemory
 
--- Why it ended so, by the counts of faults before and now: a write that failed and a keeper that did show in their counts; nothing was read; and
--- a refused scenario is told in the report alone.
+-- Why it ended so, by the counts of faults before and now: a write that failed and a keeper that did show in their counts; nothing was read; a
+-- write that failed lets no keeper stop telling; and why nothing was done is told in the report alone.
 pub record HasCauses (came : Status) (old new : Moment) : Type 0 where
   pub write_later : old.writes ≤ new.writes
   pub keep_later : old.keeps ≤ new.keeps
   pub write : came ≡ status.WriteFault → Rose old.writes new.writes
   pub keep : came ≡ status.KeepFault → Rose old.keeps new.keeps
   pub read : came ≡ status.ReadFault → ⊥
-  pub reports : came ≡ status.Refused → OnlyReports old.world.written new.world.written
+  pub told : came ≡ status.WriteFault → StaysTold old.world.kept new.world.kept
+  pub reports : reports_alone came ≡ true → OnlyReports old.world.written new.world.written
 
 -- the statuses which say that not all was done, where the keeper may be called or may not
 abbrev pub is_fault : Bool → Status → Bool

@@ -90,8 +90,9 @@ kept_by scenario k =
     (memories_after (run_rows_of true scenario) k (memories_at (run_rows_of true scenario) scenario.memories k)))
 
 -- The laws of what is kept: however far a run has come, what is kept is what was kept before it or what it keeps after one of its iterations;
--- whatever is kept, going on from it has one answer; and from what a run keeps after an iteration the rest of the run is done, and nothing
--- else, also of the same run to another last iteration.
+-- whatever is kept, going on from it has one answer; from what a run keeps after an iteration the rest of the run is done, and nothing
+-- else, also of the same run to another last iteration; and however far that has come, what is kept is what it went on from or what the run
+-- keeps after a later iteration, so that a run may be stopped and resumed any number of times.
 pub record ResumesRuns (scenario : ScenarioRows) : Type 0 where
   pub kept : (before : Option Kept) (done rest : List Step) → done ++ rest ≡ all_steps (acts (run_rows_of true scenario) scenario.memories)
       → (kept_after before done ≡ before)
@@ -101,3 +102,7 @@ pub record ResumesRuns (scenario : ScenarioRows) : Type 0 where
   pub tail : (last k : ℕ) (a : Answer) → k ≤ last → Resumes (until scenario last) (Some (kept_by scenario k)) a
       → (a.status ≡ status.Done) × (acts (run_rows_of true (until scenario last)) scenario.memories
       ≡ iterations_effects (run_rows_of true scenario) 0 scenario.memories (suc k) ++ a.effects)
+  pub kept_again : (last k : ℕ) (a : Answer) → k ≤ last → Resumes (until scenario last) (Some (kept_by scenario k)) a
+      → (done rest : List Step) → done ++ rest ≡ all_steps a.effects
+      → (kept_after (Some (kept_by scenario k)) done ≡ Some (kept_by scenario k))
+      ⊎ ((j : ℕ) × (k < j) × (j ≤ last) × (kept_after (Some (kept_by scenario k)) done ≡ Some (kept_by scenario j)))

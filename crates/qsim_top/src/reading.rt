@@ -119,7 +119,8 @@ fn grid_of(command: &Command) -> Option<Grid>
 /// The files of a command: those of the grid that it makes, or all that it reads.
 fn files_of<I: Inputs>(alloc: Global, command: &Command, inputs: &mut I) -> Result<Files, ReadError>
     requires in_range { IsInRange command.now }
-    ensures files { IfOk result (λ files. (texts : Texts) → HasFiles command.now (I.left inputs.old) texts → texts_of files ≡ texts) }
+    ensures files { IfOk result
+        (λ files. (texts : Texts) → HasFiles command.now (I.left inputs.old) texts → texts_of files ≡ texts) }
     ensures read { result ≡ Err ReadError.Failed → Rose (I.faults inputs.old) (I.faults inputs.new) }
     ensures reads { result ≡ Err ReadError.Failed → reads_files command.now ≡ true }
     ensures later { I.faults inputs.old ≤ I.faults inputs.new }

@@ -2,13 +2,15 @@ ghost use Rattle.std.specs.Prelude.{◌≡◌, ◌≤◌, map, ℕ, Bool, false,
 ghost use Rattle.command_line.specs.Cases.{case_of, Work};
 ghost use Rattle.command_line.specs.Commands.{IsInRange};
 ghost use Rattle.edge_files.specs.Causes.{Rose};
+ghost use Rattle.edge_files.specs.Keeping.{StaysTold};
 ghost use Rattle.edge_files.specs.World.{outside};
 ghost use Rattle.iterations.specs.Performed.{moment};
 ghost use Rattle.scenario.specs.Texts.{Texts};
 ghost use Rattle.scenario.specs.FilesToScenario.{ScenarioRows, scenario_fault, scenario_rows};
-ghost use Rattle.qsim_top.specs.Answer.{report, is_of_words, OnlyReports};
+ghost use Rattle.qsim_top.specs.Answer.{report, reports_alone, is_of_words, OnlyReports};
 ghost use Rattle.qsim_top.specs.Came.{uses_keeper, may_keep, AnswersCase, IsCarriedOut};
 ghost use Rattle.qsim_top.specs.Laws.{day_of, IsLawful, FollowsPlans, KeepsConflicts, ReportsRoutes, ResumesRuns};
+ghost use Rattle.qsim_top.specs.Texts.{refused_line};
 
 use crate::answers::Status;
 use crate::laws::know_days;
@@ -18,10 +20,25 @@ use crate::reporting::{refused, report};
 use crate::working::work;
 use command_line::{Asked, Command, read_words};
 use edge_files::{Gate, Inputs, Keeper, Outputs};
-use scenario::Stop;
+use scenario::{ScenarioFault, Stop};
 use std::alloc::{AllocError, Global};
 use std::sync::Wait;
 use std::thread::Threads;
+
+/// Tells the first fault of a scenario.
+fn refuse<O: Outputs, K: Keeper>(
+    alloc: Global,
+    fault: ScenarioFault,
+    outputs: &mut O,
+    keeper: &mut K,
+) -> Status
+    ensures done { IsCarriedOut false (report Status.Refused (refused_line fault)) result
+        (moment (O.written outputs.old) (K.kept keeper.old) (O.faults outputs.old) (K.faults keeper.old))
+        (moment (O.written outputs.new) (K.kept keeper.new) (O.faults outputs.new) (K.faults keeper.new)) }
+    ensures keeper { keeper.new ≡ keeper.old }
+{
+    carry_out(refused(alloc, fault), outputs, keeper)
+}
 
 /// Does the work of a command: all its files are there before any of them is checked.
 fn do_work<R: Threads + Sync, I: Inputs, O: Outputs, K: Keeper>(
@@ -39,7 +56,8 @@ fn do_work<R: Threads + Sync, I: Inputs, O: Outputs, K: Keeper>(
     ensures read { result ≡ Status.ReadFault → Rose (I.faults inputs.old) (I.faults inputs.new) }
     ensures write { result ≡ Status.WriteFault → Rose (O.faults outputs.old) (O.faults outputs.new) }
     ensures keep { result ≡ Status.KeepFault → Rose (K.faults keeper.old) (K.faults keeper.new) }
-    ensures reports { result ≡ Status.Refused → OnlyReports (O.written outputs.old) (O.written outputs.new) }
+    ensures told { result ≡ Status.WriteFault → StaysTold (K.kept keeper.old) (K.kept keeper.new) }
+    ensures reports { reports_alone result ≡ true → OnlyReports (O.written outputs.old) (O.written outputs.new) }
     ensures read_later { I.faults inputs.old ≤ I.faults inputs.new }
     ensures write_later { O.faults outputs.old ≤ O.faults outputs.new }
     ensures keep_later { K.faults keeper.old ≤ K.faults keeper.new }
@@ -49,9 +67,7 @@ fn do_work<R: Threads + Sync, I: Inputs, O: Outputs, K: Keeper>(
 {
     match scenario_for(rt, alloc, &command, inputs) {
         Ok(scenario) => work(rt, alloc, command, scenario, outputs, keeper),
-        Err(NoScenario::Stopped(Stop::Fault(fault))) => {
-            carry_out(refused(alloc, fault), outputs, keeper)
-        }
+        Err(NoScenario::Stopped(Stop::Fault(fault))) => refuse(alloc, fault, outputs, keeper),
         Err(NoScenario::Stopped(Stop::NoMemory)) => Status::NoMemory,
         Err(NoScenario::ReadFailed) => Status::ReadFault,
     }
@@ -69,7 +85,6 @@ fn tell<O: Outputs, K: Keeper>(
     ensures done { IsCarriedOut false (report status (string_bytes text)) result
         (moment (O.written outputs.old) (K.kept keeper.old) (O.faults outputs.old) (K.faults keeper.old))
         (moment (O.written outputs.new) (K.kept keeper.new) (O.faults outputs.new) (K.faults keeper.new)) }
-    ensures refused { result ≡ Status.Refused → ⊥ }
     ensures kept { result ≡ Status.KeepFault → ⊥ }
     ensures keeper { keeper.new ≡ keeper.old }
 {
@@ -103,7 +118,10 @@ pub fn qsim<R: Threads + Wait + Sync, I: Inputs, O: Outputs, K: Keeper, G: Gate>
     ensures write { result ≡ Status.WriteFault → Rose (O.faults outputs.old) (O.faults outputs.new) }
     ensures keep { result ≡ Status.KeepFault → Rose (K.faults keeper.old) (K.faults keeper.new) }
 
-    ensures reports { result ≡ Status.Refused → OnlyReports (O.written outputs.old) (O.written outputs.new) }
+    // A write that failed lets no keeper stop telling, and why nothing was done is told in the report alone.
+    ensures told { result ≡ Status.WriteFault → StaysTold (K.kept keeper.old) (K.kept keeper.new) }
+    ensures reports { reports_alone result ≡ true → OnlyReports (O.written outputs.old) (O.written outputs.new) }
+
     ensures unread { result ≡ Status.ReadFault → outputs.new ≡ outputs.old }
     ensures read_later { I.faults inputs.old ≤ I.faults inputs.new }
     ensures write_later { O.faults outputs.old ≤ O.faults outputs.new }

@@ -1,6 +1,7 @@
 //! Scenarios whose files are made of pieces that come often, and what the program answers to them in a small stack.
 
-use edge_files::{InFile, MemoryInputs, MemoryOutputs, NoKeeper, OpenGate, OutFile};
+use edge_files::{InFile, MemoryInputs, MemoryOutputs, OpenGate, OutFile};
+use keep::MemoryKeeper;
 use qsim_top::{Status, qsim};
 use std::alloc::{AllocError, Global};
 use std::marker::Send;
@@ -101,7 +102,7 @@ fn is_answered<R: Threads + Wait + Sync>(rt: &R, alloc: Global, case: &Case) -> 
     };
     let mut inputs = inputs_of(alloc, case);
     let mut outputs = MemoryOutputs::new(alloc);
-    let mut keeper = NoKeeper::new();
+    let mut keeper = MemoryKeeper::new(alloc);
     let gate = OpenGate::new();
     let status = qsim(
         rt,

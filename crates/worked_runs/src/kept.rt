@@ -8,6 +8,9 @@ use std::sync::Wait;
 use std::thread::Threads;
 use worked_cases::{Case, DRIVE, LINE, WALK, inputs_of, is_written, status_with};
 
+/// How many days a run has.
+const DAYS: u64 = 6;
+
 /// Six days of a person who moves the end of an activity before each of them but the first.
 static MOVING: Case = Case {
     settings: "{\"last_iteration\":5,\"weight_keep\":0,\"weight_time\":1}",
@@ -88,6 +91,42 @@ fn are_rest(alloc: Global, whole: &MemoryOutputs, rest: &MemoryOutputs, first: u
     ) && whole.written(OutFile::Plans) == rest.written(OutFile::Plans)
 }
 
+/// Whether what was written on the way is a front of the whole, and what is left begins so, or nothing is left where this is no text.
+fn is_front(whole: &[u8], front: &[u8], next: Option<&str>) -> bool {
+    match (whole.strip_prefix(front), next) {
+        (Some(rest), Some(next)) => rest.starts_with(next.as_bytes()),
+        (Some(rest), None) => rest.is_empty(),
+        (None, _) => false,
+    }
+}
+
+/// Whether a run of six days whose save of this number failed has written the events and the scores of so many days, and of all of these
+/// but the last the report, as the whole run has.
+fn are_front(alloc: Global, whole: &MemoryOutputs, front: &MemoryOutputs, failed: u64) -> bool {
+    let events = numbered(alloc, "iteration,", failed, "\n");
+    let scores = numbered(alloc, "", failed, ",p1,");
+    let report = numbered(alloc, "iteration,", failed.saturating_sub(1), ",");
+    let is_last = failed == DAYS;
+    is_front(
+        whole.written(OutFile::Events),
+        front.written(OutFile::Events),
+        unless(is_last, events.as_str()),
+    ) && is_front(
+        whole.written(OutFile::Scores),
+        front.written(OutFile::Scores),
+        unless(is_last, scores.as_str()),
+    ) && is_front(
+        whole.written(OutFile::Report),
+        front.written(OutFile::Report),
+        Some(report.as_str()),
+    ) && is_written(front, OutFile::Plans, "")
+}
+
+/// A text, or none.
+fn unless(is_none: bool, text: &str) -> Option<&str> {
+    if is_none { None } else { Some(text) }
+}
+
 /// Whether a run of six days whose save of this number fails stops there, and whether it then goes on behind the save before, to the end
 /// of the whole run.
 fn is_resumed<R: Threads + Wait + Sync>(
@@ -98,10 +137,27 @@ fn is_resumed<R: Threads + Wait + Sync>(
     whole: &MemoryOutputs,
 ) -> bool {
     let mut keeper = failing_keeper(alloc, failing);
-    let (stopped, _) = came_of(rt, alloc, &["qsim", "run"], case, &mut keeper);
+    let (stopped, front) = came_of(rt, alloc, &["qsim", "run"], case, &mut keeper);
     let (resumed, rest) = came_of(rt, alloc, &["qsim", "resume"], case, &mut keeper);
     let first = failing.saturating_sub(1);
-    stopped == Status::KeepFault && resumed == Status::Done && are_rest(alloc, whole, &rest, first)
+    stopped == Status::KeepFault
+        && are_front(alloc, whole, &front, failing)
+        && resumed == Status::Done
+        && are_rest(alloc, whole, &rest, first)
+}
+
+/// Whether a run of six days whose first save fails stops there, and has nothing to go on from.
+fn has_nothing<R: Threads + Wait + Sync>(
+    rt: &R,
+    alloc: Global,
+    case: &Case,
+    whole: &MemoryOutputs,
+) -> bool {
+    let mut keeper = failing_keeper(alloc, 1);
+    let (stopped, front) = came_of(rt, alloc, &["qsim", "run"], case, &mut keeper);
+    stopped == Status::KeepFault
+        && are_front(alloc, whole, &front, 1)
+        && is_refused(rt, alloc, case, &mut keeper, Status::NothingKept, NOTHING)
 }
 
 /// What a run of a case writes that is not stopped.
@@ -111,28 +167,30 @@ fn whole_of<R: Threads + Wait + Sync>(rt: &R, alloc: Global, case: &Case) -> Mem
     whole
 }
 
-/// A run that is stopped at its fourth save.
+/// A run that is stopped at its fourth save, and one that is stopped at its first.
 #[test]
 fn a_stopped_run_goes_on(rt: HostRuntime) {
     let alloc = rt.alloc();
     let whole = whole_of(&rt, alloc, &MOVING);
     assert!(rt; is_resumed(&rt, alloc, &MOVING, 4, &whole));
+    assert!(rt; has_nothing(&rt, alloc, &MOVING, &whole));
 }
 
-/// The first of the later saves behind which a run of short days does not go on as it should; 7 where there is none.
+/// The first of the later saves behind which a run of short days does not go on as it should; one more than there are where there
+/// is none.
 fn first_unlike<R: Threads + Wait + Sync>(rt: &R, alloc: Global) -> u64 {
     let whole = whole_of(rt, alloc, &SHORT);
-    for failing in 2..7 {
+    for failing in 2..DAYS + 1 {
         if !is_resumed(rt, alloc, &SHORT, failing, &whole) {
             return failing;
         }
     }
-    7
+    DAYS + 1
 }
 
 #[test]
 fn runs_go_on_behind_each_save(rt: HostRuntime) {
-    assert_eq!(rt; first_unlike(&rt, rt.alloc()), 7);
+    assert_eq!(rt; first_unlike(&rt, rt.alloc()), DAYS + 1);
 }
 
 /// Whether a run of three days goes on, with more days in its settings, as the run with more days does.

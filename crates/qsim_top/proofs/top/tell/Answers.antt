@@ -12,11 +12,6 @@ returns-clause-done g c =
     (subst (λ (l : List ℕ). IfOk c.report-answer.result (λ (a : Answer). a ≡ report c.args.status l))
     (ap (λ (v : Vec ℕ Global). v.items) c.into_bytes.ensures.value) c.report-answer.ensures.answer)
 
-pub returns-clause-refused : goal.returns-clause-refused
-returns-clause-refused g c =
-    let did = c.carry_out.ensures.done (report c.args.status c.into_bytes.result.items) c.report-answer.ensures.answer in
-    not_of_words c.args.status c.carry_out.result status.Refused c.requires refl refl did.ends
-
 pub returns-clause-kept : goal.returns-clause-kept
 returns-clause-kept g c =
     let did = c.carry_out.ensures.done (report c.args.status c.into_bytes.result.items) c.report-answer.ensures.answer in

@@ -1,19 +1,20 @@
-//! Kept rows as tables.
+//! Kept rows as tables, and what tests ask of any keeper by them. For crates of tests alone.
+#![tactic(auto)]
 
 use edge_files::{Bytes, Keeper, KeptRow};
 use std::alloc::Global;
 
 /// A kept row: whose plan it is, its number, whether it is the chosen one, its score, and its lines.
-pub(crate) struct Kept {
-    pub(crate) person: &'static str,
-    pub(crate) plan: u32,
-    pub(crate) chosen: bool,
-    pub(crate) score: Option<i64>,
-    pub(crate) lines: &'static str,
+pub struct Kept {
+    pub person: &'static str,
+    pub plan: u32,
+    pub chosen: bool,
+    pub score: Option<i64>,
+    pub lines: &'static str,
 }
 
 /// Two plans of one person, of whom the second was tried.
-pub(crate) static TWO: [Kept; 2] = [
+pub static TWO: [Kept; 2] = [
     Kept {
         person: "anna",
         plan: 0,
@@ -31,7 +32,7 @@ pub(crate) static TWO: [Kept; 2] = [
 ];
 
 /// A plan of another person.
-pub(crate) static ONE: [Kept; 1] = [Kept {
+pub static ONE: [Kept; 1] = [Kept {
     person: "otto",
     plan: 2,
     chosen: true,
@@ -40,7 +41,7 @@ pub(crate) static ONE: [Kept; 1] = [Kept {
 }];
 
 /// A text; no bytes where memory is wanting.
-pub(crate) fn bytes_of(alloc: Global, text: &str) -> Bytes {
+pub fn bytes_of(alloc: Global, text: &str) -> Bytes {
     match Vec::from_slice(alloc, text.as_bytes()) {
         Ok(rows) => Bytes { rows },
         Err(_) => Bytes::new(alloc),
@@ -58,7 +59,7 @@ fn row_of(alloc: Global, kept: &Kept) -> KeptRow {
 }
 
 /// The rows of a table; fewer where memory is wanting.
-pub(crate) fn rows_of(alloc: Global, table: &[Kept]) -> Vec<KeptRow> {
+pub fn rows_of(alloc: Global, table: &[Kept]) -> Vec<KeptRow> {
     let mut rows = Vec::new(alloc);
     for kept in table {
         let _ = rows.push(row_of(alloc, kept));
@@ -75,7 +76,7 @@ fn is_row(row: &KeptRow, kept: &Kept) -> bool {
 }
 
 /// Whether these are the rows of a table.
-pub(crate) fn are_rows(rows: &[KeptRow], table: &[Kept]) -> bool {
+pub fn are_rows(rows: &[KeptRow], table: &[Kept]) -> bool {
     if rows.len() != table.len() {
         return false;
     }
@@ -88,28 +89,18 @@ pub(crate) fn are_rows(rows: &[KeptRow], table: &[Kept]) -> bool {
 }
 
 /// Whether a keeper takes the rows of a table.
-pub(crate) fn saves<K: Keeper>(
-    alloc: Global,
-    keeper: &mut K,
-    iteration: u32,
-    table: &[Kept],
-) -> bool {
+pub fn saves<K: Keeper>(alloc: Global, keeper: &mut K, iteration: u32, table: &[Kept]) -> bool {
     keeper.save(iteration, &rows_of(alloc, table)).is_ok()
 }
 
 /// Whether a keeper holds this iteration and the rows of a table, which come behind those of a list.
-pub(crate) fn holds<K: Keeper>(
-    alloc: Global,
-    keeper: &mut K,
-    iteration: u32,
-    table: &[Kept],
-) -> bool {
+pub fn holds<K: Keeper>(alloc: Global, keeper: &mut K, iteration: u32, table: &[Kept]) -> bool {
     let mut rows = Vec::new(alloc);
     keeper.last() == Ok(Some(iteration)) && keeper.load(&mut rows).is_ok() && are_rows(&rows, table)
 }
 
 /// Whether a keeper holds nothing.
-pub(crate) fn holds_nothing<K: Keeper>(alloc: Global, keeper: &mut K) -> bool {
+pub fn holds_nothing<K: Keeper>(alloc: Global, keeper: &mut K) -> bool {
     let mut rows = Vec::new(alloc);
     keeper.last() == Ok(None) && keeper.load(&mut rows).is_ok() && rows.is_empty()
 }

@@ -1,6 +1,6 @@
 -- Which nodes are woken once links have had their turns.
-use Rattle.traffic.proofs.Common.{◌≡◌, ◌≢◌, ℕ, zero, suc, ◌+◌, ◌<◌, ◌≤◌, Bool, true, false, List, [], ◌∷◌, ◌++◌, ◌∙◌, ap, refl, sym, subst, arith, inl, inr, cases_Bool, true≢false}
-use Rattle.traffic.proofs.Common.{eqb, eqb-true, eqb-false, eq-eqb, length, length-set, get_or, get_or-set_same, get_or-set_other, set, lt-ltb, if◌then◌else◌, nat_lt, ◌||◌, Option, None, Some, Setup, link_row}
+use Rattle.traffic.proofs.Common.{◌≡◌, ◌≢◌, ℕ, suc, ◌+◌, ◌<◌, true, false, List, [], ◌∷◌, ◌++◌, ◌∙◌, ap, refl, sym, arith, inl, inr, cases_Bool, true≢false}
+use Rattle.traffic.proofs.Common.{eqb, eqb-true, eqb-false, length, length-set, get_or-set_same, get_or-set_other, set, lt-ltb, nat_lt, Option, None, Some, Setup, link_row}
 use Rattle.traffic.specs.declared.world.Row.{Row}
 use Rattle.calendar.specs.Waking.{wake_of}
 use Rattle.queue_link.specs.Links.{LinkView}

@@ -1,7 +1,6 @@
 -- A part stands for the world at the start of a day when nobody is on its links and nobody waits.
-use Rattle.traffic.proofs.Common.{◌≡◌, ◌≢◌, ℕ, zero, suc, ◌+◌, ◌-◌, ◌<◌, ◌≤◌, false, List, [], ◌∷◌, ◌++◌, ◌∙◌, ap, refl, sym, subst, arith, inl, inr, cases_lt}
-use Rattle.traffic.proofs.Common.{length, length-append, length-map, length-replicate, get_or, get_or-map, get_or_past, map, flat_map, replicate, Option, None, Some, PlanRows, World, Setup, nobody, at_home, world_start, world_from, world_at, person_of, and_parts, ltb-true, nat_lt, ◌&&◌, at, waiter, waiters, numbers, below, LinkState, link_state, VEHICLE_COST, link_row, storage_of, seconds_of, hole_of, holes_at, in_turn}
-use Rattle.std.specs.List.{AllByRecursion as Each}
+use Rattle.traffic.proofs.Common.{◌≡◌, ℕ, zero, suc, ◌+◌, ◌<◌, List, [], ◌∷◌, ◌++◌, ◌∙◌, ap, refl, sym, subst, arith, inl, inr, cases_lt}
+use Rattle.traffic.proofs.Common.{length, length-append, length-map, length-replicate, get_or, get_or-map, map, flat_map, replicate, Option, None, Some, PlanRows, Setup, nobody, at_home, world_start, world_from, world_at, person_of, and_parts, ltb-true, nat_lt, ◌&&◌, at, waiter, waiters, numbers, link_state, VEHICLE_COST, link_row, hole_of, holes_at, in_turn}
 use Rattle.std.proofs.Math.Seq.{get_or-append_seam}
 use Rattle.std.proofs.lemmas.List.{get_or-replicate, get_or_default, get_or_append_left}
 use Rattle.fixed_flow.specs.Flow.{raised_times}
@@ -9,7 +8,6 @@ use Rattle.rows.specs.declared.network.LinkRow.{LinkRow}
 use Rattle.rows.specs.declared.settings.Dwelling.{Dwelling}
 use Rattle.rows.specs.declared.settings.TrafficSettings.{TrafficSettings}
 use Rattle.traffic.specs.declared.stage.Stage.TheVariants.{Queue, Buffer}
-use Rattle.traffic.specs.declared.world.Person.{Person}
 use Rattle.traffic.specs.declared.world.Row.{Row}
 use Rattle.traffic.specs.declared.world.Waiter.{Waiter}
 use Rattle.town.specs.declared.day_input.DayInput.{DayInput}
@@ -23,7 +21,7 @@ use Rattle.node_move.specs.NodeStates.{no_link}
 use Rattle.link_seconds.specs.Seconds.{HaveLines, line_at, lists_at}
 use Rattle.law_waking.specs.Resting.{Rests, sleeps_to}
 use Rattle.node_seconds.specs.Networks.{lane}
-use Rattle.part_links.specs.Links.{IsLink, LinksStand, LinesStand, AreAsleep, lies_on}
+use Rattle.part_links.specs.Links.{LinksStand, LinesStand, AreAsleep, lies_on}
 use Rattle.part_places.specs.declared.places.Places.{Places}
 use Rattle.part_places.specs.Taking.{AreTaken, empty}
 use Rattle.plain_day.proofs.Numbers.{measured}
@@ -31,7 +29,7 @@ use Rattle.person_moves.proofs.Lists.{passes_at}
 use Rattle.rows.specs.Networks.{is_link}
 use Rattle.law_parts_of_days.specs.Beginning.{row_at, AreFresh}
 use Rattle.law_parts_of_days.specs.Settling.{taking}
-use Rattle.law_parts_of_days.proofs.Taken.{AreAlike, taken_as}
+use Rattle.law_parts_of_days.proofs.Taken.{taken_as}
 
 -- NOBODY WAITS
 flat_none : (f : ℕ → List Waiter) (k n : ℕ) → ((i : ℕ) → i < k + n → f i ≡ []) → flat_map f (numbers k n) ≡ []

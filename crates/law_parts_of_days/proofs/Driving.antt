@@ -1,10 +1,8 @@
 -- What the turns of links leave of the places, the nodes and the lines of a part.
-use Rattle.traffic.proofs.Common.{◌≡◌, ◌≢◌, ℕ, ◌+◌, ◌<◌, ◌≤◌, Bool, true, false, List, [], ◌∷◌, ◌∙◌, ap, refl, sym, subst, arith, inl, inr, cases_Bool, length, length-map, Option, Some}
-use Rattle.traffic.proofs.Common.{World, Setup, Phase, LinkState, at, through, world_at, link_row, link_of_stop, turns_in, after, All-get_or, plan_rows, waiters}
+use Rattle.traffic.proofs.Common.{◌≡◌, ◌≢◌, ℕ, ◌+◌, ◌<◌, ◌≤◌, false, List, [], ◌∙◌, ap, sym, subst, arith, inl, inr, cases_Bool, length, length-map, Option, Some}
+use Rattle.traffic.proofs.Common.{World, Setup, Phase, LinkState, at, through, world_at, link_row, link_of_stop, turns_in, after, All-get_or, plan_rows}
 use Rattle.events.specs.declared.event.Phase.TheVariants as phase
-use Rattle.limits.specs.declared.TheConstants.{MAX_PERSONS}
 use Rattle.traffic.specs.declared.stage.Stage.TheVariants.{Queue, Buffer}
-use Rattle.traffic.specs.declared.world.Row.{Row}
 use Rattle.traffic.specs.declared.world.Waiter.{Waiter}
 use Rattle.calendar.specs.Waking.{wake_of}
 use Rattle.law_in_range.specs.Rows.{IsFitWorld}
@@ -21,7 +19,7 @@ use Rattle.part_places.specs.declared.places.Places.{Places}
 use Rattle.part_places.specs.Taking.{AreTaken}
 use Rattle.law_parts_of_days.specs.Settling.{taking, queued_in, settled, wake_ends}
 use Rattle.law_parts_of_days.proofs.Worlds.{fit_setup, phases_fit, phases_in_one}
-use Rattle.law_parts_of_days.proofs.Taken.{HasLeft, has_left, settled_is, taken_as}
+use Rattle.law_parts_of_days.proofs.Taken.{has_left, settled_is, taken_as}
 use Rattle.law_parts_of_days.proofs.Awaited.{not_woken}
 use Rattle.law_parts_of_days.proofs.Waiting.{nodes_keep_waiters, lines_short}
 

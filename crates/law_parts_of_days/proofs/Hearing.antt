@@ -1,10 +1,8 @@
 -- The persons of a part hear what the turns of others tell.
-use Rattle.traffic.proofs.Common.{◌≡◌, ℕ, ◌+◌, ◌<◌, List, [], ◌∷◌, ◌∙◌, ap, refl, sym, subst, length, flat_map, Setup, World, told, run, persons_after}
+use Rattle.traffic.proofs.Common.{◌≡◌, ℕ, List, [], ◌∙◌, ap, sym, length, flat_map, Setup, World, told, run, persons_after}
 use Rattle.traffic.specs.declared.moves.Move.{Move}
 use Rattle.traffic.specs.declared.moves.Occurrence.{Occurrence}
-use Rattle.traffic.specs.declared.world.Hole.{Hole}
 use Rattle.traffic.specs.declared.world.Person.{Person}
-use Rattle.traffic.specs.declared.world.Row.{Row}
 use Rattle.law_in_range.specs.Rows.{IsFitWorld}
 use Rattle.law_in_range.specs.Setups.{counts_in}
 use Rattle.town.specs.declared.day_input.DayInput.{DayInput}

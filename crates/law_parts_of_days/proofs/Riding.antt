@@ -1,6 +1,6 @@
 -- On which link a person rides when a day ends, by what stands on the links of a part.
-use Rattle.traffic.proofs.Common.{◌≡◌, ℕ, zero, suc, ◌+◌, ◌<◌, ◌≤◌, Bool, true, false, List, [], ◌∷◌, ◌++◌, ◌∙◌, ap, refl, sym, subst, arith, inl, inr, cases_Bool, cases_lt}
-use Rattle.traffic.proofs.Common.{length, length-set, get_or, get_or-set_same, get_or-set_other, set, filter, All, All-from_recursion, recursion_from_All, lt-ltb, ltb-true, ltb-false, eqb, eqb-true, eqb-false, eq-eqb, sum_by-cons, if◌then◌else◌, nat_lt, VehicleId, World, Setup, LinkState, link_state, world_at, person_of, at, on, rank, listed, listed_in, IsListed, link_of_vehicle, Mode, Act, act_at, leg_at, mode_of_leg, stuck_at, stranded, keyed, end_events, phase_code, Event, nobody, numbers, below, flat_map}
+use Rattle.traffic.proofs.Common.{◌≡◌, ℕ, zero, suc, ◌+◌, ◌<◌, ◌≤◌, true, List, [], ◌∷◌, ◌++◌, ◌∙◌, ap, refl, sym, subst, arith, inl, inr, cases_Bool, cases_lt}
+use Rattle.traffic.proofs.Common.{length, length-set, get_or, get_or-set_same, get_or-set_other, set, filter, recursion_from_All, lt-ltb, eqb, eqb-true, eqb-false, eq-eqb, sum_by-cons, if◌then◌else◌, nat_lt, VehicleId, World, Setup, LinkState, world_at, person_of, at, on, rank, listed, IsListed, link_of_vehicle, Mode, Act, act_at, leg_at, mode_of_leg, stuck_at, stranded, keyed, end_events, phase_code, Event, nobody, numbers, below, flat_map}
 use Rattle.std.specs.List.{AllByRecursion as Each}
 use Rattle.std.proofs.lemmas.List.Elements.{All-from_get_or}
 use Rattle.traffic.specs.declared.moves.Occurrence.{Occurrence}
@@ -21,7 +21,6 @@ use Rattle.law_partitions.proofs.Spare.{listed-cons, listed-append}
 use Rattle.law_sound_setups.specs.Setups.{IsSoundSetup}
 use Rattle.parts.specs.Owners.{link_of_rider}
 use Rattle.queue_link.specs.Links.{LinkView, all_rows}
-use Rattle.link_seconds.specs.Seconds.{lists_at}
 use Rattle.node_move.specs.NodeStates.{no_link}
 use Rattle.node_seconds.specs.Networks.{lane}
 use Rattle.part_links.specs.Links.{LinksStand}

@@ -1,17 +1,17 @@
 -- Persons land and leave, departures start, and whoever sets out comes to a line or to a link.
-use Rattle.traffic.proofs.Common.{◌≡◌, ◌≢◌, ℕ, zero, suc, ◌+◌, ◌<◌, ◌≤◌, Bool, true, false, List, [], ◌∷◌, ◌++◌, ◌∙◌, ap, refl, sym, subst, arith, inl, inr, cases_lt, true≢false}
-use Rattle.traffic.proofs.Common.{length, get_or, get_or_past, append-nil, append_assoc, filter, filter-append, eqb, eq-eqb, ne_eqb, Option, None, Some, Event, Setup, World, person_of, nobody, through, world_at, told_in, at, on, rank, holes_at, All}
+use Rattle.traffic.proofs.Common.{◌≡◌, ◌≢◌, ℕ, ◌+◌, ◌<◌, true, false, List, [], ◌∷◌, ◌++◌, ◌∙◌, ap, refl, sym, subst, arith, inl, inr, cases_lt, true≢false}
+use Rattle.traffic.proofs.Common.{length, get_or, get_or_past, append-nil, append_assoc, filter, filter-append, eqb, eq-eqb, ne_eqb, Option, None, Some, Event, Setup, World, person_of, nobody, through, world_at, told_in, at, on, rank, holes_at}
 use Rattle.std.specs.List.{AllByRecursion as Each}
 use Rattle.events.specs.declared.event.Phase.TheVariants as phase
 use Rattle.traffic.specs.declared.stage.Stage.{Stage}
-use Rattle.traffic.specs.declared.stage.Stage.TheVariants.{Queue, Buffer, Wait, Bay}
+use Rattle.traffic.specs.declared.stage.Stage.TheVariants.{Wait}
 use Rattle.traffic.specs.declared.world.Person.{Person}
 use Rattle.traffic.specs.declared.world.Row.{Row}
 use Rattle.traffic.specs.declared.world.Waiter.{Waiter}
 use Rattle.calendar.specs.Due.{Due, HasNone, due_at}
-use Rattle.calendar.specs.Waking.{wake_of, is_woken, woken}
+use Rattle.calendar.specs.Waking.{is_woken, woken}
 use Rattle.law_in_range.specs.Rows.{IsFitWorld}
-use Rattle.law_in_range.specs.Setups.{IsFitSetup, counts_in}
+use Rattle.law_in_range.specs.Setups.{counts_in}
 use Rattle.law_sleeping.specs.Marks.{before_nodes}
 use Rattle.law_in_range.specs.Setups.{HaveFittingPlans}
 use Rattle.town.specs.declared.day_input.DayInput.{DayInput}
@@ -25,9 +25,8 @@ use Rattle.part_persons.specs.Phases.{joined}
 use Rattle.part_persons.proofs.Joining.{AtStart, entered_through, fit_as}
 use Rattle.part_links.specs.Links.{LinksStand, LinesStand, AreAsleep}
 use Rattle.part_lines.specs.Coming.{CanAllJoin, joined_lines}
-use Rattle.part_lines.proofs.News.{WaitBefore, many_through}
-use Rattle.part_lines.proofs.Ready.{HaveStops, can_all_join, lines_have}
-use Rattle.part_lines.proofs.Standing.{after_early, stays_early}
+use Rattle.part_lines.proofs.Ready.{can_all_join, lines_have}
+use Rattle.part_lines.proofs.Standing.{stays_early}
 use Rattle.part_lines.proofs.Stops.{have_stops}
 use Rattle.part_lines.proofs.Together.{IsSetOut, set_out}
 use Rattle.part_starts.specs.Starting.{all_started, woken_for_all}

@@ -1,9 +1,8 @@
 -- The places of links over the phases of a second.
-use Rattle.traffic.proofs.Common.{◌≡◌, ◌≢◌, ℕ, zero, suc, ◌+◌, ◌-◌, ◌<◌, ◌≤◌, Bool, true, false, List, [], ◌∷◌, ◌++◌, ◌∙◌, ap, refl, sym, subst, arith, inl, inr, cases_Bool}
+use Rattle.traffic.proofs.Common.{◌≡◌, ℕ, zero, suc, ◌+◌, ◌-◌, ◌<◌, ◌≤◌, Bool, true, false, List, [], ◌∷◌, ◌++◌, ◌∙◌, ap, refl, sym, subst, arith, inl, inr, cases_Bool}
 use Rattle.traffic.proofs.Common.{cond, eqb, eqb-true, eqb-false, eq-eqb, ne_eqb, nat_tests, lt-ltb, length, get_or, map, filter, replicate, if◌then◌else◌, nat_lt, nat_le, Option, Some, None, length-append, filter-append, map-append, append-nil, sum_by-cons}
 use Rattle.traffic.proofs.Common.{World, Setup, link_row, at, holes_at, taken_at, in_force, hole_of, hole_seconds, seconds_of, storage_of, turns_in, turns_of, after, node_turns}
 use Rattle.std.proofs.Common.{take}
-use Rattle.std.specs.Prelude.{max}
 use Rattle.events.specs.declared.event.Phase.TheVariants as phase
 use Rattle.traffic.specs.declared.node_views.OutLink.{OutLink}
 use Rattle.traffic.specs.declared.stage.Stage.TheVariants.{Queue}
@@ -15,12 +14,12 @@ use Rattle.law_sleeping.proofs.Places.{links_free, links_keep_places}
 use Rattle.calendar.specs.Due.{due_at}
 use Rattle.queue_link.specs.Links.{LinkView}
 use Rattle.node_move.specs.Spaces.{places_in}
-use Rattle.node_seconds.specs.Networks.{lane, is_among, AreIn, AreOnce}
+use Rattle.node_seconds.specs.Networks.{is_among, AreIn, AreOnce}
 use Rattle.node_seconds.proofs.Lanes.{in_at, among_front}
 use Rattle.part_links.proofs.Standing.{taken_one}
 use Rattle.part_links.proofs.Numbers.{among_own, among_other}
 use Rattle.part_places.specs.declared.places.Places.{Places}
-use Rattle.part_places.specs.Taking.{Taking, AreTaken, places_of, still, times, later}
+use Rattle.part_places.specs.Taking.{Taking, AreTaken, still, times, later}
 use Rattle.law_parts_of_days.specs.Settling.{taking, queued_in, settled}
 
 -- PLACES THAT ARE TAKEN ALIKE

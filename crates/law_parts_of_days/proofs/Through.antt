@@ -1,6 +1,6 @@
 -- A second in three steps: the phases of persons and departures, that of the nodes, and that of the links.
 use Rattle.traffic.proofs.Common.{◌≡◌, ℕ, List, [], ◌∷◌, ◌++◌, ◌∙◌, ap, refl, sym, append-nil, append_assoc}
-use Rattle.traffic.proofs.Common.{Event, Phase, Setup, World, phases, second, through, told_in, turns_in, after, events_in}
+use Rattle.traffic.proofs.Common.{Event, Phase, Setup, World, second, through, told_in, turns_in, after, events_in}
 use Rattle.events.specs.declared.event.Phase.TheVariants as phase
 use Rattle.traffic.specs.Day.{second_events}
 use Rattle.law_sleeping.specs.Marks.{before_nodes, before_links}

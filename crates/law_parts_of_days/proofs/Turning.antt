@@ -1,10 +1,10 @@
 -- In a town each vehicle on a link can stop at its stops, and these lie on their links.
-use Rattle.traffic.proofs.Common.{◌≡◌, ℕ, ◌+◌, ◌<◌, ◌≤◌, Bool, true, false, List, [], ◌∷◌, ◌∙◌, ap, refl, sym, subst, arith, length, All, All-get_or, recursion_from_All}
-use Rattle.traffic.proofs.Common.{and_parts, ltb-true, eqb, eqb-true, eq-eqb, VehicleId, StopCall, World, Setup, Departure, VehicleState, at, on, nat_lt, LinkState, link_state, link_of_stop, departure, next_call, calls_on, IsOwn, IsSoundRow, Sound}
+use Rattle.traffic.proofs.Common.{◌≡◌, ℕ, ◌<◌, true, false, List, [], ◌∙◌, ap, sym, subst, arith, length, All-get_or, recursion_from_All}
+use Rattle.traffic.proofs.Common.{and_parts, ltb-true, eqb, eqb-true, eq-eqb, VehicleId, StopCall, World, Setup, Departure, VehicleState, at, on, nat_lt, LinkState, link_of_stop, departure, next_call, calls_on, IsOwn, IsSoundRow, Sound}
 use Rattle.std.specs.List.{AllByRecursion as Each}
 use Rattle.events.specs.declared.event.VehicleId.TheVariants as vehicle
 use Rattle.traffic.specs.declared.stage.Stage.{Stage}
-use Rattle.traffic.specs.declared.stage.Stage.TheVariants.{Queue, Buffer, Wait, Bay}
+use Rattle.traffic.specs.declared.stage.Stage.TheVariants.{Queue, Wait, Bay}
 use Rattle.traffic.specs.declared.world.Row.{Row}
 use Rattle.traffic.proofs.Each.{each_filter}
 use Rattle.traffic.proofs.Sublists.{on_is}
@@ -13,7 +13,7 @@ use Rattle.law_in_range.proofs.Sizes.{call_offset}
 use Rattle.law_in_range.proofs.Telling.{call_fit}
 use Rattle.law_sound_setups.specs.Consistent.{AreAtStops, IsConsistentSetup}
 use Rattle.queue_link.specs.Links.{LinkView}
-use Rattle.link_seconds.specs.Seconds.{CanStop, IsReady, IsThere, lists_at}
+use Rattle.link_seconds.specs.Seconds.{CanStop, IsReady, IsThere}
 use Rattle.node_seconds.specs.Networks.{lane}
 use Rattle.part_links.specs.Links.{LinksStand, CanTurn, StopsThere, lies_on}
 use Rattle.part_links.proofs.Standing.{link_is}

@@ -1,13 +1,11 @@
 -- Who waits at stops while nodes have their turns, and how many do.
 use Rattle.traffic.proofs.Common.{◌≡◌, ℕ, zero, suc, ◌+◌, ◌<◌, ◌≤◌, Bool, List, [], ◌∷◌, ◌++◌, ◌∙◌, ap, refl, sym, subst, arith, inl, inr, cases_Bool, cases_lt}
-use Rattle.traffic.proofs.Common.{length, length-append, get_or, All, All-get_or, filter, flat_map, if◌then◌else◌, eqb, eq-eqb, Leg, Act, World, Setup, person_of, turns_in, turns_of, moves_of, after, node_turns, OnePlace}
+use Rattle.traffic.proofs.Common.{length, length-append, filter, flat_map, eqb, eq-eqb, Leg, Act, World, Setup, person_of, turns_in, turns_of, moves_of, after, node_turns, OnePlace}
 use Rattle.traffic.specs.declared.moves.Move.TheVariants.{Transfer, Remove, SetFrontSince}
-use Rattle.traffic.proofs.Common.{run, done, told, person_after_all, entered, aborts, strands, below, numbers, waits, waits_on, waiter, waiters, leg_at, act_after, link_of_stop, among, in_turn, comes_first}
-use Rattle.std.specs.List.{AllByRecursion as Each}
+use Rattle.traffic.proofs.Common.{done, person_after_all, entered, aborts, below, numbers, waits, waits_on, waiter, waiters, leg_at, act_after, link_of_stop, among, in_turn, comes_first}
 use Rattle.std.proofs.lemmas.List.Elements.{All-from_get_or}
 use Rattle.events.specs.declared.event.Phase.TheVariants as phase
 use Rattle.rows.specs.declared.plan.Leg.TheVariants as leg
-use Rattle.rows.specs.declared.schedule.StopRow.{StopRow}
 use Rattle.limits.specs.declared.TheConstants.{MAX_PERSONS}
 use Rattle.traffic.specs.declared.stage.Stage.TheVariants.{Buffer}
 use Rattle.traffic.specs.declared.world.Person.{Person}
@@ -20,7 +18,7 @@ use Rattle.traffic.proofs.NodeWalk.{NodeCases, node_walk}
 use Rattle.traffic.proofs.Sublists.{person-done}
 use Rattle.traffic.proofs.Walks.{phase_keeps}
 use Rattle.traffic.proofs.Common.{recursion_from_All}
-use Rattle.law_one_place.proofs.Places.{InOne, IsOff, rides, among_riders, rides_few}
+use Rattle.law_one_place.proofs.Places.{InOne, IsOff, rides, rides_few}
 use Rattle.law_one_place.proofs.Boarding.{strands_told}
 use Rattle.law_one_place.proofs.Turns.{nodes_keep}
 use Rattle.link_seconds.specs.Seconds.{AreShort, line_at}

@@ -1,6 +1,6 @@
 -- What holds of the worlds of a day in a town: they are fit and sound, everybody is in one place, and who waits does so since before.
-use Rattle.traffic.proofs.Common.{◌≡◌, ℕ, zero, suc, ◌+◌, ◌<◌, List, [], length, ap, sym, subst, arith, add-one, length-map, get_or-map}
-use Rattle.traffic.proofs.Common.{Phase, PlanRows, World, Setup, nobody, at_home, world_start, world_from, world_at, through, phases, second, person_of, OnePlace, Sound}
+use Rattle.traffic.proofs.Common.{ℕ, zero, suc, ◌<◌, List, [], length, sym, subst, arith, add-one, length-map, get_or-map}
+use Rattle.traffic.proofs.Common.{Phase, PlanRows, Setup, nobody, at_home, world_start, world_from, world_at, through, phases, second, Sound}
 use Rattle.traffic.specs.declared.world.Person.{Person}
 use Rattle.law_in_range.specs.Rows.{IsFitWorld}
 use Rattle.law_in_range.specs.Setups.{IsFitSetup, counts_in}

@@ -1,5 +1,5 @@
 -- How the persons of a part stand for those of a world.
-use Rattle.std.specs.Prelude.{◌≡◌, ℕ, ◌<◌, ◌≤◌, List, [], length}
+use Rattle.std.specs.Prelude.{◌≡◌, ℕ, ◌<◌, ◌≤◌, [], length}
 use Rattle.law_in_range.specs.Rows.{IsFitWorld}
 use Rattle.law_in_range.specs.Setups.{counts_in}
 use Rattle.town.specs.declared.day_input.DayInput.{DayInput}

@@ -1,9 +1,7 @@
 -- The part at the start of a day.
-use Rattle.traffic.proofs.Common.{◌≡◌, ℕ, zero, ◌+◌, ◌<◌, ◌≤◌, List, [], ◌∷◌, ◌++◌, ◌∙◌, ap, refl, sym, subst, arith, length, length-replicate, get_or, replicate, Option, None, World, Setup, world_start, world_at, into}
+use Rattle.traffic.proofs.Common.{◌≡◌, ℕ, ◌+◌, ◌<◌, List, [], ◌∷◌, ◌++◌, ◌∙◌, ap, refl, sym, subst, length, length-replicate, get_or, replicate, Option, None, World, Setup, world_start, world_at, into}
 use Rattle.law_in_range.specs.Rows.{IsFitWorld}
 use Rattle.law_in_range.specs.Setups.{counts_in}
-use Rattle.traffic.specs.declared.world.Person.{Person}
-use Rattle.traffic.specs.declared.world.Row.{Row}
 use Rattle.traffic.specs.declared.world.Waiter.{Waiter}
 use Rattle.town.specs.declared.day_input.DayInput.{DayInput}
 use Rattle.town.specs.Views.{setup}
@@ -14,11 +12,10 @@ use Rattle.queue_link.specs.Links.{LinkView, fresh}
 use Rattle.queue_link.specs.Numbers.{IsMeasured, numbers_of}
 use Rattle.part_nodes.specs.declared.network.Network.{Network}
 use Rattle.part_links.specs.Links.{LinesStand}
-use Rattle.part_persons.specs.declared.persons.Persons.{Persons}
 use Rattle.part_persons.specs.Dues.{AreFollowedIn}
 use Rattle.part_places.specs.Taking.{AreTaken, empty}
 use Rattle.law_parts_of_days.specs.Beginning.{AreFresh}
-use Rattle.law_parts_of_days.specs.Persons.{PersonsStand, AreDeparting}
+use Rattle.law_parts_of_days.specs.Persons.{AreDeparting}
 use Rattle.law_parts_of_days.proofs.Beginning.{links_begin, wakes_begin, places_begin, lines_begin, buffers_begin, begins_with, nodes_of, stops_of, next_fresh, measured_row}
 use Rattle.part_day.specs.declared.part.Part.{Part}
 use Rattle.part_day.specs.Stands.{Stands, NetworkStands}

@@ -1,9 +1,7 @@
 -- What the end of a day tells, by the links of a part.
-use Rattle.traffic.proofs.Common.{◌≡◌, ℕ, ◌+◌, ◌<◌, List, [], ◌∷◌, ◌++◌, ◌∙◌, ap, refl, sym, arith, length, length-map, length-replicate, get_or, replicate, flat_map, below}
-use Rattle.traffic.proofs.Common.{World, Setup, VehicleId, Event, PlanRows, plan_rows, person_of, world_at, through, end_events}
+use Rattle.traffic.proofs.Common.{◌≡◌, ℕ, ◌<◌, List, [], ◌∷◌, ◌++◌, ◌∙◌, ap, refl, sym, arith, length, length-map, length-replicate, get_or, replicate, flat_map, below}
+use Rattle.traffic.proofs.Common.{Event, plan_rows, world_at, through, end_events}
 use Rattle.traffic.specs.declared.world.Person.{Person}
-use Rattle.traffic.specs.declared.world.Place.TheVariants.{Riding}
-use Rattle.traffic.specs.Persons.{link_of_vehicle}
 use Rattle.law_in_range.specs.Rows.{IsFitWorld}
 use Rattle.law_in_range.specs.Setups.{counts_in, HaveFittingPlans}
 use Rattle.town.specs.declared.day_input.DayInput.{DayInput}

@@ -1,6 +1,6 @@
 -- The vehicles of a link by their places, and links by theirs.
 use Rattle.std.proofs.Math.Seq.{take-append_seam}
-use Rattle.traffic.proofs.Common.{◌≡◌, ℕ, zero, suc, ◌+◌, ◌<◌, ◌≤◌, List, [], ◌∷◌, ◌∙◌, ap, sym, refl, arith, drop, length, get_or, Option, None, Some, ◌++◌, take}
+use Rattle.traffic.proofs.Common.{◌≡◌, ℕ, zero, suc, ◌+◌, ◌<◌, ◌≤◌, List, [], ◌∷◌, ◌∙◌, ap, sym, refl, arith, drop, length, get_or, None, Some, ◌++◌, take}
 use Rattle.traffic.specs.declared.world.Row.{Row}
 use Rattle.traffic.specs.Vehicles.{VehicleState}
 use Rattle.queue_link.specs.Links.{LinkView, all_rows, vehicle_at}

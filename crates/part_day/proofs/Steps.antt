@@ -1,5 +1,5 @@
 -- The part stands for the worlds of a second, step after step.
-use Rattle.traffic.proofs.Common.{◌≡◌, ◌≢◌, ℕ, ◌+◌, ◌<◌, ◌≤◌, false, List, [], ◌∷◌, ◌++◌, ◌∙◌, ap, refl, sym, subst, arith, length, length-set, get_or, nobody, flat_map, Option, None, Some, Event, World, Setup, world_at, through, turns_in, moves_of, events_in, after, run, told, persons_after, at, holes_at, link_row, second, phases, into, world_start, world_from, add-one}
+use Rattle.traffic.proofs.Common.{◌≡◌, ◌≢◌, ℕ, ◌+◌, ◌<◌, ◌≤◌, false, List, [], ◌∷◌, ◌++◌, ◌∙◌, ap, refl, sym, subst, length, length-set, get_or, nobody, flat_map, Option, None, Some, Event, World, Setup, world_at, turns_in, moves_of, after, told, persons_after, second, phases, into, world_start, world_from, add-one}
 use Rattle.events.specs.declared.event.Phase.TheVariants as phase
 use Rattle.traffic.specs.declared.moves.Occurrence.{Occurrence}
 use Rattle.traffic.specs.declared.stage.Stage.TheVariants.{Queue, Buffer}
@@ -17,13 +17,11 @@ use Rattle.queue_link.specs.Links.{LinkView}
 use Rattle.part_nodes.specs.declared.network.Network.{Network}
 use Rattle.part_places.specs.declared.places.Places.{Places}
 use Rattle.part_places.specs.Taking.{Taking, AreTaken}
-use Rattle.part_persons.specs.declared.persons.Persons.{Persons}
 use Rattle.part_persons.specs.Dues.{AreFollowedIn}
 use Rattle.part_lines.specs.Coming.{CanAllJoin, with_one, joined_lines, came}
 use Rattle.link_seconds.specs.Seconds.{line_at}
 use Rattle.part_links.specs.Links.{LinksStand, LinesStand, AreAsleep}
 use Rattle.part_starts.specs.Starting.{all_started, woken_for_all}
-use Rattle.law_parts_of_days.specs.Persons.{PersonsStand, AreDeparting}
 use Rattle.law_parts_of_days.specs.Settling.{taking, queued_in, settled, wake_ends}
 use Rattle.law_parts_of_days.proofs.SettingOut as setting
 use Rattle.law_parts_of_days.proofs.SettingOut.{HasSetOut}

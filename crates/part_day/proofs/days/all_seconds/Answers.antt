@@ -1,4 +1,4 @@
-use Rattle.std.proofs.Common.{◌∙◌, refl}
+use Rattle.std.proofs.Common.{refl}
 use Rattle.town.specs.Views.{setup}
 use Rattle.traffic.specs.Day.{world_start, world_at}
 use Rattle.plain_day.proofs.Phasing.{events_more}

@@ -1,4 +1,4 @@
-use Rattle.std.proofs.Common.{ℕ, List, ◌<◌, ◌≡◌, ◌++◌, ◌∙◌, ap, sym, subst, take, drop, length, arith}
+use Rattle.std.proofs.Common.{ℕ, List, ◌<◌, ◌≡◌, ◌++◌, sym, subst, take, drop, length, arith}
 use Rattle.traffic.specs.declared.world.Waiter.{Waiter}
 use Rattle.queue_link.specs.Links.{LinkView}
 use Rattle.node_seconds.specs.Networks.{lane}

@@ -1,5 +1,4 @@
-use Rattle.std.proofs.Common.{◌∙◌, ap, sym, subst, refl, length, ◌++◌}
-use Rattle.law_in_range.specs.Setups.{counts_in}
+use Rattle.std.proofs.Common.{◌∙◌, refl, length}
 use Rattle.law_sleeping.specs.Marks.{before_nodes}
 use Rattle.town.specs.Views.{setup}
 use Rattle.traffic.specs.Day.{world_at}

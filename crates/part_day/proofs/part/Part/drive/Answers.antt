@@ -1,4 +1,4 @@
-use Rattle.std.proofs.Common.{◌∙◌, ℕ, List, [], ◌∷◌, ap, sym, subst, refl, length}
+use Rattle.std.proofs.Common.{◌∙◌, List, [], ◌∷◌, ap, sym, subst, refl, length}
 use Rattle.rows.specs.declared.settings.Dwelling.{Dwelling}
 use Rattle.queue_link.specs.Links.{LinkView}
 use Rattle.part_links.specs.Links.{AreAsleep}

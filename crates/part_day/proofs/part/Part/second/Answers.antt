@@ -1,4 +1,4 @@
-use Rattle.std.proofs.Common.{◌∙◌, ◌+◌, subst}
+use Rattle.std.proofs.Common.{◌+◌, subst}
 use Rattle.town.specs.Views.{setup}
 use Rattle.traffic.specs.Rows.{World}
 use Rattle.traffic.specs.Day.{world_at}

@@ -1,11 +1,10 @@
-use Rattle.std.proofs.Common.{◌≡◌, ◌∙◌, ap, sym, subst, refl, length, arith, ◌+◌}
+use Rattle.std.proofs.Common.{◌∙◌, ap, refl, arith, ◌+◌}
 use Rattle.traffic.specs.Day.{world_at}
 use Rattle.town.specs.Views.{setup}
 use Rattle.law_in_range.proofs.Days.{one_each}
-use Rattle.part_lines.specs.Coming.{CanAllJoin}
 use Rattle.part_starts.specs.Starting.{all_started, woken_for_all}
 use Rattle.part_day.proofs.Steps.{can_come, set_out_stands}
-use Rattle.law_parts_of_days.proofs.SettingOut.{HasSetOut, told_is}
+use Rattle.law_parts_of_days.proofs.SettingOut.{told_is}
 use Rattle.part_day.proofs.part.Part.set_out.Goals as goal
 
 pub start_departures-requires-clause-departures : goal.start_departures-requires-clause-departures

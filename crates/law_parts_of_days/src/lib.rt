@@ -1,0 +1,75 @@
+//! The laws by which a part that holds a network makes the day of `traffic`: what the phases of a second change, so that the part looks
+//! only at those whom they concern. Each is the contract of a call that does nothing.
+#![tactic(auto)]
+
+ghost use Rattle.std.specs.Prelude.{◌≡◌, ◌≢◌, ℕ, ◌+◌, ◌<◌, true, List};
+ghost use Rattle.std.specs.Prelude.{[], ◌∷◌, ◌++◌, length, get_or, replicate, Option, Some};
+ghost use Rattle.events.specs.declared.event.Event.{Event};
+ghost use Rattle.events.specs.declared.event.Phase.TheVariants as phase;
+ghost use Rattle.events.specs.declared.event.VehicleId.{VehicleId};
+ghost use Rattle.calendar.specs.Waking.{wake_of};
+ghost use Rattle.law_in_range.specs.Rows.{Counts, IsFitWorld};
+ghost use Rattle.law_sleeping.specs.Marks.{before_nodes, before_links};
+ghost use Rattle.law_sound_setups.specs.Setups.{IsSoundSetup};
+ghost use Rattle.node_seconds.specs.Networks.{lane, is_among};
+ghost use Rattle.part_links.specs.Links.{LinksStand, LinesStand};
+ghost use Rattle.queue_link.specs.Links.{LinkView};
+ghost use Rattle.traffic.specs.declared.stage.Stage.TheVariants.{Queue};
+ghost use Rattle.traffic.specs.declared.world.Place.TheVariants.{Riding};
+ghost use Rattle.traffic.specs.declared.world.Waiter.{Waiter};
+ghost use Rattle.traffic.specs.Rows.{World, at, holes_at, person_of};
+ghost use Rattle.traffic.specs.Setup.{Setup, link_row};
+ghost use Rattle.traffic.specs.Persons.{waiters, link_of_vehicle};
+ghost use Rattle.traffic.specs.Day.{turns_in, after, events_in, told_in, second, second_events, world_start, world_at};
+ghost use Rattle.traffic.specs.Worlds.{OnePlace};
+ghost use Rattle.law_parts_of_days.specs.Beginning.{AreFresh};
+ghost use Rattle.law_parts_of_days.specs.Riding.{put_links};
+ghost use Rattle.law_parts_of_days.specs.Settling.{wake_ends};
+
+/// A second has three steps: the phases of persons and departures, that of the nodes, and that of the links.
+pub fn seconds_have_three_steps()
+    ensures nodes { (S : Setup) (t : ℕ) (W : World)
+        → before_links S t W ≡ after S t (turns_in S t phase.C (before_nodes S t W)) (before_nodes S t W) }
+    ensures links { (S : Setup) (t : ℕ) (W : World)
+        → second S t W ≡ after S t (turns_in S t phase.D (before_links S t W)) (before_links S t W) }
+    ensures events { (S : Setup) (t : ℕ) (W : World) (old first mid out : List Event)
+        → first ≡ old ++ told_in S t (phase.A ∷ phase.B1 ∷ phase.B2 ∷ []) W
+        → mid ≡ first ++ events_in t phase.C (turns_in S t phase.C (before_nodes S t W))
+        → out ≡ mid ++ events_in t phase.D (turns_in S t phase.D (before_links S t W)) → out ≡ old ++ second_events S t W }
+{}
+
+/// The nodes change nobody who waits at a stop, and leave no holes.
+pub fn nodes_change_vehicles_alone()
+    ensures waiters { (S : Setup) (t l : ℕ) (V : World) → OnePlace S V
+        → waiters S l (after S t (turns_in S t phase.C V) V) ≡ waiters S l V }
+    ensures holes { (S : Setup) (t m : ℕ) (V : World) → holes_at m (after S t (turns_in S t phase.C V) V) ≡ holes_at m V }
+{}
+
+/// In a second as many vehicles leave the queue of a link as leave a hole of that second.
+pub fn links_leave_holes()
+    ensures { (S : Setup) (t m : ℕ) (V : World) → m < length S.links
+        → (count : ℕ) × (length (at m Queue (after S t (turns_in S t phase.D V) V)) + count ≡ length (at m Queue V))
+        × (holes_at m (after S t (turns_in S t phase.D V) V) ≡ holes_at m V ++ replicate count t) }
+{}
+
+/// Once nodes were woken for the buffers of some links, a node that is not woken has nobody in those of them that lead into it.
+pub fn nodes_are_woken_for_vehicles()
+    ensures { (S : Setup) (t m l : ℕ) (links : List LinkView) (ns : List ℕ) (wakes : List (Option ℕ)) → m < length wakes
+        → wake_of (wake_ends S t links ns wakes) m ≢ Some (t + 1) → is_among l ns ≡ true → (link_row S l).to ≡ m
+        → (lane links l).lists.buffer ≡ [] }
+{}
+
+/// At the start of a day links on which nobody is, and lines in which nobody waits, are those of the world.
+pub fn days_begin_empty()
+    ensures links { (S : Setup) (links : List LinkView) → AreFresh S.links S.settings (length S.links) links
+        → LinksStand S 0 links (world_start S) }
+    ensures lines { (S : Setup) (n : ℕ) (lines : List (List Waiter)) → lines ≡ replicate n [] → LinesStand S lines (world_start S) }
+{}
+
+/// The links of persons, as they stand among the riders of the vehicles on the links of a part, are those of their vehicles.
+pub fn riders_are_found()
+    ensures { (S : Setup) (t i : ℕ) (v : VehicleId) (links : List LinkView) → IsSoundSetup S → i < length S.persons
+        → (person_of i (world_at S t)).place ≡ Riding v → LinksStand S t links (world_at S t) → (z : Counts) (table : List ℕ)
+        → z.links ≡ length S.links → IsFitWorld z (world_at S t) → i < length table
+        → get_or (put_links links table) i 0 ≡ link_of_vehicle v (world_at S t).rows }
+{}

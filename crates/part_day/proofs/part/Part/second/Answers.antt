@@ -1,0 +1,18 @@
+use Rattle.std.proofs.Common.{◌+◌, subst}
+use Rattle.town.specs.Views.{setup}
+use Rattle.traffic.specs.Rows.{World}
+use Rattle.traffic.specs.Day.{world_at}
+use Rattle.law_parts_of_days.proofs.Through.{told_are}
+use Rattle.part_day.specs.Stands.{Stands}
+use Rattle.part_day.proofs.Steps.{next_world}
+use Rattle.part_day.proofs.part.Part.second.Goals as goal
+
+pub returns-clause-stands : goal.returns-clause-stands
+returns-clause-stands c =
+    subst (λ (W : World). Stands c.args.day.now (c.args.t + 1) (c.args.t + 1) (c.args.t + 1) c.drive.new.self W)
+    (next_world (setup c.args.day.now) c.args.t) c.in_ok-drive.ensures.stands
+
+pub returns-clause-events : goal.returns-clause-events
+returns-clause-events c =
+    told_are (setup c.args.day.now) c.args.t (world_at (setup c.args.day.now) c.args.t) c.args.told.now.events.items c.set_out.new.events.items
+    c.cross.new.told.events.items c.drive.new.told.events.items c.in_ok-set_out.ensures.events c.in_ok-cross.ensures.events c.in_ok-drive.ensures.events

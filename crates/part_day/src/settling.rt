@@ -1,0 +1,147 @@
+//! What the turns of links mean for the places of links, and for when nodes are woken.
+
+ghost use Rattle.std.specs.Prelude.{◌≡◌, ◌<◌, ◌≤◌, ◌+◌, ℕ, true, length, get_or, OnOk};
+ghost use Rattle.limits.specs.declared.TheConstants.{LAST_SECOND};
+ghost use Rattle.rows.specs.Settings.{is_hole_speed};
+ghost use Rattle.town.specs.Views.{setup};
+ghost use Rattle.traffic.specs.Setup.{hole_seconds, link_row, hole_of};
+ghost use Rattle.node_seconds.specs.Networks.{lane, AreIn, AreOnce};
+ghost use Rattle.part_places.specs.Taking.{Taking, AreTaken, later};
+ghost use Rattle.law_parts_of_days.specs.Settling.{queued_in, buffered_in, settled, wake_end, wake_ends};
+
+use calendar::Wakes;
+use part_places::{Left, Places};
+use queue_link::LinkState;
+use rows::{LinkList, LinkRow};
+use std::alloc::AllocError;
+use town::DayInput;
+
+/// The row of a link.
+fn row_at(links: &LinkList, link: u32) -> LinkRow
+    requires { link < length links.now }
+    ensures { result ≡ get_or links.now link result }
+{
+    links.rows[link as usize]
+}
+
+/// The row of a link of the town.
+fn link_row(day: &DayInput, link: u32) -> LinkRow
+    requires { link < length day.now.town.now.network.links }
+    ensures row { link_row (setup day.now) link ≡ result }
+    ensures to { result.to < length day.now.town.now.network.nodes }
+{
+    row_at(&day.town.network.links, link)
+}
+
+/// For how many seconds a place that was left stays taken.
+#[tactic(auto, unfolding(traffic::specs::Setup::hole_seconds))]
+fn hole_seconds(length: u32, speed: Option<u32>) -> u32
+    requires { is_hole_speed speed ≡ true }
+    ensures { result ≡ hole_seconds length speed }
+{
+    match speed {
+        None => 1,
+        Some(speed) => (length / speed).max(1),
+    }
+}
+
+/// The same on a link.
+fn hole_of(day: &DayInput, link: u32) -> u32
+    requires { link < length day.now.town.now.network.links }
+    ensures { result ≡ hole_of (setup day.now) link }
+{
+    let row = link_row(day, link);
+    hole_seconds(row.length, day.town.settings.hole_speed)
+}
+
+/// How many vehicles are in the queue of the link of a number.
+#[tactic(auto, using(node_move::proofs::Places::is_at))]
+fn queued_in(links: &[LinkState], number: u32) -> usize
+    requires { number < length links.now }
+    ensures { result ≡ queued_in links.now number }
+{
+    let link = &links[number as usize];
+    link.queued()
+}
+
+/// How many are in its buffer.
+#[tactic(auto, using(node_move::proofs::Places::is_at))]
+fn buffered_in(links: &[LinkState], number: u32) -> usize
+    requires { number < length links.now }
+    ensures { result ≡ buffered_in links.now number }
+{
+    let link = &links[number as usize];
+    link.buffered()
+}
+
+/// The places that vehicles left on a link in this second come free when the holes are over.
+fn settle_places(
+    day: &DayInput,
+    second: u32,
+    number: u32,
+    links: &[LinkState],
+    places: &mut Places,
+) -> Result<(), AllocError>
+    requires there { number < length links.now }
+    requires count { length links.now ≡ length day.now.town.now.network.links }
+    ensures { (T : Taking) → queued_in links.now number ≤ T.queued number
+        → AreTaken (length links.now) day.now.town.now.settings.end_second (second + 1) T places.old
+        → OnOk result (AreTaken (length links.now) day.now.town.now.settings.end_second (second + 1)
+        (later number (queued_in links.now number) (second + hole_of (setup day.now) number) T) places.new) }
+{
+    let left = Left {
+        second,
+        link: number,
+        queued: queued_in(links, number),
+        hole_seconds: hole_of(day, number),
+    };
+    places.leave(day.town.settings.end_second, left)
+}
+
+/// The node at the end of a link is woken in the next second, where somebody is in the link's buffer.
+fn wake_end(
+    day: &DayInput,
+    second: u32,
+    number: u32,
+    links: &[LinkState],
+    node_wakes: &mut Wakes,
+) -> Result<(), AllocError>
+    requires second_in { second < LAST_SECOND }
+    requires there { number < length links.now }
+    requires count { length links.now ≡ length day.now.town.now.network.links }
+    requires nodes { length node_wakes.old ≡ length day.now.town.now.network.nodes }
+    ensures { OnOk result (node_wakes.new ≡ wake_end (setup day.now) second links.now number node_wakes.old) }
+{
+    if buffered_in(links, number) > 0 {
+        let row = link_row(day, number);
+        node_wakes.set(row.to, Some(second + 1))?;
+    }
+    Ok(())
+}
+
+/// So with each of these links, which had their turns in this second.
+pub(crate) fn settle_links(
+    day: &DayInput,
+    second: u32,
+    numbers: &[u32],
+    links: &[LinkState],
+    places: &mut Places,
+    node_wakes: &mut Wakes,
+) -> Result<(), AllocError>
+    requires second_in { second < LAST_SECOND }
+    requires there { AreIn (length links.now) numbers.now }
+    requires once { AreOnce numbers.now }
+    requires count { length links.now ≡ length day.now.town.now.network.links }
+    requires nodes { length node_wakes.old ≡ length day.now.town.now.network.nodes }
+    ensures places { (T : Taking) → ((l : ℕ) → l < length links.now → queued_in links.now l ≤ T.queued l)
+        → AreTaken (length links.now) day.now.town.now.settings.end_second (second + 1) T places.old
+        → OnOk result (AreTaken (length links.now) day.now.town.now.settings.end_second (second + 1)
+        (settled (setup day.now) second links.now numbers.now T) places.new) }
+    ensures nodes { OnOk result (node_wakes.new ≡ wake_ends (setup day.now) second links.now numbers.now node_wakes.old) }
+{
+    for number in numbers {
+        settle_places(day, second, *number, links, places)?;
+        wake_end(day, second, *number, links, node_wakes)?;
+    }
+    Ok(())
+}

@@ -21,7 +21,7 @@ ghost use Rattle.iterations.specs.Views.{run_rows};
 use crate::run::RunInput;
 use day_scores::{first_kinds, scores_of};
 use events::Event;
-use plain_day::plain_day;
+use part_day::part_day;
 use plan_memory::Memory;
 use replanning::{Replanning, replan};
 use router::{Adjacency, copied_legs};
@@ -89,7 +89,7 @@ fn events_on(
         chosen,
         iteration,
     };
-    let events = plain_day(alloc, &input)?;
+    let events = part_day(alloc, &input)?;
     Ok(events)
 }
 

@@ -3,6 +3,8 @@
 use in_folder::qsim_in_folder;
 use qsim_top::Status;
 use std::fs;
+use std::sync::Wait;
+use std::thread::Threads;
 
 static NODES: &str = "node,x,y\nA,0,0\nB,0,0\n";
 
@@ -48,28 +50,33 @@ fn clear(rt: &HostRuntime) {
 }
 
 /// Whether the program ends so with this command.
-fn ends(rt: &HostRuntime, command: &str, status: Status) -> bool {
-    let mut words = Vec::new(rt.alloc());
+fn ends<R: Threads + Wait + Sync>(
+    rt: &R,
+    folder: &HostRuntime,
+    command: &str,
+    status: Status,
+) -> bool {
+    let mut words = Vec::new(folder.alloc());
     for word in ["qsim", command] {
-        match String::from_str(rt.alloc(), word) {
+        match String::from_str(folder.alloc(), word) {
             Ok(word) => {
                 let _ = words.push(word);
             }
             Err(_) => return false,
         }
     }
-    qsim_in_folder(rt, &words) == status
+    qsim_in_folder(rt, folder, &words) == status
 }
 
 /// Whether a run keeps what it does, and one to a later end goes on from that.
-fn goes_on(rt: &HostRuntime) -> bool {
-    ends(rt, "run", Status::Done)
-        && is_there(rt, "scores.csv", "0,p1,0,0\n1,p1,0,0\n")
-        && is_kept(rt)
-        && are_put(rt, THREE_DAYS)
-        && ends(rt, "resume", Status::Done)
-        && is_there(rt, "scores.csv", "2,p1,0,0\n")
-        && is_there(rt, "events.csv", "iteration,2\n")
+fn goes_on<R: Threads + Wait + Sync>(rt: &R, folder: &HostRuntime) -> bool {
+    ends(rt, folder, "run", Status::Done)
+        && is_there(folder, "scores.csv", "0,p1,0,0\n1,p1,0,0\n")
+        && is_kept(folder)
+        && are_put(folder, THREE_DAYS)
+        && ends(rt, folder, "resume", Status::Done)
+        && is_there(folder, "scores.csv", "2,p1,0,0\n")
+        && is_there(folder, "events.csv", "iteration,2\n")
 }
 
 /// Commands that keep nothing make no `kept.db`; then one is made, and found again.
@@ -77,9 +84,9 @@ fn goes_on(rt: &HostRuntime) -> bool {
 fn a_run_in_a_folder_is_kept(rt: HostRuntime) {
     clear(&rt);
     assert!(rt; are_put(&rt, TWO_DAYS));
-    assert!(rt; ends(&rt, "check", Status::Done));
+    assert!(rt; ends(&rt, &rt, "check", Status::Done));
     assert!(rt; !is_kept(&rt));
-    assert!(rt; ends(&rt, "resume", Status::NothingKept));
-    assert!(rt; goes_on(&rt));
+    assert!(rt; ends(&rt, &rt, "resume", Status::NothingKept));
+    assert!(rt; goes_on(&rt, &rt));
     clear(&rt);
 }

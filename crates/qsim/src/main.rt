@@ -21,7 +21,7 @@ fn words(alloc: Global, rt: &(impl Env + AllocGlobal)) -> Result<Vec<String>, Al
 fn main(rt: HostRuntime) -> ExitCode {
     let _streams = StandardStreams::hold(&rt);
     let status = match words(rt.alloc(), &rt) {
-        Ok(words) => qsim_in_folder(&rt, &words),
+        Ok(words) => qsim_in_folder(&rt, &rt, &words),
         Err(_) => Status::NoMemory,
     };
     if status == Status::NoMemory {

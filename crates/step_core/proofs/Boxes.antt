@@ -1,15 +1,12 @@
 -- Boxes whose parcels are right, and what is taken from them and put into them.
-use Rattle.std.proofs.Common.{◌≡◌, ℕ, zero, suc, ◌+◌, ◌-◌, ◌<◌, ◌≤◌, List, [], ◌∷◌, ◌++◌, ◌∙◌, length, length-append, get_or, drop, ap, refl, sym, subst, arith, Option, Some, None}
+use Rattle.std.proofs.Common.{◌≡◌, ℕ, suc, ◌+◌, ◌-◌, ◌<◌, ◌≤◌, List, [], ◌∷◌, ◌++◌, ◌∙◌, length, length-append, get_or, drop, ap, refl, sym, subst, arith}
 use Rattle.std.proofs.lemmas.Bool.{le-leb}
 use Rattle.std.proofs.lemmas.List.{get_or_push, get_or_append_left}
-use Rattle.std.specs.Option.{option_to_list}
 use mathlib.Core.Logic.{dite}
-use native.Mathlib.Decide.{ℕ_discrete, dec_lt}
-use Rattle.step_core.specs.declared.part.Border.{Border}
-use Rattle.step_core.specs.Views.{IsHeard, IsSent}
+use native.Mathlib.Decide.{dec_lt}
 use Rattle.step_core.specs.Cores.{IsBox}
-use Rattle.step_core.specs.Exchanges.{FirstIs, IsFuller, heard, left}
-use Rattle.step_core.proofs.Taking.{heard_some, heard_none, left_rest, left_all}
+use Rattle.step_core.specs.Exchanges.{FirstIs, IsFuller, left}
+use Rattle.step_core.proofs.Taking.{left_rest, left_all}
 
 pub box_moved : {P : Type 0} (R : ℕ → P → Type 0) (f g c d : ℕ) (rows new : List P) → f ≡ g → c ≡ d → rows ≡ new → IsBox R f c rows → IsBox R g d new
 box_moved {P} R f g c d rows new e1 e2 e3 h =
@@ -18,10 +15,6 @@ box_moved {P} R f g c d rows new e1 e2 e3 h =
 pub first_is : {P : Type 0} (R : ℕ → P → Type 0) (f c : ℕ) (rows : List P) → IsBox R f c rows → 0 < c → FirstIs (R f) rows
 first_is R f c [] h lt = absurd (let e = h.many in omega arith)
 first_is R f c (x ∷ xs) h lt = let z : f + 0 ≡ f = omega arith in subst (λ (i : ℕ). R i x) z (h.each 0 x lt)
-
-pub some_first : {P : Type 0} (R : P → Type 0) (rows : List P) → FirstIs R rows → 0 < length rows
-some_first R [] h = absurd h
-some_first R (x ∷ xs) h = omega arith
 
 pub box_rest : {P : Type 0} (R : ℕ → P → Type 0) (f c : ℕ) (rows : List P) → IsBox R f c rows → 0 < c → IsBox R (f + 1) (c - 1) (drop 1 rows)
 box_rest R f c [] h lt = absurd (let e = h.many in omega arith)
@@ -73,20 +66,3 @@ pub no_longer : {P : Type 0} (t lag : ℕ) (rows : List P) → length (left t la
 no_longer t lag rows = dite (dec_lt t lag)
     (λ late. let e = ap length (left_all t lag rows late) in omega arith)
     (λ due. let e = ap length (left_drop t lag rows (omega arith)) in let d = shorter rows in omega arith)
-
--- WHAT A PARTITION SEES OF THEM
-some_heard : {P : Type 0} (R : P → Type 0) (t lag : ℕ) (rows : List P) → lag ≤ t → FirstIs R rows → (x : P) × ((heard t lag rows ≡ Some x) × R x)
-some_heard R t lag [] le h = absurd h
-some_heard R t lag (x ∷ xs) le h = (x, (heard_some t lag (x ∷ xs) x xs le refl, h))
-
-pub is_heard : {P : Type 0} (right : ℕ → ℕ → ℕ → P → Type 0) (p t : ℕ) (b : Border) (rows : List P) (o : Option P)
-    → (b.lag ≤ t → FirstIs (right b.neighbour p (t - b.lag)) rows) → o ≡ heard t b.lag rows → IsHeard right p t b o
-is_heard {P} right p t b rows o first e = dite (dec_lt t b.lag)
-    (λ late. subst (λ (z : Option P). IsHeard right p t b z) (sym (e ∙ heard_none t b.lag rows late)) late)
-    (λ due. let le : b.lag ≤ t = omega arith in let s = some_heard (right b.neighbour p (t - b.lag)) t b.lag rows le (first le) in
-    subst (λ (z : Option P). IsHeard right p t b z) (sym (e ∙ s.1.0)) (le, s.1.1))
-
-pub is_fuller : {P : Type 0} (right : ℕ → ℕ → ℕ → P → Type 0) (p t : ℕ) (b : Border) (o : Option P) (rows new : List P) → IsSent right p t b o
-    → new ≡ rows ++ option_to_list o → IsFuller (right p b.neighbour t) rows new
-is_fuller right p t b None rows new h e = absurd h
-is_fuller right p t b (Some x) rows new h e = record { parcel = x; right = h; last = e }

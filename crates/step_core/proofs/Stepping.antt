@@ -1,13 +1,13 @@
 -- A step of a core: from a core that stands to one that stands.
-use Rattle.std.proofs.Common.{◌≡◌, ◌≢◌, ℕ, ◌+◌, ◌-◌, ◌*◌, ◌<◌, ◌≤◌, List, [], ◌∷◌, ◌++◌, ◌∙◌, length, length-append, get_or, set, take, drop, ap, refl, sym, subst, arith, Bool, Option, true, false}
+use Rattle.std.proofs.Common.{◌≡◌, ◌≢◌, ℕ, ◌+◌, ◌-◌, ◌<◌, ◌≤◌, List, [], ◌∷◌, ◌++◌, ◌∙◌, length, length-append, get_or, set, take, drop, ap, refl, sym, subst, arith, Bool, true, false}
 use Rattle.std.proofs.lemmas.Bool.{true≢false}
 use Rattle.std.proofs.lemmas.List.{get_or-set_same, get_or-set_other, length-set}
 use mathlib.Core.Logic.{dite}
 use native.Mathlib.Decide.{ℕ_discrete}
 use Rattle.step_core.specs.declared.part.Border.{Border}
-use Rattle.step_core.specs.Nets.{Net, IsNet, AreBorders, MayStep, border_at}
+use Rattle.step_core.specs.Nets.{Net, MayStep}
 use Rattle.step_core.specs.Views.{PartView, IsAt}
-use Rattle.step_core.specs.Cores.{IsCore, IsBox, box, place_of, done_at, is_stopped, first_in, count_in}
+use Rattle.step_core.specs.Cores.{IsCore, IsBox, box, done_at, is_stopped, first_in, count_in}
 use Rattle.step_core.specs.Exchanges.{AreApart, AreReached, FirstIs, HasExchanged, HasTaken, IsFuller, neighbour_at, lag_at, left}
 use Rattle.step_core.proofs.Boxes.{box_moved, first_is, box_fuller, box_left, left_short, no_longer}
 

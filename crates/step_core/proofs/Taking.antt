@@ -1,19 +1,19 @@
 -- What a partition takes, neighbour by neighbour.
-use Rattle.std.proofs.Common.{◌≡◌, ◌≢◌, ℕ, zero, suc, ◌+◌, ◌-◌, ◌<◌, ◌≤◌, List, [], ◌∷◌, ◌∙◌, length, get_or, set, drop, ap, refl, sym, subst, arith, Option, Some, None, true, false}
+use Rattle.std.proofs.Common.{◌≡◌, ℕ, zero, suc, ◌+◌, ◌-◌, ◌<◌, ◌≤◌, List, [], ◌∷◌, ◌∙◌, length, get_or, set, ap, refl, sym, subst, arith, Option, Some, None}
 use Rattle.std.proofs.lemmas.Bool.{le-leb, lt-leb}
 use Rattle.std.proofs.lemmas.List.{get_or-set_same, get_or-set_other, length-set}
 use mathlib.Core.Logic.{dite}
 use native.Mathlib.Decide.{ℕ_discrete}
 use Rattle.step_core.specs.declared.part.Border.{Border}
-use Rattle.step_core.specs.Views.{PartView, Stays, in_place, AreEmpty}
+use Rattle.step_core.specs.Views.{PartView, Stays, in_place}
 use Rattle.step_core.specs.Cores.{box, place_of}
 use Rattle.step_core.specs.Exchanges.{AreApart, AreReached, HaveHeard, IsHearing, neighbour_at, lag_at, heard, left}
 use Rattle.step_core.proofs.Places.{box_here, box_from, box_to}
 
-pub heard_some : {P : Type 0} (t lag : ℕ) (rows : List P) (x : P) (rest : List P) → lag ≤ t → rows ≡ x ∷ rest → heard t lag rows ≡ Some x
+heard_some : {P : Type 0} (t lag : ℕ) (rows : List P) (x : P) (rest : List P) → lag ≤ t → rows ≡ x ∷ rest → heard t lag rows ≡ Some x
 heard_some t lag rows x rest le e = rw (le-leb lag t le, e) refl
 
-pub heard_none : {P : Type 0} (t lag : ℕ) (rows : List P) → t < lag → heard t lag rows ≡ None
+heard_none : {P : Type 0} (t lag : ℕ) (rows : List P) → t < lag → heard t lag rows ≡ None
 heard_none t lag rows lt = rw (lt-leb lag t lt) refl
 
 pub left_rest : {P : Type 0} (t lag : ℕ) (rows : List P) (x : P) (rest : List P) → lag ≤ t → rows ≡ x ∷ rest → left t lag rows ≡ rest
@@ -21,18 +21,6 @@ left_rest t lag rows x rest le e = rw (le-leb lag t le, e) refl
 
 pub left_all : {P : Type 0} (t lag : ℕ) (rows : List P) → t < lag → left t lag rows ≡ rows
 left_all t lag rows lt = rw (lt-leb lag t lt) refl
-
-pub heard_start : {P : Type 0} (t p : ℕ) (rows : List Border) (old : List (List P)) (inbox : List (Option P)) → AreEmpty (length rows) inbox
-    → HaveHeard t p rows 0 old old inbox
-heard_start t p rows old inbox e = record {
-  long = refl;
-  degree = e.many;
-  came = λ j lt. absurd (omega arith);
-  none = λ j le lt. e.none j lt;
-  taken = λ j lt. absurd (omega arith);
-  rest = λ j le lt. refl;
-  others = λ a b lt ne. refl;
-}
 
 module _ {P : Type 0} (t p : ℕ) (rows : List Border) (k : ℕ) (old now : List (List P)) (inbox : List (Option P)) (apart : AreApart p rows)
     (reached : AreReached p rows (length old)) (h : HaveHeard t p rows k old now inbox) (lt : k < length rows) where

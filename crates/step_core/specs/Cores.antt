@@ -4,7 +4,7 @@ use Rattle.limits.specs.declared.TheConstants.{MAX_PARTITIONS}
 use Rattle.step_core.specs.declared.part.Border.{Border}
 use Rattle.step_core.specs.declared.cores.Step.{Step}
 use Rattle.step_core.specs.declared.cores.Step.TheVariants.{Done, Waits, Ended}
-use Rattle.step_core.specs.Nets.{Net, IsNet, AreBorders, MayStep, border_at}
+use Rattle.step_core.specs.Nets.{Net, IsNet, AreBorders, MayStep}
 use Rattle.step_core.specs.Views.{PartView, IsAt}
 
 -- BOXES

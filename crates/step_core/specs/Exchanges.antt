@@ -39,7 +39,8 @@ abbrev pub left : {P : Type 0} → ℕ → ℕ → List P → List P
 left t lag rows = if nat_le lag t then drop 1 rows else rows
 
 -- before second t p has taken what the first k of its neighbours sent
-pub record HaveHeard {P : Type 0} (t p : ℕ) (rows : List Border) (k : ℕ) (old new : List (List P)) (inbox : List (Option P)) : Type 0 where
+pub record HaveHeard {P : Type 0} (t p : ℕ) (rows : List Border) (k : ℕ) (old new : List (List P)) (inbox : List (Option P))
+    : Type 0 where
   pub long : length new ≡ length old
   pub degree : length inbox ≡ length rows
   pub came : (j : ℕ) → j < k → in_place inbox j ≡ heard t (lag_at rows j) (box old (neighbour_at rows j) p)
@@ -58,10 +59,12 @@ pub record IsHearing {R T P : Type 0} (see : T → PartView P) (stands : R → T
 
 -- WHAT IS SENT
 -- p has put what it sends to the first k of its neighbours into their boxes
-pub record HaveSent {P : Type 0} (p : ℕ) (rows : List Border) (k : ℕ) (old new : List (List P)) (before outbox : List (Option P)) : Type 0 where
+pub record HaveSent {P : Type 0} (p : ℕ) (rows : List Border) (k : ℕ) (old new : List (List P)) (before outbox : List (Option P))
+    : Type 0 where
   pub long : length new ≡ length old
   pub kept : (j : ℕ) → k ≤ j → j < length rows → in_place outbox j ≡ in_place before j
-  pub sent : (j : ℕ) → j < k → box new p (neighbour_at rows j) ≡ box old p (neighbour_at rows j) ++ option_to_list (in_place before j)
+  pub sent : (j : ℕ) → j < k
+      → box new p (neighbour_at rows j) ≡ box old p (neighbour_at rows j) ++ option_to_list (in_place before j)
   pub rest : (j : ℕ) → k ≤ j → j < length rows → box new p (neighbour_at rows j) ≡ box old p (neighbour_at rows j)
   pub others : (a b : ℕ) → b < MAX_PARTITIONS → a ≢ p → box new a b ≡ box old a b
 
@@ -84,7 +87,8 @@ pub record HasTaken {P : Type 0} (t p : ℕ) (rows : List Border) (old new : Lis
   pub others : (a b : ℕ) → b < MAX_PARTITIONS → b ≢ p → box new a b ≡ box old a b
 
 -- in second t p has taken what its neighbours sent, and sent a right parcel to each
-pub record HasExchanged {P : Type 0} (right : ℕ → ℕ → ℕ → P → Type 0) (t p : ℕ) (rows : List Border) (old new : List (List P)) : Type 0 where
+pub record HasExchanged {P : Type 0} (right : ℕ → ℕ → ℕ → P → Type 0) (t p : ℕ) (rows : List Border) (old new : List (List P))
+    : Type 0 where
   pub long : length new ≡ length old
   pub taken : (k : ℕ) → k < length rows → box new (neighbour_at rows k) p ≡ left t (lag_at rows k) (box old (neighbour_at rows k) p)
   pub sent : (k : ℕ) → k < length rows

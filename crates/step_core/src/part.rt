@@ -1,6 +1,6 @@
 //! What a partition is to the core.
 
-ghost use Rattle.std.specs.Prelude.{◌≡◌, ◌+◌, ◌<◌, ℕ, List, Option, None, Some, length, set, IfOk, OnOk, IsSome};
+ghost use Rattle.std.specs.Prelude.{◌≡◌, ◌+◌, ◌<◌, ℕ, List, None, Some, length, set, IfOk, OnOk, IsSome};
 ghost use Rattle.step_core.specs.Nets.{Net};
 ghost use Rattle.step_core.specs.Views.{PartView, in_place, HasHeard, HasSent, IsAt, Stays};
 

@@ -1,6 +1,6 @@
 //! A run from its start to its end: always a partition with the fewest done seconds does the next step.
 
-ghost use Rattle.std.specs.Prelude.{◌≡◌, ℕ, ◌+◌, ◌<◌, IsTrue, ◌↔◌, EachIndex, length, IfOk, OnOk};
+ghost use Rattle.std.specs.Prelude.{◌≡◌, ◌+◌, ◌<◌, IsTrue, ◌↔◌, EachIndex, length, IfOk, OnOk};
 ghost use Rattle.step_core.specs.Views.{EachAt};
 ghost use Rattle.step_core.specs.Cores.{IsCore, AllAt, done_at};
 

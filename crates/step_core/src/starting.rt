@@ -1,7 +1,6 @@
 //! A core at the start of a run.
 
-ghost use Rattle.std.specs.Prelude.{◌≡◌, ℕ, ◌*◌, ◌<◌, ◌≤◌, [], length, get_or, IfOk};
-ghost use Rattle.limits.specs.declared.TheConstants.{MAX_PARTITIONS};
+ghost use Rattle.std.specs.Prelude.{◌≡◌, ℕ, ◌<◌, [], length, get_or, IfOk};
 ghost use Rattle.step_core.specs.Nets.{IsNet, AreBorders};
 ghost use Rattle.step_core.specs.Views.{EachAt};
 ghost use Rattle.step_core.specs.Cores.{IsCore, AllAt};

@@ -34,9 +34,9 @@ fn borders_of(borders: &[BorderList], number: u32) -> &[Border]
 }
 
 impl<T: Part> Core<T> {
-    /// A partition does its next second, if it may: it has not come to the end, and no neighbour is behind it by the lag or more. It absorbs
-    /// from each neighbour the parcel of the second that lies so far back as the lag, does the second, and sends a parcel to each. Where it
-    /// may not, the least neighbour is named that it waits for; nothing is changed then.
+    /// A partition does its next second, if it may: it has not come to the end, and no neighbour is behind it by the lag or more. It
+    /// absorbs from each neighbour the parcel of the second that lies so far back as the lag, does the second, and sends a parcel to each.
+    /// Where it may not, the least neighbour is named that it waits for; nothing is changed then.
     ///
     /// # Errors
     ///

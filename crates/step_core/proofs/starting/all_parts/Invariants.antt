@@ -1,4 +1,4 @@
-use Rattle.std.proofs.Common.{◌≡◌, ℕ, ◌<◌, length, get_or}
+use Rattle.std.proofs.Common.{◌≡◌, length}
 use Rattle.step_core.specs.Views.{EachAt}
 use Rattle.step_core.proofs.starting.all_parts.Given as goal
 

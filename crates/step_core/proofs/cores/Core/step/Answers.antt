@@ -1,6 +1,5 @@
 use Rattle.std.proofs.Common.{◌≡◌, ◌<◌, false, [], List, get_or, length, sym, ap, subst, arith}
 use Rattle.step_core.specs.declared.part.Border.{Border}
-use Rattle.step_core.specs.Nets.{MayStep}
 use Rattle.step_core.specs.Exchanges.{AreApart}
 use Rattle.step_core.specs.Cores.{is_stopped, done_at}
 use Rattle.step_core.proofs.Stepping.{apart, may_then, first_then, done_then, stopped_then}

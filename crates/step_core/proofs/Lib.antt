@@ -1,0 +1,5 @@
+pub mod Places
+pub mod Taking
+pub mod Boxes
+pub mod Stepping
+pub mod Orders

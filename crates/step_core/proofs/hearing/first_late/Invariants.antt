@@ -1,0 +1,7 @@
+use Rattle.std.proofs.Common.{ℕ, ◌+◌, ◌<◌}
+use Rattle.step_core.specs.Cores.{done_at}
+use Rattle.step_core.specs.Exchanges.{neighbour_at, lag_at}
+use Rattle.step_core.proofs.hearing.first_late.Given as goal
+
+abbrev pub invariant-loop-border : goal.invariant-loop-border
+invariant-loop-border l = (k : ℕ) → k < l.border-index → l.second < done_at l.done (neighbour_at l.borders k) + lag_at l.borders k

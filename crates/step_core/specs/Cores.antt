@@ -1,0 +1,76 @@
+-- A core: partitions at their own seconds, and the parcels between them that were sent and not absorbed.
+use Rattle.std.specs.Prelude.{◌≡◌, ℕ, ◌+◌, ◌-◌, ◌*◌, ◌<◌, ◌≤◌, Bool, true, false, List, [], length, get_or, set}
+use Rattle.limits.specs.declared.TheConstants.{MAX_PARTITIONS}
+use Rattle.step_core.specs.declared.part.Border.{Border}
+use Rattle.step_core.specs.declared.cores.Step.{Step}
+use Rattle.step_core.specs.declared.cores.Step.TheVariants.{Done, Waits, Ended}
+use Rattle.step_core.specs.Nets.{Net, IsNet, AreBorders, MayStep}
+use Rattle.step_core.specs.Views.{PartView, IsAt}
+
+-- BOXES
+-- the place of the box from a partition to another one, and what lies in it
+abbrev pub place_of : ℕ → ℕ → ℕ
+place_of from to = from * MAX_PARTITIONS + to
+
+abbrev pub box : {P : Type 0} → List (List P) → ℕ → ℕ → List P
+box boxes from to = get_or boxes (place_of from to) []
+
+-- a box has the parcels of so many seconds from this one on
+pub record IsBox {P : Type 0} (right : ℕ → P → Type 0) (first count : ℕ) (rows : List P) : Type 0 where
+  pub many : length rows ≡ count
+  pub each : (i : ℕ) (d : P) → i < count → right (first + i) (get_or rows i d)
+
+-- THE CORE
+abbrev pub done_at : List ℕ → ℕ → ℕ
+done_at done p = get_or done p 0
+
+-- partition p found no memory in a second, and takes part no more
+abbrev pub is_stopped : List Bool → ℕ → Bool
+is_stopped stopped p = get_or stopped p false
+
+-- from which second on parcels from a to b are not absorbed, and how many they are
+abbrev pub first_in : Net → List ℕ → ℕ → ℕ → ℕ
+first_in N done a b = done_at done b - N.lag a b
+
+abbrev pub count_in : Net → List ℕ → ℕ → ℕ → ℕ
+count_in N done a b = done_at done a - first_in N done a b
+
+-- Of so many partitions each that goes on stands at its own seconds, each box to it has the parcels that it has not absorbed, and none is
+-- further ahead of a neighbour than the lag.
+pub record IsCore {T P : Type 0} (N : Net) (borders : ℕ → List Border) (see : T → PartView P) (stands : T → Type 0)
+    (right : ℕ → ℕ → ℕ → P → Type 0) (done : List ℕ) (stopped : List Bool) (tables : List (List Border)) (parts : List T)
+    (boxes : List (List P)) : Type 0 where
+  pub net : IsNet N
+  pub dones : length done ≡ N.parts
+  pub flags : length stopped ≡ N.parts
+  pub lists : length tables ≡ N.parts
+  pub many : length parts ≡ N.parts
+  pub places : length boxes ≡ N.parts * MAX_PARTITIONS
+  pub rows : (p : ℕ) → p < N.parts → AreBorders N p (get_or tables p [])
+  pub given : (p : ℕ) → p < N.parts → get_or tables p [] ≡ borders p
+  pub early : (p : ℕ) → p < N.parts → done_at done p ≤ N.end
+  pub close : (a b : ℕ) → N.near a b ≡ true → done_at done a ≤ done_at done b + N.lag b a
+  pub short : (a b : ℕ) → N.near a b ≡ true → length (box boxes a b) ≤ count_in N done a b
+  pub full : (a b : ℕ) → N.near a b ≡ true → is_stopped stopped b ≡ false
+      → IsBox (right a b) (first_in N done a b) (count_in N done a b) (box boxes a b)
+  pub members : (p : ℕ) (d : T) → p < N.parts → is_stopped stopped p ≡ false
+      → IsAt see stands p (done_at done p) (length (get_or tables p [])) (get_or parts p d)
+
+-- what a step on p came to: by the done seconds before it and after it
+abbrev pub CameTo : Net → ℕ → List ℕ → List ℕ → Step → Type 0
+CameTo N p old new Done = MayStep N p (done_at old) × (new ≡ set old p (done_at old p + 1))
+CameTo N p old new (Waits q published) =
+    (done_at old p < N.end) × (N.near q p ≡ true) × (published ≡ done_at old q) × (published + N.lag q p ≤ done_at old p)
+    × ((r : ℕ) → r < q → N.near r p ≡ true → done_at old p < done_at old r + N.lag r p) × (new ≡ old)
+CameTo N p old new Ended = (done_at old p ≡ N.end) × (new ≡ old)
+
+-- all partitions have done so many seconds, and none was stopped
+pub record AllAt (count t : ℕ) (done : List ℕ) (stopped : List Bool) : Type 0 where
+  pub all : (p : ℕ) → p < count → done_at done p ≡ t
+  pub goes : (p : ℕ) → p < count → is_stopped stopped p ≡ false
+
+-- those before p have done second t, and the others are about to
+pub record AreRound (count p t : ℕ) (done : List ℕ) (stopped : List Bool) : Type 0 where
+  pub before : (q : ℕ) → q < p → done_at done q ≡ t + 1
+  pub behind : (q : ℕ) → p ≤ q → q < count → done_at done q ≡ t
+  pub goes : (q : ℕ) → q < count → is_stopped stopped q ≡ false

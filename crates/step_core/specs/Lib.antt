@@ -1,0 +1,4 @@
+pub mod Nets
+pub mod Views
+pub mod Cores
+pub mod Exchanges

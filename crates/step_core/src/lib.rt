@@ -1,0 +1,16 @@
+//! The core: it steps the partitions of a run on one thread, each by its own seconds, in any order that the lags allow, and hands what they
+//! send to one another over. What a partition is, is known to it by a small contract alone.
+#![tactic(auto)]
+
+mod cores;
+mod hearing;
+mod laws;
+mod mailbox;
+mod part;
+mod rounds;
+mod starting;
+mod steps;
+
+pub use cores::{Core, Step};
+pub use laws::orders_end;
+pub use part::{Border, BorderList, Part};

@@ -1,0 +1,76 @@
+//! A run from its start to its end: always a partition with the fewest done seconds does the next step.
+
+ghost use Rattle.std.specs.Prelude.{◌≡◌, ◌+◌, ◌<◌, IsTrue, ◌↔◌, EachIndex, length, IfOk, OnOk};
+ghost use Rattle.step_core.specs.Views.{EachAt};
+ghost use Rattle.step_core.specs.Cores.{IsCore, AllAt, done_at};
+
+use crate::cores::{Core, Step};
+use crate::part::Part;
+use edge_files::Gate;
+use std::alloc::AllocError;
+
+impl<T: Part> Core<T> {
+    /// Whether every partition has done all its seconds.
+    pub fn all_ended(&self, run: &T::Run) -> bool
+        ensures { IsTrue result ↔ EachIndex self.now.done.items (λ p. done_at self.now.done.items p ≡ (T.net run.now).end) }
+    {
+        let end = T::end(run);
+        self.done.iter().all(|done| *done == end)
+    }
+
+    /// The partitions, by number.
+    pub fn into_parts(self) -> Vec<T>
+        ensures { result.items ≡ self.parts.items }
+    {
+        let Core {
+            done: _done,
+            stopped: _stopped,
+            borders: _borders,
+            parts,
+            boxes: _boxes,
+        } = self;
+        parts
+    }
+
+    /// All partitions have done so many seconds: each does the next one, by number. So it is always one with the fewest done seconds that
+    /// steps, and it may. The gate is passed before each step.
+    fn do_round<G: Gate>(&mut self, run: &T::Run, gate: &G, second: u32) -> Result<(), AllocError>
+        requires core { IsCore (T.net run.now) (T.borders run.now) T.see (T.stands run.now) (T.right run.now)
+            self.old.done.items self.old.stopped.items self.old.borders.items self.old.parts.items self.old.boxes.items }
+        requires at { AllAt (T.net run.now).parts second self.old.done.items self.old.stopped.items }
+        requires before_end { second < (T.net run.now).end }
+        ensures core { IsCore (T.net run.now) (T.borders run.now) T.see (T.stands run.now) (T.right run.now)
+            self.new.done.items self.new.stopped.items self.new.borders.items self.new.parts.items self.new.boxes.items }
+        ensures at { OnOk result (AllAt (T.net run.now).parts (second + 1) self.new.done.items self.new.stopped.items) }
+    {
+        for number in 0..T::count(run) {
+            gate.pass(number, second);
+            match self.step(run, number)? {
+                Step::Done => {}
+                Step::Waits { .. } => unreachable!(),
+                Step::Ended => unreachable!(),
+            }
+        }
+        Ok(())
+    }
+
+    /// Runs a core from its start to the end: every partition has then done all its seconds, and holds and has told what it has by then by
+    /// itself.
+    ///
+    /// # Errors
+    ///
+    /// `AllocError`: there was no memory for a second of a partition.
+    pub fn run<G: Gate>(mut self, run: &T::Run, gate: &G) -> Result<Vec<T>, AllocError>
+        requires core { IsCore (T.net run.now) (T.borders run.now) T.see (T.stands run.now) (T.right run.now)
+            self.done.items self.stopped.items self.borders.items self.parts.items self.boxes.items }
+        requires start { AllAt (T.net run.now).parts 0 self.done.items self.stopped.items }
+        ensures count { IfOk result (λ parts. length parts.items ≡ (T.net run.now).parts) }
+        ensures ended { IfOk result (λ parts. EachAt T.see (T.stands run.now) (T.net run.now).end
+            (λ p. length (T.borders run.now p)) (T.net run.now).parts parts.items) }
+    {
+        for second in 0..T::end(run) {
+            self.do_round(run, gate, second)?;
+        }
+        Ok(self.into_parts())
+    }
+}

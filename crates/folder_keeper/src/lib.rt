@@ -14,18 +14,18 @@ use std::io::Eprint;
 /// The database of the current folder.
 const NAME: &str = "kept.db";
 
-/// Says what a database holds, where it holds anything. Where it cannot be read, the next call says why.
+/// Says what a database holds that the first save of a run is to replace, where it holds anything that can be read.
 fn tell_replaced(rt: &HostRuntime, keeper: &mut SqlKeeper<FileStore<File>>) {
     if let Ok(Some(iteration)) = keeper.last() {
         let _ = eprintln!(rt;
-            "qsim: {NAME} held iteration {iteration} of a run before, and is replaced"
+            "qsim: {NAME} holds iteration {iteration} of a run before, which this run is to replace"
         );
     }
 }
 
 /// A keeper in the file `kept.db` of the current folder, which is opened, and made where it is missing, at the first call: a command that
-/// keeps nothing makes no file. A line on standard error says why a call failed, and one says that the first save of a run replaces what
-/// another run kept. What the file holds is not told.
+/// keeps nothing makes no file. A line on standard error says why a call failed, and one says before the first save of a run what
+/// it is to replace of another one. What the file holds is not told.
 ///
 /// While it is open no other program can use it. What is saved stands in `kept.db` and in its log `kept.db-wal`, which belong together,
 /// until the keeper is closed, and then in `kept.db` alone.

@@ -79,14 +79,25 @@ fn goes_on<R: Threads + Wait + Sync>(rt: &R, folder: &HostRuntime) -> bool {
         && is_there(folder, "events.csv", "iteration,2\n")
 }
 
-/// Commands that keep nothing make no `kept.db`; then one is made, and found again.
+/// Whether a run of files with a fault is refused and makes no `kept.db`.
+fn is_refused<R: Threads + Wait + Sync>(rt: &R, folder: &HostRuntime) -> bool {
+    is_put(folder, "links.csv", "link\n")
+        && ends(rt, folder, "run", Status::Refused)
+        && !is_kept(folder)
+}
+
+/// Commands that keep nothing make no `kept.db`, and no more does a run that is refused; a run makes one, which is found again.
 #[test]
 fn a_run_in_a_folder_is_kept(rt: HostRuntime) {
     clear(&rt);
     assert!(rt; are_put(&rt, TWO_DAYS));
     assert!(rt; ends(&rt, &rt, "check", Status::Done));
     assert!(rt; !is_kept(&rt));
+    assert!(rt; is_refused(&rt, &rt));
+    assert!(rt; ends(&rt, &rt, "resume", Status::Refused));
+    assert!(rt; are_put(&rt, TWO_DAYS));
     assert!(rt; ends(&rt, &rt, "resume", Status::NothingKept));
+    clear(&rt);
     assert!(rt; goes_on(&rt, &rt));
     clear(&rt);
 }

@@ -1,6 +1,6 @@
-//! How the steps of a core stand to the orders in which the partitions of a day may advance: they are the same orders, and what the day says
-//! that each partition holds, has told and has sent is what the state has that such an order reaches. Each law is the contract of a call
-//! that does nothing.
+//! How the steps of a core stand to the orders in which the partitions of a day may advance: they are the same orders, and what the day
+//! says that each partition holds, has told and has sent is what the state has that such an order reaches. Each law is the contract of a
+//! call that does nothing.
 #![tactic(auto)]
 
 ghost use Rattle.std.specs.Prelude.{◌≡◌, ◌≤◌, ℕ, List};
@@ -32,8 +32,8 @@ pub fn steps_are_interleavings()
         → ComesTo (net_of S own parts end) ps (λ _. 0) d → IsReached S own parts end ps d }
 {}
 
-/// Whatever the order, that state has in each part what the day gives it at its own done seconds, in each box the parcels that were sent and
-/// not absorbed, and what belongs to each partition is told.
+/// Whatever the order, that state has in each part what the day gives it at its own done seconds, in each box the parcels that were sent
+/// and not absorbed, and what belongs to each partition is told.
 pub fn orders_make_the_day()
     ensures { (S : Setup) (own : Owner) (parts end : ℕ) (ps : List ℕ) (d : ℕ → ℕ) → IsSoundSetup S → IsConsistentSetup S
         → IsOwner own parts → ComesTo (net_of S own parts end) ps (λ _. 0) d → IsKept S own parts end ps d }

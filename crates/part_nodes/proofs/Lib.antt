@@ -6,5 +6,6 @@ pub mod Ready
 pub mod Crossings
 pub mod Entered
 pub mod Rested
+pub mod Held
 pub mod Passed
 pub mod Skipped

@@ -6,11 +6,10 @@ use Rattle.traffic.specs.declared.moves.Move.{Move}
 use Rattle.traffic.specs.declared.moves.Occurrence.{Occurrence}
 use Rattle.traffic.specs.declared.node_views.OutLink.{OutLink}
 use Rattle.traffic.specs.declared.stage.Stage.TheVariants.{Queue, Buffer, Wait, Bay}
+use Rattle.rows.specs.declared.settings.Stuck.{Stuck}
 use Rattle.traffic.specs.declared.world.Row.{Row}
 use Rattle.traffic.specs.Links.{LinkState, link_state}
-use Rattle.std.specs.Prelude.{nat_lt}
 use Rattle.std.specs.List.{AllByRecursion as Each}
-use Rattle.std.proofs.lemmas.Bool.Decides.{nat_tests}
 use Rattle.events.specs.declared.event.Event.{Event}
 use Rattle.events.specs.declared.event.Phase.TheVariants as phase
 use Rattle.traffic.proofs.Sublists.{at-run, credits-run, at_after_all-untouched}
@@ -33,13 +32,14 @@ use Rattle.part_nodes.specs.declared.network.Network.{Network}
 use Rattle.node_move.specs.declared.turns.NodeTurn.{NodeTurn}
 use Rattle.node_seconds.specs.Turns.{moves_in}
 use Rattle.part_nodes.specs.declared.node_turns.Buffered.{Buffered}
-use Rattle.part_nodes.specs.Turns.{IsTurnOf, lights_of, buffered_in, is_buffered, is_waited, wake_all_emptied}
+use Rattle.part_nodes.specs.Turns.{IsTurnOf, lights_of, buffered_in, wake_all_emptied, node_due, up_to}
 use Rattle.law_joined_routes.specs.Going.{GoesOn}
 use Rattle.part_nodes.specs.Phase.{LinksStandFor, IsPassed, IsTurn}
 use Rattle.part_nodes.proofs.Seen.{number_is, buffer_is, into_there, among_into, moves_are}
 use Rattle.part_nodes.proofs.Crossings.{AreCrossings, node_crossings, rows_into, queue_after, aside_after, buffer_keeps, places_are}
 use Rattle.part_nodes.proofs.Entered.{length_all, all_accepted, queued_on, all_accepted_asleep}
 use Rattle.part_nodes.proofs.Rested.{handed_over_asleep}
+use Rattle.part_nodes.proofs.Held.{waits_again}
 
 -- ONE LINK
 -- a link whose buffer moves changed
@@ -204,67 +204,41 @@ passed_on z S end t n V old slept free turn ls greens bs mid woken es links wake
       said = sa ∙ ap (λ (xs : List Occurrence). xs ++ flat_map told made) none ∙ ap (flat_map told) moves;
     }
 
--- WHO WAITS
-none_waits : (links : List LinkView) (ns : List ℕ) (l : ℕ) → is_waited links ns ≡ false → is_among l ns ≡ true → (lane links l).lists.buffer ≡ []
-unfolding is_waited
-none_waits links [] l h a = absurd (true≢false (sym a))
-none_waits links (n ∷ ns) l h a =
-    elim (cases_Bool (is_buffered links n)) [
-      | inl b ↦ let q : true ≡ false = rw b at h in absurd (true≢false q)
-      | inr b ↦
-          let rest : is_waited links ns ≡ false = rw b at h in
-          elim (cases_Bool (eqb n l)) [
-            | inl q ↦ let s = eqb-true n l q in nothing (lane links l).lists.buffer (ap (λ (k : ℕ). is_buffered links k) (sym s) ∙ b)
-            | inr q ↦ let c : is_among l ns ≡ true = rw q at a in none_waits links ns l rest c
-          ]
-    ]
-  where
-    nothing : (xs : List Row) → nat_lt 0 (length xs) ≡ false → xs ≡ []
-    nothing [] e = refl
-    nothing (x ∷ xs) e = let lt : 0 < length (x ∷ xs) = omega arith in absurd (grind (arith, nat_tests))
-
-pub turned : (z : Counts) (S : Setup) (end t n : ℕ) (V : World) (old new : Network) (ls : List ℕ) (seen links : List LinkView) (events out : List Event)
-    (said heard now : List Occurrence)
+-- WHEN THE NODE IS WOKEN AGAIN
+pub turned : (z : Counts) (S : Setup) (end t n : ℕ) (V : World) (old new : Network) (ls : List ℕ) (seen links : List LinkView) (K : Stuck)
+    (always : ℕ → Bool) (events out : List Event) (said heard now : List Occurrence)
     → IsPassed z S end t n V links new.link_wakes new.places.space now → length old.node_wakes ≡ S.nodes → n < S.nodes → ls ≡ into S n
     → new.links.items ≡ links → seen ≡ links → new.places.holes.items ≡ old.places.holes.items → new.places.freed ≡ old.places.freed
-    → new.node_wakes ≡ (if is_waited seen ls then set old.node_wakes n (Some (t + 1)) else old.node_wakes)
+    → t < end → K ≡ S.settings.stuck → ((l : ℕ) → always l ≡ true → (u : ℕ) → S.green l u ≡ true)
+    → new.node_wakes ≡ set old.node_wakes n (up_to end (node_due K t always new.places.space seen None ls))
     → out ≡ events ++ keyed t (phase_code phase.C) n 0 now → heard ≡ said ++ now
     → IsTurn z S end t n V old new events out said heard
-turned z S end t n V old new ls seen links events out said heard now p nodes lt to made sees_them ho fr woken ev sa =
+turned z S end t n V old new ls seen links K always events out said heard now p nodes lt to made sees_them ho fr in_day patience green woken ev sa =
     let U = run S t (node_turns S t n V) V in
     let h = p.stand in
-    let wakes : new.node_wakes ≡ (if is_waited links (into S n) then set old.node_wakes n (Some (t + 1)) else old.node_wakes)
-    = woken ∙ ap (λ (xs : List LinkView). if is_waited xs ls then set old.node_wakes n (Some (t + 1)) else old.node_wakes) sees_them
-    ∙ ap (λ (ks : List ℕ). if is_waited links ks then set old.node_wakes n (Some (t + 1)) else old.node_wakes) to in
+    let space = new.places.space in
+    let due : Option ℕ = node_due S.settings.stuck t always space links None (into S n) in
+    let wakes : new.node_wakes ≡ set old.node_wakes n (up_to end due)
+    = woken
+    ∙ ap (λ (k : Stuck). set old.node_wakes n (up_to end (node_due k t always space seen None ls))) patience
+    ∙ ap (λ (xs : List LinkView). set old.node_wakes n (up_to end (node_due S.settings.stuck t always space xs None ls))) sees_them
+    ∙ ap (λ (ks : List ℕ). set old.node_wakes n (up_to end (node_due S.settings.stuck t always space links None ks))) to in
     let within : n < length old.node_wakes = omega arith in
+    let own : wake_of new.node_wakes n ≡ up_to end due
+    = ap (λ (ws : List (Option ℕ)). wake_of ws n) wakes ∙ get_or-set_same old.node_wakes n (up_to end due) None within in
     record {
       stands = record {
-        links = subst (λ (xs : List LinkView). LinksStandFor z S end t xs new.link_wakes new.places.space U) (sym made) h;
-        nodes =
-            ap length wakes
-            ∙ elim (cases_Bool (is_waited links (into S n))) [
-              | inl b ↦ rw b (length-set old.node_wakes n (Some (t + 1)) ∙ nodes)
-              | inr b ↦ rw b nodes
-            ];
+        links = subst (λ (xs : List LinkView). LinksStandFor z S end t xs new.link_wakes space U) (sym made) h;
+        nodes = ap length wakes ∙ length-set old.node_wakes n (up_to end due) ∙ nodes;
       };
       holes = ho;
       freed = fr;
       others = λ m ne.
-          ap (λ (ws : List (Option ℕ)). wake_of ws m) wakes
-          ∙ elim (cases_Bool (is_waited links (into S n))) [
-            | inl b ↦ rw b (get_or-set_other old.node_wakes n m (Some (t + 1)) None ne)
-            | inr b ↦ rw b refl
-          ];
+          ap (λ (ws : List (Option ℕ)). wake_of ws m) wakes ∙ get_or-set_other old.node_wakes n m (up_to end due) None ne;
       awaited = λ l not_woken there leads.
-          elim (cases_Bool (is_waited links (into S n))) [
-            | inl b ↦
-                let is : wake_of new.node_wakes n ≡ Some (t + 1)
-                = ap (λ (ws : List (Option ℕ)). wake_of ws n) wakes ∙ rw b (get_or-set_same old.node_wakes n (Some (t + 1)) None within) in
-                absurd (not_woken is)
-            | inr b ↦
-                let a : is_among l (into S n) ≡ true = among_into S n l there ∙ eq-eqb (link_row S l).to n leads in
-                sym (buffer_is S t l links U there h.stand) ∙ none_waits links (into S n) l b a
-          ];
+          let a : is_among l (into S n) ≡ true = among_into S n l there ∙ eq-eqb (link_row S l).to n leads in
+          waits_again S end t l always space links (into S n) U (at l Buffer U) (wake_of new.node_wakes n) in_day (green l) h.places (h.on l there)
+          own not_woken a (buffer_is S t l links U there h.stand);
       events = ev ∙ ap (λ (xs : List Occurrence). events ++ keyed t (phase_code phase.C) n 0 xs) p.said;
       said = sa ∙ ap (λ (xs : List Occurrence). said ++ xs) p.said;
     }

@@ -1,6 +1,6 @@
 //! The turn of a node that is woken.
 
-ghost use Rattle.std.specs.Prelude.{◌≡◌, ◌+◌, ◌<◌, ◌++◌, Some, length, map, OnOk, IfOk, if◌then◌else◌, set};
+ghost use Rattle.std.specs.Prelude.{◌≡◌, ◌+◌, ◌<◌, ◌++◌, length, map, OnOk, IfOk};
 ghost use Rattle.events.specs.declared.event.Phase.TheVariants.{C};
 ghost use Rattle.events.specs.Keys.{phase_code};
 ghost use Rattle.limits.specs.declared.TheConstants.{LAST_SECOND};
@@ -11,10 +11,11 @@ ghost use Rattle.traffic.specs.Setup.{into};
 ghost use Rattle.traffic.specs.Day.{keyed};
 ghost use Rattle.node_seconds.specs.Networks.{lane, AreIn};
 ghost use Rattle.part_nodes.specs.Turns.{IsTurnOf, lights_of, buffered_in, is_clear, is_emptied, wake_emptied, wake_all_emptied};
-ghost use Rattle.part_nodes.specs.Turns.{AreThere, is_buffered, is_waited};
+ghost use Rattle.part_nodes.specs.Turns.{AreThere};
 ghost use Rattle.part_nodes.specs.Phase.{LinksStandFor, LinksStandForSome, StandsFor, Stands, IsPassed, IsTurn};
 
 use crate::network::Network;
+use crate::resting::wake_again;
 use calendar::Wakes;
 use draws::Draws;
 use events::Phase;
@@ -170,30 +171,6 @@ fn wake_all_emptied(
     Ok(())
 }
 
-/// Whether somebody is in the buffer of the link of a number.
-fn is_buffered(links: &[LinkState], number: u32) -> bool
-    requires { number < length links.now }
-    ensures { result ≡ is_buffered links.now number }
-{
-    buffered_in(links, number).count > 0
-}
-
-/// Whether somebody is in the buffer of one of these links.
-#[tactic(auto, unfolding(crate::specs::Turns::is_waited))]
-fn is_waited(links: &[LinkState], numbers: &[u32]) -> bool
-    requires { AreIn (length links.now) numbers.now }
-    ensures { result ≡ is_waited links.now numbers.now }
-{
-    let mut rest = numbers;
-    while let [number, later @ ..] = rest {
-        if is_buffered(links, *number) {
-            return true;
-        }
-        rest = later;
-    }
-    false
-}
-
 /// What does not change over the turn of a node.
 #[tactic(auto, unfolding(town::specs::Setups::setup_of))]
 fn turn_of(day: &DayInput, second: u32, node: u32) -> NodeTurn
@@ -238,26 +215,6 @@ fn pass_node(
     let end = day.town.settings.end_second;
     enter_links(end, phase.second, entering, links, wakes)?;
     Ok(said)
-}
-
-/// A node is woken in the next second while somebody is in the buffer of a link into it.
-fn wake_again(
-    second: u32,
-    node: u32,
-    numbers: &[u32],
-    links: &[LinkState],
-    wakes: &mut Wakes,
-) -> Result<(), AllocError>
-    requires second_in { second < LAST_SECOND }
-    requires there { node < length wakes.old }
-    requires links { AreIn (length links.now) numbers.now }
-    ensures { OnOk result (wakes.new
-        ≡ (if is_waited links.now numbers.now then set wakes.old node (Some (second + 1)) else wakes.old)) }
-{
-    if is_waited(links, numbers) {
-        wakes.set(node, Some(second + 1))?;
-    }
-    Ok(())
 }
 
 /// Appends what a node tells.
@@ -312,10 +269,11 @@ pub(crate) fn turn_node(
         &mut network.link_wakes,
     )?;
     wake_again(
-        phase.second,
+        phase,
         node,
         numbers,
         &network.links,
+        &network.places.space,
         &mut network.node_wakes,
     )?;
     tell(phase, node, &said, told)?;

@@ -1,7 +1,7 @@
 -- Nodes rest while the fronts of the links into them wait for places.
-use Rattle.traffic.proofs.Common.{◌≡◌, ◌≢◌, ℕ, zero, suc, ◌+◌, ◌-◌, ◌<◌, ◌≤◌, ◌%◌, Bool, true, false, List, [], ◌∷◌, ◌∙◌, ap, refl, sym, subst, arith, inl, inr, length, map, filter, not, cond, ◌&&◌, ◌||◌}
-use Rattle.traffic.proofs.Common.{cases_Bool, cases_lt, eqb, eqb-true, eq-eqb, and_parts, or_parts, true≢false, leb-false, leb-true, ltb-true, ltb-false, lt-ltb, nat_lt, nat_le, nat_tests, list_any, sum_by-cons, if◌then◌else◌, Option, None, Some}
-use Rattle.traffic.proofs.Common.{World, Setup, link_row, at, holes_at, in_force, taken_at, hole_of, storage_of, next_link, has_room, is_stuck, out_link, in_link, red, run, node_turns, turns_in, after, Stuck}
+use Rattle.traffic.proofs.Common.{◌≡◌, ◌≢◌, ℕ, zero, suc, ◌+◌, ◌-◌, ◌<◌, ◌≤◌, ◌%◌, Bool, true, false, List, [], ◌∷◌, ◌∙◌, ap, refl, sym, subst, arith, inl, inr, length, map, not, ◌&&◌, ◌||◌}
+use Rattle.traffic.proofs.Common.{cases_Bool, cases_lt, eqb, eqb-true, eq-eqb, and_parts, or_parts, true≢false, leb-false, leb-true, ltb-true, ltb-false, lt-ltb, nat_lt, nat_le, list_any, if◌then◌else◌, Option, None, Some}
+use Rattle.traffic.proofs.Common.{World, Setup, link_row, at, holes_at, taken_at, hole_of, storage_of, next_link, has_room, is_stuck, out_link, in_link, red, run, node_turns, turns_in, after, Stuck}
 use Rattle.std.specs.Prelude.{min}
 use Rattle.std.specs.List.{AllByRecursion as Each}
 use Rattle.std.proofs.lemmas.Nat.{mod_below}
@@ -26,27 +26,11 @@ use Rattle.queue_link.specs.Waking.{earlier as sooner}
 use Rattle.node_move.specs.Spaces.{places_in}
 use Rattle.node_seconds.specs.Networks.{lane, is_among}
 use Rattle.part_places.specs.Taking.{still}
+use Rattle.part_places.proofs.Counting.{still_is}
 use Rattle.part_nodes.specs.Turns.{covers, is_always, always_in, is_held, front_due, node_due, up_to}
 use Rattle.part_nodes.specs.Phase.{places_at, taken_before, IsWokenBy, FrontWaits, BufferWaits, AreAwaited}
 
 -- PLACES
--- a hole that is not over in the second after t counts in second t
-pub still_is : (t h : ℕ) (hs : List ℕ) → still (t + 1) (map (λ (s : ℕ). s + h) hs) ≡ in_force t h hs
-still_is t h [] = refl
-still_is t h (s ∷ hs) =
-    let i = still_is t h hs in
-    let c = sum_by-cons (λ (x : ℕ). cond (nat_le (t + 1) x) 1 0) (s + h) (map (λ (x : ℕ). x + h) hs) in
-    let q : nat_le (t + 1) (s + h) ≡ nat_lt t (s + h) = grind (arith, nat_tests) in
-    let d = c ∙ ap (λ (b : Bool). cond b 1 0 + still (t + 1) (map (λ (x : ℕ). x + h) hs)) q in
-    elim (cases_Bool (nat_lt t (s + h))) [
-      | inl e ↦
-          let f = d ∙ ap (λ (b : Bool). cond b 1 0 + still (t + 1) (map (λ (x : ℕ). x + h) hs)) e in
-          rw e (f ∙ (omega (i, arith)))
-      | inr e ↦
-          let f = d ∙ ap (λ (b : Bool). cond b 1 0 + still (t + 1) (map (λ (x : ℕ). x + h) hs)) e in
-          rw e (f ∙ (omega (i, arith)))
-    ]
-
 -- those that are taken before the second after t are those of second t
 pub before_is : (S : Setup) (t m : ℕ) (V : World) → taken_before S (t + 1) m V ≡ taken_at S t m V
 before_is S t m V = ap (λ (k : ℕ). length (at m Queue V) + k) (still_is t (hole_of S m) (holes_at m V))

@@ -1,6 +1,7 @@
 -- How many seconds are late, and how often a number stands in a list.
 use Rattle.std.proofs.Common.{◌≡◌, ℕ, ◌+◌, Bool, cond, true, false, List, [], ◌∷◌, refl, ap, sym, ◌∙◌, eqb, inl, inr, arith}
-use Rattle.std.specs.Prelude.{count_by, filter, nat_le, ◌==◌}
+use Rattle.std.specs.Prelude.{count_by, filter, map, nat_le, nat_lt, ◌==◌}
+use Rattle.traffic.specs.Nodes.{in_force}
 use Rattle.std.proofs.lemmas.Bool.{cases_Bool, ne_eqb, true≢false}
 use Rattle.std.proofs.lemmas.Bool.Decides.{nat_tests}
 use Rattle.std.proofs.lemmas.List.Sums.{sum_by-cons}
@@ -38,4 +39,21 @@ times_passed p m (n ∷ ns) e =
           let ne : eqb n m ≡ false = ne_eqb n m (λ (z : n ≡ m). true≢false (sym e ∙ ap p (sym z) ∙ q)) in
           let none : one (λ (x : ℕ). x == m) n ≡ 0 = rw ne refl in
           rw q (omega arith)
+    ]
+
+-- a hole that is not over in the second after t counts in second t
+pub still_is : (t h : ℕ) (hs : List ℕ) → still (t + 1) (map (λ (s : ℕ). s + h) hs) ≡ in_force t h hs
+still_is t h [] = refl
+still_is t h (s ∷ hs) =
+    let i = still_is t h hs in
+    let c = sum_by-cons (one (λ (x : ℕ). nat_le (t + 1) x)) (s + h) (map (λ (x : ℕ). x + h) hs) in
+    let q : nat_le (t + 1) (s + h) ≡ nat_lt t (s + h) = grind (arith, nat_tests) in
+    let d = c ∙ ap (λ (b : Bool). cond b 1 0 + still (t + 1) (map (λ (x : ℕ). x + h) hs)) q in
+    elim (cases_Bool (nat_lt t (s + h))) [
+      | inl e ↦
+          let f = d ∙ ap (λ (b : Bool). cond b 1 0 + still (t + 1) (map (λ (x : ℕ). x + h) hs)) e in
+          rw e (f ∙ (omega (i, arith)))
+      | inr e ↦
+          let f = d ∙ ap (λ (b : Bool). cond b 1 0 + still (t + 1) (map (λ (x : ℕ). x + h) hs)) e in
+          rw e (f ∙ (omega (i, arith)))
     ]

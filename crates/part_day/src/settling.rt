@@ -164,7 +164,8 @@ pub(crate) fn wake_starts(
     Ok(())
 }
 
-/// The places that vehicles left on these links come free later, and the nodes at their ends are woken: they had their turns in this second.
+/// The places that vehicles left on these links come free later, and the nodes at their ends are woken where somebody is in their buffers:
+/// they had their turns in this second.
 pub(crate) fn settle_links(
     day: &DayInput,
     second: u32,

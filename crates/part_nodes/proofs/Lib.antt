@@ -2,6 +2,7 @@ pub mod Clear
 pub mod Into
 pub mod Leading
 pub mod Seen
+pub mod Buffered
 pub mod Ready
 pub mod Crossings
 pub mod Entered

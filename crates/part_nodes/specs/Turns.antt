@@ -57,6 +57,10 @@ abbrev pub AreThere : ℕ → List Buffered → Type 0
 AreThere count [] = Unit {0}
 AreThere count (b ∷ bs) = (b.link < count) × AreThere count bs
 
+-- whether somebody is in the buffer of the link of a number
+abbrev pub is_buffered : List LinkView → ℕ → Bool
+is_buffered links n = nat_lt 0 (count_in links n)
+
 -- the span is the whole of a cycle; a signal is green in the whole of it
 abbrev pub covers : ℕ → ℕ × ℕ → Bool
 covers cycle span = ((span.0 == 0) && nat_lt 0 cycle) && nat_le cycle span.1

@@ -78,8 +78,8 @@ fn free_all(links: &[u32], space: &mut Space, holes: &mut [u64]) -> Result<(), A
 }
 
 impl Places {
-    /// The places that come free in this second are free. Answers those links that had none free before: each link for which somebody
-    /// may wait is among them if it has one now.
+    /// The places that come free in this second are free. Answers those of their links that had no place free before: a link that had none
+    /// and is not among them has none now.
     ///
     /// # Errors
     ///

@@ -130,12 +130,7 @@ fn sooner(second: Option<u64>, other: Option<u64>) -> Option<u64>
 
 /// When a node has to look at the links into it again, if nobody else does anything.
 #[tactic(auto, unfolding(crate::specs::Turns::node_due))]
-fn node_due(
-    phase: &NodePhase,
-    numbers: &[u32],
-    links: &[LinkState],
-    space: &Space,
-) -> Option<u64>
+fn node_due(phase: &NodePhase, numbers: &[u32], links: &[LinkState], space: &Space) -> Option<u64>
     requires second_in { phase.now.second < LAST_SECOND }
     requires there { AreIn (length phase.now.day.now.town.now.network.links) numbers.now }
     requires within { AreIn (length links.now) numbers.now }

@@ -88,7 +88,8 @@ impl Places {
         ensures places { (count end : ℕ) (T : Taking) → second < end → AreTaken count end second T self.old
             → OnOk result (AreTaken count end (second + 1) T self.new) }
         ensures full { (count end : ℕ) (T : Taking) → second < end → AreTaken count end second T self.old
-            → IfOk result (λ links. (m : ℕ) → m < count → times m links.items ≡ 0 → IsFull second T m → IsFull (second + 1) T m) }
+            → IfOk result (λ links. (m : ℕ) → m < count → times m links.items ≡ 0 → IsFull second T m
+            → IsFull (second + 1) T m) }
     {
         let alloc = *self.holes.allocator();
         let links = self.freed.take(second);

@@ -13,7 +13,7 @@ use Rattle.town.specs.declared.day_input.DayInput.{DayInput}
 use Rattle.law_sleeping.specs.Able.{can_go}
 use Rattle.node_move.specs.Spaces.{places_in}
 use Rattle.calendar.specs.Waking.{wake_of, earlier}
-use Rattle.queue_link.specs.Links.{LinkView}
+use Rattle.queue_link.specs.Links.{LinkView, front_second}
 use Rattle.queue_link.specs.Waking.{earlier as sooner}
 use Rattle.node_seconds.specs.Networks.{lane}
 use Rattle.part_nodes.specs.declared.node_turns.Buffered.{Buffered}
@@ -73,9 +73,12 @@ abbrev pub is_held : Stuck → ℕ → (ℕ → Bool) → List (Option OutLink) 
 is_held K t always space l rows = if always l then not (can_go K t (places_in space) rows) else false
 
 -- when the node has to look at the link again, if nobody else does anything: where its front waits for a place, when it is stuck
+abbrev pub due_from : Stuck → ℕ → Bool → Option ℕ → Option ℕ
+due_from K t held None = None
+due_from K t held (Some since) = Some (if held then since + K.seconds else t + 1)
+
 abbrev pub front_due : Stuck → ℕ → (ℕ → Bool) → List (Option OutLink) → ℕ → List Row → Option ℕ
-front_due K t always space l [] = None
-front_due K t always space l (r ∷ rs) = Some (if is_held K t always space l (r ∷ rs) then r.second + K.seconds else t + 1)
+front_due K t always space l rows = due_from K t (is_held K t always space l rows) (front_second rows)
 
 -- the earliest of these seconds, and of this one
 unfoldable pub node_due : Stuck → ℕ → (ℕ → Bool) → List (Option OutLink) → List LinkView → Option ℕ → List ℕ → Option ℕ

@@ -179,6 +179,17 @@ leads_there day l row lt e =
     let q = and_parts (nat_lt row.from n) (nat_lt row.to n) p.0 in
     ltb-true row.to n q.1
 
+-- and begins at one
+pub begins_there : (day : DayInput) (l : ℕ) (row : LinkRow) → l < length day.town.now.network.links → row ≡ get_or day.town.now.network.links l row
+    → row.from < length day.town.now.network.nodes
+unfolding is_link
+begins_there day l row lt e =
+    let n = length day.town.now.network.nodes in
+    let h = passes_at (is_link n) day.town.now.network.links l row day.town.now.sound.links lt e in
+    let p = and_parts (nat_lt row.from n && nat_lt row.to n) _ h in
+    let q = and_parts (nat_lt row.from n) (nat_lt row.to n) p.0 in
+    ltb-true row.from n q.0
+
 -- the day begins with its first world
 pub begins_with : (S : Setup) → world_start S ≡ world_at S 0
 unfolding world_from

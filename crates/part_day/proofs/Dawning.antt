@@ -10,7 +10,9 @@ use Rattle.rows.specs.declared.network.LinkRow.{LinkRow}
 use Rattle.rows.specs.declared.settings.TrafficSettings.{TrafficSettings}
 use Rattle.queue_link.specs.Links.{LinkView, fresh}
 use Rattle.queue_link.specs.Numbers.{IsMeasured, numbers_of}
+use Rattle.calendar.specs.Waking.{wake_of}
 use Rattle.part_nodes.specs.declared.network.Network.{Network}
+use Rattle.part_nodes.proofs.Held.{none_waits}
 use Rattle.part_links.specs.Links.{LinesStand}
 use Rattle.part_persons.specs.Dues.{AreFollowedIn}
 use Rattle.part_places.specs.Taking.{AreTaken, empty}
@@ -36,7 +38,8 @@ network_begins day nodes links N new places n wakes m ends =
       asleep = wakes_begin S N.links.items new S.settings.dwell day.town.now.settings.end_second links N.link_wakes n wakes;
       places = places_begin S N.links.items new day.town.now.settings.end_second N.places places;
       nodes = ap (λ (ws : List (Option ℕ)). length ws) ends ∙ length-replicate nodes None ∙ m ∙ sym (nodes_of day);
-      awaited = λ k l lt off there to. buffers_begin S l;
+      awaited = λ k l lt off there to.
+          none_waits S day.town.now.settings.end_second 0 0 l (wake_of N.node_wakes k) (world_start S) (buffers_begin S l);
     })
 
 pub part_begins : (day : DayInput) (stops : ℕ) (P : Part) → P.persons.world ≡ world_start (setup day) → IsFitWorld (counts_in day) P.persons.world

@@ -12,8 +12,9 @@ use Rattle.law_parts_of_days.specs.Persons.{PersonsStand, AreDeparting}
 use Rattle.law_parts_of_days.specs.Settling.{taking}
 use Rattle.part_day.specs.declared.part.Part.{Part}
 
--- The links are those of world V before the turns of links in second l, and sleep from then on; the places are taken as they are before
--- those of second n are free, and where a node is not woken then the fronts of the links into it wait for places.
+-- The links are those of world V before the turns of links in second l, and sleep from then on. The places are those that are taken in V,
+-- where those that were left and come free in second n or later are taken still; and of each link into a node that is not woken in second n
+-- nobody is in the buffer, or the front waits for one of these places.
 pub record NetworkStands (day : DayInput) (n l : ℕ) (N : Network) (V : World) : Type 0 where
   pub links : LinksStand (setup day) l N.links.items V
   pub asleep : AreAsleep (setup day).settings.dwell day.town.now.settings.end_second l N.links.items N.link_wakes

@@ -18,9 +18,11 @@ move_nodes-requires-clause-stands c =
     let S = setup c.args.day.now in
     let V = before_nodes S c.args.second (world_at S c.args.second) in
     let end = c.args.day.now.town.now.settings.end_second in
-    let free = c.in_ok-freed.ensures.places (length S.links) end (taking S V) c.requires.in_day c.requires.stands.network.places in
-    (V, nodes_find c.args.day.now c.args.second c.args.self.now.network _ c.requires.given c.requires.stands.network free refl refl
-    (ap length c.in_ok-wake_starts.ensures ∙ starts_length S c.args.second c.deref.result.now c.args.self.now.network.node_wakes))
+    let free = c.in_ok-freed.ensures.places (length S.links) end (taking S V) c.requires.in_day c.requires.stands.network.places in (
+      V,
+      nodes_find c.args.day.now c.args.second c.args.self.now.network _ c.requires.given c.requires.stands.network free refl refl
+          (ap length c.in_ok-wake_starts.ensures ∙ starts_length S c.args.second c.deref.result.now c.args.self.now.network.node_wakes),
+    )
 
 pub hear_told-requires-clause-plans : goal.hear_told-requires-clause-plans
 hear_told-requires-clause-plans c = one_each c.args.day.now c.args.self.now.persons.world c.requires.stands.persons.fit

@@ -49,10 +49,21 @@ fn help_is_told(rt: HostRuntime) -> Result<(), Fail> {
     Ok(())
 }
 
+/// Each of these words is refused, in words that have this part.
+fn are_refused(rt: HostRuntime, refused: &[(&[&str], &str)]) -> Result<(), Fail> {
+    let alloc = rt.alloc();
+    for (texts, part) in refused {
+        let Asked::Refused(text) = asked(alloc, texts)? else {
+            panic!(rt; "not refused: {texts:?}")
+        };
+        assert!(rt; text.as_str().contains(part), "{text}");
+    }
+    Ok(())
+}
+
 /// A refusal says what is wrong, and how the program or the command is used.
 #[test]
 fn other_words_are_refused(rt: HostRuntime) -> Result<(), Fail> {
-    let alloc = rt.alloc();
     let refused = [
         ([].as_slice(), "qsim run "),
         (["qsim"].as_slice(), "qsim check "),
@@ -67,41 +78,37 @@ fn other_words_are_refused(rt: HostRuntime) -> Result<(), Fail> {
         (["qsim", "route", "a", "b"].as_slice(), "SECOND"),
         (["qsim", "route", "a", "b", "172801"].as_slice(), "172801"),
         (["qsim", "route", "-a", "b", "0"].as_slice(), "'-a'"),
-        (["qsim", "generate", "4"].as_slice(), "SEED"),
-        (["qsim", "generate", "2", "7"].as_slice(), "'2'"),
-        (["qsim", "generate", "101", "7"].as_slice(), "'101'"),
+    ];
+    are_refused(rt, &refused)
+}
+
+/// So are a grid without a seed, one out of its bounds and options that `generate` does not have.
+#[test]
+fn other_grids_are_refused(rt: HostRuntime) -> Result<(), Fail> {
+    let generate = "generate";
+    let last = "--last-iteration";
+    let refused = [
+        (["qsim", generate, "4"].as_slice(), "SEED"),
+        (["qsim", generate, "2", "7"].as_slice(), "'2'"),
+        (["qsim", generate, "101", "7"].as_slice(), "'101'"),
         (
-            ["qsim", "generate", "4", "18446744073709551616"].as_slice(),
+            ["qsim", generate, "4", "18446744073709551616"].as_slice(),
             "18446744073709551616",
         ),
         (
-            ["qsim", "generate", "4", "7", "--last-iteration", "1001"].as_slice(),
+            ["qsim", generate, "4", "7", last, "1001"].as_slice(),
             "1001",
         ),
         (
-            [
-                "qsim",
-                "generate",
-                "4",
-                "7",
-                "--last-iteration=1",
-                "--last-iteration=1",
-            ]
-            .as_slice(),
+            ["qsim", generate, "4", "7", last, "1", last, "1"].as_slice(),
             "'--last-iteration",
         ),
         (
-            ["qsim", "generate", "4", "7", "--workers", "2"].as_slice(),
+            ["qsim", generate, "4", "7", "--workers", "2"].as_slice(),
             "'--workers'",
         ),
     ];
-    for (texts, part) in refused {
-        let Asked::Refused(text) = asked(alloc, texts)? else {
-            panic!(rt; "not refused: {texts:?}")
-        };
-        assert!(rt; text.as_str().contains(part), "{text}");
-    }
-    Ok(())
+    are_refused(rt, &refused)
 }
 
 /// A grid is asked for by its size, its seed and the number of its last iteration, 1 where that is not given.

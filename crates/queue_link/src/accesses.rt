@@ -1,7 +1,7 @@
 //! What comes to a link, what is taken from it, and what it tells of itself.
 
 ghost use Rattle.std.specs.Prelude.{◌≡◌, ◌+◌, ◌^◌, ◌<◌, ◌≤◌, ◌↔◌, [], ◌∷◌, ◌++◌};
-ghost use Rattle.std.specs.Prelude.{length, max, OnOk, IfSome, IsTrue};
+ghost use Rattle.std.specs.Prelude.{length, max, OnOk, IsTrue};
 ghost use Rattle.std.specs.Option.{option_copied};
 ghost use Rattle.limits.specs.declared.TheConstants.{LAST_SECOND};
 ghost use Rattle.traffic.specs.declared.stage.Stage.TheVariants.{Queue, Wait, Bay};
@@ -12,7 +12,7 @@ ghost use Rattle.queue_link.specs.Numbers.{AreNumbers};
 ghost use Rattle.queue_link.specs.Links.{fresh, row_on, behind_front, all_rows, first_row, front_vehicle, front_second, vehicle_at};
 
 use crate::numbers::LinkNumbers;
-use crate::sleeps::earlier;
+use crate::sleeps::earliest;
 use crate::state::LinkState;
 use crate::turns::vehicle_of;
 use fixed_flow::Credit;
@@ -128,7 +128,7 @@ impl LinkState {
             stage: Stage::Bay,
             second: until,
         })?;
-        self.bay_due = earlier(self.bay_due, Some(until));
+        self.bay_due = earliest(self.bay_due, Some(until));
         Ok(())
     }
 

@@ -1,11 +1,13 @@
--- Which nodes are woken once links have had their turns.
+-- Which nodes are woken once links have had their turns, and once places came free.
 use Rattle.traffic.proofs.Common.{◌≡◌, ◌≢◌, ℕ, suc, ◌+◌, ◌<◌, true, false, List, [], ◌∷◌, ◌++◌, ◌∙◌, ap, refl, sym, arith, inl, inr, cases_Bool, true≢false}
-use Rattle.traffic.proofs.Common.{eqb, eqb-true, eqb-false, length, length-set, get_or-set_same, get_or-set_other, set, lt-ltb, nat_lt, Option, None, Some, Setup, link_row}
+use Rattle.traffic.proofs.Common.{eqb, eqb-true, eqb-false, ne_eqb, length, length-set, get_or-set_same, get_or-set_other, set, lt-ltb, ltb-true, nat_lt, Option, None, Some, Setup, link_row}
 use Rattle.traffic.specs.declared.world.Row.{Row}
 use Rattle.calendar.specs.Waking.{wake_of}
 use Rattle.queue_link.specs.Links.{LinkView}
 use Rattle.node_seconds.specs.Networks.{lane, is_among}
-use Rattle.law_parts_of_days.specs.Settling.{buffered_in, wake_end, wake_ends}
+use Rattle.part_places.specs.Taking.{times}
+use Rattle.part_places.proofs.Counting.{one, count_cons}
+use Rattle.law_parts_of_days.specs.Settling.{buffered_in, wake_end, wake_ends, wake_start, wake_starts}
 
 pub end_length : (S : Setup) (t n : ℕ) (links : List LinkView) (wakes : List (Option ℕ)) → length (wake_end S t links n wakes) ≡ length wakes
 end_length S t n links wakes =
@@ -42,6 +44,20 @@ end_woken : (S : Setup) (t n m : ℕ) (links : List LinkView) (wakes : List (Opt
 end_woken S t n m links wakes lt to e =
     rw e (ap (λ (k : ℕ). wake_of (set wakes k (Some (t + 1))) m) to ∙ get_or-set_same wakes m (Some (t + 1)) None lt)
 
+-- and who is not keeps his second
+end_same : (S : Setup) (t n m : ℕ) (links : List LinkView) (wakes : List (Option ℕ)) → m < length wakes
+    → wake_of (wake_end S t links n wakes) m ≢ Some (t + 1) → wake_of (wake_end S t links n wakes) m ≡ wake_of wakes m
+end_same S t n m links wakes lt h =
+    let to = (link_row S n).to in
+    elim (cases_Bool (nat_lt 0 (buffered_in links n))) [
+      | inl e ↦
+          elim (cases_Bool (eqb m to)) [
+            | inl q ↦ absurd (h (end_woken S t n m links wakes lt (sym (eqb-true m to q)) e))
+            | inr q ↦ rw e (get_or-set_other wakes to m (Some (t + 1)) None (eqb-false m to q))
+          ]
+      | inr e ↦ rw e refl
+    ]
+
 nobody_in : (xs : List Row) → nat_lt 0 (length xs) ≡ false → xs ≡ []
 nobody_in [] e = refl
 nobody_in (x ∷ xs) e = let q = lt-ltb 0 (suc (length xs)) (omega arith) in absurd (true≢false (sym q ∙ e))
@@ -49,18 +65,20 @@ nobody_in (x ∷ xs) e = let q = lt-ltb 0 (suc (length xs)) (omega arith) in abs
 -- a node that is not woken in the next second was not to be, and nobody is in the buffers of those links into it
 pub record IsNotWoken (S : Setup) (t m : ℕ) (links : List LinkView) (ns : List ℕ) (wakes : List (Option ℕ)) : Type 0 where
   pub before : wake_of wakes m ≢ Some (t + 1)
+  pub same : wake_of (wake_ends S t links ns wakes) m ≡ wake_of wakes m
   pub empty : (l : ℕ) → is_among l ns ≡ true → (link_row S l).to ≡ m → (lane links l).lists.buffer ≡ []
 
 pub not_woken : (S : Setup) (t m : ℕ) (links : List LinkView) (ns : List ℕ) (wakes : List (Option ℕ)) → m < length wakes
     → wake_of (wake_ends S t links ns wakes) m ≢ Some (t + 1) → IsNotWoken S t m links ns wakes
 unfolding wake_ends
-not_woken S t m links [] wakes lt h = record { before = h; empty = λ l e to. absurd (true≢false (sym e)) }
+not_woken S t m links [] wakes lt h = record { before = h; same = refl; empty = λ l e to. absurd (true≢false (sym e)) }
 not_woken S t m links (n ∷ ns) wakes lt h =
     let later = wake_end S t links n wakes in
     let many = end_length S t n links wakes in
     let rest = not_woken S t m links ns later (omega arith) h in
     record {
       before = λ e. rest.before (end_kept S t n m links wakes lt e);
+      same = rest.same ∙ end_same S t n m links wakes lt rest.before;
       empty = λ l e to.
           elim (cases_Bool (eqb n l)) [
             | inl q ↦
@@ -88,3 +106,80 @@ nobody_waits S t m l links ns wakes lt h = (not_woken S t m links ns wakes lt h)
 pub ends_none : (S : Setup) (t : ℕ) (links : List LinkView) (wakes : List (Option ℕ)) → wakes ≡ wake_ends S t links [] wakes
 unfolding wake_ends
 ends_none S t links wakes = refl
+
+-- PLACES THAT COME FREE
+start_length : (S : Setup) (t m : ℕ) (wakes : List (Option ℕ)) → length (wake_start S t m wakes) ≡ length wakes
+start_length S t m wakes =
+    elim (cases_Bool (nat_lt m (length S.links))) [
+      | inl e ↦ rw e (length-set wakes (link_row S m).from (Some t))
+      | inr e ↦ rw e refl
+    ]
+
+pub starts_length : (S : Setup) (t : ℕ) (ms : List ℕ) (wakes : List (Option ℕ)) → length (wake_starts S t ms wakes) ≡ length wakes
+unfolding wake_starts
+starts_length S t [] wakes = refl
+starts_length S t (m ∷ ms) wakes = starts_length S t ms (wake_start S t m wakes) ∙ start_length S t m wakes
+
+start_woken : (S : Setup) (t m n : ℕ) (wakes : List (Option ℕ)) → n < length wakes → m < length S.links → (link_row S m).from ≡ n
+    → wake_of (wake_start S t m wakes) n ≡ Some t
+start_woken S t m n wakes lt there from =
+    let q = lt-ltb m (length S.links) there in
+    rw q (ap (λ (k : ℕ). wake_of (set wakes k (Some t)) n) from ∙ get_or-set_same wakes n (Some t) None lt)
+
+start_kept : (S : Setup) (t m n : ℕ) (wakes : List (Option ℕ)) → n < length wakes → wake_of wakes n ≡ Some t → wake_of (wake_start S t m wakes) n ≡ Some t
+start_kept S t m n wakes lt h =
+    let from = (link_row S m).from in
+    elim (cases_Bool (nat_lt m (length S.links))) [
+      | inl e ↦
+          rw e (elim (cases_Bool (eqb n from)) [
+            | inl q ↦
+                let same : n ≡ from = eqb-true n from q in
+                ap (λ (k : ℕ). wake_of (set wakes k (Some t)) n) (sym same) ∙ get_or-set_same wakes n (Some t) None lt
+            | inr q ↦ get_or-set_other wakes from n (Some t) None (eqb-false n from q) ∙ h
+          ])
+      | inr e ↦ rw e h
+    ]
+
+start_same : (S : Setup) (t m n : ℕ) (wakes : List (Option ℕ)) → n < length wakes → wake_of (wake_start S t m wakes) n ≢ Some t
+    → wake_of (wake_start S t m wakes) n ≡ wake_of wakes n
+start_same S t m n wakes lt h =
+    let from = (link_row S m).from in
+    elim (cases_Bool (nat_lt m (length S.links))) [
+      | inl e ↦
+          elim (cases_Bool (eqb n from)) [
+            | inl q ↦ absurd (h (start_woken S t m n wakes lt (ltb-true m (length S.links) e) (sym (eqb-true n from q))))
+            | inr q ↦ rw e (get_or-set_other wakes from n (Some t) None (eqb-false n from q))
+          ]
+      | inr e ↦ rw e refl
+    ]
+
+-- a node that is not woken for places in second t was not to be then, keeps its second, and none of these links begins at it
+pub record IsNotWokenFor (S : Setup) (t n : ℕ) (ms : List ℕ) (wakes : List (Option ℕ)) : Type 0 where
+  pub before : wake_of wakes n ≢ Some t
+  pub same : wake_of (wake_starts S t ms wakes) n ≡ wake_of wakes n
+  pub none : (m : ℕ) → m < length S.links → (link_row S m).from ≡ n → times m ms ≡ 0
+
+pub not_woken_for : (S : Setup) (t n : ℕ) (ms : List ℕ) (wakes : List (Option ℕ)) → n < length wakes → wake_of (wake_starts S t ms wakes) n ≢ Some t
+    → IsNotWokenFor S t n ms wakes
+unfolding wake_starts
+not_woken_for S t n [] wakes lt h = record { before = h; same = refl; none = λ m there from. refl }
+not_woken_for S t n (k ∷ ms) wakes lt h =
+    let later = wake_start S t k wakes in
+    let many = start_length S t k wakes in
+    let rest = not_woken_for S t n ms later (omega arith) h in
+    record {
+      before = λ e. rest.before (start_kept S t k n wakes lt e);
+      same = rest.same ∙ start_same S t k n wakes lt rest.before;
+      none = λ m there from.
+          let ne : eqb k m ≡ false = ne_eqb k m (λ (e : k ≡ m).
+          let within : k < length S.links = omega arith in
+          rest.before (start_woken S t k n wakes lt within (ap (λ (j : ℕ). (link_row S j).from) e ∙ from))) in
+          let one_is : one (λ (x : ℕ). eqb x m) k ≡ 0 = rw ne refl in
+          let c = count_cons (λ (x : ℕ). eqb x m) k ms in
+          let r = rest.none m there from in
+          omega arith;
+    }
+
+pub none_begins : (S : Setup) (t n m : ℕ) (ms : List ℕ) (wakes : List (Option ℕ)) → n < length wakes → m < length S.links → (link_row S m).from ≡ n
+    → wake_of (wake_starts S t ms wakes) n ≢ Some t → times m ms ≡ 0
+none_begins S t n m ms wakes lt there from h = (not_woken_for S t n ms wakes lt h).none m there from

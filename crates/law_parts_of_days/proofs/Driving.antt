@@ -1,10 +1,9 @@
--- What the turns of links leave of the places, the nodes and the lines of a part.
-use Rattle.traffic.proofs.Common.{◌≡◌, ◌≢◌, ℕ, ◌+◌, ◌<◌, ◌≤◌, false, List, [], ◌∙◌, ap, sym, subst, arith, inl, inr, cases_Bool, length, length-map, Option, Some}
-use Rattle.traffic.proofs.Common.{World, Setup, Phase, LinkState, at, through, world_at, link_row, link_of_stop, turns_in, after, All-get_or, plan_rows}
+-- What the turns of links leave of the places and the lines of a part.
+use Rattle.traffic.proofs.Common.{◌≡◌, ℕ, ◌+◌, ◌<◌, ◌≤◌, false, List, ◌∙◌, ap, sym, subst, arith, length, length-map}
+use Rattle.traffic.proofs.Common.{World, Setup, Phase, LinkState, at, through, world_at, link_of_stop, turns_in, after, All-get_or, plan_rows}
 use Rattle.events.specs.declared.event.Phase.TheVariants as phase
 use Rattle.traffic.specs.declared.stage.Stage.TheVariants.{Queue, Buffer}
 use Rattle.traffic.specs.declared.world.Waiter.{Waiter}
-use Rattle.calendar.specs.Waking.{wake_of}
 use Rattle.law_in_range.specs.Rows.{IsFitWorld}
 use Rattle.law_in_range.specs.Setups.{IsFitStop, counts_in}
 use Rattle.law_one_place.proofs.Places.{InOne}
@@ -17,10 +16,9 @@ use Rattle.node_seconds.specs.Networks.{lane, is_among}
 use Rattle.part_links.specs.Links.{LinksStand, LinesStand, lies_on}
 use Rattle.part_places.specs.declared.places.Places.{Places}
 use Rattle.part_places.specs.Taking.{AreTaken}
-use Rattle.law_parts_of_days.specs.Settling.{taking, queued_in, settled, wake_ends}
+use Rattle.law_parts_of_days.specs.Settling.{taking, queued_in, settled}
 use Rattle.law_parts_of_days.proofs.Worlds.{fit_setup, phases_fit, phases_in_one}
 use Rattle.law_parts_of_days.proofs.Taken.{has_left, settled_is, taken_as}
-use Rattle.law_parts_of_days.proofs.Awaited.{not_woken}
 use Rattle.law_parts_of_days.proofs.Waiting.{nodes_keep_waiters, lines_short}
 
 -- LISTS
@@ -28,7 +26,7 @@ queue_is : (S : Setup) (t l : ℕ) (links : List LinkView) (V : World) → Links
     → queued_in links l ≡ length (at l Queue V)
 queue_is S t l links V h lt = ap (λ (L : LinkState). length L.queue) (h.lists l lt)
 
-buffer_is : (S : Setup) (t l : ℕ) (links : List LinkView) (V : World) → LinksStand S t links V → l < length S.links
+pub buffer_is : (S : Setup) (t l : ℕ) (links : List LinkView) (V : World) → LinksStand S t links V → l < length S.links
     → (lane links l).lists.buffer ≡ at l Buffer V
 buffer_is S t l links V h lt = ap (λ (L : LinkState). L.buffer) (h.lists l lt)
 
@@ -55,24 +53,6 @@ places_settled S end t V old new ns P before now others h =
     (λ m lt off.
     sym (queue_is S (t + 1) m new W now lt) ∙ ap (λ (v : LinkView). length v.lists.queue) (others m off) ∙ queue_is S t m old V before lt))
     (subst (λ (n : ℕ). AreTaken n end (t + 1) (settled S t new ns (taking S V)) P) now.count h)
-
--- THE NODES
-pub awaited_after : (S : Setup) (t : ℕ) (V : World) (old new : List LinkView) (ns : List ℕ) (before wakes : List (Option ℕ)) → LinksStand S t old V
-    → LinksStand S (t + 1) new (after S t (turns_in S t phase.D V) V) → ((l : ℕ) → is_among l ns ≡ false → lane new l ≡ lane old l)
-    → length before ≡ S.nodes → wakes ≡ wake_ends S t new ns before
-    → ((n l : ℕ) → n < S.nodes → wake_of before n ≢ Some (t + 1) → l < length S.links → (link_row S l).to ≡ n → at l Buffer V ≡ [])
-    → (n l : ℕ) → n < S.nodes → wake_of wakes n ≢ Some (t + 1) → l < length S.links → (link_row S l).to ≡ n
-    → at l Buffer (after S t (turns_in S t phase.D V) V) ≡ []
-awaited_after S t V old new ns before wakes stood stand others many e h n l lt off there to =
-    let W = after S t (turns_in S t phase.D V) V in
-    let within : n < length before = omega arith in
-    let w = not_woken S t n new ns before within (subst (λ (ws : List (Option ℕ)). wake_of ws n ≢ Some (t + 1)) e off) in
-    let own = buffer_is S (t + 1) l new W stand there in
-    elim (cases_Bool (is_among l ns)) [
-      | inl a ↦ sym own ∙ w.empty l a to
-      | inr a ↦
-          sym own ∙ ap (λ (v : LinkView). v.lists.buffer) (others l a) ∙ buffer_is S t l old V stood there ∙ h n l lt w.before there to
-    ]
 
 -- THE LINES
 -- they stand for those who wait after the nodes had their turns as well

@@ -1,6 +1,6 @@
 -- The places of links over the phases of a second.
 use Rattle.traffic.proofs.Common.{◌≡◌, ℕ, zero, suc, ◌+◌, ◌-◌, ◌<◌, ◌≤◌, Bool, true, false, List, [], ◌∷◌, ◌++◌, ◌∙◌, ap, refl, sym, subst, arith, inl, inr, cases_Bool}
-use Rattle.traffic.proofs.Common.{cond, eqb, eqb-true, eqb-false, eq-eqb, ne_eqb, nat_tests, lt-ltb, length, get_or, map, filter, replicate, if◌then◌else◌, nat_lt, nat_le, Option, Some, None, length-append, filter-append, map-append, append-nil, sum_by-cons}
+use Rattle.traffic.proofs.Common.{eqb, eqb-true, eqb-false, eq-eqb, ne_eqb, lt-ltb, length, get_or, map, filter, replicate, if◌then◌else◌, nat_lt, Option, Some, None, length-append, filter-append, map-append, append-nil}
 use Rattle.traffic.proofs.Common.{World, Setup, link_row, at, holes_at, taken_at, in_force, hole_of, hole_seconds, seconds_of, storage_of, turns_in, turns_of, after, node_turns}
 use Rattle.std.proofs.Common.{take}
 use Rattle.events.specs.declared.event.Phase.TheVariants as phase
@@ -11,15 +11,16 @@ use Rattle.traffic.proofs.Sublists.{holes-run}
 use Rattle.traffic.proofs.Nodes.{node-buffers, buffers-holes}
 use Rattle.traffic.proofs.Walks.{phase_keeps}
 use Rattle.law_sleeping.proofs.Places.{links_free, links_keep_places}
-use Rattle.calendar.specs.Due.{due_at}
+use Rattle.calendar.specs.Due.{due_at, AreIn}
 use Rattle.queue_link.specs.Links.{LinkView}
 use Rattle.node_move.specs.Spaces.{places_in}
-use Rattle.node_seconds.specs.Networks.{is_among, AreIn, AreOnce}
+use Rattle.node_seconds.specs.Networks.{is_among, AreOnce}
 use Rattle.node_seconds.proofs.Lanes.{in_at, among_front}
 use Rattle.part_links.proofs.Standing.{taken_one}
 use Rattle.part_links.proofs.Numbers.{among_own, among_other}
 use Rattle.part_places.specs.declared.places.Places.{Places}
 use Rattle.part_places.specs.Taking.{Taking, AreTaken, still, times, later}
+use Rattle.part_places.proofs.Counting.{still_is}
 use Rattle.law_parts_of_days.specs.Settling.{taking, queued_in, settled}
 
 -- PLACES THAT ARE TAKEN ALIKE
@@ -57,23 +58,6 @@ taking_alike S count V W q h = record {
 }
 
 -- WHEN NODES LOOK AT THEM
--- a hole that is not over in the second after t counts in second t
-still_is : (t h : ℕ) (hs : List ℕ) → still (t + 1) (map (λ (s : ℕ). s + h) hs) ≡ in_force t h hs
-still_is t h [] = refl
-still_is t h (s ∷ hs) =
-    let i = still_is t h hs in
-    let c = sum_by-cons (λ (x : ℕ). cond (nat_le (t + 1) x) 1 0) (s + h) (map (λ (x : ℕ). x + h) hs) in
-    let q : nat_le (t + 1) (s + h) ≡ nat_lt t (s + h) = grind (arith, nat_tests) in
-    let d = c ∙ ap (λ (b : Bool). cond b 1 0 + still (t + 1) (map (λ (x : ℕ). x + h) hs)) q in
-    elim (cases_Bool (nat_lt t (s + h))) [
-      | inl e ↦
-          let f = d ∙ ap (λ (b : Bool). cond b 1 0 + still (t + 1) (map (λ (x : ℕ). x + h) hs)) e in
-          rw e (f ∙ (omega (i, arith)))
-      | inr e ↦
-          let f = d ∙ ap (λ (b : Bool). cond b 1 0 + still (t + 1) (map (λ (x : ℕ). x + h) hs)) e in
-          rw e (f ∙ (omega (i, arith)))
-    ]
-
 pub places_now : (S : Setup) (end t : ℕ) (V : World) (P : Places) → AreTaken (length S.links) end (t + 1) (taking S V) P
     → (m : ℕ) → m < length S.links
     → places_in P.space m ≡ Some (record { taken = taken_at S t m V; storage = storage_of S m; seconds = seconds_of S m })

@@ -2,7 +2,7 @@
 use Rattle.std.specs.Prelude.{◌≡◌, ℕ, ◌<◌, List, length}
 use Rattle.rows.specs.declared.network.LinkRow.{LinkRow}
 use Rattle.rows.specs.declared.settings.TrafficSettings.{TrafficSettings}
-pub use Rattle.traffic.specs.Setup.{row_at}
+use Rattle.traffic.specs.Setup.{row_at}
 use Rattle.queue_link.specs.Links.{LinkView, fresh}
 use Rattle.queue_link.specs.Numbers.{numbers_of}
 use Rattle.node_seconds.specs.Networks.{lane}

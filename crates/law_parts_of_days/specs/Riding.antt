@@ -12,7 +12,7 @@ use Rattle.traffic.specs.declared.world.Person.{Person}
 use Rattle.traffic.specs.Rows.{nobody}
 use Rattle.traffic.specs.Setup.{Setup, act_at, leg_at}
 use Rattle.rows.specs.Plan.{mode_of_leg}
-pub use Rattle.traffic.specs.Persons.{stuck_on}
+use Rattle.traffic.specs.Persons.{stuck_on}
 use Rattle.traffic.specs.Day.{keyed}
 use Rattle.queue_link.specs.Links.{LinkView, all_rows}
 

@@ -40,3 +40,12 @@ wake_end S t links n wakes = if nat_lt 0 (buffered_in links n) then set wakes (l
 unfoldable pub wake_ends : Setup → ℕ → List LinkView → List ℕ → List (Option ℕ) → List (Option ℕ)
 wake_ends S t links [] wakes = wakes
 wake_ends S t links (n ∷ ns) wakes = wake_ends S t links ns (wake_end S t links n wakes)
+
+-- the node at the start of a link is woken in second t, where the link is there
+abbrev pub wake_start : Setup → ℕ → ℕ → List (Option ℕ) → List (Option ℕ)
+wake_start S t m wakes = if nat_lt m (length S.links) then set wakes (link_row S m).from (Some t) else wakes
+
+-- so with each of these links
+unfoldable pub wake_starts : Setup → ℕ → List ℕ → List (Option ℕ) → List (Option ℕ)
+wake_starts S t [] wakes = wakes
+wake_starts S t (m ∷ ms) wakes = wake_starts S t ms (wake_start S t m wakes)

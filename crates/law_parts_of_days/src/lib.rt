@@ -24,7 +24,8 @@ ghost use Rattle.traffic.specs.Day.{turns_in, after, events_in, told_in, second,
 ghost use Rattle.traffic.specs.Worlds.{OnePlace};
 ghost use Rattle.law_parts_of_days.specs.Beginning.{AreFresh};
 ghost use Rattle.law_parts_of_days.specs.Riding.{put_links};
-ghost use Rattle.law_parts_of_days.specs.Settling.{wake_ends};
+ghost use Rattle.law_parts_of_days.specs.Settling.{wake_ends, wake_starts};
+ghost use Rattle.part_places.specs.Taking.{times};
 
 /// A second has three steps: the phases of persons and departures, that of the nodes, and that of the links.
 pub fn seconds_have_three_steps()
@@ -57,6 +58,12 @@ pub fn nodes_are_woken_for_vehicles()
     ensures { (S : Setup) (t m l : ℕ) (links : List LinkView) (ns : List ℕ) (wakes : List (Option ℕ)) → m < length wakes
         → wake_of (wake_ends S t links ns wakes) m ≢ Some (t + 1) → is_among l ns ≡ true → (link_row S l).to ≡ m
         → (lane links l).lists.buffer ≡ [] }
+{}
+
+/// Once nodes were woken for places that came free on some links, none of these links begins at a node that is not woken.
+pub fn nodes_are_woken_for_places()
+    ensures { (S : Setup) (t n m : ℕ) (ms : List ℕ) (wakes : List (Option ℕ)) → n < length wakes → m < length S.links
+        → (link_row S m).from ≡ n → wake_of (wake_starts S t ms wakes) n ≢ Some t → times m ms ≡ 0 }
 {}
 
 /// At the start of a day links on which nobody is, and lines in which nobody waits, are those of the world.

@@ -1,3 +1,4 @@
+pub mod Single
 pub mod Entries
 pub mod Runs
 pub mod Fronts

@@ -12,8 +12,7 @@ use Rattle.traffic.specs.declared.node_views.OutLink.{OutLink}
 use Rattle.traffic.specs.Vehicles.{VehicleState}
 use Rattle.traffic.specs.Lists.{on_front}
 use Rattle.traffic.specs.Moves.{told, at_second, at_after_all}
-pub use Rattle.traffic.specs.Nodes.{HasNext, HaveNext}
-use Rattle.traffic.specs.Nodes.{NodeView, out_links_after, node_moves}
+use Rattle.traffic.specs.Nodes.{NodeView, out_links_after, node_moves, HaveNext}
 use Rattle.queue_link.specs.Links.{LinkView, fresh}
 use Rattle.node_move.specs.declared.crossings.Entering.{Entering}
 

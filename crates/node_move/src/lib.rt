@@ -2,6 +2,7 @@
 //! or where they are stuck, in place and exactly as `traffic` says it.
 #![tactic(auto)]
 
+mod alone;
 mod candidates;
 mod crossings;
 mod drawings;
@@ -9,6 +10,7 @@ mod space;
 mod spaces;
 mod turns;
 
+pub use alone::move_alone;
 pub use crossings::{Crossings, Entering};
 pub use space::Space;
 pub use turns::{NodeTurn, move_node};

@@ -2,7 +2,6 @@
 use Rattle.std.specs.Prelude.{◌≡◌, ℕ, ◌+◌, ◌<◌, Bool, false, ◌||◌, List, [], ◌∷◌, ◌++◌, length, get_or, set, ◌==◌}
 use Rattle.std.specs.Prelude.{nat_lt, if◌then◌else◌, Option}
 use Rattle.traffic.specs.declared.stage.Stage.TheVariants.{Queue}
-pub use Rattle.calendar.specs.Due.{AreIn}
 use Rattle.calendar.specs.Waking.{woken_by}
 use Rattle.queue_link.specs.Links.{LinkView, row_on}
 use Rattle.node_move.specs.declared.crossings.Entering.{Entering}

@@ -1,3 +1,4 @@
+pub mod Awaiting
 pub mod Steps
 pub mod Rows
 pub mod Dawning

@@ -1,12 +1,12 @@
 -- The part stands for the worlds of a second, step after step.
-use Rattle.traffic.proofs.Common.{◌≡◌, ◌≢◌, ℕ, ◌+◌, ◌<◌, ◌≤◌, false, List, [], ◌∷◌, ◌++◌, ◌∙◌, ap, refl, sym, subst, length, length-set, get_or, nobody, flat_map, Option, None, Some, Event, World, Setup, world_at, turns_in, moves_of, after, told, persons_after, second, phases, into, world_start, world_from, add-one}
+use Rattle.traffic.proofs.Common.{◌≡◌, ℕ, ◌+◌, ◌<◌, ◌≤◌, false, List, [], ◌∷◌, ◌++◌, ◌∙◌, ap, refl, sym, subst, arith, length, length-set, get_or, nobody, flat_map, Option, None, Some, Event, World, Setup, world_at, turns_in, moves_of, after, told, persons_after, second, phases, into, world_start, world_from, add-one}
 use Rattle.events.specs.declared.event.Phase.TheVariants as phase
 use Rattle.traffic.specs.declared.moves.Occurrence.{Occurrence}
 use Rattle.traffic.specs.declared.stage.Stage.TheVariants.{Queue, Buffer}
 use Rattle.traffic.specs.declared.world.Person.{Person}
 use Rattle.traffic.specs.declared.world.Waiter.{Waiter}
 use Rattle.calendar.specs.Due.{Due, HasNone, due_at}
-use Rattle.calendar.specs.Waking.{wake_of, woken}
+use Rattle.calendar.specs.Waking.{woken}
 use Rattle.law_in_range.specs.Rows.{IsFitWorld}
 use Rattle.law_in_range.specs.Setups.{counts_in}
 use Rattle.law_sleeping.specs.Marks.{before_nodes, before_links}
@@ -16,13 +16,13 @@ use Rattle.town.specs.Views.{setup}
 use Rattle.queue_link.specs.Links.{LinkView}
 use Rattle.part_nodes.specs.declared.network.Network.{Network}
 use Rattle.part_places.specs.declared.places.Places.{Places}
-use Rattle.part_places.specs.Taking.{Taking, AreTaken}
+use Rattle.part_places.specs.Taking.{Taking, AreTaken, IsFull, times}
 use Rattle.part_persons.specs.Dues.{AreFollowedIn}
 use Rattle.part_lines.specs.Coming.{CanAllJoin, with_one, joined_lines, came}
 use Rattle.link_seconds.specs.Seconds.{line_at}
 use Rattle.part_links.specs.Links.{LinksStand, LinesStand, AreAsleep}
 use Rattle.part_starts.specs.Starting.{all_started, woken_for_all}
-use Rattle.law_parts_of_days.specs.Settling.{taking, queued_in, settled, wake_ends}
+use Rattle.law_parts_of_days.specs.Settling.{taking, queued_in, settled, wake_ends, wake_starts}
 use Rattle.law_parts_of_days.proofs.SettingOut as setting
 use Rattle.law_parts_of_days.proofs.SettingOut.{HasSetOut}
 use Rattle.law_parts_of_days.proofs.Taken.{taken_as, taking_alike, places_now, places_after, nodes_keep_holes}
@@ -30,12 +30,14 @@ use Rattle.law_parts_of_days.proofs.Worlds.{phases_fit}
 use Rattle.law_parts_of_days.proofs.Through.{nodes_are, links_are}
 use Rattle.law_parts_of_days.proofs.Hearing.{heard_stand}
 use Rattle.law_parts_of_days.proofs.Awaited.{ends_length}
-use Rattle.law_parts_of_days.proofs.Driving.{few_left, places_settled, awaited_after, lines_after, all_in_one}
+use Rattle.law_parts_of_days.proofs.Driving.{few_left, places_settled, lines_after, all_in_one}
 use Rattle.law_joined_routes.proofs.Routes.{town_goes_on}
 use Rattle.law_in_range.proofs.Days.{chosen_fit}
 use Rattle.node_seconds.specs.Networks.{lane, is_among}
 use Rattle.part_links.specs.Phase as phase_of_links
-use Rattle.part_nodes.specs.Phase.{StandsFor, IsPhase}
+use Rattle.part_nodes.specs.Phase.{StandsFor, AreAwaited, IsPhase}
+use Rattle.part_nodes.proofs.Held.{before_same, awaited_on}
+use Rattle.part_day.proofs.Awaiting.{awaited_when_free, awaited_after}
 use Rattle.part_day.specs.declared.part.Part.{Part}
 use Rattle.part_day.specs.Stands.{Stands, NetworkStands}
 
@@ -82,9 +84,11 @@ network_out day t N M W P P1 P2 given lt h out fit links wakes places nodes =
           (taking_alike S (length S.links) W V (λ m lt. setting.same_at day t W P P1 P2 out m Queue refl)
           (λ m lt. setting.same_holes day t W P P1 P2 out m)) h.places);
       nodes = ap (λ (ws : List (Option ℕ)). length ws) nodes ∙ h.nodes;
-      awaited = λ k l lt off there to.
-          setting.same_at day t W P P1 P2 out l Buffer refl
-          ∙ h.awaited k l lt (subst (λ (ws : List (Option ℕ)). wake_of ws k ≢ Some t) nodes off) there to;
+      awaited = subst (λ (ws : List (Option ℕ)). AreAwaited S end t t ws V) (sym nodes)
+          (awaited_on S end t t N.node_wakes W V (λ l there. setting.same_at day t W P P1 P2 out l Buffer refl)
+          (λ m.
+          let e = before_same S t m W V (setting.same_at day t W P P1 P2 out m Queue refl) (setting.same_holes day t W P P1 P2 out m) in
+          omega arith) h.awaited);
     }
 
 -- the part once all have set out
@@ -123,7 +127,7 @@ pub nodes_find : (day : DayInput) (t : ℕ) (N M : Network) → HaveFittingPlans
     → NetworkStands day t t N (before_nodes (setup day) t (world_at (setup day) t))
     → AreTaken (length (setup day).links) day.town.now.settings.end_second (t + 1)
     (taking (setup day) (before_nodes (setup day) t (world_at (setup day) t))) M.places
-    → M.links.items ≡ N.links.items → M.link_wakes ≡ N.link_wakes → M.node_wakes ≡ N.node_wakes
+    → M.links.items ≡ N.links.items → M.link_wakes ≡ N.link_wakes → length M.node_wakes ≡ length N.node_wakes
     → StandsFor (counts_in day) (setup day) day.town.now.settings.end_second t M (before_nodes (setup day) t (world_at (setup day) t))
 nodes_find day t N M given h free links wakes nodes =
     let S = setup day in
@@ -139,8 +143,23 @@ nodes_find day t N M given h free links wakes nodes =
             (subst (λ (ws : List (Option ℕ)). AreAsleep S.settings.dwell end t N.links.items ws) (sym wakes) h.asleep);
         places = places_now S end t V M.places free;
       };
-      nodes = ap (λ (ws : List (Option ℕ)). length ws) nodes ∙ h.nodes;
+      nodes = nodes ∙ h.nodes;
     }
+
+-- those who wait once the places of a second are free and nodes were woken for them
+pub free_awaited : (day : DayInput) (t : ℕ) (N : Network) (ms : List ℕ) (wakes : List (Option ℕ)) → HaveFittingPlans day
+    → NetworkStands day t t N (before_nodes (setup day) t (world_at (setup day) t)) → wakes ≡ wake_starts (setup day) t ms N.node_wakes
+    → ((m : ℕ) → m < length (setup day).links → times m ms ≡ 0
+    → IsFull t (taking (setup day) (before_nodes (setup day) t (world_at (setup day) t))) m
+    → IsFull (t + 1) (taking (setup day) (before_nodes (setup day) t (world_at (setup day) t))) m)
+    → AreAwaited (setup day) day.town.now.settings.end_second (t + 1) t wakes (before_nodes (setup day) t (world_at (setup day) t))
+free_awaited day t N ms wakes given h e full =
+    let S = setup day in
+    let end = day.town.now.settings.end_second in
+    let V = before_nodes S t (world_at S t) in
+    subst (λ (ws : List (Option ℕ)). AreAwaited S end (t + 1) t ws V) (sym e)
+    (awaited_when_free S end t V N.node_wakes ms h.nodes
+    (town_goes_on day t (phase.A ∷ phase.B1 ∷ phase.B2 ∷ []) (chosen_fit day given)) full h.awaited)
 
 -- the part once the nodes had their turns
 pub crossed_stands : (day : DayInput) (t : ℕ) (P Q : Part) (N : Network) (first out : List Event) (spoken said : List Occurrence) → HaveFittingPlans day → spoken ≡ []
@@ -220,7 +239,7 @@ driven_stands day t P Q ns first out spoken said given silent h g others places 
         asleep = g.asleep;
         places = places_settled S end t V old new ns Q.network.places h.network.links g.links others places;
         nodes = ap (λ (ws : List (Option ℕ)). length ws) nodes ∙ ends_length S t new ns P.network.node_wakes ∙ h.network.nodes;
-        awaited = awaited_after S t V old new ns P.network.node_wakes Q.network.node_wakes h.network.links g.links others h.network.nodes nodes
+        awaited = awaited_after S end t V old new ns P.network.node_wakes Q.network.node_wakes h.network.links g.links others h.network.nodes nodes
             h.network.awaited;
       };
     })

@@ -12,14 +12,15 @@ use Rattle.law_parts_of_days.specs.Persons.{PersonsStand, AreDeparting}
 use Rattle.law_parts_of_days.specs.Settling.{taking}
 use Rattle.part_day.specs.declared.part.Part.{Part}
 
--- The links are those of world V before the turns of links in second l, and sleep from then on; the places are taken as the nodes of second
--- n find them, and a node that is not woken then has nobody in the buffers of the links into it.
+-- The links are those of world V before the turns of links in second l, and sleep from then on. The places are those that are taken in V,
+-- where those that were left and come free in second n or later are taken still; and of each link into a node that is not woken in second n
+-- nobody is in the buffer, or the front waits for one of these places.
 pub record NetworkStands (day : DayInput) (n l : ℕ) (N : Network) (V : World) : Type 0 where
   pub links : LinksStand (setup day) l N.links.items V
   pub asleep : AreAsleep (setup day).settings.dwell day.town.now.settings.end_second l N.links.items N.link_wakes
   pub places : AreTaken (length (setup day).links) day.town.now.settings.end_second n (taking (setup day) V) N.places
   pub nodes : length N.node_wakes ≡ (setup day).nodes
-  pub awaited : AreAwaited (setup day) n N.node_wakes V
+  pub awaited : AreAwaited (setup day) day.town.now.settings.end_second n n N.node_wakes V
 
 -- The part stands for world V, and everything sleeps from a second on: persons and departures from second p, nodes from n and links from l.
 -- All that is said of sleep is said from that second on, so it says something of second 0 as well.

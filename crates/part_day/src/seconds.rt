@@ -20,7 +20,7 @@ ghost use Rattle.part_day.specs.Stands.{Stands};
 
 use crate::hearing::hear_told;
 use crate::part::Part;
-use crate::settling::settle_links;
+use crate::settling::{settle_links, wake_starts};
 use calendar::Wakes;
 use part_links::{LinkPhase, Told, move_links};
 use part_nodes::{NodePhase, move_nodes};
@@ -80,7 +80,8 @@ impl Part {
             (turns_in (setup day.now) second phase.C (before_nodes (setup day.now) second (world_at (setup day.now) second)))) }
         ensures said { OnOk result (told.new.said.items ≡ []) }
     {
-        self.network.places.free(second)?;
+        let freed = self.network.places.free(second)?;
+        wake_starts(day, second, &freed, &mut self.network.node_wakes)?;
         let phase = NodePhase { day, second };
         move_nodes(alloc, &phase, &self.in_links, &mut self.network, told)?;
         hear_told(alloc, day, second, told, &mut self.persons)?;

@@ -57,22 +57,28 @@ all_before S t n persons w [] s p h = tt
 all_before S t n persons w (x ∷ xs) s p h = (one_before S t n persons w x s p h.0, all_before S t n persons w xs s p h.1)
 
 -- THE STOPS
--- who came in second t came to a stop that has a line and lies on a link
-pub record HasStop (S : Setup) (count : ℕ) (w : Waiter) : Type 0 where
+-- a link is one of those in so many slots with these numbers
+abbrev pub IsOneOf : (ℕ → ℕ) → ℕ → ℕ → Type 0
+IsOneOf number size l = (k : ℕ) × ((k < size) × (number k ≡ l))
+
+-- who came in second t came to a stop that has a line and lies on one of these links
+pub record HasStop (number : ℕ → ℕ) (size : ℕ) (S : Setup) (count : ℕ) (w : Waiter) : Type 0 where
   pub line : w.stop < count
-  pub link : link_of_stop S w.stop < length S.links
+  pub link : IsOneOf number size (link_of_stop S w.stop)
 
-abbrev pub HaveStops : Setup → ℕ → ℕ → List Person → Type 0
-HaveStops S t count persons = (i : ℕ) (w : Waiter) → i < length persons → came S t i (get_or persons i nobody) ≡ Some w → HasStop S count w
+abbrev pub HaveStops : (ℕ → ℕ) → ℕ → Setup → ℕ → ℕ → List Person → Type 0
+HaveStops number size S t count persons =
+    (i : ℕ) (w : Waiter) → i < length persons → came S t i (get_or persons i nobody) ≡ Some w → HasStop number size S count w
 
--- each line of a stop on a link has those alone who stand there before person n comes
-abbrev AreBehind : Setup → ℕ → List Person → ℕ → List (List Waiter) → Type 0
-AreBehind S t persons n lines = (s : ℕ) → link_of_stop S s < length S.links → AllBehind S t persons n (line_at lines s)
+-- each line of a stop on one of these links has those alone who stand there before person n comes
+abbrev AreBehind : (ℕ → ℕ) → ℕ → Setup → ℕ → List Person → ℕ → List (List Waiter) → Type 0
+AreBehind number size S t persons n lines =
+    (s : ℕ) → IsOneOf number size (link_of_stop S s) → AllBehind S t persons n (line_at lines s)
 
-can_join : (S : Setup) (t n count : ℕ) (persons : List Person) (lines : List (List Waiter)) (o : Option Waiter) → o ≡ came S t n (get_or persons n nobody)
-    → n < length persons → count ≡ length lines → HaveStops S t count persons → AreBehind S t persons n lines → CanJoin o lines
-can_join S t n count persons lines None e lt c h b = tt
-can_join S t n count persons lines (Some w) e lt c h b =
+can_join : (number : ℕ → ℕ) (size : ℕ) (S : Setup) (t n count : ℕ) (persons : List Person) (lines : List (List Waiter)) (o : Option Waiter) → o ≡ came S t n (get_or persons n nobody)
+    → n < length persons → count ≡ length lines → HaveStops number size S t count persons → AreBehind number size S t persons n lines → CanJoin o lines
+can_join number size S t n count persons lines None e lt c h b = tt
+can_join number size S t n count persons lines (Some w) e lt c h b =
     let has = h n w lt (sym e) in
     let new = came_new S t n (get_or persons n nobody) w (sym e) in
     let behind = b w.stop has.link in (
@@ -91,10 +97,11 @@ came_behind S t n s persons (Some w) e =
     let lt : w.person < n + 1 = omega arith in
     elim (cases_Bool (eqb w.stop s)) [ inl q ↦ rw q (inr (new.since, lt), tt) | inr q ↦ rw q tt ]
 
-next_behind : (S : Setup) (t n : ℕ) (persons : List Person) (lines : List (List Waiter)) → CanJoin (came S t n (get_or persons n nobody)) lines
-    → AreBehind S t persons n lines → AreBehind S t persons (n + 1) (with_one (came S t n (get_or persons n nobody)) lines)
+next_behind : (number : ℕ → ℕ) (size : ℕ) (S : Setup) (t n : ℕ) (persons : List Person) (lines : List (List Waiter))
+    → CanJoin (came S t n (get_or persons n nobody)) lines → AreBehind number size S t persons n lines
+    → AreBehind number size S t persons (n + 1) (with_one (came S t n (get_or persons n nobody)) lines)
 unfolding AllBehind
-next_behind S t n persons lines can b = λ s on.
+next_behind number size S t n persons lines can b = λ s on.
     let o = came S t n (get_or persons n nobody) in
     subst (λ (xs : List Waiter). AllBehind S t persons (n + 1) xs) (sym (one_more o lines s can))
     (each_append (IsBehind S t persons (n + 1)) (line_at lines s) (at_this s o) (more_behind S t persons n (line_at lines s) (b s on))
@@ -104,20 +111,20 @@ as_many_lines : (o : Option Waiter) (lines : List (List Waiter)) → length (wit
 as_many_lines None lines = refl
 as_many_lines (Some w) lines = length-set lines w.stop _
 
-can_from : (S : Setup) (t count : ℕ) (persons : List Person) (awake : ℕ → Bool) (k n : ℕ) (lines : List (List Waiter)) → k + n ≤ length persons
-    → count ≡ length lines → HaveStops S t count persons → AreBehind S t persons k lines → CanAllJoin S t persons (filter awake (numbers k n)) lines
+can_from : (number : ℕ → ℕ) (size : ℕ) (S : Setup) (t count : ℕ) (persons : List Person) (awake : ℕ → Bool) (k n : ℕ) (lines : List (List Waiter)) → k + n ≤ length persons
+    → count ≡ length lines → HaveStops number size S t count persons → AreBehind number size S t persons k lines → CanAllJoin S t persons (filter awake (numbers k n)) lines
 unfolding CanAllJoin
-can_from S t count persons awake k zero lines le c h b = tt
-can_from S t count persons awake k (suc n) lines le c h b =
+can_from number size S t count persons awake k zero lines le c h b = tt
+can_from number size S t count persons awake k (suc n) lines le c h b =
     let there : k < length persons = omega arith in
     let rest : (k + 1) + n ≤ length persons = omega arith in
     elim (cases_Bool (awake k)) [
       | inl e ↦
           let o = came S t k (get_or persons k nobody) in
-          let can : CanJoin o lines = can_join S t k count persons lines o refl there c h b in
-          rw e (there, can, can_from S t count persons awake (k + 1) n (with_one o lines) rest (c ∙ sym (as_many_lines o lines)) h (next_behind S t k persons lines can b))
+          let can : CanJoin o lines = can_join number size S t k count persons lines o refl there c h b in
+          rw e (there, can, can_from number size S t count persons awake (k + 1) n (with_one o lines) rest (c ∙ sym (as_many_lines o lines)) h (next_behind number size S t k persons lines can b))
       | inr e ↦
-          rw e (can_from S t count persons awake (k + 1) n lines rest c h (λ s on. more_behind S t persons k (line_at lines s) (b s on)))
+          rw e (can_from number size S t count persons awake (k + 1) n lines rest c h (λ s on. more_behind S t persons k (line_at lines s) (b s on)))
     ]
 
 -- WHO WAITED
@@ -179,38 +186,43 @@ waited S t l W before =
     (λ w. ap (came S t i) (stays_early S t i W (not_due t (leg_at S i P.element) P.place w)) ∙ earlier_none S t i P (before i there))))
 
 -- ALL TOGETHER
--- the lines have those who wait in a world at the stops of each link
-abbrev pub LinesHave : Setup → List (List Waiter) → World → Type 0
-LinesHave S lines W = (l : ℕ) → l < length S.links → HaveLines (λ (s : ℕ). eqb (link_of_stop S s) l) lines (waiters S l W)
+-- the lines have those who wait in a world at the stops of each of these links
+abbrev pub LinesHave : (ℕ → ℕ) → ℕ → Setup → List (List Waiter) → World → Type 0
+LinesHave number size S lines W =
+    (k : ℕ) → k < size → HaveLines (λ (s : ℕ). eqb (link_of_stop S s) (number k)) lines (waiters S (number k) W)
 
-lines_behind : (S : Setup) (t : ℕ) (W : World) (lines : List (List Waiter)) → WaitBefore t W → LinesHave S lines W
-    → AreBehind S t (after_early S t W).persons 0 lines
+lines_behind : (number : ℕ → ℕ) (size : ℕ) (S : Setup) (t : ℕ) (W : World) (lines : List (List Waiter)) → WaitBefore t W
+    → LinesHave number size S lines W → AreBehind number size S t (after_early S t W).persons 0 lines
 unfolding AllBehind
-lines_behind S t W lines before have = λ s on.
+lines_behind number size S t W lines before have = λ s on.
     let l = link_of_stop S s in
     let P = IsBehind S t (after_early S t W).persons 0 in
-    subst (λ (xs : List Waiter). Each P xs) (sym ((have l on).each s (eq-eqb l l refl)))
+    let is : HaveLines (λ (x : ℕ). eqb (link_of_stop S x) l) lines (waiters S l W)
+    = subst (λ (m : ℕ). HaveLines (λ (x : ℕ). eqb (link_of_stop S x) m) lines (waiters S m W)) on.1.1 (have on.0 on.1.0) in
+    subst (λ (xs : List Waiter). Each P xs) (sym (is.each s (eq-eqb l l refl)))
     (behind_turn P (filter (λ (w : Waiter). eqb w.stop s) (waiters S l W))
     (each_kept P (λ (w : Waiter). eqb w.stop s) (waiters S l W) (waited S t l W before)))
 
 -- those who are woken can come to the lines of their stops
-pub can_all_join : (S : Setup) (t count : ℕ) (W : World) (wakes : List (Option ℕ)) (ns : List ℕ) (lines : List (List Waiter)) → WaitBefore t W
-    → LinesHave S lines W → count ≡ length lines → HaveStops S t count (after_early S t W).persons → length wakes ≡ length W.persons
+pub can_all_join_at : (number : ℕ → ℕ) (size : ℕ) (S : Setup) (t count : ℕ) (W : World) (wakes : List (Option ℕ)) (ns : List ℕ)
+    (lines : List (List Waiter)) → WaitBefore t W → LinesHave number size S lines W → count ≡ length lines
+    → HaveStops number size S t count (after_early S t W).persons → length wakes ≡ length W.persons
     → ns ≡ woken t wakes → CanAllJoin S t (after_early S t W).persons ns lines
-can_all_join S t count W wakes ns lines before have c stops n e =
+can_all_join_at number size S t count W wakes ns lines before have c stops n e =
     let persons = (after_early S t W).persons in
     let many : length persons ≡ length W.persons = many_through S t (phase.A ∷ phase.B1 ∷ phase.B2 ∷ []) W in
     let le : 0 + length wakes ≤ length persons = omega arith in
     subst (λ (xs : List ℕ). CanAllJoin S t persons xs lines) (sym (e ∙ woken_all t wakes))
-    (can_from S t count persons (is_woken t wakes) 0 (length wakes) lines le c stops (lines_behind S t W lines before have))
+    (can_from number size S t count persons (is_woken t wakes) 0 (length wakes) lines le c stops (lines_behind number size S t W lines before have))
 
 -- and then the lines stand for those who wait
-pub lines_have : (S : Setup) (t : ℕ) (W : World) (wakes : List (Option ℕ)) (ns : List ℕ) (lines : List (List Waiter)) → WaitBefore t W
-    → LinesHave S lines W → length wakes ≡ length W.persons → ns ≡ woken t wakes
+pub lines_have_at : (number : ℕ → ℕ) (size : ℕ) (S : Setup) (t : ℕ) (W : World) (wakes : List (Option ℕ)) (ns : List ℕ)
+    (lines : List (List Waiter)) → WaitBefore t W → LinesHave number size S lines W → length wakes ≡ length W.persons → ns ≡ woken t wakes
     → ((i : ℕ) → is_woken t wakes i ≡ false → person_of i (after_early S t W) ≡ person_of i W)
     → CanAllJoin S t (after_early S t W).persons ns lines
-    → LinesHave S (joined_lines S t (after_early S t W).persons ns lines) (after_early S t W)
-lines_have S t W wakes ns lines before have n e others can = λ l on.
+    → LinesHave number size S (joined_lines S t (after_early S t W).persons ns lines) (after_early S t W)
+lines_have_at number size S t W wakes ns lines before have n e others can = λ k on.
+    let l = number k in
     let V = after_early S t W in
     record {
       once = waiters_once S l V;
@@ -219,9 +231,25 @@ lines_have S t W wakes ns lines before have n e others can = λ l on.
           let idle : (i : ℕ) → i < 0 + length wakes → is_woken t wakes i ≡ false → f i ≡ []
           = λ i lt off. came_none S t s i V.persons (ap (came S t i) (others i off) ∙ earlier_none S t i (person_of i W) (before i (omega arith))) in
           joined_at S t V.persons ns lines s can
-          ∙ ap (λ (xs : List Waiter). xs ++ flat_map f ns) ((have l on).each s h)
+          ∙ ap (λ (xs : List Waiter). xs ++ flat_map f ns) ((have k on).each s h)
           ∙ ap (λ (is : List ℕ). at_stop s (waiters S l W) ++ flat_map f is) (e ∙ woken_all t wakes)
           ∙ ap (λ (xs : List Waiter). at_stop s (waiters S l W) ++ xs)
-          (skipped f (is_woken t wakes) 0 (length wakes) idle ∙ ap (λ (k : ℕ). flat_map f (below k)) n)
+          (skipped f (is_woken t wakes) 0 (length wakes) idle ∙ ap (λ (m : ℕ). flat_map f (below m)) n)
           ∙ sym (come_to_line S t l s W h before));
     }
+
+-- the same of all links of the network
+pub can_all_join : (S : Setup) (t count : ℕ) (W : World) (wakes : List (Option ℕ)) (ns : List ℕ) (lines : List (List Waiter)) → WaitBefore t W
+    → LinesHave (λ l. l) (length S.links) S lines W → count ≡ length lines
+    → HaveStops (λ l. l) (length S.links) S t count (after_early S t W).persons → length wakes ≡ length W.persons
+    → ns ≡ woken t wakes → CanAllJoin S t (after_early S t W).persons ns lines
+can_all_join S t count W wakes ns lines before have c stops n e =
+    can_all_join_at (λ l. l) (length S.links) S t count W wakes ns lines before have c stops n e
+
+pub lines_have : (S : Setup) (t : ℕ) (W : World) (wakes : List (Option ℕ)) (ns : List ℕ) (lines : List (List Waiter)) → WaitBefore t W
+    → LinesHave (λ l. l) (length S.links) S lines W → length wakes ≡ length W.persons → ns ≡ woken t wakes
+    → ((i : ℕ) → is_woken t wakes i ≡ false → person_of i (after_early S t W) ≡ person_of i W)
+    → CanAllJoin S t (after_early S t W).persons ns lines
+    → LinesHave (λ l. l) (length S.links) S (joined_lines S t (after_early S t W).persons ns lines) (after_early S t W)
+lines_have S t W wakes ns lines before have n e others can =
+    lines_have_at (λ l. l) (length S.links) S t W wakes ns lines before have n e others can

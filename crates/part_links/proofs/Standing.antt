@@ -1,6 +1,6 @@
 -- Links have their turns one after the other.
 use Rattle.traffic.proofs.Common.{◌≡◌, ◌≢◌, ℕ, ◌+◌, ◌-◌, ◌<◌, Bool, true, false, List, ◌∙◌, ap, refl, sym, subst, [], ◌∷◌, ◌++◌, inl, inr, arith}
-use Rattle.traffic.proofs.Common.{append-nil, length, get_or, set, eqb, eqb-true, eqb-false, cases_Bool, true≢false, length-set, get_or-set_same, get_or-set_other}
+use Rattle.traffic.proofs.Common.{append-nil, length, get_or, set, eqb, eqb-true, eqb-false, ne_eqb, cases_Bool, true≢false, length-set, get_or-set_same, get_or-set_other}
 use Rattle.traffic.proofs.Common.{flat_map, Option, None, Event, Setup, World, told, phase_code, keyed, link_moves, link_turns, link_state, rules, waiters, LinkState}
 use Rattle.std.specs.List.{AllByRecursion as Each}
 use Rattle.std.proofs.Common.{take}
@@ -20,9 +20,10 @@ use Rattle.queue_link.specs.Numbers.{numbers_of, rules_of}
 use Rattle.link_seconds.specs.Seconds.{HaveLines, StopThere, IsThere, IsSecond, lists_at, line_at, left_after}
 use Rattle.node_move.specs.NodeStates.{no_link}
 use Rattle.node_seconds.specs.Networks.{lane, is_among}
-use Rattle.node_seconds.specs.Networks.{AreIn, AreOnce}
+use Rattle.node_seconds.specs.Networks.{AreOnce}
+use Rattle.calendar.specs.Due.{AreIn}
 use Rattle.node_seconds.proofs.Lanes.{in_at, among_front}
-use Rattle.part_links.specs.Links.{IsLink, LinksStand, LinesStand, StopsThere, CanTurn, lies_on, wake_after}
+use Rattle.part_links.specs.Links.{IsLink, AreNumbered, LinksStandAt, LinesStandAt, StopsThere, CanTurn, lies_on, wake_after}
 use Rattle.part_links.specs.Phase.{moves_at, IsTurn, turned, keyed_by, told_by, waiting_behind, AreTurned}
 use Rattle.part_links.proofs.Numbers.{among_own, among_other}
 
@@ -128,14 +129,19 @@ other_lines S l n lines later ws ne o h =
           o stop far ∙ h.each stop e;
     }
 
-turn_more : (S : Setup) (end t n : ℕ) (V : World) (ms : List ℕ) (old links later : List LinkView) (lines after : List (List Waiter))
-    (before wakes more : List (Option ℕ)) (events out next : List Event) (said heard hears : List Occurrence)
-    → n < length old → length before ≡ length old → is_among n ms ≡ false
-    → AreTurned S end t V ms old links lines before wakes events out said heard
-    → Turned S end t n V (lane links n) (lane later n) lines after out next heard hears
+-- links in different slots have different numbers
+apart_at : (S : Setup) (size j k : ℕ) (number : ℕ → ℕ) → AreNumbered S size number → j < size → k < size → eqb j k ≡ false
+    → eqb (number j) (number k) ≡ false
+apart_at S size j k number h lt there ne = ne_eqb (number j) (number k) (λ e. eqb-false j k ne (h.apart j k lt there e))
+
+turn_more : (number : ℕ → ℕ) (S : Setup) (end t n : ℕ) (V : World) (ms : List ℕ) (old links later : List LinkView)
+    (lines after : List (List Waiter)) (before wakes more : List (Option ℕ)) (events out next : List Event) (said heard hears : List Occurrence)
+    → AreNumbered S (length old) number → n < length old → length before ≡ length old → is_among n ms ≡ false
+    → AreTurned number S end t V ms old links lines before wakes events out said heard
+    → Turned S end t (number n) V (lane links n) (lane later n) lines after out next heard hears
     → later ≡ set links n (lane later n) → more ≡ set wakes n (wake_after end t (lane later n))
-    → AreTurned S end t V (ms ++ n ∷ []) old later after before more events next said hears
-turn_more S end t n V ms old links later lines after before wakes more events out next said heard hears lt slots fresh h g e f =
+    → AreTurned number S end t V (ms ++ n ∷ []) old later after before more events next said hears
+turn_more number S end t n V ms old links later lines after before wakes more events out next said heard hears own lt slots fresh h g e f =
     let others : (l : ℕ) → eqb n l ≡ false → lane later l ≡ lane links l
     = λ l ne. ap (λ (xs : List LinkView). lane xs l) e ∙ get_or-set_other links n l (lane later n) no_link (λ q. eqb-false n l ne (sym q)) in
     let sleepers : (l : ℕ) → eqb n l ≡ false → wake_of more l ≡ wake_of wakes l
@@ -147,7 +153,7 @@ turn_more S end t n V ms old links later lines after before wakes more events ou
           elim (cases_Bool (eqb n l)) [
             | inl q ↦
                 let same : n ≡ l = eqb-true n l q in
-                subst (λ (k : ℕ). lane later k ≡ turned S t k V (lane old k)) same (g.link ∙ ap (turned S t n V) (h.left n fresh))
+                subst (λ (k : ℕ). lane later k ≡ turned S t (number k) V (lane old k)) same (g.link ∙ ap (turned S t (number n) V) (h.left n fresh))
             | inr q ↦ others l q ∙ h.done l within (sym (among_other l n ms q) ∙ among)
           ];
       left = λ l out_of.
@@ -161,12 +167,13 @@ turn_more S end t n V ms old links later lines after before wakes more events ou
           elim (cases_Bool (eqb n l)) [
             | inl q ↦
                 let same : n ≡ l = eqb-true n l q in
-                let own = among_own n ms in
-                subst (λ (k : ℕ). HaveLines (lies_on S k) after (waiting_behind S t k V (is_among k (ms ++ n ∷ [])))) same
-                (subst (λ (b : Bool). HaveLines (lies_on S n) after (waiting_behind S t n V b)) (sym own) g.waits)
+                let mine = among_own n ms in
+                subst (λ (k : ℕ). HaveLines (lies_on S (number k)) after (waiting_behind S t (number k) V (is_among k (ms ++ n ∷ [])))) same
+                (subst (λ (b : Bool). HaveLines (lies_on S (number n)) after (waiting_behind S t (number n) V b)) (sym mine) g.waits)
             | inr q ↦
-                subst (λ (b : Bool). HaveLines (lies_on S l) after (waiting_behind S t l V b)) (sym (among_other l n ms q))
-                (other_lines S l n lines after (waiting_behind S t l V (is_among l ms)) q g.others (h.waits l within))
+                subst (λ (b : Bool). HaveLines (lies_on S (number l)) after (waiting_behind S t (number l) V b)) (sym (among_other l n ms q))
+                (other_lines S (number l) (number n) lines after (waiting_behind S t (number l) V (is_among l ms))
+                (apart_at S (length old) n l number own lt within q) g.others (h.waits l within))
           ];
       woken = λ l within among.
           elim (cases_Bool (eqb n l)) [
@@ -185,37 +192,46 @@ turn_more S end t n V ms old links later lines after before wakes more events ou
                 absurd (true≢false (sym (among_own n ms) ∙ ap (λ (k : ℕ). is_among k (ms ++ n ∷ [])) same ∙ out_of))
             | inr q ↦ sleepers l q ∙ h.asleep l (sym (among_other l n ms q) ∙ out_of)
           ];
-      events = g.events ∙ ap (λ (xs : List Event). xs ++ keyed_by S t V n) h.events ∙ flat_map_more (keyed_by S t V) events ms n;
-      said = g.said ∙ ap (λ (xs : List Occurrence). xs ++ told_by S t V n) h.said ∙ flat_map_more (told_by S t V) said ms n;
+      events = g.events ∙ ap (λ (xs : List Event). xs ++ keyed_by S t V (number n)) h.events
+          ∙ flat_map_more (λ (k : ℕ). keyed_by S t V (number k)) events ms n;
+      said = g.said ∙ ap (λ (xs : List Occurrence). xs ++ told_by S t V (number n)) h.said
+          ∙ flat_map_more (λ (k : ℕ). told_by S t V (number k)) said ms n;
     }
 
 -- by what the turn of a link is for whoever waits
-pub turned_next : (S : Setup) (end t n : ℕ) (V : World) (D : Dwelling) (ms : List ℕ) (old links later : List LinkView) (lines after : List (List Waiter))
-    (before wakes more : List (Option ℕ)) (events out next : List Event) (said heard hears : List Occurrence)
-    → S.settings.dwell ≡ D → LinksStand S t old V → ((l : ℕ) → l < length old → StopsThere S l (lane old l))
+pub turned_next : (number : ℕ → ℕ) (size : ℕ) (S : Setup) (end t n : ℕ) (V : World) (D : Dwelling) (ms : List ℕ) (old links later : List LinkView)
+    (lines after : List (List Waiter)) (before wakes more : List (Option ℕ)) (events out next : List Event) (said heard hears : List Occurrence)
+    → AreNumbered S size number → S.settings.dwell ≡ D → LinksStandAt number size S t old V
+    → ((k : ℕ) → k < size → StopsThere S (number k) (lane old k))
     → n < length old → length before ≡ length old → is_among n ms ≡ false
-    → AreTurned S end t V ms old links lines before wakes events out said heard
+    → AreTurned number S end t V ms old links lines before wakes events out said heard
     → ((lies : ℕ → Bool) (ws : List Waiter) → HaveLines lies lines ws → StopThere lies (lane links n)
     → Each (IsThere lies (lane links n).numbers.link) (lane links n).lists.bay
-    → IsTurn lies D t n ws (lane links n) (lane later n) lines after out next heard hears)
+    → IsTurn lies D t (lane links n).numbers.link ws (lane links n) (lane later n) lines after out next heard hears)
     → later ≡ set links n (lane later n) → more ≡ set wakes n (wake_after end t (lane later n))
-    → AreTurned S end t V (ms ++ n ∷ []) old later after before more events next said hears
-turned_next S end t n V D ms old links later lines after before wakes more events out next said heard hears d stand there lt slots fresh h turn e f =
+    → AreTurned number S end t V (ms ++ n ∷ []) old later after before more events next said hears
+turned_next number size S end t n V D ms old links later lines after before wakes more events out next said heard hears own d stand there lt slots fresh h turn e f =
+    let many = stand.count in
+    let known : n < size = omega arith in
+    let l = number n in
     let same : lane old n ≡ lane links n = sym (h.left n fresh) in
-    let known : n < length S.links = (let a = stand.count in omega arith) in
-    let waits : HaveLines (lies_on S n) lines (waiters S n V)
-    = subst (λ (b : Bool). HaveLines (lies_on S n) lines (waiting_behind S t n V b)) fresh (h.waits n lt) in
-    let stops : StopsThere S n (lane links n) = subst (StopsThere S n) same (there n lt) in
-    let link : IsLink S n (lane links n) = subst (IsLink S n) same (stand.numbers n known) in
-    let lists : lists_at t (lane links n) ≡ link_state n V = ap (lists_at t) (sym same) ∙ stand.lists n known in
-    turn_more S end t n V ms old links later lines after before wakes more events out next said heard hears lt slots fresh h
-    (one_turn S end t n V D (lane links n) (lane later n) lines after out next heard hears d link lists
-    (turn (lies_on S n) (waiters S n V) waits stops.there stops.bay)) e f
+    let waits : HaveLines (lies_on S l) lines (waiters S l V)
+    = subst (λ (b : Bool). HaveLines (lies_on S l) lines (waiting_behind S t l V b)) fresh (h.waits n lt) in
+    let stops : StopsThere S l (lane links n) = subst (StopsThere S l) same (there n known) in
+    let link : IsLink S l (lane links n) = subst (IsLink S l) same (stand.numbers n known) in
+    let lists : lists_at t (lane links n) ≡ link_state l V = ap (lists_at t) (sym same) ∙ stand.lists n known in
+    let numbered : AreNumbered S (length old) number = subst (λ (k : ℕ). AreNumbered S k number) (sym many) own in
+    let now : IsTurn (lies_on S l) D t l (waiters S l V) (lane links n) (lane later n) lines after out next heard hears
+    = subst (λ (k : ℕ). IsTurn (lies_on S l) D t k (waiters S l V) (lane links n) (lane later n) lines after out next heard hears)
+    (link_is S l (lane links n) link) (turn (lies_on S l) (waiters S l V) waits stops.there stops.bay) in
+    turn_more number S end t n V ms old links later lines after before wakes more events out next said heard hears numbered lt slots fresh h
+    (one_turn S end t l V D (lane links n) (lane later n) lines after out next heard hears d link lists now) e f
 
 -- before the first turn
-pub none_turned : (S : Setup) (end t : ℕ) (V : World) (old : List LinkView) (lines : List (List Waiter)) (before : List (Option ℕ)) (events : List Event) (said : List Occurrence)
-    → LinksStand S t old V → LinesStand S lines V → AreTurned S end t V [] old old lines before before events events said said
-none_turned S end t V old lines before events said stand lies =
+pub none_turned : (number : ℕ → ℕ) (size : ℕ) (S : Setup) (end t : ℕ) (V : World) (old : List LinkView) (lines : List (List Waiter))
+    (before : List (Option ℕ)) (events : List Event) (said : List Occurrence) → LinksStandAt number size S t old V
+    → LinesStandAt number size S lines V → AreTurned number S end t V [] old old lines before before events events said said
+none_turned number size S end t V old lines before events said stand lies =
     record {
       count = refl;
       slots = refl;
@@ -228,7 +244,7 @@ none_turned S end t V old lines before events said stand lies =
       said = sym (append-nil said);
     }
 
--- PLACES IN THE LIST OF NUMBERS
+-- PLACES IN THE LIST OF SLOTS
 pub taken_one : (ns : List ℕ) (i : ℕ) → i < length ns → take (i + 1) ns ≡ take i ns ++ get_or ns i 0 ∷ []
 taken_one ns i lt = take_more ns i 0 lt
 

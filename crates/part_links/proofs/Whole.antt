@@ -1,4 +1,4 @@
--- What the turns of those links that are woken make is what the turns of all links make.
+-- What the turns of those links that are woken make is what the turns of the links in all slots make.
 use Rattle.traffic.proofs.Common.{◌≡◌, ◌≢◌, ℕ, zero, suc, ◌+◌, ◌-◌, ◌<◌, ◌≤◌, Bool, true, false, List, ◌∙◌, ap, refl, sym, subst, [], ◌∷◌, ◌++◌, inl, inr, arith}
 use Rattle.traffic.proofs.Common.{length, eqb, eqb-true, eqb-false, cases_Bool, length-map, get_or-map, ne_eqb, eq-eqb}
 use Rattle.traffic.proofs.Common.{map, filter, flat_map, flat_map-append, Option, None, Some, Event, Setup, World, Turn, told, phase_code, keyed, link_turns, link_state, rules, raised, waiters, LinkState}
@@ -15,14 +15,14 @@ use Rattle.traffic.specs.declared.moves.Occurrence.{Occurrence}
 use Rattle.traffic.specs.declared.numbers.Rules.{Rules}
 use Rattle.traffic.specs.declared.world.Waiter.{Waiter}
 use Rattle.traffic.proofs.Sublists.{run-append}
-use Rattle.traffic.proofs.Turns.{Fresh, Distinct, Distinct-numbers, moves_of-map}
-use Rattle.traffic.proofs.Phases.{links_apart, phase_at_once}
+use Rattle.traffic.proofs.Links.{link-at, link_state-other}
+use Rattle.traffic.proofs.Turns.{Fresh, Distinct, turns_at_once, moves_of-map}
+use Rattle.traffic.proofs.Phases.{links_apart}
 use Rattle.traffic.proofs.Waiting.{waiters-other}
 use Rattle.law_sleeping.specs.Quiet.{IsQuiet, IsSettled, IsBy, link_state_after_all}
 use Rattle.law_sleeping.proofs.Resting.{link_rest}
 use Rattle.law_sleeping.proofs.Settling.{turn_settles}
-use Rattle.law_sleeping.proofs.Sleep.{credits_run}
-use Rattle.law_sleeping.proofs.Whole.{links_link_state}
+use Rattle.law_sleeping.proofs.Sleep.{credits_run, link_state_run}
 use Rattle.calendar.specs.Waking.{wake_of, is_second, is_woken, woken, slept, within}
 use Rattle.queue_link.specs.Links.{LinkView}
 use Rattle.queue_link.specs.Numbers.{rules_of}
@@ -33,9 +33,10 @@ use Rattle.law_waking.proofs.Resting.{settled_rests}
 use Rattle.law_waking.proofs.Lines.{turn_leaves}
 use Rattle.traffic.proofs.Each.{each_number, each_weaker}
 use Rattle.calendar.proofs.Woken.{woken_is}
-use Rattle.node_seconds.specs.Networks.{lane, is_among, AreIn, AreOnce}
-use Rattle.part_links.specs.Links.{IsLink, LinksStand, LinesStand, AreAsleep, lies_on, no_sooner, wake_after}
-use Rattle.part_links.specs.Phase.{turned, keyed_by, told_by, waiting_behind, AreTurned, IsPhase}
+use Rattle.node_seconds.specs.Networks.{lane, is_among, AreOnce}
+use Rattle.calendar.specs.Due.{AreIn}
+use Rattle.part_links.specs.Links.{IsLink, AreNumbered, LinksStandAt, LinesStandAt, AreAsleep, lies_on, no_sooner, wake_after}
+use Rattle.part_links.specs.Phase.{turned, keyed_by, told_by, waiting_behind, AreTurned, turns_at, IsPhaseBy, IsPhaseAt, IsPhase}
 use Rattle.part_links.proofs.Numbers.{among_passed, once_passed}
 use Rattle.part_links.proofs.Standing.{link_is, rules_are}
 
@@ -89,20 +90,94 @@ waiting_after S t l (n ∷ ns) V h =
     behind_same R u k A B true w p = ap (λ (ms : List Move). left_after ms (waiters R k A)) p ∙ ap (left_after (link_turns R u k B)) w
     behind_same R u k A B false w p = w
 
-among_below : (l k n : ℕ) → k ≤ l → l < k + n → is_among l (numbers k n) ≡ true
-among_below l k zero low high = absurd (omega arith)
-among_below l k (suc n) low high =
+-- the lists of a link once those of these numbers had their turns
+state_behind : Setup → ℕ → ℕ → World → Bool → LinkState
+state_behind S t l V true = link_state_after_all l (link_turns S t l V) (link_state l V)
+state_behind S t l V false = link_state l V
+
+state_after : (S : Setup) (t l : ℕ) (ns : List ℕ) (V : World) → Distinct ns → l < length V.credits
+    → link_state l (after S t (turns S t (link_turns S t) ns V) V) ≡ state_behind S t l V (is_among l ns)
+unfolding turns state_behind
+state_after S t l [] V h long = refl
+state_after S t l (n ∷ ns) V h long =
+    let U = run S t (link_turns S t n V) V in
+    let credits : length U.credits ≡ length V.credits = credits_run S t (link_turns S t n V) V in
+    let later : l < length U.credits = omega arith in
+    let rest = ap (link_state l) (after_first S t n ns V) ∙ state_after S t l ns U h.1 later in
+    elim (cases_Bool (eqb n l)) [
+      | inl e ↦
+          let same : n ≡ l = eqb-true n l e in
+          let none : is_among l ns ≡ false = subst (λ (k : ℕ). is_among k ns ≡ false) same (fresh_apart n ns h.0) in
+          let own : link_state l U ≡ link_state_after_all l (link_turns S t l V) (link_state l V)
+          = subst (λ (k : ℕ). link_state l (run S t (link_turns S t k V) V) ≡ link_state_after_all l (link_turns S t l V) (link_state l V)) (sym same)
+          (link_state_run S t l (link_turns S t l V) V long) in
+          rest ∙ ap (state_behind S t l U) none ∙ own ∙ ap (λ (b : Bool). state_behind S t l V b) (sym (is_first n l ns e))
+      | inr e ↦
+          let ne : l ≢ n = λ q. eqb-false n l e (sym q) in
+          let kept : link_state l U ≡ link_state l V = link_state-other S t n l (link_turns S t n V) V ne (link-at S t n V) in
+          let plan : link_turns S t l U ≡ link_turns S t l V = links_apart S t l n V ne in
+          rest ∙ state_same S t l U V (is_among l ns) kept plan ∙ ap (λ (b : Bool). state_behind S t l V b) (sym (is_later n l ns e))
+    ]
+  where
+    is_first : (a b : ℕ) (xs : List ℕ) → eqb a b ≡ true → is_among b (a ∷ xs) ≡ true
+    is_first a b xs q = rw q refl
+
+    is_later : (a b : ℕ) (xs : List ℕ) → eqb a b ≡ false → is_among b (a ∷ xs) ≡ is_among b xs
+    is_later a b xs q = rw q refl
+
+    state_same : (R : Setup) (u k : ℕ) (A B : World) (b : Bool) → link_state k A ≡ link_state k B → link_turns R u k A ≡ link_turns R u k B
+        → state_behind R u k A b ≡ state_behind R u k B b
+    state_same R u k A B true s p =
+        ap (λ (ms : List Move). link_state_after_all k ms (link_state k A)) p ∙ ap (link_state_after_all k (link_turns R u k B)) s
+    state_same R u k A B false s p = s
+
+-- LINKS IN SLOTS
+fresh_slots : (S : Setup) (size j k n : ℕ) (number : ℕ → ℕ) → AreNumbered S size number → j < k → k + n ≤ size
+    → Fresh (number j) (map number (numbers k n))
+fresh_slots S size j k zero number h lt le = tt
+fresh_slots S size j k (suc n) number h lt le =
+    let a : j < size = omega arith in
+    let b : k < size = omega arith in
+    let ne : k ≢ j = omega arith in
+    (λ e. ne (h.apart k j b a e), fresh_slots S size j (k + 1) n number h (omega arith) (omega arith))
+
+distinct_slots : (S : Setup) (size k n : ℕ) (number : ℕ → ℕ) → AreNumbered S size number → k + n ≤ size → Distinct (map number (numbers k n))
+distinct_slots S size k zero number h le = tt
+distinct_slots S size k (suc n) number h le =
+    (fresh_slots S size k (k + 1) n number h (omega arith) (omega arith), distinct_slots S size (k + 1) n number h (omega arith))
+
+pub distinct_numbers : (S : Setup) (size : ℕ) (number : ℕ → ℕ) → AreNumbered S size number → Distinct (map number (below size))
+distinct_numbers S size number h = distinct_slots S size 0 size number h (omega arith)
+
+among_slots : (number : ℕ → ℕ) (l k n : ℕ) → k ≤ l → l < k + n → is_among (number l) (map number (numbers k n)) ≡ true
+among_slots number l k zero low high = absurd (omega arith)
+among_slots number l k (suc n) low high =
     elim (cases_Bool (eqb k l)) [
-      | inl e ↦ rw e refl
-      | inr e ↦ let ne : k ≢ l = eqb-false k l e in rw e (among_below l (k + 1) n (omega arith) (omega arith))
+      | inl e ↦
+          let same : k ≡ l = eqb-true k l e in
+          let own : eqb (number k) (number l) ≡ true = eq-eqb (number k) (number l) (ap number same) in
+          rw own refl
+      | inr e ↦
+          let ne : k ≢ l = eqb-false k l e in
+          elim (cases_Bool (eqb (number k) (number l))) [
+            | inl q ↦ rw q refl
+            | inr q ↦ rw q (among_slots number l (k + 1) n (omega arith) (omega arith))
+          ]
     ]
 
-pub all_waiting : (S : Setup) (t l : ℕ) (V : World) → l < length S.links
-    → waiters S l (after S t (turns_in S t phase.D V) V) ≡ left_after (link_turns S t l V) (waiters S l V)
-unfolding turns_in turns_of
-all_waiting S t l V lt =
-    waiting_after S t l (below (length S.links)) V (Distinct-numbers 0 (length S.links))
-    ∙ ap (waiting_behind S t l V) (among_below l 0 (length S.links) (omega arith) (omega arith))
+pub all_waiting : (number : ℕ → ℕ) (size : ℕ) (S : Setup) (t k : ℕ) (V : World) → AreNumbered S size number → k < size
+    → waiters S (number k) (after S t (turns_at number size S t V) V) ≡ left_after (link_turns S t (number k) V) (waiters S (number k) V)
+all_waiting number size S t k V h lt =
+    waiting_after S t (number k) (map number (below size)) V (distinct_numbers S size number h)
+    ∙ ap (waiting_behind S t (number k) V) (among_slots number k 0 size (omega arith) (omega arith))
+
+pub all_states : (number : ℕ → ℕ) (size : ℕ) (S : Setup) (t k : ℕ) (V : World) → AreNumbered S size number → k < size
+    → number k < length V.credits → link_state (number k) (after S t (turns_at number size S t V) V)
+    ≡ link_state_after_all (number k) (link_turns S t (number k) V) (link_state (number k) V)
+unfolding state_behind
+all_states number size S t k V h lt long =
+    state_after S t (number k) (map number (below size)) V (distinct_numbers S size number h) long
+    ∙ ap (state_behind S t (number k) V) (among_slots number k 0 size (omega arith) (omega arith))
 
 -- A LINK THAT IS NOT WOKEN
 quiet_turn : (S : Setup) (t l : ℕ) (V : World) (v : LinkView) → IsLink S l v → lists_at t v ≡ link_state l V
@@ -195,141 +270,23 @@ turned_rests S end t l V v w h e =
     (subst (λ (K : Rules). IsSettled K t l W.lists) (sym (rules_are S l v h)) own)) by))
 
 -- THE WHOLE PHASE
--- the links that are woken in second t are those of these numbers
-pub record Awake (S : Setup) (end t : ℕ) (V : World) (ns : List ℕ) (old : List LinkView) (before now : List (Option ℕ)) : Type 0 where
-  pub stand : LinksStand S t old V
+-- the links that are woken in second t are those in these slots
+pub record Awake (number : ℕ → ℕ) (size : ℕ) (S : Setup) (end t : ℕ) (V : World) (ks : List ℕ) (old : List LinkView)
+    (before now : List (Option ℕ)) : Type 0 where
+  pub numbered : AreNumbered S size number
+  pub stand : LinksStandAt number size S t old V
   pub asleep : AreAsleep S.settings.dwell end t old before
   pub in_day : t < end
-  pub are : ns ≡ woken t before
+  pub are : ks ≡ woken t before
   pub slept : now ≡ map (slept t) before
 
-slots : (S : Setup) (end t : ℕ) (V : World) (ns : List ℕ) (old : List LinkView) (before now : List (Option ℕ)) → Awake S end t V ns old before now
-    → length before ≡ length S.links
-slots S end t V ns old before now g = g.asleep.count ∙ g.stand.count
-
-numbers_are : (S : Setup) (end t : ℕ) (V : World) (ns : List ℕ) (old : List LinkView) (before now : List (Option ℕ)) → Awake S end t V ns old before now
-    → ns ≡ filter (is_woken t before) (below (length S.links))
-numbers_are S end t V ns old before now g =
-    g.are ∙ woken_below t before ∙ ap (λ (k : ℕ). filter (is_woken t before) (below k)) (slots S end t V ns old before now g)
-
-among_is : (S : Setup) (end t l : ℕ) (V : World) (ns : List ℕ) (old : List LinkView) (before now : List (Option ℕ)) → Awake S end t V ns old before now
-    → l < length S.links → is_among l ns ≡ is_second t (wake_of before l)
-among_is S end t l V ns old before now g lt =
-    ap (is_among l) (numbers_are S end t V ns old before now g) ∙ among_passed (is_woken t before) l 0 (length S.links) (omega arith) (omega arith)
+slept_off : (t : ℕ) (d : Option ℕ) → is_second t d ≡ false → slept t d ≡ d
+slept_off t d e = rw e refl
 
 sleeps_past : (end t : ℕ) (d : Option ℕ) → t < end → ((u : ℕ) → d ≡ Some u → t ≤ u) → is_second t d ≡ false → t < sleeps_to end d
 sleeps_past end t None lt h e = lt
 sleeps_past end t (Some u) lt h e = let ne : u ≢ t = eqb-false u t e in let le = h u refl in omega arith
 
-quiet_at : (S : Setup) (end t l : ℕ) (V : World) (ns : List ℕ) (old : List LinkView) (before now : List (Option ℕ)) → Awake S end t V ns old before now
-    → l < length S.links → is_among l ns ≡ false → link_turns S t l V ≡ Credit l (raised (rules S l).gain (link_state l V).credit) ∷ []
-quiet_at S end t l V ns old before now g lt out_of =
-    let within_old : l < length old = (let a = g.stand.count in omega arith) in
-    let off : is_second t (wake_of before l) ≡ false = sym (among_is S end t l V ns old before now g lt) ∙ out_of in
-    let past = sleeps_past end t (wake_of before l) g.in_day (λ u e. g.asleep.later l u within_old e) off in
-    quiet_turn S t l V (lane old l) (g.stand.numbers l lt) (g.stand.lists l lt) (g.asleep.rests l within_old t (omega arith) past)
-
--- the links
-all_links : (S : Setup) (end t : ℕ) (V : World) (ns : List ℕ) (old links : List LinkView) (lines : List (List Waiter)) (before now wakes : List (Option ℕ))
-    (events out : List Event) (said heard : List Occurrence) → Awake S end t V ns old before now
-    → AreTurned S end t V ns old links lines now wakes events out said heard → LinksStand S (t + 1) links (after S t (turns_in S t phase.D V) V)
-all_links S end t V ns old links lines before now wakes events out said heard g h =
-    let After = after S t (turns_in S t phase.D V) V in
-    let in_old : (l : ℕ) → l < length S.links → l < length old = λ l lt. (let a = g.stand.count in omega arith) in
-    let whole : (l : ℕ) → l < length S.links → link_state l After ≡ link_state_after_all l (link_turns S t l V) (link_state l V)
-    = λ l lt. links_link_state S t l V lt (let a = g.stand.credits in omega arith) in
-    record {
-      count = h.count ∙ g.stand.count;
-      credits = credits_run S t (moves_of (turns_in S t phase.D V)) V ∙ g.stand.credits;
-      numbers = λ l lt.
-          let q = g.stand.numbers l lt in
-          elim (cases_Bool (is_among l ns)) [
-            | inl a ↦ subst (IsLink S l) (sym (h.done l (in_old l lt) a)) (record { numbers = q.numbers })
-            | inr a ↦ subst (IsLink S l) (sym (h.left l a)) q
-          ];
-      raised = λ l lt.
-          let le = g.stand.raised l lt in
-          elim (cases_Bool (is_among l ns)) [
-            | inl a ↦ let e : (lane links l).raised ≡ t + 1 = ap (λ (v : LinkView). v.raised) (h.done l (in_old l lt) a) in omega arith
-            | inr a ↦ let e : (lane links l).raised ≡ (lane old l).raised = ap (λ (v : LinkView). v.raised) (h.left l a) in omega arith
-          ];
-      lists = λ l lt.
-          elim (cases_Bool (is_among l ns)) [
-            | inl a ↦ turned_lists S t l V (lane old l) (lane links l) (h.done l (in_old l lt) a) ∙ sym (whole l lt)
-            | inr a ↦
-                ap (lists_at (t + 1)) (h.left l a)
-                ∙ quiet_lists S t l V (lane old l) (g.stand.numbers l lt) (g.stand.lists l lt) (g.stand.raised l lt)
-                (quiet_at S end t l V ns old before now g lt a) ∙ sym (whole l lt)
-          ];
-    }
-
--- the lines
-all_lines : (S : Setup) (end t : ℕ) (V : World) (ns : List ℕ) (old links : List LinkView) (lines : List (List Waiter)) (before now wakes : List (Option ℕ))
-    (events out : List Event) (said heard : List Occurrence) → Awake S end t V ns old before now
-    → AreTurned S end t V ns old links lines now wakes events out said heard → LinesStand S lines (after S t (turns_in S t phase.D V) V)
-all_lines S end t V ns old links lines before now wakes events out said heard g h = λ l lt.
-    let w = h.waits l (let a = g.stand.count in omega arith) in
-    let whole = all_waiting S t l V lt in
-    let quiet : is_among l ns ≡ false → left_after (link_turns S t l V) (waiters S l V) ≡ waiters S l V
-    = λ a. ap (λ (ms : List Move). left_after ms (waiters S l V)) (quiet_at S end t l V ns old before now g lt a) in
-    let behind : waiting_behind S t l V (is_among l ns) ≡ left_after (link_turns S t l V) (waiters S l V)
-    = elim (cases_Bool (is_among l ns)) [
-      | inl a ↦ ap (waiting_behind S t l V) a
-      | inr a ↦ ap (waiting_behind S t l V) a ∙ sym (quiet a)
-    ] in
-    subst (HaveLines (lies_on S l) lines) (behind ∙ sym whole) w
-
--- who sleeps
-slept_off : (t : ℕ) (d : Option ℕ) → is_second t d ≡ false → slept t d ≡ d
-slept_off t d e = rw e refl
-
-wake_kept : (S : Setup) (end t l : ℕ) (V : World) (ns : List ℕ) (old : List LinkView) (before now : List (Option ℕ)) → Awake S end t V ns old before now
-    → l < length S.links → is_among l ns ≡ false → wake_of now l ≡ wake_of before l
-wake_kept S end t l V ns old before now g lt out_of =
-    let off : is_second t (wake_of before l) ≡ false = sym (among_is S end t l V ns old before now g lt) ∙ out_of in
-    let there : l < length before = (let a = slots S end t V ns old before now g in omega arith) in
-    ap (λ (xs : List (Option ℕ)). wake_of xs l) g.slept ∙ get_or-map (slept t) before l None None there ∙ slept_off t (wake_of before l) off
-
-all_asleep : (S : Setup) (end t : ℕ) (V : World) (ns : List ℕ) (old links : List LinkView) (lines : List (List Waiter)) (before now wakes : List (Option ℕ))
-    (events out : List Event) (said heard : List Occurrence) → Awake S end t V ns old before now
-    → AreTurned S end t V ns old links lines now wakes events out said heard → AreAsleep S.settings.dwell end (t + 1) links wakes
-all_asleep S end t V ns old links lines before now wakes events out said heard g h =
-    let D = S.settings.dwell in
-    let in_old : (l : ℕ) → l < length links → l < length old = λ l lt. (let a = h.count in omega arith) in
-    let known : (l : ℕ) → l < length links → l < length S.links = λ l lt. (let a = h.count in let b = g.stand.count in omega arith) in
-    let kept : (l : ℕ) → l < length links → is_among l ns ≡ false → wake_of wakes l ≡ wake_of before l
-    = λ l lt a. h.asleep l a ∙ wake_kept S end t l V ns old before now g (known l lt) a in
-    record {
-      count = h.slots ∙ ap length g.slept ∙ length-map before (slept t) ∙ g.asleep.count ∙ sym h.count;
-      rests = λ l lt.
-          elim (cases_Bool (is_among l ns)) [
-            | inl a ↦
-                subst (λ (d : Option ℕ). Rests D (t + 1) (sleeps_to end d) (lane links l)) (sym (h.woken l (in_old l lt) a))
-                (turned_rests S end t l V (lane old l) (lane links l) (g.stand.numbers l (known l lt)) (h.done l (in_old l lt) a))
-            | inr a ↦
-                subst (λ (v : LinkView). Rests D (t + 1) (sleeps_to end (wake_of wakes l)) v) (sym (h.left l a))
-                (subst (λ (d : Option ℕ). Rests D (t + 1) (sleeps_to end d) (lane old l)) (sym (kept l lt a))
-                (λ x low high. g.asleep.rests l (in_old l lt) x (omega arith) high))
-          ];
-      later = λ l u lt e.
-          elim (cases_Bool (is_among l ns)) [
-            | inl a ↦ woken_later end t u (lane links l) (sym (h.woken l (in_old l lt) a) ∙ e)
-            | inr a ↦
-                let was : wake_of before l ≡ Some u = sym (kept l lt a) ∙ e in
-                let le = g.asleep.later l u (in_old l lt) was in
-                let off : is_second t (Some u) ≡ false
-                = ap (is_second t) (sym was) ∙ sym (among_is S end t l V ns old before now g (known l lt)) ∙ a in
-                let ne : u ≢ t = eqb-false u t off in
-                omega arith
-          ];
-      soon = λ l u lt e.
-          elim (cases_Bool (is_among l ns)) [
-            | inl a ↦ woken_soon end t u (lane links l) (sym (h.woken l (in_old l lt) a) ∙ e)
-            | inr a ↦ g.asleep.soon l u (in_old l lt) (sym (kept l lt a) ∙ e)
-          ];
-    }
-
--- what is told
 told_skip : (X : Type 0) (p : ℕ → Bool) (f : ℕ → List X) (ns : List ℕ) → Each (λ (n : ℕ). p n ≡ false → f n ≡ []) ns → flat_map f (filter p ns) ≡ flat_map f ns
 told_skip X p f [] h = refl
 told_skip X p f (n ∷ ns) h =
@@ -339,14 +296,17 @@ told_skip X p f (n ∷ ns) h =
       | inr e ↦ rw e (rest ∙ ap (λ (xs : List X). xs ++ flat_map f ns) (sym (h.0 e)))
     ]
 
-events_map : (S : Setup) (t : ℕ) (V : World) (ns : List ℕ) → events_in t phase.D (map (turn_of (link_turns S t) V) ns) ≡ flat_map (keyed_by S t V) ns
-events_map S t V [] = refl
-events_map S t V (n ∷ ns) = ap (λ (xs : List Event). keyed_by S t V n ++ xs) (events_map S t V ns)
+events_map : (number : ℕ → ℕ) (S : Setup) (t : ℕ) (V : World) (ks : List ℕ)
+    → events_in t phase.D (map (turn_of (link_turns S t) V) (map number ks)) ≡ flat_map (λ k. keyed_by S t V (number k)) ks
+events_map number S t V [] = refl
+events_map number S t V (k ∷ ks) = ap (λ (xs : List Event). keyed_by S t V (number k) ++ xs) (events_map number S t V ks)
 
-told_map : (S : Setup) (t : ℕ) (V : World) (ns : List ℕ) → flat_map told (flat_map (λ n. link_turns S t n V) ns) ≡ flat_map (told_by S t V) ns
-told_map S t V [] = refl
-told_map S t V (n ∷ ns) =
-    flat_map-append told (link_turns S t n V) (flat_map (λ m. link_turns S t m V) ns) ∙ ap (λ (xs : List Occurrence). told_by S t V n ++ xs) (told_map S t V ns)
+told_map : (number : ℕ → ℕ) (S : Setup) (t : ℕ) (V : World) (ks : List ℕ)
+    → flat_map told (flat_map (λ n. link_turns S t n V) (map number ks)) ≡ flat_map (λ k. told_by S t V (number k)) ks
+told_map number S t V [] = refl
+told_map number S t V (k ∷ ks) =
+    flat_map-append told (link_turns S t (number k) V) (flat_map (λ m. link_turns S t m V) (map number ks))
+    ∙ ap (λ (xs : List Occurrence). told_by S t V (number k) ++ xs) (told_map number S t V ks)
 
 quiet_told : (S : Setup) (t n : ℕ) (V : World) (c : ℕ) → link_turns S t n V ≡ Credit n c ∷ [] → told_by S t V n ≡ []
 quiet_told S t n V c e = ap (λ (ms : List Move). flat_map told ms) e
@@ -355,52 +315,191 @@ quiet_keyed : (S : Setup) (t n : ℕ) (V : World) → told_by S t V n ≡ [] →
 unfolding keyed
 quiet_keyed S t n V e = ap (λ (xs : List Occurrence). keyed t (phase_code phase.D) n 0 xs) e
 
-each_quiet : (S : Setup) (end t : ℕ) (V : World) (ns : List ℕ) (old : List LinkView) (before now : List (Option ℕ)) → Awake S end t V ns old before now
-    → Each (λ (n : ℕ). is_woken t before n ≡ false → told_by S t V n ≡ []) (below (length S.links))
-each_quiet S end t V ns old before now g =
-    each_weaker (λ (n : ℕ). n < length S.links) (λ (n : ℕ). is_woken t before n ≡ false → told_by S t V n ≡ [])
-    (λ n lt e. quiet_told S t n V (raised (rules S n).gain (link_state n V).credit)
-    (quiet_at S end t n V ns old before now g lt (among_is S end t n V ns old before now g lt ∙ e))) (below (length S.links))
-    (each_number (length S.links) 0 (length S.links) (omega arith))
+module _ (number : ℕ → ℕ) (size : ℕ) (S : Setup) (end t : ℕ) (V : World) (ks : List ℕ) (old : List LinkView) (before now : List (Option ℕ))
+    (g : Awake number size S end t V ks old before now) where
+  slots : length before ≡ size
+  slots = g.asleep.count ∙ g.stand.count
 
-all_told : (S : Setup) (end t : ℕ) (V : World) (ns : List ℕ) (old : List LinkView) (before now : List (Option ℕ)) → Awake S end t V ns old before now
-    → (flat_map (keyed_by S t V) ns ≡ events_in t phase.D (turns_in S t phase.D V))
-    × (flat_map (told_by S t V) ns ≡ flat_map told (moves_of (turns_in S t phase.D V)))
-unfolding turns_of
-all_told S end t V ns old before now g =
-    let p = is_woken t before in
-    let all = below (length S.links) in
-    let quiet = each_quiet S end t V ns old before now g in
-    let silent = each_weaker (λ (n : ℕ). p n ≡ false → told_by S t V n ≡ []) (λ (n : ℕ). p n ≡ false → keyed_by S t V n ≡ [])
-    (λ n h e. quiet_keyed S t n V (h e)) all quiet in
-    let at_once = phase_at_once S t phase.D V in
-    let are = numbers_are S end t V ns old before now g in (
-      ap (flat_map (keyed_by S t V)) are ∙ told_skip Event p (keyed_by S t V) all silent ∙ sym (events_map S t V all) ∙ ap (events_in t phase.D) (sym at_once),
-      ap (flat_map (told_by S t V)) are ∙ told_skip Occurrence p (told_by S t V) all quiet ∙ sym (told_map S t V all)
-          ∙ ap (λ (ms : List Move). flat_map told ms) (sym (moves_of-map (link_turns S t) V all)) ∙ ap (λ (us : List Turn). flat_map told (moves_of us)) (sym at_once),
-    )
+  in_old : (k : ℕ) → k < size → k < length old
+  in_old k lt = let a = g.stand.count in omega arith
 
-pub phase_is : (S : Setup) (end t : ℕ) (V : World) (D : Dwelling) (ns : List ℕ) (old links : List LinkView) (lines : List (List Waiter))
-    (before now wakes : List (Option ℕ)) (events out : List Event) (said heard : List Occurrence)
-    → S.settings.dwell ≡ D → LinksStand S t old V → AreAsleep D end t old before → t < end → ns ≡ woken t before → now ≡ map (slept t) before
-    → AreTurned S end t V ns old links lines now wakes events out said heard → IsPhase S end t V links lines wakes events out said heard
-phase_is S end t V D ns old links lines before now wakes events out said heard d stand asleep lt ns_are now_is h =
-    let g : Awake S end t V ns old before now
-    = record {
+  numbers_are : ks ≡ filter (is_woken t before) (below size)
+  numbers_are = g.are ∙ woken_below t before ∙ ap (λ (n : ℕ). filter (is_woken t before) (below n)) slots
+
+  among_is : (k : ℕ) → k < size → is_among k ks ≡ is_second t (wake_of before k)
+  among_is k lt = ap (is_among k) numbers_are ∙ among_passed (is_woken t before) k 0 size (omega arith) (omega arith)
+
+  quiet_at : (k : ℕ) → k < size → is_among k ks ≡ false
+      → link_turns S t (number k) V ≡ Credit (number k) (raised (rules S (number k)).gain (link_state (number k) V).credit) ∷ []
+  quiet_at k lt out_of =
+      let within_old = in_old k lt in
+      let off : is_second t (wake_of before k) ≡ false = sym (among_is k lt) ∙ out_of in
+      let past = sleeps_past end t (wake_of before k) g.in_day (λ u e. g.asleep.later k u within_old e) off in
+      quiet_turn S t (number k) V (lane old k) (g.stand.numbers k lt) (g.stand.lists k lt) (g.asleep.rests k within_old t (omega arith) past)
+
+  wake_kept : (k : ℕ) → k < size → is_among k ks ≡ false → wake_of now k ≡ wake_of before k
+  wake_kept k lt out_of =
+      let off : is_second t (wake_of before k) ≡ false = sym (among_is k lt) ∙ out_of in
+      let n = slots in
+      let there : k < length before = omega arith in
+      ap (λ (xs : List (Option ℕ)). wake_of xs k) g.slept ∙ get_or-map (slept t) before k None None there ∙ slept_off t (wake_of before k) off
+
+  -- what is told
+  each_quiet : Each (λ (k : ℕ). is_woken t before k ≡ false → told_by S t V (number k) ≡ []) (below size)
+  each_quiet =
+      each_weaker (λ (k : ℕ). k < size) (λ (k : ℕ). is_woken t before k ≡ false → told_by S t V (number k) ≡ [])
+      (λ k lt e. quiet_told S t (number k) V (raised (rules S (number k)).gain (link_state (number k) V).credit) (quiet_at k lt (among_is k lt ∙ e)))
+      (below size) (each_number size 0 size (omega arith))
+
+  all_told : (flat_map (λ k. keyed_by S t V (number k)) ks ≡ events_in t phase.D (turns_at number size S t V))
+      × (flat_map (λ k. told_by S t V (number k)) ks ≡ flat_map told (moves_of (turns_at number size S t V)))
+  all_told =
+      let p = is_woken t before in
+      let all = below size in
+      let plan = link_turns S t in
+      let tell = λ (k : ℕ). told_by S t V (number k) in
+      let key = λ (k : ℕ). keyed_by S t V (number k) in
+      let silent = each_weaker (λ (k : ℕ). p k ≡ false → tell k ≡ []) (λ (k : ℕ). p k ≡ false → key k ≡ [])
+      (λ k h e. quiet_keyed S t (number k) V (h e)) all each_quiet in
+      let at_once : turns_at number size S t V ≡ map (turn_of plan V) (map number all)
+      = turns_at_once S t plan (links_apart S t) (map number all) V (distinct_numbers S size number g.numbered) in (
+        ap (flat_map key) numbers_are ∙ told_skip Event p key all silent ∙ sym (events_map number S t V all) ∙ ap (events_in t phase.D) (sym at_once),
+        ap (flat_map tell) numbers_are ∙ told_skip Occurrence p tell all each_quiet ∙ sym (told_map number S t V all)
+            ∙ ap (λ (ms : List Move). flat_map told ms) (sym (moves_of-map plan V (map number all)))
+            ∙ ap (λ (us : List Turn). flat_map told (moves_of us)) (sym at_once),
+      )
+
+  module _ (links : List LinkView) (lines : List (List Waiter)) (wakes : List (Option ℕ)) (events out : List Event) (said heard : List Occurrence)
+      (h : AreTurned number S end t V ks old links lines now wakes events out said heard) where
+    -- the links
+    all_links : LinksStandAt number size S (t + 1) links (after S t (turns_at number size S t V) V)
+    all_links =
+        let After = after S t (turns_at number size S t V) V in
+        let whole : (k : ℕ) → k < size
+        → link_state (number k) After ≡ link_state_after_all (number k) (link_turns S t (number k) V) (link_state (number k) V)
+        = λ k lt. all_states number size S t k V g.numbered lt (let a = g.stand.credits in let b = g.numbered.there k lt in omega arith) in
+        record {
+          count = h.count ∙ g.stand.count;
+          credits = credits_run S t (moves_of (turns_at number size S t V)) V ∙ g.stand.credits;
+          numbers = λ k lt.
+              let q = g.stand.numbers k lt in
+              elim (cases_Bool (is_among k ks)) [
+                | inl a ↦ subst (IsLink S (number k)) (sym (h.done k (in_old k lt) a)) (record { numbers = q.numbers })
+                | inr a ↦ subst (IsLink S (number k)) (sym (h.left k a)) q
+              ];
+          raised = λ k lt.
+              let le = g.stand.raised k lt in
+              elim (cases_Bool (is_among k ks)) [
+                | inl a ↦ let e : (lane links k).raised ≡ t + 1 = ap (λ (v : LinkView). v.raised) (h.done k (in_old k lt) a) in omega arith
+                | inr a ↦ let e : (lane links k).raised ≡ (lane old k).raised = ap (λ (v : LinkView). v.raised) (h.left k a) in omega arith
+              ];
+          lists = λ k lt.
+              elim (cases_Bool (is_among k ks)) [
+                | inl a ↦ turned_lists S t (number k) V (lane old k) (lane links k) (h.done k (in_old k lt) a) ∙ sym (whole k lt)
+                | inr a ↦
+                    ap (lists_at (t + 1)) (h.left k a)
+                    ∙ quiet_lists S t (number k) V (lane old k) (g.stand.numbers k lt) (g.stand.lists k lt) (g.stand.raised k lt) (quiet_at k lt a)
+                    ∙ sym (whole k lt)
+              ];
+        }
+
+    -- the lines
+    all_lines : LinesStandAt number size S lines (after S t (turns_at number size S t V) V)
+    all_lines = λ k lt.
+        let l = number k in
+        let w = h.waits k (in_old k lt) in
+        let whole = all_waiting number size S t k V g.numbered lt in
+        let quiet : is_among k ks ≡ false → left_after (link_turns S t l V) (waiters S l V) ≡ waiters S l V
+        = λ a. ap (λ (ms : List Move). left_after ms (waiters S l V)) (quiet_at k lt a) in
+        let behind : waiting_behind S t l V (is_among k ks) ≡ left_after (link_turns S t l V) (waiters S l V)
+        = elim (cases_Bool (is_among k ks)) [
+          | inl a ↦ ap (waiting_behind S t l V) a
+          | inr a ↦ ap (waiting_behind S t l V) a ∙ sym (quiet a)
+        ] in
+        subst (HaveLines (lies_on S l) lines) (behind ∙ sym whole) w
+
+    -- who sleeps
+    all_asleep : AreAsleep S.settings.dwell end (t + 1) links wakes
+    all_asleep =
+        let D = S.settings.dwell in
+        let back : (k : ℕ) → k < length links → k < length old = λ k lt. (let a = h.count in omega arith) in
+        let known : (k : ℕ) → k < length links → k < size = λ k lt. (let a = h.count in let b = g.stand.count in omega arith) in
+        let kept : (k : ℕ) → k < length links → is_among k ks ≡ false → wake_of wakes k ≡ wake_of before k
+        = λ k lt a. h.asleep k a ∙ wake_kept k (known k lt) a in
+        record {
+          count = h.slots ∙ ap length g.slept ∙ length-map before (slept t) ∙ g.asleep.count ∙ sym h.count;
+          rests = λ k lt.
+              elim (cases_Bool (is_among k ks)) [
+                | inl a ↦
+                    subst (λ (d : Option ℕ). Rests D (t + 1) (sleeps_to end d) (lane links k)) (sym (h.woken k (back k lt) a))
+                    (turned_rests S end t (number k) V (lane old k) (lane links k) (g.stand.numbers k (known k lt)) (h.done k (back k lt) a))
+                | inr a ↦
+                    subst (λ (v : LinkView). Rests D (t + 1) (sleeps_to end (wake_of wakes k)) v) (sym (h.left k a))
+                    (subst (λ (d : Option ℕ). Rests D (t + 1) (sleeps_to end d) (lane old k)) (sym (kept k lt a))
+                    (λ x low high. g.asleep.rests k (back k lt) x (omega arith) high))
+              ];
+          later = λ k u lt e.
+              elim (cases_Bool (is_among k ks)) [
+                | inl a ↦ woken_later end t u (lane links k) (sym (h.woken k (back k lt) a) ∙ e)
+                | inr a ↦
+                    let was : wake_of before k ≡ Some u = sym (kept k lt a) ∙ e in
+                    let le = g.asleep.later k u (back k lt) was in
+                    let off : is_second t (Some u) ≡ false = ap (is_second t) (sym was) ∙ sym (among_is k (known k lt)) ∙ a in
+                    let ne : u ≢ t = eqb-false u t off in
+                    omega arith
+              ];
+          soon = λ k u lt e.
+              elim (cases_Bool (is_among k ks)) [
+                | inl a ↦ woken_soon end t u (lane links k) (sym (h.woken k (back k lt) a) ∙ e)
+                | inr a ↦ g.asleep.soon k u (back k lt) (sym (kept k lt a) ∙ e)
+              ];
+        }
+
+    whole : IsPhaseAt number size S end t V links lines wakes events out said heard
+    whole = record {
+      links = all_links;
+      lines = all_lines;
+      asleep = all_asleep;
+      events = h.events ∙ ap (λ (xs : List Event). events ++ xs) all_told.0;
+      said = h.said ∙ ap (λ (xs : List Occurrence). said ++ xs) all_told.1;
+    }
+
+pub phase_is : (number : ℕ → ℕ) (size : ℕ) (S : Setup) (end t : ℕ) (V : World) (D : Dwelling) (ks : List ℕ) (old links : List LinkView)
+    (lines : List (List Waiter)) (before now wakes : List (Option ℕ)) (events out : List Event) (said heard : List Occurrence)
+    → AreNumbered S size number → S.settings.dwell ≡ D → LinksStandAt number size S t old V → AreAsleep D end t old before → t < end
+    → ks ≡ woken t before → now ≡ map (slept t) before
+    → AreTurned number S end t V ks old links lines now wakes events out said heard
+    → IsPhaseAt number size S end t V links lines wakes events out said heard
+phase_is number size S end t V D ks old links lines before now wakes events out said heard own d stand asleep lt ks_are now_is h =
+    whole number size S end t V ks old before now
+    (record {
+      numbered = own;
       stand = stand;
       asleep = subst (λ (E : Dwelling). AreAsleep E end t old before) (sym d) asleep;
       in_day = lt;
-      are = ns_are;
+      are = ks_are;
       slept = now_is;
-    } in
-    let all = all_told S end t V ns old before now g in
-    record {
-      links = all_links S end t V ns old links lines before now wakes events out said heard g h;
-      lines = all_lines S end t V ns old links lines before now wakes events out said heard g h;
-      asleep = all_asleep S end t V ns old links lines before now wakes events out said heard g h;
-      events = h.events ∙ ap (λ (xs : List Event). events ++ xs) all.0;
-      said = h.said ∙ ap (λ (xs : List Occurrence). said ++ xs) all.1;
-    }
+    }) links lines wakes events out said heard h
+
+-- ALL LINKS OF THE NETWORK
+pub all_numbered : (S : Setup) → AreNumbered S (length S.links) (λ l. l)
+all_numbered S = record { there = λ k lt. lt; apart = λ j k lt there e. e }
+
+same_numbers : (ns : List ℕ) → map (λ (l : ℕ). l) ns ≡ ns
+same_numbers [] = refl
+same_numbers (n ∷ ns) = ap (λ (xs : List ℕ). n ∷ xs) (same_numbers ns)
+
+pub all_turns : (S : Setup) (t : ℕ) (V : World) → turns_at (λ l. l) (length S.links) S t V ≡ turns_in S t phase.D V
+unfolding turns_in turns_of
+all_turns S t V = ap (λ (ns : List ℕ). turns S t (link_turns S t) ns V) (same_numbers (below (length S.links)))
+
+-- the phase of the links in all slots is that of the network
+pub whole_phase : (S : Setup) (end t : ℕ) (V : World) (links : List LinkView) (lines : List (List Waiter)) (wakes : List (Option ℕ))
+    (events out : List Event) (said heard : List Occurrence)
+    → IsPhaseAt (λ l. l) (length S.links) S end t V links lines wakes events out said heard
+    → IsPhase S end t V links lines wakes events out said heard
+whole_phase S end t V links lines wakes events out said heard h =
+    subst (λ (us : List Turn). IsPhaseBy (λ l. l) (length S.links) us S end t V links lines wakes events out said heard) (all_turns S t V) h
 
 -- the numbers of links that are woken: each is there, and stands once
 pub woken_there : (t count : ℕ) (before : List (Option ℕ)) (ns : List ℕ) → ns ≡ woken t before → length before ≡ count → AreIn count ns

@@ -1,4 +1,5 @@
--- The links of a network and the lines of its stops, as they stand for those of a world, and when the links are woken.
+-- Links of a network and the lines of its stops, as they stand for those of a world, and when the links are woken. Links stand in slots:
+-- those of the whole network, each in the slot of its own number, or those that one of several parts has.
 use Rattle.std.specs.Prelude.{◌≡◌, ℕ, ◌+◌, ◌<◌, ◌≤◌, max, Bool, List, length, ◌==◌, Option, None, Some}
 use Rattle.std.specs.List.{AllByRecursion as Each}
 use Rattle.rows.specs.declared.settings.Dwelling.{Dwelling}
@@ -20,22 +21,36 @@ use Rattle.node_seconds.specs.Networks.{lane}
 pub record IsLink (S : Setup) (l : ℕ) (v : LinkView) : Type 0 where
   pub numbers : v.numbers ≡ numbers_of l (link_row S l) S.settings
 
--- Before the turns of second t the links stand for those of world V: with the gains of all seconds before t each has the lists of V.
-pub record LinksStand (S : Setup) (t : ℕ) (links : List LinkView) (V : World) : Type 0 where
-  pub count : length links ≡ length S.links
+-- The links that are in so many slots, by slot, are links of the setup, each in one slot.
+pub record AreNumbered (S : Setup) (size : ℕ) (number : ℕ → ℕ) : Type 0 where
+  pub there : (k : ℕ) → k < size → number k < length S.links
+  pub apart : (j k : ℕ) → j < size → k < size → number j ≡ number k → j ≡ k
+
+-- Before the turns of second t the links in so many slots, with these numbers, stand for those of world V: with the gains of all seconds
+-- before t each has the lists of V.
+pub record LinksStandAt (number : ℕ → ℕ) (size : ℕ) (S : Setup) (t : ℕ) (links : List LinkView) (V : World) : Type 0 where
+  pub count : length links ≡ size
   pub credits : length V.credits ≡ length S.links
-  pub numbers : (l : ℕ) → l < length S.links → IsLink S l (lane links l)
-  pub raised : (l : ℕ) → l < length S.links → (lane links l).raised ≤ t
-  pub lists : (l : ℕ) → l < length S.links → lists_at t (lane links l) ≡ link_state l V
+  pub numbers : (k : ℕ) → k < size → IsLink S (number k) (lane links k)
+  pub raised : (k : ℕ) → k < size → (lane links k).raised ≤ t
+  pub lists : (k : ℕ) → k < size → lists_at t (lane links k) ≡ link_state (number k) V
+
+-- the same of all links of the network, each in the slot of its number
+abbrev pub LinksStand : Setup → ℕ → List LinkView → World → Type 0
+LinksStand S t links V = LinksStandAt (λ l. l) (length S.links) S t links V
 
 -- THE LINES
 -- whether a stop lies on link l
 abbrev pub lies_on : Setup → ℕ → ℕ → Bool
 lies_on S l stop = link_of_stop S stop == l
 
--- who waits at the stops of a link in world V stands in their lines, in turn
+-- who waits at the stops of one of these links in world V stands in their lines, in turn
+abbrev pub LinesStandAt : (ℕ → ℕ) → ℕ → Setup → List (List Waiter) → World → Type 0
+LinesStandAt number size S lines V = (k : ℕ) → k < size → HaveLines (lies_on S (number k)) lines (waiters S (number k) V)
+
+-- the same of all links of the network
 abbrev pub LinesStand : Setup → List (List Waiter) → World → Type 0
-LinesStand S lines V = (l : ℕ) → l < length S.links → HaveLines (lies_on S l) lines (waiters S l V)
+LinesStand S lines V = LinesStandAt (λ l. l) (length S.links) S lines V
 
 -- a link has had no turn in second t, and each of its vehicles can stop at one of so many stops
 pub record CanTurn (stops t : ℕ) (v : LinkView) : Type 0 where

@@ -1,5 +1,5 @@
--- The phase of a second in which links move.
-use Rattle.std.specs.Prelude.{◌≡◌, ℕ, ◌+◌, ◌<◌, Bool, true, false, List, ◌++◌, length, Option}
+-- The phase of a second in which links move, of those in so many slots or of all.
+use Rattle.std.specs.Prelude.{◌≡◌, ℕ, ◌+◌, ◌<◌, Bool, true, false, List, ◌++◌, length, map, Option}
 use Rattle.std.specs.List.{flat_map}
 use Rattle.events.specs.declared.event.Event.{Event}
 use Rattle.events.specs.declared.event.Phase.TheVariants as phase
@@ -11,16 +11,17 @@ use Rattle.traffic.specs.declared.world.Waiter.{Waiter}
 use Rattle.traffic.specs.Rows.{World}
 use Rattle.traffic.specs.Setup.{Setup}
 use Rattle.traffic.specs.Moves.{told}
+use Rattle.traffic.specs.Lists.{below}
 use Rattle.traffic.specs.Links.{link_state, link_moves}
 use Rattle.traffic.specs.Persons.{waiters}
-use Rattle.traffic.specs.Day.{keyed, link_turns, moves_of, turns_in, after, events_in}
+use Rattle.traffic.specs.Day.{Turn, keyed, link_turns, moves_of, turns, turns_in, after, events_in}
 use Rattle.law_sleeping.specs.Quiet.{link_state_after_all}
 use Rattle.queue_link.specs.Links.{LinkView}
 use Rattle.queue_link.specs.Numbers.{rules_of}
 use Rattle.link_seconds.specs.Seconds.{HaveLines, lists_at, line_at, left_after}
 use Rattle.calendar.specs.Waking.{wake_of}
 use Rattle.node_seconds.specs.Networks.{lane, is_among}
-use Rattle.part_links.specs.Links.{LinksStand, LinesStand, AreAsleep, lies_on, wake_after}
+use Rattle.part_links.specs.Links.{LinksStandAt, LinesStandAt, AreAsleep, lies_on, wake_after}
 
 -- ONE LINK
 -- the moves of a link in second t, where these wait at its stops
@@ -53,26 +54,44 @@ abbrev pub waiting_behind : Setup → ℕ → ℕ → World → Bool → List Wa
 waiting_behind S t l V true = left_after (link_turns S t l V) (waiters S l V)
 waiting_behind S t l V false = waiters S l V
 
--- The links of these numbers have had their turns in second t, by world V, and nobody else: what they make of links, lines, wakes and
--- what was told.
-pub record AreTurned (S : Setup) (end t : ℕ) (V : World) (ns : List ℕ) (old links : List LinkView) (lines : List (List Waiter))
-    (before wakes : List (Option ℕ)) (old_events new_events : List Event) (old_said new_said : List Occurrence) : Type 0 where
+-- The links in these slots have had their turns in second t, by world V, and nobody else: what they make of links, lines, wakes and what
+-- was told.
+pub record AreTurned (number : ℕ → ℕ) (S : Setup) (end t : ℕ) (V : World) (ks : List ℕ) (old links : List LinkView)
+    (lines : List (List Waiter)) (before wakes : List (Option ℕ)) (old_events new_events : List Event)
+    (old_said new_said : List Occurrence) : Type 0 where
   pub count : length links ≡ length old
   pub slots : length wakes ≡ length before
-  pub done : (l : ℕ) → l < length old → is_among l ns ≡ true → lane links l ≡ turned S t l V (lane old l)
-  pub left : (l : ℕ) → is_among l ns ≡ false → lane links l ≡ lane old l
-  pub waits : (l : ℕ) → l < length old → HaveLines (lies_on S l) lines (waiting_behind S t l V (is_among l ns))
-  pub woken : (l : ℕ) → l < length old → is_among l ns ≡ true → wake_of wakes l ≡ wake_after end t (lane links l)
-  pub asleep : (l : ℕ) → is_among l ns ≡ false → wake_of wakes l ≡ wake_of before l
-  pub events : new_events ≡ old_events ++ flat_map (keyed_by S t V) ns
-  pub said : new_said ≡ old_said ++ flat_map (told_by S t V) ns
+  pub done : (k : ℕ) → k < length old → is_among k ks ≡ true → lane links k ≡ turned S t (number k) V (lane old k)
+  pub left : (k : ℕ) → is_among k ks ≡ false → lane links k ≡ lane old k
+  pub waits : (k : ℕ) → k < length old → HaveLines (lies_on S (number k)) lines (waiting_behind S t (number k) V (is_among k ks))
+  pub woken : (k : ℕ) → k < length old → is_among k ks ≡ true → wake_of wakes k ≡ wake_after end t (lane links k)
+  pub asleep : (k : ℕ) → is_among k ks ≡ false → wake_of wakes k ≡ wake_of before k
+  pub events : new_events ≡ old_events ++ flat_map (λ k. keyed_by S t V (number k)) ks
+  pub said : new_said ≡ old_said ++ flat_map (λ k. told_by S t V (number k)) ks
 
 -- ALL OF THEM
--- what the turns of all links make of world V in second t: the links and lines stand for the world then, and so does what is told
-pub record IsPhase (S : Setup) (end t : ℕ) (V : World) (new_links : List LinkView) (new_lines : List (List Waiter))
-    (wakes : List (Option ℕ)) (old_events new_events : List Event) (old_said new_said : List Occurrence) : Type 0 where
-  pub links : LinksStand S (t + 1) new_links (after S t (turns_in S t phase.D V) V)
-  pub lines : LinesStand S new_lines (after S t (turns_in S t phase.D V) V)
+-- the turns of the links in so many slots, slot by slot
+abbrev pub turns_at : (ℕ → ℕ) → ℕ → Setup → ℕ → World → List Turn
+turns_at number size S t V = turns S t (link_turns S t) (map number (below size)) V
+
+-- What these turns make of world V in second t: the links and lines stand for the world then, and so does what is told.
+pub record IsPhaseBy (number : ℕ → ℕ) (size : ℕ) (us : List Turn) (S : Setup) (end t : ℕ) (V : World) (new_links : List LinkView)
+    (new_lines : List (List Waiter)) (wakes : List (Option ℕ)) (old_events new_events : List Event)
+    (old_said new_said : List Occurrence) : Type 0 where
+  pub links : LinksStandAt number size S (t + 1) new_links (after S t us V)
+  pub lines : LinesStandAt number size S new_lines (after S t us V)
   pub asleep : AreAsleep S.settings.dwell end (t + 1) new_links wakes
-  pub events : new_events ≡ old_events ++ events_in t phase.D (turns_in S t phase.D V)
-  pub said : new_said ≡ old_said ++ flat_map told (moves_of (turns_in S t phase.D V))
+  pub events : new_events ≡ old_events ++ events_in t phase.D us
+  pub said : new_said ≡ old_said ++ flat_map told (moves_of us)
+
+-- what the turns of the links in so many slots make of world V in second t
+abbrev pub IsPhaseAt : (ℕ → ℕ) → ℕ → Setup → ℕ → ℕ → World → List LinkView → List (List Waiter) → List (Option ℕ) → List Event → List Event
+    → List Occurrence → List Occurrence → Type 0
+IsPhaseAt number size S end t V links lines wakes old new spoken heard =
+    IsPhaseBy number size (turns_at number size S t V) S end t V links lines wakes old new spoken heard
+
+-- the same of all links of the network: its phase
+abbrev pub IsPhase : Setup → ℕ → ℕ → World → List LinkView → List (List Waiter) → List (Option ℕ) → List Event → List Event → List Occurrence
+    → List Occurrence → Type 0
+IsPhase S end t V links lines wakes old new spoken heard =
+    IsPhaseBy (λ l. l) (length S.links) (turns_in S t phase.D V) S end t V links lines wakes old new spoken heard

@@ -1,5 +1,5 @@
-//! The links of a network in the phase of a second in which they move: only those have a turn that are woken, and all of them then stand as
-//! `traffic` says.
+//! Links of a network, all or those of a part, in the phase of a second in which they move: only those have a turn that are woken, and all
+//! of them then stand as `traffic` says.
 #![tactic(auto)]
 
 mod link_turns;

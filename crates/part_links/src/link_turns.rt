@@ -45,32 +45,64 @@ pub struct Told {
     pub said: Vec<Occurrence>,
 }
 
-/// The second of the link of a number; answers what it tells.
+impl Told {
+    /// Appends what a turn tells: that of the link or node of this number, in this second and phase.
+    ///
+    /// # Errors
+    ///
+    /// `AllocError`: there is no memory for it. Part of it may be appended.
+    pub fn append(
+        &mut self,
+        second: u32,
+        phase: Phase,
+        number: u32,
+        said: &[Occurrence],
+    ) -> Result<(), AllocError>
+        ensures events { OnOk result (self.new.events.items ≡ self.old.events.items ++ keyed second (phase_code phase) number 0 said.now) }
+        ensures said { OnOk result (self.new.said.items ≡ self.old.said.items ++ said.now) }
+    {
+        push_keyed(second, phase, number, said, &mut self.events)?;
+        self.said.extend_from_slice(said)?;
+        Ok(())
+    }
+}
+
+/// The number of the link in a slot.
+#[tactic(auto, using(node_move::proofs::Places::is_at))]
+fn number_at(links: &[LinkState], slot: u32) -> u32
+    requires { slot < length links.now }
+    ensures { result ≡ (lane links.now slot).numbers.link }
+{
+    let link = &links[slot as usize];
+    link.numbers().link
+}
+
+/// The second of the link in a slot; answers what it tells.
 #[tactic(auto, using(node_move::proofs::Places::is_at, crate::proofs::Standing::lane_set))]
 fn turn_at(
     alloc: Global,
     phase: &LinkPhase,
-    number: u32,
+    slot: u32,
     links: &mut [LinkState],
     lines: &mut [Waiting],
 ) -> Result<Vec<Occurrence>, AllocError>
     requires second_in { phase.now.second < LAST_SECOND }
     requires dwell_in { IsDwelling phase.now.dwell }
-    requires there { number < length links.old }
-    requires able { CanTurn (length lines.old) phase.now.second (lane links.old number) }
+    requires there { slot < length links.old }
+    requires able { CanTurn (length lines.old) phase.now.second (lane links.old slot) }
     requires short { AreShort lines.old }
-    ensures second { (lies : ℕ → Bool) (ws : List Waiter) → HaveLines lies lines.old ws → StopThere lies (lane links.old number)
-        → Each (IsThere lies (lane links.old number).numbers.link) (lane links.old number).lists.bay
-        → IfOk result (λ said. IsSecond lies (rules_of (lane links.old number).numbers phase.now.dwell) phase.now.second
-        (lane links.old number).numbers.link ws (lists_at phase.now.second (lane links.old number)) [] lines.old
-        (lane links.new number).lists said.items lines.new) }
-    ensures link { OnOk result (lane links.new number
-        ≡ record (lane links.old number) { lists = (lane links.new number).lists; raised = phase.now.second + 1 }) }
-    ensures others { OnOk result (links.new ≡ set links.old number (lane links.new number)) }
+    ensures second { (lies : ℕ → Bool) (ws : List Waiter) → HaveLines lies lines.old ws → StopThere lies (lane links.old slot)
+        → Each (IsThere lies (lane links.old slot).numbers.link) (lane links.old slot).lists.bay
+        → IfOk result (λ said. IsSecond lies (rules_of (lane links.old slot).numbers phase.now.dwell) phase.now.second
+        (lane links.old slot).numbers.link ws (lists_at phase.now.second (lane links.old slot)) [] lines.old
+        (lane links.new slot).lists said.items lines.new) }
+    ensures link { OnOk result (lane links.new slot
+        ≡ record (lane links.old slot) { lists = (lane links.new slot).lists; raised = phase.now.second + 1 }) }
+    ensures others { OnOk result (links.new ≡ set links.old slot (lane links.new slot)) }
     ensures short { OnOk result (AreShort lines.new) }
 {
     let mut said = Vec::new(alloc);
-    let link = &mut links[number as usize];
+    let link = &mut links[slot as usize];
     link_second(phase.second, &phase.dwell, link, lines, &mut said)?;
     Ok(said)
 }
@@ -87,50 +119,34 @@ fn no_sooner(second: u32, due: Option<u32>) -> Option<u32>
 
 /// When a link is due after its turn in this second.
 #[tactic(auto, using(node_move::proofs::Places::is_at))]
-fn due_at(links: &[LinkState], number: u32, second: u32) -> Option<u32>
+fn due_at(links: &[LinkState], slot: u32, second: u32) -> Option<u32>
     requires second_in { second < LAST_SECOND }
-    requires there { number < length links.now }
-    ensures { result ≡ due_of (lane links.now number).numbers second (lane links.now number).lists }
+    requires there { slot < length links.now }
+    ensures { result ≡ due_of (lane links.now slot).numbers second (lane links.now slot).lists }
 {
-    let link = &links[number as usize];
+    let link = &links[slot as usize];
     link.due(second)
 }
 
 /// A link that had its turn is woken again when it may have something to do.
 fn wake_again(
     phase: &LinkPhase,
-    number: u32,
+    slot: u32,
     links: &[LinkState],
     wakes: &mut Wakes,
 ) -> Result<(), AllocError>
     requires second_in { phase.now.second < LAST_SECOND }
-    requires there { number < length links.now }
+    requires there { slot < length links.now }
     requires count { length wakes.old ≡ length links.now }
-    ensures { OnOk result (wakes.new ≡ set wakes.old number (wake_after phase.now.end phase.now.second (lane links.now number))) }
+    ensures { OnOk result (wakes.new ≡ set wakes.old slot (wake_after phase.now.end phase.now.second (lane links.now slot))) }
 {
-    let due = due_at(links, number, phase.second);
+    let due = due_at(links, slot, phase.second);
     let later = no_sooner(phase.second + 1, due);
-    wakes.set(number, within(phase.end, later))?;
+    wakes.set(slot, within(phase.end, later))?;
     Ok(())
 }
 
-/// Appends what a link tells.
-fn tell(
-    phase: &LinkPhase,
-    number: u32,
-    said: &[Occurrence],
-    told: &mut Told,
-) -> Result<(), AllocError>
-    ensures events { OnOk result (told.new.events.items
-        ≡ told.old.events.items ++ keyed phase.now.second (phase_code D) number 0 said.now) }
-    ensures said { OnOk result (told.new.said.items ≡ told.old.said.items ++ said.now) }
-{
-    push_keyed(phase.second, Phase::D, number, said, &mut told.events)?;
-    told.said.extend_from_slice(said)?;
-    Ok(())
-}
-
-/// The turn of the link of a number, which is then woken again when it may have something to do.
+/// The turn of the link in a slot, which is then woken again when it may have something to do.
 ///
 /// # Errors
 ///
@@ -138,7 +154,7 @@ fn tell(
 pub(crate) fn turn_link(
     alloc: Global,
     phase: &LinkPhase,
-    number: u32,
+    slot: u32,
     links: &mut [LinkState],
     lines: &mut [Waiting],
     wakes: &mut Wakes,
@@ -146,21 +162,22 @@ pub(crate) fn turn_link(
 ) -> Result<(), AllocError>
     requires second_in { phase.now.second < LAST_SECOND }
     requires dwell_in { IsDwelling phase.now.dwell }
-    requires there { number < length links.old }
+    requires there { slot < length links.old }
     requires count { length wakes.old ≡ length links.old }
-    requires able { CanTurn (length lines.old) phase.now.second (lane links.old number) }
+    requires able { CanTurn (length lines.old) phase.now.second (lane links.old slot) }
     requires short { AreShort lines.old }
-    ensures turn { (lies : ℕ → Bool) (ws : List Waiter) → HaveLines lies lines.old ws → StopThere lies (lane links.old number)
-        → Each (IsThere lies (lane links.old number).numbers.link) (lane links.old number).lists.bay
-        → OnOk result (IsTurn lies phase.now.dwell phase.now.second number ws (lane links.old number) (lane links.new number)
-        lines.old lines.new told.old.events.items told.new.events.items told.old.said.items told.new.said.items) }
-    ensures others { OnOk result (links.new ≡ set links.old number (lane links.new number)) }
+    ensures turn { (lies : ℕ → Bool) (ws : List Waiter) → HaveLines lies lines.old ws → StopThere lies (lane links.old slot)
+        → Each (IsThere lies (lane links.old slot).numbers.link) (lane links.old slot).lists.bay
+        → OnOk result (IsTurn lies phase.now.dwell phase.now.second (lane links.old slot).numbers.link ws (lane links.old slot)
+        (lane links.new slot) lines.old lines.new told.old.events.items told.new.events.items told.old.said.items told.new.said.items) }
+    ensures others { OnOk result (links.new ≡ set links.old slot (lane links.new slot)) }
     ensures woken { OnOk result (wakes.new
-        ≡ set wakes.old number (wake_after phase.now.end phase.now.second (lane links.new number))) }
+        ≡ set wakes.old slot (wake_after phase.now.end phase.now.second (lane links.new slot))) }
     ensures short { OnOk result (AreShort lines.new) }
 {
-    let said = turn_at(alloc, phase, number, links, lines)?;
-    wake_again(phase, number, links, wakes)?;
-    tell(phase, number, &said, told)?;
+    let number = number_at(links, slot);
+    let said = turn_at(alloc, phase, slot, links, lines)?;
+    wake_again(phase, slot, links, wakes)?;
+    told.append(phase.second, Phase::D, number, &said)?;
     Ok(())
 }

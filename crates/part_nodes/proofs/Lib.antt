@@ -2,9 +2,11 @@ pub mod Clear
 pub mod Into
 pub mod Leading
 pub mod Seen
+pub mod Buffered
 pub mod Ready
 pub mod Crossings
 pub mod Entered
 pub mod Rested
+pub mod Held
 pub mod Passed
 pub mod Skipped

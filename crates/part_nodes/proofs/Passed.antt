@@ -1,16 +1,15 @@
 -- The turn of a node: the network stands for the world after it.
-use Rattle.traffic.proofs.Common.{◌≡◌, ◌≢◌, ℕ, List, ◌∙◌, length, ap, refl, sym, [], ◌∷◌, ◌++◌, arith, ◌<◌, ◌+◌, true, false, Bool, inl, inr, eqb, subst, flat_map, map, not}
-use Rattle.traffic.proofs.Common.{Some, None, Option, cases_Bool, eqb-true, eq-eqb, true≢false, set, get_or-set_same, get_or-set_other, length-set, if◌then◌else◌}
+use Rattle.traffic.proofs.Common.{◌≡◌, ◌≢◌, ℕ, List, ◌∙◌, length, ap, refl, sym, [], ◌∷◌, ◌++◌, arith, ◌<◌, ◌+◌, true, false, Bool, inl, inr, eqb, subst, flat_map, map, filter}
+use Rattle.traffic.proofs.Common.{None, Option, cases_Bool, eq-eqb, set, get_or-set_same, get_or-set_other, length-set, if◌then◌else◌}
 use Rattle.traffic.proofs.Common.{node_turns, World, on, at, Setup, into, link_row, seconds_of, at_after_all, run, out_links_after, told, credit_of, numbers, keyed, phase_code}
 use Rattle.traffic.specs.declared.moves.Move.{Move}
 use Rattle.traffic.specs.declared.moves.Occurrence.{Occurrence}
 use Rattle.traffic.specs.declared.node_views.OutLink.{OutLink}
 use Rattle.traffic.specs.declared.stage.Stage.TheVariants.{Queue, Buffer, Wait, Bay}
+use Rattle.rows.specs.declared.settings.Stuck.{Stuck}
 use Rattle.traffic.specs.declared.world.Row.{Row}
 use Rattle.traffic.specs.Links.{LinkState, link_state}
-use Rattle.std.specs.Prelude.{nat_lt}
 use Rattle.std.specs.List.{AllByRecursion as Each}
-use Rattle.std.proofs.lemmas.Bool.Decides.{nat_tests}
 use Rattle.events.specs.declared.event.Event.{Event}
 use Rattle.events.specs.declared.event.Phase.TheVariants as phase
 use Rattle.traffic.proofs.Sublists.{at-run, credits-run, at_after_all-untouched}
@@ -27,19 +26,23 @@ use Rattle.node_move.specs.Spaces.{places_in}
 use Rattle.node_move.specs.NodeStates.{buffer_after, entering_by}
 use Rattle.node_move.specs.declared.crossings.Entering.{Entering}
 use Rattle.link_seconds.specs.Seconds.{lists_at}
-use Rattle.node_seconds.specs.Networks.{lane, is_among, accepted_all, wakes_after_all, AreIn}
+use Rattle.node_seconds.specs.Networks.{lane, is_among, accepted_all, wakes_after_all}
+use Rattle.calendar.specs.Due.{AreIn}
 use Rattle.part_links.specs.Links.{LinksStand, AreAsleep}
 use Rattle.part_nodes.specs.declared.network.Network.{Network}
 use Rattle.node_move.specs.declared.turns.NodeTurn.{NodeTurn}
 use Rattle.node_seconds.specs.Turns.{moves_in}
 use Rattle.part_nodes.specs.declared.node_turns.Buffered.{Buffered}
-use Rattle.part_nodes.specs.Turns.{IsTurnOf, lights_of, buffered_in, is_buffered, is_waited, wake_all_emptied}
+use Rattle.part_nodes.specs.Turns.{IsTurnOf, lights_of, buffered_in, is_buffered, wake_all_emptied, node_due, up_to}
 use Rattle.law_joined_routes.specs.Going.{GoesOn}
 use Rattle.part_nodes.specs.Phase.{LinksStandFor, IsPassed, IsTurn}
-use Rattle.part_nodes.proofs.Seen.{number_is, buffer_is, into_there, among_into, moves_are}
-use Rattle.part_nodes.proofs.Crossings.{AreCrossings, node_crossings, rows_into, queue_after, aside_after, buffer_keeps, places_are}
+use Rattle.part_nodes.proofs.Seen.{number_is, buffer_is, among_into}
+use Rattle.part_nodes.proofs.Buffered.{nobody_in, moves_of_some}
+use Rattle.part_nodes.proofs.Ready.{some_in}
+use Rattle.part_nodes.proofs.Crossings.{AreCrossings, node_crossings, rows_into, queue_after, aside_after, buffer_keeps, buffer_empty, places_are}
 use Rattle.part_nodes.proofs.Entered.{length_all, all_accepted, queued_on, all_accepted_asleep}
 use Rattle.part_nodes.proofs.Rested.{handed_over_asleep}
+use Rattle.part_nodes.proofs.Held.{waits_again}
 
 -- ONE LINK
 -- a link whose buffer moves changed
@@ -60,19 +63,24 @@ seconds_is : (S : Setup) (t l : ℕ) (links : List LinkView) (V : World) → l <
 unfolding numbers_of
 seconds_is S t l links V lt h = ap (λ (k : LinkNumbers). k.seconds) (h.numbers l lt).numbers
 
-handed_is : (S : Setup) (t n l : ℕ) (old links : List LinkView) (V : World) → l < length S.links → LinksStand S t old V
-    → lane links l ≡ (if is_among l (into S n) then buffer_after (node_turns S t n V) (lane old l) else lane old l)
+handed_is : (S : Setup) (t n l : ℕ) (old links : List LinkView) (V : World) (ls : List ℕ) → l < length S.links → LinksStand S t old V
+    → AreCrossings S t (node_turns S t n V) → ls ≡ filter (is_buffered old) (into S n)
+    → lane links l ≡ (if is_among l ls then buffer_after (node_turns S t n V) (lane old l) else lane old l)
     → lane links l ≡ handed l (node_turns S t n V) (lane old l)
-handed_is S t n l old links V lt h e =
+handed_is S t n l old links V ls lt h cross are e =
     let ms = node_turns S t n V in
-    let a = among_into S n l lt in
-    elim (cases_Bool (eqb (link_row S l).to n)) [
-      | inl q ↦
-          let b : is_among l (into S n) ≡ true = a ∙ q in
-          e ∙ rw b (handed_at l l ms (lane old l) (number_is S t l old V lt h) refl)
-      | inr q ↦
-          let b : is_among l (into S n) ≡ false = a ∙ q in
-          e ∙ rw b (handed_same l ms (lane old l) (other_buffer S t n l V (lane old l).lists.buffer q))
+    let buffer = (lane old l).lists.buffer in
+    elim (cases_Bool (is_among l ls)) [
+      | inl b ↦ e ∙ rw b (handed_at l l ms (lane old l) (number_is S t l old V lt h) refl)
+      | inr b ↦
+          let kept : at_after_all l Buffer ms buffer ≡ buffer =
+          elim (cases_Bool (eqb (link_row S l).to n)) [
+            | inl q ↦
+                let none : buffer ≡ [] = nobody_in l old (into S n) (ap (is_among l) (sym are) ∙ b) (among_into S n l lt ∙ q) in
+                buffer_empty S t l ms buffer cross none ∙ sym none
+            | inr q ↦ other_buffer S t n l V buffer q
+          ] in
+          e ∙ rw b (handed_same l ms (lane old l) kept)
     ]
 
 same_state : (A B : LinkState) → A.queue ≡ B.queue → A.buffer ≡ B.buffer → A.wait ≡ B.wait → A.bay ≡ B.bay → A.credit ≡ B.credit → A ≡ B
@@ -104,26 +112,27 @@ lists_are S t n l V v es sec h cross e =
 -- ALL LINKS
 -- what the calls of a turn made of links, the seconds in which they are woken, and places
 pub record Calls (S : Setup) (end t n : ℕ) (V : World) (old : List LinkView) (slept : List (Option ℕ)) (free : List (Option OutLink))
-    (mid : List LinkView) (woken : List (Option ℕ)) (es : List Entering) (links : List LinkView) (wakes : List (Option ℕ))
+    (ls : List ℕ) (mid : List LinkView) (woken : List (Option ℕ)) (es : List Entering) (links : List LinkView) (wakes : List (Option ℕ))
     (space : List (Option OutLink)) : Type 0 where
+  pub some : ls ≡ filter (is_buffered old) (into S n)
   pub count : length mid ≡ length old
-  pub lanes : (l : ℕ) → l < length old → lane mid l ≡ (if is_among l (into S n) then buffer_after (node_turns S t n V) (lane old l) else lane old l)
+  pub lanes : (l : ℕ) → l < length old → lane mid l ≡ (if is_among l ls then buffer_after (node_turns S t n V) (lane old l) else lane old l)
   pub places : places_in space ≡ out_links_after (node_turns S t n V) (places_in free)
   pub entering : es ≡ flat_map entering_by (node_turns S t n V)
-  pub emptied : woken ≡ wake_all_emptied t (map (buffered_in old) (into S n)) mid slept
+  pub emptied : woken ≡ wake_all_emptied t (map (buffered_in old) ls) mid slept
   pub entered : links ≡ accepted_all t es mid
   pub woken_then : wakes ≡ wakes_after_all end t es mid woken
 
 module _ (z : Counts) (S : Setup) (end t n : ℕ) (V : World) (old : List LinkView) (slept : List (Option ℕ)) (free : List (Option OutLink))
-    (mid : List LinkView) (woken : List (Option ℕ)) (es : List Entering) (links : List LinkView) (wakes : List (Option ℕ))
-    (space : List (Option OutLink)) (h : LinksStandFor z S end t old slept free V)
-    (c : Calls S end t n V old slept free mid woken es links wakes space) where
+    (ls : List ℕ) (mid : List LinkView) (woken : List (Option ℕ)) (es : List Entering) (links : List LinkView) (wakes : List (Option ℕ))
+    (space : List (Option OutLink)) (h : LinksStandFor z S end t old slept free V) (cross : AreCrossings S t (node_turns S t n V))
+    (c : Calls S end t n V old slept free ls mid woken es links wakes space) where
   lane_is : (l : ℕ) → l < length S.links
       → lane links l ≡ queued_on (handed l (node_turns S t n V) (lane old l)) (rows_into l (t + (lane old l).numbers.seconds) es)
   lane_is l lt =
       let within : l < length old = (let q = h.stand.count in omega arith) in
       let there : l < length mid = (let q = c.count in omega arith) in
-      let v_is = handed_is S t n l old mid V lt h.stand (c.lanes l within) in
+      let v_is = handed_is S t n l old mid V ls lt h.stand cross c.some (c.lanes l within) in
       let number : (lane mid l).numbers.link ≡ l = ap (λ (v : LinkView). v.numbers.link) v_is ∙ number_is S t l old V lt h.stand in
       ap (λ (xs : List LinkView). lane xs l) c.entered ∙ all_accepted t l es mid there number
       ∙ ap (λ (v : LinkView). queued_on v (rows_into l (t + v.numbers.seconds) es)) v_is
@@ -131,15 +140,15 @@ module _ (z : Counts) (S : Setup) (end t n : ℕ) (V : World) (old : List LinkVi
   they_rest : t < end → AreAsleep S.settings.dwell end t links wakes
   they_rest in_day =
       let D = S.settings.dwell in
-      let there : AreIn (length old) (into S n) = subst (λ (k : ℕ). AreIn k (into S n)) (sym h.stand.count) (into_there S n) in
-      let over = handed_over_asleep D end t (node_turns S t n V) (into S n) old mid slept in_day c.count there c.lanes h.asleep in
+      let there : AreIn (length old) ls = some_in S n (length old) (is_buffered old) ls h.stand.count c.some in
+      let over = handed_over_asleep D end t (node_turns S t n V) ls old mid slept in_day c.count there c.lanes h.asleep in
       let before : AreAsleep D end t mid woken = subst (λ (ws : List (Option ℕ)). AreAsleep D end t mid ws) (sym c.emptied) over in
       let after = all_accepted_asleep D end t es mid woken in_day before in
       subst (λ (xs : List LinkView). AreAsleep D end t xs wakes) (sym c.entered)
       (subst (λ (ws : List (Option ℕ)). AreAsleep D end t (accepted_all t es mid) ws) (sym c.woken_then) after)
 
-  they_stand : AreCrossings S t (node_turns S t n V) → LinksStand S t links (run S t (node_turns S t n V) V)
-  they_stand cross =
+  they_stand : LinksStand S t links (run S t (node_turns S t n V) V)
+  they_stand =
       let ms = node_turns S t n V in
       record {
         count = ap length c.entered ∙ length_all t es mid ∙ c.count ∙ h.stand.count;
@@ -155,13 +164,12 @@ module _ (z : Counts) (S : Setup) (end t n : ℕ) (V : World) (old : List LinkVi
   passed in_day fit =
       let ms = node_turns S t n V in
       let moves_fit = node_fit z S t n V fit h.fit in
-      let cross = node_crossings z S t n V (sym fit.links) moves_fit in
       record {
         fit = run_fit z S t ms V fit h.fit moves_fit;
         on = λ l lt.
             subst (Each (GoesOn S l)) (sym (at-run S t l Buffer ms V))
             (buffer_keeps (GoesOn S l) S t l ms (at l Buffer V) (λ u r g. record { there = g.there; joined = g.joined }) cross (h.on l lt));
-        stand = they_stand cross;
+        stand = they_stand;
         asleep = they_rest in_day;
         places = λ m lt.
             ap (λ (f : ℕ → Option OutLink). f m) c.places ∙ places_are S t n m V (places_in free) cross (h.places m lt);
@@ -171,7 +179,7 @@ module _ (z : Counts) (S : Setup) (end t n : ℕ) (V : World) (old : List LinkVi
 pub passed_on : (z : Counts) (S : Setup) (end t n : ℕ) (V : World) (old : List LinkView) (slept : List (Option ℕ)) (free : List (Option OutLink))
     (turn : NodeTurn) (ls : List ℕ) (greens : List Bool) (bs : List Buffered) (mid : List LinkView) (woken : List (Option ℕ)) (es : List Entering)
     (links : List LinkView) (wakes : List (Option ℕ)) (space : List (Option OutLink)) (first now : List Occurrence)
-    → t < end → IsFitSetup z S → IsTurnOf S t n turn.stuck turn.second turn.draws → ls ≡ into S n → greens ≡ lights_of S t ls
+    → t < end → IsFitSetup z S → IsTurnOf S t n turn.stuck turn.second turn.draws → ls ≡ filter (is_buffered old) (into S n) → greens ≡ lights_of S t ls
     → bs ≡ map (buffered_in old) ls → length mid ≡ length old → first ≡ []
     → ((l : ℕ) → l < length old
     → lane mid l ≡ (if is_among l ls then buffer_after (moves_in turn old ls greens (places_in free)) (lane old l) else lane old l))
@@ -185,86 +193,60 @@ passed_on z S end t n V old slept free turn ls greens bs mid woken es links wake
     let made = moves_in turn old ls greens P in
     let ms = node_turns S t n V in
     let moves : made ≡ ms
-    = ap (λ (gs : List Bool). moves_in turn old ls gs P) lit ∙ ap (λ (ks : List ℕ). moves_in turn old ks (lights_of S t ks) P) to
-    ∙ moves_are S t n turn.stuck turn.second turn.draws old free V is h.stand h.on h.places in
-    let c : Calls S end t n V old slept free mid woken es links wakes space
+    = ap (λ (gs : List Bool). moves_in turn old ls gs P) lit
+    ∙ moves_of_some S t n turn.stuck turn.second turn.draws old free V ls to is h.stand h.on h.places in
+    let cross = node_crossings z S t n V (sym fit.links) (node_fit z S t n V fit h.fit) in
+    let c : Calls S end t n V old slept free ls mid woken es links wakes space
     = record {
+      some = to;
       count = count;
-      lanes = λ l lt.
-          lanes l lt ∙ ap (λ (ks : List ℕ). if is_among l ks then buffer_after made (lane old l) else lane old l) to
-          ∙ ap (λ (xs : List Move). if is_among l (into S n) then buffer_after xs (lane old l) else lane old l) moves;
+      lanes = λ l lt. lanes l lt ∙ ap (λ (xs : List Move). if is_among l ls then buffer_after xs (lane old l) else lane old l) moves;
       places = sp ∙ ap (λ (xs : List Move). out_links_after xs P) moves;
       entering = en ∙ ap (flat_map entering_by) moves;
-      emptied = wa ∙ ap (λ (xs : List Buffered). wake_all_emptied t xs mid slept) (held ∙ ap (map (buffered_in old)) to);
+      emptied = wa ∙ ap (λ (xs : List Buffered). wake_all_emptied t xs mid slept) held;
       entered = li;
       woken_then = lw;
     } in
     record {
-      stand = passed z S end t n V old slept free mid woken es links wakes space h c in_day fit;
+      stand = passed z S end t n V old slept free ls mid woken es links wakes space h cross c in_day fit;
       said = sa ∙ ap (λ (xs : List Occurrence). xs ++ flat_map told made) none ∙ ap (flat_map told) moves;
     }
 
--- WHO WAITS
-none_waits : (links : List LinkView) (ns : List ℕ) (l : ℕ) → is_waited links ns ≡ false → is_among l ns ≡ true → (lane links l).lists.buffer ≡ []
-unfolding is_waited
-none_waits links [] l h a = absurd (true≢false (sym a))
-none_waits links (n ∷ ns) l h a =
-    elim (cases_Bool (is_buffered links n)) [
-      | inl b ↦ let q : true ≡ false = rw b at h in absurd (true≢false q)
-      | inr b ↦
-          let rest : is_waited links ns ≡ false = rw b at h in
-          elim (cases_Bool (eqb n l)) [
-            | inl q ↦ let s = eqb-true n l q in nothing (lane links l).lists.buffer (ap (λ (k : ℕ). is_buffered links k) (sym s) ∙ b)
-            | inr q ↦ let c : is_among l ns ≡ true = rw q at a in none_waits links ns l rest c
-          ]
-    ]
-  where
-    nothing : (xs : List Row) → nat_lt 0 (length xs) ≡ false → xs ≡ []
-    nothing [] e = refl
-    nothing (x ∷ xs) e = let lt : 0 < length (x ∷ xs) = omega arith in absurd (grind (arith, nat_tests))
-
-pub turned : (z : Counts) (S : Setup) (end t n : ℕ) (V : World) (old new : Network) (ls : List ℕ) (seen links : List LinkView) (events out : List Event)
-    (said heard now : List Occurrence)
+-- WHEN THE NODE IS WOKEN AGAIN
+pub turned : (z : Counts) (S : Setup) (end t n : ℕ) (V : World) (old new : Network) (ls : List ℕ) (seen links : List LinkView) (K : Stuck)
+    (always : ℕ → Bool) (events out : List Event) (said heard now : List Occurrence)
     → IsPassed z S end t n V links new.link_wakes new.places.space now → length old.node_wakes ≡ S.nodes → n < S.nodes → ls ≡ into S n
     → new.links.items ≡ links → seen ≡ links → new.places.holes.items ≡ old.places.holes.items → new.places.freed ≡ old.places.freed
-    → new.node_wakes ≡ (if is_waited seen ls then set old.node_wakes n (Some (t + 1)) else old.node_wakes)
+    → t < end → K ≡ S.settings.stuck → ((l : ℕ) → always l ≡ true → (u : ℕ) → S.green l u ≡ true)
+    → new.node_wakes ≡ set old.node_wakes n (up_to end (node_due K t always new.places.space seen None ls))
     → out ≡ events ++ keyed t (phase_code phase.C) n 0 now → heard ≡ said ++ now
     → IsTurn z S end t n V old new events out said heard
-turned z S end t n V old new ls seen links events out said heard now p nodes lt to made sees_them ho fr woken ev sa =
+turned z S end t n V old new ls seen links K always events out said heard now p nodes lt to made sees_them ho fr in_day patience green woken ev sa =
     let U = run S t (node_turns S t n V) V in
     let h = p.stand in
-    let wakes : new.node_wakes ≡ (if is_waited links (into S n) then set old.node_wakes n (Some (t + 1)) else old.node_wakes)
-    = woken ∙ ap (λ (xs : List LinkView). if is_waited xs ls then set old.node_wakes n (Some (t + 1)) else old.node_wakes) sees_them
-    ∙ ap (λ (ks : List ℕ). if is_waited links ks then set old.node_wakes n (Some (t + 1)) else old.node_wakes) to in
+    let space = new.places.space in
+    let due : Option ℕ = node_due S.settings.stuck t always space links None (into S n) in
+    let wakes : new.node_wakes ≡ set old.node_wakes n (up_to end due)
+    = woken
+    ∙ ap (λ (k : Stuck). set old.node_wakes n (up_to end (node_due k t always space seen None ls))) patience
+    ∙ ap (λ (xs : List LinkView). set old.node_wakes n (up_to end (node_due S.settings.stuck t always space xs None ls))) sees_them
+    ∙ ap (λ (ks : List ℕ). set old.node_wakes n (up_to end (node_due S.settings.stuck t always space links None ks))) to in
     let within : n < length old.node_wakes = omega arith in
+    let own : wake_of new.node_wakes n ≡ up_to end due
+    = ap (λ (ws : List (Option ℕ)). wake_of ws n) wakes ∙ get_or-set_same old.node_wakes n (up_to end due) None within in
     record {
       stands = record {
-        links = subst (λ (xs : List LinkView). LinksStandFor z S end t xs new.link_wakes new.places.space U) (sym made) h;
-        nodes =
-            ap length wakes
-            ∙ elim (cases_Bool (is_waited links (into S n))) [
-              | inl b ↦ rw b (length-set old.node_wakes n (Some (t + 1)) ∙ nodes)
-              | inr b ↦ rw b nodes
-            ];
+        links = subst (λ (xs : List LinkView). LinksStandFor z S end t xs new.link_wakes space U) (sym made) h;
+        nodes = ap length wakes ∙ length-set old.node_wakes n (up_to end due) ∙ nodes;
       };
       holes = ho;
       freed = fr;
       others = λ m ne.
-          ap (λ (ws : List (Option ℕ)). wake_of ws m) wakes
-          ∙ elim (cases_Bool (is_waited links (into S n))) [
-            | inl b ↦ rw b (get_or-set_other old.node_wakes n m (Some (t + 1)) None ne)
-            | inr b ↦ rw b refl
-          ];
+          ap (λ (ws : List (Option ℕ)). wake_of ws m) wakes ∙ get_or-set_other old.node_wakes n m (up_to end due) None ne;
       awaited = λ l not_woken there leads.
-          elim (cases_Bool (is_waited links (into S n))) [
-            | inl b ↦
-                let is : wake_of new.node_wakes n ≡ Some (t + 1)
-                = ap (λ (ws : List (Option ℕ)). wake_of ws n) wakes ∙ rw b (get_or-set_same old.node_wakes n (Some (t + 1)) None within) in
-                absurd (not_woken is)
-            | inr b ↦
-                let a : is_among l (into S n) ≡ true = among_into S n l there ∙ eq-eqb (link_row S l).to n leads in
-                sym (buffer_is S t l links U there h.stand) ∙ none_waits links (into S n) l b a
-          ];
+          let a : is_among l (into S n) ≡ true = among_into S n l there ∙ eq-eqb (link_row S l).to n leads in
+          waits_again S end t l always space links (into S n) U (at l Buffer U) (wake_of new.node_wakes n) in_day (green l) h.places (h.on l there)
+          own not_woken a (buffer_is S t l links U there h.stand);
       events = ev ∙ ap (λ (xs : List Occurrence). events ++ keyed t (phase_code phase.C) n 0 xs) p.said;
       said = sa ∙ ap (λ (xs : List Occurrence). said ++ xs) p.said;
     }

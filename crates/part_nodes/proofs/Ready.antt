@@ -13,12 +13,14 @@ use Rattle.town.specs.Views.{setup}
 use Rattle.law_in_range.specs.Rows.{Counts, IsFitRow, IsFitWorld}
 use Rattle.law_in_range.proofs.Sizes.{buffer_next}
 use Rattle.queue_link.specs.Links.{LinkView}
-use Rattle.node_move.specs.NodeStates.{HasNext, HaveNext}
-use Rattle.node_seconds.specs.Networks.{AreIn, AreOnce}
+use Rattle.traffic.specs.Nodes.{HaveNext, HasNext}
+use Rattle.node_seconds.specs.Networks.{AreOnce}
+use Rattle.calendar.specs.Due.{AreIn}
 use Rattle.node_seconds.specs.Turns.{HaveNumbers, AreReadyInto}
 use Rattle.part_links.specs.Links.{LinksStand}
 use Rattle.part_links.proofs.Numbers.{once_passed}
 use Rattle.part_nodes.proofs.Seen.{number_is, buffer_is, into_there}
+use Rattle.part_nodes.proofs.Buffered.{in_some}
 
 -- AT MOST SIXTEEN
 as_many : (f : ℕ → Bool) (n k : ℕ) (d : LinkRow) (rows : List LinkRow) → ((j : ℕ) → j < length rows → f (k + j) ≡ eqb (get_or rows j d).to n)
@@ -51,12 +53,9 @@ pub into_once : (S : Setup) (n : ℕ) → AreOnce (into S n)
 unfolding into
 into_once S n = once_passed (λ (l : ℕ). eqb (link_row S l).to n) (length S.links)
 
-with_numbers : (S : Setup) (t : ℕ) (links : List LinkView) (V : World) (ls : List ℕ) → LinksStand S t links V → AreIn (length S.links) ls → HaveNumbers links ls
+pub with_numbers : (S : Setup) (t : ℕ) (links : List LinkView) (V : World) (ls : List ℕ) → LinksStand S t links V → AreIn (length S.links) ls → HaveNumbers links ls
 with_numbers S t links V [] h there = tt
 with_numbers S t links V (l ∷ ls) h there = (number_is S t l links V there.0 h, with_numbers S t links V ls h there.1)
-
-pub into_numbers : (S : Setup) (t n : ℕ) (links : List LinkView) (V : World) → LinksStand S t links V → HaveNumbers links (into S n)
-into_numbers S t n links V h = with_numbers S t links V (into S n) h (into_there S n)
 
 -- WHO GOES ON
 has_next : (z : Counts) (l : ℕ) (r : Row) → on l Buffer r ≡ true → IsFitRow z r → HasNext r.vehicle
@@ -75,20 +74,26 @@ have_next z l (r ∷ rs) h =
 next_at : (z : Counts) (l : ℕ) (V : World) → IsFitWorld z V → HaveNext (at l Buffer V)
 next_at z l V h = have_next z l V.rows (recursion_from_All (IsFitRow z) V.rows h.rows)
 
-ready_into : (z : Counts) (S : Setup) (t : ℕ) (links : List LinkView) (V : World) (ls : List ℕ) → IsFitWorld z V → LinksStand S t links V
+pub ready_into : (z : Counts) (S : Setup) (t : ℕ) (links : List LinkView) (V : World) (ls : List ℕ) → IsFitWorld z V → LinksStand S t links V
     → AreIn (length S.links) ls → AreReadyInto links ls
 ready_into z S t links V [] fit h there = tt
 ready_into z S t links V (l ∷ ls) fit h there =
     (subst HaveNext (sym (buffer_is S t l links V there.0 h)) (next_at z l V fit), ready_into z S t links V ls fit h there.1)
 
-pub into_ready : (z : Counts) (S : Setup) (t n : ℕ) (links : List LinkView) (V : World) → IsFitWorld z V → LinksStand S t links V
-    → AreReadyInto links (into S n)
-into_ready z S t n links V fit h = ready_into z S t links V (into S n) fit h (into_there S n)
-
 -- NUMBERS IN LISTS
 pub into_in : (S : Setup) (n count : ℕ) (ls : List ℕ) → count ≡ length S.links → ls ≡ into S n → AreIn count ls
 into_in S n count ls e to =
     subst (λ (k : ℕ). AreIn k ls) (sym e) (subst (λ (ks : List ℕ). AreIn (length S.links) ks) (sym to) (into_there S n))
+
+pub some_in : (S : Setup) (n count : ℕ) (p : ℕ → Bool) (ls : List ℕ) → count ≡ length S.links → ls ≡ filter p (into S n) → AreIn count ls
+some_in S n count p ls e to =
+    subst (λ (k : ℕ). AreIn k ls) (sym e)
+    (subst (λ (ks : List ℕ). AreIn (length S.links) ks) (sym to) (in_some p (length S.links) (into S n) (into_there S n)))
+
+pub some_in_town : (day : DayInput) (n : ℕ) (p : ℕ → Bool) (ls : List ℕ) → ls ≡ filter p (into (setup day) n)
+    → AreIn (length day.town.now.network.links) ls
+unfolding setup_of
+some_in_town day n p ls to = some_in (setup day) n (length day.town.now.network.links) p ls refl to
 
 pub into_in_town : (day : DayInput) (n : ℕ) (ls : List ℕ) → ls ≡ into (setup day) n → AreIn (length day.town.now.network.links) ls
 unfolding setup_of

@@ -1,28 +1,26 @@
 -- What a node sees of the links of a network is what it sees of the world for which they stand.
 use Rattle.traffic.proofs.Common.{◌≡◌, ℕ, List, ◌∙◌, length, ap, refl, [], ◌∷◌, arith, ◌<◌, ◌≤◌, ◌+◌, true, inl, inr, suc, zero, eqb, map, filter}
-use Rattle.traffic.proofs.Common.{Some, Option, cases_Bool, eqb-true, eq-eqb, word, node_turns, below, numbers, in_link, out_link, node_moves, World, on, Setup, into, link_row, next_link, at}
-use Rattle.traffic.specs.declared.moves.Move.{Move}
+use Rattle.traffic.proofs.Common.{Some, Option, cases_Bool, eqb-true, eq-eqb, below, numbers, in_link, out_link, World, Setup, into, link_row, next_link, at}
 use Rattle.traffic.specs.declared.node_views.InLink.{InLink}
 use Rattle.traffic.specs.declared.node_views.OutLink.{OutLink}
 use Rattle.traffic.specs.declared.stage.Stage.TheVariants.{Buffer}
 use Rattle.traffic.specs.declared.world.Row.{Row}
-use Rattle.rows.specs.declared.settings.Stuck.{Stuck}
 use Rattle.std.specs.List.{AllByRecursion as Each}
 use Rattle.traffic.proofs.Each.{each_weaker}
-use Rattle.draws.specs.Words.{Source}
 use Rattle.traffic.specs.Links.{LinkState}
 use Rattle.queue_link.specs.Links.{LinkView}
 use Rattle.queue_link.specs.declared.numbers.LinkNumbers.{LinkNumbers}
 use Rattle.queue_link.specs.Numbers.{numbers_of}
 use Rattle.node_move.specs.Spaces.{places_in}
 use Rattle.node_move.specs.NodeStates.{in_link_of, in_links_of}
-use Rattle.node_seconds.specs.Networks.{lane, AreIn, is_among}
+use Rattle.node_seconds.specs.Networks.{lane, is_among}
+use Rattle.calendar.specs.Due.{AreIn}
 use Rattle.part_links.specs.Links.{LinksStand}
 use Rattle.part_links.proofs.Numbers.{among_passed}
-use Rattle.part_nodes.specs.Turns.{IsTurnOf, lights_of}
+use Rattle.part_nodes.specs.Turns.{lights_of}
 use Rattle.law_joined_routes.specs.Going.{GoesOn, GoOn}
 use Rattle.part_nodes.specs.Phase.{places_at}
-use Rattle.part_nodes.proofs.Leading.{Agree, Leads, Lead, node_same}
+use Rattle.part_nodes.proofs.Leading.{Agree, Leads, Lead}
 
 -- NUMBERS
 pub number_is : (S : Setup) (t l : ℕ) (links : List LinkView) (V : World) → l < length S.links → LinksStand S t links V → (lane links l).numbers.link ≡ l
@@ -75,7 +73,7 @@ in_link_is S t l links V lt h =
     let c = buffer_is S t l links V lt h in
     λ i. record { link = a i; capacity = b i; green = S.green l t; rows = c i }
 
-in_links_are : (S : Setup) (t : ℕ) (links : List LinkView) (V : World) (ls : List ℕ) → AreIn (length S.links) ls → LinksStand S t links V
+pub in_links_are : (S : Setup) (t : ℕ) (links : List LinkView) (V : World) (ls : List ℕ) → AreIn (length S.links) ls → LinksStand S t links V
     → in_links_of (map (lane links) ls) (lights_of S t ls) ≡ map (in_link S t V) ls
 in_links_are S t links V [] lt h = refl
 in_links_are S t links V (l ∷ ls) lt h =
@@ -88,7 +86,7 @@ in_links_are S t links V (l ∷ ls) lt h =
 abbrev pub IsOut : Setup → ℕ → ℕ → Type 0
 IsOut S n m = (m < length S.links) × ((link_row S m).from ≡ n)
 
-out_agree : (S : Setup) (t n : ℕ) (space : List (Option OutLink)) (V : World)
+pub out_agree : (S : Setup) (t n : ℕ) (space : List (Option OutLink)) (V : World)
     → ((m : ℕ) → m < length S.links → places_in space m ≡ Some (places_at S t V m)) → Agree (IsOut S n) (places_in space) (out_link S t n V)
 out_agree S t n space V h m out =
     let e : eqb (link_row S m).from n ≡ true = eq-eqb (link_row S m).from n out.1 in
@@ -98,24 +96,7 @@ lead_at : (S : Setup) (n l : ℕ) (V : World) → GoOn S V → l < length S.link
 lead_at S n l V h lt e =
     each_weaker (GoesOn S l) (λ (r : Row). IsOut S n (next_link r.vehicle)) (λ r g. (g.there, g.joined ∙ e)) (at l Buffer V) (h l lt)
 
-all_lead : (S : Setup) (t n : ℕ) (V : World) (ls : List ℕ) → GoOn S V → AreIn (length S.links) ls → Each (λ (l : ℕ). (link_row S l).to ≡ n) ls
+pub all_lead : (S : Setup) (t n : ℕ) (V : World) (ls : List ℕ) → GoOn S V → AreIn (length S.links) ls → Each (λ (l : ℕ). (link_row S l).to ≡ n) ls
     → Each (Leads (IsOut S n)) (map (in_link S t V) ls)
 all_lead S t n V [] h lt to = tt
 all_lead S t n V (l ∷ ls) h lt to = (lead_at S n l V h lt.0 to.0, all_lead S t n V ls h lt.1 to.1)
-
-pub moves_are : (S : Setup) (t n : ℕ) (K : Stuck) (second : ℕ) (s : Source) (links : List LinkView) (space : List (Option OutLink)) (V : World)
-    → IsTurnOf S t n K second s → LinksStand S t links V → GoOn S V
-    → ((m : ℕ) → m < length S.links → places_in space m ≡ Some (places_at S t V m))
-    → node_moves K second (word s) (record { in_links = in_links_of (map (lane links) (into S n)) (lights_of S t (into S n)); out_links = places_in space })
-    ≡ node_turns S t n V
-moves_are S t n K second s links space V turn h on places =
-    let ls = into S n in
-    let es = map (in_link S t V) ls in
-    let seen = in_links_of (map (lane links) ls) (lights_of S t ls) in
-    let f : Stuck → ℕ → (ℕ → ℕ) → List InLink → List Move = λ k u w xs. node_moves k u w (record { in_links = xs; out_links = places_in space }) in
-    ap (λ (k : Stuck). f k second (word s) seen) turn.stuck
-    ∙ ap (λ (u : ℕ). f S.settings.stuck u (word s) seen) turn.second
-    ∙ ap (λ (w : ℕ → ℕ). f S.settings.stuck t w seen) turn.words
-    ∙ ap (λ (xs : List InLink). f S.settings.stuck t (S.word n) xs) (in_links_are S t links V ls (into_there S n) h)
-    ∙ node_same (IsOut S n) S.settings.stuck t (S.word n) es (places_in space) (out_link S t n V) (out_agree S t n space V places)
-    (all_lead S t n V ls on (into_there S n) (into_to S n))

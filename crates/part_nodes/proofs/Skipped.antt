@@ -1,7 +1,7 @@
 -- The turns of the nodes that are woken, one after the other, are those of all nodes.
-use Rattle.traffic.proofs.Common.{◌≡◌, ◌≢◌, ℕ, List, ◌∙◌, length, ap, refl, sym, [], ◌∷◌, ◌++◌, arith, ◌<◌, ◌≤◌, ◌+◌, true, false, Bool, inl, inr, suc, zero, eqb, subst, flat_map, map, filter, not, append_assoc, append-nil}
-use Rattle.traffic.proofs.Common.{Some, None, Option, cases_Bool, eqb-true, eqb-false, eq-eqb, ne_eqb, or_parts, true≢false}
-use Rattle.traffic.proofs.Common.{node_turns, node_view, in_link, World, at, Setup, into, link_row, run, told, numbers, below, sees, keyed, phase_code, ready, is_nil, at_after_all}
+use Rattle.traffic.proofs.Common.{◌≡◌, ◌≢◌, ℕ, List, ◌∙◌, length, ap, refl, sym, [], ◌∷◌, ◌++◌, arith, ◌<◌, ◌≤◌, ◌+◌, true, false, Bool, inl, inr, suc, zero, eqb, subst, flat_map, map, filter, append_assoc, append-nil}
+use Rattle.traffic.proofs.Common.{Some, None, Option, cases_Bool, eqb-true, eqb-false, ne_eqb, or_parts, true≢false}
+use Rattle.traffic.proofs.Common.{node_turns, node_view, World, at, Setup, into, link_row, run, told, numbers, below, sees, mark, keyed, phase_code, at_after_all}
 use Rattle.traffic.proofs.Common.{turns, turns_of, turns_in, after, moves_of, events_in, events_of, Turn, Event}
 use Rattle.traffic.specs.declared.moves.Move.{Move}
 use Rattle.traffic.specs.declared.moves.Occurrence.{Occurrence}
@@ -14,16 +14,18 @@ use Rattle.traffic.specs.Frames.{Untouched}
 use Rattle.traffic.proofs.Phases.{plans_apart}
 use Rattle.traffic.proofs.Turns.{Distinct-numbers, turns_at_once, moves_of-map, at-phase_one}
 use Rattle.traffic.proofs.Nodes.{node_untouched}
-use Rattle.traffic.proofs.Idle.{node_idle}
 use Rattle.law_in_range.specs.Rows.{Counts}
-use Rattle.calendar.specs.Waking.{wake_of, is_second, is_woken, woken}
+use Rattle.calendar.specs.Waking.{wake_of, is_second, is_woken, woken, slept}
 use Rattle.calendar.proofs.Woken.{woken_is}
-use Rattle.node_seconds.specs.Networks.{is_among, AreIn, AreOnce}
+use Rattle.node_seconds.specs.Networks.{is_among, AreOnce}
+use Rattle.calendar.specs.Due.{AreIn}
 use Rattle.part_links.proofs.Numbers.{among_other, among_passed, once_passed}
 use Rattle.part_persons.proofs.Skipping.{Idle, distinct_filter, skip_world, skip_events}
 use Rattle.part_nodes.specs.declared.network.Network.{Network}
 use Rattle.part_nodes.proofs.Seen.{into_there, among_into}
-use Rattle.part_nodes.specs.Phase.{StandsFor, AreAwaited, IsTurn, AreTurned, IsPhase}
+use Rattle.law_sleeping.proofs.Passing.{node_rest}
+use Rattle.part_nodes.proofs.Held.{node_takes, nodes_take, waits_on, waits_next, none_able, none_red, slept_at, slept_other}
+use Rattle.part_nodes.specs.Phase.{StandsFor, BufferWaits, AreAwaited, IsTurn, AreTurned, IsPhase}
 
 -- ONE AFTER THE OTHER
 plan_is : (S : Setup) (t n : ℕ) (V : World) → turns_of S t phase.C n V ≡ node_turns S t n V
@@ -101,19 +103,22 @@ turned_last z S end t n V ns old now next events out more said heard last fresh 
           let q = not_last m n ns a in
           g.others m (λ (e : m ≡ n). eqb-false n m q.1 (sym e)) ∙ h.others m q.0;
       awaited = λ m l a not_woken lt to.
-          ap (λ (X : World). at l Buffer X) w
-          ∙ elim (cases_Bool (eqb n m)) [
+          subst (λ (X : World). BufferWaits S end (t + 1) (t + 1) l (wake_of next.node_wakes m) X (at l Buffer X)) (sym w)
+          (elim (cases_Bool (eqb n m)) [
             | inl e ↦
                 let s = eqb-true n m e in
-                g.awaited l (λ (y : wake_of next.node_wakes n ≡ Some (t + 1)). not_woken (ap (wake_of next.node_wakes) (sym s) ∙ y)) lt (to ∙ sym s)
+                subst (λ (k : ℕ). BufferWaits S end (t + 1) (t + 1) l (wake_of next.node_wakes k) U (at l Buffer U)) s
+                (g.awaited l (λ (y : wake_of next.node_wakes n ≡ Some (t + 1)). not_woken (ap (wake_of next.node_wakes) (sym s) ∙ y)) lt (to ∙ sym s))
             | inr e ↦
                 let ne = eqb-false n m e in
                 let b : is_among m ns ≡ true = sym (among_other m n ns e) ∙ a in
                 let same = g.others m (λ (y : m ≡ n). ne (sym y)) in
                 let unseen : sees S n l Buffer ≡ false = ne_eqb (link_row S l).to n (λ (y : (link_row S l).to ≡ n). ne (sym y ∙ to)) in
-                at-run_untouched S t l Buffer (node_turns S t n W) W (node_untouched S t n l Buffer W unseen)
-                ∙ h.awaited m l b (λ (y : wake_of now.node_wakes m ≡ Some (t + 1)). not_woken (same ∙ y)) lt to
-          ];
+                subst (λ (o : Option ℕ). BufferWaits S end (t + 1) (t + 1) l o U (at l Buffer U)) (sym same)
+                (waits_on S end (t + 1) (t + 1) l (wake_of now.node_wakes m) W U
+                (at-run_untouched S t l Buffer (node_turns S t n W) W (node_untouched S t n l Buffer W unseen)) (λ k. node_takes S t n k W)
+                (h.awaited m l b (λ (y : wake_of now.node_wakes m ≡ Some (t + 1)). not_woken (same ∙ y)) lt to))
+          ]);
       events =
           g.events ∙ ap (λ (xs : List Event). xs ++ keyed t (phase_code phase.C) n 0 (flat_map told (node_turns S t n W))) h.events
           ∙ append_assoc events (events_in t phase.C (all S t ns V)) (keyed t (phase_code phase.C) n 0 (flat_map told (node_turns S t n W)))
@@ -140,18 +145,6 @@ not_second : (t : ℕ) (w : Option ℕ) → is_second t w ≡ false → w ≢ So
 not_second t None h e = absurd (cc)
 not_second t (Some u) h e = let q : u ≡ t = cc in eqb-false u t h q
 
-nothing_ready : (S : Setup) (t n : ℕ) (V : World) (ls : List ℕ) → ((l : ℕ) → is_among l ls ≡ true → at l Buffer V ≡ []) → ready (map (in_link S t V) ls) ≡ []
-nothing_ready S t n V [] h = refl
-nothing_ready S t n V (l ∷ ls) h =
-    let own : is_among l (l ∷ ls) ≡ true = (let q = eq-eqb l l refl in rw q refl) in
-    let e = h l own in
-    let rest = nothing_ready S t n V ls (λ k a. h k (later k l ls a)) in
-    let s : not (is_nil (at l Buffer V)) ≡ false = rw e refl in
-    rw s rest
-  where
-    later : (k l : ℕ) (ls : List ℕ) → is_among k ls ≡ true → is_among k (l ∷ ls) ≡ true
-    later k l ls a = elim (cases_Bool (eqb l k)) [ inl q ↦ rw q refl | inr q ↦ rw q a ]
-
 among_in : (l count : ℕ) (ls : List ℕ) → AreIn count ls → is_among l ls ≡ true → l < count
 among_in l count [] h a = absurd (true≢false (sym a))
 among_in l count (k ∷ ls) h a =
@@ -160,25 +153,28 @@ among_in l count (k ∷ ls) h a =
       | inr q ↦ let b : is_among l ls ≡ true = rw q at a in among_in l count ls h.1 b
     ]
 
-idle_node : (S : Setup) (t n : ℕ) (wakes : List (Option ℕ)) (V : World) → n < S.nodes → AreAwaited S t wakes V → is_woken t wakes n ≡ false
-    → AreIn (length S.links) (into S n) → ((l : ℕ) → l < length S.links → is_among l (into S n) ≡ true → (link_row S l).to ≡ n)
-    → turns_of S t phase.C n V ≡ []
-idle_node S t n wakes V lt h w there to =
+idle_node : (S : Setup) (end t n : ℕ) (wakes : List (Option ℕ)) (V : World) → t < end → n < S.nodes → AreAwaited S end (t + 1) t wakes V
+    → is_woken t wakes n ≡ false → AreIn (length S.links) (into S n)
+    → ((l : ℕ) → l < length S.links → is_among l (into S n) ≡ true → (link_row S l).to ≡ n) → turns_of S t phase.C n V ≡ []
+idle_node S end t n wakes V in_day lt h w there to =
+    let wake = wake_of wakes n in
+    let waits : (l : ℕ) → is_among l (into S n) ≡ true → BufferWaits S end (t + 1) t l wake V (at l Buffer V)
+    = λ l a. (let in_links = among_in l (length S.links) (into S n) there a in h n l lt (not_second t wake w) in_links (to l in_links a)) in
     plan_is S t n V
-    ∙ node_idle S.settings.stuck t (S.word n) (node_view S t n V)
-    (nothing_ready S t n V (into S n) (λ l a.
-    let in_links = among_in l (length S.links) (into S n) there a in
-    h n l lt (not_second t (wake_of wakes n) w) in_links (to l in_links a)))
+    ∙ node_rest S.settings.stuck t (S.word n) (node_view S t n V) (none_able S end t n wake V (into S n) in_day waits)
+    ∙ ap (map (mark t)) (none_red S end (t + 1) t t wake V (into S n) waits)
 
-idle_at : (S : Setup) (t : ℕ) (wakes : List (Option ℕ)) (V : World) → AreAwaited S t wakes V
+idle_at : (S : Setup) (end t : ℕ) (wakes : List (Option ℕ)) (V : World) → t < end → AreAwaited S end (t + 1) t wakes V
     → (n : ℕ) → n < S.nodes → Idle (is_woken t wakes) (λ (k : ℕ). turns_of S t phase.C k V) n
-idle_at S t wakes V h n lt w =
-    idle_node S t n wakes V lt h w (into_there S n) (λ l in_links a. eqb-true (link_row S l).to n (sym (among_into S n l in_links) ∙ a))
+idle_at S end t wakes V in_day h n lt w =
+    idle_node S end t n wakes V in_day lt h w (into_there S n)
+    (λ l in_links a. eqb-true (link_row S l).to n (sym (among_into S n l in_links) ∙ a))
 
-idle_all : (S : Setup) (t : ℕ) (wakes : List (Option ℕ)) (V : World) → AreAwaited S t wakes V
+idle_all : (S : Setup) (end t : ℕ) (wakes : List (Option ℕ)) (V : World) → t < end → AreAwaited S end (t + 1) t wakes V
     → (k count : ℕ) → k + count ≤ S.nodes → Each (Idle (is_woken t wakes) (λ (n : ℕ). turns_of S t phase.C n V)) (numbers k count)
-idle_all S t wakes V h k zero le = tt
-idle_all S t wakes V h k (suc count) le = (idle_at S t wakes V h k (omega arith), idle_all S t wakes V h (k + 1) count (omega arith))
+idle_all S end t wakes V in_day h k zero le = tt
+idle_all S end t wakes V in_day h k (suc count) le =
+    (idle_at S end t wakes V in_day h k (omega arith), idle_all S end t wakes V in_day h (k + 1) count (omega arith))
 
 idle_moves : (p : ℕ → Bool) (f : ℕ → List Move) (ns : List ℕ) → Each (Idle p f) ns → flat_map f ns ≡ flat_map f (filter p ns)
 idle_moves p f [] h = refl
@@ -193,17 +189,17 @@ woken_are t count wakes n =
     woken_is numbers t wakes (record { none = λ k. refl; more = λ k c. refl }) ∙ ap (λ (c : ℕ). filter (is_woken t wakes) (numbers 0 c)) n
 
 pub whole : (z : Counts) (S : Setup) (end t : ℕ) (V : World) (ns : List ℕ) (old mid new : Network) (events out : List Event) (said heard : List Occurrence)
-    → StandsFor z S end t old V → AreAwaited S t old.node_wakes V → ns ≡ woken t old.node_wakes
-    → mid.places.holes.items ≡ old.places.holes.items → mid.places.freed ≡ old.places.freed
+    → t < end → StandsFor z S end t old V → AreAwaited S end (t + 1) t old.node_wakes V → ns ≡ woken t old.node_wakes
+    → mid.node_wakes ≡ map (slept t) old.node_wakes → mid.places.holes.items ≡ old.places.holes.items → mid.places.freed ≡ old.places.freed
     → AreTurned z S end t V ns mid new events out said heard → IsPhase z S end t V old new events out said heard
 unfolding turns_in
-whole z S end t V ns old mid new events out said heard st aw e ho fr h =
+whole z S end t V ns old mid new events out said heard in_day st aw e sl ho fr h =
     let wakes = old.node_wakes in
     let p = is_woken t wakes in
     let f = λ (n : ℕ). turns_of S t phase.C n V in
     let apart = plans_apart S t phase.C in
     let distinct = Distinct-numbers 0 S.nodes in
-    let idle = idle_all S t wakes V aw 0 S.nodes (omega arith) in
+    let idle = idle_all S end t wakes V in_day aw 0 S.nodes (omega arith) in
     let ns_are : ns ≡ filter p (below S.nodes) = e ∙ woken_are t S.nodes wakes st.nodes in
     let w : world S t ns V ≡ after S t (turns S t (turns_of S t phase.C) (below S.nodes) V) V
     = ap (λ (ks : List ℕ). world S t ks V) ns_are ∙ skip_world S t (turns_of S t phase.C) p (below S.nodes) V apart distinct idle in
@@ -219,16 +215,26 @@ whole z S end t V ns old mid new events out said heard st aw e ho fr h =
       freed = h.freed ∙ fr;
       awaited = λ n l lt not_woken there to.
           elim (cases_Bool (is_among n ns)) [
-            | inl a ↦ ap (λ (X : World). at l Buffer X) (sym w) ∙ h.awaited n l a not_woken there to
+            | inl a ↦
+                subst (λ (X : World). BufferWaits S end (t + 1) (t + 1) l (wake_of new.node_wakes n) X (at l Buffer X)) w
+                (h.awaited n l a not_woken there to)
             | inr a ↦
                 let q : is_woken t wakes n ≡ false
                 = sym (among_passed p n 0 S.nodes (omega arith) (omega arith)) ∙ ap (is_among n) (sym ns_are) ∙ a in
-                let none : at l Buffer V ≡ [] = aw n l lt (not_second t (wake_of wakes n) q) there to in
-                let own : turns_of S t phase.C n V ≡ [] = idle_at S t wakes V aw n lt q in
-                at-phase_one S t (turns_of S t phase.C) apart n S.nodes l Buffer V lt
+                let waits = aw n l lt (not_second t (wake_of wakes n) q) there to in
+                let own : turns_of S t phase.C n V ≡ [] = idle_at S end t wakes V in_day aw n lt q in
+                let same : wake_of new.node_wakes n ≡ wake_of wakes n
+                = h.others n a ∙ ap (λ (ws : List (Option ℕ)). wake_of ws n) sl ∙ slept_at t n wakes ∙ slept_other t (wake_of wakes n) q in
+                let W = after S t (turns S t (turns_of S t phase.C) (below S.nodes) V) V in
+                let kept : at l Buffer W ≡ at l Buffer V
+                = at-phase_one S t (turns_of S t phase.C) apart n S.nodes l Buffer V lt
                 (λ m ne. subst (Untouched l Buffer) (sym (plan_is S t m V))
                 (node_untouched S t m l Buffer V (ne_eqb (link_row S l).to m (λ (y : (link_row S l).to ≡ m). eqb-false m n ne (sym y ∙ to)))))
-                ∙ ap (λ (ms : List Move). at_after_all l Buffer ms (at l Buffer V)) own ∙ none
+                ∙ ap (λ (ms : List Move). at_after_all l Buffer ms (at l Buffer V)) own in
+                subst (λ (o : Option ℕ). BufferWaits S end (t + 1) (t + 1) l o W (at l Buffer W)) (sym same)
+                (waits_next S end (t + 1) t l (wake_of wakes n) W (at l Buffer W)
+                (λ (y : wake_of wakes n ≡ Some (t + 1)). not_woken (same ∙ y))
+                (waits_on S end (t + 1) t l (wake_of wakes n) V W kept (λ k. nodes_take S t k V) waits))
           ];
       events =
           h.events ∙ ap (λ (xs : List Event). events ++ xs)

@@ -1,12 +1,19 @@
 -- What the turn of a node asks of the links into it, and which of them it wakes.
-use Rattle.std.specs.Prelude.{◌≡◌, ℕ, ◌<◌, Bool, true, false, not, ◌&&◌, List, [], ◌∷◌, length, map, set}
-use Rattle.std.specs.Prelude.{◌==◌, nat_lt, if◌then◌else◌, Option}
+use Rattle.std.specs.Prelude.{◌≡◌, ℕ, ◌+◌, ◌<◌, Bool, false, not, ◌&&◌, List, [], ◌∷◌, length, map}
+use Rattle.std.specs.Prelude.{◌==◌, nat_le, nat_lt, if◌then◌else◌, Option, None, Some}
+use Rattle.std.specs.List.{list_any}
 use Rattle.draws.specs.Words.{Source, word}
 use Rattle.rows.specs.declared.settings.Stuck.{Stuck}
 use Rattle.traffic.specs.Lists.{is_nil}
+use Rattle.traffic.specs.declared.node_views.OutLink.{OutLink}
+use Rattle.traffic.specs.declared.world.Row.{Row}
 use Rattle.traffic.specs.Setup.{Setup}
-use Rattle.calendar.specs.Waking.{wake_of, earlier}
-use Rattle.queue_link.specs.Links.{LinkView}
+use Rattle.rows.specs.Greens.{Phases, green_at}
+use Rattle.town.specs.declared.day_input.DayInput.{DayInput}
+use Rattle.law_sleeping.specs.Able.{can_go}
+use Rattle.node_move.specs.Spaces.{places_in}
+use Rattle.calendar.specs.Waking.{earliest as sooner, woken_by}
+use Rattle.queue_link.specs.Links.{LinkView, front_second}
 use Rattle.node_seconds.specs.Networks.{lane}
 use Rattle.part_nodes.specs.declared.node_turns.Buffered.{Buffered}
 
@@ -37,7 +44,7 @@ is_emptied b links = not (count_in links b.link == b.count) && not (is_clear (la
 
 -- such a link is woken in second t
 abbrev pub wake_emptied : ℕ → Buffered → List LinkView → List (Option ℕ) → List (Option ℕ)
-wake_emptied t b links wakes = if is_emptied b links then set wakes b.link (earlier t (wake_of wakes b.link)) else wakes
+wake_emptied t b links wakes = if is_emptied b links then woken_by t b.link wakes else wakes
 
 -- the same of each of these links, in order
 unfoldable pub wake_all_emptied : ℕ → List Buffered → List LinkView → List (Option ℕ) → List (Option ℕ)
@@ -49,10 +56,46 @@ abbrev pub AreThere : ℕ → List Buffered → Type 0
 AreThere count [] = Unit {0}
 AreThere count (b ∷ bs) = (b.link < count) × AreThere count bs
 
--- whether somebody is in the buffer of the link of a number, and of one of these links
+-- whether somebody is in the buffer of the link of a number
 abbrev pub is_buffered : List LinkView → ℕ → Bool
 is_buffered links n = nat_lt 0 (count_in links n)
 
-unfoldable pub is_waited : List LinkView → List ℕ → Bool
-is_waited links [] = false
-is_waited links (n ∷ ns) = if is_buffered links n then true else is_waited links ns
+-- the span is the whole of a cycle; a signal is green in the whole of it
+abbrev pub covers : ℕ → ℕ × ℕ → Bool
+covers cycle span = ((span.0 == 0) && nat_lt 0 cycle) && nat_le cycle span.1
+
+unfoldable pub is_always : Phases → Bool
+is_always p = list_any (covers p.cycle) p.spans
+
+-- whether the front of a link waits for a place: the link is always green, and its front cannot go
+abbrev pub is_held : Stuck → ℕ → (ℕ → Bool) → List (Option OutLink) → ℕ → List Row → Bool
+is_held K t always space l rows = if always l then not (can_go K t (places_in space) rows) else false
+
+-- when the node has to look at the link again, if nobody else does anything: where its front waits for a place, when it is stuck
+abbrev pub due_from : Stuck → ℕ → Bool → Option ℕ → Option ℕ
+due_from K t held None = None
+due_from K t held (Some since) = Some (if held then since + K.seconds else t + 1)
+
+abbrev pub front_due : Stuck → ℕ → (ℕ → Bool) → List (Option OutLink) → ℕ → List Row → Option ℕ
+front_due K t always space l rows = due_from K t (is_held K t always space l rows) (front_second rows)
+
+-- the earliest of these seconds, and of this one
+unfoldable pub node_due : Stuck → ℕ → (ℕ → Bool) → List (Option OutLink) → List LinkView → Option ℕ → List ℕ → Option ℕ
+node_due K t always space links due [] = due
+node_due K t always space links due (l ∷ ls) =
+    node_due K t always space links (sooner due (front_due K t always space l (lane links l).lists.buffer)) ls
+
+-- a second, where it is not after the end
+abbrev pub up_to : ℕ → Option ℕ → Option ℕ
+up_to end None = None
+up_to end (Some u) = if nat_le u end then Some u else None
+
+-- the links that are always green by these signals
+abbrev pub always_in : List Phases → ℕ → Bool
+always_in greens l = is_always (green_at greens l)
+
+-- when a node with these links into it is woken again after second t
+abbrev pub woken_again : DayInput → ℕ → List ℕ → List LinkView → List (Option OutLink) → Option ℕ
+woken_again day t ls links space =
+    up_to day.town.now.settings.end_second
+    (node_due day.town.now.settings.stuck t (always_in day.town.now.greens) space links None ls)

@@ -7,6 +7,7 @@ mod in_links;
 mod network;
 mod node_turns;
 mod phases;
+mod resting;
 
 pub use in_link_rows::InLinks;
 pub use network::Network;

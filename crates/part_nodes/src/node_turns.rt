@@ -1,20 +1,20 @@
 //! The turn of a node that is woken.
 
-ghost use Rattle.std.specs.Prelude.{◌≡◌, ◌+◌, ◌<◌, ◌++◌, Some, length, map, OnOk, IfOk, if◌then◌else◌, set};
+ghost use Rattle.std.specs.Prelude.{◌≡◌, ◌+◌, ◌<◌, ◌++◌, length, map, filter, OnOk, IfOk};
 ghost use Rattle.events.specs.declared.event.Phase.TheVariants.{C};
-ghost use Rattle.events.specs.Keys.{phase_code};
 ghost use Rattle.limits.specs.declared.TheConstants.{LAST_SECOND};
 ghost use Rattle.law_in_range.specs.Setups.{counts_in, HaveFittingPlans};
 ghost use Rattle.town.specs.Views.{setup};
 ghost use Rattle.traffic.specs.Rows.{World};
 ghost use Rattle.traffic.specs.Setup.{into};
-ghost use Rattle.traffic.specs.Day.{keyed};
-ghost use Rattle.node_seconds.specs.Networks.{lane, AreIn};
+ghost use Rattle.node_seconds.specs.Networks.{lane};
+ghost use Rattle.calendar.specs.Due.{AreIn};
 ghost use Rattle.part_nodes.specs.Turns.{IsTurnOf, lights_of, buffered_in, is_clear, is_emptied, wake_emptied, wake_all_emptied};
-ghost use Rattle.part_nodes.specs.Turns.{AreThere, is_buffered, is_waited};
+ghost use Rattle.part_nodes.specs.Turns.{AreThere, is_buffered};
 ghost use Rattle.part_nodes.specs.Phase.{LinksStandFor, LinksStandForSome, StandsFor, Stands, IsPassed, IsTurn};
 
 use crate::network::Network;
+use crate::resting::wake_again;
 use calendar::Wakes;
 use draws::Draws;
 use events::Phase;
@@ -170,30 +170,6 @@ fn wake_all_emptied(
     Ok(())
 }
 
-/// Whether somebody is in the buffer of the link of a number.
-fn is_buffered(links: &[LinkState], number: u32) -> bool
-    requires { number < length links.now }
-    ensures { result ≡ is_buffered links.now number }
-{
-    buffered_in(links, number).count > 0
-}
-
-/// Whether somebody is in the buffer of one of these links.
-#[tactic(auto, unfolding(crate::specs::Turns::is_waited))]
-fn is_waited(links: &[LinkState], numbers: &[u32]) -> bool
-    requires { AreIn (length links.now) numbers.now }
-    ensures { result ≡ is_waited links.now numbers.now }
-{
-    let mut rest = numbers;
-    while let [number, later @ ..] = rest {
-        if is_buffered(links, *number) {
-            return true;
-        }
-        rest = later;
-    }
-    false
-}
-
 /// What does not change over the turn of a node.
 #[tactic(auto, unfolding(town::specs::Setups::setup_of))]
 fn turn_of(day: &DayInput, second: u32, node: u32) -> NodeTurn
@@ -206,8 +182,70 @@ fn turn_of(day: &DayInput, second: u32, node: u32) -> NodeTurn
     }
 }
 
+/// Whether somebody is in the buffer of the link of a number.
+fn is_buffered(links: &[LinkState], number: u32) -> bool
+    requires { number < length links.now }
+    ensures { result ≡ is_buffered links.now number }
+{
+    buffered_in(links, number).count > 0
+}
+
+/// Those of these links in whose buffers somebody is, in order.
+fn buffered_ones(
+    alloc: Global,
+    links: &[LinkState],
+    numbers: &[u32],
+) -> Result<Vec<u32>, AllocError>
+    requires { AreIn (length links.now) numbers.now }
+    ensures { IfOk result (λ some. some.items ≡ filter (is_buffered links.now) numbers.now) }
+{
+    let mut some = Vec::new(alloc);
+    let mut rest = numbers;
+    while let [number, later @ ..] = rest {
+        if is_buffered(links, *number) {
+            some.push(*number)?;
+        }
+        rest = later;
+    }
+    Ok(some)
+}
+
+/// Those links into a node in whose buffers somebody is hand over to the links out of it, and those that have room in their buffers again
+/// are woken in this second. Answers what that tells.
+fn pass_some(
+    alloc: Global,
+    phase: &NodePhase,
+    node: u32,
+    numbers: &[u32],
+    links: &mut [LinkState],
+    space: &mut Space,
+    wakes: &mut Wakes,
+) -> Result<Vec<Occurrence>, AllocError>
+    requires second_in { phase.now.second < LAST_SECOND }
+    requires in_day { phase.now.second < phase.now.day.now.town.now.settings.end_second }
+    requires given { HaveFittingPlans phase.now.day.now }
+    requires into { numbers.now ≡ filter (is_buffered links.old) (into (setup phase.now.day.now) node) }
+    requires stand { LinksStandForSome (counts_in phase.now.day.now) (setup phase.now.day.now)
+        phase.now.day.now.town.now.settings.end_second phase.now.second links.old wakes.old space.old }
+    ensures { (V : World) → LinksStandFor (counts_in phase.now.day.now) (setup phase.now.day.now)
+        phase.now.day.now.town.now.settings.end_second phase.now.second links.old wakes.old space.old V
+        → IfOk result (λ said. IsPassed (counts_in phase.now.day.now) (setup phase.now.day.now)
+        phase.now.day.now.town.now.settings.end_second phase.now.second node V links.new wakes.new space.new said.items) }
+{
+    let day = phase.day;
+    let turn = turn_of(day, phase.second, node);
+    let greens = lights(alloc, day, phase.second, numbers)?;
+    let before = buffers_of(alloc, links, numbers)?;
+    let mut said = Vec::new(alloc);
+    let entering = node_second(&turn, numbers, &greens, links, space, &mut said)?;
+    wake_all_emptied(phase.second, &before, links, wakes)?;
+    let end = day.town.settings.end_second;
+    enter_links(end, phase.second, entering, links, wakes)?;
+    Ok(said)
+}
+
 /// The links into a node hand over to the links out of it, and those that have room in their buffers again are woken in this second.
-/// Answers what that tells.
+/// Answers what that tells. Only those are looked at in whose buffers somebody is.
 fn pass_node(
     alloc: Global,
     phase: &NodePhase,
@@ -228,52 +266,9 @@ fn pass_node(
         → IfOk result (λ said. IsPassed (counts_in phase.now.day.now) (setup phase.now.day.now)
         phase.now.day.now.town.now.settings.end_second phase.now.second node V links.new wakes.new space.new said.items) }
 {
-    let day = phase.day;
-    let turn = turn_of(day, phase.second, node);
-    let greens = lights(alloc, day, phase.second, numbers)?;
-    let before = buffers_of(alloc, links, numbers)?;
-    let mut said = Vec::new(alloc);
-    let entering = node_second(&turn, numbers, &greens, links, space, &mut said)?;
-    wake_all_emptied(phase.second, &before, links, wakes)?;
-    let end = day.town.settings.end_second;
-    enter_links(end, phase.second, entering, links, wakes)?;
+    let some = buffered_ones(alloc, links, numbers)?;
+    let said = pass_some(alloc, phase, node, &some, links, space, wakes)?;
     Ok(said)
-}
-
-/// A node is woken in the next second while somebody is in the buffer of a link into it.
-fn wake_again(
-    second: u32,
-    node: u32,
-    numbers: &[u32],
-    links: &[LinkState],
-    wakes: &mut Wakes,
-) -> Result<(), AllocError>
-    requires second_in { second < LAST_SECOND }
-    requires there { node < length wakes.old }
-    requires links { AreIn (length links.now) numbers.now }
-    ensures { OnOk result (wakes.new
-        ≡ (if is_waited links.now numbers.now then set wakes.old node (Some (second + 1)) else wakes.old)) }
-{
-    if is_waited(links, numbers) {
-        wakes.set(node, Some(second + 1))?;
-    }
-    Ok(())
-}
-
-/// Appends what a node tells.
-fn tell(
-    phase: &NodePhase,
-    node: u32,
-    said: &[Occurrence],
-    told: &mut Told,
-) -> Result<(), AllocError>
-    ensures events { OnOk result (told.new.events.items
-        ≡ told.old.events.items ++ keyed phase.now.second (phase_code C) node 0 said.now) }
-    ensures said { OnOk result (told.new.said.items ≡ told.old.said.items ++ said.now) }
-{
-    push_keyed(phase.second, Phase::C, node, said, &mut told.events)?;
-    told.said.extend_from_slice(said)?;
-    Ok(())
 }
 
 /// The turn of a node. Appends what it tells.
@@ -312,12 +307,13 @@ pub(crate) fn turn_node(
         &mut network.link_wakes,
     )?;
     wake_again(
-        phase.second,
+        phase,
         node,
         numbers,
         &network.links,
+        &network.places.space,
         &mut network.node_wakes,
     )?;
-    tell(phase, node, &said, told)?;
+    told.append(phase.second, Phase::C, node, &said)?;
     Ok(())
 }

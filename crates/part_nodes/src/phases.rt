@@ -1,12 +1,13 @@
 //! The phase in which the nodes of a network let vehicles pass.
 
-ghost use Rattle.std.specs.Prelude.{◌≡◌, ℕ, ◌<◌, [], length, get_or, OnOk};
+ghost use Rattle.std.specs.Prelude.{◌≡◌, ℕ, ◌+◌, ◌<◌, [], length, get_or, OnOk};
 ghost use Rattle.limits.specs.declared.TheConstants.{LAST_SECOND};
 ghost use Rattle.law_in_range.specs.Setups.{counts_in, HaveFittingPlans};
 ghost use Rattle.town.specs.Views.{setup};
 ghost use Rattle.traffic.specs.Rows.{World};
 ghost use Rattle.traffic.specs.Setup.{into};
-ghost use Rattle.node_seconds.specs.Networks.{AreIn, AreOnce};
+ghost use Rattle.node_seconds.specs.Networks.{AreOnce};
+ghost use Rattle.calendar.specs.Due.{AreIn};
 ghost use Rattle.part_nodes.specs.Phase.{StandsFor, Stands, AreAwaited, AreTurned, IsPhase};
 
 use crate::in_link_rows::InLinks;
@@ -47,7 +48,7 @@ fn turn_nodes(
 }
 
 /// The nodes let vehicles pass in a second: those that are woken in it have their turns, by number, and are woken again in the next second
-/// while somebody is in the buffer of a link into them. Appends what that tells.
+/// or, where the fronts of all links into them wait for places, when the first of these is stuck. Appends what that tells.
 ///
 /// # Errors
 ///
@@ -68,7 +69,8 @@ pub fn move_nodes(
         phase.now.second network.old }
     ensures { (V : World) → StandsFor (counts_in phase.now.day.now) (setup phase.now.day.now)
         phase.now.day.now.town.now.settings.end_second phase.now.second network.old V
-        → AreAwaited (setup phase.now.day.now) phase.now.second network.old.node_wakes V
+        → AreAwaited (setup phase.now.day.now) phase.now.day.now.town.now.settings.end_second (phase.now.second + 1)
+        phase.now.second network.old.node_wakes V
         → OnOk result (IsPhase (counts_in phase.now.day.now) (setup phase.now.day.now)
         phase.now.day.now.town.now.settings.end_second phase.now.second V network.old network.new
         told.old.events.items told.new.events.items told.old.said.items told.new.said.items) }

@@ -1,14 +1,16 @@
--- How many seconds are late.
-use Rattle.std.proofs.Common.{◌≡◌, ℕ, ◌+◌, Bool, cond, List, [], ◌∷◌, refl, arith}
-use Rattle.std.specs.Prelude.{count_by, nat_le, ◌==◌}
+-- How many seconds are late, and how often a number stands in a list.
+use Rattle.std.proofs.Common.{◌≡◌, ℕ, ◌+◌, Bool, cond, true, false, List, [], ◌∷◌, refl, ap, sym, ◌∙◌, eqb, inl, inr, arith}
+use Rattle.std.specs.Prelude.{count_by, filter, map, nat_le, nat_lt, ◌==◌}
+use Rattle.traffic.specs.Nodes.{in_force}
+use Rattle.std.proofs.lemmas.Bool.{cases_Bool, ne_eqb, true≢false}
 use Rattle.std.proofs.lemmas.Bool.Decides.{nat_tests}
 use Rattle.std.proofs.lemmas.List.Sums.{sum_by-cons}
 use Rattle.part_places.specs.Taking.{still, times}
 
-abbrev one : (ℕ → Bool) → ℕ → ℕ
+abbrev pub one : (ℕ → Bool) → ℕ → ℕ
 one p n = cond (p n) 1 0
 
-count_cons : (p : ℕ → Bool) (x : ℕ) (xs : List ℕ) → count_by p (x ∷ xs) ≡ one p x + count_by p xs
+pub count_cons : (p : ℕ → Bool) (x : ℕ) (xs : List ℕ) → count_by p (x ∷ xs) ≡ one p x + count_by p xs
 count_cons p x xs = sum_by-cons (one p) x xs
 
 one_split : (t u : ℕ) → one (λ (x : ℕ). nat_le t x) u ≡ one (λ (x : ℕ). x == t) u + one (λ (x : ℕ). nat_le (t + 1) x) u
@@ -24,3 +26,34 @@ still_split t (u ∷ us) =
     let d = one_split t u in
     let i = still_split t us in
     omega arith
+
+-- a number stands as often among those that pass a test which it passes
+pub times_passed : (p : ℕ → Bool) (m : ℕ) (ns : List ℕ) → p m ≡ true → times m (filter p ns) ≡ times m ns
+times_passed p m [] e = refl
+times_passed p m (n ∷ ns) e =
+    let i = times_passed p m ns e in
+    let a = count_cons (λ (x : ℕ). x == m) n ns in
+    elim (cases_Bool (p n)) [
+      | inl q ↦ let b = count_cons (λ (x : ℕ). x == m) n (filter p ns) in rw q (omega arith)
+      | inr q ↦
+          let ne : eqb n m ≡ false = ne_eqb n m (λ (z : n ≡ m). true≢false (sym e ∙ ap p (sym z) ∙ q)) in
+          let none : one (λ (x : ℕ). x == m) n ≡ 0 = rw ne refl in
+          rw q (omega arith)
+    ]
+
+-- a hole that is not over in the second after t counts in second t
+pub still_is : (t h : ℕ) (hs : List ℕ) → still (t + 1) (map (λ (s : ℕ). s + h) hs) ≡ in_force t h hs
+still_is t h [] = refl
+still_is t h (s ∷ hs) =
+    let i = still_is t h hs in
+    let c = sum_by-cons (one (λ (x : ℕ). nat_le (t + 1) x)) (s + h) (map (λ (x : ℕ). x + h) hs) in
+    let q : nat_le (t + 1) (s + h) ≡ nat_lt t (s + h) = grind (arith, nat_tests) in
+    let d = c ∙ ap (λ (b : Bool). cond b 1 0 + still (t + 1) (map (λ (x : ℕ). x + h) hs)) q in
+    elim (cases_Bool (nat_lt t (s + h))) [
+      | inl e ↦
+          let f = d ∙ ap (λ (b : Bool). cond b 1 0 + still (t + 1) (map (λ (x : ℕ). x + h) hs)) e in
+          rw e (f ∙ (omega (i, arith)))
+      | inr e ↦
+          let f = d ∙ ap (λ (b : Bool). cond b 1 0 + still (t + 1) (map (λ (x : ℕ). x + h) hs)) e in
+          rw e (f ∙ (omega (i, arith)))
+    ]

@@ -1,13 +1,13 @@
 -- The places of a second come free.
-use Rattle.std.proofs.Common.{◌≡◌, ◌≢◌, ℕ, ◌+◌, ◌-◌, ◌<◌, ◌≤◌, List, [], length, get_or, refl, ap, ◌∙◌, arith, eqb, false}
-use Rattle.std.specs.Prelude.{◌==◌, if◌then◌else◌, Option, Some}
-use Rattle.std.proofs.lemmas.Bool.{ne_eqb}
+use Rattle.std.proofs.Common.{◌≡◌, ◌≢◌, ℕ, ◌+◌, ◌-◌, ◌<◌, ◌≤◌, List, [], length, get_or, refl, ap, sym, ◌∙◌, arith, eqb, true, false}
+use Rattle.std.specs.Prelude.{◌==◌, filter, if◌then◌else◌, Option, Some}
+use Rattle.std.proofs.lemmas.Bool.{ne_eqb, le-leb}
 use Rattle.traffic.specs.declared.node_views.OutLink.{OutLink}
 use Rattle.calendar.specs.Due.{due_at, HasNone}
 use Rattle.node_move.specs.Spaces.{places_in}
 use Rattle.part_places.specs.declared.places.Places.{Places}
-use Rattle.part_places.specs.Taking.{Taking, AreTaken, fewer, still, times}
-use Rattle.part_places.proofs.Counting.{still_split}
+use Rattle.part_places.specs.Taking.{Taking, AreTaken, IsFull, fewer, is_full, is_full_in, still, times}
+use Rattle.part_places.proofs.Counting.{still_split, times_passed}
 
 with_taken : ℕ → ℕ → Taking → Option OutLink
 with_taken n m T = Some (record { taken = n; storage = T.storage m; seconds = T.seconds m })
@@ -38,3 +38,14 @@ freed_is count end t T P Q ls lt e none space holes n h =
           let f : due_at u Q.freed ≡ due_at u P.freed = none u ∙ rw ne refl in
           ap (times m) f ∙ h.freed m u in_count (omega arith) to;
     }
+
+-- a link that was full and is not among those of the full ones on which a place comes free is full then
+pub full_is : (count end t : ℕ) (T : Taking) (P : Places) (ls full : List ℕ) → t < end → ls ≡ due_at t P.freed
+    → full ≡ filter (is_full_in P.space) ls → AreTaken count end t T P
+    → (m : ℕ) → m < count → times m full ≡ 0 → IsFull t T m → IsFull (t + 1) T m
+full_is count end t T P ls full lt e f h = λ m in_count none was.
+    let p : is_full_in P.space m ≡ true = ap is_full (h.places m in_count) ∙ le-leb (T.storage m) (T.queued m + still t (T.frees m)) was in
+    let a : times m ls ≡ 0 = sym (times_passed (is_full_in P.space) m ls p) ∙ sym (ap (times m) f) ∙ none in
+    let b : times t (T.frees m) ≡ 0 = sym (ap (times m) e ∙ h.freed m t in_count (omega arith) lt) ∙ a in
+    let c = still_split t (T.frees m) in
+    omega arith

@@ -1,5 +1,5 @@
 -- How the places of links are taken: by the rows of their queues, and by places that were left and are not free yet.
-use Rattle.std.specs.Prelude.{◌≡◌, ℕ, ◌+◌, ◌-◌, ◌<◌, ◌≤◌, List, [], ◌++◌, length, get_or, replicate, count_by, nat_le, ◌==◌, if◌then◌else◌, Option, None, Some}
+use Rattle.std.specs.Prelude.{◌≡◌, ℕ, ◌+◌, ◌-◌, ◌<◌, ◌≤◌, Bool, false, List, [], ◌++◌, length, get_or, replicate, count_by, nat_le, ◌==◌, if◌then◌else◌, Option, None, Some}
 use Rattle.traffic.specs.declared.node_views.OutLink.{OutLink}
 use Rattle.calendar.specs.Due.{due_at}
 use Rattle.queue_link.specs.Links.{LinkView}
@@ -35,6 +35,10 @@ pub record AreTaken (count end t : ℕ) (T : Taking) (P : Places) : Type 0 where
   pub holes : (m : ℕ) → m < count → get_or P.holes.items m 0 ≡ still t (T.frees m)
   pub freed : (m u : ℕ) → m < count → t ≤ u → u < end → times m (due_at u P.freed) ≡ times u (T.frees m)
 
+-- link m has no place free, where those that were left and are free in second t or later are taken
+abbrev pub IsFull : ℕ → Taking → ℕ → Type 0
+IsFull t T m = T.storage m ≤ T.queued m + still t (T.frees m)
+
 -- nobody is on these links, and no place of them was left
 abbrev pub empty : List LinkView → Taking
 empty links = record {
@@ -59,6 +63,14 @@ fewer k (Some e) = Some (record e { taken = e.taken - k })
 abbrev pub taken_in : Option OutLink → ℕ
 taken_in None = 0
 taken_in (Some e) = e.taken
+
+-- whether no place is free, of these places and of those of a link
+abbrev pub is_full : Option OutLink → Bool
+is_full None = false
+is_full (Some e) = nat_le e.storage e.taken
+
+abbrev pub is_full_in : List (Option OutLink) → ℕ → Bool
+is_full_in space m = is_full (places_in space m)
 
 -- link l has a queue of so many vehicles now, and the places that the others left are free in this second
 abbrev pub later : ℕ → ℕ → ℕ → Taking → Taking

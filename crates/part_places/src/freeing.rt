@@ -1,14 +1,39 @@
 //! Places come free.
 
 ghost use Rattle.std.specs.Prelude.{◌≡◌, ℕ, ◌+◌, ◌-◌, ◌<◌, ◌==◌, if◌then◌else◌};
-ghost use Rattle.std.specs.Prelude.{length, get_or, set, count_by, OnOk};
+ghost use Rattle.std.specs.Prelude.{get_or, set, filter, OnOk, IfOk};
 ghost use Rattle.node_move.specs.Spaces.{places_in};
-ghost use Rattle.part_places.specs.Taking.{Taking, AreTaken, fewer, times};
+ghost use Rattle.part_places.specs.Taking.{Taking, AreTaken, IsFull, fewer, is_full_in, times};
 
 use crate::places::Places;
 use node_move::Space;
-use std::alloc::AllocError;
+use std::alloc::{AllocError, Global};
 use traffic::OutLink;
+
+/// Whether a link has no place free.
+fn is_full(space: &Space, link: u32) -> bool
+    ensures { result ≡ is_full_in space.now link }
+{
+    match space.places(link) {
+        None => false,
+        Some(places) => u64::from(places.storage) <= places.taken,
+    }
+}
+
+/// Those of these links that have no place free, in order.
+fn full_ones(alloc: Global, links: &[u32], space: &Space) -> Result<Vec<u32>, AllocError>
+    ensures { IfOk result (λ full. full.items ≡ filter (is_full_in space.now) links.now) }
+{
+    let mut full = Vec::new(alloc);
+    let mut rest = links;
+    while let [link, later @ ..] = rest {
+        if is_full(space, *link) {
+            full.push(*link)?;
+        }
+        rest = later;
+    }
+    Ok(full)
+}
 
 /// One place of a link is taken no more.
 fn free_place(space: &mut Space, link: u32) -> Result<(), AllocError>
@@ -53,17 +78,23 @@ fn free_all(links: &[u32], space: &mut Space, holes: &mut [u64]) -> Result<(), A
 }
 
 impl Places {
-    /// The places that come free in this second are free.
+    /// The places that come free in this second are free. Answers those of their links that had no place free before: a link that had none
+    /// and is not among them has none now.
     ///
     /// # Errors
     ///
     /// `AllocError`: there is no memory for it. The places are then of no use.
-    pub fn free(&mut self, second: u32) -> Result<(), AllocError>
-        ensures { (count end : ℕ) (T : Taking) → second < end → AreTaken count end second T self.old
+    pub fn free(&mut self, second: u32) -> Result<Vec<u32>, AllocError>
+        ensures places { (count end : ℕ) (T : Taking) → second < end → AreTaken count end second T self.old
             → OnOk result (AreTaken count end (second + 1) T self.new) }
+        ensures full { (count end : ℕ) (T : Taking) → second < end → AreTaken count end second T self.old
+            → IfOk result (λ links. (m : ℕ) → m < count → times m links.items ≡ 0 → IsFull second T m
+            → IsFull (second + 1) T m) }
     {
+        let alloc = *self.holes.allocator();
         let links = self.freed.take(second);
+        let full = full_ones(alloc, &links, &self.space)?;
         free_all(&links, &mut self.space, &mut self.holes)?;
-        Ok(())
+        Ok(full)
     }
 }

@@ -1,6 +1,6 @@
 -- The links stand for those of a world, and sleep, once the vehicles that start in a second came to them.
 use Rattle.traffic.proofs.Common.{◌≡◌, ◌≢◌, ℕ, ◌<◌, ◌≤◌, false, List, [], ◌∷◌, ◌++◌, ◌∙◌, ap, refl, sym, subst, arith, inl, inr, cases_Bool, eqb, eqb-true, eqb-false, eq-eqb, ne_eqb, lt-ltb}
-use Rattle.traffic.proofs.Common.{length, get_or, filter, filter-append, append-nil, append_assoc, Option, None, Some, Setup, World, at, on, All-head, All-tail}
+use Rattle.traffic.proofs.Common.{length, get_or, filter, map, filter-append, append-nil, append_assoc, Option, None, Some, Setup, World, at, on, All-head, All-tail}
 use Rattle.std.specs.List.{All, AllByRecursion as Each}
 use Rattle.std.proofs.lemmas.List.{get_or-set_same, get_or-set_other}
 use Rattle.rows.specs.declared.settings.Dwelling.{Dwelling}
@@ -17,7 +17,8 @@ use Rattle.node_move.specs.NodeStates.{no_link}
 use Rattle.link_seconds.specs.Seconds.{lists_at}
 use Rattle.law_waking.specs.Resting.{Rests, sleeps_to}
 use Rattle.node_seconds.specs.Networks.{lane}
-use Rattle.part_links.specs.Links.{IsLink, LinksStand, AreAsleep}
+use Rattle.part_links.specs.Links.{IsLink, AreNumbered, LinksStandAt, LinksStand, AreAsleep}
+use Rattle.part_links.proofs.Whole.{all_numbered}
 use Rattle.law_in_range.specs.Rows.{Counts, IsFitRow}
 use Rattle.part_persons.specs.Phases.{joined}
 use Rattle.part_persons.proofs.Joining.{AtStart}
@@ -79,13 +80,20 @@ link_number : (S : Setup) (l : ℕ) (v : LinkView) → IsLink S l v → v.number
 unfolding numbers_of
 link_number S l v h = ap (λ (n : LinkNumbers). n.link) h.numbers
 
-one_stands : (S : Setup) (t : ℕ) (r : Row) (links : List LinkView) (W : World) → Starts (length links) r → LinksStand S t links W
-    → LinksStand S t (started r links) (with_row r W)
-one_stands S t r links W st h =
+-- the row of a vehicle that starts in a slot, as it stands in a world: on the link of that slot
+abbrev pub in_world : (ℕ → ℕ) → Row → Row
+in_world number r = record r { link = number r.link }
+
+one_stands : (number : ℕ → ℕ) (size : ℕ) (S : Setup) (t : ℕ) (r : Row) (links : List LinkView) (W : World) → AreNumbered S size number
+    → Starts (length links) r → LinksStandAt number size S t links W → LinksStandAt number size S t (started r links) (with_row (in_world number r) W)
+one_stands number size S t r links W numbered st h =
     let many = started_length r links in
     let own : lane (started r links) r.link ≡ with_waiting r.vehicle (lane links r.link) = own_lane r links st.link in
-    let is : (l : ℕ) → link_state l (with_row r W) ≡ longer (link_state l W) (alone l Wait (row_on r.link Wait 0 r.vehicle))
-    = λ l. ap (λ (x : Row). link_state l (with_row x W)) st.row ∙ state_more l r.link r.vehicle W in
+    let there : r.link < size = (let k = h.count in let p = st.link in omega arith) in
+    let m = number r.link in
+    let row : in_world number r ≡ row_on m Wait 0 r.vehicle = ap (in_world number) st.row in
+    let is : (l : ℕ) → link_state l (with_row (in_world number r) W) ≡ longer (link_state l W) (alone l Wait (row_on m Wait 0 r.vehicle))
+    = λ l. ap (λ (x : Row). link_state l (with_row x W)) row ∙ state_more l m r.vehicle W in
     record {
       count = many ∙ h.count;
       credits = h.credits;
@@ -93,33 +101,33 @@ one_stands S t r links W st h =
           elim (cases_Bool (eqb l r.link)) [
             | inl q ↦
                 let same : l ≡ r.link = eqb-true l r.link q in
-                subst (λ (k : ℕ). IsLink S k (lane (started r links) k)) (sym same)
-                (subst (λ (v : LinkView). IsLink S r.link v) (sym own) (record { numbers = (h.numbers r.link (let k = h.count in let p = st.link in omega arith)).numbers }))
-            | inr q ↦ subst (λ (v : LinkView). IsLink S l v) (sym (other_lane r l links st.link (eqb-false l r.link q))) (h.numbers l lt)
+                subst (λ (k : ℕ). IsLink S (number k) (lane (started r links) k)) (sym same)
+                (subst (λ (v : LinkView). IsLink S m v) (sym own) (record { numbers = (h.numbers r.link there).numbers }))
+            | inr q ↦ subst (λ (v : LinkView). IsLink S (number l) v) (sym (other_lane r l links st.link (eqb-false l r.link q))) (h.numbers l lt)
           ];
       raised = λ l lt.
           elim (cases_Bool (eqb l r.link)) [
             | inl q ↦
                 let same : l ≡ r.link = eqb-true l r.link q in
                 subst (λ (k : ℕ). (lane (started r links) k).raised ≤ t) (sym same)
-                (subst (λ (v : LinkView). v.raised ≤ t) (sym own) (h.raised r.link (let k = h.count in let p = st.link in omega arith)))
+                (subst (λ (v : LinkView). v.raised ≤ t) (sym own) (h.raised r.link there))
             | inr q ↦ subst (λ (v : LinkView). v.raised ≤ t) (sym (other_lane r l links st.link (eqb-false l r.link q))) (h.raised l lt)
           ];
       lists = λ l lt.
           elim (cases_Bool (eqb l r.link)) [
             | inl q ↦
                 let same : l ≡ r.link = eqb-true l r.link q in
-                let there : r.link < length S.links = (let k = h.count in let p = st.link in omega arith) in
-                let number : (lane links r.link).numbers.link ≡ r.link = link_number S r.link (lane links r.link) (h.numbers r.link there) in
-                subst (λ (k : ℕ). lists_at t (lane (started r links) k) ≡ link_state k (with_row r W)) (sym same)
-                (ap (lists_at t) own ∙ ap (λ (k : ℕ). longer (lists_at t (lane links r.link)) (row_on k Wait 0 r.vehicle ∷ [])) number
-                ∙ ap (λ (L : LinkState). longer L (row_on r.link Wait 0 r.vehicle ∷ [])) (h.lists r.link there)
-                ∙ ap (longer (link_state r.link W)) (sym (waits_there r.link r.vehicle)) ∙ sym (is r.link))
+                let number_is : (lane links r.link).numbers.link ≡ m = link_number S m (lane links r.link) (h.numbers r.link there) in
+                subst (λ (k : ℕ). lists_at t (lane (started r links) k) ≡ link_state (number k) (with_row (in_world number r) W)) (sym same)
+                (ap (lists_at t) own ∙ ap (λ (k : ℕ). longer (lists_at t (lane links r.link)) (row_on k Wait 0 r.vehicle ∷ [])) number_is
+                ∙ ap (λ (L : LinkState). longer L (row_on m Wait 0 r.vehicle ∷ [])) (h.lists r.link there)
+                ∙ ap (longer (link_state m W)) (sym (waits_there m r.vehicle)) ∙ sym (is m))
             | inr q ↦
-                let ne = eqb-false l r.link q in
-                ap (lists_at t) (other_lane r l links st.link ne) ∙ h.lists l lt
-                ∙ ap (λ (xs : List Row). (let L : LinkState = record (link_state l W) { wait = xs } in L)) (sym (append-nil (at l Wait W)))
-                ∙ ap (longer (link_state l W)) (sym (waits_elsewhere l r.link r.vehicle ne)) ∙ sym (is l)
+                let off = eqb-false l r.link q in
+                let ne : number l ≢ m = λ e. off (numbered.apart l r.link lt there e) in
+                ap (lists_at t) (other_lane r l links st.link off) ∙ h.lists l lt
+                ∙ ap (λ (xs : List Row). (let L : LinkState = record (link_state (number l) W) { wait = xs } in L)) (sym (append-nil (at (number l) Wait W)))
+                ∙ ap (longer (link_state (number l) W)) (sym (waits_elsewhere (number l) m r.vehicle ne)) ∙ sym (is (number l))
           ];
     }
 
@@ -191,14 +199,19 @@ one_asleep D end t r links wakes early there h =
 abbrev pub with_rows : List Row → World → World
 with_rows rs W = record W { rows = W.rows ++ rs }
 
-pub all_stand : (S : Setup) (t count : ℕ) (rs : List Row) (links : List LinkView) (W : World) → count ≡ length links → Each (Starts count) rs
-    → LinksStand S t links W → LinksStand S t (all_started rs links) (with_rows rs W)
+pub all_stand : (number : ℕ → ℕ) (size : ℕ) (S : Setup) (t count : ℕ) (rs : List Row) (links : List LinkView) (W : World)
+    → AreNumbered S size number → count ≡ length links → Each (Starts count) rs
+    → LinksStandAt number size S t links W → LinksStandAt number size S t (all_started rs links) (with_rows (map (in_world number) rs) W)
 unfolding all_started
-all_stand S t count [] links W c st h = subst (λ (xs : List Row). LinksStand S t links (record W { rows = xs })) (sym (append-nil W.rows)) h
-all_stand S t count (r ∷ rs) links W c st h =
+all_stand number size S t count [] links W own c st h =
+    subst (λ (xs : List Row). LinksStandAt number size S t links (record W { rows = xs })) (sym (append-nil W.rows)) h
+all_stand number size S t count (r ∷ rs) links W own c st h =
     let first : Starts (length links) r = subst (λ (n : ℕ). Starts n r) c st.0 in
-    subst (λ (xs : List Row). LinksStand S t (all_started rs (started r links)) (record W { rows = xs })) (append_assoc W.rows (r ∷ []) rs)
-    (all_stand S t count rs (started r links) (with_row r W) (c ∙ sym (started_length r links)) st.1 (one_stands S t r links W first h))
+    let x = in_world number r in
+    subst (λ (xs : List Row). LinksStandAt number size S t (all_started rs (started r links)) (record W { rows = xs }))
+    (append_assoc W.rows (x ∷ []) (map (in_world number) rs))
+    (all_stand number size S t count rs (started r links) (with_row x W) own (c ∙ sym (started_length r links)) st.1
+    (one_stands number size S t r links W own first h))
 
 pub all_asleep : (D : Dwelling) (end t count : ℕ) (rs : List Row) (links : List LinkView) (wakes : List (Option ℕ)) → t < end → count ≡ length links
     → Each (Starts count) rs → AreAsleep D end t links wakes → AreAsleep D end t (all_started rs links) (woken_for_all t rs wakes)
@@ -225,21 +238,33 @@ all_start z count (r ∷ rs) e f h =
     (starts_at count r (subst (λ (n : ℕ). r.link < n) e fit.link) h.0, all_start z count rs e (All-tail (IsFitRow z) r rs f) h.1)
 
 -- links that stand for those of a world stand for those of any with the same rows of vehicles and the same credits
-pub stand_alike : (S : Setup) (t : ℕ) (links : List LinkView) (W V : World) → V.rows ≡ W.rows → V.credits ≡ W.credits → LinksStand S t links W
-    → LinksStand S t links V
-stand_alike S t links W V e c h = record {
+pub stand_alike : (number : ℕ → ℕ) (size : ℕ) (S : Setup) (t : ℕ) (links : List LinkView) (W V : World) → V.rows ≡ W.rows → V.credits ≡ W.credits
+    → LinksStandAt number size S t links W → LinksStandAt number size S t links V
+stand_alike number size S t links W V e c h = record {
   count = h.count;
   credits = ap (λ (cs : List ℕ). length cs) c ∙ h.credits;
   numbers = h.numbers;
   raised = h.raised;
   lists = λ l lt.
       h.lists l lt
-      ∙ ap (λ (rs : List Row). link_state l (record W { rows = rs })) (sym e)
-      ∙ ap (λ (cs : List ℕ). link_state l (record W { rows = V.rows; credits = cs })) (sym c);
+      ∙ ap (λ (rs : List Row). link_state (number l) (record W { rows = rs })) (sym e)
+      ∙ ap (λ (cs : List ℕ). link_state (number l) (record W { rows = V.rows; credits = cs })) (sym c);
 }
 
--- once the vehicles that persons and departures let in came to their links, these stand for the links of the world
+-- once the vehicles that persons and departures let in came to the slots of their links, these stand for the links of the world
+pub joined_at : (number : ℕ → ℕ) (size : ℕ) (S : Setup) (t count : ℕ) (rs : List Row) (links : List LinkView) (W P : World)
+    → AreNumbered S size number → count ≡ length links → Each (Starts count) rs → P.rows ≡ map (in_world number) rs
+    → LinksStandAt number size S t links W → LinksStandAt number size S t (all_started rs links) (joined W P)
+joined_at number size S t count rs links W P own c st e h =
+    stand_alike number size S t (all_started rs links) (with_rows (map (in_world number) rs) W) (joined W P)
+    (ap (λ (xs : List Row). W.rows ++ xs) e) refl (all_stand number size S t count rs links W own c st h)
+
+-- the same where each link of the network is in the slot of its number
+same_rows : (rs : List Row) → rs ≡ map (in_world (λ l. l)) rs
+same_rows [] = refl
+same_rows (r ∷ rs) = ap (λ (xs : List Row). r ∷ xs) (same_rows rs)
+
 pub joined_stand : (S : Setup) (t count : ℕ) (links : List LinkView) (W P : World) → count ≡ length links → Each (Starts count) P.rows → LinksStand S t links W
     → LinksStand S t (all_started P.rows links) (joined W P)
 joined_stand S t count links W P c st h =
-    stand_alike S t (all_started P.rows links) (with_rows P.rows W) (joined W P) refl refl (all_stand S t count P.rows links W c st h)
+    joined_at (λ l. l) (length S.links) S t count P.rows links W P (all_numbered S) c st (same_rows P.rows) h

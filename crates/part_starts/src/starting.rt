@@ -1,4 +1,5 @@
-//! Vehicles come to the wait lists of links.
+//! Vehicles come to the wait lists of links. A row names its link by the slot in which the link stands: in the whole network that is the
+//! number of the link.
 
 ghost use Rattle.std.specs.Prelude.{◌≡◌, length, OnOk};
 ghost use Rattle.part_starts.specs.Starting.{started, all_started, woken_for, woken_for_all};

@@ -5,7 +5,6 @@ use Rattle.traffic.specs.declared.numbers.Rules.{Rules}
 use Rattle.town.specs.declared.day_input.DayInput.{DayInput}
 use Rattle.town.specs.Setups.{setup_of}
 use Rattle.town.specs.Views.{setup}
-pub use Rattle.person_moves.proofs.LinkRows.{row_is, measured, hole_is}
 
 pub gain_is : (day : DayInput) (l : ℕ) (row : LinkRow) (v : ℕ) → link_row (setup day) l ≡ row → v ≡ credit_per_second row.capacity day.town.now.settings.flow_permille → v ≡ gain_of (setup day) l
 unfolding setup_of

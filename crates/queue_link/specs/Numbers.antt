@@ -4,7 +4,6 @@ use Rattle.limits.specs.declared.TheConstants.{MAX_CAPACITY, MAX_LENGTH}
 use Rattle.fixed_flow.specs.declared.TheConstants.{MAX_PER_SECOND}
 use Rattle.fixed_flow.specs.Link.{free_seconds, credit_per_second, storage, buffer_room}
 use Rattle.rows.specs.declared.network.LinkRow.{LinkRow}
-pub use Rattle.rows.specs.Networks.{IsMeasured}
 use Rattle.rows.specs.declared.settings.Dwelling.{Dwelling}
 use Rattle.rows.specs.declared.settings.TrafficSettings.{TrafficSettings}
 use Rattle.traffic.specs.declared.numbers.Rules.{Rules}

@@ -1,76 +1,17 @@
-use Rattle.std.proofs.Common.{◌≤◌, ℕ, List, ◌∙◌, ap, sym, subst, length, arith}
-use Rattle.std.proofs.lemmas.List.{length-map}
-use Rattle.limits.specs.declared.TheConstants.{MAX_IN_LINKS}
-use Rattle.law_in_range.specs.Setups.{counts_in}
-use Rattle.law_in_range.proofs.Towns.{town_fit}
-use Rattle.law_in_range.proofs.Days.{chosen_fit}
+use Rattle.std.proofs.Common.{◌∙◌, ap, length}
+use Rattle.std.specs.Prelude.{filter}
 use Rattle.town.specs.Views.{setup}
-use Rattle.node_seconds.specs.Networks.{AreOnce}
-use Rattle.node_seconds.specs.Turns.{HaveNumbers, AreReadyInto}
-use Rattle.part_nodes.specs.Turns.{AreThere}
-use Rattle.part_nodes.proofs.Ready.{into_few, into_once, into_numbers, into_ready, into_in, into_in_town}
-use Rattle.part_nodes.proofs.Rested.{buffered_there, emptied_length}
-use Rattle.part_nodes.proofs.Passed.{passed_on}
+use Rattle.part_nodes.specs.Turns.{is_buffered}
+use Rattle.part_nodes.proofs.Ready.{into_in}
 use Rattle.part_nodes.proofs.node_turns.pass_node.Goals as goal
 
-pub lights-requires-clause-there : goal.lights-requires-clause-there
-lights-requires-clause-there c = into_in_town c.args.phase.now.day.now c.args.node c.args.numbers.now c.requires.into
-
-pub buffers_of-requires : goal.buffers_of-requires
-buffers_of-requires c =
+pub buffered_ones-requires : goal.buffered_ones-requires
+buffered_ones-requires c =
     into_in (setup c.args.phase.now.day.now) c.args.node (length c.args.links.now) c.args.numbers.now c.requires.stand.1.stand.count c.requires.into
 
-pub node_second-requires-clause-second_in : goal.node_second-requires-clause-second_in
-node_second-requires-clause-second_in c = omega (arith, c.turn_of-turn.ensures.second, c.requires.second_in)
-
-pub node_second-requires-clause-few : goal.node_second-requires-clause-few
-node_second-requires-clause-few c =
-    subst (λ (ls : List ℕ). length ls ≤ MAX_IN_LINKS) (sym c.requires.into) (into_few c.args.phase.now.day.now c.args.node)
-
-pub node_second-requires-clause-lit : goal.node_second-requires-clause-lit
-node_second-requires-clause-lit c = ap length (c.deref.ensures.value ∙ c.in_ok-greens.ensures) ∙ length-map c.args.numbers.now _
-
-pub node_second-requires-clause-there : goal.node_second-requires-clause-there
-node_second-requires-clause-there c =
-    into_in (setup c.args.phase.now.day.now) c.args.node (length c.args.links.now) c.args.numbers.now c.requires.stand.1.stand.count c.requires.into
-
-pub node_second-requires-clause-once : goal.node_second-requires-clause-once
-node_second-requires-clause-once c = subst AreOnce (sym c.requires.into) (into_once (setup c.args.phase.now.day.now) c.args.node)
-
-pub node_second-requires-clause-numbers : goal.node_second-requires-clause-numbers
-node_second-requires-clause-numbers c =
-    subst (HaveNumbers c.args.links.now) (sym c.requires.into)
-    (into_numbers (setup c.args.phase.now.day.now) c.args.phase.now.second c.args.node c.args.links.now c.requires.stand.0 c.requires.stand.1.stand)
-
-pub node_second-requires-clause-ready : goal.node_second-requires-clause-ready
-node_second-requires-clause-ready c =
-    subst (AreReadyInto c.args.links.now) (sym c.requires.into)
-    (into_ready (counts_in c.args.phase.now.day.now) (setup c.args.phase.now.day.now) c.args.phase.now.second c.args.node c.args.links.now
-    c.requires.stand.0 c.requires.stand.1.fit c.requires.stand.1.stand)
-
-pub wake_all_emptied-requires-clause-there : goal.wake_all_emptied-requires-clause-there
-wake_all_emptied-requires-clause-there c =
-    let S = setup c.args.phase.now.day.now in
-    let count = length c.node_second.new.links in
-    subst (AreThere count) (sym (c.deref-2.ensures.value ∙ c.in_ok-before.ensures))
-    (buffered_there count c.args.links.now c.args.numbers.now
-    (into_in S c.args.node count c.args.numbers.now (c.node_second.auto.links ∙ c.requires.stand.1.stand.count) c.requires.into))
-
-pub wake_all_emptied-requires-clause-count : goal.wake_all_emptied-requires-clause-count
-wake_all_emptied-requires-clause-count c = c.requires.stand.1.asleep.count ∙ sym c.node_second.auto.links
-
-pub enter_links-requires-clause-wakes : goal.enter_links-requires-clause-wakes
-enter_links-requires-clause-wakes c =
-    ap length c.in_ok-wake_all_emptied.ensures ∙ emptied_length c.args.phase.now.second c.deref-2.result.now c.node_second.new.links c.args.wakes.now
-    ∙ c.requires.stand.1.asleep.count ∙ sym c.node_second.auto.links
+pub pass_some-requires-clause-into : goal.pass_some-requires-clause-into
+pass_some-requires-clause-into c =
+    c.deref.ensures.value ∙ c.in_ok-some.ensures ∙ ap (filter (is_buffered c.args.links.now)) c.requires.into
 
 pub returns : goal.returns
-returns c = λ V h.
-    let day = c.args.phase.now.day.now in
-    passed_on (counts_in day) (setup day) day.town.now.settings.end_second c.args.phase.now.second c.args.node V c.args.links.now c.args.wakes.now
-    c.args.space.now c.turn_of-turn.result c.args.numbers.now c.deref.result.now c.deref-2.result.now c.node_second.new.links
-    c.wake_all_emptied.new.wakes c.in_ok-entering.entering.items c.enter_links.new.links c.enter_links.new.wakes c.node_second.new.space
-    c.new-said.result.items c.node_second.new.said.items c.requires.in_day (town_fit day (chosen_fit day c.requires.given)) c.turn_of-turn.ensures
-    c.requires.into (c.deref.ensures.value ∙ c.in_ok-greens.ensures) (c.deref-2.ensures.value ∙ c.in_ok-before.ensures) c.node_second.auto.links
-    c.new-said.ensures.items c.in_ok-entering.ensures.links c.in_ok-entering.ensures.space c.in_ok-entering.ensures.entering
-    c.in_ok-entering.ensures.told c.in_ok-wake_all_emptied.ensures c.in_ok-enter_links.ensures.links c.in_ok-enter_links.ensures.wakes h
+returns c = λ V h. c.in_ok-said.ensures V h

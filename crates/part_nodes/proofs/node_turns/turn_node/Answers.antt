@@ -9,8 +9,10 @@ use Rattle.traffic.specs.declared.moves.Occurrence.{Occurrence}
 use Rattle.traffic.specs.Day.{keyed}
 use Rattle.queue_link.specs.Links.{LinkView}
 use Rattle.part_nodes.specs.declared.network.Network.{Network}
+use Rattle.part_nodes.specs.Turns.{always_in}
 use Rattle.part_nodes.specs.Phase.{LinksStandFor}
-use Rattle.part_nodes.proofs.Ready.{into_in}
+use Rattle.part_nodes.proofs.Ready.{into_in, into_in_town}
+use Rattle.part_nodes.proofs.Held.{stuck_of, green_of}
 use Rattle.part_nodes.proofs.Passed.{turned}
 use Rattle.part_nodes.proofs.node_turns.turn_node.Goals as goal
 
@@ -23,11 +25,14 @@ pass_node-requires-clause-stand c =
           c.args.phase.now.second xs N.link_wakes N.places.space c.requires.stands.0) (sym c.deref_mut.ensures.value) c.requires.stands.1.links,
     )
 
-pub wake_again-requires-clause-there : goal.wake_again-requires-clause-there
-wake_again-requires-clause-there c = let nodes = c.requires.stands.1.nodes in let lt = c.requires.there in omega arith
+pub wake_again-requires-clause-node : goal.wake_again-requires-clause-node
+wake_again-requires-clause-node c = let nodes = c.requires.stands.1.nodes in let lt = c.requires.there in omega arith
 
-pub wake_again-requires-clause-links : goal.wake_again-requires-clause-links
-wake_again-requires-clause-links c =
+pub wake_again-requires-clause-there : goal.wake_again-requires-clause-there
+wake_again-requires-clause-there c = into_in_town c.args.phase.now.day.now c.args.node c.args.numbers.now c.requires.into
+
+pub wake_again-requires-clause-within : goal.wake_again-requires-clause-within
+wake_again-requires-clause-within c =
     let links = c.args.network.now.links in
     let seen = c.deref.result.now in
     let h = c.requires.stands.1.links.stand in
@@ -55,8 +60,9 @@ returns c = λ V h.
     let spoken = c.args.told.now.said.items in
     let now = c.in_ok-said.said.items in
     turned (counts_in day) (setup day) day.town.now.settings.end_second c.args.phase.now.second c.args.node V N new c.args.numbers.now
-    c.deref.result.now c.pass_node.new.links first c.tell.new.told.events.items spoken c.tell.new.told.said.items now
-    (c.in_ok-said.ensures V stand) h.nodes c.requires.there c.requires.into is seen refl refl c.in_ok-wake_again.ensures
-    (c.in_ok-tell.ensures.events
+    c.deref.result.now c.pass_node.new.links day.town.now.settings.stuck (always_in day.town.now.greens) first c.append.new.self.events.items spoken c.append.new.self.said.items now
+    (c.in_ok-said.ensures V stand) h.nodes c.requires.there c.requires.into is seen refl refl c.requires.in_day
+    (stuck_of day) (green_of day) c.in_ok-wake_again.ensures
+    (c.in_ok-append.ensures.events
     ∙ ap (λ (xs : List Occurrence). first ++ keyed c.args.phase.now.second (phase_code phase.C) c.args.node 0 xs) c.deref-2.ensures.value)
-    (c.in_ok-tell.ensures.said ∙ ap (λ (xs : List Occurrence). spoken ++ xs) c.deref-2.ensures.value)
+    (c.in_ok-append.ensures.said ∙ ap (λ (xs : List Occurrence). spoken ++ xs) c.deref-2.ensures.value)

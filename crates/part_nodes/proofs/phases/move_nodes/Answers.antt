@@ -40,5 +40,6 @@ returns c = λ V h awaited.
     let stands = stands_with z S end t V N M c.take-numbers.new.self refl
     (ap length c.take-numbers.ensures.slept ∙ length-map N.node_wakes (slept t)) h in
     whole z S end t V c.deref.result.now N M c.turn_nodes.new.network c.args.told.now.events.items c.turn_nodes.new.told.events.items
-    c.args.told.now.said.items c.turn_nodes.new.told.said.items h awaited (c.deref.ensures.value ∙ c.take-numbers.ensures.woken) refl refl
+    c.args.told.now.said.items c.turn_nodes.new.told.said.items c.requires.in_day h awaited (c.deref.ensures.value ∙ c.take-numbers.ensures.woken)
+    c.take-numbers.ensures.slept refl refl
     (c.in_ok-turn_nodes.ensures V stands)

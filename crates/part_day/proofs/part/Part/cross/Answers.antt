@@ -1,19 +1,28 @@
-use Rattle.std.proofs.Common.{◌∙◌, refl, length}
+use Rattle.std.proofs.Common.{◌∙◌, ap, refl, sym, length}
 use Rattle.law_sleeping.specs.Marks.{before_nodes}
 use Rattle.town.specs.Views.{setup}
 use Rattle.traffic.specs.Day.{world_at}
 use Rattle.law_in_range.proofs.Days.{one_each}
+use Rattle.part_places.specs.Taking.{times}
 use Rattle.law_parts_of_days.specs.Settling.{taking}
-use Rattle.part_day.proofs.Steps.{nodes_find, crossed_stands}
+use Rattle.law_parts_of_days.proofs.Beginning.{nodes_of}
+use Rattle.law_parts_of_days.proofs.Awaited.{starts_length}
+use Rattle.part_day.proofs.Steps.{nodes_find, free_awaited, crossed_stands}
 use Rattle.part_day.proofs.part.Part.cross.Goals as goal
+
+pub wake_starts-requires : goal.wake_starts-requires
+wake_starts-requires c = c.requires.stands.network.nodes ∙ nodes_of c.args.day.now
 
 pub move_nodes-requires-clause-stands : goal.move_nodes-requires-clause-stands
 move_nodes-requires-clause-stands c =
     let S = setup c.args.day.now in
     let V = before_nodes S c.args.second (world_at S c.args.second) in
     let end = c.args.day.now.town.now.settings.end_second in
-    let free = c.in_ok-free.ensures (length S.links) end (taking S V) c.requires.in_day c.requires.stands.network.places in
-    (V, nodes_find c.args.day.now c.args.second c.args.self.now.network _ c.requires.given c.requires.stands.network free refl refl refl)
+    let free = c.in_ok-freed.ensures.places (length S.links) end (taking S V) c.requires.in_day c.requires.stands.network.places in (
+      V,
+      nodes_find c.args.day.now c.args.second c.args.self.now.network _ c.requires.given c.requires.stands.network free refl refl
+          (ap length c.in_ok-wake_starts.ensures ∙ starts_length S c.args.second c.deref.result.now c.args.self.now.network.node_wakes),
+    )
 
 pub hear_told-requires-clause-plans : goal.hear_told-requires-clause-plans
 hear_told-requires-clause-plans c = one_each c.args.day.now c.args.self.now.persons.world c.requires.stands.persons.fit
@@ -23,13 +32,20 @@ returns-clause-stands c =
     let S = setup c.args.day.now in
     let V = before_nodes S c.args.second (world_at S c.args.second) in
     let end = c.args.day.now.town.now.settings.end_second in
-    let free = c.in_ok-free.ensures (length S.links) end (taking S V) c.requires.in_day c.requires.stands.network.places in
-    crossed_stands c.args.day.now c.args.second c.args.self.now _ (record c.args.self.now.network { places = c.free.new.self })
+    let free = c.in_ok-freed.ensures.places (length S.links) end (taking S V) c.requires.in_day c.requires.stands.network.places in
+    crossed_stands c.args.day.now c.args.second c.args.self.now _ (record c.args.self.now.network {
+      places = c.free.new.self;
+      node_wakes = c.wake_starts.new.node_wakes;
+    })
     c.args.told.now.events.items c.move_nodes.new.told.events.items c.args.told.now.said.items c.move_nodes.new.told.said.items
     c.requires.given c.requires.silent c.requires.stands free
     (c.in_ok-move_nodes.ensures V
-    (nodes_find c.args.day.now c.args.second c.args.self.now.network _ c.requires.given c.requires.stands.network free refl refl refl)
-    c.requires.stands.network.awaited)
+    (nodes_find c.args.day.now c.args.second c.args.self.now.network _ c.requires.given c.requires.stands.network free refl refl
+    (ap length c.in_ok-wake_starts.ensures ∙ starts_length S c.args.second c.deref.result.now c.args.self.now.network.node_wakes))
+    (free_awaited c.args.day.now c.args.second c.args.self.now.network c.deref.result.now c.wake_starts.new.node_wakes c.requires.given
+    c.requires.stands.network c.in_ok-wake_starts.ensures
+    (λ m lt none. c.in_ok-freed.ensures.full (length S.links) end (taking S V) c.requires.in_day c.requires.stands.network.places m lt
+    (ap (times m) (sym c.deref.ensures.value) ∙ none))))
     c.in_ok-hear_told.ensures.world c.in_ok-hear_told.ensures.followed c.in_ok-hear_told.ensures.wakes refl refl refl
 
 pub returns-clause-events : goal.returns-clause-events
@@ -37,8 +53,12 @@ returns-clause-events c =
     let S = setup c.args.day.now in
     let V = before_nodes S c.args.second (world_at S c.args.second) in
     let end = c.args.day.now.town.now.settings.end_second in
-    let free = c.in_ok-free.ensures (length S.links) end (taking S V) c.requires.in_day c.requires.stands.network.places in
+    let free = c.in_ok-freed.ensures.places (length S.links) end (taking S V) c.requires.in_day c.requires.stands.network.places in
     let g = c.in_ok-move_nodes.ensures V
-    (nodes_find c.args.day.now c.args.second c.args.self.now.network _ c.requires.given c.requires.stands.network free refl refl refl)
-    c.requires.stands.network.awaited in
+    (nodes_find c.args.day.now c.args.second c.args.self.now.network _ c.requires.given c.requires.stands.network free refl refl
+    (ap length c.in_ok-wake_starts.ensures ∙ starts_length S c.args.second c.deref.result.now c.args.self.now.network.node_wakes))
+    (free_awaited c.args.day.now c.args.second c.args.self.now.network c.deref.result.now c.wake_starts.new.node_wakes c.requires.given
+    c.requires.stands.network c.in_ok-wake_starts.ensures
+    (λ m lt none. c.in_ok-freed.ensures.full (length S.links) end (taking S V) c.requires.in_day c.requires.stands.network.places m lt
+    (ap (times m) (sym c.deref.ensures.value) ∙ none))) in
     c.in_ok-hear_told.ensures.events ∙ g.events

@@ -1,9 +1,0 @@
-use Rattle.plain_day.proofs.Numbers.{row_is}
-use Rattle.law_parts_of_days.proofs.Beginning.{leads_there}
-use Rattle.part_day.proofs.settling.link_row.Goals as goal
-
-pub returns-clause-row : goal.returns-clause-row
-returns-clause-row c = row_is c.args.day.now c.args.link c.row_at.result c.requires c.row_at.ensures
-
-pub returns-clause-to : goal.returns-clause-to
-returns-clause-to c = leads_there c.args.day.now c.args.link c.row_at.result c.requires c.row_at.ensures

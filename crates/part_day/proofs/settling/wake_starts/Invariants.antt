@@ -1,0 +1,13 @@
+use Rattle.std.proofs.Common.{◌≡◌, length}
+use Rattle.town.specs.Views.{setup}
+use Rattle.law_parts_of_days.specs.Settling.{wake_starts}
+use Rattle.part_day.proofs.settling.wake_starts.Given as goal
+
+abbrev pub invariant-loop-rest : goal.invariant-loop-rest
+invariant-loop-rest l = record {
+  so_far : wake_starts (setup l.day) l.second l.rest l.node_wakes ≡ wake_starts (setup l.day) l.second l.links l.initial.node_wakes;
+  count : length l.node_wakes ≡ length l.day.town.now.network.nodes;
+}
+
+abbrev pub decreases-loop-rest : goal.decreases-loop-rest
+decreases-loop-rest l = length l.rest

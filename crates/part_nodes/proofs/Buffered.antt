@@ -1,0 +1,124 @@
+-- Of the links into a node only those with somebody in their buffers matter.
+use Rattle.traffic.proofs.Common.{◌≡◌, ℕ, suc, ◌+◌, ◌<◌, ◌≤◌, Bool, true, false, List, [], ◌∷◌, ◌++◌, ◌∙◌, ap, refl, sym, arith, inl, inr, length, map, filter, not, ◌||◌}
+use Rattle.traffic.proofs.Common.{cases_Bool, eqb, eqb-true, or_parts, true≢false, nat_lt, lt-ltb, Option, Some, World, Setup, at, into, link_row, in_link, out_link, ready, mark, draw, node_moves, node_turns, word}
+use Rattle.rows.specs.declared.settings.Stuck.{Stuck}
+use Rattle.draws.specs.Words.{Source}
+use Rattle.traffic.specs.declared.moves.Move.{Move}
+use Rattle.traffic.specs.declared.node_views.InLink.{InLink}
+use Rattle.traffic.specs.declared.node_views.OutLink.{OutLink}
+use Rattle.traffic.specs.declared.stage.Stage.TheVariants.{Buffer}
+use Rattle.traffic.specs.declared.world.Row.{Row}
+use Rattle.traffic.specs.Lists.{is_nil}
+use Rattle.traffic.proofs.Each.{each_kept}
+use Rattle.law_joined_routes.specs.Going.{GoOn}
+use Rattle.queue_link.specs.Links.{LinkView}
+use Rattle.node_move.specs.Spaces.{places_in}
+use Rattle.node_move.specs.NodeStates.{in_links_of}
+use Rattle.node_seconds.specs.Networks.{lane, is_among, AreOnce}
+use Rattle.calendar.specs.Due.{AreIn}
+use Rattle.part_links.specs.Links.{LinksStand}
+use Rattle.part_nodes.specs.Turns.{IsTurnOf, lights_of, is_buffered}
+use Rattle.part_nodes.specs.Phase.{places_at}
+use Rattle.part_nodes.proofs.Leading.{node_same}
+use Rattle.part_nodes.proofs.Seen.{IsOut, buffer_is, into_there, into_to, in_links_are, out_agree, all_lead}
+
+-- THOSE THAT PASS A TEST
+pub in_some : (p : ℕ → Bool) (count : ℕ) (ls : List ℕ) → AreIn count ls → AreIn count (filter p ls)
+in_some p count [] h = tt
+in_some p count (l ∷ ls) h =
+    let rest = in_some p count ls h.1 in
+    elim (cases_Bool (p l)) [ inl e ↦ rw e (h.0, rest) | inr e ↦ rw e rest ]
+
+fresh_some : (p : ℕ → Bool) (l : ℕ) (ls : List ℕ) → is_among l ls ≡ false → is_among l (filter p ls) ≡ false
+fresh_some p l [] e = e
+fresh_some p l (n ∷ ls) e =
+    let q = or_parts (eqb n l) (is_among l ls) e in
+    let a = q.0 in
+    let rest = fresh_some p l ls q.1 in
+    elim (cases_Bool (p n)) [ inl c ↦ rw (c, a) rest | inr c ↦ rw c rest ]
+
+pub once_some : (p : ℕ → Bool) (ls : List ℕ) → AreOnce ls → AreOnce (filter p ls)
+once_some p [] h = tt
+once_some p (l ∷ ls) h =
+    let rest = once_some p ls h.1 in
+    elim (cases_Bool (p l)) [ inl e ↦ rw e (fresh_some p l ls h.0, rest) | inr e ↦ rw e rest ]
+
+pub few_some : (p : ℕ → Bool) (ls : List ℕ) → length (filter p ls) ≤ length ls
+few_some p [] = omega arith
+few_some p (l ∷ ls) =
+    let rest = few_some p ls in
+    elim (cases_Bool (p l)) [ inl e ↦ rw e (omega arith) | inr e ↦ rw e (omega arith) ]
+
+-- who is among all and not among those fails the test
+not_some : (p : ℕ → Bool) (l : ℕ) (ls : List ℕ) → is_among l (filter p ls) ≡ false → is_among l ls ≡ true → p l ≡ false
+not_some p l [] h a = absurd (true≢false (sym a))
+not_some p l (n ∷ ls) h a =
+    elim (cases_Bool (eqb n l)) [
+      | inl q ↦
+          elim (cases_Bool (p n)) [
+            | inl e ↦
+                let f : (eqb n l || is_among l (filter p ls)) ≡ false = rw e at h in
+                let g : true ≡ false = rw q at f in absurd (true≢false g)
+            | inr e ↦ ap p (sym (eqb-true n l q)) ∙ e
+          ]
+      | inr q ↦
+          let b : is_among l ls ≡ true = rw q at a in
+          elim (cases_Bool (p n)) [
+            | inl e ↦
+                let f : (eqb n l || is_among l (filter p ls)) ≡ false = rw e at h in
+                let g : is_among l (filter p ls) ≡ false = rw q at f in not_some p l ls g b
+            | inr e ↦ let f : is_among l (filter p ls) ≡ false = rw e at h in not_some p l ls f b
+          ]
+    ]
+
+nobody : (xs : List Row) → nat_lt 0 (length xs) ≡ false → xs ≡ []
+nobody [] e = refl
+nobody (x ∷ xs) e = let q = lt-ltb 0 (suc (length xs)) (omega arith) in absurd (true≢false (sym q ∙ e))
+
+pub nobody_in : (l : ℕ) (links : List LinkView) (ls : List ℕ) → is_among l (filter (is_buffered links) ls) ≡ false → is_among l ls ≡ true
+    → (lane links l).lists.buffer ≡ []
+nobody_in l links ls h a = nobody (lane links l).lists.buffer (not_some (is_buffered links) l ls h a)
+
+-- WHAT THE NODE DOES
+same_ready : (K : Stuck) (t : ℕ) (word : ℕ → ℕ) (es fs : List InLink) (P : ℕ → Option OutLink) → ready es ≡ ready fs
+    → node_moves K t word (record { in_links = es; out_links = P }) ≡ node_moves K t word (record { in_links = fs; out_links = P })
+unfolding node_moves
+same_ready K t word es fs P e =
+    ap (λ (rs : List InLink).
+    map (mark t) (filter (λ (x : InLink). not x.green) rs)
+    ++ draw K t word (length (filter (λ (x : InLink). x.green) rs)) 0 (filter (λ (x : InLink). x.green) rs) P) e
+
+some_ready : (xs ys : List Row) → ys ≡ xs → not (is_nil xs) ≡ nat_lt 0 (length ys)
+some_ready [] ys e = ap (λ (zs : List Row). nat_lt 0 (length zs)) (sym e)
+some_ready (x ∷ xs) ys e = sym (lt-ltb 0 (suc (length xs)) (omega arith)) ∙ ap (λ (zs : List Row). nat_lt 0 (length zs)) (sym e)
+
+ready_some : (S : Setup) (t : ℕ) (links : List LinkView) (V : World) (ls : List ℕ) → AreIn (length S.links) ls → LinksStand S t links V
+    → ready (map (in_link S t V) (filter (is_buffered links) ls)) ≡ ready (map (in_link S t V) ls)
+ready_some S t links V [] there h = refl
+ready_some S t links V (l ∷ ls) there h =
+    let rest = ready_some S t links V ls there.1 h in
+    let same = some_ready (at l Buffer V) (lane links l).lists.buffer (buffer_is S t l links V there.0 h) in
+    elim (cases_Bool (is_buffered links l)) [
+      | inl e ↦ let r = same ∙ e in simp (e, r) (ap (λ (es : List InLink). in_link S t V l ∷ es) rest)
+      | inr e ↦ let r = same ∙ e in simp (e, r) rest
+    ]
+
+pub moves_of_some : (S : Setup) (t n : ℕ) (K : Stuck) (second : ℕ) (s : Source) (links : List LinkView) (space : List (Option OutLink)) (V : World)
+    (ls : List ℕ) → ls ≡ filter (is_buffered links) (into S n) → IsTurnOf S t n K second s → LinksStand S t links V → GoOn S V
+    → ((m : ℕ) → m < length S.links → places_in space m ≡ Some (places_at S t V m))
+    → node_moves K second (word s) (record { in_links = in_links_of (map (lane links) ls) (lights_of S t ls); out_links = places_in space })
+    ≡ node_turns S t n V
+moves_of_some S t n K second s links space V ls are turn h on places =
+    let some = filter (is_buffered links) (into S n) in
+    let es = map (in_link S t V) some in
+    let there : AreIn (length S.links) some = in_some (is_buffered links) (length S.links) (into S n) (into_there S n) in
+    let to = each_kept (λ (l : ℕ). (link_row S l).to ≡ n) (is_buffered links) (into S n) (into_to S n) in
+    let f : Stuck → ℕ → (ℕ → ℕ) → List InLink → List Move = λ k u w xs. node_moves k u w (record { in_links = xs; out_links = places_in space }) in
+    ap (λ (ks : List ℕ). f K second (word s) (in_links_of (map (lane links) ks) (lights_of S t ks))) are
+    ∙ ap (λ (k : Stuck). f k second (word s) (in_links_of (map (lane links) some) (lights_of S t some))) turn.stuck
+    ∙ ap (λ (u : ℕ). f S.settings.stuck u (word s) (in_links_of (map (lane links) some) (lights_of S t some))) turn.second
+    ∙ ap (λ (w : ℕ → ℕ). f S.settings.stuck t w (in_links_of (map (lane links) some) (lights_of S t some))) turn.words
+    ∙ ap (λ (xs : List InLink). f S.settings.stuck t (S.word n) xs) (in_links_are S t links V some there h)
+    ∙ node_same (IsOut S n) S.settings.stuck t (S.word n) es (places_in space) (out_link S t n V) (out_agree S t n space V places)
+    (all_lead S t n V some on there to)
+    ∙ same_ready S.settings.stuck t (S.word n) es (map (in_link S t V) (into S n)) (out_link S t n V) (ready_some S t links V (into S n) (into_there S n) h)

@@ -1,7 +1,6 @@
 //! The turn of a node that is woken.
 
 ghost use Rattle.std.specs.Prelude.{◌≡◌, ◌+◌, ◌<◌, ◌++◌, length, map, filter, OnOk, IfOk};
-ghost use Rattle.events.specs.declared.event.Phase.TheVariants.{C};
 ghost use Rattle.limits.specs.declared.TheConstants.{LAST_SECOND};
 ghost use Rattle.law_in_range.specs.Setups.{counts_in, HaveFittingPlans};
 ghost use Rattle.town.specs.Views.{setup};
@@ -21,7 +20,6 @@ use events::Phase;
 use node_move::{NodeTurn, Space};
 use node_seconds::{enter_links, node_second};
 use part_links::Told;
-use person_moves::push_keyed;
 use queue_link::LinkState;
 use rows::green_in;
 use std::alloc::{AllocError, Global};

@@ -41,6 +41,19 @@ fn vehicle_in_bay(rows: &[Row], place: usize) -> Option<&Vehicle>
     }
 }
 
+/// A row comes to the end of a list. The first one takes one place, and a list that is full then grows to twice its length: on most links
+/// there are one or two vehicles, so that all lists of a network stay few in memory.
+pub(crate) fn push_row(rows: &mut VecDeque<Row>, row: Row) -> Result<(), AllocError>
+    ensures { OnOk result (rows.new.items ≡ rows.old.items ++ row ∷ []) }
+{
+    let count = rows.len();
+    if count == rows.capacity() {
+        rows.reserve_exact(count.max(1))?;
+    }
+    rows.push_back(row)?;
+    Ok(())
+}
+
 impl LinkState {
     /// A link of these numbers at the start of a day.
     pub fn new(alloc: Global, numbers: LinkNumbers) -> LinkState
@@ -80,12 +93,13 @@ impl LinkState {
           };
         }) }
     {
-        self.queue.push_back(Row {
+        let row = Row {
             vehicle,
             link: self.numbers.link,
             stage: Stage::Queue,
             second: second + self.numbers.seconds,
-        })?;
+        };
+        push_row(&mut self.queue, row)?;
         Ok(())
     }
 
@@ -101,12 +115,13 @@ impl LinkState {
           };
         }) }
     {
-        self.wait.push_back(Row {
+        let row = Row {
             vehicle,
             link: self.numbers.link,
             stage: Stage::Wait,
             second: 0,
-        })?;
+        };
+        push_row(&mut self.wait, row)?;
         Ok(())
     }
 

@@ -3,7 +3,7 @@
 ghost use Rattle.std.specs.Prelude.{◌≡◌, ◌<◌, ◌≤◌, ◌+◌, ℕ, length, OnOk};
 ghost use Rattle.limits.specs.declared.TheConstants.{LAST_SECOND};
 ghost use Rattle.town.specs.Views.{setup};
-ghost use Rattle.traffic.specs.Setup.{hole_seconds, link_row, hole_of};
+ghost use Rattle.traffic.specs.Setup.{link_row, hole_of};
 ghost use Rattle.node_seconds.specs.Networks.{AreOnce};
 ghost use Rattle.calendar.specs.Due.{AreIn};
 ghost use Rattle.part_places.specs.Taking.{Taking, AreTaken, later};

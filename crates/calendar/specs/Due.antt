@@ -1,5 +1,10 @@
 -- Which numbers are due in which second.
-use Rattle.std.specs.Prelude.{◌≡◌, ℕ, List, [], ◌∷◌, ◌++◌, get_or, ◌==◌, if◌then◌else◌}
+use Rattle.std.specs.Prelude.{◌≡◌, ℕ, ◌<◌, List, [], ◌∷◌, ◌++◌, get_or, ◌==◌, if◌then◌else◌}
+use Rattle.std.specs.List.{AllByRecursion as Each}
+
+-- they are numbers of so many
+abbrev pub AreIn : ℕ → List ℕ → Type 0
+AreIn count ns = Each (λ (n : ℕ). n < count) ns
 
 -- the numbers of each second, in the order in which they came
 abbrev pub Due : Type 0

@@ -38,10 +38,19 @@ unfoldable pub asleep : List ℕ → List (Option ℕ) → List (Option ℕ)
 asleep [] due = due
 asleep (n ∷ ns) due = asleep ns (set due n None)
 
+-- the earlier of two seconds, where there is any
+abbrev pub earliest : Option ℕ → Option ℕ → Option ℕ
+earliest None u = u
+earliest (Some t) None = Some t
+earliest (Some t) (Some u) = Some (min t u)
+
 -- this second, or an earlier one where there is one
 abbrev pub earlier : ℕ → Option ℕ → Option ℕ
-earlier t None = Some t
-earlier t (Some u) = Some (min t u)
+earlier t u = earliest (Some t) u
+
+-- the seconds when number n is woken in second t at the latest
+abbrev pub woken_by : ℕ → ℕ → List (Option ℕ) → List (Option ℕ)
+woken_by t n due = set due n (earlier t (wake_of due n))
 
 -- a second, where it is before the end
 abbrev pub within : ℕ → Option ℕ → Option ℕ

@@ -3,7 +3,7 @@
 ghost use Rattle.std.specs.Prelude.{◌≡◌, ◌<◌, ℕ, length, map, filter, set, replicate, None, OnOk, IfOk};
 ghost use Rattle.std.specs.List.{Contains};
 ghost use Rattle.std.specs.List.Sorted.{IsStrictlyIncreasing};
-ghost use Rattle.calendar.specs.Waking.{wake_of, is_second, is_woken, woken, slept, asleep, earlier, within};
+ghost use Rattle.calendar.specs.Waking.{wake_of, is_second, is_woken, woken, slept, asleep, woken_by, within};
 
 use crate::by_second::Calendar;
 use crate::wake_ups::Wakes;
@@ -136,7 +136,7 @@ impl Wakes {
     /// `AllocError`: there is no memory for it. The table is then of no use.
     pub fn wake(&mut self, number: u32, second: u32) -> Result<(), AllocError>
         requires { number < length self.old }
-        ensures { OnOk result (self.new ≡ set self.old number (earlier second (wake_of self.old number))) }
+        ensures { OnOk result (self.new ≡ woken_by second number self.old) }
     {
         let second = match self.due(number) {
             None => second,

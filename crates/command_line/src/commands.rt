@@ -169,7 +169,7 @@ pub fn route_command<'a>(alloc: Global) -> Result<clap::Command<'a>, AllocError>
     let second = second_position(
         alloc,
         "SECOND",
-        "The second of the day in which it is left, from 0 to 172800",
+        "The second of the day in which it is left; two days are the most",
     );
     let command = clap::Command::new(alloc, "route")
         .override_usage("qsim route FROM TO SECOND")

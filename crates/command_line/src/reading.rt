@@ -7,7 +7,7 @@ use crate::commands::{
     Command, CommandName, command_named, generate_command, route_command, simple_command,
 };
 use crate::given::{grid_asked, route_asked};
-use crate::usage::{USAGE, no_command, not_a_command};
+use crate::usage::{no_command, not_a_command, usage};
 use clap::Error;
 use clap::error::ErrorKind;
 use std::alloc::{AllocError, Global};
@@ -135,7 +135,7 @@ pub fn read_words(alloc: Global, words: &[String]) -> Result<Asked, AllocError>
         return Ok(Asked::Refused(no_command(alloc)?));
     };
     if asks_for_help(second) {
-        return Ok(Asked::Help(String::from_str(alloc, USAGE)?));
+        return Ok(Asked::Help(usage(alloc)?));
     }
     let Some(name) = command_named(second) else {
         return Ok(Asked::Refused(not_a_command(alloc, second)?));

@@ -49,6 +49,14 @@ fn help_is_told(rt: HostRuntime) -> Result<(), Fail> {
     Ok(())
 }
 
+/// Whether these words are refused, in words that have this part.
+fn is_refused(alloc: Global, texts: &[&str], part: &str) -> Result<bool, Fail> {
+    match asked(alloc, texts)? {
+        Asked::Refused(text) => Ok(text.as_str().contains(part)),
+        _ => Ok(false),
+    }
+}
+
 /// A refusal says what is wrong, and how the program or the command is used.
 #[test]
 fn other_words_are_refused(rt: HostRuntime) -> Result<(), Fail> {
@@ -67,39 +75,44 @@ fn other_words_are_refused(rt: HostRuntime) -> Result<(), Fail> {
         (["qsim", "route", "a", "b"].as_slice(), "SECOND"),
         (["qsim", "route", "a", "b", "172801"].as_slice(), "172801"),
         (["qsim", "route", "-a", "b", "0"].as_slice(), "'-a'"),
-        (["qsim", "generate", "4"].as_slice(), "SEED"),
-        (["qsim", "generate", "2", "7"].as_slice(), "'2'"),
-        (["qsim", "generate", "101", "7"].as_slice(), "'101'"),
+    ];
+    for (texts, part) in refused {
+        let is = is_refused(alloc, texts, part)?;
+        assert!(rt; is, "{texts:?}");
+    }
+    Ok(())
+}
+
+/// So are a grid without a seed, one out of its bounds and options that `generate` does not have.
+#[test]
+fn other_grids_are_refused(rt: HostRuntime) -> Result<(), Fail> {
+    let alloc = rt.alloc();
+    let generate = "generate";
+    let last = "--last-iteration";
+    let refused = [
+        (["qsim", generate, "4"].as_slice(), "SEED"),
+        (["qsim", generate, "2", "7"].as_slice(), "'2'"),
+        (["qsim", generate, "101", "7"].as_slice(), "'101'"),
         (
-            ["qsim", "generate", "4", "18446744073709551616"].as_slice(),
+            ["qsim", generate, "4", "18446744073709551616"].as_slice(),
             "18446744073709551616",
         ),
         (
-            ["qsim", "generate", "4", "7", "--last-iteration", "1001"].as_slice(),
+            ["qsim", generate, "4", "7", last, "1001"].as_slice(),
             "1001",
         ),
         (
-            [
-                "qsim",
-                "generate",
-                "4",
-                "7",
-                "--last-iteration=1",
-                "--last-iteration=1",
-            ]
-            .as_slice(),
+            ["qsim", generate, "4", "7", last, "1", last, "1"].as_slice(),
             "'--last-iteration",
         ),
         (
-            ["qsim", "generate", "4", "7", "--workers", "2"].as_slice(),
+            ["qsim", generate, "4", "7", "--workers", "2"].as_slice(),
             "'--workers'",
         ),
     ];
     for (texts, part) in refused {
-        let Asked::Refused(text) = asked(alloc, texts)? else {
-            panic!(rt; "not refused: {texts:?}")
-        };
-        assert!(rt; text.as_str().contains(part), "{text}");
+        let is = is_refused(alloc, texts, part)?;
+        assert!(rt; is, "{texts:?}");
     }
     Ok(())
 }

@@ -1,8 +1,9 @@
 //! What the user is told where `clap` has not been asked.
+use edge_files::FILE_NAMES;
 use std::alloc::{AllocError, Global};
 
-/// How the program is used: its commands, and the files that they read and write.
-pub const USAGE: &str = "qsim simulates days of traffic of the files in the current folder.
+/// The commands.
+const COMMANDS: &str = "qsim simulates days of traffic of the files in the current folder.
 
 Usage: qsim run                     simulates the days and scores them; writes events.csv, scores.csv, plans_out.csv and a report
        qsim resume                  goes on with a run, behind the last iteration that kept.db holds; writes what run writes of the rest
@@ -11,17 +12,33 @@ Usage: qsim run                     simulates the days and scores them; writes e
        qsim generate SIZE SEED [--last-iteration N]
                                     does what run does, with a generated town of SIZE times SIZE nodes; reads no file
 
-Reads: settings.json nodes.csv links.csv plans.csv stops.csv routes.csv departures.csv signals.csv
+Reads:";
+
+/// What is kept, and where the report goes.
+const KEEPS: &str = "
 Keeps: what persons remember after each iteration of run and resume, in kept.db
 The report goes to standard output. 'qsim COMMAND --help' tells more of a command.
 ";
 
+/// How the program is used: its commands, and the files that they read and write.
+pub fn usage(alloc: Global) -> Result<String, AllocError> {
+    let mut text = String::from_str(alloc, COMMANDS)?;
+    for (_, name) in FILE_NAMES {
+        text.push_str(" ")?;
+        text.push_str(name)?;
+    }
+    text.push_str(KEEPS)?;
+    Ok(text)
+}
+
 /// A refusal of words that name no command.
 pub fn no_command(alloc: Global) -> Result<String, AllocError> {
-    format!(in alloc; "error: no command is given\n\n{USAGE}")
+    let usage = usage(alloc)?;
+    format!(in alloc; "error: no command is given\n\n{usage}")
 }
 
 /// A refusal of words whose command the program does not have.
 pub fn not_a_command(alloc: Global, word: &str) -> Result<String, AllocError> {
-    format!(in alloc; "error: '{word}' is no command\n\n{USAGE}")
+    let usage = usage(alloc)?;
+    format!(in alloc; "error: '{word}' is no command\n\n{usage}")
 }

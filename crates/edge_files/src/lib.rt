@@ -15,6 +15,7 @@ mod reasons;
 mod writing;
 
 pub use bytes::Bytes;
+pub use calls::Calls;
 pub use effects::{Effect, EffectError, EffectList, perform};
 pub use files::{FILE_COUNT, FILE_NAMES, Failed, InFile, OutFile, SCENARIO_FILES};
 pub use gate::{Gate, OpenGate};

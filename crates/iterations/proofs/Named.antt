@@ -2,7 +2,7 @@
 use Rattle.std.proofs.lemmas.Bool.{and_from}
 use Rattle.traffic.proofs.Common.{◌≡◌, ℕ, List, length, refl, [], ◌∷◌, true, subst, sym, and_parts, list_all, nat_lt, ◌&&◌, PlanRows, Act, Leg}
 use Rattle.rows.specs.declared.plan.Leg.TheVariants as leg
-use Rattle.plan_text.specs.Lines.{is_leg_in, are_in_book}
+use Rattle.plan_text.specs.Lines.{are_in_book, is_leg_in_book}
 use Rattle.plan_text.specs.Lines as lines
 use Rattle.rows.specs.Plan.{is_known}
 use Rattle.town.specs.Fits.{is_act_in, is_car_leg, is_transit_leg, leg_fits, legs_fit, fits}
@@ -12,11 +12,11 @@ use Rattle.plan_memory.specs.Memories.{MemoryRows}
 use Rattle.keep.specs.Fitting.{are_named, all_named}
 use Rattle.iterations.specs.Runs.{HasNames}
 
-acts_named : (T : TownRows) (acts : List Act) → HasNames T → list_all (is_act_in T) acts ≡ true → list_all (lines.is_act_in T.book) acts ≡ true
+acts_named : (T : TownRows) (acts : List Act) → HasNames T → list_all (is_act_in T) acts ≡ true → list_all (lines.is_act_in_book T.book) acts ≡ true
 acts_named T acts names h =
     subst (λ (n : ℕ). list_all (λ (a : Act). is_known (length T.book.kinds) n a) acts ≡ true) (sym names.links) h
 
-leg_named : (T : TownRows) (here there : ℕ) (x : Leg) → HasNames T → leg_fits T here there x ≡ true → is_leg_in T.book x ≡ true
+leg_named : (T : TownRows) (here there : ℕ) (x : Leg) → HasNames T → leg_fits T here there x ≡ true → is_leg_in_book T.book x ≡ true
 unfolding leg_fits is_car_leg
 leg_named T here there (leg.Car route) names h =
     let a = and_parts _ _ h in
@@ -28,7 +28,7 @@ leg_named T here there (leg.Transit line access egress) names h =
     let a = and_parts (is_transit_leg T line access egress) _ h in
     subst (λ (n : ℕ). (nat_lt line (length T.book.lines) && nat_lt access n && nat_lt egress n) ≡ true) (sym names.stops) a.0
 
-legs_named : (T : TownRows) (acts : List Act) (legs : List Leg) → HasNames T → legs_fit T acts legs ≡ true → list_all (is_leg_in T.book) legs ≡ true
+legs_named : (T : TownRows) (acts : List Act) (legs : List Leg) → HasNames T → legs_fit T acts legs ≡ true → list_all (is_leg_in_book T.book) legs ≡ true
 unfolding legs_fit
 legs_named T acts [] names h = refl
 legs_named T [] (x ∷ legs) names h = absurd (cc)

@@ -1,6 +1,6 @@
 -- What is answered to kept rows: their memories, or the place at which they do not fit.
-use Rattle.std.proofs.Common.{◌≡◌, ℕ, ◌+◌, ◌*◌, ◌<◌, ◌≤◌, ◌^◌, List, [], ◌∷◌, ◌++◌, length, get_or, take, drop, Option, None, Some, refl, sym, ap, ◌∙◌, subst, arith}
-use Rattle.std.specs.Prelude.{option_and_then, true, Bool, Result, Ok, Err, IfOk, MatchResult}
+use Rattle.std.proofs.Common.{◌≡◌, ℕ, ◌+◌, ◌*◌, ◌<◌, ◌≤◌, ◌^◌, List, [], ◌∷◌, ◌++◌, length, get_or, take, drop, None, Some, refl, sym, ap, ◌∙◌, arith}
+use Rattle.std.specs.Prelude.{option_and_then, true, Result, Ok, Err, IfOk, MatchResult}
 use Rattle.std.specs.List.{list_all, AllByRecursion}
 use Rattle.std.proofs.lemmas.List.Elements.{recursion_from_All}
 use Rattle.events.specs.declared.event.Book.{Book}
@@ -11,9 +11,9 @@ use Rattle.plan_text.specs.Lines.{IsBook, are_plan, are_in_book, is_plan_in}
 use Rattle.plan_text.proofs.Joins.{both, and_true}
 use Rattle.plan_memory.specs.Memories.{MemoryRows}
 use Rattle.town.specs.Rows.{TownRows}
-use Rattle.keep.specs.declared.reading.KeptStop.{KeptStop}
-use Rattle.keep.specs.declared.reading.KeptStop.TheVariants as stop
-use Rattle.keep.specs.Fitting.{are_named, all_named, IsMemoryIn, AreRowsOf, Begin, IsForeignAt, IsRead}
+use Rattle.keep.specs.declared.reading.KeptError.{KeptError}
+use Rattle.keep.specs.declared.reading.KeptError.TheVariants as stop
+use Rattle.keep.specs.Fitting.{are_named, all_named, IsKeptMemory, AreRowsOf, Begin, IsForeignAt, IsRead}
 use Rattle.keep.specs.Reading.{Progress, start, step, run, ended}
 use Rattle.keep.proofs.Tests.{none_some, same_some, some_then}
 use Rattle.keep.proofs.Told.{tells_all, ended_rows, few_rows}
@@ -107,13 +107,13 @@ module _ (T : TownRows) (are : IsBook T.book) (rows : List KeptRow) where
 
 -- ---- what follows from what is read
 
-pub again_of : (T : TownRows) (rows : List KeptRow) (result : Result (List MemoryRows) KeptStop) → IsRead T rows result
+pub again_of : (T : TownRows) (rows : List KeptRow) (result : Result (List MemoryRows) KeptError) → IsRead T rows result
     → (memories : List MemoryRows) → AreRowsOf T rows memories → MatchResult result (λ read. read ≡ memories) (λ why. why ≡ stop.NoMemory)
 again_of T rows (Ok read) is memories h = sym (is.1 memories h)
 again_of T rows (Err (stop.Foreign place)) is memories h = absurd (is.unfit memories h)
 again_of T rows (Err stop.NoMemory) is memories h = refl
 
-pub count_of : (T : TownRows) (rows : List KeptRow) (result : Result (List MemoryRows) KeptStop) → IsRead T rows result
+pub count_of : (T : TownRows) (rows : List KeptRow) (result : Result (List MemoryRows) KeptError) → IsRead T rows result
     → IfOk result (λ memories. length memories ≡ length T.book.persons)
 count_of T rows (Ok read) is = is.0.fit.count
 count_of T rows (Err why) is = tt
@@ -126,12 +126,12 @@ plans_named book (p ∷ ps) h =
     let here = both (are_plan p.acts p.legs) (are_in_book book p.acts p.legs) parts.0 in
     and_true (are_in_book book p.acts p.legs) (list_all (λ (p : PlanRows). are_in_book book p.acts p.legs) ps) here.1 (plans_named book ps parts.1)
 
-memories_named : (T : TownRows) (memories : List MemoryRows) → AllByRecursion (IsMemoryIn T) memories → all_named T.book memories ≡ true
+memories_named : (T : TownRows) (memories : List MemoryRows) → AllByRecursion (IsKeptMemory T) memories → all_named T.book memories ≡ true
 memories_named T [] each = refl
 memories_named T (m ∷ ms) each =
     and_true (are_named T.book m) (all_named T.book ms) (plans_named T.book m.plans each.0.memory.plans) (memories_named T ms each.1)
 
-pub named_of : (T : TownRows) (rows : List KeptRow) (result : Result (List MemoryRows) KeptStop) → IsRead T rows result
+pub named_of : (T : TownRows) (rows : List KeptRow) (result : Result (List MemoryRows) KeptError) → IsRead T rows result
     → IfOk result (λ memories. all_named T.book memories ≡ true)
-named_of T rows (Ok read) is = memories_named T read (recursion_from_All (IsMemoryIn T) read is.0.fit.each)
+named_of T rows (Ok read) is = memories_named T read (recursion_from_All (IsKeptMemory T) read is.0.fit.each)
 named_of T rows (Err why) is = tt

@@ -1,22 +1,21 @@
 -- What is read so far can be completed: more rows may come with which all fit the town.
-use Rattle.std.proofs.Common.{◌≡◌, ℕ, ◌+◌, ◌-◌, ◌<◌, ◌≤◌, Bool, true, false, ◌&&◌, List, [], ◌∷◌, ◌++◌, length, Option, None, Some, refl, sym, ap, ◌∙◌, subst, arith, append_assoc, append-nil, length-append}
-use Rattle.std.specs.Prelude.{ℤ, nat_eq, is_none, replicate}
+use Rattle.std.proofs.Common.{◌≡◌, ℕ, ◌+◌, ◌-◌, ◌<◌, ◌≤◌, Bool, true, false, ◌&&◌, List, [], ◌∷◌, ◌++◌, length, Option, None, Some, refl, sym, ap, ◌∙◌, arith, append_assoc, append-nil, length-append}
+use Rattle.std.specs.Prelude.{ℤ, nat_eq, replicate}
 use Rattle.std.specs.List.{list_all, AllByRecursion}
 use Rattle.std.proofs.lemmas.List.{length-replicate}
 use Rattle.std.proofs.lemmas.List.Folds.{list_all-append}
-use Rattle.std.proofs.lemmas.List.Elements.{All-from_recursion, recursion_from_All, All-append, All-replicate, All-cons}
+use Rattle.std.proofs.lemmas.List.Elements.{All-from_recursion, All-append, All-replicate, All-cons}
 use Rattle.rows.specs.PlanRows.{PlanRows}
 use Rattle.edge_files.specs.declared.keeping.KeptRow.{KeptRow}
 use Rattle.plan_text.proofs.Joins.{both, and_true}
-use Rattle.plan_memory.specs.declared.TheConstants.{MAX_HELD}
 use Rattle.plan_memory.specs.Memories.{MemoryRows}
 use Rattle.town.specs.Rows.{TownRows}
 use Rattle.keep.specs.Kept.{row_of, is_choice, rows_from, own_rows, persons_rows, kept_rows}
-use Rattle.keep.specs.Fitting.{IsMemoryIn, AreMemories, AreRowsOf, Begin}
-use Rattle.keep.specs.Reading.{Progress, is_fitting, lacks_choice}
-use Rattle.keep.proofs.Tests.{eq_true, less_ne, ne_says}
+use Rattle.keep.specs.Fitting.{IsKeptMemory, Begin}
+use Rattle.keep.specs.Reading.{Progress, is_fitting}
+use Rattle.keep.proofs.Tests.{eq_true, less_ne}
 use Rattle.keep.proofs.RowLists.{rows_from-push, rows_from-choice, persons_rows-append}
-use Rattle.keep.proofs.Told.{IsFit, each_weaker, memory_fits, begun_rows, Says}
+use Rattle.keep.proofs.Told.{IsFit, each_weaker, memory_fits, Says}
 
 module _ (T : TownRows) where
   -- a person who remembers one plan, which he has not tried
@@ -37,7 +36,7 @@ module _ (T : TownRows) where
       let more : List KeptRow = persons_rows T.book (length done + 1) others in
       let front : List KeptRow = persons_rows T.book 0 done in
       let own : List KeptRow = own_rows T.book (length done) m in
-      let P : MemoryRows → Type 0 = IsMemoryIn T in
+      let P : MemoryRows → Type 0 = IsKeptMemory T in
       let all = All-append P done (m ∷ others) (All-from_recursion P done (each_weaker (IsFit T) P (memory_fits T) done each))
       (All-cons P m others (memory_fits T m fit) (All-replicate P missing (of_one p) (memory_fits T (of_one p) (one_fits p some)))) in
       record {

@@ -1,5 +1,5 @@
 -- What is read so far tells of the rows that were read: they are those of the memories that are done, and of the plans that are begun.
-use Rattle.std.proofs.Common.{◌≡◌, ◌⊎◌, ℕ, zero, ◌+◌, ◌*◌, ◌<◌, ◌≤◌, Bool, true, false, cond, not, ◌&&◌, List, [], ◌∷◌, ◌++◌, length, Option, None, Some, refl, sym, ap, ◌∙◌, subst, inl, inr, arith, append_assoc, append-nil, length-append}
+use Rattle.std.proofs.Common.{◌≡◌, ◌⊎◌, ℕ, ◌+◌, ◌*◌, ◌<◌, ◌≤◌, Bool, true, false, cond, not, ◌&&◌, List, [], ◌∷◌, ◌++◌, length, Option, None, Some, refl, sym, ap, ◌∙◌, subst, inl, inr, arith, append_assoc, append-nil, length-append}
 use Rattle.std.specs.Prelude.{ℤ, nat_eq, nat_lt, bytes_eq, is_some, option_and_then}
 use Rattle.std.specs.List.{list_all, AllByRecursion}
 use Rattle.std.proofs.lemmas.List.Folds.{list_all-append}
@@ -15,8 +15,8 @@ use Rattle.plan_memory.specs.Memories.{MemoryRows}
 use Rattle.town.specs.Rows.{TownRows}
 use Rattle.town.specs.Fits.{fits}
 use Rattle.keep.specs.Kept.{row_of, is_choice, rows_from, own_rows, persons_rows, kept_rows}
-use Rattle.keep.specs.Fitting.{IsReadable, IsMemoryIn, AreMemories, AreRowsOf}
-use Rattle.keep.specs.Reading.{BegunRows, Progress, nothing, start, is_fitting, plan_in, closed_by, closed, is_of, is_numbered, is_next, choice_with, begun_with, lacks_choice, grown, extended, step, run, if_all, ended}
+use Rattle.keep.specs.Fitting.{IsKeptMemory, AreRowsOf}
+use Rattle.keep.specs.Reading.{Progress, nothing, start, is_fitting, plan_in, closed_by, closed, is_of, is_numbered, is_next, choice_with, begun_with, lacks_choice, grown, extended, step, run, if_all, ended}
 use Rattle.keep.proofs.Tests.{eq_says, eq_true, ne_says, less_ne, more_ne, lt_says, none_some, same_some, some_if, some_unless, some_either, some_then}
 use Rattle.keep.proofs.RowLists.{rows_from-push, rows_from-choice, rows_from-none, rows_from-few, persons_rows-push, persons_rows-few}
 use Rattle.keep.proofs.PlanTexts.{plan_taken}
@@ -54,12 +54,12 @@ one_test T (p ∷ ps) named fit =
     let f = both (fits T p) (list_all (fits T) ps) fit in
     and_true (is_fitting T p) (list_all (is_fitting T) ps) (and_true (is_plan_in T.book p) (fits T p) n.0 f.0) (one_test T ps n.1 f.1)
 
-pub memory_fits : (T : TownRows) (m : MemoryRows) → IsFit T m → IsMemoryIn T m
+pub memory_fits : (T : TownRows) (m : MemoryRows) → IsFit T m → IsKeptMemory T m
 memory_fits T m f =
     let tests = two_tests T m.plans f.plans in
     record { memory = record { few = f.few; each = f.each; chosen = f.chosen; plans = tests.0 }; fit = tests.1 }
 
-pub fits_memory : (T : TownRows) (m : MemoryRows) → IsMemoryIn T m → IsFit T m
+pub fits_memory : (T : TownRows) (m : MemoryRows) → IsKeptMemory T m → IsFit T m
 fits_memory T m is = record {
   few = is.memory.few;
   each = is.memory.each;
@@ -304,7 +304,7 @@ ended_rows T rows s memories says e =
     let done : AreRowsOf T rows t.done = record {
       fit = record {
         count = eq_says (length t.done) (length T.book.persons) all.0;
-        each = All-from_recursion (IsMemoryIn T) t.done (each_weaker (IsFit T) (IsMemoryIn T) (memory_fits T) t.done said.0.each_done);
+        each = All-from_recursion (IsKeptMemory T) t.done (each_weaker (IsFit T) (IsKeptMemory T) (memory_fits T) t.done said.0.each_done);
       };
       are = said.0.are ∙ ap (λ (l : List KeptRow). persons_rows T.book 0 t.done ++ l) none ∙ append-nil (persons_rows T.book 0 t.done);
     } in

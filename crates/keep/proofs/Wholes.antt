@@ -1,5 +1,5 @@
 -- The kept rows of memories that fit a town are read to their end, as these memories.
-use Rattle.std.proofs.Common.{◌≡◌, ◌⊎◌, ℕ, zero, ◌+◌, ◌<◌, ◌≤◌, ◌^◌, Bool, true, false, cond, not, ◌&&◌, List, [], ◌∷◌, ◌++◌, length, Option, None, Some, refl, sym, ap, ◌∙◌, subst, inl, inr, arith, append_assoc, append-nil, length-append}
+use Rattle.std.proofs.Common.{◌≡◌, ◌⊎◌, ℕ, zero, ◌+◌, ◌<◌, ◌≤◌, ◌^◌, Bool, true, false, cond, not, ◌&&◌, List, [], ◌∷◌, ◌++◌, length, Option, None, Some, refl, sym, ap, ◌∙◌, arith, append_assoc, append-nil, length-append}
 use Rattle.std.specs.Prelude.{ℤ, nat_eq, nat_lt, bytes_eq, is_some, is_none, option_and_then}
 use Rattle.std.specs.List.{list_all, AllByRecursion}
 use Rattle.std.proofs.lemmas.Slice.Eq.{bytes_eq-Decides}
@@ -13,8 +13,8 @@ use Rattle.plan_memory.specs.declared.TheConstants.{MAX_HELD}
 use Rattle.plan_memory.specs.Memories.{MemoryRows}
 use Rattle.town.specs.Rows.{TownRows}
 use Rattle.keep.specs.Kept.{row_of, is_choice, rows_from, own_rows, persons_rows, kept_rows}
-use Rattle.keep.specs.Fitting.{IsMemoryIn, AreMemories, AreRowsOf}
-use Rattle.keep.specs.Reading.{BegunRows, Progress, nothing, start, is_fitting, plan_in, closed_by, closed, is_of, is_numbered, is_next, choice_with, begun_with, lacks_choice, grown, extended, step, run, if_all, ended}
+use Rattle.keep.specs.Fitting.{IsKeptMemory, AreRowsOf}
+use Rattle.keep.specs.Reading.{Progress, nothing, start, is_fitting, plan_in, closed_by, closed, is_of, is_next, grown, extended, step, run, if_all, ended}
 use Rattle.keep.proofs.Tests.{eq_says, eq_true, ne_says, less_ne, more_ne, lt_says, lt_true, ge_says, ge_false, and_false}
 use Rattle.keep.proofs.PlanTexts.{plan_back}
 use Rattle.keep.proofs.Told.{IsFit, each_weaker, fits_memory}
@@ -231,7 +231,7 @@ module _ (T : TownRows) (are : IsBook T.book) where
   pub whole_run : (rows : List KeptRow) (memories : List MemoryRows) → AreRowsOf T rows memories → Whole rows memories
   unfolding kept_rows ended
   whole_run rows memories h =
-      let fit = each_weaker (IsMemoryIn T) (IsFit T) (fits_memory T) memories (recursion_from_All (IsMemoryIn T) memories h.fit.each) in
+      let fit = each_weaker (IsKeptMemory T) (IsFit T) (fits_memory T) memories (recursion_from_All (IsKeptMemory T) memories h.fit.each) in
       let done = all_run memories start [] start_closed (omega (arith, h.fit.count)) fit in
       let count : nat_eq (length memories) (length T.book.persons) ≡ true = eq_true (length memories) (length T.book.persons) h.fit.count in
       record {

@@ -9,8 +9,8 @@ use Rattle.plan_memory.specs.declared.TheConstants.{MAX_HELD}
 use Rattle.plan_memory.specs.Memories.{MemoryRows}
 use Rattle.town.specs.Rows.{TownRows}
 use Rattle.town.specs.Fits.{fits}
-use Rattle.keep.specs.declared.reading.KeptStop.{KeptStop}
-use Rattle.keep.specs.declared.reading.KeptStop.TheVariants as stop
+use Rattle.keep.specs.declared.reading.KeptError.{KeptError}
+use Rattle.keep.specs.declared.reading.KeptError.TheVariants as stop
 use Rattle.keep.specs.Kept.{kept_rows}
 
 -- every number of each plan of a memory, and of all memories, has a name in the book
@@ -28,14 +28,14 @@ pub record IsReadable (book : Book) (m : MemoryRows) : Type 0 where
   pub plans : list_all (is_plan_in book) m.plans ≡ true
 
 -- a memory that a person of a town may have: each of its plans fits the town
-pub record IsMemoryIn (T : TownRows) (m : MemoryRows) : Type 0 where
+pub record IsKeptMemory (T : TownRows) (m : MemoryRows) : Type 0 where
   pub memory : IsReadable T.book m
   pub fit : list_all (fits T) m.plans ≡ true
 
 -- such a memory of each person of the town, by number
 pub record AreMemories (T : TownRows) (memories : List MemoryRows) : Type 0 where
   pub count : length memories ≡ length T.book.persons
-  pub each : All (IsMemoryIn T) memories
+  pub each : All (IsKeptMemory T) memories
 
 -- rows that fit the town: those of memories of its persons
 pub record AreRowsOf (T : TownRows) (rows : List KeptRow) (memories : List MemoryRows) : Type 0 where
@@ -57,7 +57,7 @@ pub record IsForeignAt (T : TownRows) (rows : List KeptRow) (place : ℕ) : Type
   pub unfit : (memories : List MemoryRows) → AreRowsOf T rows memories → ⊥
 
 -- What is read of rows: the one list of memories whose rows they are, or the place at which they do not fit. Want of memory says nothing.
-abbrev pub IsRead : TownRows → List KeptRow → Result (List MemoryRows) KeptStop → Type 0
+abbrev pub IsRead : TownRows → List KeptRow → Result (List MemoryRows) KeptError → Type 0
 IsRead T rows (Ok memories) = AreRowsOf T rows memories × ((others : List MemoryRows) → AreRowsOf T rows others → others ≡ memories)
 IsRead T rows (Err (stop.Foreign place)) = IsForeignAt T rows place
 IsRead T rows (Err stop.NoMemory) = Unit {0}

@@ -8,5 +8,5 @@ use Rattle.keep.specs.InMemory.{KeeperHeld}
 abbrev pub keeper_held : Inside → KeeperHeld
 keeper_held k = record {
   kept = option_map (λ (c : Checkpoint). kept_of c.iteration c.rows.items) k.kept;
-  calls = record { failing = k.failing.items; made = k.made; faults = k.faults };
+  calls = k.calls;
 }

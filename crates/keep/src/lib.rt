@@ -14,5 +14,4 @@ mod steps;
 pub use keeping::rows_of;
 pub use laws::{rows_fit_or_are_foreign, worked_rows};
 pub use memory_keeper::MemoryKeeper;
-pub use reading::{KeptStop, memories_of};
-pub use steps::know_names;
+pub use reading::{KeptError, memories_of};

@@ -6,7 +6,7 @@ ghost use Rattle.edge_files.specs.InMemory.{no_calls, next_fails, passed_call};
 ghost use Rattle.edge_files.specs.Keeping.{kept_of, rows_of};
 ghost use Rattle.keep.specs.InMemory.{after_call};
 
-use edge_files::{Bytes, KeepFail, Keeper, KeptRow};
+use edge_files::{Bytes, Calls, KeepFail, Keeper, KeptRow};
 use std::alloc::{AllocError, Global};
 use std::marker::Model;
 
@@ -57,9 +57,7 @@ fn checkpoint_of(alloc: Global, iteration: u32, rows: &[KeptRow]) -> Result<Chec
 #[derive(Drop)]
 pub struct MemoryKeeper {
     kept: Option<Checkpoint>,
-    failing: Vec<u64>,
-    made: u64,
-    faults: u64,
+    calls: Calls,
     alloc: Global,
 }
 
@@ -79,9 +77,7 @@ impl MemoryKeeper {
     {
         MemoryKeeper {
             kept: None,
-            failing: Vec::new(alloc),
-            made: 0,
-            faults: 0,
+            calls: Calls::new(alloc),
             alloc,
         }
     }
@@ -94,10 +90,7 @@ impl MemoryKeeper {
         }) }
         ensures err { OnErr result (self.new ≡ self.old) }
     {
-        match self.failing.push(call) {
-            Ok(()) => Ok(()),
-            Err(_) => Err(AllocError),
-        }
+        self.calls.fail_at(call)
     }
 
     /// Counts one more call, and tells whether it is to fail.
@@ -105,13 +98,7 @@ impl MemoryKeeper {
         ensures fails { result ≡ next_fails self.old.calls }
         ensures counted { self.new ≡ after_call self.old }
     {
-        self.made = self.made.saturating_add(1);
-        let made = self.made;
-        if self.failing.contains(&made) {
-            self.faults = self.faults.saturating_add(1);
-            return true;
-        }
-        false
+        self.calls.next()
     }
 
     /// Puts the kept rows behind those of a list.

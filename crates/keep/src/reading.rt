@@ -3,10 +3,10 @@
 ghost use Rattle.std.specs.Prelude.{◌≡◌, ◌<◌, ◌^◌, List, length, true, IfOk, MatchResult};
 ghost use Rattle.plan_memory.specs.Memories.{MemoryRows};
 ghost use Rattle.town.specs.Views.{rows_of};
-ghost use Rattle.keep.specs.declared.reading.KeptStop.TheVariants.{NoMemory};
+ghost use Rattle.keep.specs.declared.reading.KeptError.TheVariants.{NoMemory};
 ghost use Rattle.keep.specs.Fitting.{all_named, AreRowsOf, IsRead};
 
-use crate::steps::{ended, know_names, next_reading, start};
+use crate::steps::{ended, next_reading, start};
 use edge_files::KeptRow;
 use plan_memory::MemoryList;
 use std::alloc::{AllocError, Global};
@@ -15,7 +15,7 @@ use town::Town;
 
 /// Why kept rows were not read.
 #[derive(Clone, Copy, Debug, PartialEq, Eq, Error)]
-pub enum KeptStop {
+pub enum KeptError {
     /// They are not of the persons and the plans of this town. The place is that of the first row with which it shows, counted from 0, or
     /// their number where rows are missing.
     #[error("the kept plans are not of this scenario, as row {row} shows")]
@@ -24,11 +24,11 @@ pub enum KeptStop {
     NoMemory,
 }
 
-impl From<AllocError> for KeptStop {
-    ghost from_gives = { λ _ stop. stop ≡ NoMemory };
+impl From<AllocError> for KeptError {
+    ghost from_gives = { λ _ error. error ≡ NoMemory };
 
-    fn from(_error: AllocError) -> KeptStop {
-        KeptStop::NoMemory
+    fn from(_error: AllocError) -> KeptError {
+        KeptError::NoMemory
     }
 }
 
@@ -41,19 +41,19 @@ fn number(place: usize) -> u32
 }
 
 /// The memories of rows, or why there are none.
-fn read_rows(alloc: Global, rows: &[KeptRow], town: &Town) -> Result<MemoryList, KeptStop>
+fn read_rows(alloc: Global, rows: &[KeptRow], town: &Town) -> Result<MemoryList, KeptError>
     ensures { IsRead (rows_of town.now) rows.now result }
 {
     know_names(&town.book);
     let mut reading = start(alloc);
     for place in 0..rows.len() {
         let Some(next) = next_reading(alloc, town, reading, &rows[place])? else {
-            return Err(KeptStop::Foreign { row: number(place) });
+            return Err(KeptError::Foreign { row: number(place) });
         };
         reading = next;
     }
     let Some(memories) = ended(alloc, town, reading)? else {
-        return Err(KeptStop::Foreign {
+        return Err(KeptError::Foreign {
             row: number(rows.len()),
         });
     };
@@ -62,12 +62,12 @@ fn read_rows(alloc: Global, rows: &[KeptRow], town: &Town) -> Result<MemoryList,
 
 /// The memories of which these are the kept rows: each person of the town in turn has 1 to 6 rows, numbered from 0, of which one is the
 /// chosen one, and the lines of each are those of a plan that fits the town.
-pub fn memories_of(alloc: Global, rows: &[KeptRow], town: &Town) -> Result<MemoryList, KeptStop>
+pub fn memories_of(alloc: Global, rows: &[KeptRow], town: &Town) -> Result<MemoryList, KeptError>
     ensures read { IsRead (rows_of town.now) rows.now result }
 
     // What was kept of memories that fit the town is read back as these memories.
     ensures again { (memories : List MemoryRows) → AreRowsOf (rows_of town.now) rows.now memories →
-        MatchResult result (λ read. read ≡ memories) (λ stop. stop ≡ NoMemory) }
+        MatchResult result (λ read. read ≡ memories) (λ error. error ≡ NoMemory) }
 
     // They can be kept again.
     ensures persons { IfOk result (λ memories. length memories ≡ length town.now.book.persons) }

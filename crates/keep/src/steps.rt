@@ -1,10 +1,8 @@
 //! One more kept row.
 
-ghost use Rattle.std.specs.Prelude.{◌≡◌, ◌<◌, ◌∷◌, ◌++◌, ◌&&◌, [], length, not, nat_eq, nat_lt, bytes_eq};
-ghost use Rattle.std.specs.Prelude.{option_map, is_some, true, IfOk, IsTrue};
-ghost use Rattle.events.specs.Names.{name_at};
+ghost use Rattle.std.specs.Prelude.{◌≡◌, ◌<◌, ◌∷◌, ◌++◌, ◌&&◌, [], length};
+ghost use Rattle.std.specs.Prelude.{option_map, is_some, IfOk, IsTrue};
 ghost use Rattle.rows.specs.PlanRows.{plan_rows};
-ghost use Rattle.plan_text.specs.Lines.{IsBook};
 ghost use Rattle.plan_memory.specs.declared.TheConstants.{MAX_HELD};
 ghost use Rattle.town.specs.Views.{rows_of};
 ghost use Rattle.keep.specs.Reading.{nothing, start, begun_of, progress_of, plan_in, closed, is_of, is_numbered, is_next};
@@ -14,7 +12,7 @@ use crate::progress::{Begun, Reading};
 use edge_files::{Bytes, KeptRow};
 use events::{Book, Names, Rows};
 use plan_memory::{MAX_HELD, Memory, MemoryList};
-use plan_text::read_body;
+use plan_text::{know_names, read_body};
 use records::is_text;
 use rows::Plan;
 use std::alloc::{AllocError, Global};
@@ -51,17 +49,6 @@ fn bytes_of(bytes: &Bytes) -> &[u8]
     ensures { result.now ≡ bytes.now }
 {
     &bytes.rows
-}
-
-/// The book's lists are lists of names.
-pub fn know_names(book: &Book)
-    ensures { IsBook book.now }
-{
-    let _ = book.persons.len();
-    let _ = book.kinds.len();
-    let _ = book.links.len();
-    let _ = book.stops.len();
-    let _ = book.lines.len();
 }
 
 /// The plan whose lines a row has, where it fits the town.

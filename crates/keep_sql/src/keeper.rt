@@ -64,16 +64,16 @@ impl fmt::Display for Fault {
 
 /// Why a call was refused.
 #[derive(Clone, Copy)]
-enum Stop {
+enum CallError {
     Fault(Fault),
     NoMemory,
 }
 
 /// Want of memory apart from all other causes.
-fn stop_of(error: Error) -> Stop {
+fn call_error_of(error: Error) -> CallError {
     match error {
-        Error::SqliteFailure(ErrorCode::OutOfMemory) => Stop::NoMemory,
-        _ => Stop::Fault(Fault::Refused(error)),
+        Error::SqliteFailure(ErrorCode::OutOfMemory) => CallError::NoMemory,
+        _ => CallError::Fault(Fault::Refused(error)),
     }
 }
 
@@ -83,7 +83,7 @@ fn save_rows<S: Tells>(
     connection: &mut Connection<S>,
     iteration: u32,
     rows: &[KeptRow],
-) -> Result<(), Stop>
+) -> Result<(), CallError>
     ensures ok { OnOk result (Becomes (told S.Tells.tells (state S.Store connection.old))
         (told S.Tells.tells (state S.Store connection.new)) (Some (kept_of iteration rows.now))) }
     ensures err { OnErr result (StaysIfTold (told S.Tells.tells (state S.Store connection.old))
@@ -92,20 +92,20 @@ fn save_rows<S: Tells>(
 {
     let _schema = connection.schema();
     if !connection.is_autocommit() {
-        return Err(Stop::Fault(Fault::InTransaction));
+        return Err(CallError::Fault(Fault::InTransaction));
     }
     let bytes = match pack(alloc, rows) {
         Ok(bytes) => bytes,
-        Err(AllocError) => return Err(Stop::NoMemory),
+        Err(AllocError) => return Err(CallError::NoMemory),
     };
     match save_in(connection, iteration, &bytes) {
         Ok(()) => Ok(()),
-        Err(error) => Err(stop_of(error)),
+        Err(error) => Err(call_error_of(error)),
     }
 }
 
 /// The iteration and the body that are kept, if there are any.
-fn kept_at<S: Tells>(connection: &mut Connection<S>) -> Result<Option<(u32, Vec<u8>)>, Stop>
+fn kept_at<S: Tells>(connection: &mut Connection<S>) -> Result<Option<(u32, Vec<u8>)>, CallError>
     ensures last { IfOk result
         (λ found. IsTold (told S.Tells.tells (state S.Store connection.old)) (option_map (λ it. it.0) found)) }
     ensures loads { IfOk result (λ found. (before after : List KeptRow) → (found ≡ None → after ≡ before)
@@ -117,11 +117,11 @@ fn kept_at<S: Tells>(connection: &mut Connection<S>) -> Result<Option<(u32, Vec<
         (told S.Tells.tells (state S.Store connection.new))) }
 {
     if !connection.is_autocommit() {
-        return Err(Stop::Fault(Fault::InTransaction));
+        return Err(CallError::Fault(Fault::InTransaction));
     }
     match kept_in(connection) {
         Ok(found) => Ok(found),
-        Err(error) => Err(stop_of(error)),
+        Err(error) => Err(call_error_of(error)),
     }
 }
 
@@ -130,7 +130,7 @@ fn load_rows<S: Tells>(
     alloc: Global,
     connection: &mut Connection<S>,
     rows: &mut Vec<KeptRow>,
-) -> Result<(), Stop>
+) -> Result<(), CallError>
     ensures loads { OnOk result (Loads (told S.Tells.tells (state S.Store connection.old)) rows.old.items rows.new.items) }
     ensures ok { OnOk result (Stays (told S.Tells.tells (state S.Store connection.old))
         (told S.Tells.tells (state S.Store connection.new))) }
@@ -140,16 +140,16 @@ fn load_rows<S: Tells>(
     let (_, body) = match kept_at(connection) {
         Ok(None) => return Ok(()),
         Ok(Some(found)) => found,
-        Err(stop) => return Err(stop),
+        Err(error) => return Err(error),
     };
     let mut found = match unpack(alloc, &body) {
         Ok(Some(found)) => found,
-        Ok(None) => return Err(Stop::Fault(Fault::NoPacking)),
-        Err(AllocError) => return Err(Stop::NoMemory),
+        Ok(None) => return Err(CallError::Fault(Fault::NoPacking)),
+        Err(AllocError) => return Err(CallError::NoMemory),
     };
     match rows.append(&mut found) {
         Ok(()) => Ok(()),
-        Err(AllocError) => Err(Stop::NoMemory),
+        Err(AllocError) => Err(CallError::NoMemory),
     }
 }
 
@@ -196,14 +196,14 @@ impl<S: Tells> SqlKeeper<S> {
     }
 
     /// Counts a call that failed, and keeps why.
-    fn fail(&mut self, stop: Stop) -> KeepFail
+    fn fail(&mut self, error: CallError) -> KeepFail
         ensures connection { self.new.connection ≡ self.old.connection }
         ensures later { self.old.faults ≤ self.new.faults }
         ensures rose { result ≡ KeepFail.Failed → Rose self.old.faults self.new.faults }
     {
-        match stop {
-            Stop::NoMemory => KeepFail::NoMemory,
-            Stop::Fault(fault) => {
+        match error {
+            CallError::NoMemory => KeepFail::NoMemory,
+            CallError::Fault(fault) => {
                 self.faults = self.faults.saturating_add(1);
                 self.fault = Some(fault);
                 KeepFail::Failed
@@ -230,7 +230,7 @@ impl<S: Tells> Keeper for SqlKeeper<S> {
     {
         match save_rows(self.alloc, &mut self.connection, iteration, rows) {
             Ok(()) => Ok(()),
-            Err(stop) => Err(self.fail(stop)),
+            Err(error) => Err(self.fail(error)),
         }
     }
 
@@ -238,14 +238,14 @@ impl<S: Tells> Keeper for SqlKeeper<S> {
         match kept_at(&mut self.connection) {
             Ok(None) => Ok(None),
             Ok(Some((iteration, _))) => Ok(Some(iteration)),
-            Err(stop) => Err(self.fail(stop)),
+            Err(error) => Err(self.fail(error)),
         }
     }
 
     fn load(&mut self, rows: &mut Vec<KeptRow>) -> Result<(), KeepFail> {
         match load_rows(self.alloc, &mut self.connection, rows) {
             Ok(()) => Ok(()),
-            Err(stop) => Err(self.fail(stop)),
+            Err(error) => Err(self.fail(error)),
         }
     }
 }

@@ -9,31 +9,31 @@ ghost use Rattle.std.specs.Prelude.{FitsSigned};
 ghost use Rattle.std.specs.Int.{w32, w64};
 ghost use Rattle.keep_sql.specs.Packing.{Gives, counted, flag as flag_packing, scored, row_packing, packing, IsRow, AreRows};
 ghost use Rattle.keep_sql.specs.Packing.{number_at, counted_at, flag_at, scored_at, row_at, rows_in};
-ghost use Rattle.keep_sql.specs.declared.packing.UnpackStop.TheVariants.{NoMemory};
+ghost use Rattle.keep_sql.specs.declared.packing.UnpackError.TheVariants.{NoMemory};
 
 use edge_files::{Bytes, KeptRow};
 use std::alloc::{AllocError, AllocFailed, Global};
 
 /// Why bytes were not read.
 #[derive(Debug, Drop)]
-enum UnpackStop {
+enum UnpackError {
     NoMemory,
     NoPacking,
 }
 
-impl From<AllocError> for UnpackStop {
+impl From<AllocError> for UnpackError {
     ghost from_gives = { λ _ e. e ≡ NoMemory };
 
-    fn from(_e: AllocError) -> UnpackStop {
-        UnpackStop::NoMemory
+    fn from(_e: AllocError) -> UnpackError {
+        UnpackError::NoMemory
     }
 }
 
-impl<T: Drop> From<AllocFailed<T>> for UnpackStop {
+impl<T: Drop> From<AllocFailed<T>> for UnpackError {
     ghost from_gives = { λ _ e. e ≡ NoMemory };
 
-    fn from(_e: AllocFailed<T>) -> UnpackStop {
-        UnpackStop::NoMemory
+    fn from(_e: AllocFailed<T>) -> UnpackError {
+        UnpackError::NoMemory
     }
 }
 
@@ -138,11 +138,11 @@ pub fn pack(alloc: Global, rows: &[KeptRow]) -> Result<Vec<u8>, AllocError>
 }
 
 /// The number of 32 bits in front, and the bytes behind it.
-fn u32_at(bytes: &[u8]) -> Result<(u32, &[u8]), UnpackStop>
+fn u32_at(bytes: &[u8]) -> Result<(u32, &[u8]), UnpackError>
     ensures { Gives (λ x. (x.0, x.1.now)) result (number_at w32 bytes.now) }
 {
     if bytes.len() < 4 {
-        return Err(UnpackStop::NoPacking);
+        return Err(UnpackError::NoPacking);
     }
     let (front, rest) = bytes.split_at(4);
     let number = u32::from_le_bytes([front[0], front[1], front[2], front[3]]);
@@ -150,11 +150,11 @@ fn u32_at(bytes: &[u8]) -> Result<(u32, &[u8]), UnpackStop>
 }
 
 /// The number of 64 bits in front, and the bytes behind it.
-fn u64_at(bytes: &[u8]) -> Result<(u64, &[u8]), UnpackStop>
+fn u64_at(bytes: &[u8]) -> Result<(u64, &[u8]), UnpackError>
     ensures { Gives (λ x. (x.0, x.1.now)) result (number_at w64 bytes.now) }
 {
     if bytes.len() < 8 {
-        return Err(UnpackStop::NoPacking);
+        return Err(UnpackError::NoPacking);
     }
     let (front, rest) = bytes.split_at(8);
     let number = u64::from_le_bytes([
@@ -165,13 +165,13 @@ fn u64_at(bytes: &[u8]) -> Result<(u64, &[u8]), UnpackStop>
 
 /// The bytes in front behind their number, and those behind them.
 #[tactic(auto, unfolding(crate::specs::Packing::counted_at))]
-fn counted_at(alloc: Global, bytes: &[u8]) -> Result<(Vec<u8>, &[u8]), UnpackStop>
+fn counted_at(alloc: Global, bytes: &[u8]) -> Result<(Vec<u8>, &[u8]), UnpackError>
     ensures { Gives (λ x. (x.0.items, x.1.now)) result (counted_at bytes.now) }
 {
     let (len, rest) = u64_at(bytes)?;
     let len = len as usize;
     if rest.len() < len {
-        return Err(UnpackStop::NoPacking);
+        return Err(UnpackError::NoPacking);
     }
     let (text, rest) = rest.split_at(len);
     Ok((Vec::from_slice(alloc, text)?, rest))
@@ -179,35 +179,35 @@ fn counted_at(alloc: Global, bytes: &[u8]) -> Result<(Vec<u8>, &[u8]), UnpackSto
 
 /// The truth value in front, and the bytes behind it.
 #[tactic(auto, unfolding(crate::specs::Packing::flag_at))]
-fn flag_at(bytes: &[u8]) -> Result<(bool, &[u8]), UnpackStop>
+fn flag_at(bytes: &[u8]) -> Result<(bool, &[u8]), UnpackError>
     ensures { Gives (λ x. (x.0, x.1.now)) result (flag_at bytes.now) }
 {
     match bytes {
         [0, rest @ ..] => Ok((false, rest)),
         [1, rest @ ..] => Ok((true, rest)),
-        _ => Err(UnpackStop::NoPacking),
+        _ => Err(UnpackError::NoPacking),
     }
 }
 
 /// The score in front, or that there is none, and the bytes behind it.
 #[tactic(auto, unfolding(crate::specs::Packing::scored_at))]
-fn scored_at(bytes: &[u8]) -> Result<(Option<i64>, &[u8]), UnpackStop>
+fn scored_at(bytes: &[u8]) -> Result<(Option<i64>, &[u8]), UnpackError>
     ensures { Gives (λ x. (x.0, x.1.now)) result (scored_at bytes.now) }
 {
     match bytes {
-        [] => Err(UnpackStop::NoPacking),
+        [] => Err(UnpackError::NoPacking),
         [0, rest @ ..] => Ok((None, rest)),
         [1, rest @ ..] => {
             let (score, rest) = u64_at(rest)?;
             Ok((Some(score.cast_signed()), rest))
         }
-        [_, ..] => Err(UnpackStop::NoPacking),
+        [_, ..] => Err(UnpackError::NoPacking),
     }
 }
 
 /// The row in front, and the bytes behind it.
 #[tactic(auto, unfolding(crate::specs::Packing::row_at))]
-fn row_at(alloc: Global, bytes: &[u8]) -> Result<(KeptRow, &[u8]), UnpackStop>
+fn row_at(alloc: Global, bytes: &[u8]) -> Result<(KeptRow, &[u8]), UnpackError>
     ensures { Gives (λ x. (x.0, x.1.now)) result (row_at bytes.now) }
 {
     let (person, rest) = counted_at(alloc, bytes)?;
@@ -230,7 +230,7 @@ fn row_at(alloc: Global, bytes: &[u8]) -> Result<(KeptRow, &[u8]), UnpackStop>
 }
 
 /// The rows that are packed, one after the other to the end.
-fn rows_at(alloc: Global, bytes: &[u8]) -> Result<Vec<KeptRow>, UnpackStop>
+fn rows_at(alloc: Global, bytes: &[u8]) -> Result<Vec<KeptRow>, UnpackError>
     ensures { Gives (λ rows. rows.items) result (rows_in bytes.now) }
 {
     let mut rows = Vec::new(alloc);
@@ -244,13 +244,13 @@ fn rows_at(alloc: Global, bytes: &[u8]) -> Result<Vec<KeptRow>, UnpackStop>
                 rows.push(row)?;
                 rest = after;
             }
-            Err(stop) => return Err(stop),
+            Err(error) => return Err(error),
         }
     }
     if rest.is_empty() {
         Ok(rows)
     } else {
-        Err(UnpackStop::NoPacking)
+        Err(UnpackError::NoPacking)
     }
 }
 
@@ -262,7 +262,7 @@ pub fn unpack(alloc: Global, bytes: &[u8]) -> Result<Option<Vec<KeptRow>>, Alloc
 {
     match rows_at(alloc, bytes) {
         Ok(rows) => Ok(Some(rows)),
-        Err(UnpackStop::NoPacking) => Ok(None),
-        Err(UnpackStop::NoMemory) => Err(AllocError),
+        Err(UnpackError::NoPacking) => Ok(None),
+        Err(UnpackError::NoMemory) => Err(AllocError),
     }
 }

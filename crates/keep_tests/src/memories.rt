@@ -1,7 +1,7 @@
 //! Rows of memories, and memories of rows.
 
 use edge_files::{Bytes, InFile};
-use keep::{KeptStop, memories_of};
+use keep::{KeptError, memories_of};
 use kept_tables::{Kept, are_rows, bytes_of, rows_of};
 use scenario::{Files, Scenario, assemble};
 use std::alloc::Global;
@@ -155,7 +155,7 @@ static SIX_UNCHOSEN: [Kept; 7] = [FIRST, SECOND, THIRD, FOURTH, FIFTH, SIXTH, OT
 fn is_foreign(alloc: Global, town: &Town, table: &[Kept], place: u32) -> bool {
     match memories_of(alloc, &rows_of(alloc, table), town) {
         Ok(_) => false,
-        Err(stop) => stop == KeptStop::Foreign { row: place },
+        Err(stop) => stop == KeptError::Foreign { row: place },
     }
 }
 

@@ -24,10 +24,7 @@ use Rattle.rows.specs.declared.plan.Act.{Act}
 use Rattle.rows.specs.declared.schedule.RouteRow.{RouteRow}
 use Rattle.rows.specs.declared.schedule.StopRow.{StopRow}
 use Rattle.scenario.specs.Faults.{in_file}
-use Rattle.scenario.specs.FilesToScenario.{NetworkRows, conflict_fault, cross_fault, free_arrivals, graph_in, leg_checks_in}
-use Rattle.scenario.specs.FilesToScenario.{network_fault, network_rows_of, read_faults}
-use Rattle.scenario.specs.FilesToScenario.{persons_fault, scenario_fault, schedule_fault, schedule_rows_of}
-use Rattle.scenario.specs.FilesToScenario.{signals_file_fault, signals_on}
+use Rattle.scenario.specs.FilesToScenario.{NetworkRows, conflict_fault, cross_fault, free_arrivals, leg_checks_in, graph_between, network_fault, network_rows_of, read_faults, persons_fault, scenario_fault, schedule_fault, schedule_rows_of, signals_file_fault, signals_on}
 use Rattle.scenario.specs.declared.faults.ScenarioFault.{ScenarioFault}
 use Rattle.scenario.specs.Legs.{leg_reason_at, rows_cross_fault}
 use Rattle.scenario.specs.Texts.{Texts}
@@ -41,12 +38,12 @@ use Rattle.walks.specs.Arrivals.{Arrivals}
 use Rattle.workload.specs.Commuters.{commuter, home_of, work_of, words_of}
 use Rattle.workload.specs.Links.{grid_links}
 use Rattle.workload.specs.Rows.{act_row, link_name, stop_name, stop_row, way_back, way_there}
-use Rattle.workload.specs.Texts.{links_text, nodes_text, plans_text, routes_text}
+use Rattle.workload.specs.Texts.{links_text, nodes_text, plans_text, routes_text, grid_texts}
 use Rattle.workload.specs.declared.TheConstants.{PERSONS_PER_NODE, WORK_SECONDS}
 use Rattle.workload.specs.declared.commuters.Commute.{Commute}
 use Rattle.workload.specs.declared.commuters.Commuter.{Commuter}
 use Rattle.draws.specs.Words.{word}
-use Rattle.law_generated.specs.Files.{grid_texts, link_ends, links_named, nodes_named, stops_named, stops_placed}
+use Rattle.law_generated.specs.Files.{link_ends, links_named, nodes_named, stops_named, stops_placed}
 use Rattle.law_generated.proofs.CarRoutes.{car_found, grid_arrivals, grid_graph}
 use Rattle.law_generated.proofs.Given.{departures_valid, ends_are, link_rows_are, links_are, links_valid, node_count, placed_are}
 use Rattle.law_generated.proofs.Given.{plans_valid, route_row_is, routes_valid, stops_are, stops_valid}
@@ -101,7 +98,7 @@ given_routes size = routes_of (links_named size) (stops_named size) (stops_place
 
 -- the route that a car leg is given
 abbrev searched : ℕ → Act → ℕ → Option (List ℕ)
-searched size = route_between (graph_in (grid_network size)) (free_arrivals (grid_network size))
+searched size = route_between (graph_between (grid_network size)) (free_arrivals (grid_network size))
 
 first_stop : stop_name 0 ≡ codes "s0"
 unfolding digits
@@ -176,7 +173,7 @@ module _ (size : ℕ) (some : 3 ≤ size) (few : size ≤ 100) where
       (sym (links_are size some few)) grid_served))))
 
   -- THE ROUTES OF CARS
-  graph_is : graph_in (grid_network size) ≡ grid_graph size
+  graph_is : graph_between (grid_network size) ≡ grid_graph size
   graph_is = ap₂ graph_with (node_count size some few) (ends_are size some few)
 
   arrivals_are : free_arrivals (grid_network size) ≡ grid_arrivals size

@@ -1,14 +1,13 @@
 -- What the files of a grid give to the files behind them.
-use Rattle.std.specs.Prelude.{ℕ, List, map, Some}
+use Rattle.std.specs.Prelude.{ℕ, List, map}
 use Rattle.network.specs.Links.{link_names, link_of}
 use Rattle.network.specs.Nodes.{node_names}
 use Rattle.records.specs.Fields.{column}
 use Rattle.records.specs.Files.{body_of}
 use Rattle.rows.specs.Joined.{ends_of}
 use Rattle.rows.specs.declared.schedule.StopRow.{StopRow}
-use Rattle.scenario.specs.Texts.{Texts}
 use Rattle.schedule.specs.Stops.{stop_of}
-use Rattle.workload.specs.Texts.{file_text, links_text, nodes_text, routes_text, stops_text}
+use Rattle.workload.specs.Texts.{links_text, nodes_text, routes_text, stops_text}
 
 -- the names of the nodes, and those of the links
 abbrev pub nodes_named : ℕ → List (List ℕ)
@@ -31,7 +30,3 @@ stops_placed size = map (stop_of (links_named size)) (body_of (stops_text size))
 -- the names of the routes
 abbrev pub routes_named : ℕ → List (List ℕ)
 routes_named size = column 1 (body_of (routes_text size))
-
--- the files of a grid, all together
-abbrev pub grid_texts : ℕ → ℕ → ℕ → Texts
-grid_texts size seed last_iteration file = Some (file_text size seed last_iteration file)

@@ -13,9 +13,9 @@ ghost use Rattle.schedule.specs.Stops.{stops_fault};
 ghost use Rattle.settings.specs.Faults.{settings_fault};
 ghost use Rattle.signals.specs.Signals.{signals_fault};
 ghost use Rattle.workload.specs.Grids.{IsGrid};
-ghost use Rattle.workload.specs.Texts.{departures_text, links_text, nodes_text, plans_text, routes_text, settings_text, stops_text};
+ghost use Rattle.workload.specs.Texts.{departures_text, links_text, nodes_text, plans_text, routes_text, settings_text, stops_text, grid_texts};
 ghost use Rattle.workload.specs.declared.TheConstants.{DEPARTURES};
-ghost use Rattle.law_generated.specs.Files.{grid_texts, link_ends, links_named, nodes_named, routes_named, stops_named, stops_placed};
+ghost use Rattle.law_generated.specs.Files.{link_ends, links_named, nodes_named, routes_named, stops_named, stops_placed};
 
 /// The nodes and the links of a grid have no fault.
 pub fn networks_are_valid()

@@ -11,3 +11,5 @@ pub mod Seconds
 pub mod Sounding
 pub mod Towns
 pub mod Days
+pub mod Phasing
+pub mod Dawn

@@ -1,15 +1,15 @@
 -- The plans of a town are sound, and go from activity to activity.
 use Rattle.traffic.proofs.Common.{◌≡◌, ℕ, List, ◌∙◌, length, refl, [], ◌∷◌, arith, ◌<◌, true, ◌+◌, Bool, inl, inr, false, suc, eqb, zero, ◌-◌, get_or, ◌≢◌}
-use Rattle.traffic.proofs.Common.{not-true, cases_Bool, eqb-true, and_parts, eqb-false, leb-true, All-from_recursion, list_all, list_any, map, Some, None}
+use Rattle.traffic.proofs.Common.{not-true, cases_Bool, eqb-true, and_parts, eqb-false, leb-true, All-from_recursion, list_all, list_any, Some, None}
 use Rattle.traffic.proofs.Common.{not, Option, ◌&&◌, nat_le, nat_eq, is_open, has_end, are_acts, is_leg, PlanRows, stop_link, Act, Leg, StopRow, Setup}
 use Rattle.traffic.proofs.Common.{link_of_stop, HasEnd}
 use Rattle.std.specs.List.{AllByRecursion as Each}
 use Rattle.rows.specs.declared.plan.Leg.TheVariants as leg
-use Rattle.rows.specs.Plan.{is_teleported, is_end}
+use Rattle.rows.specs.Plan.{is_teleported, is_end, HasRoute}
 use Rattle.town.specs.Fits.{is_act_in, has_wrong_ends, has_wrong_stops, is_joining, leg_fits, legs_fit, fits}
 use Rattle.town.specs.Rows.{TownRows}
 use Rattle.law_in_range.specs.Setups.{IsPlanIn}
-use Rattle.law_sound_setups.specs.Setups.{IsSoundLeg, EndsAsPlanned, IsSoundPlan}
+use Rattle.law_sound_setups.specs.Setups.{EndsAsPlanned, IsSoundPlan}
 use Rattle.law_sound_setups.specs.Consistent.{LeadsFrom, link_of_act, IsConsistentPlan}
 
 -- PLANS
@@ -44,7 +44,7 @@ ends_planned acts k h lt =
       | inr e ↦ let q = eqb-false (k + 1) (length acts) e in rw e (y.1 (λ g. q (omega arith)))
     ]
 
-leg_sound : (T : TownRows) (here there : ℕ) (x : Leg) → leg_fits T here there x ≡ true → IsSoundLeg x
+leg_sound : (T : TownRows) (here there : ℕ) (x : Leg) → leg_fits T here there x ≡ true → HasRoute x
 unfolding leg_fits
 leg_sound T here there (leg.Car route) h =
     let a = and_parts _ _ h in
@@ -52,7 +52,7 @@ leg_sound T here there (leg.Car route) h =
 leg_sound T here there (leg.Teleport mode seconds) h = tt
 leg_sound T here there (leg.Transit line access egress) h = tt
 
-legs_sound : (T : TownRows) (acts : List Act) (legs : List Leg) → legs_fit T acts legs ≡ true → Each IsSoundLeg legs
+legs_sound : (T : TownRows) (acts : List Act) (legs : List Leg) → legs_fit T acts legs ≡ true → Each HasRoute legs
 unfolding legs_fit
 legs_sound T acts [] h = tt
 legs_sound T [] (x ∷ legs) h = absurd (cc)
@@ -64,7 +64,7 @@ plan_sound T p h =
     record {
       one_more = h.one_more;
       ends = λ k lt. ends_planned p.acts k h.ends lt;
-      legs = All-from_recursion IsSoundLeg p.legs (legs_sound T p.acts p.legs (and_parts (list_all (is_act_in T) p.acts) _ h.fit).1);
+      legs = All-from_recursion HasRoute p.legs (legs_sound T p.acts p.legs (and_parts (list_all (is_act_in T) p.acts) _ h.fit).1);
     }
 
 -- FROM ACTIVITY TO ACTIVITY

@@ -10,7 +10,7 @@ use Rattle.rows.specs.declared.plan.Act.{Act}
 use Rattle.rows.specs.declared.plan.Leg.{Leg}
 use Rattle.rows.specs.declared.plan.Leg.TheVariants.{Car}
 use Rattle.traffic.specs.Setup.{Setup, person_plan}
-use Rattle.traffic.specs.Persons.{mode_of_leg}
+use Rattle.rows.specs.Plan.{mode_of_leg}
 
 -- activity k of a person's plan
 abbrev pub act : Setup → ℕ → ℕ → Act

@@ -6,7 +6,7 @@ use Rattle.traffic.specs.declared.stage.Stage.{Stage}
 use Rattle.traffic.specs.declared.stage.Stage.TheVariants.{Queue, Buffer, Wait, Bay}
 use Rattle.traffic.specs.declared.world.Row.{Row}
 use Rattle.parts.specs.Owners.{Owner, owner_of, begins_in, crosses, owner_of_person, lag}
-use Rattle.parts.specs.Parts.{came_last, down, up, late_rows, known_list, is_person, is_known, has, unheard}
+use Rattle.parts.specs.Parts.{came_last, down, up, late_rows, known_list, is_person, knows_of, has, unheard}
 use Rattle.law_one_place.proofs.Turns.{always_kept}
 use Rattle.law_partitions.proofs.Second.{take_front}
 use Rattle.law_partitions.proofs.History.{known, came_last-late, known_tail, came_none, in_force-last, in_force-lasting}
@@ -82,5 +82,5 @@ heard S own k p t h = record {
       rw g (omega arith);
   person = λ i. refl;
   few = (always_kept S t).one_row;
-  there = λ i e. ltb-true i (length S.persons) (and_parts (is_person S i) ((eqb (owner_of_person S own (world_at S t) i) p) && is_known S own k p t i) e).0;
+  there = λ i e. ltb-true i (length S.persons) (and_parts (is_person S i) ((eqb (owner_of_person S own (world_at S t) i) p) && knows_of S own k p t i) e).0;
 }

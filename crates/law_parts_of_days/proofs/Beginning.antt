@@ -1,6 +1,6 @@
 -- A part stands for the world at the start of a day when nobody is on its links and nobody waits.
 use Rattle.traffic.proofs.Common.{◌≡◌, ℕ, zero, suc, ◌+◌, ◌<◌, List, [], ◌∷◌, ◌++◌, ◌∙◌, ap, refl, sym, subst, arith, inl, inr, cases_lt}
-use Rattle.traffic.proofs.Common.{length, length-append, length-map, length-replicate, get_or, get_or-map, map, flat_map, replicate, Option, None, Some, PlanRows, Setup, nobody, at_home, world_start, world_from, world_at, person_of, and_parts, ltb-true, nat_lt, ◌&&◌, at, waiter, waiters, numbers, link_state, VEHICLE_COST, link_row, hole_of, holes_at, in_turn}
+use Rattle.traffic.proofs.Common.{length, length-append, length-map, length-replicate, get_or, get_or-map, map, flat_map, replicate, Option, None, Some, PlanRows, Setup, nobody, at_home, world_start, world_from, world_at, person_of, ◌&&◌, at, waiter, waiters, numbers, link_state, VEHICLE_COST, link_row, hole_of, holes_at, in_turn}
 use Rattle.std.proofs.Math.Seq.{get_or-append_seam}
 use Rattle.std.proofs.lemmas.List.{get_or-replicate, get_or_default, get_or_append_left}
 use Rattle.fixed_flow.specs.Flow.{raised_times}
@@ -16,7 +16,7 @@ use Rattle.town.specs.Views.{setup}
 use Rattle.calendar.specs.Waking.{wake_of}
 use Rattle.queue_link.specs.Links.{LinkView, fresh}
 use Rattle.queue_link.specs.declared.numbers.LinkNumbers.{LinkNumbers}
-use Rattle.queue_link.specs.Numbers.{IsMeasured, numbers_of}
+use Rattle.queue_link.specs.Numbers.{numbers_of}
 use Rattle.node_move.specs.NodeStates.{no_link}
 use Rattle.link_seconds.specs.Seconds.{HaveLines, line_at, lists_at}
 use Rattle.law_waking.specs.Resting.{Rests, sleeps_to}
@@ -24,10 +24,8 @@ use Rattle.node_seconds.specs.Networks.{lane}
 use Rattle.part_links.specs.Links.{LinksStand, LinesStand, AreAsleep, lies_on}
 use Rattle.part_places.specs.declared.places.Places.{Places}
 use Rattle.part_places.specs.Taking.{AreTaken, empty}
-use Rattle.plain_day.proofs.Numbers.{measured}
-use Rattle.person_moves.proofs.Lists.{passes_at}
-use Rattle.rows.specs.Networks.{is_link}
-use Rattle.law_parts_of_days.specs.Beginning.{row_at, AreFresh}
+use Rattle.law_parts_of_days.specs.Beginning.{AreFresh}
+use Rattle.traffic.specs.Setup.{row_at}
 use Rattle.law_parts_of_days.specs.Settling.{taking}
 use Rattle.law_parts_of_days.proofs.Taken.{taken_as}
 
@@ -149,46 +147,11 @@ next_fresh rows settings k row v links lt e f h =
           ];
     }
 
-pub measured_row : (day : DayInput) (l : ℕ) (row : LinkRow) → l < length day.town.now.network.links → row ≡ get_or day.town.now.network.links l row
-    → IsMeasured row
-measured_row day l row lt e =
-    let m = measured day l row lt e in
-    record {
-      some_length = m.some_length;
-      most_length = m.most_length;
-      some_speed = m.some_speed;
-      some_capacity = m.some_capacity;
-      most_capacity = m.most_capacity;
-      most_lanes = m.most_lanes;
-    }
-
 pub all_fresh : (day : DayInput) (k : ℕ) (links : List LinkView) → k ≡ length day.town.now.network.links
     → AreFresh day.town.now.network.links day.town.now.settings k links
     → AreFresh (setup day).links (setup day).settings (length (setup day).links) links
 unfolding setup_of
 all_fresh day k links e h = subst (λ (n : ℕ). AreFresh day.town.now.network.links day.town.now.settings n links) e h
-
--- the link of a row ends at a node that is there
-pub leads_there : (day : DayInput) (l : ℕ) (row : LinkRow) → l < length day.town.now.network.links → row ≡ get_or day.town.now.network.links l row
-    → row.to < length day.town.now.network.nodes
-unfolding is_link
-leads_there day l row lt e =
-    let n = length day.town.now.network.nodes in
-    let h = passes_at (is_link n) day.town.now.network.links l row day.town.now.sound.links lt e in
-    let p = and_parts (nat_lt row.from n && nat_lt row.to n) _ h in
-    let q = and_parts (nat_lt row.from n) (nat_lt row.to n) p.0 in
-    ltb-true row.to n q.1
-
--- and begins at one
-pub begins_there : (day : DayInput) (l : ℕ) (row : LinkRow) → l < length day.town.now.network.links → row ≡ get_or day.town.now.network.links l row
-    → row.from < length day.town.now.network.nodes
-unfolding is_link
-begins_there day l row lt e =
-    let n = length day.town.now.network.nodes in
-    let h = passes_at (is_link n) day.town.now.network.links l row day.town.now.sound.links lt e in
-    let p = and_parts (nat_lt row.from n && nat_lt row.to n) _ h in
-    let q = and_parts (nat_lt row.from n) (nat_lt row.to n) p.0 in
-    ltb-true row.from n q.0
 
 -- the day begins with its first world
 pub begins_with : (S : Setup) → world_start S ≡ world_at S 0

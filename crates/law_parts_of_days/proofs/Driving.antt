@@ -1,6 +1,6 @@
 -- What the turns of links leave of the places and the lines of a part.
 use Rattle.traffic.proofs.Common.{◌≡◌, ℕ, ◌+◌, ◌<◌, ◌≤◌, false, List, ◌∙◌, ap, sym, subst, arith, length, length-map}
-use Rattle.traffic.proofs.Common.{World, Setup, Phase, LinkState, at, through, world_at, link_row, link_of_stop, turns_in, after, All-get_or, plan_rows}
+use Rattle.traffic.proofs.Common.{World, Setup, Phase, LinkState, at, through, world_at, link_of_stop, turns_in, after, All-get_or, plan_rows}
 use Rattle.events.specs.declared.event.Phase.TheVariants as phase
 use Rattle.traffic.specs.declared.stage.Stage.TheVariants.{Queue, Buffer}
 use Rattle.traffic.specs.declared.world.Waiter.{Waiter}

@@ -26,7 +26,8 @@ use Rattle.node_seconds.specs.Networks.{lane}
 use Rattle.part_links.specs.Links.{LinksStand}
 use Rattle.part_links.proofs.Standing.{link_is}
 use Rattle.events.specs.declared.event.Phase.TheVariants as phase
-use Rattle.law_parts_of_days.specs.Riding.{put_riders, put_rows, put_links, stuck_on, stranded_on, told_on}
+use Rattle.law_parts_of_days.specs.Riding.{put_riders, put_rows, put_links, stranded_on, told_on}
+use Rattle.traffic.specs.Persons.{stuck_on}
 
 -- THE TABLE
 pub riders_length : (l : ℕ) (rs : List Rider) (table : List ℕ) → length (put_riders l rs table) ≡ length table

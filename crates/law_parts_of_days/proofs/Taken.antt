@@ -11,10 +11,10 @@ use Rattle.traffic.proofs.Sublists.{holes-run}
 use Rattle.traffic.proofs.Nodes.{node-buffers, buffers-holes}
 use Rattle.traffic.proofs.Walks.{phase_keeps}
 use Rattle.law_sleeping.proofs.Places.{links_free, links_keep_places}
-use Rattle.calendar.specs.Due.{due_at}
+use Rattle.calendar.specs.Due.{due_at, AreIn}
 use Rattle.queue_link.specs.Links.{LinkView}
 use Rattle.node_move.specs.Spaces.{places_in}
-use Rattle.node_seconds.specs.Networks.{is_among, AreIn, AreOnce}
+use Rattle.node_seconds.specs.Networks.{is_among, AreOnce}
 use Rattle.node_seconds.proofs.Lanes.{in_at, among_front}
 use Rattle.part_links.proofs.Standing.{taken_one}
 use Rattle.part_links.proofs.Numbers.{among_own, among_other}

@@ -3,21 +3,17 @@ use Rattle.std.specs.Prelude.{ℕ, List, [], ◌∷◌, get_or, set}
 use Rattle.events.specs.declared.event.Event.{Event}
 use Rattle.events.specs.declared.event.Phase.TheVariants as phase
 use Rattle.events.specs.Keys.{phase_code}
-use Rattle.events.specs.declared.event.Mode.{Mode}
 use Rattle.events.specs.declared.event.Word.TheVariants as word
 use Rattle.events.specs.declared.event.More.TheVariants as more
-use Rattle.rows.specs.declared.plan.Act.{Act}
 use Rattle.traffic.specs.declared.moves.Occurrence.{Occurrence}
 use Rattle.traffic.specs.declared.riders.Rider.{Rider}
-use Rattle.traffic.specs.declared.world.Place.{Place}
-use Rattle.traffic.specs.declared.world.Place.TheVariants.{At, Teleporting, Waiting, Riding, Aborted}
 use Rattle.traffic.specs.declared.world.Row.{Row}
 use Rattle.traffic.specs.declared.world.Person.{Person}
 use Rattle.traffic.specs.Rows.{nobody}
-use Rattle.traffic.specs.Setup.{Setup, link_of_stop, act_at, leg_at}
-use Rattle.traffic.specs.Persons.{mode_of_leg}
+use Rattle.traffic.specs.Setup.{Setup, act_at, leg_at}
+use Rattle.rows.specs.Plan.{mode_of_leg}
+use Rattle.traffic.specs.Persons.{stuck_on}
 use Rattle.traffic.specs.Day.{keyed}
-use Rattle.traffic.specs.Telling.{of_person}
 use Rattle.queue_link.specs.Links.{LinkView, all_rows}
 
 -- a table of links by person, once these riders are on link l
@@ -35,15 +31,7 @@ unfoldable pub put_links : List LinkView → List ℕ → List ℕ
 put_links [] table = table
 put_links (v ∷ vs) table = put_links vs (put_rows v.numbers.link (all_rows v.lists) table)
 
--- what is told at the end of a day of a person at this place, who rides on this link if he rides
-abbrev pub stuck_on : Setup → ℕ → ℕ → Act → Mode → Place → List Occurrence
-stuck_on S l i here mode (At end) = []
-stuck_on S l i here mode (Teleporting start) = of_person word.StuckAndAbort i here.link (more.Mode mode) ∷ []
-stuck_on S l i here mode (Waiting stop since) = of_person word.StuckAndAbort i (link_of_stop S stop) (more.Mode mode) ∷ []
-stuck_on S l i here mode (Riding v) = of_person word.StuckAndAbort i l (more.Mode mode) ∷ []
-stuck_on S l i here mode (Aborted m) = []
-
--- the same of a person with this row
+-- what is told at the end of a day of a person with this row, who rides on this link if he rides
 abbrev pub stranded_on : Setup → ℕ → ℕ → Person → List Occurrence
 stranded_on S l i P = stuck_on S l i (act_at S i P.element) (mode_of_leg (leg_at S i P.element)) P.place
 

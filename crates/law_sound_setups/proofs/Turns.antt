@@ -23,7 +23,8 @@ use Rattle.law_one_place.proofs.Places.{Stays, rides_few, Walks, Enters, rides, 
 use Rattle.law_sound_setups.proofs.Fine.{Good, IsPlain, Carries, Fine, found, fine_move, fine_weaker, IsStep}
 use Rattle.law_sound_setups.proofs.Links.{link_keeps}
 use Rattle.law_sound_setups.proofs.Steps.{entered_plain, abort_passage, plan_sound, arrive_sound, leave_leg, way_same, next_same}
-use Rattle.law_sound_setups.specs.Setups.{IsSoundLeg, IsSoundRun, IsSoundSetup}
+use Rattle.law_sound_setups.specs.Setups.{IsSoundRun, IsSoundSetup}
+use Rattle.rows.specs.Plan.{HasRoute}
 
 -- NODES
 nodes_good : (S : Setup) (t n : ℕ) → NodeCases S t n (λ W m. Good S W → Good S (done S t m W))
@@ -78,7 +79,7 @@ drive_good S t j k route next W f lt leg q p h =
     let P = person_of j W in
     let o = eq-eqb j j refl in
     let s = (h.good j lt).sound.0 o in
-    let some : 0 < length route = subst IsSoundLeg q (All-get_or IsSoundLeg (person_plan S j).legs (k / 2) (Car []) leg.1 (plan_sound S j f lt).legs) in
+    let some : 0 < length route = subst HasRoute q (All-get_or HasRoute (person_plan S j).legs (k / 2) (Car []) leg.1 (plan_sound S j f lt).legs) in
     let a : after_move S t j (Enter r) W ≡ record P { place = Riding (vehicle.Car j) } = simp o in
     let one : rides j r.vehicle ≡ 1 = simp o in
     let fits : HasLeg x (leg_at S j k) (act_after S j k) × IsAlong route (leg_at S j k) = subst (λ (w : Leg). HasLeg x w (act_after S j k) × IsAlong route w) (sym q) ((refl, ap (λ (n : Act). n.kind) (sym p)), refl) in

@@ -1,17 +1,11 @@
 -- Setups whose days stay sound.
 use Rattle.std.specs.Prelude.{◌≡◌, ◌<◌, ◌+◌, ◌==◌, ℕ, List, length, get_or, All, None}
 use Rattle.rows.specs.declared.plan.Act.{Act}
-use Rattle.rows.specs.declared.plan.Leg.{Leg}
 use Rattle.rows.specs.PlanRows.{PlanRows}
 use Rattle.rows.specs.declared.plan.Leg.TheVariants as leg
 use Rattle.traffic.specs.Setup.{Setup, Departure}
 use Rattle.traffic.specs.Worlds.{HasEnd, AreServable}
-
--- a drive's route has a link
-abbrev pub IsSoundLeg : Leg → Type 0
-IsSoundLeg (leg.Car route) = 0 < length route
-IsSoundLeg (leg.Teleport mode seconds) = Unit {0}
-IsSoundLeg (leg.Transit line access egress) = Unit {0}
+use Rattle.rows.specs.Plan.{HasRoute}
 
 -- the k-th activity of a plan has an end exactly where it is not the last one
 abbrev pub EndsAsPlanned : List Act → ℕ → Type 0
@@ -23,7 +17,7 @@ pub record IsSoundPlan (plan : PlanRows) : Type 0 where
   -- every activity but the last has an end, and the last has none
   pub ends : (k : ℕ) → k < length plan.acts → EndsAsPlanned plan.acts k
   -- each leg by car has a route with a link
-  pub legs : All IsSoundLeg plan.legs
+  pub legs : All HasRoute plan.legs
 
 pub record IsSoundRun (departure : Departure) : Type 0 where
   -- the route has a link

@@ -1,29 +1,29 @@
 -- After its second a link rests until it may have something to do.
-use Rattle.std.proofs.Common.{◌≡◌, ℕ, suc, ◌+◌, ◌-◌, ◌<◌, ◌≤◌, List, [], ◌∷◌, length, refl, ap, sym, ◌∙◌, subst, arith, inl, inr}
-use Rattle.std.specs.Prelude.{min, Option, None, Some}
+use Rattle.std.proofs.Common.{◌≡◌, ℕ, suc, ◌+◌, ◌-◌, ◌<◌, ◌≤◌, List, [], ◌∷◌, length, ap, sym, ◌∙◌, subst, arith}
+use Rattle.std.specs.Prelude.{Option, None, Some}
 use Rattle.std.specs.List.{AllByRecursion as Each}
 use Rattle.fixed_flow.specs.Flow.{raised_times}
 use Rattle.rows.specs.declared.settings.Dwelling.{Dwelling}
-use Rattle.traffic.specs.declared.numbers.Rules.{Rules}
 use Rattle.traffic.specs.declared.world.Row.{Row}
 use Rattle.traffic.specs.Links.{LinkState}
-use Rattle.law_sleeping.specs.Quiet.{IsQuiet, IsSettled, IsBy, IsDue, Sleeps, queue_due, wait_due, is_blocked, rested}
+use Rattle.law_sleeping.specs.Quiet.{IsQuiet, IsSettled, IsBy, IsDue, queue_due, wait_due, is_blocked, rested}
 use Rattle.law_sleeping.proofs.Settling.{settled_sleeps}
 use Rattle.law_sleeping.proofs.Resting.{sleeps_quiet}
 use Rattle.queue_link.specs.declared.numbers.LinkNumbers.{LinkNumbers}
 use Rattle.queue_link.specs.Links.{LinkView}
 use Rattle.queue_link.specs.Numbers.{rules_of, no_dwelling}
-use Rattle.queue_link.specs.Waking.{earlier, bay_due, due_of}
+use Rattle.queue_link.specs.Waking.{bay_due, due_of}
+use Rattle.calendar.specs.Waking.{earliest}
 use Rattle.link_seconds.specs.Seconds.{lists_at}
-use Rattle.law_waking.specs.Resting.{Rests, sleeps_to}
+use Rattle.law_waking.specs.Resting.{Rests}
 
--- a second not after the earlier one of two is not after either
-by_first : (due : ℕ) (a b : Option ℕ) → IsBy due (earlier a b) → IsBy due a
+-- a second not after the earliest one of two is not after either
+by_first : (due : ℕ) (a b : Option ℕ) → IsBy due (earliest a b) → IsBy due a
 by_first due None b h = tt
 by_first due (Some t) None h = h
 by_first due (Some t) (Some u) h = omega arith
 
-by_second : (due : ℕ) (a b : Option ℕ) → IsBy due (earlier a b) → IsBy due b
+by_second : (due : ℕ) (a b : Option ℕ) → IsBy due (earliest a b) → IsBy due b
 by_second due None b h = h
 by_second due (Some t) None h = tt
 by_second due (Some t) (Some u) h = omega arith
@@ -38,10 +38,10 @@ is_due : (n : LinkNumbers) (D : Dwelling) (t due : ℕ) (L : LinkState) → IsBy
 is_due n D t due L h =
     let q = queue_due (rules_of n no_dwelling) t (length L.buffer) L.credit L.queue in
     let w = wait_due (rules_of n no_dwelling) t (length L.buffer) L.credit L.wait in
-    let rest = by_second due q (earlier w (bay_due L.bay)) h in
+    let rest = by_second due q (earliest w (bay_due L.bay)) h in
     record {
       bay = bay_by due L.bay (by_second due w (bay_due L.bay) rest);
-      queue = by_first due q (earlier w (bay_due L.bay)) h;
+      queue = by_first due q (earliest w (bay_due L.bay)) h;
       wait = by_first due w (bay_due L.bay) rest;
     }
 

@@ -23,7 +23,7 @@ use Rattle.traffic.specs.declared.world.Row.{Row}
 use Rattle.traffic.specs.Vehicles.{VehicleState}
 use Rattle.traffic.specs.Lists.{is_nil, without_at, on_front}
 use Rattle.traffic.specs.Moves.{told, at_second, at_after, at_after_all}
-use Rattle.traffic.specs.Nodes.{pass_node_all, out_links_after, no_in_link, drawn, draw, ready, red, candidates, mark, node_moves}
+use Rattle.traffic.specs.Nodes.{pass_node_all, out_links_after, no_in_link, drawn, draw, ready, red, candidates, mark, node_moves, weight_of}
 use Rattle.law_sleeping.specs.Able.{can_go, able_now, by_chosen, draw_lazily, AreWeighted}
 use Rattle.traffic.proofs.Each.{each_without_at}
 use Rattle.law_sleeping.proofs.Passing.{lazily}
@@ -34,7 +34,7 @@ use Rattle.node_move.specs.declared.candidates.Able.{Able}
 use Rattle.node_move.specs.declared.candidates.Able.TheVariants.{Nobody, Only, Several}
 use Rattle.node_move.specs.Choices.{by_able}
 use Rattle.node_move.specs.NodeStates.{NodeState, node_state, node_run, buffer_after, entering_by, removed_by, in_link_of, in_links_of, after_turn, seen, no_link}
-use Rattle.node_move.specs.NodeStates.{marked, all_marked, weight_of, HaveWeights, AreReady, IsNone, AreApart, IsNotIn, ArePlaces}
+use Rattle.node_move.specs.NodeStates.{marked, all_marked, HaveWeights, AreReady, IsNone, AreApart, IsNotIn, ArePlaces}
 use Rattle.node_move.proofs.Runs.{with_buffer, same_state, run_none, run_both}
 use Rattle.node_move.proofs.Fronts.{next_behind}
 use Rattle.node_move.proofs.Places.{seen_at, seen_rest, length_seen, is_at, length_without}

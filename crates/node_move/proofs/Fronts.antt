@@ -15,10 +15,10 @@ use Rattle.traffic.specs.Vehicles.{VehicleState}
 use Rattle.traffic.specs.Lists.{on_front}
 use Rattle.traffic.specs.Moves.{at_second, at_after}
 use Rattle.traffic.specs.Telling.{of_vehicle, aborts}
-use Rattle.traffic.specs.Nodes.{next_link, has_room, is_stuck, may_enter, entered, one_more, pass_node, pass_node_all, since_of}
+use Rattle.traffic.specs.Nodes.{next_link, has_room, is_stuck, may_enter, entered, one_more, pass_node, pass_node_all, since_of, HasNext, HaveNext}
 use Rattle.queue_link.specs.Links.{LinkView, behind_front, first_row}
 use Rattle.node_move.specs.declared.crossings.Entering.{Entering}
-use Rattle.node_move.specs.NodeStates.{NodeState, node_state, node_run, in_link_of, HaveNext, HasNext}
+use Rattle.node_move.specs.NodeStates.{NodeState, node_state, node_run, in_link_of}
 use Rattle.node_move.proofs.Runs.{with_buffer, same_state, run_none, run_both}
 
 -- the link once its front has left in second t

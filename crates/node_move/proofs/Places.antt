@@ -10,12 +10,12 @@ use Rattle.traffic.specs.declared.node_views.OutLink.{OutLink}
 use Rattle.traffic.specs.declared.world.Row.{Row}
 use Rattle.traffic.specs.Vehicles.{VehicleState}
 use Rattle.traffic.specs.Lists.{without_at}
-use Rattle.traffic.specs.Nodes.{pass_node, pass_node_all, no_in_link}
+use Rattle.traffic.specs.Nodes.{pass_node, pass_node_all, no_in_link, HaveNext}
 use Rattle.law_sleeping.proofs.Marking.{pass_node_spares}
 use Rattle.queue_link.specs.Links.{LinkView}
 use Rattle.node_move.specs.declared.crossings.Entering.{Entering}
 use Rattle.node_move.specs.NodeStates.{NodeState, node_state, node_run, buffer_after, in_link_of, seen, no_link}
-use Rattle.node_move.specs.NodeStates.{HaveNext, AreReady, IsNone, AreApart, IsNotIn, ArePlaces}
+use Rattle.node_move.specs.NodeStates.{AreReady, IsNone, AreApart, IsNotIn, ArePlaces}
 use Rattle.node_move.proofs.Runs.{with_buffer, same_state}
 
 -- ONE LINK HANDS OVER

@@ -1,5 +1,5 @@
 -- What a node's turn changes, and what its moves make of it.
-use Rattle.std.specs.Prelude.{◌≢◌, ℕ, ◌+◌, ◌<◌, ◌≤◌, Bool, true, List, [], ◌∷◌, ◌++◌, length, map, get_or, if◌then◌else◌, Option}
+use Rattle.std.specs.Prelude.{◌≢◌, ℕ, ◌+◌, ◌<◌, ◌≤◌, Bool, true, List, [], ◌∷◌, ◌++◌, map, get_or, if◌then◌else◌, Option}
 use Rattle.std.specs.List.{flat_map, AllByRecursion as Each}
 use Rattle.limits.specs.declared.TheConstants.{MAX_CAPACITY}
 use Rattle.rows.specs.declared.settings.Stuck.{Stuck}
@@ -9,11 +9,10 @@ use Rattle.traffic.specs.declared.moves.Move.TheVariants.{Transfer, Remove}
 use Rattle.traffic.specs.declared.moves.Occurrence.{Occurrence}
 use Rattle.traffic.specs.declared.node_views.InLink.{InLink}
 use Rattle.traffic.specs.declared.node_views.OutLink.{OutLink}
-use Rattle.traffic.specs.declared.world.Row.{Row}
 use Rattle.traffic.specs.Vehicles.{VehicleState}
 use Rattle.traffic.specs.Lists.{on_front}
 use Rattle.traffic.specs.Moves.{told, at_second, at_after_all}
-use Rattle.traffic.specs.Nodes.{NodeView, out_links_after, node_moves}
+use Rattle.traffic.specs.Nodes.{NodeView, out_links_after, node_moves, HaveNext}
 use Rattle.queue_link.specs.Links.{LinkView, fresh}
 use Rattle.node_move.specs.declared.crossings.Entering.{Entering}
 
@@ -70,15 +69,6 @@ after_turn K t word greens N =
     let see : NodeView = record { in_links = in_links_of N.in_links greens; out_links = N.out_links } in
     node_run (node_moves K t word see) N
 
--- a vehicle has a next link, and its route is no longer than a number can count
-pub record HasNext (v : VehicleState) : Type 0 where
-  pub next : v.place + 1 < length v.route
-  pub route : length v.route < 4294967296
-
-abbrev pub HaveNext : List Row → Type 0
-HaveNext [] = Unit {0}
-HaveNext (r ∷ rs) = HasNext r.vehicle × HaveNext rs
-
 -- the buffers of links hold vehicles that have next links
 abbrev pub AreReady : List LinkView → Type 0
 AreReady [] = Unit {0}
@@ -100,9 +90,6 @@ no_link = fresh (record { link = 0; seconds = 0; storage = 0; room = 0; gain = 0
 -- the links at these places as green ones
 abbrev pub seen : List LinkView → List ℕ → List InLink
 seen vs places = map (λ (k : ℕ). in_link_of (get_or vs k no_link) true) places
-
-abbrev pub weight_of : InLink → ℕ
-weight_of e = e.capacity
 
 -- links have weights, within the limit of capacities
 abbrev pub HaveWeights : List InLink → Type 0

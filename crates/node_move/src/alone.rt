@@ -3,7 +3,8 @@
 ghost use Rattle.std.specs.Prelude.{◌≡◌, [], ◌∷◌, OnOk};
 ghost use Rattle.draws.specs.Words.{word};
 ghost use Rattle.node_move.specs.Spaces.{places_in};
-ghost use Rattle.node_move.specs.NodeStates.{node_state, after_turn, HaveNext};
+ghost use Rattle.node_move.specs.NodeStates.{node_state, after_turn};
+ghost use Rattle.traffic.specs.Nodes.{HaveNext};
 
 use crate::crossings::{Crossings, pass_node};
 use crate::space::Space;

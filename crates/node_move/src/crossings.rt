@@ -1,13 +1,12 @@
 //! The handing over of one link.
 
 ghost use Rattle.std.specs.Prelude.{◌≡◌, ◌+◌, ◌<◌, [], ◌∷◌, ◌++◌, not, true, OnOk};
-ghost use Rattle.limits.specs.declared.TheConstants.{LAST_SECOND};
 ghost use Rattle.events.specs.declared.event.Word.TheVariants.{LeftLink, EnteredLink};
 ghost use Rattle.events.specs.declared.event.More.TheVariants.{Nothing};
-ghost use Rattle.traffic.specs.Nodes.{has_room, pass_node_all};
+ghost use Rattle.traffic.specs.Nodes.{has_room, pass_node_all, HasNext, HaveNext};
 ghost use Rattle.traffic.specs.Telling.{of_vehicle, aborts};
 ghost use Rattle.node_move.specs.Spaces.{places_in};
-ghost use Rattle.node_move.specs.NodeStates.{node_state, node_run, in_link_of, HasNext, HaveNext};
+ghost use Rattle.node_move.specs.NodeStates.{node_state, node_run, in_link_of};
 
 use crate::space::Space;
 use crate::turns::NodeTurn;

@@ -3,9 +3,9 @@
 ghost use Rattle.std.specs.Prelude.{◌≡◌, ◌≢◌, ℕ, ◌<◌, ◌≤◌, true, length, map, get_or, OnOk};
 ghost use Rattle.limits.specs.declared.TheConstants.{LAST_SECOND, MAX_IN_LINKS};
 ghost use Rattle.draws.specs.Words.{word};
-ghost use Rattle.traffic.specs.Nodes.{pass_node_all, draw};
+ghost use Rattle.traffic.specs.Nodes.{pass_node_all, draw, weight_of};
 ghost use Rattle.node_move.specs.Spaces.{places_in};
-ghost use Rattle.node_move.specs.NodeStates.{in_link_of, seen, weight_of, ArePlaces, AreReady, AreApart, HaveWeights, no_link};
+ghost use Rattle.node_move.specs.NodeStates.{in_link_of, seen, ArePlaces, AreReady, AreApart, HaveWeights, no_link};
 ghost use Rattle.node_move.specs.NodeStates.{node_state, node_run};
 
 use crate::candidates::{Able, Candidates, count_able};

@@ -13,8 +13,10 @@ use Rattle.traffic.specs.Vehicles.{VehicleState}
 use Rattle.calendar.specs.Waking.{wake_of, earlier}
 use Rattle.node_move.specs.declared.crossings.Entering.{Entering}
 use Rattle.node_move.specs.declared.turns.NodeTurn.{NodeTurn}
-use Rattle.node_move.specs.NodeStates.{NodeState, node_state, after_turn, buffer_after, no_link, IsNone, AreApart, AreReady, HaveNext}
-use Rattle.node_seconds.specs.Networks.{lane, is_among, AreIn, AreOnce, put_back, with_queued, accepted, accepted_all, wakes_within, wakes_after, wakes_after_all}
+use Rattle.node_move.specs.NodeStates.{NodeState, node_state, after_turn, buffer_after, no_link, IsNone, AreApart, AreReady}
+use Rattle.traffic.specs.Nodes.{HaveNext}
+use Rattle.node_seconds.specs.Networks.{lane, is_among, AreOnce, put_back, with_queued, accepted, accepted_all, wakes_within, wakes_after, wakes_after_all}
+use Rattle.calendar.specs.Due.{AreIn}
 use Rattle.node_seconds.specs.Turns.{moves_in, HaveNumbers}
 
 -- PLACES

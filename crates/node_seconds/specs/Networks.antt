@@ -2,7 +2,7 @@
 use Rattle.std.specs.Prelude.{◌≡◌, ℕ, ◌+◌, ◌<◌, Bool, false, ◌||◌, List, [], ◌∷◌, ◌++◌, length, get_or, set, ◌==◌}
 use Rattle.std.specs.Prelude.{nat_lt, if◌then◌else◌, Option}
 use Rattle.traffic.specs.declared.stage.Stage.TheVariants.{Queue}
-use Rattle.calendar.specs.Waking.{wake_of, earlier}
+use Rattle.calendar.specs.Waking.{woken_by}
 use Rattle.queue_link.specs.Links.{LinkView, row_on}
 use Rattle.node_move.specs.declared.crossings.Entering.{Entering}
 use Rattle.node_move.specs.NodeStates.{no_link}
@@ -16,11 +16,6 @@ lane links l = get_or links l no_link
 abbrev pub is_among : ℕ → List ℕ → Bool
 is_among l [] = false
 is_among l (n ∷ ns) = (n == l) || is_among l ns
-
--- they are below this number
-abbrev pub AreIn : ℕ → List ℕ → Type 0
-AreIn count [] = Unit {0}
-AreIn count (n ∷ ns) = (n < count) × AreIn count ns
 
 -- each of them stands once
 abbrev pub AreOnce : List ℕ → Type 0
@@ -42,9 +37,9 @@ with_queued t e v =
 abbrev pub accepted : ℕ → Entering → List LinkView → List LinkView
 accepted t e links = if nat_lt e.link (length links) then set links e.link (with_queued t e (lane links e.link)) else links
 
--- a second, where it is before the end
+-- when links are woken once link l is in this second at the latest, if that is one of the day
 abbrev pub wakes_within : ℕ → ℕ → ℕ → List (Option ℕ) → List (Option ℕ)
-wakes_within end l u wakes = if nat_lt u end then set wakes l (earlier u (wake_of wakes l)) else wakes
+wakes_within end l u wakes = if nat_lt u end then woken_by u l wakes else wakes
 
 -- when links are woken then: one whose queue was empty is in the second of the vehicle, if that is one of the day
 abbrev pub wakes_after : ℕ → ℕ → Entering → List LinkView → List (Option ℕ) → List (Option ℕ)

@@ -4,10 +4,10 @@ use Rattle.std.specs.List.{AllByRecursion as Each}
 use Rattle.draws.specs.Words.{word}
 use Rattle.traffic.specs.declared.moves.Move.{Move}
 use Rattle.traffic.specs.declared.node_views.OutLink.{OutLink}
-use Rattle.traffic.specs.Nodes.{node_moves}
+use Rattle.traffic.specs.Nodes.{node_moves, HaveNext}
 use Rattle.queue_link.specs.Links.{LinkView}
 use Rattle.node_move.specs.declared.turns.NodeTurn.{NodeTurn}
-use Rattle.node_move.specs.NodeStates.{in_links_of, HaveNext}
+use Rattle.node_move.specs.NodeStates.{in_links_of}
 use Rattle.node_seconds.specs.Networks.{lane}
 
 -- the moves of the turn

@@ -4,10 +4,11 @@ ghost use Rattle.std.specs.Prelude.{◌≡◌, ℕ, ◌<◌, ◌≤◌, [], ◌�
 ghost use Rattle.std.specs.List.{flat_map};
 ghost use Rattle.limits.specs.declared.TheConstants.{LAST_SECOND, MAX_IN_LINKS};
 ghost use Rattle.traffic.specs.Moves.{told};
-ghost use Rattle.traffic.specs.Nodes.{out_links_after};
+ghost use Rattle.traffic.specs.Nodes.{out_links_after, HaveNext};
 ghost use Rattle.node_move.specs.Spaces.{places_in};
-ghost use Rattle.node_move.specs.NodeStates.{buffer_after, entering_by, HaveNext};
-ghost use Rattle.node_seconds.specs.Networks.{lane, is_among, AreIn, AreOnce};
+ghost use Rattle.calendar.specs.Due.{AreIn};
+ghost use Rattle.node_move.specs.NodeStates.{buffer_after, entering_by};
+ghost use Rattle.node_seconds.specs.Networks.{lane, is_among, AreOnce};
 ghost use Rattle.node_seconds.specs.Turns.{moves_in, HaveNumbers, AreReadyInto};
 
 use crate::taking::{put_links, take_links};

@@ -2,7 +2,8 @@
 
 ghost use Rattle.std.specs.Prelude.{◌≡◌, ℕ, ◌<◌, false, length, map, set, OnOk, IfOk};
 ghost use Rattle.queue_link.specs.Links.{fresh};
-ghost use Rattle.node_seconds.specs.Networks.{lane, is_among, AreIn, AreOnce, put_back};
+ghost use Rattle.node_seconds.specs.Networks.{lane, is_among, AreOnce, put_back};
+ghost use Rattle.calendar.specs.Due.{AreIn};
 
 use queue_link::LinkState;
 use std::alloc::{AllocError, Global};

@@ -1,6 +1,6 @@
 -- Nodes that rest go on waiting, while the places of a second come free and while links have their turns.
 use Rattle.traffic.proofs.Common.{◌≡◌, ◌≢◌, ℕ, ◌+◌, ◌<◌, ◌≤◌, false, List, ◌∙◌, ap, sym, subst, arith, inl, inr, cases_Bool, length, Option, Some}
-use Rattle.traffic.proofs.Common.{World, Setup, at, link_row, hole_of, turns_in, after}
+use Rattle.traffic.proofs.Common.{World, Setup, at, hole_of, turns_in, after}
 use Rattle.events.specs.declared.event.Phase.TheVariants as phase
 use Rattle.traffic.specs.declared.stage.Stage.TheVariants.{Buffer}
 use Rattle.calendar.specs.Waking.{wake_of}

@@ -9,7 +9,8 @@ use Rattle.std.proofs.lemmas.List.{get_or_default}
 use Rattle.rows.specs.declared.network.LinkRow.{LinkRow}
 use Rattle.rows.specs.declared.settings.TrafficSettings.{TrafficSettings}
 use Rattle.queue_link.specs.Links.{LinkView, fresh}
-use Rattle.queue_link.specs.Numbers.{IsMeasured, numbers_of}
+use Rattle.queue_link.specs.Numbers.{numbers_of}
+use Rattle.rows.specs.Networks.{IsMeasured}
 use Rattle.calendar.specs.Waking.{wake_of}
 use Rattle.part_nodes.specs.declared.network.Network.{Network}
 use Rattle.part_nodes.proofs.Held.{none_waits}
@@ -18,9 +19,10 @@ use Rattle.part_persons.specs.Dues.{AreFollowedIn}
 use Rattle.part_places.specs.Taking.{AreTaken, empty}
 use Rattle.law_parts_of_days.specs.Beginning.{AreFresh}
 use Rattle.law_parts_of_days.specs.Persons.{AreDeparting}
-use Rattle.law_parts_of_days.proofs.Beginning.{links_begin, wakes_begin, places_begin, lines_begin, buffers_begin, begins_with, nodes_of, stops_of, next_fresh, measured_row}
+use Rattle.law_parts_of_days.proofs.Beginning.{links_begin, wakes_begin, places_begin, lines_begin, buffers_begin, begins_with, nodes_of, stops_of, next_fresh}
 use Rattle.part_day.specs.declared.part.Part.{Part}
 use Rattle.part_day.specs.Stands.{Stands, NetworkStands}
+use Rattle.person_moves.proofs.LinkRows.{measured}
 
 no_rows : (S : Setup) → (world_start S).rows ≡ []
 unfolding world_start
@@ -76,5 +78,5 @@ pub measured_at : (day : DayInput) (rows : List LinkRow) (k : ℕ) (none : LinkR
     → IsMeasured (get_or rows k none)
 measured_at day rows k none e lt =
     let row = get_or rows k none in
-    measured_row day k row (subst (λ (xs : List LinkRow). k < length xs) e lt)
+    measured day k row (subst (λ (xs : List LinkRow). k < length xs) e lt)
     (get_or_default rows k none row lt ∙ ap (λ (xs : List LinkRow). get_or xs k row) e)

@@ -4,7 +4,8 @@ ghost use Rattle.std.specs.Prelude.{◌≡◌, ◌≤◌, [], length, replicate,
 ghost use Rattle.limits.specs.declared.TheConstants.{MAX_LINKS};
 ghost use Rattle.law_in_range.specs.Setups.{HaveFittingPlans};
 ghost use Rattle.queue_link.specs.Links.{fresh};
-ghost use Rattle.queue_link.specs.Numbers.{IsMeasured, numbers_of};
+ghost use Rattle.queue_link.specs.Numbers.{numbers_of};
+ghost use Rattle.rows.specs.Networks.{IsMeasured};
 ghost use Rattle.town.specs.Views.{setup};
 ghost use Rattle.traffic.specs.Day.{world_at};
 ghost use Rattle.law_parts_of_days.specs.Beginning.{AreFresh};

@@ -9,7 +9,8 @@ ghost use Rattle.law_in_range.specs.Setups.{HaveFittingPlans};
 ghost use Rattle.town.specs.Views.{setup};
 ghost use Rattle.traffic.specs.Lists.{below};
 ghost use Rattle.traffic.specs.Day.{keyed, end_events, world_at};
-ghost use Rattle.law_parts_of_days.specs.Riding.{stuck_on, stranded_on, told_on};
+ghost use Rattle.law_parts_of_days.specs.Riding.{stranded_on, told_on};
+ghost use Rattle.traffic.specs.Persons.{stuck_on};
 ghost use Rattle.part_day.specs.Stands.{Stands};
 
 use crate::part::Part;

@@ -1,59 +1,21 @@
 //! What the turns of links, and places that come free, mean for when nodes are woken; and what the turns of links mean for places.
 
-ghost use Rattle.std.specs.Prelude.{◌≡◌, ◌<◌, ◌≤◌, ◌+◌, ℕ, true, length, get_or, OnOk};
+ghost use Rattle.std.specs.Prelude.{◌≡◌, ◌<◌, ◌≤◌, ◌+◌, ℕ, length, OnOk};
 ghost use Rattle.limits.specs.declared.TheConstants.{LAST_SECOND};
-ghost use Rattle.rows.specs.Settings.{is_hole_speed};
 ghost use Rattle.town.specs.Views.{setup};
-ghost use Rattle.traffic.specs.Setup.{hole_seconds, link_row, hole_of};
-ghost use Rattle.node_seconds.specs.Networks.{lane, AreIn, AreOnce};
+ghost use Rattle.traffic.specs.Setup.{link_row, hole_of};
+ghost use Rattle.node_seconds.specs.Networks.{AreOnce};
+ghost use Rattle.calendar.specs.Due.{AreIn};
 ghost use Rattle.part_places.specs.Taking.{Taking, AreTaken, later};
 ghost use Rattle.law_parts_of_days.specs.Settling.{queued_in, buffered_in, settled, wake_end, wake_ends, wake_start, wake_starts};
 
 use calendar::Wakes;
 use part_places::{Left, Places};
+use person_moves::{hole_of, link_row};
 use queue_link::LinkState;
-use rows::{LinkList, LinkRow};
+use rows::LinkList;
 use std::alloc::AllocError;
 use town::DayInput;
-
-/// The row of a link.
-fn row_at(links: &LinkList, link: u32) -> LinkRow
-    requires { link < length links.now }
-    ensures { result ≡ get_or links.now link result }
-{
-    links.rows[link as usize]
-}
-
-/// The row of a link of the town.
-fn link_row(day: &DayInput, link: u32) -> LinkRow
-    requires { link < length day.now.town.now.network.links }
-    ensures row { link_row (setup day.now) link ≡ result }
-    ensures to { result.to < length day.now.town.now.network.nodes }
-    ensures from { result.from < length day.now.town.now.network.nodes }
-{
-    row_at(&day.town.network.links, link)
-}
-
-/// For how many seconds a place that was left stays taken.
-#[tactic(auto, unfolding(traffic::specs::Setup::hole_seconds))]
-fn hole_seconds(length: u32, speed: Option<u32>) -> u32
-    requires { is_hole_speed speed ≡ true }
-    ensures { result ≡ hole_seconds length speed }
-{
-    match speed {
-        None => 1,
-        Some(speed) => (length / speed).max(1),
-    }
-}
-
-/// The same on a link.
-fn hole_of(day: &DayInput, link: u32) -> u32
-    requires { link < length day.now.town.now.network.links }
-    ensures { result ≡ hole_of (setup day.now) link }
-{
-    let row = link_row(day, link);
-    hole_seconds(row.length, day.town.settings.hole_speed)
-}
 
 /// How many vehicles are in the queue of the link of a number.
 #[tactic(auto, using(node_move::proofs::Places::is_at))]

@@ -20,7 +20,8 @@ use Rattle.queue_link.specs.Numbers.{numbers_of, rules_of}
 use Rattle.link_seconds.specs.Seconds.{HaveLines, StopThere, IsThere, IsSecond, lists_at, line_at, left_after}
 use Rattle.node_move.specs.NodeStates.{no_link}
 use Rattle.node_seconds.specs.Networks.{lane, is_among}
-use Rattle.node_seconds.specs.Networks.{AreIn, AreOnce}
+use Rattle.node_seconds.specs.Networks.{AreOnce}
+use Rattle.calendar.specs.Due.{AreIn}
 use Rattle.node_seconds.proofs.Lanes.{in_at, among_front}
 use Rattle.part_links.specs.Links.{IsLink, AreNumbered, LinksStandAt, LinesStandAt, StopsThere, CanTurn, lies_on, wake_after}
 use Rattle.part_links.specs.Phase.{moves_at, IsTurn, turned, keyed_by, told_by, waiting_behind, AreTurned}

@@ -33,7 +33,8 @@ use Rattle.law_waking.proofs.Resting.{settled_rests}
 use Rattle.law_waking.proofs.Lines.{turn_leaves}
 use Rattle.traffic.proofs.Each.{each_number, each_weaker}
 use Rattle.calendar.proofs.Woken.{woken_is}
-use Rattle.node_seconds.specs.Networks.{lane, is_among, AreIn, AreOnce}
+use Rattle.node_seconds.specs.Networks.{lane, is_among, AreOnce}
+use Rattle.calendar.specs.Due.{AreIn}
 use Rattle.part_links.specs.Links.{IsLink, AreNumbered, LinksStandAt, LinesStandAt, AreAsleep, lies_on, no_sooner, wake_after}
 use Rattle.part_links.specs.Phase.{turned, keyed_by, told_by, waiting_behind, AreTurned, turns_at, IsPhaseBy, IsPhaseAt, IsPhase}
 use Rattle.part_links.proofs.Numbers.{among_passed, once_passed}

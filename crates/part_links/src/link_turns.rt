@@ -2,7 +2,6 @@
 
 ghost use Rattle.std.specs.Prelude.{◌≡◌, ℕ, ◌+◌, ◌<◌, ◌++◌, Bool, List, [], length, set, OnOk, IfOk};
 ghost use Rattle.std.specs.List.{AllByRecursion as Each};
-ghost use Rattle.events.specs.declared.event.Phase.TheVariants.{D};
 ghost use Rattle.events.specs.Keys.{phase_code};
 ghost use Rattle.limits.specs.declared.TheConstants.{LAST_SECOND};
 ghost use Rattle.rows.specs.Settings.{IsDwelling};
@@ -43,6 +42,28 @@ pub struct Told {
     pub events: Vec<Event>,
     /// The same without keys.
     pub said: Vec<Occurrence>,
+}
+
+impl Told {
+    /// Appends what a turn tells: that of the link or node of this number, in this second and phase.
+    ///
+    /// # Errors
+    ///
+    /// `AllocError`: there is no memory for it. Part of it may be appended.
+    pub fn append(
+        &mut self,
+        second: u32,
+        phase: Phase,
+        number: u32,
+        said: &[Occurrence],
+    ) -> Result<(), AllocError>
+        ensures events { OnOk result (self.new.events.items ≡ self.old.events.items ++ keyed second (phase_code phase) number 0 said.now) }
+        ensures said { OnOk result (self.new.said.items ≡ self.old.said.items ++ said.now) }
+    {
+        push_keyed(second, phase, number, said, &mut self.events)?;
+        self.said.extend_from_slice(said)?;
+        Ok(())
+    }
 }
 
 /// The number of the link in a slot.
@@ -124,22 +145,6 @@ fn wake_again(
     Ok(())
 }
 
-/// Appends what a link tells.
-fn tell(
-    phase: &LinkPhase,
-    number: u32,
-    said: &[Occurrence],
-    told: &mut Told,
-) -> Result<(), AllocError>
-    ensures events { OnOk result (told.new.events.items
-        ≡ told.old.events.items ++ keyed phase.now.second (phase_code D) number 0 said.now) }
-    ensures said { OnOk result (told.new.said.items ≡ told.old.said.items ++ said.now) }
-{
-    push_keyed(phase.second, Phase::D, number, said, &mut told.events)?;
-    told.said.extend_from_slice(said)?;
-    Ok(())
-}
-
 /// The turn of the link in a slot, which is then woken again when it may have something to do.
 ///
 /// # Errors
@@ -172,6 +177,6 @@ pub(crate) fn turn_link(
     let number = number_at(links, slot);
     let said = turn_at(alloc, phase, slot, links, lines)?;
     wake_again(phase, slot, links, wakes)?;
-    tell(phase, number, &said, told)?;
+    told.append(phase.second, Phase::D, number, &said)?;
     Ok(())
 }

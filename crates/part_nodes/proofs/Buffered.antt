@@ -1,7 +1,6 @@
 -- Of the links into a node only those with somebody in their buffers matter.
-use Rattle.traffic.proofs.Common.{◌≡◌, ℕ, zero, suc, ◌+◌, ◌<◌, ◌≤◌, Bool, true, false, List, [], ◌∷◌, ◌++◌, ◌∙◌, ap, refl, sym, subst, arith, inl, inr, length, map, filter, not, ◌||◌}
+use Rattle.traffic.proofs.Common.{◌≡◌, ℕ, suc, ◌+◌, ◌<◌, ◌≤◌, Bool, true, false, List, [], ◌∷◌, ◌++◌, ◌∙◌, ap, refl, sym, arith, inl, inr, length, map, filter, not, ◌||◌}
 use Rattle.traffic.proofs.Common.{cases_Bool, eqb, eqb-true, or_parts, true≢false, nat_lt, lt-ltb, Option, Some, World, Setup, at, into, link_row, in_link, out_link, ready, mark, draw, node_moves, node_turns, word}
-use Rattle.std.specs.List.{AllByRecursion as Each}
 use Rattle.rows.specs.declared.settings.Stuck.{Stuck}
 use Rattle.draws.specs.Words.{Source}
 use Rattle.traffic.specs.declared.moves.Move.{Move}
@@ -15,7 +14,8 @@ use Rattle.law_joined_routes.specs.Going.{GoOn}
 use Rattle.queue_link.specs.Links.{LinkView}
 use Rattle.node_move.specs.Spaces.{places_in}
 use Rattle.node_move.specs.NodeStates.{in_links_of}
-use Rattle.node_seconds.specs.Networks.{lane, is_among, AreIn, AreOnce}
+use Rattle.node_seconds.specs.Networks.{lane, is_among, AreOnce}
+use Rattle.calendar.specs.Due.{AreIn}
 use Rattle.part_links.specs.Links.{LinksStand}
 use Rattle.part_nodes.specs.Turns.{IsTurnOf, lights_of, is_buffered}
 use Rattle.part_nodes.specs.Phase.{places_at}

@@ -17,12 +17,11 @@ use Rattle.traffic.specs.declared.stage.Stage.TheVariants.{Queue, Buffer}
 use Rattle.traffic.specs.declared.world.Row.{Row}
 use Rattle.traffic.specs.Lists.{is_nil}
 use Rattle.traffic.proofs.Nodes.{node-buffers}
-use Rattle.calendar.specs.Waking.{wake_of, is_second, slept}
+use Rattle.calendar.specs.Waking.{wake_of, is_second, slept, earliest as sooner}
 use Rattle.law_joined_routes.specs.Going.{GoesOn}
 use Rattle.law_sleeping.specs.Able.{can_go, is_able}
 use Rattle.law_sleeping.proofs.Places.{run_places, nodes_keep_places}
 use Rattle.queue_link.specs.Links.{LinkView}
-use Rattle.queue_link.specs.Waking.{earlier as sooner}
 use Rattle.node_move.specs.Spaces.{places_in}
 use Rattle.node_seconds.specs.Networks.{lane, is_among}
 use Rattle.part_places.specs.Taking.{still}

@@ -1,6 +1,6 @@
 -- The turn of a node: the network stands for the world after it.
-use Rattle.traffic.proofs.Common.{◌≡◌, ◌≢◌, ℕ, List, ◌∙◌, length, ap, refl, sym, [], ◌∷◌, ◌++◌, arith, ◌<◌, ◌+◌, true, false, Bool, inl, inr, eqb, subst, flat_map, map, filter, not}
-use Rattle.traffic.proofs.Common.{Some, None, Option, cases_Bool, eqb-true, eq-eqb, set, get_or-set_same, get_or-set_other, length-set, if◌then◌else◌}
+use Rattle.traffic.proofs.Common.{◌≡◌, ◌≢◌, ℕ, List, ◌∙◌, length, ap, refl, sym, [], ◌∷◌, ◌++◌, arith, ◌<◌, ◌+◌, true, false, Bool, inl, inr, eqb, subst, flat_map, map, filter}
+use Rattle.traffic.proofs.Common.{None, Option, cases_Bool, eq-eqb, set, get_or-set_same, get_or-set_other, length-set, if◌then◌else◌}
 use Rattle.traffic.proofs.Common.{node_turns, World, on, at, Setup, into, link_row, seconds_of, at_after_all, run, out_links_after, told, credit_of, numbers, keyed, phase_code}
 use Rattle.traffic.specs.declared.moves.Move.{Move}
 use Rattle.traffic.specs.declared.moves.Occurrence.{Occurrence}
@@ -26,7 +26,8 @@ use Rattle.node_move.specs.Spaces.{places_in}
 use Rattle.node_move.specs.NodeStates.{buffer_after, entering_by}
 use Rattle.node_move.specs.declared.crossings.Entering.{Entering}
 use Rattle.link_seconds.specs.Seconds.{lists_at}
-use Rattle.node_seconds.specs.Networks.{lane, is_among, accepted_all, wakes_after_all, AreIn}
+use Rattle.node_seconds.specs.Networks.{lane, is_among, accepted_all, wakes_after_all}
+use Rattle.calendar.specs.Due.{AreIn}
 use Rattle.part_links.specs.Links.{LinksStand, AreAsleep}
 use Rattle.part_nodes.specs.declared.network.Network.{Network}
 use Rattle.node_move.specs.declared.turns.NodeTurn.{NodeTurn}

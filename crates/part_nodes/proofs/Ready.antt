@@ -13,8 +13,9 @@ use Rattle.town.specs.Views.{setup}
 use Rattle.law_in_range.specs.Rows.{Counts, IsFitRow, IsFitWorld}
 use Rattle.law_in_range.proofs.Sizes.{buffer_next}
 use Rattle.queue_link.specs.Links.{LinkView}
-use Rattle.node_move.specs.NodeStates.{HasNext, HaveNext}
-use Rattle.node_seconds.specs.Networks.{AreIn, AreOnce}
+use Rattle.traffic.specs.Nodes.{HaveNext, HasNext}
+use Rattle.node_seconds.specs.Networks.{AreOnce}
+use Rattle.calendar.specs.Due.{AreIn}
 use Rattle.node_seconds.specs.Turns.{HaveNumbers, AreReadyInto}
 use Rattle.part_links.specs.Links.{LinksStand}
 use Rattle.part_links.proofs.Numbers.{once_passed}

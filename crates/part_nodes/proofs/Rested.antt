@@ -16,7 +16,8 @@ use Rattle.queue_link.specs.Links.{LinkView}
 use Rattle.queue_link.specs.Numbers.{rules_of}
 use Rattle.link_seconds.specs.Seconds.{lists_at}
 use Rattle.node_move.specs.NodeStates.{buffer_after}
-use Rattle.node_seconds.specs.Networks.{lane, is_among, AreIn}
+use Rattle.node_seconds.specs.Networks.{lane, is_among}
+use Rattle.calendar.specs.Due.{AreIn}
 use Rattle.part_nodes.specs.declared.node_turns.Buffered.{Buffered}
 use Rattle.part_nodes.specs.Turns.{count_in, buffered_in, is_clear, is_emptied, wake_emptied, wake_all_emptied, AreThere}
 use Rattle.part_links.specs.Links.{AreAsleep}

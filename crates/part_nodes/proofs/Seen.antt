@@ -1,28 +1,26 @@
 -- What a node sees of the links of a network is what it sees of the world for which they stand.
 use Rattle.traffic.proofs.Common.{◌≡◌, ℕ, List, ◌∙◌, length, ap, refl, [], ◌∷◌, arith, ◌<◌, ◌≤◌, ◌+◌, true, inl, inr, suc, zero, eqb, map, filter}
-use Rattle.traffic.proofs.Common.{Some, Option, cases_Bool, eqb-true, eq-eqb, word, node_turns, below, numbers, in_link, out_link, node_moves, World, on, Setup, into, link_row, next_link, at}
-use Rattle.traffic.specs.declared.moves.Move.{Move}
+use Rattle.traffic.proofs.Common.{Some, Option, cases_Bool, eqb-true, eq-eqb, below, numbers, in_link, out_link, World, Setup, into, link_row, next_link, at}
 use Rattle.traffic.specs.declared.node_views.InLink.{InLink}
 use Rattle.traffic.specs.declared.node_views.OutLink.{OutLink}
 use Rattle.traffic.specs.declared.stage.Stage.TheVariants.{Buffer}
 use Rattle.traffic.specs.declared.world.Row.{Row}
-use Rattle.rows.specs.declared.settings.Stuck.{Stuck}
 use Rattle.std.specs.List.{AllByRecursion as Each}
 use Rattle.traffic.proofs.Each.{each_weaker}
-use Rattle.draws.specs.Words.{Source}
 use Rattle.traffic.specs.Links.{LinkState}
 use Rattle.queue_link.specs.Links.{LinkView}
 use Rattle.queue_link.specs.declared.numbers.LinkNumbers.{LinkNumbers}
 use Rattle.queue_link.specs.Numbers.{numbers_of}
 use Rattle.node_move.specs.Spaces.{places_in}
 use Rattle.node_move.specs.NodeStates.{in_link_of, in_links_of}
-use Rattle.node_seconds.specs.Networks.{lane, AreIn, is_among}
+use Rattle.node_seconds.specs.Networks.{lane, is_among}
+use Rattle.calendar.specs.Due.{AreIn}
 use Rattle.part_links.specs.Links.{LinksStand}
 use Rattle.part_links.proofs.Numbers.{among_passed}
-use Rattle.part_nodes.specs.Turns.{IsTurnOf, lights_of}
+use Rattle.part_nodes.specs.Turns.{lights_of}
 use Rattle.law_joined_routes.specs.Going.{GoesOn, GoOn}
 use Rattle.part_nodes.specs.Phase.{places_at}
-use Rattle.part_nodes.proofs.Leading.{Agree, Leads, Lead, node_same}
+use Rattle.part_nodes.proofs.Leading.{Agree, Leads, Lead}
 
 -- NUMBERS
 pub number_is : (S : Setup) (t l : ℕ) (links : List LinkView) (V : World) → l < length S.links → LinksStand S t links V → (lane links l).numbers.link ≡ l

@@ -1,6 +1,6 @@
 -- The turns of the nodes that are woken, one after the other, are those of all nodes.
 use Rattle.traffic.proofs.Common.{◌≡◌, ◌≢◌, ℕ, List, ◌∙◌, length, ap, refl, sym, [], ◌∷◌, ◌++◌, arith, ◌<◌, ◌≤◌, ◌+◌, true, false, Bool, inl, inr, suc, zero, eqb, subst, flat_map, map, filter, append_assoc, append-nil}
-use Rattle.traffic.proofs.Common.{Some, None, Option, cases_Bool, eqb-true, eqb-false, eq-eqb, ne_eqb, or_parts, true≢false}
+use Rattle.traffic.proofs.Common.{Some, None, Option, cases_Bool, eqb-true, eqb-false, ne_eqb, or_parts, true≢false}
 use Rattle.traffic.proofs.Common.{node_turns, node_view, World, at, Setup, into, link_row, run, told, numbers, below, sees, mark, keyed, phase_code, at_after_all}
 use Rattle.traffic.proofs.Common.{turns, turns_of, turns_in, after, moves_of, events_in, events_of, Turn, Event}
 use Rattle.traffic.specs.declared.moves.Move.{Move}
@@ -17,7 +17,8 @@ use Rattle.traffic.proofs.Nodes.{node_untouched}
 use Rattle.law_in_range.specs.Rows.{Counts}
 use Rattle.calendar.specs.Waking.{wake_of, is_second, is_woken, woken, slept}
 use Rattle.calendar.proofs.Woken.{woken_is}
-use Rattle.node_seconds.specs.Networks.{is_among, AreIn, AreOnce}
+use Rattle.node_seconds.specs.Networks.{is_among, AreOnce}
+use Rattle.calendar.specs.Due.{AreIn}
 use Rattle.part_links.proofs.Numbers.{among_other, among_passed, once_passed}
 use Rattle.part_persons.proofs.Skipping.{Idle, distinct_filter, skip_world, skip_events}
 use Rattle.part_nodes.specs.declared.network.Network.{Network}

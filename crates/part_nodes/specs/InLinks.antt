@@ -2,10 +2,11 @@
 use Rattle.std.specs.Prelude.{◌≡◌, ℕ, ◌<◌, List, [], length, filter, get_or, ◌==◌}
 use Rattle.rows.specs.declared.network.LinkRow.{LinkRow}
 use Rattle.traffic.specs.Lists.{below}
+use Rattle.traffic.specs.Setup.{row_at}
 
 -- the node to which a link leads
 abbrev pub leads_to : List LinkRow → ℕ → ℕ
-leads_to links l = (get_or links l (record { from = 0; to = 0; length = 0; speed = 1; capacity = 0; lanes = 0 })).to
+leads_to links l = (row_at links l).to
 
 -- those of the first so many links that lead into node n, ascending
 abbrev pub first_into : List LinkRow → ℕ → ℕ → List ℕ

@@ -1,5 +1,5 @@
 -- What the turn of a node asks of the links into it, and which of them it wakes.
-use Rattle.std.specs.Prelude.{◌≡◌, ℕ, ◌+◌, ◌<◌, Bool, false, not, ◌&&◌, List, [], ◌∷◌, length, map, set}
+use Rattle.std.specs.Prelude.{◌≡◌, ℕ, ◌+◌, ◌<◌, Bool, false, not, ◌&&◌, List, [], ◌∷◌, length, map}
 use Rattle.std.specs.Prelude.{◌==◌, nat_le, nat_lt, if◌then◌else◌, Option, None, Some}
 use Rattle.std.specs.List.{list_any}
 use Rattle.draws.specs.Words.{Source, word}
@@ -12,9 +12,8 @@ use Rattle.rows.specs.Greens.{Phases, green_at}
 use Rattle.town.specs.declared.day_input.DayInput.{DayInput}
 use Rattle.law_sleeping.specs.Able.{can_go}
 use Rattle.node_move.specs.Spaces.{places_in}
-use Rattle.calendar.specs.Waking.{wake_of, earlier}
+use Rattle.calendar.specs.Waking.{earliest as sooner, woken_by}
 use Rattle.queue_link.specs.Links.{LinkView, front_second}
-use Rattle.queue_link.specs.Waking.{earlier as sooner}
 use Rattle.node_seconds.specs.Networks.{lane}
 use Rattle.part_nodes.specs.declared.node_turns.Buffered.{Buffered}
 
@@ -45,7 +44,7 @@ is_emptied b links = not (count_in links b.link == b.count) && not (is_clear (la
 
 -- such a link is woken in second t
 abbrev pub wake_emptied : ℕ → Buffered → List LinkView → List (Option ℕ) → List (Option ℕ)
-wake_emptied t b links wakes = if is_emptied b links then set wakes b.link (earlier t (wake_of wakes b.link)) else wakes
+wake_emptied t b links wakes = if is_emptied b links then woken_by t b.link wakes else wakes
 
 -- the same of each of these links, in order
 unfoldable pub wake_all_emptied : ℕ → List Buffered → List LinkView → List (Option ℕ) → List (Option ℕ)

@@ -1,15 +1,13 @@
 //! The turn of a node that is woken.
 
 ghost use Rattle.std.specs.Prelude.{◌≡◌, ◌+◌, ◌<◌, ◌++◌, length, map, filter, OnOk, IfOk};
-ghost use Rattle.events.specs.declared.event.Phase.TheVariants.{C};
-ghost use Rattle.events.specs.Keys.{phase_code};
 ghost use Rattle.limits.specs.declared.TheConstants.{LAST_SECOND};
 ghost use Rattle.law_in_range.specs.Setups.{counts_in, HaveFittingPlans};
 ghost use Rattle.town.specs.Views.{setup};
 ghost use Rattle.traffic.specs.Rows.{World};
 ghost use Rattle.traffic.specs.Setup.{into};
-ghost use Rattle.traffic.specs.Day.{keyed};
-ghost use Rattle.node_seconds.specs.Networks.{lane, AreIn};
+ghost use Rattle.node_seconds.specs.Networks.{lane};
+ghost use Rattle.calendar.specs.Due.{AreIn};
 ghost use Rattle.part_nodes.specs.Turns.{IsTurnOf, lights_of, buffered_in, is_clear, is_emptied, wake_emptied, wake_all_emptied};
 ghost use Rattle.part_nodes.specs.Turns.{AreThere, is_buffered};
 ghost use Rattle.part_nodes.specs.Phase.{LinksStandFor, LinksStandForSome, StandsFor, Stands, IsPassed, IsTurn};
@@ -22,7 +20,6 @@ use events::Phase;
 use node_move::{NodeTurn, Space};
 use node_seconds::{enter_links, node_second};
 use part_links::Told;
-use person_moves::push_keyed;
 use queue_link::LinkState;
 use rows::green_in;
 use std::alloc::{AllocError, Global};
@@ -272,22 +269,6 @@ fn pass_node(
     Ok(said)
 }
 
-/// Appends what a node tells.
-fn tell(
-    phase: &NodePhase,
-    node: u32,
-    said: &[Occurrence],
-    told: &mut Told,
-) -> Result<(), AllocError>
-    ensures events { OnOk result (told.new.events.items
-        ≡ told.old.events.items ++ keyed phase.now.second (phase_code C) node 0 said.now) }
-    ensures said { OnOk result (told.new.said.items ≡ told.old.said.items ++ said.now) }
-{
-    push_keyed(phase.second, Phase::C, node, said, &mut told.events)?;
-    told.said.extend_from_slice(said)?;
-    Ok(())
-}
-
 /// The turn of a node. Appends what it tells.
 ///
 /// # Errors
@@ -331,6 +312,6 @@ pub(crate) fn turn_node(
         &network.places.space,
         &mut network.node_wakes,
     )?;
-    tell(phase, node, &said, told)?;
+    told.append(phase.second, Phase::C, node, &said)?;
     Ok(())
 }

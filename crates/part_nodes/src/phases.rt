@@ -6,7 +6,8 @@ ghost use Rattle.law_in_range.specs.Setups.{counts_in, HaveFittingPlans};
 ghost use Rattle.town.specs.Views.{setup};
 ghost use Rattle.traffic.specs.Rows.{World};
 ghost use Rattle.traffic.specs.Setup.{into};
-ghost use Rattle.node_seconds.specs.Networks.{AreIn, AreOnce};
+ghost use Rattle.node_seconds.specs.Networks.{AreOnce};
+ghost use Rattle.calendar.specs.Due.{AreIn};
 ghost use Rattle.part_nodes.specs.Phase.{StandsFor, Stands, AreAwaited, AreTurned, IsPhase};
 
 use crate::in_link_rows::InLinks;

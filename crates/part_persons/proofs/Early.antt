@@ -21,7 +21,8 @@ use Rattle.town.specs.Views.{setup}
 use Rattle.calendar.specs.Waking.{wake_of, is_second, is_woken, woken, slept}
 use Rattle.calendar.proofs.Woken.{AreNumbers, woken_is}
 use Rattle.part_persons.specs.Dues.{due_at_place, person_due, AreFollowed}
-use Rattle.part_persons.specs.Phases.{AreBelow, departs_in}
+use Rattle.part_persons.specs.Phases.{departs_in}
+use Rattle.calendar.specs.Due.{AreIn}
 use Rattle.part_persons.proofs.InOrder.{all_turns, after_more}
 use Rattle.part_persons.proofs.Skipping.{Idle, skip_world, skip_events}
 
@@ -64,13 +65,13 @@ are_numbers = record { none = λ n. refl; more = λ n count. refl }
 pub woken_all : (t : ℕ) (wakes : List (Option ℕ)) → woken t wakes ≡ filter (is_woken t wakes) (below (length wakes))
 woken_all t wakes = woken_is numbers t wakes are_numbers
 
-pub woken_below : (t count : ℕ) (wakes : List (Option ℕ)) → length wakes ≡ count → AreBelow count (woken t wakes)
+pub woken_below : (t count : ℕ) (wakes : List (Option ℕ)) → length wakes ≡ count → AreIn count (woken t wakes)
 woken_below t count wakes e =
     let P = λ (n : ℕ). n < count in
     subst (λ (ns : List ℕ). Each P ns) (sym (woken_all t wakes)) (each_kept P (is_woken t wakes) (below (length wakes)) (each_number count 0 (length wakes) (omega arith)))
 
-pub woken_in : (t count : ℕ) (wakes : List (Option ℕ)) (due : List ℕ) → due ≡ woken t wakes → length wakes ≡ count → AreBelow count due
-woken_in t count wakes due d e = subst (λ (ns : List ℕ). AreBelow count ns) (sym d) (woken_below t count wakes e)
+pub woken_in : (t count : ℕ) (wakes : List (Option ℕ)) (due : List ℕ) → due ≡ woken t wakes → length wakes ≡ count → AreIn count due
+woken_in t count wakes due d e = subst (λ (ns : List ℕ). AreIn count ns) (sym d) (woken_below t count wakes e)
 
 pub slept_length : (t : ℕ) (wakes now : List (Option ℕ)) → now ≡ map (slept t) wakes → length now ≡ length wakes
 slept_length t wakes now e = ap length e ∙ length-map wakes (slept t)
@@ -207,8 +208,8 @@ started S t W0 W1 due old out d a ae =
       events = ae ∙ ap (λ (xs : List Event). old ++ xs) (e ∙ sym (append-nil _));
     }
 
-pub departs_below : (S : Setup) (t : ℕ) → AreBelow (length S.departures) (departs_in S t)
+pub departs_below : (S : Setup) (t : ℕ) → AreIn (length S.departures) (departs_in S t)
 departs_below S t = each_kept (λ (n : ℕ). n < length S.departures) (λ (n : ℕ). eqb (departure S n).second t) (below (length S.departures)) (each_number (length S.departures) 0 (length S.departures) (omega arith))
 
-pub departs_in_range : (S : Setup) (t : ℕ) (due : List ℕ) → due ≡ departs_in S t → AreBelow (length S.departures) due
-departs_in_range S t due e = subst (λ (ns : List ℕ). AreBelow (length S.departures) ns) (sym e) (departs_below S t)
+pub departs_in_range : (S : Setup) (t : ℕ) (due : List ℕ) → due ≡ departs_in S t → AreIn (length S.departures) due
+departs_in_range S t due e = subst (λ (ns : List ℕ). AreIn (length S.departures) ns) (sym e) (departs_below S t)

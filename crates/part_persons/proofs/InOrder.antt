@@ -4,7 +4,7 @@ use Rattle.traffic.proofs.Common.{append-nil, append_assoc, Event, Phase, turns_
 use Rattle.std.proofs.Common.{drop}
 use Rattle.std.proofs.lemmas.List.{drop_more}
 use Rattle.traffic.proofs.Sublists.{run-append}
-use Rattle.part_persons.specs.Phases.{AreBelow}
+use Rattle.calendar.specs.Due.{AreIn}
 
 abbrev pub turn : Setup → ℕ → Phase → ℕ → World → Turn
 turn S t p n W = record { number = n; moves = turns_of S t p n W }
@@ -77,7 +77,7 @@ pub going_events : (S : Setup) (t : ℕ) (p : Phase) (i : ℕ) (ns : List ℕ) (
 going_events S t p i ns from now old out le g = all_events S t p ns from now old out (gone S t p i ns from now old out le g)
 
 -- numbers below a bound, by their places
-pub below_at : (count : ℕ) (ns : List ℕ) (i : ℕ) → AreBelow count ns → i < length ns → get_or ns i 0 < count
+pub below_at : (count : ℕ) (ns : List ℕ) (i : ℕ) → AreIn count ns → i < length ns → get_or ns i 0 < count
 below_at count [] i h lt = absurd (omega arith)
 below_at count (n ∷ ns) zero h lt = h.0
 below_at count (n ∷ ns) (suc i) h lt = below_at count ns i h.1 (omega arith)

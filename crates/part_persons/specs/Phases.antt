@@ -1,6 +1,5 @@
 -- The phases before the nodes and links have theirs.
 use Rattle.std.specs.Prelude.{ℕ, ◌+◌, ◌<◌, List, [], ◌∷◌, ◌++◌, length, filter, ◌==◌, if◌then◌else◌}
-use Rattle.std.specs.List.{AllByRecursion as Each}
 use Rattle.events.specs.declared.event.Phase.{Phase}
 use Rattle.events.specs.declared.event.Phase.TheVariants as phase
 use Rattle.rows.specs.declared.schedule.DepartureRow.{DepartureRow}
@@ -14,10 +13,6 @@ abbrev pub phase_of : EarlyPhase → Phase
 phase_of Land = phase.A
 phase_of Leave = phase.B1
 phase_of Start = phase.B2
-
--- these numbers are below that one
-abbrev pub AreBelow : ℕ → List ℕ → Type 0
-AreBelow count ns = Each (λ (n : ℕ). n < count) ns
 
 -- the departures of second t, by number
 abbrev pub departs_in : Setup → ℕ → List ℕ

@@ -1,6 +1,6 @@
 //! The phases in which persons land, persons leave, and departures start.
 
-ghost use Rattle.std.specs.Prelude.{◌≡◌, ℕ, ◌+◌, ◌<◌, ◌++◌, [], ◌∷◌, false, length, get_or, OnOk, IfOk};
+ghost use Rattle.std.specs.Prelude.{◌≡◌, ℕ, ◌+◌, ◌<◌, ◌++◌, [], ◌∷◌, false, length, OnOk, IfOk};
 ghost use Rattle.limits.specs.declared.TheConstants.{LAST_SECOND};
 ghost use Rattle.events.specs.declared.event.Phase.TheVariants as phase;
 ghost use Rattle.law_in_range.specs.Rows.{IsFitWorld};
@@ -9,10 +9,10 @@ ghost use Rattle.town.specs.Views.{setup};
 ghost use Rattle.traffic.specs.Rows.{person_of};
 ghost use Rattle.traffic.specs.Moves.{run};
 ghost use Rattle.traffic.specs.Day.{turns_of, count_of, turns, after, events_of, events_in, through, told_in};
-ghost use Rattle.calendar.specs.Due.{due_at, HasNone};
+ghost use Rattle.calendar.specs.Due.{due_at, HasNone, AreIn};
 ghost use Rattle.calendar.specs.Waking.{woken, is_woken};
 ghost use Rattle.part_persons.specs.Dues.{AreFollowedIn};
-ghost use Rattle.part_persons.specs.Phases.{phase_of, AreBelow, departs_in};
+ghost use Rattle.part_persons.specs.Phases.{phase_of, departs_in};
 
 use crate::persons::Persons;
 use crate::turns::PhaseTurn;
@@ -120,7 +120,7 @@ impl Persons {
         requires given { HaveFittingPlans day.now }
         requires fit { IsFitWorld (counts_in day.now) self.old.world }
         requires wakes { length self.old.wakes ≡ length self.old.world.persons }
-        requires there { AreBelow (count_of (setup day.now) (phase_of early)) numbers.now }
+        requires there { AreIn (count_of (setup day.now) (phase_of early)) numbers.now }
         ensures world { OnOk result (self.new.world ≡ after (setup day.now) second
             (turns (setup day.now) second (turns_of (setup day.now) second (phase_of early)) numbers.now self.old.world) self.old.world) }
         ensures events { OnOk result (events.new.items ≡ events.old.items ++ events_in second (phase_of early)

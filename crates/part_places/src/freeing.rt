@@ -1,7 +1,7 @@
 //! Places come free.
 
 ghost use Rattle.std.specs.Prelude.{◌≡◌, ℕ, ◌+◌, ◌-◌, ◌<◌, ◌==◌, if◌then◌else◌};
-ghost use Rattle.std.specs.Prelude.{length, get_or, set, filter, count_by, OnOk, IfOk};
+ghost use Rattle.std.specs.Prelude.{get_or, set, filter, OnOk, IfOk};
 ghost use Rattle.node_move.specs.Spaces.{places_in};
 ghost use Rattle.part_places.specs.Taking.{Taking, AreTaken, IsFull, fewer, is_full_in, times};
 

@@ -3,7 +3,7 @@ use Rattle.std.specs.Prelude.{ℕ, List, [], ◌∷◌, ◌++◌, length, set, n
 use Rattle.traffic.specs.declared.stage.Stage.TheVariants.{Wait}
 use Rattle.traffic.specs.declared.world.Row.{Row}
 use Rattle.traffic.specs.Vehicles.{VehicleState}
-use Rattle.calendar.specs.Waking.{wake_of, earlier}
+use Rattle.calendar.specs.Waking.{woken_by}
 use Rattle.queue_link.specs.Links.{LinkView, row_on}
 use Rattle.node_seconds.specs.Networks.{lane}
 
@@ -22,7 +22,7 @@ all_started (r ∷ rs) links = all_started rs (started r links)
 
 -- when links are woken then: that of the row in second t at the latest
 abbrev pub woken_for : ℕ → Row → List (Option ℕ) → List (Option ℕ)
-woken_for t r wakes = if nat_lt r.link (length wakes) then set wakes r.link (earlier t (wake_of wakes r.link)) else wakes
+woken_for t r wakes = if nat_lt r.link (length wakes) then woken_by t r.link wakes else wakes
 
 unfoldable pub woken_for_all : ℕ → List Row → List (Option ℕ) → List (Option ℕ)
 woken_for_all t [] wakes = wakes

@@ -1,5 +1,5 @@
 -- One more link, leg or plan in a table.
-use Rattle.std.proofs.Common.{◌≡◌, ℕ, ◌+◌, ◌<◌, List, [], ◌∷◌, ◌++◌, Bool, refl, sym, ◌∙◌, ap, subst, length, get_or, take, map, append-nil, min}
+use Rattle.std.proofs.Common.{◌≡◌, ℕ, ◌+◌, ◌<◌, List, [], ◌∷◌, ◌++◌, Bool, sym, ◌∙◌, ap, subst, length, get_or, take, map, append-nil, min}
 use Rattle.std.specs.Prelude.{Option, if◌then◌else◌, ◌==◌, ◌&&◌}
 use Rattle.std.specs.List.{list_any, flat_map}
 use Rattle.std.proofs.lemmas.List.{take_more, map-append, get_or_default}
@@ -8,7 +8,8 @@ use Rattle.rows.specs.declared.network.LinkRow.{LinkRow}
 use Rattle.rows.specs.declared.plan.Plan.{Plan}
 use Rattle.rows.specs.PlanRows.{PlanRows, plan_rows}
 use Rattle.parts.specs.Owners.{Owner, Hop}
-use Rattle.partition.specs.Neighbours.{AreJoined, is_either, is_over, is_hop_over, hop_in, hops_in, end_node, AreShorter, shortest, shortened, free_of, hole_at, seconds_of_hop, leads_over, hop_leads_over}
+use Rattle.partition.specs.Neighbours.{AreJoined, is_either, is_over, is_hop_over, hop_in, hops_in, end_node, AreShorter, shortest, shortened, hole_at, seconds_of_hop, leads_over, hop_leads_over}
+use Rattle.travel_times.specs.Times.{free_of}
 use Rattle.partition.proofs.Numbers.{flat_more, flat_push}
 use Rattle.partition.proofs.Tables.{and_comm, joined_more, joined_by_one, shorter_more, shorter_by_one, shorter_both}
 

@@ -6,7 +6,6 @@ use Rattle.rows.specs.declared.plan.Leg.{Leg}
 use Rattle.rows.specs.declared.plan.Leg.TheVariants as leg
 use Rattle.rows.specs.PlanRows.{PlanRows, act_in, leg_in}
 use Rattle.traffic.specs.Lists.{below, numbers}
-use Rattle.fixed_flow.specs.Link.{free_seconds}
 use Rattle.traffic.specs.Setup.{Setup, hole_seconds}
 use Rattle.parts.specs.Owners.{Owner, Hop, hop, near, lag, least}
 use Rattle.limits.specs.declared.TheConstants.{MAX_PARTITIONS}
@@ -71,10 +70,7 @@ is_over own p q r = leads_over own p q r || leads_over own q p r
 abbrev pub is_hop_over : Owner → List LinkRow → ℕ → ℕ → Hop → Bool
 is_hop_over own links p q h = hop_leads_over own links p q h || hop_leads_over own links q p h
 
--- the seconds that each takes, and those of the holes of a link
-abbrev pub free_of : LinkRow → ℕ
-free_of r = free_seconds r.length r.speed
-
+-- the seconds of the holes of a link
 abbrev pub hole_at : Option ℕ → LinkRow → ℕ
 hole_at speed r = hole_seconds r.length speed
 

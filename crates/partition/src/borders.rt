@@ -8,16 +8,18 @@ ghost use Rattle.rows.specs.PlanRows.{plan_rows};
 ghost use Rattle.rows.specs.Settings.{is_hole_speed};
 ghost use Rattle.town.specs.Views.{setup};
 ghost use Rattle.partition.specs.Owned.{owner_in};
-ghost use Rattle.partition.specs.Neighbours.{AreShorter, AreLags, shortened, shortest, free_of, hole_at, seconds_of_hop, IsPairOf};
+ghost use Rattle.partition.specs.Neighbours.{AreShorter, AreLags, shortened, shortest, hole_at, seconds_of_hop, IsPairOf};
+ghost use Rattle.travel_times.specs.Times.{free_of};
 ghost use Rattle.partition.specs.Neighbours.{hops_in, leads_over, hop_leads_over, lags_of};
 
-use crate::crossings::{end_node, hole_seconds, hop_of, link_seconds};
+use crate::crossings::{end_node, hop_of, link_seconds};
 use crate::joining::{PLACES, Pair, place_of};
 use crate::owner::{Owner, owner_of_node};
 use limits::MAX_LAG;
 use rows::{LinkList, LinkRow, Plan};
 use std::alloc::{AllocError, Global};
 use town::DayInput;
+use vehicles::hole_seconds;
 
 /// The lags of two partitions, in seconds: what the lesser one does in a second changes nothing at the greater one before `there` seconds
 /// have passed, and the other way nothing before `back`.

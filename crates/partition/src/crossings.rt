@@ -4,10 +4,8 @@ ghost use Rattle.std.specs.Prelude.{◌≡◌, ◌≤◌, ◌+◌, ◌*◌, [], 
 ghost use Rattle.limits.specs.declared.TheConstants.{MAX_LEGS};
 ghost use Rattle.rows.specs.declared.plan.Leg.TheVariants as leg;
 ghost use Rattle.rows.specs.PlanRows.{plan_rows, act_in, leg_in};
-ghost use Rattle.rows.specs.Settings.{is_hole_speed};
 ghost use Rattle.rows.specs.Networks.{is_link};
 ghost use Rattle.fixed_flow.specs.Link.{free_seconds};
-ghost use Rattle.traffic.specs.Setup.{hole_seconds};
 ghost use Rattle.parts.specs.Owners.{hop};
 ghost use Rattle.partition.specs.Neighbours.{teleported, end_node};
 
@@ -80,16 +78,4 @@ pub(crate) fn link_seconds(nodes: usize, link: LinkRow) -> u32
     ensures { result ≡ free_seconds link.length link.speed }
 {
     free_seconds(link.length, link.speed)
-}
-
-/// The seconds that a place that is left takes from the end of a link of this length to its begin.
-#[tactic(auto, unfolding(traffic::specs::Setup::hole_seconds, fixed_flow::specs::Link::free_seconds))]
-pub(crate) fn hole_seconds(length: u32, speed: Option<u32>) -> u32
-    requires { is_hole_speed speed ≡ true }
-    ensures { result ≡ hole_seconds length speed }
-{
-    match speed {
-        None => 1,
-        Some(speed) => free_seconds(length, speed),
-    }
 }

@@ -201,14 +201,14 @@ is_late S own k p t i element (place.Teleporting start) =
 is_late S own k p t i element _ = false
 
 -- whether p knows of a person of its own
-abbrev pub is_known : Setup → Owner → (ℕ → ℕ → ℕ) → ℕ → ℕ → ℕ → Bool
-is_known S own k p t i =
+abbrev pub knows_of : Setup → Owner → (ℕ → ℕ → ℕ) → ℕ → ℕ → ℕ → Bool
+knows_of S own k p t i =
     let P = person_of i (world_at S t) in
     not (is_late S own k p t i P.element P.place)
 
 -- the persons of p of whom it knows
 abbrev pub has : Setup → Owner → (ℕ → ℕ → ℕ) → ℕ → ℕ → ℕ → Bool
-has S own k p t i = is_person S i && ((owner_of_person S own (world_at S t) i == p) && is_known S own k p t i)
+has S own k p t i = is_person S i && ((owner_of_person S own (world_at S t) i == p) && knows_of S own k p t i)
 
 -- What p has by itself after t seconds where it has not heard of the last k q p seconds of each q: its part without the vehicles, riders
 -- and flights that came to it in them, and with the rows that left over there in them counted as rows and not as holes.

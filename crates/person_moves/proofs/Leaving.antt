@@ -13,7 +13,8 @@ use Rattle.town.specs.Rows.{TownRows}
 use Rattle.town.specs.Setups.{setup_of}
 use Rattle.town.specs.Views.{rows_of, chosen_in, setup}
 use Rattle.town.specs.Fits.{first_link, leg_fits, legs_fit, is_act_in, fits}
-use Rattle.person_moves.specs.Legs.{nth_leg, ends_in, HasRoute, CanLeave}
+use Rattle.person_moves.specs.Legs.{nth_leg, ends_in, CanLeave}
+use Rattle.rows.specs.Plan.{HasRoute}
 use Rattle.std.proofs.lemmas.List.{get_or_default}
 use Rattle.person_moves.proofs.Lists.{passes_at}
 

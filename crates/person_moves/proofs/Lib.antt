@@ -4,3 +4,5 @@ pub mod Lists
 pub mod PersonPlans
 pub mod Leaving
 pub mod Departing
+pub mod LinkRows
+pub mod Counting

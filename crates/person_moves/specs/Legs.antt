@@ -36,12 +36,6 @@ ends_in t (Aborted link) = false
 abbrev pub CanLeave : PlanRows → Person → Type 0
 CanLeave plan P = (end : ℕ) → P.place ≡ At (Some end) → P.element / 2 < length plan.legs
 
--- a drive has a route
-abbrev pub HasRoute : Leg → Type 0
-HasRoute (leg.Car route) = 0 < length route
-HasRoute (leg.Teleport mode seconds) = Unit {0}
-HasRoute (leg.Transit line access egress) = Unit {0}
-
 -- the leg at a place
 abbrev pub nth_leg : List Leg → ℕ → Leg
 nth_leg legs place = get_or legs place (leg.Car [])

@@ -1,5 +1,5 @@
 //! What both the slow and the fast day do with persons: the world of a day and its start, the turns of persons and departures as lists of
-//! moves, what moves do to a world in place, and the keys of what they tell. All exactly as the definitions of `traffic` say it.
+//! moves, the rows of links, what moves do to a world in place, and the keys of what they tell. All exactly as the definitions of `traffic` say it.
 //!
 //! A day takes the moves of one turn (`landing_moves`, `leaving_moves`, `departure_moves`, or those of a link or a node), does them
 //! (`do_moves`) and appends what they told with its keys (`push_keyed`).
@@ -8,6 +8,7 @@
 mod departures;
 mod keys;
 mod legs;
+mod links;
 mod moving;
 mod persons;
 mod start_of_day;
@@ -20,6 +21,7 @@ mod world;
 pub use departures::departure_moves;
 pub use keys::push_keyed;
 pub use legs::mode_in;
+pub use links::{hole_of, link_row};
 pub use moving::{do_move, do_moves};
 pub use persons::{landing_moves, leaving_moves};
 pub use start_of_day::start;

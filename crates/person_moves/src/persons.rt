@@ -1,16 +1,17 @@
 //! The turns of persons and departures.
 
-ghost use Rattle.std.specs.Prelude.{◌≡◌, ◌<◌, ◌+◌, ◌++◌, ◌∷◌, [], ℕ, List, Bool, true, length};
-ghost use Rattle.std.specs.Prelude.{map, get_or, OnOk, IfOk, if◌then◌else◌};
+ghost use Rattle.std.specs.Prelude.{◌≡◌, ◌<◌, ◌+◌, ◌++◌, ◌∷◌, [], ℕ, true, length};
+ghost use Rattle.std.specs.Prelude.{OnOk, IfOk, if◌then◌else◌};
 ghost use Rattle.std.specs.List.{list_all};
 ghost use Rattle.rows.specs.PlanRows.{plan_rows, act_in, leg_in};
 ghost use Rattle.town.specs.Fits.{fits};
 ghost use Rattle.town.specs.Views.{rows_of, chosen_in, setup};
 ghost use Rattle.traffic.specs.declared.moves.Move.TheVariants.{Report};
 ghost use Rattle.traffic.specs.Setup.{person_plan};
-ghost use Rattle.traffic.specs.Persons.{mode_of_leg, lands, landing, landing_moves, departs, car, sets_out, leaving, leaving_moves};
+ghost use Rattle.traffic.specs.Persons.{lands, landing, landing_moves, departs, car, sets_out, leaving, leaving_moves};
+ghost use Rattle.rows.specs.Plan.{mode_of_leg, HasRoute};
 ghost use Rattle.rows.specs.declared.plan.Leg.{Leg};
-ghost use Rattle.person_moves.specs.Legs.{nth_leg, ends_in, HasRoute, CanLeave};
+ghost use Rattle.person_moves.specs.Legs.{nth_leg, ends_in, CanLeave};
 
 use crate::legs::{LegKind, kind_in, kind_of, mode_of_kind};
 use crate::stops::link_of_stop;

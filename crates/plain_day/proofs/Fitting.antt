@@ -13,7 +13,8 @@ use Rattle.law_in_range.specs.Rows.{Counts, IsFitVehicle, IsFitRow, IsFitWorld}
 use Rattle.law_in_range.proofs.Sizes.{call_offset, buffer_next, buffer_next_link}
 use Rattle.plain_turns.specs.Limits.{IsSmall, AreSmall}
 use Rattle.plain_turns.specs.declared.out_links.OutLinkRow.{OutLinkRow}
-use Rattle.plain_turns.specs.OutLinks.{HasNext, HaveNext, AreNear, IsInLink, AreInLinks}
+use Rattle.plain_turns.specs.OutLinks.{AreNear, IsInLink, AreInLinks}
+use Rattle.traffic.specs.Nodes.{HaveNext, HasNext}
 
 is_small : (z : Counts) (v : VehicleState) → IsFitVehicle z v → IsSmall v
 is_small z v h =

@@ -1,10 +1,7 @@
 pub mod Numbers
 pub mod Seen
-pub mod Counting
 pub mod Fitting
 pub mod Agree
 pub mod LinkTurns
 pub mod PersonPlans
 pub mod NodeTurns
-pub mod Phasing
-pub mod Dawn

@@ -24,7 +24,7 @@ use Rattle.plain_day.specs.Views.{out_link_row, is_out, is_in, is_before}
 use Rattle.plain_day.proofs.Agree.{Agree, Goes, node_same}
 use Rattle.plain_day.proofs.Fitting.{going_at}
 use Rattle.plain_day.proofs.Seen.{into_is}
-use Rattle.plain_day.proofs.Numbers.{row_is}
+use Rattle.person_moves.proofs.LinkRows.{row_is}
 
 -- THE EXITS
 -- no link before the first number is among these

@@ -6,19 +6,20 @@ use Rattle.traffic.specs.declared.moves.Move.{Move}
 use Rattle.traffic.specs.declared.node_views.InLink.{InLink}
 use Rattle.traffic.specs.declared.node_views.OutLink.{OutLink}
 use Rattle.limits.specs.declared.TheConstants.{MAX_CAPACITY}
-use Rattle.plain_turns.specs.OutLinks.{IsInLink, AreInLinks, capacity_of, is_green}
+use Rattle.plain_turns.specs.OutLinks.{IsInLink, AreInLinks, is_green}
+use Rattle.traffic.specs.Nodes.{weight_of}
 
-pub sum_least : (es : List InLink) → AreInLinks es → length es ≤ sum (map capacity_of es)
+pub sum_least : (es : List InLink) → AreInLinks es → length es ≤ sum (map weight_of es)
 sum_least [] h = omega arith
 sum_least (e ∷ es) h =
     let a = h.0.least in let b = sum_least es h.1 in
-    let c : sum (map capacity_of (e ∷ es)) ≡ e.capacity + sum (map capacity_of es) = sum_by-cons (λ (x : ℕ). x) e.capacity (map capacity_of es) in omega arith
+    let c : sum (map weight_of (e ∷ es)) ≡ e.capacity + sum (map weight_of es) = sum_by-cons (λ (x : ℕ). x) e.capacity (map weight_of es) in omega arith
 
-pub sum_most : (es : List InLink) → AreInLinks es → sum (map capacity_of es) ≤ MAX_CAPACITY * length es
+pub sum_most : (es : List InLink) → AreInLinks es → sum (map weight_of es) ≤ MAX_CAPACITY * length es
 sum_most [] h = omega arith
 sum_most (e ∷ es) h =
     let a = h.0.most in let b = sum_most es h.1 in
-    let c : sum (map capacity_of (e ∷ es)) ≡ e.capacity + sum (map capacity_of es) = sum_by-cons (λ (x : ℕ). x) e.capacity (map capacity_of es) in omega arith
+    let c : sum (map weight_of (e ∷ es)) ≡ e.capacity + sum (map weight_of es) = sum_by-cons (λ (x : ℕ). x) e.capacity (map weight_of es) in omega arith
 
 pub without_is : (k : ℕ) (es : List InLink) → k < length es → without_at k es ≡ remove es k
 without_is k [] h = absurd (omega arith)

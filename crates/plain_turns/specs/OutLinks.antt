@@ -1,11 +1,9 @@
 -- The links out of a node, as a list.
-use Rattle.std.specs.Prelude.{ℕ, ◌+◌, ◌≤◌, ◌<◌, Bool, List, [], ◌∷◌, length, ◌==◌, if◌then◌else◌, Option, None, Some}
+use Rattle.std.specs.Prelude.{ℕ, ◌+◌, ◌≤◌, ◌<◌, Bool, List, [], ◌∷◌, ◌==◌, if◌then◌else◌, Option, None, Some}
 use Rattle.limits.specs.declared.TheConstants.{MAX_CAPACITY, MAX_LENGTH}
-use Rattle.traffic.specs.declared.world.Row.{Row}
 use Rattle.traffic.specs.declared.node_views.OutLink.{OutLink}
 use Rattle.traffic.specs.declared.node_views.InLink.{InLink}
-use Rattle.traffic.specs.Nodes.{NodeView}
-use Rattle.traffic.specs.Vehicles.{VehicleState}
+use Rattle.traffic.specs.Nodes.{NodeView, HaveNext}
 use Rattle.plain_turns.specs.declared.out_links.OutLinkRow.{OutLinkRow}
 
 -- the out-link of a link, where it is one
@@ -26,15 +24,6 @@ abbrev pub AreNear : List OutLinkRow → Type 0
 AreNear [] = Unit {0}
 AreNear (x ∷ xs) = (x.out_link.seconds ≤ MAX_LENGTH) × AreNear xs
 
--- a vehicle has a next link, and its route is no longer than a number can count
-pub record HasNext (v : VehicleState) : Type 0 where
-  pub next : v.place + 1 < length v.route
-  pub route : length v.route < 4294967296
-
-abbrev pub HaveNext : List Row → Type 0
-HaveNext [] = Unit {0}
-HaveNext (r ∷ rs) = HasNext r.vehicle × HaveNext rs
-
 -- a link into a node has a capacity, and each row of its buffer has a next link
 pub record IsInLink (e : InLink) : Type 0 where
   pub least : 1 ≤ e.capacity
@@ -44,10 +33,6 @@ pub record IsInLink (e : InLink) : Type 0 where
 abbrev pub AreInLinks : List InLink → Type 0
 AreInLinks [] = Unit {0}
 AreInLinks (e ∷ es) = IsInLink e × AreInLinks es
-
--- the weight of a link into a node
-abbrev pub capacity_of : InLink → ℕ
-capacity_of e = e.capacity
 
 abbrev pub is_green : InLink → Bool
 is_green e = e.green

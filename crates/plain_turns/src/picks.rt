@@ -3,15 +3,15 @@
 ghost use Rattle.std.specs.Prelude.{◌≡◌, ◌<◌, ◌≤◌, ◌+◌, length, map, get_or, IfOk};
 ghost use Rattle.limits.specs.declared.TheConstants.{MAX_IN_LINKS};
 ghost use Rattle.traffic.specs.Lists.{without_at};
-ghost use Rattle.traffic.specs.Nodes.{drawn, no_in_link};
-ghost use Rattle.plain_turns.specs.OutLinks.{IsInLink, AreInLinks, capacity_of};
+ghost use Rattle.traffic.specs.Nodes.{drawn, no_in_link, weight_of};
+ghost use Rattle.plain_turns.specs.OutLinks.{IsInLink, AreInLinks};
 
 use draws::pick;
 use std::alloc::{AllocError, Global};
 use traffic::InLink;
 
 fn capacities(alloc: Global, in_links: &[InLink]) -> Result<Vec<u64>, AllocError>
-    ensures { IfOk result (λ weights. weights.items ≡ map capacity_of in_links.now) }
+    ensures { IfOk result (λ weights. weights.items ≡ map weight_of in_links.now) }
 {
     in_links
         .iter()
@@ -21,7 +21,7 @@ fn capacities(alloc: Global, in_links: &[InLink]) -> Result<Vec<u64>, AllocError
 
 /// The place that the word draws by these weights.
 fn pick_of(weights: &[u64], word: u32, in_links: &[InLink]) -> usize
-    requires weights { weights.now ≡ map capacity_of in_links.now }
+    requires weights { weights.now ≡ map weight_of in_links.now }
     requires are { AreInLinks in_links.now }
     requires some { 0 < length in_links.now }
     requires few { length in_links.now ≤ MAX_IN_LINKS }

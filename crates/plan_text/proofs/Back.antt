@@ -11,8 +11,8 @@ use Rattle.records.specs.Lists.{items_in}
 use Rattle.rows.specs.declared.plan.Act.{Act}
 use Rattle.rows.specs.declared.plan.Leg.{Leg}
 use Rattle.rows.specs.declared.plan.Leg.TheVariants as leg
-use Rattle.rows.specs.Plan.{is_leg, is_teleported, has_end, is_open, is_end, are_acts}
-use Rattle.plan_text.specs.Lines.{IsBook, end_text, act_row, leg_mode, route_names, route_text, leg_row, element_rows, element_lines, is_act_in, is_leg_in, are_in_book, are_plan}
+use Rattle.rows.specs.Plan.{is_leg, is_teleported, has_end, is_open, is_end, are_acts, mode_of_leg}
+use Rattle.plan_text.specs.Lines.{IsBook, end_text, act_row, route_names, route_text, leg_row, element_rows, element_lines, is_act_in_book, is_leg_in_book, are_in_book, are_plan}
 use Rattle.plan_text.specs.Elements.{numbered_act, act_in, numbered_transit, transit_in, leg_by, leg_of_mode, leg_in, rows_in, acts_in, legs_in}
 use Rattle.plan_text.proofs.Joins.{both, and_true, parts_back, join_first, behind_each}
 use Rattle.plan_text.proofs.Decimals.{number_back}
@@ -83,7 +83,7 @@ seconds_back n some h = number_back 1 LAST_SECOND n (least n some) (at_most n h)
     short n h = grind (arith, nat_tests)
 
 module _ (book : Book) (person index : ℕ) (are : IsBook book) where
-  act_back : (act : Act) → is_act_in book act ≡ true → is_time act.end ≡ true → act_in book (act_row book person index act) ≡ Some act
+  act_back : (act : Act) → is_act_in_book book act ≡ true → is_time act.end ≡ true → act_in book (act_row book person index act) ≡ Some act
   unfolding act_in act_row
   act_back act in_book time =
       let parts = both (nat_lt act.kind (length book.kinds)) (nat_lt act.link (length book.links)) in_book in
@@ -107,7 +107,7 @@ module _ (book : Book) (person index : ℕ) (are : IsBook book) where
   by_mode mode.Ride seconds row h = refl
   by_mode mode.Pt seconds row h = absurd (cc h)
 
-  leg_by_back : (leg : Leg) → is_leg_in book leg ≡ true → is_leg leg ≡ true → leg_by book (leg_mode leg) (leg_row book person index leg) ≡ Some leg
+  leg_by_back : (leg : Leg) → is_leg_in_book book leg ≡ true → is_leg leg ≡ true → leg_by book (mode_of_leg leg) (leg_row book person index leg) ≡ Some leg
   unfolding leg_by leg_row route_text
   leg_by_back (leg.Car route) in_book sound =
       ap (λ (items : List (List ℕ)). option_map (λ route. leg.Car route) (numbers_of items book.links)) (items_back (map (name_at book.links) route) (names_named book.links route are.links in_book))
@@ -122,12 +122,12 @@ module _ (book : Book) (person index : ℕ) (are : IsBook book) where
       ∙ ap (λ (o : Option ℕ). numbered_transit (Some line) o (number_of (name_at book.stops egress) book.stops)) (number_there book.stops access are.stops parts.1)
       ∙ ap (λ (o : Option ℕ). numbered_transit (Some line) (Some access) o) (number_there book.stops egress are.stops parts.2)
 
-  opened : (leg : Leg) → leg_in book (leg_row book person index leg) ≡ leg_of_mode book (mode_of (mode_text (leg_mode leg))) (leg_row book person index leg)
+  opened : (leg : Leg) → leg_in book (leg_row book person index leg) ≡ leg_of_mode book (mode_of (mode_text (mode_of_leg leg))) (leg_row book person index leg)
   unfolding leg_in leg_row
   opened leg = refl
 
-  leg_back : (leg : Leg) → is_leg_in book leg ≡ true → is_leg leg ≡ true → leg_in book (leg_row book person index leg) ≡ Some leg
-  leg_back leg in_book sound = opened leg ∙ ap (λ (o : Option Mode). leg_of_mode book o (leg_row book person index leg)) (mode_back (leg_mode leg)) ∙ leg_by_back leg in_book sound
+  leg_back : (leg : Leg) → is_leg_in_book book leg ≡ true → is_leg leg ≡ true → leg_in book (leg_row book person index leg) ≡ Some leg
+  leg_back leg in_book sound = opened leg ∙ ap (λ (o : Option Mode). leg_of_mode book o (leg_row book person index leg)) (mode_back (mode_of_leg leg)) ∙ leg_by_back leg in_book sound
 
   abbrev end_row : List Row
   end_row = ([] ∷ []) ∷ []
@@ -146,46 +146,46 @@ module _ (book : Book) (person index : ℕ) (are : IsBook book) where
   unfolding leg_in
   no_leg = refl
 
-  acts_back : (acts : List Act) (legs : List Leg) → list_all (is_act_in book) acts ≡ true → are_times acts ≡ true → acts_in book (rows_of acts legs ++ end_row) ≡ acts
+  acts_back : (acts : List Act) (legs : List Leg) → list_all (is_act_in_book book) acts ≡ true → are_times acts ≡ true → acts_in book (rows_of acts legs ++ end_row) ≡ acts
   unfolding element_rows
   acts_back [] legs in_book times = no_act
   acts_back (act ∷ acts) [] in_book times =
-      let named = both (is_act_in book act) _ in_book in
+      let named = both (is_act_in_book book act) _ in_book in
       let timed = both (is_time act.end) _ times in
       ap (λ (o : Option Act). cons_option o (acts_in book (rows_of acts [] ++ end_row))) (act_back act named.0 timed.0)
       ∙ ap (λ (l : List Act). act ∷ l) (acts_back acts [] named.1 timed.1)
   acts_back (act ∷ acts) (leg ∷ legs) in_book times =
-      let named = both (is_act_in book act) _ in_book in
+      let named = both (is_act_in_book book act) _ in_book in
       let timed = both (is_time act.end) _ times in
       ap (λ (o : Option Act). cons_option o (acts_in book (leg_row book person index leg ∷ rows_of acts legs ++ end_row))) (act_back act named.0 timed.0)
       ∙ ap (λ (o : Option Act). act ∷ cons_option o (acts_in book (rows_of acts legs ++ end_row))) (leg_no_act leg)
       ∙ ap (λ (l : List Act). act ∷ l) (acts_back acts legs named.1 timed.1)
 
-  legs_back : (acts : List Act) (legs : List Leg) → length legs ≤ length acts → list_all (is_leg_in book) legs ≡ true → list_all is_leg legs ≡ true → legs_in book (rows_of acts legs ++ end_row) ≡ legs
+  legs_back : (acts : List Act) (legs : List Leg) → length legs ≤ length acts → list_all (is_leg_in_book book) legs ≡ true → list_all is_leg legs ≡ true → legs_in book (rows_of acts legs ++ end_row) ≡ legs
   unfolding element_rows
   legs_back [] [] few in_book sound = no_leg
   legs_back [] (leg ∷ legs) few in_book sound = absurd (omega arith)
   legs_back (act ∷ acts) [] few in_book sound =
       ap (λ (o : Option Leg). cons_option o (legs_in book (rows_of acts [] ++ end_row))) (act_no_leg act) ∙ legs_back acts [] (omega arith) refl refl
   legs_back (act ∷ acts) (leg ∷ legs) few in_book sound =
-      let named = both (is_leg_in book leg) _ in_book in
+      let named = both (is_leg_in_book book leg) _ in_book in
       let kept = both (is_leg leg) _ sound in
       ap (λ (o : Option Leg). cons_option o (legs_in book (leg_row book person index leg ∷ rows_of acts legs ++ end_row))) (act_no_leg act)
       ∙ ap (λ (o : Option Leg). cons_option o (legs_in book (rows_of acts legs ++ end_row))) (leg_back leg named.0 kept.0)
       ∙ ap (λ (l : List Leg). leg ∷ l) (legs_back acts legs (omega arith) named.1 kept.1)
 
   module _ (there : person < length book.persons) (small : index < 2 ^ 32) where
-    rows_clean : (acts : List Act) (legs : List Leg) → list_all (is_act_in book) acts ≡ true → are_times acts ≡ true → list_all (is_leg_in book) legs ≡ true → list_all is_leg legs ≡ true → list_all is_row (rows_of acts legs) ≡ true
+    rows_clean : (acts : List Act) (legs : List Leg) → list_all (is_act_in_book book) acts ≡ true → are_times acts ≡ true → list_all (is_leg_in_book book) legs ≡ true → list_all is_leg legs ≡ true → list_all is_row (rows_of acts legs) ≡ true
     unfolding element_rows
     rows_clean [] legs in_book times legs_in_book sound = refl
     rows_clean (act ∷ acts) [] in_book times legs_in_book sound =
-        let named = both (is_act_in book act) _ in_book in
+        let named = both (is_act_in_book book act) _ in_book in
         let timed = both (is_time act.end) _ times in
         and_true (is_row (act_row book person index act)) _ (act_is_row book person index are there small act named.0 timed.0) (rows_clean acts [] named.1 timed.1 refl refl)
     rows_clean (act ∷ acts) (leg ∷ legs) in_book times legs_in_book sound =
-        let named = both (is_act_in book act) _ in_book in
+        let named = both (is_act_in_book book act) _ in_book in
         let timed = both (is_time act.end) _ times in
-        let on = both (is_leg_in book leg) _ legs_in_book in
+        let on = both (is_leg_in_book book leg) _ legs_in_book in
         let kept = both (is_leg leg) _ sound in
         and_true (is_row (act_row book person index act)) _ (act_is_row book person index are there small act named.0 timed.0)
         (and_true (is_row (leg_row book person index leg)) _ (leg_is_row book person index are there small leg on.0 kept.0) (rows_clean acts legs named.1 timed.1 on.1 kept.1))
@@ -211,7 +211,7 @@ module _ (book : Book) (person index : ℕ) (are : IsBook book) where
         → (acts_in book (rows_in (element_lines book person index acts legs)) ≡ acts) × (legs_in book (rows_in (element_lines book person index acts legs)) ≡ legs)
     unfolding are_plan are_in_book element_lines
     plan_back acts legs plan in_book =
-        let named = both (list_all (is_act_in book) acts) _ in_book in
+        let named = both (list_all (is_act_in_book book) acts) _ in_book in
         let four = both (nat_eq (length acts) (length legs + 1) && nat_le (length legs) MAX_LEGS && are_acts acts) _ plan in
         let three = three_parts _ _ _ four.0 in
         let times = times_of acts three.2 in

@@ -10,8 +10,8 @@ use Rattle.records.specs.Numbers.{is_digit}
 use Rattle.rows.specs.declared.plan.Act.{Act}
 use Rattle.rows.specs.declared.plan.Leg.{Leg}
 use Rattle.rows.specs.declared.plan.Leg.TheVariants as leg
-use Rattle.rows.specs.Plan.{is_leg, is_teleported}
-use Rattle.plan_text.specs.Lines.{IsBook, row_line, end_text, act_row, leg_mode, seconds_text, route_names, route_text, leg_row, is_act_in, is_leg_in}
+use Rattle.rows.specs.Plan.{is_leg, is_teleported, mode_of_leg}
+use Rattle.plan_text.specs.Lines.{IsBook, row_line, end_text, act_row, seconds_text, route_names, route_text, leg_row, is_act_in_book, is_leg_in_book}
 use Rattle.plan_text.specs.Elements.{rows_in}
 use Rattle.plan_text.proofs.Joins.{both, and_true, parts_back, part_off}
 use Rattle.plan_text.proofs.Decimals.{decimal_writes}
@@ -92,7 +92,7 @@ pub below : (n m : ℕ) → nat_lt n m ≡ true → n < m
 below n m h = grind (arith, nat_tests)
 
 -- what a route names are names
-pub route_named : (book : Book) (leg : Leg) → IsBook book → is_leg_in book leg ≡ true → list_all is_name (route_names book leg) ≡ true
+pub route_named : (book : Book) (leg : Leg) → IsBook book → is_leg_in_book book leg ≡ true → list_all is_name (route_names book leg) ≡ true
 route_named book (leg.Car route) are in_book = names_named book.links route are.links in_book
 route_named book (leg.Teleport mode seconds) are in_book = refl
 route_named book (leg.Transit line access egress) are in_book =
@@ -100,7 +100,7 @@ route_named book (leg.Transit line access egress) are in_book =
     and_true _ _ (is_name-name_at book.lines line are.lines (below line _ parts.0))
     (and_true _ _ (is_name-name_at book.stops access are.stops (below access _ parts.1)) (and_true _ _ (is_name-name_at book.stops egress are.stops (below egress _ parts.2)) refl))
 
-clean_route : (book : Book) (leg : Leg) → IsBook book → is_leg_in book leg ≡ true → is_clean (route_text book leg) ≡ true
+clean_route : (book : Book) (leg : Leg) → IsBook book → is_leg_in_book book leg ≡ true → is_clean (route_text book leg) ≡ true
 unfolding route_text
 clean_route book leg are in_book =
     joined_all is_field_byte 32 refl (route_names book leg) (all_weaker is_name is_clean (λ bytes h. clean_bytes bytes (name_bytes bytes h)) (route_names book leg) (route_named book leg are in_book))
@@ -139,7 +139,7 @@ module _ (book : Book) (person index : ℕ) (are : IsBook book) (there : person 
   clean_index : is_clean (decimal index) ≡ true
   clean_index = clean_number index (omega arith)
 
-  pub act_is_row : (act : Act) → is_act_in book act ≡ true → is_time act.end ≡ true → is_row (act_row book person index act) ≡ true
+  pub act_is_row : (act : Act) → is_act_in_book book act ≡ true → is_time act.end ≡ true → is_row (act_row book person index act) ≡ true
   unfolding act_row
   act_is_row act in_book time =
       let parts = both (nat_lt act.kind (length book.kinds)) (nat_lt act.link (length book.links)) in_book in
@@ -148,10 +148,10 @@ module _ (book : Book) (person index : ℕ) (are : IsBook book) (there : person 
   leg_clean : (a b c d e : Bool) → a ≡ true → b ≡ true → c ≡ true → d ≡ true → e ≡ true → (a && (b && (true && (c && (true && (d && (e && true))))))) ≡ true
   leg_clean a b c d e pa pb pc pd pe = grind arith
 
-  pub leg_is_row : (leg : Leg) → is_leg_in book leg ≡ true → is_leg leg ≡ true → is_row (leg_row book person index leg) ≡ true
+  pub leg_is_row : (leg : Leg) → is_leg_in_book book leg ≡ true → is_leg leg ≡ true → is_row (leg_row book person index leg) ≡ true
   unfolding leg_row
   leg_is_row leg in_book sound =
-      leg_clean _ _ _ _ _ clean_person clean_index (clean_mode (leg_mode leg)) (clean_seconds leg sound) (clean_route book leg are in_book)
+      leg_clean _ _ _ _ _ clean_person clean_index (clean_mode (mode_of_leg leg)) (clean_seconds leg sound) (clean_route book leg are in_book)
 
 line_clean : (row : Row) → is_row row ≡ true → list_all is_line_byte (join_with_byte 44 row) ≡ true
 line_clean [] h = absurd (cc h)

@@ -4,7 +4,7 @@ use Rattle.records.proofs.Common.{append_assoc, list_all, Book}
 use Rattle.std.proofs.lemmas.List.{drop_more}
 use Rattle.rows.specs.declared.plan.Act.{Act}
 use Rattle.rows.specs.declared.plan.Leg.{Leg}
-use Rattle.plan_text.specs.Lines.{row_line, act_row, leg_row, element_rows, element_lines, is_act_in, is_leg_in, are_in_book}
+use Rattle.plan_text.specs.Lines.{row_line, act_row, leg_row, element_rows, element_lines, is_act_in_book, is_leg_in_book, are_in_book}
 use Rattle.plan_text.proofs.Joins.{both}
 
 -- what holds of each holds of the one at a place
@@ -20,13 +20,13 @@ drop_past (x ∷ xs) zero few = absurd (omega arith)
 drop_past (x ∷ xs) (suc i) few = drop_past xs i (omega arith)
 
 module _ (book : Book) (person index : ℕ) (acts : List Act) (legs : List Leg) (place : ℕ) where
-  pub act_in_book : (act : Act) → are_in_book book acts legs ≡ true → place < length acts → is_act_in book (get_or acts place act) ≡ true
+  pub act_in_book : (act : Act) → are_in_book book acts legs ≡ true → place < length acts → is_act_in_book book (get_or acts place act) ≡ true
   unfolding are_in_book
-  act_in_book act all less = all_at (is_act_in book) acts place act (both (list_all (is_act_in book) acts) _ all).0 less
+  act_in_book act all less = all_at (is_act_in_book book) acts place act (both (list_all (is_act_in_book book) acts) _ all).0 less
 
-  pub leg_in_book : (leg : Leg) → are_in_book book acts legs ≡ true → place < length legs → is_leg_in book (get_or legs place leg) ≡ true
+  pub leg_in_book : (leg : Leg) → are_in_book book acts legs ≡ true → place < length legs → is_leg_in_book book (get_or legs place leg) ≡ true
   unfolding are_in_book
-  leg_in_book leg all less = all_at (is_leg_in book) legs place leg (both (list_all (is_act_in book) acts) _ all).1 less
+  leg_in_book leg all less = all_at (is_leg_in_book book) legs place leg (both (list_all (is_act_in_book book) acts) _ all).1 less
 
   abbrev lines : List Act → List Leg → List ℕ
   lines a l = element_lines book person index a l

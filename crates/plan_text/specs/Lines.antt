@@ -3,7 +3,6 @@ use Rattle.std.specs.Prelude.{◌≡◌, ℕ, ◌+◌, Bool, true, ◌&&◌, nat
 use Rattle.std.specs.List.{list_all, flat_map, enumerate_from, join_with_byte}
 use Rattle.limits.specs.declared.TheConstants.{MAX_LEGS, MAX_PLANS}
 use Rattle.events.specs.declared.event.Book.{Book}
-use Rattle.events.specs.declared.event.Mode.{Mode}
 use Rattle.events.specs.declared.event.Mode.TheVariants as mode
 use Rattle.events.specs.Names.{name_at, AreNames}
 use Rattle.events.specs.Words.{mode_text}
@@ -12,7 +11,7 @@ use Rattle.plans.specs.Kinds.{plans_header}
 use Rattle.rows.specs.declared.plan.Act.{Act}
 use Rattle.rows.specs.declared.plan.Leg.{Leg}
 use Rattle.rows.specs.declared.plan.Leg.TheVariants as leg
-use Rattle.rows.specs.Plan.{is_leg, are_acts}
+use Rattle.rows.specs.Plan.{is_leg, are_acts, mode_of_leg, is_known}
 use Rattle.rows.specs.PlanRows.{PlanRows}
 
 -- the line of a row: its fields with commas between them, and a line feed
@@ -28,11 +27,6 @@ end_text (Some second) = decimal second
 unfoldable pub act_row : Book → ℕ → ℕ → Act → Row
 act_row book person index act =
     name_at book.persons person ∷ decimal index ∷ codes "act" ∷ name_at book.kinds act.kind ∷ name_at book.links act.link ∷ end_text act.end ∷ [] ∷ []
-
-abbrev pub leg_mode : Leg → Mode
-leg_mode (leg.Car route) = mode.Car
-leg_mode (leg.Teleport mode seconds) = mode
-leg_mode (leg.Transit line access egress) = mode.Pt
 
 -- how long a teleported leg takes, in its field
 abbrev pub seconds_text : Leg → List ℕ
@@ -53,7 +47,7 @@ route_text book leg = join_with_byte 32 (route_names book leg)
 -- the row of a leg
 unfoldable pub leg_row : Book → ℕ → ℕ → Leg → Row
 leg_row book person index leg =
-    name_at book.persons person ∷ decimal index ∷ codes "leg" ∷ mode_text (leg_mode leg) ∷ [] ∷ seconds_text leg ∷ route_text book leg ∷ []
+    name_at book.persons person ∷ decimal index ∷ codes "leg" ∷ mode_text (mode_of_leg leg) ∷ [] ∷ seconds_text leg ∷ route_text book leg ∷ []
 
 -- the rows of activities, with the legs between them
 unfoldable pub element_rows : Book → ℕ → ℕ → List Act → List Leg → List Row
@@ -79,18 +73,18 @@ pub record IsBook (book : Book) : Type 0 where
   pub lines : AreNames book.lines
 
 -- an activity's kind and link have names in the book
-abbrev pub is_act_in : Book → Act → Bool
-is_act_in book act = nat_lt act.kind (length book.kinds) && nat_lt act.link (length book.links)
+abbrev pub is_act_in_book : Book → Act → Bool
+is_act_in_book book act = is_known (length book.kinds) (length book.links) act
 
 -- a leg's links, or its line and stops, have names in the book
-abbrev pub is_leg_in : Book → Leg → Bool
-is_leg_in book (leg.Car route) = list_all (λ link. nat_lt link (length book.links)) route
-is_leg_in book (leg.Teleport mode seconds) = true
-is_leg_in book (leg.Transit line access egress) = nat_lt line (length book.lines) && nat_lt access (length book.stops) && nat_lt egress (length book.stops)
+abbrev pub is_leg_in_book : Book → Leg → Bool
+is_leg_in_book book (leg.Car route) = list_all (λ link. nat_lt link (length book.links)) route
+is_leg_in_book book (leg.Teleport mode seconds) = true
+is_leg_in_book book (leg.Transit line access egress) = nat_lt line (length book.lines) && nat_lt access (length book.stops) && nat_lt egress (length book.stops)
 
 -- every number of the activities and legs has a name in the book
 unfoldable pub are_in_book : Book → List Act → List Leg → Bool
-are_in_book book acts legs = list_all (is_act_in book) acts && list_all (is_leg_in book) legs
+are_in_book book acts legs = list_all (is_act_in_book book) acts && list_all (is_leg_in_book book) legs
 
 -- activities and legs that a plan may have: one activity more than legs, of which there are at most 8, each such as a plan keeps it
 unfoldable pub are_plan : List Act → List Leg → Bool

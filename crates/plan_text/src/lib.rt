@@ -9,5 +9,5 @@ mod writing;
 
 pub use fields::{names_of, push_joined};
 pub use files::plans_text;
-pub use reading::read_body;
+pub use reading::{know_names, read_body};
 pub use writing::write_plan;

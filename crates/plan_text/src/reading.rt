@@ -1,8 +1,8 @@
 ghost use Rattle.std.specs.Prelude.{◌≡◌, ◌<◌, length, option_map, nat_lt, true, Some, IfOk, IfSome};
 ghost use Rattle.std.specs.List.{list_all};
-ghost use Rattle.rows.specs.Plan.{is_leg, is_end, has_end, is_open, are_acts, is_teleported};
+ghost use Rattle.rows.specs.Plan.{is_leg, has_end, are_acts, is_teleported};
 ghost use Rattle.rows.specs.PlanRows.{PlanRows, plan_rows};
-ghost use Rattle.plan_text.specs.Lines.{IsBook, IsTextOf, is_act_in, is_leg_in, are_in_book, are_plan, is_plan_in};
+ghost use Rattle.plan_text.specs.Lines.{IsBook, IsTextOf, is_act_in_book, is_leg_in_book, are_in_book, are_plan, is_plan_in};
 
 use crate::elements::{Elements, elements_in};
 use crate::writing::push_elements;
@@ -89,8 +89,8 @@ fn are_plan(acts: &[Act], legs: &[Leg]) -> bool
     are_legs(legs)
 }
 
-fn is_act_in(book: &Book, act: Act) -> bool
-    ensures { result ≡ is_act_in book.now act }
+fn is_act_in_book(book: &Book, act: Act) -> bool
+    ensures { result ≡ is_act_in_book book.now act }
 {
     act.kind < book.kinds.len() && act.link < book.links.len()
 }
@@ -101,8 +101,8 @@ fn are_below(numbers: &[u32], end: u32) -> bool
     numbers.iter().all(|number| *number < end)
 }
 
-fn is_leg_in(book: &Book, leg: &Leg) -> bool
-    ensures { result ≡ is_leg_in book.now leg.now }
+fn is_leg_in_book(book: &Book, leg: &Leg) -> bool
+    ensures { result ≡ is_leg_in_book book.now leg.now }
 {
     match leg {
         Leg::Car { route } => are_below(&route.rows, book.links.len()),
@@ -122,15 +122,15 @@ fn is_leg_in(book: &Book, leg: &Leg) -> bool
 }
 
 fn are_acts_in(book: &Book, acts: &[Act]) -> bool
-    ensures { result ≡ list_all (is_act_in book.now) acts.now }
+    ensures { result ≡ list_all (is_act_in_book book.now) acts.now }
 {
-    acts.iter().all(|act| is_act_in(book, *act))
+    acts.iter().all(|act| is_act_in_book(book, *act))
 }
 
 fn are_legs_in(book: &Book, legs: &[Leg]) -> bool
-    ensures { result ≡ list_all (is_leg_in book.now) legs.now }
+    ensures { result ≡ list_all (is_leg_in_book book.now) legs.now }
 {
-    legs.iter().all(|leg| is_leg_in(book, leg))
+    legs.iter().all(|leg| is_leg_in_book(book, leg))
 }
 
 /// Whether every number of the activities and legs has a name in the book.
@@ -160,8 +160,8 @@ fn plan_of(acts: Vec<Act>, legs: Vec<Leg>) -> Plan
     }
 }
 
-/// The book's lists are lists of names.
-fn know_names(book: &Book)
+/// The book's lists are lists of names: who calls this may rely on it.
+pub fn know_names(book: &Book)
     ensures { IsBook book.now }
 {
     let _ = book.persons.len();

@@ -1,9 +1,9 @@
-ghost use Rattle.std.specs.Prelude.{◌≡◌, ◌<◌, ◌+◌, ◌++◌, length, decimal, drop, map, true, OnOk, OnErr, IfOk};
-ghost use Rattle.std.specs.List.{list_all};
+ghost use Rattle.std.specs.Prelude.{◌≡◌, ◌<◌, ◌+◌, ◌++◌, length, drop, true, OnOk, OnErr, IfOk};
 ghost use Rattle.events.specs.Words.{mode_text};
 ghost use Rattle.rows.specs.PlanRows.{plan_rows};
-ghost use Rattle.plan_text.specs.Lines.{end_text, seconds_text, route_text, leg_mode, row_line, act_row, leg_row, element_lines};
-ghost use Rattle.plan_text.specs.Lines.{plan_lines, is_act_in, is_leg_in, are_in_book, are_plan, is_plan_in};
+ghost use Rattle.plan_text.specs.Lines.{end_text, seconds_text, route_text, row_line, act_row, leg_row, element_lines};
+ghost use Rattle.rows.specs.Plan.{mode_of_leg};
+ghost use Rattle.plan_text.specs.Lines.{plan_lines, is_act_in_book, is_leg_in_book, are_in_book, are_plan, is_plan_in};
 
 use crate::fields::{names_of, push_joined, push_row};
 use events::{Book, Mode};
@@ -31,7 +31,7 @@ fn push_act(
     text: &mut Vec<u8>,
 ) -> Result<(), AllocError>
     requires person { person < length book.now.persons }
-    requires act { is_act_in book.now act ≡ true }
+    requires act { is_act_in_book book.now act ≡ true }
     ensures { OnOk result (text.new.items ≡ text.old.items ++ row_line (act_row book.now person index act)) }
 {
     let mut number = Buffer::new();
@@ -48,8 +48,8 @@ fn push_act(
     push_row(&row, text)
 }
 
-fn leg_mode(leg: &Leg) -> Mode
-    ensures { result ≡ leg_mode leg.now }
+fn mode_of_leg(leg: &Leg) -> Mode
+    ensures { result ≡ mode_of_leg leg.now }
 {
     match leg {
         Leg::Car { route: _ } => Mode::Car,
@@ -64,9 +64,9 @@ fn leg_mode(leg: &Leg) -> Mode
 
 /// The name of a leg's mode.
 fn mode_bytes(leg: &Leg) -> &[u8]
-    ensures { result.now ≡ mode_text (leg_mode leg.now) }
+    ensures { result.now ≡ mode_text (mode_of_leg leg.now) }
 {
-    leg_mode(leg).name().as_bytes()
+    mode_of_leg(leg).name().as_bytes()
 }
 
 /// The seconds of a leg in their field, written into the buffer where there are some.
@@ -87,7 +87,7 @@ fn seconds_bytes<'a>(leg: &Leg, buffer: &'a mut Buffer) -> &'a [u8]
 /// The names of a leg's route, joined by single spaces.
 #[tactic(auto, using(std::proofs::lemmas::Bool::Decides::nat_tests), unfolding(crate::specs::Lines::route_text))]
 fn route_bytes(alloc: Global, book: &Book, leg: &Leg) -> Result<Vec<u8>, AllocError>
-    requires { is_leg_in book.now leg.now ≡ true }
+    requires { is_leg_in_book book.now leg.now ≡ true }
     ensures { IfOk result (λ text. text.items ≡ route_text book.now leg.now) }
 {
     let mut text = Vec::new(alloc);
@@ -127,7 +127,7 @@ fn push_leg(
     text: &mut Vec<u8>,
 ) -> Result<(), AllocError>
     requires person { person < length book.now.persons }
-    requires leg { is_leg_in book.now leg.now ≡ true }
+    requires leg { is_leg_in_book book.now leg.now ≡ true }
     ensures { OnOk result (text.new.items ≡ text.old.items ++ row_line (leg_row book.now person index leg.now)) }
 {
     let route = route_bytes(*text.allocator(), book, leg)?;

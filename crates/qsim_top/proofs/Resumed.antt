@@ -1,20 +1,20 @@
 -- Going on from what is kept.
-use Rattle.std.proofs.Common.{◌≡◌, ◌⊎◌, ◌<◌, ◌≤◌, ◌+◌, ℕ, Bool, true, false, List, [], ◌∷◌, ◌++◌, length, Option, None, Some, Result, Ok, Err, refl, sym, ◌∙◌, ap, subst, inl, inr, arith}
+use Rattle.std.proofs.Common.{◌≡◌, ◌⊎◌, ◌<◌, ◌≤◌, ◌+◌, ℕ, true, false, List, [], ◌∷◌, ◌++◌, Option, None, Some, Result, Ok, Err, refl, sym, ◌∙◌, ap, subst, inl, inr, arith}
 use Rattle.std.proofs.lemmas.Bool.{and_from}
-use Rattle.std.specs.Prelude.{All, option_map}
-use Rattle.std.specs.List.{list_all, AllByRecursion as Each}
+use Rattle.std.specs.Prelude.{option_map}
+use Rattle.std.specs.List.{AllByRecursion as Each}
 use Rattle.std.proofs.lemmas.List.Elements.{recursion_from_All}
 use Rattle.edge_files.specs.declared.keeping.KeptRow.{KeptRow}
 use Rattle.edge_files.specs.declared.keeping.KeepFail.{KeepFail}
 use Rattle.edge_files.specs.declared.keeping.KeepFail.TheVariants as fail
-use Rattle.edge_files.specs.Causes.{Rose, KeepHasCause}
+use Rattle.edge_files.specs.Causes.{KeepHasCause}
 use Rattle.edge_files.specs.Effects.{all_steps}
-use Rattle.edge_files.specs.Keeping.{Kept, Told, Stays, StaysTold, StaysIfTold, IsTold, Loads, kept_of, rows_of}
-use Rattle.edge_files.specs.World.{World, Written, Step, outside, KeptBecomes, KeptBecomesIfTold, Does, DoesPart}
+use Rattle.edge_files.specs.Keeping.{Kept, Told, Stays, StaysTold, StaysIfTold, IsTold, Loads, kept_of}
+use Rattle.edge_files.specs.World.{World, Written, Step, outside, KeptBecomesIfTold, Does, DoesPart}
 use Rattle.edge_files.proofs.Written.{writes_nothing}
 use Rattle.edge_files.proofs.Worlds.{does_then, part_then, part_nothing}
-use Rattle.keep.specs.declared.reading.KeptStop.{KeptStop}
-use Rattle.keep.specs.declared.reading.KeptStop.TheVariants as kept_stop
+use Rattle.keep.specs.declared.reading.KeptError.{KeptError}
+use Rattle.keep.specs.declared.reading.KeptError.TheVariants as kept_stop
 use Rattle.keep.specs.Fitting.{IsMemoryIn, AreMemories, AreRowsOf, IsForeignAt, IsRead}
 use Rattle.keep.proofs.Either.{one_place}
 use Rattle.plan_memory.specs.Memories.{MemoryRows}
@@ -24,13 +24,12 @@ use Rattle.iterations.specs.Runs.{RunRows, CanRun}
 use Rattle.iterations.specs.Performed.{Moment, moment}
 use Rattle.scenario.specs.FilesToScenario.{ScenarioRows}
 use Rattle.town.specs.Rows.{TownRows}
-use Rattle.town.specs.Fits.{fits}
 use Rattle.command_line.specs.declared.commands.Command.TheVariants as command
 use Rattle.qsim_top.specs.declared.answers.Answer.{Answer}
 use Rattle.qsim_top.specs.declared.answers.Status.{Status}
 use Rattle.qsim_top.specs.declared.answers.Status.TheVariants as status
 use Rattle.qsim_top.specs.Answer.{report, resumed_answer, Resumes, Answers}
-use Rattle.qsim_top.specs.Came.{is_of_work, is_fault, HasCauses, IsCarriedOut, IsWorked}
+use Rattle.qsim_top.specs.Came.{HasCauses, IsCarriedOut, IsWorked}
 use Rattle.qsim_top.specs.declared.resuming.Held.{Held}
 use Rattle.qsim_top.specs.Held.{held_view, IsHeld, IsResumed}
 use Rattle.qsim_top.specs.Texts.{nothing_kept_line, foreign_line}
@@ -116,9 +115,9 @@ resumed_by S kept memories came old new are only did = record {
     one a (inr (place, foreign, is)) = absurd (foreign.unfit memories are)
 
 -- what is told of rows that are foreign
-pub foreign_read : (T : TownRows) (rows : List KeptRow) (why : KeptStop) (place : ℕ) → why ≡ kept_stop.Foreign place
+pub foreign_read : (T : TownRows) (rows : List KeptRow) (why : KeptError) (place : ℕ) → why ≡ kept_stop.Foreign place
     → IsRead T rows (Err why) → IsForeignAt T rows place
-foreign_read T rows why place is read = subst (λ (stop : KeptStop). IsRead T rows (Err stop)) is read
+foreign_read T rows why place is read = subst (λ (stop : KeptError). IsRead T rows (Err stop)) is read
 
 -- a row was foreign
 pub foreign_by : (S : ScenarioRows) (kept : Kept) (place : ℕ) (came : Status) (old new : Moment) → IsForeignAt S.town kept.rows place

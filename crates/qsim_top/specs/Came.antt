@@ -9,7 +9,7 @@ use Rattle.edge_files.specs.World.{World}
 use Rattle.iterations.specs.Performed.{Moment}
 use Rattle.scenario.specs.FilesToScenario.{ScenarioRows, scenario_fault}
 use Rattle.scenario.specs.Texts.{Texts}
-use Rattle.workload.specs.Texts.{file_text}
+use Rattle.workload.specs.Texts.{grid_texts}
 use Rattle.command_line.specs.declared.commands.Command.{Command}
 use Rattle.command_line.specs.declared.commands.Command.TheVariants as command
 use Rattle.command_line.specs.Cases.{Case, Work, Help, Refused}
@@ -18,10 +18,6 @@ use Rattle.qsim_top.specs.declared.answers.Status.{Status}
 use Rattle.qsim_top.specs.declared.answers.Status.TheVariants as status
 use Rattle.qsim_top.specs.Contents.{Contents, AreLeft, texts_in}
 use Rattle.qsim_top.specs.Answer.{IsAnswerTo, Works, report, reports_alone, Answers, OnlyReports}
-
--- the files of a grid, none of which is too long
-abbrev pub grid_texts : ℕ → ℕ → ℕ → Texts
-grid_texts size seed last_iteration file = Some (file_text size seed last_iteration file)
 
 -- these are the files that are read, whose bytes are told
 abbrev pub AreRead : Left → Texts → Type 0
@@ -37,37 +33,36 @@ abbrev pub HasKept : Command → Told → Option Kept → Type 0
 HasKept command.Resume told kept = told ≡ Some kept
 HasKept _ told kept = Unit {0}
 
--- the command reads files
+-- what a command does
+pub record Traits : Type 0 where
+  -- it reads files
+  pub reads : Bool
+  -- it calls the keeper
+  pub keeps : Bool
+  -- it goes on from what is kept
+  pub resumes : Bool
+  -- it looks for a way
+  pub searches : Bool
+
+abbrev pub traits_of : Command → Traits
+traits_of command.Run = record { reads = true; keeps = true; resumes = false; searches = false }
+traits_of command.Resume = record { reads = true; keeps = true; resumes = true; searches = false }
+traits_of command.Check = record { reads = true; keeps = false; resumes = false; searches = false }
+traits_of (command.Route from to second) = record { reads = true; keeps = false; resumes = false; searches = true }
+traits_of (command.Generate size seed last_iteration) = record { reads = false; keeps = false; resumes = false; searches = false }
+
+-- each by itself
 abbrev pub reads_files : Command → Bool
-reads_files command.Run = true
-reads_files command.Resume = true
-reads_files command.Check = true
-reads_files (command.Route from to second) = true
-reads_files (command.Generate size seed last_iteration) = false
+reads_files c = (traits_of c).reads
 
--- the command calls the keeper
 abbrev pub uses_keeper : Command → Bool
-uses_keeper command.Run = true
-uses_keeper command.Resume = true
-uses_keeper command.Check = false
-uses_keeper (command.Route from to second) = false
-uses_keeper (command.Generate size seed last_iteration) = false
+uses_keeper c = (traits_of c).keeps
 
--- the command goes on from what is kept
 abbrev pub goes_on : Command → Bool
-goes_on command.Run = false
-goes_on command.Resume = true
-goes_on command.Check = false
-goes_on (command.Route from to second) = false
-goes_on (command.Generate size seed last_iteration) = false
+goes_on c = (traits_of c).resumes
 
--- the command looks for a way
 abbrev pub looks_for_way : Command → Bool
-looks_for_way command.Run = false
-looks_for_way command.Resume = false
-looks_for_way command.Check = false
-looks_for_way (command.Route from to second) = true
-looks_for_way (command.Generate size seed last_iteration) = false
+looks_for_way c = (traits_of c).searches
 
 -- the statuses with which the work of a command may end: the usage is told of refused words alone
 abbrev pub is_of_work : Command → Status → Bool

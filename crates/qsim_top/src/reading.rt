@@ -6,7 +6,8 @@ ghost use Rattle.edge_files.specs.Causes.{Rose};
 ghost use Rattle.edge_files.specs.Inputs.{OthersStay};
 ghost use Rattle.scenario.specs.Texts.{Texts};
 ghost use Rattle.scenario.specs.Views.{texts_of};
-ghost use Rattle.qsim_top.specs.Came.{grid_texts, reads_files, HasFiles};
+ghost use Rattle.qsim_top.specs.Came.{reads_files, HasFiles};
+ghost use Rattle.workload.specs.Texts.{grid_texts};
 ghost use Rattle.qsim_top.specs.Contents.{Contents, AreLeft, AreAlike, text_of, texts_in};
 ghost use Rattle.qsim_top.specs.Reading.{IsGridOf, IsRead};
 

@@ -14,7 +14,7 @@ use crate::reporting::{foreign, nothing_kept};
 use crate::running::go_on;
 use command_line::Command;
 use edge_files::{KeepFail, Keeper, KeptRow, Outputs};
-use keep::{KeptStop, memories_of};
+use keep::{KeptError, memories_of};
 use scenario::Scenario;
 use std::alloc::Global;
 use std::thread::Threads;
@@ -77,12 +77,12 @@ fn resume_from<R: Threads + Sync, O: Outputs, K: Keeper>(
             drop(rows);
             go_on(rt, alloc, scenario, iteration, memories, outputs, keeper)
         }
-        Err(KeptStop::Foreign { row }) => {
+        Err(KeptError::Foreign { row }) => {
             drop(rows);
             drop(scenario);
             carry_out(foreign(alloc, row), outputs, keeper)
         }
-        Err(KeptStop::NoMemory) => {
+        Err(KeptError::NoMemory) => {
             drop(rows);
             drop(scenario);
             Status::NoMemory

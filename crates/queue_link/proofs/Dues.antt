@@ -16,9 +16,10 @@ use Rattle.traffic.specs.Links.{waiting, wait_after}
 use Rattle.law_sleeping.proofs.Credits.{up_to, from_up}
 use Rattle.queue_link.specs.Links.{LinkView, vehicle_at}
 use Rattle.queue_link.specs.Turns.{is_due, left_in_bay}
-use Rattle.queue_link.specs.Waking.{earlier, bay_due, is_by}
+use Rattle.queue_link.specs.Waking.{bay_due, is_by}
+use Rattle.calendar.specs.Waking.{earliest}
 
-pub earlier_assoc : (a b c : Option ℕ) → earlier (earlier a b) c ≡ earlier a (earlier b c)
+pub earlier_assoc : (a b c : Option ℕ) → earliest (earliest a b) c ≡ earliest a (earliest b c)
 earlier_assoc None b c = refl
 earlier_assoc (Some a) None c = refl
 earlier_assoc (Some a) (Some b) None = refl
@@ -83,17 +84,17 @@ vehicle_right zero k (x ∷ xs) ys e = absurd (omega arith)
 vehicle_right (suc place) k (x ∷ xs) ys e = vehicle_right place k xs ys (omega arith)
 
 -- THE LEAST SECOND OF A BAY
-pub bay_more : (rows : List Row) (r : Row) → bay_due (rows ++ r ∷ []) ≡ earlier (bay_due rows) (Some r.second)
+pub bay_more : (rows : List Row) (r : Row) → bay_due (rows ++ r ∷ []) ≡ earliest (bay_due rows) (Some r.second)
 unfolding bay_due
 bay_more [] r = refl
-bay_more (x ∷ rows) r = ap (earlier (Some x.second)) (bay_more rows r) ∙ sym (earlier_assoc (Some x.second) (bay_due rows) (Some r.second))
+bay_more (x ∷ rows) r = ap (earliest (Some x.second)) (bay_more rows r) ∙ sym (earlier_assoc (Some x.second) (bay_due rows) (Some r.second))
 
 -- while that is later than second t, nobody leaves
-first_later : (t u : ℕ) (d : Option ℕ) → is_by t (earlier (Some u) d) ≡ false → nat_le u t ≡ false
+first_later : (t u : ℕ) (d : Option ℕ) → is_by t (earliest (Some u) d) ≡ false → nat_le u t ≡ false
 first_later t u None e = e
 first_later t u (Some v) e = let lt = leb-false (min u v) t e in lt-leb u t (omega arith)
 
-others_later : (t u : ℕ) (d : Option ℕ) → is_by t (earlier (Some u) d) ≡ false → is_by t d ≡ false
+others_later : (t u : ℕ) (d : Option ℕ) → is_by t (earliest (Some u) d) ≡ false → is_by t d ≡ false
 others_later t u None e = refl
 others_later t u (Some v) e = let lt = leb-false (min u v) t e in lt-leb v t (omega arith)
 
@@ -110,9 +111,9 @@ pub bay_none : (rows : List Row) → rows ≡ [] → None ≡ bay_due rows
 unfolding bay_due
 bay_none rows e = sym (ap bay_due e)
 
-pub bay_grows : (rows later : List Row) (r : Row) (d e : Option ℕ) → later ≡ rows ++ r ∷ [] → d ≡ bay_due rows → e ≡ earlier d (Some r.second)
+pub bay_grows : (rows later : List Row) (r : Row) (d e : Option ℕ) → later ≡ rows ++ r ∷ [] → d ≡ bay_due rows → e ≡ earliest d (Some r.second)
     → e ≡ bay_due later
-bay_grows rows later r d e n h g = g ∙ ap (λ (o : Option ℕ). earlier o (Some r.second)) h ∙ sym (bay_more rows r) ∙ ap bay_due (sym n)
+bay_grows rows later r d e n h g = g ∙ ap (λ (o : Option ℕ). earliest o (Some r.second)) h ∙ sym (bay_more rows r) ∙ ap bay_due (sym n)
 
 -- the link then stays as it is
 with_lists : LinkView → List Row → List Row → LinkView

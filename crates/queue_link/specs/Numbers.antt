@@ -1,6 +1,6 @@
 -- The numbers of a link, and their ranges.
 use Rattle.std.specs.Prelude.{ℕ, ◌≤◌}
-use Rattle.limits.specs.declared.TheConstants.{MAX_CAPACITY, MAX_LANES, MAX_LENGTH}
+use Rattle.limits.specs.declared.TheConstants.{MAX_CAPACITY, MAX_LENGTH}
 use Rattle.fixed_flow.specs.declared.TheConstants.{MAX_PER_SECOND}
 use Rattle.fixed_flow.specs.Link.{free_seconds, credit_per_second, storage, buffer_room}
 use Rattle.rows.specs.declared.network.LinkRow.{LinkRow}
@@ -8,15 +8,6 @@ use Rattle.rows.specs.declared.settings.Dwelling.{Dwelling}
 use Rattle.rows.specs.declared.settings.TrafficSettings.{TrafficSettings}
 use Rattle.traffic.specs.declared.numbers.Rules.{Rules}
 use Rattle.queue_link.specs.declared.numbers.LinkNumbers.{LinkNumbers}
-
--- a row of links.csv within its ranges
-pub record IsMeasured (row : LinkRow) : Type 0 where
-  pub some_length : 1 ≤ row.length
-  pub most_length : row.length ≤ MAX_LENGTH
-  pub some_speed : 1 ≤ row.speed
-  pub some_capacity : 1 ≤ row.capacity
-  pub most_capacity : row.capacity ≤ MAX_CAPACITY
-  pub most_lanes : row.lanes ≤ MAX_LANES
 
 -- the numbers of a link by its row and the settings of traffic
 unfoldable pub numbers_of : ℕ → LinkRow → TrafficSettings → LinkNumbers

@@ -1,21 +1,16 @@
 -- When a link has to be woken.
-use Rattle.std.specs.Prelude.{ℕ, Bool, false, List, [], ◌∷◌, length, min, nat_le, Option, None, Some}
+use Rattle.std.specs.Prelude.{ℕ, Bool, false, List, [], ◌∷◌, length, nat_le, Option, None, Some}
 use Rattle.traffic.specs.declared.world.Row.{Row}
 use Rattle.traffic.specs.Links.{LinkState}
 use Rattle.law_sleeping.specs.Quiet.{queue_due, wait_due}
 use Rattle.queue_link.specs.declared.numbers.LinkNumbers.{LinkNumbers}
 use Rattle.queue_link.specs.Numbers.{rules_of, no_dwelling}
-
--- the earlier one of two seconds, where there is any
-abbrev pub earlier : Option ℕ → Option ℕ → Option ℕ
-earlier None u = u
-earlier (Some t) None = Some t
-earlier (Some t) (Some u) = Some (min t u)
+use Rattle.calendar.specs.Waking.{earliest}
 
 -- the least second of the rows of a bay
 unfoldable pub bay_due : List Row → Option ℕ
 bay_due [] = None
-bay_due (r ∷ rs) = earlier (Some r.second) (bay_due rs)
+bay_due (r ∷ rs) = earliest (Some r.second) (bay_due rs)
 
 -- whether this second, where there is one, is t or before it
 abbrev pub is_by : ℕ → Option ℕ → Bool
@@ -26,4 +21,4 @@ is_by t (Some u) = nat_le u t
 abbrev pub due_of : LinkNumbers → ℕ → LinkState → Option ℕ
 due_of n t L =
     let K = rules_of n no_dwelling in
-    earlier (queue_due K t (length L.buffer) L.credit L.queue) (earlier (wait_due K t (length L.buffer) L.credit L.wait) (bay_due L.bay))
+    earliest (queue_due K t (length L.buffer) L.credit L.queue) (earliest (wait_due K t (length L.buffer) L.credit L.wait) (bay_due L.bay))

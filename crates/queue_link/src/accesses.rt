@@ -1,7 +1,7 @@
 //! What comes to a link, what is taken from it, and what it tells of itself.
 
 ghost use Rattle.std.specs.Prelude.{◌≡◌, ◌+◌, ◌^◌, ◌<◌, ◌≤◌, ◌↔◌, [], ◌∷◌, ◌++◌};
-ghost use Rattle.std.specs.Prelude.{length, max, OnOk, IfSome, IsTrue};
+ghost use Rattle.std.specs.Prelude.{length, max, OnOk, IsTrue};
 ghost use Rattle.std.specs.Option.{option_copied};
 ghost use Rattle.limits.specs.declared.TheConstants.{LAST_SECOND};
 ghost use Rattle.traffic.specs.declared.stage.Stage.TheVariants.{Queue, Wait, Bay};
@@ -12,7 +12,7 @@ ghost use Rattle.queue_link.specs.Numbers.{AreNumbers};
 ghost use Rattle.queue_link.specs.Links.{fresh, row_on, behind_front, all_rows, first_row, front_vehicle, front_second, vehicle_at};
 
 use crate::numbers::LinkNumbers;
-use crate::sleeps::earlier;
+use crate::sleeps::earliest;
 use crate::state::LinkState;
 use crate::turns::vehicle_of;
 use fixed_flow::Credit;
@@ -39,6 +39,19 @@ fn vehicle_in_bay(rows: &[Row], place: usize) -> Option<&Vehicle>
     } else {
         None
     }
+}
+
+/// A row comes to the end of a list. The first one takes one place, and a list that is full then grows to twice its length: on most links
+/// there are one or two vehicles, so that all lists of a network stay few in memory.
+pub(crate) fn push_row(rows: &mut VecDeque<Row>, row: Row) -> Result<(), AllocError>
+    ensures { OnOk result (rows.new.items ≡ rows.old.items ++ row ∷ []) }
+{
+    let count = rows.len();
+    if count == rows.capacity() {
+        rows.reserve_exact(count.max(1))?;
+    }
+    rows.push_back(row)?;
+    Ok(())
 }
 
 impl LinkState {
@@ -80,12 +93,13 @@ impl LinkState {
           };
         }) }
     {
-        self.queue.push_back(Row {
+        let row = Row {
             vehicle,
             link: self.numbers.link,
             stage: Stage::Queue,
             second: second + self.numbers.seconds,
-        })?;
+        };
+        push_row(&mut self.queue, row)?;
         Ok(())
     }
 
@@ -101,12 +115,13 @@ impl LinkState {
           };
         }) }
     {
-        self.wait.push_back(Row {
+        let row = Row {
             vehicle,
             link: self.numbers.link,
             stage: Stage::Wait,
             second: 0,
-        })?;
+        };
+        push_row(&mut self.wait, row)?;
         Ok(())
     }
 
@@ -128,7 +143,7 @@ impl LinkState {
             stage: Stage::Bay,
             second: until,
         })?;
-        self.bay_due = earlier(self.bay_due, Some(until));
+        self.bay_due = earliest(self.bay_due, Some(until));
         Ok(())
     }
 

@@ -1,8 +1,9 @@
 //! The numbers of a link.
 
 ghost use Rattle.std.specs.Prelude.{◌≡◌, ◌≤◌};
-ghost use Rattle.limits.specs.declared.TheConstants.{MAX_CAPACITY, MAX_LANES, MAX_LENGTH, MAX_PERMILLE};
-ghost use Rattle.queue_link.specs.Numbers.{numbers_of, IsMeasured, AreNumbers};
+ghost use Rattle.limits.specs.declared.TheConstants.{MAX_PERMILLE};
+ghost use Rattle.rows.specs.Networks.{IsMeasured};
+ghost use Rattle.queue_link.specs.Numbers.{numbers_of, AreNumbers};
 
 use fixed_flow::{buffer_room, credit_per_second, free_seconds, storage};
 use rows::{LinkRow, TrafficSettings};

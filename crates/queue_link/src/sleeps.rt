@@ -5,16 +5,17 @@ ghost use Rattle.limits.specs.declared.TheConstants.{LAST_SECOND};
 ghost use Rattle.rows.specs.declared.settings.Dwelling.{Dwelling};
 ghost use Rattle.law_sleeping.specs.Quiet.{held_due, queue_due, wait_due, has_come, is_blocked};
 ghost use Rattle.queue_link.specs.Numbers.{AreNumbers, rules_of, no_dwelling};
-ghost use Rattle.queue_link.specs.Waking.{earlier, bay_due, due_of};
+ghost use Rattle.queue_link.specs.Waking.{bay_due, due_of};
+ghost use Rattle.calendar.specs.Waking.{earliest};
 
 use crate::numbers::LinkNumbers;
 use crate::state::LinkState;
 use fixed_flow::{Credit, VEHICLE_COST};
 use traffic::Row;
 
-/// The earlier one of two seconds, where there is any.
-pub(crate) fn earlier(second: Option<u32>, other: Option<u32>) -> Option<u32>
-    ensures { result ≡ earlier second other }
+/// The earlier of two seconds, where there is any.
+pub(crate) fn earliest(second: Option<u32>, other: Option<u32>) -> Option<u32>
+    ensures { result ≡ earliest second other }
 {
     match (second, other) {
         (None, other) => other,
@@ -30,7 +31,7 @@ pub(crate) fn bay_due(bay: &[Row]) -> Option<u32>
 {
     let mut due = None;
     for row in bay {
-        due = earlier(due, Some(row.second));
+        due = earliest(due, Some(row.second));
     }
     due
 }
@@ -85,8 +86,8 @@ impl LinkState {
         requires { second < LAST_SECOND }
         ensures { result ≡ due_of self.now.numbers second self.now.lists }
     {
-        let held = earlier(self.wait_due(second), self.bay_due);
-        earlier(self.queue_due(second), held)
+        let held = earliest(self.wait_due(second), self.bay_due);
+        earliest(self.queue_due(second), held)
     }
 
     /// Whether a front waits for room in the buffer, so that the link has to be woken when a vehicle leaves it.

@@ -9,6 +9,7 @@ ghost use Rattle.traffic.specs.Links.{buffered};
 ghost use Rattle.queue_link.specs.declared.fates.Fate.TheVariants.{Stays};
 ghost use Rattle.queue_link.specs.Turns.{goes_on, LeadsTo, queue_fate, wait_fate};
 
+use crate::accesses::push_row;
 use crate::fates::Fate;
 use crate::state::LinkState;
 use std::alloc::AllocError;
@@ -63,7 +64,7 @@ impl LinkState {
         }) }
     {
         let after = buffered(second, self.numbers.link, self.buffer.len(), row);
-        self.buffer.push_back(after)?;
+        push_row(&mut self.buffer, after)?;
         self.credit.pay();
         Ok(())
     }

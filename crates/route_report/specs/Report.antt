@@ -6,9 +6,9 @@ use Rattle.events.specs.Names.{name_at, number_of}
 use Rattle.rows.specs.declared.network.Network.{Network}
 use Rattle.rows.specs.declared.network.LinkRow.{LinkRow}
 use Rattle.travel_times.specs.Times.{free_times}
-use Rattle.rows.specs.Joined.{ends_of}
 use Rattle.walks.specs.Rounds.{label_at}
 use Rattle.router.specs.Ways.{Query, least_of, route_of}
+use Rattle.router.specs.Graphs.{graph_on}
 
 -- the names of nodes and of links, and the links
 pub record RoadMap : Type 0 where
@@ -22,7 +22,7 @@ map_of network = record { node_names = network.node_names; link_names = network.
 -- the search from a node in a second, at the links' free speed
 abbrev pub search_on : RoadMap → ℕ → ℕ → Query
 search_on M from second = record {
-  graph = record { nodes = length M.node_names; ends = ends_of M.links };
+  graph = graph_on (length M.node_names) M.links;
   times = free_times M.links;
   from = from;
   second = second;

@@ -7,7 +7,7 @@ ghost use Rattle.route_report.specs.Report.{map_of, search_on, route_lines, text
 
 use crate::lines::route_lines;
 use route_check::check;
-use router::{Found, RouteStop, least};
+use router::{Found, RouteError, least};
 use rows::Network;
 use std::alloc::{AllocError, Global};
 use travel_times::LinkTimes;
@@ -65,8 +65,8 @@ fn text_between(
             let lines = checked_lines(alloc, network, &times, from, to, second, &found)?;
             Ok(Some(lines))
         }
-        Err(RouteStop::NoRoute) => Ok(None),
-        Err(RouteStop::NoMemory) => Err(AllocError),
+        Err(RouteError::NoRoute) => Ok(None),
+        Err(RouteError::NoMemory) => Err(AllocError),
     }
 }
 

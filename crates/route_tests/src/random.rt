@@ -5,7 +5,7 @@ use crate::networks::number_of;
 use crate::plain::Town;
 use limits::LAST_SECOND;
 use route_check::check;
-use router::{Adjacency, Found, RouteStop, Search, Way, least};
+use router::{Adjacency, Found, RouteError, Search, Way, least};
 use rows::Network;
 use std::alloc::Global;
 use travel_times::{LinkTimes, are_in_order, are_on_links};
@@ -30,13 +30,13 @@ fn is_way(way: &Option<Way>, label: Option<u64>, links: &[u32]) -> bool {
 
 /// Whether the answer is the plain route, with the plain labels, or that there is none.
 fn is_least(
-    answer: &Result<Found, RouteStop>,
+    answer: &Result<Found, RouteError>,
     labels: &[Option<u64>],
     to: u32,
     links: &[u32],
 ) -> bool {
     match answer {
-        Err(stop) => *stop == RouteStop::NoRoute && label_of(labels, to).is_none(),
+        Err(stop) => *stop == RouteError::NoRoute && label_of(labels, to).is_none(),
         Ok(found) => {
             label_of(labels, to) == Some(found.arrival)
                 && found.links.rows.as_slice() == links

@@ -4,7 +4,7 @@ use crate::networks::{event, network};
 use events::{Event, VehicleId, Word};
 use limits::LAST_SECOND;
 use route_check::check;
-use router::{RouteStop, least};
+use router::{RouteError, least};
 use rows::Network;
 use std::alloc::Global;
 use travel_times::{LinkTimes, are_in_order, are_on_links};
@@ -68,7 +68,7 @@ fn is_none(alloc: Global, network: &Network, times: &LinkTimes, from: u32, to: u
         return false;
     }
     match least(alloc, network, times, from, to, 0) {
-        Err(stop) => stop == RouteStop::NoRoute,
+        Err(stop) => stop == RouteError::NoRoute,
         Ok(_) => false,
     }
 }

@@ -7,15 +7,20 @@ use Rattle.rows.specs.Joined.{ends_of}
 use Rattle.walks.specs.Walks.{start_of, end_of, AreWithin}
 use Rattle.router.specs.declared.adjacency.Adjacency.TheInside.{Inside}
 use Rattle.router.specs.Stars.{AreBeside}
+use Rattle.rows.specs.declared.network.LinkRow.{LinkRow}
 
 -- how many nodes there are, and where each link begins and ends
 pub record Graph : Type 0 where
   pub nodes : ℕ
   pub ends : List (ℕ × ℕ)
 
+-- the graph of these links between so many nodes
+abbrev pub graph_on : ℕ → List LinkRow → Graph
+graph_on nodes links = record { nodes = nodes; ends = ends_of links }
+
 -- the graph of a network
 abbrev pub graph_of : Network → Graph
-graph_of network = record { nodes = length network.nodes; ends = ends_of network.links }
+graph_of network = graph_on (length network.nodes) network.links
 
 -- the graph that is kept with the links beside each node
 abbrev pub kept_graph : Inside → Graph

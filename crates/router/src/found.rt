@@ -1,4 +1,4 @@
-ghost use Rattle.std.specs.Prelude.{◌≡◌, ℕ, ◌^◌, ◌<◌, ◌≤◌, length, IfOk, IfErr, MatchResult};
+ghost use Rattle.std.specs.Prelude.{◌≡◌, ℕ, ◌^◌, ◌<◌, ◌≤◌, length, IfOk, IfErr};
 ghost use Rattle.travel_times.specs.Times.{arrivals};
 ghost use Rattle.rows.specs.Joined.{ends_of};
 ghost use Rattle.walks.specs.Walks.{NoWalk};
@@ -22,7 +22,7 @@ pub struct Found {
 
 /// Why there is no route.
 #[derive(Clone, Copy, Debug, PartialEq, Eq)]
-pub enum RouteStop {
+pub enum RouteError {
     /// No walk joins the nodes.
     NoRoute,
     NoMemory,
@@ -37,7 +37,7 @@ pub fn least(
     from: u32,
     to: u32,
     second: u64,
-) -> Result<Found, RouteStop>
+) -> Result<Found, RouteError>
     requires from { from < length network.now.nodes }
     requires to { to < length network.now.nodes }
     requires times { length times.now ≡ length network.now.links }
@@ -46,22 +46,22 @@ pub fn least(
     ensures labels { IfOk result (λ found. found.labels ≡ least_of (query_on network.now times.now from second)) }
     ensures certificate { IfOk result (λ found. IsCertificate (length network.now.nodes) (ends_of network.now.links)
         (arrivals times.now) from second found.labels) }
-    ensures no_route { IfErr result (λ stop. stop ≡ RouteStop.NoRoute → NoWalk (ends_of network.now.links) from to) }
+    ensures no_route { IfErr result (λ error. error ≡ RouteError.NoRoute → NoWalk (ends_of network.now.links) from to) }
 {
     let Ok(adjacency) = Adjacency::of(alloc, network) else {
-        return Err(RouteStop::NoMemory);
+        return Err(RouteError::NoMemory);
     };
     let Ok(search) = Search::new(alloc, &adjacency, times, from, second) else {
-        return Err(RouteStop::NoMemory);
+        return Err(RouteError::NoMemory);
     };
     let Ok((search, way)) = search.way_to(alloc, to) else {
-        return Err(RouteStop::NoMemory);
+        return Err(RouteError::NoMemory);
     };
     let Some(Way { links, arrival }) = way else {
-        return Err(RouteStop::NoRoute);
+        return Err(RouteError::NoRoute);
     };
     let Ok(labels) = search.finish() else {
-        return Err(RouteStop::NoMemory);
+        return Err(RouteError::NoMemory);
     };
     Ok(Found {
         links,

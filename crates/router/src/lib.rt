@@ -16,7 +16,7 @@ mod star;
 mod ways;
 
 pub use adjacency::Adjacency;
-pub use found::{Found, RouteStop, least};
+pub use found::{Found, RouteError, least};
 pub use laws::leg_routes_join_their_links;
 pub use legs::{copied_leg, copied_legs};
 pub use routes::{leg_route, one_link, route_along, way_by};

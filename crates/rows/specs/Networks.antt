@@ -1,5 +1,5 @@
 -- What a network keeps of its links.
-use Rattle.std.specs.Prelude.{ℕ, Bool, ◌&&◌, nat_lt, nat_le, nat_eq, List, count_by}
+use Rattle.std.specs.Prelude.{ℕ, ◌≤◌, Bool, ◌&&◌, nat_lt, nat_le, nat_eq, List, count_by}
 use Rattle.limits.specs.declared.TheConstants.{MAX_CAPACITY, MAX_LANES, MAX_LENGTH, MAX_SPEED}
 use Rattle.rows.specs.declared.network.LinkRow.{LinkRow}
 
@@ -10,6 +10,15 @@ is_from_to low high n = nat_le low n && nat_le n high
 -- the numbers are in their ranges
 unfoldable pub are_measures : ℕ → ℕ → ℕ → ℕ → Bool
 are_measures length speed capacity lanes = is_from_to 1 MAX_LENGTH length && is_from_to 1 MAX_SPEED speed && is_from_to 1 MAX_CAPACITY capacity && is_from_to 1 MAX_LANES lanes
+
+-- so for the row of a link, each range by itself
+pub record IsMeasured (link : LinkRow) : Type 0 where
+  pub some_length : 1 ≤ link.length
+  pub most_length : link.length ≤ MAX_LENGTH
+  pub some_speed : 1 ≤ link.speed
+  pub some_capacity : 1 ≤ link.capacity
+  pub most_capacity : link.capacity ≤ MAX_CAPACITY
+  pub most_lanes : link.lanes ≤ MAX_LANES
 
 -- the link begins and ends at one of so many nodes, and its numbers are in their ranges
 unfoldable pub is_link : ℕ → LinkRow → Bool

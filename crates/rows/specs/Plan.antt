@@ -1,5 +1,5 @@
 -- What a day plan keeps: activities, and a leg between each and the next.
-use Rattle.std.specs.Prelude.{ℕ, Bool, true, false, ◌&&◌, nat_le, nat_lt, List, [], ◌∷◌, length, Option, None, Some}
+use Rattle.std.specs.Prelude.{ℕ, ◌<◌, Bool, true, false, ◌&&◌, nat_le, nat_lt, List, [], ◌∷◌, length, Option, None, Some}
 use Rattle.limits.specs.declared.TheConstants.{LAST_SECOND, MAX_ROUTE_LINKS}
 use Rattle.events.specs.declared.event.Mode.{Mode}
 use Rattle.events.specs.declared.event.Mode.TheVariants as mode
@@ -20,6 +20,18 @@ abbrev pub is_leg : Leg → Bool
 is_leg (leg.Car route) = nat_le (length route) MAX_ROUTE_LINKS
 is_leg (leg.Teleport mode seconds) = is_teleported mode && nat_le 1 seconds && nat_le seconds LAST_SECOND
 is_leg (leg.Transit line access egress) = true
+
+-- the mode of a leg
+abbrev pub mode_of_leg : Leg → Mode
+mode_of_leg (leg.Car route) = mode.Car
+mode_of_leg (leg.Teleport mode seconds) = mode
+mode_of_leg (leg.Transit line access egress) = mode.Pt
+
+-- the route of a leg by car has a link
+abbrev pub HasRoute : Leg → Type 0
+HasRoute (leg.Car route) = 0 < length route
+HasRoute (leg.Teleport mode seconds) = Unit {0}
+HasRoute (leg.Transit line access egress) = Unit {0}
 
 -- an end second of at most 172,800
 abbrev pub is_end : Option ℕ → Bool

@@ -36,7 +36,7 @@ use Rattle.rows.specs.Joined.{ends_of}
 use Rattle.town.specs.Rows.{TownRows}
 use Rattle.travel_times.specs.Times.{arrivals, free_times}
 use Rattle.walks.specs.Arrivals.{Arrivals}
-use Rattle.router.specs.Graphs.{Graph}
+use Rattle.router.specs.Graphs.{Graph, graph_on}
 use Rattle.router.specs.Legs.{route_between}
 use Rattle.car_routes.specs.Plans.{all_routed}
 use Rattle.scenario.specs.declared.faults.ScenarioFault.{ScenarioFault}
@@ -188,8 +188,8 @@ leg_checks_in plans schedule =
     schedule.stops schedule.routes
 
 -- the network as searches go along it
-abbrev pub graph_in : NetworkRows → Graph
-graph_in network = record { nodes = length network.nodes; ends = ends_of network.links }
+abbrev pub graph_between : NetworkRows → Graph
+graph_between network = graph_on (length network.nodes) network.links
 
 -- when the end of each link is reached at its free speed
 abbrev pub free_arrivals : NetworkRows → Arrivals
@@ -202,7 +202,7 @@ with_search network W = record {
   numbers = W.numbers;
   stops = W.stops;
   routes = W.routes;
-  searched = route_between (graph_in network) (free_arrivals network);
+  searched = route_between (graph_between network) (free_arrivals network);
 }
 
 -- the plans with these routes for the car legs that have no link, as far as there are any
@@ -212,7 +212,7 @@ filled_in network plans = record {
   kinds = plans.kinds;
   lines = plans.lines;
   stops = plans.stops;
-  plans = all_routed (graph_in network) (free_arrivals network) plans.plans;
+  plans = all_routed (graph_between network) (free_arrivals network) plans.plans;
   starts = plans.starts;
 }
 

@@ -35,7 +35,7 @@ unfoldable pub use Rattle.fixed_flow.specs.Flow.{raised}
 unfoldable pub use Rattle.fixed_flow.specs.Link.{credit_per_second, storage, buffer_room, free_seconds}
 pub use Rattle.fixed_flow.specs.declared.TheConstants.{VEHICLE_COST}
 unfoldable pub use Rattle.rows.specs.Joined.{ends_of}
-pub use Rattle.rows.specs.Plan.{is_open, has_end, is_leg}
+pub use Rattle.rows.specs.Plan.{is_open, has_end, is_leg, mode_of_leg}
 unfoldable pub use Rattle.rows.specs.Plan.{are_acts}
 pub use Rattle.rows.specs.PlanRows.{act_in, leg_in, PlanRows, plan_rows, all_plan_rows}
 pub use Rattle.rows.specs.Stops.{calls_at, stop_link}
@@ -64,7 +64,7 @@ pub use Rattle.traffic.specs.Nodes.{InLink, NodeView, OutLink, with_one_more, ma
 pub use Rattle.traffic.specs.Nodes.{candidates, is_out_link, entered, next_link, in_link, has_room, in_force, node_view, out_link, ready, is_stuck, mark}
 pub use Rattle.traffic.specs.Nodes.{out_links_after, taken_at}
 unfoldable pub use Rattle.traffic.specs.Nodes.{node_moves, draw, one_more, pass_node}
-pub use Rattle.traffic.specs.Persons.{landing, stuck_at, waiter, sets_out, waits_on, transit_vehicle, departs, same_vehicle, lands, car, leaving, mode_of_leg}
+pub use Rattle.traffic.specs.Persons.{landing, stuck_at, waiter, sets_out, waits_on, transit_vehicle, departs, same_vehicle, lands, car, leaving}
 pub use Rattle.traffic.specs.Persons.{waits}
 unfoldable pub use Rattle.traffic.specs.Persons.{waiters, landing_moves, leaving_moves, stranded, departure_moves, link_of_vehicle}
 pub use Rattle.traffic.specs.Rows.{Row, Teleporting, At, Place, Waiting, Riding, Person, World, person_of, at, on, nobody, rank, holes_at, credit_of}

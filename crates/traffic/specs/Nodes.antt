@@ -1,5 +1,5 @@
 -- Phase C at one node, by the buffers of the links into it and the places of the links out of it.
-use Rattle.std.specs.Prelude.{ℕ, zero, suc, ◌+◌, ◌-◌, ◌*◌, Bool, true, false, not, ◌&&◌, ◌||◌, List, [], ◌∷◌, ◌++◌, length, map, filter, get_or, ◌==◌, nat_lt, nat_le, if◌then◌else◌, Option, None, Some}
+use Rattle.std.specs.Prelude.{ℕ, zero, suc, ◌+◌, ◌-◌, ◌*◌, ◌<◌, Bool, true, false, not, ◌&&◌, ◌||◌, List, [], ◌∷◌, ◌++◌, length, map, filter, get_or, ◌==◌, nat_lt, nat_le, if◌then◌else◌, Option, None, Some}
 use Rattle.draws.specs.Choices.{pick}
 use Rattle.traffic.specs.declared.stage.Stage.TheVariants.{Queue, Buffer}
 pub use Rattle.traffic.specs.declared.node_views.InLink.{InLink}
@@ -38,6 +38,16 @@ node_view S t n W = record { in_links = map (in_link S t W) (into S n); out_link
 -- the link after the one where a vehicle is
 abbrev pub next_link : VehicleState → ℕ
 next_link v = get_or v.route (v.place + 1) 0
+
+-- a vehicle has a next link, and its route is no longer than a number can count
+pub record HasNext (v : VehicleState) : Type 0 where
+  pub next : v.place + 1 < length v.route
+  pub route : length v.route < 4294967296
+
+-- so does each vehicle of these rows
+abbrev pub HaveNext : List Row → Type 0
+HaveNext [] = Unit {0}
+HaveNext (r ∷ rs) = HasNext r.vehicle × HaveNext rs
 
 -- whether it is a link out of the node, and whether it has fewer taken places than its storage
 abbrev pub is_out_link : Option OutLink → Bool
@@ -107,9 +117,13 @@ abbrev pub out_links_after : List Move → (ℕ → Option OutLink) → ℕ → 
 out_links_after [] out_links = out_links
 out_links_after (m ∷ ms) out_links = out_links_after ms (out_links_by m out_links)
 
--- the place of the candidate that a word draws, with weights equal to the capacities
+-- the weight of a link into a node
+abbrev pub weight_of : InLink → ℕ
+weight_of e = e.capacity
+
+-- the place of the candidate that a word draws, with these weights
 abbrev pub drawn : List InLink → ℕ → ℕ
-drawn in_links word = pick (map (λ (e : InLink). e.capacity) in_links) word
+drawn in_links word = pick (map weight_of in_links) word
 
 -- nothing to hand over
 abbrev pub no_in_link : InLink

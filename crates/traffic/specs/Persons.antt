@@ -17,12 +17,7 @@ use Rattle.traffic.specs.Lists.{below}
 use Rattle.traffic.specs.Stops.{Waiter}
 use Rattle.traffic.specs.Telling.{Occurrence, of_person}
 use Rattle.traffic.specs.Moves.{Move, Enter, Report}
-
--- the mode of a leg
-abbrev pub mode_of_leg : Leg → Mode
-mode_of_leg (leg.Car route) = mode.Car
-mode_of_leg (leg.Teleport mode seconds) = mode
-mode_of_leg (leg.Transit line access egress) = mode.Pt
+use Rattle.rows.specs.Plan.{mode_of_leg}
 
 -- a teleported leg is over
 abbrev pub lands : ℕ → Mode → ℕ → Act → List Occurrence
@@ -135,14 +130,25 @@ unfoldable pub link_of_vehicle : VehicleId → List Row → ℕ
 link_of_vehicle v [] = 0
 link_of_vehicle v (r ∷ rs) = if same_vehicle r.vehicle.id v then r.link else link_of_vehicle v rs
 
+-- the link of who rides, by the rows of all vehicles
+abbrev pub link_ridden : List Row → Place → ℕ
+link_ridden rows (At end) = 0
+link_ridden rows (Teleporting start) = 0
+link_ridden rows (Waiting stop since) = 0
+link_ridden rows (Riding v) = link_of_vehicle v rows
+link_ridden rows (Aborted l) = 0
+
 -- phase E: who is under way is stuck: one who flies on the link of the activity that he left, one who waits on that of the stop, one
--- who rides on that of the vehicle
+-- who rides on this link
+abbrev pub stuck_on : Setup → ℕ → ℕ → Act → Mode → Place → List Occurrence
+stuck_on S ridden i here mode (At end) = []
+stuck_on S ridden i here mode (Teleporting start) = of_person word.StuckAndAbort i here.link (more.Mode mode) ∷ []
+stuck_on S ridden i here mode (Waiting stop since) = of_person word.StuckAndAbort i (link_of_stop S stop) (more.Mode mode) ∷ []
+stuck_on S ridden i here mode (Riding v) = of_person word.StuckAndAbort i ridden (more.Mode mode) ∷ []
+stuck_on S ridden i here mode (Aborted l) = []
+
 abbrev pub stuck_at : Setup → World → ℕ → Act → Mode → Place → List Occurrence
-stuck_at S W i here mode (At end) = []
-stuck_at S W i here mode (Teleporting start) = of_person word.StuckAndAbort i here.link (more.Mode mode) ∷ []
-stuck_at S W i here mode (Waiting stop since) = of_person word.StuckAndAbort i (link_of_stop S stop) (more.Mode mode) ∷ []
-stuck_at S W i here mode (Riding v) = of_person word.StuckAndAbort i (link_of_vehicle v W.rows) (more.Mode mode) ∷ []
-stuck_at S W i here mode (Aborted l) = []
+stuck_at S W i here mode place = stuck_on S (link_ridden W.rows place) i here mode place
 
 unfoldable pub stranded : Setup → World → ℕ → List Occurrence
 stranded S W i =

@@ -33,8 +33,12 @@ pub record Setup : Type 0 where
   -- whether a link is green in a second
   pub green : ℕ → ℕ → Bool
 
+-- the row of a link among these; behind the last one, that of a link without length
+abbrev pub row_at : List LinkRow → ℕ → LinkRow
+row_at rows l = get_or rows l (record { from = 0; to = 0; length = 0; speed = 1; capacity = 0; lanes = 0 })
+
 abbrev pub link_row : Setup → ℕ → LinkRow
-link_row S l = get_or S.links l (record { from = 0; to = 0; length = 0; speed = 1; capacity = 0; lanes = 0 })
+link_row S l = row_at S.links l
 
 -- the free seconds of a link
 abbrev pub seconds_of : Setup → ℕ → ℕ

@@ -36,7 +36,8 @@ use Rattle.std.proofs.Math.ListN.{get_or-map}
 use Rattle.std.proofs.lemmas.Bool.{cases_eq, eq-eqb, ne_eqb}
 use Rattle.walks.specs.Arrivals.{Arrivals}
 use Rattle.walks.specs.Walks.{Ends, start_of, end_of}
-use Rattle.walks.specs.Rounds.{Labels, label_at, earlier, along, links_into, start_labels, relabelled, labels_after, least_labels}
+use Rattle.walks.specs.Rounds.{Labels, label_at, along, links_into, start_labels, relabelled, labels_after, least_labels}
+use Rattle.calendar.specs.Waking.{earliest}
 use Rattle.walks.specs.Chosen.{leads, link_before, followed, chosen_route}
 use Rattle.walks.specs.Alike.{TakesAlike, delayed}
 
@@ -73,8 +74,8 @@ module _ (arrive : Arrivals) (alike : TakesAlike arrive) (later : ℕ) where
       ≡ option_map (λ at. later + at) (label_at labels node)
   delayed_label labels node = get_or-map (λ (o : Option ℕ). option_map (λ at. later + at) o) labels node None
 
-  delayed_earlier : (a b : Option ℕ) → earlier (option_map (λ at. later + at) a) (option_map (λ at. later + at) b)
-      ≡ option_map (λ at. later + at) (earlier a b)
+  delayed_earlier : (a b : Option ℕ) → earliest (option_map (λ at. later + at) a) (option_map (λ at. later + at) b)
+      ≡ option_map (λ at. later + at) (earliest a b)
   delayed_earlier None b = refl
   delayed_earlier (Some a) None = refl
   delayed_earlier (Some a) (Some b) = ap (λ (n : ℕ). Some n) (both a b)
@@ -93,20 +94,20 @@ module _ (arrive : Arrivals) (alike : TakesAlike arrive) (later : ℕ) where
       (delayed_label labels link.1.0) ∙ delayed_arrival link.0 (label_at labels link.1.0)
 
   delayed_best : (labels : Labels) (links : List (ℕ × (ℕ × ℕ))) (o : Option ℕ)
-      → fold earlier (option_map (λ at. later + at) o) (map (along arrive (delayed later labels)) links)
-      ≡ option_map (λ at. later + at) (fold earlier o (map (along arrive labels) links))
+      → fold earliest (option_map (λ at. later + at) o) (map (along arrive (delayed later labels)) links)
+      ≡ option_map (λ at. later + at) (fold earliest o (map (along arrive labels) links))
   delayed_best labels [] o = refl
   delayed_best labels (link ∷ links) o =
       let rest : Labels = map (along arrive (delayed later labels)) links in
-      ap (λ (b : Option ℕ). fold earlier (earlier (option_map (λ at. later + at) o) b) rest) (delayed_along labels link)
-      ∙ ap (λ (b : Option ℕ). fold earlier b rest) (delayed_earlier o (along arrive labels link))
-      ∙ delayed_best labels links (earlier o (along arrive labels link))
+      ap (λ (b : Option ℕ). fold earliest (earliest (option_map (λ at. later + at) o) b) rest) (delayed_along labels link)
+      ∙ ap (λ (b : Option ℕ). fold earliest b rest) (delayed_earlier o (along arrive labels link))
+      ∙ delayed_best labels links (earliest o (along arrive labels link))
 
   delayed_round : (ends : Ends) (labels : Labels) (node : ℕ) → relabelled ends arrive (delayed later labels) node
       ≡ option_map (λ at. later + at) (relabelled ends arrive labels node)
   unfolding relabelled
   delayed_round ends labels node =
-      ap (λ (o : Option ℕ). fold earlier o (map (along arrive (delayed later labels)) (links_into ends node))) (delayed_label labels node)
+      ap (λ (o : Option ℕ). fold earliest o (map (along arrive (delayed later labels)) (links_into ends node))) (delayed_label labels node)
       ∙ delayed_best labels (links_into ends node) (label_at labels node)
 
   delayed_start : (nodes from : ℕ) → start_labels nodes from later ≡ delayed later (start_labels nodes from 0)

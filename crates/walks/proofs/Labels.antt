@@ -33,15 +33,14 @@ use Rattle.std.proofs.Common.{
   arith,
   fold,
 }
-use Rattle.std.specs.Prelude.{nat_eq, filter, IsSomeAnd}
-use Rattle.std.specs.List.{enumerate_from, range_with_len}
+use Rattle.std.specs.Prelude.{nat_eq, filter}
+use Rattle.std.specs.List.{enumerate_from}
 use Rattle.std.specs.Option.{option_map}
 use Rattle.std.proofs.lemmas.Bool.{cases_Bool, eq-eqb, eqb-true}
-use Rattle.std.proofs.lemmas.List.{get_or_past}
-use Rattle.std.proofs.lemmas.List.FromFn.{get_or-map-range_with_len, length-map-range_with_len}
 use Rattle.walks.specs.Arrivals.{Arrivals}
 use Rattle.walks.specs.Walks.{Ends, start_of, end_of}
-use Rattle.walks.specs.Rounds.{Labels, label_at, IsBy, earlier, along, links_into, relabelled}
+use Rattle.walks.specs.Rounds.{Labels, label_at, IsBy, along, relabelled}
+use Rattle.calendar.specs.Waking.{earliest}
 
 pub by_some : (label : Option ℕ) (a second : ℕ) → label ≡ Some a → a ≤ second → IsBy label second
 by_some None a second e h = absurd (cc e)
@@ -56,12 +55,12 @@ pub by_later : (label : Option ℕ) (second later : ℕ) → IsBy label second �
 by_later None second later h less = h
 by_later (Some a) second later h less = omega arith
 
-earlier_by_left : (a b : Option ℕ) (second : ℕ) → IsBy a second → IsBy (earlier a b) second
+earlier_by_left : (a b : Option ℕ) (second : ℕ) → IsBy a second → IsBy (earliest a b) second
 earlier_by_left None b second h = absurd h
 earlier_by_left (Some a) None second h = h
 earlier_by_left (Some a) (Some b) second h = omega arith
 
-earlier_by_right : (a b : Option ℕ) (second : ℕ) → IsBy b second → IsBy (earlier a b) second
+earlier_by_right : (a b : Option ℕ) (second : ℕ) → IsBy b second → IsBy (earliest a b) second
 earlier_by_right None b second h = h
 earlier_by_right (Some a) None second h = absurd h
 earlier_by_right (Some a) (Some b) second h = omega arith
@@ -69,7 +68,7 @@ earlier_by_right (Some a) (Some b) second h = omega arith
 least_of_two : (a b : ℕ) → (min a b ≡ a) ⊎ (min a b ≡ b)
 least_of_two a b = grind arith
 
-earlier_cases : (a b : Option ℕ) (second : ℕ) → earlier a b ≡ Some second → (a ≡ Some second) ⊎ (b ≡ Some second)
+earlier_cases : (a b : Option ℕ) (second : ℕ) → earliest a b ≡ Some second → (a ≡ Some second) ⊎ (b ≡ Some second)
 earlier_cases None b second e = inr e
 earlier_cases (Some a) None second e = inl e
 earlier_cases (Some a) (Some b) second e =
@@ -77,11 +76,11 @@ earlier_cases (Some a) (Some b) second e =
 
 -- one link more looked at, where it ends at the node
 looked : Arrivals → Labels → ℕ → ℕ → ℕ × ℕ → Option ℕ → Option ℕ
-looked arrive labels node i link best = cond (nat_eq link.1 node) (earlier best (along arrive labels (i, link))) best
+looked arrive labels node i link best = cond (nat_eq link.1 node) (earliest best (along arrive labels (i, link))) best
 
 abbrev best_of : Arrivals → Labels → ℕ → ℕ → List (ℕ × ℕ) → Option ℕ → Option ℕ
 best_of arrive labels node i ends best =
-    fold earlier best (map (along arrive labels) (filter (λ (l : ℕ × (ℕ × ℕ)). nat_eq l.1.1 node) (enumerate_from i ends)))
+    fold earliest best (map (along arrive labels) (filter (λ (l : ℕ × (ℕ × ℕ)). nat_eq l.1.1 node) (enumerate_from i ends)))
 
 one_more : (arrive : Arrivals) (labels : Labels) (node i : ℕ) (link : ℕ × ℕ) (ends : List (ℕ × ℕ)) (best : Option ℕ)
     → best_of arrive labels node i (link ∷ ends) best ≡ best_of arrive labels node (i + 1) ends (looked arrive labels node i link best)
@@ -93,7 +92,7 @@ looked_by : (arrive : Arrivals) (labels : Labels) (node i : ℕ) (link : ℕ × 
     → IsBy (looked arrive labels node i link best) second
 unfolding looked
 looked_by arrive labels node i link best second h =
-    elim (nat_eq link.1 node) as (λ b. IsBy (cond b (earlier best (along arrive labels (i, link))) best) second) [
+    elim (nat_eq link.1 node) as (λ b. IsBy (cond b (earliest best (along arrive labels (i, link))) best) second) [
       | true ↦ earlier_by_left best (along arrive labels (i, link)) second h
       | false ↦ h
     ]
@@ -103,7 +102,7 @@ looked_along : (arrive : Arrivals) (labels : Labels) (node i : ℕ) (link : ℕ 
 unfolding looked
 looked_along arrive labels node i link best second ends h =
     let here : nat_eq link.1 node ≡ true = eq-eqb link.1 node ends in
-    let P : Bool → Type 0 = λ b. IsBy (cond b (earlier best (along arrive labels (i, link))) best) second in
+    let P : Bool → Type 0 = λ b. IsBy (cond b (earliest best (along arrive labels (i, link))) best) second in
     subst P (sym here) (earlier_by_right best (along arrive labels (i, link)) second h)
 
 looked_cases : (arrive : Arrivals) (labels : Labels) (node i : ℕ) (link : ℕ × ℕ) (best : Option ℕ) (second : ℕ)
@@ -113,7 +112,7 @@ unfolding looked
 looked_cases arrive labels node i link best second e =
     elim (cases_Bool (nat_eq link.1 node)) [
       | inl here ↦
-          let found : earlier best (along arrive labels (i, link)) ≡ Some second = simp here at e in
+          let found : earliest best (along arrive labels (i, link)) ≡ Some second = simp here at e in
           elim (earlier_cases best (along arrive labels (i, link)) second found) [
             | inl before ↦ inl before
             | inr now ↦ inr (eqb-true link.1 node here, now)

@@ -6,7 +6,6 @@ use Rattle.std.specs.Prelude.{
   suc,
   nat_eq,
   nat_lt,
-  min,
   Bool,
   false,
   count_by,
@@ -26,6 +25,7 @@ use Rattle.std.specs.List.{enumerate_from, range_with_len}
 use Rattle.std.specs.Option.{option_map}
 use Rattle.walks.specs.Arrivals.{Arrivals}
 use Rattle.walks.specs.Walks.{Ends}
+use Rattle.calendar.specs.Waking.{earliest}
 
 -- a label for each node: a second in which the node is reached, or none
 abbrev pub Labels : Type 0
@@ -48,12 +48,6 @@ is_before second (Some label) = nat_lt label second
 unfoldable pub rank : Labels → ℕ → ℕ
 rank labels second = count_by (is_before second) labels
 
--- the earlier of two labels, of which none is the latest
-abbrev pub earlier : Option ℕ → Option ℕ → Option ℕ
-earlier None other = other
-earlier (Some second) None = Some second
-earlier (Some second) (Some other) = Some (min second other)
-
 -- when the end of a link is reached that is entered in the second of its start's label
 abbrev pub along : Arrivals → Labels → ℕ × (ℕ × ℕ) → Option ℕ
 along arrive labels link = option_map (arrive link.0) (label_at labels link.1.0)
@@ -68,7 +62,7 @@ start_labels nodes from second = map (λ node. if nat_eq node from then Some sec
 
 -- the label of a node after one more round: the earliest of its own and of those along the links into it
 unfoldable pub relabelled : Ends → Arrivals → Labels → ℕ → Option ℕ
-relabelled ends arrive labels node = fold earlier (label_at labels node) (map (along arrive labels) (links_into ends node))
+relabelled ends arrive labels node = fold earliest (label_at labels node) (map (along arrive labels) (links_into ends node))
 
 -- the labels after so many rounds
 unfoldable pub labels_after : ℕ → ℕ → Ends → Arrivals → ℕ → ℕ → Labels

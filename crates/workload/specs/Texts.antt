@@ -1,5 +1,5 @@
 -- The texts of a grid's files.
-use Rattle.std.specs.Prelude.{ℕ, ◌-◌, ◌*◌, List, [], ◌∷◌, ◌++◌, codes, decimal}
+use Rattle.std.specs.Prelude.{ℕ, ◌-◌, ◌*◌, List, [], ◌∷◌, ◌++◌, codes, decimal, Option, Some}
 use Rattle.std.specs.List.{flat_map, range_with_len}
 use Rattle.edge_files.specs.declared.files.InFile.{InFile}
 use Rattle.edge_files.specs.declared.files.InFile.TheVariants as file
@@ -57,3 +57,7 @@ file_text size seed last_iteration file.Stops = stops_text size
 file_text size seed last_iteration file.Routes = routes_text size
 file_text size seed last_iteration file.Departures = departures_text DEPARTURES
 file_text size seed last_iteration _ = []
+
+-- the files of a grid, all together: none of them is left out
+abbrev pub grid_texts : ℕ → ℕ → ℕ → InFile → Option (List ℕ)
+grid_texts size seed last_iteration file = Some (file_text size seed last_iteration file)

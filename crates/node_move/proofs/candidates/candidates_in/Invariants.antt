@@ -1,7 +1,7 @@
 use Rattle.std.proofs.Common.{◌≡◌, ◌≤◌, length, take}
 use Rattle.std.specs.Prelude.{map}
-use Rattle.traffic.specs.Nodes.{candidates}
-use Rattle.node_move.specs.NodeStates.{in_links_of, seen, weight_of, ArePlaces, HaveWeights}
+use Rattle.traffic.specs.Nodes.{candidates, weight_of}
+use Rattle.node_move.specs.NodeStates.{in_links_of, seen, ArePlaces, HaveWeights}
 use Rattle.node_move.proofs.Drawing.{AllBelow}
 use Rattle.node_move.proofs.candidates.candidates_in.Given as goal
 

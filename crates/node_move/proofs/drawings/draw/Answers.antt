@@ -6,7 +6,8 @@ use Rattle.traffic.specs.declared.moves.Move.{Move}
 use Rattle.traffic.specs.declared.node_views.InLink.{InLink}
 use Rattle.traffic.specs.Lists.{without_at}
 use Rattle.node_move.specs.Spaces.{places_in}
-use Rattle.node_move.specs.NodeStates.{node_state, node_run, seen, weight_of, ArePlaces, HaveWeights}
+use Rattle.node_move.specs.NodeStates.{node_state, node_run, seen, ArePlaces, HaveWeights}
+use Rattle.traffic.specs.Nodes.{weight_of}
 use Rattle.node_move.proofs.Places.{number_at, number_within, places_without, length_seen, length_without, seen_rest}
 use Rattle.node_move.proofs.Drawing.{draws_lazily, draws_nobody, only_passes, one_pick, sum_least, sum_most, have_without, weights_without}
 use Rattle.node_move.proofs.drawings.draw.Goals as goal

@@ -3,7 +3,8 @@ use Rattle.std.specs.Prelude.{map}
 use Rattle.draws.specs.Words.{word}
 use Rattle.law_sleeping.specs.Able.{able_now, draw_lazily}
 use Rattle.node_move.specs.Spaces.{places_in}
-use Rattle.node_move.specs.NodeStates.{node_state, node_run, seen, weight_of, ArePlaces, AreReady, AreApart, HaveWeights}
+use Rattle.node_move.specs.NodeStates.{node_state, node_run, seen, ArePlaces, AreReady, AreApart, HaveWeights}
+use Rattle.traffic.specs.Nodes.{weight_of}
 use Rattle.node_move.proofs.drawings.draw.Given as goal
 
 abbrev pub invariant-picks : goal.invariant-picks

@@ -1,8 +1,8 @@
 use Rattle.std.proofs.Common.{refl}
 use Rattle.town.specs.Views.{setup}
 use Rattle.traffic.specs.Day.{world_start, world_at}
-use Rattle.plain_day.proofs.Phasing.{events_more}
-use Rattle.plain_day.proofs.Dawn.{events_none}
+use Rattle.law_in_range.proofs.Phasing.{events_more}
+use Rattle.law_in_range.proofs.Dawn.{events_none}
 use Rattle.part_day.proofs.days.all_seconds.Goals as goal
 
 pub loop-t-init : goal.loop-t-init

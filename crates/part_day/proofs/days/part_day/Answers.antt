@@ -1,7 +1,7 @@
 use Rattle.std.proofs.Common.{refl}
 use Rattle.town.specs.Views.{setup}
 use Rattle.traffic.specs.Day.{world_start, world_at}
-use Rattle.plain_day.proofs.Dawn.{day_is, day_in_book}
+use Rattle.law_in_range.proofs.Dawn.{day_is, day_in_book}
 use Rattle.part_day.proofs.days.part_day.Goals as goal
 
 pub returns-clause-events : goal.returns-clause-events

@@ -9,7 +9,7 @@ use Rattle.traffic.specs.declared.world.Person.{Person}
 use Rattle.traffic.specs.Lists.{below, numbers}
 use Rattle.traffic.specs.Rows.{nobody}
 use Rattle.traffic.specs.Day.{keyed}
-use Rattle.plain_day.proofs.Counting.{went_on, went_through}
+use Rattle.person_moves.proofs.Counting.{went_on, went_through}
 use Rattle.law_parts_of_days.specs.Riding.{stranded_on, told_on}
 use Rattle.part_day.proofs.ends.push_ends.Goals as goal
 

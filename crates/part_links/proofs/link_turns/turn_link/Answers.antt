@@ -13,7 +13,7 @@ returns-clause-turn c = λ lies ws h g b.
     (lane c.turn_at.new.links c.args.slot)
     c.args.lines.now c.turn_at.new.lines c.args.told.now.events.items _ c.args.told.now.said.items _ c.in_ok-said.said.items c.in_ok-said.ensures.link
     (c.in_ok-said.ensures.second lies ws h g b)
-    (c.in_ok-tell.ensures.events
-    ∙ ap (λ xs. c.args.told.now.events.items ++ keyed t (phase_code phase.D) c.number_at.result 0 xs) c.deref.ensures.value
-    ∙ ap (λ (n : ℕ). c.args.told.now.events.items ++ keyed t (phase_code phase.D) n 0 c.in_ok-said.said.items) c.number_at.ensures)
-    (c.in_ok-tell.ensures.said ∙ ap (λ xs. c.args.told.now.said.items ++ xs) c.deref.ensures.value)
+    (c.in_ok-append.ensures.events
+    ∙ ap (λ xs. c.args.told.now.events.items ++ keyed t (phase_code phase.D) c.number_at-number.result 0 xs) c.deref.ensures.value
+    ∙ ap (λ (n : ℕ). c.args.told.now.events.items ++ keyed t (phase_code phase.D) n 0 c.in_ok-said.said.items) c.number_at-number.ensures)
+    (c.in_ok-append.ensures.said ∙ ap (λ xs. c.args.told.now.said.items ++ xs) c.deref.ensures.value)

@@ -1,6 +1,6 @@
 use Rattle.std.proofs.Common.{◌≡◌, ◌++◌, length}
 use Rattle.std.specs.Prelude.{filter}
-use Rattle.node_seconds.specs.Networks.{AreIn}
+use Rattle.calendar.specs.Due.{AreIn}
 use Rattle.part_nodes.specs.Turns.{is_buffered}
 use Rattle.part_nodes.proofs.node_turns.buffered_ones.Given as goal
 

@@ -1,6 +1,6 @@
 use Rattle.std.proofs.Common.{◌≡◌, ◌++◌, length}
 use Rattle.std.specs.Prelude.{map}
-use Rattle.node_seconds.specs.Networks.{AreIn}
+use Rattle.calendar.specs.Due.{AreIn}
 use Rattle.part_nodes.specs.Turns.{buffered_in}
 use Rattle.part_nodes.proofs.node_turns.buffers_of.Given as goal
 

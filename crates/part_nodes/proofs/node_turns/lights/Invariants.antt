@@ -1,6 +1,6 @@
 use Rattle.std.proofs.Common.{◌≡◌, ◌++◌, length}
 use Rattle.town.specs.Views.{setup}
-use Rattle.node_seconds.specs.Networks.{AreIn}
+use Rattle.calendar.specs.Due.{AreIn}
 use Rattle.part_nodes.specs.Turns.{lights_of}
 use Rattle.part_nodes.proofs.node_turns.lights.Given as goal
 

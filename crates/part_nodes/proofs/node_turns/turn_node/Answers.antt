@@ -60,9 +60,9 @@ returns c = λ V h.
     let spoken = c.args.told.now.said.items in
     let now = c.in_ok-said.said.items in
     turned (counts_in day) (setup day) day.town.now.settings.end_second c.args.phase.now.second c.args.node V N new c.args.numbers.now
-    c.deref.result.now c.pass_node.new.links day.town.now.settings.stuck (always_in day.town.now.greens) first c.tell.new.told.events.items spoken c.tell.new.told.said.items now
+    c.deref.result.now c.pass_node.new.links day.town.now.settings.stuck (always_in day.town.now.greens) first c.append.new.self.events.items spoken c.append.new.self.said.items now
     (c.in_ok-said.ensures V stand) h.nodes c.requires.there c.requires.into is seen refl refl c.requires.in_day
     (stuck_of day) (green_of day) c.in_ok-wake_again.ensures
-    (c.in_ok-tell.ensures.events
+    (c.in_ok-append.ensures.events
     ∙ ap (λ (xs : List Occurrence). first ++ keyed c.args.phase.now.second (phase_code phase.C) c.args.node 0 xs) c.deref-2.ensures.value)
-    (c.in_ok-tell.ensures.said ∙ ap (λ (xs : List Occurrence). spoken ++ xs) c.deref-2.ensures.value)
+    (c.in_ok-append.ensures.said ∙ ap (λ (xs : List Occurrence). spoken ++ xs) c.deref-2.ensures.value)

@@ -1,6 +1,7 @@
 use Rattle.std.proofs.Common.{◌≡◌, length, take}
 use Rattle.partition.specs.Owned.{owner_in}
-use Rattle.partition.specs.Neighbours.{AreShorter, shortest, free_of, hole_at, leads_over}
+use Rattle.partition.specs.Neighbours.{AreShorter, shortest, hole_at, leads_over}
+use Rattle.travel_times.specs.Times.{free_of}
 use Rattle.partition.proofs.borders.shorten_by_links.Given as goal
 
 abbrev pub invariant-loop-link : goal.invariant-loop-link

@@ -1,4 +1,4 @@
-use Rattle.plain_day.proofs.Dawn.{day_is, day_in_book}
+use Rattle.law_in_range.proofs.Dawn.{day_is, day_in_book}
 use Rattle.plain_day.proofs.days.plain_day.Goals as goal
 
 pub returns-clause-events : goal.returns-clause-events

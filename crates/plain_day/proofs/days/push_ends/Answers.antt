@@ -1,6 +1,6 @@
 use Rattle.std.proofs.Common.{arith, refl, ◌∙◌}
-use Rattle.plain_day.proofs.Counting.{went_on, went_through}
-use Rattle.plain_day.proofs.Dawn.{told_at_end, ends_told}
+use Rattle.person_moves.proofs.Counting.{went_on, went_through}
+use Rattle.law_in_range.proofs.Dawn.{told_at_end, ends_told}
 use Rattle.plain_day.proofs.days.push_ends.Goals as goal
 
 pub push_stranded-requires-clause-there : goal.push_stranded-requires-clause-there

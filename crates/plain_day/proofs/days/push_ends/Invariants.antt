@@ -1,5 +1,5 @@
 use Rattle.traffic.proofs.Common.{◌≡◌, ◌++◌, ◌-◌, flat_map, below, numbers}
-use Rattle.plain_day.proofs.Dawn.{told_at_end}
+use Rattle.law_in_range.proofs.Dawn.{told_at_end}
 use Rattle.plain_day.proofs.days.push_ends.Given as goal
 
 abbrev pub invariant-loop-i : goal.invariant-loop-i

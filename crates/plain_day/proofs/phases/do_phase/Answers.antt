@@ -1,6 +1,6 @@
 use Rattle.traffic.proofs.Common.{ℕ, ◌<◌, subst, ◌≤◌, count_of}
 use Rattle.town.specs.Views.{setup}
-use Rattle.plain_day.proofs.Phasing.{going_more, gone_world, gone_events}
+use Rattle.law_in_range.proofs.Phasing.{going_more, gone_world, gone_events}
 use Rattle.plain_day.proofs.phases.do_phase.Goals as goal
 
 pub loop-number-preserved : goal.loop-number-preserved

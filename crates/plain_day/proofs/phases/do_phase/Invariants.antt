@@ -1,4 +1,4 @@
-use Rattle.plain_day.proofs.Phasing.{Going}
+use Rattle.law_in_range.proofs.Phasing.{Going}
 use Rattle.law_in_range.specs.Rows.{IsFitWorld}
 use Rattle.law_in_range.specs.Setups.{counts_in}
 use Rattle.town.specs.Views.{setup}

@@ -2,7 +2,7 @@ use Rattle.traffic.proofs.Common.{in_link}
 use Rattle.plain_turns.specs.OutLinks.{AreInLinks}
 use Rattle.town.specs.Views.{setup}
 use Rattle.plain_day.specs.Views.{is_in}
-use Rattle.plain_day.proofs.Counting.{AreSeen}
+use Rattle.person_moves.proofs.Counting.{AreSeen}
 use Rattle.plain_day.proofs.views.in_links.Given as goal
 
 abbrev pub invariant-loop-link : goal.invariant-loop-link

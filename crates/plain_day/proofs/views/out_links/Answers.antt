@@ -2,7 +2,7 @@ use Rattle.std.proofs.Common.{sym, ◌∙◌}
 use Rattle.plain_turns.specs.OutLinks.{AreNear}
 use Rattle.town.specs.Views.{setup}
 use Rattle.plain_day.specs.Views.{out_link_row, is_out}
-use Rattle.plain_day.proofs.Counting.{seen_none, seen_more, seen_past}
+use Rattle.person_moves.proofs.Counting.{seen_none, seen_more, seen_past}
 use Rattle.plain_day.proofs.Fitting.{near_push}
 use Rattle.plain_day.proofs.views.out_links.Goals.{then-is_out+in_ok-row+in_ok-push, else-is_out}
 use Rattle.plain_day.proofs.views.out_links.Goals as goal

@@ -1,7 +1,7 @@
 use Rattle.plain_turns.specs.OutLinks.{AreNear}
 use Rattle.town.specs.Views.{setup}
 use Rattle.plain_day.specs.Views.{out_link_row, is_out}
-use Rattle.plain_day.proofs.Counting.{AreSeen}
+use Rattle.person_moves.proofs.Counting.{AreSeen}
 use Rattle.plain_day.proofs.views.out_links.Given as goal
 
 abbrev pub invariant-loop-link : goal.invariant-loop-link

@@ -1,6 +1,6 @@
 use Rattle.traffic.proofs.Common.{ℕ, refl, waiter, person_of}
 use Rattle.town.specs.Views.{setup}
-use Rattle.plain_day.proofs.Counting.{went_on, went_through}
+use Rattle.person_moves.proofs.Counting.{went_on, went_through}
 use Rattle.plain_day.proofs.PersonPlans.{waiters_are}
 use Rattle.plain_day.proofs.waiters.waiters.Goals as goal
 

@@ -1,7 +1,6 @@
-use Rattle.scenario.proofs.Common.{refl, arith, sym, ◌∙◌, get_or, texts_of}
+use Rattle.scenario.proofs.Common.{refl, arith, ◌∙◌, get_or, texts_of}
 use Rattle.edge_files.specs.declared.files.InFile.TheVariants as file
 use Rattle.edge_files.specs.declared.files.TheConstants.{SCENARIO_FILES}
-use Rattle.qsim_top.specs.Came.{grid_texts}
 use Rattle.qsim_top.proofs.InTurn.{put_none, put_more, put_all}
 use Rattle.qsim_top.proofs.reading.grid_files.Goals as goal
 

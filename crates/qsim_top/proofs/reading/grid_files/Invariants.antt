@@ -1,5 +1,5 @@
 use Rattle.scenario.proofs.Common.{texts_of}
-use Rattle.qsim_top.specs.Came.{grid_texts}
+use Rattle.workload.specs.Texts.{grid_texts}
 use Rattle.qsim_top.proofs.InTurn.{PutTo}
 use Rattle.qsim_top.proofs.reading.grid_files.Given as goal
 

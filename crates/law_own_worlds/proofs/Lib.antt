@@ -1,0 +1,6 @@
+pub mod Running
+pub mod Seconds
+pub mod Making
+pub mod Knowing
+pub mod Fitting
+pub mod Staying

@@ -1,0 +1,2 @@
+pub mod OwnWorlds
+pub mod Making

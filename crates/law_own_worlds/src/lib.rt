@@ -1,0 +1,32 @@
+//! What a partition holds is a world of its own, in which the persons that it lacks are nowhere; and what the partition does by itself in a
+//! second are the turns of that world: of all persons, and of those departures, nodes and links that are its own. So what holds of any
+//! world and of some of its nodes and links holds of a partition. Each law is the contract of a call that does nothing.
+#![tactic(auto)]
+
+ghost use Rattle.std.specs.Prelude.{ℕ, Bool, is_some};
+ghost use Rattle.traffic.specs.Rows.{World};
+ghost use Rattle.traffic.specs.Setup.{Setup};
+ghost use Rattle.parts.specs.Owners.{Owner};
+ghost use Rattle.parts.specs.Parts.{Held, ready};
+ghost use Rattle.law_in_range.specs.Rows.{Counts, IsFitWorld};
+ghost use Rattle.law_in_range.specs.Setups.{IsFitSetup};
+ghost use Rattle.law_own_worlds.specs.Making.{IsKnown, own_world};
+ghost use Rattle.law_own_worlds.specs.OwnWorlds.{IsOwnWorld, IsSecondOf, StaysFit};
+
+/// Before a second of a partition let a world have what it holds, with the places of the links that begin in it taken as it knows. Then its
+/// turns of each phase are turns of that world, and after each phase the world that these make has what the partition holds; and it stays
+/// fit.
+pub fn own_worlds_do_their_seconds()
+    ensures second { (S : Setup) (own : Owner) (p t : ℕ) (has : ℕ → Bool) (H : Held) (V : World) → IsOwnWorld S own p t has H V
+        → IsSecondOf S own p t has H V }
+    ensures fit { (z : Counts) (S : Setup) (own : Owner) (p t : ℕ) (V : World) → IsFitSetup z S → IsFitWorld z V → StaysFit z S own p t V }
+{}
+
+/// Whatever a partition holds, of persons and links that are there, is such a world. What it holds before a second of a day is of such, and
+/// its world is fit where the day is.
+pub fn parts_have_own_worlds()
+    ensures made { (S : Setup) (own : Owner) (p t : ℕ) (H : Held) → IsKnown S own p H
+        → IsOwnWorld S own p t (λ i. is_some (H.person i)) H (own_world S t H) }
+    ensures ready { (S : Setup) (own : Owner) (p t : ℕ) (z : Counts) → IsFitSetup z S → IsKnown S own p (ready S own p t) }
+    ensures fit { (S : Setup) (own : Owner) (p t : ℕ) (z : Counts) → IsFitSetup z S → IsFitWorld z (own_world S t (ready S own p t)) }
+{}

@@ -8,7 +8,7 @@ MIB = 1 << 20
 
 class Run(typing.NamedTuple):
     """What a run came to: its status (negative where a signal ended it), what it wrote, seconds of the processor and of the clock, and
-    its peak of memory in MiB."""
+    its peak of memory in MiB, which is no less than what this program holds when it starts the run."""
 
     status: int
     report: bytes

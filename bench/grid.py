@@ -110,4 +110,5 @@ def main():
         print(name, len(text), digest(text))
 
 
-main()
+if __name__ == "__main__":
+    main()

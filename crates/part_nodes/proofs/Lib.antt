@@ -3,6 +3,7 @@ pub mod Into
 pub mod Leading
 pub mod Seen
 pub mod Buffered
+pub mod Only
 pub mod Ready
 pub mod Crossings
 pub mod Entered

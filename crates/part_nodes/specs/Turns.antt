@@ -60,6 +60,12 @@ AreThere count (b ∷ bs) = (b.link < count) × AreThere count bs
 abbrev pub is_buffered : List LinkView → ℕ → Bool
 is_buffered links n = nat_lt 0 (count_in links n)
 
+-- the only one of these numbers, where there is just one
+abbrev pub only_of : List ℕ → Option ℕ
+only_of [] = None
+only_of (n ∷ []) = Some n
+only_of (n ∷ m ∷ ns) = None
+
 -- the span is the whole of a cycle; a signal is green in the whole of it
 abbrev pub covers : ℕ → ℕ × ℕ → Bool
 covers cycle span = ((span.0 == 0) && nat_lt 0 cycle) && nat_le cycle span.1

@@ -9,7 +9,7 @@ ghost use Rattle.traffic.specs.Setup.{into};
 ghost use Rattle.node_seconds.specs.Networks.{lane};
 ghost use Rattle.calendar.specs.Due.{AreIn};
 ghost use Rattle.part_nodes.specs.Turns.{IsTurnOf, lights_of, buffered_in, is_clear, is_emptied, wake_emptied, wake_all_emptied};
-ghost use Rattle.part_nodes.specs.Turns.{AreThere, is_buffered};
+ghost use Rattle.part_nodes.specs.Turns.{AreThere, is_buffered, only_of};
 ghost use Rattle.part_nodes.specs.Phase.{LinksStandFor, LinksStandForSome, StandsFor, Stands, IsPassed, IsTurn};
 
 use crate::network::Network;
@@ -23,6 +23,7 @@ use part_links::Told;
 use queue_link::LinkState;
 use rows::green_in;
 use std::alloc::{AllocError, Global};
+use std::slice::from_ref;
 use town::DayInput;
 use traffic::Occurrence;
 
@@ -42,6 +43,17 @@ struct Buffered {
     link: u32,
     /// How many vehicles.
     count: usize,
+}
+
+/// The links into a node in whose buffers somebody is.
+#[derive(Clone, Copy)]
+struct Fronts<'a> {
+    /// The numbers of the links, in order.
+    numbers: &'a [u32],
+    /// Whether each of them is green.
+    greens: &'a [bool],
+    /// How many vehicles are in the buffer of each.
+    buffered: &'a [Buffered],
 }
 
 /// Whether a link is green.
@@ -208,13 +220,30 @@ fn buffered_ones(
     Ok(some)
 }
 
+/// The only one of these links in whose buffer somebody is, where there is just one.
+fn only_buffered(links: &[LinkState], numbers: &[u32]) -> Option<u32>
+    requires { AreIn (length links.now) numbers.now }
+    ensures { result ≡ only_of (filter (is_buffered links.now) numbers.now) }
+{
+    let mut only = None;
+    for number in numbers {
+        if is_buffered(links, *number) {
+            match only {
+                None => only = Some(*number),
+                Some(_) => return None,
+            }
+        }
+    }
+    only
+}
+
 /// Those links into a node in whose buffers somebody is hand over to the links out of it, and those that have room in their buffers again
 /// are woken in this second. Answers what that tells.
-fn pass_some(
+fn pass_fronts(
     alloc: Global,
     phase: &NodePhase,
     node: u32,
-    numbers: &[u32],
+    fronts: &Fronts,
     links: &mut [LinkState],
     space: &mut Space,
     wakes: &mut Wakes,
@@ -222,7 +251,9 @@ fn pass_some(
     requires second_in { phase.now.second < LAST_SECOND }
     requires in_day { phase.now.second < phase.now.day.now.town.now.settings.end_second }
     requires given { HaveFittingPlans phase.now.day.now }
-    requires into { numbers.now ≡ filter (is_buffered links.old) (into (setup phase.now.day.now) node) }
+    requires into { fronts.now.numbers.now ≡ filter (is_buffered links.old) (into (setup phase.now.day.now) node) }
+    requires lit { fronts.now.greens.now ≡ lights_of (setup phase.now.day.now) phase.now.second fronts.now.numbers.now }
+    requires counted { fronts.now.buffered.now ≡ map (buffered_in links.old) fronts.now.numbers.now }
     requires stand { LinksStandForSome (counts_in phase.now.day.now) (setup phase.now.day.now)
         phase.now.day.now.town.now.settings.end_second phase.now.second links.old wakes.old space.old }
     ensures { (V : World) → LinksStandFor (counts_in phase.now.day.now) (setup phase.now.day.now)
@@ -232,18 +263,23 @@ fn pass_some(
 {
     let day = phase.day;
     let turn = turn_of(day, phase.second, node);
-    let greens = lights(alloc, day, phase.second, numbers)?;
-    let before = buffers_of(alloc, links, numbers)?;
     let mut said = Vec::new(alloc);
-    let entering = node_second(&turn, numbers, &greens, links, space, &mut said)?;
-    wake_all_emptied(phase.second, &before, links, wakes)?;
+    let entering = node_second(
+        &turn,
+        fronts.numbers,
+        fronts.greens,
+        links,
+        space,
+        &mut said,
+    )?;
+    wake_all_emptied(phase.second, fronts.buffered, links, wakes)?;
     let end = day.town.settings.end_second;
     enter_links(end, phase.second, entering, links, wakes)?;
     Ok(said)
 }
 
 /// The links into a node hand over to the links out of it, and those that have room in their buffers again are woken in this second.
-/// Answers what that tells. Only those are looked at in whose buffers somebody is.
+/// Answers what that tells. Only those are looked at in whose buffers somebody is; for a single one no list is made.
 fn pass_node(
     alloc: Global,
     phase: &NodePhase,
@@ -264,9 +300,32 @@ fn pass_node(
         → IfOk result (λ said. IsPassed (counts_in phase.now.day.now) (setup phase.now.day.now)
         phase.now.day.now.town.now.settings.end_second phase.now.second node V links.new wakes.new space.new said.items) }
 {
-    let some = buffered_ones(alloc, links, numbers)?;
-    let said = pass_some(alloc, phase, node, &some, links, space, wakes)?;
-    Ok(said)
+    let day = phase.day;
+    match only_buffered(links, numbers) {
+        Some(number) => {
+            let green = is_green(day, phase.second, number);
+            let buffered = buffered_in(links, number);
+            let fronts = Fronts {
+                numbers: from_ref(&number),
+                greens: from_ref(&green),
+                buffered: from_ref(&buffered),
+            };
+            let said = pass_fronts(alloc, phase, node, &fronts, links, space, wakes)?;
+            Ok(said)
+        }
+        None => {
+            let some = buffered_ones(alloc, links, numbers)?;
+            let greens = lights(alloc, day, phase.second, &some)?;
+            let buffered = buffers_of(alloc, links, &some)?;
+            let fronts = Fronts {
+                numbers: &some,
+                greens: &greens,
+                buffered: &buffered,
+            };
+            let said = pass_fronts(alloc, phase, node, &fronts, links, space, wakes)?;
+            Ok(said)
+        }
+    }
 }
 
 /// The turn of a node. Appends what it tells.

@@ -9,3 +9,4 @@ pub mod SettingOut
 pub mod Beginning
 pub mod Riding
 pub mod Driving
+pub mod Sole

@@ -23,7 +23,11 @@ ghost use Rattle.traffic.specs.Persons.{waiters, link_of_vehicle};
 ghost use Rattle.traffic.specs.Day.{turns_in, after, events_in, told_in, second, second_events, world_start, world_at};
 ghost use Rattle.traffic.specs.Worlds.{OnePlace};
 ghost use Rattle.law_parts_of_days.specs.Beginning.{AreFresh};
+ghost use Rattle.law_sound_setups.specs.Consistent.{IsConsistentSetup};
+ghost use Rattle.parts.specs.Parts.{part, held, ready};
+ghost use Rattle.law_partitions.specs.Alone.{alone, tells_alone};
 ghost use Rattle.law_parts_of_days.specs.Riding.{put_links};
+ghost use Rattle.law_parts_of_days.specs.Sole.{sole_owner};
 ghost use Rattle.law_parts_of_days.specs.Settling.{wake_ends, wake_starts};
 ghost use Rattle.part_places.specs.Taking.{times};
 
@@ -79,4 +83,15 @@ pub fn riders_are_found()
         → (person_of i (world_at S t)).place ≡ Riding v → LinksStand S t links (world_at S t) → (z : Counts) (table : List ℕ)
         → z.links ≡ length S.links → IsFitWorld z (world_at S t) → i < length table
         → get_or (put_links links table) i 0 ≡ link_of_vehicle v (world_at S t).rows }
+{}
+
+/// The partition that has all nodes holds the whole world of each second of the day, and has heard of everything; what it does and tells in
+/// a second by itself is what the day does and tells.
+pub fn one_partition_is_the_day()
+    ensures held { (S : Setup) (t : ℕ) → held S sole_owner 0 t ≡ part S sole_owner 0 t (world_at S t) }
+    ensures ready { (S : Setup) (t : ℕ) → ready S sole_owner 0 t ≡ part S sole_owner 0 t (world_at S t) }
+    ensures next { (S : Setup) (t : ℕ) → IsSoundSetup S → IsConsistentSetup S
+        → alone S sole_owner 0 t (ready S sole_owner 0 t) ≡ part S sole_owner 0 (t + 1) (world_at S (t + 1)) }
+    ensures events { (S : Setup) (t : ℕ) → IsSoundSetup S → IsConsistentSetup S
+        → tells_alone S sole_owner 0 t (ready S sole_owner 0 t) ≡ second_events S t (world_at S t) }
 {}

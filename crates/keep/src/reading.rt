@@ -9,6 +9,7 @@ ghost use Rattle.keep.specs.Fitting.{all_named, AreRowsOf, IsRead};
 use crate::steps::{ended, next_reading, start};
 use edge_files::KeptRow;
 use plan_memory::MemoryList;
+use plan_text::know_names;
 use std::alloc::{AllocError, Global};
 use thiserror::Error;
 use town::Town;

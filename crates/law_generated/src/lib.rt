@@ -13,7 +13,8 @@ ghost use Rattle.schedule.specs.Stops.{stops_fault};
 ghost use Rattle.settings.specs.Faults.{settings_fault};
 ghost use Rattle.signals.specs.Signals.{signals_fault};
 ghost use Rattle.workload.specs.Grids.{IsGrid};
-ghost use Rattle.workload.specs.Texts.{departures_text, links_text, nodes_text, plans_text, routes_text, settings_text, stops_text, grid_texts};
+ghost use Rattle.workload.specs.Texts.{departures_text, grid_texts, links_text, nodes_text, plans_text, routes_text, settings_text};
+ghost use Rattle.workload.specs.Texts.{stops_text};
 ghost use Rattle.workload.specs.declared.TheConstants.{DEPARTURES};
 ghost use Rattle.law_generated.specs.Files.{link_ends, links_named, nodes_named, routes_named, stops_named, stops_placed};
 

@@ -57,7 +57,8 @@ impl Told {
         number: u32,
         said: &[Occurrence],
     ) -> Result<(), AllocError>
-        ensures events { OnOk result (self.new.events.items ≡ self.old.events.items ++ keyed second (phase_code phase) number 0 said.now) }
+        ensures events { OnOk result (self.new.events.items
+            ≡ self.old.events.items ++ keyed second (phase_code phase) number 0 said.now) }
         ensures said { OnOk result (self.new.said.items ≡ self.old.said.items ++ said.now) }
     {
         push_keyed(second, phase, number, said, &mut self.events)?;

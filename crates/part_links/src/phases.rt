@@ -35,7 +35,8 @@ fn turn_links(
     requires count { length wakes.old ≡ length links.old }
     requires able { (l : ℕ) → l < length links.old → CanTurn (length lines.old) phase.now.second (lane links.old l) }
     requires short { AreShort lines.old }
-    ensures turned { (number : ℕ → ℕ) (size : ℕ) (S : Setup) (V : World) → AreNumbered S size number → S.settings.dwell ≡ phase.now.dwell
+    ensures turned { (number : ℕ → ℕ) (size : ℕ) (S : Setup) (V : World)
+        → AreNumbered S size number → S.settings.dwell ≡ phase.now.dwell
         → LinksStandAt number size S phase.now.second links.old V → LinesStandAt number size S lines.old V
         → ((k : ℕ) → k < size → StopsThere S (number k) (lane links.old k))
         → OnOk result (AreTurned number S phase.now.end phase.now.second V slots.now links.old links.new lines.new wakes.old wakes.new
@@ -72,7 +73,8 @@ pub fn move_links(
     requires count { length wakes.old ≡ length links.old }
     requires able { (l : ℕ) → l < length links.old → CanTurn (length lines.old) phase.now.second (lane links.old l) }
     requires short { AreShort lines.old }
-    ensures phase { (number : ℕ → ℕ) (size : ℕ) (S : Setup) (V : World) → AreNumbered S size number → S.settings.dwell ≡ phase.now.dwell
+    ensures phase { (number : ℕ → ℕ) (size : ℕ) (S : Setup) (V : World)
+        → AreNumbered S size number → S.settings.dwell ≡ phase.now.dwell
         → LinksStandAt number size S phase.now.second links.old V → LinesStandAt number size S lines.old V
         → ((k : ℕ) → k < size → StopsThere S (number k) (lane links.old k))
         → AreAsleep phase.now.dwell phase.now.end phase.now.second links.old wakes.old

@@ -8,7 +8,8 @@ ghost use Rattle.traffic.specs.declared.moves.Move.TheVariants.{Transfer, Remove
 ghost use Rattle.traffic.specs.declared.stage.Stage.TheVariants.{Queue, Buffer};
 ghost use Rattle.traffic.specs.Lists.{is_nil};
 ghost use Rattle.traffic.specs.Moves.{at_second};
-ghost use Rattle.traffic.specs.Nodes.{next_link, is_stuck, may_enter, has_room, seconds_along, one_more, entered, pass_node, since_of, pass_node_all, draw, ready, red, candidates, mark, node_moves, out_links_after, HasNext, HaveNext};
+ghost use Rattle.traffic.specs.Nodes.{next_link, is_stuck, may_enter, has_room, seconds_along, one_more, entered, pass_node, since_of};
+ghost use Rattle.traffic.specs.Nodes.{pass_node_all, draw, ready, red, candidates, mark, node_moves, out_links_after, HasNext, HaveNext};
 ghost use Rattle.plain_turns.specs.OutLinks.{out_links_in, AreNear, IsInLink, AreInLinks, is_green, node_view_of};
 
 use crate::out_links::{OutLinkRow, out_link_of, with_taken};

@@ -1,12 +1,12 @@
 -- The own world of a partition is fit, and who waits in it does so since before.
-use Rattle.traffic.proofs.Common.{◌≡◌, ℕ, ◌+◌, ◌-◌, ◌<◌, ◌≤◌, List, [], ◌∷◌, ◌++◌, ◌∙◌, ap, refl, sym, subst, arith, inl, inr, cases_Bool, true, false, Bool, length, take, map, flat_map, filter, replicate}
-use Rattle.traffic.proofs.Common.{eqb, recursion_from_All, All-from_recursion, Option, Some, None, Setup, World, at, on, person_of, nobody, numbers, below, world_at}
+use Rattle.traffic.proofs.Common.{ℕ, ◌+◌, ◌-◌, ◌<◌, ◌++◌, ◌∙◌, sym, subst, arith, inl, inr, cases_Bool, true, false, Bool, length}
+use Rattle.traffic.proofs.Common.{flat_map, replicate}
+use Rattle.traffic.proofs.Common.{eqb, recursion_from_All, All-from_recursion, Setup, World, at, on, person_of, below, world_at}
 use Rattle.std.specs.List.{AllByRecursion as Each}
 use Rattle.traffic.specs.declared.stage.Stage.{Stage}
 use Rattle.traffic.specs.declared.stage.Stage.TheVariants.{Queue, Buffer, Wait, Bay}
 use Rattle.traffic.specs.declared.world.Hole.{Hole}
 use Rattle.traffic.specs.declared.world.Person.{Person}
-use Rattle.traffic.specs.declared.world.Row.{Row}
 use Rattle.traffic.proofs.Each.{each_append, each_flat, each_flat_all, each_kept, each_map, each_all, each_number, each_take}
 use Rattle.law_in_range.specs.Rows.{Counts, IsFitRow, IsFitPerson, IsFitWorld}
 use Rattle.law_in_range.specs.Setups.{IsFitSetup}

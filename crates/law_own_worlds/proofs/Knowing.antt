@@ -1,6 +1,8 @@
 -- What a partition holds of a day is of persons and links that are there.
-use Rattle.traffic.proofs.Common.{◌≡◌, ◌≢◌, ℕ, zero, suc, ◌+◌, ◌-◌, ◌<◌, ◌≤◌, List, [], ◌∷◌, ◌++◌, ◌∙◌, ap, refl, sym, arith, inl, inr, cases_Bool, true, false, Bool, length, take, map, flat_map, filter}
-use Rattle.traffic.proofs.Common.{eqb, ne_eqb, nat_lt, nat_tests, recursion_from_All, Option, Some, None, Setup, World, at, on, rank, person_of, holes_at, hole_of, numbers, below, world_at, world_from, world_start, link_turns}
+use Rattle.traffic.proofs.Common.{◌≡◌, ◌≢◌, ℕ, zero, suc, ◌+◌, ◌-◌, ◌<◌, ◌≤◌, List, [], ◌∷◌, ◌∙◌, ap, refl, arith, inl, inr, cases_Bool}
+use Rattle.traffic.proofs.Common.{true, false, length, take, map, flat_map, filter}
+use Rattle.traffic.proofs.Common.{eqb, ne_eqb, nat_lt, nat_tests, recursion_from_All, None, Setup, World, at, on, rank, holes_at, hole_of}
+use Rattle.traffic.proofs.Common.{numbers, world_at, world_start, link_turns}
 use Rattle.std.specs.List.{AllByRecursion as Each}
 use Rattle.traffic.specs.declared.stage.Stage.{Stage}
 use Rattle.traffic.specs.declared.stage.Stage.TheVariants.{Queue, Buffer, Wait, Bay}
@@ -12,7 +14,7 @@ use Rattle.law_in_range.specs.Rows.{Counts, IsFitRow, IsFitWorld}
 use Rattle.law_in_range.specs.Setups.{IsFitSetup}
 use Rattle.law_in_range.proofs.Seconds.{start_fit, from_fit}
 use Rattle.parts.specs.Owners.{Owner, owner_of, begins_in, lag}
-use Rattle.parts.specs.Parts.{Held, mine, freed, went, went_last, late_rows, known_list, lasting, up, has, unheard, ready}
+use Rattle.parts.specs.Parts.{Held, freed, went, went_last, late_rows, known_list, lasting, up, unheard, ready}
 use Rattle.law_partitions.proofs.Early.{mid, went_is}
 use Rattle.law_partitions.proofs.Late.{freed-append, freed_other}
 use Rattle.law_partitions.proofs.Second.{C_world, D_moves-are}

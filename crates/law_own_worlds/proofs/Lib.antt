@@ -4,3 +4,5 @@ pub mod Making
 pub mod Knowing
 pub mod Fitting
 pub mod Staying
+pub mod Days
+pub mod Standing

@@ -1,7 +1,10 @@
 -- What a partition holds, made a world.
-use Rattle.traffic.proofs.Common.{◌≡◌, ◌≢◌, ℕ, zero, suc, ◌+◌, ◌-◌, ◌<◌, ◌≤◌, List, [], ◌∷◌, ◌++◌, ◌∙◌, ap, refl, sym, subst, arith, inl, inr, cases_Bool, cases_lt, true, false, Bool, length, get_or, get_or_past, map, flat_map, filter, replicate}
-use Rattle.traffic.proofs.Common.{eqb, eqb-true, eqb-false, eq-eqb, ne_eqb, lt-ltb, nat_lt, and_parts, length-append, length-map, filter-append, map-append, append-nil, Option, Some, None, Setup, World, at, on, rank, credit_of, person_of, nobody, holes_at, taken_at, in_force, hole_of, hole_seconds, link_row, numbers, below, ◌&&◌}
-use Rattle.std.specs.Prelude.{is_some, if◌then◌else◌}
+use Rattle.traffic.proofs.Common.{◌≡◌, ◌≢◌, ℕ, zero, suc, ◌+◌, ◌-◌, ◌<◌, ◌≤◌, List, [], ◌∷◌, ◌++◌, ◌∙◌, ap, refl, sym, arith, inl, inr}
+use Rattle.traffic.proofs.Common.{cases_Bool, cases_lt, true, false, Bool, length, get_or, get_or_past, map, flat_map, filter, replicate}
+use Rattle.traffic.proofs.Common.{eqb, eqb-true, eqb-false, eq-eqb, ne_eqb, lt-ltb, nat_lt, length-append, length-map, filter-append}
+use Rattle.traffic.proofs.Common.{append-nil, Option, Some, None, Setup, World, at, on, rank, credit_of, person_of, nobody, holes_at}
+use Rattle.traffic.proofs.Common.{taken_at, in_force, hole_of, hole_seconds, link_row, numbers, below, ◌&&◌}
+use Rattle.std.specs.Prelude.{is_some}
 use Rattle.std.specs.List.{AllByRecursion as Each}
 use Rattle.traffic.specs.declared.stage.Stage.{Stage}
 use Rattle.traffic.specs.declared.stage.Stage.TheVariants.{Queue, Buffer, Wait, Bay}

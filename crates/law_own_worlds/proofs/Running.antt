@@ -1,9 +1,10 @@
 -- Moves do the same to what a partition holds and to a world that has it.
-use Rattle.traffic.proofs.Common.{◌≡◌, ℕ, zero, suc, ◌+◌, ◌<◌, List, [], ◌∷◌, ◌∙◌, ap, refl, sym, arith, inl, inr, cases_Bool, true, false, Bool, length, map, filter, eqb}
-use Rattle.traffic.proofs.Common.{Some, None, Turn, Setup, World, at, credit_of, person_of, run, done, told, after, moves_of, at_after, credit_after, holes_at, taken_at, in_force, hole_of, numbers}
+use Rattle.traffic.proofs.Common.{◌≡◌, ℕ, zero, suc, ◌+◌, ◌<◌, List, [], ◌∷◌, ◌∙◌, ap, refl, sym, arith, inl, inr, cases_Bool, true, Bool}
+use Rattle.traffic.proofs.Common.{length, map, filter}
+use Rattle.traffic.proofs.Common.{Some, None, Turn, Setup, World, credit_of, person_of, run, done, told, after, moves_of, at_after}
+use Rattle.traffic.proofs.Common.{credit_after, holes_at, taken_at, in_force, hole_of, numbers}
 use Rattle.traffic.specs.declared.moves.Move.{Move}
 use Rattle.traffic.specs.declared.stage.Stage.TheVariants.{Queue}
-use Rattle.traffic.specs.declared.world.Person.{Person}
 use Rattle.traffic.proofs.Sublists.{at-done, at-run_untouched, credit-done, credits-run, holes-run, persons-length, person-done}
 use Rattle.traffic.proofs.Turns.{Fresh, Distinct}
 use Rattle.parts.specs.Parts.{Held, mine}
@@ -75,7 +76,10 @@ fresh_passed p x (n ∷ ns) h =
 pub distinct_passed : (p : ℕ → Bool) (ns : List ℕ) → Distinct ns → Distinct (filter p ns)
 distinct_passed p [] h = tt
 distinct_passed p (n ∷ ns) h =
-    elim (cases_Bool (p n)) [ inl e ↦ simp e (fresh_passed p n ns h.0, distinct_passed p ns h.1) | inr e ↦ simp e (distinct_passed p ns h.1) ]
+    elim (cases_Bool (p n)) [
+      | inl e ↦ simp e (fresh_passed p n ns h.0, distinct_passed p ns h.1)
+      | inr e ↦ simp e (distinct_passed p ns h.1)
+    ]
 
 turn_with : ℕ → List Move → Turn
 turn_with n ms = record { number = n; moves = ms }

@@ -1,7 +1,10 @@
 -- The second of a partition is that of its own world.
-use Rattle.traffic.proofs.Common.{◌≡◌, ℕ, ◌+◌, ◌<◌, List, [], ◌∷◌, ◌∙◌, ap, refl, sym, subst, arith, inl, inr, cases_Bool, true, false, Bool, length, map, flat_map, filter, eqb, eqb-true, fun_ext}
-use Rattle.traffic.proofs.Common.{Some, None, Event, Turn, Setup, World, at, rank, person_of, nobody, run, told, turns, turns_in, turns_of, turn_of, after, moves_of, below, numbers, link_row}
-use Rattle.traffic.proofs.Common.{landing_moves, leaving_moves, departure_moves, landing_turns, leaving_turns, departure_turns, node_turns, link_turns, node_moves, node_view, NodeView, in_link, out_link, into, taken_at, storage_of, seconds_of}
+use Rattle.traffic.proofs.Common.{◌≡◌, ℕ, ◌<◌, List, [], ◌∙◌, ap, refl, sym, subst, arith, inl, inr, cases_Bool, true, false, Bool}
+use Rattle.traffic.proofs.Common.{length, map, flat_map, eqb, eqb-true, fun_ext}
+use Rattle.traffic.proofs.Common.{Some, None, Turn, Setup, World, at, rank, person_of, nobody, run, turns, turns_in, turns_of, turn_of}
+use Rattle.traffic.proofs.Common.{after, moves_of, below, link_row}
+use Rattle.traffic.proofs.Common.{landing_moves, leaving_moves, departure_moves, landing_turns, leaving_turns, departure_turns}
+use Rattle.traffic.proofs.Common.{node_turns, link_turns, node_moves, node_view, NodeView, into, taken_at, storage_of, seconds_of}
 use Rattle.traffic.proofs.Common.{link_moves, link_state, rules, waiter, waiters}
 use Rattle.events.specs.declared.event.Phase.TheVariants as phase
 use Rattle.traffic.specs.declared.moves.Move.{Move}
@@ -15,17 +18,18 @@ use Rattle.traffic.proofs.Persons.{departures_apart, landing_moves-of, leaving_m
 use Rattle.traffic.proofs.Phases.{links_apart, phase_at_once}
 use Rattle.traffic.proofs.Sublists.{at-run_untouched}
 use Rattle.traffic.proofs.Turns.{Distinct-numbers, turns_at_once, moves_of-map}
-use Rattle.traffic.proofs.Waiting.{run-length}
 use Rattle.parts.specs.Owners.{Owner, owner_of, begins_in}
-use Rattle.parts.specs.Parts.{Held, mine}
-use Rattle.law_partitions.specs.Alone.{held_run, taken_here, in_link_here, see, state_here, waiters_here, acts, first_of, my_nodes, my_links, my_runs, A_part, B1_part, B2_part, C_part, D_part, after_A, after_B1, early, after_C, after_D}
+use Rattle.parts.specs.Parts.{Held}
+use Rattle.law_partitions.specs.Alone.{held_run, taken_here, see, state_here, waiters_here, acts, first_of, my_nodes, my_links, my_runs}
+use Rattle.law_partitions.specs.Alone.{A_part, B1_part, B2_part, C_part, D_part, after_A, after_B1, early, after_C}
 use Rattle.law_partitions.proofs.Quiet.{person_moves, person-run, quiet_same}
-use Rattle.law_partitions.proofs.Begins.{moves_of-parts, of-quiet, own-turn, departures-quiet}
-use Rattle.law_partitions.proofs.Early.{IsEarly, AreEarly, A_moves-are, B1_moves-are, A-early, B1-early, departures-early, early-untouched, early-rows, early-holes}
+use Rattle.law_partitions.proofs.Begins.{of-quiet, own-turn, departures-quiet}
+use Rattle.law_partitions.proofs.Early.{IsEarly, AreEarly, A_moves-are, B1_moves-are, A-early, B1-early, departures-early}
+use Rattle.law_partitions.proofs.Early.{early-untouched, early-rows, early-holes}
 use Rattle.law_partitions.proofs.Handed.{nodes-handed, handed-waits}
 use Rattle.law_partitions.proofs.Second.{held_run-holes, same_state, waiters-here}
 use Rattle.law_partitions.proofs.Telling.{landing_off, leaving_off}
-use Rattle.law_own_worlds.specs.OwnWorlds.{IsWorldOf, IsOwnWorld, IsSecondOf, landed, left, set_out, crossed, driven}
+use Rattle.law_own_worlds.specs.OwnWorlds.{IsWorldOf, IsOwnWorld, IsSecondOf, landed, left, set_out, crossed}
 use Rattle.law_own_worlds.proofs.Running.{turns_keep, places_stay, distinct_passed, same_turns, same_passed}
 
 -- WHO IS NOWHERE
@@ -180,6 +184,12 @@ module _ (S : Setup) (own : Owner) (p t : ℕ) (has : ℕ → Bool) (H : Held) (
       held_run-holes S t m c H2 ∙ early-holes m c (H2.holes m) early3 ∙ held_run-holes S t m b H1 ∙ early-holes m b (H1.holes m) early2
       ∙ held_run-holes S t m a H ∙ early-holes m a (H.holes m) early1
 
+  -- WHO WAITS
+  early_lines : (l : ℕ) → waiters_here S l E ≡ waiters S l V3
+  early_lines l =
+      waiters-here S l has E V3 world3.one_each world3.person
+      (λ i lt e. none_waits S l i (person_of i V3) (nowhere3 i lt e))
+
   -- PLACES
   places_of : (us vs : List Turn) (K : Held) (X : World) → us ≡ vs → AreEarly (moves_of vs) → (m : ℕ) → taken_here S t K m ≡ taken_at S t m X
       → taken_here S t (held_run S t (moves_of us) K) m ≡ taken_at S t m (after S t vs X)
@@ -269,6 +279,8 @@ module _ (S : Setup) (own : Owner) (p t : ℕ) (has : ℕ → Bool) (H : Held) (
     after_leavings = world2;
     after_departures = world3;
     after_nodes = world4;
+    waiters_before = early_lines;
+    waiters_behind = lines;
     after_links = turns_keep S t has (D_part S own p t G) (turns S t (link_turns S t) (my_links S own p) V4) G V4 links world4;
     lists = lists_stay;
     rows = rows_stay;

@@ -1,5 +1,6 @@
 -- A fit world stays fit through the second of a partition.
-use Rattle.traffic.proofs.Common.{◌≡◌, ℕ, ◌+◌, ◌<◌, List, [], ◌∷◌, refl, sym, subst, arith, length, eqb, Phase, Setup, World, run, turns, turns_of, turns_in, after, moves_of, through, count_of, below}
+use Rattle.traffic.proofs.Common.{ℕ, ◌<◌, List, [], ◌∷◌, sym, subst, arith, length, eqb, Phase, Setup, World, run, turns, turns_of, after}
+use Rattle.traffic.proofs.Common.{moves_of, through, count_of, below}
 use Rattle.std.specs.List.{AllByRecursion as Each}
 use Rattle.events.specs.declared.event.Phase.TheVariants as phase
 use Rattle.traffic.proofs.Each.{each_kept, each_number}

@@ -1,2 +1,3 @@
 pub mod OwnWorlds
 pub mod Making
+pub mod Days

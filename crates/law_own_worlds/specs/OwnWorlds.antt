@@ -5,11 +5,13 @@ use Rattle.traffic.specs.declared.stage.Stage.{Stage}
 use Rattle.traffic.specs.Rows.{World, at, rank, credit_of, person_of, nobody}
 use Rattle.traffic.specs.Setup.{Setup}
 use Rattle.traffic.specs.Nodes.{taken_at}
+use Rattle.traffic.specs.Persons.{waiters}
 use Rattle.traffic.specs.Day.{departure_turns, node_turns, link_turns, turns, turns_in, after}
 use Rattle.law_in_range.specs.Rows.{Counts, IsFitWorld}
 use Rattle.parts.specs.Owners.{Owner, begins_in}
 use Rattle.parts.specs.Parts.{Held, mine}
-use Rattle.law_partitions.specs.Alone.{taken_here, my_nodes, my_links, my_runs, A_part, B1_part, B2_part, C_part, D_part, after_A, after_B1, early, after_C, after_D}
+use Rattle.law_partitions.specs.Alone.{taken_here, waiters_here, my_nodes, my_links, my_runs, A_part, B1_part, B2_part, C_part, D_part}
+use Rattle.law_partitions.specs.Alone.{after_A, after_B1, early, after_C, after_D}
 
 -- World V has what a partition holds: its lists and credits, and the rows of those persons whom it has.
 pub record IsWorldOf (S : Setup) (has : ℕ → Bool) (H : Held) (V : World) : Type 0 where
@@ -55,6 +57,9 @@ pub record IsSecondOf (S : Setup) (own : Owner) (p t : ℕ) (has : ℕ → Bool)
   pub after_departures : IsWorldOf S has (early S own p t H) (set_out S own p t V)
   pub after_nodes : IsWorldOf S has (after_C S own p t (early S own p t H)) (crossed S own p t V)
   pub after_links : IsWorldOf S has (after_D S own p t (after_C S own p t (early S own p t H))) (driven S own p t V)
+  -- who waits at stops before the nodes have their turns, and before the links have theirs
+  pub waiters_before : (l : ℕ) → waiters_here S l (early S own p t H) ≡ waiters S l (set_out S own p t V)
+  pub waiters_behind : (l : ℕ) → waiters_here S l (after_C S own p t (early S own p t H)) ≡ waiters S l (crossed S own p t V)
   -- before the nodes have their turns nothing has changed but wait lists and persons
   pub lists : (l : ℕ) (s : Stage) → (2 == rank s) ≡ false → at l s (set_out S own p t V) ≡ at l s V
   pub rows : (m : ℕ) → (early S own p t H).rows m ≡ H.rows m

@@ -10,6 +10,10 @@ ghost use Rattle.parts.specs.Owners.{Owner};
 ghost use Rattle.parts.specs.Parts.{Held, ready};
 ghost use Rattle.law_in_range.specs.Rows.{Counts, IsFitWorld};
 ghost use Rattle.law_in_range.specs.Setups.{IsFitSetup};
+ghost use Rattle.law_sound_setups.specs.Setups.{IsSoundSetup};
+ghost use Rattle.law_sound_setups.specs.Consistent.{IsConsistentSetup};
+ghost use Rattle.law_partitions.specs.Laws.{IsOwner};
+ghost use Rattle.law_own_worlds.specs.Days.{FollowsTheDay, StandsAsInTheDay};
 ghost use Rattle.law_own_worlds.specs.Making.{IsKnown, own_world};
 ghost use Rattle.law_own_worlds.specs.OwnWorlds.{IsOwnWorld, IsSecondOf, StaysFit};
 
@@ -19,7 +23,8 @@ ghost use Rattle.law_own_worlds.specs.OwnWorlds.{IsOwnWorld, IsSecondOf, StaysFi
 pub fn own_worlds_do_their_seconds()
     ensures second { (S : Setup) (own : Owner) (p t : ℕ) (has : ℕ → Bool) (H : Held) (V : World) → IsOwnWorld S own p t has H V
         → IsSecondOf S own p t has H V }
-    ensures fit { (z : Counts) (S : Setup) (own : Owner) (p t : ℕ) (V : World) → IsFitSetup z S → IsFitWorld z V → StaysFit z S own p t V }
+    ensures fit { (z : Counts) (S : Setup) (own : Owner) (p t : ℕ) (V : World) → IsFitSetup z S → IsFitWorld z V
+        → StaysFit z S own p t V }
 {}
 
 /// Whatever a partition holds, of persons and links that are there, is such a world. What it holds before a second of a day is of such, and
@@ -29,4 +34,13 @@ pub fn parts_have_own_worlds()
         → IsOwnWorld S own p t (λ i. is_some (H.person i)) H (own_world S t H) }
     ensures ready { (S : Setup) (own : Owner) (p t : ℕ) (z : Counts) → IsFitSetup z S → IsKnown S own p (ready S own p t) }
     ensures fit { (S : Setup) (own : Owner) (p t : ℕ) (z : Counts) → IsFitSetup z S → IsFitWorld z (own_world S t (ready S own p t)) }
+{}
+
+/// The second of its own world gives what the day says of a partition: what it holds next, what it tells, and what it sends to each. And in
+/// the course of the second its own links have in that world what they have in the day, but for rows that are not due.
+pub fn own_worlds_follow_the_day()
+    ensures follows { (S : Setup) (own : Owner) (parts p t : ℕ) (z : Counts) → IsSoundSetup S → IsConsistentSetup S
+        → IsOwner own parts → IsFitSetup z S → FollowsTheDay S own p t }
+    ensures stands { (S : Setup) (own : Owner) (parts p t : ℕ) (z : Counts) → IsSoundSetup S → IsConsistentSetup S
+        → IsOwner own parts → IsFitSetup z S → StandsAsInTheDay S own p t }
 {}

@@ -8,7 +8,7 @@ ghost use Rattle.parts.specs.Owners.{lag};
 ghost use Rattle.parts.specs.Parts.{out, ready};
 ghost use Rattle.law_partitions.specs.Alone.{parcel_to};
 ghost use Rattle.law_partition_trials.specs.Trials.{whereabouts, once, told_in_parts, each_node, mixed, of_car, of_walker, of_place};
-ghost use Rattle.law_partition_trials.specs.Trials.{of_nothing, places_apart};
+ghost use Rattle.law_partition_trials.specs.Trials.{of_nothing, places_apart, rows_in, holes_in};
 ghost use Rattle.partition.specs.declared.axes.Axis.TheVariants.{X, Y};
 ghost use Rattle.partition.specs.Cuts.{Cut, nodes_before, cuts};
 
@@ -62,4 +62,12 @@ pub fn worked_cuts()
     ensures five { cuts 5 ≡ record { axis = X; first = 0; middle = 2; end = 5 } ∷ record { axis = Y; first = 0; middle = 1; end = 2 }
         ∷ record { axis = Y; first = 2; middle = 3; end = 5 } ∷ record { axis = X; first = 3; middle = 4; end = 5 } ∷ [] }
     ensures seven { map (nodes_before 7 5) (0 ∷ 1 ∷ 2 ∷ 3 ∷ 4 ∷ 5 ∷ []) ≡ 0 ∷ 1 ∷ 2 ∷ 4 ∷ 5 ∷ 7 ∷ [] }
+{}
+
+/// The own worlds of a partition in the first of these days: before second 1 it has the car on its link, and before second 2 no row;
+/// but then a place of the next link, which ends in another partition, is taken, as if it had been left in this second. Before second 4
+/// it knows that the place was left in second 3.
+pub fn worked_own_worlds()
+    ensures rows { rows_in 1 0 ∷ rows_in 1 1 ∷ rows_in 1 2 ∷ [] ≡ 0 ∷ 1 ∷ 0 ∷ [] }
+    ensures holes { holes_in 1 1 ∷ holes_in 1 2 ∷ holes_in 1 4 ∷ [] ≡ [] ∷ (2 ∷ []) ∷ (3 ∷ []) ∷ [] }
 {}

@@ -4,11 +4,17 @@ use Rattle.town.specs.Rows.{TownRows, IsTown}
 use Rattle.town.specs.Setups.{setup_of}
 use Rattle.town.specs.Views.{setup, ChosenFit}
 use Rattle.town.specs.declared.day_input.DayInput.{DayInput}
-use Rattle.law_in_range.specs.Setups.{IsPlanIn}
+use Rattle.law_in_range.specs.Rows.{IsFitWorld}
+use Rattle.law_in_range.specs.Setups.{IsPlanIn, counts_in}
+use Rattle.law_in_range.proofs.Towns.{town_fit}
 use Rattle.law_matches_plans.proofs.Towns.{rows_sound, rows_consistent, town_sound, town_consistent}
 use Rattle.parts.specs.Owners.{Owner}
 use Rattle.law_partitions.specs.Laws.{IsOwner, GoesInParts}
-use Rattle.law_partitions.proofs.Setting.{goes_in_parts}
+use Rattle.law_partitions.proofs.Setting.{lawful, are_local, goes_in_parts}
+use Rattle.law_own_worlds.specs.Days.{FollowsTheDay, StandsAsInTheDay, world_before}
+use Rattle.law_own_worlds.proofs.Days.{own_second, follows}
+use Rattle.law_own_worlds.proofs.Fitting.{ready_fit}
+use Rattle.law_own_worlds.proofs.Standing.{stands}
 use Rattle.law_partitions.specs.Whole.{all_told}
 use Rattle.traffic.proofs.Common.{map, below}
 use Rattle.event_merge.specs.Lists.{CanMerge}
@@ -29,3 +35,22 @@ pub divided_town_merges : (day : DayInput) (owner : OwnerOfNodes) → ChosenFit 
 divided_town_merges day owner h =
     let told = (divided_town_goes day owner h).day in
     parts_can_merge (all_told (setup day) (owner_in owner.of_node) owner.parts) owner.parts told.ascends told.apart
+
+-- THE OWN WORLDS OF PARTITIONS
+pub town_follows : (day : DayInput) (owner : OwnerOfNodes) (p t : ℕ) → ChosenFit day → FollowsTheDay (setup day) (owner_in owner.of_node) p t
+town_follows day owner p t h =
+    let S = setup day in
+    let own = owner_in owner.of_node in
+    follows S own owner.parts p t (counts_in day) (are_local S (town_sound day h) (town_consistent day h) own owner.parts owner.owned) (town_fit day h)
+
+pub town_stands : (day : DayInput) (owner : OwnerOfNodes) (p t : ℕ) → ChosenFit day
+    → StandsAsInTheDay (setup day) (owner_in owner.of_node) p t
+town_stands day owner p t h =
+    let S = setup day in
+    let own = owner_in owner.of_node in
+    stands S own owner.parts p t (counts_in day) (lawful S (town_sound day h) (town_consistent day h)) (town_fit day h)
+    (own_second S own owner.parts p t (counts_in day) (are_local S (town_sound day h) (town_consistent day h) own owner.parts owner.owned) (town_fit day h))
+
+pub town_world_fit : (day : DayInput) (owner : OwnerOfNodes) (p t : ℕ) → ChosenFit day
+    → IsFitWorld (counts_in day) (world_before (setup day) (owner_in owner.of_node) p t)
+town_world_fit day owner p t h = ready_fit (setup day) (owner_in owner.of_node) p t (counts_in day) (town_fit day h)

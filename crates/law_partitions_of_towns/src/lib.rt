@@ -8,11 +8,13 @@ ghost use Rattle.town.specs.Rows.{TownRows, IsTown};
 ghost use Rattle.town.specs.Setups.{setup_of};
 ghost use Rattle.town.specs.Views.{setup, ChosenFit};
 ghost use Rattle.town.specs.declared.day_input.DayInput.{DayInput};
-ghost use Rattle.law_in_range.specs.Setups.{IsPlanIn};
+ghost use Rattle.law_in_range.specs.Rows.{IsFitWorld};
+ghost use Rattle.law_in_range.specs.Setups.{IsPlanIn, counts_in};
 ghost use Rattle.parts.specs.Owners.{Owner};
 ghost use Rattle.traffic.specs.Lists.{below};
 ghost use Rattle.law_partitions.specs.Laws.{IsOwner, GoesInParts};
 ghost use Rattle.law_partitions.specs.Whole.{all_told};
+ghost use Rattle.law_own_worlds.specs.Days.{FollowsTheDay, StandsAsInTheDay, world_before};
 ghost use Rattle.event_merge.specs.Lists.{CanMerge};
 ghost use Rattle.partition.specs.declared.owner.Owner.{Owner as OwnerOfNodes};
 ghost use Rattle.partition.specs.Owned.{owner_in};
@@ -35,4 +37,15 @@ pub fn divided_towns_go_in_parts()
         → GoesInParts (setup day) (owner_in owner.of_node) owner.parts }
     ensures lists { (day : DayInput) (owner : OwnerOfNodes) → ChosenFit day
         → CanMerge (map (all_told (setup day) (owner_in owner.of_node) owner.parts) (below owner.parts)) }
+{}
+
+/// The own world of each partition, before each second: what its second makes of it is what the day says of the partition, in the course of
+/// the second its own links have there what they have in the day but for rows that are not due, and all in it is in range.
+pub fn divided_towns_have_own_worlds()
+    ensures follows { (day : DayInput) (owner : OwnerOfNodes) (p t : ℕ) → ChosenFit day
+        → FollowsTheDay (setup day) (owner_in owner.of_node) p t }
+    ensures stands { (day : DayInput) (owner : OwnerOfNodes) (p t : ℕ) → ChosenFit day
+        → StandsAsInTheDay (setup day) (owner_in owner.of_node) p t }
+    ensures fit { (day : DayInput) (owner : OwnerOfNodes) (p t : ℕ) → ChosenFit day
+        → IsFitWorld (counts_in day) (world_before (setup day) (owner_in owner.of_node) p t) }
 {}

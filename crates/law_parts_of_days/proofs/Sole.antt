@@ -69,7 +69,7 @@ whole_part S k t =
     (fun_ext (λ i. ap (λ (b : Bool). mine b (person_of i (world_at S t))) (known S k t i)))
 
 -- WHAT IT TELLS
-zeros : (a b c : Bool) → (if a then 0 else if b then 0 else if c then 0 else 0) ≡ 0
+zeros : (a b c : Bool) → ◌≡◌ {A = ℕ} (if a then 0 else if b then 0 else if c then 0 else 0) 0
 zeros true b c = refl
 zeros false true c = refl
 zeros false false true = refl

@@ -1,8 +1,11 @@
-use Rattle.std.proofs.Common.{◌+◌, subst}
+use Rattle.std.proofs.Common.{◌∙◌, ◌+◌, ◌++◌, List, ap, sym, subst}
+use Rattle.events.specs.declared.event.Event.{Event}
 use Rattle.town.specs.Views.{setup}
 use Rattle.traffic.specs.Rows.{World}
 use Rattle.traffic.specs.Day.{world_at}
+use Rattle.law_parts_of_days.proofs.Worlds.{sound_setup, consistent_setup}
 use Rattle.law_parts_of_days.proofs.Through.{told_are}
+use Rattle.law_parts_of_days.proofs.Sole.{tells_day}
 use Rattle.part_day.specs.Stands.{Stands}
 use Rattle.part_day.proofs.Steps.{next_world}
 use Rattle.part_day.proofs.part.Part.second.Goals as goal
@@ -16,3 +19,11 @@ pub returns-clause-events : goal.returns-clause-events
 returns-clause-events c =
     told_are (setup c.args.day.now) c.args.t (world_at (setup c.args.day.now) c.args.t) c.args.told.now.events.items c.set_out.new.events.items
     c.cross.new.told.events.items c.drive.new.told.events.items c.in_ok-set_out.ensures.events c.in_ok-cross.ensures.events c.in_ok-drive.ensures.events
+
+pub returns-clause-alone : goal.returns-clause-alone
+returns-clause-alone c =
+    let S = setup c.args.day.now in
+    told_are S c.args.t (world_at S c.args.t) c.args.told.now.events.items c.set_out.new.events.items c.cross.new.told.events.items
+    c.drive.new.told.events.items c.in_ok-set_out.ensures.events c.in_ok-cross.ensures.events c.in_ok-drive.ensures.events
+    ∙ ap (λ (es : List Event). c.args.told.now.events.items ++ es)
+    (sym (tells_day S c.args.t (sound_setup c.args.day.now c.requires.given) (consistent_setup c.args.day.now c.requires.given)))

@@ -87,26 +87,34 @@ fn other_words_are_refused(rt: HostRuntime) -> Result<(), Fail> {
 #[test]
 fn other_grids_are_refused(rt: HostRuntime) -> Result<(), Fail> {
     let alloc = rt.alloc();
-    let generate = "generate";
-    let last = "--last-iteration";
     let refused = [
-        (["qsim", generate, "4"].as_slice(), "SEED"),
-        (["qsim", generate, "2", "7"].as_slice(), "'2'"),
-        (["qsim", generate, "101", "7"].as_slice(), "'101'"),
+        (["qsim", "generate", "4"].as_slice(), "SEED"),
+        (["qsim", "generate", "2", "7"].as_slice(), "'2'"),
+        (["qsim", "generate", "101", "7"].as_slice(), "'101'"),
         (
-            ["qsim", generate, "4", "18446744073709551616"].as_slice(),
+            ["qsim", "generate", "4", "18446744073709551616"].as_slice(),
             "18446744073709551616",
         ),
         (
-            ["qsim", generate, "4", "7", last, "1001"].as_slice(),
+            ["qsim", "generate", "4", "7", "--last-iteration", "1001"].as_slice(),
             "1001",
         ),
         (
-            ["qsim", generate, "4", "7", last, "1", last, "1"].as_slice(),
+            [
+                "qsim",
+                "generate",
+                "4",
+                "7",
+                "--last-iteration",
+                "1",
+                "--last-iteration",
+                "1",
+            ]
+            .as_slice(),
             "'--last-iteration",
         ),
         (
-            ["qsim", generate, "4", "7", "--workers", "2"].as_slice(),
+            ["qsim", "generate", "4", "7", "--workers", "2"].as_slice(),
             "'--workers'",
         ),
     ];

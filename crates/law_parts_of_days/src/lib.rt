@@ -2,7 +2,7 @@
 //! only at those whom they concern. Each is the contract of a call that does nothing.
 #![tactic(auto)]
 
-ghost use Rattle.std.specs.Prelude.{◌≡◌, ◌≢◌, ℕ, ◌+◌, ◌<◌, true, List};
+ghost use Rattle.std.specs.Prelude.{◌≡◌, ◌≢◌, ℕ, ◌+◌, ◌<◌, true, false, List};
 ghost use Rattle.std.specs.Prelude.{[], ◌∷◌, ◌++◌, length, get_or, replicate, Option, Some};
 ghost use Rattle.events.specs.declared.event.Event.{Event};
 ghost use Rattle.events.specs.declared.event.Phase.TheVariants as phase;
@@ -24,6 +24,7 @@ ghost use Rattle.traffic.specs.Day.{turns_in, after, events_in, told_in, second,
 ghost use Rattle.traffic.specs.Worlds.{OnePlace};
 ghost use Rattle.law_parts_of_days.specs.Beginning.{AreFresh};
 ghost use Rattle.law_sound_setups.specs.Consistent.{IsConsistentSetup};
+ghost use Rattle.parts.specs.Owners.{near};
 ghost use Rattle.parts.specs.Parts.{part, held, ready};
 ghost use Rattle.law_partitions.specs.Alone.{alone, tells_alone};
 ghost use Rattle.law_parts_of_days.specs.Riding.{put_links};
@@ -86,7 +87,7 @@ pub fn riders_are_found()
 {}
 
 /// The partition that has all nodes holds the whole world of each second of the day, and has heard of everything; what it does and tells in
-/// a second by itself is what the day does and tells.
+/// a second by itself is what the day does and tells. It has no neighbours, so it absorbs and sends nothing.
 pub fn one_partition_is_the_day()
     ensures held { (S : Setup) (t : ℕ) → held S sole_owner 0 t ≡ part S sole_owner 0 t (world_at S t) }
     ensures ready { (S : Setup) (t : ℕ) → ready S sole_owner 0 t ≡ part S sole_owner 0 t (world_at S t) }
@@ -94,4 +95,5 @@ pub fn one_partition_is_the_day()
         → alone S sole_owner 0 t (ready S sole_owner 0 t) ≡ part S sole_owner 0 (t + 1) (world_at S (t + 1)) }
     ensures events { (S : Setup) (t : ℕ) → IsSoundSetup S → IsConsistentSetup S
         → tells_alone S sole_owner 0 t (ready S sole_owner 0 t) ≡ second_events S t (world_at S t) }
+    ensures neighbours { (S : Setup) (q : ℕ) → IsSoundSetup S → IsConsistentSetup S → near S sole_owner 0 q ≡ false }
 {}

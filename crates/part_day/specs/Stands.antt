@@ -1,4 +1,4 @@
--- That a part which holds the whole network stands for a world.
+-- That a part which holds the whole network stands for a world, and has what the partition of all nodes has.
 use Rattle.std.specs.Prelude.{◌≡◌, ℕ, ◌<◌, [], length, get_or}
 use Rattle.town.specs.declared.day_input.DayInput.{DayInput}
 use Rattle.town.specs.Views.{setup}
@@ -9,7 +9,10 @@ use Rattle.part_nodes.specs.declared.network.Network.{Network}
 use Rattle.part_nodes.specs.Phase.{AreAwaited}
 use Rattle.part_places.specs.Taking.{AreTaken}
 use Rattle.law_parts_of_days.specs.Persons.{PersonsStand, AreDeparting}
+use Rattle.traffic.specs.Day.{world_at}
+use Rattle.parts.specs.Parts.{Held, part}
 use Rattle.law_parts_of_days.specs.Settling.{taking}
+use Rattle.law_parts_of_days.specs.Sole.{sole_owner}
 use Rattle.part_day.specs.declared.part.Part.{Part}
 
 -- The links are those of world V before the turns of links in second l, and sleep from then on. The places are those that are taken in V,
@@ -32,3 +35,8 @@ pub record Stands (day : DayInput) (p n l : ℕ) (P : Part) (V : World) : Type 0
   pub in_links : length P.in_links ≡ (setup day).nodes
   pub into : (k : ℕ) → k < (setup day).nodes → get_or P.in_links k [] ≡ into (setup day) k
   pub network : NetworkStands day n l P.network V
+
+-- after t seconds the part stands for the world of the day, and this is what the partition that has all nodes has of it
+pub record Holds (day : DayInput) (t : ℕ) (P : Part) (H : Held) : Type 0 where
+  pub stands : Stands day t t t P (world_at (setup day) t)
+  pub has : H ≡ part (setup day) sole_owner 0 t (world_at (setup day) t)

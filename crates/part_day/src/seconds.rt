@@ -16,10 +16,10 @@ ghost use Rattle.link_seconds.specs.Seconds.{AreShort};
 ghost use Rattle.node_seconds.specs.Networks.{lane, is_among};
 ghost use Rattle.part_links.specs.Links.{LinksStand, LinesStand, StopsThere, CanTurn, AreAsleep};
 ghost use Rattle.part_links.specs.Phase.{IsPhase};
-ghost use Rattle.parts.specs.Parts.{ready};
-ghost use Rattle.law_partitions.specs.Alone.{tells_alone};
+ghost use Rattle.parts.specs.Parts.{Held};
+ghost use Rattle.law_partitions.specs.Alone.{alone, tells_alone};
 ghost use Rattle.law_parts_of_days.specs.Sole.{sole_owner};
-ghost use Rattle.part_day.specs.Stands.{Stands};
+ghost use Rattle.part_day.specs.Stands.{Stands, Holds};
 
 use crate::hearing::hear_told;
 use crate::part::Part;
@@ -138,7 +138,8 @@ impl Part {
     }
 
     /// A second of the day, in which only those have a turn who may have something to do. Appends its events, exactly those of the second
-    /// in the world of the day for which the part stands: those that the partition that has all nodes tells by itself.
+    /// in the world of the day for which the part stands. As the partition that has all nodes it does and tells what such a one does and
+    /// tells by itself, on what it has.
     ///
     /// # Errors
     ///
@@ -158,8 +159,10 @@ impl Part {
         ensures stands { OnOk result (Stands day.now (t + 1) (t + 1) (t + 1) self.new (world_at (setup day.now) (t + 1))) }
         ensures events { OnOk result (told.new.events.items
             ≡ told.old.events.items ++ second_events (setup day.now) t (world_at (setup day.now) t)) }
-        ensures alone { OnOk result (told.new.events.items ≡ told.old.events.items
-            ++ tells_alone (setup day.now) sole_owner 0 t (ready (setup day.now) sole_owner 0 t)) }
+        ensures holds { (H : Held) → Holds day.now t self.old H
+            → OnOk result (Holds day.now (t + 1) self.new (alone (setup day.now) sole_owner 0 t H)) }
+        ensures tells { (H : Held) → Holds day.now t self.old H
+            → OnOk result (told.new.events.items ≡ told.old.events.items ++ tells_alone (setup day.now) sole_owner 0 t H) }
         ensures said { OnOk result (told.new.said.items ≡ []) }
     {
         self.set_out(alloc, day, t, &mut told.events)?;

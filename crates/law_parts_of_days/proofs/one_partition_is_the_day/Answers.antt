@@ -1,5 +1,5 @@
-use Rattle.std.proofs.Common.{◌+◌, ℕ, sym, subst, add-one}
-use Rattle.law_parts_of_days.proofs.Sole.{whole_part, tells_day, alone_day}
+use Rattle.std.proofs.Common.{add-one}
+use Rattle.law_parts_of_days.proofs.Sole.{whole_part, tells_day, alone_day, no_neighbour}
 use Rattle.law_parts_of_days.proofs.one_partition_is_the_day.Goals as goal
 
 pub returns-clause-held : goal.returns-clause-held
@@ -13,3 +13,6 @@ returns-clause-next c = λ S t sound consistent. rw (add-one t) (alone_day S t s
 
 pub returns-clause-events : goal.returns-clause-events
 returns-clause-events c = λ S t sound consistent. tells_day S t sound consistent
+
+pub returns-clause-neighbours : goal.returns-clause-neighbours
+returns-clause-neighbours c = λ S q sound consistent. no_neighbour S q sound consistent

@@ -51,7 +51,7 @@ plans_back T (p ∷ plans) names all =
       and_from (fits T p) (list_all (fits T) plans) all.0.fit later.1,
     )
 
-memory_back : (T : TownRows) (m : MemoryRows) → HasNames T → IsMemoryIn T m → fitting.IsMemoryIn T m
+memory_back : (T : TownRows) (m : MemoryRows) → HasNames T → IsMemoryIn T m → fitting.IsKeptMemory T m
 memory_back T m names is =
     let plans = plans_back T m.plans names (recursion_from_All (IsPlanIn T) m.plans is.plans) in
     record {
@@ -59,7 +59,7 @@ memory_back T m names is =
       fit = plans.1;
     }
 
-each_back : (T : TownRows) (memories : List MemoryRows) → HasNames T → Each (IsMemoryIn T) memories → Each (fitting.IsMemoryIn T) memories
+each_back : (T : TownRows) (memories : List MemoryRows) → HasNames T → Each (IsMemoryIn T) memories → Each (fitting.IsKeptMemory T) memories
 each_back T [] names all = tt
 each_back T (m ∷ memories) names all = (memory_back T m names all.0, each_back T memories names all.1)
 
@@ -68,7 +68,7 @@ rows_back : (T : TownRows) (memories : List MemoryRows) → HasNames T → lengt
 rows_back T memories names count all = record {
   fit = record {
     count = count;
-    each = All-from_recursion (fitting.IsMemoryIn T) memories (each_back T memories names (recursion_from_All (IsMemoryIn T) memories all));
+    each = All-from_recursion (fitting.IsKeptMemory T) memories (each_back T memories names (recursion_from_All (IsMemoryIn T) memories all));
   };
   are = refl;
 }

@@ -28,7 +28,7 @@ use town::DayInput;
 /// # Errors
 ///
 /// `AllocError`: there is no memory for a row, a hole or an event.
-#[tactic(auto, using(crate::proofs::Phasing::second_world, crate::proofs::Phasing::second_told))]
+#[tactic(auto, using(law_in_range::proofs::Phasing::second_world, law_in_range::proofs::Phasing::second_told))]
 pub fn fit_second(
     alloc: Global,
     day: &DayInput,

@@ -15,7 +15,7 @@ use Rattle.edge_files.proofs.Written.{writes_nothing}
 use Rattle.edge_files.proofs.Worlds.{does_then, part_then, part_nothing}
 use Rattle.keep.specs.declared.reading.KeptError.{KeptError}
 use Rattle.keep.specs.declared.reading.KeptError.TheVariants as kept_stop
-use Rattle.keep.specs.Fitting.{IsMemoryIn, AreMemories, AreRowsOf, IsForeignAt, IsRead}
+use Rattle.keep.specs.Fitting.{IsKeptMemory, AreMemories, AreRowsOf, IsForeignAt, IsRead}
 use Rattle.keep.proofs.Either.{one_place}
 use Rattle.plan_memory.specs.Memories.{MemoryRows}
 use Rattle.law_replanning.specs.Memories.{hold_fitting, all_hold_fitting}
@@ -37,7 +37,7 @@ use Rattle.qsim_top.proofs.Ending.{wanting_causes}
 use Rattle.qsim_top.proofs.Worked.{ends_of_work}
 
 -- MEMORIES THAT WERE KEPT
-each_fits : (T : TownRows) (memories : List MemoryRows) → Each (IsMemoryIn T) memories → all_hold_fitting T memories ≡ true
+each_fits : (T : TownRows) (memories : List MemoryRows) → Each (IsKeptMemory T) memories → all_hold_fitting T memories ≡ true
 each_fits T [] all = refl
 each_fits T (m ∷ memories) all =
     and_from (hold_fitting T m) (all_hold_fitting T memories) all.0.fit (each_fits T memories all.1)
@@ -47,7 +47,7 @@ pub can_go_on : (R : RunRows) (memories : List MemoryRows) → AreInRange R.lear
 can_go_on R memories learning are = record {
   learning = learning;
   each = are.count;
-  fit = each_fits R.town memories (recursion_from_All (IsMemoryIn R.town) memories are.each);
+  fit = each_fits R.town memories (recursion_from_All (IsKeptMemory R.town) memories are.each);
 }
 
 -- WHAT IS HELD

@@ -41,6 +41,7 @@ fn files_of(alloc: Global, case: &Case) -> Files {
     files.put(InFile::Stops, Some(bytes_of(alloc, case.stops)));
     files.put(InFile::Routes, Some(bytes_of(alloc, case.routes)));
     files.put(InFile::Departures, Some(bytes_of(alloc, case.departures)));
+    files.put(InFile::Signals, Some(bytes_of(alloc, case.signals)));
     files
 }
 

@@ -1,0 +1,5 @@
+pub mod Orders
+pub mod Sorting
+pub mod Rings
+pub mod Made
+pub mod Calls

@@ -1,0 +1,6 @@
+pub mod Tallies
+pub mod Orders
+pub mod Pieces
+pub mod Rings
+pub mod Pipes
+pub mod Worked

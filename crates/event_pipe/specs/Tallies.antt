@@ -1,0 +1,9 @@
+-- How far a tally has come.
+use Rattle.std.specs.Prelude.{ℕ, ◌+◌}
+use Rattle.event_pipe.specs.declared.tally.Tally.{Tally}
+use Rattle.event_pipe.specs.declared.tally.Tally.TheVariants.{Nothing, OneMore'}
+
+-- one more for each tally inside
+abbrev pub count_of : Tally → ℕ
+count_of Nothing = 0
+count_of (OneMore' marker before) = count_of before + 1

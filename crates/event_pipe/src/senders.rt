@@ -1,0 +1,46 @@
+//! The end of a partition.
+
+ghost use Rattle.event_pipe.specs.Pipes.{IsStill, Sends};
+
+use crate::pieces::Piece;
+use crate::tally::Tally;
+use rtrb::Producer;
+use std::snapshot::Snapshot;
+
+/// The end of a pipe at which one partition offers its pieces. It may move to another thread.
+#[derive(Drop)]
+pub struct Sender {
+    pub(crate) producer: Producer<Piece>,
+    /// Which partition it is of.
+    pub(crate) partition: u32,
+    /// How often it answered `Full`.
+    pub(crate) refusals: Tally,
+    /// What `refusals` was when it last answered `Sent`.
+    pub(crate) refusals_at_sent: Snapshot<Tally>,
+}
+
+/// What an offer came to.
+#[derive(Drop)]
+pub enum Offer {
+    /// The piece is on its way.
+    Sent,
+    /// No place is free as far as the sender knows: the piece, given back.
+    Full(Piece),
+}
+
+impl Sender {
+    /// Offers a piece, behind those that were sent before. It takes no memory and never waits. `Full` comes only where the sender knows no
+    /// free place: it knows all places at first, and all that are free after [`crate::Gather::meet`].
+    pub fn offer(&mut self, piece: Piece) -> Offer
+        ensures sender { IsStill self.old self.new }
+        ensures sends { Sends self.old self.new piece result }
+    {
+        if self.producer.is_full() {
+            self.refusals.rise();
+            return Offer::Full(piece);
+        }
+        self.producer.push_reserved(piece);
+        self.refusals_at_sent = Snapshot::of(&self.refusals);
+        Offer::Sent
+    }
+}

@@ -1,8 +1,8 @@
 //! The next pieces of all rings.
 
-ghost use Rattle.std.specs.Prelude.{◌≡◌, ◌<◌, ◌++◌, [], map, length, IfOk, IfNone, IfSome, OnOk, OnErr};
+ghost use Rattle.std.specs.Prelude.{◌≡◌, ◌<◌, ◌++◌, map, length, IfOk, IfNone, IfSome, OnOk, OnErr};
 ghost use Rattle.event_pipe.specs.Pieces.{lines_of, merged, text_of};
-ghost use Rattle.event_pipe.specs.Rings.{waiting, next_pieces, AreLooked, AllWait, IsFirstShort, AreTaken};
+ghost use Rattle.event_pipe.specs.Rings.{next_pieces, AreLooked, AllWait, IsFirstShort, AreTaken};
 
 use crate::pieces::{Line, Piece, text_of};
 use rtrb::Consumer;

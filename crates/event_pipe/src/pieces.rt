@@ -1,6 +1,6 @@
 //! What a partition tells of a second, as lines.
 
-ghost use Rattle.std.specs.Prelude.{◌≡◌, ◌++◌, map, OnOk, IfOk};
+ghost use Rattle.std.specs.Prelude.{◌≡◌, map, IfOk};
 ghost use Rattle.events.specs.Lines.{IsInBook, AreInBook};
 ghost use Rattle.event_pipe.specs.Pieces.{line_of, piece, text_of};
 

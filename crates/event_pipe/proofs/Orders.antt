@@ -22,11 +22,12 @@ earlier p x ys zs e = elim (cases_Bool (p x)) [
 
 module _ {X : Type 0} (lt : X → X → Bool) (o : IsStrictWeakOrder lt) where
   -- none of these comes before x
-  abbrev Behind : X → List X → Type 0
+  abbrev pub Behind : X → List X → Type 0
   Behind x [] = Unit {0}
   Behind x (y ∷ ys) = (lt y x ≡ false) × Behind x ys
 
-  abbrev Rises : List X → Type 0
+  -- none comes before an earlier one
+  abbrev pub Rises : List X → Type 0
   Rises [] = Unit {0}
   Rises (x ∷ xs) = Behind x xs × Rises xs
 
@@ -77,7 +78,7 @@ module _ {X : Type 0} (lt : X → X → Bool) (o : IsStrictWeakOrder lt) where
   ]
 
   -- what comes after one that ties with z does not tie with z
-  apart : (z y x : X) → lt y x ≡ true → ties lt z y ≡ true → ties lt z x ≡ false
+  pub apart : (z y x : X) → lt y x ≡ true → ties lt z y ≡ true → ties lt z x ≡ false
   apart z y x q t = elim (cases_Bool (lt z x)) [
     | inl p ↦ rw p refl
     | inr p ↦ absurd (let e : lt y x ≡ false = o.chain y z x (tied_right z y t) p in cc)
@@ -134,9 +135,12 @@ module _ {X : Type 0} (lt : X → X → Bool) (o : IsStrictWeakOrder lt) where
       let q : y ≡ z = cc in
       ap (λ x. x ∷ ys) q ∙ ap (λ l. z ∷ l) (rises_once ys zs g.1 h.1 (λ x. earlier (ties lt x) z ys zs (rw q at (e x))))
 
+  -- a list that rises, in which those that tie stand as in another one, is that one put in order
+  pub rising_in_order : (xs ys : List X) → Rises ys → IsStableBy lt xs ys → ys ≡ in_order lt xs
+  rising_in_order xs ys up alike = rises_once ys (in_order lt xs) up (rises_in_order xs) (λ x. alike x ∙ sym (filter_in_order x xs))
+
   pub sorted_in_order : (xs ys : List X) → IsSortedBy lt ys → IsStableBy lt xs ys → ys ≡ in_order lt xs
-  sorted_in_order xs ys up alike =
-      rises_once ys (in_order lt xs) (sorted_rises ys up) (rises_in_order xs) (λ x. alike x ∙ sym (filter_in_order x xs))
+  sorted_in_order xs ys up alike = rising_in_order xs ys (sorted_rises ys up) alike
 
 -- an order of values is one of what has these values
 map_put : {X Y : Type 0} (f : X → Y) (lt : Y → Y → Bool) (x : X) (ys : List X)

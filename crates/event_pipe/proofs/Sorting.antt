@@ -62,6 +62,10 @@ less_in_order key =
     then_total (on_total (λ (k : Key). k.phase) nat_cmp_total) (
     then_total (on_total (λ (k : Key). k.number) nat_cmp_total) (on_total (λ (k : Key). k.index) nat_cmp_total)))) key
 
+-- keys are in a strict order
+pub keys_in_order : {X : Type 0} (key : X → Key) → IsStrictWeakOrder (before_by key)
+keys_in_order key = subst IsStrictWeakOrder (less_is key) (less_in_order key)
+
 pub sorted_lines : (xs ys : List (Bor Line)) → IsSortedByKey key_of key_cmp ys → IsStableByKey key_of key_cmp xs ys
     → map (λ (line : Bor Line). line.now) ys ≡ in_order comes_before (map (λ (line : Bor Line). line.now) xs)
 sorted_lines xs ys up alike =

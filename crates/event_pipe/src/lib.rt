@@ -11,7 +11,7 @@ mod senders;
 mod tally;
 
 pub use gathering::{Gather, Gathered};
-pub use laws::worked_merge;
+pub use laws::{partitions_tell_the_lines_of_all, worked_merge};
 pub use making::{MAX_ROOM, SenderList, pipe};
 pub use pieces::{Line, LineList, Piece, piece_of};
 pub use senders::{Offer, Sender};

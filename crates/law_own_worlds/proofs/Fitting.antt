@@ -14,7 +14,7 @@ use Rattle.parts.specs.Owners.{Owner, owner_of, lag}
 use Rattle.parts.specs.Parts.{Held, mine, late_rows, known_list, has, unheard, ready}
 use Rattle.law_own_worlds.specs.Making.{or_nobody, rows_on, hole, holes_on, own_world, IsKnown}
 use Rattle.law_own_worlds.proofs.Making.{one_person, one_each, credits}
-use Rattle.law_own_worlds.proofs.Knowing.{fit_at, ready_known}
+use Rattle.law_own_worlds.proofs.Knowing.{fit_at, unheard_known}
 
 -- FIT
 module _ (S : Setup) (own : Owner) (p t : ℕ) (H : Held) (known : IsKnown S own p H) (z : Counts) (fit : IsFitSetup z S)
@@ -62,23 +62,23 @@ or_none_fit : (z : Counts) (i : ℕ) (b : Bool) (P : Person) → IsFitPerson z i
 or_none_fit z i true P h = h
 or_none_fit z i false P h = tt
 
-module _ (S : Setup) (own : Owner) (p t : ℕ) (z : Counts) (fit : IsFitSetup z S) where
-  abbrev k : ℕ → ℕ → ℕ
-  k q x = lag S own q x - 1
-
+module _ (S : Setup) (own : Owner) (k : ℕ → ℕ → ℕ) (p t : ℕ) (z : Counts) (fit : IsFitSetup z S) where
   abbrev W : World
   W = world_at S t
 
-  ready_rows : (l : ℕ) (s : Stage) → Each (IsFitRow z) ((ready S own p t).list l s)
+  unheard_rows : (l : ℕ) (s : Stage) → Each (IsFitRow z) ((unheard S own k p t).list l s)
   unfolding unheard
-  ready_rows l s =
+  unheard_rows l s =
       let rows = recursion_from_All (IsFitRow z) W.rows (fit_at z S t fit).rows in
       elim (cases_Bool (eqb (owner_of S own l) p)) [ inl e ↦ rw e (known_fit z S own k t l s rows) | inr e ↦ rw e tt ]
 
-  ready_persons : (i : ℕ) → IsFitPerson z i (or_nobody ((ready S own p t).person i))
+  unheard_persons : (i : ℕ) → IsFitPerson z i (or_nobody ((unheard S own k p t).person i))
   unfolding unheard
-  ready_persons i = or_none_fit z i (has S own k p t i) (person_of i W) ((fit_at z S t fit).persons i)
+  unheard_persons i = or_none_fit z i (has S own k p t i) (person_of i W) ((fit_at z S t fit).persons i)
 
-  pub ready_fit : IsFitWorld z (own_world S t (ready S own p t))
-  ready_fit =
-      fit_world S own p t (ready S own p t) (ready_known S own p t z fit) z fit ready_rows ready_persons
+  pub unheard_fit : IsFitWorld z (own_world S t (unheard S own k p t))
+  unheard_fit =
+      fit_world S own p t (unheard S own k p t) (unheard_known S own k p t z fit) z fit unheard_rows unheard_persons
+
+pub ready_fit : (S : Setup) (own : Owner) (p t : ℕ) (z : Counts) → IsFitSetup z S → IsFitWorld z (own_world S t (ready S own p t))
+ready_fit S own p t z fit = unheard_fit S own (λ q x. lag S own q x - 1) p t z fit

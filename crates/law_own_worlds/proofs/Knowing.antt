@@ -97,12 +97,10 @@ known_none S own k t l Buffer e = e
 known_none S own k t l Wait e = e
 known_none S own k t l Bay e = e
 
-module _ (S : Setup) (own : Owner) (p t : ℕ) (z : Counts) (fit : IsFitSetup z S) where
-  abbrev k : ℕ → ℕ → ℕ
-  k q x = lag S own q x - 1
-
+-- whichever seconds of others it has not heard of
+module _ (S : Setup) (own : Owner) (k : ℕ → ℕ → ℕ) (p t : ℕ) (z : Counts) (fit : IsFitSetup z S) where
   abbrev H : Held
-  H = ready S own p t
+  H = unheard S own k p t
 
   past : (m : ℕ) → length S.links ≤ m → z.links ≤ m
   past m ge = let n = fit.links in omega arith
@@ -150,8 +148,8 @@ module _ (S : Setup) (own : Owner) (p t : ℕ) (z : Counts) (fit : IsFitSetup z 
       eq_test : (x y : ℕ) → x ≡ y → eqb x y ≡ true
       eq_test x y q = grind (arith, nat_tests)
 
-  pub ready_known : IsKnown S own p H
-  ready_known = record {
+  pub unheard_known : IsKnown S own p H
+  unheard_known = record {
     on = rows_on_links;
     links = no_rows;
     rows = no_places;
@@ -159,3 +157,6 @@ module _ (S : Setup) (own : Owner) (p t : ℕ) (z : Counts) (fit : IsFitSetup z 
     persons = nobody_past;
     queue = enough;
   }
+
+pub ready_known : (S : Setup) (own : Owner) (p t : ℕ) (z : Counts) → IsFitSetup z S → IsKnown S own p (ready S own p t)
+ready_known S own p t z fit = unheard_known S own (λ q x. lag S own q x - 1) p t z fit

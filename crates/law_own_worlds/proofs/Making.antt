@@ -209,7 +209,7 @@ module _ (S : Setup) (own : Owner) (p t : ℕ) (H : Held) (known : IsKnown S own
   seconds_of_holes m [] = refl
   seconds_of_holes m (s ∷ ss) = ap (λ (xs : List ℕ). s ∷ xs) (seconds_of_holes m ss)
 
-  holes_are : (m : ℕ) → m < length S.links → holes_at m V ≡ H.holes m ++ replicate (H.rows m - length (H.list m Queue)) t
+  pub holes_are : (m : ℕ) → m < length S.links → holes_at m V ≡ H.holes m ++ replicate (H.rows m - length (H.list m Queue)) t
   unfolding own_world is_of
   holes_are m lt =
       let n = length S.links in

@@ -137,7 +137,7 @@ module _ (S : Setup) (own : Owner) (p t : ℕ) (has : ℕ → Bool) (H : Held) (
   run_moves : moves_of (turns S t (departure_turns S t) (my_runs S own p) V2) ≡ flat_map (departure_moves S t) (my_runs S own p)
   run_moves = ap moves_of runs_once ∙ moves_of-map (departure_turns S t) V2 (my_runs S own p)
 
-  nowhere3 : (i : ℕ) → i < c → has i ≡ false → person_of i V3 ≡ nobody
+  pub nowhere3 : (i : ℕ) → i < c → has i ≡ false → person_of i V3 ≡ nobody
   nowhere3 i lt e =
       let n = world2.one_each in
       let there : i < length V2.persons = omega arith in
@@ -154,7 +154,7 @@ module _ (S : Setup) (own : Owner) (p t : ℕ) (has : ℕ → Bool) (H : Held) (
   early2 : AreEarly (moves_of (B1_part S t H1))
   early2 = subst (λ (us : List Turn). AreEarly (moves_of us)) (sym leavings) (B1-early S t V1)
 
-  run_early : AreEarly (moves_of (turns S t (departure_turns S t) (my_runs S own p) V2))
+  pub run_early : AreEarly (moves_of (turns S t (departure_turns S t) (my_runs S own p) V2))
   run_early =
       subst (λ (ms : List Move). AreEarly ms) (sym run_moves)
       (each_flat_all IsEarly (departure_moves S t) (departures-early S t) (my_runs S own p))
@@ -222,7 +222,7 @@ module _ (S : Setup) (own : Owner) (p t : ℕ) (has : ℕ → Bool) (H : Held) (
         | inr f ↦ simp f
       ]))
 
-  nodes_once : turns S t (node_turns S t) (my_nodes S own p) V3 ≡ map (turn_of (node_turns S t) V3) (my_nodes S own p)
+  pub nodes_once : turns S t (node_turns S t) (my_nodes S own p) V3 ≡ map (turn_of (node_turns S t) V3) (my_nodes S own p)
   nodes_once =
       turns_at_once S t (node_turns S t) (nodes_apart S t) (my_nodes S own p) V3
       (distinct_passed (λ n. eqb (own n) p) (below S.nodes) (Distinct-numbers 0 S.nodes))
@@ -255,7 +255,7 @@ module _ (S : Setup) (own : Owner) (p t : ℕ) (has : ℕ → Bool) (H : Held) (
       same_state (state_here l G) (link_state l V4) (world4.list l Queue) (world4.list l Buffer) (world4.list l Wait) (world4.list l Bay)
       (world4.credit l lt)
 
-  links_once : turns S t (link_turns S t) (my_links S own p) V4 ≡ map (turn_of (link_turns S t) V4) (my_links S own p)
+  pub links_once : turns S t (link_turns S t) (my_links S own p) V4 ≡ map (turn_of (link_turns S t) V4) (my_links S own p)
   links_once =
       turns_at_once S t (link_turns S t) (links_apart S t) (my_links S own p) V4
       (distinct_passed (λ l. eqb (owner_of S own l) p) (below (length S.links)) (Distinct-numbers 0 (length S.links)))

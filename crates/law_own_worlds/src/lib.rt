@@ -7,7 +7,7 @@ ghost use Rattle.std.specs.Prelude.{ℕ, Bool, is_some};
 ghost use Rattle.traffic.specs.Rows.{World};
 ghost use Rattle.traffic.specs.Setup.{Setup};
 ghost use Rattle.parts.specs.Owners.{Owner};
-ghost use Rattle.parts.specs.Parts.{Held, ready};
+ghost use Rattle.parts.specs.Parts.{Held, unheard};
 ghost use Rattle.law_in_range.specs.Rows.{Counts, IsFitWorld};
 ghost use Rattle.law_in_range.specs.Setups.{IsFitSetup};
 ghost use Rattle.law_sound_setups.specs.Setups.{IsSoundSetup};
@@ -27,13 +27,15 @@ pub fn own_worlds_do_their_seconds()
         → StaysFit z S own p t V }
 {}
 
-/// Whatever a partition holds, of persons and links that are there, is such a world. What it holds before a second of a day is of such, and
-/// its world is fit where the day is.
+/// Whatever a partition holds, of persons and links that are there, is such a world. What it holds in a day is of such, whichever last
+/// seconds of others it has not heard of: before a second and once it has absorbed what is due. Its world is fit where the day is.
 pub fn parts_have_own_worlds()
     ensures made { (S : Setup) (own : Owner) (p t : ℕ) (H : Held) → IsKnown S own p H
         → IsOwnWorld S own p t (λ i. is_some (H.person i)) H (own_world S t H) }
-    ensures ready { (S : Setup) (own : Owner) (p t : ℕ) (z : Counts) → IsFitSetup z S → IsKnown S own p (ready S own p t) }
-    ensures fit { (S : Setup) (own : Owner) (p t : ℕ) (z : Counts) → IsFitSetup z S → IsFitWorld z (own_world S t (ready S own p t)) }
+    ensures known { (S : Setup) (own : Owner) (k : ℕ → ℕ → ℕ) (p t : ℕ) (z : Counts) → IsFitSetup z S
+        → IsKnown S own p (unheard S own k p t) }
+    ensures fit { (S : Setup) (own : Owner) (k : ℕ → ℕ → ℕ) (p t : ℕ) (z : Counts) → IsFitSetup z S
+        → IsFitWorld z (own_world S t (unheard S own k p t)) }
 {}
 
 /// The second of its own world gives what the day says of a partition: what it holds next, what it tells, and what it sends to each. And in

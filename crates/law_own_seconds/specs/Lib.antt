@@ -1,0 +1,4 @@
+pub mod Seconds
+pub mod Places
+pub mod Leaving
+pub mod Others

@@ -1,11 +1,14 @@
 -- How many seconds are late, and how often a number stands in a list.
-use Rattle.std.proofs.Common.{◌≡◌, ℕ, ◌+◌, Bool, cond, true, false, List, [], ◌∷◌, refl, ap, sym, ◌∙◌, eqb, inl, inr, arith}
-use Rattle.std.specs.Prelude.{count_by, filter, map, nat_le, nat_lt, ◌==◌}
+use Rattle.std.proofs.Common.{◌≡◌, ℕ, ◌+◌, ◌-◌, ◌<◌, Bool, cond, true, false, List, [], ◌∷◌, get_or, refl, ap, sym, ◌∙◌, eqb, inl, inr, arith}
+use Rattle.std.specs.Prelude.{count_by, filter, map, nat_le, nat_lt, ◌==◌, Option}
+use Rattle.traffic.specs.declared.node_views.OutLink.{OutLink}
 use Rattle.traffic.specs.Nodes.{in_force}
 use Rattle.std.proofs.lemmas.Bool.{cases_Bool, ne_eqb, true≢false}
 use Rattle.std.proofs.lemmas.Bool.Decides.{nat_tests}
 use Rattle.std.proofs.lemmas.List.Sums.{sum_by-cons}
-use Rattle.part_places.specs.Taking.{still, times}
+use Rattle.node_move.specs.Spaces.{places_in}
+use Rattle.part_places.specs.declared.places.Places.{Places}
+use Rattle.part_places.specs.Taking.{Taking, AreTakenOf, still, times, taken_in}
 
 abbrev pub one : (ℕ → Bool) → ℕ → ℕ
 one p n = cond (p n) 1 0
@@ -57,3 +60,11 @@ still_is t h (s ∷ hs) =
           let f = d ∙ ap (λ (b : Bool). cond b 1 0 + still (t + 1) (map (λ (x : ℕ). x + h) hs)) e in
           rw e (f ∙ (omega (i, arith)))
     ]
+
+-- so many vehicles are in the queue of a link: its places that are taken and are no holes
+pub queued_is : (begins : ℕ → Bool) (count end t l n : ℕ) (T : Taking) (P : Places) → l < count → begins l ≡ true
+    → n ≡ taken_in (places_in P.space l) - get_or P.holes.items l 0 → AreTakenOf begins count end t T P → n ≡ T.queued l
+queued_is begins count end t l n T P lt here e h =
+    let a = e ∙ ap (λ (o : Option OutLink). taken_in o - get_or P.holes.items l 0) (h.places l lt here) in
+    let b = h.holes l lt here in
+    omega arith

@@ -5,4 +5,4 @@ pub mod Skipping
 pub mod Early
 pub mod Departing
 pub mod Joining
-pub mod Homes
+pub mod Beginning

@@ -1,14 +1,11 @@
 -- How many seconds are late, and how often a number stands in a list.
-use Rattle.std.proofs.Common.{◌≡◌, ℕ, ◌+◌, ◌-◌, ◌<◌, Bool, cond, true, false, List, [], ◌∷◌, get_or, refl, ap, sym, ◌∙◌, eqb, inl, inr, arith}
-use Rattle.std.specs.Prelude.{count_by, filter, map, nat_le, nat_lt, ◌==◌, Option}
-use Rattle.traffic.specs.declared.node_views.OutLink.{OutLink}
+use Rattle.std.proofs.Common.{◌≡◌, ℕ, zero, suc, ◌+◌, Bool, cond, true, false, List, [], ◌∷◌, ◌++◌, refl, ap, sym, ◌∙◌, eqb, inl, inr, arith}
+use Rattle.std.specs.Prelude.{count_by, filter, map, nat_le, nat_lt, replicate, ◌==◌}
 use Rattle.traffic.specs.Nodes.{in_force}
 use Rattle.std.proofs.lemmas.Bool.{cases_Bool, ne_eqb, true≢false}
 use Rattle.std.proofs.lemmas.Bool.Decides.{nat_tests}
 use Rattle.std.proofs.lemmas.List.Sums.{sum_by-cons}
-use Rattle.node_move.specs.Spaces.{places_in}
-use Rattle.part_places.specs.declared.places.Places.{Places}
-use Rattle.part_places.specs.Taking.{Taking, AreTakenOf, still, times, taken_in}
+use Rattle.part_places.specs.Taking.{still, times}
 
 abbrev pub one : (ℕ → Bool) → ℕ → ℕ
 one p n = cond (p n) 1 0
@@ -61,10 +58,36 @@ still_is t h (s ∷ hs) =
           rw e (f ∙ (omega (i, arith)))
     ]
 
--- so many vehicles are in the queue of a link: its places that are taken and are no holes
-pub queued_is : (begins : ℕ → Bool) (count end t l n : ℕ) (T : Taking) (P : Places) → l < count → begins l ≡ true
-    → n ≡ taken_in (places_in P.space l) - get_or P.holes.items l 0 → AreTakenOf begins count end t T P → n ≡ T.queued l
-queued_is begins count end t l n T P lt here e h =
-    let a = e ∙ ap (λ (o : Option OutLink). taken_in o - get_or P.holes.items l 0) (h.places l lt here) in
-    let b = h.holes l lt here in
+-- SO MANY MORE
+all_of : (p : ℕ → Bool) (k s : ℕ) → p s ≡ true → count_by p (replicate k s) ≡ k
+all_of p zero s h = refl
+all_of p (suc k) s h =
+    let a = count_cons p s (replicate k s) in
+    let one_is : one p s ≡ 1 = rw h refl in
+    let i = all_of p k s h in
+    omega arith
+
+none_of : (p : ℕ → Bool) (k s : ℕ) → p s ≡ false → count_by p (replicate k s) ≡ 0
+none_of p zero s h = refl
+none_of p (suc k) s h =
+    let a = count_cons p s (replicate k s) in
+    let one_is : one p s ≡ 0 = rw h refl in
+    let i = none_of p k s h in
+    omega arith
+
+count_both : (p : ℕ → Bool) (xs ys : List ℕ) → count_by p (xs ++ ys) ≡ count_by p xs + count_by p ys
+count_both p [] ys = refl
+count_both p (x ∷ xs) ys =
+    let a = count_cons p x (xs ++ ys) in
+    let b = count_cons p x xs in
+    let i = count_both p xs ys in
+    omega arith
+
+pub count_more : (p : ℕ → Bool) (k s : ℕ) (xs : List ℕ) → p s ≡ true → count_by p (xs ++ replicate k s) ≡ count_by p xs + k
+count_more p k s xs h = count_both p xs (replicate k s) ∙ ap (λ (n : ℕ). count_by p xs + n) (all_of p k s h)
+
+pub count_same : (p : ℕ → Bool) (k s : ℕ) (xs : List ℕ) → p s ≡ false → count_by p (xs ++ replicate k s) ≡ count_by p xs
+count_same p k s xs h =
+    let a = count_both p xs (replicate k s) in
+    let b = none_of p k s h in
     omega arith

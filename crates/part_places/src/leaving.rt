@@ -75,13 +75,6 @@ fn taken_in(space: &Space, link: u32) -> u64
     }
 }
 
-/// How many vehicles are in the queue of a link: its places that are taken and are no holes.
-fn queued_on(space: &Space, holes: &[u64], link: u32) -> u64
-    ensures { result ≡ taken_in (places_in space.now link) - get_or holes.now link 0 }
-{
-    taken_in(space, link).saturating_sub(holes_of(holes, link))
-}
-
 /// A link has so many holes now.
 #[tactic(auto, using(std::proofs::lemmas::List::set_past))]
 fn put_holes(holes: &mut [u64], link: u32, count: u64)
@@ -109,8 +102,8 @@ impl Places {
             (later gone.link (T.queued gone.link - gone.vehicles) (gone.second + gone.hole_seconds) T) self.new) }
     {
         let holes = holes_of(&self.holes, gone.link);
-        let queued = queued_on(&self.space, &self.holes, gone.link);
-        let vehicles = gone.vehicles.min(queued);
+        let queued = taken_in(&self.space, gone.link).saturating_sub(holes);
+        let vehicles = queued - queued.saturating_sub(gone.vehicles);
         put_holes(&mut self.holes, gone.link, holes + vehicles);
         let second = u64::from(gone.second) + u64::from(gone.hole_seconds);
         add_freed(&mut self.freed, end, second, gone.link, vehicles)?;
@@ -129,7 +122,8 @@ impl Places {
             → OnOk result (AreTakenOf begins count end t
             (later left.link left.queued (left.second + left.hole_seconds) T) self.new) }
     {
-        let queued = queued_on(&self.space, &self.holes, left.link);
+        let holes = holes_of(&self.holes, left.link);
+        let queued = taken_in(&self.space, left.link).saturating_sub(holes);
         let gone = Gone {
             second: left.second,
             link: left.link,

@@ -2,7 +2,7 @@ use Rattle.std.proofs.Common.{arith}
 use Rattle.partition.specs.Owned.{owner_in}
 use Rattle.town.specs.Views.{setup}
 use Rattle.part_persons.specs.Own.{begins_day_in}
-use Rattle.part_persons.proofs.Homes.{kept_start, kept_more, kept_all}
+use Rattle.part_persons.proofs.Beginning.{kept_start, kept_more, kept_all}
 use Rattle.part_persons.proofs.homes.keep_own.Goals as goal
 
 pub loop-number-init : goal.loop-number-init

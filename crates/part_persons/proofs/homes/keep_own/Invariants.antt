@@ -1,7 +1,7 @@
 use Rattle.partition.specs.Owned.{owner_in}
 use Rattle.town.specs.Views.{setup}
 use Rattle.part_persons.specs.Own.{begins_day_in}
-use Rattle.part_persons.proofs.Homes.{Kept}
+use Rattle.part_persons.proofs.Beginning.{Kept}
 use Rattle.part_persons.proofs.homes.keep_own.Given as goal
 
 abbrev pub invariant-loop-number : goal.invariant-loop-number

@@ -1,6 +1,6 @@
 use Rattle.std.proofs.Common.{◌∙◌, rules}
 use Rattle.town.specs.Views.{setup}
-use Rattle.part_persons.proofs.Homes.{sole_persons, sole_departs}
+use Rattle.part_persons.proofs.Beginning.{sole_persons, sole_departs}
 use Rattle.part_day.proofs.Dawning.{part_begins}
 use Rattle.part_day.proofs.part.Part.new.Goals as goal
 

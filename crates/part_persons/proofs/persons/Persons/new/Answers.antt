@@ -1,7 +1,7 @@
 use Rattle.law_in_range.proofs.Days.{start_is_fit, one_each}
 use Rattle.partition.specs.Owned.{owner_in}
 use Rattle.town.specs.Views.{setup}
-use Rattle.part_persons.proofs.Homes.{begun, own_is_fit}
+use Rattle.part_persons.proofs.Beginning.{begun, own_is_fit}
 use Rattle.part_persons.proofs.persons.Persons.new.Goals as goal
 
 pub keep_own_in-requires-clause-plans : goal.keep_own_in-requires-clause-plans

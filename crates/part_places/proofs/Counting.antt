@@ -76,7 +76,7 @@ none_of p (suc k) s h =
     omega arith
 
 count_both : (p : ℕ → Bool) (xs ys : List ℕ) → count_by p (xs ++ ys) ≡ count_by p xs + count_by p ys
-count_both p [] ys = refl
+count_both p [] ys = (let e : count_by p ys ≡ 0 + count_by p ys = omega arith in e)
 count_both p (x ∷ xs) ys =
     let a = count_cons p x (xs ++ ys) in
     let b = count_cons p x xs in

@@ -9,7 +9,7 @@ use Rattle.part_places.specs.declared.places.Places.{Places}
 use Rattle.part_places.specs.Taking.{Taking, AreTakenOf, IsFull, fewer, is_full, is_full_in, still, times}
 use Rattle.part_places.proofs.Counting.{still_split, times_passed}
 
-pub with_taken : ℕ → ℕ → Taking → Option OutLink
+unfoldable pub with_taken : ℕ → ℕ → Taking → Option OutLink
 with_taken n m T = Some (record { taken = n; storage = T.storage m; seconds = T.seconds m })
 
 pub freed_is : (begins : ℕ → Bool) (count end t : ℕ) (T : Taking) (P Q : Places) (ls : List ℕ) → t < end → ls ≡ due_at t P.freed → HasNone t P.freed Q.freed

@@ -1,4 +1,5 @@
 use Rattle.std.proofs.Common.{◌∙◌, ap, sym, length}
+use Rattle.std.specs.Prelude.{Some}
 use Rattle.std.proofs.lemmas.List.{length-set}
 use Rattle.town.specs.Views.{setup}
 use Rattle.traffic.specs.Rows.{World}
@@ -13,6 +14,7 @@ returns-clause-followed c = λ t h.
 
 pub returns-clause-wakes : goal.returns-clause-wakes
 returns-clause-wakes c =
-    ap length c.in_ok-follow_in.ensures ∙ followed_length (setup c.args.day.now) c.args.day.now.town.now.settings.end_second _ _ c.args.self.now.wakes
-    ∙ c.requires.wakes
+    ap length c.in_ok-follow_in.ensures
+    ∙ followed_length (setup c.args.day.now) c.args.day.now.town.now.settings.end_second c.put_person.new.world.persons (Some c.args.number)
+    c.args.self.now.wakes ∙ c.requires.wakes
     ∙ sym (ap (λ (W : World). length W.persons) c.put_person.ensures ∙ length-set c.args.self.now.world.persons c.args.number c.args.person)

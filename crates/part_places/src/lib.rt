@@ -9,3 +9,4 @@ mod starts;
 
 pub use leaving::{Gone, Left};
 pub use places::Places;
+pub use starts::begins_here;

@@ -32,8 +32,8 @@ fn free_place(day: &DayInput, link: u32) -> OutLink
     }
 }
 
-/// Whether a link begins in this part.
-fn begins_here(day: &DayInput, owner: &Owner, part: u32, link: u32) -> bool
+/// Whether a link begins in this part: whether its first node belongs to it.
+pub fn begins_here(day: &DayInput, owner: &Owner, part: u32, link: u32) -> bool
     requires { link < length day.now.town.now.network.links }
     ensures { result ≡ begins_here (setup day.now) (owner_in owner.now.of_node) part link }
 {

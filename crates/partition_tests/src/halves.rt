@@ -34,17 +34,6 @@ fn network_of(alloc: Global, nodes: &str) -> Option<Network> {
     })
 }
 
-/// Whether the nodes of a network have these partitions, of so many.
-fn are_halved(alloc: Global, network: &Network, parts: u32, of_node: &[u32]) -> bool {
-    if parts == 0 || parts > MAX_PARTITIONS {
-        return false;
-    }
-    match halve(alloc, network, parts) {
-        Ok(owner) => owner.parts == parts && owner.of_node.rows.as_slice() == of_node,
-        Err(_) => false,
-    }
-}
-
 /// Of how many partitions, and the partition of each node.
 struct Cut {
     parts: u32,
@@ -108,23 +97,33 @@ static FIVE_CUTS: [Cut; 4] = [
     },
 ];
 
-/// How many of these cuts are those of the network of these nodes.
-fn count_right(alloc: Global, nodes: &str, cuts: &[Cut]) -> usize {
+/// Whether the nodes of a network are cut so.
+fn is_cut(alloc: Global, network: &Network, cut: &Cut) -> bool {
+    if cut.parts == 0 || cut.parts > MAX_PARTITIONS {
+        return false;
+    }
+    match halve(alloc, network, cut.parts) {
+        Ok(owner) => { owner.parts == cut.parts && owner.of_node.rows.as_slice() == cut.of_node }
+        Err(_) => false,
+    }
+}
+
+/// The place of the first of these cuts that is not that of the network of these nodes; none where all are.
+fn first_other(alloc: Global, nodes: &str, cuts: &[Cut]) -> Option<usize> {
     let Some(network) = network_of(alloc, nodes) else {
-        return 0;
+        return Some(0);
     };
-    let mut right = 0;
-    for cut in cuts {
-        if are_halved(alloc, &network, cut.parts, cut.of_node) && right < 100 {
-            right += 1;
+    for place in 0..cuts.len() {
+        if !is_cut(alloc, &network, &cuts[place]) {
+            return Some(place);
         }
     }
-    right
+    None
 }
 
 #[test]
 fn nodes_are_divided(rt: HostRuntime) {
-    assert_eq!(rt; count_right(rt.alloc(), ROW, &ROW_CUTS), 5);
-    assert_eq!(rt; count_right(rt.alloc(), SQUARE, &SQUARE_CUTS), 2);
-    assert_eq!(rt; count_right(rt.alloc(), FIVE, &FIVE_CUTS), 4);
+    assert_eq!(rt; first_other(rt.alloc(), ROW, &ROW_CUTS), None);
+    assert_eq!(rt; first_other(rt.alloc(), SQUARE, &SQUARE_CUTS), None);
+    assert_eq!(rt; first_other(rt.alloc(), FIVE, &FIVE_CUTS), None);
 }

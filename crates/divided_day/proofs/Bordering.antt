@@ -1,5 +1,5 @@
 -- The neighbours of a partition are such as a core asks for.
-use Rattle.std.proofs.Common.{◌≡◌, ◌≢◌, ℕ, zero, suc, ◌+◌, ◌-◌, ◌<◌, ◌≤◌, Bool, true, List, [], ◌∷◌, arith, refl, sym, ◌∙◌, ap, subst, map}
+use Rattle.std.proofs.Common.{◌≡◌, ◌≢◌, ℕ, zero, suc, ◌+◌, ◌-◌, ◌<◌, ◌≤◌, Bool, true, List, ◌∷◌, arith, refl, sym, ◌∙◌, ap, subst}
 use Rattle.std.proofs.Common.{inl, inr, length, get_or}
 use Rattle.std.specs.Prelude.{filter, ◌==◌}
 use Rattle.std.specs.List.{AllByRecursion as Each}
@@ -24,7 +24,8 @@ each_from m k zero h = tt
 each_from m k (suc n) h = (h, each_from m (k + 1) n (omega arith))
 
 front : (k : ℕ) (ns : List ℕ) (i j : ℕ) → ((m : ℕ) → m < length ns → k + 1 ≤ get_or ns m 0)
-    → ((a b : ℕ) → a < b → b < length ns → get_or ns a 0 < get_or ns b 0) → i < j → j < length (k ∷ ns) → get_or (k ∷ ns) i 0 < get_or (k ∷ ns) j 0
+    → ((a b : ℕ) → a < b → b < length ns → get_or ns a 0 < get_or ns b 0) → i < j → j < length (k ∷ ns)
+    → get_or (k ∷ ns) i 0 < get_or (k ∷ ns) j 0
 front k ns i zero least up lt lj = absurd (omega arith)
 front k ns zero (suc j) least up lt lj = let h = least j (omega arith) in omega arith
 front k ns (suc i) (suc j) least up lt lj = up i j (omega arith) (omega arith)
@@ -34,9 +35,11 @@ module _ (pass : ℕ → Bool) where
   at_least : (k n i : ℕ) → i < length (filter pass (numbers k n)) → k ≤ get_or (filter pass (numbers k n)) i 0
   at_least k n i lt =
       let P : ℕ → Type 0 = λ m. k ≤ m in
-      All-get_or P (filter pass (numbers k n)) i 0 lt (All-from_recursion P (filter pass (numbers k n)) (each_kept P pass (numbers k n) (each_from k k n (omega arith))))
+      All-get_or P (filter pass (numbers k n)) i 0 lt
+      (All-from_recursion P (filter pass (numbers k n)) (each_kept P pass (numbers k n) (each_from k k n (omega arith))))
 
-  pub climbs : (k n i j : ℕ) → i < j → j < length (filter pass (numbers k n)) → get_or (filter pass (numbers k n)) i 0 < get_or (filter pass (numbers k n)) j 0
+  pub climbs : (k n i j : ℕ) → i < j → j < length (filter pass (numbers k n))
+      → get_or (filter pass (numbers k n)) i 0 < get_or (filter pass (numbers k n)) j 0
   climbs k zero i j lt lj = absurd (omega arith)
   climbs k (suc n) i j lt lj =
       let rest = filter pass (numbers (k + 1) n) in
@@ -67,7 +70,8 @@ module _ (pass : ℕ → Bool) where
             let ne : k ≢ q = eqb-false k q s in
             let r = found (k + 1) n q (omega arith) (omega arith) e in
             elim (cases_Bool (pass k)) [
-              | inl c ↦ let is : filter pass (numbers k (suc n)) ≡ k ∷ rest = (rw c refl) in subst (IsFound q) (sym is) (suc r.0, ((omega (arith, r.1.0)), r.1.1))
+              | inl c ↦ let is : filter pass (numbers k (suc n)) ≡ k ∷ rest = (rw c refl) in subst (IsFound q) (sym is)
+                  (suc r.0, ((omega (arith, r.1.0)), r.1.1))
               | inr c ↦ let is : filter pass (numbers k (suc n)) ≡ rest = (rw c refl) in subst (IsFound q) (sym is) r
             ]
       ]
@@ -112,6 +116,7 @@ are_pairs S own parts =
     let near_pair : Pair → Bool = λ x. near S own x.lesser x.greater in
     let all : Each (IsPairOf parts) (pairs_of parts) =
     each_flat (λ a. a < parts) (IsPairOf parts) (pairs_from parts)
-    (λ a lt. each_map (λ q. q < parts) (IsPairOf parts) (pair a) (λ q lq. (lt, lq)) (numbers (a + 1) (parts - (a + 1))) (each_number parts (a + 1) (parts - (a + 1)) (omega arith)))
+    (λ a lt. each_map (λ q. q < parts) (IsPairOf parts) (pair a) (λ q lq. (lt, lq)) (numbers (a + 1) (parts - (a + 1)))
+    (each_number parts (a + 1) (parts - (a + 1)) (omega arith)))
     (below parts) (each_number parts 0 parts (omega arith)) in
     All-from_recursion (IsPairOf parts) (neighbours_of S own parts) (each_kept (IsPairOf parts) near_pair (pairs_of parts) all)

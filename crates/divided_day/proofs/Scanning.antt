@@ -1,5 +1,6 @@
 -- The pairs of neighbours, gone over for one partition, give its neighbours.
-use Rattle.std.proofs.Common.{◌≡◌, ◌≢◌, ℕ, zero, suc, ◌+◌, ◌-◌, ◌<◌, ◌≤◌, Bool, true, false, List, [], ◌∷◌, ◌++◌, arith, refl, sym, ◌∙◌, ap, map}
+use Rattle.std.proofs.Common.{◌≡◌, ◌≢◌, ℕ, zero, suc, ◌+◌, ◌-◌, ◌<◌, ◌≤◌, Bool, true}
+use Rattle.std.proofs.Common.{false, List, [], ◌∷◌, ◌++◌, arith, refl, sym, ◌∙◌, ap, map}
 use Rattle.std.proofs.Common.{append-nil, append_assoc, inl, inr, length, get_or, drop}
 use Rattle.std.specs.Prelude.{filter, ◌==◌, if◌then◌else◌, Option, None}
 use Rattle.std.specs.Option.{option_to_list}
@@ -17,7 +18,8 @@ use Rattle.divided_day.specs.Borders.{border_of, borders_among}
 
 -- ONE PAIR MORE
 -- a border more, or none
-pub among_more : (p : ℕ) (xs : List Pair) (ys : List LagPair) (k : ℕ) (x : Pair) (y : LagPair) (o : Option Border) (out new all : List Border)
+pub among_more : (p : ℕ) (xs : List Pair) (ys : List LagPair) (k : ℕ) (x : Pair) (y : LagPair) (o : Option Border)
+    (out new all : List Border)
     → k < length xs → length ys ≡ length xs → o ≡ border_of p (get_or xs k x) (get_or ys k y) → new ≡ out ++ option_to_list o
     → out ++ borders_among p (drop k xs) (drop k ys) ≡ all → new ++ borders_among p (drop (k + 1) xs) (drop (k + 1) ys) ≡ all
 among_more p xs ys k x y o out new all lt long is more before =
@@ -41,7 +43,8 @@ among_end p xs ys k out all past before =
     sym (append-nil out) ∙ sym (ap (λ zs. out ++ borders_among p zs (drop k ys)) (drop_all k xs past)) ∙ before
 
 -- NUMBERS
-same_over : {X : Type 0} (f h : ℕ → List X) (k n : ℕ) → ((j : ℕ) → k ≤ j → j < k + n → f j ≡ h j) → flat_map f (numbers k n) ≡ flat_map h (numbers k n)
+same_over : {X : Type 0} (f h : ℕ → List X) (k n : ℕ) → ((j : ℕ) → k ≤ j → j < k + n → f j ≡ h j)
+    → flat_map f (numbers k n) ≡ flat_map h (numbers k n)
 same_over f h k zero e = refl
 same_over f h k (suc n) e =
     ap (λ ys. ys ++ flat_map f (numbers (k + 1) n)) (e k (omega arith) (omega arith))
@@ -50,7 +53,8 @@ same_over f h k (suc n) e =
 nothing : {X : Type 0} (f : ℕ → List X) (k n : ℕ) → ((j : ℕ) → k ≤ j → j < k + n → f j ≡ []) → flat_map f (numbers k n) ≡ []
 nothing f k zero e = refl
 nothing f k (suc n) e =
-    ap (λ ys. ys ++ flat_map f (numbers (k + 1) n)) (e k (omega arith) (omega arith)) ∙ nothing f (k + 1) n (λ j a b. e j (omega arith) (omega arith))
+    ap (λ ys. ys ++ flat_map f (numbers (k + 1) n)) (e k (omega arith) (omega arith))
+    ∙ nothing f (k + 1) n (λ j a b. e j (omega arith) (omega arith))
 
 -- a list for one of them alone
 only : {X : Type 0} (ys : List X) (p k n : ℕ) → k ≤ p → p < k + n → flat_map (λ q. if q == p then ys else []) (numbers k n) ≡ ys
@@ -59,7 +63,8 @@ only ys p k (suc n) a b =
     elim (cases_Bool (k == p)) [
       | inl e ↦
           let is : k ≡ p = eqb-true k p e in
-          rw e (ap (λ zs. ys ++ zs) (nothing (λ q. if q == p then ys else []) (k + 1) n (λ j c d. let ne = ne_eqb j p (λ z. omega arith) in rw ne refl)) ∙ append-nil ys)
+          rw e (ap (λ zs. ys ++ zs) (nothing (λ q. if q == p then ys else []) (k + 1) n
+          (λ j c d. let ne = ne_eqb j p (λ z. omega arith) in rw ne refl)) ∙ append-nil ys)
       | inr e ↦ let ne : k ≢ p = eqb-false k p e in rw e (only ys p (k + 1) n (omega arith) (omega arith))
     ]
 
@@ -104,7 +109,8 @@ module _ (near : ℕ → ℕ → Bool) (lag : ℕ → ℕ → ℕ) (self : (p : 
         | inr e ↦ rw e (through a ns)
       ]
 
-  all_through : (F : ℕ → List Pair) (ns : List ℕ) → flat_map of_pair (filter are_near (flat_map F ns)) ≡ flat_map (λ a. flat_map of_pair (filter are_near (F a))) ns
+  all_through : (F : ℕ → List Pair) (ns : List ℕ) → flat_map of_pair (filter are_near (flat_map F ns)) ≡ flat_map
+      (λ a. flat_map of_pair (filter are_near (F a))) ns
   all_through F [] = refl
   all_through F (a ∷ ns) =
       ap (flat_map of_pair) (filter-append are_near (F a) (flat_map F ns))
@@ -141,15 +147,19 @@ module _ (near : ℕ → ℕ → Bool) (lag : ℕ → ℕ → ℕ) (self : (p : 
       let rest = parts - (p + 1) in
       let A = flat_map seen (numbers 0 p) in
       let B = flat_map seen (numbers (p + 1) rest) in
-      let first : flat_map (step parts) (numbers 0 p) ≡ A = same_over (step parts) seen 0 p (λ a x y. step_lesser parts a lp (omega arith)) in
+      let first : flat_map (step parts) (numbers 0 p) ≡ A = same_over (step parts) seen 0 p
+      (λ a x y. step_lesser parts a lp (omega arith)) in
       let second : step parts p ≡ B = same_over (one p) seen (p + 1) rest (λ q x y. greater q (omega arith)) in
       let third : flat_map (step parts) (numbers (p + 1) rest) ≡ [] =
-      nothing (step parts) (p + 1) rest (λ a x y. nothing (one a) (a + 1) (parts - (a + 1)) (λ q u v. others a q (omega arith) (omega arith))) in
+      nothing (step parts) (p + 1) rest (λ a x y. nothing (one a) (a + 1) (parts - (a + 1))
+      (λ q u v. others a q (omega arith) (omega arith))) in
       let none : seen p ≡ [] = (let e = self p in rw e refl) in
       ap (flat_map (step parts)) (parted p parts lp) ∙ flat_map-append (step parts) (numbers 0 p) (p ∷ numbers (p + 1) rest)
       ∙ ap (λ zs. zs ++ (step parts p ++ flat_map (step parts) (numbers (p + 1) rest))) first
-      ∙ ap (λ zs. A ++ (zs ++ flat_map (step parts) (numbers (p + 1) rest))) second ∙ ap (λ zs. A ++ (B ++ zs)) third ∙ ap (λ zs. A ++ zs) (append-nil B)
-      ∙ sym (ap (flat_map seen) (parted p parts lp) ∙ flat_map-append seen (numbers 0 p) (p ∷ numbers (p + 1) rest) ∙ ap (λ zs. A ++ (zs ++ B)) none)
+      ∙ ap (λ zs. A ++ (zs ++ flat_map (step parts) (numbers (p + 1) rest))) second ∙ ap (λ zs. A ++ (B ++ zs)) third
+      ∙ ap (λ zs. A ++ zs) (append-nil B)
+      ∙ sym (ap (flat_map seen) (parted p parts lp) ∙ flat_map-append seen (numbers 0 p) (p ∷ numbers (p + 1) rest)
+      ∙ ap (λ zs. A ++ (zs ++ B)) none)
 
   kept : (ns : List ℕ) → flat_map seen ns ≡ map border (filter (λ q. near q p) ns)
   kept [] = refl
@@ -159,9 +169,11 @@ module _ (near : ℕ → ℕ → Bool) (lag : ℕ → ℕ → ℕ) (self : (p : 
         | inr e ↦ rw e (kept ns)
       ]
 
-  pub scanned : (parts : ℕ) → p < parts → borders_among p (filter are_near (flat_map (pairs_from parts) (below parts))) (map lags_of (filter are_near (flat_map (pairs_from parts) (below parts))))
+  pub scanned : (parts : ℕ) → p < parts → borders_among p (filter are_near (flat_map (pairs_from parts) (below parts)))
+      (map lags_of (filter are_near (flat_map (pairs_from parts) (below parts))))
       ≡ map border (filter (λ q. near q p) (below parts))
   scanned parts lp =
       among_all (filter are_near (flat_map (pairs_from parts) (below parts))) ∙ all_through (pairs_from parts) (below parts)
-      ∙ same_over (λ a. flat_map of_pair (filter are_near (pairs_from parts a))) (step parts) 0 parts (λ a x y. through a (numbers (a + 1) (parts - (a + 1))))
+      ∙ same_over (λ a. flat_map of_pair (filter are_near (pairs_from parts a))) (step parts) 0 parts
+      (λ a x y. through a (numbers (a + 1) (parts - (a + 1))))
       ∙ all_steps parts lp ∙ kept (below parts)

@@ -1,5 +1,6 @@
 -- Two merges of the same lists are one.
-use Rattle.std.proofs.Common.{◌≡◌, ℕ, zero, suc, ◌<◌, true, false, true≢false, List, [], ◌∷◌, arith, refl, sym, ◌∙◌, ap, subst, length, get_or, inl, inr, ◌⊎◌}
+use Rattle.std.proofs.Common.{◌≡◌, ℕ, zero, suc, ◌<◌, true, false, true≢false, List, [], ◌∷◌}
+use Rattle.std.proofs.Common.{arith, refl, sym, ◌∙◌, ap, subst, length, get_or, inl, inr, ◌⊎◌}
 use Rattle.std.specs.Prelude.{flat_map}
 use Rattle.std.specs.List.{Contains}
 use Rattle.std.proofs.lemmas.List.Sorted.{IsPermutation-sym, IsPermutation-trans, Contains-permutation}
@@ -23,7 +24,8 @@ first_or_later x xs a zero lt is = inl is
 first_or_later x xs a (suc k) lt is = inr (k, (omega arith), is)
 
 -- and each of the others comes after the first
-after_at : (x : Event) (xs : List Event) (a : Event) (k : ℕ) → AreAfter x xs → k < length xs → get_or xs k a ≡ a → key_before x.key a.key ≡ true
+after_at : (x : Event) (xs : List Event) (a : Event) (k : ℕ) → AreAfter x xs → k < length xs → get_or xs k a ≡ a
+    → key_before x.key a.key ≡ true
 after_at x [] a k h lt is = absurd (omega arith)
 after_at x (y ∷ ys) a zero h lt is = subst (λ (e : Event). key_before x.key e.key ≡ true) is h.0
 after_at x (y ∷ ys) a (suc k) h lt is = after_at x ys a k h.1 (omega arith) is
@@ -52,7 +54,8 @@ in_rest x y xs ys a e up c there =
       | inr d ↦ d
     ]
 
-same_members : (xs ys : List Event) → Ascends xs → Ascends ys → ((a : Event) → Contains xs a → Contains ys a) → ((a : Event) → Contains ys a → Contains xs a) → xs ≡ ys
+same_members : (xs ys : List Event) → Ascends xs → Ascends ys → ((a : Event) → Contains xs a → Contains ys a)
+    → ((a : Event) → Contains ys a → Contains xs a) → xs ≡ ys
 same_members [] [] up climb there back = refl
 same_members [] (y ∷ ys) up climb there back = let c = back y (0, (omega arith), refl) in absurd (let l = c.1 in omega arith)
 same_members (x ∷ xs) [] up climb there back = let c = there x (0, (omega arith), refl) in absurd (let l = c.1 in omega arith)
@@ -66,4 +69,5 @@ pub one_merge : (lists : List (List Event)) (xs ys : List Event) → Merges list
 one_merge lists xs ys h g =
     let all = flat_map (λ (events : List Event). events) lists in
     let there = IsPermutation-trans xs all ys (IsPermutation-sym all xs h.same) g.same in
-    same_members xs ys h.ascends g.ascends (λ a c. Contains-permutation xs ys a there c) (λ a c. Contains-permutation ys xs a (IsPermutation-sym xs ys there) c)
+    same_members xs ys h.ascends g.ascends (λ a c. Contains-permutation xs ys a there c)
+    (λ a c. Contains-permutation ys xs a (IsPermutation-sym xs ys there) c)

@@ -14,7 +14,8 @@ told_more f lists new parts x part before is e =
     ∙ sym (ap (λ m. map f (below m)) (length_push parts part) ∙ ap (map f) (below_more n) ∙ map-append f (below n) (n ∷ []))
 
 module _ {T P : Type 0} (see : T → PartView P) (stands : T → Type 0) (t : ℕ) (degree : ℕ → ℕ) (parts : List T) (count k : ℕ) (x : T)
-    (many : length parts ≡ count) (each : EachAt see stands t degree count parts) (lt : k < length parts) (is : x ≡ slice_index_or parts k x) where
+    (many : length parts ≡ count) (each : EachAt see stands t degree count parts) (lt : k < length parts)
+    (is : x ≡ slice_index_or parts k x) where
   -- the partition at a place
   pub part_there : IsAt see stands k t (degree k) x
   part_there = subst (λ (y : T). IsAt see stands k t (degree k) y) (sym is) (each k x (omega arith))

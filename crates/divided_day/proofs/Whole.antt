@@ -35,7 +35,8 @@ use Rattle.divided_day.proofs.Single.{one_merge}
 pub borders_found : (day : DayInput) (owner : Owner) (pairs : List Pair) (lags : List LagPair) (lists : List (List Border))
     → pairs ≡ neighbours_of (setup day) (owner_in owner.of_node) owner.parts
     → lags ≡ map (lags_of (setup day) (owner_in owner.of_node)) (neighbours_of (setup day) (owner_in owner.of_node) owner.parts)
-    → length lists ≡ owner.parts → ((p : ℕ) → p < owner.parts → get_or lists p [] ≡ borders_among p pairs lags) → AreBordersOf day owner lists
+    → length lists ≡ owner.parts → ((p : ℕ) → p < owner.parts → get_or lists p [] ≡ borders_among p pairs lags)
+    → AreBordersOf day owner lists
 borders_found day owner pairs lags lists ps ls many each =
     let S = setup day in
     let own = owner_in owner.of_node in
@@ -48,7 +49,8 @@ borders_found day owner pairs lags lists ps ls many each =
 
 module _ (day : DayInput) (owner : Owner) (given : HaveFittingPlans day) where
   goes : GoesInParts (setup day) (owner_in owner.of_node) owner.parts
-  goes = goes_in_parts (setup day) (town_sound day (chosen_fit day given)) (town_consistent day (chosen_fit day given)) (owner_in owner.of_node) owner.parts
+  goes = goes_in_parts (setup day) (town_sound day (chosen_fit day given)) (town_consistent day (chosen_fit day given))
+      (owner_in owner.of_node) owner.parts
       owner.owned
 
   pub net_sound : IsNet (net_in day owner)

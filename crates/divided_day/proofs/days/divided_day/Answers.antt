@@ -1,4 +1,4 @@
-use Rattle.std.proofs.Common.{ap, sym, subst, subst₂, List}
+use Rattle.std.proofs.Common.{sym, subst, subst₂, List}
 use Rattle.step_core.specs.declared.part.Border.{Border}
 use Rattle.step_core.specs.Nets.{Net, IsNet, AreBorders}
 use Rattle.divided_day.proofs.Whole.{net_sound, borders_sound}

@@ -10,7 +10,8 @@ pub finish-requires-clause-there : goal.finish-requires-clause-there
 finish-requires-clause-there g c =
     let run = c.args.run.now in
     let turn = YieldsList-turn (YieldsList-from_vec {s = c.into_iter-part-iterator.result} c.args.parts.items (search rules) (search rules))
-    c.loop-part.yielded c.loop-part.part-iterator c.loop-part.yielded_by c.next.result c.next.new.self c.in-Some.part c.in-Some.is c.next.ensures.steps in
+    c.loop-part.yielded c.loop-part.part-iterator c.loop-part.yielded_by c.next.result c.next.new.self c.in-Some.part c.in-Some.is
+    c.next.ensures.steps in
     number_there g.T.Part.see (g.T.Part.stands run) (g.T.Part.net run).end (λ p. length (g.T.Part.borders run p)) c.args.parts.items
     (g.T.Part.net run).parts (length c.loop-part.yielded) c.in-Some.part c.requires.count c.requires.ended turn.0 turn.1
 
@@ -18,7 +19,8 @@ pub finish-requires-clause-at : goal.finish-requires-clause-at
 finish-requires-clause-at g c =
     let run = c.args.run.now in
     let turn = YieldsList-turn (YieldsList-from_vec {s = c.into_iter-part-iterator.result} c.args.parts.items (search rules) (search rules))
-    c.loop-part.yielded c.loop-part.part-iterator c.loop-part.yielded_by c.next.result c.next.new.self c.in-Some.part c.in-Some.is c.next.ensures.steps in
+    c.loop-part.yielded c.loop-part.part-iterator c.loop-part.yielded_by c.next.result c.next.new.self c.in-Some.part c.in-Some.is
+    c.next.ensures.steps in
     own_there g.T.Part.see (g.T.Part.stands run) (g.T.Part.net run).end (λ p. length (g.T.Part.borders run p)) c.args.parts.items
     (g.T.Part.net run).parts (length c.loop-part.yielded) c.in-Some.part c.requires.count c.requires.ended turn.0 turn.1
 
@@ -26,8 +28,10 @@ pub loop-part-preserved : goal.loop-part-preserved
 loop-part-preserved g c =
     let run = c.args.run.now in
     let turn = YieldsList-turn (YieldsList-from_vec {s = c.into_iter-part-iterator.result} c.args.parts.items (search rules) (search rules))
-    c.loop-part.yielded c.loop-part.part-iterator c.loop-part.yielded_by c.next.result c.next.new.self c.in-Some.part c.in-Some.is c.next.ensures.steps in
-    let there = part_there g.T.Part.see (g.T.Part.stands run) (g.T.Part.net run).end (λ p. length (g.T.Part.borders run p)) c.args.parts.items
+    c.loop-part.yielded c.loop-part.part-iterator c.loop-part.yielded_by c.next.result c.next.new.self c.in-Some.part c.in-Some.is
+    c.next.ensures.steps in
+    let there = part_there g.T.Part.see (g.T.Part.stands run) (g.T.Part.net run).end
+    (λ p. length (g.T.Part.borders run p)) c.args.parts.items
     (g.T.Part.net run).parts (length c.loop-part.yielded) c.in-Some.part c.requires.count c.requires.ended turn.0 turn.1 in
     told_more (told_in (g.T.DayPart.day run) (g.T.DayPart.owner run)) c.loop-part.lists.items c.push.new.self.items c.loop-part.yielded
     c.in_ok-finish.field-0 c.in-Some.part c.loop-part.invariant c.in_ok-push.ensures.items

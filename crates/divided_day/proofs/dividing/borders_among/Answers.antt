@@ -19,10 +19,12 @@ loop-place-preserved c =
           (ap (λ v. v.items) w.rows-is ∙ w.in_ok-push-in-Some.ensures.items) c.loop-place.invariant
       | in-None w ↦
           among_none p pairs lags k None out c.match-border_of.rows.items all c.loop-place-test.true c.requires
-          (record { lesser = 0; greater = 0 }) (record { there = 0; back = 0 }) w.in-None.ensures refl (ap (λ v. v.items) w.rows-is) c.loop-place.invariant
+          (record { lesser = 0; greater = 0 }) (record { there = 0; back = 0 }) w.in-None.ensures refl
+          (ap (λ v. v.items) w.rows-is) c.loop-place.invariant
     ]
 
 pub returns : goal.returns
 returns c =
-    among_end c.args.number c.args.pairs.now c.args.lags.now c.loop-place.place c.loop-place.rows.items (borders_among c.args.number c.args.pairs.now c.args.lags.now)
+    among_end c.args.number c.args.pairs.now c.args.lags.now c.loop-place.place c.loop-place.rows.items
+    (borders_among c.args.number c.args.pairs.now c.args.lags.now)
     c.loop-place-test.false c.loop-place.invariant

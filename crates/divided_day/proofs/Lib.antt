@@ -1,0 +1,6 @@
+mod Bordering
+mod Counting
+mod Scanning
+mod Single
+mod Telling
+mod Whole

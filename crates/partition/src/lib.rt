@@ -2,6 +2,7 @@
 #![tactic(auto)]
 
 mod axes;
+mod belonging;
 mod borders;
 mod crossings;
 mod cutting;
@@ -10,7 +11,8 @@ mod joining;
 mod owner;
 
 pub use axes::Axis;
+pub use belonging::owner_of_link;
 pub use borders::{LagPair, lags};
 pub use halving::halve;
 pub use joining::{Pair, neighbours};
-pub use owner::{Owner, OwnerList};
+pub use owner::{Owner, OwnerList, owner_of_node};

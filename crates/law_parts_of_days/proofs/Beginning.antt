@@ -111,18 +111,15 @@ module _ (S : Setup) (links : List LinkView) (new : AreFresh S.links S.settings 
         soon = λ l u lt w. (let z : None ≡ Some u = sym (none l) ∙ w in absurd (cc));
       }
 
-  pub places_begin : (end : ℕ) (P : Places) → AreTaken (length links) end 0 (empty links) P
-      → AreTaken (length S.links) end 0 (taking S (world_start S)) P
-  unfolding numbers_of
-  places_begin end P h =
-      let queues : (m : ℕ) → at m Queue (world_start S) ≡ [] = λ m. (none_at S m).0 in
-      let holes : (m : ℕ) → holes_at m (world_start S) ≡ [] = λ m. (none_at S m).2 in
-      taken_as (length S.links) end 0 (empty links) (taking S (world_start S)) P (record {
-        storage = λ m lt. sym (ap (λ (v : LinkView). v.numbers.storage) (new.each m lt));
-        seconds = λ m lt. sym (ap (λ (v : LinkView). v.numbers.seconds) (new.each m lt));
-        queued = λ m lt. ap (λ (xs : List Row). length xs) (queues m);
-        frees = λ m lt. ap (λ (hs : List ℕ). map (λ (s : ℕ). s + hole_of S m) hs) (holes m);
-      }) (subst (λ (n : ℕ). AreTaken n end 0 (empty links) P) new.count_is h)
+pub places_begin : (S : Setup) (end : ℕ) (P : Places) → AreTaken (length S.links) end 0 (empty S) P
+    → AreTaken (length S.links) end 0 (taking S (world_start S)) P
+places_begin S end P h =
+    taken_as (length S.links) end 0 (empty S) (taking S (world_start S)) P (record {
+      storage = λ m lt. refl;
+      seconds = λ m lt. refl;
+      queued = λ m lt. ap (λ (xs : List Row). length xs) (none_at S m).0;
+      frees = λ m lt. ap (λ (hs : List ℕ). map (λ (s : ℕ). s + hole_of S m) hs) (none_at S m).2;
+    }) h
 
 -- LINK AFTER LINK
 pub none_fresh : (rows : List LinkRow) (settings : TrafficSettings) (links : List LinkView) → links ≡ [] → AreFresh rows settings 0 links

@@ -19,7 +19,7 @@ use Rattle.node_seconds.proofs.Lanes.{in_at, among_front}
 use Rattle.part_links.proofs.Standing.{taken_one}
 use Rattle.part_links.proofs.Numbers.{among_own, among_other}
 use Rattle.part_places.specs.declared.places.Places.{Places}
-use Rattle.part_places.specs.Taking.{Taking, AreTaken, still, times, later}
+use Rattle.part_places.specs.Taking.{Taking, AreTaken, AreTakenOf, still, times, later}
 use Rattle.part_places.proofs.Counting.{still_is}
 use Rattle.law_parts_of_days.specs.Settling.{taking, queued_in, settled}
 
@@ -33,18 +33,19 @@ pub record AreAlike (count : ℕ) (T U : Taking) : Type 0 where
 place : ℕ → ℕ → ℕ → Option OutLink
 place n s k = Some (record { taken = n; storage = s; seconds = k })
 
-pub taken_as : (count end t : ℕ) (T U : Taking) (P : Places) → AreAlike count T U → AreTaken count end t T P → AreTaken count end t U P
+pub taken_as : {begins : ℕ → Bool} (count end t : ℕ) (T U : Taking) (P : Places) → AreAlike count T U → AreTakenOf begins count end t T P
+    → AreTakenOf begins count end t U P
 unfolding place
 taken_as count end t T U P a h = record {
-  places = λ m lt.
-      h.places m lt
+  places = λ m lt here.
+      h.places m lt here
       ∙ ap (λ (n : ℕ). place (n + still t (T.frees m)) (T.storage m) (T.seconds m)) (sym (a.queued m lt))
       ∙ ap (λ (fs : List ℕ). place (U.queued m + still t fs) (T.storage m) (T.seconds m)) (sym (a.frees m lt))
       ∙ ap (λ (n : ℕ). place (U.queued m + still t (U.frees m)) n (T.seconds m)) (sym (a.storage m lt))
       ∙ ap (λ (n : ℕ). place (U.queued m + still t (U.frees m)) (U.storage m) n) (sym (a.seconds m lt));
   reach = h.reach;
-  holes = λ m lt. h.holes m lt ∙ ap (λ (fs : List ℕ). still t fs) (sym (a.frees m lt));
-  freed = λ m u lt from to. h.freed m u lt from to ∙ ap (λ (fs : List ℕ). times u fs) (sym (a.frees m lt));
+  holes = λ m lt here. h.holes m lt here ∙ ap (λ (fs : List ℕ). still t fs) (sym (a.frees m lt));
+  freed = λ m u lt here from to. h.freed m u lt here from to ∙ ap (λ (fs : List ℕ). times u fs) (sym (a.frees m lt));
 }
 
 -- those of two worlds with the same queues and the same holes
@@ -63,7 +64,7 @@ pub places_now : (S : Setup) (end t : ℕ) (V : World) (P : Places) → AreTaken
     → places_in P.space m ≡ Some (record { taken = taken_at S t m V; storage = storage_of S m; seconds = seconds_of S m })
 unfolding place
 places_now S end t V P h m lt =
-    h.places m lt ∙ ap (λ (n : ℕ). place (length (at m Queue V) + n) (storage_of S m) (seconds_of S m)) (still_is t (hole_of S m) (holes_at m V))
+    h.places m lt refl ∙ ap (λ (n : ℕ). place (length (at m Queue V) + n) (storage_of S m) (seconds_of S m)) (still_is t (hole_of S m) (holes_at m V))
 
 -- nodes leave no holes
 pub nodes_keep_holes : (S : Setup) (t m : ℕ) (V : World) → holes_at m (after S t (turns_in S t phase.C V) V) ≡ holes_at m V
@@ -83,14 +84,14 @@ places_after S end t V W P Q same holes freed now h =
     let frees : (m : ℕ) → map (λ (s : ℕ). s + hole_of S m) (holes_at m V) ≡ map (λ (s : ℕ). s + hole_of S m) (holes_at m W)
     = λ m. ap (λ (hs : List ℕ). map (λ (s : ℕ). s + hole_of S m) hs) (sym (same m)) in
     record {
-      places = λ m lt.
+      places = λ m lt here.
           now m lt
           ∙ ap (λ (n : ℕ). place (length (at m Queue W) + n) (storage_of S m) (seconds_of S m)) (sym (still_is t (hole_of S m) (holes_at m W)));
       reach = ap (λ (hs : List ℕ). length hs) holes ∙ h.reach;
-      holes = λ m lt.
-          ap (λ (hs : List ℕ). get_or hs m 0) holes ∙ h.holes m lt ∙ ap (λ (fs : List ℕ). still (t + 1) fs) (frees m);
-      freed = λ m u lt from to.
-          ap (λ (c : List (List ℕ)). times m (due_at u c)) freed ∙ h.freed m u lt from to ∙ ap (λ (fs : List ℕ). times u fs) (frees m);
+      holes = λ m lt here.
+          ap (λ (hs : List ℕ). get_or hs m 0) holes ∙ h.holes m lt here ∙ ap (λ (fs : List ℕ). still (t + 1) fs) (frees m);
+      freed = λ m u lt here from to.
+          ap (λ (c : List (List ℕ)). times m (due_at u c)) freed ∙ h.freed m u lt here from to ∙ ap (λ (fs : List ℕ). times u fs) (frees m);
     }
 
 -- ONE LINK MORE IS SETTLED

@@ -30,7 +30,7 @@ no_rows S = refl
 
 pub network_begins : (day : DayInput) (nodes links : ℕ) (N : Network)
     → AreFresh (setup day).links (setup day).settings (length (setup day).links) N.links.items
-    → AreTaken (length N.links.items) day.town.now.settings.end_second 0 (empty N.links.items) N.places
+    → AreTaken (length (setup day).links) day.town.now.settings.end_second 0 (empty (setup day)) N.places
     → links ≡ length N.links.items → N.link_wakes ≡ replicate links None → nodes ≡ length day.town.now.network.nodes
     → N.node_wakes ≡ replicate nodes None → NetworkStands day 0 0 N (world_at (setup day) 0)
 network_begins day nodes links N new places n wakes m ends =
@@ -38,7 +38,7 @@ network_begins day nodes links N new places n wakes m ends =
     subst (λ (W : World). NetworkStands day 0 0 N W) (begins_with S) (record {
       links = links_begin S N.links.items new;
       asleep = wakes_begin S N.links.items new S.settings.dwell day.town.now.settings.end_second links N.link_wakes n wakes;
-      places = places_begin S N.links.items new day.town.now.settings.end_second N.places places;
+      places = places_begin S day.town.now.settings.end_second N.places places;
       nodes = ap (λ (ws : List (Option ℕ)). length ws) ends ∙ length-replicate nodes None ∙ m ∙ sym (nodes_of day);
       awaited = λ k l lt off there to.
           none_waits S day.town.now.settings.end_second 0 0 l (wake_of N.node_wakes k) (world_start S) (buffers_begin S l);

@@ -16,6 +16,7 @@ use calendar::Wakes;
 use part_nodes::{InLinks, Network};
 use part_persons::{Persons, departures_by_second};
 use part_places::Places;
+use partition::Owner;
 use queue_link::{LinkState, numbers_of};
 use riders::Waiting;
 use rows::{LinkList, LinkRow};
@@ -73,12 +74,13 @@ fn empty_lines(alloc: Global, count: usize) -> Result<Vec<Waiting>, AllocError>
     Ok(lines)
 }
 
-/// The network of a town, on which nobody is.
-fn empty_network(alloc: Global, day: &DayInput) -> Result<Network, AllocError>
+/// The network of a town, on which nobody is, where one part has all of it.
+fn empty_network(alloc: Global, day: &DayInput, owner: &Owner) -> Result<Network, AllocError>
+    requires { owner.now.of_node ≡ [] }
     ensures { IfOk result (λ network. NetworkStands day.now 0 0 network (world_at (setup day.now) 0)) }
 {
     let links = empty_links(alloc, day)?;
-    let places = Places::new(alloc, &links)?;
+    let places = Places::new(alloc, day, owner, 0)?;
     let link_wakes = Wakes::new(alloc, links.len())?;
     let node_wakes = Wakes::new(alloc, day.town.network.nodes.len())?;
     Ok(Network {
@@ -99,11 +101,12 @@ impl Part {
         requires { HaveFittingPlans day.now }
         ensures { IfOk result (λ part. Stands day.now 0 0 0 part (world_at (setup day.now) 0)) }
     {
+        let owner = Owner::sole(alloc);
         let persons = Persons::new(alloc, day)?;
         let departures = departures_by_second(alloc, day)?;
         let lines = empty_lines(alloc, day.town.stops.rows.len())?;
         let in_links = InLinks::new(alloc, day)?;
-        let network = empty_network(alloc, day)?;
+        let network = empty_network(alloc, day, &owner)?;
         Ok(Part {
             persons,
             departures,

@@ -1,6 +1,6 @@
 -- How many seconds are late, and how often a number stands in a list.
-use Rattle.std.proofs.Common.{◌≡◌, ℕ, ◌+◌, Bool, cond, true, false, List, [], ◌∷◌, refl, ap, sym, ◌∙◌, eqb, inl, inr, arith}
-use Rattle.std.specs.Prelude.{count_by, filter, map, nat_le, nat_lt, ◌==◌}
+use Rattle.std.proofs.Common.{◌≡◌, ℕ, zero, suc, ◌+◌, Bool, cond, true, false, List, [], ◌∷◌, ◌++◌, refl, ap, sym, ◌∙◌, eqb, inl, inr, arith}
+use Rattle.std.specs.Prelude.{count_by, filter, map, nat_le, nat_lt, replicate, ◌==◌}
 use Rattle.traffic.specs.Nodes.{in_force}
 use Rattle.std.proofs.lemmas.Bool.{cases_Bool, ne_eqb, true≢false}
 use Rattle.std.proofs.lemmas.Bool.Decides.{nat_tests}
@@ -57,3 +57,37 @@ still_is t h (s ∷ hs) =
           let f = d ∙ ap (λ (b : Bool). cond b 1 0 + still (t + 1) (map (λ (x : ℕ). x + h) hs)) e in
           rw e (f ∙ (omega (i, arith)))
     ]
+
+-- SO MANY MORE
+all_of : (p : ℕ → Bool) (k s : ℕ) → p s ≡ true → count_by p (replicate k s) ≡ k
+all_of p zero s h = refl
+all_of p (suc k) s h =
+    let a = count_cons p s (replicate k s) in
+    let one_is : one p s ≡ 1 = rw h refl in
+    let i = all_of p k s h in
+    omega arith
+
+none_of : (p : ℕ → Bool) (k s : ℕ) → p s ≡ false → count_by p (replicate k s) ≡ 0
+none_of p zero s h = refl
+none_of p (suc k) s h =
+    let a = count_cons p s (replicate k s) in
+    let one_is : one p s ≡ 0 = rw h refl in
+    let i = none_of p k s h in
+    omega arith
+
+count_both : (p : ℕ → Bool) (xs ys : List ℕ) → count_by p (xs ++ ys) ≡ count_by p xs + count_by p ys
+count_both p [] ys = (let e : count_by p ys ≡ 0 + count_by p ys = omega arith in e)
+count_both p (x ∷ xs) ys =
+    let a = count_cons p x (xs ++ ys) in
+    let b = count_cons p x xs in
+    let i = count_both p xs ys in
+    omega arith
+
+pub count_more : (p : ℕ → Bool) (k s : ℕ) (xs : List ℕ) → p s ≡ true → count_by p (xs ++ replicate k s) ≡ count_by p xs + k
+count_more p k s xs h = count_both p xs (replicate k s) ∙ ap (λ (n : ℕ). count_by p xs + n) (all_of p k s h)
+
+pub count_same : (p : ℕ → Bool) (k s : ℕ) (xs : List ℕ) → p s ≡ false → count_by p (xs ++ replicate k s) ≡ count_by p xs
+count_same p k s xs h =
+    let a = count_both p xs (replicate k s) in
+    let b = none_of p k s h in
+    omega arith

@@ -1,10 +1,10 @@
 -- How the places of links are taken: by the rows of their queues, and by places that were left and are not free yet.
-use Rattle.std.specs.Prelude.{◌≡◌, ℕ, ◌+◌, ◌-◌, ◌<◌, ◌≤◌, Bool, false, List, [], ◌++◌, length, get_or, replicate, count_by, nat_le, ◌==◌, if◌then◌else◌, Option, None, Some}
+use Rattle.std.specs.Prelude.{◌≡◌, ℕ, ◌+◌, ◌-◌, ◌<◌, ◌≤◌, Bool, true, false, List, [], ◌++◌, length, get_or, replicate, count_by, nat_le, ◌==◌, if◌then◌else◌, Option, None, Some}
 use Rattle.traffic.specs.declared.node_views.OutLink.{OutLink}
+use Rattle.traffic.specs.Setup.{Setup, storage_of, seconds_of}
 use Rattle.calendar.specs.Due.{due_at}
-use Rattle.queue_link.specs.Links.{LinkView}
 use Rattle.node_move.specs.Spaces.{places_in}
-use Rattle.node_move.specs.NodeStates.{no_link}
+use Rattle.parts.specs.Owners.{Owner, begins_in}
 use Rattle.part_places.specs.declared.places.Places.{Places}
 
 -- Of links by their numbers: how many places each has and how long it takes; how many vehicles its queue has, and the seconds in which
@@ -27,33 +27,37 @@ times m ns = count_by (λ (n : ℕ). n == m) ns
 abbrev pub places_of : ℕ → Taking → ℕ → OutLink
 places_of t T m = record { taken = T.queued m + still t (T.frees m); storage = T.storage m; seconds = T.seconds m }
 
--- These are the places of so many links, where those that were left are free in second t or later, and in each of these seconds before
--- the end those come free that do.
-pub record AreTaken (count end t : ℕ) (T : Taking) (P : Places) : Type 0 where
-  pub places : (m : ℕ) → m < count → places_in P.space m ≡ Some (places_of t T m)
+-- These are the places of those of so many links that begin here, where those that were left are free in second t or later, and in each of
+-- these seconds before the end those come free that do.
+pub record AreTakenOf (begins : ℕ → Bool) (count end t : ℕ) (T : Taking) (P : Places) : Type 0 where
+  pub places : (m : ℕ) → m < count → begins m ≡ true → places_in P.space m ≡ Some (places_of t T m)
   pub reach : length P.holes.items ≡ count
-  pub holes : (m : ℕ) → m < count → get_or P.holes.items m 0 ≡ still t (T.frees m)
-  pub freed : (m u : ℕ) → m < count → t ≤ u → u < end → times m (due_at u P.freed) ≡ times u (T.frees m)
+  pub holes : (m : ℕ) → m < count → begins m ≡ true → get_or P.holes.items m 0 ≡ still t (T.frees m)
+  pub freed : (m u : ℕ) → m < count → begins m ≡ true → t ≤ u → u < end → times m (due_at u P.freed) ≡ times u (T.frees m)
+
+-- so where all of them begin here
+abbrev pub AreTaken : ℕ → ℕ → ℕ → Taking → Places → Type 0
+AreTaken count end t T P = AreTakenOf (λ m. true) count end t T P
 
 -- link m has no place free, where those that were left and are free in second t or later are taken
 abbrev pub IsFull : ℕ → Taking → ℕ → Type 0
 IsFull t T m = T.storage m ≤ T.queued m + still t (T.frees m)
 
--- nobody is on these links, and no place of them was left
-abbrev pub empty : List LinkView → Taking
-empty links = record {
-  storage = λ m. (get_or links m no_link).numbers.storage;
-  seconds = λ m. (get_or links m no_link).numbers.seconds;
-  queued = λ m. 0;
-  frees = λ m. [];
-}
+-- whether link m begins in partition p
+abbrev pub begins_here : Setup → Owner → ℕ → ℕ → Bool
+begins_here S own p m = begins_in S own m == p
 
--- no place of them is taken
-abbrev pub free_place : LinkView → OutLink
-free_place v = record { taken = 0; storage = v.numbers.storage; seconds = v.numbers.seconds }
+-- nobody is on the links of a setup, and no place of them was left
+abbrev pub empty : Setup → Taking
+empty S = record { storage = storage_of S; seconds = seconds_of S; queued = λ m. 0; frees = λ m. [] }
 
-abbrev pub IsFree : List LinkView → List (Option OutLink) → Type 0
-IsFree links space = (m : ℕ) → m < length links → places_in space m ≡ Some (free_place (get_or links m no_link))
+-- no place of link m is taken
+abbrev pub free_place : Setup → ℕ → OutLink
+free_place S m = record { taken = 0; storage = storage_of S m; seconds = seconds_of S m }
+
+-- so with those of the first n links that begin here
+abbrev pub AreFree : Setup → (ℕ → Bool) → ℕ → List (Option OutLink) → Type 0
+AreFree S begins n space = (m : ℕ) → m < n → begins m ≡ true → places_in space m ≡ Some (free_place S m)
 
 -- so many fewer places are taken
 abbrev pub fewer : ℕ → Option OutLink → Option OutLink

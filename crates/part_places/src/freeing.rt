@@ -1,9 +1,10 @@
 //! Places come free.
 
-ghost use Rattle.std.specs.Prelude.{◌≡◌, ℕ, ◌+◌, ◌-◌, ◌<◌, ◌==◌, if◌then◌else◌};
+ghost use Rattle.std.specs.Prelude.{◌≡◌, ℕ, ◌+◌, ◌-◌, ◌<◌, Bool, true, ◌==◌, if◌then◌else◌};
 ghost use Rattle.std.specs.Prelude.{get_or, set, filter, OnOk, IfOk};
+ghost use Rattle.calendar.specs.Due.{due_at};
 ghost use Rattle.node_move.specs.Spaces.{places_in};
-ghost use Rattle.part_places.specs.Taking.{Taking, AreTaken, IsFull, fewer, is_full_in, times};
+ghost use Rattle.part_places.specs.Taking.{Taking, AreTakenOf, IsFull, fewer, is_full_in, times};
 
 use crate::places::Places;
 use node_move::Space;
@@ -78,17 +79,18 @@ fn free_all(links: &[u32], space: &mut Space, holes: &mut [u64]) -> Result<(), A
 }
 
 impl Places {
-    /// The places that come free in this second are free. Answers those of their links that had no place free before: a link that had none
-    /// and is not among them has none now.
+    /// The places that come free in this second are free. Answers the links of those that had no place free before, in order and once for
+    /// each place: a link that begins here, had none and is not among them has none now.
     ///
     /// # Errors
     ///
     /// `AllocError`: there is no memory for it. The places are then of no use.
     pub fn free(&mut self, second: u32) -> Result<Vec<u32>, AllocError>
-        ensures places { (count end : ℕ) (T : Taking) → second < end → AreTaken count end second T self.old
-            → OnOk result (AreTaken count end (second + 1) T self.new) }
-        ensures full { (count end : ℕ) (T : Taking) → second < end → AreTaken count end second T self.old
-            → IfOk result (λ links. (m : ℕ) → m < count → times m links.items ≡ 0 → IsFull second T m
+        ensures places { (begins : ℕ → Bool) (count end : ℕ) (T : Taking) → second < end → AreTakenOf begins count end second T self.old
+            → OnOk result (AreTakenOf begins count end (second + 1) T self.new) }
+        ensures links { IfOk result (λ links. links.items ≡ filter (is_full_in self.old.space) (due_at second self.old.freed)) }
+        ensures full { (begins : ℕ → Bool) (count end : ℕ) (T : Taking) → second < end → AreTakenOf begins count end second T self.old
+            → IfOk result (λ links. (m : ℕ) → m < count → begins m ≡ true → times m links.items ≡ 0 → IsFull second T m
             → IsFull (second + 1) T m) }
     {
         let alloc = *self.holes.allocator();

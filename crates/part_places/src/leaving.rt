@@ -1,10 +1,10 @@
 //! Vehicles leave the queues of links.
 
-ghost use Rattle.std.specs.Prelude.{◌≡◌, ℕ, ◌+◌, ◌-◌, ◌<◌, ◌≤◌, ◌++◌, [], ◌==◌, if◌then◌else◌};
+ghost use Rattle.std.specs.Prelude.{◌≡◌, ℕ, ◌+◌, ◌-◌, ◌<◌, ◌≤◌, Bool, true, ◌++◌, [], ◌==◌, if◌then◌else◌};
 ghost use Rattle.std.specs.Prelude.{length, get_or, set, replicate, nat_lt, OnOk};
 ghost use Rattle.calendar.specs.Due.{due_at};
 ghost use Rattle.node_move.specs.Spaces.{places_in};
-ghost use Rattle.part_places.specs.Taking.{Taking, AreTaken, taken_in, later};
+ghost use Rattle.part_places.specs.Taking.{Taking, AreTakenOf, taken_in, later};
 
 use crate::places::Places;
 use calendar::Calendar;
@@ -18,6 +18,17 @@ pub struct Left {
     pub link: u32,
     /// How many vehicles are in the queue now.
     pub queued: usize,
+    /// For how many seconds a place that was left stays taken.
+    pub hole_seconds: u32,
+}
+
+/// Vehicles that left the queue of a link in a second.
+#[derive(Clone, Copy, Debug, PartialEq, Eq)]
+pub struct Gone {
+    pub second: u32,
+    pub link: u32,
+    /// How many left.
+    pub vehicles: u64,
     /// For how many seconds a place that was left stays taken.
     pub hole_seconds: u32,
 }
@@ -76,23 +87,49 @@ fn put_holes(holes: &mut [u64], link: u32, count: u64)
 }
 
 impl Places {
-    /// Vehicles have left the queue of a link, and their places are free once the holes have travelled along it, if the day lasts so long.
+    /// So many vehicles have left the queue of a link, no more than are in it, and their places are free once the holes have travelled along
+    /// it, if the day lasts so long. Where the link ends in another part this is heard some seconds after they left, while none of these
+    /// places is free yet.
+    ///
+    /// # Errors
+    ///
+    /// `AllocError`: there is no memory for a place. The places are then of no use.
+    pub fn free_later(&mut self, end: u32, gone: Gone) -> Result<(), AllocError>
+        ensures { (begins : ℕ → Bool) (count t : ℕ) (T : Taking) → gone.link < count → begins gone.link ≡ true
+            → gone.vehicles ≤ T.queued gone.link → t ≤ gone.second + gone.hole_seconds
+            → AreTakenOf begins count end t T self.old
+            → OnOk result (AreTakenOf begins count end t
+            (later gone.link (T.queued gone.link - gone.vehicles) (gone.second + gone.hole_seconds) T) self.new) }
+    {
+        let holes = holes_of(&self.holes, gone.link);
+        let queued = taken_in(&self.space, gone.link).saturating_sub(holes);
+        let vehicles = queued - queued.saturating_sub(gone.vehicles);
+        put_holes(&mut self.holes, gone.link, holes + vehicles);
+        let second = u64::from(gone.second) + u64::from(gone.hole_seconds);
+        add_freed(&mut self.freed, end, second, gone.link, vehicles)?;
+        Ok(())
+    }
+
+    /// The same of all vehicles that are in the queue of a link no more.
     ///
     /// # Errors
     ///
     /// `AllocError`: there is no memory for a place. The places are then of no use.
     pub fn leave(&mut self, end: u32, left: Left) -> Result<(), AllocError>
-        ensures { (count : ℕ) (T : Taking) → left.link < count → left.queued ≤ T.queued left.link → 0 < left.hole_seconds
-            → AreTaken count end (left.second + 1) T self.old
-            → OnOk result (AreTaken count end (left.second + 1)
+        ensures { (begins : ℕ → Bool) (count t : ℕ) (T : Taking) → left.link < count → begins left.link ≡ true
+            → left.queued ≤ T.queued left.link → t ≤ left.second + left.hole_seconds
+            → AreTakenOf begins count end t T self.old
+            → OnOk result (AreTakenOf begins count end t
             (later left.link left.queued (left.second + left.hole_seconds) T) self.new) }
     {
         let holes = holes_of(&self.holes, left.link);
         let queued = taken_in(&self.space, left.link).saturating_sub(holes);
-        let gone = queued.saturating_sub(left.queued as u64);
-        put_holes(&mut self.holes, left.link, holes + gone);
-        let second = u64::from(left.second) + u64::from(left.hole_seconds);
-        add_freed(&mut self.freed, end, second, left.link, gone)?;
-        Ok(())
+        let gone = Gone {
+            second: left.second,
+            link: left.link,
+            vehicles: queued.saturating_sub(left.queued as u64),
+            hole_seconds: left.hole_seconds,
+        };
+        self.free_later(end, gone)
     }
 }

@@ -1,4 +1,4 @@
-use Rattle.std.proofs.Common.{ℕ, ◌+◌, ◌<◌, ◌≤◌, sym, subst, length}
+use Rattle.std.proofs.Common.{ℕ, ◌+◌, ◌≤◌, refl, sym, subst, length, true, arith}
 use Rattle.std.specs.Prelude.{OnOk}
 use Rattle.town.specs.Views.{setup}
 use Rattle.traffic.specs.Setup.{hole_of}
@@ -17,5 +17,5 @@ returns c = λ T few h.
     let e = c.hole_of.ensures in
     subst (λ (k : ℕ). OnOk c.leave.result (AreTaken count end (t + 1) (later n k (t + hole_of S n) T) c.leave.new.self)) q
     (subst (λ (k : ℕ). OnOk c.leave.result (AreTaken count end (t + 1) (later n c.queued_in.result (t + k) T) c.leave.new.self)) e
-    (c.leave.ensures count T c.requires.there (subst (λ (k : ℕ). k ≤ T.queued n) (sym q) few)
-    (subst (λ (k : ℕ). 0 < k) (sym e) (some_hole S n)) h))
+    (c.leave.ensures (λ (m : ℕ). true) count (t + 1) T c.requires.there refl (subst (λ (k : ℕ). k ≤ T.queued n) (sym q) few)
+    (subst (λ (k : ℕ). t + 1 ≤ t + k) (sym e) (let some = some_hole S n in omega arith)) h))

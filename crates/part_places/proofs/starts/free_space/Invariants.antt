@@ -1,9 +1,7 @@
-use Rattle.std.proofs.Common.{◌≡◌, ℕ, ◌<◌, get_or}
-use Rattle.std.specs.Prelude.{Some}
-use Rattle.node_move.specs.Spaces.{places_in}
-use Rattle.node_move.specs.NodeStates.{no_link}
-use Rattle.part_places.specs.Taking.{free_place}
+use Rattle.partition.specs.Owned.{owner_in}
+use Rattle.town.specs.Views.{setup}
+use Rattle.part_places.specs.Taking.{AreFree, begins_here}
 use Rattle.part_places.proofs.starts.free_space.Given as goal
 
-abbrev pub invariant-loop-place : goal.invariant-loop-place
-invariant-loop-place l = (m : ℕ) → m < l.place → places_in l.space m ≡ Some (free_place (get_or l.links m no_link))
+abbrev pub invariant-loop-link : goal.invariant-loop-link
+invariant-loop-link l = AreFree (setup l.day) (begins_here (setup l.day) (owner_in l.owner.of_node) l.part) l.link l.space

@@ -1,4 +1,4 @@
-use Rattle.std.proofs.Common.{◌∙◌, ap, refl, sym, length}
+use Rattle.std.proofs.Common.{ℕ, ◌∙◌, ap, refl, sym, length, true}
 use Rattle.law_sleeping.specs.Marks.{before_nodes}
 use Rattle.town.specs.Views.{setup}
 use Rattle.traffic.specs.Day.{world_at}
@@ -18,7 +18,8 @@ move_nodes-requires-clause-stands c =
     let S = setup c.args.day.now in
     let V = before_nodes S c.args.second (world_at S c.args.second) in
     let end = c.args.day.now.town.now.settings.end_second in
-    let free = c.in_ok-freed.ensures.places (length S.links) end (taking S V) c.requires.in_day c.requires.stands.network.places in (
+    let all = λ (m : ℕ). true in
+    let free = c.in_ok-freed.ensures.places all (length S.links) end (taking S V) c.requires.in_day c.requires.stands.network.places in (
       V,
       nodes_find c.args.day.now c.args.second c.args.self.now.network _ c.requires.given c.requires.stands.network free refl refl
           (ap length c.in_ok-wake_starts.ensures ∙ starts_length S c.args.second c.deref.result.now c.args.self.now.network.node_wakes),
@@ -32,7 +33,8 @@ returns-clause-stands c =
     let S = setup c.args.day.now in
     let V = before_nodes S c.args.second (world_at S c.args.second) in
     let end = c.args.day.now.town.now.settings.end_second in
-    let free = c.in_ok-freed.ensures.places (length S.links) end (taking S V) c.requires.in_day c.requires.stands.network.places in
+    let all = λ (m : ℕ). true in
+    let free = c.in_ok-freed.ensures.places all (length S.links) end (taking S V) c.requires.in_day c.requires.stands.network.places in
     crossed_stands c.args.day.now c.args.second c.args.self.now _ (record c.args.self.now.network {
       places = c.free.new.self;
       node_wakes = c.wake_starts.new.node_wakes;
@@ -44,8 +46,8 @@ returns-clause-stands c =
     (ap length c.in_ok-wake_starts.ensures ∙ starts_length S c.args.second c.deref.result.now c.args.self.now.network.node_wakes))
     (free_awaited c.args.day.now c.args.second c.args.self.now.network c.deref.result.now c.wake_starts.new.node_wakes c.requires.given
     c.requires.stands.network c.in_ok-wake_starts.ensures
-    (λ m lt none. c.in_ok-freed.ensures.full (length S.links) end (taking S V) c.requires.in_day c.requires.stands.network.places m lt
-    (ap (times m) (sym c.deref.ensures.value) ∙ none))))
+    (λ m lt none. c.in_ok-freed.ensures.full all (length S.links) end (taking S V) c.requires.in_day c.requires.stands.network.places m lt
+    refl (ap (times m) (sym c.deref.ensures.value) ∙ none))))
     c.in_ok-hear_told.ensures.world c.in_ok-hear_told.ensures.followed c.in_ok-hear_told.ensures.wakes refl refl refl
 
 pub returns-clause-events : goal.returns-clause-events
@@ -53,12 +55,13 @@ returns-clause-events c =
     let S = setup c.args.day.now in
     let V = before_nodes S c.args.second (world_at S c.args.second) in
     let end = c.args.day.now.town.now.settings.end_second in
-    let free = c.in_ok-freed.ensures.places (length S.links) end (taking S V) c.requires.in_day c.requires.stands.network.places in
+    let all = λ (m : ℕ). true in
+    let free = c.in_ok-freed.ensures.places all (length S.links) end (taking S V) c.requires.in_day c.requires.stands.network.places in
     let g = c.in_ok-move_nodes.ensures V
     (nodes_find c.args.day.now c.args.second c.args.self.now.network _ c.requires.given c.requires.stands.network free refl refl
     (ap length c.in_ok-wake_starts.ensures ∙ starts_length S c.args.second c.deref.result.now c.args.self.now.network.node_wakes))
     (free_awaited c.args.day.now c.args.second c.args.self.now.network c.deref.result.now c.wake_starts.new.node_wakes c.requires.given
     c.requires.stands.network c.in_ok-wake_starts.ensures
-    (λ m lt none. c.in_ok-freed.ensures.full (length S.links) end (taking S V) c.requires.in_day c.requires.stands.network.places m lt
-    (ap (times m) (sym c.deref.ensures.value) ∙ none))) in
+    (λ m lt none. c.in_ok-freed.ensures.full all (length S.links) end (taking S V) c.requires.in_day c.requires.stands.network.places m lt
+    refl (ap (times m) (sym c.deref.ensures.value) ∙ none))) in
     c.in_ok-hear_told.ensures.events ∙ g.events

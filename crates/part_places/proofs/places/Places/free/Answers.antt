@@ -9,7 +9,7 @@ use Rattle.part_places.proofs.Freed.{freed_is, full_is}
 use Rattle.part_places.proofs.places.Places.free.Goals as goal
 
 pub returns-clause-places : goal.returns-clause-places
-returns-clause-places c = λ count end T lt h.
+returns-clause-places c = λ begins count end T lt h.
     let was = c.args.self.now in
     let now : Places = record {
       space = c.free_all.new.space;
@@ -21,13 +21,17 @@ returns-clause-places c = λ count end T lt h.
     let same : length c.free_all.new.holes ≡ length was.holes.items = (let a = c.free_all.auto.holes in let b = ap length w in omega arith) in
     let long : length c.free_all.new.holes ≡ was.holes.len = (let a = c.free_all.auto.holes in let b = c.deref_mut.ensures.len in omega arith) in
     let is : now.holes.items ≡ c.free_all.new.holes = with_items_is was.holes c.free_all.new.holes long in
-    freed_is count end c.args.second T was now c.take-links.result.items lt c.take-links.ensures.due c.take-links.ensures.rest
+    freed_is begins count end c.args.second T was now c.take-links.result.items lt c.take-links.ensures.due c.take-links.ensures.rest
     (λ m. c.in_ok-free_all.ensures.space m ∙ ap (λ (ns : List ℕ). fewer (times m ns) (places_in was.space m)) d)
     (λ m. ap (λ (xs : List ℕ). get_or xs m 0) is ∙ c.in_ok-free_all.ensures.holes m ∙ ap (λ (xs : List ℕ). get_or xs m 0 - times m c.deref-2.result.now) w
     ∙ ap (λ (ns : List ℕ). get_or was.holes.items m 0 - times m ns) d)
     (ap length is ∙ same) h
 
 pub returns-clause-full : goal.returns-clause-full
-returns-clause-full c = λ count end T lt h.
-    full_is count end c.args.second T c.args.self.now c.take-links.result.items c.in_ok-full.full.items lt c.take-links.ensures.due
+returns-clause-full c = λ begins count end T lt h.
+    full_is begins count end c.args.second T c.args.self.now c.take-links.result.items c.in_ok-full.full.items lt c.take-links.ensures.due
     (c.in_ok-full.ensures ∙ ap (filter (is_full_in c.args.self.now.space)) c.deref.ensures.value) h
+
+pub returns-clause-links : goal.returns-clause-links
+returns-clause-links c =
+    c.in_ok-full.ensures ∙ ap (filter (is_full_in c.args.self.now.space)) (c.deref.ensures.value ∙ c.take-links.ensures.due)

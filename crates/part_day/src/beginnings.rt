@@ -102,8 +102,8 @@ impl Part {
         ensures { IfOk result (λ part. Stands day.now 0 0 0 part (world_at (setup day.now) 0)) }
     {
         let owner = Owner::sole(alloc);
-        let persons = Persons::new(alloc, day)?;
-        let departures = departures_by_second(alloc, day)?;
+        let persons = Persons::new(alloc, day, &owner, 0)?;
+        let departures = departures_by_second(alloc, day, &owner, 0)?;
         let lines = empty_lines(alloc, day.town.stops.rows.len())?;
         let in_links = InLinks::new(alloc, day)?;
         let network = empty_network(alloc, day, &owner)?;

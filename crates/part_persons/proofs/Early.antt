@@ -9,8 +9,8 @@ use Rattle.std.specs.List.{AllByRecursion as Each}
 use Rattle.events.specs.declared.event.Phase.TheVariants as phase
 use Rattle.rows.specs.declared.plan.Leg.TheVariants as leg
 use Rattle.traffic.specs.Rows.{nobody}
-use Rattle.traffic.proofs.Each.{each_number, each_weaker, each_kept}
-use Rattle.traffic.proofs.Turns.{Distinct-numbers}
+use Rattle.traffic.proofs.Each.{each_all, each_number, each_weaker, each_kept}
+use Rattle.traffic.proofs.Turns.{Distinct, Distinct-numbers}
 use Rattle.traffic.proofs.Persons.{flights_apart, leaves_apart, departures_apart, other_person, TellOf, landing_moves-of, leaving_moves-of}
 use Rattle.traffic.proofs.Idle.{departure_idle}
 use Rattle.law_in_range.specs.Rows.{IsFitWorld}
@@ -21,10 +21,12 @@ use Rattle.town.specs.Views.{setup}
 use Rattle.calendar.specs.Waking.{wake_of, is_second, is_woken, woken, slept}
 use Rattle.calendar.proofs.Woken.{AreNumbers, woken_is}
 use Rattle.part_persons.specs.Dues.{due_at_place, person_due, AreFollowed}
+use Rattle.parts.specs.Owners.{Owner}
+use Rattle.part_persons.specs.Own.{starts_in, own_departures, own_departs_in}
 use Rattle.part_persons.specs.Phases.{departs_in}
 use Rattle.calendar.specs.Due.{AreIn}
 use Rattle.part_persons.proofs.InOrder.{all_turns, after_more}
-use Rattle.part_persons.proofs.Skipping.{Idle, skip_world, skip_events}
+use Rattle.part_persons.proofs.Skipping.{Idle, distinct_filter, skip_world, skip_events}
 
 -- NOTHING TO DO
 landing_none : (t i : ℕ) (w : Leg) (next : Act) (pl : Place) → due_at_place w pl ≢ Some t → landing t i w next pl ≡ []
@@ -186,27 +188,55 @@ early_by S end t W0 W1 W2 wakes due late old mid out n m lt d l h a ae b be =
     (be ∙ ap (λ (ns : List ℕ). mid ++ events_in t phase.B1 (all_turns S t phase.B1 ns W1)) same)
 
 -- DEPARTURES
+-- The turns of departures ns, of which those may be left out that are not of this second.
+pub record StartedAmong (S : Setup) (t : ℕ) (ns : List ℕ) (W0 W1 : World) (old out : List Event) : Type 0 where
+  pub world : W1 ≡ after S t (turns S t (departure_turns S t) ns W0) W0
+  pub events : out ≡ old ++ events_in t phase.B2 (turns S t (departure_turns S t) ns W0)
+
+pub started_among : (S : Setup) (t : ℕ) (ns due : List ℕ) (W0 W1 : World) (old out : List Event) → Distinct ns
+    → due ≡ filter (λ (n : ℕ). eqb (departure S n).second t) ns → W1 ≡ after S t (turns S t (departure_turns S t) due W0) W0
+    → out ≡ old ++ events_in t phase.B2 (turns S t (departure_turns S t) due W0) → StartedAmong S t ns W0 W1 old out
+started_among S t ns due W0 W1 old out apart d a ae =
+    let awake = λ (n : ℕ). eqb (departure S n).second t in
+    let starts = departure_turns S t in
+    let idle : Each (Idle awake (λ n. starts n W0)) ns
+    = each_all (Idle awake (λ n. starts n W0)) (λ n e. departure_idle S t n (eqb-false (departure S n).second t e)) ns in
+    record {
+      world = a ∙ ap (λ (ms : List ℕ). after S t (turns S t starts ms W0) W0) d ∙ skip_world S t starts awake ns W0 (departures_apart S t) apart idle;
+      events =
+          ae ∙ ap (λ (ms : List ℕ). old ++ events_in t phase.B2 (turns S t starts ms W0)) d
+          ∙ ap (λ (xs : List Event). old ++ xs) (skip_events S t phase.B2 starts awake ns W0 (departures_apart S t) apart idle);
+    }
+
+-- those of a part
+pub started_own : (S : Setup) (own : Owner) (p t : ℕ) (due : List ℕ) (W0 W1 : World) (old out : List Event) → due ≡ own_departs_in S own p t
+    → W1 ≡ after S t (turns S t (departure_turns S t) due W0) W0 → out ≡ old ++ events_in t phase.B2 (turns S t (departure_turns S t) due W0)
+    → StartedAmong S t (own_departures S own p) W0 W1 old out
+started_own S own p t due W0 W1 old out =
+    let all = below (length S.departures) in
+    started_among S t (own_departures S own p) due W0 W1 old out (distinct_filter (starts_in S own p) all (Distinct-numbers 0 (length S.departures)))
+
+pub own_in_range : (S : Setup) (own : Owner) (p t : ℕ) (due : List ℕ) → due ≡ own_departs_in S own p t → AreIn (length S.departures) due
+own_in_range S own p t due e =
+    let n = length S.departures in
+    let there : ℕ → Type 0 = λ (d : ℕ). d < n in
+    subst (λ (ns : List ℕ). AreIn n ns) (sym e)
+    (each_kept there (λ (d : ℕ). eqb (departure S d).second t) (own_departures S own p)
+    (each_kept there (starts_in S own p) (below n) (each_number n 0 n (omega arith))))
+
+-- all of a day
 pub record Started (S : Setup) (t : ℕ) (W0 W1 : World) (old out : List Event) : Type 0 where
   pub world : W1 ≡ through S t (phase.B2 ∷ []) W0
   pub events : out ≡ old ++ told_in S t (phase.B2 ∷ []) W0
 
 pub started : (S : Setup) (t : ℕ) (W0 W1 : World) (due : List ℕ) (old out : List Event) → due ≡ departs_in S t
-    → W1 ≡ after S t (all_turns S t phase.B2 due W0) W0 → out ≡ old ++ events_in t phase.B2 (all_turns S t phase.B2 due W0)
+    → W1 ≡ after S t (turns S t (departure_turns S t) due W0) W0 → out ≡ old ++ events_in t phase.B2 (turns S t (departure_turns S t) due W0)
     → Started S t W0 W1 old out
 unfolding through told_in turns_in turns_of
 started S t W0 W1 due old out d a ae =
-    let awake = λ (n : ℕ). eqb (departure S n).second t in
-    let count = length S.departures in
-    let starts = departure_turns S t in
-    let idle : Each (Idle awake (λ n. starts n W0)) (below count)
-    = all_idle count awake (λ n. starts n W0) (λ n there e. departure_idle S t n (eqb-false (departure S n).second t e)) in
-    let apart = Distinct-numbers 0 count in
-    let w = ap (λ (ns : List ℕ). after S t (turns S t starts ns W0) W0) d ∙ skip_world S t starts awake (below count) W0 (departures_apart S t) apart idle in
-    let e = ap (λ (ns : List ℕ). events_in t phase.B2 (turns S t starts ns W0)) d ∙ skip_events S t phase.B2 starts awake (below count) W0 (departures_apart S t) apart idle in
-    record {
-      world = a ∙ w;
-      events = ae ∙ ap (λ (xs : List Event). old ++ xs) (e ∙ sym (append-nil _));
-    }
+    let n = length S.departures in
+    let s = started_among S t (below n) due W0 W1 old out (Distinct-numbers 0 n) d a ae in
+    record { world = s.world; events = s.events ∙ ap (λ (xs : List Event). old ++ xs) (sym (append-nil _)) }
 
 pub departs_below : (S : Setup) (t : ℕ) → AreIn (length S.departures) (departs_in S t)
 departs_below S t = each_kept (λ (n : ℕ). n < length S.departures) (λ (n : ℕ). eqb (departure S n).second t) (below (length S.departures)) (each_number (length S.departures) 0 (length S.departures) (omega arith))

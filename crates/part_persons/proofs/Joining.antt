@@ -28,7 +28,7 @@ pub record AtStart (r : Row) : Type 0 where
   pub second : r.second ≡ 0
 
 -- it tells, or lets a vehicle in
-IsEarly : Move → Type 0
+pub IsEarly : Move → Type 0
 IsEarly (Enter now) = AtStart now
 IsEarly (Report says) = Unit {0}
 IsEarly (Transfer l s k was now) = ⊥
@@ -37,7 +37,7 @@ IsEarly (SetFrontSince l t) = ⊥
 IsEarly (Credit l c) = ⊥
 IsEarly (LeaveHole l t) = ⊥
 
-AreEarly : List Move → Type 0
+pub AreEarly : List Move → Type 0
 AreEarly [] = Unit {0}
 AreEarly (m ∷ ms) = IsEarly m × AreEarly ms
 
@@ -60,11 +60,11 @@ joined_run S t [] W P h = refl
 joined_run S t (m ∷ ms) W P h = ap (run S t ms) (joined_done S t m W P h.0) ∙ joined_run S t ms W (done S t m P) h.1
 
 -- THE TURNS OF A PHASE
-record LooksAtPersons (plan : TurnMoves) : Type 0 where
-  looks : (n : ℕ) (W P : World) → plan n (joined W P) ≡ plan n P
-  early : (n : ℕ) (P : World) → AreEarly (plan n P)
+pub record LooksAtPersons (plan : TurnMoves) : Type 0 where
+  pub looks : (n : ℕ) (W P : World) → plan n (joined W P) ≡ plan n P
+  pub early : (n : ℕ) (P : World) → AreEarly (plan n P)
 
-joined_turns : (S : Setup) (t : ℕ) (plan : TurnMoves) (ns : List ℕ) (W P : World) → LooksAtPersons plan
+pub joined_turns : (S : Setup) (t : ℕ) (plan : TurnMoves) (ns : List ℕ) (W P : World) → LooksAtPersons plan
     → turns S t plan ns (joined W P) ≡ turns S t plan ns P
 unfolding turns
 joined_turns S t plan [] W P h = refl
@@ -74,7 +74,7 @@ joined_turns S t plan (n ∷ ns) W P h =
     ∙ ap (λ (X : World). (record { number = n; moves = plan n P }) ∷ turns S t plan ns X) (joined_run S t (plan n P) W P (h.early n P))
     ∙ ap (λ us. (record { number = n; moves = plan n P }) ∷ us) (joined_turns S t plan ns W next h)
 
-joined_after : (S : Setup) (t : ℕ) (plan : TurnMoves) (ns : List ℕ) (W P : World) → LooksAtPersons plan
+pub joined_after : (S : Setup) (t : ℕ) (plan : TurnMoves) (ns : List ℕ) (W P : World) → LooksAtPersons plan
     → after S t (turns S t plan ns P) (joined W P) ≡ joined W (after S t (turns S t plan ns P) P)
 unfolding turns
 joined_after S t plan [] W P h = refl
@@ -105,7 +105,7 @@ early_departure : (S : Setup) (t d : ℕ) → AreEarly (departure_moves S t d)
 unfolding AreEarly IsEarly
 early_departure S t d = departure_walk AreEarly S t d tt (λ e. (record { stage = refl; second = refl }, tt))
 
-early_phase : (S : Setup) (t : ℕ) (p : EarlyPhase) → LooksAtPersons (turns_of S t (phase_of p))
+pub early_phase : (S : Setup) (t : ℕ) (p : EarlyPhase) → LooksAtPersons (turns_of S t (phase_of p))
 unfolding turns_of
 early_phase S t Land = record { looks = λ n W P. refl; early = λ n P. early_landing S t n (person_of n P) }
 early_phase S t Leave = record { looks = λ n W P. refl; early = λ n P. early_leaving S t n (person_of n P) }
@@ -158,7 +158,7 @@ entered_run S t (SetFrontSince l u ∷ ms) P h g = absurd h.0
 entered_run S t (Credit l c ∷ ms) P h g = absurd h.0
 entered_run S t (LeaveHole l u ∷ ms) P h g = absurd h.0
 
-entered_after : (S : Setup) (t : ℕ) (plan : TurnMoves) (ns : List ℕ) (P : World) → LooksAtPersons plan → Each AtStart P.rows
+pub entered_after : (S : Setup) (t : ℕ) (plan : TurnMoves) (ns : List ℕ) (P : World) → LooksAtPersons plan → Each AtStart P.rows
     → Each AtStart (after S t (turns S t plan ns P) P).rows
 unfolding turns
 entered_after S t plan [] P h g = g

@@ -5,3 +5,4 @@ pub mod Skipping
 pub mod Early
 pub mod Departing
 pub mod Joining
+pub mod Beginning

@@ -1,9 +1,9 @@
 -- Who is told of is followed, and nobody else is changed.
 use Rattle.std.proofs.Common.{◌≡◌, ◌≢◌, ℕ, ◌+◌, ◌<◌, ◌≤◌, Bool, true, false, List, [], ◌∷◌, ◌++◌, length, get_or, refl, ap, sym, ◌∙◌, inl, inr, arith, eqb}
-use Rattle.std.specs.Prelude.{Option, None, Some, nat_lt, ◌||◌}
+use Rattle.std.specs.Prelude.{Option, None, Some, nat_lt, ◌||◌, set}
 use Rattle.std.specs.List.{flat_map}
 use Rattle.std.proofs.lemmas.Bool.{cases_Bool, eqb-true, eqb-false, or_parts, lt-ltb}
-use Rattle.std.proofs.lemmas.List.{get_or-set_same, get_or-set_other}
+use Rattle.std.proofs.lemmas.List.{get_or-set_same, get_or-set_other, length-set}
 use Rattle.traffic.specs.declared.moves.Move.{Move}
 use Rattle.traffic.specs.declared.moves.Move.TheVariants.{Report}
 use Rattle.traffic.specs.declared.moves.Occurrence.{Occurrence}
@@ -154,3 +154,39 @@ pub everybody_followed : (S : Setup) (end k t : ℕ) (persons : List Person) (wa
     → ((i : ℕ) → i < k → i < length persons → wake_of wakes i ≡ within end (person_due S i (get_or persons i nobody))) → AreFollowed S end t persons wakes
 everybody_followed S end k t persons wakes le h = λ i u there from to due.
     h i (omega arith) there ∙ in_time u end (person_due S i (get_or persons i nobody)) to due
+
+-- ONE WHO COMES OR GOES
+pub one_followed : (S : Setup) (end i : ℕ) (P : Person) (persons now : List Person) (wakes later : List (Option ℕ)) → length wakes ≡ length persons
+    → now ≡ set persons i P → later ≡ followed S end now (Some i) wakes → (t : ℕ) → AreFollowed S end t persons wakes → AreFollowed S end t now later
+unfolding is_his
+one_followed S end i P persons now wakes later n e f t h = λ j u there from to due.
+    let same : length now ≡ length persons = ap length e ∙ length-set persons i P in
+    ap (λ (xs : List (Option ℕ)). wake_of xs j) f
+    ∙ elim (cases_Bool (eqb i j)) [
+      | inl q ↦ his_wake S end j now (Some i) wakes q there (n ∙ sym same) ∙ in_time u end (person_due S j (get_or now j nobody)) to due
+      | inr q ↦
+          let ne : i ≢ j = eqb-false i j q in
+          let kept : get_or now j nobody ≡ get_or persons j nobody
+          = ap (λ (ps : List Person). get_or ps j nobody) e ∙ get_or-set_other persons i j P nobody (λ z. ne (sym z)) in
+          other_wake S end j now (Some i) wakes q ∙ h j u (omega arith) from to (sym (ap (person_due S j) kept) ∙ due)
+    ]
+
+-- who went is looked at no more, since he has nothing to do
+pub gone_followed : (S : Setup) (end t i : ℕ) (persons now : List Person) (wakes : List (Option ℕ)) → now ≡ set persons i nobody
+    → AreFollowed S end t persons wakes → AreFollowed S end t now wakes
+gone_followed S end t i persons now wakes e h = λ j u there from to due.
+    let same : length now ≡ length persons = ap length e ∙ length-set persons i nobody in
+    let within : j < length persons = omega arith in
+    elim (cases_Bool (eqb i j)) [
+      | inl q ↦
+          let one : i ≡ j = eqb-true i j q in
+          let gone : get_or now j nobody ≡ nobody
+          = ap (λ (ps : List Person). get_or ps j nobody) e ∙ ap (λ (k : ℕ). get_or (set persons k nobody) j nobody) one
+          ∙ get_or-set_same persons j nobody nobody within in
+          absurd (let z : None ≡ Some u = sym (ap (person_due S j) gone) ∙ due in cc)
+      | inr q ↦
+          let ne : i ≢ j = eqb-false i j q in
+          let kept : get_or now j nobody ≡ get_or persons j nobody
+          = ap (λ (ps : List Person). get_or ps j nobody) e ∙ get_or-set_other persons i j nobody nobody (λ z. ne (sym z)) in
+          h j u within from to (sym (ap (person_due S j) kept) ∙ due)
+    ]

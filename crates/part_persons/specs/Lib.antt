@@ -1,2 +1,4 @@
 pub mod Dues
 pub mod Phases
+pub mod Own
+pub mod Starts

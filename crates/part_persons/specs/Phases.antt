@@ -1,5 +1,5 @@
 -- The phases before the nodes and links have theirs.
-use Rattle.std.specs.Prelude.{ℕ, ◌+◌, ◌<◌, List, [], ◌∷◌, ◌++◌, length, filter, ◌==◌, if◌then◌else◌}
+use Rattle.std.specs.Prelude.{ℕ, ◌+◌, Bool, List, [], ◌∷◌, ◌++◌, length, filter, ◌==◌, if◌then◌else◌}
 use Rattle.events.specs.declared.event.Phase.{Phase}
 use Rattle.events.specs.declared.event.Phase.TheVariants as phase
 use Rattle.rows.specs.declared.schedule.DepartureRow.{DepartureRow}
@@ -18,10 +18,10 @@ phase_of Start = phase.B2
 abbrev pub departs_in : Setup → ℕ → List ℕ
 departs_in S t = filter (λ d. (departure S d).second == t) (below (length S.departures))
 
--- the same of rows, the first of which has this number
-abbrev pub numbers_at : ℕ → ℕ → List DepartureRow → List ℕ
-numbers_at t n [] = []
-numbers_at t n (r ∷ rs) = if r.second == t then n ∷ numbers_at t (n + 1) rs else numbers_at t (n + 1) rs
+-- the numbers of those rows of which this holds, where the first row has this number
+abbrev pub numbers_where : (DepartureRow → Bool) → ℕ → List DepartureRow → List ℕ
+numbers_where p n [] = []
+numbers_where p n (r ∷ rs) = if p r then n ∷ numbers_where p (n + 1) rs else numbers_where p (n + 1) rs
 
 -- a world with these persons, in which the vehicles that they or departures let in stand last
 abbrev pub joined : World → World → World

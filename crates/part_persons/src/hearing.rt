@@ -11,7 +11,7 @@ use town::DayInput;
 use traffic::{Occurrence, Person};
 
 /// A person is looked at when his activity or his flight ends, if it does in the day.
-fn follow(
+pub(crate) fn follow(
     day: &DayInput,
     persons: &[Person],
     person: Option<u32>,

@@ -1,10 +1,13 @@
-//! The persons of a day, each of whom is looked at only in a second in which an activity or a teleported leg of his ends: the phases in
-//! which persons land and leave and departures start, exactly those of `traffic`.
+//! The persons of a day, or those of a part of its network. Each is looked at in a second in which an activity or a teleported leg of his
+//! ends: the phases in which persons land and leave and departures start, exactly those of `traffic`. Persons come from another part and go
+//! to another one.
 #![tactic(auto)]
 
 mod departures;
 mod dues;
 mod hearing;
+mod homes;
+mod moving;
 mod persons;
 mod phases;
 mod turns;

@@ -3,25 +3,30 @@
 ghost use Rattle.std.specs.Prelude.{◌≡◌, ℕ, ◌<◌, length, IfOk};
 ghost use Rattle.law_in_range.specs.Rows.{IsFitWorld};
 ghost use Rattle.law_in_range.specs.Setups.{counts_in, HaveFittingPlans};
+ghost use Rattle.partition.specs.Owned.{owner_in};
 ghost use Rattle.town.specs.Views.{setup};
 ghost use Rattle.traffic.specs.Day.{world_start};
 ghost use Rattle.part_persons.specs.Dues.{AreFollowedIn};
+ghost use Rattle.part_persons.specs.Own.{own_persons};
 
 use crate::hearing::follow_everybody;
+use crate::homes::keep_own_in;
 use calendar::Wakes;
+use partition::Owner;
 use person_moves::{World, start};
 use std::alloc::{AllocError, Global};
 use town::DayInput;
 
-/// The persons of a day, and in which second each of them is next looked at.
+/// The persons of a day, or those of a part of its network, and in which second each of them is next looked at.
 #[derive(Drop)]
 pub struct Persons {
-    /// A world that has their rows, and the rows of vehicles that they or departures let in and that were not yet put on a link.
+    /// A world that has their rows, where nobody stands for a person who is not there, and the rows of vehicles that they or departures let
+    /// in and that were not yet put on a link.
     pub world: World,
     pub wakes: Wakes,
 }
 
-/// The world at the start of a day, and for each person in which second he is first looked at.
+/// In which second each person of a world is first looked at.
 fn first_wakes(alloc: Global, day: &DayInput, world: &World) -> Result<Wakes, AllocError>
     requires names { length day.now.town.now.book.persons ≡ length day.now.chosen.now }
     requires plans { length world.now.persons ≡ length day.now.chosen.now }
@@ -34,19 +39,28 @@ fn first_wakes(alloc: Global, day: &DayInput, world: &World) -> Result<Wakes, Al
 }
 
 impl Persons {
-    /// The persons at the start of a day, each at the first activity of the chosen plan.
+    /// The persons of a part at the start of a day, each at the first activity of the chosen plan. They are those whose first activity is on
+    /// a link of the part.
     ///
     /// # Errors
     ///
     /// `AllocError`: there is no memory for them.
-    pub fn new(alloc: Global, day: &DayInput) -> Result<Persons, AllocError>
+    pub fn new(
+        alloc: Global,
+        day: &DayInput,
+        owner: &Owner,
+        part: u32,
+    ) -> Result<Persons, AllocError>
         requires { HaveFittingPlans day.now }
-        ensures world { IfOk result (λ persons. persons.world ≡ world_start (setup day.now)) }
+        ensures world { IfOk result (λ persons. persons.world ≡ record (world_start (setup day.now)) {
+          persons = own_persons (setup day.now) (owner_in owner.now.of_node) part;
+        }) }
         ensures fit { IfOk result (λ persons. IsFitWorld (counts_in day.now) persons.world) }
         ensures followed { (t : ℕ) → IfOk result (λ persons. AreFollowedIn day.now t persons.world.persons persons.wakes) }
         ensures wakes { IfOk result (λ persons. length persons.wakes ≡ length persons.world.persons) }
     {
-        let world = start(alloc, day)?;
+        let mut world = start(alloc, day)?;
+        keep_own_in(day, owner, part, &mut world);
         let wakes = first_wakes(alloc, day, &world)?;
         Ok(Persons { world, wakes })
     }

@@ -8,11 +8,11 @@ ghost use Rattle.law_in_range.specs.Setups.{counts_in, HaveFittingPlans};
 ghost use Rattle.town.specs.Views.{setup};
 ghost use Rattle.traffic.specs.Rows.{person_of};
 ghost use Rattle.traffic.specs.Moves.{run};
-ghost use Rattle.traffic.specs.Day.{turns_of, count_of, turns, after, events_of, events_in, through, told_in};
+ghost use Rattle.traffic.specs.Day.{turns_of, departure_turns, count_of, turns, after, events_of, events_in, through, told_in};
 ghost use Rattle.calendar.specs.Due.{due_at, HasNone, AreIn};
 ghost use Rattle.calendar.specs.Waking.{woken, is_woken};
 ghost use Rattle.part_persons.specs.Dues.{AreFollowedIn};
-ghost use Rattle.part_persons.specs.Phases.{phase_of, departs_in};
+ghost use Rattle.part_persons.specs.Phases.{phase_of};
 
 use crate::persons::Persons;
 use crate::turns::PhaseTurn;
@@ -171,7 +171,7 @@ impl Persons {
         Ok(due)
     }
 
-    /// The phase in which the departures of this second start.
+    /// The phase in which departures start: those that are due in this second, all of the day's or those of a part, in their order.
     ///
     /// # Errors
     ///
@@ -188,10 +188,12 @@ impl Persons {
         requires given { HaveFittingPlans day.now }
         requires fit { IsFitWorld (counts_in day.now) self.old.world }
         requires wakes { length self.old.wakes ≡ length self.old.world.persons }
-        requires departures { due_at second departures.old ≡ departs_in (setup day.now) second }
-        ensures world { OnOk result (self.new.world ≡ through (setup day.now) second (phase.B2 ∷ []) self.old.world) }
-        ensures events { OnOk result (events.new.items
-            ≡ events.old.items ++ told_in (setup day.now) second (phase.B2 ∷ []) self.old.world) }
+        requires there { AreIn (length (setup day.now).departures) (due_at second departures.old) }
+        ensures world { OnOk result (self.new.world ≡ after (setup day.now) second
+            (turns (setup day.now) second (departure_turns (setup day.now) second) (due_at second departures.old) self.old.world)
+            self.old.world) }
+        ensures events { OnOk result (events.new.items ≡ events.old.items ++ events_in second phase.B2
+            (turns (setup day.now) second (departure_turns (setup day.now) second) (due_at second departures.old) self.old.world)) }
         ensures fit { OnOk result (IsFitWorld (counts_in day.now) self.new.world) }
         ensures followed { (t : ℕ) → AreFollowedIn day.now t self.old.world.persons self.old.wakes
             → OnOk result (AreFollowedIn day.now t self.new.world.persons self.new.wakes) }

@@ -1,0 +1,37 @@
+-- Who begins a day in one partition of its network, and which departures start there.
+use Rattle.std.specs.Prelude.{ℕ, Bool, List, length, map, filter, get_or, ◌==◌, if◌then◌else◌}
+use Rattle.traffic.specs.declared.world.Person.{Person}
+use Rattle.traffic.specs.Lists.{below}
+use Rattle.traffic.specs.Rows.{nobody, person_of}
+use Rattle.traffic.specs.Setup.{Setup, act_at, departure}
+use Rattle.traffic.specs.Day.{world_start}
+use Rattle.parts.specs.Owners.{Owner, owner_of, owner_of_person}
+
+-- the persons of partition p at the start of a day; nobody stands for each of the others
+abbrev pub own_person : Setup → Owner → ℕ → ℕ → Person
+own_person S own p i = if owner_of_person S own (world_start S) i == p then person_of i (world_start S) else nobody
+
+abbrev pub own_persons : Setup → Owner → ℕ → List Person
+own_persons S own p = map (own_person S own p) (below (length S.persons))
+
+-- whether the first activity of person i's plan is on a link of partition p
+abbrev pub begins_day_in : Setup → Owner → ℕ → ℕ → Bool
+begins_day_in S own p i = owner_of S own (act_at S i 0).link == p
+
+-- nobody stands for each of these persons of whom this does not hold
+abbrev pub kept_row : (ℕ → Bool) → List Person → ℕ → Person
+kept_row mine persons i = if mine i then get_or persons i nobody else nobody
+
+abbrev pub kept_rows : (ℕ → Bool) → List Person → List Person
+kept_rows mine persons = map (kept_row mine persons) (below (length persons))
+
+-- whether a departure starts on a link of partition p, and those that do, by number
+abbrev pub starts_in : Setup → Owner → ℕ → ℕ → Bool
+starts_in S own p d = owner_of S own (get_or (departure S d).route 0 0) == p
+
+abbrev pub own_departures : Setup → Owner → ℕ → List ℕ
+own_departures S own p = filter (starts_in S own p) (below (length S.departures))
+
+-- those of them that start in second t
+abbrev pub own_departs_in : Setup → Owner → ℕ → ℕ → List ℕ
+own_departs_in S own p t = filter (λ d. (departure S d).second == t) (own_departures S own p)

@@ -1,0 +1,91 @@
+//! Persons come to a part from another one, and go to another one.
+
+ghost use Rattle.std.specs.Prelude.{◌≡◌, ◌<◌, ℕ, Some, length, set, OnOk};
+ghost use Rattle.town.specs.Views.{setup};
+ghost use Rattle.traffic.specs.Rows.{nobody, person_of};
+ghost use Rattle.traffic.specs.Setup.{Setup};
+ghost use Rattle.part_persons.specs.Dues.{AreFollowed, AreFollowedIn, followed};
+
+use crate::hearing::follow;
+use crate::homes::nobody;
+use crate::persons::Persons;
+use calendar::Wakes;
+use person_moves::{World, person_of};
+use std::alloc::AllocError;
+use town::DayInput;
+use traffic::Person;
+
+/// The person of this number has this row from now on.
+fn put_row(persons: &mut [Person], number: u32, person: Person)
+    requires { number < length persons.old }
+    ensures { persons.new ≡ set persons.old number person }
+{
+    persons[number as usize] = person;
+}
+
+/// The same in a world.
+fn put_person(world: &mut World, number: u32, person: Person)
+    requires { number < length world.old.persons }
+    ensures { world.new ≡ record world.old { persons = set world.old.persons number person } }
+{
+    put_row(&mut world.persons, number, person);
+}
+
+/// Nobody stands for the person of this number in a world from now on.
+fn take_out(world: &mut World, number: u32)
+    requires { number < length world.old.persons }
+    ensures { world.new ≡ record world.old { persons = set world.old.persons number nobody } }
+{
+    put_row(&mut world.persons, number, nobody());
+}
+
+/// A person of a world is looked at when it is his time.
+fn follow_in(
+    day: &DayInput,
+    number: u32,
+    world: &World,
+    wakes: &mut Wakes,
+) -> Result<(), AllocError>
+    requires plans { length world.now.persons ≡ length day.now.chosen.now }
+    requires wakes { length wakes.old ≡ length world.now.persons }
+    ensures { OnOk result (wakes.new
+        ≡ followed (setup day.now) day.now.town.now.settings.end_second world.now.persons (Some number) wakes.old) }
+{
+    follow(day, &world.persons, Some(number), wakes)
+}
+
+impl Persons {
+    /// A person comes to the part with this row, and is looked at when it is his time.
+    ///
+    /// # Errors
+    ///
+    /// `AllocError`: there is no memory for his second. The persons are then of no use.
+    pub fn take_in(&mut self, day: &DayInput, number: u32, person: Person) -> Result<(), AllocError>
+        requires plans { length self.old.world.persons ≡ length day.now.chosen.now }
+        requires wakes { length self.old.wakes ≡ length self.old.world.persons }
+        requires there { number < length self.old.world.persons }
+        ensures world { OnOk result (self.new.world
+            ≡ record self.old.world { persons = set self.old.world.persons number person }) }
+        ensures followed { (t : ℕ) → AreFollowedIn day.now t self.old.world.persons self.old.wakes
+            → OnOk result (AreFollowedIn day.now t self.new.world.persons self.new.wakes) }
+        ensures wakes { OnOk result (length self.new.wakes ≡ length self.new.world.persons) }
+    {
+        put_person(&mut self.world, number, person);
+        follow_in(day, number, &self.world, &mut self.wakes)?;
+        Ok(())
+    }
+
+    /// A person goes to another part; answers the row that he had. Nobody stands for him from then on, who has nothing to do by himself.
+    pub fn give_out(&mut self, number: u32) -> Person
+        requires { number < length self.old.world.persons }
+        ensures person { result ≡ person_of number self.old.world }
+        ensures world { self.new.world ≡ record self.old.world { persons = set self.old.world.persons number nobody } }
+        ensures followed { (S : Setup) (end t : ℕ) → AreFollowed S end t self.old.world.persons self.old.wakes
+            → AreFollowed S end t self.new.world.persons self.new.wakes }
+        ensures wakes { self.new.wakes ≡ self.old.wakes }
+    {
+        let person = person_of(&self.world, number);
+        take_out(&mut self.world, number);
+        person
+    }
+}

@@ -1,3 +1,5 @@
+pub mod Entries
+pub mod SpaceViews
 pub mod Spaces
 pub mod NodeStates
 pub mod Choices

@@ -1,14 +1,47 @@
 //! How many places of links are taken.
 
-ghost use Rattle.std.specs.Prelude.{◌≡◌, ℕ, ◌+◌, ◌<◌, [], ◌==◌, length, if◌then◌else◌};
-ghost use Rattle.std.specs.Prelude.{option_map, Option, Some, OnOk, OnErr, IfSome};
+ghost use Rattle.std.specs.Prelude.{◌≡◌, ℕ, ◌+◌, ◌<◌, ◌≤◌, [], ◌==◌, List, length, if◌then◌else◌};
+ghost use Rattle.std.specs.Prelude.{option_map, Option, None, Some, OnOk, OnErr, MatchOption};
 ghost use Rattle.traffic.specs.declared.node_views.OutLink.{OutLink};
 ghost use Rattle.traffic.specs.Nodes.{one_more};
+ghost use Rattle.node_move.specs.declared.space.Entry.{Entry};
+ghost use Rattle.node_move.specs.Entries.{rows_of, StandsAt};
 ghost use Rattle.node_move.specs.Spaces.{places_in};
 
-use crate::space::Space;
+use crate::space::{Entry, Space};
 use std::alloc::{AllocError, Global};
 use traffic::OutLink;
+
+/// The number of the entry of a link, where it has one.
+fn entry_of(slots: &[u32], entries: &[Entry], link: u32) -> Option<usize>
+    ensures { MatchOption result (places_in (rows_of slots.now entries.now) link ≡ None)
+        (λ number. StandsAt slots.now entries.now link number) }
+{
+    let place = link as usize;
+    if place >= slots.len() {
+        return None;
+    }
+    let number = slots[place] as usize;
+    if number >= entries.len() {
+        return None;
+    }
+    if entries[number].link != link {
+        return None;
+    }
+    Some(number)
+}
+
+/// The table reaches over this link from now on. To those that it did not reach over it gives this number, at which no entry stands.
+fn reach(slots: &mut Vec<u32>, link: usize, none: u32) -> Result<(), AllocError>
+    ensures long { OnOk result (link < length slots.new.items) }
+    ensures same { (entries : List Entry) (m : ℕ) → length entries ≤ none
+        → places_in (rows_of slots.new.items entries) m ≡ places_in (rows_of slots.old.items entries) m }
+{
+    'rows: while slots.len() <= link {
+        slots.push(none)?;
+    }
+    Ok(())
+}
 
 impl Space {
     /// No link has an entry.
@@ -16,18 +49,24 @@ impl Space {
         ensures { result ≡ [] }
     {
         Space {
-            rows: Vec::new(alloc),
+            slots: Vec::new(alloc),
+            entries: Vec::new(alloc),
         }
     }
 
-    /// The table reaches over this link from now on.
-    fn reach(&mut self, link: usize) -> Result<(), AllocError>
-        ensures long { OnOk result (link < length self.new) }
-        ensures same { (m : ℕ) → places_in self.new m ≡ places_in self.old m }
+    /// An entry more, of a link that has none.
+    fn add(&mut self, entry: Entry) -> Result<(), AllocError>
+        ensures ok { OnOk result ((m : ℕ) → places_in self.new m
+            ≡ (if m == entry.link then Some entry.places else places_in self.old m)) }
+        ensures err { OnErr result ((m : ℕ) → places_in self.new m ≡ places_in self.old m) }
     {
-        'rows: while self.rows.len() <= link {
-            self.rows.push(None)?;
-        }
+        let Ok(number) = u32::try_from(self.entries.len()) else {
+            return Err(AllocError);
+        };
+        let place = entry.link as usize;
+        reach(&mut self.slots, place, number)?;
+        self.entries.push(entry)?;
+        self.slots[place] = number;
         Ok(())
     }
 
@@ -35,26 +74,28 @@ impl Space {
     ///
     /// # Errors
     ///
-    /// `AllocError`: there is no memory for the entries up to that link. Each link then has the entry that it had.
+    /// `AllocError`: there is no memory for the entry or for the numbers up to that link. Each link then has the entry that it had.
     pub fn set(&mut self, link: u32, places: OutLink) -> Result<(), AllocError>
         ensures ok { OnOk result ((m : ℕ) → places_in self.new m ≡ (if m == link then Some places else places_in self.old m)) }
         ensures err { OnErr result ((m : ℕ) → places_in self.new m ≡ places_in self.old m) }
     {
-        let place = link as usize;
-        self.reach(place)?;
-        self.rows[place] = Some(places);
-        Ok(())
+        match entry_of(&self.slots, &self.entries, link) {
+            None => self.add(Entry { link, places }),
+            Some(number) => {
+                self.entries[number] = Entry { link, places };
+                Ok(())
+            }
+        }
     }
 
     /// The places of a link, and `None` exactly where it has no entry.
     pub fn places(&self, link: u32) -> Option<OutLink>
         ensures { result ≡ places_in self.now link }
     {
-        let place = link as usize;
-        if place < self.rows.len() {
-            return self.rows[place];
+        match entry_of(&self.slots, &self.entries, link) {
+            None => None,
+            Some(number) => Some(self.entries[number].places),
         }
-        None
     }
 
     /// How many places of a link are taken, and `None` exactly where it has no entry.
@@ -75,19 +116,21 @@ impl Space {
     pub fn take_place(&mut self, link: u32) -> Result<(), AllocError>
         ensures { OnOk result (places_in self.new ≡ one_more link (places_in self.old)) }
     {
-        let place = link as usize;
-        if place < self.rows.len() {
-            if let Some(places) = self.rows[place] {
+        match entry_of(&self.slots, &self.entries, link) {
+            None => Ok(()),
+            Some(number) => {
+                let places = self.entries[number].places;
                 let Some(taken) = places.taken.checked_add(1) else {
                     return Err(AllocError);
                 };
-                self.rows[place] = Some(OutLink {
+                let places = OutLink {
                     taken,
                     storage: places.storage,
                     seconds: places.seconds,
-                });
+                };
+                self.entries[number] = Entry { link, places };
+                Ok(())
             }
         }
-        Ok(())
     }
 }

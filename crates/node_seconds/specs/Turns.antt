@@ -1,25 +1,39 @@
--- The turn of a node by the links of a network.
-use Rattle.std.specs.Prelude.{◌≡◌, ℕ, Bool, List, map, Option}
-use Rattle.std.specs.List.{AllByRecursion as Each}
+-- The turn of a node by links in slots.
+use Rattle.std.specs.Prelude.{◌≡◌, ℕ, ◌<◌, ◌++◌, Bool, List, length, map, if◌then◌else◌, Option}
+use Rattle.std.specs.List.{flat_map, AllByRecursion as Each}
 use Rattle.draws.specs.Words.{word}
 use Rattle.traffic.specs.declared.moves.Move.{Move}
+use Rattle.traffic.specs.declared.moves.Occurrence.{Occurrence}
 use Rattle.traffic.specs.declared.node_views.OutLink.{OutLink}
-use Rattle.traffic.specs.Nodes.{node_moves, HaveNext}
+use Rattle.traffic.specs.Moves.{told}
+use Rattle.traffic.specs.Nodes.{node_moves, out_links_after, HaveNext}
 use Rattle.queue_link.specs.Links.{LinkView}
+use Rattle.node_move.specs.declared.crossings.Entering.{Entering}
 use Rattle.node_move.specs.declared.turns.NodeTurn.{NodeTurn}
-use Rattle.node_move.specs.NodeStates.{in_links_of}
-use Rattle.node_seconds.specs.Networks.{lane}
+use Rattle.node_move.specs.NodeStates.{in_links_of, buffer_after, entering_by, AreApart}
+use Rattle.node_move.specs.Spaces.{places_in}
+use Rattle.node_seconds.specs.Networks.{lane, is_among}
 
--- the moves of the turn
+-- the moves of a node by the links in these slots, with their lights, and by these places
 abbrev pub moves_in : NodeTurn → List LinkView → List ℕ → List Bool → (ℕ → Option OutLink) → List Move
 moves_in turn links into greens out_links =
     node_moves turn.stuck turn.second (word turn.draws)
     (record { in_links = in_links_of (map (lane links) into) greens; out_links = out_links })
 
--- the links of these numbers have them
-abbrev pub HaveNumbers : List LinkView → List ℕ → Type 0
-HaveNumbers links ns = Each (λ (n : ℕ). (lane links n).numbers.link ≡ n) ns
+-- the links in these slots have numbers of their own
+abbrev pub AreApartIn : List LinkView → List ℕ → Type 0
+AreApartIn links ks = AreApart (map (lane links) ks)
 
 -- their buffers hold vehicles that have next links
 abbrev pub AreReadyInto : List LinkView → List ℕ → Type 0
-AreReadyInto links ns = Each (λ (n : ℕ). HaveNext (lane links n).lists.buffer) ns
+AreReadyInto links ks = Each (λ (k : ℕ). HaveNext (lane links k).lists.buffer) ks
+
+-- What the turn of a node by the links in these slots makes of links and places, who enters other links, in order, and what it tells.
+pub record IsNodeSecond (turn : NodeTurn) (into : List ℕ) (greens : List Bool) (old_links new_links : List LinkView)
+    (old_space new_space : List (Option OutLink)) (entering : List Entering) (old_said new_said : List Occurrence) : Type 0 where
+  pub links :
+      (k : ℕ) → k < length old_links → lane new_links k
+      ≡ (if is_among k into then buffer_after (moves_in turn old_links into greens (places_in old_space)) (lane old_links k) else lane old_links k)
+  pub space : places_in new_space ≡ out_links_after (moves_in turn old_links into greens (places_in old_space)) (places_in old_space)
+  pub entered : entering ≡ flat_map entering_by (moves_in turn old_links into greens (places_in old_space))
+  pub said : new_said ≡ old_said ++ flat_map told (moves_in turn old_links into greens (places_in old_space))

@@ -21,12 +21,12 @@ use Rattle.law_parts_of_days.proofs.Taken.{some_hole}
 pub awaited_when_free : (S : Setup) (end t : ℕ) (V : World) (wakes : List (Option ℕ)) (ms : List ℕ) → length wakes ≡ S.nodes → GoOn S V
     → ((m : ℕ) → m < length S.links → times m ms ≡ 0 → IsFull t (taking S V) m → IsFull (t + 1) (taking S V) m)
     → AreAwaited S end t t wakes V → AreAwaited S end (t + 1) t (wake_starts S t ms wakes) V
-awaited_when_free S end t V wakes ms many on full h n l lt off there to =
+awaited_when_free S end t V wakes ms many on full h n l lt own off there to =
     let within : n < length wakes = omega arith in
     let w = not_woken_for S t n ms wakes within off in
     subst (λ (o : Option ℕ). BufferWaits S end (t + 1) t l o V (at l Buffer V)) (sym w.same)
     (waits_full S end t (t + 1) t l (wake_of wakes n) V (at l Buffer V) (on l there)
-    (λ m in_links joined was. full m in_links (w.none m in_links (joined ∙ to)) was) (h n l lt w.before there to))
+    (λ m in_links joined was. full m in_links (w.none m in_links (joined ∙ to)) was) (h n l lt own w.before there to))
 
 -- no place comes free in the turns of the links of second t but in a later second
 pub links_leave_taken : (S : Setup) (t m : ℕ) (V : World) → taken_before S (t + 1) m V ≤ taken_before S (t + 1) m (after S t (turns_in S t phase.D V) V)
@@ -43,7 +43,7 @@ pub awaited_after : (S : Setup) (end t : ℕ) (V : World) (old new : List LinkVi
     → LinksStand S (t + 1) new (after S t (turns_in S t phase.D V) V) → ((l : ℕ) → is_among l ns ≡ false → lane new l ≡ lane old l)
     → length before ≡ S.nodes → wakes ≡ wake_ends S t new ns before → AreAwaited S end (t + 1) (t + 1) before V
     → AreAwaited S end (t + 1) (t + 1) wakes (after S t (turns_in S t phase.D V) V)
-awaited_after S end t V old new ns before wakes stood stand others many e h n l lt off there to =
+awaited_after S end t V old new ns before wakes stood stand others many e h n l lt own off there to =
     let W = after S t (turns_in S t phase.D V) V in
     let within : n < length before = omega arith in
     let w = not_woken S t n new ns before within (subst (λ (ws : List (Option ℕ)). wake_of ws n ≢ Some (t + 1)) e off) in
@@ -55,5 +55,5 @@ awaited_after S end t V old new ns before wakes stood stand others many e h n l 
       | inr a ↦
           waits_on S end (t + 1) (t + 1) l (wake_of before n) V W
           (sym own ∙ ap (λ (v : LinkView). v.lists.buffer) (others l a) ∙ buffer_is S t l old V stood there) (λ m. links_leave_taken S t m V)
-          (h n l lt w.before there to)
+          (h n l lt own w.before there to)
     ])

@@ -1,5 +1,5 @@
 -- The part at the start of a day.
-use Rattle.traffic.proofs.Common.{◌≡◌, ℕ, ◌+◌, ◌<◌, List, [], ◌∷◌, ◌++◌, ◌∙◌, ap, refl, sym, subst, length, length-replicate, get_or, replicate, Option, None, World, Setup, world_start, world_at, into}
+use Rattle.traffic.proofs.Common.{◌≡◌, ℕ, ◌+◌, ◌<◌, List, [], ◌∷◌, ◌++◌, ◌∙◌, ap, refl, sym, subst, length, length-replicate, get_or, replicate, Option, None, World, Setup, world_start, world_at, into, below}
 use Rattle.law_in_range.specs.Rows.{IsFitWorld}
 use Rattle.law_in_range.specs.Setups.{counts_in}
 use Rattle.traffic.specs.declared.world.Waiter.{Waiter}
@@ -13,6 +13,7 @@ use Rattle.queue_link.specs.Numbers.{numbers_of}
 use Rattle.rows.specs.Networks.{IsMeasured}
 use Rattle.calendar.specs.Waking.{wake_of}
 use Rattle.part_nodes.specs.declared.network.Network.{Network}
+use Rattle.part_nodes.specs.InLinks.{slots_of}
 use Rattle.part_nodes.proofs.Held.{none_waits}
 use Rattle.part_links.specs.Links.{LinesStand}
 use Rattle.part_persons.specs.Dues.{AreFollowedIn}
@@ -40,16 +41,17 @@ network_begins day nodes links N new places n wakes m ends =
       asleep = wakes_begin S N.links.items new S.settings.dwell day.town.now.settings.end_second links N.link_wakes n wakes;
       places = places_begin S day.town.now.settings.end_second N.places places;
       nodes = ap (λ (ws : List (Option ℕ)). length ws) ends ∙ length-replicate nodes None ∙ m ∙ sym (nodes_of day);
-      awaited = λ k l lt off there to.
+      awaited = λ k l lt own off there to.
           none_waits S day.town.now.settings.end_second 0 0 l (wake_of N.node_wakes k) (world_start S) (buffers_begin S l);
     })
 
 pub part_begins : (day : DayInput) (stops : ℕ) (P : Part) → P.persons.world ≡ world_start (setup day) → IsFitWorld (counts_in day) P.persons.world
     → AreFollowedIn day 0 P.persons.world.persons P.persons.wakes → length P.persons.wakes ≡ length P.persons.world.persons
     → AreDeparting day 0 P.departures → stops ≡ length day.town.now.stops.rows → P.lines.items ≡ replicate stops []
-    → length P.in_links ≡ (setup day).nodes → ((k : ℕ) → k < (setup day).nodes → get_or P.in_links k [] ≡ into (setup day) k)
+    → P.link_slots.items ≡ below (length (setup day).links) → length P.in_links ≡ (setup day).nodes
+    → ((k : ℕ) → k < (setup day).nodes → get_or P.in_links k [] ≡ slots_of P.link_slots.items (into (setup day) k))
     → NetworkStands day 0 0 P.network (world_at (setup day) 0) → Stands day 0 0 0 P (world_at (setup day) 0)
-part_begins day stops P world fit followed looks departures n lines in_links each network =
+part_begins day stops P world fit followed looks departures n lines slots in_links each network =
     let S = setup day in
     let first = begins_with S in
     record {
@@ -63,6 +65,7 @@ part_begins day stops P world fit followed looks departures n lines in_links eac
       departures = departures;
       stops = ap (λ (ls : List (List Waiter)). length ls) lines ∙ length-replicate stops [] ∙ n ∙ sym (stops_of day);
       lines = subst (λ (W : World). LinesStand S P.lines.items W) first (lines_begin S stops P.lines.items lines);
+      slots = slots;
       in_links = in_links;
       into = each;
       network = network;

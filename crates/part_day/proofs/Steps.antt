@@ -1,5 +1,5 @@
 -- The part stands for the worlds of a second, step after step.
-use Rattle.traffic.proofs.Common.{◌≡◌, ℕ, ◌+◌, ◌<◌, ◌≤◌, false, List, [], ◌∷◌, ◌++◌, ◌∙◌, ap, refl, sym, subst, arith, length, length-set, get_or, nobody, flat_map, Option, None, Some, Event, World, Setup, world_at, turns_in, moves_of, after, told, persons_after, second, phases, into, world_start, world_from, add-one}
+use Rattle.traffic.proofs.Common.{◌≡◌, ℕ, ◌+◌, ◌<◌, ◌≤◌, false, List, [], ◌∷◌, ◌++◌, ◌∙◌, ap, refl, sym, subst, arith, true, true≢false, length, length-set, get_or, nobody, flat_map, Option, None, Some, Event, World, Setup, world_at, turns_in, moves_of, after, told, persons_after, second, phases, into, world_start, world_from, add-one}
 use Rattle.events.specs.declared.event.Phase.TheVariants as phase
 use Rattle.traffic.specs.declared.moves.Occurrence.{Occurrence}
 use Rattle.traffic.specs.declared.stage.Stage.TheVariants.{Queue, Buffer}
@@ -35,6 +35,8 @@ use Rattle.law_joined_routes.proofs.Routes.{town_goes_on}
 use Rattle.law_in_range.proofs.Days.{chosen_fit}
 use Rattle.node_seconds.specs.Networks.{lane, is_among}
 use Rattle.part_links.specs.Phase as phase_of_links
+use Rattle.node_move.specs.declared.crossings.Entering.{Entering}
+use Rattle.part_nodes.specs.InLinks.{slots_of}
 use Rattle.part_nodes.specs.Phase.{StandsFor, AreAwaited, IsPhase}
 use Rattle.part_nodes.proofs.Held.{before_same, awaited_on}
 use Rattle.part_day.proofs.Awaiting.{awaited_when_free, awaited_after}
@@ -85,7 +87,7 @@ network_out day t N M W P P1 P2 given lt h out fit links wakes places nodes =
           (λ m lt. setting.same_holes day t W P P1 P2 out m)) h.places);
       nodes = ap (λ (ws : List (Option ℕ)). length ws) nodes ∙ h.nodes;
       awaited = subst (λ (ws : List (Option ℕ)). AreAwaited S end t t ws V) (sym nodes)
-          (awaited_on S end t t N.node_wakes W V (λ l there. setting.same_at day t W P P1 P2 out l Buffer refl)
+          (awaited_on (λ (n : ℕ). true) S end t t N.node_wakes W V (λ l there own. setting.same_at day t W P P1 P2 out l Buffer refl)
           (λ m.
           let e = before_same S t m W V (setting.same_at day t W P P1 P2 out m Queue refl) (setting.same_holes day t W P P1 P2 out m) in
           omega arith) h.awaited);
@@ -97,12 +99,12 @@ pub set_out_stands : (day : DayInput) (t : ℕ) (P Q : Part) (P1 P2 : World) (ns
     → HasSetOut day t (world_at (setup day) t) P.persons.world P1 P2 → ns ≡ woken t P.persons.wakes → IsFitWorld (counts_in day) P2
     → Q.persons.world ≡ record P2 { rows = [] } → AreFollowedIn day (t + 1) P2.persons Q.persons.wakes
     → length Q.persons.wakes ≡ length P2.persons → HasNone t P.departures Q.departures
-    → Q.lines.items ≡ joined_lines (setup day) t P2.persons ns P.lines.items → Q.in_links ≡ P.in_links
+    → Q.lines.items ≡ joined_lines (setup day) t P2.persons ns P.lines.items → Q.link_slots.items ≡ P.link_slots.items → Q.in_links ≡ P.in_links
     → Q.network.links.items ≡ all_started P2.rows P.network.links.items
     → Q.network.link_wakes ≡ woken_for_all t P2.rows P.network.link_wakes → Q.network.places ≡ P.network.places
     → Q.network.node_wakes ≡ P.network.node_wakes
     → Stands day (t + 1) t t Q (before_nodes (setup day) t (world_at (setup day) t))
-set_out_stands day t P Q P1 P2 ns given lt h out due fit world followed looks none lines in_links links wakes places nodes =
+set_out_stands day t P Q P1 P2 ns given lt h out due fit world followed looks none lines slots in_links links wakes places nodes =
     let S = setup day in
     let W = world_at S t in
     let V = before_nodes S t W in
@@ -117,7 +119,10 @@ set_out_stands day t P Q P1 P2 ns given lt h out due fit world followed looks no
       lines = subst (λ (ls : List (List Waiter)). LinesStand S ls V) (sym now)
           (setting.lines_stand day t R P.persons.wakes ns P.lines.items given lt h.persons.persons h.persons.looks due h.persons.followed h.stops h.lines);
       in_links = ap (λ (ls : List (List ℕ)). length ls) in_links ∙ h.in_links;
-      into = λ k within. ap (λ (ls : List (List ℕ)). get_or ls k []) in_links ∙ h.into k within;
+      slots = slots ∙ h.slots;
+      into = λ k within.
+          ap (λ (ls : List (List ℕ)). get_or ls k []) in_links ∙ h.into k within
+          ∙ ap (λ (ks : List ℕ). slots_of ks (into (setup day) k)) (sym slots);
       network = network_out day t P.network Q.network W R P1 P2 given lt h.network out fit links wakes places nodes;
     }
 
@@ -137,13 +142,14 @@ nodes_find day t N M given h free links wakes nodes =
     record {
       links = record {
         fit = phases_fit day t early given;
-        on = town_goes_on day t early (chosen_fit day given);
+        on = λ l lt own. town_goes_on day t early (chosen_fit day given) l lt;
         stand = subst (λ (vs : List LinkView). LinksStand S t vs V) (sym links) h.links;
         asleep = subst (λ (vs : List LinkView). AreAsleep S.settings.dwell end t vs M.link_wakes) (sym links)
             (subst (λ (ws : List (Option ℕ)). AreAsleep S.settings.dwell end t N.links.items ws) (sym wakes) h.asleep);
-        places = places_now S end t V M.places free;
+        places = λ m lt own. places_now S end t V M.places free m lt;
       };
       nodes = nodes ∙ h.nodes;
+      only = λ n foreign. absurd (true≢false foreign);
     }
 
 -- those who wait once the places of a second are free and nodes were woken for them
@@ -162,17 +168,17 @@ free_awaited day t N ms wakes given h e full =
     (town_goes_on day t (phase.A ∷ phase.B1 ∷ phase.B2 ∷ []) (chosen_fit day given)) full h.awaited)
 
 -- the part once the nodes had their turns
-pub crossed_stands : (day : DayInput) (t : ℕ) (P Q : Part) (N : Network) (first out : List Event) (spoken said : List Occurrence) → HaveFittingPlans day → spoken ≡ []
-    → Stands day (t + 1) t t P (before_nodes (setup day) t (world_at (setup day) t))
+pub crossed_stands : (day : DayInput) (t : ℕ) (P Q : Part) (N : Network) (first out : List Event) (spoken said : List Occurrence) (first_out gone : List Entering)
+    → HaveFittingPlans day → spoken ≡ [] → Stands day (t + 1) t t P (before_nodes (setup day) t (world_at (setup day) t))
     → AreTaken (length (setup day).links) day.town.now.settings.end_second (t + 1)
     (taking (setup day) (before_nodes (setup day) t (world_at (setup day) t))) N.places
     → IsPhase (counts_in day) (setup day) day.town.now.settings.end_second t (before_nodes (setup day) t (world_at (setup day) t)) N Q.network
-    first out spoken said
+    first out spoken said first_out gone
     → Q.persons.world ≡ record P.persons.world { persons = persons_after (setup day) t said P.persons.world.persons }
     → ((u : ℕ) → AreFollowedIn day u P.persons.world.persons P.persons.wakes → AreFollowedIn day u Q.persons.world.persons Q.persons.wakes)
     → length Q.persons.wakes ≡ length Q.persons.world.persons → Q.departures ≡ P.departures → Q.lines.items ≡ P.lines.items
-    → Q.in_links ≡ P.in_links → Stands day (t + 1) (t + 1) t Q (before_links (setup day) t (world_at (setup day) t))
-crossed_stands day t P Q N first out spoken said given silent h free g world followed looks departures lines in_links =
+    → Q.link_slots.items ≡ P.link_slots.items → Q.in_links ≡ P.in_links → Stands day (t + 1) (t + 1) t Q (before_links (setup day) t (world_at (setup day) t))
+crossed_stands day t P Q N first out spoken said first_out gone given silent h free g world followed looks departures lines slots in_links =
     let S = setup day in
     let end = day.town.now.settings.end_second in
     let W = world_at S t in
@@ -190,11 +196,15 @@ crossed_stands day t P Q N first out spoken said given silent h free g world fol
       lines = subst (λ (ls : List (List Waiter)). LinesStand S ls next) (sym lines)
           (lines_after S t P.lines.items V (all_in_one day t (phase.A ∷ phase.B1 ∷ phase.B2 ∷ []) given) h.lines);
       in_links = ap (λ (ls : List (List ℕ)). length ls) in_links ∙ h.in_links;
-      into = λ k within. ap (λ (ls : List (List ℕ)). get_or ls k []) in_links ∙ h.into k within;
+      slots = slots ∙ h.slots;
+      into = λ k within.
+          ap (λ (ls : List (List ℕ)). get_or ls k []) in_links ∙ h.into k within
+          ∙ ap (λ (ks : List ℕ). slots_of ks (into (setup day) k)) (sym slots);
       network = record {
         links = g.stands.links.stand;
         asleep = g.stands.links.asleep;
-        places = places_after S end t V next N.places Q.network.places (λ m. nodes_keep_holes S t m V) g.holes g.freed g.stands.links.places free;
+        places = places_after S end t V next N.places Q.network.places (λ m. nodes_keep_holes S t m V) g.holes g.freed
+            (λ m lt. g.stands.links.places m lt refl) free;
         nodes = g.stands.nodes;
         awaited = g.awaited;
       };
@@ -214,8 +224,8 @@ pub driven_stands : (day : DayInput) (t : ℕ) (P Q : Part) (ns : List ℕ) (fir
     → Q.persons.world ≡ record P.persons.world { persons = persons_after (setup day) t said P.persons.world.persons }
     → ((u : ℕ) → AreFollowedIn day u P.persons.world.persons P.persons.wakes → AreFollowedIn day u Q.persons.world.persons Q.persons.wakes)
     → length Q.persons.wakes ≡ length Q.persons.world.persons → Q.departures ≡ P.departures
-    → Q.in_links ≡ P.in_links → Stands day (t + 1) (t + 1) (t + 1) Q (second (setup day) t (world_at (setup day) t))
-driven_stands day t P Q ns first out spoken said given silent h g others places nodes stops world followed looks departures in_links =
+    → Q.link_slots.items ≡ P.link_slots.items → Q.in_links ≡ P.in_links → Stands day (t + 1) (t + 1) (t + 1) Q (second (setup day) t (world_at (setup day) t))
+driven_stands day t P Q ns first out spoken said given silent h g others places nodes stops world followed looks departures slots in_links =
     let S = setup day in
     let end = day.town.now.settings.end_second in
     let W = world_at S t in
@@ -233,7 +243,10 @@ driven_stands day t P Q ns first out spoken said given silent h g others places 
       stops = stops ∙ h.stops;
       lines = g.lines;
       in_links = ap (λ (ls : List (List ℕ)). length ls) in_links ∙ h.in_links;
-      into = λ k within. ap (λ (ls : List (List ℕ)). get_or ls k []) in_links ∙ h.into k within;
+      slots = slots ∙ h.slots;
+      into = λ k within.
+          ap (λ (ls : List (List ℕ)). get_or ls k []) in_links ∙ h.into k within
+          ∙ ap (λ (ks : List ℕ). slots_of ks (into (setup day) k)) (sym slots);
       network = record {
         links = g.links;
         asleep = g.asleep;

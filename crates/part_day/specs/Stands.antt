@@ -3,9 +3,11 @@ use Rattle.std.specs.Prelude.{◌≡◌, ℕ, ◌<◌, [], length, get_or}
 use Rattle.town.specs.declared.day_input.DayInput.{DayInput}
 use Rattle.town.specs.Views.{setup}
 use Rattle.traffic.specs.Rows.{World}
+use Rattle.traffic.specs.Lists.{below}
 use Rattle.traffic.specs.Setup.{into}
 use Rattle.part_links.specs.Links.{LinksStand, LinesStand, AreAsleep}
 use Rattle.part_nodes.specs.declared.network.Network.{Network}
+use Rattle.part_nodes.specs.InLinks.{slots_of}
 use Rattle.part_nodes.specs.Phase.{AreAwaited}
 use Rattle.part_places.specs.Taking.{AreTaken}
 use Rattle.law_parts_of_days.specs.Persons.{PersonsStand, AreDeparting}
@@ -32,8 +34,9 @@ pub record Stands (day : DayInput) (p n l : ℕ) (P : Part) (V : World) : Type 0
   pub departures : AreDeparting day p P.departures
   pub stops : length P.lines.items ≡ length (setup day).stops
   pub lines : LinesStand (setup day) P.lines.items V
+  pub slots : P.link_slots.items ≡ below (length (setup day).links)
   pub in_links : length P.in_links ≡ (setup day).nodes
-  pub into : (k : ℕ) → k < (setup day).nodes → get_or P.in_links k [] ≡ into (setup day) k
+  pub into : (k : ℕ) → k < (setup day).nodes → get_or P.in_links k [] ≡ slots_of P.link_slots.items (into (setup day) k)
   pub network : NetworkStands day n l P.network V
 
 -- after t seconds the part stands for the world of the day, and this is what the partition that has all nodes has of it

@@ -8,10 +8,12 @@ ghost use Rattle.queue_link.specs.Numbers.{numbers_of};
 ghost use Rattle.rows.specs.Networks.{IsMeasured};
 ghost use Rattle.town.specs.Views.{setup};
 ghost use Rattle.traffic.specs.Day.{world_at};
+ghost use Rattle.traffic.specs.Lists.{below};
 ghost use Rattle.law_parts_of_days.specs.Beginning.{AreFresh};
 ghost use Rattle.part_day.specs.Stands.{Stands, NetworkStands};
 
 use crate::part::Part;
+use crate::settling::count_of;
 use calendar::Wakes;
 use part_nodes::{InLinks, Network};
 use part_persons::{Persons, departures_by_second};
@@ -74,6 +76,18 @@ fn empty_lines(alloc: Global, count: usize) -> Result<Vec<Waiting>, AllocError>
     Ok(lines)
 }
 
+/// The slot of each of these links: its number.
+fn own_slots(alloc: Global, links: &LinkList) -> Result<Vec<u32>, AllocError>
+    requires { length links.now ≤ MAX_LINKS }
+    ensures { IfOk result (λ slots. slots.items ≡ below (length links.now)) }
+{
+    let mut slots = Vec::new(alloc);
+    for number in 0..count_of(links) {
+        slots.push(number as u32)?;
+    }
+    Ok(slots)
+}
+
 /// The network of a town, on which nobody is, where one part has all of it.
 fn empty_network(alloc: Global, day: &DayInput, owner: &Owner) -> Result<Network, AllocError>
     requires { owner.now.of_node ≡ [] }
@@ -105,12 +119,14 @@ impl Part {
         let persons = Persons::new(alloc, day, &owner, 0)?;
         let departures = departures_by_second(alloc, day, &owner, 0)?;
         let lines = empty_lines(alloc, day.town.stops.rows.len())?;
-        let in_links = InLinks::new(alloc, day)?;
+        let link_slots = own_slots(alloc, &day.town.network.links)?;
+        let in_links = InLinks::new(alloc, day, &link_slots)?;
         let network = empty_network(alloc, day, &owner)?;
         Ok(Part {
             persons,
             departures,
             lines,
+            link_slots,
             in_links,
             network,
         })

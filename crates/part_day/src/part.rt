@@ -11,6 +11,8 @@ pub struct Part {
     pub(crate) departures: Calendar,
     /// Those who wait, by stop.
     pub(crate) lines: Vec<Waiting>,
+    /// The slot of each link: its number, since all links are here.
+    pub(crate) link_slots: Vec<u32>,
     pub(crate) in_links: InLinks,
     pub(crate) network: Network,
 }

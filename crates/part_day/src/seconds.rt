@@ -85,8 +85,15 @@ impl Part {
     {
         let freed = self.network.places.free(second)?;
         wake_starts(day, second, &freed, &mut self.network.node_wakes)?;
-        let phase = NodePhase { day, second };
-        move_nodes(alloc, &phase, &self.in_links, &mut self.network, told)?;
+        let phase = NodePhase {
+            day,
+            second,
+            link_slots: &self.link_slots,
+        };
+        let mut out = Vec::new(alloc);
+        move_nodes(&phase, &self.in_links, &mut self.network, told, &mut out)?;
+        let all_stay = out.is_empty();
+        prove!(all_stay);
         hear_told(alloc, day, second, told, &mut self.persons)?;
         Ok(())
     }

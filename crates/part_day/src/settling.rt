@@ -83,7 +83,7 @@ fn wake_end(
 }
 
 /// How many links there are.
-fn count_of(links: &LinkList) -> usize
+pub(crate) fn count_of(links: &LinkList) -> usize
     ensures { result ≡ length links.now }
 {
     links.rows.len()

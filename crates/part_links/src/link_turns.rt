@@ -17,6 +17,7 @@ ghost use Rattle.part_links.specs.Phase.{IsTurn};
 use calendar::{Wakes, within};
 use events::{Event, Phase};
 use link_seconds::link_second;
+use node_seconds::number_at;
 use person_moves::push_keyed;
 use queue_link::LinkState;
 use riders::Waiting;
@@ -65,16 +66,6 @@ impl Told {
         self.said.extend_from_slice(said)?;
         Ok(())
     }
-}
-
-/// The number of the link in a slot.
-#[tactic(auto, using(node_move::proofs::Places::is_at))]
-fn number_at(links: &[LinkState], slot: u32) -> u32
-    requires { slot < length links.now }
-    ensures { result ≡ (lane links.now slot).numbers.link }
-{
-    let link = &links[slot as usize];
-    link.numbers().link
 }
 
 /// The second of the link in a slot; answers what it tells.

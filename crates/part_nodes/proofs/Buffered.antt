@@ -1,5 +1,6 @@
 -- Of the links into a node only those with somebody in their buffers matter.
-use Rattle.traffic.proofs.Common.{◌≡◌, ℕ, suc, ◌+◌, ◌<◌, ◌≤◌, Bool, true, false, List, [], ◌∷◌, ◌++◌, ◌∙◌, ap, refl, sym, arith, inl, inr, length, map, filter, not, ◌||◌}
+use Rattle.traffic.proofs.Common.{◌≡◌, ℕ, suc, ◌+◌, ◌<◌, ◌≤◌, Bool, true, false, List, [], ◌∷◌, ◌++◌, ◌∙◌, ap, refl, sym, subst, arith, inl, inr, length, map, filter, not, ◌||◌}
+use Rattle.std.specs.List.{AllByRecursion as Each}
 use Rattle.traffic.proofs.Common.{cases_Bool, eqb, eqb-true, or_parts, true≢false, nat_lt, lt-ltb, Option, Some, World, Setup, at, into, link_row, in_link, out_link, ready, mark, draw, node_moves, node_turns, word}
 use Rattle.rows.specs.declared.settings.Stuck.{Stuck}
 use Rattle.draws.specs.Words.{Source}
@@ -9,18 +10,18 @@ use Rattle.traffic.specs.declared.node_views.OutLink.{OutLink}
 use Rattle.traffic.specs.declared.stage.Stage.TheVariants.{Buffer}
 use Rattle.traffic.specs.declared.world.Row.{Row}
 use Rattle.traffic.specs.Lists.{is_nil}
-use Rattle.traffic.proofs.Each.{each_kept}
-use Rattle.law_joined_routes.specs.Going.{GoOn}
 use Rattle.queue_link.specs.Links.{LinkView}
 use Rattle.node_move.specs.Spaces.{places_in}
 use Rattle.node_move.specs.NodeStates.{in_links_of}
 use Rattle.node_seconds.specs.Networks.{lane, is_among, AreOnce}
 use Rattle.calendar.specs.Due.{AreIn}
-use Rattle.part_links.specs.Links.{LinksStand}
+use Rattle.part_links.specs.Links.{LinksStandAt}
+use Rattle.part_nodes.specs.InLinks.{slots_of}
 use Rattle.part_nodes.specs.Turns.{IsTurnOf, lights_of, is_buffered}
-use Rattle.part_nodes.specs.Phase.{places_at}
+use Rattle.part_nodes.specs.Phase.{Extent, HasLinks, GoOnThere, places_at}
 use Rattle.part_nodes.proofs.Leading.{node_same}
-use Rattle.part_nodes.proofs.Seen.{IsOut, buffer_is, into_there, into_to, in_links_are, out_agree, all_lead}
+use Rattle.part_nodes.proofs.Seen.{IsOut, buffer_is, into_to, in_links_are, out_agree, all_lead}
+use Rattle.part_nodes.proofs.Slots.{numbers_there, node_there, node_back}
 
 -- THOSE THAT PASS A TEST
 pub in_some : (p : ℕ → Bool) (count : ℕ) (ls : List ℕ) → AreIn count ls → AreIn count (filter p ls)
@@ -92,33 +93,48 @@ some_ready : (xs ys : List Row) → ys ≡ xs → not (is_nil xs) ≡ nat_lt 0 (
 some_ready [] ys e = ap (λ (zs : List Row). nat_lt 0 (length zs)) (sym e)
 some_ready (x ∷ xs) ys e = sym (lt-ltb 0 (suc (length xs)) (omega arith)) ∙ ap (λ (zs : List Row). nat_lt 0 (length zs)) (sym e)
 
-ready_some : (S : Setup) (t : ℕ) (links : List LinkView) (V : World) (ls : List ℕ) → AreIn (length S.links) ls → LinksStand S t links V
-    → ready (map (in_link S t V) (filter (is_buffered links) ls)) ≡ ready (map (in_link S t V) ls)
-ready_some S t links V [] there h = refl
-ready_some S t links V (l ∷ ls) there h =
-    let rest = ready_some S t links V ls there.1 h in
-    let same = some_ready (at l Buffer V) (lane links l).lists.buffer (buffer_is S t l links V there.0 h) in
-    elim (cases_Bool (is_buffered links l)) [
-      | inl e ↦ let r = same ∙ e in simp (e, r) (ap (λ (es : List InLink). in_link S t V l ∷ es) rest)
+ready_some : (E : Extent) (S : Setup) (t : ℕ) (links : List LinkView) (V : World) (ks : List ℕ) → AreIn E.size ks
+    → LinksStandAt E.number E.size S t links V
+    → ready (map (in_link S t V) (map E.number (filter (is_buffered links) ks))) ≡ ready (map (in_link S t V) (map E.number ks))
+ready_some E S t links V [] there h = refl
+ready_some E S t links V (k ∷ ks) there h =
+    let rest = ready_some E S t links V ks there.1 h in
+    let same = some_ready (at (E.number k) Buffer V) (lane links k).lists.buffer (buffer_is E S t k links V there.0 h) in
+    elim (cases_Bool (is_buffered links k)) [
+      | inl e ↦ let r = same ∙ e in simp (e, r) (ap (λ (es : List InLink). in_link S t V (E.number k) ∷ es) rest)
       | inr e ↦ let r = same ∙ e in simp (e, r) rest
     ]
 
-pub moves_of_some : (S : Setup) (t n : ℕ) (K : Stuck) (second : ℕ) (s : Source) (links : List LinkView) (space : List (Option OutLink)) (V : World)
-    (ls : List ℕ) → ls ≡ filter (is_buffered links) (into S n) → IsTurnOf S t n K second s → LinksStand S t links V → GoOn S V
-    → ((m : ℕ) → m < length S.links → places_in space m ≡ Some (places_at S t V m))
-    → node_moves K second (word s) (record { in_links = in_links_of (map (lane links) ls) (lights_of S t ls); out_links = places_in space })
+each_some : (P : ℕ → Type 0) (f : ℕ → ℕ) (p : ℕ → Bool) (ks : List ℕ) → Each P (map f ks) → Each P (map f (filter p ks))
+each_some P f p [] h = tt
+each_some P f p (k ∷ ks) h =
+    let rest = each_some P f p ks h.1 in
+    elim (cases_Bool (p k)) [ inl e ↦ rw e (h.0, rest) | inr e ↦ rw e rest ]
+
+pub moves_of_some : (E : Extent) (S : Setup) (t n : ℕ) (K : Stuck) (second : ℕ) (s : Source) (links : List LinkView) (space : List (Option OutLink))
+    (V : World) (slots ks : List ℕ) → ks ≡ filter (is_buffered links) (slots_of slots (into S n)) → HasLinks S E slots → E.mine n ≡ true
+    → IsTurnOf S t n K second s → LinksStandAt E.number E.size S t links V → GoOnThere E.mine S V
+    → ((m : ℕ) → m < length S.links → E.mine (link_row S m).from ≡ true → places_in space m ≡ Some (places_at S t V m))
+    → node_moves K second (word s) (record { in_links = in_links_of (map (lane links) ks) (lights_of S t links ks); out_links = places_in space })
     ≡ node_turns S t n V
-moves_of_some S t n K second s links space V ls are turn h on places =
-    let some = filter (is_buffered links) (into S n) in
-    let es = map (in_link S t V) some in
-    let there : AreIn (length S.links) some = in_some (is_buffered links) (length S.links) (into S n) (into_there S n) in
-    let to = each_kept (λ (l : ℕ). (link_row S l).to ≡ n) (is_buffered links) (into S n) (into_to S n) in
+moves_of_some E S t n K second s links space V slots ks are has own turn h on places =
+    let all = slots_of slots (into S n) in
+    let some = filter (is_buffered links) all in
+    let ls = map E.number some in
+    let es = map (in_link S t V) ls in
+    let there_all : AreIn E.size all = node_there S E slots n has own in
+    let there : AreIn E.size some = in_some (is_buffered links) E.size all there_all in
+    let back : map E.number all ≡ into S n = node_back S E slots n has own in
+    let to : Each (λ (l : ℕ). (link_row S l).to ≡ n) ls
+    = each_some (λ (l : ℕ). (link_row S l).to ≡ n) E.number (is_buffered links) all
+    (subst (λ (ns : List ℕ). Each (λ (l : ℕ). (link_row S l).to ≡ n) ns) (sym back) (into_to S n)) in
     let f : Stuck → ℕ → (ℕ → ℕ) → List InLink → List Move = λ k u w xs. node_moves k u w (record { in_links = xs; out_links = places_in space }) in
-    ap (λ (ks : List ℕ). f K second (word s) (in_links_of (map (lane links) ks) (lights_of S t ks))) are
-    ∙ ap (λ (k : Stuck). f k second (word s) (in_links_of (map (lane links) some) (lights_of S t some))) turn.stuck
-    ∙ ap (λ (u : ℕ). f S.settings.stuck u (word s) (in_links_of (map (lane links) some) (lights_of S t some))) turn.second
-    ∙ ap (λ (w : ℕ → ℕ). f S.settings.stuck t w (in_links_of (map (lane links) some) (lights_of S t some))) turn.words
-    ∙ ap (λ (xs : List InLink). f S.settings.stuck t (S.word n) xs) (in_links_are S t links V some there h)
-    ∙ node_same (IsOut S n) S.settings.stuck t (S.word n) es (places_in space) (out_link S t n V) (out_agree S t n space V places)
-    (all_lead S t n V some on there to)
-    ∙ same_ready S.settings.stuck t (S.word n) es (map (in_link S t V) (into S n)) (out_link S t n V) (ready_some S t links V (into S n) (into_there S n) h)
+    ap (λ (js : List ℕ). f K second (word s) (in_links_of (map (lane links) js) (lights_of S t links js))) are
+    ∙ ap (λ (k : Stuck). f k second (word s) (in_links_of (map (lane links) some) (lights_of S t links some))) turn.stuck
+    ∙ ap (λ (u : ℕ). f S.settings.stuck u (word s) (in_links_of (map (lane links) some) (lights_of S t links some))) turn.second
+    ∙ ap (λ (w : ℕ → ℕ). f S.settings.stuck t w (in_links_of (map (lane links) some) (lights_of S t links some))) turn.words
+    ∙ ap (λ (xs : List InLink). f S.settings.stuck t (S.word n) xs) (in_links_are E S t links V some there h)
+    ∙ node_same (IsOut S n) S.settings.stuck t (S.word n) es (places_in space) (out_link S t n V) (out_agree E S t n space V own places)
+    (all_lead E S t n V ls on own (numbers_there S E some has.numbered there) to)
+    ∙ same_ready S.settings.stuck t (S.word n) es (map (in_link S t V) (map E.number all)) (out_link S t n V) (ready_some E S t links V all there_all h)
+    ∙ ap (λ (ns : List ℕ). node_moves S.settings.stuck t (S.word n) (record { in_links = map (in_link S t V) ns; out_links = out_link S t n V })) back

@@ -1,7 +1,7 @@
 -- The moves of a node: rows leave buffers, for the queues of links that are there.
 use Rattle.traffic.proofs.Common.{◌≡◌, ℕ, List, ◌∙◌, length, ap, refl, sym, [], ◌∷◌, ◌++◌, arith, ◌<◌, ◌+◌, true, false, Bool, inl, inr, eqb, subst, flat_map}
 use Rattle.traffic.proofs.Common.{Some, Option, cases_Bool, eqb-true, eqb-false, eq-eqb, ne_eqb, and_parts, append-nil, append_assoc, length-append, ◌&&◌, ◌||◌, if◌then◌else◌}
-use Rattle.traffic.proofs.Common.{node_turns, World, on, at, rank, same, Setup, seconds_of, at_after_all, run, out_links_after, one_more, with_one_more}
+use Rattle.traffic.proofs.Common.{map, filter, map-append, flat_map-append, not, true≢false, node_turns, World, on, at, rank, same, Setup, link_row, seconds_of, at_after_all, run, out_links_after, one_more, with_one_more}
 use Rattle.traffic.proofs.Common.{out_link, is_out_link, has_room, is_stuck, next_link, without_at, on_front, at_second, in_force, hole_of, holes_at, taken_at, done, storage_of}
 use Rattle.traffic.specs.declared.moves.Move.{Move}
 use Rattle.traffic.specs.declared.moves.Move.TheVariants.{Transfer, Remove, SetFrontSince}
@@ -21,7 +21,8 @@ use Rattle.law_in_range.specs.Moves.{AreFitMoves}
 use Rattle.queue_link.specs.Links.{row_on}
 use Rattle.node_move.specs.declared.crossings.Entering.{Entering}
 use Rattle.node_move.specs.NodeStates.{entering_by}
-use Rattle.part_nodes.specs.Phase.{places_at}
+use Rattle.parts.specs.Parts.{enters_queue}
+use Rattle.part_nodes.specs.Phase.{places_at, entering_of, going_out}
 
 -- a row leaves a buffer into a queue, where it stays for the free seconds of the link
 abbrev IsPassing : Setup → ℕ → Move → Type 0
@@ -151,6 +152,35 @@ buffer_empty S t l ms xs h e =
     none_left : (ys : List Row) → Each (λ (r : Row). ⊥) ys → ys ≡ []
     none_left [] h = refl
     none_left (y ∷ ys) h = absurd h.0
+
+-- WHO GOES OUT
+-- whoever passes one test enters a link that passes the other
+picked : (b c : Bool) (now : Row) (es : List Entering) (rows : List Row) → b ≡ c → es ≡ map entering_of rows
+    → (if b then entering_of now ∷ es else es) ≡ map entering_of ((if c then now ∷ [] else []) ++ rows)
+picked true true now es rows e h = ap (λ (xs : List Entering). entering_of now ∷ xs) h
+picked false false now es rows e h = h
+picked true false now es rows e h = absurd (true≢false e)
+picked false true now es rows e h = absurd (true≢false (sym e))
+
+and_yes : (b c : Bool) → c ≡ true → b ≡ (b && c)
+and_yes true c e = sym e
+and_yes false c e = refl
+
+pub out_rows : (S : Setup) (t : ℕ) (p : Entering → Bool) (q : ℕ → Bool) (ms : List Move) → ((e : Entering) → e.link < length S.links → p e ≡ q e.link)
+    → AreCrossings S t ms → filter p (flat_map entering_by ms) ≡ map entering_of (flat_map (enters_queue q) ms)
+out_rows S t p q [] f h = refl
+out_rows S t p q (Transfer a Buffer k was now ∷ ms) f h =
+    let there : on now.link Queue now ≡ true = on_queue now.link now h.0.0 ∙ eq-eqb now.link now.link refl in
+    picked (p (entering_of now)) (q now.link && on now.link Queue now) now (filter p (flat_map entering_by ms)) (flat_map (enters_queue q) ms)
+    (f (entering_of now) h.0.2 ∙ and_yes (q now.link) (on now.link Queue now) there) (out_rows S t p q ms f h.1)
+out_rows S t p q (Remove a Buffer k was ∷ ms) f h = out_rows S t p q ms f h.1
+out_rows S t p q (SetFrontSince a u ∷ ms) f h = out_rows S t p q ms f h.1
+out_rows S t p q (m ∷ ms) f h = absurd h.0
+
+pub out_both : (S : Setup) (mine : ℕ → Bool) (ms ns : List Move) → going_out S mine (ms ++ ns) ≡ going_out S mine ms ++ going_out S mine ns
+out_both S mine ms ns =
+    let f = enters_queue (λ (m : ℕ). not (mine (link_row S m).to)) in
+    ap (map entering_of) (flat_map-append f ms ns) ∙ map-append entering_of (flat_map f ms) (flat_map f ns)
 
 -- THE PLACES
 unfoldable pub with_taken : ℕ → ℕ → Setup → Option OutLink

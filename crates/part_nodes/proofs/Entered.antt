@@ -1,7 +1,8 @@
 -- The links of a network once vehicles came to them, and that they rest on.
-use Rattle.std.proofs.Common.{◌≡◌, ℕ, ◌+◌, ◌<◌, ◌≤◌, true, false, List, [], ◌∷◌, ◌++◌, length, get_or, set, refl, ap, sym, ◌∙◌, subst, inl, inr, arith, eqb, append-nil, append_assoc}
+use Rattle.std.proofs.Common.{◌≡◌, ◌≢◌, ℕ, Bool, ◌+◌, ◌<◌, ◌≤◌, true, false, List, [], ◌∷◌, ◌++◌, length, get_or, set, refl, ap, sym, ◌∙◌, subst, inl, inr, arith, eqb, append-nil, append_assoc}
 use Rattle.std.specs.Prelude.{Option, None, Some, min, nat_lt, nat_le, if◌then◌else◌}
-use Rattle.std.proofs.lemmas.Bool.{cases_Bool, eqb-true, eqb-false, lt-ltb, ltb-true, ltb-false, cases_lt}
+use Rattle.std.proofs.lemmas.Bool.{cases_Bool, eqb-true, eqb-false, ltb-true, ltb-false, true≢false}
+use Rattle.std.specs.List.{AllByRecursion as Each}
 use Rattle.std.proofs.lemmas.Bool.Decides.{nat_tests}
 use Rattle.std.proofs.lemmas.List.{get_or-set_same, get_or-set_other}
 use Rattle.rows.specs.declared.settings.Dwelling.{Dwelling}
@@ -13,56 +14,34 @@ use Rattle.calendar.specs.Waking.{wake_of, earlier}
 use Rattle.law_sleeping.specs.Quiet.{queue_goes}
 use Rattle.law_waking.specs.Resting.{Rests, sleeps_to}
 use Rattle.queue_link.specs.Links.{LinkView, row_on}
+use Rattle.queue_link.specs.declared.numbers.LinkNumbers.{LinkNumbers}
 use Rattle.queue_link.specs.Numbers.{rules_of}
 use Rattle.node_move.specs.declared.crossings.Entering.{Entering}
 use Rattle.node_move.specs.NodeStates.{no_link}
 use Rattle.link_seconds.specs.Seconds.{lists_at}
-use Rattle.node_seconds.specs.Networks.{lane, with_queued, accepted, accepted_all, wakes_after, wakes_after_all}
+use Rattle.node_seconds.specs.Networks.{lane, with_queued, put_queued, wake_queued, accepted, accepted_all, wakes_after, wakes_after_all}
 use Rattle.node_seconds.proofs.Lanes.{accepted_length, woken_length}
 use Rattle.part_links.specs.Links.{AreAsleep}
 use Rattle.part_nodes.proofs.Crossings.{rows_into}
-
-not_below : (a b : ℕ) → b ≤ a → nat_lt a b ≡ false
-not_below a b le = grind (arith, nat_tests)
+use Rattle.part_nodes.proofs.Slots.{is_slot}
 
 -- LINKS
--- a link once one came
-abbrev one_to : ℕ → ℕ → Entering → LinkView → LinkView
-one_to t l e v = if eqb e.link l then with_queued t e v else v
-
-one_accepted : (t l : ℕ) (e : Entering) (links : List LinkView) → l < length links → lane (accepted t e links) l ≡ one_to t l e (lane links l)
-one_accepted t l e links lt =
-    elim (cases_lt e.link (length links)) [
-      | inl in_links ↦
-          let b : nat_lt e.link (length links) ≡ true = lt-ltb e.link (length links) in_links in
-          elim (cases_Bool (eqb e.link l)) [
-            | inl q ↦
-                let s : e.link ≡ l = eqb-true e.link l q in
-                rw (b, q) (
-                ap (λ (k : ℕ). lane (set links k (with_queued t e (lane links k))) l) s
-                ∙ get_or-set_same links l (with_queued t e (lane links l)) no_link lt
-                )
-            | inr q ↦ rw (b, q) (get_or-set_other links e.link l (with_queued t e (lane links e.link)) no_link (λ (z : l ≡ e.link). eqb-false e.link l q (sym z)))
-          ]
-      | inr past ↦
-          let b : nat_lt e.link (length links) ≡ false = not_below e.link (length links) past in
-          elim (cases_Bool (eqb e.link l)) [
-            | inl q ↦ let s : e.link ≡ l = eqb-true e.link l q in absurd (omega arith)
-            | inr q ↦ rw (b, q) refl
-          ]
+-- the link in slot k once a vehicle came to this slot, if to any
+queued_lane : (t k : ℕ) (e : Entering) (o : Option ℕ) (links : List LinkView) → k < length links
+    → lane (put_queued t e o links) k ≡ (if is_slot k o then with_queued t e (lane links k) else lane links k)
+queued_lane t k e None links lt = refl
+queued_lane t k e (Some j) links lt =
+    elim (cases_Bool (eqb j k)) [
+      | inl q ↦
+          rw q (ap (λ (i : ℕ). lane (set links i (with_queued t e (lane links i))) k) (eqb-true j k q)
+          ∙ get_or-set_same links k (with_queued t e (lane links k)) no_link lt)
+      | inr q ↦ rw q (get_or-set_other links j k (with_queued t e (lane links j)) no_link (λ (z : k ≡ j). eqb-false j k q (sym z)))
     ]
 
-pub length_all : (t : ℕ) (es : List Entering) (links : List LinkView) → length (accepted_all t es links) ≡ length links
+pub length_all : (place : ℕ → Option ℕ) (t : ℕ) (es : List Entering) (links : List LinkView) → length (accepted_all place t es links) ≡ length links
 unfolding accepted_all
-length_all t [] links = refl
-length_all t (e ∷ es) links = length_all t es (accepted t e links) ∙ accepted_length t e links
-
-pub length_woken : (end t : ℕ) (es : List Entering) (links : List LinkView) (wakes : List (Option ℕ))
-    → length (wakes_after_all end t es links wakes) ≡ length wakes
-unfolding wakes_after_all
-length_woken end t [] links wakes = refl
-length_woken end t (e ∷ es) links wakes =
-    length_woken end t es (accepted t e links) (wakes_after end t e links wakes) ∙ woken_length end t e links wakes
+length_all place t [] links = refl
+length_all place t (e ∷ es) links = length_all place t es (accepted place t e links) ∙ accepted_length place t e links
 
 -- the same link with more rows in its queue
 abbrev pub queued_on : LinkView → List Row → LinkView
@@ -74,31 +53,36 @@ queued_none v = ap (λ (xs : List Row). record v { lists = record v.lists { queu
 queued_more : (v : LinkView) (r : Row) (rows : List Row) → queued_on (queued_on v (r ∷ [])) rows ≡ queued_on v (r ∷ rows)
 queued_more v r rows = ap (λ (xs : List Row). record v { lists = record v.lists { queue = xs } }) (append_assoc v.lists.queue (r ∷ []) rows)
 
-pub all_accepted : (t l : ℕ) (es : List Entering) (links : List LinkView) → l < length links → (lane links l).numbers.link ≡ l
-    → lane (accepted_all t es links) l ≡ queued_on (lane links l) (rows_into l (t + (lane links l).numbers.seconds) es)
+chosen : (b c : Bool) (x y : LinkView) → b ≡ c → (if b then x else y) ≡ (if c then x else y)
+chosen b c x y e = ap (λ (d : Bool). if d then x else y) e
+
+-- the link of number l in slot k once all came who enter it
+pub all_accepted : (place : ℕ → Option ℕ) (t l k : ℕ) (es : List Entering) (links : List LinkView) → k < length links
+    → (lane links k).numbers.link ≡ l → ((m : ℕ) → is_slot k (place m) ≡ eqb m l)
+    → lane (accepted_all place t es links) k ≡ queued_on (lane links k) (rows_into l (t + (lane links k).numbers.seconds) es)
 unfolding accepted_all
-all_accepted t l [] links lt n = queued_none (lane links l)
-all_accepted t l (e ∷ es) links lt n =
-    let v = lane links l in
-    let next = accepted t e links in
+all_accepted place t l k [] links lt n f = queued_none (lane links k)
+all_accepted place t l k (e ∷ es) links lt n f =
+    let v = lane links k in
+    let next = accepted place t e links in
     let second = t + v.numbers.seconds in
-    let within : l < length next = (let q = accepted_length t e links in omega arith) in
-    let one = one_accepted t l e links lt in
+    let within : k < length next = (let q = accepted_length place t e links in omega arith) in
+    let one = queued_lane t k e (place e.link) links lt ∙ chosen (is_slot k (place e.link)) (eqb e.link l) (with_queued t e v) v (f e.link) in
     elim (cases_Bool (eqb e.link l)) [
       | inl q ↦
-          let row : lane next l ≡ queued_on v (row_on l Queue second e.vehicle ∷ [])
-          = one ∙ rw q (ap (λ (k : ℕ). queued_on v (row_on k Queue second e.vehicle ∷ [])) n) in
-          let m : (lane next l).numbers.link ≡ l = ap (λ (w : LinkView). w.numbers.link) row ∙ n in
+          let row : lane next k ≡ queued_on v (row_on l Queue second e.vehicle ∷ [])
+          = one ∙ rw q (ap (λ (j : ℕ). queued_on v (row_on j Queue second e.vehicle ∷ [])) n) in
+          let m : (lane next k).numbers.link ≡ l = ap (λ (w : LinkView). w.numbers.link) row ∙ n in
           rw q (
-          all_accepted t l es next within m
+          all_accepted place t l k es next within m f
           ∙ ap (λ (w : LinkView). queued_on w (rows_into l (t + w.numbers.seconds) es)) row
           ∙ queued_more v (row_on l Queue second e.vehicle) (rows_into l second es)
           )
       | inr q ↦
-          let same : lane next l ≡ v = one ∙ rw q refl in
-          let m : (lane next l).numbers.link ≡ l = ap (λ (w : LinkView). w.numbers.link) same ∙ n in
+          let same : lane next k ≡ v = one ∙ rw q refl in
+          let m : (lane next k).numbers.link ≡ l = ap (λ (w : LinkView). w.numbers.link) same ∙ n in
           rw q (
-          all_accepted t l es next within m
+          all_accepted place t l k es next within m f
           ∙ ap (λ (w : LinkView). queued_on w (rows_into l (t + w.numbers.seconds) es)) same
           )
     ]
@@ -114,11 +98,11 @@ goes_appended K u l b credit [] r h first = goes_later K u l b credit r [] (firs
 goes_appended K u l b credit (x ∷ xs) r h first = h
 
 -- a link rests on with one more vehicle, up to its second where it is alone in the queue
-rests_queued : (D : Dwelling) (t due : ℕ) (e : Entering) (v : LinkView) → Rests D t due v → (length v.lists.queue ≡ 0 → due ≤ t + v.numbers.seconds)
-    → Rests D t due (with_queued t e v)
-rests_queued D t due e v h first u from to =
+rests_queued : (D : Dwelling) (t s due : ℕ) (e : Entering) (v : LinkView) → Rests D t due v → (length v.lists.queue ≡ 0 → due ≤ s + v.numbers.seconds)
+    → Rests D t due (with_queued s e v)
+rests_queued D t s due e v h first u from to =
     let q = h u from to in
-    let r = row_on v.numbers.link Queue (t + v.numbers.seconds) e.vehicle in
+    let r = row_on v.numbers.link Queue (s + v.numbers.seconds) e.vehicle in
     record {
       bay = q.bay;
       queue =
@@ -166,12 +150,17 @@ sleeps_before : (end : ℕ) (w : Option ℕ) → ((u : ℕ) → w ≡ Some u →
 sleeps_before end None h = omega arith
 sleeps_before end (Some u) h = let lt = h u refl in omega arith
 
--- one vehicle comes to a link that is asleep
-woken_one : (D : Dwelling) (end t : ℕ) (e : Entering) (v : LinkView) (w : Option ℕ) → t < end → IsAsleep D end t v w
-    → IsAsleep D end t (with_queued t e v)
-    (if eqb (length v.lists.queue) 0 then (if nat_lt (t + v.numbers.seconds) end then earlier (t + v.numbers.seconds) w else w) else w)
-woken_one D end t e v w in_day h =
-    let u = t + v.numbers.seconds in
+-- when a link is woken once a vehicle came to it in second t
+woken_then : ℕ → ℕ → LinkView → Option ℕ → Option ℕ
+woken_then end t v w =
+    if eqb (length v.lists.queue) 0 then (if nat_lt (t + v.numbers.seconds) end then earlier (t + v.numbers.seconds) w else w) else w
+
+-- one vehicle comes to a link that is asleep from second t on, in such a second that its own one is not before that
+woken_one : (D : Dwelling) (end t s : ℕ) (e : Entering) (v : LinkView) (w : Option ℕ) → t ≤ s + v.numbers.seconds → IsAsleep D end t v w
+    → IsAsleep D end t (with_queued s e v) (woken_then end s v w)
+unfolding woken_then
+woken_one D end t s e v w from h =
+    let u = s + v.numbers.seconds in
     elim (cases_Bool (eqb (length v.lists.queue) 0)) [
       | inl q ↦
           elim (cases_Bool (nat_lt u end)) [
@@ -180,18 +169,18 @@ woken_one D end t e v w in_day h =
                 let less = earlier_less end u w lt in
                 let by = earlier_by end u w in
                 rw (q, b) (record {
-                  rests = rests_queued D t (sleeps_to end (earlier u w)) e v (rests_less D t (sleeps_to end w) (sleeps_to end (earlier u w)) v less h.rests) (λ none. by);
-                  later = λ x s. earlier_from t u x w (omega arith) h.later s;
-                  soon = λ x s. earlier_within end u x w lt s;
+                  rests = rests_queued D t s (sleeps_to end (earlier u w)) e v (rests_less D t (sleeps_to end w) (sleeps_to end (earlier u w)) v less h.rests) (λ none. by);
+                  later = λ x y. earlier_from t u x w from h.later y;
+                  soon = λ x y. earlier_within end u x w lt y;
                 })
             | inr b ↦
                 let le : end ≤ u = ltb-false u end b in
                 let before = sleeps_before end w h.soon in
-                rw (q, b) (record { rests = rests_queued D t (sleeps_to end w) e v h.rests (λ none. omega arith); later = h.later; soon = h.soon })
+                rw (q, b) (record { rests = rests_queued D t s (sleeps_to end w) e v h.rests (λ none. omega arith); later = h.later; soon = h.soon })
           ]
       | inr q ↦
           rw q (record {
-            rests = rests_queued D t (sleeps_to end w) e v h.rests (λ none. absurd (eqb-false (length v.lists.queue) 0 q none));
+            rests = rests_queued D t s (sleeps_to end w) e v h.rests (λ none. absurd (eqb-false (length v.lists.queue) 0 q none));
             later = h.later;
             soon = h.soon;
           })
@@ -204,60 +193,104 @@ wake_set l k w wakes lt =
       | inr q ↦ rw q (get_or-set_other wakes k l w None (λ (z : l ≡ k). eqb-false k l q (sym z)))
     ]
 
-one_wake : (end t l : ℕ) (e : Entering) (links : List LinkView) (wakes : List (Option ℕ)) → e.link < length links → length wakes ≡ length links
-    → wake_of (wakes_after end t e links wakes) l
-    ≡ (let v = lane links e.link in
-    if eqb e.link l then (if eqb (length v.lists.queue) 0 then (if nat_lt (t + v.numbers.seconds) end then earlier (t + v.numbers.seconds) (wake_of wakes e.link)
-    else wake_of wakes e.link) else wake_of wakes e.link) else wake_of wakes l)
-one_wake end t l e links wakes lt n =
-    let v = lane links e.link in
+same_wake : (end t k : ℕ) (links : List LinkView) (wakes : List (Option ℕ)) → k < length wakes
+    → wake_of (wake_queued end t (Some k) links wakes) k ≡ woken_then end t (lane links k) (wake_of wakes k)
+unfolding woken_then
+same_wake end t k links wakes lt =
+    let v = lane links k in
     let u = t + v.numbers.seconds in
-    let b : nat_lt e.link (length links) ≡ true = lt-ltb e.link (length links) lt in
-    let same : wake_of wakes l ≡ (if eqb e.link l then wake_of wakes e.link else wake_of wakes l)
-    = elim (cases_Bool (eqb e.link l)) [
-      | inl q ↦ rw q (ap (wake_of wakes) (sym (eqb-true e.link l q)))
-      | inr q ↦ rw q refl
-    ] in
-    rw b (elim (cases_Bool (eqb (length v.lists.queue) 0)) [
+    elim (cases_Bool (eqb (length v.lists.queue) 0)) [
       | inl q ↦
           elim (cases_Bool (nat_lt u end)) [
-            | inl c ↦ rw (q, c) (wake_set l e.link (earlier u (wake_of wakes e.link)) wakes (omega arith))
-            | inr c ↦ rw (q, c) same
+            | inl c ↦ rw (q, c) (get_or-set_same wakes k (earlier u (wake_of wakes k)) None lt)
+            | inr c ↦ rw (q, c) refl
           ]
-      | inr q ↦ rw q same
-    ])
-
-accepted_asleep : (D : Dwelling) (end t : ℕ) (e : Entering) (links : List LinkView) (wakes : List (Option ℕ)) → t < end → AreAsleep D end t links wakes
-    → AreAsleep D end t (accepted t e links) (wakes_after end t e links wakes)
-accepted_asleep D end t e links wakes in_day h =
-    elim (cases_lt e.link (length links)) [
-      | inl lt ↦
-          all_asleep D end t (accepted t e links) (wakes_after end t e links wakes)
-          (woken_length end t e links wakes ∙ h.count ∙ sym (accepted_length t e links))
-          (λ l there.
-          let within : l < length links = (let n = accepted_length t e links in omega arith) in
-          let v_is = one_accepted t l e links within in
-          let w_is = one_wake end t l e links wakes lt h.count in
-          subst (λ (v : LinkView). IsAsleep D end t v (wake_of (wakes_after end t e links wakes) l)) (sym v_is)
-          (subst (λ (w : Option ℕ). IsAsleep D end t (one_to t l e (lane links l)) w) (sym w_is)
-          (elim (cases_Bool (eqb e.link l)) [
-            | inl q ↦
-                let s = eqb-true e.link l q in
-                rw q (subst (λ (k : ℕ). IsAsleep D end t (with_queued t e (lane links k))
-                (let v = lane links e.link in
-                if eqb (length v.lists.queue) 0 then (if nat_lt (t + v.numbers.seconds) end then earlier (t + v.numbers.seconds) (wake_of wakes e.link)
-                else wake_of wakes e.link) else wake_of wakes e.link)) s
-                (woken_one D end t e (lane links e.link) (wake_of wakes e.link) in_day (asleep_at D end t e.link links wakes h lt)))
-            | inr q ↦ rw q (asleep_at D end t l links wakes h within)
-          ])))
-      | inr past ↦
-          let b : nat_lt e.link (length links) ≡ false = not_below e.link (length links) past in
-          rw b h
+      | inr q ↦ rw q refl
     ]
 
-pub all_accepted_asleep : (D : Dwelling) (end t : ℕ) (es : List Entering) (links : List LinkView) (wakes : List (Option ℕ)) → t < end
-    → AreAsleep D end t links wakes → AreAsleep D end t (accepted_all t es links) (wakes_after_all end t es links wakes)
+other_wake : (end t j k : ℕ) (links : List LinkView) (wakes : List (Option ℕ)) → k ≢ j
+    → wake_of (wake_queued end t (Some j) links wakes) k ≡ wake_of wakes k
+other_wake end t j k links wakes ne =
+    let v = lane links j in
+    let u = t + v.numbers.seconds in
+    elim (cases_Bool (eqb (length v.lists.queue) 0)) [
+      | inl q ↦
+          elim (cases_Bool (nat_lt u end)) [
+            | inl c ↦ rw (q, c) (get_or-set_other wakes j k (earlier u (wake_of wakes j)) None ne)
+            | inr c ↦ rw (q, c) refl
+          ]
+      | inr q ↦ rw q refl
+    ]
+
+one_wake : (end t k : ℕ) (o : Option ℕ) (links : List LinkView) (wakes : List (Option ℕ)) → k < length wakes
+    → wake_of (wake_queued end t o links wakes) k
+    ≡ (if is_slot k o then woken_then end t (lane links k) (wake_of wakes k) else wake_of wakes k)
+one_wake end t k None links wakes lt = refl
+one_wake end t k (Some j) links wakes lt =
+    elim (cases_Bool (eqb j k)) [
+      | inl q ↦
+          rw q (ap (λ (i : ℕ). wake_of (wake_queued end t (Some i) links wakes) k) (eqb-true j k q) ∙ same_wake end t k links wakes lt)
+      | inr q ↦ rw q (other_wake end t j k links wakes (λ (z : k ≡ j). eqb-false j k q (sym z)))
+    ]
+
+either_asleep : (b : Bool) (D : Dwelling) (end t : ℕ) (v u : LinkView) (w x : Option ℕ) → (b ≡ true → IsAsleep D end t v w) → IsAsleep D end t u x
+    → IsAsleep D end t (if b then v else u) (if b then w else x)
+either_asleep true D end t v u w x h g = h refl
+either_asleep false D end t v u w x h g = g
+
+slot_this : (k : ℕ) (o : Option ℕ) → is_slot k o ≡ true → o ≡ Some k
+slot_this k None e = absurd (true≢false (sym e))
+slot_this k (Some j) e = ap (λ (i : ℕ). Some i) (eqb-true j k e)
+
+-- a vehicle that comes in second s enters a link on which its own second is not before t
+abbrev pub ComesBy : (ℕ → Option ℕ) → ℕ → ℕ → List LinkView → Entering → Type 0
+ComesBy place t s links e = (k : ℕ) → k < length links → place e.link ≡ Some k → t ≤ s + (lane links k).numbers.seconds
+
+accepted_asleep : (place : ℕ → Option ℕ) (D : Dwelling) (end t s : ℕ) (e : Entering) (links : List LinkView) (wakes : List (Option ℕ))
+    → ComesBy place t s links e → AreAsleep D end t links wakes
+    → AreAsleep D end t (accepted place s e links) (wakes_after place end s e links wakes)
+accepted_asleep place D end t s e links wakes from h =
+    all_asleep D end t (accepted place s e links) (wakes_after place end s e links wakes)
+    (woken_length place end s e links wakes ∙ h.count ∙ sym (accepted_length place s e links))
+    (λ k there.
+    let within : k < length links = (let n = accepted_length place s e links in omega arith) in
+    let table : k < length wakes = (let n = h.count in omega arith) in
+    let b = is_slot k (place e.link) in
+    let v = lane links k in
+    let w = wake_of wakes k in
+    let was = asleep_at D end t k links wakes h within in
+    subst (λ (x : LinkView). IsAsleep D end t x (wake_of (wakes_after place end s e links wakes) k)) (sym (queued_lane s k e (place e.link) links within))
+    (subst (λ (y : Option ℕ). IsAsleep D end t (if b then with_queued s e v else v) y) (sym (one_wake end s k (place e.link) links wakes table))
+    (either_asleep b D end t (with_queued s e v) v (woken_then end s v w) w
+    (λ yes. woken_one D end t s e v w (from k within (slot_this k (place e.link) yes)) was) was)))
+
+same_numbers : (b : Bool) (s : ℕ) (e : Entering) (v : LinkView) → (if b then with_queued s e v else v).numbers ≡ v.numbers
+same_numbers true s e v = refl
+same_numbers false s e v = refl
+
+comes_on : (place : ℕ → Option ℕ) (t s : ℕ) (e : Entering) (links : List LinkView) (es : List Entering) → Each (ComesBy place t s links) es
+    → Each (ComesBy place t s (accepted place s e links)) es
+comes_on place t s e links [] h = tt
+comes_on place t s e links (f ∷ es) h = (
+  λ (k : ℕ) (there : k < length (accepted place s e links)) (is : place f.link ≡ Some k).
+      (let within : k < length links = (let n = accepted_length place s e links in omega arith) in
+      let same : (lane (accepted place s e links) k).numbers ≡ (lane links k).numbers
+      = ap (λ (v : LinkView). v.numbers) (queued_lane s k e (place e.link) links within) ∙ same_numbers (is_slot k (place e.link)) s e (lane links k) in
+      subst (λ (x : LinkNumbers). t ≤ s + x.seconds) (sym same) (h.0 k within is)),
+  comes_on place t s e links es h.1,
+)
+
+-- whoever enters in second s, those links that rest from second t on rest on
+pub all_accepted_asleep : (place : ℕ → Option ℕ) (D : Dwelling) (end t s : ℕ) (es : List Entering) (links : List LinkView) (wakes : List (Option ℕ))
+    → Each (ComesBy place t s links) es → AreAsleep D end t links wakes
+    → AreAsleep D end t (accepted_all place s es links) (wakes_after_all place end s es links wakes)
 unfolding accepted_all wakes_after_all
-all_accepted_asleep D end t [] links wakes in_day h = h
-all_accepted_asleep D end t (e ∷ es) links wakes in_day h =
-    all_accepted_asleep D end t es (accepted t e links) (wakes_after end t e links wakes) in_day (accepted_asleep D end t e links wakes in_day h)
+all_accepted_asleep place D end t s [] links wakes from h = h
+all_accepted_asleep place D end t s (e ∷ es) links wakes from h =
+    all_accepted_asleep place D end t s es (accepted place s e links) (wakes_after place end s e links wakes) (comes_on place t s e links es from.1)
+    (accepted_asleep place D end t s e links wakes from.0 h)
+
+-- who enters in this very second does so
+pub all_come : (place : ℕ → Option ℕ) (t : ℕ) (links : List LinkView) (es : List Entering) → Each (ComesBy place t t links) es
+all_come place t links [] = tt
+all_come place t links (e ∷ es) = ((λ (k : ℕ) (lt : k < length links) (is : place e.link ≡ Some k). omega arith), all_come place t links es)

@@ -20,14 +20,14 @@ use Rattle.traffic.proofs.Nodes.{node-buffers}
 use Rattle.calendar.specs.Waking.{wake_of, is_second, slept, earliest as sooner}
 use Rattle.law_joined_routes.specs.Going.{GoesOn}
 use Rattle.law_sleeping.specs.Able.{can_go, is_able}
-use Rattle.law_sleeping.proofs.Places.{run_places, nodes_keep_places}
+use Rattle.law_sleeping.proofs.Places.{run_places}
 use Rattle.queue_link.specs.Links.{LinkView}
 use Rattle.node_move.specs.Spaces.{places_in}
 use Rattle.node_seconds.specs.Networks.{lane, is_among}
 use Rattle.part_places.specs.Taking.{still}
 use Rattle.part_places.proofs.Counting.{still_is}
-use Rattle.part_nodes.specs.Turns.{covers, is_always, always_in, is_held, front_due, node_due, up_to}
-use Rattle.part_nodes.specs.Phase.{places_at, taken_before, IsWokenBy, FrontWaits, BufferWaits, AreAwaited}
+use Rattle.part_nodes.specs.Turns.{covers, is_always, always_in, is_held, front_due, link_due, node_due, up_to}
+use Rattle.part_nodes.specs.Phase.{places_at, taken_before, IsWokenBy, FrontWaits, BufferWaits, AreAwaitedAt}
 
 -- PLACES
 -- those that are taken before the second after t are those of second t
@@ -41,21 +41,13 @@ before_same S p m V U q h =
     ap (λ (xs : List Row). length xs + still p (map (λ (s : ℕ). s + hole_of S m) (holes_at m V))) (sym q)
     ∙ ap (λ (hs : List ℕ). length (at m Queue U) + still p (map (λ (s : ℕ). s + hole_of S m) hs)) (sym h)
 
--- no place comes free in the turn of a node, nor in those of all nodes
+-- no place comes free in the turn of a node
 pub node_takes : (S : Setup) (t n m : ℕ) (V : World)
     → taken_before S (t + 1) m V ≤ taken_before S (t + 1) m (run S t (node_turns S t n V) V)
 node_takes S t n m V =
     let a = before_is S t m V in
     let b = before_is S t m (run S t (node_turns S t n V) V) in
     let c = run_places S t t m (node_turns S t n V) V (node-buffers S t n V) in
-    omega arith
-
-pub nodes_take : (S : Setup) (t m : ℕ) (V : World)
-    → taken_before S (t + 1) m V ≤ taken_before S (t + 1) m (after S t (turns_in S t phase.C V) V)
-nodes_take S t m V =
-    let a = before_is S t m V in
-    let b = before_is S t m (after S t (turns_in S t phase.C V) V) in
-    let c = nodes_keep_places S t t m V in
     omega arith
 
 -- WHO WAITS ON
@@ -79,10 +71,11 @@ waits_on S end p t l wake V U e more h =
 pub none_waits : (S : Setup) (end p t l : ℕ) (wake : Option ℕ) (V : World) → at l Buffer V ≡ [] → BufferWaits S end p t l wake V (at l Buffer V)
 none_waits S end p t l wake V e = subst (BufferWaits S end p t l wake V) (sym e) tt
 
-pub awaited_on : (S : Setup) (end p t : ℕ) (wakes : List (Option ℕ)) (V U : World) → ((l : ℕ) → l < length S.links → at l Buffer U ≡ at l Buffer V)
-    → ((m : ℕ) → taken_before S p m V ≤ taken_before S p m U) → AreAwaited S end p t wakes V → AreAwaited S end p t wakes U
-awaited_on S end p t wakes V U buffers more h = λ n l lt off there to.
-    waits_on S end p t l (wake_of wakes n) V U (buffers l there) more (h n l lt off there to)
+pub awaited_on : (mine : ℕ → Bool) (S : Setup) (end p t : ℕ) (wakes : List (Option ℕ)) (V U : World)
+    → ((l : ℕ) → l < length S.links → mine (link_row S l).to ≡ true → at l Buffer U ≡ at l Buffer V)
+    → ((m : ℕ) → taken_before S p m V ≤ taken_before S p m U) → AreAwaitedAt mine S end p t wakes V → AreAwaitedAt mine S end p t wakes U
+awaited_on mine S end p t wakes V U buffers more h = λ n l lt own off there to.
+    waits_on S end p t l (wake_of wakes n) V U (buffers l there (ap mine to ∙ own)) more (h n l lt own off there to)
 
 later_than : (t u : ℕ) → t < u → u ≢ t + 1 → t + 1 < u
 later_than t u lt ne =
@@ -210,16 +203,16 @@ due_under : (K : Stuck) (t : ℕ) (always : ℕ → Bool) (space : List (Option 
 unfolding node_due
 due_under K t always space links v [] = omega arith
 due_under K t always space links v (l ∷ ls) =
-    let s = sooner_than v (front_due K t always space l (lane links l).lists.buffer) in
+    let s = sooner_than v (link_due K t always space (lane links l)) in
     subst (λ (o : Option ℕ). IsBy v (node_due K t always space links o ls)) (sym s.1)
     (by_less v s.0 (node_due K t always space links (Some s.0) ls) s.2 (due_under K t always space links s.0 ls))
 
 due_by : (K : Stuck) (t : ℕ) (always : ℕ → Bool) (space : List (Option OutLink)) (links : List LinkView) (due : Option ℕ) (ls : List ℕ) (l d : ℕ)
-    → is_among l ls ≡ true → front_due K t always space l (lane links l).lists.buffer ≡ Some d → IsBy d (node_due K t always space links due ls)
+    → is_among l ls ≡ true → link_due K t always space (lane links l) ≡ Some d → IsBy d (node_due K t always space links due ls)
 unfolding node_due
 due_by K t always space links due [] l d a e = absurd (true≢false (sym a))
 due_by K t always space links due (n ∷ ls) l d a e =
-    let front : ℕ → Option ℕ = λ k. front_due K t always space k (lane links k).lists.buffer in
+    let front : ℕ → Option ℕ = λ k. link_due K t always space (lane links k) in
     elim (cases_Bool (eqb n l)) [
       | inl q ↦
           let f : front n ≡ Some d = ap front (eqb-true n l q) ∙ e in
@@ -265,9 +258,9 @@ due_after : (K : Stuck) (t : ℕ) (always : ℕ → Bool) (space : List (Option 
 unfolding node_due
 due_after K t always space links due [] h = h
 due_after K t always space links due (l ∷ ls) h =
-    let front = front_due K t always space l (lane links l).lists.buffer in
-    due_after K t always space links (sooner due front) ls
-    (sooner_after t due front h (front_after K t always space l (lane links l).lists.buffer))
+    let v = lane links l in
+    let front = link_due K t always space v in
+    due_after K t always space links (sooner due front) ls (sooner_after t due front h (front_after K t always space v.numbers.link v.lists.buffer))
 
 next_is : (end t : ℕ) → t < end → up_to end (Some (t + 1)) ≡ Some (t + 1)
 next_is end t lt = let q = le-leb (t + 1) end (omega arith) in rw q refl
@@ -281,11 +274,11 @@ woken_up_to end t by u lt ne le =
 
 waits_by : (S : Setup) (end t l : ℕ) (always : ℕ → Bool) (space : List (Option OutLink)) (V : World) (r : Row) (rs : List Row) (o : Option ℕ)
     → t < end → (always l ≡ true → (u : ℕ) → S.green l u ≡ true)
-    → ((m : ℕ) → m < length S.links → places_in space m ≡ Some (places_at S t V m)) → next_link r.vehicle < length S.links
+    → places_in space (next_link r.vehicle) ≡ Some (places_at S t V (next_link r.vehicle))
     → IsBy (if is_held S.settings.stuck t always space l (r ∷ rs) then r.second + S.settings.stuck.seconds else t + 1) o → IsAfter t o
     → up_to end o ≢ Some (t + 1) → FrontWaits S end (t + 1) (t + 1) l (up_to end o) V r
-waits_by S end t l always space V r rs None in_day green places there by late ne = absurd by
-waits_by S end t l always space V r rs (Some u) in_day green places there by late ne =
+waits_by S end t l always space V r rs None in_day green places by late ne = absurd by
+waits_by S end t l always space V r rs (Some u) in_day green places by late ne =
     let K = S.settings.stuck in
     let m = next_link r.vehicle in
     let not_next : u ≢ t + 1 = λ (e : u ≡ t + 1). ne (ap (λ (k : ℕ). up_to end (Some k)) e ∙ next_is end t in_day) in
@@ -294,7 +287,7 @@ waits_by S end t l always space V r rs (Some u) in_day green places there by lat
           let h = held_is K t always space l r rs e in
           let le : u ≤ r.second + K.seconds = rw e at by in
           let b = before_is S t m V in
-          let f = ltb-false (taken_at S t m V) (storage_of S m) (sym (ap has_room (places m there)) ∙ h.full) in
+          let f = ltb-false (taken_at S t m V) (storage_of S m) (sym (ap has_room places) ∙ h.full) in
           let p = h.patient in
           record {
             green = green h.green;
@@ -306,20 +299,24 @@ waits_by S end t l always space V r rs (Some u) in_day green places there by lat
     ]
 
 -- a link into a node that had its turn waits, where the node is not woken in the next second
-pub waits_again : (S : Setup) (end t l : ℕ) (always : ℕ → Bool) (space : List (Option OutLink)) (links : List LinkView) (ls : List ℕ) (V : World)
-    (rows : List Row) (wake : Option ℕ) → t < end → (always l ≡ true → (u : ℕ) → S.green l u ≡ true)
-    → ((m : ℕ) → m < length S.links → places_in space m ≡ Some (places_at S t V m)) → Each (GoesOn S l) rows
-    → wake ≡ up_to end (node_due S.settings.stuck t always space links None ls) → wake ≢ Some (t + 1) → is_among l ls ≡ true
-    → (lane links l).lists.buffer ≡ rows → BufferWaits S end (t + 1) (t + 1) l wake V rows
-waits_again S end t l always space links ls V [] wake in_day green places on e ne a b = tt
-waits_again S end t l always space links ls V (r ∷ rs) wake in_day green places on e ne a b =
+pub waits_again : (mine : ℕ → Bool) (S : Setup) (end t l k : ℕ) (always : ℕ → Bool) (space : List (Option OutLink)) (links : List LinkView) (ks : List ℕ)
+    (V : World) (rows : List Row) (wake : Option ℕ) → t < end → mine (link_row S l).to ≡ true → (always l ≡ true → (u : ℕ) → S.green l u ≡ true)
+    → ((m : ℕ) → m < length S.links → mine (link_row S m).from ≡ true → places_in space m ≡ Some (places_at S t V m)) → Each (GoesOn S l) rows
+    → wake ≡ up_to end (node_due S.settings.stuck t always space links None ks) → wake ≢ Some (t + 1) → is_among k ks ≡ true
+    → (lane links k).numbers.link ≡ l → (lane links k).lists.buffer ≡ rows → BufferWaits S end (t + 1) (t + 1) l wake V rows
+waits_again mine S end t l k always space links ks V [] wake in_day own green places on e ne a n b = tt
+waits_again mine S end t l k always space links ks V (r ∷ rs) wake in_day own green places on e ne a n b =
     let K = S.settings.stuck in
-    let o = node_due K t always space links None ls in
+    let o = node_due K t always space links None ks in
     let d = if is_held K t always space l (r ∷ rs) then r.second + K.seconds else t + 1 in
-    let by : IsBy d o = due_by K t always space links None ls l d a (ap (front_due K t always space l) b) in
-    let late : IsAfter t o = due_after K t always space links None ls tt in
+    let m = next_link r.vehicle in
+    let here : places_in space m ≡ Some (places_at S t V m) = places m on.0.there (ap mine on.0.joined ∙ own) in
+    let front : link_due K t always space (lane links k) ≡ Some d
+    = ap (λ (j : ℕ). front_due K t always space j (lane links k).lists.buffer) n ∙ ap (front_due K t always space l) b in
+    let by : IsBy d o = due_by K t always space links None ks k d a front in
+    let late : IsAfter t o = due_after K t always space links None ks tt in
     subst (λ (w : Option ℕ). FrontWaits S end (t + 1) (t + 1) l w V r) (sym e)
-    (waits_by S end t l always space V r rs o in_day green places on.0.there by late (λ (q : up_to end o ≡ Some (t + 1)). ne (e ∙ q)))
+    (waits_by S end t l always space V r rs o in_day green here by late (λ (q : up_to end o ≡ Some (t + 1)). ne (e ∙ q)))
 
 -- THE SIGNALS
 some_covers : (cycle place : ℕ) (spans : List (ℕ × ℕ)) → (0 < cycle → place < cycle) → list_any (covers cycle) spans ≡ true

@@ -2,6 +2,7 @@ pub mod Clear
 pub mod Into
 pub mod Leading
 pub mod Seen
+pub mod Slots
 pub mod Buffered
 pub mod Only
 pub mod Ready
@@ -11,3 +12,4 @@ pub mod Rested
 pub mod Held
 pub mod Passed
 pub mod Skipped
+pub mod Whole

@@ -1,10 +1,11 @@
--- What the turn of a node asks of the links into it: at most sixteen, each once and with its number, and who is in their buffers goes on.
-use Rattle.traffic.proofs.Common.{◌≡◌, ℕ, suc, ◌+◌, ◌<◌, ◌≤◌, Bool, true, List, [], ◌∷◌, ◌∙◌, ap, sym, refl, subst, inl, inr, arith, eqb, length, get_or, filter}
+-- What the turn of a node asks of the links into it: at most sixteen, each in a slot of its own, and who is in their buffers goes on.
+use Rattle.traffic.proofs.Common.{◌≡◌, ℕ, suc, ◌+◌, ◌<◌, ◌≤◌, Bool, true, List, [], ◌∷◌, ◌∙◌, ap, sym, refl, subst, inl, inr, arith, eqb, length, get_or, filter, map}
 use Rattle.traffic.proofs.Common.{cases_Bool, length-filter, numbers, World, on, at, Setup, into, link_row, recursion_from_All, LinkRow}
 use Rattle.traffic.specs.declared.stage.Stage.TheVariants.{Buffer}
 use Rattle.traffic.specs.declared.world.Row.{Row}
 use Rattle.traffic.proofs.Sublists.{on_is}
 use Rattle.std.specs.List.{AllByRecursion as Each}
+use Rattle.std.proofs.lemmas.List.{length-map}
 use Rattle.limits.specs.declared.TheConstants.{MAX_IN_LINKS}
 use Rattle.rows.specs.Networks.{in_links}
 use Rattle.town.specs.declared.day_input.DayInput.{DayInput}
@@ -16,10 +17,15 @@ use Rattle.queue_link.specs.Links.{LinkView}
 use Rattle.traffic.specs.Nodes.{HaveNext, HasNext}
 use Rattle.node_seconds.specs.Networks.{AreOnce}
 use Rattle.calendar.specs.Due.{AreIn}
-use Rattle.node_seconds.specs.Turns.{HaveNumbers, AreReadyInto}
-use Rattle.part_links.specs.Links.{LinksStand}
+use Rattle.node_seconds.specs.Turns.{AreReadyInto}
+use Rattle.part_links.specs.Links.{LinksStandAt}
 use Rattle.part_links.proofs.Numbers.{once_passed}
-use Rattle.part_nodes.proofs.Seen.{number_is, buffer_is, into_there}
+use Rattle.part_nodes.specs.InLinks.{slots_of}
+use Rattle.part_nodes.specs.Turns.{HaveNumbersIn}
+use Rattle.part_nodes.specs.Phase.{Extent, HasLinks}
+use Rattle.part_nodes.proofs.Into.{town_links}
+use Rattle.part_nodes.proofs.Seen.{number_is, buffer_is}
+use Rattle.part_nodes.proofs.Slots.{node_there, node_back, once_numbers}
 use Rattle.part_nodes.proofs.Buffered.{in_some}
 
 -- AT MOST SIXTEEN
@@ -35,7 +41,7 @@ as_many f n k d (r ∷ rs) h =
       | inr e ↦ let b = first ∙ e in simp (b, e) rest
     ]
 
-pub into_few : (day : DayInput) (n : ℕ) → length (into (setup day) n) ≤ MAX_IN_LINKS
+into_few : (day : DayInput) (n : ℕ) → length (into (setup day) n) ≤ MAX_IN_LINKS
 unfolding setup_of into in_links
 into_few day n =
     let links = day.town.now.network.links in
@@ -48,14 +54,29 @@ into_few day n =
     let bound : length (filter f (numbers 0 (length links))) ≤ MAX_IN_LINKS = omega arith in
     bound
 
--- EACH ONCE, WITH ITS NUMBER
-pub into_once : (S : Setup) (n : ℕ) → AreOnce (into S n)
+pub few_slots : (day : DayInput) (slots : List ℕ) (n : ℕ) → length (slots_of slots (into (setup day) n)) ≤ MAX_IN_LINKS
+few_slots day slots n =
+    let a = into_few day n in
+    let b = length-map (into (setup day) n) (λ (l : ℕ). get_or slots l 0) in
+    omega arith
+
+-- EACH IN A SLOT OF ITS OWN
+into_once : (S : Setup) (n : ℕ) → AreOnce (into S n)
 unfolding into
 into_once S n = once_passed (λ (l : ℕ). eqb (link_row S l).to n) (length S.links)
 
-pub with_numbers : (S : Setup) (t : ℕ) (links : List LinkView) (V : World) (ls : List ℕ) → LinksStand S t links V → AreIn (length S.links) ls → HaveNumbers links ls
-with_numbers S t links V [] h there = tt
-with_numbers S t links V (l ∷ ls) h there = (number_is S t l links V there.0 h, with_numbers S t links V ls h there.1)
+pub once_slots : (S : Setup) (E : Extent) (slots : List ℕ) (n : ℕ) → HasLinks S E slots → E.mine n ≡ true → AreOnce (slots_of slots (into S n))
+once_slots S E slots n h own = once_numbers E.number (slots_of slots (into S n)) (subst AreOnce (sym (node_back S E slots n h own)) (into_once S n))
+
+-- links of the town have numbers of links
+pub town_numbers : (day : DayInput) (E : Extent) (t : ℕ) (slots : List ℕ) (links : List LinkView) (V : World) → HasLinks (setup day) E slots
+    → LinksStandAt E.number E.size (setup day) t links V → HaveNumbersIn (length day.town.now.network.links) links
+town_numbers day E t slots links V h stand k lt =
+    let there : k < E.size = (let a = stand.count in omega arith) in
+    let within = h.numbered.there k there in
+    let same = number_is E (setup day) t k links V there stand in
+    let many = town_links day in
+    omega arith
 
 -- WHO GOES ON
 has_next : (z : Counts) (l : ℕ) (r : Row) → on l Buffer r ≡ true → IsFitRow z r → HasNext r.vehicle
@@ -74,27 +95,20 @@ have_next z l (r ∷ rs) h =
 next_at : (z : Counts) (l : ℕ) (V : World) → IsFitWorld z V → HaveNext (at l Buffer V)
 next_at z l V h = have_next z l V.rows (recursion_from_All (IsFitRow z) V.rows h.rows)
 
-pub ready_into : (z : Counts) (S : Setup) (t : ℕ) (links : List LinkView) (V : World) (ls : List ℕ) → IsFitWorld z V → LinksStand S t links V
-    → AreIn (length S.links) ls → AreReadyInto links ls
-ready_into z S t links V [] fit h there = tt
-ready_into z S t links V (l ∷ ls) fit h there =
-    (subst HaveNext (sym (buffer_is S t l links V there.0 h)) (next_at z l V fit), ready_into z S t links V ls fit h there.1)
+pub ready_into : (z : Counts) (E : Extent) (S : Setup) (t : ℕ) (links : List LinkView) (V : World) (ks : List ℕ) → IsFitWorld z V
+    → LinksStandAt E.number E.size S t links V → AreIn E.size ks → AreReadyInto links ks
+ready_into z E S t links V [] fit h there = tt
+ready_into z E S t links V (k ∷ ks) fit h there =
+    (subst HaveNext (sym (buffer_is E S t k links V there.0 h)) (next_at z (E.number k) V fit), ready_into z E S t links V ks fit h there.1)
 
--- NUMBERS IN LISTS
-pub into_in : (S : Setup) (n count : ℕ) (ls : List ℕ) → count ≡ length S.links → ls ≡ into S n → AreIn count ls
-into_in S n count ls e to =
-    subst (λ (k : ℕ). AreIn k ls) (sym e) (subst (λ (ks : List ℕ). AreIn (length S.links) ks) (sym to) (into_there S n))
+-- IN SLOTS OF THE PART
+pub slots_in : (S : Setup) (E : Extent) (slots : List ℕ) (n count : ℕ) (ks : List ℕ) → count ≡ E.size → ks ≡ slots_of slots (into S n)
+    → HasLinks S E slots → E.mine n ≡ true → AreIn count ks
+slots_in S E slots n count ks e are h own =
+    subst (λ (k : ℕ). AreIn k ks) (sym e) (subst (λ (js : List ℕ). AreIn E.size js) (sym are) (node_there S E slots n h own))
 
-pub some_in : (S : Setup) (n count : ℕ) (p : ℕ → Bool) (ls : List ℕ) → count ≡ length S.links → ls ≡ filter p (into S n) → AreIn count ls
-some_in S n count p ls e to =
-    subst (λ (k : ℕ). AreIn k ls) (sym e)
-    (subst (λ (ks : List ℕ). AreIn (length S.links) ks) (sym to) (in_some p (length S.links) (into S n) (into_there S n)))
-
-pub some_in_town : (day : DayInput) (n : ℕ) (p : ℕ → Bool) (ls : List ℕ) → ls ≡ filter p (into (setup day) n)
-    → AreIn (length day.town.now.network.links) ls
-unfolding setup_of
-some_in_town day n p ls to = some_in (setup day) n (length day.town.now.network.links) p ls refl to
-
-pub into_in_town : (day : DayInput) (n : ℕ) (ls : List ℕ) → ls ≡ into (setup day) n → AreIn (length day.town.now.network.links) ls
-unfolding setup_of
-into_in_town day n ls to = into_in (setup day) n (length day.town.now.network.links) ls refl to
+pub some_in : (S : Setup) (E : Extent) (slots : List ℕ) (n count : ℕ) (p : ℕ → Bool) (ks : List ℕ) → count ≡ E.size
+    → ks ≡ filter p (slots_of slots (into S n)) → HasLinks S E slots → E.mine n ≡ true → AreIn count ks
+some_in S E slots n count p ks e are h own =
+    subst (λ (k : ℕ). AreIn k ks) (sym e)
+    (subst (λ (js : List ℕ). AreIn E.size js) (sym are) (in_some p E.size (slots_of slots (into S n)) (node_there S E slots n h own)))

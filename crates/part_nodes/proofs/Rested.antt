@@ -32,25 +32,25 @@ earlier_twice t (Some u) = ap (λ (n : ℕ). Some n) (omega arith)
 -- whether link l is one of these and emptied
 abbrev emptied_at : ℕ → List LinkView → List Buffered → Bool
 emptied_at l links [] = false
-emptied_at l links (b ∷ bs) = (eqb b.link l && is_emptied b links) || emptied_at l links bs
+emptied_at l links (b ∷ bs) = (eqb b.slot l && is_emptied b links) || emptied_at l links bs
 
-one_woken : (t l : ℕ) (b : Buffered) (links : List LinkView) (wakes : List (Option ℕ)) → b.link < length wakes
-    → wake_of (wake_emptied t b links wakes) l ≡ (if eqb b.link l && is_emptied b links then earlier t (wake_of wakes l) else wake_of wakes l)
+one_woken : (t l : ℕ) (b : Buffered) (links : List LinkView) (wakes : List (Option ℕ)) → b.slot < length wakes
+    → wake_of (wake_emptied t b links wakes) l ≡ (if eqb b.slot l && is_emptied b links then earlier t (wake_of wakes l) else wake_of wakes l)
 one_woken t l b links wakes lt =
     elim (cases_Bool (is_emptied b links)) [
       | inl e ↦
-          elim (cases_Bool (eqb b.link l)) [
+          elim (cases_Bool (eqb b.slot l)) [
             | inl q ↦
-                let s = eqb-true b.link l q in
-                rw (e, q) (wake_set l b.link (earlier t (wake_of wakes b.link)) wakes lt ∙ rw q (ap (λ (k : ℕ). earlier t (wake_of wakes k)) s))
-            | inr q ↦ rw (e, q) (wake_set l b.link (earlier t (wake_of wakes b.link)) wakes lt ∙ rw q refl)
+                let s = eqb-true b.slot l q in
+                rw (e, q) (wake_set l b.slot (earlier t (wake_of wakes b.slot)) wakes lt ∙ rw q (ap (λ (k : ℕ). earlier t (wake_of wakes k)) s))
+            | inr q ↦ rw (e, q) (wake_set l b.slot (earlier t (wake_of wakes b.slot)) wakes lt ∙ rw q refl)
           ]
-      | inr e ↦ elim (cases_Bool (eqb b.link l)) [ inl q ↦ rw (e, q) refl | inr q ↦ rw (e, q) refl ]
+      | inr e ↦ elim (cases_Bool (eqb b.slot l)) [ inl q ↦ rw (e, q) refl | inr q ↦ rw (e, q) refl ]
     ]
 
 one_length : (t : ℕ) (b : Buffered) (links : List LinkView) (wakes : List (Option ℕ)) → length (wake_emptied t b links wakes) ≡ length wakes
 one_length t b links wakes =
-    elim (cases_Bool (is_emptied b links)) [ inl e ↦ rw e (length-set wakes b.link (earlier t (wake_of wakes b.link))) | inr e ↦ rw e refl ]
+    elim (cases_Bool (is_emptied b links)) [ inl e ↦ rw e (length-set wakes b.slot (earlier t (wake_of wakes b.slot))) | inr e ↦ rw e refl ]
 
 pub emptied_length : (t : ℕ) (bs : List Buffered) (links : List LinkView) (wakes : List (Option ℕ)) → length (wake_all_emptied t bs links wakes) ≡ length wakes
 unfolding wake_all_emptied
@@ -66,7 +66,7 @@ all_woken t l (b ∷ bs) links wakes h =
     let there : AreThere (length next) bs = subst (λ (n : ℕ). AreThere n bs) (sym (one_length t b links wakes)) h.1 in
     let one = one_woken t l b links wakes h.0 in
     let rest = all_woken t l bs links next there in
-    elim (cases_Bool (eqb b.link l && is_emptied b links)) [
+    elim (cases_Bool (eqb b.slot l && is_emptied b links)) [
       | inl e ↦
           let w : wake_of next l ≡ earlier t (wake_of wakes l) = one ∙ rw e refl in
           elim (cases_Bool (emptied_at l links bs)) [

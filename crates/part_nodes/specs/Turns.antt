@@ -23,16 +23,20 @@ pub record IsTurnOf (S : Setup) (t n : ℕ) (K : Stuck) (u : ℕ) (s : Source) :
   pub second : u ≡ t
   pub words : word s ≡ S.word n
 
--- the lights of links in second t
-abbrev pub lights_of : Setup → ℕ → List ℕ → List Bool
-lights_of S t ls = map (λ (l : ℕ). S.green l t) ls
+-- the links have numbers below so many
+abbrev pub HaveNumbersIn : ℕ → List LinkView → Type 0
+HaveNumbersIn count links = (k : ℕ) → k < length links → (lane links k).numbers.link < count
 
--- how many vehicles are in the buffer of the link of a number
+-- the lights of the links in these slots in second t
+abbrev pub lights_of : Setup → ℕ → List LinkView → List ℕ → List Bool
+lights_of S t links ks = map (λ (k : ℕ). S.green (lane links k).numbers.link t) ks
+
+-- how many vehicles are in the buffer of the link in a slot
 abbrev pub count_in : List LinkView → ℕ → ℕ
-count_in links l = length (lane links l).lists.buffer
+count_in links k = length (lane links k).lists.buffer
 
 abbrev pub buffered_in : List LinkView → ℕ → Buffered
-buffered_in links l = record { link = l; count = count_in links l }
+buffered_in links k = record { slot = k; count = count_in links k }
 
 -- nobody is on a link but in its buffer
 abbrev pub is_clear : LinkView → Bool
@@ -40,25 +44,25 @@ is_clear v = is_nil v.lists.queue && (is_nil v.lists.wait && is_nil v.lists.bay)
 
 -- the buffer of a link has not so many vehicles any more, and somebody else is on it
 abbrev pub is_emptied : Buffered → List LinkView → Bool
-is_emptied b links = not (count_in links b.link == b.count) && not (is_clear (lane links b.link))
+is_emptied b links = not (count_in links b.slot == b.count) && not (is_clear (lane links b.slot))
 
 -- such a link is woken in second t
 abbrev pub wake_emptied : ℕ → Buffered → List LinkView → List (Option ℕ) → List (Option ℕ)
-wake_emptied t b links wakes = if is_emptied b links then woken_by t b.link wakes else wakes
+wake_emptied t b links wakes = if is_emptied b links then woken_by t b.slot wakes else wakes
 
 -- the same of each of these links, in order
 unfoldable pub wake_all_emptied : ℕ → List Buffered → List LinkView → List (Option ℕ) → List (Option ℕ)
 wake_all_emptied t [] links wakes = wakes
 wake_all_emptied t (b ∷ bs) links wakes = wake_all_emptied t bs links (wake_emptied t b links wakes)
 
--- they are links of so many
+-- they are in slots of so many
 abbrev pub AreThere : ℕ → List Buffered → Type 0
 AreThere count [] = Unit {0}
-AreThere count (b ∷ bs) = (b.link < count) × AreThere count bs
+AreThere count (b ∷ bs) = (b.slot < count) × AreThere count bs
 
--- whether somebody is in the buffer of the link of a number
+-- whether somebody is in the buffer of the link in a slot
 abbrev pub is_buffered : List LinkView → ℕ → Bool
-is_buffered links n = nat_lt 0 (count_in links n)
+is_buffered links k = nat_lt 0 (count_in links k)
 
 -- the only one of these numbers, where there is just one
 abbrev pub only_of : List ℕ → Option ℕ
@@ -85,11 +89,14 @@ due_from K t held (Some since) = Some (if held then since + K.seconds else t + 1
 abbrev pub front_due : Stuck → ℕ → (ℕ → Bool) → List (Option OutLink) → ℕ → List Row → Option ℕ
 front_due K t always space l rows = due_from K t (is_held K t always space l rows) (front_second rows)
 
--- the earliest of these seconds, and of this one
+-- the same of a link
+abbrev pub link_due : Stuck → ℕ → (ℕ → Bool) → List (Option OutLink) → LinkView → Option ℕ
+link_due K t always space v = front_due K t always space v.numbers.link v.lists.buffer
+
+-- the earliest of these seconds of the links in these slots, and of this one
 unfoldable pub node_due : Stuck → ℕ → (ℕ → Bool) → List (Option OutLink) → List LinkView → Option ℕ → List ℕ → Option ℕ
 node_due K t always space links due [] = due
-node_due K t always space links due (l ∷ ls) =
-    node_due K t always space links (sooner due (front_due K t always space l (lane links l).lists.buffer)) ls
+node_due K t always space links due (k ∷ ks) = node_due K t always space links (sooner due (link_due K t always space (lane links k))) ks
 
 -- a second, where it is not after the end
 abbrev pub up_to : ℕ → Option ℕ → Option ℕ
@@ -100,8 +107,8 @@ up_to end (Some u) = if nat_le u end then Some u else None
 abbrev pub always_in : List Phases → ℕ → Bool
 always_in greens l = is_always (green_at greens l)
 
--- when a node with these links into it is woken again after second t
+-- when a node with the links in these slots into it is woken again after second t
 abbrev pub woken_again : DayInput → ℕ → List ℕ → List LinkView → List (Option OutLink) → Option ℕ
-woken_again day t ls links space =
+woken_again day t ks links space =
     up_to day.town.now.settings.end_second
-    (node_due day.town.now.settings.stuck t (always_in day.town.now.greens) space links None ls)
+    (node_due day.town.now.settings.stuck t (always_in day.town.now.greens) space links None ks)

@@ -1,6 +1,7 @@
 use std::marker::Model;
 
-/// The numbers of the links into each node, ascending. Contracts see a list of them for each node.
+/// The slots of the links into each node, in the order of the links' numbers: each among the links of the part that has the node. Contracts
+/// see a list of them for each node.
 #[derive(Drop)]
 pub struct InLinks {
     pub(crate) rows: Vec<Vec<u32>>,

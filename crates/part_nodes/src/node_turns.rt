@@ -1,6 +1,6 @@
 //! The turn of a node that is woken.
 
-ghost use Rattle.std.specs.Prelude.{◌≡◌, ◌+◌, ◌<◌, ◌++◌, length, map, filter, OnOk, IfOk};
+ghost use Rattle.std.specs.Prelude.{◌≡◌, ◌+◌, ◌<◌, ◌++◌, [], ◌∷◌, true, length, map, filter, OnOk, IfOk};
 ghost use Rattle.limits.specs.declared.TheConstants.{LAST_SECOND};
 ghost use Rattle.law_in_range.specs.Setups.{counts_in, HaveFittingPlans};
 ghost use Rattle.town.specs.Views.{setup};
@@ -8,17 +8,18 @@ ghost use Rattle.traffic.specs.Rows.{World};
 ghost use Rattle.traffic.specs.Setup.{into};
 ghost use Rattle.node_seconds.specs.Networks.{lane};
 ghost use Rattle.calendar.specs.Due.{AreIn};
+ghost use Rattle.part_nodes.specs.InLinks.{slots_of};
 ghost use Rattle.part_nodes.specs.Turns.{IsTurnOf, lights_of, buffered_in, is_clear, is_emptied, wake_emptied, wake_all_emptied};
-ghost use Rattle.part_nodes.specs.Turns.{AreThere, is_buffered, only_of};
-ghost use Rattle.part_nodes.specs.Phase.{LinksStandFor, LinksStandForSome, StandsFor, Stands, IsPassed, IsTurn};
+ghost use Rattle.part_nodes.specs.Turns.{AreThere, is_buffered, only_of, HaveNumbersIn};
+ghost use Rattle.part_nodes.specs.Phase.{Extent, HasLinks, LinksStandFor, LinksStandForSome, StandsForAt, Stands, IsPassed, IsTurn};
 
 use crate::network::Network;
 use crate::resting::wake_again;
 use calendar::Wakes;
 use draws::Draws;
 use events::Phase;
-use node_move::{NodeTurn, Space};
-use node_seconds::{enter_links, node_second};
+use node_move::{Entering, NodeTurn, Space};
+use node_seconds::{enter_links, node_second, number_at};
 use part_links::Told;
 use queue_link::LinkState;
 use rows::green_in;
@@ -34,13 +35,15 @@ pub struct NodePhase<'a> {
     pub day: &'a DayInput<'a>,
     /// The second, from the start of the day.
     pub second: u32,
+    /// The slot of each link, by its number, among the links of the part that has it.
+    pub link_slots: &'a [u32],
 }
 
 /// A link, and how many vehicles were in its buffer.
 #[derive(Clone, Copy)]
 struct Buffered {
-    /// The number of the link.
-    link: u32,
+    /// The slot of the link.
+    slot: u32,
     /// How many vehicles.
     count: usize,
 }
@@ -48,8 +51,8 @@ struct Buffered {
 /// The links into a node in whose buffers somebody is.
 #[derive(Clone, Copy)]
 struct Fronts<'a> {
-    /// The numbers of the links, in order.
-    numbers: &'a [u32],
+    /// The slots of the links, in the order of their numbers.
+    slots: &'a [u32],
     /// Whether each of them is green.
     greens: &'a [bool],
     /// How many vehicles are in the buffer of each.
@@ -66,52 +69,54 @@ fn is_green(day: &DayInput, second: u32, link: u32) -> bool
     green_in(&day.town.greens, link, second)
 }
 
-/// The lights of links.
+/// The lights of the links in these slots.
 fn lights(
     alloc: Global,
     day: &DayInput,
     second: u32,
-    links: &[u32],
+    links: &[LinkState],
+    slots: &[u32],
 ) -> Result<Vec<bool>, AllocError>
     requires second_in { second < LAST_SECOND }
-    requires there { AreIn (length day.now.town.now.network.links) links.now }
-    ensures { IfOk result (λ greens. greens.items ≡ lights_of (setup day.now) second links.now) }
+    requires there { AreIn (length links.now) slots.now }
+    requires known { HaveNumbersIn (length day.now.town.now.network.links) links.now }
+    ensures { IfOk result (λ greens. greens.items ≡ lights_of (setup day.now) second links.now slots.now) }
 {
     let mut greens = Vec::new(alloc);
-    let mut rest = links;
-    while let [link, later @ ..] = rest {
-        greens.push(is_green(day, second, *link))?;
+    let mut rest = slots;
+    while let [slot, later @ ..] = rest {
+        greens.push(is_green(day, second, number_at(links, *slot)))?;
         rest = later;
     }
     Ok(greens)
 }
 
-/// A link with the count of vehicles in its buffer.
+/// The link in a slot, with the count of vehicles in its buffer.
 #[tactic(auto, using(node_move::proofs::Places::is_at))]
-fn buffered_in(links: &[LinkState], number: u32) -> Buffered
-    requires { number < length links.now }
-    ensures { result ≡ buffered_in links.now number }
+fn buffered_in(links: &[LinkState], slot: u32) -> Buffered
+    requires { slot < length links.now }
+    ensures { result ≡ buffered_in links.now slot }
 {
-    let link = &links[number as usize];
+    let link = &links[slot as usize];
     Buffered {
-        link: number,
+        slot,
         count: link.buffered(),
     }
 }
 
-/// These links with the counts of vehicles in their buffers, in order.
+/// The links in these slots with the counts of vehicles in their buffers, in order.
 fn buffers_of(
     alloc: Global,
     links: &[LinkState],
-    numbers: &[u32],
+    slots: &[u32],
 ) -> Result<Vec<Buffered>, AllocError>
-    requires { AreIn (length links.now) numbers.now }
-    ensures { IfOk result (λ counts. counts.items ≡ map (buffered_in links.now) numbers.now) }
+    requires { AreIn (length links.now) slots.now }
+    ensures { IfOk result (λ counts. counts.items ≡ map (buffered_in links.now) slots.now) }
 {
     let mut counts = Vec::new(alloc);
-    let mut rest = numbers;
-    while let [number, later @ ..] = rest {
-        counts.push(buffered_in(links, *number))?;
+    let mut rest = slots;
+    while let [slot, later @ ..] = rest {
+        counts.push(buffered_in(links, *slot))?;
         rest = later;
     }
     Ok(counts)
@@ -124,23 +129,23 @@ fn is_clear(link: &LinkState) -> bool
     link.idle()
 }
 
-/// Whether nobody is on the link of a number but in its buffer.
+/// Whether nobody is on the link in a slot but in its buffer.
 #[tactic(auto, using(node_move::proofs::Places::is_at))]
-fn is_clear_at(links: &[LinkState], number: u32) -> bool
-    requires { number < length links.now }
-    ensures { result ≡ is_clear (lane links.now number) }
+fn is_clear_at(links: &[LinkState], slot: u32) -> bool
+    requires { slot < length links.now }
+    ensures { result ≡ is_clear (lane links.now slot) }
 {
-    let link = &links[number as usize];
+    let link = &links[slot as usize];
     is_clear(link)
 }
 
 /// Whether the buffer of a link has not so many vehicles any more, and somebody else is on the link.
 fn is_emptied(before: Buffered, links: &[LinkState]) -> bool
-    requires { before.link < length links.now }
+    requires { before.slot < length links.now }
     ensures { result ≡ is_emptied before links.now }
 {
-    let now = buffered_in(links, before.link);
-    now.count != before.count && !is_clear_at(links, before.link)
+    let now = buffered_in(links, before.slot);
+    now.count != before.count && !is_clear_at(links, before.slot)
 }
 
 /// A link is woken in this second where its buffer has not so many vehicles any more and somebody else is on it.
@@ -150,12 +155,12 @@ fn wake_emptied(
     links: &[LinkState],
     wakes: &mut Wakes,
 ) -> Result<(), AllocError>
-    requires there { before.link < length links.now }
+    requires there { before.slot < length links.now }
     requires count { length wakes.old ≡ length links.now }
     ensures { OnOk result (wakes.new ≡ wake_emptied second before links.now wakes.old) }
 {
     if is_emptied(before, links) {
-        wakes.wake(before.link, second)?;
+        wakes.wake(before.slot, second)?;
     }
     Ok(())
 }
@@ -192,44 +197,40 @@ fn turn_of(day: &DayInput, second: u32, node: u32) -> NodeTurn
     }
 }
 
-/// Whether somebody is in the buffer of the link of a number.
-fn is_buffered(links: &[LinkState], number: u32) -> bool
-    requires { number < length links.now }
-    ensures { result ≡ is_buffered links.now number }
+/// Whether somebody is in the buffer of the link in a slot.
+fn is_buffered(links: &[LinkState], slot: u32) -> bool
+    requires { slot < length links.now }
+    ensures { result ≡ is_buffered links.now slot }
 {
-    buffered_in(links, number).count > 0
+    buffered_in(links, slot).count > 0
 }
 
-/// Those of these links in whose buffers somebody is, in order.
-fn buffered_ones(
-    alloc: Global,
-    links: &[LinkState],
-    numbers: &[u32],
-) -> Result<Vec<u32>, AllocError>
-    requires { AreIn (length links.now) numbers.now }
-    ensures { IfOk result (λ some. some.items ≡ filter (is_buffered links.now) numbers.now) }
+/// The slots of those of these links in whose buffers somebody is, in order.
+fn buffered_ones(alloc: Global, links: &[LinkState], slots: &[u32]) -> Result<Vec<u32>, AllocError>
+    requires { AreIn (length links.now) slots.now }
+    ensures { IfOk result (λ some. some.items ≡ filter (is_buffered links.now) slots.now) }
 {
     let mut some = Vec::new(alloc);
-    let mut rest = numbers;
-    while let [number, later @ ..] = rest {
-        if is_buffered(links, *number) {
-            some.push(*number)?;
+    let mut rest = slots;
+    while let [slot, later @ ..] = rest {
+        if is_buffered(links, *slot) {
+            some.push(*slot)?;
         }
         rest = later;
     }
     Ok(some)
 }
 
-/// The only one of these links in whose buffer somebody is, where there is just one.
-fn only_buffered(links: &[LinkState], numbers: &[u32]) -> Option<u32>
-    requires { AreIn (length links.now) numbers.now }
-    ensures { result ≡ only_of (filter (is_buffered links.now) numbers.now) }
+/// The slot of the only one of these links in whose buffer somebody is, where there is just one.
+fn only_buffered(links: &[LinkState], slots: &[u32]) -> Option<u32>
+    requires { AreIn (length links.now) slots.now }
+    ensures { result ≡ only_of (filter (is_buffered links.now) slots.now) }
 {
     let mut only = None;
-    for number in numbers {
-        if is_buffered(links, *number) {
+    for slot in slots {
+        if is_buffered(links, *slot) {
             match only {
-                None => only = Some(*number),
+                None => only = Some(*slot),
                 Some(_) => return None,
             }
         }
@@ -238,135 +239,137 @@ fn only_buffered(links: &[LinkState], numbers: &[u32]) -> Option<u32>
 }
 
 /// Those links into a node in whose buffers somebody is hand over to the links out of it, and those that have room in their buffers again
-/// are woken in this second. Answers what that tells.
+/// are woken in this second. Answers what that tells, and appends to `out` who enters a link of another part.
 fn pass_fronts(
-    alloc: Global,
     phase: &NodePhase,
     node: u32,
     fronts: &Fronts,
     links: &mut [LinkState],
     space: &mut Space,
     wakes: &mut Wakes,
+    out: &mut Vec<Entering>,
 ) -> Result<Vec<Occurrence>, AllocError>
     requires second_in { phase.now.second < LAST_SECOND }
     requires in_day { phase.now.second < phase.now.day.now.town.now.settings.end_second }
     requires given { HaveFittingPlans phase.now.day.now }
-    requires into { fronts.now.numbers.now ≡ filter (is_buffered links.old) (into (setup phase.now.day.now) node) }
-    requires lit { fronts.now.greens.now ≡ lights_of (setup phase.now.day.now) phase.now.second fronts.now.numbers.now }
-    requires counted { fronts.now.buffered.now ≡ map (buffered_in links.old) fronts.now.numbers.now }
+    requires into { fronts.now.slots.now
+        ≡ filter (is_buffered links.old) (slots_of phase.now.link_slots.now (into (setup phase.now.day.now) node)) }
+    requires lit { fronts.now.greens.now ≡ lights_of (setup phase.now.day.now) phase.now.second links.old fronts.now.slots.now }
+    requires counted { fronts.now.buffered.now ≡ map (buffered_in links.old) fronts.now.slots.now }
     requires stand { LinksStandForSome (counts_in phase.now.day.now) (setup phase.now.day.now)
-        phase.now.day.now.town.now.settings.end_second phase.now.second links.old wakes.old space.old }
-    ensures { (V : World) → LinksStandFor (counts_in phase.now.day.now) (setup phase.now.day.now)
+        phase.now.day.now.town.now.settings.end_second phase.now.second node phase.now.link_slots.now links.old wakes.old space.old }
+    ensures { (E : Extent) (V : World) → HasLinks (setup phase.now.day.now) E phase.now.link_slots.now → E.mine node ≡ true
+        → LinksStandFor (counts_in phase.now.day.now) (setup phase.now.day.now) E
         phase.now.day.now.town.now.settings.end_second phase.now.second links.old wakes.old space.old V
-        → IfOk result (λ said. IsPassed (counts_in phase.now.day.now) (setup phase.now.day.now)
-        phase.now.day.now.town.now.settings.end_second phase.now.second node V links.new wakes.new space.new said.items) }
+        → IfOk result (λ said. IsPassed (counts_in phase.now.day.now) (setup phase.now.day.now) E
+        phase.now.day.now.town.now.settings.end_second phase.now.second node V links.new wakes.new space.new said.items
+        out.old.items out.new.items) }
 {
     let day = phase.day;
-    let turn = turn_of(day, phase.second, node);
-    let mut said = Vec::new(alloc);
-    let entering = node_second(
-        &turn,
-        fronts.numbers,
-        fronts.greens,
-        links,
-        space,
-        &mut said,
-    )?;
-    wake_all_emptied(phase.second, fronts.buffered, links, wakes)?;
+    let second = phase.second;
+    let turn = turn_of(day, second, node);
+    let mut said = Vec::new(*out.allocator());
+    let entering = node_second(&turn, fronts.slots, fronts.greens, links, space, &mut said)?;
+    wake_all_emptied(second, fronts.buffered, links, wakes)?;
     let end = day.town.settings.end_second;
-    enter_links(end, phase.second, entering, links, wakes)?;
+    enter_links(end, second, entering, phase.link_slots, links, wakes, out)?;
     Ok(said)
 }
 
 /// The links into a node hand over to the links out of it, and those that have room in their buffers again are woken in this second.
-/// Answers what that tells. Only those are looked at in whose buffers somebody is; for a single one no list is made.
+/// Answers what that tells, and appends to `out` who enters a link of another part. Only those links are looked at in whose buffers somebody
+/// is; for a single one no list is made.
 fn pass_node(
-    alloc: Global,
     phase: &NodePhase,
     node: u32,
-    numbers: &[u32],
+    slots: &[u32],
     links: &mut [LinkState],
     space: &mut Space,
     wakes: &mut Wakes,
+    out: &mut Vec<Entering>,
 ) -> Result<Vec<Occurrence>, AllocError>
     requires second_in { phase.now.second < LAST_SECOND }
     requires in_day { phase.now.second < phase.now.day.now.town.now.settings.end_second }
     requires given { HaveFittingPlans phase.now.day.now }
-    requires into { numbers.now ≡ into (setup phase.now.day.now) node }
+    requires into { slots.now ≡ slots_of phase.now.link_slots.now (into (setup phase.now.day.now) node) }
     requires stand { LinksStandForSome (counts_in phase.now.day.now) (setup phase.now.day.now)
-        phase.now.day.now.town.now.settings.end_second phase.now.second links.old wakes.old space.old }
-    ensures { (V : World) → LinksStandFor (counts_in phase.now.day.now) (setup phase.now.day.now)
+        phase.now.day.now.town.now.settings.end_second phase.now.second node phase.now.link_slots.now links.old wakes.old space.old }
+    ensures { (E : Extent) (V : World) → HasLinks (setup phase.now.day.now) E phase.now.link_slots.now → E.mine node ≡ true
+        → LinksStandFor (counts_in phase.now.day.now) (setup phase.now.day.now) E
         phase.now.day.now.town.now.settings.end_second phase.now.second links.old wakes.old space.old V
-        → IfOk result (λ said. IsPassed (counts_in phase.now.day.now) (setup phase.now.day.now)
-        phase.now.day.now.town.now.settings.end_second phase.now.second node V links.new wakes.new space.new said.items) }
+        → IfOk result (λ said. IsPassed (counts_in phase.now.day.now) (setup phase.now.day.now) E
+        phase.now.day.now.town.now.settings.end_second phase.now.second node V links.new wakes.new space.new said.items
+        out.old.items out.new.items) }
 {
     let day = phase.day;
-    match only_buffered(links, numbers) {
-        Some(number) => {
-            let green = is_green(day, phase.second, number);
-            let buffered = buffered_in(links, number);
+    match only_buffered(links, slots) {
+        Some(slot) => {
+            let green = is_green(day, phase.second, number_at(links, slot));
+            let buffered = buffered_in(links, slot);
             let fronts = Fronts {
-                numbers: from_ref(&number),
+                slots: from_ref(&slot),
                 greens: from_ref(&green),
                 buffered: from_ref(&buffered),
             };
-            let said = pass_fronts(alloc, phase, node, &fronts, links, space, wakes)?;
+            let said = pass_fronts(phase, node, &fronts, links, space, wakes, out)?;
             Ok(said)
         }
         None => {
-            let some = buffered_ones(alloc, links, numbers)?;
-            let greens = lights(alloc, day, phase.second, &some)?;
+            let alloc = *out.allocator();
+            let some = buffered_ones(alloc, links, slots)?;
+            let greens = lights(alloc, day, phase.second, links, &some)?;
             let buffered = buffers_of(alloc, links, &some)?;
             let fronts = Fronts {
-                numbers: &some,
+                slots: &some,
                 greens: &greens,
                 buffered: &buffered,
             };
-            let said = pass_fronts(alloc, phase, node, &fronts, links, space, wakes)?;
+            let said = pass_fronts(phase, node, &fronts, links, space, wakes, out)?;
             Ok(said)
         }
     }
 }
 
-/// The turn of a node. Appends what it tells.
+/// The turn of a node. Appends what it tells, and to `out` who enters a link of another part.
 ///
 /// # Errors
 ///
 /// `AllocError`: there is no memory for a vehicle or an event. The network is then of no use.
 pub(crate) fn turn_node(
-    alloc: Global,
     phase: &NodePhase,
     node: u32,
-    numbers: &[u32],
+    slots: &[u32],
     network: &mut Network,
     told: &mut Told,
+    out: &mut Vec<Entering>,
 ) -> Result<(), AllocError>
     requires second_in { phase.now.second < LAST_SECOND }
     requires in_day { phase.now.second < phase.now.day.now.town.now.settings.end_second }
     requires given { HaveFittingPlans phase.now.day.now }
     requires there { node < (setup phase.now.day.now).nodes }
-    requires into { numbers.now ≡ into (setup phase.now.day.now) node }
+    requires into { slots.now ≡ slots_of phase.now.link_slots.now (into (setup phase.now.day.now) node) }
     requires stands { Stands (counts_in phase.now.day.now) (setup phase.now.day.now) phase.now.day.now.town.now.settings.end_second
-        phase.now.second network.old }
-    ensures { (V : World) → StandsFor (counts_in phase.now.day.now) (setup phase.now.day.now)
+        phase.now.second phase.now.link_slots.now (node ∷ []) network.old }
+    ensures { (E : Extent) (V : World) → HasLinks (setup phase.now.day.now) E phase.now.link_slots.now → E.mine node ≡ true
+        → StandsForAt (counts_in phase.now.day.now) (setup phase.now.day.now) E
         phase.now.day.now.town.now.settings.end_second phase.now.second network.old V
-        → OnOk result (IsTurn (counts_in phase.now.day.now) (setup phase.now.day.now)
+        → OnOk result (IsTurn (counts_in phase.now.day.now) (setup phase.now.day.now) E
         phase.now.day.now.town.now.settings.end_second phase.now.second node V network.old network.new
-        told.old.events.items told.new.events.items told.old.said.items told.new.said.items) }
+        told.old.events.items told.new.events.items told.old.said.items told.new.said.items out.old.items out.new.items) }
 {
     let said = pass_node(
-        alloc,
         phase,
         node,
-        numbers,
+        slots,
         &mut network.links,
         &mut network.places.space,
         &mut network.link_wakes,
+        out,
     )?;
     wake_again(
         phase,
         node,
-        numbers,
+        slots,
         &network.links,
         &network.places.space,
         &mut network.node_wakes,

@@ -8,74 +8,82 @@ ghost use Rattle.traffic.specs.Rows.{World};
 ghost use Rattle.traffic.specs.Setup.{into};
 ghost use Rattle.node_seconds.specs.Networks.{AreOnce};
 ghost use Rattle.calendar.specs.Due.{AreIn};
-ghost use Rattle.part_nodes.specs.Phase.{StandsFor, Stands, AreAwaited, AreTurned, IsPhase};
+ghost use Rattle.part_nodes.specs.InLinks.{slots_of};
+ghost use Rattle.part_nodes.specs.Phase.{Extent, HasLinks, AreMine, StandsForAt, Stands, AreAwaitedAt, AreTurned, IsPhaseAt};
 
 use crate::in_link_rows::InLinks;
 use crate::network::Network;
 use crate::node_turns::{NodePhase, turn_node};
+use node_move::Entering;
 use part_links::Told;
-use std::alloc::{AllocError, Global};
+use std::alloc::AllocError;
 
 /// The turns of the nodes of these numbers, one after the other.
 fn turn_nodes(
-    alloc: Global,
     phase: &NodePhase,
     in_links: &InLinks,
     numbers: &[u32],
     network: &mut Network,
     told: &mut Told,
+    out: &mut Vec<Entering>,
 ) -> Result<(), AllocError>
     requires second_in { phase.now.second < LAST_SECOND }
     requires in_day { phase.now.second < phase.now.day.now.town.now.settings.end_second }
     requires given { HaveFittingPlans phase.now.day.now }
     requires nodes { length in_links.now ≡ (setup phase.now.day.now).nodes }
-    requires into { (n : ℕ) → n < (setup phase.now.day.now).nodes → get_or in_links.now n [] ≡ into (setup phase.now.day.now) n }
+    requires into { (n : ℕ) → n < (setup phase.now.day.now).nodes
+        → get_or in_links.now n [] ≡ slots_of phase.now.link_slots.now (into (setup phase.now.day.now) n) }
     requires there { AreIn (setup phase.now.day.now).nodes numbers.now }
     requires once { AreOnce numbers.now }
     requires stands { Stands (counts_in phase.now.day.now) (setup phase.now.day.now) phase.now.day.now.town.now.settings.end_second
-        phase.now.second network.old }
-    ensures { (V : World) → StandsFor (counts_in phase.now.day.now) (setup phase.now.day.now)
+        phase.now.second phase.now.link_slots.now numbers.now network.old }
+    ensures { (E : Extent) (V : World) → HasLinks (setup phase.now.day.now) E phase.now.link_slots.now → AreMine E numbers.now
+        → StandsForAt (counts_in phase.now.day.now) (setup phase.now.day.now) E
         phase.now.day.now.town.now.settings.end_second phase.now.second network.old V
-        → OnOk result (AreTurned (counts_in phase.now.day.now) (setup phase.now.day.now)
+        → OnOk result (AreTurned (counts_in phase.now.day.now) (setup phase.now.day.now) E
         phase.now.day.now.town.now.settings.end_second phase.now.second V numbers.now network.old network.new
-        told.old.events.items told.new.events.items told.old.said.items told.new.said.items) }
+        told.old.events.items told.new.events.items told.old.said.items told.new.said.items out.old.items out.new.items) }
 {
     for number in numbers {
         let into = in_links.of_node(*number);
-        turn_node(alloc, phase, *number, into, network, told)?;
+        turn_node(phase, *number, into, network, told, out)?;
     }
     Ok(())
 }
 
-/// The nodes let vehicles pass in a second: those that are woken in it have their turns, by number, and are woken again in the next second
-/// or, where the fronts of all links into them wait for places, when the first of these is stuck. Appends what that tells.
+/// The nodes of a network, all or those of a part, let vehicles pass in a second: those that are woken in it have their turns, by number,
+/// and are woken again in the next second or, where the fronts of all links into them wait for places, when the first of these is stuck.
+/// Appends what that tells, and to `out`, in order, who enters a link of another part. All links, places and events are then those of the
+/// phase in which every one of these nodes has its turn, by whatever world the network stands for.
 ///
 /// # Errors
 ///
 /// `AllocError`: there is no memory for a vehicle or an event. The network is then of no use.
 pub fn move_nodes(
-    alloc: Global,
     phase: &NodePhase,
     in_links: &InLinks,
     network: &mut Network,
     told: &mut Told,
+    out: &mut Vec<Entering>,
 ) -> Result<(), AllocError>
     requires second_in { phase.now.second < LAST_SECOND }
     requires in_day { phase.now.second < phase.now.day.now.town.now.settings.end_second }
     requires given { HaveFittingPlans phase.now.day.now }
     requires nodes { length in_links.now ≡ (setup phase.now.day.now).nodes }
-    requires into { (n : ℕ) → n < (setup phase.now.day.now).nodes → get_or in_links.now n [] ≡ into (setup phase.now.day.now) n }
+    requires into { (n : ℕ) → n < (setup phase.now.day.now).nodes
+        → get_or in_links.now n [] ≡ slots_of phase.now.link_slots.now (into (setup phase.now.day.now) n) }
     requires stands { Stands (counts_in phase.now.day.now) (setup phase.now.day.now) phase.now.day.now.town.now.settings.end_second
-        phase.now.second network.old }
-    ensures { (V : World) → StandsFor (counts_in phase.now.day.now) (setup phase.now.day.now)
+        phase.now.second phase.now.link_slots.now [] network.old }
+    ensures { (E : Extent) (V : World) → HasLinks (setup phase.now.day.now) E phase.now.link_slots.now
+        → StandsForAt (counts_in phase.now.day.now) (setup phase.now.day.now) E
         phase.now.day.now.town.now.settings.end_second phase.now.second network.old V
-        → AreAwaited (setup phase.now.day.now) phase.now.day.now.town.now.settings.end_second (phase.now.second + 1)
+        → AreAwaitedAt E.mine (setup phase.now.day.now) phase.now.day.now.town.now.settings.end_second (phase.now.second + 1)
         phase.now.second network.old.node_wakes V
-        → OnOk result (IsPhase (counts_in phase.now.day.now) (setup phase.now.day.now)
+        → OnOk result (IsPhaseAt (counts_in phase.now.day.now) (setup phase.now.day.now) E
         phase.now.day.now.town.now.settings.end_second phase.now.second V network.old network.new
-        told.old.events.items told.new.events.items told.old.said.items told.new.said.items) }
+        told.old.events.items told.new.events.items told.old.said.items told.new.said.items out.old.items out.new.items) }
 {
     let numbers = network.node_wakes.take(phase.second);
-    turn_nodes(alloc, phase, in_links, &numbers, network, told)?;
+    turn_nodes(phase, in_links, &numbers, network, told, out)?;
     Ok(())
 }

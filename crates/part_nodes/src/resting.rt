@@ -8,7 +8,7 @@ ghost use Rattle.node_seconds.specs.Networks.{lane};
 ghost use Rattle.calendar.specs.Due.{AreIn};
 ghost use Rattle.calendar.specs.Waking.{earliest as sooner};
 ghost use Rattle.traffic.specs.Nodes.{has_room};
-ghost use Rattle.part_nodes.specs.Turns.{covers, is_always, always_in, is_held, front_due, node_due, up_to, woken_again};
+ghost use Rattle.part_nodes.specs.Turns.{covers, is_always, always_in, is_held, link_due, node_due, up_to, woken_again, HaveNumbersIn};
 
 use crate::node_turns::NodePhase;
 use calendar::Wakes;
@@ -74,12 +74,12 @@ fn can_go(stuck: &Stuck, second: u32, link: &LinkState, space: &Space) -> bool
 }
 
 /// Whether the front of a link waits for a place: the link is always green, and its front cannot go.
-fn is_held(phase: &NodePhase, number: u32, link: &LinkState, space: &Space) -> bool
-    requires { number < length phase.now.day.now.town.now.network.links }
+fn is_held(phase: &NodePhase, link: &LinkState, space: &Space) -> bool
+    requires { link.now.numbers.link < length phase.now.day.now.town.now.network.links }
     ensures { result ≡ is_held phase.now.day.now.town.now.settings.stuck phase.now.second
-        (always_in phase.now.day.now.town.now.greens) space.now number link.now.lists.buffer }
+        (always_in phase.now.day.now.town.now.greens) space.now link.now.numbers.link link.now.lists.buffer }
 {
-    if is_always_green(phase.day, number) {
+    if is_always_green(phase.day, link.numbers().link) {
         return !can_go(&phase.day.town.settings.stuck, phase.second, link, space);
     }
     false
@@ -87,16 +87,16 @@ fn is_held(phase: &NodePhase, number: u32, link: &LinkState, space: &Space) -> b
 
 /// When a node has to look at a link into it again, if nobody else does anything: not at all where nobody is in its buffer; where its
 /// front waits for a place, when it is stuck; and else in the next second.
-fn front_due(phase: &NodePhase, number: u32, link: &LinkState, space: &Space) -> Option<u64>
+fn link_due(phase: &NodePhase, link: &LinkState, space: &Space) -> Option<u64>
     requires second_in { phase.now.second < LAST_SECOND }
-    requires there { number < length phase.now.day.now.town.now.network.links }
-    ensures { result ≡ front_due phase.now.day.now.town.now.settings.stuck phase.now.second
-        (always_in phase.now.day.now.town.now.greens) space.now number link.now.lists.buffer }
+    requires there { link.now.numbers.link < length phase.now.day.now.town.now.network.links }
+    ensures { result ≡ link_due phase.now.day.now.town.now.settings.stuck phase.now.second
+        (always_in phase.now.day.now.town.now.greens) space.now link.now }
 {
     match link.first_since() {
         None => None,
         Some(since) => {
-            if is_held(phase, number, link, space) {
+            if is_held(phase, link, space) {
                 let patience = phase.day.town.settings.stuck.seconds;
                 return Some(u64::from(since) + u64::from(patience));
             }
@@ -105,17 +105,17 @@ fn front_due(phase: &NodePhase, number: u32, link: &LinkState, space: &Space) ->
     }
 }
 
-/// The same of the link of a number.
+/// The same of the link in a slot.
 #[tactic(auto, using(node_move::proofs::Places::is_at))]
-fn link_due(phase: &NodePhase, number: u32, links: &[LinkState], space: &Space) -> Option<u64>
+fn due_at(phase: &NodePhase, slot: u32, links: &[LinkState], space: &Space) -> Option<u64>
     requires second_in { phase.now.second < LAST_SECOND }
-    requires there { number < length phase.now.day.now.town.now.network.links }
-    requires within { number < length links.now }
-    ensures { result ≡ front_due phase.now.day.now.town.now.settings.stuck phase.now.second
-        (always_in phase.now.day.now.town.now.greens) space.now number (lane links.now number).lists.buffer }
+    requires there { slot < length links.now }
+    requires known { HaveNumbersIn (length phase.now.day.now.town.now.network.links) links.now }
+    ensures { result ≡ link_due phase.now.day.now.town.now.settings.stuck phase.now.second
+        (always_in phase.now.day.now.town.now.greens) space.now (lane links.now slot) }
 {
-    let link = &links[number as usize];
-    front_due(phase, number, link, space)
+    let link = &links[slot as usize];
+    link_due(phase, link, space)
 }
 
 /// The earlier one of two seconds, where there is any.
@@ -131,17 +131,17 @@ fn sooner(second: Option<u64>, other: Option<u64>) -> Option<u64>
 
 /// When a node has to look at the links into it again, if nobody else does anything.
 #[tactic(auto, unfolding(crate::specs::Turns::node_due))]
-fn node_due(phase: &NodePhase, numbers: &[u32], links: &[LinkState], space: &Space) -> Option<u64>
+fn node_due(phase: &NodePhase, slots: &[u32], links: &[LinkState], space: &Space) -> Option<u64>
     requires second_in { phase.now.second < LAST_SECOND }
-    requires there { AreIn (length phase.now.day.now.town.now.network.links) numbers.now }
-    requires within { AreIn (length links.now) numbers.now }
+    requires there { AreIn (length links.now) slots.now }
+    requires known { HaveNumbersIn (length phase.now.day.now.town.now.network.links) links.now }
     ensures { result ≡ node_due phase.now.day.now.town.now.settings.stuck phase.now.second
-        (always_in phase.now.day.now.town.now.greens) space.now links.now None numbers.now }
+        (always_in phase.now.day.now.town.now.greens) space.now links.now None slots.now }
 {
     let mut due = None;
-    let mut rest = numbers;
-    while let [number, later @ ..] = rest {
-        due = sooner(due, link_due(phase, *number, links, space));
+    let mut rest = slots;
+    while let [slot, later @ ..] = rest {
+        due = sooner(due, due_at(phase, *slot, links, space));
         rest = later;
     }
     due
@@ -167,18 +167,18 @@ fn up_to(end: u32, second: Option<u64>) -> Option<u32>
 pub(crate) fn wake_again(
     phase: &NodePhase,
     node: u32,
-    numbers: &[u32],
+    slots: &[u32],
     links: &[LinkState],
     space: &Space,
     wakes: &mut Wakes,
 ) -> Result<(), AllocError>
     requires second_in { phase.now.second < LAST_SECOND }
     requires node { node < length wakes.old }
-    requires there { AreIn (length phase.now.day.now.town.now.network.links) numbers.now }
-    requires within { AreIn (length links.now) numbers.now }
+    requires there { AreIn (length links.now) slots.now }
+    requires known { HaveNumbersIn (length phase.now.day.now.town.now.network.links) links.now }
     ensures { OnOk result (wakes.new
-        ≡ set wakes.old node (woken_again phase.now.day.now phase.now.second numbers.now links.now space.now)) }
+        ≡ set wakes.old node (woken_again phase.now.day.now phase.now.second slots.now links.now space.now)) }
 {
-    let due = node_due(phase, numbers, links, space);
+    let due = node_due(phase, slots, links, space);
     wakes.set(node, up_to(phase.day.town.settings.end_second, due))
 }

@@ -1,9 +1,9 @@
-use Rattle.std.proofs.Common.{◌∙◌, List, sym, subst, arith}
+use Rattle.std.proofs.Common.{◌∙◌, List, ap, sym, subst, arith}
 use Rattle.queue_link.specs.Links.{LinkView}
 use Rattle.node_move.specs.Spaces.{places_in}
 use Rattle.node_move.specs.NodeStates.{AreReady, AreApart}
 use Rattle.node_seconds.specs.Networks.{lane}
-use Rattle.node_seconds.proofs.Lanes.{ready_taken, apart_taken, links_turned}
+use Rattle.node_seconds.proofs.Lanes.{ready_taken, several_turned}
 use Rattle.node_seconds.proofs.seconds.several_second.Goals as goal
 
 pub move_node-requires-clause-ready : goal.move_node-requires-clause-ready
@@ -13,12 +13,13 @@ move_node-requires-clause-ready c =
 
 pub move_node-requires-clause-apart : goal.move_node-requires-clause-apart
 move_node-requires-clause-apart c =
-    subst (λ (vs : List LinkView). AreApart vs) (sym (c.deref_mut.ensures.value ∙ c.in_ok-taken.ensures.taken))
-    (apart_taken (lane c.args.links.now) c.args.into.now c.requires.numbers c.requires.once)
+    subst (λ (vs : List LinkView). AreApart vs) (sym (c.deref_mut.ensures.value ∙ c.in_ok-taken.ensures.taken)) c.requires.apart
 
-pub returns-clause-links : goal.returns-clause-links
-returns-clause-links c =
-    links_turned c.args.turn.now c.in_ok-taken.taken.len c.args.links.now c.take_links.new.links c.put_links.new.links c.deref_mut.result.now
-    c.move_node.new.in_links _ c.args.into.now c.args.greens.now (places_in c.args.space.now) (places_in c.move_node.new.space) _ _ _ _
-    c.args.said.now.items _ (c.deref_mut.ensures.value ∙ c.in_ok-taken.ensures.taken) c.in_ok-taken.ensures.count c.in_ok-taken.ensures.others
-    c.requires.numbers c.in_ok-move_node.ensures (omega (arith, c.move_node.auto.in_links, c.deref_mut.ensures.len)) c.put_links.ensures
+pub returns : goal.returns
+returns c =
+    several_turned c.args.turn.now c.in_ok-taken.taken.len c.args.links.now c.take_links.new.links c.put_links.new.links c.deref_mut.result.now
+    c.move_node.new.in_links _ c.args.into.now c.args.greens.now c.args.space.now c.move_node.new.space _ c.move_node.new.crossings.entering.items
+    c.entering_of.result.items _ _ c.args.said.now.items c.move_node.new.said.items (c.deref_mut.ensures.value ∙ c.in_ok-taken.ensures.taken)
+    c.in_ok-taken.ensures.count c.in_ok-taken.ensures.others c.in_ok-move_node.ensures
+    (omega (arith, c.move_node.auto.in_links, c.deref_mut.ensures.len)) c.put_links.ensures c.no_crossings-crossings.ensures.entering
+    (ap (λ v. v.items) c.entering_of.ensures)

@@ -6,7 +6,7 @@ use Rattle.part_nodes.proofs.node_turns.buffered_ones.Given as goal
 
 abbrev pub invariant-loop-rest : goal.invariant-loop-rest
 invariant-loop-rest l = record {
-  so_far : l.some.items ++ filter (is_buffered l.links) l.rest ≡ filter (is_buffered l.links) l.numbers;
+  so_far : l.some.items ++ filter (is_buffered l.links) l.rest ≡ filter (is_buffered l.links) l.slots;
   there : AreIn (length l.links) l.rest;
 }
 

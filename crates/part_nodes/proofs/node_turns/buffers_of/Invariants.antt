@@ -6,7 +6,7 @@ use Rattle.part_nodes.proofs.node_turns.buffers_of.Given as goal
 
 abbrev pub invariant-loop-rest : goal.invariant-loop-rest
 invariant-loop-rest l = record {
-  so_far : l.counts.items ++ map (buffered_in l.links) l.rest ≡ map (buffered_in l.links) l.numbers;
+  so_far : l.counts.items ++ map (buffered_in l.links) l.rest ≡ map (buffered_in l.links) l.slots;
   there : AreIn (length l.links) l.rest;
 }
 

@@ -6,8 +6,8 @@ use Rattle.part_nodes.proofs.node_turns.lights.Given as goal
 
 abbrev pub invariant-loop-rest : goal.invariant-loop-rest
 invariant-loop-rest l = record {
-  so_far : l.greens.items ++ lights_of (setup l.day) l.second l.rest ≡ lights_of (setup l.day) l.second l.links;
-  there : AreIn (length l.day.town.now.network.links) l.rest;
+  so_far : l.greens.items ++ lights_of (setup l.day) l.second l.links l.rest ≡ lights_of (setup l.day) l.second l.links l.slots;
+  there : AreIn (length l.links) l.rest;
 }
 
 abbrev pub decreases-loop-rest : goal.decreases-loop-rest

@@ -4,5 +4,5 @@ use Rattle.part_nodes.specs.Turns.{is_buffered}
 use Rattle.part_nodes.proofs.Only.{as_list}
 use Rattle.part_nodes.proofs.node_turns.only_buffered.Given as goal
 
-abbrev pub invariant-loop-number : goal.invariant-loop-number
-invariant-loop-number l = filter (is_buffered l.links) (take l.number-index l.numbers) ≡ as_list l.only
+abbrev pub invariant-loop-slot : goal.invariant-loop-slot
+invariant-loop-slot l = filter (is_buffered l.links) (take l.slot-index l.slots) ≡ as_list l.only

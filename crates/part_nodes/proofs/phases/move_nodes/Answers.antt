@@ -1,20 +1,18 @@
-use Rattle.std.proofs.Common.{◌∙◌, refl, ap, length}
-use Rattle.std.proofs.lemmas.List.{length-map}
+use Rattle.std.proofs.Common.{◌∙◌, refl}
 use Rattle.law_in_range.specs.Setups.{counts_in}
 use Rattle.town.specs.Views.{setup}
-use Rattle.calendar.specs.Waking.{slept}
 use Rattle.part_nodes.specs.declared.network.Network.{Network}
-use Rattle.part_nodes.proofs.Skipped.{whole, woken_there, woken_once, stands_with}
+use Rattle.part_nodes.proofs.Skipped.{all_turned, woken_there, woken_once, woken_mine, stands_with}
 use Rattle.part_nodes.proofs.phases.move_nodes.Goals as goal
 
 pub turn_nodes-requires-clause-there : goal.turn_nodes-requires-clause-there
 turn_nodes-requires-clause-there c =
-    woken_there c.args.phase.now.second (setup c.args.phase.now.day.now).nodes c.args.network.now.node_wakes _ c.requires.stands.1.nodes
+    woken_there c.args.phase.now.second (setup c.args.phase.now.day.now).nodes c.args.network.now.node_wakes _ c.requires.stands.stands.nodes
     (c.deref.ensures.value ∙ c.take-numbers.ensures.woken)
 
 pub turn_nodes-requires-clause-once : goal.turn_nodes-requires-clause-once
 turn_nodes-requires-clause-once c =
-    woken_once c.args.phase.now.second (setup c.args.phase.now.day.now).nodes c.args.network.now.node_wakes _ c.requires.stands.1.nodes
+    woken_once c.args.phase.now.second (setup c.args.phase.now.day.now).nodes c.args.network.now.node_wakes _ c.requires.stands.stands.nodes
     (c.deref.ensures.value ∙ c.take-numbers.ensures.woken)
 
 pub turn_nodes-requires-clause-stands : goal.turn_nodes-requires-clause-stands
@@ -22,14 +20,19 @@ turn_nodes-requires-clause-stands c =
     let day = c.args.phase.now.day.now in
     let N = c.args.network.now in
     let t = c.args.phase.now.second in
-    let M : Network = record N { node_wakes = c.take-numbers.new.self } in (
-      c.requires.stands.0,
-      stands_with (counts_in day) (setup day) day.town.now.settings.end_second t c.requires.stands.0 N M
-          c.take-numbers.new.self refl (ap length c.take-numbers.ensures.slept ∙ length-map N.node_wakes (slept t)) c.requires.stands.1,
-    )
+    let r = c.requires.stands in
+    let M : Network = record N { node_wakes = c.take-numbers.new.self } in
+    record {
+      extent = r.extent;
+      world = r.world;
+      has = r.has;
+      own = woken_mine r.extent t (setup day).nodes N.node_wakes _ r.stands.nodes r.stands.only (c.deref.ensures.value ∙ c.take-numbers.ensures.woken);
+      stands = stands_with (counts_in day) (setup day) r.extent day.town.now.settings.end_second t r.world N M c.take-numbers.new.self refl
+          c.take-numbers.ensures.slept r.stands;
+    }
 
 pub returns : goal.returns
-returns c = λ V h awaited.
+returns c = λ E V has h awaited.
     let day = c.args.phase.now.day.now in
     let z = counts_in day in
     let S = setup day in
@@ -37,9 +40,8 @@ returns c = λ V h awaited.
     let N = c.args.network.now in
     let t = c.args.phase.now.second in
     let M : Network = record N { node_wakes = c.take-numbers.new.self } in
-    let stands = stands_with z S end t V N M c.take-numbers.new.self refl
-    (ap length c.take-numbers.ensures.slept ∙ length-map N.node_wakes (slept t)) h in
-    whole z S end t V c.deref.result.now N M c.turn_nodes.new.network c.args.told.now.events.items c.turn_nodes.new.told.events.items
-    c.args.told.now.said.items c.turn_nodes.new.told.said.items c.requires.in_day h awaited (c.deref.ensures.value ∙ c.take-numbers.ensures.woken)
-    c.take-numbers.ensures.slept refl refl
-    (c.in_ok-turn_nodes.ensures V stands)
+    let stands = stands_with z S E end t V N M c.take-numbers.new.self refl c.take-numbers.ensures.slept h in
+    let own = woken_mine E t S.nodes N.node_wakes _ h.nodes h.only (c.deref.ensures.value ∙ c.take-numbers.ensures.woken) in
+    all_turned z S E end t V c.deref.result.now N M c.turn_nodes.new.network c.args.told.now.events.items c.turn_nodes.new.told.events.items
+    c.args.told.now.said.items c.turn_nodes.new.told.said.items c.args.out.now.items c.turn_nodes.new.out.items c.requires.in_day h awaited
+    (c.deref.ensures.value ∙ c.take-numbers.ensures.woken) c.take-numbers.ensures.slept refl refl (c.in_ok-turn_nodes.ensures E V has own stands)

@@ -7,14 +7,14 @@ use Rattle.events.specs.declared.event.Phase.TheVariants as phase
 use Rattle.node_seconds.proofs.Lanes.{in_at, among_front}
 use Rattle.part_links.proofs.Standing.{taken_one}
 use Rattle.part_nodes.specs.Phase.{AreTurned}
-use Rattle.part_nodes.proofs.Skipped.{turned_none, turned_last}
+use Rattle.part_nodes.proofs.Skipped.{turned_none, turned_last, mine_at}
 use Rattle.part_nodes.proofs.phases.turn_nodes.Goals as goal
 
 pub loop-number-init : goal.loop-number-init
-loop-number-init c = λ V h.
+loop-number-init c = λ E V has own h.
     let day = c.args.phase.now.day.now in
-    turned_none (counts_in day) (setup day) day.town.now.settings.end_second c.args.phase.now.second V c.args.network.now
-    c.args.told.now.events.items c.args.told.now.said.items h
+    turned_none (counts_in day) (setup day) E day.town.now.settings.end_second c.args.phase.now.second V c.args.network.now
+    c.args.told.now.events.items c.args.told.now.said.items c.args.out.now.items h
 
 pub of_node-into-requires : goal.of_node-into-requires
 of_node-into-requires c =
@@ -34,15 +34,19 @@ turn_node-requires-clause-into c =
 
 pub turn_node-requires-clause-stands : goal.turn_node-requires-clause-stands
 turn_node-requires-clause-stands c =
-    let V = c.requires.stands.0 in
+    let r = c.requires.stands in
     let S = setup c.args.phase.now.day.now in
-    let t = c.args.phase.now.second in (
-      after S t (turns S t (turns_of S t phase.C) (take c.loop-number.number-index c.args.numbers.now) V) V,
-      (c.loop-number.invariant V c.requires.stands.1).stands,
-    )
+    let t = c.args.phase.now.second in
+    record {
+      extent = r.extent;
+      world = after S t (turns S t (turns_of S t phase.C) (take c.loop-number.number-index c.args.numbers.now) r.world) r.world;
+      has = r.has;
+      own = (mine_at r.extent c.args.numbers.now c.loop-number.number-index r.own c.loop-number-test.true, tt);
+      stands = (c.loop-number.invariant r.extent r.world r.has r.own r.stands).stands;
+    }
 
 pub loop-number-preserved : goal.loop-number-preserved
-loop-number-preserved c = λ V h.
+loop-number-preserved c = λ E V has own h.
     let day = c.args.phase.now.day.now in
     let z = counts_in day in
     let S = setup day in
@@ -52,19 +56,21 @@ loop-number-preserved c = λ V h.
     let i = c.loop-number.number-index in
     let lt = c.loop-number-test.true in
     let W = after S t (turns S t (turns_of S t phase.C) (take i ns) V) V in
-    let so_far = c.loop-number.invariant V h in
+    let so_far = c.loop-number.invariant E V has own h in
     let first = c.args.told.now.events.items in
     let spoken = c.args.told.now.said.items in
-    subst (λ (ms : List ℕ). AreTurned z S end t V ms c.args.network.now c.turn_node.new.network first c.turn_node.new.told.events.items spoken
-    c.turn_node.new.told.said.items) (sym (taken_one ns i lt))
-    (turned_last z S end t (get_or ns i 0) V (take i ns) c.args.network.now c.loop-number.network c.turn_node.new.network first
+    let first_out = c.args.out.now.items in
+    subst (λ (ms : List ℕ). AreTurned z S E end t V ms c.args.network.now c.turn_node.new.network first c.turn_node.new.told.events.items spoken
+    c.turn_node.new.told.said.items first_out c.turn_node.new.out.items) (sym (taken_one ns i lt))
+    (turned_last z S E end t (get_or ns i 0) V (take i ns) c.args.network.now c.loop-number.network c.turn_node.new.network first
     c.loop-number.told.events.items c.turn_node.new.told.events.items spoken c.loop-number.told.said.items c.turn_node.new.told.said.items
-    (among_front ns i c.requires.once lt) so_far (c.in_ok-turn_node.ensures W so_far.stands))
+    first_out c.loop-number.out.items c.turn_node.new.out.items
+    (among_front ns i c.requires.once lt) so_far (c.in_ok-turn_node.ensures E W has (mine_at E ns i own lt) so_far.stands))
 
 pub returns : goal.returns
-returns c = λ V h.
+returns c = λ E V has own h.
     let day = c.args.phase.now.day.now in
-    subst (λ (ms : List ℕ). AreTurned (counts_in day) (setup day) day.town.now.settings.end_second c.args.phase.now.second V ms
+    subst (λ (ms : List ℕ). AreTurned (counts_in day) (setup day) E day.town.now.settings.end_second c.args.phase.now.second V ms
     c.args.network.now c.loop-number.network c.args.told.now.events.items c.loop-number.told.events.items c.args.told.now.said.items
-    c.loop-number.told.said.items) (take_all c.loop-number.number-index c.args.numbers.now c.loop-number-test.false)
-    (c.loop-number.invariant V h)
+    c.loop-number.told.said.items c.args.out.now.items c.loop-number.out.items) (take_all c.loop-number.number-index c.args.numbers.now c.loop-number-test.false)
+    (c.loop-number.invariant E V has own h)

@@ -7,9 +7,8 @@ use Rattle.part_nodes.proofs.resting.node_due.Given as goal
 abbrev pub invariant-loop-rest : goal.invariant-loop-rest
 invariant-loop-rest l = record {
   so_far : node_due l.phase.day.now.town.now.settings.stuck l.phase.second (always_in l.phase.day.now.town.now.greens) l.space l.links l.due l.rest
-      ≡ node_due l.phase.day.now.town.now.settings.stuck l.phase.second (always_in l.phase.day.now.town.now.greens) l.space l.links None l.numbers;
-  there : AreIn (length l.phase.day.now.town.now.network.links) l.rest;
-  within : AreIn (length l.links) l.rest;
+      ≡ node_due l.phase.day.now.town.now.settings.stuck l.phase.second (always_in l.phase.day.now.town.now.greens) l.space l.links None l.slots;
+  there : AreIn (length l.links) l.rest;
 }
 
 abbrev pub decreases-loop-rest : goal.decreases-loop-rest

@@ -1,11 +1,13 @@
-use Rattle.std.proofs.Common.{◌<◌, length, arith, sym}
-use Rattle.node_move.proofs.Entries.{read, past}
+use Rattle.std.proofs.Common.{sym}
+use Rattle.node_move.proofs.Entries.{found_read, none_read}
 use Rattle.node_move.proofs.space.Space.places.Goals as goal
 
-pub returns-then-place-len : goal.returns-then-place-len
-returns-then-place-len c =
-    let lt : c.args.link < length c.self.inside.rows.items = omega arith in
-    rw (← c.self.view_is) (read c.self.inside.rows.items c.args.link c.index.result.now c.index.result.now lt c.index.ensures)
+pub returns-in-None : goal.returns-in-None
+returns-in-None c =
+    rw (← c.self.view_is) (sym (none_read c.self.inside.slots.items c.deref.result.now c.self.inside.entries.items c.deref-2.result.now c.args.link
+    c.deref.ensures.value c.deref-2.ensures.value c.in-None.ensures))
 
-pub returns : goal.returns
-returns c = rw (← c.self.view_is) (sym (past c.self.inside.rows.items c.args.link (omega arith)))
+pub returns-in-Some : goal.returns-in-Some
+returns-in-Some c =
+    rw (← c.self.view_is) (found_read c.self.inside.slots.items c.deref.result.now c.self.inside.entries.items c.deref-2.result.now c.args.link
+    c.in-Some.number c.index.result.now c.deref.ensures.value c.deref-2.ensures.value c.in-Some.ensures c.index.ensures)

@@ -1,23 +1,25 @@
-use Rattle.std.proofs.Common.{◌<◌, ◌∙◌, length, arith, sym}
-use Rattle.node_move.proofs.Entries.{read, past, taken, nothing}
+use Rattle.std.proofs.Common.{◌≡◌, ◌∙◌, ◌+◌, ap, sym, List}
+use Rattle.std.specs.Prelude.{Option, Some}
+use Rattle.traffic.specs.declared.node_views.OutLink.{OutLink}
+use Rattle.node_move.specs.Entries.{rows_of}
+use Rattle.node_move.specs.Spaces.{places_in}
+use Rattle.node_move.proofs.Entries.{found_read, none_read, replaced_there, taken, nothing}
 use Rattle.node_move.proofs.space.Space.take_place.Goals as goal
+
+pub returns-in-None : goal.returns-in-None
+returns-in-None c =
+    rw (← c.self.view_is) (nothing (places_in (rows_of c.self.inside.slots.items c.self.inside.entries.items)) c.args.link
+    (none_read c.self.inside.slots.items c.deref.result.now c.self.inside.entries.items c.deref-2.result.now c.args.link
+    c.deref.ensures.value c.deref-2.ensures.value c.in-None.ensures))
 
 pub returns-in-Some-checked_add : goal.returns-in-Some-checked_add
 returns-in-Some-checked_add c =
-    let rows = c.self.inside.rows.items in
-    let lt : c.args.link < length rows = omega arith in
-    let h = sym c.in-Some.is ∙ read rows c.args.link c.index.result.now c.index.result.now lt c.index.ensures in
+    let ks = c.self.inside.slots.items in
+    let es = c.self.inside.entries.items in
+    let places = c.index.result.now.places in
+    let h = found_read ks c.deref.result.now es c.deref-2.result.now c.args.link c.in-Some.number c.index.result.now c.deref.ensures.value
+    c.deref-2.ensures.value c.in-Some.ensures c.index.ensures in
     let e = c.in-Some-checked_add.ensures in
-    rw (e.1, ← c.self.view_is) (taken rows c.args.link c.in-Some.places lt h)
-
-pub returns-in_default : goal.returns-in_default
-returns-in_default c =
-    let rows = c.self.inside.rows.items in
-    let lt : c.args.link < length rows = omega arith in
-    let h = sym c.in_default.is ∙ read rows c.args.link c.index.result.now c.index.result.now lt c.index.ensures in
-    rw (← c.self.view_is) (nothing rows c.args.link h)
-
-pub returns-else-place-len : goal.returns-else-place-len
-returns-else-place-len c =
-    let rows = c.self.inside.rows.items in
-    rw (← c.self.view_is) (nothing rows c.args.link (sym (past rows c.args.link (omega arith))))
+    rw (e.1, ← c.self.view_is) (taken (places_in (rows_of ks es)) _ c.args.link places (sym h)
+    (λ m. replaced_there ks c.deref.result.now es c.deref-2.result.now c.args.link c.in-Some.number (record places { taken = places.taken + 1 }) m
+    c.deref.ensures.value c.deref-2.ensures.value c.in-Some.ensures))

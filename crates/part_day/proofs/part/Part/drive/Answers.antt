@@ -101,7 +101,7 @@ returns-clause-stands c =
     c.in_ok-settle_links.ensures.places h.places)
     (c.in_ok-settle_links.ensures.nodes
     ∙ ap (λ (xs : List LinkView). wake_ends S t xs ns c.args.self.now.network.node_wakes) c.deref-2.ensures.value)
-    c.in_ok-numbers.ensures.lines c.in_ok-hear_told.ensures.world c.in_ok-hear_told.ensures.followed c.in_ok-hear_told.ensures.wakes refl refl
+    c.in_ok-numbers.ensures.lines c.in_ok-hear_told.ensures.world c.in_ok-hear_told.ensures.followed c.in_ok-hear_told.ensures.wakes refl refl refl
 
 pub returns-clause-events : goal.returns-clause-events
 returns-clause-events c =

@@ -59,7 +59,7 @@ returns-clause-stands c =
       rows = c.requires.stands.persons.rows;
     }) (c.deref.ensures.value ∙ c.in_ok-numbers.ensures.due) c.in_ok-start_departures.ensures.fit c.take_rows-rows.ensures.left
     (c.in_ok-start_departures.ensures.followed (c.args.second + 1) c.in_ok-numbers.ensures.followed) c.in_ok-start_departures.ensures.wakes
-    c.in_ok-start_departures.ensures.rest c.in_ok-come_to_lines.ensures refl
+    c.in_ok-start_departures.ensures.rest c.in_ok-come_to_lines.ensures refl refl
     (c.in_ok-come_to_links.ensures.links ∙ ap (λ rs. all_started rs c.args.self.now.network.links.items) c.take_rows-rows.ensures.rows)
     (c.in_ok-come_to_links.ensures.wakes ∙ ap (λ rs. woken_for_all c.args.second rs c.args.self.now.network.link_wakes) c.take_rows-rows.ensures.rows)
     refl refl

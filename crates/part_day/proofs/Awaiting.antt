@@ -43,7 +43,7 @@ pub awaited_after : (S : Setup) (end t : ℕ) (V : World) (old new : List LinkVi
     → LinksStand S (t + 1) new (after S t (turns_in S t phase.D V) V) → ((l : ℕ) → is_among l ns ≡ false → lane new l ≡ lane old l)
     → length before ≡ S.nodes → wakes ≡ wake_ends S t new ns before → AreAwaited S end (t + 1) (t + 1) before V
     → AreAwaited S end (t + 1) (t + 1) wakes (after S t (turns_in S t phase.D V) V)
-awaited_after S end t V old new ns before wakes stood stand others many e h n l lt own off there to =
+awaited_after S end t V old new ns before wakes stood stand others many e h n l lt its off there to =
     let W = after S t (turns_in S t phase.D V) V in
     let within : n < length before = omega arith in
     let w = not_woken S t n new ns before within (subst (λ (ws : List (Option ℕ)). wake_of ws n ≢ Some (t + 1)) e off) in
@@ -55,5 +55,5 @@ awaited_after S end t V old new ns before wakes stood stand others many e h n l 
       | inr a ↦
           waits_on S end (t + 1) (t + 1) l (wake_of before n) V W
           (sym own ∙ ap (λ (v : LinkView). v.lists.buffer) (others l a) ∙ buffer_is S t l old V stood there) (λ m. links_leave_taken S t m V)
-          (h n l lt own w.before there to)
+          (h n l lt its w.before there to)
     ])

@@ -86,7 +86,7 @@ impl Part {
         let freed = self.network.places.free(second)?;
         wake_starts(day, second, &freed, &mut self.network.node_wakes)?;
         let phase = NodePhase {
-            day,
+            day: &*day,
             second,
             link_slots: &self.link_slots,
         };

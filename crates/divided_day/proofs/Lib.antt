@@ -2,5 +2,6 @@ mod Bordering
 mod Counting
 mod Scanning
 mod Single
+mod Slotted
 mod Telling
 mod Whole

@@ -1,7 +1,8 @@
 -- The partitions of a day of a town.
-use Rattle.std.proofs.Common.{◌≡◌, ℕ, ◌<◌, List, [], length, get_or, map, sym, ◌∙◌, ap, subst}
+use Rattle.std.proofs.Common.{◌≡◌, ℕ, ◌<◌, List, [], length, get_or, map, sym, ◌∙◌, ap, subst, refl}
 use Rattle.events.specs.declared.event.Event.{Event}
 use Rattle.town.specs.declared.day_input.DayInput.{DayInput}
+use Rattle.town.specs.Setups.{setup_of}
 use Rattle.town.specs.Views.{setup}
 use Rattle.traffic.specs.Day.{day as events_of_day}
 use Rattle.traffic.specs.Lists.{below}
@@ -30,6 +31,11 @@ use Rattle.divided_day.specs.Divisions.{AreBordersOf}
 use Rattle.divided_day.proofs.Bordering.{are_borders}
 use Rattle.divided_day.proofs.Scanning.{scanned}
 use Rattle.divided_day.proofs.Single.{one_merge}
+
+-- a town has as many links as its network
+pub links_of : (day : DayInput) → length (setup day).links ≡ length day.town.now.network.links
+unfolding setup_of
+links_of day = refl
 
 -- what was found of pairs of neighbours is what each partition's neighbours are
 pub borders_found : (day : DayInput) (owner : Owner) (pairs : List Pair) (lags : List LagPair) (lists : List (List Border))

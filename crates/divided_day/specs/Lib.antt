@@ -1,3 +1,4 @@
 pub mod Borders
 pub mod Days
 pub mod Divisions
+pub mod Slots

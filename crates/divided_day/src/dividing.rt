@@ -5,17 +5,20 @@ ghost use Rattle.limits.specs.declared.TheConstants.{MAX_PARTITIONS};
 ghost use Rattle.divided_day.specs.Borders.{border_of, borders_among};
 ghost use Rattle.divided_day.specs.Divisions.{AreBordersOf, IsDivided};
 
+use crate::slots::link_slots;
 use events::Rows;
 use partition::{LagPair, Owner, Pair, halve, lags, neighbours};
 use std::alloc::{AllocError, Global};
 use step_core::{Border, BorderList};
 use town::DayInput;
 
-/// A town, divided among partitions: who has which node, and the neighbours of each partition with the lags from them, in seconds.
+/// A town, divided among partitions: who has which node, the neighbours of each partition with the lags from them, in seconds, and which of
+/// the links that end there, by number, each link is in its partition.
 #[derive(Drop)]
 pub struct Division {
     pub owner: Owner,
     pub borders: Vec<BorderList>,
+    pub link_slots: Vec<u32>,
 }
 
 /// The border of a partition that a pair of neighbours makes: with the lag there for the greater of the two, and with the lag back for the
@@ -92,7 +95,7 @@ fn all_borders(alloc: Global, day: &DayInput, owner: &Owner) -> Result<Vec<Borde
 ///
 /// # Errors
 ///
-/// `AllocError`: there is no memory for a number for each node, or for tables of all pairs of partitions.
+/// `AllocError`: there is no memory for a number for each node and each link, or for tables of all pairs of partitions.
 pub fn divide(alloc: Global, day: &DayInput, parts: u32) -> Result<Division, AllocError>
     requires some { 1 ≤ parts }
     requires few { parts ≤ MAX_PARTITIONS }
@@ -100,5 +103,10 @@ pub fn divide(alloc: Global, day: &DayInput, parts: u32) -> Result<Division, All
 {
     let owner = halve(alloc, &day.town.network, parts)?;
     let borders = all_borders(alloc, day, &owner)?;
-    Ok(Division { owner, borders })
+    let link_slots = link_slots(alloc, day, &owner)?;
+    Ok(Division {
+        owner,
+        borders,
+        link_slots,
+    })
 }

@@ -5,6 +5,7 @@
 mod days;
 mod dividing;
 mod part;
+mod slots;
 
 pub use days::{divided_day, merged_events};
 pub use dividing::{Division, divide};

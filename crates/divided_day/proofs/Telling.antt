@@ -1,5 +1,5 @@
 -- What so many partitions told, one after the other.
-use Rattle.std.proofs.Common.{◌≡◌, ℕ, ◌+◌, ◌<◌, List, [], ◌∷◌, ◌++◌, arith, sym, ◌∙◌, ap, subst, map, length, slice_index_or}
+use Rattle.std.proofs.Common.{◌≡◌, ℕ, ◌<◌, List, [], ◌∷◌, ◌++◌, arith, sym, ◌∙◌, ap, subst, map, length, slice_index_or}
 use Rattle.std.proofs.lemmas.List.{map-append, length_push}
 use Rattle.traffic.specs.Lists.{below}
 use Rattle.step_core.specs.Views.{PartView, IsAt, EachAt}

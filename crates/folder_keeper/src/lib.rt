@@ -3,23 +3,41 @@
 //! What the file holds is not told: no contract can say what a disk gives back. The count of faults is.
 #![tactic(auto)]
 
-ghost use Rattle.std.specs.Prelude.{◌≡◌, ◌≤◌, None, OnOk, IsSome};
+ghost use Rattle.std.specs.Prelude.{◌≡◌, ◌≢◌, ◌≤◌, None, OnOk, IsSome, unwrap_or};
 ghost use Rattle.edge_files.specs.Causes.{KeepHasCause, Rose};
 
 use edge_files::{KeepFail, Keeper, KeptRow};
-use keep_sql::SqlKeeper;
+use keep_sql::{Fault, SqlKeeper};
 use sqlite::{Connection, Error, ErrorCode, File, FileStore};
 use std::io::Eprint;
 
 /// The database of the current folder.
 const NAME: &str = "kept.db";
 
-/// Says what a database holds that the first save of a run is to replace, where it holds anything that can be read.
-fn tell_replaced(rt: &HostRuntime, keeper: &mut SqlKeeper<FileStore<File>>) {
-    if let Ok(Some(iteration)) = keeper.last() {
-        let _ = eprintln!(rt;
-            "qsim: {NAME} holds iteration {iteration} of a run before, which this run is to replace"
-        );
+/// Says what a database holds that the first save of a run is to replace, where it holds anything that can be read. Answers why it could
+/// not be looked at, where that failed.
+fn tell_replaced(rt: &HostRuntime, keeper: &mut SqlKeeper<FileStore<File>>) -> Option<Fault> {
+    match keeper.last() {
+        Ok(None) => None,
+        Ok(Some(iteration)) => {
+            let _ = eprintln!(rt;
+                "qsim: {NAME} holds iteration {iteration} of a run before, which this run is to replace"
+            );
+            None
+        }
+        Err(_) => keeper.fault(),
+    }
+}
+
+/// The cause of a fault: the earlier fault, if there was one, where the database only says that an earlier failure closed it.
+fn cause_of(fault: Fault, earlier: Option<Fault>) -> Fault
+    ensures closed { fault ≡ Fault.Refused (Error.SqliteFailure ErrorCode.Closed) → result ≡ unwrap_or earlier fault }
+    ensures open { fault ≢ Fault.Refused (Error.SqliteFailure ErrorCode.Closed) → result ≡ fault }
+{
+    if fault == Fault::Refused(Error::SqliteFailure(ErrorCode::Closed)) {
+        earlier.unwrap_or(fault)
+    } else {
+        fault
     }
 }
 
@@ -33,6 +51,8 @@ fn tell_replaced(rt: &HostRuntime, keeper: &mut SqlKeeper<FileStore<File>>) {
 pub struct FolderKeeper<'a> {
     rt: &'a HostRuntime,
     opened: Option<SqlKeeper<FileStore<File>>>,
+    /// Why the database could not be looked at before the first save, where that failed.
+    unread: Option<Fault>,
     faults: u64,
 }
 
@@ -44,6 +64,7 @@ impl<'a> FolderKeeper<'a> {
         FolderKeeper {
             rt,
             opened: None,
+            unread: None,
             faults: 0,
         }
     }
@@ -59,9 +80,12 @@ impl<'a> FolderKeeper<'a> {
         match Connection::open(self.rt, NAME) {
             Ok(connection) => {
                 let mut keeper = SqlKeeper::over(self.rt.alloc(), connection);
-                if replaces {
-                    tell_replaced(self.rt, &mut keeper);
-                }
+                let unread = if replaces {
+                    tell_replaced(self.rt, &mut keeper)
+                } else {
+                    None
+                };
+                self.unread = unread;
                 self.opened = Some(keeper);
                 Ok(())
             }
@@ -94,7 +118,8 @@ impl<'a> FolderKeeper<'a> {
             None => None,
         };
         if let Some(fault) = fault {
-            let _ = eprintln!(self.rt; "qsim: {NAME} could not be {done}: {fault}");
+            let cause = cause_of(fault, self.unread);
+            let _ = eprintln!(self.rt; "qsim: {NAME} could not be {done}: {cause}");
         }
     }
 
@@ -103,6 +128,7 @@ impl<'a> FolderKeeper<'a> {
         let FolderKeeper {
             rt,
             opened,
+            unread: _,
             faults: _,
         } = self;
         let Some(keeper) = opened else {

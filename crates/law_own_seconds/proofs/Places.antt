@@ -51,7 +51,7 @@ lasting_more u h xs ys =
     ∙ length-append (filter (λ (s : ℕ). nat_le u (s + h)) xs) (filter (λ (s : ℕ). nat_le u (s + h)) ys)
 
 -- so many holes of second t more
-more_holes : (u h t k : ℕ) (hs gs : List ℕ) → u ≤ t + h → gs ≡ hs ++ replicate k t
+pub more_holes : (u h t k : ℕ) (hs gs : List ℕ) → u ≤ t + h → gs ≡ hs ++ replicate k t
     → length (lasting u h gs) ≡ length (lasting u h hs) + k
 more_holes u h t k hs gs le e =
     let a = ap (λ (ss : List ℕ). length (lasting u h ss)) e in

@@ -23,7 +23,7 @@ use Rattle.law_partitions.proofs.Heard.{late_of, not_crossing, known_whole}
 use Rattle.law_partitions.proofs.History.{went_none}
 use Rattle.law_partitions.proofs.Lags.{hole_some}
 use Rattle.law_partitions.proofs.Places.{AreLeaving, links-leaving, dug, out-came, out-went, out-none, D-length, D_after-rows, D_after-holes}
-use Rattle.law_partitions.proofs.Second.{Short, C_world, came_in, held_run-holes, C_after-queue_own, queue_other, D_after-queue_own, D_border, D_untouched}
+use Rattle.law_partitions.proofs.Second.{Short, C_world, came_in, held_run-holes, C_after-queue_own, C_after-queue_other, queue_other, D_after-queue_own, D_border, D_untouched}
 use Rattle.law_partitions.proofs.Second.{part-handed}
 use Rattle.law_partitions.proofs.Turns.{not_mine}
 use Rattle.law_own_worlds.specs.Making.{IsKnown, own_world}
@@ -51,7 +51,7 @@ lasting_more u h xs ys =
     ∙ length-append (filter (λ (s : ℕ). nat_le u (s + h)) xs) (filter (λ (s : ℕ). nat_le u (s + h)) ys)
 
 -- so many holes of second t more
-more_holes : (u h t k : ℕ) (hs gs : List ℕ) → u ≤ t + h → gs ≡ hs ++ replicate k t
+pub more_holes : (u h t k : ℕ) (hs gs : List ℕ) → u ≤ t + h → gs ≡ hs ++ replicate k t
     → length (lasting u h gs) ≡ length (lasting u h hs) + k
 more_holes u h t k hs gs le e =
     let a = ap (λ (ss : List ℕ). length (lasting u h ss)) e in
@@ -184,6 +184,11 @@ module _ (S : Setup) (own : Owner) (p t : ℕ) (z : Counts) (law : Lawful S) (fi
   holesG : (m : ℕ) → G.holes m ≡ E.holes m
   holesG m =
       held_run-holes S t m (moves_of (C_part S own p t E)) E ∙ handed-holes S t m (moves_of (C_part S own p t E)) (E.holes m) part_handed
+
+  queues4 : (m : ℕ) → eqb (begins_in S own m) p ≡ false → at m Queue V4 ≡ at m Queue V3
+  queues4 m off =
+      sym (second.after_nodes.list m Queue) ∙ C_after-queue_other S own p t late mine_p W E short m off
+      ∙ second.after_departures.list m Queue
 
   crossed_known : (u : ℕ) → u ≤ t + 1 → KnowsPlaces S own p u G V4
   crossed_known u le = λ m lt b.
@@ -319,6 +324,7 @@ module _ (S : Setup) (own : Owner) (p t : ℕ) (z : Counts) (law : Lawful S) (fi
     early_rows = second.rows;
     early_holes = second.holes;
     crossed_holes = holesG;
+    crossed_queues = queues4;
     own_rows = own_rows;
   }
 

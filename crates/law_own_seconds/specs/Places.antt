@@ -1,5 +1,5 @@
 -- How the places of links are taken in a world, as a partition knows them.
-use Rattle.std.specs.Prelude.{◌≡◌, ℕ, ◌+◌, ◌<◌, ◌≤◌, List, length}
+use Rattle.std.specs.Prelude.{◌≡◌, ℕ, ◌+◌, ◌<◌, ◌≤◌, false, List, length, ◌==◌}
 use Rattle.traffic.specs.declared.stage.Stage.TheVariants.{Queue}
 use Rattle.traffic.specs.Rows.{World, at, holes_at}
 use Rattle.traffic.specs.Setup.{Setup, hole_of}
@@ -32,6 +32,9 @@ pub record PlacesAreKnown (S : Setup) (own : Owner) (p t : ℕ) : Type 0 where
   pub early_rows : (m : ℕ) → (held_early S own p t).rows m ≡ (ready S own p t).rows m
   pub early_holes : (m : ℕ) → (held_early S own p t).holes m ≡ (ready S own p t).holes m
   pub crossed_holes : (m : ℕ) → (held_crossed S own p t).holes m ≡ (held_early S own p t).holes m
+  -- and put vehicles into queues of links that begin in p alone
+  pub crossed_queues :
+      (m : ℕ) → (begins_in S own m == p) ≡ false → at m Queue (world_crossed S own p t) ≡ at m Queue (world_early S own p t)
   -- of a link that begins and ends in p it knows each vehicle
   pub own_rows :
       (m : ℕ) → owner_of S own m ≡ p → begins_in S own m ≡ p

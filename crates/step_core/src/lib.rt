@@ -14,3 +14,4 @@ mod steps;
 pub use cores::{Core, Step};
 pub use laws::orders_end;
 pub use part::{Border, BorderList, Part};
+pub use starting::all_borders;

@@ -11,8 +11,12 @@ use crate::part::{BorderList, Part};
 use limits::MAX_PARTITIONS;
 use std::alloc::{AllocError, Global};
 
-/// The neighbours of each partition.
-fn all_borders<T: Part>(alloc: Global, run: &T::Run) -> Result<Vec<BorderList>, AllocError>
+/// The neighbours of each partition, by number.
+///
+/// # Errors
+///
+/// `AllocError`: there is no memory for them.
+pub fn all_borders<T: Part>(alloc: Global, run: &T::Run) -> Result<Vec<BorderList>, AllocError>
     ensures count { IfOk result (λ lists. length lists.items ≡ (T.net run.now).parts) }
     ensures each { IfOk result (λ lists. (p : ℕ) → p < (T.net run.now).parts → get_or lists.items p [] ≡ T.borders run.now p) }
 {

@@ -1,0 +1,18 @@
+-- Members that were cut into lists.
+use Rattle.std.proofs.Common.{ℕ, ◌+◌, List, sym, subst, arith}
+use Rattle.std.specs.Fork.{IsChunk}
+use Rattle.cells.specs.declared.board.Board.{Board}
+use Rattle.step_core.specs.declared.part.Border.{Border}
+use Rattle.step_core.specs.Nets.{Net}
+use Rattle.step_core.specs.Views.{PartView}
+use Rattle.workers.specs.declared.members.Day.{Day}
+use Rattle.workers.specs.declared.members.Member.{Member}
+use Rattle.workers.specs.Members.{IsMember, AreMembers}
+
+module _ {T R P : Type 0} (net : R → Net) (borders : R → ℕ → List Border) (see : T → PartView P) (stands : R → T → Type 0)
+    (right : R → ℕ → ℕ → ℕ → P → Type 0) (run : R) (b : Board (Day T) R P) where
+  pub chunk_members : (xs ys : List (Member T R P)) (size start : ℕ) → AreMembers net borders see stands right run b xs
+      → IsChunk xs size start ys → AreMembers net borders see stands right run b ys
+  chunk_members xs ys size start all is i d lt = let within = is.in_bounds in
+      subst (λ (m : Member T R P). IsMember net borders see stands right run b m) (sym (is.elements i d lt))
+      (all (start + i) d (omega arith))

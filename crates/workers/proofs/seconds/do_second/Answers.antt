@@ -1,0 +1,30 @@
+use Rattle.std.proofs.Common.{◌∙◌, sym, arith}
+use Rattle.workers.proofs.Resting.{all_heard, all_sent, is_later, published}
+use Rattle.workers.proofs.seconds.do_second.Goals as goal
+
+pub second-requires-clause-heard : goal.second-requires-clause-heard
+second-requires-clause-heard g c = let e = c.take_all.ensures in let r = c.requires.rests in
+    all_heard g.T.Part.net g.T.Part.borders g.T.Part.see g.T.Part.stands g.T.Part.right c.args.run.now c.args.board.now
+    c.args.member.now.port
+    (g.T.Part.see c.take_all.new.part).inbox (g.T.Part.see c.take_all.new.part).number (g.T.Part.see c.take_all.new.part).seconds
+    c.requires.board r.port (e.number ∙ r.at.number) (e.seconds ∙ r.at.seconds) e.heard
+
+pub put_all-requires-clause-sent : goal.put_all-requires-clause-sent
+put_all-requires-clause-sent g c κs within = let e = c.take_all.ensures in let r = c.requires.rests in
+    all_sent g.T.Part.net g.T.Part.borders g.T.Part.see g.T.Part.stands g.T.Part.right c.args.run.now c.args.board.now c.take_all.new.port
+    (g.T.Part.see c.second.new.self).outbox (g.T.Part.see c.take_all.new.part).number (g.T.Part.see c.take_all.new.part).seconds
+    c.requires.board e.port (e.number ∙ (r.at.number ∙ sym e.same.0.partition)) (e.seconds ∙ (r.at.seconds ∙ sym e.same.0.done))
+    c.in_ok-second.ensures.sent
+
+pub returns-clause-rests : goal.returns-clause-rests
+returns-clause-rests g c = let e = c.take_all.ensures in let r = c.requires.rests in let m = c.args.member.now in
+    let o = c.in_ok-second.ensures in
+    let s = c.put_all.ensures in let p = c.publish.ensures in
+    published g.T.Part.net g.T.Part.borders g.T.Part.see g.T.Part.stands g.T.Part.right c.args.run.now c.args.board.now m
+    (record { part = c.put_all.new.part; port = c.publish.new.self; stopped = m.stopped }) r p.port
+    (p.same.0 ∙ (s.same.0.partition ∙ e.same.0.partition)) (omega (arith, p.done, s.same.0.done, e.same.0.done)) p.awaited
+    (omega (arith, p.counts.0, p.counts.1))
+    (is_later g.T.Part.net g.T.Part.borders g.T.Part.see g.T.Part.stands g.T.Part.right c.args.run.now c.args.board.now m.part
+    c.take_all.new.part c.second.new.self c.put_all.new.part _ _ _ r.at e.number e.seconds
+    (e.places ∙ sym (c.requires.board.neighbours m.port r.port).many) o.at s.inbox s.number s.seconds s.stands)
+    c.requires.before_end

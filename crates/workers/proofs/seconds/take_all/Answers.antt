@@ -1,0 +1,34 @@
+use Rattle.std.proofs.Common.{arith, ◌<◌, ◌+◌, ap, sym, length, subst₂}
+use Rattle.cells.specs.declared.board.Port.{Port}
+use Rattle.cells.specs.Ports.{degree}
+use Rattle.workers.specs.declared.members.Day.{Day}
+use Rattle.workers.specs.Exchanges.{HasTakenTo}
+use Rattle.workers.proofs.Exchanging.{took, skipped}
+use Rattle.workers.proofs.seconds.take_all.Goals.{then-lag-done, else-lag-done}
+use Rattle.workers.proofs.seconds.take_all.Goals as goal
+
+pub loop-k-preserved : goal.loop-k-preserved
+loop-k-preserved g c =
+    let see = g.T.Part.see in
+    let stands = g.T.Part.stands in
+    let right = g.T.Part.right in
+    let b = c.args.board.now in
+    let before = c.args.port.now in
+    let x = c.args.part.now in
+    let i = c.loop-k.invariant in
+    let n = ap length c.neighbours-k-end.ensures in
+    let lt = c.loop-k-test.true in
+    let m = c.requires.port.as_many in
+    let k = c.loop-k.k in
+    let lk : k < degree before = omega arith in
+    let F : Port (Day g.row.T.Denot) g.row.T-Run.Denot g.row.T-Parcel.Denot → g.row.T.Denot → Type 0 =
+    λ q y. HasTakenTo see stands right b before x (k + 1) q y in
+    elim c.if-lag-done.branch [
+      | then-lag-done w ↦ let t = w.take-parcel.ensures in let a = w.absorb.ensures in
+          subst₂ F (sym w.port-is) (sym w.part-is)
+          (took see stands right b before x k c.loop-k.port w.take-parcel.new.self c.loop-k.part w.absorb.new.self w.take-parcel.result i lk
+          t.port t.same t.held t.counts t.right.0 t.right.1 a.inbox a.number a.seconds a.stands)
+      | else-lag-done w ↦ subst₂ F (sym w.port-is) (sym w.part-is)
+          (skipped see stands right b before x k c.loop-k.port c.loop-k.part i lk
+          (let f = w.if-lag-done.false in let l = c.lag.ensures in let d = c.done.ensures in omega arith))
+    ]

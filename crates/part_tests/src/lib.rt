@@ -1,0 +1,7 @@
+//! Tests of what a part of several has of a day.
+#![tactic(auto)]
+
+#[cfg(test)]
+mod borders;
+#[cfg(test)]
+mod halves;

@@ -1,0 +1,11 @@
+pub mod Slots
+pub mod SettingOut
+pub mod Looking
+pub mod Turning
+pub mod Lengths
+pub mod Leaving
+pub mod Waking
+pub mod Knowing
+pub mod Early
+pub mod Driven
+pub mod Crossed

@@ -1,0 +1,4 @@
+pub mod Slots
+pub mod Settling
+pub mod FreedRows
+pub mod Stands

@@ -1,0 +1,88 @@
+-- What the turns of links and places that come free mean for places, for queues and for when nodes are woken, where links stand in slots.
+use Rattle.std.specs.Prelude.{◌≡◌, ℕ, ◌+◌, ◌-◌, ◌<◌, ◌≤◌, Bool, true, List, [], ◌∷◌, ◌&&◌, length, map, set, get_or, nat_lt, if◌then◌else◌, Option, Some}
+use Rattle.traffic.specs.Setup.{Setup, link_row, storage_of, seconds_of, hole_of}
+use Rattle.parts.specs.Owners.{Owner}
+use Rattle.parts.specs.Parts.{Held}
+use Rattle.queue_link.specs.Links.{LinkView}
+use Rattle.node_seconds.specs.Networks.{lane}
+use Rattle.part_places.specs.Taking.{Taking, later, begins_here}
+use Rattle.law_parts_of_days.specs.Settling.{queued_in, buffered_in}
+use Rattle.part_seconds.specs.declared.area.LeftRows.{LeftRows}
+
+-- PLACES
+-- how the places of links are taken as a partition knows them: by the rows that it knows of in their queues, and by the holes
+abbrev pub places_known : Setup → Held → Taking
+places_known S H = record {
+  storage = storage_of S;
+  seconds = seconds_of S;
+  queued = λ m. H.rows m;
+  frees = λ m. map (λ (s : ℕ). s + hole_of S m) (H.holes m);
+}
+
+-- the number of the link in a slot
+abbrev pub link_at : List LinkView → ℕ → ℕ
+link_at links k = (lane links k).numbers.link
+
+-- the places once the link in this slot, which had its turn in second t, has its queue: of a link that begins elsewhere p has none
+abbrev pub left_one : Setup → Owner → ℕ → ℕ → List LinkView → ℕ → Taking → Taking
+left_one S own p t links k T =
+    if begins_here S own p (link_at links k)
+    then later (link_at links k) (queued_in links k) (t + hole_of S (link_at links k)) T
+    else T
+
+-- so with those in these slots
+unfoldable pub left_all : Setup → Owner → ℕ → ℕ → List LinkView → List ℕ → Taking → Taking
+left_all S own p t links [] T = T
+left_all S own p t links (k ∷ ks) T = left_all S own p t links ks (left_one S own p t links k T)
+
+-- no queue of a link that begins here has more vehicles than these places
+abbrev pub AreFew : Setup → Owner → ℕ → List LinkView → Taking → Type 0
+AreFew S own p links T =
+    (k : ℕ) → k < length links → begins_here S own p (link_at links k) ≡ true → queued_in links k ≤ T.queued (link_at links k)
+
+-- links in different slots are different ones
+abbrev pub AreApart : List LinkView → Type 0
+AreApart links = (j k : ℕ) → j < length links → k < length links → link_at links j ≡ link_at links k → j ≡ k
+
+-- QUEUES
+-- how many vehicles fewer are in the queue of the link in a slot than this table has
+abbrev pub gone_from : List LinkView → List ℕ → ℕ → ℕ
+gone_from links queues k = get_or queues k 0 - queued_in links k
+
+-- of a link that begins elsewhere, if any are
+abbrev pub left_rows : Setup → Owner → ℕ → List LinkView → List ℕ → ℕ → List LeftRows
+left_rows S own p links queues k =
+    if begins_here S own p (link_at links k)
+    then []
+    else if nat_lt 0 (gone_from links queues k)
+    then record { link = link_at links k; rows = gone_from links queues k } ∷ []
+    else []
+
+-- the table once those in these slots have their queues
+unfoldable pub put_queues : List LinkView → List ℕ → List ℕ → List ℕ
+put_queues links [] queues = queues
+put_queues links (k ∷ ks) queues = put_queues links ks (set queues k (queued_in links k))
+
+-- WAKES
+-- the node at the end of the link in a slot is woken in the second after t, where somebody is in the link's buffer
+abbrev pub wake_end_at : Setup → ℕ → List LinkView → ℕ → List (Option ℕ) → List (Option ℕ)
+wake_end_at S t links k wakes =
+    if nat_lt 0 (buffered_in links k) then set wakes (link_row S (link_at links k)).to (Some (t + 1)) else wakes
+
+-- so with those in these slots
+unfoldable pub wake_ends_at : Setup → ℕ → List LinkView → List ℕ → List (Option ℕ) → List (Option ℕ)
+wake_ends_at S t links [] wakes = wakes
+wake_ends_at S t links (k ∷ ks) wakes = wake_ends_at S t links ks (wake_end_at S t links k wakes)
+
+-- whether a link is there and begins in p
+abbrev pub is_own_start : Setup → Owner → ℕ → ℕ → Bool
+is_own_start S own p m = nat_lt m (length S.links) && begins_here S own p m
+
+-- the node at the start of such a link is woken in second t
+abbrev pub wake_own_start : Setup → Owner → ℕ → ℕ → ℕ → List (Option ℕ) → List (Option ℕ)
+wake_own_start S own p t m wakes = if is_own_start S own p m then set wakes (link_row S m).from (Some t) else wakes
+
+-- so with each of these links
+unfoldable pub wake_own_starts : Setup → Owner → ℕ → ℕ → List ℕ → List (Option ℕ) → List (Option ℕ)
+wake_own_starts S own p t [] wakes = wakes
+wake_own_starts S own p t (m ∷ ms) wakes = wake_own_starts S own p t ms (wake_own_start S own p t m wakes)

@@ -1,0 +1,28 @@
+//! What a part has of the network, and who is there.
+
+use calendar::Calendar;
+use part_nodes::Network;
+use part_persons::Persons;
+use riders::Waiting;
+
+/// What the part of a partition has. The links that end at its nodes stand in slots, ascending by number; persons, stops and nodes have a
+/// row each, whosesoever they are: who is not there is nobody, at a stop on a link of another partition nobody waits, and a node of another
+/// one is never woken. Only links that begin at its nodes have places.
+#[derive(Drop)]
+pub struct Area {
+    pub persons: Persons,
+    /// The departures of each second that begin on its links, by number.
+    pub departures: Calendar,
+    /// Those who wait, by stop.
+    pub lines: Vec<Waiting>,
+    pub network: Network,
+    /// How many vehicles are in the queue of each link that begins elsewhere, by slot, as of its last turn and of what was absorbed since.
+    pub queues: Vec<usize>,
+}
+
+/// How many vehicles left the queue of a link that begins elsewhere.
+#[derive(Clone, Copy, Debug, PartialEq, Eq)]
+pub struct LeftRows {
+    pub link: u32,
+    pub rows: usize,
+}

@@ -1,0 +1,32 @@
+//! What the parts of a run are about.
+
+ghost use Rattle.std.specs.Prelude.{◌≡◌, ℕ, ◌<◌, [], get_or};
+ghost use Rattle.law_in_range.specs.Setups.{HaveFittingPlans};
+ghost use Rattle.partition.specs.Owned.{owner_in};
+ghost use Rattle.town.specs.Views.{setup};
+ghost use Rattle.part_seconds.specs.Slots.{AreSlots, AreSlotsInto, borders_of};
+
+use part_nodes::InLinks;
+use partition::Owner;
+use std::alloc::Global;
+use step_core::BorderList;
+use town::DayInput;
+
+/// A day of a town whose network is divided among partitions, and what all parts of it share.
+#[derive(Drop)]
+pub struct Run<'a> {
+    pub alloc: Global,
+    pub day: &'a DayInput<'a>,
+    pub owner: &'a Owner,
+    /// Of each node the slots of the links into it, ascending by link, in the part that has the node.
+    pub in_links: &'a InLinks,
+    /// The slot of each link, in the part where it ends.
+    pub link_slots: &'a [u32],
+    /// The neighbours of each partition, ascending, with the lags from them.
+    pub borders: &'a [BorderList],
+    pub ghost given: { HaveFittingPlans day.now },
+    pub ghost slots: { AreSlots (setup day.now) (owner_in owner.now.of_node) link_slots.now },
+    pub ghost into: { AreSlotsInto (setup day.now) link_slots.now in_links.now },
+    pub ghost near: { (p : ℕ) → p < owner.now.parts
+        → get_or borders.now p [] ≡ borders_of (setup day.now) (owner_in owner.now.of_node) owner.now.parts p },
+}

@@ -1,0 +1,348 @@
+//! What the turns of links, and places that come free, mean for when nodes are woken; and what the turns of links mean for places and for
+//! the queues of links that begin elsewhere.
+
+ghost use Rattle.std.specs.Prelude.{◌≡◌, ◌<◌, ◌≤◌, ◌+◌, ℕ, Bool, true, length, set, OnOk, IfOk};
+ghost use Rattle.std.specs.List.{flat_map};
+ghost use Rattle.std.specs.Option.{option_to_list};
+ghost use Rattle.limits.specs.declared.TheConstants.{LAST_SECOND};
+ghost use Rattle.calendar.specs.Due.{AreIn};
+ghost use Rattle.partition.specs.Owned.{owner_in};
+ghost use Rattle.town.specs.Views.{setup};
+ghost use Rattle.traffic.specs.Setup.{hole_of};
+ghost use Rattle.law_parts_of_days.specs.Settling.{queued_in, buffered_in};
+ghost use Rattle.part_places.specs.Taking.{Taking, AreTakenOf, begins_here, later};
+ghost use Rattle.part_seconds.specs.Settling.{link_at, left_one, left_all, AreFew, AreApart, left_rows, put_queues};
+ghost use Rattle.part_seconds.specs.Settling.{wake_end_at, wake_ends_at, wake_own_start, wake_own_starts};
+
+use crate::area::LeftRows;
+use crate::runs::Run;
+use calendar::Wakes;
+use part_places::{Left, Places, begins_here};
+use person_moves::{hole_of, link_row};
+use queue_link::LinkState;
+use rows::LinkList;
+use std::alloc::{AllocError, Global};
+use town::DayInput;
+
+/// How many vehicles are in the queue of the link in a slot.
+#[tactic(auto, using(node_move::proofs::Places::is_at))]
+fn queued_in(links: &[LinkState], slot: u32) -> usize
+    requires { slot < length links.now }
+    ensures { result ≡ queued_in links.now slot }
+{
+    let link = &links[slot as usize];
+    link.queued()
+}
+
+/// How many are in its buffer.
+#[tactic(auto, using(node_move::proofs::Places::is_at))]
+fn buffered_in(links: &[LinkState], slot: u32) -> usize
+    requires { slot < length links.now }
+    ensures { result ≡ buffered_in links.now slot }
+{
+    let link = &links[slot as usize];
+    link.buffered()
+}
+
+/// The number of the link in a slot.
+#[tactic(auto, using(node_move::proofs::Places::is_at))]
+fn link_at(links: &[LinkState], slot: u32) -> u32
+    requires { slot < length links.now }
+    ensures { result ≡ link_at links.now slot }
+{
+    let link = &links[slot as usize];
+    link.numbers().link
+}
+
+/// The places that vehicles left on the link in a slot, which begins here, come free when the holes are over.
+fn leave_own(
+    day: &DayInput,
+    second: u32,
+    slot: u32,
+    links: &[LinkState],
+    places: &mut Places,
+) -> Result<(), AllocError>
+    requires there { slot < length links.now }
+    requires link { link_at links.now slot < length day.now.town.now.network.links }
+    ensures { let S = setup day.now in let n = link_at links.now slot in let end = day.now.town.now.settings.end_second in
+        (begins : ℕ → Bool) (T : Taking) → begins n ≡ true → queued_in links.now slot ≤ T.queued n
+        → AreTakenOf begins (length S.links) end (second + 1) T places.old
+        → OnOk result (AreTakenOf begins (length S.links) end (second + 1)
+        (later n (queued_in links.now slot) (second + hole_of S n) T) places.new) }
+{
+    let link = link_at(links, slot);
+    let left = Left {
+        second,
+        link,
+        queued: queued_in(links, slot),
+        hole_seconds: hole_of(day, link),
+    };
+    places.leave(day.town.settings.end_second, left)
+}
+
+/// The places that vehicles left on the link in a slot in this second come free when the holes are over, if it begins here.
+fn leave_place(
+    run: &Run,
+    number: u32,
+    second: u32,
+    slot: u32,
+    links: &[LinkState],
+    places: &mut Places,
+) -> Result<(), AllocError>
+    requires there { slot < length links.now }
+    requires link { link_at links.now slot < length run.now.day.now.town.now.network.links }
+    ensures { let S = setup run.now.day.now in let own = owner_in run.now.owner.now.of_node in
+        let end = run.now.day.now.town.now.settings.end_second in
+        (T : Taking) → (begins_here S own number (link_at links.now slot) ≡ true
+        → queued_in links.now slot ≤ T.queued (link_at links.now slot))
+        → AreTakenOf (begins_here S own number) (length S.links) end (second + 1) T places.old
+        → OnOk result (AreTakenOf (begins_here S own number) (length S.links) end (second + 1)
+        (left_one S own number second links.now slot T) places.new) }
+{
+    if begins_here(run.day, run.owner, number, link_at(links, slot)) {
+        return leave_own(run.day, second, slot, links, places);
+    }
+    Ok(())
+}
+
+/// So with those in these slots, which had their turns.
+fn leave_places(
+    run: &Run,
+    number: u32,
+    second: u32,
+    slots: &[u32],
+    links: &[LinkState],
+    places: &mut Places,
+) -> Result<(), AllocError>
+    requires there { AreIn (length links.now) slots.now }
+    requires links { (k : ℕ) → k < length links.now → link_at links.now k < length run.now.day.now.town.now.network.links }
+    ensures { let S = setup run.now.day.now in let own = owner_in run.now.owner.now.of_node in
+        let end = run.now.day.now.town.now.settings.end_second in
+        (T : Taking) → AreApart links.now → AreFew S own number links.now T
+        → AreTakenOf (begins_here S own number) (length S.links) end (second + 1) T places.old
+        → OnOk result (AreTakenOf (begins_here S own number) (length S.links) end (second + 1)
+        (left_all S own number second links.now slots.now T) places.new) }
+{
+    for slot in slots {
+        leave_place(run, number, second, *slot, links, places)?;
+    }
+    Ok(())
+}
+
+/// How many vehicles left the queue of the link in a slot, if it begins elsewhere and any did.
+fn left_rows(
+    run: &Run,
+    number: u32,
+    slot: u32,
+    links: &[LinkState],
+    queues: &[usize],
+) -> Option<LeftRows>
+    requires there { slot < length links.now }
+    requires link { link_at links.now slot < length run.now.day.now.town.now.network.links }
+    requires queues { length queues.now ≡ length links.now }
+    ensures { let S = setup run.now.day.now in let own = owner_in run.now.owner.now.of_node in
+        option_to_list result ≡ left_rows S own number links.now queues.now slot }
+{
+    let link = link_at(links, slot);
+    if begins_here(run.day, run.owner, number, link) {
+        return None;
+    }
+    let rows = queues[slot as usize].saturating_sub(queued_in(links, slot));
+    if rows == 0 {
+        return None;
+    }
+    Some(LeftRows { link, rows })
+}
+
+/// The same of these slots, in order.
+fn all_left_rows(
+    run: &Run,
+    number: u32,
+    slots: &[u32],
+    links: &[LinkState],
+    queues: &[usize],
+) -> Result<Vec<LeftRows>, AllocError>
+    requires there { AreIn (length links.now) slots.now }
+    requires links { (k : ℕ) → k < length links.now → link_at links.now k < length run.now.day.now.town.now.network.links }
+    requires queues { length queues.now ≡ length links.now }
+    ensures { IfOk result (λ left. left.items ≡ flat_map (left_rows (setup run.now.day.now) (owner_in run.now.owner.now.of_node) number
+        links.now queues.now) slots.now) }
+{
+    let mut left = Vec::new(run.alloc);
+    let mut rest = slots;
+    while let [slot, later @ ..] = rest {
+        if let Some(rows) = left_rows(run, number, *slot, links, queues) {
+            left.push(rows)?;
+        }
+        rest = later;
+    }
+    Ok(left)
+}
+
+/// The table has how many vehicles are in the queue of the link in a slot.
+#[tactic(auto, using(std::proofs::lemmas::List::set_past))]
+fn put_queue(slot: u32, links: &[LinkState], queues: &mut [usize])
+    requires { slot < length links.now }
+    ensures { queues.new ≡ set queues.old slot (queued_in links.now slot) }
+{
+    let queued = queued_in(links, slot);
+    let place = slot as usize;
+    if place < queues.len() {
+        queues[place] = queued;
+    }
+}
+
+/// So with those in these slots.
+#[tactic(auto, unfolding(crate::specs::Settling::put_queues))]
+fn put_queues(slots: &[u32], links: &[LinkState], queues: &mut [usize])
+    requires { AreIn (length links.now) slots.now }
+    ensures { queues.new ≡ put_queues links.now slots.now queues.old }
+{
+    let mut rest = slots;
+    while let [slot, later @ ..] = rest {
+        put_queue(*slot, links, queues);
+        rest = later;
+    }
+}
+
+/// The node at the end of the link in a slot is woken in the next second, where somebody is in the link's buffer.
+fn wake_end(
+    day: &DayInput,
+    second: u32,
+    slot: u32,
+    links: &[LinkState],
+    node_wakes: &mut Wakes,
+) -> Result<(), AllocError>
+    requires second_in { second < LAST_SECOND }
+    requires there { slot < length links.now }
+    requires link { link_at links.now slot < length day.now.town.now.network.links }
+    requires nodes { length node_wakes.old ≡ length day.now.town.now.network.nodes }
+    ensures { OnOk result (node_wakes.new ≡ wake_end_at (setup day.now) second links.now slot node_wakes.old) }
+{
+    if buffered_in(links, slot) > 0 {
+        let row = link_row(day, link_at(links, slot));
+        node_wakes.set(row.to, Some(second + 1))?;
+    }
+    Ok(())
+}
+
+/// So with those in these slots, which had their turns.
+#[tactic(auto, unfolding(crate::specs::Settling::wake_ends_at))]
+fn wake_ends(
+    day: &DayInput,
+    second: u32,
+    slots: &[u32],
+    links: &[LinkState],
+    node_wakes: &mut Wakes,
+) -> Result<(), AllocError>
+    requires second_in { second < LAST_SECOND }
+    requires there { AreIn (length links.now) slots.now }
+    requires links { (k : ℕ) → k < length links.now → link_at links.now k < length day.now.town.now.network.links }
+    requires nodes { length node_wakes.old ≡ length day.now.town.now.network.nodes }
+    ensures { OnOk result (node_wakes.new ≡ wake_ends_at (setup day.now) second links.now slots.now node_wakes.old) }
+{
+    let mut rest = slots;
+    while let [slot, later @ ..] = rest {
+        wake_end(day, second, *slot, links, node_wakes)?;
+        rest = later;
+    }
+    Ok(())
+}
+
+/// The places that vehicles left on links that begin here come free later, and the nodes at the ends of links are woken where
+/// somebody is in their buffers: the links in these slots had their turns in this second.
+pub(crate) fn settle_links(
+    run: &Run,
+    number: u32,
+    second: u32,
+    slots: &[u32],
+    links: &[LinkState],
+    places: &mut Places,
+    node_wakes: &mut Wakes,
+) -> Result<(), AllocError>
+    requires second_in { second < LAST_SECOND }
+    requires there { AreIn (length links.now) slots.now }
+    requires links { (k : ℕ) → k < length links.now → link_at links.now k < length run.now.day.now.town.now.network.links }
+    requires nodes { length node_wakes.old ≡ length run.now.day.now.town.now.network.nodes }
+    ensures places { let S = setup run.now.day.now in let own = owner_in run.now.owner.now.of_node in
+        let end = run.now.day.now.town.now.settings.end_second in
+        (T : Taking) → AreApart links.now → AreFew S own number links.now T
+        → AreTakenOf (begins_here S own number) (length S.links) end (second + 1) T places.old
+        → OnOk result (AreTakenOf (begins_here S own number) (length S.links) end (second + 1)
+        (left_all S own number second links.now slots.now T) places.new) }
+    ensures nodes { OnOk result (node_wakes.new ≡ wake_ends_at (setup run.now.day.now) second links.now slots.now node_wakes.old) }
+{
+    leave_places(run, number, second, slots, links, places)?;
+    wake_ends(run.day, second, slots, links, node_wakes)?;
+    Ok(())
+}
+
+/// How many vehicles left the queues of those of these links that begin elsewhere. The table has then how many are in them.
+pub(crate) fn take_left(
+    run: &Run,
+    number: u32,
+    slots: &[u32],
+    links: &[LinkState],
+    queues: &mut [usize],
+) -> Result<Vec<LeftRows>, AllocError>
+    requires there { AreIn (length links.now) slots.now }
+    requires links { (k : ℕ) → k < length links.now → link_at links.now k < length run.now.day.now.town.now.network.links }
+    requires queues { length queues.old ≡ length links.now }
+    ensures left { let S = setup run.now.day.now in let own = owner_in run.now.owner.now.of_node in
+        IfOk result (λ left. left.items ≡ flat_map (left_rows S own number links.now queues.old) slots.now) }
+    ensures queues { OnOk result (queues.new ≡ put_queues links.now slots.now queues.old) }
+{
+    let left = all_left_rows(run, number, slots, links, queues)?;
+    put_queues(slots, links, queues);
+    Ok(left)
+}
+
+/// How many links there are.
+fn count_of(links: &LinkList) -> usize
+    ensures { result ≡ length links.now }
+{
+    links.rows.len()
+}
+
+/// The node at the start of a link is woken in this second, where the link is one of the town and begins in this part.
+#[tactic(auto, unfolding(town::specs::Setups::setup_of))]
+fn wake_start(
+    run: &Run,
+    number: u32,
+    second: u32,
+    link: u32,
+    node_wakes: &mut Wakes,
+) -> Result<(), AllocError>
+    requires { length node_wakes.old ≡ length run.now.day.now.town.now.network.nodes }
+    ensures { OnOk result (node_wakes.new
+        ≡ wake_own_start (setup run.now.day.now) (owner_in run.now.owner.now.of_node) number second link node_wakes.old) }
+{
+    if (link as usize) < count_of(&run.day.town.network.links)
+        && begins_here(run.day, run.owner, number, link)
+    {
+        let row = link_row(run.day, link);
+        node_wakes.set(row.from, Some(second))?;
+    }
+    Ok(())
+}
+
+/// So with each of these links, on which places came free.
+#[tactic(auto, unfolding(crate::specs::Settling::wake_own_starts))]
+pub(crate) fn wake_starts(
+    run: &Run,
+    number: u32,
+    second: u32,
+    links: &[u32],
+    node_wakes: &mut Wakes,
+) -> Result<(), AllocError>
+    requires { length node_wakes.old ≡ length run.now.day.now.town.now.network.nodes }
+    ensures { OnOk result (node_wakes.new
+        ≡ wake_own_starts (setup run.now.day.now) (owner_in run.now.owner.now.of_node) number second links.now node_wakes.old) }
+{
+    let mut rest = links;
+    while let [link, later @ ..] = rest {
+        wake_start(run, number, second, *link, node_wakes)?;
+        rest = later;
+    }
+    Ok(())
+}

@@ -1,0 +1,34 @@
+-- What the calls of the stand-in keep.
+use Rattle.std.proofs.Common.{◌≡◌, ℕ, zero, suc, ◌<◌, List, [], ◌∷◌, length, sym, ap, ◌∙◌, subst, arith}
+use Rattle.std.proofs.Common.{true≢false, Option}
+use Rattle.std.specs.Option.{IsSome}
+use Rattle.step_core.specs.declared.part.Border.{Border}
+use Rattle.step_core.specs.Nets.{border_at}
+use Rattle.step_core.specs.Views.{Stays, in_place}
+use Rattle.step_tests.specs.declared.rows.Row.{Row}
+use Rattle.step_tests.specs.declared.counters.Counter.{Counter}
+use Rattle.step_tests.specs.Rows.{neighbours}
+use Rattle.step_tests.specs.Counters.{Counts}
+use Rattle.step_tests.proofs.Neighbours.{all_few}
+
+-- a partition whose number, neighbours and places are those that it had
+pub stays : (old new : Counter) → new.number ≡ old.number → new.neighbours ≡ old.neighbours
+    → length new.outbox.items ≡ length old.outbox.items → Stays Counts old new
+stays old new number list long r h = record {
+  there = subst (λ (p : ℕ). p < r.count) (sym number) h.there;
+  neighbours = list ∙ (h.neighbours ∙ ap (λ (p : ℕ). neighbours r.count r.longest p) (sym number));
+  places = long ∙ (h.places ∙ ap (λ rows. length rows) (sym list));
+}
+
+-- its neighbours are among as many partitions as there may be
+pub few_in : (r : Row) (x : Counter) (rows : List Border) → Counts r x → rows ≡ x.neighbours → (k : ℕ) → k < length rows
+    → (border_at rows k).neighbour < 64
+few_in r x rows h e =
+    subst (λ (list : List Border). (k : ℕ) → k < length list → (border_at list k).neighbour < 64) (sym (e ∙ h.neighbours))
+    (all_few r.count r.longest r.end r.sound x.number h.there)
+
+-- a place in which something lies is there
+pub is_there : {P : Type 0} (xs : List (Option P)) (k : ℕ) → IsSome (in_place xs k) → k < length xs
+is_there [] k h = absurd (true≢false (sym h))
+is_there (x ∷ xs) zero h = omega arith
+is_there (x ∷ xs) (suc k) h = let l = is_there xs k h in omega arith

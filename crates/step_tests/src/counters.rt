@@ -1,0 +1,193 @@
+//! A stand-in for a partition.
+
+ghost use Rattle.std.specs.Prelude.{◌≡◌, ℕ, ◌<◌, length, set, None, Some, IfOk};
+ghost use Rattle.step_core.specs.Nets.{border_at};
+ghost use Rattle.step_core.specs.Views.{AreEmpty, HasSent};
+ghost use Rattle.step_tests.specs.Rows.{net_of, neighbours, number_of};
+ghost use Rattle.step_tests.specs.Counters.{view_of, IsAsBefore, Counts, is_number};
+
+use crate::rows::{Row, neighbours_of, number};
+use std::alloc::{AllocError, Global};
+use step_core::{BorderList, Part};
+
+/// A partition that sends numbers to its neighbours, and counts those that it gets.
+#[derive(Drop)]
+pub(crate) struct Counter {
+    pub(crate) number: u32,
+    pub(crate) seconds: u32,
+    /// The numbers that it got.
+    pub(crate) heard: u64,
+    /// Those of them that were not the right ones.
+    pub(crate) wrong: u64,
+    pub(crate) neighbours: BorderList,
+    pub(crate) inbox: Vec<Option<u64>>,
+    pub(crate) outbox: Vec<Option<u64>>,
+}
+
+/// Whether a partition is the one that finds no memory.
+fn is_poor(run: &Row, number: u32) -> bool {
+    match run.poor {
+        Some(poor) => poor == number,
+        None => false,
+    }
+}
+
+/// So many empty places.
+fn places(alloc: Global, count: usize) -> Result<Vec<Option<u64>>, AllocError>
+    ensures { IfOk result (λ v. AreEmpty count v.items) }
+{
+    let mut places = Vec::with_capacity(alloc, count)?;
+    for _place in 0..count {
+        places.push(None)?;
+    }
+    Ok(places)
+}
+
+impl Counter {
+    /// Counts what lies in its places, and empties them.
+    fn hear(&mut self)
+        ensures inbox { AreEmpty (length self.old.inbox.items) self.new.inbox.items }
+        ensures same { IsAsBefore self.old self.new }
+        ensures outbox { self.new.outbox.items ≡ self.old.outbox.items }
+    {
+        for place in 0..self.inbox.len() {
+            self.hear_from(place);
+        }
+    }
+
+    /// Counts what lies in the place of a neighbour, and empties it.
+    fn hear_from(&mut self, place: usize)
+        requires { place < length self.old.inbox.items }
+        ensures inbox { self.new.inbox.items ≡ set self.old.inbox.items place None }
+        ensures same { IsAsBefore self.old self.new }
+        ensures outbox { self.new.outbox.items ≡ self.old.outbox.items }
+    {
+        match self.inbox[place].take() {
+            Some(parcel) => self.count(place, parcel),
+            None => {}
+        }
+    }
+
+    /// Counts a number from a neighbour. It is right where it is that of the lag ago.
+    fn count(&mut self, place: usize, parcel: u64)
+        ensures inbox { self.new.inbox.items ≡ self.old.inbox.items }
+        ensures outbox { self.new.outbox.items ≡ self.old.outbox.items }
+        ensures same { IsAsBefore self.old self.new }
+    {
+        let wrong = u64::from(!self.is_right(place, parcel));
+        self.heard = self.heard.saturating_add(1);
+        self.wrong = self.wrong.saturating_add(wrong);
+    }
+
+    fn is_right(&self, place: usize, parcel: u64) -> bool {
+        if place >= self.neighbours.rows.len() {
+            return false;
+        }
+        let border = self.neighbours.rows[place];
+        match self.seconds.checked_sub(border.lag) {
+            Some(second) => {
+                border.neighbour < 64
+                    && self.number < 64
+                    && parcel == number(border.neighbour, self.number, second)
+            }
+            None => false,
+        }
+    }
+
+    /// A number for each neighbour.
+    fn send(&mut self)
+        requires number { self.old.number < 64 }
+        requires few { (k : ℕ) → k < length self.old.neighbours → (border_at self.old.neighbours k).neighbour < 64 }
+        requires places { length self.old.outbox.items ≡ length self.old.neighbours }
+        ensures same { IsAsBefore self.old self.new }
+        ensures inbox { self.new.inbox.items ≡ self.old.inbox.items }
+        ensures places { length self.new.outbox.items ≡ length self.old.outbox.items }
+        ensures sent { HasSent is_number self.old.number self.old.seconds self.old.neighbours self.new.outbox.items }
+    {
+        for place in 0..self.neighbours.len() {
+            self.send_to(place);
+        }
+    }
+
+    /// A number for one of them.
+    fn send_to(&mut self, place: usize)
+        requires number { self.old.number < 64 }
+        requires there { place < length self.old.neighbours }
+        requires few { (border_at self.old.neighbours place).neighbour < 64 }
+        requires places { length self.old.outbox.items ≡ length self.old.neighbours }
+        ensures same { IsAsBefore self.old self.new }
+        ensures inbox { self.new.inbox.items ≡ self.old.inbox.items }
+        ensures outbox { self.new.outbox.items ≡ set self.old.outbox.items place
+            (Some (number_of self.old.number (border_at self.old.neighbours place).neighbour self.old.seconds)) }
+    {
+        let to = self.neighbours.rows[place].neighbour;
+        let parcel = number(self.number, to, self.seconds);
+        self.outbox[place] = Some(parcel);
+    }
+}
+
+impl Part for Counter {
+    type Run = Row;
+
+    type Parcel = u64;
+
+    ghost net = { λ r. net_of r.count r.longest r.end };
+
+    ghost borders = { λ r p. neighbours r.count r.longest p };
+
+    ghost see = { view_of };
+
+    ghost stands = { Counts };
+
+    ghost right = { λ _. is_number };
+
+    fn count(run: &Row) -> u32 {
+        run.count
+    }
+
+    fn end(run: &Row) -> u32 {
+        run.end
+    }
+
+    fn borders(alloc: Global, run: &Row, number: u32) -> Result<BorderList, AllocError> {
+        neighbours_of(alloc, run, number)
+    }
+
+    fn start(alloc: Global, run: &Row, number: u32) -> Result<Counter, AllocError> {
+        let neighbours = neighbours_of(alloc, run, number)?;
+        let count = neighbours.len();
+        Ok(Counter {
+            number,
+            seconds: 0,
+            heard: 0,
+            wrong: 0,
+            neighbours,
+            inbox: places(alloc, count)?,
+            outbox: places(alloc, count)?,
+        })
+    }
+
+    #[tactic(auto, using(crate::proofs::Counting::stays))]
+    fn absorb(&mut self, place: usize, parcel: u64) {
+        self.inbox[place] = Some(parcel);
+    }
+
+    #[tactic(auto, using(crate::proofs::Counting::stays, crate::proofs::Counting::few_in))]
+    fn second(&mut self, run: &Row) -> Result<(), AllocError> {
+        if self.seconds == 50 && is_poor(run, self.number) {
+            return Err(AllocError);
+        }
+        self.hear();
+        self.send();
+        self.seconds += 1;
+        Ok(())
+    }
+
+    #[tactic(auto, using(crate::proofs::Counting::stays, crate::proofs::Counting::is_there))]
+    fn outbox(&mut self, place: usize) -> u64 {
+        match self.outbox[place].take() {
+            Some(parcel) => parcel,
+            None => unreachable!(),
+        }
+    }
+}

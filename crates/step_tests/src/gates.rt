@@ -1,0 +1,120 @@
+//! Gates that hold partitions, and watch them.
+
+use edge_files::Gate;
+use std::sync::atomic::{AtomicU64, Ordering};
+
+/// The turns after which a hold gives up.
+const MOST_TURNS: u32 = 100_000_000;
+
+/// Waits until a number is at least so large, and answers whether it is.
+fn await_number(number: &AtomicU64, least: u64) -> bool {
+    for _turn in 0..MOST_TURNS {
+        if number.load(Ordering::SeqCst) >= least {
+            return true;
+        }
+    }
+    false
+}
+
+/// Holds each partition before second 0 until four have come there.
+#[derive(Drop)]
+pub(crate) struct Meeting {
+    come: AtomicU64,
+    /// How many saw that.
+    met: AtomicU64,
+}
+
+impl Meeting {
+    pub(crate) fn new() -> Meeting {
+        Meeting {
+            come: AtomicU64::new(0),
+            met: AtomicU64::new(0),
+        }
+    }
+
+    pub(crate) fn met(&self) -> u64 {
+        self.met.load(Ordering::SeqCst)
+    }
+}
+
+impl Gate for Meeting {
+    fn pass(&self, _partition: u32, second: u32) {
+        if second == 0 {
+            self.come.fetch_add(1, Ordering::SeqCst);
+            if await_number(&self.come, 4) {
+                self.met.fetch_add(1, Ordering::SeqCst);
+            }
+        }
+    }
+}
+
+/// Holds partition 0 before second 5 until partition 3 has passed second 7, and counts the passes of partition 3 and those of all.
+#[derive(Drop)]
+pub(crate) struct Ahead {
+    last: AtomicU64,
+    all: AtomicU64,
+    /// How many holds gave up.
+    failed: AtomicU64,
+}
+
+impl Ahead {
+    pub(crate) fn new() -> Ahead {
+        Ahead {
+            last: AtomicU64::new(0),
+            all: AtomicU64::new(0),
+            failed: AtomicU64::new(0),
+        }
+    }
+
+    pub(crate) fn passes(&self) -> u64 {
+        self.all.load(Ordering::SeqCst)
+    }
+
+    pub(crate) fn failed(&self) -> u64 {
+        self.failed.load(Ordering::SeqCst)
+    }
+}
+
+impl Gate for Ahead {
+    fn pass(&self, partition: u32, second: u32) {
+        self.all.fetch_add(1, Ordering::SeqCst);
+        if partition == 3 && self.last.fetch_add(1, Ordering::SeqCst) != u64::from(second) {
+            self.failed.fetch_add(1, Ordering::SeqCst);
+        }
+        if partition == 0 && second == 5 && !await_number(&self.last, 8) {
+            self.failed.fetch_add(1, Ordering::SeqCst);
+        }
+    }
+}
+
+/// Counts the passes of four partitions, and those of them that are not in the order of one thread: in each second each of them, by number.
+#[derive(Drop)]
+pub(crate) struct InTurn {
+    all: AtomicU64,
+    wrong: AtomicU64,
+}
+
+impl InTurn {
+    pub(crate) fn new() -> InTurn {
+        InTurn {
+            all: AtomicU64::new(0),
+            wrong: AtomicU64::new(0),
+        }
+    }
+
+    pub(crate) fn passes(&self) -> u64 {
+        self.all.load(Ordering::SeqCst)
+    }
+
+    pub(crate) fn wrong(&self) -> u64 {
+        self.wrong.load(Ordering::SeqCst)
+    }
+}
+
+impl Gate for InTurn {
+    fn pass(&self, partition: u32, second: u32) {
+        if self.all.fetch_add(1, Ordering::SeqCst) != 4 * u64::from(second) + u64::from(partition) {
+            self.wrong.fetch_add(1, Ordering::SeqCst);
+        }
+    }
+}

@@ -1,8 +1,8 @@
 mod Lists
-mod Ending
+pub mod Ending
 mod Crossing
-mod Flying
-mod Sending
+pub mod Flying
+pub mod Sending
 mod Hearing
 mod Taking
 mod Going

@@ -1,0 +1,9 @@
+pub mod Lists
+pub mod Places
+pub mod Filling
+pub mod Without
+pub mod Coming
+pub mod Right
+pub mod Went
+pub mod Sent
+pub mod Heard

@@ -1,0 +1,5 @@
+pub mod Contents
+pub mod Sending
+pub mod Leaving
+pub mod Arriving
+pub mod Hearing

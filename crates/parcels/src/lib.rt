@@ -1,7 +1,7 @@
 //! What partitions of a day send to one another. Once its second is over, a partition makes a parcel for each neighbour: of the vehicles
-//! that its nodes let into the links of others, with the elements of their riders; of the persons who set out to fly to the links of others;
-//! and of how many vehicles left the queues of those of its links that begin at nodes of others. Before its second a partition takes in what
-//! came.
+//! that its nodes let into the links of others, with the elements of their riders; of the persons whose teleported leg to a link of
+//! another begins; and of how many vehicles left the queues of those of its links that begin at nodes of others. Before its second a
+//! partition takes in what came.
 #![tactic(auto)]
 
 mod arriving;

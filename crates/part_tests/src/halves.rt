@@ -10,8 +10,8 @@ use std::alloc::Global;
 use std::thread::Threads;
 use town::{DayInput, Town};
 
-/// Two nodes, a in the west and b in the east, and a link each way. The first departure starts in second 30 on the link to b, and the second
-/// one in second 20 on the link to a. One person stays at home.
+/// Two nodes, a in the west and b in the east, and a link each way. The first departure starts in second 30 on the link to b, and the
+/// second one in second 20 on the link to a. One person stays at home.
 static TEXTS: [(InFile, &str); 7] = [
     (InFile::Nodes, "node,x,y\na,0,0\nb,1,0\n"),
     (
@@ -97,8 +97,8 @@ fn begin(alloc: Global, day: &DayInput, owner: &Owner, part: u32, east: bool, we
     }
 }
 
-/// Whether each half has what is its own: a link begins where its first node is and belongs to where its last one is, and a departure starts
-/// where its first link belongs.
+/// Whether each half has what is its own: a link begins where its first node is and belongs to where its last one is, and a departure
+/// starts where its first link belongs.
 fn halves_have_their_own(alloc: Global, town: &Town) -> bool {
     let day = DayInput {
         town,

@@ -4,4 +4,4 @@ mod Scanning
 mod Single
 mod Slotted
 mod Telling
-mod Whole
+pub mod Whole

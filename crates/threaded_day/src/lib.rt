@@ -1,0 +1,44 @@
+//! A day of a town in partitions, on several threads.
+#![tactic(auto)]
+
+ghost use Rattle.std.specs.Prelude.{◌≡◌, ◌≤◌, IfOk};
+ghost use Rattle.limits.specs.declared.TheConstants.{MAX_PARTITIONS};
+ghost use Rattle.events.specs.Lines.{AreInBook};
+ghost use Rattle.law_in_range.specs.Setups.{HaveFittingPlans};
+ghost use Rattle.town.specs.Views.{setup};
+ghost use Rattle.traffic.specs.Day as traffic_day;
+
+use divided_day::{DayPart, merged_events};
+use edge_files::Gate;
+use events::Event;
+use std::alloc::{AllocError, Global};
+use std::sync::Wait;
+use std::thread::Threads;
+use workers::run_day;
+
+/// The events of a day, in the order of their keys, computed by its partitions on 1 to 64 threads: each does its next second as soon as all
+/// its neighbours are far enough. They are those of the day of the undivided town, however it is divided, on however many threads, and
+/// whichever thread gets on first. The gate is passed before each second of a partition.
+///
+/// # Errors
+///
+/// `AllocError`: there is no memory for the day.
+pub fn threaded_day<T: DayPart + Send + Sync, R: Threads + Wait + Sync, G: Gate>(
+    rt: &R,
+    alloc: Global,
+    run: &T::Run,
+    workers: u32,
+    gate: &G,
+) -> Result<Vec<Event>, AllocError>
+where
+    T::Run: Send + Sync,
+    T::Parcel: Send + Sync,
+    requires workers { (1 ≤ workers) × (workers ≤ MAX_PARTITIONS) }
+    requires given { HaveFittingPlans (T.day run.now) }
+    ensures events { IfOk result (λ events. events.items ≡ traffic_day.day (setup (T.day run.now))) }
+    ensures named { IfOk result (λ events. AreInBook events.items (T.day run.now).town.now.book) }
+{
+    let parts = run_day::<T, R, G>(rt, alloc, run, workers, gate)?;
+    let events = merged_events::<T>(alloc, run, parts)?;
+    Ok(events)
+}

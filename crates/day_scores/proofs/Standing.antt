@@ -1,5 +1,7 @@
 -- Scorers that take the events of a day stand for them.
-use Rattle.std.proofs.Common.{◌≡◌, ◌≢◌, ℕ, zero, suc, ◌+◌, ◌<◌, ◌≤◌, Bool, true, false, nat_eq, List, [], ◌∷◌, ◌++◌, length, map, get_or, take, Option, None, Some, refl, sym, ap, ◌∙◌, subst, inl, inr, length-append, arith}
+use Rattle.std.proofs.Common.{◌≡◌, ◌≢◌, ℕ, zero, suc, ◌+◌, ◌<◌, ◌≤◌, false, nat_eq, List, []}
+use Rattle.std.proofs.Common.{◌∷◌, ◌++◌, length, map, get_or, take, None, Some, refl, sym, ap, ◌∙◌, subst, inl, inr}
+use Rattle.std.proofs.Common.{append_assoc, length-append, arith}
 use Rattle.std.proofs.Math.ListN.{set, get_or-append, get_or-map}
 use Rattle.std.proofs.Math.Seq.{get_or-append_seam}
 use Rattle.std.proofs.lemmas.Bool.{cases_Bool, cases_lt, eq-eqb, ne_eqb, eqb-true}
@@ -9,7 +11,7 @@ use Rattle.events.specs.declared.event.Event.{Event}
 use Rattle.events.specs.Persons.{of_person, own_events}
 use Rattle.scoring.specs.declared.scorer.Scorer.{Scorer}
 use Rattle.scoring.specs.Tables.{ScoringRows}
-use Rattle.scoring.specs.Taken.{first_kind_of, MayFollow, IsTakenBy}
+use Rattle.scoring.specs.Taken.{first_kind_of, IsTakenBy}
 use Rattle.day_scores.specs.Standing.{StandFor, MayCome, AllCome}
 use Rattle.day_scores.proofs.Persons.{own-other, own-more, nobody, another, himself}
 
@@ -19,7 +21,8 @@ pub none_stand : (R : ScoringRows) → StandFor R [] []
 none_stand R = record { each = λ i d here. absurd (omega arith) }
 
 -- one scorer more that has taken nothing
-pub stand-push : (R : ScoringRows) (ss : List Scorer) (s : Scorer) → StandFor R ss [] → IsTakenBy R s [] → StandFor R (ss ++ s ∷ []) []
+pub stand-push : (R : ScoringRows) (ss : List Scorer) (s : Scorer) → StandFor R ss [] → IsTakenBy R s []
+    → StandFor R (ss ++ s ∷ []) []
 stand-push R ss s H new = record {
   each = λ i d here. elim (cases_lt i (length ss)) [
     | inl before ↦ subst (λ (x : Scorer). IsTakenBy R x []) (sym (get_or-append ss (s ∷ []) d i before)) (H.each i d before)
@@ -39,15 +42,18 @@ skipped R ss es e none H = record {
   each = λ i d here. subst (IsTakenBy R (get_or ss i d)) (sym (own-other i es e (none i here))) (H.each i d here);
 }
 
-pub nobody_named : (R : ScoringRows) (ss : List Scorer) (es : List Event) (e : Event) → e.person ≡ None → StandFor R ss es → StandFor R ss (es ++ e ∷ [])
+pub nobody_named : (R : ScoringRows) (ss : List Scorer) (es : List Event) (e : Event) → e.person ≡ None → StandFor R ss es
+    → StandFor R ss (es ++ e ∷ [])
 nobody_named R ss es e none H = skipped R ss es e (λ i here. nobody i e none) H
 
-pub stranger_named : (R : ScoringRows) (ss : List Scorer) (es : List Event) (e : Event) (j : ℕ) → e.person ≡ Some j → length ss ≤ j
+pub stranger_named : (R : ScoringRows) (ss : List Scorer) (es : List Event) (e : Event) (j : ℕ) → e.person ≡ Some j
+    → length ss ≤ j
     → StandFor R ss es → StandFor R ss (es ++ e ∷ [])
 stranger_named R ss es e j is far H = skipped R ss es e (λ i here. another i j e is (ne_eqb j i (λ same. absurd (omega arith)))) H
 
 -- that names one of them
-pub person_named : (R : ScoringRows) (ss : List Scorer) (es : List Event) (e : Event) (j : ℕ) (s : Scorer) → e.person ≡ Some j → j < length ss
+pub person_named : (R : ScoringRows) (ss : List Scorer) (es : List Event) (e : Event) (j : ℕ) (s : Scorer) → e.person ≡ Some j
+    → j < length ss
     → IsTakenBy R s (own_events j es ++ e ∷ []) → StandFor R ss es → StandFor R (set ss j s) (es ++ e ∷ [])
 person_named R ss es e j s is there taken H = record {
   each = λ i d here. elim (cases_Bool (nat_eq j i)) [
@@ -82,7 +88,8 @@ kinds-set ss j d s there same =
 
 -- ---- all scorers, one kind more
 
-pub kinds-push : (ss : List Scorer) (s : Scorer) (kinds : List ℕ) (i : ℕ) (d : ℕ) → i < length kinds → first_kind_of s ≡ get_or kinds i d
+pub kinds-push : (ss : List Scorer) (s : Scorer) (kinds : List ℕ) (i : ℕ) (d : ℕ) → i < length kinds
+    → first_kind_of s ≡ get_or kinds i d
     → map first_kind_of ss ≡ take i kinds → map first_kind_of (ss ++ s ∷ []) ≡ take (i + 1) kinds
 kinds-push ss s kinds i d here kind so_far =
     map-append first_kind_of ss (s ∷ []) ∙ ap (λ (ks : List ℕ). ks ++ first_kind_of s ∷ []) so_far
@@ -92,11 +99,21 @@ kinds-push ss s kinds i d here kind so_far =
 pub kinds-count : (ss : List Scorer) (kinds : List ℕ) → map first_kind_of ss ≡ kinds → length kinds ≡ length ss
 kinds-count ss kinds e = sym (ap (λ (ks : List ℕ). length ks) e) ∙ length-map ss first_kind_of
 
--- one event more, behind those of a place of the day
-pub come-more : (R : ScoringRows) (ss rs : List Scorer) (n : ℕ) (es : List Event) (i : ℕ) (d : Event) → i < length es → n ≡ length ss → AllCome n es
-    → StandFor R ss (take i es)
-    → ((taken : List Event) → StandFor R ss taken → MayCome (length ss) taken (get_or es i d) → StandFor R rs (taken ++ get_or es i d ∷ []))
-    → StandFor R rs (take (i + 1) es)
-come-more R ss rs n es i d here count comes stands goes =
-    subst (StandFor R rs) (sym (take_more es i d here))
-    (goes (take i es) stands (subst (λ (m : ℕ). MayCome m (take i es) (get_or es i d)) count (comes i here d)))
+-- one event more of a piece, behind those that were taken before the piece and those before it in the piece
+pub come-more : (R : ScoringRows) (ss rs : List Scorer) (n : ℕ) (taken es : List Event) (i : ℕ) (d : Event) → i < length es
+    → n ≡ length ss
+    → AllCome n taken es → StandFor R ss (taken ++ take i es)
+    → ((before : List Event) → StandFor R ss before → MayCome (length ss) before (get_or es i d)
+    → StandFor R rs (before ++ get_or es i d ∷ []))
+    → StandFor R rs (taken ++ take (i + 1) es)
+come-more R ss rs n taken es i d here count comes stands goes =
+    let longer : (taken ++ take i es) ++ get_or es i d ∷ [] ≡ taken ++ take (i + 1) es =
+    append_assoc taken (take i es) (get_or es i d ∷ []) ∙ ap (λ (l : List Event). taken ++ l) (sym (take_more es i d here)) in
+    subst (StandFor R rs) longer
+    (goes (taken ++ take i es) stands (subst (λ (m : ℕ). MayCome m (taken ++ take i es) (get_or es i d)) count (comes i here d)))
+
+-- an event of a piece may come behind those before it, by as many scorers
+pub come-next : (n m : ℕ) (taken es : List Event) (i : ℕ) (d : Event) → i < length es → n ≡ m → AllCome n taken es
+    → MayCome m (taken ++ take i es) (get_or es i d)
+come-next n m taken es i d here count comes =
+    subst (λ (k : ℕ). MayCome k (taken ++ take i es) (get_or es i d)) count (comes i here d)

@@ -1,5 +1,5 @@
 -- What the scorers of a day's persons stand for.
-use Rattle.std.specs.Prelude.{◌≡◌, ◌<◌, ℕ, true, List, length, get_or, take}
+use Rattle.std.specs.Prelude.{◌≡◌, ◌<◌, ◌++◌, ℕ, true, List, length, get_or, take}
 use Rattle.events.specs.declared.event.Event.{Event}
 use Rattle.events.specs.Persons.{of_person, own_events}
 use Rattle.scoring.specs.declared.scorer.Scorer.{Scorer}
@@ -14,9 +14,9 @@ pub record StandFor (scoring : ScoringRows) (scorers : List Scorer) (events : Li
 pub record MayCome (n : ℕ) (taken : List Event) (event : Event) : Type 0 where
   pub follows : (i : ℕ) → i < n → of_person i event ≡ true → MayFollow (own_events i taken) event
 
--- each event may come behind those before it
-abbrev pub AllCome : ℕ → List Event → Type 0
-AllCome n events = (k : ℕ) → k < length events → (d : Event) → MayCome n (take k events) (get_or events k d)
+-- each of these events may come behind others and those before it
+abbrev pub AllCome : ℕ → List Event → List Event → Type 0
+AllCome n taken events = (k : ℕ) → k < length events → (d : Event) → MayCome n (taken ++ take k events) (get_or events k d)
 
 -- the events of each of the first n persons may be taken one after the other
 abbrev pub AreScored : ℕ → List Event → Type 0

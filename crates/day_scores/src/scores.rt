@@ -5,7 +5,7 @@ ghost use Rattle.scoring.specs.Tables.{scoring_rows};
 ghost use Rattle.day_scores.specs.Scores.{scores_of};
 ghost use Rattle.day_scores.specs.Standing.{AreScored};
 
-use crate::scorers::{finished, new_scorers, with_events};
+use crate::scorers::Scorers;
 use events::Event;
 use scoring::Tables;
 use std::alloc::{AllocError, Global};
@@ -26,8 +26,8 @@ pub fn scores_of(
     ensures scores { IfOk result (λ scores. scores.items ≡ scores_of (scoring_rows tables.now) kinds.now events.now) }
     ensures within { IfOk result (λ scores. All (IsWithin MAX_SCORE) scores.items) }
 {
-    let scorers = new_scorers(alloc, kinds)?;
-    let scorers = with_events(scorers, tables, events);
-    let scores = finished(alloc, tables, &scorers)?;
+    let mut scorers = Scorers::new(alloc, kinds)?;
+    scorers.take(tables, events);
+    let scores = scorers.scores(alloc, tables)?;
     Ok(scores)
 }

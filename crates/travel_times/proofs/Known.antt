@@ -19,7 +19,6 @@ use Rattle.std.proofs.Common.{
   ◌++◌,
   length,
   get_or,
-  take,
   Option,
   None,
   Some,
@@ -31,19 +30,22 @@ use Rattle.std.proofs.Common.{
   ◌∙◌,
   ap,
   subst,
+  length-append,
   arith,
 }
 use Rattle.std.specs.Prelude.{nat_eq, sum, sum_by, slice_index_or, IfSome}
 use Rattle.std.specs.List.{cons_option}
 use Rattle.std.specs.Option.{option_map_or}
 use Rattle.std.proofs.lemmas.Bool.{cases_eq, eq-eqb, ne_eqb}
-use Rattle.std.proofs.lemmas.List.{take_more, get_or-take, length-take-le, get_or_past}
+use Rattle.std.proofs.Math.ListN.{get_or-append}
+use Rattle.std.proofs.Math.Seq.{get_or-append_seam}
 use Rattle.std.proofs.lemmas.List.Sums.{sum_by-cons}
 use Rattle.events.specs.declared.event.Event.{Event}
 use Rattle.travel_times.specs.declared.tallies.Tally.{Tally}
 use Rattle.travel_times.specs.declared.observations.Entry.{Entry}
-use Rattle.travel_times.specs.Observed.{AreInOrder, AreOnLinks, car_of, tells_of, observed_from, observed}
-use Rattle.travel_times.specs.Tallies.{no_tally, with_stay, row_at, tally_at, HasRows, entry_of, ended_stay, EndsStay, entry_after, IsKnown}
+use Rattle.travel_times.specs.Observed.{car_of, observed_from, observed}
+use Rattle.travel_times.specs.Tallies.{with_stay, tally_at, HasRows, entry_of, ended_stay, EndsStay, entry_after}
+use Rattle.travel_times.specs.Tallies.{IsKnown, IsPiece}
 use Rattle.travel_times.proofs.Stays.{
   entry_other,
   entry_own,
@@ -72,20 +74,14 @@ known_none links rows entries no_rows no_entries =
     }))
 
 -- nor does an event of no car tell anything
-pub known_other : (links place : ℕ) (events : List Event) (rows : List (List Tally)) (entries : List (Option Entry)) (d : Event) →
-    place < length events
-    → car_of (slice_index_or events place d).vehicle ≡ None → IsKnown links (take place events) rows entries →
-    IsKnown links (take (place + 1) events) rows entries
-known_other links place events rows entries d within told known =
-    let x : Event = slice_index_or events place d in
-    let P : List Event → Type 0 = λ es. IsKnown links es rows entries in
-    subst P (sym (take_more events place d within)) (record {
-      rows_kept = known.rows_kept;
-      cars = λ link bin. known.cars link bin ∙ ap (λ (xs : List ℕ). length xs) (sym (observed_other link bin (take place events) x told));
-      seconds = λ link bin. known.seconds link bin ∙ ap (λ (xs : List ℕ). sum xs)
-          (sym (observed_other link bin (take place events) x told));
-      entered = λ car. known.entered car ∙ sym (entry_other car (take place events) x (tells_none car x told));
-    })
+pub known_other : (links : ℕ) (taken : List Event) (x : Event) (rows : List (List Tally)) (entries : List (Option Entry))
+    → car_of x.vehicle ≡ None → IsKnown links taken rows entries → IsKnown links (taken ++ x ∷ []) rows entries
+known_other links taken x rows entries told known = record {
+  rows_kept = known.rows_kept;
+  cars = λ link bin. known.cars link bin ∙ ap (λ (xs : List ℕ). length xs) (sym (observed_other link bin taken x told));
+  seconds = λ link bin. known.seconds link bin ∙ ap (λ (xs : List ℕ). sum xs) (sym (observed_other link bin taken x told));
+  entered = λ car. known.entered car ∙ sym (entry_other car taken x (tells_none car x told));
+}
 
 count_is : (xs : List ℕ) → sum_by (λ (_ : ℕ). 1) xs ≡ length xs
 count_is [] = refl
@@ -119,67 +115,59 @@ unfolding total
 seconds_seen link bin c events x told = total_car (λ s. s) link bin c events x told
 
 -- an event of a car ends its stay, where it is on a link, and tells where it is now
-pub known_car : (links place c : ℕ) (events : List Event) (rows new_rows : List (List Tally)) (entries new_entries : List (Option Entry))
-    (entry now : Option Entry) (d : Event) → place < length events
-    → car_of (slice_index_or events place d).vehicle ≡ Some c → IsKnown links (take place events) rows entries → HasRows links new_rows
-    → entry ≡ entry_after c (take place events) → EndsStay (slice_index_or events place d) entry rows new_rows → now
-    ≡ entry_of (slice_index_or events place d)
+pub known_car : (links c : ℕ) (taken : List Event) (x : Event) (rows new_rows : List (List Tally))
+    (entries new_entries : List (Option Entry))
+    (entry now : Option Entry) → car_of x.vehicle ≡ Some c → IsKnown links taken rows entries → HasRows links new_rows
+    → entry ≡ entry_after c taken → EndsStay x entry rows new_rows → now ≡ entry_of x
     → ((other : ℕ) → slice_index_or new_entries other None ≡ cond (nat_eq other c) now (slice_index_or entries other None))
-    → IsKnown links (take (place + 1) events) new_rows new_entries
-known_car links place c events rows new_rows entries new_entries entry now d within told known kept on_link ends_entry tells set =
-    let x : Event = slice_index_or events place d in
-    let before : List Event = take place events in
-    let E : Option Entry → Type 0 = λ o. EndsStay (slice_index_or events place d) o rows new_rows in
-    let ends : EndsStay (slice_index_or events place d) (entry_after c (take place events)) rows new_rows = subst E on_link ends_entry in
-    let P : List Event → Type 0 = λ es. IsKnown links es new_rows new_entries in
-    subst P (sym (take_more events place d within)) (record {
+    → IsKnown links (taken ++ x ∷ []) new_rows new_entries
+known_car links c taken x rows new_rows entries new_entries entry now told known kept on_link ends_entry tells set =
+    let E : Option Entry → Type 0 = λ o. EndsStay x o rows new_rows in
+    let ends : EndsStay x (entry_after c taken) rows new_rows = subst E on_link ends_entry in
+    record {
       rows_kept = kept;
       cars = λ link bin.
-          ap (λ (t : Tally). t.cars) (ends link bin) ∙ cars_more (tally_at rows link bin) (ended_stay link bin (entry_after c before) x)
-          ∙ ap (λ (n : ℕ). n + weight (λ _. 1) (ended_stay link bin (entry_after c before) x)) (known.cars link bin) ∙ sym
-          (cars_seen link bin c before x told);
+          ap (λ (t : Tally). t.cars) (ends link bin) ∙ cars_more (tally_at rows link bin) (ended_stay link bin (entry_after c taken) x)
+          ∙ ap (λ (n : ℕ). n + weight (λ _. 1) (ended_stay link bin (entry_after c taken) x)) (known.cars link bin)
+          ∙ sym (cars_seen link bin c taken x told);
       seconds = λ link bin.
-          ap (λ (t : Tally). t.seconds) (ends link bin) ∙ seconds_more (tally_at rows link bin)
-          (ended_stay link bin (entry_after c before) x)
-          ∙ ap (λ (n : ℕ). n + weight (λ s. s) (ended_stay link bin (entry_after c before) x)) (known.seconds link bin) ∙ sym
-          (seconds_seen link bin c before x told);
-      entered = λ car. set car ∙ ap (λ (o : Option Entry). cond (nat_eq car c) o (slice_index_or entries car None)) tells ∙ placed car
-          (cases_eq car c);
-    })
+          ap (λ (t : Tally). t.seconds) (ends link bin)
+          ∙ seconds_more (tally_at rows link bin) (ended_stay link bin (entry_after c taken) x)
+          ∙ ap (λ (n : ℕ). n + weight (λ s. s) (ended_stay link bin (entry_after c taken) x)) (known.seconds link bin)
+          ∙ sym (seconds_seen link bin c taken x told);
+      entered = λ car. set car ∙ ap (λ (o : Option Entry). cond (nat_eq car c) o (slice_index_or entries car None)) tells
+          ∙ placed car (cases_eq car c);
+    }
   where
     placed : (car : ℕ) → (car ≡ c) ⊎ (car ≡ c → ⊥)
-        → cond (nat_eq car c) (entry_of (slice_index_or events place d)) (slice_index_or entries car None)
-        ≡ entry_after car (take place events ++ slice_index_or events place d ∷ [])
+        → cond (nat_eq car c) (entry_of x) (slice_index_or entries car None) ≡ entry_after car (taken ++ x ∷ [])
     placed car (inl same) =
-        let x : Event = slice_index_or events place d in
         ap (λ (b : Bool). cond b (entry_of x) (slice_index_or entries car None)) (eq-eqb car c same)
-        ∙ sym (entry_own car (take place events) x (tells_same car c x told ∙ eq-eqb c car (sym same)))
+        ∙ sym (entry_own car taken x (tells_same car c x told ∙ eq-eqb c car (sym same)))
     placed car (inr apart) =
-        let x : Event = slice_index_or events place d in
         ap (λ (b : Bool). cond b (entry_of x) (slice_index_or entries car None)) (ne_eqb car c apart) ∙ known.entered car
-        ∙ sym (entry_other car (take place events) x (tells_same car c x told ∙ ne_eqb c car (λ same. apart (sym same))))
+        ∙ sym (entry_other car taken x (tells_same car c x told ∙ ne_eqb c car (λ same. apart (sym same))))
 
 -- a car that is on a link is on one of them, and entered it by now
-pub on_a_link : (links place car : ℕ) (events : List Event) (entry : Option Entry) (d : Event) → place < length events →
-    AreInOrder events → AreOnLinks links events
-    → entry ≡ entry_after car (take place events) → IfSome entry
-    (λ e. (e.link < links) × (e.second ≤ (slice_index_or events place d).key.second))
-on_a_link links place car events entry d within order on_links is = by_entry entry is
+pub on_a_link : (links car : ℕ) (taken : List Event) (x : Event) (entry : Option Entry) → IsPiece links taken (x ∷ [])
+    → entry ≡ entry_after car taken → IfSome entry (λ e. (e.link < links) × (e.second ≤ x.key.second))
+on_a_link links car taken x entry piece is = by_entry entry is
   where
-    by_entry : (o : Option Entry) → o ≡ entry_after car (take place events) →
-        IfSome o (λ e. (e.link < links) × (e.second ≤ (slice_index_or events place d).key.second))
+    by_entry : (o : Option Entry) → o ≡ entry_after car taken → IfSome o (λ e. (e.link < links) × (e.second ≤ x.key.second))
     by_entry None same = tt
     by_entry (Some e) same =
-        let found = entered_by car (take place events) e (sym same) in
-        let short : length (take place events) ≡ place = length-take-le place events (omega arith) in
-        let before : found.0 < place = let h = found.1 in omega arith in
-        let there : slice_index_or (take place events) found.0 d ≡ slice_index_or events found.0 d =
-        get_or-take place events found.0 d before in
-        let tells = entry_tells (slice_index_or events found.0 d) e (ap entry_of (sym there) ∙ found.2 d) in
-        let in_order = order found.0 place d before within in
-        let second = tells.1 in
+        let found = entered_by car taken e (sym same) in
+        let k : ℕ = found.0 in
+        let before : k < length taken = found.1 in
+        let long : length (taken ++ x ∷ []) ≡ length taken + 1 = length-append taken (x ∷ []) in
+        let there : get_or (taken ++ x ∷ []) k x ≡ get_or taken k x = get_or-append taken (x ∷ []) x k before in
+        let last : get_or (taken ++ x ∷ []) (length taken) x ≡ x = get_or-append_seam taken x [] x in
+        let tells = entry_tells (get_or (taken ++ x ∷ []) k x) e (ap entry_of there ∙ found.2 x) in
+        let in_order = piece.order k (length taken) x before (omega arith) in
+        let now = ap (λ (y : Event). y.key.second) last in
+        let entered = tells.1 in
         let P : Option ℕ → Type 0 = λ o. IfSome o (λ l. l < links) in
-        let on : e.link < links = subst P tells.0 (on_links found.0 d (omega arith)) in
+        let on : e.link < links = subst P tells.0 (piece.on_links k x (omega arith)) in
         (on, omega arith)
 
 observed_few : (link bin : ℕ) (events : List Event) → length (observed link bin events) ≤ length events
@@ -193,11 +181,12 @@ observed_few link bin (y ∷ ys) = let rest = observed_few link bin ys in one_mo
     one_more (Some x) xs n h = omega arith
 
 -- no tally has more cars than there were events
-pub cars_few : (links place : ℕ) (events : List Event) (rows : List (List Tally)) (entries : List (Option Entry)) →
-    place < length events → length events < 2 ^ 64
-    → IsKnown links (take place events) rows entries → (link bin : ℕ) → (tally_at rows link bin).cars < 2 ^ 64 - 1
-cars_few links place events rows entries within fits known link bin =
+pub cars_few : (links : ℕ) (taken : List Event) (x : Event) (rows : List (List Tally)) (entries : List (Option Entry))
+    → IsPiece links taken (x ∷ []) → IsKnown links taken rows entries → (link bin : ℕ)
+    → (tally_at rows link bin).cars < 2 ^ 64 - 1
+cars_few links taken x rows entries piece known link bin =
     let are = known.cars link bin in
-    let few = observed_few link bin (take place events) in
-    let short : length (take place events) ≡ place = length-take-le place events (omega arith) in
+    let few = observed_few link bin taken in
+    let long = length-append taken (x ∷ []) in
+    let fits = piece.few in
     omega arith

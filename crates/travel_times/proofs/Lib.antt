@@ -5,4 +5,5 @@ pub mod Networks
 pub mod Orders
 pub mod Stays
 pub mod Known
+pub mod Pieces
 pub mod Binning

@@ -6,8 +6,11 @@ use Rattle.std.specs.Prelude.{
   ◌-◌,
   ◌*◌,
   ◌/◌,
+  ◌^◌,
+  ◌<◌,
   ◌≤◌,
   ◌⊎◌,
+  ◌++◌,
   max,
   nat_eq,
   ◌&&◌,
@@ -28,7 +31,7 @@ use Rattle.travel_times.specs.declared.tallies.Tally.{Tally}
 use Rattle.travel_times.specs.declared.observations.Entry.{Entry}
 use Rattle.travel_times.specs.declared.TheConstants.{BIN_SECONDS}
 use Rattle.travel_times.specs.Times.{LinkProfile, time_in}
-use Rattle.travel_times.specs.Observed.{tells_of, is_entry, leaves, observed, average_or}
+use Rattle.travel_times.specs.Observed.{AreInOrder, AreOnLinks, tells_of, is_entry, leaves, observed, average_or}
 
 -- no car
 abbrev pub no_tally : Tally
@@ -91,6 +94,13 @@ pub record IsKnown (links : ℕ) (events : List Event) (rows : List (List Tally)
   pub cars : (link bin : ℕ) → (tally_at rows link bin).cars ≡ length (observed link bin events)
   pub seconds : (link bin : ℕ) → (tally_at rows link bin).seconds ≡ sum (observed link bin events)
   pub entered : (car : ℕ) → slice_index_or entries car None ≡ entry_after car events
+
+-- a piece of a day, behind the events before it: none of them is earlier than one before it, their links are among so many, and all of
+-- them together can be counted
+pub record IsPiece (links : ℕ) (taken events : List Event) : Type 0 where
+  pub order : AreInOrder (taken ++ events)
+  pub on_links : AreOnLinks links (taken ++ events)
+  pub few : length (taken ++ events) < 2 ^ 64
 
 -- the times of a profile are the averages of what was seen of this link
 abbrev pub IsSeen : ℕ → ℕ → List (List Tally) → LinkProfile → Type 0

@@ -17,6 +17,7 @@ pub use laws::{
     free_links_take_alike, links_are_first_in_first_out, worked_arrivals, worked_observations,
 };
 pub use link_times::LinkTimes;
+pub use observations::Observations;
 
 /// The seconds of a bin, a quarter of an hour.
 pub const BIN_SECONDS: u64 = 900;

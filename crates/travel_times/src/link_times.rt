@@ -1,8 +1,10 @@
 ghost use Rattle.std.specs.Prelude.{◌≡◌, ℕ, ◌+◌, ◌^◌, ◌<◌, ◌≤◌, max, List, length, nat_eq, IfOk, All};
 ghost use Rattle.travel_times.specs.Times.{LinkProfile, time_in, arrival_by, profile_at, free_of, arrivals, free_times};
+ghost use Rattle.events.specs.declared.event.Event.{Event};
 ghost use Rattle.travel_times.specs.Observed.{AreInOrder, AreOnLinks, link_at, observed_time};
+ghost use Rattle.travel_times.specs.Known.{Knows, links_of};
 
-use crate::observations::observed;
+use crate::observations::Observations;
 use crate::profiles::Profile;
 use crate::seen::seen_profiles;
 use events::Event;
@@ -46,8 +48,34 @@ impl LinkTimes {
         free_links(alloc, &network.links)
     }
 
-    /// The travel times that the events of a day show: in each bin the average of the cars that entered the link in it and were
-    /// seen to leave it, one second at least, and where none was seen the free seconds.
+    /// The travel times that the observed events of a day show: in each bin the average of the cars that entered the link in it and
+    /// were seen to leave it, one second at least, and where none was seen the free seconds.
+    ///
+    /// # Errors
+    ///
+    /// `AllocError`: there is no memory for the times.
+    pub fn seen(
+        alloc: Global,
+        network: &Network,
+        known: &Observations,
+    ) -> Result<LinkTimes, AllocError>
+        requires known { (events : List Event) × Knows known.now events }
+        requires links { links_of known.now ≡ length network.now.links }
+        ensures count { IfOk result (λ times. length times ≡ length network.now.links) }
+        ensures free { IfOk result (λ times. (link : ℕ) → link < length network.now.links
+            → (profile_at times link).free ≡ free_of (link_at network.now.links link)) }
+        ensures times { IfOk result (λ times. (events : List Event) → Knows known.now events
+            → (link bin : ℕ) → link < length network.now.links
+            → time_in (profile_at times link) bin ≡ observed_time network.now.links events link bin) }
+        ensures arrivals { IfOk result (λ times. (events : List Event) → Knows known.now events
+            → (link second : ℕ) → link < length network.now.links
+            → arrivals times link second ≡ arrival_by (observed_time network.now.links events link) second) }
+    {
+        let links = seen_profiles(alloc, &network.links, &known.rows)?;
+        Ok(LinkTimes { links })
+    }
+
+    /// The travel times that the events of a day show, which are observed all at once.
     pub fn of_events(
         alloc: Global,
         network: &Network,
@@ -63,9 +91,10 @@ impl LinkTimes {
         ensures arrivals { IfOk result (λ times. (link second : ℕ) → link < length network.now.links
             → arrivals times link second ≡ arrival_by (observed_time network.now.links events.now link) second) }
     {
-        let known = observed(alloc, network.links.len(), events)?;
-        let links = seen_profiles(alloc, &network.links, &known.rows)?;
-        Ok(LinkTimes { links })
+        let mut known = Observations::new(alloc, network.links.len());
+        known.take(alloc, events)?;
+        let times = LinkTimes::seen(alloc, network, &known)?;
+        Ok(times)
     }
 
     /// How many links there are.

@@ -1,8 +1,10 @@
-ghost use Rattle.std.specs.Prelude.{◌≡◌, ℕ, ◌+◌, ◌-◌, ◌^◌, ◌<◌, ◌≤◌, length, take};
-ghost use Rattle.std.specs.Prelude.{slice_index_or, IfOk, OnOk, IfSome, None, nat_eq};
+ghost use Rattle.std.specs.Prelude.{◌≡◌, ℕ, ◌-◌, ◌^◌, ◌<◌, ◌≤◌, List, [], ◌∷◌, ◌++◌};
+ghost use Rattle.std.specs.Prelude.{slice_index_or, OnOk, IfSome, None, nat_eq};
 ghost use Rattle.std.specs.Prelude.{if◌then◌else◌};
-ghost use Rattle.travel_times.specs.Observed.{AreInOrder, AreOnLinks, car_of};
-ghost use Rattle.travel_times.specs.Tallies.{entry_of, stay_of, tally_at, HasRows, EndsStay, IsKnown};
+ghost use Rattle.events.specs.declared.event.Event.{Event};
+ghost use Rattle.travel_times.specs.Observed.{car_of};
+ghost use Rattle.travel_times.specs.Tallies.{entry_of, stay_of, tally_at, HasRows, EndsStay, IsPiece};
+ghost use Rattle.travel_times.specs.Known.{Knows, links_of};
 
 use crate::BIN_SECONDS;
 use crate::tallies::{TallyRow, add_stay};
@@ -16,15 +18,16 @@ pub struct Entry {
     pub second: u32,
 }
 
-/// What was seen of the cars in the events so far.
+/// What was seen of cars in the events of a day so far. The events come piece by piece, in their order; they show what they would show if
+/// all had come at once.
 #[derive(Drop)]
 pub struct Observations {
     /// How many links there are.
-    pub links: usize,
+    links: usize,
     /// The tallies of each bin.
-    pub rows: Vec<TallyRow>,
+    pub(crate) rows: Vec<TallyRow>,
     /// The link on which each car is, where the last event that tells of it is that it entered the link.
-    pub entries: Vec<Option<Entry>>,
+    entries: Vec<Option<Entry>>,
 }
 
 /// The person whose car it is, where it is one.
@@ -122,21 +125,13 @@ fn end_stay(
     Ok(())
 }
 
-/// Goes on by the event at this place, of events of which those before it are known.
-fn observe(
-    alloc: Global,
-    known: &mut Observations,
-    events: &[Event],
-    place: usize,
-) -> Result<(), AllocError>
-    requires place { place < length events.now }
-    requires order { AreInOrder events.now }
-    requires links { AreOnLinks known.old.links events.now }
-    requires known { IsKnown known.old.links (take place events.now) known.old.rows.items known.old.entries.items }
-    ensures known { OnOk result (IsKnown known.new.links (take (place + 1) events.now) known.new.rows.items known.new.entries.items) }
-    ensures links { known.new.links ≡ known.old.links }
+/// Goes on by the next event.
+fn observe(alloc: Global, known: &mut Observations, event: &Event) -> Result<(), AllocError>
+    requires { (taken : List Event) × Knows known.old taken × IsPiece (links_of known.old) taken (event.now ∷ []) }
+    ensures known { OnOk result ((taken : List Event) → Knows known.old taken → IsPiece (links_of known.old) taken (event.now ∷ [])
+        → Knows known.new (taken ++ event.now ∷ [])) }
+    ensures links { links_of known.new ≡ links_of known.old }
 {
-    let event = &events[place];
     let Some(car) = car_in(event.vehicle) else {
         return Ok(());
     };
@@ -146,19 +141,33 @@ fn observe(
     Ok(())
 }
 
-/// What all these events show of the cars on so many links.
-pub fn observed(alloc: Global, links: usize, events: &[Event]) -> Result<Observations, AllocError>
-    requires order { AreInOrder events.now }
-    requires links { AreOnLinks links events.now }
-    ensures { IfOk result (λ known. IsKnown links events.now known.rows.items known.entries.items) }
-{
-    let mut known = Observations {
-        links,
-        rows: Vec::new(alloc),
-        entries: Vec::new(alloc),
-    };
-    for place in 0..events.len() {
-        observe(alloc, &mut known, events, place)?;
+impl Observations {
+    /// Nothing was seen yet of the cars on so many links. Takes no memory.
+    pub fn new(alloc: Global, links: usize) -> Observations
+        ensures known { Knows result [] }
+        ensures links { links_of result ≡ links }
+    {
+        Observations {
+            links,
+            rows: Vec::new(alloc),
+            entries: Vec::new(alloc),
+        }
     }
-    Ok(known)
+
+    /// Takes the next events of the day. They come behind those before them, and their links are among those that there are.
+    ///
+    /// # Errors
+    ///
+    /// `AllocError`: there is no memory for what is seen. What is known then is of no use.
+    pub fn take(&mut self, alloc: Global, events: &[Event]) -> Result<(), AllocError>
+        requires { (taken : List Event) × Knows self.old taken × IsPiece (links_of self.old) taken events.now }
+        ensures known { OnOk result ((taken : List Event) → Knows self.old taken → IsPiece (links_of self.old) taken events.now
+            → Knows self.new (taken ++ events.now)) }
+        ensures links { links_of self.new ≡ links_of self.old }
+    {
+        for event in events {
+            observe(alloc, self, event)?;
+        }
+        Ok(())
+    }
 }

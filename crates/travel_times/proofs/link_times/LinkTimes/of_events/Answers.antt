@@ -1,22 +1,39 @@
-use Rattle.std.proofs.Common.{ℕ, ap, length}
-use Rattle.std.proofs.Math.Path.{fun_ext}
-use Rattle.travel_times.specs.Times.{arrival_by, profile_at}
-use Rattle.travel_times.proofs.Networks.{all_move}
-use Rattle.travel_times.proofs.Binning.{seen_time}
+use Rattle.std.proofs.Common.{◌≡◌, ℕ, List, [], length, ◌^◌, ◌<◌, rules, sym, subst, ◌∙◌}
+use Rattle.events.specs.declared.event.Event.{Event}
+use Rattle.travel_times.specs.Observed.{AreInOrder, AreOnLinks}
+use Rattle.travel_times.specs.Tallies.{IsPiece}
 use Rattle.travel_times.proofs.link_times.LinkTimes.of_events.Goals as goal
 
-pub seen_profiles-requires-clause-moving : goal.seen_profiles-requires-clause-moving
-seen_profiles-requires-clause-moving c = all_move (length c.args.network.now.nodes) c.args.network.now.links c.args.network.now.sound
+-- a whole day is a piece of itself
+whole : (n links count : ℕ) (events : List Event) → AreInOrder events → AreOnLinks links events → length events < 2 ^ 64
+    → n ≡ count
+    → count ≡ links → IsPiece n [] events
+whole n links count events order on_links few same are = record {
+  order = order;
+  on_links = subst (λ (m : ℕ). AreOnLinks m events) (sym (same ∙ are)) on_links;
+  few = few;
+}
+
+pub take-requires : goal.take-requires
+take-requires c = (
+  [],
+  c.new-known.ensures.known,
+  whole _ _ _ c.args.events.now c.requires.order c.requires.links (search rules) c.new-known.ensures.links c.len.ensures,
+)
+
+pub seen-requires-clause-known : goal.seen-requires-clause-known
+seen-requires-clause-known c = (
+  c.args.events.now,
+  c.in_ok-take.ensures.known [] c.new-known.ensures.known
+      (whole _ _ _ c.args.events.now c.requires.order c.requires.links (search rules) c.new-known.ensures.links c.len.ensures),
+)
 
 pub returns-clause-times : goal.returns-clause-times
-returns-clause-times c link bin within =
-    seen_time c.args.network.now.links c.args.events.now c.len.result c.in_ok-known.known.rows.items c.deref.result.now
-    c.in_ok-known.known.entries.items link bin
-    (profile_at c.in_ok-links.links.items link) c.deref.ensures.value c.in_ok-known.ensures (c.in_ok-links.ensures.seen link within)
+returns-clause-times c =
+    c.in_ok-times.ensures.times c.args.events.now (c.in_ok-take.ensures.known [] c.new-known.ensures.known
+    (whole _ _ _ c.args.events.now c.requires.order c.requires.links (search rules) c.new-known.ensures.links c.len.ensures))
 
 pub returns-clause-arrivals : goal.returns-clause-arrivals
-returns-clause-arrivals c link second within =
-    ap (λ (time : ℕ → ℕ). arrival_by time second) (fun_ext (λ bin.
-    seen_time c.args.network.now.links c.args.events.now c.len.result c.in_ok-known.known.rows.items c.deref.result.now
-    c.in_ok-known.known.entries.items link bin
-    (profile_at c.in_ok-links.links.items link) c.deref.ensures.value c.in_ok-known.ensures (c.in_ok-links.ensures.seen link within)))
+returns-clause-arrivals c =
+    c.in_ok-times.ensures.arrivals c.args.events.now (c.in_ok-take.ensures.known [] c.new-known.ensures.known
+    (whole _ _ _ c.args.events.now c.requires.order c.requires.links (search rules) c.new-known.ensures.links c.len.ensures))

@@ -1,0 +1,44 @@
+-- What a handler of events stands for.
+use Rattle.std.specs.Prelude.{◌≡◌, ℕ, List, length, map}
+use Rattle.std.specs.List.{All}
+use Rattle.events.specs.declared.event.Event.{Event}
+use Rattle.scoring.specs.declared.TheConstants.{MAX_SCORE}
+use Rattle.scoring.specs.Ranges.{IsWithin}
+use Rattle.scoring.specs.Tables.{ScoringRows}
+use Rattle.scoring.specs.Taken.{first_kind_of}
+use Rattle.day_scores.specs.Scores.{scores_of}
+use Rattle.day_scores.specs.Standing.{StandFor, AreScored}
+use Rattle.travel_times.specs.Observed.{AreInOrder, AreOnLinks}
+use Rattle.travel_times.specs.Known.{Knows, links_of}
+use Rattle.event_handler.specs.declared.handling.EventHandler.{EventHandler}
+use Rattle.event_handler.specs.declared.handling.SeenDay.{SeenDay}
+use Rattle.event_handler.specs.Counts.{AreCounted}
+
+-- the kind of each person's first activity, how many persons there are, and how many links
+abbrev pub kinds_of : EventHandler → List ℕ
+kinds_of handler = map first_kind_of handler.scorers
+
+abbrev pub persons_of : EventHandler → ℕ
+persons_of handler = length handler.scorers
+
+abbrev pub links_in : EventHandler → ℕ
+links_in handler = links_of handler.known
+
+-- by these tables the handler stands for these events
+pub record HasHandled (scoring : ScoringRows) (handler : EventHandler) (events : List Event) : Type 0 where
+  pub scored : StandFor scoring handler.scorers events
+  pub seen : Knows handler.known events
+  pub counted : AreCounted handler.counts events
+
+-- a day of so many persons and links can be handled: it can be scored, its events come in order, and their links are among these
+pub record CanHandle (persons links : ℕ) (events : List Event) : Type 0 where
+  pub scored : AreScored persons events
+  pub order : AreInOrder events
+  pub on_links : AreOnLinks links events
+
+-- what was seen of these events, by these tables and of persons whose first activities are of these kinds
+pub record IsSeen (scoring : ScoringRows) (kinds : List ℕ) (events : List Event) (seen : SeenDay) : Type 0 where
+  pub scores : seen.scores.items ≡ scores_of scoring kinds events
+  pub within : All (IsWithin MAX_SCORE) seen.scores.items
+  pub known : Knows seen.known events
+  pub counts : AreCounted seen.counts events

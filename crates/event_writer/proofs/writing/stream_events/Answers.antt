@@ -1,0 +1,48 @@
+use Rattle.scoring.specs.Tables.{scoring_rows}
+use Rattle.event_writer.proofs.Streaming.{streaming_first, comes_of, fewer_of, piece_named, piece_handled, streaming_more}
+use Rattle.event_writer.proofs.Streaming.{streaming_failed, streaming_wanting}
+use Rattle.event_writer.proofs.writing.stream_events.Goals as goal
+
+pub pieces-init : goal.pieces-init
+pieces-init g c = record {
+  ready = c.requires.ready;
+  streaming = streaming_first (scoring_rows c.args.tables.now) c.args.book.now (g.S.EventSource.rest c.args.source.now) c.args.handler
+      (g.O.Outputs.written c.args.outputs.now) (g.O.Outputs.faults c.args.outputs.now) c.requires.new;
+}
+
+pub stream_piece-requires-clause-named : goal.stream_piece-requires-clause-named
+stream_piece-requires-clause-named g c =
+    piece_named _ _ _ _ _ _ _ _ _ _ _ _ c.pieces.invariant.streaming
+    (comes_of _ _ _ _ _ c.in-Some.is c.in-Ok.ensures.some c.deref.ensures.value) c.requires.named
+
+pub stream_piece-requires-clause-handled : goal.stream_piece-requires-clause-handled
+stream_piece-requires-clause-handled g c = (
+  c.pieces.invariant.streaming.taken,
+  g.S.EventSource.rest c.next_piece.new.self,
+  c.pieces.invariant.streaming.handled,
+  piece_handled _ _ _ _ _ _ _ _ _ _ _ _ c.pieces.invariant.streaming
+      (comes_of _ _ _ _ _ c.in-Some.is c.in-Ok.ensures.some c.deref.ensures.value) c.requires.can,
+)
+
+pub pieces-preserved : goal.pieces-preserved
+pieces-preserved g c =
+    let h = c.pieces.invariant.streaming in
+    let comes = comes_of _ _ _ _ _ c.in-Some.is c.in-Ok.ensures.some c.deref.ensures.value in
+    record {
+      ready = c.in-Ok.ensures.ready;
+      streaming = streaming_more _ _ _ _ _ _ _ _ _ _ _ _ h comes _ _ _ _ c.in-Ok-stream_piece.ensures.written
+          (c.in-Ok-stream_piece.ensures.handled h.taken (g.S.EventSource.rest c.next_piece.new.self) h.handled
+          (piece_handled _ _ _ _ _ _ _ _ _ _ _ _ h comes c.requires.can))
+          c.in-Ok-stream_piece.ensures.kinds c.in-Ok-stream_piece.ensures.links;
+    }
+
+pub pieces-smaller : goal.pieces-smaller
+pieces-smaller g c = fewer_of _ _ _ _ c.in-Some.is c.in-Ok.ensures.fewer
+
+pub returns-in-Err-clause-written : goal.returns-in-Err-clause-written
+returns-in-Err-clause-written g c = streaming_wanting _ _ _ _ _ _ _ _ _ _ c.pieces.invariant.streaming
+
+pub returns-in-Err-stream_piece-clause-written : goal.returns-in-Err-stream_piece-clause-written
+returns-in-Err-stream_piece-clause-written g c =
+    streaming_failed _ _ _ _ _ _ _ _ _ _ _ _ c.pieces.invariant.streaming
+    (comes_of _ _ _ _ _ c.in-Some.is c.in-Ok.ensures.some c.deref.ensures.value) _ _ _ c.in-Err-stream_piece.ensures.written

@@ -23,7 +23,7 @@ use Rattle.law_parcels.specs.Sending.{sent_rows, goes_to, freed_over, SendsParce
 use Rattle.step_core.specs.declared.part.Border.{Border}
 use Rattle.step_core.specs.Nets.{border_at}
 use Rattle.parcels.specs.declared.contents.LeftRows.{LeftRows}
-use Rattle.parcels.specs.Contents.{passed_of, flight_of, freed_of, parcel_of}
+use Rattle.parcels.specs.Contents.{passed_of, flight_of, freed_row, parcel_of}
 use Rattle.parcels.specs.Leaving.{AreOthers}
 use Rattle.parcels.specs.Sending.{is_at, moved_of, vehicle_place, other_than, flies_to, place_if, flight_place, flying_of, freed_place}
 use Rattle.parcels.specs.Sending.{parcel_for}
@@ -133,8 +133,8 @@ module _ (S : Setup) (own : Owner) (p t k : ℕ) (borders : List Border) (others
 
   -- FREED PLACES
   pub freed_are : (fs : List LeftRows)
-      → map freed_of (filter (λ f. is_at k (freed_place S own borders f)) fs)
-      ≡ filter (λ (f : Freed). begins_in S own f.link == q) (map freed_of fs)
+      → map freed_row (filter (λ f. is_at k (freed_place S own borders f)) fs)
+      ≡ filter (λ (f : Freed). begins_in S own f.link == q) (map freed_row fs)
   freed_are [] = refl
   freed_are (f ∷ fs) =
       let same : is_at k (freed_place S own borders f) ≡ (begins_in S own f.link == q)
@@ -142,7 +142,7 @@ module _ (S : Setup) (own : Owner) (p t k : ℕ) (borders : List Border) (others
       elim (cases_Bool (begins_in S own f.link == q)) [
         | inl e ↦
             let g : is_at k (freed_place S own borders f) ≡ true = same ∙ e in
-            rw (e, g) (ap (λ (xs : List Freed). freed_of f ∷ xs) (freed_are fs))
+            rw (e, g) (ap (λ (xs : List Freed). freed_row f ∷ xs) (freed_are fs))
         | inr e ↦
             let g : is_at k (freed_place S own borders f) ≡ false = same ∙ e in
             rw (e, g) (freed_are fs)
@@ -153,7 +153,7 @@ module _ (S : Setup) (own : Owner) (p t k : ℕ) (borders : List Border) (others
       → es ≡ map entering_of (sent_rows S own p t) → ns ≡ filter (λ i. is_among i ns) (below (length S.persons))
       → ((i : ℕ) → is_among i ns ≡ false
       → person_of i (set_out S own p t (world_before S own p t)) ≡ person_of i (world_before S own p t))
-      → map freed_of fs ≡ freed_over S own p t
+      → map freed_row fs ≡ freed_over S own p t
       → parcel_of S t (parcel_for S own p borders t (world_driven S own p t).persons es ns fs k) ≡ out S own p q t
   right_parcel es ns fs sends rows looked same freed =
       let V = world_driven S own p t in
@@ -170,6 +170,6 @@ module _ (S : Setup) (own : Owner) (p t k : ℕ) (borders : List Border) (others
       ≡ (out S own p q t).flights
       = flights_are V ns ∙ ap (flat_map (λ i. flight_to S own q t i (Some (person_of i V)))) looked
       ∙ sym (sends.flights q (λ i. is_among i ns) same) in
-      let c : map freed_of (filter (λ f. is_at k (freed_place S own borders f)) fs) ≡ (out S own p q t).freed
+      let c : map freed_row (filter (λ f. is_at k (freed_place S own borders f)) fs) ≡ (out S own p q t).freed
       = freed_are fs ∙ ap (filter (λ (f : Freed). begins_in S own f.link == q)) freed ∙ sym (sends.freed_places q other) in
       all_three _ _ _ (out S own p q t) _ refl refl refl a b c

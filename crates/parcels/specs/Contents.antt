@@ -14,9 +14,9 @@ passed_of S t m = record { row = entering_row S t m.vehicle; elements = m.elemen
 abbrev pub flight_of : Setup → ℕ → Flying → Flight
 flight_of S t f = record { person = f.person; element = f.element; due = t + seconds_of_way (leg_at S f.person f.element) }
 
-abbrev pub freed_of : LeftRows → Freed
-freed_of f = record { link = f.link; rows = f.rows }
+abbrev pub freed_row : LeftRows → Freed
+freed_row f = record { link = f.link; rows = f.rows }
 
 abbrev pub parcel_of : Setup → ℕ → Parcel → Sent
 parcel_of S t x =
-    record { vehicles = map (passed_of S t) x.vehicles; flights = map (flight_of S t) x.flights; freed = map freed_of x.freed }
+    record { vehicles = map (passed_of S t) x.vehicles; flights = map (flight_of S t) x.flights; freed = map freed_row x.freed }

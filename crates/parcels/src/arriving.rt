@@ -5,7 +5,7 @@ ghost use Rattle.std.specs.List.{flat_map};
 ghost use Rattle.law_partitions.specs.Alone.{person_in, riding};
 ghost use Rattle.town.specs.Views.{setup};
 ghost use Rattle.traffic.specs.declared.world.Place.TheVariants as place;
-ghost use Rattle.parcels.specs.Contents.{parcel_of, freed_of};
+ghost use Rattle.parcels.specs.Contents.{parcel_of, freed_row};
 ghost use Rattle.parcels.specs.Arriving.{Come, entering_by, entered, if_is, flown, all_riding};
 
 use crate::contents::{FlyingList, LeftList, Moved, MovedList, Parcel};
@@ -158,7 +158,7 @@ pub fn arrive(
         (λ i. person_in i second (Some (parcel_of (setup day.now) second parcel))) persons.old persons.new) }
     ensures entering { OnOk result (entering.new.items
         ≡ entering.old.items ++ map entered (parcel_of (setup day.now) second parcel).vehicles) }
-    ensures freed { IfOk result (λ freed. map freed_of freed ≡ (parcel_of (setup day.now) second parcel).freed) }
+    ensures freed { IfOk result (λ freed. map freed_row freed ≡ (parcel_of (setup day.now) second parcel).freed) }
 {
     let Parcel {
         vehicles,

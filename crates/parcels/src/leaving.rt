@@ -15,7 +15,7 @@ ghost use Rattle.step_core.specs.Nets.{border_at};
 ghost use Rattle.town.specs.Views.{setup};
 ghost use Rattle.traffic.specs.Lists.{below};
 ghost use Rattle.traffic.specs.Rows.{person_of};
-ghost use Rattle.parcels.specs.Contents.{freed_of, parcel_of};
+ghost use Rattle.parcels.specs.Contents.{freed_row, parcel_of};
 ghost use Rattle.parcels.specs.Sending.{nothing, parcel_at, parcel_for, all_gone, riders_of, if_flies};
 ghost use Rattle.parcels.specs.Sending.{AreMore, more_vehicles, more_flights, more_freed};
 ghost use Rattle.parcels.specs.Leaving.{AreWithout, AreOthers, HaveGone};
@@ -174,7 +174,7 @@ pub fn send(
         let V = world_before S own exits.now.part second in
         (i : ℕ) → is_among i leaving.looked.items ≡ false
         → person_of i (set_out S own exits.now.part second V) ≡ person_of i V }
-    requires freed { map freed_of leaving.freed.items
+    requires freed { map freed_row leaving.freed.items
         ≡ freed_over (setup exits.now.day.now) (owner_in exits.now.owner.now.of_node) exits.now.part second }
     ensures count { IfOk result (λ parcels. length parcels.items ≡ length exits.now.borders.now) }
     ensures parcels { let own = owner_in exits.now.owner.now.of_node in let S = setup exits.now.day.now in

@@ -277,8 +277,8 @@ fn pass_fronts(
 }
 
 /// The links into a node hand over to the links out of it, and those that have room in their buffers again are woken in this second.
-/// Answers what that tells, and appends to `out` who enters a link of another part. Only those links are looked at in whose buffers somebody
-/// is; for a single one no list is made.
+/// Answers what that tells, and appends to `out` who enters a link of another part. Only those links are looked at in whose buffers
+/// somebody is; for a single one no list is made.
 fn pass_node(
     phase: &NodePhase,
     node: u32,

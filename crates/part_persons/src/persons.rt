@@ -39,8 +39,8 @@ fn first_wakes(alloc: Global, day: &DayInput, world: &World) -> Result<Wakes, Al
 }
 
 impl Persons {
-    /// The persons of a part at the start of a day, each at the first activity of the chosen plan. They are those whose first activity is on
-    /// a link of the part.
+    /// The persons of a part at the start of a day, each at the first activity of the chosen plan. They are those whose first activity is
+    /// on a link of the part.
     ///
     /// # Errors
     ///

@@ -87,9 +87,9 @@ fn put_holes(holes: &mut [u64], link: u32, count: u64)
 }
 
 impl Places {
-    /// So many vehicles have left the queue of a link, no more than are in it, and their places are free once the holes have travelled along
-    /// it, if the day lasts so long. Where the link ends in another part this is heard some seconds after they left, while none of these
-    /// places is free yet.
+    /// So many vehicles have left the queue of a link, no more than are in it, and their places are free once the holes have travelled
+    /// along it, if the day lasts so long. Where the link ends in another part this is heard some seconds after they left, while none of
+    /// these places is free yet.
     ///
     /// # Errors
     ///

@@ -1,5 +1,6 @@
-//! The places of the links that begin in a part of a network, or in the whole of it, as vehicles leave them: a place that a vehicle leaves stays taken while a hole travels back along
-//! the link, and only the links are looked at on which a place comes free (docs/PROFILE.md, "Phase C: a node").
+//! The places of the links that begin in a part of a network, or in the whole of it, as vehicles leave them: a place that a vehicle leaves
+//! stays taken while a hole travels back along the link, and only the links are looked at on which a place comes free (docs/PROFILE.md,
+//! "Phase C: a node").
 #![tactic(auto)]
 
 mod freeing;

@@ -28,7 +28,8 @@ use Rattle.part_places.specs.declared.places.Places.{Places}
 use Rattle.part_places.specs.Taking.{AreTakenOf, IsFull, begins_here, still, times}
 use Rattle.part_seconds.specs.declared.area.Area.{Area}
 use Rattle.part_seconds.specs.Settling.{places_known, wake_own_starts}
-use Rattle.part_seconds.specs.Slots.{link_in, slot_count, extent_of, AreSlots}
+use Rattle.divided_day.specs.Slots.{link_in, slot_count, AreSlots}
+use Rattle.part_seconds.specs.Slots.{extent_of}
 use Rattle.part_seconds.specs.Stands.{NetworkStands, AreaStands}
 use Rattle.part_seconds.proofs.Slots.{link_own}
 use Rattle.part_seconds.proofs.Knowing as knowing

@@ -44,10 +44,11 @@ use Rattle.part_persons.proofs.Early.{woken_all}
 use Rattle.part_places.specs.declared.places.Places.{Places}
 use Rattle.part_places.specs.Taking.{Taking, AreTakenOf, begins_here}
 use Rattle.part_seconds.specs.declared.area.Area.{Area}
-use Rattle.part_seconds.specs.declared.area.LeftRows.{LeftRows}
-use Rattle.part_seconds.specs.FreedRows.{freed_row, all_freed}
+use Rattle.parcels.specs.declared.contents.LeftRows.{LeftRows}
+use Rattle.law_parcels.specs.Sending.{freed_over}
+use Rattle.parcels.specs.Contents.{freed_row}
 use Rattle.part_seconds.specs.Settling.{places_known, link_at, left_all, AreFew, AreApart, gone_from, left_rows, put_queues, wake_ends_at}
-use Rattle.part_seconds.specs.Slots.{link_in, slot_count, AreSlots}
+use Rattle.divided_day.specs.Slots.{link_in, slot_count, AreSlots}
 use Rattle.part_seconds.specs.Stands.{AreaStands}
 use Rattle.part_seconds.proofs.Slots.{slot_of, link_there, link_own, all_links, numbered}
 use Rattle.part_seconds.proofs.Knowing as knowing
@@ -442,7 +443,7 @@ module _ (day : DayInput) (own : Owner) (parts p t : ℕ) (slots : List ℕ) (gi
 
     freed_is : (qs : List ℕ)
         → ((k : ℕ) → k < size → begins_here S own p (num k) ≡ false → get_or qs k 0 ≡ length (at (num k) Queue V4))
-        → map freed_row (flat_map (left_rows S own p new qs) ks) ≡ all_freed S own p link_moves
+        → map freed_row (flat_map (left_rows S own p new qs) ks) ≡ freed_over S own p t
     unfolding told_row row_of
     freed_is qs was =
         let n = stand.count in
@@ -472,7 +473,7 @@ module _ (day : DayInput) (own : Owner) (parts p t : ℕ) (slots : List ℕ) (gi
             ]
 
     pub freed_as : (ls : List LinkView) (js qs : List ℕ) (out : List LeftRows) → ls ≡ new → js ≡ ks → qs ≡ A.queues.items
-        → out ≡ flat_map (left_rows S own p ls qs) js → map freed_row out ≡ all_freed S own p link_moves
+        → out ≡ flat_map (left_rows S own p ls qs) js → map freed_row out ≡ freed_over S own p t
     freed_as ls js qs out e f g is =
         ap (map freed_row) (is ∙ ap (flat_map (left_rows S own p ls qs)) f
         ∙ ap (λ (xs : List ℕ). flat_map (left_rows S own p ls xs) ks) g

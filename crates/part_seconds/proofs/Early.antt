@@ -48,7 +48,8 @@ use Rattle.part_starts.proofs.Standing as starting
 use Rattle.part_starts.proofs.Standing.{Starts, in_world}
 use Rattle.part_seconds.specs.declared.area.Area.{Area}
 use Rattle.part_seconds.specs.Settling.{places_known}
-use Rattle.part_seconds.specs.Slots.{link_in, slot_count, AreSlots, in_slot}
+use Rattle.divided_day.specs.Slots.{link_in, slot_count, AreSlots}
+use Rattle.part_seconds.specs.Slots.{in_slot}
 use Rattle.part_seconds.specs.Stands.{NetworkStands, AreaStands, AreOwnDepartures}
 use Rattle.part_seconds.proofs.Slots.{slot_of, slot_is, link_there, link_own, numbered}
 use Rattle.part_seconds.proofs.Knowing as knowing

@@ -9,7 +9,8 @@ use Rattle.law_partitions.specs.Alone.{my_links}
 use Rattle.part_lines.proofs.Ready.{IsOneOf}
 use Rattle.part_links.specs.Links.{AreNumbered}
 use Rattle.part_nodes.specs.Phase.{HasLinks}
-use Rattle.part_seconds.specs.Slots.{link_in, slot_count, extent_of, AreSlots}
+use Rattle.divided_day.specs.Slots.{link_in, slot_count, AreSlots}
+use Rattle.part_seconds.specs.Slots.{extent_of}
 
 -- A PLACE AMONG THOSE THAT PASS
 passed_at : (q : ℕ → Bool) (l k n : ℕ) → k ≤ l → l < k + n → q l ≡ true

@@ -1,4 +1,3 @@
 pub mod Slots
 pub mod Settling
-pub mod FreedRows
 pub mod Stands

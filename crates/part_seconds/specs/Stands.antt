@@ -18,7 +18,7 @@ use Rattle.part_places.specs.Taking.{AreTakenOf, begins_here}
 use Rattle.law_parts_of_days.specs.Persons.{PersonsStand}
 use Rattle.part_seconds.specs.declared.area.Area.{Area}
 use Rattle.part_seconds.specs.Settling.{places_known}
-use Rattle.part_seconds.specs.Slots.{link_in, slot_count}
+use Rattle.divided_day.specs.Slots.{link_in, slot_count}
 
 -- the departures of p of each second from second u on, before the end
 abbrev pub AreOwnDepartures : Setup → Owner → ℕ → ℕ → ℕ → Due → Type 0

@@ -19,10 +19,3 @@ pub struct Area {
     /// How many vehicles are in the queue of each link that begins elsewhere, by slot, as of its last turn and of what was absorbed since.
     pub queues: Vec<usize>,
 }
-
-/// How many vehicles left the queue of a link that begins elsewhere.
-#[derive(Clone, Copy, Debug, PartialEq, Eq)]
-pub struct LeftRows {
-    pub link: u32,
-    pub rows: usize,
-}

@@ -13,17 +13,19 @@ ghost use Rattle.part_links.specs.Links.{AreNumbered, LinksStandAt, LinesStandAt
 ghost use Rattle.part_links.specs.Phase.{IsPhaseAt};
 ghost use Rattle.partition.specs.Owned.{owner_in};
 ghost use Rattle.town.specs.Views.{setup};
-ghost use Rattle.traffic.specs.Day.{events_in, moves_of};
+ghost use Rattle.traffic.specs.Day.{events_in};
 ghost use Rattle.traffic.specs.Rows.{World};
 ghost use Rattle.traffic.specs.Setup.{Setup};
-ghost use Rattle.part_seconds.specs.FreedRows.{freed_row, all_freed};
+ghost use Rattle.law_parcels.specs.Sending.{freed_over};
+ghost use Rattle.parcels.specs.Contents.{freed_row};
 ghost use Rattle.part_seconds.specs.Stands.{AreaStands};
 
-use crate::area::{Area, LeftRows};
+use crate::area::Area;
 use crate::hearing::hear_told;
 use crate::runs::Run;
 use crate::settling::{settle_links, take_left};
 use calendar::Wakes;
+use parcels::LeftRows;
 use part_links::{LinkPhase, Told, move_links};
 use queue_link::LinkState;
 use riders::Waiting;
@@ -90,8 +92,7 @@ impl Area {
             OnOk result (told.new.events.items
             ≡ told.old.events.items ++ events_in second phase.D (my_link_turns S own number second)) }
         ensures freed { let own = owner_in run.now.owner.now.of_node in let S = setup run.now.day.now in
-            IfOk result (λ freed. map freed_row freed.items
-            ≡ all_freed S own number (moves_of (my_link_turns S own number second))) }
+            IfOk result (λ freed. map freed_row freed.items ≡ freed_over S own number second) }
         ensures said { OnOk result (told.new.said.items ≡ []) }
     {
         let phase = LinkPhase {

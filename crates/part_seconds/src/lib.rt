@@ -10,5 +10,5 @@ mod runs;
 mod setting_out;
 mod settling;
 
-pub use area::{Area, LeftRows};
+pub use area::Area;
 pub use runs::Run;

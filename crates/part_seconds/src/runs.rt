@@ -4,7 +4,9 @@ ghost use Rattle.std.specs.Prelude.{◌≡◌, ℕ, ◌<◌, [], get_or};
 ghost use Rattle.law_in_range.specs.Setups.{HaveFittingPlans};
 ghost use Rattle.partition.specs.Owned.{owner_in};
 ghost use Rattle.town.specs.Views.{setup};
-ghost use Rattle.part_seconds.specs.Slots.{AreSlots, AreSlotsInto, borders_of};
+ghost use Rattle.divided_day.specs.Slots.{AreSlots};
+ghost use Rattle.divided_day.specs.Borders.{borders_of};
+ghost use Rattle.part_seconds.specs.Slots.{AreSlotsInto};
 
 use part_nodes::InLinks;
 use partition::Owner;

@@ -7,7 +7,7 @@ use Rattle.partition.specs.Owned.{owner_in}
 use Rattle.queue_link.specs.Links.{LinkView}
 use Rattle.town.specs.Views.{setup}
 use Rattle.part_seconds.specs.Settling.{wake_ends_at}
-use Rattle.part_seconds.specs.Slots.{link_in, slot_count}
+use Rattle.divided_day.specs.Slots.{link_in, slot_count}
 use Rattle.part_seconds.proofs.Driven.{able, turned, by_own, there_as, in_town_as, many_as, settling, freed_as, put_as, driven_stands, back}
 use Rattle.part_seconds.proofs.area.Area.drive.Goals as goal
 

@@ -26,6 +26,8 @@ pub struct Run<'a> {
     pub link_slots: &'a [u32],
     /// The neighbours of each partition, ascending, with the lags from them.
     pub borders: &'a [BorderList],
+    /// Whether the events of each second are taken as the day goes on: a part keeps then those of the second that it did last alone.
+    pub streams: bool,
     pub ghost given: { HaveFittingPlans day.now },
     pub ghost slots: { AreSlots (setup day.now) (owner_in owner.now.of_node) link_slots.now },
     pub ghost into: { AreSlotsInto (setup day.now) link_slots.now in_links.now },

@@ -1,6 +1,6 @@
 //! The day of a town in partitions.
 
-ghost use Rattle.std.specs.Prelude.{◌≡◌, length, map, IfOk};
+ghost use Rattle.std.specs.Prelude.{◌≡◌, false, length, map, IfOk};
 ghost use Rattle.events.specs.Lines.{AreInBook};
 ghost use Rattle.law_in_range.specs.Setups.{HaveFittingPlans};
 ghost use Rattle.step_core.specs.Views.{EachAt};
@@ -23,6 +23,7 @@ fn told_by<T: DayPart>(
     parts: Vec<T>,
 ) -> Result<Vec<EventList>, AllocError>
     requires given { HaveFittingPlans (T.day run.now) }
+    requires stays { T.streams run.now ≡ false }
     requires count { length parts.items ≡ (T.net run.now).parts }
     requires ended { EachAt T.see (T.stands run.now) (T.net run.now).end (λ p. length (T.borders run.now p)) (T.net run.now).parts
         parts.items }
@@ -36,7 +37,7 @@ fn told_by<T: DayPart>(
 }
 
 /// The events of a day, in the order of their keys, out of all its partitions at the end, by number: whoever made them step, and in
-/// whatever order. They are those of the day of the undivided town.
+/// whatever order. They are those of the day of the undivided town. None of them were taken while the day went on.
 ///
 /// # Errors
 ///
@@ -47,6 +48,7 @@ pub fn merged_events<T: DayPart>(
     parts: Vec<T>,
 ) -> Result<Vec<Event>, AllocError>
     requires given { HaveFittingPlans (T.day run.now) }
+    requires stays { T.streams run.now ≡ false }
     requires count { length parts.items ≡ (T.net run.now).parts }
     requires ended { EachAt T.see (T.stands run.now) (T.net run.now).end (λ p. length (T.borders run.now p)) (T.net run.now).parts
         parts.items }
@@ -71,6 +73,7 @@ pub fn divided_day<T: DayPart, G: Gate>(
     gate: &G,
 ) -> Result<Vec<Event>, AllocError>
     requires given { HaveFittingPlans (T.day run.now) }
+    requires stays { T.streams run.now ≡ false }
     ensures events { IfOk result (λ events. events.items ≡ traffic_day.day (setup (T.day run.now))) }
     ensures named { IfOk result (λ events. AreInBook events.items (T.day run.now).town.now.book) }
 {

@@ -1,6 +1,6 @@
 //! What a partition is to the core.
 
-ghost use Rattle.std.specs.Prelude.{◌≡◌, ◌+◌, ◌<◌, ℕ, List, None, Some, length, set, IfOk, OnOk, IsSome};
+ghost use Rattle.std.specs.Prelude.{◌≡◌, ◌+◌, ◌<◌, ℕ, List, None, Some, length, set, IfOk, OnOk, OnErr, IsSome};
 ghost use Rattle.step_core.specs.Nets.{Net};
 ghost use Rattle.step_core.specs.Views.{PartView, in_place, HasHeard, HasSent, IsAt, Stays};
 
@@ -38,6 +38,9 @@ pub trait Part: Drop {
 
     /// It holds what its partition holds by itself after its seconds, and has told what belongs to it.
     ghost stands: { Self.Run → Self → Type 0 };
+
+    /// It found no memory in a second. It is of no use then.
+    ghost spent: { Self → Type 0 };
 
     /// Which parcel is right: of a sender, a receiver and a second.
     ghost right: { Self.Run → ℕ → ℕ → ℕ → Self.Parcel → Type 0 };
@@ -81,7 +84,7 @@ pub trait Part: Drop {
     ///
     /// # Errors
     ///
-    /// `AllocError`: there is no memory for it. The partition is then of no use.
+    /// `AllocError`: there is no memory for it. The partition is then spent.
     fn second(&mut self, run: &Self::Run) -> Result<(), AllocError>
         requires stands { stands run.now self.old }
         requires before_end { (see self.old).seconds < (net run.now).end }
@@ -90,7 +93,8 @@ pub trait Part: Drop {
         ensures at { OnOk result (IsAt see (stands run.now) (see self.old).number ((see self.old).seconds + 1)
             (length (see self.old).inbox) self.new) }
         ensures sent { OnOk result (HasSent (right run.now) (see self.old).number (see self.old).seconds
-            (borders run.now (see self.old).number) (see self.new).outbox) };
+            (borders run.now (see self.old).number) (see self.new).outbox) }
+        ensures spent { OnErr result (spent self.new) };
 
     /// Takes out the parcel for neighbour `place`.
     fn outbox(&mut self, place: usize) -> Self::Parcel

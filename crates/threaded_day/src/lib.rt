@@ -1,7 +1,7 @@
 //! A day of a town in partitions, on several threads.
 #![tactic(auto)]
 
-ghost use Rattle.std.specs.Prelude.{◌≡◌, ◌≤◌, IfOk};
+ghost use Rattle.std.specs.Prelude.{◌≡◌, ◌≤◌, false, IfOk};
 ghost use Rattle.limits.specs.declared.TheConstants.{MAX_PARTITIONS};
 ghost use Rattle.events.specs.Lines.{AreInBook};
 ghost use Rattle.law_in_range.specs.Setups.{HaveFittingPlans};
@@ -35,6 +35,7 @@ where
     T::Parcel: Send + Sync,
     requires workers { (1 ≤ workers) × (workers ≤ MAX_PARTITIONS) }
     requires given { HaveFittingPlans (T.day run.now) }
+    requires stays { T.streams run.now ≡ false }
     ensures events { IfOk result (λ events. events.items ≡ traffic_day.day (setup (T.day run.now))) }
     ensures named { IfOk result (λ events. AreInBook events.items (T.day run.now).town.now.book) }
 {

@@ -3,3 +3,4 @@ pub mod Taking
 pub mod Boxes
 pub mod Stepping
 pub mod Orders
+pub mod Together

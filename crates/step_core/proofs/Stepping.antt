@@ -24,16 +24,19 @@ whole {A} new old n en long =
     let e : n ≡ length new = omega arith in
     subst (λ (k : ℕ). take k (new ++ drop (length new) old) ≡ new) (sym e) (take_front new (drop (length new) old))
 
-module _ {T P : Type 0} (N : Net) (borders : ℕ → List Border) (see : T → PartView P) (stands : T → Type 0)
+module _ {T P : Type 0} (N : Net) (borders : ℕ → List Border) (see : T → PartView P) (stands spent : T → Type 0)
     (right : ℕ → ℕ → ℕ → P → Type 0)
     (done : List ℕ) (stopped : List Bool) (tables : List (List Border)) (parts : List T) (boxes : List (List P))
-    (core : IsCore N borders see stands right done stopped tables parts boxes) (p : ℕ) (there : p < N.parts)
+    (core : IsCore N borders see stands spent right done stopped tables parts boxes) (p : ℕ) (there : p < N.parts)
     (goes : is_stopped stopped p ≡ false) where
   abbrev rows : List Border
   rows = get_or tables p []
 
   abbrev t : ℕ
   t = done_at done p
+
+  is_other : (q : ℕ) → is_stopped stopped q ≡ true → q ≢ p
+  is_other q h = λ e. true≢false (sym h ∙ ap (is_stopped stopped) e ∙ goes)
 
   near_at : (k : ℕ) → k < length rows → N.near (neighbour_at rows k) p ≡ true
   near_at k lt = (core.rows p there).each k lt
@@ -241,7 +244,7 @@ module _ {T P : Type 0} (N : Net) (borders : ℕ → List Border) (see : T → P
           (subst (λ (z : ℕ). IsAt see stands q z (length (get_or tables q [])) (get_or parts q d)) (sym (now_other q ne))
           (core.members q d lt g)))
 
-      pub core_done : IsCore N borders see stands right now stopped tables (set parts p x) later
+      pub core_done : IsCore N borders see stands spent right now stopped tables (set parts p x) later
       core_done = record {
         net = core.net;
         dones = length-set done p (t + 1) ∙ core.dones;
@@ -256,12 +259,13 @@ module _ {T P : Type 0} (N : Net) (borders : ℕ → List Border) (see : T → P
         short = short_now;
         full = box_now;
         members = part_now;
+        halted = λ q d lt h. let ne = is_other q h in subst spent (sym (get_or-set_other parts p q x d ne)) (core.halted q d lt h);
       }
 
     done_then : (more : List Border) (s n : ℕ) (bs later : List (List P)) (x : T) → more ≡ rows → s ≡ t → bs ≡ boxes
         → n ≡ length boxes
         → IsAt see stands p (s + 1) (length more) x → HasExchanged right s p more bs later
-        → IsCore N borders see stands right (set done p (s + 1)) stopped tables (set parts p x)
+        → IsCore N borders see stands spent right (set done p (s + 1)) stopped tables (set parts p x)
         (take n (later ++ drop (length later) boxes))
     done_then more s n bs later x er es eb en is ex =
         let here : IsAt see stands p (t + 1) (length rows) x =
@@ -271,13 +275,13 @@ module _ {T P : Type 0} (N : Net) (borders : ℕ → List Border) (see : T → P
         subst (λ (xs : List Border). HasExchanged right t p xs boxes later) er
         (subst (λ (z : ℕ). HasExchanged right z p more boxes later) es
         (subst (λ (zs : List (List P)). HasExchanged right s p more zs later) eb ex)) in
-        subst (λ (zs : List (List P)). IsCore N borders see stands right (set done p (s + 1)) stopped tables (set parts p x) zs)
+        subst (λ (zs : List (List P)). IsCore N borders see stands spent right (set done p (s + 1)) stopped tables (set parts p x) zs)
         (sym (whole later boxes n en changed.long))
-        (subst (λ (z : ℕ). IsCore N borders see stands right (set done p (z + 1)) stopped tables (set parts p x) later) (sym es)
+        (subst (λ (z : ℕ). IsCore N borders see stands spent right (set done p (z + 1)) stopped tables (set parts p x) later) (sym es)
         (core_done x later here changed))
 
   -- WHERE IT WAS STOPPED
-  module _ (x : T) (later : List (List P)) (tk : HasTaken t p rows boxes later) where
+  module _ (x : T) (later : List (List P)) (tk : HasTaken t p rows boxes later) (poor : spent x) where
     abbrev flags : List Bool
     flags = set stopped p true
 
@@ -287,8 +291,8 @@ module _ {T P : Type 0} (N : Net) (borders : ℕ → List Border) (see : T → P
     flag_other : (q : ℕ) → q ≢ p → is_stopped flags q ≡ is_stopped stopped q
     flag_other q ne = get_or-set_other stopped p q true false ne
 
-    is_other : (q : ℕ) → is_stopped flags q ≡ false → q ≢ p
-    is_other q g = λ e. true≢false (sym flag_here ∙ ap (is_stopped flags) (sym e) ∙ g)
+    goes_on : (q : ℕ) → is_stopped flags q ≡ false → q ≢ p
+    goes_on q g = λ e. true≢false (sym flag_here ∙ ap (is_stopped flags) (sym e) ∙ g)
 
     same_box : (a b : ℕ) → N.near a b ≡ true → b ≢ p → box later a b ≡ box boxes a b
     same_box a b n ne = tk.others a b (let few = core.net.few in let lt = (core.net.there a b n).1 in omega arith) ne
@@ -308,7 +312,7 @@ module _ {T P : Type 0} (N : Net) (borders : ℕ → List Border) (see : T → P
         (λ e. subst (λ (z : ℕ). N.near a z ≡ true → length (box later a z) ≤ count_in N done a z) (sym e) (shorter_to a) n)
         (λ ne. let o = ap length (same_box a b n ne) in let s = core.short a b n in omega arith)
 
-    pub core_stopped : IsCore N borders see stands right done flags tables (set parts p x) later
+    pub core_stopped : IsCore N borders see stands spent right done flags tables (set parts p x) later
     core_stopped = record {
       net = core.net;
       dones = core.dones;
@@ -321,71 +325,75 @@ module _ {T P : Type 0} (N : Net) (borders : ℕ → List Border) (see : T → P
       early = core.early;
       close = core.close;
       short = short_then;
-      full = λ a b n g. let ne = is_other b g in
+      full = λ a b n g. let ne = goes_on b g in
           subst (λ (z : List P). IsBox (right a b) (first_in N done a b) (count_in N done a b) z) (sym (same_box a b n ne))
           (core.full a b n (sym (flag_other b ne) ∙ g));
-      members = λ q d lt g. let ne = is_other q g in
+      members = λ q d lt g. let ne = goes_on q g in
           subst (λ (z : T). IsAt see stands q (done_at done q) (length (get_or tables q [])) z) (sym (get_or-set_other parts p q x d ne))
           (core.members q d lt (sym (flag_other q ne) ∙ g));
+      halted = λ q d lt h. dite (ℕ_discrete q p)
+          (λ e. subst (λ (z : ℕ). spent (get_or (set parts p x) z d)) (sym e)
+          (subst spent (sym (get_or-set_same parts p x d (let n = core.many in omega arith))) poor))
+          (λ ne. subst spent (sym (get_or-set_other parts p q x d ne)) (core.halted q d lt (sym (flag_other q ne) ∙ h)));
     }
 
   stopped_then : (more : List Border) (s n : ℕ) (bs later : List (List P)) (x : T) → more ≡ rows → s ≡ t → bs ≡ boxes
       → n ≡ length boxes
-      → HasTaken s p more bs later
-      → IsCore N borders see stands right done (set stopped p true) tables (set parts p x) (take n (later ++ drop (length later) boxes))
-  stopped_then more s n bs later x er es eb en tk =
+      → HasTaken s p more bs later → spent x
+      → IsCore N borders see stands spent right done (set stopped p true) tables (set parts p x) (take n (later ++ drop (length later) boxes))
+  stopped_then more s n bs later x er es eb en tk poor =
       let changed : HasTaken t p rows boxes later =
       subst (λ (xs : List Border). HasTaken t p xs boxes later) er
       (subst (λ (z : ℕ). HasTaken z p more boxes later) es
       (subst (λ (zs : List (List P)). HasTaken s p more zs later) eb tk)) in
-      subst (λ (zs : List (List P)). IsCore N borders see stands right done (set stopped p true) tables (set parts p x) zs)
+      subst (λ (zs : List (List P)). IsCore N borders see stands spent right done (set stopped p true) tables (set parts p x) zs)
       (sym (whole later boxes n en changed.long))
-      (core_stopped x later changed)
+      (core_stopped x later changed poor)
 
 -- p, which was not stopped, is about to do second s, and these are its neighbours
-pub record IsNext {T P : Type 0} (N : Net) (borders : ℕ → List Border) (see : T → PartView P) (stands : T → Type 0)
+pub record IsNext {T P : Type 0} (N : Net) (borders : ℕ → List Border) (see : T → PartView P) (stands spent : T → Type 0)
     (right : ℕ → ℕ → ℕ → P → Type 0) (done : List ℕ) (stopped : List Bool) (tables : List (List Border)) (parts : List T)
     (boxes : List (List P)) (p s : ℕ) (list : List Border) : Type 0 where
-  pub core : IsCore N borders see stands right done stopped tables parts boxes
+  pub core : IsCore N borders see stands spent right done stopped tables parts boxes
   pub there : p < N.parts
   pub goes : is_stopped stopped p ≡ false
   pub listed : list ≡ get_or tables p []
   pub second : s ≡ done_at done p
 
-module _ {T P : Type 0} {N : Net} {borders : ℕ → List Border} {see : T → PartView P} {stands : T → Type 0}
+module _ {T P : Type 0} {N : Net} {borders : ℕ → List Border} {see : T → PartView P} {stands spent : T → Type 0}
     {right : ℕ → ℕ → ℕ → P → Type 0}
     {done : List ℕ} {stopped : List Bool} {tables : List (List Border)} {parts : List T} {boxes : List (List P)} {p s : ℕ}
-    {list : List Border} (n : IsNext N borders see stands right done stopped tables parts boxes p s list) where
+    {list : List Border} (n : IsNext N borders see stands spent right done stopped tables parts boxes p s list) where
   pub next_apart : AreApart p list
   next_apart = subst (λ (xs : List Border). AreApart p xs) (sym n.listed)
-      (apart N borders see stands right done stopped tables parts boxes n.core p n.there n.goes)
+      (apart N borders see stands spent right done stopped tables parts boxes n.core p n.there n.goes)
 
   module _ (ds : List ℕ) (is : ds ≡ done) (before : s < N.end)
       (heard : (k : ℕ) → k < length list → s < done_at ds (neighbour_at list k) + lag_at list k) where
     may_next : MayStep N p (done_at done)
-    may_next = may_then N borders see stands right done stopped tables parts boxes n.core p n.there n.goes list s ds n.listed n.second is
+    may_next = may_then N borders see stands spent right done stopped tables parts boxes n.core p n.there n.goes list s ds n.listed n.second is
         before heard
 
     -- the oldest parcel of each neighbour is that of the lag ago
     pub next_first : (bs : List (List P)) → bs ≡ boxes → (k : ℕ) → k < length list → lag_at list k ≤ s
         → FirstIs (right (neighbour_at list k) p (s - lag_at list k)) (box bs (neighbour_at list k) p)
     next_first bs e =
-        first_then N borders see stands right done stopped tables parts boxes n.core p n.there n.goes may_next list s bs n.listed n.second e
+        first_then N borders see stands spent right done stopped tables parts boxes n.core p n.there n.goes may_next list s bs n.listed n.second e
 
     -- once it was done. The boxes come back from a slice of all of them
     pub next_done : (c : ℕ) (bs later : List (List P)) (x : T) → bs ≡ boxes → c ≡ length boxes
         → IsAt see stands p (s + 1) (length list) x → HasExchanged right s p list bs later
-        → IsCore N borders see stands right (set done p (s + 1)) stopped tables (set parts p x)
+        → IsCore N borders see stands spent right (set done p (s + 1)) stopped tables (set parts p x)
         (take c (later ++ drop (length later) boxes))
     next_done c bs later x e long here ex =
-        done_then N borders see stands right done stopped tables parts boxes n.core p n.there n.goes may_next list s c bs later x n.listed
+        done_then N borders see stands spent right done stopped tables parts boxes n.core p n.there n.goes may_next list s c bs later x n.listed
         n.second
         e long here ex
 
   -- where it found no memory
-  pub next_stopped : (c : ℕ) (bs later : List (List P)) (x : T) → bs ≡ boxes → c ≡ length boxes → HasTaken s p list bs later
-      → IsCore N borders see stands right done (set stopped p true) tables (set parts p x) (take c (later ++ drop (length later) boxes))
-  next_stopped c bs later x e long tk =
-      stopped_then N borders see stands right done stopped tables parts boxes n.core p n.there n.goes list s c bs later x n.listed
+  pub next_stopped : (c : ℕ) (bs later : List (List P)) (x : T) → bs ≡ boxes → c ≡ length boxes → HasTaken s p list bs later → spent x
+      → IsCore N borders see stands spent right done (set stopped p true) tables (set parts p x) (take c (later ++ drop (length later) boxes))
+  next_stopped c bs later x e long tk poor =
+      stopped_then N borders see stands spent right done stopped tables parts boxes n.core p n.there n.goes list s c bs later x n.listed
       n.second e
-      long tk
+      long tk poor

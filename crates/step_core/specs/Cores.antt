@@ -36,8 +36,8 @@ abbrev pub count_in : Net → List ℕ → ℕ → ℕ → ℕ
 count_in N done a b = done_at done a - first_in N done a b
 
 -- Of so many partitions each that goes on stands at its own seconds, each box to it has the parcels that it has not absorbed, and none is
--- further ahead of a neighbour than the lag.
-pub record IsCore {T P : Type 0} (N : Net) (borders : ℕ → List Border) (see : T → PartView P) (stands : T → Type 0)
+-- further ahead of a neighbour than the lag. Who was stopped found no memory.
+pub record IsCore {T P : Type 0} (N : Net) (borders : ℕ → List Border) (see : T → PartView P) (stands spent : T → Type 0)
     (right : ℕ → ℕ → ℕ → P → Type 0) (done : List ℕ) (stopped : List Bool) (tables : List (List Border)) (parts : List T)
     (boxes : List (List P)) : Type 0 where
   pub net : IsNet N
@@ -55,6 +55,7 @@ pub record IsCore {T P : Type 0} (N : Net) (borders : ℕ → List Border) (see 
       → IsBox (right a b) (first_in N done a b) (count_in N done a b) (box boxes a b)
   pub members : (p : ℕ) (d : T) → p < N.parts → is_stopped stopped p ≡ false
       → IsAt see stands p (done_at done p) (length (get_or tables p [])) (get_or parts p d)
+  pub halted : (p : ℕ) (d : T) → p < N.parts → is_stopped stopped p ≡ true → spent (get_or parts p d)
 
 -- what a step on p came to: by the done seconds before it and after it
 abbrev pub CameTo : Net → ℕ → List ℕ → List ℕ → Step → Type 0

@@ -117,6 +117,7 @@ pub(crate) fn do_second<T: Part>(
     ensures at { OnOk result (IsAt T.see (T.stands run.now) number (second + 1) (length borders.now) part.new) }
     ensures exchanged { OnOk result (HasExchanged (T.right run.now) second number borders.now boxes.old boxes.new) }
     ensures taken { OnErr result (HasTaken second number borders.now boxes.old boxes.new) }
+    ensures spent { OnErr result (T.spent part.new) }
 {
     hear(borders, number, second, part, boxes);
     if part.second(run).is_err() {

@@ -19,6 +19,13 @@ impl<T: Part> Core<T> {
     }
 
     /// The partitions, by number.
+    pub fn parts(&self) -> &[T]
+        ensures { result.now ≡ self.now.parts.items }
+    {
+        &self.parts
+    }
+
+    /// The same, out of the core.
     pub fn into_parts(self) -> Vec<T>
         ensures { result.items ≡ self.parts.items }
     {
@@ -34,14 +41,26 @@ impl<T: Part> Core<T> {
 
     /// All partitions have done so many seconds: each does the next one, by number. So it is always one with the fewest done seconds that
     /// steps, and it may. The gate is passed before each step.
-    fn do_round<G: Gate>(&mut self, run: &T::Run, gate: &G, second: u32) -> Result<(), AllocError>
-        requires core { IsCore (T.net run.now) (T.borders run.now) T.see (T.stands run.now) (T.right run.now)
+    ///
+    /// # Errors
+    ///
+    /// `AllocError`: there was no memory for a second of a partition.
+    #[tactic(auto, using(crate::proofs::Together::each_at))]
+    pub fn do_round<G: Gate>(
+        &mut self,
+        run: &T::Run,
+        gate: &G,
+        second: u32,
+    ) -> Result<(), AllocError>
+        requires core { IsCore (T.net run.now) (T.borders run.now) T.see (T.stands run.now) T.spent (T.right run.now)
             self.old.done.items self.old.stopped.items self.old.borders.items self.old.parts.items self.old.boxes.items }
         requires at { AllAt (T.net run.now).parts second self.old.done.items self.old.stopped.items }
         requires before_end { second < (T.net run.now).end }
-        ensures core { IsCore (T.net run.now) (T.borders run.now) T.see (T.stands run.now) (T.right run.now)
+        ensures core { IsCore (T.net run.now) (T.borders run.now) T.see (T.stands run.now) T.spent (T.right run.now)
             self.new.done.items self.new.stopped.items self.new.borders.items self.new.parts.items self.new.boxes.items }
         ensures at { OnOk result (AllAt (T.net run.now).parts (second + 1) self.new.done.items self.new.stopped.items) }
+        ensures each { OnOk result (EachAt T.see (T.stands run.now) (second + 1) (λ p. length (T.borders run.now p))
+            (T.net run.now).parts self.new.parts.items) }
     {
         for number in 0..T::count(run) {
             gate.pass(number, second);
@@ -61,7 +80,7 @@ impl<T: Part> Core<T> {
     ///
     /// `AllocError`: there was no memory for a second of a partition.
     pub fn run<G: Gate>(mut self, run: &T::Run, gate: &G) -> Result<Vec<T>, AllocError>
-        requires core { IsCore (T.net run.now) (T.borders run.now) T.see (T.stands run.now) (T.right run.now)
+        requires core { IsCore (T.net run.now) (T.borders run.now) T.see (T.stands run.now) T.spent (T.right run.now)
             self.done.items self.stopped.items self.borders.items self.parts.items self.boxes.items }
         requires start { AllAt (T.net run.now).parts 0 self.done.items self.stopped.items }
         ensures count { IfOk result (λ parts. length parts.items ≡ (T.net run.now).parts) }

@@ -61,7 +61,7 @@ impl<T: Part> Core<T> {
     pub fn new(alloc: Global, run: &T::Run) -> Result<Core<T>, AllocError>
         requires net { IsNet (T.net run.now) }
         requires borders { (p : ℕ) → p < (T.net run.now).parts → AreBorders (T.net run.now) p (T.borders run.now p) }
-        ensures core { IfOk result (λ core. IsCore (T.net run.now) (T.borders run.now) T.see (T.stands run.now) (T.right run.now)
+        ensures core { IfOk result (λ core. IsCore (T.net run.now) (T.borders run.now) T.see (T.stands run.now) T.spent (T.right run.now)
             core.done.items core.stopped.items core.borders.items core.parts.items core.boxes.items) }
         ensures start { IfOk result (λ core. AllAt (T.net run.now).parts 0 core.done.items core.stopped.items) }
     {

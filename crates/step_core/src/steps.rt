@@ -43,10 +43,10 @@ impl<T: Part> Core<T> {
     /// `AllocError`: there was no memory for a second of this partition, now or before; it stays where it is, and is stopped from then on.
     /// The others go on as far as the lags allow.
     pub fn step(&mut self, run: &T::Run, number: u32) -> Result<Step, AllocError>
-        requires core { IsCore (T.net run.now) (T.borders run.now) T.see (T.stands run.now) (T.right run.now)
+        requires core { IsCore (T.net run.now) (T.borders run.now) T.see (T.stands run.now) T.spent (T.right run.now)
             self.old.done.items self.old.stopped.items self.old.borders.items self.old.parts.items self.old.boxes.items }
         requires there { number < (T.net run.now).parts }
-        ensures core { IsCore (T.net run.now) (T.borders run.now) T.see (T.stands run.now) (T.right run.now)
+        ensures core { IsCore (T.net run.now) (T.borders run.now) T.see (T.stands run.now) T.spent (T.right run.now)
             self.new.done.items self.new.stopped.items self.new.borders.items self.new.parts.items self.new.boxes.items }
         ensures came { IfOk result (CameTo (T.net run.now) number self.old.done.items self.new.done.items) }
         ensures goes { IfOk result (λ _. (self.new.stopped.items ≡ self.old.stopped.items)

@@ -23,4 +23,4 @@ pub returns-in-Err-clause-core : goal.returns-in-Err-clause-core
 returns-in-Err-clause-core g c = next_stopped {s = c.second_of-second.result} {list = c.borders_of-borders.result.now}
     (record { core = c.requires.core; there = c.requires.there; goes = cc; listed = cc; second = cc })
     c.args.self.now.boxes.len c.deref_mut.result.now c.do_second.new.boxes c.do_second.new.part c.deref_mut.ensures.value
-    (omega (arith, c.deref_mut.ensures.len, ap length c.deref_mut.ensures.value)) c.in-Err.ensures.taken
+    (omega (arith, c.deref_mut.ensures.len, ap length c.deref_mut.ensures.value)) c.in-Err.ensures.taken c.in-Err.ensures.spent

@@ -1,9 +1,15 @@
 -- What so many partitions told, one after the other.
-use Rattle.std.proofs.Common.{◌≡◌, ℕ, ◌<◌, List, [], ◌∷◌, ◌++◌, arith, sym, ◌∙◌, ap, subst, map, length, slice_index_or}
+use Rattle.std.proofs.Common.{◌≡◌, ℕ, ◌<◌, Bool, true, false, true≢false, List, [], ◌∷◌, ◌++◌, arith, sym, ◌∙◌, ap, subst}
+use Rattle.std.proofs.Common.{map, length, slice_index_or, if◌then◌else◌}
 use Rattle.std.proofs.lemmas.List.{map-append, length_push}
 use Rattle.traffic.specs.Lists.{below}
 use Rattle.step_core.specs.Views.{PartView, IsAt, EachAt}
 use Rattle.divided_day.proofs.Counting.{below_more}
+
+-- what is told at the end where nothing was taken before
+pub all_at_end : {X : Type 0} (streams : Bool) (end all x : X) → streams ≡ false → x ≡ (if streams then end else all) → x ≡ all
+all_at_end true end all x stays is = absurd (true≢false stays)
+all_at_end false end all x stays is = is
 
 -- one list more
 pub told_more : {T X : Type 0} (f : ℕ → X) (lists new : List X) (parts : List T) (x : X) (part : T) → lists ≡ map f (below (length parts))

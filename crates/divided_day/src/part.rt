@@ -34,8 +34,8 @@ pub trait DayPart: Part {
         ensures { result.now ≡ told_at (day run.now) (owner run.now) (Self.see self.now).number ((Self.see self.now).seconds - 1) };
 
     /// The events of the day that belong to the partition and were not taken while it went on, in the order of their keys: those of its
-    /// seconds, where none are taken, and of the end of the day those of the persons whom it has, or sent to a neighbour that did not absorb
-    /// them.
+    /// seconds, where none are taken, and of the end of the day those of the persons whom it has, or sent to a neighbour that did not
+    /// absorb them.
     ///
     /// # Errors
     ///

@@ -2,8 +2,8 @@ use Rattle.std.proofs.Common.{◌∙◌, ap, length, map, rules}
 use Rattle.std.proofs.lemmas.Iterator.Consumers.{YieldsList-turn, YieldsList-end}
 use Rattle.std.proofs.lemmas.Iterator.Adapters.{YieldsList-from_vec}
 use Rattle.traffic.specs.Lists.{below}
-use Rattle.divided_day.specs.Days.{told_in}
-use Rattle.divided_day.proofs.Telling.{told_more, part_there, own_there, number_there}
+use Rattle.divided_day.specs.Days.{told_in, end_told_in}
+use Rattle.divided_day.proofs.Telling.{all_at_end, told_more, part_there, own_there, number_there}
 use Rattle.divided_day.proofs.days.told_by.Goals as goal
 
 pub finish-requires-clause-there : goal.finish-requires-clause-there
@@ -33,9 +33,12 @@ loop-part-preserved g c =
     let there = part_there g.T.Part.see (g.T.Part.stands run) (g.T.Part.net run).end
     (λ p. length (g.T.Part.borders run p)) c.args.parts.items
     (g.T.Part.net run).parts (length c.loop-part.yielded) c.in-Some.part c.requires.count c.requires.ended turn.0 turn.1 in
-    told_more (told_in (g.T.DayPart.day run) (g.T.DayPart.owner run)) c.loop-part.lists.items c.push.new.self.items c.loop-part.yielded
+    let n = (g.T.Part.see c.in-Some.part).number in
+    let all = told_in (g.T.DayPart.day run) (g.T.DayPart.owner run) in
+    told_more all c.loop-part.lists.items c.push.new.self.items c.loop-part.yielded
     c.in_ok-finish.field-0 c.in-Some.part c.loop-part.invariant c.in_ok-push.ensures.items
-    (c.in_ok-finish.ensures ∙ ap (told_in (g.T.DayPart.day run) (g.T.DayPart.owner run)) there.number)
+    (all_at_end (g.T.DayPart.streams run) (end_told_in (g.T.DayPart.day run) (g.T.DayPart.owner run) n) (all n) c.in_ok-finish.field-0
+    c.requires.stays c.in_ok-finish.ensures ∙ ap all there.number)
 
 pub returns : goal.returns
 returns g c =

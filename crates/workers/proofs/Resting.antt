@@ -1,5 +1,5 @@
 -- A member in its turn.
-use Rattle.std.proofs.Common.{◌≡◌, ℕ, ◌+◌, ◌<◌, ◌≤◌, true, List, length, Option, sym, ◌∙◌}
+use Rattle.std.proofs.Common.{◌≡◌, ℕ, ◌+◌, ◌<◌, ◌≤◌, true, false, true≢false, List, length, Option, sym, ◌∙◌}
 use Rattle.std.proofs.Common.{subst, inl, arith}
 use Rattle.cells.specs.declared.board.Board.{Board}
 use Rattle.cells.specs.declared.board.Port.{Port}
@@ -9,7 +9,7 @@ use Rattle.step_core.specs.Nets.{Net}
 use Rattle.step_core.specs.Views.{PartView, AreEmpty, IsAt, IsHeard, HasHeard, IsSent, HasSent, Stays, in_place}
 use Rattle.workers.specs.declared.members.Day.{Day}
 use Rattle.workers.specs.declared.members.Member.{Member}
-use Rattle.workers.specs.Members.{IsBoardOfRun, Rests, border_of, number_of, seconds_of}
+use Rattle.workers.specs.Members.{IsBoardOfRun, IsMember, Rests, border_of, number_of, seconds_of, is_stopped}
 
 module _ {T R P : Type 0} (net : R → Net) (borders : R → ℕ → List Border) (see : T → PartView P) (stands : R → T → Type 0)
     (right : R → ℕ → ℕ → ℕ → P → Type 0) (run : R) (b : Board (Day T) R P) where
@@ -91,3 +91,14 @@ module _ {T R P : Type 0} (net : R → Net) (borders : R → ℕ → List Border
     within = omega arith;
     counts = omega arith;
   }
+
+module _ {T R P : Type 0} (net : R → Net) (borders : R → ℕ → List Border) (see : T → PartView P) (stands : R → T → Type 0)
+    (spent : T → Type 0) (right : R → ℕ → ℕ → ℕ → P → Type 0) (run : R) (b : Board (Day T) R P) where
+  -- one that was not stopped is a member where it rests
+  pub goes_on : (m : Member T R P) → is_stopped m ≡ false → Rests net borders see stands right run b m
+      → IsMember net borders see stands spent right run b m
+  goes_on m goes r = record { rests = λ h. r; poor = λ h. absurd (true≢false (sym h ∙ goes)) }
+
+  -- and one that was stopped where its partition found no memory
+  pub halts : (m : Member T R P) → is_stopped m ≡ true → spent m.part → IsMember net borders see stands spent right run b m
+  halts m stopped poor = record { rests = λ h. absurd (true≢false (sym stopped ∙ h)); poor = λ h. poor }

@@ -49,27 +49,29 @@ module _ {T R P : Type 0} (net : R → Net) (borders : R → ℕ → List Border
     counts = omega arith;
   }
 
-  pub members_more : (ms : List (Member T R P)) (x : Member T R P) → AreMembers net borders see stands right run b ms
-      → IsMember net borders see stands right run b x → AreMembers net borders see stands right run b (ms ++ x ∷ [])
+module _ {T R P : Type 0} (net : R → Net) (borders : R → ℕ → List Border) (see : T → PartView P) (stands : R → T → Type 0)
+    (spent : T → Type 0) (right : R → ℕ → ℕ → ℕ → P → Type 0) (run : R) (b : Board (Day T) R P) where
+  pub members_more : (ms : List (Member T R P)) (x : Member T R P) → AreMembers net borders see stands spent right run b ms
+      → IsMember net borders see stands spent right run b x → AreMembers net borders see stands spent right run b (ms ++ x ∷ [])
   members_more ms x are is i d lt = let n = length-append ms (x ∷ []) in dite (ℕ_discrete i (length ms))
-      (λ e. subst (λ (z : Member T R P). IsMember net borders see stands right run b z) (sym (get_or_push ms x d i (sym e))) is)
-      (λ ne. subst (λ (z : Member T R P). IsMember net borders see stands right run b z)
+      (λ e. subst (λ (z : Member T R P). IsMember net borders see stands spent right run b z) (sym (get_or_push ms x d i (sym e))) is)
+      (λ ne. subst (λ (z : Member T R P). IsMember net borders see stands spent right run b z)
       (sym (get_or_append_left ms (x ∷ []) d i (omega arith)))
       (are i d (omega arith)))
 
-  end_of : (p : ℕ) (m : Member T R P) → IsMember net borders see stands right run b m → is_stopped m ≡ false
+  end_of : (p : ℕ) (m : Member T R P) → IsMember net borders see stands spent right run b m → is_stopped m ≡ false
       → seconds_of m ≡ (net run).end → number_of m ≡ p → IsAt see (stands run) p (net run).end (length (borders run p)) m.part
-  end_of p m is alive at name = let r : Rests net borders see stands right run b m = is alive in
+  end_of p m is alive at name = let r : Rests net borders see stands right run b m = is.rests alive in
       subst (λ (t : ℕ). IsAt see (stands run) p t (length (borders run p)) m.part) at
       (subst (λ (n : ℕ). IsAt see (stands run) n (seconds_of m) (length (borders run n)) m.part) name r.at)
 
-  pub all_parts : (n : ℕ) (xs ys : List (Member T R P)) → AreAll n xs → Went net borders see stands right run b xs ys
+  pub all_parts : (n : ℕ) (xs ys : List (Member T R P)) → AreAll n xs → Went net borders see stands spent right run b xs ys
       → AllEnd (net run).end ys → (parts : List T) → parts ≡ map (λ (m : Member T R P). m.part) ys → length parts ≡ n
   all_parts n xs ys all f end parts is =
       let long = length-map ys (λ (m : Member T R P). m.part) in let ls = ap length is in let a = all.many in let l = f.go.long in
       omega arith
 
-  pub all_at_end : (n : ℕ) (xs ys : List (Member T R P)) → AreAll n xs → Went net borders see stands right run b xs ys
+  pub all_at_end : (n : ℕ) (xs ys : List (Member T R P)) → AreAll n xs → Went net borders see stands spent right run b xs ys
       → AllEnd (net run).end ys → (parts : List T) → parts ≡ map (λ (m : Member T R P). m.part) ys
       → EachAt see (stands run) (net run).end (λ p. length (borders run p)) n parts
   all_at_end n xs ys all f end parts is p d lt =

@@ -8,6 +8,7 @@ use Rattle.cells.specs.Ports.{IsPort, IsUntouched, degree, neighbour, lag_from, 
 use Rattle.step_core.specs.declared.part.Border.{Border}
 use Rattle.step_core.specs.Nets.{Net, IsNet, border_at}
 use Rattle.step_core.specs.Views.{PartView, IsAt}
+use Rattle.workers.specs.declared.bundles.TheConstants.{PATIENCE}
 use Rattle.workers.specs.declared.members.Day.{Day}
 use Rattle.workers.specs.declared.members.Member.{Member}
 use Rattle.workers.specs.declared.members.Turn.{Turn}
@@ -106,7 +107,7 @@ module _ {T R P : Type 0} where
 
   -- why members are given back
   abbrev pub Ends : ℕ → List (Member T R P) → List (Member T R P) → Type 0
-  Ends end old new = AllEnd end new ⊎ SomeStopped new ⊎ AllWait end 1000000 old new
+  Ends end old new = AllEnd end new ⊎ SomeStopped new ⊎ AllWait end PATIENCE old new
 
   -- the members of all partitions below n, by number
   pub record AreAll (n : ℕ) (ms : List (Member T R P)) : Type 0 where
@@ -148,8 +149,12 @@ module _ {T R P : Type 0} where
       pub within : seconds_of m ≤ (net run).end
       pub counts : still_of m ≤ waits_of m
 
-    abbrev pub IsMember : Member T R P → Type 0
-    IsMember m = is_stopped m ≡ false → Rests m
+  module _ (net : R → Net) (borders : R → ℕ → List Border) (see : T → PartView P) (stands : R → T → Type 0) (spent : T → Type 0)
+      (right : R → ℕ → ℕ → ℕ → P → Type 0) (run : R) (b : Board (Day T) R P) where
+    -- it rests, or was stopped: that alone whose partition found no memory in a second
+    pub record IsMember (m : Member T R P) : Type 0 where
+      pub rests : is_stopped m ≡ false → Rests net borders see stands right run b m
+      pub poor : is_stopped m ≡ true → spent m.part
 
     abbrev pub AreMembers : List (Member T R P) → Type 0
     AreMembers ms = (i : ℕ) (d : Member T R P) → i < length ms → IsMember (slice_index_or ms i d)

@@ -1,4 +1,5 @@
-// How the members of a bundle are run, in turn.
+//! How the members of a bundle are run, in turn.
+
 ghost use Rattle.workers.specs.Members.{IsBoardOfRun, AreMembers, Ran, Rounded};
 
 use crate::members::{Bundle, Day, Member, Round, Turn};
@@ -9,10 +10,10 @@ use std::thread::yield_now;
 use step_core::Part;
 
 /// The rounds in a row in which no member moved, before the members are given back.
-const PATIENCE: u32 = 1_000_000;
+pub(crate) const PATIENCE: u32 = 1_000_000;
 
-/// The rounds in a row in which no member moved, before the thread offers its processor to others, and again after as many. To offer it
-/// after each would end no wait sooner, and on a loaded machine costs a turn of the scheduler each time.
+/// The rounds in a row in which no member moved, before the thread offers its processor to others, and again after as many. Each offer is
+/// a call of the system.
 const SPINS: u32 = 1_000;
 
 /// Gives each member a turn.
@@ -25,8 +26,8 @@ fn round<T: Part, G: Gate>(
 where
     T::Parcel: Send,
     requires board { IsBoardOfRun T.net T.borders T.right run.now board.now }
-    requires members { AreMembers T.net T.borders T.see T.stands T.right run.now board.now members.old }
-    ensures { Rounded T.net T.borders T.see T.stands T.right run.now board.now members.old members.new result }
+    requires members { AreMembers T.net T.borders T.see T.stands T.spent T.right run.now board.now members.old }
+    ensures { Rounded T.net T.borders T.see T.stands T.spent T.right run.now board.now members.old members.new result }
 {
     let mut stopped = false;
     let mut moved = false;
@@ -60,8 +61,8 @@ pub(crate) fn run_members<T: Part, G: Gate>(
 where
     T::Parcel: Send,
     requires board { IsBoardOfRun T.net T.borders T.right run.now board.now }
-    requires members { AreMembers T.net T.borders T.see T.stands T.right run.now board.now members.old }
-    ensures { Ran T.net T.borders T.see T.stands T.right run.now board.now members.old members.new }
+    requires members { AreMembers T.net T.borders T.see T.stands T.spent T.right run.now board.now members.old }
+    ensures { Ran T.net T.borders T.see T.stands T.spent T.right run.now board.now members.old members.new }
 {
     let mut idle = 0;
     while idle < PATIENCE {
@@ -91,8 +92,8 @@ pub fn run_bundle<T: Part, G: Gate>(
 where
     T::Parcel: Send,
     requires board { IsBoardOfRun T.net T.borders T.right run.now board.now }
-    requires members { AreMembers T.net T.borders T.see T.stands T.right run.now board.now bundle.members.items }
-    ensures { Ran T.net T.borders T.see T.stands T.right run.now board.now bundle.members.items result.members.items }
+    requires members { AreMembers T.net T.borders T.see T.stands T.spent T.right run.now board.now bundle.members.items }
+    ensures { Ran T.net T.borders T.see T.stands T.spent T.right run.now board.now bundle.members.items result.members.items }
 {
     run_members(gate, run, board, bundle.members.as_mut_slice());
     bundle

@@ -1,4 +1,5 @@
-// A whole run on several threads.
+//! A whole run on several threads.
+
 ghost use Rattle.std.specs.Prelude.{◌≡◌, ℕ, ◌<◌, ◌≤◌, true, false, map, [], length, slice_index_or, IfOk};
 ghost use Rattle.limits.specs.declared.TheConstants.{MAX_PARTITIONS};
 ghost use Rattle.cells.specs.Ports.{IsHub, had_port};
@@ -30,8 +31,8 @@ where
     T::Parcel: Send + Sync,
     requires workers { 1 ≤ workers }
     requires board { IsBoardOfRun T.net T.borders T.right run.now board.now }
-    requires members { AreMembers T.net T.borders T.see T.stands T.right run.now board.now members.old }
-    ensures { Spread T.net T.borders T.see T.stands T.right run.now board.now members.old members.new }
+    requires members { AreMembers T.net T.borders T.see T.stands T.spent T.right run.now board.now members.old }
+    ensures { Spread T.net T.borders T.see T.stands T.spent T.right run.now board.now members.old members.new }
 {
     let size = members.len().div_ceil(workers as usize).max(1);
     for_each_chunk_mut(
@@ -40,8 +41,8 @@ where
         size,
         &|_, list: &mut [Member<T>]|
             requires { IsBoardOfRun T.net T.borders T.right run.now board.now
-                × AreMembers T.net T.borders T.see T.stands T.right run.now board.now list.now }
-            ensures { Ran T.net T.borders T.see T.stands T.right run.entry.now board.entry.now list.entry.now list.exit.now }
+                × AreMembers T.net T.borders T.see T.stands T.spent T.right run.now board.now list.now }
+            ensures { Ran T.net T.borders T.see T.stands T.spent T.right run.entry.now board.entry.now list.entry.now list.exit.now }
         { run_members(gate, run, board, list) },
     );
 }
@@ -60,8 +61,8 @@ where
     T::Parcel: Send + Sync,
     requires workers { 1 ≤ workers }
     requires board { IsBoardOfRun T.net T.borders T.right run.now board.now }
-    requires members { AreMembers T.net T.borders T.see T.stands T.right run.now board.now bundle.members.items }
-    ensures { Spread T.net T.borders T.see T.stands T.right run.now board.now bundle.members.items result.members.items }
+    requires members { AreMembers T.net T.borders T.see T.stands T.spent T.right run.now board.now bundle.members.items }
+    ensures { Spread T.net T.borders T.see T.stands T.spent T.right run.now board.now bundle.members.items result.members.items }
 {
     run_spread(rt, gate, run, board, workers, bundle.members.as_mut_slice());
     bundle
@@ -79,7 +80,7 @@ where
     requires board { IsBoardOfRun T.net T.borders T.right run.now board.now }
     requires hub { IsHub board.now hub.old }
     requires first { had_port hub.old ≡ [] }
-    ensures members { IfOk result (λ v. AreMembers T.net T.borders T.see T.stands T.right run.now board.now v.items) }
+    ensures members { IfOk result (λ v. AreMembers T.net T.borders T.see T.stands T.spent T.right run.now board.now v.items) }
     ensures all { IfOk result (λ v. AreAll (T.net run.now).parts v.items) }
 {
     let mut members = Vec::new(alloc);
@@ -140,8 +141,9 @@ where
     T::Parcel: Send + Sync,
     requires workers { 1 ≤ workers }
     requires board { IsBoardOfRun T.net T.borders T.right run.now board.now }
-    requires members { AreMembers T.net T.borders T.see T.stands T.right run.now board.now bundle.members.items }
-    ensures went { IfOk result (λ b. Went T.net T.borders T.see T.stands T.right run.now board.now bundle.members.items b.members.items) }
+    requires members { AreMembers T.net T.borders T.see T.stands T.spent T.right run.now board.now bundle.members.items }
+    ensures went { IfOk result (λ b. Went T.net T.borders T.see T.stands T.spent T.right run.now board.now bundle.members.items
+        b.members.items) }
     ensures end { IfOk result (λ b. AllEnd (T.net run.now).end b.members.items) }
 {
     for _ in rt.forever() {

@@ -1,4 +1,5 @@
-// The types of what runs on threads, and their start.
+//! The types of what runs on threads, and their start.
+
 ghost use Rattle.std.specs.Prelude.{◌≡◌, ℕ, ◌<◌, ◌≤◌, false, [], ◌∷◌, IfOk, OnOk, OnErr};
 ghost use Rattle.cells.specs.Rule.{contains};
 ghost use Rattle.cells.specs.Ports.{IsHub, had_port};
@@ -119,7 +120,7 @@ where
         ensures hub { IsHub board.now hub.new }
         ensures had { OnOk result (had_port hub.new ≡ number ∷ had_port hub.old) }
         ensures refused { OnErr result (hub.new ≡ hub.old) }
-        ensures member { IfOk result (λ m. IsMember T.net T.borders T.see T.stands T.right run.now board.now m) }
+        ensures member { IfOk result (λ m. IsMember T.net T.borders T.see T.stands T.spent T.right run.now board.now m) }
         ensures start { IfOk result (λ m. (number_of m ≡ number) × (seconds_of m ≡ 0) × (is_stopped m ≡ false)) }
     {
         let part = T::start(alloc, run, number)?;

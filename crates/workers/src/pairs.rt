@@ -1,4 +1,5 @@
-// The pairs of neighbours of a run, as a board asks for them.
+//! The pairs of neighbours of a run, as a board asks for them.
+
 ghost use Rattle.std.specs.Prelude.{◌≡◌, ℕ, ◌+◌, ◌<◌, true, false, length, IfOk, IfSome, IfNone, OnOk};
 ghost use Rattle.step_core.specs.Nets.{Net, IsNet, AreBorders, border_at};
 ghost use Rattle.workers.specs.Pairs.{AreTables, ArePairsTo, ArePairsOf};

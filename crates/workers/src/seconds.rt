@@ -1,4 +1,5 @@
-// How a member does its next second.
+//! How a member does its next second.
+
 ghost use Rattle.std.specs.Prelude.{◌≡◌, ℕ, ◌+◌, ◌<◌, true, false, length, OnOk, OnErr};
 ghost use Rattle.cells.specs.Ports.{IsPort, SameSecond, IsUntouched, IsUnread, degree, handover, is_taken, is_put, run_of, waits};
 ghost use Rattle.cells.specs.Ports.{partition_of, done_of};
@@ -99,7 +100,7 @@ where
     ensures rests { OnOk result (Rests T.net T.borders T.see T.stands T.right run.now board.now member.new) }
     ensures done { OnOk result ((seconds_of member.new ≡ seconds_of member.old + 1) × (waits_of member.new ≡ waits_of member.old)
         × (still_of member.new ≡ waits_of member.old)) }
-    ensures refused { OnErr result (seconds_of member.new ≡ seconds_of member.old) }
+    ensures refused { OnErr result ((seconds_of member.new ≡ seconds_of member.old) × T.spent member.new.part) }
     ensures same { (number_of member.new ≡ number_of member.old) × (is_stopped member.new ≡ is_stopped member.old) }
 {
     take_all(board, &mut member.part, &mut member.port);
@@ -110,7 +111,7 @@ where
 }
 
 /// A member does its next second, if it has one left and all neighbours are far enough. The gate is passed once they are.
-#[tactic(auto, using(crate::proofs::Resting::looked))]
+#[tactic(auto, using(crate::proofs::Resting::looked, crate::proofs::Resting::goes_on, crate::proofs::Resting::halts))]
 pub(crate) fn turn<T: Part, G: Gate>(
     gate: &G,
     run: &T::Run,
@@ -120,8 +121,8 @@ pub(crate) fn turn<T: Part, G: Gate>(
 where
     T::Parcel: Send,
     requires board { IsBoardOfRun T.net T.borders T.right run.now board.now }
-    requires member { IsMember T.net T.borders T.see T.stands T.right run.now board.now member.old }
-    ensures member { IsMember T.net T.borders T.see T.stands T.right run.now board.now member.new }
+    requires member { IsMember T.net T.borders T.see T.stands T.spent T.right run.now board.now member.old }
+    ensures member { IsMember T.net T.borders T.see T.stands T.spent T.right run.now board.now member.new }
     ensures goes { Goes member.old member.new }
     ensures turned { Turned (T.net run.now).end member.old member.new result }
 {

@@ -1,9 +1,13 @@
-use Rattle.std.proofs.Common.{false}
+use Rattle.std.proofs.Common.{false, refl}
+use Rattle.workers.specs.declared.members.Member.{Member}
+use Rattle.workers.proofs.Resting.{goes_on}
 use Rattle.workers.proofs.Starting.{starts}
 use Rattle.workers.proofs.members.Member.start.Goals as goal
 
 pub returns-clause-member : goal.returns-clause-member
 returns-clause-member g c = let e = c.in_ok-port.ensures in
-    λ h. starts g.T.Part.net g.T.Part.borders g.T.Part.see g.T.Part.stands g.T.Part.right c.args.run.now c.args.board.now
-    (record { part = c.in_ok-part.part; port = c.in_ok-port.port; stopped = false }) c.args.number e.port.0 e.port.1 e.port.2 e.awaited
-    e.counts.1 e.counts.2 c.in_ok-part.ensures
+    let m : Member g.row.T.Denot g.row.T-Run.Denot g.row.T-Parcel.Denot =
+    record { part = c.in_ok-part.part; port = c.in_ok-port.port; stopped = false } in
+    goes_on g.T.Part.net g.T.Part.borders g.T.Part.see g.T.Part.stands g.T.Part.spent g.T.Part.right c.args.run.now c.args.board.now m refl
+    (starts g.T.Part.net g.T.Part.borders g.T.Part.see g.T.Part.stands g.T.Part.right c.args.run.now c.args.board.now m c.args.number
+    e.port.0 e.port.1 e.port.2 e.awaited e.counts.1 e.counts.2 c.in_ok-part.ensures)

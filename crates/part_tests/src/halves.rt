@@ -1,14 +1,15 @@
 //! A town in two halves: which departures start in each, and which links begin in it.
 
 use calendar::Calendar;
-use edge_files::{Bytes, InFile};
+use edge_files::InFile;
 use part_persons::departures_by_second;
 use part_places::Places;
 use partition::{Owner, halve, owner_of_link};
-use scenario::{Files, Scenario, assemble};
+use scenario::Scenario;
 use std::alloc::Global;
 use std::thread::Threads;
 use town::{DayInput, Town};
+use town_fixtures::scenario_of;
 
 /// Two nodes, a in the west and b in the east, and a link each way. The first departure starts in second 30 on the link to b, and the
 /// second one in second 20 on the link to a. One person stays at home.
@@ -34,37 +35,17 @@ static TEXTS: [(InFile, &str); 7] = [
     (InFile::Signals, ""),
 ];
 
-/// A text; no bytes where memory is wanting.
-fn bytes_of(alloc: Global, text: &str) -> Bytes {
-    match Vec::from_slice(alloc, text.as_bytes()) {
-        Ok(rows) => Bytes { rows },
-        Err(_) => Bytes::new(alloc),
-    }
-}
-
-fn files_of(alloc: Global) -> Files {
-    let mut files = Files::new(alloc);
-    for (file, text) in &TEXTS {
-        files.put(*file, Some(bytes_of(alloc, text)));
-    }
-    files
-}
-
 /// The town of these texts, where they have no fault.
 fn town_of<R: Threads + Sync>(rt: &R, alloc: Global) -> Option<Town> {
-    match assemble(rt, alloc, &files_of(alloc)) {
-        Ok(scenario) => {
-            let Scenario {
-                town,
-                memories: _,
-                tables: _,
-                learning: _,
-                last_iteration: _,
-            } = scenario;
-            Some(town)
-        }
-        Err(_) => None,
-    }
+    let scenario = scenario_of(rt, alloc, &TEXTS)?;
+    let Scenario {
+        town,
+        memories: _,
+        tables: _,
+        learning: _,
+        last_iteration: _,
+    } = scenario;
+    Some(town)
 }
 
 /// Whether just these numbers are due in a second. They are taken out.

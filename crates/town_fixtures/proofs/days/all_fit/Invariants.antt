@@ -1,0 +1,11 @@
+use Rattle.std.proofs.Common.{◌≡◌, drop}
+use Rattle.std.specs.List.{list_all}
+use Rattle.std.specs.Prelude.{map}
+use Rattle.rows.specs.PlanRows.{plan_rows}
+use Rattle.town.specs.Fits.{fits}
+use Rattle.town.specs.Views.{rows_of}
+use Rattle.town_fixtures.proofs.days.all_fit.Given as goal
+
+abbrev pub invariant-loop-plan : goal.invariant-loop-plan
+invariant-loop-plan l =
+    list_all (fits (rows_of l.town)) (map plan_rows (drop l.plan-index l.chosen)) ≡ list_all (fits (rows_of l.town)) (map plan_rows l.chosen)

@@ -1,0 +1,58 @@
+//! The plans of a day.
+
+ghost use Rattle.std.specs.Prelude.{◌≡◌, map, true};
+ghost use Rattle.std.specs.List.{list_all};
+ghost use Rattle.rows.specs.PlanRows.{plan_rows};
+ghost use Rattle.town.specs.Fits.{fits};
+ghost use Rattle.town.specs.Views.{rows_of};
+ghost use Rattle.law_in_range.specs.Setups.{HaveFittingPlans};
+
+use plan_memory::Memory;
+use router::copied_legs;
+use rows::{Legs, Plan};
+use std::alloc::{AllocError, Global};
+use town::{DayInput, Town, plan_fits};
+
+/// Whether each plan fits the town.
+fn all_fit(town: &Town, chosen: &[Plan]) -> bool
+    ensures { result ≡ list_all (fits (rows_of town.now)) (map plan_rows chosen.now) }
+{
+    for plan in chosen {
+        if !plan_fits(town, plan) {
+            return false;
+        }
+    }
+    true
+}
+
+/// Whether there is a plan for each person of the town, and each of them fits it: what the calls of a day ask for.
+pub fn have_fitting_plans(day: &DayInput) -> bool
+    ensures { result ≡ true → HaveFittingPlans day.now }
+{
+    day.town.book.persons.len() as usize == day.chosen.len() && all_fit(day.town, day.chosen)
+}
+
+fn copied_plan(alloc: Global, plan: &Plan) -> Result<Plan, AllocError> {
+    let acts = plan.acts.try_clone()?;
+    let legs = copied_legs(alloc, &plan.legs.rows)?;
+    Ok(Plan {
+        acts,
+        legs: Legs { rows: legs },
+    })
+}
+
+fn copied_plans(alloc: Global, memories: &[Memory]) -> Result<Vec<Plan>, AllocError> {
+    let mut plans = Vec::new(alloc);
+    for memory in memories {
+        plans.push(copied_plan(alloc, memory.chosen_plan())?)?;
+    }
+    Ok(plans)
+}
+
+/// The plans that persons have chosen; none where memory is wanting.
+pub fn chosen_plans(alloc: Global, memories: &[Memory]) -> Vec<Plan> {
+    match copied_plans(alloc, memories) {
+        Ok(plans) => plans,
+        Err(_) => Vec::new(alloc),
+    }
+}

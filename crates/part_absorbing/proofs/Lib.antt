@@ -1,0 +1,9 @@
+pub mod Borders
+pub mod Neighbours
+pub mod Vehicles
+pub mod Freed
+pub mod Rows
+pub mod Queues
+pub mod Steps
+pub mod Ready
+pub mod Rounds

@@ -1,0 +1,115 @@
+-- A part absorbs what lies in the places of its inbox, place by place.
+use Rattle.traffic.proofs.Common.{◌≡◌, ℕ, ◌+◌, ◌-◌, ◌<◌, ◌≤◌, List, ◌∙◌, ap, sym, subst, arith, inl, inr}
+use Rattle.traffic.proofs.Common.{cases_lt, length, set, take, get_or-set_same, get_or-set_other, Setup, Option, None}
+use Rattle.std.proofs.lemmas.List.{take_all}
+use Rattle.town.specs.declared.day_input.DayInput.{DayInput}
+use Rattle.town.specs.Views.{setup}
+use Rattle.law_in_range.specs.Setups.{counts_in, HaveFittingPlans}
+use Rattle.partition.specs.Owned.{owner_in}
+use Rattle.partition.specs.declared.owner.Owner.{Owner}
+use Rattle.parts.specs.Owners.{Owner as Owning, lag}
+use Rattle.parts.specs.Parts.{held, ready}
+use Rattle.law_in_range.specs.Rows.{Counts}
+use Rattle.law_in_range.specs.Setups.{IsFitSetup}
+use Rattle.law_sound_setups.specs.Setups.{IsSoundSetup}
+use Rattle.law_sound_setups.specs.Consistent.{IsConsistentSetup}
+use Rattle.law_partitions.specs.Laws.{IsOwner}
+use Rattle.law_own_worlds.specs.Days.{world_before}
+use Rattle.law_parcels.specs.Hearing.{HearsFrom, IsReadyBy, IsBetween}
+use Rattle.law_parcels.specs.Worlds.{world_held, TakesIn}
+use Rattle.law_parts_of_days.proofs.Worlds.{fit_setup, sound_setup, consistent_setup}
+use Rattle.step_core.specs.declared.part.Border.{Border}
+use Rattle.step_core.specs.Nets.{border_at}
+use Rattle.step_core.specs.Views.{IsHeard, HasHeard, in_place}
+use Rattle.divided_day.specs.Borders.{borders_of}
+use Rattle.divided_day.specs.Slots.{AreSlots}
+use Rattle.divided_day.proofs.Whole.{borders_sound}
+use Rattle.parcels.specs.declared.contents.Parcel.{Parcel}
+use Rattle.part_seconds.specs.declared.area.Area.{Area}
+use Rattle.part_seconds.specs.Stands.{AreaStands}
+use Rattle.part_absorbing.specs.Absorbed.{IsRight, neighbours_at, HasTakenInIf, HasAbsorbed}
+use Rattle.part_absorbing.proofs.Neighbours.{many, neighbour_is, hears_from}
+use Rattle.part_absorbing.proofs.Steps.{absorbed_next}
+use Rattle.part_absorbing.proofs.Ready.{ready_stands}
+
+-- what the laws of parcels say of all setups
+abbrev pub MakeReady : Type 0
+MakeReady =
+    (S : Setup) (own : Owning) (parts p t : ℕ) (ns : List ℕ) → IsSoundSetup S → IsConsistentSetup S → IsOwner own parts
+    → HearsFrom S own p ns
+    → IsReadyBy S own p t ns
+
+abbrev pub AreBetween : Type 0
+AreBetween = (S : Setup) (own : Owning) (q p s : ℕ) → IsBetween S own q p s
+
+abbrev pub TakeIn : Type 0
+TakeIn =
+    (S : Setup) (own : Owning) (parts p t : ℕ) (z : Counts) (ns : List ℕ) → IsSoundSetup S → IsConsistentSetup S → IsOwner own parts
+    → IsFitSetup z S → HearsFrom S own p ns → TakesIn S own p t ns
+
+-- INBOXES
+-- the places before one more are empty once that one is
+pub emptied_next : (inbox new : List (Option Parcel)) (k : ℕ) → new ≡ set inbox k None → k < length inbox
+    → ((j : ℕ) → j < k → in_place inbox j ≡ None) → (j : ℕ) → j < k + 1 → in_place new j ≡ None
+emptied_next inbox new k e lt was j less =
+    ap (λ (xs : List (Option Parcel)). in_place xs j) e
+    ∙ elim (cases_lt j k) [
+      | inl before ↦ get_or-set_other inbox k j None None (λ (same : j ≡ k). omega arith) ∙ was j before
+      | inr behind ↦
+          let same : j ≡ k = omega arith in
+          ap (λ (i : ℕ). in_place (set inbox k None) i) same ∙ get_or-set_same inbox k None None lt
+    ]
+
+pub kept_next : (inbox first new : List (Option Parcel)) (k : ℕ) → new ≡ set inbox k None
+    → ((j : ℕ) → k ≤ j → in_place inbox j ≡ in_place first j) → (j : ℕ) → k + 1 ≤ j → in_place new j ≡ in_place first j
+kept_next inbox first new k e was j le =
+    ap (λ (xs : List (Option Parcel)). in_place xs j) e ∙ get_or-set_other inbox k j None None (λ (same : j ≡ k). omega arith)
+    ∙ was j (omega arith)
+
+module _ (day : DayInput) (owner : Owner) (given : HaveFittingPlans day) (p t : ℕ) (slots : List ℕ)
+    (are : AreSlots (setup day) (owner_in owner.of_node) slots) (makes : MakeReady) (between : AreBetween) (old : Area)
+    (h : AreaStands day (owner_in owner.of_node) p t t t old (held (setup day) (owner_in owner.of_node) p t)
+    (world_held (setup day) (owner_in owner.of_node) p t)) where
+  abbrev S : Setup
+  S = setup day
+
+  abbrev own : Owning
+  own = owner_in owner.of_node
+
+  abbrev rows : List Border
+  rows = borders_of S own owner.parts p
+
+  abbrev all : List ℕ
+  all = neighbours_at rows
+
+  hears : HearsFrom S own p all
+  hears = hears_from S own owner.parts day.town.now.settings.end_second p rows (borders_sound day owner given p)
+
+  becomes : IsReadyBy S own p t all
+  becomes = makes S own owner.parts p t all (sound_setup day given) (consistent_setup day given) owner.owned hears
+
+  -- one place more
+  pub round : (k s : ℕ) (o : Option Parcel) (inbox : List (Option Parcel)) (now new : Area) → k < length rows
+      → s ≡ t - (border_at rows k).lag
+      → HasHeard (IsRight S own) p t rows inbox → o ≡ in_place inbox k → HasAbsorbed day own p t (take k all) old now
+      → HasTakenInIf day slots s o now new → HasAbsorbed day own p t (take (k + 1) all) old new
+  round k s o inbox now new lt is heard there g e =
+      let b = border_at rows k in
+      let borders = borders_sound day owner given p in
+      let here : IsHeard (IsRight S own) p t b o
+      = subst (λ (x : Option Parcel). IsHeard (IsRight S own) p t b x) (sym there) (heard k lt) in
+      let n = many rows in
+      absorbed_next day own p t old h slots are all k b (omega arith) (neighbour_is rows k lt) (borders.each k lt) (borders.lags k lt)
+      becomes
+      (λ u. between S own b.neighbour p u) o now new here g (subst (λ (u : ℕ). HasTakenInIf day slots u o now new) is e)
+
+  -- behind the last one
+  pub finished : TakeIn → (k : ℕ) (new : Area) → length rows ≤ k → HasAbsorbed day own p t (take k all) old new
+      → AreaStands day own p t t t new (ready S own p t) (world_before S own p t)
+  finished takes k new le g =
+      let n = many rows in
+      let full : length all ≤ k = omega arith in
+      ready_stands day own owner.parts p t given owner.owned all
+      (takes S own owner.parts p t (counts_in day) all
+      (sound_setup day given) (consistent_setup day given) owner.owned (fit_setup day given) hears)
+      becomes old new h (subst (λ (ns : List ℕ). HasAbsorbed day own p t ns old new) (take_all k all full) g)

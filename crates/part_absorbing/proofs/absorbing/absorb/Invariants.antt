@@ -1,0 +1,19 @@
+use Rattle.std.proofs.Common.{◌≡◌, ℕ, ◌<◌, ◌≤◌, length, take}
+use Rattle.std.specs.Prelude.{None}
+use Rattle.partition.specs.Owned.{owner_in}
+use Rattle.town.specs.Views.{setup}
+use Rattle.divided_day.specs.Borders.{borders_of}
+use Rattle.step_core.specs.Views.{in_place}
+use Rattle.part_absorbing.specs.Absorbed.{neighbours_at, HasAbsorbed}
+use Rattle.part_absorbing.proofs.absorbing.absorb.Given as goal
+
+abbrev pub invariant-loop-place : goal.invariant-loop-place
+invariant-loop-place l = record {
+  absorbed :
+      HasAbsorbed l.run.day.now (owner_in l.run.owner.now.of_node) l.number l.second
+      (take l.place (neighbours_at (borders_of (setup l.run.day.now) (owner_in l.run.owner.now.of_node) l.run.owner.now.parts l.number)))
+      l.initial.area l.area;
+  many : length l.inbox.items ≡ length l.initial.inbox.items;
+  emptied : (k : ℕ) → k < l.place → in_place l.inbox.items k ≡ None;
+  kept : (k : ℕ) → l.place ≤ k → in_place l.inbox.items k ≡ in_place l.initial.inbox.items k;
+}

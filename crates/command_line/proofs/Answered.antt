@@ -7,8 +7,11 @@ use Rattle.clap.specs.declared.parser.matches.ArgMatches.{ArgMatches}
 use Rattle.clap.specs.declared.error.kind.ErrorKind.{ErrorKind}
 use Rattle.clap.specs.declared.error.kind.ErrorKind.TheVariants.{OutOfMemory}
 use Rattle.clap.proofs.OnLiterals.{clap_on_literals}
-use Rattle.command_line.specs.Cases.{Work, kind_case, kinds_case, simple_case}
-use Rattle.command_line.specs.Commands.{simple_command, command_with}
+use Rattle.std.specs.Prelude.{Result, IfOk}
+use Rattle.std.proofs.lemmas.Result.{IfOk-weaker}
+use Rattle.command_line.specs.Cases.{Case, Work, asked_case, kind_case, kinds_case, simple_case, work_with}
+use Rattle.command_line.specs.declared.reading.Asked.{Asked}
+use Rattle.command_line.specs.Commands.{simple_command}
 use Rattle.command_line.specs.declared.commands.Command.{Command}
 use Rattle.command_line.specs.declared.commands.CommandName.{CommandName}
 use Rattle.command_line.specs.declared.commands.CommandName.TheVariants.{Run, Resume, Check, Route, Generate}
@@ -48,10 +51,17 @@ the_kind (x ∷ []) kind few (inr none) = absurd none
 the_kind (x ∷ y ∷ kinds) kind few among = absurd (omega (arith, few.few))
 
 -- an error that is no want of memory has that kind
-as_told : (command : Command) (kinds : Kinds) (e : Error) → Few kinds → HasKind kinds e → kind_of e ≢ OutOfMemory → kind_case (kind_of e)
-    ≡ kinds_case command kinds
-as_told command kinds e few (inl memory) other = absurd (other memory)
-as_told command kinds e few (inr among) other = sym (ap (kinds_case command) (the_kind kinds _ few among))
+as_told : (work : Case) (kinds : Kinds) (e : Error) → Few kinds → HasKind kinds e → kind_of e ≢ OutOfMemory
+    → kind_case (kind_of e) ≡ kinds_case work kinds
+as_told work kinds e few (inl memory) other = absurd (other memory)
+as_told work kinds e few (inr among) other = sym (ap (kinds_case work) (the_kind kinds _ few among))
+
+-- the work of a command, by what it is made of
+pub work_is : (command other : Command) (partitions many workers staff : ℕ) → command ≡ other → partitions ≡ many → workers ≡ staff
+    → Work command partitions workers ≡ Work other many staff
+work_is command other partitions many workers staff command_is partitions_is workers_is =
+    ap (λ (c : Command). Work c partitions workers) command_is ∙ ap (λ (n : ℕ). Work other n workers) partitions_is
+    ∙ ap (λ (n : ℕ). Work other many n) workers_is
 
 module _ (name : CommandName) (a : App) (words : List (List ℕ)) (is : a ≡ simple_command name) where
   plain : is_simple_and_free a ≡ true
@@ -60,21 +70,29 @@ module _ (name : CommandName) (a : App) (words : List (List ℕ)) (is : a ≡ si
   simple : is_simple a ≡ true
   simple = ap is_simple is ∙ is_single name
 
-  same_case : kinds_case (command_with name (matches_of a words)) (fault_of a words) ≡ simple_case name words
-  same_case = ap (λ b. kinds_case (command_with name (matches_of b words)) (fault_of b words)) is
+  same_case : kinds_case (work_with name (matches_of a words)) (fault_of a words) ≡ simple_case name words
+  same_case = ap (λ b. kinds_case (work_with name (matches_of b words)) (fault_of b words)) is
 
   -- words that it takes ask for the command's work
-  pub taken : (command : Command) → command ≡ command_with name (matches_of a words) →
-      (is_simple_and_free a ≡ true → fault_of a words ≡ []) → Work command ≡ simple_case name words
-  taken command made_is none = ap Work made_is ∙ sym (ap (kinds_case (command_with name (matches_of a words))) (none plain)) ∙ same_case
+  pub taken : (work : Case) → work ≡ work_with name (matches_of a words) → (is_simple_and_free a ≡ true → fault_of a words ≡ [])
+      → work ≡ simple_case name words
+  taken work made_is none = made_is ∙ sym (ap (kinds_case (work_with name (matches_of a words))) (none plain)) ∙ same_case
 
   -- the others ask for what the kind of its error says
-  pub not_taken : (e : Error) → (is_simple_and_free a ≡ true → HasKind (fault_of a words) e) → kind_of e ≢ OutOfMemory →
+  not_taken : (e : Error) → (is_simple_and_free a ≡ true → HasKind (fault_of a words) e) → kind_of e ≢ OutOfMemory →
       kind_case (kind_of e) ≡ simple_case name words
-  not_taken e has other = as_told (command_with name (matches_of a words)) _ e
+  not_taken e has other = as_told (work_with name (matches_of a words)) _ e
       (subst (λ b. Few (fault_of b words)) (sym is) (few_kinds name words)) (has plain) other ∙ same_case
 
-  -- the command that its matches make
-  pub made : (command : Command) (m : ArgMatches) → HasMatchesOf a words m → command ≡ command_with name (rows_of (found_of m))
-      → command ≡ command_with name (matches_of a words)
-  made command m has told = told ∙ ap (command_with name) (has simple).0
+  pub told_so : {E : Type 0} (e : Error) (result : Result Asked E) → (is_simple_and_free a ≡ true → HasKind (fault_of a words) e)
+      → IfOk result (λ asked. (kind_of e ≢ OutOfMemory) × (asked_case asked ≡ kind_case (kind_of e)))
+      → IfOk result (λ asked. asked_case asked ≡ simple_case name words)
+  told_so e result has told =
+      IfOk-weaker result (λ asked. (kind_of e ≢ OutOfMemory) × (asked_case asked ≡ kind_case (kind_of e)))
+      (λ asked. asked_case asked ≡ simple_case name words)
+      (λ asked h. h.1 ∙ not_taken e has h.0) told
+
+  -- work that its matches make
+  pub made : (work : Case) (m : ArgMatches) → HasMatchesOf a words m → work ≡ work_with name (rows_of (found_of m))
+      → work ≡ work_with name (matches_of a words)
+  made work m has told = told ∙ ap (work_with name) (has simple).0

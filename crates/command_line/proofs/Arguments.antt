@@ -5,11 +5,15 @@ use Rattle.std.specs.Prelude.{option_and_then, pos, slice_get}
 use Rattle.std.specs.Borrow.{Bor}
 use Rattle.std.specs.List.{All, slice_index_or}
 use Rattle.std.specs.Str.{bytes_eq}
-use Rattle.std.proofs.lemmas.List.Elements.{All-nil, All-get_or}
+use Rattle.std.proofs.Common.{append-nil, append_assoc, map}
+use Rattle.std.specs.Prelude.{not, ◌&&◌, ◌||◌}
+use Rattle.std.proofs.lemmas.Bool.{and_parts}
+use Rattle.std.proofs.lemmas.List.{length-map, get_or-map}
+use Rattle.std.proofs.lemmas.List.Elements.{All-get_or, All-nil}
 use Rattle.std.proofs.lemmas.Slice.Eq.{bytes_eq-Decides}
 use Rattle.clap.specs.Built.{AddsArg, IsAuto, IsParsedFrom, IsPlain, IsPlainArg, SameRules}
 use Rattle.clap.specs.Facts.{Entry, EntryPasses, HasReading, PassesArg, args_of, groups_of, least_values, parser_of, parser_of_value}
-use Rattle.clap.specs.Words.{Accepts, App, IsSignedIn, Rule, app_of, found_of, matched_of, new_app, one_text, read_as, reading_of, rule_of, with_rule}
+use Rattle.clap.specs.Words.{Accepts, App, IsSignedIn, Rule, app_of, found_of, matched_of, one_text, read_as, reading_of, with_rule}
 use Rattle.clap.specs.Words.{without_minus}
 use Rattle.clap.specs.declared.builder.action.ArgAction.{ArgAction}
 use Rattle.clap.specs.declared.builder.action.ArgAction.TheVariants.{Set}
@@ -23,7 +27,9 @@ use Rattle.clap.specs.declared.parser.matches.ArgMatches.{ArgMatches}
 use Rattle.clap.specs.declared.parser.matches.MatchedArg.{MatchedArg}
 use Rattle.clap.proofs.CallerLemmas.{added_plain, entry_by_id, same_rules_by_id}
 use Rattle.clap.proofs.CallerReads.{required_reads}
-use Rattle.command_line.specs.Given.{IsArgument, HasNumber, HasLongNumber, MayHaveNumber}
+use Rattle.limits.specs.declared.TheConstants.{MAX_PARTITIONS}
+use Rattle.command_line.specs.Commands.{with_spread}
+use Rattle.command_line.specs.Given.{AddsSpread, IsArgument, IsBare, HasNumber, HasLongNumber, HasSpread, MayHaveNumber}
 
 -- a name that is not empty, and no name of an argument that clap adds
 pub record IsOwnName (id : List ℕ) : Type 0 where
@@ -40,7 +46,7 @@ own_name id none help version = record {
 }
 
 -- an argument with this rule at a place of a command, where no other has its name
-pub record StandsAt (command : Command) (place : ℕ) (rule : Rule) (arg : Arg) : Type 0 where
+record StandsAt (command : Command) (place : ℕ) (rule : Rule) (arg : Arg) : Type 0 where
   pub there : slice_index_or (args_of command) place arg ≡ arg
   pub within : place < length (args_of command)
   pub id : arg.id.now ≡ rule.id
@@ -91,12 +97,12 @@ module _ (command : Command) (m : ArgMatches) (parsed : IsParsedFrom command m) 
       (read.0, subst (λ (w : List ℕ). one_text (found_of m) w ≡ Some (read_as (reading_of parser) read.0)) same_id read.1, read.2)
 
   -- it is a number within bounds
-  pub number_read : rule.required ≡ true → rule.action ≡ Some Set → (least most : ℕ) → rule.parser ≡ Some (Signed (pos least) (pos most))
+  number_read : rule.required ≡ true → rule.action ≡ Some Set → (least most : ℕ) → rule.parser ≡ Some (Signed (pos least) (pos most))
       → HasNumber least most rule.id (found_of m)
   number_read required set least most parser = position_read required set (Signed (pos least) (pos most)) parser
 
   -- or a number of 64 bits
-  pub long_number_read : rule.required ≡ true → rule.action ≡ Some Set → rule.parser ≡ Some (Unsigned 0 18446744073709551615)
+  long_number_read : rule.required ≡ true → rule.action ≡ Some Set → rule.parser ≡ Some (Unsigned 0 18446744073709551615)
       → HasLongNumber rule.id (found_of m)
   long_number_read required set parser = position_read required set (Unsigned 0 18446744073709551615) parser
 
@@ -165,92 +171,184 @@ module _ (command : Command) (m : ArgMatches) (parsed : IsParsedFrom command m) 
         (subst (λ (a : MatchedArg). option_map (λ s. read_as a.reading s.now) (slice_get a.vals.items 0) ≡ Some given) (sym entry.1) is)
 
     -- where anything was given for an option, it is a number within bounds
-    pub option_read : MayHaveNumber least most rule.id (found_of m)
+    option_read : MayHaveNumber least most rule.id (found_of m)
     option_read = λ given is. by_match (matched_of (found_of m) rule.id) refl given is
 
--- two names that differ
-differ : (a b : List ℕ) (x y : ℕ) → bytes_eq a b ≡ false → bytes_eq a b ≡ true → x ≡ y
-differ a b x y no_more same =
-    let bad : false ≡ true = sym no_more ∙ same in
-    absurd (cc bad)
+-- ARGUMENTS THAT ARE ADDED ONE BEHIND THE OTHER
+-- an argument with its rule, and the command before it was added and then
+pub record Added : Type 0 where
+  pub rule : Rule
+  pub arg : Arg
+  pub old : Command
+  pub new : Command
+  pub is : IsArgument rule arg
+  pub adds : AddsArg old arg new
 
--- a command with three arguments
-module _ (alone with_first with_second whole : Command) (first second third : Arg) (first_rule second_rule third_rule : Rule)
-    (is_first : IsArgument first_rule first) (is_second : IsArgument second_rule second) (is_third : IsArgument third_rule third)
-    (adds_first : AddsArg alone first with_first) (adds_second : AddsArg with_first second with_second)
-    (adds_third : AddsArg with_second third whole) where
-  -- they stand one behind the other
-  pub app_is : (start : App) → app_of alone ≡ start → app_of whole ≡ with_rule (with_rule (with_rule start first_rule) second_rule) third_rule
-  app_is start is =
-      adds_third.shape is_third.local
-      ∙ ap₂ with_rule (adds_second.shape is_second.local
-      ∙ ap₂ with_rule (adds_first.shape is_first.local ∙ ap₂ with_rule is is_first.ruled) is_second.ruled) is_third.ruled
+abbrev pub added : {rule : Rule} {arg : Arg} {old new : Command} → IsArgument rule arg → AddsArg old arg new → Added
+added {rule} {arg} {old} {new} is adds = record { rule = rule; arg = arg; old = old; new = new; is = is; adds = adds }
 
-  args_are : args_of alone ≡ [] → args_of whole ≡ adds_first.arg ∷ adds_second.arg ∷ adds_third.arg ∷ []
-  args_are none =
-      adds_third.args
-      ∙ ap (λ (args : List Arg). args ++ adds_third.arg ∷ []) (adds_second.args
-      ∙ ap (λ (args : List Arg). args ++ adds_second.arg ∷ []) (adds_first.args
-      ∙ ap (λ (args : List Arg). args ++ adds_first.arg ∷ []) none))
+-- what stands of it in the command, and its name
+abbrev pub kept : Added → Arg
+kept s = s.adds.arg
 
-  -- nothing in it excludes anything
-  pub plain_is : args_of alone ≡ [] → groups_of alone ≡ [] → IsPlain whole
-  plain_is args groups =
-      added_plain with_second whole third adds_third
-      (added_plain with_first with_second second adds_second
-      (added_plain alone with_first first adds_first (subst (All IsPlainArg) (sym args) (All-nil IsPlainArg), groups) is_first.plain)
-      is_second.plain)
-      is_third.plain
+abbrev pub name_of : Added → List ℕ
+name_of s = s.rule.id
 
-  id_of : (rule : Rule) (arg kept : Arg) → IsArgument rule arg → SameRules arg kept → kept.id.now ≡ rule.id
-  id_of rule arg kept is same = ap (λ x. x.now) same.id ∙ ap (λ (r : Rule). r.id) is.ruled
+-- they are added to a command in this order, which gives another one
+abbrev pub AreAdded : Command → List Added → Type 0
+AreAdded c [] = Unit {0}
+AreAdded c (s ∷ ss) = (s.old ≡ c) × AreAdded s.new ss
 
-  -- of a name that only the argument at its place has
-  only_at : (place : ℕ) (id : List ℕ) → (bytes_eq first_rule.id id ≡ true → 0 ≡ place) → (bytes_eq second_rule.id id ≡ true → 1 ≡ place)
-      → (bytes_eq third_rule.id id ≡ true → 2 ≡ place) → (j : ℕ) (other : Arg) → j < 3
-      → bytes_eq (slice_index_or (adds_first.arg ∷ adds_second.arg ∷ adds_third.arg ∷ []) j other).id.now id ≡ true → j ≡ place
-  only_at place id at_first at_second at_third zero other less same =
-      at_first (subst (λ (w : List ℕ). bytes_eq w id ≡ true) (id_of first_rule first adds_first.arg is_first adds_first.rules) same)
-  only_at place id at_first at_second at_third (suc zero) other less same =
-      at_second (subst (λ (w : List ℕ). bytes_eq w id ≡ true) (id_of second_rule second adds_second.arg is_second adds_second.rules) same)
-  only_at place id at_first at_second at_third (suc (suc zero)) other less same =
-      at_third (subst (λ (w : List ℕ). bytes_eq w id ≡ true) (id_of third_rule third adds_third.arg is_third adds_third.rules) same)
-  only_at place id at_first at_second at_third (suc (suc (suc j))) other less same = absurd (omega (arith, less))
+abbrev pub whole : Command → List Added → Command
+whole c [] = c
+whole c (s ∷ ss) = whole s.new ss
 
-  stands : args_of alone ≡ [] → (place : ℕ) (rule : Rule) (arg kept : Arg) → IsArgument rule arg → SameRules arg kept → place < 3
-      → slice_index_or (adds_first.arg ∷ adds_second.arg ∷ adds_third.arg ∷ []) place kept ≡ kept
-      → (bytes_eq first_rule.id rule.id ≡ true → 0 ≡ place) → (bytes_eq second_rule.id rule.id ≡ true → 1 ≡ place)
-      → (bytes_eq third_rule.id rule.id ≡ true → 2 ≡ place) → StandsAt whole place rule kept
-  stands none place rule arg kept is same less there at_first at_second at_third =
-      let args : args_of whole ≡ adds_first.arg ∷ adds_second.arg ∷ adds_third.arg ∷ [] = args_are none in
-      let count : length (args_of whole) ≡ 3 = ap (λ (l : List Arg). length l) args in
+abbrev pub with_rules : App → List Added → App
+with_rules a [] = a
+with_rules a (s ∷ ss) = with_rules (with_rule a s.rule) ss
+
+pub app_is : (c : Command) (ss : List Added) (start : App) → AreAdded c ss → app_of c ≡ start → app_of (whole c ss) ≡ with_rules start ss
+app_is c [] start h is = is
+app_is c (s ∷ ss) start h is =
+    app_is s.new ss (with_rule start s.rule) h.1
+    (s.adds.shape s.is.local ∙ ap₂ with_rule (ap (λ (d : Command). app_of d) h.0 ∙ is) s.is.ruled)
+
+args_are : (c : Command) (ss : List Added) → AreAdded c ss → args_of (whole c ss) ≡ args_of c ++ map kept ss
+args_are c [] h = sym (append-nil (args_of c))
+args_are c (s ∷ ss) h =
+    args_are s.new ss h.1
+    ∙ ap (λ (args : List Arg). args ++ map kept ss) (s.adds.args ∙ ap (λ (d : Command). args_of d ++ kept s ∷ []) h.0)
+    ∙ append_assoc (args_of c) (kept s ∷ []) (map kept ss)
+
+-- nothing in it excludes anything
+plain_is : (c : Command) (ss : List Added) → AreAdded c ss → IsPlain c → IsPlain (whole c ss)
+plain_is c [] h plain = plain
+plain_is c (s ∷ ss) h plain =
+    plain_is s.new ss h.1 (added_plain s.old s.new s.arg s.adds (subst (λ (d : Command). IsPlain d) (sym h.0) plain) s.is.plain)
+
+no_globals : (c : Command) (ss : List Added) → AreAdded c ss → (out-Command c).has_globals ≡ false → (out-Command (whole c ss)).has_globals ≡ false
+no_globals c [] h none = none
+no_globals c (s ∷ ss) h none =
+    no_globals s.new ss h.1
+    (s.adds.globals ∙ ap₂ (λ (a b : Bool). a || b) (ap (λ (d : Command). (out-Command d).has_globals) h.0 ∙ none) s.is.local)
+
+no_negates : (c : Command) (ss : List Added) → AreAdded c ss → (out-Command c).subcommand_negates_reqs ≡ false
+    → (out-Command (whole c ss)).subcommand_negates_reqs ≡ false
+no_negates c [] h none = none
+no_negates c (s ∷ ss) h none =
+    no_negates s.new ss h.1 (s.adds.negates ∙ ap (λ (d : Command). (out-Command d).subcommand_negates_reqs) h.0 ∙ none)
+
+-- whether none of these names is another one, and none but that at a place
+abbrev pub differs : List ℕ → List (List ℕ) → Bool
+differs id [] = true
+differs id (x ∷ xs) = not (bytes_eq x id) && differs id xs
+
+abbrev pub differs_but_at : ℕ → List ℕ → List (List ℕ) → Bool
+differs_but_at place id [] = true
+differs_but_at zero id (x ∷ xs) = differs id xs
+differs_but_at (suc place) id (x ∷ xs) = not (bytes_eq x id) && differs_but_at place id xs
+
+its_name : (s : Added) → (kept s).id.now ≡ name_of s
+its_name s = ap (λ (t : Bor (List ℕ)). t.now) s.adds.rules.id ∙ ap (λ (r : Rule). r.id) s.is.ruled
+
+never : (b : Bool) → not b ≡ true → b ≡ true → ⊥
+never b is_not is = let bad : not true ≡ true = ap not (sym is) ∙ is_not in cc
+
+other_name : (s : Added) (id : List ℕ) → not (bytes_eq (name_of s) id) ≡ true → bytes_eq (kept s).id.now id ≡ true → ⊥
+other_name s id differs_here same =
+    never (bytes_eq (name_of s) id) differs_here (subst (λ (w : List ℕ). bytes_eq w id ≡ true) (its_name s) same)
+
+none_has : (ss : List Added) (id : List ℕ) (j : ℕ) (other : Arg) → differs id (map name_of ss) ≡ true → j < length (map kept ss)
+    → bytes_eq (slice_index_or (map kept ss) j other).id.now id ≡ true → ⊥
+none_has [] id j other apart less same = absurd (omega arith)
+none_has (s ∷ ss) id zero other apart less same =
+    other_name s id (and_parts (not (bytes_eq (name_of s) id)) (differs id (map name_of ss)) apart).0 same
+none_has (s ∷ ss) id (suc j) other apart less same =
+    none_has ss id j other (and_parts (not (bytes_eq (name_of s) id)) (differs id (map name_of ss)) apart).1 (omega arith) same
+
+only_at : (ss : List Added) (place : ℕ) (id : List ℕ) (j : ℕ) (other : Arg) → differs_but_at place id (map name_of ss) ≡ true
+    → j < length (map kept ss) → bytes_eq (slice_index_or (map kept ss) j other).id.now id ≡ true → j ≡ place
+only_at [] place id j other apart less same = absurd (omega arith)
+only_at (s ∷ ss) zero id zero other apart less same = refl
+only_at (s ∷ ss) zero id (suc j) other apart less same = absurd (none_has ss id j other apart (omega arith) same)
+only_at (s ∷ ss) (suc place) id zero other apart less same =
+    absurd (other_name s id (and_parts (not (bytes_eq (name_of s) id)) (differs_but_at place id (map name_of ss)) apart).0 same)
+only_at (s ∷ ss) (suc place) id (suc j) other apart less same =
+    ap suc (only_at ss place id j other (and_parts (not (bytes_eq (name_of s) id)) (differs_but_at place id (map name_of ss)) apart).1
+    (omega arith) same)
+
+-- each stands at its place, where no other has its name
+stands : (c : Command) (ss : List Added) → AreAdded c ss → args_of c ≡ [] → (place : ℕ) (s : Added) → place < length ss
+    → slice_index_or ss place s ≡ s → differs_but_at place (name_of s) (map name_of ss) ≡ true → StandsAt (whole c ss) place s.rule (kept s)
+stands c ss h none place s less here apart =
+    let args : args_of (whole c ss) ≡ map kept ss = args_are c ss h ∙ ap (λ (xs : List Arg). xs ++ map kept ss) none in
+    let count : length (args_of (whole c ss)) ≡ length ss = ap (λ (l : List Arg). length l) args ∙ length-map ss kept in
+    record {
+      there = ap (λ (l : List Arg). slice_index_or l place (kept s)) args ∙ get_or-map kept ss place s (kept s) less ∙ ap kept here;
+      within = omega (arith, count, less);
+      id = its_name s;
+      required = s.adds.rules.required ∙ ap (λ (r : Rule). r.required) s.is.ruled;
+      action = λ action e. s.adds.rules.action action (ap (λ (r : Rule). r.action) s.is.ruled ∙ e);
+      parser = λ parser e. s.adds.rules.parser parser (ap (λ (r : Rule). r.parser) s.is.ruled ∙ e);
+      unsplit = s.adds.rules.val_delim ∙ s.is.unsplit;
+      valued = λ set. s.adds.rules.least (ap (λ (r : Rule). r.action) s.is.ruled ∙ set) s.is.valued;
+      only = λ j other below has. only_at ss place (name_of s) j other apart (omega (arith, below, count, length-map ss kept))
+          (subst (λ (a : Arg). bytes_eq a.id.now (name_of s) ≡ true) (ap (λ (l : List Arg). slice_index_or l j other) args) has);
+    }
+
+-- what is found of each of them in the words that a command takes which had nothing before
+module _ (start : Command) (ss : List Added) (order : AreAdded start ss) (bare : IsBare start) (m : ArgMatches)
+    (parsed : IsParsedFrom (whole start ss) m) (place : ℕ) (s : Added) (less : place < length ss) (here : slice_index_or ss place s ≡ s)
+    (apart : differs_but_at place (name_of s) (map name_of ss) ≡ true) (own : IsOwnName (name_of s)) where
+  plain : IsPlain (whole start ss)
+  plain = plain_is start ss order (subst (λ (args : List Arg). All IsPlainArg args) (sym bare.args) (All-nil IsPlainArg), bare.groups)
+
+  standing : StandsAt (whole start ss) place s.rule (kept s)
+  standing = stands start ss order bare.args place s less here apart
+
+  pub number_found : s.rule.required ≡ true → s.rule.action ≡ Some Set → (least most : ℕ)
+      → s.rule.parser ≡ Some (Signed (pos least) (pos most))
+      → HasNumber least most (name_of s) (found_of m)
+  number_found required set least most parser =
+      number_read (whole start ss) m parsed plain (no_globals start ss order bare.globals) (no_negates start ss order bare.negates)
+      place s.rule (kept s) standing own required set least most parser
+
+  pub long_number_found : s.rule.required ≡ true → s.rule.action ≡ Some Set → s.rule.parser ≡ Some (Unsigned 0 18446744073709551615)
+      → HasLongNumber (name_of s) (found_of m)
+  long_number_found required set parser =
+      long_number_read (whole start ss) m parsed plain (no_globals start ss order bare.globals) (no_negates start ss order bare.negates)
+      place s.rule (kept s) standing own required set parser
+
+  pub option_found : (least most : ℕ) → s.rule.parser ≡ Some (Signed (pos least) (pos most)) → MayHaveNumber least most (name_of s) (found_of m)
+  option_found least most parser =
+      option_read (whole start ss) m parsed plain (no_globals start ss order bare.globals) (no_negates start ss order bare.negates)
+      place s.rule (kept s) standing own least most parser
+
+-- THE OPTIONS THAT SAY HOW DAYS ARE COMPUTED
+pub partitions_own : IsOwnName (codes "partitions")
+partitions_own = own_name (codes "partitions") (λ e. omega (arith, e)) (λ e. omega (arith, e)) (λ e. omega (arith, e))
+
+pub workers_own : IsOwnName (codes "workers")
+workers_own = own_name (codes "workers") (λ e. omega (arith, e)) (λ e. omega (arith, e)) (λ e. omega (arith, e))
+
+module _ (start new : Command) (adds : AddsSpread start new) where
+  abbrev pub partitions_added : Added
+  partitions_added = added adds.is_partitions adds.adds_partitions
+
+  abbrev pub workers_added : Added
+  workers_added = added adds.is_workers adds.adds_workers
+
+  -- what a command takes behind them
+  pub spread_app : (app : App) → app_of start ≡ app → app_of new ≡ with_spread app
+  spread_app app is = app_is start (partitions_added ∷ workers_added ∷ []) app (refl, (refl, tt)) is
+
+  -- and what is found of them where it took nothing else
+  pub spread_found : IsBare start → (m : ArgMatches) → IsParsedFrom new m → HasSpread (found_of m)
+  spread_found bare m parsed =
+      let both : List Added = partitions_added ∷ workers_added ∷ [] in
+      let order : AreAdded start both = (refl, (refl, tt)) in
       record {
-        there = ap (λ (l : List Arg). slice_index_or l place kept) args ∙ there;
-        within = omega (arith, count, less);
-        id = id_of rule arg kept is same;
-        required = same.required ∙ ap (λ (r : Rule). r.required) is.ruled;
-        action = λ action h. same.action action (ap (λ (r : Rule). r.action) is.ruled ∙ h);
-        parser = λ parser h. same.parser parser (ap (λ (r : Rule). r.parser) is.ruled ∙ h);
-        unsplit = same.val_delim ∙ is.unsplit;
-        valued = λ set. same.least (ap (λ (r : Rule). r.action) is.ruled ∙ set) is.valued;
-        only = λ j other below has. only_at place rule.id at_first at_second at_third j other (omega (arith, below, count))
-            (subst (λ (a : Arg). bytes_eq a.id.now rule.id ≡ true) (ap (λ (l : List Arg). slice_index_or l j other) args) has);
+        partitions = option_found start both order bare m parsed 0 partitions_added (omega arith) refl refl
+            partitions_own 1 MAX_PARTITIONS refl;
+        workers = option_found start both order bare m parsed 1 workers_added (omega arith) refl refl workers_own 1 MAX_PARTITIONS refl;
       }
-
-  pub first_stands : args_of alone ≡ [] → bytes_eq second_rule.id first_rule.id ≡ false → bytes_eq third_rule.id first_rule.id ≡ false
-      → StandsAt whole 0 first_rule adds_first.arg
-  first_stands none second_differs third_differs =
-      stands none 0 first_rule first adds_first.arg is_first adds_first.rules (omega arith) refl (λ h. refl)
-      (differ second_rule.id first_rule.id 1 0 second_differs) (differ third_rule.id first_rule.id 2 0 third_differs)
-
-  pub second_stands : args_of alone ≡ [] → bytes_eq first_rule.id second_rule.id ≡ false → bytes_eq third_rule.id second_rule.id ≡ false
-      → StandsAt whole 1 second_rule adds_second.arg
-  second_stands none first_differs third_differs =
-      stands none 1 second_rule second adds_second.arg is_second adds_second.rules (omega arith) refl
-      (differ first_rule.id second_rule.id 0 1 first_differs) (λ h. refl) (differ third_rule.id second_rule.id 2 1 third_differs)
-
-  pub third_stands : args_of alone ≡ [] → bytes_eq first_rule.id third_rule.id ≡ false → bytes_eq second_rule.id third_rule.id ≡ false
-      → StandsAt whole 2 third_rule adds_third.arg
-  third_stands none first_differs second_differs =
-      stands none 2 third_rule third adds_third.arg is_third adds_third.rules (omega arith) refl
-      (differ first_rule.id third_rule.id 0 2 first_differs) (differ second_rule.id third_rule.id 1 2 second_differs) (λ h. refl)

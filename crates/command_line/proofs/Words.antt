@@ -41,14 +41,14 @@ number_within {E} G least most number text read parses fits passed =
 
 -- a number that may be given for an option, as it is read
 module _ {E : Type 0} (G : List ℕ → Result ℕ E → Type 0) (parses : (u : List ℕ) (x : Result ℕ E) → G u x → ParsesUnsigned 32 10 u x)
-    (found : Found) (id : List ℕ) (most : ℕ) (fits : most < 2 ^ 32) (may : MayHaveNumber 0 most id found) where
+    (found : Found) (id : List ℕ) (least most : ℕ) (fits : most < 2 ^ 32) (may : MayHaveNumber least most id found) where
   -- what is read as no number was not given
   none_given : ((text : List ℕ) → one_text found id ≡ Some text → ReadsOne G text None) → (o : Option (List ℕ)) → one_text found id ≡ o → o ≡ None
   none_given reads None is = refl
   none_given reads (Some given) is =
       let number = may given is in
       let read : ReadsOne G (without_minus number.0) None = subst (λ (t : List ℕ). ReadsOne G t None) number.1 (reads given is) in
-      let got = signed_reads E G 32 0 most number.0 None read parses fits number.2 in
+      let got = signed_reads E G 32 least most number.0 None read parses fits number.2 in
       let bad : None ≡ Some got.0 = got.1 in
       absurd (cc bad)
 
@@ -63,10 +63,11 @@ module _ {E : Type 0} (G : List ℕ → Result ℕ E → Type 0) (parses : (u : 
   -- what is read as a number is the one that was given
   pub option_given : (number default : ℕ) → (one_text found id ≡ None → Some number ≡ None)
       → ((text : List ℕ) → one_text found id ≡ Some text → ReadsOne G text (Some number))
-      → (number ≡ number_or id default (rows_of found)) × (number ≤ most)
+      → (number ≡ number_or id default (rows_of found)) × ((least ≤ number) × (number ≤ most))
   option_given number default none reads = by_text (one_text found id) refl
     where
-      by_text : (o : Option (List ℕ)) → one_text found id ≡ o → (number ≡ number_or id default (rows_of found)) × (number ≤ most)
+      by_text : (o : Option (List ℕ)) → one_text found id ≡ o
+          → (number ≡ number_or id default (rows_of found)) × ((least ≤ number) × (number ≤ most))
       by_text None is =
           let bad : Some number ≡ None = none is in
           absurd (cc bad)
@@ -75,7 +76,7 @@ module _ {E : Type 0} (G : List ℕ → Result ℕ E → Type 0) (parses : (u : 
           let read : ReadsOne G (without_minus said.0) (Some number) = subst (λ (t : List ℕ). ReadsOne G t (Some number)) said.1 (reads given is) in
           let value = parses given (Ok number) (reads given is) in (
             value.1 ∙ ap (λ (o : Option (List ℕ)). option_map_or number_of o default) (sym is ∙ one_text-rows found id),
-            (number_within G 0 most number said.0 read parses fits said.2).1,
+            number_within G least most number said.0 read parses fits said.2,
           )
 
 -- a route of such words

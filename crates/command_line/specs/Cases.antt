@@ -1,30 +1,32 @@
 -- What the words of the command line ask for.
 use Rattle.std.specs.Prelude.{⊤, ℕ, Bool, ◌||◌, bytes_eq, codes, if◌then◌else◌, List, [], ◌∷◌, Option, None, Some}
 use Rattle.clap.specs.Kinds.{Kinds}
-use Rattle.clap.specs.Words.{fault_of, matches_of}
+use Rattle.clap.specs.Words.{Row, fault_of, matches_of}
 use Rattle.clap.specs.declared.error.kind.ErrorKind.{ErrorKind}
 use Rattle.clap.specs.declared.error.kind.ErrorKind.TheVariants.{DisplayHelp}
-use Rattle.command_line.specs.Commands.{command_named, simple_command, command_with, IsInRange}
+use Rattle.command_line.specs.Commands.{command_named, simple_command, command_with, partitions_in, workers_in, IsInRange}
+use Rattle.command_line.specs.declared.TheConstants.{DEFAULT_PARTITIONS, DEFAULT_WORKERS}
 use Rattle.command_line.specs.declared.commands.Command.{Command}
 use Rattle.command_line.specs.declared.commands.CommandName.{CommandName}
+use Rattle.command_line.specs.declared.commands.CommandName.TheVariants.{Run, Resume, Check, Route, Generate}
 use Rattle.command_line.specs.declared.reading.Asked.{Asked}
 use Rattle.command_line.specs.declared.reading.Asked.TheVariants as asked
 
--- words ask for a command's work or for help, or they are refused
+-- words ask for a command's work, with its days in so many partitions and by so many workers, or for help, or they are refused
 pub data Case : Type 0 where
-  Work : Command → Case
+  Work : Command → ℕ → ℕ → Case
   Help : Case
   Refused : Case
 
 -- the case of an answer, whatever text the user is told
 abbrev pub asked_case : Asked → Case
-asked_case (asked.Work command) = Work command
+asked_case (asked.Work command spread) = Work command spread.partitions spread.workers
 asked_case (asked.Help text) = Help
 asked_case (asked.Refused text) = Refused
 
--- the numbers of the command that is asked for are within their bounds
+-- the numbers of the command that is asked for are within their bounds, as those of its spread are by their type
 abbrev pub AsksInRange : Asked → Type 0
-AsksInRange (asked.Work command) = IsInRange command
+AsksInRange (asked.Work command spread) = IsInRange command
 AsksInRange (asked.Help text) = ⊤
 AsksInRange (asked.Refused text) = ⊤
 
@@ -37,14 +39,30 @@ abbrev pub kind_case : ErrorKind → Case
 kind_case DisplayHelp = Help
 kind_case _ = Refused
 
+-- the work of a command that simulates days, and that of one that simulates none, which is not divided
+abbrev pub simulation : Command → List Row → Case
+simulation command rows = Work command (partitions_in rows) (workers_in rows)
+
+abbrev pub undivided : Command → Case
+undivided command = Work command DEFAULT_PARTITIONS DEFAULT_WORKERS
+
+-- the work that is asked for by what was given
+abbrev pub work_with : CommandName → List Row → Case
+work_with Run rows = simulation (command_with Run rows) rows
+work_with Resume rows = simulation (command_with Resume rows) rows
+work_with Check rows = undivided (command_with Check rows)
+work_with Route rows = undivided (command_with Route rows)
+work_with Generate rows = simulation (command_with Generate rows) rows
+
 -- the case by the kinds that clap may answer, of which there is one at most, and none where it takes the words
-abbrev pub kinds_case : Command → Kinds → Case
-kinds_case command [] = Work command
-kinds_case command (kind ∷ kinds) = kind_case kind
+abbrev pub kinds_case : Case → Kinds → Case
+kinds_case work [] = work
+kinds_case work (kind ∷ kinds) = kind_case kind
 
 -- clap reads the program's name and the words behind the command's name
 abbrev pub simple_case : CommandName → List (List ℕ) → Case
-simple_case name words = kinds_case (command_with name (matches_of (simple_command name) words)) (fault_of (simple_command name) words)
+simple_case name words =
+    kinds_case (work_with name (matches_of (simple_command name) words)) (fault_of (simple_command name) words)
 
 -- words that name no command are refused
 abbrev pub command_case : Option CommandName → List (List ℕ) → Case

@@ -6,10 +6,10 @@ use Rattle.clap.specs.Words.{App, Row, Rule, new_app, new_rule, with_rule, first
 use Rattle.clap.specs.declared.builder.action.ArgAction.TheVariants.{Set}
 use Rattle.clap.specs.declared.builder.value_parser.ValueParser.TheVariants.{Signed, Unsigned}
 use Rattle.learning.specs.declared.TheConstants.{LAST_ITERATION}
-use Rattle.limits.specs.declared.TheConstants.{LAST_SECOND}
+use Rattle.limits.specs.declared.TheConstants.{LAST_SECOND, MAX_PARTITIONS}
 use Rattle.workload.specs.Grids.{IsGrid}
 use Rattle.workload.specs.declared.TheConstants.{LEAST_SIZE, MOST_SIZE}
-use Rattle.command_line.specs.declared.TheConstants.{DEFAULT_LAST_ITERATION}
+use Rattle.command_line.specs.declared.TheConstants.{DEFAULT_LAST_ITERATION, DEFAULT_PARTITIONS, DEFAULT_WORKERS}
 use Rattle.command_line.specs.declared.commands.Command.{Command}
 use Rattle.command_line.specs.declared.commands.Command.TheVariants as command
 use Rattle.command_line.specs.declared.commands.CommandName.{CommandName}
@@ -44,20 +44,35 @@ size_position id = number_position id LEAST_SIZE MOST_SIZE
 abbrev pub seed_position : List ℕ → Rule
 seed_position id = record (position id) { parser = Some (Unsigned 0 18446744073709551615) }
 
--- an option for the number of an iteration, from 0 to 1,000, which is given once at most
+-- an option that has a value and is given once at most
+abbrev pub single_option : List ℕ → Rule
+single_option id = record (new_rule id) { long = Some id; action = Some Set; value_names = 1 }
+
+-- one for a number within bounds
+abbrev pub number_option : List ℕ → ℕ → ℕ → Rule
+number_option id least most = record (single_option id) { parser = Some (Signed (pos least) (pos most)) }
+
+-- for the number of an iteration, from 0 to 1,000
 abbrev pub iteration_option : List ℕ → Rule
-iteration_option id =
-    record (new_rule id) { long = Some id; action = Some Set; value_names = 1; parser = Some (Signed (pos 0) (pos LAST_ITERATION)) }
+iteration_option id = number_option id 0 LAST_ITERATION
+
+-- for how many partitions or workers there are, from 1 to 64
+abbrev pub count_option : List ℕ → Rule
+count_option id = number_option id 1 MAX_PARTITIONS
+
+-- a command that also takes the options which say among how many partitions the network is divided, and how many workers compute them
+abbrev pub with_spread : App → App
+with_spread app = with_rule (with_rule app (count_option (codes "partitions"))) (count_option (codes "workers"))
 
 -- what clap reads behind a command's name: its positions and options, but no subcommand and no version flag
 abbrev pub simple_command : CommandName → App
-simple_command Run = new_app (codes "run")
-simple_command Resume = new_app (codes "resume")
+simple_command Run = with_spread (new_app (codes "run"))
+simple_command Resume = with_spread (new_app (codes "resume"))
 simple_command Check = new_app (codes "check")
 simple_command Route = with_rule (with_rule (with_rule (new_app (codes "route")) (position (codes "FROM"))) (position (codes "TO")))
     (second_position (codes "SECOND"))
-simple_command Generate = with_rule (with_rule (with_rule (new_app (codes "generate")) (size_position (codes "SIZE"))) (seed_position (codes "SEED")))
-    (iteration_option (codes "last-iteration"))
+simple_command Generate = with_spread (with_rule (with_rule (with_rule (new_app (codes "generate")) (size_position (codes "SIZE")))
+    (seed_position (codes "SEED"))) (iteration_option (codes "last-iteration")))
 
 -- the word that was given for a position
 abbrev pub text_in : List ℕ → List Row → List ℕ
@@ -83,6 +98,13 @@ command_with Check rows = command.Check
 command_with Route rows = command.Route (text_in (codes "FROM") rows) (text_in (codes "TO") rows) (number_in (codes "SECOND") rows)
 command_with Generate rows = command.Generate (number_in (codes "SIZE") rows) (number_in (codes "SEED") rows)
     (number_or (codes "last-iteration") DEFAULT_LAST_ITERATION rows)
+
+-- among how many partitions the network is divided, and how many workers compute them: as many as were given, or 1
+abbrev pub partitions_in : List Row → ℕ
+partitions_in rows = number_or (codes "partitions") DEFAULT_PARTITIONS rows
+
+abbrev pub workers_in : List Row → ℕ
+workers_in rows = number_or (codes "workers") DEFAULT_WORKERS rows
 
 -- the numbers of a command are within their bounds
 abbrev pub IsInRange : Command → Type 0

@@ -1,12 +1,16 @@
 -- The positions and options of a command, and what clap gives for them.
-use Rattle.std.specs.Prelude.{◌≡◌, ◌≤◌, ℕ, pos, true, false, codes, List, None, Some}
-use Rattle.clap.specs.Facts.{least_values}
+use Rattle.std.specs.Prelude.{◌≡◌, ◌≤◌, ℕ, pos, false, codes, List, [], None, Some}
+use Rattle.clap.specs.Facts.{args_of, groups_of, least_values}
+use Rattle.clap.specs.Built.{AddsArg}
 use Rattle.clap.specs.Words.{IsPlainArg, IsSignedIn, IsUnsignedIn, Rule, one_text, rule_of, without_minus}
 use Rattle.clap.specs.declared.builder.arg.Arg.{Arg}
+use Rattle.clap.specs.declared.builder.command.Command.{Command}
+use Rattle.clap.specs.declared.builder.command.Command.TheViews.{out-Command}
 use Rattle.clap.specs.declared.parser.matches.Found.{Found}
 use Rattle.learning.specs.declared.TheConstants.{LAST_ITERATION}
-use Rattle.limits.specs.declared.TheConstants.{LAST_SECOND}
+use Rattle.limits.specs.declared.TheConstants.{LAST_SECOND, MAX_PARTITIONS}
 use Rattle.workload.specs.declared.TheConstants.{LEAST_SIZE, MOST_SIZE}
+use Rattle.command_line.specs.Commands.{count_option}
 
 -- the argument has this rule and no other: it stands alone, belongs to its command, and has one value at least, which is not split
 pub record IsArgument (rule : Rule) (arg : Arg) : Type 0 where
@@ -15,6 +19,23 @@ pub record IsArgument (rule : Rule) (arg : Arg) : Type 0 where
   pub local : arg.global ≡ false
   pub unsplit : arg.val_delim ≡ None
   pub valued : 1 ≤ least_values arg
+
+-- a command to which nothing was added
+pub record IsBare (command : Command) : Type 0 where
+  pub args : args_of command ≡ []
+  pub groups : groups_of command ≡ []
+  pub globals : (out-Command command).has_globals ≡ false
+  pub negates : (out-Command command).subcommand_negates_reqs ≡ false
+
+-- the options that say how days are computed were added to a command, the one behind the other
+pub record AddsSpread (old new : Command) : Type 0 where
+  pub partitions : Arg
+  pub workers : Arg
+  pub between : Command
+  pub is_partitions : IsArgument (count_option (codes "partitions")) partitions
+  pub is_workers : IsArgument (count_option (codes "workers")) workers
+  pub adds_partitions : AddsArg old partitions between
+  pub adds_workers : AddsArg between workers new
 
 -- a number within bounds was given for this argument
 abbrev pub HasNumber : ℕ → ℕ → List ℕ → Found → Type 0
@@ -33,6 +54,15 @@ MayHaveNumber least most id found = (given : List ℕ) → one_text found id ≡
 -- what was given for `route`
 abbrev pub HasSecond : Found → Type 0
 HasSecond = HasNumber 0 LAST_SECOND (codes "SECOND")
+
+-- where anything was given for an option that takes a count, it is 1 to 64
+abbrev pub HasCount : List ℕ → Found → Type 0
+HasCount = MayHaveNumber 1 MAX_PARTITIONS
+
+-- what was given for `--partitions` and `--workers`
+pub record HasSpread (found : Found) : Type 0 where
+  pub partitions : HasCount (codes "partitions") found
+  pub workers : HasCount (codes "workers") found
 
 -- what was given for `generate`
 pub record HasGrid (found : Found) : Type 0 where

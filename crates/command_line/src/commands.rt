@@ -1,16 +1,16 @@
-//! The commands. A command has a variant of `CommandName`, a name in `command_named`, in `simple_command` what `clap` reads behind that
-//! name, and a variant of `Command` with what was given there.
-ghost use Rattle.std.specs.Prelude.{◌≡◌, IfOk};
-ghost use Rattle.clap.specs.Words.{IsParsedFrom, app_of, found_of};
+//! The commands. A command has a variant of `CommandName`, a name in `command_named`, a function that says what `clap` reads behind that
+//! name (in definitions `simple_command`), and a variant of `Command` with what was given there.
+ghost use Rattle.std.specs.Prelude.{◌≡◌, IfOk, codes};
+ghost use Rattle.clap.specs.Words.{IsParsedFrom, app_of, found_of, new_app};
 ghost use Rattle.clap.specs.declared.parser.matches.ArgMatches.{ArgMatches};
 ghost use Rattle.command_line.specs.Commands.{command_named, position, second_position, size_position, seed_position};
-ghost use Rattle.command_line.specs.Commands.{iteration_option, simple_command};
-ghost use Rattle.command_line.specs.Given.{IsArgument, HasSecond, HasGrid};
+ghost use Rattle.command_line.specs.Commands.{single_option, iteration_option, count_option, simple_command};
+ghost use Rattle.command_line.specs.Given.{AddsSpread, IsArgument, IsBare, HasSecond, HasGrid, HasSpread};
 
 use clap::{Arg, ArgAction};
 use edge_files::Bytes;
 use learning::LAST_ITERATION;
-use limits::LAST_SECOND;
+use limits::{LAST_SECOND, MAX_PARTITIONS};
 use std::alloc::{AllocError, Global};
 use workload::{LEAST_SIZE, MOST_SIZE};
 
@@ -69,43 +69,127 @@ pub fn command_named(word: &str) -> Option<CommandName>
     }
 }
 
-/// `qsim run`.
-fn run_command<'a>(alloc: Global) -> clap::Command<'a>
-    ensures { app_of result ≡ simple_command CommandName.Run }
-{
-    clap::Command::new(alloc, "run")
-        .override_usage("qsim run")
-        .about("Simulates the days of the files in the current folder.")
-        .after_help(
-            "Writes events.csv, scores.csv and plans_out.csv; the report goes to standard output. What persons remember after each \
-             iteration is kept in kept.db.",
-        )
+/// What a command tells of itself.
+#[derive(Clone, Copy)]
+struct Description<'a> {
+    usage: &'a str,
+    about: &'a str,
+    notes: &'a str,
 }
 
-/// `qsim resume`.
-fn resume_command<'a>(alloc: Global) -> clap::Command<'a>
-    ensures { app_of result ≡ simple_command CommandName.Resume }
+/// A command that takes no words yet.
+fn described<'a>(alloc: Global, name: &'a str, description: Description<'a>) -> clap::Command<'a>
+    ensures app { app_of result ≡ new_app name.entry.now }
+    ensures bare { IsBare result }
 {
-    clap::Command::new(alloc, "resume")
-        .override_usage("qsim resume")
-        .about(
-            "Goes on with a run of the files in the current folder, behind the last iteration that kept.db holds.",
-        )
-        .after_help(
-            "Writes events.csv, scores.csv and plans_out.csv of the iterations behind that one; the report goes to standard output.",
-        )
+    clap::Command::new(alloc, name)
+        .override_usage(description.usage)
+        .about(description.about)
+        .after_help(description.notes)
+}
+
+/// An option for a number. `clap` refuses it where it is given twice.
+fn single_option<'a>(alloc: Global, id: &'a str, help: &'a str) -> Arg<'a>
+    ensures { IsArgument (single_option id.entry.now) result }
+{
+    Arg::new(alloc, id)
+        .help(help)
+        .long(id)
+        .value_name("N")
+        .action(ArgAction::Set)
+}
+
+/// An option for the number of an iteration, from 0 to `LAST_ITERATION`.
+fn iteration_option<'a>(alloc: Global, id: &'a str, help: &'a str) -> Arg<'a>
+    ensures { IsArgument (iteration_option id.entry.now) result }
+{
+    single_option(alloc, id, help).value_parser(clap::value_parser!(u32).range(
+        0..=i64::from(LAST_ITERATION),
+    ))
+}
+
+/// An option for how many partitions or workers there are, from 1 to `MAX_PARTITIONS`.
+fn count_option<'a>(alloc: Global, id: &'a str, help: &'a str) -> Arg<'a>
+    ensures { IsArgument (count_option id.entry.now) result }
+{
+    single_option(alloc, id, help).value_parser(clap::value_parser!(u32).range(
+        1..=i64::from(MAX_PARTITIONS),
+    ))
+}
+
+/// A command that also takes the options which say how days are computed.
+fn with_spread<'a>(
+    alloc: Global,
+    command: clap::Command<'a>,
+) -> Result<clap::Command<'a>, AllocError>
+    ensures { IfOk result (λ c. AddsSpread command.entry c) }
+{
+    let partitions = count_option(
+        alloc,
+        "partitions",
+        "Among how many partitions the network is divided, from 1 to 64; 1 where it is not given. Choose some four for each core",
+    );
+    let workers = count_option(
+        alloc,
+        "workers",
+        "How many workers compute them, each in a thread, from 1 to 64; 1 where it is not given. Choose one for each core",
+    );
+    let divided = command.arg(partitions)?;
+    let spread = divided.arg(workers)?;
+    Ok(spread)
+}
+
+/// `qsim run`. Where `clap` takes its words, each number that is given is within its bounds.
+pub fn run_command<'a>(alloc: Global) -> Result<clap::Command<'a>, AllocError>
+    ensures app { IfOk result (λ c. app_of c ≡ simple_command CommandName.Run) }
+    ensures spread { IfOk result (λ c. (m : ArgMatches) → IsParsedFrom c m → HasSpread (found_of m)) }
+{
+    let bare = described(
+        alloc,
+        "run",
+        Description {
+            usage: "qsim run [--partitions N] [--workers N]",
+            about: "Simulates the days of the files in the current folder.",
+            notes: "Writes events.csv, scores.csv and plans_out.csv; the report goes to standard output. What persons remember after each \
+                    iteration is kept in kept.db. Neither option changes a byte of what is written.",
+        },
+    );
+    let command = with_spread(alloc, bare)?;
+    Ok(command)
+}
+
+/// `qsim resume`. Where `clap` takes its words, each number that is given is within its bounds.
+pub fn resume_command<'a>(alloc: Global) -> Result<clap::Command<'a>, AllocError>
+    ensures app { IfOk result (λ c. app_of c ≡ simple_command CommandName.Resume) }
+    ensures spread { IfOk result (λ c. (m : ArgMatches) → IsParsedFrom c m → HasSpread (found_of m)) }
+{
+    let bare = described(
+        alloc,
+        "resume",
+        Description {
+            usage: "qsim resume [--partitions N] [--workers N]",
+            about: "Goes on with a run of the files in the current folder, behind the last iteration that kept.db holds.",
+            notes: "Writes events.csv, scores.csv and plans_out.csv of the iterations behind that one; the report goes to standard output. \
+                    How many partitions and workers the run had is not kept: it may go on with others.",
+        },
+    );
+    let command = with_spread(alloc, bare)?;
+    Ok(command)
 }
 
 /// `qsim check`.
-fn check_command<'a>(alloc: Global) -> clap::Command<'a>
+pub fn check_command<'a>(alloc: Global) -> clap::Command<'a>
     ensures { app_of result ≡ simple_command CommandName.Check }
 {
-    clap::Command::new(alloc, "check")
-        .override_usage("qsim check")
-        .about(
-            "Reads the files in the current folder, and reports their counts or their first fault.",
-        )
-        .after_help("Writes no file; the report goes to standard output.")
+    described(
+        alloc,
+        "check",
+        Description {
+            usage: "qsim check",
+            about: "Reads the files in the current folder, and reports their counts or their first fault.",
+            notes: "Writes no file; the report goes to standard output.",
+        },
+    )
 }
 
 /// A position that must be given.
@@ -143,18 +227,6 @@ fn seed_position<'a>(alloc: Global, id: &'a str, help: &'a str) -> Arg<'a>
     position(alloc, id, help).value_parser(clap::value_parser!(u64))
 }
 
-/// An option for the number of an iteration, from 0 to `LAST_ITERATION`. `clap` refuses it where it is given twice.
-fn iteration_option<'a>(alloc: Global, id: &'a str, help: &'a str) -> Arg<'a>
-    ensures { IsArgument (iteration_option id.entry.now) result }
-{
-    Arg::new(alloc, id)
-        .help(help)
-        .long(id)
-        .value_name("N")
-        .action(ArgAction::Set)
-        .value_parser(clap::value_parser!(u32).range(0..=i64::from(LAST_ITERATION)))
-}
-
 /// `qsim route FROM TO SECOND`. Where `clap` takes its words, a number is given for the second.
 pub fn route_command<'a>(alloc: Global) -> Result<clap::Command<'a>, AllocError>
     ensures app { IfOk result (λ c. app_of c ≡ simple_command CommandName.Route) }
@@ -171,23 +243,25 @@ pub fn route_command<'a>(alloc: Global) -> Result<clap::Command<'a>, AllocError>
         "SECOND",
         "The second of the day in which it is left; two days are the most",
     );
-    let command = clap::Command::new(alloc, "route")
-        .override_usage("qsim route FROM TO SECOND")
-        .about("Reports the route of least arrival between two nodes at the links' free speed.")
-        .after_help(
-            "Writes no file; the report goes to standard output. Where a name begins with '-', the words stand behind '--', \
-             as in 'qsim route -- -a b 0'.",
-        )
-        .arg(from)?
-        .arg(to)?
-        .arg(second)?;
+    let bare = described(
+        alloc,
+        "route",
+        Description {
+            usage: "qsim route FROM TO SECOND",
+            about: "Reports the route of least arrival between two nodes at the links' free speed.",
+            notes: "Writes no file; the report goes to standard output. Where a name begins with '-', the words stand behind '--', \
+                    as in 'qsim route -- -a b 0'.",
+        },
+    );
+    let command = bare.arg(from)?.arg(to)?.arg(second)?;
     Ok(command)
 }
 
-/// `qsim generate SIZE SEED`. Where `clap` takes its words, numbers within the bounds of a grid are given.
+/// `qsim generate SIZE SEED`. Where `clap` takes its words, numbers within the bounds of a grid are given, and each other number that is
+/// given is within its own.
 pub fn generate_command<'a>(alloc: Global) -> Result<clap::Command<'a>, AllocError>
     ensures app { IfOk result (λ c. app_of c ≡ simple_command CommandName.Generate) }
-    ensures grid { IfOk result (λ c. (m : ArgMatches) → IsParsedFrom c m → HasGrid (found_of m)) }
+    ensures numbers { IfOk result (λ c. (m : ArgMatches) → IsParsedFrom c m → HasGrid (found_of m) × HasSpread (found_of m)) }
 {
     let size = size_position(
         alloc,
@@ -204,34 +278,16 @@ pub fn generate_command<'a>(alloc: Global) -> Result<clap::Command<'a>, AllocErr
         "last-iteration",
         "The number of the last iteration, from 0 to 1000; 1 where it is not given",
     );
-    let command = clap::Command::new(alloc, "generate")
-        .override_usage("qsim generate SIZE SEED [--last-iteration N]")
-        .about("Makes a town of SIZE times SIZE nodes, and simulates its days.")
-        .after_help(
-            "Reads no file; writes events.csv, scores.csv and plans_out.csv; the report goes to standard output.",
-        )
-        .arg(size)?
-        .arg(seed)?
-        .arg(last_iteration)?;
+    let bare = described(
+        alloc,
+        "generate",
+        Description {
+            usage: "qsim generate SIZE SEED [--last-iteration N] [--partitions N] [--workers N]",
+            about: "Makes a town of SIZE times SIZE nodes, and simulates its days.",
+            notes: "Reads no file; writes events.csv, scores.csv and plans_out.csv; the report goes to standard output.",
+        },
+    );
+    let grid = bare.arg(size)?.arg(seed)?.arg(last_iteration)?;
+    let command = with_spread(alloc, grid)?;
     Ok(command)
-}
-
-/// What `clap` reads behind the command's name: positions and options, but no subcommand and no version
-/// flag.
-pub fn simple_command<'a>(alloc: Global, name: CommandName) -> Result<clap::Command<'a>, AllocError>
-    ensures { IfOk result (λ c. app_of c ≡ simple_command name) }
-{
-    match name {
-        CommandName::Run => Ok(run_command(alloc)),
-        CommandName::Resume => Ok(resume_command(alloc)),
-        CommandName::Check => Ok(check_command(alloc)),
-        CommandName::Route => {
-            let command = route_command(alloc)?;
-            Ok(command)
-        }
-        CommandName::Generate => {
-            let command = generate_command(alloc)?;
-            Ok(command)
-        }
-    }
 }

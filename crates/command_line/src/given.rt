@@ -1,15 +1,17 @@
 //! What `clap` gives for the positions and options of a command.
 ghost use Rattle.std.specs.Prelude.{◌≡◌, ◌≤◌, IfOk, codes};
 ghost use Rattle.clap.specs.Words.{found_of, rows_of};
+ghost use Rattle.limits.specs.declared.TheConstants.{MAX_PARTITIONS};
 ghost use Rattle.learning.specs.declared.TheConstants.{LAST_ITERATION};
 ghost use Rattle.workload.specs.declared.TheConstants.{LEAST_SIZE, MOST_SIZE};
-ghost use Rattle.command_line.specs.Commands.{text_in, number_in, number_or, command_with, IsInRange};
-ghost use Rattle.command_line.specs.Given.{HasNumber, HasLongNumber, MayHaveNumber, HasSecond, HasGrid};
+ghost use Rattle.command_line.specs.Commands.{text_in, number_in, number_or, command_with, partitions_in, workers_in, IsInRange};
+ghost use Rattle.command_line.specs.Given.{HasNumber, HasLongNumber, MayHaveNumber, HasCount, HasSecond, HasGrid, HasSpread};
 
-use crate::DEFAULT_LAST_ITERATION;
 use crate::commands::{Command, CommandName};
+use crate::{DEFAULT_LAST_ITERATION, DEFAULT_PARTITIONS, DEFAULT_WORKERS};
 use clap::ArgMatches;
 use edge_files::Bytes;
+use spread::Spread;
 use std::alloc::{AllocError, Global};
 
 /// A copy of the word that was given for a position, and no bytes where none was.
@@ -47,6 +49,31 @@ fn last_iteration_given(matches: &ArgMatches<'_>) -> u32
         return DEFAULT_LAST_ITERATION;
     };
     number
+}
+
+/// A count that was given for an option, or its default.
+fn count_given(matches: &ArgMatches<'_>, id: &str, default: u32) -> u32
+    requires given { HasCount id.now (found_of matches.now) }
+    requires fits { (1 ≤ default) × (default ≤ MAX_PARTITIONS) }
+    ensures number { result ≡ number_or id.now default (rows_of (found_of matches.now)) }
+    ensures in_range { (1 ≤ result) × (result ≤ MAX_PARTITIONS) }
+{
+    let Some(number) = matches.get_one::<u32>(id) else {
+        return default;
+    };
+    number
+}
+
+/// How the days are to be computed.
+pub fn spread_asked(matches: &ArgMatches<'_>) -> Spread
+    requires { HasSpread (found_of matches.now) }
+    ensures partitions { result.partitions ≡ partitions_in (rows_of (found_of matches.now)) }
+    ensures workers { result.workers ≡ workers_in (rows_of (found_of matches.now)) }
+{
+    Spread {
+        partitions: count_given(matches, "partitions", DEFAULT_PARTITIONS),
+        workers: count_given(matches, "workers", DEFAULT_WORKERS),
+    }
 }
 
 /// The size of the grid that is asked for.

@@ -16,3 +16,9 @@ pub use reading::{Asked, read_words};
 
 /// The number of the last iteration of a generated grid, where none is given.
 pub const DEFAULT_LAST_ITERATION: u32 = 1;
+
+/// Among how many partitions the network is divided, where nothing else is given.
+pub const DEFAULT_PARTITIONS: u32 = 1;
+
+/// How many workers compute the partitions, where nothing else is given.
+pub const DEFAULT_WORKERS: u32 = 1;

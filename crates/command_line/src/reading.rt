@@ -1,22 +1,24 @@
-ghost use Rattle.std.specs.Prelude.{◌≡◌, ◌≢◌, ◌∷◌, IfOk, List, map, string_bytes};
-ghost use Rattle.clap.specs.Words.{Row, kind_of};
-ghost use Rattle.command_line.specs.Commands.{command_with, IsInRange};
+ghost use Rattle.std.specs.Prelude.{◌≡◌, ◌≢◌, ◌∷◌, IfOk, map, string_bytes};
+ghost use Rattle.clap.specs.Words.{kind_of};
 ghost use Rattle.command_line.specs.Cases.{asks_for_help, asked_case, case_of, kind_case, simple_case, AsksInRange};
 
 use crate::commands::{
-    Command, CommandName, command_named, generate_command, route_command, simple_command,
+    Command, CommandName, check_command, command_named, generate_command, resume_command,
+    route_command, run_command,
 };
-use crate::given::{grid_asked, route_asked};
+use crate::given::{grid_asked, route_asked, spread_asked};
 use crate::usage::{no_command, not_a_command, usage};
+use crate::{DEFAULT_PARTITIONS, DEFAULT_WORKERS};
 use clap::Error;
 use clap::error::ErrorKind;
+use spread::Spread;
 use std::alloc::{AllocError, Global};
 
 /// What words ask for, with the text for the user where no command is to work.
 #[derive(Drop)]
 pub enum Asked {
-    /// The work of a command.
-    Work(Command),
+    /// The work of a command, and how its days are to be computed.
+    Work(Command, Spread),
     /// To be told how the program, or a command, is used.
     Help(String),
     /// Nothing that the program has: the text says what is wrong.
@@ -44,21 +46,55 @@ fn told(alloc: Global, error: &Error) -> Result<Asked, AllocError>
     }
 }
 
-/// What the words of a command without positions ask for.
-fn read_plain(
-    alloc: Global,
-    name: CommandName,
-    command: Command,
-    words: &[&str],
-) -> Result<Asked, AllocError>
-    requires always { (rows : List Row) → command_with name rows ≡ command }
-    requires in_range { IsInRange command }
-    ensures case { IfOk result (λ asked. asked_case asked ≡ simple_case name (map (λ s. s.now) words.now)) }
+/// The spread of a command that simulates no day.
+fn undivided() -> Spread
+    ensures partitions { result.partitions ≡ DEFAULT_PARTITIONS }
+    ensures workers { result.workers ≡ DEFAULT_WORKERS }
+{
+    Spread {
+        partitions: DEFAULT_PARTITIONS,
+        workers: DEFAULT_WORKERS,
+    }
+}
+
+/// What the words of `check` ask for.
+fn read_check(alloc: Global, words: &[&str]) -> Result<Asked, AllocError>
+    ensures case { IfOk result (λ asked. asked_case asked ≡ simple_case CommandName.Check (map (λ s. s.now) words.now)) }
     ensures in_range { IfOk result AsksInRange }
 {
-    let parser = simple_command(alloc, name)?;
+    let parser = check_command(alloc);
     match parser.try_get_matches_from(words) {
-        Ok(_) => Ok(Asked::Work(command)),
+        Ok(_) => Ok(Asked::Work(Command::Check, undivided())),
+        Err(error) => told(alloc, &error),
+    }
+}
+
+/// What the words of `run` ask for.
+fn read_run(alloc: Global, words: &[&str]) -> Result<Asked, AllocError>
+    ensures case { IfOk result (λ asked. asked_case asked ≡ simple_case CommandName.Run (map (λ s. s.now) words.now)) }
+    ensures in_range { IfOk result AsksInRange }
+{
+    let parser = run_command(alloc)?;
+    match parser.try_get_matches_from(words) {
+        Ok(matches) => {
+            let spread = spread_asked(&matches);
+            Ok(Asked::Work(Command::Run, spread))
+        }
+        Err(error) => told(alloc, &error),
+    }
+}
+
+/// What the words of `resume` ask for.
+fn read_resume(alloc: Global, words: &[&str]) -> Result<Asked, AllocError>
+    ensures case { IfOk result (λ asked. asked_case asked ≡ simple_case CommandName.Resume (map (λ s. s.now) words.now)) }
+    ensures in_range { IfOk result AsksInRange }
+{
+    let parser = resume_command(alloc)?;
+    match parser.try_get_matches_from(words) {
+        Ok(matches) => {
+            let spread = spread_asked(&matches);
+            Ok(Asked::Work(Command::Resume, spread))
+        }
         Err(error) => told(alloc, &error),
     }
 }
@@ -72,7 +108,7 @@ fn read_route(alloc: Global, words: &[&str]) -> Result<Asked, AllocError>
     match parser.try_get_matches_from(words) {
         Ok(matches) => {
             let command = route_asked(alloc, &matches)?;
-            Ok(Asked::Work(command))
+            Ok(Asked::Work(command, undivided()))
         }
         Err(error) => told(alloc, &error),
     }
@@ -87,7 +123,8 @@ fn read_generate(alloc: Global, words: &[&str]) -> Result<Asked, AllocError>
     match parser.try_get_matches_from(words) {
         Ok(matches) => {
             let command = grid_asked(&matches);
-            Ok(Asked::Work(command))
+            let spread = spread_asked(&matches);
+            Ok(Asked::Work(command, spread))
         }
         Err(error) => told(alloc, &error),
     }
@@ -99,9 +136,9 @@ fn read_simple(alloc: Global, name: CommandName, words: &[&str]) -> Result<Asked
     ensures in_range { IfOk result AsksInRange }
 {
     match name {
-        CommandName::Run => read_plain(alloc, name, Command::Run, words),
-        CommandName::Resume => read_plain(alloc, name, Command::Resume, words),
-        CommandName::Check => read_plain(alloc, name, Command::Check, words),
+        CommandName::Run => read_run(alloc, words),
+        CommandName::Resume => read_resume(alloc, words),
+        CommandName::Check => read_check(alloc, words),
         CommandName::Route => read_route(alloc, words),
         CommandName::Generate => read_generate(alloc, words),
     }

@@ -18,8 +18,14 @@ fn help_is_told(rt: HostRuntime) -> Result<(), Fail> {
     let told = [
         (["qsim", "-h"].as_slice(), "qsim run "),
         (["qsim", "--help", "x"].as_slice(), "qsim check "),
-        (["qsim", "run", "-h"].as_slice(), "Usage: qsim run\n"),
-        (["qsim", "run", "--help"].as_slice(), "Usage: qsim run\n"),
+        (
+            ["qsim", "run", "-h"].as_slice(),
+            "Usage: qsim run [--partitions N] [--workers N]\n",
+        ),
+        (
+            ["qsim", "run", "--help"].as_slice(),
+            "Usage: qsim run [--partitions N] [--workers N]\n",
+        ),
         (
             ["qsim", "check", "--help"].as_slice(),
             "Usage: qsim check\n",
@@ -37,7 +43,7 @@ fn help_is_told(rt: HostRuntime) -> Result<(), Fail> {
         (["qsim", "route", "-h"].as_slice(), "'qsim route -- -a b 0'"),
         (
             ["qsim", "generate", "-h"].as_slice(),
-            "Usage: qsim generate SIZE SEED [--last-iteration N]\n",
+            "Usage: qsim generate SIZE SEED [--last-iteration N] [--partitions N] [--workers N]\n",
         ),
     ];
     for (texts, part) in told {
@@ -65,13 +71,22 @@ fn other_words_are_refused(rt: HostRuntime) -> Result<(), Fail> {
         ([].as_slice(), "qsim run "),
         (["qsim"].as_slice(), "qsim check "),
         (["qsim", "fly"].as_slice(), "error: 'fly' is no command\n"),
-        (["qsim", "run", "x"].as_slice(), "Usage: qsim run\n"),
-        (["qsim", "run", ""].as_slice(), "Usage: qsim run\n"),
-        (["qsim", "run", "--workers", "65"].as_slice(), "'--workers'"),
+        (
+            ["qsim", "run", "x"].as_slice(),
+            "Usage: qsim run [--partitions N] [--workers N]\n",
+        ),
+        (
+            ["qsim", "run", ""].as_slice(),
+            "Usage: qsim run [--partitions N] [--workers N]\n",
+        ),
+        (["qsim", "run", "--threads", "2"].as_slice(), "'--threads'"),
         (["qsim", "run", "--version"].as_slice(), "'--version'"),
         (["qsim", "run", "-V"].as_slice(), "'-V'"),
         (["qsim", "check", "run"].as_slice(), "Usage: qsim check\n"),
-        (["qsim", "resume", "4"].as_slice(), "Usage: qsim resume\n"),
+        (
+            ["qsim", "resume", "4"].as_slice(),
+            "Usage: qsim resume [--partitions N] [--workers N]\n",
+        ),
         (["qsim", "route", "a", "b"].as_slice(), "SECOND"),
         (["qsim", "route", "a", "b", "172801"].as_slice(), "172801"),
         (["qsim", "route", "-a", "b", "0"].as_slice(), "'-a'"),
@@ -114,8 +129,8 @@ fn other_grids_are_refused(rt: HostRuntime) -> Result<(), Fail> {
             "'--last-iteration",
         ),
         (
-            ["qsim", "generate", "4", "7", "--workers", "2"].as_slice(),
-            "'--workers'",
+            ["qsim", "generate", "4", "7", "--persons", "2"].as_slice(),
+            "'--persons'",
         ),
     ];
     for (texts, part) in refused {
@@ -154,12 +169,99 @@ fn grids_are_asked_for(rt: HostRuntime) -> Result<(), Fail> {
                 seed,
                 last_iteration,
             },
+            _,
         ) = asked(alloc, texts)?
         else {
             panic!(rt; "no grid: {texts:?}")
         };
         assert!(rt;
             size == wanted_size && seed == wanted_seed && last_iteration == wanted_last,
+            "{texts:?}"
+        );
+    }
+    Ok(())
+}
+
+/// Of partitions and of workers what is not 1 to 64 is refused, and so are two numbers, none, and the options where no day is simulated.
+#[test]
+fn other_spreads_are_refused(rt: HostRuntime) -> Result<(), Fail> {
+    let alloc = rt.alloc();
+    let refused = [
+        (["qsim", "run", "--partitions", "0"].as_slice(), "'0'"),
+        (["qsim", "run", "--workers", "0"].as_slice(), "'0'"),
+        (["qsim", "run", "--partitions", "65"].as_slice(), "'65'"),
+        (["qsim", "resume", "--workers", "65"].as_slice(), "'65'"),
+        (["qsim", "resume", "--partitions", "x"].as_slice(), "'x'"),
+        (["qsim", "run", "--workers", "x"].as_slice(), "'x'"),
+        (["qsim", "run", "--partitions"].as_slice(), "'--partitions"),
+        (
+            ["qsim", "generate", "4", "7", "--workers"].as_slice(),
+            "'--workers",
+        ),
+        (
+            ["qsim", "run", "--partitions", "2", "--partitions", "2"].as_slice(),
+            "'--partitions",
+        ),
+        (
+            ["qsim", "resume", "--workers=2", "--workers=3"].as_slice(),
+            "'--workers",
+        ),
+        (
+            ["qsim", "generate", "4", "7", "--partitions=-1"].as_slice(),
+            "'-1'",
+        ),
+        (
+            ["qsim", "check", "--partitions", "2"].as_slice(),
+            "'--partitions'",
+        ),
+        (
+            ["qsim", "route", "a", "b", "0", "--workers", "2"].as_slice(),
+            "'--workers'",
+        ),
+    ];
+    for (texts, part) in refused {
+        let is = is_refused(alloc, texts, part)?;
+        assert!(rt; is, "{texts:?}");
+    }
+    Ok(())
+}
+
+/// Days are computed in as many partitions and by as many workers as are asked for, and in one by one where nothing is said.
+#[test]
+fn spreads_are_asked_for(rt: HostRuntime) -> Result<(), Fail> {
+    let alloc = rt.alloc();
+    let spreads = [
+        (["qsim", "run"].as_slice(), (1, 1)),
+        (["qsim", "run", "--partitions", "1"].as_slice(), (1, 1)),
+        (
+            ["qsim", "resume", "--partitions=64", "--workers=1"].as_slice(),
+            (64, 1),
+        ),
+        (["qsim", "resume", "--workers", "64"].as_slice(), (1, 64)),
+        (["qsim", "check"].as_slice(), (1, 1)),
+        (["qsim", "route", "a", "b", "0"].as_slice(), (1, 1)),
+        (
+            [
+                "qsim",
+                "generate",
+                "--workers",
+                "4",
+                "4",
+                "7",
+                "--partitions",
+                "16",
+            ]
+            .as_slice(),
+            (16, 4),
+        ),
+        (["qsim", "generate", "4", "7"].as_slice(), (1, 1)),
+    ];
+    for (texts, (partitions, workers)) in spreads {
+        let Asked::Work(_command, spread) = asked(alloc, texts)? else {
+            panic!(rt; "no work: {texts:?}")
+        };
+        assert!(rt;
+            spread.partitions == partitions && spread.workers == workers,
             "{texts:?}"
         );
     }

@@ -4,7 +4,7 @@ use Rattle.scoring.specs.Tables.{scoring_rows}
 use Rattle.town.specs.Views.{rows_of}
 use Rattle.iterations.specs.Runs.{RunRows}
 
-abbrev pub run_rows : RunInput → RunRows
+abbrev pub run_rows : {G : Type 0} → RunInput G → RunRows
 run_rows run = record {
   town = rows_of run.town.now;
   scoring = scoring_rows run.tables.now;

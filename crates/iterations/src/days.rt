@@ -18,15 +18,17 @@ ghost use Rattle.iterations.specs.Runs.{CanRun};
 ghost use Rattle.iterations.specs.Scored.{IsWritable};
 ghost use Rattle.iterations.specs.Views.{run_rows};
 
-use crate::run::RunInput;
+use crate::run::{Execution, RunInput};
 use day_scores::{first_kinds, scores_of};
+use edge_files::Gate;
 use events::Event;
-use part_day::part_day;
+use parted_day::day_in_parts;
 use plan_memory::Memory;
 use replanning::{Replanning, replan};
 use router::{Adjacency, copied_legs};
 use rows::{Legs, Plan};
 use std::alloc::{AllocError, Global};
+use std::sync::Wait;
 use std::thread::Threads;
 use town::{DayInput, Town};
 use travel_times::LinkTimes;
@@ -72,11 +74,13 @@ pub fn chosen_numbers(alloc: Global, memories: &[Memory]) -> Result<Vec<u32>, Al
 }
 
 /// The events of a day of a town on which each person follows one of these plans.
-fn events_on(
+fn events_on<R: Threads + Wait + Sync, G: Gate>(
+    rt: &R,
     alloc: Global,
     town: &Town,
     chosen: &[Plan],
     iteration: u32,
+    execution: Execution<G>,
 ) -> Result<Vec<Event>, AllocError>
     requires each { length town.now.book.persons ≡ length chosen.now }
     requires fit { list_all (fits (rows_of town.now)) (map plan_rows chosen.now) ≡ true }
@@ -89,15 +93,16 @@ fn events_on(
         chosen,
         iteration,
     };
-    let events = part_day(alloc, &input)?;
+    let events = day_in_parts(rt, alloc, &input, execution.spread, execution.gate)?;
     Ok(events)
 }
 
 /// The day of an iteration on which the persons follow the plans that they have chosen, and what it is worth to each.
 #[tactic(auto, unfolding(crate::specs::Days::events_of, crate::specs::Days::scores_in))]
-pub fn simulate(
+pub fn simulate<R: Threads + Wait + Sync, G: Gate>(
+    rt: &R,
     alloc: Global,
-    run: &RunInput,
+    run: &RunInput<G>,
     iteration: u32,
     memories: &[Memory],
 ) -> Result<ScoredDay, AllocError>
@@ -108,7 +113,7 @@ pub fn simulate(
 {
     let chosen = followed_plans(alloc, memories)?;
     let kinds = first_kinds(alloc, &chosen)?;
-    let events = events_on(alloc, run.town, &chosen, iteration)?;
+    let events = events_on(rt, alloc, run.town, &chosen, iteration, run.execution)?;
     let scores = scores_of(alloc, run.tables, &kinds, &events)?;
     Ok(ScoredDay { events, scores })
 }
@@ -151,10 +156,10 @@ pub fn scored(
 
 /// What persons make of their memories before an iteration, by the travel times that the events of the day before show. The events are
 /// let go as soon as the times are made of them.
-pub fn replanned<R: Threads + Sync>(
+pub fn replanned<R: Threads + Sync, G>(
     rt: &R,
     alloc: Global,
-    run: &RunInput,
+    run: &RunInput<G>,
     adjacency: &Adjacency,
     iteration: u32,
     events: Vec<Event>,

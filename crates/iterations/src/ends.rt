@@ -258,9 +258,9 @@ fn write_done<O: Outputs, K: Keeper>(
 
 /// Writes the end of a run that ends with these memories.
 #[tactic(auto, unfolding(crate::specs::Acts::end_effects))]
-pub fn write_end<O: Outputs, K: Keeper>(
+pub fn write_end<O: Outputs, K: Keeper, G>(
     alloc: Global,
-    run: &RunInput,
+    run: &RunInput<G>,
     memories: &[Memory],
     outputs: &mut O,
     keeper: &mut K,

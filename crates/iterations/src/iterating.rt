@@ -18,11 +18,12 @@ use crate::ends::write_end;
 use crate::performing::{write_day, write_line};
 use crate::run::RunInput;
 use crate::saving::save;
-use edge_files::{EffectError, Keeper, OutFile, Outputs};
+use edge_files::{EffectError, Gate, Keeper, OutFile, Outputs};
 use events::Event;
 use plan_memory::Memory;
 use router::Adjacency;
 use std::alloc::{AllocError, Global};
+use std::sync::Wait;
 use std::thread::Threads;
 
 /// What is left of an iteration that is over: the events of its day, and the memories with its scores.
@@ -33,9 +34,9 @@ struct Iterated {
 }
 
 /// Keeps what is remembered after an iteration, and writes its line of the report.
-fn save_and_report<O: Outputs, K: Keeper>(
+fn save_and_report<O: Outputs, K: Keeper, G>(
     alloc: Global,
-    run: &RunInput,
+    run: &RunInput<G>,
     iteration: u32,
     day: &ScoredDay,
     memories: &[Memory],
@@ -59,9 +60,10 @@ fn save_and_report<O: Outputs, K: Keeper>(
 
 /// Simulates the day of an iteration and writes it, and keeps what is remembered of it.
 #[tactic(auto, unfolding(crate::specs::Days::memories_after))]
-fn do_iteration<O: Outputs, K: Keeper>(
+fn do_iteration<R: Threads + Wait + Sync, O: Outputs, K: Keeper, G: Gate>(
+    rt: &R,
     alloc: Global,
-    run: &RunInput,
+    run: &RunInput<G>,
     iteration: u32,
     memories: Vec<Memory>,
     outputs: &mut O,
@@ -79,7 +81,7 @@ fn do_iteration<O: Outputs, K: Keeper>(
     ensures can { IfOk result (λ one. CanRun (run_rows run.now) one.memories.items) }
     ensures keeper { run.now.keeps ≡ false → keeper.new ≡ keeper.old }
 {
-    let Ok(day) = simulate(alloc, run, iteration, &memories) else {
+    let Ok(day) = simulate(rt, alloc, run, iteration, &memories) else {
         return Err(EffectError::NoMemory);
     };
     let Ok(chosen) = chosen_numbers(alloc, &memories) else {
@@ -103,9 +105,10 @@ fn do_iteration<O: Outputs, K: Keeper>(
 }
 
 /// Does the last iteration, and the end.
-fn finish<O: Outputs, K: Keeper>(
+fn finish<R: Threads + Wait + Sync, O: Outputs, K: Keeper, G: Gate>(
+    rt: &R,
     alloc: Global,
-    run: &RunInput,
+    run: &RunInput<G>,
     memories: Vec<Memory>,
     outputs: &mut O,
     keeper: &mut K,
@@ -118,7 +121,15 @@ fn finish<O: Outputs, K: Keeper>(
         ++ all_steps (end_effects (run_rows run.now) (memories_after (run_rows run.now) run.now.last_iteration memories.items))) result }
     ensures keeper { run.now.keeps ≡ false → keeper.new ≡ keeper.old }
 {
-    match do_iteration(alloc, run, run.last_iteration, memories, outputs, keeper) {
+    match do_iteration(
+        rt,
+        alloc,
+        run,
+        run.last_iteration,
+        memories,
+        outputs,
+        keeper,
+    ) {
         Ok(one) => {
             let Iterated { events, memories } = one;
             drop(events);
@@ -129,10 +140,10 @@ fn finish<O: Outputs, K: Keeper>(
 }
 
 /// Does the iterations from one on that begins with these memories to the last one, and the end.
-fn iterate_from<R: Threads + Sync, O: Outputs, K: Keeper>(
+fn iterate_from<R: Threads + Wait + Sync, O: Outputs, K: Keeper, G: Gate>(
     rt: &R,
     alloc: Global,
-    run: &RunInput,
+    run: &RunInput<G>,
     first: u32,
     memories: Vec<Memory>,
     outputs: &mut O,
@@ -151,7 +162,7 @@ fn iterate_from<R: Threads + Sync, O: Outputs, K: Keeper>(
     };
     let mut memories = memories;
     for iteration in first..run.last_iteration {
-        let one = match do_iteration(alloc, run, iteration, memories, outputs, keeper) {
+        let one = match do_iteration(rt, alloc, run, iteration, memories, outputs, keeper) {
             Ok(one) => one,
             Err(error) => return Err(error),
         };
@@ -164,15 +175,15 @@ fn iterate_from<R: Threads + Sync, O: Outputs, K: Keeper>(
             Err(_) => return Err(EffectError::NoMemory),
         };
     }
-    finish(alloc, run, memories, outputs, keeper)
+    finish(rt, alloc, run, memories, outputs, keeper)
 }
 
 /// What persons make, before the next iteration, of what was kept after this one: the day of the plans that they have chosen is
 /// simulated once more for its travel times, and nothing of it is written.
-fn begun_after<R: Threads + Sync>(
+fn begun_after<R: Threads + Wait + Sync, G: Gate>(
     rt: &R,
     alloc: Global,
-    run: &RunInput,
+    run: &RunInput<G>,
     iteration: u32,
     memories: Vec<Memory>,
 ) -> Result<Vec<Memory>, AllocError>
@@ -181,7 +192,7 @@ fn begun_after<R: Threads + Sync>(
     ensures begun { IfOk result (λ new. new.items ≡ begun_after (run_rows run.now) iteration memories.items) }
     ensures can { IfOk result (λ new. CanRun (run_rows run.now) new.items) }
 {
-    let day = simulate(alloc, run, iteration, &memories)?;
+    let day = simulate(rt, alloc, run, iteration, &memories)?;
     let ScoredDay { events, scores: _ } = day;
     let adjacency = Adjacency::of(alloc, &run.town.network)?;
     let new = replanned(rt, alloc, run, &adjacency, iteration + 1, events, memories)?;
@@ -190,10 +201,10 @@ fn begun_after<R: Threads + Sync>(
 
 /// Goes on from what was kept after an iteration.
 #[tactic(auto, unfolding(crate::specs::Continued::continued))]
-fn go_on<R: Threads + Sync, O: Outputs, K: Keeper>(
+fn go_on<R: Threads + Wait + Sync, O: Outputs, K: Keeper, G: Gate>(
     rt: &R,
     alloc: Global,
-    run: &RunInput,
+    run: &RunInput<G>,
     kept: u32,
     memories: Vec<Memory>,
     outputs: &mut O,
@@ -218,7 +229,7 @@ fn go_on<R: Threads + Sync, O: Outputs, K: Keeper>(
 /// Does a run: its iterations from 0 to the last, each with its day, whose events and scores are written when it is over; then what
 /// the persons remember of it is kept, where the run keeps anything, and its line of the report is written. At the end the plans are
 /// written. Before each iteration but the first one persons replan, by what they have seen on the day before, spread over as many
-/// threads as there are processors.
+/// threads as there are processors. A day is computed as the run's `execution` says, the gate passed before each second of a partition.
 ///
 /// With `after` the run goes on from memories that were kept after this iteration: their day is simulated once more for its travel
 /// times, and the iterations behind it are done, and the end. Where the kept iteration is the last one or lies behind it, the end
@@ -229,10 +240,10 @@ fn go_on<R: Threads + Sync, O: Outputs, K: Keeper>(
 /// # Errors
 ///
 /// `WriteFailed`: a write failed. `KeepFailed`: the keeper failed. `NoMemory`: memory was wanting, also the keeper's.
-pub fn iterate<R: Threads + Sync, O: Outputs, K: Keeper>(
+pub fn iterate<R: Threads + Wait + Sync, O: Outputs, K: Keeper, G: Gate>(
     rt: &R,
     alloc: Global,
-    run: &RunInput,
+    run: &RunInput<G>,
     after: Option<u32>,
     memories: Vec<Memory>,
     outputs: &mut O,

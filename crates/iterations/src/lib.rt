@@ -19,4 +19,4 @@ pub use iterating::iterate;
 pub use laws::{
     memories_stay_in_their_town, runs_go_on_from_what_is_kept, runs_resume_where_they_were_stopped,
 };
-pub use run::RunInput;
+pub use run::{Execution, RunInput};

@@ -15,9 +15,9 @@ use std::alloc::Global;
 
 /// Keeps what is remembered after an iteration, where the run keeps anything.
 #[tactic(auto, unfolding(crate::specs::Acts::saves))]
-pub fn save<O: Outputs, K: Keeper>(
+pub fn save<O: Outputs, K: Keeper, G>(
     alloc: Global,
-    run: &RunInput,
+    run: &RunInput<G>,
     iteration: u32,
     memories: &[Memory],
     outputs: &mut O,

@@ -84,15 +84,16 @@ AnswersWork c left came old new =
     (texts : Texts) (kept : Option Kept) (a : Answer) → HasFiles c left texts
     → (scenario_fault texts ≡ None → HasKept c old.kept kept) → IsAnswerTo c texts kept a → Answers a came old new
 
--- Help and refused words are told some text of the program's own, whatever the files hold; and only refused words have the usage told.
+-- Help and refused words are told some text of the program's own, whatever the files hold; and only refused words have the usage told. In how
+-- many partitions, and by how many workers, days are computed plays no part.
 abbrev pub AnswersCase : Case → Left → Status → World → World → Type 0
-AnswersCase (Work c) left came old new = AnswersWork c left came old new × (is_of_work c came ≡ true)
+AnswersCase (Work c partitions workers) left came old new = AnswersWork c left came old new × (is_of_work c came ≡ true)
 AnswersCase Help left came old new = (text : List ℕ) × Answers (report status.Done text) came old new
 AnswersCase Refused left came old new = (text : List ℕ) × Answers (report status.Usage text) came old new
 
 -- the words ask for work that calls the keeper
 abbrev pub may_keep : Case → Bool
-may_keep (Work c) = uses_keeper c
+may_keep (Work c partitions workers) = uses_keeper c
 may_keep Help = false
 may_keep Refused = false
 

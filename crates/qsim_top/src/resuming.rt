@@ -11,12 +11,14 @@ ghost use Rattle.qsim_top.specs.Came.{IsWorked};
 use crate::answers::Status;
 use crate::outcomes::carry_out;
 use crate::reporting::{foreign, nothing_kept};
-use crate::running::go_on;
+use crate::running::{Remembered, go_on};
 use command_line::Command;
-use edge_files::{KeepFail, Keeper, KeptRow, Outputs};
+use edge_files::{Gate, KeepFail, Keeper, KeptRow, Outputs};
+use iterations::Execution;
 use keep::{KeptError, memories_of};
 use scenario::Scenario;
 use std::alloc::Global;
+use std::sync::Wait;
 use std::thread::Threads;
 
 /// What a keeper holds: an iteration, and the rows that were kept after it.
@@ -59,9 +61,10 @@ fn load<K: Keeper>(alloc: Global, keeper: &mut K) -> Result<Option<Held>, KeepFa
 }
 
 /// Goes on from what a keeper held, or tells the first row that is foreign to the scenario.
-fn resume_from<R: Threads + Sync, O: Outputs, K: Keeper>(
+fn resume_from<R: Threads + Wait + Sync, O: Outputs, K: Keeper, G: Gate>(
     rt: &R,
     alloc: Global,
+    execution: Execution<G>,
     scenario: Scenario,
     held: Held,
     outputs: &mut O,
@@ -75,7 +78,11 @@ fn resume_from<R: Threads + Sync, O: Outputs, K: Keeper>(
     match memories_of(alloc, &rows, &scenario.town) {
         Ok(memories) => {
             drop(rows);
-            go_on(rt, alloc, scenario, iteration, memories, outputs, keeper)
+            let remembered = Remembered {
+                iteration,
+                memories,
+            };
+            go_on(rt, alloc, execution, scenario, remembered, outputs, keeper)
         }
         Err(KeptError::Foreign { row }) => {
             drop(rows);
@@ -91,9 +98,10 @@ fn resume_from<R: Threads + Sync, O: Outputs, K: Keeper>(
 }
 
 /// Goes on with a scenario from what is kept, if anything is.
-pub fn resume<R: Threads + Sync, O: Outputs, K: Keeper>(
+pub fn resume<R: Threads + Wait + Sync, O: Outputs, K: Keeper, G: Gate>(
     rt: &R,
     alloc: Global,
+    execution: Execution<G>,
     scenario: Scenario,
     outputs: &mut O,
     keeper: &mut K,
@@ -103,7 +111,7 @@ pub fn resume<R: Threads + Sync, O: Outputs, K: Keeper>(
         (moment (O.written outputs.new) (K.kept keeper.new) (O.faults outputs.new) (K.faults keeper.new)) }
 {
     match load(alloc, keeper) {
-        Ok(Some(held)) => resume_from(rt, alloc, scenario, held, outputs, keeper),
+        Ok(Some(held)) => resume_from(rt, alloc, execution, scenario, held, outputs, keeper),
         Ok(None) => {
             drop(scenario);
             carry_out(nothing_kept(alloc), outputs, keeper)

@@ -15,17 +15,26 @@ ghost use Rattle.qsim_top.specs.Texts.{grid_line};
 
 use crate::answers::Status;
 use crate::outcomes::status_after;
-use edge_files::{Bytes, Effect, EffectError, Keeper, OutFile, Outputs, perform};
-use iterations::{RunInput, iterate};
+use edge_files::{Bytes, Effect, EffectError, Gate, Keeper, OutFile, Outputs, perform};
+use iterations::{Execution, RunInput, iterate};
 use plan_memory::MemoryList;
 use scenario::Scenario;
 use std::alloc::{AllocError, Global};
+use std::sync::Wait;
 use std::thread::Threads;
 
+/// What persons remembered after an iteration.
+#[derive(Drop)]
+pub struct Remembered {
+    pub iteration: u32,
+    pub memories: MemoryList,
+}
+
 /// Does all iterations of a scenario, and its end.
-fn iterate_all<R: Threads + Sync, O: Outputs, K: Keeper>(
+fn iterate_all<R: Threads + Wait + Sync, O: Outputs, K: Keeper, G: Gate>(
     rt: &R,
     alloc: Global,
+    execution: Execution<G>,
     scenario: Scenario,
     keeps: bool,
     outputs: &mut O,
@@ -50,6 +59,7 @@ fn iterate_all<R: Threads + Sync, O: Outputs, K: Keeper>(
         learning,
         last_iteration,
         keeps,
+        execution,
     };
     let outcome = iterate(rt, alloc, &run, None, memories.rows, outputs, keeper);
     drop(town);
@@ -58,9 +68,10 @@ fn iterate_all<R: Threads + Sync, O: Outputs, K: Keeper>(
 }
 
 /// Runs a scenario: all its iterations, each of which is kept.
-pub fn run<R: Threads + Sync, O: Outputs, K: Keeper>(
+pub fn run<R: Threads + Wait + Sync, O: Outputs, K: Keeper, G: Gate>(
     rt: &R,
     alloc: Global,
+    execution: Execution<G>,
     scenario: Scenario,
     outputs: &mut O,
     keeper: &mut K,
@@ -69,23 +80,22 @@ pub fn run<R: Threads + Sync, O: Outputs, K: Keeper>(
         (moment (O.written outputs.old) (K.kept keeper.old) (O.faults outputs.old) (K.faults keeper.old))
         (moment (O.written outputs.new) (K.kept keeper.new) (O.faults outputs.new) (K.faults keeper.new)) }
 {
-    let outcome = iterate_all(rt, alloc, scenario, true, outputs, keeper);
+    let outcome = iterate_all(rt, alloc, execution, scenario, true, outputs, keeper);
     status_after(Status::Done, outcome)
 }
 
-/// Goes on with a scenario from memories that were kept after an iteration: does the iterations behind it, each of which is kept, and the
-/// end.
-pub fn go_on<R: Threads + Sync, O: Outputs, K: Keeper>(
+/// Goes on with a scenario from what was remembered after an iteration: does the iterations behind it, each of which is kept, and the end.
+pub fn go_on<R: Threads + Wait + Sync, O: Outputs, K: Keeper, G: Gate>(
     rt: &R,
     alloc: Global,
+    execution: Execution<G>,
     scenario: Scenario,
-    kept: u32,
-    memories: MemoryList,
+    remembered: Remembered,
     outputs: &mut O,
     keeper: &mut K,
 ) -> Status
-    requires fit { AreMemories (rows_of scenario.town) memories }
-    ensures { IsCarriedOut true (resumed_answer (scenario_view scenario) kept memories) result
+    requires fit { AreMemories (rows_of scenario.town) remembered.memories }
+    ensures { IsCarriedOut true (resumed_answer (scenario_view scenario) remembered.iteration remembered.memories) result
         (moment (O.written outputs.old) (K.kept keeper.old) (O.faults outputs.old) (K.faults keeper.old))
         (moment (O.written outputs.new) (K.kept keeper.new) (O.faults outputs.new) (K.faults keeper.new)) }
 {
@@ -97,14 +107,27 @@ pub fn go_on<R: Threads + Sync, O: Outputs, K: Keeper>(
         last_iteration,
     } = scenario;
     drop(first);
+    let Remembered {
+        iteration,
+        memories,
+    } = remembered;
     let run = RunInput {
         town: &town,
         tables: &tables,
         learning,
         last_iteration,
         keeps: true,
+        execution,
     };
-    let outcome = iterate(rt, alloc, &run, Some(kept), memories.rows, outputs, keeper);
+    let outcome = iterate(
+        rt,
+        alloc,
+        &run,
+        Some(iteration),
+        memories.rows,
+        outputs,
+        keeper,
+    );
     drop(town);
     drop(tables);
     status_after(Status::Done, outcome)
@@ -133,9 +156,10 @@ fn write_line<O: Outputs, K: Keeper>(
 }
 
 /// Tells a grid of this size and seed and runs its scenario. Nothing is kept.
-pub fn run_grid<R: Threads + Sync, O: Outputs, K: Keeper>(
+pub fn run_grid<R: Threads + Wait + Sync, O: Outputs, K: Keeper, G: Gate>(
     rt: &R,
     alloc: Global,
+    execution: Execution<G>,
     line: Result<Vec<u8>, AllocError>,
     scenario: Scenario,
     outputs: &mut O,
@@ -149,7 +173,7 @@ pub fn run_grid<R: Threads + Sync, O: Outputs, K: Keeper>(
 {
     match write_line(line, outputs, keeper) {
         Ok(()) => {
-            let outcome = iterate_all(rt, alloc, scenario, false, outputs, keeper);
+            let outcome = iterate_all(rt, alloc, execution, scenario, false, outputs, keeper);
             status_after(Status::Done, outcome)
         }
         Err(error) => {

@@ -1,12 +1,15 @@
 ghost use Rattle.std.specs.Prelude.{◌≡◌, ◌≤◌, map, ℕ, Bool, false, true, None, string_bytes};
 ghost use Rattle.command_line.specs.Cases.{case_of, Work};
+ghost use Rattle.command_line.specs.declared.commands.Command.{Command};
 ghost use Rattle.command_line.specs.Commands.{IsInRange};
 ghost use Rattle.edge_files.specs.Causes.{Rose};
+ghost use Rattle.edge_files.specs.Inputs.{Left};
 ghost use Rattle.edge_files.specs.Keeping.{StaysTold};
-ghost use Rattle.edge_files.specs.World.{outside};
+ghost use Rattle.edge_files.specs.World.{World, outside};
 ghost use Rattle.iterations.specs.Performed.{moment};
 ghost use Rattle.scenario.specs.Texts.{Texts};
 ghost use Rattle.scenario.specs.FilesToScenario.{ScenarioRows, scenario_fault, scenario_rows};
+ghost use Rattle.qsim_top.specs.declared.answers.Status.{Status};
 ghost use Rattle.qsim_top.specs.Answer.{report, reports_alone, is_of_words, OnlyReports};
 ghost use Rattle.qsim_top.specs.Came.{uses_keeper, may_keep, AnswersCase, IsCarriedOut};
 ghost use Rattle.qsim_top.specs.Laws.{day_of, IsLawful, FollowsPlans, KeepsConflicts, ReportsRoutes, ResumesRuns};
@@ -20,6 +23,7 @@ use crate::reporting::{refused, report};
 use crate::working::work;
 use command_line::{Asked, Command, read_words};
 use edge_files::{Gate, Inputs, Keeper, Outputs};
+use iterations::Execution;
 use scenario::{ScenarioFault, Stop};
 use std::alloc::{AllocError, Global};
 use std::sync::Wait;
@@ -41,16 +45,17 @@ fn refuse<O: Outputs, K: Keeper>(
 }
 
 /// Does the work of a command: all its files are there before any of them is checked.
-fn do_work<R: Threads + Sync, I: Inputs, O: Outputs, K: Keeper>(
+fn do_work<R: Threads + Wait + Sync, I: Inputs, O: Outputs, K: Keeper, G: Gate>(
     rt: &R,
     alloc: Global,
     command: Command,
+    execution: Execution<G>,
     inputs: &mut I,
     outputs: &mut O,
     keeper: &mut K,
 ) -> Status
     requires in_range { IsInRange command }
-    ensures acts { AnswersCase (Work command) (I.left inputs.old) result
+    ensures acts { AnswersCase (Work command execution.entry.spread.partitions execution.entry.spread.workers) (I.left inputs.old) result
         (outside (O.written outputs.old) (K.kept keeper.old))
         (outside (O.written outputs.new) (K.kept keeper.new)) }
     ensures read { result ≡ Status.ReadFault → Rose (I.faults inputs.old) (I.faults inputs.new) }
@@ -66,7 +71,7 @@ fn do_work<R: Threads + Sync, I: Inputs, O: Outputs, K: Keeper>(
     ensures unread { result ≡ Status.ReadFault → outputs.new ≡ outputs.old }
 {
     match scenario_for(rt, alloc, &command, inputs) {
-        Ok(scenario) => work(rt, alloc, command, scenario, outputs, keeper),
+        Ok(scenario) => work(rt, alloc, command, execution, scenario, outputs, keeper),
         Err(NoScenario::Stopped(Stop::Fault(fault))) => refuse(alloc, fault, outputs, keeper),
         Err(NoScenario::Stopped(Stop::NoMemory)) => Status::NoMemory,
         Err(NoScenario::ReadFailed) => Status::ReadFault,
@@ -95,11 +100,12 @@ fn tell<O: Outputs, K: Keeper>(
 /// Does what the words ask for: `qsim run` simulates the days of a scenario, tells what each is worth to each person, keeps what they
 /// remember after it, and writes the plans at the end; `qsim resume` goes on from what is kept; `qsim check` reads the scenario and reports
 /// its counts or its first fault; `qsim route` reads it and reports the route of least arrival between two nodes; `qsim generate` makes a
-/// grid and runs it, and reads and keeps nothing.
+/// grid and runs it, and reads and keeps nothing. The days of a run are computed in as many partitions of the network, and by as many
+/// workers, as the words say.
 ///
 /// The words are read first, then all files, then what is kept, and then all that the answer holds is done outside, what is written and
 /// kept of an iteration as soon as it is over. Routes are searched, and persons replan, by as many threads as there are processors,
-/// each of which is joined. The gate is not called.
+/// each of which is joined; so are those of the workers. The gate is passed before each second of a partition of each day.
 pub fn qsim<R: Threads + Wait + Sync, I: Inputs, O: Outputs, K: Keeper, G: Gate>(
     rt: &R,
     alloc: Global,
@@ -107,7 +113,7 @@ pub fn qsim<R: Threads + Wait + Sync, I: Inputs, O: Outputs, K: Keeper, G: Gate>
     inputs: &mut I,
     outputs: &mut O,
     keeper: &mut K,
-    _gate: &G,
+    gate: &G,
 ) -> Status
     ensures acts { AnswersCase (case_of (map string_bytes words.now)) (I.left inputs.old) result
         (outside (O.written outputs.old) (K.kept keeper.old))
@@ -131,6 +137,10 @@ pub fn qsim<R: Threads + Wait + Sync, I: Inputs, O: Outputs, K: Keeper, G: Gate>
     ensures keeper { may_keep (case_of (map string_bytes words.now)) ≡ false → keeper.new ≡ keeper.old }
     ensures unkept { may_keep (case_of (map string_bytes words.now)) ≡ false → result ≡ Status.KeepFault → ⊥ }
 
+    // In how many partitions, and by how many workers, days are computed changes no answer.
+    ensures divided { (command : Command) (partitions workers others more : ℕ) (left : Left) (came : Status) (old new : World)
+        → AnswersCase (Work command partitions workers) left came old new → AnswersCase (Work command others more) left came old new }
+
     // Of the day of every iteration of every scenario, and of the days and the routes of files without a fault.
     ensures lawful { (keeps : Bool) (scenario : ScenarioRows) (k : ℕ) → IsLawful (day_of keeps scenario k) }
     ensures planned { (keeps : Bool) (texts : Texts) (k : ℕ) → scenario_fault texts ≡ None
@@ -144,7 +154,10 @@ pub fn qsim<R: Threads + Wait + Sync, I: Inputs, O: Outputs, K: Keeper, G: Gate>
 {
     know_days();
     match read_words(alloc, words) {
-        Ok(Asked::Work(command)) => do_work(rt, alloc, command, inputs, outputs, keeper),
+        Ok(Asked::Work(command, spread)) => {
+            let execution = Execution { spread, gate };
+            do_work(rt, alloc, command, execution, inputs, outputs, keeper)
+        }
         Ok(Asked::Help(text)) => tell(alloc, Status::Done, text, outputs, keeper),
         Ok(Asked::Refused(text)) => tell(alloc, Status::Usage, text, outputs, keeper),
         Err(AllocError) => Status::NoMemory,

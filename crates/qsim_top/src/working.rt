@@ -13,16 +13,19 @@ use crate::resuming::resume;
 use crate::running::{run, run_grid};
 use crate::texts::grid_line;
 use command_line::Command;
-use edge_files::{Keeper, Outputs};
+use edge_files::{Gate, Keeper, Outputs};
+use iterations::Execution;
 use scenario::Scenario;
 use std::alloc::Global;
+use std::sync::Wait;
 use std::thread::Threads;
 
 /// Does the work of a command on a valid scenario.
-pub fn work<R: Threads + Sync, O: Outputs, K: Keeper>(
+pub fn work<R: Threads + Wait + Sync, O: Outputs, K: Keeper, G: Gate>(
     rt: &R,
     alloc: Global,
     command: Command,
+    execution: Execution<G>,
     scenario: Scenario,
     outputs: &mut O,
     keeper: &mut K,
@@ -34,8 +37,8 @@ pub fn work<R: Threads + Sync, O: Outputs, K: Keeper>(
     ensures keeper { uses_keeper command ≡ false → keeper.new ≡ keeper.old }
 {
     match command {
-        Command::Run => run(rt, alloc, scenario, outputs, keeper),
-        Command::Resume => resume(rt, alloc, scenario, outputs, keeper),
+        Command::Run => run(rt, alloc, execution, scenario, outputs, keeper),
+        Command::Resume => resume(rt, alloc, execution, scenario, outputs, keeper),
         Command::Check => carry_out(check(alloc, scenario), outputs, keeper),
         Command::Route { from, to, second } => {
             let answer = route(alloc, scenario, from, to, second);
@@ -43,7 +46,7 @@ pub fn work<R: Threads + Sync, O: Outputs, K: Keeper>(
         }
         Command::Generate { size, seed, .. } => {
             let line = grid_line(alloc, size, seed);
-            run_grid(rt, alloc, line, scenario, outputs, keeper)
+            run_grid(rt, alloc, execution, line, scenario, outputs, keeper)
         }
     }
 }

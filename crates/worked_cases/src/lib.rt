@@ -2,7 +2,7 @@
 #![tactic(auto)]
 
 use edge_files::{
-    InFile, Inputs, Keeper, MemoryInputs, MemoryOutputs, NoKeeper, OpenGate, OutFile,
+    Gate, InFile, Inputs, Keeper, MemoryInputs, MemoryOutputs, NoKeeper, OpenGate, OutFile,
 };
 use qsim_top::{Status, qsim};
 use std::alloc::{AllocError, Global};
@@ -145,7 +145,21 @@ pub fn status_with<R: Threads + Wait + Sync, I: Inputs, K: Keeper>(
     qsim(rt, alloc, &words, inputs, outputs, keeper, &gate)
 }
 
-/// The same over a keeper that keeps nothing.
+/// The same through a gate, over a keeper that keeps nothing.
+pub fn status_through<R: Threads + Wait + Sync, I: Inputs, G: Gate>(
+    rt: &R,
+    alloc: Global,
+    texts: &[&str],
+    inputs: &mut I,
+    outputs: &mut MemoryOutputs,
+    gate: &G,
+) -> Status {
+    let words = words_of(alloc, texts);
+    let mut keeper = NoKeeper::new();
+    qsim(rt, alloc, &words, inputs, outputs, &mut keeper, gate)
+}
+
+/// The same over a keeper that keeps nothing, through a gate that is open.
 pub fn status_of<R: Threads + Wait + Sync, I: Inputs>(
     rt: &R,
     alloc: Global,

@@ -1,16 +1,21 @@
-//! Days as the reference computes them and as a run does: the same events, to the byte. How many these are is counted by hand: a drive over
-//! three nodes tells 14 of them, and one that ends before the second node 8.
+//! Days as the reference computes them and as a run does, in one partition and in several, by one worker and by several: the same events, to
+//! the byte. How many these are is counted by hand: a drive over three nodes tells 14 of them, and one that ends before the second node 8.
 
+ghost use Rattle.std.specs.Prelude.{◌≤◌};
 ghost use Rattle.events.specs.Lines.{AreInBook};
 ghost use Rattle.law_in_range.specs.Setups.{HaveFittingPlans};
+ghost use Rattle.limits.specs.declared.TheConstants.{MAX_PARTITIONS};
 
 use crate::towns::{chosen_plans, have_fitting_plans, let_go, scenario_of};
+use edge_files::OpenGate;
 use events::{Book, Event, lines};
-use part_day::part_day;
+use parted_day::day_in_parts;
 use plain_day::plain_day;
 use rows::Plan;
 use scenario::Scenario;
+use spread::Spread;
 use std::alloc::Global;
+use std::sync::Wait;
 use std::thread::Threads;
 use town::{DayInput, Town};
 use worked_cases::{BUS, Case, DRIVE, LINE, WALK};
@@ -85,43 +90,90 @@ fn lines_of(alloc: Global, events: &[Event], book: &Book) -> Vec<u8>
     text
 }
 
-/// Whether a day as the reference computes it has these lines.
-fn plain_has(alloc: Global, day: &DayInput, text: &[u8]) -> bool
+/// The lines of a day as the reference computes it; none where it does not tell so many events.
+fn plain_lines(alloc: Global, day: &DayInput, count: usize) -> Vec<u8>
     requires { HaveFittingPlans day.now }
 {
     match plain_day(alloc, day) {
-        Ok(events) => {
-            !text.is_empty() && lines_of(alloc, &events, &day.town.book).as_slice() == text
-        }
+        Ok(events) if events.len() == count => lines_of(alloc, &events, &day.town.book),
+        Ok(_) => Vec::new(alloc),
+        Err(_) => Vec::new(alloc),
+    }
+}
+
+/// Whether a day that is computed so has these lines.
+fn has_lines<R: Threads + Wait + Sync>(
+    rt: &R,
+    alloc: Global,
+    day: &DayInput,
+    spread: Spread,
+    text: &[u8],
+) -> bool
+    requires { HaveFittingPlans day.now }
+{
+    match day_in_parts(rt, alloc, day, spread, &OpenGate::new()) {
+        Ok(events) => lines_of(alloc, &events, &day.town.book).as_slice() == text,
         Err(_) => false,
     }
 }
 
-/// Whether both tell the same of a day, in so many events.
-fn are_alike(alloc: Global, day: &DayInput, count: usize) -> bool
+/// The same of a day in so many partitions, by one worker, by two and by four.
+fn have_lines<R: Threads + Wait + Sync>(
+    rt: &R,
+    alloc: Global,
+    day: &DayInput,
+    partitions: u32,
+    text: &[u8],
+) -> bool
+    requires given { HaveFittingPlans day.now }
+    requires divided { (1 ≤ partitions) × (partitions ≤ MAX_PARTITIONS) }
+{
+    let one = Spread {
+        partitions,
+        workers: 1,
+    };
+    let two = Spread {
+        partitions,
+        workers: 2,
+    };
+    let four = Spread {
+        partitions,
+        workers: 4,
+    };
+    has_lines(rt, alloc, day, one, text)
+        && has_lines(rt, alloc, day, two, text)
+        && has_lines(rt, alloc, day, four, text)
+}
+
+/// Whether both tell the same of a day, in so many events: in one partition, in four, and in more than there are nodes.
+fn are_alike<R: Threads + Wait + Sync>(rt: &R, alloc: Global, day: &DayInput, count: usize) -> bool
     requires { HaveFittingPlans day.now }
 {
-    match part_day(alloc, day) {
-        Ok(events) => {
-            events.len() == count
-                && plain_has(alloc, day, &lines_of(alloc, &events, &day.town.book))
-        }
-        Err(_) => false,
-    }
+    let text = plain_lines(alloc, day, count);
+    !text.is_empty()
+        && have_lines(rt, alloc, day, 1, &text)
+        && have_lines(rt, alloc, day, 4, &text)
+        && have_lines(rt, alloc, day, 16, &text)
 }
 
 /// The same of the day of a town.
-fn are_alike_in(alloc: Global, town: &Town, chosen: &[Plan], count: usize) -> bool {
+fn are_alike_in<R: Threads + Wait + Sync>(
+    rt: &R,
+    alloc: Global,
+    town: &Town,
+    chosen: &[Plan],
+    count: usize,
+) -> bool {
     let day = DayInput {
         town,
         chosen,
         iteration: 0,
     };
-    have_fitting_plans(&day) && are_alike(alloc, &day, count)
+    have_fitting_plans(&day) && are_alike(rt, alloc, &day, count)
 }
 
 /// The same of a case.
-fn is_told_alike<R: Threads + Sync>(rt: &R, alloc: Global, day: &Day) -> bool {
+fn is_told_alike<R: Threads + Wait + Sync>(rt: &R, alloc: Global, day: &Day) -> bool {
     let Some(scenario) = scenario_of(rt, alloc, &day.case) else {
         return false;
     };
@@ -133,13 +185,13 @@ fn is_told_alike<R: Threads + Sync>(rt: &R, alloc: Global, day: &Day) -> bool {
         last_iteration: _,
     } = scenario;
     let chosen = chosen_plans(alloc, &memories.rows);
-    let alike = are_alike_in(alloc, &town, &chosen, day.events);
+    let alike = are_alike_in(rt, alloc, &town, &chosen, day.events);
     let_go(town);
     alike
 }
 
 /// The place of the first day that is not told alike; none where all are.
-fn told_apart<R: Threads + Sync>(rt: &R, alloc: Global) -> Option<usize> {
+fn told_apart<R: Threads + Wait + Sync>(rt: &R, alloc: Global) -> Option<usize> {
     for place in 0..DAYS.len() {
         if !is_told_alike(rt, alloc, &DAYS[place]) {
             return Some(place);

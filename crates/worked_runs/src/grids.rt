@@ -18,7 +18,7 @@ fn unread(alloc: Global) -> MemoryInputs {
 }
 
 /// How the program ends with these words, where no file can be read, and what it writes.
-fn came_of<R: Threads + Wait + Sync>(
+pub(crate) fn came_of<R: Threads + Wait + Sync>(
     rt: &R,
     alloc: Global,
     words: &[&str],
@@ -35,7 +35,7 @@ fn is_between(text: &[u8], first: &str, last: &str) -> bool {
 }
 
 /// Whether both have written the same.
-fn are_same(one: &MemoryOutputs, other: &MemoryOutputs) -> bool {
+pub(crate) fn are_same(one: &MemoryOutputs, other: &MemoryOutputs) -> bool {
     one.written(OutFile::Events) == other.written(OutFile::Events)
         && one.written(OutFile::Scores) == other.written(OutFile::Scores)
         && one.written(OutFile::Plans) == other.written(OutFile::Plans)

@@ -39,7 +39,7 @@ static TWO_PERSONS: Case = Case {
 };
 
 /// How a command ends on a case with a keeper, and what it writes.
-fn came_of<R: Threads + Wait + Sync, K: Keeper>(
+pub(crate) fn came_of<R: Threads + Wait + Sync, K: Keeper>(
     rt: &R,
     alloc: Global,
     words: &[&str],

@@ -1,7 +1,9 @@
 //! Worked runs: words, reads, writes and keepers that fail; runs of several days, what is kept of them, and runs that go on from that;
-//! and generated scenarios. Above the top call; tests alone.
+//! generated scenarios; and runs in several partitions, by several workers. Above the top call; tests alone.
 #![tactic(auto)]
 
+#[cfg(test)]
+mod gates;
 #[cfg(test)]
 mod grids;
 #[cfg(test)]
@@ -10,3 +12,5 @@ mod kept;
 mod outside;
 #[cfg(test)]
 mod several_days;
+#[cfg(test)]
+mod spreads;

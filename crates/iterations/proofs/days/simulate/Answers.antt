@@ -10,12 +10,12 @@ use Rattle.iterations.proofs.ScoredDays.{day_scored, scores_each}
 use Rattle.iterations.proofs.days.simulate.Goals as goal
 
 pub events_on-requires-clause-fit : goal.events_on-requires-clause-fit
-events_on-requires-clause-fit c =
+events_on-requires-clause-fit g c κs within =
     plans_fit (run_rows c.args.run.now) c.args.memories.now (map plan_rows c.deref-2.result.now) c.requires
     (ap (λ (own : List Plan). map plan_rows own) c.deref-2.ensures.value ∙ c.in_ok-chosen.ensures)
 
 pub scores_of-requires : goal.scores_of-requires
-scores_of-requires c =
+scores_of-requires g c =
     let R = run_rows c.args.run.now in
     let chosen = c.in_ok-chosen.chosen.items in
     let kinds : c.deref-3.result.now ≡ map first_kind (map plan_rows chosen) =
@@ -27,7 +27,7 @@ scores_of-requires c =
     (plans_fit R c.args.memories.now (map plan_rows chosen) c.requires c.in_ok-chosen.ensures) kinds events
 
 pub returns-clause-writable : goal.returns-clause-writable
-returns-clause-writable c =
+returns-clause-writable g c =
     let R = run_rows c.args.run.now in
     let chosen = c.in_ok-chosen.chosen.items in
     let kinds : c.deref-3.result.now ≡ map first_kind (map plan_rows chosen) =

@@ -11,9 +11,10 @@ pub iterate-outcome-requires-after_bounds : goal.iterate-outcome-requires-after_
 iterate-outcome-requires-after_bounds g c κs lives =
     let R = run_rows_of true (scenario_view c.args.scenario) in
     subst (λ (memories : List MemoryRows). CanRun R memories) (sym c.memories.view_is)
-    (can_go_on R c.args.memories c.args.scenario.learning_in_range c.requires.fit)
+    (can_go_on R c.args.remembered.memories c.args.scenario.learning_in_range c.requires.fit)
 
 pub returns : goal.returns
 returns g c =
-    ended_as true (resumed_answer (scenario_view c.args.scenario) c.args.kept c.args.memories) c.status_after.result _ _ c.iterate-outcome.result
-    c.status_after.ensures refl (λ bad. cc) (rw c.memories.view_is at c.iterate-outcome.ensures.performed)
+    let remembered = c.args.remembered in
+    ended_as true (resumed_answer (scenario_view c.args.scenario) remembered.iteration remembered.memories) c.status_after.result _ _
+    c.iterate-outcome.result c.status_after.ensures refl (λ bad. cc) (rw c.memories.view_is at c.iterate-outcome.ensures.performed)

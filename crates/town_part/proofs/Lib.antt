@@ -1,0 +1,5 @@
+mod Placing
+mod Sending
+mod Telling
+mod Going
+mod Standing

@@ -1,0 +1,33 @@
+use Rattle.partition.specs.Owned.{owner_in}
+use Rattle.town.specs.Views.{setup}
+use Rattle.law_in_range.specs.Setups.{counts_in}
+use Rattle.law_in_range.proofs.Days.{one_each}
+use Rattle.law_parts_of_days.proofs.Worlds.{fit_setup, sound_setup, consistent_setup}
+use Rattle.divided_day.specs.Days.{borders_in}
+use Rattle.town_part.proofs.Going.{next_stands}
+use Rattle.town_part.proofs.Sending.{are_others, sent_for}
+use Rattle.town_part.proofs.turns.give_out.Goals as goal
+
+pub send-requires-clause-plans : goal.send-requires-clause-plans
+send-requires-clause-plans c = one_each c.args.run.now.day.now c.args.area.now.persons.world c.requires.stands.persons.fit
+
+pub send-requires-clause-others : goal.send-requires-clause-others
+send-requires-clause-others c =
+    are_others c.args.run.now.day.now c.args.run.now.owner.now c.args.run.now.given c.args.number _ c.neighbours_of-borders.ensures
+
+pub returns-clause-stands : goal.returns-clause-stands
+returns-clause-stands c =
+    let run = c.args.run.now in
+    let day = run.day.now in
+    let own = owner_in run.owner.now.of_node in
+    next_stands day own c.args.number c.args.second run.given
+    (c.own_worlds_go_on.ensures.lets_go (setup day) own run.owner.now.parts c.args.number c.args.second (counts_in day)
+    (sound_setup day run.given) (consistent_setup day run.given) run.owner.now.owned (fit_setup day run.given))
+    c.args.area.now c.send.new.persons c.requires.stands c.in_ok-parcels.ensures.persons
+
+pub returns-clause-parcels : goal.returns-clause-parcels
+returns-clause-parcels c =
+    let run = c.args.run.now in
+    let day = run.day.now in
+    sent_for (setup day) (owner_in run.owner.now.of_node) c.args.number c.args.second _ (borders_in day run.owner.now c.args.number) _
+    c.neighbours_of-borders.ensures c.in_ok-parcels.ensures.count c.in_ok-parcels.ensures.parcels

@@ -1,3 +1,2 @@
 pub mod Neighbours
 pub mod Counting
-pub mod Bundles

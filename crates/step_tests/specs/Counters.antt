@@ -1,5 +1,5 @@
 -- The stand-in for a partition.
-use Rattle.std.specs.Prelude.{◌≡◌, ℕ, ◌<◌, Bool, List, length}
+use Rattle.std.specs.Prelude.{◌≡◌, ℕ, ◌<◌, Bool, true, List, length}
 use Rattle.step_core.specs.declared.part.Border.{Border}
 use Rattle.step_core.specs.Views.{PartView}
 use Rattle.step_core.specs.Cores.{IsCore}
@@ -12,6 +12,9 @@ view_of x = record { number = x.number; seconds = x.seconds; inbox = x.inbox.ite
 
 abbrev pub is_number : ℕ → ℕ → ℕ → ℕ → Type 0
 is_number q p t x = x ≡ number_of q p t
+
+abbrev pub IsSpent : Counter → Type 0
+IsSpent x = x.spent ≡ true
 
 -- it is one of the partitions of a row, knows its neighbours, and has a place for what goes to each
 pub record Counts (r : Row) (x : Counter) : Type 0 where
@@ -27,4 +30,4 @@ pub record IsAsBefore (old new : Counter) : Type 0 where
 
 -- the parts of a core whose partitions are those of the row
 abbrev pub IsCoreOfRow : Row → List ℕ → List Bool → List (List Border) → List Counter → List (List ℕ) → Type 0
-IsCoreOfRow r = IsCore (net_of r.count r.longest r.end) (neighbours r.count r.longest) view_of (Counts r) is_number
+IsCoreOfRow r = IsCore (net_of r.count r.longest r.end) (neighbours r.count r.longest) view_of (Counts r) IsSpent is_number

@@ -3,14 +3,15 @@ use Rattle.std.specs.Prelude.{ℕ, ◌+◌, ◌-◌, ◌*◌, ◌%◌, ◌≤◌
 use Rattle.std.specs.Prelude.{◌==◌, ◌&&◌, nat_lt}
 use Rattle.std.specs.Prelude.{if◌then◌else◌}
 use Rattle.std.specs.Option.{option_to_list}
+use Rattle.limits.specs.declared.TheConstants.{MAX_PARTITIONS, MAX_LAG, LAST_SECOND}
 use Rattle.step_core.specs.declared.part.Border.{Border}
 use Rattle.step_core.specs.Nets.{Net}
 
 pub record IsRow (count longest end : ℕ) : Type 0 where
-  pub few : count ≤ 64
+  pub few : count ≤ MAX_PARTITIONS
   pub some : 1 ≤ longest
-  pub most : longest ≤ 32
-  pub short : end ≤ 172800
+  pub most : longest ≤ MAX_LAG
+  pub short : end ≤ LAST_SECOND
 
 -- they stand side by side, and both are there
 abbrev pub near_in : ℕ → ℕ → ℕ → Bool

@@ -4,74 +4,14 @@ ghost use Rattle.std.specs.Prelude.{◌≡◌, ◌<◌, length, IfSome};
 ghost use Rattle.step_tests.specs.Counters.{IsCoreOfRow};
 
 use crate::counters::Counter;
-use crate::gates::InTurn;
 use crate::results::are_right;
 use crate::rows::{Row, in_row, lag};
 use std::alloc::Global;
+use step_cases::{InTurn, ORDERS, Order};
 use step_core::{Core, Step};
-
-/// In which order partitions are asked for their next step.
-struct Order {
-    /// Partition `stride`, `2 * stride` and so on, around the row.
-    stride: u32,
-    /// Each so often, before it is the next one's turn.
-    times: u32,
-}
-
-/// Up and down the row, and by every second one, once, three times or forty times each.
-static ORDERS: [Order; 10] = [
-    Order {
-        stride: 1,
-        times: 1,
-    },
-    Order {
-        stride: 2,
-        times: 1,
-    },
-    Order {
-        stride: 3,
-        times: 1,
-    },
-    Order {
-        stride: 4,
-        times: 1,
-    },
-    Order {
-        stride: 1,
-        times: 3,
-    },
-    Order {
-        stride: 2,
-        times: 3,
-    },
-    Order {
-        stride: 4,
-        times: 3,
-    },
-    Order {
-        stride: 1,
-        times: 40,
-    },
-    Order {
-        stride: 3,
-        times: 40,
-    },
-    Order {
-        stride: 4,
-        times: 40,
-    },
-];
 
 /// The turns after which a day is given up.
 const MOST_TURNS: u32 = 100_000;
-
-/// Whose turn it is in a row of so many partitions.
-fn asked(order: &Order, turn: u32, count: u32) -> u32
-    requires { 0 < count }
-    ensures { result < count }
-{
-    (turn / order.times.max(1)).wrapping_mul(order.stride) % count
-}
 
 /// Whether a neighbour is too far behind for the next second of a partition.
 fn is_late(run: &Row, done: &[u32], from: u32, to: u32) -> bool
@@ -161,7 +101,7 @@ fn goes_right(alloc: Global, run: &Row, order: &Order) -> bool
         if trial.core.all_ended(run) {
             break;
         }
-        if !trial.step(run, asked(order, turn, run.count)) {
+        if !trial.step(run, order.asked(turn, run.count)) {
             return false;
         }
     }

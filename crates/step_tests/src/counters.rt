@@ -4,7 +4,7 @@ ghost use Rattle.std.specs.Prelude.{◌≡◌, ℕ, ◌<◌, length, set, None, 
 ghost use Rattle.step_core.specs.Nets.{border_at};
 ghost use Rattle.step_core.specs.Views.{AreEmpty, HasSent};
 ghost use Rattle.step_tests.specs.Rows.{net_of, neighbours, number_of};
-ghost use Rattle.step_tests.specs.Counters.{view_of, IsAsBefore, Counts, is_number};
+ghost use Rattle.step_tests.specs.Counters.{view_of, IsAsBefore, Counts, IsSpent, is_number};
 
 use crate::rows::{Row, neighbours_of, number};
 use std::alloc::{AllocError, Global};
@@ -15,6 +15,8 @@ use step_core::{BorderList, Part};
 pub(crate) struct Counter {
     pub(crate) number: u32,
     pub(crate) seconds: u32,
+    /// Whether it found no memory in a second.
+    pub(crate) spent: bool,
     /// The numbers that it got.
     pub(crate) heard: u64,
     /// Those of them that were not the right ones.
@@ -139,6 +141,8 @@ impl Part for Counter {
 
     ghost stands = { Counts };
 
+    ghost spent = { IsSpent };
+
     ghost right = { λ _. is_number };
 
     fn count(run: &Row) -> u32 {
@@ -159,6 +163,7 @@ impl Part for Counter {
         Ok(Counter {
             number,
             seconds: 0,
+            spent: false,
             heard: 0,
             wrong: 0,
             neighbours,
@@ -175,6 +180,7 @@ impl Part for Counter {
     #[tactic(auto, using(crate::proofs::Counting::stays, crate::proofs::Counting::few_in))]
     fn second(&mut self, run: &Row) -> Result<(), AllocError> {
         if self.seconds == 50 && is_poor(run, self.number) {
+            self.spent = true;
             return Err(AllocError);
         }
         self.hear();

@@ -7,8 +7,6 @@
 mod cores;
 mod counters;
 #[cfg(test)]
-mod gates;
-#[cfg(test)]
 mod results;
 mod rows;
 #[cfg(test)]

@@ -3,14 +3,14 @@
 ghost use Rattle.std.specs.Prelude.{◌≤◌, ◌<◌};
 
 use crate::counters::Counter;
-use crate::gates::{Ahead, Meeting};
 use crate::results::are_right;
 use crate::rows::{Row, in_row};
 use edge_files::{Gate, OpenGate};
 use std::alloc::Global;
 use std::sync::Wait;
 use std::thread::Threads;
-use workers::{Bundle, Member, new_board, run_bundle, run_day};
+use step_cases::{Ahead, Meeting, alone};
+use workers::run_day;
 
 /// Whether a day of so many workers ends with all partitions right.
 #[tactic(auto, using(crate::proofs::Neighbours::net_is))]
@@ -56,13 +56,14 @@ fn four_threads_meet(rt: HostRuntime) {
     assert!(rt; gate.met() == 4);
 }
 
-/// Partition 3 gets three seconds ahead of partition 0, as far as lags of 1 let it: no body with a barrier in each second gets there.
+/// Partition 3 gets three seconds ahead of partition 0, as far as lags of 1 let it: no body with a barrier in each second gets there. The
+/// passes of each partition are the seconds 0 to 299 in order.
 #[test]
 fn no_barrier(rt: HostRuntime) {
     let gate = Ahead::new();
     assert!(rt; day(&rt, rt.alloc(), &in_row(4, 1, 300), 4, &gate));
     assert!(rt; gate.failed() == 0);
-    assert!(rt; gate.passes() == 1200);
+    assert!(rt; gate.passes() == [300; 4]);
 }
 
 /// Whether a day of so many workers finds no memory.
@@ -84,25 +85,15 @@ fn no_memory(rt: HostRuntime) {
 }
 
 /// How many seconds partition 1 comes to in a bundle of its own, while its neighbours stand still.
-#[tactic(auto, using(crate::proofs::Neighbours::net_is, crate::proofs::Bundles::one_member))]
-fn alone(alloc: Global, run: &Row) -> Option<u32>
+#[tactic(auto, using(crate::proofs::Neighbours::net_is))]
+fn one_of(alloc: Global, run: &Row) -> Option<u32>
     requires { 1 < run.now.count }
 {
-    let Ok((board, mut hub)) = new_board::<Counter>(alloc, run) else {
-        return None;
-    };
-    let Ok(member) = Member::start(alloc, run, &board, &mut hub, 1) else {
-        return None;
-    };
-    let Ok(members) = Vec::from_array(alloc, [member]) else {
-        return None;
-    };
-    let bundle = run_bundle(&OpenGate, run, &board, Bundle { members });
-    bundle.members.first().map(|member| member.done())
+    alone::<Counter>(alloc, run, 1)
 }
 
 /// It does the one second that needs no neighbour, and is given back.
 #[test]
 fn one_alone(rt: HostRuntime) {
-    assert!(rt; alone(rt.alloc(), &in_row(4, 1, 300)) == Some(1));
+    assert!(rt; one_of(rt.alloc(), &in_row(4, 1, 300)) == Some(1));
 }

@@ -18,21 +18,23 @@ fn await_number(number: &AtomicU64, least: u64) -> bool {
 
 /// Holds each partition before second 0 until four have come there.
 #[derive(Drop)]
-pub(crate) struct Meeting {
+pub struct Meeting {
     come: AtomicU64,
     /// How many saw that.
     met: AtomicU64,
 }
 
 impl Meeting {
-    pub(crate) fn new() -> Meeting {
+    /// Before anybody has come.
+    pub fn new() -> Meeting {
         Meeting {
             come: AtomicU64::new(0),
             met: AtomicU64::new(0),
         }
     }
 
-    pub(crate) fn met(&self) -> u64 {
+    /// How many saw that four have come.
+    pub fn met(&self) -> u64 {
         self.met.load(Ordering::SeqCst)
     }
 }
@@ -48,40 +50,51 @@ impl Gate for Meeting {
     }
 }
 
-/// Holds partition 0 before second 5 until partition 3 has passed second 7, and counts the passes of partition 3 and those of all.
+/// Holds partition 0 before second 5 until partition 3 has passed second 7, and counts the passes of four partitions, of each by itself.
 #[derive(Drop)]
-pub(crate) struct Ahead {
-    last: AtomicU64,
-    all: AtomicU64,
-    /// How many holds gave up.
+pub struct Ahead {
+    passes: [AtomicU64; 4],
+    /// How many holds gave up, and how many passes of a partition were not those of its next second.
     failed: AtomicU64,
 }
 
 impl Ahead {
-    pub(crate) fn new() -> Ahead {
+    /// Before the first pass.
+    pub fn new() -> Ahead {
         Ahead {
-            last: AtomicU64::new(0),
-            all: AtomicU64::new(0),
+            passes: [
+                AtomicU64::new(0),
+                AtomicU64::new(0),
+                AtomicU64::new(0),
+                AtomicU64::new(0),
+            ],
             failed: AtomicU64::new(0),
         }
     }
 
-    pub(crate) fn passes(&self) -> u64 {
-        self.all.load(Ordering::SeqCst)
+    /// How many passes each had.
+    pub fn passes(&self) -> [u64; 4] {
+        [
+            self.passes[0].load(Ordering::SeqCst),
+            self.passes[1].load(Ordering::SeqCst),
+            self.passes[2].load(Ordering::SeqCst),
+            self.passes[3].load(Ordering::SeqCst),
+        ]
     }
 
-    pub(crate) fn failed(&self) -> u64 {
+    /// How many holds gave up, and how many passes were not those of the next second.
+    pub fn failed(&self) -> u64 {
         self.failed.load(Ordering::SeqCst)
     }
 }
 
 impl Gate for Ahead {
     fn pass(&self, partition: u32, second: u32) {
-        self.all.fetch_add(1, Ordering::SeqCst);
-        if partition == 3 && self.last.fetch_add(1, Ordering::SeqCst) != u64::from(second) {
+        let passes = &self.passes[partition as usize % 4];
+        if partition > 3 || passes.fetch_add(1, Ordering::SeqCst) != u64::from(second) {
             self.failed.fetch_add(1, Ordering::SeqCst);
         }
-        if partition == 0 && second == 5 && !await_number(&self.last, 8) {
+        if partition == 0 && second == 5 && !await_number(&self.passes[3], 8) {
             self.failed.fetch_add(1, Ordering::SeqCst);
         }
     }
@@ -89,24 +102,27 @@ impl Gate for Ahead {
 
 /// Counts the passes of four partitions, and those of them that are not in the order of one thread: in each second each of them, by number.
 #[derive(Drop)]
-pub(crate) struct InTurn {
+pub struct InTurn {
     all: AtomicU64,
     wrong: AtomicU64,
 }
 
 impl InTurn {
-    pub(crate) fn new() -> InTurn {
+    /// Before the first pass.
+    pub fn new() -> InTurn {
         InTurn {
             all: AtomicU64::new(0),
             wrong: AtomicU64::new(0),
         }
     }
 
-    pub(crate) fn passes(&self) -> u64 {
+    /// How many passes there were.
+    pub fn passes(&self) -> u64 {
         self.all.load(Ordering::SeqCst)
     }
 
-    pub(crate) fn wrong(&self) -> u64 {
+    /// How many of them were not in order.
+    pub fn wrong(&self) -> u64 {
         self.wrong.load(Ordering::SeqCst)
     }
 }

@@ -24,5 +24,6 @@ pub struct RunInput<'a, G> {
     pub last_iteration: u32,
     /// Whether what the persons remember after each iteration is kept.
     pub keeps: bool,
+    /// How its days are computed.
     pub execution: Execution<'a, G>,
 }

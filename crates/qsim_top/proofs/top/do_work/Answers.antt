@@ -1,4 +1,5 @@
 use Rattle.std.proofs.Common.{◌≡◌, Err, refl}
+use Rattle.edge_files.proofs.Worlds.{part_nothing}
 use Rattle.scenario.specs.declared.faults.Stop.TheVariants as stop
 use Rattle.scenario.specs.Views.{scenario_view}
 use Rattle.qsim_top.specs.declared.answers.Status.TheVariants as status
@@ -30,3 +31,9 @@ returns-in-Err-Stopped-Fault-clause-acts g c =
 pub returns-in-Err-Stopped-Fault-clause-unkept : goal.returns-in-Err-Stopped-Fault-clause-unkept
 returns-in-Err-Stopped-Fault-clause-unkept g c =
     unkept_by c.args.command c.refuse.result (refused_of_work c.args.command status.Refused c.refuse.result refl c.refuse.ensures.done.ends)
+
+pub returns-in-Err-Stopped-NoMemory-clause-acts : goal.returns-in-Err-Stopped-NoMemory-clause-acts
+returns-in-Err-Stopped-NoMemory-clause-acts g c = (
+  λ texts kept a files held is. part_nothing _ _,
+  refl,
+)

@@ -1,6 +1,6 @@
 //! The town, divided: who is whose neighbour, with which lags, and in which slots links stand, worked by hand.
 
-use crate::towns::{chosen_plans, let_go, scenario_of};
+use crate::towns::TEXTS;
 use divided_day::{Division, divide};
 use limits::MAX_PARTITIONS;
 use rows::Plan;
@@ -9,6 +9,7 @@ use std::alloc::Global;
 use std::thread::Threads;
 use step_core::Border;
 use town::{DayInput, Town};
+use town_fixtures::{chosen_plans, scenario_of};
 
 /// How many partitions there are; one of them, the place of a neighbour among its neighbours, the neighbour, and the lag from it.
 type Row = (u32, usize, usize, u32, u32);
@@ -121,7 +122,7 @@ fn first_other(alloc: Global, town: &Town, chosen: &[Plan]) -> Option<u32> {
 
 /// The same of the town of the files; 0 where they have a fault.
 fn first_other_of<R: Threads + Sync>(rt: &R, alloc: Global) -> Option<u32> {
-    let Some(scenario) = scenario_of(rt, alloc) else {
+    let Some(scenario) = scenario_of(rt, alloc, &TEXTS) else {
         return Some(0);
     };
     let Scenario {
@@ -133,7 +134,7 @@ fn first_other_of<R: Threads + Sync>(rt: &R, alloc: Global) -> Option<u32> {
     } = scenario;
     let chosen = chosen_plans(alloc, &memories.rows);
     let other = first_other(alloc, &town, &chosen);
-    let_go(town);
+    drop(town);
     other
 }
 

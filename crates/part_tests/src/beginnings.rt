@@ -220,7 +220,7 @@ fn all_begin(run: &Run) -> bool {
     true
 }
 
-/// The run of a day over its division.
+/// The run of a day over its division into four.
 fn run_of<'a>(
     alloc: Global,
     day: &'a DayInput<'a>,
@@ -228,7 +228,7 @@ fn run_of<'a>(
     in_links: &'a InLinks,
 ) -> Run<'a>
     requires given { HaveFittingPlans day.now }
-    requires divided { IsDivided day.now division.now.owner.parts division.now }
+    requires divided { IsDivided day.now 4 division.now }
     requires into { AreSlotsInto (setup day.now) division.now.link_slots.items in_links.now }
 {
     Run {

@@ -1,0 +1,4 @@
+pub mod Some
+pub mod Sent
+pub mod Ending
+pub mod Having

@@ -1,0 +1,5 @@
+pub mod Unique
+pub mod Dealing
+pub mod Merged
+pub mod Views
+pub mod Coming

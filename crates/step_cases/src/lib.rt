@@ -8,4 +8,4 @@ mod orders;
 
 pub use bundles::alone;
 pub use gates::{Ahead, InTurn, Meeting};
-pub use orders::{ORDERS, Order, bring_to_end};
+pub use orders::{ORDERS, Order, bring_to_end, steps_of};

@@ -3,7 +3,7 @@
 ghost use Rattle.std.specs.Prelude.{◌≡◌, ◌<◌, true};
 ghost use Rattle.step_core.specs.Cores.{IsCore, AllAt};
 
-use step_core::{Core, Part};
+use step_core::{Core, Part, Step};
 
 /// In which order partitions are asked for their next step.
 pub struct Order {
@@ -58,12 +58,14 @@ pub static ORDERS: [Order; 10] = [
 ];
 
 impl Order {
-    /// Whose turn it is among so many partitions.
+    /// Whose turn it is among so many partitions: after as many askings as there are partitions all begin one further on, so that each has
+    /// its turn whatever the stride is.
     pub fn asked(&self, turn: u32, count: u32) -> u32
         requires { 0 < count }
         ensures { result < count }
     {
-        (turn / self.times.max(1)).wrapping_mul(self.stride) % count
+        let asked = turn / self.times.max(1);
+        asked.wrapping_mul(self.stride).wrapping_add(asked / count) % count
     }
 }
 
@@ -91,4 +93,21 @@ pub fn bring_to_end<T: Part>(run: &T::Run, order: &Order, core: &mut Core<T>) ->
         }
     }
     false
+}
+
+/// Asks a partition for its steps, and no other one, until one is not done: how many it did, and what the next one came to; none where
+/// memory is wanting, or it does them without end.
+pub fn steps_of<T: Part>(run: &T::Run, core: &mut Core<T>, number: u32) -> Option<(u32, Step)>
+    requires core { IsCore (T.net run.now) (T.borders run.now) T.see (T.stands run.now) T.spent (T.right run.now)
+        core.old.done.items core.old.stopped.items core.old.borders.items core.old.parts.items core.old.boxes.items }
+    requires there { number < (T.net run.now).parts }
+{
+    for turn in 0..MOST_TURNS {
+        match core.step(run, number) {
+            Ok(Step::Done) => {}
+            Ok(step) => return Some((turn, step)),
+            Err(_) => return None,
+        }
+    }
+    None
 }

@@ -91,6 +91,12 @@ AnswersCase (Work c partitions workers) left came old new = AnswersWork c left c
 AnswersCase Help left came old new = (text : List ℕ) × Answers (report status.Done text) came old new
 AnswersCase Refused left came old new = (text : List ℕ) × Answers (report status.Usage text) came old new
 
+-- the same work, in so many partitions and by so many workers
+abbrev pub spread_so : ℕ → ℕ → Case → Case
+spread_so partitions workers (Work c others more) = Work c partitions workers
+spread_so partitions workers Help = Help
+spread_so partitions workers Refused = Refused
+
 -- the words ask for work that calls the keeper
 abbrev pub may_keep : Case → Bool
 may_keep (Work c partitions workers) = uses_keeper c

@@ -1,17 +1,15 @@
 ghost use Rattle.std.specs.Prelude.{◌≡◌, ◌≤◌, map, ℕ, Bool, false, true, None, string_bytes};
 ghost use Rattle.command_line.specs.Cases.{case_of, Work};
-ghost use Rattle.command_line.specs.declared.commands.Command.{Command};
 ghost use Rattle.command_line.specs.Commands.{IsInRange};
 ghost use Rattle.edge_files.specs.Causes.{Rose};
-ghost use Rattle.edge_files.specs.Inputs.{Left};
 ghost use Rattle.edge_files.specs.Keeping.{StaysTold};
-ghost use Rattle.edge_files.specs.World.{World, outside};
+ghost use Rattle.edge_files.specs.World.{outside};
 ghost use Rattle.iterations.specs.Performed.{moment};
 ghost use Rattle.scenario.specs.Texts.{Texts};
 ghost use Rattle.scenario.specs.FilesToScenario.{ScenarioRows, scenario_fault, scenario_rows};
 ghost use Rattle.qsim_top.specs.declared.answers.Status.{Status};
 ghost use Rattle.qsim_top.specs.Answer.{report, reports_alone, is_of_words, OnlyReports};
-ghost use Rattle.qsim_top.specs.Came.{uses_keeper, may_keep, AnswersCase, IsCarriedOut};
+ghost use Rattle.qsim_top.specs.Came.{uses_keeper, may_keep, spread_so, AnswersCase, IsCarriedOut};
 ghost use Rattle.qsim_top.specs.Laws.{day_of, IsLawful, FollowsPlans, KeepsConflicts, ReportsRoutes, ResumesRuns};
 ghost use Rattle.qsim_top.specs.Texts.{refused_line};
 
@@ -137,9 +135,11 @@ pub fn qsim<R: Threads + Wait + Sync, I: Inputs, O: Outputs, K: Keeper, G: Gate>
     ensures keeper { may_keep (case_of (map string_bytes words.now)) ≡ false → keeper.new ≡ keeper.old }
     ensures unkept { may_keep (case_of (map string_bytes words.now)) ≡ false → result ≡ Status.KeepFault → ⊥ }
 
-    // In how many partitions, and by how many workers, days are computed changes no answer.
-    ensures divided { (command : Command) (partitions workers others more : ℕ) (left : Left) (came : Status) (old new : World)
-        → AnswersCase (Work command partitions workers) left came old new → AnswersCase (Work command others more) left came old new }
+    // What came is what the same words ask for in however many partitions, and by however many workers, days are computed.
+    ensures divided { (partitions workers : ℕ)
+        → AnswersCase (spread_so partitions workers (case_of (map string_bytes words.now))) (I.left inputs.old) result
+        (outside (O.written outputs.old) (K.kept keeper.old))
+        (outside (O.written outputs.new) (K.kept keeper.new)) }
 
     // Of the day of every iteration of every scenario, and of the days and the routes of files without a fault.
     ensures lawful { (keeps : Bool) (scenario : ScenarioRows) (k : ℕ) → IsLawful (day_of keeps scenario k) }

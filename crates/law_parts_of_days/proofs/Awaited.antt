@@ -1,5 +1,5 @@
 -- Which nodes are woken once links have had their turns, and once places came free.
-use Rattle.traffic.proofs.Common.{◌≡◌, ◌≢◌, ℕ, suc, ◌+◌, ◌<◌, true, false, List, [], ◌∷◌, ◌++◌, ◌∙◌, ap, refl, sym, arith, inl, inr, cases_Bool, true≢false}
+use Rattle.traffic.proofs.Common.{◌≡◌, ◌≢◌, ℕ, suc, ◌+◌, ◌<◌, true, false, List, [], ◌∷◌, ◌∙◌, ap, refl, sym, arith, inl, inr, cases_Bool, true≢false}
 use Rattle.traffic.proofs.Common.{eqb, eqb-true, eqb-false, ne_eqb, length, length-set, get_or-set_same, get_or-set_other, set, lt-ltb, ltb-true, nat_lt, Option, None, Some, Setup, link_row}
 use Rattle.traffic.specs.declared.world.Row.{Row}
 use Rattle.calendar.specs.Waking.{wake_of}
@@ -15,12 +15,6 @@ end_length S t n links wakes =
       | inl e ↦ rw e (length-set wakes (link_row S n).to (Some (t + 1)))
       | inr e ↦ rw e refl
     ]
-
-pub ends_length : (S : Setup) (t : ℕ) (links : List LinkView) (ns : List ℕ) (wakes : List (Option ℕ))
-    → length (wake_ends S t links ns wakes) ≡ length wakes
-unfolding wake_ends
-ends_length S t links [] wakes = refl
-ends_length S t links (n ∷ ns) wakes = ends_length S t links ns (wake_end S t links n wakes) ∙ end_length S t n links wakes
 
 -- who is woken in the next second stays so
 end_kept : (S : Setup) (t n m : ℕ) (links : List LinkView) (wakes : List (Option ℕ)) → m < length wakes → wake_of wakes m ≡ Some (t + 1)
@@ -93,19 +87,9 @@ not_woken S t m links (n ∷ ns) wakes lt h =
           ];
     }
 
-pub ends_last : (S : Setup) (t n : ℕ) (links : List LinkView) (ns : List ℕ) (wakes : List (Option ℕ))
-    → wake_ends S t links (ns ++ n ∷ []) wakes ≡ wake_end S t links n (wake_ends S t links ns wakes)
-unfolding wake_ends
-ends_last S t n links [] wakes = refl
-ends_last S t n links (x ∷ ns) wakes = ends_last S t n links ns (wake_end S t links x wakes)
-
 pub nobody_waits : (S : Setup) (t m l : ℕ) (links : List LinkView) (ns : List ℕ) (wakes : List (Option ℕ)) → m < length wakes
     → wake_of (wake_ends S t links ns wakes) m ≢ Some (t + 1) → is_among l ns ≡ true → (link_row S l).to ≡ m → (lane links l).lists.buffer ≡ []
 nobody_waits S t m l links ns wakes lt h = (not_woken S t m links ns wakes lt h).empty l
-
-pub ends_none : (S : Setup) (t : ℕ) (links : List LinkView) (wakes : List (Option ℕ)) → wakes ≡ wake_ends S t links [] wakes
-unfolding wake_ends
-ends_none S t links wakes = refl
 
 -- PLACES THAT COME FREE
 start_length : (S : Setup) (t m : ℕ) (wakes : List (Option ℕ)) → length (wake_start S t m wakes) ≡ length wakes
@@ -114,11 +98,6 @@ start_length S t m wakes =
       | inl e ↦ rw e (length-set wakes (link_row S m).from (Some t))
       | inr e ↦ rw e refl
     ]
-
-pub starts_length : (S : Setup) (t : ℕ) (ms : List ℕ) (wakes : List (Option ℕ)) → length (wake_starts S t ms wakes) ≡ length wakes
-unfolding wake_starts
-starts_length S t [] wakes = refl
-starts_length S t (m ∷ ms) wakes = starts_length S t ms (wake_start S t m wakes) ∙ start_length S t m wakes
 
 start_woken : (S : Setup) (t m n : ℕ) (wakes : List (Option ℕ)) → n < length wakes → m < length S.links → (link_row S m).from ≡ n
     → wake_of (wake_start S t m wakes) n ≡ Some t

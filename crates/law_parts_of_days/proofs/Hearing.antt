@@ -1,5 +1,5 @@
 -- The persons of a part hear what the turns of others tell.
-use Rattle.traffic.proofs.Common.{◌≡◌, ℕ, List, [], ◌∙◌, ap, sym, length, flat_map, Setup, World, told, run, persons_after}
+use Rattle.traffic.proofs.Common.{◌≡◌, ℕ, List, [], ◌∙◌, ap, sym, length, flat_map, World, told, run, persons_after}
 use Rattle.traffic.specs.declared.moves.Move.{Move}
 use Rattle.traffic.specs.declared.moves.Occurrence.{Occurrence}
 use Rattle.traffic.specs.declared.world.Person.{Person}
@@ -12,15 +12,6 @@ use Rattle.part_persons.specs.Dues.{AreFollowedIn}
 use Rattle.part_persons.proofs.Joining.{fit_as}
 use Rattle.part_persons.proofs.Told.{run_persons}
 use Rattle.law_parts_of_days.specs.Persons.{PersonsStand}
-
-with_persons : World → List Person → World
-with_persons W ps = record W { persons = ps }
-
--- nothing is told
-pub none_heard : (S : Setup) (t : ℕ) (said : List Occurrence) (W V : World) → said ≡ [] → V ≡ W
-    → V ≡ record W { persons = persons_after S t said W.persons }
-unfolding with_persons
-none_heard S t said W V e f = f ∙ ap (λ (es : List Occurrence). with_persons W (persons_after S t es W.persons)) (sym e)
 
 -- once they heard what moves of a second told, they stand for the world after these moves
 pub heard_stand : (day : DayInput) (t u : ℕ) (ms : List Move) (said : List Occurrence) (V : World) (P Q : Persons)

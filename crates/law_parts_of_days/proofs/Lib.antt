@@ -3,10 +3,8 @@ pub mod Through
 pub mod Taken
 pub mod Awaited
 pub mod Waiting
-pub mod Turning
 pub mod Hearing
 pub mod SettingOut
 pub mod Beginning
 pub mod Riding
-pub mod Driving
 pub mod Sole

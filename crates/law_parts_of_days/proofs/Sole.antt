@@ -1,5 +1,5 @@
 -- The partition that has the whole network holds the day's worlds, and its seconds alone are those of the day.
-use Rattle.traffic.proofs.Common.{◌≡◌, ◌∙◌, ◌++◌, ◌-◌, ◌&&◌, ◌+◌, ℕ, zero, suc, Bool, true, false, not, List, [], ◌∷◌, length, refl, ap, sym, arith, append-nil, add-one, inl, inr, cases_Bool}
+use Rattle.traffic.proofs.Common.{◌≡◌, ◌∙◌, ◌++◌, ◌-◌, ◌&&◌, ◌+◌, ℕ, zero, suc, Bool, true, false, not, List, [], ◌∷◌, length, refl, ap, sym, arith, append-nil, inl, inr, cases_Bool}
 use Rattle.traffic.proofs.Common.{take, filter, flat_map, fun_ext, Setup, hole_of, world_at, world_start, at, holes_at, person_of}
 use Rattle.std.specs.Prelude.{◌==◌, ◌||◌, if◌then◌else◌}
 use Rattle.std.proofs.lemmas.List.{append_cancel_left}
@@ -11,7 +11,7 @@ use Rattle.traffic.specs.declared.world.Place.TheVariants.{At, Teleporting, Wait
 use Rattle.traffic.specs.declared.world.Row.{Row}
 use Rattle.traffic.specs.Day.{events_from, second_events}
 use Rattle.parts.specs.Owners.{owner_of, owner_of_person, owner_of_event, links_of, near}
-use Rattle.parts.specs.Parts.{came_last, went_last, lasting, late_rows, known_list, rides_in, is_late, is_person, mine, Held, part, unheard, ready, own_events}
+use Rattle.parts.specs.Parts.{came_last, went_last, lasting, late_rows, known_list, rides_in, is_late, is_person, mine, part, unheard, ready, own_events}
 use Rattle.law_sound_setups.specs.Setups.{IsSoundSetup}
 use Rattle.law_sound_setups.specs.Consistent.{IsConsistentSetup}
 use Rattle.law_partitions.specs.Alone.{alone, tells_alone}
@@ -104,17 +104,6 @@ pub alone_day : (S : Setup) (t : ℕ) → IsSoundSetup S → IsConsistentSetup S
     → alone S sole_owner 0 t (ready S sole_owner 0 t) ≡ part S sole_owner 0 (suc t) (world_at S (suc t))
 alone_day S t sound consistent =
     let local = are_local S sound consistent sole_owner 1 (λ n. omega arith) in local.holds 0 t ∙ whole_part S _ (suc t)
-
--- THE SAME OF WHAT IT HAS
-pub next_held : (S : Setup) (t : ℕ) (H : Held) → IsSoundSetup S → IsConsistentSetup S → H ≡ part S sole_owner 0 t (world_at S t)
-    → alone S sole_owner 0 t H ≡ part S sole_owner 0 (t + 1) (world_at S (t + 1))
-next_held S t H sound consistent h =
-    ap (alone S sole_owner 0 t) (h ∙ sym (whole_part S _ t)) ∙ alone_day S t sound consistent
-    ∙ ap (λ (u : ℕ). part S sole_owner 0 u (world_at S u)) (sym (add-one t))
-
-pub tells_held : (S : Setup) (t : ℕ) (H : Held) → IsSoundSetup S → IsConsistentSetup S → H ≡ part S sole_owner 0 t (world_at S t)
-    → tells_alone S sole_owner 0 t H ≡ second_events S t (world_at S t)
-tells_held S t H sound consistent h = ap (tells_alone S sole_owner 0 t) (h ∙ sym (whole_part S _ t)) ∙ tells_day S t sound consistent
 
 -- ITS NEIGHBOURS
 pub no_neighbour : (S : Setup) (q : ℕ) → IsSoundSetup S → IsConsistentSetup S → near S sole_owner 0 q ≡ false

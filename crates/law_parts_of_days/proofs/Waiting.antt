@@ -1,12 +1,9 @@
--- Who waits at stops while nodes have their turns, and how many do.
-use Rattle.traffic.proofs.Common.{◌≡◌, ℕ, zero, suc, ◌+◌, ◌<◌, ◌≤◌, Bool, List, [], ◌∷◌, ◌++◌, ◌∙◌, ap, refl, sym, subst, arith, inl, inr, cases_Bool, cases_lt}
-use Rattle.traffic.proofs.Common.{length, length-append, filter, flat_map, eqb, eq-eqb, Leg, Act, World, Setup, person_of, turns_in, turns_of, moves_of, after, node_turns, OnePlace}
+-- Who waits at stops while nodes have their turns.
+use Rattle.traffic.proofs.Common.{◌≡◌, ℕ, zero, suc, ◌+◌, ◌<◌, ◌≤◌, List, [], ◌++◌, ◌∙◌, ap, refl, sym, arith, inl, inr, cases_lt}
+use Rattle.traffic.proofs.Common.{length, flat_map, World, Setup, person_of, turns_in, turns_of, moves_of, after, node_turns, OnePlace}
 use Rattle.traffic.specs.declared.moves.Move.TheVariants.{Transfer, Remove, SetFrontSince}
-use Rattle.traffic.proofs.Common.{done, person_after_all, entered, aborts, below, numbers, waits, waits_on, waiter, waiters, leg_at, act_after, link_of_stop, among, in_turn, comes_first}
-use Rattle.std.proofs.lemmas.List.Elements.{All-from_get_or}
+use Rattle.traffic.proofs.Common.{done, person_after_all, entered, aborts, below, numbers, waits_on, waiter, waiters, leg_at, act_after}
 use Rattle.events.specs.declared.event.Phase.TheVariants as phase
-use Rattle.rows.specs.declared.plan.Leg.TheVariants as leg
-use Rattle.limits.specs.declared.TheConstants.{MAX_PERSONS}
 use Rattle.traffic.specs.declared.stage.Stage.TheVariants.{Buffer}
 use Rattle.traffic.specs.declared.world.Person.{Person}
 use Rattle.traffic.specs.declared.world.Place.{Place}
@@ -17,13 +14,10 @@ use Rattle.traffic.proofs.Moments.{kept_along}
 use Rattle.traffic.proofs.NodeWalk.{NodeCases, node_walk}
 use Rattle.traffic.proofs.Sublists.{person-done}
 use Rattle.traffic.proofs.Walks.{phase_keeps}
-use Rattle.traffic.proofs.Common.{recursion_from_All}
 use Rattle.law_one_place.proofs.Places.{InOne, IsOff, rides, rides_few}
 use Rattle.law_one_place.proofs.Boarding.{strands_told}
 use Rattle.law_one_place.proofs.Turns.{nodes_keep}
-use Rattle.link_seconds.specs.Seconds.{AreShort, line_at}
 use Rattle.part_lines.proofs.News.{same_many}
-use Rattle.part_links.specs.Links.{LinesStand}
 
 -- WHO WAITS WHILE NODES HAVE THEIR TURNS
 -- a person is in one place, and waits so on a link
@@ -100,67 +94,6 @@ nodes_keep_waiters S t l V one =
     ap (λ (k : ℕ). flat_map (λ (i : ℕ). waiter S l i (person_of i W)) (below k)) (same_many S t (moves_of (turns_in S t phase.C V)) V)
     ∙ flat_same (λ (i : ℕ). waiter S l i (person_of i W)) (λ (i : ℕ). waiter S l i (person_of i V)) 0 n
     (λ i lt. one_stays S t l i V (one i (omega arith)))
-
--- HOW MANY WAIT
-among_length : (w : Waiter) (xs : List Waiter) → length (among w xs) ≡ suc (length xs)
-unfolding among
-among_length w [] = refl
-among_length w (x ∷ xs) =
-    elim (cases_Bool (comes_first w x)) [ inl e ↦ rw e refl | inr e ↦ rw e (ap suc (among_length w xs)) ]
-
-turn_length : (xs : List Waiter) → length (in_turn xs) ≡ length xs
-unfolding in_turn
-turn_length [] = refl
-turn_length (x ∷ xs) = among_length x (in_turn xs) ∙ ap suc (turn_length xs)
-
-filter_few : (p : Waiter → Bool) (xs : List Waiter) → length (filter p xs) ≤ length xs
-filter_few p [] = omega arith
-filter_few p (x ∷ xs) =
-    let i = filter_few p xs in
-    elim (cases_Bool (p x)) [ inl e ↦ rw e (omega arith) | inr e ↦ rw e (omega arith) ]
-
-few_on_leg : (i : ℕ) (w : Leg) (next : Act) (stop since : ℕ) → length (waits i w next stop since) ≤ 1
-few_on_leg i (leg.Car route) next stop since = omega arith
-few_on_leg i (leg.Teleport mode seconds) next stop since = omega arith
-few_on_leg i (leg.Transit line access egress) next stop since = omega arith
-
-few_at_place : (S : Setup) (l i : ℕ) (w : Leg) (next : Act) (p : Place) → length (waits_on S l i w next p) ≤ 1
-few_at_place S l i w next (At end) = omega arith
-few_at_place S l i w next (Teleporting start) = omega arith
-few_at_place S l i w next (Waiting stop since) =
-    let f = few_on_leg i w next stop since in
-    elim (cases_Bool (eqb (link_of_stop S stop) l)) [ inl e ↦ rw e f | inr e ↦ rw e (omega arith) ]
-few_at_place S l i w next (Riding v) = omega arith
-few_at_place S l i w next (Aborted m) = omega arith
-
-few_flat : (f : ℕ → List Waiter) (k n : ℕ) → ((i : ℕ) → length (f i) ≤ 1) → length (flat_map f (numbers k n)) ≤ n
-few_flat f k zero h = omega arith
-few_flat f k (suc n) h =
-    let a = length-append (f k) (flat_map f (numbers (k + 1) n)) in
-    let b = few_flat f (k + 1) n h in
-    let c = h k in
-    omega arith
-
-few_wait : (S : Setup) (l : ℕ) (V : World) → length (waiters S l V) ≤ length V.persons
-unfolding waiters
-few_wait S l V =
-    few_flat (λ (i : ℕ). waiter S l i (person_of i V)) 0 (length V.persons)
-    (λ i. let P = person_of i V in few_at_place S l i (leg_at S i P.element) (act_after S i P.element) P.place)
-
--- no line is longer than there are persons
-pub lines_short : (S : Setup) (lines : List (List Waiter)) (V : World) → length lines ≡ length S.stops → length V.persons ≤ MAX_PERSONS
-    → ((s : ℕ) → s < length S.stops → link_of_stop S s < length S.links) → LinesStand S lines V → AreShort lines
-lines_short S lines V n few there stand =
-    recursion_from_All (λ (ws : List Waiter). length ws ≤ MAX_PERSONS) lines
-    (All-from_get_or (λ (ws : List Waiter). length ws ≤ MAX_PERSONS) lines [] (λ s lt. (
-    let l = link_of_stop S s in
-    let in_stops : s < length S.stops = omega arith in
-    let is : line_at lines s ≡ in_turn (filter (λ (w : Waiter). eqb w.stop s) (waiters S l V))
-    = (stand l (there s in_stops)).each s (eq-eqb l l refl) in
-    let a = turn_length (filter (λ (w : Waiter). eqb w.stop s) (waiters S l V)) in
-    let b = filter_few (λ (w : Waiter). eqb w.stop s) (waiters S l V) in
-    let c = few_wait S l V in
-    subst (λ (ws : List Waiter). length ws ≤ MAX_PERSONS) (sym is) (omega arith))))
 
 -- the same where each person is in one place
 pub waiters_in_one : (S : Setup) (t l : ℕ) (V : World) → OnePlace S V → waiters S l (after S t (turns_in S t phase.C V) V) ≡ waiters S l V

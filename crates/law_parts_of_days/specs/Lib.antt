@@ -1,5 +1,4 @@
 pub mod Settling
 pub mod Persons
-pub mod Beginning
 pub mod Riding
 pub mod Sole

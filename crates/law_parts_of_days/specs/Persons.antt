@@ -1,14 +1,11 @@
 -- How the persons of a part stand for those of a world.
-use Rattle.std.specs.Prelude.{◌≡◌, ℕ, ◌<◌, ◌≤◌, [], length}
+use Rattle.std.specs.Prelude.{◌≡◌, ℕ, [], length}
 use Rattle.law_in_range.specs.Rows.{IsFitWorld}
 use Rattle.law_in_range.specs.Setups.{counts_in}
 use Rattle.town.specs.declared.day_input.DayInput.{DayInput}
-use Rattle.town.specs.Views.{setup}
 use Rattle.traffic.specs.Rows.{World}
-use Rattle.calendar.specs.Due.{Due, due_at}
 use Rattle.part_persons.specs.declared.persons.Persons.{Persons}
 use Rattle.part_persons.specs.Dues.{AreFollowedIn}
-use Rattle.part_persons.specs.Phases.{departs_in}
 
 -- The rows are those of world V and fit, no vehicle waits to be put on its link, and each person who has something to do by himself from
 -- second u on is looked at then.
@@ -18,7 +15,3 @@ pub record PersonsStand (day : DayInput) (u : ℕ) (P : Persons) (V : World) : T
   pub fit : IsFitWorld (counts_in day) P.world
   pub followed : AreFollowedIn day u P.world.persons P.wakes
   pub looks : length P.wakes ≡ length P.world.persons
-
--- the departures of each second of the day from second u on
-abbrev pub AreDeparting : DayInput → ℕ → Due → Type 0
-AreDeparting day u departures = (s : ℕ) → u ≤ s → s < day.town.now.settings.end_second → due_at s departures ≡ departs_in (setup day) s

@@ -1,21 +1,8 @@
 -- What the turns of links mean for the places of links, and for when nodes are woken.
-use Rattle.std.specs.Prelude.{ℕ, ◌+◌, ◌-◌, List, [], ◌∷◌, ◌++◌, length, map, set, replicate, nat_lt, if◌then◌else◌, Option, Some}
-use Rattle.traffic.specs.declared.stage.Stage.TheVariants.{Queue}
-use Rattle.traffic.specs.Rows.{World, at, holes_at}
-use Rattle.traffic.specs.Setup.{Setup, link_row, storage_of, seconds_of, hole_of}
+use Rattle.std.specs.Prelude.{ℕ, ◌+◌, List, [], ◌∷◌, length, set, nat_lt, if◌then◌else◌, Option, Some}
+use Rattle.traffic.specs.Setup.{Setup, link_row}
 use Rattle.queue_link.specs.Links.{LinkView}
-use Rattle.node_seconds.specs.Networks.{lane, is_among}
-use Rattle.part_places.specs.Taking.{Taking}
-
--- how the places of links are taken in world V: by the rows of their queues, and by holes, each of which is over so many seconds after it
--- was left
-abbrev pub taking : Setup → World → Taking
-taking S V = record {
-  storage = storage_of S;
-  seconds = seconds_of S;
-  queued = λ m. length (at m Queue V);
-  frees = λ m. map (λ (s : ℕ). s + hole_of S m) (holes_at m V);
-}
+use Rattle.node_seconds.specs.Networks.{lane}
 
 -- how many vehicles are in the queue of the link of a number, and in its buffer
 abbrev pub queued_in : List LinkView → ℕ → ℕ
@@ -23,14 +10,6 @@ queued_in links m = length (lane links m).lists.queue
 
 abbrev pub buffered_in : List LinkView → ℕ → ℕ
 buffered_in links m = length (lane links m).lists.buffer
-
--- the same places once the links of these numbers have these queues: what vehicles left in second t is free when the holes are over
-abbrev pub settled : Setup → ℕ → List LinkView → List ℕ → Taking → Taking
-settled S t links ns T =
-    record T {
-      queued = λ m. if is_among m ns then queued_in links m else T.queued m;
-      frees = λ m. if is_among m ns then T.frees m ++ replicate (T.queued m - queued_in links m) (t + hole_of S m) else T.frees m;
-    }
 
 -- the node at the end of a link is woken in the second after t, where somebody is in the link's buffer
 abbrev pub wake_end : Setup → ℕ → List LinkView → ℕ → List (Option ℕ) → List (Option ℕ)

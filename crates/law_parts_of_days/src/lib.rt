@@ -3,31 +3,24 @@
 #![tactic(auto)]
 
 ghost use Rattle.std.specs.Prelude.{◌≡◌, ◌≢◌, ℕ, ◌+◌, ◌<◌, true, false, List};
-ghost use Rattle.std.specs.Prelude.{[], ◌∷◌, ◌++◌, length, get_or, replicate, Option, Some};
+ghost use Rattle.std.specs.Prelude.{[], ◌∷◌, ◌++◌, length, replicate, Option, Some};
 ghost use Rattle.events.specs.declared.event.Event.{Event};
 ghost use Rattle.events.specs.declared.event.Phase.TheVariants as phase;
-ghost use Rattle.events.specs.declared.event.VehicleId.{VehicleId};
 ghost use Rattle.calendar.specs.Waking.{wake_of};
-ghost use Rattle.law_in_range.specs.Rows.{Counts, IsFitWorld};
 ghost use Rattle.law_sleeping.specs.Marks.{before_nodes, before_links};
 ghost use Rattle.law_sound_setups.specs.Setups.{IsSoundSetup};
 ghost use Rattle.node_seconds.specs.Networks.{lane, is_among};
-ghost use Rattle.part_links.specs.Links.{LinksStand, LinesStand};
 ghost use Rattle.queue_link.specs.Links.{LinkView};
 ghost use Rattle.traffic.specs.declared.stage.Stage.TheVariants.{Queue};
-ghost use Rattle.traffic.specs.declared.world.Place.TheVariants.{Riding};
-ghost use Rattle.traffic.specs.declared.world.Waiter.{Waiter};
-ghost use Rattle.traffic.specs.Rows.{World, at, holes_at, person_of};
+ghost use Rattle.traffic.specs.Rows.{World, at, holes_at};
 ghost use Rattle.traffic.specs.Setup.{Setup, link_row};
-ghost use Rattle.traffic.specs.Persons.{waiters, link_of_vehicle};
-ghost use Rattle.traffic.specs.Day.{turns_in, after, events_in, told_in, second, second_events, world_start, world_at};
+ghost use Rattle.traffic.specs.Persons.{waiters};
+ghost use Rattle.traffic.specs.Day.{turns_in, after, events_in, told_in, second, second_events, world_at};
 ghost use Rattle.traffic.specs.Worlds.{OnePlace};
-ghost use Rattle.law_parts_of_days.specs.Beginning.{AreFresh};
 ghost use Rattle.law_sound_setups.specs.Consistent.{IsConsistentSetup};
 ghost use Rattle.parts.specs.Owners.{near};
 ghost use Rattle.parts.specs.Parts.{part, held, ready};
 ghost use Rattle.law_partitions.specs.Alone.{alone, tells_alone};
-ghost use Rattle.law_parts_of_days.specs.Riding.{put_links};
 ghost use Rattle.law_parts_of_days.specs.Sole.{sole_owner};
 ghost use Rattle.law_parts_of_days.specs.Settling.{wake_ends, wake_starts};
 ghost use Rattle.part_places.specs.Taking.{times};
@@ -69,21 +62,6 @@ pub fn nodes_are_woken_for_vehicles()
 pub fn nodes_are_woken_for_places()
     ensures { (S : Setup) (t n m : ℕ) (ms : List ℕ) (wakes : List (Option ℕ)) → n < length wakes → m < length S.links
         → (link_row S m).from ≡ n → wake_of (wake_starts S t ms wakes) n ≢ Some t → times m ms ≡ 0 }
-{}
-
-/// At the start of a day links on which nobody is, and lines in which nobody waits, are those of the world.
-pub fn days_begin_empty()
-    ensures links { (S : Setup) (links : List LinkView) → AreFresh S.links S.settings (length S.links) links
-        → LinksStand S 0 links (world_start S) }
-    ensures lines { (S : Setup) (n : ℕ) (lines : List (List Waiter)) → lines ≡ replicate n [] → LinesStand S lines (world_start S) }
-{}
-
-/// The links of persons, as they stand among the riders of the vehicles on the links of a part, are those of their vehicles.
-pub fn riders_are_found()
-    ensures { (S : Setup) (t i : ℕ) (v : VehicleId) (links : List LinkView) → IsSoundSetup S → i < length S.persons
-        → (person_of i (world_at S t)).place ≡ Riding v → LinksStand S t links (world_at S t) → (z : Counts) (table : List ℕ)
-        → z.links ≡ length S.links → IsFitWorld z (world_at S t) → i < length table
-        → get_or (put_links links table) i 0 ≡ link_of_vehicle v (world_at S t).rows }
 {}
 
 /// The partition that has all nodes holds the whole world of each second of the day, and has heard of everything; what it does and tells in

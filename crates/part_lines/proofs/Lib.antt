@@ -2,5 +2,3 @@ pub mod Behind
 pub mod News
 pub mod Standing
 pub mod Ready
-pub mod Stops
-pub mod Together

@@ -237,19 +237,3 @@ lines_have_at number size S t W wakes ns lines before have n e others can = λ k
           (skipped f (is_woken t wakes) 0 (length wakes) idle ∙ ap (λ (m : ℕ). flat_map f (below m)) n)
           ∙ sym (come_to_line S t l s W h before));
     }
-
--- the same of all links of the network
-pub can_all_join : (S : Setup) (t count : ℕ) (W : World) (wakes : List (Option ℕ)) (ns : List ℕ) (lines : List (List Waiter)) → WaitBefore t W
-    → LinesHave (λ l. l) (length S.links) S lines W → count ≡ length lines
-    → HaveStops (λ l. l) (length S.links) S t count (after_early S t W).persons → length wakes ≡ length W.persons
-    → ns ≡ woken t wakes → CanAllJoin S t (after_early S t W).persons ns lines
-can_all_join S t count W wakes ns lines before have c stops n e =
-    can_all_join_at (λ l. l) (length S.links) S t count W wakes ns lines before have c stops n e
-
-pub lines_have : (S : Setup) (t : ℕ) (W : World) (wakes : List (Option ℕ)) (ns : List ℕ) (lines : List (List Waiter)) → WaitBefore t W
-    → LinesHave (λ l. l) (length S.links) S lines W → length wakes ≡ length W.persons → ns ≡ woken t wakes
-    → ((i : ℕ) → is_woken t wakes i ≡ false → person_of i (after_early S t W) ≡ person_of i W)
-    → CanAllJoin S t (after_early S t W).persons ns lines
-    → LinesHave (λ l. l) (length S.links) S (joined_lines S t (after_early S t W).persons ns lines) (after_early S t W)
-lines_have S t W wakes ns lines before have n e others can =
-    lines_have_at (λ l. l) (length S.links) S t W wakes ns lines before have n e others can

@@ -2,7 +2,7 @@
 use Rattle.traffic.proofs.Common.{◌≡◌, ◌≢◌, ℕ, zero, suc, ◌+◌, ◌-◌, ◌<◌, ◌≤◌, Bool, true, false, List, ◌∙◌, ap, refl, sym, subst, [], ◌∷◌, ◌++◌, inl, inr, arith}
 use Rattle.traffic.proofs.Common.{length, eqb, eqb-true, eqb-false, cases_Bool, length-map, get_or-map, ne_eqb, eq-eqb}
 use Rattle.traffic.proofs.Common.{map, filter, flat_map, flat_map-append, Option, None, Some, Event, Setup, World, Turn, told, phase_code, keyed, link_turns, link_state, rules, raised, waiters, LinkState}
-use Rattle.traffic.proofs.Common.{run, after, turns, turns_in, turns_of, turn_of, moves_of, events_in, below, numbers, nat_lt}
+use Rattle.traffic.proofs.Common.{run, after, turns, turn_of, moves_of, events_in, below, numbers, nat_lt}
 use Rattle.std.specs.Prelude.{max}
 use Rattle.std.specs.List.{AllByRecursion as Each}
 use Rattle.std.proofs.lemmas.Bool.{ltb-false, ltb-true}
@@ -36,7 +36,7 @@ use Rattle.calendar.proofs.Woken.{woken_is}
 use Rattle.node_seconds.specs.Networks.{lane, is_among, AreOnce}
 use Rattle.calendar.specs.Due.{AreIn}
 use Rattle.part_links.specs.Links.{IsLink, AreNumbered, LinksStandAt, LinesStandAt, AreAsleep, lies_on, no_sooner, wake_after}
-use Rattle.part_links.specs.Phase.{turned, keyed_by, told_by, waiting_behind, AreTurned, turns_at, IsPhaseBy, IsPhaseAt, IsPhase}
+use Rattle.part_links.specs.Phase.{turned, keyed_by, told_by, waiting_behind, AreTurned, turns_at, IsPhaseAt}
 use Rattle.part_links.proofs.Numbers.{among_passed, once_passed}
 use Rattle.part_links.proofs.Standing.{link_is, rules_are}
 
@@ -481,26 +481,7 @@ phase_is number size S end t V D ks old links lines before now wakes events out 
       slept = now_is;
     }) links lines wakes events out said heard h
 
--- ALL LINKS OF THE NETWORK
-pub all_numbered : (S : Setup) → AreNumbered S (length S.links) (λ l. l)
-all_numbered S = record { there = λ k lt. lt; apart = λ j k lt there e. e }
-
-same_numbers : (ns : List ℕ) → map (λ (l : ℕ). l) ns ≡ ns
-same_numbers [] = refl
-same_numbers (n ∷ ns) = ap (λ (xs : List ℕ). n ∷ xs) (same_numbers ns)
-
-pub all_turns : (S : Setup) (t : ℕ) (V : World) → turns_at (λ l. l) (length S.links) S t V ≡ turns_in S t phase.D V
-unfolding turns_in turns_of
-all_turns S t V = ap (λ (ns : List ℕ). turns S t (link_turns S t) ns V) (same_numbers (below (length S.links)))
-
--- the phase of the links in all slots is that of the network
-pub whole_phase : (S : Setup) (end t : ℕ) (V : World) (links : List LinkView) (lines : List (List Waiter)) (wakes : List (Option ℕ))
-    (events out : List Event) (said heard : List Occurrence)
-    → IsPhaseAt (λ l. l) (length S.links) S end t V links lines wakes events out said heard
-    → IsPhase S end t V links lines wakes events out said heard
-whole_phase S end t V links lines wakes events out said heard h =
-    subst (λ (us : List Turn). IsPhaseBy (λ l. l) (length S.links) us S end t V links lines wakes events out said heard) (all_turns S t V) h
-
+-- WHO IS WOKEN
 -- the numbers of links that are woken: each is there, and stands once
 pub woken_there : (t count : ℕ) (before : List (Option ℕ)) (ns : List ℕ) → ns ≡ woken t before → length before ≡ count → AreIn count ns
 woken_there t count before ns e len =

@@ -35,10 +35,6 @@ pub record LinksStandAt (number : ℕ → ℕ) (size : ℕ) (S : Setup) (t : ℕ
   pub raised : (k : ℕ) → k < size → (lane links k).raised ≤ t
   pub lists : (k : ℕ) → k < size → lists_at t (lane links k) ≡ link_state (number k) V
 
--- the same of all links of the network, each in the slot of its number
-abbrev pub LinksStand : Setup → ℕ → List LinkView → World → Type 0
-LinksStand S t links V = LinksStandAt (λ l. l) (length S.links) S t links V
-
 -- THE LINES
 -- whether a stop lies on link l
 abbrev pub lies_on : Setup → ℕ → ℕ → Bool
@@ -47,10 +43,6 @@ lies_on S l stop = link_of_stop S stop == l
 -- who waits at the stops of one of these links in world V stands in their lines, in turn
 abbrev pub LinesStandAt : (ℕ → ℕ) → ℕ → Setup → List (List Waiter) → World → Type 0
 LinesStandAt number size S lines V = (k : ℕ) → k < size → HaveLines (lies_on S (number k)) lines (waiters S (number k) V)
-
--- the same of all links of the network
-abbrev pub LinesStand : Setup → List (List Waiter) → World → Type 0
-LinesStand S lines V = LinesStandAt (λ l. l) (length S.links) S lines V
 
 -- a link has had no turn in second t, and each of its vehicles can stop at one of so many stops
 pub record CanTurn (stops t : ℕ) (v : LinkView) : Type 0 where

@@ -14,7 +14,7 @@ use Rattle.traffic.specs.Moves.{told}
 use Rattle.traffic.specs.Lists.{below}
 use Rattle.traffic.specs.Links.{link_state, link_moves}
 use Rattle.traffic.specs.Persons.{waiters}
-use Rattle.traffic.specs.Day.{Turn, keyed, link_turns, moves_of, turns, turns_in, after, events_in}
+use Rattle.traffic.specs.Day.{Turn, keyed, link_turns, moves_of, turns, after, events_in}
 use Rattle.law_sleeping.specs.Quiet.{link_state_after_all}
 use Rattle.queue_link.specs.Links.{LinkView}
 use Rattle.queue_link.specs.Numbers.{rules_of}
@@ -89,9 +89,3 @@ abbrev pub IsPhaseAt : (ℕ → ℕ) → ℕ → Setup → ℕ → ℕ → World
     → List Occurrence → List Occurrence → Type 0
 IsPhaseAt number size S end t V links lines wakes old new spoken heard =
     IsPhaseBy number size (turns_at number size S t V) S end t V links lines wakes old new spoken heard
-
--- the same of all links of the network: its phase
-abbrev pub IsPhase : Setup → ℕ → ℕ → World → List LinkView → List (List Waiter) → List (Option ℕ) → List Event → List Event → List Occurrence
-    → List Occurrence → Type 0
-IsPhase S end t V links lines wakes old new spoken heard =
-    IsPhaseBy (λ l. l) (length S.links) (turns_in S t phase.D V) S end t V links lines wakes old new spoken heard

@@ -1,12 +1,11 @@
 -- Nodes rest while the fronts of the links into them wait for places.
-use Rattle.traffic.proofs.Common.{◌≡◌, ◌≢◌, ℕ, zero, suc, ◌+◌, ◌-◌, ◌<◌, ◌≤◌, ◌%◌, Bool, true, false, List, [], ◌∷◌, ◌∙◌, ap, refl, sym, subst, arith, inl, inr, length, map, not, ◌&&◌, ◌||◌}
+use Rattle.traffic.proofs.Common.{◌≡◌, ◌≢◌, ℕ, zero, suc, ◌+◌, ◌-◌, ◌<◌, ◌≤◌, Bool, true, false, List, [], ◌∷◌, ◌∙◌, ap, refl, sym, subst, arith, inl, inr, length, map, not, ◌&&◌}
 use Rattle.traffic.proofs.Common.{cases_Bool, cases_lt, eqb, eqb-true, eq-eqb, and_parts, or_parts, true≢false, leb-false, leb-true, ltb-true, ltb-false, lt-ltb, nat_lt, nat_le, list_any, if◌then◌else◌, Option, None, Some}
-use Rattle.traffic.proofs.Common.{World, Setup, link_row, at, holes_at, taken_at, hole_of, storage_of, next_link, has_room, is_stuck, out_link, in_link, red, run, node_turns, turns_in, after, Stuck}
+use Rattle.traffic.proofs.Common.{World, Setup, link_row, at, holes_at, taken_at, hole_of, storage_of, next_link, has_room, is_stuck, out_link, in_link, red, run, node_turns, Stuck}
 use Rattle.std.specs.Prelude.{min}
 use Rattle.std.specs.List.{AllByRecursion as Each}
 use Rattle.std.proofs.lemmas.Nat.{mod_below}
 use Rattle.std.proofs.lemmas.Bool.{and_right, or_from, le-leb, le-ltb, lt-leb}
-use Rattle.events.specs.declared.event.Phase.TheVariants as phase
 use Rattle.rows.specs.Greens.{Phases, holds, phase_of, is_green, green_at}
 use Rattle.town.specs.declared.day_input.DayInput.{DayInput}
 use Rattle.town.specs.Setups.{setup_of}
@@ -24,22 +23,14 @@ use Rattle.law_sleeping.proofs.Places.{run_places}
 use Rattle.queue_link.specs.Links.{LinkView}
 use Rattle.node_move.specs.Spaces.{places_in}
 use Rattle.node_seconds.specs.Networks.{lane, is_among}
-use Rattle.part_places.specs.Taking.{still}
 use Rattle.part_places.proofs.Counting.{still_is}
 use Rattle.part_nodes.specs.Turns.{covers, is_always, always_in, is_held, front_due, link_due, node_due, up_to}
-use Rattle.part_nodes.specs.Phase.{places_at, taken_before, IsWokenBy, FrontWaits, BufferWaits, AreAwaitedAt}
+use Rattle.part_nodes.specs.Phase.{places_at, taken_before, IsWokenBy, FrontWaits, BufferWaits}
 
 -- PLACES
 -- those that are taken before the second after t are those of second t
 pub before_is : (S : Setup) (t m : ℕ) (V : World) → taken_before S (t + 1) m V ≡ taken_at S t m V
 before_is S t m V = ap (λ (k : ℕ). length (at m Queue V) + k) (still_is t (hole_of S m) (holes_at m V))
-
--- by the same queue and the same holes they are the same
-pub before_same : (S : Setup) (p m : ℕ) (V U : World) → at m Queue U ≡ at m Queue V → holes_at m U ≡ holes_at m V
-    → taken_before S p m V ≡ taken_before S p m U
-before_same S p m V U q h =
-    ap (λ (xs : List Row). length xs + still p (map (λ (s : ℕ). s + hole_of S m) (holes_at m V))) (sym q)
-    ∙ ap (λ (hs : List ℕ). length (at m Queue U) + still p (map (λ (s : ℕ). s + hole_of S m) hs)) (sym h)
 
 -- no place comes free in the turn of a node
 pub node_takes : (S : Setup) (t n m : ℕ) (V : World)
@@ -71,12 +62,6 @@ waits_on S end p t l wake V U e more h =
 pub none_waits : (S : Setup) (end p t l : ℕ) (wake : Option ℕ) (V : World) → at l Buffer V ≡ [] → BufferWaits S end p t l wake V (at l Buffer V)
 none_waits S end p t l wake V e = subst (BufferWaits S end p t l wake V) (sym e) tt
 
-pub awaited_on : (mine : ℕ → Bool) (S : Setup) (end p t : ℕ) (wakes : List (Option ℕ)) (V U : World)
-    → ((l : ℕ) → l < length S.links → mine (link_row S l).to ≡ true → at l Buffer U ≡ at l Buffer V)
-    → ((m : ℕ) → taken_before S p m V ≤ taken_before S p m U) → AreAwaitedAt mine S end p t wakes V → AreAwaitedAt mine S end p t wakes U
-awaited_on mine S end p t wakes V U buffers more h = λ n l lt own off there to.
-    waits_on S end p t l (wake_of wakes n) V U (buffers l there (ap mine to ∙ own)) more (h n l lt own off there to)
-
 later_than : (t u : ℕ) → t < u → u ≢ t + 1 → t + 1 < u
 later_than t u lt ne =
     elim (cases_lt (t + 1) u) [
@@ -97,19 +82,6 @@ waits_next S end p t l wake V (r ∷ rs) ne h = record {
   full = h.full;
   some_patience = h.some_patience;
   woken = woken_on end t (r.second + S.settings.stuck.seconds) wake ne h.woken;
-}
-
--- once the places of a second are free, where none is of the links out of its node
-pub waits_full : (S : Setup) (end p q t l : ℕ) (wake : Option ℕ) (V : World) (rows : List Row) → Each (GoesOn S l) rows
-    → ((m : ℕ) → m < length S.links → (link_row S m).from ≡ (link_row S l).to → storage_of S m ≤ taken_before S p m V
-    → storage_of S m ≤ taken_before S q m V)
-    → BufferWaits S end p t l wake V rows → BufferWaits S end q t l wake V rows
-waits_full S end p q t l wake V [] on f h = tt
-waits_full S end p q t l wake V (r ∷ rs) on f h = record {
-  green = h.green;
-  full = f (next_link r.vehicle) on.0.there on.0.joined h.full;
-  some_patience = h.some_patience;
-  woken = h.woken;
 }
 
 -- WHO WAITS CANNOT GO

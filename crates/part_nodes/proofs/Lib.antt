@@ -12,4 +12,3 @@ pub mod Rested
 pub mod Held
 pub mod Passed
 pub mod Skipped
-pub mod Whole

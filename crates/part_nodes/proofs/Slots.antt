@@ -1,5 +1,5 @@
 -- The slots in which the links of a part stand: those of the links into a node, and where a table finds them.
-use Rattle.traffic.proofs.Common.{◌≡◌, ◌≢◌, ℕ, ◌<◌, Bool, true, false, List, [], ◌∷◌, ◌∙◌, ap, refl, sym, subst, arith, inl, inr, length, get_or, map, filter, not, ◌||◌}
+use Rattle.traffic.proofs.Common.{◌≡◌, ◌≢◌, ℕ, ◌<◌, Bool, true, false, List, [], ◌∷◌, ◌∙◌, ap, refl, sym, arith, inl, inr, length, get_or, map, not, ◌||◌}
 use Rattle.traffic.proofs.Common.{cases_Bool, eqb, eqb-true, eqb-false, eq-eqb, ne_eqb, or_parts, true≢false, Option, None, Some, Setup, World, into, link_row}
 use Rattle.std.specs.List.{AllByRecursion as Each}
 use Rattle.traffic.proofs.Each.{each_weaker}
@@ -153,7 +153,3 @@ slot_nowhere S E slots links m h n lt =
           let same : E.number k ≡ m = sym (n.numbers k there) ∙ z.2 in
           true≢false (sym (h.own k there) ∙ ap (λ (l : ℕ). E.mine (link_row S l).to) same ∙ q))) ∙ sym (ap not q)
     ]
-
--- a slot that is found is one of the links'
-pub slot_within : (slots : List ℕ) (links : List LinkView) (m k : ℕ) → slot_in slots links m ≡ Some k → k < length links
-slot_within slots links m k e = (slot_is slots links m k e).1

@@ -18,7 +18,7 @@ use Rattle.traffic.specs.Rows.{World, at, holes_at}
 use Rattle.traffic.specs.Setup.{Setup, link_row, storage_of, seconds_of, hole_of}
 use Rattle.traffic.specs.Nodes.{next_link, taken_at}
 use Rattle.traffic.specs.Moves.{told, run}
-use Rattle.traffic.specs.Day.{Turn, keyed, node_turns, turns_of, turns, turns_in, moves_of, after, events_in}
+use Rattle.traffic.specs.Day.{Turn, keyed, node_turns, turns_of, turns, moves_of, after, events_in}
 use Rattle.calendar.specs.Waking.{wake_of}
 use Rattle.queue_link.specs.Links.{LinkView}
 use Rattle.node_move.specs.declared.crossings.Entering.{Entering}
@@ -34,10 +34,6 @@ pub record Extent : Type 0 where
   pub mine : ℕ → Bool
   pub number : ℕ → ℕ
   pub size : ℕ
-
--- the whole network: all nodes, and each link in the slot of its own number
-abbrev pub whole : Setup → Extent
-whole S = record { mine = λ n. true; number = λ l. l; size = length S.links }
 
 -- the table gives link l a slot in which it stands
 pub record IsFound (E : Extent) (slots : List ℕ) (l : ℕ) : Type 0 where
@@ -90,10 +86,6 @@ pub record StandsForAt (z : Counts) (S : Setup) (E : Extent) (end t : ℕ) (N : 
   pub nodes : length N.node_wakes ≡ S.nodes
   pub only : (n : ℕ) → E.mine n ≡ false → wake_of N.node_wakes n ≡ None
 
--- the same of the whole network
-abbrev pub StandsFor : Counts → Setup → ℕ → ℕ → Network → World → Type 0
-StandsFor z S end t N V = StandsForAt z S (whole S) end t N V
-
 -- a network stands for some world, as that of some part which has these nodes
 pub record Stands (z : Counts) (S : Setup) (end t : ℕ) (slots ns : List ℕ) (N : Network) : Type 0 where
   pub extent : Extent
@@ -130,10 +122,6 @@ abbrev pub AreAwaitedAt : (ℕ → Bool) → Setup → ℕ → ℕ → ℕ → L
 AreAwaitedAt mine S end p t wakes V =
     (n l : ℕ) → n < S.nodes → mine n ≡ true → wake_of wakes n ≢ Some t → l < length S.links → (link_row S l).to ≡ n
     → BufferWaits S end p t l (wake_of wakes n) V (at l Buffer V)
-
--- and of all nodes
-abbrev pub AreAwaited : Setup → ℕ → ℕ → ℕ → List (Option ℕ) → World → Type 0
-AreAwaited S end p t wakes V = AreAwaitedAt (λ n. true) S end p t wakes V
 
 -- WHO GOES OUT
 -- a vehicle that enters a link, by its row there
@@ -204,9 +192,3 @@ abbrev pub IsPhaseAt : Counts → Setup → Extent → ℕ → ℕ → World →
     → List Entering → List Entering → Type 0
 IsPhaseAt z S E end t V old new first_events now_events first_said now_said first_out out =
     IsPhaseBy z S E (turns_at E.mine S t V) end t V old new first_events now_events first_said now_said first_out out
-
--- the same of the whole network: its phase
-abbrev pub IsPhase : Counts → Setup → ℕ → ℕ → World → Network → Network → List Event → List Event → List Occurrence → List Occurrence
-    → List Entering → List Entering → Type 0
-IsPhase z S end t V old new first_events now_events first_said now_said first_out out =
-    IsPhaseBy z S (whole S) (turns_in S t phase.C V) end t V old new first_events now_events first_said now_said first_out out

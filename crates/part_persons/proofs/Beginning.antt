@@ -1,21 +1,18 @@
 -- Who begins a day in a part, and the rows of all others.
 use Rattle.traffic.proofs.Common.{◌≡◌, ◌≢◌, ℕ, zero, suc, ◌+◌, ◌<◌, ◌≤◌, Bool, true, false, List, [], ◌∷◌, ◌∙◌, ap, refl, sym, subst, arith, inl, inr}
-use Rattle.traffic.proofs.Common.{length, length-map, get_or, get_or_past, get_or-map, map, filter, if◌then◌else◌, cases_lt, PlanRows, eqb}
-use Rattle.traffic.proofs.Common.{World, Setup, world_start, person_of, person_plan, at_home, numbers, below, cases_Bool}
+use Rattle.traffic.proofs.Common.{length, length-map, get_or, get_or_past, get_or-map, map, if◌then◌else◌, cases_lt, PlanRows, eqb}
+use Rattle.traffic.proofs.Common.{World, Setup, world_start, person_of, at_home, numbers, below}
 use Rattle.std.specs.Prelude.{set}
 use Rattle.std.proofs.lemmas.List.{ext_get_or, get_or-set_same, get_or-set_other, length-set}
 use Rattle.traffic.specs.declared.world.Person.{Person}
 use Rattle.traffic.specs.Rows.{nobody}
-use Rattle.traffic.specs.Setup.{departure}
 use Rattle.law_in_range.specs.Rows.{Counts, IsFitPerson, IsFitWorld}
 use Rattle.law_in_range.specs.Setups.{counts_in, HaveFittingPlans}
 use Rattle.law_in_range.proofs.Days.{start_is_fit}
 use Rattle.town.specs.declared.day_input.DayInput.{DayInput}
 use Rattle.town.specs.Views.{setup}
 use Rattle.parts.specs.Owners.{Owner, owner_of, owner_of_person, link_at}
-use Rattle.partition.specs.Owned.{owner_in}
-use Rattle.part_persons.specs.Own.{own_person, own_persons, begins_day_in, kept_row, kept_rows, own_departs_in}
-use Rattle.part_persons.specs.Phases.{departs_in}
+use Rattle.part_persons.specs.Own.{own_person, own_persons, begins_day_in, kept_row, kept_rows}
 
 -- ROWS BY NUMBER
 numbers_length : (k n : ℕ) → length (numbers k n) ≡ n
@@ -133,27 +130,3 @@ own_is_fit day own p W given e =
     let S = setup day in
     let z = counts_in day in
     subst (IsFitWorld z) (sym e) (own_fit S own p z (start_is_fit day (world_start S) given refl))
-
--- ONE PART THAT HAS ALL
-sole_rows : (S : Setup) (k n : ℕ) → map (own_person S (owner_in []) 0) (numbers k n) ≡ map (λ (i : ℕ). person_of i (world_start S)) (numbers k n)
-sole_rows S k n = rows_alike (own_person S (owner_in []) 0) (λ (i : ℕ). person_of i (world_start S)) k n (λ i lt. refl)
-
-pub sole_persons : (S : Setup) (of_node : List ℕ) → of_node ≡ [] → record (world_start S) { persons = own_persons S (owner_in of_node) 0 } ≡ world_start S
-sole_persons S of_node e =
-    let n = length S.persons in
-    let W = world_start S in
-    let all = map (λ (i : ℕ). person_of i W) (below n) in
-    let many = rows_length (λ (i : ℕ). person_of i W) n in
-    let is : all ≡ W.persons
-    = ext_get_or nobody all W.persons (many ∙ sym (count_start S (owner_in of_node) 0)) (λ i lt. row_is (λ (k : ℕ). person_of k W) n i (omega arith)) in
-    ap (λ (ns : List ℕ). record W { persons = own_persons S (owner_in ns) 0 }) e
-    ∙ ap (λ (ps : List Person). record W { persons = ps }) (sole_rows S 0 n ∙ is)
-
-all_pass : (ns : List ℕ) → filter (λ (n : ℕ). true) ns ≡ ns
-all_pass [] = refl
-all_pass (n ∷ ns) = ap (λ (xs : List ℕ). n ∷ xs) (all_pass ns)
-
-pub sole_departs : (S : Setup) (of_node : List ℕ) (t : ℕ) → of_node ≡ [] → own_departs_in S (owner_in of_node) 0 t ≡ departs_in S t
-sole_departs S of_node t e =
-    ap (λ (ns : List ℕ). own_departs_in S (owner_in ns) 0 t) e
-    ∙ ap (filter (λ (d : ℕ). eqb (departure S d).second t)) (all_pass (below (length S.departures)))

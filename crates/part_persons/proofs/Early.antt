@@ -23,7 +23,6 @@ use Rattle.calendar.proofs.Woken.{AreNumbers, woken_is}
 use Rattle.part_persons.specs.Dues.{due_at_place, person_due, AreFollowed}
 use Rattle.parts.specs.Owners.{Owner}
 use Rattle.part_persons.specs.Own.{starts_in, own_departures, own_departs_in}
-use Rattle.part_persons.specs.Phases.{departs_in}
 use Rattle.calendar.specs.Due.{AreIn}
 use Rattle.part_persons.proofs.InOrder.{all_turns, after_more}
 use Rattle.part_persons.proofs.Skipping.{Idle, distinct_filter, skip_world, skip_events}
@@ -223,23 +222,3 @@ own_in_range S own p t due e =
     subst (λ (ns : List ℕ). AreIn n ns) (sym e)
     (each_kept there (λ (d : ℕ). eqb (departure S d).second t) (own_departures S own p)
     (each_kept there (starts_in S own p) (below n) (each_number n 0 n (omega arith))))
-
--- all of a day
-pub record Started (S : Setup) (t : ℕ) (W0 W1 : World) (old out : List Event) : Type 0 where
-  pub world : W1 ≡ through S t (phase.B2 ∷ []) W0
-  pub events : out ≡ old ++ told_in S t (phase.B2 ∷ []) W0
-
-pub started : (S : Setup) (t : ℕ) (W0 W1 : World) (due : List ℕ) (old out : List Event) → due ≡ departs_in S t
-    → W1 ≡ after S t (turns S t (departure_turns S t) due W0) W0 → out ≡ old ++ events_in t phase.B2 (turns S t (departure_turns S t) due W0)
-    → Started S t W0 W1 old out
-unfolding through told_in turns_in turns_of
-started S t W0 W1 due old out d a ae =
-    let n = length S.departures in
-    let s = started_among S t (below n) due W0 W1 old out (Distinct-numbers 0 n) d a ae in
-    record { world = s.world; events = s.events ∙ ap (λ (xs : List Event). old ++ xs) (sym (append-nil _)) }
-
-pub departs_below : (S : Setup) (t : ℕ) → AreIn (length S.departures) (departs_in S t)
-departs_below S t = each_kept (λ (n : ℕ). n < length S.departures) (λ (n : ℕ). eqb (departure S n).second t) (below (length S.departures)) (each_number (length S.departures) 0 (length S.departures) (omega arith))
-
-pub departs_in_range : (S : Setup) (t : ℕ) (due : List ℕ) → due ≡ departs_in S t → AreIn (length S.departures) due
-departs_in_range S t due e = subst (λ (ns : List ℕ). AreIn (length S.departures) ns) (sym e) (departs_below S t)

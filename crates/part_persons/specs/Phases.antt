@@ -1,11 +1,9 @@
 -- The phases before the nodes and links have theirs.
-use Rattle.std.specs.Prelude.{ℕ, ◌+◌, Bool, List, [], ◌∷◌, ◌++◌, length, filter, ◌==◌, if◌then◌else◌}
+use Rattle.std.specs.Prelude.{ℕ, ◌+◌, Bool, List, [], ◌∷◌, ◌++◌, if◌then◌else◌}
 use Rattle.events.specs.declared.event.Phase.{Phase}
 use Rattle.events.specs.declared.event.Phase.TheVariants as phase
 use Rattle.rows.specs.declared.schedule.DepartureRow.{DepartureRow}
-use Rattle.traffic.specs.Lists.{below}
 use Rattle.traffic.specs.Rows.{World}
-use Rattle.traffic.specs.Setup.{Setup, departure}
 use Rattle.part_persons.specs.declared.phases.EarlyPhase.{EarlyPhase}
 use Rattle.part_persons.specs.declared.phases.EarlyPhase.TheVariants.{Land, Leave, Start}
 
@@ -13,10 +11,6 @@ abbrev pub phase_of : EarlyPhase → Phase
 phase_of Land = phase.A
 phase_of Leave = phase.B1
 phase_of Start = phase.B2
-
--- the departures of second t, by number
-abbrev pub departs_in : Setup → ℕ → List ℕ
-departs_in S t = filter (λ d. (departure S d).second == t) (below (length S.departures))
 
 -- the numbers of those rows of which this holds, where the first row has this number
 abbrev pub numbers_where : (DepartureRow → Bool) → ℕ → List DepartureRow → List ℕ

@@ -1,7 +1,7 @@
 -- The links stand for those of a world, and sleep, once the vehicles that start in a second came to them.
 use Rattle.traffic.proofs.Common.{◌≡◌, ◌≢◌, ℕ, ◌<◌, ◌≤◌, false, List, [], ◌∷◌, ◌++◌, ◌∙◌, ap, refl, sym, subst, arith, inl, inr, cases_Bool, eqb, eqb-true, eqb-false, eq-eqb, ne_eqb, lt-ltb}
-use Rattle.traffic.proofs.Common.{length, get_or, filter, map, filter-append, append-nil, append_assoc, Option, None, Some, Setup, World, at, on, All-head, All-tail}
-use Rattle.std.specs.List.{All, AllByRecursion as Each}
+use Rattle.traffic.proofs.Common.{length, get_or, filter, map, filter-append, append-nil, append_assoc, Option, None, Some, Setup, World, at, on}
+use Rattle.std.specs.List.{AllByRecursion as Each}
 use Rattle.std.proofs.lemmas.List.{get_or-set_same, get_or-set_other}
 use Rattle.rows.specs.declared.settings.Dwelling.{Dwelling}
 use Rattle.traffic.specs.declared.stage.Stage.{Stage}
@@ -17,11 +17,8 @@ use Rattle.node_move.specs.NodeStates.{no_link}
 use Rattle.link_seconds.specs.Seconds.{lists_at}
 use Rattle.law_waking.specs.Resting.{Rests, sleeps_to}
 use Rattle.node_seconds.specs.Networks.{lane}
-use Rattle.part_links.specs.Links.{IsLink, AreNumbered, LinksStandAt, LinksStand, AreAsleep}
-use Rattle.part_links.proofs.Whole.{all_numbered}
-use Rattle.law_in_range.specs.Rows.{Counts, IsFitRow}
+use Rattle.part_links.specs.Links.{IsLink, AreNumbered, LinksStandAt, AreAsleep}
 use Rattle.part_persons.specs.Phases.{joined}
-use Rattle.part_persons.proofs.Joining.{AtStart}
 use Rattle.part_starts.specs.Starting.{with_waiting, started, all_started, woken_for, woken_for_all}
 use Rattle.part_starts.proofs.Lists.{started_length, woken_length}
 
@@ -223,20 +220,6 @@ all_asleep D end t count (r ∷ rs) links wakes early c st h =
     (one_asleep D end t r links wakes early there h)
 
 -- THE WORLD
--- a row that stands last in a wait list, of a link that is there
-starts_at : (count : ℕ) (r : Row) → r.link < count → AtStart r → Starts count r
-starts_at count r lt h =
-    let stages : r ≡ record { vehicle = r.vehicle; link = r.link; stage = Wait; second = r.second }
-    = ap (λ (s : Stage). (let x : Row = record { vehicle = r.vehicle; link = r.link; stage = s; second = r.second } in x)) h.stage in
-    let seconds = ap (λ (n : ℕ). (let x : Row = record { vehicle = r.vehicle; link = r.link; stage = Wait; second = n } in x)) h.second in
-    record { link = lt; row = stages ∙ seconds }
-
-pub all_start : (z : Counts) (count : ℕ) (rs : List Row) → z.links ≡ count → All (IsFitRow z) rs → Each AtStart rs → Each (Starts count) rs
-all_start z count [] e f h = tt
-all_start z count (r ∷ rs) e f h =
-    let fit = All-head (IsFitRow z) r rs f in
-    (starts_at count r (subst (λ (n : ℕ). r.link < n) e fit.link) h.0, all_start z count rs e (All-tail (IsFitRow z) r rs f) h.1)
-
 -- links that stand for those of a world stand for those of any with the same rows of vehicles and the same credits
 pub stand_alike : (number : ℕ → ℕ) (size : ℕ) (S : Setup) (t : ℕ) (links : List LinkView) (W V : World) → V.rows ≡ W.rows → V.credits ≡ W.credits
     → LinksStandAt number size S t links W → LinksStandAt number size S t links V
@@ -258,13 +241,3 @@ pub joined_at : (number : ℕ → ℕ) (size : ℕ) (S : Setup) (t count : ℕ) 
 joined_at number size S t count rs links W P own c st e h =
     stand_alike number size S t (all_started rs links) (with_rows (map (in_world number) rs) W) (joined W P)
     (ap (λ (xs : List Row). W.rows ++ xs) e) refl (all_stand number size S t count rs links W own c st h)
-
--- the same where each link of the network is in the slot of its number
-same_rows : (rs : List Row) → rs ≡ map (in_world (λ l. l)) rs
-same_rows [] = refl
-same_rows (r ∷ rs) = ap (λ (xs : List Row). r ∷ xs) (same_rows rs)
-
-pub joined_stand : (S : Setup) (t count : ℕ) (links : List LinkView) (W P : World) → count ≡ length links → Each (Starts count) P.rows → LinksStand S t links W
-    → LinksStand S t (all_started P.rows links) (joined W P)
-joined_stand S t count links W P c st h =
-    joined_at (λ l. l) (length S.links) S t count P.rows links W P (all_numbered S) c st (same_rows P.rows) h

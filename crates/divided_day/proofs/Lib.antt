@@ -1,5 +1,6 @@
 mod Bordering
 mod Counting
+pub mod Lists
 mod Scanning
 mod Single
 mod Slotted

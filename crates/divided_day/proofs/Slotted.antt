@@ -1,17 +1,17 @@
 -- Links that take the slots of their partitions, one after the other.
 use Rattle.std.proofs.Common.{◌≡◌, ◌≢◌, ℕ, zero, suc, ◌+◌, ◌<◌, ◌≤◌, Bool, true, false, List, [], ◌∷◌, ◌++◌, arith, refl, sym, ◌∙◌}
 use Rattle.std.proofs.Common.{ap, subst, inl, inr, length, get_or, set}
-use Rattle.std.proofs.Common.{replicate, append-nil, get_or-set_same, get_or-set_other, length-set}
+use Rattle.std.proofs.Common.{replicate, get_or-set_same, get_or-set_other, length-set}
 use Rattle.std.specs.Prelude.{filter, ◌==◌}
 use Rattle.std.proofs.lemmas.List.{length_push, get_or_push, get_or_append_left, get_or-replicate}
-use Rattle.std.proofs.lemmas.List.Elements.{All-get_or, All-from_recursion, filter-append}
-use Rattle.traffic.proofs.Common.{length-replicate, cases_Bool, cases_lt, eqb-true, eqb-false, eq-eqb, ne_eqb}
+use Rattle.std.proofs.lemmas.List.Elements.{All-get_or, All-from_recursion}
+use Rattle.traffic.proofs.Common.{length-replicate, cases_Bool, cases_lt, eqb-true, eqb-false}
 use Rattle.traffic.proofs.Each.{each_kept, each_number}
 use Rattle.traffic.specs.Lists.{below, numbers}
 use Rattle.traffic.specs.Setup.{Setup}
 use Rattle.parts.specs.Owners.{Owner, owner_of}
 use Rattle.divided_day.specs.Slots.{AreSlots}
-use Rattle.divided_day.proofs.Counting.{below_more}
+use Rattle.divided_day.proofs.Lists.{part_below, one_more, no_more}
 
 filter_short : (pass : ℕ → Bool) (k n : ℕ) → length (filter pass (numbers k n)) ≤ n
 filter_short pass k zero = omega arith
@@ -22,7 +22,7 @@ filter_short pass k (suc n) =
 module _ (S : Setup) (own : Owner) where
   -- the links below n that end in p
   abbrev pub ends_below : ℕ → ℕ → List ℕ
-  ends_below n p = filter (λ l. owner_of S own l == p) (below n)
+  ends_below n p = part_below (owner_of S own) n p
 
   -- so many slots of each partition are taken, and the links below n have theirs
   pub record IsCounted (parts n : ℕ) (taken slots : List ℕ) : Type 0 where
@@ -46,22 +46,6 @@ module _ (S : Setup) (own : Owner) where
       let short = filter_short (λ l. owner_of S own l == p) 0 n in
       omega arith
 
-  more : (n p : ℕ) → ends_below (n + 1) p ≡ ends_below n p ++ filter (λ l. owner_of S own l == p) (n ∷ [])
-  more n p =
-      ap (filter (λ l. owner_of S own l == p)) (below_more n) ∙ filter-append (λ l. owner_of S own l == p) (below n) (n ∷ [])
-
-  one_more : (n p : ℕ) → owner_of S own n ≡ p → ends_below (n + 1) p ≡ ends_below n p ++ n ∷ []
-  one_more n p is =
-      let e : (owner_of S own n == p) ≡ true = eq-eqb (owner_of S own n) p is in
-      let one : filter (λ l. owner_of S own l == p) (n ∷ []) ≡ n ∷ [] = (rw e refl) in
-      more n p ∙ ap (λ xs. ends_below n p ++ xs) one
-
-  no_more : (n p : ℕ) → owner_of S own n ≢ p → ends_below (n + 1) p ≡ ends_below n p
-  no_more n p other =
-      let e : (owner_of S own n == p) ≡ false = ne_eqb (owner_of S own n) p other in
-      let none : filter (λ l. owner_of S own l == p) (n ∷ []) ≡ [] = (rw e refl) in
-      more n p ∙ ap (λ xs. ends_below n p ++ xs) none ∙ append-nil (ends_below n p)
-
   all_below : (n p k : ℕ) → k < length (ends_below n p) → get_or (ends_below n p) k 0 < n
   all_below n p k lt =
       let P : ℕ → Type 0 = λ l. l < n in
@@ -83,7 +67,7 @@ module _ (S : Setup) (own : Owner) where
               let here : q ≡ p = eqb-true q p e in
               let all = h.all_parts in
               let there : p < length taken = omega arith in
-              let one = ap (λ (xs : List ℕ). length xs) (one_more n p (sym is ∙ here)) ∙ length_push (ends_below n p) n in
+              let one = ap (λ (xs : List ℕ). length xs) (one_more (owner_of S own) n p (sym is ∙ here)) ∙ length_push (ends_below n p) n in
               let old : slot ≡ length (ends_below n p) = next ∙ ap (λ (z : ℕ). get_or taken z 0) here ∙ h.count p lp in
               let set_is : get_or new p 0 ≡ slot + 1 =
               ap (λ (xs : List ℕ). get_or xs p 0) (now ∙ ap (λ (z : ℕ). set taken z (slot + 1)) here)
@@ -93,7 +77,7 @@ module _ (S : Setup) (own : Owner) where
               let other : q ≢ p = eqb-false q p e in
               let turned : p ≢ q = λ z. other (sym z) in
               ap (λ (xs : List ℕ). get_or xs p 0) now ∙ get_or-set_other taken q p (slot + 1) 0 turned ∙ h.count p lp
-              ∙ sym (ap (λ (xs : List ℕ). length xs) (no_more n p (λ z. other (is ∙ z))))
+              ∙ sym (ap (λ (xs : List ℕ). length xs) (no_more (owner_of S own) n p (λ z. other (is ∙ z))))
         ]
 
     placed : (p k : ℕ) → k < length (ends_below (n + 1) p) → get_or (slots ++ slot ∷ []) (get_or (ends_below (n + 1) p) k 0) 0 ≡ k
@@ -102,7 +86,7 @@ module _ (S : Setup) (own : Owner) where
         elim (cases_Bool (q == p)) [
           | inl e ↦
               let here : q ≡ p = eqb-true q p e in
-              subst F (sym (one_more n p (sym is ∙ here)))
+              subst F (sym (one_more (owner_of S own) n p (sym is ∙ here)))
               (λ l. let long = length_push (ends_below n p) n in
               elim (cases_lt k (length (ends_below n p))) [
                 | inl old ↦
@@ -115,7 +99,7 @@ module _ (S : Setup) (own : Owner) where
               less
           | inr e ↦
               let other : q ≢ p = eqb-false q p e in
-              subst F (sym (no_more n p (λ z. other (is ∙ z)))) (λ l. kept p k l) less
+              subst F (sym (no_more (owner_of S own) n p (λ z. other (is ∙ z)))) (λ l. kept p k l) less
         ]
 
     pub counted_more : IsCounted parts (n + 1) new (slots ++ slot ∷ [])

@@ -8,16 +8,20 @@ use Rattle.divided_day.specs.declared.dividing.Division.{Division}
 use Rattle.town.specs.Views.{setup}
 use Rattle.partition.specs.Owned.{owner_in}
 use Rattle.divided_day.specs.Days.{borders_in}
-use Rattle.divided_day.specs.Slots.{AreSlots}
+use Rattle.law_partitions.specs.Alone.{my_links}
+use Rattle.divided_day.specs.Slots.{AreSlots, my_starts}
 
 -- these lists have the neighbours of each partition, by number
 pub record AreBordersOf (day : DayInput) (owner : Owner) (lists : List (List Border)) : Type 0 where
   pub many : length lists ≡ owner.parts
   pub each : (p : ℕ) → p < owner.parts → get_or lists p [] ≡ borders_in day owner p
 
--- the town of a day is divided among so many partitions: its nodes by halves, and each partition has its neighbours and slots for its links
+-- The town of a day is divided among so many partitions: its nodes by halves, and each partition has its neighbours, slots for its links, and
+-- lists of the links that end and that begin there; one that there is not has none.
 pub record IsDivided (day : DayInput) (count : ℕ) (division : Division) : Type 0 where
   pub parts : division.owner.parts ≡ count
   pub halved : IsHalved day.town.now.network.nodes count division.owner.of_node
   pub borders : AreBordersOf day division.owner division.borders.items
   pub slots : AreSlots (setup day) (owner_in division.owner.of_node) division.link_slots.items
+  pub ends : (p : ℕ) → get_or division.ends.items p [] ≡ my_links (setup day) (owner_in division.owner.of_node) p
+  pub starts : (p : ℕ) → get_or division.starts.items p [] ≡ my_starts (setup day) (owner_in division.owner.of_node) p

@@ -1,7 +1,8 @@
 -- In which slots the links of a network stand that is divided among partitions: each in the partition where it ends.
-use Rattle.std.specs.Prelude.{◌≡◌, ℕ, ◌<◌, List, length, get_or}
+use Rattle.std.specs.Prelude.{◌≡◌, ℕ, ◌<◌, List, length, filter, get_or, ◌==◌}
+use Rattle.traffic.specs.Lists.{below}
 use Rattle.traffic.specs.Setup.{Setup}
-use Rattle.parts.specs.Owners.{Owner}
+use Rattle.parts.specs.Owners.{Owner, begins_in}
 use Rattle.law_partitions.specs.Alone.{my_links}
 
 -- the link in a slot of partition p, and how many slots it has: its own links by number
@@ -15,3 +16,7 @@ slot_count S own p = length (my_links S own p)
 pub record AreSlots (S : Setup) (own : Owner) (slots : List ℕ) : Type 0 where
   pub many : length slots ≡ length S.links
   pub each : (p k : ℕ) → k < slot_count S own p → get_or slots (link_in S own p k) 0 ≡ k
+
+-- the links that begin in partition p, by number
+abbrev pub my_starts : Setup → Owner → ℕ → List ℕ
+my_starts S own p = filter (λ l. begins_in S own l == p) (below (length S.links))

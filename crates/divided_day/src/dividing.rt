@@ -5,6 +5,7 @@ ghost use Rattle.limits.specs.declared.TheConstants.{MAX_PARTITIONS};
 ghost use Rattle.divided_day.specs.Borders.{border_of, borders_among};
 ghost use Rattle.divided_day.specs.Divisions.{AreBordersOf, IsDivided};
 
+use crate::listing::{NumberList, links_that_begin, links_that_end};
 use crate::slots::link_slots;
 use events::Rows;
 use partition::{LagPair, Owner, Pair, halve, lags, neighbours};
@@ -12,13 +13,19 @@ use std::alloc::{AllocError, Global};
 use step_core::{Border, BorderList};
 use town::DayInput;
 
-/// A town, divided among partitions: who has which node, the neighbours of each partition with the lags from them, in seconds, and which of
-/// the links that end there, by number, each link is in its partition.
+/// A town, divided among partitions.
 #[derive(Drop)]
 pub struct Division {
+    /// Which partition has which node.
     pub owner: Owner,
+    /// By partition its neighbours, ascending, with the lags from them, in seconds.
     pub borders: Vec<BorderList>,
+    /// By link which of the links that end in its partition it is, by number.
     pub link_slots: Vec<u32>,
+    /// By partition the links that end there.
+    pub ends: Vec<NumberList>,
+    /// By partition the links that begin there.
+    pub starts: Vec<NumberList>,
 }
 
 /// The border of a partition that a pair of neighbours makes: with the lag there for the greater of the two, and with the lag back for the
@@ -95,7 +102,7 @@ fn all_borders(alloc: Global, day: &DayInput, owner: &Owner) -> Result<Vec<Borde
 ///
 /// # Errors
 ///
-/// `AllocError`: there is no memory for a number for each node and each link, or for tables of all pairs of partitions.
+/// `AllocError`: there is no memory for a number for each node and three for each link, or for tables of all pairs of partitions.
 pub fn divide(alloc: Global, day: &DayInput, parts: u32) -> Result<Division, AllocError>
     requires some { 1 ≤ parts }
     requires few { parts ≤ MAX_PARTITIONS }
@@ -104,9 +111,13 @@ pub fn divide(alloc: Global, day: &DayInput, parts: u32) -> Result<Division, All
     let owner = halve(alloc, &day.town.network, parts)?;
     let borders = all_borders(alloc, day, &owner)?;
     let link_slots = link_slots(alloc, day, &owner)?;
+    let ends = links_that_end(alloc, day, &owner)?;
+    let starts = links_that_begin(alloc, day, &owner)?;
     Ok(Division {
         owner,
         borders,
         link_slots,
+        ends,
+        starts,
     })
 }

@@ -4,9 +4,11 @@
 
 mod days;
 mod dividing;
+mod listing;
 mod part;
 mod slots;
 
 pub use days::{divided_day, merged_events};
 pub use dividing::{Division, divide};
+pub use listing::{NumberList, numbers_at};
 pub use part::DayPart;

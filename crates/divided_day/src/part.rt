@@ -45,7 +45,8 @@ pub trait DayPart: Part {
         requires there { (Self.see self).number < (Self.net run.now).parts }
         requires at { IsAt Self.see (Self.stands run.now) (Self.see self).number (Self.net run.now).end
             (length (Self.borders run.now (Self.see self).number)) self }
-        ensures { IfOk result (λ events. events ≡ (if streams run.now then end_told_in (day run.now) (owner run.now) (Self.see self).number
+        ensures { IfOk result (λ events. events
+            ≡ (if streams run.now then end_told_in (day run.now) (owner run.now) (Self.see self).number
             else told_in (day run.now) (owner run.now) (Self.see self).number)) };
 
     /// There are as many partitions as the division has, with its neighbours and lags, and each has all seconds of the day to do.

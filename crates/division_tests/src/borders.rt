@@ -1,15 +1,15 @@
-//! The town, divided: who is whose neighbour, with which lags, and in which slots links stand, worked by hand.
+//! The town, divided: who is whose neighbour, with which lags, in which slots links stand, and which links end and begin in each partition,
+//! worked by hand.
 
 use crate::towns::TEXTS;
-use divided_day::{Division, divide};
+use divided_day::{Division, NumberList, divide, numbers_at};
 use limits::MAX_PARTITIONS;
 use rows::Plan;
-use scenario::Scenario;
 use std::alloc::Global;
 use std::thread::Threads;
 use step_core::Border;
 use town::{DayInput, Town};
-use town_fixtures::{chosen_plans, scenario_of};
+use town_fixtures::fixture_of;
 
 /// How many partitions there are; one of them, the place of a neighbour among its neighbours, the neighbour, and the lag from it.
 type Row = (u32, usize, usize, u32, u32);
@@ -44,6 +44,23 @@ static SLOTS: [(u32, [u32; 4]); 4] = [
     (2, [0, 0, 1, 1]),
     (4, [0, 0, 0, 0]),
     (64, [0, 0, 0, 0]),
+];
+
+/// Of how many partitions, one of them, and the links that end and that begin there.
+type Share = (u32, u32, &'static [u32], &'static [u32]);
+
+static SHARES: [Share; 11] = [
+    (1, 0, &[0, 1, 2, 3], &[0, 1, 2, 3]),
+    (2, 0, &[0, 3], &[0, 1, 3]),
+    (2, 1, &[1, 2], &[2]),
+    (4, 0, &[3], &[0]),
+    (4, 1, &[0], &[1, 3]),
+    (4, 2, &[1], &[2]),
+    (4, 3, &[2], &[]),
+    (64, 15, &[3], &[0]),
+    (64, 31, &[0], &[1, 3]),
+    (64, 47, &[1], &[2]),
+    (64, 63, &[2], &[]),
 ];
 
 /// How many borders all partitions have.
@@ -88,6 +105,29 @@ fn are_in_slots(division: &Division, parts: u32) -> bool {
     false
 }
 
+/// How many numbers all lists have.
+fn count_in(lists: &[NumberList]) -> usize {
+    let mut count: usize = 0;
+    for list in lists {
+        count = count.saturating_add(list.rows.len());
+    }
+    count
+}
+
+/// Whether each link ends and begins in its partition of so many, and in no other.
+fn are_shared(division: &Division, parts: u32) -> bool {
+    for share in &SHARES {
+        let (of, partition, ends, starts) = *share;
+        if of == parts
+            && (numbers_at(&division.ends, partition) != ends
+                || numbers_at(&division.starts, partition) != starts)
+        {
+            return false;
+        }
+    }
+    count_in(&division.ends) == 4 && count_in(&division.starts) == 4
+}
+
 /// Whether a town is divided so among so many partitions.
 fn is_divided(alloc: Global, day: &DayInput, parts: u32) -> bool {
     if parts == 0 || parts > MAX_PARTITIONS {
@@ -99,6 +139,7 @@ fn is_divided(alloc: Global, day: &DayInput, parts: u32) -> bool {
                 && division.borders.len() == parts as usize
                 && are_all(&division, parts)
                 && are_in_slots(&division, parts)
+                && are_shared(&division, parts)
         }
         Err(_) => false,
     }
@@ -122,19 +163,11 @@ fn first_other(alloc: Global, town: &Town, chosen: &[Plan]) -> Option<u32> {
 
 /// The same of the town of the files; 0 where they have a fault.
 fn first_other_of<R: Threads + Sync>(rt: &R, alloc: Global) -> Option<u32> {
-    let Some(scenario) = scenario_of(rt, alloc, &TEXTS) else {
+    let Some(fixture) = fixture_of(rt, alloc, &TEXTS) else {
         return Some(0);
     };
-    let Scenario {
-        town,
-        memories,
-        tables: _,
-        learning: _,
-        last_iteration: _,
-    } = scenario;
-    let chosen = chosen_plans(alloc, &memories.rows);
-    let other = first_other(alloc, &town, &chosen);
-    drop(town);
+    let other = first_other(alloc, &fixture.town, &fixture.chosen);
+    drop(fixture);
     other
 }
 

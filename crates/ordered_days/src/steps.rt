@@ -8,12 +8,11 @@ use crate::towns::{FOUR, THREE, WALK};
 use edge_files::InFile;
 use parted_day::{run_of, share};
 use rows::Plan;
-use scenario::Scenario;
 use std::alloc::Global;
 use std::thread::Threads;
 use step_core::Step;
 use town::{DayInput, Town};
-use town_fixtures::{chosen_plans, have_fitting_plans, scenario_of};
+use town_fixtures::{fixture_of, have_fitting_plans};
 use town_part::TownPart;
 
 /// A person at home until 100, who drives to work on the next link, on a day that ends in second 300.
@@ -79,19 +78,11 @@ fn came<R: Threads + Sync>(
     texts: &[(InFile, &'static str)],
     number: u32,
 ) -> Came {
-    let Some(scenario) = scenario_of(rt, alloc, texts) else {
+    let Some(fixture) = fixture_of(rt, alloc, texts) else {
         return (None, None);
     };
-    let Scenario {
-        town,
-        memories,
-        tables: _,
-        learning: _,
-        last_iteration: _,
-    } = scenario;
-    let chosen = chosen_plans(alloc, &memories.rows);
-    let came = came_in(alloc, &town, &chosen, number);
-    drop(town);
+    let came = came_in(alloc, &fixture.town, &fixture.chosen, number);
+    drop(fixture);
     came
 }
 

@@ -13,12 +13,11 @@ use part_seconds::Run;
 use parted_day::{run_of, share};
 use plain_day::plain_day;
 use rows::Plan;
-use scenario::Scenario;
 use std::alloc::Global;
 use std::thread::Threads;
 use step_cases::ORDERS;
 use town::{DayInput, Town};
-use town_fixtures::{chosen_plans, have_fitting_plans, scenario_of};
+use town_fixtures::{fixture_of, have_fitting_plans};
 use town_part::TownPart;
 
 /// A town: its files, how many nodes it has, from the left to the right, and of its day how many events it tells, and in which second the
@@ -319,19 +318,11 @@ fn are_alike_in(alloc: Global, town: &Town, chosen: &[Plan], case: &Case) -> boo
 
 /// The same of the town of its files.
 fn is_told_alike<R: Threads + Sync>(rt: &R, alloc: Global, case: &Case) -> bool {
-    let Some(scenario) = scenario_of(rt, alloc, case.texts) else {
+    let Some(fixture) = fixture_of(rt, alloc, case.texts) else {
         return false;
     };
-    let Scenario {
-        town,
-        memories,
-        tables: _,
-        learning: _,
-        last_iteration: _,
-    } = scenario;
-    let chosen = chosen_plans(alloc, &memories.rows);
-    let alike = are_alike_in(alloc, &town, &chosen, case);
-    drop(town);
+    let alike = are_alike_in(alloc, &fixture.town, &fixture.chosen, case);
+    drop(fixture);
     alike
 }
 

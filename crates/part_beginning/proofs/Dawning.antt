@@ -48,21 +48,13 @@ use Rattle.law_parts_of_days.proofs.Beginning.{begins_with, nodes_of, stops_of}
 use Rattle.law_parts_of_days.proofs.Taken.{taken_as}
 use Rattle.law_parts_of_days.proofs.Worlds.{fit_setup}
 use Rattle.divided_day.specs.Slots.{link_in, slot_count}
+use Rattle.divided_day.proofs.Lists.{same_all}
 use Rattle.part_seconds.specs.declared.area.Area.{Area}
 use Rattle.part_seconds.specs.Settling.{places_known}
 use Rattle.part_seconds.specs.Stands.{AreaStands, NetworkStands, AreOwnDepartures}
 use Rattle.part_seconds.proofs.Lengths.{all_short}
 use Rattle.part_seconds.proofs.Slots.{link_there, link_own}
 use Rattle.part_beginning.specs.Empty.{empty_link, empty_links}
-
--- in a table of one value that value is everywhere, and behind it
-same_all : {X : Type 0} (x : X) (n i : ℕ) → get_or (replicate n x) i x ≡ x
-same_all x n i =
-    let many = length-replicate n x in
-    elim (cases_lt i n) [
-      | inl lt ↦ get_or-replicate n i x x lt
-      | inr ge ↦ get_or_past (replicate n x) i x (omega arith)
-    ]
 
 -- WHO IS THERE
 no_rows : (S : Setup) → (world_start S).rows ≡ []

@@ -1,2 +1,2 @@
-pub mod Emptying
+pub mod Own
 pub mod Dawning

@@ -1,7 +1,7 @@
 -- The links of a partition at the start of a day.
-use Rattle.std.specs.Prelude.{ℕ, List, [], ◌∷◌, map, ◌==◌, if◌then◌else◌}
+use Rattle.std.specs.Prelude.{ℕ, List, map}
 use Rattle.law_partitions.specs.Alone.{my_links}
-use Rattle.parts.specs.Owners.{Owner, owner_of}
+use Rattle.parts.specs.Owners.{Owner}
 use Rattle.queue_link.specs.Links.{LinkView, fresh}
 use Rattle.queue_link.specs.Numbers.{numbers_of}
 use Rattle.traffic.specs.Setup.{Setup, link_row}
@@ -9,10 +9,6 @@ use Rattle.traffic.specs.Setup.{Setup, link_row}
 -- link l: no vehicle is on it, and it has credit for one
 abbrev pub empty_link : Setup → ℕ → LinkView
 empty_link S l = fresh (numbers_of l (link_row S l) S.settings)
-
--- the link, if it ends in p
-abbrev pub own_link : Setup → Owner → ℕ → ℕ → List LinkView
-own_link S own p l = if owner_of S own l == p then empty_link S l ∷ [] else []
 
 -- all links that end in p, by number
 abbrev pub empty_links : Setup → Owner → ℕ → List LinkView

@@ -9,6 +9,7 @@ ghost use Rattle.part_seconds.specs.Stands.{AreaStands, NetworkStands};
 
 use crate::links::empty_links;
 use calendar::Wakes;
+use divided_day::numbers_at;
 use part_nodes::Network;
 use part_persons::{Persons, departures_by_second};
 use part_places::Places;
@@ -41,8 +42,10 @@ fn empty_network(run: &Run, number: u32) -> Result<Network, AllocError>
     ensures { let own = owner_in run.now.owner.now.of_node in let S = setup run.now.day.now in
         IfOk result (λ network. NetworkStands run.now.day.now own number 0 0 network (held S own number 0) (world_held S own number 0)) }
 {
-    let links = empty_links(run.alloc, run.day, run.owner, number)?;
-    let places = Places::new(run.alloc, run.day, run.owner, number)?;
+    let ends = numbers_at(run.ends, number);
+    let links = empty_links(run.alloc, run.day, ends)?;
+    let starts = numbers_at(run.starts, number);
+    let places = Places::new(run.alloc, run.day, starts)?;
     let link_wakes = Wakes::new(run.alloc, links.len())?;
     let node_wakes = Wakes::new(run.alloc, run.day.town.network.nodes.len())?;
     Ok(Network {
@@ -56,8 +59,10 @@ fn empty_network(run: &Run, number: u32) -> Result<Network, AllocError>
 /// The part of a partition at the start of a day: each person whose plan begins on one of its links is at the first activity, no vehicle is
 /// on its links, and each of them has credit for one. Its links are those that end at its nodes, in slots, ascending by number.
 ///
-/// It goes once over the persons, departures and links of the whole town, and makes a row for each person, stop and node, and a hole count
-/// for each link, whosesoever they are; a link's own row, of some 200 bytes, it makes for those of the partition alone.
+/// Of the links it looks at those alone that end in the partition, for each of which it makes a row of some 200 bytes, and at those that
+/// begin there, for the places of each. It goes once over the persons and the departures of the whole town, and fills tables by number for
+/// the whole of it: a row and a second of waking for each person, a second of waking for each node, a line for each stop, and 16 bytes for
+/// each link (12 of `part_places`, and a credit).
 ///
 /// # Errors
 ///

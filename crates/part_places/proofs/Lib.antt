@@ -1,3 +1,4 @@
 pub mod Counting
 pub mod Freed
 pub mod Goings
+pub mod Starting

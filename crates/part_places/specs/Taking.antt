@@ -1,5 +1,6 @@
 -- How the places of links are taken: by the rows of their queues, and by places that were left and are not free yet.
 use Rattle.std.specs.Prelude.{◌≡◌, ℕ, ◌+◌, ◌-◌, ◌<◌, ◌≤◌, Bool, true, false, List, [], ◌++◌, length, get_or, replicate, count_by, nat_le, ◌==◌, if◌then◌else◌, Option, None, Some}
+use Rattle.std.specs.List.{Contains}
 use Rattle.traffic.specs.declared.node_views.OutLink.{OutLink}
 use Rattle.traffic.specs.Setup.{Setup, storage_of, seconds_of}
 use Rattle.calendar.specs.Due.{due_at}
@@ -35,10 +36,6 @@ pub record AreTakenOf (begins : ℕ → Bool) (count end t : ℕ) (T : Taking) (
   pub holes : (m : ℕ) → m < count → begins m ≡ true → get_or P.holes.items m 0 ≡ still t (T.frees m)
   pub freed : (m u : ℕ) → m < count → begins m ≡ true → t ≤ u → u < end → times m (due_at u P.freed) ≡ times u (T.frees m)
 
--- so where all of them begin here
-abbrev pub AreTaken : ℕ → ℕ → ℕ → Taking → Places → Type 0
-AreTaken count end t T P = AreTakenOf (λ m. true) count end t T P
-
 -- link m has no place free, where those that were left and are free in second t or later are taken
 abbrev pub IsFull : ℕ → Taking → ℕ → Type 0
 IsFull t T m = T.storage m ≤ T.queued m + still t (T.frees m)
@@ -55,9 +52,9 @@ empty S = record { storage = storage_of S; seconds = seconds_of S; queued = λ m
 abbrev pub free_place : Setup → ℕ → OutLink
 free_place S m = record { taken = 0; storage = storage_of S m; seconds = seconds_of S m }
 
--- so with those of the first n links that begin here
-abbrev pub AreFree : Setup → (ℕ → Bool) → ℕ → List (Option OutLink) → Type 0
-AreFree S begins n space = (m : ℕ) → m < n → begins m ≡ true → places_in space m ≡ Some (free_place S m)
+-- no place is taken of any of these links
+abbrev pub AreFree : Setup → List ℕ → List (Option OutLink) → Type 0
+AreFree S links space = (m : ℕ) → Contains links m → places_in space m ≡ Some (free_place S m)
 
 -- so many fewer places are taken
 abbrev pub fewer : ℕ → Option OutLink → Option OutLink

@@ -86,10 +86,11 @@ impl Places {
     ///
     /// `AllocError`: there is no memory for it. The places are then of no use.
     pub fn free(&mut self, second: u32) -> Result<Vec<u32>, AllocError>
-        ensures places { (begins : ℕ → Bool) (count end : ℕ) (T : Taking) → second < end → AreTakenOf begins count end second T self.old
-            → OnOk result (AreTakenOf begins count end (second + 1) T self.new) }
+        ensures places { (begins : ℕ → Bool) (count end : ℕ) (T : Taking) → second < end
+            → AreTakenOf begins count end second T self.old → OnOk result (AreTakenOf begins count end (second + 1) T self.new) }
         ensures links { IfOk result (λ links. links.items ≡ filter (is_full_in self.old.space) (due_at second self.old.freed)) }
-        ensures full { (begins : ℕ → Bool) (count end : ℕ) (T : Taking) → second < end → AreTakenOf begins count end second T self.old
+        ensures full { (begins : ℕ → Bool) (count end : ℕ) (T : Taking) → second < end
+            → AreTakenOf begins count end second T self.old
             → IfOk result (λ links. (m : ℕ) → m < count → begins m ≡ true → times m links.items ≡ 0 → IsFull second T m
             → IsFull (second + 1) T m) }
     {

@@ -1,7 +1,7 @@
 //! Vehicles leave the queues of links.
 
-ghost use Rattle.std.specs.Prelude.{◌≡◌, ℕ, ◌+◌, ◌-◌, ◌<◌, ◌≤◌, Bool, true, ◌++◌, [], ◌==◌, if◌then◌else◌};
-ghost use Rattle.std.specs.Prelude.{length, get_or, set, replicate, nat_lt, OnOk};
+ghost use Rattle.std.specs.Prelude.{◌≡◌, ℕ, ◌+◌, ◌-◌, ◌<◌, ◌≤◌, Bool, true, ◌++◌, [], ◌==◌};
+ghost use Rattle.std.specs.Prelude.{if◌then◌else◌, length, get_or, set, replicate, nat_lt, OnOk};
 ghost use Rattle.calendar.specs.Due.{due_at};
 ghost use Rattle.node_move.specs.Spaces.{places_in};
 ghost use Rattle.part_places.specs.Taking.{Taking, AreTakenOf, taken_in, later};

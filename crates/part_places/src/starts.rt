@@ -1,7 +1,8 @@
 //! The places of links on which nobody is.
 
-ghost use Rattle.std.specs.Prelude.{◌≡◌, ℕ, ◌<◌, Some, length, replicate, ◌==◌, ◌&&◌, if◌then◌else◌, OnOk, IfOk};
-ghost use Rattle.node_move.specs.Spaces.{places_in};
+ghost use Rattle.std.specs.Prelude.{◌≡◌, ℕ, ◌<◌, Bool, true, length, replicate, IfOk};
+ghost use Rattle.std.specs.List.{Contains};
+ghost use Rattle.calendar.specs.Due.{AreIn};
 ghost use Rattle.partition.specs.Owned.{owner_in};
 ghost use Rattle.town.specs.Views.{setup};
 ghost use Rattle.part_places.specs.Taking.{AreFree, AreTakenOf, begins_here, empty, free_place};
@@ -12,7 +13,6 @@ use node_move::Space;
 use partition::{Owner, owner_of_node};
 use person_moves::link_row;
 use queue_link::numbers_of;
-use rows::LinkList;
 use std::alloc::{AllocError, Global};
 use town::DayInput;
 use traffic::OutLink;
@@ -41,39 +41,15 @@ pub fn begins_here(day: &DayInput, owner: &Owner, part: u32, link: u32) -> bool
     owner_of_node(&owner.of_node, row.from) == part
 }
 
-/// No place of a link is taken, if it begins in this part.
-fn free_link(
-    day: &DayInput,
-    owner: &Owner,
-    part: u32,
-    link: u32,
-    space: &mut Space,
-) -> Result<(), AllocError>
-    requires { link < length day.now.town.now.network.links }
-    ensures { OnOk result ((m : ℕ) → places_in space.new m
-        ≡ (if (m == link) && begins_here (setup day.now) (owner_in owner.now.of_node) part link then Some (free_place (setup day.now) link)
-        else places_in space.old m)) }
-{
-    if begins_here(day, owner, part, link) {
-        space.set(link, free_place(day, link))?;
-    }
-    Ok(())
-}
-
-/// No place is taken of all links that begin in this part, of so many.
-fn free_space(
-    alloc: Global,
-    day: &DayInput,
-    owner: &Owner,
-    part: u32,
-    count: usize,
-) -> Result<Space, AllocError>
-    requires { count ≡ length day.now.town.now.network.links }
-    ensures { IfOk result (AreFree (setup day.now) (begins_here (setup day.now) (owner_in owner.now.of_node) part) count) }
+/// No place is taken of any of these links.
+fn free_space(alloc: Global, day: &DayInput, links: &[u32]) -> Result<Space, AllocError>
+    requires { AreIn (length day.now.town.now.network.links) links.now }
+    ensures { IfOk result (AreFree (setup day.now) links.now) }
 {
     let mut space = Space::new(alloc);
-    for link in 0..count {
-        free_link(day, owner, part, link as u32, &mut space)?;
+    for link in links {
+        let places = free_place(day, *link);
+        space.set(*link, places)?;
     }
     Ok(space)
 }
@@ -87,32 +63,23 @@ fn no_holes(alloc: Global, count: usize) -> Result<Vec<u64>, AllocError>
     Ok(holes)
 }
 
-/// How many links there are.
-fn count_of(links: &LinkList) -> usize
-    ensures { result ≡ length links.now }
-{
-    links.rows.len()
-}
-
 impl Places {
-    /// The places of the links of a day that begin in this part, at the start of the day: none is taken.
+    /// The places of the links of a day that begin in a part, at the start of the day: none is taken. `starts` are these links.
+    ///
+    /// No other link is looked at. For each link of the town there is a count of holes, and for each up to the last one of these the number
+    /// of an entry: 12 bytes a link.
     ///
     /// # Errors
     ///
     /// `AllocError`: there is no memory for them.
-    #[tactic(auto, unfolding(town::specs::Setups::setup_of))]
-    pub fn new(
-        alloc: Global,
-        day: &DayInput,
-        owner: &Owner,
-        part: u32,
-    ) -> Result<Places, AllocError>
-        ensures { (end : ℕ) → IfOk result (AreTakenOf (begins_here (setup day.now) (owner_in owner.now.of_node) part)
-            (length (setup day.now).links) end 0 (empty (setup day.now))) }
+    pub fn new(alloc: Global, day: &DayInput, starts: &[u32]) -> Result<Places, AllocError>
+        requires { AreIn (length day.now.town.now.network.links) starts.now }
+        ensures { (begins : ℕ → Bool) (end : ℕ)
+            → ((m : ℕ) → m < length (setup day.now).links → begins m ≡ true → Contains starts.now m)
+            → IfOk result (AreTakenOf begins (length (setup day.now).links) end 0 (empty (setup day.now))) }
     {
-        let count = count_of(&day.town.network.links);
-        let space = free_space(alloc, day, owner, part, count)?;
-        let holes = no_holes(alloc, count)?;
+        let space = free_space(alloc, day, starts)?;
+        let holes = no_holes(alloc, day.town.network.links.len())?;
         Ok(Places {
             space,
             holes,

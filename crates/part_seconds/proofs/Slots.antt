@@ -13,7 +13,7 @@ use Rattle.divided_day.specs.Slots.{link_in, slot_count, AreSlots}
 use Rattle.part_seconds.specs.Slots.{extent_of}
 
 -- A PLACE AMONG THOSE THAT PASS
-passed_at : (q : ℕ → Bool) (l k n : ℕ) → k ≤ l → l < k + n → q l ≡ true
+pub passed_at : (q : ℕ → Bool) (l k n : ℕ) → k ≤ l → l < k + n → q l ≡ true
     → (j : ℕ) × ((j < length (filter q (numbers k n))) × (get_or (filter q (numbers k n)) j 0 ≡ l))
 passed_at q l k zero low high e = absurd (omega arith)
 passed_at q l k (suc n) low high e =

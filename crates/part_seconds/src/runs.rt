@@ -4,10 +4,12 @@ ghost use Rattle.std.specs.Prelude.{◌≡◌, ℕ, ◌<◌, [], get_or};
 ghost use Rattle.law_in_range.specs.Setups.{HaveFittingPlans};
 ghost use Rattle.partition.specs.Owned.{owner_in};
 ghost use Rattle.town.specs.Views.{setup};
-ghost use Rattle.divided_day.specs.Slots.{AreSlots};
+ghost use Rattle.law_partitions.specs.Alone.{my_links};
+ghost use Rattle.divided_day.specs.Slots.{AreSlots, my_starts};
 ghost use Rattle.divided_day.specs.Borders.{borders_of};
 ghost use Rattle.part_seconds.specs.Slots.{AreSlotsInto};
 
+use divided_day::NumberList;
 use part_nodes::InLinks;
 use partition::Owner;
 use std::alloc::Global;
@@ -26,6 +28,10 @@ pub struct Run<'a> {
     pub link_slots: &'a [u32],
     /// The neighbours of each partition, ascending, with the lags from them.
     pub borders: &'a [BorderList],
+    /// The links that end in each partition, ascending: its own, in the order of their slots.
+    pub ends: &'a [NumberList],
+    /// The links that begin in each partition, ascending.
+    pub starts: &'a [NumberList],
     /// Whether the events of each second are taken as the day goes on: a part keeps then those of the second that it did last alone.
     pub streams: bool,
     pub ghost given: { HaveFittingPlans day.now },
@@ -33,4 +39,6 @@ pub struct Run<'a> {
     pub ghost into: { AreSlotsInto (setup day.now) link_slots.now in_links.now },
     pub ghost near: { (p : ℕ) → p < owner.now.parts
         → get_or borders.now p [] ≡ borders_of (setup day.now) (owner_in owner.now.of_node) owner.now.parts p },
+    pub ghost own_ends: { (p : ℕ) → get_or ends.now p [] ≡ my_links (setup day.now) (owner_in owner.now.of_node) p },
+    pub ghost own_starts: { (p : ℕ) → get_or starts.now p [] ≡ my_starts (setup day.now) (owner_in owner.now.of_node) p },
 }

@@ -20,7 +20,6 @@ use parcels::LeftRows;
 use part_places::{Left, Places, begins_here};
 use person_moves::{hole_of, link_row};
 use queue_link::LinkState;
-use rows::LinkList;
 use std::alloc::{AllocError, Global};
 use town::DayInput;
 
@@ -297,13 +296,6 @@ pub(crate) fn take_left(
     Ok(left)
 }
 
-/// How many links there are.
-fn count_of(links: &LinkList) -> usize
-    ensures { result ≡ length links.now }
-{
-    links.rows.len()
-}
-
 /// The node at the start of a link is woken in this second, where the link is one of the town and begins in this part.
 #[tactic(auto, unfolding(town::specs::Setups::setup_of))]
 fn wake_start(
@@ -317,7 +309,7 @@ fn wake_start(
     ensures { OnOk result (node_wakes.new
         ≡ wake_own_start (setup run.now.day.now) (owner_in run.now.owner.now.of_node) number second link node_wakes.old) }
 {
-    if (link as usize) < count_of(&run.day.town.network.links)
+    if (link as usize) < run.day.town.network.links.len()
         && begins_here(run.day, run.owner, number, link)
     {
         let row = link_row(run.day, link);

@@ -1,6 +1,6 @@
-//! A town of four nodes in a line, each in a partition of its own: what each of the four parts has at the start of a day.
+//! A town of four nodes in a line, in two partitions and in four: what each part has at the start of a day.
 
-ghost use Rattle.std.specs.Prelude.{◌≡◌};
+ghost use Rattle.std.specs.Prelude.{◌≡◌, ◌≤◌};
 ghost use Rattle.divided_day.specs.Divisions.{IsDivided};
 ghost use Rattle.law_in_range.specs.Setups.{HaveFittingPlans};
 ghost use Rattle.part_seconds.specs.Slots.{AreSlotsInto};
@@ -18,11 +18,10 @@ use part_seconds::{Area, Run};
 use queue_link::LinkState;
 use riders::Waiting;
 use rows::Plan;
-use scenario::Scenario;
 use std::alloc::Global;
 use std::thread::Threads;
 use town::{DayInput, Town};
-use town_fixtures::{chosen_plans, have_fitting_plans, scenario_of};
+use town_fixtures::{fixture_of, have_fitting_plans};
 use traffic::{Person, Place};
 
 /// Links from a to b, to c and to d, and from b back to a. One person walks from the first link to the third, one stays on the fourth, and
@@ -75,42 +74,71 @@ const NOBODY: Person = Person {
     place: Place::Aborted { link: 0 },
 };
 
-/// What a part has at the start: the link that ends at its node, who of the persons is there, which of the links begin there, and the
-/// departures that begin there in seconds 20 and 30.
+/// What a part has at the start: of how many it is which one, the links that end at its nodes, which of the links begin there, who of the
+/// persons is there, and the departures that begin there in seconds 20 and 30.
 struct Start {
-    link: u32,
+    parts: u32,
+    number: u32,
+    links: &'static [u32],
+    places: [bool; 4],
     persons: [bool; 3],
-    links: [bool; 4],
     at_20: Option<u32>,
     at_30: Option<u32>,
 }
 
-static STARTS: [Start; 4] = [
+/// Of two parts the first has a and b, of four each has one node.
+static STARTS: [Start; 6] = [
     Start {
-        link: 3,
+        parts: 2,
+        number: 0,
+        links: &[0, 3],
+        places: [true, true, false, true],
+        persons: [true, true, false],
+        at_20: Some(1),
+        at_30: Some(0),
+    },
+    Start {
+        parts: 2,
+        number: 1,
+        links: &[1, 2],
+        places: [false, false, true, false],
+        persons: [false, false, true],
+        at_20: None,
+        at_30: None,
+    },
+    Start {
+        parts: 4,
+        number: 0,
+        links: &[3],
+        places: [true, false, false, false],
         persons: [false, true, false],
-        links: [true, false, false, false],
         at_20: Some(1),
         at_30: None,
     },
     Start {
-        link: 0,
+        parts: 4,
+        number: 1,
+        links: &[0],
+        places: [false, true, false, true],
         persons: [true, false, false],
-        links: [false, true, false, true],
         at_20: None,
         at_30: Some(0),
     },
     Start {
-        link: 1,
+        parts: 4,
+        number: 2,
+        links: &[1],
+        places: [false, false, true, false],
         persons: [false, false, false],
-        links: [false, false, true, false],
         at_20: None,
         at_30: None,
     },
     Start {
-        link: 2,
+        parts: 4,
+        number: 3,
+        links: &[2],
+        places: [false, false, false, false],
         persons: [false, false, true],
-        links: [false, false, false, false],
         at_20: None,
         at_30: None,
     },
@@ -140,35 +168,53 @@ fn have_come(persons: &Persons, there: &[bool; 3]) -> bool {
     true
 }
 
-/// Whether this is the one link, and nobody is on it.
-fn is_empty(links: &[LinkState], number: u32) -> bool {
-    match links {
-        [link] => link.numbers().link == number
-            && link.idle()
-            && link.queued() == 0
-            && link.buffered() == 0,
-        _ => false,
-    }
+/// Whether nobody is on a link of this number.
+fn is_empty(link: &LinkState, number: u32) -> bool {
+    link.numbers().link == number && link.idle() && link.queued() == 0 && link.buffered() == 0
 }
 
-/// Whether just these links have places.
-fn have_places(space: &Space, begin: &[bool; 4]) -> bool {
-    for link in 0..4 {
-        if space.places(link as u32).is_some() != begin[link] {
+/// Whether these are just the links of these numbers, and nobody is on any of them.
+fn are_links(links: &[LinkState], numbers: &[u32]) -> bool {
+    if links.len() != numbers.len() {
+        return false;
+    }
+    for slot in 0..links.len() {
+        if !is_empty(&links[slot], numbers[slot]) {
             return false;
         }
     }
     true
 }
 
-/// Whether neither the link nor a node is woken.
-fn is_asleep(link_wakes: &Wakes, node_wakes: &Wakes) -> bool {
-    for node in 0..4 {
-        if node_wakes.due(node).is_some() {
+/// Whether just these links have places, of which none is taken.
+fn have_places(space: &Space, begin: &[bool; 4]) -> bool {
+    for link in 0..4 {
+        let free = if begin[link] { Some(0) } else { None };
+        if space.taken(link as u32) != free {
             return false;
         }
     }
-    link_wakes.due(0).is_none()
+    true
+}
+
+/// Whether none of four nodes or links is woken.
+fn is_asleep(wakes: &Wakes) -> bool {
+    for number in 0..4 {
+        if wakes.due(number).is_some() {
+            return false;
+        }
+    }
+    true
+}
+
+/// Whether all of these counts are 0.
+fn are_zero(counts: &[usize]) -> bool {
+    for count in counts {
+        if *count != 0 {
+            return false;
+        }
+    }
+    true
 }
 
 /// Whether just this number is due in a second, or none. It is taken out.
@@ -190,9 +236,10 @@ fn are_empty(lines: &[Waiting]) -> bool {
 
 /// Whether the network of a part begins so.
 fn network_begins(network: &Network, start: &Start) -> bool {
-    is_empty(&network.links, start.link)
-        && have_places(&network.places.space, &start.links)
-        && is_asleep(&network.link_wakes, &network.node_wakes)
+    are_links(&network.links, start.links)
+        && have_places(&network.places.space, &start.places)
+        && is_asleep(&network.link_wakes)
+        && is_asleep(&network.node_wakes)
 }
 
 /// Whether the part begins so.
@@ -202,25 +249,28 @@ fn area_begins(mut area: Area, start: &Start) -> bool {
         && takes(&mut area.departures, 30, start.at_30)
         && are_empty(&area.lines)
         && network_begins(&area.network, start)
-        && area.queues.as_slice() == [0].as_slice()
+        && area.queues.len() == start.links.len()
+        && are_zero(&area.queues)
 }
 
-/// Whether each of the four parts of a run begins so.
+/// Whether each part of a run begins so.
 fn all_begin(run: &Run) -> bool {
-    for (number, start) in STARTS.iter().enumerate() {
-        match begin(run, number as u32) {
-            Ok(area) => {
-                if !area_begins(area, start) {
-                    return false;
+    for start in &STARTS {
+        if start.parts == run.owner.parts {
+            match begin(run, start.number) {
+                Ok(area) => {
+                    if !area_begins(area, start) {
+                        return false;
+                    }
                 }
+                Err(_) => return false,
             }
-            Err(_) => return false,
         }
     }
     true
 }
 
-/// The run of a day over its division into four.
+/// The run of a day over its division.
 fn run_of<'a>(
     alloc: Global,
     day: &'a DayInput<'a>,
@@ -228,7 +278,7 @@ fn run_of<'a>(
     in_links: &'a InLinks,
 ) -> Run<'a>
     requires given { HaveFittingPlans day.now }
-    requires divided { IsDivided day.now 4 division.now }
+    requires divided { IsDivided day.now division.now.owner.parts division.now }
     requires into { AreSlotsInto (setup day.now) division.now.link_slots.items in_links.now }
 {
     Run {
@@ -238,15 +288,19 @@ fn run_of<'a>(
         in_links,
         link_slots: &division.link_slots,
         borders: &division.borders,
+        ends: &division.ends,
+        starts: &division.starts,
         streams: false,
     }
 }
 
 /// The same of a day.
-fn day_begins(alloc: Global, day: &DayInput) -> bool
-    requires { HaveFittingPlans day.now }
+fn day_begins(alloc: Global, day: &DayInput, parts: u32) -> bool
+    requires given { HaveFittingPlans day.now }
+    requires some { 1 ≤ parts }
+    requires few { parts ≤ 4 }
 {
-    let Ok(division) = divide(alloc, day, 4) else {
+    let Ok(division) = divide(alloc, day, parts) else {
         return false;
     };
     let Ok(in_links) = InLinks::new(alloc, day, &division.link_slots) else {
@@ -263,24 +317,19 @@ fn town_begins(alloc: Global, town: &Town, chosen: &[Plan]) -> bool {
         chosen,
         iteration: 0,
     };
-    have_fitting_plans(&day) && day_begins(alloc, &day) && who_comes_is_looked_at(alloc, &day, 110)
+    have_fitting_plans(&day)
+        && day_begins(alloc, &day, 2)
+        && day_begins(alloc, &day, 4)
+        && who_comes_is_looked_at(alloc, &day, 110)
 }
 
 /// The same of the town of the files.
 fn begins<R: Threads + Sync>(rt: &R, alloc: Global) -> bool {
-    let Some(scenario) = scenario_of(rt, alloc, &TEXTS) else {
+    let Some(fixture) = fixture_of(rt, alloc, &TEXTS) else {
         return false;
     };
-    let Scenario {
-        town,
-        memories,
-        tables: _,
-        learning: _,
-        last_iteration: _,
-    } = scenario;
-    let chosen = chosen_plans(alloc, &memories.rows);
-    let begun = town_begins(alloc, &town, &chosen);
-    drop(town);
+    let begun = town_begins(alloc, &fixture.town, &fixture.chosen);
+    drop(fixture);
     begun
 }
 

@@ -1,15 +1,12 @@
-//! A town in two halves: which departures start in each, and which links begin in it.
+//! A town in two halves: which departures start in each, and which links belong to it.
 
 use calendar::Calendar;
 use edge_files::InFile;
 use part_persons::departures_by_second;
-use part_places::Places;
 use partition::{Owner, halve, owner_of_link};
-use scenario::Scenario;
 use std::alloc::Global;
-use std::thread::Threads;
 use town::{DayInput, Town};
-use town_fixtures::scenario_of;
+use town_fixtures::fixture_of;
 
 /// Two nodes, a in the west and b in the east, and a link each way. The first departure starts in second 30 on the link to b, and the
 /// second one in second 20 on the link to a. One person stays at home.
@@ -35,19 +32,6 @@ static TEXTS: [(InFile, &str); 7] = [
     (InFile::Signals, ""),
 ];
 
-/// The town of these texts, where they have no fault.
-fn town_of<R: Threads + Sync>(rt: &R, alloc: Global) -> Option<Town> {
-    let scenario = scenario_of(rt, alloc, &TEXTS)?;
-    let Scenario {
-        town,
-        memories: _,
-        tables: _,
-        learning: _,
-        last_iteration: _,
-    } = scenario;
-    Some(town)
-}
-
 /// Whether just these numbers are due in a second. They are taken out.
 fn takes(calendar: &mut Calendar, second: u32, numbers: &[u32]) -> bool {
     calendar.take(second).as_slice() == numbers
@@ -68,18 +52,7 @@ fn start(
     }
 }
 
-/// Whether of the two links just these begin in a part.
-fn begin(alloc: Global, day: &DayInput, owner: &Owner, part: u32, east: bool, west: bool) -> bool {
-    match Places::new(alloc, day, owner, part) {
-        Ok(places) => {
-            places.space.places(0).is_some() == east && places.space.places(1).is_some() == west
-        }
-        Err(_) => false,
-    }
-}
-
-/// Whether each half has what is its own: a link begins where its first node is and belongs to where its last one is, and a departure
-/// starts where its first link belongs.
+/// Whether each half has what is its own: a link belongs to where its last node is, and a departure starts where its first link belongs.
 fn halves_have_their_own(alloc: Global, town: &Town) -> bool {
     let day = DayInput {
         town,
@@ -91,8 +64,6 @@ fn halves_have_their_own(alloc: Global, town: &Town) -> bool {
     };
     owner_of_link(&day, &owner, 0) == 1
         && owner_of_link(&day, &owner, 1) == 0
-        && begin(alloc, &day, &owner, 0, true, false)
-        && begin(alloc, &day, &owner, 1, false, true)
         && start(alloc, &day, &owner, 0, &[1], &[])
         && start(alloc, &day, &owner, 1, &[], &[0])
 }
@@ -104,18 +75,20 @@ fn whole_has_all(alloc: Global, town: &Town) -> bool {
         chosen: &[],
         iteration: 0,
     };
-    let owner = Owner::sole(alloc);
-    begin(alloc, &day, &owner, 0, true, true) && start(alloc, &day, &owner, 0, &[1], &[0])
+    let Ok(owner) = halve(alloc, &town.network, 1) else {
+        return false;
+    };
+    start(alloc, &day, &owner, 0, &[1], &[0])
 }
 
 #[test]
-fn departures_start_and_links_begin_in_their_halves(rt: HostRuntime) {
+fn departures_start_in_their_halves(rt: HostRuntime) {
     let alloc = rt.alloc();
-    match town_of(&rt, alloc) {
-        Some(town) => {
-            assert!(rt; halves_have_their_own(alloc, &town));
-            assert!(rt; whole_has_all(alloc, &town));
-            drop(town);
+    match fixture_of(&rt, alloc, &TEXTS) {
+        Some(fixture) => {
+            assert!(rt; halves_have_their_own(alloc, &fixture.town));
+            assert!(rt; whole_has_all(alloc, &fixture.town));
+            drop(fixture);
         }
         None => assert!(rt; false),
     }

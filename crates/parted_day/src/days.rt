@@ -40,9 +40,9 @@ fn events_of<'a, R: Threads + Wait + Sync, G: Gate>(
     Ok(events)
 }
 
-/// The events of a day, in the order of their keys, computed in so many partitions by so many workers: one of them works on this thread, and
-/// more each on a thread of its own. They are those of the day of the undivided town, whatever the numbers of both are. The gate is passed
-/// before each second of a partition, also where there is one partition alone.
+/// The events of a day, in the order of their keys, computed in so many partitions by so many workers: one of them works on this thread,
+/// and more each on a thread of its own. They are those of the day of the undivided town, whatever the numbers of both are. The gate is
+/// passed before each second of a partition, also where there is one partition alone.
 ///
 /// # Errors
 ///

@@ -55,6 +55,8 @@ pub fn run_of<'a>(
         in_links: &shared.in_links,
         link_slots: &shared.division.link_slots,
         borders: &shared.division.borders,
+        ends: &shared.division.ends,
+        starts: &shared.division.starts,
         streams,
     }
 }

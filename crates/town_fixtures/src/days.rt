@@ -1,4 +1,4 @@
-//! The plans of a day.
+//! What a day is made from.
 
 ghost use Rattle.std.specs.Prelude.{◌≡◌, map, true};
 ghost use Rattle.std.specs.List.{list_all};
@@ -7,11 +7,23 @@ ghost use Rattle.town.specs.Fits.{fits};
 ghost use Rattle.town.specs.Views.{rows_of};
 ghost use Rattle.law_in_range.specs.Setups.{HaveFittingPlans};
 
+use crate::files::scenario_of;
+use edge_files::InFile;
 use plan_memory::Memory;
 use router::copied_legs;
 use rows::{Legs, Plan};
+use scenario::Scenario;
 use std::alloc::{AllocError, Global};
+use std::thread::Threads;
 use town::{DayInput, Town, plan_fits};
+
+/// A town, and the plan that each of its persons has chosen.
+#[derive(Drop)]
+pub struct Fixture {
+    pub town: Town,
+    /// In the order of persons.
+    pub chosen: Vec<Plan>,
+}
 
 /// Whether each plan fits the town.
 fn all_fit(town: &Town, chosen: &[Plan]) -> bool
@@ -50,9 +62,27 @@ fn copied_plans(alloc: Global, memories: &[Memory]) -> Result<Vec<Plan>, AllocEr
 }
 
 /// The plans that persons have chosen; none where memory is wanting.
-pub fn chosen_plans(alloc: Global, memories: &[Memory]) -> Vec<Plan> {
+fn chosen_plans(alloc: Global, memories: &[Memory]) -> Vec<Plan> {
     match copied_plans(alloc, memories) {
         Ok(plans) => plans,
         Err(_) => Vec::new(alloc),
     }
+}
+
+/// The town and the plans of these texts, where they have no fault. A file of which none is given is not there.
+pub fn fixture_of<R: Threads + Sync>(
+    rt: &R,
+    alloc: Global,
+    texts: &[(InFile, &str)],
+) -> Option<Fixture> {
+    let scenario = scenario_of(rt, alloc, texts)?;
+    let Scenario {
+        town,
+        memories,
+        tables: _,
+        learning: _,
+        last_iteration: _,
+    } = scenario;
+    let chosen = chosen_plans(alloc, &memories.rows);
+    Some(Fixture { town, chosen })
 }

@@ -14,10 +14,10 @@ fn bytes_of(alloc: Global, text: &str) -> Option<Bytes> {
 }
 
 /// The scenario of these texts, where they have no fault. A file of which none is given is not there.
-pub fn scenario_of<R: Threads + Sync>(
+pub(crate) fn scenario_of<R: Threads + Sync>(
     rt: &R,
     alloc: Global,
-    texts: &[(InFile, &'static str)],
+    texts: &[(InFile, &str)],
 ) -> Option<Scenario> {
     let mut files = Files::new(alloc);
     for (file, text) in texts {

@@ -4,5 +4,4 @@
 mod days;
 mod files;
 
-pub use days::{chosen_plans, have_fitting_plans};
-pub use files::scenario_of;
+pub use days::{Fixture, fixture_of, have_fitting_plans};

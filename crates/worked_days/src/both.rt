@@ -1,23 +1,23 @@
-//! Days as the reference computes them and as a run does, in one partition and in several, by one worker and by several: the same events, to
-//! the byte. How many these are is counted by hand: a drive over three nodes tells 14 of them, and one that ends before the second node 8.
+//! Days as the reference computes them and as a run does, in one partition and in several, by one worker and by several: the same events,
+//! to the byte. How many these are is counted by hand: a drive over three nodes tells 14, and one that ends before the second node 8.
 
 ghost use Rattle.std.specs.Prelude.{◌≤◌};
 ghost use Rattle.events.specs.Lines.{AreInBook};
 ghost use Rattle.law_in_range.specs.Setups.{HaveFittingPlans};
 ghost use Rattle.limits.specs.declared.TheConstants.{MAX_PARTITIONS};
 
-use crate::towns::{chosen_plans, have_fitting_plans, let_go, scenario_of};
+use crate::towns::fixture_of;
 use edge_files::OpenGate;
 use events::{Book, Event, lines};
 use parted_day::day_in_parts;
 use plain_day::plain_day;
 use rows::Plan;
-use scenario::Scenario;
 use spread::Spread;
 use std::alloc::Global;
 use std::sync::Wait;
 use std::thread::Threads;
 use town::{DayInput, Town};
+use town_fixtures::have_fitting_plans;
 use worked_cases::{BUS, Case, DRIVE, LINE, WALK};
 
 /// Two links with a light and one without into a node, behind which a link has two places and the next one a single place and little flow.
@@ -174,19 +174,11 @@ fn are_alike_in<R: Threads + Wait + Sync>(
 
 /// The same of a case.
 fn is_told_alike<R: Threads + Wait + Sync>(rt: &R, alloc: Global, day: &Day) -> bool {
-    let Some(scenario) = scenario_of(rt, alloc, &day.case) else {
+    let Some(fixture) = fixture_of(rt, alloc, &day.case) else {
         return false;
     };
-    let Scenario {
-        town,
-        memories,
-        tables: _,
-        learning: _,
-        last_iteration: _,
-    } = scenario;
-    let chosen = chosen_plans(alloc, &memories.rows);
-    let alike = are_alike_in(rt, alloc, &town, &chosen, day.events);
-    let_go(town);
+    let alike = are_alike_in(rt, alloc, &fixture.town, &fixture.chosen, day.events);
+    drop(fixture);
     alike
 }
 

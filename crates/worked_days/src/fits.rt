@@ -1,10 +1,9 @@
 //! Which plans fit a town.
 
-use crate::towns::scenario_of;
+use crate::towns::fixture_of;
 use events::{Name, Names};
 use plans::{PlanFile, read_plans};
 use rows::PlanList;
-use scenario::Scenario;
 use std::alloc::Global;
 use std::thread::Threads;
 use town::{Town, plan_fits};
@@ -106,31 +105,19 @@ fn fit_as_told(town: &Town, plans: &[PlanList]) -> bool {
     told.is_empty()
 }
 
-/// Whether just those of the plans above fit the town of a scenario.
-fn plans_fit(scenario: &Scenario, file: &PlanFile) -> bool {
-    fit_as_told(&scenario.town, &file.plans.rows)
-}
-
-/// The same, where scenario and plans are dropped.
-fn plans_fit_in(scenario: Scenario, file: PlanFile) -> bool {
-    let fit = plans_fit(&scenario, &file);
-    drop(scenario);
-    drop(file);
-    fit
-}
-
-/// The same in the town above.
+/// Whether just those of the plans above fit the town above.
 fn are_fitting<R: Threads + Sync>(rt: &R, alloc: Global) -> bool {
     let Some(file) = plans_of(alloc) else {
         return false;
     };
-    match scenario_of(rt, alloc, &TOWN) {
-        Some(scenario) => plans_fit_in(scenario, file),
-        None => {
-            drop(file);
-            false
-        }
-    }
+    let Some(fixture) = fixture_of(rt, alloc, &TOWN) else {
+        drop(file);
+        return false;
+    };
+    let fit = fit_as_told(&fixture.town, &file.plans.rows);
+    drop(fixture);
+    drop(file);
+    fit
 }
 
 #[test]

@@ -6,15 +6,15 @@ ghost use Rattle.law_in_range.specs.Setups.{counts_in, HaveFittingPlans};
 ghost use Rattle.traffic.specs.Worlds.{IsSoundStage};
 ghost use Rattle.worked_days.specs.Jams.{going, IsRoomy};
 
-use crate::towns::{chosen_plans, have_fitting_plans, let_go, scenario_of};
+use crate::towns::fixture_of;
 use events::{Calls, Event, Route, VehicleId, Word};
 use person_moves::{World, start};
 use plain_day::fit_second;
 use rows::Plan;
-use scenario::Scenario;
 use std::alloc::{AllocError, Global};
 use std::thread::Threads;
 use town::{DayInput, Town};
+use town_fixtures::have_fitting_plans;
 use traffic::{Riders, Row, Stage, Vehicle};
 use worked_cases::Case;
 
@@ -164,24 +164,7 @@ fn entered_in(alloc: Global, town: &Town, chosen: &[Plan], count: u32) -> Vec<(u
     }
 }
 
-/// The same in a scenario.
-fn entered_on(alloc: Global, scenario: Scenario, count: u32) -> Vec<(u32, Option<u32>)>
-    requires { count < 100 }
-{
-    let Scenario {
-        town,
-        memories,
-        tables: _,
-        learning: _,
-        last_iteration: _,
-    } = scenario;
-    let chosen = chosen_plans(alloc, &memories.rows);
-    let entered = entered_in(alloc, &town, &chosen, count);
-    let_go(town);
-    entered
-}
-
-/// The same in the scenario of a case.
+/// The same in the town of a case.
 fn entered_with<R: Threads + Sync>(
     rt: &R,
     alloc: Global,
@@ -190,10 +173,12 @@ fn entered_with<R: Threads + Sync>(
 ) -> Vec<(u32, Option<u32>)>
     requires { count < 100 }
 {
-    match scenario_of(rt, alloc, case) {
-        Some(scenario) => entered_on(alloc, scenario, count),
-        None => Vec::new(alloc),
-    }
+    let Some(fixture) = fixture_of(rt, alloc, case) else {
+        return Vec::new(alloc);
+    };
+    let entered = entered_in(alloc, &fixture.town, &fixture.chosen, count);
+    drop(fixture);
+    entered
 }
 
 /// The jam without holes.

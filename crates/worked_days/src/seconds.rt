@@ -3,15 +3,15 @@
 ghost use Rattle.std.specs.Prelude.{◌<◌};
 ghost use Rattle.law_in_range.specs.Setups.{HaveFittingPlans};
 
-use crate::towns::{chosen_plans, have_fitting_plans, scenario_of};
+use crate::towns::fixture_of;
 use events::{Event, Word};
 use person_moves::start;
 use plain_day::plain_second;
 use rows::Plan;
-use scenario::Scenario;
 use std::alloc::{AllocError, Global};
 use std::thread::Threads;
 use town::{DayInput, Town};
+use town_fixtures::have_fitting_plans;
 use worked_cases::Case;
 
 /// A person who walks at second 100.
@@ -63,19 +63,11 @@ fn words_in(alloc: Global, town: &Town, chosen: &[Plan]) -> Vec<(u32, Word)> {
 
 /// The same in the scenario of a case.
 fn words_on<R: Threads + Sync>(rt: &R, alloc: Global, case: &Case) -> Vec<(u32, Word)> {
-    let Some(scenario) = scenario_of(rt, alloc, case) else {
+    let Some(fixture) = fixture_of(rt, alloc, case) else {
         return Vec::new(alloc);
     };
-    let Scenario {
-        town,
-        memories,
-        tables: _,
-        learning: _,
-        last_iteration: _,
-    } = scenario;
-    let chosen = chosen_plans(alloc, &memories.rows);
-    let words = words_in(alloc, &town, &chosen);
-    drop(town);
+    let words = words_in(alloc, &fixture.town, &fixture.chosen);
+    drop(fixture);
     words
 }
 

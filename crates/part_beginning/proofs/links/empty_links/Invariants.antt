@@ -1,8 +1,15 @@
-use Rattle.std.proofs.Common.{◌≡◌}
-use Rattle.partition.specs.Owned.{owner_in}
+use Rattle.std.proofs.Common.{◌≡◌, ◌++◌, length}
+use Rattle.std.specs.Prelude.{map}
+use Rattle.calendar.specs.Due.{AreIn}
 use Rattle.town.specs.Views.{setup}
-use Rattle.part_beginning.proofs.Emptying.{empties_below}
+use Rattle.part_beginning.specs.Empty.{empty_link}
 use Rattle.part_beginning.proofs.links.empty_links.Given as goal
 
-abbrev pub invariant-loop-link : goal.invariant-loop-link
-invariant-loop-link l = l.links.items ≡ empties_below (setup l.day) (owner_in l.owner.of_node) l.part l.link
+abbrev pub invariant-loop-rest : goal.invariant-loop-rest
+invariant-loop-rest l = record {
+  so_far : l.links.items ++ map (empty_link (setup l.day)) l.rest ≡ map (empty_link (setup l.day)) l.numbers;
+  there : AreIn (length l.day.town.now.network.links) l.rest;
+}
+
+abbrev pub decreases-loop-rest : goal.decreases-loop-rest
+decreases-loop-rest l = length l.rest

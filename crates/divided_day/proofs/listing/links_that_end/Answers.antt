@@ -1,0 +1,37 @@
+use Rattle.std.proofs.Common.{◌≡◌, ◌∙◌, sym, arith}
+use Rattle.town.specs.Views.{setup}
+use Rattle.traffic.specs.Setup.{link_row}
+use Rattle.parts.specs.Owners.{owner_of}
+use Rattle.partition.specs.Owned.{owner_in}
+use Rattle.divided_day.proofs.Lists.{none_listed, listed_more, all_listed}
+use Rattle.divided_day.proofs.Whole.{links_of}
+use Rattle.divided_day.proofs.listing.links_that_end.Goals as goal
+
+pub loop-link-init : goal.loop-link-init
+loop-link-init c =
+    none_listed (owner_of (setup c.args.day.now) (owner_in c.args.owner.now.of_node)) c.args.owner.now.parts c.in_ok-lists.lists.items
+    c.in_ok-lists.ensures
+
+pub add-requires : goal.add-requires
+add-requires c =
+    let is = c.owner_of_link-part.ensures in
+    let lt = c.args.owner.now.owned (link_row (setup c.args.day.now) c.loop-link.link).to in
+    let all = c.loop-link.invariant.many in
+    omega (arith, is, lt, all)
+
+pub loop-link-preserved : goal.loop-link-preserved
+loop-link-preserved c =
+    let is = c.owner_of_link-part.ensures in
+    let lt = c.args.owner.now.owned (link_row (setup c.args.day.now) c.loop-link.link).to in
+    listed_more (owner_of (setup c.args.day.now) (owner_in c.args.owner.now.of_node)) c.args.owner.now.parts c.loop-link.link
+    c.loop-link.lists.items c.add.new.lists.items c.owner_of_link-part.result (omega (arith, is, lt)) is c.in_ok-add.ensures
+    c.loop-link.invariant
+
+pub returns : goal.returns
+returns c =
+    let S = setup c.args.day.now in
+    let a = c.loop-link-test.false in
+    let b = c.loop-link.auto.link-end in
+    let n : c.loop-link.link ≡ c.len-link-end.result = omega (arith, a, b) in
+    all_listed (owner_of S (owner_in c.args.owner.now.of_node)) c.args.owner.now.parts c.loop-link.link _ c.loop-link.lists.items
+    c.loop-link.invariant (n ∙ c.len-link-end.ensures ∙ sym (links_of c.args.day.now))

@@ -1,0 +1,21 @@
+use Rattle.std.proofs.Common.{ℕ, ◌<◌, length, get_or}
+use Rattle.std.proofs.lemmas.List.Elements.{All-get_or, All-from_recursion}
+use Rattle.town.specs.Views.{setup}
+use Rattle.part_places.proofs.Starting.{none_free, one_free, all_free}
+use Rattle.part_places.proofs.starts.free_space.Goals as goal
+
+pub loop-link-init : goal.loop-link-init
+loop-link-init c = none_free (setup c.args.day.now) c.args.links.now c.new-space.result
+
+pub free_place-places-requires : goal.free_place-places-requires
+free_place-places-requires c =
+    let P : ℕ → Type 0 = λ l. l < length c.args.day.now.town.now.network.links in
+    All-get_or P c.args.links.now c.loop-link.link-index 0 c.loop-link-test.true (All-from_recursion P c.args.links.now c.requires)
+
+pub loop-link-preserved : goal.loop-link-preserved
+loop-link-preserved c =
+    one_free (setup c.args.day.now) c.args.links.now c.loop-link.link-index c.free_place-places.result c.loop-link.space c.set.new.self
+    c.loop-link-test.true c.free_place-places.ensures c.in_ok-set.ensures.ok c.loop-link.invariant
+
+pub returns : goal.returns
+returns c = all_free (setup c.args.day.now) c.args.links.now c.loop-link.link-index c.loop-link.space c.loop-link-test.false c.loop-link.invariant

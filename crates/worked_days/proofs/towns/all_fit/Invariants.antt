@@ -1,8 +1,0 @@
-use Rattle.traffic.proofs.Common.{◌≡◌, drop, list_all, map, plan_rows}
-use Rattle.town.specs.Fits.{fits}
-use Rattle.town.specs.Views.{rows_of}
-use Rattle.worked_days.proofs.towns.all_fit.Given as goal
-
-abbrev pub invariant-loop-plan : goal.invariant-loop-plan
-invariant-loop-plan l =
-    list_all (fits (rows_of l.town)) (map plan_rows (drop l.plan-index l.chosen)) ≡ list_all (fits (rows_of l.town)) (map plan_rows l.chosen)

@@ -1,7 +1,7 @@
 -- Persons who come.
 use Rattle.traffic.proofs.Common.{◌≡◌, ◌≢◌, ℕ, zero, suc, ◌+◌, ◌<◌, ◌≤◌, List, [], ◌∷◌, ◌++◌, ◌∙◌, ap, refl, sym, arith, inl, inr}
 use Rattle.traffic.proofs.Common.{cases_Bool, length, set, take, flat_map, map, eqb, eqb-true, eqb-false, get_or-set_same, get_or-set_other}
-use Rattle.traffic.proofs.Common.{length-set, Setup, World, person_of, nobody, ne_eqb, get_or, append-nil, append_assoc, VehicleId, add-one}
+use Rattle.traffic.proofs.Common.{length-set, Setup, World, person_of, nobody, get_or, append-nil, append_assoc, VehicleId, add-one}
 use Rattle.std.specs.Prelude.{min}
 use Rattle.traffic.specs.declared.riders.Rider.{Rider}
 use Rattle.traffic.specs.declared.world.Person.{Person}
@@ -73,12 +73,6 @@ comes_in day n P old new e follows wakes =
       followed = follows;
       wakes = wakes;
     }
-
-pub comes_nowhere : (day : DayInput) (n : ℕ) (P : Person) (old : Persons) → length old.wakes ≡ length old.world.persons
-    → length old.world.persons ≤ n
-    → Come day (λ i. if_is n i P) old old
-comes_nowhere day n P old wakes le =
-    come_none day (λ i. if_is n i P) old wakes (λ i lt. rw (ne_eqb n i (λ q. omega (arith, q, lt, le))) refl)
 
 -- RIDERS
 riding_more : (i : ℕ) (v : VehicleId) (k : ℕ) (rs : List Rider) (es : List ℕ) (d : Rider) (c : ℕ) → k < length rs → k < length es

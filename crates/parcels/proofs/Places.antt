@@ -16,17 +16,18 @@ use Rattle.step_core.specs.Nets.{border_at, no_border}
 use Rattle.parcels.specs.declared.contents.Moved.{Moved}
 use Rattle.parcels.specs.declared.contents.Flying.{Flying}
 use Rattle.parcels.specs.declared.contents.LeftRows.{LeftRows}
-use Rattle.parcels.specs.declared.contents.Parcel.{Parcel}
+use Rattle.parcels.specs.declared.contents.Contents.{Contents}
 use Rattle.parcels.specs.Leaving.{AreOthers}
-use Rattle.parcels.specs.Sending.{nothing, parcel_at, with_vehicles, with_flights, with_freed, place_in, is_at, changed_at, AreMore}
+use Rattle.parcels.specs.Parcels.{nothing}
+use Rattle.parcels.specs.Sending.{parcel_at, with_vehicles, with_flights, with_freed, place_in, is_at, changed_at, AreMore}
 use Rattle.parcels.specs.Sending.{moved_of, vehicle_place, more_vehicles, flight_place, flying_of, more_flights, freed_place, more_freed}
 use Rattle.parcels.proofs.Lists.{next_map}
 
-changed_count : (o : Option ℕ) (f : Parcel → Parcel) (xs : List Parcel) → length (changed_at o f xs) ≡ length xs
+changed_count : (o : Option ℕ) (f : Contents → Contents) (xs : List Contents) → length (changed_at o f xs) ≡ length xs
 changed_count None f xs = refl
 changed_count (Some k) f xs = length-set xs k (f (parcel_at xs k))
 
-changed_each : (o : Option ℕ) (f : Parcel → Parcel) (xs : List Parcel) (k : ℕ) → k < length xs
+changed_each : (o : Option ℕ) (f : Contents → Contents) (xs : List Contents) (k : ℕ) → k < length xs
     → parcel_at (changed_at o f xs) k ≡ (if is_at k o then f (parcel_at xs k) else parcel_at xs k)
 changed_each None f xs k lt = refl
 changed_each (Some j) f xs k lt =
@@ -40,31 +41,31 @@ changed_each (Some j) f xs k lt =
     ]
 
 -- one more step
-pub more_next : (o : Option ℕ) (g : Parcel → Parcel) (f f2 : ℕ → Parcel → Parcel) (old now new : List Parcel) → AreMore f old now
-    → new ≡ changed_at o g now → ((k : ℕ) (x : Parcel) → (if is_at k o then g (f k x) else f k x) ≡ f2 k x) → AreMore f2 old new
+pub more_next : (o : Option ℕ) (g : Contents → Contents) (f f2 : ℕ → Contents → Contents) (old now new : List Contents) → AreMore f old now
+    → new ≡ changed_at o g now → ((k : ℕ) (x : Contents) → (if is_at k o then g (f k x) else f k x) ≡ f2 k x) → AreMore f2 old new
 more_next o g f f2 old now new was e h = record {
   count = ap length e ∙ changed_count o g now ∙ was.count;
   each = λ k lt.
       let there : k < length now = (let c = was.count in omega (arith, lt, c)) in
-      ap (λ (xs : List Parcel). parcel_at xs k) e ∙ changed_each o g now k there
-      ∙ ap (λ (x : Parcel). if is_at k o then g x else x) (was.each k lt)
+      ap (λ (xs : List Contents). parcel_at xs k) e ∙ changed_each o g now k there
+      ∙ ap (λ (x : Contents). if is_at k o then g x else x) (was.each k lt)
       ∙ h k (parcel_at old k);
 }
 
-pub more_none : (f : ℕ → Parcel → Parcel) (xs : List Parcel) → ((k : ℕ) (x : Parcel) → x ≡ f k x) → AreMore f xs xs
+pub more_none : (f : ℕ → Contents → Contents) (xs : List Contents) → ((k : ℕ) (x : Contents) → x ≡ f k x) → AreMore f xs xs
 more_none f xs h = record { count = refl; each = λ k lt. h k (parcel_at xs k) }
 
 -- VEHICLES
-more_of_vehicles : (b : Bool) (x : Parcel) (ys : List Moved) (m : Moved)
+more_of_vehicles : (b : Bool) (x : Contents) (ys : List Moved) (m : Moved)
     → (if b then with_vehicles (m ∷ []) (with_vehicles ys x) else with_vehicles ys x) ≡ with_vehicles (ys ++ (if b then m ∷ [] else [])) x
 more_of_vehicles true x ys m = ap (λ (vs : List Moved). record x { vehicles = vs }) (append_assoc x.vehicles ys (m ∷ []))
 more_of_vehicles false x ys m = ap (λ (vs : List Moved). record x { vehicles = x.vehicles ++ vs }) (sym (append-nil ys))
 
-pub no_vehicles : (x : Parcel) → x ≡ with_vehicles [] x
+pub no_vehicles : (x : Contents) → x ≡ with_vehicles [] x
 no_vehicles x = ap (λ (vs : List Moved). record x { vehicles = vs }) (sym (append-nil x.vehicles))
 
 pub next_vehicles : (S : Setup) (own : Owner) (borders : List Border) (persons : List Person) (es : List Entering) (e : Entering) (k : ℕ)
-    (x : Parcel)
+    (x : Contents)
     → (if is_at k (vehicle_place S own borders e) then with_vehicles (moved_of persons e ∷ []) (more_vehicles S own borders persons es k x)
     else more_vehicles S own borders persons es k x) ≡ more_vehicles S own borders persons (es ++ e ∷ []) k x
 next_vehicles S own borders persons es e k x =
@@ -73,16 +74,16 @@ next_vehicles S own borders persons es e k x =
     ∙ ap (λ (ms : List Moved). with_vehicles ms x) (sym (next_map (moved_of persons) goes es e))
 
 -- FLIGHTS
-more_of_flights : (b : Bool) (x : Parcel) (ys : List Flying) (m : Flying)
+more_of_flights : (b : Bool) (x : Contents) (ys : List Flying) (m : Flying)
     → (if b then with_flights (m ∷ []) (with_flights ys x) else with_flights ys x) ≡ with_flights (ys ++ (if b then m ∷ [] else [])) x
 more_of_flights true x ys m = ap (λ (vs : List Flying). record x { flights = vs }) (append_assoc x.flights ys (m ∷ []))
 more_of_flights false x ys m = ap (λ (vs : List Flying). record x { flights = x.flights ++ vs }) (sym (append-nil ys))
 
-pub no_flights : (x : Parcel) → x ≡ with_flights [] x
+pub no_flights : (x : Contents) → x ≡ with_flights [] x
 no_flights x = ap (λ (vs : List Flying). record x { flights = vs }) (sym (append-nil x.flights))
 
 pub next_flights : (S : Setup) (own : Owner) (p : ℕ) (borders : List Border) (t : ℕ) (persons : List Person) (ns : List ℕ) (n k : ℕ)
-    (x : Parcel)
+    (x : Contents)
     → (if is_at k (flight_place S own p borders t persons n)
     then with_flights (flying_of persons n ∷ []) (more_flights S own p borders t persons ns k x)
     else more_flights S own p borders t persons ns k x) ≡ more_flights S own p borders t persons (ns ++ n ∷ []) k x
@@ -92,15 +93,15 @@ next_flights S own p borders t persons ns n k x =
     ∙ ap (λ (ms : List Flying). with_flights ms x) (sym (next_map (flying_of persons) goes ns n))
 
 -- FREED PLACES
-more_of_freed : (b : Bool) (x : Parcel) (ys : List LeftRows) (m : LeftRows)
+more_of_freed : (b : Bool) (x : Contents) (ys : List LeftRows) (m : LeftRows)
     → (if b then with_freed (m ∷ []) (with_freed ys x) else with_freed ys x) ≡ with_freed (ys ++ (if b then m ∷ [] else [])) x
 more_of_freed true x ys m = ap (λ (vs : List LeftRows). record x { freed = vs }) (append_assoc x.freed ys (m ∷ []))
 more_of_freed false x ys m = ap (λ (vs : List LeftRows). record x { freed = x.freed ++ vs }) (sym (append-nil ys))
 
-pub no_freed : (x : Parcel) → x ≡ with_freed [] x
+pub no_freed : (x : Contents) → x ≡ with_freed [] x
 no_freed x = ap (λ (vs : List LeftRows). record x { freed = vs }) (sym (append-nil x.freed))
 
-pub next_freed : (S : Setup) (own : Owner) (borders : List Border) (fs : List LeftRows) (f : LeftRows) (k : ℕ) (x : Parcel)
+pub next_freed : (S : Setup) (own : Owner) (borders : List Border) (fs : List LeftRows) (f : LeftRows) (k : ℕ) (x : Contents)
     → (if is_at k (freed_place S own borders f) then with_freed (f ∷ []) (more_freed S own borders fs k x)
     else more_freed S own borders fs k x) ≡ more_freed S own borders (fs ++ f ∷ []) k x
 next_freed S own borders fs f k x =

@@ -5,7 +5,7 @@ use Rattle.parts.specs.Parts.{Parcel as Sent, Passed, Flight, Freed, entering_ro
 use Rattle.parcels.specs.declared.contents.Moved.{Moved}
 use Rattle.parcels.specs.declared.contents.Flying.{Flying}
 use Rattle.parcels.specs.declared.contents.LeftRows.{LeftRows}
-use Rattle.parcels.specs.declared.contents.Parcel.{Parcel}
+use Rattle.parcels.specs.declared.contents.Contents.{Contents}
 
 -- of a parcel that was sent in second t: the row of a vehicle, the flight of a person, and how many rows left a queue
 abbrev pub passed_of : Setup → ℕ → Moved → Passed
@@ -17,6 +17,6 @@ flight_of S t f = record { person = f.person; element = f.element; due = t + sec
 abbrev pub freed_row : LeftRows → Freed
 freed_row f = record { link = f.link; rows = f.rows }
 
-abbrev pub parcel_of : Setup → ℕ → Parcel → Sent
+abbrev pub parcel_of : Setup → ℕ → Contents → Sent
 parcel_of S t x =
     record { vehicles = map (passed_of S t) x.vehicles; flights = map (flight_of S t) x.flights; freed = map freed_row x.freed }

@@ -1,3 +1,4 @@
+pub mod Parcels
 pub mod Contents
 pub mod Sending
 pub mod Leaving

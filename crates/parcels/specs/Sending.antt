@@ -14,24 +14,22 @@ use Rattle.step_core.specs.declared.part.Border.{Border}
 use Rattle.parcels.specs.declared.contents.Moved.{Moved}
 use Rattle.parcels.specs.declared.contents.Flying.{Flying}
 use Rattle.parcels.specs.declared.contents.LeftRows.{LeftRows}
-use Rattle.parcels.specs.declared.contents.Parcel.{Parcel}
+use Rattle.parcels.specs.declared.contents.Contents.{Contents}
+use Rattle.parcels.specs.Parcels.{nothing}
 
 -- PARCELS
-abbrev pub nothing : Parcel
-nothing = record { vehicles = []; flights = []; freed = [] }
-
 -- the parcel at a place
-abbrev pub parcel_at : List Parcel → ℕ → Parcel
+abbrev pub parcel_at : List Contents → ℕ → Contents
 parcel_at parcels k = get_or parcels k nothing
 
 -- a parcel with more of each
-abbrev pub with_vehicles : List Moved → Parcel → Parcel
+abbrev pub with_vehicles : List Moved → Contents → Contents
 with_vehicles ms x = record x { vehicles = x.vehicles ++ ms }
 
-abbrev pub with_flights : List Flying → Parcel → Parcel
+abbrev pub with_flights : List Flying → Contents → Contents
 with_flights fs x = record x { flights = x.flights ++ fs }
 
-abbrev pub with_freed : List LeftRows → Parcel → Parcel
+abbrev pub with_freed : List LeftRows → Contents → Contents
 with_freed fs x = record x { freed = x.freed ++ fs }
 
 -- PLACES of neighbours
@@ -44,12 +42,12 @@ is_at k None = false
 is_at k (Some j) = j == k
 
 -- the parcels, where this is done to the one at a place
-abbrev pub changed_at : Option ℕ → (Parcel → Parcel) → List Parcel → List Parcel
+abbrev pub changed_at : Option ℕ → (Contents → Contents) → List Contents → List Contents
 changed_at None f parcels = parcels
 changed_at (Some k) f parcels = set parcels k (f (parcel_at parcels k))
 
 -- as many parcels, and this was done to each of them
-pub record AreMore (f : ℕ → Parcel → Parcel) (old new : List Parcel) : Type 0 where
+pub record AreMore (f : ℕ → Contents → Contents) (old new : List Contents) : Type 0 where
   pub count : length new ≡ length old
   pub each : (k : ℕ) → k < length old → parcel_at new k ≡ f k (parcel_at old k)
 
@@ -70,7 +68,7 @@ moved_of persons e = record { vehicle = e.vehicle; elements = map (element_of pe
 abbrev pub vehicle_place : Setup → Owner → List Border → Entering → Option ℕ
 vehicle_place S own borders e = place_in borders (owner_of S own e.link)
 
-abbrev pub more_vehicles : Setup → Owner → List Border → List Person → List Entering → ℕ → Parcel → Parcel
+abbrev pub more_vehicles : Setup → Owner → List Border → List Person → List Entering → ℕ → Contents → Contents
 more_vehicles S own borders persons es k =
     with_vehicles (map (moved_of persons) (filter (λ e. is_at k (vehicle_place S own borders e)) es))
 
@@ -108,7 +106,7 @@ flight_place S own p borders t persons i = place_if borders (flies S own p t per
 abbrev pub flying_of : List Person → ℕ → Flying
 flying_of persons i = record { person = i; element = (get_or persons i nobody).element }
 
-abbrev pub more_flights : Setup → Owner → ℕ → List Border → ℕ → List Person → List ℕ → ℕ → Parcel → Parcel
+abbrev pub more_flights : Setup → Owner → ℕ → List Border → ℕ → List Person → List ℕ → ℕ → Contents → Contents
 more_flights S own p borders t persons ns k =
     with_flights (map (flying_of persons) (filter (λ i. is_at k (flight_place S own p borders t persons i)) ns))
 
@@ -116,12 +114,12 @@ more_flights S own p borders t persons ns k =
 abbrev pub freed_place : Setup → Owner → List Border → LeftRows → Option ℕ
 freed_place S own borders f = place_in borders (begins_in S own f.link)
 
-abbrev pub more_freed : Setup → Owner → List Border → List LeftRows → ℕ → Parcel → Parcel
+abbrev pub more_freed : Setup → Owner → List Border → List LeftRows → ℕ → Contents → Contents
 more_freed S own borders fs k = with_freed (filter (λ f. is_at k (freed_place S own borders f)) fs)
 
 -- WHAT LEAVES
 -- the parcel for the neighbour at place k
-abbrev pub parcel_for : Setup → Owner → ℕ → List Border → ℕ → List Person → List Entering → List ℕ → List LeftRows → ℕ → Parcel
+abbrev pub parcel_for : Setup → Owner → ℕ → List Border → ℕ → List Person → List Entering → List ℕ → List LeftRows → ℕ → Contents
 parcel_for S own p borders t persons es ns fs k =
     more_freed S own borders fs k (more_flights S own p borders t persons ns k (more_vehicles S own borders persons es k nothing))
 

@@ -8,7 +8,7 @@ ghost use Rattle.traffic.specs.declared.world.Place.TheVariants as place;
 ghost use Rattle.parcels.specs.Contents.{parcel_of, freed_row};
 ghost use Rattle.parcels.specs.Arriving.{Come, entering_by, entered, if_is, flown, all_riding};
 
-use crate::contents::{FlyingList, LeftList, Moved, MovedList, Parcel};
+use crate::contents::{Contents, FlyingList, LeftList, Moved, MovedList};
 use events::VehicleId;
 use node_move::Entering;
 use part_persons::Persons;
@@ -139,7 +139,7 @@ fn bring_flights(
     Ok(())
 }
 
-/// Takes in a parcel of this second: persons come to the partition, and to `entering` the vehicles that come to its links, in order.
+/// Takes in what was in a parcel of this second: persons come to the partition, and to `entering` the vehicles that come to its links, in order.
 /// Answers how many vehicles left the queues of links that begin here.
 ///
 /// # Errors
@@ -148,23 +148,23 @@ fn bring_flights(
 pub fn arrive(
     day: &DayInput,
     second: u32,
-    parcel: Parcel,
+    contents: Contents,
     persons: &mut Persons,
     entering: &mut Vec<Entering>,
 ) -> Result<LeftList, AllocError>
     requires plans { length persons.old.world.persons ≡ length day.now.chosen.now }
     requires wakes { length persons.old.wakes ≡ length persons.old.world.persons }
     ensures persons { OnOk result (Come day.now
-        (λ i. person_in i second (Some (parcel_of (setup day.now) second parcel))) persons.old persons.new) }
+        (λ i. person_in i second (Some (parcel_of (setup day.now) second contents))) persons.old persons.new) }
     ensures entering { OnOk result (entering.new.items
-        ≡ entering.old.items ++ map entered (parcel_of (setup day.now) second parcel).vehicles) }
-    ensures freed { IfOk result (λ freed. map freed_row freed ≡ (parcel_of (setup day.now) second parcel).freed) }
+        ≡ entering.old.items ++ map entered (parcel_of (setup day.now) second contents).vehicles) }
+    ensures freed { IfOk result (λ freed. map freed_row freed ≡ (parcel_of (setup day.now) second contents).freed) }
 {
-    let Parcel {
+    let Contents {
         vehicles,
         flights,
         freed,
-    } = parcel;
+    } = contents;
     bring_vehicles(day, vehicles, persons, entering)?;
     bring_flights(day, second, flights, persons)?;
     Ok(freed)

@@ -1,10 +1,12 @@
 //! What a partition sends to a neighbour in a second.
 
-ghost use Rattle.std.specs.Prelude.{◌≡◌, [], ◌∷◌, OnOk};
-ghost use Rattle.parcels.specs.Sending.{nothing, with_vehicles, with_flights, with_freed};
+ghost use Rattle.std.specs.Prelude.{◌≡◌, [], ◌∷◌, IfOk, OnOk, MatchOption};
+ghost use Rattle.parcels.specs.Parcels.{nothing};
+ghost use Rattle.parcels.specs.Sending.{with_vehicles, with_flights, with_freed};
 
 use events::Rows;
 use std::alloc::{AllocError, Global};
+use std::marker::Model;
 use traffic::Vehicle;
 
 /// A vehicle that crosses a border, with the elements of its riders. Its row follows from the vehicle and the second.
@@ -36,18 +38,18 @@ pub type LeftList = Rows<LeftRows>;
 
 /// What goes over a border in one second.
 #[derive(Drop)]
-pub struct Parcel {
+pub struct Contents {
     pub vehicles: MovedList,
     pub flights: FlyingList,
     pub freed: LeftList,
 }
 
-impl Parcel {
-    /// A parcel with nothing in it.
-    pub(crate) fn new(alloc: Global) -> Parcel
+impl Contents {
+    /// Nothing yet.
+    fn new(alloc: Global) -> Contents
         ensures { result ≡ nothing }
     {
-        Parcel {
+        Contents {
             vehicles: Rows {
                 rows: Vec::new(alloc),
             },
@@ -60,24 +62,106 @@ impl Parcel {
         }
     }
 
-    pub(crate) fn add_vehicle(&mut self, moved: Moved) -> Result<(), AllocError>
+    fn add_vehicle(&mut self, moved: Moved) -> Result<(), AllocError>
         ensures { OnOk result (self.new ≡ with_vehicles (moved ∷ []) self.old) }
     {
         self.vehicles.rows.push(moved)?;
         Ok(())
     }
 
-    pub(crate) fn add_flight(&mut self, flying: Flying) -> Result<(), AllocError>
+    fn add_flight(&mut self, flying: Flying) -> Result<(), AllocError>
         ensures { OnOk result (self.new ≡ with_flights (flying ∷ []) self.old) }
     {
         self.flights.rows.push(flying)?;
         Ok(())
     }
 
-    pub(crate) fn add_freed(&mut self, left: LeftRows) -> Result<(), AllocError>
+    fn add_freed(&mut self, left: LeftRows) -> Result<(), AllocError>
         ensures { OnOk result (self.new ≡ with_freed (left ∷ []) self.old) }
     {
         self.freed.rows.push(left)?;
         Ok(())
+    }
+}
+
+/// The parcel of one second. In most seconds nothing goes over a border, and a parcel with nothing in it takes no memory of its own.
+/// Contracts see a parcel as what is in it.
+#[derive(Drop)]
+pub struct Parcel {
+    contents: Option<Box<Contents>>,
+}
+
+impl Model for Parcel {
+    ghost use Rattle.parcels.specs.declared.contents.Contents.{Contents};
+    ghost use Rattle.parcels.specs.Parcels.{contents_in};
+
+    ghost Value = { Contents };
+
+    ghost view = { λ p. contents_in p.contents };
+}
+
+impl Parcel {
+    /// A parcel with nothing in it.
+    pub(crate) fn new() -> Parcel
+        ensures { result ≡ nothing }
+    {
+        Parcel { contents: None }
+    }
+
+    /// Takes what is in the parcel out, to be filled and put back.
+    fn take(&mut self, alloc: Global) -> Result<Box<Contents>, AllocError>
+        ensures { IfOk result (λ contents. contents.value ≡ self.old) }
+    {
+        match self.contents.take() {
+            Some(contents) => Ok(contents),
+            None => Ok(Box::new(alloc, Contents::new(alloc))?),
+        }
+    }
+
+    pub(crate) fn add_vehicle(&mut self, alloc: Global, moved: Moved) -> Result<(), AllocError>
+        ensures { OnOk result (self.new ≡ with_vehicles (moved ∷ []) self.old) }
+    {
+        let mut contents = self.take(alloc)?;
+        contents.add_vehicle(moved)?;
+        self.contents = Some(contents);
+        Ok(())
+    }
+
+    pub(crate) fn add_flight(&mut self, alloc: Global, flying: Flying) -> Result<(), AllocError>
+        ensures { OnOk result (self.new ≡ with_flights (flying ∷ []) self.old) }
+    {
+        let mut contents = self.take(alloc)?;
+        contents.add_flight(flying)?;
+        self.contents = Some(contents);
+        Ok(())
+    }
+
+    pub(crate) fn add_freed(&mut self, alloc: Global, left: LeftRows) -> Result<(), AllocError>
+        ensures { OnOk result (self.new ≡ with_freed (left ∷ []) self.old) }
+    {
+        let mut contents = self.take(alloc)?;
+        contents.add_freed(left)?;
+        self.contents = Some(contents);
+        Ok(())
+    }
+
+    /// What is in the parcel; `None`: nothing.
+    pub fn contents(&self) -> Option<&Contents>
+        ensures { MatchOption result (self.now ≡ nothing) (λ contents. contents.now ≡ self.now) }
+    {
+        match &self.contents {
+            Some(contents) => Some(&**contents),
+            None => None,
+        }
+    }
+
+    /// What was in the parcel; `None`: nothing.
+    pub fn into_contents(self) -> Option<Contents>
+        ensures { MatchOption result (self ≡ nothing) (λ contents. contents ≡ self) }
+    {
+        match self.contents {
+            Some(contents) => Some(Box::into_inner(contents)),
+            None => None,
+        }
     }
 }

@@ -16,7 +16,8 @@ ghost use Rattle.town.specs.Views.{setup};
 ghost use Rattle.traffic.specs.Lists.{below};
 ghost use Rattle.traffic.specs.Rows.{person_of};
 ghost use Rattle.parcels.specs.Contents.{freed_row, parcel_of};
-ghost use Rattle.parcels.specs.Sending.{nothing, parcel_at, parcel_for, all_gone, riders_of, if_flies};
+ghost use Rattle.parcels.specs.Parcels.{nothing};
+ghost use Rattle.parcels.specs.Sending.{parcel_at, parcel_for, all_gone, riders_of, if_flies};
 ghost use Rattle.parcels.specs.Sending.{AreMore, more_vehicles, more_flights, more_freed};
 ghost use Rattle.parcels.specs.Leaving.{AreWithout, AreOthers, HaveGone};
 
@@ -42,9 +43,9 @@ pub struct Leaving {
 fn empty_parcels(alloc: Global, count: usize) -> Result<Vec<Parcel>, AllocError>
     ensures { IfOk result (λ parcels. parcels.items ≡ replicate count nothing) }
 {
-    let mut parcels = Vec::new(alloc);
+    let mut parcels = Vec::with_capacity(alloc, count)?;
     for _place in 0..count {
-        parcels.push(Parcel::new(alloc))?;
+        parcels.push(Parcel::new())?;
     }
     Ok(parcels)
 }
@@ -68,6 +69,7 @@ fn fill_vehicles(
 
 /// The flights go.
 fn fill_flights(
+    alloc: Global,
     exits: &Exits,
     second: u32,
     world: &World,
@@ -83,11 +85,12 @@ fn fill_flights(
         OnOk result (gone.new.items ≡ gone.old.items
         ++ flat_map (if_flies (setup exits.now.day.now) own exits.now.part second world.now.persons) looked.items) }
 {
-    send_flights(exits, second, &world.persons, looked, parcels, gone)
+    send_flights(alloc, exits, second, &world.persons, looked, parcels, gone)
 }
 
 /// It is told whose places came free.
 fn fill_freed(
+    alloc: Global,
     exits: &Exits,
     freed: Vec<LeftRows>,
     parcels: &mut Vec<Parcel>,
@@ -96,7 +99,7 @@ fn fill_freed(
         OnOk result (AreMore (more_freed (setup exits.now.day.now) own exits.now.borders.now freed.items) parcels.old.items
         parcels.new.items) }
 {
-    send_all_freed(exits, freed, parcels)
+    send_all_freed(alloc, exits, freed, parcels)
 }
 
 /// Puts all that leaves into parcels, and tells the numbers of those who go with it.
@@ -126,8 +129,8 @@ fn fill(
     } = leaving;
     let mut parcels = empty_parcels(alloc, exits.borders.len())?;
     fill_vehicles(alloc, exits, world, entering, &mut parcels, gone)?;
-    fill_flights(exits, second, world, looked, &mut parcels, gone)?;
-    fill_freed(exits, freed, &mut parcels)?;
+    fill_flights(alloc, exits, second, world, looked, &mut parcels, gone)?;
+    fill_freed(alloc, exits, freed, &mut parcels)?;
     Ok(parcels)
 }
 

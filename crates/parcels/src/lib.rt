@@ -11,7 +11,7 @@ mod leaving;
 mod sending;
 
 pub use arriving::arrive;
-pub use contents::{Flying, FlyingList, LeftList, LeftRows, Moved, MovedList, Parcel};
+pub use contents::{Contents, Flying, FlyingList, LeftList, LeftRows, Moved, MovedList, Parcel};
 pub use hearing::hear_freed;
 pub use leaving::{Leaving, send};
 pub use sending::Exits;

@@ -62,14 +62,19 @@ fn begins_in(day: &DayInput, owner: &Owner, link: u32) -> u32
 
 /// Puts a vehicle into the parcel at a place, if there is one.
 #[tactic(auto, using(std::proofs::lemmas::List::set_past))]
-fn put_vehicle(place: Option<usize>, moved: Moved, parcels: &mut [Parcel]) -> Result<(), AllocError>
+fn put_vehicle(
+    alloc: Global,
+    place: Option<usize>,
+    moved: Moved,
+    parcels: &mut [Parcel],
+) -> Result<(), AllocError>
     ensures { OnOk result (parcels.new ≡ changed_at place (with_vehicles (moved ∷ [])) parcels.old) }
 {
     let Some(place) = place else {
         return Ok(());
     };
     if place < parcels.len() {
-        parcels[place].add_vehicle(moved)?;
+        parcels[place].add_vehicle(alloc, moved)?;
     }
     Ok(())
 }
@@ -77,6 +82,7 @@ fn put_vehicle(place: Option<usize>, moved: Moved, parcels: &mut [Parcel]) -> Re
 /// The same with a flight.
 #[tactic(auto, using(std::proofs::lemmas::List::set_past))]
 fn put_flight(
+    alloc: Global,
     place: Option<usize>,
     flying: Flying,
     parcels: &mut [Parcel],
@@ -87,21 +93,26 @@ fn put_flight(
         return Ok(());
     };
     if place < parcels.len() {
-        parcels[place].add_flight(flying)?;
+        parcels[place].add_flight(alloc, flying)?;
     }
     Ok(())
 }
 
 /// The same with a link whose queue vehicles left.
 #[tactic(auto, using(std::proofs::lemmas::List::set_past))]
-fn put_freed(place: Option<usize>, left: LeftRows, parcels: &mut [Parcel]) -> Result<(), AllocError>
+fn put_freed(
+    alloc: Global,
+    place: Option<usize>,
+    left: LeftRows,
+    parcels: &mut [Parcel],
+) -> Result<(), AllocError>
     ensures { OnOk result (parcels.new ≡ changed_at place (with_freed (left ∷ [])) parcels.old) }
 {
     let Some(place) = place else {
         return Ok(());
     };
     if place < parcels.len() {
-        parcels[place].add_freed(left)?;
+        parcels[place].add_freed(alloc, left)?;
     }
     Ok(())
 }
@@ -174,7 +185,7 @@ fn send_vehicle(
     let part = owner_of_link(exits.day, exits.owner, link);
     let place = place_of(exits.borders, part);
     let elements = with_riders(alloc, persons, &vehicle, gone)?;
-    put_vehicle(place, Moved { vehicle, elements }, parcels)
+    put_vehicle(alloc, place, Moved { vehicle, elements }, parcels)
 }
 
 /// So do all of these.
@@ -224,6 +235,7 @@ fn flies_to(exits: &Exits, second: u32, number: u32, person: Person) -> Option<u
 
 /// A person who sets out to another partition goes there.
 fn send_flight(
+    alloc: Global,
     exits: &Exits,
     second: u32,
     persons: &[Person],
@@ -252,11 +264,12 @@ fn send_flight(
         person: number,
         element: person.element,
     };
-    put_flight(place_of(exits.borders, part), flying, parcels)
+    put_flight(alloc, place_of(exits.borders, part), flying, parcels)
 }
 
 /// So do all of these who do.
 pub(crate) fn send_flights(
+    alloc: Global,
     exits: &Exits,
     second: u32,
     persons: &[Person],
@@ -273,23 +286,29 @@ pub(crate) fn send_flights(
         ++ flat_map (if_flies (setup exits.now.day.now) own exits.now.part second persons.now) looked.items) }
 {
     for number in looked {
-        send_flight(exits, second, persons, number, parcels, gone)?;
+        send_flight(alloc, exits, second, persons, number, parcels, gone)?;
     }
     Ok(())
 }
 
 /// It is told how many vehicles left the queue of a link to the partition in which that begins.
-fn send_freed(exits: &Exits, left: LeftRows, parcels: &mut [Parcel]) -> Result<(), AllocError>
+fn send_freed(
+    alloc: Global,
+    exits: &Exits,
+    left: LeftRows,
+    parcels: &mut [Parcel],
+) -> Result<(), AllocError>
     ensures { OnOk result (parcels.new
         ≡ changed_at (freed_place (setup exits.now.day.now) (owner_in exits.now.owner.now.of_node) exits.now.borders.now left)
         (with_freed (left ∷ [])) parcels.old) }
 {
     let part = begins_in(exits.day, exits.owner, left.link);
-    put_freed(place_of(exits.borders, part), left, parcels)
+    put_freed(alloc, place_of(exits.borders, part), left, parcels)
 }
 
 /// So with all of these.
 pub(crate) fn send_all_freed(
+    alloc: Global,
     exits: &Exits,
     freed: Vec<LeftRows>,
     parcels: &mut [Parcel],
@@ -298,7 +317,7 @@ pub(crate) fn send_all_freed(
         OnOk result (AreMore (more_freed (setup exits.now.day.now) own exits.now.borders.now freed.items) parcels.old parcels.new) }
 {
     for left in freed {
-        send_freed(exits, left, parcels)?;
+        send_freed(alloc, exits, left, parcels)?;
     }
     Ok(())
 }

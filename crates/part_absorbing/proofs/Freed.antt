@@ -15,7 +15,7 @@ use Rattle.law_parcels.specs.Hearing.{heard_holes, IsReadyBy, IsBetween}
 use Rattle.part_places.specs.declared.places.Places.{Places}
 use Rattle.part_places.specs.Taking.{Taking, AreTakenOf, begins_here}
 use Rattle.parcels.specs.declared.contents.LeftRows.{LeftRows}
-use Rattle.parcels.specs.declared.contents.Parcel.{Parcel}
+use Rattle.parcels.specs.declared.contents.Contents.{Contents}
 use Rattle.parcels.specs.Contents.{freed_row}
 use Rattle.parcels.specs.Hearing.{heard, heard_all, CanHearAll}
 use Rattle.part_seconds.proofs.Leaving.{taken_alike}
@@ -154,7 +154,7 @@ pub few_heard : (S : Setup) (own : Owner) (p t : ℕ) (ns : List ℕ) → IsRead
     → (m : ℕ) → begins_here S own p m ≡ true → length (heard_holes S own p t ns m) ≤ (held S own p t).rows m
 few_heard S own p t ns becomes m b = let r = becomes.rows m (eqb-true (begins_in S own m) p b) in omega arith
 
-module _ (S : Setup) (own : Owner) (p q s t : ℕ) (all ns rest : List ℕ) (T : Taking) (x : Parcel) (right : IsRight S own q p s x)
+module _ (S : Setup) (own : Owner) (p q s t : ℕ) (all ns rest : List ℕ) (T : Taking) (x : Contents) (right : IsRight S own q p s x)
     (other : near S own q p ≡ true) (due : t ≡ s + lag S own q p) (between : IsBetween S own q p s) (split : all ≡ ns ++ q ∷ rest)
     (few : (m : ℕ) → begins_here S own p m ≡ true → length (heard_holes S own p t all m) ≤ T.queued m) where
   abbrev of : ℕ → ℕ → List ℕ

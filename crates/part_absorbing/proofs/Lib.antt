@@ -3,6 +3,7 @@ pub mod Neighbours
 pub mod Vehicles
 pub mod Freed
 pub mod Rows
+pub mod Nothing
 pub mod Queues
 pub mod Steps
 pub mod Ready

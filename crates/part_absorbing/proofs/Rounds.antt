@@ -24,7 +24,7 @@ use Rattle.step_core.specs.Views.{IsHeard, HasHeard, in_place}
 use Rattle.divided_day.specs.Borders.{borders_of}
 use Rattle.divided_day.specs.Slots.{AreSlots}
 use Rattle.divided_day.proofs.Whole.{borders_sound}
-use Rattle.parcels.specs.declared.contents.Parcel.{Parcel}
+use Rattle.parcels.specs.declared.contents.Contents.{Contents}
 use Rattle.part_seconds.specs.declared.area.Area.{Area}
 use Rattle.part_seconds.specs.Stands.{AreaStands}
 use Rattle.part_absorbing.specs.Absorbed.{IsRight, neighbours_at, HasTakenInIf, HasAbsorbed}
@@ -49,10 +49,10 @@ TakeIn =
 
 -- INBOXES
 -- the places before one more are empty once that one is
-pub emptied_next : (inbox new : List (Option Parcel)) (k : ℕ) → new ≡ set inbox k None → k < length inbox
+pub emptied_next : (inbox new : List (Option Contents)) (k : ℕ) → new ≡ set inbox k None → k < length inbox
     → ((j : ℕ) → j < k → in_place inbox j ≡ None) → (j : ℕ) → j < k + 1 → in_place new j ≡ None
 emptied_next inbox new k e lt was j less =
-    ap (λ (xs : List (Option Parcel)). in_place xs j) e
+    ap (λ (xs : List (Option Contents)). in_place xs j) e
     ∙ elim (cases_lt j k) [
       | inl before ↦ get_or-set_other inbox k j None None (λ (same : j ≡ k). omega arith) ∙ was j before
       | inr behind ↦
@@ -60,10 +60,10 @@ emptied_next inbox new k e lt was j less =
           ap (λ (i : ℕ). in_place (set inbox k None) i) same ∙ get_or-set_same inbox k None None lt
     ]
 
-pub kept_next : (inbox first new : List (Option Parcel)) (k : ℕ) → new ≡ set inbox k None
+pub kept_next : (inbox first new : List (Option Contents)) (k : ℕ) → new ≡ set inbox k None
     → ((j : ℕ) → k ≤ j → in_place inbox j ≡ in_place first j) → (j : ℕ) → k + 1 ≤ j → in_place new j ≡ in_place first j
 kept_next inbox first new k e was j le =
-    ap (λ (xs : List (Option Parcel)). in_place xs j) e ∙ get_or-set_other inbox k j None None (λ (same : j ≡ k). omega arith)
+    ap (λ (xs : List (Option Contents)). in_place xs j) e ∙ get_or-set_other inbox k j None None (λ (same : j ≡ k). omega arith)
     ∙ was j (omega arith)
 
 module _ (day : DayInput) (owner : Owner) (given : HaveFittingPlans day) (p t : ℕ) (slots : List ℕ)
@@ -89,7 +89,7 @@ module _ (day : DayInput) (owner : Owner) (given : HaveFittingPlans day) (p t : 
   becomes = makes S own owner.parts p t all (sound_setup day given) (consistent_setup day given) owner.owned hears
 
   -- one place more
-  pub round : (k s : ℕ) (o : Option Parcel) (inbox : List (Option Parcel)) (now new : Area) → k < length rows
+  pub round : (k s : ℕ) (o : Option Contents) (inbox : List (Option Contents)) (now new : Area) → k < length rows
       → s ≡ t - (border_at rows k).lag
       → HasHeard (IsRight S own) p t rows inbox → o ≡ in_place inbox k → HasAbsorbed day own p t (take k all) old now
       → HasTakenInIf day slots s o now new → HasAbsorbed day own p t (take (k + 1) all) old new
@@ -97,7 +97,7 @@ module _ (day : DayInput) (owner : Owner) (given : HaveFittingPlans day) (p t : 
       let b = border_at rows k in
       let borders = borders_sound day owner given p in
       let here : IsHeard (IsRight S own) p t b o
-      = subst (λ (x : Option Parcel). IsHeard (IsRight S own) p t b x) (sym there) (heard k lt) in
+      = subst (λ (x : Option Contents). IsHeard (IsRight S own) p t b x) (sym there) (heard k lt) in
       let n = many rows in
       absorbed_next day own p t old h slots are all k b (omega arith) (neighbour_is rows k lt) (borders.each k lt) (borders.lags k lt)
       becomes

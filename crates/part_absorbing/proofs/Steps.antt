@@ -24,7 +24,7 @@ use Rattle.node_seconds.specs.Networks.{lane, is_among, slot_in, accepted_all}
 use Rattle.part_links.specs.Links.{IsLink, AreAsleep}
 use Rattle.part_nodes.proofs.Entered.{length_all, ComesBy, all_accepted_asleep}
 use Rattle.part_places.specs.Taking.{Taking, AreTakenOf, begins_here}
-use Rattle.parcels.specs.declared.contents.Parcel.{Parcel}
+use Rattle.parcels.specs.declared.contents.Contents.{Contents}
 use Rattle.parcels.specs.Contents.{parcel_of}
 use Rattle.parcels.specs.Arriving.{entered}
 use Rattle.parcels.proofs.Coming.{come_next, come_none, same_come}
@@ -157,7 +157,7 @@ module _ (day : DayInput) (own : Owner) (p t : ℕ) (old : Area)
       }
 
     -- A NEIGHBOUR THAT SENT A PARCEL
-    module _ (slots : List ℕ) (are : AreSlots (setup day) own slots) (all rest : List ℕ) (q s : ℕ) (x : Parcel) (new : Area)
+    module _ (slots : List ℕ) (are : AreSlots (setup day) own slots) (all rest : List ℕ) (q s : ℕ) (x : Contents) (new : Area)
         (other : near (setup day) own q p ≡ true) (due : t ≡ s + lag (setup day) own q p) (right : IsRight (setup day) own q p s x)
         (between : IsBetween (setup day) own q p s) (split : all ≡ ns ++ q ∷ rest) (becomes : IsReadyBy (setup day) own p t all)
         (e : HasTakenIn day slots s x now new) where
@@ -280,7 +280,7 @@ module _ (day : DayInput) (own : Owner) (p t : ℕ) (old : Area)
   -- that of the neighbour at this border
   pub absorbed_next : (slots : List ℕ) → AreSlots S own slots → (all : List ℕ) (k : ℕ) (b : Border) → k < length all
       → get_or all k 0 ≡ b.neighbour → near S own b.neighbour p ≡ true → b.lag ≡ lag S own b.neighbour p → IsReadyBy S own p t all
-      → ((s : ℕ) → IsBetween S own b.neighbour p s) → (o : Option Parcel) (now new : Area) → IsHeard (IsRight S own) p t b o
+      → ((s : ℕ) → IsBetween S own b.neighbour p s) → (o : Option Contents) (now new : Area) → IsHeard (IsRight S own) p t b o
       → HasAbsorbed day own p t (take k all) old now → HasTakenInIf day slots (t - b.lag) o now new
       → HasAbsorbed day own p t (take (k + 1) all) old new
   absorbed_next slots are all k b lt is other lags becomes between None now new heard g e =

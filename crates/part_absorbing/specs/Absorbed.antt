@@ -17,7 +17,7 @@ use Rattle.node_move.specs.declared.crossings.Entering.{Entering}
 use Rattle.node_seconds.specs.Networks.{lane, slot_in, accepted_all, wakes_after_all}
 use Rattle.part_links.specs.Links.{AreAsleep}
 use Rattle.part_places.specs.Taking.{Taking, AreTakenOf, begins_here}
-use Rattle.parcels.specs.declared.contents.Parcel.{Parcel}
+use Rattle.parcels.specs.declared.contents.Contents.{Contents}
 use Rattle.parcels.specs.Contents.{parcel_of}
 use Rattle.parcels.specs.Arriving.{Come, entered}
 use Rattle.parcels.specs.Hearing.{heard_all, CanHearAll}
@@ -25,7 +25,7 @@ use Rattle.part_seconds.specs.declared.area.Area.{Area}
 use Rattle.part_seconds.specs.Settling.{places_known}
 
 -- a parcel is the one that partition q sends to p in second s
-abbrev pub IsRight : Setup → Owner → ℕ → ℕ → ℕ → Parcel → Type 0
+abbrev pub IsRight : Setup → Owner → ℕ → ℕ → ℕ → Contents → Type 0
 IsRight S own q p s x = parcel_of S s x ≡ out S own q p s
 
 -- the partitions at these borders
@@ -50,13 +50,13 @@ recounted_all links [] queues = queues
 recounted_all links (k ∷ ks) queues = recounted_all links ks (recounted links k queues)
 
 -- the vehicles of a parcel of second s as they come to their links
-abbrev pub entering_with : DayInput → ℕ → Parcel → List Entering
+abbrev pub entering_with : DayInput → ℕ → Contents → List Entering
 entering_with day s x = map entered (parcel_of (setup day) s x).vehicles
 
 -- What a parcel of second s makes of a part, in which a table tells the slots of links: its vehicles are in the queues of their links as of
 -- that second, which are woken as they have to be and counted; its persons are there; and the places that it tells of were left in that
 -- second.
-pub record HasTakenIn (day : DayInput) (link_slots : List ℕ) (s : ℕ) (x : Parcel) (old new : Area) : Type 0 where
+pub record HasTakenIn (day : DayInput) (link_slots : List ℕ) (s : ℕ) (x : Contents) (old new : Area) : Type 0 where
   pub persons : Come day (λ i. person_in i s (Some (parcel_of (setup day) s x))) old.persons new.persons
   pub departures : new.departures ≡ old.departures
   pub lines : new.lines.items ≡ old.lines.items
@@ -77,7 +77,7 @@ pub record HasTakenIn (day : DayInput) (link_slots : List ℕ) (s : ℕ) (x : Pa
       new.queues.items ≡ recounted_all new.network.links.items (entered_slots link_slots (entering_with day s x)) old.queues.items
 
 -- what a parcel makes of it, if there is one
-abbrev pub HasTakenInIf : DayInput → List ℕ → ℕ → Option Parcel → Area → Area → Type 0
+abbrev pub HasTakenInIf : DayInput → List ℕ → ℕ → Option Contents → Area → Area → Type 0
 HasTakenInIf day link_slots s None old new = new ≡ old
 HasTakenInIf day link_slots s (Some x) old new = HasTakenIn day link_slots s x old new
 

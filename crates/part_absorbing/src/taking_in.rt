@@ -11,7 +11,7 @@ ghost use Rattle.part_absorbing.specs.Absorbed.{entered_slots, recounted, recoun
 use calendar::Wakes;
 use node_move::Entering;
 use node_seconds::enter_links;
-use parcels::{LeftList, Parcel, arrive, hear_freed};
+use parcels::{Contents, LeftList, Parcel, arrive, hear_freed};
 use part_places::Places;
 use part_seconds::{Area, Run};
 use queue_link::LinkState;
@@ -113,16 +113,21 @@ fn hear(day: &DayInput, second: u32, freed: LeftList, places: &mut Places) -> Re
     Ok(())
 }
 
-/// A part takes in a parcel that was sent in this second.
-fn take_in(area: &mut Area, run: &Run, second: u32, parcel: Parcel) -> Result<(), AllocError>
+/// What was in a parcel that was sent in this second comes to a part.
+fn take_in_contents(
+    area: &mut Area,
+    run: &Run,
+    second: u32,
+    contents: Contents,
+) -> Result<(), AllocError>
     requires second_in { second < LAST_SECOND }
     requires plans { length area.old.persons.world.persons ≡ length run.now.day.now.chosen.now }
     requires looks { length area.old.persons.wakes ≡ length area.old.persons.world.persons }
     requires wakes { length area.old.network.link_wakes ≡ length area.old.network.links.items }
-    ensures { OnOk result (HasTakenIn run.now.day.now run.now.link_slots.now second parcel area.old area.new) }
+    ensures { OnOk result (HasTakenIn run.now.day.now run.now.link_slots.now second contents area.old area.new) }
 {
     let mut entering = Vec::new(run.alloc);
-    let freed = arrive(run.day, second, parcel, &mut area.persons, &mut entering)?;
+    let freed = arrive(run.day, second, contents, &mut area.persons, &mut entering)?;
     let slots = entered_slots(run.alloc, run.link_slots, &entering)?;
     let network = &mut area.network;
     enter(
@@ -134,6 +139,21 @@ fn take_in(area: &mut Area, run: &Run, second: u32, parcel: Parcel) -> Result<()
     )?;
     recount_all(&slots, &network.links, &mut area.queues);
     hear(run.day, second, freed, &mut network.places)?;
+    Ok(())
+}
+
+/// A part takes in a parcel that was sent in this second. One with nothing in it leaves the part as it is.
+fn take_in(area: &mut Area, run: &Run, second: u32, parcel: Parcel) -> Result<(), AllocError>
+    requires second_in { second < LAST_SECOND }
+    requires plans { length area.old.persons.world.persons ≡ length run.now.day.now.chosen.now }
+    requires looks { length area.old.persons.wakes ≡ length area.old.persons.world.persons }
+    requires wakes { length area.old.network.link_wakes ≡ length area.old.network.links.items }
+    ensures { OnOk result (HasTakenIn run.now.day.now run.now.link_slots.now second parcel area.old area.new) }
+{
+    let Some(contents) = parcel.into_contents() else {
+        return Ok(());
+    };
+    take_in_contents(area, run, second, contents)?;
     Ok(())
 }
 

@@ -10,19 +10,15 @@ use Rattle.parts.specs.Owners.{Owner, near}
 use Rattle.parts.specs.Parts.{out}
 use Rattle.law_partitions.proofs.Whole.{near-both}
 use Rattle.parcels.specs.Contents.{parcel_of}
-use Rattle.parcels.specs.Sending.{nothing, parcel_at}
-use Rattle.parcels.specs.declared.contents.Parcel.{Parcel}
+use Rattle.parcels.specs.Parcels.{nothing}
+use Rattle.parcels.specs.Sending.{parcel_at}
+use Rattle.parcels.specs.declared.contents.Contents.{Contents}
 use Rattle.step_core.specs.declared.part.Border.{Border}
 use Rattle.step_core.specs.Nets.{border_at}
 use Rattle.divided_day.specs.Borders.{border_from, borders_of}
 use Rattle.part_ending.specs.declared.straying.Stray.{Stray}
 use Rattle.part_ending.specs.Strays.{strays_to, strays_over, strays_before, AreStrays}
 use Rattle.part_ending.proofs.Pushed.{flat_pushed, flat_whole}
-
--- at the start there are none
-pub none_before : (S : Setup) (own : Owner) (parts p : ℕ) → AreStrays S own parts p 0 []
-unfolding strays_before
-none_before S own parts p = refl
 
 pub one_more : (S : Setup) (own : Owner) (parts p t : ℕ) (borders : List Border) (old now : List Stray) → borders ≡ borders_of S own parts p
     → AreStrays S own parts p t old → now ≡ old ++ strays_over S own p t borders → AreStrays S own parts p (t + 1) now
@@ -59,7 +55,7 @@ is_near S own parts p k borders are lt =
     let all : Each P borders = subst (λ (bs : List Border). Each P bs) (sym are) (each_near S own parts p) in
     All-get_or P borders k (record { neighbour = 0; lag = 0 }) lt (All-from_recursion P borders all)
 
-pub is_right : (S : Setup) (own : Owner) (p t k : ℕ) (borders : List Border) (parcels : List Parcel) (x : Parcel)
+pub is_right : (S : Setup) (own : Owner) (p t k : ℕ) (borders : List Border) (parcels : List Contents) (x : Contents)
     → length parcels ≡ length borders → k < length parcels → x ≡ get_or parcels k x
     → ((j : ℕ) → j < length borders → parcel_of S t (parcel_at parcels j) ≡ out S own p (border_at borders j).neighbour t)
     → parcel_of S t x ≡ out S own p (here borders k).neighbour t

@@ -7,10 +7,12 @@ use Rattle.traffic.specs.declared.riders.Rider.{Rider}
 use Rattle.traffic.specs.declared.world.Place.TheVariants as place
 use Rattle.parcels.specs.declared.contents.Moved.{Moved}
 use Rattle.parcels.specs.declared.contents.Flying.{Flying}
-use Rattle.parcels.specs.Contents.{passed_of, flight_of}
+use Rattle.parcels.specs.declared.contents.Contents.{Contents}
+use Rattle.parcels.specs.Parcels.{nothing}
+use Rattle.parcels.specs.Contents.{passed_of, flight_of, parcel_of}
 use Rattle.parcels.proofs.Lists.{flat_of_map, map_of_map}
 use Rattle.part_ending.specs.declared.straying.Stray.{Stray}
-use Rattle.part_ending.specs.Strays.{stray_riders, passed_strays, flight_stray, moved_strays, flying_stray}
+use Rattle.part_ending.specs.Strays.{stray_riders, passed_strays, flight_stray, strays_in, moved_strays, flying_stray}
 
 -- ONE ITEM AFTER THE OTHER
 flat_next : {X Y : Type 0} (f : X → List Y) (k : ℕ) (xs : List X) (x : X) → k < length xs → x ≡ get_or xs k x
@@ -112,3 +114,8 @@ parcel_pushed S s ms fs first mid out riders flights =
     ∙ ap (λ (zs : List Stray). first ++ (zs ++ ys)) (sym (flat_of_map (passed_of S s) passed_strays ms))
     ∙ ap (λ (zs : List Stray). first ++ (flat_map passed_strays (map (passed_of S s) ms) ++ zs))
     (sym (map_of_map (flight_of S s) (flight_stray s) fs))
+
+-- where nothing goes nobody strays
+pub nothing_pushed : (S : Setup) (s : ℕ) (x : Contents) (first : List Stray) → x ≡ nothing → first ≡ first ++ strays_in s (parcel_of S s x)
+nothing_pushed S s x first e =
+    sym (append-nil first) ∙ ap (λ (y : Contents). first ++ strays_in s (parcel_of S s y)) (sym e)

@@ -88,7 +88,7 @@ fn push_stranded(
 /// # Errors
 ///
 /// `AllocError`: there is no memory for an event.
-pub fn push_ends(
+fn push_ends(
     day: &DayInput,
     persons: &[Person],
     links: &[u32],

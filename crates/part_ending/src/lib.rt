@@ -6,6 +6,5 @@ mod ends;
 mod riding;
 mod straying;
 
-pub use ends::{end_events, push_ends};
-pub use riding::rider_links;
+pub use ends::end_events;
 pub use straying::{Stray, keep_strays};

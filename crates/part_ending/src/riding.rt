@@ -68,7 +68,7 @@ fn put_links(links: &[LinkState], table: &mut [u32]) -> Result<(), AllocError>
 /// # Errors
 ///
 /// `AllocError`: there is no memory for the table.
-pub fn rider_links(
+pub(crate) fn rider_links(
     alloc: Global,
     persons: usize,
     links: &[LinkState],

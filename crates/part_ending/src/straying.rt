@@ -17,7 +17,7 @@ ghost use Rattle.part_ending.specs.Tables.{with_states, with_links};
 
 use events::VehicleId;
 use limits::MAX_LAG;
-use parcels::{Flying, Moved, Parcel};
+use parcels::{Contents, Flying, Moved, Parcel};
 use part_seconds::Run;
 use std::alloc::AllocError;
 use step_core::{Border, BorderList};
@@ -26,10 +26,11 @@ use traffic::{Person, Place, Rider, Vehicle};
 /// Somebody in a parcel that its receiver would absorb only when its day is over.
 #[derive(Clone, Copy, Debug, PartialEq, Eq)]
 pub struct Stray {
+    /// The number of the person.
     pub person: u32,
-    /// The link on which he rides: 0 of who flies.
+    /// The number of the link on which the person rides; 0: the person flies.
     pub link: u32,
-    /// As he was sent.
+    /// At which element of the plan, and where: as the person was sent.
     pub state: Person,
 }
 
@@ -116,12 +117,27 @@ fn push_flights(second: u32, flights: &[Flying], strays: &mut Vec<Stray>) -> Res
     Ok(())
 }
 
+/// Appends all who go with what was sent in this second.
+fn push_contents(
+    second: u32,
+    contents: &Contents,
+    strays: &mut Vec<Stray>,
+) -> Result<(), AllocError>
+    ensures { (S : Setup) → OnOk result (strays.new.items ≡ strays.old.items ++ strays_in second (parcel_of S second contents.now)) }
+{
+    push_vehicles(&contents.vehicles.rows, strays)?;
+    push_flights(second, &contents.flights.rows, strays)?;
+    Ok(())
+}
+
 /// Appends all who are in a parcel of this second.
 fn push_parcel(second: u32, parcel: &Parcel, strays: &mut Vec<Stray>) -> Result<(), AllocError>
     ensures { (S : Setup) → OnOk result (strays.new.items ≡ strays.old.items ++ strays_in second (parcel_of S second parcel.now)) }
 {
-    push_vehicles(&parcel.vehicles.rows, strays)?;
-    push_flights(second, &parcel.flights.rows, strays)?;
+    let Some(contents) = parcel.contents() else {
+        return Ok(());
+    };
+    push_contents(second, contents, strays)?;
     Ok(())
 }
 

@@ -14,7 +14,7 @@ use Rattle.step_core.specs.Nets.{border_at}
 use Rattle.step_core.specs.Views.{in_place, IsSent, HasSent}
 use Rattle.divided_day.specs.Days.{borders_in}
 use Rattle.divided_day.proofs.Whole.{net_sound, borders_sound}
-use Rattle.parcels.specs.declared.contents.Parcel.{Parcel}
+use Rattle.parcels.specs.declared.contents.Contents.{Contents}
 use Rattle.parcels.specs.Leaving.{AreOthers}
 use Rattle.parcels.specs.Sending.{parcel_at}
 use Rattle.part_absorbing.specs.Absorbed.{IsRight}
@@ -35,7 +35,7 @@ are_others day owner given p borders e =
     })
 
 -- parcels for these neighbours are parcels for the same
-pub sent_for : (S : Setup) (own : Owning) (p t : ℕ) (borders rows : List Border) (parcels : List Parcel) → borders ≡ rows
+pub sent_for : (S : Setup) (own : Owning) (p t : ℕ) (borders rows : List Border) (parcels : List Contents) → borders ≡ rows
     → length parcels ≡ length borders
     → ((k : ℕ) → k < length borders → IsRight S own p (border_at borders k).neighbour t (parcel_at parcels k))
     → AreSent S own p t rows parcels
@@ -43,14 +43,14 @@ sent_for S own p t borders rows parcels e many each =
     subst (λ (bs : List Border). AreSent S own p t bs parcels) e (record { many = many; each = each })
 
 -- so of lists of parcels that are the same
-pub right_in : (S : Setup) (own : Owning) (p t : ℕ) (borders : List Border) (parcels slice : List Parcel) → slice ≡ parcels
+pub right_in : (S : Setup) (own : Owning) (p t : ℕ) (borders : List Border) (parcels slice : List Contents) → slice ≡ parcels
     → AreSent S own p t borders parcels → AreSent S own p t borders slice
-right_in S own p t borders parcels slice e h = subst (λ (xs : List Parcel). AreSent S own p t borders xs) (sym e) h
+right_in S own p t borders parcels slice e h = subst (λ (xs : List Contents). AreSent S own p t borders xs) (sym e) h
 
 -- once they lie in the places of the neighbours, each is in its place
-pub has_sent : (S : Setup) (own : Owning) (p t : ℕ) (borders : List Border) (parcels : List Parcel) (places : List (Option Parcel))
+pub has_sent : (S : Setup) (own : Owning) (p t : ℕ) (borders : List Border) (parcels : List Contents) (places : List (Option Contents))
     → AreSent S own p t borders parcels → length places ≡ length borders
     → ((k : ℕ) → k < length places → in_place places k ≡ Some (parcel_at parcels k))
     → HasSent (IsRight S own) p t borders places
 has_sent S own p t borders parcels places sent many laid = λ k lt.
-    subst (λ (o : Option Parcel). IsSent (IsRight S own) p t (border_at borders k) o) (sym (laid k (omega arith))) (sent.each k lt)
+    subst (λ (o : Option Contents). IsSent (IsRight S own) p t (border_at borders k) o) (sym (laid k (omega arith))) (sent.each k lt)

@@ -9,14 +9,14 @@ use Rattle.parts.specs.Parts.{held, own_events}
 use Rattle.law_parcels.specs.Worlds.{world_held}
 use Rattle.step_core.specs.Views.{PartView}
 use Rattle.divided_day.specs.Days.{borders_in, told_at}
-use Rattle.parcels.specs.declared.contents.Parcel.{Parcel}
+use Rattle.parcels.specs.declared.contents.Contents.{Contents}
 use Rattle.part_seconds.specs.declared.runs.Run.{Run}
 use Rattle.part_seconds.specs.Stands.{AreaStands}
 use Rattle.part_ending.specs.Strays.{AreStrays}
 use Rattle.town_part.specs.declared.part.TownPart.{TownPart}
 
 -- what a core sees of it
-abbrev pub view_of : TownPart → PartView Parcel
+abbrev pub view_of : TownPart → PartView Contents
 view_of x = record { number = x.number; seconds = x.done; inbox = x.inbox.items; outbox = x.outbox.items }
 
 -- What p told in t seconds: all that belongs to it, or where events are taken as the day goes on what belongs to it of the last second.

@@ -15,7 +15,7 @@ use Rattle.node_seconds.specs.Networks.{is_among}
 use Rattle.part_nodes.specs.Phase.{entering_of}
 use Rattle.step_core.specs.declared.part.Border.{Border}
 use Rattle.step_core.specs.Nets.{border_at}
-use Rattle.parcels.specs.declared.contents.Parcel.{Parcel}
+use Rattle.parcels.specs.declared.contents.Contents.{Contents}
 use Rattle.parcels.specs.declared.leaving.Leaving.{Leaving}
 use Rattle.parcels.specs.Contents.{freed_row}
 use Rattle.parcels.specs.Sending.{parcel_at}
@@ -41,6 +41,6 @@ pub record IsLeaving (S : Setup) (own : Owner) (p t : ℕ) (leaving : Leaving) :
   pub freed : map freed_row leaving.freed.items ≡ freed_over S own p t
 
 -- there is the right parcel of second t for each neighbour, in order
-pub record AreSent (S : Setup) (own : Owner) (p t : ℕ) (borders : List Border) (parcels : List Parcel) : Type 0 where
+pub record AreSent (S : Setup) (own : Owner) (p t : ℕ) (borders : List Border) (parcels : List Contents) : Type 0 where
   pub many : length parcels ≡ length borders
   pub each : (k : ℕ) → k < length borders → IsRight S own p (border_at borders k).neighbour t (parcel_at parcels k)

@@ -38,7 +38,7 @@ pub struct TownPart<'a> {
     pub(crate) told: Told,
     /// Who is in parcels that come when the day is over.
     pub(crate) strays: Vec<Stray>,
-    /// That of the run which it is a part of.
+    /// For its type alone: a part belongs to runs that live as long as `'a`.
     pub(crate) of: PhantomData<&'a u32>,
 }
 

@@ -1,6 +1,6 @@
 use Rattle.std.proofs.Common.{◌≡◌}
 use Rattle.std.specs.Prelude.{replicate}
-use Rattle.parcels.specs.Sending.{nothing}
+use Rattle.parcels.specs.Parcels.{nothing}
 use Rattle.parcels.proofs.leaving.empty_parcels.Given as goal
 
 abbrev pub invariant-loop-place : goal.invariant-loop-place

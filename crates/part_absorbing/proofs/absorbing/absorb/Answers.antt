@@ -7,7 +7,7 @@ use Rattle.town.specs.Views.{setup}
 use Rattle.divided_day.specs.Borders.{borders_of}
 use Rattle.step_core.specs.declared.part.Border.{Border}
 use Rattle.step_core.specs.Nets.{border_at}
-use Rattle.parcels.specs.declared.contents.Parcel.{Parcel}
+use Rattle.parcels.specs.declared.contents.Contents.{Contents}
 use Rattle.part_absorbing.proofs.Steps.{none_absorbed, many_persons, many_wakes}
 use Rattle.part_absorbing.proofs.Rounds.{emptied_next, kept_next, round, finished}
 use Rattle.part_absorbing.proofs.absorbing.absorb.Goals as goal
@@ -72,7 +72,7 @@ loop-place-preserved c =
           (c.saturating_sub-sent.ensures ∙ ap (λ (bs : List Border). t - (border_at bs k).lag) is) c.requires.heard
           (c.take_out-parcel.ensures.parcel ∙ was.kept k (omega arith)) was.absorbed c.in_ok-take_in_if.ensures;
       many =
-          ap (λ (xs : List (Option Parcel)). length xs) c.take_out-parcel.ensures.inbox
+          ap (λ (xs : List (Option Contents)). length xs) c.take_out-parcel.ensures.inbox
           ∙ length-set c.loop-place.inbox.items k None ∙ was.many;
       emptied =
           emptied_next c.loop-place.inbox.items c.take_out-parcel.new.inbox.items k c.take_out-parcel.ensures.inbox there was.emptied;

@@ -1,22 +1,15 @@
-use Rattle.std.proofs.Common.{List, ap, ◌∙◌, ◌++◌}
-use Rattle.std.specs.List.{flat_map}
-use Rattle.std.specs.Prelude.{map}
-use Rattle.parcels.specs.declared.contents.Moved.{Moved}
-use Rattle.parcels.specs.declared.contents.Flying.{Flying}
-use Rattle.parcels.specs.declared.contents.Parcel.{Parcel}
-use Rattle.part_ending.specs.Strays.{moved_strays, flying_stray}
-use Rattle.part_ending.proofs.Pushed.{parcel_pushed}
+use Rattle.std.proofs.Common.{◌≡◌, ◌++◌, subst}
+use Rattle.parcels.specs.declared.contents.Contents.{Contents}
+use Rattle.parcels.specs.Contents.{parcel_of}
+use Rattle.part_ending.specs.Strays.{strays_in}
+use Rattle.part_ending.proofs.Pushed.{nothing_pushed}
 use Rattle.part_ending.proofs.straying.push_parcel.Goals as goal
+
+pub returns-in_default : goal.returns-in_default
+returns-in_default c = λ S. nothing_pushed S c.args.second c.args.parcel.now c.args.strays.now.items c.in_default.ensures
 
 pub returns : goal.returns
 returns c = λ S.
-    let old = c.args.strays.now.items in
-    let mid = c.push_vehicles.new.strays.items in
-    let x = c.args.parcel.now in
-    parcel_pushed S c.args.second x.vehicles x.flights old mid c.push_flights.new.strays.items
-    (c.in_ok-push_vehicles.ensures
-    ∙ ap (λ (ms : List Moved). old ++ flat_map moved_strays ms)
-    (c.deref.ensures.value ∙ ap (λ (y : Parcel). y.vehicles) c.parcel.view_is))
-    (c.in_ok-push_flights.ensures
-    ∙ ap (λ (fs : List Flying). mid ++ map (flying_stray c.args.second) fs)
-    (c.deref-2.ensures.value ∙ ap (λ (y : Parcel). y.flights) c.parcel.view_is))
+    let s = c.args.second in
+    subst (λ (x : Contents). c.push_contents.new.strays.items ≡ c.args.strays.now.items ++ strays_in s (parcel_of S s x)) c.in-Some.ensures
+    (c.in_ok-push_contents.ensures S)

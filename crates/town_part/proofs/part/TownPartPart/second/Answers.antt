@@ -3,7 +3,7 @@ use Rattle.events.specs.declared.event.Event.{Event}
 use Rattle.partition.specs.Owned.{owner_in}
 use Rattle.town.specs.Views.{setup}
 use Rattle.divided_day.specs.Days.{borders_in}
-use Rattle.parcels.specs.declared.contents.Parcel.{Parcel}
+use Rattle.parcels.specs.declared.contents.Contents.{Contents}
 use Rattle.part_absorbing.specs.Absorbed.{IsRight}
 use Rattle.part_seconds.proofs.Driven.{back}
 use Rattle.step_core.specs.Views.{HasSent}
@@ -39,7 +39,7 @@ do_second-requires-clause-strays c = c.requires.stands.stray
 pub fill_places-requires : goal.fill_places-requires
 fill_places-requires c =
     c.in_ok-parcels.ensures.parcels.many ∙ sym c.requires.stands.goes
-    ∙ sym (ap (λ (xs : List (Option Parcel)). length xs) c.deref_mut.ensures.value)
+    ∙ sym (ap (λ (xs : List (Option Contents)). length xs) c.deref_mut.ensures.value)
 
 pub returns-clause-at : goal.returns-clause-at
 returns-clause-at c =
@@ -63,8 +63,8 @@ returns-clause-at c =
         silent = c.in_ok-parcels.ensures.said;
         stray = c.in_ok-parcels.ensures.strays;
         comes = c.in_ok-parcels.ensures.empty.many ∙ c.requires.stands.comes;
-        goes = ap (λ (xs : List (Option Parcel)). length xs) out ∙ c.fill_places.auto.places
-            ∙ ap (λ (xs : List (Option Parcel)). length xs) c.deref_mut.ensures.value ∙ c.requires.stands.goes;
+        goes = ap (λ (xs : List (Option Contents)). length xs) out ∙ c.fill_places.auto.places
+            ∙ ap (λ (xs : List (Option Contents)). length xs) c.deref_mut.ensures.value ∙ c.requires.stands.goes;
         whole = refl;
       };
       empty = c.in_ok-parcels.ensures.empty;
@@ -81,8 +81,8 @@ returns-clause-sent c =
     let borders = borders_in day run.owner.now p in
     let out = back c.args.self.now.outbox.len c.fill_places.new.places _
     (let a = c.fill_places.auto.places in let b = c.deref_mut.ensures.len in omega arith) in
-    let many = ap (λ (xs : List (Option Parcel)). length xs) c.deref_mut.ensures.value in
-    subst (λ (xs : List (Option Parcel)). HasSent (IsRight S own) p t borders xs) (sym out)
+    let many = ap (λ (xs : List (Option Contents)). length xs) c.deref_mut.ensures.value in
+    subst (λ (xs : List (Option Contents)). HasSent (IsRight S own) p t borders xs) (sym out)
     (has_sent S own p t borders _ c.fill_places.new.places c.in_ok-parcels.ensures.parcels
     (c.fill_places.auto.places ∙ many ∙ c.requires.stands.goes)
     (λ k lt. c.fill_places.ensures k (let a = c.fill_places.auto.places in omega arith)))

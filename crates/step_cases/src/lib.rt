@@ -1,5 +1,5 @@
 //! What tests of partitions that step stand on: gates that hold and watch them, orders in which they are asked for their steps, and a
-//! bundle of one. No contract speaks of it.
+//! bundle of one. No contract of the program speaks of it.
 #![tactic(auto)]
 
 mod bundles;

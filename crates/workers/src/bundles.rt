@@ -14,7 +14,7 @@ pub(crate) const PATIENCE: u32 = 1_000_000;
 
 /// The rounds in a row in which no member moved, before the thread offers its processor to others, and again after as many. Each offer is
 /// a call of the system.
-const SPINS: u32 = 1_000;
+const SPINS: u32 = 40;
 
 /// Gives each member a turn.
 fn round<T: Part, G: Gate>(

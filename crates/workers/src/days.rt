@@ -123,7 +123,8 @@ where
 }
 
 /// Spreads the members over the workers, again and again, until all are at the end. A worker whose neighbours get no processor for long
-/// comes back before that; all that came back early goes on in threads again, and not in this one alone.
+/// comes back before that; then half as many workers go on, and at last this thread alone, so that a day comes to its end also where no
+/// thread can be started.
 ///
 /// # Errors
 ///
@@ -133,7 +134,7 @@ fn run_to_end<T: Part + Send + Sync, R: Threads + Wait + Sync, G: Gate>(
     gate: &G,
     run: &T::Run,
     board: &Board<Day<T>>,
-    workers: u32,
+    mut workers: u32,
     mut bundle: Bundle<T>,
 ) -> Result<Bundle<T>, AllocError>
 where
@@ -154,6 +155,7 @@ where
             return Err(AllocError);
         }
         bundle = spread(rt, gate, run, board, workers, bundle);
+        workers = (workers / 2).max(1);
     }
     unreachable!()
 }
@@ -177,8 +179,8 @@ where
 }
 
 /// Runs a day on 1 to 64 threads: all partitions are at the end then, by number, and each holds and has told what it has by then by itself.
-/// So no number of workers changes anything, nor does the order in which threads get on. A thread that cannot be started is no error: the
-/// caller does its work.
+/// As far as `stands` tells what that is, neither the number of workers nor the order in which threads get on changes it. A thread that
+/// cannot be started is no error: the caller does its work.
 ///
 /// # Errors
 ///

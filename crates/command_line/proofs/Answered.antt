@@ -1,5 +1,5 @@
 -- What clap's answer to the words of a command says.
-use Rattle.std.proofs.Common.{◌≡◌, ◌≢◌, ◌∙◌, arith, inl, inr, ℕ, true, List, [], ◌∷◌, refl, sym, ap, subst}
+use Rattle.std.proofs.Common.{◌≡◌, ◌≢◌, ◌∙◌, arith, inl, inr, ℕ, Bool, true, List, [], ◌∷◌, refl, sym, ap, subst}
 use Rattle.clap.specs.Kinds.{HasKind, IsAmong, Kinds}
 use Rattle.clap.specs.Words.{App, HasMatchesOf, fault_of, found_of, is_simple, is_simple_and_free, kind_of, matches_of, rows_of}
 use Rattle.clap.specs.declared.error.Error.{Error}
@@ -57,11 +57,11 @@ as_told work kinds e few (inl memory) other = absurd (other memory)
 as_told work kinds e few (inr among) other = sym (ap (kinds_case work) (the_kind kinds _ few among))
 
 -- the work of a command, by what it is made of
-pub work_is : (command other : Command) (partitions many workers staff : ℕ) → command ≡ other → partitions ≡ many → workers ≡ staff
-    → Work command partitions workers ≡ Work other many staff
-work_is command other partitions many workers staff command_is partitions_is workers_is =
-    ap (λ (c : Command). Work c partitions workers) command_is ∙ ap (λ (n : ℕ). Work other n workers) partitions_is
-    ∙ ap (λ (n : ℕ). Work other many n) workers_is
+pub work_is : (command other : Command) (partitions many workers staff : ℕ) (streams flows : Bool) → command ≡ other → partitions ≡ many
+    → workers ≡ staff → streams ≡ flows → Work command partitions workers streams ≡ Work other many staff flows
+work_is command other partitions many workers staff streams flows command_is partitions_is workers_is streams_is =
+    ap (λ (c : Command). Work c partitions workers streams) command_is ∙ ap (λ (n : ℕ). Work other n workers streams) partitions_is
+    ∙ ap (λ (n : ℕ). Work other many n streams) workers_is ∙ ap (λ (b : Bool). Work other many staff b) streams_is
 
 module _ (name : CommandName) (a : App) (words : List (List ℕ)) (is : a ≡ simple_command name) where
   plain : is_simple_and_free a ≡ true

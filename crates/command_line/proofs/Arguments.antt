@@ -6,15 +6,14 @@ use Rattle.std.specs.Borrow.{Bor}
 use Rattle.std.specs.List.{All, slice_index_or}
 use Rattle.std.specs.Str.{bytes_eq}
 use Rattle.std.proofs.Common.{append-nil, append_assoc, map}
-use Rattle.std.specs.Prelude.{not, ◌&&◌, ◌||◌}
+use Rattle.std.specs.Prelude.{not, ◌&&◌, ◌||◌, ◌⊎◌}
 use Rattle.std.proofs.lemmas.Bool.{and_parts}
 use Rattle.std.proofs.lemmas.List.{length-map, get_or-map}
 use Rattle.std.proofs.lemmas.List.Elements.{All-get_or, All-nil}
 use Rattle.std.proofs.lemmas.Slice.Eq.{bytes_eq-Decides}
 use Rattle.clap.specs.Built.{AddsArg, IsAuto, IsParsedFrom, IsPlain, IsPlainArg, SameRules}
 use Rattle.clap.specs.Facts.{Entry, EntryPasses, HasReading, PassesArg, args_of, groups_of, least_values, parser_of, parser_of_value}
-use Rattle.clap.specs.Words.{Accepts, App, IsSignedIn, Rule, app_of, found_of, matched_of, one_text, read_as, reading_of, with_rule}
-use Rattle.clap.specs.Words.{without_minus}
+use Rattle.clap.specs.Words.{Accepts, App, Rule, app_of, found_of, matched_of, one_text, read_as, reading_of, with_rule}
 use Rattle.clap.specs.declared.builder.action.ArgAction.{ArgAction}
 use Rattle.clap.specs.declared.builder.action.ArgAction.TheVariants.{Set}
 use Rattle.clap.specs.declared.builder.arg.Arg.{Arg}
@@ -22,14 +21,14 @@ use Rattle.clap.specs.declared.builder.command.Command.{Command}
 use Rattle.clap.specs.declared.builder.command.Command.TheViews.{out-Command}
 use Rattle.clap.specs.declared.builder.value_parser.Reading.{Reading}
 use Rattle.clap.specs.declared.builder.value_parser.ValueParser.{ValueParser}
-use Rattle.clap.specs.declared.builder.value_parser.ValueParser.TheVariants.{Signed, Unsigned}
+use Rattle.clap.specs.declared.builder.value_parser.ValueParser.TheVariants as parsers
 use Rattle.clap.specs.declared.parser.matches.ArgMatches.{ArgMatches}
 use Rattle.clap.specs.declared.parser.matches.MatchedArg.{MatchedArg}
 use Rattle.clap.proofs.CallerLemmas.{added_plain, entry_by_id, same_rules_by_id}
 use Rattle.clap.proofs.CallerReads.{required_reads}
 use Rattle.limits.specs.declared.TheConstants.{MAX_PARTITIONS}
-use Rattle.command_line.specs.Commands.{with_spread}
-use Rattle.command_line.specs.Given.{AddsSpread, IsArgument, IsBare, HasNumber, HasLongNumber, HasSpread, MayHaveNumber}
+use Rattle.command_line.specs.Commands.{with_execution}
+use Rattle.command_line.specs.Given.{AddsExecution, IsArgument, IsBare, HasNumber, HasLongNumber, HasFlag, HasExecution, MayHaveNumber}
 
 -- a name that is not empty, and no name of an argument that clap adds
 pub record IsOwnName (id : List ℕ) : Type 0 where
@@ -57,6 +56,16 @@ record StandsAt (command : Command) (place : ℕ) (rule : Rule) (arg : Arg) : Ty
   pub valued : rule.action ≡ Some Set → 1 ≤ least_values arg
   pub only : (j : ℕ) (other : Arg) → j < length (args_of command)
       → bytes_eq (slice_index_or (args_of command) j other).id.now rule.id ≡ true → j ≡ place
+
+-- a text was given that passed a parser, and is read as that says
+abbrev IsRead : ValueParser → List ℕ → Type 0
+IsRead parser given = (text : List ℕ) × (given ≡ read_as (reading_of parser) text) × ((folds : Bool) × Accepts folds parser text)
+
+-- one that passed as a flag's is one of two words
+word_of : (given text : List ℕ) (yes : Bool) → bytes_eq text (codes "true") ≡ yes → given ≡ text
+    → (yes || bytes_eq text (codes "false")) ≡ true → (given ≡ codes "true") ⊎ (given ≡ codes "false")
+word_of given text true same is passed = inl (is ∙ (bytes_eq-Decides text (codes "true")).0 same)
+word_of given text false other is passed = inr (is ∙ (bytes_eq-Decides text (codes "false")).0 passed)
 
 module _ (command : Command) (m : ArgMatches) (parsed : IsParsedFrom command m) (plain : IsPlain command)
     (globals : (out-Command command).has_globals ≡ false) (negates : (out-Command command).subcommand_negates_reqs ≡ false)
@@ -97,20 +106,22 @@ module _ (command : Command) (m : ArgMatches) (parsed : IsParsedFrom command m) 
       (read.0, subst (λ (w : List ℕ). one_text (found_of m) w ≡ Some (read_as (reading_of parser) read.0)) same_id read.1, read.2)
 
   -- it is a number within bounds
-  number_read : rule.required ≡ true → rule.action ≡ Some Set → (least most : ℕ) → rule.parser ≡ Some (Signed (pos least) (pos most))
+  number_read : rule.required ≡ true → rule.action ≡ Some Set → (least most : ℕ)
+      → rule.parser ≡ Some (parsers.Signed (pos least) (pos most))
       → HasNumber least most rule.id (found_of m)
-  number_read required set least most parser = position_read required set (Signed (pos least) (pos most)) parser
+  number_read required set least most parser = position_read required set (parsers.Signed (pos least) (pos most)) parser
 
   -- or a number of 64 bits
-  long_number_read : rule.required ≡ true → rule.action ≡ Some Set → rule.parser ≡ Some (Unsigned 0 18446744073709551615)
+  long_number_read : rule.required ≡ true → rule.action ≡ Some Set → rule.parser ≡ Some (parsers.Unsigned 0 18446744073709551615)
       → HasLongNumber rule.id (found_of m)
-  long_number_read required set parser = position_read required set (Unsigned 0 18446744073709551615) parser
+  long_number_read required set parser = position_read required set (parsers.Unsigned 0 18446744073709551615) parser
 
   -- the parser of an argument of the built command that has the name
   the_parser : (parser : ValueParser) → rule.parser ≡ Some parser → (j : ℕ) (x : Arg) → j < length (args_of parsed.built)
       → slice_index_or (args_of parsed.built) j x ≡ x → bytes_eq x.id.now rule.id ≡ true → parser_of x ≡ parser
   the_parser parser is_parser j x less there same =
-      let rules : SameRules (slice_index_or (args_of command) place arg) x = same_rules_by_id command m parsed place arg at.within only_here own_here
+      let rules : SameRules (slice_index_or (args_of command) place arg) x =
+      same_rules_by_id command m parsed place arg at.within only_here own_here
       j x less there (subst (λ (w : List ℕ). bytes_eq x.id.now w ≡ true) (sym same_id) same) in
       ap parser_of_value (rules.parser parser (ap (λ (a : Arg). a.value_parser) at.there ∙ at.parser parser is_parser))
 
@@ -118,31 +129,29 @@ module _ (command : Command) (m : ArgMatches) (parsed : IsParsedFrom command m) 
   no_groups = (parsed.from.plain plain).1
 
   -- the value of an entry with the name passed the parser, and is read as it says
-  module _ (least most : ℕ) (is_parser : rule.parser ≡ Some (Signed (pos least) (pos most))) where
+  module _ (parser : ValueParser) (is_parser : rule.parser ≡ Some parser) where
     by_value : (value : List ℕ) (how : Reading) → PassesArg parsed.built rule.id value → HasReading parsed.built rule.id how
-        → (given : List ℕ) → given ≡ read_as how value → (text : List ℕ) × (given ≡ without_minus text) × IsSignedIn (pos least) (pos most) text
+        → (given : List ℕ) → given ≡ read_as how value → IsRead parser given
     by_value value how passes reads given is =
-        let its : parser_of passes.1 ≡ Signed (pos least) (pos most) =
-        the_parser (Signed (pos least) (pos most)) is_parser passes.0 passes.1 passes.2 passes.3 passes.4.0 in
-        let other : parser_of reads.1 ≡ Signed (pos least) (pos most) =
-        the_parser (Signed (pos least) (pos most)) is_parser reads.0 reads.1 reads.2 reads.3 reads.4.0 in
-        let way : how ≡ reading_of (Signed (pos least) (pos most)) = sym reads.4.1 ∙ ap reading_of other in (
+        let its : parser_of passes.1 ≡ parser = the_parser parser is_parser passes.0 passes.1 passes.2 passes.3 passes.4.0 in
+        let other : parser_of reads.1 ≡ parser = the_parser parser is_parser reads.0 reads.1 reads.2 reads.3 reads.4.0 in
+        let way : how ≡ reading_of parser = sym reads.4.1 ∙ ap reading_of other in (
           value,
           is ∙ ap (λ (r : Reading). read_as r value) way,
-          subst (λ (p : ValueParser). Accepts passes.1.ignore_case p value) its passes.4.1,
+          (passes.1.ignore_case, subst (λ (p : ValueParser). Accepts passes.1.ignore_case p value) its passes.4.1),
         )
 
     by_values : (values : List (Bor (List ℕ))) (how : Reading) → All (λ v. PassesArg parsed.built rule.id v.now) values
         → HasReading parsed.built rule.id how → (given : List ℕ) → option_map (λ s. read_as how s.now) (slice_get values 0) ≡ Some given
-        → (text : List ℕ) × (given ≡ without_minus text) × IsSignedIn (pos least) (pos most) text
+        → IsRead parser given
     by_values [] how passes reads given is = cc
     by_values (v ∷ vs) how passes reads given is =
-        by_value v.now how (All-get_or (λ (v : Bor (List ℕ)). PassesArg parsed.built rule.id v.now) (v ∷ vs) 0 v (omega arith) passes) reads given
+        by_value v.now how
+        (All-get_or (λ (v : Bor (List ℕ)). PassesArg parsed.built rule.id v.now) (v ∷ vs) 0 v (omega arith) passes) reads given
         (sym (ap (λ (o : Option (List ℕ)). unwrap_or o []) is))
 
     by_entry : (e : Entry) → bytes_eq e.0.now rule.id ≡ true → EntryPasses parsed.built e
-        → (given : List ℕ) → option_map (λ s. read_as e.1.reading s.now) (slice_get e.1.vals.items 0) ≡ Some given
-        → (text : List ℕ) × (given ≡ without_minus text) × IsSignedIn (pos least) (pos most) text
+        → (given : List ℕ) → option_map (λ s. read_as e.1.reading s.now) (slice_get e.1.vals.items 0) ≡ Some given → IsRead parser given
     by_entry e key pass given is =
         let name : e.0.now ≡ rule.id = (bytes_eq-Decides e.0.now rule.id).0 key in
         let single : e.1.is_group ≡ true → ⊥ = λ g. elim (pass.3 g) [
@@ -162,17 +171,31 @@ module _ (command : Command) (m : ArgMatches) (parsed : IsParsedFrom command m) 
         by_values e.1.vals.items e.1.reading passes reads given is
 
     by_match : (found : Option MatchedArg) → matched_of (found_of m) rule.id ≡ found
-        → (given : List ℕ) → option_and_then (λ (a : MatchedArg). option_map (λ s. read_as a.reading s.now) (slice_get a.vals.items 0)) found ≡ Some given
-        → (text : List ℕ) × (given ≡ without_minus text) × IsSignedIn (pos least) (pos most) text
+        → (given : List ℕ)
+        → option_and_then (λ (a : MatchedArg). option_map (λ s. read_as a.reading s.now) (slice_get a.vals.items 0)) found ≡ Some given
+        → IsRead parser given
     by_match None found given is = cc
     by_match (Some x) found given is =
-        let entry = entry_by_id (EntryPasses parsed.built) (found_of m).entries.items rule.id x (parsed.parsed (parsed.from.globals ∙ globals)).values found in
+        let values = (parsed.parsed (parsed.from.globals ∙ globals)).values in
+        let entry = entry_by_id (EntryPasses parsed.built) (found_of m).entries.items rule.id x values found in
         by_entry entry.0 entry.2 entry.3 given
         (subst (λ (a : MatchedArg). option_map (λ s. read_as a.reading s.now) (slice_get a.vals.items 0) ≡ Some given) (sym entry.1) is)
 
-    -- where anything was given for an option, it is a number within bounds
-    option_read : MayHaveNumber least most rule.id (found_of m)
-    option_read = λ given is. by_match (matched_of (found_of m) rule.id) refl given is
+    given_read : (given : List ℕ) → one_text (found_of m) rule.id ≡ Some given → IsRead parser given
+    given_read given is = by_match (matched_of (found_of m) rule.id) refl given is
+
+  -- where anything was given for an option, it is a number within bounds
+  option_read : (least most : ℕ) → rule.parser ≡ Some (parsers.Signed (pos least) (pos most))
+      → MayHaveNumber least most rule.id (found_of m)
+  option_read least most is_parser = λ given is.
+      let read = given_read (parsers.Signed (pos least) (pos most)) is_parser given is in
+      (read.0, read.1, read.2.1)
+
+  -- where anything was given for a flag, it is whether it is set
+  flag_read : rule.parser ≡ Some parsers.Bool → HasFlag rule.id (found_of m)
+  flag_read is_parser = λ given is.
+      let read = given_read parsers.Bool is_parser given is in
+      word_of given read.0 (bytes_eq read.0 (codes "true")) refl read.1 read.2.1
 
 -- ARGUMENTS THAT ARE ADDED ONE BEHIND THE OTHER
 -- an argument with its rule, and the command before it was added and then
@@ -226,7 +249,8 @@ plain_is c [] h plain = plain
 plain_is c (s ∷ ss) h plain =
     plain_is s.new ss h.1 (added_plain s.old s.new s.arg s.adds (subst (λ (d : Command). IsPlain d) (sym h.0) plain) s.is.plain)
 
-no_globals : (c : Command) (ss : List Added) → AreAdded c ss → (out-Command c).has_globals ≡ false → (out-Command (whole c ss)).has_globals ≡ false
+no_globals : (c : Command) (ss : List Added) → AreAdded c ss → (out-Command c).has_globals ≡ false
+    → (out-Command (whole c ss)).has_globals ≡ false
 no_globals c [] h none = none
 no_globals c (s ∷ ss) h none =
     no_globals s.new ss h.1
@@ -307,22 +331,28 @@ module _ (start : Command) (ss : List Added) (order : AreAdded start ss) (bare :
   standing = stands start ss order bare.args place s less here apart
 
   pub number_found : s.rule.required ≡ true → s.rule.action ≡ Some Set → (least most : ℕ)
-      → s.rule.parser ≡ Some (Signed (pos least) (pos most))
+      → s.rule.parser ≡ Some (parsers.Signed (pos least) (pos most))
       → HasNumber least most (name_of s) (found_of m)
   number_found required set least most parser =
       number_read (whole start ss) m parsed plain (no_globals start ss order bare.globals) (no_negates start ss order bare.negates)
       place s.rule (kept s) standing own required set least most parser
 
-  pub long_number_found : s.rule.required ≡ true → s.rule.action ≡ Some Set → s.rule.parser ≡ Some (Unsigned 0 18446744073709551615)
+  pub long_number_found : s.rule.required ≡ true → s.rule.action ≡ Some Set → s.rule.parser ≡ Some (parsers.Unsigned 0 18446744073709551615)
       → HasLongNumber (name_of s) (found_of m)
   long_number_found required set parser =
       long_number_read (whole start ss) m parsed plain (no_globals start ss order bare.globals) (no_negates start ss order bare.negates)
       place s.rule (kept s) standing own required set parser
 
-  pub option_found : (least most : ℕ) → s.rule.parser ≡ Some (Signed (pos least) (pos most)) → MayHaveNumber least most (name_of s) (found_of m)
+  pub option_found : (least most : ℕ) → s.rule.parser ≡ Some (parsers.Signed (pos least) (pos most))
+      → MayHaveNumber least most (name_of s) (found_of m)
   option_found least most parser =
       option_read (whole start ss) m parsed plain (no_globals start ss order bare.globals) (no_negates start ss order bare.negates)
       place s.rule (kept s) standing own least most parser
+
+  pub flag_found : s.rule.parser ≡ Some parsers.Bool → HasFlag (name_of s) (found_of m)
+  flag_found parser =
+      flag_read (whole start ss) m parsed plain (no_globals start ss order bare.globals) (no_negates start ss order bare.negates)
+      place s.rule (kept s) standing own parser
 
 -- THE OPTIONS THAT SAY HOW DAYS ARE COMPUTED
 pub partitions_own : IsOwnName (codes "partitions")
@@ -331,24 +361,31 @@ partitions_own = own_name (codes "partitions") (λ e. omega (arith, e)) (λ e. o
 pub workers_own : IsOwnName (codes "workers")
 workers_own = own_name (codes "workers") (λ e. omega (arith, e)) (λ e. omega (arith, e)) (λ e. omega (arith, e))
 
-module _ (start new : Command) (adds : AddsSpread start new) where
+pub stream_own : IsOwnName (codes "stream")
+stream_own = own_name (codes "stream") (λ e. omega (arith, e)) (λ e. omega (arith, e)) (λ e. omega (arith, e))
+
+module _ (start new : Command) (adds : AddsExecution start new) where
   abbrev pub partitions_added : Added
   partitions_added = added adds.is_partitions adds.adds_partitions
 
   abbrev pub workers_added : Added
   workers_added = added adds.is_workers adds.adds_workers
 
+  abbrev pub stream_added : Added
+  stream_added = added adds.is_stream adds.adds_stream
+
   -- what a command takes behind them
-  pub spread_app : (app : App) → app_of start ≡ app → app_of new ≡ with_spread app
-  spread_app app is = app_is start (partitions_added ∷ workers_added ∷ []) app (refl, (refl, tt)) is
+  pub execution_app : (app : App) → app_of start ≡ app → app_of new ≡ with_execution app
+  execution_app app is = app_is start (partitions_added ∷ workers_added ∷ stream_added ∷ []) app (refl, (refl, (refl, tt))) is
 
   -- and what is found of them where it took nothing else
-  pub spread_found : IsBare start → (m : ArgMatches) → IsParsedFrom new m → HasSpread (found_of m)
-  spread_found bare m parsed =
-      let both : List Added = partitions_added ∷ workers_added ∷ [] in
-      let order : AreAdded start both = (refl, (refl, tt)) in
+  pub execution_found : IsBare start → (m : ArgMatches) → IsParsedFrom new m → HasExecution (found_of m)
+  execution_found bare m parsed =
+      let all : List Added = partitions_added ∷ workers_added ∷ stream_added ∷ [] in
+      let order : AreAdded start all = (refl, (refl, (refl, tt))) in
       record {
-        partitions = option_found start both order bare m parsed 0 partitions_added (omega arith) refl refl
+        partitions = option_found start all order bare m parsed 0 partitions_added (omega arith) refl refl
             partitions_own 1 MAX_PARTITIONS refl;
-        workers = option_found start both order bare m parsed 1 workers_added (omega arith) refl refl workers_own 1 MAX_PARTITIONS refl;
+        workers = option_found start all order bare m parsed 1 workers_added (omega arith) refl refl workers_own 1 MAX_PARTITIONS refl;
+        stream = flag_found start all order bare m parsed 2 stream_added (omega arith) refl refl stream_own refl;
       }

@@ -1,14 +1,20 @@
 -- A command of its own, which is no subcommand and has none, answers words that it does not take by one kind.
-use Rattle.std.proofs.Common.{◌≡◌, ◌≤◌, length, arith, ◌&&◌, ℕ, zero, suc, Bool, true, false, not, if◌then◌else◌, List, [], ◌∷◌, Option, Some, None}
+use Rattle.std.proofs.Common.{◌≡◌, ◌≤◌, length, arith, ◌&&◌, ℕ, zero, suc, Bool, true, false, not, if◌then◌else◌, List, [], ◌∷◌, Option}
+use Rattle.std.proofs.Common.{Some, None}
 use Rattle.std.specs.Option.{option_map_or}
 use Rattle.std.specs.Prelude.{drop, encode_utf8}
 use Rattle.clap.specs.Kinds.{Kinds, or_else, value_kinds, values_kinds, range_kinds, request_kinds}
-use Rattle.clap.specs.Walk.{Held, Names, Row, Rule, Step, Text, Walk, value, arg_by_id, arg_by_index, arg_by_long, arg_by_short, finished, settled, subcommand_met, walk, word_met}
+use Rattle.clap.specs.Walk.{Held, Names, Row, Rule, Step, Text, Walk, value, arg_by_id, arg_by_index, arg_by_long, arg_by_short, finished}
+use Rattle.clap.specs.Walk.{settled, subcommand_met, walk, word_met}
 use Rattle.clap.specs.Lexer.{long_of}
 use Rattle.clap.specs.Simple.{App, Shape}
-use Rattle.clap.specs.Faults.{count_fault, action_fault, use_fault, settle_fault, react_fault, option_fault, long_fault, short_fault, bundle_step_fault, flags_fault, flag_word_fault, other_fault, step_fault, turn_fault, walk_fault, default_fault, defaults_fault, stray_fault, positional_fault, check_fault, level_fault, entered_fault, built_fault}
+use Rattle.clap.specs.Faults.{count_fault, action_fault, use_fault, settle_fault, react_fault, option_fault, long_fault, short_fault}
+use Rattle.clap.specs.Faults.{bundle_step_fault, flags_fault, flag_word_fault, other_fault, step_fault, turn_fault, walk_fault}
+use Rattle.clap.specs.Faults.{default_fault, defaults_fault, stray_fault, positional_fault, check_fault, level_fault, entered_fault}
+use Rattle.clap.specs.Faults.{built_fault}
 use Rattle.clap.specs.declared.builder.action.ArgAction.{ArgAction}
-use Rattle.clap.specs.declared.builder.action.ArgAction.TheVariants.{Set, Append, SetTrue, SetFalse, Count, Help, HelpShort, HelpLong, Version}
+use Rattle.clap.specs.declared.builder.action.ArgAction.TheVariants.{Set, Append, SetTrue, SetFalse, Count, Help, HelpShort, HelpLong}
+use Rattle.clap.specs.declared.builder.action.ArgAction.TheVariants.{Version}
 use Rattle.clap.specs.declared.builder.value_parser.ValueParser.{ValueParser}
 use Rattle.clap.specs.declared.error.kind.ErrorKind.{ErrorKind}
 
@@ -58,7 +64,13 @@ one_of_count a [] rows = search one_value
 one_of_count a (v ∷ vs) rows = one_of_values _ _ (v ∷ vs)
 
 one_of_request : (x : ArgAction) → Few (request_kinds x)
-one_of_request x = elim x as (λ k. Few (request_kinds k)) [ Help ↦ a_kind _ | HelpShort ↦ a_kind _ | HelpLong ↦ a_kind _ | Version ↦ a_kind _ | _ ↦ no_kind ]
+one_of_request x = elim x as (λ k. Few (request_kinds k)) [
+  | Help ↦ a_kind _
+  | HelpShort ↦ a_kind _
+  | HelpLong ↦ a_kind _
+  | Version ↦ a_kind _
+  | _ ↦ no_kind
+]
 
 one_of_action : (x : ArgAction) (again : Bool) (a : Rule) (vs : List Text) (rows : List Row) → Few (action_fault x again a vs rows)
 one_of_action Set again a vs rows = either _ _ (pick _ _ _ (a_kind _) no_kind) (one_of_values _ _ vs)
@@ -90,11 +102,14 @@ one_of_long : (c : List Rule) (again : Bool) (found : Option Rule) (v : Option T
 one_of_long c again None v h = a_kind _
 one_of_long c again (Some a) v h = pick _ _ _ (one_of_option c again a v h) (pick _ _ _ (a_kind _) (one_of_react c again a [] h))
 
-one_of_short : (c : List Rule) (again : Bool) (found : Option Rule) (rest : Text) (h : Held) (next : Held → Kinds) → ((h : Held) → Few (next h)) → Few (short_fault c again found rest h next)
+one_of_short : (c : List Rule) (again : Bool) (found : Option Rule) (rest : Text) (h : Held) (next : Held → Kinds)
+    → ((h : Held) → Few (next h)) → Few (short_fault c again found rest h next)
 one_of_short c again None rest h next each = a_kind _
-one_of_short c again (Some a) rest h next each = pick _ _ _ (one_of_option c again a _ h) (either _ _ (one_of_react c again a [] h) (each _))
+one_of_short c again (Some a) rest h next each =
+    pick _ _ _ (one_of_option c again a _ h) (either _ _ (one_of_react c again a [] h) (each _))
 
-one_of_step : (c : List Rule) (again : Bool) (x : Option ℕ) (flags : Text) (skip : ℕ) (h : Held) (next : Text → ℕ → Held → Kinds) → ((flags : Text) (skip : ℕ) (h : Held) → Few (next flags skip h)) → Few (bundle_step_fault c again x flags skip h next)
+one_of_step : (c : List Rule) (again : Bool) (x : Option ℕ) (flags : Text) (skip : ℕ) (h : Held) (next : Text → ℕ → Held → Kinds)
+    → ((flags : Text) (skip : ℕ) (h : Held) → Few (next flags skip h)) → Few (bundle_step_fault c again x flags skip h next)
 one_of_step c again None flags skip h next each = no_kind
 one_of_step c again (Some x) flags zero h next each =
     let rest = drop (length (encode_utf8 x)) flags in
@@ -106,7 +121,8 @@ unfolding flags_fault
 one_of_flags c again zero flags skip h = no_kind
 one_of_flags c again (suc k) flags skip h = one_of_step c again _ flags skip h _ (one_of_flags c again k)
 
-one_of_flag_word : (c : List Rule) (again : Bool) (long : Option (Text × Option Text)) (word : Text) (h : Held) → Few (flag_word_fault c again long word h)
+one_of_flag_word : (c : List Rule) (again : Bool) (long : Option (Text × Option Text)) (word : Text) (h : Held)
+    → Few (flag_word_fault c again long word h)
 one_of_flag_word c again (Some p) word h = one_of_long c again (arg_by_long c p.0) p.1 h
 one_of_flag_word c again None word h = for_each _ _ (λ flags. one_of_flags c again _ flags _ _)
 
@@ -116,7 +132,8 @@ never true true kinds same = no_kind
 never false d kinds same = no_kind
 never true false kinds same = absurd (cc)
 
-one_of_other : (s : Shape) (name : Option Text) (word : Text) (h : Held) → s.disable_help_subcommand ≡ true → Few (other_fault s name word h)
+one_of_other : (s : Shape) (name : Option Text) (word : Text) (h : Held) → s.disable_help_subcommand ≡ true
+    → Few (other_fault s name word h)
 one_of_other s (Some name) word h alone = never _ _ _ alone
 one_of_other s None word h alone = pick _ _ _ no_kind (one_of_flag_word s.rules s.args_override_self (long_of word) word h)
 
@@ -132,7 +149,8 @@ one_of_positional : (c : List Rule) (again : Bool) (a : Rule) (h : Held) → Few
 one_of_positional c again a h = pick _ _ _ no_kind (one_of_settle c again h)
 
 one_of_place : (s : Shape) (position : ℕ) (h : Held) (step : Step) → s.is_leaf ≡ true → Few (step_fault s position h step)
-one_of_place s position h value alone = either_way _ _ (arg_by_index s.rules position) (λ a. one_of_positional _ _ a h) (one_of_stray s alone)
+one_of_place s position h value alone =
+    either_way _ _ (arg_by_index s.rules position) (λ a. one_of_positional _ _ a h) (one_of_stray s alone)
 one_of_place s position h _ alone = no_kind
 
 -- a word, and all words in turn
@@ -160,12 +178,14 @@ one_of_check : (s : Shape) (rows : List Row) (below : Bool) → Few (check_fault
 one_of_check s rows below = search (pick, a_kind, no_kind)
 
 -- all of it, one step after another
-one_of_level : (s : Shape) (names : Names) (h : Held) (words : List Text) (below : Bool) (kinds : Kinds) → IsAlone s → Few kinds → Few (level_fault s names h words below kinds)
+one_of_level : (s : Shape) (names : Names) (h : Held) (words : List Text) (below : Bool) (kinds : Kinds) → IsAlone s → Few kinds
+    → Few (level_fault s names h words below kinds)
 one_of_level s names h words below kinds alone few =
     let end = (walk s.rules names h words).held in
     let defaults = one_of_defaults s.rules (settled s.rules end).rows in
     either _ _ (one_of_walk s names words _ alone)
-    (either _ _ few (either _ _ (one_of_settle s.rules s.args_override_self end) (either _ _ defaults (one_of_check s (finished s.rules end) below))))
+    (either _ _ few (either _ _ (one_of_settle s.rules s.args_override_self end)
+    (either _ _ defaults (one_of_check s (finished s.rules end) below))))
 
 one_of_entered : (a : App) (stop : Option (Text × List Text)) → a.subs ≡ [] → Few (entered_fault a stop)
 one_of_entered a stop none = for_each _ stop (λ p. rw none no_kind)

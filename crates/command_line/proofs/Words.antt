@@ -1,19 +1,23 @@
 -- What was given for positions, as the rows of clap's matches have it.
-use Rattle.std.proofs.Common.{◌≡◌, ◌∙◌, ◌<◌, ◌≤◌, ◌^◌, arith, ap, sym, subst, refl, ℕ, pos, List, [], Option, None, Some}
+use Rattle.std.proofs.Common.{◌≡◌, ◌∙◌, ◌<◌, ◌≤◌, ◌^◌, arith, ap, sym, subst, refl, inl, inr, ℕ, pos, Bool, true, false, List, [], Option}
+use Rattle.std.proofs.Common.{None, Some}
+use Rattle.std.proofs.Common.{codes}
 use Rattle.std.specs.Prelude.{Result, Ok, option_map, unwrap_or}
 use Rattle.std.specs.Option.{option_map_or}
 use Rattle.std.specs.Borrow.{Bor}
+use Rattle.std.specs.Str.{bytes_eq}
 use Rattle.std.specs.Str.Parse.{ParsesUnsigned, digits_value, without_leading_plus}
 use Rattle.clap.specs.Matches.{ReadsOne}
 use Rattle.clap.specs.Words.{IsSignedIn, first_value, one_text, rows_of, without_minus}
 use Rattle.clap.specs.declared.parser.matches.Found.{Found}
 use Rattle.clap.proofs.WalkLemmas.{first_value-rows, one_text-rows}
 use Rattle.clap.proofs.CallerReads.{signed_reads}
-use Rattle.command_line.specs.Commands.{number_in, number_of, number_or, text_in}
-use Rattle.command_line.specs.Given.{MayHaveNumber}
+use Rattle.command_line.specs.Commands.{number_in, number_of, number_or, text_in, is_set}
+use Rattle.command_line.specs.Given.{MayHaveNumber, HasFlag}
 use Rattle.command_line.specs.declared.commands.Command.TheVariants as command
 
-pub no_word : (found : Found) (id : List ℕ) (given : Option (Bor (List ℕ))) → option_map (λ s. s.now) given ≡ first_value found id → given ≡ None
+pub no_word : (found : Found) (id : List ℕ) (given : Option (Bor (List ℕ))) → option_map (λ s. s.now) given ≡ first_value found id
+    → given ≡ None
     → [] ≡ text_in id (rows_of found)
 no_word found id given is none =
     ap (λ (o : Option (List ℕ)). unwrap_or o []) (ap (λ (o : Option (Bor (List ℕ))). option_map (λ s. s.now) o) (sym none) ∙ is
@@ -31,7 +35,8 @@ the_number found id text number is read =
     read ∙ ap (λ (o : Option (List ℕ)). digits_value 10 (without_leading_plus (unwrap_or o []))) (sym is ∙ one_text-rows found id)
 
 -- a number that was read of a text within bounds is within them
-pub number_within : {E : Type 0} (G : List ℕ → Result ℕ E → Type 0) (least most number : ℕ) (text : List ℕ) → ReadsOne G (without_minus text) (Some number)
+pub number_within : {E : Type 0} (G : List ℕ → Result ℕ E → Type 0) (least most number : ℕ) (text : List ℕ)
+    → ReadsOne G (without_minus text) (Some number)
     → ((u : List ℕ) (x : Result ℕ E) → G u x → ParsesUnsigned 32 10 u x) → most < 2 ^ 32 → IsSignedIn (pos least) (pos most) text
     → (least ≤ number) × (number ≤ most)
 number_within {E} G least most number text read parses fits passed =
@@ -43,7 +48,8 @@ number_within {E} G least most number text read parses fits passed =
 module _ {E : Type 0} (G : List ℕ → Result ℕ E → Type 0) (parses : (u : List ℕ) (x : Result ℕ E) → G u x → ParsesUnsigned 32 10 u x)
     (found : Found) (id : List ℕ) (least most : ℕ) (fits : most < 2 ^ 32) (may : MayHaveNumber least most id found) where
   -- what is read as no number was not given
-  none_given : ((text : List ℕ) → one_text found id ≡ Some text → ReadsOne G text None) → (o : Option (List ℕ)) → one_text found id ≡ o → o ≡ None
+  none_given : ((text : List ℕ) → one_text found id ≡ Some text → ReadsOne G text None) → (o : Option (List ℕ)) → one_text found id ≡ o
+      → o ≡ None
   none_given reads None is = refl
   none_given reads (Some given) is =
       let number = may given is in
@@ -73,11 +79,27 @@ module _ {E : Type 0} (G : List ℕ → Result ℕ E → Type 0) (parses : (u : 
           absurd (cc bad)
       by_text (Some given) is =
           let said = may given is in
-          let read : ReadsOne G (without_minus said.0) (Some number) = subst (λ (t : List ℕ). ReadsOne G t (Some number)) said.1 (reads given is) in
+          let read : ReadsOne G (without_minus said.0) (Some number) =
+          subst (λ (t : List ℕ). ReadsOne G t (Some number)) said.1 (reads given is) in
           let value = parses given (Ok number) (reads given is) in (
             value.1 ∙ ap (λ (o : Option (List ℕ)). option_map_or number_of o default) (sym is ∙ one_text-rows found id),
             number_within G least most number said.0 read parses fits said.2,
           )
+
+-- a flag that may be given, as it is read
+pub flag_is : (found : Found) (id : List ℕ) (set : Bool) → HasFlag id found → (one_text found id ≡ None → set ≡ false)
+    → (one_text found id ≡ Some (codes "true") → set ≡ true) → (one_text found id ≡ Some (codes "false") → set ≡ false)
+    → set ≡ is_set id (rows_of found)
+flag_is found id set may none on off =
+    by_text (one_text found id) refl
+    ∙ ap (λ (o : Option (List ℕ)). option_map_or (λ (t : List ℕ). bytes_eq t (codes "true")) o false) (one_text-rows found id)
+  where
+    by_text : (o : Option (List ℕ)) → one_text found id ≡ o → set ≡ option_map_or (λ (t : List ℕ). bytes_eq t (codes "true")) o false
+    by_text None is = none is
+    by_text (Some given) is = elim (may given is) [
+      | inl same ↦ on (is ∙ ap Some same) ∙ sym (ap (λ (t : List ℕ). bytes_eq t (codes "true")) same)
+      | inr same ↦ off (is ∙ ap Some same) ∙ sym (ap (λ (t : List ℕ). bytes_eq t (codes "true")) same)
+    ]
 
 -- a route of such words
 pub route_with : (from to from_word to_word : List ℕ) (second number : ℕ) → from ≡ from_word → to ≡ to_word → second ≡ number

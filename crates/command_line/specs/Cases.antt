@@ -1,10 +1,10 @@
 -- What the words of the command line ask for.
-use Rattle.std.specs.Prelude.{⊤, ℕ, Bool, ◌||◌, bytes_eq, codes, if◌then◌else◌, List, [], ◌∷◌, Option, None, Some}
+use Rattle.std.specs.Prelude.{⊤, ℕ, Bool, false, ◌||◌, bytes_eq, codes, if◌then◌else◌, List, [], ◌∷◌, Option, None, Some}
 use Rattle.clap.specs.Kinds.{Kinds}
 use Rattle.clap.specs.Words.{Row, fault_of, matches_of}
 use Rattle.clap.specs.declared.error.kind.ErrorKind.{ErrorKind}
 use Rattle.clap.specs.declared.error.kind.ErrorKind.TheVariants.{DisplayHelp}
-use Rattle.command_line.specs.Commands.{command_named, simple_command, command_with, partitions_in, workers_in, IsInRange}
+use Rattle.command_line.specs.Commands.{command_named, simple_command, command_with, partitions_in, workers_in, streams_in, IsInRange}
 use Rattle.command_line.specs.declared.TheConstants.{DEFAULT_PARTITIONS, DEFAULT_WORKERS}
 use Rattle.command_line.specs.declared.commands.Command.{Command}
 use Rattle.command_line.specs.declared.commands.CommandName.{CommandName}
@@ -12,21 +12,22 @@ use Rattle.command_line.specs.declared.commands.CommandName.TheVariants.{Run, Re
 use Rattle.command_line.specs.declared.reading.Asked.{Asked}
 use Rattle.command_line.specs.declared.reading.Asked.TheVariants as asked
 
--- words ask for a command's work, with its days in so many partitions and by so many workers, or for help, or they are refused
+-- words ask for a command's work, with its days in so many partitions and by so many workers, and their events written while they run or
+-- not, or for help, or they are refused
 pub data Case : Type 0 where
-  Work : Command → ℕ → ℕ → Case
+  Work : Command → ℕ → ℕ → Bool → Case
   Help : Case
   Refused : Case
 
 -- the case of an answer, whatever text the user is told
 abbrev pub asked_case : Asked → Case
-asked_case (asked.Work command spread) = Work command spread.partitions spread.workers
+asked_case (asked.Work command spread streams) = Work command spread.partitions spread.workers streams
 asked_case (asked.Help text) = Help
 asked_case (asked.Refused text) = Refused
 
 -- the numbers of the command that is asked for are within their bounds, as those of its spread are by their type
 abbrev pub AsksInRange : Asked → Type 0
-AsksInRange (asked.Work command spread) = IsInRange command
+AsksInRange (asked.Work command spread streams) = IsInRange command
 AsksInRange (asked.Help text) = ⊤
 AsksInRange (asked.Refused text) = ⊤
 
@@ -39,12 +40,12 @@ abbrev pub kind_case : ErrorKind → Case
 kind_case DisplayHelp = Help
 kind_case _ = Refused
 
--- the work of a command that simulates days, and that of one that simulates none, which is not divided
+-- the work of a command that simulates days, and that of one that simulates none, which is not divided and streams nothing
 abbrev pub simulation : Command → List Row → Case
-simulation command rows = Work command (partitions_in rows) (workers_in rows)
+simulation command rows = Work command (partitions_in rows) (workers_in rows) (streams_in rows)
 
 abbrev pub undivided : Command → Case
-undivided command = Work command DEFAULT_PARTITIONS DEFAULT_WORKERS
+undivided command = Work command DEFAULT_PARTITIONS DEFAULT_WORKERS false
 
 -- the work that is asked for by what was given
 abbrev pub work_with : CommandName → List Row → Case

@@ -1,10 +1,10 @@
 -- The commands of the program.
-use Rattle.std.specs.Prelude.{◌≤◌, ⊤, ℕ, pos, true, bytes_eq, codes, unwrap_or, if◌then◌else◌, List, [], Option, None, Some}
+use Rattle.std.specs.Prelude.{◌≤◌, ⊤, ℕ, Bool, pos, true, false, bytes_eq, codes, unwrap_or, if◌then◌else◌, List, [], Option, None, Some}
 use Rattle.std.specs.Option.{option_map_or}
 use Rattle.std.specs.Str.Parse.{digits_value, without_leading_plus}
 use Rattle.clap.specs.Words.{App, Row, Rule, new_app, new_rule, with_rule, first_of, one_of}
-use Rattle.clap.specs.declared.builder.action.ArgAction.TheVariants.{Set}
-use Rattle.clap.specs.declared.builder.value_parser.ValueParser.TheVariants.{Signed, Unsigned}
+use Rattle.clap.specs.declared.builder.action.ArgAction.TheVariants.{Set, SetTrue}
+use Rattle.clap.specs.declared.builder.value_parser.ValueParser.TheVariants as parsers
 use Rattle.learning.specs.declared.TheConstants.{LAST_ITERATION}
 use Rattle.limits.specs.declared.TheConstants.{LAST_SECOND, MAX_PARTITIONS}
 use Rattle.workload.specs.Grids.{IsGrid}
@@ -30,7 +30,7 @@ position id = record (new_rule id) { required = true; action = Some Set }
 
 -- a position for a number within bounds
 abbrev pub number_position : List ℕ → ℕ → ℕ → Rule
-number_position id least most = record (position id) { parser = Some (Signed (pos least) (pos most)) }
+number_position id least most = record (position id) { parser = Some (parsers.Signed (pos least) (pos most)) }
 
 -- a position for a second of the day, from 0 to 172,800
 abbrev pub second_position : List ℕ → Rule
@@ -42,7 +42,7 @@ size_position id = number_position id LEAST_SIZE MOST_SIZE
 
 -- a position for any number of 64 bits
 abbrev pub seed_position : List ℕ → Rule
-seed_position id = record (position id) { parser = Some (Unsigned 0 18446744073709551615) }
+seed_position id = record (position id) { parser = Some (parsers.Unsigned 0 18446744073709551615) }
 
 -- an option that has a value and is given once at most
 abbrev pub single_option : List ℕ → Rule
@@ -50,7 +50,7 @@ single_option id = record (new_rule id) { long = Some id; action = Some Set; val
 
 -- one for a number within bounds
 abbrev pub number_option : List ℕ → ℕ → ℕ → Rule
-number_option id least most = record (single_option id) { parser = Some (Signed (pos least) (pos most)) }
+number_option id least most = record (single_option id) { parser = Some (parsers.Signed (pos least) (pos most)) }
 
 -- for the number of an iteration, from 0 to 1,000
 abbrev pub iteration_option : List ℕ → Rule
@@ -60,18 +60,26 @@ iteration_option id = number_option id 0 LAST_ITERATION
 abbrev pub count_option : List ℕ → Rule
 count_option id = number_option id 1 MAX_PARTITIONS
 
+-- an option that has no value and is given once at most
+abbrev pub flag : List ℕ → Rule
+flag id = record (new_rule id) { long = Some id; action = Some SetTrue; parser = Some parsers.Bool }
+
 -- a command that also takes the options which say among how many partitions the network is divided, and how many workers compute them
 abbrev pub with_spread : App → App
 with_spread app = with_rule (with_rule app (count_option (codes "partitions"))) (count_option (codes "workers"))
 
+-- one that takes all options which say how days are computed: also the flag for events that are written while a day runs
+abbrev pub with_execution : App → App
+with_execution app = with_rule (with_spread app) (flag (codes "stream"))
+
 -- what clap reads behind a command's name: its positions and options, but no subcommand and no version flag
 abbrev pub simple_command : CommandName → App
-simple_command Run = with_spread (new_app (codes "run"))
-simple_command Resume = with_spread (new_app (codes "resume"))
+simple_command Run = with_execution (new_app (codes "run"))
+simple_command Resume = with_execution (new_app (codes "resume"))
 simple_command Check = new_app (codes "check")
 simple_command Route = with_rule (with_rule (with_rule (new_app (codes "route")) (position (codes "FROM"))) (position (codes "TO")))
     (second_position (codes "SECOND"))
-simple_command Generate = with_spread (with_rule (with_rule (with_rule (new_app (codes "generate")) (size_position (codes "SIZE")))
+simple_command Generate = with_execution (with_rule (with_rule (with_rule (new_app (codes "generate")) (size_position (codes "SIZE")))
     (seed_position (codes "SEED"))) (iteration_option (codes "last-iteration")))
 
 -- the word that was given for a position
@@ -105,6 +113,14 @@ partitions_in rows = number_or (codes "partitions") DEFAULT_PARTITIONS rows
 
 abbrev pub workers_in : List Row → ℕ
 workers_in rows = number_or (codes "workers") DEFAULT_WORKERS rows
+
+-- whether a flag was given
+abbrev pub is_set : List ℕ → List Row → Bool
+is_set id rows = option_map_or (λ (text : List ℕ). bytes_eq text (codes "true")) (one_of id rows) false
+
+-- whether the events of a day are to be written while it runs
+abbrev pub streams_in : List Row → Bool
+streams_in rows = is_set (codes "stream") rows
 
 -- the numbers of a command are within their bounds
 abbrev pub IsInRange : Command → Type 0

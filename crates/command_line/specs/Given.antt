@@ -1,5 +1,5 @@
 -- The positions and options of a command, and what clap gives for them.
-use Rattle.std.specs.Prelude.{◌≡◌, ◌≤◌, ℕ, pos, false, codes, List, [], None, Some}
+use Rattle.std.specs.Prelude.{◌≡◌, ◌≤◌, ◌⊎◌, ℕ, pos, false, codes, List, [], None, Some}
 use Rattle.clap.specs.Facts.{args_of, groups_of, least_values}
 use Rattle.clap.specs.Built.{AddsArg}
 use Rattle.clap.specs.Words.{IsPlainArg, IsSignedIn, IsUnsignedIn, Rule, one_text, rule_of, without_minus}
@@ -10,7 +10,7 @@ use Rattle.clap.specs.declared.parser.matches.Found.{Found}
 use Rattle.learning.specs.declared.TheConstants.{LAST_ITERATION}
 use Rattle.limits.specs.declared.TheConstants.{LAST_SECOND, MAX_PARTITIONS}
 use Rattle.workload.specs.declared.TheConstants.{LEAST_SIZE, MOST_SIZE}
-use Rattle.command_line.specs.Commands.{count_option}
+use Rattle.command_line.specs.Commands.{count_option, flag}
 
 -- the argument has this rule and no other: it stands alone, belongs to its command, and has one value at least, which is not split
 pub record IsArgument (rule : Rule) (arg : Arg) : Type 0 where
@@ -28,14 +28,18 @@ pub record IsBare (command : Command) : Type 0 where
   pub negates : (out-Command command).subcommand_negates_reqs ≡ false
 
 -- the options that say how days are computed were added to a command, the one behind the other
-pub record AddsSpread (old new : Command) : Type 0 where
+pub record AddsExecution (old new : Command) : Type 0 where
   pub partitions : Arg
   pub workers : Arg
-  pub between : Command
+  pub stream : Arg
+  pub divided : Command
+  pub spread : Command
   pub is_partitions : IsArgument (count_option (codes "partitions")) partitions
   pub is_workers : IsArgument (count_option (codes "workers")) workers
-  pub adds_partitions : AddsArg old partitions between
-  pub adds_workers : AddsArg between workers new
+  pub is_stream : IsArgument (flag (codes "stream")) stream
+  pub adds_partitions : AddsArg old partitions divided
+  pub adds_workers : AddsArg divided workers spread
+  pub adds_stream : AddsArg spread stream new
 
 -- a number within bounds was given for this argument
 abbrev pub HasNumber : ℕ → ℕ → List ℕ → Found → Type 0
@@ -59,10 +63,15 @@ HasSecond = HasNumber 0 LAST_SECOND (codes "SECOND")
 abbrev pub HasCount : List ℕ → Found → Type 0
 HasCount = MayHaveNumber 1 MAX_PARTITIONS
 
--- what was given for `--partitions` and `--workers`
-pub record HasSpread (found : Found) : Type 0 where
+-- where anything was given for a flag, it is whether it is set
+abbrev pub HasFlag : List ℕ → Found → Type 0
+HasFlag id found = (given : List ℕ) → one_text found id ≡ Some given → (given ≡ codes "true") ⊎ (given ≡ codes "false")
+
+-- what was given for `--partitions`, `--workers` and `--stream`
+pub record HasExecution (found : Found) : Type 0 where
   pub partitions : HasCount (codes "partitions") found
   pub workers : HasCount (codes "workers") found
+  pub stream : HasFlag (codes "stream") found
 
 -- what was given for `generate`
 pub record HasGrid (found : Found) : Type 0 where

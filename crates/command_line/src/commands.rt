@@ -4,8 +4,8 @@ ghost use Rattle.std.specs.Prelude.{◌≡◌, IfOk, codes};
 ghost use Rattle.clap.specs.Words.{IsParsedFrom, app_of, found_of, new_app};
 ghost use Rattle.clap.specs.declared.parser.matches.ArgMatches.{ArgMatches};
 ghost use Rattle.command_line.specs.Commands.{command_named, position, second_position, size_position, seed_position};
-ghost use Rattle.command_line.specs.Commands.{single_option, iteration_option, count_option, simple_command};
-ghost use Rattle.command_line.specs.Given.{AddsSpread, IsArgument, IsBare, HasSecond, HasGrid, HasSpread};
+ghost use Rattle.command_line.specs.Commands.{single_option, iteration_option, count_option, flag, simple_command};
+ghost use Rattle.command_line.specs.Given.{AddsExecution, IsArgument, IsBare, HasSecond, HasGrid, HasExecution};
 
 use clap::{Arg, ArgAction};
 use edge_files::Bytes;
@@ -117,12 +117,23 @@ fn count_option<'a>(alloc: Global, id: &'a str, help: &'a str) -> Arg<'a>
     ))
 }
 
+/// An option that has no value. `clap` refuses it where it is given twice.
+fn flag<'a>(alloc: Global, id: &'a str, help: &'a str) -> Arg<'a>
+    ensures { IsArgument (flag id.entry.now) result }
+{
+    Arg::new(alloc, id)
+        .help(help)
+        .long(id)
+        .action(ArgAction::SetTrue)
+        .value_parser(clap::value_parser!(bool))
+}
+
 /// A command that also takes the options which say how days are computed.
-fn with_spread<'a>(
+fn with_execution<'a>(
     alloc: Global,
     command: clap::Command<'a>,
 ) -> Result<clap::Command<'a>, AllocError>
-    ensures { IfOk result (λ c. AddsSpread command.entry c) }
+    ensures { IfOk result (λ c. AddsExecution command.entry c) }
 {
     let partitions = count_option(
         alloc,
@@ -134,46 +145,52 @@ fn with_spread<'a>(
         "workers",
         "How many workers compute them, each in a thread, from 1 to 64; 1 where it is not given. Choose one for each core",
     );
+    let stream = flag(
+        alloc,
+        "stream",
+        "Writes the lines of events.csv while a day runs, so that its events need not fit into memory; one thread computes it",
+    );
     let divided = command.arg(partitions)?;
     let spread = divided.arg(workers)?;
-    Ok(spread)
+    let streamed = spread.arg(stream)?;
+    Ok(streamed)
 }
 
 /// `qsim run`. Where `clap` takes its words, each number that is given is within its bounds.
 pub fn run_command<'a>(alloc: Global) -> Result<clap::Command<'a>, AllocError>
     ensures app { IfOk result (λ c. app_of c ≡ simple_command CommandName.Run) }
-    ensures spread { IfOk result (λ c. (m : ArgMatches) → IsParsedFrom c m → HasSpread (found_of m)) }
+    ensures execution { IfOk result (λ c. (m : ArgMatches) → IsParsedFrom c m → HasExecution (found_of m)) }
 {
     let bare = described(
         alloc,
         "run",
         Description {
-            usage: "qsim run [--partitions N] [--workers N]",
+            usage: "qsim run [--partitions N] [--workers N] [--stream]",
             about: "Simulates the days of the files in the current folder.",
             notes: "Writes events.csv, scores.csv and plans_out.csv; the report goes to standard output. What persons remember after each \
-                    iteration is kept in kept.db. Neither option changes a byte of what is written.",
+                    iteration is kept in kept.db. No option changes a byte of what is written.",
         },
     );
-    let command = with_spread(alloc, bare)?;
+    let command = with_execution(alloc, bare)?;
     Ok(command)
 }
 
 /// `qsim resume`. Where `clap` takes its words, each number that is given is within its bounds.
 pub fn resume_command<'a>(alloc: Global) -> Result<clap::Command<'a>, AllocError>
     ensures app { IfOk result (λ c. app_of c ≡ simple_command CommandName.Resume) }
-    ensures spread { IfOk result (λ c. (m : ArgMatches) → IsParsedFrom c m → HasSpread (found_of m)) }
+    ensures execution { IfOk result (λ c. (m : ArgMatches) → IsParsedFrom c m → HasExecution (found_of m)) }
 {
     let bare = described(
         alloc,
         "resume",
         Description {
-            usage: "qsim resume [--partitions N] [--workers N]",
+            usage: "qsim resume [--partitions N] [--workers N] [--stream]",
             about: "Goes on with a run of the files in the current folder, behind the last iteration that kept.db holds.",
             notes: "Writes events.csv, scores.csv and plans_out.csv of the iterations behind that one; the report goes to standard output. \
-                    How many partitions and workers the run had is not kept: it may go on with others.",
+                    With which options the run was computed is not kept: it may go on with others.",
         },
     );
-    let command = with_spread(alloc, bare)?;
+    let command = with_execution(alloc, bare)?;
     Ok(command)
 }
 
@@ -261,7 +278,7 @@ pub fn route_command<'a>(alloc: Global) -> Result<clap::Command<'a>, AllocError>
 /// given is within its own.
 pub fn generate_command<'a>(alloc: Global) -> Result<clap::Command<'a>, AllocError>
     ensures app { IfOk result (λ c. app_of c ≡ simple_command CommandName.Generate) }
-    ensures numbers { IfOk result (λ c. (m : ArgMatches) → IsParsedFrom c m → HasGrid (found_of m) × HasSpread (found_of m)) }
+    ensures numbers { IfOk result (λ c. (m : ArgMatches) → IsParsedFrom c m → HasGrid (found_of m) × HasExecution (found_of m)) }
 {
     let size = size_position(
         alloc,
@@ -282,12 +299,12 @@ pub fn generate_command<'a>(alloc: Global) -> Result<clap::Command<'a>, AllocErr
         alloc,
         "generate",
         Description {
-            usage: "qsim generate SIZE SEED [--last-iteration N] [--partitions N] [--workers N]",
+            usage: "qsim generate SIZE SEED [--last-iteration N] [--partitions N] [--workers N] [--stream]",
             about: "Makes a town of SIZE times SIZE nodes, and simulates its days.",
             notes: "Reads no file; writes events.csv, scores.csv and plans_out.csv; the report goes to standard output.",
         },
     );
     let grid = bare.arg(size)?.arg(seed)?.arg(last_iteration)?;
-    let command = with_spread(alloc, grid)?;
+    let command = with_execution(alloc, grid)?;
     Ok(command)
 }

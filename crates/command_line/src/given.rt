@@ -4,8 +4,9 @@ ghost use Rattle.clap.specs.Words.{found_of, rows_of};
 ghost use Rattle.limits.specs.declared.TheConstants.{MAX_PARTITIONS};
 ghost use Rattle.learning.specs.declared.TheConstants.{LAST_ITERATION};
 ghost use Rattle.workload.specs.declared.TheConstants.{LEAST_SIZE, MOST_SIZE};
-ghost use Rattle.command_line.specs.Commands.{text_in, number_in, number_or, command_with, partitions_in, workers_in, IsInRange};
-ghost use Rattle.command_line.specs.Given.{HasNumber, HasLongNumber, MayHaveNumber, HasCount, HasSecond, HasGrid, HasSpread};
+ghost use Rattle.command_line.specs.Commands.{text_in, number_in, number_or, command_with, partitions_in, workers_in, streams_in};
+ghost use Rattle.command_line.specs.Commands.{IsInRange};
+ghost use Rattle.command_line.specs.Given.{HasNumber, HasLongNumber, MayHaveNumber, HasCount, HasSecond, HasGrid, HasExecution};
 
 use crate::commands::{Command, CommandName};
 use crate::{DEFAULT_LAST_ITERATION, DEFAULT_PARTITIONS, DEFAULT_WORKERS};
@@ -64,9 +65,9 @@ fn count_given(matches: &ArgMatches<'_>, id: &str, default: u32) -> u32
     number
 }
 
-/// How the days are to be computed.
+/// In how many partitions, and by how many workers, the days are to be computed.
 pub fn spread_asked(matches: &ArgMatches<'_>) -> Spread
-    requires { HasSpread (found_of matches.now) }
+    requires { HasExecution (found_of matches.now) }
     ensures partitions { result.partitions ≡ partitions_in (rows_of (found_of matches.now)) }
     ensures workers { result.workers ≡ workers_in (rows_of (found_of matches.now)) }
 {
@@ -74,6 +75,14 @@ pub fn spread_asked(matches: &ArgMatches<'_>) -> Spread
         partitions: count_given(matches, "partitions", DEFAULT_PARTITIONS),
         workers: count_given(matches, "workers", DEFAULT_WORKERS),
     }
+}
+
+/// Whether the events of a day are to be written while it runs.
+pub fn stream_asked(matches: &ArgMatches<'_>) -> bool
+    requires { HasExecution (found_of matches.now) }
+    ensures { result ≡ streams_in (rows_of (found_of matches.now)) }
+{
+    matches.get_flag("stream")
 }
 
 /// The size of the grid that is asked for.

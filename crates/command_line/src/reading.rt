@@ -6,7 +6,7 @@ use crate::commands::{
     Command, CommandName, check_command, command_named, generate_command, resume_command,
     route_command, run_command,
 };
-use crate::given::{grid_asked, route_asked, spread_asked};
+use crate::given::{grid_asked, route_asked, spread_asked, stream_asked};
 use crate::usage::{no_command, not_a_command, usage};
 use crate::{DEFAULT_PARTITIONS, DEFAULT_WORKERS};
 use clap::Error;
@@ -17,8 +17,13 @@ use std::alloc::{AllocError, Global};
 /// What words ask for, with the text for the user where no command is to work.
 #[derive(Drop)]
 pub enum Asked {
-    /// The work of a command, and how its days are to be computed.
-    Work(Command, Spread),
+    /// The work of a command, and how its days are to be computed: in how many partitions, by how many workers, and whether their events
+    /// are written while they run.
+    Work {
+        command: Command,
+        spread: Spread,
+        streams: bool,
+    },
     /// To be told how the program, or a command, is used.
     Help(String),
     /// Nothing that the program has: the text says what is wrong.
@@ -64,7 +69,11 @@ fn read_check(alloc: Global, words: &[&str]) -> Result<Asked, AllocError>
 {
     let parser = check_command(alloc);
     match parser.try_get_matches_from(words) {
-        Ok(_) => Ok(Asked::Work(Command::Check, undivided())),
+        Ok(_) => Ok(Asked::Work {
+            command: Command::Check,
+            spread: undivided(),
+            streams: false,
+        }),
         Err(error) => told(alloc, &error),
     }
 }
@@ -78,7 +87,12 @@ fn read_run(alloc: Global, words: &[&str]) -> Result<Asked, AllocError>
     match parser.try_get_matches_from(words) {
         Ok(matches) => {
             let spread = spread_asked(&matches);
-            Ok(Asked::Work(Command::Run, spread))
+            let streams = stream_asked(&matches);
+            Ok(Asked::Work {
+                command: Command::Run,
+                spread,
+                streams,
+            })
         }
         Err(error) => told(alloc, &error),
     }
@@ -93,7 +107,12 @@ fn read_resume(alloc: Global, words: &[&str]) -> Result<Asked, AllocError>
     match parser.try_get_matches_from(words) {
         Ok(matches) => {
             let spread = spread_asked(&matches);
-            Ok(Asked::Work(Command::Resume, spread))
+            let streams = stream_asked(&matches);
+            Ok(Asked::Work {
+                command: Command::Resume,
+                spread,
+                streams,
+            })
         }
         Err(error) => told(alloc, &error),
     }
@@ -108,7 +127,11 @@ fn read_route(alloc: Global, words: &[&str]) -> Result<Asked, AllocError>
     match parser.try_get_matches_from(words) {
         Ok(matches) => {
             let command = route_asked(alloc, &matches)?;
-            Ok(Asked::Work(command, undivided()))
+            Ok(Asked::Work {
+                command,
+                spread: undivided(),
+                streams: false,
+            })
         }
         Err(error) => told(alloc, &error),
     }
@@ -124,7 +147,12 @@ fn read_generate(alloc: Global, words: &[&str]) -> Result<Asked, AllocError>
         Ok(matches) => {
             let command = grid_asked(&matches);
             let spread = spread_asked(&matches);
-            Ok(Asked::Work(command, spread))
+            let streams = stream_asked(&matches);
+            Ok(Asked::Work {
+                command,
+                spread,
+                streams,
+            })
         }
         Err(error) => told(alloc, &error),
     }

@@ -20,11 +20,11 @@ fn help_is_told(rt: HostRuntime) -> Result<(), Fail> {
         (["qsim", "--help", "x"].as_slice(), "qsim check "),
         (
             ["qsim", "run", "-h"].as_slice(),
-            "Usage: qsim run [--partitions N] [--workers N]\n",
+            "Usage: qsim run [--partitions N] [--workers N] [--stream]\n",
         ),
         (
             ["qsim", "run", "--help"].as_slice(),
-            "Usage: qsim run [--partitions N] [--workers N]\n",
+            "Usage: qsim run [--partitions N] [--workers N] [--stream]\n",
         ),
         (
             ["qsim", "check", "--help"].as_slice(),
@@ -43,7 +43,7 @@ fn help_is_told(rt: HostRuntime) -> Result<(), Fail> {
         (["qsim", "route", "-h"].as_slice(), "'qsim route -- -a b 0'"),
         (
             ["qsim", "generate", "-h"].as_slice(),
-            "Usage: qsim generate SIZE SEED [--last-iteration N] [--partitions N] [--workers N]\n",
+            "Usage: qsim generate SIZE SEED [--last-iteration N] [--partitions N] [--workers N] [--stream]\n",
         ),
     ];
     for (texts, part) in told {
@@ -73,11 +73,11 @@ fn other_words_are_refused(rt: HostRuntime) -> Result<(), Fail> {
         (["qsim", "fly"].as_slice(), "error: 'fly' is no command\n"),
         (
             ["qsim", "run", "x"].as_slice(),
-            "Usage: qsim run [--partitions N] [--workers N]\n",
+            "Usage: qsim run [--partitions N] [--workers N] [--stream]\n",
         ),
         (
             ["qsim", "run", ""].as_slice(),
-            "Usage: qsim run [--partitions N] [--workers N]\n",
+            "Usage: qsim run [--partitions N] [--workers N] [--stream]\n",
         ),
         (["qsim", "run", "--threads", "2"].as_slice(), "'--threads'"),
         (["qsim", "run", "--version"].as_slice(), "'--version'"),
@@ -85,7 +85,7 @@ fn other_words_are_refused(rt: HostRuntime) -> Result<(), Fail> {
         (["qsim", "check", "run"].as_slice(), "Usage: qsim check\n"),
         (
             ["qsim", "resume", "4"].as_slice(),
-            "Usage: qsim resume [--partitions N] [--workers N]\n",
+            "Usage: qsim resume [--partitions N] [--workers N] [--stream]\n",
         ),
         (["qsim", "route", "a", "b"].as_slice(), "SECOND"),
         (["qsim", "route", "a", "b", "172801"].as_slice(), "172801"),
@@ -163,14 +163,14 @@ fn grids_are_asked_for(rt: HostRuntime) -> Result<(), Fail> {
         ),
     ];
     for (texts, (wanted_size, wanted_seed, wanted_last)) in grids {
-        let Asked::Work(
-            Command::Generate {
+        let Asked::Work {
+            command: Command::Generate {
                 size,
                 seed,
                 last_iteration,
             },
-            _,
-        ) = asked(alloc, texts)?
+            ..
+        } = asked(alloc, texts)?
         else {
             panic!(rt; "no grid: {texts:?}")
         };
@@ -257,13 +257,59 @@ fn spreads_are_asked_for(rt: HostRuntime) -> Result<(), Fail> {
         (["qsim", "generate", "4", "7"].as_slice(), (1, 1)),
     ];
     for (texts, (partitions, workers)) in spreads {
-        let Asked::Work(_command, spread) = asked(alloc, texts)? else {
+        let Asked::Work { spread, .. } = asked(alloc, texts)? else {
             panic!(rt; "no work: {texts:?}")
         };
         assert!(rt;
             spread.partitions == partitions && spread.workers == workers,
             "{texts:?}"
         );
+    }
+    Ok(())
+}
+
+/// Events are written while a day runs where that is asked for, once, by a command that simulates days.
+#[test]
+fn streams_are_asked_for(rt: HostRuntime) -> Result<(), Fail> {
+    let alloc = rt.alloc();
+    let flags = [
+        (["qsim", "run"].as_slice(), false),
+        (["qsim", "run", "--stream"].as_slice(), true),
+        (
+            ["qsim", "resume", "--stream", "--workers=4"].as_slice(),
+            true,
+        ),
+        (["qsim", "resume", "--workers=4"].as_slice(), false),
+        (["qsim", "generate", "--stream", "4", "7"].as_slice(), true),
+        (["qsim", "generate", "4", "7"].as_slice(), false),
+        (["qsim", "check"].as_slice(), false),
+        (["qsim", "route", "a", "b", "0"].as_slice(), false),
+    ];
+    for (texts, wanted) in flags {
+        let Asked::Work { streams, .. } = asked(alloc, texts)? else {
+            panic!(rt; "no work: {texts:?}")
+        };
+        assert!(rt; streams == wanted, "{texts:?}");
+    }
+    let refused = [
+        (
+            ["qsim", "run", "--stream", "--stream"].as_slice(),
+            "'--stream'",
+        ),
+        (["qsim", "run", "--stream=true"].as_slice(), "'--stream'"),
+        (
+            ["qsim", "generate", "4", "7", "--streams"].as_slice(),
+            "'--streams'",
+        ),
+        (["qsim", "check", "--stream"].as_slice(), "'--stream'"),
+        (
+            ["qsim", "route", "a", "b", "0", "--stream"].as_slice(),
+            "'--stream'",
+        ),
+    ];
+    for (texts, part) in refused {
+        let is = is_refused(alloc, texts, part)?;
+        assert!(rt; is, "{texts:?}");
     }
     Ok(())
 }

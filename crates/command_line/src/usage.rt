@@ -5,16 +5,17 @@ use std::alloc::{AllocError, Global};
 /// The commands.
 const COMMANDS: &str = "qsim simulates days of traffic of the files in the current folder.
 
-Usage: qsim run [--partitions N] [--workers N]
+Usage: qsim run [--partitions N] [--workers N] [--stream]
                                     simulates the days and scores them; writes events.csv, scores.csv, plans_out.csv and a report
-       qsim resume [--partitions N] [--workers N]
+       qsim resume [--partitions N] [--workers N] [--stream]
                                     goes on with a run, behind the last iteration that kept.db holds; writes what run writes of the rest
        qsim check                   reads the files; reports their counts or their first fault
        qsim route FROM TO SECOND    reports the route of least arrival from a node to another, left in a second, at free speed
-       qsim generate SIZE SEED [--last-iteration N] [--partitions N] [--workers N]
+       qsim generate SIZE SEED [--last-iteration N] [--partitions N] [--workers N] [--stream]
                                     does what run does, with a generated town of SIZE times SIZE nodes; reads no file
 With --partitions each day is computed in so many parts of the network, from 1 to 64, with --workers by so many threads, from 1 to 64:
-choose some four partitions and one worker for each core. No byte that is written depends on either.
+choose some four partitions and one worker for each core. With --stream the lines of events.csv are written while a day runs, by one
+thread, and a day's events need not fit into memory. No byte that is written depends on any of them.
 
 Reads:";
 

@@ -24,6 +24,10 @@ persons_of handler = length handler.scorers
 abbrev pub links_in : EventHandler → ℕ
 links_in handler = links_of handler.known
 
+-- how many links were looked at
+abbrev pub links_seen : SeenDay → ℕ
+links_seen seen = links_of seen.known
+
 -- by these tables the handler stands for these events
 pub record HasHandled (scoring : ScoringRows) (handler : EventHandler) (events : List Event) : Type 0 where
   pub scored : StandFor scoring handler.scorers events

@@ -3,7 +3,7 @@
 ghost use Rattle.std.specs.Prelude.{◌≡◌, ◌++◌, List, [], OnOk, IfOk};
 ghost use Rattle.events.specs.declared.event.Event.{Event};
 ghost use Rattle.scoring.specs.Tables.{ScoringRows, scoring_rows};
-ghost use Rattle.event_handler.specs.Handling.{kinds_of, persons_of, links_in, HasHandled, CanHandle, IsSeen};
+ghost use Rattle.event_handler.specs.Handling.{kinds_of, persons_of, links_in, links_seen, HasHandled, CanHandle, IsSeen};
 
 use crate::counts::EventCounts;
 use day_scores::Scorers;
@@ -87,8 +87,9 @@ impl EventHandler {
     /// `AllocError`: there is no memory for a score.
     pub fn finish(self, alloc: Global, tables: &Tables) -> Result<SeenDay, AllocError>
         requires { (taken : List Event) × HasHandled (scoring_rows tables.now) self taken }
-        ensures { IfOk result (λ seen. (taken : List Event) → HasHandled (scoring_rows tables.now) self taken
+        ensures seen { IfOk result (λ seen. (taken : List Event) → HasHandled (scoring_rows tables.now) self taken
             → IsSeen (scoring_rows tables.now) (kinds_of self) taken seen) }
+        ensures links { IfOk result (λ seen. links_seen seen ≡ links_in self) }
     {
         let EventHandler {
             scorers,

@@ -4,7 +4,7 @@ ghost use Rattle.std.specs.Prelude.{◌≡◌, ◌++◌, List, [], OnOk, IfOk};
 ghost use Rattle.events.specs.declared.event.Event.{Event};
 ghost use Rattle.events.specs.Lines.{AreInBook, event_lines};
 ghost use Rattle.scoring.specs.Tables.{scoring_rows};
-ghost use Rattle.event_handler.specs.Handling.{kinds_of, persons_of, links_in, HasHandled, CanHandle, IsSeen};
+ghost use Rattle.event_handler.specs.Handling.{kinds_of, persons_of, links_in, links_seen, HasHandled, CanHandle, IsSeen};
 ghost use Rattle.event_writer.specs.Writing.{IsWritten};
 
 use crate::source::EventSource;
@@ -103,6 +103,7 @@ pub fn stream_events<S: EventSource, O: Outputs>(
     ensures written { IsWritten (O.written outputs.old) (O.written outputs.new) (O.faults outputs.old) (O.faults outputs.new)
         (event_lines (S.rest source.old) book.now) result }
     ensures seen { IfOk result (IsSeen (scoring_rows tables.now) (kinds_of handler) (S.rest source.old)) }
+    ensures links { IfOk result (λ seen. links_seen seen ≡ links_in handler) }
 {
     let mut handler = handler;
     'pieces: loop {

@@ -12,3 +12,5 @@ pub mod Tails
 pub mod Basing
 pub mod OneDay
 pub mod Looping
+pub mod Streamed
+pub mod SeenDays

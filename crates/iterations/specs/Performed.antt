@@ -3,6 +3,8 @@ use Rattle.std.specs.Prelude.{◌≡◌, ℕ, ◌≤◌, Bool, true, false, List
 use Rattle.edge_files.specs.declared.effects.EffectError.{EffectError}
 use Rattle.edge_files.specs.declared.effects.EffectError.TheVariants as error
 use Rattle.edge_files.specs.Causes.{Rose}
+use Rattle.event_writer.specs.declared.writing.StreamError.{StreamError}
+use Rattle.event_writer.specs.declared.writing.StreamError.TheVariants as stream
 use Rattle.edge_files.specs.Keeping.{Told, StaysTold}
 use Rattle.edge_files.specs.World.{World, Written, Step, outside, Does, DoesPart}
 
@@ -29,3 +31,8 @@ pub record IsPerformed {T : Type 0} (may_keep : Bool) (old new : Moment) (steps 
 -- the same where the keeper is not called
 abbrev pub IsWritten : {T : Type 0} → Moment → Moment → List Step → Result T EffectError → Type 0
 IsWritten old new steps result = IsPerformed false old new steps result
+
+-- why events were not written, as the error of an effect
+abbrev pub effect_error : StreamError → EffectError
+effect_error stream.WriteFailed = error.WriteFailed
+effect_error stream.NoMemory = error.NoMemory

@@ -1,35 +1,41 @@
 //! The loop.
 
-ghost use Rattle.std.specs.Prelude.{◌≡◌, ◌<◌, ◌≤◌, ◌-◌, ◌++◌, false, length, IfOk};
+ghost use Rattle.std.specs.Prelude.{◌≡◌, ◌<◌, ◌≤◌, ◌-◌, ◌++◌, false, length, All, IfOk, OnOk};
 ghost use Rattle.edge_files.specs.Effects.{all_steps};
 ghost use Rattle.edge_files.specs.World.{byte_steps};
-ghost use Rattle.travel_times.specs.Observed.{AreInOrder, AreOnLinks};
+ghost use Rattle.limits.specs.declared.TheConstants.{MAX_PERSONS};
+ghost use Rattle.scoring.specs.declared.TheConstants.{MAX_SCORE};
+ghost use Rattle.scoring.specs.Ranges.{IsWithin};
+ghost use Rattle.scoring.specs.Score.{total};
+ghost use Rattle.travel_times.specs.Known.{Knows, links_of};
+ghost use Rattle.travel_times.specs.Observed.{AreOnLinks};
 ghost use Rattle.iterations.specs.Acts.{saves, iteration_effects, end_effects, acts_behind};
 ghost use Rattle.iterations.specs.Continued.{begun_after, continued, acts_after};
 ghost use Rattle.iterations.specs.Days.{events_of, memories_after};
 ghost use Rattle.iterations.specs.Performed.{IsPerformed, moment};
 ghost use Rattle.iterations.specs.Runs.{CanRun};
-ghost use Rattle.iterations.specs.Scored.{IsWritable};
-ghost use Rattle.iterations.specs.Texts.{iteration_line};
+ghost use Rattle.iterations.specs.Texts.{iteration_counts};
 ghost use Rattle.iterations.specs.Views.{run_rows};
 
-use crate::days::{ScoredDay, chosen_numbers, replanned, scored, simulate};
+use crate::days::{replanned, scored};
 use crate::ends::write_end;
-use crate::performing::{write_day, write_line};
+use crate::performing::write_line;
 use crate::run::RunInput;
 use crate::saving::save;
+use crate::seeing::{look_at_day, see_day};
 use edge_files::{EffectError, Gate, Keeper, OutFile, Outputs};
-use events::Event;
+use event_handler::SeenDay;
 use plan_memory::Memory;
 use router::Adjacency;
 use std::alloc::{AllocError, Global};
 use std::sync::Wait;
 use std::thread::Threads;
+use travel_times::Observations;
 
-/// What is left of an iteration that is over: the events of its day, and the memories with its scores.
+/// What is left of an iteration that is over: what its day shows of travel times, and the memories with its scores.
 #[derive(Drop)]
 struct Iterated {
-    events: Vec<Event>,
+    known: Observations,
     memories: Vec<Memory>,
 }
 
@@ -38,27 +44,29 @@ fn save_and_report<O: Outputs, K: Keeper, G>(
     alloc: Global,
     run: &RunInput<G>,
     iteration: u32,
-    day: &ScoredDay,
+    seen: &SeenDay,
     memories: &[Memory],
     outputs: &mut O,
     keeper: &mut K,
 ) -> Result<(), EffectError>
     requires can { CanRun (run_rows run.now) memories.now }
-    requires day { IsWritable run.now.town.now.book day.now.events.items day.now.scores.items }
+    requires few { length seen.now.scores.items ≤ MAX_PERSONS }
+    requires within { All (IsWithin MAX_SCORE) seen.now.scores.items }
     ensures performed { IsPerformed run.now.keeps
         (moment (O.written outputs.old) (K.kept keeper.old) (O.faults outputs.old) (K.faults keeper.old))
         (moment (O.written outputs.new) (K.kept keeper.new) (O.faults outputs.new) (K.faults keeper.new))
         (all_steps (saves (run_rows run.now) iteration memories.now)
-        ++ byte_steps OutFile.Report (iteration_line iteration day.now.events.items day.now.scores.items)) result }
+        ++ byte_steps OutFile.Report
+        (iteration_counts iteration seen.now.counts.events seen.now.counts.stuck (total seen.now.scores.items))) result }
     ensures keeper { run.now.keeps ≡ false → keeper.new ≡ keeper.old }
 {
     match save(alloc, run, iteration, memories, outputs, keeper) {
-        Ok(()) => write_line(alloc, iteration, day, &run.town.book, outputs, keeper),
+        Ok(()) => write_line(alloc, iteration, seen.counts, &seen.scores, outputs, keeper),
         Err(error) => Err(error),
     }
 }
 
-/// Simulates the day of an iteration and writes it, and keeps what is remembered of it.
+/// Simulates the day of an iteration and writes it as it comes, and keeps what is remembered of it.
 #[tactic(auto, unfolding(crate::specs::Days::memories_after))]
 fn do_iteration<R: Threads + Wait + Sync, O: Outputs, K: Keeper, G: Gate>(
     rt: &R,
@@ -74,31 +82,29 @@ fn do_iteration<R: Threads + Wait + Sync, O: Outputs, K: Keeper, G: Gate>(
         (moment (O.written outputs.old) (K.kept keeper.old) (O.faults outputs.old) (K.faults keeper.old))
         (moment (O.written outputs.new) (K.kept keeper.new) (O.faults outputs.new) (K.faults keeper.new))
         (all_steps (iteration_effects (run_rows run.now) iteration memories.items)) result }
-    ensures events { IfOk result (λ one. one.events.items ≡ events_of (run_rows run.now) iteration memories.items) }
-    ensures order { IfOk result (λ one. AreInOrder one.events.items) }
-    ensures links { IfOk result (λ one. AreOnLinks (length run.now.town.now.network.links) one.events.items) }
+    ensures known { IfOk result (λ one. Knows one.known (events_of (run_rows run.now) iteration memories.items)) }
+    ensures links { IfOk result (λ one. links_of one.known ≡ length run.now.town.now.network.links) }
+    ensures on_links { OnOk result
+        (AreOnLinks (length run.now.town.now.network.links) (events_of (run_rows run.now) iteration memories.items)) }
     ensures memories { IfOk result (λ one. one.memories.items ≡ memories_after (run_rows run.now) iteration memories.items) }
     ensures can { IfOk result (λ one. CanRun (run_rows run.now) one.memories.items) }
     ensures keeper { run.now.keeps ≡ false → keeper.new ≡ keeper.old }
 {
-    let Ok(day) = simulate(rt, alloc, run, iteration, &memories) else {
-        return Err(EffectError::NoMemory);
-    };
-    let Ok(chosen) = chosen_numbers(alloc, &memories) else {
-        return Err(EffectError::NoMemory);
-    };
-    let book = &run.town.book;
-    match write_day(alloc, iteration, &day, &chosen, book, outputs, keeper) {
-        Ok(()) => {}
+    let seen = match see_day(rt, alloc, run, iteration, &memories, outputs, keeper) {
+        Ok(seen) => seen,
         Err(error) => return Err(error),
-    }
-    let Ok(memories) = scored(alloc, memories, &day.scores) else {
+    };
+    let Ok(memories) = scored(alloc, memories, &seen.scores) else {
         return Err(EffectError::NoMemory);
     };
-    match save_and_report(alloc, run, iteration, &day, &memories, outputs, keeper) {
+    match save_and_report(alloc, run, iteration, &seen, &memories, outputs, keeper) {
         Ok(()) => {
-            let ScoredDay { events, scores: _ } = day;
-            Ok(Iterated { events, memories })
+            let SeenDay {
+                scores: _scores,
+                known,
+                counts: _counts,
+            } = seen;
+            Ok(Iterated { known, memories })
         }
         Err(error) => Err(error),
     }
@@ -131,8 +137,8 @@ fn finish<R: Threads + Wait + Sync, O: Outputs, K: Keeper, G: Gate>(
         keeper,
     ) {
         Ok(one) => {
-            let Iterated { events, memories } = one;
-            drop(events);
+            let Iterated { known, memories } = one;
+            drop(known);
             write_end(alloc, run, &memories, outputs, keeper)
         }
         Err(error) => Err(error),
@@ -167,10 +173,10 @@ fn iterate_from<R: Threads + Wait + Sync, O: Outputs, K: Keeper, G: Gate>(
             Err(error) => return Err(error),
         };
         let Iterated {
-            events,
+            known,
             memories: after,
         } = one;
-        memories = match replanned(rt, alloc, run, &adjacency, iteration + 1, events, after) {
+        memories = match replanned(rt, alloc, run, &adjacency, iteration + 1, known, after) {
             Ok(new) => new,
             Err(_) => return Err(EffectError::NoMemory),
         };
@@ -192,10 +198,14 @@ fn begun_after<R: Threads + Wait + Sync, G: Gate>(
     ensures begun { IfOk result (λ new. new.items ≡ begun_after (run_rows run.now) iteration memories.items) }
     ensures can { IfOk result (λ new. CanRun (run_rows run.now) new.items) }
 {
-    let day = simulate(rt, alloc, run, iteration, &memories)?;
-    let ScoredDay { events, scores: _ } = day;
+    let seen = look_at_day(rt, alloc, run, iteration, &memories)?;
+    let SeenDay {
+        scores: _scores,
+        known,
+        counts: _counts,
+    } = seen;
     let adjacency = Adjacency::of(alloc, &run.town.network)?;
-    let new = replanned(rt, alloc, run, &adjacency, iteration + 1, events, memories)?;
+    let new = replanned(rt, alloc, run, &adjacency, iteration + 1, known, memories)?;
     Ok(new)
 }
 
@@ -226,9 +236,9 @@ fn go_on<R: Threads + Wait + Sync, O: Outputs, K: Keeper, G: Gate>(
     }
 }
 
-/// Does a run: its iterations from 0 to the last, each with its day, whose events and scores are written when it is over; then what
-/// the persons remember of it is kept, where the run keeps anything, and its line of the report is written. At the end the plans are
-/// written. Before each iteration but the first one persons replan, by what they have seen on the day before, spread over as many
+/// Does a run: its iterations from 0 to the last, each with its day, whose events are written as they come, and its scores behind them;
+/// then what the persons remember of it is kept, where the run keeps anything, and its line of the report is written. At the end the plans
+/// are written. Before each iteration but the first one persons replan, by what they have seen on the day before, spread over as many
 /// threads as there are processors. A day is computed as the run's `execution` says, the gate passed before each second of a partition.
 ///
 /// With `after` the run goes on from memories that were kept after this iteration: their day is simulated once more for its travel

@@ -1,16 +1,7 @@
 use learning::Learning;
 use scoring::Tables;
-use spread::Spread;
 use town::Town;
-
-/// How the days of a run are computed. Nothing that a run does outside depends on it, but for what the gate does.
-#[derive_where(Clone, Copy)]
-pub struct Execution<'a, G> {
-    /// In how many partitions of the network, by how many workers.
-    pub spread: Spread,
-    /// What is passed before each second of a partition.
-    pub gate: &'a G,
-}
+use written_day::Execution;
 
 /// What a run of several days is made from, beside what its persons remember at first.
 #[derive_where(Clone, Copy)]

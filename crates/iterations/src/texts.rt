@@ -4,10 +4,11 @@ ghost use Rattle.scoring.specs.declared.TheConstants.{MAX_SCORE};
 ghost use Rattle.scoring.specs.Ranges.{IsWithin};
 ghost use Rattle.plans.specs.Kinds.{plans_header};
 ghost use Rattle.plan_text.specs.Lines.{row_line};
-ghost use Rattle.iterations.specs.Texts.{is_stuck, stuck_count, iteration_counts, iteration_line, done_line};
+ghost use Rattle.scoring.specs.Score.{total};
+ghost use Rattle.iterations.specs.Texts.{iteration_counts, done_line};
 
 use day_scores::sum_of;
-use events::{Event, Word};
+use event_handler::EventCounts;
 use std::alloc::{AllocError, Global};
 
 /// The line with which an iteration's events begin.
@@ -18,26 +19,14 @@ pub fn events_header(alloc: Global, iteration: u32) -> Result<Vec<u8>, AllocErro
     Ok(line.into_bytes())
 }
 
-fn is_stuck(word: Word) -> bool
-    ensures { result ≡ is_stuck word }
-{
-    word == Word::StuckAndAbort
-}
-
-fn stuck_count(events: &[Event]) -> usize
-    ensures { result ≡ stuck_count events.now }
-{
-    events.iter().filter(|event| is_stuck(event.word)).count()
-}
-
 /// The report of an iteration, by the number of its events and of those of persons who are stuck, and by the sum of
 /// the scores in micro-utils.
 #[tactic(auto, unfolding(crate::specs::Texts::iteration_counts))]
 fn iteration_counts(
     alloc: Global,
     iteration: u32,
-    events: usize,
-    stuck: usize,
+    events: u64,
+    stuck: u64,
     sum: i64,
 ) -> Result<Vec<u8>, AllocError>
     ensures { IfOk result (λ line. line.items ≡ iteration_counts iteration events stuck sum) }
@@ -46,22 +35,22 @@ fn iteration_counts(
     Ok(line.into_bytes())
 }
 
-/// The report of an iteration, by its events and by the scores, in micro-utils.
+/// The report of an iteration, by the counts of its events and by the scores, in micro-utils.
 pub fn iteration_line(
     alloc: Global,
     iteration: u32,
-    events: &[Event],
+    counts: EventCounts,
     scores: &[i64],
 ) -> Result<Vec<u8>, AllocError>
     requires few { length scores.now ≤ MAX_PERSONS }
     requires within { All (IsWithin MAX_SCORE) scores.now }
-    ensures { IfOk result (λ line. line.items ≡ iteration_line iteration events.now scores.now) }
+    ensures { IfOk result (λ line. line.items ≡ iteration_counts iteration counts.events counts.stuck (total scores.now)) }
 {
     iteration_counts(
         alloc,
         iteration,
-        events.len(),
-        stuck_count(events),
+        counts.events,
+        counts.stuck,
         sum_of(scores),
     )
 }

@@ -85,21 +85,21 @@ AnswersWork c left came old new =
     → (scenario_fault texts ≡ None → HasKept c old.kept kept) → IsAnswerTo c texts kept a → Answers a came old new
 
 -- Help and refused words are told some text of the program's own, whatever the files hold; and only refused words have the usage told. In how
--- many partitions, and by how many workers, days are computed plays no part.
+-- many partitions, and by how many workers, days are computed plays no part, nor does whether their events are written while they run.
 abbrev pub AnswersCase : Case → Left → Status → World → World → Type 0
-AnswersCase (Work c partitions workers) left came old new = AnswersWork c left came old new × (is_of_work c came ≡ true)
+AnswersCase (Work c partitions workers streams) left came old new = AnswersWork c left came old new × (is_of_work c came ≡ true)
 AnswersCase Help left came old new = (text : List ℕ) × Answers (report status.Done text) came old new
 AnswersCase Refused left came old new = (text : List ℕ) × Answers (report status.Usage text) came old new
 
--- the same work, in so many partitions and by so many workers
-abbrev pub spread_so : ℕ → ℕ → Case → Case
-spread_so partitions workers (Work c others more) = Work c partitions workers
-spread_so partitions workers Help = Help
-spread_so partitions workers Refused = Refused
+-- the same work, in so many partitions, by so many workers, and with the events of days written while they run or not
+abbrev pub computed_so : ℕ → ℕ → Bool → Case → Case
+computed_so partitions workers streams (Work c others more before) = Work c partitions workers streams
+computed_so partitions workers streams Help = Help
+computed_so partitions workers streams Refused = Refused
 
 -- the words ask for work that calls the keeper
 abbrev pub may_keep : Case → Bool
-may_keep (Work c partitions workers) = uses_keeper c
+may_keep (Work c partitions workers streams) = uses_keeper c
 may_keep Help = false
 may_keep Refused = false
 

@@ -9,7 +9,7 @@ ghost use Rattle.scenario.specs.Texts.{Texts};
 ghost use Rattle.scenario.specs.FilesToScenario.{ScenarioRows, scenario_fault, scenario_rows};
 ghost use Rattle.qsim_top.specs.declared.answers.Status.{Status};
 ghost use Rattle.qsim_top.specs.Answer.{report, reports_alone, is_of_words, OnlyReports};
-ghost use Rattle.qsim_top.specs.Came.{uses_keeper, may_keep, spread_so, AnswersCase, IsCarriedOut};
+ghost use Rattle.qsim_top.specs.Came.{uses_keeper, may_keep, computed_so, AnswersCase, IsCarriedOut};
 ghost use Rattle.qsim_top.specs.Laws.{day_of, IsLawful, FollowsPlans, KeepsConflicts, ReportsRoutes, ResumesRuns};
 ghost use Rattle.qsim_top.specs.Texts.{refused_line};
 
@@ -53,7 +53,8 @@ fn do_work<R: Threads + Wait + Sync, I: Inputs, O: Outputs, K: Keeper, G: Gate>(
     keeper: &mut K,
 ) -> Status
     requires in_range { IsInRange command }
-    ensures acts { AnswersCase (Work command execution.entry.spread.partitions execution.entry.spread.workers) (I.left inputs.old) result
+    ensures acts { AnswersCase
+        (Work command execution.entry.spread.partitions execution.entry.spread.workers execution.entry.streams) (I.left inputs.old) result
         (outside (O.written outputs.old) (K.kept keeper.old))
         (outside (O.written outputs.new) (K.kept keeper.new)) }
     ensures read { result ≡ Status.ReadFault → Rose (I.faults inputs.old) (I.faults inputs.new) }
@@ -99,11 +100,12 @@ fn tell<O: Outputs, K: Keeper>(
 /// remember after it, and writes the plans at the end; `qsim resume` goes on from what is kept; `qsim check` reads the scenario and reports
 /// its counts or its first fault; `qsim route` reads it and reports the route of least arrival between two nodes; `qsim generate` makes a
 /// grid and runs it, and reads and keeps nothing. The days of a run are computed in as many partitions of the network, and by as many
-/// workers, as the words say.
+/// workers, as the words say; where they ask for it the events of a day are written while it runs, and then one thread computes it.
 ///
 /// The words are read first, then all files, then what is kept, and then all that the answer holds is done outside, what is written and
-/// kept of an iteration as soon as it is over. Routes are searched, and persons replan, by as many threads as there are processors,
-/// each of which is joined; so are those of the workers. The gate is passed before each second of a partition of each day.
+/// kept of an iteration as soon as it is over, or the events of its day as they come. Routes are searched, and persons replan, by as many
+/// threads as there are processors, each of which is joined; so are those of the workers. The gate is passed before each second of a
+/// partition of each day.
 pub fn qsim<R: Threads + Wait + Sync, I: Inputs, O: Outputs, K: Keeper, G: Gate>(
     rt: &R,
     alloc: Global,
@@ -135,9 +137,10 @@ pub fn qsim<R: Threads + Wait + Sync, I: Inputs, O: Outputs, K: Keeper, G: Gate>
     ensures keeper { may_keep (case_of (map string_bytes words.now)) ≡ false → keeper.new ≡ keeper.old }
     ensures unkept { may_keep (case_of (map string_bytes words.now)) ≡ false → result ≡ Status.KeepFault → ⊥ }
 
-    // What came is what the same words ask for in however many partitions, and by however many workers, days are computed.
-    ensures divided { (partitions workers : ℕ)
-        → AnswersCase (spread_so partitions workers (case_of (map string_bytes words.now))) (I.left inputs.old) result
+    // What came is what the same words ask for in however many partitions, and by however many workers, days are computed, and whether
+    // their events are written while they run or when they are over.
+    ensures divided { (partitions workers : ℕ) (streams : Bool)
+        → AnswersCase (computed_so partitions workers streams (case_of (map string_bytes words.now))) (I.left inputs.old) result
         (outside (O.written outputs.old) (K.kept keeper.old))
         (outside (O.written outputs.new) (K.kept keeper.new)) }
 
@@ -154,8 +157,18 @@ pub fn qsim<R: Threads + Wait + Sync, I: Inputs, O: Outputs, K: Keeper, G: Gate>
 {
     know_days();
     match read_words(alloc, words) {
-        Ok(Asked::Work(command, spread)) => {
-            let execution = Execution { spread, gate };
+        Ok(
+            Asked::Work {
+                command,
+                spread,
+                streams,
+            },
+        ) => {
+            let execution = Execution {
+                spread,
+                streams,
+                gate,
+            };
             do_work(rt, alloc, command, execution, inputs, outputs, keeper)
         }
         Ok(Asked::Help(text)) => tell(alloc, Status::Done, text, outputs, keeper),

@@ -136,10 +136,16 @@ fn short_inputs(alloc: Global, failing: u64) -> MemoryInputs {
     inputs
 }
 
-/// Whether the short day ends so where this call of reading fails and there is room for so many bytes in all.
+/// The words of a run of the short day, and of one whose events are written while it runs.
+static RUN: [&str; 2] = ["qsim", "run"];
+
+static STREAM: [&str; 3] = ["qsim", "run", "--stream"];
+
+/// Whether the short day ends so with these words where this call of reading fails and there is room for so many bytes in all.
 fn ends_so<R: Threads + Wait + Sync>(
     rt: &R,
     alloc: Global,
+    words: &[&str],
     failing: u64,
     room: usize,
     status: Status,
@@ -147,14 +153,14 @@ fn ends_so<R: Threads + Wait + Sync>(
     let mut inputs = short_inputs(alloc, failing);
     let mut outputs = MemoryOutputs::new(alloc);
     outputs.room(room as u64);
-    let came = status_of(rt, alloc, &["qsim", "run"], &mut inputs, &mut outputs);
+    let came = status_of(rt, alloc, words, &mut inputs, &mut outputs);
     came == status && is_front_written(&outputs, status, room)
 }
 
 /// The first call of reading, below this one, that may fail while something is written; or this one.
 fn first_unheard<R: Threads + Wait + Sync>(rt: &R, alloc: Global, calls: u64) -> u64 {
     for call in 1..calls {
-        if !ends_so(rt, alloc, call, 1_000, Status::ReadFault) {
+        if !ends_so(rt, alloc, &RUN, call, 1_000, Status::ReadFault) {
             return call;
         }
     }
@@ -165,7 +171,7 @@ fn first_unheard<R: Threads + Wait + Sync>(rt: &R, alloc: Global, calls: u64) ->
 #[test]
 fn a_failing_read_writes_nothing(rt: HostRuntime) {
     assert_eq!(rt; first_unheard(&rt, rt.alloc(), 13), 13);
-    assert!(rt; ends_so(&rt, rt.alloc(), 13, 1_000, Status::Done));
+    assert!(rt; ends_so(&rt, rt.alloc(), &RUN, 13, 1_000, Status::Done));
 }
 
 /// The short day with settings that have a fault.
@@ -190,21 +196,27 @@ fn files_are_read_before_they_are_checked(rt: HostRuntime) {
 }
 
 /// The first number of bytes, below this one, for which there may be room while something else than a front is written; or this one.
-fn first_torn<R: Threads + Wait + Sync>(rt: &R, alloc: Global, whole: usize) -> usize {
+fn first_torn<R: Threads + Wait + Sync>(
+    rt: &R,
+    alloc: Global,
+    words: &[&str],
+    whole: usize,
+) -> usize {
     for room in 0..whole {
-        if !ends_so(rt, alloc, 0, room, Status::WriteFault) {
+        if !ends_so(rt, alloc, words, 0, room, Status::WriteFault) {
             return room;
         }
     }
     whole
 }
 
-/// There is room for each number of bytes, and each file is a front of its text.
+/// There is room for each number of bytes, and each file is a front of its text, also where the events are written while the day runs.
 #[test]
 fn a_failing_write_leaves_fronts(rt: HostRuntime) {
     let whole = SHORT_EVENTS.len() + SHORT_SCORES.len() + SHORT_PLANS.len() + SHORT_REPORT.len();
-    assert_eq!(rt; first_torn(&rt, rt.alloc(), whole), whole);
-    assert!(rt; ends_so(&rt, rt.alloc(), 0, whole, Status::Done));
+    assert_eq!(rt; first_torn(&rt, rt.alloc(), &RUN, whole), whole);
+    assert_eq!(rt; first_torn(&rt, rt.alloc(), &STREAM, whole), whole);
+    assert!(rt; ends_so(&rt, rt.alloc(), &STREAM, 0, whole, Status::Done));
 }
 
 /// Settings for the day of the bus, up to a second behind its last event.

@@ -1,4 +1,4 @@
-//! Runs in several partitions, by several workers: they write the same bytes.
+//! Runs in several partitions, by several workers, and with events that are written while the days run: they write the same bytes.
 
 use crate::grids::are_same;
 use crate::{grids, kept};
@@ -30,14 +30,25 @@ static MOVING: Case = Case {
     ..WALK
 };
 
-/// The words of runs that are spread in other ways.
-static RUNS: [&[&str]; 6] = [
+/// The words of runs that are computed in other ways.
+static RUNS: [&[&str]; 9] = [
     &["qsim", "run", "--partitions", "2"],
     &["qsim", "run", "--workers", "2"],
     &["qsim", "run", "--partitions", "4", "--workers", "1"],
     &["qsim", "run", "--partitions", "4", "--workers", "4"],
     &["qsim", "run", "--workers", "3", "--partitions", "16"],
     &["qsim", "run", "--partitions", "64", "--workers", "64"],
+    &["qsim", "run", "--stream"],
+    &["qsim", "run", "--stream", "--partitions", "4"],
+    &[
+        "qsim",
+        "run",
+        "--partitions",
+        "16",
+        "--workers",
+        "2",
+        "--stream",
+    ],
 ];
 
 /// What a run of a case with these words writes, where it is done.
@@ -83,11 +94,11 @@ fn count_same<R: Threads + Wait + Sync>(rt: &R, alloc: Global, case: &Case) -> u
 
 #[test]
 fn runs_write_the_same(rt: HostRuntime) {
-    assert_eq!(rt; count_same(&rt, rt.alloc(), &BUSES), 6);
-    assert_eq!(rt; count_same(&rt, rt.alloc(), &MOVING), 6);
+    assert_eq!(rt; count_same(&rt, rt.alloc(), &BUSES), 9);
+    assert_eq!(rt; count_same(&rt, rt.alloc(), &MOVING), 9);
 }
 
-/// What a run that is stopped at a save and goes on writes on the way, spread in this way and then in that one.
+/// What a run that is stopped at a save and goes on writes on the way, computed in this way and then in that one.
 fn rest_of<R: Threads + Wait + Sync>(
     rt: &R,
     alloc: Global,
@@ -106,17 +117,24 @@ fn rest_of<R: Threads + Wait + Sync>(
 }
 
 /// Whether both are there, and have written the same.
-fn have_same(one: &Option<MemoryOutputs>, other: &Option<MemoryOutputs>) -> bool {
+pub(crate) fn have_same(one: &Option<MemoryOutputs>, other: &Option<MemoryOutputs>) -> bool {
     match (one, other) {
         (Some(one), Some(other)) => are_same(one, other),
         _ => false,
     }
 }
 
-/// A run that was stopped goes on spread in another way, and writes the same.
+/// A run that was stopped goes on computed in another way, and writes the same.
 #[test]
-fn runs_go_on_spread_otherwise(rt: HostRuntime) {
+fn runs_go_on_otherwise(rt: HostRuntime) {
     let plain = rest_of(&rt, rt.alloc(), &["qsim", "run"], &["qsim", "resume"]);
+    let streamed = rest_of(
+        &rt,
+        rt.alloc(),
+        &["qsim", "run", "--stream"],
+        &["qsim", "resume", "--partitions", "2", "--stream"],
+    );
+    assert!(rt; have_same(&plain, &streamed));
     let other = rest_of(
         &rt,
         rt.alloc(),
@@ -126,8 +144,8 @@ fn runs_go_on_spread_otherwise(rt: HostRuntime) {
     assert!(rt; have_same(&plain, &other));
 }
 
-/// The words of a grid of four rows with 80 persons, spread in other ways.
-static GRID_RUNS: [&[&str]; 4] = [
+/// The words of a grid of four rows with 80 persons, computed in other ways.
+static GRID_RUNS: [&[&str]; 5] = [
     &["qsim", "generate", "4", "7", "--partitions", "4"],
     &[
         "qsim",
@@ -150,6 +168,15 @@ static GRID_RUNS: [&[&str]; 4] = [
         "--workers",
         "2",
     ],
+    &[
+        "qsim",
+        "generate",
+        "4",
+        "7",
+        "--stream",
+        "--partitions",
+        "4",
+    ],
 ];
 
 /// How many of these words write what the plain ones do, up to the first that do not.
@@ -169,5 +196,5 @@ fn count_same_grids<R: Threads + Wait + Sync>(rt: &R, alloc: Global) -> usize {
 
 #[test]
 fn grids_are_the_same(rt: HostRuntime) {
-    assert_eq!(rt; count_same_grids(&rt, rt.alloc()), 4);
+    assert_eq!(rt; count_same_grids(&rt, rt.alloc()), 5);
 }

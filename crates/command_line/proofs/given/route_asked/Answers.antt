@@ -10,7 +10,8 @@ returns-clause-command c =
     let found = found_of c.args.matches.now in
     let text = without_minus c.requires.0 in
     let read = c.in-Some.ensures.value text c.requires.1 in
-    route_with _ _ _ _ _ _ c.in_ok-from.ensures c.in_ok-to.ensures (the_number found (codes "SECOND") text c.in-Some.second c.requires.1 read.0.1)
+    route_with _ _ _ _ _ _ c.in_ok-from.ensures c.in_ok-to.ensures
+    (the_number found (codes "SECOND") text c.in-Some.second c.requires.1 read.0.1)
 
 pub returns-clause-in_range : goal.returns-clause-in_range
 returns-clause-in_range c =

@@ -1,4 +1,4 @@
-use Rattle.std.proofs.Common.{refl}
+use Rattle.std.proofs.Common.{refl, false}
 use Rattle.command_line.specs.Cases.{Work}
 use Rattle.command_line.specs.declared.commands.CommandName.TheVariants.{Check}
 use Rattle.command_line.specs.declared.commands.Command.TheVariants as command
@@ -8,8 +8,8 @@ use Rattle.command_line.proofs.reading.read_check.Goals as goal
 pub returns-in-Ok-clause-case : goal.returns-in-Ok-clause-case
 returns-in-Ok-clause-case c =
     let spread = c.undivided.result in
-    taken Check _ _ c.check_command-parser.ensures (Work command.Check spread.partitions spread.workers)
-    (work_is _ _ _ _ _ _ refl c.undivided.ensures.partitions c.undivided.ensures.workers) c.in-Ok.ensures.kinds
+    taken Check _ _ c.check_command-parser.ensures (Work command.Check spread.partitions spread.workers false)
+    (work_is _ _ _ _ _ _ false false refl c.undivided.ensures.partitions c.undivided.ensures.workers refl) c.in-Ok.ensures.kinds
 
 pub returns-clause-case : goal.returns-clause-case
 returns-clause-case c =

@@ -1,4 +1,4 @@
-use Rattle.std.proofs.Common.{◌≡◌, length, sym, ◌∙◌, ap}
+use Rattle.std.proofs.Common.{length, refl, sym, ◌∙◌, ap}
 use Rattle.router.specs.Graphs.{Graph}
 use Rattle.router.proofs.LegWays.{ends_count}
 use Rattle.iterations.specs.Views.{run_rows}
@@ -19,7 +19,7 @@ replan-requires-clause-on g c κs within =
     (ap (λ (n : Graph). length n.ends) c.requires.network ∙ ends_count c.args.run.now.town.now.network.links)
 
 pub returns : goal.returns
-returns g c =
-    replanned_as (run_rows c.args.run.now) c.args.iteration c.args.adjacency.now c.in_ok-times.times c.deref.result.now c.args.events.items
-    c.args.memories.items c.in_ok-new.new.items c.requires.network c.deref.ensures.value c.in_ok-times.ensures.count c.requires.links
-    c.in_ok-times.ensures.arrivals c.in_ok-new.ensures
+returns g c = λ events knows on.
+    replanned_as (run_rows c.args.run.now) c.args.iteration c.args.adjacency.now c.in_ok-times.times events events
+    c.args.memories.items c.in_ok-new.new.items c.requires.network refl c.in_ok-times.ensures.count on
+    (λ link second lt. c.in_ok-times.ensures.arrivals events knows link second lt) c.in_ok-new.ensures

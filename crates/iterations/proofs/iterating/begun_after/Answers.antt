@@ -1,21 +1,26 @@
-use Rattle.std.proofs.Common.{◌+◌, ◌∙◌, ap}
+use Rattle.std.proofs.Common.{◌+◌, ap}
 use Rattle.iterations.specs.Days.{events_of}
 use Rattle.iterations.specs.Views.{run_rows}
 use Rattle.iterations.proofs.Going.{begun_is, can_again}
-use Rattle.iterations.proofs.Seen.{events_in_order}
 use Rattle.iterations.proofs.iterating.begun_after.Goals as goal
 
-pub replanned-requires-clause-order : goal.replanned-requires-clause-order
-replanned-requires-clause-order g c κs within =
-    events_in_order (run_rows c.args.run.now) c.args.iteration c.args.memories.items _
-    (c.in_ok-day.ensures.events ∙ ap (events_of (run_rows c.args.run.now) c.args.iteration) c.deref.ensures.value)
+pub replanned-requires-clause-known : goal.replanned-requires-clause-known
+replanned-requires-clause-known g c κs within = (
+  events_of (run_rows c.args.run.now) c.args.iteration c.deref.result.now,
+  c.in_ok-seen.ensures.known,
+  c.in_ok-seen.ensures.on_links,
+)
 
 pub returns-clause-begun : goal.returns-clause-begun
 returns-clause-begun g c =
-    begun_is (run_rows c.args.run.now) c.args.iteration c.args.memories.items c.in_ok-new.new.items c.in_ok-day.day.events.items
-    (c.in_ok-day.ensures.events ∙ ap (events_of (run_rows c.args.run.now) c.args.iteration) c.deref.ensures.value) c.in_ok-new.ensures
+    let R = run_rows c.args.run.now in
+    begun_is R c.args.iteration c.args.memories.items c.in_ok-new.new.items (events_of R c.args.iteration c.deref.result.now)
+    (ap (events_of R c.args.iteration) c.deref.ensures.value)
+    (c.in_ok-new.ensures (events_of R c.args.iteration c.deref.result.now) c.in_ok-seen.ensures.known c.in_ok-seen.ensures.on_links)
 
 pub returns-clause-can : goal.returns-clause-can
 returns-clause-can g c =
-    can_again (run_rows c.args.run.now) (c.args.iteration + 1) c.in_ok-day.day.events.items c.args.memories.items c.in_ok-new.new.items
-    c.args.run.now.town.now.sound c.requires.can c.in_ok-new.ensures
+    let R = run_rows c.args.run.now in
+    can_again R (c.args.iteration + 1) (events_of R c.args.iteration c.deref.result.now) c.args.memories.items c.in_ok-new.new.items
+    c.args.run.now.town.now.sound c.requires.can
+    (c.in_ok-new.ensures (events_of R c.args.iteration c.deref.result.now) c.in_ok-seen.ensures.known c.in_ok-seen.ensures.on_links)

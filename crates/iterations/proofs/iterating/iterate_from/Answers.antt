@@ -1,5 +1,6 @@
 use Rattle.std.proofs.Common.{◌+◌, List, ◌∙◌, refl, arith}
 use Rattle.plan_memory.specs.Memories.{MemoryRows}
+use Rattle.iterations.specs.Days.{events_of}
 use Rattle.iterations.specs.Views.{run_rows}
 use Rattle.iterations.specs.Runs.{RunRows}
 use Rattle.iterations.proofs.Outside.{none_done, going_first}
@@ -33,6 +34,13 @@ returns-in-Err-replanned-clause-performed g c =
 pub returns-in-Err-replanned-clause-keeper : goal.returns-in-Err-replanned-clause-keeper
 returns-in-Err-replanned-clause-keeper g c off = c.in-Ok-do_iteration.ensures.keeper off ∙ c.loop-iteration.invariant.keeper off
 
+pub replanned-requires-clause-known : goal.replanned-requires-clause-known
+replanned-requires-clause-known g c κs within = (
+  events_of (run_rows c.args.run.now) c.loop-iteration.iteration c.loop-iteration.memories.items,
+  c.in-Ok-do_iteration.ensures.known,
+  c.in-Ok-do_iteration.ensures.on_links,
+)
+
 pub loop-iteration-preserved : goal.loop-iteration-preserved
 loop-iteration-preserved g c =
     let R : RunRows = run_rows c.args.run.now in
@@ -41,10 +49,12 @@ loop-iteration-preserved g c =
     record {
       going = loop_on R k own _ _ _ _ _ c.in-Ok-replanned.new.items c.loop-iteration-test.true c.loop-iteration.invariant.going
           c.in-Ok-do_iteration.ensures.performed
-          (next_is R k own c.in-Ok-do_iteration.one.memories.items c.in-Ok-replanned.new.items c.in-Ok-do_iteration.one.events.items
-          c.in-Ok-do_iteration.ensures.events c.in-Ok-do_iteration.ensures.memories c.in-Ok-replanned.ensures);
-      can = can_again R (k + 1) c.in-Ok-do_iteration.one.events.items c.in-Ok-do_iteration.one.memories.items c.in-Ok-replanned.new.items
-          c.args.run.now.town.now.sound c.in-Ok-do_iteration.ensures.can c.in-Ok-replanned.ensures;
+          (next_is R k own c.in-Ok-do_iteration.one.memories.items c.in-Ok-replanned.new.items (events_of R k own)
+          refl c.in-Ok-do_iteration.ensures.memories
+          (c.in-Ok-replanned.ensures (events_of R k own) c.in-Ok-do_iteration.ensures.known c.in-Ok-do_iteration.ensures.on_links));
+      can = can_again R (k + 1) (events_of R k own) c.in-Ok-do_iteration.one.memories.items c.in-Ok-replanned.new.items
+          c.args.run.now.town.now.sound c.in-Ok-do_iteration.ensures.can
+          (c.in-Ok-replanned.ensures (events_of R k own) c.in-Ok-do_iteration.ensures.known c.in-Ok-do_iteration.ensures.on_links);
       keeper = λ off. c.in-Ok-do_iteration.ensures.keeper off ∙ c.loop-iteration.invariant.keeper off;
     }
 

@@ -4,7 +4,7 @@ use Rattle.iterations.proofs.iterating.save_and_report.Goals as goal
 
 pub returns-in-Ok-clause-performed : goal.returns-in-Ok-clause-performed
 returns-in-Ok-clause-performed g c =
-    one_then _ _ _ _ _ _ _ c.in-Ok.ensures.performed (written _ _ _ _ _ c.write_line.ensures.performed)
+    one_then _ _ _ _ _ _ _ c.in-Ok.ensures.performed (written _ _ _ _ _ (rw c.deref.ensures.value at c.write_line.ensures.performed))
 
 pub returns-in-Ok-clause-keeper : goal.returns-in-Ok-clause-keeper
 returns-in-Ok-clause-keeper g c off = c.write_line.ensures.keeper ∙ c.in-Ok.ensures.keeper off

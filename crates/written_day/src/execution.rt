@@ -1,0 +1,12 @@
+use spread::Spread;
+
+/// How days are computed. Nothing that a run does outside depends on it, but for what the gate does, and when it is done.
+#[derive_where(Clone, Copy)]
+pub struct Execution<'a, G> {
+    /// In how many partitions of the network, by how many workers.
+    pub spread: Spread,
+    /// Whether the events of a day are written while it runs: it is then computed by this thread alone, whatever the number of workers.
+    pub streams: bool,
+    /// What is passed before each second of a partition.
+    pub gate: &'a G,
+}

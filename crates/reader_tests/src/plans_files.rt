@@ -11,6 +11,7 @@ use crate::plans_tables::{
 };
 use edge_files::{InFile, Reason};
 use events::{Mode, Names};
+use limits::LAST_SECOND;
 use plans::{PlanFile, read_plans};
 use rows::{Act, Leg, Plan};
 use std::alloc::{AllocError, Global};
@@ -223,8 +224,10 @@ fn last_act(kind: u32, link: u32) -> Act {
 }
 
 fn is_there_and_back(plan: &Plan) -> bool {
-    has_acts(plan, &[act(0, 0, 100), act(1, 1, 172_800), last_act(0, 0)])
-        && plan.legs.rows.len() == 2
+    has_acts(
+        plan,
+        &[act(0, 0, 100), act(1, 1, LAST_SECOND), last_act(0, 0)],
+    ) && plan.legs.rows.len() == 2
         && is_car(plan, 0, &[0, 1])
         && is_car(plan, 1, &[])
 }

@@ -12,6 +12,7 @@ use crate::schedule_tables::{
 };
 use edge_files::{InFile, Reason};
 use events::{Names, StopCall};
+use limits::LAST_SECOND;
 use rows::{DepartureRow, RouteRow, StopRow};
 use schedule::{Departures, Routes, Stops, read_departures, read_routes, read_stops};
 use std::alloc::{AllocError, Global};
@@ -76,7 +77,7 @@ fn departure(route: u32, second: u32, seats: u32) -> DepartureRow {
 fn are_two_departures(departures: &Departures) -> bool {
     departures.names.find(b"d2") == Some(1)
         && departures.rows.rows.as_slice()
-            == [departure(1, 200, 1), departure(0, 172_800, 1_000)].as_slice()
+            == [departure(1, 200, 1), departure(0, LAST_SECOND, 1_000)].as_slice()
 }
 
 fn are_departures_read(alloc: Global) -> bool {
@@ -111,7 +112,7 @@ fn is_route(route: &RouteRow, line: u32, links: &[u32], calls: &[StopCall]) -> b
 fn is_round(route: &RouteRow) -> bool {
     let calls = [
         call(3, 2, 0, false),
-        call(1, 1, 172_800, false),
+        call(1, 1, LAST_SECOND, false),
         call(2, 1, 7, false),
         call(3, 2, 9, true),
     ];

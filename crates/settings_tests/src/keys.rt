@@ -1,6 +1,7 @@
 //! The keys of settings.json.
 
 use edge_files::{Reason, RowStop};
+use limits::LAST_SECOND;
 use settings::{Settings, read_settings};
 use std::alloc::{AllocError, Global};
 
@@ -44,10 +45,10 @@ const DEFAULTS: [u64; 21] = [
 static RANGES: [(&str, u64, u64, &str, &str); 21] = [
     ("seed", 0, u64::MAX, "-1", "18446744073709551616"),
     ("last_iteration", 0, 1_000, "-1", "1001"),
-    ("end_second", 1, 172_800, "0", "172801"),
+    ("end_second", 1, LAST_SECOND as u64, "0", "172801"),
     ("flow_permille", 1, 2_000, "0", "2001"),
     ("storage_permille", 1, 2_000, "0", "2001"),
-    ("stuck_seconds", 1, 172_800, "0", "172801"),
+    ("stuck_seconds", 1, LAST_SECOND as u64, "0", "172801"),
     ("stuck_push", 0, 1, "-1", "2"),
     ("hole_speed", 1, 10_000, "0", "10001"),
     ("dwell_open", 0, 3_600, "-1", "3601"),
@@ -55,7 +56,7 @@ static RANGES: [(&str, u64, u64, &str, &str); 21] = [
     ("dwell_board", 0, 3_600, "-1", "3601"),
     ("memory_size", 1, 5, "0", "6"),
     ("logit_unit", 1, 1_000_000_000_000, "0", "1000000000001"),
-    ("mutation_range", 0, 172_800, "-1", "172801"),
+    ("mutation_range", 0, LAST_SECOND as u64, "-1", "172801"),
     ("innovation_last", 0, 1_000, "-1", "1001"),
     ("weight_keep", 0, 1_000_000, "-1", "1000001"),
     ("weight_best", 0, 1_000_000, "-1", "1000001"),

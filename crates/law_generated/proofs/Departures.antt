@@ -38,12 +38,6 @@ two_hold a b p q = grind arith
 
 -- of so many departures; none is later than the last second of the day
 module _ (count : ℕ) (few : count ≤ 200) where
-  abbrev numbers : List ℕ
-  numbers = range_with_len 0 count
-
-  abbrev IsDeparture : ℕ → Type 0
-  IsDeparture departure = departure < count
-
   below : Each (λ departure. departure < count) (range_with_len 0 count)
   below = range_below 0 count count (omega arith)
 

@@ -139,11 +139,6 @@ alone_if : (there : Bool) (from to : ℕ) → AreApart (link_if there from to)
 alone_if true from to = (tt, tt)
 alone_if false from to = tt
 
-each_pair_append : {A : Type 0} (ws xs ys : List A) → Each (λ x. Each (λ y. x ≡ y → ⊥) xs) ws → Each (λ x. Each (λ y. x ≡ y → ⊥) ys) ws
-    → Each (λ x. Each (λ y. x ≡ y → ⊥) (xs ++ ys)) ws
-each_pair_append [] xs ys first second = tt
-each_pair_append (w ∷ ws) xs ys first second = (each_append (λ y. w ≡ y → ⊥) xs ys first.0 second.0, each_pair_append ws xs ys first.1 second.1)
-
 each_pair_before : {A : Type 0} (ws xs ys : List A) → Each (λ x. Each (λ y. x ≡ y → ⊥) ys) ws → Each (λ x. Each (λ y. x ≡ y → ⊥) ys) xs
     → Each (λ x. Each (λ y. x ≡ y → ⊥) ys) (ws ++ xs)
 each_pair_before ws xs ys first second = each_append (λ x. Each (λ y. x ≡ y → ⊥) ys) ws xs first second

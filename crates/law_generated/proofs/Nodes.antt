@@ -64,10 +64,6 @@ module _ (size : ℕ) (some : 1 ≤ size) (few : size ≤ 100) where
       (number_short (node % size * NODE_DISTANCE) (omega (arith, column_of size node some few)))
       (number_short (node / size * NODE_DISTANCE) (omega (arith, row_of size node some few less)))
 
-  -- the rows behind the header
-  pub node_rows : List Row
-  node_rows = map (node_row size) (numbers size)
-
   count_is : length (map (node_row size) (numbers size)) ≡ size * size
   count_is = length-map (numbers size) (node_row size) ∙ length-range_with_len 0 (size * size)
 

@@ -125,9 +125,6 @@ lines_of_blocks block (x ∷ xs) =
     ap (λ (t : List ℕ). flat_map row_line (block x) ++ t) (lines_of_blocks block xs) ∙ sym (flat_map-append row_line (block x) (flat_map block xs))
 
 module _ (size seed : ℕ) (some : 3 ≤ size) (few : size ≤ 100) where
-  abbrev count : ℕ
-  count = PERSONS_PER_NODE * size * size
-
   pub few_persons : PERSONS_PER_NODE * size * size ≤ 50000
   few_persons = omega (arith, square_small size few)
 

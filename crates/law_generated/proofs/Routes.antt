@@ -397,9 +397,6 @@ module _ (n : ℕ) (number : ℕ → ℕ) (links : List (List ℕ)) (ends : List
       each (suc i) less = absurd (omega (arith, less))
 
 module _ (size : ℕ) (some : 3 ≤ size) (few : size ≤ 100) where
-  abbrev links_of : List (List ℕ)
-  links_of = map link_name (grid_links size)
-
   abbrev pub place_of : ℕ → ℕ
   place_of k = unwrap_or (number_of (link_name (k, k + 1)) (map link_name (grid_links size))) 0
 

@@ -5,11 +5,6 @@ use Rattle.csv.specs.Reading.{records_from, strip_bom}
 use Rattle.signals.specs.Rows.{with_rows}
 use Rattle.signals.specs.Signals.{clash_fault, first_clash, rows_fault, signal_rows_of, signals_fault}
 
--- no bytes have no rows
-pub no_rows : body_of [] ≡ []
-unfolding body_of rows_of strip_bom records_from next_record
-no_rows = refl
-
 -- no bytes are signals without a fault
 pub signals_pass : (links : List (List ℕ)) (ends : List (ℕ × ℕ)) → signals_fault links ends [] ≡ None
 unfolding rows_fault body_of rows_of strip_bom records_from next_record optional_head_reason first_fault

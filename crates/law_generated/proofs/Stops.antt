@@ -33,10 +33,6 @@ header_named = refl
 two_hold : (a b : Bool) → a ≡ true → b ≡ true → (a && (b && true)) ≡ true
 two_hold a b p q = grind arith
 
--- the places of the stops along the first row
-abbrev pub places : ℕ → List ℕ
-places size = range_with_len 0 (size - 1)
-
 -- what is held has a number
 pub held_number : (name : List ℕ) (names : List (List ℕ)) → is_held name names ≡ true → is_some (number_of name names) ≡ true
 held_number name names held = ap (λ (o : Option ℕ). is_some o) (number_of-held name names held)

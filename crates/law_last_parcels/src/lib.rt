@@ -14,7 +14,8 @@ ghost use Rattle.law_last_parcels.specs.Last.{LastAreSo, HasThem, EndsSo};
 
 /// Until a parcel is absorbed nothing happens to those who are in it: they ride on the links that they entered, or fly since they set out.
 pub fn last_parcels_are_still_so()
-    ensures { (S : Setup) (own : Owner) (parts p t : ℕ) → IsSoundSetup S → IsConsistentSetup S → IsOwner own parts → LastAreSo S own p t }
+    ensures { (S : Setup) (own : Owner) (parts p t : ℕ) → IsSoundSetup S → IsConsistentSetup S → IsOwner own parts
+        → LastAreSo S own p t }
 {}
 
 /// Whom a partition has after some seconds is as the day has him, and who of them rides is among the riders on the link of his vehicle, and

@@ -18,15 +18,15 @@ ghost use Rattle.law_parcels.specs.Worlds.{TakesIn, LetsGo};
 /// the flights of those who set out to it, and the places that came to be left on links that begin there; and it has all whom its own world
 /// has, but for the riders and for those who fly to others.
 pub fn seconds_send_parcels()
-    ensures { (S : Setup) (own : Owner) (parts p t : ℕ) (z : Counts) → IsSoundSetup S → IsConsistentSetup S → IsOwner own parts
-        → IsFitSetup z S → SendsParcels S own p t }
+    ensures { (S : Setup) (own : Owner) (parts p t : ℕ) (z : Counts) → IsSoundSetup S → IsConsistentSetup S
+        → IsOwner own parts → IsFitSetup z S → SendsParcels S own p t }
 {}
 
 /// A partition that puts what the parcels of its neighbours bring to what it holds, one parcel after the other, has what it has to have
 /// before its second.
 pub fn parcels_make_ready()
-    ensures ready { (S : Setup) (own : Owner) (parts p t : ℕ) (ns : List ℕ) → IsSoundSetup S → IsConsistentSetup S → IsOwner own parts
-        → HearsFrom S own p ns → IsReadyBy S own p t ns }
+    ensures ready { (S : Setup) (own : Owner) (parts p t : ℕ) (ns : List ℕ) → IsSoundSetup S → IsConsistentSetup S
+        → IsOwner own parts → HearsFrom S own p ns → IsReadyBy S own p t ns }
     ensures between { (S : Setup) (own : Owner) (q p s : ℕ) → IsBetween S own q p s }
 {}
 

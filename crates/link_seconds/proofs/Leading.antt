@@ -1,5 +1,5 @@
 -- Turns of a link, one after the other, with the services of those who stop.
-use Rattle.std.proofs.Common.{◌≡◌, ◌≢◌, ℕ, ◌<◌, Bool, true, false, List, [], ◌∷◌, ◌++◌, length, set, get_or, refl, ap, sym, ◌∙◌, subst, inl, inr, append-nil, append_assoc, eqb}
+use Rattle.std.proofs.Common.{◌≡◌, ◌≢◌, ℕ, ◌<◌, Bool, true, false, List, [], ◌∷◌, ◌++◌, length, set, refl, ap, sym, ◌∙◌, subst, inl, inr, append_assoc, eqb}
 use Rattle.std.proofs.lemmas.Bool.{cases_Bool, eqb-true, eqb-false, true≢false}
 use Rattle.std.proofs.lemmas.List.{get_or-set_same, get_or-set_other}
 use Rattle.std.proofs.lemmas.Grind.{flat_map-append}
@@ -22,7 +22,6 @@ use Rattle.traffic.specs.Links.{LinkState}
 use Rattle.law_sleeping.specs.Quiet.{link_state_after, link_state_after_all}
 use Rattle.law_sleeping.proofs.Whole.{link_state_append}
 use Rattle.queue_link.specs.declared.numbers.LinkNumbers.{LinkNumbers}
-use Rattle.queue_link.specs.declared.turns.Turn.{Turn}
 use Rattle.queue_link.specs.declared.turns.Turn.TheVariants.{Stop, Arrive, Done}
 use Rattle.queue_link.specs.Numbers.{rules_of}
 use Rattle.queue_link.specs.Links.{row_on}
@@ -180,10 +179,6 @@ done_leads lies n dwell t ws lines L M said heard q w h e =
     }
 
 -- ONE AFTER THE OTHER
-pub none_leads : (lies : ℕ → Bool) (K : Rules) (t l : ℕ) (ws : List Waiter) (L : LinkState) (said : List Occurrence) (lines : List (List Waiter))
-    → HaveLines lies lines ws → LeadsOn lies true K t l ws L said lines L said lines
-none_leads lies K t l ws L said lines h =
-    record { moves = []; left = ws; all = refl; lists = refl; events = append-nil said; leaves = refl; waits = h; others = λ s un. refl }
 
 pub leads_then : (lies : ℕ → Bool) (goes : Bool) (K : Rules) (t l : ℕ) (ws : List Waiter) (A B C : LinkState) (said heard now : List Occurrence)
     (lines mid later : List (List Waiter)) → (h : LeadsOn lies true K t l ws A said lines B heard mid)

@@ -5,7 +5,7 @@ use Rattle.std.specs.Prelude.{map, filter, not, ◌&&◌, set, sum, Option, Some
 use Rattle.std.specs.List.{flat_map, AllByRecursion as Each}
 use Rattle.std.proofs.lemmas.Bool.{cases_Bool, ne_eqb, eq-eqb}
 use Rattle.std.proofs.lemmas.List.Elements.{filter-append}
-use Rattle.std.proofs.lemmas.List.{map-append, length-map, take-append-drop}
+use Rattle.std.proofs.lemmas.List.{map-append, take-append-drop}
 use Rattle.std.proofs.lemmas.List.Sums.{sum_by-cons}
 use Rattle.std.proofs.Math.Seq.{take-suc}
 use Rattle.limits.specs.declared.TheConstants.{MAX_CAPACITY}
@@ -71,11 +71,6 @@ pub skips_next : (t : ℕ) (vs us : List LinkView) (greens : List Bool) (k : ℕ
     → get_or greens k d ≡ true → us ≡ all_marked t vs (take k greens) → us ≡ all_marked t vs (take (k + 1) greens)
 skips_next t vs us greens k d lt n f a =
     a ∙ skips_suc t vs greens k d lt n f ∙ ap (λ (m : ℕ). all_marked t vs (take m greens)) (sym (add-one k))
-
-pub marks_length : (t : ℕ) (vs : List LinkView) (greens : List Bool) → length (all_marked t vs greens) ≡ length vs
-marks_length t [] greens = refl
-marks_length t (v ∷ vs) [] = refl
-marks_length t (v ∷ vs) (g ∷ gs) = ap (λ (n : ℕ). suc n) (marks_length t vs gs)
 
 -- the moves of the marks
 abbrev marks : ℕ → List LinkView → List Bool → List Move
@@ -349,17 +344,7 @@ pub weights_without : (k : ℕ) (es fs : List InLink) (ws us : List ℕ) → ws 
     → us ≡ map weight_of fs
 weights_without k es fs ws us h e f = e ∙ ap (without_at k) h ∙ sym (map_without k es) ∙ ap (map weight_of) (sym f)
 
-pub length_weights : (vs : List LinkView) (ks ws : List ℕ) → ws ≡ map weight_of (seen vs ks) → length ks ≡ length ws
-length_weights vs ks ws h = sym (length_seen vs ks) ∙ sym (length-map (seen vs ks) weight_of) ∙ ap (λ (xs : List ℕ). length xs) (sym h)
-
 -- WHO CAN
-pub nobody_yet : (alone : InLink → List Move) (more : List Move) (p : InLink → Bool) (es : List InLink) → filter p es ≡ []
-    → by_able alone more es Nobody ≡ by_chosen alone more (filter p es)
-nobody_yet alone more p es e = ap (by_chosen alone more) (sym e)
-
-pub only_one : (alone : InLink → List Move) (more : List Move) (p : InLink → Bool) (es : List InLink) (k : ℕ) → filter p es ≡ get_or es k no_in_link ∷ []
-    → by_able alone more es (Only k) ≡ by_chosen alone more (filter p es)
-only_one alone more p es k e = ap (by_chosen alone more) (sym e)
 
 filter_next : (p : InLink → Bool) (es : List InLink) (k : ℕ) → k < length es
     → filter p (take (k + 1) es) ≡ filter p (take k es) ++ (if p (get_or es k no_in_link) then get_or es k no_in_link ∷ [] else [])
@@ -395,14 +380,6 @@ several_found alone more p es k j lt e h =
     = ap (filter p) (sym (take-append-drop (k + 1) es)) ∙ filter-append p (take (k + 1) es) (drop (k + 1) es)
     ∙ ap (λ (xs : List InLink). xs ++ filter p (drop (k + 1) es)) a in
     several alone more x y (filter p (drop (k + 1) es)) ∙ ap (by_chosen alone more) (sym b)
-
-pub none_found : (alone : InLink → List Move) (more : List Move) (p : InLink → Bool) (es : List InLink) (k : ℕ) → length es ≤ k → IsOnly p es k None
-    → by_able alone more es Nobody ≡ by_chosen alone more (filter p es)
-none_found alone more p es k le h = nobody_yet alone more p es (ap (filter p) (sym (take_past es k le)) ∙ h)
-
-pub one_found : (alone : InLink → List Move) (more : List Move) (p : InLink → Bool) (es : List InLink) (k j : ℕ) → length es ≤ k → IsOnly p es k (Some j)
-    → by_able alone more es (Only j) ≡ by_chosen alone more (filter p es)
-one_found alone more p es k j le h = only_one alone more p es j (ap (filter p) (sym (take_past es k le)) ∙ h.1)
 
 -- THE PICKS
 -- how a drawing goes on, by who can

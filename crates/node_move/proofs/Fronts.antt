@@ -15,7 +15,7 @@ use Rattle.traffic.specs.Vehicles.{VehicleState}
 use Rattle.traffic.specs.Lists.{on_front}
 use Rattle.traffic.specs.Moves.{at_second, at_after}
 use Rattle.traffic.specs.Telling.{of_vehicle, aborts}
-use Rattle.traffic.specs.Nodes.{next_link, has_room, is_stuck, may_enter, entered, one_more, pass_node, pass_node_all, since_of, HasNext, HaveNext}
+use Rattle.traffic.specs.Nodes.{next_link, has_room, is_stuck, may_enter, entered, one_more, pass_node, pass_node_all, since_of, HaveNext}
 use Rattle.queue_link.specs.Links.{LinkView, behind_front, first_row}
 use Rattle.node_move.specs.declared.crossings.Entering.{Entering}
 use Rattle.node_move.specs.NodeStates.{NodeState, node_state, node_run, in_link_of}
@@ -183,10 +183,6 @@ next_behind t (r ∷ rows) h = h
 pub behind_next : (t : ℕ) (rows : List Row) → HaveNext rows → HaveNext (behind_front t rows)
 behind_next t [] h = tt
 behind_next t (r ∷ rows) h = next_behind t rows h.1
-
-pub front_next : (rows : List Row) (r : Row) → HaveNext rows → first_row rows ≡ Some r → HasNext r.vehicle
-front_next [] r h f = absurd (cc)
-front_next (x ∷ rows) r h f = let e : x ≡ r = cc in subst (λ (y : Row). HasNext y.vehicle) e h.0
 
 -- THE SAME AS THE CODE FINDS IT
 same_front : (rows : List Row) (row r : Row) → Some row ≡ first_row rows → first_row rows ≡ Some r → row ≡ r

@@ -2,7 +2,6 @@
 use Rattle.std.proofs.Common.{◌≡◌, ◌≢◌, ℕ, zero, suc, ◌<◌, true, List, [], ◌∷◌, length, get_or, refl, ap, sym, ◌∙◌, subst, arith}
 use Rattle.std.specs.Prelude.{map, set, Option}
 use Rattle.std.specs.List.{remove}
-use Rattle.std.proofs.lemmas.List.{get_or-set_other}
 use Rattle.rows.specs.declared.settings.Stuck.{Stuck}
 use Rattle.traffic.specs.declared.moves.Occurrence.{Occurrence}
 use Rattle.traffic.specs.declared.node_views.InLink.{InLink}
@@ -88,9 +87,6 @@ pub apart_with : (vs : List LinkView) (k : ℕ) (w : LinkView) → AreApart vs �
 apart_with [] k w h e = tt
 apart_with (v ∷ vs) zero w h e = (subst (λ (l : ℕ). IsNone l vs) (sym (ap (λ n. n.link) e)) h.0, h.1)
 apart_with (v ∷ vs) (suc k) w h e = (none_with v.numbers.link vs k w h.0 e, apart_with vs k w h.1 e)
-
-pub others_with : (vs : List LinkView) (k : ℕ) (w : LinkView) (q : ℕ) → q ≢ k → get_or (set vs k w) q no_link ≡ get_or vs q no_link
-others_with vs k w q ne = get_or-set_other vs k q w no_link ne
 
 -- PLACES
 pub places_within : (n : ℕ) (ks : List ℕ) (k : ℕ) → ArePlaces n ks → k < length ks → get_or ks k 0 < n

@@ -1,6 +1,6 @@
 -- What comes of an answer, by what came of its effects.
 use Rattle.std.specs.Prelude.{IfOk}
-use Rattle.std.proofs.Common.{◌≡◌, ◌⊎◌, ◌≤◌, ℕ, Bool, true, false, List, Result, Ok, Err, OnOk, OnErr, refl, sym, ◌∙◌, ap, subst, inl, inr, arith}
+use Rattle.std.proofs.Common.{◌≡◌, ◌⊎◌, ◌≤◌, Bool, true, false, List, Result, Ok, Err, OnOk, OnErr, refl, sym, ◌∙◌, ap, subst, inl, inr, arith}
 use Rattle.std.specs.List.{list_all}
 use Rattle.edge_files.specs.declared.effects.EffectError.{EffectError}
 use Rattle.edge_files.specs.declared.effects.EffectError.TheVariants as error
@@ -9,7 +9,6 @@ use Rattle.edge_files.specs.Causes.{Rose}
 use Rattle.edge_files.specs.Effects.{all_steps, has_save}
 use Rattle.edge_files.specs.Keeping.{StaysTold}
 use Rattle.edge_files.specs.World.{World, Does, DoesPart}
-use Rattle.edge_files.proofs.Worlds.{part_nothing}
 use Rattle.iterations.specs.Performed.{Moment, IsPerformed}
 use Rattle.qsim_top.specs.declared.answers.Answer.{Answer}
 use Rattle.qsim_top.specs.declared.answers.Status.{Status}
@@ -144,17 +143,10 @@ wanting_causes m = record {
   reports = λ is. cc;
 }
 
-pub wanting : (keeps : Bool) (a : Answer) (m : Moment) → IsCarriedOut keeps a status.NoMemory m m
-wanting keeps a m = record { acts = part_nothing m.world (all_steps a.effects); ends = inl refl; causes = wanting_causes m }
-
 -- an answer for which there was memory
 pub told_same : {E : Type 0} (r : Result Answer E) (told : Answer) → IfOk r (IsAnswer told) → IfOk r (λ a. a ≡ told)
 told_same (Ok a) told is = is.same
 told_same (Err e) told is = tt
-
-pub told_sound : {E : Type 0} (r : Result Answer E) (told : Answer) → IfOk r (IsAnswer told) → IfOk r IsSound
-told_sound (Ok a) told is = is.sound
-told_sound (Err e) told is = tt
 
 -- words are answered neither with a refusal of a scenario nor with a failure of the keeper
 pub not_of_words : (whole came other : Status) → is_of_words whole ≡ true → is_of_words other ≡ false → is_fault false other ≡ false

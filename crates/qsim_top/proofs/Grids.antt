@@ -1,13 +1,9 @@
 -- A grid is told, and then its scenario is run.
-use Rattle.std.proofs.Common.{◌≡◌, ℕ, false, List, [], ◌∷◌, Result, Ok, Err, OnOk, OnErr, refl, subst}
-use Rattle.std.specs.Prelude.{IfOk}
-use Rattle.std.proofs.lemmas.List.{append-nil}
-use Rattle.edge_files.specs.declared.effects.Effect.{Effect}
-use Rattle.edge_files.specs.declared.effects.Effect.TheVariants as effect
+use Rattle.std.proofs.Common.{◌≡◌, ℕ, false, Result, Ok, Err, refl}
 use Rattle.edge_files.specs.declared.effects.EffectError.{EffectError}
 use Rattle.edge_files.specs.declared.files.OutFile.TheVariants as out
 use Rattle.edge_files.specs.Effects.{all_steps}
-use Rattle.edge_files.specs.World.{Step, byte_steps}
+use Rattle.edge_files.specs.World.{byte_steps}
 use Rattle.iterations.specs.Acts.{acts}
 use Rattle.iterations.specs.Performed.{Moment, IsPerformed}
 use Rattle.iterations.proofs.Outside.{first_failed, one_then}
@@ -18,13 +14,6 @@ use Rattle.qsim_top.specs.Answer.{run_rows_of, grid_answer}
 use Rattle.qsim_top.specs.Came.{status_after, IsCarriedOut}
 use Rattle.qsim_top.specs.Texts.{grid_line}
 use Rattle.qsim_top.proofs.Ending.{ended_as}
-
--- one text alone goes to the report
-pub line_alone : (old new : Moment) (text told : List ℕ) (r : Result (Unit {0}) EffectError) → text ≡ told
-    → IsPerformed false old new (all_steps (effect.Write out.Report text ∷ [])) r → IsPerformed false old new (byte_steps out.Report told) r
-line_alone old new text told r same did =
-    subst (λ (line : List ℕ). IsPerformed false old new (byte_steps out.Report line) r) same
-    (subst (λ (steps : List Step). IsPerformed false old new steps r) (append-nil (byte_steps out.Report text)) did)
 
 pub grid_done : (size seed : ℕ) (S : ScenarioRows) (came : Status) (a b c : Moment) (r : Result (Unit {0}) EffectError)
     → came ≡ status_after status.Done r → IsPerformed {T = Unit {0}} false a b (byte_steps out.Report (grid_line size seed)) (Ok tt)

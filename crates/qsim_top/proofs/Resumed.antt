@@ -1,5 +1,5 @@
 -- Going on from what is kept.
-use Rattle.std.proofs.Common.{◌≡◌, ◌⊎◌, ◌<◌, ◌≤◌, ◌+◌, ℕ, true, false, List, [], ◌∷◌, ◌++◌, Option, None, Some, Result, Ok, Err, refl, sym, ◌∙◌, ap, subst, inl, inr, arith}
+use Rattle.std.proofs.Common.{◌≡◌, ◌≤◌, ℕ, true, false, List, [], ◌∷◌, Option, None, Some, Ok, Err, refl, sym, ◌∙◌, ap, subst, inl, inr, arith}
 use Rattle.std.proofs.lemmas.Bool.{and_from}
 use Rattle.std.specs.Prelude.{option_map}
 use Rattle.std.specs.List.{AllByRecursion as Each}
@@ -9,7 +9,7 @@ use Rattle.edge_files.specs.declared.keeping.KeepFail.{KeepFail}
 use Rattle.edge_files.specs.declared.keeping.KeepFail.TheVariants as fail
 use Rattle.edge_files.specs.Causes.{KeepHasCause}
 use Rattle.edge_files.specs.Effects.{all_steps}
-use Rattle.edge_files.specs.Keeping.{Kept, Told, Stays, StaysTold, StaysIfTold, IsTold, Loads, kept_of}
+use Rattle.edge_files.specs.Keeping.{Kept, Told, Stays, StaysTold, StaysIfTold}
 use Rattle.edge_files.specs.World.{World, Written, Step, outside, KeptBecomesIfTold, Does, DoesPart}
 use Rattle.edge_files.proofs.Written.{writes_nothing}
 use Rattle.edge_files.proofs.Worlds.{does_then, part_then, part_nothing}
@@ -51,48 +51,9 @@ can_go_on R memories learning are = record {
 }
 
 -- WHAT IS HELD
-pub held_none : (told : Told) (last : Option ℕ) → IsTold told last → last ≡ None → IsHeld told None
-held_none told None is none None held = refl
-held_none told None is none (Some kept) held =
-    let same : None ≡ Some kept.iteration = subst (λ (t : Told). IsTold t None) held is in absurd (cc)
-held_none told (Some last) is none kept held = absurd (cc)
 
 pub held_as : (told : Told) (f held : Option Held) → f ≡ held → IsHeld told (option_map held_view f) → IsHeld told (option_map held_view held)
 held_as told f held is same = subst (λ (o : Option Held). IsHeld told (option_map held_view o)) is same
-
--- the iteration that is told is that of the kept rows
-pub last_is : (told : Told) (last : Option ℕ) (iteration : ℕ) (kept : Option Kept) → IsTold told last → last ≡ Some iteration → told ≡ Some kept
-    → (k : Kept) × (kept ≡ Some k) × (iteration ≡ k.iteration)
-last_is told last iteration None is some held =
-    let same : last ≡ None = subst (λ (t : Told). IsTold t last) held is in let bad : None ≡ Some iteration = sym same ∙ some in absurd (cc)
-last_is told last iteration (Some k) is some held =
-    let same : last ≡ Some k.iteration = subst (λ (t : Told). IsTold t last) held is in
-    let one : Some iteration ≡ Some k.iteration = sym some ∙ same in
-    (k, refl, cc)
-
-pub stays_told : (a b : Told) (kept : Option Kept) → Stays a b → a ≡ Some kept → b ≡ Some kept
-stays_told a b kept stays is = subst (λ (t : Told). Stays t b) is stays
-
--- the rows that were loaded are the kept ones
-pub loaded : (a : Told) (kept : Kept) (iteration : ℕ) (rows : List KeptRow) → Loads a [] rows → a ≡ Some (Some kept) → iteration ≡ kept.iteration
-    → kept_of iteration rows ≡ kept
-loaded a kept iteration rows loads is same =
-    let rows_are : rows ≡ kept.rows = subst (λ (t : Told). Loads t [] rows) is loads in
-    ap (λ (n : ℕ). kept_of n rows) same ∙ ap (λ (l : List KeptRow). kept_of kept.iteration l) rows_are
-
-pub stays_then : (a b c : Told) → Stays a b → Stays b c → Stays a c
-stays_then None b c first second = tt
-stays_then (Some kept) b c first second = subst (λ (t : Told). Stays t c) first second
-
-pub stays_then_if : (a b c : Told) → Stays a b → StaysIfTold b c → StaysIfTold a c
-stays_then_if None b c first second = tt
-stays_then_if (Some kept) b c first second = subst (λ (t : Told). StaysIfTold t c) first second
-
-pub causes_then : {A B : Type 0} (a b c : ℕ) (x : A) (r : Result B KeepFail) → KeepHasCause a b (Ok x) → KeepHasCause b c r → KeepHasCause a c r
-causes_then a b c x r first second =
-    let early = first.later in
-    let late = second.later in
-    record { later = omega arith; failed = λ is. let rose = second.failed is in omega (arith, rose) }
 
 -- WHAT COMES OF IT
 as_answer : (a told : Answer) (came : Status) (old new : World) → a ≡ told → Answers told came old new → Answers a came old new

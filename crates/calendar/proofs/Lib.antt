@@ -1,4 +1,5 @@
 pub mod Tables
+pub mod InBlocks
 pub mod Ascending
 pub mod Hung
 pub mod Woken

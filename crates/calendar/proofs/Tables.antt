@@ -1,9 +1,11 @@
 -- A table of numbers by second, with one second more, one number more, or none in a second.
 use Rattle.std.proofs.Common.{◌≡◌, ℕ, zero, suc, ◌<◌, ◌≤◌, List, [], ◌∷◌, ◌++◌, length, get_or, refl, ap, sym, ◌∙◌, arith}
-use Rattle.std.proofs.Common.{inl, inr, Vec, Global}
+use Rattle.std.proofs.Common.{true, inl, inr, Vec, Global}
 use Rattle.std.specs.Prelude.{map, set, vec_items, ◌==◌, if◌then◌else◌}
-use Rattle.std.proofs.lemmas.Bool.{cases_Bool, eqb-true, eqb-false}
+use Rattle.std.specs.List.{list_all}
+use Rattle.std.proofs.lemmas.Bool.{cases_Bool, eqb-true, eqb-false, and_parts}
 use Rattle.std.proofs.lemmas.List.{get_or-set_same, get_or-set_other, length-map, map-set}
+use Rattle.calendar.specs.Blocks.{is_empty}
 use Rattle.calendar.specs.Due.{Due, due_at, HasOneMore, HasNone}
 
 pub reached : (due : Due) (u : ℕ) → due_at u (due ++ [] ∷ []) ≡ due_at u due
@@ -19,7 +21,7 @@ put_in t xs due u lt =
       | inr e ↦ rw e (get_or-set_other due t u xs [] (eqb-false u t e))
     ]
 
-past : (due : Due) (u : ℕ) → length due ≤ u → due_at u due ≡ []
+pub past : (due : Due) (u : ℕ) → length due ≤ u → due_at u due ≡ []
 past [] u le = refl
 past (x ∷ xs) zero le = absurd (omega arith)
 past (x ∷ xs) (suc u) le = past xs u (omega arith)
@@ -71,11 +73,18 @@ taken_row rows t w lt e =
     taken t (map vec_items rows) (map vec_items (set rows t w)) (omega arith) (map-set vec_items rows t w
     ∙ ap (set (map vec_items rows) t) e)
 
-pub within : (rows : List (Vec ℕ Global)) (t : ℕ) → t < length (map vec_items rows) → t < length rows
-within rows t lt = let n = length-map rows vec_items in omega arith
-
 pub kept_row : (rows : List (Vec ℕ Global)) (t : ℕ) (v w : Vec ℕ Global) → t < length rows → v ≡ get_or rows t v → w.items ≡ v.items
     → map vec_items (set rows t w) ≡ map vec_items rows
 kept_row [] t v w lt e f = absurd (omega arith)
 kept_row (x ∷ rows) zero v w lt e f = ap (λ (ys : List ℕ). ys ∷ map vec_items rows) (f ∙ ap vec_items e)
 kept_row (x ∷ rows) (suc t) v w lt e f = ap (λ (ys : List (List ℕ)). vec_items x ∷ ys) (kept_row rows t v w (omega arith) e f)
+
+-- nothing is due where no row has anything
+no_length : (xs : List ℕ) → length xs ≡ 0 → xs ≡ []
+no_length [] e = refl
+no_length (x ∷ xs) e = absurd (omega arith)
+
+pub none_in_any : (rows : List (Vec ℕ Global)) (u : ℕ) → list_all is_empty rows ≡ true → due_at u (map vec_items rows) ≡ []
+none_in_any [] u h = refl
+none_in_any (x ∷ rows) zero h = let p = and_parts (is_empty x) (list_all is_empty rows) h in no_length x.items (eqb-true (length x.items) 0 p.0)
+none_in_any (x ∷ rows) (suc u) h = let p = and_parts (is_empty x) (list_all is_empty rows) h in none_in_any rows u p.1

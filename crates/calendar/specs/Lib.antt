@@ -1,4 +1,5 @@
 pub mod Due
+pub mod Blocks
 pub mod DueViews
 pub mod Waking
 pub mod WakesViews

@@ -1,9 +1,12 @@
 use std::marker::Model;
 
 /// Numbers by the second in which they are due, those of one second in no order.
+///
+/// The seconds stand in blocks of 32. A block has rows from when somebody is due in one of its seconds on until its last second was taken
+/// and nobody is left in it, and none else: a day has many more seconds than there are ones in which somebody is due.
 #[derive(Drop)]
 pub struct Calendar {
-    pub(crate) rows: Vec<Vec<u32>>,
+    pub(crate) blocks: Vec<Vec<Vec<u32>>>,
 }
 
 impl Model for Calendar {

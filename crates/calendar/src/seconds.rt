@@ -3,28 +3,32 @@
 ghost use Rattle.std.specs.Prelude.{◌≡◌, ℕ, ◌<◌, [], length, OnOk, OnErr};
 ghost use Rattle.calendar.specs.Due.{due_at, HasOneMore, HasNone};
 
+use crate::BLOCK_SECONDS;
+use crate::blocks::{add_in, take_in};
 use crate::by_second::Calendar;
 use std::alloc::{AllocError, Global};
-use std::mem::replace;
 
 impl Calendar {
     /// No number is due.
+    #[tactic(auto, unfolding(crate::specs::Blocks::all_seconds))]
     pub fn new(alloc: Global) -> Calendar
         ensures { result ≡ [] }
     {
         Calendar {
-            rows: Vec::new(alloc),
+            blocks: Vec::new(alloc),
         }
     }
 
     /// The table reaches over this second from now on.
+    #[tactic(auto, using(crate::proofs::InBlocks::reached_block, crate::proofs::InBlocks::long_enough))]
     fn reach(&mut self, second: usize) -> Result<(), AllocError>
         ensures long { OnOk result (second < length self.new) }
         ensures same { (u : ℕ) → due_at u self.new ≡ due_at u self.old }
     {
-        let alloc = *self.rows.allocator();
-        'rows: while self.rows.len() <= second {
-            self.rows.push(Vec::new(alloc))?;
+        let alloc = *self.blocks.allocator();
+        let block = second / BLOCK_SECONDS;
+        'reached: while self.blocks.len() <= block {
+            self.blocks.push(Vec::new(alloc))?;
         }
         Ok(())
     }
@@ -33,13 +37,14 @@ impl Calendar {
     fn put(&mut self, second: usize, number: u32) -> Result<(), AllocError>
         requires { second < length self.old }
         ensures ok { OnOk result (HasOneMore second number self.old self.new) }
-        ensures err { OnErr result (self.new ≡ self.old) }
+        ensures err { OnErr result ((u : ℕ) → due_at u self.new ≡ due_at u self.old) }
     {
-        self.rows[second].push(number)?;
+        let rows = &mut self.blocks[second / BLOCK_SECONDS];
+        add_in(rows, second % BLOCK_SECONDS, number)?;
         Ok(())
     }
 
-    /// One number more is due in this second. There is a list for each second up to the last one that was given.
+    /// One number more is due in this second. There is a place for each block of seconds up to that of the last one that was given.
     ///
     /// # Errors
     ///
@@ -59,10 +64,11 @@ impl Calendar {
         ensures due { result.items ≡ due_at second self.old }
         ensures rest { HasNone second self.old self.new }
     {
-        let alloc = *self.rows.allocator();
+        let alloc = *self.blocks.allocator();
         let place = second as usize;
-        if place < self.rows.len() {
-            return replace(&mut self.rows[place], Vec::new(alloc));
+        let block = place / BLOCK_SECONDS;
+        if block < self.blocks.len() {
+            return take_in(&mut self.blocks[block], place % BLOCK_SECONDS);
         }
         Vec::new(alloc)
     }

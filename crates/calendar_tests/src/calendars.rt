@@ -35,6 +35,33 @@ fn numbers_are_due_in_their_seconds(rt: HostRuntime) {
     assert!(rt; are_due_once(rt.alloc()));
 }
 
+/// Numbers 1 and 2 are due in seconds 31 and 30, number 3 in second 32: the first two in seconds of one block, of which 31 is the last.
+fn numbers_of_two_blocks(alloc: Global) -> Calendar {
+    let mut calendar = Calendar::new(alloc);
+    let _ = calendar.add(31, 1);
+    let _ = calendar.add(32, 3);
+    let _ = calendar.add(30, 2);
+    calendar
+}
+
+/// Those of an earlier second stay due when the last one of a block was taken, and a number may come to a block of which nobody was left.
+fn stay_due_in_blocks(alloc: Global) -> bool {
+    let mut calendar = numbers_of_two_blocks(alloc);
+    takes(&mut calendar, 31, &[1])
+        && takes(&mut calendar, 30, &[2])
+        && takes(&mut calendar, 31, &[])
+        && calendar.add(31, 4).is_ok()
+        && takes(&mut calendar, 32, &[3])
+        && takes(&mut calendar, 31, &[4])
+        && takes(&mut calendar, 63, &[])
+        && takes(&mut calendar, 64, &[])
+}
+
+#[test]
+fn numbers_stay_due_in_blocks(rt: HostRuntime) {
+    assert!(rt; stay_due_in_blocks(rt.alloc()));
+}
+
 /// Number 0 is put off from second 3 to second 8; number 1 is asked for in seconds 9 and 4, and number 2 in seconds 4 and 6. Number 3 is
 /// told not to wake any more.
 fn put_off(wakes: &mut Wakes) -> Result<(), AllocError>

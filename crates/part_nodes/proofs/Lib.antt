@@ -1,4 +1,5 @@
 pub mod Clear
+pub mod InRows
 pub mod Into
 pub mod Leading
 pub mod Seen

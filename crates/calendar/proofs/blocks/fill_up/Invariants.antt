@@ -1,0 +1,11 @@
+use Rattle.std.proofs.Common.{◌≡◌, ℕ, ◌-◌, length}
+use Rattle.calendar.specs.declared.TheConstants.{BLOCK_SECONDS}
+use Rattle.calendar.specs.Blocks.{rows_of}
+use Rattle.calendar.specs.Due.{due_at}
+use Rattle.calendar.proofs.blocks.fill_up.Given as goal
+
+abbrev pub invariant-rows : goal.invariant-rows
+invariant-rows l = (u : ℕ) → due_at u (rows_of l.rows) ≡ due_at u (rows_of l.initial.rows)
+
+abbrev pub decreases-rows : goal.decreases-rows
+decreases-rows l = BLOCK_SECONDS - length l.rows.items

@@ -1,0 +1,7 @@
+-- Rows of a table.
+use Rattle.std.proofs.Common.{ℕ, ◌<◌, List, length, arith, Vec, Global}
+use Rattle.std.specs.Prelude.{map, vec_items}
+use Rattle.std.proofs.lemmas.List.{length-map}
+
+pub within : (rows : List (Vec ℕ Global)) (t : ℕ) → t < length (map vec_items rows) → t < length rows
+within rows t lt = let n = length-map rows vec_items in omega arith

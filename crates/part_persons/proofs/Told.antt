@@ -5,7 +5,6 @@ use Rattle.std.specs.List.{flat_map}
 use Rattle.std.proofs.lemmas.Bool.{cases_Bool, eqb-true, eqb-false, or_parts, lt-ltb}
 use Rattle.std.proofs.lemmas.List.{get_or-set_same, get_or-set_other, length-set}
 use Rattle.traffic.specs.declared.moves.Move.{Move}
-use Rattle.traffic.specs.declared.moves.Move.TheVariants.{Report}
 use Rattle.traffic.specs.declared.moves.Occurrence.{Occurrence}
 use Rattle.traffic.specs.declared.world.Person.{Person}
 use Rattle.traffic.specs.Rows.{World, nobody}
@@ -132,10 +131,22 @@ wakes_by S end t ms es W V wakes later n v f =
 pub persons_stay : (S : Setup) (t : ℕ) (ms : List Move) (W V : World) → V ≡ run S t ms W → length V.persons ≡ length W.persons
 persons_stay S t ms W V v = ap (λ (X : World). length X.persons) v ∙ ap length (run_persons S t ms W) ∙ persons-length S t (flat_map told ms) W.persons
 
--- one move that tells
-pub heard : (S : Setup) (t : ℕ) (said : List Occurrence) (ms : List Move) (W V : World) → ms ≡ Report said ∷ [] → V ≡ run S t ms W
-    → V ≡ record W { persons = persons_after S t said W.persons }
-heard S t said ms W V m e = e ∙ ap (λ (xs : List Move). run S t xs W) m
+-- WHAT OTHERS TELL
+pub heard_stay : (S : Setup) (t : ℕ) (es : List Occurrence) (W V : World) → V ≡ record W { persons = persons_after S t es W.persons }
+    → length V.persons ≡ length W.persons
+heard_stay S t es W V v = ap (λ (X : World). length X.persons) v ∙ persons-length S t es W.persons
+
+pub heard_followed : (S : Setup) (end t s : ℕ) (es : List Occurrence) (W V : World) (wakes later : List (Option ℕ))
+    → length wakes ≡ length W.persons → V ≡ record W { persons = persons_after S t es W.persons } → later ≡ followed_all S end V.persons es wakes
+    → AreFollowed S end s W.persons wakes → AreFollowed S end s V.persons later
+heard_followed S end t s es W V wakes later n v f h =
+    all_followed S end t s es W.persons V.persons wakes later n (ap (λ (X : World). X.persons) v) f h
+
+pub heard_wakes : (S : Setup) (end t : ℕ) (es : List Occurrence) (W V : World) (wakes later : List (Option ℕ))
+    → length wakes ≡ length W.persons → V ≡ record W { persons = persons_after S t es W.persons } → later ≡ followed_all S end V.persons es wakes
+    → length later ≡ length V.persons
+heard_wakes S end t es W V wakes later n v f =
+    ap length f ∙ followed_all_length S end V.persons es wakes ∙ n ∙ sym (heard_stay S t es W V v)
 
 -- EVERYBODY
 pub everybody_more : (S : Setup) (end k : ℕ) (persons : List Person) (wakes later : List (Option ℕ)) → length wakes ≡ length persons

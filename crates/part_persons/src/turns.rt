@@ -1,12 +1,11 @@
 //! The turns of a phase as far as persons are concerned.
 
-ghost use Rattle.std.specs.Prelude.{◌≡◌, ℕ, ◌+◌, ◌<◌, [], ◌∷◌, ◌++◌, length, OnOk, IfOk};
+ghost use Rattle.std.specs.Prelude.{◌≡◌, ℕ, ◌<◌, ◌++◌, length, OnOk};
 ghost use Rattle.std.specs.List.{flat_map};
 ghost use Rattle.limits.specs.declared.TheConstants.{LAST_SECOND};
 ghost use Rattle.events.specs.Keys.{phase_code};
 ghost use Rattle.town.specs.Views.{setup};
 ghost use Rattle.traffic.specs.Moves.{told, run, persons_after};
-ghost use Rattle.traffic.specs.declared.moves.Move.TheVariants.{Report};
 ghost use Rattle.traffic.specs.Day.{keyed};
 ghost use Rattle.part_persons.specs.Dues.{AreFollowedIn, followed_in};
 
@@ -14,10 +13,10 @@ use crate::hearing::follow_all;
 use crate::persons::Persons;
 use calendar::Wakes;
 use events::{Event, Phase};
-use person_moves::{World, do_moves, push_keyed};
+use person_moves::{World, do_moves, push_keyed, step_persons};
 use std::alloc::{AllocError, Global};
 use town::DayInput;
-use traffic::{Move, Occurrence, OccurrenceList};
+use traffic::{Move, Occurrence};
 
 /// The turn of a number in a phase of a second.
 #[derive(Clone, Copy, Debug, PartialEq, Eq)]
@@ -42,15 +41,20 @@ fn follow_told(
     Ok(())
 }
 
-/// One move, which tells this.
-fn report(alloc: Global, said: Vec<Occurrence>) -> Result<Vec<Move>, AllocError>
-    ensures { IfOk result (λ moves. moves.items ≡ Report said.items ∷ []) }
+/// Does to the persons of a world what was told in this second.
+fn step_in(
+    day: &DayInput,
+    second: u32,
+    said: &[Occurrence],
+    world: &mut World,
+) -> Result<(), AllocError>
+    requires { second < LAST_SECOND }
+    ensures { OnOk result (world.new ≡ record world.old {
+      persons = persons_after (setup day.now) second said.now world.old.persons;
+    }) }
 {
-    let mut moves = Vec::new(alloc);
-    moves.push(Move::Report {
-        says: OccurrenceList { rows: said },
-    })?;
-    Ok(moves)
+    step_persons(day, second, said, &mut world.persons)?;
+    Ok(())
 }
 
 impl Persons {
@@ -90,28 +94,26 @@ impl Persons {
     ///
     /// # Errors
     ///
-    /// `AllocError`: there is no memory for a row. The persons are then of no use.
+    /// `AllocError`: there is no memory for the second of a person, or no number counts the elements of a plan. The persons are then of no
+    /// use.
     pub fn hear(
         &mut self,
-        alloc: Global,
         day: &DayInput,
         second: u32,
-        said: Vec<Occurrence>,
+        said: &[Occurrence],
     ) -> Result<(), AllocError>
         requires second_in { second < LAST_SECOND }
         requires plans { length self.old.world.persons ≡ length day.now.chosen.now }
         requires wakes { length self.old.wakes ≡ length self.old.world.persons }
         ensures world { OnOk result (self.new.world ≡ record self.old.world {
-          persons = persons_after (setup day.now) second said.items self.old.world.persons;
+          persons = persons_after (setup day.now) second said.now self.old.world.persons;
         }) }
         ensures followed { (t : ℕ) → AreFollowedIn day.now t self.old.world.persons self.old.wakes
             → OnOk result (AreFollowedIn day.now t self.new.world.persons self.new.wakes) }
         ensures wakes { OnOk result (length self.new.wakes ≡ length self.new.world.persons) }
     {
-        let moves = report(alloc, said)?;
-        let mut told = Vec::new(alloc);
-        do_moves(alloc, day, second, moves, &mut self.world, &mut told)?;
-        follow_told(day, &told, &self.world, &mut self.wakes)?;
+        step_in(day, second, said, &mut self.world)?;
+        follow_told(day, said, &self.world, &mut self.wakes)?;
         Ok(())
     }
 }

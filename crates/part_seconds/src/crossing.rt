@@ -63,7 +63,7 @@ impl Area {
             link_slots: run.link_slots,
         };
         move_nodes(&phase, run.in_links, network, told, out)?;
-        hear_told(run.alloc, run.day, second, told, &mut self.persons)?;
+        hear_told(run.day, second, told, &mut self.persons)?;
         Ok(())
     }
 }

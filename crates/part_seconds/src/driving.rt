@@ -119,7 +119,7 @@ impl Area {
             &mut network.node_wakes,
         )?;
         let left = take_left(run, number, &slots, &network.links, &mut self.queues)?;
-        hear_told(run.alloc, run.day, second, told, &mut self.persons)?;
+        hear_told(run.day, second, told, &mut self.persons)?;
         Ok(left)
     }
 }

@@ -8,24 +8,22 @@ ghost use Rattle.part_persons.specs.Dues.{AreFollowedIn};
 
 use part_links::Told;
 use part_persons::Persons;
-use std::alloc::{AllocError, Global};
-use std::mem::replace;
+use std::alloc::AllocError;
 use town::DayInput;
 use traffic::Occurrence;
 
 /// Persons hear what was told, if anything was: most turns tell nothing.
 fn hear(
-    alloc: Global,
     day: &DayInput,
     second: u32,
-    said: Vec<Occurrence>,
+    said: &[Occurrence],
     persons: &mut Persons,
 ) -> Result<(), AllocError>
     requires second_in { second < LAST_SECOND }
     requires plans { length persons.old.world.persons ≡ length day.now.chosen.now }
     requires wakes { length persons.old.wakes ≡ length persons.old.world.persons }
     ensures world { OnOk result (persons.new.world ≡ record persons.old.world {
-      persons = persons_after (setup day.now) second said.items persons.old.world.persons;
+      persons = persons_after (setup day.now) second said.now persons.old.world.persons;
     }) }
     ensures followed { (t : ℕ) → AreFollowedIn day.now t persons.old.world.persons persons.old.wakes
         → OnOk result (AreFollowedIn day.now t persons.new.world.persons persons.new.wakes) }
@@ -34,12 +32,11 @@ fn hear(
     if said.is_empty() {
         return Ok(());
     }
-    persons.hear(alloc, day, second, said)
+    persons.hear(day, second, said)
 }
 
-/// Persons hear what was told so far, which is told no more then.
+/// Persons hear what was told so far, which is told no more then. The list keeps its room.
 pub(crate) fn hear_told(
-    alloc: Global,
     day: &DayInput,
     second: u32,
     told: &mut Told,
@@ -57,7 +54,7 @@ pub(crate) fn hear_told(
     ensures events { told.new.events.items ≡ told.old.events.items }
     ensures said { told.new.said.items ≡ [] }
 {
-    let said = replace(&mut told.said, Vec::new(alloc));
-    hear(alloc, day, second, said, persons)?;
-    Ok(())
+    let heard = hear(day, second, &told.said, persons);
+    told.said.clear();
+    heard
 }

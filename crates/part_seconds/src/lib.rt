@@ -12,3 +12,4 @@ mod settling;
 
 pub use area::Area;
 pub use runs::Run;
+pub use setting_out::slot_of;

@@ -40,8 +40,8 @@ fn take_rows(alloc: Global, world: &mut World) -> Vec<Row>
     replace(&mut world.rows, Vec::new(alloc))
 }
 
-/// The slot of a link.
-fn slot_of(slots: &[u32], link: u32) -> u32
+/// The slot of a link, by a table that has those of links by number; a link that it does not have is given the first one.
+pub fn slot_of(slots: &[u32], link: u32) -> u32
     ensures { result ≡ get_or slots.now link 0 }
 {
     let place = link as usize;

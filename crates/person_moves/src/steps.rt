@@ -187,7 +187,7 @@ fn step_by(
 /// # Errors
 ///
 /// `AllocError`: no number counts the elements of a person's plan.
-pub(crate) fn step_persons(
+pub fn step_persons(
     day: &DayInput,
     second: u32,
     said: &[Occurrence],

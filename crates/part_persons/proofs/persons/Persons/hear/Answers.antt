@@ -1,30 +1,22 @@
-use Rattle.std.proofs.Common.{◌∙◌, ap, ◌++◌, sym}
-use Rattle.std.specs.List.{flat_map}
+use Rattle.std.proofs.Common.{◌∙◌, sym}
 use Rattle.town.specs.Views.{setup}
-use Rattle.traffic.specs.Moves.{told}
-use Rattle.part_persons.proofs.Told.{followed_by, wakes_by, persons_stay, heard}
+use Rattle.part_persons.proofs.Told.{heard_stay, heard_followed, heard_wakes}
 use Rattle.part_persons.proofs.persons.Persons.hear.Goals as goal
 
 pub follow_told-requires-clause-plans : goal.follow_told-requires-clause-plans
 follow_told-requires-clause-plans c =
-    persons_stay (setup c.args.day.now) c.args.second c.in_ok-moves.moves.items c.args.self.now.world _ c.in_ok-do_moves.ensures.world ∙ c.requires.plans
+    heard_stay (setup c.args.day.now) c.args.second c.args.said.now c.args.self.now.world _ c.in_ok-step_in.ensures ∙ c.requires.plans
 
 pub follow_told-requires-clause-wakes : goal.follow_told-requires-clause-wakes
 follow_told-requires-clause-wakes c =
-    c.requires.wakes
-    ∙ sym (persons_stay (setup c.args.day.now) c.args.second c.in_ok-moves.moves.items c.args.self.now.world _ c.in_ok-do_moves.ensures.world)
-
-pub returns-clause-world : goal.returns-clause-world
-returns-clause-world c = heard (setup c.args.day.now) c.args.second c.args.said.items _ _ _ c.in_ok-moves.ensures c.in_ok-do_moves.ensures.world
+    c.requires.wakes ∙ sym (heard_stay (setup c.args.day.now) c.args.second c.args.said.now c.args.self.now.world _ c.in_ok-step_in.ensures)
 
 pub returns-clause-followed : goal.returns-clause-followed
 returns-clause-followed c = λ t h.
-    followed_by (setup c.args.day.now) c.args.day.now.town.now.settings.end_second c.args.second t c.in_ok-moves.moves.items _ c.args.self.now.world _ _ _
-    c.requires.wakes c.in_ok-do_moves.ensures.world
-    (c.deref.ensures.value ∙ c.in_ok-do_moves.ensures.told ∙ ap (λ xs. xs ++ flat_map told c.in_ok-moves.moves.items) c.new-told.ensures.items)
-    c.in_ok-follow_told.ensures h
+    heard_followed (setup c.args.day.now) c.args.day.now.town.now.settings.end_second c.args.second t c.args.said.now c.args.self.now.world _ _ _
+    c.requires.wakes c.in_ok-step_in.ensures c.in_ok-follow_told.ensures h
 
 pub returns-clause-wakes : goal.returns-clause-wakes
 returns-clause-wakes c =
-    wakes_by (setup c.args.day.now) c.args.day.now.town.now.settings.end_second c.args.second c.in_ok-moves.moves.items _ c.args.self.now.world _ _ _
-    c.requires.wakes c.in_ok-do_moves.ensures.world c.in_ok-follow_told.ensures
+    heard_wakes (setup c.args.day.now) c.args.day.now.town.now.settings.end_second c.args.second c.args.said.now c.args.self.now.world _ _ _
+    c.requires.wakes c.in_ok-step_in.ensures c.in_ok-follow_told.ensures

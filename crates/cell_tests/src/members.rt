@@ -7,11 +7,11 @@ use cells::{Board, Hub, Port};
 pub(crate) struct Tally {
     /// The seconds done.
     pub(crate) seconds: u32,
-    /// The parcels taken.
+    /// How often something was taken, a parcel or none.
     pub(crate) taken: u64,
-    /// Those of them that were not the right number.
+    /// How often it was not the right one.
     pub(crate) wrong: u64,
-    /// The last one taken, and 0 before the first.
+    /// The last parcel taken, and 0 before the first.
     pub(crate) last: u64,
 }
 

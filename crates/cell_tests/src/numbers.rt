@@ -2,7 +2,7 @@
 use cells::Traffic;
 
 /// A traffic whose run and parcels are numbers. The right parcel of run `r` from partition `q` in second `s` is
-/// `1,000,000 * r + 10,000 * q + s`, whoever receives it.
+/// `1,000,000 * r + 10,000 * q + s`, whoever receives it; where `q + s` leaves 2 when it is divided by 3, none is right.
 pub struct Numbers;
 
 impl Traffic for Numbers {

@@ -11,7 +11,7 @@ ghost use Rattle.cells.specs.Ports.{
   is_put,
   done_of,
 };
-ghost use Rattle.cell_tests.specs.Numbers.{IsNumber, number_of};
+ghost use Rattle.cell_tests.specs.Numbers.{IsMessage, IsNumber};
 ghost use Rattle.cell_tests.specs.Members.{IsMember, IsTestBoard};
 
 use crate::members::{Member, Tally};
@@ -28,26 +28,42 @@ impl Tally {
         }
     }
 
-    /// Counts a parcel of run 5 from a neighbour with this lag. It is right where it is that of `lag` seconds ago.
-    pub(crate) fn count(&mut self, sender: u32, lag: u32, parcel: u64) {
+    /// Counts what a neighbour with this lag sent in run 5, a parcel or none. It is right where it is that of `lag` seconds ago.
+    pub(crate) fn count(&mut self, sender: u32, lag: u32, parcel: Option<u64>) {
         self.taken = self.taken.saturating_add(1);
-        self.last = parcel;
         let is_right = match self.seconds.checked_sub(lag) {
-            Some(second) => parcel == 5_000_000 + 10_000 * u64::from(sender) + u64::from(second),
+            Some(second) => is_right(sender, second, parcel),
             None => false,
         };
+        if let Some(number) = parcel {
+            self.last = number;
+        }
         if !is_right {
             self.wrong = self.wrong.saturating_add(1);
         }
     }
 }
 
-/// The right parcel of a run, from a partition in a second.
-fn number(run: u64, sender: u32, second: u32) -> u64
+/// Whether this is what a partition sends in a second of run 5.
+fn is_right(sender: u32, second: u32, parcel: Option<u64>) -> bool {
+    let is_silent = (u64::from(sender) + u64::from(second)) % 3 == 2;
+    match parcel {
+        Some(number) => {
+            !is_silent && number == 5_000_000 + 10_000 * u64::from(sender) + u64::from(second)
+        }
+        None => is_silent,
+    }
+}
+
+/// What a partition sends in a second of a run.
+fn message(run: u64, sender: u32, second: u32) -> Option<u64>
     requires { (run < 1000) × (sender < 64) }
-    ensures { result ≡ number_of run sender second }
+    ensures { IsMessage run sender second result }
 {
-    1_000_000 * run + 10_000 * u64::from(sender) + u64::from(second)
+    if (u64::from(sender) + u64::from(second)) % 3 == 2 {
+        return None;
+    }
+    Some(1_000_000 * run + 10_000 * u64::from(sender) + u64::from(second))
 }
 
 /// Looks at neighbour `k` of a port of which nothing was taken and nothing put in this second.
@@ -85,7 +101,7 @@ fn look_all(board: &Board<Numbers>, port: &mut Port<Numbers>) -> bool
     true
 }
 
-/// Takes the parcels that lie in the port.
+/// Takes what lies in the port.
 fn take_all(board: &Board<Numbers>, port: &mut Port<Numbers>, tally: &mut Tally)
     requires port { IsPort IsNumber board.now port.old }
     requires ready { (k : ℕ) → k < degree port.old → IsUnread port.old k }
@@ -103,7 +119,7 @@ fn take_all(board: &Board<Numbers>, port: &mut Port<Numbers>, tally: &mut Tally)
     }
 }
 
-/// Puts a parcel for each neighbour.
+/// Puts a parcel, or that there is none, for each neighbour.
 fn put_all(board: &Board<Numbers>, port: &mut Port<Numbers>)
     requires port { IsPort IsNumber board.now port.old }
     requires board { IsTestBoard board.now }
@@ -115,7 +131,7 @@ fn put_all(board: &Board<Numbers>, port: &mut Port<Numbers>)
     let p = port.partition();
     let t = port.done();
     for k in 0..port.neighbours().len() {
-        port.put(board, k, number(5, p, t));
+        port.put(board, k, message(5, p, t));
     }
 }
 

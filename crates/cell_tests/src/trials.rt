@@ -160,7 +160,7 @@ fn spread<R: Threads + Sync>(
     );
 }
 
-/// The parcels that partition `p` is to have taken after so many seconds.
+/// How often partition `p` is to have taken something after so many seconds.
 fn due(pairs: &[(u32, u32, u32, u32)], p: u32, seconds: u32) -> u64 {
     let mut parcels = 0u64;
     for k in 0..pairs.len() {
@@ -175,7 +175,7 @@ fn due(pairs: &[(u32, u32, u32, u32)], p: u32, seconds: u32) -> u64 {
     parcels
 }
 
-/// Whether each member has done so many seconds and taken all parcels that it is to have taken by then, each of them right.
+/// Whether each member has done so many seconds and taken all that it is to have taken by then, each time what is right.
 fn have_all(members: &[Member], pairs: &[(u32, u32, u32, u32)], seconds: u32) -> bool {
     for member in members {
         let tally = member.tally;

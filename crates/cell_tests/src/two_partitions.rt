@@ -116,7 +116,7 @@ static FIRST_SECONDS: [Act; 4] = [
 ];
 
 /// With lags of 10 to partition 1 and 20 to partition 0: from the start each does as many seconds as the lag lets it, and has to wait; then
-/// each does one more.
+/// each does one more. In second 10 partition 1 sends nothing, so that partition 0 has taken the parcel of second 9 last.
 static AHEAD: [Act; 4] = [
     Act {
         member: 1,
@@ -143,7 +143,7 @@ static AHEAD: [Act; 4] = [
         member: 0,
         most: 1,
         done: 31,
-        last: 5_010_010,
+        last: 5_010_009,
         sees: None,
     },
 ];

@@ -16,7 +16,7 @@ use Rattle.cells.specs.Ports.{IsBorder}
 use Rattle.cells.proofs.Steps.{looks, publishes}
 use Rattle.cells.proofs.Seats.{splits, joins, opens, nothing_at}
 
-module _ {R S : Type 0} (right : R → ℕ → ℕ → ℕ → S → Type 0) (about : Layout R) where
+module _ {R S : Type 0} (right : R → ℕ → ℕ → ℕ → Option S → Type 0) (about : Layout R) where
   reads_here : (slots id : ℕ) (me : Me (Option S) (View R)) (border : Border) → is_port me.0.role ≡ true
       → IsBorder about.channels.value.items me.0.partition border → Allows (IsKept right about) slots id me (place border.from)
       (λ x. x) (Looks right border (place border.from) me)

@@ -22,8 +22,8 @@ use Rattle.cells.proofs.Homes.{among_more, among_last, among_either}
 use Rattle.cells.proofs.Orders.{has_self, has_last, has_more, fresh_popped, filled_late, filled_early, blocks_last, blocks_then}
 
 -- the slots of one border, filled
-module _ {P : Type 0} (right : ℕ → ℕ → ℕ → P
-    → Type 0) (count : ℕ) (cs : List Channel) (g : AreChannelsOf count cs) (p t : ℕ) (r : Border) (ok : IsBorder cs p r) (y : P)
+module _ {P : Type 0} (right : ℕ → ℕ → ℕ → Option P
+    → Type 0) (count : ℕ) (cs : List Channel) (g : AreChannelsOf count cs) (p t : ℕ) (r : Border) (ok : IsBorder cs p r) (y : Option P)
     (fits : right p r.from t y) where
   abbrev n : ℕ
   n = length cs
@@ -40,14 +40,15 @@ module _ {P : Type 0} (right : ℕ → ℕ → ℕ → P
     sym is,
   )
 
-  out_ok : (k : ℕ) (z : Option P) → slot r.outward t ≡ k → Some y ≡ z
+  out_ok : (k : ℕ) (z : Option P) → slot r.outward t ≡ k → y ≡ z
       → IsFilled right n (from_of cs) (to_of cs) (lag_of cs) (twin_of cs) p t k z
   out_ok k z at is = (
     r.outward,
     subst (λ e. e < n) ok.twin (g.twin_in r.inward ok.inside),
     ap (from_of cs) (sym ok.twin) ∙ g.back r.inward ok.inside ∙ ok.receiver,
     sym at,
-    (y, sym is, subst (λ e. right p e t y) (sym (ap (to_of cs) (sym ok.twin) ∙ g.forth r.inward ok.inside ∙ ok.sender)) fits),
+    subst (λ w. right p (to_of cs r.outward) t w) is
+        (subst (λ e. right p e t y) (sym (ap (to_of cs) (sym ok.twin) ∙ g.forth r.inward ok.inside ∙ ok.sender)) fits),
   )
 
   pub filled_good : AreOfSecond right n (from_of cs) (to_of cs) (lag_of cs) (twin_of cs) p t (filled_slots_of r t y)
@@ -66,20 +67,20 @@ module _ {P : Type 0} (right : ℕ → ℕ → ℕ → P
       )),
     )),
     (
-      Some y,
+      y,
       dite (dec_le r.lag t)
-          (λ le. subst (λ c. Carries c (slot (twin_of cs r.inward) t) (Some y)) (sym (filled_late r t y le)) (inr (inl (
+          (λ le. subst (λ c. Carries c (slot (twin_of cs r.inward) t) y) (sym (filled_late r t y le)) (inr (inl (
             ap (λ e. slot e t) (sym ok.twin),
             refl,
           ))))
-          (λ no. subst (λ c. Carries c (slot (twin_of cs r.inward) t) (Some y)) (sym (filled_early r t y (omega arith))) (inl (
+          (λ no. subst (λ c. Carries c (slot (twin_of cs r.inward) t) y) (sym (filled_early r t y (omega arith))) (inl (
             ap (λ e. slot e t) (sym ok.twin),
             refl,
           ))),
     ),
   )
 
-module _ {T R P : Type 0} (right : R → ℕ → ℕ → ℕ → P → Type 0) (b : Board T R P) where
+module _ {T R P : Type 0} (right : R → ℕ → ℕ → ℕ → Option P → Type 0) (b : Board T R P) where
   good_more : (p : Port T R P) (c d : List (ℕ × Option P)) → PortCarriesSecond right b p c → PortCarriesSecond right b p d
       → PortCarriesSecond right b p (c ++ d)
   good_more p c d x y k z a = ⊎_elim (λ u. x k z u) (λ u. y k z u) (among_either c d k z a)
@@ -91,7 +92,7 @@ module _ {T R P : Type 0} (right : R → ℕ → ℕ → ℕ → P → Type 0) (
   both_last p c d e h = ((λ le. let q = h.0 le in (q.0, among_last c d _ q.0 q.1)), (h.1.0, among_last c d _ h.1.0 h.1.1))
 
   put_is : (p t : ℕ) (r : Border) (m o : Bool) (h : Handover P) → is_put h ≡ true → IsHandover (right (run_of b)) p t r m o h → (m ≡ true)
-      × (o ≡ true) × ((y : P) × (h ≡ Put y) × right (run_of b) p r.from t y)
+      × (o ≡ true) × ((y : Option P) × (h ≡ Put y) × right (run_of b) p r.from t y)
   put_is p t r m o Awaited is k = absurd (true≢false (sym is))
   put_is p t r m o (Arrived x) is k = absurd (true≢false (sym is))
   put_is p t r m o Taken is k = absurd (true≢false (sym is))
@@ -134,7 +135,7 @@ module _ {T R P : Type 0} (right : R → ℕ → ℕ → ℕ → P → Type 0) (
     pub in_borders : k < length q.borders.items
     in_borders = f.bounded k in_order
 
-    pub is_waiting : (y : P) × (handover_at p.handovers.items k ≡ Put y)
+    pub is_waiting : (y : Option P) × (handover_at p.handovers.items k ≡ Put y)
         × right (run_of b) q.partition (border_at q.borders.items k).from q.done y
     is_waiting = f.waiting k in_borders in_order
 
@@ -144,7 +145,7 @@ module _ {T R P : Type 0} (right : R → ℕ → ℕ → ℕ → P → Type 0) (
       f.carried.1 ∙ ap (λ z. all_slots_of q.borders.items q.done z f.carried.0) last ∙ blocks_last q.borders.items q.done ks k f.carried.0,
     )
 
-    pub fill_step : IsPort right b q → (y : P) → handover_at p.handovers.items k ≡ Put y → (p' : Port T R P)
+    pub fill_step : IsPort right b q → (y : Option P) → handover_at p.handovers.items k ≡ Put y → (p' : Port T R P)
         → (p'.seat.table_id ≡ p.seat.table_id) × (p'.seat.id ≡ p.seat.id) × (p'.seat.me.0 ≡ p.seat.me.0)
         → ((c : List (ℕ × Option P)) → p.seat.me.1 ≡ slots_of (border_at q.borders.items k) q.done ++ c
         → p'.seat.me.1 ≡ c ++ filled_slots_of (border_at q.borders.items k) q.done y)

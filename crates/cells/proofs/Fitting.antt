@@ -1,6 +1,6 @@
 -- A port stays one of its board through its calls.
 use Rattle.std.proofs.Common.{◌≡◌, ℕ, ◌+◌, ◌-◌, ◌<◌, ◌≤◌, Bool, true, false, List, [], ◌∷◌, ◌++◌, map, length, set, sum_by, vec_capacity}
-use Rattle.std.proofs.Common.{Vec, Global, Option, Some, None, sym, ap, ◌∙◌, refl, subst, true≢false, length-append, length-set}
+use Rattle.std.proofs.Common.{Vec, Global, Option, None, sym, ap, ◌∙◌, refl, subst, true≢false, length-append, length-set}
 use Rattle.std.proofs.Common.{get_or-set_same, get_or-set_other, arith}
 use Rattle.std.proofs.lemmas.List.Sums.{sum_by-set}
 use mathlib.Core.Logic.{dite}
@@ -20,7 +20,7 @@ use Rattle.cells.specs.Ports.{run_of, degree, IsPort}
 use Rattle.cells.proofs.Rings.{mark_here, mark_else}
 use Rattle.cells.proofs.Orders.{has_last, has_more, fresh_last, free_room, block_late, block_early, blocks_last}
 
-module _ {T R P : Type 0} (right : R → ℕ → ℕ → ℕ → P → Type 0) (b : Board T R P) where
+module _ {T R P : Type 0} (right : R → ℕ → ℕ → ℕ → Option P → Type 0) (b : Board T R P) where
   -- the order contains room for one more
   pub room_for : (p : Port T R P) → IsPort right b p → (k : ℕ) → k < degree p → handover_at p.handovers.items k ≡ Awaited
       → length p.order.items < vec_capacity p.order
@@ -39,15 +39,15 @@ module _ {T R P : Type 0} (right : R → ℕ → ℕ → ℕ → P → Type 0) (
       (me.0.run ≡ p.seat.me.0.run) × (me.0.role ≡ p.seat.me.0.role) × (me.0.partition ≡ p.seat.me.0.partition)
       × (me.0.done ≡ p.seat.me.0.done) × (me.0.marks ≡ border.inward ∷ p.seat.me.0.marks)
       × (me.1 ≡ slots_of border p.done ++ p.seat.me.1)
-      × ((border.lag ≤ p.done → (x : P) × (h ≡ Arrived x) × right (run_of b) border.from p.partition (p.done - border.lag) x))
+      × ((border.lag ≤ p.done → (x : Option P) × (h ≡ Arrived x) × right (run_of b) border.from p.partition (p.done - border.lag) x))
       × (p.done < border.lag → h ≡ Taken)
 
   pub handed : (p : Port T R P) → IsPort right b p → (k word : ℕ) → k < degree p → handover_at p.handovers.items k ≡ Awaited
       → (me me' : Me (Option P) (View R)) (h : Handover P)
       → Looks right (border_at p.borders.items k) (place (border_at p.borders.items k).from) p.seat.me word me
       → p.done < word + (border_at p.borders.items k).lag → me'.0 ≡ me.0
-      → ((border_at p.borders.items k).lag ≤ p.done → (c : List (ℕ × Option P)) (x : P)
-      → me.1 ≡ (slot (border_at p.borders.items k).inward (p.done - (border_at p.borders.items k).lag), Some x) ∷ c → (h ≡ Arrived x)
+      → ((border_at p.borders.items k).lag ≤ p.done → (c : List (ℕ × Option P)) (x : Option P)
+      → me.1 ≡ (slot (border_at p.borders.items k).inward (p.done - (border_at p.borders.items k).lag), x) ∷ c → (h ≡ Arrived x)
       × (me'.1 ≡ (slot (border_at p.borders.items k).inward (p.done - (border_at p.borders.items k).lag), None) ∷ c))
       → (p.done < (border_at p.borders.items k).lag → (h ≡ Taken) × (me'.1 ≡ me.1)) → Handed p k me' h
   handed p f k word lt away me me' h lk far same late early =
@@ -66,13 +66,13 @@ module _ {T R P : Type 0} (right : R → ℕ → ℕ → ℕ → P → Type 0) (
         ap (λ (x : View R). x.marks) v,
         dite (dec_le border.lag p.done)
             (λ le. let q = got.1.1 (omega arith) in let there = q.1
-            ∙ ap (λ z. (slot border.inward (z - border.lag), Some q.0) ∷ (slot border.outward z, None) ∷ p.seat.me.1) T0 in
+            ∙ ap (λ z. (slot border.inward (z - border.lag), q.0) ∷ (slot border.outward z, None) ∷ p.seat.me.1) T0 in
             (late le ((slot border.outward p.done, None) ∷ p.seat.me.1) q.0 there).1
             ∙ ap (λ z. z ++ p.seat.me.1) (sym (block_late border p.done le)))
             (λ no. let q = got.1.0 (omega arith) in (early (omega arith)).1 ∙ q ∙ ap (λ z. (slot border.outward z, None) ∷ p.seat.me.1) T0
             ∙ ap (λ z. z ++ p.seat.me.1) (sym (block_early border p.done (omega arith)))),
         (λ le. let q = got.1.1 (omega arith) in let there = q.1
-            ∙ ap (λ z. (slot border.inward (z - border.lag), Some q.0) ∷ (slot border.outward z, None) ∷ p.seat.me.1) T0 in (
+            ∙ ap (λ z. (slot border.inward (z - border.lag), q.0) ∷ (slot border.outward z, None) ∷ p.seat.me.1) T0 in (
               q.0,
               (late le ((slot border.outward p.done, None) ∷ p.seat.me.1) q.0 there).0,
               subst (λ z. right (run_of b) border.from z (p.done - border.lag) q.0) f.partition
@@ -158,7 +158,7 @@ module _ {T R P : Type 0} (right : R → ℕ → ℕ → ℕ → P → Type 0) (
       → border ≡ border_at p.borders.items k → handover_at p.handovers.items k ≡ Awaited → (me : Me (Option P) (View R)) (h : Handover P)
       → Looks right border (place border.from) p.seat.me word me
       → p.done < word + border.lag → p'.seat.me.0 ≡ me.0
-      → (border.lag ≤ p.done → (c : List (ℕ × Option P)) (x : P) → me.1 ≡ (slot border.inward (p.done - border.lag), Some x) ∷ c
+      → (border.lag ≤ p.done → (c : List (ℕ × Option P)) (x : Option P) → me.1 ≡ (slot border.inward (p.done - border.lag), x) ∷ c
       → (h ≡ Arrived x) × (p'.seat.me.1 ≡ (slot border.inward (p.done - border.lag), None) ∷ c))
       → (p.done < border.lag → (h ≡ Taken) × (p'.seat.me.1 ≡ me.1))
       → p'.seat.table_id ≡ p.seat.table_id → p'.partition ≡ p.partition → p'.done ≡ p.done → p'.neighbours.items ≡ p.neighbours.items
@@ -166,7 +166,7 @@ module _ {T R P : Type 0} (right : R → ℕ → ℕ → ℕ → P → Type 0) (
       → vec_capacity p.order ≤ vec_capacity p'.order → IsPort right b p'
   looked_port p p' f k word lt border is away me h lk far same late early table partition done names borders handovers order room =
       let M : Border → Type 0 = λ r. Looks right r (place r.from) p.seat.me word me → p.done < word + r.lag
-      → (r.lag ≤ p.done → (c : List (ℕ × Option P)) (x : P) → me.1 ≡ (slot r.inward (p.done - r.lag), Some x) ∷ c → (h ≡ Arrived x)
+      → (r.lag ≤ p.done → (c : List (ℕ × Option P)) (x : Option P) → me.1 ≡ (slot r.inward (p.done - r.lag), x) ∷ c → (h ≡ Arrived x)
       × (p'.seat.me.1 ≡ (slot r.inward (p.done - r.lag), None) ∷ c))
       → (p.done < r.lag → (h ≡ Taken) × (p'.seat.me.1 ≡ me.1)) → IsPort right b p' in
       subst M (sym is)

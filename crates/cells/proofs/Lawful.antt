@@ -11,16 +11,16 @@ use Rattle.cells.specs.Ports.{IsLawful, run_of}
 use Rattle.cells.specs.Rings.{slot}
 use Rattle.cells.proofs.Rings as rings
 
-module _ {T R P : Type 0} (right : R → ℕ → ℕ → ℕ → P → Type 0) (b : Board T R P) where
+module _ {T R P : Type 0} (right : R → ℕ → ℕ → ℕ → Option P → Type 0) (b : Board T R P) where
   abbrev Near : State (Option P) (View R) → List Channel → ℕ → Type 0
   Near s cs e = word_at s.words (to_of cs e) ≤ word_at s.words (from_of cs e) + lag_of cs e
 
   abbrev Lies : State (Option P) (View R) → List Channel → ℕ → ℕ → P → Type 0
   Lies s cs e i x = (t : ℕ) × (t % 64 ≡ i) × (t < word_at s.words (from_of cs e)) × (word_at s.words (to_of cs e) ≤ t + lag_of cs e)
-      × right (run_of b) (from_of cs e) (to_of cs e) t x
+      × right (run_of b) (from_of cs e) (to_of cs e) t (Some x)
 
   abbrev Stays : State (Option P) (View R) → List Channel → ℕ → ℕ → Type 0
-  Stays s cs e t = ((x : P) × (get_elem? s.homes (slot e t) ≡ some (some (Some x)))
+  Stays s cs e t = ((x : Option P) × (get_elem? s.homes (slot e t) ≡ some (some x))
       × right (run_of b) (from_of cs e) (to_of cs e) t x)
       ⊎ ((word_at s.words (to_of cs e) ≡ t + lag_of cs e) × (get_elem? s.homes (slot e t) ≡ some none))
 

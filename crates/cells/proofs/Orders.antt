@@ -1,6 +1,6 @@
 -- The order in which neighbours were ready, and the slots that a port has out.
 use Rattle.std.proofs.Common.{◌≡◌, ◌≢◌, ℕ, zero, suc, ◌-◌, ◌<◌, ◌≤◌, Bool, true, false, cond, ◌||◌, eqb, List, [], ◌∷◌, ◌++◌, length}
-use Rattle.std.proofs.Common.{sum_by, Option, Some, None, sym, ap, ◌∙◌, refl, true≢false, eq-eqb, ne_eqb, le-leb, append_assoc, arith}
+use Rattle.std.proofs.Common.{sum_by, Option, None, sym, ap, ◌∙◌, refl, true≢false, eq-eqb, ne_eqb, le-leb, append_assoc, arith}
 use Rattle.std.proofs.lemmas.Bool.{lt-leb}
 use Rattle.std.proofs.lemmas.List.Sums.{sum_by-cons}
 use mathlib.Core.Logic.{dite}
@@ -72,17 +72,17 @@ module _ {P : Type 0} where
     None,
   ) ∷ [])) (lt-leb r.lag t h)
 
-  pub filled_late : (r : Border) (t : ℕ) (y : P) → r.lag ≤ t
-      → filled_slots_of r t y ≡ (slot r.inward (t - r.lag), None) ∷ (slot r.outward t, Some y) ∷ []
-  filled_late r t y h = ap (λ b. cond b ((slot r.inward (t - r.lag), None) ∷ (slot r.outward t, Some y) ∷ []) ((
+  pub filled_late : (r : Border) (t : ℕ) (y : Option P) → r.lag ≤ t
+      → filled_slots_of r t y ≡ (slot r.inward (t - r.lag), None) ∷ (slot r.outward t, y) ∷ []
+  filled_late r t y h = ap (λ b. cond b ((slot r.inward (t - r.lag), None) ∷ (slot r.outward t, y) ∷ []) ((
     slot r.outward t,
-    Some y,
+    y,
   ) ∷ [])) (le-leb r.lag t h)
 
-  pub filled_early : (r : Border) (t : ℕ) (y : P) → t < r.lag → filled_slots_of r t y ≡ (slot r.outward t, Some y) ∷ []
-  filled_early r t y h = ap (λ b. cond b ((slot r.inward (t - r.lag), None) ∷ (slot r.outward t, Some y) ∷ []) ((
+  pub filled_early : (r : Border) (t : ℕ) (y : Option P) → t < r.lag → filled_slots_of r t y ≡ (slot r.outward t, y) ∷ []
+  filled_early r t y h = ap (λ b. cond b ((slot r.inward (t - r.lag), None) ∷ (slot r.outward t, y) ∷ []) ((
     slot r.outward t,
-    Some y,
+    y,
   ) ∷ [])) (lt-leb r.lag t h)
 
   pub blocks_last : (borders : List Border) (t : ℕ) (ks : List ℕ) (k : ℕ) (c : List (ℕ × Option P))

@@ -42,7 +42,7 @@ clear_here m to p x is = ap (λ b. cond b false (m x)) (eq-eqb (to x) p is)
 pub clear_else : (m : ℕ → Bool) (to : ℕ → ℕ) (p x : ℕ) → to x ≢ p → clear m to p x ≡ m x
 clear_else m to p x ne = ap (λ b. cond b false (m x)) (ne_eqb (to x) p ne)
 
-module _ {S : Type 0} (right : ℕ → ℕ → ℕ → S → Type 0) (count n : ℕ) (from to lag twin : ℕ
+module _ {S : Type 0} (right : ℕ → ℕ → ℕ → Option S → Type 0) (count n : ℕ) (from to lag twin : ℕ
     → ℕ) (g : AreChannels count n from to lag twin) where
   abbrev pub Slots : Type 0
   Slots = ℕ → maybe.Option (maybe.Option (Option S))
@@ -61,7 +61,7 @@ module _ {S : Type 0} (right : ℕ → ℕ → ℕ → S → Type 0) (count n : 
 
   pub in_full : (W : ℕ → ℕ) (H : Slots) (m : ℕ → Bool) → Rings W H m → (e : ℕ) → e < n → m e ≡ false → W (to e) < W (from e) + lag e
       → lag e ≤ W (to e)
-      → (x : S) × (H (slot e (W (to e) - lag e)) ≡ some (some (Some x))) × right (from e) (to e) (W (to e) - lag e) x
+      → (x : Option S) × (H (slot e (W (to e) - lag e)) ≡ some (some x)) × right (from e) (to e) (W (to e) - lag e) x
   in_full W H m r e in_n un far late = r.full e (W (to e) - lag e) in_n (omega arith) (omega arith) (λ y. absurd (true≢false (sym y ∙ un)))
 
   pub look_keeps : (W : ℕ → ℕ) (H : Slots) (m : ℕ → Bool) → Rings W H m → (e : ℕ) → e < n → W (to e) < W (from e) + lag e
@@ -115,14 +115,14 @@ module _ {S : Type 0} (right : ℕ → ℕ → ℕ → S → Type 0) (count n : 
   -- a parcel that lies in a slot is the right one, of a second that was sent and is not yet consumed
   pub lies : (W : ℕ → ℕ) (H : Slots) (m : ℕ → Bool) → Rings W H m → (e i : ℕ) (x : S) → e < n → i < 64
       → H (64 * e + i) ≡ some (some (Some x))
-      → (s : ℕ) × (s % 64 ≡ i) × (s < W (from e)) × (W (to e) ≤ s + lag e) × right (from e) (to e) s x
+      → (s : ℕ) × (s % 64 ≡ i) × (s < W (from e)) × (W (to e) ≤ s + lag e) × right (from e) (to e) s (Some x)
   lies W H m r e i x in_n lt is =
       let sec = second_in (W (to e) - lag e) i lt in let s : ℕ = sec.0 in let a = sec.1 in let b = sec.2 in
       let at : H (slot e s) ≡ some (some (Some x)) = ap (λ z. H (64 * e + z)) sec.3 ∙ is in
       dite (dec_le (suc s) (W (from e)))
       (λ sent.
       let got : (m e ≡ true → W (to e) ≢ s + lag e) → (s : ℕ) × (s % 64 ≡ i) × (s < W (from e)) × (W (to e) ≤ s + lag e)
-      × right (from e) (to e) s x =
+      × right (from e) (to e) s (Some x) =
       λ exc. let f = r.full e s in_n (omega arith) (omega arith) exc in
       (s, sec.3, omega arith, omega arith, subst (λ z. right (from e) (to e) s z) (same_parcel f.0 x (sym f.1 ∙ at)) f.2) in
       got (λ marked here. let c : W (to e) - lag e ≡ s = omega arith in
@@ -133,7 +133,7 @@ module _ {S : Type 0} (right : ℕ → ℕ → ℕ → S → Type 0) (count n : 
       (λ un. empty_parcel x (sym (r.free e s in_n (omega arith) (omega arith) (λ y. absurd (true≢false (sym y ∙ un)))) ∙ at)))
       (λ ne. empty_parcel x (sym (r.free e s in_n (omega arith) (omega arith) (λ _. ne)) ∙ at))))
     where
-      same_parcel : (y z : S) → some (some (Some y)) ≡ some (some (Some z)) → y ≡ z
+      same_parcel : (y : Option S) (z : S) → some (some y) ≡ some (some (Some z)) → y ≡ Some z
       same_parcel y z e = cc
 
       no_parcel : (z : S) → some none ≡ some (some (Some z)) → ⊥
@@ -142,9 +142,10 @@ module _ {S : Type 0} (right : ℕ → ℕ → ℕ → S → Type 0) (count n : 
       empty_parcel : (z : S) → some (some None) ≡ some (some (Some z)) → ⊥
       empty_parcel z e = cc
 
-  -- a parcel that was sent and is still to be absorbed lies in its slot, or the receiver, whose turn it is to absorb it, has it out
+  -- what was sent in a second and is still to be absorbed, a parcel or none, lies in its slot, or the receiver, whose turn it is to absorb
+  -- it, has it out
   pub stays : (W : ℕ → ℕ) (H : Slots) (m : ℕ → Bool) → Rings W H m → (e s : ℕ) → e < n → s < W (from e) → W (to e) ≤ s + lag e
-      → ((x : S) × (H (slot e s) ≡ some (some (Some x))) × right (from e) (to e) s x)
+      → ((x : Option S) × (H (slot e s) ≡ some (some x)) × right (from e) (to e) s x)
       ⊎ ((W (to e) ≡ s + lag e) × (H (slot e s) ≡ some none))
   stays W H m r e s in_n sent due = by_bool (m e)
       (λ marked. dite (ℕ_discrete (W (to e)) (s + lag e))
@@ -156,7 +157,7 @@ module _ {S : Type 0} (right : ℕ → ℕ → ℕ → S → Type 0) (count n : 
   module _ (W : ℕ → ℕ) (H : Slots) (m : ℕ → Bool) (r : Rings W H m) (p t : ℕ) (here : W p ≡ t) (all : (e : ℕ) → e < n → to e ≡ p
       → m e ≡ true) (W' : ℕ → ℕ) (next : W' p ≡ t + 1) (other : (q : ℕ) → q ≢ p → W' q ≡ W q) (H' : Slots)
       (in_back : (e : ℕ) → e < n → to e ≡ p → lag e ≤ t → H' (slot e (t - lag e)) ≡ some (some None)) (out_back : (e : ℕ) → e < n
-      → from e ≡ p → (x : S) × (H' (slot e t) ≡ some (some (Some x))) × right p (to e) t x)
+      → from e ≡ p → (x : Option S) × (H' (slot e t) ≡ some (some x)) × right p (to e) t x)
       (else : (k : ℕ) → ((e : ℕ) → e < n → to e ≡ p → lag e ≤ t → k ≢ slot e (t - lag e)) → ((e : ℕ) → e < n → from e ≡ p → k ≢ slot e t)
       → H' k ≡ H k) where
     grows : (q : ℕ) → W q ≤ W' q
@@ -184,7 +185,7 @@ module _ {S : Type 0} (right : ℕ → ℕ → ℕ → S → Type 0) (count n : 
         omega arith)
 
     abbrev Full : ℕ → ℕ → Type 0
-    Full e s = (x : S) × (H' (slot e s) ≡ some (some (Some x))) × right (from e) (to e) s x
+    Full e s = (x : Option S) × (H' (slot e s) ≡ some (some x)) × right (from e) (to e) s x
 
     full_in : (e s : ℕ) → e < n → to e ≡ p → W' (to e) ≤ s + lag e → s < W' (from e) → Full e s
     full_in e s in_n is b c =

@@ -26,7 +26,7 @@ seat_here who p j x is = ap (λ b. cond b j (who x)) (eq-eqb x p is)
 seat_else : (who : ℕ → ℕ) (p j x : ℕ) → x ≢ p → seat_at who p j x ≡ who x
 seat_else who p j x ne = ap (λ b. cond b j (who x)) (ne_eqb x p ne)
 
-module _ {R S : Type 0} (right : R → ℕ → ℕ → ℕ → S → Type 0) (run : R) (count n : ℕ) (from to lag twin : ℕ → ℕ) where
+module _ {R S : Type 0} (right : R → ℕ → ℕ → ℕ → Option S → Type 0) (run : R) (count n : ℕ) (from to lag twin : ℕ → ℕ) where
   abbrev St : Type 0
   St = State (Option S) (View R)
 

@@ -30,7 +30,7 @@ not_both Spent a b = true≢false (sym a)
 pub slot_in : (e s n : ℕ) → e < n → slot e s < 64 * n
 slot_in e s n h = let r : ℕ = s % 64 in let b : r < 64 = mod-lt s (omega arith) in omega arith
 
-module _ {R S : Type 0} (right : R → ℕ → ℕ → ℕ → S → Type 0) (run : R) (count n : ℕ) (from to lag twin : ℕ → ℕ) where
+module _ {R S : Type 0} (right : R → ℕ → ℕ → ℕ → Option S → Type 0) (run : R) (count n : ℕ) (from to lag twin : ℕ → ℕ) where
   abbrev pub St : Type 0
   St = State (Option S) (View R)
 
@@ -176,7 +176,7 @@ module _ {R S : Type 0} (right : R → ℕ → ℕ → ℕ → S → Type 0) (ru
         out_there = ap (get_elem? s.homes) (sym out_is) ∙ rings.out_free (right run) count n from to lag twin h.channels W
             (λ k. get_elem? s.homes k) h.marked h.rings border.inward in_n un far
 
-        in_there : border.lag ≤ me.0.done → (x : S) × (get_elem? s.homes in_slot ≡ some (some (Some x)))
+        in_there : border.lag ≤ me.0.done → (x : Option S) × (get_elem? s.homes in_slot ≡ some (some x))
             × ((r : R) → me.0.run ≡ Some r → right r border.from me.0.partition (me.0.done - border.lag) x)
         in_there late = let o = h.ports id me.0 at port in let a = word_is in
             let got = rings.in_full (right run) count n from to lag twin h.channels W
@@ -220,14 +220,14 @@ module _ {R S : Type 0} (right : R → ℕ → ℕ → ℕ → S → Type 0) (ru
         picks = dite (dec_le border.lag me.0.done)
             (λ late. let x = in_there late in (
               marking,
-              chain (takes out_slot None) (takes in_slot (Some x.0)),
+              chain (takes out_slot None) (takes in_slot x.0),
               (out_there, set_else s.homes out_slot in_slot none differ ∙ x.1),
               kept (slice_set (slice_set s.homes out_slot none) in_slot none) (length-set (slice_set s.homes out_slot none) in_slot none
                   ∙ length-set s.homes out_slot none)
                   (set_else (slice_set s.homes out_slot none) in_slot out_slot none (λ e. differ (sym e))
                   ∙ set_here s.homes out_slot none (at_below s.homes out_slot (some None) out_there))
                   (λ _. set_here (slice_set s.homes out_slot none) in_slot none
-                  (subst (λ z. in_slot < z) (sym (length-set s.homes out_slot none)) (at_below s.homes in_slot (some (Some x.0)) x.1)))
+                  (subst (λ z. in_slot < z) (sym (length-set s.homes out_slot none)) (at_below s.homes in_slot (some x.0) x.1)))
                   (λ k a b. set_else (slice_set s.homes out_slot none) in_slot k none (b late) ∙ set_else s.homes out_slot k none a),
               (
                 refl,
@@ -301,15 +301,15 @@ module _ {R S : Type 0} (right : R → ℕ → ℕ → ℕ → S → Type 0) (ru
           (λ st. let q = (both e lt is).0 late in absurd (st.0 q.0 q.1))
           (home_at s.homes me.1 (slot e (t - lag e)))
 
-      out_back : (e : ℕ) → e < n → from e ≡ me.0.partition → (x : S) × (get_elem? put_home (slot e t) ≡ some (some (Some x)))
+      out_back : (e : ℕ) → e < n → from e ≡ me.0.partition → (x : Option S) × (get_elem? put_home (slot e t) ≡ some (some x))
           × right run me.0.partition (to e) t x
       out_back e lt is = let tn = h.channels.twin_in e lt in let ti : to (twin e) ≡ me.0.partition = h.channels.forth e lt ∙ is in ⊎_elim
           (λ c. ⊎_elim
           (λ f. absurd (h.channels.apart e lt (is ∙ sym (ap to (rings.same_slot e t f.0 (t - lag f.0) f.4).0 ∙ f.2))))
           (λ f. let same = (rings.same_slot e t f.0 t f.3).0 in (
-            f.4.0,
-            c.2 (inside e t lt) ∙ ap (λ (y : Option S). some (some y)) f.4.1,
-            subst (λ z. right run me.0.partition (to z) t f.4.0) (sym same) f.4.2,
+            c.0,
+            c.2 (inside e t lt),
+            subst (λ z. right run me.0.partition (to z) t c.0) (sym same) f.4,
           ))
           (good (slot e t) c.0 c.1))
           (λ st. let q = (both (twin e) tn ti).1 in absurd (st.0 q.0

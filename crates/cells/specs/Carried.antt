@@ -1,5 +1,5 @@
 -- What a port carries when it publishes.
-use Rattle.std.specs.Prelude.{◌≡◌, ℕ, ◌-◌, ◌<◌, ◌≤◌, ◌⊎◌, List, [], ◌∷◌, Option, Some, None}
+use Rattle.std.specs.Prelude.{◌≡◌, ℕ, ◌-◌, ◌<◌, ◌≤◌, ◌⊎◌, List, [], ◌∷◌, Option, None}
 use Rattle.cells.specs.Rings.{slot}
 
 -- the slot k is carried with the value y
@@ -8,14 +8,14 @@ Carries [] k y = ⊥
 Carries (x ∷ xs) k y = ((x.0 ≡ k) × (x.1 ≡ y)) ⊎ Carries xs k y
 
 -- of partition p, which is about to publish second t
-module _ {S : Type 0} (right : ℕ → ℕ → ℕ → S → Type 0) (n : ℕ) (from to lag twin : ℕ → ℕ) (p t : ℕ) where
+module _ {S : Type 0} (right : ℕ → ℕ → ℕ → Option S → Type 0) (n : ℕ) (from to lag twin : ℕ → ℕ) (p t : ℕ) where
   -- an in-slot, which is empty
   abbrev pub IsEmptied : ℕ → Option S → Type 0
   IsEmptied k y = (e : ℕ) × (e < n) × (to e ≡ p) × (lag e ≤ t) × (k ≡ slot e (t - lag e)) × (y ≡ None)
 
-  -- an out-slot, which has the right parcel
+  -- an out-slot, which has the right parcel, or none where that is right
   abbrev pub IsFilled : ℕ → Option S → Type 0
-  IsFilled k y = (e : ℕ) × (e < n) × (from e ≡ p) × (k ≡ slot e t) × ((x : S) × (y ≡ Some x) × right p (to e) t x)
+  IsFilled k y = (e : ℕ) × (e < n) × (from e ≡ p) × (k ≡ slot e t) × right p (to e) t y
 
   -- nothing else is carried
   abbrev pub AreOfSecond : List (ℕ × Option S) → Type 0

@@ -91,7 +91,7 @@ module _ {P : Type 0} where
   ready_in Taken = 1
   ready_in (Put y) = 1
 
-  -- how many parcels of a neighbour with lag l were taken, where second t is about to be done or being done
+  -- of how many seconds of a neighbour with lag l it was taken what it sent, where second t is about to be done or being done
   abbrev pub taken_by : ℕ → ℕ → Handover P → ℕ
   taken_by l t Awaited = t - l
   taken_by l t (Arrived x) = t - l
@@ -110,10 +110,10 @@ module _ {P : Type 0} where
   slots_of r t =
       cond (leb r.lag t) ((slot r.inward (t - r.lag), None) ∷ (slot r.outward t, None) ∷ []) ((slot r.outward t, None) ∷ [])
 
-  -- the same with the parcel to be sent
-  abbrev pub filled_slots_of : Border → ℕ → P → List (ℕ × Option P)
+  -- the same with what is to be sent, a parcel or none
+  abbrev pub filled_slots_of : Border → ℕ → Option P → List (ℕ × Option P)
   filled_slots_of r t y =
-      cond (leb r.lag t) ((slot r.inward (t - r.lag), None) ∷ (slot r.outward t, Some y) ∷ []) ((slot r.outward t, Some y) ∷ [])
+      cond (leb r.lag t) ((slot r.inward (t - r.lag), None) ∷ (slot r.outward t, y) ∷ []) ((slot r.outward t, y) ∷ [])
 
   -- those of several borders, the last ahead of the others, and then the slots c
   abbrev pub all_slots_of : List Border → ℕ → List ℕ → List (ℕ × Option P) → List (ℕ × Option P)
@@ -126,8 +126,8 @@ AreApart [] = Unit {0}
 AreApart (k ∷ ks) = (contains ks k ≡ false) × AreApart ks
 
 -- what a port holds of one neighbour, beside whether it has marked it and has it in its order: what was sent to it, and what it sends, is
--- right
-module _ {P : Type 0} (right : ℕ → ℕ → ℕ → P → Type 0) (p t : ℕ) (r : Border) (marked ordered : Bool) where
+-- right, be it a parcel or that there is none
+module _ {P : Type 0} (right : ℕ → ℕ → ℕ → Option P → Type 0) (p t : ℕ) (r : Border) (marked ordered : Bool) where
   abbrev pub IsHandover : Handover P → Type 0
   IsHandover Awaited = (marked ≡ false) × (ordered ≡ false)
   IsHandover (Arrived x) = (marked ≡ true) × (ordered ≡ true) × (r.lag ≤ t) × right r.from p (t - r.lag) x
@@ -135,7 +135,7 @@ module _ {P : Type 0} (right : ℕ → ℕ → ℕ → P → Type 0) (p t : ℕ)
   IsHandover (Put y) = (marked ≡ true) × (ordered ≡ true) × right p r.from t y
 
 -- the same of all neighbours
-abbrev pub AreHandovers : {P : Type 0} → (ℕ → ℕ → ℕ → P → Type 0) → ℕ → ℕ → List Border → List ℕ → List ℕ → List (Handover P) → Type 0
+abbrev pub AreHandovers : {P : Type 0} → (ℕ → ℕ → ℕ → Option P → Type 0) → ℕ → ℕ → List Border → List ℕ → List ℕ → List (Handover P) → Type 0
 AreHandovers right p t borders marks order hs = (k : ℕ) → k < length borders
     → IsHandover right p t (border_at borders k) (contains marks (border_at borders k).inward) (contains order k) (handover_at hs k)
 
@@ -152,7 +152,7 @@ module _ {T R P : Type 0} where
   channels_in b = b.channels.items
 
   -- what holds at each moment, whatever the schedule: of each state s of the table that its rule allows
-  pub record IsLawful (right : R → ℕ → ℕ → ℕ → P → Type 0) (b : Board T R P) : Type 0 where
+  pub record IsLawful (right : R → ℕ → ℕ → ℕ → Option P → Type 0) (b : Board T R P) : Type 0 where
     -- the word of a partition is at most a neighbour's word plus the lag from it
     pub near : (s : State (Option P) (View R)) → IsKept right b.table.shared.key s → (e : ℕ) → e < length (channels_in b)
         → word_at s.words (to_of (channels_in b) e) ≤ word_at s.words (from_of (channels_in b) e) + lag_of (channels_in b) e
@@ -161,13 +161,13 @@ module _ {T R P : Type 0} where
         → i < SLOTS → get_elem? s.homes (SLOTS * e + i) ≡ some (some (Some x))
         → (t : ℕ) × (t % SLOTS ≡ i) × (t < word_at s.words (from_of (channels_in b) e))
         × (word_at s.words (to_of (channels_in b) e) ≤ t + lag_of (channels_in b) e)
-        × right (run_of b) (from_of (channels_in b) e) (to_of (channels_in b) e) t x
-    -- each parcel of a second that its sender has done and its receiver is still to absorb lies in its slot and is the right one, unless
-    -- that receiver, which is about to do the very second of absorbing it, has it out
+        × right (run_of b) (from_of (channels_in b) e) (to_of (channels_in b) e) t (Some x)
+    -- of each second that its sender has done and its receiver is still to absorb, what lies in the slot is the right parcel, or none where
+    -- that is right, unless that receiver, which is about to do the very second of absorbing it, has it out
     pub stays : (s : State (Option P) (View R)) → IsKept right b.table.shared.key s → (e t : ℕ) → e < length (channels_in b)
         → t < word_at s.words (from_of (channels_in b) e)
         → word_at s.words (to_of (channels_in b) e) ≤ t + lag_of (channels_in b) e
-        → ((x : P) × (get_elem? s.homes (slot e t) ≡ some (some (Some x)))
+        → ((x : Option P) × (get_elem? s.homes (slot e t) ≡ some (some x))
         × right (run_of b) (from_of (channels_in b) e) (to_of (channels_in b) e) t x)
         ⊎ ((word_at s.words (to_of (channels_in b) e) ≡ t + lag_of (channels_in b) e) × (get_elem? s.homes (slot e t) ≡ some none))
 
@@ -235,7 +235,7 @@ module _ {T R P : Type 0} where
   abbrev pub read_word : Port T R P → ℕ
   read_word p = p.seat.me.0.read_word
 
-  -- how many parcels of neighbour k were taken: those of the seconds below this number, each once
+  -- of how many seconds of neighbour k it was taken what it sent: of those below this number, each once
   abbrev pub taken_count : Port T R P → ℕ → ℕ
   taken_count p k = taken_by (lag_from p k) p.done (handover p k)
 
@@ -248,7 +248,7 @@ module _ {T R P : Type 0} where
       × ((j : ℕ) → j < degree old → j ≢ k → taken_count new j ≡ taken_count old j)
 
   -- it is a port of this board, its neighbours are those of its partition, and what it holds is right
-  pub record IsPort (right : R → ℕ → ℕ → ℕ → P → Type 0) (b : Board T R P) (p : Port T R P) : Type 0 where
+  pub record IsPort (right : R → ℕ → ℕ → ℕ → Option P → Type 0) (b : Board T R P) (p : Port T R P) : Type 0 where
     pub table : p.seat.table_id ≡ b.table.shared.table_id
     pub role : is_port p.seat.me.0.role ≡ true
     pub run : p.seat.me.0.run ≡ Some (run_of b)
@@ -267,7 +267,7 @@ module _ {T R P : Type 0} where
     pub carried : p.seat.me.1 ≡ all_slots_of p.borders.items p.done p.order.items []
 
   -- each port of this board has for neighbours those of its partition by the pairs xs, with the lags from them
-  abbrev pub FollowsPairs : (R → ℕ → ℕ → ℕ → P → Type 0) → Board T R P → List Pair → Type 0
+  abbrev pub FollowsPairs : (R → ℕ → ℕ → ℕ → Option P → Type 0) → Board T R P → List Pair → Type 0
   FollowsPairs right b xs = (p : Port T R P) → IsPort right b p → AreLags xs (partition_of p) (borders_of p)
 
   -- nothing but handovers, and the counts of looks and waits, differs
@@ -282,11 +282,11 @@ module _ {T R P : Type 0} where
   abbrev pub Reads : Port T R P → Port T R P → ℕ → Type 0
   Reads old new k = (looks new ≡ looks old + 1) × (read_partition new ≡ neighbour old k)
 
-  -- at the first ready look of a second the parcel of neighbour k arrives, if there is one for this second; a later one changes nothing
+  -- at the first ready look of a second what neighbour k sent for this second arrives, if its seconds have begun; a later one changes nothing
   abbrev pub Fetches : Port T R P → Port T R P → ℕ → Type 0
   Fetches old new k = (is_awaited (handover old k) ≡ false → handovers_of new ≡ handovers_of old)
       × (is_awaited (handover old k) ≡ true → lag_from old k ≤ done_of old
-      → (x : P) × (handovers_of new ≡ slice_set (handovers_of old) k (Arrived x)))
+      → (x : Option P) × (handovers_of new ≡ slice_set (handovers_of old) k (Arrived x)))
       × (is_awaited (handover old k) ≡ true → done_of old < lag_from old k
       → handovers_of new ≡ slice_set (handovers_of old) k Taken)
 
@@ -305,16 +305,16 @@ module _ {T R P : Type 0} where
   IsUntouched p = (k : ℕ) → k < degree p → (is_awaited (handover p k) ≡ true) ⊎ IsUnread p k
 
   -- PUBLISHING
-  abbrev pub PortCarriesSecond : (R → ℕ → ℕ → ℕ → P → Type 0) → Board T R P → Port T R P → List (ℕ × Option P) → Type 0
+  abbrev pub PortCarriesSecond : (R → ℕ → ℕ → ℕ → Option P → Type 0) → Board T R P → Port T R P → List (ℕ × Option P) → Type 0
   PortCarriesSecond right b p c = let cs : List Channel = b.channels.items in
       AreOfSecond (right (run_of b)) (length cs) (from_of cs) (to_of cs) (lag_of cs) (twin_of cs) p.partition p.done c
 
-  abbrev pub PortCarriesBoth : (R → ℕ → ℕ → ℕ → P → Type 0) → Board T R P → Port T R P → List (ℕ × Option P) → ℕ → Type 0
+  abbrev pub PortCarriesBoth : (R → ℕ → ℕ → ℕ → Option P → Type 0) → Board T R P → Port T R P → List (ℕ × Option P) → ℕ → Type 0
   PortCarriesBoth right b p c e = let cs : List Channel = b.channels.items in
       CarriesBoth (right (run_of b)) (length cs) (from_of cs) (to_of cs) (lag_of cs) (twin_of cs) p.partition p.done c e
 
   -- the port q has put its parcels into the slots of some neighbours, those that its order has no more, and is now p
-  pub record IsFilling (right : R → ℕ → ℕ → ℕ → P → Type 0) (b : Board T R P) (q p : Port T R P) : Type 0 where
+  pub record IsFilling (right : R → ℕ → ℕ → ℕ → Option P → Type 0) (b : Board T R P) (q p : Port T R P) : Type 0 where
     pub seat : (p.seat.table_id ≡ q.seat.table_id) × (p.seat.id ≡ q.seat.id) × (p.seat.me.0 ≡ q.seat.me.0)
     pub partition : p.partition ≡ q.partition
     pub done : p.done ≡ q.done
@@ -325,7 +325,7 @@ module _ {T R P : Type 0} where
     pub fresh : AreApart p.order.items
     pub bounded : (k : ℕ) → contains p.order.items k ≡ true → k < length q.borders.items
     pub waiting : (k : ℕ) → k < length q.borders.items → contains p.order.items k ≡ true
-        → (y : P) × (handover_at p.handovers.items k ≡ Put y) × right (run_of b) q.partition (border_at q.borders.items k).from q.done y
+        → (y : Option P) × (handover_at p.handovers.items k ≡ Put y) × right (run_of b) q.partition (border_at q.borders.items k).from q.done y
     pub through : (k : ℕ) → k < length q.borders.items → contains p.order.items k ≡ false → handover_at p.handovers.items k ≡ Awaited
     pub carried : (d : List (ℕ × Option P)) × (p.seat.me.1 ≡ all_slots_of q.borders.items q.done p.order.items d)
         × PortCarriesSecond right b q d

@@ -1,7 +1,7 @@
 -- The words and the slots of a board, as functions. Each ordered pair of neighbours has a channel, and each channel a ring of 64 slots.
 -- W is the word of a partition (the seconds that it has done), H what lies in a slot (none where it is out with a seat), and m says of a
 -- channel whether its receiver has marked its sender as ready in the second that it is about to do.
-use Rattle.std.specs.Prelude.{◌≡◌, ◌≢◌, ℕ, ◌+◌, ◌-◌, ◌*◌, ◌%◌, ◌<◌, ◌≤◌, Bool, true, false, cond, ◌||◌, eqb, Option, Some, None}
+use Rattle.std.specs.Prelude.{◌≡◌, ◌≢◌, ℕ, ◌+◌, ◌-◌, ◌*◌, ◌%◌, ◌<◌, ◌≤◌, Bool, true, false, cond, ◌||◌, eqb, Option, None}
 use mathlib.Core.Option.{some, none}
 use mathlib.Core.Option as maybe
 use Rattle.cells.specs.declared.TheConstants.{SLOTS}
@@ -33,15 +33,16 @@ clear m to p x = cond (eqb (to x) p) false (m x)
 
 -- What holds between any two steps. A parcel of second s in channel e belongs to its slot while the sender has done more than s seconds
 -- (s < W (from e)) and the receiver is still to absorb it (W (to e) ≤ s + lag e).
-pub record AreRings {S : Type 0} (right : ℕ → ℕ → ℕ → S → Type 0) (n : ℕ) (from to lag twin : ℕ → ℕ) (W : ℕ → ℕ)
+pub record AreRings {S : Type 0} (right : ℕ → ℕ → ℕ → Option S → Type 0) (n : ℕ) (from to lag twin : ℕ → ℕ) (W : ℕ → ℕ)
     (H : ℕ → maybe.Option (maybe.Option (Option S))) (m : ℕ → Bool) : Type 0 where
   -- no word is further than the lag past a neighbour's
   pub near : (e : ℕ) → e < n → W (to e) ≤ W (from e) + lag e
   -- a neighbour that is marked as ready is far enough
   pub ready : (e : ℕ) → e < n → m e ≡ true → W (to e) < W (from e) + lag e
-  -- each parcel that belongs to a slot lies in it and is the right one, but for the one that a receiver with a mark has out
+  -- each parcel that belongs to a slot lies in it and is the right one, but for the one that a receiver with a mark has out; where it is
+  -- right that none was sent, none lies there
   pub full : (e s : ℕ) → e < n → W (to e) ≤ s + lag e → s < W (from e) → (m e ≡ true → W (to e) ≢ s + lag e)
-      → (x : S) × (H (slot e s) ≡ some (some (Some x))) × right (from e) (to e) s x
+      → (x : Option S) × (H (slot e s) ≡ some (some x)) × right (from e) (to e) s x
   -- the slot of that parcel is out
   pub received : (e : ℕ) → e < n → m e ≡ true → lag e ≤ W (to e) → H (slot e (W (to e) - lag e)) ≡ some none
   -- each slot that no parcel belongs to is empty, but for the one that a sender with a mark has out

@@ -128,7 +128,7 @@ port_view r p =
 
 -- `who` is the seat of a partition's port, or 0 where no port's view names it; `marked` says of each channel whether its receiver has
 -- marked it as ready
-module _ {R S : Type 0} (right : R → ℕ → ℕ → ℕ → S → Type 0) (run : R) (count n : ℕ) (from to lag twin : ℕ → ℕ) where
+module _ {R S : Type 0} (right : R → ℕ → ℕ → ℕ → Option S → Type 0) (run : R) (count n : ℕ) (from to lag twin : ℕ → ℕ) where
   -- what is so of the view of a port, at seat j
   pub record IsPortView (words : List ℕ) (who : ℕ → ℕ) (marked : ℕ → Bool) (j : ℕ) (v : View R) : Type 0 where
     pub same_run : v.run ≡ Some run
@@ -162,7 +162,7 @@ module _ {R S : Type 0} (right : R → ℕ → ℕ → ℕ → S → Type 0) (ru
         → (v : View R) × (get_elem? s.views (who p) ≡ some v) × (is_port v.role ≡ true) × (v.partition ≡ p)
 
 -- the rule, for the run, the count and the channels that the table was told
-abbrev pub IsKept : {R S : Type 0} → (R → ℕ → ℕ → ℕ → S → Type 0) → Layout R → State (Option S) (View R) → Type 0
+abbrev pub IsKept : {R S : Type 0} → (R → ℕ → ℕ → ℕ → Option S → Type 0) → Layout R → State (Option S) (View R) → Type 0
 IsKept right about s = let cs : List Channel = about.channels.value.items in
     IsKeptBy right about.run.value about.count (length cs) (from_of cs) (to_of cs) (lag_of cs) (twin_of cs) s
 
@@ -171,16 +171,16 @@ abbrev pub after_look : {R : Type 0} → Border → ℕ → View R → View R
 after_look border n v = record v { looks = v.looks + 1; read_partition = border.from; read_word = n }
 
 module _ {R S : Type 0} where
-  -- the slots that a ready look picks up: that of the parcel to be absorbed, which is right, and the empty one for the parcel to be sent
-  abbrev pub PicksUp : (R → ℕ → ℕ → ℕ → S → Type 0) → Border → Me (Option S) (View R) → List (ℕ × Option S) → Type 0
+  -- the slots that a ready look picks up: that of the parcel to be absorbed, where what lies is right, and the empty one for the parcel to be sent
+  abbrev pub PicksUp : (R → ℕ → ℕ → ℕ → Option S → Type 0) → Border → Me (Option S) (View R) → List (ℕ × Option S) → Type 0
   PicksUp right border m c = (m.0.done < border.lag → c ≡ (slot border.outward m.0.done, None) ∷ m.1)
-      × (border.lag ≤ m.0.done → (x : S)
-      × (c ≡ (slot border.inward (m.0.done - border.lag), Some x) ∷ (slot border.outward m.0.done, None) ∷ m.1)
+      × (border.lag ≤ m.0.done → (x : Option S)
+      × (c ≡ (slot border.inward (m.0.done - border.lag), x) ∷ (slot border.outward m.0.done, None) ∷ m.1)
       × ((r : R) → m.0.run ≡ Some r → right r border.from m.0.partition (m.0.done - border.lag) x))
 
   -- The step of a look: word i was loaded and held n. Not ready, it counts a wait; ready for the first time, it marks the neighbour and
   -- picks up two slots; ready again, it does neither.
-  abbrev pub Looks : (R → ℕ → ℕ → ℕ → S → Type 0) → Border → ℕ → Me (Option S) (View R) → ℕ → Me (Option S) (View R) → Type 0
+  abbrev pub Looks : (R → ℕ → ℕ → ℕ → Option S → Type 0) → Border → ℕ → Me (Option S) (View R) → ℕ → Me (Option S) (View R) → Type 0
   Looks right border i m n w = (i ≡ place border.from)
       × (n + border.lag ≤ m.0.done
       → (contains m.0.marks border.inward ≡ false) × (w ≡ (record (after_look border n m.0) { waits = m.0.waits + 1 }, m.1)))

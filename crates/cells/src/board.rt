@@ -34,12 +34,12 @@ pub struct Hub<T: Traffic> {
 pub enum Handover<P> {
     /// The neighbour was not ready yet.
     Awaited,
-    /// It was ready, and the parcel from it lies in the port.
-    Arrived(P),
-    /// The parcel from it was taken, or there is none for this second.
+    /// It was ready, and the parcel from it lies in the port, or it sent none.
+    Arrived(Option<P>),
+    /// What it sent was taken, or this second is before all that it sends.
     Taken,
-    /// The parcel for it lies in the port, until the second is published.
-    Put(P),
+    /// The parcel for it, or that none is sent to it, lies in the port until the second is published.
+    Put(Option<P>),
 }
 
 /// What a look answers.

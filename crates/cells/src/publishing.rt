@@ -9,7 +9,7 @@ use crate::slots::load_out;
 use crate::table::{Publishing, Traffic};
 use std::mem::replace;
 
-fn take_put<P: Drop>(handover: &mut Handover<P>) -> P
+fn take_put<P: Drop>(handover: &mut Handover<P>) -> Option<P>
     requires { is_put handover.old ≡ true }
     ensures { (handover.old ≡ Handover.Put result) × (handover.new ≡ Handover.Awaited) }
 {
@@ -35,8 +35,8 @@ impl<T: Traffic> Port<T> {
         }
     }
 
-    /// Ends the second that this port is about to do, for which a parcel was put for every neighbour. Once the parcels stand in their
-    /// slots, one atomic store tells all threads that this partition has done `done() + 1` seconds.
+    /// Ends the second that this port is about to do, for which a parcel or that there is none was put for every neighbour. Once the
+    /// parcels stand in their slots, one atomic store tells all threads that this partition has done `done() + 1` seconds.
     pub fn publish(&mut self, board: &Board<T>)
         requires port { IsPort T.right board.now self.old }
         requires all { (k : ℕ) → k < degree self.old → is_put (handover self.old k) ≡ true }

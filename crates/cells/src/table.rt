@@ -1,5 +1,5 @@
 // The types of a board's table, and its rule.
-ghost use Rattle.std.specs.Prelude.{ℕ, []};
+ghost use Rattle.std.specs.Prelude.{ℕ, [], Option};
 
 use atomic_table::{Join, Play, Split, TableRule};
 use std::collections::LinkedList;
@@ -11,11 +11,11 @@ pub trait Traffic {
     /// What all parcels of a board are about.
     type Run;
 
-    /// What one partition sends to a neighbour in one second.
+    /// What one partition sends to a neighbour in one second, where it sends something.
     type Parcel: Drop + Send;
 
-    /// Which parcel is right: of a run, a sender, a receiver and a second.
-    ghost right: { Self.Run → ℕ → ℕ → ℕ → Self.Parcel → Type 0 };
+    /// Of a run, a sender, a receiver and a second: which parcel is right, or that it is right to send none.
+    ghost right: { Self.Run → ℕ → ℕ → ℕ → Option Self.Parcel → Type 0 };
 }
 
 /// One direction between two neighbouring partitions.

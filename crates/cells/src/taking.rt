@@ -8,7 +8,7 @@ use crate::board::{Board, Handover, Port};
 use crate::table::Traffic;
 use std::mem::replace;
 
-fn take_arrived<P: Drop>(handover: &mut Handover<P>) -> P
+fn take_arrived<P: Drop>(handover: &mut Handover<P>) -> Option<P>
     requires { is_arrived handover.old ≡ true }
     ensures { (handover.old ≡ Handover.Arrived result) × (handover.new ≡ Handover.Taken) }
 {
@@ -48,9 +48,10 @@ impl<T: Traffic> Port<T> {
         self.borders[k].lag
     }
 
-    /// The parcel that neighbour `k` sent to this partition in second `done() - lag`. In this second the neighbour was ready, and its
-    /// parcel was not taken yet. So of each neighbour the parcels of the seconds 0, 1, 2 and so on are taken in turn, each once.
-    pub fn take(&mut self, board: &Board<T>, k: usize) -> T::Parcel
+    /// The parcel that neighbour `k` sent to this partition in second `done() - lag`, or `None` where it sent none in it. In this second
+    /// the neighbour was ready, and what it sent was not taken yet. So of each neighbour what it sent in the seconds 0, 1, 2 and so on is
+    /// taken in turn, each once.
+    pub fn take(&mut self, board: &Board<T>, k: usize) -> Option<T::Parcel>
         requires port { IsPort T.right board.now self.old }
         requires neighbour { k < degree self.old }
         requires arrived { is_arrived (handover self.old k) ≡ true }
@@ -65,9 +66,9 @@ impl<T: Traffic> Port<T> {
         take_arrived(&mut self.handovers[k])
     }
 
-    /// Keeps the parcel of second `done()` for neighbour `k` until this second is published. In this second the neighbour was ready and
-    /// its parcel, if there is one, was taken. A second call replaces what the first one put.
-    pub fn put(&mut self, board: &Board<T>, k: usize, parcel: T::Parcel)
+    /// Keeps the parcel of second `done()` for neighbour `k`, or that none is sent to it, until this second is published. In this second
+    /// the neighbour was ready and what it sent was taken. A second call replaces what the first one put.
+    pub fn put(&mut self, board: &Board<T>, k: usize, parcel: Option<T::Parcel>)
         requires port { IsPort T.right board.now self.old }
         requires neighbour { k < degree self.old }
         requires taken { is_taken (handover self.old k) ≡ true }

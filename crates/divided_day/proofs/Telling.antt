@@ -19,15 +19,15 @@ told_more f lists new parts x part before is e =
     is ∙ ap (λ ys. ys ++ x ∷ []) before ∙ ap (λ y. map f (below n) ++ y ∷ []) e
     ∙ sym (ap (λ m. map f (below m)) (length_push parts part) ∙ ap (map f) (below_more n) ∙ map-append f (below n) (n ∷ []))
 
-module _ {T P : Type 0} (see : T → PartView P) (stands : T → Type 0) (t : ℕ) (degree : ℕ → ℕ) (parts : List T) (count k : ℕ) (x : T)
-    (many : length parts ≡ count) (each : EachAt see stands t degree count parts) (lt : k < length parts)
+module _ {T P : Type 0} (nothing : P) (see : T → PartView P) (stands : T → Type 0) (t : ℕ) (degree : ℕ → ℕ)
+    (parts : List T) (count k : ℕ) (x : T) (many : length parts ≡ count) (each : EachAt nothing see stands t degree count parts) (lt : k < length parts)
     (is : x ≡ slice_index_or parts k x) where
   -- the partition at a place
-  pub part_there : IsAt see stands k t (degree k) x
-  part_there = subst (λ (y : T). IsAt see stands k t (degree k) y) (sym is) (each k x (omega arith))
+  pub part_there : IsAt nothing see stands k t (degree k) x
+  part_there = subst (λ (y : T). IsAt nothing see stands k t (degree k) y) (sym is) (each k x (omega arith))
 
-  pub own_there : IsAt see stands (see x).number t (degree (see x).number) x
-  own_there = subst (λ (n : ℕ). IsAt see stands n t (degree n) x) (sym part_there.number) part_there
+  pub own_there : IsAt nothing see stands (see x).number t (degree (see x).number) x
+  own_there = subst (λ (n : ℕ). IsAt nothing see stands n t (degree n) x) (sym part_there.number) part_there
 
   pub number_there : (see x).number < count
   number_there = let e = part_there.number in omega arith

@@ -3,7 +3,7 @@
 ghost use Rattle.std.specs.Prelude.{◌≡◌, ◌-◌, ◌<◌, ℕ, Bool, true, length, if◌then◌else◌, IfOk};
 ghost use Rattle.law_in_range.specs.Setups.{HaveFittingPlans};
 ghost use Rattle.partition.specs.declared.owner.Owner.{Owner};
-ghost use Rattle.step_core.specs.Views.{IsAt};
+ghost use Rattle.step_core.specs.Views.{HasDone, IsAt};
 ghost use Rattle.town.specs.declared.day_input.DayInput.{DayInput};
 ghost use Rattle.divided_day.specs.Days.{net_in, borders_in, told_at, told_in, end_told_in};
 
@@ -29,7 +29,7 @@ pub trait DayPart: Part {
         requires streams { streams run.now ≡ true }
         requires there { (Self.see self.now).number < (Self.net run.now).parts }
         requires some { 0 < (Self.see self.now).seconds }
-        requires at { IsAt Self.see (Self.stands run.now) (Self.see self.now).number (Self.see self.now).seconds
+        requires at { HasDone Self.nothing Self.see (Self.stands run.now) (Self.see self.now).number (Self.see self.now).seconds
             (length (Self.borders run.now (Self.see self.now).number)) self.now }
         ensures { result.now ≡ told_at (day run.now) (owner run.now) (Self.see self.now).number ((Self.see self.now).seconds - 1) };
 
@@ -43,7 +43,7 @@ pub trait DayPart: Part {
     fn finish(self, alloc: Global, run: &Self::Run) -> Result<EventList, AllocError>
         requires given { HaveFittingPlans (day run.now) }
         requires there { (Self.see self).number < (Self.net run.now).parts }
-        requires at { IsAt Self.see (Self.stands run.now) (Self.see self).number (Self.net run.now).end
+        requires at { IsAt Self.nothing Self.see (Self.stands run.now) (Self.see self).number (Self.net run.now).end
             (length (Self.borders run.now (Self.see self).number)) self }
         ensures { IfOk result (λ events. events
             ≡ (if streams run.now then end_told_in (day run.now) (owner run.now) (Self.see self).number

@@ -2,10 +2,14 @@
 //! towns whose nodes have a partition each; tests alone stand on it.
 #![tactic(auto)]
 
+mod first_second;
 mod orders;
+#[cfg(test)]
+mod sending;
 #[cfg(test)]
 mod steps;
 #[cfg(test)]
 mod towns;
 
+pub use first_second::sends_at_first;
 pub use orders::{in_order, one_alone, steps_alone};

@@ -15,8 +15,8 @@ use step_core::{Core, Step};
 /// The partitions of a day at their start.
 fn start<T: DayPart>(alloc: Global, run: &T::Run) -> Result<Core<T>, AllocError>
     requires given { HaveFittingPlans (T.day run.now) }
-    ensures core { IfOk result (λ core. IsCore (T.net run.now) (T.borders run.now) T.see (T.stands run.now) T.spent (T.right run.now)
-        core.done.items core.stopped.items core.borders.items core.parts.items core.boxes.items) }
+    ensures core { IfOk result (λ core. IsCore T.nothing (T.net run.now) (T.borders run.now) T.see (T.stands run.now) T.spent
+        (T.right run.now) core.done.items core.stopped.items core.borders.items core.parts.items core.wheels.items) }
     ensures start { IfOk result (λ core. AllAt (T.net run.now).parts 0 core.done.items core.stopped.items) }
 {
     Core::<T>::new(alloc, run)

@@ -1,6 +1,7 @@
 pub mod Lists
 pub mod Places
 pub mod Filling
+pub mod Noting
 pub mod Without
 pub mod Coming
 pub mod Right

@@ -69,8 +69,8 @@ fn bring_riders_of(
     bring_riders(day, vehicle.id, &vehicle.riders.rows, elements, persons)
 }
 
-/// The link of a vehicle.
-fn link_of(vehicle: &Vehicle) -> u32
+/// The link of a vehicle: that of its place on its route.
+pub fn link_of(vehicle: &Vehicle) -> u32
     ensures { result ≡ get_or vehicle.now.route vehicle.now.place 0 }
 {
     let place = vehicle.place as usize;
@@ -139,8 +139,8 @@ fn bring_flights(
     Ok(())
 }
 
-/// Takes in what was in a parcel of this second: persons come to the partition, and to `entering` the vehicles that come to its links, in order.
-/// Answers how many vehicles left the queues of links that begin here.
+/// Takes in what was in a parcel of this second: persons come to the partition, and to `entering` the vehicles that come to its links, in
+/// order. Answers how many vehicles left the queues of links that begin here.
 ///
 /// # Errors
 ///

@@ -1,6 +1,6 @@
 //! What a partition sends to a neighbour in a second.
 
-ghost use Rattle.std.specs.Prelude.{◌≡◌, [], ◌∷◌, IfOk, OnOk, MatchOption};
+ghost use Rattle.std.specs.Prelude.{◌≡◌, true, [], ◌∷◌, IfOk, OnOk, MatchOption};
 ghost use Rattle.parcels.specs.Parcels.{nothing};
 ghost use Rattle.parcels.specs.Sending.{with_vehicles, with_flights, with_freed};
 
@@ -101,11 +101,18 @@ impl Model for Parcel {
 }
 
 impl Parcel {
-    /// A parcel with nothing in it.
-    pub(crate) fn new() -> Parcel
+    /// A parcel with nothing in it. It takes no memory.
+    pub fn new() -> Parcel
         ensures { result ≡ nothing }
     {
         Parcel { contents: None }
+    }
+
+    /// Whether it is seen at once that nothing is in the parcel.
+    pub fn is_nothing(&self) -> bool
+        ensures { result ≡ true → self.now ≡ nothing }
+    {
+        self.contents.is_none()
     }
 
     /// Takes what is in the parcel out, to be filled and put back.

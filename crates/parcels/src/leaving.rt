@@ -1,6 +1,6 @@
 //! What leaves a partition once its second is over.
 
-ghost use Rattle.std.specs.Prelude.{◌≡◌, ℕ, ◌<◌, false, ◌++◌, ◌==◌, [], length, map, filter, replicate, IfOk, OnOk};
+ghost use Rattle.std.specs.Prelude.{◌≡◌, ℕ, ◌<◌, false, ◌++◌, ◌==◌, [], length, map, filter, OnOk};
 ghost use Rattle.std.specs.List.{flat_map};
 ghost use Rattle.law_in_range.specs.Setups.{HaveFittingPlans};
 ghost use Rattle.law_own_seconds.specs.Seconds.{world_driven};
@@ -16,12 +16,13 @@ ghost use Rattle.town.specs.Views.{setup};
 ghost use Rattle.traffic.specs.Lists.{below};
 ghost use Rattle.traffic.specs.Rows.{person_of};
 ghost use Rattle.parcels.specs.Contents.{freed_row, parcel_of};
-ghost use Rattle.parcels.specs.Parcels.{nothing};
+ghost use Rattle.parcels.specs.Parcels.{HasNothing};
 ghost use Rattle.parcels.specs.Sending.{parcel_at, parcel_for, all_gone, riders_of, if_flies};
-ghost use Rattle.parcels.specs.Sending.{AreMore, more_vehicles, more_flights, more_freed};
+ghost use Rattle.parcels.specs.Sending.{AreMore, more_vehicles, more_flights};
 ghost use Rattle.parcels.specs.Leaving.{AreWithout, AreOthers, HaveGone};
 
-use crate::contents::{LeftRows, Parcel};
+use crate::contents::LeftRows;
+use crate::mailbox::Mailbox;
 use crate::sending::{Exits, send_all_freed, send_flights, send_vehicles};
 use node_move::Entering;
 use part_persons::Persons;
@@ -39,29 +40,18 @@ pub struct Leaving {
     pub freed: Vec<LeftRows>,
 }
 
-/// So many parcels with nothing in them.
-fn empty_parcels(alloc: Global, count: usize) -> Result<Vec<Parcel>, AllocError>
-    ensures { IfOk result (λ parcels. parcels.items ≡ replicate count nothing) }
-{
-    let mut parcels = Vec::with_capacity(alloc, count)?;
-    for _place in 0..count {
-        parcels.push(Parcel::new())?;
-    }
-    Ok(parcels)
-}
-
 /// The vehicles go.
 fn fill_vehicles(
     alloc: Global,
     exits: &Exits,
     world: &World,
     entering: Vec<Entering>,
-    parcels: &mut Vec<Parcel>,
+    parcels: &mut Mailbox,
     gone: &mut Vec<u32>,
 ) -> Result<(), AllocError>
     ensures parcels { let own = owner_in exits.now.owner.now.of_node in
         OnOk result (AreMore (more_vehicles (setup exits.now.day.now) own exits.now.borders.now world.now.persons entering.items)
-        parcels.old.items parcels.new.items) }
+        parcels.old parcels.new) }
     ensures gone { OnOk result (gone.new.items ≡ gone.old.items ++ flat_map riders_of entering.items) }
 {
     send_vehicles(alloc, exits, &world.persons, entering, parcels, gone)
@@ -74,32 +64,18 @@ fn fill_flights(
     second: u32,
     world: &World,
     looked: Vec<u32>,
-    parcels: &mut Vec<Parcel>,
+    parcels: &mut Mailbox,
     gone: &mut Vec<u32>,
 ) -> Result<(), AllocError>
     requires plans { length world.now.persons ≡ length exits.now.day.now.chosen.now }
     ensures parcels { let own = owner_in exits.now.owner.now.of_node in
         OnOk result (AreMore (more_flights (setup exits.now.day.now) own exits.now.part exits.now.borders.now second world.now.persons
-        looked.items) parcels.old.items parcels.new.items) }
+        looked.items) parcels.old parcels.new) }
     ensures gone { let own = owner_in exits.now.owner.now.of_node in
         OnOk result (gone.new.items ≡ gone.old.items
         ++ flat_map (if_flies (setup exits.now.day.now) own exits.now.part second world.now.persons) looked.items) }
 {
     send_flights(alloc, exits, second, &world.persons, looked, parcels, gone)
-}
-
-/// It is told whose places came free.
-fn fill_freed(
-    alloc: Global,
-    exits: &Exits,
-    freed: Vec<LeftRows>,
-    parcels: &mut Vec<Parcel>,
-) -> Result<(), AllocError>
-    ensures { let own = owner_in exits.now.owner.now.of_node in
-        OnOk result (AreMore (more_freed (setup exits.now.day.now) own exits.now.borders.now freed.items) parcels.old.items
-        parcels.new.items) }
-{
-    send_all_freed(alloc, exits, freed, parcels)
 }
 
 /// Puts all that leaves into parcels, and tells the numbers of those who go with it.
@@ -109,13 +85,15 @@ fn fill(
     second: u32,
     world: &World,
     leaving: Leaving,
+    parcels: &mut Mailbox,
     gone: &mut Vec<u32>,
-) -> Result<Vec<Parcel>, AllocError>
+) -> Result<(), AllocError>
     requires plans { length world.now.persons ≡ length exits.now.day.now.chosen.now }
+    requires none { HasNothing parcels.old }
     requires empty { gone.old.items ≡ [] }
-    ensures count { IfOk result (λ parcels. length parcels.items ≡ length exits.now.borders.now) }
+    ensures count { OnOk result (length parcels.new ≡ length parcels.old) }
     ensures each { let own = owner_in exits.now.owner.now.of_node in
-        IfOk result (λ parcels. (k : ℕ) → k < length exits.now.borders.now → parcel_at parcels.items k
+        OnOk result ((k : ℕ) → k < length parcels.old → parcel_at parcels.new k
         ≡ parcel_for (setup exits.now.day.now) own exits.now.part exits.now.borders.now second world.now.persons leaving.entering.items
         leaving.looked.items leaving.freed.items k) }
     ensures gone { let own = owner_in exits.now.owner.now.of_node in
@@ -127,11 +105,10 @@ fn fill(
         looked,
         freed,
     } = leaving;
-    let mut parcels = empty_parcels(alloc, exits.borders.len())?;
-    fill_vehicles(alloc, exits, world, entering, &mut parcels, gone)?;
-    fill_flights(alloc, exits, second, world, looked, &mut parcels, gone)?;
-    fill_freed(alloc, exits, freed, &mut parcels)?;
-    Ok(parcels)
+    fill_vehicles(alloc, exits, world, entering, parcels, gone)?;
+    fill_flights(alloc, exits, second, world, looked, parcels, gone)?;
+    send_all_freed(alloc, exits, freed, parcels)?;
+    Ok(())
 }
 
 /// A person goes to another partition.
@@ -152,18 +129,20 @@ fn let_all_go(persons: &mut Persons, gone: Vec<u32>)
     }
 }
 
-/// Makes the parcels of a second, one for each neighbour, and lets all go who are in one of them.
+/// Makes the parcels of a second, one for each neighbour, out of parcels with nothing in them, and lets all go who are in one of them.
+/// Where nothing leaves, nothing is touched.
 ///
 /// # Errors
 ///
-/// `AllocError`: there is no memory for the parcels. The persons are then of no use.
+/// `AllocError`: there is no memory for the parcels. They and the persons are then of no use.
 pub fn send(
     alloc: Global,
     exits: &Exits,
     second: u32,
     leaving: Leaving,
     persons: &mut Persons,
-) -> Result<Vec<Parcel>, AllocError>
+    parcels: &mut Mailbox,
+) -> Result<(), AllocError>
     requires given { HaveFittingPlans exits.now.day.now }
     requires plans { length persons.old.world.persons ≡ length exits.now.day.now.chosen.now }
     requires others { AreOthers exits.now.part exits.now.borders.now }
@@ -179,15 +158,26 @@ pub fn send(
         → person_of i (set_out S own exits.now.part second V) ≡ person_of i V }
     requires freed { map freed_row leaving.freed.items
         ≡ freed_over (setup exits.now.day.now) (owner_in exits.now.owner.now.of_node) exits.now.part second }
-    ensures count { IfOk result (λ parcels. length parcels.items ≡ length exits.now.borders.now) }
+    requires count { length parcels.old ≡ length exits.now.borders.now }
+    requires none { HasNothing parcels.old }
+    ensures count { OnOk result (length parcels.new ≡ length exits.now.borders.now) }
     ensures parcels { let own = owner_in exits.now.owner.now.of_node in let S = setup exits.now.day.now in
-        IfOk result (λ parcels. (k : ℕ) → k < length exits.now.borders.now → parcel_of S second (parcel_at parcels.items k)
+        OnOk result ((k : ℕ) → k < length exits.now.borders.now → parcel_of S second (parcel_at parcels.new k)
         ≡ out S own exits.now.part (border_at exits.now.borders.now k).neighbour second) }
     ensures persons { OnOk result (HaveGone (setup exits.now.day.now) (owner_in exits.now.owner.now.of_node) exits.now.part second
         persons.old persons.new) }
 {
+    parcels.all_taken();
     let mut gone = Vec::new(alloc);
-    let parcels = fill(alloc, exits, second, &persons.world, leaving, &mut gone)?;
+    fill(
+        alloc,
+        exits,
+        second,
+        &persons.world,
+        leaving,
+        parcels,
+        &mut gone,
+    )?;
     let_all_go(persons, gone);
-    Ok(parcels)
+    Ok(())
 }

@@ -5,13 +5,17 @@
 #![tactic(auto)]
 
 mod arriving;
+mod borders;
 mod contents;
 mod hearing;
 mod leaving;
+mod mailbox;
 mod sending;
 
-pub use arriving::arrive;
+pub use arriving::{arrive, link_of};
+pub use borders::borders_at;
 pub use contents::{Contents, Flying, FlyingList, LeftList, LeftRows, Moved, MovedList, Parcel};
 pub use hearing::hear_freed;
 pub use leaving::{Leaving, send};
+pub use mailbox::Mailbox;
 pub use sending::Exits;

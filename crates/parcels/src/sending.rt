@@ -7,13 +7,16 @@ ghost use Rattle.partition.specs.Owned.{owner_in};
 ghost use Rattle.town.specs.Views.{setup};
 ghost use Rattle.traffic.specs.Rows.{nobody};
 ghost use Rattle.traffic.specs.Setup.{row_at};
-ghost use Rattle.parcels.specs.Sending.{place_in, changed_at, with_vehicles, with_flights, with_freed};
+ghost use Rattle.parcels.specs.Sending.{changed_at, with_vehicles, with_flights, with_freed};
 ghost use Rattle.parcels.specs.Sending.{element_of, number_of, riders_of, moved_of, flies_to, flying_of, if_flies};
 ghost use Rattle.parcels.specs.Sending.{vehicle_place, flight_place, freed_place, AreMore};
 ghost use Rattle.parcels.specs.Sending.{more_vehicles, more_flights, more_freed};
 
-use crate::contents::{Flying, LeftRows, Moved, Parcel};
+use crate::borders::place_of;
+use crate::contents::{Flying, LeftRows, Moved};
+use crate::mailbox::Mailbox;
 use events::Rows;
+use lists::push_with_room;
 use node_move::Entering;
 use partition::{Owner, owner_of_link, owner_of_node};
 use rows::{LinkList, act_after};
@@ -31,13 +34,6 @@ pub struct Exits<'a> {
     pub part: u32,
     /// Its neighbours, ascending.
     pub borders: &'a [Border],
-}
-
-/// The place of a partition among these neighbours.
-fn place_of(borders: &[Border], part: u32) -> Option<usize>
-    ensures { result ≡ place_in borders.now part }
-{
-    borders.iter().position(|border| border.neighbour == part)
 }
 
 /// The node at which a link begins; a number that is no link begins at node 0.
@@ -66,7 +62,7 @@ fn put_vehicle(
     alloc: Global,
     place: Option<usize>,
     moved: Moved,
-    parcels: &mut [Parcel],
+    parcels: &mut Mailbox,
 ) -> Result<(), AllocError>
     ensures { OnOk result (parcels.new ≡ changed_at place (with_vehicles (moved ∷ [])) parcels.old) }
 {
@@ -74,7 +70,7 @@ fn put_vehicle(
         return Ok(());
     };
     if place < parcels.len() {
-        parcels[place].add_vehicle(alloc, moved)?;
+        parcels.add_vehicle(alloc, place, moved)?;
     }
     Ok(())
 }
@@ -85,7 +81,7 @@ fn put_flight(
     alloc: Global,
     place: Option<usize>,
     flying: Flying,
-    parcels: &mut [Parcel],
+    parcels: &mut Mailbox,
 ) -> Result<(), AllocError>
     ensures { OnOk result (parcels.new ≡ changed_at place (with_flights (flying ∷ [])) parcels.old) }
 {
@@ -93,7 +89,7 @@ fn put_flight(
         return Ok(());
     };
     if place < parcels.len() {
-        parcels[place].add_flight(alloc, flying)?;
+        parcels.add_flight(alloc, place, flying)?;
     }
     Ok(())
 }
@@ -104,7 +100,7 @@ fn put_freed(
     alloc: Global,
     place: Option<usize>,
     left: LeftRows,
-    parcels: &mut [Parcel],
+    parcels: &mut Mailbox,
 ) -> Result<(), AllocError>
     ensures { OnOk result (parcels.new ≡ changed_at place (with_freed (left ∷ [])) parcels.old) }
 {
@@ -112,7 +108,7 @@ fn put_freed(
         return Ok(());
     };
     if place < parcels.len() {
-        parcels[place].add_freed(alloc, left)?;
+        parcels.add_freed(alloc, place, left)?;
     }
     Ok(())
 }
@@ -132,7 +128,7 @@ fn element_of(persons: &[Person], number: u32) -> u32
 fn elements_of(alloc: Global, persons: &[Person], riders: &[Rider]) -> Result<Rows<u32>, AllocError>
     ensures { IfOk result (λ elements. elements ≡ map (element_of persons.now) riders.now) }
 {
-    let mut rows = Vec::new(alloc);
+    let mut rows = Vec::with_capacity(alloc, riders.len())?;
     let mut rest = riders;
     while let [rider, later @ ..] = rest {
         rows.push(element_of(persons, rider.person))?;
@@ -147,7 +143,7 @@ fn add_riders(riders: &[Rider], gone: &mut Vec<u32>) -> Result<(), AllocError>
 {
     let mut rest = riders;
     while let [rider, later @ ..] = rest {
-        gone.push(rider.person)?;
+        push_with_room(gone, rider.person)?;
         rest = later;
     }
     Ok(())
@@ -173,7 +169,7 @@ fn send_vehicle(
     exits: &Exits,
     persons: &[Person],
     entering: Entering,
-    parcels: &mut [Parcel],
+    parcels: &mut Mailbox,
     gone: &mut Vec<u32>,
 ) -> Result<(), AllocError>
     ensures parcels { OnOk result (parcels.new
@@ -194,7 +190,7 @@ pub(crate) fn send_vehicles(
     exits: &Exits,
     persons: &[Person],
     entering: Vec<Entering>,
-    parcels: &mut [Parcel],
+    parcels: &mut Mailbox,
     gone: &mut Vec<u32>,
 ) -> Result<(), AllocError>
     ensures parcels { let own = owner_in exits.now.owner.now.of_node in
@@ -240,7 +236,7 @@ fn send_flight(
     second: u32,
     persons: &[Person],
     number: u32,
-    parcels: &mut [Parcel],
+    parcels: &mut Mailbox,
     gone: &mut Vec<u32>,
 ) -> Result<(), AllocError>
     requires plans { length persons.now ≡ length exits.now.day.now.chosen.now }
@@ -259,7 +255,7 @@ fn send_flight(
     let Some(part) = flies_to(exits, second, number, person) else {
         return Ok(());
     };
-    gone.push(number)?;
+    push_with_room(gone, number)?;
     let flying = Flying {
         person: number,
         element: person.element,
@@ -274,7 +270,7 @@ pub(crate) fn send_flights(
     second: u32,
     persons: &[Person],
     looked: Vec<u32>,
-    parcels: &mut [Parcel],
+    parcels: &mut Mailbox,
     gone: &mut Vec<u32>,
 ) -> Result<(), AllocError>
     requires plans { length persons.now ≡ length exits.now.day.now.chosen.now }
@@ -296,7 +292,7 @@ fn send_freed(
     alloc: Global,
     exits: &Exits,
     left: LeftRows,
-    parcels: &mut [Parcel],
+    parcels: &mut Mailbox,
 ) -> Result<(), AllocError>
     ensures { OnOk result (parcels.new
         ≡ changed_at (freed_place (setup exits.now.day.now) (owner_in exits.now.owner.now.of_node) exits.now.borders.now left)
@@ -311,7 +307,7 @@ pub(crate) fn send_all_freed(
     alloc: Global,
     exits: &Exits,
     freed: Vec<LeftRows>,
-    parcels: &mut [Parcel],
+    parcels: &mut Mailbox,
 ) -> Result<(), AllocError>
     ensures { let own = owner_in exits.now.owner.now.of_node in
         OnOk result (AreMore (more_freed (setup exits.now.day.now) own exits.now.borders.now freed.items) parcels.old parcels.new) }

@@ -1,7 +1,7 @@
 -- A part absorbs what lies in the places of its inbox, place by place.
-use Rattle.traffic.proofs.Common.{◌≡◌, ℕ, ◌+◌, ◌-◌, ◌<◌, ◌≤◌, List, ◌∙◌, ap, sym, subst, arith, inl, inr}
-use Rattle.traffic.proofs.Common.{cases_lt, length, set, take, get_or-set_same, get_or-set_other, Setup, Option, None}
-use Rattle.std.proofs.lemmas.List.{take_all}
+use Rattle.traffic.proofs.Common.{◌≡◌, ℕ, zero, suc, ◌+◌, ◌-◌, ◌<◌, ◌≤◌, List, ◌∙◌, ap, refl, sym, subst, arith, inl, inr}
+use Rattle.traffic.proofs.Common.{cases_lt, add-one, length, set, take, get_or-set_same, get_or-set_other, Setup}
+use Rattle.std.proofs.lemmas.List.{take_all, get_or_past}
 use Rattle.town.specs.declared.day_input.DayInput.{DayInput}
 use Rattle.town.specs.Views.{setup}
 use Rattle.law_in_range.specs.Setups.{counts_in, HaveFittingPlans}
@@ -25,11 +25,13 @@ use Rattle.divided_day.specs.Borders.{borders_of}
 use Rattle.divided_day.specs.Slots.{AreSlots}
 use Rattle.divided_day.proofs.Whole.{borders_sound}
 use Rattle.parcels.specs.declared.contents.Contents.{Contents}
+use Rattle.parcels.specs.Parcels.{nothing, HasNothing}
 use Rattle.part_seconds.specs.declared.area.Area.{Area}
 use Rattle.part_seconds.specs.Stands.{AreaStands}
-use Rattle.part_absorbing.specs.Absorbed.{IsRight, neighbours_at, HasTakenInIf, HasAbsorbed}
+use Rattle.part_absorbing.specs.Absorbed.{IsRight, neighbours_at, HasTakenIn, HasAbsorbed}
 use Rattle.part_absorbing.proofs.Neighbours.{many, neighbour_is, hears_from}
-use Rattle.part_absorbing.proofs.Steps.{absorbed_next}
+use Rattle.part_absorbing.proofs.Nothing.{none_come}
+use Rattle.part_absorbing.proofs.Steps.{none_absorbed, absorbed_next}
 use Rattle.part_absorbing.proofs.Ready.{ready_stands}
 
 -- what the laws of parcels say of all setups
@@ -49,22 +51,32 @@ TakeIn =
 
 -- INBOXES
 -- the places before one more are empty once that one is
-pub emptied_next : (inbox new : List (Option Contents)) (k : ℕ) → new ≡ set inbox k None → k < length inbox
-    → ((j : ℕ) → j < k → in_place inbox j ≡ None) → (j : ℕ) → j < k + 1 → in_place new j ≡ None
+pub emptied_next : (inbox new : List Contents) (k : ℕ) → new ≡ set inbox k nothing → k < length inbox
+    → ((j : ℕ) → j < k → in_place nothing inbox j ≡ nothing) → (j : ℕ) → j < k + 1 → in_place nothing new j ≡ nothing
 emptied_next inbox new k e lt was j less =
-    ap (λ (xs : List (Option Contents)). in_place xs j) e
+    ap (λ (xs : List Contents). in_place nothing xs j) e
     ∙ elim (cases_lt j k) [
-      | inl before ↦ get_or-set_other inbox k j None None (λ (same : j ≡ k). omega arith) ∙ was j before
+      | inl before ↦ get_or-set_other inbox k j nothing nothing (λ (same : j ≡ k). omega arith) ∙ was j before
       | inr behind ↦
           let same : j ≡ k = omega arith in
-          ap (λ (i : ℕ). in_place (set inbox k None) i) same ∙ get_or-set_same inbox k None None lt
+          ap (λ (i : ℕ). in_place nothing (set inbox k nothing) i) same ∙ get_or-set_same inbox k nothing nothing lt
     ]
 
-pub kept_next : (inbox first new : List (Option Contents)) (k : ℕ) → new ≡ set inbox k None
-    → ((j : ℕ) → k ≤ j → in_place inbox j ≡ in_place first j) → (j : ℕ) → k + 1 ≤ j → in_place new j ≡ in_place first j
+pub kept_next : (inbox first new : List Contents) (k : ℕ) → new ≡ set inbox k nothing
+    → ((j : ℕ) → k ≤ j → in_place nothing inbox j ≡ in_place nothing first j) → (j : ℕ) → k + 1 ≤ j
+    → in_place nothing new j ≡ in_place nothing first j
 kept_next inbox first new k e was j le =
-    ap (λ (xs : List (Option Contents)). in_place xs j) e ∙ get_or-set_other inbox k j None None (λ (same : j ≡ k). omega arith)
-    ∙ was j (omega arith)
+    ap (λ (xs : List Contents). in_place nothing xs j) e
+    ∙ get_or-set_other inbox k j nothing nothing (λ (same : j ≡ k). omega arith) ∙ was j (omega arith)
+
+-- where all places there are are empty, nothing is in any parcel
+pub all_emptied : (inbox : List Contents) (k : ℕ) → length inbox ≤ k → ((j : ℕ) → j < k → in_place nothing inbox j ≡ nothing)
+    → HasNothing inbox
+all_emptied inbox k le was j =
+    elim (cases_lt j k) [
+      | inl lt ↦ was j lt
+      | inr ge ↦ get_or_past inbox j nothing (omega arith)
+    ]
 
 module _ (day : DayInput) (owner : Owner) (given : HaveFittingPlans day) (p t : ℕ) (slots : List ℕ)
     (are : AreSlots (setup day) (owner_in owner.of_node) slots) (makes : MakeReady) (between : AreBetween) (old : Area)
@@ -89,19 +101,28 @@ module _ (day : DayInput) (owner : Owner) (given : HaveFittingPlans day) (p t : 
   becomes = makes S own owner.parts p t all (sound_setup day given) (consistent_setup day given) owner.owned hears
 
   -- one place more
-  pub round : (k s : ℕ) (o : Option Contents) (inbox : List (Option Contents)) (now new : Area) → k < length rows
-      → s ≡ t - (border_at rows k).lag
-      → HasHeard (IsRight S own) p t rows inbox → o ≡ in_place inbox k → HasAbsorbed day own p t (take k all) old now
-      → HasTakenInIf day slots s o now new → HasAbsorbed day own p t (take (k + 1) all) old new
-  round k s o inbox now new lt is heard there g e =
+  pub round : (k s : ℕ) (x : Contents) (inbox : List Contents) (now new : Area) → k < length rows → s ≡ t - (border_at rows k).lag
+      → HasHeard nothing (IsRight S own) p t rows inbox → x ≡ in_place nothing inbox k → HasAbsorbed day own p t (take k all) old now
+      → HasTakenIn day slots s x now new → HasAbsorbed day own p t (take (k + 1) all) old new
+  round k s x inbox now new lt is heard there g e =
       let b = border_at rows k in
       let borders = borders_sound day owner given p in
-      let here : IsHeard (IsRight S own) p t b o
-      = subst (λ (x : Option Contents). IsHeard (IsRight S own) p t b x) (sym there) (heard k lt) in
+      let here : IsHeard nothing (IsRight S own) p t b x
+      = subst (λ (y : Contents). IsHeard nothing (IsRight S own) p t b y) (sym there) (heard k lt) in
       let n = many rows in
       absorbed_next day own p t old h slots are all k b (omega arith) (neighbour_is rows k lt) (borders.each k lt) (borders.lags k lt)
       becomes
-      (λ u. between S own b.neighbour p u) o now new here g (subst (λ (u : ℕ). HasTakenInIf day slots u o now new) is e)
+      (λ u. between S own b.neighbour p u) x now new here g (subst (λ (u : ℕ). HasTakenIn day slots u x now new) is e)
+
+  -- nothing is in any place: the part is as it was
+  pub quiet : (k : ℕ) (inbox : List Contents) → k ≤ length rows → HasHeard nothing (IsRight S own) p t rows inbox → HasNothing inbox
+      → HasAbsorbed day own p t (take k all) old old
+  quiet zero inbox le heard none = none_absorbed day own p t old h
+  quiet (suc k) inbox le heard none =
+      let before = quiet k inbox (omega arith) heard none in
+      let s = t - (border_at rows k).lag in
+      subst (λ (n : ℕ). HasAbsorbed day own p t (take n all) old old) (add-one k)
+      (round k s nothing inbox old old (omega arith) refl heard (sym (none k)) before (none_come day slots s old h.persons.looks))
 
   -- behind the last one
   pub finished : TakeIn → (k : ℕ) (new : Area) → length rows ≤ k → HasAbsorbed day own p t (take k all) old new

@@ -1,8 +1,8 @@
 -- A part absorbs the parcels of its neighbours, one after the other.
 use Rattle.traffic.proofs.Common.{◌≡◌, ℕ, zero, suc, ◌+◌, ◌-◌, ◌<◌, ◌≤◌, true, false, List, [], ◌∷◌}
 use Rattle.traffic.proofs.Common.{◌++◌, ◌∙◌, ap, refl, sym, subst, arith, inl, inr}
-use Rattle.traffic.proofs.Common.{cases_Bool, append-nil, append_assoc, length, get_or, take, drop, map, replicate, Option, None, Some}
-use Rattle.traffic.proofs.Common.{Setup, hole_of}
+use Rattle.traffic.proofs.Common.{cases_Bool, cases_lt, append-nil, append_assoc, length, get_or, take, drop, map, replicate}
+use Rattle.traffic.proofs.Common.{Option, None, Some, Setup, hole_of}
 use Rattle.std.specs.List.{AllByRecursion as Each}
 use Rattle.std.proofs.lemmas.List.{take_more}
 use Rattle.rows.specs.declared.settings.Dwelling.{Dwelling}
@@ -26,6 +26,7 @@ use Rattle.part_nodes.proofs.Entered.{length_all, ComesBy, all_accepted_asleep}
 use Rattle.part_places.specs.Taking.{Taking, AreTakenOf, begins_here}
 use Rattle.parcels.specs.declared.contents.Contents.{Contents}
 use Rattle.parcels.specs.Contents.{parcel_of}
+use Rattle.parcels.specs.Parcels.{nothing}
 use Rattle.parcels.specs.Arriving.{entered}
 use Rattle.parcels.proofs.Coming.{come_next, come_none, same_come}
 use Rattle.parcels.proofs.Lists.{flat_push}
@@ -33,9 +34,10 @@ use Rattle.part_seconds.specs.declared.area.Area.{Area}
 use Rattle.part_seconds.specs.Settling.{places_known}
 use Rattle.part_seconds.specs.Stands.{AreaStands}
 use Rattle.part_seconds.proofs.Leaving.{taken_alike}
-use Rattle.part_absorbing.specs.Absorbed.{IsRight, entered_slots, entering_with, with_rows, places_heard, HasTakenIn, HasTakenInIf}
+use Rattle.part_absorbing.specs.Absorbed.{IsRight, entered_slots, entering_with, with_rows, places_heard, HasTakenIn}
 use Rattle.part_absorbing.specs.Absorbed.{HasAbsorbed}
 use Rattle.part_absorbing.proofs.Borders.{given_is, given_none}
+use Rattle.part_absorbing.proofs.Nothing.{nothing_more}
 use Rattle.part_absorbing.proofs.Freed.{few_heard, can_hear, places_next}
 use Rattle.part_absorbing.proofs.Queues.{all_length, all_other, all_here, none_to}
 use Rattle.part_absorbing.proofs.Vehicles.{come_by, accepted_is}
@@ -280,25 +282,25 @@ module _ (day : DayInput) (own : Owner) (p t : ℕ) (old : Area)
   -- that of the neighbour at this border
   pub absorbed_next : (slots : List ℕ) → AreSlots S own slots → (all : List ℕ) (k : ℕ) (b : Border) → k < length all
       → get_or all k 0 ≡ b.neighbour → near S own b.neighbour p ≡ true → b.lag ≡ lag S own b.neighbour p → IsReadyBy S own p t all
-      → ((s : ℕ) → IsBetween S own b.neighbour p s) → (o : Option Contents) (now new : Area) → IsHeard (IsRight S own) p t b o
-      → HasAbsorbed day own p t (take k all) old now → HasTakenInIf day slots (t - b.lag) o now new
+      → ((s : ℕ) → IsBetween S own b.neighbour p s) → (x : Contents) (now new : Area) → IsHeard nothing (IsRight S own) p t b x
+      → HasAbsorbed day own p t (take k all) old now → HasTakenIn day slots (t - b.lag) x now new
       → HasAbsorbed day own p t (take (k + 1) all) old new
-  absorbed_next slots are all k b lt is other lags becomes between None now new heard g e =
+  absorbed_next slots are all k b lt is other lags becomes between x now new heard g e =
       let q = b.neighbour in
-      let early : t < b.lag = heard in
-      let last : take (k + 1) all ≡ take k all ++ q ∷ []
-      = take_more all k 0 lt ∙ ap (λ (n : ℕ). take k all ++ n ∷ []) is in
-      subst (λ (ns : List ℕ). HasAbsorbed day own p t ns old new) (sym last)
-      (subst (λ (A : Area). HasAbsorbed day own p t (take k all ++ q ∷ []) old A) (sym e)
-      (none_more (take k all) now g q (given_none S own p q t (omega arith))))
-  absorbed_next slots are all k b lt is other lags becomes between (Some x) now new heard g e =
-      let q = b.neighbour in
-      let last : take (k + 1) all ≡ take k all ++ q ∷ []
-      = take_more all k 0 lt ∙ ap (λ (n : ℕ). take k all ++ n ∷ []) is in
-      let split : all ≡ take k all ++ q ∷ drop (suc k) all
-      = split_at k all lt ∙ ap (λ (n : ℕ). take k all ++ n ∷ drop (suc k) all) is in
-      let le : b.lag ≤ t = heard.0 in
-      subst (λ (ns : List ℕ). HasAbsorbed day own p t ns old new) (sym last)
-      (one_more (take k all) now g slots are all (drop (suc k) all) q (t - b.lag) x new other (omega arith) heard.1
-      (between (t - b.lag)) split
-      becomes e)
+      let ns = take k all in
+      let last : take (k + 1) all ≡ ns ++ q ∷ []
+      = take_more all k 0 lt ∙ ap (λ (n : ℕ). ns ++ n ∷ []) is in
+      let split : all ≡ ns ++ q ∷ drop (suc k) all
+      = split_at k all lt ∙ ap (λ (n : ℕ). ns ++ n ∷ drop (suc k) all) is in
+      let more : HasAbsorbed day own p t (ns ++ q ∷ []) old new
+      = elim (cases_lt t b.lag) [
+        | inl early ↦
+            let nothing_came : HasTakenIn day slots (t - b.lag) nothing now new
+            = subst (λ (y : Contents). HasTakenIn day slots (t - b.lag) y now new) (heard.none early) e in
+            let none : given S own p t q ≡ None = given_none S own p q t (omega arith) in
+            none_more ns new (nothing_more day own p t ns slots (t - b.lag) old now new g nothing_came) q none
+        | inr le ↦
+            one_more ns now g slots are all (drop (suc k) all) q (t - b.lag) x new other (omega arith) (heard.came le)
+            (between (t - b.lag)) split becomes e
+      ] in
+      subst (λ (rows : List ℕ). HasAbsorbed day own p t rows old new) (sym last) more

@@ -1,6 +1,6 @@
 -- What absorbing the parcels of neighbours before a second makes of a part, list by list.
 use Rattle.std.specs.Prelude.{◌≡◌, ℕ, ◌+◌, ◌-◌, ◌<◌, Bool, List, [], ◌∷◌, ◌++◌, length, map, set, get_or}
-use Rattle.std.specs.Prelude.{nat_lt, if◌then◌else◌, Option, None, Some}
+use Rattle.std.specs.Prelude.{nat_lt, if◌then◌else◌, Some}
 use Rattle.traffic.specs.declared.world.Row.{Row}
 use Rattle.traffic.specs.Setup.{Setup, hole_of}
 use Rattle.parts.specs.Owners.{Owner}
@@ -75,11 +75,6 @@ pub record HasTakenIn (day : DayInput) (link_slots : List ℕ) (s : ℕ) (x : Co
   pub nodes : new.network.node_wakes ≡ old.network.node_wakes
   pub queues :
       new.queues.items ≡ recounted_all new.network.links.items (entered_slots link_slots (entering_with day s x)) old.queues.items
-
--- what a parcel makes of it, if there is one
-abbrev pub HasTakenInIf : DayInput → List ℕ → ℕ → Option Contents → Area → Area → Type 0
-HasTakenInIf day link_slots s None old new = new ≡ old
-HasTakenInIf day link_slots s (Some x) old new = HasTakenIn day link_slots s x old new
 
 -- ALL PARCELS
 -- a link with these rows at the end of its queue

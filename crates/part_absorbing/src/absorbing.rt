@@ -1,48 +1,27 @@
 //! The parcels of all neighbours come to a part.
 
-ghost use Rattle.std.specs.Prelude.{◌≡◌, ◌<◌, [], None, length, get_or, set, OnOk};
+ghost use Rattle.std.specs.Prelude.{◌≡◌, ◌<◌, length, OnOk};
 ghost use Rattle.limits.specs.declared.TheConstants.{LAST_SECOND};
 ghost use Rattle.divided_day.specs.Borders.{borders_of};
 ghost use Rattle.law_own_worlds.specs.Days.{world_before};
 ghost use Rattle.law_parcels.specs.Worlds.{world_held};
 ghost use Rattle.partition.specs.Owned.{owner_in};
 ghost use Rattle.parts.specs.Parts.{held, ready};
+ghost use Rattle.parcels.specs.Parcels.{nothing};
 ghost use Rattle.part_seconds.specs.Stands.{AreaStands};
-ghost use Rattle.step_core.specs.Views.{in_place, AreEmpty, HasHeard};
+ghost use Rattle.step_core.specs.Views.{AreEmpty, HasHeard};
 ghost use Rattle.town.specs.Views.{setup};
 ghost use Rattle.part_absorbing.specs.Absorbed.{IsRight};
 
-use crate::taking_in::take_in_if;
+use crate::taking_in::take_in;
 use law_parcels::{own_worlds_go_on, parcels_make_ready};
-use parcels::Parcel;
+use parcels::{Mailbox, borders_at};
 use part_seconds::{Area, Run};
 use std::alloc::AllocError;
-use step_core::{Border, BorderList};
-
-/// The neighbours of a partition, by a table that has those of each by number; a number that the table does not have has none.
-pub fn borders_at(borders: &[BorderList], number: u32) -> &[Border]
-    ensures { result.now ≡ get_or borders.now number [] }
-{
-    let place = number as usize;
-    if place >= borders.len() {
-        return &[];
-    }
-    let list = &borders[place];
-    &list.rows
-}
-
-/// Takes out what lies in the place of a neighbour.
-fn take_out(inbox: &mut Vec<Option<Parcel>>, place: usize) -> Option<Parcel>
-    requires { place < length inbox.old.items }
-    ensures parcel { result ≡ in_place inbox.old.items place }
-    ensures inbox { inbox.new.items ≡ set inbox.old.items place None }
-{
-    inbox[place].take()
-}
 
 /// A part takes in the parcels of its neighbours before a second, in their order: of each the one that was sent as many seconds before as
-/// the lag from it has, where that is a second of the day. The part is then what it has to be as its second begins, and the places of the
-/// parcels are empty.
+/// the lag from it has, where that is a second of the day. The part is then what it has to be as its second begins, and nothing is in the
+/// parcels any more. Where it is seen at once that nothing is in them, none is looked at.
 ///
 /// # Errors
 ///
@@ -52,7 +31,7 @@ pub fn absorb(
     run: &Run,
     number: u32,
     second: u32,
-    inbox: &mut Vec<Option<Parcel>>,
+    inbox: &mut Mailbox,
 ) -> Result<(), AllocError>
     requires second_in { second < LAST_SECOND }
     requires in_day { second < run.now.day.now.town.now.settings.end_second }
@@ -60,21 +39,25 @@ pub fn absorb(
     requires stands { let own = owner_in run.now.owner.now.of_node in let S = setup run.now.day.now in
         AreaStands run.now.day.now own number second second second area.old (held S own number second) (world_held S own number second) }
     requires heard { let own = owner_in run.now.owner.now.of_node in let S = setup run.now.day.now in
-        HasHeard (IsRight S own) number second (borders_of S own run.now.owner.now.parts number) inbox.old.items }
+        HasHeard nothing (IsRight S own) number second (borders_of S own run.now.owner.now.parts number) inbox.old }
     requires places { let own = owner_in run.now.owner.now.of_node in let S = setup run.now.day.now in
-        length inbox.old.items ≡ length (borders_of S own run.now.owner.now.parts number) }
+        length inbox.old ≡ length (borders_of S own run.now.owner.now.parts number) }
     ensures stands { let own = owner_in run.now.owner.now.of_node in let S = setup run.now.day.now in
         OnOk result (AreaStands run.now.day.now own number second second second area.new (ready S own number second)
         (world_before S own number second)) }
-    ensures empty { OnOk result (AreEmpty (length inbox.old.items) inbox.new.items) }
+    ensures empty { OnOk result (AreEmpty nothing (length inbox.old) inbox.new) }
 {
     parcels_make_ready();
     own_worlds_go_on();
+    if !inbox.has_some() {
+        return Ok(());
+    }
     let borders = borders_at(run.borders, number);
     for place in 0..borders.len() {
         let sent = second.saturating_sub(borders[place].lag);
-        let parcel = take_out(inbox, place);
-        take_in_if(area, run, sent, parcel)?;
+        let parcel = inbox.take(place);
+        take_in(area, run, sent, parcel)?;
     }
+    inbox.all_taken();
     Ok(())
 }

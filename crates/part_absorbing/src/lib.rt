@@ -5,4 +5,4 @@
 mod absorbing;
 mod taking_in;
 
-pub use absorbing::{absorb, borders_at};
+pub use absorbing::absorb;

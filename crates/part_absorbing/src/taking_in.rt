@@ -1,33 +1,22 @@
 //! One parcel comes to a part.
 
-ghost use Rattle.std.specs.Prelude.{◌≡◌, ℕ, ◌<◌, Bool, length, get_or, OnOk, IfOk};
+ghost use Rattle.std.specs.Prelude.{◌≡◌, ℕ, ◌<◌, Bool, length, OnOk, IfOk};
 ghost use Rattle.limits.specs.declared.TheConstants.{LAST_SECOND};
 ghost use Rattle.node_seconds.specs.Networks.{slot_in, accepted_all, wakes_after_all};
 ghost use Rattle.parcels.specs.Hearing.{heard_all, CanHearAll};
 ghost use Rattle.part_places.specs.Taking.{Taking, AreTakenOf};
 ghost use Rattle.town.specs.Views.{setup};
-ghost use Rattle.part_absorbing.specs.Absorbed.{entered_slots, recounted, recounted_all, HasTakenIn, HasTakenInIf};
+ghost use Rattle.part_absorbing.specs.Absorbed.{entered_slots, recounted, recounted_all, HasTakenIn};
 
 use calendar::Wakes;
 use node_move::Entering;
 use node_seconds::enter_links;
 use parcels::{Contents, LeftList, Parcel, arrive, hear_freed};
 use part_places::Places;
-use part_seconds::{Area, Run};
+use part_seconds::{Area, Run, slot_of};
 use queue_link::LinkState;
 use std::alloc::{AllocError, Global};
 use town::DayInput;
-
-/// The slot of a link, by a table.
-fn slot_of(link_slots: &[u32], link: u32) -> u32
-    ensures { result ≡ get_or link_slots.now link 0 }
-{
-    let number = link as usize;
-    if number < link_slots.len() {
-        return link_slots[number];
-    }
-    0
-}
 
 /// The slots of the links of these vehicles, in order.
 fn entered_slots(
@@ -37,7 +26,7 @@ fn entered_slots(
 ) -> Result<Vec<u32>, AllocError>
     ensures { IfOk result (λ slots. slots.items ≡ entered_slots link_slots.now entering.now) }
 {
-    let mut slots = Vec::new(alloc);
+    let mut slots = Vec::with_capacity(alloc, entering.len())?;
     for vehicle in entering {
         slots.push(slot_of(link_slots, vehicle.link))?;
     }
@@ -126,7 +115,7 @@ fn take_in_contents(
     requires wakes { length area.old.network.link_wakes ≡ length area.old.network.links.items }
     ensures { OnOk result (HasTakenIn run.now.day.now run.now.link_slots.now second contents area.old area.new) }
 {
-    let mut entering = Vec::new(run.alloc);
+    let mut entering = Vec::with_capacity(run.alloc, contents.vehicles.rows.len())?;
     let freed = arrive(run.day, second, contents, &mut area.persons, &mut entering)?;
     let slots = entered_slots(run.alloc, run.link_slots, &entering)?;
     let network = &mut area.network;
@@ -143,7 +132,12 @@ fn take_in_contents(
 }
 
 /// A part takes in a parcel that was sent in this second. One with nothing in it leaves the part as it is.
-fn take_in(area: &mut Area, run: &Run, second: u32, parcel: Parcel) -> Result<(), AllocError>
+pub(crate) fn take_in(
+    area: &mut Area,
+    run: &Run,
+    second: u32,
+    parcel: Parcel,
+) -> Result<(), AllocError>
     requires second_in { second < LAST_SECOND }
     requires plans { length area.old.persons.world.persons ≡ length run.now.day.now.chosen.now }
     requires looks { length area.old.persons.wakes ≡ length area.old.persons.world.persons }
@@ -154,25 +148,5 @@ fn take_in(area: &mut Area, run: &Run, second: u32, parcel: Parcel) -> Result<()
         return Ok(());
     };
     take_in_contents(area, run, second, contents)?;
-    Ok(())
-}
-
-/// So with a parcel, if there is one.
-pub(crate) fn take_in_if(
-    area: &mut Area,
-    run: &Run,
-    second: u32,
-    parcel: Option<Parcel>,
-) -> Result<(), AllocError>
-    requires second_in { second < LAST_SECOND }
-    requires plans { length area.old.persons.world.persons ≡ length run.now.day.now.chosen.now }
-    requires looks { length area.old.persons.wakes ≡ length area.old.persons.world.persons }
-    requires wakes { length area.old.network.link_wakes ≡ length area.old.network.links.items }
-    ensures { OnOk result (HasTakenInIf run.now.day.now run.now.link_slots.now second parcel area.old area.new) }
-{
-    let Some(parcel) = parcel else {
-        return Ok(());
-    };
-    take_in(area, run, second, parcel)?;
     Ok(())
 }

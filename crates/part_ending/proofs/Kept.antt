@@ -63,6 +63,15 @@ is_right S own p t k borders parcels x many lt is right =
     let there : k < length borders = omega arith in
     ap (parcel_of S t) (is ∙ get_or_default parcels k x nothing lt) ∙ right k there
 
+-- so over lists of borders that are the same
+pub same_right : (S : Setup) (own : Owner) (p t : ℕ) (borders rows : List Border) (parcels : List Contents) → borders ≡ rows
+    → ((k : ℕ) → k < length rows → parcel_of S t (parcel_at parcels k) ≡ out S own p (border_at rows k).neighbour t)
+    → (k : ℕ) → k < length borders
+    → parcel_of S t (parcel_at parcels k) ≡ out S own p (border_at borders k).neighbour t
+same_right S own p t borders rows parcels same right =
+    subst (λ (bs : List Border). (k : ℕ) → k < length bs
+    → parcel_of S t (parcel_at parcels k) ≡ out S own p (border_at bs k).neighbour t) (sym same) right
+
 pub over_next : (S : Setup) (own : Owner) (p t k : ℕ) (borders : List Border) (old now whole : List Stray) → k < length borders
     → now ≡ old ++ strays_to S own p t (here borders k).neighbour → old ++ strays_over S own p t (drop k borders) ≡ whole
     → now ++ strays_over S own p t (drop (k + 1) borders) ≡ whole

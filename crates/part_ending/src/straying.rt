@@ -17,7 +17,7 @@ ghost use Rattle.part_ending.specs.Tables.{with_states, with_links};
 
 use events::VehicleId;
 use limits::MAX_LAG;
-use parcels::{Contents, Flying, Moved, Parcel};
+use parcels::{Contents, Flying, Moved, Parcel, borders_at, link_of};
 use part_seconds::Run;
 use std::alloc::AllocError;
 use step_core::{Border, BorderList};
@@ -32,17 +32,6 @@ pub struct Stray {
     pub link: u32,
     /// At which element of the plan, and where: as the person was sent.
     pub state: Person,
-}
-
-/// The link of a vehicle.
-fn link_of(vehicle: &Vehicle) -> u32
-    ensures { result ≡ get_or vehicle.now.route vehicle.now.place 0 }
-{
-    let place = vehicle.place as usize;
-    if place < vehicle.route.rows.len() {
-        return vehicle.route.rows[place];
-    }
-    0
 }
 
 /// Appends the riders of a vehicle on a link, with their elements.
@@ -159,12 +148,7 @@ fn lag_among(number: u32, borders: &[Border]) -> u32
 fn lag_to(number: u32, receiver: u32, borders: &[BorderList]) -> u32
     ensures { result ≡ lag_among number (get_or borders.now receiver []) }
 {
-    let place = receiver as usize;
-    if place < borders.len() {
-        let own = &borders[place];
-        return lag_among(number, &own.rows);
-    }
-    0
+    lag_among(number, borders_at(borders, receiver))
 }
 
 /// Whether a neighbour would absorb what the partition sends to it in a second only when its day is over.
@@ -228,34 +212,6 @@ fn keep_parcels(
     Ok(())
 }
 
-/// The same, where these are the neighbours of each partition.
-fn keep_all(
-    run: &Run,
-    number: u32,
-    second: u32,
-    lists: &[BorderList],
-    parcels: &[Parcel],
-    strays: &mut Vec<Stray>,
-) -> Result<(), AllocError>
-    requires count { length parcels.now ≡ length (get_or lists.now number []) }
-    requires borders { get_or lists.now number []
-        ≡ borders_of (setup run.now.day.now) (owner_in run.now.owner.now.of_node) run.now.owner.now.parts number }
-    requires right { let own = owner_in run.now.owner.now.of_node in let S = setup run.now.day.now in
-        let borders = get_or lists.now number [] in
-        (k : ℕ) → k < length borders
-        → parcel_of S second (parcel_at parcels.now k) ≡ out S own number (border_at borders k).neighbour second }
-    ensures { OnOk result (strays.new.items ≡ strays.old.items
-        ++ strays_over (setup run.now.day.now) (owner_in run.now.owner.now.of_node) number second (get_or lists.now number [])) }
-{
-    let place = number as usize;
-    if place >= lists.len() {
-        return Ok(());
-    }
-    let own = &lists[place];
-    keep_parcels(run, number, second, &own.rows, parcels, strays)?;
-    Ok(())
-}
-
 /// Keeps all who are in the parcels of a second, one for each neighbour, where the neighbour's day ends before it absorbs them. In the
 /// last `MAX_LAG` seconds of a day alone anybody is kept.
 ///
@@ -285,7 +241,8 @@ pub fn keep_strays(
     if left > MAX_LAG {
         return Ok(());
     }
-    keep_all(run, number, second, run.borders, parcels, strays)?;
+    let borders = borders_at(run.borders, number);
+    keep_parcels(run, number, second, borders, parcels, strays)?;
     Ok(())
 }
 

@@ -7,6 +7,7 @@ ghost use Rattle.law_in_range.specs.Setups.{HaveFittingPlans};
 ghost use Rattle.town.specs.Views.{setup};
 ghost use Rattle.traffic.specs.Day as traffic_day;
 
+use crate::loads::loads_of;
 use crate::runs::{run_of, share};
 use divided_day::divided_day;
 use edge_files::Gate;
@@ -36,7 +37,8 @@ fn events_of<'a, R: Threads + Wait + Sync, G: Gate>(
         let events = divided_day::<TownPart<'a>, G>(run.alloc, run, gate)?;
         return Ok(events);
     }
-    let events = threaded_day::<TownPart<'a>, R, G>(rt, run.alloc, run, workers, gate)?;
+    let loads = loads_of(run.alloc, run.day, run.owner)?;
+    let events = threaded_day::<TownPart<'a>, R, G>(rt, run.alloc, run, workers, &loads, gate)?;
     Ok(events)
 }
 

@@ -3,6 +3,7 @@
 #![tactic(auto)]
 
 mod days;
+mod loads;
 mod runs;
 
 pub use days::day_in_parts;

@@ -2,17 +2,18 @@
 use Rattle.std.proofs.Common.{◌≡◌, ℕ, ◌<◌, Bool, false, List, length, arith}
 use Rattle.std.specs.Prelude.{EachIndex}
 use Rattle.step_core.specs.declared.part.Border.{Border}
+use Rattle.step_core.specs.declared.wheel.Wheel.{Wheel}
 use Rattle.step_core.specs.Nets.{Net}
 use Rattle.step_core.specs.Views.{PartView}
 use Rattle.step_core.specs.Cores.{IsCore, AllAt, done_at, is_stopped}
 
 -- all of them are, where each has done all its seconds
-pub at_end : {T P : Type 0} (N : Net) (borders : ℕ → List Border) (see : T → PartView P) (stands spent : T → Type 0)
+pub at_end : {T P : Type 0} (nothing : P) (N : Net) (borders : ℕ → List Border) (see : T → PartView P) (stands spent : T → Type 0)
     (right : ℕ → ℕ → ℕ → P → Type 0) (done : List ℕ) (stopped : List Bool) (tables : List (List Border)) (parts : List T)
-    (boxes : List (List P)) → IsCore N borders see stands spent right done stopped tables parts boxes
+    (wheels : List (Wheel P)) → IsCore nothing N borders see stands spent right done stopped tables parts wheels
     → EachIndex done (λ p. done_at done p ≡ N.end) → ((p : ℕ) → p < N.parts → is_stopped stopped p ≡ false)
     → AllAt N.parts N.end done stopped
-at_end N borders see stands spent right done stopped tables parts boxes core each goes = record {
+at_end nothing N borders see stands spent right done stopped tables parts wheels core each goes = record {
   all = λ p lt. each p (let d = core.dones in omega arith);
   goes = goes;
 }

@@ -76,11 +76,11 @@ const MOST_TURNS: u32 = 100_000;
 #[tactic(auto, using(crate::proofs::Ended::at_end))]
 pub fn bring_to_end<T: Part>(run: &T::Run, order: &Order, core: &mut Core<T>) -> bool
     requires some { 0 < (T.net run.now).parts }
-    requires core { IsCore (T.net run.now) (T.borders run.now) T.see (T.stands run.now) T.spent (T.right run.now)
-        core.old.done.items core.old.stopped.items core.old.borders.items core.old.parts.items core.old.boxes.items }
+    requires core { IsCore T.nothing (T.net run.now) (T.borders run.now) T.see (T.stands run.now) T.spent (T.right run.now)
+        core.old.done.items core.old.stopped.items core.old.borders.items core.old.parts.items core.old.wheels.items }
     requires start { AllAt (T.net run.now).parts 0 core.old.done.items core.old.stopped.items }
-    ensures core { IsCore (T.net run.now) (T.borders run.now) T.see (T.stands run.now) T.spent (T.right run.now)
-        core.new.done.items core.new.stopped.items core.new.borders.items core.new.parts.items core.new.boxes.items }
+    ensures core { IsCore T.nothing (T.net run.now) (T.borders run.now) T.see (T.stands run.now) T.spent (T.right run.now)
+        core.new.done.items core.new.stopped.items core.new.borders.items core.new.parts.items core.new.wheels.items }
     ensures end { result ≡ true → AllAt (T.net run.now).parts (T.net run.now).end core.new.done.items core.new.stopped.items }
 {
     for turn in 0..MOST_TURNS {
@@ -98,8 +98,8 @@ pub fn bring_to_end<T: Part>(run: &T::Run, order: &Order, core: &mut Core<T>) ->
 /// Asks a partition for its steps, and no other one, until one is not done: how many it did, and what the next one came to; none where
 /// memory is wanting, or it does them without end.
 pub fn steps_of<T: Part>(run: &T::Run, core: &mut Core<T>, number: u32) -> Option<(u32, Step)>
-    requires core { IsCore (T.net run.now) (T.borders run.now) T.see (T.stands run.now) T.spent (T.right run.now)
-        core.old.done.items core.old.stopped.items core.old.borders.items core.old.parts.items core.old.boxes.items }
+    requires core { IsCore T.nothing (T.net run.now) (T.borders run.now) T.see (T.stands run.now) T.spent (T.right run.now)
+        core.old.done.items core.old.stopped.items core.old.borders.items core.old.parts.items core.old.wheels.items }
     requires there { number < (T.net run.now).parts }
 {
     for turn in 0..MOST_TURNS {

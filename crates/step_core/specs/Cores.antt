@@ -1,26 +1,13 @@
--- A core: partitions at their own seconds, and the parcels between them that were sent and not absorbed.
-use Rattle.std.specs.Prelude.{◌≡◌, ℕ, ◌+◌, ◌-◌, ◌*◌, ◌<◌, ◌≤◌, Bool, true, false, List, [], length, get_or, set}
-use Rattle.limits.specs.declared.TheConstants.{MAX_PARTITIONS}
+-- A core: partitions at their own seconds, and what they sent to one another and did not absorb yet.
+use Rattle.std.specs.Prelude.{◌≡◌, ℕ, ◌+◌, ◌<◌, ◌≤◌, Bool, true, false, List, [], length, get_or, set}
 use Rattle.step_core.specs.declared.part.Border.{Border}
 use Rattle.step_core.specs.declared.cores.Step.{Step}
 use Rattle.step_core.specs.declared.cores.Step.TheVariants.{Done, Waits, Ended}
+use Rattle.step_core.specs.declared.wheel.Wheel.{Wheel}
 use Rattle.step_core.specs.Nets.{Net, IsNet, AreBorders, MayStep}
 use Rattle.step_core.specs.Views.{PartView, IsAt}
+use Rattle.step_core.specs.Wheels.{IsWhole, lag_in, IsFilled, HasRoom}
 
--- BOXES
--- the place of the box from a partition to another one, and what lies in it
-abbrev pub place_of : ℕ → ℕ → ℕ
-place_of from to = from * MAX_PARTITIONS + to
-
-abbrev pub box : {P : Type 0} → List (List P) → ℕ → ℕ → List P
-box boxes from to = get_or boxes (place_of from to) []
-
--- a box has the parcels of so many seconds from this one on
-pub record IsBox {P : Type 0} (right : ℕ → P → Type 0) (first count : ℕ) (rows : List P) : Type 0 where
-  pub many : length rows ≡ count
-  pub each : (i : ℕ) (d : P) → i < count → right (first + i) (get_or rows i d)
-
--- THE CORE
 abbrev pub done_at : List ℕ → ℕ → ℕ
 done_at done p = get_or done p 0
 
@@ -28,33 +15,29 @@ done_at done p = get_or done p 0
 abbrev pub is_stopped : List Bool → ℕ → Bool
 is_stopped stopped p = get_or stopped p false
 
--- from which second on parcels from a to b are not absorbed, and how many they are
-abbrev pub first_in : Net → List ℕ → ℕ → ℕ → ℕ
-first_in N done a b = done_at done b - N.lag a b
-
-abbrev pub count_in : Net → List ℕ → ℕ → ℕ → ℕ
-count_in N done a b = done_at done a - first_in N done a b
-
--- Of so many partitions each that goes on stands at its own seconds, each box to it has the parcels that it has not absorbed, and none is
--- further ahead of a neighbour than the lag. Who was stopped found no memory.
-pub record IsCore {T P : Type 0} (N : Net) (borders : ℕ → List Border) (see : T → PartView P) (stands spent : T → Type 0)
+-- Of so many partitions each that goes on stands at its own seconds, its wheel has of each neighbour what that one sent and it has not
+-- absorbed, and none is further ahead of a neighbour than the lag. Who was stopped found no memory.
+pub record IsCore {T P : Type 0} (nothing : P) (N : Net) (borders : ℕ → List Border) (see : T → PartView P) (stands spent : T → Type 0)
     (right : ℕ → ℕ → ℕ → P → Type 0) (done : List ℕ) (stopped : List Bool) (tables : List (List Border)) (parts : List T)
-    (boxes : List (List P)) : Type 0 where
+    (wheels : List (Wheel P)) : Type 0 where
   pub net : IsNet N
   pub dones : length done ≡ N.parts
   pub flags : length stopped ≡ N.parts
   pub lists : length tables ≡ N.parts
   pub many : length parts ≡ N.parts
-  pub places : length boxes ≡ N.parts * MAX_PARTITIONS
+  pub places : length wheels ≡ N.parts
   pub rows : (p : ℕ) → p < N.parts → AreBorders N p (get_or tables p [])
   pub given : (p : ℕ) → p < N.parts → get_or tables p [] ≡ borders p
   pub early : (p : ℕ) → p < N.parts → done_at done p ≤ N.end
   pub close : (a b : ℕ) → N.near a b ≡ true → done_at done a ≤ done_at done b + N.lag b a
-  pub short : (a b : ℕ) → N.near a b ≡ true → length (box boxes a b) ≤ count_in N done a b
-  pub full : (a b : ℕ) → N.near a b ≡ true → is_stopped stopped b ≡ false
-      → IsBox (right a b) (first_in N done a b) (count_in N done a b) (box boxes a b)
+  pub whole : (b : ℕ) (d : Wheel P) → b < N.parts → IsWhole (get_or wheels b d)
+  pub lags : (a b : ℕ) (d : Wheel P) → N.near a b ≡ true → lag_in (get_or wheels b d) a ≡ N.lag a b
+  pub room : (a b : ℕ) (d : Wheel P) → N.near a b ≡ true
+      → HasRoom nothing (done_at done a) (done_at done b) (N.lag a b) a (get_or wheels b d)
+  pub filled : (a b : ℕ) (d : Wheel P) → N.near a b ≡ true → is_stopped stopped b ≡ false
+      → IsFilled nothing (right a b) (done_at done a) (done_at done b) (N.lag a b) a (get_or wheels b d)
   pub members : (p : ℕ) (d : T) → p < N.parts → is_stopped stopped p ≡ false
-      → IsAt see stands p (done_at done p) (length (get_or tables p [])) (get_or parts p d)
+      → IsAt nothing see stands p (done_at done p) (length (get_or tables p [])) (get_or parts p d)
   pub halted : (p : ℕ) (d : T) → p < N.parts → is_stopped stopped p ≡ true → spent (get_or parts p d)
 
 -- what a step on p came to: by the done seconds before it and after it

@@ -1,12 +1,13 @@
--- What a partition takes out of the boxes before a second, and puts into them after it.
-use Rattle.std.specs.Prelude.{◌≡◌, ◌≢◌, ℕ, ◌+◌, ◌-◌, ◌<◌, ◌≤◌, List, [], ◌∷◌, ◌++◌, length, drop, nat_le, if◌then◌else◌, Option, None, Some}
-use Rattle.std.specs.Option.{option_to_list}
+-- What a partition takes out of its wheel before a second, and puts into those of its neighbours after it.
+use Rattle.std.specs.Prelude.{◌≡◌, ◌≢◌, ℕ, ◌+◌, ◌<◌, ◌≤◌, false, List, length, get_or}
 use Rattle.limits.specs.declared.TheConstants.{MAX_PARTITIONS}
 use Rattle.step_core.specs.declared.part.Border.{Border}
 use Rattle.step_core.specs.declared.hearing.Late.{Late}
+use Rattle.step_core.specs.declared.wheel.Wheel.{Wheel}
 use Rattle.step_core.specs.Nets.{border_at}
-use Rattle.step_core.specs.Views.{PartView, Stays, in_place}
-use Rattle.step_core.specs.Cores.{box, place_of, done_at}
+use Rattle.step_core.specs.Views.{PartView, Stays, in_place, IsHeard}
+use Rattle.step_core.specs.Wheels.{IsWhole, row_of, due_in, is_flagged, lies, IsPut}
+use Rattle.step_core.specs.Cores.{done_at}
 
 abbrev pub neighbour_at : List Border → ℕ → ℕ
 neighbour_at rows k = (border_at rows k).neighbour
@@ -14,86 +15,115 @@ neighbour_at rows k = (border_at rows k).neighbour
 abbrev pub lag_at : List Border → ℕ → ℕ
 lag_at rows k = (border_at rows k).lag
 
--- the borders of p: other partitions, ascending, all of them among as many as there may be
-pub record AreApart (p : ℕ) (rows : List Border) : Type 0 where
-  pub few : p < MAX_PARTITIONS
+-- neighbours, ascending, all of them among as many partitions as there may be
+pub record AreListed (rows : List Border) : Type 0 where
   pub each : (k : ℕ) → k < length rows → neighbour_at rows k < MAX_PARTITIONS
-  pub other : (k : ℕ) → k < length rows → neighbour_at rows k ≢ p
   pub ascend : (j k : ℕ) → j < k → k < length rows → neighbour_at rows j < neighbour_at rows k
 
--- each of them has its two boxes among so many
-pub record AreReached (p : ℕ) (rows : List Border) (count : ℕ) : Type 0 where
-  pub there : (k : ℕ) → k < length rows → place_of p (neighbour_at rows k) < count
-  pub back : (k : ℕ) → k < length rows → place_of (neighbour_at rows k) p < count
+-- b is none of the first k of these
+abbrev pub IsBeside : List Border → ℕ → ℕ → Type 0
+IsBeside rows k b = (j : ℕ) → j < k → neighbour_at rows j ≡ b → ⊥
 
--- WHAT IS TAKEN
--- the oldest parcel of a box, where that of second t - lag was sent in the day, and what is left of the box
-abbrev pub first : {P : Type 0} → List P → Option P
-first [] = None
-first (x ∷ xs) = Some x
+module _ {P : Type 0} (nothing : P) where
+  -- WHAT IS TAKEN
+  -- what the first k of the neighbours sent was taken out of the row of second t, and lies in their places
+  pub record HaveHeard (t : ℕ) (rows : List Border) (k : ℕ) (old new : Wheel P) (inbox : List P) : Type 0 where
+    pub whole : IsWhole new
+    pub lags : new.lags.items ≡ old.lags.items
+    pub flags : new.flags.items ≡ old.flags.items
+    pub degree : length inbox ≡ length rows
+    pub came : (j : ℕ) → j < k → in_place nothing inbox j ≡ lies nothing old t (neighbour_at rows j)
+    pub none : (j : ℕ) → k ≤ j → j < length rows → in_place nothing inbox j ≡ nothing
+    pub taken : (j : ℕ) → j < k → lies nothing new t (neighbour_at rows j) ≡ nothing
+    pub rest : (j : ℕ) → k ≤ j → j < length rows → lies nothing new t (neighbour_at rows j) ≡ lies nothing old t (neighbour_at rows j)
+    pub others : (u a : ℕ) → a < MAX_PARTITIONS → row_of u ≢ row_of t → lies nothing new u a ≡ lies nothing old u a
 
-abbrev pub heard : {P : Type 0} → ℕ → ℕ → List P → Option P
-heard t lag rows = if nat_le lag t then first rows else None
+  -- nothing that a neighbour sent lies in the row of second t any more
+  pub record AreTaken (t : ℕ) (rows : List Border) (old new : Wheel P) : Type 0 where
+    pub whole : IsWhole new
+    pub lags : new.lags.items ≡ old.lags.items
+    pub taken : (k : ℕ) → k < length rows → lies nothing new t (neighbour_at rows k) ≡ nothing
+    pub others : (u a : ℕ) → a < MAX_PARTITIONS → row_of u ≢ row_of t → lies nothing new u a ≡ lies nothing old u a
+    pub flags : (u : ℕ) → row_of u ≢ row_of t → is_flagged new u ≡ is_flagged old u
 
-abbrev pub left : {P : Type 0} → ℕ → ℕ → List P → List P
-left t lag rows = if nat_le lag t then drop 1 rows else rows
+  module _ {R T : Type 0} (see : T → PartView P) (stands : R → T → Type 0) where
+    -- a partition that is otherwise as it was has what the first k of its neighbours sent for second t
+    pub record AreHeard (t : ℕ) (rows : List Border) (k : ℕ) (old new : Wheel P) (before after : T) : Type 0 where
+      pub heard : HaveHeard t rows k old new (see after).inbox
+      pub outbox : (see after).outbox ≡ (see before).outbox
+      pub number : (see after).number ≡ (see before).number
+      pub seconds : (see after).seconds ≡ (see before).seconds
+      pub stays : Stays stands before after
 
--- before second t p has taken what the first k of its neighbours sent
-pub record HaveHeard {P : Type 0} (t p : ℕ) (rows : List Border) (k : ℕ) (old new : List (List P)) (inbox : List (Option P))
-    : Type 0 where
-  pub long : length new ≡ length old
-  pub degree : length inbox ≡ length rows
-  pub came : (j : ℕ) → j < k → in_place inbox j ≡ heard t (lag_at rows j) (box old (neighbour_at rows j) p)
-  pub none : (j : ℕ) → k ≤ j → j < length rows → in_place inbox j ≡ None
-  pub taken : (j : ℕ) → j < k → box new (neighbour_at rows j) p ≡ left t (lag_at rows j) (box old (neighbour_at rows j) p)
-  pub rest : (j : ℕ) → k ≤ j → j < length rows → box new (neighbour_at rows j) p ≡ box old (neighbour_at rows j) p
-  pub others : (a b : ℕ) → b < MAX_PARTITIONS → b ≢ p → box new a b ≡ box old a b
+    -- it has what all of them sent for it, and that is taken
+    pub record HasTakenIn (t : ℕ) (rows : List Border) (old new : Wheel P) (before after : T) : Type 0 where
+      pub taken : AreTaken t rows old new
+      pub came : (k : ℕ) → k < length rows → in_place nothing (see after).inbox k ≡ lies nothing old t (neighbour_at rows k)
+      pub degree : length (see after).inbox ≡ length rows
+      pub outbox : (see after).outbox ≡ (see before).outbox
+      pub number : (see after).number ≡ (see before).number
+      pub seconds : (see after).seconds ≡ (see before).seconds
+      pub stays : Stays stands before after
 
--- so has a partition that is otherwise as it was
-pub record IsHearing {R T P : Type 0} (see : T → PartView P) (stands : R → T → Type 0) (t p : ℕ) (rows : List Border) (k : ℕ)
-    (old new : List (List P)) (before after : T) : Type 0 where
-  pub taken : HaveHeard t p rows k old new (see after).inbox
-  pub number : (see after).number ≡ (see before).number
-  pub seconds : (see after).seconds ≡ (see before).seconds
-  pub stays : Stays stands before after
+  -- WHAT IS SENT
+  -- what p, in second t, sends to the first k of its neighbours was put into their wheels
+  pub record HaveSent (t p : ℕ) (rows : List Border) (k : ℕ) (old new : List (Wheel P)) (before outbox : List P) : Type 0 where
+    pub long : length new ≡ length old
+    pub degree : length outbox ≡ length before
+    pub gone : (j : ℕ) → j < k → in_place nothing outbox j ≡ nothing
+    pub kept : (j : ℕ) → k ≤ j → in_place nothing outbox j ≡ in_place nothing before j
+    pub sent : (j : ℕ) (d : Wheel P) → j < k → IsPut nothing (due_in (get_or old (neighbour_at rows j) d) t p) p
+        (in_place nothing before j) (get_or old (neighbour_at rows j) d) (get_or new (neighbour_at rows j) d)
+    pub others : (b : ℕ) (d : Wheel P) → IsBeside rows k b → get_or new b d ≡ get_or old b d
 
--- WHAT IS SENT
--- p has put what it sends to the first k of its neighbours into their boxes
-pub record HaveSent {P : Type 0} (p : ℕ) (rows : List Border) (k : ℕ) (old new : List (List P)) (before outbox : List (Option P))
-    : Type 0 where
-  pub long : length new ≡ length old
-  pub kept : (j : ℕ) → k ≤ j → j < length rows → in_place outbox j ≡ in_place before j
-  pub sent : (j : ℕ) → j < k
-      → box new p (neighbour_at rows j) ≡ box old p (neighbour_at rows j) ++ option_to_list (in_place before j)
-  pub rest : (j : ℕ) → k ≤ j → j < length rows → box new p (neighbour_at rows j) ≡ box old p (neighbour_at rows j)
-  pub others : (a b : ℕ) → b < MAX_PARTITIONS → a ≢ p → box new a b ≡ box old a b
+  module _ {R T : Type 0} (see : T → PartView P) (stands : R → T → Type 0) where
+    -- by a partition that is otherwise as it was
+    pub record AreSent (t p : ℕ) (rows : List Border) (k : ℕ) (old new : List (Wheel P)) (before after : T) : Type 0 where
+      pub sent : HaveSent t p rows k old new (see before).outbox (see after).outbox
+      pub inbox : (see after).inbox ≡ (see before).inbox
+      pub number : (see after).number ≡ (see before).number
+      pub seconds : (see after).seconds ≡ (see before).seconds
+      pub stays : Stays stands before after
 
--- A SECOND
--- the first of these is right
-abbrev pub FirstIs : {P : Type 0} → (P → Type 0) → List P → Type 0
-FirstIs R [] = ⊥
-FirstIs R (x ∷ xs) = R x
+  -- A SECOND
+  -- the wheels are there and whole, and have room for what p sends to its neighbours in second t
+  pub record HaveRoom (t p : ℕ) (rows : List Border) (wheels : List (Wheel P)) : Type 0 where
+    pub few : p < MAX_PARTITIONS
+    pub listed : AreListed rows
+    pub there : (k : ℕ) → k < length rows → neighbour_at rows k < length wheels
+    pub whole : (b : ℕ) (d : Wheel P) → b < length wheels → IsWhole (get_or wheels b d)
+    pub room : (k : ℕ) (d : Wheel P) → k < length rows
+        → lies nothing (get_or wheels (neighbour_at rows k) d) (due_in (get_or wheels (neighbour_at rows k) d) t p) p ≡ nothing
 
--- a box with one right parcel more
-pub record IsFuller {P : Type 0} (R : P → Type 0) (old new : List P) : Type 0 where
-  pub parcel : P
-  pub right : R parcel
-  pub last : new ≡ old ++ parcel ∷ []
+  -- moreover these are others than p, whose own wheel has what they sent for second t, and nothing without a flag
+  pub record IsReady (right : ℕ → ℕ → ℕ → P → Type 0) (t p : ℕ) (rows : List Border) (wheels : List (Wheel P)) : Type 0 where
+    pub have : HaveRoom t p rows wheels
+    pub here : p < length wheels
+    pub other : (k : ℕ) → k < length rows → neighbour_at rows k ≡ p → ⊥
+    pub quiet : (d : Wheel P) → is_flagged (get_or wheels p d) t ≡ false → (k : ℕ) → k < length rows
+        → lies nothing (get_or wheels p d) t (neighbour_at rows k) ≡ nothing
+    pub heard : (k : ℕ) (d : Wheel P) → k < length rows
+        → IsHeard nothing right p t (border_at rows k) (lies nothing (get_or wheels p d) t (neighbour_at rows k))
 
--- before second t p has taken what its neighbours sent, and sent nothing
-pub record HasTaken {P : Type 0} (t p : ℕ) (rows : List Border) (old new : List (List P)) : Type 0 where
-  pub long : length new ≡ length old
-  pub taken : (k : ℕ) → k < length rows → box new (neighbour_at rows k) p ≡ left t (lag_at rows k) (box old (neighbour_at rows k) p)
-  pub others : (a b : ℕ) → b < MAX_PARTITIONS → b ≢ p → box new a b ≡ box old a b
+  -- one right parcel came from a, due in second u
+  pub record IsGiven (R : P → Type 0) (u a : ℕ) (old new : Wheel P) : Type 0 where
+    pub parcel : P
+    pub right : R parcel
+    pub put : IsPut nothing u a parcel old new
 
--- in second t p has taken what its neighbours sent, and sent a right parcel to each
-pub record HasExchanged {P : Type 0} (right : ℕ → ℕ → ℕ → P → Type 0) (t p : ℕ) (rows : List Border) (old new : List (List P))
-    : Type 0 where
-  pub long : length new ≡ length old
-  pub taken : (k : ℕ) → k < length rows → box new (neighbour_at rows k) p ≡ left t (lag_at rows k) (box old (neighbour_at rows k) p)
-  pub sent : (k : ℕ) → k < length rows
-      → IsFuller (right p (neighbour_at rows k) t) (box old p (neighbour_at rows k)) (box new p (neighbour_at rows k))
-  pub others : (a b : ℕ) → b < MAX_PARTITIONS → a ≢ p → b ≢ p → box new a b ≡ box old a b
+  -- before second t p has taken what its neighbours sent, and sent nothing
+  pub record HasTaken (t p : ℕ) (rows : List Border) (old new : List (Wheel P)) : Type 0 where
+    pub long : length new ≡ length old
+    pub taken : (d : Wheel P) → AreTaken t rows (get_or old p d) (get_or new p d)
+    pub others : (b : ℕ) (d : Wheel P) → b ≢ p → get_or new b d ≡ get_or old b d
+
+  -- in second t p has taken what its neighbours sent, and given a right parcel to each
+  pub record HasExchanged (right : ℕ → ℕ → ℕ → P → Type 0) (t p : ℕ) (rows : List Border) (old new : List (Wheel P)) : Type 0 where
+    pub long : length new ≡ length old
+    pub taken : (d : Wheel P) → AreTaken t rows (get_or old p d) (get_or new p d)
+    pub given : (k : ℕ) (d : Wheel P) → k < length rows → IsGiven (right p (neighbour_at rows k) t)
+        (due_in (get_or old (neighbour_at rows k) d) t p) p (get_or old (neighbour_at rows k) d) (get_or new (neighbour_at rows k) d)
+    pub others : (b : ℕ) (d : Wheel P) → b ≢ p → IsBeside rows (length rows) b → get_or new b d ≡ get_or old b d
 
 -- WHO IS LATE
 -- of these borders in second t the first neighbour that is behind by the lag or more, and how many seconds it has done

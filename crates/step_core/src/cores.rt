@@ -1,7 +1,7 @@
 //! The core.
 
-use crate::mailbox::Mailbox;
 use crate::part::{BorderList, Part};
+use crate::wheel::Wheel;
 
 /// The partitions of a run at their own seconds, and what they sent to one another and did not absorb yet.
 #[derive(Drop)]
@@ -13,8 +13,8 @@ pub struct Core<T: Part> {
     /// The neighbours of each.
     pub(crate) borders: Vec<BorderList>,
     pub(crate) parts: Vec<T>,
-    /// The boxes of all ordered pairs, by sender and receiver.
-    pub(crate) boxes: Vec<Mailbox<T::Parcel>>,
+    /// What was sent to each.
+    pub(crate) wheels: Vec<Wheel<T::Parcel>>,
 }
 
 /// What a step on a partition came to.

@@ -1,26 +1,16 @@
 //! What a partition takes from its neighbours before a second, and gives to them after it.
 
-ghost use Rattle.std.specs.Prelude.{◌≡◌, ℕ, ◌+◌, ◌-◌, ◌<◌, ◌≤◌, length, IfNone, IfSome, OnOk, OnErr, IsSome};
+ghost use Rattle.std.specs.Prelude.{◌≡◌, ℕ, ◌+◌, ◌<◌, ◌≤◌, false, length, get_or, set, IfNone, IfSome, OnOk, OnErr};
 ghost use Rattle.limits.specs.declared.TheConstants.{MAX_PARTITIONS};
-ghost use Rattle.step_core.specs.declared.mailbox.TheConstants.{ROOM};
 ghost use Rattle.step_core.specs.Views.{in_place, AreEmpty, IsAt, Stays};
-ghost use Rattle.step_core.specs.Cores.{box, place_of, done_at};
-ghost use Rattle.step_core.specs.Exchanges.{neighbour_at, lag_at, AreApart, AreReached, IsHearing, HaveSent, FirstIs, HasTaken};
-ghost use Rattle.step_core.specs.Exchanges.{HasExchanged, IsFirstLate};
+ghost use Rattle.step_core.specs.Wheels.{IsWhole, due_in, is_flagged, lies, IsPut};
+ghost use Rattle.step_core.specs.Cores.{done_at};
+ghost use Rattle.step_core.specs.Exchanges.{neighbour_at, lag_at, AreListed, AreHeard, HasTakenIn, AreSent, HaveRoom, IsReady};
+ghost use Rattle.step_core.specs.Exchanges.{HasTaken, HasExchanged, IsFirstLate};
 
-use crate::mailbox::Mailbox;
 use crate::part::{Border, Part};
-use limits::MAX_PARTITIONS;
+use crate::wheel::Wheel;
 use std::alloc::AllocError;
-
-/// The place of the box from a partition to another one.
-fn place_of(from: u32, to: u32) -> usize
-    requires from { from < MAX_PARTITIONS }
-    requires to { to < MAX_PARTITIONS }
-    ensures { result ≡ place_of from to }
-{
-    (from * MAX_PARTITIONS + to) as usize
-}
 
 /// A neighbour that is too far behind, and how many seconds it has done.
 #[derive(Clone, Copy, Debug, PartialEq, Eq)]
@@ -48,51 +38,116 @@ pub(crate) fn first_late(borders: &[Border], second: u32, done: &[u32]) -> Optio
     None
 }
 
-/// Partition `number` absorbs the parcel of second `second - lag` of each neighbour, where that is a second of the day.
-fn hear<T: Part>(
-    borders: &[Border],
-    number: u32,
-    second: u32,
-    part: &mut T,
-    boxes: &mut [Mailbox<T::Parcel>],
-)
-    requires apart { AreApart number borders.now }
-    requires reached { AreReached number borders.now (length boxes.old) }
-    requires empty { AreEmpty (length borders.now) (T.see part.old).inbox }
-    requires sent { (k : ℕ) → k < length borders.now → lag_at borders.now k ≤ second
-        → 0 < length (box boxes.old (neighbour_at borders.now k) number) }
-    ensures { IsHearing T.see T.stands second number borders.now (length borders.now) boxes.old boxes.new part.old part.new }
+/// A partition counts in what a neighbour sent, where something is in it.
+fn absorb_some<T: Part>(part: &mut T, place: usize, parcel: T::Parcel)
+    requires there { place < length (T.see part.old).inbox }
+    requires empty { in_place T.nothing (T.see part.old).inbox place ≡ T.nothing }
+    ensures inbox { (T.see part.new).inbox ≡ set (T.see part.old).inbox place parcel }
+    ensures outbox { (T.see part.new).outbox ≡ (T.see part.old).outbox }
+    ensures number { (T.see part.new).number ≡ (T.see part.old).number }
+    ensures seconds { (T.see part.new).seconds ≡ (T.see part.old).seconds }
+    ensures stands { Stays T.stands part.old part.new }
+{
+    if T::is_nothing(&parcel) {
+        return;
+    }
+    part.absorb(place, parcel);
+}
+
+/// A partition absorbs what lies in the row of a second in its wheel.
+fn hear_row<T: Part>(borders: &[Border], second: u32, part: &mut T, wheel: &mut Wheel<T::Parcel>)
+    requires whole { IsWhole wheel.old }
+    requires listed { AreListed borders.now }
+    requires empty { AreEmpty T.nothing (length borders.now) (T.see part.old).inbox }
+    ensures { AreHeard T.nothing T.see T.stands second borders.now (length borders.now) wheel.old wheel.new part.old part.new }
 {
     for place in 0..borders.len() {
-        let border = borders[place];
-        if border.lag <= second {
-            let from = place_of(border.neighbour, number);
-            let parcel = boxes[from].pop();
-            part.absorb(place, parcel);
-        }
+        let sender = borders[place].neighbour;
+        let parcel = wheel.take(second, sender, T::nothing());
+        absorb_some(part, place, parcel);
     }
 }
 
-/// What partition `number` sends to each neighbour goes into its box.
-fn send<T: Part>(borders: &[Border], number: u32, part: &mut T, boxes: &mut [Mailbox<T::Parcel>])
-    requires apart { AreApart number borders.now }
-    requires reached { AreReached number borders.now (length boxes.old) }
-    requires full { (k : ℕ) → k < length borders.now → IsSome (in_place (T.see part.old).outbox k) }
-    requires room { (k : ℕ) → k < length borders.now → length (box boxes.old number (neighbour_at borders.now k)) < ROOM }
-    ensures sent { HaveSent number borders.now (length borders.now) boxes.old boxes.new (T.see part.old).outbox (T.see part.new).outbox }
+/// A partition absorbs what is due in a second, if anything is.
+fn hear<T: Part>(borders: &[Border], second: u32, part: &mut T, wheel: &mut Wheel<T::Parcel>)
+    requires whole { IsWhole wheel.old }
+    requires listed { AreListed borders.now }
+    requires empty { AreEmpty T.nothing (length borders.now) (T.see part.old).inbox }
+    requires quiet { is_flagged wheel.old second ≡ false → (k : ℕ) → k < length borders.now
+        → lies T.nothing wheel.old second (neighbour_at borders.now k) ≡ T.nothing }
+    ensures { HasTakenIn T.nothing T.see T.stands second borders.now wheel.old wheel.new part.old part.new }
+{
+    if !wheel.is_flagged(second) {
+        return;
+    }
+    hear_row(borders, second, part, wheel);
+    wheel.clear_flag(second);
+}
+
+/// What partition `number` sends to a neighbour goes into the wheel of that one, where something is in it.
+fn send_to<T: Part>(
+    number: u32,
+    second: u32,
+    place: usize,
+    part: &mut T,
+    wheel: &mut Wheel<T::Parcel>,
+)
+    requires few { number < MAX_PARTITIONS }
+    requires there { place < length (T.see part.old).outbox }
+    requires whole { IsWhole wheel.old }
+    requires room { lies T.nothing wheel.old (due_in wheel.old second number) number ≡ T.nothing }
+    ensures put { IsPut T.nothing (due_in wheel.old second number) number (in_place T.nothing (T.see part.old).outbox place)
+        wheel.old wheel.new }
+    ensures outbox { (T.see part.new).outbox ≡ set (T.see part.old).outbox place T.nothing }
     ensures inbox { (T.see part.new).inbox ≡ (T.see part.old).inbox }
     ensures number { (T.see part.new).number ≡ (T.see part.old).number }
     ensures seconds { (T.see part.new).seconds ≡ (T.see part.old).seconds }
     ensures stands { Stays T.stands part.old part.new }
 {
+    let parcel = part.outbox(place);
+    if T::is_nothing(&parcel) {
+        return;
+    }
+    wheel.put(second, number, parcel);
+}
+
+/// What partition `number` sends to each neighbour goes into the wheel of that one.
+fn send_each<T: Part>(
+    borders: &[Border],
+    number: u32,
+    second: u32,
+    part: &mut T,
+    wheels: &mut [Wheel<T::Parcel>],
+)
+    requires have { HaveRoom T.nothing second number borders.now wheels.old }
+    requires places { length (T.see part.old).outbox ≡ length borders.now }
+    ensures { AreSent T.nothing T.see T.stands second number borders.now (length borders.now) wheels.old wheels.new part.old part.new }
+{
     for place in 0..borders.len() {
-        let to = place_of(number, borders[place].neighbour);
-        let parcel = part.outbox(place);
-        boxes[to].push(parcel);
+        let to = borders[place].neighbour as usize;
+        send_to(number, second, place, part, &mut wheels[to]);
     }
 }
 
-/// Partition `number` absorbs what is due, does the second, and sends.
+/// The same, if it sends anything.
+fn send<T: Part>(
+    borders: &[Border],
+    number: u32,
+    second: u32,
+    part: &mut T,
+    wheels: &mut [Wheel<T::Parcel>],
+)
+    requires have { HaveRoom T.nothing second number borders.now wheels.old }
+    requires places { length (T.see part.old).outbox ≡ length borders.now }
+    ensures { AreSent T.nothing T.see T.stands second number borders.now (length borders.now) wheels.old wheels.new part.old part.new }
+{
+    if !part.sends() {
+        return;
+    }
+    send_each(borders, number, second, part, wheels);
+}
+
+/// Partition `number` absorbs what is due, does the second, and sends. It takes no memory but what the second takes.
 ///
 /// # Errors
 ///
@@ -103,26 +158,21 @@ pub(crate) fn do_second<T: Part>(
     number: u32,
     second: u32,
     part: &mut T,
-    boxes: &mut [Mailbox<T::Parcel>],
+    wheels: &mut [Wheel<T::Parcel>],
 ) -> Result<(), AllocError>
-    requires apart { AreApart number borders.now }
-    requires reached { AreReached number borders.now (length boxes.old) }
+    requires ready { IsReady T.nothing (T.right run.now) second number borders.now wheels.old }
     requires rows { borders.now ≡ T.borders run.now number }
     requires before_end { second < (T.net run.now).end }
-    requires at { IsAt T.see (T.stands run.now) number second (length borders.now) part.old }
-    requires first { (k : ℕ) → k < length borders.now → lag_at borders.now k ≤ second
-        → FirstIs (T.right run.now (neighbour_at borders.now k) number (second - lag_at borders.now k))
-        (box boxes.old (neighbour_at borders.now k) number) }
-    requires room { (k : ℕ) → k < length borders.now → length (box boxes.old number (neighbour_at borders.now k)) < ROOM }
-    ensures at { OnOk result (IsAt T.see (T.stands run.now) number (second + 1) (length borders.now) part.new) }
-    ensures exchanged { OnOk result (HasExchanged (T.right run.now) second number borders.now boxes.old boxes.new) }
-    ensures taken { OnErr result (HasTaken second number borders.now boxes.old boxes.new) }
+    requires at { IsAt T.nothing T.see (T.stands run.now) number second (length borders.now) part.old }
+    ensures at { OnOk result (IsAt T.nothing T.see (T.stands run.now) number (second + 1) (length borders.now) part.new) }
+    ensures exchanged { OnOk result (HasExchanged T.nothing (T.right run.now) second number borders.now wheels.old wheels.new) }
+    ensures taken { OnErr result (HasTaken T.nothing second number borders.now wheels.old wheels.new) }
     ensures spent { OnErr result (T.spent part.new) }
 {
-    hear(borders, number, second, part, boxes);
+    hear(borders, second, part, &mut wheels[number as usize]);
     if part.second(run).is_err() {
         return Err(AllocError);
     }
-    send(borders, number, part, boxes);
+    send(borders, number, second, part, wheels);
     Ok(())
 }

@@ -5,11 +5,11 @@
 mod cores;
 mod hearing;
 mod laws;
-mod mailbox;
 mod part;
 mod rounds;
 mod starting;
 mod steps;
+mod wheel;
 
 pub use cores::{Core, Step};
 pub use laws::orders_end;

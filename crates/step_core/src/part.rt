@@ -1,8 +1,8 @@
 //! What a partition is to the core.
 
-ghost use Rattle.std.specs.Prelude.{◌≡◌, ◌+◌, ◌<◌, ℕ, List, None, Some, length, set, IfOk, OnOk, OnErr, IsSome};
+ghost use Rattle.std.specs.Prelude.{◌≡◌, ◌+◌, ◌<◌, ℕ, true, false, List, length, set, IfOk, OnOk, OnErr};
 ghost use Rattle.step_core.specs.Nets.{Net};
-ghost use Rattle.step_core.specs.Views.{PartView, in_place, HasHeard, HasSent, IsAt, Stays};
+ghost use Rattle.step_core.specs.Views.{PartView, in_place, AreEmpty, HasHeard, HasSent, HasDone, IsAt, Stays};
 
 use events::Rows;
 use std::alloc::{AllocError, Global};
@@ -28,6 +28,9 @@ pub trait Part: Drop {
     /// What one partition sends to a neighbour in one second.
     type Parcel: Drop;
 
+    /// The parcel with nothing in it, of which there may be many: in most seconds a partition sends nothing to most of its neighbours.
+    ghost nothing: { Self.Parcel };
+
     /// The partitions of a run, and the neighbours of each, ascending, with the lags from them.
     ghost net: { Self.Run → Net };
 
@@ -44,6 +47,14 @@ pub trait Part: Drop {
 
     /// Which parcel is right: of a sender, a receiver and a second.
     ghost right: { Self.Run → ℕ → ℕ → ℕ → Self.Parcel → Type 0 };
+
+    /// A parcel with nothing in it. It takes no memory.
+    fn nothing() -> Self::Parcel
+        ensures { result ≡ nothing };
+
+    /// Whether it is seen at once that nothing is in a parcel.
+    fn is_nothing(parcel: &Self::Parcel) -> bool
+        ensures { result ≡ true → parcel.now ≡ nothing };
 
     /// How many partitions a run has.
     fn count(run: &Self::Run) -> u32
@@ -69,13 +80,15 @@ pub trait Part: Drop {
     /// `AllocError`: there is no memory for it.
     fn start(alloc: Global, run: &Self::Run, number: u32) -> Result<Self, AllocError>
         requires { number < (net run.now).parts }
-        ensures { IfOk result (IsAt see (stands run.now) number 0 (length (borders run.now number))) };
+        ensures { IfOk result (IsAt nothing see (stands run.now) number 0 (length (borders run.now number))) };
 
-    /// Counts in the parcel that neighbour `place` sent, which has to lie there until the next second.
+    /// Counts in the parcel that neighbour `place` sent, which has to lie there until the next second. It need not be called where nothing
+    /// is in it.
     fn absorb(&mut self, place: usize, parcel: Self::Parcel)
         requires there { place < length (see self.old).inbox }
-        requires empty { in_place (see self.old).inbox place ≡ None }
-        ensures inbox { (see self.new).inbox ≡ set (see self.old).inbox place (Some parcel) }
+        requires empty { in_place nothing (see self.old).inbox place ≡ nothing }
+        ensures inbox { (see self.new).inbox ≡ set (see self.old).inbox place parcel }
+        ensures outbox { (see self.new).outbox ≡ (see self.old).outbox }
         ensures number { (see self.new).number ≡ (see self.old).number }
         ensures seconds { (see self.new).seconds ≡ (see self.old).seconds }
         ensures stands { Stays stands self.old self.new };
@@ -88,19 +101,25 @@ pub trait Part: Drop {
     fn second(&mut self, run: &Self::Run) -> Result<(), AllocError>
         requires stands { stands run.now self.old }
         requires before_end { (see self.old).seconds < (net run.now).end }
-        requires heard { HasHeard (right run.now) (see self.old).number (see self.old).seconds
+        requires heard { HasHeard nothing (right run.now) (see self.old).number (see self.old).seconds
             (borders run.now (see self.old).number) (see self.old).inbox }
-        ensures at { OnOk result (IsAt see (stands run.now) (see self.old).number ((see self.old).seconds + 1)
-            (length (see self.old).inbox) self.new) }
-        ensures sent { OnOk result (HasSent (right run.now) (see self.old).number (see self.old).seconds
+        requires places { length (see self.old).inbox ≡ length (borders run.now (see self.old).number) }
+        requires gone { AreEmpty nothing (length (borders run.now (see self.old).number)) (see self.old).outbox }
+        ensures done { OnOk result (HasDone nothing see (stands run.now) (see self.old).number ((see self.old).seconds + 1)
+            (length (borders run.now (see self.old).number)) self.new) }
+        ensures sent { OnOk result (HasSent nothing (right run.now) (see self.old).number (see self.old).seconds
             (borders run.now (see self.old).number) (see self.new).outbox) }
         ensures spent { OnErr result (spent self.new) };
 
+    /// Whether something may be in a parcel that is to go. Where not, nothing has to be taken out.
+    fn sends(&self) -> bool
+        ensures { result ≡ false → (place : ℕ) → in_place nothing (see self.now).outbox place ≡ nothing };
+
     /// Takes out the parcel for neighbour `place`.
     fn outbox(&mut self, place: usize) -> Self::Parcel
-        requires { IsSome (in_place (see self.old).outbox place) }
-        ensures parcel { in_place (see self.old).outbox place ≡ Some result }
-        ensures outbox { (see self.new).outbox ≡ set (see self.old).outbox place None }
+        requires { place < length (see self.old).outbox }
+        ensures parcel { result ≡ in_place nothing (see self.old).outbox place }
+        ensures outbox { (see self.new).outbox ≡ set (see self.old).outbox place nothing }
         ensures inbox { (see self.new).inbox ≡ (see self.old).inbox }
         ensures number { (see self.new).number ≡ (see self.old).number }
         ensures seconds { (see self.new).seconds ≡ (see self.old).seconds }

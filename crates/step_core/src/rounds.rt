@@ -4,7 +4,7 @@ ghost use Rattle.std.specs.Prelude.{◌≡◌, ◌+◌, ◌<◌, IsTrue, ◌↔�
 ghost use Rattle.step_core.specs.Views.{EachAt};
 ghost use Rattle.step_core.specs.Cores.{IsCore, AllAt, done_at};
 
-use crate::cores::{Core, Step};
+use crate::cores::Core;
 use crate::part::Part;
 use edge_files::Gate;
 use std::alloc::AllocError;
@@ -34,7 +34,7 @@ impl<T: Part> Core<T> {
             stopped: _stopped,
             borders: _borders,
             parts,
-            boxes: _boxes,
+            wheels: _wheels,
         } = self;
         parts
     }
@@ -45,30 +45,26 @@ impl<T: Part> Core<T> {
     /// # Errors
     ///
     /// `AllocError`: there was no memory for a second of a partition.
-    #[tactic(auto, using(crate::proofs::Together::each_at))]
+    #[tactic(auto, using(crate::proofs::Together::each_at, crate::proofs::Together::may_in_round))]
     pub fn do_round<G: Gate>(
         &mut self,
         run: &T::Run,
         gate: &G,
         second: u32,
     ) -> Result<(), AllocError>
-        requires core { IsCore (T.net run.now) (T.borders run.now) T.see (T.stands run.now) T.spent (T.right run.now)
-            self.old.done.items self.old.stopped.items self.old.borders.items self.old.parts.items self.old.boxes.items }
+        requires core { IsCore T.nothing (T.net run.now) (T.borders run.now) T.see (T.stands run.now) T.spent (T.right run.now)
+            self.old.done.items self.old.stopped.items self.old.borders.items self.old.parts.items self.old.wheels.items }
         requires at { AllAt (T.net run.now).parts second self.old.done.items self.old.stopped.items }
         requires before_end { second < (T.net run.now).end }
-        ensures core { IsCore (T.net run.now) (T.borders run.now) T.see (T.stands run.now) T.spent (T.right run.now)
-            self.new.done.items self.new.stopped.items self.new.borders.items self.new.parts.items self.new.boxes.items }
+        ensures core { IsCore T.nothing (T.net run.now) (T.borders run.now) T.see (T.stands run.now) T.spent (T.right run.now)
+            self.new.done.items self.new.stopped.items self.new.borders.items self.new.parts.items self.new.wheels.items }
         ensures at { OnOk result (AllAt (T.net run.now).parts (second + 1) self.new.done.items self.new.stopped.items) }
-        ensures each { OnOk result (EachAt T.see (T.stands run.now) (second + 1) (λ p. length (T.borders run.now p))
+        ensures each { OnOk result (EachAt T.nothing T.see (T.stands run.now) (second + 1) (λ p. length (T.borders run.now p))
             (T.net run.now).parts self.new.parts.items) }
     {
         for number in 0..T::count(run) {
             gate.pass(number, second);
-            match self.step(run, number)? {
-                Step::Done => {}
-                Step::Waits { .. } => unreachable!(),
-                Step::Ended => unreachable!(),
-            }
+            self.advance(run, number)?;
         }
         Ok(())
     }
@@ -80,11 +76,11 @@ impl<T: Part> Core<T> {
     ///
     /// `AllocError`: there was no memory for a second of a partition.
     pub fn run<G: Gate>(mut self, run: &T::Run, gate: &G) -> Result<Vec<T>, AllocError>
-        requires core { IsCore (T.net run.now) (T.borders run.now) T.see (T.stands run.now) T.spent (T.right run.now)
-            self.done.items self.stopped.items self.borders.items self.parts.items self.boxes.items }
+        requires core { IsCore T.nothing (T.net run.now) (T.borders run.now) T.see (T.stands run.now) T.spent (T.right run.now)
+            self.done.items self.stopped.items self.borders.items self.parts.items self.wheels.items }
         requires start { AllAt (T.net run.now).parts 0 self.done.items self.stopped.items }
         ensures count { IfOk result (λ parts. length parts.items ≡ (T.net run.now).parts) }
-        ensures ended { IfOk result (λ parts. EachAt T.see (T.stands run.now) (T.net run.now).end
+        ensures ended { IfOk result (λ parts. EachAt T.nothing T.see (T.stands run.now) (T.net run.now).end
             (λ p. length (T.borders run.now p)) (T.net run.now).parts parts.items) }
     {
         for second in 0..T::end(run) {

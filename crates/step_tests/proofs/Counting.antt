@@ -1,10 +1,8 @@
 -- What the calls of the stand-in keep.
-use Rattle.std.proofs.Common.{◌≡◌, ℕ, zero, suc, ◌<◌, List, [], ◌∷◌, length, sym, ap, ◌∙◌, subst, arith}
-use Rattle.std.proofs.Common.{true≢false, Option}
-use Rattle.std.specs.Option.{IsSome}
+use Rattle.std.proofs.Common.{◌≡◌, ℕ, ◌<◌, List, length, sym, ap, ◌∙◌, subst, arith}
 use Rattle.step_core.specs.declared.part.Border.{Border}
 use Rattle.step_core.specs.Nets.{border_at}
-use Rattle.step_core.specs.Views.{Stays, in_place}
+use Rattle.step_core.specs.Views.{Stays}
 use Rattle.step_tests.specs.declared.rows.Row.{Row}
 use Rattle.step_tests.specs.declared.counters.Counter.{Counter}
 use Rattle.step_tests.specs.Rows.{neighbours}
@@ -26,9 +24,3 @@ pub few_in : (r : Row) (x : Counter) (rows : List Border) → Counts r x → row
 few_in r x rows h e =
     subst (λ (list : List Border). (k : ℕ) → k < length list → (border_at list k).neighbour < 64) (sym (e ∙ h.neighbours))
     (all_few r.count r.longest r.end r.sound x.number h.there)
-
--- a place in which something lies is there
-pub is_there : {P : Type 0} (xs : List (Option P)) (k : ℕ) → IsSome (in_place xs k) → k < length xs
-is_there [] k h = absurd (true≢false (sym h))
-is_there (x ∷ xs) zero h = omega arith
-is_there (x ∷ xs) (suc k) h = let l = is_there xs k h in omega arith

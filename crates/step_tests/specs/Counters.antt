@@ -1,6 +1,7 @@
 -- The stand-in for a partition.
 use Rattle.std.specs.Prelude.{◌≡◌, ℕ, ◌<◌, Bool, true, List, length}
 use Rattle.step_core.specs.declared.part.Border.{Border}
+use Rattle.step_core.specs.declared.wheel.Wheel.{Wheel}
 use Rattle.step_core.specs.Views.{PartView}
 use Rattle.step_core.specs.Cores.{IsCore}
 use Rattle.step_tests.specs.declared.rows.Row.{Row}
@@ -29,5 +30,5 @@ pub record IsAsBefore (old new : Counter) : Type 0 where
   pub neighbours : new.neighbours ≡ old.neighbours
 
 -- the parts of a core whose partitions are those of the row
-abbrev pub IsCoreOfRow : Row → List ℕ → List Bool → List (List Border) → List Counter → List (List ℕ) → Type 0
-IsCoreOfRow r = IsCore (net_of r.count r.longest r.end) (neighbours r.count r.longest) view_of (Counts r) IsSpent is_number
+abbrev pub IsCoreOfRow : Row → List ℕ → List Bool → List (List Border) → List Counter → List (Wheel ℕ) → Type 0
+IsCoreOfRow r = IsCore 0 (net_of r.count r.longest r.end) (neighbours r.count r.longest) view_of (Counts r) IsSpent is_number

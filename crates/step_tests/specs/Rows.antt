@@ -36,6 +36,10 @@ behind count longest p = if nat_lt (p + 1) count then Some (border_from longest 
 abbrev pub neighbours : ℕ → ℕ → ℕ → List Border
 neighbours count longest p = option_to_list (before longest p) ++ option_to_list (behind count longest p)
 
--- what q sends to p in second t
+-- whether q sends anything to p in second t
+abbrev pub sends_to : ℕ → ℕ → ℕ → Bool
+sends_to q p t = nat_lt ((t + q * p) % 5) 2
+
+-- what q sends to p in second t, where 0 is nothing
 abbrev pub number_of : ℕ → ℕ → ℕ → ℕ
-number_of q p t = 10000 * t + 100 * q + p
+number_of q p t = if sends_to q p t then 10000 * t + 100 * q + p else 0

@@ -55,7 +55,7 @@ impl Trial {
     #[tactic(auto, using(crate::proofs::Neighbours::net_is, crate::proofs::Neighbours::borders_are))]
     fn start(alloc: Global, run: &Row) -> Option<Trial>
         ensures core { IfSome result (λ t. IsCoreOfRow run.now t.core.done.items t.core.stopped.items t.core.borders.items
-            t.core.parts.items t.core.boxes.items) }
+            t.core.parts.items t.core.wheels.items) }
         ensures many { IfSome result (λ t. length t.done.items ≡ run.now.count) }
     {
         let Ok(core) = Core::<Counter>::new(alloc, run) else {
@@ -70,11 +70,11 @@ impl Trial {
     /// A partition is asked for a step. Whether it comes to what it should; one that finds no memory has to be `poor` and in its second 50.
     fn step(&mut self, run: &Row, number: u32) -> bool
         requires core { IsCoreOfRow run.now self.old.core.done.items self.old.core.stopped.items self.old.core.borders.items
-            self.old.core.parts.items self.old.core.boxes.items }
+            self.old.core.parts.items self.old.core.wheels.items }
         requires many { length self.old.done.items ≡ run.now.count }
         requires there { number < run.now.count }
         ensures core { IsCoreOfRow run.now self.new.core.done.items self.new.core.stopped.items self.new.core.borders.items
-            self.new.core.parts.items self.new.core.boxes.items }
+            self.new.core.parts.items self.new.core.wheels.items }
         ensures many { length self.new.done.items ≡ run.now.count }
     {
         let should = due(run, &self.done, number);
@@ -120,10 +120,11 @@ fn go_right(alloc: Global, run: &Row) -> bool
     true
 }
 
-/// With lags of 1 to 5 seconds, and with lags of 1 alone.
+/// With lags of 1 to 5 seconds, of 2 to 32, as long as they may be, and of 1 alone.
 #[test]
 fn ten_orders(rt: HostRuntime) {
     assert!(rt; go_right(rt.alloc(), &in_row(5, 5, 300)));
+    assert!(rt; go_right(rt.alloc(), &in_row(9, 32, 300)));
     assert!(rt; go_right(rt.alloc(), &in_row(5, 1, 300)));
 }
 

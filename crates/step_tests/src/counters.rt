@@ -1,8 +1,8 @@
 //! A stand-in for a partition.
 
-ghost use Rattle.std.specs.Prelude.{◌≡◌, ℕ, ◌<◌, length, set, None, Some, IfOk};
+ghost use Rattle.std.specs.Prelude.{◌≡◌, ℕ, ◌<◌, false, length, set, IfOk};
 ghost use Rattle.step_core.specs.Nets.{border_at};
-ghost use Rattle.step_core.specs.Views.{AreEmpty, HasSent};
+ghost use Rattle.step_core.specs.Views.{in_place, AreEmpty, HasSent};
 ghost use Rattle.step_tests.specs.Rows.{net_of, neighbours, number_of};
 ghost use Rattle.step_tests.specs.Counters.{view_of, IsAsBefore, Counts, IsSpent, is_number};
 
@@ -10,7 +10,7 @@ use crate::rows::{Row, neighbours_of, number};
 use std::alloc::{AllocError, Global};
 use step_core::{BorderList, Part};
 
-/// A partition that sends numbers to its neighbours, and counts those that it gets.
+/// A partition that sends numbers to its neighbours in some seconds, and counts those that it gets. In its places 0 is nothing.
 #[derive(Drop)]
 pub(crate) struct Counter {
     pub(crate) number: u32,
@@ -22,8 +22,8 @@ pub(crate) struct Counter {
     /// Those of them that were not the right ones.
     pub(crate) wrong: u64,
     pub(crate) neighbours: BorderList,
-    pub(crate) inbox: Vec<Option<u64>>,
-    pub(crate) outbox: Vec<Option<u64>>,
+    pub(crate) inbox: Vec<u64>,
+    pub(crate) outbox: Vec<u64>,
 }
 
 /// Whether a partition is the one that finds no memory.
@@ -35,20 +35,32 @@ fn is_poor(run: &Row, number: u32) -> bool {
 }
 
 /// So many empty places.
-fn places(alloc: Global, count: usize) -> Result<Vec<Option<u64>>, AllocError>
-    ensures { IfOk result (λ v. AreEmpty count v.items) }
+fn places(alloc: Global, count: usize) -> Result<Vec<u64>, AllocError>
+    ensures { IfOk result (λ v. AreEmpty 0 count v.items) }
 {
     let mut places = Vec::with_capacity(alloc, count)?;
     for _place in 0..count {
-        places.push(None)?;
+        places.push(0)?;
     }
     Ok(places)
+}
+
+/// Whether a number lies in one of these places.
+fn has_number(places: &[u64]) -> bool
+    ensures { result ≡ false → (k : ℕ) → in_place 0 places.now k ≡ 0 }
+{
+    for parcel in places {
+        if *parcel != 0 {
+            return true;
+        }
+    }
+    false
 }
 
 impl Counter {
     /// Counts what lies in its places, and empties them.
     fn hear(&mut self)
-        ensures inbox { AreEmpty (length self.old.inbox.items) self.new.inbox.items }
+        ensures inbox { AreEmpty 0 (length self.old.inbox.items) self.new.inbox.items }
         ensures same { IsAsBefore self.old self.new }
         ensures outbox { self.new.outbox.items ≡ self.old.outbox.items }
     {
@@ -60,22 +72,24 @@ impl Counter {
     /// Counts what lies in the place of a neighbour, and empties it.
     fn hear_from(&mut self, place: usize)
         requires { place < length self.old.inbox.items }
-        ensures inbox { self.new.inbox.items ≡ set self.old.inbox.items place None }
+        ensures inbox { self.new.inbox.items ≡ set self.old.inbox.items place 0 }
         ensures same { IsAsBefore self.old self.new }
         ensures outbox { self.new.outbox.items ≡ self.old.outbox.items }
     {
-        match self.inbox[place].take() {
-            Some(parcel) => self.count(place, parcel),
-            None => {}
-        }
+        let parcel = self.inbox[place];
+        self.inbox[place] = 0;
+        self.count(place, parcel);
     }
 
-    /// Counts a number from a neighbour. It is right where it is that of the lag ago.
+    /// Counts what came from a neighbour, if it is a number. It is right where it is that of the lag ago.
     fn count(&mut self, place: usize, parcel: u64)
         ensures inbox { self.new.inbox.items ≡ self.old.inbox.items }
         ensures outbox { self.new.outbox.items ≡ self.old.outbox.items }
         ensures same { IsAsBefore self.old self.new }
     {
+        if parcel == 0 {
+            return;
+        }
         let wrong = u64::from(!self.is_right(place, parcel));
         self.heard = self.heard.saturating_add(1);
         self.wrong = self.wrong.saturating_add(wrong);
@@ -96,7 +110,7 @@ impl Counter {
         }
     }
 
-    /// A number for each neighbour.
+    /// What goes to each neighbour.
     fn send(&mut self)
         requires number { self.old.number < 64 }
         requires few { (k : ℕ) → k < length self.old.neighbours → (border_at self.old.neighbours k).neighbour < 64 }
@@ -104,14 +118,14 @@ impl Counter {
         ensures same { IsAsBefore self.old self.new }
         ensures inbox { self.new.inbox.items ≡ self.old.inbox.items }
         ensures places { length self.new.outbox.items ≡ length self.old.outbox.items }
-        ensures sent { HasSent is_number self.old.number self.old.seconds self.old.neighbours self.new.outbox.items }
+        ensures sent { HasSent 0 is_number self.old.number self.old.seconds self.old.neighbours self.new.outbox.items }
     {
         for place in 0..self.neighbours.len() {
             self.send_to(place);
         }
     }
 
-    /// A number for one of them.
+    /// What goes to one of them.
     fn send_to(&mut self, place: usize)
         requires number { self.old.number < 64 }
         requires there { place < length self.old.neighbours }
@@ -120,11 +134,11 @@ impl Counter {
         ensures same { IsAsBefore self.old self.new }
         ensures inbox { self.new.inbox.items ≡ self.old.inbox.items }
         ensures outbox { self.new.outbox.items ≡ set self.old.outbox.items place
-            (Some (number_of self.old.number (border_at self.old.neighbours place).neighbour self.old.seconds)) }
+            (number_of self.old.number (border_at self.old.neighbours place).neighbour self.old.seconds) }
     {
         let to = self.neighbours.rows[place].neighbour;
         let parcel = number(self.number, to, self.seconds);
-        self.outbox[place] = Some(parcel);
+        self.outbox[place] = parcel;
     }
 }
 
@@ -132,6 +146,8 @@ impl Part for Counter {
     type Run = Row;
 
     type Parcel = u64;
+
+    ghost nothing = { 0 };
 
     ghost net = { λ r. net_of r.count r.longest r.end };
 
@@ -144,6 +160,14 @@ impl Part for Counter {
     ghost spent = { IsSpent };
 
     ghost right = { λ _. is_number };
+
+    fn nothing() -> u64 {
+        0
+    }
+
+    fn is_nothing(parcel: &u64) -> bool {
+        *parcel == 0
+    }
 
     fn count(run: &Row) -> u32 {
         run.count
@@ -174,7 +198,7 @@ impl Part for Counter {
 
     #[tactic(auto, using(crate::proofs::Counting::stays))]
     fn absorb(&mut self, place: usize, parcel: u64) {
-        self.inbox[place] = Some(parcel);
+        self.inbox[place] = parcel;
     }
 
     #[tactic(auto, using(crate::proofs::Counting::stays, crate::proofs::Counting::few_in))]
@@ -189,11 +213,14 @@ impl Part for Counter {
         Ok(())
     }
 
-    #[tactic(auto, using(crate::proofs::Counting::stays, crate::proofs::Counting::is_there))]
+    fn sends(&self) -> bool {
+        has_number(&self.outbox)
+    }
+
+    #[tactic(auto, using(crate::proofs::Counting::stays))]
     fn outbox(&mut self, place: usize) -> u64 {
-        match self.outbox[place].take() {
-            Some(parcel) => parcel,
-            None => unreachable!(),
-        }
+        let parcel = self.outbox[place];
+        self.outbox[place] = 0;
+        parcel
     }
 }

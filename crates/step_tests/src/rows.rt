@@ -2,7 +2,7 @@
 
 ghost use Rattle.std.specs.Prelude.{◌≡◌, ◌<◌, ◌≤◌, ◌++◌, IfOk};
 ghost use Rattle.std.specs.Option.{option_to_list};
-ghost use Rattle.step_tests.specs.Rows.{IsRow, lag_in, number_of, border_from, before, behind, neighbours};
+ghost use Rattle.step_tests.specs.Rows.{IsRow, lag_in, sends_to, number_of, border_from, before, behind, neighbours};
 
 use events::Rows;
 use std::alloc::{AllocError, Global};
@@ -43,12 +43,24 @@ pub(crate) fn lag(longest: u32, from: u32, to: u32) -> u32
     1 + (3 * from + to) % longest
 }
 
-/// What one partition sends to another in a second.
+/// Whether one partition sends anything to another in a second: in two of five, and not to all of its neighbours in the same ones.
+pub(crate) fn sends(from: u32, to: u32, second: u32) -> bool
+    requires { (from < 64) × (to < 64) }
+    ensures { result ≡ sends_to from to second }
+{
+    (u64::from(second) + u64::from(from) * u64::from(to)) % 5 < 2
+}
+
+/// What one partition sends to another in a second, where 0 is nothing.
 pub(crate) fn number(from: u32, to: u32, second: u32) -> u64
     requires { (from < 64) × (to < 64) }
     ensures { result ≡ number_of from to second }
 {
-    10_000 * u64::from(second) + 100 * u64::from(from) + u64::from(to)
+    if sends(from, to, second) {
+        10_000 * u64::from(second) + 100 * u64::from(from) + u64::from(to)
+    } else {
+        0
+    }
 }
 
 /// A neighbour of a partition, with the lag from it.

@@ -12,6 +12,10 @@ use std::thread::Threads;
 use step_cases::{Ahead, Meeting, alone};
 use workers::run_day;
 
+/// How much there is told to be in the first partitions: the third is the heaviest, then the first, the fourth and the second, and after
+/// them come those of which nothing is told.
+static LOADS: [usize; 4] = [5, 1, 9, 3];
+
 /// Whether a day of so many workers ends with all partitions right.
 #[tactic(auto, using(crate::proofs::Neighbours::net_is))]
 fn day<R: Threads + Wait + Sync, G: Gate>(
@@ -23,7 +27,7 @@ fn day<R: Threads + Wait + Sync, G: Gate>(
 ) -> bool
     requires { (1 ≤ workers) × (workers ≤ 64) }
 {
-    match run_day::<Counter, R, G>(rt, alloc, run, workers, gate) {
+    match run_day::<Counter, R, G>(rt, alloc, run, workers, &LOADS, gate) {
         Ok(parts) => are_right(run, parts.as_slice()),
         Err(_) => false,
     }
@@ -71,7 +75,7 @@ fn no_barrier(rt: HostRuntime) {
 fn is_refused<R: Threads + Wait + Sync>(rt: &R, alloc: Global, run: &Row, workers: u32) -> bool
     requires { (1 ≤ workers) × (workers ≤ 64) }
 {
-    run_day::<Counter, R, OpenGate>(rt, alloc, run, workers, &OpenGate).is_err()
+    run_day::<Counter, R, OpenGate>(rt, alloc, run, workers, &LOADS, &OpenGate).is_err()
 }
 
 /// A partition that finds no memory ends the day of all, on however many threads.

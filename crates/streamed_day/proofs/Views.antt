@@ -8,11 +8,12 @@ use Rattle.partition.specs.declared.owner.Owner.{Owner}
 use Rattle.town.specs.declared.day_input.DayInput.{DayInput}
 use Rattle.step_core.specs.declared.part.Border.{Border}
 use Rattle.step_core.specs.Nets.{Net}
-use Rattle.step_core.specs.Views.{PartView, IsAt, EachAt}
+use Rattle.step_core.specs.declared.wheel.Wheel.{Wheel}
+use Rattle.step_core.specs.Views.{PartView, HasDone, IsAt, EachAt}
 use Rattle.step_core.specs.Cores.{IsCore, AreRound}
 use Rattle.step_core.proofs.Together.{each_at}
 use Rattle.divided_day.specs.Days.{told_at, end_told_in}
-use Rattle.streamed_day.specs.Telling.{told_last, told_at_end, IsOneOf, CanTell, AllCanTell, IsAtEnd, AllAreAtEnd, IsRunning}
+use Rattle.streamed_day.specs.Telling.{told_last, told_at_end, CanTell, AllCanTell, IsAtEnd, AllAreAtEnd, IsRunning}
 
 -- a list, and what its places give by number
 mapped : {T X : Type 0} (f : T → X) (g : ℕ → X) (xs : List T) (k : ℕ)
@@ -26,24 +27,31 @@ mapped f g (x ∷ xs) k h =
     let e : k + suc i ≡ (k + 1) + i = omega arith in
     h (suc i) d (omega arith) ∙ ap g e))
 
-module _ {T P : Type 0} (N : Net) (borders : ℕ → List Border) (see : T → PartView P) (stands : T → Type 0) (t : ℕ) (parts : List T)
-    (many : length parts ≡ N.parts) (each : EachAt see stands t (λ p. length (borders p)) N.parts parts) where
-  there : (k : ℕ) (d : T) → k < length parts → IsAt see stands k t (length (borders k)) (get_or parts k d)
+module _ {T P : Type 0} (nothing : P) (N : Net) (borders : ℕ → List Border) (see : T → PartView P) (stands : T → Type 0) (t : ℕ)
+    (parts : List T)
+    (many : length parts ≡ N.parts) (each : EachAt nothing see stands t (λ p. length (borders p)) N.parts parts) where
+  there : (k : ℕ) (d : T) → k < length parts → IsAt nothing see stands k t (length (borders k)) (get_or parts k d)
   there k d lt = each k d (omega arith)
 
-  one_of : (k : ℕ) (d : T) → k < length parts → IsOneOf N borders see stands (get_or parts k d)
-  one_of k d lt =
+  inside : (k : ℕ) (d : T) → k < length parts → (see (get_or parts k d)).number < N.parts
+  inside k d lt = let n = (there k d lt).number in omega arith
+
+  pub can_tell : 0 < t → AllCanTell nothing N borders see stands parts
+  can_tell some k d lt =
+      let x : T = get_or parts k d in
       let at = there k d lt in
       record {
-        there = let n = at.number in omega arith;
-        at = subst₂ (λ (p s : ℕ). IsAt see stands p s (length (borders p)) (get_or parts k d)) (sym at.number) (sym at.seconds) at;
+        there = inside k d lt;
+        some = let s = at.seconds in omega arith;
+        at = subst₂ (λ (p s : ℕ). HasDone nothing see stands p s (length (borders p)) x) (sym at.number) (sym at.seconds)
+            (record { number = at.number; seconds = at.seconds; holds = at.holds; empty = at.empty; places = at.gone.many });
       }
 
-  pub can_tell : 0 < t → AllCanTell N borders see stands parts
-  can_tell some k d lt = record { one = one_of k d lt; some = let s = (there k d lt).seconds in omega arith }
-
-  pub are_at_end : t ≡ N.end → AllAreAtEnd N borders see stands parts
-  are_at_end end k d lt = record { one = one_of k d lt; all = (there k d lt).seconds ∙ end }
+  pub are_at_end : t ≡ N.end → AllAreAtEnd nothing N borders see stands parts
+  are_at_end end k d lt = let at = there k d lt in record {
+    there = inside k d lt;
+    at = subst₂ (λ (p s : ℕ). IsAt nothing see stands p s (length (borders p)) (get_or parts k d)) (sym at.number) end at;
+  }
 
   pub told_last_is : (day : DayInput) (owner : Owner) (second : ℕ) → t ≡ second + 1
       → map (λ x. told_last day owner (see x)) parts ≡ map (λ p. told_at day owner p second) (below N.parts)
@@ -65,37 +73,38 @@ module _ {T P : Type 0} (N : Net) (borders : ℕ → List Border) (see : T → P
       ∙ ap (λ m. map (end_told_in day owner) (below m)) many
 
 -- those of a core that runs
-module _ {T P : Type 0} (N : Net) (borders : ℕ → List Border) (see : T → PartView P) (stands spent : T → Type 0)
+module _ {T P : Type 0} (nothing : P) (N : Net) (borders : ℕ → List Border) (see : T → PartView P) (stands spent : T → Type 0)
     (right : ℕ → ℕ → ℕ → P → Type 0) (t : ℕ) (done : List ℕ) (stopped : List Bool) (tables : List (List Border)) (parts : List T)
-    (boxes : List (List P)) (h : IsRunning N borders see stands spent right t done stopped tables parts boxes) where
-  pub running_each : EachAt see stands t (λ p. length (borders p)) N.parts parts
-  running_each = each_at N borders see stands spent right done stopped tables parts boxes t h.core h.all
+    (wheels : List (Wheel P)) (h : IsRunning nothing N borders see stands spent right t done stopped tables parts wheels) where
+  pub running_each : EachAt nothing see stands t (λ p. length (borders p)) N.parts parts
+  running_each = each_at nothing N borders see stands spent right done stopped tables parts wheels t h.core h.all
 
 -- all have had their turn
-pub all_ran : {T P : Type 0} (N : Net) (borders : ℕ → List Border) (see : T → PartView P) (stands spent : T → Type 0)
+pub all_ran : {T P : Type 0} (nothing : P) (N : Net) (borders : ℕ → List Border) (see : T → PartView P) (stands spent : T → Type 0)
     (right : ℕ → ℕ → ℕ → P → Type 0) (t number : ℕ) (done : List ℕ) (stopped : List Bool) (tables : List (List Border)) (parts : List T)
-    (boxes : List (List P)) → IsCore N borders see stands spent right done stopped tables parts boxes
+    (wheels : List (Wheel P)) → IsCore nothing N borders see stands spent right done stopped tables parts wheels
     → AreRound N.parts number t done stopped → N.parts ≤ number → t < N.end
-    → IsRunning N borders see stands spent right (t + 1) done stopped tables parts boxes
-all_ran N borders see stands spent right t number done stopped tables parts boxes core round over early = record {
+    → IsRunning nothing N borders see stands spent right (t + 1) done stopped tables parts wheels
+all_ran nothing N borders see stands spent right t number done stopped tables parts wheels core round over early = record {
   core = core;
   all = record { all = λ p lt. round.before p (omega arith); goes = round.goes };
   within = omega arith;
 }
 
 -- ONE BY ONE
-pub tell_there : {T P : Type 0} (N : Net) (borders : ℕ → List Border) (see : T → PartView P) (stands : T → Type 0) (parts : List T)
-    (k : ℕ) (x : T) → AllCanTell N borders see stands parts → k < length parts → x ≡ get_or parts k x → CanTell N borders see stands x
-tell_there {T} N borders see stands parts k x all lt is = subst (λ (y : T). CanTell N borders see stands y) (sym is) (all k x lt)
+pub tell_there : {T P : Type 0} (nothing : P) (N : Net) (borders : ℕ → List Border) (see : T → PartView P) (stands : T → Type 0)
+    (parts : List T)
+    (k : ℕ) (x : T) → AllCanTell nothing N borders see stands parts → k < length parts → x ≡ get_or parts k x → CanTell nothing N borders
+    see stands x
+tell_there {T} nothing N borders see stands parts k x all lt is = subst (λ (y : T). CanTell nothing N borders see stands y) (sym is)
+    (all k x lt)
 
-pub end_there : {T P : Type 0} (N : Net) (borders : ℕ → List Border) (see : T → PartView P) (stands : T → Type 0) (parts : List T)
-    (k : ℕ) (x : T) → AllAreAtEnd N borders see stands parts → k < length parts → x ≡ get_or parts k x → IsAtEnd N borders see stands x
-end_there {T} N borders see stands parts k x all lt is = subst (λ (y : T). IsAtEnd N borders see stands y) (sym is) (all k x lt)
-
-pub stands_at_end : {T P : Type 0} (N : Net) (borders : ℕ → List Border) (see : T → PartView P) (stands : T → Type 0) (x : T)
-    → IsAtEnd N borders see stands x → IsAt see stands (see x).number N.end (length (borders (see x).number)) x
-stands_at_end N borders see stands x h =
-    subst (λ (s : ℕ). IsAt see stands (see x).number s (length (borders (see x).number)) x) h.all h.one.at
+pub end_there : {T P : Type 0} (nothing : P) (N : Net) (borders : ℕ → List Border) (see : T → PartView P) (stands : T → Type 0)
+    (parts : List T)
+    (k : ℕ) (x : T) → AllAreAtEnd nothing N borders see stands parts → k < length parts → x ≡ get_or parts k x → IsAtEnd nothing N borders
+    see stands x
+end_there {T} nothing N borders see stands parts k x all lt is = subst (λ (y : T). IsAtEnd nothing N borders see stands y) (sym is)
+    (all k x lt)
 
 -- a list more
 pub lists_more : {T X : Type 0} (f : T → X) (lists new : List X) (seen : List T) (x : T) (y : X) → lists ≡ map f seen
@@ -109,30 +118,33 @@ rest_at_end true end all x streams is = is
 rest_at_end false end all x streams is = absurd (true≢false (sym streams))
 
 -- OUT OF A CORE
-module _ {T P : Type 0} (N : Net) (borders : ℕ → List Border) (see : T → PartView P) (stands : T → Type 0) (parts seen : List T)
+module _ {T P : Type 0} (nothing : P) (N : Net) (borders : ℕ → List Border) (see : T → PartView P) (stands : T → Type 0)
+    (parts seen : List T)
     (same : seen ≡ parts) (many : length parts ≡ N.parts) where
-  pub round_can_tell : (second : ℕ) → EachAt see stands (second + 1) (λ p. length (borders p)) N.parts parts
-      → AllCanTell N borders see stands seen
+  pub round_can_tell : (second : ℕ) → EachAt nothing see stands (second + 1) (λ p. length (borders p)) N.parts parts
+      → AllCanTell nothing N borders see stands seen
   round_can_tell second each =
-      subst (λ (l : List T). AllCanTell N borders see stands l) (sym same)
-      (can_tell N borders see stands (second + 1) parts many each (omega arith))
+      subst (λ (l : List T). AllCanTell nothing N borders see stands l) (sym same)
+      (can_tell nothing N borders see stands (second + 1) parts many each (omega arith))
 
-  pub round_told : (second : ℕ) → EachAt see stands (second + 1) (λ p. length (borders p)) N.parts parts → (day : DayInput) (owner : Owner)
+  pub round_told : (second : ℕ) → EachAt nothing see stands (second + 1) (λ p. length (borders p)) N.parts parts → (day : DayInput)
+      (owner : Owner)
       (lists : List (List Event)) → lists ≡ map (λ x. told_last day owner (see x)) seen
       → lists ≡ map (λ p. told_at day owner p second) (below N.parts)
   round_told second each day owner lists is =
       is ∙ ap (map (λ x. told_last day owner (see x))) same
-      ∙ told_last_is N borders see stands (second + 1) parts many each day owner second refl
+      ∙ told_last_is nothing N borders see stands (second + 1) parts many each day owner second refl
 
-  pub all_at_end : EachAt see stands N.end (λ p. length (borders p)) N.parts parts → AllAreAtEnd N borders see stands seen
+  pub all_at_end : EachAt nothing see stands N.end (λ p. length (borders p)) N.parts parts → AllAreAtEnd nothing N borders see stands seen
   all_at_end each =
-      subst (λ (l : List T). AllAreAtEnd N borders see stands l) (sym same) (are_at_end N borders see stands N.end parts many each refl)
+      subst (λ (l : List T). AllAreAtEnd nothing N borders see stands l) (sym same)
+      (are_at_end nothing N borders see stands N.end parts many each refl)
 
-  pub end_told : EachAt see stands N.end (λ p. length (borders p)) N.parts parts → (day : DayInput) (owner : Owner)
+  pub end_told : EachAt nothing see stands N.end (λ p. length (borders p)) N.parts parts → (day : DayInput) (owner : Owner)
       (lists : List (List Event)) → lists ≡ map (λ x. told_at_end day owner (see x)) seen
       → lists ≡ map (end_told_in day owner) (below N.parts)
   end_told each day owner lists is =
-      is ∙ ap (map (λ x. told_at_end day owner (see x))) same ∙ told_at_end_is N borders see stands N.end parts many each day owner
+      is ∙ ap (map (λ x. told_at_end day owner (see x))) same ∙ told_at_end_is nothing N borders see stands N.end parts many each day owner
 
 again : {T X : Type 0} (f : T → X) (xs : List T) → map f xs ≡ map f (map (λ x. x) xs)
 again f [] = refl

@@ -46,8 +46,9 @@ impl<'a, T: DayPart, G: Gate> EventSource for StreamedDay<'a, T, G> {
     ghost pieces = { λ s. pieces_left (T.net s.run.now).end s.second (is_some s.core) };
 
     ghost ready = { λ s. (s.spent ≡ false) × HaveFittingPlans (T.day s.run.now) × (T.streams s.run.now ≡ true)
-        × IfSome s.core (λ core. IsRunning (T.net s.run.now) (T.borders s.run.now) T.see (T.stands s.run.now) T.spent (T.right s.run.now)
-        s.second core.done.items core.stopped.items core.borders.items core.parts.items core.boxes.items) };
+        × IfSome s.core (λ core. IsRunning T.nothing (T.net s.run.now) (T.borders s.run.now) T.see (T.stands s.run.now) T.spent
+        (T.right s.run.now)
+        s.second core.done.items core.stopped.items core.borders.items core.parts.items core.wheels.items) };
 
     fn next_piece(&mut self, alloc: Global) -> Result<Option<Vec<Event>>, AllocError> {
         let Some(mut core) = self.core.take() else {

@@ -7,3 +7,5 @@ mod pieces;
 mod telling;
 
 pub use day::StreamedDay;
+pub use pieces::ends_of;
+pub use telling::told_of;

@@ -8,10 +8,14 @@ use divided_day::DayPart;
 use events::{EventList, Rows};
 use std::alloc::{AllocError, Global};
 
-/// What a partition told in the second that it did last.
-fn told_of<T: DayPart>(alloc: Global, run: &T::Run, part: &T) -> Result<EventList, AllocError>
+/// What a partition told in the second that it did last, in the order of the keys.
+///
+/// # Errors
+///
+/// `AllocError`: there is no memory for the events.
+pub fn told_of<T: DayPart>(alloc: Global, run: &T::Run, part: &T) -> Result<EventList, AllocError>
     requires streams { T.streams run.now ≡ true }
-    requires can { CanTell (T.net run.now) (T.borders run.now) T.see (T.stands run.now) part.now }
+    requires can { CanTell T.nothing (T.net run.now) (T.borders run.now) T.see (T.stands run.now) part.now }
     ensures { IfOk result (λ events. events ≡ told_last (T.day run.now) (T.owner run.now) (T.see part.now)) }
 {
     let rows = Vec::from_slice(alloc, part.told(run))?;
@@ -29,7 +33,7 @@ pub(crate) fn told_by<T: DayPart>(
     parts: &[T],
 ) -> Result<Vec<EventList>, AllocError>
     requires streams { T.streams run.now ≡ true }
-    requires can { AllCanTell (T.net run.now) (T.borders run.now) T.see (T.stands run.now) parts.now }
+    requires can { AllCanTell T.nothing (T.net run.now) (T.borders run.now) T.see (T.stands run.now) parts.now }
     ensures { IfOk result (λ lists. lists.items ≡ map (λ x. told_last (T.day run.now) (T.owner run.now) (T.see x)) parts.now) }
 {
     let mut lists = Vec::new(alloc);
@@ -51,7 +55,7 @@ pub(crate) fn ends_told_by<T: DayPart>(
 ) -> Result<Vec<EventList>, AllocError>
     requires given { HaveFittingPlans (T.day run.now) }
     requires streams { T.streams run.now ≡ true }
-    requires ended { AllAreAtEnd (T.net run.now) (T.borders run.now) T.see (T.stands run.now) parts.items }
+    requires ended { AllAreAtEnd T.nothing (T.net run.now) (T.borders run.now) T.see (T.stands run.now) parts.items }
     ensures { IfOk result (λ lists. lists.items ≡ map (λ x. told_at_end (T.day run.now) (T.owner run.now) (T.see x)) parts.items) }
 {
     let mut lists = Vec::new(alloc);

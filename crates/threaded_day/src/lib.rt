@@ -18,7 +18,8 @@ use workers::run_day;
 
 /// The events of a day, in the order of their keys, computed by its partitions on 1 to 64 threads: each does its next second as soon as all
 /// its neighbours are far enough. They are those of the day of the undivided town, however it is divided, on however many threads, and
-/// whichever thread gets on first. The gate is passed before each second of a partition.
+/// whichever thread gets on first. Which partitions a worker gets goes by `loads` (`workers: run_day`). The gate is passed before each
+/// second of a partition.
 ///
 /// # Errors
 ///
@@ -28,6 +29,7 @@ pub fn threaded_day<T: DayPart + Send + Sync, R: Threads + Wait + Sync, G: Gate>
     alloc: Global,
     run: &T::Run,
     workers: u32,
+    loads: &[usize],
     gate: &G,
 ) -> Result<Vec<Event>, AllocError>
 where
@@ -39,7 +41,7 @@ where
     ensures events { IfOk result (λ events. events.items ≡ traffic_day.day (setup (T.day run.now))) }
     ensures named { IfOk result (λ events. AreInBook events.items (T.day run.now).town.now.book) }
 {
-    let parts = run_day::<T, R, G>(rt, alloc, run, workers, gate)?;
+    let parts = run_day::<T, R, G>(rt, alloc, run, workers, loads, gate)?;
     let events = merged_events::<T>(alloc, run, parts)?;
     Ok(events)
 }

@@ -1,4 +1,3 @@
-mod Placing
 mod Sending
 mod Telling
 mod Going

@@ -1,5 +1,5 @@
 -- The parcels of a second go to the neighbours of a partition.
-use Rattle.std.proofs.Common.{◌≡◌, ◌≢◌, ℕ, ◌<◌, List, ◌∙◌, ap, sym, subst, arith, length, Option, Some}
+use Rattle.std.proofs.Common.{◌≡◌, ℕ, ◌<◌, List, ◌∙◌, ap, sym, subst, length}
 use Rattle.std.proofs.Common.{true≢false}
 use Rattle.std.proofs.lemmas.Bool.{ne_eqb}
 use Rattle.traffic.specs.Setup.{Setup}
@@ -7,18 +7,20 @@ use Rattle.town.specs.declared.day_input.DayInput.{DayInput}
 use Rattle.town.specs.Views.{setup}
 use Rattle.law_in_range.specs.Setups.{HaveFittingPlans}
 use Rattle.parts.specs.Owners.{Owner as Owning, near}
+use Rattle.parts.specs.Parts.{out}
 use Rattle.partition.specs.Owned.{owner_in}
 use Rattle.partition.specs.declared.owner.Owner.{Owner}
 use Rattle.step_core.specs.declared.part.Border.{Border}
 use Rattle.step_core.specs.Nets.{border_at}
-use Rattle.step_core.specs.Views.{in_place, IsSent, HasSent}
+use Rattle.step_core.specs.Views.{HasSent}
 use Rattle.divided_day.specs.Days.{borders_in}
 use Rattle.divided_day.proofs.Whole.{net_sound, borders_sound}
 use Rattle.parcels.specs.declared.contents.Contents.{Contents}
+use Rattle.parcels.specs.Contents.{parcel_of}
 use Rattle.parcels.specs.Leaving.{AreOthers}
+use Rattle.parcels.specs.Parcels.{nothing}
 use Rattle.parcels.specs.Sending.{parcel_at}
 use Rattle.part_absorbing.specs.Absorbed.{IsRight}
-use Rattle.town_part.specs.Turns.{AreSent}
 
 -- the neighbours of a partition are other ones, ascending
 pub are_others : (day : DayInput) (owner : Owner) → HaveFittingPlans day → (p : ℕ) (borders : List Border)
@@ -34,23 +36,15 @@ are_others day owner given p borders e =
       ascend = found.ascend;
     })
 
--- parcels for these neighbours are parcels for the same
-pub sent_for : (S : Setup) (own : Owning) (p t : ℕ) (borders rows : List Border) (parcels : List Contents) → borders ≡ rows
-    → length parcels ≡ length borders
-    → ((k : ℕ) → k < length borders → IsRight S own p (border_at borders k).neighbour t (parcel_at parcels k))
-    → AreSent S own p t rows parcels
-sent_for S own p t borders rows parcels e many each =
-    subst (λ (bs : List Border). AreSent S own p t bs parcels) e (record { many = many; each = each })
+-- the parcels for these neighbours are those for the same
+pub has_sent : (S : Setup) (own : Owning) (p t : ℕ) (borders rows : List Border) (parcels : List Contents) → borders ≡ rows
+    → ((k : ℕ) → k < length borders → parcel_of S t (parcel_at parcels k) ≡ out S own p (border_at borders k).neighbour t)
+    → HasSent nothing (IsRight S own) p t rows parcels
+has_sent S own p t borders rows parcels e right =
+    subst (λ (bs : List Border). HasSent nothing (IsRight S own) p t bs parcels) e right
 
 -- so of lists of parcels that are the same
-pub right_in : (S : Setup) (own : Owning) (p t : ℕ) (borders : List Border) (parcels slice : List Contents) → slice ≡ parcels
-    → AreSent S own p t borders parcels → AreSent S own p t borders slice
-right_in S own p t borders parcels slice e h = subst (λ (xs : List Contents). AreSent S own p t borders xs) (sym e) h
-
--- once they lie in the places of the neighbours, each is in its place
-pub has_sent : (S : Setup) (own : Owning) (p t : ℕ) (borders : List Border) (parcels : List Contents) (places : List (Option Contents))
-    → AreSent S own p t borders parcels → length places ≡ length borders
-    → ((k : ℕ) → k < length places → in_place places k ≡ Some (parcel_at parcels k))
-    → HasSent (IsRight S own) p t borders places
-has_sent S own p t borders parcels places sent many laid = λ k lt.
-    subst (λ (o : Option Contents). IsSent (IsRight S own) p t (border_at borders k) o) (sym (laid k (omega arith))) (sent.each k lt)
+pub sent_as : (S : Setup) (own : Owning) (p t : ℕ) (borders : List Border) (parcels slice : List Contents) → slice ≡ parcels
+    → HasSent nothing (IsRight S own) p t borders parcels → HasSent nothing (IsRight S own) p t borders slice
+sent_as S own p t borders parcels slice e h =
+    subst (λ (xs : List Contents). HasSent nothing (IsRight S own) p t borders xs) (sym e) h

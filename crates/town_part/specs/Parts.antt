@@ -1,5 +1,5 @@
 -- One partition of the day of a town.
-use Rattle.std.specs.Prelude.{◌≡◌, ℕ, ◌-◌, ◌<◌, Bool, true, false, List, [], length}
+use Rattle.std.specs.Prelude.{◌≡◌, ℕ, ◌-◌, ◌<◌, Bool, true, false, List, []}
 use Rattle.events.specs.declared.event.Event.{Event}
 use Rattle.town.specs.declared.day_input.DayInput.{DayInput}
 use Rattle.town.specs.Views.{setup}
@@ -8,7 +8,7 @@ use Rattle.partition.specs.declared.owner.Owner.{Owner}
 use Rattle.parts.specs.Parts.{held, own_events}
 use Rattle.law_parcels.specs.Worlds.{world_held}
 use Rattle.step_core.specs.Views.{PartView}
-use Rattle.divided_day.specs.Days.{borders_in, told_at}
+use Rattle.divided_day.specs.Days.{told_at}
 use Rattle.parcels.specs.declared.contents.Contents.{Contents}
 use Rattle.part_seconds.specs.declared.runs.Run.{Run}
 use Rattle.part_seconds.specs.Stands.{AreaStands}
@@ -17,7 +17,7 @@ use Rattle.town_part.specs.declared.part.TownPart.{TownPart}
 
 -- what a core sees of it
 abbrev pub view_of : TownPart → PartView Contents
-view_of x = record { number = x.number; seconds = x.done; inbox = x.inbox.items; outbox = x.outbox.items }
+view_of x = record { number = x.number; seconds = x.done; inbox = x.inbox; outbox = x.outbox }
 
 -- What p told in t seconds: all that belongs to it, or where events are taken as the day goes on what belongs to it of the last second.
 pub record HasTold (streams : Bool) (day : DayInput) (owner : Owner) (p t : ℕ) (events : List Event) : Type 0 where
@@ -25,7 +25,7 @@ pub record HasTold (streams : Bool) (day : DayInput) (owner : Owner) (p t : ℕ)
   pub last : streams ≡ true → 0 < t → events ≡ told_at day owner p (t - 1)
 
 -- It is one of the partitions of a run, after its seconds: it stands for what its partition holds by itself, has told what belongs to it,
--- keeps who strays, has a place for what comes from each neighbour and for what goes there, and is not spent.
+-- keeps who strays, and is not spent.
 pub record IsPartOf (run : Run) (x : TownPart) : Type 0 where
   pub there : x.number < run.owner.now.parts
   pub stands :
@@ -35,6 +35,4 @@ pub record IsPartOf (run : Run) (x : TownPart) : Type 0 where
   pub events : HasTold run.streams run.day.now run.owner.now x.number x.done x.told.events.items
   pub silent : x.told.said.items ≡ []
   pub stray : AreStrays (setup run.day.now) (owner_in run.owner.now.of_node) run.owner.now.parts x.number x.done x.strays.items
-  pub comes : length x.inbox.items ≡ length (borders_in run.day.now run.owner.now x.number)
-  pub goes : length x.outbox.items ≡ length (borders_in run.day.now run.owner.now x.number)
   pub whole : x.spent ≡ false

@@ -1,5 +1,5 @@
 -- What a partition of the day of a town tells in a second, and what leaves it.
-use Rattle.std.specs.Prelude.{◌≡◌, ℕ, ◌<◌, false, List, ◌++◌, length, map, filter}
+use Rattle.std.specs.Prelude.{◌≡◌, ℕ, false, List, ◌++◌, length, map, filter}
 use Rattle.events.specs.declared.event.Event.{Event}
 use Rattle.events.specs.declared.event.Phase.TheVariants as phase
 use Rattle.traffic.specs.Day.{turns_in, events_in}
@@ -13,13 +13,8 @@ use Rattle.law_own_seconds.specs.Seconds.{world_early}
 use Rattle.law_parcels.specs.Sending.{sent_rows, freed_over}
 use Rattle.node_seconds.specs.Networks.{is_among}
 use Rattle.part_nodes.specs.Phase.{entering_of}
-use Rattle.step_core.specs.declared.part.Border.{Border}
-use Rattle.step_core.specs.Nets.{border_at}
-use Rattle.parcels.specs.declared.contents.Contents.{Contents}
 use Rattle.parcels.specs.declared.leaving.Leaving.{Leaving}
 use Rattle.parcels.specs.Contents.{freed_row}
-use Rattle.parcels.specs.Sending.{parcel_at}
-use Rattle.part_absorbing.specs.Absorbed.{IsRight}
 
 -- what all turns of second t in the own world of p tell, phase by phase
 abbrev pub turns_told : Setup → Owner → ℕ → ℕ → List Event
@@ -39,8 +34,3 @@ pub record IsLeaving (S : Setup) (own : Owner) (p t : ℕ) (leaving : Leaving) :
       (i : ℕ) → is_among i leaving.looked.items ≡ false
       → person_of i (world_early S own p t) ≡ person_of i (world_before S own p t)
   pub freed : map freed_row leaving.freed.items ≡ freed_over S own p t
-
--- there is the right parcel of second t for each neighbour, in order
-pub record AreSent (S : Setup) (own : Owner) (p t : ℕ) (borders : List Border) (parcels : List Contents) : Type 0 where
-  pub many : length parcels ≡ length borders
-  pub each : (k : ℕ) → k < length borders → IsRight S own p (border_at borders k).neighbour t (parcel_at parcels k)

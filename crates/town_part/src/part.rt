@@ -3,15 +3,16 @@
 ghost use Rattle.std.specs.Prelude.{◌≡◌, ◌++◌, true, refl, if◌then◌else◌, IfOk};
 ghost use Rattle.divided_day.specs.Days.{net_in, borders_in};
 ghost use Rattle.part_absorbing.specs.Absorbed.{IsRight};
+ghost use Rattle.parcels.specs.Parcels as contents;
 ghost use Rattle.partition.specs.Owned.{owner_in};
 ghost use Rattle.town.specs.Views.{setup};
 ghost use Rattle.town_part.specs.Parts.{view_of, IsPartOf};
 
-use crate::neighbours::{empty_places, fill_places, neighbours_of};
-use crate::turns::{do_second, forget_told};
+use crate::neighbours::neighbours_of;
+use crate::turns::{forget_told, give_out, take_turns};
 use divided_day::DayPart;
 use events::{Event, EventList, Rows};
-use parcels::Parcel;
+use parcels::{Mailbox, Parcel};
 use part_beginning::begin;
 use part_ending::{Stray, end_events};
 use part_links::Told;
@@ -31,9 +32,9 @@ pub struct TownPart<'a> {
     /// Its share of the network, and who is there.
     pub(crate) area: Area,
     /// By neighbour, ascending, what came from it and is to be taken in before the next second.
-    pub(crate) inbox: Vec<Option<Parcel>>,
+    pub(crate) inbox: Mailbox,
     /// By neighbour what goes to it.
-    pub(crate) outbox: Vec<Option<Parcel>>,
+    pub(crate) outbox: Mailbox,
     /// What it told, or what it told in the second that it did last.
     pub(crate) told: Told,
     /// Who is in parcels that come when the day is over.
@@ -62,6 +63,8 @@ impl<'a> Part for TownPart<'a> {
 
     type Parcel = Parcel;
 
+    ghost nothing = { contents.nothing };
+
     ghost net = { λ run. net_in run.day.now run.owner.now };
 
     ghost borders = { λ run p. borders_in run.day.now run.owner.now p };
@@ -73,6 +76,18 @@ impl<'a> Part for TownPart<'a> {
     ghost spent = { λ x. x.spent ≡ true };
 
     ghost right = { λ run. IsRight (setup run.day.now) (owner_in run.owner.now.of_node) };
+
+    fn nothing() -> Parcel
+        ensures { result ≡ contents.nothing }
+    {
+        Parcel::new()
+    }
+
+    fn is_nothing(parcel: &Parcel) -> bool
+        ensures { result ≡ true → parcel.now ≡ contents.nothing }
+    {
+        parcel.is_nothing()
+    }
 
     fn count(run: &Run<'a>) -> u32 {
         run.owner.parts
@@ -90,8 +105,8 @@ impl<'a> Part for TownPart<'a> {
     fn start(alloc: Global, run: &Run<'a>, number: u32) -> Result<TownPart<'a>, AllocError> {
         let area = begin(run, number)?;
         let count = neighbours_of(run, number).len();
-        let inbox = empty_places(alloc, count)?;
-        let outbox = empty_places(alloc, count)?;
+        let inbox = Mailbox::new(alloc, count)?;
+        let outbox = Mailbox::new(alloc, count)?;
         let told = Told {
             events: Vec::new(alloc),
             said: Vec::new(alloc),
@@ -110,33 +125,40 @@ impl<'a> Part for TownPart<'a> {
     }
 
     fn absorb(&mut self, place: usize, parcel: Parcel) {
-        self.inbox[place] = Some(parcel);
+        self.inbox.put(place, parcel);
     }
 
     fn second(&mut self, run: &Run<'a>) -> Result<(), AllocError> {
         self.spent = true;
         forget_told(run, &mut self.told);
-        let parcels = do_second(
+        let leaving = take_turns(
             run,
             self.number,
             self.done,
             &mut self.area,
             &mut self.inbox,
             &mut self.told,
+        )?;
+        give_out(
+            run,
+            self.number,
+            self.done,
+            leaving,
+            &mut self.area,
+            &mut self.outbox,
             &mut self.strays,
         )?;
-        fill_places(parcels, &mut self.outbox);
         self.done += 1;
         self.spent = false;
         Ok(())
     }
 
-    #[tactic(auto, using(crate::proofs::Standing::is_there))]
+    fn sends(&self) -> bool {
+        self.outbox.has_some()
+    }
+
     fn outbox(&mut self, place: usize) -> Parcel {
-        match self.outbox[place].take() {
-            Some(parcel) => parcel,
-            None => unreachable!(),
-        }
+        self.outbox.take(place)
     }
 }
 

@@ -6,3 +6,4 @@ pub mod Pairing
 pub mod Neighbours
 pub mod Starting
 pub mod Spreading
+pub mod Dealing

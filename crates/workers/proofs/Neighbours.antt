@@ -1,5 +1,5 @@
 -- The ports of a board that is made from the pairs of a run have the neighbours that the run has.
-use Rattle.std.proofs.Common.{◌≡◌, ℕ, ◌<◌, ◌≤◌, List, length, sym, ap, ◌∙◌, refl, subst, subst₂, arith}
+use Rattle.std.proofs.Common.{◌≡◌, ℕ, ◌<◌, ◌≤◌, List, length, Option, sym, ap, ◌∙◌, refl, subst, subst₂, arith}
 use mathlib.Core.Logic.{dite}
 use native.Mathlib.Decide.{dec_lt}
 use Rattle.cells.specs.declared.board.Board.{Board}
@@ -11,12 +11,13 @@ use Rattle.step_core.specs.Nets.{Net, IsNet, AreBorders, border_at}
 use Rattle.workers.specs.declared.members.Day.{Day}
 use Rattle.workers.specs.Members.{HasNeighbours, IsBoardOfRun}
 use Rattle.workers.specs.Pairs.{ArePairsOf}
+use Rattle.workers.specs.Parcels.{right_or_none}
 use Rattle.workers.proofs.Lists.{same_rows}
 
 same_border : (r : Border) (n l : ℕ) → r.neighbour ≡ n → r.lag ≡ l → r ≡ record { neighbour = n; lag = l }
 same_border r n l e f = subst₂ (λ (x y : ℕ). r ≡ record { neighbour = x; lag = y }) e f refl
 
-module _ {T R P : Type 0} (N : Net) (right : R → ℕ → ℕ → ℕ → P → Type 0) (b : Board (Day T) R P) (xs : List Pair)
+module _ {T R P : Type 0} (N : Net) (right : R → ℕ → ℕ → ℕ → Option P → Type 0) (b : Board (Day T) R P) (xs : List Pair)
     (pairs : ArePairsOf N xs) (follows : FollowsPairs right b xs) (many : count_of b ≡ N.parts) where
   pub has_neighbours : (rows : List Border) (q : Port (Day T) R P) → IsPort right b q → AreBorders N (partition_of q) rows
       → HasNeighbours rows q
@@ -47,16 +48,15 @@ module _ {T R P : Type 0} (N : Net) (right : R → ℕ → ℕ → ℕ → P →
       }
 
 -- a board that is made from the pairs of a run is one of the run
-pub is_board : {T R P : Type 0} (net : R → Net) (borders : R → ℕ → List Border)
-    (right : R → ℕ → ℕ → ℕ → P → Type 0) (run : R)
-    (b : Board (Day T) R P) (xs : List Pair) → IsNet (net run)
+pub is_board : {T R P : Type 0} (net : R → Net) (borders : R → ℕ → List Border) (nothing : P) (right : R → ℕ → ℕ → ℕ → P → Type 0)
+    (run : R) (b : Board (Day T) R P) (xs : List Pair) → IsNet (net run)
     → ((p : ℕ) → p < (net run).parts → AreBorders (net run) p (borders run p)) → ArePairsOf (net run) xs → run_of b ≡ run
-    → count_of b ≡ (net run).parts → FollowsPairs right b xs → IsBoardOfRun net borders right run b
-is_board net borders right run b xs sound are pairs about many follows = record {
+    → count_of b ≡ (net run).parts → FollowsPairs (right_or_none nothing right) b xs → IsBoardOfRun net borders nothing right run b
+is_board net borders nothing right run b xs sound are pairs about many follows = record {
   sound = sound;
   about = about;
   many = many;
-  neighbours = λ q port. let named = port.named in has_neighbours (net run) right b xs pairs follows many
+  neighbours = λ q port. let named = port.named in has_neighbours (net run) (right_or_none nothing right) b xs pairs follows many
       (borders run (partition_of q)) q port
       (are (partition_of q) (omega arith));
 }

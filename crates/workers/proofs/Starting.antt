@@ -11,6 +11,7 @@ use Rattle.step_core.specs.Nets.{Net}
 use Rattle.step_core.specs.Views.{PartView, IsAt, EachAt}
 use Rattle.workers.specs.declared.members.Day.{Day}
 use Rattle.workers.specs.declared.members.Member.{Member}
+use Rattle.workers.specs.Parcels.{right_or_none}
 use Rattle.workers.specs.Members.{Rests, IsMember, AreMembers, AreAll, AllEnd, Went, is_stopped, number_of, seconds_of}
 
 module _ {T R P : Type 0} where
@@ -30,54 +31,39 @@ module _ {T R P : Type 0} where
       subst (λ (x : Member T R P). (is_stopped x ≡ false) × (seconds_of x ≡ end)) is w
 
   -- some member of a list that is not empty
-  one_of : {A : Type 0} (ms : List (Member T R P)) → 0 < length ms → (Member T R P → A) → A
+  pub one_of : {A : Type 0} (ms : List (Member T R P)) → 0 < length ms → (Member T R P → A) → A
   one_of [] lt f = absurd (omega arith)
   one_of (m ∷ ms) lt f = f m
 
-module _ {T R P : Type 0} (net : R → Net) (borders : R → ℕ → List Border) (see : T → PartView P) (stands : R → T → Type 0)
+module _ {T R P : Type 0} (net : R → Net) (borders : R → ℕ → List Border) (nothing : P) (see : T → PartView P) (stands : R → T → Type 0)
     (right : R → ℕ → ℕ → ℕ → P → Type 0) (run : R) (b : Board (Day T) R P) where
   -- a partition at the start with its new port
-  pub starts : (m : Member T R P) (n : ℕ) → IsPort right b m.port → partition_of m.port ≡ n → done_of m.port ≡ 0
+  pub starts : (m : Member T R P) (n : ℕ) → IsPort (right_or_none nothing right) b m.port → partition_of m.port ≡ n → done_of m.port ≡ 0
       → ((k : ℕ) → k < degree m.port → is_awaited (handover m.port k) ≡ true) → waits m.port ≡ 0 → still m.port ≡ 0
-      → IsAt see (stands run) n 0 (length (borders run n)) m.part → Rests net borders see stands right run b m
+      → IsAt nothing see (stands run) n 0 (length (borders run n)) m.part → Rests net borders nothing see stands right run b m
   starts m n port partition done awaited w s at = record {
     port = port;
     untouched = λ k lt. inl (awaited k lt);
-    at = subst (λ (t : ℕ). IsAt see (stands run) (number_of m) t (length (borders run (number_of m))) m.part) (sym done)
-        (subst (λ (p : ℕ). IsAt see (stands run) p 0 (length (borders run p)) m.part) (sym partition) at);
+    at = subst (λ (t : ℕ). IsAt nothing see (stands run) (number_of m) t (length (borders run (number_of m))) m.part) (sym done)
+        (subst (λ (p : ℕ). IsAt nothing see (stands run) p 0 (length (borders run p)) m.part) (sym partition) at);
     within = omega arith;
     counts = omega arith;
   }
 
-module _ {T R P : Type 0} (net : R → Net) (borders : R → ℕ → List Border) (see : T → PartView P) (stands : R → T → Type 0)
+module _ {T R P : Type 0} (net : R → Net) (borders : R → ℕ → List Border) (nothing : P) (see : T → PartView P) (stands : R → T → Type 0)
     (spent : T → Type 0) (right : R → ℕ → ℕ → ℕ → P → Type 0) (run : R) (b : Board (Day T) R P) where
-  pub members_more : (ms : List (Member T R P)) (x : Member T R P) → AreMembers net borders see stands spent right run b ms
-      → IsMember net borders see stands spent right run b x → AreMembers net borders see stands spent right run b (ms ++ x ∷ [])
+  pub members_more : (ms : List (Member T R P)) (x : Member T R P) → AreMembers net borders nothing see stands spent right run b ms
+      → IsMember net borders nothing see stands spent right run b x → AreMembers net borders nothing see stands spent right run b
+      (ms ++ x ∷ [])
   members_more ms x are is i d lt = let n = length-append ms (x ∷ []) in dite (ℕ_discrete i (length ms))
-      (λ e. subst (λ (z : Member T R P). IsMember net borders see stands spent right run b z) (sym (get_or_push ms x d i (sym e))) is)
-      (λ ne. subst (λ (z : Member T R P). IsMember net borders see stands spent right run b z)
+      (λ e. subst (λ (z : Member T R P). IsMember net borders nothing see stands spent right run b z) (sym (get_or_push ms x d i (sym e)))
+      is)
+      (λ ne. subst (λ (z : Member T R P). IsMember net borders nothing see stands spent right run b z)
       (sym (get_or_append_left ms (x ∷ []) d i (omega arith)))
       (are i d (omega arith)))
 
-  end_of : (p : ℕ) (m : Member T R P) → IsMember net borders see stands spent right run b m → is_stopped m ≡ false
-      → seconds_of m ≡ (net run).end → number_of m ≡ p → IsAt see (stands run) p (net run).end (length (borders run p)) m.part
-  end_of p m is alive at name = let r : Rests net borders see stands right run b m = is.rests alive in
-      subst (λ (t : ℕ). IsAt see (stands run) p t (length (borders run p)) m.part) at
-      (subst (λ (n : ℕ). IsAt see (stands run) n (seconds_of m) (length (borders run n)) m.part) name r.at)
-
-  pub all_parts : (n : ℕ) (xs ys : List (Member T R P)) → AreAll n xs → Went net borders see stands spent right run b xs ys
-      → AllEnd (net run).end ys → (parts : List T) → parts ≡ map (λ (m : Member T R P). m.part) ys → length parts ≡ n
-  all_parts n xs ys all f end parts is =
-      let long = length-map ys (λ (m : Member T R P). m.part) in let ls = ap length is in let a = all.many in let l = f.go.long in
-      omega arith
-
-  pub all_at_end : (n : ℕ) (xs ys : List (Member T R P)) → AreAll n xs → Went net borders see stands spent right run b xs ys
-      → AllEnd (net run).end ys → (parts : List T) → parts ≡ map (λ (m : Member T R P). m.part) ys
-      → EachAt see (stands run) (net run).end (λ p. length (borders run p)) n parts
-  all_at_end n xs ys all f end parts is p d lt =
-      let a = all.many in let l = f.go.long in one_of ys (omega arith) (λ e.
-      let name : number_of (slice_index_or ys p e) ≡ p = (f.go.each p e (omega arith)).number ∙ all.numbered p e (omega arith) in
-      let o = end p e (omega arith) in
-      subst (λ (z : T). IsAt see (stands run) p (net run).end (length (borders run p)) z)
-      (sym (ap (λ z. get_or z p d) is ∙ get_or-map (λ (m : Member T R P). m.part) ys p e d (omega arith)))
-      (end_of p (slice_index_or ys p e) (f.members p e (omega arith)) o.0 o.1 name))
+  pub end_of : (p : ℕ) (m : Member T R P) → IsMember net borders nothing see stands spent right run b m → is_stopped m ≡ false
+      → seconds_of m ≡ (net run).end → number_of m ≡ p → IsAt nothing see (stands run) p (net run).end (length (borders run p)) m.part
+  end_of p m is alive at name = let r : Rests net borders nothing see stands right run b m = is.rests alive in
+      subst (λ (t : ℕ). IsAt nothing see (stands run) p t (length (borders run p)) m.part) at
+      (subst (λ (n : ℕ). IsAt nothing see (stands run) n (seconds_of m) (length (borders run n)) m.part) name r.at)

@@ -1,3 +1,5 @@
+pub mod Parcels
 pub mod Members
 pub mod Pairs
 pub mod Exchanges
+pub mod Sharing

@@ -15,6 +15,7 @@ use Rattle.workers.specs.declared.members.Turn.{Turn}
 use Rattle.workers.specs.declared.members.Turn.TheVariants.{Ended, Stopped, Waited, Moved}
 use Rattle.workers.specs.declared.members.Round.{Round}
 use Rattle.workers.specs.declared.members.Round.TheVariants.{AllEnded, OneStopped, AllWaited, SomeMoved}
+use Rattle.workers.specs.Parcels.{right_or_none}
 
 -- what a turn sets of the flags of its round
 abbrev pub Flagged : Bool → Bool → Bool → Turn → Type 0
@@ -39,13 +40,12 @@ module _ {T R P : Type 0} where
     pub each : (k : ℕ) → k < degree q → border_at rows k ≡ border_of q k
 
   -- the board is one of this run: its partitions are those of the run, and each port has the neighbours that the run has for its partition
-  pub record IsBoardOfRun (net : R → Net) (borders : R → ℕ → List Border) (right : R → ℕ → ℕ → ℕ → P → Type 0)
-      (run : R)
-      (b : Board (Day T) R P) : Type 0 where
+  pub record IsBoardOfRun (net : R → Net) (borders : R → ℕ → List Border) (nothing : P) (right : R → ℕ → ℕ → ℕ → P → Type 0)
+      (run : R) (b : Board (Day T) R P) : Type 0 where
     pub sound : IsNet (net run)
     pub about : run_of b ≡ run
     pub many : count_of b ≡ (net run).parts
-    pub neighbours : (q : Port (Day T) R P) → IsPort right b q → HasNeighbours (borders run (partition_of q)) q
+    pub neighbours : (q : Port (Day T) R P) → IsPort (right_or_none nothing right) b q → HasNeighbours (borders run (partition_of q)) q
 
   -- MEMBERS
   abbrev pub number_of : Member T R P → ℕ
@@ -138,22 +138,24 @@ module _ {T R P : Type 0} where
 
   -- A RUN
   -- what the partitions of a run are, as the trait `Part` has it
-  module _ (net : R → Net) (borders : R → ℕ → List Border) (see : T → PartView P) (stands : R → T → Type 0)
+  module _ (net : R → Net) (borders : R → ℕ → List Border) (nothing : P) (see : T → PartView P) (stands : R → T → Type 0)
       (right : R → ℕ → ℕ → ℕ → P → Type 0) (run : R) (b : Board (Day T) R P) where
     -- A member between two seconds: its partition holds and has told what it has after so many seconds by itself, with nothing absorbed
-    -- since, and its port is that of the partition on this board, at the same second, with nothing taken and nothing put in it.
+    -- since and nothing left that is to go, and its port is that of the partition on this board, at the same second, with nothing taken
+    -- and nothing put in it.
     pub record Rests (m : Member T R P) : Type 0 where
-      pub port : IsPort right b m.port
+      pub port : IsPort (right_or_none nothing right) b m.port
       pub untouched : IsUntouched m.port
-      pub at : IsAt see (stands run) (number_of m) (seconds_of m) (length (borders run (number_of m))) m.part
+      pub at : IsAt nothing see (stands run) (number_of m) (seconds_of m) (length (borders run (number_of m))) m.part
       pub within : seconds_of m ≤ (net run).end
       pub counts : still_of m ≤ waits_of m
 
-  module _ (net : R → Net) (borders : R → ℕ → List Border) (see : T → PartView P) (stands : R → T → Type 0) (spent : T → Type 0)
+  module _ (net : R → Net) (borders : R → ℕ → List Border) (nothing : P) (see : T → PartView P) (stands : R → T → Type 0)
+      (spent : T → Type 0)
       (right : R → ℕ → ℕ → ℕ → P → Type 0) (run : R) (b : Board (Day T) R P) where
     -- it rests, or was stopped: that alone whose partition found no memory in a second
     pub record IsMember (m : Member T R P) : Type 0 where
-      pub rests : is_stopped m ≡ false → Rests net borders see stands right run b m
+      pub rests : is_stopped m ≡ false → Rests net borders nothing see stands right run b m
       pub poor : is_stopped m ≡ true → spent m.part
 
     abbrev pub AreMembers : List (Member T R P) → Type 0

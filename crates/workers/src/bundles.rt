@@ -25,9 +25,9 @@ fn round<T: Part, G: Gate>(
 ) -> Round
 where
     T::Parcel: Send,
-    requires board { IsBoardOfRun T.net T.borders T.right run.now board.now }
-    requires members { AreMembers T.net T.borders T.see T.stands T.spent T.right run.now board.now members.old }
-    ensures { Rounded T.net T.borders T.see T.stands T.spent T.right run.now board.now members.old members.new result }
+    requires board { IsBoardOfRun T.net T.borders T.nothing T.right run.now board.now }
+    requires members { AreMembers T.net T.borders T.nothing T.see T.stands T.spent T.right run.now board.now members.old }
+    ensures { Rounded T.net T.borders T.nothing T.see T.stands T.spent T.right run.now board.now members.old members.new result }
 {
     let mut stopped = false;
     let mut moved = false;
@@ -60,9 +60,9 @@ pub(crate) fn run_members<T: Part, G: Gate>(
 )
 where
     T::Parcel: Send,
-    requires board { IsBoardOfRun T.net T.borders T.right run.now board.now }
-    requires members { AreMembers T.net T.borders T.see T.stands T.spent T.right run.now board.now members.old }
-    ensures { Ran T.net T.borders T.see T.stands T.spent T.right run.now board.now members.old members.new }
+    requires board { IsBoardOfRun T.net T.borders T.nothing T.right run.now board.now }
+    requires members { AreMembers T.net T.borders T.nothing T.see T.stands T.spent T.right run.now board.now members.old }
+    ensures { Ran T.net T.borders T.nothing T.see T.stands T.spent T.right run.now board.now members.old members.new }
 {
     let mut idle = 0;
     while idle < PATIENCE {
@@ -91,9 +91,9 @@ pub fn run_bundle<T: Part, G: Gate>(
 ) -> Bundle<T>
 where
     T::Parcel: Send,
-    requires board { IsBoardOfRun T.net T.borders T.right run.now board.now }
-    requires members { AreMembers T.net T.borders T.see T.stands T.spent T.right run.now board.now bundle.members.items }
-    ensures { Ran T.net T.borders T.see T.stands T.spent T.right run.now board.now bundle.members.items result.members.items }
+    requires board { IsBoardOfRun T.net T.borders T.nothing T.right run.now board.now }
+    requires members { AreMembers T.net T.borders T.nothing T.see T.stands T.spent T.right run.now board.now bundle.members.items }
+    ensures { Ran T.net T.borders T.nothing T.see T.stands T.spent T.right run.now board.now bundle.members.items result.members.items }
 {
     run_members(gate, run, board, bundle.members.as_mut_slice());
     bundle

@@ -1,6 +1,6 @@
 //! A whole run on several threads.
 
-ghost use Rattle.std.specs.Prelude.{◌≡◌, ℕ, ◌<◌, ◌≤◌, true, false, map, [], length, slice_index_or, IfOk};
+ghost use Rattle.std.specs.Prelude.{◌≡◌, ℕ, ◌<◌, ◌≤◌, true, false, [], length, slice_index_or, IfOk};
 ghost use Rattle.limits.specs.declared.TheConstants.{MAX_PARTITIONS};
 ghost use Rattle.cells.specs.Ports.{IsHub, had_port};
 ghost use Rattle.step_core.specs.Nets.{IsNet, AreBorders};
@@ -9,6 +9,7 @@ ghost use Rattle.workers.specs.Members.{IsBoardOfRun, AreMembers, AreAll, AllEnd
 
 use crate::bundles::run_members;
 use crate::members::{Bundle, Day, Member, new_board};
+use crate::sharing::{parts_of, share_out};
 use cells::{Board, Hub};
 use edge_files::Gate;
 use std::alloc::{AllocError, Global};
@@ -30,9 +31,9 @@ where
     T::Run: Send + Sync,
     T::Parcel: Send + Sync,
     requires workers { 1 ≤ workers }
-    requires board { IsBoardOfRun T.net T.borders T.right run.now board.now }
-    requires members { AreMembers T.net T.borders T.see T.stands T.spent T.right run.now board.now members.old }
-    ensures { Spread T.net T.borders T.see T.stands T.spent T.right run.now board.now members.old members.new }
+    requires board { IsBoardOfRun T.net T.borders T.nothing T.right run.now board.now }
+    requires members { AreMembers T.net T.borders T.nothing T.see T.stands T.spent T.right run.now board.now members.old }
+    ensures { Spread T.net T.borders T.nothing T.see T.stands T.spent T.right run.now board.now members.old members.new }
 {
     let size = members.len().div_ceil(workers as usize).max(1);
     for_each_chunk_mut(
@@ -40,9 +41,10 @@ where
         members,
         size,
         &|_, list: &mut [Member<T>]|
-            requires { IsBoardOfRun T.net T.borders T.right run.now board.now
-                × AreMembers T.net T.borders T.see T.stands T.spent T.right run.now board.now list.now }
-            ensures { Ran T.net T.borders T.see T.stands T.spent T.right run.entry.now board.entry.now list.entry.now list.exit.now }
+            requires { IsBoardOfRun T.net T.borders T.nothing T.right run.now board.now
+                × AreMembers T.net T.borders T.nothing T.see T.stands T.spent T.right run.now board.now list.now }
+            ensures { Ran T.net T.borders T.nothing T.see T.stands T.spent T.right run.entry.now board.entry.now list.entry.now
+                list.exit.now }
         { run_members(gate, run, board, list) },
     );
 }
@@ -60,9 +62,9 @@ where
     T::Run: Send + Sync,
     T::Parcel: Send + Sync,
     requires workers { 1 ≤ workers }
-    requires board { IsBoardOfRun T.net T.borders T.right run.now board.now }
-    requires members { AreMembers T.net T.borders T.see T.stands T.spent T.right run.now board.now bundle.members.items }
-    ensures { Spread T.net T.borders T.see T.stands T.spent T.right run.now board.now bundle.members.items result.members.items }
+    requires board { IsBoardOfRun T.net T.borders T.nothing T.right run.now board.now }
+    requires members { AreMembers T.net T.borders T.nothing T.see T.stands T.spent T.right run.now board.now bundle.members.items }
+    ensures { Spread T.net T.borders T.nothing T.see T.stands T.spent T.right run.now board.now bundle.members.items result.members.items }
 {
     run_spread(rt, gate, run, board, workers, bundle.members.as_mut_slice());
     bundle
@@ -77,10 +79,10 @@ fn all_members<T: Part>(
 ) -> Result<Vec<Member<T>>, AllocError>
 where
     T::Parcel: Send,
-    requires board { IsBoardOfRun T.net T.borders T.right run.now board.now }
+    requires board { IsBoardOfRun T.net T.borders T.nothing T.right run.now board.now }
     requires hub { IsHub board.now hub.old }
     requires first { had_port hub.old ≡ [] }
-    ensures members { IfOk result (λ v. AreMembers T.net T.borders T.see T.stands T.spent T.right run.now board.now v.items) }
+    ensures members { IfOk result (λ v. AreMembers T.net T.borders T.nothing T.see T.stands T.spent T.right run.now board.now v.items) }
     ensures all { IfOk result (λ v. AreAll (T.net run.now).parts v.items) }
 {
     let mut members = Vec::new(alloc);
@@ -141,9 +143,9 @@ where
     T::Run: Send + Sync,
     T::Parcel: Send + Sync,
     requires workers { 1 ≤ workers }
-    requires board { IsBoardOfRun T.net T.borders T.right run.now board.now }
-    requires members { AreMembers T.net T.borders T.see T.stands T.spent T.right run.now board.now bundle.members.items }
-    ensures went { IfOk result (λ b. Went T.net T.borders T.see T.stands T.spent T.right run.now board.now bundle.members.items
+    requires board { IsBoardOfRun T.net T.borders T.nothing T.right run.now board.now }
+    requires members { AreMembers T.net T.borders T.nothing T.see T.stands T.spent T.right run.now board.now bundle.members.items }
+    ensures went { IfOk result (λ b. Went T.net T.borders T.nothing T.see T.stands T.spent T.right run.now board.now bundle.members.items
         b.members.items) }
     ensures end { IfOk result (λ b. AllEnd (T.net run.now).end b.members.items) }
 {
@@ -160,27 +162,12 @@ where
     unreachable!()
 }
 
-/// The partitions of the members, in order.
-fn parts_of<T: Part>(alloc: Global, members: Vec<Member<T>>) -> Result<Vec<T>, AllocError>
-where
-    T::Parcel: Send,
-    ensures { IfOk result (λ v. v.items ≡ map (λ m. m.part) members.items) }
-{
-    let mut parts = Vec::with_capacity(alloc, members.len())?;
-    for member in members {
-        let Member {
-            part,
-            port: _port,
-            stopped: _stopped,
-        } = member;
-        parts.push(part)?;
-    }
-    Ok(parts)
-}
-
 /// Runs a day on 1 to 64 threads: all partitions are at the end then, by number, and each holds and has told what it has by then by itself.
 /// As far as `stands` tells what that is, neither the number of workers nor the order in which threads get on changes it. A thread that
 /// cannot be started is no error: the caller does its work.
+///
+/// Each worker gets about as much to do as any other, by how much there is to do in each partition (`loads`, by number, in any unit; 0 where
+/// none is told). What is told there decides nothing else.
 ///
 /// # Errors
 ///
@@ -190,6 +177,7 @@ pub fn run_day<T: Part + Send + Sync, R: Threads + Wait + Sync, G: Gate>(
     alloc: Global,
     run: &T::Run,
     workers: u32,
+    loads: &[usize],
     gate: &G,
 ) -> Result<Vec<T>, AllocError>
 where
@@ -199,14 +187,16 @@ where
     requires net { IsNet (T.net run.now) }
     requires borders { (p : ℕ) → p < (T.net run.now).parts → AreBorders (T.net run.now) p (T.borders run.now p) }
     ensures count { IfOk result (λ parts. length parts.items ≡ (T.net run.now).parts) }
-    ensures ended { IfOk result (λ parts. EachAt T.see (T.stands run.now) (T.net run.now).end
+    ensures ended { IfOk result (λ parts. EachAt T.nothing T.see (T.stands run.now) (T.net run.now).end
         (λ p. length (T.borders run.now p)) (T.net run.now).parts parts.items) }
 {
-    if T::count(run) == 0 {
+    let count = T::count(run);
+    if count == 0 {
         return Ok(Vec::new(alloc));
     }
     let (board, mut hub) = new_board::<T>(alloc, run)?;
     let members = all_members(alloc, run, &board, &mut hub)?;
-    let bundle = run_to_end(rt, gate, run, &board, workers, Bundle { members })?;
-    parts_of(alloc, bundle.members)
+    let shared = share_out(alloc, members, count, workers, loads)?;
+    let bundle = run_to_end(rt, gate, run, &board, workers, Bundle { members: shared })?;
+    parts_of(alloc, bundle.members, count)
 }

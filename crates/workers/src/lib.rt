@@ -11,6 +11,7 @@ mod days;
 mod members;
 mod pairs;
 mod seconds;
+mod sharing;
 
 pub use bundles::run_bundle;
 pub use days::run_day;

@@ -12,7 +12,8 @@ use std::alloc::{AllocError, Global};
 use std::marker::PhantomData;
 use step_core::Part;
 
-/// What the partitions of a run send to one another, where `T` is a partition: its parcels, of which those are right that it calls so.
+/// What the partitions of a run send to one another, where `T` is a partition: its parcels, of which those are right that it calls so, and
+/// none in the place of one with nothing in it.
 pub struct Day<T> {
     part: PhantomData<T>,
 }
@@ -21,11 +22,13 @@ impl<T: Part> Traffic for Day<T>
 where
     T::Parcel: Send,
 {
+    ghost use Rattle.workers.specs.Parcels.{right_or_none};
+
     type Run = T::Run;
 
     type Parcel = T::Parcel;
 
-    ghost right = { T.right };
+    ghost right = { right_or_none T.nothing T.right };
 }
 
 /// A partition, and its port.
@@ -89,7 +92,7 @@ where
     requires some { 1 ≤ (T.net run.now).parts }
     requires net { IsNet (T.net run.now) }
     requires borders { (p : ℕ) → p < (T.net run.now).parts → AreBorders (T.net run.now) p (T.borders run.now p) }
-    ensures board { IfOk result (λ b. IsBoardOfRun T.net T.borders T.right run.now b.0) }
+    ensures board { IfOk result (λ b. IsBoardOfRun T.net T.borders T.nothing T.right run.now b.0) }
     ensures hub { IfOk result (λ b. IsHub b.0 b.1 × (had_port b.1 ≡ [])) }
 {
     let pairs = pairs_of::<T>(alloc, run)?;
@@ -113,14 +116,14 @@ where
         hub: &mut Hub<Day<T>>,
         number: u32,
     ) -> Result<Member<T>, AllocError>
-        requires board { IsBoardOfRun T.net T.borders T.right run.now board.now }
+        requires board { IsBoardOfRun T.net T.borders T.nothing T.right run.now board.now }
         requires hub { IsHub board.now hub.old }
         requires there { number < (T.net run.now).parts }
         requires first { contains (had_port hub.old) number ≡ false }
         ensures hub { IsHub board.now hub.new }
         ensures had { OnOk result (had_port hub.new ≡ number ∷ had_port hub.old) }
         ensures refused { OnErr result (hub.new ≡ hub.old) }
-        ensures member { IfOk result (λ m. IsMember T.net T.borders T.see T.stands T.spent T.right run.now board.now m) }
+        ensures member { IfOk result (λ m. IsMember T.net T.borders T.nothing T.see T.stands T.spent T.right run.now board.now m) }
         ensures start { IfOk result (λ m. (number_of m ≡ number) × (seconds_of m ≡ 0) × (is_stopped m ≡ false)) }
     {
         let part = T::start(alloc, run, number)?;
@@ -130,6 +133,13 @@ where
             port,
             stopped: false,
         })
+    }
+
+    /// The number of its partition.
+    pub(crate) fn number(&self) -> u32
+        ensures { result ≡ number_of self.now }
+    {
+        self.port.partition()
     }
 
     /// How many seconds it has done.

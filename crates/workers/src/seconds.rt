@@ -1,11 +1,13 @@
 //! How a member does its next second.
 
-ghost use Rattle.std.specs.Prelude.{◌≡◌, ℕ, ◌+◌, ◌<◌, true, false, length, OnOk, OnErr};
-ghost use Rattle.cells.specs.Ports.{IsPort, SameSecond, IsUntouched, IsUnread, degree, handover, is_taken, is_put, run_of, waits};
-ghost use Rattle.cells.specs.Ports.{partition_of, done_of};
-ghost use Rattle.step_core.specs.Views.{AreEmpty, IsHeard, IsSent, Stays, in_place};
+ghost use Rattle.std.specs.Prelude.{◌≡◌, ◌≢◌, ℕ, ◌+◌, ◌<◌, true, false, length, set, slice_set, unwrap_or, OnOk, OnErr};
+ghost use Rattle.cells.specs.declared.board.Handover.TheVariants.{Taken};
+ghost use Rattle.cells.specs.Ports.{IsPort, SameSecond, IsUntouched, IsUnread, degree, neighbour, handover, handovers_of};
+ghost use Rattle.cells.specs.Ports.{is_arrived, is_taken, is_put, run_of, waits, partition_of, done_of};
+ghost use Rattle.step_core.specs.Views.{AreEmpty, IsHeard, Stays, in_place};
 ghost use Rattle.workers.specs.Members.{IsBoardOfRun, IsMember, Rests, Goes, Turned, border_of};
 ghost use Rattle.workers.specs.Members.{number_of, seconds_of, is_stopped, waits_of, still_of};
+ghost use Rattle.workers.specs.Parcels.{right_or_none};
 
 use crate::members::{Day, Member, Turn};
 use cells::{Board, Look, Port, Traffic};
@@ -32,50 +34,139 @@ fn look_all<T: Traffic>(board: &Board<T>, port: &mut Port<T>) -> bool
     true
 }
 
-/// The partition absorbs the parcel of each neighbour, where there is one for this second.
+/// The partition absorbs what neighbour `k` sent for this second, where something is in it.
+#[tactic(auto, using(crate::proofs::Exchanging::came, crate::proofs::Exchanging::came_empty))]
+fn take_from<T: Part>(board: &Board<Day<T>>, part: &mut T, port: &mut Port<Day<T>>, k: usize)
+where
+    T::Parcel: Send,
+    requires port { IsPort (right_or_none T.nothing T.right) board.now port.old }
+    requires neighbour { k < degree port.old }
+    requires arrived { is_arrived (handover port.old k) ≡ true }
+    requires there { k < length (T.see part.old).inbox }
+    requires empty { in_place T.nothing (T.see part.old).inbox k ≡ T.nothing }
+    ensures port { IsPort (right_or_none T.nothing T.right) board.now port.new }
+    ensures same { SameSecond port.old port.new × (waits port.new ≡ waits port.old) }
+    ensures held { handovers_of port.new ≡ slice_set (handovers_of port.old) k Taken }
+    ensures heard { IsHeard T.nothing (T.right (run_of board.now)) (partition_of port.old) (done_of port.old) (border_of port.old k)
+        (in_place T.nothing (T.see part.new).inbox k) }
+    ensures others { (j : ℕ) → j ≢ k
+        → in_place T.nothing (T.see part.new).inbox j ≡ in_place T.nothing (T.see part.old).inbox j }
+    ensures places { length (T.see part.new).inbox ≡ length (T.see part.old).inbox }
+    ensures outbox { (T.see part.new).outbox ≡ (T.see part.old).outbox }
+    ensures number { (T.see part.new).number ≡ (T.see part.old).number }
+    ensures seconds { (T.see part.new).seconds ≡ (T.see part.old).seconds }
+    ensures stands { Stays T.stands part.old part.new }
+{
+    match port.take(board, k) {
+        Some(parcel) => part.absorb(k, parcel),
+        None => {}
+    }
+}
+
+/// The partition absorbs what each neighbour sent for this second, if that is a second of the day.
 fn take_all<T: Part>(board: &Board<Day<T>>, part: &mut T, port: &mut Port<Day<T>>)
 where
     T::Parcel: Send,
-    requires port { IsPort T.right board.now port.old }
+    requires port { IsPort (right_or_none T.nothing T.right) board.now port.old }
     requires ready { (k : ℕ) → k < degree port.old → IsUnread port.old k }
-    requires empty { AreEmpty (degree port.old) (T.see part.old).inbox }
-    ensures port { IsPort T.right board.now port.new }
+    requires empty { AreEmpty T.nothing (degree port.old) (T.see part.old).inbox }
+    ensures port { IsPort (right_or_none T.nothing T.right) board.now port.new }
     ensures same { SameSecond port.old port.new × (waits port.new ≡ waits port.old) }
     ensures taken { (k : ℕ) → k < degree port.new → is_taken (handover port.new k) ≡ true }
     ensures places { length (T.see part.new).inbox ≡ degree port.old }
-    ensures heard { (k : ℕ) → k < degree port.old → IsHeard (T.right (run_of board.now)) (partition_of port.old) (done_of port.old)
-        (border_of port.old k) (in_place (T.see part.new).inbox k) }
+    ensures heard { (k : ℕ) → k < degree port.old → IsHeard T.nothing (T.right (run_of board.now)) (partition_of port.old)
+        (done_of port.old) (border_of port.old k) (in_place T.nothing (T.see part.new).inbox k) }
+    ensures outbox { (T.see part.new).outbox ≡ (T.see part.old).outbox }
     ensures number { (T.see part.new).number ≡ (T.see part.old).number }
     ensures seconds { (T.see part.new).seconds ≡ (T.see part.old).seconds }
     ensures stands { Stays T.stands part.old part.new }
 {
     for k in 0..port.neighbours().len() {
         if port.lag(k) <= port.done() {
-            let parcel = port.take(board, k);
-            part.absorb(k, parcel);
+            take_from(board, part, port, k);
         }
     }
 }
 
-/// The port gets the partition's parcel for each neighbour.
-fn put_all<T: Part>(board: &Board<Day<T>>, part: &mut T, port: &mut Port<Day<T>>)
-where
-    T::Parcel: Send,
+/// Takes out the parcel for neighbour `k`, where something is in it.
+fn take_out<T: Part>(part: &mut T, k: usize) -> Option<T::Parcel>
+    requires { k < length (T.see part.old).outbox }
+    ensures parcel { unwrap_or result T.nothing ≡ in_place T.nothing (T.see part.old).outbox k }
+    ensures outbox { (T.see part.new).outbox ≡ set (T.see part.old).outbox k T.nothing }
+    ensures inbox { (T.see part.new).inbox ≡ (T.see part.old).inbox }
+    ensures number { (T.see part.new).number ≡ (T.see part.old).number }
+    ensures seconds { (T.see part.new).seconds ≡ (T.see part.old).seconds }
+    ensures stands { Stays T.stands part.old part.new }
+{
+    let parcel = part.outbox(k);
+    if T::is_nothing(&parcel) {
+        None
+    } else {
+        Some(parcel)
+    }
+}
+
+/// The port gets for each neighbour that nothing goes to it.
+fn put_none<T: Traffic>(board: &Board<T>, port: &mut Port<T>)
     requires port { IsPort T.right board.now port.old }
     requires taken { (k : ℕ) → k < degree port.old → is_taken (handover port.old k) ≡ true }
-    requires sent { (k : ℕ) → k < degree port.old → IsSent (T.right (run_of board.now)) (partition_of port.old) (done_of port.old)
-        (border_of port.old k) (in_place (T.see part.old).outbox k) }
+    requires right { (k : ℕ) → k < degree port.old
+        → T.right (run_of board.now) (partition_of port.old) (neighbour port.old k) (done_of port.old) None }
     ensures port { IsPort T.right board.now port.new }
     ensures same { SameSecond port.old port.new × (waits port.new ≡ waits port.old) }
     ensures put { (k : ℕ) → k < degree port.new → is_put (handover port.new k) ≡ true }
+{
+    for k in 0..port.neighbours().len() {
+        port.put(board, k, None);
+    }
+}
+
+/// The port gets the partition's parcel for each neighbour.
+fn put_each<T: Part>(board: &Board<Day<T>>, part: &mut T, port: &mut Port<Day<T>>)
+where
+    T::Parcel: Send,
+    requires port { IsPort (right_or_none T.nothing T.right) board.now port.old }
+    requires taken { (k : ℕ) → k < degree port.old → is_taken (handover port.old k) ≡ true }
+    requires sent { (k : ℕ) → k < degree port.old → T.right (run_of board.now) (partition_of port.old) (neighbour port.old k)
+        (done_of port.old) (in_place T.nothing (T.see part.old).outbox k) }
+    requires places { length (T.see part.old).outbox ≡ degree port.old }
+    ensures port { IsPort (right_or_none T.nothing T.right) board.now port.new }
+    ensures same { SameSecond port.old port.new × (waits port.new ≡ waits port.old) }
+    ensures put { (k : ℕ) → k < degree port.new → is_put (handover port.new k) ≡ true }
+    ensures gone { AreEmpty T.nothing (degree port.old) (T.see part.new).outbox }
     ensures inbox { (T.see part.new).inbox ≡ (T.see part.old).inbox }
     ensures number { (T.see part.new).number ≡ (T.see part.old).number }
     ensures seconds { (T.see part.new).seconds ≡ (T.see part.old).seconds }
     ensures stands { Stays T.stands part.old part.new }
 {
     for k in 0..port.neighbours().len() {
-        let parcel = part.outbox(k);
+        let parcel = take_out(part, k);
         port.put(board, k, parcel);
+    }
+}
+
+/// The port gets for each neighbour what the partition sends it. A partition that sends nothing at all is not asked for each.
+fn put_all<T: Part>(board: &Board<Day<T>>, part: &mut T, port: &mut Port<Day<T>>)
+where
+    T::Parcel: Send,
+    requires port { IsPort (right_or_none T.nothing T.right) board.now port.old }
+    requires taken { (k : ℕ) → k < degree port.old → is_taken (handover port.old k) ≡ true }
+    requires sent { (k : ℕ) → k < degree port.old → T.right (run_of board.now) (partition_of port.old) (neighbour port.old k)
+        (done_of port.old) (in_place T.nothing (T.see part.old).outbox k) }
+    requires places { length (T.see part.old).outbox ≡ degree port.old }
+    ensures port { IsPort (right_or_none T.nothing T.right) board.now port.new }
+    ensures same { SameSecond port.old port.new × (waits port.new ≡ waits port.old) }
+    ensures put { (k : ℕ) → k < degree port.new → is_put (handover port.new k) ≡ true }
+    ensures gone { AreEmpty T.nothing (degree port.old) (T.see part.new).outbox }
+    ensures inbox { (T.see part.new).inbox ≡ (T.see part.old).inbox }
+    ensures number { (T.see part.new).number ≡ (T.see part.old).number }
+    ensures seconds { (T.see part.new).seconds ≡ (T.see part.old).seconds }
+    ensures stands { Stays T.stands part.old part.new }
+{
+    if part.sends() {
+        put_each(board, part, port);
+    } else {
+        put_none(board, port);
     }
 }
 
@@ -93,11 +184,11 @@ fn do_second<T: Part>(
 ) -> Result<(), AllocError>
 where
     T::Parcel: Send,
-    requires board { IsBoardOfRun T.net T.borders T.right run.now board.now }
-    requires rests { Rests T.net T.borders T.see T.stands T.right run.now board.now member.old }
+    requires board { IsBoardOfRun T.net T.borders T.nothing T.right run.now board.now }
+    requires rests { Rests T.net T.borders T.nothing T.see T.stands T.right run.now board.now member.old }
     requires before_end { seconds_of member.old < (T.net run.now).end }
     requires ready { (k : ℕ) → k < degree member.old.port → IsUnread member.old.port k }
-    ensures rests { OnOk result (Rests T.net T.borders T.see T.stands T.right run.now board.now member.new) }
+    ensures rests { OnOk result (Rests T.net T.borders T.nothing T.see T.stands T.right run.now board.now member.new) }
     ensures done { OnOk result ((seconds_of member.new ≡ seconds_of member.old + 1) × (waits_of member.new ≡ waits_of member.old)
         × (still_of member.new ≡ waits_of member.old)) }
     ensures refused { OnErr result ((seconds_of member.new ≡ seconds_of member.old) × T.spent member.new.part) }
@@ -120,9 +211,9 @@ pub(crate) fn turn<T: Part, G: Gate>(
 ) -> Turn
 where
     T::Parcel: Send,
-    requires board { IsBoardOfRun T.net T.borders T.right run.now board.now }
-    requires member { IsMember T.net T.borders T.see T.stands T.spent T.right run.now board.now member.old }
-    ensures member { IsMember T.net T.borders T.see T.stands T.spent T.right run.now board.now member.new }
+    requires board { IsBoardOfRun T.net T.borders T.nothing T.right run.now board.now }
+    requires member { IsMember T.net T.borders T.nothing T.see T.stands T.spent T.right run.now board.now member.old }
+    ensures member { IsMember T.net T.borders T.nothing T.see T.stands T.spent T.right run.now board.now member.new }
     ensures goes { Goes member.old member.new }
     ensures turned { Turned (T.net run.now).end member.old member.new result }
 {

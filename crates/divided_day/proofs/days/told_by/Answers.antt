@@ -12,7 +12,8 @@ finish-requires-clause-there g c =
     let turn = YieldsList-turn (YieldsList-from_vec {s = c.into_iter-part-iterator.result} c.args.parts.items (search rules) (search rules))
     c.loop-part.yielded c.loop-part.part-iterator c.loop-part.yielded_by c.next.result c.next.new.self c.in-Some.part c.in-Some.is
     c.next.ensures.steps in
-    number_there g.T.Part.see (g.T.Part.stands run) (g.T.Part.net run).end (λ p. length (g.T.Part.borders run p)) c.args.parts.items
+    number_there g.T.Part.nothing g.T.Part.see (g.T.Part.stands run) (g.T.Part.net run).end
+    (λ p. length (g.T.Part.borders run p)) c.args.parts.items
     (g.T.Part.net run).parts (length c.loop-part.yielded) c.in-Some.part c.requires.count c.requires.ended turn.0 turn.1
 
 pub finish-requires-clause-at : goal.finish-requires-clause-at
@@ -21,7 +22,8 @@ finish-requires-clause-at g c =
     let turn = YieldsList-turn (YieldsList-from_vec {s = c.into_iter-part-iterator.result} c.args.parts.items (search rules) (search rules))
     c.loop-part.yielded c.loop-part.part-iterator c.loop-part.yielded_by c.next.result c.next.new.self c.in-Some.part c.in-Some.is
     c.next.ensures.steps in
-    own_there g.T.Part.see (g.T.Part.stands run) (g.T.Part.net run).end (λ p. length (g.T.Part.borders run p)) c.args.parts.items
+    own_there g.T.Part.nothing g.T.Part.see (g.T.Part.stands run) (g.T.Part.net run).end
+    (λ p. length (g.T.Part.borders run p)) c.args.parts.items
     (g.T.Part.net run).parts (length c.loop-part.yielded) c.in-Some.part c.requires.count c.requires.ended turn.0 turn.1
 
 pub loop-part-preserved : goal.loop-part-preserved
@@ -30,7 +32,7 @@ loop-part-preserved g c =
     let turn = YieldsList-turn (YieldsList-from_vec {s = c.into_iter-part-iterator.result} c.args.parts.items (search rules) (search rules))
     c.loop-part.yielded c.loop-part.part-iterator c.loop-part.yielded_by c.next.result c.next.new.self c.in-Some.part c.in-Some.is
     c.next.ensures.steps in
-    let there = part_there g.T.Part.see (g.T.Part.stands run) (g.T.Part.net run).end
+    let there = part_there g.T.Part.nothing g.T.Part.see (g.T.Part.stands run) (g.T.Part.net run).end
     (λ p. length (g.T.Part.borders run p)) c.args.parts.items
     (g.T.Part.net run).parts (length c.loop-part.yielded) c.in-Some.part c.requires.count c.requires.ended turn.0 turn.1 in
     let n = (g.T.Part.see c.in-Some.part).number in

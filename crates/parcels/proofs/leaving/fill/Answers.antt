@@ -3,13 +3,12 @@ use Rattle.parcels.proofs.leaving.fill.Goals as goal
 
 pub returns-clause-count : goal.returns-clause-count
 returns-clause-count c =
-    filled_count _ _ _ _ _ _ _ _ c.in_ok-parcels.ensures c.in_ok-fill_vehicles.ensures.parcels c.in_ok-fill_flights.ensures.parcels
-    c.in_ok-fill_freed.ensures
+    filled_count _ _ _ _ _ _ _ c.in_ok-fill_vehicles.ensures.parcels c.in_ok-fill_flights.ensures.parcels c.in_ok-send_all_freed.ensures
 
 pub returns-clause-each : goal.returns-clause-each
 returns-clause-each c = λ k lt.
-    filled _ _ _ _ _ _ _ _ c.in_ok-parcels.ensures c.in_ok-fill_vehicles.ensures.parcels c.in_ok-fill_flights.ensures.parcels
-    c.in_ok-fill_freed.ensures k lt
+    filled _ _ _ _ _ _ _ c.requires.none c.in_ok-fill_vehicles.ensures.parcels c.in_ok-fill_flights.ensures.parcels
+    c.in_ok-send_all_freed.ensures k lt
 
 pub returns-clause-gone : goal.returns-clause-gone
 returns-clause-gone c =

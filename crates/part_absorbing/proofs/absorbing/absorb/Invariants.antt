@@ -1,8 +1,8 @@
 use Rattle.std.proofs.Common.{◌≡◌, ℕ, ◌<◌, ◌≤◌, length, take}
-use Rattle.std.specs.Prelude.{None}
 use Rattle.partition.specs.Owned.{owner_in}
 use Rattle.town.specs.Views.{setup}
 use Rattle.divided_day.specs.Borders.{borders_of}
+use Rattle.parcels.specs.Parcels.{nothing}
 use Rattle.step_core.specs.Views.{in_place}
 use Rattle.part_absorbing.specs.Absorbed.{neighbours_at, HasAbsorbed}
 use Rattle.part_absorbing.proofs.absorbing.absorb.Given as goal
@@ -13,7 +13,7 @@ invariant-loop-place l = record {
       HasAbsorbed l.run.day.now (owner_in l.run.owner.now.of_node) l.number l.second
       (take l.place (neighbours_at (borders_of (setup l.run.day.now) (owner_in l.run.owner.now.of_node) l.run.owner.now.parts l.number)))
       l.initial.area l.area;
-  many : length l.inbox.items ≡ length l.initial.inbox.items;
-  emptied : (k : ℕ) → k < l.place → in_place l.inbox.items k ≡ None;
-  kept : (k : ℕ) → l.place ≤ k → in_place l.inbox.items k ≡ in_place l.initial.inbox.items k;
+  many : length l.inbox ≡ length l.initial.inbox;
+  emptied : (k : ℕ) → k < l.place → in_place nothing l.inbox k ≡ nothing;
+  kept : (k : ℕ) → l.place ≤ k → in_place nothing l.inbox k ≡ in_place nothing l.initial.inbox k;
 }

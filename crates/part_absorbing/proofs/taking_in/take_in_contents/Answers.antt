@@ -23,7 +23,7 @@ returns c =
     let links = A.network.links.items in
     let place = slot_in run.link_slots.now links in
     let es_are : c.arrive.new.entering.items ≡ entering_with day s x
-    = c.in_ok-freed.ensures.entering ∙ ap (λ (es : List Entering). es ++ entering_with day s x) c.new-entering.ensures.items in
+    = c.in_ok-freed.ensures.entering ∙ ap (λ (es : List Entering). es ++ entering_with day s x) c.in_ok-entering.ensures.items in
     let freed_is = same_freed c.in_ok-freed.freed x.freed c.in_ok-freed.ensures.freed in
     record {
       persons = c.in_ok-freed.ensures.persons;

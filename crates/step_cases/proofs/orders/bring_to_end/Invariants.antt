@@ -4,7 +4,8 @@ use Rattle.step_cases.proofs.orders.bring_to_end.Given as goal
 
 abbrev pub invariant-loop-turn : goal.invariant-loop-turn
 invariant-loop-turn g l = record {
-  core : IsCore (g.T.Part.net l.run) (g.T.Part.borders l.run) g.T.Part.see (g.T.Part.stands l.run) g.T.Part.spent (g.T.Part.right l.run)
-      l.core.done.items l.core.stopped.items l.core.borders.items l.core.parts.items l.core.boxes.items;
+  core : IsCore g.T.Part.nothing (g.T.Part.net l.run) (g.T.Part.borders l.run) g.T.Part.see (g.T.Part.stands l.run)
+      g.T.Part.spent (g.T.Part.right l.run) l.core.done.items l.core.stopped.items l.core.borders.items l.core.parts.items
+      l.core.wheels.items;
   goes : (p : ℕ) → p < (g.T.Part.net l.run).parts → is_stopped l.core.stopped.items p ≡ false;
 }

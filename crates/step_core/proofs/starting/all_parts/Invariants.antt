@@ -5,5 +5,5 @@ use Rattle.step_core.proofs.starting.all_parts.Given as goal
 abbrev pub invariant-loop-number : goal.invariant-loop-number
 invariant-loop-number g l = record {
   count : length l.parts.items ≡ l.number;
-  each : EachAt g.T.Part.see (g.T.Part.stands l.run) 0 (λ p. length (g.T.Part.borders l.run p)) l.number l.parts.items;
+  each : EachAt g.T.Part.nothing g.T.Part.see (g.T.Part.stands l.run) 0 (λ p. length (g.T.Part.borders l.run p)) l.number l.parts.items;
 }

@@ -3,7 +3,7 @@ use Rattle.std.proofs.lemmas.Iterator.Consumers.{YieldsList-turn, YieldsList-end
 use Rattle.std.proofs.lemmas.Iterator.Adapters.{YieldsList-from_vec}
 use Rattle.divided_day.specs.Days.{told_in, end_told_in}
 use Rattle.streamed_day.specs.Telling.{told_at_end}
-use Rattle.streamed_day.proofs.Views.{end_there, stands_at_end, lists_more, rest_at_end, all_mapped}
+use Rattle.streamed_day.proofs.Views.{end_there, lists_more, rest_at_end, all_mapped}
 use Rattle.streamed_day.proofs.telling.ends_told_by.Goals as goal
 
 pub finish-requires-clause-there : goal.finish-requires-clause-there
@@ -12,8 +12,8 @@ finish-requires-clause-there g c =
     let turn = YieldsList-turn (YieldsList-from_vec {s = c.into_iter-part-iterator.result} c.args.parts.items (search rules) (search rules))
     c.loop-part.yielded c.loop-part.part-iterator c.loop-part.yielded_by c.next.result c.next.new.self c.in-Some.part c.in-Some.is
     c.next.ensures.steps in
-    (end_there (g.T.Part.net run) (g.T.Part.borders run) g.T.Part.see (g.T.Part.stands run) c.args.parts.items
-    (length c.loop-part.yielded) c.in-Some.part c.requires.ended turn.0 turn.1).one.there
+    (end_there g.T.Part.nothing (g.T.Part.net run) (g.T.Part.borders run) g.T.Part.see (g.T.Part.stands run) c.args.parts.items
+    (length c.loop-part.yielded) c.in-Some.part c.requires.ended turn.0 turn.1).there
 
 pub finish-requires-clause-at : goal.finish-requires-clause-at
 finish-requires-clause-at g c =
@@ -21,9 +21,8 @@ finish-requires-clause-at g c =
     let turn = YieldsList-turn (YieldsList-from_vec {s = c.into_iter-part-iterator.result} c.args.parts.items (search rules) (search rules))
     c.loop-part.yielded c.loop-part.part-iterator c.loop-part.yielded_by c.next.result c.next.new.self c.in-Some.part c.in-Some.is
     c.next.ensures.steps in
-    stands_at_end (g.T.Part.net run) (g.T.Part.borders run) g.T.Part.see (g.T.Part.stands run) c.in-Some.part
-    (end_there (g.T.Part.net run) (g.T.Part.borders run) g.T.Part.see (g.T.Part.stands run) c.args.parts.items
-    (length c.loop-part.yielded) c.in-Some.part c.requires.ended turn.0 turn.1)
+    (end_there g.T.Part.nothing (g.T.Part.net run) (g.T.Part.borders run) g.T.Part.see (g.T.Part.stands run) c.args.parts.items
+    (length c.loop-part.yielded) c.in-Some.part c.requires.ended turn.0 turn.1).at
 
 pub loop-part-preserved : goal.loop-part-preserved
 loop-part-preserved g c =

@@ -11,6 +11,7 @@ pub loop-number-preserved : goal.loop-number-preserved
 loop-number-preserved g c =
     let net = g.T.Part.net in
     let borders = g.T.Part.borders in
+    let nothing = g.T.Part.nothing in
     let see = g.T.Part.see in
     let stands = g.T.Part.stands in
     let spent = g.T.Part.spent in
@@ -22,9 +23,9 @@ loop-number-preserved g c =
     let n = c.in_ok-start.ensures in
     let x = c.in_ok-start.field-0 in
     let F : List (Member g.row.T.Denot g.row.T-Run.Denot g.row.T-Parcel.Denot) → Type 0 =
-    λ z. AreMembers net borders see stands spent right run b z × AreAll (p + 1) z in
+    λ z. AreMembers net borders nothing see stands spent right run b z × AreAll (p + 1) z in
     let more : F c.push.new.self.items = subst F (sym c.in_ok-push.ensures.items) (
-      members_more net borders see stands spent right run b c.loop-number.members.items x i.2 n.member,
+      members_more net borders nothing see stands spent right run b c.loop-number.members.items x i.2 n.member,
       all_more p c.loop-number.members.items x i.3 n.start.0,
     ) in (
       n.hub,

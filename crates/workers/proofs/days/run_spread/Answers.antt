@@ -11,7 +11,8 @@ pub for_each_chunk_mut-requires-clause-accepts : goal.for_each_chunk_mut-require
 for_each_chunk_mut-requires-clause-accepts g c κs within = λ start p is. (
   (
     c.requires.board,
-    chunk_members g.T.Part.net g.T.Part.borders g.T.Part.see g.T.Part.stands g.T.Part.spent g.T.Part.right c.args.run.now c.args.board.now
+    chunk_members g.T.Part.net g.T.Part.borders g.T.Part.nothing g.T.Part.see g.T.Part.stands g.T.Part.spent g.T.Part.right c.args.run.now
+        c.args.board.now
         c.args.members.now p.now c.max-size.result start c.requires.members is,
   ),
   (
@@ -29,6 +30,7 @@ pub returns : goal.returns
 returns g c =
     let net = g.T.Part.net in
     let borders = g.T.Part.borders in
+    let nothing = g.T.Part.nothing in
     let see = g.T.Part.see in
     let stands = g.T.Part.stands in
     let spent = g.T.Part.spent in
@@ -42,15 +44,16 @@ returns g c =
       went = record {
         members = λ i d lt.
             let w = (by i d (omega arith)).1 in
-            let r : Ran net borders see stands spent right run b w.argument.now w.after_call.now = w.call in
+            let r : Ran net borders nothing see stands spent right run b w.argument.now w.after_call.now = w.call in
             let long = r.went.go.long in let inside = w.offset_in_chunk in
-            subst (λ (m : Member g.row.T.Denot g.row.T-Run.Denot g.row.T-Parcel.Denot). IsMember net borders see stands spent right run b m)
+            subst (λ (m : Member g.row.T.Denot g.row.T-Run.Denot g.row.T-Parcel.Denot). IsMember net borders nothing see stands spent
+            right run b m)
             w.new_element (r.went.members w.offset d (omega arith));
         go = record {
           long = omega arith;
           each = λ i d lt.
               let w = (by i d lt).1 in
-              let r : Ran net borders see stands spent right run b w.argument.now w.after_call.now = w.call in
+              let r : Ran net borders nothing see stands spent right run b w.argument.now w.after_call.now = w.call in
               subst₂ (λ (old new : Member g.row.T.Denot g.row.T-Run.Denot g.row.T-Parcel.Denot). Goes old new) w.old_element
               w.new_element
               (r.went.go.each w.offset d w.offset_in_chunk);
@@ -60,6 +63,6 @@ returns g c =
       some = omega arith;
       ran = λ n lt.
           let w = c.for_each_chunk_mut.ensures.chunks n lt in
-          let r : Ran net borders see stands spent right run b w.argument.now w.after_call.now = w.call in
-          subst₂ (Ran net borders see stands spent right run b) w.argument_is w.left r;
+          let r : Ran net borders nothing see stands spent right run b w.argument.now w.after_call.now = w.call in
+          subst₂ (Ran net borders nothing see stands spent right run b) w.argument_is w.left r;
     }

@@ -9,6 +9,7 @@ use Rattle.workers.proofs.seconds.take_all.Goals as goal
 
 pub loop-k-preserved : goal.loop-k-preserved
 loop-k-preserved g c =
+    let nothing = g.T.Part.nothing in
     let see = g.T.Part.see in
     let stands = g.T.Part.stands in
     let right = g.T.Part.right in
@@ -22,13 +23,13 @@ loop-k-preserved g c =
     let k = c.loop-k.k in
     let lk : k < degree before = omega arith in
     let F : Port (Day g.row.T.Denot) g.row.T-Run.Denot g.row.T-Parcel.Denot → g.row.T.Denot → Type 0 =
-    λ q y. HasTakenTo see stands right b before x (k + 1) q y in
+    λ q y. HasTakenTo nothing see stands right b before x (k + 1) q y in
     elim c.if-lag-done.branch [
-      | then-lag-done w ↦ let t = w.take-parcel.ensures in let a = w.absorb.ensures in
+      | then-lag-done w ↦ let t = w.take_from.ensures in
           subst₂ F (sym w.port-is) (sym w.part-is)
-          (took see stands right b before x k c.loop-k.port w.take-parcel.new.self c.loop-k.part w.absorb.new.self w.take-parcel.result i lk
-          t.port t.same t.held t.counts t.right.0 t.right.1 a.inbox a.number a.seconds a.stands)
+          (took nothing see stands right b before x k c.loop-k.port w.take_from.new.port c.loop-k.part w.take_from.new.part i lk
+          t.port t.same.0 t.held t.same.1 t.heard t.others t.places t.outbox t.number t.seconds t.stands)
       | else-lag-done w ↦ subst₂ F (sym w.port-is) (sym w.part-is)
-          (skipped see stands right b before x k c.loop-k.port c.loop-k.part i lk
+          (skipped nothing see stands right b before x k c.loop-k.port c.loop-k.part i lk
           (let f = w.if-lag-done.false in let l = c.lag.ensures in let d = c.done.ensures in omega arith))
     ]

@@ -15,7 +15,8 @@ pub last_second-requires-clause-running : goal.last_second-requires-clause-runni
 last_second-requires-clause-running g c =
     let run = c.args.self.now.run.now in (
       c.args.self.now.second,
-      all_ran (g.T.Part.net run) (g.T.Part.borders run) g.T.Part.see (g.T.Part.stands run) g.T.Part.spent (g.T.Part.right run)
+      all_ran g.T.Part.nothing (g.T.Part.net run) (g.T.Part.borders run) g.T.Part.see (g.T.Part.stands run) g.T.Part.spent
+          (g.T.Part.right run)
           c.args.self.now.second c.loop-number.number _ _ _ _ _ c.loop-number.invariant.core c.loop-number.invariant.round
           (omega (arith, c.count-number-end.ensures, c.loop-number-test.false)) (omega (arith, c.end.ensures, c.if-self-end.false)),
     )
@@ -27,6 +28,7 @@ returns-clause-some g c =
     second_piece (setup (g.T.DayPart.day run)) (g.T.Part.net run).end c.args.self.now.second c.in_ok-piece-2.piece.items
     (is_some c.args.self.now.core) (ap is_some (sym c.in-Some.ensures.value)) early
     (c.in_ok-piece-2.ensures c.args.self.now.second
-    (all_ran (g.T.Part.net run) (g.T.Part.borders run) g.T.Part.see (g.T.Part.stands run) g.T.Part.spent (g.T.Part.right run)
+    (all_ran g.T.Part.nothing (g.T.Part.net run) (g.T.Part.borders run) g.T.Part.see (g.T.Part.stands run) g.T.Part.spent
+    (g.T.Part.right run)
     c.args.self.now.second c.loop-number.number _ _ _ _ _ c.loop-number.invariant.core c.loop-number.invariant.round
     (omega (arith, c.count-number-end.ensures, c.loop-number-test.false)) early))

@@ -1,4 +1,4 @@
-use Rattle.std.proofs.Common.{◌∙◌, List, ap, arith, refl, sym, subst, length}
+use Rattle.std.proofs.Common.{◌∙◌, List, ap, refl, sym, subst, length}
 use Rattle.events.specs.declared.event.Event.{Event}
 use Rattle.part_ending.specs.declared.straying.Stray.{Stray}
 use Rattle.part_ending.specs.Strays.{AreStrays}
@@ -6,7 +6,7 @@ use Rattle.partition.specs.Owned.{owner_in}
 use Rattle.step_core.specs.declared.part.Border.{Border}
 use Rattle.town.specs.Views.{setup}
 use Rattle.town_part.specs.Parts.{HasTold}
-use Rattle.town_part.proofs.Standing.{none_stray}
+use Rattle.town_part.proofs.Standing.{none_stray, new_empty}
 use Rattle.town_part.proofs.Telling.{none_told}
 use Rattle.town_part.proofs.part.TownPartPart.start.Goals as goal
 
@@ -24,17 +24,13 @@ returns c =
       holds = record {
         there = c.requires;
         stands = c.in_ok-area.ensures;
-        events = subst (λ (es : List Event). HasTold run.streams day run.owner.now p 0 es) (sym c.new.ensures.items)
+        events = subst (λ (es : List Event). HasTold run.streams day run.owner.now p 0 es) (sym c.new-3.ensures.items)
             (none_told run.streams day run.owner.now p);
-        silent = c.new-2.ensures.items;
-        stray = subst (λ (xs : List Stray). AreStrays S own run.owner.now.parts p 0 xs) (sym c.new-3.ensures.items)
+        silent = c.new-4.ensures.items;
+        stray = subst (λ (xs : List Stray). AreStrays S own run.owner.now.parts p 0 xs) (sym c.new-5.ensures.items)
             (none_stray S own run.owner.now.parts p);
-        comes = c.in_ok-inbox.ensures.many ∙ many;
-        goes = c.in_ok-outbox.ensures.many ∙ many;
         whole = refl;
       };
-      empty = record {
-        many = c.in_ok-inbox.ensures.many ∙ many;
-        none = λ k lt. c.in_ok-inbox.ensures.none k (let same = many in omega arith);
-      };
+      empty = new_empty _ _ _ c.in_ok-inbox.ensures many;
+      gone = new_empty _ _ _ c.in_ok-outbox.ensures many;
     }

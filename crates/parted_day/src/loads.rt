@@ -1,0 +1,38 @@
+//! How much there is to do in each partition of a day.
+
+use partition::{Owner, owner_of_link};
+use rows::{Leg, Plan};
+use std::alloc::{AllocError, Global};
+use town::DayInput;
+
+/// Counts for each link of a plan's routes once more what there is to do in its partition.
+fn add_plan(day: &DayInput, owner: &Owner, plan: &Plan, loads: &mut [usize]) {
+    for leg in &plan.legs.rows {
+        if let Leg::Car { route } = leg {
+            for link in &route.rows {
+                let partition = owner_of_link(day, owner, *link) as usize;
+                if partition < loads.len() {
+                    loads[partition] = loads[partition].saturating_add(1);
+                }
+            }
+        }
+    }
+}
+
+/// By partition how many links of its own the routes of all chosen plans lead over: what a day costs is mostly the entering and leaving of
+/// links. It decides which worker gets which partitions, and nothing else.
+///
+/// # Errors
+///
+/// `AllocError`: there is no memory for a number for each partition.
+pub(crate) fn loads_of(
+    alloc: Global,
+    day: &DayInput,
+    owner: &Owner,
+) -> Result<Vec<usize>, AllocError> {
+    let mut loads = vec![in alloc; 0; owner.parts as usize]?;
+    for plan in day.chosen {
+        add_plan(day, owner, plan, &mut loads);
+    }
+    Ok(loads)
+}

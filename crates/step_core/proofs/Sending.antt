@@ -1,0 +1,70 @@
+-- What a partition puts into the wheels of its neighbours, one after the other.
+use Rattle.std.proofs.Common.{◌≡◌, ◌≢◌, ℕ, ◌+◌, ◌<◌, ◌≤◌, List, ◌∙◌, length, get_or, set, ap, sym, subst, arith}
+use Rattle.std.proofs.lemmas.List.{get_or-set_same, get_or-set_other, get_or_default, length-set}
+use mathlib.Core.Logic.{dite}
+use native.Mathlib.Decide.{ℕ_discrete}
+use Rattle.step_core.specs.declared.part.Border.{Border}
+use Rattle.step_core.specs.declared.wheel.Wheel.{Wheel}
+use Rattle.step_core.specs.Views.{PartView, Stays, in_place}
+use Rattle.step_core.specs.Wheels.{due_in, IsPut}
+use Rattle.step_core.specs.Exchanges.{neighbour_at, HaveRoom, AreSent}
+
+-- one neighbour more
+module _ {R T P : Type 0} (nothing : P) (see : T → PartView P) (stands : R → T → Type 0) (t p : ℕ) (rows : List Border) (k : ℕ)
+    (old now : List (Wheel P)) (before z : T) (have : HaveRoom nothing t p rows old)
+    (places : length (see before).outbox ≡ length rows) (h : AreSent nothing see stands t p rows k old now before z)
+    (lt : k < length rows) where
+  abbrev q : ℕ
+  q = neighbour_at rows k
+
+  lesser : (j : ℕ) → j < k → neighbour_at rows j ≢ q
+  lesser j l = λ e. absurd (let up = have.listed.ascend j k l lt in omega arith)
+
+  -- its wheel is still there as it was
+  there : q < length now
+  there = let long = h.sent.long in let lies = have.there k lt in omega arith
+
+  as_it_was : (e d : Wheel P) → get_or now q e ≡ get_or old q d
+  as_it_was e d = h.sent.others q e lesser ∙ get_or_default old q e d (have.there k lt)
+
+  place : k < length (see z).outbox
+  place = let degree = h.sent.degree in omega arith
+
+  pub sends_next : (e v : Wheel P) (y : T)
+      → IsPut nothing (due_in (get_or now q e) t p) p (in_place nothing (see z).outbox k) (get_or now q e) v
+      → (see y).outbox ≡ set (see z).outbox k nothing → (see y).inbox ≡ (see z).inbox → (see y).number ≡ (see z).number
+      → (see y).seconds ≡ (see z).seconds → Stays stands z y
+      → AreSent nothing see stands t p rows (k + 1) old (set now q v) before y
+  sends_next e v y put outbox inbox number seconds stays =
+      let g = h.sent in
+      record {
+        sent = record {
+          long = length-set now q v ∙ g.long;
+          degree = ap (λ (xs : List P). length xs) outbox ∙ length-set (see z).outbox k nothing ∙ g.degree;
+          gone = λ j l. dite (ℕ_discrete j k)
+              (λ e. subst (λ (i : ℕ). in_place nothing (see y).outbox i ≡ nothing) (sym e)
+              (ap (λ (xs : List P). get_or xs k nothing) outbox ∙ get_or-set_same (see z).outbox k nothing nothing place))
+              (λ ne. ap (λ (xs : List P). get_or xs j nothing) outbox ∙ get_or-set_other (see z).outbox k j nothing nothing ne
+              ∙ g.gone j (omega arith));
+          kept = λ j l. ap (λ (xs : List P). get_or xs j nothing) outbox
+              ∙ get_or-set_other (see z).outbox k j nothing nothing (λ e. absurd (omega arith)) ∙ g.kept j (omega arith);
+          sent = λ j d l. dite (ℕ_discrete j k)
+              (λ f. subst (λ (i : ℕ). IsPut nothing (due_in (get_or old (neighbour_at rows i) d) t p) p
+              (in_place nothing (see before).outbox i) (get_or old (neighbour_at rows i) d)
+              (get_or (set now q v) (neighbour_at rows i) d)) (sym f)
+              (subst (λ (u : Wheel P). IsPut nothing (due_in (get_or old q d) t p) p (in_place nothing (see before).outbox k)
+              (get_or old q d) u) (sym (get_or-set_same now q v d there))
+              (subst (λ (x : P). IsPut nothing (due_in (get_or old q d) t p) p x (get_or old q d) v) (g.kept k (omega arith))
+              (subst (λ (u : Wheel P). IsPut nothing (due_in u t p) p (in_place nothing (see z).outbox k) u v)
+              (as_it_was e d) put))))
+              (λ ne. subst (λ (u : Wheel P). IsPut nothing (due_in (get_or old (neighbour_at rows j) d) t p) p
+              (in_place nothing (see before).outbox j) (get_or old (neighbour_at rows j) d) u)
+              (sym (get_or-set_other now q (neighbour_at rows j) v d (lesser j (omega arith)))) (g.sent j d (omega arith)));
+          others = λ b d beside. get_or-set_other now q b v d (λ e. beside k (omega arith) (sym e))
+              ∙ g.others b d (λ j l. beside j (omega arith));
+        };
+        inbox = inbox ∙ h.inbox;
+        number = number ∙ h.number;
+        seconds = seconds ∙ h.seconds;
+        stays = λ r s. stays r (h.stays r s);
+      }

@@ -1,8 +1,0 @@
-use Rattle.std.proofs.Common.{◌≡◌, ℕ, [], length, get_or}
-use Rattle.step_core.proofs.starting.empty_boxes.Given as goal
-
-abbrev pub invariant-loop-place : goal.invariant-loop-place
-invariant-loop-place g l = record {
-  count : length l.boxes.items ≡ l._place;
-  none : (i : ℕ) → get_or l.boxes.items i [] ≡ [];
-}

@@ -1,0 +1,104 @@
+-- Members in any order, and their partitions by number.
+use Rattle.std.proofs.Common.{◌≡◌, ◌≢◌, ℕ, zero, suc, ◌+◌, ◌<◌, ◌≤◌, ◌⊎◌, inl, inr, ⊎_elim, false, List, [], ◌∷◌, ◌++◌, length, get_or}
+use Rattle.std.proofs.Common.{slice_index_or, swap_remove, Contains, IsPermutation, sym, ap, ◌∙◌, subst, refl, arith, length-append}
+use Rattle.std.proofs.lemmas.List.{get_or_push, get_or_append_left, get_or_default}
+use Rattle.std.proofs.lemmas.List.Sorted.{IsPermutation-sym, IsPermutation-swap_remove, Contains-permutation}
+use mathlib.Core.Logic.{dite}
+use native.Mathlib.Decide.{ℕ_discrete}
+use Rattle.cells.specs.declared.board.Board.{Board}
+use Rattle.step_core.specs.declared.part.Border.{Border}
+use Rattle.step_core.specs.Nets.{Net}
+use Rattle.step_core.specs.Views.{PartView, IsAt, EachAt}
+use Rattle.workers.specs.declared.members.Day.{Day}
+use Rattle.workers.specs.declared.members.Member.{Member}
+use Rattle.workers.specs.Members.{IsMember, AreMembers, AreAll, AllEnd, AllGo, Went, is_stopped, number_of, seconds_of}
+use Rattle.workers.specs.Sharing.{HasOne, ArePartsOf}
+use Rattle.workers.proofs.Starting.{one_of, end_of}
+
+module _ {X : Type 0} where
+  in_rest : (x : X) (ys : List X) (m : X) → Contains ys m → Contains (x ∷ ys) m
+  in_rest x ys m c = let lt = c.1 in (suc c.0, omega arith, c.2)
+
+  at_head : (x : X) (ys : List X) (m : X) (k : ℕ) → k < length (x ∷ ys) → slice_index_or (x ∷ ys) k m ≡ m → (x ≡ m) ⊎ Contains ys m
+  at_head x ys m zero lt is = inl is
+  at_head x ys m (suc k) lt is = inr (k, omega arith, is)
+
+  taken : (left new : List X) (place : ℕ) (x : X) → place < length left → x ≡ slice_index_or left place x
+      → new ≡ swap_remove left place x → IsPermutation left (x ∷ new)
+  taken left new place x lt at is = subst (λ ys. IsPermutation left (x ∷ ys)) (sym is) (IsPermutation-swap_remove left place x lt at)
+
+module _ {T R P : Type 0} where
+  pub no_parts : (ms : List (Member T R P)) (parts : List T) → parts ≡ [] → ArePartsOf ms 0 parts
+  no_parts ms parts is = record { many = ap length is; each = λ p d lt. absurd (omega arith) }
+
+  -- one member more was taken out of those that are left: that of partition n
+  pub next_part : (ms left new : List (Member T R P)) (n count place : ℕ) (x : Member T R P) (parts more : List T)
+      → ArePartsOf ms n parts → ((p : ℕ) → n ≤ p → p < count → HasOne p left) → ((m : Member T R P) → Contains left m → Contains ms m)
+      → place < length left → x ≡ slice_index_or left place x → number_of x ≡ n → new ≡ swap_remove left place x
+      → more ≡ parts ++ x.part ∷ []
+      → ArePartsOf ms (n + 1) more × ((p : ℕ) → n + 1 ≤ p → p < count → HasOne p new)
+      × ((m : Member T R P) → Contains new m → Contains ms m)
+  next_part ms left new n count place x parts more done rest all lt at name is push =
+      let perm = taken left new place x lt at is in let long = done.many in (
+        record {
+          many = ap length push ∙ (let l = length-append parts (x.part ∷ []) in
+              let q : length (parts ++ x.part ∷ []) ≡ n + 1 = omega arith in q);
+          each = λ p d lp. dite (ℕ_discrete p n)
+              (λ e. (
+                x,
+                all x (place, lt, sym at),
+                name ∙ sym e,
+                ap (λ z. get_or z p d) push ∙ get_or_push parts x.part d p (long ∙ sym e),
+              ))
+              (λ ne. let o = done.each p d (omega arith) in (
+                o.0,
+                o.1,
+                o.2,
+                ap (λ z. get_or z p d) push ∙ get_or_append_left parts (x.part ∷ []) d p (omega arith) ∙ o.3,
+              ));
+        },
+        (λ p le lc. let w = rest p (omega arith) lc in
+            let c : Contains (x ∷ new) w.0 = Contains-permutation left (x ∷ new) w.0 perm w.1 in
+            ⊎_elim (λ e. absurd (let same : number_of x ≡ number_of w.0 = ap number_of e in let q = w.2 in omega arith))
+            (λ i. (w.0, i, w.2)) (at_head x new w.0 c.0 c.1 c.2)),
+        (λ m i. all m (Contains-permutation (x ∷ new) left m (IsPermutation-sym left (x ∷ new) perm) (in_rest x new m i))),
+      )
+
+  -- where some member is that of a partition, it is found
+  pub none_of : (left seen : List (Member T R P)) (n : ℕ) → HasOne n left → seen ≡ left
+      → ((i : ℕ) (d : Member T R P) → i < length seen → number_of (slice_index_or seen i d) ≢ n) → ⊥
+  none_of left seen n w is others =
+      subst (λ (zs : List (Member T R P)). ((i : ℕ) (d : Member T R P) → i < length zs → number_of (slice_index_or zs i d) ≢ n) → ⊥) (sym is)
+      (λ none. none w.1.0 w.0 w.1.1 (ap number_of w.1.2 ∙ w.2)) others
+
+  -- members of all partitions, in another order and later
+  pub shared_has : (n count : ℕ) (xs ys zs : List (Member T R P)) → count ≡ n → AreAll n xs → IsPermutation xs ys → AllGo ys zs
+      → (p : ℕ) → p < count → HasOne p zs
+  shared_has n count xs ys zs is all perm go p lt = let many = all.many in one_of xs (omega arith) (λ e.
+      let m : Member T R P = slice_index_or xs p e in let there : p < length xs = omega arith in
+      let c : Contains ys m = Contains-permutation xs ys m perm (p, there, get_or_default xs p m e there) in
+      let z : Member T R P = slice_index_or zs c.0 m in let long = go.long in let l = c.1 in (
+        z,
+        (c.0, omega arith, get_or_default zs c.0 z m (omega arith)),
+        (go.each c.0 m c.1).number ∙ (ap number_of c.2 ∙ all.numbered p e there),
+      ))
+
+module _ {T R P : Type 0} (net : R → Net) (borders : R → ℕ → List Border) (nothing : P) (see : T → PartView P) (stands : R → T → Type 0)
+    (spent : T → Type 0) (right : R → ℕ → ℕ → ℕ → P → Type 0) (run : R) (b : Board (Day T) R P) where
+  pub shared_members : (xs ys : List (Member T R P)) → IsPermutation xs ys
+      → AreMembers net borders nothing see stands spent right run b xs → AreMembers net borders nothing see stands spent right run b ys
+  shared_members xs ys perm are i d lt =
+      let m : Member T R P = slice_index_or ys i d in
+      let c : Contains xs m = Contains-permutation ys xs m (IsPermutation-sym xs ys perm) (i, lt, get_or_default ys i m d lt) in
+      subst (λ (z : Member T R P). IsMember net borders nothing see stands spent right run b z) c.2 (are c.0 m c.1)
+
+  pub all_at_end : (n : ℕ) (ys zs : List (Member T R P)) → Went net borders nothing see stands spent right run b ys zs
+      → AllEnd (net run).end zs → (parts : List T) → ArePartsOf zs n parts
+      → EachAt nothing see (stands run) (net run).end (λ p. length (borders run p)) n parts
+  all_at_end n ys zs f end parts are p d lt =
+      let o = are.each p d lt in let m : Member T R P = o.0 in let c : Contains zs m = o.1 in let e = end c.0 m c.1 in
+      subst (λ (z : T). IsAt nothing see (stands run) p (net run).end (length (borders run p)) z) (sym o.3)
+      (end_of net borders nothing see stands spent right run b p m
+      (subst (λ (z : Member T R P). IsMember net borders nothing see stands spent right run b z) c.2 (f.members c.0 m c.1))
+      (subst (λ (z : Member T R P). is_stopped z ≡ false) c.2 e.0)
+      (subst (λ (z : Member T R P). seconds_of z ≡ (net run).end) c.2 e.1) o.2)

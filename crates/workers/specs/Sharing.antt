@@ -1,0 +1,14 @@
+-- Members that lie in any order, and their partitions by number.
+use Rattle.std.specs.Prelude.{◌≡◌, ℕ, ◌<◌, List, length, get_or, Contains}
+use Rattle.workers.specs.declared.members.Member.{Member}
+use Rattle.workers.specs.Members.{number_of}
+
+module _ {T R P : Type 0} where
+  -- some member is that of partition p
+  abbrev pub HasOne : ℕ → List (Member T R P) → Type 0
+  HasOne p ms = (m : Member T R P) × Contains ms m × (number_of m ≡ p)
+
+  -- these are the partitions below n of members, by number
+  pub record ArePartsOf (ms : List (Member T R P)) (n : ℕ) (parts : List T) : Type 0 where
+    pub many : length parts ≡ n
+    pub each : (p : ℕ) (d : T) → p < n → (m : Member T R P) × Contains ms m × (number_of m ≡ p) × (get_or parts p d ≡ m.part)

@@ -1,5 +1,5 @@
 -- The line of one person comes off the front of those that are still to be written.
-use Rattle.std.proofs.Common.{◌≡◌, ℕ, suc, ◌+◌, ◌<◌, ◌≤◌, List, [], ◌∷◌, ◌++◌, length, get_or, drop, ℤ, pos, FitsSigned, w64, to_z, of_z, refl, sym, ap, ◌∙◌, subst, append_assoc, append-nil, arith}
+use Rattle.std.proofs.Common.{◌≡◌, ℕ, ◌+◌, ◌<◌, ◌≤◌, List, [], ◌++◌, length, get_or, drop, ℤ, pos, FitsSigned, w64, to_z, of_z, sym, ap, ◌∙◌, append_assoc, append-nil, arith}
 use Rattle.std.specs.Prelude.{codes, decimal}
 use Rattle.std.specs.Fmt.{signed_decimal}
 use Rattle.std.specs.List.{flat_map, zip}
@@ -7,9 +7,6 @@ use Rattle.std.proofs.lemmas.Int.{ints}
 use Rattle.std.proofs.lemmas.List.{drop_more}
 use Rattle.std.proofs.Common.{drop_of_length-le}
 use Rattle.day_scores.specs.Texts.{score_line, row_line}
-
-abbrev comma : List ℕ
-comma = codes ","
 
 -- the pieces of a line, one after the other
 pub pieces : (t t1 t2 t3 t4 t5 t6 t7 t8 person a b c : List ℕ) (iteration plan : ℕ) (score : ℤ)

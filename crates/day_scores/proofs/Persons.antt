@@ -64,7 +64,3 @@ piece_comes n taken events rest scored = λ k here d. record {
       follows_split i (taken ++ take k events) (drop (suc k) events ++ rest) (get_or events k d) his
       (subst (λ (l : List Event). AllFollow (own_events i l)) (piece_split taken events rest k d here) (scored i there));
 }
-
--- a whole day is a piece of itself
-pub whole_scored : (n : ℕ) (events : List Event) → AreScored n events → AreScored n (([] ++ events) ++ [])
-whole_scored n events scored = subst (AreScored n) (sym (append-nil events)) scored

@@ -1,10 +1,10 @@
 -- Scorers that take the events of a day stand for them.
-use Rattle.std.proofs.Common.{◌≡◌, ◌≢◌, ℕ, zero, suc, ◌+◌, ◌<◌, ◌≤◌, false, nat_eq, List, []}
-use Rattle.std.proofs.Common.{◌∷◌, ◌++◌, length, map, get_or, take, None, Some, refl, sym, ap, ◌∙◌, subst, inl, inr}
+use Rattle.std.proofs.Common.{◌≡◌, ◌≢◌, ℕ, zero, suc, ◌+◌, ◌<◌, false, nat_eq, List, []}
+use Rattle.std.proofs.Common.{◌∷◌, ◌++◌, length, map, get_or, take, Some, refl, sym, ap, ◌∙◌, subst, inl, inr}
 use Rattle.std.proofs.Common.{append_assoc, length-append, arith}
 use Rattle.std.proofs.Math.ListN.{set, get_or-append, get_or-map}
 use Rattle.std.proofs.Math.Seq.{get_or-append_seam}
-use Rattle.std.proofs.lemmas.Bool.{cases_Bool, cases_lt, eq-eqb, ne_eqb, eqb-true}
+use Rattle.std.proofs.lemmas.Bool.{cases_Bool, cases_lt, eq-eqb, eqb-true}
 use Rattle.std.proofs.lemmas.Grind.{get_or-set_at}
 use Rattle.std.proofs.lemmas.List.{length-set, get_or-set_other, set-get_or, length-map, map-append, take_more}
 use Rattle.events.specs.declared.event.Event.{Event}
@@ -13,12 +13,9 @@ use Rattle.scoring.specs.declared.scorer.Scorer.{Scorer}
 use Rattle.scoring.specs.Tables.{ScoringRows}
 use Rattle.scoring.specs.Taken.{first_kind_of, IsTakenBy}
 use Rattle.day_scores.specs.Standing.{StandFor, MayCome, AllCome}
-use Rattle.day_scores.proofs.Persons.{own-other, own-more, nobody, another, himself}
+use Rattle.day_scores.proofs.Persons.{own-other, own-more, another, himself}
 
 -- ---- new scorers
-
-pub none_stand : (R : ScoringRows) → StandFor R [] []
-none_stand R = record { each = λ i d here. absurd (omega arith) }
 
 -- one scorer more that has taken nothing
 pub stand-push : (R : ScoringRows) (ss : List Scorer) (s : Scorer) → StandFor R ss [] → IsTakenBy R s []
@@ -41,15 +38,6 @@ skipped : (R : ScoringRows) (ss : List Scorer) (es : List Event) (e : Event) →
 skipped R ss es e none H = record {
   each = λ i d here. subst (IsTakenBy R (get_or ss i d)) (sym (own-other i es e (none i here))) (H.each i d here);
 }
-
-pub nobody_named : (R : ScoringRows) (ss : List Scorer) (es : List Event) (e : Event) → e.person ≡ None → StandFor R ss es
-    → StandFor R ss (es ++ e ∷ [])
-nobody_named R ss es e none H = skipped R ss es e (λ i here. nobody i e none) H
-
-pub stranger_named : (R : ScoringRows) (ss : List Scorer) (es : List Event) (e : Event) (j : ℕ) → e.person ≡ Some j
-    → length ss ≤ j
-    → StandFor R ss es → StandFor R ss (es ++ e ∷ [])
-stranger_named R ss es e j is far H = skipped R ss es e (λ i here. another i j e is (ne_eqb j i (λ same. absurd (omega arith)))) H
 
 -- that names one of them
 pub person_named : (R : ScoringRows) (ss : List Scorer) (es : List Event) (e : Event) (j : ℕ) (s : Scorer) → e.person ≡ Some j

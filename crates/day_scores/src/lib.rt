@@ -4,12 +4,10 @@
 
 mod kinds;
 mod scorers;
-mod scores;
 mod sums;
 mod texts;
 
 pub use kinds::first_kinds;
 pub use scorers::Scorers;
-pub use scores::scores_of;
 pub use sums::sum_of;
 pub use texts::scores_text;

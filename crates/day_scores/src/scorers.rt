@@ -77,7 +77,8 @@ fn finished(alloc: Global, tables: &Tables, scorers: &[Scorer]) -> Result<Vec<i6
 }
 
 /// A scorer for each person of a day, by the persons' numbers. They take the events of the day piece by piece, in their order; what they
-/// give is what they would give if all had come at once.
+/// give is what they would give if all had come at once: what each person's own events are worth, after MATSim's scoring (the MATSim book,
+/// chapter "A Closer Look at Scoring"). No list of a person's events is made.
 #[derive(Drop)]
 pub struct Scorers {
     rows: Vec<Scorer>,

@@ -1,17 +1,17 @@
 -- Memories with scores.
-use Rattle.std.proofs.Common.{◌≡◌, ℕ, zero, suc, ◌+◌, ◌<◌, Bool, true, List, [], ◌∷◌, ◌++◌, length, map, get_or, Option, None, Some, ℤ, refl, sym, ◌∙◌, ap, subst, arith, add-zero}
+use Rattle.std.proofs.Common.{◌≡◌, ℕ, zero, suc, ◌+◌, true, List, [], ◌∷◌, ◌++◌, length, map, get_or, Option, None, Some, ℤ, refl, sym, ◌∙◌, ap, subst, arith}
 use Rattle.std.specs.Prelude.{slice_get}
 use Rattle.std.specs.List.{list_all, enumerate_from}
 use Rattle.std.proofs.lemmas.Bool.{and_from, and_parts}
 use Rattle.std.proofs.lemmas.List.{map-append, length-map}
 use Rattle.replanning.proofs.Numbers.{numbered_more}
 use Rattle.rows.specs.PlanRows.{PlanRows}
-use Rattle.plan_memory.specs.Memories.{MemoryRows, chosen_plan, with_score}
+use Rattle.plan_memory.specs.Memories.{MemoryRows, chosen_plan}
 use Rattle.town.specs.Fits.{legs_fit, fits}
 use Rattle.town.specs.Rows.{TownRows}
 use Rattle.law_replanning.specs.Memories.{hold_fitting, all_hold_fitting}
 use Rattle.iterations.specs.Runs.{RunRows, CanRun}
-use Rattle.iterations.specs.Days.{followed_plans, day_in, events_of, scores_in, with_own_score, scored, memories_after}
+use Rattle.iterations.specs.Days.{followed_plans, events_of, scores_in, with_own_score, scored, memories_after}
 
 pub scored_more : (memories : List MemoryRows) (scores : List ℤ) (m : MemoryRows) (n : ℕ) → n ≡ length memories
     → scored (memories ++ m ∷ []) scores ≡ scored memories scores ++ with_own_score m (slice_get scores n) ∷ []
@@ -68,15 +68,6 @@ fit_from T k (m ∷ memories) scores = rw (same_fit T m (slice_get scores k), fi
 pub scored_fit : (T : TownRows) (memories : List MemoryRows) (scores : List ℤ) → all_hold_fitting T (scored memories scores) ≡ all_hold_fitting T memories
 unfolding scored
 scored_fit T memories scores = fit_from T 0 memories scores
-
--- a run can go on with memories that have scores
-pub can_after : (R : RunRows) (iteration : ℕ) (memories : List MemoryRows) → CanRun R memories → CanRun R (memories_after R iteration memories)
-unfolding memories_after
-can_after R iteration memories can = record {
-  learning = can.learning;
-  each = scored_count memories (scores_in R iteration memories) ∙ can.each;
-  fit = scored_fit R.town memories (scores_in R iteration memories) ∙ can.fit;
-}
 
 -- the plans that are followed fit the town
 none_fits : (T : TownRows) → fits T (record { acts = []; legs = [] }) ≡ true

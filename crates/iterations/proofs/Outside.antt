@@ -8,7 +8,7 @@ use Rattle.edge_files.specs.declared.files.OutFile.{OutFile}
 use Rattle.edge_files.specs.Causes.{Rose}
 use Rattle.edge_files.specs.Effects.{all_steps}
 use Rattle.edge_files.specs.World.{Step, Byte, byte_steps, Does}
-use Rattle.edge_files.proofs.Worlds.{does_nothing, does_then, part_then, part_first, part_whole, part_nothing, told_then, Performing, performing_more, performing_all}
+use Rattle.edge_files.proofs.Worlds.{does_nothing, does_then, part_then, part_first, part_whole, part_nothing, told_then, Performing, performing_more}
 use Rattle.iterations.specs.Performed.{Moment, IsPerformed, IsWritten}
 
 rose_later : (before then' now : ℕ) → before ≤ then' → Rose then' now → Rose before now
@@ -38,10 +38,6 @@ all_done a b steps value does writes keeps = record {
   keep_failed = λ is. absurd (cc);
   told = λ is. absurd (cc);
 }
-
--- nothing was to be done
-pub nothing_done : {T : Type 0} {k : Bool} (a : Moment) (value : T) → IsPerformed k a a [] (Ok value)
-nothing_done a value = all_done a a [] value (does_nothing a.world) (omega arith) (omega arith)
 
 -- what was written while the keeper was left alone, is done also where the keeper may be called
 pub written : {T : Type 0} (k : Bool) (a b : Moment) (steps : List Step) (r : Result T EffectError) → IsWritten a b steps r
@@ -176,10 +172,6 @@ pub going_failed : {A B : Type 0} {k : Bool} (a b c : Moment) (all one rest : Li
     → IsGoing a b all (one ++ rest) → IsPerformed {T = A} k b c one (Err e) → IsPerformed {T = B} k a c all (Err e)
 going_failed {A} {B} {k} a b c all one rest e going did =
     going_last a b c all (one ++ rest) (Err e) going (first_failed {A = A} {B = B} b c one rest e did)
-
-pub going_done : {T : Type 0} {k : Bool} (a b : Moment) (all : List Step) (x : T) → IsGoing a b all [] → IsPerformed k a b all (Ok x)
-going_done a b all x going =
-    all_done a b all x (performing_all a.world b.world all going.performing) going.write_later going.keep_later
 
 -- memory was wanting in the midst of it
 pub going_wanting : {T : Type 0} {k : Bool} (a b : Moment) (all rest : List Step) → IsGoing a b all rest

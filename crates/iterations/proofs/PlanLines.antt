@@ -1,9 +1,8 @@
 -- The lines of plans, plan by plan and person by person.
-use Rattle.std.proofs.Common.{◌≡◌, ℕ, zero, suc, ◌+◌, ◌<◌, ◌≤◌, Bool, true, List, [], ◌∷◌, ◌++◌, length, map, get_or, take, drop, Option, Some, refl, sym, ◌∙◌, ap, subst, arith, append_assoc, append-nil, add-zero, take-append-drop}
+use Rattle.std.proofs.Common.{◌≡◌, ℕ, zero, suc, ◌+◌, ◌<◌, ◌≤◌, true, List, [], ◌∷◌, ◌++◌, length, map, get_or, take, drop, Some, refl, sym, ◌∙◌, ap, subst, arith, append_assoc, append-nil, add-zero, take-append-drop}
 use Rattle.std.specs.Prelude.{slice_get}
-use Rattle.std.specs.List.{flat_map, enumerate_from, list_all}
 use Rattle.std.proofs.Math.ListN.{get_or-map}
-use Rattle.std.proofs.lemmas.Bool.{and_from, and_parts}
+use Rattle.std.proofs.lemmas.Bool.{and_parts}
 use Rattle.std.proofs.lemmas.List.{drop_more, drop_all, length-map, map-append}
 use Rattle.events.specs.declared.event.Book.{Book}
 use Rattle.rows.specs.PlanRows.{PlanRows}
@@ -58,11 +57,6 @@ person_step book first i number plans own d old new all within at is pushed so_f
     ∙ append_assoc old (own_lines book (first + i) 0 own) later
     ∙ ap (λ (ps : List (List PlanRows)). old ++ persons_lines book (first + i) ps) (sym rest) ∙ so_far
 
-pub persons_end : (book : Book) (first i : ℕ) (plans : List (List PlanRows)) (text all : List ℕ) → length plans ≤ i
-    → text ++ persons_lines book (first + i) (drop i plans) ≡ all → text ≡ all
-persons_end book first i plans text all done so_far =
-    sym (append-nil text) ∙ ap (λ (ps : List (List PlanRows)). text ++ persons_lines book (first + i) ps) (sym (drop_all i plans done)) ∙ so_far
-
 -- some persons, and those behind them
 pub persons_split : (book : Book) (first : ℕ) (front back : List (List PlanRows))
     → persons_lines book first (front ++ back) ≡ persons_lines book first front ++ persons_lines book (first + length front) back
@@ -111,14 +105,6 @@ fit_behind T (suc n) (m ∷ memories) fit = fit_behind T n memories (and_parts (
 pub fit_after : (T : TownRows) (n : ℕ) (memories after : List MemoryRows) → after ≡ drop n memories → all_hold_fitting T memories ≡ true
     → all_hold_fitting T after ≡ true
 fit_after T n memories after is fit = subst (λ (ms : List MemoryRows). all_hold_fitting T ms ≡ true) (sym is) (fit_behind T n memories fit)
-
-pub fit_before : (T : TownRows) (n : ℕ) (memories : List MemoryRows) → all_hold_fitting T memories ≡ true → all_hold_fitting T (take n memories) ≡ true
-fit_before T zero [] fit = refl
-fit_before T zero (m ∷ memories) fit = refl
-fit_before T (suc n) [] fit = refl
-fit_before T (suc n) (m ∷ memories) fit =
-    let parts = and_parts (hold_fitting T m) (all_hold_fitting T memories) fit in
-    and_from (hold_fitting T m) (all_hold_fitting T (take n memories)) parts.0 (fit_before T n memories parts.1)
 
 -- some persons behind those before them
 pub persons_behind : (book : Book) (first count next : ℕ) (rest piece after : List MemoryRows) → count ≤ length rest → piece ≡ take count rest

@@ -12,7 +12,7 @@ use Rattle.event_handler.specs.Handling.{links_seen, IsSeen}
 use Rattle.plan_memory.specs.Memories.{MemoryRows}
 use Rattle.town.specs.declared.day_input.DayInput.{DayInput}
 use Rattle.town.specs.Fits.{fits}
-use Rattle.town.specs.Rows.{TownRows, IsTown}
+use Rattle.town.specs.Rows.{TownRows}
 use Rattle.town.specs.Setups.{setup_of}
 use Rattle.town.specs.Views.{rows_of, chosen_in, setup}
 use Rattle.iterations.specs.Runs.{RunRows, CanRun}
@@ -21,12 +21,12 @@ use Rattle.iterations.specs.Scored.{IsSeenOf}
 use Rattle.iterations.specs.Texts.{events_text}
 use Rattle.iterations.proofs.Marked.{plans_fit, plans_count}
 use Rattle.iterations.proofs.ScoredDays.{scores_each}
+use Rattle.written_day.proofs.Handled.{day_on_links}
 use Rattle.std.specs.List.{list_all}
 use Rattle.std.specs.Prelude.{true}
 
 module _ (R : RunRows) (k : ℕ) (memories : List MemoryRows) (d : DayInput) (town_is : rows_of d.town.now ≡ R.town)
-    (chosen_is : chosen_in d ≡ followed_plans memories) (iteration_is : d.iteration ≡ k) (town : IsTown R.town)
-    (can : CanRun R memories) where
+    (chosen_is : chosen_in d ≡ followed_plans memories) (iteration_is : d.iteration ≡ k) (can : CanRun R memories) where
   book_is : d.town.now.book ≡ R.town.book
   book_is = ap (λ (T : TownRows). T.book) town_is
 
@@ -52,23 +52,23 @@ module _ (R : RunRows) (k : ℕ) (memories : List MemoryRows) (d : DayInput) (to
       ∙ ap (λ (b : Book). events_text k (events_of R k memories) b) book_is
 
   pub seen_is : (seen : SeenDay) → links_seen seen ≡ length d.town.now.network.links
-      → AreOnLinks (length d.town.now.network.links) (day (setup d)) → IsSeen R.scoring (map first_kind (chosen_in d)) (day (setup d)) seen
-      → IsSeenOf R k memories seen
+      → IsSeen R.scoring (map first_kind (chosen_in d)) (day (setup d)) seen → IsSeenOf R k memories seen
   unfolding scores_in
-  seen_is seen ls on s =
+  seen_is seen ls s =
       let own : map first_kind (chosen_in d) ≡ map first_kind (followed_plans memories) = ap (map first_kind) chosen_is in
       let count : length d.town.now.network.links ≡ length R.town.links = ap (λ (T : TownRows). length T.links) town_is in
       record {
         scores =
             s.scores ∙ ap (λ (l : List ℕ). scores_of R.scoring l (day (setup d))) own
             ∙ ap (λ (es : List Event). scores_of R.scoring (map first_kind (followed_plans memories)) es) events_are;
-        few = town.few_persons;
         each =
             scores_each R.scoring (followed_plans memories) (map first_kind (chosen_in d)) (day (setup d)) seen.scores.items own s.scores
             ∙ sym (plans_count R memories (followed_plans memories) can refl);
         within = s.within;
-        known = subst (λ (es : List Event). Knows seen.known es) events_are s.known;
-        links = ls ∙ count;
-        on_links = subst₂ (λ (n : ℕ) (es : List Event). AreOnLinks n es) count events_are on;
+        observed = record {
+          known = subst (λ (es : List Event). Knows seen.known es) events_are s.known;
+          count = ls ∙ count;
+          on_links = subst₂ (λ (n : ℕ) (es : List Event). AreOnLinks n es) (sym ls) events_are (day_on_links d given);
+        };
         counts = subst (λ (es : List Event). AreCounted seen.counts es) events_are s.counts;
       }

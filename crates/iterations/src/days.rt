@@ -4,12 +4,11 @@ ghost use Rattle.std.specs.Prelude.{◌≡◌, List, length, map, slice_get, IfO
 ghost use Rattle.events.specs.declared.event.Event.{Event};
 ghost use Rattle.rows.specs.PlanRows.{plan_rows};
 ghost use Rattle.router.specs.Graphs.{graph_of};
-ghost use Rattle.travel_times.specs.Known.{Knows, links_of};
-ghost use Rattle.travel_times.specs.Observed.{AreOnLinks};
 ghost use Rattle.replanning.specs.Persons.{all_replanned};
 ghost use Rattle.iterations.specs.Acts.{chosen_numbers};
 ghost use Rattle.iterations.specs.Days.{followed_plans, with_own_score, scored, basis_after};
 ghost use Rattle.iterations.specs.Runs.{CanRun};
+ghost use Rattle.iterations.specs.Scored.{AreObserved};
 ghost use Rattle.iterations.specs.Views.{run_rows};
 
 use crate::run::RunInput;
@@ -103,10 +102,8 @@ pub fn replanned<R: Threads + Sync, G>(
 ) -> Result<Vec<Memory>, AllocError>
     requires can { CanRun (run_rows run.now) memories.items }
     requires network { adjacency.now ≡ graph_of run.now.town.now.network }
-    requires known { (events : List Event) × Knows known events × AreOnLinks (length run.now.town.now.network.links) events }
-    requires links { links_of known ≡ length run.now.town.now.network.links }
-    ensures { IfOk result (λ new. (events : List Event) → Knows known events
-        → AreOnLinks (length run.now.town.now.network.links) events
+    requires known { (events : List Event) × AreObserved (length run.now.town.now.network.links) events known }
+    ensures { IfOk result (λ new. (events : List Event) → AreObserved (length run.now.town.now.network.links) events known
         → new.items ≡ all_replanned (basis_after (run_rows run.now) iteration events) memories.items) }
 {
     let times = LinkTimes::seen(alloc, &run.town.network, &known)?;

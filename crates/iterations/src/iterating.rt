@@ -1,19 +1,18 @@
 //! The loop.
 
-ghost use Rattle.std.specs.Prelude.{◌≡◌, ◌<◌, ◌≤◌, ◌-◌, ◌++◌, false, length, All, IfOk, OnOk};
+ghost use Rattle.std.specs.Prelude.{◌≡◌, ◌<◌, ◌≤◌, ◌-◌, ◌++◌, false, length, All, IfOk};
 ghost use Rattle.edge_files.specs.Effects.{all_steps};
 ghost use Rattle.edge_files.specs.World.{byte_steps};
 ghost use Rattle.limits.specs.declared.TheConstants.{MAX_PERSONS};
 ghost use Rattle.scoring.specs.declared.TheConstants.{MAX_SCORE};
 ghost use Rattle.scoring.specs.Ranges.{IsWithin};
 ghost use Rattle.scoring.specs.Score.{total};
-ghost use Rattle.travel_times.specs.Known.{Knows, links_of};
-ghost use Rattle.travel_times.specs.Observed.{AreOnLinks};
 ghost use Rattle.iterations.specs.Acts.{saves, iteration_effects, end_effects, acts_behind};
 ghost use Rattle.iterations.specs.Continued.{begun_after, continued, acts_after};
 ghost use Rattle.iterations.specs.Days.{events_of, memories_after};
 ghost use Rattle.iterations.specs.Performed.{IsPerformed, moment};
 ghost use Rattle.iterations.specs.Runs.{CanRun};
+ghost use Rattle.iterations.specs.Scored.{AreObserved};
 ghost use Rattle.iterations.specs.Texts.{iteration_counts};
 ghost use Rattle.iterations.specs.Views.{run_rows};
 
@@ -82,10 +81,8 @@ fn do_iteration<R: Threads + Wait + Sync, O: Outputs, K: Keeper, G: Gate>(
         (moment (O.written outputs.old) (K.kept keeper.old) (O.faults outputs.old) (K.faults keeper.old))
         (moment (O.written outputs.new) (K.kept keeper.new) (O.faults outputs.new) (K.faults keeper.new))
         (all_steps (iteration_effects (run_rows run.now) iteration memories.items)) result }
-    ensures known { IfOk result (λ one. Knows one.known (events_of (run_rows run.now) iteration memories.items)) }
-    ensures links { IfOk result (λ one. links_of one.known ≡ length run.now.town.now.network.links) }
-    ensures on_links { OnOk result
-        (AreOnLinks (length run.now.town.now.network.links) (events_of (run_rows run.now) iteration memories.items)) }
+    ensures observed { IfOk result (λ one. AreObserved (length run.now.town.now.network.links)
+        (events_of (run_rows run.now) iteration memories.items) one.known) }
     ensures memories { IfOk result (λ one. one.memories.items ≡ memories_after (run_rows run.now) iteration memories.items) }
     ensures can { IfOk result (λ one. CanRun (run_rows run.now) one.memories.items) }
     ensures keeper { run.now.keeps ≡ false → keeper.new ≡ keeper.old }

@@ -1,6 +1,6 @@
 //! The day of an iteration: its events are written as they come, and what they are worth and show is taken of them.
 
-ghost use Rattle.std.specs.Prelude.{◌≡◌, ◌++◌, length, map, IfOk, OnOk};
+ghost use Rattle.std.specs.Prelude.{◌≡◌, ◌++◌, length, map, IfOk};
 ghost use Rattle.day_scores.specs.Scores.{first_kind};
 ghost use Rattle.day_scores.specs.Texts.{scores_text};
 ghost use Rattle.edge_files.specs.World.{byte_steps};
@@ -9,7 +9,6 @@ ghost use Rattle.law_in_range.specs.Setups.{HaveFittingPlans};
 ghost use Rattle.scoring.specs.Tables.{scoring_rows};
 ghost use Rattle.town.specs.Views.{setup, chosen_in};
 ghost use Rattle.traffic.specs.Day as traffic_day;
-ghost use Rattle.travel_times.specs.Observed.{AreOnLinks};
 ghost use Rattle.iterations.specs.Acts.{chosen_numbers};
 ghost use Rattle.iterations.specs.Days.{events_of, scores_in};
 ghost use Rattle.iterations.specs.Performed.{IsWritten, moment, effect_error};
@@ -75,7 +74,6 @@ fn write_events<R: Threads + Wait + Sync, O: Outputs, K: Keeper, G: Gate>(
     ensures seen { IfOk result
         (IsSeen (scoring_rows run.now.tables.now) (map first_kind (chosen_in day.now)) (traffic_day.day (setup day.now))) }
     ensures links { IfOk result (λ seen. links_seen seen ≡ length day.now.town.now.network.links) }
-    ensures on_links { OnOk result (AreOnLinks (length day.now.town.now.network.links) (traffic_day.day (setup day.now))) }
 {
     let Ok(header) = events_header(alloc, day.iteration) else {
         return Err(EffectError::NoMemory);

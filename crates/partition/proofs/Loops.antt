@@ -1,6 +1,6 @@
 -- One more link, leg or plan in a table.
 use Rattle.std.proofs.Common.{◌≡◌, ℕ, ◌+◌, ◌<◌, List, [], ◌∷◌, ◌++◌, Bool, sym, ◌∙◌, ap, subst, length, get_or, take, map, append-nil, min}
-use Rattle.std.specs.Prelude.{Option, if◌then◌else◌, ◌==◌, ◌&&◌}
+use Rattle.std.specs.Prelude.{Option, if◌then◌else◌, ◌==◌}
 use Rattle.std.specs.List.{list_any, flat_map}
 use Rattle.std.proofs.lemmas.List.{take_more, map-append, get_or_default}
 use Rattle.traffic.specs.Lists.{below}
@@ -8,7 +8,7 @@ use Rattle.rows.specs.declared.network.LinkRow.{LinkRow}
 use Rattle.rows.specs.declared.plan.Plan.{Plan}
 use Rattle.rows.specs.PlanRows.{PlanRows, plan_rows}
 use Rattle.parts.specs.Owners.{Owner, Hop}
-use Rattle.partition.specs.Neighbours.{AreJoined, is_either, is_over, is_hop_over, hop_in, hops_in, end_node, AreShorter, shortest, shortened, hole_at, seconds_of_hop, leads_over, hop_leads_over}
+use Rattle.partition.specs.Neighbours.{AreJoined, is_either, is_hop_over, hop_in, hops_in, end_node, AreShorter, shortest, shortened, hole_at, seconds_of_hop, leads_over, hop_leads_over}
 use Rattle.travel_times.specs.Times.{free_of}
 use Rattle.partition.proofs.Numbers.{flat_more, flat_push}
 use Rattle.partition.proofs.Tables.{and_comm, joined_more, joined_by_one, shorter_more, shorter_by_one, shorter_both}
@@ -17,13 +17,6 @@ more_taken : {X : Type 0} (xs : List X) (i : ℕ) (x : X) → i < length xs → 
 more_taken xs i x h e = take_more xs i x h ∙ ap (λ y. take i xs ++ y ∷ []) (sym e)
 
 -- JOINED
-pub link_joined : (own : Owner) (links : List LinkRow) (i : ℕ) (link : LinkRow) (from to : ℕ) (start old new : List Bool) → i < length links → link ≡ get_or links i link
-    → from ≡ own link.from → to ≡ own link.to → AreJoined (λ p q. list_any (is_over own p q) (take i links)) start old → AreJoined (is_either from to) old new
-    → AreJoined (λ p q. list_any (is_over own p q) (take (i + 1) links)) start new
-link_joined own links i link from to start old new inside is ef et before one =
-    let one2 : AreJoined (is_either (own link.from) (own link.to)) old new = subst (λ a. AreJoined (is_either a (own link.to)) old new) ef (subst (λ b. AreJoined (is_either from b) old new) et one) in
-    subst (λ xs. AreJoined (λ p q. list_any (is_over own p q) xs) start new) (sym (more_taken links i link inside is))
-    (joined_more (is_over own) (take i links) (link ∷ []) start old new before (joined_by_one (is_over own) link old new one2))
 
 pub hop_joined : (own : Owner) (links : List LinkRow) (rows : PlanRows) (k from to : ℕ) (h : Hop) (start old new : List Bool) → hop_in rows k ≡ h ∷ []
     → from ≡ own (end_node links h.from) → to ≡ own (end_node links h.to) → AreJoined (λ p q. list_any (is_hop_over own links p q) (flat_map (hop_in rows) (below k))) start old
@@ -49,14 +42,6 @@ more_plans : (chosen : List Plan) (i : ℕ) (plan : Plan) → i < length chosen 
 more_plans chosen i plan inside is =
     ap (λ xs. flat_map hops_in (map plan_rows xs)) (more_taken chosen i plan inside is)
     ∙ ap (flat_map hops_in) (map-append plan_rows (take i chosen) (plan ∷ [])) ∙ flat_push hops_in (map plan_rows (take i chosen)) (plan_rows plan)
-
-pub plan_joined : (own : Owner) (links : List LinkRow) (chosen : List Plan) (i : ℕ) (plan : Plan) (start old new : List Bool) → i < length chosen → plan ≡ get_or chosen i plan
-    → AreJoined (λ p q. list_any (is_hop_over own links p q) (flat_map hops_in (map plan_rows (take i chosen)))) start old
-    → AreJoined (λ p q. list_any (is_hop_over own links p q) (hops_in (plan_rows plan))) old new
-    → AreJoined (λ p q. list_any (is_hop_over own links p q) (flat_map hops_in (map plan_rows (take (i + 1) chosen)))) start new
-plan_joined own links chosen i plan start old new inside is before one =
-    subst (λ xs. AreJoined (λ p q. list_any (is_hop_over own links p q) xs) start new) (sym (more_plans chosen i plan inside is))
-    (joined_more (is_hop_over own links) (flat_map hops_in (map plan_rows (take i chosen))) (hops_in (plan_rows plan)) start old new before one)
 
 -- SHORTER
 pub link_shortened : (own : Owner) (speed : Option ℕ) (links : List LinkRow) (i : ℕ) (link : LinkRow) (from to seconds hole : ℕ) (start old mid new : List ℕ) → i < length links

@@ -1,9 +1,9 @@
 -- Pairs of partitions, one after the other.
-use Rattle.std.proofs.Common.{◌≡◌, ℕ, zero, suc, ◌+◌, ◌-◌, ◌<◌, ◌≤◌, ◌≢◌, Bool, true, false, List, [], ◌∷◌, ◌++◌, arith, refl, sym, ◌∙◌, ap, subst, map, append-nil, append_assoc, inl, inr}
-use Rattle.std.specs.Prelude.{filter, not, ◌==◌, ◌&&◌, if◌then◌else◌}
+use Rattle.std.proofs.Common.{◌≡◌, ℕ, zero, suc, ◌+◌, ◌-◌, ◌<◌, ◌≤◌, Bool, true, false, List, [], ◌∷◌, ◌++◌, arith, refl, sym, ◌∙◌, ap, map, append_assoc}
+use Rattle.std.specs.Prelude.{filter, not, ◌&&◌, if◌then◌else◌}
 use Rattle.std.specs.List.{flat_map, AllByRecursion as Each}
 use Rattle.std.proofs.lemmas.List.Elements.{filter-append}
-use Rattle.traffic.proofs.Common.{cases_Bool, ne_eqb}
+use Rattle.traffic.proofs.Common.{ne_eqb}
 use Rattle.traffic.proofs.Each.{each_append}
 use Rattle.traffic.specs.Lists.{below, numbers}
 use Rattle.traffic.specs.Setup.{Setup}
@@ -30,12 +30,6 @@ pub pair_passed : (table : List Bool) (p k n : ℕ) (out all : List Pair) → k 
 pair_passed table p k n out all h e before =
     let one : rest_of table p k n ≡ rest_of table p (k + 1) n = rest_is table p k n h ∙ (rw e refl) in
     sym (ap (λ zs. out ++ zs) one) ∙ before
-
-pub none_left : (table : List Bool) (p k n : ℕ) (out all : List Pair) → n ≤ k → out ++ rest_of table p k n ≡ all → out ≡ all
-none_left table p k n out all h before =
-    let e : n - k ≡ 0 = omega arith in
-    let none : rest_of table p k n ≡ [] = ap (λ m. filter (is_joined table) (map (pair p) (numbers k m))) e in
-    sym (append-nil out) ∙ sym (ap (λ zs. out ++ zs) none) ∙ before
 
 pub pairs_more : (table : List Bool) (parts p : ℕ) (out new : List Pair) → out ≡ filter (is_joined table) (flat_map (pairs_from parts) (below p))
     → new ≡ out ++ filter (is_joined table) (pairs_from parts p) → new ≡ filter (is_joined table) (flat_map (pairs_from parts) (below (p + 1)))

@@ -1,14 +1,7 @@
 -- Shares of nodes: which place belongs to which partition.
-use Rattle.std.proofs.Common.{◌≡◌, ℕ, ◌+◌, ◌-◌, ◌*◌, ◌/◌, ◌<◌, ◌≤◌, zero, suc, arith, refl, sym, ◌∙◌, ap, subst, mul_comm, le-div_iff_mul-le, div-lt_iff_lt-mul, mul-div_cancel, mul-le-mul_right, zero-mul, suc-mul}
-use Rattle.std.proofs.Math.Nat.{div-le_self, div-mul-le_self}
+use Rattle.std.proofs.Common.{◌≡◌, ℕ, ◌+◌, ◌-◌, ◌*◌, ◌/◌, ◌<◌, ◌≤◌, zero, suc, arith, ◌∙◌, ap, subst, mul_comm, le-div_iff_mul-le, div-lt_iff_lt-mul, mul-div_cancel, mul-le-mul_right, zero-mul, suc-mul}
 use Rattle.partition.specs.Cuts.{nodes_before}
 use Rattle.partition.specs.Halves.{partition_at}
-
-le_below : (x y z : ℕ) → x ≤ y → y < z → x < z
-le_below x y z h g = omega arith
-
-below_le : (x y z : ℕ) → x < y → y ≤ z → x < z
-below_le x y z h g = omega arith
 
 le_le : (x y z : ℕ) → x ≤ y → y ≤ z → x ≤ z
 le_le x y z h g = omega arith

@@ -1,12 +1,11 @@
 -- Tables of ordered pairs, written place by place.
-use Rattle.std.proofs.Common.{◌≡◌, ℕ, zero, suc, ◌+◌, ◌*◌, ◌<◌, ◌≤◌, ◌≢◌, Bool, true, false, List, [], ◌∷◌, ◌++◌, arith, refl, sym, ◌∙◌, ap, subst, length, get_or, set, min, inl, inr, map, append-nil}
+use Rattle.std.proofs.Common.{◌≡◌, ℕ, ◌+◌, ◌<◌, Bool, true, false, List, [], ◌∷◌, ◌++◌, arith, refl, sym, ◌∙◌, ap, subst, length, get_or, set, min, inl, inr, map}
 use Rattle.std.specs.Prelude.{◌==◌, ◌&&◌, ◌||◌, filter, if◌then◌else◌}
 use Rattle.std.specs.List.{list_any}
 use Rattle.std.proofs.lemmas.List.{get_or-set_same, get_or-set_other, map-append, length-set}
 use Rattle.std.proofs.lemmas.List.Elements.{filter-append}
 use Rattle.traffic.proofs.Common.{cases_Bool, eqb-true, eq-eqb, and_parts, eqb}
 use Rattle.parts.specs.Owners.{least}
-use Rattle.limits.specs.declared.TheConstants.{MAX_PARTITIONS}
 use Rattle.partition.specs.Neighbours.{place_of, joined_in, lag_in, AreJoined, is_either, AreShorter, shortest, shortened}
 
 -- TESTS
@@ -77,9 +76,6 @@ pub joined_more : {X : Type 0} (f : ℕ → ℕ → X → Bool) (xs ys : List X)
 joined_more f xs ys old mid new h g p q lp lq =
     g p q lp lq ∙ ap (λ z. z || list_any (f p q) ys) (h p q lp lq) ∙ or_assoc (joined_in old p q) (list_any (f p q) xs) (list_any (f p q) ys)
     ∙ ap (λ z. joined_in old p q || z) (sym (any_append (f p q) xs ys))
-
-pub joined_none : {X : Type 0} (f : ℕ → ℕ → X → Bool) (table : List Bool) → AreJoined (λ p q. list_any (f p q) []) table table
-joined_none f table p q lp lq = sym (or_false (joined_in table p q))
 
 pub joined_by_one : {X : Type 0} (f : ℕ → ℕ → X → Bool) (x : X) (old new : List Bool) → AreJoined (λ p q. f p q x) old new → AreJoined (λ p q. list_any (f p q) (x ∷ [])) old new
 joined_by_one f x old new h p q lp lq = h p q lp lq ∙ ap (λ z. joined_in old p q || z) (sym (or_false (f p q x)))

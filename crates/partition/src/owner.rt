@@ -1,9 +1,8 @@
-ghost use Rattle.std.specs.Prelude.{◌≡◌, ◌≤◌, ◌<◌, ℕ, []};
+ghost use Rattle.std.specs.Prelude.{◌≡◌, ◌≤◌, ◌<◌, ℕ};
 ghost use Rattle.partition.specs.Owned.{owner_in};
 ghost use Rattle.limits.specs.declared.TheConstants.{MAX_PARTITIONS};
 
 use events::Rows;
-use std::alloc::Global;
 
 /// The partition of each node, by the nodes' numbers.
 pub type OwnerList = Rows<u32>;
@@ -17,21 +16,6 @@ pub struct Owner {
     pub ghost some: { 1 ≤ parts },
     pub ghost few: { parts ≤ MAX_PARTITIONS },
     pub ghost owned: { (n : ℕ) → owner_in of_node n < parts },
-}
-
-impl Owner {
-    /// One partition, which has all nodes.
-    pub fn sole(alloc: Global) -> Owner
-        ensures one { result.parts ≡ 1 }
-        ensures all { result.of_node ≡ [] }
-    {
-        Owner {
-            parts: 1,
-            of_node: Rows {
-                rows: Vec::new(alloc),
-            },
-        }
-    }
 }
 
 /// The partition of a node.

@@ -1,37 +1,46 @@
 -- A day that comes from somewhere is written as that day.
-use Rattle.std.proofs.Common.{◌≡◌, ℕ, List, Result, sym, subst}
+use Rattle.std.proofs.Common.{◌≡◌, ℕ, List, Result, Err, sym, subst, subst₂}
 use Rattle.std.specs.Prelude.{IfOk}
 use Rattle.edge_files.specs.World.{Written}
 use Rattle.events.specs.declared.event.Event.{Event}
-use Rattle.events.specs.declared.event.Book.{Book}
-use Rattle.events.specs.Lines.{AreInBook, event_lines}
+use Rattle.events.specs.Lines.{event_lines}
 use Rattle.scoring.specs.Tables.{ScoringRows}
 use Rattle.event_handler.specs.declared.handling.SeenDay.{SeenDay}
 use Rattle.event_handler.specs.Handling.{CanHandle, IsSeen, links_seen}
 use Rattle.event_writer.specs.declared.writing.StreamError.{StreamError}
+use Rattle.event_writer.specs.declared.writing.StreamError.TheVariants as error
 use Rattle.event_writer.specs.Writing.{IsWritten}
+use Rattle.event_writer.proofs.Written.{none_written}
+use Rattle.town.specs.Views.{setup}
+use Rattle.town.specs.declared.day_input.DayInput.{DayInput}
+use Rattle.traffic.specs.Day.{day}
+use Rattle.written_day.specs.Days.{IsDayWritten}
 
-module _ (rest day : List Event) (same : rest ≡ day) where
-  pub can_be : (persons links : ℕ) → CanHandle persons links day → CanHandle persons links rest
-  can_be persons links can = subst (CanHandle persons links) (sym same) can
+pub can_be : (rest events : List Event) (persons links : ℕ) → rest ≡ events → CanHandle persons links events → CanHandle persons links rest
+can_be rest events persons links same can = subst (CanHandle persons links) (sym same) can
 
-  pub named_be : (book : Book) → AreInBook day book → AreInBook rest book
-  named_be book named = subst (λ (l : List Event). AreInBook l book) (sym same) named
+pub written_as : (d : DayInput) (R : ScoringRows) (kinds : List ℕ) (links : ℕ) (rest : List Event) (old now : Written) (before faults : ℕ)
+    (result : Result SeenDay StreamError) → rest ≡ day (setup d) → IsWritten old now before faults (event_lines rest d.town.now.book) result
+    → IfOk result (IsSeen R kinds rest) → IfOk result (λ seen. links_seen seen ≡ links)
+    → IsDayWritten d R kinds links old now before faults result
+written_as d R kinds links rest old now before faults result same did seen count = record {
+  written = subst (λ (l : List Event). IsWritten old now before faults (event_lines l d.town.now.book) result) same did;
+  seen = subst (λ (l : List Event). IfOk result (IsSeen R kinds l)) same seen;
+  links = count;
+}
 
-  pub written_as : (old now : Written) (before faults : ℕ) (book : Book) (result : Result SeenDay StreamError)
-      → IsWritten old now before faults (event_lines rest book) result → IsWritten old now before faults (event_lines day book) result
-  written_as old now before faults book result did =
-      subst (λ (l : List Event). IsWritten old now before faults (event_lines l book) result) same did
-
-  pub seen_as : (R : ScoringRows) (kinds : List ℕ) (result : Result SeenDay StreamError) → IfOk result (IsSeen R kinds rest)
-      → IfOk result (IsSeen R kinds day)
-  seen_as R kinds result seen = subst (λ (l : List Event). IfOk result (IsSeen R kinds l)) same seen
+-- nothing was written, for want of memory
+pub day_wanting : (d : DayInput) (R : ScoringRows) (kinds : List ℕ) (links : ℕ) (old : Written) (faults : ℕ)
+    → IsDayWritten d R kinds links old old faults faults (Err error.NoMemory)
+day_wanting d R kinds links old faults = record {
+  written = none_written old faults (event_lines (day (setup d)) d.town.now.book);
+  seen = tt;
+  links = tt;
+}
 
 -- of persons whose first activities are of the same kinds, and of as many links
-pub seen_of : (R : ScoringRows) (kinds others : List ℕ) (events : List Event) (result : Result SeenDay StreamError) → kinds ≡ others
-    → IfOk result (IsSeen R kinds events) → IfOk result (IsSeen R others events)
-seen_of R kinds others events result same seen = subst (λ (l : List ℕ). IfOk result (IsSeen R l events)) same seen
-
-pub links_of_day : (count links : ℕ) (result : Result SeenDay StreamError) → count ≡ links → IfOk result (λ seen. links_seen seen ≡ count)
-    → IfOk result (λ seen. links_seen seen ≡ links)
-links_of_day count links result same seen = subst (λ (n : ℕ). IfOk result (λ day. links_seen day ≡ n)) same seen
+pub written_for : (d : DayInput) (R : ScoringRows) (kinds others : List ℕ) (count links : ℕ) (old now : Written) (before faults : ℕ)
+    (result : Result SeenDay StreamError) → kinds ≡ others → count ≡ links → IsDayWritten d R kinds count old now before faults result
+    → IsDayWritten d R others links old now before faults result
+written_for d R kinds others count links old now before faults result same equal did =
+    subst₂ (λ (ks : List ℕ) (n : ℕ). IsDayWritten d R ks n old now before faults result) same equal did

@@ -1,6 +1,6 @@
 use spread::Spread;
 
-/// How days are computed. Nothing that a run does outside depends on it, but for what the gate does, and when it is done.
+/// How days are computed. What a run that is done has done outside does not depend on it, but for what the gate does; when it is done does.
 #[derive_where(Clone, Copy)]
 pub struct Execution<'a, G> {
     /// In how many partitions of the network, by how many workers.

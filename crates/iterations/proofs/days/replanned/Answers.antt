@@ -1,9 +1,16 @@
-use Rattle.std.proofs.Common.{length, refl, sym, ◌∙◌, ap}
+use Rattle.std.proofs.Common.{ℕ, length, refl, sym, ◌∙◌, ap, subst}
 use Rattle.router.specs.Graphs.{Graph}
+use Rattle.travel_times.specs.Observed.{AreOnLinks}
 use Rattle.router.proofs.LegWays.{ends_count}
 use Rattle.iterations.specs.Views.{run_rows}
 use Rattle.iterations.proofs.Basing.{all_on, replanned_as}
 use Rattle.iterations.proofs.days.replanned.Goals as goal
+
+pub seen-requires-clause-known : goal.seen-requires-clause-known
+seen-requires-clause-known g c = (c.requires.known.0, c.requires.known.1.known)
+
+pub seen-requires-clause-links : goal.seen-requires-clause-links
+seen-requires-clause-links g c = c.requires.known.1.count
 
 pub replan-requires-clause-basis : goal.replan-requires-clause-basis
 replan-requires-clause-basis g c κs within =
@@ -19,7 +26,8 @@ replan-requires-clause-on g c κs within =
     (ap (λ (n : Graph). length n.ends) c.requires.network ∙ ends_count c.args.run.now.town.now.network.links)
 
 pub returns : goal.returns
-returns g c = λ events knows on.
+returns g c = λ events observed.
     replanned_as (run_rows c.args.run.now) c.args.iteration c.args.adjacency.now c.in_ok-times.times events events
-    c.args.memories.items c.in_ok-new.new.items c.requires.network refl c.in_ok-times.ensures.count on
-    (λ link second lt. c.in_ok-times.ensures.arrivals events knows link second lt) c.in_ok-new.ensures
+    c.args.memories.items c.in_ok-new.new.items c.requires.network refl c.in_ok-times.ensures.count
+    (subst (λ (n : ℕ). AreOnLinks n events) observed.count observed.on_links)
+    (λ link second lt. c.in_ok-times.ensures.arrivals events observed.known link second lt) c.in_ok-new.ensures

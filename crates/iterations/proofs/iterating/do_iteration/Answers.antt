@@ -1,10 +1,9 @@
 use Rattle.std.proofs.Common.{List, ◌∙◌, ap, subst, length, arith}
 use Rattle.plan_memory.specs.Memories.{MemoryRows}
-use Rattle.travel_times.specs.Known.{Knows}
-use Rattle.travel_times.specs.Observed.{AreOnLinks}
 use Rattle.iterations.specs.Acts.{chosen_numbers}
 use Rattle.iterations.specs.Days.{events_of, scores_in, scored, memories_after}
 use Rattle.iterations.specs.Runs.{RunRows}
+use Rattle.iterations.specs.Scored.{AreObserved}
 use Rattle.iterations.specs.Views.{run_rows}
 use Rattle.iterations.proofs.Outside.{done_with, failed_as}
 use Rattle.iterations.proofs.OneDay.{day_failed, day_wanting, day_then}
@@ -32,7 +31,7 @@ save_and_report-requires-clause-can g c =
     can_scored (run_rows c.args.run.now) c.args.memories.items _ _ c.requires (c.deref-3.ensures.value ∙ c.in-Ok-scored.ensures)
 
 pub save_and_report-requires-clause-few : goal.save_and_report-requires-clause-few
-save_and_report-requires-clause-few g c = let n = c.in-Ok.ensures.seen.each in let m = c.in-Ok.ensures.seen.few in omega arith
+save_and_report-requires-clause-few g c = let n = c.in-Ok.ensures.seen.each in let m = c.args.run.now.town.now.sound.few_persons in omega arith
 
 pub save_and_report-requires-clause-within : goal.save_and_report-requires-clause-within
 save_and_report-requires-clause-within g c = c.in-Ok.ensures.seen.within
@@ -63,18 +62,10 @@ returns-in-Err-save_and_report-clause-performed g c =
     c.in-Ok.ensures.performed
     (saved_then _ _ _ _ _ _ _ _ (reported k _ _ _ _ seen.counts seen.scores) c.in-Err-save_and_report.ensures.performed))
 
-pub returns-in-Ok-save_and_report-clause-known : goal.returns-in-Ok-save_and_report-clause-known
-returns-in-Ok-save_and_report-clause-known g c =
-    subst (λ (ms : List MemoryRows). Knows c.in-Ok.seen.known (events_of (run_rows c.args.run.now) c.args.iteration ms))
-    c.deref.ensures.value c.in-Ok.ensures.seen.known
-
-pub returns-in-Ok-save_and_report-clause-links : goal.returns-in-Ok-save_and_report-clause-links
-returns-in-Ok-save_and_report-clause-links g c = c.in-Ok.ensures.seen.links
-
-pub returns-in-Ok-save_and_report-clause-on_links : goal.returns-in-Ok-save_and_report-clause-on_links
-returns-in-Ok-save_and_report-clause-on_links g c =
-    subst (λ (ms : List MemoryRows). AreOnLinks (length c.args.run.now.town.now.network.links)
-    (events_of (run_rows c.args.run.now) c.args.iteration ms)) c.deref.ensures.value c.in-Ok.ensures.seen.on_links
+pub returns-in-Ok-save_and_report-clause-observed : goal.returns-in-Ok-save_and_report-clause-observed
+returns-in-Ok-save_and_report-clause-observed g c =
+    subst (λ (ms : List MemoryRows). AreObserved (length c.args.run.now.town.now.network.links)
+    (events_of (run_rows c.args.run.now) c.args.iteration ms) c.in-Ok.seen.known) c.deref.ensures.value c.in-Ok.ensures.seen.observed
 
 pub returns-in-Ok-save_and_report-clause-can : goal.returns-in-Ok-save_and_report-clause-can
 returns-in-Ok-save_and_report-clause-can g c =

@@ -37,8 +37,7 @@ returns-in-Err-replanned-clause-keeper g c off = c.in-Ok-do_iteration.ensures.ke
 pub replanned-requires-clause-known : goal.replanned-requires-clause-known
 replanned-requires-clause-known g c κs within = (
   events_of (run_rows c.args.run.now) c.loop-iteration.iteration c.loop-iteration.memories.items,
-  c.in-Ok-do_iteration.ensures.known,
-  c.in-Ok-do_iteration.ensures.on_links,
+  c.in-Ok-do_iteration.ensures.observed,
 )
 
 pub loop-iteration-preserved : goal.loop-iteration-preserved
@@ -51,10 +50,10 @@ loop-iteration-preserved g c =
           c.in-Ok-do_iteration.ensures.performed
           (next_is R k own c.in-Ok-do_iteration.one.memories.items c.in-Ok-replanned.new.items (events_of R k own)
           refl c.in-Ok-do_iteration.ensures.memories
-          (c.in-Ok-replanned.ensures (events_of R k own) c.in-Ok-do_iteration.ensures.known c.in-Ok-do_iteration.ensures.on_links));
+          (c.in-Ok-replanned.ensures (events_of R k own) c.in-Ok-do_iteration.ensures.observed));
       can = can_again R (k + 1) (events_of R k own) c.in-Ok-do_iteration.one.memories.items c.in-Ok-replanned.new.items
           c.args.run.now.town.now.sound c.in-Ok-do_iteration.ensures.can
-          (c.in-Ok-replanned.ensures (events_of R k own) c.in-Ok-do_iteration.ensures.known c.in-Ok-do_iteration.ensures.on_links);
+          (c.in-Ok-replanned.ensures (events_of R k own) c.in-Ok-do_iteration.ensures.observed);
       keeper = λ off. c.in-Ok-do_iteration.ensures.keeper off ∙ c.loop-iteration.invariant.keeper off;
     }
 

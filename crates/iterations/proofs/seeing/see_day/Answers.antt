@@ -22,7 +22,7 @@ write_events-requires-clause-given g c κs within =
     given (run_rows c.args.run.now) c.args.iteration c.args.memories.now c.day_of-day.result
     (ap (λ (t : Town). rows_of t) c.day_of-day.ensures.town)
     (ap (λ (ps : List Plan). map plan_rows ps) (c.day_of-day.ensures.chosen ∙ c.deref.ensures.value) ∙ c.in-Ok.ensures)
-    c.day_of-day.ensures.iteration c.args.run.now.town.now.sound c.requires
+    c.day_of-day.ensures.iteration c.requires
 
 pub returns-in-Err-clause-performed : goal.returns-in-Err-clause-performed
 returns-in-Err-clause-performed g c =
@@ -30,7 +30,7 @@ returns-in-Err-clause-performed g c =
     (text_is (run_rows c.args.run.now) c.args.iteration c.args.memories.now c.day_of-day.result
     (ap (λ (t : Town). rows_of t) c.day_of-day.ensures.town)
     (ap (λ (ps : List Plan). map plan_rows ps) (c.day_of-day.ensures.chosen ∙ c.deref.ensures.value) ∙ c.in-Ok.ensures)
-    c.day_of-day.ensures.iteration c.args.run.now.town.now.sound c.requires)
+    c.day_of-day.ensures.iteration c.requires)
     c.in-Err.ensures.performed)
 
 pub returns-in-Ok-write_scores-clause-performed : goal.returns-in-Ok-write_scores-clause-performed
@@ -42,11 +42,11 @@ returns-in-Ok-write_scores-clause-performed g c =
     let town_is = ap (λ (t : Town). rows_of t) c.day_of-day.ensures.town in
     let chosen_is = ap (λ (ps : List Plan). map plan_rows ps) (c.day_of-day.ensures.chosen ∙ c.deref.ensures.value) ∙ c.in-Ok.ensures in
     let seen : IsSeenOf R k ms c.in-Ok-write_events.seen =
-    seen_is R k ms c.day_of-day.result town_is chosen_is c.day_of-day.ensures.iteration c.args.run.now.town.now.sound
+    seen_is R k ms c.day_of-day.result town_is chosen_is c.day_of-day.ensures.iteration
     c.requires c.in-Ok-write_events.seen
-    c.in-Ok-write_events.ensures.links c.in-Ok-write_events.ensures.on_links c.in-Ok-write_events.ensures.seen in
+    c.in-Ok-write_events.ensures.links c.in-Ok-write_events.ensures.seen in
     done_with _ _ _ tt _ (one_then _ _ _ _ _ _ _ (other_text _ _ _ _ _ _
-    (text_is R k ms c.day_of-day.result town_is chosen_is c.day_of-day.ensures.iteration c.args.run.now.town.now.sound
+    (text_is R k ms c.day_of-day.result town_is chosen_is c.day_of-day.ensures.iteration
     c.requires) c.in-Ok-write_events.ensures.performed)
     (other_text _ _ _ _ _ _
     (ap (λ (ns : List ℕ). scores_text k persons ns c.deref-2.result.now) (c.deref-3.ensures.value ∙ c.in-Ok-chosen_numbers.ensures)
@@ -62,11 +62,11 @@ returns-clause-performed g c =
     let town_is = ap (λ (t : Town). rows_of t) c.day_of-day.ensures.town in
     let chosen_is = ap (λ (ps : List Plan). map plan_rows ps) (c.day_of-day.ensures.chosen ∙ c.deref.ensures.value) ∙ c.in-Ok.ensures in
     let seen : IsSeenOf R k ms c.in-Ok-write_events.seen =
-    seen_is R k ms c.day_of-day.result town_is chosen_is c.day_of-day.ensures.iteration c.args.run.now.town.now.sound
+    seen_is R k ms c.day_of-day.result town_is chosen_is c.day_of-day.ensures.iteration
     c.requires c.in-Ok-write_events.seen
-    c.in-Ok-write_events.ensures.links c.in-Ok-write_events.ensures.on_links c.in-Ok-write_events.ensures.seen in
+    c.in-Ok-write_events.ensures.links c.in-Ok-write_events.ensures.seen in
     failed_as _ _ _ _ (one_then _ _ _ _ _ _ _ (other_text _ _ _ _ _ _
-    (text_is R k ms c.day_of-day.result town_is chosen_is c.day_of-day.ensures.iteration c.args.run.now.town.now.sound
+    (text_is R k ms c.day_of-day.result town_is chosen_is c.day_of-day.ensures.iteration
     c.requires) c.in-Ok-write_events.ensures.performed)
     (other_text _ _ _ _ _ _
     (ap (λ (ns : List ℕ). scores_text k persons ns c.deref-2.result.now) (c.deref-3.ensures.value ∙ c.in-Ok-chosen_numbers.ensures)
@@ -79,8 +79,8 @@ write_scores-requires-clause-each_score g c =
     seen_is (run_rows c.args.run.now) c.args.iteration c.args.memories.now c.day_of-day.result
     (ap (λ (t : Town). rows_of t) c.day_of-day.ensures.town)
     (ap (λ (ps : List Plan). map plan_rows ps) (c.day_of-day.ensures.chosen ∙ c.deref.ensures.value) ∙ c.in-Ok.ensures)
-    c.day_of-day.ensures.iteration c.args.run.now.town.now.sound c.requires c.in-Ok-write_events.seen
-    c.in-Ok-write_events.ensures.links c.in-Ok-write_events.ensures.on_links c.in-Ok-write_events.ensures.seen in
+    c.day_of-day.ensures.iteration c.requires c.in-Ok-write_events.seen
+    c.in-Ok-write_events.ensures.links c.in-Ok-write_events.ensures.seen in
     ap (λ (ss : List ℤ). length ss) c.deref-2.ensures.value ∙ seen.each
 
 pub returns-in-Ok-write_scores-clause-seen : goal.returns-in-Ok-write_scores-clause-seen
@@ -88,5 +88,5 @@ returns-in-Ok-write_scores-clause-seen g c =
     seen_is (run_rows c.args.run.now) c.args.iteration c.args.memories.now c.day_of-day.result
     (ap (λ (t : Town). rows_of t) c.day_of-day.ensures.town)
     (ap (λ (ps : List Plan). map plan_rows ps) (c.day_of-day.ensures.chosen ∙ c.deref.ensures.value) ∙ c.in-Ok.ensures)
-    c.day_of-day.ensures.iteration c.args.run.now.town.now.sound c.requires c.in-Ok-write_events.seen
-    c.in-Ok-write_events.ensures.links c.in-Ok-write_events.ensures.on_links c.in-Ok-write_events.ensures.seen
+    c.day_of-day.ensures.iteration c.requires c.in-Ok-write_events.seen
+    c.in-Ok-write_events.ensures.links c.in-Ok-write_events.ensures.seen

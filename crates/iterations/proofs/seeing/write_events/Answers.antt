@@ -25,6 +25,12 @@ returns-in-Ok-write_day-clause-performed g c =
     (ap (λ (l : List ℕ). l ++ event_lines (traffic_day.day (setup d)) d.town.now.book) (sym c.in-Ok.ensures))
     c.in-Ok-write.ensures.performed (streamed _ _ _ _ _ _ _ _ c.in-Ok-write_day.ensures.written)
 
+pub returns-in-Ok-write_day-clause-seen : goal.returns-in-Ok-write_day-clause-seen
+returns-in-Ok-write_day-clause-seen g c = c.in-Ok-write_day.ensures.seen
+
+pub returns-in-Ok-write_day-clause-links : goal.returns-in-Ok-write_day-clause-links
+returns-in-Ok-write_day-clause-links g c = c.in-Ok-write_day.ensures.links
+
 pub returns-in-Err-write_day-clause-performed : goal.returns-in-Err-write_day-clause-performed
 unfolding events_text
 returns-in-Err-write_day-clause-performed g c =

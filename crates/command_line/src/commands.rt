@@ -138,12 +138,13 @@ fn with_execution<'a>(
     let partitions = count_option(
         alloc,
         "partitions",
-        "Among how many partitions the network is divided, from 1 to 64; 1 where it is not given. Choose some four for each core",
+        "Among how many partitions the network is divided, from 1 to 64; 1 where it is not given. Choose one for each core",
     );
     let workers = count_option(
         alloc,
         "workers",
-        "How many workers compute them, each in a thread, from 1 to 64; 1 where it is not given. Choose one for each core",
+        "How many workers compute them, each in a thread, from 1 to 64; 1 where it is not given. Choose one for each core; with --stream \
+         one computes them",
     );
     let stream = flag(
         alloc,
@@ -168,7 +169,7 @@ pub fn run_command<'a>(alloc: Global) -> Result<clap::Command<'a>, AllocError>
             usage: "qsim run [--partitions N] [--workers N] [--stream]",
             about: "Simulates the days of the files in the current folder.",
             notes: "Writes events.csv, scores.csv and plans_out.csv; the report goes to standard output. What persons remember after each \
-                    iteration is kept in kept.db. No option changes a byte of what is written.",
+                    iteration is kept in kept.db. No option changes a byte of what a finished run has written.",
         },
     );
     let command = with_execution(alloc, bare)?;

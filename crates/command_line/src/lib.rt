@@ -7,8 +7,6 @@
 mod commands;
 mod given;
 mod reading;
-#[cfg(test)]
-mod tests;
 mod usage;
 
 pub use commands::Command;

@@ -36,8 +36,8 @@ impl Agents {
         }
     }
 
-    /// A person begins an activity that ends at this second, or never. There is a list for each second up to the last one that was given,
-    /// so an end behind that of the day is best given as none.
+    /// A person begins an activity that ends at this second, or never. There is a place for each block of seconds up to
+    /// that of the last one that was given, so an end behind that of the day is best given as none.
     ///
     /// # Errors
     ///

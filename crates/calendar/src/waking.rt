@@ -110,7 +110,8 @@ impl Wakes {
     }
 
     /// A number is woken in this second, or not at all, whatever was asked before. Nothing is added where that is so already. The
-    /// calendar has a list for each second up to the last one that was given, so a second behind that of the day is best given as none.
+    /// calendar has a place for each block of seconds up to that of the last one that was given, so a second behind that of the day is best
+    /// given as none.
     ///
     /// # Errors
     ///

@@ -143,13 +143,12 @@ fn with_execution<'a>(
     let workers = count_option(
         alloc,
         "workers",
-        "How many workers compute them, each in a thread, from 1 to 64; 1 where it is not given. Choose one for each core; with --stream \
-         one computes them",
+        "How many workers compute them, each in a thread, from 1 to 64; 1 where it is not given. Choose one for each core",
     );
     let stream = flag(
         alloc,
         "stream",
-        "Writes the lines of events.csv while a day runs, so that its events need not fit into memory; one thread computes it",
+        "Writes the lines of events.csv while a day runs, so that its events need not fit into memory",
     );
     let divided = command.arg(partitions)?;
     let spread = divided.arg(workers)?;

@@ -13,7 +13,7 @@ static HELP: [(&[&str], &str); 15] = [
     (&["qsim", "-h"], "choose one of each for each core."),
     (
         &["qsim", "-h"],
-        "one thread then computes it, whatever --workers says.",
+        "into memory. No byte of what a finished run has written",
     ),
     (
         &["qsim", "run", "-h"],
@@ -30,7 +30,7 @@ static HELP: [(&[&str], &str); 15] = [
     ),
     (
         &["qsim", "resume", "-h"],
-        "Choose one for each core; with --stream one computes them\n",
+        "so that its events need not fit into memory\n",
     ),
     (&["qsim", "check", "--help"], "Usage: qsim check\n"),
     (

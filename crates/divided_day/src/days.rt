@@ -25,8 +25,8 @@ fn told_by<T: DayPart>(
     requires given { HaveFittingPlans (T.day run.now) }
     requires stays { T.streams run.now ≡ false }
     requires count { length parts.items ≡ (T.net run.now).parts }
-    requires ended { EachAt T.nothing T.see (T.stands run.now) (T.net run.now).end (λ p. length (T.borders run.now p)) (T.net run.now).parts
-        parts.items }
+    requires ended { EachAt T.nothing T.see (T.stands run.now) (T.net run.now).end (λ p. length (T.borders run.now p))
+        (T.net run.now).parts parts.items }
     ensures { IfOk result (λ lists. lists.items ≡ map (told_in (T.day run.now) (T.owner run.now)) (below (T.net run.now).parts)) }
 {
     let mut lists = Vec::new(alloc);
@@ -50,8 +50,8 @@ pub fn merged_events<T: DayPart>(
     requires given { HaveFittingPlans (T.day run.now) }
     requires stays { T.streams run.now ≡ false }
     requires count { length parts.items ≡ (T.net run.now).parts }
-    requires ended { EachAt T.nothing T.see (T.stands run.now) (T.net run.now).end (λ p. length (T.borders run.now p)) (T.net run.now).parts
-        parts.items }
+    requires ended { EachAt T.nothing T.see (T.stands run.now) (T.net run.now).end (λ p. length (T.borders run.now p))
+        (T.net run.now).parts parts.items }
     ensures events { IfOk result (λ events. events.items ≡ traffic_day.day (setup (T.day run.now))) }
     ensures named { IfOk result (λ events. AreInBook events.items (T.day run.now).town.now.book) }
 {

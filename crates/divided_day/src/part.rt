@@ -19,8 +19,8 @@ pub trait DayPart: Part {
     /// Who has which node.
     ghost owner: { Self.Run → Owner };
 
-    /// Whether the events of a run are taken while the day goes on: a partition keeps then those of the second that it did last alone,
-    /// and else all.
+    /// Whether the events of a run are taken while the day goes on: a partition need not keep then those of more than the second
+    /// that it did last, and else keeps all.
     ghost streams: { Self.Run → Bool };
 
     /// The events of the second that the partition did last that belong to it, in the order of their keys. Of a run whose events are taken

@@ -53,7 +53,11 @@ fn write_lines<O: Outputs>(
 }
 
 /// Writes the next events of a day, and lets the handler take them.
-fn stream_piece<O: Outputs>(
+///
+/// # Errors
+///
+/// `WriteFailed`: a write failed. `NoMemory`: memory was wanting. A front of their lines was written then.
+pub fn stream_piece<O: Outputs>(
     alloc: Global,
     tables: &Tables,
     book: &Book,

@@ -35,6 +35,6 @@ pub fn parcels_make_ready()
 pub fn own_worlds_go_on()
     ensures takes_in { (S : Setup) (own : Owner) (parts p t : ℕ) (z : Counts) (ns : List ℕ) → IsSoundSetup S → IsConsistentSetup S
         → IsOwner own parts → IsFitSetup z S → HearsFrom S own p ns → TakesIn S own p t ns }
-    ensures lets_go { (S : Setup) (own : Owner) (parts p t : ℕ) (z : Counts) → IsSoundSetup S → IsConsistentSetup S → IsOwner own parts
-        → IsFitSetup z S → LetsGo S own p t }
+    ensures lets_go { (S : Setup) (own : Owner) (parts p t : ℕ) (z : Counts) → IsSoundSetup S → IsConsistentSetup S
+        → IsOwner own parts → IsFitSetup z S → LetsGo S own p t }
 {}

@@ -7,4 +7,5 @@ mod loads;
 mod runs;
 
 pub use days::day_in_parts;
+pub use loads::loads_of;
 pub use runs::{Shared, run_of, share};

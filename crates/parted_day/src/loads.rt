@@ -25,11 +25,7 @@ fn add_plan(day: &DayInput, owner: &Owner, plan: &Plan, loads: &mut [usize]) {
 /// # Errors
 ///
 /// `AllocError`: there is no memory for a number for each partition.
-pub(crate) fn loads_of(
-    alloc: Global,
-    day: &DayInput,
-    owner: &Owner,
-) -> Result<Vec<usize>, AllocError> {
+pub fn loads_of(alloc: Global, day: &DayInput, owner: &Owner) -> Result<Vec<usize>, AllocError> {
     let mut loads = vec![in alloc; 0; owner.parts as usize]?;
     for plan in day.chosen {
         add_plan(day, owner, plan, &mut loads);

@@ -100,7 +100,7 @@ fn tell<O: Outputs, K: Keeper>(
 /// remember after it, and writes the plans at the end; `qsim resume` goes on from what is kept; `qsim check` reads the scenario and reports
 /// its counts or its first fault; `qsim route` reads it and reports the route of least arrival between two nodes; `qsim generate` makes a
 /// grid and runs it, and reads and keeps nothing. The days of a run are computed in as many partitions of the network, and by as many
-/// workers, as the words say; where they ask for it the events of a day are written while it runs, and then one thread computes it.
+/// workers, as the words say; where they ask for it the events of a day are written while it runs.
 ///
 /// The words are read first, then all files, then what is kept, and then all that the answer holds is done outside, what is written and
 /// kept of an iteration as soon as it is over, or the events of its day as they come. Routes are searched, and persons replan, by as many

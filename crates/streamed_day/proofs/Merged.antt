@@ -35,9 +35,9 @@ use Rattle.partition.specs.declared.owner.Owner as owners
 use Rattle.divided_day.specs.Days.{told_at, end_told_in}
 use Rattle.streamed_day.proofs.Dealing.{some_ascend, later_ascend, kept_alike, one_each, can_merge, merged_is}
 
--- OF A SECOND
-abbrev told_in : Setup → Owner → ℕ → ℕ → List Event
-told_in S own t p = filter (λ (e : Event). owner_of_event S own e == p) (second_events S t (world_at S t))
+-- OF A SECOND, AND OF ANY EVENTS OF SECONDS
+abbrev told_in : Setup → Owner → List Event → ℕ → List Event
+told_in S own es p = filter (λ (e : Event). owner_of_event S own e == p) es
 
 second_ascends : (S : Setup) (t : ℕ) → Ascends (second_events S t (world_at S t))
 unfolding events_from
@@ -48,9 +48,8 @@ passes : (p : Event → Bool) (xs : List Event) (a : Event) → Contains (filter
 passes p xs a c = All-contains (λ (e : Event). p e ≡ true) (filter p xs) a (filter_passes p xs) c
 
 -- by its key an event tells whose it is
-seconds_apart : (S : Setup) (own : Owner) (t parts : ℕ) → ShareNone (told_in S own t) parts
-seconds_apart S own t parts p q lp lq a b here there same =
-    let es = second_events S t (world_at S t) in
+events_apart : (S : Setup) (own : Owner) (es : List Event) (parts : ℕ) → ShareNone (told_in S own es) parts
+events_apart S own es parts p q lp lq a b here there same =
     sym (eqb-true (owner_of_event S own a) p (passes (λ (e : Event). owner_of_event S own e == p) es a here))
     ∙ ap (λ (k : Key). owner_of_turn S own k.second k.phase k.number) same
     ∙ eqb-true (owner_of_event S own b) q (passes (λ (e : Event). owner_of_event S own e == q) es b there)
@@ -104,24 +103,35 @@ module _ (day : DayInput) (owner : owners.Owner) (given : HaveFittingPlans day) 
   all_shared = shared (setup day) (owner_in owner.of_node) owner.parts (lawful (setup day) sound consistent)
       (alighting (setup day) sound consistent) owner.owned
 
+  -- events in the order of their keys, dealt out by their owners
+  pub can_merge_events : (es : List Event) (n : ℕ) (lists : List (List Event)) → Ascends es → n ≡ owner.parts
+      → lists ≡ map (λ p. told_in (setup day) (owner_in owner.of_node) es p) (below n) → CanMerge lists
+  can_merge_events es n lists up e is =
+      let S = setup day in
+      let own = owner_in owner.of_node in
+      can_merge (told_in S own es) owner.parts n lists (λ p. some_ascend (λ (x : Event). owner_of_event S own x == p) es up)
+      (events_apart S own es owner.parts) e is
+
+  pub merged_events : (es : List Event) (n : ℕ) (lists : List (List Event)) (events : List Event) → Ascends es → n ≡ owner.parts
+      → lists ≡ map (λ p. told_in (setup day) (owner_in owner.of_node) es p) (below n) → Merges lists events → events ≡ es
+  merged_events es n lists events up e is merges =
+      let S = setup day in
+      let own = owner_in owner.of_node in
+      merged_is (λ (x : Event). x ∷ []) (owner_of_event S own) es (told_in S own es) owner.parts n lists events es all_shared.events
+      (λ p lt. sym (one_each (told_in S own es p))) (sym (one_each es)) up e is merges
+
   pub can_merge_second : (t n : ℕ) (lists : List (List Event)) → n ≡ owner.parts → lists ≡ map (λ p. told_at day owner p t) (below n)
       → CanMerge lists
   can_merge_second t n lists e is =
       let S = setup day in
-      let own = owner_in owner.of_node in
-      can_merge (told_in S own t) owner.parts n lists
-      (λ p. some_ascend (λ (x : Event). owner_of_event S own x == p) (second_events S t (world_at S t)) (second_ascends S t))
-      (seconds_apart S own t owner.parts) e is
+      can_merge_events (second_events S t (world_at S t)) n lists (second_ascends S t) e is
 
   pub merged_second : (t n : ℕ) (lists : List (List Event)) (events : List Event) → n ≡ owner.parts
       → lists ≡ map (λ p. told_at day owner p t) (below n) → Merges lists events
       → events ≡ second_events (setup day) t (world_at (setup day) t)
   merged_second t n lists events e is merges =
       let S = setup day in
-      let own = owner_in owner.of_node in
-      let es = second_events S t (world_at S t) in
-      merged_is (λ (x : Event). x ∷ []) (owner_of_event S own) es (told_in S own t) owner.parts n lists events es all_shared.events
-      (λ p lt. sym (one_each (told_in S own t p))) (sym (one_each es)) (second_ascends S t) e is merges
+      merged_events (second_events S t (world_at S t)) n lists events (second_ascends S t) e is merges
 
   pub can_merge_ends : (n : ℕ) (lists : List (List Event)) → n ≡ owner.parts → lists ≡ map (end_told_in day owner) (below n)
       → CanMerge lists

@@ -81,8 +81,8 @@ pub fn ends_of<T: DayPart>(
     requires given { HaveFittingPlans (T.day run.now) }
     requires streams { T.streams run.now ≡ true }
     requires count { length parts.items ≡ (T.net run.now).parts }
-    requires ended { EachAt T.nothing T.see (T.stands run.now) (T.net run.now).end (λ p. length (T.borders run.now p)) (T.net run.now).parts
-        parts.items }
+    requires ended { EachAt T.nothing T.see (T.stands run.now) (T.net run.now).end (λ p. length (T.borders run.now p))
+        (T.net run.now).parts parts.items }
     ensures { let S = setup (T.day run.now) in let end = (T.net run.now).end in
         IfOk result (λ events. events.items ≡ end_events S end (world_at S end)) }
 {

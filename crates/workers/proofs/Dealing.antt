@@ -7,12 +7,12 @@ use mathlib.Core.Logic.{dite}
 use native.Mathlib.Decide.{ℕ_discrete}
 use Rattle.cells.specs.declared.board.Board.{Board}
 use Rattle.step_core.specs.declared.part.Border.{Border}
-use Rattle.step_core.specs.Nets.{Net}
 use Rattle.step_core.specs.Views.{PartView, IsAt, EachAt}
 use Rattle.workers.specs.declared.members.Day.{Day}
 use Rattle.workers.specs.declared.members.Member.{Member}
-use Rattle.workers.specs.Members.{IsMember, AreMembers, AreAll, AllEnd, AllGo, Went, is_stopped, number_of, seconds_of}
-use Rattle.workers.specs.Sharing.{HasOne, ArePartsOf}
+use Rattle.workers.specs.Members.{IsMember, AreMembers, AreAll, AllEnd, AllGo, is_stopped, number_of, seconds_of}
+use Rattle.workers.specs.Sharing.{HasOne, IsPartIn, ArePartsOf}
+use Rattle.workers.proofs.Resting.{rests_within}
 use Rattle.workers.proofs.Starting.{one_of, end_of}
 
 module _ {X : Type 0} where
@@ -71,34 +71,60 @@ module _ {T R P : Type 0} where
       subst (λ (zs : List (Member T R P)). ((i : ℕ) (d : Member T R P) → i < length zs → number_of (slice_index_or zs i d) ≢ n) → ⊥) (sym is)
       (λ none. none w.1.0 w.0 w.1.1 (ap number_of w.1.2 ∙ w.2)) others
 
-  -- members of all partitions, in another order and later
-  pub shared_has : (n count : ℕ) (xs ys zs : List (Member T R P)) → count ≡ n → AreAll n xs → IsPermutation xs ys → AllGo ys zs
-      → (p : ℕ) → p < count → HasOne p zs
-  shared_has n count xs ys zs is all perm go p lt = let many = all.many in one_of xs (omega arith) (λ e.
+  -- members of all partitions, in another order
+  pub shared_has : (n : ℕ) (xs ys : List (Member T R P)) → AreAll n xs → IsPermutation xs ys → (p : ℕ) → p < n → HasOne p ys
+  shared_has n xs ys all perm p lt = let many = all.many in one_of xs (omega arith) (λ e.
       let m : Member T R P = slice_index_or xs p e in let there : p < length xs = omega arith in
-      let c : Contains ys m = Contains-permutation xs ys m perm (p, there, get_or_default xs p m e there) in
-      let z : Member T R P = slice_index_or zs c.0 m in let long = go.long in let l = c.1 in (
+      (m, Contains-permutation xs ys m perm (p, there, get_or_default xs p m e there), all.numbered p e there))
+
+  -- and later
+  pub still_has : (ys zs : List (Member T R P)) (p : ℕ) → AllGo ys zs → HasOne p ys → HasOne p zs
+  still_has ys zs p go w =
+      let m : Member T R P = w.0 in let c : Contains ys m = w.1 in let z : Member T R P = slice_index_or zs c.0 m in
+      let long = go.long in let l = c.1 in (
         z,
         (c.0, omega arith, get_or_default zs c.0 z m (omega arith)),
-        (go.each c.0 m c.1).number ∙ (ap number_of c.2 ∙ all.numbered p e there),
-      ))
+        (go.each c.0 m c.1).number ∙ (ap number_of c.2 ∙ w.2),
+      )
 
-module _ {T R P : Type 0} (net : R → Net) (borders : R → ℕ → List Border) (nothing : P) (see : T → PartView P) (stands : R → T → Type 0)
+  pub shared_level : (t : ℕ) (xs ys : List (Member T R P)) → IsPermutation xs ys → AllEnd t xs → AllEnd t ys
+  shared_level t xs ys perm level i d lt =
+      let m : Member T R P = slice_index_or ys i d in
+      let c : Contains xs m = Contains-permutation ys xs m (IsPermutation-sym xs ys perm) (i, lt, get_or_default ys i m d lt) in
+      subst (λ (z : Member T R P). (is_stopped z ≡ false) × (seconds_of z ≡ t)) c.2 (level c.0 m c.1)
+
+module _ {T R P : Type 0} (until : ℕ) (borders : R → ℕ → List Border) (nothing : P) (see : T → PartView P) (stands : R → T → Type 0)
     (spent : T → Type 0) (right : R → ℕ → ℕ → ℕ → P → Type 0) (run : R) (b : Board (Day T) R P) where
   pub shared_members : (xs ys : List (Member T R P)) → IsPermutation xs ys
-      → AreMembers net borders nothing see stands spent right run b xs → AreMembers net borders nothing see stands spent right run b ys
+      → AreMembers until borders nothing see stands spent right run b xs → AreMembers until borders nothing see stands spent right run b ys
   shared_members xs ys perm are i d lt =
       let m : Member T R P = slice_index_or ys i d in
       let c : Contains xs m = Contains-permutation ys xs m (IsPermutation-sym xs ys perm) (i, lt, get_or_default ys i m d lt) in
-      subst (λ (z : Member T R P). IsMember net borders nothing see stands spent right run b z) c.2 (are c.0 m c.1)
+      subst (λ (z : Member T R P). IsMember until borders nothing see stands spent right run b z) c.2 (are c.0 m c.1)
 
-  pub all_at_end : (n : ℕ) (ys zs : List (Member T R P)) → Went net borders nothing see stands spent right run b ys zs
-      → AllEnd (net run).end zs → (parts : List T) → ArePartsOf zs n parts
-      → EachAt nothing see (stands run) (net run).end (λ p. length (borders run p)) n parts
-  all_at_end n ys zs f end parts are p d lt =
-      let o = are.each p d lt in let m : Member T R P = o.0 in let c : Contains zs m = o.1 in let e = end c.0 m c.1 in
-      subst (λ (z : T). IsAt nothing see (stands run) p (net run).end (length (borders run p)) z) (sym o.3)
-      (end_of net borders nothing see stands spent right run b p m
-      (subst (λ (z : Member T R P). IsMember net borders nothing see stands spent right run b z) c.2 (f.members c.0 m c.1))
+  -- members that are all at one second are so up to any second that this is not beyond
+  pub members_within : (t v : ℕ) (ms : List (Member T R P)) → AreMembers until borders nothing see stands spent right run b ms
+      → AllEnd t ms → t ≤ v → AreMembers v borders nothing see stands spent right run b ms
+  members_within t v ms are level le i d lt =
+      let m : Member T R P = slice_index_or ms i d in
+      let a : IsMember until borders nothing see stands spent right run b m = are i d lt in
+      let e = (level i d lt).1 in
+      record {
+        rests = λ goes. rests_within until borders nothing see stands right run b v m (a.rests goes) (omega arith);
+        poor = a.poor;
+      }
+
+  -- the partition of a member among those that are all at one second
+  pub part_at : (t p : ℕ) (ms : List (Member T R P)) (x : T) → AreMembers until borders nothing see stands spent right run b ms
+      → AllEnd t ms → IsPartIn p ms x → IsAt nothing see (stands run) p t (length (borders run p)) x
+  part_at t p ms x are level w =
+      let m : Member T R P = w.0 in let c : Contains ms m = w.1 in let e = level c.0 m c.1 in
+      subst (λ (z : T). IsAt nothing see (stands run) p t (length (borders run p)) z) (sym w.3)
+      (end_of until borders nothing see stands spent right run b t p m
+      (subst (λ (z : Member T R P). IsMember until borders nothing see stands spent right run b z) c.2 (are c.0 m c.1))
       (subst (λ (z : Member T R P). is_stopped z ≡ false) c.2 e.0)
-      (subst (λ (z : Member T R P). seconds_of z ≡ (net run).end) c.2 e.1) o.2)
+      (subst (λ (z : Member T R P). seconds_of z ≡ t) c.2 e.1) w.2)
+
+  pub all_at : (t n : ℕ) (ms : List (Member T R P)) → AreMembers until borders nothing see stands spent right run b ms
+      → AllEnd t ms → (parts : List T) → ArePartsOf ms n parts → EachAt nothing see (stands run) t (λ p. length (borders run p)) n parts
+  all_at t n ms are level parts all p d lt = part_at t p ms (get_or parts p d) are level (all.each p d lt)

@@ -13,12 +13,18 @@ use Rattle.workers.specs.declared.members.Member.{Member}
 use Rattle.workers.specs.Members.{IsBoardOfRun, IsMember, Rests, border_of, number_of, seconds_of, is_stopped}
 use Rattle.workers.specs.Parcels.{right_or_none}
 
-module _ {T R P : Type 0} (net : R → Net) (borders : R → ℕ → List Border) (nothing : P) (see : T → PartView P) (stands : R → T → Type 0)
-    (right : R → ℕ → ℕ → ℕ → P → Type 0) (run : R) (b : Board (Day T) R P) where
+module _ {T R P : Type 0} (until : ℕ) (borders : R → ℕ → List Border) (nothing : P) (see : T → PartView P)
+    (stands : R → T → Type 0) (right : R → ℕ → ℕ → ℕ → P → Type 0) (run : R) (b : Board (Day T) R P) where
+  -- a member that rests does so up to any second that it is not beyond
+  pub rests_within : (v : ℕ) (m : Member T R P) → Rests until borders nothing see stands right run b m → seconds_of m ≤ v
+      → Rests v borders nothing see stands right run b m
+  rests_within v m r le =
+      record { port = r.port; untouched = r.untouched; at = r.at; within = le; counts = r.counts }
+
   -- looks leave a member as it was, between two seconds
-  pub looked : (m n : Member T R P) → Rests net borders nothing see stands right run b m → n.part ≡ m.part
+  pub looked : (m n : Member T R P) → Rests until borders nothing see stands right run b m → n.part ≡ m.part
       → IsPort (right_or_none nothing right) b n.port
-      → IsUntouched n.port → SameSecond m.port n.port → waits m.port ≤ waits n.port → Rests net borders nothing see stands right run b n
+      → IsUntouched n.port → SameSecond m.port n.port → waits m.port ≤ waits n.port → Rests until borders nothing see stands right run b n
   looked m n r part port untouched same more = let done = same.done in let st = same.still in let w = r.within in let c = r.counts in
       record {
         port = port;
@@ -30,21 +36,38 @@ module _ {T R P : Type 0} (net : R → Net) (borders : R → ℕ → List Border
         counts = omega arith;
       }
 
+  -- and nothing in what is to go
+  pub all_gone : (m : Member T R P) (outbox : List P) (n : ℕ) → Rests until borders nothing see stands right run b m → n ≡ number_of m
+      → outbox ≡ (see m.part).outbox → AreEmpty nothing (length (borders run n)) outbox
+  all_gone m outbox n r named same = subst (λ (v : ℕ). AreEmpty nothing (length (borders run v)) outbox) (sym named)
+      (subst (λ (v : List P). AreEmpty nothing (length (borders run (number_of m))) v) (sym same) r.at.gone)
+
+  -- a member that published a second
+  pub published : (m n : Member T R P) → Rests until borders nothing see stands right run b m → IsPort (right_or_none nothing right) b n.port
+      → partition_of n.port ≡ partition_of m.port → done_of n.port ≡ done_of m.port + 1
+      → ((k : ℕ) → k < degree n.port → is_awaited (handover n.port k) ≡ true) → still n.port ≡ waits n.port
+      → IsAt nothing see (stands run) (number_of m) (seconds_of m + 1) (length (borders run (number_of m))) n.part
+      → seconds_of m < until → Rests until borders nothing see stands right run b n
+  published m n r port partition done awaited counts at before = record {
+    port = port;
+    untouched = λ k lt. inl (awaited k lt);
+    at = subst (λ (t : ℕ). IsAt nothing see (stands run) (number_of n) t (length (borders run (number_of n))) n.part) (sym done)
+        (subst (λ (p : ℕ). IsAt nothing see (stands run) p (seconds_of m + 1) (length (borders run p)) n.part) (sym partition) at);
+    within = omega arith;
+    counts = omega arith;
+  }
+
+module _ {T R P : Type 0} (net : R → Net) (borders : R → ℕ → List Border) (nothing : P) (see : T → PartView P)
+    (stands : R → T → Type 0) (right : R → ℕ → ℕ → ℕ → P → Type 0) (run : R) (b : Board (Day T) R P) where
   -- as many neighbours as the port has
   own_many : (q : Port (Day T) R P) → IsBoardOfRun net borders nothing right run b → IsPort (right_or_none nothing right) b q
       → length (borders run (partition_of q)) ≡ degree q
   own_many q board port = (board.neighbours q port).many
 
   -- its partition has an empty place for each neighbour of the port
-  pub all_empty : (m : Member T R P) → IsBoardOfRun net borders nothing right run b → Rests net borders nothing see stands right run b m
+  pub all_empty : (until : ℕ) (m : Member T R P) → IsBoardOfRun net borders nothing right run b → Rests until borders nothing see stands right run b m
       → AreEmpty nothing (degree m.port) (see m.part).inbox
-  all_empty m board r = subst (λ (n : ℕ). AreEmpty nothing n (see m.part).inbox) (own_many m.port board r.port) r.at.empty
-
-  -- and nothing in what is to go
-  pub all_gone : (m : Member T R P) (outbox : List P) (n : ℕ) → Rests net borders nothing see stands right run b m → n ≡ number_of m
-      → outbox ≡ (see m.part).outbox → AreEmpty nothing (length (borders run n)) outbox
-  all_gone m outbox n r named same = subst (λ (v : ℕ). AreEmpty nothing (length (borders run v)) outbox) (sym named)
-      (subst (λ (v : List P). AreEmpty nothing (length (borders run (number_of m))) v) (sym same) r.at.gone)
+  all_empty until m board r = subst (λ (n : ℕ). AreEmpty nothing n (see m.part).inbox) (own_many m.port board r.port) r.at.empty
 
   -- it has so many places
   pub all_places : (q : Port (Day T) R P) (places n : ℕ) → IsBoardOfRun net borders nothing right run b
@@ -103,28 +126,13 @@ module _ {T R P : Type 0} (net : R → Net) (borders : R → ℕ → List Border
         gone = subst (λ (v : ℕ). AreEmpty nothing v (see z).outbox) (sym many) gone;
       }
 
-  -- a member that published a second
-  pub published : (m n : Member T R P) → Rests net borders nothing see stands right run b m → IsPort (right_or_none nothing right) b n.port
-      → partition_of n.port ≡ partition_of m.port → done_of n.port ≡ done_of m.port + 1
-      → ((k : ℕ) → k < degree n.port → is_awaited (handover n.port k) ≡ true) → still n.port ≡ waits n.port
-      → IsAt nothing see (stands run) (number_of m) (seconds_of m + 1) (length (borders run (number_of m))) n.part
-      → seconds_of m < (net run).end → Rests net borders nothing see stands right run b n
-  published m n r port partition done awaited counts at before = record {
-    port = port;
-    untouched = λ k lt. inl (awaited k lt);
-    at = subst (λ (t : ℕ). IsAt nothing see (stands run) (number_of n) t (length (borders run (number_of n))) n.part) (sym done)
-        (subst (λ (p : ℕ). IsAt nothing see (stands run) p (seconds_of m + 1) (length (borders run p)) n.part) (sym partition) at);
-    within = omega arith;
-    counts = omega arith;
-  }
-
-module _ {T R P : Type 0} (net : R → Net) (borders : R → ℕ → List Border) (nothing : P) (see : T → PartView P) (stands : R → T → Type 0)
+module _ {T R P : Type 0} (until : ℕ) (borders : R → ℕ → List Border) (nothing : P) (see : T → PartView P) (stands : R → T → Type 0)
     (spent : T → Type 0) (right : R → ℕ → ℕ → ℕ → P → Type 0) (run : R) (b : Board (Day T) R P) where
   -- one that was not stopped is a member where it rests
-  pub goes_on : (m : Member T R P) → is_stopped m ≡ false → Rests net borders nothing see stands right run b m
-      → IsMember net borders nothing see stands spent right run b m
+  pub goes_on : (m : Member T R P) → is_stopped m ≡ false → Rests until borders nothing see stands right run b m
+      → IsMember until borders nothing see stands spent right run b m
   goes_on m goes r = record { rests = λ h. r; poor = λ h. absurd (true≢false (sym h ∙ goes)) }
 
   -- and one that was stopped where its partition found no memory
-  pub halts : (m : Member T R P) → is_stopped m ≡ true → spent m.part → IsMember net borders nothing see stands spent right run b m
+  pub halts : (m : Member T R P) → is_stopped m ≡ true → spent m.part → IsMember until borders nothing see stands spent right run b m
   halts m stopped poor = record { rests = λ h. absurd (true≢false (sym stopped ∙ h)); poor = λ h. poor }

@@ -8,7 +8,6 @@ use mathlib.Core.Logic.{dite}
 use native.Mathlib.Decide.{ℕ_discrete}
 use Rattle.cells.specs.declared.board.Board.{Board}
 use Rattle.step_core.specs.declared.part.Border.{Border}
-use Rattle.step_core.specs.Nets.{Net}
 use Rattle.step_core.specs.Views.{PartView}
 use Rattle.workers.specs.declared.members.Day.{Day}
 use Rattle.workers.specs.declared.members.Member.{Member}
@@ -25,17 +24,17 @@ raised s m w s' m' w' Stopped f g h x = f x
 raised s m w s' m' w' Waited f g h x = h x
 raised s m w s' m' w' Moved f g h x = g x
 
-module _ {T R P : Type 0} (net : R → Net) (borders : R → ℕ → List Border) (nothing : P) (see : T → PartView P) (stands : R → T → Type 0)
+module _ {T R P : Type 0} (until : ℕ) (borders : R → ℕ → List Border) (nothing : P) (see : T → PartView P) (stands : R → T → Type 0)
     (spent : T → Type 0) (right : R → ℕ → ℕ → ℕ → P → Type 0) (run : R) (b : Board (Day T) R P) where
   -- the member at place k had its turn and is x
   pub step : (k : ℕ) (s m w s' m' w' : Bool) (old new : List (Member T R P)) (x e : Member T R P) (t : Turn)
-      → RoundTo net borders nothing see stands spent right run b k s m w old new → k < length new
-      → IsMember net borders nothing see stands spent right run b x → Goes (slice_index_or new k e) x
-      → Turned (net run).end (slice_index_or new k e) x t
+      → RoundTo until borders nothing see stands spent right run b k s m w old new → k < length new
+      → IsMember until borders nothing see stands spent right run b x → Goes (slice_index_or new k e) x
+      → Turned until (slice_index_or new k e) x t
       → (s ≡ true → s' ≡ true) → (m ≡ true → m' ≡ true) → (w ≡ true → w' ≡ true) → Flagged s' m' w' t
       → (s' ≡ true → (s ≡ true) ⊎ (is_stopped x ≡ true))
-      → one_if m' + ((net run).end - seconds_of x) ≤ one_if m + ((net run).end - seconds_of (slice_index_or new k e))
-      → RoundTo net borders nothing see stands spent right run b (k + 1) s' m' w' old (set new k x)
+      → one_if m' + (until - seconds_of x) ≤ one_if m + (until - seconds_of (slice_index_or new k e))
+      → RoundTo until borders nothing see stands spent right run b (k + 1) s' m' w' old (set new k x)
   step k s m w s' m' w' old new x e0 t r lt member goes turned fs fm fw flagged why less =
       let next : List (Member T R P) = set new k x in
       let at : (d : Member T R P) → slice_index_or next k d ≡ x = λ d. set_same new next k x d refl lt in
@@ -44,21 +43,21 @@ module _ {T R P : Type 0} (net : R → Net) (borders : R → ℕ → List Border
       let y : Member T R P = slice_index_or new k e0 in
       let was : (d : Member T R P) → slice_index_or new k d ≡ y = λ d. get_or_default new k d e0 lt in
       let long : length next ≡ length new = length-set new k x in
-      let sums = sum_by-set (λ (z : Member T R P). (net run).end - seconds_of z) new k x e0 lt in
+      let sums = sum_by-set (λ (z : Member T R P). until - seconds_of z) new k x e0 lt in
       let before = r.less in
       record {
         long = long ∙ r.long;
         members = λ i d li. dite (ℕ_discrete i k)
-            (λ e. subst (λ (z : Member T R P). IsMember net borders nothing see stands spent right run b z)
+            (λ e. subst (λ (z : Member T R P). IsMember until borders nothing see stands spent right run b z)
             (sym (ap (λ z. slice_index_or next z d) e ∙ at d)) member)
-            (λ ne. subst (λ (z : Member T R P). IsMember net borders nothing see stands spent right run b z) (sym (other i d ne))
+            (λ ne. subst (λ (z : Member T R P). IsMember until borders nothing see stands spent right run b z) (sym (other i d ne))
             (r.members i d (omega arith)));
         turns = λ j d lj. dite (ℕ_discrete j k)
-            (λ e. subst (λ (v : ℕ). TurnedAs (net run).end s' m' w' (slice_index_or old v d) (slice_index_or next v d)) (sym e)
-            (subst₂ (λ (o n : Member T R P). TurnedAs (net run).end s' m' w' o n) (sym (was d) ∙ r.rest k d (le_refl k)) (sym (at d))
+            (λ e. subst (λ (v : ℕ). TurnedAs until s' m' w' (slice_index_or old v d) (slice_index_or next v d)) (sym e)
+            (subst₂ (λ (o n : Member T R P). TurnedAs until s' m' w' o n) (sym (was d) ∙ r.rest k d (le_refl k)) (sym (at d))
             (record { goes = goes; turn = t; turned = turned; flagged = flagged })))
             (λ ne. let h = r.turns j d (omega arith) in
-            subst (λ (n : Member T R P). TurnedAs (net run).end s' m' w' (slice_index_or old j d) n) (sym (other j d ne))
+            subst (λ (n : Member T R P). TurnedAs until s' m' w' (slice_index_or old j d) n) (sym (other j d ne))
             (record { goes = h.goes; turn = h.turn; turned = h.turned; flagged = raised s m w s' m' w' h.turn fs fm fw h.flagged }));
         rest = λ j d le. other j d (λ e. absurd (omega arith)) ∙ r.rest j d (omega arith);
         some = λ e. ⊎_elim

@@ -3,16 +3,15 @@ use Rattle.std.proofs.Common.{ℕ, ◌+◌, List, sym, subst, arith}
 use Rattle.std.specs.Fork.{IsChunk}
 use Rattle.cells.specs.declared.board.Board.{Board}
 use Rattle.step_core.specs.declared.part.Border.{Border}
-use Rattle.step_core.specs.Nets.{Net}
 use Rattle.step_core.specs.Views.{PartView}
 use Rattle.workers.specs.declared.members.Day.{Day}
 use Rattle.workers.specs.declared.members.Member.{Member}
 use Rattle.workers.specs.Members.{IsMember, AreMembers}
 
-module _ {T R P : Type 0} (net : R → Net) (borders : R → ℕ → List Border) (nothing : P) (see : T → PartView P) (stands : R → T → Type 0)
+module _ {T R P : Type 0} (until : ℕ) (borders : R → ℕ → List Border) (nothing : P) (see : T → PartView P) (stands : R → T → Type 0)
     (spent : T → Type 0) (right : R → ℕ → ℕ → ℕ → P → Type 0) (run : R) (b : Board (Day T) R P) where
-  pub chunk_members : (xs ys : List (Member T R P)) (size start : ℕ) → AreMembers net borders nothing see stands spent right run b xs
-      → IsChunk xs size start ys → AreMembers net borders nothing see stands spent right run b ys
+  pub chunk_members : (xs ys : List (Member T R P)) (size start : ℕ) → AreMembers until borders nothing see stands spent right run b xs
+      → IsChunk xs size start ys → AreMembers until borders nothing see stands spent right run b ys
   chunk_members xs ys size start all is i d lt = let within = is.in_bounds in
-      subst (λ (m : Member T R P). IsMember net borders nothing see stands spent right run b m) (sym (is.elements i d lt))
+      subst (λ (m : Member T R P). IsMember until borders nothing see stands spent right run b m) (sym (is.elements i d lt))
       (all (start + i) d (omega arith))

@@ -7,7 +7,6 @@ use native.Mathlib.Decide.{ℕ_discrete}
 use Rattle.cells.specs.declared.board.Board.{Board}
 use Rattle.cells.specs.Ports.{IsPort, degree, handover, partition_of, done_of, waits, still, is_awaited}
 use Rattle.step_core.specs.declared.part.Border.{Border}
-use Rattle.step_core.specs.Nets.{Net}
 use Rattle.step_core.specs.Views.{PartView, IsAt, EachAt}
 use Rattle.workers.specs.declared.members.Day.{Day}
 use Rattle.workers.specs.declared.members.Member.{Member}
@@ -24,6 +23,13 @@ module _ {T R P : Type 0} where
         (λ ne. ap number_of (get_or_append_left ms (x ∷ []) d i (omega arith)) ∙ all.numbered i d (omega arith));
   }
 
+  pub level_more : (t : ℕ) (ms : List (Member T R P)) (x : Member T R P) → AllEnd t ms → is_stopped x ≡ false → seconds_of x ≡ t
+      → AllEnd t (ms ++ x ∷ [])
+  level_more t ms x level goes at i d lt = let n = length-append ms (x ∷ []) in
+      let F : Member T R P → Type 0 = λ z. (is_stopped z ≡ false) × (seconds_of z ≡ t) in dite (ℕ_discrete i (length ms))
+      (λ e. subst F (sym (get_or_push ms x d i (sym e))) (goes, at))
+      (λ ne. subst F (sym (get_or_append_left ms (x ∷ []) d i (omega arith))) (level i d (omega arith)))
+
   -- where all are at the end, so is each
   pub ends_at : (end : ℕ) (ms : List (Member T R P)) (k : ℕ) (m : Member T R P) → k < length ms → slice_index_or ms k m ≡ m
       → AllEnd end ms → (is_stopped m ≡ false) × (seconds_of m ≡ end)
@@ -35,12 +41,12 @@ module _ {T R P : Type 0} where
   one_of [] lt f = absurd (omega arith)
   one_of (m ∷ ms) lt f = f m
 
-module _ {T R P : Type 0} (net : R → Net) (borders : R → ℕ → List Border) (nothing : P) (see : T → PartView P) (stands : R → T → Type 0)
+module _ {T R P : Type 0} (until : ℕ) (borders : R → ℕ → List Border) (nothing : P) (see : T → PartView P) (stands : R → T → Type 0)
     (right : R → ℕ → ℕ → ℕ → P → Type 0) (run : R) (b : Board (Day T) R P) where
   -- a partition at the start with its new port
   pub starts : (m : Member T R P) (n : ℕ) → IsPort (right_or_none nothing right) b m.port → partition_of m.port ≡ n → done_of m.port ≡ 0
       → ((k : ℕ) → k < degree m.port → is_awaited (handover m.port k) ≡ true) → waits m.port ≡ 0 → still m.port ≡ 0
-      → IsAt nothing see (stands run) n 0 (length (borders run n)) m.part → Rests net borders nothing see stands right run b m
+      → IsAt nothing see (stands run) n 0 (length (borders run n)) m.part → Rests until borders nothing see stands right run b m
   starts m n port partition done awaited w s at = record {
     port = port;
     untouched = λ k lt. inl (awaited k lt);
@@ -50,20 +56,20 @@ module _ {T R P : Type 0} (net : R → Net) (borders : R → ℕ → List Border
     counts = omega arith;
   }
 
-module _ {T R P : Type 0} (net : R → Net) (borders : R → ℕ → List Border) (nothing : P) (see : T → PartView P) (stands : R → T → Type 0)
+module _ {T R P : Type 0} (until : ℕ) (borders : R → ℕ → List Border) (nothing : P) (see : T → PartView P) (stands : R → T → Type 0)
     (spent : T → Type 0) (right : R → ℕ → ℕ → ℕ → P → Type 0) (run : R) (b : Board (Day T) R P) where
-  pub members_more : (ms : List (Member T R P)) (x : Member T R P) → AreMembers net borders nothing see stands spent right run b ms
-      → IsMember net borders nothing see stands spent right run b x → AreMembers net borders nothing see stands spent right run b
+  pub members_more : (ms : List (Member T R P)) (x : Member T R P) → AreMembers until borders nothing see stands spent right run b ms
+      → IsMember until borders nothing see stands spent right run b x → AreMembers until borders nothing see stands spent right run b
       (ms ++ x ∷ [])
   members_more ms x are is i d lt = let n = length-append ms (x ∷ []) in dite (ℕ_discrete i (length ms))
-      (λ e. subst (λ (z : Member T R P). IsMember net borders nothing see stands spent right run b z) (sym (get_or_push ms x d i (sym e)))
+      (λ e. subst (λ (z : Member T R P). IsMember until borders nothing see stands spent right run b z) (sym (get_or_push ms x d i (sym e)))
       is)
-      (λ ne. subst (λ (z : Member T R P). IsMember net borders nothing see stands spent right run b z)
+      (λ ne. subst (λ (z : Member T R P). IsMember until borders nothing see stands spent right run b z)
       (sym (get_or_append_left ms (x ∷ []) d i (omega arith)))
       (are i d (omega arith)))
 
-  pub end_of : (p : ℕ) (m : Member T R P) → IsMember net borders nothing see stands spent right run b m → is_stopped m ≡ false
-      → seconds_of m ≡ (net run).end → number_of m ≡ p → IsAt nothing see (stands run) p (net run).end (length (borders run p)) m.part
-  end_of p m is alive at name = let r : Rests net borders nothing see stands right run b m = is.rests alive in
-      subst (λ (t : ℕ). IsAt nothing see (stands run) p t (length (borders run p)) m.part) at
+  pub end_of : (t p : ℕ) (m : Member T R P) → IsMember until borders nothing see stands spent right run b m → is_stopped m ≡ false
+      → seconds_of m ≡ t → number_of m ≡ p → IsAt nothing see (stands run) p t (length (borders run p)) m.part
+  end_of t p m is alive at name = let r : Rests until borders nothing see stands right run b m = is.rests alive in
+      subst (λ (s : ℕ). IsAt nothing see (stands run) p s (length (borders run p)) m.part) at
       (subst (λ (n : ℕ). IsAt nothing see (stands run) n (seconds_of m) (length (borders run n)) m.part) name r.at)

@@ -3,3 +3,4 @@ pub mod Members
 pub mod Pairs
 pub mod Exchanges
 pub mod Sharing
+pub mod Running

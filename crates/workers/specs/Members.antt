@@ -136,9 +136,9 @@ module _ {T R P : Type 0} where
   WaitedOnce end old new = seconds_of new < end
       → (waits_of new ≡ waits_of old + 1) × (still_of new ≡ still_of old) × (seconds_of new ≡ seconds_of old)
 
-  -- A RUN
-  -- what the partitions of a run are, as the trait `Part` has it
-  module _ (net : R → Net) (borders : R → ℕ → List Border) (nothing : P) (see : T → PartView P) (stands : R → T → Type 0)
+  -- A RUN UP TO A SECOND
+  -- what the partitions of a run are, as the trait `Part` has it, and up to which second they are run
+  module _ (until : ℕ) (borders : R → ℕ → List Border) (nothing : P) (see : T → PartView P) (stands : R → T → Type 0)
       (right : R → ℕ → ℕ → ℕ → P → Type 0) (run : R) (b : Board (Day T) R P) where
     -- A member between two seconds: its partition holds and has told what it has after so many seconds by itself, with nothing absorbed
     -- since and nothing left that is to go, and its port is that of the partition on this board, at the same second, with nothing taken
@@ -147,15 +147,15 @@ module _ {T R P : Type 0} where
       pub port : IsPort (right_or_none nothing right) b m.port
       pub untouched : IsUntouched m.port
       pub at : IsAt nothing see (stands run) (number_of m) (seconds_of m) (length (borders run (number_of m))) m.part
-      pub within : seconds_of m ≤ (net run).end
+      pub within : seconds_of m ≤ until
       pub counts : still_of m ≤ waits_of m
 
-  module _ (net : R → Net) (borders : R → ℕ → List Border) (nothing : P) (see : T → PartView P) (stands : R → T → Type 0)
+  module _ (until : ℕ) (borders : R → ℕ → List Border) (nothing : P) (see : T → PartView P) (stands : R → T → Type 0)
       (spent : T → Type 0)
       (right : R → ℕ → ℕ → ℕ → P → Type 0) (run : R) (b : Board (Day T) R P) where
     -- it rests, or was stopped: that alone whose partition found no memory in a second
     pub record IsMember (m : Member T R P) : Type 0 where
-      pub rests : is_stopped m ≡ false → Rests net borders nothing see stands right run b m
+      pub rests : is_stopped m ≡ false → Rests until borders nothing see stands right run b m
       pub poor : is_stopped m ≡ true → spent m.part
 
     abbrev pub AreMembers : List (Member T R P) → Type 0
@@ -168,7 +168,7 @@ module _ {T R P : Type 0} where
     -- THE PROMISE with which a thread gives its members back
     pub record Ran (old new : List (Member T R P)) : Type 0 where
       pub went : Went old new
-      pub ends : Ends (net run).end old new
+      pub ends : Ends until old new
 
     -- the members were cut into lists of one size, and each list was given back with the promise
     pub record Spread (old new : List (Member T R P)) : Type 0 where
@@ -182,18 +182,18 @@ module _ {T R P : Type 0} where
       pub long : length new ≡ length old
       pub members : AreMembers new
       pub turns : (j : ℕ) (d : Member T R P) → j < k
-          → TurnedAs (net run).end stopped moved waited (slice_index_or old j d) (slice_index_or new j d)
+          → TurnedAs until stopped moved waited (slice_index_or old j d) (slice_index_or new j d)
       pub rest : (j : ℕ) (d : Member T R P) → k ≤ j → slice_index_or new j d ≡ slice_index_or old j d
       pub some : stopped ≡ true → SomeStopped new
-      pub less : seconds_left (net run).end new + one_if moved ≤ seconds_left (net run).end old
+      pub less : seconds_left until new + one_if moved ≤ seconds_left until old
 
     -- what the whole round came to
     abbrev pub Rounded : List (Member T R P) → List (Member T R P) → Round → Type 0
-    Rounded old new AllEnded = Went old new × AllEnd (net run).end new
+    Rounded old new AllEnded = Went old new × AllEnd until new
     Rounded old new OneStopped = Went old new × SomeStopped new
-    Rounded old new AllWaited = Went old new × (seconds_left (net run).end new ≤ seconds_left (net run).end old)
+    Rounded old new AllWaited = Went old new × (seconds_left until new ≤ seconds_left until old)
         × ((i : ℕ) (d : Member T R P) → i < length new → (is_stopped (slice_index_or new i d) ≡ false)
-        × WaitedOnce (net run).end (slice_index_or old i d) (slice_index_or new i d))
-    Rounded old new SomeMoved = Went old new × (seconds_left (net run).end new + 1 ≤ seconds_left (net run).end old)
+        × WaitedOnce until (slice_index_or old i d) (slice_index_or new i d))
+    Rounded old new SomeMoved = Went old new × (seconds_left until new + 1 ≤ seconds_left until old)
         × ((i : ℕ) (d : Member T R P) → i < length new → (is_stopped (slice_index_or new i d) ≡ false)
         × (waits_of (slice_index_or old i d) ≤ waits_of (slice_index_or new i d)))

@@ -1,5 +1,6 @@
 //! How the members of a bundle are run, in turn.
 
+ghost use Rattle.std.specs.Prelude.{◌≤◌};
 ghost use Rattle.workers.specs.Members.{IsBoardOfRun, AreMembers, Ran, Rounded};
 
 use crate::members::{Bundle, Day, Member, Round, Turn};
@@ -21,19 +22,21 @@ fn round<T: Part, G: Gate>(
     gate: &G,
     run: &T::Run,
     board: &Board<Day<T>>,
+    until: u32,
     members: &mut [Member<T>],
 ) -> Round
 where
     T::Parcel: Send,
+    requires in_run { until ≤ (T.net run.now).end }
     requires board { IsBoardOfRun T.net T.borders T.nothing T.right run.now board.now }
-    requires members { AreMembers T.net T.borders T.nothing T.see T.stands T.spent T.right run.now board.now members.old }
-    ensures { Rounded T.net T.borders T.nothing T.see T.stands T.spent T.right run.now board.now members.old members.new result }
+    requires members { AreMembers until T.borders T.nothing T.see T.stands T.spent T.right run.now board.now members.old }
+    ensures { Rounded until T.borders T.nothing T.see T.stands T.spent T.right run.now board.now members.old members.new result }
 {
     let mut stopped = false;
     let mut moved = false;
     let mut waited = false;
     for k in 0..members.len() {
-        match turn(gate, run, board, &mut members[k]) {
+        match turn(gate, run, board, until, &mut members[k]) {
             Turn::Ended => {}
             Turn::Stopped => stopped = true,
             Turn::Waited => waited = true,
@@ -51,22 +54,25 @@ where
     }
 }
 
-/// Runs the members, as `run_bundle` does. Where no member moves for long, the thread offers its processor to others now and then.
+/// Runs the members to a second, as `run_bundle` does to the end. Where no member moves for long, the thread offers its processor to others
+/// now and then.
 pub(crate) fn run_members<T: Part, G: Gate>(
     gate: &G,
     run: &T::Run,
     board: &Board<Day<T>>,
+    until: u32,
     members: &mut [Member<T>],
 )
 where
     T::Parcel: Send,
+    requires in_run { until ≤ (T.net run.now).end }
     requires board { IsBoardOfRun T.net T.borders T.nothing T.right run.now board.now }
-    requires members { AreMembers T.net T.borders T.nothing T.see T.stands T.spent T.right run.now board.now members.old }
-    ensures { Ran T.net T.borders T.nothing T.see T.stands T.spent T.right run.now board.now members.old members.new }
+    requires members { AreMembers until T.borders T.nothing T.see T.stands T.spent T.right run.now board.now members.old }
+    ensures { Ran until T.borders T.nothing T.see T.stands T.spent T.right run.now board.now members.old members.new }
 {
     let mut idle = 0;
     while idle < PATIENCE {
-        match round(gate, run, board, members) {
+        match round(gate, run, board, until, members) {
             Round::AllEnded => return,
             Round::OneStopped => return,
             Round::AllWaited => {
@@ -92,9 +98,11 @@ pub fn run_bundle<T: Part, G: Gate>(
 where
     T::Parcel: Send,
     requires board { IsBoardOfRun T.net T.borders T.nothing T.right run.now board.now }
-    requires members { AreMembers T.net T.borders T.nothing T.see T.stands T.spent T.right run.now board.now bundle.members.items }
-    ensures { Ran T.net T.borders T.nothing T.see T.stands T.spent T.right run.now board.now bundle.members.items result.members.items }
+    requires members { AreMembers (T.net run.now).end T.borders T.nothing T.see T.stands T.spent T.right run.now board.now
+        bundle.members.items }
+    ensures { Ran (T.net run.now).end T.borders T.nothing T.see T.stands T.spent T.right run.now board.now bundle.members.items
+        result.members.items }
 {
-    run_members(gate, run, board, bundle.members.as_mut_slice());
+    run_members(gate, run, board, T::end(run), bundle.members.as_mut_slice());
     bundle
 }

@@ -9,10 +9,11 @@
 mod bundles;
 mod days;
 mod members;
+mod moving;
 mod pairs;
 mod seconds;
 mod sharing;
 
 pub use bundles::run_bundle;
-pub use days::run_day;
+pub use days::{Running, run_day};
 pub use members::{Bundle, Day, Member, new_board};

@@ -123,7 +123,8 @@ where
         ensures hub { IsHub board.now hub.new }
         ensures had { OnOk result (had_port hub.new ≡ number ∷ had_port hub.old) }
         ensures refused { OnErr result (hub.new ≡ hub.old) }
-        ensures member { IfOk result (λ m. IsMember T.net T.borders T.nothing T.see T.stands T.spent T.right run.now board.now m) }
+        ensures member { IfOk result
+            (λ m. IsMember (T.net run.now).end T.borders T.nothing T.see T.stands T.spent T.right run.now board.now m) }
         ensures start { IfOk result (λ m. (number_of m ≡ number) × (seconds_of m ≡ 0) × (is_stopped m ≡ false)) }
     {
         let part = T::start(alloc, run, number)?;

@@ -1,6 +1,7 @@
 //! How a member does its next second.
 
-ghost use Rattle.std.specs.Prelude.{◌≡◌, ◌≢◌, ℕ, ◌+◌, ◌<◌, true, false, length, set, slice_set, unwrap_or, OnOk, OnErr};
+ghost use Rattle.std.specs.Prelude.{◌≡◌, ◌≢◌, ℕ, ◌+◌, ◌<◌, ◌≤◌, true, false};
+ghost use Rattle.std.specs.Prelude.{length, set, slice_set, unwrap_or, OnOk, OnErr};
 ghost use Rattle.cells.specs.declared.board.Handover.TheVariants.{Taken};
 ghost use Rattle.cells.specs.Ports.{IsPort, SameSecond, IsUntouched, IsUnread, degree, neighbour, handover, handovers_of};
 ghost use Rattle.cells.specs.Ports.{is_arrived, is_taken, is_put, run_of, waits, partition_of, done_of};
@@ -185,10 +186,10 @@ fn do_second<T: Part>(
 where
     T::Parcel: Send,
     requires board { IsBoardOfRun T.net T.borders T.nothing T.right run.now board.now }
-    requires rests { Rests T.net T.borders T.nothing T.see T.stands T.right run.now board.now member.old }
+    requires rests { Rests (T.net run.now).end T.borders T.nothing T.see T.stands T.right run.now board.now member.old }
     requires before_end { seconds_of member.old < (T.net run.now).end }
     requires ready { (k : ℕ) → k < degree member.old.port → IsUnread member.old.port k }
-    ensures rests { OnOk result (Rests T.net T.borders T.nothing T.see T.stands T.right run.now board.now member.new) }
+    ensures rests { OnOk result (Rests (T.net run.now).end T.borders T.nothing T.see T.stands T.right run.now board.now member.new) }
     ensures done { OnOk result ((seconds_of member.new ≡ seconds_of member.old + 1) × (waits_of member.new ≡ waits_of member.old)
         × (still_of member.new ≡ waits_of member.old)) }
     ensures refused { OnErr result ((seconds_of member.new ≡ seconds_of member.old) × T.spent member.new.part) }
@@ -201,26 +202,29 @@ where
     Ok(())
 }
 
-/// A member does its next second, if it has one left and all neighbours are far enough. The gate is passed once they are.
+/// A member does its next second, if it has one left before second `until` and all neighbours are far enough. The gate is passed once they
+/// are.
 #[tactic(auto, using(crate::proofs::Resting::looked, crate::proofs::Resting::goes_on, crate::proofs::Resting::halts))]
 pub(crate) fn turn<T: Part, G: Gate>(
     gate: &G,
     run: &T::Run,
     board: &Board<Day<T>>,
+    until: u32,
     member: &mut Member<T>,
 ) -> Turn
 where
     T::Parcel: Send,
+    requires in_run { until ≤ (T.net run.now).end }
     requires board { IsBoardOfRun T.net T.borders T.nothing T.right run.now board.now }
-    requires member { IsMember T.net T.borders T.nothing T.see T.stands T.spent T.right run.now board.now member.old }
-    ensures member { IsMember T.net T.borders T.nothing T.see T.stands T.spent T.right run.now board.now member.new }
+    requires member { IsMember until T.borders T.nothing T.see T.stands T.spent T.right run.now board.now member.old }
+    ensures member { IsMember until T.borders T.nothing T.see T.stands T.spent T.right run.now board.now member.new }
     ensures goes { Goes member.old member.new }
-    ensures turned { Turned (T.net run.now).end member.old member.new result }
+    ensures turned { Turned until member.old member.new result }
 {
     if member.stopped {
         return Turn::Stopped;
     }
-    if member.port.done() >= T::end(run) {
+    if member.port.done() >= until {
         return Turn::Ended;
     }
     if !look_all(board, &mut member.port) {

@@ -1,6 +1,7 @@
 //! Which worker gets which partitions.
 
-ghost use Rattle.std.specs.Prelude.{◌≡◌, ◌≢◌, ℕ, ◌<◌, ◌≤◌, length, slice_index_or, IfSome, IfNone, IfOk, IsPermutation};
+ghost use Rattle.std.specs.Prelude.{◌≡◌, ◌≢◌, ℕ, ◌<◌, ◌≤◌, length, slice_index_or};
+ghost use Rattle.std.specs.Prelude.{IfSome, IfNone, IfOk, IsPermutation};
 ghost use Rattle.workers.specs.Members.{number_of};
 ghost use Rattle.workers.specs.Sharing.{HasOne, ArePartsOf};
 
@@ -79,7 +80,7 @@ where
 }
 
 /// The place of the member of a partition.
-fn place_of<T: Part>(members: &[Member<T>], number: u32) -> Option<usize>
+pub(crate) fn place_of<T: Part>(members: &[Member<T>], number: u32) -> Option<usize>
 where
     T::Parcel: Send,
     ensures found { IfSome result (λ k. (k < length members.now) × ((d : _) → number_of (slice_index_or members.now k d) ≡ number)) }

@@ -5,16 +5,19 @@ ghost use Rattle.day_scores.specs.Scores.{first_kind};
 ghost use Rattle.event_handler.specs.Handling.{kinds_of, links_in};
 ghost use Rattle.law_in_range.specs.Setups.{HaveFittingPlans};
 ghost use Rattle.scoring.specs.Tables.{ScoringRows, scoring_rows};
-ghost use Rattle.town.specs.Views.{chosen_in};
+ghost use Rattle.town.specs.Views.{chosen_in, setup};
+ghost use Rattle.traffic.specs.Day as traffic_day;
 ghost use Rattle.written_day.specs.Days.{CanTake, IsDayWritten};
 
 use crate::execution::Execution;
+use collected_day::{Crew, stream_collected};
+use collecting_part::Collecting;
 use day_scores::first_kinds;
 use edge_files::{Gate, Outputs};
 use event_handler::{EventHandler, SeenDay};
-use event_writer::{ListedEvents, StreamError, stream_events};
+use event_writer::{EventSource, ListedEvents, StreamError, stream_events};
 use part_seconds::Run;
-use parted_day::{day_in_parts, run_of, share};
+use parted_day::{day_in_parts, loads_of, run_of, share};
 use scoring::Tables;
 use std::alloc::{AllocError, Global};
 use std::sync::Wait;
@@ -22,6 +25,25 @@ use std::thread::Threads;
 use streamed_day::StreamedDay;
 use town::DayInput;
 use town_part::TownPart;
+
+/// Writes and handles the events of a day, which come from a source.
+fn write_events<S: EventSource, O: Outputs>(
+    alloc: Global,
+    day: &DayInput,
+    source: &mut S,
+    tables: &Tables,
+    handler: EventHandler,
+    outputs: &mut O,
+) -> Result<SeenDay, StreamError>
+    requires given { HaveFittingPlans day.now }
+    requires ready { S.ready source.old }
+    requires rest { S.rest source.old ≡ traffic_day.day (setup day.now) }
+    requires takes { CanTake (scoring_rows tables.now) handler day.now }
+    ensures { IsDayWritten day.now (scoring_rows tables.now) (kinds_of handler) (links_in handler)
+        (O.written outputs.old) (O.written outputs.new) (O.faults outputs.old) (O.faults outputs.new) result }
+{
+    stream_events(alloc, source, tables, &day.town.book, handler, outputs)
+}
 
 /// Computes a day, and writes and handles its events when it is over.
 fn write_listed<R: Threads + Wait + Sync, G: Gate, O: Outputs>(
@@ -42,10 +64,11 @@ fn write_listed<R: Threads + Wait + Sync, G: Gate, O: Outputs>(
         return Err(StreamError::NoMemory);
     };
     let mut source = ListedEvents::new(events);
-    stream_events(alloc, &mut source, tables, &day.town.book, handler, outputs)
+    write_events(alloc, day, &mut source, tables, handler, outputs)
 }
 
-/// Computes the day of a run whose events are taken while it goes on, and writes and handles those of each second before the next one.
+/// Computes the day of a run whose events are taken while it goes on, on this thread, and writes and handles those of each second before
+/// the next one.
 fn write_run<'a, G: Gate, O: Outputs>(
     run: &Run<'a>,
     gate: &G,
@@ -62,12 +85,48 @@ fn write_run<'a, G: Gate, O: Outputs>(
     let Ok(mut source) = StreamedDay::<TownPart<'a>, G>::new(alloc, run, gate) else {
         return Err(StreamError::NoMemory);
     };
-    let day = run.day;
-    stream_events(alloc, &mut source, tables, &day.town.book, handler, outputs)
+    write_events(alloc, run.day, &mut source, tables, handler, outputs)
 }
 
-/// Computes a day, and writes and handles the events of each second before the next one.
-fn write_streamed<G: Gate, O: Outputs>(
+/// The same on several threads, which compute some seconds, before the events of these are written and handled.
+fn write_collected<'a, R: Threads + Wait + Sync, G: Gate, O: Outputs>(
+    rt: &R,
+    run: &Run<'a>,
+    execution: Execution<G>,
+    tables: &Tables,
+    handler: EventHandler,
+    outputs: &mut O,
+) -> Result<SeenDay, StreamError>
+    requires streams { run.now.streams ≡ true }
+    requires takes { CanTake (scoring_rows tables.now) handler run.now.day.now }
+    ensures { IsDayWritten run.now.day.now (scoring_rows tables.now) (kinds_of handler) (links_in handler)
+        (O.written outputs.old) (O.written outputs.new) (O.faults outputs.old) (O.faults outputs.new) result }
+{
+    let alloc = run.alloc;
+    let Ok(loads) = loads_of(alloc, run.day, run.owner) else {
+        return Err(StreamError::NoMemory);
+    };
+    let crew = Crew {
+        rt,
+        gate: execution.gate,
+        workers: execution.spread.workers,
+        loads: &loads,
+    };
+    let day = run.day;
+    stream_collected::<Collecting<'a>, R, G, O>(
+        &crew,
+        alloc,
+        run,
+        tables,
+        &day.town.book,
+        handler,
+        outputs,
+    )
+}
+
+/// Computes a day, and writes and handles its events while it goes on.
+fn write_streamed<R: Threads + Wait + Sync, G: Gate, O: Outputs>(
+    rt: &R,
     alloc: Global,
     day: &DayInput,
     execution: Execution<G>,
@@ -84,7 +143,10 @@ fn write_streamed<G: Gate, O: Outputs>(
         return Err(StreamError::NoMemory);
     };
     let run = run_of(alloc, &*day, &shared, true);
-    write_run(&run, execution.gate, tables, handler, outputs)
+    if execution.spread.workers == 1 {
+        return write_run(&run, execution.gate, tables, handler, outputs);
+    }
+    write_collected(rt, &run, execution, tables, handler, outputs)
 }
 
 /// Computes a day as it is asked for, and writes and handles its events.
@@ -103,7 +165,7 @@ fn write_as_asked<R: Threads + Wait + Sync, G: Gate, O: Outputs>(
         (O.written outputs.old) (O.written outputs.new) (O.faults outputs.old) (O.faults outputs.new) result }
 {
     if execution.streams {
-        write_streamed(alloc, day, execution, tables, handler, outputs)
+        write_streamed(rt, alloc, day, execution, tables, handler, outputs)
     } else {
         write_listed(rt, alloc, day, execution, tables, handler, outputs)
     }

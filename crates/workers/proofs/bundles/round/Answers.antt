@@ -7,7 +7,7 @@ use Rattle.workers.proofs.bundles.round.Goals as goal
 
 pub loop-k-preserved : goal.loop-k-preserved
 loop-k-preserved g c =
-    let net = g.T.Part.net in
+    let until = c.args.until in
     let borders = g.T.Part.borders in
     let nothing = g.T.Part.nothing in
     let see = g.T.Part.see in
@@ -25,25 +25,25 @@ loop-k-preserved g c =
     let later = t.goes.later in
     let al = c.loop-k.auto in
     elim c.match-turn.branch [
-      | in-Ended w ↦ step net borders nothing see stands spent right run b k c.loop-k.stopped c.loop-k.moved c.loop-k.waited
+      | in-Ended w ↦ step until borders nothing see stands spent right run b k c.loop-k.stopped c.loop-k.moved c.loop-k.waited
           c.match-turn.stopped
           c.match-turn.moved c.match-turn.waited c.args.members.now c.loop-k.members x y Ended i (omega arith) t.member t.goes
           w.in-Ended.ensures.turned (λ h. w.stopped-is ∙ h) (λ h. w.moved-is ∙ h) (λ h. w.waited-is ∙ h) tt
           (λ h. inl (sym w.stopped-is ∙ h))
           (let e = ap one_if w.moved-is in omega arith)
-      | in-Stopped w ↦ step net borders nothing see stands spent right run b k c.loop-k.stopped c.loop-k.moved c.loop-k.waited
+      | in-Stopped w ↦ step until borders nothing see stands spent right run b k c.loop-k.stopped c.loop-k.moved c.loop-k.waited
           c.match-turn.stopped
           c.match-turn.moved c.match-turn.waited c.args.members.now c.loop-k.members x y Stopped i (omega arith) t.member t.goes
           w.in-Stopped.ensures.turned (λ h. w.stopped-is) (λ h. w.moved-is ∙ h) (λ h. w.waited-is ∙ h) w.stopped-is
           (λ h. inr w.in-Stopped.ensures.turned.0)
           (let e = ap one_if w.moved-is in omega arith)
-      | in-Waited w ↦ step net borders nothing see stands spent right run b k c.loop-k.stopped c.loop-k.moved c.loop-k.waited
+      | in-Waited w ↦ step until borders nothing see stands spent right run b k c.loop-k.stopped c.loop-k.moved c.loop-k.waited
           c.match-turn.stopped
           c.match-turn.moved c.match-turn.waited c.args.members.now c.loop-k.members x y Waited i (omega arith) t.member t.goes
           w.in-Waited.ensures.turned (λ h. w.stopped-is ∙ h) (λ h. w.moved-is ∙ h) (λ h. w.waited-is) w.waited-is
           (λ h. inl (sym w.stopped-is ∙ h))
           (let e = ap one_if w.moved-is in omega arith)
-      | in-Moved w ↦ step net borders nothing see stands spent right run b k c.loop-k.stopped c.loop-k.moved c.loop-k.waited
+      | in-Moved w ↦ step until borders nothing see stands spent right run b k c.loop-k.stopped c.loop-k.moved c.loop-k.waited
           c.match-turn.stopped
           c.match-turn.moved c.match-turn.waited c.args.members.now c.loop-k.members x y Moved i (omega arith) t.member t.goes
           w.in-Moved.ensures.turned (λ h. w.stopped-is ∙ h) (λ h. w.moved-is) (λ h. w.waited-is ∙ h) w.moved-is

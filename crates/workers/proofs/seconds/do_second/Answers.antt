@@ -18,7 +18,7 @@ second-requires-clause-places g c = let e = c.take_all.ensures in let r = c.requ
 
 pub second-requires-clause-gone : goal.second-requires-clause-gone
 second-requires-clause-gone g c = let e = c.take_all.ensures in let r = c.requires.rests in
-    all_gone g.T.Part.net g.T.Part.borders g.T.Part.nothing g.T.Part.see g.T.Part.stands g.T.Part.right c.args.run.now c.args.board.now
+    all_gone (g.T.Part.net c.args.run.now).end g.T.Part.borders g.T.Part.nothing g.T.Part.see g.T.Part.stands g.T.Part.right c.args.run.now c.args.board.now
     c.args.member.now (g.T.Part.see c.take_all.new.part).outbox (g.T.Part.see c.take_all.new.part).number r (e.number ∙ r.at.number)
     e.outbox
 
@@ -41,7 +41,7 @@ pub returns-clause-rests : goal.returns-clause-rests
 returns-clause-rests g c = let e = c.take_all.ensures in let r = c.requires.rests in let m = c.args.member.now in
     let o = c.in_ok-second.ensures in
     let s = c.put_all.ensures in let p = c.publish.ensures in
-    published g.T.Part.net g.T.Part.borders g.T.Part.nothing g.T.Part.see g.T.Part.stands g.T.Part.right c.args.run.now c.args.board.now m
+    published (g.T.Part.net c.args.run.now).end g.T.Part.borders g.T.Part.nothing g.T.Part.see g.T.Part.stands g.T.Part.right c.args.run.now c.args.board.now m
     (record { part = c.put_all.new.part; port = c.publish.new.self; stopped = m.stopped }) r p.port
     (p.same.0 ∙ (s.same.0.partition ∙ e.same.0.partition)) (omega (arith, p.done, s.same.0.done, e.same.0.done)) p.awaited
     (omega (arith, p.counts.0, p.counts.1))

@@ -8,8 +8,8 @@ pub returns-clause-member : goal.returns-clause-member
 returns-clause-member g c = let e = c.in_ok-port.ensures in
     let m : Member g.row.T.Denot g.row.T-Run.Denot g.row.T-Parcel.Denot =
     record { part = c.in_ok-part.part; port = c.in_ok-port.port; stopped = false } in
-    goes_on g.T.Part.net g.T.Part.borders g.T.Part.nothing g.T.Part.see g.T.Part.stands g.T.Part.spent g.T.Part.right c.args.run.now
+    goes_on (g.T.Part.net c.args.run.now).end g.T.Part.borders g.T.Part.nothing g.T.Part.see g.T.Part.stands g.T.Part.spent g.T.Part.right c.args.run.now
     c.args.board.now m refl
-    (starts g.T.Part.net g.T.Part.borders g.T.Part.nothing g.T.Part.see g.T.Part.stands g.T.Part.right c.args.run.now c.args.board.now m
+    (starts (g.T.Part.net c.args.run.now).end g.T.Part.borders g.T.Part.nothing g.T.Part.see g.T.Part.stands g.T.Part.right c.args.run.now c.args.board.now m
     c.args.number
     e.port.0 e.port.1 e.port.2 e.awaited e.counts.1 e.counts.2 c.in_ok-part.ensures)

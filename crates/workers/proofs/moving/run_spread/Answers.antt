@@ -5,13 +5,14 @@ use denote.Param.Send.{sendable, arg_send, param_send}
 use Rattle.workers.specs.declared.members.Member.{Member}
 use Rattle.workers.specs.Members.{IsMember, Goes, Ran}
 use Rattle.workers.proofs.Spreading.{chunk_members}
-use Rattle.workers.proofs.days.run_spread.Goals as goal
+use Rattle.workers.proofs.moving.run_spread.Goals as goal
 
 pub for_each_chunk_mut-requires-clause-accepts : goal.for_each_chunk_mut-requires-clause-accepts
 for_each_chunk_mut-requires-clause-accepts g c κs within = λ start p is. (
   (
+    c.requires.in_run,
     c.requires.board,
-    chunk_members g.T.Part.net g.T.Part.borders g.T.Part.nothing g.T.Part.see g.T.Part.stands g.T.Part.spent g.T.Part.right c.args.run.now
+    chunk_members c.args.until g.T.Part.borders g.T.Part.nothing g.T.Part.see g.T.Part.stands g.T.Part.spent g.T.Part.right c.args.run.now
         c.args.board.now
         c.args.members.now p.now c.max-size.result start c.requires.members is,
   ),
@@ -28,7 +29,7 @@ for_each_chunk_mut-requires-clause-accepts g c κs within = λ start p is. (
 
 pub returns : goal.returns
 returns g c =
-    let net = g.T.Part.net in
+    let until = c.args.until in
     let borders = g.T.Part.borders in
     let nothing = g.T.Part.nothing in
     let see = g.T.Part.see in
@@ -44,16 +45,16 @@ returns g c =
       went = record {
         members = λ i d lt.
             let w = (by i d (omega arith)).1 in
-            let r : Ran net borders nothing see stands spent right run b w.argument.now w.after_call.now = w.call in
+            let r : Ran until borders nothing see stands spent right run b w.argument.now w.after_call.now = w.call in
             let long = r.went.go.long in let inside = w.offset_in_chunk in
-            subst (λ (m : Member g.row.T.Denot g.row.T-Run.Denot g.row.T-Parcel.Denot). IsMember net borders nothing see stands spent
+            subst (λ (m : Member g.row.T.Denot g.row.T-Run.Denot g.row.T-Parcel.Denot). IsMember until borders nothing see stands spent
             right run b m)
             w.new_element (r.went.members w.offset d (omega arith));
         go = record {
           long = omega arith;
           each = λ i d lt.
               let w = (by i d lt).1 in
-              let r : Ran net borders nothing see stands spent right run b w.argument.now w.after_call.now = w.call in
+              let r : Ran until borders nothing see stands spent right run b w.argument.now w.after_call.now = w.call in
               subst₂ (λ (old new : Member g.row.T.Denot g.row.T-Run.Denot g.row.T-Parcel.Denot). Goes old new) w.old_element
               w.new_element
               (r.went.go.each w.offset d w.offset_in_chunk);
@@ -63,6 +64,6 @@ returns g c =
       some = omega arith;
       ran = λ n lt.
           let w = c.for_each_chunk_mut.ensures.chunks n lt in
-          let r : Ran net borders nothing see stands spent right run b w.argument.now w.after_call.now = w.call in
-          subst₂ (Ran net borders nothing see stands spent right run b) w.argument_is w.left r;
+          let r : Ran until borders nothing see stands spent right run b w.argument.now w.after_call.now = w.call in
+          subst₂ (Ran until borders nothing see stands spent right run b) w.argument_is w.left r;
     }

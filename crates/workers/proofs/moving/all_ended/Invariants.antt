@@ -1,8 +1,8 @@
 use Rattle.std.proofs.Common.{◌≡◌, ℕ, ◌<◌, false, slice_index_or}
 use Rattle.workers.specs.declared.members.Member.{Member}
 use Rattle.workers.specs.Members.{is_stopped, seconds_of}
-use Rattle.workers.proofs.days.all_ended.Given as goal
+use Rattle.workers.proofs.moving.all_ended.Given as goal
 
 abbrev pub invariant-loop-k : goal.invariant-loop-k
 invariant-loop-k g l = (i : ℕ) (d : Member g.row.T.Denot g.row.T-Run.Denot g.row.T-Parcel.Denot) → i < l.k
-    → (is_stopped (slice_index_or l.members i d) ≡ false) × (seconds_of (slice_index_or l.members i d) ≡ (g.T.Part.net l.run).end)
+    → (is_stopped (slice_index_or l.members i d) ≡ false) × (seconds_of (slice_index_or l.members i d) ≡ l.until)

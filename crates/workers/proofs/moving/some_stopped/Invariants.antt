@@ -1,7 +1,7 @@
 use Rattle.std.proofs.Common.{◌≡◌, ℕ, ◌<◌, false, slice_index_or}
 use Rattle.workers.specs.declared.members.Member.{Member}
 use Rattle.workers.specs.Members.{is_stopped}
-use Rattle.workers.proofs.days.some_stopped.Given as goal
+use Rattle.workers.proofs.moving.some_stopped.Given as goal
 
 abbrev pub invariant-loop-k : goal.invariant-loop-k
 invariant-loop-k g l = (i : ℕ) (d : Member g.row.T.Denot g.row.T-Run.Denot g.row.T-Parcel.Denot) → i < l.k

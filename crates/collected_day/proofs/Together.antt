@@ -1,0 +1,45 @@
+-- All partitions at one second.
+use Rattle.std.proofs.Common.{◌≡◌, ℕ, ◌+◌, ◌<◌, ◌≤◌, List, length, arith, subst}
+use Rattle.step_core.specs.declared.part.Border.{Border}
+use Rattle.step_core.specs.Nets.{Net}
+use Rattle.step_core.specs.Views.{PartView, IsAt}
+use Rattle.workers.specs.declared.days.Running.{Running}
+use Rattle.workers.specs.Running.{IsRunning}
+use Rattle.workers.specs.Sharing.{IsPartIn}
+use Rattle.workers.proofs.Dealing.{part_at}
+use Rattle.collected_day.specs.declared.part.TheConstants.{SPAN_SECONDS}
+use Rattle.collected_day.specs.Spans.{IsSpan, IsUnderWay}
+
+module _ {T R P : Type 0} (net : R → Net) (borders : R → ℕ → List Border) (nothing : P) (see : T → PartView P) (stands : R → T → Type 0)
+    (spent : T → Type 0) (right : R → ℕ → ℕ → ℕ → P → Type 0) (run : R) where
+  -- the partition with a number
+  pub part_there : (t p : ℕ) (running : Running T R P) (x : T) → IsRunning net borders nothing see stands spent right run t running
+      → IsPartIn p running.bundle.members.items x → IsAt nothing see (stands run) p t (length (borders run p)) x
+  part_there t p running x h is =
+      part_at (net run).end borders nothing see stands spent right run running.board t p running.bundle.members.items x h.members h.level is
+
+  -- the seconds that were done since a span began are a span
+  pub span_done : (t until : ℕ) (running : Running T R P) → IsUnderWay net borders nothing see stands spent right run t running
+      → t < (net run).end → t < until → until ≤ t + SPAN_SECONDS → IsSpan t until
+  span_done t until running h early later within =
+      let w = h.whole early in record { spans = w.0; begins = w.1; before = later; within = within }
+
+  pub goes_on : (t until : ℕ) (running new : Running T R P) → IsUnderWay net borders nothing see stands spent right run t running
+      → t < (net run).end → until ≤ (net run).end → (until < (net run).end → until ≡ t + SPAN_SECONDS)
+      → IsRunning net borders nothing see stands spent right run until new
+      → IsUnderWay net borders nothing see stands spent right run until new
+  goes_on t until running new h early within next ran =
+      let w = h.whole early in
+      record {
+        running = ran;
+        within = within;
+        whole = λ before. (w.0 + 1, let e = next before in let b = w.1 in omega arith);
+      }
+
+  -- at the end
+  pub at_end : (t : ℕ) (running : Running T R P) → IsUnderWay net borders nothing see stands spent right run t running → (net run).end ≤ t
+      → IsRunning net borders nothing see stands spent right run (net run).end running
+  at_end t running h over =
+      let le = h.within in
+      let e : t ≡ (net run).end = omega arith in
+      subst (λ (s : ℕ). IsRunning net borders nothing see stands spent right run s running) e h.running

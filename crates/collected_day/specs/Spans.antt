@@ -1,0 +1,37 @@
+-- Spans of seconds, and partitions that collect what they tell in them.
+use Rattle.std.specs.Prelude.{◌≡◌, ℕ, ◌+◌, ◌*◌, ◌<◌, ◌≤◌, List, filter, ◌==◌}
+use Rattle.events.specs.declared.event.Event.{Event}
+use Rattle.town.specs.declared.day_input.DayInput.{DayInput}
+use Rattle.town.specs.Views.{setup}
+use Rattle.parts.specs.Owners.{owner_of_event}
+use Rattle.partition.specs.Owned.{owner_in}
+use Rattle.partition.specs.declared.owner.Owner.{Owner}
+use Rattle.step_core.specs.declared.part.Border.{Border}
+use Rattle.step_core.specs.Nets.{Net}
+use Rattle.step_core.specs.Views.{PartView}
+use Rattle.streamed_day.specs.Coming.{seconds_from}
+use Rattle.workers.specs.declared.days.Running.{Running}
+use Rattle.workers.specs.Running.{IsRunning}
+use Rattle.collected_day.specs.declared.part.TheConstants.{SPAN_SECONDS}
+
+-- whole spans lie before second begin, and t is one of the next span's seconds, or the first one behind it, but not its first
+pub record IsSpan (begin t : ℕ) : Type 0 where
+  pub spans : ℕ
+  pub begins : begin ≡ spans * SPAN_SECONDS
+  pub before : begin < t
+  pub within : t ≤ begin + SPAN_SECONDS
+
+-- the events of n seconds from second t on that belong to partition p
+abbrev pub told_from : DayInput → Owner → ℕ → ℕ → ℕ → List Event
+told_from day owner p t n =
+    let S = setup day in
+    let own = owner_in owner.of_node in
+    filter (λ (e : Event). owner_of_event S own e == p) (seconds_from S t n)
+
+-- partitions that have all done t seconds, whole spans or the whole day
+pub record IsUnderWay {T R P : Type 0} (net : R → Net) (borders : R → ℕ → List Border) (nothing : P) (see : T → PartView P)
+    (stands : R → T → Type 0) (spent : T → Type 0) (right : R → ℕ → ℕ → ℕ → P → Type 0) (run : R) (t : ℕ) (x : Running T R P)
+    : Type 0 where
+  pub running : IsRunning net borders nothing see stands spent right run t x
+  pub within : t ≤ (net run).end
+  pub whole : t < (net run).end → (spans : ℕ) × (t ≡ spans * SPAN_SECONDS)

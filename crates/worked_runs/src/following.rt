@@ -101,19 +101,54 @@ impl Gate for Reader<'_> {
     }
 }
 
-/// How a run of the day with these words ends while a reader looks on, and what it writes.
-fn came_before<R: Threads + Wait + Sync>(
+/// How many looks a hold has.
+const MOST_LOOKS: u64 = 100_000_000;
+
+/// Holds partition 0 before second 200 until events.csv took all of the seconds before.
+#[derive(Drop)]
+struct Holder<'a> {
+    taken: &'a AtomicU64,
+    /// How many holds found that.
+    met: AtomicU64,
+}
+
+impl<'a> Holder<'a> {
+    fn new(taken: &'a AtomicU64) -> Holder<'a> {
+        Holder {
+            taken,
+            met: AtomicU64::new(0),
+        }
+    }
+}
+
+impl Gate for Holder<'_> {
+    fn pass(&self, partition: u32, second: u32) {
+        if partition != 0 || second != 200 {
+            return;
+        }
+        for _look in 0..MOST_LOOKS {
+            if self.taken.load(Ordering::SeqCst) >= EARLY.len() as u64 {
+                self.met.fetch_add(1, Ordering::SeqCst);
+                return;
+            }
+        }
+    }
+}
+
+/// How a run of the day with these words ends through a gate, and what it writes.
+fn came_before<R: Threads + Wait + Sync, G: Gate>(
     rt: &R,
     alloc: Global,
     words: &[&str],
-    reader: &Reader,
+    taken: &AtomicU64,
+    gate: &G,
 ) -> (Status, MemoryOutputs) {
     let words = words_of(alloc, words);
     let mut inputs = inputs_of(alloc, &DAY);
     let mut keeper = NoKeeper::new();
     let mut followed = Followed {
         outputs: MemoryOutputs::new(alloc),
-        taken: reader.taken,
+        taken,
     };
     let status = qsim(
         rt,
@@ -122,7 +157,7 @@ fn came_before<R: Threads + Wait + Sync>(
         &mut inputs,
         &mut followed,
         &mut keeper,
-        reader,
+        gate,
     );
     let Followed {
         outputs,
@@ -153,7 +188,7 @@ fn seen_in<R: Threads + Wait + Sync>(
 ) -> Option<MemoryOutputs> {
     let taken = AtomicU64::new(0);
     let reader = Reader::new(&taken);
-    let (status, outputs) = came_before(rt, alloc, words, &reader);
+    let (status, outputs) = came_before(rt, alloc, words, &taken, &reader);
     if status == Status::Done && reader.has_seen(bare, early) && goes_on(&outputs) {
         Some(outputs)
     } else {
@@ -180,4 +215,37 @@ fn events_come_while_the_day_runs(rt: HostRuntime) {
         0,
     );
     assert!(rt; have_same(&streamed, &listed));
+}
+
+/// What a run of the day with these words writes, where it is done, and partition 0 came to second 200 with all written that was before.
+fn held_in<R: Threads + Wait + Sync>(
+    rt: &R,
+    alloc: Global,
+    words: &[&str],
+) -> Option<MemoryOutputs> {
+    let taken = AtomicU64::new(0);
+    let holder = Holder::new(&taken);
+    let (status, outputs) = came_before(rt, alloc, words, &taken, &holder);
+    if status == Status::Done && holder.met.load(Ordering::SeqCst) == 1 && goes_on(&outputs) {
+        Some(outputs)
+    } else {
+        None
+    }
+}
+
+/// Two workers on threads of their own: what was before second 200 is written before partition 0 does it, and the bytes are those of one.
+#[test]
+fn events_come_while_threads_compute(rt: HostRuntime) {
+    let by_two = [
+        "qsim",
+        "run",
+        "--stream",
+        "--partitions",
+        "2",
+        "--workers",
+        "2",
+    ];
+    let threaded = held_in(&rt, rt.alloc(), &by_two);
+    let alone = held_in(&rt, rt.alloc(), &["qsim", "run", "--stream"]);
+    assert!(rt; have_same(&threaded, &alone));
 }

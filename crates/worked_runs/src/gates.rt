@@ -30,15 +30,29 @@ fn came_through<R: Threads + Wait + Sync, G: Gate>(
     (status, outputs)
 }
 
-/// Whether a run in four partitions by so many workers is done through a gate, and writes what the plain run does.
+/// A run in four partitions: by four workers, by four whose events are written while they compute, and by one.
+static BY_FOUR: [&str; 6] = ["qsim", "run", "--partitions", "4", "--workers", "4"];
+
+static STREAMED: [&str; 7] = [
+    "qsim",
+    "run",
+    "--stream",
+    "--partitions",
+    "4",
+    "--workers",
+    "4",
+];
+
+static BY_ONE: [&str; 6] = ["qsim", "run", "--partitions", "4", "--workers", "1"];
+
+/// Whether a run with these words is done through a gate, and writes what the plain run does.
 fn is_the_same<R: Threads + Wait + Sync, G: Gate>(
     rt: &R,
     alloc: Global,
-    workers: &str,
+    words: &[&str],
     gate: &G,
 ) -> bool {
-    let words = ["qsim", "run", "--partitions", "4", "--workers", workers];
-    let (spread, outputs) = came_through(rt, alloc, &words, gate);
+    let (spread, outputs) = came_through(rt, alloc, words, gate);
     let (plain, same) = came_through(rt, alloc, &["qsim", "run"], &OpenGate::new());
     spread == Status::Done && plain == Status::Done && are_same(&outputs, &same)
 }
@@ -47,7 +61,15 @@ fn is_the_same<R: Threads + Wait + Sync, G: Gate>(
 #[test]
 fn workers_meet(rt: HostRuntime) {
     let gate = Meeting::new();
-    assert!(rt; is_the_same(&rt, rt.alloc(), "4", &gate));
+    assert!(rt; is_the_same(&rt, rt.alloc(), &BY_FOUR, &gate));
+    assert!(rt; gate.met() == 4);
+}
+
+/// So they do where events are written while the day runs.
+#[test]
+fn workers_of_a_streamed_day_meet(rt: HostRuntime) {
+    let gate = Meeting::new();
+    assert!(rt; is_the_same(&rt, rt.alloc(), &STREAMED, &gate));
     assert!(rt; gate.met() == 4);
 }
 
@@ -55,7 +77,16 @@ fn workers_meet(rt: HostRuntime) {
 #[test]
 fn workers_run_side_by_side(rt: HostRuntime) {
     let gate = Ahead::new();
-    assert!(rt; is_the_same(&rt, rt.alloc(), "4", &gate));
+    assert!(rt; is_the_same(&rt, rt.alloc(), &BY_FOUR, &gate));
+    assert!(rt; gate.failed() == 0);
+    assert!(rt; gate.passes() == [300; 4]);
+}
+
+/// The same while events are written.
+#[test]
+fn workers_of_a_streamed_day_run_side_by_side(rt: HostRuntime) {
+    let gate = Ahead::new();
+    assert!(rt; is_the_same(&rt, rt.alloc(), &STREAMED, &gate));
     assert!(rt; gate.failed() == 0);
     assert!(rt; gate.passes() == [300; 4]);
 }
@@ -64,7 +95,7 @@ fn workers_run_side_by_side(rt: HostRuntime) {
 #[test]
 fn one_worker_takes_turns(rt: HostRuntime) {
     let gate = InTurn::new();
-    assert!(rt; is_the_same(&rt, rt.alloc(), "1", &gate));
+    assert!(rt; is_the_same(&rt, rt.alloc(), &BY_ONE, &gate));
     assert!(rt; gate.wrong() == 0);
     assert!(rt; gate.passes() == 1200);
 }

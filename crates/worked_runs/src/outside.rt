@@ -136,10 +136,20 @@ fn short_inputs(alloc: Global, failing: u64) -> MemoryInputs {
     inputs
 }
 
-/// The words of a run of the short day, and of one whose events are written while it runs.
+/// The words of a run of the short day, and of two whose events are written while it runs: by one worker, and by two in two spans.
 static RUN: [&str; 2] = ["qsim", "run"];
 
 static STREAM: [&str; 3] = ["qsim", "run", "--stream"];
+
+static STREAM_BY_TWO: [&str; 7] = [
+    "qsim",
+    "run",
+    "--stream",
+    "--partitions",
+    "4",
+    "--workers",
+    "2",
+];
 
 /// Whether the short day ends so with these words where this call of reading fails and there is room for so many bytes in all.
 fn ends_so<R: Threads + Wait + Sync>(
@@ -217,6 +227,8 @@ fn a_failing_write_leaves_fronts(rt: HostRuntime) {
     assert_eq!(rt; first_torn(&rt, rt.alloc(), &RUN, whole), whole);
     assert_eq!(rt; first_torn(&rt, rt.alloc(), &STREAM, whole), whole);
     assert!(rt; ends_so(&rt, rt.alloc(), &STREAM, 0, whole, Status::Done));
+    assert_eq!(rt; first_torn(&rt, rt.alloc(), &STREAM_BY_TWO, whole), whole);
+    assert!(rt; ends_so(&rt, rt.alloc(), &STREAM_BY_TWO, 0, whole, Status::Done));
 }
 
 /// Settings for the day of the bus, up to a second behind its last event.

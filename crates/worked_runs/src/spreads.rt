@@ -31,7 +31,7 @@ static MOVING: Case = Case {
 };
 
 /// The words of runs that are computed in other ways.
-static RUNS: [&[&str]; 9] = [
+static RUNS: [&[&str]; 11] = [
     &["qsim", "run", "--partitions", "2"],
     &["qsim", "run", "--workers", "2"],
     &["qsim", "run", "--partitions", "4", "--workers", "1"],
@@ -40,6 +40,16 @@ static RUNS: [&[&str]; 9] = [
     &["qsim", "run", "--partitions", "64", "--workers", "64"],
     &["qsim", "run", "--stream"],
     &["qsim", "run", "--stream", "--partitions", "4"],
+    &[
+        "qsim",
+        "run",
+        "--stream",
+        "--partitions",
+        "4",
+        "--workers",
+        "4",
+    ],
+    &["qsim", "run", "--stream", "--workers", "3"],
     &[
         "qsim",
         "run",
@@ -94,8 +104,8 @@ fn count_same<R: Threads + Wait + Sync>(rt: &R, alloc: Global, case: &Case) -> u
 
 #[test]
 fn runs_write_the_same(rt: HostRuntime) {
-    assert_eq!(rt; count_same(&rt, rt.alloc(), &BUSES), 9);
-    assert_eq!(rt; count_same(&rt, rt.alloc(), &MOVING), 9);
+    assert_eq!(rt; count_same(&rt, rt.alloc(), &BUSES), 11);
+    assert_eq!(rt; count_same(&rt, rt.alloc(), &MOVING), 11);
 }
 
 /// What a run that is stopped at a save and goes on writes on the way, computed in this way and then in that one.
@@ -132,7 +142,15 @@ fn runs_go_on_otherwise(rt: HostRuntime) {
         &rt,
         rt.alloc(),
         &["qsim", "run", "--stream"],
-        &["qsim", "resume", "--partitions", "2", "--stream"],
+        &[
+            "qsim",
+            "resume",
+            "--partitions",
+            "2",
+            "--workers",
+            "2",
+            "--stream",
+        ],
     );
     assert!(rt; have_same(&plain, &streamed));
     let other = rest_of(
@@ -145,7 +163,7 @@ fn runs_go_on_otherwise(rt: HostRuntime) {
 }
 
 /// The words of a grid of four rows with 80 persons, computed in other ways.
-static GRID_RUNS: [&[&str]; 5] = [
+static GRID_RUNS: [&[&str]; 6] = [
     &["qsim", "generate", "4", "7", "--partitions", "4"],
     &[
         "qsim",
@@ -177,6 +195,17 @@ static GRID_RUNS: [&[&str]; 5] = [
         "--partitions",
         "4",
     ],
+    &[
+        "qsim",
+        "generate",
+        "4",
+        "7",
+        "--stream",
+        "--partitions",
+        "16",
+        "--workers",
+        "4",
+    ],
 ];
 
 /// How many of these words write what the plain ones do, up to the first that do not.
@@ -196,5 +225,5 @@ fn count_same_grids<R: Threads + Wait + Sync>(rt: &R, alloc: Global) -> usize {
 
 #[test]
 fn grids_are_the_same(rt: HostRuntime) {
-    assert_eq!(rt; count_same_grids(&rt, rt.alloc()), 5);
+    assert_eq!(rt; count_same_grids(&rt, rt.alloc()), 6);
 }

@@ -2,7 +2,7 @@
 
 ghost use Rattle.law_in_range.specs.Setups.{HaveFittingPlans};
 
-use crate::following::{Followed, Reader};
+use crate::following::{Followed, Holder, Reader};
 use edge_files::{Gate, InFile, MemoryOutputs, OpenGate, OutFile, Outputs};
 use rows::Plan;
 use scoring::{ModeScore, TableList, Tables};
@@ -41,6 +41,32 @@ struct Case<'a> {
     tables: &'a Tables,
 }
 
+/// How many workers compute four partitions.
+#[derive(Clone, Copy)]
+enum Workers {
+    One,
+    Two,
+    Four,
+}
+
+/// Four partitions by so many workers.
+fn in_four(workers: Workers) -> Spread {
+    match workers {
+        Workers::One => Spread {
+            partitions: 4,
+            workers: 1,
+        },
+        Workers::Two => Spread {
+            partitions: 4,
+            workers: 2,
+        },
+        Workers::Four => Spread {
+            partitions: 4,
+            workers: 4,
+        },
+    }
+}
+
 /// What is asked of a case.
 #[derive(Clone, Copy)]
 enum Question {
@@ -48,8 +74,10 @@ enum Question {
     AreBytesSame,
     /// How often a reader sees nothing before second 200 of four partitions, where events are written while the day runs, or not.
     SeesNothing(bool),
-    /// Whether a front of the bytes is written where outputs take so many, and then the write fails.
-    IsFront(u64),
+    /// Whether a front of the bytes is written where outputs take so many, and then the write fails, by so many workers.
+    IsFront(u64, Workers),
+    /// Whether the day is done by two workers of which none gets beyond second 200 before so many lines are written.
+    IsReadAhead(u64),
 }
 
 /// Writes the day, and tells whether it was written whole.
@@ -128,20 +156,18 @@ fn are_bytes_same<R: Threads + Wait + Sync>(
         partitions: 1,
         workers: 1,
     };
-    let four = Spread {
-        partitions: 4,
-        workers: 1,
-    };
-    let two_workers = Spread {
-        partitions: 4,
-        workers: 2,
+    let more = Spread {
+        partitions: 1,
+        workers: 3,
     };
     let outputs = written(rt, alloc, day, tables, one, false);
     let bytes = outputs.written(OutFile::Events);
     lines_in(bytes) == 12
         && are_written(rt, alloc, day, tables, one, bytes)
-        && are_written(rt, alloc, day, tables, four, bytes)
-        && are_written(rt, alloc, day, tables, two_workers, bytes)
+        && are_written(rt, alloc, day, tables, more, bytes)
+        && are_written(rt, alloc, day, tables, in_four(Workers::One), bytes)
+        && are_written(rt, alloc, day, tables, in_four(Workers::Two), bytes)
+        && are_written(rt, alloc, day, tables, in_four(Workers::Four), bytes)
 }
 
 /// How often the reader sees nothing; none where the day is not written whole.
@@ -160,21 +186,21 @@ fn sees_nothing<R: Threads + Wait + Sync>(
         nothing: AtomicU64::new(0),
     };
     let execution = Execution {
-        spread: Spread {
-            partitions: 4,
-            workers: 1,
-        },
+        spread: in_four(Workers::One),
         streams,
         gate: &reader,
     };
+    let written = AtomicU64::new(0);
     let mut followed = Followed {
         outputs: MemoryOutputs::new(alloc),
         taken: &taken,
+        lines: &written,
     };
     let whole = is_written(rt, alloc, day, tables, execution, &mut followed);
     let Followed {
         outputs: _outputs,
         taken: _taken,
+        lines: _lines,
     } = followed;
     if whole {
         Some(reader.nothing.load(Ordering::SeqCst))
@@ -190,13 +216,11 @@ fn is_front<R: Threads + Wait + Sync>(
     day: &DayInput,
     tables: &Tables,
     room: u64,
+    workers: Workers,
 ) -> bool
     requires { HaveFittingPlans day.now }
 {
-    let spread = Spread {
-        partitions: 4,
-        workers: 1,
-    };
+    let spread = in_four(workers);
     let all = written(rt, alloc, day, tables, spread, true);
     let gate = OpenGate::new();
     let execution = Execution {
@@ -213,6 +237,38 @@ fn is_front<R: Threads + Wait + Sync>(
         && all.written(OutFile::Events).get(..front.len()) == Some(front)
 }
 
+/// Whether the day is done by two workers where each partition waits before second 200 until so many lines are written.
+fn is_read_ahead<R: Threads + Wait + Sync>(
+    rt: &R,
+    alloc: Global,
+    day: &DayInput,
+    tables: &Tables,
+    lines: u64,
+) -> bool
+    requires { HaveFittingPlans day.now }
+{
+    let taken = AtomicU64::new(0);
+    let written = AtomicU64::new(0);
+    let holder = Holder::new(&written, lines);
+    let execution = Execution {
+        spread: in_four(Workers::Two),
+        streams: true,
+        gate: &holder,
+    };
+    let mut followed = Followed {
+        outputs: MemoryOutputs::new(alloc),
+        taken: &taken,
+        lines: &written,
+    };
+    let whole = is_written(rt, alloc, day, tables, execution, &mut followed);
+    let Followed {
+        outputs: _outputs,
+        taken: _taken,
+        lines: _lines,
+    } = followed;
+    whole && holder.held() == 4 && holder.failed() == 0
+}
+
 /// The answer to a question about a day.
 fn answer<R: Threads + Wait + Sync>(
     rt: &R,
@@ -226,7 +282,12 @@ fn answer<R: Threads + Wait + Sync>(
     match question {
         Question::AreBytesSame => Some(u64::from(are_bytes_same(rt, alloc, day, tables))),
         Question::SeesNothing(streams) => sees_nothing(rt, alloc, day, tables, streams),
-        Question::IsFront(room) => Some(u64::from(is_front(rt, alloc, day, tables, room))),
+        Question::IsFront(room, workers) => {
+            Some(u64::from(is_front(rt, alloc, day, tables, room, workers)))
+        }
+        Question::IsReadAhead(lines) => {
+            Some(u64::from(is_read_ahead(rt, alloc, day, tables, lines)))
+        }
     }
 }
 
@@ -295,8 +356,16 @@ fn else_they_come_when_it_is_over(rt: HostRuntime) {
     assert!(rt; asked(&rt, rt.alloc(), Question::SeesNothing(false)) == Some(4));
 }
 
+/// Two threads come to second 200 only once five lines are written, which are of seconds 100 and 101: they are written while both
+/// compute the day.
+#[test]
+fn lines_come_while_threads_compute(rt: HostRuntime) {
+    assert!(rt; asked(&rt, rt.alloc(), Question::IsReadAhead(5)) == Some(1));
+}
+
 /// A disk that fills up in the midst of the day has a front of it.
 #[test]
 fn a_full_disk_has_a_front(rt: HostRuntime) {
-    assert!(rt; asked(&rt, rt.alloc(), Question::IsFront(200)) == Some(1));
+    assert!(rt; asked(&rt, rt.alloc(), Question::IsFront(200, Workers::One)) == Some(1));
+    assert!(rt; asked(&rt, rt.alloc(), Question::IsFront(200, Workers::Two)) == Some(1));
 }

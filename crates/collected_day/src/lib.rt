@@ -12,3 +12,4 @@ mod spans;
 
 pub use day::{Crew, stream_collected};
 pub use part::{CollectingPart, SPAN_SECONDS};
+pub use streamed_day::StreamedDay;

@@ -1,7 +1,6 @@
 //! A run that is kept in `kept.db`, and one that goes on from that.
 
-use in_folder::qsim_in_folder;
-use qsim_top::Status;
+use in_folder::{Status, qsim_in_folder};
 use std::fs;
 use std::sync::Wait;
 use std::thread::Threads;

@@ -4,7 +4,8 @@
 use edge_files::OpenGate;
 use folder_files::{FileInputs, FileOutputs};
 use folder_keeper::FolderKeeper;
-use qsim_top::{Status, qsim};
+pub use qsim_top::Status;
+use qsim_top::qsim;
 use std::sync::Wait;
 use std::thread::Threads;
 

@@ -6,13 +6,12 @@ ghost use Rattle.law_in_range.specs.Setups.{HaveFittingPlans};
 use crate::first_second::sends_at_first;
 use crate::towns::{FOUR, THREE, WALK};
 use edge_files::InFile;
-use parted_day::{run_of, share};
+use parted_day::{TownPart, run_of, share};
 use rows::Plan;
 use std::alloc::Global;
 use std::thread::Threads;
 use town::{DayInput, Town};
 use town_fixtures::{fixture_of, have_fitting_plans};
-use town_part::TownPart;
 
 /// A walk of one second from the second node to the last, in the first second of the day.
 const EARLY: &[(InFile, &str)] = &[

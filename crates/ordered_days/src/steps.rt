@@ -6,14 +6,13 @@ ghost use Rattle.law_in_range.specs.Setups.{HaveFittingPlans};
 use crate::orders::{one_alone, steps_alone};
 use crate::towns::{FOUR, THREE, WALK};
 use edge_files::InFile;
-use parted_day::{run_of, share};
+use parted_day::{TownPart, run_of, share};
 use rows::Plan;
 use std::alloc::Global;
 use std::thread::Threads;
 use step_core::Step;
 use town::{DayInput, Town};
 use town_fixtures::{fixture_of, have_fitting_plans};
-use town_part::TownPart;
 
 /// A person at home until 100, who drives to work on the next link, on a day that ends in second 300.
 const LONG: &[(InFile, &str)] = &[

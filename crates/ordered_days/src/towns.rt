@@ -9,8 +9,7 @@ use crate::orders::in_order;
 use divided_day::divide;
 use edge_files::InFile;
 use events::Event;
-use part_seconds::Run;
-use parted_day::{run_of, share};
+use parted_day::{Run, TownPart, run_of, share};
 use plain_day::plain_day;
 use rows::Plan;
 use std::alloc::Global;
@@ -18,7 +17,6 @@ use std::thread::Threads;
 use step_cases::ORDERS;
 use town::{DayInput, Town};
 use town_fixtures::{fixture_of, have_fitting_plans};
-use town_part::TownPart;
 
 /// A town: its files, how many nodes it has, from the left to the right, and of its day how many events it tells, and in which second the
 /// last one.

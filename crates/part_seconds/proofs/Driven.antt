@@ -44,16 +44,16 @@ use Rattle.part_persons.proofs.Early.{woken_all}
 use Rattle.part_places.specs.declared.places.Places.{Places}
 use Rattle.part_places.specs.Taking.{Taking, AreTakenOf, begins_here}
 use Rattle.part_seconds.specs.declared.area.Area.{Area}
-use Rattle.parcels.specs.declared.contents.LeftRows.{LeftRows}
+use Rattle.part_seconds.specs.declared.contents.LeftRows.{LeftRows}
 use Rattle.law_parcels.specs.Sending.{freed_over}
-use Rattle.parcels.specs.Contents.{freed_row}
+use Rattle.part_seconds.specs.Contents.{freed_row}
 use Rattle.part_seconds.specs.Settling.{places_known, link_at, left_all, AreFew, AreApart, gone_from, left_rows, put_queues, wake_ends_at}
 use Rattle.divided_day.specs.Slots.{link_in, slot_count, AreSlots}
 use Rattle.part_seconds.specs.Stands.{AreaStands}
 use Rattle.part_seconds.proofs.Slots.{slot_of, link_there, link_own, all_links, numbered}
 use Rattle.part_seconds.proofs.Knowing as knowing
 use Rattle.part_seconds.proofs.Knowing.{still_lasting}
-use Rattle.part_seconds.proofs.Leaving.{IsLike, taken_alike, in_among, all_storage, all_seconds, all_other, all_here}
+use Rattle.part_seconds.proofs.Vacated.{IsLike, taken_alike, in_among, all_storage, all_seconds, all_other, all_here}
 use Rattle.part_seconds.proofs.Waking.{number_at, ends_length, ends_spare, awaited_after}
 
 -- what a slice of a list was, once it is put back

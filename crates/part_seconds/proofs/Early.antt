@@ -54,7 +54,7 @@ use Rattle.part_seconds.specs.Stands.{NetworkStands, AreaStands, AreOwnDeparture
 use Rattle.part_seconds.proofs.Slots.{slot_of, slot_is, link_there, link_own, numbered}
 use Rattle.part_seconds.proofs.Knowing as knowing
 use Rattle.part_seconds.proofs.Knowing.{known_before}
-use Rattle.part_seconds.proofs.Leaving.{taken_alike}
+use Rattle.part_seconds.proofs.Vacated.{taken_alike}
 use Rattle.part_seconds.proofs.SettingOut as setting
 use Rattle.part_seconds.proofs.SettingOut.{HasSetOut, same_waiters, each_passes, none_last}
 use Rattle.part_seconds.proofs.Waking.{awaited_on}

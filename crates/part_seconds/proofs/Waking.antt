@@ -19,7 +19,7 @@ use Rattle.part_nodes.proofs.Held.{none_waits}
 use Rattle.law_parts_of_days.specs.Settling.{buffered_in}
 use Rattle.part_seconds.specs.Settling.{link_at, wake_end_at, wake_ends_at, is_own_start, wake_own_start, wake_own_starts}
 use Rattle.part_seconds.proofs.Knowing.{waits_known}
-use Rattle.part_seconds.proofs.Leaving.{among_first, among_later}
+use Rattle.part_seconds.proofs.Vacated.{among_first, among_later}
 
 -- AT THE ENDS OF LINKS
 pub end_length : (S : Setup) (t n : ℕ) (links : List LinkView) (wakes : List (Option ℕ)) → length (wake_end_at S t links n wakes) ≡ length wakes

@@ -1,3 +1,9 @@
+pub mod Parcels
+pub mod Contents
+pub mod Sending
+pub mod Leaving
+pub mod Arriving
+pub mod Hearing
 pub mod Slots
 pub mod Settling
 pub mod Stands

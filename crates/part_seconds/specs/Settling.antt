@@ -7,7 +7,7 @@ use Rattle.queue_link.specs.Links.{LinkView}
 use Rattle.node_seconds.specs.Networks.{lane}
 use Rattle.part_places.specs.Taking.{Taking, later, begins_here}
 use Rattle.law_parts_of_days.specs.Settling.{queued_in, buffered_in}
-use Rattle.parcels.specs.declared.contents.LeftRows.{LeftRows}
+use Rattle.part_seconds.specs.declared.contents.LeftRows.{LeftRows}
 
 -- PLACES
 -- how the places of links are taken as a partition knows them: by the rows that it knows of in their queues, and by the holes

@@ -17,15 +17,15 @@ ghost use Rattle.traffic.specs.Day.{events_in};
 ghost use Rattle.traffic.specs.Rows.{World};
 ghost use Rattle.traffic.specs.Setup.{Setup};
 ghost use Rattle.law_parcels.specs.Sending.{freed_over};
-ghost use Rattle.parcels.specs.Contents.{freed_row};
+ghost use Rattle.part_seconds.specs.Contents.{freed_row};
 ghost use Rattle.part_seconds.specs.Stands.{AreaStands};
 
+use crate::LeftRows;
 use crate::area::Area;
 use crate::hearing::hear_told;
 use crate::runs::Run;
 use crate::settling::{settle_links, take_left};
 use calendar::Wakes;
-use parcels::LeftRows;
 use part_links::{LinkPhase, Told, move_links};
 use queue_link::LinkState;
 use riders::Waiting;

@@ -14,9 +14,9 @@ ghost use Rattle.part_places.specs.Taking.{Taking, AreTakenOf, begins_here, late
 ghost use Rattle.part_seconds.specs.Settling.{link_at, left_one, left_all, AreFew, AreApart, left_rows, put_queues};
 ghost use Rattle.part_seconds.specs.Settling.{wake_end_at, wake_ends_at, wake_own_start, wake_own_starts};
 
+use crate::LeftRows;
 use crate::runs::Run;
 use calendar::Wakes;
-use parcels::LeftRows;
 use part_places::{Left, Places, begins_here};
 use person_moves::{hole_of, link_row};
 use queue_link::LinkState;

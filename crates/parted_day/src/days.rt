@@ -8,6 +8,7 @@ ghost use Rattle.town.specs.Views.{setup};
 ghost use Rattle.traffic.specs.Day as traffic_day;
 
 use crate::loads::loads_of;
+use crate::part::TownPart;
 use crate::runs::{run_of, share};
 use divided_day::divided_day;
 use edge_files::Gate;
@@ -19,7 +20,6 @@ use std::sync::Wait;
 use std::thread::Threads;
 use threaded_day::threaded_day;
 use town::DayInput;
-use town_part::TownPart;
 
 /// The events of a run whose events are taken at its end: computed on this thread by one worker, or on several threads.
 fn events_of<'a, R: Threads + Wait + Sync, G: Gate>(

@@ -2,8 +2,7 @@
 #![tactic(auto)]
 
 use folder_files::StandardStreams;
-use in_folder::qsim_in_folder;
-use qsim_top::Status;
+use in_folder::{Status, qsim_in_folder};
 use std::alloc::{AllocError, Global};
 use std::env;
 use std::process::ExitCode;

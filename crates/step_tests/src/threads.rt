@@ -10,7 +10,7 @@ use std::alloc::Global;
 use std::sync::Wait;
 use std::thread::Threads;
 use step_cases::{Ahead, Meeting, alone};
-use workers::run_day;
+use workers::{Running, run_day};
 
 /// How much there is told to be in the first partitions: the third is the heaviest, then the first, the fourth and the second, and after
 /// them come those of which nothing is told.
@@ -85,6 +85,46 @@ fn no_memory(rt: HostRuntime) {
     four.poor = Some(2);
     for workers in 1..5u32 {
         assert!(rt; is_refused(&rt, rt.alloc(), &four, workers));
+    }
+}
+
+/// Whether a day that stops before a second, with its threads joined, and then goes on to its end has all partitions right.
+#[tactic(auto, using(crate::proofs::Neighbours::net_is))]
+fn day_in_two<R: Threads + Wait + Sync>(
+    rt: &R,
+    alloc: Global,
+    run: &Row,
+    workers: u32,
+    stop: u32,
+) -> bool
+    requires some { 1 ≤ run.now.count }
+    requires workers { 1 ≤ workers }
+    requires in_day { stop ≤ run.now.end }
+{
+    let Ok(running) = Running::<Counter>::start(alloc, run, workers, &LOADS) else {
+        return false;
+    };
+    let Ok(stopped) = running.run_until(rt, &OpenGate, run, stop) else {
+        return false;
+    };
+    let Ok(ended) = stopped.run_until(rt, &OpenGate, run, run.end) else {
+        return false;
+    };
+    match ended.into_parts(alloc, run) {
+        Ok(parts) => are_right(run, parts.as_slice()),
+        Err(_) => false,
+    }
+}
+
+/// The seconds before which a day of 300 seconds stops: at once, within the longest lag of 5 seconds and behind it, and at its end.
+static STOPS: [u32; 6] = [0, 1, 5, 64, 299, 300];
+
+#[test]
+fn a_stopped_day_goes_on(rt: HostRuntime) {
+    for workers in 1..5u32 {
+        for stop in STOPS {
+            assert!(rt; day_in_two(&rt, rt.alloc(), &in_row(4, 5, 300), workers, stop.min(300)));
+        }
     }
 }
 

@@ -4,7 +4,7 @@
 use edge_files::{
     Gate, InFile, Inputs, Keeper, MemoryInputs, MemoryOutputs, NoKeeper, OpenGate, OutFile,
 };
-use qsim_top::{Status, qsim};
+pub use qsim_top::{Status, qsim};
 use std::alloc::{AllocError, Global};
 use std::sync::Wait;
 use std::thread::Threads;

@@ -1,12 +1,11 @@
 //! Car legs without a link: the routes that they get, and those for which there is none.
 
 use edge_files::{InFile, MemoryOutputs, OutFile};
-use qsim_top::Status;
 use std::alloc::Global;
 use std::sync::Wait;
 use std::thread::Threads;
 use worked_cases::{
-    Case, LINE, are_written, inputs_of, is_run_to, is_written, plans_of, put, status_of,
+    Case, LINE, Status, are_written, inputs_of, is_run_to, is_written, plans_of, put, status_of,
 };
 
 /// Two ways from a to d along two links each, of ten seconds a link, and two links from d on: to a and to b.

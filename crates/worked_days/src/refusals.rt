@@ -2,12 +2,11 @@
 
 use crate::days::MEETING;
 use edge_files::{InFile, MemoryOutputs};
-use qsim_top::Status;
 use std::alloc::Global;
 use std::sync::Wait;
 use std::thread::Threads;
 use worked_cases::{
-    BUS, Case, DRIVE, LINE, WALK, are_written, inputs_of, is_answered, put, status_of,
+    BUS, Case, DRIVE, LINE, Status, WALK, are_written, inputs_of, is_answered, put, status_of,
 };
 
 /// A scenario that is refused, and its report.

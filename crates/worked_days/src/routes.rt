@@ -1,11 +1,10 @@
 //! Routes that are asked for: their report, and the words that ask for none.
 
 use edge_files::{InFile, MemoryOutputs, OutFile};
-use qsim_top::Status;
 use std::alloc::Global;
 use std::sync::Wait;
 use std::thread::Threads;
-use worked_cases::{Case, LINE, are_written, inputs_of, is_written, put, status_of};
+use worked_cases::{Case, LINE, Status, are_written, inputs_of, is_written, put, status_of};
 
 /// Two ways from a to d along two links each, of ten seconds a link, and somebody who stays at home.
 static TWO_WAYS: Case = Case {

@@ -1,11 +1,10 @@
 //! Files and counts at their limits.
 
 use edge_files::{Failed, InFile, Inputs, MemoryOutputs, OutFile};
-use qsim_top::Status;
 use std::alloc::Global;
 use std::sync::Wait;
 use std::thread::Threads;
-use worked_cases::{Case, LINE, are_written, inputs_of, is_written, put, status_of};
+use worked_cases::{Case, LINE, Status, are_written, inputs_of, is_written, put, status_of};
 
 /// A settings.json of so many bytes `a`, which are made as they are read.
 #[derive(Drop)]

@@ -2,12 +2,11 @@
 
 use crate::spreads::{APART, have_same};
 use edge_files::{Failed, Gate, MemoryOutputs, NoKeeper, OutFile, Outputs};
-use qsim_top::{Status, qsim};
 use std::alloc::Global;
 use std::sync::Wait;
 use std::sync::atomic::{AtomicU64, Ordering};
 use std::thread::Threads;
-use worked_cases::{BUS, Case, inputs_of, words_of};
+use worked_cases::{BUS, Case, Status, inputs_of, qsim, words_of};
 
 /// Two persons who leave home in second 100 and want a bus that starts in second 200, through four partitions, by number, in 260 seconds.
 static DAY: Case = Case {

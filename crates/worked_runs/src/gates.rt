@@ -3,12 +3,11 @@
 use crate::grids::are_same;
 use crate::spreads::APART;
 use edge_files::{Gate, MemoryOutputs, OpenGate};
-use qsim_top::Status;
 use std::alloc::Global;
 use std::sync::Wait;
 use std::thread::Threads;
 use step_cases::{Ahead, InTurn, Meeting};
-use worked_cases::{Case, DRIVE, inputs_of, status_through};
+use worked_cases::{Case, DRIVE, Status, inputs_of, status_through};
 
 /// A person who drives to work through four partitions, by number, in 300 seconds.
 static DAY: Case = Case {

@@ -1,11 +1,10 @@
 //! Generated scenarios.
 
 use edge_files::{MemoryInputs, MemoryOutputs, OutFile};
-use qsim_top::Status;
 use std::alloc::Global;
 use std::sync::Wait;
 use std::thread::Threads;
-use worked_cases::{Case, LINE, inputs_of, is_written, status_of};
+use worked_cases::{Case, LINE, Status, inputs_of, is_written, status_of};
 
 /// Files that are not read.
 static NOBODY: Case = LINE;

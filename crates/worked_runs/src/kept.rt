@@ -2,11 +2,10 @@
 
 use edge_files::{Bytes, Keeper, KeptRow, MemoryOutputs, OutFile};
 use keep::MemoryKeeper;
-use qsim_top::Status;
 use std::alloc::Global;
 use std::sync::Wait;
 use std::thread::Threads;
-use worked_cases::{Case, DRIVE, LINE, WALK, inputs_of, is_written, status_with};
+use worked_cases::{Case, DRIVE, LINE, Status, WALK, inputs_of, is_written, status_with};
 
 /// How many days a run has.
 const DAYS: u64 = 6;

@@ -2,13 +2,12 @@
 
 use command_line::{Asked, read_words};
 use edge_files::{InFile, MemoryInputs, MemoryOutputs, OutFile};
-use qsim_top::Status;
 use std::alloc::Global;
 use std::sync::Wait;
 use std::thread::Threads;
 use worked_cases::{
-    BUS, Case, DEPARTURES, DRIVE, LINE, LINKS, NODES, ROUTES, STOPS, are_written, inputs_of,
-    is_written, put, status_of, words_of,
+    BUS, Case, DEPARTURES, DRIVE, LINE, LINKS, NODES, ROUTES, STOPS, Status, are_written,
+    inputs_of, is_written, put, status_of, words_of,
 };
 
 /// Wrong words and help, which ends well.
@@ -378,4 +377,20 @@ fn cut_files_are_done_or_refused(rt: HostRuntime) {
     for cut in &CUTS {
         assert_eq!(rt; first_cut(&rt, rt.alloc(), cut), cut.text.len());
     }
+}
+
+/// The second node's name has the byte 255, with which no text has a character: it is a wrong name like any other.
+#[test]
+fn a_byte_of_no_text_is_refused(rt: HostRuntime) {
+    let alloc = rt.alloc();
+    let mut inputs = inputs_of(alloc, &SHORT_BUS);
+    assert!(rt;
+        inputs
+            .put(InFile::Nodes, b"node,x,y\nA,0,0\nB\xff,0,0\n")
+            .is_ok()
+    );
+    let mut outputs = MemoryOutputs::new(alloc);
+    let status = status_of(&rt, alloc, &["qsim", "run"], &mut inputs, &mut outputs);
+    assert!(rt; status == Status::Refused);
+    assert!(rt; are_written(&outputs, "refused,nodes.csv,2,3,BadName\n", ""));
 }

@@ -1,11 +1,10 @@
 //! Runs of several days.
 
 use edge_files::{MemoryOutputs, OutFile};
-use qsim_top::Status;
 use std::alloc::Global;
 use std::sync::Wait;
 use std::thread::Threads;
-use worked_cases::{Case, DRIVE, WALK, inputs_of, is_run_to, plans_of, status_of};
+use worked_cases::{Case, DRIVE, Status, WALK, inputs_of, is_run_to, plans_of, status_of};
 
 /// The events of a person who drives to work.
 const DRIVE_EVENTS: &str = "100,actend,p1,,L1,home\n\

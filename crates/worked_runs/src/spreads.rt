@@ -4,11 +4,10 @@ use crate::grids::are_same;
 use crate::{grids, kept};
 use edge_files::MemoryOutputs;
 use keep::MemoryKeeper;
-use qsim_top::Status;
 use std::alloc::Global;
 use std::sync::Wait;
 use std::thread::Threads;
-use worked_cases::{BUS, Case, WALK};
+use worked_cases::{BUS, Case, Status, WALK};
 
 /// Four nodes at places of their own.
 pub(crate) const APART: &str = "node,x,y\nA,0,0\nB,100,0\nC,200,0\nD,300,0\n";

@@ -9,22 +9,19 @@ ghost use Rattle.town.specs.Views.{chosen_in, setup};
 ghost use Rattle.traffic.specs.Day as traffic_day;
 ghost use Rattle.written_day.specs.Days.{CanTake, IsDayWritten};
 
+use crate::collecting::Collecting;
 use crate::execution::Execution;
-use collected_day::{Crew, stream_collected};
-use collecting_part::Collecting;
+use collected_day::{Crew, StreamedDay, stream_collected};
 use day_scores::first_kinds;
 use edge_files::{Gate, Outputs};
 use event_handler::{EventHandler, SeenDay};
 use event_writer::{EventSource, ListedEvents, StreamError, stream_events};
-use part_seconds::Run;
-use parted_day::{day_in_parts, loads_of, run_of, share};
+use parted_day::{Run, TownPart, day_in_parts, loads_of, run_of, share};
 use scoring::Tables;
 use std::alloc::{AllocError, Global};
 use std::sync::Wait;
 use std::thread::Threads;
-use streamed_day::StreamedDay;
 use town::DayInput;
-use town_part::TownPart;
 
 /// Writes and handles the events of a day, which come from a source.
 fn write_events<S: EventSource, O: Outputs>(
@@ -143,7 +140,7 @@ fn write_streamed<R: Threads + Wait + Sync, G: Gate, O: Outputs>(
         return Err(StreamError::NoMemory);
     };
     let run = run_of(alloc, &*day, &shared, true);
-    if execution.spread.workers == 1 {
+    if execution.spread.workers == 1 || execution.spread.partitions == 1 {
         return write_run(&run, execution.gate, tables, handler, outputs);
     }
     write_collected(rt, &run, execution, tables, handler, outputs)

@@ -76,7 +76,7 @@ enum Question {
     SeesNothing(bool),
     /// Whether a front of the bytes is written where outputs take so many, and then the write fails, by so many workers.
     IsFront(u64, Workers),
-    /// Whether the day is done by two workers of which none gets beyond second 200 before so many lines are written.
+    /// Whether the same bytes are written by two workers of which none gets beyond second 200 before so many lines are written.
     IsReadAhead(u64),
 }
 
@@ -237,7 +237,7 @@ fn is_front<R: Threads + Wait + Sync>(
         && all.written(OutFile::Events).get(..front.len()) == Some(front)
 }
 
-/// Whether the day is done by two workers where each partition waits before second 200 until so many lines are written.
+/// Whether the same bytes are written by two workers where each partition waits before second 200 until so many lines are written.
 fn is_read_ahead<R: Threads + Wait + Sync>(
     rt: &R,
     alloc: Global,
@@ -247,9 +247,10 @@ fn is_read_ahead<R: Threads + Wait + Sync>(
 ) -> bool
     requires { HaveFittingPlans day.now }
 {
+    let all = written(rt, alloc, day, tables, in_four(Workers::One), false);
     let taken = AtomicU64::new(0);
-    let written = AtomicU64::new(0);
-    let holder = Holder::new(&written, lines);
+    let lines_written = AtomicU64::new(0);
+    let holder = Holder::new(&lines_written, lines);
     let execution = Execution {
         spread: in_four(Workers::Two),
         streams: true,
@@ -258,15 +259,18 @@ fn is_read_ahead<R: Threads + Wait + Sync>(
     let mut followed = Followed {
         outputs: MemoryOutputs::new(alloc),
         taken: &taken,
-        lines: &written,
+        lines: &lines_written,
     };
     let whole = is_written(rt, alloc, day, tables, execution, &mut followed);
     let Followed {
-        outputs: _outputs,
+        outputs,
         taken: _taken,
         lines: _lines,
     } = followed;
-    whole && holder.held() == 4 && holder.failed() == 0
+    whole
+        && holder.held() == 4
+        && holder.failed() == 0
+        && outputs.written(OutFile::Events) == all.written(OutFile::Events)
 }
 
 /// The answer to a question about a day.

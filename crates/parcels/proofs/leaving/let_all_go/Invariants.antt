@@ -1,6 +1,0 @@
-use Rattle.node_seconds.specs.Networks.{is_among}
-use Rattle.parcels.specs.Leaving.{AreWithout}
-use Rattle.parcels.proofs.leaving.let_all_go.Given as goal
-
-abbrev pub invariant-loop-number : goal.invariant-loop-number
-invariant-loop-number l = AreWithout (λ i. is_among i l.yielded) l.initial.persons l.persons

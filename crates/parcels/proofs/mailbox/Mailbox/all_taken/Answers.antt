@@ -1,7 +1,0 @@
-use Rattle.std.proofs.Common.{List, sym, subst}
-use Rattle.parcels.specs.declared.contents.Contents.{Contents}
-use Rattle.parcels.specs.Parcels.{HasNothing}
-use Rattle.parcels.proofs.mailbox.Mailbox.all_taken.Goals as goal
-
-pub invariant_of-self : goal.invariant_of-self
-invariant_of-self c = subst (λ (xs : List Contents). HasNothing xs) (sym c.self.view_is) c.requires

@@ -1,2 +1,0 @@
-pub mod Strays
-pub mod Tables

@@ -1,0 +1,174 @@
+//! What a partition sends to a neighbour in a second.
+
+ghost use Rattle.std.specs.Prelude.{◌≡◌, true, [], ◌∷◌, IfOk, OnOk, MatchOption};
+ghost use Rattle.part_seconds.specs.Parcels.{nothing};
+ghost use Rattle.part_seconds.specs.Sending.{with_vehicles, with_flights, with_freed};
+
+use events::Rows;
+use std::alloc::{AllocError, Global};
+use std::marker::Model;
+use traffic::Vehicle;
+
+/// A vehicle that crosses a border, with the elements of its riders. Its row follows from the vehicle and the second.
+#[derive(Drop)]
+pub struct Moved {
+    pub vehicle: Vehicle,
+    pub elements: Rows<u32>,
+}
+
+pub type MovedList = Rows<Moved>;
+
+/// A person who flies over a border since the second of the parcel.
+#[derive(Clone, Copy, Debug, PartialEq, Eq)]
+pub struct Flying {
+    pub person: u32,
+    pub element: u32,
+}
+
+pub type FlyingList = Rows<Flying>;
+
+/// How many vehicles left the queue of a link.
+#[derive(Clone, Copy, Debug, PartialEq, Eq)]
+pub struct LeftRows {
+    pub link: u32,
+    pub rows: usize,
+}
+
+pub type LeftList = Rows<LeftRows>;
+
+/// What goes over a border in one second.
+#[derive(Drop)]
+pub struct Contents {
+    pub vehicles: MovedList,
+    pub flights: FlyingList,
+    pub freed: LeftList,
+}
+
+impl Contents {
+    /// Nothing yet.
+    fn new(alloc: Global) -> Contents
+        ensures { result ≡ nothing }
+    {
+        Contents {
+            vehicles: Rows {
+                rows: Vec::new(alloc),
+            },
+            flights: Rows {
+                rows: Vec::new(alloc),
+            },
+            freed: Rows {
+                rows: Vec::new(alloc),
+            },
+        }
+    }
+
+    fn add_vehicle(&mut self, moved: Moved) -> Result<(), AllocError>
+        ensures { OnOk result (self.new ≡ with_vehicles (moved ∷ []) self.old) }
+    {
+        self.vehicles.rows.push(moved)?;
+        Ok(())
+    }
+
+    fn add_flight(&mut self, flying: Flying) -> Result<(), AllocError>
+        ensures { OnOk result (self.new ≡ with_flights (flying ∷ []) self.old) }
+    {
+        self.flights.rows.push(flying)?;
+        Ok(())
+    }
+
+    fn add_freed(&mut self, left: LeftRows) -> Result<(), AllocError>
+        ensures { OnOk result (self.new ≡ with_freed (left ∷ []) self.old) }
+    {
+        self.freed.rows.push(left)?;
+        Ok(())
+    }
+}
+
+/// The parcel of one second. In most seconds nothing goes over a border, and a parcel with nothing in it takes no memory of its own.
+/// Contracts see a parcel as what is in it.
+#[derive(Drop)]
+pub struct Parcel {
+    contents: Option<Box<Contents>>,
+}
+
+impl Model for Parcel {
+    ghost use Rattle.part_seconds.specs.declared.contents.Contents.{Contents};
+    ghost use Rattle.part_seconds.specs.Parcels.{contents_in};
+
+    ghost Value = { Contents };
+
+    ghost view = { λ p. contents_in p.contents };
+}
+
+impl Parcel {
+    /// A parcel with nothing in it. It takes no memory.
+    pub fn new() -> Parcel
+        ensures { result ≡ nothing }
+    {
+        Parcel { contents: None }
+    }
+
+    /// Whether it is seen at once that nothing is in the parcel.
+    pub fn is_nothing(&self) -> bool
+        ensures { result ≡ true → self.now ≡ nothing }
+    {
+        self.contents.is_none()
+    }
+
+    /// Takes what is in the parcel out, to be filled and put back.
+    fn take(&mut self, alloc: Global) -> Result<Box<Contents>, AllocError>
+        ensures { IfOk result (λ contents. contents.value ≡ self.old) }
+    {
+        match self.contents.take() {
+            Some(contents) => Ok(contents),
+            None => Ok(Box::new(alloc, Contents::new(alloc))?),
+        }
+    }
+
+    pub(crate) fn add_vehicle(&mut self, alloc: Global, moved: Moved) -> Result<(), AllocError>
+        ensures { OnOk result (self.new ≡ with_vehicles (moved ∷ []) self.old) }
+    {
+        let mut contents = self.take(alloc)?;
+        contents.add_vehicle(moved)?;
+        self.contents = Some(contents);
+        Ok(())
+    }
+
+    pub(crate) fn add_flight(&mut self, alloc: Global, flying: Flying) -> Result<(), AllocError>
+        ensures { OnOk result (self.new ≡ with_flights (flying ∷ []) self.old) }
+    {
+        let mut contents = self.take(alloc)?;
+        contents.add_flight(flying)?;
+        self.contents = Some(contents);
+        Ok(())
+    }
+
+    pub(crate) fn add_freed(&mut self, alloc: Global, left: LeftRows) -> Result<(), AllocError>
+        ensures { OnOk result (self.new ≡ with_freed (left ∷ []) self.old) }
+    {
+        let mut contents = self.take(alloc)?;
+        contents.add_freed(left)?;
+        self.contents = Some(contents);
+        Ok(())
+    }
+
+    /// What is in the parcel; `None`: nothing.
+    pub fn contents(&self) -> Option<&Contents>
+        ensures { MatchOption result (self.now ≡ nothing) (λ contents. contents.now ≡ self.now) }
+    {
+        match &self.contents {
+            Some(contents) => Some(&**contents),
+            None => None,
+        }
+    }
+
+    /// What was in the parcel; `None`: nothing.
+    pub fn into_contents(self) -> Option<Contents>
+        ensures { MatchOption result (self ≡ nothing) (λ contents. contents ≡ self) }
+    {
+        match self.contents {
+            Some(contents) => Some(Box::into_inner(contents)),
+            None => None,
+        }
+    }
+}

@@ -1,0 +1,64 @@
+//! Places that came free elsewhere.
+
+ghost use Rattle.std.specs.Prelude.{◌≡◌, ℕ, Bool, length, OnOk};
+ghost use Rattle.part_places.specs.Taking.{Taking, AreTakenOf};
+ghost use Rattle.town.specs.Views.{setup};
+ghost use Rattle.part_seconds.specs.Hearing.{heard, heard_all, CanHear, CanHearAll};
+
+use crate::contents::LeftRows;
+use part_places::{Gone, Places};
+use person_moves::hole_of;
+use rows::LinkList;
+use std::alloc::AllocError;
+use town::DayInput;
+
+/// How many links there are.
+fn count_of(links: &LinkList) -> usize
+    ensures { result ≡ length links.now }
+{
+    links.rows.len()
+}
+
+/// Vehicles left the queue of a link in a second.
+#[tactic(auto, unfolding(town::specs::Setups::setup_of))]
+fn hear(day: &DayInput, second: u32, left: LeftRows, places: &mut Places) -> Result<(), AllocError>
+    ensures { (begins : ℕ → Bool) (t : ℕ) (T : Taking) → CanHear (setup day.now) begins t second left T
+        → AreTakenOf begins (length (setup day.now).links) day.now.town.now.settings.end_second t T places.old
+        → OnOk result (AreTakenOf begins (length (setup day.now).links) day.now.town.now.settings.end_second t
+        (heard (setup day.now) second left T) places.new) }
+{
+    if left.link as usize >= count_of(&day.town.network.links) {
+        return Ok(());
+    }
+    let gone = Gone {
+        second,
+        link: left.link,
+        vehicles: left.rows as u64,
+        hole_seconds: hole_of(day, left.link),
+    };
+    places.free_later(day.town.settings.end_second, gone)?;
+    Ok(())
+}
+
+/// In this second vehicles left the queues of these links, which begin here. A place that one left is free once a hole has travelled along
+/// its link.
+///
+/// # Errors
+///
+/// `AllocError`: there is no memory for a place. The places are then of no use.
+pub fn hear_freed(
+    day: &DayInput,
+    second: u32,
+    freed: Vec<LeftRows>,
+    places: &mut Places,
+) -> Result<(), AllocError>
+    ensures { (begins : ℕ → Bool) (t : ℕ) (T : Taking) → CanHearAll (setup day.now) begins t second freed.items T
+        → AreTakenOf begins (length (setup day.now).links) day.now.town.now.settings.end_second t T places.old
+        → OnOk result (AreTakenOf begins (length (setup day.now).links) day.now.town.now.settings.end_second t
+        (heard_all (setup day.now) second freed.items T) places.new) }
+{
+    for left in freed {
+        hear(day, second, left, places)?;
+    }
+    Ok(())
+}

@@ -1,0 +1,151 @@
+//! What lies between a partition and its neighbours.
+
+ghost use Rattle.std.specs.Prelude.{◌≡◌, ◌<◌, false, [], ◌∷◌, length, set, replicate, IfOk, OnOk};
+ghost use Rattle.part_seconds.specs.Parcels.{nothing, HasNothing};
+ghost use Rattle.part_seconds.specs.Sending.{parcel_at, with_vehicles, with_flights, with_freed};
+
+use crate::contents::{Flying, LeftRows, Moved, Parcel};
+use std::alloc::{AllocError, Global};
+use std::marker::Model;
+use std::mem::replace;
+
+/// A parcel for each neighbour, in order. Most lie there with nothing in them for most of the day, and where that is so of all it is seen
+/// at once. Contracts see a mailbox as the list of what is in its parcels.
+#[derive(Drop)]
+pub struct Mailbox {
+    parcels: Vec<Parcel>,
+    /// Whether something may be in one of them.
+    some: bool,
+}
+
+impl Model for Mailbox {
+    ghost use Rattle.std.specs.Prelude.{List};
+    ghost use Rattle.part_seconds.specs.declared.contents.Contents.{Contents};
+    ghost use Rattle.part_seconds.specs.Parcels.{IsNoted};
+
+    ghost Value = { List Contents };
+
+    ghost view = { λ m. m.parcels.items };
+
+    ghost invariant = { λ m. IsNoted m.some m.parcels.items };
+}
+
+/// So many parcels with nothing in them.
+fn empty_parcels(alloc: Global, count: usize) -> Result<Vec<Parcel>, AllocError>
+    ensures { IfOk result (λ parcels. parcels.items ≡ replicate count nothing) }
+{
+    let mut parcels = Vec::with_capacity(alloc, count)?;
+    for _place in 0..count {
+        parcels.push(Parcel::new())?;
+    }
+    Ok(parcels)
+}
+
+impl Mailbox {
+    /// A mailbox for so many neighbours, with nothing in any parcel.
+    ///
+    /// # Errors
+    ///
+    /// `AllocError`: there is no memory for it.
+    pub fn new(alloc: Global, count: usize) -> Result<Mailbox, AllocError>
+        ensures { IfOk result (λ mailbox. mailbox ≡ replicate count nothing) }
+    {
+        let parcels = empty_parcels(alloc, count)?;
+        Ok(Mailbox {
+            parcels,
+            some: false,
+        })
+    }
+
+    /// How many neighbours it is for.
+    pub fn len(&self) -> usize
+        ensures { result ≡ length self.now }
+    {
+        self.parcels.len()
+    }
+
+    /// Whether something may be in one of its parcels.
+    pub fn has_some(&self) -> bool
+        ensures { result ≡ false → HasNothing self.now }
+    {
+        self.some
+    }
+
+    /// Its parcels, in order.
+    pub fn parcels(&self) -> &[Parcel]
+        ensures { result.now ≡ self.now }
+    {
+        &self.parcels
+    }
+
+    /// Lays a parcel into the place of a neighbour.
+    pub fn put(&mut self, place: usize, parcel: Parcel)
+        requires { place < length self.old }
+        ensures { self.new ≡ set self.old place parcel }
+    {
+        self.some = true;
+        self.parcels[place] = parcel;
+    }
+
+    /// Takes the parcel of a neighbour. One with nothing in it is left.
+    pub fn take(&mut self, place: usize) -> Parcel
+        requires { place < length self.old }
+        ensures parcel { result ≡ parcel_at self.old place }
+        ensures rest { self.new ≡ set self.old place nothing }
+    {
+        replace(&mut self.parcels[place], Parcel::new())
+    }
+
+    /// Notes that nothing is in any parcel, as is so once all were taken.
+    pub fn all_taken(&mut self)
+        requires { HasNothing self.old }
+        ensures { self.new ≡ self.old }
+    {
+        self.some = false;
+    }
+
+    /// A vehicle more goes to a neighbour.
+    pub(crate) fn add_vehicle(
+        &mut self,
+        alloc: Global,
+        place: usize,
+        moved: Moved,
+    ) -> Result<(), AllocError>
+        requires { place < length self.old }
+        ensures { OnOk result (self.new ≡ set self.old place (with_vehicles (moved ∷ []) (parcel_at self.old place))) }
+    {
+        self.some = true;
+        self.parcels[place].add_vehicle(alloc, moved)?;
+        Ok(())
+    }
+
+    /// A person more flies to a neighbour.
+    pub(crate) fn add_flight(
+        &mut self,
+        alloc: Global,
+        place: usize,
+        flying: Flying,
+    ) -> Result<(), AllocError>
+        requires { place < length self.old }
+        ensures { OnOk result (self.new ≡ set self.old place (with_flights (flying ∷ []) (parcel_at self.old place))) }
+    {
+        self.some = true;
+        self.parcels[place].add_flight(alloc, flying)?;
+        Ok(())
+    }
+
+    /// A neighbour is told of a link more whose queue vehicles left.
+    pub(crate) fn add_freed(
+        &mut self,
+        alloc: Global,
+        place: usize,
+        left: LeftRows,
+    ) -> Result<(), AllocError>
+        requires { place < length self.old }
+        ensures { OnOk result (self.new ≡ set self.old place (with_freed (left ∷ []) (parcel_at self.old place))) }
+    {
+        self.some = true;
+        self.parcels[place].add_freed(alloc, left)?;
+        Ok(())
+    }
+}

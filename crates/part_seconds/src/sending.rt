@@ -1,0 +1,319 @@
+//! To whom vehicles, flights and freed places go.
+
+ghost use Rattle.std.specs.Prelude.{◌≡◌, ◌<◌, ◌++◌, [], ◌∷◌, length, map, get_or, OnOk, IfOk};
+ghost use Rattle.std.specs.List.{flat_map};
+ghost use Rattle.parts.specs.Owners.{begins_in};
+ghost use Rattle.partition.specs.Owned.{owner_in};
+ghost use Rattle.town.specs.Views.{setup};
+ghost use Rattle.traffic.specs.Rows.{nobody};
+ghost use Rattle.traffic.specs.Setup.{row_at};
+ghost use Rattle.part_seconds.specs.Sending.{changed_at, with_vehicles, with_flights, with_freed};
+ghost use Rattle.part_seconds.specs.Sending.{element_of, number_of, riders_of, moved_of, flies_to, flying_of, if_flies};
+ghost use Rattle.part_seconds.specs.Sending.{vehicle_place, flight_place, freed_place, AreMore};
+ghost use Rattle.part_seconds.specs.Sending.{more_vehicles, more_flights, more_freed};
+
+use crate::borders::place_of;
+use crate::contents::{Flying, LeftRows, Moved};
+use crate::mailbox::Mailbox;
+use events::Rows;
+use lists::push_with_room;
+use node_move::Entering;
+use partition::{Owner, owner_of_link, owner_of_node};
+use rows::{LinkList, act_after};
+use std::alloc::{AllocError, Global};
+use step_core::Border;
+use town::{DayInput, chosen_plan};
+use traffic::{Person, Place, Rider, Vehicle};
+
+/// Which partition sends in a day, and to whom.
+#[derive(Clone, Copy)]
+pub struct Exits<'a> {
+    pub day: &'a DayInput<'a>,
+    pub owner: &'a Owner,
+    /// The partition that sends.
+    pub part: u32,
+    /// Its neighbours, ascending.
+    pub borders: &'a [Border],
+}
+
+/// The node at which a link begins; a number that is no link begins at node 0.
+fn begin_node(links: &LinkList, link: u32) -> u32
+    ensures { result ≡ (row_at links.now link).from }
+{
+    let place = link as usize;
+    if place < links.rows.len() {
+        return links.rows[place].from;
+    }
+    0
+}
+
+/// The partition in which a link begins.
+#[tactic(auto, unfolding(town::specs::Setups::setup_of))]
+fn begins_in(day: &DayInput, owner: &Owner, link: u32) -> u32
+    ensures { result ≡ begins_in (setup day.now) (owner_in owner.now.of_node) link }
+{
+    let node = begin_node(&day.town.network.links, link);
+    owner_of_node(&owner.of_node, node)
+}
+
+/// Puts a vehicle into the parcel at a place, if there is one.
+#[tactic(auto, using(std::proofs::lemmas::List::set_past))]
+fn put_vehicle(
+    alloc: Global,
+    place: Option<usize>,
+    moved: Moved,
+    parcels: &mut Mailbox,
+) -> Result<(), AllocError>
+    ensures { OnOk result (parcels.new ≡ changed_at place (with_vehicles (moved ∷ [])) parcels.old) }
+{
+    let Some(place) = place else {
+        return Ok(());
+    };
+    if place < parcels.len() {
+        parcels.add_vehicle(alloc, place, moved)?;
+    }
+    Ok(())
+}
+
+/// The same with a flight.
+#[tactic(auto, using(std::proofs::lemmas::List::set_past))]
+fn put_flight(
+    alloc: Global,
+    place: Option<usize>,
+    flying: Flying,
+    parcels: &mut Mailbox,
+) -> Result<(), AllocError>
+    ensures { OnOk result (parcels.new ≡ changed_at place (with_flights (flying ∷ [])) parcels.old) }
+{
+    let Some(place) = place else {
+        return Ok(());
+    };
+    if place < parcels.len() {
+        parcels.add_flight(alloc, place, flying)?;
+    }
+    Ok(())
+}
+
+/// The same with a link whose queue vehicles left.
+#[tactic(auto, using(std::proofs::lemmas::List::set_past))]
+fn put_freed(
+    alloc: Global,
+    place: Option<usize>,
+    left: LeftRows,
+    parcels: &mut Mailbox,
+) -> Result<(), AllocError>
+    ensures { OnOk result (parcels.new ≡ changed_at place (with_freed (left ∷ [])) parcels.old) }
+{
+    let Some(place) = place else {
+        return Ok(());
+    };
+    if place < parcels.len() {
+        parcels.add_freed(alloc, place, left)?;
+    }
+    Ok(())
+}
+
+/// The element of a person.
+fn element_of(persons: &[Person], number: u32) -> u32
+    ensures { result ≡ (get_or persons.now number nobody).element }
+{
+    let place = number as usize;
+    if place < persons.len() {
+        return persons[place].element;
+    }
+    0
+}
+
+/// The elements of riders.
+fn elements_of(alloc: Global, persons: &[Person], riders: &[Rider]) -> Result<Rows<u32>, AllocError>
+    ensures { IfOk result (λ elements. elements ≡ map (element_of persons.now) riders.now) }
+{
+    let mut rows = Vec::with_capacity(alloc, riders.len())?;
+    let mut rest = riders;
+    while let [rider, later @ ..] = rest {
+        rows.push(element_of(persons, rider.person))?;
+        rest = later;
+    }
+    Ok(Rows { rows })
+}
+
+/// Appends the numbers of riders.
+fn add_riders(riders: &[Rider], gone: &mut Vec<u32>) -> Result<(), AllocError>
+    ensures { OnOk result (gone.new.items ≡ gone.old.items ++ map number_of riders.now) }
+{
+    let mut rest = riders;
+    while let [rider, later @ ..] = rest {
+        push_with_room(gone, rider.person)?;
+        rest = later;
+    }
+    Ok(())
+}
+
+/// The elements of the riders of a vehicle; their numbers are appended.
+fn with_riders(
+    alloc: Global,
+    persons: &[Person],
+    vehicle: &Vehicle,
+    gone: &mut Vec<u32>,
+) -> Result<Rows<u32>, AllocError>
+    ensures elements { IfOk result (λ elements. elements ≡ map (element_of persons.now) vehicle.now.riders) }
+    ensures gone { OnOk result (gone.new.items ≡ gone.old.items ++ map number_of vehicle.now.riders) }
+{
+    add_riders(&vehicle.riders.rows, gone)?;
+    elements_of(alloc, persons, &vehicle.riders.rows)
+}
+
+/// A vehicle goes to the partition of its link, and its riders with it.
+fn send_vehicle(
+    alloc: Global,
+    exits: &Exits,
+    persons: &[Person],
+    entering: Entering,
+    parcels: &mut Mailbox,
+    gone: &mut Vec<u32>,
+) -> Result<(), AllocError>
+    ensures parcels { OnOk result (parcels.new
+        ≡ changed_at (vehicle_place (setup exits.now.day.now) (owner_in exits.now.owner.now.of_node) exits.now.borders.now entering)
+        (with_vehicles (moved_of persons.now entering ∷ [])) parcels.old) }
+    ensures gone { OnOk result (gone.new.items ≡ gone.old.items ++ riders_of entering) }
+{
+    let Entering { link, vehicle } = entering;
+    let part = owner_of_link(exits.day, exits.owner, link);
+    let place = place_of(exits.borders, part);
+    let elements = with_riders(alloc, persons, &vehicle, gone)?;
+    put_vehicle(alloc, place, Moved { vehicle, elements }, parcels)
+}
+
+/// So do all of these.
+pub(crate) fn send_vehicles(
+    alloc: Global,
+    exits: &Exits,
+    persons: &[Person],
+    entering: Vec<Entering>,
+    parcels: &mut Mailbox,
+    gone: &mut Vec<u32>,
+) -> Result<(), AllocError>
+    ensures parcels { let own = owner_in exits.now.owner.now.of_node in
+        OnOk result (AreMore (more_vehicles (setup exits.now.day.now) own exits.now.borders.now persons.now entering.items)
+        parcels.old parcels.new) }
+    ensures gone { OnOk result (gone.new.items ≡ gone.old.items ++ flat_map riders_of entering.items) }
+{
+    for vehicle in entering {
+        send_vehicle(alloc, exits, persons, vehicle, parcels, gone)?;
+    }
+    Ok(())
+}
+
+/// The partition to which a person sets out in this second, if he sets out to another one.
+fn flies_to(exits: &Exits, second: u32, number: u32, person: Person) -> Option<u32>
+    requires { number < length exits.now.day.now.chosen.now }
+    ensures { result ≡ flies_to (setup exits.now.day.now) (owner_in exits.now.owner.now.of_node) exits.now.part second number
+        person.element person.place }
+{
+    match person.place {
+        Place::At { .. } => None,
+        Place::Teleporting { start } => {
+            if start != second {
+                return None;
+            }
+            let act = act_after(chosen_plan(exits.day, number), person.element);
+            let part = owner_of_link(exits.day, exits.owner, act.link);
+            if part == exits.part {
+                return None;
+            }
+            Some(part)
+        }
+        Place::Waiting { .. } => None,
+        Place::Riding { .. } => None,
+        Place::Aborted { .. } => None,
+    }
+}
+
+/// A person who sets out to another partition goes there.
+fn send_flight(
+    alloc: Global,
+    exits: &Exits,
+    second: u32,
+    persons: &[Person],
+    number: u32,
+    parcels: &mut Mailbox,
+    gone: &mut Vec<u32>,
+) -> Result<(), AllocError>
+    requires plans { length persons.now ≡ length exits.now.day.now.chosen.now }
+    ensures parcels { let own = owner_in exits.now.owner.now.of_node in
+        OnOk result (parcels.new
+        ≡ changed_at (flight_place (setup exits.now.day.now) own exits.now.part exits.now.borders.now second persons.now number)
+        (with_flights (flying_of persons.now number ∷ [])) parcels.old) }
+    ensures gone { OnOk result (gone.new.items ≡ gone.old.items
+        ++ if_flies (setup exits.now.day.now) (owner_in exits.now.owner.now.of_node) exits.now.part second persons.now number) }
+{
+    let place = number as usize;
+    if place >= persons.len() {
+        return Ok(());
+    }
+    let person = persons[place];
+    let Some(part) = flies_to(exits, second, number, person) else {
+        return Ok(());
+    };
+    push_with_room(gone, number)?;
+    let flying = Flying {
+        person: number,
+        element: person.element,
+    };
+    put_flight(alloc, place_of(exits.borders, part), flying, parcels)
+}
+
+/// So do all of these who do.
+pub(crate) fn send_flights(
+    alloc: Global,
+    exits: &Exits,
+    second: u32,
+    persons: &[Person],
+    looked: Vec<u32>,
+    parcels: &mut Mailbox,
+    gone: &mut Vec<u32>,
+) -> Result<(), AllocError>
+    requires plans { length persons.now ≡ length exits.now.day.now.chosen.now }
+    ensures parcels { let own = owner_in exits.now.owner.now.of_node in
+        OnOk result (AreMore (more_flights (setup exits.now.day.now) own exits.now.part exits.now.borders.now second persons.now
+        looked.items) parcels.old parcels.new) }
+    ensures gone { let own = owner_in exits.now.owner.now.of_node in
+        OnOk result (gone.new.items ≡ gone.old.items
+        ++ flat_map (if_flies (setup exits.now.day.now) own exits.now.part second persons.now) looked.items) }
+{
+    for number in looked {
+        send_flight(alloc, exits, second, persons, number, parcels, gone)?;
+    }
+    Ok(())
+}
+
+/// It is told how many vehicles left the queue of a link to the partition in which that begins.
+fn send_freed(
+    alloc: Global,
+    exits: &Exits,
+    left: LeftRows,
+    parcels: &mut Mailbox,
+) -> Result<(), AllocError>
+    ensures { OnOk result (parcels.new
+        ≡ changed_at (freed_place (setup exits.now.day.now) (owner_in exits.now.owner.now.of_node) exits.now.borders.now left)
+        (with_freed (left ∷ [])) parcels.old) }
+{
+    let part = begins_in(exits.day, exits.owner, left.link);
+    put_freed(alloc, place_of(exits.borders, part), left, parcels)
+}
+
+/// So with all of these.
+pub(crate) fn send_all_freed(
+    alloc: Global,
+    exits: &Exits,
+    freed: Vec<LeftRows>,
+    parcels: &mut Mailbox,
+) -> Result<(), AllocError>
+    ensures { let own = owner_in exits.now.owner.now.of_node in
+        OnOk result (AreMore (more_freed (setup exits.now.day.now) own exits.now.borders.now freed.items) parcels.old parcels.new) }
+{
+    for left in freed {
+        send_freed(alloc, exits, left, parcels)?;
+    }
+    Ok(())
+}

@@ -1,0 +1,19 @@
+use Rattle.std.proofs.Common.{◌≡◌, ℕ, ◌<◌, ◌≤◌, length, take}
+use Rattle.partition.specs.Owned.{owner_in}
+use Rattle.town.specs.Views.{setup}
+use Rattle.divided_day.specs.Borders.{borders_of}
+use Rattle.part_seconds.specs.Parcels.{nothing}
+use Rattle.step_core.specs.Views.{in_place}
+use Rattle.parted_day.specs.Absorbed.{neighbours_at, HasAbsorbed}
+use Rattle.parted_day.proofs.absorbing.absorb.Given as goal
+
+abbrev pub invariant-loop-place : goal.invariant-loop-place
+invariant-loop-place l = record {
+  absorbed :
+      HasAbsorbed l.run.day.now (owner_in l.run.owner.now.of_node) l.number l.second
+      (take l.place (neighbours_at (borders_of (setup l.run.day.now) (owner_in l.run.owner.now.of_node) l.run.owner.now.parts l.number)))
+      l.initial.area l.area;
+  many : length l.inbox ≡ length l.initial.inbox;
+  emptied : (k : ℕ) → k < l.place → in_place nothing l.inbox k ≡ nothing;
+  kept : (k : ℕ) → l.place ≤ k → in_place nothing l.inbox k ≡ in_place nothing l.initial.inbox k;
+}

@@ -1,0 +1,48 @@
+use Rattle.std.proofs.Common.{◌∙◌, ◌<◌, ◌+◌, ◌-◌, ◌++◌, ap, arith, sym, ℕ, List, length, get_or}
+use Rattle.std.specs.List.{flat_map}
+use Rattle.std.proofs.lemmas.List.{get_or_default}
+use Rattle.events.specs.declared.event.Event.{Event}
+use Rattle.events.specs.declared.event.Phase.TheVariants as phase
+use Rattle.events.specs.Keys.{phase_code}
+use Rattle.town.specs.Views.{setup}
+use Rattle.traffic.specs.declared.world.Person.{Person}
+use Rattle.traffic.specs.Lists.{below, numbers}
+use Rattle.traffic.specs.Rows.{nobody}
+use Rattle.traffic.specs.Day.{keyed}
+use Rattle.person_moves.proofs.Counting.{went_on, went_through}
+use Rattle.law_parts_of_days.specs.Riding.{stranded_on, told_on}
+use Rattle.parted_day.proofs.ends.push_ends.Goals as goal
+
+pub bounds-links-place : goal.bounds-links-place
+bounds-links-place c =
+    omega (c.loop-number-test.true, c.len-number-end.ensures.count, c.requires.given.each, c.requires.persons, c.requires.links, arith)
+
+pub bounds-persons-place : goal.bounds-persons-place
+bounds-persons-place c = omega (c.loop-number-test.true, c.len-number-end.ensures.count, c.requires.given.each, c.requires.persons, arith)
+
+pub push_stranded-requires : goal.push_stranded-requires
+push_stranded-requires c = omega (c.loop-number-test.true, c.len-number-end.ensures.count, c.requires.given.each, arith)
+
+pub loop-number-preserved : goal.loop-number-preserved
+loop-number-preserved c =
+    let day = c.args.day.now in
+    let S = setup day in
+    let end = day.town.now.settings.end_second in
+    let links = c.args.links.now in
+    let persons = c.args.persons.now in
+    let n = c.loop-number.number in
+    let f = told_on S end links persons in
+    let lt : n < length persons
+    = omega (c.loop-number-test.true, c.len-number-end.ensures.count, c.requires.given.each, c.requires.persons, arith) in
+    ap (λ (xs : List Event). xs ++ flat_map f (numbers (n + 1) (c.len-number-end.result - (n + 1)))) c.in_ok-push_stranded.ensures
+    ∙ went_on f n c.len-number-end.result c.loop-number.events.items _ _ c.loop-number-test.true
+    (ap (λ (P : Person). keyed end (phase_code phase.E) n 0 (stranded_on S (get_or links n 0) n P)) (get_or_default persons n _ nobody lt))
+    c.loop-number.invariant
+
+pub returns : goal.returns
+returns c =
+    let f = told_on (setup c.args.day.now) c.args.day.now.town.now.settings.end_second c.args.links.now c.args.persons.now in
+    went_through f c.loop-number.number c.len-number-end.result c.loop-number.events.items _ c.loop-number-test.false
+    c.loop-number.invariant
+    ∙ ap (λ (n : ℕ). c.args.events.now.items ++ flat_map f (below n)) (c.len-number-end.ensures.count ∙ c.requires.given.each
+    ∙ sym c.requires.persons)

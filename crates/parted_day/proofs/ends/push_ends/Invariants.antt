@@ -1,0 +1,11 @@
+use Rattle.std.proofs.Common.{◌≡◌, ◌++◌, ◌-◌}
+use Rattle.std.specs.List.{flat_map}
+use Rattle.town.specs.Views.{setup}
+use Rattle.traffic.specs.Lists.{below, numbers}
+use Rattle.law_parts_of_days.specs.Riding.{told_on}
+use Rattle.parted_day.proofs.ends.push_ends.Given as goal
+
+abbrev pub invariant-loop-number : goal.invariant-loop-number
+invariant-loop-number l =
+    let f = told_on (setup l.day) l.day.town.now.settings.end_second l.links l.persons in
+    l.events.items ++ flat_map f (numbers l.number (l.number-end - l.number)) ≡ l.initial.events.items ++ flat_map f (below l.number-end)

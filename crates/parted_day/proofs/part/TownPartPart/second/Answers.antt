@@ -1,0 +1,72 @@
+use Rattle.std.proofs.Common.{◌∙◌, List, ◌++◌, ap, arith, refl}
+use Rattle.events.specs.declared.event.Event.{Event}
+use Rattle.partition.specs.Owned.{owner_in}
+use Rattle.town.specs.Views.{setup}
+use Rattle.parted_day.specs.Turns.{turns_told}
+use Rattle.parted_day.proofs.Standing.{empty_as}
+use Rattle.parted_day.proofs.Telling.{told_next}
+use Rattle.parted_day.proofs.part.TownPartPart.second.Goals as goal
+
+pub take_turns-requires-clause-second_in : goal.take_turns-requires-clause-second_in
+take_turns-requires-clause-second_in c = let short = c.args.run.now.day.now.town.now.sound.settings.ends in omega arith
+
+pub take_turns-requires-clause-in_day : goal.take_turns-requires-clause-in_day
+take_turns-requires-clause-in_day c = c.requires.before_end
+
+pub take_turns-requires-clause-there : goal.take_turns-requires-clause-there
+take_turns-requires-clause-there c = c.requires.stands.there
+
+pub take_turns-requires-clause-stands : goal.take_turns-requires-clause-stands
+take_turns-requires-clause-stands c = c.requires.stands.stands
+
+pub take_turns-requires-clause-heard : goal.take_turns-requires-clause-heard
+take_turns-requires-clause-heard c = c.requires.heard
+
+pub take_turns-requires-clause-places : goal.take_turns-requires-clause-places
+take_turns-requires-clause-places c = c.requires.places
+
+pub take_turns-requires-clause-silent : goal.take_turns-requires-clause-silent
+take_turns-requires-clause-silent c = c.forget_told.ensures.said ∙ c.requires.stands.silent
+
+pub give_out-requires-clause-there : goal.give_out-requires-clause-there
+give_out-requires-clause-there c = c.requires.stands.there
+
+pub give_out-requires-clause-stands : goal.give_out-requires-clause-stands
+give_out-requires-clause-stands c = c.in_ok-leaving.ensures.stands
+
+pub give_out-requires-clause-leaving : goal.give_out-requires-clause-leaving
+give_out-requires-clause-leaving c = c.in_ok-leaving.ensures.leaving
+
+pub give_out-requires-clause-gone : goal.give_out-requires-clause-gone
+give_out-requires-clause-gone c = c.requires.gone
+
+pub give_out-requires-clause-strays : goal.give_out-requires-clause-strays
+give_out-requires-clause-strays c = c.requires.stands.stray
+
+pub returns-clause-done : goal.returns-clause-done
+returns-clause-done c =
+    let run = c.args.run.now in
+    let day = run.day.now in
+    let own = owner_in run.owner.now.of_node in
+    let p = c.args.self.now.number in
+    let t = c.args.self.now.done in
+    record {
+      number = refl;
+      seconds = refl;
+      holds = record {
+        there = c.requires.stands.there;
+        stands = c.in_ok-give_out.ensures.stands;
+        events = told_next day run.owner.now run.given p t run.streams c.args.self.now.told.events.items c.take_turns.new.told.events.items
+            c.requires.stands.events
+            (c.in_ok-leaving.ensures.events
+            ∙ ap (λ (es : List Event). es ++ turns_told (setup day) own p t) c.forget_told.ensures.events);
+        silent = c.in_ok-leaving.ensures.said;
+        stray = c.in_ok-give_out.ensures.strays;
+        whole = refl;
+      };
+      empty = empty_as _ _ _ c.requires.places c.in_ok-leaving.ensures.empty;
+      places = c.in_ok-give_out.ensures.places;
+    }
+
+pub returns-clause-sent : goal.returns-clause-sent
+returns-clause-sent c = c.in_ok-give_out.ensures.sent

@@ -1,0 +1,36 @@
+use Rattle.std.proofs.Common.{◌∙◌, List, ap, refl, sym, subst, length}
+use Rattle.events.specs.declared.event.Event.{Event}
+use Rattle.parted_day.specs.declared.straying.Stray.{Stray}
+use Rattle.parted_day.specs.Strays.{AreStrays}
+use Rattle.partition.specs.Owned.{owner_in}
+use Rattle.step_core.specs.declared.part.Border.{Border}
+use Rattle.town.specs.Views.{setup}
+use Rattle.parted_day.specs.Parts.{HasTold}
+use Rattle.parted_day.proofs.Standing.{none_stray, new_empty}
+use Rattle.parted_day.proofs.Telling.{none_told}
+use Rattle.parted_day.proofs.part.TownPartPart.start.Goals as goal
+
+pub returns : goal.returns
+returns c =
+    let run = c.args.run.now in
+    let day = run.day.now in
+    let S = setup day in
+    let own = owner_in run.owner.now.of_node in
+    let p = c.args.number in
+    let many = ap (λ (bs : List Border). length bs) c.neighbours_of-count.ensures in
+    record {
+      number = refl;
+      seconds = refl;
+      holds = record {
+        there = c.requires;
+        stands = c.in_ok-area.ensures;
+        events = subst (λ (es : List Event). HasTold run.streams day run.owner.now p 0 es) (sym c.new-3.ensures.items)
+            (none_told run.streams day run.owner.now p);
+        silent = c.new-4.ensures.items;
+        stray = subst (λ (xs : List Stray). AreStrays S own run.owner.now.parts p 0 xs) (sym c.new-5.ensures.items)
+            (none_stray S own run.owner.now.parts p);
+        whole = refl;
+      };
+      empty = new_empty _ _ _ c.in_ok-inbox.ensures many;
+      gone = new_empty _ _ _ c.in_ok-outbox.ensures many;
+    }

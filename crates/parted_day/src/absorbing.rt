@@ -1,0 +1,62 @@
+//! The parcels of all neighbours come to a part.
+
+ghost use Rattle.std.specs.Prelude.{◌≡◌, ◌<◌, length, OnOk};
+ghost use Rattle.limits.specs.declared.TheConstants.{LAST_SECOND};
+ghost use Rattle.divided_day.specs.Borders.{borders_of};
+ghost use Rattle.law_own_worlds.specs.Days.{world_before};
+ghost use Rattle.law_parcels.specs.Worlds.{world_held};
+ghost use Rattle.partition.specs.Owned.{owner_in};
+ghost use Rattle.parts.specs.Parts.{held, ready};
+ghost use Rattle.part_seconds.specs.Parcels.{nothing};
+ghost use Rattle.part_seconds.specs.Stands.{AreaStands};
+ghost use Rattle.step_core.specs.Views.{AreEmpty, HasHeard};
+ghost use Rattle.town.specs.Views.{setup};
+ghost use Rattle.parted_day.specs.Absorbed.{IsRight};
+
+use crate::taking_in::take_in;
+use law_parcels::{own_worlds_go_on, parcels_make_ready};
+use part_seconds::{Area, Mailbox, Run, borders_at};
+use std::alloc::AllocError;
+
+/// A part takes in the parcels of its neighbours before a second, in their order: of each the one that was sent as many seconds before as
+/// the lag from it has, where that is a second of the day. The part is then what it has to be as its second begins, and nothing is in the
+/// parcels any more. Where it is seen at once that nothing is in them, none is looked at.
+///
+/// # Errors
+///
+/// `AllocError`: there is no memory for a row, a vehicle or a person. The part is then of no use.
+pub fn absorb(
+    area: &mut Area,
+    run: &Run,
+    number: u32,
+    second: u32,
+    inbox: &mut Mailbox,
+) -> Result<(), AllocError>
+    requires second_in { second < LAST_SECOND }
+    requires in_day { second < run.now.day.now.town.now.settings.end_second }
+    requires there { number < run.now.owner.now.parts }
+    requires stands { let own = owner_in run.now.owner.now.of_node in let S = setup run.now.day.now in
+        AreaStands run.now.day.now own number second second second area.old (held S own number second) (world_held S own number second) }
+    requires heard { let own = owner_in run.now.owner.now.of_node in let S = setup run.now.day.now in
+        HasHeard nothing (IsRight S own) number second (borders_of S own run.now.owner.now.parts number) inbox.old }
+    requires places { let own = owner_in run.now.owner.now.of_node in let S = setup run.now.day.now in
+        length inbox.old ≡ length (borders_of S own run.now.owner.now.parts number) }
+    ensures stands { let own = owner_in run.now.owner.now.of_node in let S = setup run.now.day.now in
+        OnOk result (AreaStands run.now.day.now own number second second second area.new (ready S own number second)
+        (world_before S own number second)) }
+    ensures empty { OnOk result (AreEmpty nothing (length inbox.old) inbox.new) }
+{
+    parcels_make_ready();
+    own_worlds_go_on();
+    if !inbox.has_some() {
+        return Ok(());
+    }
+    let borders = borders_at(run.borders, number);
+    for place in 0..borders.len() {
+        let sent = second.saturating_sub(borders[place].lag);
+        let parcel = inbox.take(place);
+        take_in(area, run, sent, parcel)?;
+    }
+    inbox.all_taken();
+    Ok(())
+}

@@ -1,0 +1,160 @@
+//! Who is under way when the day ends.
+
+ghost use Rattle.std.specs.Prelude.{◌≡◌, ◌<◌, ◌++◌, length, replicate, OnOk, IfOk};
+ghost use Rattle.std.specs.List.{flat_map};
+ghost use Rattle.std.specs.Option.{option_to_list};
+ghost use Rattle.events.specs.Keys.{phase_code};
+ghost use Rattle.events.specs.declared.event.Phase.TheVariants as phase;
+ghost use Rattle.law_in_range.specs.Setups.{HaveFittingPlans};
+ghost use Rattle.town.specs.Views.{setup};
+ghost use Rattle.traffic.specs.Lists.{below};
+ghost use Rattle.traffic.specs.Day.{keyed};
+ghost use Rattle.law_parcels.specs.Worlds.{world_held};
+ghost use Rattle.law_parts_of_days.specs.Riding.{stranded_on, told_on, put_links};
+ghost use Rattle.partition.specs.Owned.{owner_in};
+ghost use Rattle.parts.specs.Parts.{held, own_end_events};
+ghost use Rattle.traffic.specs.Persons.{stuck_on};
+ghost use Rattle.part_seconds.specs.Stands.{AreaStands};
+ghost use Rattle.parted_day.specs.Strays.{AreStrays};
+ghost use Rattle.parted_day.specs.Tables.{with_states, with_links};
+
+use crate::riding::rider_links;
+use crate::straying::{Stray, put_strays};
+use events::{Event, Mode, More, Phase, Word};
+use part_seconds::{Area, Run};
+use person_moves::{link_of_stop, mode_in, push_keyed};
+use queue_link::LinkState;
+use rows::{Act, act_in};
+use std::alloc::AllocError;
+use town::{DayInput, chosen_plan};
+use traffic::{Occurrence, Person, Place};
+use vehicles::of_person;
+
+/// What is told at the end of the day of a person at this place, who rides on this link if he rides: that he is stuck, where he is under
+/// way.
+fn stuck_on(
+    day: &DayInput,
+    link: u32,
+    number: u32,
+    here: Act,
+    mode: Mode,
+    place: Place,
+) -> Option<Occurrence>
+    ensures { option_to_list result ≡ stuck_on (setup day.now) link number here mode place }
+{
+    let link = match place {
+        Place::At { .. } => return None,
+        Place::Teleporting { .. } => here.link,
+        Place::Waiting { stop, .. } => link_of_stop(day, stop),
+        Place::Riding { .. } => link,
+        Place::Aborted { .. } => return None,
+    };
+    Some(of_person(Word::StuckAndAbort, number, link, More::Mode(mode)))
+}
+
+/// The same of this person of the town.
+fn stranded_on(day: &DayInput, link: u32, number: u32, person: Person) -> Option<Occurrence>
+    requires { number < length day.now.chosen.now }
+    ensures { option_to_list result ≡ stranded_on (setup day.now) link number person }
+{
+    let plan = chosen_plan(day, number);
+    let here = act_in(plan, person.element);
+    let mode = mode_in(plan, person.element);
+    stuck_on(day, link, number, here, mode, person.place)
+}
+
+/// Appends what the end of the day tells of a person.
+fn push_stranded(
+    day: &DayInput,
+    link: u32,
+    number: u32,
+    person: Person,
+    events: &mut Vec<Event>,
+) -> Result<(), AllocError>
+    requires { number < length day.now.chosen.now }
+    ensures { OnOk result (events.new.items ≡ events.old.items ++ keyed day.now.town.now.settings.end_second (phase_code phase.E)
+        number 0 (stranded_on (setup day.now) link number person)) }
+{
+    let end = day.town.settings.end_second;
+    match stranded_on(day, link, number, person) {
+        Some(said) => push_keyed(end, Phase::E, number, &[said], events),
+        None => push_keyed(end, Phase::E, number, &[], events),
+    }
+}
+
+/// Who of these persons is under way is stuck on the link on which he is, by number: who rides on that of this table. Appends what that
+/// tells.
+///
+/// # Errors
+///
+/// `AllocError`: there is no memory for an event.
+fn push_ends(
+    day: &DayInput,
+    persons: &[Person],
+    links: &[u32],
+    events: &mut Vec<Event>,
+) -> Result<(), AllocError>
+    requires given { HaveFittingPlans day.now }
+    requires persons { length persons.now ≡ length day.now.chosen.now }
+    requires links { length links.now ≡ length persons.now }
+    ensures { OnOk result (events.new.items ≡ events.old.items
+        ++ flat_map (told_on (setup day.now) day.now.town.now.settings.end_second links.now persons.now) (below (length persons.now))) }
+{
+    for number in 0..day.town.book.persons.len() {
+        let place = number as usize;
+        push_stranded(day, links[place], number, persons[place], events)?;
+    }
+    Ok(())
+}
+
+/// The events of the end of the day of the persons in this table and on these links, where the strays stand in it.
+fn tell_ends(
+    run: &Run,
+    persons: &[Person],
+    links: &[LinkState],
+    strays: &[Stray],
+) -> Result<Vec<Event>, AllocError>
+    requires { length persons.now ≡ length run.now.day.now.chosen.now }
+    ensures { IfOk result (λ events. events.items ≡ flat_map
+        (told_on (setup run.now.day.now) run.now.day.now.town.now.settings.end_second
+        (with_links strays.now (put_links links.now (replicate (length persons.now) 0))) (with_states strays.now persons.now))
+        (below (length persons.now))) }
+{
+    let mut ridden = rider_links(run.alloc, persons.len(), links)?;
+    let mut states = Vec::new(run.alloc);
+    states.extend_from_slice(persons)?;
+    put_strays(strays, &mut states, &mut ridden);
+    let mut events = Vec::new(run.alloc);
+    push_ends(run.day, &states, &ridden, &mut events)?;
+    Ok(events)
+}
+
+/// The events of the end of the day that belong to a partition: whoever is under way is stuck, by number, of those whom its part has and of
+/// its strays.
+///
+/// # Errors
+///
+/// `AllocError`: there is no memory for them.
+pub fn end_events(
+    run: &Run,
+    number: u32,
+    area: Area,
+    strays: Vec<Stray>,
+) -> Result<Vec<Event>, AllocError>
+    requires there { number < run.now.owner.now.parts }
+    requires stands { let own = owner_in run.now.owner.now.of_node in let S = setup run.now.day.now in
+        let end = run.now.day.now.town.now.settings.end_second in
+        AreaStands run.now.day.now own number end end end area (held S own number end) (world_held S own number end) }
+    requires strays { AreStrays (setup run.now.day.now) (owner_in run.now.owner.now.of_node) run.now.owner.now.parts number
+        run.now.day.now.town.now.settings.end_second strays.items }
+    ensures { IfOk result (λ events. events.items
+        ≡ own_end_events (setup run.now.day.now) (owner_in run.now.owner.now.of_node) run.now.owner.now.parts number) }
+{
+    let events = tell_ends(
+        run,
+        &area.persons.world.persons,
+        &area.network.links,
+        &strays,
+    )?;
+    Ok(events)
+}

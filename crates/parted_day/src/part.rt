@@ -1,0 +1,196 @@
+//! One partition of the day of a town.
+
+ghost use Rattle.std.specs.Prelude.{◌≡◌, ◌++◌, true, refl, if◌then◌else◌, IfOk};
+ghost use Rattle.divided_day.specs.Days.{net_in, borders_in};
+ghost use Rattle.parted_day.specs.Absorbed.{IsRight};
+ghost use Rattle.part_seconds.specs.Parcels as contents;
+ghost use Rattle.partition.specs.Owned.{owner_in};
+ghost use Rattle.town.specs.Views.{setup};
+ghost use Rattle.parted_day.specs.Parts.{view_of, IsPartOf};
+
+use crate::beginnings::begin;
+use crate::ends::end_events;
+use crate::neighbours::neighbours_of;
+use crate::straying::Stray;
+use crate::turns::{forget_told, give_out, take_turns};
+use divided_day::DayPart;
+use events::{Event, EventList, Rows};
+use part_links::Told;
+use part_seconds::{Area, Mailbox, Parcel, Run};
+use std::alloc::{AllocError, Global};
+use std::marker::PhantomData;
+use step_core::{BorderList, Part};
+
+/// A partition of the day of a town.
+#[derive(Drop)]
+pub struct TownPart<'a> {
+    pub(crate) number: u32,
+    /// How many seconds it has done.
+    pub(crate) done: u32,
+    /// Whether it found no memory in a second: it is of no use then.
+    pub(crate) spent: bool,
+    /// Its share of the network, and who is there.
+    pub(crate) area: Area,
+    /// By neighbour, ascending, what came from it and is to be taken in before the next second.
+    pub(crate) inbox: Mailbox,
+    /// By neighbour what goes to it.
+    pub(crate) outbox: Mailbox,
+    /// What it told, or what it told in the second that it did last.
+    pub(crate) told: Told,
+    /// Who is in parcels that come when the day is over.
+    pub(crate) strays: Vec<Stray>,
+    /// For its type alone: a part belongs to runs that live as long as `'a`.
+    pub(crate) of: PhantomData<&'a u32>,
+}
+
+/// What a part told in its seconds, where that was not taken as the day went on, and then what it tells of the end of the day.
+fn told_at_last(told: Told, streams: bool, ended: Vec<Event>) -> Result<Vec<Event>, AllocError>
+    ensures { IfOk result (λ all. all.items ≡ (if streams then ended.items else told.events.items ++ ended.items)) }
+{
+    if streams {
+        return Ok(ended);
+    }
+    let Told {
+        mut events,
+        said: _said,
+    } = told;
+    events.extend_from_slice(&ended)?;
+    Ok(events)
+}
+
+impl<'a> Part for TownPart<'a> {
+    type Run = Run<'a>;
+
+    type Parcel = Parcel;
+
+    ghost nothing = { contents.nothing };
+
+    ghost net = { λ run. net_in run.day.now run.owner.now };
+
+    ghost borders = { λ run p. borders_in run.day.now run.owner.now p };
+
+    ghost see = { view_of };
+
+    ghost stands = { IsPartOf };
+
+    ghost spent = { λ x. x.spent ≡ true };
+
+    ghost right = { λ run. IsRight (setup run.day.now) (owner_in run.owner.now.of_node) };
+
+    fn nothing() -> Parcel
+        ensures { result ≡ contents.nothing }
+    {
+        Parcel::new()
+    }
+
+    fn is_nothing(parcel: &Parcel) -> bool
+        ensures { result ≡ true → parcel.now ≡ contents.nothing }
+    {
+        parcel.is_nothing()
+    }
+
+    fn count(run: &Run<'a>) -> u32 {
+        run.owner.parts
+    }
+
+    fn end(run: &Run<'a>) -> u32 {
+        run.day.town.settings.end_second
+    }
+
+    fn borders(alloc: Global, run: &Run<'a>, number: u32) -> Result<BorderList, AllocError> {
+        let rows = Vec::from_slice(alloc, neighbours_of(run, number))?;
+        Ok(Rows { rows })
+    }
+
+    fn start(alloc: Global, run: &Run<'a>, number: u32) -> Result<TownPart<'a>, AllocError> {
+        let area = begin(run, number)?;
+        let count = neighbours_of(run, number).len();
+        let inbox = Mailbox::new(alloc, count)?;
+        let outbox = Mailbox::new(alloc, count)?;
+        let told = Told {
+            events: Vec::new(alloc),
+            said: Vec::new(alloc),
+        };
+        Ok(TownPart {
+            number,
+            done: 0,
+            spent: false,
+            area,
+            inbox,
+            outbox,
+            told,
+            strays: Vec::new(alloc),
+            of: PhantomData,
+        })
+    }
+
+    fn absorb(&mut self, place: usize, parcel: Parcel) {
+        self.inbox.put(place, parcel);
+    }
+
+    fn second(&mut self, run: &Run<'a>) -> Result<(), AllocError> {
+        self.spent = true;
+        forget_told(run, &mut self.told);
+        let leaving = take_turns(
+            run,
+            self.number,
+            self.done,
+            &mut self.area,
+            &mut self.inbox,
+            &mut self.told,
+        )?;
+        give_out(
+            run,
+            self.number,
+            self.done,
+            leaving,
+            &mut self.area,
+            &mut self.outbox,
+            &mut self.strays,
+        )?;
+        self.done += 1;
+        self.spent = false;
+        Ok(())
+    }
+
+    fn sends(&self) -> bool {
+        self.outbox.has_some()
+    }
+
+    fn outbox(&mut self, place: usize) -> Parcel {
+        self.outbox.take(place)
+    }
+}
+
+impl<'a> DayPart for TownPart<'a> {
+    ghost day = { λ run. run.day.now };
+
+    ghost owner = { λ run. run.owner.now };
+
+    ghost streams = { λ run. run.streams };
+
+    ghost nets = { λ _. refl };
+
+    ghost neighbours = { λ _ _. refl };
+
+    fn told(&self, _run: &Run<'a>) -> &[Event] {
+        &self.told.events
+    }
+
+    fn finish(self, _alloc: Global, run: &Run<'a>) -> Result<EventList, AllocError> {
+        let TownPart {
+            number,
+            done: _done,
+            spent: _spent,
+            area,
+            inbox: _inbox,
+            outbox: _outbox,
+            told,
+            strays,
+            of: _of,
+        } = self;
+        let ended = end_events(run, number, area, strays)?;
+        let rows = told_at_last(told, run.streams, ended)?;
+        Ok(Rows { rows })
+    }
+}

@@ -1,4 +1,0 @@
-mod Sending
-mod Telling
-mod Going
-mod Standing

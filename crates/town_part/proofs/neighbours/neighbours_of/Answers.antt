@@ -1,5 +1,0 @@
-use Rattle.std.proofs.Common.{◌∙◌}
-use Rattle.town_part.proofs.neighbours.neighbours_of.Goals as goal
-
-pub returns : goal.returns
-returns c = c.borders_at.ensures ∙ c.args.run.now.near c.args.number c.requires

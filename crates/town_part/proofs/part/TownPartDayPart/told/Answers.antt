@@ -1,5 +1,0 @@
-use Rattle.std.proofs.Common.{◌∙◌}
-use Rattle.town_part.proofs.part.TownPartDayPart.told.Goals as goal
-
-pub returns : goal.returns
-returns c = c.deref.ensures.value ∙ c.requires.at.holds.events.last c.requires.streams c.requires.some

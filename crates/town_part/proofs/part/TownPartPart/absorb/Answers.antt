@@ -1,6 +1,0 @@
-use Rattle.std.proofs.Common.{refl}
-use Rattle.town_part.proofs.Standing.{stays}
-use Rattle.town_part.proofs.part.TownPartPart.absorb.Goals as goal
-
-pub returns-clause-stands : goal.returns-clause-stands
-returns-clause-stands c = stays c.args.self.now _ refl

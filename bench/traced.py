@@ -110,14 +110,35 @@ class Stops:
         return True
 
 
-def start(command, folder, output, errors, environment=None):
-    """Starts a command in a folder, stopped at its first instruction."""
+class Instruction(ctypes.Structure):
+    """One of a filter of calls."""
+
+    _fields_ = [("code", ctypes.c_ushort), ("if_so", ctypes.c_ubyte), ("if_not", ctypes.c_ubyte), ("word", ctypes.c_uint)]
+
+
+class Filter(ctypes.Structure):
+    _fields_ = [("length", ctypes.c_ushort), ("first", ctypes.POINTER(Instruction))]
+
+
+def stop_at(calls):
+    """Has this process, and all that it becomes, stop at these calls to the system alone, for its tracer."""
+    NUMBER, IS, ANSWER, STOP, GO_ON = 0x20, 0x15, 0x06, 0x7FF00000, 0x7FFF0000
+    rows = [(NUMBER, 0, 0, 0), *((IS, len(calls) - place, 0, call) for place, call in enumerate(calls)), (ANSWER, 0, 0, GO_ON), (ANSWER, 0, 0, STOP)]
+    rows = (Instruction * len(rows))(*rows)
+    if LIBC.prctl(38, 1, 0, 0, 0) or LIBC.prctl(22, 2, ctypes.byref(Filter(len(rows), rows)), 0, 0):
+        raise OSError(ctypes.get_errno(), "prctl")
+
+
+def start(command, folder, output, errors, environment=None, calls=()):
+    """Starts a command in a folder, stopped at its first instruction. It will stop at these calls, where there are any."""
     child = os.fork()
     if child == 0:
         os.chdir(folder)
         os.dup2(output, 1)
         os.dup2(errors, 2)
         traced(TRACE_ME, 0)
+        if calls:
+            stop_at(calls)
         os.execve(command[0], command, os.environ if environment is None else environment)
     os.waitpid(child, 0)
     return child

@@ -66,7 +66,7 @@ unfolding put_queues
 put_length links [] qs = refl
 put_length links (k ∷ ks) qs = put_length links ks (set qs k (queued_in links k)) ∙ length-set qs k (queued_in links k)
 
-put_other : (links : List LinkView) (ks qs : List ℕ) (j : ℕ) → is_among j ks ≡ false → get_or (put_queues links ks qs) j 0 ≡ get_or qs j 0
+pub put_other : (links : List LinkView) (ks qs : List ℕ) (j : ℕ) → is_among j ks ≡ false → get_or (put_queues links ks qs) j 0 ≡ get_or qs j 0
 unfolding put_queues
 put_other links [] qs j a = refl
 put_other links (k ∷ ks) qs j a =
@@ -77,7 +77,7 @@ put_other links (k ∷ ks) qs j a =
           ∙ get_or-set_other qs k j (queued_in links k) 0 (λ e. eqb-false k j q (sym e))
     ]
 
-put_here : (links : List LinkView) (ks qs : List ℕ) (j : ℕ) → j < length qs → is_among j ks ≡ true → get_or (put_queues links ks qs) j 0 ≡ queued_in links j
+pub put_here : (links : List LinkView) (ks qs : List ℕ) (j : ℕ) → j < length qs → is_among j ks ≡ true → get_or (put_queues links ks qs) j 0 ≡ queued_in links j
 unfolding put_queues
 put_here links [] qs j lt a = absurd (true≢false (sym a))
 put_here links (k ∷ ks) qs j lt a =

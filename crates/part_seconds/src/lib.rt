@@ -32,3 +32,4 @@ pub use mailbox::Mailbox;
 pub use runs::Run;
 pub use sending::Exits;
 pub use setting_out::slot_of;
+pub use settling::put_queues;

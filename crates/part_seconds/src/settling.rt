@@ -17,19 +17,23 @@ ghost use Rattle.part_seconds.specs.Settling.{wake_end_at, wake_ends_at, wake_ow
 use crate::LeftRows;
 use crate::runs::Run;
 use calendar::Wakes;
+use node_seconds::number_at;
 use part_places::{Left, Places, begins_here};
 use person_moves::{hole_of, link_row};
 use queue_link::LinkState;
 use std::alloc::{AllocError, Global};
 use town::DayInput;
 
-/// How many vehicles are in the queue of the link in a slot.
-#[tactic(auto, using(node_move::proofs::Places::is_at))]
+/// How many vehicles are in the queue of the link in a slot; none where no link is.
+#[tactic(auto, using(node_move::proofs::Places::is_at, std::proofs::lemmas::List::get_or_past))]
 fn queued_in(links: &[LinkState], slot: u32) -> usize
-    requires { slot < length links.now }
     ensures { result ≡ queued_in links.now slot }
 {
-    let link = &links[slot as usize];
+    let place = slot as usize;
+    if place >= links.len() {
+        return 0;
+    }
+    let link = &links[place];
     link.queued()
 }
 
@@ -41,16 +45,6 @@ fn buffered_in(links: &[LinkState], slot: u32) -> usize
 {
     let link = &links[slot as usize];
     link.buffered()
-}
-
-/// The number of the link in a slot.
-#[tactic(auto, using(node_move::proofs::Places::is_at))]
-fn link_at(links: &[LinkState], slot: u32) -> u32
-    requires { slot < length links.now }
-    ensures { result ≡ link_at links.now slot }
-{
-    let link = &links[slot as usize];
-    link.numbers().link
 }
 
 /// The places that vehicles left on the link in a slot, which begins here, come free when the holes are over.
@@ -69,7 +63,7 @@ fn leave_own(
         → OnOk result (AreTakenOf begins (length S.links) end (second + 1)
         (later n (queued_in links.now slot) (second + hole_of S n) T) places.new) }
 {
-    let link = link_at(links, slot);
+    let link = number_at(links, slot);
     let left = Left {
         second,
         link,
@@ -98,7 +92,7 @@ fn leave_place(
         → OnOk result (AreTakenOf (begins_here S own number) (length S.links) end (second + 1)
         (left_one S own number second links.now slot T) places.new) }
 {
-    if begins_here(run.day, run.owner, number, link_at(links, slot)) {
+    if begins_here(run.day, run.owner, number, number_at(links, slot)) {
         return leave_own(run.day, second, slot, links, places);
     }
     Ok(())
@@ -142,7 +136,7 @@ fn left_rows(
     ensures { let S = setup run.now.day.now in let own = owner_in run.now.owner.now.of_node in
         option_to_list result ≡ left_rows S own number links.now queues.now slot }
 {
-    let link = link_at(links, slot);
+    let link = number_at(links, slot);
     if begins_here(run.day, run.owner, number, link) {
         return None;
     }
@@ -181,7 +175,6 @@ fn all_left_rows(
 /// The table has how many vehicles are in the queue of the link in a slot.
 #[tactic(auto, using(std::proofs::lemmas::List::set_past))]
 fn put_queue(slot: u32, links: &[LinkState], queues: &mut [usize])
-    requires { slot < length links.now }
     ensures { queues.new ≡ set queues.old slot (queued_in links.now slot) }
 {
     let queued = queued_in(links, slot);
@@ -191,10 +184,9 @@ fn put_queue(slot: u32, links: &[LinkState], queues: &mut [usize])
     }
 }
 
-/// So with those in these slots.
+/// The table has how many vehicles are in the queues of the links in these slots.
 #[tactic(auto, unfolding(crate::specs::Settling::put_queues))]
-fn put_queues(slots: &[u32], links: &[LinkState], queues: &mut [usize])
-    requires { AreIn (length links.now) slots.now }
+pub fn put_queues(slots: &[u32], links: &[LinkState], queues: &mut [usize])
     ensures { queues.new ≡ put_queues links.now slots.now queues.old }
 {
     let mut rest = slots;
@@ -219,7 +211,7 @@ fn wake_end(
     ensures { OnOk result (node_wakes.new ≡ wake_end_at (setup day.now) second links.now slot node_wakes.old) }
 {
     if buffered_in(links, slot) > 0 {
-        let row = link_row(day, link_at(links, slot));
+        let row = link_row(day, number_at(links, slot));
         node_wakes.set(row.to, Some(second + 1))?;
     }
     Ok(())

@@ -17,12 +17,12 @@ use Rattle.part_seconds.specs.Contents.{parcel_of}
 use Rattle.part_seconds.specs.Hearing.{heard_all, CanHearAll}
 use Rattle.part_seconds.proofs.Coming.{come_next, come_none}
 use Rattle.part_seconds.specs.declared.area.Area.{Area}
-use Rattle.part_seconds.specs.Settling.{places_known}
-use Rattle.parted_day.specs.Absorbed.{recounted_all, places_heard, HasTakenIn, HasAbsorbed}
+use Rattle.part_seconds.specs.Settling.{places_known, put_queues}
+use Rattle.parted_day.specs.Absorbed.{places_heard, HasTakenIn, HasAbsorbed}
 
 pub none_come : (day : DayInput) (slots : List ℕ) (s : ℕ) (A : Area) → length A.persons.wakes ≡ length A.persons.world.persons
     → HasTakenIn day slots s nothing A A
-unfolding accepted_all wakes_after_all heard_all recounted_all
+unfolding accepted_all wakes_after_all heard_all put_queues
 none_come day slots s A wakes = record {
   persons = come_none day (λ i. person_in i s (Some (parcel_of (setup day) s nothing))) A.persons wakes (λ i lt. refl);
   departures = refl;
@@ -45,7 +45,7 @@ nothing_comes day slots s x A e wakes =
 pub nothing_more : (day : DayInput) (own : Owner) (p t : ℕ) (ns slots : List ℕ) (s : ℕ) (old now new : Area)
     → HasAbsorbed day own p t ns old now
     → HasTakenIn day slots s nothing now new → HasAbsorbed day own p t ns old new
-unfolding accepted_all wakes_after_all heard_all CanHearAll recounted_all
+unfolding accepted_all wakes_after_all heard_all CanHearAll put_queues
 nothing_more day own p t ns slots s old now new g e =
     let S = setup day in
     let end = day.town.now.settings.end_second in

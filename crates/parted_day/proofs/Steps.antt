@@ -32,6 +32,7 @@ use Rattle.part_seconds.proofs.Coming.{come_next, come_none, same_come}
 use Rattle.part_seconds.proofs.Lists.{flat_push}
 use Rattle.part_seconds.specs.declared.area.Area.{Area}
 use Rattle.part_seconds.specs.Settling.{places_known}
+use Rattle.part_seconds.proofs.Driven.{put_length, put_other, put_here}
 use Rattle.part_seconds.specs.Stands.{AreaStands}
 use Rattle.part_seconds.proofs.Vacated.{taken_alike}
 use Rattle.parted_day.specs.Absorbed.{IsRight, entered_slots, entering_with, with_rows, places_heard, HasTakenIn}
@@ -39,7 +40,7 @@ use Rattle.parted_day.specs.Absorbed.{HasAbsorbed}
 use Rattle.parted_day.proofs.Borders.{given_is, given_none}
 use Rattle.parted_day.proofs.Nothing.{nothing_more}
 use Rattle.parted_day.proofs.Freed.{few_heard, can_hear, places_next}
-use Rattle.parted_day.proofs.Queues.{all_length, all_other, all_here, none_to}
+use Rattle.parted_day.proofs.Queues.{none_to}
 use Rattle.parted_day.proofs.Vehicles.{come_by, accepted_is}
 
 -- LISTS
@@ -252,11 +253,9 @@ module _ (day : DayInput) (own : Owner) (p t : ℕ) (old : Area)
           let after = new.network.links.items in
           let is = ap (λ (qs : List ℕ). get_or qs k 0) e.queues in
           let n = many_queues in
-          let m = many_links in
-          let c = many_new in
           elim (cases_Bool (is_among k ks)) [
-            | inl a ↦ is ∙ all_here after ks k now.queues.items a (omega arith) (omega arith)
-            | inr a ↦ is ∙ all_other after ks k now.queues.items a ∙ g.queues k lt first ∙ sym (same_queue k lt a)
+            | inl a ↦ is ∙ put_here after ks now.queues.items k (omega arith) a
+            | inr a ↦ is ∙ put_other after ks now.queues.items k a ∙ g.queues k lt first ∙ sym (same_queue k lt a)
           ]
 
       one_more : HasAbsorbed day own p t (ns ++ q ∷ []) old new
@@ -274,7 +273,7 @@ module _ (day : DayInput) (own : Owner) (p t : ℕ) (old : Area)
         nodes = e.nodes ∙ g.nodes;
         slots =
             ap (λ (qs : List ℕ). length qs) e.queues
-            ∙ all_length new.network.links.items (entered_slots slots es) now.queues.items ∙ g.slots;
+            ∙ put_length new.network.links.items (entered_slots slots es) now.queues.items ∙ g.slots;
         queues = more_queues;
       }
 

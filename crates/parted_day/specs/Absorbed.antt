@@ -1,6 +1,5 @@
 -- What absorbing the parcels of neighbours before a second makes of a part, list by list.
-use Rattle.std.specs.Prelude.{◌≡◌, ℕ, ◌+◌, ◌-◌, ◌<◌, Bool, List, [], ◌∷◌, ◌++◌, length, map, set, get_or}
-use Rattle.std.specs.Prelude.{nat_lt, if◌then◌else◌, Some}
+use Rattle.std.specs.Prelude.{◌≡◌, ℕ, ◌+◌, ◌-◌, ◌<◌, Bool, List, [], ◌∷◌, ◌++◌, length, map, get_or, Some}
 use Rattle.traffic.specs.declared.world.Row.{Row}
 use Rattle.traffic.specs.Setup.{Setup, hole_of}
 use Rattle.parts.specs.Owners.{Owner}
@@ -22,7 +21,7 @@ use Rattle.part_seconds.specs.Contents.{parcel_of}
 use Rattle.part_seconds.specs.Arriving.{Come, entered}
 use Rattle.part_seconds.specs.Hearing.{heard_all, CanHearAll}
 use Rattle.part_seconds.specs.declared.area.Area.{Area}
-use Rattle.part_seconds.specs.Settling.{places_known}
+use Rattle.part_seconds.specs.Settling.{places_known, put_queues}
 
 -- a parcel is the one that partition q sends to p in second s
 abbrev pub IsRight : Setup → Owner → ℕ → ℕ → ℕ → Contents → Type 0
@@ -39,15 +38,6 @@ slot_of_entering slots e = get_or slots e.link 0
 
 abbrev pub entered_slots : List ℕ → List Entering → List ℕ
 entered_slots slots es = map (slot_of_entering slots) es
-
--- a table of queues once it has how many vehicles are in that of the link in this slot, where one is
-abbrev pub recounted : List LinkView → ℕ → List ℕ → List ℕ
-recounted links k queues = if nat_lt k (length links) then set queues k (queued_in links k) else queues
-
--- so with those in these slots
-unfoldable pub recounted_all : List LinkView → List ℕ → List ℕ → List ℕ
-recounted_all links [] queues = queues
-recounted_all links (k ∷ ks) queues = recounted_all links ks (recounted links k queues)
 
 -- the vehicles of a parcel of second s as they come to their links
 abbrev pub entering_with : DayInput → ℕ → Contents → List Entering
@@ -74,7 +64,7 @@ pub record HasTakenIn (day : DayInput) (link_slots : List ℕ) (s : ℕ) (x : Co
       new.network.places
   pub nodes : new.network.node_wakes ≡ old.network.node_wakes
   pub queues :
-      new.queues.items ≡ recounted_all new.network.links.items (entered_slots link_slots (entering_with day s x)) old.queues.items
+      new.queues.items ≡ put_queues new.network.links.items (entered_slots link_slots (entering_with day s x)) old.queues.items
 
 -- ALL PARCELS
 -- a link with these rows at the end of its queue

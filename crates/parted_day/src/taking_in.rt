@@ -6,13 +6,15 @@ ghost use Rattle.node_seconds.specs.Networks.{slot_in, accepted_all, wakes_after
 ghost use Rattle.part_seconds.specs.Hearing.{heard_all, CanHearAll};
 ghost use Rattle.part_places.specs.Taking.{Taking, AreTakenOf};
 ghost use Rattle.town.specs.Views.{setup};
-ghost use Rattle.parted_day.specs.Absorbed.{entered_slots, recounted, recounted_all, HasTakenIn};
+ghost use Rattle.parted_day.specs.Absorbed.{entered_slots, HasTakenIn};
 
 use calendar::Wakes;
 use node_move::Entering;
 use node_seconds::enter_links;
 use part_places::Places;
-use part_seconds::{Area, Contents, LeftList, Parcel, Run, arrive, hear_freed, slot_of};
+use part_seconds::{
+    Area, Contents, LeftList, Parcel, Run, arrive, hear_freed, put_queues, slot_of,
+};
 use queue_link::LinkState;
 use std::alloc::{AllocError, Global};
 use town::DayInput;
@@ -62,34 +64,6 @@ fn enter(
     Ok(())
 }
 
-/// The table has how many vehicles are in the queue of the link in a slot, if there is one.
-#[tactic(auto, using(node_move::proofs::Places::is_at, std::proofs::lemmas::List::set_past))]
-fn recount(slot: u32, links: &[LinkState], queues: &mut [usize])
-    ensures { queues.new ≡ recounted links.now slot queues.old }
-{
-    let place = slot as usize;
-    if place >= links.len() {
-        return;
-    }
-    let link = &links[place];
-    let queued = link.queued();
-    if place < queues.len() {
-        queues[place] = queued;
-    }
-}
-
-/// So with those in these slots.
-#[tactic(auto, unfolding(crate::specs::Absorbed::recounted_all))]
-fn recount_all(slots: &[u32], links: &[LinkState], queues: &mut [usize])
-    ensures { queues.new ≡ recounted_all links.now slots.now queues.old }
-{
-    let mut rest = slots;
-    while let [slot, later @ ..] = rest {
-        recount(*slot, links, queues);
-        rest = later;
-    }
-}
-
 /// In this second vehicles left the queues of these links, which begin here.
 fn hear(day: &DayInput, second: u32, freed: LeftList, places: &mut Places) -> Result<(), AllocError>
     ensures { (begins : ℕ → Bool) (u : ℕ) (T : Taking) → CanHearAll (setup day.now) begins u second freed T
@@ -125,7 +99,7 @@ fn take_in_contents(
         &mut network.links,
         &mut network.link_wakes,
     )?;
-    recount_all(&slots, &network.links, &mut area.queues);
+    put_queues(&slots, &network.links, &mut area.queues);
     hear(run.day, second, freed, &mut network.places)?;
     Ok(())
 }

@@ -6,8 +6,9 @@ use Rattle.node_seconds.specs.Networks.{slot_in, accepted_all, wakes_after_all}
 use Rattle.part_places.specs.Taking.{AreTakenOf}
 use Rattle.part_seconds.specs.declared.contents.LeftRows.{LeftRows}
 use Rattle.part_seconds.specs.Hearing.{heard_all, CanHearAll}
+use Rattle.part_seconds.specs.Settling.{put_queues}
 use Rattle.part_seconds.proofs.Driven.{back}
-use Rattle.parted_day.specs.Absorbed.{entered_slots, recounted_all, entering_with}
+use Rattle.parted_day.specs.Absorbed.{entered_slots, entering_with}
 use Rattle.parted_day.proofs.Rows.{same_freed}
 use Rattle.parted_day.proofs.taking_in.take_in_contents.Goals as goal
 
@@ -36,10 +37,10 @@ returns c =
           (c.in_ok-hear.ensures begins u T (subst (λ (fs : List LeftRows). CanHearAll S begins u s fs T) (sym freed_is) can) taken);
       nodes = refl;
       queues =
-          back A.queues.len c.recount_all.new.queues _ (let a = c.recount_all.auto.queues in let b = c.deref_mut.ensures.len in omega arith)
-          ∙ c.recount_all.ensures
-          ∙ ap (λ (vs : List LinkView). recounted_all vs c.deref-2.result.now c.deref_mut.result.now) c.deref-3.ensures.value
-          ∙ ap (λ (ks : List ℕ). recounted_all c.enter.new.links.items ks c.deref_mut.result.now) (c.deref-2.ensures.value
+          back A.queues.len c.put_queues.new.queues _ (let a = c.put_queues.auto.queues in let b = c.deref_mut.ensures.len in omega arith)
+          ∙ c.put_queues.ensures
+          ∙ ap (λ (vs : List LinkView). put_queues vs c.deref-2.result.now c.deref_mut.result.now) c.deref-3.ensures.value
+          ∙ ap (λ (ks : List ℕ). put_queues c.enter.new.links.items ks c.deref_mut.result.now) (c.deref-2.ensures.value
           ∙ c.in_ok-slots.ensures ∙ ap (entered_slots run.link_slots.now) (c.deref.ensures.value ∙ es_are))
-          ∙ ap (recounted_all c.enter.new.links.items (entered_slots run.link_slots.now (entering_with day s x))) c.deref_mut.ensures.value;
+          ∙ ap (put_queues c.enter.new.links.items (entered_slots run.link_slots.now (entering_with day s x))) c.deref_mut.ensures.value;
     }

@@ -13,9 +13,10 @@ ghost use Rattle.step_core.specs.Views.{AreEmpty, HasHeard};
 ghost use Rattle.town.specs.Views.{setup};
 ghost use Rattle.parted_day.specs.Absorbed.{IsRight};
 
+use crate::neighbours::neighbours_of;
 use crate::taking_in::take_in;
 use law_parcels::{own_worlds_go_on, parcels_make_ready};
-use part_seconds::{Area, Mailbox, Run, borders_at};
+use part_seconds::{Area, Mailbox, Run};
 use std::alloc::AllocError;
 
 /// A part takes in the parcels of its neighbours before a second, in their order: of each the one that was sent as many seconds before as
@@ -51,7 +52,7 @@ pub fn absorb(
     if !inbox.has_some() {
         return Ok(());
     }
-    let borders = borders_at(run.borders, number);
+    let borders = neighbours_of(run, number);
     for place in 0..borders.len() {
         let sent = second.saturating_sub(borders[place].lag);
         let parcel = inbox.take(place);

@@ -15,6 +15,7 @@ ghost use Rattle.parted_day.specs.Strays.{stray_riders, moved_strays, flying_str
 ghost use Rattle.parted_day.specs.Strays.{comes_too_late, lag_among, AreStrays};
 ghost use Rattle.parted_day.specs.Tables.{with_states, with_links};
 
+use crate::neighbours::neighbours_of;
 use events::VehicleId;
 use limits::MAX_LAG;
 use part_seconds::{Contents, Flying, Moved, Parcel, Run, borders_at, link_of};
@@ -240,7 +241,7 @@ pub fn keep_strays(
     if left > MAX_LAG {
         return Ok(());
     }
-    let borders = borders_at(run.borders, number);
+    let borders = neighbours_of(run, number);
     keep_parcels(run, number, second, borders, parcels, strays)?;
     Ok(())
 }

@@ -43,7 +43,7 @@ loop-place-init c =
 pub take-parcel-requires : goal.take-parcel-requires
 take-parcel-requires c =
     let run = c.args.run.now in
-    let is = c.borders_at-borders.ensures ∙ run.near c.args.number c.requires.there in
+    let is = c.neighbours_of-borders.ensures in
     let n = ap (λ (bs : List Border). length bs) is in
     let m = c.loop-place.invariant.many in
     let places = c.requires.places in
@@ -76,7 +76,7 @@ loop-place-preserved c =
     let k = c.loop-place.place in
     let rows = borders_of S own run.owner.now.parts p in
     let was = c.loop-place.invariant in
-    let is : c.borders_at-borders.result.now ≡ rows = c.borders_at-borders.ensures ∙ run.near p c.requires.there in
+    let is : c.neighbours_of-borders.result.now ≡ rows = c.neighbours_of-borders.ensures in
     let n = ap (λ (bs : List Border). length bs) is in
     let lt : k < length rows = omega arith in
     let m = was.many in
@@ -101,7 +101,7 @@ loop-place-preserved c =
 pub all_taken-requires : goal.all_taken-requires
 all_taken-requires c =
     let run = c.args.run.now in
-    let is = c.borders_at-borders.ensures ∙ run.near c.args.number c.requires.there in
+    let is = c.neighbours_of-borders.ensures in
     let n = ap (λ (bs : List Border). length bs) is in
     let m = c.loop-place.invariant.many in
     let places = c.requires.places in
@@ -111,7 +111,7 @@ pub returns-clause-stands : goal.returns-clause-stands
 returns-clause-stands c =
     let run = c.args.run.now in
     let p = c.args.number in
-    let is = c.borders_at-borders.ensures ∙ run.near p c.requires.there in
+    let is = c.neighbours_of-borders.ensures in
     let n = ap (λ (bs : List Border). length bs) is in
     finished run.day.now run.owner.now run.given p c.args.second run.link_slots.now run.slots c.parcels_make_ready.ensures.ready
     c.parcels_make_ready.ensures.between c.args.area.now c.requires.stands c.own_worlds_go_on.ensures.takes_in c.loop-place.place
@@ -120,7 +120,7 @@ returns-clause-stands c =
 pub returns-clause-empty : goal.returns-clause-empty
 returns-clause-empty c =
     let run = c.args.run.now in
-    let is = c.borders_at-borders.ensures ∙ run.near c.args.number c.requires.there in
+    let is = c.neighbours_of-borders.ensures in
     let n = ap (λ (bs : List Border). length bs) is in
     let m = c.loop-place.invariant.many in
     let places = c.requires.places in

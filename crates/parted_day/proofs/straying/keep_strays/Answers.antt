@@ -20,16 +20,16 @@ returns-then-left-gt-MAX_LAG c =
 
 pub keep_parcels-requires-clause-count : goal.keep_parcels-requires-clause-count
 keep_parcels-requires-clause-count c =
-    let is = c.borders_at-borders.ensures ∙ c.args.run.now.near c.args.number c.requires.there in
+    let is = c.neighbours_of-borders.ensures in
     c.requires.count ∙ sym (ap (λ (bs : List Border). length bs) is)
 
 pub keep_parcels-requires-clause-borders : goal.keep_parcels-requires-clause-borders
-keep_parcels-requires-clause-borders c = c.borders_at-borders.ensures ∙ c.args.run.now.near c.args.number c.requires.there
+keep_parcels-requires-clause-borders c = c.neighbours_of-borders.ensures
 
 pub keep_parcels-requires-clause-right : goal.keep_parcels-requires-clause-right
 keep_parcels-requires-clause-right c =
     let run = c.args.run.now in
-    let is = c.borders_at-borders.ensures ∙ run.near c.args.number c.requires.there in
+    let is = c.neighbours_of-borders.ensures in
     same_right (setup run.day.now) (owner_in run.owner.now.of_node) c.args.number c.args.second _ _ c.args.parcels.now is c.requires.right
 
 pub returns : goal.returns
@@ -37,6 +37,6 @@ returns c =
     let run = c.args.run.now in
     let S = setup run.day.now in
     let own = owner_in run.owner.now.of_node in
-    one_more S own run.owner.now.parts c.args.number c.args.second c.borders_at-borders.result.now c.args.strays.now.items
-    c.keep_parcels.new.strays.items (c.borders_at-borders.ensures ∙ run.near c.args.number c.requires.there) c.requires.before
+    one_more S own run.owner.now.parts c.args.number c.args.second c.neighbours_of-borders.result.now c.args.strays.now.items
+    c.keep_parcels.new.strays.items c.neighbours_of-borders.ensures c.requires.before
     c.in_ok-keep_parcels.ensures

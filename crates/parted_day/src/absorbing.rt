@@ -26,7 +26,7 @@ use std::alloc::AllocError;
 /// # Errors
 ///
 /// `AllocError`: there is no memory for a row, a vehicle or a person. The part is then of no use.
-pub fn absorb(
+pub(crate) fn absorb(
     area: &mut Area,
     run: &Run,
     number: u32,

@@ -135,7 +135,7 @@ fn tell_ends(
 /// # Errors
 ///
 /// `AllocError`: there is no memory for them.
-pub fn end_events(
+pub(crate) fn end_events(
     run: &Run,
     number: u32,
     area: Area,

@@ -25,7 +25,7 @@ use traffic::{Person, Place, Rider, Vehicle};
 
 /// Somebody in a parcel that its receiver would absorb only when its day is over.
 #[derive(Clone, Copy, Debug, PartialEq, Eq)]
-pub struct Stray {
+pub(crate) struct Stray {
     /// The number of the person.
     pub person: u32,
     /// The number of the link on which the person rides; 0: the person flies.
@@ -218,7 +218,7 @@ fn keep_parcels(
 /// # Errors
 ///
 /// `AllocError`: there is no memory for them. The list is then of no use.
-pub fn keep_strays(
+pub(crate) fn keep_strays(
     run: &Run,
     number: u32,
     second: u32,

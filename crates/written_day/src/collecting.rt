@@ -20,7 +20,7 @@ use step_core::{BorderList, Part};
 
 /// A partition of the day of a town that keeps what it told in a span.
 #[derive(Drop)]
-pub struct Collecting<'a> {
+pub(crate) struct Collecting<'a> {
     pub(crate) part: TownPart<'a>,
     /// How many seconds of its span it has done; all of them until it does the first one of the next span.
     pub(crate) seconds: u32,

@@ -14,7 +14,9 @@ use std::alloc::AllocError;
 /// A link whose queue vehicles left in a second.
 #[derive(Clone, Copy, Debug, PartialEq, Eq)]
 pub struct Left {
+    /// The second in which they left.
     pub second: u32,
+    /// The number of the link.
     pub link: u32,
     /// How many vehicles are in the queue now.
     pub queued: usize,
@@ -25,7 +27,9 @@ pub struct Left {
 /// Vehicles that left the queue of a link in a second.
 #[derive(Clone, Copy, Debug, PartialEq, Eq)]
 pub struct Gone {
+    /// The second in which they left.
     pub second: u32,
+    /// The number of the link.
     pub link: u32,
     /// How many left.
     pub vehicles: u64,

@@ -10,11 +10,13 @@ use riders::Waiting;
 /// one is never woken. Only links that begin at its nodes have places.
 #[derive(Drop)]
 pub struct Area {
+    /// The persons of the partition, and when each of them is woken.
     pub persons: Persons,
     /// The departures of each second that begin on its links, by number.
     pub departures: Calendar,
     /// Those who wait, by stop.
     pub lines: Vec<Waiting>,
+    /// Its links, their places, and when links and nodes are woken.
     pub network: Network,
     /// How many vehicles are in the queue of each link that begins elsewhere, by slot, as of its last turn and of what was absorbed since.
     pub queues: Vec<usize>,

@@ -12,35 +12,47 @@ use traffic::Vehicle;
 /// A vehicle that crosses a border, with the elements of its riders. Its row follows from the vehicle and the second.
 #[derive(Drop)]
 pub struct Moved {
+    /// The vehicle, its place in the route being that of the link which it enters.
     pub vehicle: Vehicle,
+    /// At which elements of their plans its riders are, in their order.
     pub elements: Rows<u32>,
 }
 
+/// The vehicles that cross a border in a second, in order.
 pub type MovedList = Rows<Moved>;
 
 /// A person who flies over a border since the second of the parcel.
 #[derive(Clone, Copy, Debug, PartialEq, Eq)]
 pub struct Flying {
+    /// The number of the person.
     pub person: u32,
+    /// At which element of the plan the person is.
     pub element: u32,
 }
 
+/// The persons who fly over a border since a second, by number.
 pub type FlyingList = Rows<Flying>;
 
 /// How many vehicles left the queue of a link.
 #[derive(Clone, Copy, Debug, PartialEq, Eq)]
 pub struct LeftRows {
+    /// The number of the link.
     pub link: u32,
+    /// How many vehicles left its queue: one place each.
     pub rows: usize,
 }
 
+/// Links whose queues vehicles left in a second, by number.
 pub type LeftList = Rows<LeftRows>;
 
 /// What goes over a border in one second.
 #[derive(Drop)]
 pub struct Contents {
+    /// The vehicles that enter links of the neighbour.
     pub vehicles: MovedList,
+    /// The persons whose teleported leg goes to a link of the neighbour.
     pub flights: FlyingList,
+    /// The links that begin at nodes of the neighbour, of which places were left.
     pub freed: LeftList,
 }
 

@@ -19,8 +19,11 @@ use town::DayInput;
 /// A day of a town whose network is divided among partitions, and what all parts of it share.
 #[derive(Drop)]
 pub struct Run<'a> {
+    /// From where the parts of the run take memory.
     pub alloc: Global,
+    /// The town and the chosen plans of the day.
     pub day: &'a DayInput<'a>,
+    /// To which partition each node belongs.
     pub owner: &'a Owner,
     /// Of each node the slots of the links into it, ascending by link, in the part that has the node.
     pub in_links: &'a InLinks,

@@ -28,7 +28,9 @@ use traffic::{Person, Place, Rider, Vehicle};
 /// Which partition sends in a day, and to whom.
 #[derive(Clone, Copy)]
 pub struct Exits<'a> {
+    /// The town and the chosen plans of the day.
     pub day: &'a DayInput<'a>,
+    /// To which partition each node belongs.
     pub owner: &'a Owner,
     /// The partition that sends.
     pub part: u32,

@@ -14,7 +14,9 @@ use town::DayInput;
 /// How the town of a day is divided, and of each node the slots of the links into it.
 #[derive(Drop)]
 pub struct Shared {
+    /// How the network is divided.
     pub division: Division,
+    /// Of each node the slots of the links into it, ascending by link, in the part that has the node.
     pub in_links: InLinks,
 }
 

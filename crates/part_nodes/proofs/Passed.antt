@@ -30,7 +30,7 @@ use Rattle.node_seconds.specs.Networks.{lane, is_among, slot_in, accepted_all, w
 use Rattle.node_seconds.specs.Turns.{moves_in, IsNodeSecond}
 use Rattle.calendar.specs.Due.{AreIn}
 use Rattle.part_links.specs.Links.{LinksStandAt, AreAsleep}
-use Rattle.part_nodes.specs.declared.network.Network.{Network}
+use Rattle.part_nodes.specs.declared.network.NetworkState.{NetworkState}
 use Rattle.node_move.specs.declared.turns.NodeTurn.{NodeTurn}
 use Rattle.part_nodes.specs.declared.node_turns.Buffered.{Buffered}
 use Rattle.part_nodes.specs.InLinks.{slots_of}
@@ -244,7 +244,7 @@ passed_on z S E end t n V slots old slept free turn ks greens bs mid woken es li
     }
 
 -- WHEN THE NODE IS WOKEN AGAIN
-pub turned : (z : Counts) (S : Setup) (E : Extent) (end t n : ℕ) (V : World) (slots : List ℕ) (old new : Network) (ks : List ℕ)
+pub turned : (z : Counts) (S : Setup) (E : Extent) (end t n : ℕ) (V : World) (slots : List ℕ) (old new : NetworkState) (ks : List ℕ)
     (seen links : List LinkView) (K : Stuck) (always : ℕ → Bool) (events out : List Event) (said heard now : List Occurrence)
     (first_out gone : List Entering)
     → HasLinks S E slots → E.mine n ≡ true

@@ -22,7 +22,7 @@ use Rattle.node_seconds.specs.Networks.{is_among, AreOnce}
 use Rattle.calendar.specs.Due.{AreIn}
 use Rattle.part_links.proofs.Numbers.{among_other, among_passed, once_passed}
 use Rattle.part_persons.proofs.Skipping.{Idle, distinct_filter, skip_world, skip_events}
-use Rattle.part_nodes.specs.declared.network.Network.{Network}
+use Rattle.part_nodes.specs.declared.network.NetworkState.{NetworkState}
 use Rattle.part_nodes.proofs.Seen.{into_there, among_into}
 use Rattle.law_sleeping.proofs.Passing.{node_rest}
 use Rattle.node_move.specs.declared.crossings.Entering.{Entering}
@@ -89,7 +89,7 @@ nodes_take S t m (n ∷ ns) V =
     omega arith
 
 -- nobody has had a turn
-pub turned_none : (z : Counts) (S : Setup) (E : Extent) (end t : ℕ) (V : World) (N : Network) (events : List Event) (said : List Occurrence)
+pub turned_none : (z : Counts) (S : Setup) (E : Extent) (end t : ℕ) (V : World) (N : NetworkState) (events : List Event) (said : List Occurrence)
     (out : List Entering) → StandsForAt z S E end t N V → AreTurned z S E end t V [] N N events events said said out out
 unfolding turns
 turned_none z S E end t V N events said out h = record {
@@ -103,7 +103,7 @@ turned_none z S E end t V N events said out h = record {
   gone = sym (append-nil out);
 }
 
-pub turned_last : (z : Counts) (S : Setup) (E : Extent) (end t n : ℕ) (V : World) (ns : List ℕ) (old now next : Network) (events out more : List Event)
+pub turned_last : (z : Counts) (S : Setup) (E : Extent) (end t n : ℕ) (V : World) (ns : List ℕ) (old now next : NetworkState) (events out more : List Event)
     (said heard last : List Occurrence) (first_out went gone : List Entering) → is_among n ns ≡ false
     → AreTurned z S E end t V ns old now events out said heard first_out went
     → IsTurn z S E end t n (after S t (turns S t (turns_of S t phase.C) ns V) V) now next out more heard last went gone
@@ -276,10 +276,10 @@ none_pass [] = refl
 none_pass (n ∷ ns) = none_pass ns
 
 -- a network whose nodes are woken at other times stands for the same world
-pub stands_with : (z : Counts) (S : Setup) (E : Extent) (end t : ℕ) (V : World) (N M : Network) (wakes : List (Option ℕ))
+pub stands_with : (z : Counts) (S : Setup) (E : Extent) (end t : ℕ) (V : World) (N M : NetworkState) (wakes : List (Option ℕ))
     → M ≡ record N { node_wakes = wakes } → wakes ≡ map (slept t) N.node_wakes → StandsForAt z S E end t N V → StandsForAt z S E end t M V
 stands_with z S E end t V N M wakes e sl h =
-    subst (λ (X : Network). StandsForAt z S E end t X V) (sym e)
+    subst (λ (X : NetworkState). StandsForAt z S E end t X V) (sym e)
     (record {
       links = h.links;
       nodes = ap length sl ∙ length-map N.node_wakes (slept t) ∙ h.nodes;
@@ -287,7 +287,7 @@ stands_with z S E end t V N M wakes e sl h =
     })
 
 -- THE PHASE
-pub all_turned : (z : Counts) (S : Setup) (E : Extent) (end t : ℕ) (V : World) (ns : List ℕ) (old mid new : Network) (events out : List Event)
+pub all_turned : (z : Counts) (S : Setup) (E : Extent) (end t : ℕ) (V : World) (ns : List ℕ) (old mid new : NetworkState) (events out : List Event)
     (said heard : List Occurrence) (first_out gone : List Entering)
     → t < end → StandsForAt z S E end t old V → AreAwaitedAt E.mine S end (t + 1) t old.node_wakes V → ns ≡ woken t old.node_wakes
     → mid.node_wakes ≡ map (slept t) old.node_wakes → mid.places.holes.items ≡ old.places.holes.items → mid.places.freed ≡ old.places.freed

@@ -26,7 +26,7 @@ use Rattle.node_move.specs.Spaces.{places_in}
 use Rattle.node_seconds.specs.Networks.{is_among}
 use Rattle.part_links.specs.Links.{AreNumbered, LinksStandAt, AreAsleep}
 use Rattle.part_places.specs.Taking.{still}
-use Rattle.part_nodes.specs.declared.network.Network.{Network}
+use Rattle.part_nodes.specs.declared.network.NetworkState.{NetworkState}
 
 -- WHAT A PART HAS
 -- which nodes a part of a network has, and which links: in so many slots those of these numbers
@@ -81,13 +81,13 @@ pub record LinksStandForSome (z : Counts) (S : Setup) (end t n : ℕ) (slots : L
   pub links_stand : LinksStandFor z S extent end t links wakes space world
 
 -- So does the network of a part. It has a wake for each node, whoever has that, and wakes none that is not its own.
-pub record StandsForAt (z : Counts) (S : Setup) (E : Extent) (end t : ℕ) (N : Network) (V : World) : Type 0 where
+pub record StandsForAt (z : Counts) (S : Setup) (E : Extent) (end t : ℕ) (N : NetworkState) (V : World) : Type 0 where
   pub links : LinksStandFor z S E end t N.links.items N.link_wakes N.places.space V
   pub nodes : length N.node_wakes ≡ S.nodes
   pub only : (n : ℕ) → E.mine n ≡ false → wake_of N.node_wakes n ≡ None
 
 -- a network stands for some world, as that of some part which has these nodes
-pub record Stands (z : Counts) (S : Setup) (end t : ℕ) (slots ns : List ℕ) (N : Network) : Type 0 where
+pub record Stands (z : Counts) (S : Setup) (end t : ℕ) (slots ns : List ℕ) (N : NetworkState) : Type 0 where
   pub extent : Extent
   pub world : World
   pub has : HasLinks S extent slots
@@ -142,7 +142,7 @@ pub record IsPassed (z : Counts) (S : Setup) (E : Extent) (end t n : ℕ) (V : W
 
 -- What the turn of node n makes of a network that stands for world V in second t, of when nodes are woken, of what was told and of who went
 -- out: where the node is not woken in the next second, the fronts of all links into it wait for places.
-pub record IsTurn (z : Counts) (S : Setup) (E : Extent) (end t n : ℕ) (V : World) (old new : Network) (first_events now_events : List Event)
+pub record IsTurn (z : Counts) (S : Setup) (E : Extent) (end t n : ℕ) (V : World) (old new : NetworkState) (first_events now_events : List Event)
     (first_said now_said : List Occurrence) (first_out out : List Entering) : Type 0 where
   pub stands : StandsForAt z S E end t new (run S t (node_turns S t n V) V)
   pub holes : new.places.holes.items ≡ old.places.holes.items
@@ -157,7 +157,7 @@ pub record IsTurn (z : Counts) (S : Setup) (E : Extent) (end t n : ℕ) (V : Wor
   pub gone : out ≡ first_out ++ going_out S E.mine (node_turns S t n V)
 
 -- the same of the turns of these nodes, one after the other
-pub record AreTurned (z : Counts) (S : Setup) (E : Extent) (end t : ℕ) (V : World) (ns : List ℕ) (old new : Network)
+pub record AreTurned (z : Counts) (S : Setup) (E : Extent) (end t : ℕ) (V : World) (ns : List ℕ) (old new : NetworkState)
     (first_events now_events : List Event) (first_said now_said : List Occurrence) (first_out out : List Entering) : Type 0 where
   pub stands : StandsForAt z S E end t new (after S t (turns S t (turns_of S t phase.C) ns V) V)
   pub holes : new.places.holes.items ≡ old.places.holes.items
@@ -173,7 +173,7 @@ pub record AreTurned (z : Counts) (S : Setup) (E : Extent) (end t : ℕ) (V : Wo
   pub gone : out ≡ first_out ++ going_out S E.mine (moves_of (turns S t (turns_of S t phase.C) ns V))
 
 -- What these turns of the nodes of a part make of its network, which stands for world V in second t.
-pub record IsPhaseBy (z : Counts) (S : Setup) (E : Extent) (us : List Turn) (end t : ℕ) (V : World) (old new : Network)
+pub record IsPhaseBy (z : Counts) (S : Setup) (E : Extent) (us : List Turn) (end t : ℕ) (V : World) (old new : NetworkState)
     (first_events now_events : List Event) (first_said now_said : List Occurrence) (first_out out : List Entering) : Type 0 where
   pub stands : StandsForAt z S E end t new (after S t us V)
   pub holes : new.places.holes.items ≡ old.places.holes.items
@@ -188,7 +188,7 @@ abbrev pub turns_at : (ℕ → Bool) → Setup → ℕ → World → List Turn
 turns_at mine S t V = turns S t (node_turns S t) (filter mine (below S.nodes)) V
 
 -- what the turns of all nodes of a part make of it
-abbrev pub IsPhaseAt : Counts → Setup → Extent → ℕ → ℕ → World → Network → Network → List Event → List Event → List Occurrence → List Occurrence
+abbrev pub IsPhaseAt : Counts → Setup → Extent → ℕ → ℕ → World → NetworkState → NetworkState → List Event → List Event → List Occurrence → List Occurrence
     → List Entering → List Entering → Type 0
 IsPhaseAt z S E end t V old new first_events now_events first_said now_said first_out out =
     IsPhaseBy z S E (turns_at E.mine S t V) end t V old new first_events now_events first_said now_said first_out out

@@ -10,6 +10,6 @@ mod phases;
 mod resting;
 
 pub use in_link_rows::InLinks;
-pub use network::Network;
+pub use network::NetworkState;
 pub use node_turns::NodePhase;
 pub use phases::move_nodes;

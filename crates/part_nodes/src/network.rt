@@ -4,7 +4,7 @@ use queue_link::LinkState;
 
 /// The links of a network in their slots, all or those of a part, the places on links, and when links and nodes are woken.
 #[derive(Drop)]
-pub struct Network {
+pub struct NetworkState {
     /// The links, by slot.
     pub links: Vec<LinkState>,
     /// How many places of each link are taken, by number, and when those that were left come free.

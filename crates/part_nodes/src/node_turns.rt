@@ -13,7 +13,7 @@ ghost use Rattle.part_nodes.specs.Turns.{IsTurnOf, lights_of, buffered_in, is_cl
 ghost use Rattle.part_nodes.specs.Turns.{AreThere, is_buffered, only_of, HaveNumbersIn};
 ghost use Rattle.part_nodes.specs.Phase.{Extent, HasLinks, LinksStandFor, LinksStandForSome, StandsForAt, Stands, IsPassed, IsTurn};
 
-use crate::network::Network;
+use crate::network::NetworkState;
 use crate::resting::wake_again;
 use calendar::Wakes;
 use draws::Draws;
@@ -339,7 +339,7 @@ pub(crate) fn turn_node(
     phase: &NodePhase,
     node: u32,
     slots: &[u32],
-    network: &mut Network,
+    network: &mut NetworkState,
     told: &mut Told,
     out: &mut Vec<Entering>,
 ) -> Result<(), AllocError>

@@ -12,7 +12,7 @@ ghost use Rattle.part_nodes.specs.InLinks.{slots_of};
 ghost use Rattle.part_nodes.specs.Phase.{Extent, HasLinks, AreMine, StandsForAt, Stands, AreAwaitedAt, AreTurned, IsPhaseAt};
 
 use crate::in_link_rows::InLinks;
-use crate::network::Network;
+use crate::network::NetworkState;
 use crate::node_turns::{NodePhase, turn_node};
 use node_move::Entering;
 use part_links::Told;
@@ -23,7 +23,7 @@ fn turn_nodes(
     phase: &NodePhase,
     in_links: &InLinks,
     numbers: &[u32],
-    network: &mut Network,
+    network: &mut NetworkState,
     told: &mut Told,
     out: &mut Vec<Entering>,
 ) -> Result<(), AllocError>
@@ -62,7 +62,7 @@ fn turn_nodes(
 pub fn move_nodes(
     phase: &NodePhase,
     in_links: &InLinks,
-    network: &mut Network,
+    network: &mut NetworkState,
     told: &mut Told,
     out: &mut Vec<Entering>,
 ) -> Result<(), AllocError>

@@ -20,7 +20,7 @@ use Rattle.law_parts_of_days.proofs.Hearing.{heard_stand}
 use Rattle.link_seconds.specs.Seconds.{HaveLines, AreShort}
 use Rattle.node_move.specs.declared.crossings.Entering.{Entering}
 use Rattle.part_links.specs.Links.{LinesStandAt}
-use Rattle.part_nodes.specs.declared.network.Network.{Network}
+use Rattle.part_nodes.specs.declared.network.NetworkState.{NetworkState}
 use Rattle.part_nodes.specs.Phase.{StandsForAt, AreAwaitedAt, IsPhaseAt}
 use Rattle.part_nodes.proofs.Held.{before_is}
 use Rattle.part_persons.specs.Dues.{AreFollowedIn}
@@ -90,7 +90,7 @@ module _ (day : DayInput) (own : Owner) (parts p t : ℕ) (slots : List ℕ) (gi
   module _ (P : Places) (ms : List ℕ) (wakes : List (Option ℕ))
       (taken : AreTakenOf (begins_here S own p) (length S.links) end (t + 1) (places_known S E) P)
       (starts : wakes ≡ wake_own_starts S own p t ms A.network.node_wakes) where
-    abbrev N : Network
+    abbrev N : NetworkState
     N = record A.network { places = P; node_wakes = wakes }
 
     pub stands_for : StandsForAt z S (extent_of S own p) end t N V3
@@ -123,7 +123,7 @@ module _ (day : DayInput) (own : Owner) (parts p t : ℕ) (slots : List ℕ) (gi
         omega arith)) h.network.awaited)
 
     -- the network behind their turns
-    network : (M : Network) (first out : List Event) (spoken said : List Occurrence) (first_out gone : List Entering)
+    network : (M : NetworkState) (first out : List Event) (spoken said : List Occurrence) (first_out gone : List Entering)
         → IsPhaseAt z S (extent_of S own p) end t V3 N M first out spoken said first_out gone → NetworkStands day own p (t + 1) t M G V4
     unfolding place
     network M first out spoken said first_out gone g = record {

@@ -36,7 +36,7 @@ use Rattle.part_lines.specs.Coming.{came, came_to, with_one, CanAllJoin, joined_
 use Rattle.part_lines.proofs.Ready.{IsOneOf, HasStop, HaveStops, LinesHave, can_all_join_at, lines_have_at}
 use Rattle.part_lines.proofs.Standing.{at_this, as_list, came_of, joined_at, after_early}
 use Rattle.part_links.specs.Links.{LinksStandAt, LinesStandAt, AreAsleep}
-use Rattle.part_nodes.specs.declared.network.Network.{Network}
+use Rattle.part_nodes.specs.declared.network.NetworkState.{NetworkState}
 use Rattle.part_nodes.specs.Phase.{AreAwaitedAt, GoOnThere}
 use Rattle.part_persons.specs.declared.persons.Persons.{Persons}
 use Rattle.part_persons.specs.Dues.{AreFollowed, AreFollowedIn}
@@ -329,7 +329,7 @@ module _ (day : DayInput) (own : Owner) (parts p t : ℕ) (slots : List ℕ) (gi
   goes : GoOnThere (λ n. eqb (own n) p) S V
   goes = λ l lt e. subst (λ (xs : List Row). Each (GoesOn S l) xs) (same_buffers l) (knowing.goes_early day own parts p t given shares l lt e)
 
-  network : (M : Network) → M.links.items ≡ all_started rs A.network.links.items
+  network : (M : NetworkState) → M.links.items ≡ all_started rs A.network.links.items
       → M.link_wakes ≡ woken_for_all t rs A.network.link_wakes → M.places ≡ A.network.places → M.node_wakes ≡ A.network.node_wakes
       → NetworkStands day own p t t M E V3
   network M links wakes places nodes =

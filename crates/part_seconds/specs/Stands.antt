@@ -11,7 +11,7 @@ use Rattle.parts.specs.Owners.{Owner}
 use Rattle.parts.specs.Parts.{Held}
 use Rattle.link_seconds.specs.Seconds.{AreShort}
 use Rattle.part_links.specs.Links.{LinksStandAt, LinesStandAt, AreAsleep}
-use Rattle.part_nodes.specs.declared.network.Network.{Network}
+use Rattle.part_nodes.specs.declared.network.NetworkState.{NetworkState}
 use Rattle.part_nodes.specs.Phase.{AreAwaitedAt}
 use Rattle.part_persons.specs.Own.{own_departs_in}
 use Rattle.part_places.specs.Taking.{AreTakenOf, begins_here}
@@ -29,7 +29,7 @@ AreOwnDepartures S own p end u departures =
 -- the links that begin in p are taken as p knows by what it holds, where those that were left and come free in second n or later are taken
 -- still; and of each link into an own node that is not woken in second n nobody is in the buffer, or the front waits for one of these
 -- places. No other node is ever woken.
-pub record NetworkStands (day : DayInput) (own : Owner) (p n l : ℕ) (N : Network) (H : Held) (V : World) : Type 0 where
+pub record NetworkStands (day : DayInput) (own : Owner) (p n l : ℕ) (N : NetworkState) (H : Held) (V : World) : Type 0 where
   pub links : LinksStandAt (link_in (setup day) own p) (slot_count (setup day) own p) (setup day) l N.links.items V
   pub asleep : AreAsleep (setup day).settings.dwell day.town.now.settings.end_second l N.links.items N.link_wakes
   pub places :

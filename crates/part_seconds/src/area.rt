@@ -1,7 +1,7 @@
 //! What a part has of the network, and who is there.
 
 use calendar::Calendar;
-use part_nodes::Network;
+use part_nodes::NetworkState;
 use part_persons::Persons;
 use riders::Waiting;
 
@@ -17,7 +17,7 @@ pub struct Area {
     /// Those who wait, by stop.
     pub lines: Vec<Waiting>,
     /// Its links, their places, and when links and nodes are woken.
-    pub network: Network,
+    pub network: NetworkState,
     /// How many vehicles are in the queue of each link that begins elsewhere, by slot, as of its last turn and of what was absorbed since.
     pub queues: Vec<usize>,
 }

@@ -11,7 +11,7 @@ use calendar::{Calendar, Wakes};
 use divided_day::{Division, divide};
 use edge_files::InFile;
 use node_move::Space;
-use part_nodes::{InLinks, Network};
+use part_nodes::{InLinks, NetworkState};
 use part_persons::Persons;
 use part_seconds::{Area, Run};
 use parted_day::begin;
@@ -235,7 +235,7 @@ fn are_empty(lines: &[Waiting]) -> bool {
 }
 
 /// Whether the network of a part begins so.
-fn network_begins(network: &Network, start: &Start) -> bool {
+fn network_begins(network: &NetworkState, start: &Start) -> bool {
     are_links(&network.links, start.links)
         && have_places(&network.places.space, &start.places)
         && is_asleep(&network.link_wakes)

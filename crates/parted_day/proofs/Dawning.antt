@@ -38,7 +38,7 @@ use Rattle.node_seconds.specs.Networks.{lane}
 use Rattle.link_seconds.specs.Seconds.{HaveLines, line_at, lists_at}
 use Rattle.law_waking.specs.Resting.{Rests, sleeps_to}
 use Rattle.part_links.specs.Links.{LinksStandAt, AreAsleep, lies_on}
-use Rattle.part_nodes.specs.declared.network.Network.{Network}
+use Rattle.part_nodes.specs.declared.network.NetworkState.{NetworkState}
 use Rattle.part_nodes.proofs.Held.{none_waits}
 use Rattle.part_persons.specs.Dues.{AreFollowedIn}
 use Rattle.part_persons.specs.Own.{own_person, own_persons}
@@ -227,7 +227,7 @@ module _ (day : DayInput) (own : Owner) (p : ℕ) (given : HaveFittingPlans day)
           soon = λ k u lt w. (let z : None ≡ Some u = sym (none k) ∙ w in absurd (cc));
         }
 
-  pub network_begins : (nodes links : ℕ) (N : Network) → N.links.items ≡ empty_links S own p
+  pub network_begins : (nodes links : ℕ) (N : NetworkState) → N.links.items ≡ empty_links S own p
       → AreTakenOf (begins_here S own p) (length S.links) day.town.now.settings.end_second 0 (empty S) N.places
       → links ≡ length N.links.items → N.link_wakes ≡ replicate links None → nodes ≡ length day.town.now.network.nodes
       → N.node_wakes ≡ replicate nodes None → NetworkStands day own p 0 0 N H V

@@ -10,7 +10,7 @@ ghost use Rattle.part_seconds.specs.Stands.{AreaStands, NetworkStands};
 use crate::links::empty_links;
 use calendar::Wakes;
 use divided_day::numbers_at;
-use part_nodes::Network;
+use part_nodes::NetworkState;
 use part_persons::{Persons, departures_by_second};
 use part_places::Places;
 use part_seconds::{Area, Run};
@@ -38,7 +38,7 @@ fn empty_queues(alloc: Global, count: usize) -> Result<Vec<usize>, AllocError>
 }
 
 /// The network of a part, on which nobody is: no link and no node is woken.
-fn empty_network(run: &Run, number: u32) -> Result<Network, AllocError>
+fn empty_network(run: &Run, number: u32) -> Result<NetworkState, AllocError>
     ensures { let own = owner_in run.now.owner.now.of_node in let S = setup run.now.day.now in
         IfOk result (λ network. NetworkStands run.now.day.now own number 0 0 network (held S own number 0) (world_held S own number 0)) }
 {
@@ -48,7 +48,7 @@ fn empty_network(run: &Run, number: u32) -> Result<Network, AllocError>
     let places = Places::new(run.alloc, run.day, starts)?;
     let link_wakes = Wakes::new(run.alloc, links.len())?;
     let node_wakes = Wakes::new(run.alloc, run.day.town.network.nodes.len())?;
-    Ok(Network {
+    Ok(NetworkState {
         links,
         places,
         link_wakes,

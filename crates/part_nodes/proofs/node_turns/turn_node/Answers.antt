@@ -8,7 +8,7 @@ use Rattle.town.specs.Views.{setup}
 use Rattle.traffic.specs.declared.moves.Occurrence.{Occurrence}
 use Rattle.traffic.specs.Day.{keyed}
 use Rattle.queue_link.specs.Links.{LinkView}
-use Rattle.part_nodes.specs.declared.network.Network.{Network}
+use Rattle.part_nodes.specs.declared.network.NetworkState.{NetworkState}
 use Rattle.part_nodes.specs.Turns.{always_in, HaveNumbersIn}
 use Rattle.part_nodes.specs.Phase.{LinksStandFor}
 use Rattle.part_nodes.proofs.Ready.{slots_in, town_numbers}
@@ -61,7 +61,7 @@ pub returns : goal.returns
 returns c = λ E V has own h.
     let day = c.args.phase.now.day.now in
     let N = c.args.network.now in
-    let new : Network = record {
+    let new : NetworkState = record {
       links = with_items N.links c.pass_node.new.links;
       places = record N.places { space = c.pass_node.new.space };
       link_wakes = c.pass_node.new.wakes;

@@ -1,7 +1,7 @@
 use Rattle.std.proofs.Common.{◌∙◌, refl}
 use Rattle.law_in_range.specs.Setups.{counts_in}
 use Rattle.town.specs.Views.{setup}
-use Rattle.part_nodes.specs.declared.network.Network.{Network}
+use Rattle.part_nodes.specs.declared.network.NetworkState.{NetworkState}
 use Rattle.part_nodes.proofs.Skipped.{all_turned, woken_there, woken_once, woken_mine, stands_with}
 use Rattle.part_nodes.proofs.phases.move_nodes.Goals as goal
 
@@ -21,7 +21,7 @@ turn_nodes-requires-clause-stands c =
     let N = c.args.network.now in
     let t = c.args.phase.now.second in
     let r = c.requires.stands in
-    let M : Network = record N { node_wakes = c.take-numbers.new.self } in
+    let M : NetworkState = record N { node_wakes = c.take-numbers.new.self } in
     record {
       extent = r.extent;
       world = r.world;
@@ -39,7 +39,7 @@ returns c = λ E V has h awaited.
     let end = day.town.now.settings.end_second in
     let N = c.args.network.now in
     let t = c.args.phase.now.second in
-    let M : Network = record N { node_wakes = c.take-numbers.new.self } in
+    let M : NetworkState = record N { node_wakes = c.take-numbers.new.self } in
     let stands = stands_with z S E end t V N M c.take-numbers.new.self refl c.take-numbers.ensures.slept h in
     let own = woken_mine E t S.nodes N.node_wakes _ h.nodes h.only (c.deref.ensures.value ∙ c.take-numbers.ensures.woken) in
     all_turned z S E end t V c.deref.result.now N M c.turn_nodes.new.network c.args.told.now.events.items c.turn_nodes.new.told.events.items

@@ -11,9 +11,9 @@ use calendar::Calendar;
 use node_move::Space;
 use std::alloc::AllocError;
 
-/// A link whose queue vehicles left in a second.
+/// A link whose queue vehicles left in a second, and what is in it behind them.
 #[derive(Clone, Copy, Debug, PartialEq, Eq)]
-pub struct Left {
+pub struct QueueAfter {
     /// The second in which they left.
     pub second: u32,
     /// The number of the link.
@@ -24,15 +24,15 @@ pub struct Left {
     pub hole_seconds: u32,
 }
 
-/// Vehicles that left the queue of a link in a second.
+/// Places of a link that come free later, since vehicles left its queue in a second.
 #[derive(Clone, Copy, Debug, PartialEq, Eq)]
-pub struct Gone {
+pub struct FreedLater {
     /// The second in which they left.
     pub second: u32,
     /// The number of the link.
     pub link: u32,
-    /// How many left.
-    pub vehicles: u64,
+    /// How many left: one place each.
+    pub count: u64,
     /// For how many seconds a place that was left stays taken.
     pub hole_seconds: u32,
 }
@@ -98,19 +98,19 @@ impl Places {
     /// # Errors
     ///
     /// `AllocError`: there is no memory for a place. The places are then of no use.
-    pub fn free_later(&mut self, end: u32, gone: Gone) -> Result<(), AllocError>
-        ensures { (begins : ℕ → Bool) (count t : ℕ) (T : Taking) → gone.link < count → begins gone.link ≡ true
-            → gone.vehicles ≤ T.queued gone.link → t ≤ gone.second + gone.hole_seconds
+    pub fn free_later(&mut self, end: u32, freed: FreedLater) -> Result<(), AllocError>
+        ensures { (begins : ℕ → Bool) (count t : ℕ) (T : Taking) → freed.link < count → begins freed.link ≡ true
+            → freed.count ≤ T.queued freed.link → t ≤ freed.second + freed.hole_seconds
             → AreTakenOf begins count end t T self.old
             → OnOk result (AreTakenOf begins count end t
-            (later gone.link (T.queued gone.link - gone.vehicles) (gone.second + gone.hole_seconds) T) self.new) }
+            (later freed.link (T.queued freed.link - freed.count) (freed.second + freed.hole_seconds) T) self.new) }
     {
-        let holes = holes_of(&self.holes, gone.link);
-        let queued = taken_in(&self.space, gone.link).saturating_sub(holes);
-        let vehicles = queued - queued.saturating_sub(gone.vehicles);
-        put_holes(&mut self.holes, gone.link, holes + vehicles);
-        let second = u64::from(gone.second) + u64::from(gone.hole_seconds);
-        add_freed(&mut self.freed, end, second, gone.link, vehicles)?;
+        let holes = holes_of(&self.holes, freed.link);
+        let queued = taken_in(&self.space, freed.link).saturating_sub(holes);
+        let vehicles = queued - queued.saturating_sub(freed.count);
+        put_holes(&mut self.holes, freed.link, holes + vehicles);
+        let second = u64::from(freed.second) + u64::from(freed.hole_seconds);
+        add_freed(&mut self.freed, end, second, freed.link, vehicles)?;
         Ok(())
     }
 
@@ -119,21 +119,21 @@ impl Places {
     /// # Errors
     ///
     /// `AllocError`: there is no memory for a place. The places are then of no use.
-    pub fn leave(&mut self, end: u32, left: Left) -> Result<(), AllocError>
-        ensures { (begins : ℕ → Bool) (count t : ℕ) (T : Taking) → left.link < count → begins left.link ≡ true
-            → left.queued ≤ T.queued left.link → t ≤ left.second + left.hole_seconds
+    pub fn leave(&mut self, end: u32, after: QueueAfter) -> Result<(), AllocError>
+        ensures { (begins : ℕ → Bool) (count t : ℕ) (T : Taking) → after.link < count → begins after.link ≡ true
+            → after.queued ≤ T.queued after.link → t ≤ after.second + after.hole_seconds
             → AreTakenOf begins count end t T self.old
             → OnOk result (AreTakenOf begins count end t
-            (later left.link left.queued (left.second + left.hole_seconds) T) self.new) }
+            (later after.link after.queued (after.second + after.hole_seconds) T) self.new) }
     {
-        let holes = holes_of(&self.holes, left.link);
-        let queued = taken_in(&self.space, left.link).saturating_sub(holes);
-        let gone = Gone {
-            second: left.second,
-            link: left.link,
-            vehicles: queued.saturating_sub(left.queued as u64),
-            hole_seconds: left.hole_seconds,
+        let holes = holes_of(&self.holes, after.link);
+        let queued = taken_in(&self.space, after.link).saturating_sub(holes);
+        let freed = FreedLater {
+            second: after.second,
+            link: after.link,
+            count: queued.saturating_sub(after.queued as u64),
+            hole_seconds: after.hole_seconds,
         };
-        self.free_later(end, gone)
+        self.free_later(end, freed)
     }
 }

@@ -8,6 +8,6 @@ mod leaving;
 mod places;
 mod starts;
 
-pub use leaving::{Gone, Left};
+pub use leaving::{FreedLater, QueueAfter};
 pub use places::Places;
 pub use starts::begins_here;

@@ -44,10 +44,10 @@ use Rattle.part_persons.proofs.Early.{woken_all}
 use Rattle.part_places.specs.declared.places.Places.{Places}
 use Rattle.part_places.specs.Taking.{Taking, AreTakenOf, begins_here}
 use Rattle.part_seconds.specs.declared.area.Area.{Area}
-use Rattle.part_seconds.specs.declared.contents.LeftRows.{LeftRows}
+use Rattle.part_seconds.specs.declared.contents.FreedPlaces.{FreedPlaces}
 use Rattle.law_parcels.specs.Sending.{freed_over}
 use Rattle.part_seconds.specs.Contents.{freed_row}
-use Rattle.part_seconds.specs.Settling.{places_known, link_at, left_all, AreFew, AreApart, gone_from, left_rows, put_queues, wake_ends_at}
+use Rattle.part_seconds.specs.Settling.{places_known, link_at, left_all, AreFew, AreApart, gone_from, freed_at, put_queues, wake_ends_at}
 use Rattle.divided_day.specs.Slots.{link_in, slot_count, AreSlots}
 use Rattle.part_seconds.specs.Stands.{AreaStands}
 use Rattle.part_seconds.proofs.Slots.{slot_of, link_there, link_own, all_links, numbered}
@@ -130,7 +130,7 @@ flat_of_map : (f : ℕ → List Freed) (g : ℕ → ℕ) (ks : List ℕ) → fla
 flat_of_map f g [] = refl
 flat_of_map f g (k ∷ ks) = ap (λ (xs : List Freed). f (g k) ++ xs) (flat_of_map f g ks)
 
-map_flat : (f : LeftRows → Freed) (g : ℕ → List LeftRows) (ks : List ℕ) → map f (flat_map g ks) ≡ flat_map (λ (k : ℕ). map f (g k)) ks
+map_flat : (f : FreedPlaces → Freed) (g : ℕ → List FreedPlaces) (ks : List ℕ) → map f (flat_map g ks) ≡ flat_map (λ (k : ℕ). map f (g k)) ks
 map_flat f g [] = refl
 map_flat f g (k ∷ ks) = map-append f (g k) (flat_map g ks) ∙ ap (λ (xs : List Freed). map f (g k) ++ xs) (map_flat f g ks)
 
@@ -402,7 +402,7 @@ module _ (day : DayInput) (own : Owner) (parts p t : ℕ) (slots : List ℕ) (gi
 
     one_row : (qs : List ℕ)
         → ((k : ℕ) → k < size → begins_here S own p (num k) ≡ false → get_or qs k 0 ≡ length (at (num k) Queue V4))
-        → (k : ℕ) → k < size → map freed_row (left_rows S own p new qs k) ≡ told_row k
+        → (k : ℕ) → k < size → map freed_row (freed_at S own p new qs k) ≡ told_row k
     unfolding told_row freed_if row_of
     one_row qs was k lt =
         let e = at_new k lt in
@@ -443,7 +443,7 @@ module _ (day : DayInput) (own : Owner) (parts p t : ℕ) (slots : List ℕ) (gi
 
     freed_is : (qs : List ℕ)
         → ((k : ℕ) → k < size → begins_here S own p (num k) ≡ false → get_or qs k 0 ≡ length (at (num k) Queue V4))
-        → map freed_row (flat_map (left_rows S own p new qs) ks) ≡ freed_over S own p t
+        → map freed_row (flat_map (freed_at S own p new qs) ks) ≡ freed_over S own p t
     unfolding told_row row_of
     freed_is qs was =
         let n = stand.count in
@@ -454,8 +454,8 @@ module _ (day : DayInput) (own : Owner) (parts p t : ℕ) (slots : List ℕ) (gi
         let within : AreIn size ks = subst (λ (i : ℕ). AreIn i ks) n there in
         let idle : (i : ℕ) → i < 0 + size → awake i ≡ false → told_row i ≡ []
         = λ i lt off. none_told i (omega arith) (ap (is_among i) ks_are ∙ not_among awake i (below size) off) in
-        map_flat freed_row (left_rows S own p new qs) ks
-        ∙ flat_alike (λ k. map freed_row (left_rows S own p new qs k)) told_row size ks within (one_row qs was)
+        map_flat freed_row (freed_at S own p new qs) ks
+        ∙ flat_alike (λ k. map freed_row (freed_at S own p new qs k)) told_row size ks within (one_row qs was)
         ∙ ap (flat_map told_row) ks_are ∙ skip_none told_row awake 0 size idle
         ∙ sym (flat_of_map (λ l. if ends_here l then freed_if row_of l else []) num (below size))
         ∙ ap (flat_map (λ l. if ends_here l then freed_if row_of l else [])) (all_links S own p)
@@ -472,12 +472,12 @@ module _ (day : DayInput) (own : Owner) (parts p t : ℕ) (slots : List ℕ) (gi
               | inr f ↦ rw f (not_among q i ns e)
             ]
 
-    pub freed_as : (ls : List LinkView) (js qs : List ℕ) (out : List LeftRows) → ls ≡ new → js ≡ ks → qs ≡ A.queues.items
-        → out ≡ flat_map (left_rows S own p ls qs) js → map freed_row out ≡ freed_over S own p t
+    pub freed_as : (ls : List LinkView) (js qs : List ℕ) (out : List FreedPlaces) → ls ≡ new → js ≡ ks → qs ≡ A.queues.items
+        → out ≡ flat_map (freed_at S own p ls qs) js → map freed_row out ≡ freed_over S own p t
     freed_as ls js qs out e f g is =
-        ap (map freed_row) (is ∙ ap (flat_map (left_rows S own p ls qs)) f
-        ∙ ap (λ (xs : List ℕ). flat_map (left_rows S own p ls xs) ks) g
-        ∙ ap (λ (vs : List LinkView). flat_map (left_rows S own p vs A.queues.items) ks) e)
+        ap (map freed_row) (is ∙ ap (flat_map (freed_at S own p ls qs)) f
+        ∙ ap (λ (xs : List ℕ). flat_map (freed_at S own p ls xs) ks) g
+        ∙ ap (λ (vs : List LinkView). flat_map (freed_at S own p vs A.queues.items) ks) e)
         ∙ freed_is A.queues.items h.queues
 
     pub put_as : (ls : List LinkView) (js qs out : List ℕ) → ls ≡ new → js ≡ ks → qs ≡ A.queues.items → out ≡ put_queues ls js qs

@@ -15,7 +15,7 @@ use Rattle.step_core.specs.declared.part.Border.{Border}
 use Rattle.step_core.specs.Nets.{border_at, no_border}
 use Rattle.part_seconds.specs.declared.contents.Moved.{Moved}
 use Rattle.part_seconds.specs.declared.contents.Flying.{Flying}
-use Rattle.part_seconds.specs.declared.contents.LeftRows.{LeftRows}
+use Rattle.part_seconds.specs.declared.contents.FreedPlaces.{FreedPlaces}
 use Rattle.part_seconds.specs.declared.contents.Contents.{Contents}
 use Rattle.part_seconds.specs.Leaving.{AreOthers}
 use Rattle.part_seconds.specs.Parcels.{nothing}
@@ -93,21 +93,21 @@ next_flights S own p borders t persons ns n k x =
     ∙ ap (λ (ms : List Flying). with_flights ms x) (sym (next_map (flying_of persons) goes ns n))
 
 -- FREED PLACES
-more_of_freed : (b : Bool) (x : Contents) (ys : List LeftRows) (m : LeftRows)
+more_of_freed : (b : Bool) (x : Contents) (ys : List FreedPlaces) (m : FreedPlaces)
     → (if b then with_freed (m ∷ []) (with_freed ys x) else with_freed ys x) ≡ with_freed (ys ++ (if b then m ∷ [] else [])) x
-more_of_freed true x ys m = ap (λ (vs : List LeftRows). record x { freed = vs }) (append_assoc x.freed ys (m ∷ []))
-more_of_freed false x ys m = ap (λ (vs : List LeftRows). record x { freed = x.freed ++ vs }) (sym (append-nil ys))
+more_of_freed true x ys m = ap (λ (vs : List FreedPlaces). record x { freed = vs }) (append_assoc x.freed ys (m ∷ []))
+more_of_freed false x ys m = ap (λ (vs : List FreedPlaces). record x { freed = x.freed ++ vs }) (sym (append-nil ys))
 
 pub no_freed : (x : Contents) → x ≡ with_freed [] x
-no_freed x = ap (λ (vs : List LeftRows). record x { freed = vs }) (sym (append-nil x.freed))
+no_freed x = ap (λ (vs : List FreedPlaces). record x { freed = vs }) (sym (append-nil x.freed))
 
-pub next_freed : (S : Setup) (own : Owner) (borders : List Border) (fs : List LeftRows) (f : LeftRows) (k : ℕ) (x : Contents)
+pub next_freed : (S : Setup) (own : Owner) (borders : List Border) (fs : List FreedPlaces) (f : FreedPlaces) (k : ℕ) (x : Contents)
     → (if is_at k (freed_place S own borders f) then with_freed (f ∷ []) (more_freed S own borders fs k x)
     else more_freed S own borders fs k x) ≡ more_freed S own borders (fs ++ f ∷ []) k x
 next_freed S own borders fs f k x =
-    let goes : LeftRows → Bool = λ f. is_at k (freed_place S own borders f) in
+    let goes : FreedPlaces → Bool = λ f. is_at k (freed_place S own borders f) in
     more_of_freed (goes f) x (filter goes fs) f
-    ∙ ap (λ (ms : List LeftRows). with_freed ms x) (sym (filter-append goes fs (f ∷ [])))
+    ∙ ap (λ (ms : List FreedPlaces). with_freed ms x) (sym (filter-append goes fs (f ∷ [])))
 
 -- THE PLACE of a neighbour is where it stands
 place_found : (borders : List Border) (q k : ℕ) → position_or_len (λ (b : Border). b.neighbour == q) borders ≡ k → k < length borders

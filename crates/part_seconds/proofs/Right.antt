@@ -22,7 +22,7 @@ use Rattle.law_partitions.proofs.Rebuilt.{rebuilt}
 use Rattle.law_parcels.specs.Sending.{sent_rows, goes_to, freed_over, SendsParcels}
 use Rattle.step_core.specs.declared.part.Border.{Border}
 use Rattle.step_core.specs.Nets.{border_at}
-use Rattle.part_seconds.specs.declared.contents.LeftRows.{LeftRows}
+use Rattle.part_seconds.specs.declared.contents.FreedPlaces.{FreedPlaces}
 use Rattle.part_seconds.specs.Contents.{passed_of, flight_of, freed_row, parcel_of}
 use Rattle.part_seconds.specs.Leaving.{AreOthers}
 use Rattle.part_seconds.specs.Sending.{is_at, moved_of, vehicle_place, other_than, flies_to, place_if, flight_place, flying_of, freed_place}
@@ -132,7 +132,7 @@ module _ (S : Setup) (own : Owner) (p t k : ℕ) (borders : List Border) (others
       ∙ ap (λ (fs : List Flight). flight_to S own q t i (Some P) ++ fs) (flights_are W ns)
 
   -- FREED PLACES
-  pub freed_are : (fs : List LeftRows)
+  pub freed_are : (fs : List FreedPlaces)
       → map freed_row (filter (λ f. is_at k (freed_place S own borders f)) fs)
       ≡ filter (λ (f : Freed). begins_in S own f.link == q) (map freed_row fs)
   freed_are [] = refl
@@ -149,7 +149,7 @@ module _ (S : Setup) (own : Owner) (p t k : ℕ) (borders : List Border) (others
       ]
 
   -- ALL of it
-  pub right_parcel : (es : List Entering) (ns : List ℕ) (fs : List LeftRows) → SendsParcels S own p t
+  pub right_parcel : (es : List Entering) (ns : List ℕ) (fs : List FreedPlaces) → SendsParcels S own p t
       → es ≡ map entering_of (sent_rows S own p t) → ns ≡ filter (λ i. is_among i ns) (below (length S.persons))
       → ((i : ℕ) → is_among i ns ≡ false
       → person_of i (set_out S own p t (world_before S own p t)) ≡ person_of i (world_before S own p t))

@@ -4,7 +4,7 @@ use Rattle.traffic.specs.Setup.{Setup, leg_at}
 use Rattle.parts.specs.Parts.{Parcel as Sent, Passed, Flight, Freed, entering_row, seconds_of_way}
 use Rattle.part_seconds.specs.declared.contents.Moved.{Moved}
 use Rattle.part_seconds.specs.declared.contents.Flying.{Flying}
-use Rattle.part_seconds.specs.declared.contents.LeftRows.{LeftRows}
+use Rattle.part_seconds.specs.declared.contents.FreedPlaces.{FreedPlaces}
 use Rattle.part_seconds.specs.declared.contents.Contents.{Contents}
 
 -- of a parcel that was sent in second t: the row of a vehicle, the flight of a person, and how many rows left a queue
@@ -14,8 +14,8 @@ passed_of S t m = record { row = entering_row S t m.vehicle; elements = m.elemen
 abbrev pub flight_of : Setup → ℕ → Flying → Flight
 flight_of S t f = record { person = f.person; element = f.element; due = t + seconds_of_way (leg_at S f.person f.element) }
 
-abbrev pub freed_row : LeftRows → Freed
-freed_row f = record { link = f.link; rows = f.rows }
+abbrev pub freed_row : FreedPlaces → Freed
+freed_row f = record { link = f.link; rows = f.count }
 
 abbrev pub parcel_of : Setup → ℕ → Contents → Sent
 parcel_of S t x =

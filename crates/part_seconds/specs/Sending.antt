@@ -13,7 +13,7 @@ use Rattle.parts.specs.Owners.{Owner, owner_of, begins_in}
 use Rattle.step_core.specs.declared.part.Border.{Border}
 use Rattle.part_seconds.specs.declared.contents.Moved.{Moved}
 use Rattle.part_seconds.specs.declared.contents.Flying.{Flying}
-use Rattle.part_seconds.specs.declared.contents.LeftRows.{LeftRows}
+use Rattle.part_seconds.specs.declared.contents.FreedPlaces.{FreedPlaces}
 use Rattle.part_seconds.specs.declared.contents.Contents.{Contents}
 use Rattle.part_seconds.specs.Parcels.{nothing}
 
@@ -29,7 +29,7 @@ with_vehicles ms x = record x { vehicles = x.vehicles ++ ms }
 abbrev pub with_flights : List Flying → Contents → Contents
 with_flights fs x = record x { flights = x.flights ++ fs }
 
-abbrev pub with_freed : List LeftRows → Contents → Contents
+abbrev pub with_freed : List FreedPlaces → Contents → Contents
 with_freed fs x = record x { freed = x.freed ++ fs }
 
 -- PLACES of neighbours
@@ -111,15 +111,15 @@ more_flights S own p borders t persons ns k =
     with_flights (map (flying_of persons) (filter (λ i. is_at k (flight_place S own p borders t persons i)) ns))
 
 -- FREED PLACES
-abbrev pub freed_place : Setup → Owner → List Border → LeftRows → Option ℕ
+abbrev pub freed_place : Setup → Owner → List Border → FreedPlaces → Option ℕ
 freed_place S own borders f = place_in borders (begins_in S own f.link)
 
-abbrev pub more_freed : Setup → Owner → List Border → List LeftRows → ℕ → Contents → Contents
+abbrev pub more_freed : Setup → Owner → List Border → List FreedPlaces → ℕ → Contents → Contents
 more_freed S own borders fs k = with_freed (filter (λ f. is_at k (freed_place S own borders f)) fs)
 
 -- WHAT LEAVES
 -- the parcel for the neighbour at place k
-abbrev pub parcel_for : Setup → Owner → ℕ → List Border → ℕ → List Person → List Entering → List ℕ → List LeftRows → ℕ → Contents
+abbrev pub parcel_for : Setup → Owner → ℕ → List Border → ℕ → List Person → List Entering → List ℕ → List FreedPlaces → ℕ → Contents
 parcel_for S own p borders t persons es ns fs k =
     more_freed S own borders fs k (more_flights S own p borders t persons ns k (more_vehicles S own borders persons es k nothing))
 

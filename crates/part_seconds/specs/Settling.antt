@@ -7,7 +7,7 @@ use Rattle.queue_link.specs.Links.{LinkView}
 use Rattle.node_seconds.specs.Networks.{lane}
 use Rattle.part_places.specs.Taking.{Taking, later, begins_here}
 use Rattle.law_parts_of_days.specs.Settling.{queued_in, buffered_in}
-use Rattle.part_seconds.specs.declared.contents.LeftRows.{LeftRows}
+use Rattle.part_seconds.specs.declared.contents.FreedPlaces.{FreedPlaces}
 
 -- PLACES
 -- how the places of links are taken as a partition knows them: by the rows that it knows of in their queues, and by the holes
@@ -50,12 +50,12 @@ abbrev pub gone_from : List LinkView → List ℕ → ℕ → ℕ
 gone_from links queues k = get_or queues k 0 - queued_in links k
 
 -- of a link that begins elsewhere, if any are
-abbrev pub left_rows : Setup → Owner → ℕ → List LinkView → List ℕ → ℕ → List LeftRows
-left_rows S own p links queues k =
+abbrev pub freed_at : Setup → Owner → ℕ → List LinkView → List ℕ → ℕ → List FreedPlaces
+freed_at S own p links queues k =
     if begins_here S own p (link_at links k)
     then []
     else if nat_lt 0 (gone_from links queues k)
-    then record { link = link_at links k; rows = gone_from links queues k } ∷ []
+    then record { link = link_at links k; count = gone_from links queues k } ∷ []
     else []
 
 -- the table once those in these slots have their queues

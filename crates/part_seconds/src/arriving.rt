@@ -8,7 +8,7 @@ ghost use Rattle.traffic.specs.declared.world.Place.TheVariants as place;
 ghost use Rattle.part_seconds.specs.Contents.{parcel_of, freed_row};
 ghost use Rattle.part_seconds.specs.Arriving.{Come, entering_by, entered, if_is, flown, all_riding};
 
-use crate::contents::{Contents, FlyingList, LeftList, Moved, MovedList};
+use crate::contents::{Contents, FlyingList, FreedList, Moved, MovedList};
 use events::VehicleId;
 use node_move::Entering;
 use part_persons::Persons;
@@ -151,7 +151,7 @@ pub fn arrive(
     contents: Contents,
     persons: &mut Persons,
     entering: &mut Vec<Entering>,
-) -> Result<LeftList, AllocError>
+) -> Result<FreedList, AllocError>
     requires plans { length persons.old.world.persons ≡ length day.now.chosen.now }
     requires wakes { length persons.old.wakes ≡ length persons.old.world.persons }
     ensures persons { OnOk result (Come day.now

@@ -35,15 +35,15 @@ pub type FlyingList = Rows<Flying>;
 
 /// How many vehicles left the queue of a link.
 #[derive(Clone, Copy, Debug, PartialEq, Eq)]
-pub struct LeftRows {
+pub struct FreedPlaces {
     /// The number of the link.
     pub link: u32,
     /// How many vehicles left its queue: one place each.
-    pub rows: usize,
+    pub count: usize,
 }
 
 /// Links whose queues vehicles left in a second, by number.
-pub type LeftList = Rows<LeftRows>;
+pub type FreedList = Rows<FreedPlaces>;
 
 /// What goes over a border in one second.
 #[derive(Drop)]
@@ -53,7 +53,7 @@ pub struct Contents {
     /// The persons whose teleported leg goes to a link of the neighbour.
     pub flights: FlyingList,
     /// The links that begin at nodes of the neighbour, of which places were left.
-    pub freed: LeftList,
+    pub freed: FreedList,
 }
 
 impl Contents {
@@ -88,10 +88,10 @@ impl Contents {
         Ok(())
     }
 
-    fn add_freed(&mut self, left: LeftRows) -> Result<(), AllocError>
-        ensures { OnOk result (self.new ≡ with_freed (left ∷ []) self.old) }
+    fn add_freed(&mut self, freed: FreedPlaces) -> Result<(), AllocError>
+        ensures { OnOk result (self.new ≡ with_freed (freed ∷ []) self.old) }
     {
-        self.freed.rows.push(left)?;
+        self.freed.rows.push(freed)?;
         Ok(())
     }
 }
@@ -155,11 +155,11 @@ impl Parcel {
         Ok(())
     }
 
-    pub(crate) fn add_freed(&mut self, alloc: Global, left: LeftRows) -> Result<(), AllocError>
-        ensures { OnOk result (self.new ≡ with_freed (left ∷ []) self.old) }
+    pub(crate) fn add_freed(&mut self, alloc: Global, freed: FreedPlaces) -> Result<(), AllocError>
+        ensures { OnOk result (self.new ≡ with_freed (freed ∷ []) self.old) }
     {
         let mut contents = self.take(alloc)?;
-        contents.add_freed(left)?;
+        contents.add_freed(freed)?;
         self.contents = Some(contents);
         Ok(())
     }

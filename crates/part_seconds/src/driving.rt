@@ -20,11 +20,11 @@ ghost use Rattle.law_parcels.specs.Sending.{freed_over};
 ghost use Rattle.part_seconds.specs.Contents.{freed_row};
 ghost use Rattle.part_seconds.specs.Stands.{AreaStands};
 
-use crate::LeftRows;
+use crate::FreedPlaces;
 use crate::area::Area;
 use crate::hearing::hear_told;
 use crate::runs::Run;
-use crate::settling::{settle_links, take_left};
+use crate::settling::{settle_links, take_freed};
 use calendar::Wakes;
 use part_links::{LinkPhase, Told, move_links};
 use queue_link::LinkState;
@@ -77,7 +77,7 @@ impl Area {
         number: u32,
         second: u32,
         told: &mut Told,
-    ) -> Result<Vec<LeftRows>, AllocError>
+    ) -> Result<Vec<FreedPlaces>, AllocError>
         requires second_in { second < LAST_SECOND }
         requires in_day { second < run.now.day.now.town.now.settings.end_second }
         requires there { number < run.now.owner.now.parts }
@@ -118,8 +118,8 @@ impl Area {
             &mut network.places,
             &mut network.node_wakes,
         )?;
-        let left = take_left(run, number, &slots, &network.links, &mut self.queues)?;
+        let freed = take_freed(run, number, &slots, &network.links, &mut self.queues)?;
         hear_told(run.day, second, told, &mut self.persons)?;
-        Ok(left)
+        Ok(freed)
     }
 }

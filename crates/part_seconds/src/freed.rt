@@ -5,8 +5,8 @@ ghost use Rattle.part_places.specs.Taking.{Taking, AreTakenOf};
 ghost use Rattle.town.specs.Views.{setup};
 ghost use Rattle.part_seconds.specs.Hearing.{heard, heard_all, CanHear, CanHearAll};
 
-use crate::contents::LeftRows;
-use part_places::{Gone, Places};
+use crate::contents::FreedPlaces;
+use part_places::{FreedLater, Places};
 use person_moves::hole_of;
 use rows::LinkList;
 use std::alloc::AllocError;
@@ -21,22 +21,27 @@ fn count_of(links: &LinkList) -> usize
 
 /// Vehicles left the queue of a link in a second.
 #[tactic(auto, unfolding(town::specs::Setups::setup_of))]
-fn hear(day: &DayInput, second: u32, left: LeftRows, places: &mut Places) -> Result<(), AllocError>
-    ensures { (begins : ℕ → Bool) (t : ℕ) (T : Taking) → CanHear (setup day.now) begins t second left T
+fn hear(
+    day: &DayInput,
+    second: u32,
+    freed: FreedPlaces,
+    places: &mut Places,
+) -> Result<(), AllocError>
+    ensures { (begins : ℕ → Bool) (t : ℕ) (T : Taking) → CanHear (setup day.now) begins t second freed T
         → AreTakenOf begins (length (setup day.now).links) day.now.town.now.settings.end_second t T places.old
         → OnOk result (AreTakenOf begins (length (setup day.now).links) day.now.town.now.settings.end_second t
-        (heard (setup day.now) second left T) places.new) }
+        (heard (setup day.now) second freed T) places.new) }
 {
-    if left.link as usize >= count_of(&day.town.network.links) {
+    if freed.link as usize >= count_of(&day.town.network.links) {
         return Ok(());
     }
-    let gone = Gone {
+    let freed_later = FreedLater {
         second,
-        link: left.link,
-        vehicles: left.rows as u64,
-        hole_seconds: hole_of(day, left.link),
+        link: freed.link,
+        count: freed.count as u64,
+        hole_seconds: hole_of(day, freed.link),
     };
-    places.free_later(day.town.settings.end_second, gone)?;
+    places.free_later(day.town.settings.end_second, freed_later)?;
     Ok(())
 }
 
@@ -49,7 +54,7 @@ fn hear(day: &DayInput, second: u32, left: LeftRows, places: &mut Places) -> Res
 pub fn hear_freed(
     day: &DayInput,
     second: u32,
-    freed: Vec<LeftRows>,
+    freed: Vec<FreedPlaces>,
     places: &mut Places,
 ) -> Result<(), AllocError>
     ensures { (begins : ℕ → Bool) (t : ℕ) (T : Taking) → CanHearAll (setup day.now) begins t second freed.items T
@@ -57,8 +62,8 @@ pub fn hear_freed(
         → OnOk result (AreTakenOf begins (length (setup day.now).links) day.now.town.now.settings.end_second t
         (heard_all (setup day.now) second freed.items T) places.new) }
 {
-    for left in freed {
-        hear(day, second, left, places)?;
+    for freed_places in freed {
+        hear(day, second, freed_places, places)?;
     }
     Ok(())
 }

@@ -21,7 +21,7 @@ ghost use Rattle.part_seconds.specs.Sending.{parcel_at, parcel_for, all_gone, ri
 ghost use Rattle.part_seconds.specs.Sending.{AreMore, more_vehicles, more_flights};
 ghost use Rattle.part_seconds.specs.Leaving.{AreWithout, AreOthers, HaveGone};
 
-use crate::contents::LeftRows;
+use crate::contents::FreedPlaces;
 use crate::mailbox::Mailbox;
 use crate::sending::{Exits, send_all_freed, send_flights, send_vehicles};
 use node_move::Entering;
@@ -37,7 +37,7 @@ pub struct Leaving {
     /// The persons who landed or left, by number: nobody else may have set out.
     pub looked: Vec<u32>,
     /// How many vehicles left the queues of those of its links that begin elsewhere, by link.
-    pub freed: Vec<LeftRows>,
+    pub freed: Vec<FreedPlaces>,
 }
 
 /// The vehicles go.

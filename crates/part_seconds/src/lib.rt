@@ -25,7 +25,9 @@ mod settling;
 pub use area::Area;
 pub use arriving::{arrive, link_of};
 pub use borders::borders_at;
-pub use contents::{Contents, Flying, FlyingList, LeftList, LeftRows, Moved, MovedList, Parcel};
+pub use contents::{
+    Contents, Flying, FlyingList, FreedList, FreedPlaces, Moved, MovedList, Parcel,
+};
 pub use freed::hear_freed;
 pub use leaving::{Leaving, send};
 pub use mailbox::Mailbox;

@@ -4,7 +4,7 @@ ghost use Rattle.std.specs.Prelude.{◌≡◌, ◌<◌, false, [], ◌∷◌, le
 ghost use Rattle.part_seconds.specs.Parcels.{nothing, HasNothing};
 ghost use Rattle.part_seconds.specs.Sending.{parcel_at, with_vehicles, with_flights, with_freed};
 
-use crate::contents::{Flying, LeftRows, Moved, Parcel};
+use crate::contents::{Flying, FreedPlaces, Moved, Parcel};
 use std::alloc::{AllocError, Global};
 use std::marker::Model;
 use std::mem::replace;
@@ -139,13 +139,13 @@ impl Mailbox {
         &mut self,
         alloc: Global,
         place: usize,
-        left: LeftRows,
+        freed: FreedPlaces,
     ) -> Result<(), AllocError>
         requires { place < length self.old }
-        ensures { OnOk result (self.new ≡ set self.old place (with_freed (left ∷ []) (parcel_at self.old place))) }
+        ensures { OnOk result (self.new ≡ set self.old place (with_freed (freed ∷ []) (parcel_at self.old place))) }
     {
         self.some = true;
-        self.parcels[place].add_freed(alloc, left)?;
+        self.parcels[place].add_freed(alloc, freed)?;
         Ok(())
     }
 }

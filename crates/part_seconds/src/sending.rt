@@ -13,7 +13,7 @@ ghost use Rattle.part_seconds.specs.Sending.{vehicle_place, flight_place, freed_
 ghost use Rattle.part_seconds.specs.Sending.{more_vehicles, more_flights, more_freed};
 
 use crate::borders::place_of;
-use crate::contents::{Flying, LeftRows, Moved};
+use crate::contents::{Flying, FreedPlaces, Moved};
 use crate::mailbox::Mailbox;
 use events::Rows;
 use lists::push_with_room;
@@ -101,16 +101,16 @@ fn put_flight(
 fn put_freed(
     alloc: Global,
     place: Option<usize>,
-    left: LeftRows,
+    freed: FreedPlaces,
     parcels: &mut Mailbox,
 ) -> Result<(), AllocError>
-    ensures { OnOk result (parcels.new ≡ changed_at place (with_freed (left ∷ [])) parcels.old) }
+    ensures { OnOk result (parcels.new ≡ changed_at place (with_freed (freed ∷ [])) parcels.old) }
 {
     let Some(place) = place else {
         return Ok(());
     };
     if place < parcels.len() {
-        parcels.add_freed(alloc, place, left)?;
+        parcels.add_freed(alloc, place, freed)?;
     }
     Ok(())
 }
@@ -293,29 +293,29 @@ pub(crate) fn send_flights(
 fn send_freed(
     alloc: Global,
     exits: &Exits,
-    left: LeftRows,
+    freed: FreedPlaces,
     parcels: &mut Mailbox,
 ) -> Result<(), AllocError>
     ensures { OnOk result (parcels.new
-        ≡ changed_at (freed_place (setup exits.now.day.now) (owner_in exits.now.owner.now.of_node) exits.now.borders.now left)
-        (with_freed (left ∷ [])) parcels.old) }
+        ≡ changed_at (freed_place (setup exits.now.day.now) (owner_in exits.now.owner.now.of_node) exits.now.borders.now freed)
+        (with_freed (freed ∷ [])) parcels.old) }
 {
-    let part = begins_in(exits.day, exits.owner, left.link);
-    put_freed(alloc, place_of(exits.borders, part), left, parcels)
+    let part = begins_in(exits.day, exits.owner, freed.link);
+    put_freed(alloc, place_of(exits.borders, part), freed, parcels)
 }
 
 /// So with all of these.
 pub(crate) fn send_all_freed(
     alloc: Global,
     exits: &Exits,
-    freed: Vec<LeftRows>,
+    freed: Vec<FreedPlaces>,
     parcels: &mut Mailbox,
 ) -> Result<(), AllocError>
     ensures { let own = owner_in exits.now.owner.now.of_node in
         OnOk result (AreMore (more_freed (setup exits.now.day.now) own exits.now.borders.now freed.items) parcels.old parcels.new) }
 {
-    for left in freed {
-        send_freed(alloc, exits, left, parcels)?;
+    for freed_places in freed {
+        send_freed(alloc, exits, freed_places, parcels)?;
     }
     Ok(())
 }

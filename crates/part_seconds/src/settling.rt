@@ -11,14 +11,14 @@ ghost use Rattle.town.specs.Views.{setup};
 ghost use Rattle.traffic.specs.Setup.{hole_of};
 ghost use Rattle.law_parts_of_days.specs.Settling.{queued_in, buffered_in};
 ghost use Rattle.part_places.specs.Taking.{Taking, AreTakenOf, begins_here, later};
-ghost use Rattle.part_seconds.specs.Settling.{link_at, left_one, left_all, AreFew, AreApart, left_rows, put_queues};
+ghost use Rattle.part_seconds.specs.Settling.{link_at, left_one, left_all, AreFew, AreApart, freed_at, put_queues};
 ghost use Rattle.part_seconds.specs.Settling.{wake_end_at, wake_ends_at, wake_own_start, wake_own_starts};
 
-use crate::LeftRows;
+use crate::FreedPlaces;
 use crate::runs::Run;
 use calendar::Wakes;
 use node_seconds::number_at;
-use part_places::{Left, Places, begins_here};
+use part_places::{Places, QueueAfter, begins_here};
 use person_moves::{hole_of, link_row};
 use queue_link::LinkState;
 use std::alloc::{AllocError, Global};
@@ -64,13 +64,13 @@ fn leave_own(
         (later n (queued_in links.now slot) (second + hole_of S n) T) places.new) }
 {
     let link = number_at(links, slot);
-    let left = Left {
+    let after = QueueAfter {
         second,
         link,
         queued: queued_in(links, slot),
         hole_seconds: hole_of(day, link),
     };
-    places.leave(day.town.settings.end_second, left)
+    places.leave(day.town.settings.end_second, after)
 }
 
 /// The places that vehicles left on the link in a slot in this second come free when the holes are over, if it begins here.
@@ -123,53 +123,53 @@ fn leave_places(
 }
 
 /// How many vehicles left the queue of the link in a slot, if it begins elsewhere and any did.
-fn left_rows(
+fn freed_at(
     run: &Run,
     number: u32,
     slot: u32,
     links: &[LinkState],
     queues: &[usize],
-) -> Option<LeftRows>
+) -> Option<FreedPlaces>
     requires there { slot < length links.now }
     requires link { link_at links.now slot < length run.now.day.now.town.now.network.links }
     requires queues { length queues.now ≡ length links.now }
     ensures { let S = setup run.now.day.now in let own = owner_in run.now.owner.now.of_node in
-        option_to_list result ≡ left_rows S own number links.now queues.now slot }
+        option_to_list result ≡ freed_at S own number links.now queues.now slot }
 {
     let link = number_at(links, slot);
     if begins_here(run.day, run.owner, number, link) {
         return None;
     }
-    let rows = queues[slot as usize].saturating_sub(queued_in(links, slot));
-    if rows == 0 {
+    let count = queues[slot as usize].saturating_sub(queued_in(links, slot));
+    if count == 0 {
         return None;
     }
-    Some(LeftRows { link, rows })
+    Some(FreedPlaces { link, count })
 }
 
 /// The same of these slots, in order.
-fn all_left_rows(
+fn all_freed_at(
     run: &Run,
     number: u32,
     slots: &[u32],
     links: &[LinkState],
     queues: &[usize],
-) -> Result<Vec<LeftRows>, AllocError>
+) -> Result<Vec<FreedPlaces>, AllocError>
     requires there { AreIn (length links.now) slots.now }
     requires links { (k : ℕ) → k < length links.now → link_at links.now k < length run.now.day.now.town.now.network.links }
     requires queues { length queues.now ≡ length links.now }
-    ensures { IfOk result (λ left. left.items ≡ flat_map (left_rows (setup run.now.day.now) (owner_in run.now.owner.now.of_node) number
+    ensures { IfOk result (λ freed. freed.items ≡ flat_map (freed_at (setup run.now.day.now) (owner_in run.now.owner.now.of_node) number
         links.now queues.now) slots.now) }
 {
-    let mut left = Vec::new(run.alloc);
+    let mut freed = Vec::new(run.alloc);
     let mut rest = slots;
     while let [slot, later @ ..] = rest {
-        if let Some(rows) = left_rows(run, number, *slot, links, queues) {
-            left.push(rows)?;
+        if let Some(freed_places) = freed_at(run, number, *slot, links, queues) {
+            freed.push(freed_places)?;
         }
         rest = later;
     }
-    Ok(left)
+    Ok(freed)
 }
 
 /// The table has how many vehicles are in the queue of the link in a slot.
@@ -269,23 +269,23 @@ pub(crate) fn settle_links(
 }
 
 /// How many vehicles left the queues of those of these links that begin elsewhere. The table has then how many are in them.
-pub(crate) fn take_left(
+pub(crate) fn take_freed(
     run: &Run,
     number: u32,
     slots: &[u32],
     links: &[LinkState],
     queues: &mut [usize],
-) -> Result<Vec<LeftRows>, AllocError>
+) -> Result<Vec<FreedPlaces>, AllocError>
     requires there { AreIn (length links.now) slots.now }
     requires links { (k : ℕ) → k < length links.now → link_at links.now k < length run.now.day.now.town.now.network.links }
     requires queues { length queues.old ≡ length links.now }
-    ensures left { let S = setup run.now.day.now in let own = owner_in run.now.owner.now.of_node in
-        IfOk result (λ left. left.items ≡ flat_map (left_rows S own number links.now queues.old) slots.now) }
+    ensures freed { let S = setup run.now.day.now in let own = owner_in run.now.owner.now.of_node in
+        IfOk result (λ freed. freed.items ≡ flat_map (freed_at S own number links.now queues.old) slots.now) }
     ensures queues { OnOk result (queues.new ≡ put_queues links.now slots.now queues.old) }
 {
-    let left = all_left_rows(run, number, slots, links, queues)?;
+    let freed = all_freed_at(run, number, slots, links, queues)?;
     put_queues(slots, links, queues);
-    Ok(left)
+    Ok(freed)
 }
 
 /// The node at the start of a link is woken in this second, where the link is one of the town and begins in this part.

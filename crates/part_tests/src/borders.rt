@@ -5,7 +5,7 @@ ghost use Rattle.std.specs.Prelude.{◌≡◌, ◌<◌, length, IfOk};
 use calendar::{Calendar, Wakes};
 use node_move::Space;
 use part_persons::Persons;
-use part_places::{Gone, Places};
+use part_places::{FreedLater, Places};
 use person_moves::World;
 use std::alloc::{AllocError, Global};
 use town::DayInput;
@@ -38,11 +38,11 @@ fn frees(places: &mut Places, second: u32, links: &[u32], taken: u64) -> bool {
 }
 
 /// Vehicles that left a link in second 4, each of which left a hole of six seconds, so that their places are free in second 10.
-fn gone(vehicles: u64) -> Gone {
-    Gone {
+fn freed_later(count: u64) -> FreedLater {
+    FreedLater {
         second: 4,
         link: 0,
-        vehicles,
+        count,
         hole_seconds: 6,
     }
 }
@@ -50,7 +50,7 @@ fn gone(vehicles: u64) -> Gone {
 /// A vehicle left in second 4, of which is heard before second 8.
 fn place_comes_free(places: &mut Places) -> bool {
     frees(places, 7, &[], 3)
-        && places.free_later(100, gone(1)).is_ok()
+        && places.free_later(100, freed_later(1)).is_ok()
         && frees(places, 8, &[], 3)
         && frees(places, 9, &[], 3)
         && frees(places, 10, &[0], 2)
@@ -59,15 +59,15 @@ fn place_comes_free(places: &mut Places) -> bool {
 
 /// After it no more can leave than the two that are left.
 fn all_come_free(places: &mut Places) -> bool {
-    places.free_later(100, gone(1)).is_ok()
-        && places.free_later(100, gone(5)).is_ok()
+    places.free_later(100, freed_later(1)).is_ok()
+        && places.free_later(100, freed_later(5)).is_ok()
         && frees(places, 9, &[], 3)
         && frees(places, 10, &[0, 0, 0], 0)
 }
 
 /// None comes free where the day ends before.
 fn none_comes_free(places: &mut Places) -> bool {
-    places.free_later(10, gone(1)).is_ok() && frees(places, 10, &[], 3)
+    places.free_later(10, freed_later(1)).is_ok() && frees(places, 10, &[], 3)
 }
 
 /// Whether each of these is so of a full link.

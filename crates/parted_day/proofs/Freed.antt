@@ -14,7 +14,7 @@ use Rattle.law_partitions.proofs.Lags.{lag-up}
 use Rattle.law_parcels.specs.Hearing.{heard_holes, IsReadyBy, IsBetween}
 use Rattle.part_places.specs.declared.places.Places.{Places}
 use Rattle.part_places.specs.Taking.{Taking, AreTakenOf, begins_here}
-use Rattle.part_seconds.specs.declared.contents.LeftRows.{LeftRows}
+use Rattle.part_seconds.specs.declared.contents.FreedPlaces.{FreedPlaces}
 use Rattle.part_seconds.specs.declared.contents.Contents.{Contents}
 use Rattle.part_seconds.specs.Contents.{freed_row}
 use Rattle.part_seconds.specs.Hearing.{heard, heard_all, CanHearAll}
@@ -41,63 +41,63 @@ copies_on h (suc k) s = ap (λ (xs : List ℕ). (s + h) ∷ xs) (copies_on h k s
 
 -- WHAT LEFT
 -- how many of these left the queue of link m
-abbrev pub left_of : ℕ → List LeftRows → ℕ
+abbrev pub left_of : ℕ → List FreedPlaces → ℕ
 left_of m fs = sum_by (freed_in m) (map freed_row fs)
 
-left_cons : (m : ℕ) (f : LeftRows) (fs : List LeftRows) → left_of m (f ∷ fs) ≡ freed_in m (freed_row f) + left_of m fs
+left_cons : (m : ℕ) (f : FreedPlaces) (fs : List FreedPlaces) → left_of m (f ∷ fs) ≡ freed_in m (freed_row f) + left_of m fs
 left_cons m f fs = sum_by-cons (freed_in m) (freed_row f) (map freed_row fs)
 
-left_here : (f : LeftRows) → freed_in f.link (freed_row f) ≡ f.rows
+left_here : (f : FreedPlaces) → freed_in f.link (freed_row f) ≡ f.count
 left_here f = let e = eq-eqb f.link f.link refl in rw e refl
 
 -- what is heard of a link that begins here, where none of its places is free before second t
-pub record IsHeardOf (S : Setup) (begins : ℕ → Bool) (t s : ℕ) (f : LeftRows) : Type 0 where
+pub record IsHeardOf (S : Setup) (begins : ℕ → Bool) (t s : ℕ) (f : FreedPlaces) : Type 0 where
   pub there : f.link < length S.links
   pub here : begins f.link ≡ true
   pub still : t ≤ s + hole_of S f.link
 
 module _ (S : Setup) (s : ℕ) where
   -- ONE LINK
-  one_queued : (m : ℕ) (f : LeftRows) (T : Taking) → (heard S s f T).queued m ≡ T.queued m - freed_in m (freed_row f)
+  one_queued : (m : ℕ) (f : FreedPlaces) (T : Taking) → (heard S s f T).queued m ≡ T.queued m - freed_in m (freed_row f)
   one_queued m f T =
       elim (cases_Bool (eqb m f.link)) [
         | inl e ↦
             let same : m ≡ f.link = eqb-true m f.link e in
             let g : eqb f.link m ≡ true = eq-eqb f.link m (sym same) in
-            rw (e, g) (ap (λ (n : ℕ). T.queued n - f.rows) (sym same))
+            rw (e, g) (ap (λ (n : ℕ). T.queued n - f.count) (sym same))
         | inr e ↦
             let g : eqb f.link m ≡ false = ne_eqb f.link m (λ z. eqb-false m f.link e (sym z)) in
             rw (e, g) (omega arith)
       ]
 
-  one_frees : (m : ℕ) (f : LeftRows) (T : Taking) → f.rows ≤ T.queued f.link
+  one_frees : (m : ℕ) (f : FreedPlaces) (T : Taking) → f.count ≤ T.queued f.link
       → (heard S s f T).frees m ≡ T.frees m ++ replicate (freed_in m (freed_row f)) (s + hole_of S m)
   one_frees m f T few =
       elim (cases_Bool (eqb m f.link)) [
         | inl e ↦
             let same : m ≡ f.link = eqb-true m f.link e in
             let g : eqb f.link m ≡ true = eq-eqb f.link m (sym same) in
-            let gone : T.queued m - (T.queued f.link - f.rows) ≡ f.rows
-            = ap (λ (n : ℕ). T.queued n - (T.queued f.link - f.rows)) same ∙ back_less (T.queued f.link) f.rows few in
+            let gone : T.queued m - (T.queued f.link - f.count) ≡ f.count
+            = ap (λ (n : ℕ). T.queued n - (T.queued f.link - f.count)) same ∙ back_less (T.queued f.link) f.count few in
             rw (e, g) (ap (λ (n : ℕ). T.frees m ++ replicate n (s + hole_of S f.link)) gone
-            ∙ ap (λ (l : ℕ). T.frees m ++ replicate f.rows (s + hole_of S l)) (sym same))
+            ∙ ap (λ (l : ℕ). T.frees m ++ replicate f.count (s + hole_of S l)) (sym same))
         | inr e ↦
             let g : eqb f.link m ≡ false = ne_eqb f.link m (λ z. eqb-false m f.link e (sym z)) in
             rw (e, g) (sym (append-nil (T.frees m)))
       ]
 
   -- ALL OF THEM
-  all_storage : (m : ℕ) (fs : List LeftRows) (T : Taking) → (heard_all S s fs T).storage m ≡ T.storage m
+  all_storage : (m : ℕ) (fs : List FreedPlaces) (T : Taking) → (heard_all S s fs T).storage m ≡ T.storage m
   unfolding heard_all
   all_storage m [] T = refl
   all_storage m (f ∷ fs) T = all_storage m fs (heard S s f T)
 
-  all_seconds : (m : ℕ) (fs : List LeftRows) (T : Taking) → (heard_all S s fs T).seconds m ≡ T.seconds m
+  all_seconds : (m : ℕ) (fs : List FreedPlaces) (T : Taking) → (heard_all S s fs T).seconds m ≡ T.seconds m
   unfolding heard_all
   all_seconds m [] T = refl
   all_seconds m (f ∷ fs) T = all_seconds m fs (heard S s f T)
 
-  all_queued : (m : ℕ) (fs : List LeftRows) (T : Taking) → (heard_all S s fs T).queued m ≡ T.queued m - left_of m fs
+  all_queued : (m : ℕ) (fs : List FreedPlaces) (T : Taking) → (heard_all S s fs T).queued m ≡ T.queued m - left_of m fs
   unfolding heard_all
   all_queued m [] T = (let e : T.queued m ≡ T.queued m - 0 = omega arith in e)
   all_queued m (f ∷ fs) T =
@@ -107,21 +107,21 @@ module _ (S : Setup) (s : ℕ) where
 
   module _ (begins : ℕ → Bool) (t : ℕ) where
     -- of each link that begins here no more vehicles left than are in its queue
-    abbrev AreEnough : List LeftRows → Taking → Type 0
+    abbrev AreEnough : List FreedPlaces → Taking → Type 0
     AreEnough fs T = (m : ℕ) → begins m ≡ true → left_of m fs ≤ T.queued m
 
-    first_few : (f : LeftRows) (fs : List LeftRows) (T : Taking) → begins f.link ≡ true → AreEnough (f ∷ fs) T → f.rows ≤ T.queued f.link
+    first_few : (f : FreedPlaces) (fs : List FreedPlaces) (T : Taking) → begins f.link ≡ true → AreEnough (f ∷ fs) T → f.count ≤ T.queued f.link
     first_few f fs T here few =
-        first_less (left_of f.link (f ∷ fs)) (freed_in f.link (freed_row f)) (left_of f.link fs) (T.queued f.link) f.rows
+        first_less (left_of f.link (f ∷ fs)) (freed_in f.link (freed_row f)) (left_of f.link fs) (T.queued f.link) f.count
         (few f.link here)
         (left_cons f.link f fs) (left_here f)
 
-    next_few : (f : LeftRows) (fs : List LeftRows) (T : Taking) → AreEnough (f ∷ fs) T → AreEnough fs (heard S s f T)
+    next_few : (f : FreedPlaces) (fs : List FreedPlaces) (T : Taking) → AreEnough (f ∷ fs) T → AreEnough fs (heard S s f T)
     next_few f fs T few = λ m b.
         few_less (left_of m (f ∷ fs)) (freed_in m (freed_row f)) (left_of m fs) (T.queued m) ((heard S s f T).queued m)
         (left_cons m f fs) (few m b) (one_queued m f T)
 
-    all_frees : (m : ℕ) (fs : List LeftRows) (T : Taking) → Each (IsHeardOf S begins t s) fs → AreEnough fs T
+    all_frees : (m : ℕ) (fs : List FreedPlaces) (T : Taking) → Each (IsHeardOf S begins t s) fs → AreEnough fs T
         → (heard_all S s fs T).frees m ≡ T.frees m ++ replicate (left_of m fs) (s + hole_of S m)
     unfolding heard_all
     all_frees m [] T are few = sym (append-nil (T.frees m))
@@ -135,7 +135,7 @@ module _ (S : Setup) (s : ℕ) where
         ∙ ap (λ (xs : List ℕ). T.frees m ++ xs) (replicate-append-replicate r n u)
         ∙ ap (λ (k : ℕ). T.frees m ++ replicate k u) (sym (left_cons m f fs))
 
-    all_heard : (fs : List LeftRows) (T : Taking) → Each (IsHeardOf S begins t s) fs → AreEnough fs T → CanHearAll S begins t s fs T
+    all_heard : (fs : List FreedPlaces) (T : Taking) → Each (IsHeardOf S begins t s) fs → AreEnough fs T → CanHearAll S begins t s fs T
     unfolding CanHearAll
     all_heard [] T are few = tt
     all_heard (f ∷ fs) T are few = (
@@ -144,7 +144,7 @@ module _ (S : Setup) (s : ℕ) where
     )
 
 -- OF A PARCEL
-each_row : (P : Freed → Type 0) (Q : LeftRows → Type 0) → ((f : LeftRows) → P (freed_row f) → Q f) → (fs : List LeftRows)
+each_row : (P : Freed → Type 0) (Q : FreedPlaces → Type 0) → ((f : FreedPlaces) → P (freed_row f) → Q f) → (fs : List FreedPlaces)
     → Each P (map freed_row fs) → Each Q fs
 each_row P Q g [] h = tt
 each_row P Q g (f ∷ fs) h = (g f h.0, each_row P Q g fs h.1)
@@ -199,7 +199,7 @@ module _ (S : Setup) (own : Owner) (p q s t : ℕ) (all ns rest : List ℕ) (T :
       let f = few m b in
       omega arith
 
-  heard_of : (f : LeftRows) → (leads S own p q f.link ≡ true) × (f.link < length S.links) → IsHeardOf S (begins_here S own p) t s f
+  heard_of : (f : FreedPlaces) → (leads S own p q f.link ≡ true) × (f.link < length S.links) → IsHeardOf S (begins_here S own p) t s f
   heard_of f h =
       let w = leads_over S own p q f.link (λ (e : p ≡ q). other_of S own p q other (sym e)) h.0 in
       let up = lag-up S own f.link w.over in

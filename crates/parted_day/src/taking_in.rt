@@ -13,7 +13,7 @@ use node_move::Entering;
 use node_seconds::enter_links;
 use part_places::Places;
 use part_seconds::{
-    Area, Contents, LeftList, Parcel, Run, arrive, hear_freed, put_queues, slot_of,
+    Area, Contents, FreedList, Parcel, Run, arrive, hear_freed, put_queues, slot_of,
 };
 use queue_link::LinkState;
 use std::alloc::{AllocError, Global};
@@ -65,7 +65,12 @@ fn enter(
 }
 
 /// In this second vehicles left the queues of these links, which begin here.
-fn hear(day: &DayInput, second: u32, freed: LeftList, places: &mut Places) -> Result<(), AllocError>
+fn hear(
+    day: &DayInput,
+    second: u32,
+    freed: FreedList,
+    places: &mut Places,
+) -> Result<(), AllocError>
     ensures { (begins : ℕ → Bool) (u : ℕ) (T : Taking) → CanHearAll (setup day.now) begins u second freed T
         → AreTakenOf begins (length (setup day.now).links) day.now.town.now.settings.end_second u T places.old
         → OnOk result (AreTakenOf begins (length (setup day.now).links) day.now.town.now.settings.end_second u

@@ -4,7 +4,7 @@ use Rattle.queue_link.specs.Links.{LinkView}
 use Rattle.node_move.specs.declared.crossings.Entering.{Entering}
 use Rattle.node_seconds.specs.Networks.{slot_in, accepted_all, wakes_after_all}
 use Rattle.part_places.specs.Taking.{AreTakenOf}
-use Rattle.part_seconds.specs.declared.contents.LeftRows.{LeftRows}
+use Rattle.part_seconds.specs.declared.contents.FreedPlaces.{FreedPlaces}
 use Rattle.part_seconds.specs.Hearing.{heard_all, CanHearAll}
 use Rattle.part_seconds.specs.Settling.{put_queues}
 use Rattle.part_seconds.proofs.Driven.{back}
@@ -33,8 +33,8 @@ returns c =
       links = c.in_ok-enter.ensures.links ∙ ap (λ (es : List Entering). accepted_all place s es links) es_are;
       wakes = c.in_ok-enter.ensures.wakes ∙ ap (λ (es : List Entering). wakes_after_all place end s es links A.network.link_wakes) es_are;
       places = λ begins u T can taken.
-          subst (λ (fs : List LeftRows). AreTakenOf begins (length S.links) end u (heard_all S s fs T) c.hear.new.places) freed_is
-          (c.in_ok-hear.ensures begins u T (subst (λ (fs : List LeftRows). CanHearAll S begins u s fs T) (sym freed_is) can) taken);
+          subst (λ (fs : List FreedPlaces). AreTakenOf begins (length S.links) end u (heard_all S s fs T) c.hear.new.places) freed_is
+          (c.in_ok-hear.ensures begins u T (subst (λ (fs : List FreedPlaces). CanHearAll S begins u s fs T) (sym freed_is) can) taken);
       nodes = refl;
       queues =
           back A.queues.len c.put_queues.new.queues _ (let a = c.put_queues.auto.queues in let b = c.deref_mut.ensures.len in omega arith)

@@ -68,8 +68,8 @@ settle_links-requires-clause-links c =
 pub settle_links-requires-clause-nodes : goal.settle_links-requires-clause-nodes
 settle_links-requires-clause-nodes c = c.requires.stands.network.nodes ∙ nodes_of c.args.run.now.day.now
 
-pub take_left-requires-clause-there : goal.take_left-requires-clause-there
-take_left-requires-clause-there c =
+pub take_freed-requires-clause-there : goal.take_freed-requires-clause-there
+take_freed-requires-clause-there c =
     let run = c.args.run.now in
     let day = run.day.now in
     let own = owner_in run.owner.now.of_node in
@@ -85,8 +85,8 @@ take_left-requires-clause-there c =
     (c.deref.ensures.value ∙ c.in_ok-slots.ensures.slots)
     c.deref-4.result.now c.deref-3.result.now c.deref-4.ensures.value (c.deref-3.ensures.value ∙ sym c.deref.ensures.value)
 
-pub take_left-requires-clause-links : goal.take_left-requires-clause-links
-take_left-requires-clause-links c =
+pub take_freed-requires-clause-links : goal.take_freed-requires-clause-links
+take_freed-requires-clause-links c =
     let run = c.args.run.now in
     let day = run.day.now in
     let own = owner_in run.owner.now.of_node in
@@ -102,8 +102,8 @@ take_left-requires-clause-links c =
     (c.deref.ensures.value ∙ c.in_ok-slots.ensures.slots)
     c.deref-4.result.now c.deref-4.ensures.value
 
-pub take_left-requires-clause-queues : goal.take_left-requires-clause-queues
-take_left-requires-clause-queues c =
+pub take_freed-requires-clause-queues : goal.take_freed-requires-clause-queues
+take_freed-requires-clause-queues c =
     let run = c.args.run.now in
     let day = run.day.now in
     let own = owner_in run.owner.now.of_node in
@@ -145,12 +145,12 @@ returns-clause-stands c =
     (c.in_ok-settle_links.ensures.nodes
     ∙ ap (λ (vs : List LinkView). wake_ends_at (setup day) t vs c.deref.result.now A.network.node_wakes) c.deref-2.ensures.value)
     c.in_ok-slots.ensures.lines c.in_ok-slots.ensures.short
-    (back A.queues.len c.take_left.new.queues _ (let a = c.take_left.auto.queues in let b = c.deref_mut.ensures.len in omega arith)
+    (back A.queues.len c.take_freed.new.queues _ (let a = c.take_freed.auto.queues in let b = c.deref_mut.ensures.len in omega arith)
     ∙ put_as day own run.owner.now.parts p t run.link_slots.now run.given run.owner.now.owned run.slots A h c.turn_links.new.links.items c.deref.result.now g.links
     (λ k off. c.in_ok-slots.ensures.others k (ap (is_among k) (sym c.deref.ensures.value) ∙ off))
     (c.deref.ensures.value ∙ c.in_ok-slots.ensures.slots)
     c.deref-4.result.now c.deref-3.result.now _ _ c.deref-4.ensures.value (c.deref-3.ensures.value ∙ sym c.deref.ensures.value)
-    c.deref_mut.ensures.value c.in_ok-left.ensures.queues)
+    c.deref_mut.ensures.value c.in_ok-freed.ensures.queues)
     c.in_ok-hear_told.ensures.world c.in_ok-hear_told.ensures.followed c.in_ok-hear_told.ensures.wakes refl
 
 pub returns-clause-events : goal.returns-clause-events
@@ -183,4 +183,4 @@ returns-clause-freed c =
     (λ k off. c.in_ok-slots.ensures.others k (ap (is_among k) (sym c.deref.ensures.value) ∙ off))
     (c.deref.ensures.value ∙ c.in_ok-slots.ensures.slots)
     c.deref-4.result.now c.deref-3.result.now _ _ c.deref-4.ensures.value (c.deref-3.ensures.value ∙ sym c.deref.ensures.value) c.deref_mut.ensures.value
-    c.in_ok-left.ensures.left
+    c.in_ok-freed.ensures.freed

@@ -3,7 +3,7 @@ use Rattle.traffic.proofs.Common.{◌≡◌, ℕ, Bool, List, [], ◌∷◌, ◌
 use Rattle.traffic.proofs.Common.{Setup}
 use Rattle.part_places.specs.Taking.{Taking}
 use Rattle.part_seconds.specs.declared.contents.FreedPlaces.{FreedPlaces}
-use Rattle.part_seconds.specs.Hearing.{heard, heard_all, CanHear, CanHearAll}
+use Rattle.part_seconds.specs.Freed.{heard, heard_all, CanHear, CanHearAll}
 
 pub heard_last : (S : Setup) (s : ℕ) (fs : List FreedPlaces) (f : FreedPlaces) (T : Taking)
     → heard_all S s (fs ++ f ∷ []) T ≡ heard S s f (heard_all S s fs T)

@@ -3,7 +3,7 @@ pub mod Contents
 pub mod Sending
 pub mod Leaving
 pub mod Arriving
-pub mod Hearing
+pub mod Freed
 pub mod Slots
 pub mod Settling
 pub mod Stands

@@ -3,7 +3,7 @@
 ghost use Rattle.std.specs.Prelude.{◌≡◌, ℕ, Bool, length, OnOk};
 ghost use Rattle.part_places.specs.Taking.{Taking, AreTakenOf};
 ghost use Rattle.town.specs.Views.{setup};
-ghost use Rattle.part_seconds.specs.Hearing.{heard, heard_all, CanHear, CanHearAll};
+ghost use Rattle.part_seconds.specs.Freed.{heard, heard_all, CanHear, CanHearAll};
 
 use crate::contents::FreedPlaces;
 use part_places::{FreedLater, Places};

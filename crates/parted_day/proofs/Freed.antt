@@ -17,7 +17,7 @@ use Rattle.part_places.specs.Taking.{Taking, AreTakenOf, begins_here}
 use Rattle.part_seconds.specs.declared.contents.FreedPlaces.{FreedPlaces}
 use Rattle.part_seconds.specs.declared.contents.Contents.{Contents}
 use Rattle.part_seconds.specs.Contents.{freed_row}
-use Rattle.part_seconds.specs.Hearing.{heard, heard_all, CanHearAll}
+use Rattle.part_seconds.specs.Freed.{heard, heard_all, CanHearAll}
 use Rattle.part_seconds.proofs.Vacated.{taken_alike}
 use Rattle.parted_day.specs.Absorbed.{IsRight, places_heard}
 use Rattle.parted_day.proofs.Borders.{other_of, leads_over, given_is}

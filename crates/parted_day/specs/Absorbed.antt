@@ -19,7 +19,7 @@ use Rattle.part_places.specs.Taking.{Taking, AreTakenOf, begins_here}
 use Rattle.part_seconds.specs.declared.contents.Contents.{Contents}
 use Rattle.part_seconds.specs.Contents.{parcel_of}
 use Rattle.part_seconds.specs.Arriving.{Come, entered}
-use Rattle.part_seconds.specs.Hearing.{heard_all, CanHearAll}
+use Rattle.part_seconds.specs.Freed.{heard_all, CanHearAll}
 use Rattle.part_seconds.specs.declared.area.Area.{Area}
 use Rattle.part_seconds.specs.Settling.{places_known, put_queues}
 

@@ -3,7 +3,7 @@
 ghost use Rattle.std.specs.Prelude.{◌≡◌, ℕ, ◌<◌, Bool, length, OnOk, IfOk};
 ghost use Rattle.limits.specs.declared.TheConstants.{LAST_SECOND};
 ghost use Rattle.node_seconds.specs.Networks.{slot_in, accepted_all, wakes_after_all};
-ghost use Rattle.part_seconds.specs.Hearing.{heard_all, CanHearAll};
+ghost use Rattle.part_seconds.specs.Freed.{heard_all, CanHearAll};
 ghost use Rattle.part_places.specs.Taking.{Taking, AreTakenOf};
 ghost use Rattle.town.specs.Views.{setup};
 ghost use Rattle.parted_day.specs.Absorbed.{entered_slots, HasTakenIn};

@@ -2,7 +2,7 @@ use Rattle.std.proofs.Common.{ℕ, length}
 use Rattle.std.specs.Prelude.{Bool}
 use Rattle.part_places.specs.Taking.{Taking, AreTakenOf}
 use Rattle.town.specs.Views.{setup}
-use Rattle.part_seconds.specs.Hearing.{heard_all, CanHearAll}
+use Rattle.part_seconds.specs.Freed.{heard_all, CanHearAll}
 use Rattle.part_seconds.proofs.freed.hear_freed.Given as goal
 
 abbrev pub invariant-loop-freed_places : goal.invariant-loop-freed_places

@@ -5,7 +5,7 @@ use Rattle.node_move.specs.declared.crossings.Entering.{Entering}
 use Rattle.node_seconds.specs.Networks.{slot_in, accepted_all, wakes_after_all}
 use Rattle.part_places.specs.Taking.{AreTakenOf}
 use Rattle.part_seconds.specs.declared.contents.FreedPlaces.{FreedPlaces}
-use Rattle.part_seconds.specs.Hearing.{heard_all, CanHearAll}
+use Rattle.part_seconds.specs.Freed.{heard_all, CanHearAll}
 use Rattle.part_seconds.specs.Settling.{put_queues}
 use Rattle.part_seconds.proofs.Driven.{back}
 use Rattle.parted_day.specs.Absorbed.{entered_slots, entering_with}

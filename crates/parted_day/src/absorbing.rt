@@ -14,7 +14,7 @@ ghost use Rattle.town.specs.Views.{setup};
 ghost use Rattle.parted_day.specs.Absorbed.{IsRight};
 
 use crate::neighbours::neighbours_of;
-use crate::taking_in::take_in;
+use crate::taking_in::absorb_parcel;
 use law_parcels::{own_worlds_go_on, parcels_make_ready};
 use part_seconds::{Area, Mailbox, Run};
 use std::alloc::AllocError;
@@ -56,7 +56,7 @@ pub(crate) fn absorb(
     for place in 0..borders.len() {
         let sent = second.saturating_sub(borders[place].lag);
         let parcel = inbox.take(place);
-        take_in(area, run, sent, parcel)?;
+        absorb_parcel(area, run, sent, parcel)?;
     }
     inbox.all_taken();
     Ok(())

@@ -12,7 +12,7 @@ use crate::beginnings::begin;
 use crate::ends::end_events;
 use crate::neighbours::neighbours_of;
 use crate::straying::Stray;
-use crate::turns::{forget_told, give_out, take_turns};
+use crate::turns::{forget_told, send_parcels, take_turns};
 use divided_day::DayPart;
 use events::{Event, EventList, Rows};
 use part_links::Told;
@@ -139,7 +139,7 @@ impl<'a> Part for TownPart<'a> {
             &mut self.inbox,
             &mut self.told,
         )?;
-        give_out(
+        send_parcels(
             run,
             self.number,
             self.done,

@@ -81,7 +81,7 @@ fn hear(
 }
 
 /// What was in a parcel that was sent in this second comes to a part.
-fn take_in_contents(
+fn absorb_contents(
     area: &mut Area,
     run: &Run,
     second: u32,
@@ -110,7 +110,7 @@ fn take_in_contents(
 }
 
 /// A part takes in a parcel that was sent in this second. One with nothing in it leaves the part as it is.
-pub(crate) fn take_in(
+pub(crate) fn absorb_parcel(
     area: &mut Area,
     run: &Run,
     second: u32,
@@ -125,6 +125,6 @@ pub(crate) fn take_in(
     let Some(contents) = parcel.into_contents() else {
         return Ok(());
     };
-    take_in_contents(area, run, second, contents)?;
+    absorb_contents(area, run, second, contents)?;
     Ok(())
 }

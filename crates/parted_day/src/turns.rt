@@ -76,7 +76,7 @@ pub(crate) fn take_turns(
 
 /// What leaves the partition once the turns of a second are over goes into parcels, one for each neighbour, and with them all who are in
 /// one of them. To `strays` come those in parcels that come when the day is over.
-pub(crate) fn give_out(
+pub(crate) fn send_parcels(
     run: &Run,
     number: u32,
     second: u32,

@@ -49,18 +49,18 @@ take-parcel-requires c =
     let places = c.requires.places in
     omega arith
 
-pub take_in-requires-clause-plans : goal.take_in-requires-clause-plans
-take_in-requires-clause-plans c =
+pub absorb_parcel-requires-clause-plans : goal.absorb_parcel-requires-clause-plans
+absorb_parcel-requires-clause-plans c =
     let run = c.args.run.now in
     many_persons run.day.now (owner_in run.owner.now.of_node) c.args.number c.args.second c.args.area.now c.requires.stands _
     c.loop-place.area c.loop-place.invariant.absorbed
     ∙ one_each run.day.now c.args.area.now.persons.world c.requires.stands.persons.fit
 
-pub take_in-requires-clause-looks : goal.take_in-requires-clause-looks
-take_in-requires-clause-looks c = c.loop-place.invariant.absorbed.persons.wakes
+pub absorb_parcel-requires-clause-looks : goal.absorb_parcel-requires-clause-looks
+absorb_parcel-requires-clause-looks c = c.loop-place.invariant.absorbed.persons.wakes
 
-pub take_in-requires-clause-wakes : goal.take_in-requires-clause-wakes
-take_in-requires-clause-wakes c =
+pub absorb_parcel-requires-clause-wakes : goal.absorb_parcel-requires-clause-wakes
+absorb_parcel-requires-clause-wakes c =
     let run = c.args.run.now in
     many_wakes run.day.now (owner_in run.owner.now.of_node) c.args.number c.args.second c.args.area.now c.requires.stands _
     c.loop-place.area c.loop-place.invariant.absorbed
@@ -86,9 +86,9 @@ loop-place-preserved c =
       absorbed =
           round day run.owner.now run.given p t run.link_slots.now run.slots c.parcels_make_ready.ensures.ready
           c.parcels_make_ready.ensures.between c.args.area.now c.requires.stands k c.saturating_sub-sent.result
-          c.take-parcel.result c.args.inbox.now c.loop-place.area c.take_in.new.area lt
+          c.take-parcel.result c.args.inbox.now c.loop-place.area c.absorb_parcel.new.area lt
           (c.saturating_sub-sent.ensures ∙ ap (λ (bs : List Border). t - (border_at bs k).lag) is) c.requires.heard
-          (c.take-parcel.ensures.parcel ∙ was.kept k (omega arith)) was.absorbed c.in_ok-take_in.ensures;
+          (c.take-parcel.ensures.parcel ∙ was.kept k (omega arith)) was.absorbed c.in_ok-absorb_parcel.ensures;
       many =
           ap (λ (xs : List Contents). length xs) c.take-parcel.ensures.rest
           ∙ length-set c.loop-place.inbox k nothing ∙ was.many;

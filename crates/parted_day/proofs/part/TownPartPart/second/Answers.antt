@@ -28,20 +28,20 @@ take_turns-requires-clause-places c = c.requires.places
 pub take_turns-requires-clause-silent : goal.take_turns-requires-clause-silent
 take_turns-requires-clause-silent c = c.forget_told.ensures.said ∙ c.requires.stands.silent
 
-pub give_out-requires-clause-there : goal.give_out-requires-clause-there
-give_out-requires-clause-there c = c.requires.stands.there
+pub send_parcels-requires-clause-there : goal.send_parcels-requires-clause-there
+send_parcels-requires-clause-there c = c.requires.stands.there
 
-pub give_out-requires-clause-stands : goal.give_out-requires-clause-stands
-give_out-requires-clause-stands c = c.in_ok-leaving.ensures.stands
+pub send_parcels-requires-clause-stands : goal.send_parcels-requires-clause-stands
+send_parcels-requires-clause-stands c = c.in_ok-leaving.ensures.stands
 
-pub give_out-requires-clause-leaving : goal.give_out-requires-clause-leaving
-give_out-requires-clause-leaving c = c.in_ok-leaving.ensures.leaving
+pub send_parcels-requires-clause-leaving : goal.send_parcels-requires-clause-leaving
+send_parcels-requires-clause-leaving c = c.in_ok-leaving.ensures.leaving
 
-pub give_out-requires-clause-gone : goal.give_out-requires-clause-gone
-give_out-requires-clause-gone c = c.requires.gone
+pub send_parcels-requires-clause-gone : goal.send_parcels-requires-clause-gone
+send_parcels-requires-clause-gone c = c.requires.gone
 
-pub give_out-requires-clause-strays : goal.give_out-requires-clause-strays
-give_out-requires-clause-strays c = c.requires.stands.stray
+pub send_parcels-requires-clause-strays : goal.send_parcels-requires-clause-strays
+send_parcels-requires-clause-strays c = c.requires.stands.stray
 
 pub returns-clause-done : goal.returns-clause-done
 returns-clause-done c =
@@ -55,18 +55,18 @@ returns-clause-done c =
       seconds = refl;
       holds = record {
         there = c.requires.stands.there;
-        stands = c.in_ok-give_out.ensures.stands;
+        stands = c.in_ok-send_parcels.ensures.stands;
         events = told_next day run.owner.now run.given p t run.streams c.args.self.now.told.events.items c.take_turns.new.told.events.items
             c.requires.stands.events
             (c.in_ok-leaving.ensures.events
             ∙ ap (λ (es : List Event). es ++ turns_told (setup day) own p t) c.forget_told.ensures.events);
         silent = c.in_ok-leaving.ensures.said;
-        stray = c.in_ok-give_out.ensures.strays;
+        stray = c.in_ok-send_parcels.ensures.strays;
         whole = refl;
       };
       empty = empty_as _ _ _ c.requires.places c.in_ok-leaving.ensures.empty;
-      places = c.in_ok-give_out.ensures.places;
+      places = c.in_ok-send_parcels.ensures.places;
     }
 
 pub returns-clause-sent : goal.returns-clause-sent
-returns-clause-sent c = c.in_ok-give_out.ensures.sent
+returns-clause-sent c = c.in_ok-send_parcels.ensures.sent

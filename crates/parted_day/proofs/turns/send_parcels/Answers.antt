@@ -10,7 +10,7 @@ use Rattle.part_seconds.specs.declared.contents.Contents.{Contents}
 use Rattle.parted_day.proofs.Going.{next_stands}
 use Rattle.parted_day.proofs.Sending.{are_others, has_sent, sent_as}
 use Rattle.parted_day.proofs.Standing.{empty_has_nothing}
-use Rattle.parted_day.proofs.turns.give_out.Goals as goal
+use Rattle.parted_day.proofs.turns.send_parcels.Goals as goal
 
 pub send-requires-clause-plans : goal.send-requires-clause-plans
 send-requires-clause-plans c = one_each c.args.run.now.day.now c.args.area.now.persons.world c.requires.stands.persons.fit

@@ -2,7 +2,7 @@ use Rattle.std.proofs.Common.{subst}
 use Rattle.part_seconds.specs.declared.contents.Contents.{Contents}
 use Rattle.parted_day.specs.Absorbed.{HasTakenIn}
 use Rattle.parted_day.proofs.Nothing.{nothing_comes}
-use Rattle.parted_day.proofs.taking_in.take_in.Goals as goal
+use Rattle.parted_day.proofs.taking_in.absorb_parcel.Goals as goal
 
 pub returns-in_default : goal.returns-in_default
 returns-in_default c =
@@ -12,4 +12,4 @@ returns-in_default c =
 pub returns : goal.returns
 returns c =
     subst (λ (x : Contents). HasTakenIn c.args.run.now.day.now c.args.run.now.link_slots.now c.args.second x c.args.area.now
-    c.take_in_contents.new.area) c.in-Some.ensures c.in_ok-take_in_contents.ensures
+    c.absorb_contents.new.area) c.in-Some.ensures c.in_ok-absorb_contents.ensures

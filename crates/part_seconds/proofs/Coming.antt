@@ -13,9 +13,9 @@ use Rattle.town.specs.declared.day_input.DayInput.{DayInput}
 use Rattle.part_persons.specs.Dues.{AreFollowedIn}
 use Rattle.part_persons.specs.declared.persons.Persons.{Persons}
 use Rattle.part_seconds.specs.declared.contents.Moved.{Moved}
-use Rattle.part_seconds.specs.declared.contents.Flying.{Flying}
+use Rattle.part_seconds.specs.declared.contents.Teleported.{Teleported}
 use Rattle.part_seconds.specs.Contents.{passed_of, flight_of}
-use Rattle.part_seconds.specs.Arriving.{Come, if_is, all_riding, flown, entering_by, entered}
+use Rattle.part_seconds.specs.Arriving.{Come, if_is, all_riding, teleporting_in, entering_by, entered}
 use Rattle.part_seconds.proofs.Lists.{flat_of_map, map_of_map}
 
 last_append : (P : Person) (xs ys : List Person) → last_or P (xs ++ ys) ≡ last_or (last_or P xs) ys
@@ -109,13 +109,13 @@ pub rides_of : (S : Setup) (t i : ℕ) (ms : List Moved)
     → flat_map (λ (y : Passed). riding i y.row.vehicle.id y.row.vehicle.riders y.elements) (map (passed_of S t) ms) ≡ all_riding i ms
 rides_of S t i ms = flat_of_map (passed_of S t) (λ (y : Passed). riding i y.row.vehicle.id y.row.vehicle.riders y.elements) ms
 
-pub flights_of : (S : Setup) (t i s : ℕ) (fs : List Flying) → flat_map (flying i s) (map (flight_of S t) fs) ≡ flat_map (flown i s) fs
+pub flights_of : (S : Setup) (t i s : ℕ) (fs : List Teleported) → flat_map (flying i s) (map (flight_of S t) fs) ≡ flat_map (teleporting_in i s) fs
 flights_of S t i s fs = flat_of_map (flight_of S t) (flying i s) fs
 
-pub comes_of : (S : Setup) (t i s : ℕ) (ms : List Moved) (fs : List Flying)
+pub comes_of : (S : Setup) (t i s : ℕ) (ms : List Moved) (fs : List Teleported)
     → flat_map (λ (y : Passed). riding i y.row.vehicle.id y.row.vehicle.riders y.elements) (map (passed_of S t) ms)
     ++ flat_map (flying i s) (map (flight_of S t) fs)
-    ≡ all_riding i ms ++ flat_map (flown i s) fs
+    ≡ all_riding i ms ++ flat_map (teleporting_in i s) fs
 comes_of S t i s ms fs =
     ap (λ (ps : List Person). ps ++ flat_map (flying i s) (map (flight_of S t) fs)) (rides_of S t i ms)
     ∙ ap (λ (ps : List Person). all_riding i ms ++ ps) (flights_of S t i s fs)

@@ -14,13 +14,13 @@ use Rattle.parts.specs.Owners.{Owner}
 use Rattle.step_core.specs.declared.part.Border.{Border}
 use Rattle.step_core.specs.Nets.{border_at, no_border}
 use Rattle.part_seconds.specs.declared.contents.Moved.{Moved}
-use Rattle.part_seconds.specs.declared.contents.Flying.{Flying}
+use Rattle.part_seconds.specs.declared.contents.Teleported.{Teleported}
 use Rattle.part_seconds.specs.declared.contents.FreedPlaces.{FreedPlaces}
 use Rattle.part_seconds.specs.declared.contents.Contents.{Contents}
 use Rattle.part_seconds.specs.Leaving.{AreOthers}
 use Rattle.part_seconds.specs.Parcels.{nothing}
-use Rattle.part_seconds.specs.Sending.{parcel_at, with_vehicles, with_flights, with_freed, place_in, is_at, changed_at, AreMore}
-use Rattle.part_seconds.specs.Sending.{moved_of, vehicle_place, more_vehicles, flight_place, flying_of, more_flights, freed_place, more_freed}
+use Rattle.part_seconds.specs.Sending.{parcel_at, with_vehicles, with_teleported, with_freed, place_in, is_at, changed_at, AreMore}
+use Rattle.part_seconds.specs.Sending.{moved_of, vehicle_place, more_vehicles, teleported_place, teleported_of, more_teleported, freed_place, more_freed}
 use Rattle.part_seconds.proofs.Lists.{next_map}
 
 changed_count : (o : Option ℕ) (f : Contents → Contents) (xs : List Contents) → length (changed_at o f xs) ≡ length xs
@@ -73,24 +73,24 @@ next_vehicles S own borders persons es e k x =
     more_of_vehicles (goes e) x (map (moved_of persons) (filter goes es)) (moved_of persons e)
     ∙ ap (λ (ms : List Moved). with_vehicles ms x) (sym (next_map (moved_of persons) goes es e))
 
--- FLIGHTS
-more_of_flights : (b : Bool) (x : Contents) (ys : List Flying) (m : Flying)
-    → (if b then with_flights (m ∷ []) (with_flights ys x) else with_flights ys x) ≡ with_flights (ys ++ (if b then m ∷ [] else [])) x
-more_of_flights true x ys m = ap (λ (vs : List Flying). record x { flights = vs }) (append_assoc x.flights ys (m ∷ []))
-more_of_flights false x ys m = ap (λ (vs : List Flying). record x { flights = x.flights ++ vs }) (sym (append-nil ys))
+-- TELEPORTED PERSONS
+more_of_teleported : (b : Bool) (x : Contents) (ys : List Teleported) (m : Teleported)
+    → (if b then with_teleported (m ∷ []) (with_teleported ys x) else with_teleported ys x) ≡ with_teleported (ys ++ (if b then m ∷ [] else [])) x
+more_of_teleported true x ys m = ap (λ (vs : List Teleported). record x { teleported = vs }) (append_assoc x.teleported ys (m ∷ []))
+more_of_teleported false x ys m = ap (λ (vs : List Teleported). record x { teleported = x.teleported ++ vs }) (sym (append-nil ys))
 
-pub no_flights : (x : Contents) → x ≡ with_flights [] x
-no_flights x = ap (λ (vs : List Flying). record x { flights = vs }) (sym (append-nil x.flights))
+pub none_teleported : (x : Contents) → x ≡ with_teleported [] x
+none_teleported x = ap (λ (vs : List Teleported). record x { teleported = vs }) (sym (append-nil x.teleported))
 
-pub next_flights : (S : Setup) (own : Owner) (p : ℕ) (borders : List Border) (t : ℕ) (persons : List Person) (ns : List ℕ) (n k : ℕ)
+pub next_teleported : (S : Setup) (own : Owner) (p : ℕ) (borders : List Border) (t : ℕ) (persons : List Person) (ns : List ℕ) (n k : ℕ)
     (x : Contents)
-    → (if is_at k (flight_place S own p borders t persons n)
-    then with_flights (flying_of persons n ∷ []) (more_flights S own p borders t persons ns k x)
-    else more_flights S own p borders t persons ns k x) ≡ more_flights S own p borders t persons (ns ++ n ∷ []) k x
-next_flights S own p borders t persons ns n k x =
-    let goes : ℕ → Bool = λ i. is_at k (flight_place S own p borders t persons i) in
-    more_of_flights (goes n) x (map (flying_of persons) (filter goes ns)) (flying_of persons n)
-    ∙ ap (λ (ms : List Flying). with_flights ms x) (sym (next_map (flying_of persons) goes ns n))
+    → (if is_at k (teleported_place S own p borders t persons n)
+    then with_teleported (teleported_of persons n ∷ []) (more_teleported S own p borders t persons ns k x)
+    else more_teleported S own p borders t persons ns k x) ≡ more_teleported S own p borders t persons (ns ++ n ∷ []) k x
+next_teleported S own p borders t persons ns n k x =
+    let goes : ℕ → Bool = λ i. is_at k (teleported_place S own p borders t persons i) in
+    more_of_teleported (goes n) x (map (teleported_of persons) (filter goes ns)) (teleported_of persons n)
+    ∙ ap (λ (ms : List Teleported). with_teleported ms x) (sym (next_map (teleported_of persons) goes ns n))
 
 -- FREED PLACES
 more_of_freed : (b : Bool) (x : Contents) (ys : List FreedPlaces) (m : FreedPlaces)

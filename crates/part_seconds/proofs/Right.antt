@@ -25,7 +25,7 @@ use Rattle.step_core.specs.Nets.{border_at}
 use Rattle.part_seconds.specs.declared.contents.FreedPlaces.{FreedPlaces}
 use Rattle.part_seconds.specs.Contents.{passed_of, flight_of, freed_row, parcel_of}
 use Rattle.part_seconds.specs.Leaving.{AreOthers}
-use Rattle.part_seconds.specs.Sending.{is_at, moved_of, vehicle_place, other_than, flies_to, place_if, flight_place, flying_of, freed_place}
+use Rattle.part_seconds.specs.Sending.{is_at, moved_of, vehicle_place, other_than, teleports_to, place_if, teleported_place, teleported_of, freed_place}
 use Rattle.part_seconds.specs.Sending.{parcel_for}
 use Rattle.part_seconds.proofs.Places.{place_is}
 
@@ -97,7 +97,7 @@ module _ (S : Setup) (own : Owner) (p t k : ℕ) (borders : List Border) (others
       ]
 
   one_flight : (i element : ℕ) (pl : Place)
-      → (if is_at k (place_if borders (flies_to S own p t i element pl)) then one_flying S t i element ∷ [] else [])
+      → (if is_at k (place_if borders (teleports_to S own p t i element pl)) then one_flying S t i element ∷ [] else [])
       ≡ (if owner_of S own (act_after S i element).link == q then flight_at S t i element pl else [])
   one_flight i element (Teleporting start) =
       let d = owner_of S own (act_after S i element).link in
@@ -116,16 +116,16 @@ module _ (S : Setup) (own : Owner) (p t k : ℕ) (borders : List Border) (others
   one_flight i element (Aborted l) = sym (no_way (owner_of S own (act_after S i element).link == q))
 
   pub flights_are : (W : World) (ns : List ℕ)
-      → map (flight_of S t) (map (flying_of W.persons) (filter (λ i. is_at k (flight_place S own p borders t W.persons i)) ns))
+      → map (flight_of S t) (map (teleported_of W.persons) (filter (λ i. is_at k (teleported_place S own p borders t W.persons i)) ns))
       ≡ flat_map (λ i. flight_to S own q t i (Some (person_of i W))) ns
   flights_are W [] = refl
   flights_are W (i ∷ ns) =
       let P = person_of i W in
-      let goes : ℕ → Bool = λ i. is_at k (flight_place S own p borders t W.persons i) in
-      let rest : List Flight = map (flight_of S t) (map (flying_of W.persons) (filter goes ns)) in
+      let goes : ℕ → Bool = λ i. is_at k (teleported_place S own p borders t W.persons i) in
+      let rest : List Flight = map (flight_of S t) (map (teleported_of W.persons) (filter goes ns)) in
       let one : (if goes i then one_flying S t i P.element ∷ [] else []) ≡ flight_to S own q t i (Some P)
       = one_flight i P.element P.place in
-      let start : map (flight_of S t) (map (flying_of W.persons) (filter goes (i ∷ ns)))
+      let start : map (flight_of S t) (map (teleported_of W.persons) (filter goes (i ∷ ns)))
       ≡ (if goes i then one_flying S t i P.element ∷ [] else []) ++ rest
       = elim (cases_Bool (goes i)) [ inl e ↦ rw e refl | inr e ↦ rw e refl ] in
       start ∙ ap (λ (fs : List Flight). fs ++ rest) one
@@ -166,7 +166,7 @@ module _ (S : Setup) (own : Owner) (p t k : ℕ) (borders : List Border) (others
       ∙ vehicles_are S t V goes (goes_to S own q) (λ r. place_is p borders k (owner_of S own r.link) others lt) (sent_rows S own p t)
       (subst_each S t (out S own p q t).vehicles _ (sends.vehicles q other) whole)
       ∙ sym (sends.vehicles q other) in
-      let b : map (flight_of S t) (map (flying_of V.persons) (filter (λ i. is_at k (flight_place S own p borders t V.persons i)) ns))
+      let b : map (flight_of S t) (map (teleported_of V.persons) (filter (λ i. is_at k (teleported_place S own p borders t V.persons i)) ns))
       ≡ (out S own p q t).flights
       = flights_are V ns ∙ ap (flat_map (λ i. flight_to S own q t i (Some (person_of i V)))) looked
       ∙ sym (sends.flights q (λ i. is_among i ns) same) in

@@ -26,7 +26,7 @@ use Rattle.law_partitions.proofs.Spare.{listed-cons}
 use Rattle.law_parcels.specs.Sending.{sent_rows, flies_out, is_gone}
 use Rattle.law_parcels.proofs.Ending.{lacked}
 use Rattle.law_parcels.proofs.Flying.{flew_before}
-use Rattle.part_seconds.specs.Sending.{number_of, riders_of, flies_to, flies, one_if, if_flies, all_gone}
+use Rattle.part_seconds.specs.Sending.{number_of, riders_of, teleports_to, teleports, one_if, if_teleports, all_gone}
 use Rattle.part_seconds.proofs.Lists.{or_none, among_append}
 
 -- RIDERS
@@ -55,7 +55,7 @@ rows_among i (r ∷ rs) =
     ∙ ap (λ (b : Bool). nat_lt 0 (listed_in i r) || b) (rows_among i rs)
     ∙ sym (some_of_two (listed_in i r) (listed i rs)) ∙ ap (nat_lt 0) (sym (listed-cons i r rs))
 
--- FLIGHTS
+-- TELEPORTED PERSONS
 and_true : (b : Bool) → (b && true) ≡ b
 and_true true = refl
 and_true false = refl
@@ -71,10 +71,10 @@ spread true false true = refl
 spread true false false = refl
 spread false b c = refl
 
-flying_among : (f : ℕ → Option ℕ) (i : ℕ) (ns : List ℕ)
+teleported_among : (f : ℕ → Option ℕ) (i : ℕ) (ns : List ℕ)
     → is_among i (flat_map (λ (j : ℕ). one_if (f j) j) ns) ≡ (is_among i ns && is_some (f i))
-flying_among f i [] = refl
-flying_among f i (j ∷ ns) =
+teleported_among f i [] = refl
+teleported_among f i (j ∷ ns) =
     let here : ((j == i) && is_some (f j)) ≡ ((j == i) && is_some (f i))
     = elim (cases_Bool (eqb j i)) [
       | inl e ↦ ap (λ (n : ℕ). (j == i) && is_some (f n)) (eqb-true j i e)
@@ -82,23 +82,23 @@ flying_among f i (j ∷ ns) =
     ] in
     among_append i (one_if (f j) j) (flat_map (λ (j : ℕ). one_if (f j) j) ns)
     ∙ ap (λ (b : Bool). b || is_among i (flat_map (λ (j : ℕ). one_if (f j) j) ns)) (one_among i j (f j) ∙ here)
-    ∙ ap (λ (b : Bool). ((j == i) && is_some (f i)) || b) (flying_among f i ns) ∙ spread (j == i) (is_among i ns) (is_some (f i))
+    ∙ ap (λ (b : Bool). ((j == i) && is_some (f i)) || b) (teleported_among f i ns) ∙ spread (j == i) (is_among i ns) (is_some (f i))
 
 two_ways : (a b : Bool) (q : ℕ) → is_some (if a then (if b then None else Some q) else None) ≡ (a && not b)
 two_ways true true q = refl
 two_ways true false q = refl
 two_ways false b q = refl
 
-flies_is : (S : Setup) (own : Owner) (p t i element : ℕ) (pl : Place)
-    → is_some (flies_to S own p t i element pl) ≡ flies_out S own p t i element pl
-flies_is S own p t i element (Teleporting start) =
+teleports_is : (S : Setup) (own : Owner) (p t i element : ℕ) (pl : Place)
+    → is_some (teleports_to S own p t i element pl) ≡ flies_out S own p t i element pl
+teleports_is S own p t i element (Teleporting start) =
     two_ways (start == t) (owner_of S own (act_after S i element).link == p) (owner_of S own (act_after S i element).link)
-flies_is S own p t i element (At end) = refl
-flies_is S own p t i element (Waiting stop since) = refl
-flies_is S own p t i element (Riding v) = refl
-flies_is S own p t i element (Aborted l) = refl
+teleports_is S own p t i element (At end) = refl
+teleports_is S own p t i element (Waiting stop since) = refl
+teleports_is S own p t i element (Riding v) = refl
+teleports_is S own p t i element (Aborted l) = refl
 
--- whoever did not set out flies nowhere
+-- whoever did not set out teleports nowhere
 stays_here : (S : Setup) (own : Owner) (p t i element : ℕ) (pl : Place) → (pl ≡ Teleporting t → ⊥)
     → flies_out S own p t i element pl ≡ false
 stays_here S own p t i element (Teleporting start) h =
@@ -112,10 +112,10 @@ stays_here S own p t i element (Riding v) h = refl
 stays_here S own p t i element (Aborted l) h = refl
 
 module _ (S : Setup) (own : Owner) (p t : ℕ) (z : Counts) (law : Lawful S) (arrivals : Arrivals S) (fit : IsFitSetup z S) where
-  not_flew : (i : ℕ) → i < length S.persons
+  not_teleported : (i : ℕ) → i < length S.persons
       → person_of i (set_out S own p t (world_before S own p t)) ≡ person_of i (world_before S own p t)
       → (person_of i (world_driven S own p t)).place ≡ Teleporting t → ⊥
-  not_flew i lt same q =
+  not_teleported i lt same q =
       elim (cases_Bool (is_there S own p t i)) [
         | inl e ↦ flew_before S own p t z law arrivals fit i lt e same q
         | inr e ↦
@@ -133,12 +133,12 @@ module _ (S : Setup) (own : Owner) (p t : ℕ) (z : Counts) (law : Lawful S) (ar
       let P = person_of i V in
       let riders : is_among i (flat_map riders_of es) ≡ rides_in i (sent_rows S own p t)
       = ap (λ (xs : List Entering). is_among i (flat_map riders_of xs)) rows ∙ rows_among i (sent_rows S own p t) in
-      let fliers : is_among i (flat_map (if_flies S own p t V.persons) ns) ≡ flies_out S own p t i P.element P.place
-      = flying_among (flies S own p t V.persons) i ns
+      let teleported : is_among i (flat_map (if_teleports S own p t V.persons) ns) ≡ flies_out S own p t i P.element P.place
+      = teleported_among (teleports S own p t V.persons) i ns
       ∙ elim (cases_Bool (is_among i ns)) [
-        | inl e ↦ rw e (flies_is S own p t i P.element P.place)
-        | inr e ↦ rw e (sym (stays_here S own p t i P.element P.place (not_flew i lt (same i e))))
+        | inl e ↦ rw e (teleports_is S own p t i P.element P.place)
+        | inr e ↦ rw e (sym (stays_here S own p t i P.element P.place (not_teleported i lt (same i e))))
       ] in
-      among_append i (flat_map riders_of es) (flat_map (if_flies S own p t V.persons) ns)
-      ∙ ap (λ (b : Bool). b || is_among i (flat_map (if_flies S own p t V.persons) ns)) riders
-      ∙ ap (λ (b : Bool). rides_in i (sent_rows S own p t) || b) fliers
+      among_append i (flat_map riders_of es) (flat_map (if_teleports S own p t V.persons) ns)
+      ∙ ap (λ (b : Bool). b || is_among i (flat_map (if_teleports S own p t V.persons) ns)) riders
+      ∙ ap (λ (b : Bool). rides_in i (sent_rows S own p t) || b) teleported

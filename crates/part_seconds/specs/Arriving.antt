@@ -12,7 +12,7 @@ use Rattle.town.specs.declared.day_input.DayInput.{DayInput}
 use Rattle.part_persons.specs.Dues.{AreFollowedIn}
 use Rattle.part_persons.specs.declared.persons.Persons.{Persons}
 use Rattle.part_seconds.specs.declared.contents.Moved.{Moved}
-use Rattle.part_seconds.specs.declared.contents.Flying.{Flying}
+use Rattle.part_seconds.specs.declared.contents.Teleported.{Teleported}
 
 -- Each person has the last of the rows that came for him, or the one that he had; all else is as it was.
 pub record Come (day : DayInput) (rows : ℕ → List Person) (old new : Persons) : Type 0 where
@@ -26,15 +26,15 @@ pub record Come (day : DayInput) (rows : ℕ → List Person) (old new : Persons
 abbrev pub if_is : ℕ → ℕ → Person → List Person
 if_is n i P = if n == i then P ∷ [] else []
 
--- the rows of person i in these vehicles, and in a flight since second s
+-- the rows of person i in these vehicles, and where he teleports since second s
 abbrev pub riding_in : ℕ → Moved → List Person
 riding_in i m = riding i m.vehicle.id m.vehicle.riders m.elements
 
 abbrev pub all_riding : ℕ → List Moved → List Person
 all_riding i ms = flat_map (riding_in i) ms
 
-abbrev pub flown : ℕ → ℕ → Flying → List Person
-flown i s f = if_is f.person i (record { element = f.element; place = place.Teleporting s })
+abbrev pub teleporting_in : ℕ → ℕ → Teleported → List Person
+teleporting_in i s f = if_is f.person i (record { element = f.element; place = place.Teleporting s })
 
 -- a vehicle that comes to its link
 abbrev pub entering_by : Moved → Entering

@@ -3,7 +3,7 @@ use Rattle.std.specs.Prelude.{ℕ, ◌+◌, map}
 use Rattle.traffic.specs.Setup.{Setup, leg_at}
 use Rattle.parts.specs.Parts.{Parcel as Sent, Passed, Flight, Freed, entering_row, seconds_of_way}
 use Rattle.part_seconds.specs.declared.contents.Moved.{Moved}
-use Rattle.part_seconds.specs.declared.contents.Flying.{Flying}
+use Rattle.part_seconds.specs.declared.contents.Teleported.{Teleported}
 use Rattle.part_seconds.specs.declared.contents.FreedPlaces.{FreedPlaces}
 use Rattle.part_seconds.specs.declared.contents.Contents.{Contents}
 
@@ -11,7 +11,7 @@ use Rattle.part_seconds.specs.declared.contents.Contents.{Contents}
 abbrev pub passed_of : Setup → ℕ → Moved → Passed
 passed_of S t m = record { row = entering_row S t m.vehicle; elements = m.elements }
 
-abbrev pub flight_of : Setup → ℕ → Flying → Flight
+abbrev pub flight_of : Setup → ℕ → Teleported → Flight
 flight_of S t f = record { person = f.person; element = f.element; due = t + seconds_of_way (leg_at S f.person f.element) }
 
 abbrev pub freed_row : FreedPlaces → Freed
@@ -19,4 +19,4 @@ freed_row f = record { link = f.link; rows = f.count }
 
 abbrev pub parcel_of : Setup → ℕ → Contents → Sent
 parcel_of S t x =
-    record { vehicles = map (passed_of S t) x.vehicles; flights = map (flight_of S t) x.flights; freed = map freed_row x.freed }
+    record { vehicles = map (passed_of S t) x.vehicles; flights = map (flight_of S t) x.teleported; freed = map freed_row x.freed }

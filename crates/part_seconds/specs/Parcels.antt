@@ -5,7 +5,7 @@ use Rattle.part_seconds.specs.declared.contents.Contents.{Contents}
 
 -- where nothing goes
 abbrev pub nothing : Contents
-nothing = record { vehicles = []; flights = []; freed = [] }
+nothing = record { vehicles = []; teleported = []; freed = [] }
 
 -- what goes with a parcel that has this box: nothing, where it has none
 abbrev pub contents_in : Option (Box Contents) → Contents

@@ -12,7 +12,7 @@ use Rattle.node_move.specs.declared.crossings.Entering.{Entering}
 use Rattle.parts.specs.Owners.{Owner, owner_of, begins_in}
 use Rattle.step_core.specs.declared.part.Border.{Border}
 use Rattle.part_seconds.specs.declared.contents.Moved.{Moved}
-use Rattle.part_seconds.specs.declared.contents.Flying.{Flying}
+use Rattle.part_seconds.specs.declared.contents.Teleported.{Teleported}
 use Rattle.part_seconds.specs.declared.contents.FreedPlaces.{FreedPlaces}
 use Rattle.part_seconds.specs.declared.contents.Contents.{Contents}
 use Rattle.part_seconds.specs.Parcels.{nothing}
@@ -26,8 +26,8 @@ parcel_at parcels k = get_or parcels k nothing
 abbrev pub with_vehicles : List Moved → Contents → Contents
 with_vehicles ms x = record x { vehicles = x.vehicles ++ ms }
 
-abbrev pub with_flights : List Flying → Contents → Contents
-with_flights fs x = record x { flights = x.flights ++ fs }
+abbrev pub with_teleported : List Teleported → Contents → Contents
+with_teleported fs x = record x { teleported = x.teleported ++ fs }
 
 abbrev pub with_freed : List FreedPlaces → Contents → Contents
 with_freed fs x = record x { freed = x.freed ++ fs }
@@ -72,43 +72,43 @@ abbrev pub more_vehicles : Setup → Owner → List Border → List Person → L
 more_vehicles S own borders persons es k =
     with_vehicles (map (moved_of persons) (filter (λ e. is_at k (vehicle_place S own borders e)) es))
 
--- FLIGHTS
+-- TELEPORTED PERSONS
 -- the partition, where it is another one than p
 abbrev pub other_than : ℕ → ℕ → Option ℕ
 other_than p q = if q == p then None else Some q
 
 -- the partition to which person i at this place set out in second t, if it is another one than p
-abbrev pub flies_to : Setup → Owner → ℕ → ℕ → ℕ → ℕ → Place → Option ℕ
-flies_to S own p t i element (place.Teleporting start) =
+abbrev pub teleports_to : Setup → Owner → ℕ → ℕ → ℕ → ℕ → Place → Option ℕ
+teleports_to S own p t i element (place.Teleporting start) =
     if start == t then other_than p (owner_of S own (act_after S i element).link) else None
-flies_to S own p t i element _ = None
+teleports_to S own p t i element _ = None
 
 -- so with person i of these
-abbrev pub flies : Setup → Owner → ℕ → ℕ → List Person → ℕ → Option ℕ
-flies S own p t persons i =
+abbrev pub teleports : Setup → Owner → ℕ → ℕ → List Person → ℕ → Option ℕ
+teleports S own p t persons i =
     let P = get_or persons i nobody in
-    flies_to S own p t i P.element P.place
+    teleports_to S own p t i P.element P.place
 
 abbrev pub one_if : Option ℕ → ℕ → List ℕ
 one_if None i = []
 one_if (Some q) i = i ∷ []
 
-abbrev pub if_flies : Setup → Owner → ℕ → ℕ → List Person → ℕ → List ℕ
-if_flies S own p t persons i = one_if (flies S own p t persons i) i
+abbrev pub if_teleports : Setup → Owner → ℕ → ℕ → List Person → ℕ → List ℕ
+if_teleports S own p t persons i = one_if (teleports S own p t persons i) i
 
 abbrev pub place_if : List Border → Option ℕ → Option ℕ
 place_if borders None = None
 place_if borders (Some q) = place_in borders q
 
-abbrev pub flight_place : Setup → Owner → ℕ → List Border → ℕ → List Person → ℕ → Option ℕ
-flight_place S own p borders t persons i = place_if borders (flies S own p t persons i)
+abbrev pub teleported_place : Setup → Owner → ℕ → List Border → ℕ → List Person → ℕ → Option ℕ
+teleported_place S own p borders t persons i = place_if borders (teleports S own p t persons i)
 
-abbrev pub flying_of : List Person → ℕ → Flying
-flying_of persons i = record { person = i; element = (get_or persons i nobody).element }
+abbrev pub teleported_of : List Person → ℕ → Teleported
+teleported_of persons i = record { person = i; element = (get_or persons i nobody).element }
 
-abbrev pub more_flights : Setup → Owner → ℕ → List Border → ℕ → List Person → List ℕ → ℕ → Contents → Contents
-more_flights S own p borders t persons ns k =
-    with_flights (map (flying_of persons) (filter (λ i. is_at k (flight_place S own p borders t persons i)) ns))
+abbrev pub more_teleported : Setup → Owner → ℕ → List Border → ℕ → List Person → List ℕ → ℕ → Contents → Contents
+more_teleported S own p borders t persons ns k =
+    with_teleported (map (teleported_of persons) (filter (λ i. is_at k (teleported_place S own p borders t persons i)) ns))
 
 -- FREED PLACES
 abbrev pub freed_place : Setup → Owner → List Border → FreedPlaces → Option ℕ
@@ -121,8 +121,8 @@ more_freed S own borders fs k = with_freed (filter (λ f. is_at k (freed_place S
 -- the parcel for the neighbour at place k
 abbrev pub parcel_for : Setup → Owner → ℕ → List Border → ℕ → List Person → List Entering → List ℕ → List FreedPlaces → ℕ → Contents
 parcel_for S own p borders t persons es ns fs k =
-    more_freed S own borders fs k (more_flights S own p borders t persons ns k (more_vehicles S own borders persons es k nothing))
+    more_freed S own borders fs k (more_teleported S own p borders t persons ns k (more_vehicles S own borders persons es k nothing))
 
 -- who goes with it
 abbrev pub all_gone : Setup → Owner → ℕ → ℕ → List Person → List Entering → List ℕ → List ℕ
-all_gone S own p t persons es ns = flat_map riders_of es ++ flat_map (if_flies S own p t persons) ns
+all_gone S own p t persons es ns = flat_map riders_of es ++ flat_map (if_teleports S own p t persons) ns

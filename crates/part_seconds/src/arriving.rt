@@ -6,9 +6,9 @@ ghost use Rattle.law_partitions.specs.Alone.{person_in, riding};
 ghost use Rattle.town.specs.Views.{setup};
 ghost use Rattle.traffic.specs.declared.world.Place.TheVariants as place;
 ghost use Rattle.part_seconds.specs.Contents.{parcel_of, freed_row};
-ghost use Rattle.part_seconds.specs.Arriving.{Come, entering_by, entered, if_is, flown, all_riding};
+ghost use Rattle.part_seconds.specs.Arriving.{Come, entering_by, entered, if_is, teleporting_in, all_riding};
 
-use crate::contents::{Contents, FlyingList, FreedList, Moved, MovedList};
+use crate::contents::{Contents, FreedList, Moved, MovedList, TeleportedList};
 use events::VehicleId;
 use node_move::Entering;
 use part_persons::Persons;
@@ -119,22 +119,22 @@ fn bring_vehicles(
 }
 
 /// Those come who set out in this second.
-fn bring_flights(
+fn bring_teleported(
     day: &DayInput,
     second: u32,
-    flights: FlyingList,
+    teleported: TeleportedList,
     persons: &mut Persons,
 ) -> Result<(), AllocError>
     requires plans { length persons.old.world.persons ≡ length day.now.chosen.now }
     requires wakes { length persons.old.wakes ≡ length persons.old.world.persons }
-    ensures { OnOk result (Come day.now (λ i. flat_map (flown i second) flights) persons.old persons.new) }
+    ensures { OnOk result (Come day.now (λ i. flat_map (teleporting_in i second) teleported) persons.old persons.new) }
 {
-    for flight in flights.rows {
+    for sent in teleported.rows {
         let person = Person {
-            element: flight.element,
+            element: sent.element,
             place: Place::Teleporting { start: second },
         };
-        bring(day, flight.person, person, persons)?;
+        bring(day, sent.person, person, persons)?;
     }
     Ok(())
 }
@@ -162,10 +162,10 @@ pub fn arrive(
 {
     let Contents {
         vehicles,
-        flights,
+        teleported,
         freed,
     } = contents;
     bring_vehicles(day, vehicles, persons, entering)?;
-    bring_flights(day, second, flights, persons)?;
+    bring_teleported(day, second, teleported, persons)?;
     Ok(freed)
 }

@@ -2,7 +2,7 @@
 
 ghost use Rattle.std.specs.Prelude.{◌≡◌, true, [], ◌∷◌, IfOk, OnOk, MatchOption};
 ghost use Rattle.part_seconds.specs.Parcels.{nothing};
-ghost use Rattle.part_seconds.specs.Sending.{with_vehicles, with_flights, with_freed};
+ghost use Rattle.part_seconds.specs.Sending.{with_vehicles, with_teleported, with_freed};
 
 use events::Rows;
 use std::alloc::{AllocError, Global};
@@ -21,17 +21,17 @@ pub struct Moved {
 /// The vehicles that cross a border in a second, in order.
 pub type MovedList = Rows<Moved>;
 
-/// A person who flies over a border since the second of the parcel.
+/// A person who teleports over a border since the second of the parcel.
 #[derive(Clone, Copy, Debug, PartialEq, Eq)]
-pub struct Flying {
+pub struct Teleported {
     /// The number of the person.
     pub person: u32,
     /// At which element of the plan the person is.
     pub element: u32,
 }
 
-/// The persons who fly over a border since a second, by number.
-pub type FlyingList = Rows<Flying>;
+/// The persons who teleport over a border since a second, by number.
+pub type TeleportedList = Rows<Teleported>;
 
 /// How many vehicles left the queue of a link.
 #[derive(Clone, Copy, Debug, PartialEq, Eq)]
@@ -51,7 +51,7 @@ pub struct Contents {
     /// The vehicles that enter links of the neighbour.
     pub vehicles: MovedList,
     /// The persons whose teleported leg goes to a link of the neighbour.
-    pub flights: FlyingList,
+    pub teleported: TeleportedList,
     /// The links that begin at nodes of the neighbour, of which places were left.
     pub freed: FreedList,
 }
@@ -65,7 +65,7 @@ impl Contents {
             vehicles: Rows {
                 rows: Vec::new(alloc),
             },
-            flights: Rows {
+            teleported: Rows {
                 rows: Vec::new(alloc),
             },
             freed: Rows {
@@ -81,10 +81,10 @@ impl Contents {
         Ok(())
     }
 
-    fn add_flight(&mut self, flying: Flying) -> Result<(), AllocError>
-        ensures { OnOk result (self.new ≡ with_flights (flying ∷ []) self.old) }
+    fn add_teleported(&mut self, teleported: Teleported) -> Result<(), AllocError>
+        ensures { OnOk result (self.new ≡ with_teleported (teleported ∷ []) self.old) }
     {
-        self.flights.rows.push(flying)?;
+        self.teleported.rows.push(teleported)?;
         Ok(())
     }
 
@@ -146,11 +146,15 @@ impl Parcel {
         Ok(())
     }
 
-    pub(crate) fn add_flight(&mut self, alloc: Global, flying: Flying) -> Result<(), AllocError>
-        ensures { OnOk result (self.new ≡ with_flights (flying ∷ []) self.old) }
+    pub(crate) fn add_teleported(
+        &mut self,
+        alloc: Global,
+        teleported: Teleported,
+    ) -> Result<(), AllocError>
+        ensures { OnOk result (self.new ≡ with_teleported (teleported ∷ []) self.old) }
     {
         let mut contents = self.take(alloc)?;
-        contents.add_flight(flying)?;
+        contents.add_teleported(teleported)?;
         self.contents = Some(contents);
         Ok(())
     }

@@ -17,13 +17,13 @@ ghost use Rattle.traffic.specs.Lists.{below};
 ghost use Rattle.traffic.specs.Rows.{person_of};
 ghost use Rattle.part_seconds.specs.Contents.{freed_row, parcel_of};
 ghost use Rattle.part_seconds.specs.Parcels.{HasNothing};
-ghost use Rattle.part_seconds.specs.Sending.{parcel_at, parcel_for, all_gone, riders_of, if_flies};
-ghost use Rattle.part_seconds.specs.Sending.{AreMore, more_vehicles, more_flights};
+ghost use Rattle.part_seconds.specs.Sending.{parcel_at, parcel_for, all_gone, riders_of, if_teleports};
+ghost use Rattle.part_seconds.specs.Sending.{AreMore, more_vehicles, more_teleported};
 ghost use Rattle.part_seconds.specs.Leaving.{AreWithout, AreOthers, HaveGone};
 
 use crate::contents::FreedPlaces;
 use crate::mailbox::Mailbox;
-use crate::sending::{Exits, send_all_freed, send_flights, send_vehicles};
+use crate::sending::{Exits, send_all_freed, send_all_teleported, send_vehicles};
 use node_move::Entering;
 use part_persons::Persons;
 use person_moves::World;
@@ -57,8 +57,8 @@ fn fill_vehicles(
     send_vehicles(alloc, exits, &world.persons, entering, parcels, gone)
 }
 
-/// The flights go.
-fn fill_flights(
+/// The teleported persons go.
+fn fill_teleported(
     alloc: Global,
     exits: &Exits,
     second: u32,
@@ -69,13 +69,13 @@ fn fill_flights(
 ) -> Result<(), AllocError>
     requires plans { length world.now.persons ≡ length exits.now.day.now.chosen.now }
     ensures parcels { let own = owner_in exits.now.owner.now.of_node in
-        OnOk result (AreMore (more_flights (setup exits.now.day.now) own exits.now.part exits.now.borders.now second world.now.persons
+        OnOk result (AreMore (more_teleported (setup exits.now.day.now) own exits.now.part exits.now.borders.now second world.now.persons
         looked.items) parcels.old parcels.new) }
     ensures gone { let own = owner_in exits.now.owner.now.of_node in
         OnOk result (gone.new.items ≡ gone.old.items
-        ++ flat_map (if_flies (setup exits.now.day.now) own exits.now.part second world.now.persons) looked.items) }
+        ++ flat_map (if_teleports (setup exits.now.day.now) own exits.now.part second world.now.persons) looked.items) }
 {
-    send_flights(alloc, exits, second, &world.persons, looked, parcels, gone)
+    send_all_teleported(alloc, exits, second, &world.persons, looked, parcels, gone)
 }
 
 /// Puts all that leaves into parcels, and tells the numbers of those who go with it.
@@ -106,7 +106,7 @@ fn fill(
         freed,
     } = leaving;
     fill_vehicles(alloc, exits, world, entering, parcels, gone)?;
-    fill_flights(alloc, exits, second, world, looked, parcels, gone)?;
+    fill_teleported(alloc, exits, second, world, looked, parcels, gone)?;
     send_all_freed(alloc, exits, freed, parcels)?;
     Ok(())
 }

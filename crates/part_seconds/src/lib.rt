@@ -26,7 +26,7 @@ pub use area::Area;
 pub use arriving::{arrive, link_of};
 pub use borders::borders_at;
 pub use contents::{
-    Contents, Flying, FlyingList, FreedList, FreedPlaces, Moved, MovedList, Parcel,
+    Contents, FreedList, FreedPlaces, Moved, MovedList, Parcel, Teleported, TeleportedList,
 };
 pub use freed::hear_freed;
 pub use leaving::{Leaving, send};

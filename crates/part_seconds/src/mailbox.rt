@@ -2,9 +2,9 @@
 
 ghost use Rattle.std.specs.Prelude.{◌≡◌, ◌<◌, false, [], ◌∷◌, length, set, replicate, IfOk, OnOk};
 ghost use Rattle.part_seconds.specs.Parcels.{nothing, HasNothing};
-ghost use Rattle.part_seconds.specs.Sending.{parcel_at, with_vehicles, with_flights, with_freed};
+ghost use Rattle.part_seconds.specs.Sending.{parcel_at, with_vehicles, with_teleported, with_freed};
 
-use crate::contents::{Flying, FreedPlaces, Moved, Parcel};
+use crate::contents::{FreedPlaces, Moved, Parcel, Teleported};
 use std::alloc::{AllocError, Global};
 use std::marker::Model;
 use std::mem::replace;
@@ -119,18 +119,18 @@ impl Mailbox {
         Ok(())
     }
 
-    /// A person more flies to a neighbour.
-    pub(crate) fn add_flight(
+    /// A person more teleports to a neighbour.
+    pub(crate) fn add_teleported(
         &mut self,
         alloc: Global,
         place: usize,
-        flying: Flying,
+        teleported: Teleported,
     ) -> Result<(), AllocError>
         requires { place < length self.old }
-        ensures { OnOk result (self.new ≡ set self.old place (with_flights (flying ∷ []) (parcel_at self.old place))) }
+        ensures { OnOk result (self.new ≡ set self.old place (with_teleported (teleported ∷ []) (parcel_at self.old place))) }
     {
         self.some = true;
-        self.parcels[place].add_flight(alloc, flying)?;
+        self.parcels[place].add_teleported(alloc, teleported)?;
         Ok(())
     }
 

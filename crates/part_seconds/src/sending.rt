@@ -1,4 +1,4 @@
-//! To whom vehicles, flights and freed places go.
+//! To whom vehicles, teleported persons and freed places go.
 
 ghost use Rattle.std.specs.Prelude.{◌≡◌, ◌<◌, ◌++◌, [], ◌∷◌, length, map, get_or, OnOk, IfOk};
 ghost use Rattle.std.specs.List.{flat_map};
@@ -7,13 +7,13 @@ ghost use Rattle.partition.specs.Owned.{owner_in};
 ghost use Rattle.town.specs.Views.{setup};
 ghost use Rattle.traffic.specs.Rows.{nobody};
 ghost use Rattle.traffic.specs.Setup.{row_at};
-ghost use Rattle.part_seconds.specs.Sending.{changed_at, with_vehicles, with_flights, with_freed};
-ghost use Rattle.part_seconds.specs.Sending.{element_of, number_of, riders_of, moved_of, flies_to, flying_of, if_flies};
-ghost use Rattle.part_seconds.specs.Sending.{vehicle_place, flight_place, freed_place, AreMore};
-ghost use Rattle.part_seconds.specs.Sending.{more_vehicles, more_flights, more_freed};
+ghost use Rattle.part_seconds.specs.Sending.{changed_at, with_vehicles, with_teleported, with_freed};
+ghost use Rattle.part_seconds.specs.Sending.{element_of, number_of, riders_of, moved_of, teleports_to, teleported_of, if_teleports};
+ghost use Rattle.part_seconds.specs.Sending.{vehicle_place, teleported_place, freed_place, AreMore};
+ghost use Rattle.part_seconds.specs.Sending.{more_vehicles, more_teleported, more_freed};
 
 use crate::borders::place_of;
-use crate::contents::{Flying, FreedPlaces, Moved};
+use crate::contents::{FreedPlaces, Moved, Teleported};
 use crate::mailbox::Mailbox;
 use events::Rows;
 use lists::push_with_room;
@@ -77,21 +77,21 @@ fn put_vehicle(
     Ok(())
 }
 
-/// The same with a flight.
+/// The same with a teleported person.
 #[tactic(auto, using(std::proofs::lemmas::List::set_past))]
-fn put_flight(
+fn put_teleported(
     alloc: Global,
     place: Option<usize>,
-    flying: Flying,
+    teleported: Teleported,
     parcels: &mut Mailbox,
 ) -> Result<(), AllocError>
-    ensures { OnOk result (parcels.new ≡ changed_at place (with_flights (flying ∷ [])) parcels.old) }
+    ensures { OnOk result (parcels.new ≡ changed_at place (with_teleported (teleported ∷ [])) parcels.old) }
 {
     let Some(place) = place else {
         return Ok(());
     };
     if place < parcels.len() {
-        parcels.add_flight(alloc, place, flying)?;
+        parcels.add_teleported(alloc, place, teleported)?;
     }
     Ok(())
 }
@@ -207,9 +207,9 @@ pub(crate) fn send_vehicles(
 }
 
 /// The partition to which a person sets out in this second, if he sets out to another one.
-fn flies_to(exits: &Exits, second: u32, number: u32, person: Person) -> Option<u32>
+fn teleports_to(exits: &Exits, second: u32, number: u32, person: Person) -> Option<u32>
     requires { number < length exits.now.day.now.chosen.now }
-    ensures { result ≡ flies_to (setup exits.now.day.now) (owner_in exits.now.owner.now.of_node) exits.now.part second number
+    ensures { result ≡ teleports_to (setup exits.now.day.now) (owner_in exits.now.owner.now.of_node) exits.now.part second number
         person.element person.place }
 {
     match person.place {
@@ -232,7 +232,7 @@ fn flies_to(exits: &Exits, second: u32, number: u32, person: Person) -> Option<u
 }
 
 /// A person who sets out to another partition goes there.
-fn send_flight(
+fn send_teleported(
     alloc: Global,
     exits: &Exits,
     second: u32,
@@ -244,29 +244,29 @@ fn send_flight(
     requires plans { length persons.now ≡ length exits.now.day.now.chosen.now }
     ensures parcels { let own = owner_in exits.now.owner.now.of_node in
         OnOk result (parcels.new
-        ≡ changed_at (flight_place (setup exits.now.day.now) own exits.now.part exits.now.borders.now second persons.now number)
-        (with_flights (flying_of persons.now number ∷ [])) parcels.old) }
+        ≡ changed_at (teleported_place (setup exits.now.day.now) own exits.now.part exits.now.borders.now second persons.now number)
+        (with_teleported (teleported_of persons.now number ∷ [])) parcels.old) }
     ensures gone { OnOk result (gone.new.items ≡ gone.old.items
-        ++ if_flies (setup exits.now.day.now) (owner_in exits.now.owner.now.of_node) exits.now.part second persons.now number) }
+        ++ if_teleports (setup exits.now.day.now) (owner_in exits.now.owner.now.of_node) exits.now.part second persons.now number) }
 {
     let place = number as usize;
     if place >= persons.len() {
         return Ok(());
     }
     let person = persons[place];
-    let Some(part) = flies_to(exits, second, number, person) else {
+    let Some(part) = teleports_to(exits, second, number, person) else {
         return Ok(());
     };
     push_with_room(gone, number)?;
-    let flying = Flying {
+    let teleported = Teleported {
         person: number,
         element: person.element,
     };
-    put_flight(alloc, place_of(exits.borders, part), flying, parcels)
+    put_teleported(alloc, place_of(exits.borders, part), teleported, parcels)
 }
 
 /// So do all of these who do.
-pub(crate) fn send_flights(
+pub(crate) fn send_all_teleported(
     alloc: Global,
     exits: &Exits,
     second: u32,
@@ -277,14 +277,14 @@ pub(crate) fn send_flights(
 ) -> Result<(), AllocError>
     requires plans { length persons.now ≡ length exits.now.day.now.chosen.now }
     ensures parcels { let own = owner_in exits.now.owner.now.of_node in
-        OnOk result (AreMore (more_flights (setup exits.now.day.now) own exits.now.part exits.now.borders.now second persons.now
+        OnOk result (AreMore (more_teleported (setup exits.now.day.now) own exits.now.part exits.now.borders.now second persons.now
         looked.items) parcels.old parcels.new) }
     ensures gone { let own = owner_in exits.now.owner.now.of_node in
         OnOk result (gone.new.items ≡ gone.old.items
-        ++ flat_map (if_flies (setup exits.now.day.now) own exits.now.part second persons.now) looked.items) }
+        ++ flat_map (if_teleports (setup exits.now.day.now) own exits.now.part second persons.now) looked.items) }
 {
     for number in looked {
-        send_flight(alloc, exits, second, persons, number, parcels, gone)?;
+        send_teleported(alloc, exits, second, persons, number, parcels, gone)?;
     }
     Ok(())
 }

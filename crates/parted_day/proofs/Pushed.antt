@@ -6,13 +6,13 @@ use Rattle.std.specs.Prelude.{min}
 use Rattle.traffic.specs.declared.riders.Rider.{Rider}
 use Rattle.traffic.specs.declared.world.Place.TheVariants as place
 use Rattle.part_seconds.specs.declared.contents.Moved.{Moved}
-use Rattle.part_seconds.specs.declared.contents.Flying.{Flying}
+use Rattle.part_seconds.specs.declared.contents.Teleported.{Teleported}
 use Rattle.part_seconds.specs.declared.contents.Contents.{Contents}
 use Rattle.part_seconds.specs.Parcels.{nothing}
 use Rattle.part_seconds.specs.Contents.{passed_of, flight_of, parcel_of}
 use Rattle.part_seconds.proofs.Lists.{flat_of_map, map_of_map}
 use Rattle.parted_day.specs.declared.straying.Stray.{Stray}
-use Rattle.parted_day.specs.Strays.{stray_riders, passed_strays, flight_stray, strays_in, moved_strays, flying_stray}
+use Rattle.parted_day.specs.Strays.{stray_riders, passed_strays, flight_stray, strays_in, moved_strays, teleported_stray}
 
 -- ONE ITEM AFTER THE OTHER
 flat_next : {X Y : Type 0} (f : X → List Y) (k : ℕ) (xs : List X) (x : X) → k < length xs → x ≡ get_or xs k x
@@ -103,13 +103,13 @@ pub riders_whole : (l : ℕ) (v : VehicleId) (k : ℕ) (rs : List Rider) (es : L
 riders_whole l v k rs es first out le so_far = so_far ∙ ap (λ (xs : List Stray). first ++ xs) (riders_all l v k rs es le)
 
 -- A PARCEL
-pub parcel_pushed : (S : Setup) (s : ℕ) (ms : List Moved) (fs : List Flying) (first mid out : List Stray)
+pub parcel_pushed : (S : Setup) (s : ℕ) (ms : List Moved) (fs : List Teleported) (first mid out : List Stray)
     → mid ≡ first ++ flat_map moved_strays ms
-    → out ≡ mid ++ map (flying_stray s) fs
+    → out ≡ mid ++ map (teleported_stray s) fs
     → out ≡ first ++ (flat_map passed_strays (map (passed_of S s) ms) ++ map (flight_stray s) (map (flight_of S s) fs))
 parcel_pushed S s ms fs first mid out riders flights =
     let xs = flat_map moved_strays ms in
-    let ys = map (flying_stray s) fs in
+    let ys = map (teleported_stray s) fs in
     flights ∙ ap (λ (zs : List Stray). zs ++ ys) riders ∙ append_assoc first xs ys
     ∙ ap (λ (zs : List Stray). first ++ (zs ++ ys)) (sym (flat_of_map (passed_of S s) passed_strays ms))
     ∙ ap (λ (zs : List Stray). first ++ (flat_map passed_strays (map (passed_of S s) ms) ++ zs))

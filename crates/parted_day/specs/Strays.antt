@@ -11,7 +11,7 @@ use Rattle.parts.specs.Parts.{Passed, Flight, Parcel as Sent, out}
 use Rattle.step_core.specs.declared.part.Border.{Border}
 use Rattle.divided_day.specs.Borders.{borders_of}
 use Rattle.part_seconds.specs.declared.contents.Moved.{Moved}
-use Rattle.part_seconds.specs.declared.contents.Flying.{Flying}
+use Rattle.part_seconds.specs.declared.contents.Teleported.{Teleported}
 use Rattle.parted_day.specs.declared.straying.Stray.{Stray}
 
 -- WHO IS IN A PARCEL
@@ -25,7 +25,7 @@ stray_riders l v (r ∷ rs) (e ∷ es) =
 abbrev pub passed_strays : Passed → List Stray
 passed_strays y = stray_riders y.row.link y.row.vehicle.id y.row.vehicle.riders y.elements
 
--- a person who flies since second s rides on no link
+-- a person who teleports since second s rides on no link
 abbrev pub flight_stray : ℕ → Flight → Stray
 flight_stray s f = record { person = f.person; link = 0; state = record { element = f.element; place = place.Teleporting s } }
 
@@ -37,8 +37,8 @@ strays_in s x = flat_map passed_strays x.vehicles ++ map (flight_stray s) x.flig
 abbrev pub moved_strays : Moved → List Stray
 moved_strays m = stray_riders (get_or m.vehicle.route m.vehicle.place 0) m.vehicle.id m.vehicle.riders m.elements
 
-abbrev pub flying_stray : ℕ → Flying → Stray
-flying_stray s f = record { person = f.person; link = 0; state = record { element = f.element; place = place.Teleporting s } }
+abbrev pub teleported_stray : ℕ → Teleported → Stray
+teleported_stray s f = record { person = f.person; link = 0; state = record { element = f.element; place = place.Teleporting s } }
 
 -- WHICH PARCELS COME TOO LATE
 -- those of p to q of this second and later: q would absorb them when its day is over

@@ -11,14 +11,14 @@ ghost use Rattle.parts.specs.Parts.{out};
 ghost use Rattle.step_core.specs.Nets.{border_at};
 ghost use Rattle.town.specs.Views.{setup};
 ghost use Rattle.traffic.specs.Setup.{Setup};
-ghost use Rattle.parted_day.specs.Strays.{stray_riders, moved_strays, flying_stray, strays_in, strays_to, strays_over};
+ghost use Rattle.parted_day.specs.Strays.{stray_riders, moved_strays, teleported_stray, strays_in, strays_to, strays_over};
 ghost use Rattle.parted_day.specs.Strays.{comes_too_late, lag_among, AreStrays};
 ghost use Rattle.parted_day.specs.Tables.{with_states, with_links};
 
 use crate::neighbours::neighbours_of;
 use events::VehicleId;
 use limits::MAX_LAG;
-use part_seconds::{Contents, Flying, Moved, Parcel, Run, borders_at, link_of};
+use part_seconds::{Contents, Moved, Parcel, Run, Teleported, borders_at, link_of};
 use std::alloc::AllocError;
 use step_core::{Border, BorderList};
 use traffic::{Person, Place, Rider, Vehicle};
@@ -28,7 +28,7 @@ use traffic::{Person, Place, Rider, Vehicle};
 pub(crate) struct Stray {
     /// The number of the person.
     pub person: u32,
-    /// The number of the link on which the person rides; 0: the person flies.
+    /// The number of the link on which the person rides; 0: the person teleports.
     pub link: u32,
     /// At which element of the plan, and where: as the person was sent.
     pub state: Person,
@@ -89,16 +89,20 @@ fn push_vehicles(vehicles: &[Moved], strays: &mut Vec<Stray>) -> Result<(), Allo
 }
 
 /// Appends those who set out in this second.
-fn push_flights(second: u32, flights: &[Flying], strays: &mut Vec<Stray>) -> Result<(), AllocError>
-    ensures { OnOk result (strays.new.items ≡ strays.old.items ++ map (flying_stray second) flights.now) }
+fn push_teleported(
+    second: u32,
+    teleported: &[Teleported],
+    strays: &mut Vec<Stray>,
+) -> Result<(), AllocError>
+    ensures { OnOk result (strays.new.items ≡ strays.old.items ++ map (teleported_stray second) teleported.now) }
 {
-    for flight in flights {
+    for sent in teleported {
         let state = Person {
-            element: flight.element,
+            element: sent.element,
             place: Place::Teleporting { start: second },
         };
         strays.push(Stray {
-            person: flight.person,
+            person: sent.person,
             link: 0,
             state,
         })?;
@@ -115,7 +119,7 @@ fn push_contents(
     ensures { (S : Setup) → OnOk result (strays.new.items ≡ strays.old.items ++ strays_in second (parcel_of S second contents.now)) }
 {
     push_vehicles(&contents.vehicles.rows, strays)?;
-    push_flights(second, &contents.flights.rows, strays)?;
+    push_teleported(second, &contents.teleported.rows, strays)?;
     Ok(())
 }
 

@@ -5,7 +5,7 @@ use Rattle.town.specs.Views.{setup}
 use Rattle.law_partitions.specs.Alone.{person_in}
 use Rattle.node_move.specs.declared.crossings.Entering.{Entering}
 use Rattle.part_seconds.specs.Contents.{parcel_of}
-use Rattle.part_seconds.specs.Arriving.{all_riding, flown}
+use Rattle.part_seconds.specs.Arriving.{all_riding, teleporting_in}
 use Rattle.part_seconds.proofs.Coming.{come_next, comes_of, entered_of}
 use Rattle.part_seconds.proofs.arriving.arrive.Goals as goal
 
@@ -14,9 +14,9 @@ returns-clause-persons c =
     let S = setup c.args.day.now in
     let s = c.args.second in
     let x = c.args.contents in
-    come_next c.args.day.now (λ i. all_riding i x.vehicles) (λ i. flat_map (flown i s) x.flights)
-    (λ i. person_in i s (Some (parcel_of S s x))) c.args.persons.now c.bring_vehicles.new.persons c.bring_flights.new.persons c.in_ok-bring_vehicles.ensures.persons
-    c.in_ok-bring_flights.ensures (λ i. comes_of S s i s x.vehicles x.flights)
+    come_next c.args.day.now (λ i. all_riding i x.vehicles) (λ i. flat_map (teleporting_in i s) x.teleported)
+    (λ i. person_in i s (Some (parcel_of S s x))) c.args.persons.now c.bring_vehicles.new.persons c.bring_teleported.new.persons c.in_ok-bring_vehicles.ensures.persons
+    c.in_ok-bring_teleported.ensures (λ i. comes_of S s i s x.vehicles x.teleported)
 
 pub returns-clause-entering : goal.returns-clause-entering
 returns-clause-entering c =

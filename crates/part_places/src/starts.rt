@@ -32,13 +32,13 @@ fn free_place(day: &DayInput, link: u32) -> OutLink
     }
 }
 
-/// Whether a link begins in this part: whether its first node belongs to it.
-pub fn begins_here(day: &DayInput, owner: &Owner, part: u32, link: u32) -> bool
+/// Whether a link begins in this partition: whether its first node belongs to it.
+pub fn begins_here(day: &DayInput, owner: &Owner, partition: u32, link: u32) -> bool
     requires { link < length day.now.town.now.network.links }
-    ensures { result ≡ begins_here (setup day.now) (owner_in owner.now.of_node) part link }
+    ensures { result ≡ begins_here (setup day.now) (owner_in owner.now.of_node) partition link }
 {
     let row = link_row(day, link);
-    owner_of_node(&owner.of_node, row.from) == part
+    owner_of_node(&owner.of_node, row.from) == partition
 }
 
 /// No place is taken of any of these links.

@@ -19,16 +19,16 @@ use traffic::{Person, Place, Rider, Vehicle};
 /// A person of a parcel comes to the partition, if there is one of this number.
 fn bring(
     day: &DayInput,
-    number: u32,
-    person: Person,
+    person: u32,
+    state: Person,
     persons: &mut Persons,
 ) -> Result<(), AllocError>
     requires plans { length persons.old.world.persons ≡ length day.now.chosen.now }
     requires wakes { length persons.old.wakes ≡ length persons.old.world.persons }
-    ensures { OnOk result (Come day.now (λ i. if_is number i person) persons.old persons.new) }
+    ensures { OnOk result (Come day.now (λ i. if_is person i state) persons.old persons.new) }
 {
-    if (number as usize) < persons.world.persons.len() {
-        persons.take_in(day, number, person)?;
+    if (person as usize) < persons.world.persons.len() {
+        persons.take_in(day, person, state)?;
     }
     Ok(())
 }

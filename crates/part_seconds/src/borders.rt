@@ -6,10 +6,10 @@ ghost use Rattle.part_seconds.specs.Sending.{place_in};
 use step_core::{Border, BorderList};
 
 /// The neighbours of a partition, by a table that has those of each by number; a number that the table does not have has none.
-pub fn borders_at(borders: &[BorderList], number: u32) -> &[Border]
-    ensures { result.now ≡ get_or borders.now number [] }
+pub fn borders_at(borders: &[BorderList], partition: u32) -> &[Border]
+    ensures { result.now ≡ get_or borders.now partition [] }
 {
-    let place = number as usize;
+    let place = partition as usize;
     if place >= borders.len() {
         return &[];
     }
@@ -18,8 +18,10 @@ pub fn borders_at(borders: &[BorderList], number: u32) -> &[Border]
 }
 
 /// The place of a partition among these neighbours.
-pub(crate) fn place_of(borders: &[Border], part: u32) -> Option<usize>
-    ensures { result ≡ place_in borders.now part }
+pub(crate) fn place_of(borders: &[Border], partition: u32) -> Option<usize>
+    ensures { result ≡ place_in borders.now partition }
 {
-    borders.iter().position(|border| border.neighbour == part)
+    borders
+        .iter()
+        .position(|border| border.neighbour == partition)
 }

@@ -31,32 +31,32 @@ impl Area {
     pub fn cross(
         &mut self,
         run: &Run,
-        number: u32,
+        partition: u32,
         second: u32,
         told: &mut Told,
         out: &mut Vec<Entering>,
     ) -> Result<(), AllocError>
         requires second_in { second < LAST_SECOND }
         requires in_day { second < run.now.day.now.town.now.settings.end_second }
-        requires there { number < run.now.owner.now.parts }
+        requires there { partition < run.now.owner.now.parts }
         requires stands { let own = owner_in run.now.owner.now.of_node in let S = setup run.now.day.now in
-            AreaStands run.now.day.now own number (second + 1) second second self.old (held_early S own number second)
-            (world_early S own number second) }
+            AreaStands run.now.day.now own partition (second + 1) second second self.old (held_early S own partition second)
+            (world_early S own partition second) }
         requires silent { told.old.said.items ≡ [] }
         ensures stands { let own = owner_in run.now.owner.now.of_node in let S = setup run.now.day.now in
-            OnOk result (AreaStands run.now.day.now own number (second + 1) (second + 1) second self.new (held_crossed S own number second)
-            (world_crossed S own number second)) }
+            OnOk result (AreaStands run.now.day.now own partition (second + 1) (second + 1) second self.new
+            (held_crossed S own partition second) (world_crossed S own partition second)) }
         ensures events { let own = owner_in run.now.owner.now.of_node in let S = setup run.now.day.now in
             OnOk result (told.new.events.items
-            ≡ told.old.events.items ++ events_in second phase.C (my_node_turns S own number second)) }
+            ≡ told.old.events.items ++ events_in second phase.C (my_node_turns S own partition second)) }
         ensures out { let own = owner_in run.now.owner.now.of_node in let S = setup run.now.day.now in
             OnOk result (out.new.items
-            ≡ out.old.items ++ map entering_of (sent_out S own number (moves_of (my_node_turns S own number second)))) }
+            ≡ out.old.items ++ map entering_of (sent_out S own partition (moves_of (my_node_turns S own partition second)))) }
         ensures said { OnOk result (told.new.said.items ≡ []) }
     {
         let network = &mut self.network;
         let freed = network.places.free(second)?;
-        wake_starts(run, number, second, &freed, &mut network.node_wakes)?;
+        wake_starts(run, partition, second, &freed, &mut network.node_wakes)?;
         let phase = NodePhase {
             day: run.day,
             second,

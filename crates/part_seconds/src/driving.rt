@@ -74,25 +74,25 @@ impl Area {
     pub fn drive(
         &mut self,
         run: &Run,
-        number: u32,
+        partition: u32,
         second: u32,
         told: &mut Told,
     ) -> Result<Vec<FreedPlaces>, AllocError>
         requires second_in { second < LAST_SECOND }
         requires in_day { second < run.now.day.now.town.now.settings.end_second }
-        requires there { number < run.now.owner.now.parts }
+        requires there { partition < run.now.owner.now.parts }
         requires stands { let own = owner_in run.now.owner.now.of_node in let S = setup run.now.day.now in
-            AreaStands run.now.day.now own number (second + 1) (second + 1) second self.old (held_crossed S own number second)
-            (world_crossed S own number second) }
+            AreaStands run.now.day.now own partition (second + 1) (second + 1) second self.old (held_crossed S own partition second)
+            (world_crossed S own partition second) }
         requires silent { told.old.said.items ≡ [] }
         ensures stands { let own = owner_in run.now.owner.now.of_node in let S = setup run.now.day.now in
-            OnOk result (AreaStands run.now.day.now own number (second + 1) (second + 1) (second + 1) self.new
-            (held_driven S own number second) (world_driven S own number second)) }
+            OnOk result (AreaStands run.now.day.now own partition (second + 1) (second + 1) (second + 1) self.new
+            (held_driven S own partition second) (world_driven S own partition second)) }
         ensures events { let own = owner_in run.now.owner.now.of_node in let S = setup run.now.day.now in
             OnOk result (told.new.events.items
-            ≡ told.old.events.items ++ events_in second phase.D (my_link_turns S own number second)) }
+            ≡ told.old.events.items ++ events_in second phase.D (my_link_turns S own partition second)) }
         ensures freed { let own = owner_in run.now.owner.now.of_node in let S = setup run.now.day.now in
-            IfOk result (λ freed. map freed_row freed.items ≡ freed_over S own number second) }
+            IfOk result (λ freed. map freed_row freed.items ≡ freed_over S own partition second) }
         ensures said { OnOk result (told.new.said.items ≡ []) }
     {
         let phase = LinkPhase {
@@ -111,14 +111,14 @@ impl Area {
         )?;
         settle_links(
             run,
-            number,
+            partition,
             second,
             &slots,
             &network.links,
             &mut network.places,
             &mut network.node_wakes,
         )?;
-        let freed = take_freed(run, number, &slots, &network.links, &mut self.queues)?;
+        let freed = take_freed(run, partition, &slots, &network.links, &mut self.queues)?;
         hear_told(run.day, second, told, &mut self.persons)?;
         Ok(freed)
     }

@@ -69,11 +69,11 @@ fn fill_teleported(
 ) -> Result<(), AllocError>
     requires plans { length world.now.persons ≡ length exits.now.day.now.chosen.now }
     ensures parcels { let own = owner_in exits.now.owner.now.of_node in
-        OnOk result (AreMore (more_teleported (setup exits.now.day.now) own exits.now.part exits.now.borders.now second world.now.persons
-        looked.items) parcels.old parcels.new) }
+        OnOk result (AreMore (more_teleported (setup exits.now.day.now) own exits.now.partition exits.now.borders.now second
+        world.now.persons looked.items) parcels.old parcels.new) }
     ensures gone { let own = owner_in exits.now.owner.now.of_node in
         OnOk result (gone.new.items ≡ gone.old.items
-        ++ flat_map (if_teleports (setup exits.now.day.now) own exits.now.part second world.now.persons) looked.items) }
+        ++ flat_map (if_teleports (setup exits.now.day.now) own exits.now.partition second world.now.persons) looked.items) }
 {
     send_all_teleported(alloc, exits, second, &world.persons, looked, parcels, gone)
 }
@@ -94,10 +94,10 @@ fn fill(
     ensures count { OnOk result (length parcels.new ≡ length parcels.old) }
     ensures each { let own = owner_in exits.now.owner.now.of_node in
         OnOk result ((k : ℕ) → k < length parcels.old → parcel_at parcels.new k
-        ≡ parcel_for (setup exits.now.day.now) own exits.now.part exits.now.borders.now second world.now.persons leaving.entering.items
+        ≡ parcel_for (setup exits.now.day.now) own exits.now.partition exits.now.borders.now second world.now.persons leaving.entering.items
         leaving.looked.items leaving.freed.items k) }
     ensures gone { let own = owner_in exits.now.owner.now.of_node in
-        OnOk result (gone.new.items ≡ all_gone (setup exits.now.day.now) own exits.now.part second world.now.persons
+        OnOk result (gone.new.items ≡ all_gone (setup exits.now.day.now) own exits.now.partition second world.now.persons
         leaving.entering.items leaving.looked.items) }
 {
     let Leaving {
@@ -112,11 +112,11 @@ fn fill(
 }
 
 /// A person goes to another partition.
-fn let_go(persons: &mut Persons, number: u32)
-    ensures { AreWithout (λ i. number == i) persons.old persons.new }
+fn let_go(persons: &mut Persons, person: u32)
+    ensures { AreWithout (λ i. person == i) persons.old persons.new }
 {
-    if (number as usize) < persons.world.persons.len() {
-        let _row = persons.give_out(number);
+    if (person as usize) < persons.world.persons.len() {
+        let _row = persons.give_out(person);
     }
 }
 
@@ -124,8 +124,8 @@ fn let_go(persons: &mut Persons, number: u32)
 fn let_all_go(persons: &mut Persons, gone: Vec<u32>)
     ensures { AreWithout (λ i. is_among i gone.items) persons.old persons.new }
 {
-    for number in gone {
-        let_go(persons, number);
+    for person in gone {
+        let_go(persons, person);
     }
 }
 
@@ -145,26 +145,26 @@ pub fn send(
 ) -> Result<(), AllocError>
     requires given { HaveFittingPlans exits.now.day.now }
     requires plans { length persons.old.world.persons ≡ length exits.now.day.now.chosen.now }
-    requires others { AreOthers exits.now.part exits.now.borders.now }
+    requires others { AreOthers exits.now.partition exits.now.borders.now }
     requires persons { persons.old.world.persons
-        ≡ (world_driven (setup exits.now.day.now) (owner_in exits.now.owner.now.of_node) exits.now.part second).persons }
+        ≡ (world_driven (setup exits.now.day.now) (owner_in exits.now.owner.now.of_node) exits.now.partition second).persons }
     requires entering { leaving.entering.items
-        ≡ map entering_of (sent_rows (setup exits.now.day.now) (owner_in exits.now.owner.now.of_node) exits.now.part second) }
+        ≡ map entering_of (sent_rows (setup exits.now.day.now) (owner_in exits.now.owner.now.of_node) exits.now.partition second) }
     requires looked { leaving.looked.items
         ≡ filter (λ i. is_among i leaving.looked.items) (below (length (setup exits.now.day.now).persons)) }
     requires same { let own = owner_in exits.now.owner.now.of_node in let S = setup exits.now.day.now in
-        let V = world_before S own exits.now.part second in
+        let V = world_before S own exits.now.partition second in
         (i : ℕ) → is_among i leaving.looked.items ≡ false
-        → person_of i (set_out S own exits.now.part second V) ≡ person_of i V }
+        → person_of i (set_out S own exits.now.partition second V) ≡ person_of i V }
     requires freed { map freed_row leaving.freed.items
-        ≡ freed_over (setup exits.now.day.now) (owner_in exits.now.owner.now.of_node) exits.now.part second }
+        ≡ freed_over (setup exits.now.day.now) (owner_in exits.now.owner.now.of_node) exits.now.partition second }
     requires count { length parcels.old ≡ length exits.now.borders.now }
     requires none { HasNothing parcels.old }
     ensures count { OnOk result (length parcels.new ≡ length exits.now.borders.now) }
     ensures parcels { let own = owner_in exits.now.owner.now.of_node in let S = setup exits.now.day.now in
         OnOk result ((k : ℕ) → k < length exits.now.borders.now → parcel_of S second (parcel_at parcels.new k)
-        ≡ out S own exits.now.part (border_at exits.now.borders.now k).neighbour second) }
-    ensures persons { OnOk result (HaveGone (setup exits.now.day.now) (owner_in exits.now.owner.now.of_node) exits.now.part second
+        ≡ out S own exits.now.partition (border_at exits.now.borders.now k).neighbour second) }
+    ensures persons { OnOk result (HaveGone (setup exits.now.day.now) (owner_in exits.now.owner.now.of_node) exits.now.partition second
         persons.old persons.new) }
 {
     parcels.all_taken();

@@ -33,7 +33,7 @@ pub struct Exits<'a> {
     /// To which partition each node belongs.
     pub owner: &'a Owner,
     /// The partition that sends.
-    pub part: u32,
+    pub partition: u32,
     /// Its neighbours, ascending.
     pub borders: &'a [Border],
 }
@@ -116,10 +116,10 @@ fn put_freed(
 }
 
 /// The element of a person.
-fn element_of(persons: &[Person], number: u32) -> u32
-    ensures { result ≡ (get_or persons.now number nobody).element }
+fn element_of(persons: &[Person], person: u32) -> u32
+    ensures { result ≡ (get_or persons.now person nobody).element }
 {
-    let place = number as usize;
+    let place = person as usize;
     if place < persons.len() {
         return persons[place].element;
     }
@@ -180,8 +180,8 @@ fn send_vehicle(
     ensures gone { OnOk result (gone.new.items ≡ gone.old.items ++ riders_of entering) }
 {
     let Entering { link, vehicle } = entering;
-    let part = owner_of_link(exits.day, exits.owner, link);
-    let place = place_of(exits.borders, part);
+    let partition = owner_of_link(exits.day, exits.owner, link);
+    let place = place_of(exits.borders, partition);
     let elements = with_riders(alloc, persons, &vehicle, gone)?;
     put_vehicle(alloc, place, Moved { vehicle, elements }, parcels)
 }
@@ -207,23 +207,23 @@ pub(crate) fn send_vehicles(
 }
 
 /// The partition to which a person sets out in this second, if he sets out to another one.
-fn teleports_to(exits: &Exits, second: u32, number: u32, person: Person) -> Option<u32>
-    requires { number < length exits.now.day.now.chosen.now }
-    ensures { result ≡ teleports_to (setup exits.now.day.now) (owner_in exits.now.owner.now.of_node) exits.now.part second number
-        person.element person.place }
+fn teleports_to(exits: &Exits, second: u32, person: u32, state: Person) -> Option<u32>
+    requires { person < length exits.now.day.now.chosen.now }
+    ensures { result ≡ teleports_to (setup exits.now.day.now) (owner_in exits.now.owner.now.of_node) exits.now.partition second person
+        state.element state.place }
 {
-    match person.place {
+    match state.place {
         Place::At { .. } => None,
         Place::Teleporting { start } => {
             if start != second {
                 return None;
             }
-            let act = act_after(chosen_plan(exits.day, number), person.element);
-            let part = owner_of_link(exits.day, exits.owner, act.link);
-            if part == exits.part {
+            let act = act_after(chosen_plan(exits.day, person), state.element);
+            let partition = owner_of_link(exits.day, exits.owner, act.link);
+            if partition == exits.partition {
                 return None;
             }
-            Some(part)
+            Some(partition)
         }
         Place::Waiting { .. } => None,
         Place::Riding { .. } => None,
@@ -237,32 +237,37 @@ fn send_teleported(
     exits: &Exits,
     second: u32,
     persons: &[Person],
-    number: u32,
+    person: u32,
     parcels: &mut Mailbox,
     gone: &mut Vec<u32>,
 ) -> Result<(), AllocError>
     requires plans { length persons.now ≡ length exits.now.day.now.chosen.now }
     ensures parcels { let own = owner_in exits.now.owner.now.of_node in
         OnOk result (parcels.new
-        ≡ changed_at (teleported_place (setup exits.now.day.now) own exits.now.part exits.now.borders.now second persons.now number)
-        (with_teleported (teleported_of persons.now number ∷ [])) parcels.old) }
+        ≡ changed_at (teleported_place (setup exits.now.day.now) own exits.now.partition exits.now.borders.now second persons.now person)
+        (with_teleported (teleported_of persons.now person ∷ [])) parcels.old) }
     ensures gone { OnOk result (gone.new.items ≡ gone.old.items
-        ++ if_teleports (setup exits.now.day.now) (owner_in exits.now.owner.now.of_node) exits.now.part second persons.now number) }
+        ++ if_teleports (setup exits.now.day.now) (owner_in exits.now.owner.now.of_node) exits.now.partition second persons.now person) }
 {
-    let place = number as usize;
+    let place = person as usize;
     if place >= persons.len() {
         return Ok(());
     }
-    let person = persons[place];
-    let Some(part) = teleports_to(exits, second, number, person) else {
+    let state = persons[place];
+    let Some(partition) = teleports_to(exits, second, person, state) else {
         return Ok(());
     };
-    push_with_room(gone, number)?;
+    push_with_room(gone, person)?;
     let teleported = Teleported {
-        person: number,
-        element: person.element,
+        person,
+        element: state.element,
     };
-    put_teleported(alloc, place_of(exits.borders, part), teleported, parcels)
+    put_teleported(
+        alloc,
+        place_of(exits.borders, partition),
+        teleported,
+        parcels,
+    )
 }
 
 /// So do all of these who do.
@@ -277,14 +282,14 @@ pub(crate) fn send_all_teleported(
 ) -> Result<(), AllocError>
     requires plans { length persons.now ≡ length exits.now.day.now.chosen.now }
     ensures parcels { let own = owner_in exits.now.owner.now.of_node in
-        OnOk result (AreMore (more_teleported (setup exits.now.day.now) own exits.now.part exits.now.borders.now second persons.now
+        OnOk result (AreMore (more_teleported (setup exits.now.day.now) own exits.now.partition exits.now.borders.now second persons.now
         looked.items) parcels.old parcels.new) }
     ensures gone { let own = owner_in exits.now.owner.now.of_node in
         OnOk result (gone.new.items ≡ gone.old.items
-        ++ flat_map (if_teleports (setup exits.now.day.now) own exits.now.part second persons.now) looked.items) }
+        ++ flat_map (if_teleports (setup exits.now.day.now) own exits.now.partition second persons.now) looked.items) }
 {
-    for number in looked {
-        send_teleported(alloc, exits, second, persons, number, parcels, gone)?;
+    for person in looked {
+        send_teleported(alloc, exits, second, persons, person, parcels, gone)?;
     }
     Ok(())
 }
@@ -300,8 +305,8 @@ fn send_freed(
         ≡ changed_at (freed_place (setup exits.now.day.now) (owner_in exits.now.owner.now.of_node) exits.now.borders.now freed)
         (with_freed (freed ∷ [])) parcels.old) }
 {
-    let part = begins_in(exits.day, exits.owner, freed.link);
-    put_freed(alloc, place_of(exits.borders, part), freed, parcels)
+    let partition = begins_in(exits.day, exits.owner, freed.link);
+    put_freed(alloc, place_of(exits.borders, partition), freed, parcels)
 }
 
 /// So with all of these.

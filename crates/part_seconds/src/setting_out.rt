@@ -121,29 +121,29 @@ impl Area {
     pub fn set_out(
         &mut self,
         run: &Run,
-        number: u32,
+        partition: u32,
         second: u32,
         events: &mut Vec<Event>,
     ) -> Result<Vec<u32>, AllocError>
         requires second_in { second < LAST_SECOND }
         requires in_day { second < run.now.day.now.town.now.settings.end_second }
-        requires there { number < run.now.owner.now.parts }
+        requires there { partition < run.now.owner.now.parts }
         requires stands { let own = owner_in run.now.owner.now.of_node in let S = setup run.now.day.now in
-            AreaStands run.now.day.now own number second second second self.old (ready S own number second)
-            (world_before S own number second) }
+            AreaStands run.now.day.now own partition second second second self.old (ready S own partition second)
+            (world_before S own partition second) }
         ensures stands { let own = owner_in run.now.owner.now.of_node in let S = setup run.now.day.now in
-            OnOk result (AreaStands run.now.day.now own number (second + 1) second second self.new (held_early S own number second)
-            (world_early S own number second)) }
+            OnOk result (AreaStands run.now.day.now own partition (second + 1) second second self.new (held_early S own partition second)
+            (world_early S own partition second)) }
         ensures events { let own = owner_in run.now.owner.now.of_node in let S = setup run.now.day.now in
-            let V = world_before S own number second in
+            let V = world_before S own partition second in
             OnOk result (events.new.items ≡ events.old.items ++ (events_in second phase.A (turns_in S second phase.A V)
             ++ (events_in second phase.B1 (turns_in S second phase.B1 (landed S second V))
-            ++ events_in second phase.B2 (run_turns S own number second)))) }
+            ++ events_in second phase.B2 (run_turns S own partition second)))) }
         ensures looked { IfOk result (λ numbers. numbers.items
             ≡ filter (λ i. is_among i numbers.items) (below (length (setup run.now.day.now).persons))) }
         ensures others { let own = owner_in run.now.owner.now.of_node in let S = setup run.now.day.now in
             IfOk result (λ numbers. (i : ℕ) → is_among i numbers.items ≡ false
-            → person_of i (world_early S own number second) ≡ person_of i (world_before S own number second)) }
+            → person_of i (world_early S own partition second) ≡ person_of i (world_before S own partition second)) }
     {
         let persons = &mut self.persons;
         let numbers = persons.land_and_leave(run.alloc, run.day, second, events)?;

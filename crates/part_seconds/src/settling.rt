@@ -76,7 +76,7 @@ fn leave_own(
 /// The places that vehicles left on the link in a slot in this second come free when the holes are over, if it begins here.
 fn leave_place(
     run: &Run,
-    number: u32,
+    partition: u32,
     second: u32,
     slot: u32,
     links: &[LinkState],
@@ -86,13 +86,13 @@ fn leave_place(
     requires link { link_at links.now slot < length run.now.day.now.town.now.network.links }
     ensures { let S = setup run.now.day.now in let own = owner_in run.now.owner.now.of_node in
         let end = run.now.day.now.town.now.settings.end_second in
-        (T : Taking) → (begins_here S own number (link_at links.now slot) ≡ true
+        (T : Taking) → (begins_here S own partition (link_at links.now slot) ≡ true
         → queued_in links.now slot ≤ T.queued (link_at links.now slot))
-        → AreTakenOf (begins_here S own number) (length S.links) end (second + 1) T places.old
-        → OnOk result (AreTakenOf (begins_here S own number) (length S.links) end (second + 1)
-        (left_one S own number second links.now slot T) places.new) }
+        → AreTakenOf (begins_here S own partition) (length S.links) end (second + 1) T places.old
+        → OnOk result (AreTakenOf (begins_here S own partition) (length S.links) end (second + 1)
+        (left_one S own partition second links.now slot T) places.new) }
 {
-    if begins_here(run.day, run.owner, number, number_at(links, slot)) {
+    if begins_here(run.day, run.owner, partition, number_at(links, slot)) {
         return leave_own(run.day, second, slot, links, places);
     }
     Ok(())
@@ -101,7 +101,7 @@ fn leave_place(
 /// So with those in these slots, which had their turns.
 fn leave_places(
     run: &Run,
-    number: u32,
+    partition: u32,
     second: u32,
     slots: &[u32],
     links: &[LinkState],
@@ -111,13 +111,13 @@ fn leave_places(
     requires links { (k : ℕ) → k < length links.now → link_at links.now k < length run.now.day.now.town.now.network.links }
     ensures { let S = setup run.now.day.now in let own = owner_in run.now.owner.now.of_node in
         let end = run.now.day.now.town.now.settings.end_second in
-        (T : Taking) → AreApart links.now → AreFew S own number links.now T
-        → AreTakenOf (begins_here S own number) (length S.links) end (second + 1) T places.old
-        → OnOk result (AreTakenOf (begins_here S own number) (length S.links) end (second + 1)
-        (left_all S own number second links.now slots.now T) places.new) }
+        (T : Taking) → AreApart links.now → AreFew S own partition links.now T
+        → AreTakenOf (begins_here S own partition) (length S.links) end (second + 1) T places.old
+        → OnOk result (AreTakenOf (begins_here S own partition) (length S.links) end (second + 1)
+        (left_all S own partition second links.now slots.now T) places.new) }
 {
     for slot in slots {
-        leave_place(run, number, second, *slot, links, places)?;
+        leave_place(run, partition, second, *slot, links, places)?;
     }
     Ok(())
 }
@@ -125,7 +125,7 @@ fn leave_places(
 /// How many vehicles left the queue of the link in a slot, if it begins elsewhere and any did.
 fn freed_at(
     run: &Run,
-    number: u32,
+    partition: u32,
     slot: u32,
     links: &[LinkState],
     queues: &[usize],
@@ -134,10 +134,10 @@ fn freed_at(
     requires link { link_at links.now slot < length run.now.day.now.town.now.network.links }
     requires queues { length queues.now ≡ length links.now }
     ensures { let S = setup run.now.day.now in let own = owner_in run.now.owner.now.of_node in
-        option_to_list result ≡ freed_at S own number links.now queues.now slot }
+        option_to_list result ≡ freed_at S own partition links.now queues.now slot }
 {
     let link = number_at(links, slot);
-    if begins_here(run.day, run.owner, number, link) {
+    if begins_here(run.day, run.owner, partition, link) {
         return None;
     }
     let count = queues[slot as usize].saturating_sub(queued_in(links, slot));
@@ -150,7 +150,7 @@ fn freed_at(
 /// The same of these slots, in order.
 fn all_freed_at(
     run: &Run,
-    number: u32,
+    partition: u32,
     slots: &[u32],
     links: &[LinkState],
     queues: &[usize],
@@ -158,13 +158,13 @@ fn all_freed_at(
     requires there { AreIn (length links.now) slots.now }
     requires links { (k : ℕ) → k < length links.now → link_at links.now k < length run.now.day.now.town.now.network.links }
     requires queues { length queues.now ≡ length links.now }
-    ensures { IfOk result (λ freed. freed.items ≡ flat_map (freed_at (setup run.now.day.now) (owner_in run.now.owner.now.of_node) number
+    ensures { IfOk result (λ freed. freed.items ≡ flat_map (freed_at (setup run.now.day.now) (owner_in run.now.owner.now.of_node) partition
         links.now queues.now) slots.now) }
 {
     let mut freed = Vec::new(run.alloc);
     let mut rest = slots;
     while let [slot, later @ ..] = rest {
-        if let Some(freed_places) = freed_at(run, number, *slot, links, queues) {
+        if let Some(freed_places) = freed_at(run, partition, *slot, links, queues) {
             freed.push(freed_places)?;
         }
         rest = later;
@@ -244,7 +244,7 @@ fn wake_ends(
 /// somebody is in their buffers: the links in these slots had their turns in this second.
 pub(crate) fn settle_links(
     run: &Run,
-    number: u32,
+    partition: u32,
     second: u32,
     slots: &[u32],
     links: &[LinkState],
@@ -257,13 +257,13 @@ pub(crate) fn settle_links(
     requires nodes { length node_wakes.old ≡ length run.now.day.now.town.now.network.nodes }
     ensures places { let S = setup run.now.day.now in let own = owner_in run.now.owner.now.of_node in
         let end = run.now.day.now.town.now.settings.end_second in
-        (T : Taking) → AreApart links.now → AreFew S own number links.now T
-        → AreTakenOf (begins_here S own number) (length S.links) end (second + 1) T places.old
-        → OnOk result (AreTakenOf (begins_here S own number) (length S.links) end (second + 1)
-        (left_all S own number second links.now slots.now T) places.new) }
+        (T : Taking) → AreApart links.now → AreFew S own partition links.now T
+        → AreTakenOf (begins_here S own partition) (length S.links) end (second + 1) T places.old
+        → OnOk result (AreTakenOf (begins_here S own partition) (length S.links) end (second + 1)
+        (left_all S own partition second links.now slots.now T) places.new) }
     ensures nodes { OnOk result (node_wakes.new ≡ wake_ends_at (setup run.now.day.now) second links.now slots.now node_wakes.old) }
 {
-    leave_places(run, number, second, slots, links, places)?;
+    leave_places(run, partition, second, slots, links, places)?;
     wake_ends(run.day, second, slots, links, node_wakes)?;
     Ok(())
 }
@@ -271,7 +271,7 @@ pub(crate) fn settle_links(
 /// How many vehicles left the queues of those of these links that begin elsewhere. The table has then how many are in them.
 pub(crate) fn take_freed(
     run: &Run,
-    number: u32,
+    partition: u32,
     slots: &[u32],
     links: &[LinkState],
     queues: &mut [usize],
@@ -280,10 +280,10 @@ pub(crate) fn take_freed(
     requires links { (k : ℕ) → k < length links.now → link_at links.now k < length run.now.day.now.town.now.network.links }
     requires queues { length queues.old ≡ length links.now }
     ensures freed { let S = setup run.now.day.now in let own = owner_in run.now.owner.now.of_node in
-        IfOk result (λ freed. freed.items ≡ flat_map (freed_at S own number links.now queues.old) slots.now) }
+        IfOk result (λ freed. freed.items ≡ flat_map (freed_at S own partition links.now queues.old) slots.now) }
     ensures queues { OnOk result (queues.new ≡ put_queues links.now slots.now queues.old) }
 {
-    let freed = all_freed_at(run, number, slots, links, queues)?;
+    let freed = all_freed_at(run, partition, slots, links, queues)?;
     put_queues(slots, links, queues);
     Ok(freed)
 }
@@ -292,17 +292,17 @@ pub(crate) fn take_freed(
 #[tactic(auto, unfolding(town::specs::Setups::setup_of))]
 fn wake_start(
     run: &Run,
-    number: u32,
+    partition: u32,
     second: u32,
     link: u32,
     node_wakes: &mut Wakes,
 ) -> Result<(), AllocError>
     requires { length node_wakes.old ≡ length run.now.day.now.town.now.network.nodes }
     ensures { OnOk result (node_wakes.new
-        ≡ wake_own_start (setup run.now.day.now) (owner_in run.now.owner.now.of_node) number second link node_wakes.old) }
+        ≡ wake_own_start (setup run.now.day.now) (owner_in run.now.owner.now.of_node) partition second link node_wakes.old) }
 {
     if (link as usize) < run.day.town.network.links.len()
-        && begins_here(run.day, run.owner, number, link)
+        && begins_here(run.day, run.owner, partition, link)
     {
         let row = link_row(run.day, link);
         node_wakes.set(row.from, Some(second))?;
@@ -314,18 +314,18 @@ fn wake_start(
 #[tactic(auto, unfolding(crate::specs::Settling::wake_own_starts))]
 pub(crate) fn wake_starts(
     run: &Run,
-    number: u32,
+    partition: u32,
     second: u32,
     links: &[u32],
     node_wakes: &mut Wakes,
 ) -> Result<(), AllocError>
     requires { length node_wakes.old ≡ length run.now.day.now.town.now.network.nodes }
     ensures { OnOk result (node_wakes.new
-        ≡ wake_own_starts (setup run.now.day.now) (owner_in run.now.owner.now.of_node) number second links.now node_wakes.old) }
+        ≡ wake_own_starts (setup run.now.day.now) (owner_in run.now.owner.now.of_node) partition second links.now node_wakes.old) }
 {
     let mut rest = links;
     while let [link, later @ ..] = rest {
-        wake_start(run, number, second, *link, node_wakes)?;
+        wake_start(run, partition, second, *link, node_wakes)?;
         rest = later;
     }
     Ok(())

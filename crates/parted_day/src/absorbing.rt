@@ -29,22 +29,23 @@ use std::alloc::AllocError;
 pub(crate) fn absorb(
     area: &mut Area,
     run: &Run,
-    number: u32,
+    partition: u32,
     second: u32,
     inbox: &mut Mailbox,
 ) -> Result<(), AllocError>
     requires second_in { second < LAST_SECOND }
     requires in_day { second < run.now.day.now.town.now.settings.end_second }
-    requires there { number < run.now.owner.now.parts }
+    requires there { partition < run.now.owner.now.parts }
     requires stands { let own = owner_in run.now.owner.now.of_node in let S = setup run.now.day.now in
-        AreaStands run.now.day.now own number second second second area.old (held S own number second) (world_held S own number second) }
+        AreaStands run.now.day.now own partition second second second area.old (held S own partition second)
+        (world_held S own partition second) }
     requires heard { let own = owner_in run.now.owner.now.of_node in let S = setup run.now.day.now in
-        HasHeard nothing (IsRight S own) number second (borders_of S own run.now.owner.now.parts number) inbox.old }
+        HasHeard nothing (IsRight S own) partition second (borders_of S own run.now.owner.now.parts partition) inbox.old }
     requires places { let own = owner_in run.now.owner.now.of_node in let S = setup run.now.day.now in
-        length inbox.old ≡ length (borders_of S own run.now.owner.now.parts number) }
+        length inbox.old ≡ length (borders_of S own run.now.owner.now.parts partition) }
     ensures stands { let own = owner_in run.now.owner.now.of_node in let S = setup run.now.day.now in
-        OnOk result (AreaStands run.now.day.now own number second second second area.new (ready S own number second)
-        (world_before S own number second)) }
+        OnOk result (AreaStands run.now.day.now own partition second second second area.new (ready S own partition second)
+        (world_before S own partition second)) }
     ensures empty { OnOk result (AreEmpty nothing (length inbox.old) inbox.new) }
 {
     parcels_make_ready();
@@ -52,7 +53,7 @@ pub(crate) fn absorb(
     if !inbox.has_some() {
         return Ok(());
     }
-    let borders = neighbours_of(run, number);
+    let borders = neighbours_of(run, partition);
     for place in 0..borders.len() {
         let sent = second.saturating_sub(borders[place].lag);
         let parcel = inbox.take(place);

@@ -38,13 +38,14 @@ fn empty_queues(alloc: Global, count: usize) -> Result<Vec<usize>, AllocError>
 }
 
 /// The network of a part, on which nobody is: no link and no node is woken.
-fn empty_network(run: &Run, number: u32) -> Result<NetworkState, AllocError>
+fn empty_network(run: &Run, partition: u32) -> Result<NetworkState, AllocError>
     ensures { let own = owner_in run.now.owner.now.of_node in let S = setup run.now.day.now in
-        IfOk result (λ network. NetworkStands run.now.day.now own number 0 0 network (held S own number 0) (world_held S own number 0)) }
+        IfOk result (λ network. NetworkStands run.now.day.now own partition 0 0 network (held S own partition 0)
+        (world_held S own partition 0)) }
 {
-    let ends = numbers_at(run.ends, number);
+    let ends = numbers_at(run.ends, partition);
     let links = empty_links(run.alloc, run.day, ends)?;
-    let starts = numbers_at(run.starts, number);
+    let starts = numbers_at(run.starts, partition);
     let places = Places::new(run.alloc, run.day, starts)?;
     let link_wakes = Wakes::new(run.alloc, links.len())?;
     let node_wakes = Wakes::new(run.alloc, run.day.town.network.nodes.len())?;
@@ -67,14 +68,14 @@ fn empty_network(run: &Run, number: u32) -> Result<NetworkState, AllocError>
 /// # Errors
 ///
 /// `AllocError`: there is no memory for the part.
-pub fn begin(run: &Run, number: u32) -> Result<Area, AllocError>
+pub fn begin(run: &Run, partition: u32) -> Result<Area, AllocError>
     ensures { let own = owner_in run.now.owner.now.of_node in let S = setup run.now.day.now in
-        IfOk result (λ area. AreaStands run.now.day.now own number 0 0 0 area (held S own number 0) (world_held S own number 0)) }
+        IfOk result (λ area. AreaStands run.now.day.now own partition 0 0 0 area (held S own partition 0) (world_held S own partition 0)) }
 {
-    let persons = Persons::new(run.alloc, run.day, run.owner, number)?;
-    let departures = departures_by_second(run.alloc, run.day, run.owner, number)?;
+    let persons = Persons::new(run.alloc, run.day, run.owner, partition)?;
+    let departures = departures_by_second(run.alloc, run.day, run.owner, partition)?;
     let lines = empty_lines(run.alloc, run.day.town.stops.rows.len())?;
-    let network = empty_network(run, number)?;
+    let network = empty_network(run, partition)?;
     let queues = empty_queues(run.alloc, network.links.len())?;
     Ok(Area {
         persons,

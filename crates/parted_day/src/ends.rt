@@ -35,12 +35,12 @@ use vehicles::of_person;
 fn stuck_on(
     day: &DayInput,
     link: u32,
-    number: u32,
+    person: u32,
     here: Act,
     mode: Mode,
     place: Place,
 ) -> Option<Occurrence>
-    ensures { option_to_list result ≡ stuck_on (setup day.now) link number here mode place }
+    ensures { option_to_list result ≡ stuck_on (setup day.now) link person here mode place }
 {
     let link = match place {
         Place::At { .. } => return None,
@@ -49,36 +49,36 @@ fn stuck_on(
         Place::Riding { .. } => link,
         Place::Aborted { .. } => return None,
     };
-    Some(of_person(Word::StuckAndAbort, number, link, More::Mode(mode)))
+    Some(of_person(Word::StuckAndAbort, person, link, More::Mode(mode)))
 }
 
 /// The same of this person of the town.
-fn stranded_on(day: &DayInput, link: u32, number: u32, person: Person) -> Option<Occurrence>
-    requires { number < length day.now.chosen.now }
-    ensures { option_to_list result ≡ stranded_on (setup day.now) link number person }
+fn stranded_on(day: &DayInput, link: u32, person: u32, state: Person) -> Option<Occurrence>
+    requires { person < length day.now.chosen.now }
+    ensures { option_to_list result ≡ stranded_on (setup day.now) link person state }
 {
-    let plan = chosen_plan(day, number);
-    let here = act_in(plan, person.element);
-    let mode = mode_in(plan, person.element);
-    stuck_on(day, link, number, here, mode, person.place)
+    let plan = chosen_plan(day, person);
+    let here = act_in(plan, state.element);
+    let mode = mode_in(plan, state.element);
+    stuck_on(day, link, person, here, mode, state.place)
 }
 
 /// Appends what the end of the day tells of a person.
 fn push_stranded(
     day: &DayInput,
     link: u32,
-    number: u32,
-    person: Person,
+    person: u32,
+    state: Person,
     events: &mut Vec<Event>,
 ) -> Result<(), AllocError>
-    requires { number < length day.now.chosen.now }
+    requires { person < length day.now.chosen.now }
     ensures { OnOk result (events.new.items ≡ events.old.items ++ keyed day.now.town.now.settings.end_second (phase_code phase.E)
-        number 0 (stranded_on (setup day.now) link number person)) }
+        person 0 (stranded_on (setup day.now) link person state)) }
 {
     let end = day.town.settings.end_second;
-    match stranded_on(day, link, number, person) {
-        Some(said) => push_keyed(end, Phase::E, number, &[said], events),
-        None => push_keyed(end, Phase::E, number, &[], events),
+    match stranded_on(day, link, person, state) {
+        Some(said) => push_keyed(end, Phase::E, person, &[said], events),
+        None => push_keyed(end, Phase::E, person, &[], events),
     }
 }
 
@@ -100,9 +100,9 @@ fn push_ends(
     ensures { OnOk result (events.new.items ≡ events.old.items
         ++ flat_map (told_on (setup day.now) day.now.town.now.settings.end_second links.now persons.now) (below (length persons.now))) }
 {
-    for number in 0..day.town.book.persons.len() {
-        let place = number as usize;
-        push_stranded(day, links[place], number, persons[place], events)?;
+    for person in 0..day.town.book.persons.len() {
+        let place = person as usize;
+        push_stranded(day, links[place], person, persons[place], events)?;
     }
     Ok(())
 }
@@ -137,18 +137,18 @@ fn tell_ends(
 /// `AllocError`: there is no memory for them.
 pub(crate) fn end_events(
     run: &Run,
-    number: u32,
+    partition: u32,
     area: Area,
     strays: Vec<Stray>,
 ) -> Result<Vec<Event>, AllocError>
-    requires there { number < run.now.owner.now.parts }
+    requires there { partition < run.now.owner.now.parts }
     requires stands { let own = owner_in run.now.owner.now.of_node in let S = setup run.now.day.now in
         let end = run.now.day.now.town.now.settings.end_second in
-        AreaStands run.now.day.now own number end end end area (held S own number end) (world_held S own number end) }
-    requires strays { AreStrays (setup run.now.day.now) (owner_in run.now.owner.now.of_node) run.now.owner.now.parts number
+        AreaStands run.now.day.now own partition end end end area (held S own partition end) (world_held S own partition end) }
+    requires strays { AreStrays (setup run.now.day.now) (owner_in run.now.owner.now.of_node) run.now.owner.now.parts partition
         run.now.day.now.town.now.settings.end_second strays.items }
     ensures { IfOk result (λ events. events.items
-        ≡ own_end_events (setup run.now.day.now) (owner_in run.now.owner.now.of_node) run.now.owner.now.parts number) }
+        ≡ own_end_events (setup run.now.day.now) (owner_in run.now.owner.now.of_node) run.now.owner.now.parts partition) }
 {
     let events = tell_ends(
         run,

@@ -7,9 +7,9 @@ use part_seconds::{Run, borders_at};
 use step_core::Border;
 
 /// The neighbours of a partition of a run, ascending, with the lags from them.
-pub(crate) fn neighbours_of<'a>(run: &Run<'a>, number: u32) -> &'a [Border]
-    requires { number < run.now.owner.now.parts }
-    ensures { result.now ≡ borders_in run.now.day.now run.now.owner.now number }
+pub(crate) fn neighbours_of<'a>(run: &Run<'a>, partition: u32) -> &'a [Border]
+    requires { partition < run.now.owner.now.parts }
+    ensures { result.now ≡ borders_in run.now.day.now run.now.owner.now partition }
 {
-    borders_at(run.borders, number)
+    borders_at(run.borders, partition)
 }

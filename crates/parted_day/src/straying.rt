@@ -135,12 +135,12 @@ fn push_parcel(second: u32, parcel: &Parcel, strays: &mut Vec<Stray>) -> Result<
 }
 
 /// The lag from this partition, as it stands among the neighbours of another one.
-fn lag_among(number: u32, borders: &[Border]) -> u32
-    ensures { result ≡ lag_among number borders.now }
+fn lag_among(partition: u32, borders: &[Border]) -> u32
+    ensures { result ≡ lag_among partition borders.now }
 {
     let mut rest = borders;
     while let [border, later @ ..] = rest {
-        if border.neighbour == number {
+        if border.neighbour == partition {
             return border.lag;
         }
         rest = later;
@@ -149,37 +149,37 @@ fn lag_among(number: u32, borders: &[Border]) -> u32
 }
 
 /// The lag from this partition to another one.
-fn lag_to(number: u32, receiver: u32, borders: &[BorderList]) -> u32
-    ensures { result ≡ lag_among number (get_or borders.now receiver []) }
+fn lag_to(partition: u32, receiver: u32, borders: &[BorderList]) -> u32
+    ensures { result ≡ lag_among partition (get_or borders.now receiver []) }
 {
-    lag_among(number, borders_at(borders, receiver))
+    lag_among(partition, borders_at(borders, receiver))
 }
 
 /// Whether a neighbour would absorb what the partition sends to it in a second only when its day is over.
-fn comes_too_late(run: &Run, number: u32, second: u32, receiver: u32) -> bool
-    requires { near (setup run.now.day.now) (owner_in run.now.owner.now.of_node) number receiver ≡ true }
-    ensures { result ≡ comes_too_late (setup run.now.day.now) (owner_in run.now.owner.now.of_node) number receiver second }
+fn comes_too_late(run: &Run, partition: u32, second: u32, receiver: u32) -> bool
+    requires { near (setup run.now.day.now) (owner_in run.now.owner.now.of_node) partition receiver ≡ true }
+    ensures { result ≡ comes_too_late (setup run.now.day.now) (owner_in run.now.owner.now.of_node) partition receiver second }
 {
     let left = run.day.town.settings.end_second.saturating_sub(second);
-    left <= lag_to(number, receiver, run.borders)
+    left <= lag_to(partition, receiver, run.borders)
 }
 
 /// Keeps all who are in the parcel of a second for a neighbour, where that comes too late.
 fn keep_parcel(
     run: &Run,
-    number: u32,
+    partition: u32,
     second: u32,
     receiver: u32,
     parcel: &Parcel,
     strays: &mut Vec<Stray>,
 ) -> Result<(), AllocError>
-    requires near { near (setup run.now.day.now) (owner_in run.now.owner.now.of_node) number receiver ≡ true }
+    requires near { near (setup run.now.day.now) (owner_in run.now.owner.now.of_node) partition receiver ≡ true }
     requires right { let S = setup run.now.day.now in
-        parcel_of S second parcel.now ≡ out S (owner_in run.now.owner.now.of_node) number receiver second }
+        parcel_of S second parcel.now ≡ out S (owner_in run.now.owner.now.of_node) partition receiver second }
     ensures { OnOk result (strays.new.items ≡ strays.old.items
-        ++ strays_to (setup run.now.day.now) (owner_in run.now.owner.now.of_node) number second receiver) }
+        ++ strays_to (setup run.now.day.now) (owner_in run.now.owner.now.of_node) partition second receiver) }
 {
-    if comes_too_late(run, number, second, receiver) {
+    if comes_too_late(run, partition, second, receiver) {
         push_parcel(second, parcel, strays)?;
     }
     Ok(())
@@ -188,7 +188,7 @@ fn keep_parcel(
 /// The same of the parcels for all neighbours.
 fn keep_parcels(
     run: &Run,
-    number: u32,
+    partition: u32,
     second: u32,
     borders: &[Border],
     parcels: &[Parcel],
@@ -196,17 +196,17 @@ fn keep_parcels(
 ) -> Result<(), AllocError>
     requires count { length parcels.now ≡ length borders.now }
     requires borders { borders.now
-        ≡ borders_of (setup run.now.day.now) (owner_in run.now.owner.now.of_node) run.now.owner.now.parts number }
+        ≡ borders_of (setup run.now.day.now) (owner_in run.now.owner.now.of_node) run.now.owner.now.parts partition }
     requires right { let own = owner_in run.now.owner.now.of_node in let S = setup run.now.day.now in
         (k : ℕ) → k < length borders.now
-        → parcel_of S second (parcel_at parcels.now k) ≡ out S own number (border_at borders.now k).neighbour second }
+        → parcel_of S second (parcel_at parcels.now k) ≡ out S own partition (border_at borders.now k).neighbour second }
     ensures { OnOk result (strays.new.items ≡ strays.old.items
-        ++ strays_over (setup run.now.day.now) (owner_in run.now.owner.now.of_node) number second borders.now) }
+        ++ strays_over (setup run.now.day.now) (owner_in run.now.owner.now.of_node) partition second borders.now) }
 {
     for (place, parcel) in parcels.iter().enumerate() {
         keep_parcel(
             run,
-            number,
+            partition,
             second,
             borders[place].neighbour,
             parcel,
@@ -224,29 +224,29 @@ fn keep_parcels(
 /// `AllocError`: there is no memory for them. The list is then of no use.
 pub(crate) fn keep_strays(
     run: &Run,
-    number: u32,
+    partition: u32,
     second: u32,
     parcels: &[Parcel],
     strays: &mut Vec<Stray>,
 ) -> Result<(), AllocError>
-    requires there { number < run.now.owner.now.parts }
+    requires there { partition < run.now.owner.now.parts }
     requires count { length parcels.now
-        ≡ length (borders_of (setup run.now.day.now) (owner_in run.now.owner.now.of_node) run.now.owner.now.parts number) }
+        ≡ length (borders_of (setup run.now.day.now) (owner_in run.now.owner.now.of_node) run.now.owner.now.parts partition) }
     requires right { let own = owner_in run.now.owner.now.of_node in let S = setup run.now.day.now in
-        let borders = borders_of S own run.now.owner.now.parts number in
+        let borders = borders_of S own run.now.owner.now.parts partition in
         (k : ℕ) → k < length borders
-        → parcel_of S second (parcel_at parcels.now k) ≡ out S own number (border_at borders k).neighbour second }
-    requires before { AreStrays (setup run.now.day.now) (owner_in run.now.owner.now.of_node) run.now.owner.now.parts number second
+        → parcel_of S second (parcel_at parcels.now k) ≡ out S own partition (border_at borders k).neighbour second }
+    requires before { AreStrays (setup run.now.day.now) (owner_in run.now.owner.now.of_node) run.now.owner.now.parts partition second
         strays.old.items }
-    ensures { OnOk result (AreStrays (setup run.now.day.now) (owner_in run.now.owner.now.of_node) run.now.owner.now.parts number
+    ensures { OnOk result (AreStrays (setup run.now.day.now) (owner_in run.now.owner.now.of_node) run.now.owner.now.parts partition
         (second + 1) strays.new.items) }
 {
     let left = run.day.town.settings.end_second.saturating_sub(second);
     if left > MAX_LAG {
         return Ok(());
     }
-    let borders = neighbours_of(run, number);
-    keep_parcels(run, number, second, borders, parcels, strays)?;
+    let borders = neighbours_of(run, partition);
+    keep_parcels(run, partition, second, borders, parcels, strays)?;
     Ok(())
 }
 

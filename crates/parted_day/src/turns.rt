@@ -37,7 +37,7 @@ pub(crate) fn forget_told(run: &Run, told: &mut Told)
 /// pass, links move. Appends what they tell, and answers what leaves the partition, or may leave it.
 pub(crate) fn take_turns(
     run: &Run,
-    number: u32,
+    partition: u32,
     second: u32,
     area: &mut Area,
     inbox: &mut Mailbox,
@@ -45,28 +45,29 @@ pub(crate) fn take_turns(
 ) -> Result<Leaving, AllocError>
     requires second_in { second < LAST_SECOND }
     requires in_day { second < run.now.day.now.town.now.settings.end_second }
-    requires there { number < run.now.owner.now.parts }
+    requires there { partition < run.now.owner.now.parts }
     requires stands { let own = owner_in run.now.owner.now.of_node in let S = setup run.now.day.now in
-        AreaStands run.now.day.now own number second second second area.old (held S own number second) (world_held S own number second) }
+        AreaStands run.now.day.now own partition second second second area.old (held S own partition second)
+        (world_held S own partition second) }
     requires heard { let own = owner_in run.now.owner.now.of_node in
-        HasHeard nothing (IsRight (setup run.now.day.now) own) number second
-        (borders_in run.now.day.now run.now.owner.now number) inbox.old }
-    requires places { length inbox.old ≡ length (borders_in run.now.day.now run.now.owner.now number) }
+        HasHeard nothing (IsRight (setup run.now.day.now) own) partition second
+        (borders_in run.now.day.now run.now.owner.now partition) inbox.old }
+    requires places { length inbox.old ≡ length (borders_in run.now.day.now run.now.owner.now partition) }
     requires silent { told.old.said.items ≡ [] }
     ensures stands { let own = owner_in run.now.owner.now.of_node in let S = setup run.now.day.now in
-        OnOk result (AreaStands run.now.day.now own number (second + 1) (second + 1) (second + 1) area.new
-        (held_driven S own number second) (world_driven S own number second)) }
+        OnOk result (AreaStands run.now.day.now own partition (second + 1) (second + 1) (second + 1) area.new
+        (held_driven S own partition second) (world_driven S own partition second)) }
     ensures empty { OnOk result (AreEmpty nothing (length inbox.old) inbox.new) }
     ensures events { let own = owner_in run.now.owner.now.of_node in let S = setup run.now.day.now in
-        OnOk result (told.new.events.items ≡ told.old.events.items ++ turns_told S own number second) }
-    ensures leaving { IfOk result (IsLeaving (setup run.now.day.now) (owner_in run.now.owner.now.of_node) number second) }
+        OnOk result (told.new.events.items ≡ told.old.events.items ++ turns_told S own partition second) }
+    ensures leaving { IfOk result (IsLeaving (setup run.now.day.now) (owner_in run.now.owner.now.of_node) partition second) }
     ensures said { OnOk result (told.new.said.items ≡ []) }
 {
-    absorb(area, run, number, second, inbox)?;
+    absorb(area, run, partition, second, inbox)?;
     let mut entering = Vec::new(run.alloc);
-    let looked = area.set_out(run, number, second, &mut told.events)?;
-    area.cross(run, number, second, told, &mut entering)?;
-    let freed = area.drive(run, number, second, told)?;
+    let looked = area.set_out(run, partition, second, &mut told.events)?;
+    area.cross(run, partition, second, told, &mut entering)?;
+    let freed = area.drive(run, partition, second, told)?;
     Ok(Leaving {
         entering,
         looked,
@@ -78,37 +79,37 @@ pub(crate) fn take_turns(
 /// one of them. To `strays` come those in parcels that come when the day is over.
 pub(crate) fn send_parcels(
     run: &Run,
-    number: u32,
+    partition: u32,
     second: u32,
     leaving: Leaving,
     area: &mut Area,
     outbox: &mut Mailbox,
     strays: &mut Vec<Stray>,
 ) -> Result<(), AllocError>
-    requires there { number < run.now.owner.now.parts }
+    requires there { partition < run.now.owner.now.parts }
     requires stands { let own = owner_in run.now.owner.now.of_node in let S = setup run.now.day.now in
-        AreaStands run.now.day.now own number (second + 1) (second + 1) (second + 1) area.old (held_driven S own number second)
-        (world_driven S own number second) }
-    requires leaving { IsLeaving (setup run.now.day.now) (owner_in run.now.owner.now.of_node) number second leaving }
-    requires gone { AreEmpty nothing (length (borders_in run.now.day.now run.now.owner.now number)) outbox.old }
-    requires strays { AreStrays (setup run.now.day.now) (owner_in run.now.owner.now.of_node) run.now.owner.now.parts number second
+        AreaStands run.now.day.now own partition (second + 1) (second + 1) (second + 1) area.old (held_driven S own partition second)
+        (world_driven S own partition second) }
+    requires leaving { IsLeaving (setup run.now.day.now) (owner_in run.now.owner.now.of_node) partition second leaving }
+    requires gone { AreEmpty nothing (length (borders_in run.now.day.now run.now.owner.now partition)) outbox.old }
+    requires strays { AreStrays (setup run.now.day.now) (owner_in run.now.owner.now.of_node) run.now.owner.now.parts partition second
         strays.old.items }
     ensures stands { let own = owner_in run.now.owner.now.of_node in let S = setup run.now.day.now in
-        OnOk result (AreaStands run.now.day.now own number (second + 1) (second + 1) (second + 1) area.new
-        (held S own number (second + 1)) (world_held S own number (second + 1))) }
-    ensures places { OnOk result (length outbox.new ≡ length (borders_in run.now.day.now run.now.owner.now number)) }
+        OnOk result (AreaStands run.now.day.now own partition (second + 1) (second + 1) (second + 1) area.new
+        (held S own partition (second + 1)) (world_held S own partition (second + 1))) }
+    ensures places { OnOk result (length outbox.new ≡ length (borders_in run.now.day.now run.now.owner.now partition)) }
     ensures sent { let own = owner_in run.now.owner.now.of_node in
-        OnOk result (HasSent nothing (IsRight (setup run.now.day.now) own) number second
-        (borders_in run.now.day.now run.now.owner.now number) outbox.new) }
-    ensures strays { OnOk result (AreStrays (setup run.now.day.now) (owner_in run.now.owner.now.of_node) run.now.owner.now.parts number
+        OnOk result (HasSent nothing (IsRight (setup run.now.day.now) own) partition second
+        (borders_in run.now.day.now run.now.owner.now partition) outbox.new) }
+    ensures strays { OnOk result (AreStrays (setup run.now.day.now) (owner_in run.now.owner.now.of_node) run.now.owner.now.parts partition
         (second + 1) strays.new.items) }
 {
     own_worlds_go_on();
-    let borders = neighbours_of(run, number);
+    let borders = neighbours_of(run, partition);
     let exits = Exits {
         day: run.day,
         owner: run.owner,
-        part: number,
+        partition,
         borders,
     };
     send(
@@ -119,6 +120,6 @@ pub(crate) fn send_parcels(
         &mut area.persons,
         outbox,
     )?;
-    keep_strays(run, number, second, outbox.parcels(), strays)?;
+    keep_strays(run, partition, second, outbox.parcels(), strays)?;
     Ok(())
 }

@@ -1,9 +1,9 @@
 use Rattle.part_seconds.proofs.Without.{nobody_goes, one_more_goes}
 use Rattle.part_seconds.proofs.leaving.let_all_go.Goals as goal
 
-pub loop-number-init : goal.loop-number-init
-loop-number-init c = nobody_goes c.args.persons.now
+pub loop-person-init : goal.loop-person-init
+loop-person-init c = nobody_goes c.args.persons.now
 
-pub loop-number-preserved : goal.loop-number-preserved
-loop-number-preserved c =
-    one_more_goes c.in-Some.number c.loop-number.yielded c.args.persons.now c.loop-number.persons _ c.loop-number.invariant c.let_go.ensures
+pub loop-person-preserved : goal.loop-person-preserved
+loop-person-preserved c =
+    one_more_goes c.in-Some.person c.loop-person.yielded c.args.persons.now c.loop-person.persons _ c.loop-person.invariant c.let_go.ensures

@@ -25,7 +25,7 @@ returns-clause-parcels c = λ k lt.
     let x = c.args.exits.now in
     let S = setup x.day.now in
     let own = owner_in x.owner.now.of_node in
-    let p = x.part in
+    let p = x.partition in
     let t = c.args.second in
     let borders = x.borders.now in
     let es = c.args.leaving.entering.items in
@@ -44,6 +44,6 @@ pub returns-clause-persons : goal.returns-clause-persons
 returns-clause-persons c =
     let x = c.args.exits.now in
     let own = owner_in x.owner.now.of_node in
-    day_goes x.day.now own x.owner.now.parts x.part c.args.second c.requires.given x.owner.now.owned c.args.leaving.entering.items
+    day_goes x.day.now own x.owner.now.parts x.partition c.args.second c.requires.given x.owner.now.owned c.args.leaving.entering.items
     c.args.leaving.looked.items _ c.args.persons.now _ c.requires.persons c.requires.entering c.requires.same c.in_ok-fill.ensures.gone
     c.let_all_go.ensures

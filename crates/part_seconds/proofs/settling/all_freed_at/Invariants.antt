@@ -9,8 +9,8 @@ use Rattle.part_seconds.proofs.settling.all_freed_at.Given as goal
 abbrev pub invariant-loop-rest : goal.invariant-loop-rest
 invariant-loop-rest l = record {
   so_far :
-      l.freed.items ++ flat_map (freed_at (setup l.run.day.now) (owner_in l.run.owner.now.of_node) l.number l.links l.queues) l.rest
-      ≡ flat_map (freed_at (setup l.run.day.now) (owner_in l.run.owner.now.of_node) l.number l.links l.queues) l.slots;
+      l.freed.items ++ flat_map (freed_at (setup l.run.day.now) (owner_in l.run.owner.now.of_node) l.partition l.links l.queues) l.rest
+      ≡ flat_map (freed_at (setup l.run.day.now) (owner_in l.run.owner.now.of_node) l.partition l.links l.queues) l.slots;
   there : AreIn (length l.links) l.rest;
 }
 

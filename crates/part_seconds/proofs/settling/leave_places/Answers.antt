@@ -15,8 +15,8 @@ loop-slot-init c = record {
   places = λ T apart few h.
       let S = setup c.args.run.now.day.now in
       let own = owner_in c.args.run.now.owner.now.of_node in
-      subst (λ (U : Taking). AreTakenOf (begins_here S own c.args.number) (length S.links) c.args.run.now.day.now.town.now.settings.end_second (c.args.second + 1) U
-      c.args.places.now) (sym (all_none S own c.args.number c.args.second c.args.links.now T)) h;
+      subst (λ (U : Taking). AreTakenOf (begins_here S own c.args.partition) (length S.links) c.args.run.now.day.now.town.now.settings.end_second (c.args.second + 1) U
+      c.args.places.now) (sym (all_none S own c.args.partition c.args.second c.args.links.now T)) h;
 }
 
 pub leave_place-requires-clause-there : goal.leave_place-requires-clause-there
@@ -32,7 +32,7 @@ loop-slot-preserved c = record {
   places = λ T apart few h.
       let S = setup c.args.run.now.day.now in
       let own = owner_in c.args.run.now.owner.now.of_node in
-      let p = c.args.number in
+      let p = c.args.partition in
       let t = c.args.second in
       let end = c.args.run.now.day.now.town.now.settings.end_second in
       let links = c.args.links.now in
@@ -55,6 +55,6 @@ pub returns : goal.returns
 returns c = λ T apart few h.
     let S = setup c.args.run.now.day.now in
     let own = owner_in c.args.run.now.owner.now.of_node in
-    subst (λ (ns : List ℕ). AreTakenOf (begins_here S own c.args.number) (length S.links) c.args.run.now.day.now.town.now.settings.end_second (c.args.second + 1)
-    (left_all S own c.args.number c.args.second c.args.links.now ns T) c.loop-slot.places)
+    subst (λ (ns : List ℕ). AreTakenOf (begins_here S own c.args.partition) (length S.links) c.args.run.now.day.now.town.now.settings.end_second (c.args.second + 1)
+    (left_all S own c.args.partition c.args.second c.args.links.now ns T) c.loop-slot.places)
     (take_all c.loop-slot.slot-index c.args.slots.now c.loop-slot-test.false) (c.loop-slot.invariant.places T apart few h)

@@ -17,7 +17,7 @@ pub returns-then-not-has_some-clause-stands : goal.returns-then-not-has_some-cla
 returns-then-not-has_some-clause-stands c =
     let run = c.args.run.now in
     let own = owner_in run.owner.now.of_node in
-    let p = c.args.number in
+    let p = c.args.partition in
     let t = c.args.second in
     let A = c.args.area.now in
     let n = length (borders_of (setup run.day.now) own run.owner.now.parts p) in
@@ -34,7 +34,7 @@ pub loop-place-init : goal.loop-place-init
 loop-place-init c =
     let run = c.args.run.now in
     record {
-      absorbed = none_absorbed run.day.now (owner_in run.owner.now.of_node) c.args.number c.args.second c.args.area.now c.requires.stands;
+      absorbed = none_absorbed run.day.now (owner_in run.owner.now.of_node) c.args.partition c.args.second c.args.area.now c.requires.stands;
       many = refl;
       emptied = λ k lt. absurd (omega arith);
       kept = λ k le. refl;
@@ -52,7 +52,7 @@ take-parcel-requires c =
 pub absorb_parcel-requires-clause-plans : goal.absorb_parcel-requires-clause-plans
 absorb_parcel-requires-clause-plans c =
     let run = c.args.run.now in
-    many_persons run.day.now (owner_in run.owner.now.of_node) c.args.number c.args.second c.args.area.now c.requires.stands _
+    many_persons run.day.now (owner_in run.owner.now.of_node) c.args.partition c.args.second c.args.area.now c.requires.stands _
     c.loop-place.area c.loop-place.invariant.absorbed
     ∙ one_each run.day.now c.args.area.now.persons.world c.requires.stands.persons.fit
 
@@ -62,7 +62,7 @@ absorb_parcel-requires-clause-looks c = c.loop-place.invariant.absorbed.persons.
 pub absorb_parcel-requires-clause-wakes : goal.absorb_parcel-requires-clause-wakes
 absorb_parcel-requires-clause-wakes c =
     let run = c.args.run.now in
-    many_wakes run.day.now (owner_in run.owner.now.of_node) c.args.number c.args.second c.args.area.now c.requires.stands _
+    many_wakes run.day.now (owner_in run.owner.now.of_node) c.args.partition c.args.second c.args.area.now c.requires.stands _
     c.loop-place.area c.loop-place.invariant.absorbed
 
 pub loop-place-preserved : goal.loop-place-preserved
@@ -71,7 +71,7 @@ loop-place-preserved c =
     let day = run.day.now in
     let S = setup day in
     let own = owner_in run.owner.now.of_node in
-    let p = c.args.number in
+    let p = c.args.partition in
     let t = c.args.second in
     let k = c.loop-place.place in
     let rows = borders_of S own run.owner.now.parts p in
@@ -110,7 +110,7 @@ all_taken-requires c =
 pub returns-clause-stands : goal.returns-clause-stands
 returns-clause-stands c =
     let run = c.args.run.now in
-    let p = c.args.number in
+    let p = c.args.partition in
     let is = c.neighbours_of-borders.ensures in
     let n = ap (λ (bs : List Border). length bs) is in
     finished run.day.now run.owner.now run.given p c.args.second run.link_slots.now run.slots c.parcels_make_ready.ensures.ready

@@ -10,8 +10,8 @@ use Rattle.parted_day.proofs.absorbing.absorb.Given as goal
 abbrev pub invariant-loop-place : goal.invariant-loop-place
 invariant-loop-place l = record {
   absorbed :
-      HasAbsorbed l.run.day.now (owner_in l.run.owner.now.of_node) l.number l.second
-      (take l.place (neighbours_at (borders_of (setup l.run.day.now) (owner_in l.run.owner.now.of_node) l.run.owner.now.parts l.number)))
+      HasAbsorbed l.run.day.now (owner_in l.run.owner.now.of_node) l.partition l.second
+      (take l.place (neighbours_at (borders_of (setup l.run.day.now) (owner_in l.run.owner.now.of_node) l.run.owner.now.parts l.partition)))
       l.initial.area l.area;
   many : length l.inbox ≡ length l.initial.inbox;
   emptied : (k : ℕ) → k < l.place → in_place nothing l.inbox k ≡ nothing;

@@ -15,15 +15,15 @@ empty_links-requires c =
     let run = c.args.run.now in
     let S = setup run.day.now in
     let own = owner_in run.owner.now.of_node in
-    are_links (λ l. owner_of S own l == c.args.number) (length S.links) (length run.day.now.town.now.network.links)
-    c.numbers_at-ends.result.now (c.numbers_at-ends.ensures ∙ run.own_ends c.args.number) (links_of run.day.now)
+    are_links (λ l. owner_of S own l == c.args.partition) (length S.links) (length run.day.now.town.now.network.links)
+    c.numbers_at-ends.result.now (c.numbers_at-ends.ensures ∙ run.own_ends c.args.partition) (links_of run.day.now)
 
 pub new-requires : goal.new-requires
 new-requires c =
     let run = c.args.run.now in
     let S = setup run.day.now in
-    are_links (begins_here S (owner_in run.owner.now.of_node) c.args.number) (length S.links) (length run.day.now.town.now.network.links)
-    c.numbers_at-starts.result.now (c.numbers_at-starts.ensures ∙ run.own_starts c.args.number) (links_of run.day.now)
+    are_links (begins_here S (owner_in run.owner.now.of_node) c.args.partition) (length S.links) (length run.day.now.town.now.network.links)
+    c.numbers_at-starts.result.now (c.numbers_at-starts.ensures ∙ run.own_starts c.args.partition) (links_of run.day.now)
 
 pub returns : goal.returns
 returns c =
@@ -31,7 +31,7 @@ returns c =
     let day = run.day.now in
     let S = setup day in
     let own = owner_in run.owner.now.of_node in
-    let p = c.args.number in
+    let p = c.args.partition in
     network_begins day own p run.given c.len-2.result c.len.result _
     (c.in_ok-links.ensures ∙ ap (map (empty_link S)) (c.numbers_at-ends.ensures ∙ run.own_ends p))
     (c.in_ok-places.ensures (begins_here S own p) day.town.now.settings.end_second

@@ -6,10 +6,10 @@ use Rattle.parted_day.proofs.ends.stranded_on.Goals as goal
 pub returns : goal.returns
 returns c =
     let S = setup c.args.day.now in
-    let P = c.args.person in
+    let P = c.args.state in
     c.stuck_on.ensures
-    ∙ ap (λ (x : Act). stuck_on S c.args.link c.args.number x c.mode_in-mode.result P.place) c.act_in-here.ensures
-    ∙ ap (λ (x : Mode). stuck_on S c.args.link c.args.number (act_in (plan_rows c.chosen_plan-plan.result.now) P.element) x P.place)
+    ∙ ap (λ (x : Act). stuck_on S c.args.link c.args.person x c.mode_in-mode.result P.place) c.act_in-here.ensures
+    ∙ ap (λ (x : Mode). stuck_on S c.args.link c.args.person (act_in (plan_rows c.chosen_plan-plan.result.now) P.element) x P.place)
     c.mode_in-mode.ensures
-    ∙ ap (λ (x : PlanRows). stuck_on S c.args.link c.args.number (act_in x P.element) (mode_of_leg (leg_in x P.element)) P.place)
+    ∙ ap (λ (x : PlanRows). stuck_on S c.args.link c.args.person (act_in x P.element) (mode_of_leg (leg_in x P.element)) P.place)
     (sym c.chosen_plan-plan.ensures)

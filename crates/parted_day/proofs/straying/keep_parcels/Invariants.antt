@@ -8,5 +8,5 @@ abbrev pub invariant-loop-place : goal.invariant-loop-place
 invariant-loop-place l =
     let S = setup l.run.day.now in
     let own = owner_in l.run.owner.now.of_node in
-    l.strays.items ++ strays_over S own l.number l.second (drop l.place l.borders)
-    ≡ l.initial.strays.items ++ strays_over S own l.number l.second l.borders
+    l.strays.items ++ strays_over S own l.partition l.second (drop l.place l.borders)
+    ≡ l.initial.strays.items ++ strays_over S own l.partition l.second l.borders

@@ -17,7 +17,7 @@ send-requires-clause-plans c = one_each c.args.run.now.day.now c.args.area.now.p
 
 pub send-requires-clause-others : goal.send-requires-clause-others
 send-requires-clause-others c =
-    are_others c.args.run.now.day.now c.args.run.now.owner.now c.args.run.now.given c.args.number _ c.neighbours_of-borders.ensures
+    are_others c.args.run.now.day.now c.args.run.now.owner.now c.args.run.now.given c.args.partition _ c.neighbours_of-borders.ensures
 
 pub send-requires-clause-count : goal.send-requires-clause-count
 send-requires-clause-count c = c.requires.gone.many ∙ sym (ap (λ (bs : List Border). length bs) c.neighbours_of-borders.ensures)
@@ -36,17 +36,17 @@ keep_strays-requires-clause-right c =
     let day = run.day.now in
     let S = setup day in
     let own = owner_in run.owner.now.of_node in
-    let borders = borders_in day run.owner.now c.args.number in
-    sent_as S own c.args.number c.args.second borders _ _ c.parcels.ensures
-    (has_sent S own c.args.number c.args.second _ borders _ c.neighbours_of-borders.ensures c.in_ok-send.ensures.parcels)
+    let borders = borders_in day run.owner.now c.args.partition in
+    sent_as S own c.args.partition c.args.second borders _ _ c.parcels.ensures
+    (has_sent S own c.args.partition c.args.second _ borders _ c.neighbours_of-borders.ensures c.in_ok-send.ensures.parcels)
 
 pub returns-clause-stands : goal.returns-clause-stands
 returns-clause-stands c =
     let run = c.args.run.now in
     let day = run.day.now in
     let own = owner_in run.owner.now.of_node in
-    next_stands day own c.args.number c.args.second run.given
-    (c.own_worlds_go_on.ensures.lets_go (setup day) own run.owner.now.parts c.args.number c.args.second (counts_in day)
+    next_stands day own c.args.partition c.args.second run.given
+    (c.own_worlds_go_on.ensures.lets_go (setup day) own run.owner.now.parts c.args.partition c.args.second (counts_in day)
     (sound_setup day run.given) (consistent_setup day run.given) run.owner.now.owned (fit_setup day run.given))
     c.args.area.now c.send.new.persons c.requires.stands c.in_ok-send.ensures.persons
 
@@ -57,5 +57,5 @@ pub returns-clause-sent : goal.returns-clause-sent
 returns-clause-sent c =
     let run = c.args.run.now in
     let day = run.day.now in
-    has_sent (setup day) (owner_in run.owner.now.of_node) c.args.number c.args.second _ (borders_in day run.owner.now c.args.number) _
+    has_sent (setup day) (owner_in run.owner.now.of_node) c.args.partition c.args.second _ (borders_in day run.owner.now c.args.partition) _
     c.neighbours_of-borders.ensures c.in_ok-send.ensures.parcels

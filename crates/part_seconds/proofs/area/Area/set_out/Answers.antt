@@ -16,7 +16,7 @@ use Rattle.part_seconds.proofs.area.Area.set_out.Goals as goal
 
 pub start_departures-requires-clause-there : goal.start_departures-requires-clause-there
 start_departures-requires-clause-there c =
-    own_in_range (setup c.args.run.now.day.now) (owner_in c.args.run.now.owner.now.of_node) c.args.number c.args.second _
+    own_in_range (setup c.args.run.now.day.now) (owner_in c.args.run.now.owner.now.of_node) c.args.partition c.args.second _
     (c.requires.stands.departures c.args.second (omega arith) c.requires.in_day)
 
 pub come_to_lines-requires-clause-plans : goal.come_to_lines-requires-clause-plans
@@ -28,10 +28,10 @@ come_to_lines-requires-clause-can c =
     let S = setup day in
     let own = owner_in c.args.run.now.owner.now.of_node in
     let t = c.args.second in
-    let started = started_own S own c.args.number t _ c.land_and_leave.new.self.world c.start_departures.new.self.world
+    let started = started_own S own c.args.partition t _ c.land_and_leave.new.self.world c.start_departures.new.self.world
     c.land_and_leave.new.events.items c.start_departures.new.events.items (c.requires.stands.departures t (omega arith) c.requires.in_day)
     c.in_ok-start_departures.ensures.world c.in_ok-start_departures.ensures.events in
-    can_come day own c.args.run.now.owner.now.parts c.args.number t c.args.run.now.link_slots.now c.args.run.now.given
+    can_come day own c.args.run.now.owner.now.parts c.args.partition t c.args.run.now.link_slots.now c.args.run.now.given
     c.args.run.now.owner.now.owned c.args.run.now.slots c.requires.in_day c.args.self.now c.requires.stands c.land_and_leave.new.self.world
     c.start_departures.new.self.world c.deref.result.now (record {
       first = c.in_ok-numbers.ensures.world;
@@ -45,7 +45,7 @@ returns-clause-events c =
     let S = setup c.args.run.now.day.now in
     let own = owner_in c.args.run.now.owner.now.of_node in
     let t = c.args.second in
-    let p = c.args.number in
+    let p = c.args.partition in
     let started = started_own S own p t _ c.land_and_leave.new.self.world c.start_departures.new.self.world
     c.land_and_leave.new.events.items c.start_departures.new.events.items (c.requires.stands.departures t (omega arith) c.requires.in_day)
     c.in_ok-start_departures.ensures.world c.in_ok-start_departures.ensures.events in
@@ -64,11 +64,11 @@ returns-clause-stands c =
     let S = setup day in
     let own = owner_in c.args.run.now.owner.now.of_node in
     let t = c.args.second in
-    let started = started_own S own c.args.number t _ c.land_and_leave.new.self.world c.start_departures.new.self.world
+    let started = started_own S own c.args.partition t _ c.land_and_leave.new.self.world c.start_departures.new.self.world
     c.land_and_leave.new.events.items c.start_departures.new.events.items (c.requires.stands.departures t (omega arith) c.requires.in_day)
     c.in_ok-start_departures.ensures.world c.in_ok-start_departures.ensures.events in
     let placed = c.in_ok-rows.ensures ∙ ap (λ (rs : List Row). map (in_slot c.args.run.now.link_slots.now) rs) c.take_rows-started.ensures.rows in
-    set_out_stands day own c.args.run.now.owner.now.parts c.args.number t c.args.run.now.link_slots.now c.args.run.now.given
+    set_out_stands day own c.args.run.now.owner.now.parts c.args.partition t c.args.run.now.link_slots.now c.args.run.now.given
     c.args.run.now.owner.now.owned c.args.run.now.slots c.requires.in_day c.args.self.now c.requires.stands c.land_and_leave.new.self.world
     c.start_departures.new.self.world c.deref.result.now (record {
       first = c.in_ok-numbers.ensures.world;
@@ -87,12 +87,12 @@ returns-clause-looked c =
     let day = c.args.run.now.day.now in
     let S = setup day in
     let own = owner_in c.args.run.now.owner.now.of_node in
-    let V = world_before S own c.args.number c.args.second in
+    let V = world_before S own c.args.partition c.args.second in
     let a = c.requires.stands.persons.looks in
     let b = ap (λ (ps : List Person). length ps) c.requires.stands.persons.persons in
-    let e = (fit_before day own c.args.run.now.owner.now.parts c.args.number c.args.second c.args.run.now.given
+    let e = (fit_before day own c.args.run.now.owner.now.parts c.args.partition c.args.second c.args.run.now.given
     c.args.run.now.owner.now.owned).one_each in
-    let n = (fit day own c.args.run.now.owner.now.parts c.args.number c.args.second c.args.run.now.given
+    let n = (fit day own c.args.run.now.owner.now.parts c.args.partition c.args.second c.args.run.now.given
     c.args.run.now.owner.now.owned).persons in
     ascending c.args.second (length S.persons) c.args.self.now.persons.wakes _ c.in_ok-numbers.ensures.due (omega arith)
 
@@ -101,7 +101,7 @@ returns-clause-others c = λ i off.
     let S = setup c.args.run.now.day.now in
     let own = owner_in c.args.run.now.owner.now.of_node in
     let t = c.args.second in
-    let p = c.args.number in
+    let p = c.args.partition in
     let started = started_own S own p t _ c.land_and_leave.new.self.world c.start_departures.new.self.world
     c.land_and_leave.new.events.items c.start_departures.new.events.items (c.requires.stands.departures t (omega arith) c.requires.in_day)
     c.in_ok-start_departures.ensures.world c.in_ok-start_departures.ensures.events in

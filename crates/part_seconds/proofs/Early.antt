@@ -43,9 +43,9 @@ use Rattle.part_persons.specs.Dues.{AreFollowed, AreFollowedIn}
 use Rattle.part_persons.proofs.Joining.{AtStart, fit_as}
 use Rattle.part_places.specs.declared.places.Places.{Places}
 use Rattle.part_places.specs.Taking.{AreTakenOf, begins_here, still}
-use Rattle.part_starts.specs.Starting.{all_started, woken_for_all}
-use Rattle.part_starts.proofs.Standing as starting
-use Rattle.part_starts.proofs.Standing.{Starts, in_world}
+use Rattle.part_seconds.specs.Starting.{all_started, woken_for_all}
+use Rattle.part_seconds.proofs.Standing as starting
+use Rattle.part_seconds.proofs.Standing.{Starts, in_world}
 use Rattle.part_seconds.specs.declared.area.Area.{Area}
 use Rattle.part_seconds.specs.Settling.{places_known}
 use Rattle.divided_day.specs.Slots.{link_in, slot_count, AreSlots}

@@ -1,4 +1,6 @@
 pub mod Lists
+pub mod Started
+pub mod Standing
 pub mod Places
 pub mod Filling
 pub mod Noting

@@ -6,4 +6,5 @@ pub mod Arriving
 pub mod Freed
 pub mod Slots
 pub mod Settling
+pub mod Starting
 pub mod Stands

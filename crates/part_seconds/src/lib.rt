@@ -21,6 +21,7 @@ mod runs;
 mod sending;
 mod setting_out;
 mod settling;
+mod starting;
 
 pub use area::Area;
 pub use arriving::{arrive, link_of};

@@ -2,7 +2,7 @@
 
 ghost use Rattle.std.specs.Prelude.{◌≡◌, ◌<◌, ◌+◌, ◌++◌, ℕ, false, [], length, map, filter, get_or, OnOk, IfOk};
 ghost use Rattle.part_lines.specs.Coming.{CanAllJoin, joined_lines};
-ghost use Rattle.part_starts.specs.Starting.{all_started, woken_for_all};
+ghost use Rattle.part_seconds.specs.Starting.{all_started, woken_for_all};
 ghost use Rattle.part_seconds.specs.Slots.{in_slot};
 ghost use Rattle.traffic.specs.Lists.{below};
 ghost use Rattle.limits.specs.declared.TheConstants.{LAST_SECOND};
@@ -20,10 +20,10 @@ ghost use Rattle.law_own_seconds.specs.Seconds.{held_early, world_early};
 
 use crate::area::Area;
 use crate::runs::Run;
+use crate::starting::start_all;
 use calendar::Wakes;
 use events::Event;
 use part_lines::join_lines;
-use part_starts::start_all;
 use person_moves::World;
 use queue_link::LinkState;
 use riders::Waiting;

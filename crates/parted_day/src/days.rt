@@ -10,6 +10,7 @@ ghost use Rattle.traffic.specs.Day as traffic_day;
 use crate::loads::loads_of;
 use crate::part::TownPart;
 use crate::runs::{run_of, share};
+use crate::threads::threaded_day;
 use divided_day::divided_day;
 use edge_files::Gate;
 use events::Event;
@@ -18,7 +19,6 @@ use spread::Spread;
 use std::alloc::{AllocError, Global};
 use std::sync::Wait;
 use std::thread::Threads;
-use threaded_day::threaded_day;
 use town::DayInput;
 
 /// The events of a run whose events are taken at its end: computed on this thread by one worker, or on several threads.

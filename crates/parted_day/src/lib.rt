@@ -20,6 +20,7 @@ mod riding;
 mod runs;
 mod straying;
 mod taking_in;
+mod threads;
 mod turns;
 
 pub use beginnings::begin;

@@ -5,7 +5,7 @@ use Rattle.town.specs.Views.{setup}
 use Rattle.law_in_range.proofs.Days.{one_each}
 use Rattle.law_own_worlds.specs.Days.{world_before}
 use Rattle.part_persons.proofs.Early.{started_own, own_in_range}
-use Rattle.part_starts.specs.Starting.{all_started, woken_for_all}
+use Rattle.part_seconds.specs.Starting.{all_started, woken_for_all}
 use Rattle.partition.specs.Owned.{owner_in}
 use Rattle.part_seconds.specs.Slots.{in_slot}
 use Rattle.part_seconds.proofs.Early.{can_come, set_out_stands}

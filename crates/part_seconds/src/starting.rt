@@ -2,7 +2,7 @@
 //! number of the link.
 
 ghost use Rattle.std.specs.Prelude.{◌≡◌, length, OnOk};
-ghost use Rattle.part_starts.specs.Starting.{started, all_started, woken_for, woken_for_all};
+ghost use Rattle.part_seconds.specs.Starting.{started, all_started, woken_for, woken_for_all};
 
 use calendar::Wakes;
 use queue_link::LinkState;
@@ -40,7 +40,7 @@ fn start(
 /// # Errors
 ///
 /// `AllocError`: there is no memory for a row. The links are then of no use.
-pub fn start_all(
+pub(crate) fn start_all(
     second: u32,
     rows: Vec<Row>,
     links: &mut [LinkState],

@@ -19,8 +19,8 @@ use Rattle.law_waking.specs.Resting.{Rests, sleeps_to}
 use Rattle.node_seconds.specs.Networks.{lane}
 use Rattle.part_links.specs.Links.{IsLink, AreNumbered, LinksStandAt, AreAsleep}
 use Rattle.part_persons.specs.Phases.{joined}
-use Rattle.part_starts.specs.Starting.{with_waiting, started, all_started, woken_for, woken_for_all}
-use Rattle.part_starts.proofs.Lists.{started_length, woken_length}
+use Rattle.part_seconds.specs.Starting.{with_waiting, started, all_started, woken_for, woken_for_all}
+use Rattle.part_seconds.proofs.Started.{started_length, woken_length}
 
 -- a row at the end of the wait list of a link that is there, as it comes there
 pub record Starts (count : ℕ) (r : Row) : Type 0 where

@@ -1,7 +1,7 @@
 use Rattle.std.proofs.Common.{◌∙◌, refl, ap, sym, length}
-use Rattle.part_starts.specs.Starting.{started, all_started, woken_for, woken_for_all}
-use Rattle.part_starts.proofs.Lists.{started_length, woken_length, started_last, woken_last}
-use Rattle.part_starts.proofs.starting.start_all.Goals as goal
+use Rattle.part_seconds.specs.Starting.{started, all_started, woken_for, woken_for_all}
+use Rattle.part_seconds.proofs.Started.{started_length, woken_length, started_last, woken_last}
+use Rattle.part_seconds.proofs.starting.start_all.Goals as goal
 
 pub loop-row-init : goal.loop-row-init
 unfolding all_started woken_for_all

@@ -7,7 +7,7 @@ use Rattle.traffic.specs.declared.world.Row.{Row}
 use Rattle.calendar.specs.Waking.{wake_of, earlier}
 use Rattle.queue_link.specs.Links.{LinkView}
 use Rattle.node_seconds.specs.Networks.{lane}
-use Rattle.part_starts.specs.Starting.{with_waiting, started, all_started, woken_for, woken_for_all}
+use Rattle.part_seconds.specs.Starting.{with_waiting, started, all_started, woken_for, woken_for_all}
 
 pub started_length : (r : Row) (links : List LinkView) → length (started r links) ≡ length links
 started_length r links =

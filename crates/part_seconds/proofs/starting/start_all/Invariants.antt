@@ -1,6 +1,6 @@
 use Rattle.std.proofs.Common.{◌≡◌, length}
-use Rattle.part_starts.specs.Starting.{all_started, woken_for_all}
-use Rattle.part_starts.proofs.starting.start_all.Given as goal
+use Rattle.part_seconds.specs.Starting.{all_started, woken_for_all}
+use Rattle.part_seconds.proofs.starting.start_all.Given as goal
 
 abbrev pub invariant-loop-row : goal.invariant-loop-row
 invariant-loop-row l = record {

@@ -1,5 +1,4 @@
-//! A day of a town in partitions, on several threads.
-#![tactic(auto)]
+//! A day of a town in partitions, on several threads, whatever a partition is.
 
 ghost use Rattle.std.specs.Prelude.{◌≡◌, ◌≤◌, false, IfOk};
 ghost use Rattle.limits.specs.declared.TheConstants.{MAX_PARTITIONS};
@@ -24,7 +23,7 @@ use workers::run_day;
 /// # Errors
 ///
 /// `AllocError`: there is no memory for the day.
-pub fn threaded_day<T: DayPart + Send + Sync, R: Threads + Wait + Sync, G: Gate>(
+pub(crate) fn threaded_day<T: DayPart + Send + Sync, R: Threads + Wait + Sync, G: Gate>(
     rt: &R,
     alloc: Global,
     run: &T::Run,

@@ -2,7 +2,7 @@ use Rattle.std.proofs.Common.{sym, subst, subst₂, List}
 use Rattle.step_core.specs.declared.part.Border.{Border}
 use Rattle.step_core.specs.Nets.{Net, IsNet, AreBorders}
 use Rattle.divided_day.proofs.Whole.{net_sound, borders_sound}
-use Rattle.threaded_day.proofs.threaded_day.Goals as goal
+use Rattle.parted_day.proofs.threads.threaded_day.Goals as goal
 
 pub run_day-requires-clause-net : goal.run_day-requires-clause-net
 run_day-requires-clause-net g c κs within =

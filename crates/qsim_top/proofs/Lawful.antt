@@ -1,4 +1,4 @@
--- Every day is lawful, and those of files without a fault follow the plans.
+-- Every day is lawful, and those of files without a fault follow the plans and go in parts.
 use Rattle.scenario.proofs.Common.{scenario_fault, scenario_rows, ScenarioRows, Texts}
 use Rattle.traffic.proofs.Common.{◌≡◌, ℕ, List, ◌∙◌, length, refl, sym, ◌<◌, subst, All-from_recursion, None, PlanRows, world_at, turns_of}
 use Rattle.traffic.proofs.Common.{Setup, day}
@@ -14,6 +14,7 @@ use Rattle.law_matches_plans.proofs.InTime.{day_until}
 use Rattle.law_sound_setups.proofs.Laws.{day_sound}
 use Rattle.law_matches_plans.proofs.Towns.{persons_are, rows_sound, rows_told}
 use Rattle.law_matches_plans.proofs.ScoredTowns.{rows_scored}
+use Rattle.law_partitions_of_towns.proofs.Towns.{rows_go}
 use Rattle.town.specs.Rows.{TownRows, IsTown}
 use Rattle.town.specs.Setups.{setup_of}
 use Rattle.law_in_range.specs.Setups.{IsPlanIn}
@@ -35,7 +36,7 @@ use Rattle.signals.specs.declared.conflict.Conflict.{Conflict}
 use Rattle.scenario.specs.FilesToScenario.{conflicts_in}
 use Rattle.law_signals.specs.Signals.{NeverTogether}
 use Rattle.qsim_top.specs.Answer.{run_rows_of}
-use Rattle.qsim_top.specs.Laws.{day_of, IsLawful, FollowsPlans, KeepsConflicts}
+use Rattle.qsim_top.specs.Laws.{day_of, IsLawful, FollowsPlans, KeepsConflicts, GoesInAnyParts}
 
 pub lawful : (S : Setup) → IsLawful S
 lawful S = record {
@@ -74,6 +75,20 @@ scenario_follows keeps S k valid =
 pub files_follow : (keeps : Bool) (texts : Texts) (k : ℕ) → scenario_fault texts ≡ None
     → FollowsPlans (scenario_rows texts).town (day_of keeps (scenario_rows texts) k)
 files_follow keeps texts k none = scenario_follows keeps (scenario_rows texts) k (scenario_valid texts none)
+
+-- the day of an iteration on which plans of the town are followed, whoever owns which node
+goes : (R : RunRows) (k : ℕ) (memories : List MemoryRows) → IsTown R.town → All (IsMemoryIn R.town) memories → GoesInAnyParts (day_in R k memories)
+goes R k memories town all =
+    λ own parts shares. rows_go R.town (followed_plans memories) k own parts town (followed_in R.town memories all) shares
+
+-- the same of every iteration of a valid scenario
+scenario_goes : (keeps : Bool) (S : ScenarioRows) (k : ℕ) → IsScenario S → GoesInAnyParts (day_of keeps S k)
+scenario_goes keeps S k valid =
+    let R : RunRows = run_rows_of keeps S in
+    goes R k (memories_at R S.memories k) valid.town (always_in R valid.town valid.learning S.memories valid.memories k)
+
+pub files_go : (keeps : Bool) (texts : Texts) (k : ℕ) → scenario_fault texts ≡ None → GoesInAnyParts (day_of keeps (scenario_rows texts) k)
+files_go keeps texts k none = scenario_goes keeps (scenario_rows texts) k (scenario_valid texts none)
 
 -- the links of a conflict are never green together, so no vehicles leave them in one second
 pub files_keep : (keeps : Bool) (texts : Texts) (k : ℕ) → scenario_fault texts ≡ None → KeepsConflicts texts (day_of keeps (scenario_rows texts) k)

@@ -16,7 +16,9 @@ use Rattle.traffic.specs.Frames.{Ascends}
 use Rattle.traffic.specs.Worlds.{OnePlace, Storage, FlowKept, Sound}
 use Rattle.law_capacity.specs.Moves.{IsElsewhere, second_moves, KeepsRule}
 use Rattle.law_matches_plans.specs.Planned.{IsToldAsPlanned}
+use Rattle.law_partitions.specs.Laws.{IsOwner, GoesInParts}
 use Rattle.law_signals.specs.Signals.{KeepsSignals, NeverTogether}
+use Rattle.parts.specs.Owners.{Owner}
 use Rattle.scenario.specs.Texts.{Texts}
 use Rattle.scenario.specs.FilesToScenario.{ScenarioRows, conflicts_in}
 use Rattle.signals.specs.declared.conflict.Conflict.{Conflict}
@@ -62,6 +64,12 @@ pub record FollowsPlans (town : TownRows) (S : Setup) : Type 0 where
 -- in no second of the day do vehicles leave both links of a conflict of signals.csv
 abbrev pub KeepsConflicts : Texts → Setup → Type 0
 KeepsConflicts texts S = All (λ (conflict : Conflict). NeverTogether S conflict.first conflict.second) (conflicts_in texts)
+
+-- The laws of a day in parts: whichever partition owns which node, and however many there are, a partition's second is what the day says of it;
+-- in whatever order the lags allow they advance, each holds, has told and has sent what the day says, each person is in exactly one of them or in
+-- one parcel that is not absorbed, some may always advance, and all come to the end; and what they tell, merged by the keys, is the day.
+abbrev pub GoesInAnyParts : Setup → Type 0
+GoesInAnyParts S = (own : Owner) (parts : ℕ) → IsOwner own parts → GoesInParts S own parts
 
 -- The laws of what is reported of routes: there is no way exactly where no walk joins a node of the one name to a node of the other; and any
 -- other report tells a walk between such nodes, with the second in which it arrives, than which none arrives earlier, and the least arrivals

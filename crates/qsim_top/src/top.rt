@@ -10,7 +10,7 @@ ghost use Rattle.scenario.specs.FilesToScenario.{ScenarioRows, scenario_fault, s
 ghost use Rattle.qsim_top.specs.declared.answers.Status.{Status};
 ghost use Rattle.qsim_top.specs.Answer.{report, reports_alone, is_of_words, OnlyReports};
 ghost use Rattle.qsim_top.specs.Came.{uses_keeper, may_keep, computed_so, AnswersCase, IsCarriedOut};
-ghost use Rattle.qsim_top.specs.Laws.{day_of, IsLawful, FollowsPlans, KeepsConflicts, ReportsRoutes, ResumesRuns};
+ghost use Rattle.qsim_top.specs.Laws.{day_of, IsLawful, FollowsPlans, KeepsConflicts, GoesInAnyParts, ReportsRoutes, ResumesRuns};
 ghost use Rattle.qsim_top.specs.Texts.{refused_line};
 
 use crate::answers::Status;
@@ -150,6 +150,8 @@ pub fn qsim<R: Threads + Wait + Sync, I: Inputs, O: Outputs, K: Keeper, G: Gate>
         → FollowsPlans (scenario_rows texts).town (day_of keeps (scenario_rows texts) k) }
     ensures conflicts { (keeps : Bool) (texts : Texts) (k : ℕ) → scenario_fault texts ≡ None
         → KeepsConflicts texts (day_of keeps (scenario_rows texts) k) }
+    ensures parted { (keeps : Bool) (texts : Texts) (k : ℕ) → scenario_fault texts ≡ None
+        → GoesInAnyParts (day_of keeps (scenario_rows texts) k) }
     ensures routed { (texts : Texts) → scenario_fault texts ≡ None → ReportsRoutes (scenario_rows texts) }
 
     // A run that was stopped behind a save and is resumed does what is left of it.

@@ -1,5 +1,5 @@
 use Rattle.qsim_top.specs.Laws.{day_of}
-use Rattle.qsim_top.proofs.Lawful.{lawful, files_follow, files_keep}
+use Rattle.qsim_top.proofs.Lawful.{lawful, files_follow, files_go, files_keep}
 use Rattle.qsim_top.proofs.Resumes.{files_resume}
 use Rattle.qsim_top.proofs.Routed.{files_report}
 use Rattle.qsim_top.proofs.laws.know_days.Goals as goal
@@ -15,6 +15,9 @@ returns-clause-routed c = files_report
 
 pub returns-clause-conflicts : goal.returns-clause-conflicts
 returns-clause-conflicts c = files_keep
+
+pub returns-clause-parted : goal.returns-clause-parted
+returns-clause-parted c = files_go
 
 pub returns-clause-resumed : goal.returns-clause-resumed
 returns-clause-resumed c = files_resume

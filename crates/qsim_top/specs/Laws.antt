@@ -65,9 +65,10 @@ pub record FollowsPlans (town : TownRows) (S : Setup) : Type 0 where
 abbrev pub KeepsConflicts : Texts → Setup → Type 0
 KeepsConflicts texts S = All (λ (conflict : Conflict). NeverTogether S conflict.first conflict.second) (conflicts_in texts)
 
--- The laws of a day in parts: whichever partition owns which node, and however many there are, a partition's second is what the day says of it;
--- in whatever order the lags allow they advance, each holds, has told and has sent what the day says, each person is in exactly one of them or in
--- one parcel that is not absorbed, some may always advance, and all come to the end; and what they tell, merged by the keys, is the day.
+-- The laws of a day in parts, however many partitions there are and whichever of them owns which node: a partition's second is what the day does
+-- there; in whatever order the lags allow partitions advance, each holds, has told and has sent what the day says, and each person is in exactly
+-- one of them or in one parcel that is not absorbed; some may advance while any has seconds left, and as many steps as all have seconds bring all
+-- to the end; and what they tell, merged by the keys, is the day.
 abbrev pub GoesInAnyParts : Setup → Type 0
 GoesInAnyParts S = (own : Owner) (parts : ℕ) → IsOwner own parts → GoesInParts S own parts
 

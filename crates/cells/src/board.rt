@@ -3,14 +3,14 @@ ghost use Rattle.std.specs.Prelude.{◌≡◌, ℕ, ◌*◌, ◌≤◌, length};
 ghost use Rattle.cells.specs.Rule.{AreChannelsOf, AreSingle};
 ghost use Rattle.cells.specs.declared.TheConstants.{SLOTS, WORDS_APART};
 
-use crate::table::{Border, Channel, Layout, Rule, Traffic, View};
+use crate::table::{Border, Channel, Exchange, Layout, Rule, View};
 use atomic_table::{Seat, Table};
 use std::alloc::Global;
 
 /// The table that all threads share: a word for each partition, the seconds that it has published, and a ring of slots for each ordered
 /// pair of neighbours.
 #[derive(Drop)]
-pub struct Board<T: Traffic> {
+pub struct Board<T: Exchange> {
     pub(crate) table: Table<Option<T::Parcel>, View<T::Run>, Layout<T::Run>, Rule<T>, Global>,
     pub(crate) channels: Vec<Channel>,
     pub(crate) count: u32,
@@ -25,7 +25,7 @@ pub struct Board<T: Traffic> {
 
 /// Gives each partition its port, and takes the ports back. Contracts see which partitions had a port, and which were joined.
 #[derive(Drop)]
-pub struct Hub<T: Traffic> {
+pub struct Hub<T: Exchange> {
     pub(crate) seat: Seat<Option<T::Parcel>, View<T::Run>>,
 }
 
@@ -54,7 +54,7 @@ pub enum Look {
 /// The place of one partition on a board. The thread that has it looks at the neighbours, takes, puts and publishes. A port with
 /// `done() = t` is about to do second `t`.
 #[derive(Drop)]
-pub struct Port<T: Traffic> {
+pub struct Port<T: Exchange> {
     pub(crate) seat: Seat<Option<T::Parcel>, View<T::Run>>,
     pub(crate) partition: u32,
     pub(crate) done: u32,

@@ -7,12 +7,12 @@ ghost use Rattle.cells.specs.Ports.{looks, waits, still, taken_count};
 
 use crate::board::{Board, Hub, Port};
 use crate::borders::{all_awaited, find_borders, neighbours_over};
-use crate::table::{JoinBack, Known, SplitOff, Traffic, View};
+use crate::table::{Exchange, JoinBack, Known, SplitOff, View};
 use atomic_table::Seat;
 use std::alloc::{AllocError, Global};
 use std::marker::Brand;
 
-fn split_seat_at<J: Known, T: Traffic>(
+fn split_seat_at<J: Known, T: Exchange>(
     board: &Board<T>,
     seat: &mut Seat<Option<T::Parcel>, View<T::Run>>,
     p: u32,
@@ -29,7 +29,7 @@ fn split_seat_at<J: Known, T: Traffic>(
 }
 
 /// A seat for the port of `p`.
-fn split_seat<T: Traffic>(
+fn split_seat<T: Exchange>(
     board: &Board<T>,
     seat: &mut Seat<Option<T::Parcel>, View<T::Run>>,
     p: u32,
@@ -44,7 +44,7 @@ fn split_seat<T: Traffic>(
     split_seat_at::<Brand, T>(board, seat, p)
 }
 
-impl<T: Traffic> Hub<T> {
+impl<T: Exchange> Hub<T> {
     /// The port of partition `p`, which is below the board's count and has had none yet. Its neighbours and lags are those by the board's
     /// pairs. At a refusal, which is want of memory, the hub is as it was.
     pub fn split(&mut self, alloc: Global, board: &Board<T>, p: u32) -> Result<Port<T>, AllocError>
@@ -101,7 +101,7 @@ impl<T: Traffic> Hub<T> {
     }
 }
 
-impl<T: Traffic> Board<T> {
+impl<T: Exchange> Board<T> {
     /// Ends the board, once each port that was split off was joined. The parcels that lie in its slots, those of the last seconds, are
     /// dropped.
     pub fn close(self, hub: Hub<T>)

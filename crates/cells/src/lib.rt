@@ -1,12 +1,12 @@
 //! Border cells: the table through which the partitions of a parallel simulation hand parcels to their neighbours, without a lock.
 //!
-//! The partitions advance second by second, as in conservative parallel simulation with lookahead (Chandy and Misra): partition `p` may do
+//! The partitions advance second by second, as in conservative parallel simulation with lookahead: partition `p` may do
 //! second `t` once each neighbour `q` has done more than `t - lag` seconds, where the lag (the lookahead of the ordered pair, 1 to 32 s) is
 //! the number of seconds before which nothing that `q` does is felt at `p`. A [`Port`] stands for one partition. In each second it looks at
 //! its neighbours ([`Port::look`]), takes the parcel that each sent `lag` seconds ago ([`Port::take`]), puts one for each
 //! ([`Port::put`]) and publishes the second ([`Port::publish`]), by one atomic store. None of these calls waits, locks or takes memory.
 //!
-//! What is sent is a [`Traffic`], whose one meaning is which parcel is right. Under every schedule of the threads that have the ports,
+//! What is sent is an [`Exchange`], whose one meaning is which parcel is right. Under every schedule of the threads that have the ports,
 //! `take` gives exactly the right parcel, and each parcel is taken exactly once.
 #![tactic(auto)]
 
@@ -22,7 +22,7 @@ mod taking;
 
 pub use board::{Board, Handover, Hub, Look, Port};
 use limits::MAX_LAG;
-pub use table::Traffic;
+pub use table::Exchange;
 
 /// The slots of each ordered pair of neighbours: as many as two of the longest lags, so that no two parcels on their way share one.
 pub const SLOTS: u32 = 2 * MAX_LAG;

@@ -6,11 +6,11 @@ ghost use Rattle.cells.specs.Ports.{IsBorder, IsPort, SameSecond, Reads, Answers
 use crate::WORDS_APART;
 use crate::board::{Board, Handover, Look, Port};
 use crate::slots::unload;
-use crate::table::{Border, Known, Looking, Traffic, View};
+use crate::table::{Border, Exchange, Known, Looking, View};
 use atomic_table::Seat;
 use std::marker::Brand;
 
-fn read_at<J: Known, T: Traffic>(
+fn read_at<J: Known, T: Exchange>(
     board: &Board<T>,
     seat: &mut Seat<Option<T::Parcel>, View<T::Run>>,
     border: Border,
@@ -29,7 +29,7 @@ fn read_at<J: Known, T: Traffic>(
 }
 
 /// Reads the word of the neighbour over a border, and picks up two slots where it is far enough for the first time in this second.
-fn read<T: Traffic>(
+fn read<T: Exchange>(
     board: &Board<T>,
     seat: &mut Seat<Option<T::Parcel>, View<T::Run>>,
     border: Border,
@@ -43,7 +43,7 @@ fn read<T: Traffic>(
     read_at::<Brand, T>(board, seat, border)
 }
 
-impl<T: Traffic> Port<T> {
+impl<T: Exchange> Port<T> {
     /// Looks at neighbour `k`: whether it is far enough for the second that this port is about to do. It is ready exactly where the word
     /// that this call reads (the seconds that the neighbour has published) plus the lag from it is more than `done()`; otherwise that word
     /// is answered. A neighbour that was ready stays so until this port publishes.

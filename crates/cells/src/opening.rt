@@ -5,7 +5,7 @@ ghost use Rattle.cells.specs.Pairs.{ArePairs, channels_of};
 ghost use Rattle.cells.specs.Ports.{IsHub, IsLawful, FollowsPairs, run_of, had_port, joined, count_of, channels_in};
 
 use crate::board::{Board, Hub};
-use crate::table::{Channel, Layout, Traffic};
+use crate::table::{Channel, Exchange, Layout};
 use crate::{SLOTS, WORDS_APART};
 use atomic_table::Table;
 use std::alloc::{AllocError, Global};
@@ -36,7 +36,7 @@ fn channels_for(alloc: Global, pairs: &[(u32, u32, u32, u32)]) -> Result<Vec<Cha
     Ok(channels)
 }
 
-impl<T: Traffic> Board<T> {
+impl<T: Exchange> Board<T> {
     /// A board for `count` partitions, 1 to 64, and its hub. Each row of `pairs` is `(p, q, there, back)`: two neighbours, the lesser
     /// first, the lag from `p` to `q` and the lag from `q` to `p`, 1 to 32 s each. No two rows have the same neighbours; there may be no
     /// row. The one refusal is want of memory.

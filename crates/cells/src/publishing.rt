@@ -6,7 +6,7 @@ ghost use Rattle.cells.specs.Ports.{neighbours_of, borders_of, TakesNone};
 use crate::WORDS_APART;
 use crate::board::{Board, Handover, Port};
 use crate::slots::load_out;
-use crate::table::{Publishing, Traffic};
+use crate::table::{Exchange, Publishing};
 use std::mem::replace;
 
 fn take_put<P: Drop>(handover: &mut Handover<P>) -> Option<P>
@@ -19,7 +19,7 @@ fn take_put<P: Drop>(handover: &mut Handover<P>) -> Option<P>
     }
 }
 
-impl<T: Traffic> Port<T> {
+impl<T: Exchange> Port<T> {
     /// Puts the parcels into the out-slots.
     fn fill(&mut self, board: &Board<T>)
         requires port { IsPort T.right board.now self.old }

@@ -5,7 +5,7 @@ ghost use Rattle.cells.specs.Rings.{slot};
 
 use crate::SLOTS;
 use crate::board::{Board, Handover};
-use crate::table::{Border, Traffic, View};
+use crate::table::{Border, Exchange, View};
 use atomic_table::Seat;
 
 /// The slot of a channel for the parcel of a second.
@@ -17,7 +17,7 @@ fn slot_of(channel: u32, second: u32) -> usize
 
 /// Takes what lies in the in-slot that a look picked up, if it did. A slot with no parcel in it is read alone: it is not written, so that
 /// no thread loses the line that it lies in.
-pub(crate) fn unload<T: Traffic>(
+pub(crate) fn unload<T: Exchange>(
     board: &Board<T>,
     seat: &mut Seat<Option<T::Parcel>, View<T::Run>>,
     border: Border,
@@ -44,7 +44,7 @@ pub(crate) fn unload<T: Traffic>(
 }
 
 /// Puts a parcel, if there is one, into the out-slot of a border, whose slots are ahead of the others, and turns them behind the others.
-pub(crate) fn load_out<T: Traffic>(
+pub(crate) fn load_out<T: Exchange>(
     board: &Board<T>,
     seat: &mut Seat<Option<T::Parcel>, View<T::Run>>,
     border: Border,

@@ -6,8 +6,8 @@ use std::collections::LinkedList;
 use std::marker::{Brand, PhantomData};
 use std::snapshot::Snapshot;
 
-/// What is sent in a run, from partition to partition.
-pub trait Traffic {
+/// What the partitions of a run send to one another.
+pub trait Exchange {
     /// What all parcels of a board are about.
     type Run;
 
@@ -87,7 +87,7 @@ pub struct Rule<T> {
     marker: PhantomData<T>,
 }
 
-impl<T: Traffic> TableRule<Option<T::Parcel>, View<T::Run>, Layout<T::Run>> for Rule<T> {
+impl<T: Exchange> TableRule<Option<T::Parcel>, View<T::Run>, Layout<T::Run>> for Rule<T> {
     ghost use Rattle.cells.specs.Rule.{IsKept, hub_view};
 
     ghost holds = { IsKept T.right };
@@ -117,7 +117,7 @@ pub(crate) struct Looking<T, J> {
     of: PhantomData<(T, J)>,
 }
 
-impl<T: Traffic, J: Known> Play<Option<T::Parcel>, View<T::Run>> for Looking<T, J> {
+impl<T: Exchange, J: Known> Play<Option<T::Parcel>, View<T::Run>> for Looking<T, J> {
     ghost use Rattle.cells.specs.Rule.{Looks};
 
     ghost then = { λ s m n w. Looks T.right J.border s.word m n w };

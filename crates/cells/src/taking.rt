@@ -5,7 +5,7 @@ ghost use Rattle.cells.specs.Ports.{neighbours_of, lag_from, run_of};
 ghost use Rattle.cells.specs.Ports.{partition_of, done_of, taken_count, TakesNone, TakesOne};
 
 use crate::board::{Board, Handover, Port};
-use crate::table::Traffic;
+use crate::table::Exchange;
 use std::mem::replace;
 
 fn take_arrived<P: Drop>(handover: &mut Handover<P>) -> Option<P>
@@ -18,7 +18,7 @@ fn take_arrived<P: Drop>(handover: &mut Handover<P>) -> Option<P>
     }
 }
 
-impl<T: Traffic> Port<T> {
+impl<T: Exchange> Port<T> {
     /// The seconds that this partition has done.
     pub fn done(&self) -> u32
         ensures { result ≡ done_of self.now }

@@ -4,7 +4,7 @@ use Rattle.std.proofs.Common.{refl, subst, arith}
 use Rattle.cells.specs.declared.board.Board.{Board}
 use Rattle.step_core.specs.declared.part.Border.{Border}
 use Rattle.step_core.specs.Views.{PartView}
-use Rattle.workers.specs.declared.members.Day.{Day}
+use Rattle.workers.specs.declared.members.ParcelsOf.{ParcelsOf}
 use Rattle.workers.specs.declared.members.Member.{Member}
 use Rattle.workers.specs.Members.{IsMember, AreMembers}
 
@@ -14,7 +14,7 @@ one_at x d (suc i) lt = absurd (omega arith)
 
 pub one_member : {T R P : Type 0} (until : ℕ) (borders : R → ℕ → List Border) (nothing : P)
     (see : T → PartView P) (stands : R → T → Type 0) (spent : T → Type 0)
-    (right : R → ℕ → ℕ → ℕ → P → Type 0) (run : R) (b : Board (Day T) R P) (ms : List (Member T R P)) (m : Member T R P)
+    (right : R → ℕ → ℕ → ℕ → P → Type 0) (run : R) (b : Board (ParcelsOf T) R P) (ms : List (Member T R P)) (m : Member T R P)
     → ms ≡ m ∷ [] → IsMember until borders nothing see stands spent right run b m
     → AreMembers until borders nothing see stands spent right run b ms
 one_member {T} {R} {P} until borders nothing see stands spent right run b ms m e is i d lt = let long = ap length e in

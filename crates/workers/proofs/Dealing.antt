@@ -8,7 +8,7 @@ use native.Mathlib.Decide.{ℕ_discrete}
 use Rattle.cells.specs.declared.board.Board.{Board}
 use Rattle.step_core.specs.declared.part.Border.{Border}
 use Rattle.step_core.specs.Views.{PartView, IsAt, EachAt}
-use Rattle.workers.specs.declared.members.Day.{Day}
+use Rattle.workers.specs.declared.members.ParcelsOf.{ParcelsOf}
 use Rattle.workers.specs.declared.members.Member.{Member}
 use Rattle.workers.specs.Members.{IsMember, AreMembers, AreAll, AllEnd, AllGo, is_stopped, number_of, seconds_of}
 use Rattle.workers.specs.Sharing.{HasOne, IsPartIn, ArePartsOf}
@@ -94,7 +94,7 @@ module _ {T R P : Type 0} where
       subst (λ (z : Member T R P). (is_stopped z ≡ false) × (seconds_of z ≡ t)) c.2 (level c.0 m c.1)
 
 module _ {T R P : Type 0} (until : ℕ) (borders : R → ℕ → List Border) (nothing : P) (see : T → PartView P) (stands : R → T → Type 0)
-    (spent : T → Type 0) (right : R → ℕ → ℕ → ℕ → P → Type 0) (run : R) (b : Board (Day T) R P) where
+    (spent : T → Type 0) (right : R → ℕ → ℕ → ℕ → P → Type 0) (run : R) (b : Board (ParcelsOf T) R P) where
   pub shared_members : (xs ys : List (Member T R P)) → IsPermutation xs ys
       → AreMembers until borders nothing see stands spent right run b xs → AreMembers until borders nothing see stands spent right run b ys
   shared_members xs ys perm are i d lt =

@@ -15,7 +15,7 @@ use Rattle.cells.specs.Ports as ports
 use Rattle.cells.proofs.Uses.{same_trans, taken_unread}
 use Rattle.step_core.specs.declared.part.Border.{Border}
 use Rattle.step_core.specs.Views.{PartView, IsHeard, Stays, in_place}
-use Rattle.workers.specs.declared.members.Day.{Day}
+use Rattle.workers.specs.declared.members.ParcelsOf.{ParcelsOf}
 use Rattle.workers.specs.Members.{border_of}
 use Rattle.workers.specs.Exchanges.{ArePut, HasTakenTo, HasPutTo}
 use Rattle.workers.specs.Parcels.{right_or_none}
@@ -81,9 +81,9 @@ module _ {P : Type 0} (nothing : P) (right : ℕ → ℕ → ℕ → P → Type 
   }
 
 module _ {T R P : Type 0} (nothing : P) (see : T → PartView P) (stands : R → T → Type 0) (right : R → ℕ → ℕ → ℕ → P → Type 0)
-    (b : Board (Day T) R P) (before : Port (Day T) R P) (x : T) where
+    (b : Board (ParcelsOf T) R P) (before : Port (ParcelsOf T) R P) (x : T) where
   -- what neighbour k sent was taken
-  pub took : (k : ℕ) (q r : Port (Day T) R P) (y z : T) → HasTakenTo nothing see stands right b before x k q y → k < degree before
+  pub took : (k : ℕ) (q r : Port (ParcelsOf T) R P) (y z : T) → HasTakenTo nothing see stands right b before x k q y → k < degree before
       → IsPort (right_or_none nothing right) b r → SameSecond q r → r.handovers.items ≡ set q.handovers.items k Taken → waits r ≡ waits q
       → IsHeard nothing (right (run_of b)) (partition_of q) (done_of q) (border_of q k) (in_place nothing (see z).inbox k)
       → ((j : ℕ) → j ≢ k → in_place nothing (see z).inbox j ≡ in_place nothing (see y).inbox j)
@@ -124,7 +124,7 @@ module _ {T R P : Type 0} (nothing : P) (see : T → PartView P) (stands : R →
       }
 
   -- neighbour k has no parcel for this second
-  pub skipped : (k : ℕ) (q : Port (Day T) R P) (y : T) → HasTakenTo nothing see stands right b before x k q y → k < degree before
+  pub skipped : (k : ℕ) (q : Port (ParcelsOf T) R P) (y : T) → HasTakenTo nothing see stands right b before x k q y → k < degree before
       → done_of q < lag_from q k → HasTakenTo nothing see stands right b before x (k + 1) q y
   skipped k q y i lk lt =
       let rows = ap (λ (v : List cell.Border). length v) i.same.borders in
@@ -156,7 +156,7 @@ module _ {T R P : Type 0} (nothing : P) (see : T → PartView P) (stands : R →
       }
 
   -- the parcel for neighbour k may be put
-  pub may_give : (k : ℕ) (q : Port (Day T) R P) (y : T) (o : Option P) → HasPutTo nothing see stands right b before x k q y
+  pub may_give : (k : ℕ) (q : Port (ParcelsOf T) R P) (y : T) (o : Option P) → HasPutTo nothing see stands right b before x k q y
       → k < degree before → unwrap_or o nothing ≡ in_place nothing (see y).outbox k
       → right (run_of b) (partition_of before) (neighbour before k) (done_of before) (in_place nothing (see x).outbox k)
       → right_or_none nothing right (run_of b) (partition_of q) (neighbour q k) (done_of q) o
@@ -166,7 +166,7 @@ module _ {T R P : Type 0} (nothing : P) (see : T → PartView P) (stands : R →
       (sym (is ∙ i.kept k (omega arith) lk)) sent)
 
   -- it was put
-  pub gave : (k : ℕ) (q r : Port (Day T) R P) (y z : T) (o : Option P) → HasPutTo nothing see stands right b before x k q y
+  pub gave : (k : ℕ) (q r : Port (ParcelsOf T) R P) (y z : T) (o : Option P) → HasPutTo nothing see stands right b before x k q y
       → k < degree before → IsPort (right_or_none nothing right) b r → SameSecond q r
       → r.handovers.items ≡ set q.handovers.items k (Put o) → waits r ≡ waits q
       → (see z).outbox ≡ set (see y).outbox k nothing → (see z).inbox ≡ (see y).inbox → (see z).number ≡ (see y).number

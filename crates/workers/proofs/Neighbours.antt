@@ -8,7 +8,7 @@ use Rattle.cells.specs.Pairs.{Pair, AreLags, IsLag}
 use Rattle.cells.specs.Ports.{IsPort, FollowsPairs, degree, neighbour, lag_from, partition_of, count_of, run_of}
 use Rattle.step_core.specs.declared.part.Border.{Border}
 use Rattle.step_core.specs.Nets.{Net, IsNet, AreBorders, border_at}
-use Rattle.workers.specs.declared.members.Day.{Day}
+use Rattle.workers.specs.declared.members.ParcelsOf.{ParcelsOf}
 use Rattle.workers.specs.Members.{HasNeighbours, IsBoardOfRun}
 use Rattle.workers.specs.Pairs.{ArePairsOf}
 use Rattle.workers.specs.Parcels.{right_or_none}
@@ -17,9 +17,9 @@ use Rattle.workers.proofs.Lists.{same_rows}
 same_border : (r : Border) (n l : ℕ) → r.neighbour ≡ n → r.lag ≡ l → r ≡ record { neighbour = n; lag = l }
 same_border r n l e f = subst₂ (λ (x y : ℕ). r ≡ record { neighbour = x; lag = y }) e f refl
 
-module _ {T R P : Type 0} (N : Net) (right : R → ℕ → ℕ → ℕ → Option P → Type 0) (b : Board (Day T) R P) (xs : List Pair)
+module _ {T R P : Type 0} (N : Net) (right : R → ℕ → ℕ → ℕ → Option P → Type 0) (b : Board (ParcelsOf T) R P) (xs : List Pair)
     (pairs : ArePairsOf N xs) (follows : FollowsPairs right b xs) (many : count_of b ≡ N.parts) where
-  pub has_neighbours : (rows : List Border) (q : Port (Day T) R P) → IsPort right b q → AreBorders N (partition_of q) rows
+  pub has_neighbours : (rows : List Border) (q : Port (ParcelsOf T) R P) → IsPort right b q → AreBorders N (partition_of q) rows
       → HasNeighbours rows q
   has_neighbours rows q port are =
       let lags : AreLags xs (partition_of q) q.borders.items = follows q port in
@@ -49,7 +49,7 @@ module _ {T R P : Type 0} (N : Net) (right : R → ℕ → ℕ → ℕ → Optio
 
 -- a board that is made from the pairs of a run is one of the run
 pub is_board : {T R P : Type 0} (net : R → Net) (borders : R → ℕ → List Border) (nothing : P) (right : R → ℕ → ℕ → ℕ → P → Type 0)
-    (run : R) (b : Board (Day T) R P) (xs : List Pair) → IsNet (net run)
+    (run : R) (b : Board (ParcelsOf T) R P) (xs : List Pair) → IsNet (net run)
     → ((p : ℕ) → p < (net run).parts → AreBorders (net run) p (borders run p)) → ArePairsOf (net run) xs → run_of b ≡ run
     → count_of b ≡ (net run).parts → FollowsPairs (right_or_none nothing right) b xs → IsBoardOfRun net borders nothing right run b
 is_board net borders nothing right run b xs sound are pairs about many follows = record {

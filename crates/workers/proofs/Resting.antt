@@ -8,13 +8,13 @@ use Rattle.cells.specs.Ports.{waits, still, run_of, is_awaited}
 use Rattle.step_core.specs.declared.part.Border.{Border}
 use Rattle.step_core.specs.Nets.{Net}
 use Rattle.step_core.specs.Views.{PartView, AreEmpty, IsAt, HasDone, IsHeard, HasHeard, HasSent, Stays, in_place}
-use Rattle.workers.specs.declared.members.Day.{Day}
+use Rattle.workers.specs.declared.members.ParcelsOf.{ParcelsOf}
 use Rattle.workers.specs.declared.members.Member.{Member}
 use Rattle.workers.specs.Members.{IsBoardOfRun, IsMember, Rests, border_of, number_of, seconds_of, is_stopped}
 use Rattle.workers.specs.Parcels.{right_or_none}
 
 module _ {T R P : Type 0} (until : ℕ) (borders : R → ℕ → List Border) (nothing : P) (see : T → PartView P)
-    (stands : R → T → Type 0) (right : R → ℕ → ℕ → ℕ → P → Type 0) (run : R) (b : Board (Day T) R P) where
+    (stands : R → T → Type 0) (right : R → ℕ → ℕ → ℕ → P → Type 0) (run : R) (b : Board (ParcelsOf T) R P) where
   -- a member that rests does so up to any second that it is not beyond
   pub rests_within : (v : ℕ) (m : Member T R P) → Rests until borders nothing see stands right run b m → seconds_of m ≤ v
       → Rests v borders nothing see stands right run b m
@@ -58,9 +58,9 @@ module _ {T R P : Type 0} (until : ℕ) (borders : R → ℕ → List Border) (n
   }
 
 module _ {T R P : Type 0} (net : R → Net) (borders : R → ℕ → List Border) (nothing : P) (see : T → PartView P)
-    (stands : R → T → Type 0) (right : R → ℕ → ℕ → ℕ → P → Type 0) (run : R) (b : Board (Day T) R P) where
+    (stands : R → T → Type 0) (right : R → ℕ → ℕ → ℕ → P → Type 0) (run : R) (b : Board (ParcelsOf T) R P) where
   -- as many neighbours as the port has
-  own_many : (q : Port (Day T) R P) → IsBoardOfRun net borders nothing right run b → IsPort (right_or_none nothing right) b q
+  own_many : (q : Port (ParcelsOf T) R P) → IsBoardOfRun net borders nothing right run b → IsPort (right_or_none nothing right) b q
       → length (borders run (partition_of q)) ≡ degree q
   own_many q board port = (board.neighbours q port).many
 
@@ -70,13 +70,13 @@ module _ {T R P : Type 0} (net : R → Net) (borders : R → ℕ → List Border
   all_empty until m board r = subst (λ (n : ℕ). AreEmpty nothing n (see m.part).inbox) (own_many m.port board r.port) r.at.empty
 
   -- it has so many places
-  pub all_places : (q : Port (Day T) R P) (places n : ℕ) → IsBoardOfRun net borders nothing right run b
+  pub all_places : (q : Port (ParcelsOf T) R P) (places n : ℕ) → IsBoardOfRun net borders nothing right run b
       → IsPort (right_or_none nothing right) b q → n ≡ partition_of q → places ≡ degree q → places ≡ length (borders run n)
   all_places q places n board port named many =
       many ∙ sym (own_many q board port) ∙ ap (λ (v : ℕ). length (borders run v)) (sym named)
 
   -- what was taken from the port is what the partition is to hear
-  pub all_heard : (q : Port (Day T) R P) (places : List P) (n t : ℕ) → IsBoardOfRun net borders nothing right run b
+  pub all_heard : (q : Port (ParcelsOf T) R P) (places : List P) (n t : ℕ) → IsBoardOfRun net borders nothing right run b
       → IsPort (right_or_none nothing right) b q → n ≡ partition_of q → t ≡ done_of q
       → ((k : ℕ) → k < degree q → IsHeard nothing (right (run_of b)) (partition_of q) (done_of q) (border_of q k)
       (in_place nothing places k)) → HasHeard nothing (right run) n t (borders run n) places
@@ -92,7 +92,7 @@ module _ {T R P : Type 0} (net : R → Net) (borders : R → ℕ → List Border
       (subst (λ (v : ℕ). HasHeard nothing (right run) v (done_of q) (borders run v) places) (sym ne) here)
 
   -- what the partition sends is what is to be put into the port
-  pub all_sent : (q : Port (Day T) R P) (places : List P) (n t : ℕ) → IsBoardOfRun net borders nothing right run b
+  pub all_sent : (q : Port (ParcelsOf T) R P) (places : List P) (n t : ℕ) → IsBoardOfRun net borders nothing right run b
       → IsPort (right_or_none nothing right) b q → n ≡ partition_of q → t ≡ done_of q
       → HasSent nothing (right run) n t (borders run n) places
       → (k : ℕ) → k < degree q → right (run_of b) (partition_of q) (neighbour q k) (done_of q) (in_place nothing places k)
@@ -127,7 +127,7 @@ module _ {T R P : Type 0} (net : R → Net) (borders : R → ℕ → List Border
       }
 
 module _ {T R P : Type 0} (until : ℕ) (borders : R → ℕ → List Border) (nothing : P) (see : T → PartView P) (stands : R → T → Type 0)
-    (spent : T → Type 0) (right : R → ℕ → ℕ → ℕ → P → Type 0) (run : R) (b : Board (Day T) R P) where
+    (spent : T → Type 0) (right : R → ℕ → ℕ → ℕ → P → Type 0) (run : R) (b : Board (ParcelsOf T) R P) where
   -- one that was not stopped is a member where it rests
   pub goes_on : (m : Member T R P) → is_stopped m ≡ false → Rests until borders nothing see stands right run b m
       → IsMember until borders nothing see stands spent right run b m

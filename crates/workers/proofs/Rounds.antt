@@ -9,7 +9,7 @@ use native.Mathlib.Decide.{ℕ_discrete}
 use Rattle.cells.specs.declared.board.Board.{Board}
 use Rattle.step_core.specs.declared.part.Border.{Border}
 use Rattle.step_core.specs.Views.{PartView}
-use Rattle.workers.specs.declared.members.Day.{Day}
+use Rattle.workers.specs.declared.members.ParcelsOf.{ParcelsOf}
 use Rattle.workers.specs.declared.members.Member.{Member}
 use Rattle.workers.specs.declared.members.Turn.{Turn}
 use Rattle.workers.specs.declared.members.Turn.TheVariants.{Ended, Stopped, Waited, Moved}
@@ -25,7 +25,7 @@ raised s m w s' m' w' Waited f g h x = h x
 raised s m w s' m' w' Moved f g h x = g x
 
 module _ {T R P : Type 0} (until : ℕ) (borders : R → ℕ → List Border) (nothing : P) (see : T → PartView P) (stands : R → T → Type 0)
-    (spent : T → Type 0) (right : R → ℕ → ℕ → ℕ → P → Type 0) (run : R) (b : Board (Day T) R P) where
+    (spent : T → Type 0) (right : R → ℕ → ℕ → ℕ → P → Type 0) (run : R) (b : Board (ParcelsOf T) R P) where
   -- the member at place k had its turn and is x
   pub step : (k : ℕ) (s m w s' m' w' : Bool) (old new : List (Member T R P)) (x e : Member T R P) (t : Turn)
       → RoundTo until borders nothing see stands spent right run b k s m w old new → k < length new

@@ -4,12 +4,12 @@ use Rattle.std.specs.Fork.{IsChunk}
 use Rattle.cells.specs.declared.board.Board.{Board}
 use Rattle.step_core.specs.declared.part.Border.{Border}
 use Rattle.step_core.specs.Views.{PartView}
-use Rattle.workers.specs.declared.members.Day.{Day}
+use Rattle.workers.specs.declared.members.ParcelsOf.{ParcelsOf}
 use Rattle.workers.specs.declared.members.Member.{Member}
 use Rattle.workers.specs.Members.{IsMember, AreMembers}
 
 module _ {T R P : Type 0} (until : ℕ) (borders : R → ℕ → List Border) (nothing : P) (see : T → PartView P) (stands : R → T → Type 0)
-    (spent : T → Type 0) (right : R → ℕ → ℕ → ℕ → P → Type 0) (run : R) (b : Board (Day T) R P) where
+    (spent : T → Type 0) (right : R → ℕ → ℕ → ℕ → P → Type 0) (run : R) (b : Board (ParcelsOf T) R P) where
   pub chunk_members : (xs ys : List (Member T R P)) (size start : ℕ) → AreMembers until borders nothing see stands spent right run b xs
       → IsChunk xs size start ys → AreMembers until borders nothing see stands spent right run b ys
   chunk_members xs ys size start all is i d lt = let within = is.in_bounds in

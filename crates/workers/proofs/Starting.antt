@@ -8,7 +8,7 @@ use Rattle.cells.specs.declared.board.Board.{Board}
 use Rattle.cells.specs.Ports.{IsPort, degree, handover, partition_of, done_of, waits, still, is_awaited}
 use Rattle.step_core.specs.declared.part.Border.{Border}
 use Rattle.step_core.specs.Views.{PartView, IsAt, EachAt}
-use Rattle.workers.specs.declared.members.Day.{Day}
+use Rattle.workers.specs.declared.members.ParcelsOf.{ParcelsOf}
 use Rattle.workers.specs.declared.members.Member.{Member}
 use Rattle.workers.specs.Parcels.{right_or_none}
 use Rattle.workers.specs.Members.{Rests, IsMember, AreMembers, AreAll, AllEnd, Went, is_stopped, number_of, seconds_of}
@@ -42,7 +42,7 @@ module _ {T R P : Type 0} where
   one_of (m ∷ ms) lt f = f m
 
 module _ {T R P : Type 0} (until : ℕ) (borders : R → ℕ → List Border) (nothing : P) (see : T → PartView P) (stands : R → T → Type 0)
-    (right : R → ℕ → ℕ → ℕ → P → Type 0) (run : R) (b : Board (Day T) R P) where
+    (right : R → ℕ → ℕ → ℕ → P → Type 0) (run : R) (b : Board (ParcelsOf T) R P) where
   -- a partition at the start with its new port
   pub starts : (m : Member T R P) (n : ℕ) → IsPort (right_or_none nothing right) b m.port → partition_of m.port ≡ n → done_of m.port ≡ 0
       → ((k : ℕ) → k < degree m.port → is_awaited (handover m.port k) ≡ true) → waits m.port ≡ 0 → still m.port ≡ 0
@@ -57,7 +57,7 @@ module _ {T R P : Type 0} (until : ℕ) (borders : R → ℕ → List Border) (n
   }
 
 module _ {T R P : Type 0} (until : ℕ) (borders : R → ℕ → List Border) (nothing : P) (see : T → PartView P) (stands : R → T → Type 0)
-    (spent : T → Type 0) (right : R → ℕ → ℕ → ℕ → P → Type 0) (run : R) (b : Board (Day T) R P) where
+    (spent : T → Type 0) (right : R → ℕ → ℕ → ℕ → P → Type 0) (run : R) (b : Board (ParcelsOf T) R P) where
   pub members_more : (ms : List (Member T R P)) (x : Member T R P) → AreMembers until borders nothing see stands spent right run b ms
       → IsMember until borders nothing see stands spent right run b x → AreMembers until borders nothing see stands spent right run b
       (ms ++ x ∷ [])

@@ -4,7 +4,7 @@ use Rattle.cells.specs.declared.board.Board.{Board}
 use Rattle.cells.specs.declared.board.Port.{Port}
 use Rattle.cells.specs.Ports.{IsPort, IsUnread, SameSecond, degree, partition_of, done_of, waits, run_of, handover, is_taken, is_put}
 use Rattle.step_core.specs.Views.{PartView, IsHeard, Stays, in_place}
-use Rattle.workers.specs.declared.members.Day.{Day}
+use Rattle.workers.specs.declared.members.ParcelsOf.{ParcelsOf}
 use Rattle.workers.specs.Members.{border_of}
 use Rattle.workers.specs.Parcels.{right_or_none}
 
@@ -18,9 +18,9 @@ module _ {T R P : Type 0} (right : R → ℕ → ℕ → ℕ → Option P → Ty
     pub taken : (j : ℕ) → k ≤ j → j < degree before → is_taken (handover q j) ≡ true
 
 module _ {T R P : Type 0} (nothing : P) (see : T → PartView P) (stands : R → T → Type 0) (right : R → ℕ → ℕ → ℕ → P → Type 0)
-    (b : Board (Day T) R P) (before : Port (Day T) R P) (x : T) where
+    (b : Board (ParcelsOf T) R P) (before : Port (ParcelsOf T) R P) (x : T) where
   -- what the first k neighbours sent was taken, and absorbed where something was in it
-  pub record HasTakenTo (k : ℕ) (q : Port (Day T) R P) (y : T) : Type 0 where
+  pub record HasTakenTo (k : ℕ) (q : Port (ParcelsOf T) R P) (y : T) : Type 0 where
     pub port : IsPort (right_or_none nothing right) b q
     pub same : SameSecond before q
     pub waits : waits q ≡ waits before
@@ -36,7 +36,7 @@ module _ {T R P : Type 0} (nothing : P) (see : T → PartView P) (stands : R →
     pub stays : Stays stands x y
 
   -- the parcels for the first k neighbours were taken out of the partition and put
-  pub record HasPutTo (k : ℕ) (q : Port (Day T) R P) (y : T) : Type 0 where
+  pub record HasPutTo (k : ℕ) (q : Port (ParcelsOf T) R P) (y : T) : Type 0 where
     pub put : ArePut (right_or_none nothing right) b before k q
     pub many : length (see y).outbox ≡ degree before
     pub gone : (j : ℕ) → j < k → in_place nothing (see y).outbox j ≡ nothing

@@ -9,7 +9,7 @@ use Rattle.step_core.specs.declared.part.Border.{Border}
 use Rattle.step_core.specs.Nets.{Net, IsNet, border_at}
 use Rattle.step_core.specs.Views.{PartView, IsAt}
 use Rattle.workers.specs.declared.bundles.TheConstants.{PATIENCE}
-use Rattle.workers.specs.declared.members.Day.{Day}
+use Rattle.workers.specs.declared.members.ParcelsOf.{ParcelsOf}
 use Rattle.workers.specs.declared.members.Member.{Member}
 use Rattle.workers.specs.declared.members.Turn.{Turn}
 use Rattle.workers.specs.declared.members.Turn.TheVariants.{Ended, Stopped, Waited, Moved}
@@ -31,21 +31,21 @@ one_if false = 0
 module _ {T R P : Type 0} where
   -- BOARDS
   -- neighbour k of a port, as its partition has it
-  abbrev pub border_of : Port (Day T) R P → ℕ → Border
+  abbrev pub border_of : Port (ParcelsOf T) R P → ℕ → Border
   border_of q k = record { neighbour = neighbour q k; lag = lag_from q k }
 
   -- these are the neighbours of a port, in order, with the lags from them
-  pub record HasNeighbours (rows : List Border) (q : Port (Day T) R P) : Type 0 where
+  pub record HasNeighbours (rows : List Border) (q : Port (ParcelsOf T) R P) : Type 0 where
     pub many : length rows ≡ degree q
     pub each : (k : ℕ) → k < degree q → border_at rows k ≡ border_of q k
 
   -- the board is one of this run: its partitions are those of the run, and each port has the neighbours that the run has for its partition
   pub record IsBoardOfRun (net : R → Net) (borders : R → ℕ → List Border) (nothing : P) (right : R → ℕ → ℕ → ℕ → P → Type 0)
-      (run : R) (b : Board (Day T) R P) : Type 0 where
+      (run : R) (b : Board (ParcelsOf T) R P) : Type 0 where
     pub sound : IsNet (net run)
     pub about : run_of b ≡ run
     pub many : count_of b ≡ (net run).parts
-    pub neighbours : (q : Port (Day T) R P) → IsPort (right_or_none nothing right) b q → HasNeighbours (borders run (partition_of q)) q
+    pub neighbours : (q : Port (ParcelsOf T) R P) → IsPort (right_or_none nothing right) b q → HasNeighbours (borders run (partition_of q)) q
 
   -- MEMBERS
   abbrev pub number_of : Member T R P → ℕ
@@ -139,7 +139,7 @@ module _ {T R P : Type 0} where
   -- A RUN UP TO A SECOND
   -- what the partitions of a run are, as the trait `Part` has it, and up to which second they are run
   module _ (until : ℕ) (borders : R → ℕ → List Border) (nothing : P) (see : T → PartView P) (stands : R → T → Type 0)
-      (right : R → ℕ → ℕ → ℕ → P → Type 0) (run : R) (b : Board (Day T) R P) where
+      (right : R → ℕ → ℕ → ℕ → P → Type 0) (run : R) (b : Board (ParcelsOf T) R P) where
     -- A member between two seconds: its partition holds and has told what it has after so many seconds by itself, with nothing absorbed
     -- since and nothing left that is to go, and its port is that of the partition on this board, at the same second, with nothing taken
     -- and nothing put in it.
@@ -152,7 +152,7 @@ module _ {T R P : Type 0} where
 
   module _ (until : ℕ) (borders : R → ℕ → List Border) (nothing : P) (see : T → PartView P) (stands : R → T → Type 0)
       (spent : T → Type 0)
-      (right : R → ℕ → ℕ → ℕ → P → Type 0) (run : R) (b : Board (Day T) R P) where
+      (right : R → ℕ → ℕ → ℕ → P → Type 0) (run : R) (b : Board (ParcelsOf T) R P) where
     -- it rests, or was stopped: that alone whose partition found no memory in a second
     pub record IsMember (m : Member T R P) : Type 0 where
       pub rests : is_stopped m ≡ false → Rests until borders nothing see stands right run b m
@@ -171,7 +171,7 @@ module _ {T R P : Type 0} where
       pub ends : Ends until old new
 
     -- the members were cut into lists of one size, and each list was given back with the promise
-    pub record Spread (old new : List (Member T R P)) : Type 0 where
+    pub record RunSpread (old new : List (Member T R P)) : Type 0 where
       pub went : Went old new
       pub size : ℕ
       pub some : 0 < size

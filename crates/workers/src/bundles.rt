@@ -3,7 +3,7 @@
 ghost use Rattle.std.specs.Prelude.{◌≤◌};
 ghost use Rattle.workers.specs.Members.{IsBoardOfRun, AreMembers, Ran, Rounded};
 
-use crate::members::{Bundle, Day, Member, Round, Turn};
+use crate::members::{Bundle, Member, ParcelsOf, Round, Turn};
 use crate::seconds::turn;
 use cells::Board;
 use edge_files::Gate;
@@ -21,7 +21,7 @@ const SPINS: u32 = 40;
 fn round<T: Part, G: Gate>(
     gate: &G,
     run: &T::Run,
-    board: &Board<Day<T>>,
+    board: &Board<ParcelsOf<T>>,
     until: u32,
     members: &mut [Member<T>],
 ) -> Round
@@ -59,7 +59,7 @@ where
 pub(crate) fn run_members<T: Part, G: Gate>(
     gate: &G,
     run: &T::Run,
-    board: &Board<Day<T>>,
+    board: &Board<ParcelsOf<T>>,
     until: u32,
     members: &mut [Member<T>],
 )
@@ -92,7 +92,7 @@ where
 pub fn run_bundle<T: Part, G: Gate>(
     gate: &G,
     run: &T::Run,
-    board: &Board<Day<T>>,
+    board: &Board<ParcelsOf<T>>,
     mut bundle: Bundle<T>,
 ) -> Bundle<T>
 where

@@ -9,7 +9,7 @@ ghost use Rattle.workers.specs.Members.{IsBoardOfRun, AreMembers, AreAll, AllEnd
 ghost use Rattle.workers.specs.Running.{IsRunning};
 ghost use Rattle.workers.specs.Sharing.{HasOne, IsPartIn};
 
-use crate::members::{Bundle, Day, Member, new_board};
+use crate::members::{Bundle, Member, ParcelsOf, new_board};
 use crate::moving::run_to;
 use crate::sharing::{parts_of, place_of, share_out};
 use cells::{Board, Hub};
@@ -23,8 +23,8 @@ use step_core::Part;
 fn all_members<T: Part>(
     alloc: Global,
     run: &T::Run,
-    board: &Board<Day<T>>,
-    hub: &mut Hub<Day<T>>,
+    board: &Board<ParcelsOf<T>>,
+    hub: &mut Hub<ParcelsOf<T>>,
 ) -> Result<Vec<Member<T>>, AllocError>
 where
     T::Parcel: Send,
@@ -49,7 +49,7 @@ pub struct Running<T: Part>
 where
     T::Parcel: Send,
 {
-    pub(crate) board: Board<Day<T>>,
+    pub(crate) board: Board<ParcelsOf<T>>,
     /// Those of one worker follow one another.
     pub(crate) bundle: Bundle<T>,
     pub(crate) workers: u32,

@@ -2,8 +2,8 @@
 //! its neighbours are far enough. What they send to one another goes over the board of `cells`; what a partition is, is known by the trait
 //! `Part` of `step_core` alone.
 //!
-//! This is conservative parallel simulation with lookahead (Chandy and Misra, 1979): nothing is ever taken back, and no partition waits for
-//! more than its neighbours.
+//! This is conservative parallel simulation with lookahead: nothing is ever taken back, and no partition waits for more than its
+//! neighbours.
 #![tactic(auto)]
 
 mod bundles;
@@ -16,4 +16,4 @@ mod sharing;
 
 pub use bundles::run_bundle;
 pub use days::{Running, run_day};
-pub use members::{Bundle, Day, Member, new_board};
+pub use members::{Bundle, Member, ParcelsOf, new_board};

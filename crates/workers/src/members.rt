@@ -7,18 +7,18 @@ ghost use Rattle.step_core.specs.Nets.{IsNet, AreBorders};
 ghost use Rattle.workers.specs.Members.{IsBoardOfRun, IsMember, number_of, seconds_of, is_stopped};
 
 use crate::pairs::pairs_of;
-use cells::{Board, Hub, Port, Traffic};
+use cells::{Board, Exchange, Hub, Port};
 use std::alloc::{AllocError, Global};
 use std::marker::PhantomData;
 use step_core::Part;
 
 /// What the partitions of a run send to one another, where `T` is a partition: its parcels, of which those are right that it calls so, and
 /// none in the place of one with nothing in it.
-pub struct Day<T> {
+pub struct ParcelsOf<T> {
     part: PhantomData<T>,
 }
 
-impl<T: Part> Traffic for Day<T>
+impl<T: Part> Exchange for ParcelsOf<T>
 where
     T::Parcel: Send,
 {
@@ -38,7 +38,7 @@ where
     T::Parcel: Send,
 {
     pub(crate) part: T,
-    pub(crate) port: Port<Day<T>>,
+    pub(crate) port: Port<ParcelsOf<T>>,
     /// Whether the partition found no memory in a second. It is of no use then.
     pub(crate) stopped: bool,
 }
@@ -86,7 +86,7 @@ pub(crate) enum Round {
 pub fn new_board<T: Part>(
     alloc: Global,
     run: &T::Run,
-) -> Result<(Board<Day<T>>, Hub<Day<T>>), AllocError>
+) -> Result<(Board<ParcelsOf<T>>, Hub<ParcelsOf<T>>), AllocError>
 where
     T::Parcel: Send,
     requires some { 1 ≤ (T.net run.now).parts }
@@ -96,7 +96,7 @@ where
     ensures hub { IfOk result (λ b. IsHub b.0 b.1 × (had_port b.1 ≡ [])) }
 {
     let pairs = pairs_of::<T>(alloc, run)?;
-    let (board, hub) = Board::<Day<T>>::new(alloc, run, T::count(run), pairs.as_slice())?;
+    let (board, hub) = Board::<ParcelsOf<T>>::new(alloc, run, T::count(run), pairs.as_slice())?;
     Ok((board, hub))
 }
 
@@ -112,8 +112,8 @@ where
     pub fn start(
         alloc: Global,
         run: &T::Run,
-        board: &Board<Day<T>>,
-        hub: &mut Hub<Day<T>>,
+        board: &Board<ParcelsOf<T>>,
+        hub: &mut Hub<ParcelsOf<T>>,
         number: u32,
     ) -> Result<Member<T>, AllocError>
         requires board { IsBoardOfRun T.net T.borders T.nothing T.right run.now board.now }

@@ -1,10 +1,10 @@
 //! The members of a run, spread over threads until all have come to a second.
 
 ghost use Rattle.std.specs.Prelude.{◌≡◌, ℕ, ◌<◌, ◌≤◌, true, false, length, slice_index_or, IfOk};
-ghost use Rattle.workers.specs.Members.{IsBoardOfRun, AreMembers, AllEnd, Ran, SomeStopped, Spread, Went, is_stopped};
+ghost use Rattle.workers.specs.Members.{IsBoardOfRun, AreMembers, AllEnd, Ran, SomeStopped, RunSpread, Went, is_stopped};
 
 use crate::bundles::run_members;
-use crate::members::{Bundle, Day, Member};
+use crate::members::{Bundle, Member, ParcelsOf};
 use cells::Board;
 use edge_files::Gate;
 use std::alloc::AllocError;
@@ -18,7 +18,7 @@ fn run_spread<T: Part + Send + Sync, R: Threads + Sync, G: Gate>(
     rt: &R,
     gate: &G,
     run: &T::Run,
-    board: &Board<Day<T>>,
+    board: &Board<ParcelsOf<T>>,
     until: u32,
     workers: u32,
     members: &mut [Member<T>],
@@ -30,7 +30,7 @@ where
     requires workers { 1 ≤ workers }
     requires board { IsBoardOfRun T.net T.borders T.nothing T.right run.now board.now }
     requires members { AreMembers until T.borders T.nothing T.see T.stands T.spent T.right run.now board.now members.old }
-    ensures { Spread until T.borders T.nothing T.see T.stands T.spent T.right run.now board.now members.old members.new }
+    ensures { RunSpread until T.borders T.nothing T.see T.stands T.spent T.right run.now board.now members.old members.new }
 {
     let size = members.len().div_ceil(workers as usize).max(1);
     for_each_chunk_mut(
@@ -46,12 +46,12 @@ where
     );
 }
 
-/// The same of the members of a bundle.
-fn spread<T: Part + Send + Sync, R: Threads + Sync, G: Gate>(
+/// Runs the members of a bundle, in such lists.
+fn run_lists<T: Part + Send + Sync, R: Threads + Sync, G: Gate>(
     rt: &R,
     gate: &G,
     run: &T::Run,
-    board: &Board<Day<T>>,
+    board: &Board<ParcelsOf<T>>,
     until: u32,
     workers: u32,
     mut bundle: Bundle<T>,
@@ -63,7 +63,7 @@ where
     requires workers { 1 ≤ workers }
     requires board { IsBoardOfRun T.net T.borders T.nothing T.right run.now board.now }
     requires members { AreMembers until T.borders T.nothing T.see T.stands T.spent T.right run.now board.now bundle.members.items }
-    ensures { Spread until T.borders T.nothing T.see T.stands T.spent T.right run.now board.now bundle.members.items result.members.items }
+    ensures { RunSpread until T.borders T.nothing T.see T.stands T.spent T.right run.now board.now bundle.members.items result.members.items }
 {
     run_spread(
         rt,
@@ -130,7 +130,7 @@ pub(crate) fn run_to<T: Part + Send + Sync, R: Threads + Wait + Sync, G: Gate>(
     rt: &R,
     gate: &G,
     run: &T::Run,
-    board: &Board<Day<T>>,
+    board: &Board<ParcelsOf<T>>,
     until: u32,
     mut workers: u32,
     mut bundle: Bundle<T>,
@@ -148,7 +148,7 @@ where
     ensures some { IfOk result (λ a. 1 ≤ a.workers) }
 {
     for _ in rt.forever() {
-        bundle = spread(rt, gate, run, board, until, workers, bundle);
+        bundle = run_lists(rt, gate, run, board, until, workers, bundle);
         if all_ended(until, bundle.members.as_slice()) {
             return Ok(Arrived { bundle, workers });
         }

@@ -10,14 +10,14 @@ ghost use Rattle.workers.specs.Members.{IsBoardOfRun, IsMember, Rests, Goes, Tur
 ghost use Rattle.workers.specs.Members.{number_of, seconds_of, is_stopped, waits_of, still_of};
 ghost use Rattle.workers.specs.Parcels.{right_or_none};
 
-use crate::members::{Day, Member, Turn};
-use cells::{Board, Look, Port, Traffic};
+use crate::members::{Member, ParcelsOf, Turn};
+use cells::{Board, Exchange, Look, Port};
 use edge_files::Gate;
 use std::alloc::AllocError;
 use step_core::Part;
 
 /// Looks at the neighbours, and answers whether all are far enough for the second that this port is about to do.
-fn look_all<T: Traffic>(board: &Board<T>, port: &mut Port<T>) -> bool
+fn look_all<T: Exchange>(board: &Board<T>, port: &mut Port<T>) -> bool
     requires port { IsPort T.right board.now port.old }
     requires untouched { IsUntouched port.old }
     ensures port { IsPort T.right board.now port.new }
@@ -37,7 +37,12 @@ fn look_all<T: Traffic>(board: &Board<T>, port: &mut Port<T>) -> bool
 
 /// The partition absorbs what neighbour `k` sent for this second, where something is in it.
 #[tactic(auto, using(crate::proofs::Exchanging::came, crate::proofs::Exchanging::came_empty))]
-fn take_from<T: Part>(board: &Board<Day<T>>, part: &mut T, port: &mut Port<Day<T>>, k: usize)
+fn take_from<T: Part>(
+    board: &Board<ParcelsOf<T>>,
+    part: &mut T,
+    port: &mut Port<ParcelsOf<T>>,
+    k: usize,
+)
 where
     T::Parcel: Send,
     requires port { IsPort (right_or_none T.nothing T.right) board.now port.old }
@@ -65,7 +70,7 @@ where
 }
 
 /// The partition absorbs what each neighbour sent for this second, if that is a second of the day.
-fn take_all<T: Part>(board: &Board<Day<T>>, part: &mut T, port: &mut Port<Day<T>>)
+fn take_all<T: Part>(board: &Board<ParcelsOf<T>>, part: &mut T, port: &mut Port<ParcelsOf<T>>)
 where
     T::Parcel: Send,
     requires port { IsPort (right_or_none T.nothing T.right) board.now port.old }
@@ -108,7 +113,7 @@ fn take_out<T: Part>(part: &mut T, k: usize) -> Option<T::Parcel>
 }
 
 /// The port gets for each neighbour that nothing goes to it.
-fn put_none<T: Traffic>(board: &Board<T>, port: &mut Port<T>)
+fn put_none<T: Exchange>(board: &Board<T>, port: &mut Port<T>)
     requires port { IsPort T.right board.now port.old }
     requires taken { (k : ℕ) → k < degree port.old → is_taken (handover port.old k) ≡ true }
     requires right { (k : ℕ) → k < degree port.old
@@ -123,7 +128,7 @@ fn put_none<T: Traffic>(board: &Board<T>, port: &mut Port<T>)
 }
 
 /// The port gets the partition's parcel for each neighbour.
-fn put_each<T: Part>(board: &Board<Day<T>>, part: &mut T, port: &mut Port<Day<T>>)
+fn put_each<T: Part>(board: &Board<ParcelsOf<T>>, part: &mut T, port: &mut Port<ParcelsOf<T>>)
 where
     T::Parcel: Send,
     requires port { IsPort (right_or_none T.nothing T.right) board.now port.old }
@@ -147,7 +152,7 @@ where
 }
 
 /// The port gets for each neighbour what the partition sends it. A partition that sends nothing at all is not asked for each.
-fn put_all<T: Part>(board: &Board<Day<T>>, part: &mut T, port: &mut Port<Day<T>>)
+fn put_all<T: Part>(board: &Board<ParcelsOf<T>>, part: &mut T, port: &mut Port<ParcelsOf<T>>)
 where
     T::Parcel: Send,
     requires port { IsPort (right_or_none T.nothing T.right) board.now port.old }
@@ -180,7 +185,7 @@ where
 #[tactic(auto, using(crate::proofs::Resting::all_empty))]
 fn do_second<T: Part>(
     run: &T::Run,
-    board: &Board<Day<T>>,
+    board: &Board<ParcelsOf<T>>,
     member: &mut Member<T>,
 ) -> Result<(), AllocError>
 where
@@ -208,7 +213,7 @@ where
 pub(crate) fn turn<T: Part, G: Gate>(
     gate: &G,
     run: &T::Run,
-    board: &Board<Day<T>>,
+    board: &Board<ParcelsOf<T>>,
     until: u32,
     member: &mut Member<T>,
 ) -> Turn

@@ -1,7 +1,7 @@
 use Rattle.std.proofs.Common.{arith, ◌<◌, ◌+◌, ap, sym, length, subst₂}
 use Rattle.cells.specs.declared.board.Port.{Port}
 use Rattle.cells.specs.Ports.{degree}
-use Rattle.workers.specs.declared.members.Day.{Day}
+use Rattle.workers.specs.declared.members.ParcelsOf.{ParcelsOf}
 use Rattle.workers.specs.Exchanges.{HasTakenTo}
 use Rattle.workers.proofs.Exchanging.{took, skipped}
 use Rattle.workers.proofs.seconds.take_all.Goals.{then-lag-done, else-lag-done}
@@ -22,7 +22,7 @@ loop-k-preserved g c =
     let m = c.requires.port.as_many in
     let k = c.loop-k.k in
     let lk : k < degree before = omega arith in
-    let F : Port (Day g.row.T.Denot) g.row.T-Run.Denot g.row.T-Parcel.Denot → g.row.T.Denot → Type 0 =
+    let F : Port (ParcelsOf g.row.T.Denot) g.row.T-Run.Denot g.row.T-Parcel.Denot → g.row.T.Denot → Type 0 =
     λ q y. HasTakenTo nothing see stands right b before x (k + 1) q y in
     elim c.if-lag-done.branch [
       | then-lag-done w ↦ let t = w.take_from.ensures in

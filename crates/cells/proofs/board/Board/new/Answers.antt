@@ -29,7 +29,7 @@ vacant-requires g c =
     ∙ c.in_ok-words.ensures.items_if_clones_equal (λ y e. e) in
     let n = c.len.ensures in let v : length c.in_ok-channels.channels.items ≡ vec_len c.in_ok-channels.channels = search rules in
     let e = ap (λ (z : List Channel). length z) c.in_ok-channels.ensures in
-    starts_with g.T.Traffic.right record { run = c.of.result; count = c.args.count; channels = c.of-2.result } c.args.count
+    starts_with g.T.Exchange.right record { run = c.of.result; count = c.args.count; channels = c.of-2.result } c.args.count
     (channels_of c.args.pairs.now) c.as_slice.result.now (64 * c.len.result)
     refl (channels_are g c) (are_channels c.args.count c.args.pairs.now c.requires.pairs) (ap length words
     ∙ length-replicate (WORDS_APART * c.args.count) 0) (λ p. ap (λ z. slice_index z p) words ∙ zeros_at (WORDS_APART * c.args.count) p)
@@ -53,7 +53,7 @@ invariant_of-result g c =
     }
 
 pub returns-clause-lawful : goal.returns-clause-lawful
-returns-clause-lawful g c = lawful g.T.Traffic.right _
+returns-clause-lawful g c = lawful g.T.Exchange.right _
 
 pub returns-clause-neighbours : goal.returns-clause-neighbours
 returns-clause-neighbours g c = λ p is. lags_are c.args.pairs.now p.partition p.borders.items

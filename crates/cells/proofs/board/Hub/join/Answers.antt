@@ -7,7 +7,7 @@ pub join_seat-requires : goal.join_seat-requires
 join_seat-requires g c = let b = c.args.board.now in let w = b.words_are in let lt = c.requires.port.named in (
   c.requires.hub.table,
   c.requires.port.table,
-  nothing_held g.T.Traffic.right b c.args.port c.requires.port c.requires.awaited,
+  nothing_held g.T.Exchange.right b c.args.port c.requires.port c.requires.awaited,
   omega arith,
-  merges g.T.Traffic.right b.table.shared.key _ c.args.self.now.seat.me.0 _ c.args.port.seat.me.0 c.requires.hub.role c.requires.port.role,
+  merges g.T.Exchange.right b.table.shared.key _ c.args.self.now.seat.me.0 _ c.args.port.seat.me.0 c.requires.hub.role c.requires.port.role,
 )

@@ -15,7 +15,7 @@ pub returns-clause-port : goal.returns-clause-port
 returns-clause-port g c = let b = c.args.board.now in let h = c.requires.hub in let s = c.split_seat-seat.ensures.new in
     let r = c.in_ok-borders.ensures in
     let l : length c.in_ok-borders.borders.items ≡ vec_len c.in_ok-borders.borders = search rules in (
-      fresh_port g.T.Traffic.right b _ c.args.self.now.seat.me.0.run c.args.p (s.0 ∙ h.table) s.1 h.run refl refl c.requires.below
+      fresh_port g.T.Exchange.right b _ c.args.self.now.seat.me.0.run c.args.p (s.0 ∙ h.table) s.1 h.run refl refl c.requires.below
           (subst (λ z. AreBorders z c.args.p c.in_ok-borders.borders.items) c.as_slice.ensures.value r)
           (c.in_ok-neighbours.ensures ∙ ap (map (λ (x : Border). x.from)) c.as_slice-2.ensures.value)
           (handovers_are g c)
@@ -31,4 +31,4 @@ returns-clause-counts g c = let s = c.split_seat-seat.ensures.new in
 
 pub returns-clause-awaited : goal.returns-clause-awaited
 returns-clause-awaited g c k lt = ap is_awaited (ap (λ z. handover_at z k) (handovers_are g c)
-    ∙ away_at g.T.Traffic.right c.args.board.now c.in_ok-borders.borders.items k)
+    ∙ away_at g.T.Exchange.right c.args.board.now c.in_ok-borders.borders.items k)

@@ -13,7 +13,7 @@ unreachable-requires g c = let p = c.args.self.now in let f = c.requires.port in
     let away = get_or_default p.handovers.items c.args.k Awaited _ (omega arith) ∙ sym c.index.ensures ∙ c.in-Awaited.is in
     let long : length p.order.items ≡ vec_len p.order = search rules in
     let ok = c.push.ensures.succeeds (subst (λ z. z < vec_capacity p.order) long
-    (room_for g.T.Traffic.right c.args.board.now p f c.args.k c.requires.neighbour away)) in
+    (room_for g.T.Exchange.right c.args.board.now p f c.args.k c.requires.neighbour away)) in
     true≢false (sym (subst IsOk c.in-Err.is ok))
 
 pub returns-in-Ok-clause-port : goal.returns-in-Ok-clause-port
@@ -25,7 +25,7 @@ returns-in-Ok-clause-port g c = let p = c.args.self.now in let f = c.requires.po
       | else-border-t-via-then-border-t+else-word-t w ↦ omega arith
       | else-border-t-via-else-border-t w ↦ omega arith
     ] in
-    looked_port g.T.Traffic.right c.args.board.now p _ f c.args.k c.read-word.result c.requires.neighbour
+    looked_port g.T.Exchange.right c.args.board.now p _ f c.args.k c.read-word.result c.requires.neighbour
     c.index-border.result.now border away c.read-word.new.seat.me c.unload.result c.read-word.ensures.looks far
     c.unload.ensures.same.2 c.unload.ensures.parcel c.unload.ensures.none (c.unload.ensures.same.0
     ∙ c.read-word.ensures.same.0) refl refl refl refl refl (search rules) (search rules)
@@ -40,9 +40,9 @@ returns-in_default g c = let p = c.args.self.now in let f = c.requires.port in l
       | else-border-t-via-else-border-t w ↦ omega arith
     ] in
     let ne = λ (e : handover_at p.handovers.items c.args.k ≡ Awaited). c.in_default.not-Awaited (sym at ∙ e) in
-    let is = again_is g.T.Traffic.right c.args.board.now p f c.args.k c.read-word.result c.requires.neighbour
+    let is = again_is g.T.Exchange.right c.args.board.now p f c.args.k c.read-word.result c.requires.neighbour
     c.index-border.result.now border ne c.read-word.new.seat.me c.read-word.ensures.looks far in record {
-      port = same_port g.T.Traffic.right c.args.board.now p _ f c.read-word.ensures.same.0 _
+      port = same_port g.T.Exchange.right c.args.board.now p _ f c.read-word.ensures.same.0 _
           refl refl refl refl refl is refl refl refl refl refl refl;
       same = record { partition = refl; done = refl; neighbours = refl; borders = refl; still = ap (λ m. m.0.still) is };
       read = (ap (λ m. m.0.looks) is, ap (λ m. m.0.read_partition) is ∙ ap (λ (r : Border). r.from) border);
@@ -52,8 +52,8 @@ returns-in_default g c = let p = c.args.self.now in let f = c.requires.port in l
         ap (λ m. m.0.waits) is,
         (
           λ _. refl,
-          λ away. absurd (true≢false (sym away ∙ stays_here g.T.Traffic.right c.args.board.now p c.args.k ne)),
-          λ away. absurd (true≢false (sym away ∙ stays_here g.T.Traffic.right c.args.board.now p c.args.k ne)),
+          λ away. absurd (true≢false (sym away ∙ stays_here g.T.Exchange.right c.args.board.now p c.args.k ne)),
+          λ away. absurd (true≢false (sym away ∙ stays_here g.T.Exchange.right c.args.board.now p c.args.k ne)),
         ),
       );
       taken = λ k lt. refl;

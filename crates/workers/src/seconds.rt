@@ -127,30 +127,6 @@ fn put_none<T: Exchange>(board: &Board<T>, port: &mut Port<T>)
     }
 }
 
-/// The port gets the partition's parcel for each neighbour.
-fn put_each<T: Part>(board: &Board<ParcelsOf<T>>, part: &mut T, port: &mut Port<ParcelsOf<T>>)
-where
-    T::Parcel: Send,
-    requires port { IsPort (right_or_none T.nothing T.right) board.now port.old }
-    requires taken { (k : ℕ) → k < degree port.old → is_taken (handover port.old k) ≡ true }
-    requires sent { (k : ℕ) → k < degree port.old → T.right (run_of board.now) (partition_of port.old) (neighbour port.old k)
-        (done_of port.old) (in_place T.nothing (T.see part.old).outbox k) }
-    requires places { length (T.see part.old).outbox ≡ degree port.old }
-    ensures port { IsPort (right_or_none T.nothing T.right) board.now port.new }
-    ensures same { SameSecond port.old port.new × (waits port.new ≡ waits port.old) }
-    ensures put { (k : ℕ) → k < degree port.new → is_put (handover port.new k) ≡ true }
-    ensures gone { AreEmpty T.nothing (degree port.old) (T.see part.new).outbox }
-    ensures inbox { (T.see part.new).inbox ≡ (T.see part.old).inbox }
-    ensures number { (T.see part.new).number ≡ (T.see part.old).number }
-    ensures seconds { (T.see part.new).seconds ≡ (T.see part.old).seconds }
-    ensures stands { Stays T.stands part.old part.new }
-{
-    for k in 0..port.neighbours().len() {
-        let parcel = take_out(part, k);
-        port.put(board, k, parcel);
-    }
-}
-
 /// The port gets for each neighbour what the partition sends it. A partition that sends nothing at all is not asked for each.
 fn put_all<T: Part>(board: &Board<ParcelsOf<T>>, part: &mut T, port: &mut Port<ParcelsOf<T>>)
 where
@@ -169,10 +145,13 @@ where
     ensures seconds { (T.see part.new).seconds ≡ (T.see part.old).seconds }
     ensures stands { Stays T.stands part.old part.new }
 {
-    if part.sends() {
-        put_each(board, part, port);
-    } else {
+    if !part.sends() {
         put_none(board, port);
+        return;
+    }
+    for k in 0..port.neighbours().len() {
+        let parcel = take_out(part, k);
+        port.put(board, k, parcel);
     }
 }
 

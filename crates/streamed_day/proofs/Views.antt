@@ -13,7 +13,7 @@ use Rattle.step_core.specs.Views.{PartView, HasDone, IsAt, EachAt}
 use Rattle.step_core.specs.Cores.{IsCore, AreRound}
 use Rattle.step_core.proofs.Together.{each_at}
 use Rattle.divided_day.specs.Days.{told_at, end_told_in}
-use Rattle.streamed_day.specs.Telling.{told_last, told_at_end, CanTell, AllCanTell, IsAtEnd, AllAreAtEnd, IsRunning}
+use Rattle.streamed_day.specs.Telling.{told_last, told_at_end, CanTell, AllCanTell, IsAtEnd, AllAreAtEnd, IsCoreAt}
 
 -- a list, and what its places give by number
 mapped : {T X : Type 0} (f : T → X) (g : ℕ → X) (xs : List T) (k : ℕ)
@@ -75,7 +75,7 @@ module _ {T P : Type 0} (nothing : P) (N : Net) (borders : ℕ → List Border) 
 -- those of a core that runs
 module _ {T P : Type 0} (nothing : P) (N : Net) (borders : ℕ → List Border) (see : T → PartView P) (stands spent : T → Type 0)
     (right : ℕ → ℕ → ℕ → P → Type 0) (t : ℕ) (done : List ℕ) (stopped : List Bool) (tables : List (List Border)) (parts : List T)
-    (wheels : List (Wheel P)) (h : IsRunning nothing N borders see stands spent right t done stopped tables parts wheels) where
+    (wheels : List (Wheel P)) (h : IsCoreAt nothing N borders see stands spent right t done stopped tables parts wheels) where
   pub running_each : EachAt nothing see stands t (λ p. length (borders p)) N.parts parts
   running_each = each_at nothing N borders see stands spent right done stopped tables parts wheels t h.core h.all
 
@@ -84,7 +84,7 @@ pub all_ran : {T P : Type 0} (nothing : P) (N : Net) (borders : ℕ → List Bor
     (right : ℕ → ℕ → ℕ → P → Type 0) (t number : ℕ) (done : List ℕ) (stopped : List Bool) (tables : List (List Border)) (parts : List T)
     (wheels : List (Wheel P)) → IsCore nothing N borders see stands spent right done stopped tables parts wheels
     → AreRound N.parts number t done stopped → N.parts ≤ number → t < N.end
-    → IsRunning nothing N borders see stands spent right (t + 1) done stopped tables parts wheels
+    → IsCoreAt nothing N borders see stands spent right (t + 1) done stopped tables parts wheels
 all_ran nothing N borders see stands spent right t number done stopped tables parts wheels core round over early = record {
   core = core;
   all = record { all = λ p lt. round.before p (omega arith); goes = round.goes };

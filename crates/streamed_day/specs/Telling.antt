@@ -39,7 +39,7 @@ AllAreAtEnd {T} nothing N borders see stands parts = (k : ℕ) (d : T) → k < l
     → IsAtEnd nothing N borders see stands (get_or parts k d)
 
 -- a core whose partitions have all done so many of their seconds
-pub record IsRunning {T P : Type 0} (nothing : P) (N : Net) (borders : ℕ → List Border) (see : T → PartView P) (stands spent : T → Type 0)
+pub record IsCoreAt {T P : Type 0} (nothing : P) (N : Net) (borders : ℕ → List Border) (see : T → PartView P) (stands spent : T → Type 0)
     (right : ℕ → ℕ → ℕ → P → Type 0) (t : ℕ) (done : List ℕ) (stopped : List Bool) (tables : List (List Border)) (parts : List T)
     (wheels : List (Wheel P)) : Type 0 where
   pub core : IsCore nothing N borders see stands spent right done stopped tables parts wheels

@@ -5,7 +5,7 @@ ghost use Rattle.law_in_range.specs.Setups.{HaveFittingPlans};
 ghost use Rattle.town.specs.Views.{setup};
 ghost use Rattle.traffic.specs.Day as traffic_day;
 ghost use Rattle.streamed_day.specs.Coming.{to_come, pieces_left};
-ghost use Rattle.streamed_day.specs.Telling.{IsRunning};
+ghost use Rattle.streamed_day.specs.Telling.{IsCoreAt};
 
 use crate::pieces::{end_of_day, last_second, take_turn};
 use divided_day::DayPart;
@@ -46,7 +46,7 @@ impl<'a, T: DayPart, G: Gate> EventSource for StreamedDay<'a, T, G> {
     ghost pieces = { λ s. pieces_left (T.net s.run.now).end s.second (is_some s.core) };
 
     ghost ready = { λ s. (s.spent ≡ false) × HaveFittingPlans (T.day s.run.now) × (T.streams s.run.now ≡ true)
-        × IfSome s.core (λ core. IsRunning T.nothing (T.net s.run.now) (T.borders s.run.now) T.see (T.stands s.run.now) T.spent
+        × IfSome s.core (λ core. IsCoreAt T.nothing (T.net s.run.now) (T.borders s.run.now) T.see (T.stands s.run.now) T.spent
         (T.right s.run.now)
         s.second core.done.items core.stopped.items core.borders.items core.parts.items core.wheels.items) };
 

@@ -6,7 +6,7 @@ ghost use Rattle.step_core.specs.Cores.{IsCore, AreRound};
 ghost use Rattle.step_core.specs.Views.{EachAt};
 ghost use Rattle.town.specs.Views.{setup};
 ghost use Rattle.traffic.specs.Day.{second_events, end_events, world_at};
-ghost use Rattle.streamed_day.specs.Telling.{IsRunning};
+ghost use Rattle.streamed_day.specs.Telling.{IsCoreAt};
 
 use crate::telling::{ends_told_by, told_by};
 use divided_day::DayPart;
@@ -56,10 +56,10 @@ pub(crate) fn last_second<T: DayPart>(
     requires given { HaveFittingPlans (T.day run.now) }
     requires streams { T.streams run.now ≡ true }
     requires running { (second : ℕ)
-        × IsRunning T.nothing (T.net run.now) (T.borders run.now) T.see (T.stands run.now) T.spent (T.right run.now) (second + 1)
+        × IsCoreAt T.nothing (T.net run.now) (T.borders run.now) T.see (T.stands run.now) T.spent (T.right run.now) (second + 1)
         core.now.done.items core.now.stopped.items core.now.borders.items core.now.parts.items core.now.wheels.items }
     ensures { let S = setup (T.day run.now) in IfOk result (λ events. (second : ℕ)
-        → IsRunning T.nothing (T.net run.now) (T.borders run.now) T.see (T.stands run.now) T.spent (T.right run.now) (second + 1)
+        → IsCoreAt T.nothing (T.net run.now) (T.borders run.now) T.see (T.stands run.now) T.spent (T.right run.now) (second + 1)
         core.now.done.items core.now.stopped.items core.now.borders.items core.now.parts.items core.now.wheels.items
         → events.items ≡ second_events S second (world_at S second)) }
 {
@@ -103,7 +103,7 @@ pub(crate) fn end_of_day<T: DayPart>(
 ) -> Result<Vec<Event>, AllocError>
     requires given { HaveFittingPlans (T.day run.now) }
     requires streams { T.streams run.now ≡ true }
-    requires running { IsRunning T.nothing (T.net run.now) (T.borders run.now) T.see (T.stands run.now) T.spent (T.right run.now)
+    requires running { IsCoreAt T.nothing (T.net run.now) (T.borders run.now) T.see (T.stands run.now) T.spent (T.right run.now)
         (T.net run.now).end
         core.done.items core.stopped.items core.borders.items core.parts.items core.wheels.items }
     ensures { let S = setup (T.day run.now) in let end = (T.net run.now).end in

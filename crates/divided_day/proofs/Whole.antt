@@ -1,5 +1,5 @@
 -- The partitions of a day of a town.
-use Rattle.std.proofs.Common.{◌≡◌, ℕ, ◌<◌, List, [], length, get_or, map, sym, ◌∙◌, ap, subst, refl}
+use Rattle.std.proofs.Common.{◌≡◌, ℕ, ◌<◌, List, [], length, get_or, map, sym, ◌∙◌, ap, subst, subst₂, refl}
 use Rattle.events.specs.declared.event.Event.{Event}
 use Rattle.town.specs.declared.day_input.DayInput.{DayInput}
 use Rattle.town.specs.Setups.{setup_of}
@@ -24,7 +24,7 @@ use Rattle.partition.specs.declared.joining.Pair.{Pair}
 use Rattle.partition.specs.declared.borders.LagPair.{LagPair}
 use Rattle.partition.specs.declared.owner.Owner.{Owner}
 use Rattle.step_core.specs.declared.part.Border.{Border}
-use Rattle.step_core.specs.Nets.{IsNet, AreBorders}
+use Rattle.step_core.specs.Nets.{Net, IsNet, AreBorders}
 use Rattle.divided_day.specs.Borders.{borders_among}
 use Rattle.divided_day.specs.Days.{net_in, borders_in, told_in}
 use Rattle.divided_day.specs.Divisions.{AreBordersOf}
@@ -65,6 +65,15 @@ module _ (day : DayInput) (owner : Owner) (given : HaveFittingPlans day) where
 
   pub borders_sound : (p : ℕ) → AreBorders (net_in day owner) p (borders_in day owner p)
   borders_sound p = are_borders (setup day) (owner_in owner.of_node) owner.parts day.town.now.settings.end_second p goes.neighbours
+
+  -- the same of what a part calls so
+  pub own_net_sound : (N : Net) → N ≡ net_in day owner → IsNet N
+  own_net_sound N is = subst IsNet (sym is) net_sound
+
+  pub own_borders_sound : (N : Net) (p : ℕ) (rows : List Border) → N ≡ net_in day owner → rows ≡ borders_in day owner p
+      → AreBorders N p rows
+  own_borders_sound N p rows is found =
+      subst₂ (λ (M : Net) (xs : List Border). AreBorders M p xs) (sym is) (sym found) (borders_sound p)
 
   -- what so many partitions told can be merged, and is the day
   pub can_merge : (n : ℕ) (lists : List (List Event)) → n ≡ owner.parts → lists ≡ map (told_in day owner) (below n) → CanMerge lists

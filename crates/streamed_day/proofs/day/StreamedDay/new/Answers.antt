@@ -1,22 +1,20 @@
-use Rattle.std.proofs.Common.{List, sym, ◌∙◌, ap, subst, subst₂}
+use Rattle.std.proofs.Common.{◌∙◌, ap}
 use Rattle.town.specs.Views.{setup}
-use Rattle.step_core.specs.declared.part.Border.{Border}
-use Rattle.step_core.specs.Nets.{Net, IsNet, AreBorders}
-use Rattle.divided_day.proofs.Whole.{net_sound, borders_sound}
+use Rattle.step_core.specs.Nets.{Net}
+use Rattle.divided_day.proofs.Whole.{own_net_sound, own_borders_sound}
 use Rattle.streamed_day.proofs.Coming.{day_comes, end_in}
 use Rattle.streamed_day.proofs.day.StreamedDay.new.Goals as goal
 
 pub new-requires-clause-net : goal.new-requires-clause-net
 new-requires-clause-net g c =
     let run = c.args.run.now in
-    subst IsNet (sym (g.met.T.DayPart.nets run)) (net_sound (g.T.DayPart.day run) (g.T.DayPart.owner run) c.requires.given)
+    own_net_sound (g.T.DayPart.day run) (g.T.DayPart.owner run) c.requires.given _ (g.met.T.DayPart.nets run)
 
 pub new-requires-clause-borders : goal.new-requires-clause-borders
 new-requires-clause-borders g c =
     let run = c.args.run.now in
-    λ p lt.
-    subst₂ (λ (N : Net) (rows : List Border). AreBorders N p rows) (sym (g.met.T.DayPart.nets run)) (sym (g.met.T.DayPart.neighbours run p))
-    (borders_sound (g.T.DayPart.day run) (g.T.DayPart.owner run) c.requires.given p)
+    λ p lt. own_borders_sound (g.T.DayPart.day run) (g.T.DayPart.owner run) c.requires.given _ p _ (g.met.T.DayPart.nets run)
+    (g.met.T.DayPart.neighbours run p)
 
 pub returns-clause-rest : goal.returns-clause-rest
 returns-clause-rest g c =

@@ -42,28 +42,6 @@ fn write_events<S: EventSource, O: Outputs>(
     stream_events(alloc, source, tables, &day.town.book, handler, outputs)
 }
 
-/// Computes a day, and writes and handles its events when it is over.
-fn write_listed<R: Threads + Wait + Sync, G: Gate, O: Outputs>(
-    rt: &R,
-    alloc: Global,
-    day: &DayInput,
-    execution: Execution<G>,
-    tables: &Tables,
-    handler: EventHandler,
-    outputs: &mut O,
-) -> Result<SeenDay, StreamError>
-    requires given { HaveFittingPlans day.now }
-    requires takes { CanTake (scoring_rows tables.now) handler day.now }
-    ensures { IsDayWritten day.now (scoring_rows tables.now) (kinds_of handler) (links_in handler)
-        (O.written outputs.old) (O.written outputs.new) (O.faults outputs.old) (O.faults outputs.new) result }
-{
-    let Ok(events) = day_in_parts(rt, alloc, day, execution.spread, execution.gate) else {
-        return Err(StreamError::NoMemory);
-    };
-    let mut source = ListedEvents::new(events);
-    write_events(alloc, day, &mut source, tables, handler, outputs)
-}
-
 /// Computes the day of a run whose events are taken while it goes on, on this thread, and writes and handles those of each second before
 /// the next one.
 fn write_run<'a, G: Gate, O: Outputs>(
@@ -121,32 +99,7 @@ fn write_collected<'a, R: Threads + Wait + Sync, G: Gate, O: Outputs>(
     )
 }
 
-/// Computes a day, and writes and handles its events while it goes on.
-fn write_streamed<R: Threads + Wait + Sync, G: Gate, O: Outputs>(
-    rt: &R,
-    alloc: Global,
-    day: &DayInput,
-    execution: Execution<G>,
-    tables: &Tables,
-    handler: EventHandler,
-    outputs: &mut O,
-) -> Result<SeenDay, StreamError>
-    requires given { HaveFittingPlans day.now }
-    requires takes { CanTake (scoring_rows tables.now) handler day.now }
-    ensures { IsDayWritten day.now (scoring_rows tables.now) (kinds_of handler) (links_in handler)
-        (O.written outputs.old) (O.written outputs.new) (O.faults outputs.old) (O.faults outputs.new) result }
-{
-    let Ok(shared) = share(alloc, day, execution.spread.partitions) else {
-        return Err(StreamError::NoMemory);
-    };
-    let run = run_of(alloc, &*day, &shared, true);
-    if execution.spread.workers == 1 || execution.spread.partitions == 1 {
-        return write_run(&run, execution.gate, tables, handler, outputs);
-    }
-    write_collected(rt, &run, execution, tables, handler, outputs)
-}
-
-/// Computes a day as it is asked for, and writes and handles its events.
+/// Computes a day as it is asked for, and writes and handles its events: when it is over, or while it goes on.
 fn write_as_asked<R: Threads + Wait + Sync, G: Gate, O: Outputs>(
     rt: &R,
     alloc: Global,
@@ -161,11 +114,21 @@ fn write_as_asked<R: Threads + Wait + Sync, G: Gate, O: Outputs>(
     ensures { IsDayWritten day.now (scoring_rows tables.now) (kinds_of handler) (links_in handler)
         (O.written outputs.old) (O.written outputs.new) (O.faults outputs.old) (O.faults outputs.new) result }
 {
-    if execution.streams {
-        write_streamed(rt, alloc, day, execution, tables, handler, outputs)
-    } else {
-        write_listed(rt, alloc, day, execution, tables, handler, outputs)
+    if !execution.streams {
+        let Ok(events) = day_in_parts(rt, alloc, day, execution.spread, execution.gate) else {
+            return Err(StreamError::NoMemory);
+        };
+        let mut source = ListedEvents::new(events);
+        return write_events(alloc, day, &mut source, tables, handler, outputs);
     }
+    let Ok(shared) = share(alloc, day, execution.spread.partitions) else {
+        return Err(StreamError::NoMemory);
+    };
+    let run = run_of(alloc, &*day, &shared, true);
+    if execution.spread.workers == 1 || execution.spread.partitions == 1 {
+        return write_run(&run, execution.gate, tables, handler, outputs);
+    }
+    write_collected(rt, &run, execution, tables, handler, outputs)
 }
 
 /// A handler for a day, which has taken none of its events.

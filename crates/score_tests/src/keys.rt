@@ -195,24 +195,26 @@ fn texts_that_are_refused(rt: HostRuntime) {
     assert_eq!(rt; first_misread(rt.alloc()), None);
 }
 
-/// Where this many tables are given, each of its own kind.
-fn tables_text(alloc: Global, many: u32) -> String {
+/// So many tables, each of its own kind; more may be written behind them.
+fn tables_begun(alloc: Global, many: u32) -> String {
     let mut text = String::new(alloc);
     let _ = write!(text, "{{\"tables\":[{{\"kind\":\"k\",\"points\":[[0,0]]}}");
     for number in 1..many {
         let _ = write!(text, ",{{\"kind\":\"k{number}\",\"points\":[[0,0]]}}");
     }
+    text
+}
+
+/// Where this many tables are given, each of its own kind.
+fn tables_text(alloc: Global, many: u32) -> String {
+    let mut text = tables_begun(alloc, many);
     let _ = write!(text, "]}}");
     text
 }
 
 /// One table more than there may be, and in the last one what else it holds.
 fn surplus_text(alloc: Global, last: &str) -> String {
-    let mut text = String::new(alloc);
-    let _ = write!(text, "{{\"tables\":[{{\"kind\":\"k\",\"points\":[[0,0]]}}");
-    for number in 1..64 {
-        let _ = write!(text, ",{{\"kind\":\"k{number}\",\"points\":[[0,0]]}}");
-    }
+    let mut text = tables_begun(alloc, 64);
     let _ = write!(text, ",{{\"kind\":\"last\",{last}}}]}}");
     text
 }

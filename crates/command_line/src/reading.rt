@@ -1,6 +1,9 @@
-ghost use Rattle.std.specs.Prelude.{◌≡◌, ◌≢◌, ◌∷◌, IfOk, map, string_bytes};
-ghost use Rattle.clap.specs.Words.{kind_of};
-ghost use Rattle.command_line.specs.Cases.{asks_for_help, asked_case, case_of, kind_case, simple_case, AsksInRange};
+ghost use Rattle.std.specs.Prelude.{◌≡◌, ◌≢◌, ◌∷◌, List, IfOk, map, string_bytes};
+ghost use Rattle.clap.specs.Words.{IsParsedFrom, Row, app_of, found_of, kind_of, rows_of};
+ghost use Rattle.clap.specs.declared.parser.matches.ArgMatches.{ArgMatches};
+ghost use Rattle.command_line.specs.Cases.{asks_for_help, asked_case, case_of, kind_case, simple_case, simulation, work_with, AsksInRange};
+ghost use Rattle.command_line.specs.Commands.{simple_command, IsInRange};
+ghost use Rattle.command_line.specs.Given.{HasExecution};
 
 use crate::commands::{
     Command, CommandName, check_command, command_named, generate_command, resume_command,
@@ -9,8 +12,8 @@ use crate::commands::{
 use crate::given::{grid_asked, route_asked, spread_asked, stream_asked};
 use crate::usage::{no_command, not_a_command, usage};
 use crate::{DEFAULT_PARTITIONS, DEFAULT_WORKERS};
-use clap::Error;
 use clap::error::ErrorKind;
+use clap::{ArgMatches, Error};
 use spread::Spread;
 use std::alloc::{AllocError, Global};
 
@@ -78,24 +81,49 @@ fn read_check(alloc: Global, words: &[&str]) -> Result<Asked, AllocError>
     }
 }
 
+/// The work of a command that simulates days, computed as its words say.
+fn simulation_asked(command: Command, matches: &ArgMatches<'_>) -> Asked
+    requires { HasExecution (found_of matches.now) }
+    ensures case { asked_case result ≡ simulation command (rows_of (found_of matches.now)) }
+    ensures in_range { IsInRange command → AsksInRange result }
+{
+    let spread = spread_asked(matches);
+    let streams = stream_asked(matches);
+    Asked::Work {
+        command,
+        spread,
+        streams,
+    }
+}
+
+/// What words ask for, by the parser of a command that simulates days and takes no words but those which say how they are computed.
+fn read_simulation<'a>(
+    alloc: Global,
+    name: CommandName,
+    command: Command,
+    parser: clap::Command<'a>,
+    words: &'a [&str],
+) -> Result<Asked, AllocError>
+    requires app { app_of parser ≡ simple_command name }
+    requires execution { (m : ArgMatches) → IsParsedFrom parser m → HasExecution (found_of m) }
+    requires work { (rows : List Row) → work_with name rows ≡ simulation command rows }
+    requires in_range { IsInRange command }
+    ensures case { IfOk result (λ asked. asked_case asked ≡ simple_case name (map (λ s. s.now) words.now)) }
+    ensures in_range { IfOk result AsksInRange }
+{
+    match parser.try_get_matches_from(words) {
+        Ok(matches) => Ok(simulation_asked(command, &matches)),
+        Err(error) => told(alloc, &error),
+    }
+}
+
 /// What the words of `run` ask for.
 fn read_run(alloc: Global, words: &[&str]) -> Result<Asked, AllocError>
     ensures case { IfOk result (λ asked. asked_case asked ≡ simple_case CommandName.Run (map (λ s. s.now) words.now)) }
     ensures in_range { IfOk result AsksInRange }
 {
     let parser = run_command(alloc)?;
-    match parser.try_get_matches_from(words) {
-        Ok(matches) => {
-            let spread = spread_asked(&matches);
-            let streams = stream_asked(&matches);
-            Ok(Asked::Work {
-                command: Command::Run,
-                spread,
-                streams,
-            })
-        }
-        Err(error) => told(alloc, &error),
-    }
+    read_simulation(alloc, CommandName::Run, Command::Run, parser, words)
 }
 
 /// What the words of `resume` ask for.
@@ -104,18 +132,7 @@ fn read_resume(alloc: Global, words: &[&str]) -> Result<Asked, AllocError>
     ensures in_range { IfOk result AsksInRange }
 {
     let parser = resume_command(alloc)?;
-    match parser.try_get_matches_from(words) {
-        Ok(matches) => {
-            let spread = spread_asked(&matches);
-            let streams = stream_asked(&matches);
-            Ok(Asked::Work {
-                command: Command::Resume,
-                spread,
-                streams,
-            })
-        }
-        Err(error) => told(alloc, &error),
-    }
+    read_simulation(alloc, CommandName::Resume, Command::Resume, parser, words)
 }
 
 /// What the words of `route` ask for.
@@ -146,13 +163,7 @@ fn read_generate(alloc: Global, words: &[&str]) -> Result<Asked, AllocError>
     match parser.try_get_matches_from(words) {
         Ok(matches) => {
             let command = grid_asked(&matches);
-            let spread = spread_asked(&matches);
-            let streams = stream_asked(&matches);
-            Ok(Asked::Work {
-                command,
-                spread,
-                streams,
-            })
+            Ok(simulation_asked(command, &matches))
         }
         Err(error) => told(alloc, &error),
     }

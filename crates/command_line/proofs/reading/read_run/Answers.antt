@@ -1,26 +1,5 @@
 use Rattle.std.proofs.Common.{refl}
-use Rattle.command_line.specs.Cases.{Work}
-use Rattle.command_line.specs.declared.commands.CommandName.TheVariants.{Run}
-use Rattle.command_line.specs.declared.commands.Command.TheVariants as command
-use Rattle.command_line.proofs.Answered.{taken, told_so, made, work_is}
 use Rattle.command_line.proofs.reading.read_run.Goals as goal
 
-pub returns-in-Ok-clause-case : goal.returns-in-Ok-clause-case
-returns-in-Ok-clause-case c =
-    let spread = c.spread_asked-spread.result in
-    let work = Work command.Run spread.partitions spread.workers c.stream_asked-streams.result in
-    taken Run _ _ c.in_ok-parser.ensures.app work
-    (made Run _ _ c.in_ok-parser.ensures.app work c.in-Ok.matches c.in-Ok.ensures.matches
-    (work_is _ _ _ _ _ _ _ _ refl c.spread_asked-spread.ensures.partitions c.spread_asked-spread.ensures.workers
-    c.stream_asked-streams.ensures))
-    c.in-Ok.ensures.kinds
-
-pub returns-in-Err-clause-case : goal.returns-in-Err-clause-case
-returns-in-Err-clause-case c =
-    told_so Run _ _ c.in_ok-parser.ensures.app c.in-Err.error c.told.result c.in-Err.ensures.kinds c.told.ensures.case
-
-pub spread_asked-spread-requires : goal.spread_asked-spread-requires
-spread_asked-spread-requires c = c.in_ok-parser.ensures.execution c.in-Ok.matches c.in-Ok.ensures.parsed
-
-pub stream_asked-streams-requires : goal.stream_asked-streams-requires
-stream_asked-streams-requires c = c.in_ok-parser.ensures.execution c.in-Ok.matches c.in-Ok.ensures.parsed
+pub read_simulation-requires-clause-work : goal.read_simulation-requires-clause-work
+read_simulation-requires-clause-work c = λ rows. refl

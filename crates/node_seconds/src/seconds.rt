@@ -55,35 +55,9 @@ fn single_second(
     Ok(entering_of(crossings))
 }
 
-/// The turn of a node by the slots of several links into it, which are taken out of the network for it. Answers who enters another link.
-fn several_second(
-    turn: &NodeTurn,
-    into: &[u32],
-    greens: &[bool],
-    links: &mut [LinkState],
-    space: &mut Space,
-    said: &mut Vec<Occurrence>,
-) -> Result<Vec<Entering>, AllocError>
-    requires second_in { turn.now.second < LAST_SECOND }
-    requires few { length into.now ≤ MAX_IN_LINKS }
-    requires lit { length greens.now ≡ length into.now }
-    requires there { AreIn (length links.old) into.now }
-    requires once { AreOnce into.now }
-    requires apart { AreApartIn links.old into.now }
-    requires ready { AreReadyInto links.old into.now }
-    ensures { IfOk result (λ entering. IsNodeSecond turn.now into.now greens.now links.old links.new space.old space.new
-        entering.items said.old.items said.new.items) }
-{
-    let mut taken = take_links(*said.allocator(), links, into)?;
-    let mut crossings = no_crossings(*said.allocator());
-    move_node(turn, &mut taken, greens, space, &mut crossings, said)?;
-    put_links(links, into, taken);
-    Ok(entering_of(crossings))
-}
-
 /// The turn of a node in a second, by the slots of the links into it, in the order of their numbers, with their lights: what these links
 /// hand over leaves their buffers, and takes places. Answers who enters another link, in order, and appends what that tells. It is the turn
-/// that `traffic` gives the node by these links and places; who is removed is told of.
+/// that `traffic` gives the node by these links and places; who is removed is told of. Several links are taken out of the network for it.
 ///
 /// # Errors
 ///
@@ -111,5 +85,9 @@ pub fn node_second(
             return single_second(turn, *slot, *green, links, space, said);
         }
     }
-    several_second(turn, into, greens, links, space, said)
+    let mut taken = take_links(*said.allocator(), links, into)?;
+    let mut crossings = no_crossings(*said.allocator());
+    move_node(turn, &mut taken, greens, space, &mut crossings, said)?;
+    put_links(links, into, taken);
+    Ok(entering_of(crossings))
 }

@@ -4,7 +4,7 @@ use Rattle.node_move.specs.Spaces.{places_in}
 use Rattle.node_move.specs.NodeStates.{AreReady, AreApart}
 use Rattle.node_seconds.specs.Networks.{lane}
 use Rattle.node_seconds.proofs.Lanes.{ready_taken, several_turned}
-use Rattle.node_seconds.proofs.seconds.several_second.Goals as goal
+use Rattle.node_seconds.proofs.seconds.node_second.Goals as goal
 
 pub move_node-requires-clause-ready : goal.move_node-requires-clause-ready
 move_node-requires-clause-ready c =

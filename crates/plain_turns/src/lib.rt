@@ -1,7 +1,8 @@
-//! The turns of links and nodes, slow and plain: each as its list of moves, exactly as the
+//! The turns of links and nodes as the reference has them, slow and plain: each as its list of moves, exactly as the
 //! definitions of `traffic` say it, and what a move tells.
 #![tactic(auto)]
 
+mod fronts;
 mod links;
 mod lists;
 mod nodes;

@@ -11,6 +11,7 @@ ghost use Rattle.plain_turns.specs.LinkState.{link_state_of};
 ghost use Rattle.rows.specs.Settings.{IsDwelling};
 ghost use Rattle.plain_turns.specs.Limits.{AreSmall};
 
+use crate::fronts::{push_removal, push_transfer};
 use crate::lists::LinkVehicles;
 use crate::stops::serve;
 use fixed_flow::{VEHICLE_COST, raised_credit};
@@ -88,13 +89,7 @@ fn push_from_wait_to(l: u32, row: &Row, now: Row, out: &mut Vec<Move>) -> Result
     ensures { OnOk result (out.new.items ≡ out.old.items ++ Transfer l Wait 0 row.now now ∷ []) }
 {
     let was = row.try_clone()?;
-    out.push(Move::Transfer {
-        link: l,
-        stage: Stage::Wait,
-        place: 0,
-        was,
-        now,
-    })?;
+    push_transfer(l, Stage::Wait, was, now, out)?;
     Ok(())
 }
 
@@ -103,12 +98,7 @@ fn push_gone_from_wait(l: u32, row: &Row, out: &mut Vec<Move>) -> Result<(), All
     ensures { OnOk result (out.new.items ≡ out.old.items ++ Remove l Wait 0 row.now ∷ []) }
 {
     let was = row.try_clone()?;
-    out.push(Move::Remove {
-        link: l,
-        stage: Stage::Wait,
-        place: 0,
-        was,
-    })?;
+    push_removal(l, Stage::Wait, was, out)?;
     Ok(())
 }
 
@@ -123,13 +113,7 @@ fn push_from_queue_to(
     ensures { OnOk result (out.new.items ≡ out.old.items ++ Transfer l Queue 0 row.now now ∷ LeaveHole l second ∷ []) }
 {
     let was = row.try_clone()?;
-    out.push(Move::Transfer {
-        link: l,
-        stage: Stage::Queue,
-        place: 0,
-        was,
-        now,
-    })?;
+    push_transfer(l, Stage::Queue, was, now, out)?;
     out.push(Move::LeaveHole { link: l, second })?;
     Ok(())
 }
@@ -144,12 +128,7 @@ fn push_gone_from_queue(
     ensures { OnOk result (out.new.items ≡ out.old.items ++ Remove l Queue 0 row.now ∷ LeaveHole l second ∷ []) }
 {
     let was = row.try_clone()?;
-    out.push(Move::Remove {
-        link: l,
-        stage: Stage::Queue,
-        place: 0,
-        was,
-    })?;
+    push_removal(l, Stage::Queue, was, out)?;
     out.push(Move::LeaveHole { link: l, second })?;
     Ok(())
 }

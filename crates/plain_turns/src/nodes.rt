@@ -12,6 +12,7 @@ ghost use Rattle.traffic.specs.Nodes.{next_link, is_stuck, may_enter, has_room, 
 ghost use Rattle.traffic.specs.Nodes.{pass_node_all, draw, ready, red, candidates, mark, node_moves, out_links_after, HasNext, HaveNext};
 ghost use Rattle.plain_turns.specs.OutLinks.{out_links_in, AreNear, IsInLink, AreInLinks, is_green, node_view_of};
 
+use crate::fronts::{push_removal, push_transfer};
 use crate::out_links::{OutLinkRow, out_link_of, with_taken};
 use crate::picks::{drawn, take_in_link};
 use draws::Draws;
@@ -80,13 +81,7 @@ fn push_entering(
 {
     let was = at_second(since, row)?;
     let now = entered(second, out_link, &row.vehicle)?;
-    out.push(Move::Transfer {
-        link: a,
-        stage: Stage::Buffer,
-        place: 0,
-        was,
-        now,
-    })?;
+    push_transfer(a, Stage::Buffer, was, now, out)?;
     out.push(Move::SetFrontSince { link: a, second })?;
     Ok(())
 }
@@ -103,12 +98,7 @@ fn push_removed(
         ∷ SetFrontSince a second ∷ []) }
 {
     let was = at_second(since, row)?;
-    out.push(Move::Remove {
-        link: a,
-        stage: Stage::Buffer,
-        place: 0,
-        was,
-    })?;
+    push_removal(a, Stage::Buffer, was, out)?;
     out.push(Move::SetFrontSince { link: a, second })?;
     Ok(())
 }

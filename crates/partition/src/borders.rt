@@ -12,7 +12,7 @@ ghost use Rattle.partition.specs.Neighbours.{AreShorter, AreLags, shortened, sho
 ghost use Rattle.travel_times.specs.Times.{free_of};
 ghost use Rattle.partition.specs.Neighbours.{hops_in, leads_over, hop_leads_over, lags_of};
 
-use crate::crossings::{end_node, hop_of, link_seconds};
+use crate::crossings::{hop_of, link_seconds, owners_of_hop};
 use crate::joining::{PLACES, Pair, place_of};
 use crate::owner::{Owner, owner_of_node};
 use limits::MAX_LAG;
@@ -71,8 +71,7 @@ fn shorten_by_plan(owner: &Owner, links: &LinkList, plan: &Plan, lags: &mut [u32
 {
     for leg in 0..plan.legs.rows.len() as u32 {
         if let Some(hop) = hop_of(plan, leg) {
-            let from = owner_of_node(&owner.of_node, end_node(links, hop.from));
-            let to = owner_of_node(&owner.of_node, end_node(links, hop.to));
+            let (from, to) = owners_of_hop(owner, links, hop);
             shorten(from, to, hop.seconds, lags);
         }
     }

@@ -1,14 +1,16 @@
 //! What may cross a border: links with their seconds, and the teleported legs of plans.
 
-ghost use Rattle.std.specs.Prelude.{◌≡◌, ◌≤◌, ◌+◌, ◌*◌, [], ◌∷◌, get_or, true, MatchOption};
-ghost use Rattle.limits.specs.declared.TheConstants.{MAX_LEGS};
+ghost use Rattle.std.specs.Prelude.{◌≡◌, ◌<◌, ◌≤◌, ◌+◌, ◌*◌, [], ◌∷◌, get_or, true, MatchOption};
+ghost use Rattle.limits.specs.declared.TheConstants.{MAX_LEGS, MAX_PARTITIONS};
 ghost use Rattle.rows.specs.declared.plan.Leg.TheVariants as leg;
 ghost use Rattle.rows.specs.PlanRows.{plan_rows, act_in, leg_in};
 ghost use Rattle.rows.specs.Networks.{is_link};
 ghost use Rattle.fixed_flow.specs.Link.{free_seconds};
 ghost use Rattle.parts.specs.Owners.{hop};
 ghost use Rattle.partition.specs.Neighbours.{teleported, end_node};
+ghost use Rattle.partition.specs.Owned.{owner_in};
 
+use crate::owner::{Owner, owner_of_node};
 use fixed_flow::free_seconds;
 use rows::{Leg, Legs, LinkList, LinkRow, Plan, act_after, act_in};
 
@@ -78,4 +80,15 @@ pub(crate) fn link_seconds(nodes: usize, link: LinkRow) -> u32
     ensures { result ≡ free_seconds link.length link.speed }
 {
     free_seconds(link.length, link.speed)
+}
+
+/// From which partition to which a teleported leg leads: its links belong to the partitions of the nodes at which they end.
+pub(crate) fn owners_of_hop(owner: &Owner, links: &LinkList, hop: Hop) -> (u32, u32)
+    ensures from { result.0 ≡ owner_in owner.now.of_node (end_node links.now hop.from) }
+    ensures to { result.1 ≡ owner_in owner.now.of_node (end_node links.now hop.to) }
+    ensures few { (result.0 < MAX_PARTITIONS) × (result.1 < MAX_PARTITIONS) }
+{
+    let from = owner_of_node(&owner.of_node, end_node(links, hop.from));
+    let to = owner_of_node(&owner.of_node, end_node(links, hop.to));
+    (from, to)
 }

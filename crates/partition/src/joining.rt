@@ -9,7 +9,7 @@ ghost use Rattle.partition.specs.Owned.{owner_in};
 ghost use Rattle.partition.specs.Neighbours.{AreJoined, AreNear, place_of, joined_in, is_either, is_over, is_hop_over};
 ghost use Rattle.partition.specs.Neighbours.{hops_in, pairs_from, neighbours_of, is_joined};
 
-use crate::crossings::{end_node, hop_of};
+use crate::crossings::{hop_of, owners_of_hop};
 use crate::owner::{Owner, owner_of_node};
 use limits::MAX_PARTITIONS;
 use rows::{LinkList, LinkRow, Plan};
@@ -67,8 +67,7 @@ fn join_by_plan(owner: &Owner, links: &LinkList, plan: &Plan, joined: &mut [bool
 {
     for leg in 0..plan.legs.rows.len() as u32 {
         if let Some(hop) = hop_of(plan, leg) {
-            let from = owner_of_node(&owner.of_node, end_node(links, hop.from));
-            let to = owner_of_node(&owner.of_node, end_node(links, hop.to));
+            let (from, to) = owners_of_hop(owner, links, hop);
             join(from, to, joined);
         }
     }

@@ -1,4 +1,4 @@
-use Rattle.std.proofs.Common.{arith, refl, sym, ap, subst, ◌∙◌, ◌+◌}
+use Rattle.std.proofs.Common.{arith, refl, sym, subst, ◌+◌}
 use Rattle.std.specs.List.{flat_map}
 use Rattle.traffic.specs.Lists.{below}
 use Rattle.rows.specs.PlanRows.{plan_rows}
@@ -25,9 +25,9 @@ loop-leg-preserved c =
       short = elim c.match-hop_of.branch [
         | in-Some w ↦
             subst (λ t. AreShorter (λ p q n. shortest seconds_of_hop (hop_leads_over own links p q) (flat_map (hop_in rows) (below (k + 1))) n) c.args.lags.now t) (sym w.lags-is)
-            (hop_shortened own links rows k w.owner_of_node-from.result w.owner_of_node-to.result w.in-Some.hop.seconds
+            (hop_shortened own links rows k w.owners_of_hop-from.result.0 w.owners_of_hop-from.result.1 w.in-Some.hop.seconds
             (record { from = w.in-Some.hop.from; to = w.in-Some.hop.to; seconds = w.in-Some.hop.seconds }) c.args.lags.now c.loop-leg.lags w.shorten.new.lags w.in-Some.ensures
-            (w.owner_of_node-from.ensures ∙ ap own w.end_node.ensures) (w.owner_of_node-to.ensures ∙ ap own w.end_node-in-Some.ensures) refl c.loop-leg.invariant.short w.shorten.ensures)
+            w.owners_of_hop-from.ensures.from w.owners_of_hop-from.ensures.to refl c.loop-leg.invariant.short w.shorten.ensures)
         | in_default w ↦
             subst (λ t. AreShorter (λ p q n. shortest seconds_of_hop (hop_leads_over own links p q) (flat_map (hop_in rows) (below (k + 1))) n) c.args.lags.now t) (sym w.lags-is)
             (no_hop_shortened own links rows k c.args.lags.now c.loop-leg.lags w.in_default.ensures c.loop-leg.invariant.short)

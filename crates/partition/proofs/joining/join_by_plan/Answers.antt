@@ -1,4 +1,4 @@
-use Rattle.std.proofs.Common.{arith, sym, ap, subst, ◌∙◌, ◌+◌}
+use Rattle.std.proofs.Common.{arith, sym, subst, ◌+◌}
 use Rattle.std.specs.List.{list_any, flat_map}
 use Rattle.traffic.specs.Lists.{below}
 use Rattle.rows.specs.PlanRows.{plan_rows}
@@ -21,9 +21,9 @@ loop-leg-preserved c =
       joined = elim c.match-hop_of.branch [
         | in-Some w ↦
             subst (λ t. AreJoined (λ p q. list_any (is_hop_over own links p q) (flat_map (hop_in rows) (below (k + 1)))) c.args.joined.now t) (sym w.joined-is)
-            (hop_joined own links rows k w.owner_of_node-from.result w.owner_of_node-to.result
+            (hop_joined own links rows k w.owners_of_hop-from.result.0 w.owners_of_hop-from.result.1
             (record { from = w.in-Some.hop.from; to = w.in-Some.hop.to; seconds = w.in-Some.hop.seconds }) c.args.joined.now c.loop-leg.joined w.join.new.joined w.in-Some.ensures
-            (w.owner_of_node-from.ensures ∙ ap own w.end_node.ensures) (w.owner_of_node-to.ensures ∙ ap own w.end_node-in-Some.ensures) c.loop-leg.invariant.joined w.join.ensures)
+            w.owners_of_hop-from.ensures.from w.owners_of_hop-from.ensures.to c.loop-leg.invariant.joined w.join.ensures)
         | in_default w ↦
             subst (λ t. AreJoined (λ p q. list_any (is_hop_over own links p q) (flat_map (hop_in rows) (below (k + 1)))) c.args.joined.now t) (sym w.joined-is)
             (no_hop_joined own links rows k c.args.joined.now c.loop-leg.joined w.in_default.ensures c.loop-leg.invariant.joined)

@@ -44,17 +44,7 @@ impl Credit {
         }
     }
 
-    /// Gives the gain of one second, `per_second` units.
-    #[tactic(auto, unfolding(crate::specs::Flow::raised))]
-    pub fn raise(&mut self, per_second: u32)
-        requires { per_second ≤ MAX_PER_SECOND }
-        ensures value { self.new ≡ raised per_second self.old }
-        ensures kept { self.new ≤ full_credit per_second }
-    {
-        self.units = raised_credit(per_second, self.units);
-    }
-
-    /// Gives the gains of `times` seconds at once, as so many calls of [`Credit::raise`] would.
+    /// Gives the gains of `times` seconds at once, as [`raised_credit`] gives them one after the other.
     #[tactic(auto, using(crate::proofs::Gains::gains_none, crate::proofs::Gains::gains_at_once))]
     pub fn raise_by(&mut self, per_second: u32, times: u32)
         requires per_second_in { per_second ≤ MAX_PER_SECOND }

@@ -54,7 +54,7 @@ fn every_other_second(rt: HostRuntime) {
     let half = 1_800_000;
     let mut credit = Credit::start();
     for passes in [true, false, true, false, true] {
-        credit.raise(half);
+        credit.raise_by(half, 1);
         assert_eq!(rt; credit.can_pass(), passes);
         if credit.can_pass() {
             credit.pay();

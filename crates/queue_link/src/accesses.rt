@@ -154,16 +154,6 @@ impl LinkState {
         self.buffer.front()
     }
 
-    /// The vehicle at the front of the buffer, and `None` exactly where the buffer is empty.
-    pub fn front(&self) -> Option<&Vehicle>
-        ensures { option_copied result ≡ front_vehicle self.now.lists.buffer }
-    {
-        match self.buffer.front() {
-            None => None,
-            Some(row) => Some(&row.vehicle),
-        }
-    }
-
     /// Since when it has been at the front, and `None` exactly where the buffer is empty.
     pub fn first_since(&self) -> Option<u32>
         ensures { result ≡ front_second self.now.lists.buffer }
@@ -239,13 +229,6 @@ impl LinkState {
         ensures { result ≡ length self.now.lists.buffer }
     {
         self.buffer.len()
-    }
-
-    /// The storage of the link.
-    pub fn room(&self) -> u32
-        ensures { result ≡ self.now.numbers.storage }
-    {
-        self.numbers.storage
     }
 
     /// Whether no vehicle is in the queue, on the wait list or in the bay.

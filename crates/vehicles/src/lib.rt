@@ -1,5 +1,5 @@
-//! What a vehicle does, as far as the slow and the fast turns share it: where it is on its route, whether it may enter its next link, for
-//! how long the place that it leaves stays taken, who alights and who may board at its stops and how long it stands there, and what its
+//! What a vehicle does, as far as the reference and the fast turns share it: where it is on its route, whether it may enter its next link,
+//! for how long the place that it leaves stays taken, who alights and who may board at its stops and how long it stands there, and what its
 //! moves tell, without keys. All exactly as the definitions of `traffic` say it.
 #![tactic(auto)]
 

@@ -12,7 +12,7 @@ use Rattle.events.specs.declared.event.More.TheVariants as more
 use Rattle.events.specs.declared.event.Word.{Word}
 use Rattle.events.specs.declared.event.Word.TheVariants as word
 use Rattle.events.specs.Persons.{is_step}
-use Rattle.scoring.specs.declared.TheConstants.{MAX_EVENTS, MAX_SCORE, MAX_WORTH}
+use Rattle.scoring.specs.declared.TheConstants.{MAX_EVENTS, MAX_LEG_WORTH, MAX_SCORE, MAX_WORTH}
 use Rattle.scoring.specs.declared.scorer.Doing.{Doing}
 use Rattle.scoring.specs.declared.scorer.Doing.TheVariants as doing
 use Rattle.scoring.specs.declared.scorer.Scorer.{Scorer}
@@ -150,7 +150,7 @@ leg_begun T s es e (doing.Leg mode since) m H F C is = absurd (let x : word_of (
 leg_begun T s es e doing.Arriving m H F C is = absurd (let x : word_of doing.Arriving ≡ word.ActEnd = sym (ap word_of is) ∙ C.after in cc)
 leg_begun T s es e doing.Stuck m H F C is = absurd (let x : word_of doing.Stuck ≡ word.ActEnd = sym (ap word_of is) ∙ C.after in cc)
 
-leg_short : (T : Tables) (mode : Mode) (t since : ℕ) → t ≤ LAST_SECOND → IsWithin (pos 1172800000000) (leg_worth T.modes mode (t - since))
+leg_short : (T : Tables) (mode : Mode) (t since : ℕ) → t ≤ LAST_SECOND → IsWithin MAX_LEG_WORTH (leg_worth T.modes mode (t - since))
 leg_short T mode t since in_day = leg_worth-within T.modes mode (t - since) T.modes_in (omega arith)
 
 leg_arrived : (T : Tables) (s : Scorer) (es : List Event) (e : Event) (d : Doing) → IsTakenBy (scoring_rows T) s es → MayFollow es e
@@ -183,7 +183,7 @@ person_stuck T s es e (doing.Leg mode since) H F C is =
     C.last (λ other. absurd (other C.last)) (omega arith) H.left_in_day
     (subst (λ (j : ℕ). IsWithin (bound_of (length es + 1) j) (s.sum +ℤ (leg_worth T.modes mode (e.key.second - since) +ℤ T.stuck))) (sym one)
     (within_stuck (length es) s.sum _ T.stuck (bound_free (scoring_rows T) s es H C.free)
-    (wider (pos 1172800000000) (pos 1200000000000) _ (omega (arith, ints)) (leg_short T mode e.key.second since F.in_day))
+    (wider MAX_LEG_WORTH (pos 1200000000000) _ (omega (arith, ints)) (leg_short T mode e.key.second since F.in_day))
     (costs.stuck_low, (let high = costs.stuck_high in omega (arith, ints)))))
 person_stuck T s es e (doing.Activity kind since) H F C is = absurd (let x : word_of (doing.Activity kind since) ≡ word.Departure = sym (ap word_of is) ∙ C.after in cc)
 person_stuck T s es e doing.Leaving H F C is = absurd (let x : word_of doing.Leaving ≡ word.Departure = sym (ap word_of is) ∙ C.after in cc)

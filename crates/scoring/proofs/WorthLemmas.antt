@@ -7,7 +7,7 @@ use Rattle.std.specs.List.{list_all}
 use Rattle.std.specs.Option.{option_map_or}
 use Rattle.limits.specs.declared.TheConstants.{LAST_SECOND}
 use Rattle.events.specs.declared.event.Mode.{Mode}
-use Rattle.scoring.specs.declared.TheConstants.{MAX_PER_SECOND, MAX_POINTS, MAX_SCORE, MAX_TABLES, MAX_WORTH}
+use Rattle.scoring.specs.declared.TheConstants.{MAX_LEG_WORTH, MAX_PER_SECOND, MAX_POINTS, MAX_SCORE, MAX_TABLES, MAX_WORTH}
 use Rattle.scoring.specs.declared.table.ModeScore.{ModeScore}
 use Rattle.scoring.specs.declared.table.Table.{Table}
 use Rattle.scoring.specs.Limits.{kind_of, are_distinct, is_right, are_tables, is_mode, are_costs}
@@ -105,7 +105,7 @@ mode_is m h =
     let g = and_parts (is_within MAX_WORTH m.constant) (is_within MAX_PER_SECOND m.per_second) h in
     record { constant_in = within_both MAX_WORTH m.constant g.0; per_second_in = within_both MAX_PER_SECOND m.per_second g.1 }
 
-one_mode-within : (m : ModeScore) (x : ℕ) → IsMode m → x ≤ LAST_SECOND → IsWithin (pos 1172800000000) (m.constant +ℤ m.per_second *ℤ pos x)
+one_mode-within : (m : ModeScore) (x : ℕ) → IsMode m → x ≤ LAST_SECOND → IsWithin MAX_LEG_WORTH (m.constant +ℤ m.per_second *ℤ pos x)
 one_mode-within m x h few =
     let c0 = h.constant_in.0 in let c1 = h.constant_in.1 in
     let p = product-within m.per_second x 1000000 LAST_SECOND h.per_second_in few in
@@ -113,7 +113,7 @@ one_mode-within m x h few =
     (omega (arith, ints), omega (arith, ints))
 
 mode-within : (modes : List ModeScore) (k x : ℕ) → list_all is_mode modes ≡ true → x ≤ LAST_SECOND
-    → IsWithin (pos 1172800000000) (option_map_or (λ (m : ModeScore). m.constant +ℤ m.per_second *ℤ pos x) (slice_get modes k) (pos 0))
+    → IsWithin MAX_LEG_WORTH (option_map_or (λ (m : ModeScore). m.constant +ℤ m.per_second *ℤ pos x) (slice_get modes k) (pos 0))
 mode-within [] k x all few = (omega (arith, ints), omega (arith, ints))
 mode-within (m ∷ modes) zero x all few = one_mode-within m x (mode_is m (and_parts (is_mode m) (list_all is_mode modes) all).0) few
 mode-within (m ∷ modes) (suc k) x all few = mode-within modes k x (and_parts (is_mode m) (list_all is_mode modes) all).1 few
@@ -127,7 +127,7 @@ found_mode (n ∷ modes) zero m all e =
 found_mode (n ∷ modes) (suc k) m all e = found_mode modes k m (and_parts (is_mode n) (list_all is_mode modes) all).1 e
 
 pub leg_worth-within : (modes : List ModeScore) (mode : Mode) (x : ℕ) → list_all is_mode modes ≡ true → x ≤ LAST_SECOND
-    → IsWithin (pos 1172800000000) (leg_worth modes mode x)
+    → IsWithin MAX_LEG_WORTH (leg_worth modes mode x)
 unfolding leg_worth
 leg_worth-within modes mode x all few = mode-within modes (place_of mode) x all few
 
@@ -203,7 +203,7 @@ late_sum_same s p x z s_in p_in few e =
     rw (late_code p x z p_in few e) (omega (arith, ints))
 
 -- a sum, and two numbers that are added to it
-pub three_same : (s v u : ℤ) → IsWithin MAX_SCORE s → IsWithin (pos 1172800000000) v → IsWithin MAX_WORTH u
+pub three_same : (s v u : ℤ) → IsWithin MAX_SCORE s → IsWithin MAX_LEG_WORTH v → IsWithin MAX_WORTH u
     → to_z w64 (of_z w64 (to_z w64 (of_z w64 s) +ℤ to_z w64 (of_z w64 (to_z w64 (of_z w64 v) +ℤ to_z w64 (of_z w64 u))))) ≡ s +ℤ (v +ℤ u)
 three_same s v u f g h =
     let f0 = f.0 in let f1 = f.1 in let g0 = g.0 in let g1 = g.1 in let h0 = h.0 in let h1 = h.1 in omega (arith, ints)

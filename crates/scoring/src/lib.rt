@@ -19,6 +19,7 @@ pub use laws::{
     other_events_do_not_score, sums_of_scores_fit, values_follow_points, values_round_down,
     worked_scores,
 };
+use limits::LAST_SECOND;
 pub use scorer::Scorer;
 pub use table::{ModeScore, Points, Table, TableList, is_table};
 pub use tables::Tables;
@@ -46,6 +47,9 @@ pub const MAX_WORTH: i64 = 1_000_000_000_000;
 /// The most that a second of a leg is worth, or that a second of a leg or of lateness costs, in
 /// micro-utils.
 pub const MAX_PER_SECOND: i64 = 1_000_000;
+
+/// The most that a leg is worth, or costs, in micro-utils: its constant, and a second's worth for each second of two days.
+pub const MAX_LEG_WORTH: i64 = MAX_WORTH + MAX_PER_SECOND * LAST_SECOND as i64;
 
 /// No score is above this, or below its negative, in micro-utils.
 pub const MAX_SCORE: i64 = 100_000_000_000_000;

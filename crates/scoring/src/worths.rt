@@ -1,6 +1,6 @@
-ghost use Rattle.std.specs.Prelude.{◌≡◌, ◌≤◌, Some, true, pos, option_copied, slice_get};
+ghost use Rattle.std.specs.Prelude.{◌≡◌, ◌≤◌, Some, true, option_copied, slice_get};
 ghost use Rattle.limits.specs.declared.TheConstants.{LAST_SECOND};
-ghost use Rattle.scoring.specs.declared.TheConstants.{MAX_WORTH};
+ghost use Rattle.scoring.specs.declared.TheConstants.{MAX_LEG_WORTH, MAX_WORTH};
 ghost use Rattle.scoring.specs.Limits.{is_right};
 ghost use Rattle.scoring.specs.Points.{value};
 ghost use Rattle.scoring.specs.Ranges.{IsWithin};
@@ -77,7 +77,7 @@ fn mode_score(tables: &Tables, mode: Mode) -> ModeScore
 pub fn leg_worth(tables: &Tables, mode: Mode, seconds: u32) -> i64
     requires { seconds ≤ LAST_SECOND }
     ensures value { result ≡ leg_worth tables.now.modes mode seconds }
-    ensures within { IsWithin (pos 1172800000000) result }
+    ensures within { IsWithin MAX_LEG_WORTH result }
 {
     let score = mode_score(tables, mode);
     score.constant + score.per_second * i64::from(seconds)

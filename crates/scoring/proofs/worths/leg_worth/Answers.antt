@@ -1,4 +1,5 @@
-use Rattle.std.proofs.Common.{pos, ℤ, subst, sym}
+use Rattle.std.proofs.Common.{ℤ, subst, sym}
+use Rattle.scoring.specs.declared.TheConstants.{MAX_LEG_WORTH}
 use Rattle.scoring.specs.Ranges.{IsWithin}
 use Rattle.scoring.specs.Tables.{place_of}
 use Rattle.scoring.proofs.WorthLemmas.{leg_code, leg_worth-within, found_mode, mode_product_fits, mode_sum_fits}
@@ -26,5 +27,5 @@ returns-clause-within c =
     let same =
     leg_code c.args.tables.now.modes c.args.mode c.mode_score-score.result c.args.seconds c.from.result c.mode_score-score.ensures found
     c.requires c.from.ensures in
-    subst (λ (z : ℤ). IsWithin (pos 1172800000000) z) (sym same)
+    subst (λ (z : ℤ). IsWithin MAX_LEG_WORTH z) (sym same)
     (leg_worth-within c.args.tables.now.modes c.args.mode c.args.seconds c.args.tables.now.modes_in c.requires)

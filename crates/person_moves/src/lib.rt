@@ -1,5 +1,5 @@
-//! What both the slow and the fast day do with persons: the world of a day and its start, the turns of persons and departures as lists of
-//! moves, the rows of links, what moves do to a world in place, and the keys of what they tell. All exactly as the definitions of
+//! What both the reference and the fast day do with persons: the world of a day and its start, the turns of persons and departures as
+//! lists of moves, the rows of links, what moves do to a world in place, and the keys of what they tell. All exactly as the definitions of
 //! `traffic` say it.
 //!
 //! A day takes the moves of one turn (`landing_moves`, `leaving_moves`, `departure_moves`, or those of a link or a node), does them

@@ -1,4 +1,4 @@
-//! The slow runnable day: each turn as its moves, done one after the other, exactly as the definitions of `traffic` say it.
+//! The reference day, slow and runnable: each turn as its moves, done one after the other, exactly as the definitions of `traffic` say it.
 #![tactic(auto)]
 
 mod days;

@@ -14,6 +14,24 @@ struct Day {
     events: &'static str,
 }
 
+/// Work begins behind its planned end.
+pub(crate) const BEHIND_ITS_END_PLANS: &str =
+    "p1,0,act,home,L1,100,\np1,0,leg,walk,,50,\np1,0,act,work,L2,120,\n\
+    p1,0,leg,walk,,50,\np1,0,act,home,L1,,\n";
+
+/// So it ends a second later.
+pub(crate) const BEHIND_ITS_END_EVENTS: &str = "iteration,0\n\
+    100,actend,p1,,L1,home\n\
+    100,departure,p1,,L1,walk\n\
+    150,travelled,p1,,,50\n\
+    150,arrival,p1,,L2,walk\n\
+    150,actstart,p1,,L2,work\n\
+    151,actend,p1,,L2,work\n\
+    151,departure,p1,,L2,walk\n\
+    201,travelled,p1,,,50\n\
+    201,arrival,p1,,L1,walk\n\
+    201,actstart,p1,,L1,home\n";
+
 /// Persons who walk.
 static WALKERS: [Day; 4] = [
     Day {
@@ -27,27 +45,15 @@ static WALKERS: [Day; 4] = [
             150,arrival,p1,,L2,walk\n\
             150,actstart,p1,,L2,work\n",
     },
-    // Work begins behind its planned end, and ends a second later.
     Day {
         case: Case {
             settings: "{\"end_second\":300}",
-            plans: "p1,0,act,home,L1,100,\np1,0,leg,walk,,50,\np1,0,act,work,L2,120,\n\
-                p1,0,leg,walk,,50,\np1,0,act,home,L1,,\n",
+            plans: BEHIND_ITS_END_PLANS,
             ..LINE
         },
         report: "iteration,0,10,0,-166600\ndone,0\n",
         scores: "0,p1,0,-166600\n",
-        events: "iteration,0\n\
-            100,actend,p1,,L1,home\n\
-            100,departure,p1,,L1,walk\n\
-            150,travelled,p1,,,50\n\
-            150,arrival,p1,,L2,walk\n\
-            150,actstart,p1,,L2,work\n\
-            151,actend,p1,,L2,work\n\
-            151,departure,p1,,L2,walk\n\
-            201,travelled,p1,,,50\n\
-            201,arrival,p1,,L1,walk\n\
-            201,actstart,p1,,L1,home\n",
+        events: BEHIND_ITS_END_EVENTS,
     },
     // A leg of one second.
     Day {
@@ -124,6 +130,19 @@ const TWO_SECONDS_APART: &str = "iteration,0\n\
     113,arrival,p2,,L2,car\n\
     113,actstart,p2,,L2,work\n";
 
+/// A drive from one link to the next that nothing holds up.
+const DRIVE_EVENTS: &str = "iteration,0\n\
+    100,actend,p1,,L1,home\n\
+    100,departure,p1,,L1,car\n\
+    100,PersonEntersVehicle,p1,p1,,\n\
+    100,vehicle enters traffic,p1,p1,L1,\n\
+    101,left link,,p1,L1,\n\
+    101,entered link,,p1,L2,\n\
+    111,vehicle leaves traffic,p1,p1,L2,\n\
+    111,PersonLeavesVehicle,p1,p1,,\n\
+    111,arrival,p1,,L2,car\n\
+    111,actstart,p1,,L2,work\n";
+
 /// Cars on open roads.
 static CARS: [Day; 6] = [
     Day {
@@ -133,17 +152,7 @@ static CARS: [Day; 6] = [
         },
         report: "iteration,0,10,0,-18326\ndone,0\n",
         scores: "0,p1,0,-18326\n",
-        events: "iteration,0\n\
-            100,actend,p1,,L1,home\n\
-            100,departure,p1,,L1,car\n\
-            100,PersonEntersVehicle,p1,p1,,\n\
-            100,vehicle enters traffic,p1,p1,L1,\n\
-            101,left link,,p1,L1,\n\
-            101,entered link,,p1,L2,\n\
-            111,vehicle leaves traffic,p1,p1,L2,\n\
-            111,PersonLeavesVehicle,p1,p1,,\n\
-            111,arrival,p1,,L2,car\n\
-            111,actstart,p1,,L2,work\n",
+        events: DRIVE_EVENTS,
     },
     // A route of one link.
     Day {
@@ -282,17 +291,7 @@ static SIGNALS: [Day; 2] = [
         },
         report: "iteration,0,10,0,-18326\ndone,0\n",
         scores: "0,p1,0,-18326\n",
-        events: "iteration,0\n\
-            100,actend,p1,,L1,home\n\
-            100,departure,p1,,L1,car\n\
-            100,PersonEntersVehicle,p1,p1,,\n\
-            100,vehicle enters traffic,p1,p1,L1,\n\
-            101,left link,,p1,L1,\n\
-            101,entered link,,p1,L2,\n\
-            111,vehicle leaves traffic,p1,p1,L2,\n\
-            111,PersonLeavesVehicle,p1,p1,,\n\
-            111,arrival,p1,,L2,car\n\
-            111,actstart,p1,,L2,work\n",
+        events: DRIVE_EVENTS,
     },
 ];
 
@@ -636,19 +635,23 @@ static UNDER_WAY: [Day; 1] = [Day {
         120,stuckAndAbort,p4,,L2,pt\n",
 }];
 
+/// Whether a run of a case is so, and its plans come out as they went in.
+pub(crate) fn is_run<R: Threads + Wait + Sync>(
+    rt: &R,
+    alloc: Global,
+    case: &Case,
+    report: &str,
+    scores: &str,
+    events: &str,
+) -> bool {
+    let plans = plans_of(alloc, case.plans);
+    is_run_to(rt, alloc, case, report, scores, events, plans.as_str())
+}
+
 /// The report of the first of these days that does not go as told; or nothing.
 fn first_wrong<R: Threads + Wait + Sync>(rt: &R, alloc: Global, days: &[Day]) -> &'static str {
     for day in days {
-        let plans = plans_of(alloc, day.case.plans);
-        if !is_run_to(
-            rt,
-            alloc,
-            &day.case,
-            day.report,
-            day.scores,
-            day.events,
-            plans.as_str(),
-        ) {
+        if !is_run(rt, alloc, &day.case, day.report, day.scores, day.events) {
             return day.report;
         }
     }

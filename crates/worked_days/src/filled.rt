@@ -20,7 +20,7 @@ const ROUND: Case = Case {
 };
 
 /// The two ways alone, from which no link leads on.
-const TWO_WAYS: Case = Case {
+pub(crate) const TWO_WAYS: Case = Case {
     links: "link,from,to,length,speed,capacity,lanes\n\
         e0,a,b,10000,1000,3600,1\ne1,a,c,10000,1000,3600,1\n\
         e2,b,d,10000,1000,3600,1\ne3,c,d,10000,1000,3600,1\n",

@@ -1,5 +1,5 @@
-//! Worked days: files in, and the events, scores, plans and report that they give, worked by hand. Above the top call, the slow day and
-//! the reading of a scenario; tests alone.
+//! Worked days: files in, and the events, scores, plans and report that they give, worked by hand. Above the top call, the reference day
+//! and the reading of a scenario; tests alone.
 #![tactic(auto)]
 
 #[cfg(test)]

@@ -1,5 +1,6 @@
 //! Routes that are asked for: their report, and the words that ask for none.
 
+use crate::filled::TWO_WAYS;
 use edge_files::{InFile, MemoryOutputs, OutFile};
 use std::alloc::Global;
 use std::sync::Wait;
@@ -7,13 +8,10 @@ use std::thread::Threads;
 use worked_cases::{Case, LINE, Status, are_written, inputs_of, is_written, put, status_of};
 
 /// Two ways from a to d along two links each, of ten seconds a link, and somebody who stays at home.
-static TWO_WAYS: Case = Case {
-    nodes: "node,x,y\na,0,0\nb,0,0\nc,0,0\nd,0,0\n",
-    links: "link,from,to,length,speed,capacity,lanes\n\
-        e0,a,b,10000,1000,3600,1\ne1,a,c,10000,1000,3600,1\n\
-        e2,b,d,10000,1000,3600,1\ne3,c,d,10000,1000,3600,1\n",
+static AT_HOME: Case = Case {
+    settings: "",
     plans: "p1,0,act,home,e0,,\n",
-    ..LINE
+    ..TWO_WAYS
 };
 
 /// What is asked of `qsim route`, and its answer.
@@ -72,7 +70,7 @@ fn came_of<R: Threads + Wait + Sync>(
     words: &[&str],
     outputs: &mut MemoryOutputs,
 ) -> Status {
-    let mut inputs = inputs_of(alloc, &TWO_WAYS);
+    let mut inputs = inputs_of(alloc, &AT_HOME);
     status_of(rt, alloc, words, &mut inputs, outputs)
 }
 
@@ -160,7 +158,7 @@ fn names_may_begin_with_a_dash(rt: HostRuntime) {
 #[test]
 fn faults_come_first(rt: HostRuntime) {
     let alloc = rt.alloc();
-    let mut inputs = inputs_of(alloc, &TWO_WAYS);
+    let mut inputs = inputs_of(alloc, &AT_HOME);
     put(&mut inputs, InFile::Settings, "{\"sead\":1}");
     let mut outputs = MemoryOutputs::new(alloc);
     let words = ["qsim", "route", "x", "d", "0"];

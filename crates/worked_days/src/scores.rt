@@ -1,6 +1,7 @@
 //! Days with tables and modes of their own, and plans that come out of a run and go into another one. The scores were computed by an
 //! independent program.
 
+use crate::days::{BEHIND_ITS_END_EVENTS, BEHIND_ITS_END_PLANS, is_run};
 use std::alloc::Global;
 use std::sync::Wait;
 use std::thread::Threads;
@@ -51,40 +52,14 @@ const COMMUTE_EVENTS: &str = "iteration,0\n\
     57611,arrival,p1,,L3,car\n\
     57611,actstart,p1,,L3,home\n";
 
-/// Work begins behind its planned end, and ends a second later: what it is worth goes by the second in which it did end.
+/// The day on which work begins behind its planned end: what it is worth goes by the second in which it did end.
 static BEHIND_ITS_END: Case = Case {
     settings: "{\"end_second\":300,\"tables\":[\
         {\"kind\":\"home\",\"points\":[[0,-20000000],[43200,60000000],[86400,80000000]]},\
         {\"kind\":\"work\",\"points\":[[0,-20000000],[28800,60000000]]}]}",
-    plans: "p1,0,act,home,L1,100,\np1,0,leg,walk,,50,\np1,0,act,work,L2,120,\n\
-        p1,0,leg,walk,,50,\np1,0,act,home,L1,,\n",
+    plans: BEHIND_ITS_END_PLANS,
     ..LINE
 };
-
-const BEHIND_ITS_END_EVENTS: &str = "iteration,0\n\
-    100,actend,p1,,L1,home\n\
-    100,departure,p1,,L1,walk\n\
-    150,travelled,p1,,,50\n\
-    150,arrival,p1,,L2,walk\n\
-    150,actstart,p1,,L2,work\n\
-    151,actend,p1,,L2,work\n\
-    151,departure,p1,,L2,walk\n\
-    201,travelled,p1,,,50\n\
-    201,arrival,p1,,L1,walk\n\
-    201,actstart,p1,,L1,home\n";
-
-/// Whether a run of a case is so, and its plans come out as they went in.
-fn is_run<R: Threads + Wait + Sync>(
-    rt: &R,
-    alloc: Global,
-    case: &Case,
-    report: &str,
-    scores: &str,
-    events: &str,
-) -> bool {
-    let plans = plans_of(alloc, case.plans);
-    is_run_to(rt, alloc, case, report, scores, events, plans.as_str())
-}
 
 #[test]
 fn tables_are_followed(rt: HostRuntime) {

@@ -205,6 +205,14 @@ going_text a b c all file rest front back x is going did =
     going_on a b c all (byte_steps file front) (byte_steps file back) x
     (subst (λ (l : List Step). IsGoing a b all l) (sym (bytes_then file front back rest is)) going) did
 
+-- no text is left
+pub going_over : {T : Type 0} {k : Bool} (a b : Moment) (all : List Step) (file : OutFile) (text : List ℕ) (x : T) → text ≡ []
+    → IsGoing a b all (byte_steps file text) → IsPerformed k a b all (Ok x)
+going_over {T} {k} a b all file text x none going =
+    going_last {T = T} {k = k} a b b all (byte_steps file text) (Ok x) going
+    (subst (λ (l : List ℕ). IsPerformed {T = T} k b b (byte_steps file l) (Ok x)) (sym none)
+    (all_done b b [] x (does_nothing b.world) (omega arith) (omega arith)))
+
 pub going_text_failed : {A B : Type 0} {k : Bool} (a b c : Moment) (all : List Step) (file : OutFile) (rest front back : List ℕ) (e : EffectError)
     → rest ≡ front ++ back → IsGoing a b all (byte_steps file rest) → IsPerformed {T = A} k b c (byte_steps file front) (Err e)
     → IsPerformed {T = B} k a c all (Err e)

@@ -1,8 +1,8 @@
 -- The lines of plans, plan by plan and person by person.
-use Rattle.std.proofs.Common.{◌≡◌, ℕ, zero, suc, ◌+◌, ◌<◌, ◌≤◌, true, List, [], ◌∷◌, ◌++◌, length, map, get_or, take, drop, Some, refl, sym, ◌∙◌, ap, subst, arith, append_assoc, append-nil, add-zero, take-append-drop}
-use Rattle.std.specs.Prelude.{slice_get}
+use Rattle.std.proofs.Common.{◌≡◌, Bool, ℕ, zero, suc, ◌+◌, ◌<◌, ◌≤◌, true, List, [], ◌∷◌, ◌++◌, length, map, get_or, take, drop, Some, refl, sym, ◌∙◌, ap, subst, arith, append_assoc, append-nil, add-zero, take-append-drop}
+use Rattle.std.specs.Prelude.{slice_get, ◌==◌}
 use Rattle.std.proofs.Math.ListN.{get_or-map}
-use Rattle.std.proofs.lemmas.Bool.{and_parts}
+use Rattle.std.proofs.lemmas.Bool.{and_parts, eqb-true}
 use Rattle.std.proofs.lemmas.List.{drop_more, drop_all, length-map, map-append}
 use Rattle.events.specs.declared.event.Book.{Book}
 use Rattle.rows.specs.PlanRows.{PlanRows}
@@ -115,6 +115,12 @@ persons_behind book first count next rest piece after within front back is =
     ∙ ap (λ (ms : List MemoryRows). persons_lines book first (map written_plans ms) ++ persons_lines book (first + count) (map written_plans (drop count rest))) (sym front)
     ∙ ap (λ (ms : List MemoryRows). persons_lines book first (map written_plans piece) ++ persons_lines book (first + count) (map written_plans ms)) (sym back)
     ∙ ap (λ (n : ℕ). persons_lines book first (map written_plans piece) ++ persons_lines book n (map written_plans after)) (sym is)
+
+-- nobody is left
+pub persons_over : (book : Book) (first : ℕ) (rest : List MemoryRows) (empty : Bool) → empty ≡ (length rest == 0) → empty ≡ true
+    → persons_lines book first (map written_plans rest) ≡ []
+persons_over book first [] empty is over = refl
+persons_over book first (m ∷ rest) empty is over = absurd (let none_left = eqb-true (length (m ∷ rest)) 0 (sym is ∙ over) in omega arith)
 
 pub plan_step : (book : Book) (person i : ℕ) (m : MemoryRows) (places : List ℕ) (plan : PlanRows) (old new : List ℕ) → places ≡ written_places m
     → i < length places → slice_get m.plans (get_or places i 0) ≡ Some plan → new ≡ old ++ plan_lines person i plan book

@@ -179,39 +179,7 @@ fn write_some_plans<O: Outputs, K: Keeper>(
     }
 }
 
-/// Writes the plans of all persons, some at once.
-fn write_persons<O: Outputs, K: Keeper>(
-    alloc: Global,
-    town: &Town,
-    memories: &[Memory],
-    outputs: &mut O,
-    keeper: &mut K,
-) -> Result<(), EffectError>
-    requires persons { length memories.now ≡ length town.now.book.persons }
-    requires fit { all_hold_fitting (rows_of town.now) memories.now ≡ true }
-    ensures performed { IsWritten
-        (moment (O.written outputs.old) (K.kept keeper.old) (O.faults outputs.old) (K.faults keeper.old))
-        (moment (O.written outputs.new) (K.kept keeper.new) (O.faults outputs.new) (K.faults keeper.new))
-        (byte_steps OutFile.Plans (persons_lines town.now.book 0 (map written_plans memories.now))) result }
-    ensures keeper { keeper.new ≡ keeper.old }
-{
-    let mut first = 0;
-    let mut rest = memories;
-    while !rest.is_empty() {
-        let count = rest.len().min(PERSONS_AT_ONCE);
-        let (piece, after) = rest.split_at(count);
-        match write_some_plans(alloc, town, first, piece, outputs, keeper) {
-            Ok(()) => {
-                first += count as u32;
-                rest = after;
-            }
-            Err(error) => return Err(error),
-        }
-    }
-    Ok(())
-}
-
-/// Writes the plans of all persons, with the layout of plans.csv.
+/// Writes the plans of all persons, some at once, with the layout of plans.csv.
 #[tactic(auto, unfolding(plan_text::specs::Lines::plans_text))]
 fn write_plans<O: Outputs, K: Keeper>(
     alloc: Global,
@@ -232,9 +200,23 @@ fn write_plans<O: Outputs, K: Keeper>(
         return Err(EffectError::NoMemory);
     };
     match write(outputs, keeper, OutFile::Plans, header) {
-        Ok(()) => write_persons(alloc, town, memories, outputs, keeper),
-        Err(error) => Err(error),
+        Ok(()) => {}
+        Err(error) => return Err(error),
     }
+    let mut first = 0;
+    let mut rest = memories;
+    while !rest.is_empty() {
+        let count = rest.len().min(PERSONS_AT_ONCE);
+        let (piece, after) = rest.split_at(count);
+        match write_some_plans(alloc, town, first, piece, outputs, keeper) {
+            Ok(()) => {
+                first += count as u32;
+                rest = after;
+            }
+            Err(error) => return Err(error),
+        }
+    }
+    Ok(())
 }
 
 /// Writes the last line of the report.

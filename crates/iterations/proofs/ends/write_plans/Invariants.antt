@@ -7,7 +7,7 @@ use Rattle.law_replanning.specs.Memories.{all_hold_fitting}
 use Rattle.iterations.specs.Written.{written_plans}
 use Rattle.iterations.specs.Performed.{moment}
 use Rattle.iterations.proofs.Outside.{IsGoing}
-use Rattle.iterations.proofs.ends.write_persons.Given as goal
+use Rattle.iterations.proofs.ends.write_plans.Given as goal
 
 abbrev pub invariant-loop-rest : goal.invariant-loop-rest
 invariant-loop-rest g l = record {

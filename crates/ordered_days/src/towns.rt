@@ -104,21 +104,28 @@ const WALK_BY_HOLES: &[(InFile, &str)] = &[
 const STROLL: &str = "person,plan,kind,name,link,time,route\n\
     p1,0,act,home,L1,100,\np1,0,leg,walk,,1,\np1,0,act,work,L3,,\n";
 
-/// Two who come to one link over two others at once, of which a random number lets one go first.
+/// Two links into the third node, and one out of it with room for one vehicle.
+const JOINING: &str = "link,from,to,length,speed,capacity,lanes\n\
+    L1,A,C,10000,1000,1000,1\nL2,B,C,10000,1000,2000,1\nL3,C,D,50,1000,3600,1\n";
+
+const TWO: &str = "person,plan,kind,name,link,time,route\n\
+    p1,0,act,home,L1,100,\np1,0,leg,car,,,L1 L3\np1,0,act,work,L3,,\n\
+    p2,0,act,home,L2,100,\np2,0,leg,car,,,L2 L3\np2,0,act,work,L3,,\n";
+
+/// Two who come to one link over two others at once, of which a random number lets one go first: it is the first link's turn.
 const MERGE: &[(InFile, &str)] = &[
     (InFile::Settings, "{\"end_second\":120}"),
     (InFile::Nodes, FOUR),
-    (
-        InFile::Links,
-        "link,from,to,length,speed,capacity,lanes\n\
-        L1,A,C,10000,1000,1000,1\nL2,B,C,10000,1000,2000,1\nL3,C,D,50,1000,3600,1\n",
-    ),
-    (
-        InFile::Plans,
-        "person,plan,kind,name,link,time,route\n\
-        p1,0,act,home,L1,100,\np1,0,leg,car,,,L1 L3\np1,0,act,work,L3,,\n\
-        p2,0,act,home,L2,100,\np2,0,leg,car,,,L2 L3\np2,0,act,work,L3,,\n",
-    ),
+    (InFile::Links, JOINING),
+    (InFile::Plans, TWO),
+];
+
+/// The same with another random number, by which it is the second link's turn.
+const MERGE_OTHERWISE: &[(InFile, &str)] = &[
+    (InFile::Settings, "{\"end_second\":120,\"seed\":1}"),
+    (InFile::Nodes, FOUR),
+    (InFile::Links, JOINING),
+    (InFile::Plans, TWO),
 ];
 
 /// Two who want a bus of one seat, which crosses two borders with the one who got it.
@@ -199,7 +206,7 @@ static JAMS: [Case; 4] = [
     },
 ];
 
-static OTHERS: [Case; 5] = [
+static OTHERS: [Case; 6] = [
     Case {
         texts: WALK,
         nodes: 4,
@@ -214,6 +221,12 @@ static OTHERS: [Case; 5] = [
     },
     Case {
         texts: MERGE,
+        nodes: 4,
+        events: 20,
+        last: 104,
+    },
+    Case {
+        texts: MERGE_OTHERWISE,
         nodes: 4,
         events: 20,
         last: 104,

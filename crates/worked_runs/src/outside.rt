@@ -379,6 +379,30 @@ fn cut_files_are_done_or_refused(rt: HostRuntime) {
     }
 }
 
+/// links.csv whose second row ends behind its second comma.
+const CUT_LINKS: &str = "link,from,to,length,speed,capacity,lanes\nL1,A,B,10000,1000,3600,1\nL2,B,";
+
+/// Whether a command on that day refuses these links with this line alone.
+fn are_links_refused<R: Threads + Wait + Sync>(
+    rt: &R,
+    alloc: Global,
+    command: &str,
+    links: &str,
+    line: &str,
+) -> bool {
+    let (status, outputs) = outputs_with(rt, alloc, command, InFile::Links, links);
+    status == Status::Refused && are_written(&outputs, line, "")
+}
+
+/// A row that is cut is refused by its number, as one with too few fields.
+#[test]
+fn a_cut_row_is_named(rt: HostRuntime) {
+    let line = "refused,links.csv,2,2,FieldCount\n";
+    assert!(rt; LINKS.as_bytes().starts_with(CUT_LINKS.as_bytes()));
+    assert!(rt; are_links_refused(&rt, rt.alloc(), "run", CUT_LINKS, line));
+    assert!(rt; are_links_refused(&rt, rt.alloc(), "check", CUT_LINKS, line));
+}
+
 /// The second node's name has the byte 255, with which no text has a character: it is a wrong name like any other.
 #[test]
 fn a_byte_of_no_text_is_refused(rt: HostRuntime) {

@@ -29,6 +29,14 @@ static MOVING: Case = Case {
     ..WALK
 };
 
+/// The same where a hole takes twenty seconds along a link.
+static MOVING_WITH_HOLES: Case = Case {
+    settings: "{\"end_second\":3600,\"last_iteration\":2,\"weight_keep\":0,\"weight_time\":1,\"hole_speed\":500}",
+    nodes: APART,
+    plans: "p1,0,act,home,L1,100,\np1,0,leg,walk,,1,\np1,0,act,work,L3,,\n",
+    ..WALK
+};
+
 /// The words of runs that are computed in other ways.
 static RUNS: [&[&str]; 11] = [
     &["qsim", "run", "--partitions", "2"],
@@ -105,6 +113,11 @@ fn count_same<R: Threads + Wait + Sync>(rt: &R, alloc: Global, case: &Case) -> u
 fn runs_write_the_same(rt: HostRuntime) {
     assert_eq!(rt; count_same(&rt, rt.alloc(), &BUSES), 11);
     assert_eq!(rt; count_same(&rt, rt.alloc(), &MOVING), 11);
+}
+
+#[test]
+fn runs_with_holes_write_the_same(rt: HostRuntime) {
+    assert_eq!(rt; count_same(&rt, rt.alloc(), &MOVING_WITH_HOLES), 11);
 }
 
 /// What a run that is stopped at a save and goes on writes on the way, computed in this way and then in that one.

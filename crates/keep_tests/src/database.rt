@@ -1,7 +1,7 @@
 //! The keeper in a database.
 
 use edge_files::{KeepFail, Keeper};
-use keep_sql::{Fault, SqlKeeper, pack, unpack};
+use keep_sql::{Fault, SqlKeeper, Tells, pack, unpack};
 use kept_tables::{Kept, ONE, TWO, are_rows, holds, holds_nothing, rows_of, saves};
 use sqlite::{Connection, Error, MemStore, params};
 use std::alloc::Global;
@@ -15,19 +15,24 @@ fn keeper_of(alloc: Global) -> Option<SqlKeeper<MemStore>> {
 }
 
 /// Whether a keeper takes rows, and then holds these and no others.
-fn keeps(alloc: Global, keeper: &mut SqlKeeper<MemStore>, iteration: u32, table: &[Kept]) -> bool {
+fn keeps<K: Keeper>(alloc: Global, keeper: &mut K, iteration: u32, table: &[Kept]) -> bool {
     saves(alloc, keeper, iteration, table) && holds(alloc, keeper, iteration, table)
 }
 
-/// Whether the last rows that are saved are kept, where there are none too.
+/// Whether a keeper that holds nothing keeps the last rows that are saved, where there are none too.
+fn keeps_each<K: Keeper>(alloc: Global, keeper: &mut K) -> bool {
+    holds_nothing(alloc, keeper)
+        && keeps(alloc, keeper, 3, &TWO)
+        && keeps(alloc, keeper, 4, &ONE)
+        && keeps(alloc, keeper, 5, &[])
+}
+
+/// Whether a new keeper does so.
 fn keeps_the_last(alloc: Global) -> bool {
     let Some(mut keeper) = keeper_of(alloc) else {
         return false;
     };
-    let kept = holds_nothing(alloc, &mut keeper)
-        && keeps(alloc, &mut keeper, 3, &TWO)
-        && keeps(alloc, &mut keeper, 4, &ONE)
-        && keeps(alloc, &mut keeper, 5, &[]);
+    let kept = keeps_each(alloc, &mut keeper);
     drop(keeper);
     kept
 }
@@ -58,7 +63,7 @@ fn put_body(connection: &mut Connection<MemStore>, body: &[u8]) -> bool {
 }
 
 /// Whether a keeper tells the iteration of a body that packs no rows, and does not load it.
-fn refuses_the_body(alloc: Global, keeper: &mut SqlKeeper<MemStore>) -> bool {
+fn refuses_the_body<S: Tells>(alloc: Global, keeper: &mut SqlKeeper<S>) -> bool {
     let mut rows = Vec::new(alloc);
     keeper.last() == Ok(Some(3))
         && keeper.load(&mut rows) == Err(KeepFail::Failed)
@@ -85,7 +90,7 @@ fn make_table(connection: &mut Connection<MemStore>) -> bool {
 }
 
 /// Whether a keeper fails at each call, and says that the database refused it.
-fn refuses_the_table(keeper: &mut SqlKeeper<MemStore>) -> bool {
+fn refuses_the_table<S: Tells>(keeper: &mut SqlKeeper<S>) -> bool {
     keeper.last() == Err(KeepFail::Failed)
         && keeper.save(1, &[]) == Err(KeepFail::Failed)
         && matches!(

@@ -1,12 +1,12 @@
 //! Rows of memories, and memories of rows.
 
-use edge_files::{Bytes, InFile};
+use edge_files::InFile;
 use keep::{KeptError, memories_of};
-use kept_tables::{Kept, are_rows, bytes_of, rows_of};
-use scenario::{Files, Scenario, assemble};
+use kept_tables::{Kept, are_rows, rows_of};
 use std::alloc::Global;
 use std::thread::Threads;
 use town::Town;
+use town_fixtures::{Fixture, fixture_of};
 
 static NODES: &str = "node,x,y\nA,0,0\nB,0,0\nC,0,0\n";
 
@@ -16,18 +16,14 @@ static LINKS: &str =
 static PLANS: &str = "person,plan,kind,name,link,time,route\n\
     p1,0,act,home,L1,100,\np1,0,leg,car,,,L1 L2\np1,0,act,work,L2,,\np2,0,act,home,L1,,\n";
 
-/// A file that is not too long, with this text.
-fn text_of(alloc: Global, text: &str) -> Option<Bytes> {
-    Some(bytes_of(alloc, text))
-}
-
 /// Two persons on two links.
-fn scenario_of<R: Threads + Sync>(rt: &R, alloc: Global) -> Option<Scenario> {
-    let mut files = Files::new(alloc);
-    files.put(InFile::Nodes, text_of(alloc, NODES));
-    files.put(InFile::Links, text_of(alloc, LINKS));
-    files.put(InFile::Plans, text_of(alloc, PLANS));
-    assemble(rt, alloc, &files).ok()
+fn two_persons<R: Threads + Sync>(rt: &R, alloc: Global) -> Option<Fixture> {
+    let texts = [
+        (InFile::Nodes, NODES),
+        (InFile::Links, LINKS),
+        (InFile::Plans, PLANS),
+    ];
+    fixture_of(rt, alloc, &texts)
 }
 
 /// A plan of the first person, which he has tried.
@@ -195,17 +191,23 @@ fn are_kept_again(alloc: Global, town: &Town, table: &[Kept]) -> bool {
     }
 }
 
-/// Whether the tables show what they should, in the town of the files.
-fn reads_rows<R: Threads + Sync>(rt: &R, alloc: Global) -> bool {
-    let Some(scenario) = scenario_of(rt, alloc) else {
-        return false;
-    };
-    let town = &scenario.town;
+/// Whether the tables show what they should in this town.
+fn read_in(alloc: Global, town: &Town) -> bool {
     are_kept_again(alloc, town, &BOTH)
         && are_kept_again(alloc, town, &SIX)
         && counts_show(alloc, town)
         && numbers_show(alloc, town)
         && names_show(alloc, town)
+}
+
+/// Whether they do so in the town of the files.
+fn reads_rows<R: Threads + Sync>(rt: &R, alloc: Global) -> bool {
+    let Some(fixture) = two_persons(rt, alloc) else {
+        return false;
+    };
+    let read = read_in(alloc, &fixture.town);
+    drop(fixture);
+    read
 }
 
 #[test]

@@ -138,7 +138,7 @@ fn with_execution<'a>(
     let partitions = count_option(
         alloc,
         "partitions",
-        "Among how many partitions the network is divided, from 1 to 64; 1 where it is not given. Choose one for each core",
+        "Among how many partitions the network is divided, from 1 to 64; 1 where it is not given. Choose some four for each core",
     );
     let workers = count_option(
         alloc,

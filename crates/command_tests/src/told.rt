@@ -29,6 +29,10 @@ static HELP: [(&[&str], &str); 15] = [
         "from 1 to 64; 1 where it is not given. Choose one for each core\n",
     ),
     (
+        &["qsim", "run", "--help"],
+        "from 1 to 64; 1 where it is not given. Choose some four for each core\n",
+    ),
+    (
         &["qsim", "resume", "-h"],
         "so that its events need not fit into memory\n",
     ),

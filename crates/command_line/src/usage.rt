@@ -14,8 +14,8 @@ Usage: qsim run [--partitions N] [--workers N] [--stream]
        qsim generate SIZE SEED [--last-iteration N] [--partitions N] [--workers N] [--stream]
                                     does what run does, with a generated town of SIZE times SIZE nodes; reads no file
 With --partitions each day is computed in so many parts of the network, from 1 to 64, with --workers by so many threads, from 1 to 64:
-choose one of each for each core. With --stream the lines of events.csv are written while a day runs, and a day's events need not fit
-into memory. No byte of what a finished run has written depends on any of them.
+choose some four partitions and one worker for each core. With --stream the lines of events.csv are written while a day runs, and a
+day's events need not fit into memory. No byte of what a finished run has written depends on any of them.
 
 Reads:";
 

@@ -5,12 +5,15 @@ use command_line::Asked;
 use std::alloc::Global;
 
 /// Words that ask for help, and a part of what is told: of all commands, or of one.
-static HELP: [(&[&str], &str); 15] = [
+static HELP: [(&[&str], &str); 16] = [
     (&["qsim", "-h"], "qsim run "),
     (&["qsim", "--help", "x"], "qsim check "),
     (&["qsim", "--help"], "qsim route FROM TO SECOND "),
     (&["qsim", "-h"], " signals.csv\n"),
-    (&["qsim", "-h"], "choose one of each for each core."),
+    (
+        &["qsim", "-h"],
+        "choose some four partitions and one worker for each core.",
+    ),
     (
         &["qsim", "-h"],
         "into memory. No byte of what a finished run has written",
@@ -68,5 +71,5 @@ fn count_helped(alloc: Global) -> usize {
 
 #[test]
 fn help_is_told(rt: HostRuntime) {
-    assert_eq!(rt; count_helped(rt.alloc()), 15);
+    assert_eq!(rt; count_helped(rt.alloc()), 16);
 }

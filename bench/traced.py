@@ -1,5 +1,5 @@
 """A program under ptrace, for the programs beside this file: its registers, and how long its functions take. Linux on x86-64 alone."""
-import ctypes, os, pathlib, signal, subprocess, sys, tempfile, threading, time, typing
+import collections, ctypes, os, pathlib, signal, subprocess, sys, tempfile, threading, time, typing
 from runs import Run
 
 TRACE_ME, STEP, GET_REGISTERS, SET_REGISTERS, CONTINUE, CONTINUE_TO_CALL, SET_OPTIONS = 0, 9, 12, 13, 7, 24, 0x4200
@@ -29,14 +29,20 @@ def set_registers(thread, registers):
     traced(SET_REGISTERS, thread, 0, ctypes.addressof(registers))
 
 
+def stolen():
+    """Seconds of its processors, all together, that the machine has been denied since it began."""
+    return int(pathlib.Path("/proc/stat").read_text().split(None, 9)[8]) / os.sysconf("SC_CLK_TCK")
+
+
 class Moment(typing.NamedTuple):
-    """Seconds of the clock, and of the processor that the program has had."""
+    """Seconds of the clock, of the processor that the program has had, and of processors that the machine has been denied."""
 
     clock: float
     processor: float
+    stolen: float
 
     def since(self, earlier):
-        return Moment(self.clock - earlier.clock, self.processor - earlier.processor)
+        return Moment(*(here - there for here, there in zip(self, earlier)))
 
 
 class Call(typing.NamedTuple):
@@ -50,16 +56,27 @@ class Call(typing.NamedTuple):
         return self.left.since(self.entered)
 
 
-def places_of(program, names):
+def functions_of(program):
     """Where the functions begin, from the start of the program in memory on; a function is named without what stands for its types."""
-    found = {}
+    found = collections.defaultdict(list)
     for line in subprocess.run(["nm", program], capture_output=True, text=True, check=True).stdout.splitlines():
         place, kind, name = line.split(" ", 2) if line[0] != " " else ("0", "U", "")
-        if kind in "tT" and name.split("::<")[0] in names:
-            found[int(place, 16)] = name.split("::<")[0]
-    if missing := [name for name in names if list(found.values()).count(name) != 1]:
-        sys.exit(f"{program} has not just one function of its own for {', '.join(missing)}")
+        if kind in "tT":
+            found[name.split("::<")[0]].append(int(place, 16))
     return found
+
+
+def has_own(program, name):
+    """Whether the program has just one function of its own for this one: the compiler may have made several, or put it into its callers."""
+    return len(functions_of(program)[name]) == 1
+
+
+def places_of(program, names):
+    """Where these functions begin."""
+    found = functions_of(program)
+    if missing := [name for name in names if len(found[name]) != 1]:
+        sys.exit(f"{program} has not just one function of its own for {', '.join(missing)}")
+    return {found[name][0]: name for name in names}
 
 
 class Stops:
@@ -87,7 +104,7 @@ class Stops:
         os.pwrite(self.memory, self.under.pop(place), place)
 
     def now(self):
-        return Moment(time.monotonic(), time.clock_gettime(~self.process << 3 | 2))
+        return Moment(time.monotonic(), time.clock_gettime(~self.process << 3 | 2), stolen())
 
     def at_stop(self):
         """Whether the program stands where a function begins or has come back; it is set to go on from there."""

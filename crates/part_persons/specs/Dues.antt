@@ -23,7 +23,7 @@ abbrev pub lands_in : ℕ → Option ℕ → Option ℕ
 lands_in start None = None
 lands_in start (Some seconds) = Some (start + seconds)
 
--- the second in which a person at this place, on this leg, has something to do by himself: his activity or his flight ends
+-- the second in which a person at this place, on this leg, has something to do by himself: his activity or his teleported leg ends
 abbrev pub due_at_place : Leg → Place → Option ℕ
 due_at_place w (At end) = end
 due_at_place w (Teleporting start) = lands_in start (seconds_of w)

@@ -1,4 +1,4 @@
-//! The departures of a part by their seconds.
+//! The departures of a partition by their seconds.
 
 ghost use Rattle.std.specs.Prelude.{◌≡◌, ℕ, ◌<◌, ◌≤◌, ◌++◌, [], ◌∷◌, ◌&&◌, ◌==◌, if◌then◌else◌};
 ghost use Rattle.std.specs.Prelude.{get_or, length, OnOk, IfOk};
@@ -38,12 +38,12 @@ fn first_link_of(routes: &RouteList, number: u32) -> u32
     0
 }
 
-/// Whether a departure starts on a link of this part.
-fn starts_in(day: &DayInput, owner: &Owner, part: u32, row: DepartureRow) -> bool
-    ensures { result ≡ is_start day.now (owner_in owner.now.of_node) part row }
+/// Whether a departure starts on a link of this partition.
+fn starts_in(day: &DayInput, owner: &Owner, partition: u32, row: DepartureRow) -> bool
+    ensures { result ≡ is_start day.now (owner_in owner.now.of_node) partition row }
 {
     let link = first_link_of(&day.town.routes.rows, row.route);
-    owner_of_link(day, owner, link) == part
+    owner_of_link(day, owner, link) == partition
 }
 
 /// A departure starts in this second, if that is before the end.
@@ -62,40 +62,40 @@ fn add_departure(
     Ok(())
 }
 
-/// A departure of this part starts in its second, if that is before the end.
+/// A departure of this partition starts in its second, if that is before the end.
 fn add_if_own(
     day: &DayInput,
     owner: &Owner,
-    part: u32,
+    partition: u32,
     number: u32,
     row: DepartureRow,
     calendar: &mut Calendar,
 ) -> Result<(), AllocError>
     ensures { OnOk result ((u : ℕ) → u < day.now.town.now.settings.end_second → due_at u calendar.new
-        ≡ (if is_due day.now (owner_in owner.now.of_node) part u row then due_at u calendar.old ++ number ∷ []
+        ≡ (if is_due day.now (owner_in owner.now.of_node) partition u row then due_at u calendar.old ++ number ∷ []
         else due_at u calendar.old)) }
 {
-    if !starts_in(day, owner, part, row) {
+    if !starts_in(day, owner, partition, row) {
         return Ok(());
     }
     add_departure(calendar, day.town.settings.end_second, row.second, number)
 }
 
-/// The numbers of those of these departures that start in this part, by their seconds, where those are before the end.
+/// The numbers of those of these departures that start in this partition, by their seconds, where those are before the end.
 fn by_second(
     alloc: Global,
     day: &DayInput,
     owner: &Owner,
-    part: u32,
+    partition: u32,
     departures: &[DepartureRow],
 ) -> Result<Calendar, AllocError>
     requires { length departures.now ≤ MAX_DEPARTURES }
     ensures { IfOk result (λ calendar. (u : ℕ) → u < day.now.town.now.settings.end_second
-        → due_at u calendar ≡ numbers_where (is_due day.now (owner_in owner.now.of_node) part u) 0 departures.now) }
+        → due_at u calendar ≡ numbers_where (is_due day.now (owner_in owner.now.of_node) partition u) 0 departures.now) }
 {
     let mut calendar = Calendar::new(alloc);
     for (number, row) in departures.iter().enumerate() {
-        add_if_own(day, owner, part, number as u32, *row, &mut calendar)?;
+        add_if_own(day, owner, partition, number as u32, *row, &mut calendar)?;
     }
     Ok(calendar)
 }
@@ -105,18 +105,18 @@ fn list_by_second(
     alloc: Global,
     day: &DayInput,
     owner: &Owner,
-    part: u32,
+    partition: u32,
     departures: &DepartureList,
 ) -> Result<Calendar, AllocError>
     requires { length departures.now ≤ MAX_DEPARTURES }
     ensures { IfOk result (λ calendar. (u : ℕ) → u < day.now.town.now.settings.end_second
-        → due_at u calendar ≡ numbers_where (is_due day.now (owner_in owner.now.of_node) part u) 0 departures.now) }
+        → due_at u calendar ≡ numbers_where (is_due day.now (owner_in owner.now.of_node) partition u) 0 departures.now) }
 {
-    let calendar = by_second(alloc, day, owner, part, &departures.rows)?;
+    let calendar = by_second(alloc, day, owner, partition, &departures.rows)?;
     Ok(calendar)
 }
 
-/// The departures of each second of a day that start on a link of a part, by number.
+/// The departures of each second of a day that start on a link of a partition, by number.
 ///
 /// # Errors
 ///
@@ -125,11 +125,11 @@ pub fn departures_by_second(
     alloc: Global,
     day: &DayInput,
     owner: &Owner,
-    part: u32,
+    partition: u32,
 ) -> Result<Calendar, AllocError>
     ensures { IfOk result (λ calendar. (u : ℕ) → u < day.now.town.now.settings.end_second
-        → due_at u calendar ≡ own_departs_in (setup day.now) (owner_in owner.now.of_node) part u) }
+        → due_at u calendar ≡ own_departs_in (setup day.now) (owner_in owner.now.of_node) partition u) }
 {
-    let calendar = list_by_second(alloc, day, owner, part, &day.town.departures.rows)?;
+    let calendar = list_by_second(alloc, day, owner, partition, &day.town.departures.rows)?;
     Ok(calendar)
 }

@@ -51,14 +51,14 @@ fn landing_second(end: u32, start: u32, seconds: u32) -> Option<u32>
 }
 
 /// The second of the day in which the activity or the teleported leg of a person ends.
-pub(crate) fn person_due(day: &DayInput, number: u32, person: Person) -> Option<u32>
-    requires { number < length day.now.chosen.now }
-    ensures { result ≡ within day.now.town.now.settings.end_second (person_due (setup day.now) number person) }
+pub(crate) fn person_due(day: &DayInput, person: u32, state: Person) -> Option<u32>
+    requires { person < length day.now.chosen.now }
+    ensures { result ≡ within day.now.town.now.settings.end_second (person_due (setup day.now) person state) }
 {
     let end_second = day.town.settings.end_second;
-    match person.place {
+    match state.place {
         Place::At { end } => within(end_second, end),
-        Place::Teleporting { start } => match seconds_in(chosen_plan(day, number), person.element) {
+        Place::Teleporting { start } => match seconds_in(chosen_plan(day, person), state.element) {
             None => None,
             Some(seconds) => landing_second(end_second, start, seconds),
         },

@@ -10,7 +10,7 @@ use std::alloc::AllocError;
 use town::DayInput;
 use traffic::{Occurrence, Person};
 
-/// A person is looked at when his activity or his flight ends, if it does in the day.
+/// A person is looked at when his activity or his teleported leg ends, if it does in the day.
 pub(crate) fn follow(
     day: &DayInput,
     persons: &[Person],
@@ -65,8 +65,8 @@ pub(crate) fn follow_everybody(
     ensures followed { (t : ℕ) → OnOk result (AreFollowedIn day.now t persons.now wakes.new) }
     ensures wakes { OnOk result (length wakes.new ≡ length wakes.old) }
 {
-    for number in 0..day.town.book.persons.len() {
-        follow(day, persons, Some(number), wakes)?;
+    for person in 0..day.town.book.persons.len() {
+        follow(day, persons, Some(person), wakes)?;
     }
     Ok(())
 }

@@ -1,4 +1,4 @@
-//! Who begins a day in a part of its network.
+//! Who begins a day in one partition of its network.
 
 ghost use Rattle.std.specs.Prelude.{◌≡◌, ◌<◌, length, set};
 ghost use Rattle.partition.specs.Owned.{owner_in};
@@ -22,45 +22,45 @@ pub(crate) fn nobody() -> Person
     }
 }
 
-/// Whether the first activity of a person's plan is on a link of this part.
-fn begins_day_in(day: &DayInput, owner: &Owner, part: u32, number: u32) -> bool
-    requires { number < length day.now.chosen.now }
-    ensures { result ≡ begins_day_in (setup day.now) (owner_in owner.now.of_node) part number }
+/// Whether the first activity of a person's plan is on a link of this partition.
+fn begins_day_in(day: &DayInput, owner: &Owner, partition: u32, person: u32) -> bool
+    requires { person < length day.now.chosen.now }
+    ensures { result ≡ begins_day_in (setup day.now) (owner_in owner.now.of_node) partition person }
 {
-    let first = act_in(chosen_plan(day, number), 0);
-    owner_of_link(day, owner, first.link) == part
+    let first = act_in(chosen_plan(day, person), 0);
+    owner_of_link(day, owner, first.link) == partition
 }
 
-/// Nobody stands for a person who does not begin the day in this part.
-fn keep_if_own(day: &DayInput, owner: &Owner, part: u32, number: u32, persons: &mut [Person])
-    requires there { number < length persons.old }
+/// Nobody stands for a person who does not begin the day in this partition.
+fn keep_if_own(day: &DayInput, owner: &Owner, partition: u32, person: u32, persons: &mut [Person])
+    requires there { person < length persons.old }
     requires plans { length persons.old ≡ length day.now.chosen.now }
-    ensures { persons.new ≡ set persons.old number
-        (kept_row (begins_day_in (setup day.now) (owner_in owner.now.of_node) part) persons.old number) }
+    ensures { persons.new ≡ set persons.old person
+        (kept_row (begins_day_in (setup day.now) (owner_in owner.now.of_node) partition) persons.old person) }
 {
-    if !begins_day_in(day, owner, part, number) {
-        persons[number as usize] = nobody();
+    if !begins_day_in(day, owner, partition, person) {
+        persons[person as usize] = nobody();
     }
 }
 
 /// So for each of these persons.
-fn keep_own(day: &DayInput, owner: &Owner, part: u32, persons: &mut [Person])
+fn keep_own(day: &DayInput, owner: &Owner, partition: u32, persons: &mut [Person])
     requires names { length day.now.town.now.book.persons ≡ length day.now.chosen.now }
     requires plans { length persons.old ≡ length day.now.chosen.now }
-    ensures { persons.new ≡ kept_rows (begins_day_in (setup day.now) (owner_in owner.now.of_node) part) persons.old }
+    ensures { persons.new ≡ kept_rows (begins_day_in (setup day.now) (owner_in owner.now.of_node) partition) persons.old }
 {
-    for number in 0..day.town.book.persons.len() {
-        keep_if_own(day, owner, part, number, persons);
+    for person in 0..day.town.book.persons.len() {
+        keep_if_own(day, owner, partition, person, persons);
     }
 }
 
 /// So for each person of a world.
-pub(crate) fn keep_own_in(day: &DayInput, owner: &Owner, part: u32, world: &mut World)
+pub(crate) fn keep_own_in(day: &DayInput, owner: &Owner, partition: u32, world: &mut World)
     requires names { length day.now.town.now.book.persons ≡ length day.now.chosen.now }
     requires plans { length world.old.persons ≡ length day.now.chosen.now }
     ensures { world.new ≡ record world.old {
-      persons = kept_rows (begins_day_in (setup day.now) (owner_in owner.now.of_node) part) world.old.persons;
+      persons = kept_rows (begins_day_in (setup day.now) (owner_in owner.now.of_node) partition) world.old.persons;
     } }
 {
-    keep_own(day, owner, part, &mut world.persons);
+    keep_own(day, owner, partition, &mut world.persons);
 }

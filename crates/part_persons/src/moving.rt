@@ -16,42 +16,42 @@ use town::DayInput;
 use traffic::Person;
 
 /// The person of this number has this row from now on.
-fn put_row(persons: &mut [Person], number: u32, person: Person)
-    requires { number < length persons.old }
-    ensures { persons.new ≡ set persons.old number person }
+fn put_row(persons: &mut [Person], person: u32, state: Person)
+    requires { person < length persons.old }
+    ensures { persons.new ≡ set persons.old person state }
 {
-    persons[number as usize] = person;
+    persons[person as usize] = state;
 }
 
 /// The same in a world.
-fn put_person(world: &mut World, number: u32, person: Person)
-    requires { number < length world.old.persons }
-    ensures { world.new ≡ record world.old { persons = set world.old.persons number person } }
+fn put_person(world: &mut World, person: u32, state: Person)
+    requires { person < length world.old.persons }
+    ensures { world.new ≡ record world.old { persons = set world.old.persons person state } }
 {
-    put_row(&mut world.persons, number, person);
+    put_row(&mut world.persons, person, state);
 }
 
 /// Nobody stands for the person of this number in a world from now on.
-fn take_out(world: &mut World, number: u32)
-    requires { number < length world.old.persons }
-    ensures { world.new ≡ record world.old { persons = set world.old.persons number nobody } }
+fn take_out(world: &mut World, person: u32)
+    requires { person < length world.old.persons }
+    ensures { world.new ≡ record world.old { persons = set world.old.persons person nobody } }
 {
-    put_row(&mut world.persons, number, nobody());
+    put_row(&mut world.persons, person, nobody());
 }
 
 /// A person of a world is looked at when it is his time.
 fn follow_in(
     day: &DayInput,
-    number: u32,
+    person: u32,
     world: &World,
     wakes: &mut Wakes,
 ) -> Result<(), AllocError>
     requires plans { length world.now.persons ≡ length day.now.chosen.now }
     requires wakes { length wakes.old ≡ length world.now.persons }
     ensures { OnOk result (wakes.new
-        ≡ followed (setup day.now) day.now.town.now.settings.end_second world.now.persons (Some number) wakes.old) }
+        ≡ followed (setup day.now) day.now.town.now.settings.end_second world.now.persons (Some person) wakes.old) }
 {
-    follow(day, &world.persons, Some(number), wakes)
+    follow(day, &world.persons, Some(person), wakes)
 }
 
 impl Persons {
@@ -60,32 +60,32 @@ impl Persons {
     /// # Errors
     ///
     /// `AllocError`: there is no memory for his second. The persons are then of no use.
-    pub fn take_in(&mut self, day: &DayInput, number: u32, person: Person) -> Result<(), AllocError>
+    pub fn take_in(&mut self, day: &DayInput, person: u32, state: Person) -> Result<(), AllocError>
         requires plans { length self.old.world.persons ≡ length day.now.chosen.now }
         requires wakes { length self.old.wakes ≡ length self.old.world.persons }
-        requires there { number < length self.old.world.persons }
+        requires there { person < length self.old.world.persons }
         ensures world { OnOk result (self.new.world
-            ≡ record self.old.world { persons = set self.old.world.persons number person }) }
+            ≡ record self.old.world { persons = set self.old.world.persons person state }) }
         ensures followed { (t : ℕ) → AreFollowedIn day.now t self.old.world.persons self.old.wakes
             → OnOk result (AreFollowedIn day.now t self.new.world.persons self.new.wakes) }
         ensures wakes { OnOk result (length self.new.wakes ≡ length self.new.world.persons) }
     {
-        put_person(&mut self.world, number, person);
-        follow_in(day, number, &self.world, &mut self.wakes)?;
+        put_person(&mut self.world, person, state);
+        follow_in(day, person, &self.world, &mut self.wakes)?;
         Ok(())
     }
 
     /// A person goes to another part; answers the row that he had. Nobody stands for him from then on, who has nothing to do by himself.
-    pub fn give_out(&mut self, number: u32) -> Person
-        requires { number < length self.old.world.persons }
-        ensures person { result ≡ person_of number self.old.world }
-        ensures world { self.new.world ≡ record self.old.world { persons = set self.old.world.persons number nobody } }
+    pub fn give_out(&mut self, person: u32) -> Person
+        requires { person < length self.old.world.persons }
+        ensures person { result ≡ person_of person self.old.world }
+        ensures world { self.new.world ≡ record self.old.world { persons = set self.old.world.persons person nobody } }
         ensures followed { (S : Setup) (end t : ℕ) → AreFollowed S end t self.old.world.persons self.old.wakes
             → AreFollowed S end t self.new.world.persons self.new.wakes }
         ensures wakes { self.new.wakes ≡ self.old.wakes }
     {
-        let person = person_of(&self.world, number);
-        take_out(&mut self.world, number);
-        person
+        let state = person_of(&self.world, person);
+        take_out(&mut self.world, person);
+        state
     }
 }

@@ -17,7 +17,7 @@ use person_moves::{World, start};
 use std::alloc::{AllocError, Global};
 use town::DayInput;
 
-/// The persons of a day, or those of a part of its network, and in which second each of them is next looked at.
+/// The persons of a day, or those of one partition of it, and in which second each of them is next looked at.
 #[derive(Drop)]
 pub struct Persons {
     /// A world that has their rows, where nobody stands for a person who is not there, and the rows of vehicles that they or departures let
@@ -39,8 +39,8 @@ fn first_wakes(alloc: Global, day: &DayInput, world: &World) -> Result<Wakes, Al
 }
 
 impl Persons {
-    /// The persons of a part at the start of a day, each at the first activity of the chosen plan. They are those whose first activity is
-    /// on a link of the part.
+    /// The persons of a partition at the start of a day, each at the first activity of the chosen plan. They are those whose first activity
+    /// is on a link of the partition.
     ///
     /// # Errors
     ///
@@ -49,18 +49,18 @@ impl Persons {
         alloc: Global,
         day: &DayInput,
         owner: &Owner,
-        part: u32,
+        partition: u32,
     ) -> Result<Persons, AllocError>
         requires { HaveFittingPlans day.now }
         ensures world { IfOk result (λ persons. persons.world ≡ record (world_start (setup day.now)) {
-          persons = own_persons (setup day.now) (owner_in owner.now.of_node) part;
+          persons = own_persons (setup day.now) (owner_in owner.now.of_node) partition;
         }) }
         ensures fit { IfOk result (λ persons. IsFitWorld (counts_in day.now) persons.world) }
         ensures followed { (t : ℕ) → IfOk result (λ persons. AreFollowedIn day.now t persons.world.persons persons.wakes) }
         ensures wakes { IfOk result (λ persons. length persons.wakes ≡ length persons.world.persons) }
     {
         let mut world = start(alloc, day)?;
-        keep_own_in(day, owner, part, &mut world);
+        keep_own_in(day, owner, partition, &mut world);
         let wakes = first_wakes(alloc, day, &world)?;
         Ok(Persons { world, wakes })
     }

@@ -10,5 +10,5 @@ pub loop-number-preserved : goal.loop-number-preserved
 loop-number-preserved c = λ u lt.
     let none : DepartureRow = record { route = 0; second = 0; seats = 0 } in
     c.in_ok-add_if_own.ensures u lt
-    ∙ added (is_due c.args.day.now (owner_in c.args.owner.now.of_node) c.args.part u) c.loop-number.number c.args.departures.now none
+    ∙ added (is_due c.args.day.now (owner_in c.args.owner.now.of_node) c.args.partition u) c.loop-number.number c.args.departures.now none
     (due_at u c.loop-number.calendar) c.loop-number-test.true (c.loop-number.invariant u lt)

@@ -5,16 +5,16 @@ use Rattle.part_persons.specs.Own.{begins_day_in}
 use Rattle.part_persons.proofs.Beginning.{kept_start, kept_more, kept_all}
 use Rattle.part_persons.proofs.homes.keep_own.Goals as goal
 
-pub loop-number-init : goal.loop-number-init
-loop-number-init c = kept_start (begins_day_in (setup c.args.day.now) (owner_in c.args.owner.now.of_node) c.args.part) c.args.persons.now
+pub loop-person-init : goal.loop-person-init
+loop-person-init c = kept_start (begins_day_in (setup c.args.day.now) (owner_in c.args.owner.now.of_node) c.args.partition) c.args.persons.now
 
-pub loop-number-preserved : goal.loop-number-preserved
-loop-number-preserved c =
-    kept_more (begins_day_in (setup c.args.day.now) (owner_in c.args.owner.now.of_node) c.args.part) c.loop-number.number c.args.persons.now
-    c.loop-number.persons c.keep_if_own.new.persons (let n = c.loop-number.invariant.count in omega arith) c.keep_if_own.ensures
-    c.loop-number.invariant
+pub loop-person-preserved : goal.loop-person-preserved
+loop-person-preserved c =
+    kept_more (begins_day_in (setup c.args.day.now) (owner_in c.args.owner.now.of_node) c.args.partition) c.loop-person.person c.args.persons.now
+    c.loop-person.persons c.keep_if_own.new.persons (let n = c.loop-person.invariant.count in omega arith) c.keep_if_own.ensures
+    c.loop-person.invariant
 
 pub returns : goal.returns
 returns c =
-    kept_all (begins_day_in (setup c.args.day.now) (owner_in c.args.owner.now.of_node) c.args.part) c.loop-number.number c.args.persons.now
-    c.loop-number.persons (omega arith) c.loop-number.invariant
+    kept_all (begins_day_in (setup c.args.day.now) (owner_in c.args.owner.now.of_node) c.args.partition) c.loop-person.person c.args.persons.now
+    c.loop-person.persons (omega arith) c.loop-person.invariant

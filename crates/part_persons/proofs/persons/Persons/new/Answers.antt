@@ -9,14 +9,14 @@ keep_own_in-requires-clause-plans c = one_each c.args.day.now _ (start_is_fit c.
 
 pub first_wakes-requires-clause-plans : goal.first_wakes-requires-clause-plans
 first_wakes-requires-clause-plans c =
-    one_each c.args.day.now _ (own_is_fit c.args.day.now (owner_in c.args.owner.now.of_node) c.args.part _ c.requires
-    (begun (setup c.args.day.now) (owner_in c.args.owner.now.of_node) c.args.part _ _ c.in_ok-world.ensures c.keep_own_in.ensures))
+    one_each c.args.day.now _ (own_is_fit c.args.day.now (owner_in c.args.owner.now.of_node) c.args.partition _ c.requires
+    (begun (setup c.args.day.now) (owner_in c.args.owner.now.of_node) c.args.partition _ _ c.in_ok-world.ensures c.keep_own_in.ensures))
 
 pub returns-clause-world : goal.returns-clause-world
 returns-clause-world c =
-    begun (setup c.args.day.now) (owner_in c.args.owner.now.of_node) c.args.part _ _ c.in_ok-world.ensures c.keep_own_in.ensures
+    begun (setup c.args.day.now) (owner_in c.args.owner.now.of_node) c.args.partition _ _ c.in_ok-world.ensures c.keep_own_in.ensures
 
 pub returns-clause-fit : goal.returns-clause-fit
 returns-clause-fit c =
-    own_is_fit c.args.day.now (owner_in c.args.owner.now.of_node) c.args.part _ c.requires
-    (begun (setup c.args.day.now) (owner_in c.args.owner.now.of_node) c.args.part _ _ c.in_ok-world.ensures c.keep_own_in.ensures)
+    own_is_fit c.args.day.now (owner_in c.args.owner.now.of_node) c.args.partition _ c.requires
+    (begun (setup c.args.day.now) (owner_in c.args.owner.now.of_node) c.args.partition _ _ c.in_ok-world.ensures c.keep_own_in.ensures)

@@ -9,12 +9,12 @@ use Rattle.part_persons.proofs.persons.Persons.take_in.Goals as goal
 
 pub returns-clause-followed : goal.returns-clause-followed
 returns-clause-followed c = λ t h.
-    one_followed (setup c.args.day.now) c.args.day.now.town.now.settings.end_second c.args.number c.args.person c.args.self.now.world.persons _
+    one_followed (setup c.args.day.now) c.args.day.now.town.now.settings.end_second c.args.person c.args.state c.args.self.now.world.persons _
     c.args.self.now.wakes _ c.requires.wakes (ap (λ (W : World). W.persons) c.put_person.ensures) c.in_ok-follow_in.ensures t h
 
 pub returns-clause-wakes : goal.returns-clause-wakes
 returns-clause-wakes c =
     ap length c.in_ok-follow_in.ensures
-    ∙ followed_length (setup c.args.day.now) c.args.day.now.town.now.settings.end_second c.put_person.new.world.persons (Some c.args.number)
+    ∙ followed_length (setup c.args.day.now) c.args.day.now.town.now.settings.end_second c.put_person.new.world.persons (Some c.args.person)
     c.args.self.now.wakes ∙ c.requires.wakes
-    ∙ sym (ap (λ (W : World). length W.persons) c.put_person.ensures ∙ length-set c.args.self.now.world.persons c.args.number c.args.person)
+    ∙ sym (ap (λ (W : World). length W.persons) c.put_person.ensures ∙ length-set c.args.self.now.world.persons c.args.person c.args.state)

@@ -30,15 +30,15 @@ pub struct Division {
 
 /// The border of a partition that a pair of neighbours makes: with the lag there for the greater of the two, and with the lag back for the
 /// lesser one.
-fn border_of(number: u32, pair: Pair, lags: LagPair) -> Option<Border>
-    ensures { result ≡ border_of number pair lags }
+fn border_of(partition: u32, pair: Pair, lags: LagPair) -> Option<Border>
+    ensures { result ≡ border_of partition pair lags }
 {
-    if pair.greater == number {
+    if pair.greater == partition {
         Some(Border {
             neighbour: pair.lesser,
             lag: lags.there,
         })
-    } else if pair.lesser == number {
+    } else if pair.lesser == partition {
         Some(Border {
             neighbour: pair.greater,
             lag: lags.back,
@@ -52,16 +52,16 @@ fn border_of(number: u32, pair: Pair, lags: LagPair) -> Option<Border>
 /// which the partition is the greater one come first.
 fn borders_among(
     alloc: Global,
-    number: u32,
+    partition: u32,
     pairs: &[Pair],
     lags: &[LagPair],
 ) -> Result<BorderList, AllocError>
     requires { length lags.now ≡ length pairs.now }
-    ensures { IfOk result (λ rows. rows ≡ borders_among number pairs.now lags.now) }
+    ensures { IfOk result (λ rows. rows ≡ borders_among partition pairs.now lags.now) }
 {
     let mut rows = Vec::new(alloc);
     for place in 0..pairs.len() {
-        match border_of(number, pairs[place], lags[place]) {
+        match border_of(partition, pairs[place], lags[place]) {
             Some(border) => rows.push(border)?,
             None => {}
         }
@@ -81,8 +81,8 @@ fn all_borders_among(
     ensures each { IfOk result (λ lists. (p : ℕ) → p < parts → get_or lists.items p [] ≡ borders_among p pairs.now lags.now) }
 {
     let mut lists = Vec::new(alloc);
-    for number in 0..parts {
-        lists.push(borders_among(alloc, number, pairs, lags)?)?;
+    for partition in 0..parts {
+        lists.push(borders_among(alloc, partition, pairs, lags)?)?;
     }
     Ok(lists)
 }

@@ -20,7 +20,7 @@ fn empty_lists(alloc: Global, parts: u32) -> Result<Vec<NumberList>, AllocError>
     ensures { IfOk result (λ lists. lists.items ≡ replicate parts []) }
 {
     let mut lists = Vec::new(alloc);
-    for _part in 0..parts {
+    for _partition in 0..parts {
         lists.push(NumberList {
             rows: Vec::new(alloc),
         })?;
@@ -29,11 +29,11 @@ fn empty_lists(alloc: Global, parts: u32) -> Result<Vec<NumberList>, AllocError>
 }
 
 /// A link comes to the end of a partition's list.
-fn add(lists: &mut Vec<NumberList>, part: u32, link: u32) -> Result<(), AllocError>
-    requires { part < length lists.old.items }
-    ensures { OnOk result (lists.new.items ≡ set lists.old.items part (get_or lists.old.items part [] ++ link ∷ [])) }
+fn add(lists: &mut Vec<NumberList>, partition: u32, link: u32) -> Result<(), AllocError>
+    requires { partition < length lists.old.items }
+    ensures { OnOk result (lists.new.items ≡ set lists.old.items partition (get_or lists.old.items partition [] ++ link ∷ [])) }
 {
-    let list = &mut lists[part as usize];
+    let list = &mut lists[partition as usize];
     list.rows.push(link)?;
     Ok(())
 }
@@ -52,8 +52,8 @@ pub(crate) fn links_that_end(
 {
     let mut lists = empty_lists(alloc, owner.parts)?;
     for link in 0..day.town.network.links.len() as u32 {
-        let part = owner_of_link(day, owner, link);
-        add(&mut lists, part, link)?;
+        let partition = owner_of_link(day, owner, link);
+        add(&mut lists, partition, link)?;
     }
     Ok(lists)
 }
@@ -73,17 +73,17 @@ pub(crate) fn links_that_begin(
     let mut lists = empty_lists(alloc, owner.parts)?;
     for link in 0..day.town.network.links.len() as u32 {
         let row = link_row(day, link);
-        let part = owner_of_node(&owner.of_node, row.from);
-        add(&mut lists, part, link)?;
+        let partition = owner_of_node(&owner.of_node, row.from);
+        add(&mut lists, partition, link)?;
     }
     Ok(lists)
 }
 
 /// The numbers in a partition's list, by a table that has one for each partition by number; a number that the table does not have has none.
-pub fn numbers_at(lists: &[NumberList], part: u32) -> &[u32]
-    ensures { result.now ≡ get_or lists.now part [] }
+pub fn numbers_at(lists: &[NumberList], partition: u32) -> &[u32]
+    ensures { result.now ≡ get_or lists.now partition [] }
 {
-    let place = part as usize;
+    let place = partition as usize;
     if place >= lists.len() {
         return &[];
     }

@@ -11,13 +11,13 @@ use std::alloc::{AllocError, Global};
 use town::DayInput;
 
 /// A link takes the next slot of a partition, where so many of each are taken; answers it.
-fn take_slot(part: u32, taken: &mut Vec<u32>) -> u32
-    requires there { part < length taken.old.items }
-    requires few { get_or taken.old.items part 0 < MAX_LINKS }
-    ensures slot { result ≡ get_or taken.old.items part 0 }
-    ensures taken { taken.new.items ≡ set taken.old.items part (result + 1) }
+fn take_slot(partition: u32, taken: &mut Vec<u32>) -> u32
+    requires there { partition < length taken.old.items }
+    requires few { get_or taken.old.items partition 0 < MAX_LINKS }
+    ensures slot { result ≡ get_or taken.old.items partition 0 }
+    ensures taken { taken.new.items ≡ set taken.old.items partition (result + 1) }
 {
-    let place = part as usize;
+    let place = partition as usize;
     let slot = taken[place];
     taken[place] = slot + 1;
     slot
@@ -38,8 +38,8 @@ pub(crate) fn link_slots(
     let mut taken = vec![in alloc; 0; owner.parts as usize]?;
     let mut slots = Vec::new(alloc);
     for link in 0..day.town.network.links.len() as u32 {
-        let part = owner_of_link(day, owner, link);
-        slots.push(take_slot(part, &mut taken))?;
+        let partition = owner_of_link(day, owner, link);
+        slots.push(take_slot(partition, &mut taken))?;
     }
     Ok(slots)
 }

@@ -6,7 +6,7 @@ use Rattle.divided_day.proofs.dividing.borders_among.Goals as goal
 
 pub loop-place-preserved : goal.loop-place-preserved
 loop-place-preserved c =
-    let p = c.args.number in
+    let p = c.args.partition in
     let pairs = c.args.pairs.now in
     let lags = c.args.lags.now in
     let k = c.loop-place.place in
@@ -25,6 +25,6 @@ loop-place-preserved c =
 
 pub returns : goal.returns
 returns c =
-    among_end c.args.number c.args.pairs.now c.args.lags.now c.loop-place.place c.loop-place.rows.items
-    (borders_among c.args.number c.args.pairs.now c.args.lags.now)
+    among_end c.args.partition c.args.pairs.now c.args.lags.now c.loop-place.place c.loop-place.rows.items
+    (borders_among c.args.partition c.args.pairs.now c.args.lags.now)
     c.loop-place-test.false c.loop-place.invariant

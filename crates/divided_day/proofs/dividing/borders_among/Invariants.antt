@@ -3,5 +3,5 @@ use Rattle.divided_day.specs.Borders.{borders_among}
 use Rattle.divided_day.proofs.dividing.borders_among.Given as goal
 
 abbrev pub invariant-loop-place : goal.invariant-loop-place
-invariant-loop-place l = l.rows.items ++ borders_among l.number (drop l.place l.pairs)
-    (drop l.place l.lags) ≡ borders_among l.number l.pairs l.lags
+invariant-loop-place l = l.rows.items ++ borders_among l.partition (drop l.place l.pairs)
+    (drop l.place l.lags) ≡ borders_among l.partition l.pairs l.lags

@@ -14,7 +14,7 @@ loop-link-init c =
 
 pub add-requires : goal.add-requires
 add-requires c =
-    let is = c.owner_of_node-part.ensures in
+    let is = c.owner_of_node-partition.ensures in
     let lt = c.args.owner.now.owned c.link_row-row.result.from in
     let all = c.loop-link.invariant.many in
     omega (arith, is, lt, all)
@@ -22,10 +22,10 @@ add-requires c =
 pub loop-link-preserved : goal.loop-link-preserved
 loop-link-preserved c =
     let own = owner_in c.args.owner.now.of_node in
-    let is = c.owner_of_node-part.ensures in
+    let is = c.owner_of_node-partition.ensures in
     let lt = c.args.owner.now.owned c.link_row-row.result.from in
     listed_more (begins_in (setup c.args.day.now) own) c.args.owner.now.parts c.loop-link.link c.loop-link.lists.items
-    c.add.new.lists.items c.owner_of_node-part.result (omega (arith, is, lt))
+    c.add.new.lists.items c.owner_of_node-partition.result (omega (arith, is, lt))
     (is ∙ ap (λ (row : LinkRow). own row.from) (sym c.link_row-row.ensures.row)) c.in_ok-add.ensures c.loop-link.invariant
 
 pub returns : goal.returns

@@ -14,17 +14,17 @@ loop-link-init c =
 
 pub add-requires : goal.add-requires
 add-requires c =
-    let is = c.owner_of_link-part.ensures in
+    let is = c.owner_of_link-partition.ensures in
     let lt = c.args.owner.now.owned (link_row (setup c.args.day.now) c.loop-link.link).to in
     let all = c.loop-link.invariant.many in
     omega (arith, is, lt, all)
 
 pub loop-link-preserved : goal.loop-link-preserved
 loop-link-preserved c =
-    let is = c.owner_of_link-part.ensures in
+    let is = c.owner_of_link-partition.ensures in
     let lt = c.args.owner.now.owned (link_row (setup c.args.day.now) c.loop-link.link).to in
     listed_more (owner_of (setup c.args.day.now) (owner_in c.args.owner.now.of_node)) c.args.owner.now.parts c.loop-link.link
-    c.loop-link.lists.items c.add.new.lists.items c.owner_of_link-part.result (omega (arith, is, lt)) is c.in_ok-add.ensures
+    c.loop-link.lists.items c.add.new.lists.items c.owner_of_link-partition.result (omega (arith, is, lt)) is c.in_ok-add.ensures
     c.loop-link.invariant
 
 pub returns : goal.returns

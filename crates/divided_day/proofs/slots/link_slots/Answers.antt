@@ -16,7 +16,7 @@ pub take_slot-requires-clause-there : goal.take_slot-requires-clause-there
 take_slot-requires-clause-there c =
     let own = owner_in c.args.owner.now.of_node in
     let S = setup c.args.day.now in
-    let is = c.owner_of_link-part.ensures in
+    let is = c.owner_of_link-partition.ensures in
     let lt = c.args.owner.now.owned (link_row S c.loop-link.link).to in
     let all = c.loop-link.invariant.all_parts in
     omega (arith, is, lt, all)
@@ -25,12 +25,12 @@ pub take_slot-requires-clause-few : goal.take_slot-requires-clause-few
 take_slot-requires-clause-few c =
     let own = owner_in c.args.owner.now.of_node in
     let S = setup c.args.day.now in
-    let is = c.owner_of_link-part.ensures in
+    let is = c.owner_of_link-partition.ensures in
     let lt = c.args.owner.now.owned (link_row S c.loop-link.link).to in
     let most = c.args.day.now.town.now.network.few_links in
     let short = few_taken S own c.args.owner.now.parts c.loop-link.link c.loop-link.taken.items c.loop-link.slots.items
     c.loop-link.invariant
-    c.owner_of_link-part.result (omega (arith, is, lt)) in
+    c.owner_of_link-partition.result (omega (arith, is, lt)) in
     omega (arith, short, most, c.loop-link-test.true, c.len-link-end.ensures)
 
 pub loop-link-preserved : goal.loop-link-preserved
@@ -38,13 +38,13 @@ loop-link-preserved c =
     let own = owner_in c.args.owner.now.of_node in
     let S = setup c.args.day.now in
     let n = c.loop-link.link in
-    let is = c.owner_of_link-part.ensures in
+    let is = c.owner_of_link-partition.ensures in
     let lt = c.args.owner.now.owned (link_row S n).to in
-    let part = c.owner_of_link-part.result in
+    let partition = c.owner_of_link-partition.result in
     subst (λ (xs : List ℕ). IsCounted S own c.args.owner.now.parts (n + 1) c.take_slot.new.taken.items xs) (sym c.in_ok-push.ensures.items)
     (counted_more S own c.args.owner.now.parts n c.loop-link.taken.items c.take_slot.new.taken.items c.loop-link.slots.items
     c.loop-link.invariant
-    part c.take_slot.result (omega (arith, is, lt)) is c.take_slot.ensures.slot c.take_slot.ensures.taken)
+    partition c.take_slot.result (omega (arith, is, lt)) is c.take_slot.ensures.slot c.take_slot.ensures.taken)
 
 pub returns : goal.returns
 returns c =

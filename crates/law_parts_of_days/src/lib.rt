@@ -18,11 +18,11 @@ ghost use Rattle.traffic.specs.Persons.{waiters};
 ghost use Rattle.traffic.specs.Day.{turns_in, after, events_in, told_in, second, second_events, world_at};
 ghost use Rattle.traffic.specs.Worlds.{OnePlace};
 ghost use Rattle.law_sound_setups.specs.Consistent.{IsConsistentSetup};
-ghost use Rattle.parts.specs.Owners.{near};
+ghost use Rattle.parts.specs.Owners.{Owner, near};
 ghost use Rattle.parts.specs.Parts.{part, held, ready};
 ghost use Rattle.law_partitions.specs.Alone.{alone, tells_alone};
 ghost use Rattle.law_parts_of_days.specs.Sole.{sole_owner};
-ghost use Rattle.law_parts_of_days.specs.Settling.{wake_ends, wake_starts};
+ghost use Rattle.law_parts_of_days.specs.Settling.{link_at, wake_ends, wake_starts};
 ghost use Rattle.part_places.specs.Taking.{times};
 
 /// A second has three steps: the phases of persons and departures, that of the nodes, and that of the links.
@@ -51,17 +51,19 @@ pub fn links_leave_holes()
         × (holes_at m (after S t (turns_in S t phase.D V) V) ≡ holes_at m V ++ replicate count t) }
 {}
 
-/// Once nodes were woken for the buffers of some links, a node that is not woken has nobody in those of them that lead into it.
+/// Once nodes were woken for the buffers of the links in some slots, a node that is not woken has nobody in those of them that lead into
+/// it.
 pub fn nodes_are_woken_for_vehicles()
-    ensures { (S : Setup) (t m l : ℕ) (links : List LinkView) (ns : List ℕ) (wakes : List (Option ℕ)) → m < length wakes
-        → wake_of (wake_ends S t links ns wakes) m ≢ Some (t + 1) → is_among l ns ≡ true → (link_row S l).to ≡ m
-        → (lane links l).lists.buffer ≡ [] }
+    ensures { (S : Setup) (t m k : ℕ) (links : List LinkView) (ns : List ℕ) (wakes : List (Option ℕ)) → m < length wakes
+        → wake_of (wake_ends S t links ns wakes) m ≢ Some (t + 1) → is_among k ns ≡ true → (link_row S (link_at links k)).to ≡ m
+        → (lane links k).lists.buffer ≡ [] }
 {}
 
-/// Once nodes were woken for places that came free on some links, none of these links begins at a node that is not woken.
+/// Once the nodes of a partition were woken for places that came free on some links, none of these links begins at a node of it that is not
+/// woken.
 pub fn nodes_are_woken_for_places()
-    ensures { (S : Setup) (t n m : ℕ) (ms : List ℕ) (wakes : List (Option ℕ)) → n < length wakes → m < length S.links
-        → (link_row S m).from ≡ n → wake_of (wake_starts S t ms wakes) n ≢ Some t → times m ms ≡ 0 }
+    ensures { (S : Setup) (own : Owner) (p t n m : ℕ) (ms : List ℕ) (wakes : List (Option ℕ)) → own n ≡ p → n < length wakes
+        → m < length S.links → (link_row S m).from ≡ n → wake_of (wake_starts S own p t ms wakes) n ≢ Some t → times m ms ≡ 0 }
 {}
 
 /// The partition that has all nodes holds the whole world of each second of the day, and has heard of everything; what it does and tells in

@@ -27,17 +27,41 @@ use Rattle.part_persons.specs.Dues.{AreFollowedIn}
 use Rattle.part_places.specs.declared.places.Places.{Places}
 use Rattle.part_places.specs.Taking.{AreTakenOf, IsFull, begins_here, still, times}
 use Rattle.part_seconds.specs.declared.area.Area.{Area}
-use Rattle.part_seconds.specs.Settling.{places_known, wake_own_starts}
+use Rattle.law_parts_of_days.specs.Settling.{wake_starts}
+use Rattle.part_seconds.specs.Settling.{places_known}
 use Rattle.divided_day.specs.Slots.{link_in, slot_count, AreSlots}
 use Rattle.part_seconds.specs.Slots.{extent_of}
 use Rattle.part_seconds.specs.Stands.{NetworkStands, AreaStands}
 use Rattle.part_seconds.proofs.Slots.{link_own}
 use Rattle.part_seconds.proofs.Knowing as knowing
 use Rattle.part_seconds.proofs.Knowing.{known_before}
-use Rattle.part_seconds.proofs.Waking.{starts_length, starts_spare, awaited_when_free}
+use Rattle.law_parts_of_days.proofs.Awaited.{starts_length}
+use Rattle.part_seconds.proofs.Waking.{starts_spare, awaited_when_free}
 
 place : ℕ → ℕ → ℕ → Option OutLink
 place n s k = Some (record { taken = n; storage = s; seconds = k })
+
+-- the network of a part in which the places of a second are free, and nodes are woken for them
+abbrev pub freed_network : Area → Places → List (Option ℕ) → NetworkState
+freed_network A P wakes = record A.network { places = P; node_wakes = wakes }
+
+-- What follows for the part of a partition once that is so in second t: its network stands for the world in which its nodes have their turns,
+-- and once they had these the part stands for what they make of it.
+pub record Begins (day : DayInput) (own : Owner) (p t : ℕ) (A : Area) (P : Places) (wakes : List (Option ℕ)) : Type 0 where
+  pub stands :
+      StandsForAt (counts_in day) (setup day) (extent_of (setup day) own p) day.town.now.settings.end_second t (freed_network A P wakes)
+      (world_early (setup day) own p t)
+  pub awaited :
+      AreAwaitedAt (λ n. eqb (own n) p) (setup day) day.town.now.settings.end_second (t + 1) t wakes (world_early (setup day) own p t)
+  pub crossed :
+      (C : Area) (first out : List Event) (spoken said : List Occurrence) (first_out gone : List Entering) → spoken ≡ []
+      → IsPhaseAt (counts_in day) (setup day) (extent_of (setup day) own p) day.town.now.settings.end_second t (world_early (setup day) own p t)
+      (freed_network A P wakes) C.network first out spoken said first_out gone
+      → C.persons.world ≡ record A.persons.world { persons = persons_after (setup day) t said A.persons.world.persons }
+      → ((u : ℕ) → AreFollowedIn day u A.persons.world.persons A.persons.wakes → AreFollowedIn day u C.persons.world.persons C.persons.wakes)
+      → length C.persons.wakes ≡ length C.persons.world.persons → C.departures ≡ A.departures → C.lines.items ≡ A.lines.items
+      → C.queues.items ≡ A.queues.items
+      → AreaStands day own p (t + 1) (t + 1) t C (held_crossed (setup day) own p t) (world_crossed (setup day) own p t)
 
 module _ (day : DayInput) (own : Owner) (parts p t : ℕ) (slots : List ℕ) (given : HaveFittingPlans day) (shares : IsOwner own parts)
     (are : AreSlots (setup day) own slots) (A : Area)
@@ -89,11 +113,13 @@ module _ (day : DayInput) (own : Owner) (parts p t : ℕ) (slots : List ℕ) (gi
   -- ONCE THE PLACES OF THE SECOND ARE FREE
   module _ (P : Places) (ms : List ℕ) (wakes : List (Option ℕ))
       (taken : AreTakenOf (begins_here S own p) (length S.links) end (t + 1) (places_known S E) P)
-      (starts : wakes ≡ wake_own_starts S own p t ms A.network.node_wakes) where
+      (starts : wakes ≡ wake_starts S own p t ms A.network.node_wakes)
+      (full : (m : ℕ) → m < length S.links → begins_here S own p m ≡ true → times m ms ≡ 0 → IsFull t (places_known S E) m
+      → IsFull (t + 1) (places_known S E) m) where
     abbrev N : NetworkState
-    N = record A.network { places = P; node_wakes = wakes }
+    N = freed_network A P wakes
 
-    pub stands_for : StandsForAt z S (extent_of S own p) end t N V3
+    stands_for : StandsForAt z S (extent_of S own p) end t N V3
     unfolding place
     stands_for = record {
       links = record {
@@ -110,9 +136,8 @@ module _ (day : DayInput) (own : Owner) (parts p t : ℕ) (slots : List ℕ) (gi
           ap (λ (ws : List (Option ℕ)). wake_of ws k) starts ∙ starts_spare S own p t k ms A.network.node_wakes off ∙ h.network.only k off;
     }
 
-    pub awaited_free : ((m : ℕ) → m < length S.links → begins_here S own p m ≡ true → times m ms ≡ 0 → IsFull t (places_known S E) m
-        → IsFull (t + 1) (places_known S E) m) → AreAwaitedAt (λ n. eqb (own n) p) S end (t + 1) t wakes V3
-    awaited_free full =
+    awaited_free : AreAwaitedAt (λ n. eqb (own n) p) S end (t + 1) t wakes V3
+    awaited_free =
         let K = knowing.places day own parts p t given shares in
         subst (λ (ws : List (Option ℕ)). AreAwaitedAt (λ n. eqb (own n) p) S end (t + 1) t ws V3) (sym starts)
         (awaited_when_free S own p end t V3 A.network.node_wakes ms h.network.nodes (knowing.goes_early day own parts p t given shares)
@@ -144,27 +169,26 @@ module _ (day : DayInput) (own : Owner) (parts p t : ℕ) (slots : List ℕ) (gi
       only = g.stands.only;
     }
 
-    pub crossed_stands : (C : Area) (first out : List Event) (spoken said : List Occurrence) (first_out gone : List Entering) → spoken ≡ []
-        → IsPhaseAt z S (extent_of S own p) end t V3 N C.network first out spoken said first_out gone
-        → C.persons.world ≡ record A.persons.world { persons = persons_after S t said A.persons.world.persons }
-        → ((u : ℕ) → AreFollowedIn day u A.persons.world.persons A.persons.wakes → AreFollowedIn day u C.persons.world.persons C.persons.wakes)
-        → length C.persons.wakes ≡ length C.persons.world.persons → C.departures ≡ A.departures → C.lines.items ≡ A.lines.items
-        → C.queues.items ≡ A.queues.items → AreaStands day own p (t + 1) (t + 1) t C G V4
-    crossed_stands C first out spoken said first_out gone silent g world followed looks departures lines queues =
-        let us = my_node_turns S own p t in
-        let K = knowing.places day own parts p t given shares in
-        record {
-          persons = heard_stand day t (t + 1) (moves_of us) said V3 A.persons C.persons (knowing.stays day own parts p t given shares).crossed_is
-              (g.said ∙ ap (λ (xs : List Occurrence). xs ++ flat_map told (moves_of us)) silent) world (followed (t + 1)) looks h.persons;
-          departures = λ s from to. ap (λ (d : Due). due_at s d) departures ∙ h.departures s from to;
-          stops = ap (λ (ls : List (List Waiter)). length ls) lines ∙ h.stops;
-          lines = subst (λ (ls : List (List Waiter)). LinesStandAt num size S ls V4) (sym lines) (λ k lt.
-              subst (λ (ws : List Waiter). HaveLines (λ s. eqb (link_of_stop S s) (num k)) A.lines.items ws)
-              (sym (knowing.same_wait day own parts p t given shares (num k) (link_own S own p k lt))) (h.lines k lt));
-          short = subst (λ (ls : List (List Waiter)). AreShort ls) (sym lines) h.short;
-          network = network C.network first out spoken said first_out gone g;
-          slots = ap (λ (qs : List ℕ). length qs) queues ∙ h.slots;
-          queues = λ k lt off.
-              ap (λ (qs : List ℕ). get_or qs k 0) queues ∙ h.queues k lt off
-              ∙ ap (λ (xs : List Row). length xs) (sym (K.crossed_queues (num k) off));
-        }
+    pub begins : Begins day own p t A P wakes
+    begins = record {
+      stands = stands_for;
+      awaited = awaited_free;
+      crossed = λ C first out spoken said first_out gone silent g world followed looks departures lines queues.
+          let us = my_node_turns S own p t in
+          let K = knowing.places day own parts p t given shares in
+          record {
+            persons = heard_stand day t (t + 1) (moves_of us) said V3 A.persons C.persons (knowing.stays day own parts p t given shares).crossed_is
+                (g.said ∙ ap (λ (xs : List Occurrence). xs ++ flat_map told (moves_of us)) silent) world (followed (t + 1)) looks h.persons;
+            departures = λ s from to. ap (λ (d : Due). due_at s d) departures ∙ h.departures s from to;
+            stops = ap (λ (ls : List (List Waiter)). length ls) lines ∙ h.stops;
+            lines = subst (λ (ls : List (List Waiter)). LinesStandAt num size S ls V4) (sym lines) (λ k lt.
+                subst (λ (ws : List Waiter). HaveLines (λ s. eqb (link_of_stop S s) (num k)) A.lines.items ws)
+                (sym (knowing.same_wait day own parts p t given shares (num k) (link_own S own p k lt))) (h.lines k lt));
+            short = subst (λ (ls : List (List Waiter)). AreShort ls) (sym lines) h.short;
+            network = network C.network first out spoken said first_out gone g;
+            slots = ap (λ (qs : List ℕ). length qs) queues ∙ h.slots;
+            queues = λ k lt off.
+                ap (λ (qs : List ℕ). get_or qs k 0) queues ∙ h.queues k lt off
+                ∙ ap (λ (xs : List Row). length xs) (sym (K.crossed_queues (num k) off));
+          };
+    }

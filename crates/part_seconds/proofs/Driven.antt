@@ -26,7 +26,7 @@ use Rattle.law_own_worlds.specs.Days.{my_link_turns}
 use Rattle.law_own_seconds.specs.Seconds.{held_crossed, held_driven, world_crossed, world_driven}
 use Rattle.law_own_seconds.specs.Leaving.{left_by}
 use Rattle.law_own_seconds.proofs.Places.{more_holes}
-use Rattle.law_parts_of_days.specs.Settling.{queued_in}
+use Rattle.law_parts_of_days.specs.Settling.{link_at, queued_in, wake_ends}
 use Rattle.law_parts_of_days.proofs.Beginning.{links_of as town_links, dwell_of}
 use Rattle.law_parts_of_days.proofs.Hearing.{heard_stand}
 use Rattle.law_parts_of_days.proofs.Taken.{some_hole}
@@ -47,14 +47,15 @@ use Rattle.part_seconds.specs.declared.area.Area.{Area}
 use Rattle.part_seconds.specs.declared.contents.FreedPlaces.{FreedPlaces}
 use Rattle.law_parcels.specs.Sending.{freed_over}
 use Rattle.part_seconds.specs.Contents.{freed_row}
-use Rattle.part_seconds.specs.Settling.{places_known, link_at, left_all, AreFew, AreApart, gone_from, freed_at, put_queues, wake_ends_at}
+use Rattle.part_seconds.specs.Settling.{places_known, left_all, AreFew, AreApart, gone_from, freed_at, put_queues}
 use Rattle.divided_day.specs.Slots.{link_in, slot_count, AreSlots}
 use Rattle.part_seconds.specs.Stands.{AreaStands}
 use Rattle.part_seconds.proofs.Slots.{slot_of, link_there, link_own, all_links, numbered}
 use Rattle.part_seconds.proofs.Knowing as knowing
 use Rattle.part_seconds.proofs.Knowing.{still_lasting}
 use Rattle.part_seconds.proofs.Vacated.{IsLike, taken_alike, in_among, all_storage, all_seconds, all_other, all_here}
-use Rattle.part_seconds.proofs.Waking.{number_at, ends_length, ends_spare, awaited_after}
+use Rattle.law_parts_of_days.proofs.Awaited.{ends_length}
+use Rattle.part_seconds.proofs.Waking.{number_at, ends_spare, awaited_after}
 
 -- what a slice of a list was, once it is put back
 pub back : {X : Type 0} (n : ℕ) (xs ys : List X) → n ≡ length xs → take n (xs ++ ys) ≡ xs
@@ -161,6 +162,48 @@ filter_both a b (n ∷ ns) =
       | inr e ↦ rw e (filter_both a b ns)
     ]
 
+-- as many places of the links that begin in p are taken as this says, in the second after t
+abbrev AreTakenThen : DayInput → Owner → ℕ → ℕ → Taking → Places → Type 0
+AreTakenThen day own p t U P =
+    AreTakenOf (begins_here (setup day) own p) (length (setup day).links) day.town.now.settings.end_second (t + 1) U P
+
+-- What follows for the part of a partition whose links had their turns in second t: it has these new ones then, and in these slots are those
+-- that had one. The code goes on with lists that are equal to theirs.
+pub record Follows (day : DayInput) (own : Owner) (p t : ℕ) (A : Area) (new : List LinkView) (ks : List ℕ) : Type 0 where
+  pub there : (ls : List LinkView) (js : List ℕ) → ls ≡ new → js ≡ ks → AreIn (length ls) js
+  pub in_town : (ls : List LinkView) → ls ≡ new → (k : ℕ) → k < length ls → link_at ls k < length day.town.now.network.links
+  pub many : (ls : List LinkView) (qs : List ℕ) → ls ≡ new → qs ≡ A.queues.items → length qs ≡ length ls
+  -- what settling makes of the places
+  pub settled :
+      (ls : List LinkView) (js : List ℕ) (P Q : Places) → ls ≡ new → js ≡ ks
+      → ((U : Taking) → AreApart ls → AreFew (setup day) own p ls U → AreTakenThen day own p t U P
+      → AreTakenThen day own p t (left_all (setup day) own p t ls js U) Q)
+      → AreTakenThen day own p t (places_known (setup day) (held_crossed (setup day) own p t)) P
+      → AreTakenThen day own p t
+      (left_all (setup day) own p t new ks (places_known (setup day) (held_crossed (setup day) own p t))) Q
+  pub woken :
+      (ls : List LinkView) (js : List ℕ) (ws : List (Option ℕ)) → ls ≡ new → js ≡ ks
+      → ws ≡ wake_ends (setup day) t ls js A.network.node_wakes → ws ≡ wake_ends (setup day) t new ks A.network.node_wakes
+  -- the queues of links that begin elsewhere
+  pub freed_rows :
+      (ls : List LinkView) (js qs : List ℕ) (out : List FreedPlaces) → ls ≡ new → js ≡ ks → qs ≡ A.queues.items
+      → out ≡ flat_map (freed_at (setup day) own p ls qs) js → map freed_row out ≡ freed_over (setup day) own p t
+  pub put :
+      (ls : List LinkView) (js qs out : List ℕ) → ls ≡ new → js ≡ ks → qs ≡ A.queues.items → out ≡ put_queues ls js qs
+      → out ≡ put_queues new ks A.queues.items
+  pub stands :
+      (C : Area) (first out : List Event) (spoken said : List Occurrence) → C.network.links.items ≡ new → spoken ≡ []
+      → IsPhaseBy (link_in (setup day) own p) (slot_count (setup day) own p) (my_link_turns (setup day) own p t) (setup day)
+      day.town.now.settings.end_second t (world_crossed (setup day) own p t) new C.lines.items C.network.link_wakes first out spoken said
+      → AreTakenThen day own p t
+      (left_all (setup day) own p t new ks (places_known (setup day) (held_crossed (setup day) own p t))) C.network.places
+      → C.network.node_wakes ≡ wake_ends (setup day) t new ks A.network.node_wakes
+      → length C.lines.items ≡ length A.lines.items → AreShort C.lines.items → C.queues.items ≡ put_queues new ks A.queues.items
+      → C.persons.world ≡ record A.persons.world { persons = persons_after (setup day) t said A.persons.world.persons }
+      → ((u : ℕ) → AreFollowedIn day u A.persons.world.persons A.persons.wakes → AreFollowedIn day u C.persons.world.persons C.persons.wakes)
+      → length C.persons.wakes ≡ length C.persons.world.persons → C.departures ≡ A.departures
+      → AreaStands day own p (t + 1) (t + 1) (t + 1) C (held_driven (setup day) own p t) (world_driven (setup day) own p t)
+
 module _ (day : DayInput) (own : Owner) (parts p t : ℕ) (slots : List ℕ) (given : HaveFittingPlans day) (shares : IsOwner own parts)
     (are : AreSlots (setup day) own slots) (A : Area)
     (h : AreaStands day own p (t + 1) (t + 1) t A (held_crossed (setup day) own p t) (world_crossed (setup day) own p t)) where
@@ -207,22 +250,21 @@ module _ (day : DayInput) (own : Owner) (parts p t : ℕ) (slots : List ℕ) (gi
       (are_there S (num k) s (before_links S t (world_at S t)) (consistent_setup day given)
       (phases_are_sound day t (phase.A ∷ phase.B1 ∷ phase.B2 ∷ phase.C ∷ []) given)))
 
-  -- what holds once they can have their turns
-  pub turned : (R : Type 0) → (AreNumbered S size num → S.settings.dwell ≡ day.town.now.settings.dwell → LinksStandAt num size S t old V4
-      → LinesStandAt num size S A.lines.items V4 → ((k : ℕ) → k < size → StopsThere S (num k) (lane old k))
-      → AreAsleep day.town.now.settings.dwell end t old A.network.link_wakes → R) → R
-  turned R f =
-      f (numbered S own p slots are) (dwell_of day) h.network.links h.lines stop
-      (subst (λ (D : Dwelling). AreAsleep D end t old A.network.link_wakes) (dwell_of day) h.network.asleep)
-
   turns_are : turns_at num size S t V4 ≡ my_link_turns S own p t
   turns_are = ap (λ (ns : List ℕ). turns S t (link_turns S t) ns V4) (all_links S own p)
 
-  pub by_own : (links : List LinkView) (lines : List (List Waiter)) (wakes : List (Option ℕ)) (first out : List Event)
-      (spoken said : List Occurrence) → IsPhaseAt num size S end t V4 links lines wakes first out spoken said
+  -- what they make of links, lines and wakes, and tell, by what the call says of any links that stand for a world
+  pub turned : (links : List LinkView) (lines : List (List Waiter)) (wakes : List (Option ℕ)) (first out : List Event)
+      (spoken said : List Occurrence)
+      → ((number : ℕ → ℕ) (count : ℕ) (U : Setup) (V : World) → AreNumbered U count number → U.settings.dwell ≡ day.town.now.settings.dwell
+      → LinksStandAt number count U t old V → LinesStandAt number count U A.lines.items V
+      → ((k : ℕ) → k < count → StopsThere U (number k) (lane old k)) → AreAsleep day.town.now.settings.dwell end t old A.network.link_wakes
+      → IsPhaseAt number count U end t V links lines wakes first out spoken said)
       → IsPhaseBy num size (my_link_turns S own p t) S end t V4 links lines wakes first out spoken said
-  by_own links lines wakes first out spoken said g =
-      subst (λ (us : List Turn). IsPhaseBy num size us S end t V4 links lines wakes first out spoken said) turns_are g
+  turned links lines wakes first out spoken said f =
+      subst (λ (us : List Turn). IsPhaseBy num size us S end t V4 links lines wakes first out spoken said) turns_are
+      (f num size S V4 (numbered S own p slots are) (dwell_of day) h.network.links h.lines stop
+      (subst (λ (D : Dwelling). AreAsleep D end t old A.network.link_wakes) (dwell_of day) h.network.asleep))
 
   -- BEHIND THEM
   module _ (new : List LinkView) (ks : List ℕ) (stand : LinksStandAt num size S (t + 1) new V5)
@@ -257,19 +299,6 @@ module _ (day : DayInput) (own : Owner) (parts p t : ℕ) (slots : List ℕ) (gi
         let e = at_new k k_in in
         let m = town_links day in
         omega arith
-
-    -- so of lists that are these
-    pub there_as : (ls : List LinkView) (js : List ℕ) → ls ≡ new → js ≡ ks → AreIn (length ls) js
-    there_as ls js e f =
-        subst (λ (vs : List LinkView). AreIn (length vs) js) (sym e) (subst (λ (ns : List ℕ). AreIn (length new) ns) (sym f) there)
-
-    pub in_town_as : (ls : List LinkView) → ls ≡ new → (k : ℕ) → k < length ls → link_at ls k < length day.town.now.network.links
-    in_town_as ls e =
-        subst (λ (vs : List LinkView). (k : ℕ) → k < length vs → link_at vs k < length day.town.now.network.links) (sym e) in_town
-
-    pub many_as : (ls : List LinkView) (qs : List ℕ) → ls ≡ new → qs ≡ A.queues.items → length qs ≡ length ls
-    many_as ls qs e f =
-        ap (λ (xs : List ℕ). length xs) f ∙ h.slots ∙ sym stand.count ∙ sym (ap (λ (vs : List LinkView). length vs) e)
 
     -- of a link that had no turn nobody left
     none_left : (k : ℕ) → k < size → is_among k ks ≡ false → left (num k) ≡ 0
@@ -347,17 +376,6 @@ module _ (day : DayInput) (own : Owner) (parts p t : ℕ) (slots : List ℕ) (gi
               true≢false (sym (eq-eqb (owner_of S own m) p o) ∙ off))) in
               untouched m like ((knowing.leaving day own parts p t given shares).none m off)
         ]
-
-    -- what settling makes of them
-    pub settling : (ls : List LinkView) (P Q : Places) → ls ≡ new
-        → ((U : Taking) → AreApart ls → AreFew S own p ls U → AreTakenOf (begins_here S own p) (length S.links) end (t + 1) U P
-        → AreTakenOf (begins_here S own p) (length S.links) end (t + 1) (left_all S own p t ls ks U) Q)
-        → AreTakenOf (begins_here S own p) (length S.links) end (t + 1) T P
-        → AreTakenOf (begins_here S own p) (length S.links) end (t + 1) (left_all S own p t new ks T) Q
-    settling ls P Q e f taken =
-        subst (λ (vs : List LinkView). (U : Taking) → AreApart vs → AreFew S own p vs U
-        → AreTakenOf (begins_here S own p) (length S.links) end (t + 1) U P
-        → AreTakenOf (begins_here S own p) (length S.links) end (t + 1) (left_all S own p t vs ks U) Q) e f T apart few taken
 
     settled : (Q : Places) → AreTakenOf (begins_here S own p) (length S.links) end (t + 1) (left_all S own p t new ks T) Q
         → AreTakenOf (begins_here S own p) (length S.links) end (t + 1) (places_known S B) Q
@@ -472,20 +490,6 @@ module _ (day : DayInput) (own : Owner) (parts p t : ℕ) (slots : List ℕ) (gi
               | inr f ↦ rw f (not_among q i ns e)
             ]
 
-    pub freed_as : (ls : List LinkView) (js qs : List ℕ) (out : List FreedPlaces) → ls ≡ new → js ≡ ks → qs ≡ A.queues.items
-        → out ≡ flat_map (freed_at S own p ls qs) js → map freed_row out ≡ freed_over S own p t
-    freed_as ls js qs out e f g is =
-        ap (map freed_row) (is ∙ ap (flat_map (freed_at S own p ls qs)) f
-        ∙ ap (λ (xs : List ℕ). flat_map (freed_at S own p ls xs) ks) g
-        ∙ ap (λ (vs : List LinkView). flat_map (freed_at S own p vs A.queues.items) ks) e)
-        ∙ freed_is A.queues.items h.queues
-
-    pub put_as : (ls : List LinkView) (js qs out : List ℕ) → ls ≡ new → js ≡ ks → qs ≡ A.queues.items → out ≡ put_queues ls js qs
-        → out ≡ put_queues new ks A.queues.items
-    put_as ls js qs out e f g is =
-        is ∙ ap (λ (ns : List ℕ). put_queues ls ns qs) f ∙ ap (put_queues ls ks) g
-        ∙ ap (λ (vs : List LinkView). put_queues vs ks A.queues.items) e
-
     -- THE PART
     taken_more : (m : ℕ) → m < length S.links → begins_in S own m ≡ p → taken_before S (t + 1) m V4 ≤ taken_before S (t + 1) m V5
     taken_more m lt b =
@@ -497,43 +501,59 @@ module _ (day : DayInput) (own : Owner) (parts p t : ℕ) (slots : List ℕ) (gi
         let y = still_lasting (t + 1) (hole_of S m) (holes_at m V5) in
         omega arith
 
-    pub driven_stands : (C : Area) (first out : List Event) (spoken said : List Occurrence) → C.network.links.items ≡ new → spoken ≡ []
-        → IsPhaseBy num size (my_link_turns S own p t) S end t V4 new C.lines.items C.network.link_wakes first out spoken said
-        → AreTakenOf (begins_here S own p) (length S.links) end (t + 1) (left_all S own p t new ks T) C.network.places
-        → C.network.node_wakes ≡ wake_ends_at S t new ks A.network.node_wakes
-        → length C.lines.items ≡ length A.lines.items → AreShort C.lines.items → C.queues.items ≡ put_queues new ks A.queues.items
-        → C.persons.world ≡ record A.persons.world { persons = persons_after S t said A.persons.world.persons }
-        → ((u : ℕ) → AreFollowedIn day u A.persons.world.persons A.persons.wakes → AreFollowedIn day u C.persons.world.persons C.persons.wakes)
-        → length C.persons.wakes ≡ length C.persons.world.persons → C.departures ≡ A.departures
-        → AreaStands day own p (t + 1) (t + 1) (t + 1) C B V5
-    driven_stands C first out spoken said links silent g places nodes many short queues world followed looks departures =
-        let us = my_link_turns S own p t in
-        let n = ap (λ (ws : List (Option ℕ)). length ws) nodes ∙ ends_length S t new ks A.network.node_wakes ∙ h.network.nodes in
-        record {
-          persons = heard_stand day t (t + 1) (moves_of us) said V4 A.persons C.persons (knowing.stays day own parts p t given shares).driven_is
-              (g.said ∙ ap (λ (xs : List Occurrence). xs ++ flat_map told (moves_of us)) silent) world (followed (t + 1)) looks h.persons;
-          departures = λ s from to. ap (λ (d : Due). due_at s d) departures ∙ h.departures s from to;
-          stops = many ∙ h.stops;
-          lines = g.lines;
-          short = short;
-          network = record {
-            links = subst (λ (vs : List LinkView). LinksStandAt num size S (t + 1) vs V5) (sym links) g.links;
-            asleep = subst (λ (vs : List LinkView). AreAsleep S.settings.dwell end (t + 1) vs C.network.link_wakes) (sym links) g.asleep;
-            places = settled C.network.places places;
-            nodes = n;
-            awaited = awaited_after num size S own p end t V4 V5 old new ks A.network.node_wakes C.network.node_wakes (slot_of S own p)
-                (knowing.goes_crossed day own parts p t given shares) taken_more h.network.links stand same h.network.nodes nodes
-                h.network.awaited;
-            only = λ i off.
-                ap (λ (ws : List (Option ℕ)). wake_of ws i) nodes
-                ∙ ends_spare S t i new ks A.network.node_wakes (λ k among e. (
-                let c = stand.count in
-                let k_in = in_among (length new) k ks there among in
-                let k_lt : k < size = omega arith in
-                let o : owner_of S own (link_at new k) ≡ p = ap (owner_of S own) (at_new k k_lt) ∙ link_own S own p k k_lt in
-                true≢false (sym (eq-eqb (own i) p (ap own (sym e) ∙ o)) ∙ off)))
-                ∙ h.network.only i off;
+    -- what follows, list by list
+    pub follows : Follows day own p t A new ks
+    follows = record {
+      there = λ ls js e f.
+          subst (λ (vs : List LinkView). AreIn (length vs) js) (sym e) (subst (λ (ns : List ℕ). AreIn (length new) ns) (sym f) there);
+      in_town = λ ls e.
+          subst (λ (vs : List LinkView). (k : ℕ) → k < length vs → link_at vs k < length day.town.now.network.links) (sym e) in_town;
+      many = λ ls qs e f.
+          ap (λ (xs : List ℕ). length xs) f ∙ h.slots ∙ sym stand.count ∙ sym (ap (λ (vs : List LinkView). length vs) e);
+      settled = λ ls js P Q e f g taken.
+          subst (λ (ns : List ℕ). AreTakenThen day own p t (left_all S own p t new ns T) Q) f
+          (subst (λ (vs : List LinkView). (U : Taking) → AreApart vs → AreFew S own p vs U → AreTakenThen day own p t U P
+          → AreTakenThen day own p t (left_all S own p t vs js U) Q) e g T apart few taken);
+      woken = λ ls js ws e f is.
+          is ∙ ap (λ (ns : List ℕ). wake_ends S t ls ns A.network.node_wakes) f
+          ∙ ap (λ (vs : List LinkView). wake_ends S t vs ks A.network.node_wakes) e;
+      freed_rows = λ ls js qs out e f g is.
+          ap (map freed_row) (is ∙ ap (flat_map (freed_at S own p ls qs)) f
+          ∙ ap (λ (xs : List ℕ). flat_map (freed_at S own p ls xs) ks) g
+          ∙ ap (λ (vs : List LinkView). flat_map (freed_at S own p vs A.queues.items) ks) e)
+          ∙ freed_is A.queues.items h.queues;
+      put = λ ls js qs out e f g is.
+          is ∙ ap (λ (ns : List ℕ). put_queues ls ns qs) f ∙ ap (put_queues ls ks) g
+          ∙ ap (λ (vs : List LinkView). put_queues vs ks A.queues.items) e;
+      stands = λ C first out spoken said links silent g places nodes many short queues world followed looks departures.
+          let us = my_link_turns S own p t in
+          let n = ap (λ (ws : List (Option ℕ)). length ws) nodes ∙ ends_length S t new ks A.network.node_wakes ∙ h.network.nodes in
+          record {
+            persons = heard_stand day t (t + 1) (moves_of us) said V4 A.persons C.persons (knowing.stays day own parts p t given shares).driven_is
+                (g.said ∙ ap (λ (xs : List Occurrence). xs ++ flat_map told (moves_of us)) silent) world (followed (t + 1)) looks h.persons;
+            departures = λ s from to. ap (λ (d : Due). due_at s d) departures ∙ h.departures s from to;
+            stops = many ∙ h.stops;
+            lines = g.lines;
+            short = short;
+            network = record {
+              links = subst (λ (vs : List LinkView). LinksStandAt num size S (t + 1) vs V5) (sym links) g.links;
+              asleep = subst (λ (vs : List LinkView). AreAsleep S.settings.dwell end (t + 1) vs C.network.link_wakes) (sym links) g.asleep;
+              places = settled C.network.places places;
+              nodes = n;
+              awaited = awaited_after num size S own p end t V4 V5 old new ks A.network.node_wakes C.network.node_wakes (slot_of S own p)
+                  (knowing.goes_crossed day own parts p t given shares) taken_more h.network.links stand same h.network.nodes nodes
+                  h.network.awaited;
+              only = λ i off.
+                  ap (λ (ws : List (Option ℕ)). wake_of ws i) nodes
+                  ∙ ends_spare S t i new ks A.network.node_wakes (λ k among e. (
+                  let c = stand.count in
+                  let k_in = in_among (length new) k ks there among in
+                  let k_lt : k < size = omega arith in
+                  let o : owner_of S own (link_at new k) ≡ p = ap (owner_of S own) (at_new k k_lt) ∙ link_own S own p k k_lt in
+                  true≢false (sym (eq-eqb (own i) p (ap own (sym e) ∙ o)) ∙ off)))
+                  ∙ h.network.only i off;
+            };
+            slots = ap (λ (qs : List ℕ). length qs) queues ∙ put_length new ks A.queues.items ∙ h.slots;
+            queues = λ k lt off. ap (λ (qs : List ℕ). get_or qs k 0) queues ∙ queues_are A.queues.items h.slots h.queues k lt off;
           };
-          slots = ap (λ (qs : List ℕ). length qs) queues ∙ put_length new ks A.queues.items ∙ h.slots;
-          queues = λ k lt off. ap (λ (qs : List ℕ). get_or qs k 0) queues ∙ queues_are A.queues.items h.slots h.queues k lt off;
-        }
+    }

@@ -8,8 +8,8 @@ use Rattle.queue_link.specs.Links.{LinkView}
 use Rattle.node_seconds.specs.Networks.{is_among, AreOnce}
 use Rattle.part_places.specs.declared.places.Places.{Places}
 use Rattle.part_places.specs.Taking.{Taking, AreTakenOf, begins_here, still, times}
-use Rattle.law_parts_of_days.specs.Settling.{queued_in}
-use Rattle.part_seconds.specs.Settling.{link_at, left_one, left_all, AreFew, AreApart}
+use Rattle.law_parts_of_days.specs.Settling.{link_at, queued_in}
+use Rattle.part_seconds.specs.Settling.{left_one, left_all, AreFew, AreApart}
 
 -- PLACES THAT ARE TAKEN ALIKE
 pub record AreAlikeOf (begins : ℕ → Bool) (count : ℕ) (T U : Taking) : Type 0 where

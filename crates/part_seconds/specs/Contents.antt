@@ -7,7 +7,8 @@ use Rattle.part_seconds.specs.declared.contents.Teleported.{Teleported}
 use Rattle.part_seconds.specs.declared.contents.FreedPlaces.{FreedPlaces}
 use Rattle.part_seconds.specs.declared.contents.Contents.{Contents}
 
--- of a parcel that was sent in second t: the row of a vehicle, the flight of a person, and how many rows left a queue
+-- Of a parcel that was sent in second t: the row of a vehicle, the flight of a person, and how many rows left a queue. `Flight` is the word of
+-- the definition (`parts`) for what is `Teleported` here.
 abbrev pub passed_of : Setup → ℕ → Moved → Passed
 passed_of S t m = record { row = entering_row S t m.vehicle; elements = m.elements }
 

@@ -14,6 +14,8 @@ use Rattle.step_core.specs.declared.part.Border.{Border}
 use Rattle.part_seconds.specs.declared.contents.Moved.{Moved}
 use Rattle.part_seconds.specs.declared.contents.Teleported.{Teleported}
 use Rattle.part_seconds.specs.declared.contents.FreedPlaces.{FreedPlaces}
+use Rattle.part_seconds.specs.declared.contents.ParcelItem.{ParcelItem}
+use Rattle.part_seconds.specs.declared.contents.ParcelItem.TheVariants as item
 use Rattle.part_seconds.specs.declared.contents.Contents.{Contents}
 use Rattle.part_seconds.specs.Parcels.{nothing}
 
@@ -31,6 +33,12 @@ with_teleported fs x = record x { teleported = x.teleported ++ fs }
 
 abbrev pub with_freed : List FreedPlaces → Contents → Contents
 with_freed fs x = record x { freed = x.freed ++ fs }
+
+-- and with one thing more
+abbrev pub with_item : ParcelItem → Contents → Contents
+with_item (item.Vehicle m) = with_vehicles (m ∷ [])
+with_item (item.Teleported f) = with_teleported (f ∷ [])
+with_item (item.Freed f) = with_freed (f ∷ [])
 
 -- PLACES of neighbours
 abbrev pub place_in : List Border → ℕ → Option ℕ

@@ -1,12 +1,11 @@
--- What the turns of links and places that come free mean for places, for queues and for when nodes are woken, where links stand in slots.
-use Rattle.std.specs.Prelude.{◌≡◌, ℕ, ◌+◌, ◌-◌, ◌<◌, ◌≤◌, Bool, true, List, [], ◌∷◌, ◌&&◌, length, map, set, get_or, nat_lt, if◌then◌else◌, Option, Some}
-use Rattle.traffic.specs.Setup.{Setup, link_row, storage_of, seconds_of, hole_of}
+-- What the turns of links and places that come free mean for places and for queues, where links stand in slots.
+use Rattle.std.specs.Prelude.{◌≡◌, ℕ, ◌+◌, ◌-◌, ◌<◌, ◌≤◌, true, List, [], ◌∷◌, length, map, set, get_or, nat_lt, if◌then◌else◌}
+use Rattle.traffic.specs.Setup.{Setup, storage_of, seconds_of, hole_of}
 use Rattle.parts.specs.Owners.{Owner}
 use Rattle.parts.specs.Parts.{Held}
 use Rattle.queue_link.specs.Links.{LinkView}
-use Rattle.node_seconds.specs.Networks.{lane}
 use Rattle.part_places.specs.Taking.{Taking, later, begins_here}
-use Rattle.law_parts_of_days.specs.Settling.{queued_in, buffered_in}
+use Rattle.law_parts_of_days.specs.Settling.{link_at, queued_in}
 use Rattle.part_seconds.specs.declared.contents.FreedPlaces.{FreedPlaces}
 
 -- PLACES
@@ -18,10 +17,6 @@ places_known S H = record {
   queued = λ m. H.rows m;
   frees = λ m. map (λ (s : ℕ). s + hole_of S m) (H.holes m);
 }
-
--- the number of the link in a slot
-abbrev pub link_at : List LinkView → ℕ → ℕ
-link_at links k = (lane links k).numbers.link
 
 -- the places once the link in this slot, which had its turn in second t, has its queue: of a link that begins elsewhere p has none
 abbrev pub left_one : Setup → Owner → ℕ → ℕ → List LinkView → ℕ → Taking → Taking
@@ -62,27 +57,3 @@ freed_at S own p links queues k =
 unfoldable pub put_queues : List LinkView → List ℕ → List ℕ → List ℕ
 put_queues links [] queues = queues
 put_queues links (k ∷ ks) queues = put_queues links ks (set queues k (queued_in links k))
-
--- WAKES
--- the node at the end of the link in a slot is woken in the second after t, where somebody is in the link's buffer
-abbrev pub wake_end_at : Setup → ℕ → List LinkView → ℕ → List (Option ℕ) → List (Option ℕ)
-wake_end_at S t links k wakes =
-    if nat_lt 0 (buffered_in links k) then set wakes (link_row S (link_at links k)).to (Some (t + 1)) else wakes
-
--- so with those in these slots
-unfoldable pub wake_ends_at : Setup → ℕ → List LinkView → List ℕ → List (Option ℕ) → List (Option ℕ)
-wake_ends_at S t links [] wakes = wakes
-wake_ends_at S t links (k ∷ ks) wakes = wake_ends_at S t links ks (wake_end_at S t links k wakes)
-
--- whether a link is there and begins in p
-abbrev pub is_own_start : Setup → Owner → ℕ → ℕ → Bool
-is_own_start S own p m = nat_lt m (length S.links) && begins_here S own p m
-
--- the node at the start of such a link is woken in second t
-abbrev pub wake_own_start : Setup → Owner → ℕ → ℕ → ℕ → List (Option ℕ) → List (Option ℕ)
-wake_own_start S own p t m wakes = if is_own_start S own p m then set wakes (link_row S m).from (Some t) else wakes
-
--- so with each of these links
-unfoldable pub wake_own_starts : Setup → Owner → ℕ → ℕ → List ℕ → List (Option ℕ) → List (Option ℕ)
-wake_own_starts S own p t [] wakes = wakes
-wake_own_starts S own p t (m ∷ ms) wakes = wake_own_starts S own p t ms (wake_own_start S own p t m wakes)

@@ -139,7 +139,7 @@ fn bring_teleported(
     Ok(())
 }
 
-/// Takes in what was in a parcel of this second: persons come to the partition, and to `entering` the vehicles that come to its links, in
+/// What was in a parcel of this second comes: persons to the partition, and to `entering` the vehicles that come to its links, in
 /// order. Answers how many vehicles left the queues of links that begin here.
 ///
 /// # Errors

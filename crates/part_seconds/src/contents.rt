@@ -1,8 +1,8 @@
 //! What a partition sends to a neighbour in a second.
 
-ghost use Rattle.std.specs.Prelude.{◌≡◌, true, [], ◌∷◌, IfOk, OnOk, MatchOption};
+ghost use Rattle.std.specs.Prelude.{◌≡◌, true, IfOk, OnOk, MatchOption};
 ghost use Rattle.part_seconds.specs.Parcels.{nothing};
-ghost use Rattle.part_seconds.specs.Sending.{with_vehicles, with_teleported, with_freed};
+ghost use Rattle.part_seconds.specs.Sending.{with_item};
 
 use events::Rows;
 use std::alloc::{AllocError, Global};
@@ -45,6 +45,17 @@ pub struct FreedPlaces {
 /// Links whose queues vehicles left in a second, by number.
 pub type FreedList = Rows<FreedPlaces>;
 
+/// One thing that goes over a border.
+#[derive(Drop)]
+pub enum ParcelItem {
+    /// A vehicle that enters a link of the neighbour.
+    Vehicle(Moved),
+    /// A person whose teleported leg goes to a link of the neighbour.
+    Teleported(Teleported),
+    /// A link that begins at a node of the neighbour, of which places were left.
+    Freed(FreedPlaces),
+}
+
 /// What goes over a border in one second.
 #[derive(Drop)]
 pub struct Contents {
@@ -74,24 +85,15 @@ impl Contents {
         }
     }
 
-    fn add_vehicle(&mut self, moved: Moved) -> Result<(), AllocError>
-        ensures { OnOk result (self.new ≡ with_vehicles (moved ∷ []) self.old) }
+    /// One thing more.
+    fn add(&mut self, item: ParcelItem) -> Result<(), AllocError>
+        ensures { OnOk result (self.new ≡ with_item item self.old) }
     {
-        self.vehicles.rows.push(moved)?;
-        Ok(())
-    }
-
-    fn add_teleported(&mut self, teleported: Teleported) -> Result<(), AllocError>
-        ensures { OnOk result (self.new ≡ with_teleported (teleported ∷ []) self.old) }
-    {
-        self.teleported.rows.push(teleported)?;
-        Ok(())
-    }
-
-    fn add_freed(&mut self, freed: FreedPlaces) -> Result<(), AllocError>
-        ensures { OnOk result (self.new ≡ with_freed (freed ∷ []) self.old) }
-    {
-        self.freed.rows.push(freed)?;
+        match item {
+            ParcelItem::Vehicle(moved) => self.vehicles.rows.push(moved)?,
+            ParcelItem::Teleported(teleported) => self.teleported.rows.push(teleported)?,
+            ParcelItem::Freed(freed) => self.freed.rows.push(freed)?,
+        }
         Ok(())
     }
 }
@@ -137,33 +139,12 @@ impl Parcel {
         }
     }
 
-    pub(crate) fn add_vehicle(&mut self, alloc: Global, moved: Moved) -> Result<(), AllocError>
-        ensures { OnOk result (self.new ≡ with_vehicles (moved ∷ []) self.old) }
+    /// One thing more goes with the parcel.
+    pub(crate) fn add(&mut self, alloc: Global, item: ParcelItem) -> Result<(), AllocError>
+        ensures { OnOk result (self.new ≡ with_item item self.old) }
     {
         let mut contents = self.take(alloc)?;
-        contents.add_vehicle(moved)?;
-        self.contents = Some(contents);
-        Ok(())
-    }
-
-    pub(crate) fn add_teleported(
-        &mut self,
-        alloc: Global,
-        teleported: Teleported,
-    ) -> Result<(), AllocError>
-        ensures { OnOk result (self.new ≡ with_teleported (teleported ∷ []) self.old) }
-    {
-        let mut contents = self.take(alloc)?;
-        contents.add_teleported(teleported)?;
-        self.contents = Some(contents);
-        Ok(())
-    }
-
-    pub(crate) fn add_freed(&mut self, alloc: Global, freed: FreedPlaces) -> Result<(), AllocError>
-        ensures { OnOk result (self.new ≡ with_freed (freed ∷ []) self.old) }
-    {
-        let mut contents = self.take(alloc)?;
-        contents.add_freed(freed)?;
+        contents.add(item)?;
         self.contents = Some(contents);
         Ok(())
     }

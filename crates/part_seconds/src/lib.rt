@@ -3,7 +3,7 @@
 //!
 //! And what parts send to one another. Once its second is over, a partition makes a parcel for each neighbour: of the vehicles that its
 //! nodes let into the links of others, with the elements of their riders; of the persons whose teleported leg to a link of another begins;
-//! and of how many vehicles left the queues of those of its links that begin at nodes of others. Before its second a partition takes in
+//! and of how many vehicles left the queues of those of its links that begin at nodes of others. Before its second a partition absorbs
 //! what came.
 #![tactic(auto)]
 

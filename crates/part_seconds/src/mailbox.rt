@@ -1,10 +1,10 @@
 //! What lies between a partition and its neighbours.
 
-ghost use Rattle.std.specs.Prelude.{◌≡◌, ◌<◌, false, [], ◌∷◌, length, set, replicate, IfOk, OnOk};
+ghost use Rattle.std.specs.Prelude.{◌≡◌, ◌<◌, false, length, set, replicate, IfOk, OnOk};
 ghost use Rattle.part_seconds.specs.Parcels.{nothing, HasNothing};
-ghost use Rattle.part_seconds.specs.Sending.{parcel_at, with_vehicles, with_teleported, with_freed};
+ghost use Rattle.part_seconds.specs.Sending.{parcel_at, with_item};
 
-use crate::contents::{FreedPlaces, Moved, Parcel, Teleported};
+use crate::contents::{Parcel, ParcelItem};
 use std::alloc::{AllocError, Global};
 use std::marker::Model;
 use std::mem::replace;
@@ -104,48 +104,18 @@ impl Mailbox {
         self.some = false;
     }
 
-    /// A vehicle more goes to a neighbour.
-    pub(crate) fn add_vehicle(
+    /// One thing more goes to a neighbour.
+    pub(crate) fn add(
         &mut self,
         alloc: Global,
         place: usize,
-        moved: Moved,
+        item: ParcelItem,
     ) -> Result<(), AllocError>
         requires { place < length self.old }
-        ensures { OnOk result (self.new ≡ set self.old place (with_vehicles (moved ∷ []) (parcel_at self.old place))) }
+        ensures { OnOk result (self.new ≡ set self.old place (with_item item (parcel_at self.old place))) }
     {
         self.some = true;
-        self.parcels[place].add_vehicle(alloc, moved)?;
-        Ok(())
-    }
-
-    /// A person more teleports to a neighbour.
-    pub(crate) fn add_teleported(
-        &mut self,
-        alloc: Global,
-        place: usize,
-        teleported: Teleported,
-    ) -> Result<(), AllocError>
-        requires { place < length self.old }
-        ensures { OnOk result (self.new ≡ set self.old place (with_teleported (teleported ∷ []) (parcel_at self.old place))) }
-    {
-        self.some = true;
-        self.parcels[place].add_teleported(alloc, teleported)?;
-        Ok(())
-    }
-
-    /// A neighbour is told of a link more whose queue vehicles left.
-    pub(crate) fn add_freed(
-        &mut self,
-        alloc: Global,
-        place: usize,
-        freed: FreedPlaces,
-    ) -> Result<(), AllocError>
-        requires { place < length self.old }
-        ensures { OnOk result (self.new ≡ set self.old place (with_freed (freed ∷ []) (parcel_at self.old place))) }
-    {
-        self.some = true;
-        self.parcels[place].add_freed(alloc, freed)?;
+        self.parcels[place].add(alloc, item)?;
         Ok(())
     }
 }

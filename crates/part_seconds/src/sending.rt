@@ -7,13 +7,13 @@ ghost use Rattle.partition.specs.Owned.{owner_in};
 ghost use Rattle.town.specs.Views.{setup};
 ghost use Rattle.traffic.specs.Rows.{nobody};
 ghost use Rattle.traffic.specs.Setup.{row_at};
-ghost use Rattle.part_seconds.specs.Sending.{changed_at, with_vehicles, with_teleported, with_freed};
+ghost use Rattle.part_seconds.specs.Sending.{changed_at, with_vehicles, with_teleported, with_freed, with_item};
 ghost use Rattle.part_seconds.specs.Sending.{element_of, number_of, riders_of, moved_of, teleports_to, teleported_of, if_teleports};
 ghost use Rattle.part_seconds.specs.Sending.{vehicle_place, teleported_place, freed_place, AreMore};
 ghost use Rattle.part_seconds.specs.Sending.{more_vehicles, more_teleported, more_freed};
 
 use crate::borders::place_of;
-use crate::contents::{FreedPlaces, Moved, Teleported};
+use crate::contents::{FreedPlaces, Moved, ParcelItem, Teleported};
 use crate::mailbox::Mailbox;
 use events::Rows;
 use lists::push_with_room;
@@ -58,59 +58,21 @@ fn begins_in(day: &DayInput, owner: &Owner, link: u32) -> u32
     owner_of_node(&owner.of_node, node)
 }
 
-/// Puts a vehicle into the parcel at a place, if there is one.
+/// Puts one thing into the parcel at a place, if there is one.
 #[tactic(auto, using(std::proofs::lemmas::List::set_past))]
-fn put_vehicle(
+fn put(
     alloc: Global,
     place: Option<usize>,
-    moved: Moved,
+    item: ParcelItem,
     parcels: &mut Mailbox,
 ) -> Result<(), AllocError>
-    ensures { OnOk result (parcels.new ≡ changed_at place (with_vehicles (moved ∷ [])) parcels.old) }
+    ensures { OnOk result (parcels.new ≡ changed_at place (with_item item) parcels.old) }
 {
     let Some(place) = place else {
         return Ok(());
     };
     if place < parcels.len() {
-        parcels.add_vehicle(alloc, place, moved)?;
-    }
-    Ok(())
-}
-
-/// The same with a teleported person.
-#[tactic(auto, using(std::proofs::lemmas::List::set_past))]
-fn put_teleported(
-    alloc: Global,
-    place: Option<usize>,
-    teleported: Teleported,
-    parcels: &mut Mailbox,
-) -> Result<(), AllocError>
-    ensures { OnOk result (parcels.new ≡ changed_at place (with_teleported (teleported ∷ [])) parcels.old) }
-{
-    let Some(place) = place else {
-        return Ok(());
-    };
-    if place < parcels.len() {
-        parcels.add_teleported(alloc, place, teleported)?;
-    }
-    Ok(())
-}
-
-/// The same with a link whose queue vehicles left.
-#[tactic(auto, using(std::proofs::lemmas::List::set_past))]
-fn put_freed(
-    alloc: Global,
-    place: Option<usize>,
-    freed: FreedPlaces,
-    parcels: &mut Mailbox,
-) -> Result<(), AllocError>
-    ensures { OnOk result (parcels.new ≡ changed_at place (with_freed (freed ∷ [])) parcels.old) }
-{
-    let Some(place) = place else {
-        return Ok(());
-    };
-    if place < parcels.len() {
-        parcels.add_freed(alloc, place, freed)?;
+        parcels.add(alloc, place, item)?;
     }
     Ok(())
 }
@@ -183,7 +145,8 @@ fn send_vehicle(
     let partition = owner_of_link(exits.day, exits.owner, link);
     let place = place_of(exits.borders, partition);
     let elements = with_riders(alloc, persons, &vehicle, gone)?;
-    put_vehicle(alloc, place, Moved { vehicle, elements }, parcels)
+    let item = ParcelItem::Vehicle(Moved { vehicle, elements });
+    put(alloc, place, item, parcels)
 }
 
 /// So do all of these.
@@ -258,16 +221,11 @@ fn send_teleported(
         return Ok(());
     };
     push_with_room(gone, person)?;
-    let teleported = Teleported {
+    let item = ParcelItem::Teleported(Teleported {
         person,
         element: state.element,
-    };
-    put_teleported(
-        alloc,
-        place_of(exits.borders, partition),
-        teleported,
-        parcels,
-    )
+    });
+    put(alloc, place_of(exits.borders, partition), item, parcels)
 }
 
 /// So do all of these who do.
@@ -306,7 +264,8 @@ fn send_freed(
         (with_freed (freed ∷ [])) parcels.old) }
 {
     let partition = begins_in(exits.day, exits.owner, freed.link);
-    put_freed(alloc, place_of(exits.borders, partition), freed, parcels)
+    let item = ParcelItem::Freed(freed);
+    put(alloc, place_of(exits.borders, partition), item, parcels)
 }
 
 /// So with all of these.

@@ -9,10 +9,9 @@ ghost use Rattle.calendar.specs.Due.{AreIn};
 ghost use Rattle.partition.specs.Owned.{owner_in};
 ghost use Rattle.town.specs.Views.{setup};
 ghost use Rattle.traffic.specs.Setup.{hole_of};
-ghost use Rattle.law_parts_of_days.specs.Settling.{queued_in, buffered_in};
+ghost use Rattle.law_parts_of_days.specs.Settling.{link_at, queued_in, buffered_in, wake_end, wake_ends, wake_start, wake_starts};
 ghost use Rattle.part_places.specs.Taking.{Taking, AreTakenOf, begins_here, later};
-ghost use Rattle.part_seconds.specs.Settling.{link_at, left_one, left_all, AreFew, AreApart, freed_at, put_queues};
-ghost use Rattle.part_seconds.specs.Settling.{wake_end_at, wake_ends_at, wake_own_start, wake_own_starts};
+ghost use Rattle.part_seconds.specs.Settling.{left_one, left_all, AreFew, AreApart, freed_at, put_queues};
 
 use crate::FreedPlaces;
 use crate::runs::Run;
@@ -208,7 +207,7 @@ fn wake_end(
     requires there { slot < length links.now }
     requires link { link_at links.now slot < length day.now.town.now.network.links }
     requires nodes { length node_wakes.old ≡ length day.now.town.now.network.nodes }
-    ensures { OnOk result (node_wakes.new ≡ wake_end_at (setup day.now) second links.now slot node_wakes.old) }
+    ensures { OnOk result (node_wakes.new ≡ wake_end (setup day.now) second links.now slot node_wakes.old) }
 {
     if buffered_in(links, slot) > 0 {
         let row = link_row(day, number_at(links, slot));
@@ -218,7 +217,7 @@ fn wake_end(
 }
 
 /// So with those in these slots, which had their turns.
-#[tactic(auto, unfolding(crate::specs::Settling::wake_ends_at))]
+#[tactic(auto, unfolding(law_parts_of_days::specs::Settling::wake_ends))]
 fn wake_ends(
     day: &DayInput,
     second: u32,
@@ -230,7 +229,7 @@ fn wake_ends(
     requires there { AreIn (length links.now) slots.now }
     requires links { (k : ℕ) → k < length links.now → link_at links.now k < length day.now.town.now.network.links }
     requires nodes { length node_wakes.old ≡ length day.now.town.now.network.nodes }
-    ensures { OnOk result (node_wakes.new ≡ wake_ends_at (setup day.now) second links.now slots.now node_wakes.old) }
+    ensures { OnOk result (node_wakes.new ≡ wake_ends (setup day.now) second links.now slots.now node_wakes.old) }
 {
     let mut rest = slots;
     while let [slot, later @ ..] = rest {
@@ -261,7 +260,7 @@ pub(crate) fn settle_links(
         → AreTakenOf (begins_here S own partition) (length S.links) end (second + 1) T places.old
         → OnOk result (AreTakenOf (begins_here S own partition) (length S.links) end (second + 1)
         (left_all S own partition second links.now slots.now T) places.new) }
-    ensures nodes { OnOk result (node_wakes.new ≡ wake_ends_at (setup run.now.day.now) second links.now slots.now node_wakes.old) }
+    ensures nodes { OnOk result (node_wakes.new ≡ wake_ends (setup run.now.day.now) second links.now slots.now node_wakes.old) }
 {
     leave_places(run, partition, second, slots, links, places)?;
     wake_ends(run.day, second, slots, links, node_wakes)?;
@@ -299,7 +298,7 @@ fn wake_start(
 ) -> Result<(), AllocError>
     requires { length node_wakes.old ≡ length run.now.day.now.town.now.network.nodes }
     ensures { OnOk result (node_wakes.new
-        ≡ wake_own_start (setup run.now.day.now) (owner_in run.now.owner.now.of_node) partition second link node_wakes.old) }
+        ≡ wake_start (setup run.now.day.now) (owner_in run.now.owner.now.of_node) partition second link node_wakes.old) }
 {
     if (link as usize) < run.day.town.network.links.len()
         && begins_here(run.day, run.owner, partition, link)
@@ -311,7 +310,7 @@ fn wake_start(
 }
 
 /// So with each of these links, on which places came free.
-#[tactic(auto, unfolding(crate::specs::Settling::wake_own_starts))]
+#[tactic(auto, unfolding(law_parts_of_days::specs::Settling::wake_starts))]
 pub(crate) fn wake_starts(
     run: &Run,
     partition: u32,
@@ -321,7 +320,7 @@ pub(crate) fn wake_starts(
 ) -> Result<(), AllocError>
     requires { length node_wakes.old ≡ length run.now.day.now.town.now.network.nodes }
     ensures { OnOk result (node_wakes.new
-        ≡ wake_own_starts (setup run.now.day.now) (owner_in run.now.owner.now.of_node) partition second links.now node_wakes.old) }
+        ≡ wake_starts (setup run.now.day.now) (owner_in run.now.owner.now.of_node) partition second links.now node_wakes.old) }
 {
     let mut rest = links;
     while let [link, later @ ..] = rest {

@@ -4,15 +4,43 @@ use Rattle.traffic.specs.declared.world.Row.{Row}
 use Rattle.town.specs.Views.{setup}
 use Rattle.law_in_range.proofs.Days.{one_each}
 use Rattle.law_own_worlds.specs.Days.{world_before}
-use Rattle.part_persons.proofs.Early.{started_own, own_in_range}
+use Rattle.part_persons.specs.Own.{own_departures}
+use Rattle.part_persons.proofs.Early.{StartedAmong, started_own, own_in_range}
 use Rattle.part_seconds.specs.Starting.{all_started, woken_for_all}
 use Rattle.partition.specs.Owned.{owner_in}
 use Rattle.part_seconds.specs.Slots.{in_slot}
 use Rattle.part_seconds.proofs.Early.{can_come, set_out_stands}
 use Rattle.part_seconds.proofs.Knowing.{fit, fit_before}
 use Rattle.part_seconds.proofs.Looking.{ascending, not_woken, stays}
-use Rattle.part_seconds.proofs.SettingOut.{told_is}
+use Rattle.part_seconds.proofs.SettingOut.{HasSetOut, told_is}
+use Rattle.part_seconds.proofs.area.Area.set_out.Goals.{In_ok-start_departures}
 use Rattle.part_seconds.proofs.area.Area.set_out.Goals as goal
+
+-- the departures that are due have started, and with that the part has set out
+started_by : (c : In_ok-start_departures) →
+    let run = c.args.run.now in
+    let S = setup run.day.now in
+    StartedAmong S c.args.second (own_departures S (owner_in run.owner.now.of_node) c.args.partition) c.land_and_leave.new.self.world
+    c.start_departures.new.self.world c.land_and_leave.new.events.items c.start_departures.new.events.items
+started_by c =
+    let run = c.args.run.now in
+    started_own (setup run.day.now) (owner_in run.owner.now.of_node) c.args.partition c.args.second _ c.land_and_leave.new.self.world
+    c.start_departures.new.self.world c.land_and_leave.new.events.items c.start_departures.new.events.items
+    (c.requires.stands.departures c.args.second (omega arith) c.requires.in_day) c.in_ok-start_departures.ensures.world
+    c.in_ok-start_departures.ensures.events
+
+set_out_by : (c : In_ok-start_departures) →
+    let run = c.args.run.now in
+    let S = setup run.day.now in
+    let own = owner_in run.owner.now.of_node in
+    HasSetOut S own c.args.partition c.args.second (world_before S own c.args.partition c.args.second) c.args.self.now.persons.world
+    c.land_and_leave.new.self.world c.start_departures.new.self.world
+set_out_by c = record {
+  first = c.in_ok-numbers.ensures.world;
+  second = (started_by c).world;
+  persons = c.requires.stands.persons.persons;
+  rows = c.requires.stands.persons.rows;
+}
 
 pub start_departures-requires-clause-there : goal.start_departures-requires-clause-there
 start_departures-requires-clause-there c =
@@ -28,17 +56,10 @@ come_to_lines-requires-clause-can c =
     let S = setup day in
     let own = owner_in c.args.run.now.owner.now.of_node in
     let t = c.args.second in
-    let started = started_own S own c.args.partition t _ c.land_and_leave.new.self.world c.start_departures.new.self.world
-    c.land_and_leave.new.events.items c.start_departures.new.events.items (c.requires.stands.departures t (omega arith) c.requires.in_day)
-    c.in_ok-start_departures.ensures.world c.in_ok-start_departures.ensures.events in
     can_come day own c.args.run.now.owner.now.parts c.args.partition t c.args.run.now.link_slots.now c.args.run.now.given
     c.args.run.now.owner.now.owned c.args.run.now.slots c.requires.in_day c.args.self.now c.requires.stands c.land_and_leave.new.self.world
-    c.start_departures.new.self.world c.deref.result.now (record {
-      first = c.in_ok-numbers.ensures.world;
-      second = started.world;
-      persons = c.requires.stands.persons.persons;
-      rows = c.requires.stands.persons.rows;
-    }) (c.deref.ensures.value ∙ c.in_ok-numbers.ensures.due) c.in_ok-start_departures.ensures.fit
+    c.start_departures.new.self.world c.deref.result.now (set_out_by (goal.at.come_to_lines-requires-clause-can c).In_ok-start_departures)
+    (c.deref.ensures.value ∙ c.in_ok-numbers.ensures.due) c.in_ok-start_departures.ensures.fit
 
 pub returns-clause-events : goal.returns-clause-events
 returns-clause-events c =
@@ -46,17 +67,10 @@ returns-clause-events c =
     let own = owner_in c.args.run.now.owner.now.of_node in
     let t = c.args.second in
     let p = c.args.partition in
-    let started = started_own S own p t _ c.land_and_leave.new.self.world c.start_departures.new.self.world
-    c.land_and_leave.new.events.items c.start_departures.new.events.items (c.requires.stands.departures t (omega arith) c.requires.in_day)
-    c.in_ok-start_departures.ensures.world c.in_ok-start_departures.ensures.events in
     told_is S own p t (world_before S own p t) c.args.self.now.persons.world c.land_and_leave.new.self.world
-    c.start_departures.new.self.world (record {
-      first = c.in_ok-numbers.ensures.world;
-      second = started.world;
-      persons = c.requires.stands.persons.persons;
-      rows = c.requires.stands.persons.rows;
-    }) c.args.events.now.items c.land_and_leave.new.events.items c.start_departures.new.events.items c.in_ok-numbers.ensures.events
-    started.events
+    c.start_departures.new.self.world (set_out_by (goal.at.returns-clause-events c).In_ok-start_departures) c.args.events.now.items
+    c.land_and_leave.new.events.items c.start_departures.new.events.items c.in_ok-numbers.ensures.events
+    (started_by (goal.at.returns-clause-events c).In_ok-start_departures).events
 
 pub returns-clause-stands : goal.returns-clause-stands
 returns-clause-stands c =
@@ -64,18 +78,11 @@ returns-clause-stands c =
     let S = setup day in
     let own = owner_in c.args.run.now.owner.now.of_node in
     let t = c.args.second in
-    let started = started_own S own c.args.partition t _ c.land_and_leave.new.self.world c.start_departures.new.self.world
-    c.land_and_leave.new.events.items c.start_departures.new.events.items (c.requires.stands.departures t (omega arith) c.requires.in_day)
-    c.in_ok-start_departures.ensures.world c.in_ok-start_departures.ensures.events in
     let placed = c.in_ok-rows.ensures ∙ ap (λ (rs : List Row). map (in_slot c.args.run.now.link_slots.now) rs) c.take_rows-started.ensures.rows in
     set_out_stands day own c.args.run.now.owner.now.parts c.args.partition t c.args.run.now.link_slots.now c.args.run.now.given
     c.args.run.now.owner.now.owned c.args.run.now.slots c.requires.in_day c.args.self.now c.requires.stands c.land_and_leave.new.self.world
-    c.start_departures.new.self.world c.deref.result.now (record {
-      first = c.in_ok-numbers.ensures.world;
-      second = started.world;
-      persons = c.requires.stands.persons.persons;
-      rows = c.requires.stands.persons.rows;
-    }) (c.deref.ensures.value ∙ c.in_ok-numbers.ensures.due) c.in_ok-start_departures.ensures.fit _ c.take_rows-started.ensures.left
+    c.start_departures.new.self.world c.deref.result.now (set_out_by (goal.at.returns-clause-stands c).In_ok-start_departures)
+    (c.deref.ensures.value ∙ c.in_ok-numbers.ensures.due) c.in_ok-start_departures.ensures.fit _ c.take_rows-started.ensures.left
     (c.in_ok-start_departures.ensures.followed (t + 1) c.in_ok-numbers.ensures.followed) c.in_ok-start_departures.ensures.wakes
     c.in_ok-start_departures.ensures.rest c.in_ok-come_to_lines.ensures
     (c.in_ok-come_to_links.ensures.links ∙ ap (λ (rs : List Row). all_started rs c.args.self.now.network.links.items) placed)
@@ -102,13 +109,6 @@ returns-clause-others c = λ i off.
     let own = owner_in c.args.run.now.owner.now.of_node in
     let t = c.args.second in
     let p = c.args.partition in
-    let started = started_own S own p t _ c.land_and_leave.new.self.world c.start_departures.new.self.world
-    c.land_and_leave.new.events.items c.start_departures.new.events.items (c.requires.stands.departures t (omega arith) c.requires.in_day)
-    c.in_ok-start_departures.ensures.world c.in_ok-start_departures.ensures.events in
     stays S own p t i (world_before S own p t) c.args.self.now.persons.world c.land_and_leave.new.self.world
-    c.start_departures.new.self.world (record {
-      first = c.in_ok-numbers.ensures.world;
-      second = started.world;
-      persons = c.requires.stands.persons.persons;
-      rows = c.requires.stands.persons.rows;
-    }) (c.in_ok-numbers.ensures.others i (not_woken t i c.args.self.now.persons.wakes _ c.in_ok-numbers.ensures.due off))
+    c.start_departures.new.self.world (set_out_by (goal.at.returns-clause-others c).In_ok-start_departures)
+    (c.in_ok-numbers.ensures.others i (not_woken t i c.args.self.now.persons.wakes _ c.in_ok-numbers.ensures.due off))

@@ -1,6 +1,5 @@
 -- What a scorer gives at the end is the score of the events that it has taken.
-use Rattle.std.proofs.Common.{◌≡◌, ◌≢◌, ℕ, ◌+◌, ◌-◌, Bool, true, false, nat_eq, List, [], ◌∷◌, ◌++◌, map, length, drop, Option, None, Some, ℤ, pos, ◌+ℤ◌, refl, sym, ap, ◌∙◌, subst, append-nil, arith}
-use Rattle.std.proofs.lemmas.Bool.{cases_Bool}
+use Rattle.std.proofs.Common.{◌≡◌, ℕ, ◌+◌, ◌-◌, Bool, true, false, nat_eq, List, [], ◌∷◌, ◌++◌, map, drop, Option, Some, ℤ, pos, ◌+ℤ◌, refl, sym, ap, ◌∙◌, append-nil, arith}
 use Rattle.std.proofs.lemmas.Int.{ints}
 use Rattle.std.specs.List.{zip}
 use Rattle.events.specs.declared.event.Event.{Event}
@@ -11,7 +10,7 @@ use Rattle.scoring.specs.declared.scorer.Doing.TheVariants as doing
 use Rattle.scoring.specs.declared.scorer.Scorer.{Scorer}
 use Rattle.scoring.specs.Tables.{ScoringRows, activity_worth}
 use Rattle.scoring.specs.Score.{Activity, starts, departures, act_ends, leg_ends, stuck_in, ended, unended, until, until_midnight, over_midnight, with_night, spells, spell_worth, spells_worth, rides_worth, lateness_costs, stuck_costs, total, score}
-use Rattle.scoring.specs.Taken.{activity_of, first_of, last_step, word_of, settled, Keeps, IsTakenBy}
+use Rattle.scoring.specs.Taken.{activity_of, first_of, word_of, settled, IsTakenBy}
 use Rattle.scoring.specs.Steps.{last_worth}
 use Rattle.scoring.proofs.Pairs.{total-push}
 

@@ -1,5 +1,5 @@
 -- What each of the five words makes of what a scorer keeps.
-use Rattle.std.proofs.Common.{◌≡◌, ℕ, zero, suc, ◌+◌, ◌-◌, ◌≤◌, List, [], ◌∷◌, ◌++◌, map, length, drop, Option, None, Some, ℤ, pos, ◌+ℤ◌, ◌*ℤ◌, refl, sym, ap, ◌∙◌, subst, arith, length-append}
+use Rattle.std.proofs.Common.{◌≡◌, ℕ, ◌+◌, ◌-◌, List, [], ◌∷◌, ◌++◌, map, length, drop, None, Some, ℤ, pos, ◌+ℤ◌, ◌*ℤ◌, refl, sym, ap, ◌∙◌, subst, arith, length-append}
 use Rattle.std.proofs.lemmas.List.{map-append}
 use Rattle.std.proofs.lemmas.Int.{ints}
 use Rattle.std.specs.List.{zip}
@@ -9,7 +9,7 @@ use Rattle.scoring.specs.declared.scorer.Doing.TheVariants as doing
 use Rattle.scoring.specs.declared.scorer.Scorer.{Scorer}
 use Rattle.scoring.specs.Tables.{ScoringRows, activity_worth, leg_worth, seconds_late}
 use Rattle.scoring.specs.Score.{Activity, Leg, ended, unended, until, spell_worth, spells_worth, ride_worth, rides_worth, lateness_cost, lateness_costs, stuck_costs, total}
-use Rattle.scoring.specs.Taken.{activity_of, leg_of, first_of, settled, Keeps}
+use Rattle.scoring.specs.Taken.{activity_of, leg_of, settled, Keeps}
 use Rattle.scoring.proofs.Pairs.{zip-close, zip-open, zip-nil, drop-close, drop-open, total-push}
 
 -- a sum of four parts of which one grows

@@ -1,5 +1,5 @@
 -- The laws of values, scores and turns.
-use Rattle.std.proofs.Common.{◌≡◌, ℕ, zero, suc, ◌+◌, ◌-◌, ◌*◌, ◌<◌, ◌≤◌, ◌⊎◌, inl, inr, Bool, true, false, ◌&&◌, cond, nat_lt, int_le, List, [], ◌∷◌, ◌++◌, map, length, filter, All, Option, None, Some, ℤ, pos, negsuc, ◌+ℤ◌, ◌-ℤ◌, ◌*ℤ◌, ◌≤ℤ◌, ◌<ℤ◌, neg_ℤ, FitsSigned, w64, refl, sym, ap, ◌∙◌, subst, lt-ltb, le-ltb, ◌/◌, suc-mul, div-mul-le_self, arith}
+use Rattle.std.proofs.Common.{◌≡◌, ℕ, zero, suc, ◌+◌, ◌-◌, ◌*◌, ◌<◌, ◌≤◌, inl, inr, Bool, true, false, int_le, List, [], ◌∷◌, ◌++◌, map, length, filter, All, Option, None, ℤ, pos, negsuc, ◌+ℤ◌, ◌-ℤ◌, ◌*ℤ◌, ◌≤ℤ◌, ◌<ℤ◌, FitsSigned, w64, refl, sym, ap, ◌∙◌, subst, lt-ltb, le-ltb, ◌/◌, suc-mul, div-mul-le_self, arith}
 use Rattle.std.proofs.lemmas.Bool.{and_parts, cases_lt, cases_Bool}
 use Rattle.std.proofs.lemmas.Int.{ints}
 use Rattle.std.proofs.lemmas.List.{map-append}
@@ -18,7 +18,7 @@ use Rattle.scoring.specs.Ranges.{IsWithin}
 use Rattle.scoring.specs.Points.{Point, are_rising, are_climbing, on_line, value, along}
 use Rattle.scoring.specs.Turns.{steps, Follow, InTurn}
 use Rattle.scoring.specs.Tables.{ScoringRows}
-use Rattle.scoring.specs.Score.{started, departed, act_ended, leg_ended, got_stuck, starts, departures, act_ends, leg_ends, stuck_in, spells, spells_worth, rides_worth, lateness_costs, stuck_costs, total, score}
+use Rattle.scoring.specs.Score.{started, departed, act_ended, leg_ended, got_stuck, starts, departures, act_ends, leg_ends, stuck_in, total, score}
 use borrow.Author.Differences.{neg_is}
 use Rattle.scoring.proofs.Lines.{on_line-between, on_line-mono}
 use Rattle.scoring.proofs.PointsLemmas.{rising_tail, value-before, value-along, value-skip}

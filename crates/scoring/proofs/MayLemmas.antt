@@ -1,5 +1,5 @@
 -- A scorer knows which event may come next.
-use Rattle.std.proofs.Common.{◌≡◌, ℕ, ◌<◌, ◌≤◌, Bool, true, false, cond, IsTrue, ◌↔◌, inl, inr, List, [], ◌∷◌, ◌++◌, length, refl, sym, ap, ◌∙◌, subst, append-nil, length-take, arith}
+use Rattle.std.proofs.Common.{◌≡◌, ℕ, ◌<◌, ◌≤◌, true, false, cond, IsTrue, ◌↔◌, inl, inr, List, [], ◌∷◌, ◌++◌, length, refl, sym, ap, ◌∙◌, subst, append-nil, length-take, arith}
 use Rattle.std.proofs.lemmas.Bool.{cases_Bool}
 use Rattle.limits.specs.declared.TheConstants.{LAST_SECOND}
 use Rattle.events.specs.declared.event.Event.{Event}

@@ -1,5 +1,5 @@
 -- Lists whose items are paired one by one, of which the first may be one longer, and sums over them.
-use Rattle.std.proofs.Common.{◌≡◌, ℕ, zero, suc, ◌+◌, ◌≤◌, List, [], ◌∷◌, ◌++◌, map, length, drop, ℤ, pos, ◌+ℤ◌, refl, sym, ap, ◌∙◌, arith, length-append, drop_of_length-le}
+use Rattle.std.proofs.Common.{◌≡◌, ◌+◌, List, [], ◌∷◌, ◌++◌, map, length, drop, ℤ, ◌+ℤ◌, refl, ap, arith, length-append, drop_of_length-le}
 use Rattle.std.proofs.Math.Seq.{drop-append_seam}
 use Rattle.std.proofs.lemmas.Int.{ints}
 use Rattle.std.specs.List.{zip}

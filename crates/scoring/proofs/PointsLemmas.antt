@@ -1,11 +1,11 @@
 -- The value of a table along its points.
-use Rattle.std.proofs.Common.{◌≡◌, ℕ, ◌+◌, ◌-◌, ◌<◌, ◌≤◌, ◌⊎◌, inl, inr, Bool, true, false, ◌&&◌, cond, if◌then◌else◌, nat_lt, List, [], ◌∷◌, ◌++◌, Option, None, Some, zero, suc, length, get_or, take, drop, filter, to_z, of_z, w64, ℤ, pos, ◌≤ℤ◌, neg_ℤ, refl, sym, ap, ap₂, ◌∙◌, subst, le-leb, lt-ltb, le-ltb, ltb-true, add-one, drop-cons, drop_of_length-le, take_all, arith}
+use Rattle.std.proofs.Common.{◌≡◌, ℕ, ◌+◌, ◌-◌, ◌<◌, ◌≤◌, inl, inr, true, nat_lt, List, [], ◌∷◌, zero, suc, length, get_or, take, drop, to_z, of_z, w64, neg_ℤ, refl, sym, ◌∙◌, le-leb, lt-ltb, le-ltb, ltb-true, add-one, drop-cons, drop_of_length-le, take_all, arith}
 use Rattle.std.proofs.lemmas.Bool.{and_parts, cases_lt, lt-leb}
 use Rattle.std.proofs.lemmas.Int.{ints}
 use Rattle.std.specs.List.{list_all}
 use Rattle.scoring.specs.declared.TheConstants.{MAX_WORTH}
 use Rattle.scoring.specs.Ranges.{IsWithin}
-use Rattle.scoring.specs.Points.{Point, is_point, are_rising, up_to, behind, first_of, last_of, on_line, between, value, along}
+use Rattle.scoring.specs.Points.{Point, is_point, are_rising, up_to, on_line, value, along}
 use Rattle.scoring.proofs.Bounds.{code_same}
 use Rattle.scoring.proofs.Lines.{point-within, on_line-between}
 

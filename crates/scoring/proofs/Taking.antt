@@ -1,8 +1,7 @@
 -- A scorer that takes an event stands for one event more.
-use Rattle.std.proofs.Common.{◌≡◌, ◌≢◌, ℕ, ◌+◌, ◌-◌, ◌*◌, ◌<◌, ◌≤◌, Bool, true, false, cond, List, [], ◌∷◌, ◌++◌, map, length, Option, None, Some, ℤ, pos, ◌+ℤ◌, ◌*ℤ◌, ◌≤ℤ◌, neg_ℤ, refl, sym, ap, ◌∙◌, subst, arith, length-append}
+use Rattle.std.proofs.Common.{◌≡◌, ◌≢◌, ℕ, ◌+◌, ◌-◌, ◌*◌, ◌≤◌, true, cond, List, [], ◌∷◌, ◌++◌, length, Option, None, Some, ℤ, pos, ◌+ℤ◌, ◌*ℤ◌, ◌≤ℤ◌, refl, sym, ap, ◌∙◌, subst, arith, length-append}
 use Rattle.std.proofs.lemmas.Int.{ints}
 use Rattle.std.proofs.lemmas.Option.{none-some}
-use Rattle.std.specs.List.{cons_option}
 use Rattle.std.specs.Option.{ForSome}
 use Rattle.limits.specs.declared.TheConstants.{LAST_SECOND}
 use Rattle.events.specs.declared.event.Event.{Event}
@@ -12,16 +11,16 @@ use Rattle.events.specs.declared.event.More.TheVariants as more
 use Rattle.events.specs.declared.event.Word.{Word}
 use Rattle.events.specs.declared.event.Word.TheVariants as word
 use Rattle.events.specs.Persons.{is_step}
-use Rattle.scoring.specs.declared.TheConstants.{MAX_EVENTS, MAX_LEG_WORTH, MAX_SCORE, MAX_WORTH}
+use Rattle.scoring.specs.declared.TheConstants.{MAX_LEG_WORTH, MAX_WORTH}
 use Rattle.scoring.specs.declared.scorer.Doing.{Doing}
 use Rattle.scoring.specs.declared.scorer.Doing.TheVariants as doing
 use Rattle.scoring.specs.declared.scorer.Scorer.{Scorer}
 use Rattle.scoring.specs.declared.table.Table.{Table}
 use Rattle.scoring.specs.declared.tables.Tables.{Tables}
 use Rattle.scoring.specs.Ranges.{IsWithin}
-use Rattle.scoring.specs.Turns.{steps, word_before, Follow, InTurn, tells}
+use Rattle.scoring.specs.Turns.{steps, word_before, Follow, tells}
 use Rattle.scoring.specs.Tables.{ScoringRows, scoring_rows, activity_worth, leg_worth, seconds_late}
-use Rattle.scoring.specs.Score.{Activity, Leg, started, departed, act_ended, leg_ended, got_stuck, starts, departures, act_ends, leg_ends, stuck_in, stuck_costs, total}
+use Rattle.scoring.specs.Score.{Activity, Leg, starts, departures, act_ends, leg_ends, stuck_in, total}
 use Rattle.scoring.specs.Taken.{first_kind_of, MayFollow, last_of, last_step, word_of, bound_of, settled, Keeps, IsTakenBy}
 use Rattle.scoring.specs.Steps.{with_activity_ended, with_leg_begun, with_leg_ended, with_activity_begun, with_event}
 use Rattle.scoring.proofs.Bounds.{product-within}

@@ -1,5 +1,5 @@
 -- How much activities, legs and lateness are worth at most.
-use Rattle.std.proofs.Common.{◌≡◌, ℕ, zero, suc, ◌+◌, ◌-◌, ◌*◌, ◌<◌, ◌≤◌, true, ◌&&◌, inl, inr, nat_eq, nat_le, int_le, List, [], ◌∷◌, length, map, slice_get, find, Option, None, Some, ℤ, pos, ◌+ℤ◌, ◌*ℤ◌, ◌≤ℤ◌, neg_ℤ, FitsSigned, w64, to_z, of_z, refl, sym, ap, ◌∙◌, subst, arith}
+use Rattle.std.proofs.Common.{◌≡◌, ℕ, zero, suc, ◌+◌, ◌-◌, ◌*◌, ◌≤◌, true, ◌&&◌, inl, inr, nat_eq, nat_le, int_le, List, [], ◌∷◌, length, map, slice_get, Option, None, Some, ℤ, pos, ◌+ℤ◌, ◌*ℤ◌, ◌≤ℤ◌, neg_ℤ, FitsSigned, w64, to_z, of_z, sym, ap, ◌∙◌, subst, arith}
 use Rattle.std.proofs.lemmas.Bool.{and_parts, cases_Bool}
 use Rattle.std.proofs.lemmas.Bool.Decides.{nat_tests}
 use Rattle.std.proofs.lemmas.Int.{ints}
@@ -12,7 +12,7 @@ use Rattle.scoring.specs.declared.table.ModeScore.{ModeScore}
 use Rattle.scoring.specs.declared.table.Table.{Table}
 use Rattle.scoring.specs.Limits.{kind_of, are_distinct, is_right, are_tables, is_mode, are_costs}
 use Rattle.scoring.specs.Ranges.{is_within, IsWithin}
-use Rattle.scoring.specs.Points.{Point, is_point, are_rising, is_table, value}
+use Rattle.scoring.specs.Points.{Point, is_point, are_rising, value}
 use Rattle.scoring.specs.Tables.{table_of, activity_worth, place_of, leg_worth, latest_of, seconds_late}
 use Rattle.scoring.proofs.Bounds.{product-within, code_same}
 use Rattle.scoring.proofs.PointsLemmas.{value-within}

@@ -1,5 +1,5 @@
 -- Numbers that are neither too large nor too small.
-use Rattle.std.specs.Prelude.{ℕ, Bool, ◌&&◌, ℤ, neg_ℤ, int_le, ◌≤ℤ◌}
+use Rattle.std.specs.Prelude.{Bool, ◌&&◌, ℤ, neg_ℤ, int_le, ◌≤ℤ◌}
 
 -- whether a number is at most so large, and at least as large as the negative of that
 abbrev pub is_within : ℤ → ℤ → Bool

@@ -1,5 +1,5 @@
 -- What activities, legs and lateness are worth by the tables and modes.
-use Rattle.std.specs.Prelude.{ℕ, ◌-◌, nat_eq, List, slice_get, find, Option, None, Some, option_and_then, ℤ, pos, ◌+ℤ◌, ◌*ℤ◌}
+use Rattle.std.specs.Prelude.{ℕ, ◌-◌, nat_eq, List, slice_get, find, Option, option_and_then, ℤ, pos, ◌+ℤ◌, ◌*ℤ◌}
 use Rattle.std.specs.Option.{option_map_or}
 use Rattle.events.specs.declared.event.Mode.{Mode}
 use Rattle.events.specs.declared.event.Mode.TheVariants as mode

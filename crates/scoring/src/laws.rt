@@ -3,7 +3,7 @@
 
 ghost use Rattle.std.specs.Prelude.{◌≡◌, ◌+◌, ◌*◌, ◌-◌, ◌<◌, ◌≤◌, ℕ, ℤ, pos, neg_ℤ};
 ghost use Rattle.std.specs.Prelude.{◌+ℤ◌, ◌-ℤ◌, ◌*ℤ◌, ◌≤ℤ◌, ◌<ℤ◌, FitsSigned, List, []};
-ghost use Rattle.std.specs.Prelude.{◌∷◌, ◌++◌, length, true, filter, All};
+ghost use Rattle.std.specs.Prelude.{◌∷◌, ◌++◌, length, true, map, filter, All};
 ghost use Rattle.std.specs.Int.{w64};
 ghost use Rattle.events.specs.declared.event.Event.{Event};
 ghost use Rattle.events.specs.Persons.{is_step};
@@ -57,19 +57,16 @@ pub fn sums_of_scores_fit()
         → FitsSigned w64 (total persons) }
 {}
 
-/// Worked values and scores, computed from the definitions alone.
+/// Worked values and scores, computed from the definitions alone: what a table gives at three seconds, and one whose points fall at another;
+/// the scores of a walk, a drive, a passenger and one left behind, without tables; those of a day at home, of a commute, of one stuck on the
+/// way home and of one who stays at work, by two tables; and that of the commute where work begins late behind a second.
 pub fn worked_scores()
-    ensures midday { value home_points 21600 ≡ pos 20000000 }
-    ensures morning { value home_points 1 ≡ neg_ℤ (pos 19998149) }
-    ensures night { value home_points 90000 ≡ pos 80000000 }
+    ensures climbing { map (value home_points) (21600 ∷ 1 ∷ 90000 ∷ [])
+        ≡ pos 20000000 ∷ neg_ℤ (pos 19998149) ∷ pos 80000000 ∷ [] }
     ensures falling { value falling_points 1 ≡ pos 6 }
-    ensures stays { score two_tables home [] ≡ pos 80000000 }
-    ensures walk { score no_tables home walk ≡ neg_ℤ (pos 83300) }
-    ensures drive { score no_tables home drive ≡ neg_ℤ (pos 18326) }
-    ensures passenger { score no_tables home passenger ≡ neg_ℤ (pos 236572) }
-    ensures left_behind { score no_tables home left_behind ≡ neg_ℤ (pos 279761400) }
-    ensures commute { score two_tables home commute ≡ pos 126594366 }
-    ensures evening { score two_tables home stuck_in_the_evening ≡ neg_ℤ (pos 90681949) }
-    ensures away { score two_tables home to_work ≡ pos 93315007 }
+    ensures without_tables { map (score no_tables home) (walk ∷ drive ∷ passenger ∷ left_behind ∷ [])
+        ≡ neg_ℤ (pos 83300) ∷ neg_ℤ (pos 18326) ∷ neg_ℤ (pos 236572) ∷ neg_ℤ (pos 279761400) ∷ [] }
+    ensures with_tables { map (score two_tables home) ([] ∷ commute ∷ stuck_in_the_evening ∷ to_work ∷ [])
+        ≡ pos 80000000 ∷ pos 126594366 ∷ neg_ℤ (pos 90681949) ∷ pos 93315007 ∷ [] }
     ensures late { score strict_tables home commute ≡ pos 126539366 }
 {}

@@ -1,4 +1,4 @@
-use Rattle.std.proofs.Common.{◌<◌, ◌++◌, ◌∷◌, [], ℕ, get_or, length, length-take, take, sym, subst, ◌∙◌, below_more, arith}
+use Rattle.std.proofs.Common.{◌<◌, get_or, length, length-take, take, sym, subst, ◌∙◌, below_more, arith}
 use Rattle.std.proofs.lemmas.List.{take_more, get_or_default}
 use Rattle.events.specs.declared.event.Event.{Event}
 use Rattle.scoring.specs.Tables.{scoring_rows}

@@ -1,8 +1,7 @@
-use Rattle.std.proofs.Common.{◌≡◌, ℤ, to_z, of_z, w64, sym, subst, ◌∙◌, arith}
+use Rattle.std.proofs.Common.{◌≡◌, to_z, of_z, w64, sym, subst, ◌∙◌, arith}
 use Rattle.std.proofs.lemmas.Int.{ints}
 use Rattle.scoring.specs.declared.TheConstants.{MAX_WORTH}
 use Rattle.scoring.specs.Ranges.{IsWithin}
-use Rattle.scoring.specs.Points.{value}
 use Rattle.scoring.proofs.PointsLemmas.{value-within, others_in, before_first, from_first}
 use Rattle.scoring.proofs.values.value.Goals as goal
 

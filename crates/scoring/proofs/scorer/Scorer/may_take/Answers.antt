@@ -1,4 +1,4 @@
-use Rattle.std.proofs.Common.{◌≡◌, IsTrue, ◌↔◌, Bool, sym, subst}
+use Rattle.std.proofs.Common.{IsTrue, ◌↔◌, Bool, sym, subst}
 use Rattle.scoring.specs.Taken.{MayFollow}
 use Rattle.scoring.proofs.MayLemmas.{may_take}
 use Rattle.scoring.proofs.scorer.Scorer.may_take.Goals as goal

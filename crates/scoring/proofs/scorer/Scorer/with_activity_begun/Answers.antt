@@ -2,7 +2,6 @@ use Rattle.std.proofs.Common.{ℕ, ℤ, pos, ◌≤◌, ◌+ℤ◌, ◌*ℤ◌, 
 use Rattle.std.proofs.lemmas.Int.{ints}
 use Rattle.limits.specs.declared.TheConstants.{LAST_SECOND}
 use Rattle.scoring.specs.declared.scorer.Doing.TheVariants as doing
-use Rattle.scoring.specs.declared.scorer.Scorer.{Scorer}
 use Rattle.scoring.proofs.WorthLemmas.{late_sum_fits, late_sum_same, costs_are}
 use Rattle.scoring.proofs.scorer.Scorer.with_activity_begun.Goals as goal
 

@@ -1,5 +1,4 @@
 use Rattle.std.proofs.Common.{ℤ, ◌+ℤ◌, ap, ◌∙◌}
-use Rattle.scoring.specs.declared.scorer.Scorer.{Scorer}
 use Rattle.scoring.specs.Tables.{leg_worth}
 use Rattle.scoring.proofs.WorthLemmas.{three_same}
 use Rattle.scoring.proofs.scorer.Scorer.with_leg_ended.Goals as goal

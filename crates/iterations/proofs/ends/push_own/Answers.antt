@@ -1,4 +1,4 @@
-use Rattle.std.proofs.Common.{◌≡◌, ℕ, List, length, sym, ◌∙◌, ap, arith}
+use Rattle.std.proofs.Common.{ℕ, List, length, sym, ◌∙◌, ap, arith}
 use Rattle.iterations.specs.Written.{written_plans}
 use Rattle.iterations.proofs.PlanLines.{own_end, written_count}
 use Rattle.iterations.proofs.ends.push_own.Goals as goal

@@ -1,4 +1,4 @@
-use Rattle.std.proofs.Common.{◌≡◌, refl, arith}
+use Rattle.std.proofs.Common.{refl, arith}
 use Rattle.iterations.proofs.PlanLines.{persons_step}
 use Rattle.iterations.proofs.ends.push_persons.Goals as goal
 

@@ -1,4 +1,4 @@
-use Rattle.std.proofs.Common.{◌≡◌, ◌<◌, ℕ, List, length, arith, ap}
+use Rattle.std.proofs.Common.{ℕ, List, length, arith, ap}
 use Rattle.rows.specs.PlanRows.{plan_rows}
 use Rattle.town.specs.Views.{rows_of}
 use Rattle.iterations.proofs.Outside.{ok_then}

@@ -1,7 +1,7 @@
 //! Small days in parts, computed from the definitions alone.
 #![tactic(auto)]
 
-ghost use Rattle.std.specs.Prelude.{◌≡◌, List, [], ◌∷◌, length, map, true};
+ghost use Rattle.std.specs.Prelude.{◌≡◌, [], ◌∷◌, length, map, true};
 ghost use Rattle.traffic.specs.Worked.{bus, narrow};
 ghost use Rattle.traffic.specs.Day.{day};
 ghost use Rattle.parts.specs.Owners.{lag};
@@ -10,7 +10,7 @@ ghost use Rattle.law_partitions.specs.Alone.{parcel_to};
 ghost use Rattle.law_partition_trials.specs.Trials.{whereabouts, once, told_in_parts, each_node, mixed, of_car, of_walker, of_place};
 ghost use Rattle.law_partition_trials.specs.Trials.{of_nothing, places_apart, rows_in, holes_in};
 ghost use Rattle.partition.specs.declared.axes.Axis.TheVariants.{X, Y};
-ghost use Rattle.partition.specs.Cuts.{Cut, nodes_before, cuts};
+ghost use Rattle.partition.specs.Cuts.{nodes_before, cuts};
 
 /// Three small days whose nodes are partitions of their own: one who drives over three links and one who
 /// walks over two borders; two passengers and a bus of one seat; and three cars, of which two are pushed
@@ -27,9 +27,8 @@ pub fn worked_days_in_parts()
         ≡ once 2 (1 ∷ 2 ∷ 3 ∷ 6 ∷ 7 ∷ 8 ∷ 11 ∷ []) }
     ensures narrow_places { whereabouts (narrow true) each_node 4 3 (0 ∷ 1 ∷ 2 ∷ 3 ∷ 4 ∷ 5 ∷ 6 ∷ [])
         ≡ once 3 (0 ∷ 1 ∷ 2 ∷ 3 ∷ 4 ∷ 5 ∷ 6 ∷ []) }
-    ensures mixed_events { told_in_parts mixed each_node 4 ≡ length (day mixed) }
-    ensures bus_events { told_in_parts bus each_node 4 ≡ length (day bus) }
-    ensures narrow_events { told_in_parts (narrow true) each_node 4 ≡ length (day (narrow true)) }
+    ensures events { map (λ S. told_in_parts S each_node 4) (mixed ∷ bus ∷ narrow true ∷ [])
+        ≡ map (λ S. length (day S)) (mixed ∷ bus ∷ narrow true ∷ []) }
 {}
 
 /// Parcels of the first of these days: the car enters the second link in second 1, with its driver on his
@@ -37,12 +36,11 @@ pub fn worked_days_in_parts()
 /// second 3 the car leaves its place in the queue of the second link, and in second 2 nothing is sent back.
 /// A partition by itself makes the same ones.
 pub fn worked_parcels()
-    ensures car { out mixed each_node 1 2 1 ≡ of_car }
-    ensures walker { out mixed each_node 1 3 0 ≡ of_walker }
-    ensures place { out mixed each_node 2 1 3 ≡ of_place }
-    ensures nothing { out mixed each_node 2 1 2 ≡ of_nothing }
-    ensures car_alone { parcel_to mixed each_node 1 1 (ready mixed each_node 1 1) 2 ≡ of_car }
-    ensures place_alone { parcel_to mixed each_node 2 3 (ready mixed each_node 2 3) 1 ≡ of_place }
+    ensures sent { out mixed each_node 1 2 1 ∷ out mixed each_node 1 3 0 ∷ out mixed each_node 2 1 3 ∷ out mixed each_node 2 1 2 ∷ []
+        ≡ of_car ∷ of_walker ∷ of_place ∷ of_nothing ∷ [] }
+    ensures alone { parcel_to mixed each_node 1 1 (ready mixed each_node 1 1) 2
+        ∷ parcel_to mixed each_node 2 3 (ready mixed each_node 2 3) 1 ∷ []
+        ≡ of_car ∷ of_place ∷ [] }
 {}
 
 /// The first of these days again, where its partitions stand at different seconds: partition by partition at 1, 2, 4 and 4, and at 4, 3, 2

@@ -1,23 +1,29 @@
-use Rattle.law_partition_trials.proofs.Tried.{lags, mixed_places, bus_places, narrow_places, mixed_all, bus_all, narrow_all}
+use Rattle.traffic.proofs.Common.{refl, pick, running_sums, first_above, raised, credit_per_second, storage, buffer_room}
+use Rattle.traffic.proofs.Common.{free_seconds, turns_of, turns_in, world_start, keyed, through, world_from, events_from, day, end_events, told_in, turns}
+use Rattle.traffic.proofs.Common.{link_moves, leave_bay, from_queue, from_wait, person_after, node_moves, draw, one_more, pass_node, waiters, landing_moves}
+use Rattle.traffic.proofs.Common.{leaving_moves, stranded, departure_moves, link_of_vehicle, into, hole_seconds, stays_until, served_vehicle, boarding}
+use Rattle.traffic.proofs.Common.{left_behind, in_turn, riders_after, among}
+use Rattle.draws.specs.Choices.{below}
+use Rattle.parts.specs.Owners.{hops, near, least, lag, link_of_rider}
+use Rattle.parts.specs.Parts.{came_last, went_last, out, unheard, own_events, sent_last, own_end_events}
 use Rattle.law_partition_trials.proofs.worked_days_in_parts.Goals as goal
 
 pub returns-clause-lags : goal.returns-clause-lags
-returns-clause-lags c = lags
+unfolding one_more free_seconds credit_per_second storage buffer_room raised pick below running_sums first_above hole_seconds into among in_turn boarding left_behind riders_after stays_until served_vehicle person_after leave_bay from_wait from_queue link_moves pass_node draw node_moves landing_moves leaving_moves departure_moves waiters link_of_vehicle stranded turns_of turns turns_in keyed through told_in world_start world_from events_from end_events day hops near least lag link_of_rider came_last went_last out unheard own_events sent_last own_end_events
+returns-clause-lags c = refl
 
 pub returns-clause-mixed_places : goal.returns-clause-mixed_places
-returns-clause-mixed_places c = mixed_places
+unfolding one_more free_seconds credit_per_second storage buffer_room raised pick below running_sums first_above hole_seconds into among in_turn boarding left_behind riders_after stays_until served_vehicle person_after leave_bay from_wait from_queue link_moves pass_node draw node_moves landing_moves leaving_moves departure_moves waiters link_of_vehicle stranded turns_of turns turns_in keyed through told_in world_start world_from events_from end_events day hops near least lag link_of_rider came_last went_last out unheard own_events sent_last own_end_events
+returns-clause-mixed_places c = refl
 
 pub returns-clause-bus_places : goal.returns-clause-bus_places
-returns-clause-bus_places c = bus_places
+unfolding one_more free_seconds credit_per_second storage buffer_room raised pick below running_sums first_above hole_seconds into among in_turn boarding left_behind riders_after stays_until served_vehicle person_after leave_bay from_wait from_queue link_moves pass_node draw node_moves landing_moves leaving_moves departure_moves waiters link_of_vehicle stranded turns_of turns turns_in keyed through told_in world_start world_from events_from end_events day hops near least lag link_of_rider came_last went_last out unheard own_events sent_last own_end_events
+returns-clause-bus_places c = refl
 
 pub returns-clause-narrow_places : goal.returns-clause-narrow_places
-returns-clause-narrow_places c = narrow_places
+unfolding one_more free_seconds credit_per_second storage buffer_room raised pick below running_sums first_above hole_seconds into among in_turn boarding left_behind riders_after stays_until served_vehicle person_after leave_bay from_wait from_queue link_moves pass_node draw node_moves landing_moves leaving_moves departure_moves waiters link_of_vehicle stranded turns_of turns turns_in keyed through told_in world_start world_from events_from end_events day hops near least lag link_of_rider came_last went_last out unheard own_events sent_last own_end_events
+returns-clause-narrow_places c = refl
 
-pub returns-clause-mixed_events : goal.returns-clause-mixed_events
-returns-clause-mixed_events c = mixed_all
-
-pub returns-clause-bus_events : goal.returns-clause-bus_events
-returns-clause-bus_events c = bus_all
-
-pub returns-clause-narrow_events : goal.returns-clause-narrow_events
-returns-clause-narrow_events c = narrow_all
+pub returns-clause-events : goal.returns-clause-events
+unfolding one_more free_seconds credit_per_second storage buffer_room raised pick below running_sums first_above hole_seconds into among in_turn boarding left_behind riders_after stays_until served_vehicle person_after leave_bay from_wait from_queue link_moves pass_node draw node_moves landing_moves leaving_moves departure_moves waiters link_of_vehicle stranded turns_of turns turns_in keyed through told_in world_start world_from events_from end_events day hops near least lag link_of_rider came_last went_last out unheard own_events sent_last own_end_events
+returns-clause-events c = refl

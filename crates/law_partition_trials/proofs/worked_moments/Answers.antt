@@ -1,9 +1,17 @@
-use Rattle.traffic.proofs.Common.{[], ◌∷◌}
-use Rattle.law_partition_trials.proofs.Moments.{early_0, early_1, late_0, late_1}
+use Rattle.traffic.proofs.Common.{refl, pick, running_sums, first_above, raised, credit_per_second, storage, buffer_room}
+use Rattle.traffic.proofs.Common.{free_seconds, turns_of, turns_in, world_start, keyed, through, world_from, events_from, day, end_events, told_in, turns}
+use Rattle.traffic.proofs.Common.{link_moves, leave_bay, from_queue, from_wait, person_after, node_moves, draw, one_more, pass_node, waiters, landing_moves}
+use Rattle.traffic.proofs.Common.{leaving_moves, stranded, departure_moves, link_of_vehicle, into, hole_seconds, stays_until, served_vehicle, boarding}
+use Rattle.traffic.proofs.Common.{left_behind, in_turn, riders_after, among}
+use Rattle.draws.specs.Choices.{below}
+use Rattle.parts.specs.Owners.{hops, near, least, lag, link_of_rider}
+use Rattle.parts.specs.Parts.{came_last, went_last, out, unheard, own_events, sent_last, own_end_events}
 use Rattle.law_partition_trials.proofs.worked_moments.Goals as goal
 
 pub returns-clause-early : goal.returns-clause-early
-returns-clause-early c = λ j. early_0 j ∷ early_1 j ∷ []
+unfolding one_more free_seconds credit_per_second storage buffer_room raised pick below running_sums first_above hole_seconds into among in_turn boarding left_behind riders_after stays_until served_vehicle person_after leave_bay from_wait from_queue link_moves pass_node draw node_moves landing_moves leaving_moves departure_moves waiters link_of_vehicle stranded turns_of turns turns_in keyed through told_in world_start world_from events_from end_events day hops near least lag link_of_rider came_last went_last out unheard own_events sent_last own_end_events
+returns-clause-early c = refl
 
 pub returns-clause-late : goal.returns-clause-late
-returns-clause-late c = λ j. late_0 j ∷ late_1 j ∷ []
+unfolding one_more free_seconds credit_per_second storage buffer_room raised pick below running_sums first_above hole_seconds into among in_turn boarding left_behind riders_after stays_until served_vehicle person_after leave_bay from_wait from_queue link_moves pass_node draw node_moves landing_moves leaving_moves departure_moves waiters link_of_vehicle stranded turns_of turns turns_in keyed through told_in world_start world_from events_from end_events day hops near least lag link_of_rider came_last went_last out unheard own_events sent_last own_end_events
+returns-clause-late c = refl

@@ -2,6 +2,8 @@
 //! towns whose nodes have a partition each; tests alone stand on it.
 #![tactic(auto)]
 
+#[cfg(test)]
+mod files;
 mod first_second;
 mod orders;
 #[cfg(test)]

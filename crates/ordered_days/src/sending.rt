@@ -3,26 +3,21 @@
 ghost use Rattle.std.specs.Prelude.{◌<◌};
 ghost use Rattle.law_in_range.specs.Setups.{HaveFittingPlans};
 
+use crate::files::{Files, ONE_WALK, WALK, town_of};
 use crate::first_second::sends_at_first;
-use crate::towns::{FOUR, THREE, WALK};
-use edge_files::InFile;
 use parted_day::{TownPart, run_of, share};
 use rows::Plan;
 use std::alloc::Global;
 use std::thread::Threads;
 use town::{DayInput, Town};
-use town_fixtures::{fixture_of, have_fitting_plans};
+use town_fixtures::have_fitting_plans;
 
 /// A walk of one second from the second node to the last, in the first second of the day.
-const EARLY: &[(InFile, &str)] = &[
-    (InFile::Settings, "{\"end_second\":110}"),
-    (InFile::Nodes, FOUR),
-    (InFile::Links, THREE),
-    (InFile::Plans, STROLL),
-];
-
-const STROLL: &str = "person,plan,kind,name,link,time,route\n\
-    p1,0,act,home,L1,0,\np1,0,leg,walk,,1,\np1,0,act,work,L3,,\n";
+static EARLY: Files = Files {
+    plans: "person,plan,kind,name,link,time,route\n\
+        p1,0,act,home,L1,0,\np1,0,leg,walk,,1,\np1,0,act,work,L3,,\n",
+    ..WALK
+};
 
 /// Whether one of four partitions sends something in the first second.
 fn sends_of(alloc: Global, day: &DayInput, number: u32) -> Option<bool>
@@ -50,13 +45,8 @@ fn sends_in(alloc: Global, town: &Town, chosen: &[Plan], number: u32) -> Option<
 }
 
 /// The same of the town of these files.
-fn sends<R: Threads + Sync>(
-    rt: &R,
-    alloc: Global,
-    texts: &[(InFile, &'static str)],
-    number: u32,
-) -> Option<bool> {
-    let Some(fixture) = fixture_of(rt, alloc, texts) else {
+fn sends<R: Threads + Sync>(rt: &R, alloc: Global, files: &Files, number: u32) -> Option<bool> {
+    let Some(fixture) = town_of(rt, alloc, files) else {
         return None;
     };
     let sends = sends_in(alloc, &fixture.town, &fixture.chosen, number);
@@ -68,7 +58,7 @@ fn sends<R: Threads + Sync>(
 #[test]
 fn nothing_is_sent_where_nobody_leaves(rt: HostRuntime) {
     for number in 0..4 {
-        assert!(rt; sends(&rt, rt.alloc(), WALK, number) == Some(false));
+        assert!(rt; sends(&rt, rt.alloc(), &ONE_WALK, number) == Some(false));
     }
 }
 
@@ -76,6 +66,6 @@ fn nothing_is_sent_where_nobody_leaves(rt: HostRuntime) {
 #[test]
 fn who_sets_out_is_sent(rt: HostRuntime) {
     for number in 0..4 {
-        assert!(rt; sends(&rt, rt.alloc(), EARLY, number) == Some(number == 1));
+        assert!(rt; sends(&rt, rt.alloc(), &EARLY, number) == Some(number == 1));
     }
 }

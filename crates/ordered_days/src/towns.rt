@@ -5,9 +5,9 @@ ghost use Rattle.std.specs.Prelude.{◌≡◌, ◌≤◌, false};
 ghost use Rattle.limits.specs.declared.TheConstants.{MAX_PARTITIONS};
 ghost use Rattle.law_in_range.specs.Setups.{HaveFittingPlans};
 
+use crate::files::{Files, LINE, WALK, town_of};
 use crate::orders::in_order;
 use divided_day::divide;
-use edge_files::InFile;
 use events::Event;
 use parted_day::{Run, TownPart, run_of, share};
 use plain_day::plain_day;
@@ -16,190 +16,107 @@ use std::alloc::Global;
 use std::thread::Threads;
 use step_cases::ORDERS;
 use town::{DayInput, Town};
-use town_fixtures::{fixture_of, have_fitting_plans};
+use town_fixtures::have_fitting_plans;
 
 /// A town: its files, how many nodes it has, from the left to the right, and of its day how many events it tells, and in which second the
 /// last one.
 struct Case {
-    texts: &'static [(InFile, &'static str)],
+    files: Files,
     nodes: u32,
     events: usize,
     last: u32,
 }
 
-/// Four nodes from the left to the right.
-pub(crate) const FOUR: &str = "node,x,y\nA,0,0\nB,100,0\nC,200,0\nD,300,0\n";
+/// Links in a line with room for one vehicle each. Two drive all along it, two from the second link on, and two from the third: they tell
+/// 14, 12 and 10 events each. Nobody waits for so long that he is removed.
+const JAM: Files = Files {
+    settings: "{\"end_second\":130}",
+    nodes: "node,x,y\na,0,0\nb,100,0\nc,200,0\nd,300,0\ne,400,0\n",
+    links: "link,from,to,length,speed,capacity,lanes\n\
+        K1,a,b,50,1000,3600,1\nK2,b,c,50,1000,3600,1\nK3,c,d,50,1000,3600,1\nK4,d,e,50,1000,3600,1\n",
+    plans: "person,plan,kind,name,link,time,route\n\
+        p1,0,act,home,K1,100,\np1,0,leg,car,,,K1 K2 K3 K4\np1,0,act,work,K4,,\n\
+        p2,0,act,home,K1,100,\np2,0,leg,car,,,K1 K2 K3 K4\np2,0,act,work,K4,,\n\
+        p3,0,act,home,K2,100,\np3,0,leg,car,,,K2 K3 K4\np3,0,act,work,K4,,\n\
+        p4,0,act,home,K2,100,\np4,0,leg,car,,,K2 K3 K4\np4,0,act,work,K4,,\n\
+        p5,0,act,home,K3,100,\np5,0,leg,car,,,K3 K4\np5,0,act,work,K4,,\n\
+        p6,0,act,home,K3,100,\np6,0,leg,car,,,K3 K4\np6,0,act,work,K4,,\n",
+    ..LINE
+};
 
-/// Links of ten seconds from each to the next.
-pub(crate) const THREE: &str = "link,from,to,length,speed,capacity,lanes\n\
-    L1,A,B,10000,1000,3600,1\nL2,B,C,10000,1000,3600,1\nL3,C,D,10000,1000,3600,1\n";
-
-const FIVE: &str = "node,x,y\na,0,0\nb,100,0\nc,200,0\nd,300,0\ne,400,0\n";
-
-/// Links in a line with room for one vehicle each.
-const NARROW: &str = "link,from,to,length,speed,capacity,lanes\n\
-    K1,a,b,50,1000,3600,1\nK2,b,c,50,1000,3600,1\nK3,c,d,50,1000,3600,1\nK4,d,e,50,1000,3600,1\n";
-
-/// Two who drive all along it, two from the second link on, and two from the third. They tell 14, 12 and 10 events each.
-const SIX: &str = "person,plan,kind,name,link,time,route\n\
-    p1,0,act,home,K1,100,\np1,0,leg,car,,,K1 K2 K3 K4\np1,0,act,work,K4,,\n\
-    p2,0,act,home,K1,100,\np2,0,leg,car,,,K1 K2 K3 K4\np2,0,act,work,K4,,\n\
-    p3,0,act,home,K2,100,\np3,0,leg,car,,,K2 K3 K4\np3,0,act,work,K4,,\n\
-    p4,0,act,home,K2,100,\np4,0,leg,car,,,K2 K3 K4\np4,0,act,work,K4,,\n\
-    p5,0,act,home,K3,100,\np5,0,leg,car,,,K3 K4\np5,0,act,work,K4,,\n\
-    p6,0,act,home,K3,100,\np6,0,leg,car,,,K3 K4\np6,0,act,work,K4,,\n";
-
-/// Nobody waits for so long that he is removed.
-const JAM: &[(InFile, &str)] = &[
-    (InFile::Settings, "{\"end_second\":130}"),
-    (InFile::Nodes, FIVE),
-    (InFile::Links, NARROW),
-    (InFile::Plans, SIX),
-];
-
-/// The same where a hole takes two seconds along a link.
-const HOLES: &[(InFile, &str)] = &[
-    (InFile::Settings, "{\"end_second\":130,\"hole_speed\":25}"),
-    (InFile::Nodes, FIVE),
-    (InFile::Links, NARROW),
-    (InFile::Plans, SIX),
-];
-
-/// The same where a hole takes five seconds: the second ones of the first two links wait for ten seconds and are removed, with six events
-/// each.
-const REMOVED: &[(InFile, &str)] = &[
-    (InFile::Settings, "{\"end_second\":130,\"hole_speed\":10}"),
-    (InFile::Nodes, FIVE),
-    (InFile::Links, NARROW),
-    (InFile::Plans, SIX),
-];
-
-/// The same where who has waited for two seconds is pushed in.
-const PUSHED: &[(InFile, &str)] = &[
-    (
-        InFile::Settings,
-        "{\"end_second\":130,\"stuck_seconds\":2,\"stuck_push\":1,\"hole_speed\":10}",
-    ),
-    (InFile::Nodes, FIVE),
-    (InFile::Links, NARROW),
-    (InFile::Plans, SIX),
-];
-
-/// A walk of one second from the second node to the last.
-pub(crate) const WALK: &[(InFile, &str)] = &[
-    (InFile::Settings, "{\"end_second\":110}"),
-    (InFile::Nodes, FOUR),
-    (InFile::Links, THREE),
-    (InFile::Plans, STROLL),
-];
-
-/// The same where a hole takes twenty seconds along a link.
-const WALK_BY_HOLES: &[(InFile, &str)] = &[
-    (InFile::Settings, "{\"end_second\":110,\"hole_speed\":500}"),
-    (InFile::Nodes, FOUR),
-    (InFile::Links, THREE),
-    (InFile::Plans, STROLL),
-];
-
-const STROLL: &str = "person,plan,kind,name,link,time,route\n\
-    p1,0,act,home,L1,100,\np1,0,leg,walk,,1,\np1,0,act,work,L3,,\n";
-
-/// Two links into the third node, and one out of it with room for one vehicle.
-const JOINING: &str = "link,from,to,length,speed,capacity,lanes\n\
-    L1,A,C,10000,1000,1000,1\nL2,B,C,10000,1000,2000,1\nL3,C,D,50,1000,3600,1\n";
-
-const TWO: &str = "person,plan,kind,name,link,time,route\n\
-    p1,0,act,home,L1,100,\np1,0,leg,car,,,L1 L3\np1,0,act,work,L3,,\n\
-    p2,0,act,home,L2,100,\np2,0,leg,car,,,L2 L3\np2,0,act,work,L3,,\n";
-
-/// Two who come to one link over two others at once, of which a random number lets one go first: it is the first link's turn.
-const MERGE: &[(InFile, &str)] = &[
-    (InFile::Settings, "{\"end_second\":120}"),
-    (InFile::Nodes, FOUR),
-    (InFile::Links, JOINING),
-    (InFile::Plans, TWO),
-];
-
-/// The same with another random number, by which it is the second link's turn.
-const MERGE_OTHERWISE: &[(InFile, &str)] = &[
-    (InFile::Settings, "{\"end_second\":120,\"seed\":1}"),
-    (InFile::Nodes, FOUR),
-    (InFile::Links, JOINING),
-    (InFile::Plans, TWO),
-];
+/// Two links into the third node, and one out of it with room for one vehicle. Two come to it over the two others at once, of which a
+/// random number lets one go first: it is the first link's turn.
+const MERGE: Files = Files {
+    settings: "{\"end_second\":120}",
+    links: "link,from,to,length,speed,capacity,lanes\n\
+        L1,A,C,10000,1000,1000,1\nL2,B,C,10000,1000,2000,1\nL3,C,D,50,1000,3600,1\n",
+    plans: "person,plan,kind,name,link,time,route\n\
+        p1,0,act,home,L1,100,\np1,0,leg,car,,,L1 L3\np1,0,act,work,L3,,\n\
+        p2,0,act,home,L2,100,\np2,0,leg,car,,,L2 L3\np2,0,act,work,L3,,\n",
+    ..LINE
+};
 
 /// Two who want a bus of one seat, which crosses two borders with the one who got it.
-const BUS: &[(InFile, &str)] = &[
-    (
-        InFile::Settings,
-        "{\"end_second\":260,\"dwell_open\":4,\"dwell_alight\":1,\"dwell_board\":2}",
-    ),
-    (InFile::Nodes, FOUR),
-    (InFile::Links, THREE),
-    (
-        InFile::Plans,
-        "person,plan,kind,name,link,time,route\n\
+const BUS: Files = Files {
+    settings: "{\"end_second\":260,\"dwell_open\":4,\"dwell_alight\":1,\"dwell_board\":2}",
+    plans: "person,plan,kind,name,link,time,route\n\
         p1,0,act,home,L1,100,\np1,0,leg,pt,,,b s1 s3\np1,0,act,work,L3,,\n\
         p2,0,act,home,L1,100,\np2,0,leg,pt,,,b s1 s3\np2,0,act,work,L3,,\n",
-    ),
-    (InFile::Stops, "stop,link\ns1,L1\ns3,L3\n"),
-    (
-        InFile::Routes,
-        "line,route,links,stops\nb,r1,L1 L2 L3,s1:20:wait s3:60\n",
-    ),
-    (
-        InFile::Departures,
-        "departure,route,second,seats\nd1,r1,200,1\n",
-    ),
-];
+    stops: "stop,link\ns1,L1\ns3,L3\n",
+    routes: "line,route,links,stops\nb,r1,L1 L2 L3,s1:20:wait s3:60\n",
+    departures: "departure,route,second,seats\nd1,r1,200,1\n",
+    ..LINE
+};
 
 /// At the end of the day one drives and one rides in a bus, both over a border that they crossed in the last seconds, one walks since long
 /// to another partition and one since five seconds to a third, and one is at the only activity.
-const UNDER_WAY: &[(InFile, &str)] = &[
-    (InFile::Settings, "{\"end_second\":120}"),
-    (InFile::Nodes, FOUR),
-    (InFile::Links, THREE),
-    (
-        InFile::Plans,
-        "person,plan,kind,name,link,time,route\n\
+const UNDER_WAY: Files = Files {
+    settings: "{\"end_second\":120}",
+    plans: "person,plan,kind,name,link,time,route\n\
         p1,0,act,home,L1,115,\np1,0,leg,car,,,L1 L2\np1,0,act,work,L2,,\n\
         p2,0,act,home,L1,100,\np2,0,leg,walk,,60,\np2,0,act,work,L2,,\n\
         p3,0,act,home,L1,,\n\
         p4,0,act,home,L1,100,\np4,0,leg,pt,,,b s1 s2\np4,0,act,work,L2,,\n\
         p5,0,act,home,L1,115,\np5,0,leg,walk,,30,\np5,0,act,work,L3,,\n",
-    ),
-    (InFile::Stops, "stop,link\ns1,L1\ns2,L2\n"),
-    (
-        InFile::Routes,
-        "line,route,links,stops\nb,r1,L1 L2,s1:0 s2:10\n",
-    ),
-    (
-        InFile::Departures,
-        "departure,route,second,seats\nd1,r1,110,1\n",
-    ),
-];
+    stops: "stop,link\ns1,L1\ns2,L2\n",
+    routes: "line,route,links,stops\nb,r1,L1 L2,s1:0 s2:10\n",
+    departures: "departure,route,second,seats\nd1,r1,110,1\n",
+    ..LINE
+};
 
 static JAMS: [Case; 4] = [
     Case {
-        texts: JAM,
+        files: JAM,
         nodes: 5,
         events: 72,
         last: 112,
     },
+    // A hole takes two seconds along a link.
     Case {
-        texts: HOLES,
+        files: Files {
+            settings: "{\"end_second\":130,\"hole_speed\":25}",
+            ..JAM
+        },
         nodes: 5,
         events: 72,
         last: 117,
     },
+    // A hole takes five seconds: the second ones of the first two links wait for ten seconds and are removed, with six events each.
     Case {
-        texts: REMOVED,
+        files: Files {
+            settings: "{\"end_second\":130,\"hole_speed\":10}",
+            ..JAM
+        },
         nodes: 5,
         events: 58,
         last: 120,
     },
+    // Who has waited for two seconds is pushed in.
     Case {
-        texts: PUSHED,
+        files: Files {
+            settings: "{\"end_second\":130,\"stuck_seconds\":2,\"stuck_push\":1,\"hole_speed\":10}",
+            ..JAM
+        },
         nodes: 5,
         events: 72,
         last: 112,
@@ -208,37 +125,45 @@ static JAMS: [Case; 4] = [
 
 static OTHERS: [Case; 6] = [
     Case {
-        texts: WALK,
+        files: WALK,
+        nodes: 4,
+        events: 5,
+        last: 101,
+    },
+    // A hole takes twenty seconds along a link.
+    Case {
+        files: Files {
+            settings: "{\"end_second\":110,\"hole_speed\":500}",
+            ..WALK
+        },
         nodes: 4,
         events: 5,
         last: 101,
     },
     Case {
-        texts: WALK_BY_HOLES,
+        files: MERGE,
         nodes: 4,
-        events: 5,
-        last: 101,
+        events: 20,
+        last: 104,
     },
+    // Another random number, by which it is the second link's turn.
     Case {
-        texts: MERGE,
+        files: Files {
+            settings: "{\"end_second\":120,\"seed\":1}",
+            ..MERGE
+        },
         nodes: 4,
         events: 20,
         last: 104,
     },
     Case {
-        texts: MERGE_OTHERWISE,
-        nodes: 4,
-        events: 20,
-        last: 104,
-    },
-    Case {
-        texts: BUS,
+        files: BUS,
         nodes: 4,
         events: 22,
         last: 260,
     },
     Case {
-        texts: UNDER_WAY,
+        files: UNDER_WAY,
         nodes: 4,
         events: 24,
         last: 120,
@@ -329,7 +254,7 @@ fn are_alike_in(alloc: Global, town: &Town, chosen: &[Plan], case: &Case) -> boo
 
 /// The same of the town of its files.
 fn is_told_alike<R: Threads + Sync>(rt: &R, alloc: Global, case: &Case) -> bool {
-    let Some(fixture) = fixture_of(rt, alloc, case.texts) else {
+    let Some(fixture) = town_of(rt, alloc, &case.files) else {
         return false;
     };
     let alike = are_alike_in(alloc, &fixture.town, &fixture.chosen, case);

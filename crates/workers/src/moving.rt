@@ -63,7 +63,8 @@ where
     requires workers { 1 ≤ workers }
     requires board { IsBoardOfRun T.net T.borders T.nothing T.right run.now board.now }
     requires members { AreMembers until T.borders T.nothing T.see T.stands T.spent T.right run.now board.now bundle.members.items }
-    ensures { RunSpread until T.borders T.nothing T.see T.stands T.spent T.right run.now board.now bundle.members.items result.members.items }
+    ensures { RunSpread until T.borders T.nothing T.see T.stands T.spent T.right run.now board.now bundle.members.items
+        result.members.items }
 {
     run_spread(
         rt,

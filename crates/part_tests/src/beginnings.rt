@@ -77,8 +77,8 @@ const NOBODY: Person = Person {
 /// What a part has at the start: of how many it is which one, the links that end at its nodes, which of the links begin there, who of the
 /// persons is there, and the departures that begin there in seconds 20 and 30.
 struct Start {
-    parts: u32,
-    number: u32,
+    partitions: u32,
+    partition: u32,
     links: &'static [u32],
     places: [bool; 4],
     persons: [bool; 3],
@@ -86,11 +86,11 @@ struct Start {
     at_30: Option<u32>,
 }
 
-/// Of two parts the first has a and b, of four each has one node.
+/// Of two partitions the first has a and b, of four each has one node.
 static STARTS: [Start; 6] = [
     Start {
-        parts: 2,
-        number: 0,
+        partitions: 2,
+        partition: 0,
         links: &[0, 3],
         places: [true, true, false, true],
         persons: [true, true, false],
@@ -98,8 +98,8 @@ static STARTS: [Start; 6] = [
         at_30: Some(0),
     },
     Start {
-        parts: 2,
-        number: 1,
+        partitions: 2,
+        partition: 1,
         links: &[1, 2],
         places: [false, false, true, false],
         persons: [false, false, true],
@@ -107,8 +107,8 @@ static STARTS: [Start; 6] = [
         at_30: None,
     },
     Start {
-        parts: 4,
-        number: 0,
+        partitions: 4,
+        partition: 0,
         links: &[3],
         places: [true, false, false, false],
         persons: [false, true, false],
@@ -116,8 +116,8 @@ static STARTS: [Start; 6] = [
         at_30: None,
     },
     Start {
-        parts: 4,
-        number: 1,
+        partitions: 4,
+        partition: 1,
         links: &[0],
         places: [false, true, false, true],
         persons: [true, false, false],
@@ -125,8 +125,8 @@ static STARTS: [Start; 6] = [
         at_30: Some(0),
     },
     Start {
-        parts: 4,
-        number: 2,
+        partitions: 4,
+        partition: 2,
         links: &[1],
         places: [false, false, true, false],
         persons: [false, false, false],
@@ -134,8 +134,8 @@ static STARTS: [Start; 6] = [
         at_30: None,
     },
     Start {
-        parts: 4,
-        number: 3,
+        partitions: 4,
+        partition: 3,
         links: &[2],
         places: [false, false, false, false],
         persons: [false, false, true],
@@ -157,10 +157,10 @@ fn have_come(persons: &Persons, there: &[bool; 3]) -> bool {
     if persons.world.persons.len() != 3 || !persons.world.rows.is_empty() {
         return false;
     }
-    for number in 0..3 {
-        let person = if there[number] { HOMES[number] } else { NOBODY };
-        if persons.world.persons[number] != person
-            || persons.wakes.due(number as u32) != end_of(person.place)
+    for person in 0..3 {
+        let state = if there[person] { HOMES[person] } else { NOBODY };
+        if persons.world.persons[person] != state
+            || persons.wakes.due(person as u32) != end_of(state.place)
         {
             return false;
         }
@@ -256,8 +256,8 @@ fn area_begins(mut area: Area, start: &Start) -> bool {
 /// Whether each part of a run begins so.
 fn all_begin(run: &Run) -> bool {
     for start in &STARTS {
-        if start.parts == run.owner.parts {
-            match begin(run, start.number) {
+        if start.partitions == run.owner.parts {
+            match begin(run, start.partition) {
                 Ok(area) => {
                     if !area_begins(area, start) {
                         return false;

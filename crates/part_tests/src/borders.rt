@@ -122,8 +122,8 @@ fn goes(persons: &mut Persons) -> bool
         && persons.world.persons.as_slice() == [NOBODY, NOBODY].as_slice()
 }
 
-/// A person who flies since second 90.
-const FLYING: Person = Person {
+/// A person who is on a teleported leg since second 90.
+const TELEPORTED: Person = Person {
     element: 1,
     place: Place::Teleporting { start: 90 },
 };
@@ -144,23 +144,23 @@ fn three_nobodies(alloc: Global) -> Result<Persons, AllocError>
     })
 }
 
-/// Whether the first of them comes on a flight and is looked at in this second.
+/// Whether the first of them comes on a teleported leg and is looked at in this second.
 fn comes(day: &DayInput, persons: &mut Persons, lands: u32) -> bool
     requires plans { length persons.old.world.persons ≡ length day.now.chosen.now }
     requires wakes { length persons.old.wakes ≡ length persons.old.world.persons }
     requires there { 0 < length persons.old.world.persons }
 {
-    match persons.take_in(day, 0, FLYING) {
+    match persons.take_in(day, 0, TELEPORTED) {
         Ok(()) => {
             persons.wakes.due(0) == Some(lands)
-                && persons.world.persons.as_slice() == [FLYING, NOBODY, NOBODY].as_slice()
+                && persons.world.persons.as_slice() == [TELEPORTED, NOBODY, NOBODY].as_slice()
         }
         Err(_) => false,
     }
 }
 
-/// Whether whoever comes to a part on a flight that began in second 90 is there then, and is looked at in this second: the first of the
-/// three persons of a day.
+/// Whether whoever comes to a part on a teleported leg that began in second 90 is there then, and is looked at in this second: the first of
+/// the three persons of a day.
 pub(crate) fn who_comes_is_looked_at(alloc: Global, day: &DayInput, lands: u32) -> bool {
     if day.chosen.len() != 3 {
         return false;

@@ -37,16 +37,16 @@ fn takes(calendar: &mut Calendar, second: u32, numbers: &[u32]) -> bool {
     calendar.take(second).as_slice() == numbers
 }
 
-/// Whether just these departures start in a part in seconds 20 and 30.
+/// Whether just these departures start in a partition in seconds 20 and 30.
 fn start(
     alloc: Global,
     day: &DayInput,
     owner: &Owner,
-    part: u32,
+    partition: u32,
     at_20: &[u32],
     at_30: &[u32],
 ) -> bool {
-    match departures_by_second(alloc, day, owner, part) {
+    match departures_by_second(alloc, day, owner, partition) {
         Ok(mut calendar) => takes(&mut calendar, 20, at_20) && takes(&mut calendar, 30, at_30),
         Err(_) => false,
     }
@@ -68,7 +68,7 @@ fn halves_have_their_own(alloc: Global, town: &Town) -> bool {
         && start(alloc, &day, &owner, 1, &[], &[0])
 }
 
-/// Whether one part that has all nodes has all of it.
+/// Whether one partition that has all nodes has all of it.
 fn whole_has_all(alloc: Global, town: &Town) -> bool {
     let day = DayInput {
         town,

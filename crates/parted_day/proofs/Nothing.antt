@@ -18,10 +18,10 @@ use Rattle.part_seconds.specs.Freed.{heard_all, CanHearAll}
 use Rattle.part_seconds.proofs.Coming.{come_next, come_none}
 use Rattle.part_seconds.specs.declared.area.Area.{Area}
 use Rattle.part_seconds.specs.Settling.{places_known, put_queues}
-use Rattle.parted_day.specs.Absorbed.{places_heard, HasTakenIn, HasAbsorbed}
+use Rattle.parted_day.specs.Absorbed.{places_heard, HasAbsorbedParcel, HasAbsorbed}
 
 pub none_come : (day : DayInput) (slots : List ℕ) (s : ℕ) (A : Area) → length A.persons.wakes ≡ length A.persons.world.persons
-    → HasTakenIn day slots s nothing A A
+    → HasAbsorbedParcel day slots s nothing A A
 unfolding accepted_all wakes_after_all heard_all put_queues
 none_come day slots s A wakes = record {
   persons = come_none day (λ i. person_in i s (Some (parcel_of (setup day) s nothing))) A.persons wakes (λ i lt. refl);
@@ -37,14 +37,14 @@ none_come day slots s A wakes = record {
 -- the part is then as it was
 pub nothing_comes : (day : DayInput) (slots : List ℕ) (s : ℕ) (x : Contents) (A : Area) → x ≡ nothing
     → length A.persons.wakes ≡ length A.persons.world.persons
-    → HasTakenIn day slots s x A A
+    → HasAbsorbedParcel day slots s x A A
 nothing_comes day slots s x A e wakes =
-    subst (λ (y : Contents). HasTakenIn day slots s y A A) (sym e) (none_come day slots s A wakes)
+    subst (λ (y : Contents). HasAbsorbedParcel day slots s y A A) (sym e) (none_come day slots s A wakes)
 
 -- it has absorbed what it had before
 pub nothing_more : (day : DayInput) (own : Owner) (p t : ℕ) (ns slots : List ℕ) (s : ℕ) (old now new : Area)
     → HasAbsorbed day own p t ns old now
-    → HasTakenIn day slots s nothing now new → HasAbsorbed day own p t ns old new
+    → HasAbsorbedParcel day slots s nothing now new → HasAbsorbed day own p t ns old new
 unfolding accepted_all wakes_after_all heard_all CanHearAll put_queues
 nothing_more day own p t ns slots s old now new g e =
     let S = setup day in

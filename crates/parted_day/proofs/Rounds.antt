@@ -28,7 +28,7 @@ use Rattle.part_seconds.specs.declared.contents.Contents.{Contents}
 use Rattle.part_seconds.specs.Parcels.{nothing, HasNothing}
 use Rattle.part_seconds.specs.declared.area.Area.{Area}
 use Rattle.part_seconds.specs.Stands.{AreaStands}
-use Rattle.parted_day.specs.Absorbed.{IsRight, neighbours_at, HasTakenIn, HasAbsorbed}
+use Rattle.parted_day.specs.Absorbed.{IsRight, neighbours_at, HasAbsorbedParcel, HasAbsorbed}
 use Rattle.parted_day.proofs.Senders.{many, neighbour_is, hears_from}
 use Rattle.parted_day.proofs.Nothing.{none_come}
 use Rattle.parted_day.proofs.Steps.{none_absorbed, absorbed_next}
@@ -103,7 +103,7 @@ module _ (day : DayInput) (owner : Owner) (given : HaveFittingPlans day) (p t : 
   -- one place more
   pub round : (k s : ℕ) (x : Contents) (inbox : List Contents) (now new : Area) → k < length rows → s ≡ t - (border_at rows k).lag
       → HasHeard nothing (IsRight S own) p t rows inbox → x ≡ in_place nothing inbox k → HasAbsorbed day own p t (take k all) old now
-      → HasTakenIn day slots s x now new → HasAbsorbed day own p t (take (k + 1) all) old new
+      → HasAbsorbedParcel day slots s x now new → HasAbsorbed day own p t (take (k + 1) all) old new
   round k s x inbox now new lt is heard there g e =
       let b = border_at rows k in
       let borders = borders_sound day owner given p in
@@ -112,7 +112,7 @@ module _ (day : DayInput) (owner : Owner) (given : HaveFittingPlans day) (p t : 
       let n = many rows in
       absorbed_next day own p t old h slots are all k b (omega arith) (neighbour_is rows k lt) (borders.each k lt) (borders.lags k lt)
       becomes
-      (λ u. between S own b.neighbour p u) x now new here g (subst (λ (u : ℕ). HasTakenIn day slots u x now new) is e)
+      (λ u. between S own b.neighbour p u) x now new here g (subst (λ (u : ℕ). HasAbsorbedParcel day slots u x now new) is e)
 
   -- nothing is in any place: the part is as it was
   pub quiet : (k : ℕ) (inbox : List Contents) → k ≤ length rows → HasHeard nothing (IsRight S own) p t rows inbox → HasNothing inbox

@@ -35,7 +35,7 @@ use Rattle.part_seconds.specs.Settling.{places_known}
 use Rattle.part_seconds.proofs.Driven.{put_length, put_other, put_here}
 use Rattle.part_seconds.specs.Stands.{AreaStands}
 use Rattle.part_seconds.proofs.Vacated.{taken_alike}
-use Rattle.parted_day.specs.Absorbed.{IsRight, entered_slots, entering_with, with_rows, places_heard, HasTakenIn}
+use Rattle.parted_day.specs.Absorbed.{IsRight, entered_slots, entering_with, with_rows, places_heard, HasAbsorbedParcel}
 use Rattle.parted_day.specs.Absorbed.{HasAbsorbed}
 use Rattle.parted_day.proofs.Borders.{given_is, given_none}
 use Rattle.parted_day.proofs.Nothing.{nothing_more}
@@ -163,7 +163,7 @@ module _ (day : DayInput) (own : Owner) (p t : ℕ) (old : Area)
     module _ (slots : List ℕ) (are : AreSlots (setup day) own slots) (all rest : List ℕ) (q s : ℕ) (x : Contents) (new : Area)
         (other : near (setup day) own q p ≡ true) (due : t ≡ s + lag (setup day) own q p) (right : IsRight (setup day) own q p s x)
         (between : IsBetween (setup day) own q p s) (split : all ≡ ns ++ q ∷ rest) (becomes : IsReadyBy (setup day) own p t all)
-        (e : HasTakenIn day slots s x now new) where
+        (e : HasAbsorbedParcel day slots s x now new) where
       abbrev links : List LinkView
       links = now.network.links.items
 
@@ -282,7 +282,7 @@ module _ (day : DayInput) (own : Owner) (p t : ℕ) (old : Area)
   pub absorbed_next : (slots : List ℕ) → AreSlots S own slots → (all : List ℕ) (k : ℕ) (b : Border) → k < length all
       → get_or all k 0 ≡ b.neighbour → near S own b.neighbour p ≡ true → b.lag ≡ lag S own b.neighbour p → IsReadyBy S own p t all
       → ((s : ℕ) → IsBetween S own b.neighbour p s) → (x : Contents) (now new : Area) → IsHeard nothing (IsRight S own) p t b x
-      → HasAbsorbed day own p t (take k all) old now → HasTakenIn day slots (t - b.lag) x now new
+      → HasAbsorbed day own p t (take k all) old now → HasAbsorbedParcel day slots (t - b.lag) x now new
       → HasAbsorbed day own p t (take (k + 1) all) old new
   absorbed_next slots are all k b lt is other lags becomes between x now new heard g e =
       let q = b.neighbour in
@@ -294,8 +294,8 @@ module _ (day : DayInput) (own : Owner) (p t : ℕ) (old : Area)
       let more : HasAbsorbed day own p t (ns ++ q ∷ []) old new
       = elim (cases_lt t b.lag) [
         | inl early ↦
-            let nothing_came : HasTakenIn day slots (t - b.lag) nothing now new
-            = subst (λ (y : Contents). HasTakenIn day slots (t - b.lag) y now new) (heard.none early) e in
+            let nothing_came : HasAbsorbedParcel day slots (t - b.lag) nothing now new
+            = subst (λ (y : Contents). HasAbsorbedParcel day slots (t - b.lag) y now new) (heard.none early) e in
             let none : given S own p t q ≡ None = given_none S own p q t (omega arith) in
             none_more ns new (nothing_more day own p t ns slots (t - b.lag) old now new g nothing_came) q none
         | inr le ↦

@@ -46,7 +46,7 @@ entering_with day s x = map entered (parcel_of (setup day) s x).vehicles
 -- What a parcel of second s makes of a part, in which a table tells the slots of links: its vehicles are in the queues of their links as of
 -- that second, which are woken as they have to be and counted; its persons are there; and the places that it tells of were left in that
 -- second.
-pub record HasTakenIn (day : DayInput) (link_slots : List ℕ) (s : ℕ) (x : Contents) (old new : Area) : Type 0 where
+pub record HasAbsorbedParcel (day : DayInput) (link_slots : List ℕ) (s : ℕ) (x : Contents) (old new : Area) : Type 0 where
   pub persons : Come day (λ i. person_in i s (Some (parcel_of (setup day) s x))) old.persons new.persons
   pub departures : new.departures ≡ old.departures
   pub lines : new.lines.items ≡ old.lines.items

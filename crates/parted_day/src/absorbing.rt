@@ -13,13 +13,13 @@ ghost use Rattle.step_core.specs.Views.{AreEmpty, HasHeard};
 ghost use Rattle.town.specs.Views.{setup};
 ghost use Rattle.parted_day.specs.Absorbed.{IsRight};
 
+use crate::absorbing_parcel::absorb_parcel;
 use crate::neighbours::neighbours_of;
-use crate::taking_in::absorb_parcel;
 use law_parcels::{own_worlds_go_on, parcels_make_ready};
 use part_seconds::{Area, Mailbox, Run};
 use std::alloc::AllocError;
 
-/// A part takes in the parcels of its neighbours before a second, in their order: of each the one that was sent as many seconds before as
+/// A part absorbs the parcels of its neighbours before a second, in their order: of each the one that was sent as many seconds before as
 /// the lag from it has, where that is a second of the day. The part is then what it has to be as its second begins, and nothing is in the
 /// parcels any more. Where it is seen at once that nothing is in them, none is looked at.
 ///

@@ -1,7 +1,7 @@
 //! The day of a town in partitions, by one worker or by several: its network is divided, the parts step to the end of the day, and what
 //! they told is merged. It is the undivided day, whatever the numbers of both.
 //!
-//! A part begins the day with those who are on its links, and with no vehicle. Before a second it takes in what its neighbours sent:
+//! A part begins the day with those who are on its links, and with no vehicle. Before a second it absorbs what its neighbours sent:
 //! vehicles come to the queues of its links, persons to those whom it has, and word of the places that vehicles left on links that begin
 //! in it. In the second its persons, departures, nodes and links have their turns, and behind it what goes to neighbours is sent. Nothing
 //! of another part is read. At the end of the day who is under way is stuck: those whom the part has, and those on the way to others,
@@ -9,6 +9,7 @@
 #![tactic(auto)]
 
 mod absorbing;
+mod absorbing_parcel;
 mod beginnings;
 mod days;
 mod ends;
@@ -19,7 +20,6 @@ mod part;
 mod riding;
 mod runs;
 mod straying;
-mod taking_in;
 mod threads;
 mod turns;
 

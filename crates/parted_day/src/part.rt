@@ -31,7 +31,7 @@ pub struct TownPart<'a> {
     pub(crate) spent: bool,
     /// Its share of the network, and who is there.
     pub(crate) area: Area,
-    /// By neighbour, ascending, what came from it and is to be taken in before the next second.
+    /// By neighbour, ascending, what came from it and is to be absorbed before the next second.
     pub(crate) inbox: Mailbox,
     /// By neighbour what goes to it.
     pub(crate) outbox: Mailbox,

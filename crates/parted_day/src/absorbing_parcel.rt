@@ -6,7 +6,7 @@ ghost use Rattle.node_seconds.specs.Networks.{slot_in, accepted_all, wakes_after
 ghost use Rattle.part_seconds.specs.Freed.{heard_all, CanHearAll};
 ghost use Rattle.part_places.specs.Taking.{Taking, AreTakenOf};
 ghost use Rattle.town.specs.Views.{setup};
-ghost use Rattle.parted_day.specs.Absorbed.{entered_slots, HasTakenIn};
+ghost use Rattle.parted_day.specs.Absorbed.{entered_slots, HasAbsorbedParcel};
 
 use calendar::Wakes;
 use node_move::Entering;
@@ -91,7 +91,7 @@ fn absorb_contents(
     requires plans { length area.old.persons.world.persons ≡ length run.now.day.now.chosen.now }
     requires looks { length area.old.persons.wakes ≡ length area.old.persons.world.persons }
     requires wakes { length area.old.network.link_wakes ≡ length area.old.network.links.items }
-    ensures { OnOk result (HasTakenIn run.now.day.now run.now.link_slots.now second contents area.old area.new) }
+    ensures { OnOk result (HasAbsorbedParcel run.now.day.now run.now.link_slots.now second contents area.old area.new) }
 {
     let mut entering = Vec::with_capacity(run.alloc, contents.vehicles.rows.len())?;
     let freed = arrive(run.day, second, contents, &mut area.persons, &mut entering)?;
@@ -109,7 +109,7 @@ fn absorb_contents(
     Ok(())
 }
 
-/// A part takes in a parcel that was sent in this second. One with nothing in it leaves the part as it is.
+/// A part absorbs a parcel that was sent in this second. One with nothing in it leaves the part as it is.
 pub(crate) fn absorb_parcel(
     area: &mut Area,
     run: &Run,
@@ -120,7 +120,7 @@ pub(crate) fn absorb_parcel(
     requires plans { length area.old.persons.world.persons ≡ length run.now.day.now.chosen.now }
     requires looks { length area.old.persons.wakes ≡ length area.old.persons.world.persons }
     requires wakes { length area.old.network.link_wakes ≡ length area.old.network.links.items }
-    ensures { OnOk result (HasTakenIn run.now.day.now run.now.link_slots.now second parcel area.old area.new) }
+    ensures { OnOk result (HasAbsorbedParcel run.now.day.now run.now.link_slots.now second parcel area.old area.new) }
 {
     let Some(contents) = parcel.into_contents() else {
         return Ok(());

@@ -1,8 +1,8 @@
 use Rattle.std.proofs.Common.{subst}
 use Rattle.part_seconds.specs.declared.contents.Contents.{Contents}
-use Rattle.parted_day.specs.Absorbed.{HasTakenIn}
+use Rattle.parted_day.specs.Absorbed.{HasAbsorbedParcel}
 use Rattle.parted_day.proofs.Nothing.{nothing_comes}
-use Rattle.parted_day.proofs.taking_in.absorb_parcel.Goals as goal
+use Rattle.parted_day.proofs.absorbing_parcel.absorb_parcel.Goals as goal
 
 pub returns-in_default : goal.returns-in_default
 returns-in_default c =
@@ -11,5 +11,5 @@ returns-in_default c =
 
 pub returns : goal.returns
 returns c =
-    subst (λ (x : Contents). HasTakenIn c.args.run.now.day.now c.args.run.now.link_slots.now c.args.second x c.args.area.now
+    subst (λ (x : Contents). HasAbsorbedParcel c.args.run.now.day.now c.args.run.now.link_slots.now c.args.second x c.args.area.now
     c.absorb_contents.new.area) c.in-Some.ensures c.in_ok-absorb_contents.ensures

@@ -1,6 +1,6 @@
 use Rattle.std.proofs.Common.{◌≡◌, ◌++◌, drop}
 use Rattle.parted_day.specs.Absorbed.{entered_slots}
-use Rattle.parted_day.proofs.taking_in.entered_slots.Given as goal
+use Rattle.parted_day.proofs.absorbing_parcel.entered_slots.Given as goal
 
 abbrev pub invariant-loop-vehicle : goal.invariant-loop-vehicle
 invariant-loop-vehicle l =

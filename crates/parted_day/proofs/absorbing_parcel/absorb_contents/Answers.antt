@@ -10,7 +10,7 @@ use Rattle.part_seconds.specs.Settling.{put_queues}
 use Rattle.part_seconds.proofs.Driven.{back}
 use Rattle.parted_day.specs.Absorbed.{entered_slots, entering_with}
 use Rattle.parted_day.proofs.Rows.{same_freed}
-use Rattle.parted_day.proofs.taking_in.absorb_contents.Goals as goal
+use Rattle.parted_day.proofs.absorbing_parcel.absorb_contents.Goals as goal
 
 pub returns : goal.returns
 returns c =

@@ -95,5 +95,5 @@ pub files_keep : (keeps : Bool) (texts : Texts) (k : ℕ) → scenario_fault tex
 unfolding setup_of
 files_keep keeps texts k none =
     let S = day_of keeps (scenario_rows texts) k in
-    All-weaker (AreNeverGreen (scenario_rows texts).town.greens) (λ (conflict : Conflict). NeverTogether S conflict.first conflict.second)
-    (λ conflict kept. never_together S conflict.first conflict.second kept) (conflicts_in texts) (conflicts_kept texts none)
+    All-weaker (AreNeverGreen (scenario_rows texts).town.greens) (λ (conflict : Conflict). NeverTogether S conflict.link conflict.other)
+    (λ conflict kept. never_together S conflict.link conflict.other kept) (conflicts_in texts) (conflicts_kept texts none)

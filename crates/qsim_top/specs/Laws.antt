@@ -63,7 +63,7 @@ pub record FollowsPlans (town : TownRows) (S : Setup) : Type 0 where
 
 -- in no second of the day do vehicles leave both links of a conflict of signals.csv
 abbrev pub KeepsConflicts : Texts → Setup → Type 0
-KeepsConflicts texts S = All (λ (conflict : Conflict). NeverTogether S conflict.first conflict.second) (conflicts_in texts)
+KeepsConflicts texts S = All (λ (conflict : Conflict). NeverTogether S conflict.link conflict.other) (conflicts_in texts)
 
 -- The laws of a day in parts, however many partitions there are and whichever of them owns which node: a partition's second is what the day does
 -- there; in whatever order the lags allow partitions advance, each holds, has told and has sent what the day says, and each person is in exactly

@@ -71,8 +71,8 @@ fn are_two_signals(signals: &Signals) -> bool {
     let greens = &signals.greens.rows;
     let conflict = Conflict {
         row: 2,
-        first: 3,
-        second: 0,
+        link: 3,
+        other: 0,
     };
     greens.len() == 5
         && is_signal(&greens[0], 60, 40, &[(0, 10), (30, 31)])

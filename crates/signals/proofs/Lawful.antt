@@ -116,5 +116,5 @@ never_both links ends bytes free none =
     let S = signal_rows_of links (body_of bytes) in
     let lawful = green_lawful links ends bytes free in
     All-weaker (λ (c : Conflict). is_clash S.greens c ≡ false) (AreNeverGreen S.greens)
-    (λ c h t first second. false≢true (sym h ∙ (clash_decides (green_at S.greens c.first) (green_at S.greens c.second) (lawful c.first) (lawful c.second)).1 (t, first, second))) S.conflicts
+    (λ c h t link other. false≢true (sym h ∙ (clash_decides (green_at S.greens c.link) (green_at S.greens c.other) (lawful c.link) (lawful c.other)).1 (t, link, other))) S.conflicts
     (All-from_recursion (λ (c : Conflict). is_clash S.greens c ≡ false) S.conflicts (none_found S.greens S.conflicts (map_none _ (find (is_clash S.greens) S.conflicts) none)))

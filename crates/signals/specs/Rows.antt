@@ -84,7 +84,7 @@ end_of ends link = (get_or ends link (0, 0)).1
 
 -- the two are one link, or end at different nodes
 abbrev pub are_apart : List (ℕ × ℕ) → ℕ → ℕ → Bool
-are_apart ends first second = nat_eq first second || not (nat_eq (end_of ends first) (end_of ends second))
+are_apart ends link other = nat_eq link other || not (nat_eq (end_of ends link) (end_of ends other))
 
 -- why a conflict is refused, by how many conflicts the rows before it have
 unfoldable pub conflict_reason : List (List ℕ) → List (ℕ × ℕ) → ℕ → Row → Option Reason
@@ -118,7 +118,7 @@ with_signal links row signals = set signals (unwrap_or (link_in links row) 0) (S
 
 -- the conflict of a row of this number
 abbrev pub conflict_of : List (List ℕ) → ℕ → Row → Conflict
-conflict_of links number row = record { row = number; first = unwrap_or (link_in links row) 0; second = unwrap_or (other_in links row) 0 }
+conflict_of links number row = record { row = number; link = unwrap_or (link_in links row) 0; other = unwrap_or (other_in links row) 0 }
 
 -- what a row of its kind adds
 unfoldable pub with_kind : List (List ℕ) → ℕ → Row → Seen → RowKind → Seen

@@ -38,15 +38,15 @@ signal_rows_of links rows = record { greens = map or_always (seen_in links rows)
 
 -- both links of a conflict are among so many
 abbrev pub is_among : ℕ → Conflict → Bool
-is_among links conflict = nat_lt conflict.first links && nat_lt conflict.second links
+is_among links conflict = nat_lt conflict.link links && nat_lt conflict.other links
 
 -- both links of a conflict are green in some second
 abbrev pub is_clash : List Phases → Conflict → Bool
-is_clash greens conflict = clash (green_at greens conflict.first) (green_at greens conflict.second)
+is_clash greens conflict = clash (green_at greens conflict.link) (green_at greens conflict.other)
 
 -- no second, however late, has both of its links green
 abbrev pub AreNeverGreen : List Phases → Conflict → Type 0
-AreNeverGreen greens conflict = (t : ℕ) → is_green (green_at greens conflict.first) t ≡ true → is_green (green_at greens conflict.second) t ≡ true → ⊥
+AreNeverGreen greens conflict = (t : ℕ) → is_green (green_at greens conflict.link) t ≡ true → is_green (green_at greens conflict.other) t ≡ true → ⊥
 
 -- the first conflict of which both are green in some second
 unfoldable pub first_clash : List Phases → List Conflict → Option Conflict

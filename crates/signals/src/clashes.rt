@@ -18,13 +18,13 @@ pub fn clash(first: &Green, second: &Green) -> bool
 }
 
 fn is_clash(greens: &[Green], conflict: Conflict) -> bool
-    requires first { conflict.first < length greens.now }
-    requires second { conflict.second < length greens.now }
+    requires link { conflict.link < length greens.now }
+    requires other { conflict.other < length greens.now }
     ensures { result ≡ is_clash greens.now conflict }
 {
     clash(
-        &greens[conflict.first as usize],
-        &greens[conflict.second as usize],
+        &greens[conflict.link as usize],
+        &greens[conflict.other as usize],
     )
 }
 

@@ -77,11 +77,11 @@ fn with_conflict(
         mut conflicts,
     } = read;
     match conflict_in(links, ends, conflicts.len(), row) {
-        Ok((first, second)) => {
+        Ok((link, other)) => {
             conflicts.push(Conflict {
                 row: number,
-                first,
-                second,
+                link,
+                other,
             })?;
             Ok(Ok(SignalsRead { signals, conflicts }))
         }

@@ -90,10 +90,10 @@ fn end_of(ends: &[(u32, u32)], link: u32) -> u32
 }
 
 /// Whether the two are one link, or end at different nodes.
-fn are_apart(ends: &[(u32, u32)], first: u32, second: u32) -> bool
-    ensures { result ≡ are_apart ends.now first second }
+fn are_apart(ends: &[(u32, u32)], link: u32, other: u32) -> bool
+    ensures { result ≡ are_apart ends.now link other }
 {
-    first == second || end_of(ends, first) != end_of(ends, second)
+    link == other || end_of(ends, link) != end_of(ends, other)
 }
 
 /// The two links of a conflict, or the first reason against it.
@@ -114,17 +114,17 @@ pub fn conflict_in(
     if !holds_name(row, 1) || !holds_name(row, 2) {
         return Err(Reason::BadName);
     }
-    let Some(first) = links.find(field(row, 1)) else {
+    let Some(link) = links.find(field(row, 1)) else {
         return Err(Reason::Unknown);
     };
-    let Some(second) = links.find(field(row, 2)) else {
+    let Some(other) = links.find(field(row, 2)) else {
         return Err(Reason::Unknown);
     };
     if conflicts >= MAX_CONFLICTS {
         return Err(Reason::TooMany);
     }
-    if are_apart(ends, first, second) {
+    if are_apart(ends, link, other) {
         return Err(Reason::SignalWrong);
     }
-    Ok((first, second))
+    Ok((link, other))
 }

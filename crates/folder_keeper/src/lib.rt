@@ -59,7 +59,8 @@ fn tell_replaced<S: Tells>(rt: &HostRuntime, keeper: &mut SqlKeeper<S>) -> Optio
     }
 }
 
-/// A call that an open database refused, and why it did.
+/// A call that an open database refused, and why it did. The calls below that answer one promise nothing, and no clause is meant: what the
+/// file holds is not told, and that a fault is counted is the clause of `FolderKeeper::refuse`, to which each refusal goes.
 type Refusal = (KeepFail, Option<Fault>);
 
 /// Saves rows in an open database. Where it was opened for that, what it holds is told first, and why it could not be looked at is kept.

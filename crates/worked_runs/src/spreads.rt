@@ -20,20 +20,24 @@ static BUSES: Case = Case {
     ..BUS
 };
 
+/// One person who walks from home to work in a second.
+const WALKER: &str = "p1,0,act,home,L1,100,\np1,0,leg,walk,,1,\np1,0,act,work,L3,,\n";
+
 /// Three days of a person who moves the end of an activity before each of them but the first, and is a second on the way to another
 /// partition.
 static MOVING: Case = Case {
     settings: "{\"end_second\":3600,\"last_iteration\":2,\"weight_keep\":0,\"weight_time\":1}",
     nodes: APART,
-    plans: "p1,0,act,home,L1,100,\np1,0,leg,walk,,1,\np1,0,act,work,L3,,\n",
+    plans: WALKER,
     ..WALK
 };
 
-/// The same where a hole takes twenty seconds along a link.
+/// The same where a hole takes twenty seconds along a link. No vehicle is on the road on these days, so no hole is ever left: they differ
+/// from the others by the lags between partitions alone.
 static MOVING_WITH_HOLES: Case = Case {
     settings: "{\"end_second\":3600,\"last_iteration\":2,\"weight_keep\":0,\"weight_time\":1,\"hole_speed\":500}",
     nodes: APART,
-    plans: "p1,0,act,home,L1,100,\np1,0,leg,walk,,1,\np1,0,act,work,L3,,\n",
+    plans: WALKER,
     ..WALK
 };
 

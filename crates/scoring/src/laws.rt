@@ -57,9 +57,9 @@ pub fn sums_of_scores_fit()
         → FitsSigned w64 (total persons) }
 {}
 
-/// Worked values and scores, computed from the definitions alone: what a table gives at three seconds, and one whose points fall at another;
-/// the scores of a walk, a drive, a passenger and one left behind, without tables; those of a day at home, of a commute, of one stuck on the
-/// way home and of one who stays at work, by two tables; and that of the commute where work begins late behind a second.
+/// Worked values and scores, computed from the definitions alone: what a table gives at three seconds, and one whose points fall at
+/// another; the scores of a walk, a drive, a passenger and one left behind, without tables; those of a day at home, of a commute, of one
+/// stuck on the way home and of one who stays at work, by two tables; and that of the commute where work begins late behind a second.
 pub fn worked_scores()
     ensures climbing { map (value home_points) (21600 ∷ 1 ∷ 90000 ∷ [])
         ≡ pos 20000000 ∷ neg_ℤ (pos 19998149) ∷ pos 80000000 ∷ [] }

@@ -1,15 +1,15 @@
 -- Rings of which one was looked at, and rings out of which one item was taken.
-use Rattle.std.proofs.Common.{◌≡◌, ◌≢◌, ℕ, zero, suc, ◌+◌, ◌<◌, ◌≤◌, List, [], ◌∷◌, ◌++◌, length}
+use Rattle.std.proofs.Common.{◌≡◌, ◌≢◌, ℕ, zero, suc, ◌+◌, ◌<◌, List, [], ◌∷◌, ◌++◌, length}
 use Rattle.std.proofs.Common.{get_or, set, map, refl, sym, ap, subst, ◌∙◌, inl, inr, arith, append-nil, append_assoc}
 use Rattle.std.specs.Prelude.{take, drop}
 use Rattle.std.proofs.Math.Seq.{take-append_seam}
 use mathlib.Core.List.{IsPrefix}
 use Rattle.std.proofs.lemmas.Bool.{cases_eq}
 use Rattle.std.proofs.lemmas.List.{get_or_default, get_or-set_same, get_or-set_other, length-set, length-map, get_or-map, map-set}
-use Rattle.rtrb.specs.declared.producer.Producer.{Producer}
+use Rattle.std.proofs.lemmas.List.{map-append}
 use Rattle.rtrb.specs.declared.consumer.Consumer.{Consumer}
 use Rattle.rtrb.specs.Ring.{received, known_items, IsPair, SameConsumer, ConsumerLooked}
-use Rattle.event_pipe.specs.Rings.{popped, waiting, next_pieces, IsEndOf, KeepEnds, AreLooked, AllWait, IsFirstShort, IsTaken, AreTaken}
+use Rattle.event_pipe.specs.Rings.{popped, waiting, next_pieces, KeepEnds, AreLooked, AllWait, IsFirstShort, IsTaken, AreTaken}
 
 prefix_itself : {X : Type 0} (xs : List X) → IsPrefix xs xs
 prefix_itself xs = ([], append-nil xs)
@@ -35,6 +35,21 @@ pub written_over : {X : Type 0} (before after : List X) (n : ℕ) → n ≡ leng
     → take n (after ++ drop (length after) before) ≡ after
 written_over before after n e f = ap (λ m. take m (after ++ drop (length after) before)) (e ∙ sym f)
     ∙ take-append_seam after (drop (length after) before)
+
+-- one more of a list
+take_more : {X : Type 0} (xs : List X) (i : ℕ) (x : X) → i < length xs → get_or xs i x ≡ x → take i xs ++ x ∷ [] ≡ take (i + 1) xs
+take_more [] i x b e = absurd (omega (arith, b))
+take_more (y ∷ ys) zero x b e = ap (λ z. z ∷ []) (sym e)
+take_more (y ∷ ys) (suc i) x b e =
+    let s : suc i + 1 ≡ suc (i + 1) = omega arith in
+    ap (λ l. y ∷ l) (take_more ys i x (omega (arith, b)) e) ∙ sym (ap (λ n. take n (y ∷ ys)) s)
+
+-- all of a list
+pub take_whole : {X : Type 0} (xs : List X) (n : ℕ) → n ≡ length xs → take n xs ≡ xs
+take_whole [] zero e = refl
+take_whole [] (suc n) e = refl
+take_whole (y ∷ ys) zero e = absurd (omega (arith, e))
+take_whole (y ∷ ys) (suc n) e = ap (λ l. y ∷ l) (take_whole ys n (omega (arith, e)))
 
 module _ {T A P : Type 0} where
   -- what stands at a place after an item of a list was replaced
@@ -116,8 +131,8 @@ module _ {T A P : Type 0} where
         (h q c);
   }
 
-  pub taken_start : (rings : List (Consumer T A P)) → AreTaken 0 rings rings
-  taken_start rings = record {
+  pub taken_start : (allows : List T → T → Type 0) (rings : List (Consumer T A P)) → AreTaken allows 0 rings rings
+  taken_start allows rings = record {
     count = refl;
     ends = λ p producer h. h;
     taken = λ p b. absurd (omega (arith, b));
@@ -125,34 +140,44 @@ module _ {T A P : Type 0} where
     rest = λ p b. refl;
   }
 
-  pub taken_set : (first rings : List (Consumer T A P)) (i : ℕ) (before after : Consumer T A P) (x : T) → AreTaken i first rings
-      → i < length rings
+  pub taken_set : (allows : List T → T → Type 0) (first rings : List (Consumer T A P)) (i : ℕ) (before after : Consumer T A P) (x : T)
+      → AreTaken allows i first rings → i < length rings
       → before ≡ get_or rings i before → SameConsumer before after → received after ≡ received before ++ x ∷ []
-      → known_items before ≡ x ∷ known_items after → AreTaken (i + 1) first (set rings i after)
-  taken_set first rings i before after x h b is kept gave left = record {
+      → known_items before ≡ x ∷ known_items after → allows (received before) x → AreTaken allows (i + 1) first (set rings i after)
+  taken_set allows first rings i before after x h b is kept gave left may = record {
     count = length-set rings i after ∙ h.count;
     ends = λ p producer e. ends_set rings i before after b (λ d. get_or_default rings i d before b ∙ sym is) kept p producer
         (h.ends p producer e);
     taken = λ p c. elim (cases_eq p i) [
       | inl e ↦
-          subst (λ q. IsTaken first (set rings i after) q) (sym e) (
+          subst (λ q. IsTaken allows first (set rings i after) q) (sym e) (
             x,
             at_place received rings i after [] b ∙ gave
                 ∙ ap (λ l. l ++ x ∷ []) (sym (read_at received rings i before [] b (sym is)) ∙ h.same i (omega arith)),
             sym (h.rest i (omega arith)) ∙ read_at known_items rings i before [] b (sym is) ∙ left
                 ∙ ap (λ l. x ∷ l) (sym (at_place known_items rings i after [] b)),
+            subst (λ l. allows l x) (sym (read_at received rings i before [] b (sym is)) ∙ h.same i (omega arith)) may,
           )
       | inr n ↦
-          let t : IsTaken first rings p = h.taken p (omega (arith, c, n)) in (
+          let t : IsTaken allows first rings p = h.taken p (omega (arith, c, n)) in (
             t.0,
             at_others received rings i p after [] n ∙ t.1,
             t.2
                 ∙ ap (λ l. t.0 ∷ l) (sym (at_others known_items rings i p after [] n)),
+            t.3,
           )
     ];
     same = λ p c. at_others received rings i p after [] (λ e. absurd (omega (arith, c, e))) ∙ h.same p (omega (arith, c));
     rest = λ p c. at_others known_items rings i p after [] (λ e. absurd (omega (arith, c, e))) ∙ h.rest p (omega (arith, c));
   }
+
+  -- what is to be taken out of a ring that was left as it was is what was to be taken out of it at first
+  pub taken_next : (allows : List T → T → Type 0) (first rings : List (Consumer T A P)) (i : ℕ) (before : Consumer T A P) (rest : List T)
+      (x : T)
+      → AreTaken allows i first rings → i < length rings → before ≡ get_or rings i before → known_items before ≡ x ∷ rest
+      → waiting first i ≡ x ∷ rest
+  taken_next allows first rings i before rest x h b is left =
+      sym (h.rest i (omega arith)) ∙ read_at known_items rings i before [] b (sym is) ∙ left
 
   all_wait_rest : (ring : Consumer T A P) (rings : List (Consumer T A P)) → AllWait (ring ∷ rings) → AllWait rings
   all_wait_rest ring rings h p b = h (suc p) (omega (arith, b))
@@ -173,6 +198,15 @@ module _ {T A P : Type 0} where
       let own = next_of (known_items ring) (h 0 (omega arith)) in
       let s : next_pieces (ring ∷ rings) ≡ own.0 ∷ next_pieces rings = ap (λ l. take 1 l ++ next_pieces rings) own.2 in
       ap (λ l. get_or l (suc p) d) s ∙ next_at rings (all_wait_rest ring rings h) p d x rest (omega (arith, b)) e
+
+  -- the next of the rings up to one more
+  pub next_more : {Y : Type 0} (f : T → Y) (rings : List (Consumer T A P)) → AllWait rings → (i : ℕ) (x : T) (rest : List T)
+      → i < length rings → waiting rings i ≡ x ∷ rest
+      → map f (take i (next_pieces rings)) ++ f x ∷ [] ≡ map f (take (i + 1) (next_pieces rings))
+  next_more f rings h i x rest b e =
+      let n = next_count rings h in
+      sym (map-append f (take i (next_pieces rings)) (x ∷ []))
+      ∙ ap (map f) (take_more (next_pieces rings) i x (omega (arith, n, b)) (next_at rings h i x x rest b e))
 
   -- where something waits in every ring, it does in each
   pub waits_at : (rings : List (Consumer T A P)) (p : ℕ) (ring : Consumer T A P) → AllWait rings → p < length rings

@@ -44,14 +44,15 @@ module _ {T A P : Type 0} where
     pub short : waiting rings p ≡ []
     pub first : (q : ℕ) → q < p → 0 < length (waiting rings q)
 
-  -- one was taken out of the ring at place p
-  abbrev pub IsTaken : List (Consumer T A P) → List (Consumer T A P) → ℕ → Type 0
-  IsTaken before after p = (x : T) × (popped after p ≡ popped before p ++ x ∷ []) × (waiting before p ≡ x ∷ waiting after p)
+  -- one was taken out of the ring at place p, which may follow those that were taken out of it before
+  abbrev pub IsTaken : (List T → T → Type 0) → List (Consumer T A P) → List (Consumer T A P) → ℕ → Type 0
+  IsTaken allows before after p =
+      (x : T) × (popped after p ≡ popped before p ++ x ∷ []) × (waiting before p ≡ x ∷ waiting after p) × allows (popped before p) x
 
   -- one was taken out of each of the first rings, and nothing out of the others
-  pub record AreTaken (n : ℕ) (before after : List (Consumer T A P)) : Type 0 where
+  pub record AreTaken (allows : List T → T → Type 0) (n : ℕ) (before after : List (Consumer T A P)) : Type 0 where
     pub count : length after ≡ length before
     pub ends : KeepEnds before after
-    pub taken : (p : ℕ) → p < n → IsTaken before after p
+    pub taken : (p : ℕ) → p < n → IsTaken allows before after p
     pub same : (p : ℕ) → n ≤ p → popped after p ≡ popped before p
     pub rest : (p : ℕ) → n ≤ p → waiting after p ≡ waiting before p

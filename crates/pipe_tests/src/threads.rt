@@ -1,15 +1,16 @@
 //! The ends of a pipe in threads of their own.
 
-use crate::pieces::{piece_of, sends};
-use crate::pipes::{BOTH, NORTH, SOUTH, gathers};
-use event_pipe::{Gathered, pipe};
+use crate::pieces::{NORTH, SOUTH, piece_of, sends};
+use crate::pipes::gathers;
+use event_pipe::pipe;
 use events::Rows;
+use rtrb::AnyItems;
 use std::alloc::Global;
 use std::thread::{Threads, join};
 
 /// Two partitions send from two threads, and what they sent is gathered in a third one.
 fn sends_from_two_threads<R: Threads>(rt: &R, alloc: Global) -> bool {
-    let Ok((Rows { rows: mut senders }, mut gather)) = pipe(alloc, 2, 1) else {
+    let Ok((Rows { rows: mut senders }, mut gather)) = pipe::<AnyItems>(alloc, 2, 1) else {
         return false;
     };
     let (Some(mut south), Some(mut north)) = (senders.pop(), senders.pop()) else {
@@ -17,13 +18,12 @@ fn sends_from_two_threads<R: Threads>(rt: &R, alloc: Global) -> bool {
     };
     let (first, second) = join(
         rt,
-        move || sends(&mut north, piece_of(alloc, &NORTH)),
-        move || sends(&mut south, piece_of(alloc, &SOUTH)),
+        move || sends(&mut north, piece_of(alloc, 0, &NORTH)),
+        move || sends(&mut south, piece_of(alloc, 1, &SOUTH)),
     );
-    let mut text = Vec::new(alloc);
     let (both, _) = join(
         rt,
-        move || gathers(&mut gather, &mut text, Gathered::Lines, BOTH),
+        move || gathers(alloc, &mut gather, &NORTH, &SOUTH),
         || true,
     );
     first && second && both

@@ -1,14 +1,14 @@
-use Rattle.std.proofs.Common.{◌≡◌, ◌<◌, ◌≤◌, ◌∙◌, ℕ, List, [], ◌∷◌, ◌++◌, length, get_or, take, drop}
-use Rattle.std.proofs.Common.{subst, sym, ap, refl, arith}
+use Rattle.std.proofs.Common.{◌<◌, ◌∙◌, ◌∷◌, ◌++◌, length, map, get_or, take, drop}
+use Rattle.std.proofs.Common.{subst, sym, ap, arith}
 use mathlib.Core.List.{IsPrefix}
-use Rattle.event_pipe.specs.Pieces.{merged, text_of}
+use Rattle.event_pipe.specs.Pieces.{events_of}
 use Rattle.event_pipe.specs.Rings.{popped, waiting, next_pieces, IsEndOf, AreLooked, AllWait, IsFirstShort, AreTaken}
 use Rattle.event_pipe.proofs.Rings.{written_over, prefix_of_none, next_count}
 use Rattle.event_pipe.proofs.Calls.{taken_each}
 use Rattle.event_pipe.proofs.gathering.Gather.next.Goals as goal
 
 pub returns-in-Some-clause-gathers : goal.returns-in-Some-clause-gathers
-returns-in-Some-clause-gathers c =
+returns-in-Some-clause-gathers g c =
     let before = c.args.self.now.rings in
     let rings = c.first_short.new.rings in
     let looked : AreLooked before.items rings =
@@ -22,11 +22,10 @@ returns-in-Some-clause-gathers c =
       ap (λ l. waiting l c.in-Some.partition) same ∙ some.short,
       (λ q b. subst (λ l. 0 < length (waiting l q)) (sym same) (some.first q b)),
       record { count = there.count; same = there.same; more = there.more },
-      refl,
     )
 
 pub returns-in-Some-clause-senders : goal.returns-in-Some-clause-senders
-returns-in-Some-clause-senders c =
+returns-in-Some-clause-senders g c =
     let before = c.args.self.now.rings in
     let looked : AreLooked before.items c.first_short.new.rings =
     subst (λ l. AreLooked l c.first_short.new.rings) c.deref_mut.ensures.value c.first_short.ensures.looked in
@@ -35,45 +34,48 @@ returns-in-Some-clause-senders c =
     λ p s own. (own.0, there.ends p s.producer own.1)
 
 pub returns-in-Ok-clause-gathers : goal.returns-in-Ok-clause-gathers
-returns-in-Ok-clause-gathers c =
+returns-in-Ok-clause-gathers g c =
     let before = c.args.self.now.rings in
     let rings = c.first_short.new.rings in
     let after = c.take_next.new.rings in
+    let allows = g.P.Protocol.allows in
     let looked : AreLooked before.items rings = subst (λ l. AreLooked l rings) c.deref_mut.ensures.value c.first_short.ensures.looked in
     let wait : AllWait rings = c.in_default.ensures.none in
     let same = written_over before.items rings before.len before.ok.0 looked.count in
-    let taken : AreTaken (length rings) rings after =
-    subst (λ l. AreTaken (length l) l after) (c.deref_mut-in-Ok.ensures.value ∙ same) c.take_next.ensures in
+    let taken : AreTaken allows (length rings) rings after =
+    subst (λ l. AreTaken allows (length l) l after) (c.deref_mut-in-Ok.ensures.value ∙ same) c.take_next.ensures.taken in
     let long = ap length (sym same) in
     let over = written_over (take before.len (rings ++ drop (length rings) before.items)) after before.len
     (before.ok.0 ∙ sym looked.count ∙ long) (taken.count ∙ long) in
-    let each = taken_each before.items rings after looked wait taken in (
+    let each = taken_each allows before.items rings after looked wait taken in (
       next_pieces rings,
       record {
         count = next_count rings wait ∙ looked.count;
         each = λ p d b. ap (λ l. popped l p) over ∙ (each p d b).0;
         were_held = λ p d b. subst (λ l. IsPrefix (waiting before.items p) (get_or (next_pieces rings) p d ∷ waiting l p)) (sym over)
             (each p d b).1;
+        allowed = λ p d b. (each p d b).2;
       },
-      c.in-Ok.ensures.ok ∙ ap (λ l. c.args.out.now.items ++ text_of (merged (next_pieces l))) (c.deref.ensures.value ∙ same),
+      c.take_next.ensures.lists ∙ ap (λ l. map events_of (next_pieces l)) (c.deref_mut-in-Ok.ensures.value ∙ same),
     )
 
 pub returns-in-Ok-clause-senders : goal.returns-in-Ok-clause-senders
-returns-in-Ok-clause-senders c =
+returns-in-Ok-clause-senders g c =
     let before = c.args.self.now.rings in
     let rings = c.first_short.new.rings in
     let after = c.take_next.new.rings in
+    let allows = g.P.Protocol.allows in
     let looked : AreLooked before.items rings = subst (λ l. AreLooked l rings) c.deref_mut.ensures.value c.first_short.ensures.looked in
     let same = written_over before.items rings before.len before.ok.0 looked.count in
-    let taken : AreTaken (length rings) rings after =
-    subst (λ l. AreTaken (length l) l after) (c.deref_mut-in-Ok.ensures.value ∙ same) c.take_next.ensures in
+    let taken : AreTaken allows (length rings) rings after =
+    subst (λ l. AreTaken allows (length l) l after) (c.deref_mut-in-Ok.ensures.value ∙ same) c.take_next.ensures.taken in
     let long = ap length (sym same) in
     let over = written_over (take before.len (rings ++ drop (length rings) before.items)) after before.len
     (before.ok.0 ∙ sym looked.count ∙ long) (taken.count ∙ long) in
     λ p s own. (own.0, subst (λ l. IsEndOf l p s.producer) (sym over) (taken.ends p s.producer (looked.ends p s.producer own.1)))
 
 pub returns-in-Err-clause-as_before : goal.returns-in-Err-clause-as_before
-returns-in-Err-clause-as_before c =
+returns-in-Err-clause-as_before g c =
     let before = c.args.self.now.rings in
     let looked : AreLooked before.items c.first_short.new.rings =
     subst (λ l. AreLooked l c.first_short.new.rings) c.deref_mut.ensures.value c.first_short.ensures.looked in
@@ -82,7 +84,7 @@ returns-in-Err-clause-as_before c =
     record { count = there.count; same = there.same; more = there.more }
 
 pub returns-in-Err-clause-senders : goal.returns-in-Err-clause-senders
-returns-in-Err-clause-senders c =
+returns-in-Err-clause-senders g c =
     let before = c.args.self.now.rings in
     let looked : AreLooked before.items c.first_short.new.rings =
     subst (λ l. AreLooked l c.first_short.new.rings) c.deref_mut.ensures.value c.first_short.ensures.looked in

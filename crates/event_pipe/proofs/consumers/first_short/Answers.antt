@@ -1,12 +1,10 @@
-use Rattle.std.proofs.Common.{◌≡◌, ◌<◌, ℕ, length, get_or, arith}
-use Rattle.rtrb.specs.Ring.{known_items}
-use Rattle.event_pipe.specs.Rings.{waiting, AreLooked}
+use Rattle.std.proofs.Common.{get_or, arith}
 use Rattle.std.proofs.lemmas.List.{get_or_default}
 use Rattle.event_pipe.proofs.Rings.{looked_set, waits_set, short_set}
-use Rattle.event_pipe.proofs.merging.first_short.Goals as goal
+use Rattle.event_pipe.proofs.consumers.first_short.Goals as goal
 
 pub returns-then-is_empty-clause-looked : goal.returns-then-is_empty-clause-looked
-returns-then-is_empty-clause-looked c =
+returns-then-is_empty-clause-looked g c =
     looked_set c.args.rings.now c.loop-place.rings c.loop-place.place
     (get_or c.loop-place.rings c.loop-place.place c.index-rings-place.result) c.is_empty.new.self c.loop-place.invariant.0
     (omega arith) (get_or_default c.loop-place.rings c.loop-place.place c.index-rings-place.result
@@ -14,12 +12,12 @@ returns-then-is_empty-clause-looked c =
     c.is_empty.ensures.looked
 
 pub returns-then-is_empty-clause-some : goal.returns-then-is_empty-clause-some
-returns-then-is_empty-clause-some c =
+returns-then-is_empty-clause-some g c =
     short_set c.loop-place.rings c.loop-place.place c.is_empty.new.self (omega arith) c.loop-place.invariant.1
     (c.is_empty.ensures.value.0 c.if-is_empty.true)
 
 pub loop-place-preserved : goal.loop-place-preserved
-loop-place-preserved c = (
+loop-place-preserved g c = (
   looked_set c.args.rings.now c.loop-place.rings c.loop-place.place
       (get_or c.loop-place.rings c.loop-place.place c.index-rings-place.result) c.is_empty.new.self c.loop-place.invariant.0 (omega arith)
       (get_or_default c.loop-place.rings c.loop-place.place c.index-rings-place.result

@@ -1,7 +1,7 @@
 -- The members of a run as they are made, and its partitions at the end.
 use Rattle.std.proofs.Common.{◌≡◌, ℕ, ◌+◌, ◌<◌, true, false, List, [], ◌∷◌, ◌++◌, map, length}
-use Rattle.std.proofs.Common.{get_or, slice_index_or, sym, ap, ◌∙◌, subst, inl, arith, length-append}
-use Rattle.std.proofs.lemmas.List.{get_or_push, get_or_append_left, get_or-map, length-map}
+use Rattle.std.proofs.Common.{get_or, slice_index_or, sym, ap, ◌∙◌, subst, inl, refl, arith, length-append}
+use Rattle.std.proofs.lemmas.List.{get_or_push, get_or_append_left}
 use mathlib.Core.Logic.{dite}
 use native.Mathlib.Decide.{ℕ_discrete}
 use Rattle.cells.specs.declared.board.Board.{Board}
@@ -11,7 +11,7 @@ use Rattle.step_core.specs.Views.{PartView, IsAt, EachAt}
 use Rattle.workers.specs.declared.members.ParcelsOf.{ParcelsOf}
 use Rattle.workers.specs.declared.members.Member.{Member}
 use Rattle.workers.specs.Parcels.{right_or_none}
-use Rattle.workers.specs.Members.{Rests, IsMember, AreMembers, AreAll, AllEnd, Went, is_stopped, number_of, seconds_of}
+use Rattle.workers.specs.Members.{Rests, IsMember, AreMembers, AreAll, AllEnd, is_stopped, number_of, seconds_of}
 
 module _ {T R P : Type 0} where
   pub all_more : (n : ℕ) (ms : List (Member T R P)) (x : Member T R P) → AreAll n ms → number_of x ≡ n
@@ -40,6 +40,41 @@ module _ {T R P : Type 0} where
   pub one_of : {A : Type 0} (ms : List (Member T R P)) → 0 < length ms → (Member T R P → A) → A
   one_of [] lt f = absurd (omega arith)
   one_of (m ∷ ms) lt f = f m
+
+pub map_itself : {X : Type 0} (xs : List X) → map (λ x. x) xs ≡ xs
+map_itself [] = refl
+map_itself (x ∷ xs) = ap (λ ys. x ∷ ys) (map_itself xs)
+
+-- PARTITIONS BEFORE THEIR FIRST SECOND
+module _ {T P : Type 0} (nothing : P) (see : T → PartView P) (stands : T → Type 0) (degree : ℕ → ℕ) where
+  pub none_at : (xs : List T) → EachAt nothing see stands 0 degree 0 xs
+  none_at xs p d lt = absurd (omega arith)
+
+  -- one more of them
+  pub each_next : (n : ℕ) (xs ys : List T) (x : T) → length xs ≡ n → EachAt nothing see stands 0 degree n xs
+      → IsAt nothing see stands n 0 (degree n) x → ys ≡ xs ++ x ∷ [] → EachAt nothing see stands 0 degree (n + 1) ys
+  each_next n xs ys x long each at is p d lt = dite (ℕ_discrete p n)
+      (λ e. subst (λ z. IsAt nothing see stands p 0 (degree p) z) (sym (ap (λ l. get_or l p d) is ∙ get_or_push xs x d p (long ∙ sym e)))
+      (subst (λ q. IsAt nothing see stands q 0 (degree q) x) (sym e) at))
+      (λ ne. subst (λ z. IsAt nothing see stands p 0 (degree p) z)
+      (sym (ap (λ l. get_or l p d) is ∙ get_or_append_left xs (x ∷ []) d p (omega arith)))
+      (each p d (omega arith)))
+
+  -- those before the last one
+  pub each_front : (xs : List T) (x : T) → EachAt nothing see stands 0 degree (length (xs ++ x ∷ [])) (xs ++ x ∷ [])
+      → EachAt nothing see stands 0 degree (length xs) xs
+  each_front xs x each p d lt = let n = length-append xs (x ∷ []) in
+      subst (λ z. IsAt nothing see stands p 0 (degree p) z) (get_or_append_left xs (x ∷ []) d p (omega arith)) (each p d (omega arith))
+
+  -- and the last one
+  pub last_at : (k : ℕ) (xs : List T) (x : T) → k ≡ length xs
+      → EachAt nothing see stands 0 degree (length (xs ++ x ∷ [])) (xs ++ x ∷ []) → IsAt nothing see stands k 0 (degree k) x
+  last_at k xs x e each = let n = length-append xs (x ∷ []) in
+      subst (λ z. IsAt nothing see stands k 0 (degree k) z) (get_or_push xs x x k (sym e)) (each k x (omega arith))
+
+  pub each_all : (xs ys : List T) → xs ≡ ys → EachAt nothing see stands 0 degree (length ys) ys
+      → EachAt nothing see stands 0 degree (length xs) xs
+  each_all xs ys e each = subst (λ (l : List T). EachAt nothing see stands 0 degree (length l) l) (sym e) each
 
 module _ {T R P : Type 0} (until : ℕ) (borders : R → ℕ → List Border) (nothing : P) (see : T → PartView P) (stands : R → T → Type 0)
     (right : R → ℕ → ℕ → ℕ → P → Type 0) (run : R) (b : Board (ParcelsOf T) R P) where

@@ -2,7 +2,7 @@
 
 ghost use Rattle.std.specs.Prelude.{◌≡◌, ℕ, ◌<◌, ◌≤◌, [], length, IfOk};
 ghost use Rattle.limits.specs.declared.TheConstants.{MAX_PARTITIONS};
-ghost use Rattle.cells.specs.Ports.{IsHub, had_port};
+ghost use Rattle.cells.specs.Ports.{IsHub, count_of, had_port};
 ghost use Rattle.step_core.specs.Nets.{IsNet, AreBorders};
 ghost use Rattle.step_core.specs.Views.{EachAt};
 ghost use Rattle.workers.specs.Members.{IsBoardOfRun, AreMembers, AreAll, AllEnd};
@@ -20,25 +20,51 @@ use std::thread::Threads;
 use step_core::Part;
 
 /// All partitions of a run before their first second, by number.
+///
+/// # Errors
+///
+/// `AllocError`: there is no memory for them.
+fn first_parts<T: Part>(alloc: Global, run: &T::Run) -> Result<Vec<T>, AllocError>
+    ensures count { IfOk result (λ parts. length parts.items ≡ (T.net run.now).parts) }
+    ensures start { IfOk result (λ parts. EachAt T.nothing T.see (T.stands run.now) 0 (λ p. length (T.borders run.now p))
+        (T.net run.now).parts parts.items) }
+{
+    let mut parts = Vec::new(alloc);
+    for number in 0..T::count(run) {
+        parts.push(T::start(alloc, run, number)?)?;
+    }
+    Ok(parts)
+}
+
+/// The partitions of a run, which are given by number, each with its port. They are members of each run of which they are the partitions
+/// before their first second.
+///
+/// # Errors
+///
+/// `AllocError`: there is no memory for their list or a port.
 fn all_members<T: Part>(
     alloc: Global,
-    run: &T::Run,
     board: &Board<ParcelsOf<T>>,
     hub: &mut Hub<ParcelsOf<T>>,
+    parts: Vec<T>,
 ) -> Result<Vec<Member<T>>, AllocError>
 where
     T::Parcel: Send,
-    requires board { IsBoardOfRun T.net T.borders T.nothing T.right run.now board.now }
     requires hub { IsHub board.now hub.old }
     requires first { had_port hub.old ≡ [] }
-    ensures members { IfOk result
-        (λ v. AreMembers (T.net run.now).end T.borders T.nothing T.see T.stands T.spent T.right run.now board.now v.items) }
-    ensures all { IfOk result (λ v. AreAll (T.net run.now).parts v.items) }
+    requires many { length parts.items ≡ count_of board.now }
+    requires few { length parts.items ≤ MAX_PARTITIONS }
+    ensures members { IfOk result (λ v. (run : T.Run) → IsBoardOfRun T.net T.borders T.nothing T.right run board.now
+        → EachAt T.nothing T.see (T.stands run) 0 (λ p. length (T.borders run p)) (length parts.items) parts.items
+        → AreMembers (T.net run).end T.borders T.nothing T.see T.stands T.spent T.right run board.now v.items) }
+    ensures all { IfOk result (λ v. AreAll (length parts.items) v.items) }
     ensures new { IfOk result (λ v. AllEnd 0 v.items) }
 {
     let mut members = Vec::new(alloc);
-    for number in 0..T::count(run) {
-        members.push(Member::start(alloc, run, board, hub, number)?)?;
+    let mut number = 0;
+    for part in parts {
+        members.push(Member::of(alloc, board, hub, number, part)?)?;
+        number += 1;
     }
     Ok(members)
 }
@@ -59,7 +85,39 @@ impl<T: Part> Running<T>
 where
     T::Parcel: Send,
 {
-    /// All partitions of a run before their first second. Which worker is to get which of them goes by `loads`, as `run_day` says.
+    /// The partitions of a run, which are given by number, each before its first second. Which worker is to get which of them goes by
+    /// `loads`, as `run_day` says.
+    ///
+    /// # Errors
+    ///
+    /// `AllocError`: there is no memory for what is between them.
+    pub fn of(
+        alloc: Global,
+        run: &T::Run,
+        parts: Vec<T>,
+        workers: u32,
+        loads: &[usize],
+    ) -> Result<Running<T>, AllocError>
+        requires workers { 1 ≤ workers }
+        requires some { 1 ≤ (T.net run.now).parts }
+        requires net { IsNet (T.net run.now) }
+        requires borders { (p : ℕ) → p < (T.net run.now).parts → AreBorders (T.net run.now) p (T.borders run.now p) }
+        requires count { length parts.items ≡ (T.net run.now).parts }
+        requires start { EachAt T.nothing T.see (T.stands run.now) 0 (λ p. length (T.borders run.now p)) (T.net run.now).parts
+            parts.items }
+        ensures { IfOk result (IsRunning T.net T.borders T.nothing T.see T.stands T.spent T.right run.now 0) }
+    {
+        let (board, mut hub) = new_board::<T>(alloc, run)?;
+        let members = all_members(alloc, &board, &mut hub, parts)?;
+        let shared = share_out(alloc, members, T::count(run), workers, loads)?;
+        Ok(Running {
+            board,
+            bundle: Bundle { members: shared },
+            workers,
+        })
+    }
+
+    /// All partitions of a run as they start by themselves, before their first second.
     ///
     /// # Errors
     ///
@@ -76,14 +134,9 @@ where
         requires borders { (p : ℕ) → p < (T.net run.now).parts → AreBorders (T.net run.now) p (T.borders run.now p) }
         ensures { IfOk result (IsRunning T.net T.borders T.nothing T.see T.stands T.spent T.right run.now 0) }
     {
-        let (board, mut hub) = new_board::<T>(alloc, run)?;
-        let members = all_members(alloc, run, &board, &mut hub)?;
-        let shared = share_out(alloc, members, T::count(run), workers, loads)?;
-        Ok(Running {
-            board,
-            bundle: Bundle { members: shared },
-            workers,
-        })
+        let parts = first_parts::<T>(alloc, run)?;
+        let running = Running::of(alloc, run, parts, workers, loads)?;
+        Ok(running)
     }
 
     /// The partition with a number.
@@ -117,7 +170,7 @@ where
     }
 }
 
-impl<T: Part + Send + Sync> Running<T>
+impl<T: Part + Send> Running<T>
 where
     T::Run: Send + Sync,
     T::Parcel: Send + Sync,
@@ -165,7 +218,7 @@ where
 /// # Errors
 ///
 /// `AllocError`: there was no memory for the start, or for a second of a partition.
-pub fn run_day<T: Part + Send + Sync, R: Threads + Wait + Sync, G: Gate>(
+pub fn run_day<T: Part + Send, R: Threads + Wait + Sync, G: Gate>(
     rt: &R,
     alloc: Global,
     run: &T::Run,

@@ -1,21 +1,23 @@
 //! The types of what runs on threads, and their start.
 
-ghost use Rattle.std.specs.Prelude.{◌≡◌, ℕ, ◌<◌, ◌≤◌, false, [], ◌∷◌, IfOk, OnOk, OnErr};
+ghost use Rattle.std.specs.Prelude.{◌≡◌, ℕ, ◌<◌, ◌≤◌, false, [], ◌∷◌, length, IfOk, OnOk, OnErr};
 ghost use Rattle.cells.specs.Rule.{contains};
-ghost use Rattle.cells.specs.Ports.{IsHub, had_port};
+ghost use Rattle.cells.specs.Ports.{IsHub, count_of, had_port};
 ghost use Rattle.step_core.specs.Nets.{IsNet, AreBorders};
+ghost use Rattle.step_core.specs.Views.{IsAt};
 ghost use Rattle.workers.specs.Members.{IsBoardOfRun, IsMember, number_of, seconds_of, is_stopped};
 
 use crate::pairs::pairs_of;
 use cells::{Board, Exchange, Hub, Port};
 use std::alloc::{AllocError, Global};
 use std::marker::PhantomData;
+use std::sync::Mutex;
 use step_core::Part;
 
 /// What the partitions of a run send to one another, where `T` is a partition: its parcels, of which those are right that it calls so, and
-/// none in the place of one with nothing in it.
+/// none in the place of one with nothing in it. No thread gets another one's partition to see by it, so partitions need not be `Sync`.
 pub struct ParcelsOf<T> {
-    part: PhantomData<T>,
+    part: PhantomData<Mutex<T>>,
 }
 
 impl<T: Part> Exchange for ParcelsOf<T>
@@ -104,6 +106,38 @@ impl<T: Part> Member<T>
 where
     T::Parcel: Send,
 {
+    /// A partition, which is given, with its port, which it has not had yet. It is a member of each run of which it is partition `number`
+    /// before its first second.
+    ///
+    /// # Errors
+    ///
+    /// `AllocError`: there is no memory for the port. The hub is then as it was.
+    pub fn of(
+        alloc: Global,
+        board: &Board<ParcelsOf<T>>,
+        hub: &mut Hub<ParcelsOf<T>>,
+        number: u32,
+        part: T,
+    ) -> Result<Member<T>, AllocError>
+        requires hub { IsHub board.now hub.old }
+        requires there { number < count_of board.now }
+        requires first { contains (had_port hub.old) number ≡ false }
+        ensures hub { IsHub board.now hub.new }
+        ensures had { OnOk result (had_port hub.new ≡ number ∷ had_port hub.old) }
+        ensures refused { OnErr result (hub.new ≡ hub.old) }
+        ensures member { IfOk result (λ m. (run : T.Run) → IsBoardOfRun T.net T.borders T.nothing T.right run board.now
+            → IsAt T.nothing T.see (T.stands run) number 0 (length (T.borders run number)) part
+            → IsMember (T.net run).end T.borders T.nothing T.see T.stands T.spent T.right run board.now m) }
+        ensures start { IfOk result (λ m. (number_of m ≡ number) × (seconds_of m ≡ 0) × (is_stopped m ≡ false)) }
+    {
+        let port = hub.split(alloc, board, number)?;
+        Ok(Member {
+            part,
+            port,
+            stopped: false,
+        })
+    }
+
     /// Partition `number` before its first second, which has had no port yet.
     ///
     /// # Errors
@@ -128,12 +162,8 @@ where
         ensures start { IfOk result (λ m. (number_of m ≡ number) × (seconds_of m ≡ 0) × (is_stopped m ≡ false)) }
     {
         let part = T::start(alloc, run, number)?;
-        let port = hub.split(alloc, board, number)?;
-        Ok(Member {
-            part,
-            port,
-            stopped: false,
-        })
+        let member = Member::of(alloc, board, hub, number, part)?;
+        Ok(member)
     }
 
     /// The number of its partition.

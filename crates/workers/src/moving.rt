@@ -14,7 +14,7 @@ use step_core::Part;
 
 /// Runs the members to a second in as many lists of one size as there are workers, or fewer: each list in a thread of its own, where one
 /// can be made, and else in this one.
-fn run_spread<T: Part + Send + Sync, R: Threads + Sync, G: Gate>(
+fn run_spread<T: Part + Send, R: Threads + Sync, G: Gate>(
     rt: &R,
     gate: &G,
     run: &T::Run,
@@ -47,7 +47,7 @@ where
 }
 
 /// Runs the members of a bundle, in such lists.
-fn run_lists<T: Part + Send + Sync, R: Threads + Sync, G: Gate>(
+fn run_lists<T: Part + Send, R: Threads + Sync, G: Gate>(
     rt: &R,
     gate: &G,
     run: &T::Run,
@@ -127,7 +127,7 @@ where
 /// # Errors
 ///
 /// `AllocError`: some member found no memory.
-pub(crate) fn run_to<T: Part + Send + Sync, R: Threads + Wait + Sync, G: Gate>(
+pub(crate) fn run_to<T: Part + Send, R: Threads + Wait + Sync, G: Gate>(
     rt: &R,
     gate: &G,
     run: &T::Run,

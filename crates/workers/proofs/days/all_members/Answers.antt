@@ -1,38 +1,63 @@
-use Rattle.std.proofs.Common.{◌≢◌, arith, ◌+◌, ◌∙◌, ap, sym, subst, List}
+use Rattle.std.proofs.Common.{◌≢◌, ◌<◌, arith, ◌+◌, ◌∙◌, ap, sym, subst, [], ◌∷◌, length, length-append, rules}
+use Rattle.std.proofs.lemmas.Iterator.Consumers.{YieldsList-turn, YieldsList-end}
+use Rattle.std.proofs.lemmas.Iterator.Adapters.{YieldsList-from_vec}
 use Rattle.cells.specs.Rule.{contains}
 use Rattle.cells.specs.Ports.{had_port}
 use Rattle.cells.proofs.Rings.{mark_else}
-use Rattle.workers.specs.declared.members.Member.{Member}
 use Rattle.workers.specs.Members.{AreMembers, AreAll, AllEnd}
-use Rattle.workers.proofs.Starting.{members_more, all_more, level_more}
+use Rattle.workers.proofs.Starting.{members_more, all_more, level_more, each_front, last_at, each_all, map_itself}
 use Rattle.workers.proofs.days.all_members.Goals as goal
 
-pub loop-number-preserved : goal.loop-number-preserved
-loop-number-preserved g c =
-    let end = (g.T.Part.net c.args.run.now).end in
+pub of-requires-clause-there : goal.of-requires-clause-there
+of-requires-clause-there g c κs within =
+    let turn = YieldsList-turn (YieldsList-from_vec {s = c.into_iter-part-iterator.result} c.args.parts.items (search rules) (search rules))
+    c.loop-part.yielded c.loop-part.part-iterator c.loop-part.yielded_by c.next.result c.next.new.self c.in-Some.part c.in-Some.is
+    c.next.ensures.steps in
+    let t : length c.loop-part.yielded < length c.args.parts.items = turn.0 in
+    let many = c.requires.many in
+    let counted = c.loop-part.invariant.counted in
+    omega (arith, t, many, counted)
+
+pub loop-part-preserved : goal.loop-part-preserved
+loop-part-preserved g c =
     let borders = g.T.Part.borders in
     let nothing = g.T.Part.nothing in
     let see = g.T.Part.see in
     let stands = g.T.Part.stands in
     let spent = g.T.Part.spent in
     let right = g.T.Part.right in
-    let run = c.args.run.now in
     let b = c.args.board.now in
-    let p = c.loop-number.number in
-    let i = c.loop-number.invariant in
-    let n = c.in_ok-start.ensures in
-    let x = c.in_ok-start.field-0 in
-    let F : List (Member g.row.T.Denot g.row.T-Run.Denot g.row.T-Parcel.Denot) → Type 0 =
-    λ z. AreMembers end borders nothing see stands spent right run b z × AreAll (p + 1) z × AllEnd 0 z in
-    let more : F c.push.new.self.items = subst F (sym c.in_ok-push.ensures.items) (
-      members_more end borders nothing see stands spent right run b c.loop-number.members.items x i.2 n.member,
-      all_more p c.loop-number.members.items x i.3 n.start.0,
-      level_more 0 c.loop-number.members.items x i.4 n.start.2 n.start.1,
-    ) in (
-      n.hub,
-      (λ q le. let ne : q ≢ p = λ e. absurd (omega arith) in
-          ap (λ z. contains z q) n.had ∙ mark_else (contains (had_port c.loop-number.hub)) p q ne ∙ i.1 q (omega arith)),
-      more.0,
-      more.1,
-      more.2,
-    )
+    let n = c.loop-part.number in
+    let i = c.loop-part.invariant in
+    let made = c.in_ok-of.ensures in
+    let x = c.in_ok-of.field-0 in
+    let ms = c.loop-part.members.items in
+    record {
+      hub = made.hub;
+      free = λ q le. let ne : q ≢ n = λ e. absurd (omega arith) in
+          ap (λ z. contains z q) made.had ∙ mark_else (contains (had_port c.loop-part.hub)) n q ne ∙ i.free q (omega arith);
+      counted = (let h = i.counted in let n = length-append c.loop-part.yielded (c.in-Some.part ∷ []) in omega (arith, h, n));
+      members = λ run board each.
+          subst (λ z. AreMembers (g.T.Part.net run).end borders nothing see stands spent right run b z) (sym c.in_ok-push.ensures.items)
+          (members_more (g.T.Part.net run).end borders nothing see stands spent right run b ms x
+          (i.members run board (each_front nothing see (stands run) (λ p. length (borders run p)) c.loop-part.yielded c.in-Some.part each))
+          (made.member run board (last_at nothing see (stands run) (λ p. length (borders run p)) n c.loop-part.yielded c.in-Some.part
+          i.counted each)));
+      all = subst (λ z. AreAll (n + 1) z) (sym c.in_ok-push.ensures.items) (all_more n ms x i.all made.start.0);
+      level = subst (λ z. AllEnd 0 z) (sym c.in_ok-push.ensures.items) (level_more 0 ms x i.level made.start.2 made.start.1);
+    }
+
+pub returns-clause-members : goal.returns-clause-members
+returns-clause-members g c = λ run board each.
+    let end = YieldsList-end (YieldsList-from_vec {s = c.into_iter-part-iterator.result} c.args.parts.items (search rules) (search rules))
+    c.loop-part.yielded c.loop-part.part-iterator c.loop-part.yielded_by c.next.result c.next.new.self c.in-None.is c.next.ensures.steps in
+    c.loop-part.invariant.members run board
+    (each_all g.T.Part.nothing g.T.Part.see (g.T.Part.stands run) (λ p. length (g.T.Part.borders run p)) c.loop-part.yielded
+    c.args.parts.items (sym (map_itself c.loop-part.yielded) ∙ end.0) each)
+
+pub returns-clause-all : goal.returns-clause-all
+returns-clause-all g c =
+    let end = YieldsList-end (YieldsList-from_vec {s = c.into_iter-part-iterator.result} c.args.parts.items (search rules) (search rules))
+    c.loop-part.yielded c.loop-part.part-iterator c.loop-part.yielded_by c.next.result c.next.new.self c.in-None.is c.next.ensures.steps in
+    subst (λ k. AreAll k c.loop-part.members.items) (c.loop-part.invariant.counted ∙ ap length (sym (map_itself c.loop-part.yielded) ∙ end.0))
+    c.loop-part.invariant.all

@@ -20,7 +20,6 @@ for_each_chunk_mut-requires-clause-accepts g c κs within = λ start p is. (
     param_send 0 _ (arg_send (layout g.row.T) no _ c.type_bounds.send-T),
     param_send 2 _ (arg_send (layout g.row.T-Run) no _ c.type_bounds.send-T-Run),
     param_send 3 _ (arg_send (layout g.row.T-Parcel) no _ c.type_bounds.send-T-Parcel),
-    search (sendable, c.type_bounds.sync-T) depth 20,
     search (sendable, c.type_bounds.sync-G) depth 20,
     search (sendable, c.type_bounds.sync-T-Run) depth 20,
     search (sendable, c.type_bounds.sync-T-Parcel) depth 20,

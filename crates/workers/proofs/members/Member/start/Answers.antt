@@ -1,15 +1,11 @@
-use Rattle.std.proofs.Common.{false, refl}
-use Rattle.workers.specs.declared.members.Member.{Member}
-use Rattle.workers.proofs.Resting.{goes_on}
-use Rattle.workers.proofs.Starting.{starts}
+use Rattle.std.proofs.Common.{arith}
 use Rattle.workers.proofs.members.Member.start.Goals as goal
 
+pub of-requires-clause-there : goal.of-requires-clause-there
+of-requires-clause-there g c κs within =
+    let many = c.requires.board.many in
+    let there = c.requires.there in
+    omega (arith, many, there)
+
 pub returns-clause-member : goal.returns-clause-member
-returns-clause-member g c = let e = c.in_ok-port.ensures in
-    let m : Member g.row.T.Denot g.row.T-Run.Denot g.row.T-Parcel.Denot =
-    record { part = c.in_ok-part.part; port = c.in_ok-port.port; stopped = false } in
-    goes_on (g.T.Part.net c.args.run.now).end g.T.Part.borders g.T.Part.nothing g.T.Part.see g.T.Part.stands g.T.Part.spent g.T.Part.right c.args.run.now
-    c.args.board.now m refl
-    (starts (g.T.Part.net c.args.run.now).end g.T.Part.borders g.T.Part.nothing g.T.Part.see g.T.Part.stands g.T.Part.right c.args.run.now c.args.board.now m
-    c.args.number
-    e.port.0 e.port.1 e.port.2 e.awaited e.counts.1 e.counts.2 c.in_ok-part.ensures)
+returns-clause-member g c = c.in_ok-member.ensures.member c.args.run.now c.requires.board c.in_ok-part.ensures

@@ -1,0 +1,25 @@
+use Rattle.std.proofs.Common.{length, subst, sym}
+use Rattle.step_core.specs.Views.{EachAt}
+use Rattle.workers.specs.Members.{AreAll}
+use Rattle.workers.proofs.Dealing.{shared_has, shared_level, shared_members}
+use Rattle.workers.proofs.days.Running.of.Goals as goal
+
+pub returns : goal.returns
+returns g c =
+    let run = c.args.run.now in
+    let before = c.in_ok-members.members.items in
+    let after = c.in_ok-shared.shared.items in
+    let made = c.in_ok-members.ensures in
+    let perm = c.in_ok-shared.ensures in
+    let board = c.in_ok-board.ensures.board in
+    let each = subst (λ k. EachAt g.T.Part.nothing g.T.Part.see (g.T.Part.stands run) 0 (λ p. length (g.T.Part.borders run p)) k
+    c.args.parts.items)
+    (sym c.requires.count) c.requires.start in
+    record {
+      board = board;
+      some = c.requires.workers;
+      members = shared_members (g.T.Part.net run).end g.T.Part.borders g.T.Part.nothing g.T.Part.see g.T.Part.stands g.T.Part.spent
+          g.T.Part.right run c.in_ok-board.board before after perm (made.members run board each);
+      level = shared_level 0 before after perm made.new;
+      all = shared_has (g.T.Part.net run).parts before after (subst (λ k. AreAll k before) c.requires.count made.all) perm;
+    }

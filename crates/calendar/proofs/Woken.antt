@@ -1,5 +1,5 @@
 -- Who is woken in a second, as those of all numbers that pass the test.
-use Rattle.std.proofs.Common.{◌≡◌, ℕ, zero, suc, ◌+◌, ◌<◌, Bool, true, false, inl, inr, List, [], ◌∷◌, length, get_or, refl, ap, sym, ◌∙◌, arith}
+use Rattle.std.proofs.Common.{◌≡◌, ℕ, suc, ◌+◌, ◌<◌, Bool, true, false, inl, inr, List, [], ◌∷◌, length, get_or, refl, ap, sym, ◌∙◌, arith}
 use Rattle.std.specs.Prelude.{filter, Option, None}
 use Rattle.std.proofs.lemmas.Bool.{cases_Bool}
 use Rattle.calendar.specs.Waking.{is_second, is_woken, woken_from, woken}

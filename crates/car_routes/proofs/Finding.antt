@@ -1,21 +1,20 @@
 -- The routes that were found, in the order in which they are wanted.
-use Rattle.std.proofs.Common.{◌≡◌, ℕ, ◌+◌, ◌<◌, Bool, true, false, cond, ◌&&◌, List, [], ◌∷◌, ◌++◌, length, map, drop, get_or, Option, None, Some, ◌⊎◌, inl, inr, refl, sym, ◌∙◌, ap, subst, arith, length-append}
+use Rattle.std.proofs.Common.{◌≡◌, ℕ, ◌+◌, ◌<◌, Bool, true, false, cond, ◌&&◌, List, [], ◌∷◌, ◌++◌, length, drop, get_or, Option, None, Some, ◌⊎◌, inl, inr, refl, sym, ◌∙◌, ap, subst, arith, length-append}
 use Rattle.std.specs.Prelude.{slice_set, nat_eq, nat_le, not, option_to_list, unwrap_or}
 use Rattle.std.specs.Option.{option_map}
 use Rattle.std.proofs.lemmas.Bool.{cases_eq, eq-eqb, ne_eqb}
 use Rattle.std.proofs.lemmas.List.{get_or-set_same, get_or-set_other}
 use Rattle.limits.specs.declared.TheConstants.{MAX_ROUTE_LINKS}
 use Rattle.rows.specs.declared.plan.Act.{Act}
-use Rattle.rows.specs.declared.plan.Leg.{Leg}
 use Rattle.rows.specs.declared.plan.Leg.TheVariants as leg
 use Rattle.walks.specs.Arrivals.{Arrivals}
-use Rattle.walks.specs.Walks.{Ends, start_of, end_of}
+use Rattle.walks.specs.Walks.{start_of, end_of}
 use Rattle.walks.specs.Rounds.{Labels, label_at, least_labels}
 use Rattle.walks.specs.Chosen.{chosen_route}
-use Rattle.walks.specs.Alike.{TakesAlike, delayed}
+use Rattle.walks.specs.Alike.{TakesAlike}
 use Rattle.walks.proofs.Delayed.{delayed_label, delayed_labels, delayed_route}
 use Rattle.router.specs.Graphs.{Graph}
-use Rattle.router.specs.Routes.{way_to, leg_route, allowed}
+use Rattle.router.specs.Routes.{way_to, allowed}
 use Rattle.router.specs.Legs.{route_between}
 use Rattle.router.proofs.LegWays.{route_here, route_there}
 use Rattle.car_routes.specs.Plans.{filled}

@@ -1,16 +1,16 @@
 -- The wanted routes, gathered leg by leg.
-use Rattle.std.proofs.Common.{◌≡◌, ℕ, zero, suc, ◌+◌, ◌<◌, ◌≤◌, Bool, true, false, cond, ◌&&◌, List, [], ◌∷◌, ◌++◌, length, map, drop, replicate, Option, None, Some, ◌⊎◌, inl, inr, refl, sym, ◌∙◌, ap, subst, arith, append_assoc, length-append}
-use Rattle.std.specs.Prelude.{nat_eq, not, filter, slice_index_or, slice_set, option_to_list, All}
-use Rattle.std.specs.List.{cons_option, flat_map}
+use Rattle.std.proofs.Common.{◌≡◌, ℕ, zero, suc, ◌+◌, ◌<◌, ◌≤◌, Bool, cond, List, [], ◌∷◌, ◌++◌, length, map, drop, replicate, Option, None, Some, ◌⊎◌, inl, inr, refl, sym, ◌∙◌, ap, subst, arith, append_assoc}
+use Rattle.std.specs.Prelude.{nat_eq, filter, slice_index_or, slice_set, option_to_list, All}
+use Rattle.std.specs.List.{cons_option}
 use Rattle.std.proofs.lemmas.Bool.{cases_eq, eq-eqb, ne_eqb}
-use Rattle.std.proofs.lemmas.List.{append-nil, map-append, drop_more, drop_all, get_or-set_same, get_or-set_other, get_or-replicate, get_or_past, length-set, length-replicate}
+use Rattle.std.proofs.lemmas.List.{append-nil, map-append, drop_more, drop_all, get_or-set_same, get_or-set_other, length-set}
 use Rattle.std.proofs.lemmas.List.Elements.{filter-append, All-push, All-set, All-get_or, All-nil, All-replicate}
 use Rattle.rows.specs.declared.plan.Act.{Act}
 use Rattle.rows.specs.declared.plan.Leg.{Leg}
 use Rattle.rows.specs.declared.plan.Leg.TheVariants as leg
 use Rattle.rows.specs.declared.plan.Plan.{Plan}
 use Rattle.rows.specs.PlanRows.{PlanRows, plan_rows, all_plan_rows}
-use Rattle.walks.specs.Walks.{Ends, start_of, end_of}
+use Rattle.walks.specs.Walks.{Ends}
 use Rattle.car_routes.specs.Wanted.{Pairs, wanted, wanted_in, wanted_by, wanted_by_all, wanted_from, row_of, AreNodes, WantsMore}
 
 -- PAIRS BY THEIR FIRST NODE

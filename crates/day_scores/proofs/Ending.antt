@@ -1,6 +1,6 @@
 -- The scores of the persons, one more, and their sum.
-use Rattle.std.proofs.Common.{◌≡◌, ℕ, suc, ◌+◌, ◌*◌, ◌<◌, ◌≤◌, List, [], ◌∷◌, ◌++◌, length, map, get_or, take, drop, ℤ, pos, neg_ℤ, ◌+ℤ◌, ◌≤ℤ◌, w64, to_z, of_z, refl, sym, ap, ◌∙◌, subst, append_assoc, append-nil, add-one, drop_of_length-le, arith}
-use Rattle.std.specs.List.{enumerate_from, All}
+use Rattle.std.proofs.Common.{◌≡◌, ℕ, ◌+◌, ◌*◌, ◌<◌, ◌≤◌, List, [], ◌∷◌, ◌++◌, length, map, get_or, take, drop, ℤ, pos, ◌+ℤ◌, w64, to_z, of_z, sym, ap, ◌∙◌, subst, append_assoc, append-nil, add-one, drop_of_length-le, arith}
+use Rattle.std.specs.List.{enumerate_from}
 use Rattle.std.proofs.Math.Seq.{drop-cons}
 use Rattle.std.proofs.lemmas.Int.{ints}
 use Rattle.std.proofs.lemmas.List.{length-map, get_or-map, take_more}

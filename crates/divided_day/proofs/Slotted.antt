@@ -1,5 +1,5 @@
 -- Links that take the slots of their partitions, one after the other.
-use Rattle.std.proofs.Common.{◌≡◌, ◌≢◌, ℕ, zero, suc, ◌+◌, ◌<◌, ◌≤◌, Bool, true, false, List, [], ◌∷◌, ◌++◌, arith, refl, sym, ◌∙◌}
+use Rattle.std.proofs.Common.{◌≡◌, ◌≢◌, ℕ, zero, suc, ◌+◌, ◌<◌, ◌≤◌, Bool, List, [], ◌∷◌, ◌++◌, arith, sym, ◌∙◌}
 use Rattle.std.proofs.Common.{ap, subst, inl, inr, length, get_or, set}
 use Rattle.std.proofs.Common.{replicate, get_or-set_same, get_or-set_other, length-set}
 use Rattle.std.specs.Prelude.{filter, ◌==◌}

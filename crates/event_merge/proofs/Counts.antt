@@ -1,6 +1,6 @@
 -- How often a key is in a list, and that it is once at most where lists ascend and share none.
-use Rattle.std.proofs.Common.{◌≡◌, ℕ, zero, suc, ◌+◌, ◌<◌, ◌≤◌, Bool, true, false, List, [], ◌∷◌, ◌++◌, arith, refl, sym, ◌∙◌, ap, sum_by, not, ◌&&◌}
-use Rattle.std.proofs.Common.{inl, inr, ◌⊎◌, All, subst, true≢false, length}
+use Rattle.std.proofs.Common.{◌≡◌, ℕ, zero, suc, ◌<◌, ◌≤◌, Bool, true, false, List, [], ◌∷◌, arith, refl, sym, ◌∙◌, sum_by, not, ◌&&◌}
+use Rattle.std.proofs.Common.{inl, inr, ◌⊎◌, All, subst, true≢false}
 use Rattle.std.specs.Prelude.{if◌then◌else◌, flat_map}
 use Rattle.std.specs.List.{Contains, AllByRecursion as Each}
 use Rattle.std.specs.List.Sorted.{IsSortedBy}

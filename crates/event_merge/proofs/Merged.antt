@@ -1,5 +1,5 @@
 -- What a merge of lists gives ascends and has all their events.
-use Rattle.std.proofs.Common.{◌≡◌, ℕ, true, List, [], ◌∷◌, ◌++◌, refl, sym, subst, map, append-nil, All, ◌≤◌, ◌∙◌, ap}
+use Rattle.std.proofs.Common.{◌≡◌, List, [], ◌∷◌, ◌++◌, sym, subst, map, append-nil, All, ◌≤◌, ◌∙◌}
 use Rattle.std.proofs.Common.{vec_items, vec_len, Vec, Global}
 use Rattle.std.specs.declared.vec.IntoIter.{IntoIter}
 use Rattle.std.specs.Vec.Iter.{into_iter_items, into_iter_len, into_iter_steps}

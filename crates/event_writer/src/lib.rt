@@ -7,4 +7,4 @@ mod writing;
 
 pub use listed::ListedEvents;
 pub use source::EventSource;
-pub use writing::{StreamError, stream_events, stream_piece};
+pub use writing::{StreamError, stream_events, stream_piece, take_piece, write_text};

@@ -12,7 +12,7 @@ use edge_files::{OutFile, Outputs, write_whole};
 use event_handler::{EventHandler, SeenDay};
 use events::{Book, Event, lines};
 use scoring::Tables;
-use std::alloc::Global;
+use std::alloc::{AllocError, Global};
 use thiserror::Error;
 
 /// Why the events of a day were not written to their end.
@@ -25,7 +25,11 @@ pub enum StreamError {
 }
 
 /// Writes a text behind the events.
-fn write<O: Outputs>(outputs: &mut O, text: &[u8]) -> Result<(), StreamError>
+///
+/// # Errors
+///
+/// `WriteFailed`: a write failed. A front of the text was written then.
+pub fn write_text<O: Outputs>(outputs: &mut O, text: &[u8]) -> Result<(), StreamError>
     ensures { IsWritten (O.written outputs.old) (O.written outputs.new) (O.faults outputs.old) (O.faults outputs.new) text.now result }
 {
     match write_whole(outputs, OutFile::Events, text) {
@@ -34,22 +38,32 @@ fn write<O: Outputs>(outputs: &mut O, text: &[u8]) -> Result<(), StreamError>
     }
 }
 
-/// Writes the lines of some events.
-fn write_lines<O: Outputs>(
+/// The lines of the next events of a day, which the handler takes.
+///
+/// # Errors
+///
+/// `AllocError`: there is no memory for them.
+pub fn take_piece(
     alloc: Global,
-    events: &[Event],
+    tables: &Tables,
     book: &Book,
-    outputs: &mut O,
-) -> Result<(), StreamError>
-    requires { AreInBook events.now book.now }
-    ensures { IsWritten (O.written outputs.old) (O.written outputs.new) (O.faults outputs.old) (O.faults outputs.new)
-        (event_lines events.now book.now) result }
+    events: &[Event],
+    handler: &mut EventHandler,
+) -> Result<Vec<u8>, AllocError>
+    requires named { AreInBook events.now book.now }
+    requires handled { (taken rest : List Event) × HasHandled (scoring_rows tables.now) handler.old taken
+        × CanHandle (persons_of handler.old) (links_in handler.old) (taken ++ events.now ++ rest) }
+    ensures text { IfOk result (λ text. text.items ≡ event_lines events.now book.now) }
+    ensures handled { OnOk result ((taken rest : List Event) → HasHandled (scoring_rows tables.now) handler.old taken
+        → CanHandle (persons_of handler.old) (links_in handler.old) (taken ++ events.now ++ rest)
+        → HasHandled (scoring_rows tables.now) handler.new (taken ++ events.now)) }
+    ensures kinds { kinds_of handler.new ≡ kinds_of handler.old }
+    ensures links { links_in handler.new ≡ links_in handler.old }
 {
     let mut text = Vec::new(alloc);
-    match lines(events, book, &mut text) {
-        Ok(()) => write(outputs, &text),
-        Err(_) => Err(StreamError::NoMemory),
-    }
+    lines(events, book, &mut text)?;
+    handler.handle(alloc, tables, events)?;
+    Ok(text)
 }
 
 /// Writes the next events of a day, and lets the handler take them.
@@ -76,14 +90,10 @@ pub fn stream_piece<O: Outputs>(
     ensures kinds { kinds_of handler.new ≡ kinds_of handler.old }
     ensures links { links_in handler.new ≡ links_in handler.old }
 {
-    match write_lines(alloc, events, book, outputs) {
-        Ok(()) => {}
-        Err(error) => return Err(error),
-    }
-    match handler.handle(alloc, tables, events) {
-        Ok(()) => Ok(()),
-        Err(_) => Err(StreamError::NoMemory),
-    }
+    let Ok(text) = take_piece(alloc, tables, book, events, handler) else {
+        return Err(StreamError::NoMemory);
+    };
+    write_text(outputs, &text)
 }
 
 /// Writes the lines of all events that a source gives, each piece as soon as it comes, and answers what was seen of them. The handler

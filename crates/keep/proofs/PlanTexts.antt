@@ -1,9 +1,8 @@
 -- The plan of a text: read back where it fits, and one that fits where it is read.
-use Rattle.std.proofs.Common.{◌≡◌, ℕ, ◌<◌, ◌^◌, Bool, true, false, cond, ◌&&◌, List, length, Option, None, Some, refl, sym, ap, ◌∙◌, subst}
-use Rattle.std.specs.Prelude.{bytes_eq, option_map}
+use Rattle.std.proofs.Common.{◌≡◌, ℕ, ◌<◌, ◌^◌, Bool, true, false, cond, ◌&&◌, List, length, None, Some, refl, ap, ◌∙◌, subst}
+use Rattle.std.specs.Prelude.{bytes_eq}
 use Rattle.std.proofs.lemmas.Slice.Eq.{bytes_eq-Decides}
-use Rattle.rows.specs.declared.plan.Plan.{Plan}
-use Rattle.rows.specs.PlanRows.{PlanRows, plan_rows}
+use Rattle.rows.specs.PlanRows.{PlanRows}
 use Rattle.plan_text.specs.Lines.{IsBook, IsTextOf, plan_lines, is_plan_in}
 use Rattle.plan_text.specs.Elements.{rows_in, acts_in, legs_in}
 use Rattle.plan_text.proofs.Joins.{both, and_true}
@@ -11,7 +10,7 @@ use Rattle.plan_text.proofs.Whole.{only_plan, same_bytes}
 use Rattle.town.specs.Rows.{TownRows}
 use Rattle.town.specs.Fits.{fits}
 use Rattle.keep.specs.Reading.{is_fitting, parts_in, plan_in}
-use Rattle.keep.proofs.Tests.{none_some, same_some, some_if}
+use Rattle.keep.proofs.Tests.{same_some, some_if}
 
 module _ (T : TownRows) (person index : ℕ) where
   abbrev has_lines : PlanRows → List ℕ → Bool

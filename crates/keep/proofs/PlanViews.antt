@@ -2,7 +2,7 @@
 use Rattle.std.proofs.Common.{◌≡◌, List, [], ◌∷◌, ◌++◌, length, map}
 use Rattle.std.proofs.lemmas.List.{length-map, map-append}
 use Rattle.rows.specs.declared.plan.Plan.{Plan}
-use Rattle.rows.specs.PlanRows.{PlanRows, plan_rows}
+use Rattle.rows.specs.PlanRows.{plan_rows}
 
 pub plans_count : (plans : List Plan) → length (map plan_rows plans) ≡ length plans
 plans_count plans = length-map plans plan_rows

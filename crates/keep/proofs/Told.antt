@@ -1,6 +1,6 @@
 -- What is read so far tells of the rows that were read: they are those of the memories that are done, and of the plans that are begun.
 use Rattle.std.proofs.Common.{◌≡◌, ◌⊎◌, ℕ, ◌+◌, ◌*◌, ◌<◌, ◌≤◌, Bool, true, false, cond, not, ◌&&◌, List, [], ◌∷◌, ◌++◌, length, Option, None, Some, refl, sym, ap, ◌∙◌, subst, inl, inr, arith, append_assoc, append-nil, length-append}
-use Rattle.std.specs.Prelude.{ℤ, nat_eq, nat_lt, bytes_eq, is_some, option_and_then}
+use Rattle.std.specs.Prelude.{nat_eq, nat_lt, bytes_eq, is_some, option_and_then}
 use Rattle.std.specs.List.{list_all, AllByRecursion}
 use Rattle.std.proofs.lemmas.List.Folds.{list_all-append}
 use Rattle.std.proofs.lemmas.List.Elements.{All-from_recursion}

@@ -1,5 +1,5 @@
 -- How kept rows are read, one after the other: what is read so far, and what one more row makes of it.
-use Rattle.std.specs.Prelude.{ℕ, ◌&&◌, Bool, not, nat_eq, nat_lt, bytes_eq, if◌then◌else◌, List, [], ◌∷◌, ◌++◌, length, map, Option, None, Some, option_map, option_and_then, is_some, is_none, ℤ}
+use Rattle.std.specs.Prelude.{ℕ, ◌&&◌, Bool, not, nat_eq, nat_lt, bytes_eq, if◌then◌else◌, List, [], ◌∷◌, ◌++◌, length, map, Option, None, Some, option_and_then, is_some, is_none, ℤ}
 use Rattle.events.specs.Names.{name_at}
 use Rattle.rows.specs.PlanRows.{PlanRows, plan_rows}
 use Rattle.edge_files.specs.declared.keeping.KeptRow.{KeptRow}

@@ -1,19 +1,18 @@
 -- In a town routes are joined: a vehicle at the end of a link goes on along a link that begins there.
-use Rattle.traffic.proofs.Common.{◌≡◌, ℕ, zero, suc, ◌+◌, ◌/◌, ◌<◌, ◌≤◌, true, Bool, List, [], ◌∷◌, ◌∙◌, ap, refl, sym, subst, arith, inl, inr, length, get_or, All, map, filter, list_all, Phase}
+use Rattle.traffic.proofs.Common.{◌≡◌, ℕ, zero, suc, ◌+◌, ◌/◌, ◌<◌, true, List, [], ◌∷◌, ◌∙◌, ap, refl, sym, subst, arith, inl, inr, length, get_or, All, filter, Phase}
 use Rattle.traffic.proofs.Common.{and_parts, eqb-true, ltb-true, add-one, cases_lt, get_or_past, get_or-map, length-map, All-get_or, All-from_recursion, recursion_from_All, nat_eq, nat_lt}
-use Rattle.traffic.proofs.Common.{VehicleId, PlanRows, Leg, Act, LinkRow, RouteRow, DepartureRow, World, Setup, VehicleState, Departure, next_link, through, world_start, world_at, at, on, link_row, departure, person_plan, leg_at, leg_of}
-use Rattle.traffic.proofs.Common.{ends_of, IsOwn, IsAlong, HasRiders, IsSoundRow, Sound}
+use Rattle.traffic.proofs.Common.{VehicleId, PlanRows, Leg, Act, LinkRow, RouteRow, DepartureRow, World, Setup, VehicleState, Departure, next_link, through, world_start, world_at, on, departure, leg_at, leg_of}
+use Rattle.traffic.proofs.Common.{ends_of, IsOwn, IsAlong, HasRiders, IsSoundRow}
 use Rattle.std.specs.List.{AllByRecursion as Each}
 use Rattle.events.specs.declared.event.VehicleId.TheVariants as vehicle
 use Rattle.rows.specs.declared.plan.Leg.TheVariants as leg
-use Rattle.rows.specs.declared.plan.Plan.{Plan}
 use Rattle.rows.specs.Joined.{ends_of_link, is_joined}
 use Rattle.rows.specs.Schedules.{is_way, are_drivable, is_route, is_departure}
 use Rattle.traffic.specs.declared.stage.Stage.TheVariants.{Buffer}
 use Rattle.traffic.specs.declared.world.Row.{Row}
 use Rattle.traffic.proofs.Each.{each_filter}
 use Rattle.traffic.proofs.Sublists.{on_is}
-use Rattle.law_in_range.specs.Rows.{Counts, IsFitRow, IsFitWorld}
+use Rattle.law_in_range.specs.Rows.{Counts, IsFitRow}
 use Rattle.law_in_range.specs.Setups.{IsFitSetup, IsPlanIn, counts_in}
 use Rattle.law_in_range.proofs.Lists.{each_tested}
 use Rattle.law_in_range.proofs.Sizes.{buffer_next, buffer_next_link}
@@ -22,9 +21,9 @@ use Rattle.law_in_range.proofs.Towns.{plans_fit, town_fit}
 use Rattle.law_matches_plans.proofs.Towns.{town_sound}
 use Rattle.law_sound_setups.proofs.Laws.{phases_sound}
 use Rattle.town.specs.declared.day_input.DayInput.{DayInput}
-use Rattle.town.specs.Fits.{is_car_leg, has_wrong_ends, leg_fits, legs_fit, fits, first_link}
+use Rattle.town.specs.Fits.{is_car_leg, leg_fits, legs_fit, fits, first_link}
 use Rattle.town.specs.Rows.{TownRows, IsTown}
-use Rattle.town.specs.Setups.{route_at, departure_of, setup_of}
+use Rattle.town.specs.Setups.{departure_of, setup_of}
 use Rattle.town.specs.Views.{rows_of, chosen_in, setup, ChosenFit}
 use Rattle.law_joined_routes.specs.Going.{GoesOn, GoOn}
 

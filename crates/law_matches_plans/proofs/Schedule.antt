@@ -1,6 +1,6 @@
 -- The departures of a town are sound, and their calls are on the links of their stops.
-use Rattle.traffic.proofs.Common.{◌≡◌, ℕ, List, ◌∙◌, length, refl, sym, [], ◌∷◌, arith, ◌<◌, true, ◌+◌, Bool, inl, inr, subst, false, suc, eqb, zero, get_or}
-use Rattle.traffic.proofs.Common.{drop, cases_Bool, eqb-true, and_parts, eq-eqb, eqb-false, ne_eqb, ltb-true, All-from_recursion, All-get_or, list_all, map}
+use Rattle.traffic.proofs.Common.{◌≡◌, ℕ, List, ◌∙◌, length, refl, sym, [], ◌∷◌, arith, ◌<◌, true, ◌+◌, Bool, inl, inr, subst, false, suc, eqb, zero}
+use Rattle.traffic.proofs.Common.{drop, cases_Bool, eqb-true, and_parts, eq-eqb, eqb-false, ne_eqb, ltb-true, All-from_recursion, All-get_or, list_all}
 use Rattle.traffic.proofs.Common.{not, All, nat_lt, ◌||◌, nat_eq, StopCall, ends_of, stop_link, DepartureRow, RouteRow, StopRow, is_nil, Setup, link_of_stop}
 use Rattle.traffic.proofs.Common.{from_link, AreServable}
 use Rattle.std.specs.List.{AllByRecursion as Each, position_or_len}

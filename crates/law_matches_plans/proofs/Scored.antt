@@ -1,6 +1,5 @@
 -- What a day tells of a person can be scored.
-use Rattle.std.proofs.Common.{◌≡◌, ℕ, ◌+◌, ◌*◌, ◌<◌, ◌≤◌, Bool, true, false, List, [], ◌∷◌, ◌++◌, length, map, filter, get_or, take, drop, refl, sym, ap, ap₂, ◌∙◌, subst, inl, inr, length-take, arith}
-use Rattle.std.specs.Prelude.{All}
+use Rattle.std.proofs.Common.{◌≡◌, ℕ, ◌+◌, ◌<◌, ◌≤◌, Bool, true, false, List, [], ◌∷◌, length, map, filter, get_or, take, drop, refl, sym, ap, ap₂, ◌∙◌, subst, inl, inr, length-take, arith}
 use Rattle.std.specs.List.{AllByRecursion as Each}
 use Rattle.std.proofs.lemmas.Bool.{cases_Bool}
 use Rattle.std.proofs.lemmas.List.{take_more, take-append-drop}
@@ -21,7 +20,7 @@ use Rattle.law_matches_plans.proofs.InTime.{day_until}
 use Rattle.scoring.specs.declared.TheConstants.{MAX_EVENTS}
 use Rattle.scoring.specs.Turns.{word_before, Follow, InTurn, tells}
 use Rattle.scoring.specs.Turns as turns
-use Rattle.scoring.specs.Taken.{MayFollow, AllFollow}
+use Rattle.scoring.specs.Taken.{AllFollow}
 use Rattle.scoring.proofs.LawLemmas.{InTurn-front}
 
 -- ---- the steps of trips

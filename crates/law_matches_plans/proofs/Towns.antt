@@ -1,8 +1,7 @@
 -- The setup of a day in a town is sound and consistent, and its days follow the plans.
-use Rattle.traffic.proofs.Common.{◌≡◌, ℕ, List, length, refl, [], ◌∷◌, arith, ◌<◌, true, ◌≤◌, length-map, All-map, All-from_recursion, All-get_or, All-weaker}
-use Rattle.traffic.proofs.Common.{map, All, PlanRows, plan_rows, Plan, DepartureRow, Setup, Departure}
+use Rattle.traffic.proofs.Common.{◌≡◌, ℕ, List, length, refl, [], arith, ◌<◌, ◌≤◌, length-map, All-from_recursion, All-get_or, All-weaker}
+use Rattle.traffic.proofs.Common.{map, All, PlanRows, plan_rows, DepartureRow, Setup, Departure}
 use Rattle.traffic.proofs.Each.{each_map}
-use Rattle.town.specs.Fits.{fits}
 use Rattle.town.specs.Rows.{TownRows, IsTown}
 use Rattle.town.specs.Setups.{departure_of, setup_of}
 use Rattle.town.specs.Views.{rows_of, chosen_in, setup, ChosenFit}

@@ -1,7 +1,7 @@
 -- Nobody is on the links of other partitions in the own world of a partition, before nodes let vehicles pass.
 use Rattle.traffic.proofs.Common.{◌≡◌, ℕ, Bool, true, false, not, List, [], ◌∷◌, ◌∙◌, ap, refl, sym, subst, inl, inr, cases_Bool}
-use Rattle.traffic.proofs.Common.{eqb, eqb-true, flat_map, filter, Option, Some, None, length, Setup, at, moves_of, below, Untouched, at_after_all}
-use Rattle.traffic.proofs.Common.{landing_moves, leaving_moves, departure_moves, departure, world_at, person_of}
+use Rattle.traffic.proofs.Common.{eqb, eqb-true, flat_map, filter, Option, Some, None, length, Setup, at, moves_of, below, Untouched}
+use Rattle.traffic.proofs.Common.{landing_moves, leaving_moves, departure_moves, world_at, person_of}
 use Rattle.traffic.specs.declared.moves.Move.{Move}
 use Rattle.traffic.specs.declared.stage.Stage.{Stage}
 use Rattle.traffic.specs.declared.stage.Stage.TheVariants.{Queue, Buffer, Wait, Bay}

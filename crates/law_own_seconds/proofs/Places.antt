@@ -1,8 +1,8 @@
 -- How the places of links are taken in the own world of a partition in the course of a second.
 use Rattle.traffic.proofs.Common.{◌≡◌, ℕ, zero, suc, ◌+◌, ◌-◌, ◌<◌, ◌≤◌, Bool, true, false, List, [], ◌∷◌, ◌++◌, ◌∙◌, ap, refl, sym, subst}
 use Rattle.traffic.proofs.Common.{arith, inl, inr, cases_Bool, length, length-append, filter, filter-append, flat_map, replicate, nat_le, nat_tests}
-use Rattle.traffic.proofs.Common.{eqb, eqb-true, eq-eqb, Setup, World, at, holes_at, hole_of, run, moves_of, turns, turns_in, link_turns, below}
-use Rattle.traffic.proofs.Common.{departure_turns, Untouched, at_after_all}
+use Rattle.traffic.proofs.Common.{eqb, eqb-true, eq-eqb, Setup, World, at, holes_at, hole_of, moves_of, turns, turns_in, link_turns, below}
+use Rattle.traffic.proofs.Common.{departure_turns, Untouched}
 use Rattle.events.specs.declared.event.Phase.TheVariants as phase
 use Rattle.traffic.specs.declared.moves.Move.{Move}
 use Rattle.traffic.specs.declared.stage.Stage.TheVariants.{Queue}

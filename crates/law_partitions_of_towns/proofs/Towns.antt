@@ -1,5 +1,5 @@
 -- The days of towns go in parts.
-use Rattle.traffic.proofs.Common.{◌≡◌, ℕ, List, true, All, PlanRows, plan_rows, Plan}
+use Rattle.traffic.proofs.Common.{ℕ, List, All, PlanRows}
 use Rattle.town.specs.Rows.{TownRows, IsTown}
 use Rattle.town.specs.Setups.{setup_of}
 use Rattle.town.specs.Views.{setup, ChosenFit}

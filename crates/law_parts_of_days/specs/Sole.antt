@@ -1,5 +1,4 @@
 -- The partition that has the whole network.
-use Rattle.std.specs.Prelude.{ℕ}
 use Rattle.parts.specs.Owners.{Owner}
 
 -- every node belongs to partition 0

@@ -1,5 +1,5 @@
 -- Plans whose activities end at other seconds are plans of the town where they were.
-use Rattle.std.proofs.Common.{◌≡◌, ℕ, suc, ◌+◌, ◌≤◌, Bool, true, ◌&&◌, List, [], ◌∷◌, length, map, refl, sym, ◌∙◌, ap, arith}
+use Rattle.std.proofs.Common.{◌≡◌, ℕ, ◌+◌, ◌≤◌, Bool, ◌&&◌, List, [], ◌∷◌, map, refl, ◌∙◌, ap, arith}
 use Rattle.std.specs.List.{list_all, enumerate_from}
 use Rattle.limits.specs.declared.TheConstants.{LAST_SECOND}
 use Rattle.draws.specs.Words.{Source}

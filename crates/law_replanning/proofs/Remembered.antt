@@ -1,10 +1,10 @@
 -- Memories of a town stay such when persons replan.
-use Rattle.std.proofs.Common.{◌≡◌, ℕ, zero, suc, ◌+◌, ◌-◌, ◌^◌, ◌<◌, ◌≤◌, Bool, true, false, cond, List, [], ◌∷◌, ◌++◌, length, map, get_or, Option, None, Some, ℤ, refl, sym, ◌∙◌, ap, subst, arith, length-append}
-use Rattle.std.specs.Prelude.{All, nat_eq, nat_lt, remove, replicate}
+use Rattle.std.proofs.Common.{◌≡◌, ℕ, zero, suc, ◌+◌, ◌-◌, ◌<◌, ◌≤◌, Bool, true, false, cond, List, [], ◌∷◌, ◌++◌, length, map, get_or, Option, None, ℤ, refl, sym, ◌∙◌, ap, subst, arith, length-append}
+use Rattle.std.specs.Prelude.{All, nat_eq, nat_lt, remove}
 use Rattle.std.specs.List.{list_all, enumerate_from, AllByRecursion as Each}
 use Rattle.std.proofs.lemmas.Bool.{and_from, and_parts}
 use Rattle.std.proofs.lemmas.Bool.Decides.{nat_tests}
-use Rattle.std.proofs.lemmas.List.{length-map, length-replicate}
+use Rattle.std.proofs.lemmas.List.{length-replicate}
 use Rattle.std.proofs.lemmas.List.Edits.{length-remove}
 use Rattle.std.proofs.lemmas.List.Elements.{All-from_recursion, recursion_from_All}
 use Rattle.limits.specs.declared.TheConstants.{MAX_PLANS}
@@ -22,7 +22,7 @@ use Rattle.plan_memory.specs.declared.TheConstants.{MAX_HELD}
 use Rattle.plan_memory.specs.declared.choices.Choice.{Choice}
 use Rattle.plan_memory.specs.declared.choices.Choice.TheVariants as choice
 use Rattle.plan_memory.specs.Scores.{worst, best}
-use Rattle.plan_memory.specs.Memories.{MemoryRows, first_memory, chosen_plan, with_plan, with_choice, chosen_without, without, after_drops, reduced}
+use Rattle.plan_memory.specs.Memories.{MemoryRows, first_memory, chosen_plan, with_plan, with_choice, without, after_drops, reduced}
 use Rattle.replanning.specs.Acts.{mutated_plan}
 use Rattle.replanning.specs.Legs.{rerouted_plan}
 use Rattle.replanning.specs.Persons.{Basis, by_strategy, words_of, replanned, all_replanned}
@@ -30,7 +30,7 @@ use Rattle.law_in_range.specs.Setups.{IsPlanIn}
 use Rattle.town.specs.Rows.{TownRows, IsTown}
 use Rattle.town.specs.Fits.{legs_fit, fits}
 use Rattle.law_replanning.specs.Memories.{IsMemoryIn, hold_fitting, all_hold_fitting}
-use Rattle.law_replanning.specs.Towns.{graph_in, IsBasisIn}
+use Rattle.law_replanning.specs.Towns.{IsBasisIn}
 use Rattle.law_replanning.proofs.Rerouted.{rerouted_fits, rerouted_in}
 use Rattle.law_replanning.proofs.Mutated.{mutated_fits, mutated_in}
 use Rattle.law_replanning.proofs.Choosing.{worst_within, best_within, choice_within}

@@ -1,6 +1,6 @@
 -- All events of a day are such as its signals let happen.
-use Rattle.traffic.proofs.Common.{◌≡◌, ◌≢◌, ℕ, List, ◌∙◌, ap, refl, sym, subst, [], ◌∷◌, ◌++◌, ◌+◌, true, zero, suc, length, flat_map, Some, Option, All, All-from_recursion, phase_code, Event, Phase}
-use Rattle.traffic.proofs.Common.{turns_in, turns_of, turns, world_start, world_at, keyed, world_from, after, events_from, day, phases, end_events, events_in, events_of, told_in, TurnMoves, below}
+use Rattle.traffic.proofs.Common.{◌≡◌, ℕ, List, ◌∙◌, ap, subst, [], ◌∷◌, ◌+◌, true, zero, suc, length, flat_map, Option, All, All-from_recursion, phase_code, Event, Phase}
+use Rattle.traffic.proofs.Common.{turns_in, turns_of, turns, world_start, world_at, keyed, world_from, after, events_from, day, phases, end_events, events_in, told_in, below}
 use Rattle.traffic.proofs.Common.{told, run, stranded, stuck_at, mode_of_leg, act_at, leg_at, person_of, World, Setup, count_of, Act, Mode}
 use Rattle.traffic.specs.declared.moves.Move.{Move}
 use Rattle.traffic.specs.declared.moves.Occurrence.{Occurrence}

@@ -1,12 +1,11 @@
 -- What each turn tells is what signals let happen.
-use Rattle.traffic.proofs.Common.{◌≡◌, ℕ, List, ◌∙◌, ap, refl, [], ◌∷◌, true, Bool, eqb-true, zero, suc, ◌+◌, ◌*◌, ◌≢◌, Option, get_or, map, filter, and_parts, not, eqb}
-use Rattle.traffic.proofs.Common.{phase_code, Phase, Act, Leg, VehicleId, World, Setup, false, at, rank, act_after, leg_at, person_of, into}
-use Rattle.traffic.proofs.Common.{told, at_second, leaves, enters, boarded, flat_map, alighting, next_call, strands, starts, serves, arrives, told_to, told_transfer, told_removal}
+use Rattle.traffic.proofs.Common.{◌≡◌, ℕ, List, ◌∙◌, ap, refl, [], ◌∷◌, true, Bool, eqb-true, zero, suc, ◌+◌, ◌*◌, ◌≢◌, Option, get_or, map, and_parts, not, eqb}
+use Rattle.traffic.proofs.Common.{phase_code, Phase, Act, Leg, World, Setup, false, at, rank, act_after, leg_at, person_of, into}
+use Rattle.traffic.proofs.Common.{told, leaves, enters, boarded, flat_map, alighting, next_call, strands, starts, serves, arrives, told_to, told_transfer, told_removal}
 use Rattle.traffic.proofs.Common.{may_enter, is_stuck, since_of, pass_node, pass_node_all, no_in_link, one_more, drawn, draw, without_at, next_link, out_links_after}
 use Rattle.traffic.proofs.Common.{in_link, node_view, node_moves, ready, red, candidates, mark, is_nil, node_turns, link_turns, turns_of, rules, link_state, waiters, waiting, sets_out}
 use Rattle.events.specs.declared.event.Phase.TheVariants as phase
 use Rattle.traffic.specs.declared.moves.Move.{Move}
-use Rattle.traffic.specs.declared.moves.Move.TheVariants.{Transfer, Remove}
 use Rattle.traffic.specs.declared.moves.Occurrence.{Occurrence}
 use Rattle.traffic.specs.declared.node_views.InLink.{InLink}
 use Rattle.traffic.specs.declared.node_views.OutLink.{OutLink}
@@ -15,10 +14,7 @@ use Rattle.events.specs.declared.event.VehicleId.TheVariants as vehicle
 use Rattle.rows.specs.declared.plan.Leg.TheVariants as leg
 use Rattle.traffic.specs.declared.stage.Stage.{Stage}
 use Rattle.traffic.specs.declared.stage.Stage.TheVariants.{Queue, Buffer, Wait, Bay}
-use Rattle.traffic.specs.declared.riders.Rider.{Rider}
-use Rattle.traffic.specs.declared.world.Waiter.{Waiter}
-use Rattle.traffic.specs.Rows.{on, VehicleState}
-use Rattle.traffic.specs.Telling.{told_entering}
+use Rattle.traffic.specs.Rows.{on}
 use Rattle.std.specs.List.{AllByRecursion as Each}
 use Rattle.traffic.proofs.Each.{each_all, each_append, each_if, each_filter, each_kept, each_map, each_flat_all, each_without_at, each_get_or}
 use Rattle.traffic.proofs.LinkEach.{FrontMoves, serving_stage, link_each}

@@ -1,15 +1,11 @@
 -- The orders of a core's steps and those of allowed events are the same.
-use Rattle.std.proofs.Common.{◌≡◌, ℕ, ◌<◌, ◌≤◌, List, [], ◌∷◌, ap, refl, sym, arith, true}
-use Rattle.events.specs.declared.event.Event.{Event}
+use Rattle.std.proofs.Common.{◌≡◌, ℕ, ◌≤◌, List, [], ◌∷◌, ap, refl, sym}
 use Rattle.traffic.specs.Setup.{Setup}
-use Rattle.law_sound_setups.specs.Setups.{IsSoundSetup}
-use Rattle.law_sound_setups.specs.Consistent.{IsConsistentSetup}
 use Rattle.parts.specs.Owners.{Owner}
-use Rattle.parts.specs.Parts.{Held, Parcel}
 use Rattle.parts.specs.Core.{Core, Rule, Reaches, advance}
-use Rattle.law_partitions.specs.Laws.{IsOwner, HasNeighbours, AdvanceInAnyOrder}
+use Rattle.law_partitions.specs.Laws.{HasNeighbours, AdvanceInAnyOrder}
 use Rattle.law_partitions.specs.Whole.{rule, start_of}
-use Rattle.step_core.specs.Nets.{Net, IsNet, MayStep, ComesTo}
+use Rattle.step_core.specs.Nets.{Net, IsNet, ComesTo}
 use Rattle.law_steps.specs.Steps.{net_of, IsReached, IsKept}
 
 pub net_is : (S : Setup) (own : Owner) (parts end : ℕ) → HasNeighbours S own parts → parts ≤ 64 → end ≤ 172800 → IsNet (net_of S own parts end)

@@ -1,5 +1,5 @@
 -- The book of files without a fault has names alone, one for each link and one for each stop.
-use Rattle.records.proofs.Common.{◌≡◌, List, ap, ℕ, length, ◌∙◌, arith, [], ◌<◌, ◌≤◌, ◌^◌, None, Some, ◌∷◌, refl, true, false, Bool, Option, cond, get_or, not, ◌&&◌, ◌||◌}
+use Rattle.records.proofs.Common.{◌≡◌, List, ℕ, length, arith, [], ◌<◌, ◌≤◌, ◌^◌, None, Some, ◌∷◌, refl, true, false, Bool, Option, cond, get_or, not, ◌&&◌}
 use Rattle.records.proofs.Common.{length-map, list_all, flat_map, nat_eq, is_some, number_of, is_name, holds_name, field, column, Reason, Row, body_of, body_fault, head_reason, optional_head_reason}
 use Rattle.std.proofs.lemmas.Bool.{or_parts}
 use Rattle.edge_files.specs.declared.files.InFile.TheVariants as file
@@ -21,14 +21,12 @@ use Rattle.schedule.specs.Routes.{route_header, link_items, call_texts, route_of
 use Rattle.plans.specs.declared.kinds.ElementKind.{ElementKind}
 use Rattle.plans.specs.declared.kinds.ElementKind.TheVariants as element
 use Rattle.plans.specs.Kinds.{kind_of, is_act, plans_header}
-use Rattle.plans.specs.Refusals.{is_misfit, lacks_name as lacks_plan_name, lacks_element_name, kind_reason, row_reason}
-use Rattle.plans.specs.Values.{PlanFileRows, person_in, kind_in, named_by, legs_to, row_before, row_behind, reason_at, rows_fault, plans_fault, values_of}
-use Rattle.plan_text.specs.Lines.{IsBook}
+use Rattle.plans.specs.Refusals.{is_misfit, lacks_name as lacks_plan_name, lacks_element_name, row_reason}
+use Rattle.plans.specs.Values.{person_in, kind_in, named_by, reason_at, rows_fault, plans_fault, values_of}
 use Rattle.settings.specs.Values.{Values}
 use Rattle.settings.specs.Faults.{file_of}
-use Rattle.town.specs.Rows.{TownRows}
 use Rattle.scenario.specs.Texts.{Texts, bytes_in}
-use Rattle.scenario.specs.FilesToScenario.{NetworkRows, ScheduleRows, stop_names, stop_rows, town_of, persons_on, schedule_rows_of, signals_on, planned_of, filled_in, on_network, network_rows_of, schedule_fault, scenario_fault, scenario_rows}
+use Rattle.scenario.specs.FilesToScenario.{NetworkRows, ScheduleRows, stop_names, stop_rows, town_of, schedule_rows_of, signals_on, planned_of, filled_in, on_network, network_rows_of, schedule_fault, scenario_fault, scenario_rows}
 use Rattle.scenario.proofs.Told.{bytes_free}
 use Rattle.scenario.proofs.Free.{free_files}
 use Rattle.scenario.proofs.FreeSchedules.{schedule_free}

@@ -1,5 +1,5 @@
 -- Links of a file without a fault begin and end at nodes, and their numbers are in their ranges.
-use Rattle.scenario.proofs.Common.{◌≡◌, List, ℕ, map, sym, ◌∙◌, length, refl, subst, None, true, ◌≤◌, length-map, list_all, is_link, links_fault, link_of}
+use Rattle.scenario.proofs.Common.{◌≡◌, ℕ, map, sym, ◌∙◌, length, refl, subst, None, true, ◌≤◌, length-map, list_all, is_link, links_fault, link_of}
 use Rattle.scenario.proofs.Common.{node_names, node_of, field, body_of, Row, NetworkRows, network_rows_of, Texts, bytes_in}
 use Rattle.edge_files.specs.declared.files.InFile.TheVariants as file
 use Rattle.limits.specs.declared.TheConstants.{MAX_LINKS}

@@ -1,5 +1,5 @@
 -- The settings of a file without a fault are in their ranges.
-use Rattle.std.proofs.Common.{◌≡◌, ℕ, ◌≤◌, ◌-◌, Bool, true, false, not, ◌&&◌, ◌||◌, List, Option, None, Some, refl, arith, lit≤}
+use Rattle.std.proofs.Common.{◌≡◌, ℕ, ◌≤◌, Bool, true, false, not, ◌&&◌, ◌||◌, List, Option, None, Some, refl, arith, lit≤}
 use Rattle.std.specs.Prelude.{codes, cond, is_some, nat_le, option_and_then, unwrap_or}
 use Rattle.std.proofs.lemmas.Bool.{or_parts}
 use Rattle.std.proofs.lemmas.Bool.Decides.{nat_tests}

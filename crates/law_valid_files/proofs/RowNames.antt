@@ -1,6 +1,6 @@
 -- Names in the rows of a file none of whose rows is refused.
-use Rattle.records.proofs.Common.{◌≡◌, List, ap, ℕ, length, ◌∙◌, arith, map, [], ◌<◌, sym, None, Some, ◌++◌, ◌∷◌, refl, true, Bool, Option, ◌+◌, false, cond, ◌^◌}
-use Rattle.records.proofs.Common.{get_or, ◌&&◌, ◌≤◌, suc, zero, take, not, subst, length-append, length-map, take_all, list_all, list_all-append, flat_map, fold}
+use Rattle.records.proofs.Common.{◌≡◌, List, ℕ, length, ◌∙◌, arith, map, [], ◌<◌, sym, None, Some, ◌++◌, ◌∷◌, refl, true, Bool, Option, ◌+◌, false, cond, ◌^◌}
+use Rattle.records.proofs.Common.{get_or, ◌&&◌, ◌≤◌, suc, zero, take, subst, length-append, length-map, take_all, list_all, list_all-append, flat_map, fold}
 use Rattle.records.proofs.Common.{nat_lt, with_name, is_held, number_of, firsts, is_name, field, column, holds_name, body_of, rows_of, Row, Reason, strip_bom, body_fault}
 use Rattle.std.proofs.Common.{length-drop}
 use Rattle.std.proofs.lemmas.Bool.Decides.{nat_tests}

@@ -1,6 +1,6 @@
 -- Those who wait at the stops of a link after its turn are those whom its services left.
-use Rattle.traffic.proofs.Common.{◌≡◌, ℕ, ◌+◌, ◌-◌, Bool, true, false, List, ◌∙◌, ap, refl, sym, subst, [], ◌∷◌, ◌++◌, inl, inr, cases_Bool, length, map, filter, if◌then◌else◌, nat_lt, nat_le}
-use Rattle.traffic.proofs.Common.{run, done, told, World, Setup, waiters, calls_on, is_last, may_pass, served_row, left_behind, buffered, waiting, wait_after, from_wait, from_queue, leave_bay, link_moves, raised, VEHICLE_COST, LinkState}
+use Rattle.traffic.proofs.Common.{◌≡◌, ℕ, ◌+◌, ◌-◌, Bool, true, false, List, ◌∙◌, ap, refl, sym, [], ◌∷◌, inl, inr, cases_Bool, length, if◌then◌else◌, nat_lt, nat_le}
+use Rattle.traffic.proofs.Common.{run, done, World, Setup, waiters, calls_on, is_last, may_pass, served_row, left_behind, buffered, waiting, wait_after, from_wait, from_queue, leave_bay, link_moves, raised, VEHICLE_COST, LinkState}
 use Rattle.traffic.specs.declared.moves.Move.{Move}
 use Rattle.traffic.specs.declared.moves.Move.TheVariants.{Transfer, Remove, Credit, LeaveHole}
 use Rattle.traffic.specs.declared.stage.Stage.TheVariants.{Queue, Wait, Bay}
@@ -8,7 +8,7 @@ use Rattle.traffic.specs.declared.numbers.Rules.{Rules}
 use Rattle.traffic.specs.declared.world.Row.{Row}
 use Rattle.traffic.specs.declared.world.Waiter.{Waiter}
 use Rattle.traffic.proofs.Sublists.{run-append}
-use Rattle.traffic.proofs.Waiting.{Calm, gone_calm, pass_calm}
+use Rattle.traffic.proofs.Waiting.{gone_calm, pass_calm}
 use Rattle.traffic.proofs.LeftBehind.{served_line, calm_line}
 use Rattle.link_seconds.specs.Seconds.{left_after}
 use Rattle.link_seconds.proofs.Leading.{left_append}

@@ -1,15 +1,14 @@
 -- The begin of a link's second: the bay and the credit.
-use Rattle.std.proofs.Common.{◌≡◌, ℕ, suc, ◌+◌, ◌-◌, ◌≤◌, Bool, true, false, List, [], ◌∷◌, ◌++◌, length, refl, ap, sym, ◌∙◌, subst, inl, inr, arith, append-nil, append_assoc}
+use Rattle.std.proofs.Common.{◌≡◌, ℕ, suc, ◌+◌, ◌-◌, ◌≤◌, Bool, false, List, [], ◌∷◌, ◌++◌, refl, ap, sym, ◌∙◌, subst, inl, inr, arith, append-nil, append_assoc}
 use Rattle.std.proofs.lemmas.Bool.{cases_Bool}
 use Rattle.std.proofs.lemmas.Grind.{flat_map-append}
-use Rattle.std.specs.Prelude.{map, filter, not, nat_le, if◌then◌else◌}
+use Rattle.std.specs.Prelude.{map, filter, nat_le}
 use Rattle.std.specs.List.{flat_map, AllByRecursion as Each}
 use Rattle.fixed_flow.specs.Flow.{raised, raised_times}
 use Rattle.traffic.specs.declared.moves.Move.{Move}
-use Rattle.traffic.specs.declared.moves.Move.TheVariants.{Transfer, Credit}
+use Rattle.traffic.specs.declared.moves.Move.TheVariants.{Credit}
 use Rattle.traffic.specs.declared.moves.Occurrence.{Occurrence}
 use Rattle.traffic.specs.declared.numbers.Rules.{Rules}
-use Rattle.traffic.specs.declared.stage.Stage.TheVariants.{Bay}
 use Rattle.traffic.specs.declared.world.Row.{Row}
 use Rattle.traffic.specs.declared.world.Waiter.{Waiter}
 use Rattle.traffic.specs.Telling.{goes_on}
@@ -22,7 +21,7 @@ use Rattle.law_sleeping.proofs.Whole.{link_state_append}
 use Rattle.queue_link.specs.declared.numbers.LinkNumbers.{LinkNumbers}
 use Rattle.queue_link.specs.Links.{LinkView}
 use Rattle.queue_link.specs.Turns.{is_due, left_in_bay, begun, moves_left}
-use Rattle.link_seconds.specs.Seconds.{line_at, HaveLines, AreReady, IsReady, StopThere, IsThere, left_after, rest_of, LeadsOn, IsSecond, lists_at}
+use Rattle.link_seconds.specs.Seconds.{HaveLines, AreReady, IsReady, StopThere, IsThere, left_after, LeadsOn, IsSecond, lists_at}
 use Rattle.link_seconds.proofs.Leading.{left_append}
 
 -- WHAT THE BEGIN DOES

@@ -7,7 +7,6 @@ use Rattle.rows.specs.declared.settings.Dwelling.{Dwelling}
 use Rattle.traffic.specs.declared.moves.Occurrence.{Occurrence}
 use Rattle.traffic.specs.declared.world.Row.{Row}
 use Rattle.traffic.specs.declared.world.Waiter.{Waiter}
-use Rattle.traffic.specs.Vehicles.{VehicleState}
 use Rattle.traffic.specs.Stops.{calls_on}
 use Rattle.traffic.specs.Telling.{starts}
 use Rattle.traffic.specs.Links.{LinkState, buffered, is_last, may_pass}

@@ -1,5 +1,5 @@
 -- One turn of a link as the code makes it.
-use Rattle.std.proofs.Common.{◌≡◌, ℕ, zero, suc, ◌+◌, ◌-◌, ◌<◌, ◌≤◌, Bool, true, false, List, [], ◌∷◌, ◌++◌, length, set, get_or, refl, ap, sym, ◌∙◌, subst, inl, inr, arith}
+use Rattle.std.proofs.Common.{◌≡◌, ℕ, zero, suc, ◌+◌, ◌-◌, ◌<◌, ◌≤◌, Bool, true, false, List, [], ◌∷◌, ◌++◌, length, set, refl, ap, sym, ◌∙◌, subst, inl, inr, arith}
 use Rattle.std.specs.Prelude.{◌==◌, nat_lt, filter}
 use Rattle.std.specs.List.{flat_map, AllByRecursion as Each}
 use Rattle.std.proofs.lemmas.Bool.{cases_Bool, and_parts, ltb-true}
@@ -16,7 +16,7 @@ use Rattle.traffic.specs.Moves.{told}
 use Rattle.traffic.specs.Links.{LinkState}
 use Rattle.traffic.proofs.Each.{each_weaker}
 use Rattle.queue_link.specs.declared.turns.Turn.{Turn}
-use Rattle.queue_link.specs.declared.turns.Turn.TheVariants.{Stop, Arrive, Done}
+use Rattle.queue_link.specs.declared.turns.Turn.TheVariants.{Stop}
 use Rattle.queue_link.specs.declared.numbers.LinkNumbers.{LinkNumbers}
 use Rattle.queue_link.specs.Links.{LinkView}
 use Rattle.queue_link.specs.Numbers.{rules_of}
@@ -25,8 +25,8 @@ use Rattle.queue_link.specs.Loops.{AreOn}
 use Rattle.riders.specs.Serving.{stopping as stopping_row}
 use Rattle.link_seconds.specs.Seconds.{line_at, AreShort, CanStop, IsReady, AreReady, IsThere, StopThere, HaveLines, LeadsOn, IsSecond, lists_at}
 use Rattle.link_seconds.proofs.Leading.{stop_leads, leads_then}
-use Rattle.link_seconds.proofs.Beginning.{whole_second, begun_there}
-use Rattle.link_seconds.proofs.Holding.{HoldsOf, StopSuch, holds}
+use Rattle.link_seconds.proofs.Beginning.{whole_second}
+use Rattle.link_seconds.proofs.Holding.{holds}
 
 -- a vehicle that stops has a call to be served
 served_some : (l : ℕ) (v : VehicleState) → calls_on l v ≡ true → v.served < length v.calls

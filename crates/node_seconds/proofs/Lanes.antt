@@ -7,7 +7,6 @@ use Rattle.std.proofs.lemmas.List.{get_or-set_same, get_or-set_other, length-set
 use Rattle.queue_link.specs.Links.{LinkView}
 use Rattle.queue_link.specs.declared.numbers.LinkNumbers.{LinkNumbers}
 use Rattle.draws.specs.Words.{word}
-use Rattle.traffic.specs.declared.moves.Move.{Move}
 use Rattle.traffic.specs.declared.moves.Occurrence.{Occurrence}
 use Rattle.traffic.specs.declared.node_views.OutLink.{OutLink}
 use Rattle.traffic.specs.Vehicles.{VehicleState}

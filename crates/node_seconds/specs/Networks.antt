@@ -1,6 +1,6 @@
 -- Links of a network, and what the turn of a node makes of them. Links stand in slots: those of the whole network, each in the slot of its
 -- own number, or those that one of several parts has.
-use Rattle.std.specs.Prelude.{◌≡◌, ℕ, ◌+◌, ◌<◌, Bool, true, false, ◌||◌, List, [], ◌∷◌, ◌++◌, length, get_or, set, ◌==◌}
+use Rattle.std.specs.Prelude.{◌≡◌, ℕ, ◌+◌, Bool, true, false, ◌||◌, List, [], ◌∷◌, ◌++◌, length, get_or, set, ◌==◌}
 use Rattle.std.specs.Prelude.{nat_lt, if◌then◌else◌, Option, None, Some}
 use Rattle.traffic.specs.declared.stage.Stage.TheVariants.{Queue}
 use Rattle.calendar.specs.Waking.{woken_by}

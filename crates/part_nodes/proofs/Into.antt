@@ -1,7 +1,7 @@
 -- The links into each node, one link after the other.
 use Rattle.traffic.proofs.Common.{◌≡◌, ℕ, zero, suc, ◌+◌, ◌<◌, List, ◌∙◌, ap, sym, [], ◌∷◌, ◌++◌, inl, inr, arith, eqb, true, false, length, get_or, filter, append-nil, Bool, refl}
 use Rattle.traffic.proofs.Common.{cases_Bool, eqb-true, eqb-false, eq-eqb, ne_eqb, filter-append, nat_tests, if◌then◌else◌, add-one, numbers, below, into, LinkRow}
-use Rattle.std.specs.Prelude.{map, replicate, ◌==◌}
+use Rattle.std.specs.Prelude.{replicate, ◌==◌}
 use Rattle.std.proofs.lemmas.List.{get_or_default, get_or-replicate, length-replicate, map-append}
 use Rattle.calendar.specs.Due.{HasOneMore}
 use Rattle.rows.specs.Networks.{is_link}

@@ -1,5 +1,5 @@
 -- The turn of a node: the network stands for the world after it.
-use Rattle.traffic.proofs.Common.{◌≡◌, ◌≢◌, ℕ, List, ◌∙◌, length, ap, refl, sym, [], ◌∷◌, ◌++◌, arith, ◌<◌, ◌+◌, true, false, Bool, inl, inr, eqb, subst, flat_map, map, filter, not, true≢false, get_or}
+use Rattle.traffic.proofs.Common.{◌≡◌, ◌≢◌, ℕ, List, ◌∙◌, length, ap, refl, sym, [], ◌++◌, arith, ◌<◌, ◌+◌, true, false, Bool, inl, inr, eqb, subst, flat_map, map, filter, not, true≢false, get_or}
 use Rattle.traffic.proofs.Common.{None, Option, cases_Bool, eq-eqb, set, get_or-set_same, get_or-set_other, length-set, if◌then◌else◌}
 use Rattle.traffic.proofs.Common.{node_turns, World, on, at, Setup, into, link_row, seconds_of, at_after_all, run, out_links_after, told, credit_of, numbers, keyed, phase_code}
 use Rattle.traffic.specs.declared.moves.Move.{Move}
@@ -36,9 +36,9 @@ use Rattle.part_nodes.specs.declared.node_turns.Buffered.{Buffered}
 use Rattle.part_nodes.specs.InLinks.{slots_of}
 use Rattle.part_nodes.specs.Turns.{IsTurnOf, lights_of, buffered_in, is_buffered, wake_all_emptied, node_due, up_to}
 use Rattle.law_joined_routes.specs.Going.{GoesOn}
-use Rattle.part_nodes.specs.Phase.{Extent, HasLinks, LinksStandFor, StandsForAt, IsPassed, IsTurn, going_out}
+use Rattle.part_nodes.specs.Phase.{Extent, HasLinks, LinksStandFor, IsPassed, IsTurn, going_out}
 use Rattle.part_nodes.proofs.Seen.{number_is, buffer_is}
-use Rattle.part_nodes.proofs.Slots.{AreNumberedBy, stand_numbered, node_among, is_slot, slot_finds, slot_nowhere}
+use Rattle.part_nodes.proofs.Slots.{AreNumberedBy, stand_numbered, node_among, slot_finds, slot_nowhere}
 use Rattle.part_nodes.proofs.Buffered.{nobody_in, moves_of_some}
 use Rattle.part_nodes.proofs.Ready.{some_in}
 use Rattle.part_nodes.proofs.Crossings.{AreCrossings, node_crossings, rows_into, queue_after, aside_after, buffer_keeps, buffer_empty, places_are, out_rows}

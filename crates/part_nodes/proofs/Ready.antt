@@ -1,5 +1,5 @@
 -- What the turn of a node asks of the links into it: at most sixteen, each in a slot of its own, and who is in their buffers goes on.
-use Rattle.traffic.proofs.Common.{◌≡◌, ℕ, suc, ◌+◌, ◌<◌, ◌≤◌, Bool, true, List, [], ◌∷◌, ◌∙◌, ap, sym, refl, subst, inl, inr, arith, eqb, length, get_or, filter, map}
+use Rattle.traffic.proofs.Common.{◌≡◌, ℕ, suc, ◌+◌, ◌<◌, ◌≤◌, Bool, true, List, [], ◌∷◌, ◌∙◌, ap, sym, refl, subst, inl, inr, arith, eqb, length, get_or, filter}
 use Rattle.traffic.proofs.Common.{cases_Bool, length-filter, numbers, World, on, at, Setup, into, link_row, recursion_from_All, LinkRow}
 use Rattle.traffic.specs.declared.stage.Stage.TheVariants.{Buffer}
 use Rattle.traffic.specs.declared.world.Row.{Row}

@@ -2,7 +2,7 @@
 use Rattle.traffic.proofs.Common.{◌≡◌, ◌≢◌, ℕ, List, ◌∙◌, length, ap, refl, sym, [], ◌∷◌, ◌++◌, arith, ◌<◌, ◌≤◌, ◌+◌, true, false, Bool, inl, inr, suc, zero, eqb, subst, flat_map, map, filter, append_assoc, append-nil, get_or}
 use Rattle.traffic.proofs.Common.{Some, None, Option, cases_Bool, eqb-true, eqb-false, ne_eqb, or_parts, true≢false}
 use Rattle.traffic.proofs.Common.{node_turns, node_view, World, at, Setup, into, link_row, run, told, numbers, below, sees, mark, keyed, phase_code, at_after_all}
-use Rattle.traffic.proofs.Common.{turns, turns_of, turns_in, after, moves_of, events_in, events_of, Turn, Event}
+use Rattle.traffic.proofs.Common.{turns, turns_of, after, moves_of, events_in, events_of, Turn, Event}
 use Rattle.traffic.specs.declared.moves.Move.{Move}
 use Rattle.traffic.specs.declared.moves.Occurrence.{Occurrence}
 use Rattle.traffic.specs.declared.stage.Stage.TheVariants.{Buffer}

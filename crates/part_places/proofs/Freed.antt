@@ -1,6 +1,6 @@
 -- The places of a second come free.
-use Rattle.std.proofs.Common.{◌≡◌, ◌≢◌, ℕ, ◌+◌, ◌-◌, ◌<◌, ◌≤◌, List, [], length, get_or, refl, ap, sym, ◌∙◌, arith, eqb, Bool, true, false}
-use Rattle.std.specs.Prelude.{◌==◌, filter, if◌then◌else◌, Option, Some}
+use Rattle.std.proofs.Common.{◌≡◌, ℕ, ◌+◌, ◌-◌, ◌<◌, List, length, get_or, refl, ap, sym, ◌∙◌, arith, eqb, Bool, true, false}
+use Rattle.std.specs.Prelude.{filter, Option, Some}
 use Rattle.std.proofs.lemmas.Bool.{ne_eqb, le-leb}
 use Rattle.traffic.specs.declared.node_views.OutLink.{OutLink}
 use Rattle.calendar.specs.Due.{due_at, HasNone}

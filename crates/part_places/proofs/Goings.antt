@@ -1,6 +1,6 @@
 -- Vehicles leave the queue of a link, whose places come free later.
-use Rattle.std.proofs.Common.{◌≡◌, ◌≢◌, ℕ, ◌+◌, ◌-◌, ◌<◌, ◌≤◌, Bool, true, false, List, ◌++◌, length, get_or, refl, ap, sym, ◌∙◌, subst, eqb, inl, inr, arith}
-use Rattle.std.specs.Prelude.{count_by, nat_le, replicate, set, ◌==◌, if◌then◌else◌, Option}
+use Rattle.std.proofs.Common.{◌≡◌, ◌≢◌, ℕ, ◌+◌, ◌-◌, ◌<◌, ◌≤◌, Bool, true, List, ◌++◌, length, get_or, refl, ap, sym, ◌∙◌, subst, eqb, inl, inr, arith}
+use Rattle.std.specs.Prelude.{nat_le, replicate, set, ◌==◌, if◌then◌else◌, Option}
 use Rattle.std.proofs.lemmas.Bool.{cases_Bool, eqb-true, eqb-false, eq-eqb, ne_eqb, le-leb}
 use Rattle.std.proofs.lemmas.List.{get_or-set_same, get_or-set_other, length-set}
 use Rattle.traffic.specs.declared.node_views.OutLink.{OutLink}

@@ -2,7 +2,7 @@
 use Rattle.traffic.proofs.Common.{◌≡◌, ℕ, ◌+◌, ◌-◌, ◌<◌, ◌≤◌, Bool, true, false, List, [], ◌∷◌, ◌++◌, ◌∙◌, ap, refl, sym, subst, arith, inl, inr}
 use Rattle.traffic.proofs.Common.{cases_Bool, cases_lt, cond, eqb, eqb-true, length, get_or_past, map, nat_le, Option}
 use Rattle.traffic.proofs.Common.{Setup, World, link_row, at, holes_at, hole_of, storage_of, person_of, nobody, world_at}
-use Rattle.traffic.proofs.Common.{waiters, next_link, turns}
+use Rattle.traffic.proofs.Common.{waiters, next_link}
 use Rattle.std.proofs.lemmas.List.Sums.{sum_by-cons}
 use Rattle.std.specs.List.{AllByRecursion as Each}
 use Rattle.events.specs.declared.event.Phase.TheVariants as phase

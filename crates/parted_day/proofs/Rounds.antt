@@ -7,7 +7,7 @@ use Rattle.town.specs.Views.{setup}
 use Rattle.law_in_range.specs.Setups.{counts_in, HaveFittingPlans}
 use Rattle.partition.specs.Owned.{owner_in}
 use Rattle.partition.specs.declared.owner.Owner.{Owner}
-use Rattle.parts.specs.Owners.{Owner as Owning, lag}
+use Rattle.parts.specs.Owners.{Owner as Owning}
 use Rattle.parts.specs.Parts.{held, ready}
 use Rattle.law_in_range.specs.Rows.{Counts}
 use Rattle.law_in_range.specs.Setups.{IsFitSetup}

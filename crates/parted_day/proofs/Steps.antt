@@ -1,5 +1,5 @@
 -- A part absorbs the parcels of its neighbours, one after the other.
-use Rattle.traffic.proofs.Common.{◌≡◌, ℕ, zero, suc, ◌+◌, ◌-◌, ◌<◌, ◌≤◌, true, false, List, [], ◌∷◌}
+use Rattle.traffic.proofs.Common.{◌≡◌, ℕ, zero, suc, ◌+◌, ◌-◌, ◌<◌, true, false, List, [], ◌∷◌}
 use Rattle.traffic.proofs.Common.{◌++◌, ◌∙◌, ap, refl, sym, subst, arith, inl, inr}
 use Rattle.traffic.proofs.Common.{cases_Bool, cases_lt, append-nil, append_assoc, length, get_or, take, drop, map, replicate}
 use Rattle.traffic.proofs.Common.{Option, None, Some, Setup, hole_of}

@@ -1,5 +1,5 @@
 -- What absorbing the parcels of neighbours before a second makes of a part, list by list.
-use Rattle.std.specs.Prelude.{◌≡◌, ℕ, ◌+◌, ◌-◌, ◌<◌, Bool, List, [], ◌∷◌, ◌++◌, length, map, get_or, Some}
+use Rattle.std.specs.Prelude.{◌≡◌, ℕ, ◌+◌, ◌-◌, ◌<◌, Bool, List, ◌++◌, length, map, get_or, Some}
 use Rattle.traffic.specs.declared.world.Row.{Row}
 use Rattle.traffic.specs.Setup.{Setup, hole_of}
 use Rattle.parts.specs.Owners.{Owner}

@@ -1,5 +1,5 @@
 -- Nodes that are dealt out in an order: each has one place, and each partition its share.
-use Rattle.std.proofs.Common.{◌≡◌, ℕ, zero, suc, ◌+◌, ◌-◌, ◌*◌, ◌/◌, ◌<◌, ◌≤◌, ◌≢◌, Bool, true, false, List, [], ◌∷◌, arith, refl, sym, ◌∙◌, ap, subst, length, get_or, take, drop, All, inl, inr, ◌++◌, sum_by, set, min, cond, ◌⊎◌, append_assoc, length-append}
+use Rattle.std.proofs.Common.{◌≡◌, ℕ, zero, suc, ◌+◌, ◌-◌, ◌<◌, ◌≤◌, ◌≢◌, false, List, [], ◌∷◌, arith, refl, sym, ◌∙◌, ap, subst, length, get_or, take, drop, All, inl, inr, ◌++◌, sum_by, set, min, cond, ◌⊎◌, append_assoc, length-append}
 use Rattle.std.specs.Prelude.{count_by, ◌==◌, if◌then◌else◌}
 use Rattle.std.specs.List.{Contains, AllByRecursion as Each}
 use Rattle.std.specs.List.Sorted.{IsPermutation}
@@ -8,7 +8,7 @@ use Rattle.std.proofs.lemmas.List.{get_or_default, get_or-set_same, get_or-set_o
 use Rattle.std.proofs.lemmas.List.Elements.{All-get_or, All-from_get_or}
 use Rattle.std.proofs.lemmas.List.Sorted.{All-permutation, Contains-permutation, length_permutation, sum_by-IsPermutation}
 use Rattle.std.proofs.lemmas.List.Sums.{sum_by-cons, sum_by_more}
-use Rattle.traffic.proofs.Common.{cases_Bool, eqb, eqb-true, eqb-false, eq-eqb, ne_eqb, cases_lt}
+use Rattle.traffic.proofs.Common.{cases_Bool, eqb, eqb-true, eq-eqb, ne_eqb, cases_lt}
 use Rattle.traffic.proofs.Each.{each_weaker}
 use Rattle.traffic.specs.Lists.{below, numbers}
 use Rattle.rows.specs.declared.network.NodeRow.{NodeRow}
@@ -19,7 +19,7 @@ use Rattle.partition.specs.Cuts.{Cut, nodes_before, cuts_from, is_sorted_at}
 use Rattle.partition.specs.Halves.{IsHalved, IsCut, partition_at, AreDealt}
 use Rattle.partition.proofs.Shares.{no_share, all_shares, from_partition, before_partition, some_partition, shares_rise}
 use Rattle.partition.proofs.Order.{one_before}
-use Rattle.partition.proofs.Arranged.{Arranged, Within, cuts_within, both_each}
+use Rattle.partition.proofs.Arranged.{Within, cuts_within, both_each}
 
 -- NUMBERS BELOW n
 length-numbers : (k n : ℕ) → length (numbers k n) ≡ n

@@ -1,5 +1,5 @@
 -- The tables of a day, from empty ones.
-use Rattle.std.proofs.Common.{◌≡◌, ℕ, ◌<◌, ◌≤◌, Bool, false, List, sym, ◌∙◌, ap, subst, arith, replicate, length, take, drop, ◌++◌}
+use Rattle.std.proofs.Common.{◌≡◌, ℕ, ◌<◌, Bool, false, List, sym, ◌∙◌, ap, subst, arith, replicate, length, take, drop, ◌++◌}
 use Rattle.std.specs.Prelude.{not, ◌==◌, ◌&&◌, ◌||◌}
 use Rattle.std.specs.List.{list_any, flat_map}
 use Rattle.std.proofs.lemmas.List.{get_or-replicate, length-replicate}

@@ -1,5 +1,5 @@
 -- Which partitions are neighbours, and with which lags, out of the rows of a town and the plans.
-use Rattle.std.specs.Prelude.{◌≡◌, ℕ, ◌+◌, ◌-◌, ◌*◌, ◌<◌, min, Bool, false, not, ◌&&◌, ◌||◌, List, [], ◌∷◌, length, map, filter, get_or, ◌==◌, if◌then◌else◌, Option, None, Some}
+use Rattle.std.specs.Prelude.{◌≡◌, ℕ, ◌+◌, ◌-◌, ◌*◌, ◌<◌, min, Bool, false, not, ◌&&◌, ◌||◌, List, length, map, filter, get_or, ◌==◌, if◌then◌else◌, Option, None, Some}
 use Rattle.std.specs.List.{flat_map}
 use Rattle.rows.specs.declared.network.LinkRow.{LinkRow}
 use Rattle.rows.specs.declared.plan.Leg.{Leg}

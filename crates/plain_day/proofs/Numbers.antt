@@ -1,5 +1,5 @@
 -- The numbers of a link, by its row and the settings of traffic.
-use Rattle.traffic.proofs.Common.{◌≡◌, ℕ, ◌∙◌, length, ap, sym, ◌<◌}
+use Rattle.traffic.proofs.Common.{◌≡◌, ℕ, ◌∙◌, ap, sym}
 use Rattle.traffic.proofs.Common.{credit_per_second, storage, buffer_room, LinkRow, rules, gain_of, link_row, seconds_of, storage_of}
 use Rattle.traffic.specs.declared.numbers.Rules.{Rules}
 use Rattle.town.specs.declared.day_input.DayInput.{DayInput}

@@ -1,5 +1,5 @@
 -- The links out of a node, as a list.
-use Rattle.std.specs.Prelude.{ℕ, ◌+◌, ◌≤◌, ◌<◌, Bool, List, [], ◌∷◌, ◌==◌, if◌then◌else◌, Option, None, Some}
+use Rattle.std.specs.Prelude.{ℕ, ◌+◌, ◌≤◌, Bool, List, [], ◌∷◌, ◌==◌, if◌then◌else◌, Option, None, Some}
 use Rattle.limits.specs.declared.TheConstants.{MAX_CAPACITY, MAX_LENGTH}
 use Rattle.traffic.specs.declared.node_views.OutLink.{OutLink}
 use Rattle.traffic.specs.declared.node_views.InLink.{InLink}

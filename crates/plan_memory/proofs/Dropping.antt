@@ -1,5 +1,5 @@
 -- Plans dropped from a memory.
-use Rattle.std.proofs.Common.{◌≡◌, ℕ, suc, ◌+◌, ◌-◌, ◌<◌, ◌≤◌, List, [], ◌∷◌, ◌++◌, length, map, take, drop, Option, refl, sym, ◌∙◌, ap, subst, arith, length-append, length-take, length-drop}
+use Rattle.std.proofs.Common.{◌≡◌, ℕ, suc, ◌+◌, ◌-◌, ◌<◌, ◌≤◌, List, length, map, Option, refl, ◌∙◌, ap, subst, arith, length-append, length-take, length-drop}
 use Rattle.std.specs.Prelude.{remove, ℤ}
 use Rattle.std.proofs.lemmas.List.{map-append, take-map, drop-map}
 use Rattle.rows.specs.PlanRows.{PlanRows}

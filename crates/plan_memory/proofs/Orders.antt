@@ -1,5 +1,5 @@
 -- Among scores there is one that stands to all as the worst does, and one that stands to all as the best does.
-use Rattle.std.proofs.Common.{◌≡◌, ℕ, zero, suc, ◌+◌, ◌<◌, ◌≤◌, Bool, true, false, cond, ◌&&◌, List, [], ◌∷◌, length, get_or, ltb, Option, None, Some, ℤ, inl, inr, refl, sym, ◌∙◌, ap, subst, arith}
+use Rattle.std.proofs.Common.{◌≡◌, ℕ, zero, suc, ◌<◌, Bool, true, false, List, [], ◌∷◌, length, get_or, ltb, Option, None, Some, ℤ, inl, inr, refl, sym, ◌∙◌, arith}
 use Rattle.std.specs.Prelude.{int_le, position, unwrap_or}
 use Rattle.std.specs.List.{list_all, position_or_len}
 use Rattle.std.proofs.lemmas.Int.{ints}

@@ -1,6 +1,6 @@
 -- A file none of whose rows is refused is read to its end.
-use Rattle.records.proofs.Common.{◌≡◌, List, ap, ℕ, length, ◌∙◌, arith, [], ◌<◌, sym, None, Some, ◌∷◌, refl, Option, ◌+◌, get_or, ◌≤◌, suc, zero, subst}
-use Rattle.records.proofs.Common.{is_some, Reason, Mode, body_of, head_reason, Row, rows_of}
+use Rattle.records.proofs.Common.{◌≡◌, List, ap, ℕ, length, ◌∙◌, arith, [], ◌<◌, sym, None, Some, refl, Option, ◌+◌, get_or, suc, zero, subst}
+use Rattle.records.proofs.Common.{Reason, Mode, body_of, head_reason, Row}
 use Rattle.std.specs.List.{AllByRecursion as Each}
 use Rattle.records.proofs.Unrefused.{head_none, each_none}
 use Rattle.plans.specs.declared.kinds.ElementKind.{ElementKind}
@@ -8,7 +8,7 @@ use Rattle.plans.specs.declared.kinds.ElementKind.TheVariants as element
 use Rattle.plans.specs.Kinds.{kind_of, plans_header}
 use Rattle.plans.specs.Refusals.{row_reason}
 use Rattle.plans.specs.Values.{PlanFileRows, row_before, row_behind, reason_at, rows_fault, values_of, plans_fault, file_rows}
-use Rattle.plans.specs.Progress.{Progress, IsReadTo, IsSound, step_first, step_act, step_leg, finish}
+use Rattle.plans.specs.Progress.{Progress, IsReadTo, IsSound, step_first, step_act, step_leg}
 use Rattle.plans.proofs.FileRead.{first_is, first_read, first_reason, reason_is, last_there, finish_is, finish_sound}
 use Rattle.plans.proofs.RowRead.{row_able, act_read, leg_read}
 use Rattle.plans.proofs.Shapes.{IsPlan, Shaped, shaped_first, shaped_act, shaped_leg, shaped_all}

@@ -1,5 +1,5 @@
 -- What is read of a plan keeps the limits of plans.
-use Rattle.records.proofs.Common.{◌≡◌, List, ap, ℕ, length, ◌∙◌, arith, [], ◌<◌, sym, None, Some, ◌++◌, ◌∷◌, refl, true, Bool, Option, ◌+◌, false, cond, ◌&&◌}
+use Rattle.records.proofs.Common.{◌≡◌, List, ℕ, length, arith, [], None, Some, ◌++◌, ◌∷◌, refl, true, Bool, Option, ◌+◌, false}
 use Rattle.records.proofs.Common.{◌≤◌, length-append, nat_tests, list_all, is_some, nat_le, unwrap_or, option_to_list, Mode, LAST_SECOND, MAX_ROUTE_LINKS}
 use Rattle.records.proofs.Common.{MAX_LEGS, field, numbers_of, Row}
 use Rattle.std.specs.List.{AllByRecursion as Each}
@@ -7,7 +7,7 @@ use Rattle.events.specs.declared.event.Mode.TheVariants as mode
 use Rattle.rows.specs.declared.plan.Act.{Act}
 use Rattle.rows.specs.declared.plan.Leg.{Leg}
 use Rattle.plans.specs.declared.kinds.ElementKind.TheVariants as element
-use Rattle.rows.specs.Plan.{is_leg, is_end, has_end, are_acts}
+use Rattle.rows.specs.Plan.{is_leg, has_end, are_acts}
 use Rattle.rows.specs.PlanRows.{PlanRows}
 use Rattle.plans.specs.Kinds.{is_transit, items_of}
 use Rattle.plans.specs.Refusals.{has_bad_time, begins_plan}

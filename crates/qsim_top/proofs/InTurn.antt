@@ -1,5 +1,5 @@
 -- Files are read one after the other.
-use Rattle.scenario.proofs.Common.{All, InFile, Texts}
+use Rattle.scenario.proofs.Common.{InFile, Texts}
 use Rattle.traffic.proofs.Common.{◌≡◌, ℕ, List, ◌∙◌, length, ap, refl, sym, [], ◌∷◌, arith, ◌<◌, true, ◌+◌, Bool, inl, inr, ◌≤◌, suc, zero, get_or, ◌≢◌}
 use Rattle.traffic.proofs.Common.{and_parts, cases_lt, eqb-true, Some, Option, ◌&&◌, nat_eq}
 use Rattle.std.proofs.lemmas.List.{get_or_default}

@@ -1,6 +1,6 @@
 -- Every day is lawful, and those of files without a fault follow the plans and go in parts.
 use Rattle.scenario.proofs.Common.{scenario_fault, scenario_rows, ScenarioRows, Texts}
-use Rattle.traffic.proofs.Common.{◌≡◌, ℕ, List, ◌∙◌, length, refl, sym, ◌<◌, subst, All-from_recursion, None, PlanRows, world_at, turns_of}
+use Rattle.traffic.proofs.Common.{◌≡◌, ℕ, List, ◌∙◌, length, sym, ◌<◌, subst, All-from_recursion, None, PlanRows, world_at, turns_of}
 use Rattle.traffic.proofs.Common.{Setup, day}
 use Rattle.traffic.specs.declared.stage.Stage.TheVariants.{Buffer}
 use Rattle.traffic.proofs.Order.{day-ascends}
@@ -15,7 +15,7 @@ use Rattle.law_sound_setups.proofs.Laws.{day_sound}
 use Rattle.law_matches_plans.proofs.Towns.{persons_are, rows_sound, rows_told}
 use Rattle.law_matches_plans.proofs.ScoredTowns.{rows_scored}
 use Rattle.law_partitions_of_towns.proofs.Towns.{rows_go}
-use Rattle.town.specs.Rows.{TownRows, IsTown}
+use Rattle.town.specs.Rows.{IsTown}
 use Rattle.town.specs.Setups.{setup_of}
 use Rattle.law_in_range.specs.Setups.{IsPlanIn}
 use Rattle.law_replanning.specs.Memories.{IsMemoryIn}

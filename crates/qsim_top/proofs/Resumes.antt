@@ -1,14 +1,10 @@
 -- From what a run keeps the rest of it is done.
-use Rattle.std.proofs.Common.{◌≡◌, ◌⊎◌, ℕ, ◌<◌, ◌≤◌, suc, true, List, ◌++◌, length, Option, None, Some, refl, sym, ◌∙◌, ap, inl, inr}
-use Rattle.edge_files.specs.declared.effects.Effect.{Effect}
+use Rattle.std.proofs.Common.{◌≡◌, ◌⊎◌, ℕ, ◌<◌, ◌≤◌, suc, true, List, ◌++◌, Option, None, Some, refl, sym, ◌∙◌, ap, inl, inr}
 use Rattle.edge_files.specs.Effects.{all_steps}
 use Rattle.edge_files.specs.Keeping.{Kept}
 use Rattle.edge_files.specs.World.{Step, kept_after}
-use Rattle.keep.specs.Fitting.{AreRowsOf, IsForeignAt}
 use Rattle.keep.proofs.Either.{fit_or_foreign, one_list, one_place}
-use Rattle.plan_memory.specs.Memories.{MemoryRows}
 use Rattle.plan_text.specs.Lines.{IsBook}
-use Rattle.town.specs.Rows.{TownRows}
 use Rattle.iterations.specs.Runs.{RunRows, HasNames, IsRun}
 use Rattle.iterations.specs.Acts.{memories_at, iterations_effects, acts}
 use Rattle.iterations.specs.Days.{memories_after}

@@ -1,7 +1,6 @@
 -- What comes of the work of a command is its answer, with a status of its work.
 use Rattle.std.proofs.Common.{◌≡◌, ◌⊎◌, ℕ, Bool, true, false, List, Option, None, Some, Result, Err, refl, sym, ◌∙◌, ap, subst, inl, inr}
-use Rattle.edge_files.specs.Keeping.{Kept, Told}
-use Rattle.edge_files.specs.World.{World}
+use Rattle.edge_files.specs.Keeping.{Kept}
 use Rattle.iterations.specs.Performed.{Moment}
 use Rattle.scenario.specs.Texts.{Texts}
 use Rattle.scenario.specs.FilesToScenario.{ScenarioRows, scenario_fault, scenario_rows}

@@ -1,5 +1,5 @@
 -- What is told of a file of which each row is read by itself and by the names of those before it.
-use Rattle.records.proofs.Common.{◌≡◌, List, ℕ, length, map, None, Option, Err, Result, Reason, RowStop, Answers, column, body_of, TellsStop, body_fault, Row}
+use Rattle.records.proofs.Common.{◌≡◌, List, ℕ, map, None, Option, Err, Result, Reason, RowStop, Answers, column, body_of, TellsStop, body_fault, Row}
 use Rattle.records.specs.declared.table.Table.{Table}
 use Rattle.records.specs.Reading.{file_fault}
 use Rattle.records.specs.Tables.{table_lists}

@@ -6,7 +6,7 @@ use Rattle.std.specs.List.{list_all}
 use Rattle.std.proofs.lemmas.Bool.{lt-ltb}
 use Rattle.std.proofs.lemmas.List.{append-nil, drop_all, drop_more}
 use Rattle.events.specs.Names.{name_at}
-use Rattle.walks.specs.Walks.{Ends, start_of, end_of, IsWalk}
+use Rattle.walks.specs.Walks.{Ends, end_of, IsWalk}
 use Rattle.route_report.specs.Report.{label_text, label_lines}
 
 -- the line of a node comes off the front of those that are still to be written

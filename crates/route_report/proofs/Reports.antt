@@ -1,5 +1,5 @@
 -- What the report of a route proves.
-use Rattle.std.proofs.Common.{◌≡◌, ℕ, ◌<◌, List, length, Option, None, Some, refl, sym, ◌∙◌, ap, subst}
+use Rattle.std.proofs.Common.{◌≡◌, ℕ, ◌<◌, List, length, Option, None, Some, refl, sym, ap, subst}
 use Rattle.std.specs.Prelude.{◌↔◌, MatchOption, option_and_then}
 use Rattle.std.specs.Option.{option_map}
 use Rattle.events.specs.Names.{number_of}
@@ -8,10 +8,10 @@ use Rattle.travel_times.specs.Times.{free_times, arrivals}
 use Rattle.rows.specs.Joined.{ends_of}
 use Rattle.travel_times.proofs.Arriving.{arrivals_are_fifo}
 use Rattle.walks.specs.Walks.{AreWithin, NoWalk, IsLeast}
-use Rattle.walks.specs.Rounds.{label_at, least_labels}
+use Rattle.walks.specs.Rounds.{label_at}
 use Rattle.walks.proofs.Least.{least_or_none}
 use Rattle.walks.proofs.Followed.{chosen_is_least}
-use Rattle.router.specs.Ways.{least_of, route_of, IsLeastWay}
+use Rattle.router.specs.Ways.{least_of, route_of}
 use Rattle.route_report.specs.Report.{RoadMap, search_on, route_lines, text_of, route_text}
 use Rattle.route_report.specs.Reported.{NoWay, IsReport}
 

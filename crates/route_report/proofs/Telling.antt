@@ -1,15 +1,13 @@
 -- What is told of a route that was found, and where there is none.
-use Rattle.std.proofs.Common.{◌≡◌, ◌∙◌, ◌<◌, ℕ, true, List, [], length, map, Option, None, Some, refl, sym, ap, subst}
+use Rattle.std.proofs.Common.{◌≡◌, ◌∙◌, ◌<◌, ℕ, true, List, [], length, Option, None, Some, sym, ap, subst}
 use Rattle.std.specs.Prelude.{nat_lt}
 use Rattle.std.specs.List.{list_all}
 use Rattle.std.specs.Option.{option_map}
 use Rattle.std.proofs.lemmas.List.{length-map}
 use Rattle.rows.specs.declared.network.Network.{Network}
 use Rattle.rows.specs.Joined.{ends_of, ends_of_link}
-use Rattle.rows.specs.declared.network.LinkRow.{LinkRow}
 use Rattle.travel_times.specs.Times.{LinkProfile, free_times}
 use Rattle.walks.specs.Walks.{AreWithin, IsWalk, NoWalk}
-use Rattle.walks.specs.Rounds.{label_at}
 use Rattle.router.specs.Ways.{Query, IsLeastWay, least_of, route_of}
 use Rattle.router.proofs.Graphs.{network_within}
 use Rattle.route_report.specs.Report.{RoadMap, map_of, search_on, route_lines, text_of}

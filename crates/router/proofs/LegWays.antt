@@ -11,7 +11,7 @@ use Rattle.travel_times.proofs.Arriving.{arrivals_are_fifo}
 use Rattle.walks.specs.Arrivals.{Arrivals}
 use Rattle.walks.specs.Walks.{Ends, start_of, end_of, AreWithin, NoWalk, IsLeast}
 use Rattle.walks.proofs.Least.{least_or_none}
-use Rattle.router.specs.Ways.{Query, least_of, route_of, IsLeastWay}
+use Rattle.router.specs.Ways.{Query, route_of, IsLeastWay}
 use Rattle.router.specs.Graphs.{Graph}
 use Rattle.router.specs.Routes.{way_to, leg_route, allowed}
 

@@ -1,6 +1,6 @@
 -- Plans whose routes are filled: their numbers still have names, and the reasons against their legs are those against the legs as they were read.
 use Rattle.scenario.proofs.Common.{◌≡◌, List, ℕ, map, sym, ◌∙◌, ap, length, refl, subst, None, true, Option, arith, ◌<◌, Some, ◌≤◌, [], ◌∷◌, ◌&&◌, Bool, false, not}
-use Rattle.scenario.proofs.Common.{◌+◌, ◌++◌, drop, get_or, and_parts, nat_tests, list_all, length-map, nat_le, flat_map, unwrap_or, RowFault, PlanFileRows, Tables}
+use Rattle.scenario.proofs.Common.{◌+◌, drop, get_or, and_parts, nat_tests, list_all, length-map, nat_le, flat_map, unwrap_or, RowFault, PlanFileRows, Tables}
 use Rattle.scenario.proofs.Common.{IsSound, or_else, fault_at, ends_of, PlanRows, Leg, is_leg, in_file, NetworkRows, ScheduleRows, leg_checks_in}
 use Rattle.scenario.proofs.Common.{plans_cross_fault, plans_fault, plan_fault, LegChecks, all_plans_fault}
 use Rattle.std.proofs.Common.{cond, ◌-◌}

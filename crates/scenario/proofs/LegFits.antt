@@ -1,6 +1,6 @@
 -- A plan against whose legs nothing speaks fits the town, with the town's numbers.
 use Rattle.scenario.proofs.Common.{◌≡◌, List, ℕ, map, sym, ap, length, refl, subst, None, true, Option, arith, ◌<◌, Some, [], ◌∷◌, ◌&&◌, Bool, false, not}
-use Rattle.scenario.proofs.Common.{◌+◌, and_parts, nat_tests, list_all, unwrap_or, Tables, or_else, fault_at, ends_of, PlanRows, Leg, AreThere, plan_in_town}
+use Rattle.scenario.proofs.Common.{◌+◌, and_parts, nat_tests, list_all, unwrap_or, Tables, fault_at, ends_of, PlanRows, Leg, AreThere, plan_in_town}
 use Rattle.scenario.proofs.Common.{LegChecks, leg_in_town, plan_fault, fits, TownRows}
 use Rattle.std.proofs.Common.{◌||◌}
 use Rattle.std.specs.Prelude.{nat_eq, nat_lt, is_none, if◌then◌else◌}

@@ -1,9 +1,9 @@
 -- The first leg that does not fit, plan by plan, is the first one row by row.
-use Rattle.scenario.proofs.Common.{◌≡◌, List, ℕ, map, sym, ◌∙◌, ap, length, refl, subst, None, true, Option, arith, ◌<◌, Some, ◌≤◌, [], ◌∷◌, drop, Bool}
-use Rattle.scenario.proofs.Common.{false, get_or, append_assoc, not, suc, ◌++◌, ◌+◌, flat_map, unwrap_or, RowFault, PlanFileRows, Tables, file_rows, or_else}
+use Rattle.scenario.proofs.Common.{◌≡◌, List, ℕ, sym, ◌∙◌, ap, length, refl, None, true, Option, arith, ◌<◌, Some, ◌≤◌, [], ◌∷◌, drop, Bool}
+use Rattle.scenario.proofs.Common.{false, get_or, append_assoc, suc, ◌++◌, ◌+◌, flat_map, unwrap_or, RowFault, PlanFileRows, Tables, file_rows, or_else}
 use Rattle.scenario.proofs.Common.{fault_at, field, body_of, Row, ends_of, PlanRows, Leg, in_file, persons_fault, NetworkRows, ScheduleRows, leg_checks_in}
 use Rattle.scenario.proofs.Common.{plans_cross_fault, persons_on, plans_fault, LegChecks, all_plans_fault, plan_fault, Texts, bytes_in}
-use Rattle.std.proofs.Common.{zero, ◌-◌, ◌*◌, cond, add-one, length-append}
+use Rattle.std.proofs.Common.{zero, ◌-◌, ◌*◌, cond, length-append}
 use Rattle.std.specs.Prelude.{is_some, option_to_list}
 use Rattle.std.proofs.lemmas.List.{append-nil}
 use Rattle.std.proofs.lemmas.Grind.{flat_map-append}
@@ -15,7 +15,7 @@ use Rattle.records.proofs.Faulty.{none_of_none}
 use Rattle.rows.specs.declared.plan.Act.{Act}
 use Rattle.plans.specs.declared.kinds.ElementKind.{ElementKind}
 use Rattle.plans.specs.declared.kinds.ElementKind.TheVariants as element
-use Rattle.plans.specs.Kinds.{kind_of, is_act, is_leg}
+use Rattle.plans.specs.Kinds.{kind_of, is_leg}
 use Rattle.plans.specs.Refusals.{row_reason}
 use Rattle.plans.specs.Values.{tables_of, kind_in, act_of, leg_of, endless, row_before, row_behind, rows_fault, values_of, plans_fault as file_fault}
 use Rattle.plans.specs.Progress.{Progress, IsReadTo, closed_acts, closed_of, with_kind, put_act, step_first, step_act, step_leg, finish}

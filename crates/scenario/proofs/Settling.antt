@@ -1,10 +1,9 @@
 -- The plans of a file without a fault fit the town.
-use Rattle.scenario.proofs.Common.{◌≡◌, List, ℕ, map, sym, ap, length, refl, subst, None, true, Option, Some, list_all, InFile, RowFault, IsSound}
-use Rattle.scenario.proofs.Common.{PlanFileRows, Tables, ends_of, PlanRows, all_plan_rows, Plan, in_file, NetworkRows, ScheduleRows, leg_checks_in}
+use Rattle.scenario.proofs.Common.{◌≡◌, List, ℕ, map, sym, ap, length, refl, None, true, IsSound}
+use Rattle.scenario.proofs.Common.{PlanFileRows, Tables, ends_of, NetworkRows, ScheduleRows, leg_checks_in}
 use Rattle.scenario.proofs.Common.{plans_cross_fault, town_of, all_fit, AreThere, plan_in_town, all_plans_fault, Values, TownRows}
 use Rattle.std.specs.List.{AllByRecursion as Each}
 use Rattle.edge_files.specs.declared.files.InFile.TheVariants as file
-use Rattle.plans.specs.Values.{are_plans}
 use Rattle.plans.proofs.Shapes.{IsPlan}
 use Rattle.rows.specs.Greens.{Phases}
 use Rattle.scenario.proofs.LegFits.{Meets}

@@ -1,7 +1,7 @@
 -- Rows of stops.csv, routes.csv and departures.csv against which nothing speaks are few, and name links, stops, lines and routes that are there.
-use Rattle.records.proofs.Common.{◌≡◌, List, ap, ℕ, length, ◌∙◌, arith, map, [], ◌<◌, sym, None, Some, ◌∷◌, refl, true, Bool, Option, false, cond, get_or}
+use Rattle.records.proofs.Common.{◌≡◌, List, ap, ℕ, length, ◌∙◌, arith, map, [], ◌<◌, sym, None, Some, refl, true, Bool, Option, false, cond, get_or}
 use Rattle.records.proofs.Common.{◌&&◌, ◌≤◌, not, ◌||◌, Err, Ok, Result, length-map, get_or-map, list_all, nat_eq, nat_lt, is_some, nat_le, unwrap_or}
-use Rattle.records.proofs.Common.{is_none, bytes_eq, Reason, RowStop, number_of, is_held, firsts, LAST_SECOND, MAX_ROUTE_LINKS, MAX_ROUTES, Answers, field}
+use Rattle.records.proofs.Common.{is_none, bytes_eq, Reason, RowStop, number_of, is_held, LAST_SECOND, MAX_ROUTE_LINKS, MAX_ROUTES, Answers, field}
 use Rattle.records.proofs.Common.{column, holds_name, body_of, optional_head_reason, numbers_of, Row}
 use Rattle.std.proofs.Common.{IfOk}
 use Rattle.std.proofs.lemmas.Bool.{or_parts}

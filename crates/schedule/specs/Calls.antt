@@ -1,5 +1,5 @@
 -- The stop calls of a route: `STOP:OFFSET` or `STOP:OFFSET:wait`.
-use Rattle.std.specs.Prelude.{ℕ, Bool, true, false, ◌&&◌, ◌||◌, nat_le, nat_lt, nat_eq, bytes_eq, codes, unwrap_or, List, [], ◌∷◌, length, drop, get_or, position, Option, None, Some}
+use Rattle.std.specs.Prelude.{ℕ, Bool, ◌&&◌, ◌||◌, nat_eq, bytes_eq, codes, unwrap_or, List, length}
 use Rattle.limits.specs.declared.TheConstants.{LAST_SECOND}
 use Rattle.events.specs.Names.{is_name, number_of}
 use Rattle.events.specs.declared.lists.StopCall.{StopCall}

@@ -1,5 +1,5 @@
 -- The rows of routes.csv: `line,route,links,stops`.
-use Rattle.std.specs.Prelude.{ℕ, Bool, true, false, not, ◌&&◌, ◌||◌, nat_le, nat_lt, nat_eq, is_none, is_some, codes, unwrap_or, List, [], ◌∷◌, length, map, get_or, Option, Some, if◌then◌else◌}
+use Rattle.std.specs.Prelude.{ℕ, Bool, not, ◌&&◌, ◌||◌, nat_le, nat_lt, nat_eq, is_none, is_some, codes, unwrap_or, List, [], ◌∷◌, length, map, Option, Some, if◌then◌else◌}
 use Rattle.std.specs.List.{list_all}
 use Rattle.limits.specs.declared.TheConstants.{MAX_CALLS, MAX_ROUTES, MAX_ROUTE_LINKS}
 use Rattle.edge_files.specs.declared.reasons.Reason.{Reason}
@@ -13,7 +13,6 @@ use Rattle.records.specs.Lists.{items_in, are_names, numbers_of}
 use Rattle.records.specs.Faults.{least}
 use Rattle.records.specs.Files.{optional_head_reason, body_of}
 use Rattle.records.specs.Reading.{file_fault}
-use Rattle.rows.specs.Joined.{is_joined}
 use Rattle.rows.specs.declared.schedule.StopRow.{StopRow}
 use Rattle.rows.specs.declared.schedule.RouteRow.{RouteRow}
 use Rattle.schedule.specs.declared.calls.CallText.{CallText}

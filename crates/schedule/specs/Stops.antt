@@ -1,5 +1,5 @@
 -- The rows of stops.csv: `stop,link`.
-use Rattle.std.specs.Prelude.{ℕ, Bool, not, ◌&&◌, nat_le, nat_lt, nat_eq, is_none, is_some, codes, unwrap_or, List, [], ◌∷◌, length, Option}
+use Rattle.std.specs.Prelude.{ℕ, not, ◌&&◌, nat_le, nat_eq, is_none, is_some, codes, unwrap_or, List, [], ◌∷◌, length, Option}
 use Rattle.limits.specs.declared.TheConstants.{MAX_STOPS}
 use Rattle.edge_files.specs.declared.reasons.Reason.{Reason}
 use Rattle.edge_files.specs.declared.reasons.Reason.TheVariants as reason

@@ -1,6 +1,5 @@
 -- Whole numbers in a range.
-use Rattle.std.proofs.Common.{◌≡◌, ℕ, Bool, true, false, ◌&&◌, nat_le, int_le, is_some, ℤ, cond, if◌then◌else◌, Option, None, Some, refl, sym, ap, ◌∙◌}
-use Rattle.std.proofs.lemmas.Bool.{cases_Bool}
+use Rattle.std.proofs.Common.{◌≡◌, ℕ, Bool, true, false, ◌&&◌, nat_le, int_le, is_some, ℤ, if◌then◌else◌, Option, None, Some, sym}
 use Rattle.serde_json.specs.Data.{Data}
 use Rattle.settings.specs.Looking.{whole, signed, if_from_to, if_signed_from_to, whole_in, signed_in}
 

@@ -1,5 +1,5 @@
 -- What is told of the settings of scores, by its parts.
-use Rattle.std.proofs.Common.{◌≡◌, ℕ, Bool, true, false, not, ◌||◌, if◌then◌else◌, is_some, codes, List, [], ◌∷◌, unwrap_or, Option, None, Some, Result, refl, sym, ap, ap₂, ◌∙◌, subst}
+use Rattle.std.proofs.Common.{◌≡◌, Bool, true, false, not, ◌||◌, if◌then◌else◌, is_some, codes, List, [], ◌∷◌, unwrap_or, Option, None, Some, Result, refl, sym, ap, ap₂, ◌∙◌, subst}
 use Rattle.edge_files.specs.declared.reasons.Reason.{Reason}
 use Rattle.edge_files.specs.declared.reasons.Reason.TheVariants.{ValueBad, TableWrong}
 use Rattle.edge_files.specs.declared.reasons.RowStop.{RowStop}

@@ -1,5 +1,5 @@
 -- Keys that there are not, in the object of the modes and in the list of the tables.
-use Rattle.std.proofs.Common.{◌≡◌, ◌||◌, Bool, true, false, ℕ, List, [], ◌∷◌, not, codes, Option, None, Some, string_bytes, unwrap_or, refl, sym, ap, ap₂, ◌∙◌, subst}
+use Rattle.std.proofs.Common.{◌≡◌, ◌||◌, Bool, true, false, List, not, Option, None, Some, string_bytes, unwrap_or, sym, ap, ap₂, ◌∙◌}
 use Rattle.std.specs.List.{list_all, list_any}
 use Rattle.serde_json.specs.Data.{Data, Members, no_members, Items, no_items}
 use Rattle.serde_json.specs.Find.{as_array, as_object}

@@ -1,5 +1,5 @@
 -- Looking into JSON values.
-use Rattle.std.specs.Prelude.{ℕ, Bool, false, not, ◌&&◌, ◌||◌, nat_le, int_le, if◌then◌else◌, List, [], ◌∷◌, Option, None, Some, option_and_then, option_map, unwrap_or, ℤ}
+use Rattle.std.specs.Prelude.{ℕ, Bool, false, not, ◌&&◌, ◌||◌, nat_le, int_le, if◌then◌else◌, List, [], ◌∷◌, Option, None, Some, option_and_then, unwrap_or, ℤ}
 use Rattle.serde_json.specs.Data.{Data, Items, no_items, item, Members, no_members, member}
 use Rattle.serde_json.specs.Find.{as_array, as_object, as_number, as_u64, as_i64}
 

@@ -5,7 +5,7 @@ use Rattle.events.specs.Names.{is_name, are_distinct}
 use Rattle.limits.specs.declared.TheConstants.{LAST_SECOND}
 use Rattle.scoring.specs.declared.TheConstants.{MAX_POINT_SECOND, MAX_TABLES, MAX_WORTH}
 use Rattle.scoring.specs.Points.{Point, is_table}
-use Rattle.serde_json.specs.Data.{Data, Members}
+use Rattle.serde_json.specs.Data.{Data}
 use Rattle.serde_json.specs.Find.{as_array, as_object, as_str, get_member}
 use Rattle.settings.specs.declared.named_tables.NamedTable.{NamedTable}
 use Rattle.settings.specs.Looking.{members_of, list_of, items_of, has_other_key, whole_in, signed_in, or_default, all_of}

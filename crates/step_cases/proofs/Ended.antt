@@ -1,5 +1,5 @@
 -- Partitions at the end.
-use Rattle.std.proofs.Common.{◌≡◌, ℕ, ◌<◌, Bool, false, List, length, arith}
+use Rattle.std.proofs.Common.{◌≡◌, ℕ, ◌<◌, Bool, false, List, arith}
 use Rattle.std.specs.Prelude.{EachIndex}
 use Rattle.step_core.specs.declared.part.Border.{Border}
 use Rattle.step_core.specs.declared.wheel.Wheel.{Wheel}

@@ -10,9 +10,9 @@ use Rattle.step_core.specs.declared.part.Border.{Border}
 use Rattle.step_core.specs.declared.wheel.Wheel.{Wheel}
 use Rattle.step_core.specs.Nets.{Net, MayStep, border_at}
 use Rattle.step_core.specs.Views.{PartView, IsAt, IsHeard}
-use Rattle.step_core.specs.Wheels.{IsWhole, lag_in, due_in, is_flagged, lies, IsFilled, HasRoom}
+use Rattle.step_core.specs.Wheels.{IsWhole, lag_in, due_in, lies, IsFilled, HasRoom}
 use Rattle.step_core.specs.Cores.{IsCore, done_at, is_stopped}
-use Rattle.step_core.specs.Exchanges.{neighbour_at, lag_at, IsBeside, HaveRoom, IsReady, IsGiven, AreTaken, HasTaken, HasExchanged}
+use Rattle.step_core.specs.Exchanges.{neighbour_at, lag_at, IsBeside, IsReady, IsGiven, AreTaken, HasTaken, HasExchanged}
 use Rattle.step_core.proofs.Filled.{filled_at, room_at, taken_room, taken_filled, put_room, put_filled, beside_room, beside_filled}
 
 take_front : {A : Type 0} (xs ys : List A) → take (length xs) (xs ++ ys) ≡ xs

@@ -1,5 +1,5 @@
 -- A core in which all partitions have done as many seconds.
-use Rattle.std.proofs.Common.{◌≡◌, ℕ, ◌+◌, ◌<◌, ◌≤◌, Bool, List, length, get_or, subst₂, arith}
+use Rattle.std.proofs.Common.{ℕ, ◌<◌, Bool, List, length, get_or, subst₂, arith}
 use mathlib.Core.Logic.{dite}
 use native.Mathlib.Decide.{dec_lt}
 use Rattle.step_core.specs.declared.part.Border.{Border}

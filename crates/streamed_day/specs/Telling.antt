@@ -1,5 +1,5 @@
 -- Partitions that have all done as many seconds, and what they tell.
-use Rattle.std.specs.Prelude.{◌≡◌, ℕ, ◌-◌, ◌<◌, ◌≤◌, Bool, List, length, get_or}
+use Rattle.std.specs.Prelude.{ℕ, ◌-◌, ◌<◌, ◌≤◌, Bool, List, length, get_or}
 use Rattle.events.specs.declared.event.Event.{Event}
 use Rattle.partition.specs.declared.owner.Owner.{Owner}
 use Rattle.step_core.specs.declared.part.Border.{Border}

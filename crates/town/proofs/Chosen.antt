@@ -1,5 +1,5 @@
 -- The chosen plans in the setup of a day.
-use Rattle.traffic.proofs.Common.{◌≡◌, ℕ, ◌∙◌, length, ap, sym, [], arith, ◌<◌, ◌≤◌, get_or, length-map, get_or_past, get_or-map, map, PlanRows, plan_rows}
+use Rattle.traffic.proofs.Common.{◌≡◌, ℕ, ◌∙◌, length, ap, sym, [], arith, ◌<◌, ◌≤◌, get_or, length-map, get_or_past, get_or-map, map, plan_rows}
 use Rattle.traffic.proofs.Common.{Plan, person_plan}
 use Rattle.town.specs.declared.day_input.DayInput.{DayInput}
 use Rattle.town.specs.Setups.{setup_of}

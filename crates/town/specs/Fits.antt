@@ -5,9 +5,8 @@ use Rattle.events.specs.declared.lists.StopCall.{StopCall}
 use Rattle.rows.specs.declared.plan.Act.{Act}
 use Rattle.rows.specs.declared.plan.Leg.{Leg}
 use Rattle.rows.specs.declared.plan.Leg.TheVariants as leg
-use Rattle.rows.specs.declared.plan.Plan.{Plan}
 use Rattle.rows.specs.Plan.{is_known}
-use Rattle.rows.specs.PlanRows.{PlanRows, plan_rows}
+use Rattle.rows.specs.PlanRows.{PlanRows}
 use Rattle.rows.specs.Joined.{is_joined}
 use Rattle.rows.specs.declared.schedule.StopRow.{StopRow}
 use Rattle.rows.specs.declared.schedule.RouteRow.{RouteRow}

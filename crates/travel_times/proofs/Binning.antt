@@ -60,9 +60,9 @@ use Rattle.rows.specs.declared.network.LinkRow.{LinkRow}
 use Rattle.events.specs.declared.event.Event.{Event}
 use Rattle.travel_times.specs.declared.observations.Entry.{Entry}
 use Rattle.travel_times.specs.Times.{LinkProfile, time_in, profile_at, free_of}
-use Rattle.travel_times.specs.Profiles.{bin_at, profile_of, IsProfile}
+use Rattle.travel_times.specs.Profiles.{profile_of, IsProfile}
 use Rattle.travel_times.specs.Observed.{average_or, link_at, observed, observed_time}
-use Rattle.travel_times.specs.Tallies.{no_tally, row_at, tally_at, IsSeen, IsKnown}
+use Rattle.travel_times.specs.Tallies.{no_tally, tally_at, IsSeen, IsKnown}
 use Rattle.travel_times.specs.Binned.{tallies_of, time_of, bins_from}
 
 abbrev bin_in : List Bin → ℕ → Bin

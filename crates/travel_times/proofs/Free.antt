@@ -1,8 +1,8 @@
 -- Links at their free speed take as long whenever they are entered.
-use Rattle.std.proofs.Common.{◌≡◌, ℕ, zero, suc, ◌+◌, ◌≤◌, max, List, [], ◌∷◌, refl, sym, ◌∙◌, ap, arith}
+use Rattle.std.proofs.Common.{◌≡◌, ℕ, zero, suc, ◌+◌, max, List, [], ◌∷◌, refl, ap, arith}
 use Rattle.rows.specs.declared.network.LinkRow.{LinkRow}
 use Rattle.walks.specs.Alike.{TakesAlike}
-use Rattle.travel_times.specs.Times.{LinkProfile, time_in, arrival_by, profile_at, arrivals, free_times}
+use Rattle.travel_times.specs.Times.{LinkProfile, time_in, profile_at, arrivals, free_times}
 use Rattle.travel_times.proofs.Arriving.{held_none}
 use Rattle.travel_times.proofs.Held.{arrival_free}
 

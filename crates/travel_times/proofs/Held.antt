@@ -28,12 +28,12 @@ use Rattle.std.proofs.Common.{
   arith,
 }
 use Rattle.std.specs.Prelude.{slice_index_or}
-use Rattle.std.proofs.lemmas.Bool.{cases_lt, cases_eq}
+use Rattle.std.proofs.lemmas.Bool.{cases_lt}
 use Rattle.std.proofs.lemmas.List.{get_or_past, get_or-map, get_or_read, length-map}
 use Rattle.travel_times.specs.declared.TheConstants.{BIN_SECONDS}
 use Rattle.travel_times.specs.declared.profiles.Bin.{Bin}
 use Rattle.travel_times.specs.declared.profiles.Profile.TheInside.{Inside}
-use Rattle.travel_times.specs.Times.{LinkProfile, time_in, last_second, arrival_by}
+use Rattle.travel_times.specs.Times.{time_in, last_second, arrival_by}
 use Rattle.travel_times.specs.Profiles.{bin_at, profile_of, IsProfile}
 use Rattle.travel_times.proofs.Arriving.{held, held_none, held_more, held_in_order, arrival_is}
 

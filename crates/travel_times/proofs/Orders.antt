@@ -1,5 +1,5 @@
 -- Events in order.
-use Rattle.std.proofs.Common.{◌≡◌, ℕ, zero, suc, ◌+◌, ◌<◌, ◌≤◌, List, length, refl, arith}
+use Rattle.std.proofs.Common.{◌≡◌, ℕ, zero, suc, ◌+◌, ◌<◌, List, length, refl, arith}
 use Rattle.std.specs.Prelude.{slice_index_or}
 use Rattle.events.specs.declared.event.Event.{Event}
 use Rattle.travel_times.specs.Observed.{AreInOrder}

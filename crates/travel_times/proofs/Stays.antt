@@ -35,17 +35,16 @@ use Rattle.std.proofs.Common.{
   arith,
   add_assoc,
 }
-use Rattle.std.specs.Prelude.{nat_eq, find, sum, sum_by, slice_index_or, option_and_then, IfSome}
+use Rattle.std.specs.Prelude.{nat_eq, find, sum_by, option_and_then}
 use Rattle.std.specs.List.{cons_option}
 use Rattle.std.specs.Option.{option_eq, option_map, option_map_or, option_or}
-use Rattle.std.proofs.lemmas.Bool.{cases_Bool, cases_eq, eq-eqb, eqb-true, eqb-false, ne_eqb}
+use Rattle.std.proofs.lemmas.Bool.{cases_Bool, cases_eq, eq-eqb, eqb-true, ne_eqb}
 use Rattle.std.proofs.lemmas.List.Folds.{find-append}
 use Rattle.std.proofs.lemmas.List.Sums.{fold_push, sum_by-cons}
 use Rattle.events.specs.declared.event.Event.{Event}
-use Rattle.travel_times.specs.declared.TheConstants.{BIN_SECONDS}
 use Rattle.travel_times.specs.declared.observations.Entry.{Entry}
 use Rattle.travel_times.specs.Observed.{car_of, tells_of, is_entry, enters, leaves, bin_of, seconds_until, observed_from, observed}
-use Rattle.travel_times.specs.Tallies.{entry_of, stay_of, ended_stay, entry_after}
+use Rattle.travel_times.specs.Tallies.{entry_of, ended_stay, entry_after}
 
 abbrev pub step : ℕ → Option Entry → Event → Option Entry
 step car last event = cond (tells_of car event) (entry_of event) last

@@ -29,7 +29,7 @@ use Rattle.std.specs.Prelude.{
   IfSome,
 }
 use Rattle.std.specs.List.{cons_option}
-use Rattle.std.specs.Option.{option_eq, option_map}
+use Rattle.std.specs.Option.{option_eq}
 use Rattle.events.specs.declared.event.Event.{Event}
 use Rattle.events.specs.declared.event.VehicleId.{VehicleId}
 use Rattle.events.specs.declared.event.VehicleId.TheVariants as vehicle

@@ -1,5 +1,5 @@
 -- What a profile keeps, and what contracts see of it.
-use Rattle.std.specs.Prelude.{◌≡◌, ℕ, suc, ◌+◌, ◌-◌, ◌^◌, ◌<◌, ◌≤◌, max, length, map, slice_index_or}
+use Rattle.std.specs.Prelude.{◌≡◌, ℕ, suc, ◌-◌, ◌^◌, ◌<◌, ◌≤◌, max, length, map, slice_index_or}
 use Rattle.travel_times.specs.declared.TheConstants.{BIN_SECONDS}
 use Rattle.travel_times.specs.declared.profiles.Bin.{Bin}
 use Rattle.travel_times.specs.declared.profiles.Profile.TheInside.{Inside}

@@ -31,7 +31,7 @@ use Rattle.std.proofs.Common.{
   subst,
   arith,
 }
-use Rattle.std.specs.Prelude.{nat_eq, find, IsSomeAnd}
+use Rattle.std.specs.Prelude.{nat_eq, find}
 use Rattle.std.specs.List.{range_with_len}
 use Rattle.std.specs.Option.{option_eq, option_map_or}
 use Rattle.std.proofs.lemmas.Bool.{cases_Bool, eq-eqb, eqb-true, eqb-false, and_parts, and_from, false_from_ne_true}

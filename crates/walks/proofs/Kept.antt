@@ -22,12 +22,12 @@ use Rattle.std.proofs.Common.{
   subst,
   arith,
 }
-use Rattle.std.specs.Prelude.{IsSomeAnd, IfSome}
+use Rattle.std.specs.Prelude.{IfSome}
 use Rattle.walks.specs.Arrivals.{Arrivals, IsFifo}
 use Rattle.walks.specs.Walks.{Ends, start_of, end_of, IsWalk, arrival}
 use Rattle.walks.specs.Rounds.{Labels, label_at, IsBy}
 use Rattle.walks.specs.Certificates.{IsKept}
-use Rattle.walks.proofs.Labels.{by_some, some_by, by_later}
+use Rattle.walks.proofs.Labels.{some_by, by_later}
 
 module _ (ends : Ends) (arrive : Arrivals) where
   pub walk_more : (from : ℕ) (links : List ℕ) (to link : ℕ) → IsWalk ends from links to → link < length ends → start_of ends link ≡ to

@@ -25,15 +25,15 @@ use Rattle.std.proofs.Common.{
   subst,
   arith,
 }
-use Rattle.std.specs.Prelude.{IsSomeAnd, MatchOption}
+use Rattle.std.specs.Prelude.{MatchOption}
 use Rattle.walks.specs.Arrivals.{Arrivals, IsFifo}
 use Rattle.walks.specs.Walks.{Ends, start_of, end_of, AreWithin, IsWalk, NoWalk, arrival, Reached, IsLeast}
 use Rattle.walks.specs.Rounds.{Labels, label_at, IsBy, rank, labels_after, least_labels}
-use Rattle.walks.specs.Certificates.{IsKept, IsCertificate}
+use Rattle.walks.specs.Certificates.{IsKept}
 use Rattle.walks.proofs.Labels.{by_some, some_by, by_later}
-use Rattle.walks.proofs.Rounds.{after, length-after, after_start, after_later, after_along, Origin, origin}
+use Rattle.walks.proofs.Rounds.{length-after, after_start, after_later, after_along, Origin, origin}
 use Rattle.walks.proofs.Ranks.{rank-le-length, rank_less}
-use Rattle.walks.proofs.Kept.{walk_more, arrival_more, arrival_in_order, arrival_later, by_turns, kept_by, kept_from}
+use Rattle.walks.proofs.Kept.{walk_more, arrival_more, arrival_later, by_turns, kept_by, kept_from}
 
 -- a walk goes on along a link
 pub reached_more : (ends : Ends) (arrive : Arrivals) (from second to at link : ℕ) → Reached ends arrive from second to at →

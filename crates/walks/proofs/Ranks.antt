@@ -26,12 +26,10 @@ use Rattle.std.proofs.Common.{
   subst,
   arith,
 }
-use Rattle.std.specs.Prelude.{nat_lt, count_by, IsSomeAnd}
-use Rattle.std.proofs.lemmas.Bool.{lt-ltb, le-ltb}
+use Rattle.std.specs.Prelude.{nat_lt}
 use Rattle.std.proofs.lemmas.Bool.Decides.{nat_tests}
 use Rattle.std.proofs.lemmas.List.Sums.{sum_by-cons, count_by-le-length}
 use Rattle.walks.specs.Rounds.{Labels, label_at, IsBy, is_before, rank}
-use Rattle.walks.proofs.Labels.{some_by}
 
 one : Option ℕ → ℕ → ℕ
 one label second = cond (is_before second label) 1 0

@@ -32,15 +32,15 @@ use Rattle.std.proofs.Common.{
   subst,
   arith,
 }
-use Rattle.std.specs.Prelude.{nat_eq, IsSomeAnd, slice_index_or, All}
+use Rattle.std.specs.Prelude.{nat_eq}
 use Rattle.std.specs.List.{range_with_len}
 use Rattle.std.proofs.lemmas.Bool.{cases_Bool, cases_lt, eq-eqb, eqb-true}
 use Rattle.std.proofs.lemmas.List.{get_or_past}
 use Rattle.std.proofs.lemmas.List.FromFn.{get_or-map-range_with_len, length-map-range_with_len}
-use Rattle.walks.specs.Arrivals.{Arrivals, IsFifo}
-use Rattle.walks.specs.Walks.{Ends, start_of, end_of, AreWithin, IsWalk, arrival}
+use Rattle.walks.specs.Arrivals.{Arrivals}
+use Rattle.walks.specs.Walks.{Ends, start_of, end_of, AreWithin}
 use Rattle.walks.specs.Rounds.{Labels, label_at, IsBy, start_labels, relabelled, labels_after}
-use Rattle.walks.proofs.Labels.{by_some, some_by, by_later, relabelled_own, relabelled_along, relabelled_cases}
+use Rattle.walks.proofs.Labels.{some_by, relabelled_own, relabelled_along, relabelled_cases}
 
 -- a list of labels made from a function of the node
 label_of : (f : ℕ → Option ℕ) (nodes node : ℕ) → node < nodes → label_at (map f (range_with_len 0 nodes)) node ≡ f node

@@ -29,17 +29,16 @@ use Rattle.std.proofs.Common.{
   subst,
   arith,
 }
-use Rattle.std.specs.Prelude.{nat_eq, find, IsSomeAnd}
+use Rattle.std.specs.Prelude.{nat_eq, find}
 use Rattle.std.specs.List.{range_with_len}
 use Rattle.std.specs.Option.{option_map_or}
 use Rattle.std.proofs.Math.Path.{fun_ext}
-use Rattle.std.proofs.lemmas.Bool.{cases_Bool, cases_lt, eqb-true, eqb-false}
-use Rattle.std.proofs.lemmas.List.{same_lists, get_or_default, get_or_past}
+use Rattle.std.proofs.lemmas.Bool.{cases_lt}
+use Rattle.std.proofs.lemmas.List.{same_lists, get_or_default}
 use Rattle.walks.specs.Arrivals.{Arrivals, IsFifo}
-use Rattle.walks.specs.Walks.{Ends, start_of, end_of, AreWithin, IsWalk, arrival, Reached, IsLeast}
+use Rattle.walks.specs.Walks.{Ends, start_of, end_of, AreWithin, IsWalk, arrival, Reached}
 use Rattle.walks.specs.Rounds.{Labels, label_at, IsBy, least_labels}
-use Rattle.walks.specs.Certificates.{IsKept}
-use Rattle.walks.specs.Chosen.{leads, link_before, followed, chosen_route}
+use Rattle.walks.specs.Chosen.{leads, link_before, followed}
 use Rattle.walks.proofs.Labels.{by_some, some_by, by_later}
 use Rattle.walks.proofs.Rounds.{length-after}
 use Rattle.walks.proofs.Kept.{kept_from}

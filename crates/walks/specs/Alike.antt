@@ -1,5 +1,5 @@
 -- Links that take as long whenever they are entered, and the labels of a search that begins later.
-use Rattle.std.specs.Prelude.{◌≡◌, ℕ, ◌+◌, List, map, Option}
+use Rattle.std.specs.Prelude.{◌≡◌, ℕ, ◌+◌, map}
 use Rattle.std.specs.Option.{option_map}
 use Rattle.walks.specs.Arrivals.{Arrivals}
 use Rattle.walks.specs.Rounds.{Labels}

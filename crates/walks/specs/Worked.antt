@@ -1,5 +1,5 @@
 -- A worked network: four nodes and two ways from the first to the last, along the links 0 and 2 or 1 and 3.
-use Rattle.std.specs.Prelude.{ℕ, zero, suc, ◌+◌, ◌*◌, ◌/◌, List, [], ◌∷◌, Option, None, Some}
+use Rattle.std.specs.Prelude.{zero, suc, ◌+◌, ◌*◌, ◌/◌, [], ◌∷◌}
 use Rattle.walks.specs.Arrivals.{Arrivals}
 use Rattle.walks.specs.Walks.{Ends}
 

@@ -115,7 +115,7 @@ module _ {T R P : Type 0} (until : ℕ) (borders : R → ℕ → List Border) (n
       }
 
   -- the partition of a member among those that are all at one second
-  pub part_at : (t p : ℕ) (ms : List (Member T R P)) (x : T) → AreMembers until borders nothing see stands spent right run b ms
+  part_at : (t p : ℕ) (ms : List (Member T R P)) (x : T) → AreMembers until borders nothing see stands spent right run b ms
       → AllEnd t ms → IsPartIn p ms x → IsAt nothing see (stands run) p t (length (borders run p)) x
   part_at t p ms x are level w =
       let m : Member T R P = w.0 in let c : Contains ms m = w.1 in let e = level c.0 m c.1 in

@@ -7,11 +7,10 @@ ghost use Rattle.step_core.specs.Nets.{IsNet, AreBorders};
 ghost use Rattle.step_core.specs.Views.{EachAt};
 ghost use Rattle.workers.specs.Members.{IsBoardOfRun, AreMembers, AreAll, AllEnd};
 ghost use Rattle.workers.specs.Running.{IsRunning};
-ghost use Rattle.workers.specs.Sharing.{HasOne, IsPartIn};
 
 use crate::members::{Bundle, Member, ParcelsOf, new_board};
 use crate::moving::run_to;
-use crate::sharing::{parts_of, place_of, share_out};
+use crate::sharing::{parts_of, share_out};
 use cells::{Board, Hub};
 use edge_files::Gate;
 use std::alloc::{AllocError, Global};
@@ -137,17 +136,6 @@ where
         let parts = first_parts::<T>(alloc, run)?;
         let running = Running::of(alloc, run, parts, workers, loads)?;
         Ok(running)
-    }
-
-    /// The partition with a number.
-    pub fn part(&self, number: u32) -> &T
-        requires { HasOne number self.now.bundle.members.items }
-        ensures { IsPartIn number self.now.bundle.members.items result.now }
-    {
-        match place_of(self.bundle.members.as_slice(), number) {
-            Some(place) => &self.bundle.members[place].part,
-            None => unreachable!(),
-        }
     }
 
     /// The partitions at the end of their run, by number.

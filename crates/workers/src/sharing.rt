@@ -80,7 +80,7 @@ where
 }
 
 /// The place of the member of a partition.
-pub(crate) fn place_of<T: Part>(members: &[Member<T>], number: u32) -> Option<usize>
+fn place_of<T: Part>(members: &[Member<T>], number: u32) -> Option<usize>
 where
     T::Parcel: Send,
     ensures found { IfSome result (λ k. (k < length members.now) × ((d : _) → number_of (slice_index_or members.now k d) ≡ number)) }

@@ -1,5 +1,5 @@
 -- The texts of a grid's files.
-use Rattle.std.specs.Prelude.{ℕ, ◌-◌, ◌*◌, List, [], ◌∷◌, ◌++◌, codes, decimal, Option, Some}
+use Rattle.std.specs.Prelude.{ℕ, ◌-◌, ◌*◌, List, [], ◌++◌, codes, decimal, Option, Some}
 use Rattle.std.specs.List.{flat_map, range_with_len}
 use Rattle.edge_files.specs.declared.files.InFile.{InFile}
 use Rattle.edge_files.specs.declared.files.InFile.TheVariants as file

@@ -1,5 +1,5 @@
-use Rattle.std.proofs.Common.{◌≡◌, ◌++◌, [], length, map, drop}
-use Rattle.rows.specs.PlanRows.{plan_rows, all_plan_rows}
+use Rattle.std.proofs.Common.{◌≡◌, ◌++◌, [], length, drop}
+use Rattle.rows.specs.PlanRows.{all_plan_rows}
 use Rattle.walks.specs.Arrivals.{Arrivals}
 use Rattle.walks.specs.Alike.{TakesAlike}
 use Rattle.car_routes.specs.Plans.{all_routed}

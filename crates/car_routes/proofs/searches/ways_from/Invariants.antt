@@ -1,4 +1,4 @@
-use Rattle.std.proofs.Common.{◌≡◌, map, take}
+use Rattle.std.proofs.Common.{◌≡◌, take}
 use Rattle.travel_times.specs.Times.{arrivals}
 use Rattle.car_routes.specs.Found.{ways_from}
 use Rattle.car_routes.proofs.searches.ways_from.Given as goal

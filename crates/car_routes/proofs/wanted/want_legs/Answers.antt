@@ -1,5 +1,4 @@
-use Rattle.std.proofs.Common.{◌∙◌, arith}
-use Rattle.car_routes.specs.Wanted.{wanted_in}
+use Rattle.std.proofs.Common.{◌∙◌}
 use Rattle.car_routes.proofs.Wanting.{on_way_start, on_way_step, on_way_end, wanted_step, wanted_past}
 use Rattle.car_routes.proofs.wanted.want_legs.Goals as goal
 

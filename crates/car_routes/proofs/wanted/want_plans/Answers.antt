@@ -1,9 +1,6 @@
-use Rattle.std.proofs.Common.{ℕ, map, ap, ◌∙◌, drop, arith}
-use Rattle.std.proofs.lemmas.List.{drop_all}
-use Rattle.rows.specs.declared.plan.Plan.{Plan}
+use Rattle.std.proofs.Common.{◌∙◌}
 use Rattle.rows.specs.PlanRows.{plan_rows}
 use Rattle.router.specs.Legs.{are_on}
-use Rattle.car_routes.specs.Wanted.{wanted_by}
 use Rattle.car_routes.proofs.Wanting.{on_way_start, on_way_step, on_way_end, by_step, by_past}
 use Rattle.car_routes.proofs.Routing.{at_mapped}
 use Rattle.car_routes.proofs.wanted.want_plans.Goals as goal

@@ -1,12 +1,10 @@
-use Rattle.std.proofs.Common.{◌≡◌, ◌++◌, ◌∷◌, [], List, ℤ, ap, ◌∙◌}
+use Rattle.std.proofs.Common.{◌≡◌, ◌++◌, ◌∷◌, [], ℤ, ap, ◌∙◌}
 use Rattle.std.proofs.lemmas.List.Elements.{All-push}
-use Rattle.events.specs.declared.event.Event.{Event}
 use Rattle.events.specs.Persons.{own_events}
 use Rattle.scoring.specs.declared.TheConstants.{MAX_SCORE}
 use Rattle.scoring.specs.Ranges.{IsWithin}
 use Rattle.scoring.specs.Tables.{scoring_rows}
-use Rattle.scoring.specs.Taken.{first_kind_of}
-use Rattle.day_scores.specs.Scores.{score_of, scores_of}
+use Rattle.day_scores.specs.Scores.{scores_of}
 use Rattle.day_scores.proofs.Ending.{scores-more, scores-all, score-code}
 use Rattle.day_scores.proofs.scorers.finished.Goals as goal
 

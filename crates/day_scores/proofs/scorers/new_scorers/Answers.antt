@@ -1,6 +1,3 @@
-use Rattle.std.proofs.Common.{◌≡◌, ◌++◌, ◌∷◌, [], List, sym, subst, ap, ◌∙◌}
-use Rattle.scoring.specs.declared.scorer.Scorer.{Scorer}
-use Rattle.day_scores.specs.Standing.{StandFor}
 use Rattle.day_scores.proofs.Standing.{stand-push, kinds-push}
 use Rattle.day_scores.proofs.scorers.new_scorers.Goals as goal
 

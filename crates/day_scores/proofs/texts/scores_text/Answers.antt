@@ -1,4 +1,4 @@
-use Rattle.std.proofs.Common.{◌≡◌, ◌≤◌, ◌<◌, ◌++◌, List, ℕ, get_or, length, [], ℤ, pos, FitsSigned, w64, ap, ◌∙◌, arith, rules}
+use Rattle.std.proofs.Common.{◌≤◌, ◌<◌, ◌++◌, List, ℕ, get_or, length, ℤ, pos, FitsSigned, w64, ap, ◌∙◌, arith, rules}
 use Rattle.day_scores.specs.Texts.{score_line, scores_text}
 use Rattle.day_scores.proofs.LinesWritten.{lines-more, lines-all, fits-code}
 use Rattle.day_scores.proofs.texts.scores_text.Goals as goal

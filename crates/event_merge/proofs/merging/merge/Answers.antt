@@ -1,4 +1,4 @@
-use Rattle.std.proofs.Common.{◌≡◌, ◌∙◌, refl, sym, ap, subst, true}
+use Rattle.std.proofs.Common.{◌∙◌, refl, sym, ap, subst, true}
 use Rattle.std.specs.Vec.Iter.{into_iter_items}
 use Rattle.parts.specs.Merge.{Merges}
 use Rattle.event_merge.specs.Lists.{comes_before}

@@ -1,5 +1,5 @@
-use Rattle.event_writer.proofs.Written.{written_but}
+use Rattle.event_writer.proofs.Written.{none_written}
 use Rattle.event_writer.proofs.writing.stream_piece.Goals as goal
 
-pub returns-in-Err-handle-clause-written : goal.returns-in-Err-handle-clause-written
-returns-in-Err-handle-clause-written g c = written_but _ _ _ _ _ _ c.in-Ok.ensures
+pub returns-in_default-clause-written : goal.returns-in_default-clause-written
+returns-in_default-clause-written g c = none_written _ _ _

@@ -2,7 +2,6 @@ use Rattle.std.proofs.Common.{◌≡◌, ℕ, ◌<◌, ◌≤◌, ◌+◌, List,
 use Rattle.std.specs.Prelude.{option_map}
 use Rattle.std.proofs.lemmas.List.{take_all, take_more}
 use Rattle.edge_files.specs.declared.keeping.KeptRow.{KeptRow}
-use Rattle.plan_memory.specs.Memories.{MemoryRows}
 use Rattle.town.specs.Views.{rows_of}
 use Rattle.keep.specs.declared.progress.Reading.{Reading}
 use Rattle.keep.specs.Reading.{Progress, start, progress_of, step, run, ended}

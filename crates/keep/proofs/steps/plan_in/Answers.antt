@@ -1,4 +1,4 @@
-use Rattle.std.proofs.Common.{◌<◌, ◌^◌, Option, None, Some, sym, ap, subst, ◌∙◌, arith}
+use Rattle.std.proofs.Common.{◌<◌, ◌^◌, Option, sym, ap, subst, ◌∙◌, arith}
 use Rattle.std.specs.Prelude.{option_map, IfSome}
 use Rattle.rows.specs.declared.plan.Plan.{Plan}
 use Rattle.rows.specs.PlanRows.{plan_rows}

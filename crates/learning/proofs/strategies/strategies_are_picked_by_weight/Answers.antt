@@ -1,4 +1,3 @@
-use Rattle.std.proofs.Common.{rules}
 use Rattle.learning.proofs.Picking.{no_new_plans, all_keep}
 use Rattle.learning.proofs.strategies.strategies_are_picked_by_weight.Goals as goal
 

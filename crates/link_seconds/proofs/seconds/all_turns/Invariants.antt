@@ -1,4 +1,4 @@
-use Rattle.std.proofs.Common.{◌≡◌, ℕ, ◌+◌, List, length}
+use Rattle.std.proofs.Common.{◌≡◌, ℕ, List, length}
 use Rattle.std.specs.Prelude.{Bool, true}
 use Rattle.traffic.specs.declared.world.Waiter.{Waiter}
 use Rattle.queue_link.specs.Numbers.{rules_of}

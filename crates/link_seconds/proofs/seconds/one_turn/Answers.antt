@@ -1,5 +1,4 @@
-use Rattle.std.proofs.Common.{◌≡◌, ap, sym, ◌∙◌, refl, length, []}
-use Rattle.queue_link.specs.declared.turns.Turn.TheVariants.{Arrive, Done}
+use Rattle.std.proofs.Common.{refl, length, []}
 use Rattle.queue_link.specs.Numbers.{no_dwelling}
 use Rattle.link_seconds.proofs.Leading.{arrive_leads, done_leads}
 use Rattle.link_seconds.proofs.Turning.{stopping, stop_turn, parked_ready, parked_there, left_ready, left_there, ready_on, numbers_kept, served_short}

@@ -1,4 +1,4 @@
-use Rattle.std.proofs.Common.{arith, refl}
+use Rattle.std.proofs.Common.{arith}
 use Rattle.node_move.proofs.Entries.{past, none_there, other_there}
 use Rattle.node_move.proofs.spaces.entry_of.Goals as goal
 

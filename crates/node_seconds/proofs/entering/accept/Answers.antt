@@ -1,8 +1,6 @@
-use Rattle.std.proofs.Common.{◌≡◌, ◌∙◌, ◌++◌, [], ◌∷◌, ℕ, List, ap, sym, append-nil}
+use Rattle.std.proofs.Common.{◌∙◌, ◌++◌, [], ◌∷◌, ℕ, ap, sym, append-nil}
 use Rattle.std.specs.Prelude.{Option, if◌then◌else◌}
-use Rattle.queue_link.specs.Links.{LinkView}
-use Rattle.node_move.specs.declared.crossings.Entering.{Entering}
-use Rattle.node_seconds.specs.Networks.{slot_in, put_queued, wake_queued, is_nowhere}
+use Rattle.node_seconds.specs.Networks.{put_queued, wake_queued, is_nowhere}
 use Rattle.node_seconds.proofs.Lanes.{slot_is}
 use Rattle.node_seconds.proofs.entering.accept.Goals as goal
 

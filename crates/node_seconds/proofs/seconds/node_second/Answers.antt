@@ -1,6 +1,5 @@
 use Rattle.std.proofs.Common.{◌∙◌, List, ap, sym, subst, arith}
 use Rattle.queue_link.specs.Links.{LinkView}
-use Rattle.node_move.specs.Spaces.{places_in}
 use Rattle.node_move.specs.NodeStates.{AreReady, AreApart}
 use Rattle.node_seconds.specs.Networks.{lane}
 use Rattle.node_seconds.proofs.Lanes.{ready_taken, several_turned}

@@ -1,6 +1,4 @@
-use Rattle.std.proofs.Common.{◌≡◌, ◌∙◌, ap, refl, sym, subst, get_or}
-use Rattle.queue_link.specs.Links.{LinkView}
-use Rattle.traffic.specs.Nodes.{HaveNext}
+use Rattle.std.proofs.Common.{◌≡◌, ◌∙◌, ap, refl, sym, get_or}
 use Rattle.node_move.specs.NodeStates.{no_link}
 use Rattle.node_move.proofs.Places.{is_at}
 use Rattle.node_seconds.proofs.Lanes.{alone_turned}

@@ -1,4 +1,4 @@
-use Rattle.std.proofs.Common.{◌≡◌, ◌∙◌, [], ◌∷◌, Bool, ℕ, ap, sym, refl, length}
+use Rattle.std.proofs.Common.{◌∙◌, [], ◌∷◌, Bool, ℕ, ap, sym, length}
 use Rattle.std.specs.Prelude.{filter, map}
 use Rattle.town.specs.Views.{setup}
 use Rattle.part_nodes.specs.declared.node_turns.Buffered.{Buffered}

@@ -1,4 +1,4 @@
-use Rattle.std.proofs.Common.{ℕ, ◌<◌, length, get_or}
+use Rattle.std.proofs.Common.{ℕ, ◌<◌, length}
 use Rattle.std.proofs.lemmas.List.Elements.{All-get_or, All-from_recursion}
 use Rattle.town.specs.Views.{setup}
 use Rattle.part_places.proofs.Starting.{none_free, one_free, all_free}

@@ -1,4 +1,4 @@
-use Rattle.std.proofs.Common.{ℕ, ◌<◌, ◌∙◌, List, ap, sym, subst, arith, length}
+use Rattle.std.proofs.Common.{◌<◌, ◌∙◌, List, ap, sym, subst, arith, length}
 use Rattle.partition.specs.Owned.{owner_in}
 use Rattle.town.specs.Views.{setup}
 use Rattle.traffic.specs.declared.world.Person.{Person}

@@ -1,4 +1,4 @@
-use Rattle.std.proofs.Common.{ℕ, ap, ◌∙◌, rules}
+use Rattle.std.proofs.Common.{ap, ◌∙◌, rules}
 use Rattle.std.specs.Prelude.{map, length, ◌==◌}
 use Rattle.law_parts_of_days.proofs.Beginning.{links_of}
 use Rattle.partition.specs.Owned.{owner_in}

@@ -1,5 +1,5 @@
-use Rattle.std.proofs.Common.{◌≡◌, sym, subst, set, min, get_or}
-use Rattle.partition.specs.Neighbours.{AreShorter, shortened, place_of}
+use Rattle.std.proofs.Common.{sym, subst, set, min, get_or}
+use Rattle.partition.specs.Neighbours.{AreShorter, shortened}
 use Rattle.partition.proofs.Tables.{shortened_once}
 use Rattle.partition.proofs.borders.shorten.Goals as goal
 

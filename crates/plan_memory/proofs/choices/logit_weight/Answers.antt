@@ -1,4 +1,4 @@
-use Rattle.std.proofs.Common.{ℕ, ◌-◌, ◌^◌, ◌≤◌, arith}
+use Rattle.std.proofs.Common.{◌-◌, ◌^◌, ◌≤◌, arith}
 use Rattle.plan_memory.proofs.Weights.{small_power}
 use Rattle.plan_memory.proofs.choices.logit_weight.Goals as goal
 

@@ -1,4 +1,4 @@
-use Rattle.std.proofs.Common.{◌≡◌, ◌≤◌, ◌*◌, ◌^◌, length, map, take, sum}
+use Rattle.std.proofs.Common.{◌≡◌, ◌≤◌, ◌*◌, ◌^◌, map, take, sum}
 use Rattle.plan_memory.specs.Choices.{logit_weight}
 use Rattle.plan_memory.proofs.choices.logit_weights.Given as goal
 

@@ -1,4 +1,4 @@
-use Rattle.std.proofs.Common.{◌≡◌, ◌∙◌, sym, refl, ap, subst, ℕ, List, length, map}
+use Rattle.std.proofs.Common.{◌≡◌, ◌∙◌, sym, ap, subst, ℕ, List, length, map}
 use Rattle.std.proofs.lemmas.List.{length-map}
 use Rattle.rows.specs.PlanRows.{PlanRows, plan_rows, all_plan_rows}
 use Rattle.plans.specs.Read.{file_rows_of}

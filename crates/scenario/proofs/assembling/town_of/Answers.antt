@@ -1,4 +1,4 @@
-use Rattle.scenario.proofs.Common.{◌≡◌, List, ℕ, sym, ◌∙◌, ap, length, subst, true, list_all, ends_of}
+use Rattle.scenario.proofs.Common.{◌≡◌, List, ℕ, sym, ap, length, subst, true, list_all, ends_of}
 use Rattle.events.specs.declared.event.Book.{Book}
 use Rattle.rows.specs.Schedules.{is_route}
 use Rattle.scenario.proofs.assembling.town_of.Goals as goal

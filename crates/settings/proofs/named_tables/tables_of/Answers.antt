@@ -1,7 +1,6 @@
-use Rattle.std.proofs.Common.{Some, length, List, sym, ap, ◌∙◌, arith}
+use Rattle.std.proofs.Common.{Some, sym, ap, ◌∙◌, arith}
 use Rattle.serde_json.specs.View.{view}
 use Rattle.serde_json.specs.declared.value.Value.{Value}
-use Rattle.settings.specs.declared.named_tables.NamedTable.{NamedTable}
 use Rattle.settings.specs.NamedTables.{table_in}
 use Rattle.settings.proofs.Alls.{all_of-none, all_of-more}
 use Rattle.settings.proofs.named_tables.tables_of.Goals as goal

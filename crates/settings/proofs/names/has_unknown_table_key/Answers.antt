@@ -1,4 +1,4 @@
-use Rattle.std.proofs.Common.{◌≡◌, List, not, ap, ◌∙◌, subst}
+use Rattle.std.proofs.Common.{not, ap, ◌∙◌}
 use Rattle.settings.proofs.UnknownKeys.{no_tables, no_array, tables_are}
 use Rattle.settings.proofs.names.has_unknown_table_key.Goals as goal
 

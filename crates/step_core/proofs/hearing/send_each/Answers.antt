@@ -1,4 +1,3 @@
-use Rattle.std.proofs.Common.{arith}
 use Rattle.step_core.proofs.Sending.{sends_next}
 use Rattle.step_core.proofs.hearing.send_each.Goals as goal
 

@@ -1,4 +1,4 @@
-use Rattle.std.proofs.Common.{arith, ◌≤◌, ◌≡◌, List, length, take}
+use Rattle.std.proofs.Common.{arith, ◌≤◌, List, length, take}
 use Rattle.std.specs.Prelude.{slice_index_or}
 use Rattle.std.proofs.lemmas.List.{length-map, length-take-le}
 use Rattle.travel_times.specs.declared.tallies.Tally.{Tally}

@@ -1,6 +1,5 @@
-use Rattle.std.proofs.Common.{◌≡◌, ◌++◌, codes, string_bytes}
+use Rattle.std.proofs.Common.{◌≡◌, ◌++◌, string_bytes}
 use Rattle.std.specs.List.{flat_map, range_with_len}
-use Rattle.plan_text.specs.Lines.{row_line}
 use Rattle.workload.specs.Texts.{person_lines}
 use Rattle.workload.proofs.persons.push_persons.Given as goal
 

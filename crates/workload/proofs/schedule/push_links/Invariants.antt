@@ -1,6 +1,6 @@
 use Rattle.std.proofs.Common.{◌≡◌, ◌+◌, ◌-◌, ◌∷◌, ◌++◌, string_bytes}
 use Rattle.std.specs.List.{flat_map, range_with_len}
-use Rattle.workload.specs.Rows.{link_name, call_text}
+use Rattle.workload.specs.Rows.{link_name}
 use Rattle.workload.proofs.schedule.push_links.Given as goal
 
 abbrev pub invariant-loop-stop : goal.invariant-loop-stop

@@ -1,4 +1,4 @@
-use Rattle.std.proofs.Common.{◌∙◌, sym, ap, refl, arith}
+use Rattle.std.proofs.Common.{◌∙◌, sym, refl, arith}
 use Rattle.calendar.proofs.InBlocks.{due_block, taken_block, past_blocks}
 use Rattle.calendar.proofs.Tables.{past, none_there}
 use Rattle.calendar.proofs.by_second.Calendar.take.Goals as goal

@@ -1,6 +1,4 @@
-use Rattle.std.proofs.Common.{◌≡◌, ◌∙◌, ◌+◌, ap, sym, List}
-use Rattle.std.specs.Prelude.{Option, Some}
-use Rattle.traffic.specs.declared.node_views.OutLink.{OutLink}
+use Rattle.std.proofs.Common.{◌+◌, sym}
 use Rattle.node_move.specs.Entries.{rows_of}
 use Rattle.node_move.specs.Spaces.{places_in}
 use Rattle.node_move.proofs.Entries.{found_read, none_read, replaced_there, taken, nothing}

@@ -1,4 +1,4 @@
-use Rattle.std.proofs.Common.{◌∙◌, List, ap, refl, sym, subst, length}
+use Rattle.std.proofs.Common.{List, ap, refl, sym, subst, length}
 use Rattle.events.specs.declared.event.Event.{Event}
 use Rattle.parted_day.specs.declared.straying.Stray.{Stray}
 use Rattle.parted_day.specs.Strays.{AreStrays}

@@ -1,6 +1,6 @@
 use Rattle.std.proofs.Common.{◌≡◌, ◌<◌, ◌≤◌, length, sym, ◌∙◌, ap, arith}
 use Rattle.plan_memory.specs.Scores.{worst}
-use Rattle.plan_memory.specs.Memories.{MemoryRows, without, reduced}
+use Rattle.plan_memory.specs.Memories.{MemoryRows}
 use Rattle.plan_memory.proofs.Dropping.{one_less, drop_step, no_drop}
 use Rattle.plan_memory.proofs.memory.Memory.drop_worst.Goals as goal
 

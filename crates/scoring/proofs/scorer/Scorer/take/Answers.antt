@@ -3,7 +3,6 @@ use Rattle.std.proofs.lemmas.Int.{ints}
 use Rattle.scoring.specs.declared.scorer.Scorer.{Scorer}
 use Rattle.scoring.specs.Taken.{IsTakenBy}
 use Rattle.scoring.specs.Tables.{scoring_rows}
-use Rattle.scoring.specs.Steps.{with_event}
 use Rattle.scoring.proofs.Taking.{taken_more, sum_small, first_kind-with_event}
 use Rattle.scoring.proofs.scorer.Scorer.take.Goals as goal
 

@@ -1,4 +1,4 @@
-use Rattle.std.proofs.Common.{rules, arith, ◌≡◌, ◌≤◌, ℕ}
+use Rattle.std.proofs.Common.{rules, arith, ◌≡◌}
 use Rattle.travel_times.specs.Times.{time_in, profile_at, arrivals}
 use Rattle.travel_times.proofs.Arriving.{arrival_in_order, read_arrival}
 use Rattle.travel_times.proofs.link_times.LinkTimes.arrive.Goals as goal

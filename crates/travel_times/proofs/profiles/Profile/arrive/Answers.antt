@@ -1,4 +1,4 @@
-use Rattle.std.proofs.Common.{rules, arith, ◌≡◌, ℕ, suc, ◌+◌, ◌≤◌, length, ap, ◌∙◌}
+use Rattle.std.proofs.Common.{rules, arith, ◌≡◌, ℕ, suc, ◌+◌, length, ap, ◌∙◌}
 use Rattle.travel_times.specs.Times.{LinkProfile, time_in, arrival_by}
 use Rattle.travel_times.proofs.Arriving.{arrival_later, least_time}
 use Rattle.travel_times.proofs.Held.{free_is, binned_read}

@@ -2,6 +2,7 @@
 use Rattle.std.proofs.Common.{◌≡◌, ◌≢◌, ℕ, zero, suc, ◌+◌, ◌<◌, ◌≤◌, ◌⊎◌, inl, inr, ⊎_elim, false, List, [], ◌∷◌, ◌++◌, length, get_or}
 use Rattle.std.proofs.Common.{slice_index_or, swap_remove, Contains, IsPermutation, sym, ap, ◌∙◌, subst, arith, length-append}
 use Rattle.std.proofs.lemmas.List.{get_or_push, get_or_append_left, get_or_default}
+use Rattle.std.proofs.lemmas.List.Elements.{Contains-push, Contains-append_left}
 use Rattle.std.proofs.lemmas.List.Sorted.{IsPermutation-sym, IsPermutation-swap_remove, Contains-permutation}
 use mathlib.Core.Logic.{dite}
 use native.Mathlib.Decide.{ℕ_discrete}
@@ -30,6 +31,21 @@ module _ {X : Type 0} where
 module _ {T R P : Type 0} where
   pub no_parts : (ms : List (Member T R P)) (parts : List T) → parts ≡ [] → ArePartsOf ms 0 parts
   no_parts ms parts is = record { many = ap length is; each = λ p d lt. absurd (omega arith) }
+
+  -- one member more: that of partition n, with this part
+  pub part_more : (ms : List (Member T R P)) (x : Member T R P) (n : ℕ) (parts : List T) (y : T) → ArePartsOf ms n parts
+      → number_of x ≡ n → x.part ≡ y → ArePartsOf (ms ++ x ∷ []) (n + 1) (parts ++ y ∷ [])
+  part_more ms x n parts y own name is = let long = own.many in let l = length-append parts (y ∷ []) in record {
+    many = omega arith;
+    each = λ p d lt. dite (ℕ_discrete p n)
+        (λ e. (x, Contains-push ms x, name ∙ sym e, get_or_push parts y d p (long ∙ sym e) ∙ sym is))
+        (λ ne. let o = own.each p d (omega arith) in (
+          o.0,
+          Contains-append_left ms (x ∷ []) o.0 o.1,
+          o.2,
+          get_or_append_left parts (y ∷ []) d p (omega arith) ∙ o.3,
+        ));
+  }
 
   -- one member more was taken out of those that are left: that of partition n
   pub next_part : (ms left new : List (Member T R P)) (n count place : ℕ) (x : Member T R P) (parts more : List T)
@@ -76,6 +92,14 @@ module _ {T R P : Type 0} where
   shared_has n xs ys all perm p lt = let many = all.many in one_of xs (omega arith) (λ e.
       let m : Member T R P = slice_index_or xs p e in let there : p < length xs = omega arith in
       (m, Contains-permutation xs ys m perm (p, there, get_or_default xs p m e there), all.numbered p e there))
+
+  -- and with the same parts
+  pub shared_parts : (n : ℕ) (xs ys : List (Member T R P)) (parts : List T) → IsPermutation xs ys → ArePartsOf xs n parts
+      → ArePartsOf ys n parts
+  shared_parts n xs ys parts perm own = record {
+    many = own.many;
+    each = λ p d lt. let o = own.each p d lt in (o.0, Contains-permutation xs ys o.0 perm o.1, o.2, o.3);
+  }
 
   -- and later
   pub still_has : (ys zs : List (Member T R P)) (p : ℕ) → AllGo ys zs → HasOne p ys → HasOne p zs

@@ -7,6 +7,7 @@ ghost use Rattle.step_core.specs.Nets.{IsNet, AreBorders};
 ghost use Rattle.step_core.specs.Views.{EachAt};
 ghost use Rattle.workers.specs.Members.{IsBoardOfRun, AreMembers, AreAll, AllEnd};
 ghost use Rattle.workers.specs.Running.{IsRunning};
+ghost use Rattle.workers.specs.Sharing.{ArePartsOf};
 
 use crate::members::{Bundle, Member, ParcelsOf, new_board};
 use crate::moving::run_to;
@@ -57,6 +58,7 @@ where
         → EachAt T.nothing T.see (T.stands run) 0 (λ p. length (T.borders run p)) (length parts.items) parts.items
         → AreMembers (T.net run).end T.borders T.nothing T.see T.stands T.spent T.right run board.now v.items) }
     ensures all { IfOk result (λ v. AreAll (length parts.items) v.items) }
+    ensures parts { IfOk result (λ v. ArePartsOf v.items (length parts.items) parts.items) }
     ensures new { IfOk result (λ v. AllEnd 0 v.items) }
 {
     let mut members = Vec::new(alloc);
@@ -84,8 +86,8 @@ impl<T: Part> Running<T>
 where
     T::Parcel: Send,
 {
-    /// The partitions of a run, which are given by number, each before its first second. Which worker is to get which of them goes by
-    /// `loads`, as `run_day` says.
+    /// The partitions of a run, which are given by number, each before its first second: it is these that run. Which worker is to get
+    /// which of them goes by `loads`, as `run_day` says.
     ///
     /// # Errors
     ///
@@ -104,7 +106,8 @@ where
         requires count { length parts.items ≡ (T.net run.now).parts }
         requires start { EachAt T.nothing T.see (T.stands run.now) 0 (λ p. length (T.borders run.now p)) (T.net run.now).parts
             parts.items }
-        ensures { IfOk result (IsRunning T.net T.borders T.nothing T.see T.stands T.spent T.right run.now 0) }
+        ensures running { IfOk result (IsRunning T.net T.borders T.nothing T.see T.stands T.spent T.right run.now 0) }
+        ensures given { IfOk result (λ running. ArePartsOf running.bundle.members.items (T.net run.now).parts parts.items) }
     {
         let (board, mut hub) = new_board::<T>(alloc, run)?;
         let members = all_members(alloc, &board, &mut hub, parts)?;

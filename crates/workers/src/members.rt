@@ -17,6 +17,7 @@ use step_core::Part;
 /// What the partitions of a run send to one another, where `T` is a partition: its parcels, of which those are right that it calls so, and
 /// none in the place of one with nothing in it. No thread gets another one's partition to see by it, so partitions need not be `Sync`.
 pub struct ParcelsOf<T> {
+    /// None lies in it, and nothing is locked: `Mutex` only makes it `Sync` where `T` is `Send`.
     part: PhantomData<Mutex<T>>,
 }
 
@@ -125,6 +126,7 @@ where
         ensures hub { IsHub board.now hub.new }
         ensures had { OnOk result (had_port hub.new ≡ number ∷ had_port hub.old) }
         ensures refused { OnErr result (hub.new ≡ hub.old) }
+        ensures given { IfOk result (λ m. m.part ≡ part) }
         ensures member { IfOk result (λ m. (run : T.Run) → IsBoardOfRun T.net T.borders T.nothing T.right run board.now
             → IsAt T.nothing T.see (T.stands run) number 0 (length (T.borders run number)) part
             → IsMember (T.net run).end T.borders T.nothing T.see T.stands T.spent T.right run board.now m) }

@@ -1,10 +1,12 @@
-use Rattle.std.proofs.Common.{◌≢◌, ◌<◌, arith, ◌+◌, ◌∙◌, ap, sym, subst, [], ◌∷◌, length, length-append, rules}
+use Rattle.std.proofs.Common.{◌≢◌, ◌<◌, arith, ◌+◌, ◌∙◌, ap, sym, subst, List, [], ◌∷◌, ◌++◌, length, length-append, rules}
 use Rattle.std.proofs.lemmas.Iterator.Consumers.{YieldsList-turn, YieldsList-end}
 use Rattle.std.proofs.lemmas.Iterator.Adapters.{YieldsList-from_vec}
 use Rattle.cells.specs.Rule.{contains}
 use Rattle.cells.specs.Ports.{had_port}
 use Rattle.cells.proofs.Rings.{mark_else}
 use Rattle.workers.specs.Members.{AreMembers, AreAll, AllEnd}
+use Rattle.workers.specs.Sharing.{ArePartsOf}
+use Rattle.workers.proofs.Dealing.{part_more}
 use Rattle.workers.proofs.Starting.{members_more, all_more, level_more, each_front, last_at, each_all, map_itself}
 use Rattle.workers.proofs.days.all_members.Goals as goal
 
@@ -44,6 +46,8 @@ loop-part-preserved g c =
           (made.member run board (last_at nothing see (stands run) (λ p. length (borders run p)) n c.loop-part.yielded c.in-Some.part
           i.counted each)));
       all = subst (λ z. AreAll (n + 1) z) (sym c.in_ok-push.ensures.items) (all_more n ms x i.all made.start.0);
+      own = subst (λ z. ArePartsOf z (n + 1) (c.loop-part.yielded ++ c.in-Some.part ∷ [])) (sym c.in_ok-push.ensures.items)
+          (part_more ms x n c.loop-part.yielded c.in-Some.part i.own made.start.0 made.given);
       level = subst (λ z. AllEnd 0 z) (sym c.in_ok-push.ensures.items) (level_more 0 ms x i.level made.start.2 made.start.1);
     }
 
@@ -61,3 +65,10 @@ returns-clause-all g c =
     c.loop-part.yielded c.loop-part.part-iterator c.loop-part.yielded_by c.next.result c.next.new.self c.in-None.is c.next.ensures.steps in
     subst (λ k. AreAll k c.loop-part.members.items) (c.loop-part.invariant.counted ∙ ap length (sym (map_itself c.loop-part.yielded) ∙ end.0))
     c.loop-part.invariant.all
+
+pub returns-clause-parts : goal.returns-clause-parts
+returns-clause-parts g c =
+    let end = YieldsList-end (YieldsList-from_vec {s = c.into_iter-part-iterator.result} c.args.parts.items (search rules) (search rules))
+    c.loop-part.yielded c.loop-part.part-iterator c.loop-part.yielded_by c.next.result c.next.new.self c.in-None.is c.next.ensures.steps in
+    subst (λ (l : List g.row.T.Denot). ArePartsOf c.loop-part.members.items (length l) l) (sym (map_itself c.loop-part.yielded) ∙ end.0)
+    (subst (λ k. ArePartsOf c.loop-part.members.items k c.loop-part.yielded) c.loop-part.invariant.counted c.loop-part.invariant.own)

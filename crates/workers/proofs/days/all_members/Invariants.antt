@@ -3,6 +3,7 @@ use Rattle.cells.specs.Rule.{contains}
 use Rattle.cells.specs.Ports.{IsHub, had_port}
 use Rattle.step_core.specs.Views.{EachAt}
 use Rattle.workers.specs.Members.{IsBoardOfRun, AreMembers, AreAll, AllEnd}
+use Rattle.workers.specs.Sharing.{ArePartsOf}
 use Rattle.workers.proofs.days.all_members.Given as goal
 
 abbrev pub invariant-loop-part : goal.invariant-loop-part
@@ -15,5 +16,6 @@ invariant-loop-part g l = record {
       → AreMembers (g.T.Part.net run).end g.T.Part.borders g.T.Part.nothing g.T.Part.see g.T.Part.stands g.T.Part.spent g.T.Part.right run
       l.board l.members.items;
   all : AreAll l.number l.members.items;
+  own : ArePartsOf l.members.items l.number l.yielded;
   level : AllEnd 0 l.members.items;
 }

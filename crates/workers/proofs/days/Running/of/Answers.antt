@@ -1,11 +1,12 @@
 use Rattle.std.proofs.Common.{length, subst, sym}
 use Rattle.step_core.specs.Views.{EachAt}
 use Rattle.workers.specs.Members.{AreAll}
-use Rattle.workers.proofs.Dealing.{shared_has, shared_level, shared_members}
+use Rattle.workers.specs.Sharing.{ArePartsOf}
+use Rattle.workers.proofs.Dealing.{shared_has, shared_level, shared_members, shared_parts}
 use Rattle.workers.proofs.days.Running.of.Goals as goal
 
-pub returns : goal.returns
-returns g c =
+pub returns-clause-running : goal.returns-clause-running
+returns-clause-running g c =
     let run = c.args.run.now in
     let before = c.in_ok-members.members.items in
     let after = c.in_ok-shared.shared.items in
@@ -23,3 +24,9 @@ returns g c =
       level = shared_level 0 before after perm made.new;
       all = shared_has (g.T.Part.net run).parts before after (subst (λ k. AreAll k before) c.requires.count made.all) perm;
     }
+
+pub returns-clause-given : goal.returns-clause-given
+returns-clause-given g c =
+    let before = c.in_ok-members.members.items in
+    shared_parts (g.T.Part.net c.args.run.now).parts before c.in_ok-shared.shared.items c.args.parts.items c.in_ok-shared.ensures
+    (subst (λ k. ArePartsOf before k c.args.parts.items) c.requires.count c.in_ok-members.ensures.parts)

@@ -1,29 +1,15 @@
 -- All partitions at one second.
-use Rattle.std.proofs.Common.{◌≡◌, ℕ, ◌+◌, ◌<◌, ◌≤◌, List, length, arith, subst}
+use Rattle.std.proofs.Common.{◌≡◌, ℕ, ◌+◌, ◌<◌, ◌≤◌, List, arith, subst}
 use Rattle.step_core.specs.declared.part.Border.{Border}
 use Rattle.step_core.specs.Nets.{Net}
-use Rattle.step_core.specs.Views.{PartView, IsAt}
+use Rattle.step_core.specs.Views.{PartView}
 use Rattle.workers.specs.declared.days.Running.{Running}
 use Rattle.workers.specs.Running.{IsRunning}
-use Rattle.workers.specs.Sharing.{IsPartIn}
-use Rattle.workers.proofs.Dealing.{part_at}
-use Rattle.collected_day.specs.declared.part.TheConstants.{SPAN_SECONDS}
-use Rattle.collected_day.specs.Spans.{IsSpan, IsUnderWay}
+use Rattle.collected_day.specs.declared.spans.TheConstants.{SPAN_SECONDS}
+use Rattle.collected_day.specs.Spans.{IsUnderWay}
 
 module _ {T R P : Type 0} (net : R → Net) (borders : R → ℕ → List Border) (nothing : P) (see : T → PartView P) (stands : R → T → Type 0)
     (spent : T → Type 0) (right : R → ℕ → ℕ → ℕ → P → Type 0) (run : R) where
-  -- the partition with a number
-  pub part_there : (t p : ℕ) (running : Running T R P) (x : T) → IsRunning net borders nothing see stands spent right run t running
-      → IsPartIn p running.bundle.members.items x → IsAt nothing see (stands run) p t (length (borders run p)) x
-  part_there t p running x h is =
-      part_at (net run).end borders nothing see stands spent right run running.board t p running.bundle.members.items x h.members h.level is
-
-  -- the seconds that were done since a span began are a span
-  pub span_done : (t until : ℕ) (running : Running T R P) → IsUnderWay net borders nothing see stands spent right run t running
-      → t < (net run).end → t < until → until ≤ t + SPAN_SECONDS → IsSpan t until
-  span_done t until running h early later within =
-      let w = h.whole early in record { spans = w.0; begins = w.1; before = later; within = within }
-
   pub goes_on : (t until : ℕ) (running new : Running T R P) → IsUnderWay net borders nothing see stands spent right run t running
       → t < (net run).end → until ≤ (net run).end → (until < (net run).end → until ≡ t + SPAN_SECONDS)
       → IsRunning net borders nothing see stands spent right run until new

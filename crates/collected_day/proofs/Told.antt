@@ -1,20 +1,19 @@
 -- What belongs to a partition of seconds that follow one another.
-use Rattle.std.proofs.Common.{◌≡◌, ℕ, zero, suc, ◌+◌, ◌-◌, List, [], ◌∷◌, ◌++◌, arith, refl, sym, ◌∙◌, ap, subst, map}
+use Rattle.std.proofs.Common.{◌≡◌, ℕ, zero, suc, ◌+◌, ◌-◌, [], ◌∷◌, ◌++◌, arith, refl, ◌∙◌, ap}
 use Rattle.std.specs.Prelude.{filter, ◌==◌}
-use Rattle.std.proofs.lemmas.List.{map-append}
 use Rattle.std.proofs.lemmas.List.Elements.{filter-append}
 use Rattle.events.specs.declared.event.Event.{Event}
 use Rattle.town.specs.declared.day_input.DayInput.{DayInput}
 use Rattle.town.specs.Views.{setup}
 use Rattle.traffic.specs.Day.{second_events, world_at}
-use Rattle.traffic.specs.Lists.{below, numbers}
+use Rattle.traffic.specs.Lists.{numbers}
 use Rattle.parts.specs.Owners.{owner_of_event}
 use Rattle.partition.specs.Owned.{owner_in}
 use Rattle.partition.specs.declared.owner.Owner.{Owner}
 use Rattle.divided_day.specs.Days.{told_at}
 use Rattle.streamed_day.specs.Coming.{seconds_from}
 use Rattle.streamed_day.proofs.Coming.{one_more}
-use Rattle.collected_day.specs.Spans.{IsSpan, told_from}
+use Rattle.collected_day.specs.Spans.{told_from}
 
 pub none_told : (day : DayInput) (owner : Owner) (p begin : ℕ) → told_from day owner p begin 0 ≡ []
 unfolding seconds_from
@@ -28,26 +27,9 @@ told_more day owner p begin n =
     ap (filter is_own) (one_more S begin n)
     ∙ filter-append is_own (seconds_from S begin n) (second_events S (begin + n) (world_at S (begin + n)))
 
--- what was collected by a partition that is this one, at this second
-pub collected_is : (day : DayInput) (owner : Owner) (p t begin number seconds : ℕ) (es : List Event) → number ≡ p → seconds ≡ t
-    → IsSpan begin t → ((b : ℕ) → IsSpan b seconds → es ≡ told_from day owner number b (seconds - b))
-    → es ≡ told_from day owner p begin (t - begin)
-collected_is day owner p t begin number seconds es named at span each =
-    each begin (subst (λ (s : ℕ). IsSpan begin s) (sym at) span)
-    ∙ ap (λ q. told_from day owner q begin (seconds - begin)) named
-    ∙ ap (λ s. told_from day owner p begin (s - begin)) at
-
-numbers_more : (k n : ℕ) → numbers k (n + 1) ≡ numbers k n ++ (k + n) ∷ []
+pub numbers_more : (k n : ℕ) → numbers k (n + 1) ≡ numbers k n ++ (k + n) ∷ []
 numbers_more k zero = let e : k ≡ k + 0 = omega arith in ap (λ j. j ∷ []) e
 numbers_more k (suc n) =
     let e : suc n + 1 ≡ suc (n + 1) = omega arith in
     let f : (k + 1) + n ≡ k + suc n = omega arith in
     ap (numbers k) e ∙ ap (λ ns. k ∷ ns) (numbers_more (k + 1) n ∙ ap (λ j. numbers (k + 1) n ++ j ∷ []) f)
-
--- a list more, by number
-pub lists_next : {X : Type 0} (f : ℕ → X) (n : ℕ) (lists new : List X) (x : X) → lists ≡ map f (below n) → new ≡ lists ++ x ∷ []
-    → x ≡ f n → new ≡ map f (below (n + 1))
-lists_next f n lists new x before is e =
-    let last : 0 + n ≡ n = omega arith in
-    is ∙ ap (λ ys. ys ++ x ∷ []) before ∙ ap (λ y. map f (below n) ++ y ∷ []) e
-    ∙ sym (ap (map f) (numbers_more 0 n ∙ ap (λ j. below n ++ j ∷ []) last) ∙ map-append f (below n) (n ∷ []))

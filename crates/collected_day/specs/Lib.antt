@@ -1,1 +1,5 @@
 pub mod Spans
+pub mod Streams
+pub mod Sending
+pub mod Taking
+pub mod Jobs

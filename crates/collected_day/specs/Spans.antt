@@ -1,5 +1,5 @@
--- Spans of seconds, and partitions that collect what they tell in them.
-use Rattle.std.specs.Prelude.{◌≡◌, ℕ, ◌+◌, ◌*◌, ◌<◌, ◌≤◌, List, filter, ◌==◌}
+-- Spans of seconds, and what partitions tell in them.
+use Rattle.std.specs.Prelude.{◌≡◌, ℕ, ◌*◌, ◌<◌, ◌≤◌, List, filter, ◌==◌}
 use Rattle.events.specs.declared.event.Event.{Event}
 use Rattle.town.specs.declared.day_input.DayInput.{DayInput}
 use Rattle.town.specs.Views.{setup}
@@ -12,14 +12,7 @@ use Rattle.step_core.specs.Views.{PartView}
 use Rattle.streamed_day.specs.Coming.{seconds_from}
 use Rattle.workers.specs.declared.days.Running.{Running}
 use Rattle.workers.specs.Running.{IsRunning}
-use Rattle.collected_day.specs.declared.part.TheConstants.{SPAN_SECONDS}
-
--- whole spans lie before second begin, and t is one of the next span's seconds, or the first one behind it, but not its first
-pub record IsSpan (begin t : ℕ) : Type 0 where
-  pub spans : ℕ
-  pub begins : begin ≡ spans * SPAN_SECONDS
-  pub before : begin < t
-  pub within : t ≤ begin + SPAN_SECONDS
+use Rattle.collected_day.specs.declared.spans.TheConstants.{SPAN_SECONDS}
 
 -- the events of n seconds from second t on that belong to partition p
 abbrev pub told_from : DayInput → Owner → ℕ → ℕ → ℕ → List Event

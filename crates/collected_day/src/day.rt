@@ -1,6 +1,9 @@
 //! A day on several threads that is written while it runs.
 
-ghost use Rattle.std.specs.Prelude.{◌≡◌, ◌≤◌, true, [], IfOk};
+ghost use Rattle.std.specs.Prelude.{◌≡◌, ◌<◌, ◌≤◌, ℕ, true, [], length, IfOk};
+ghost use Rattle.collected_day.specs.Spans.{IsUnderWay};
+ghost use Rattle.collected_day.specs.Streams.{TellsOf};
+ghost use Rattle.collected_day.specs.Taking.{IsTaking};
 ghost use Rattle.event_handler.specs.Handling.{kinds_of, persons_of, links_in, links_seen, HasHandled, CanHandle, IsSeen};
 ghost use Rattle.event_writer.specs.Writing.{IsWritten};
 ghost use Rattle.events.specs.Lines.{AreInBook, event_lines};
@@ -8,45 +11,218 @@ ghost use Rattle.law_in_range.specs.Setups.{HaveFittingPlans};
 ghost use Rattle.scoring.specs.Tables.{scoring_rows};
 ghost use Rattle.town.specs.Views.{setup};
 ghost use Rattle.traffic.specs.Day as traffic_day;
+ghost use Rattle.traffic.specs.Day.{end_events, world_at};
+ghost use Rattle.workers.specs.Running.{IsRunning};
 
-use crate::part::CollectingPart;
-use crate::pieces::end_of_day;
-use crate::spans::{Span, next_span};
+use crate::jobs::{Progress, go_on};
+use crate::partitions::Partitions;
+use crate::sending::{SendingPart, sending_parts};
+use crate::spans::SPAN_SECONDS;
+use crate::stream::{Spanwise, Stream};
+use crate::taking::{Taking, take_due};
+use divided_day::DayPart;
 use edge_files::{Gate, Outputs};
 use event_handler::{EventHandler, SeenDay};
-use event_writer::{StreamError, stream_piece};
-use events::Book;
+use event_pipe::pipe;
+use event_writer::{StreamError, stream_piece, write_text};
+use events::{Book, Event};
 use scoring::Tables;
-use std::alloc::Global;
+use std::alloc::{AllocError, Global};
+use std::marker::Brand;
 use std::sync::Wait;
 use std::thread::Threads;
+use step_core::Part;
+use streamed_day::ends_of;
 use workers::Running;
 
 /// Who computes a day.
 #[derive_where(Clone, Copy)]
 pub struct Crew<'a, R, G> {
+    /// The threads, and the waiting.
     pub rt: &'a R,
     /// What is passed before each second of a partition.
     pub gate: &'a G,
-    /// How many workers, each a thread.
+    /// How many workers, each a thread; one more takes what they told.
     pub workers: u32,
     /// How much there is to do in each partition, by number (`workers: run_day`).
     pub loads: &'a [usize],
 }
 
-/// Computes a day, writes the lines of its events, those of a span before the next one is computed, and answers what was seen of them. They
-/// are those of the day of the undivided town, however it is divided, on however many threads, and whichever gets on first. The handler
-/// begins with them.
+/// A day before its first second, with a ring for each partition.
+///
+/// # Errors
+///
+/// `AllocError`: there is no memory for the partitions or their rings.
+fn begin<S: Stream, T: DayPart>(
+    alloc: Global,
+    run: &T::Run,
+    workers: u32,
+    loads: &[usize],
+    handler: EventHandler,
+) -> Result<Progress<S, SendingPart<S, T>>, AllocError>
+where
+    T::Parcel: Send,
+    requires some { 1 ≤ workers }
+    requires given { HaveFittingPlans (T.day run.now) }
+    requires streams { T.streams run.now ≡ true }
+    requires told { TellsOf S.told_in_spans (T.day run.now) (T.owner run.now) (T.net run.now).end }
+    ensures under_way { IfOk result (λ p. IsUnderWay T.net T.borders T.nothing ⟦<SendingPart<S, T> as Part>⟧.see
+        ⟦<SendingPart<S, T> as Part>⟧.stands ⟦<SendingPart<S, T> as Part>⟧.spent T.right run.now 0 p.partitions.running) }
+    ensures taking { IfOk result (λ p. IsTaking S.told_in_spans (T.day run.now) (T.owner run.now) (T.net run.now).end 0 p.taking) }
+    ensures first { IfOk result (λ p. (p.partitions.second ≡ 0) × (p.taking.second ≡ 0)) }
+    ensures handler { IfOk result (λ p. p.taking.handler ≡ handler) }
+{
+    let spans = T::end(run) / SPAN_SECONDS + 1;
+    let (senders, gather) = pipe::<Spanwise<S>>(alloc, T::count(run), spans)?;
+    let parts = sending_parts::<S, T>(alloc, run, senders)?;
+    let running = Running::<SendingPart<S, T>>::of(alloc, run, parts, workers, loads)?;
+    Ok(Progress {
+        partitions: Partitions { running, second: 0 },
+        taking: Taking {
+            gather,
+            second: 0,
+            handler,
+            text: Vec::new(alloc),
+        },
+    })
+}
+
+/// What is told of the end of a day, of which all seconds are done, in the order of the keys.
+///
+/// # Errors
+///
+/// `AllocError`: there is no memory for the events.
+fn end_of_day<T: DayPart>(
+    alloc: Global,
+    run: &T::Run,
+    running: Running<T>,
+) -> Result<Vec<Event>, AllocError>
+where
+    T::Parcel: Send,
+    requires given { HaveFittingPlans (T.day run.now) }
+    requires streams { T.streams run.now ≡ true }
+    requires running { IsRunning T.net T.borders T.nothing T.see T.stands T.spent T.right run.now (T.net run.now).end running }
+    ensures { let S = setup (T.day run.now) in let end = (T.net run.now).end in
+        IfOk result (λ events. events.items ≡ end_events S end (world_at S end)) }
+{
+    let parts = running.into_parts(alloc, run)?;
+    let events = ends_of::<T>(alloc, run, parts)?;
+    Ok(events)
+}
+
+/// Computes and writes a day before its first second, whose partitions tell what is promised.
+///
+/// # Errors
+///
+/// Those of `stream_collected`.
+fn write_on<S: Stream + Send, T: DayPart + Send, R: Threads + Wait + Sync, G: Gate, O: Outputs>(
+    crew: &Crew<R, G>,
+    run: &T::Run,
+    tables: &Tables,
+    book: &Book,
+    progress: Progress<S, T>,
+    outputs: &mut O,
+) -> Result<SeenDay, StreamError>
+where
+    T::Run: Send + Sync,
+    T::Parcel: Send + Sync,
+    requires given { HaveFittingPlans (T.day run.now) }
+    requires streams { T.streams run.now ≡ true }
+    requires under_way { IsUnderWay T.net T.borders T.nothing T.see T.stands T.spent T.right run.now 0 progress.partitions.running }
+    requires taking { IsTaking S.told_in_spans (T.day run.now) (T.owner run.now) (T.net run.now).end 0 progress.taking }
+    requires first { (progress.partitions.second ≡ 0) × (progress.taking.second ≡ 0) }
+    requires named { AreInBook (traffic_day.day (setup (T.day run.now))) book.now }
+    requires new { HasHandled (scoring_rows tables.now) progress.taking.handler [] }
+    requires can { CanHandle (persons_of progress.taking.handler) (links_in progress.taking.handler)
+        (traffic_day.day (setup (T.day run.now))) }
+    ensures written { IsWritten (O.written outputs.old) (O.written outputs.new) (O.faults outputs.old) (O.faults outputs.new)
+        (event_lines (traffic_day.day (setup (T.day run.now))) book.now) result }
+    ensures seen { IfOk result (IsSeen (scoring_rows tables.now) (kinds_of progress.taking.handler)
+        (traffic_day.day (setup (T.day run.now)))) }
+    ensures links { IfOk result (λ seen. links_seen seen ≡ links_in progress.taking.handler) }
+{
+    let mut progress = progress;
+    while progress.partitions.second < T::end(run) {
+        let Ok(later) = go_on(crew.rt, crew.gate, run, tables, book, progress) else {
+            return Err(StreamError::NoMemory);
+        };
+        match write_text(outputs, &later.taking.text) {
+            Ok(()) => {}
+            Err(error) => return Err(error),
+        }
+        progress = later;
+    }
+    let Progress {
+        partitions,
+        mut taking,
+    } = progress;
+    let alloc = *taking.text.allocator();
+    match take_due(crew.rt, tables, book, partitions.second, &mut taking) {
+        Ok(()) => {}
+        Err(_) => return Err(StreamError::NoMemory),
+    }
+    match write_text(outputs, &taking.text) {
+        Ok(()) => {}
+        Err(error) => return Err(error),
+    }
+    let Ok(events) = end_of_day::<T>(alloc, run, partitions.running) else {
+        return Err(StreamError::NoMemory);
+    };
+    match stream_piece(alloc, tables, book, &events, &mut taking.handler, outputs) {
+        Ok(()) => {}
+        Err(error) => return Err(error),
+    }
+    let Taking {
+        gather: _gather,
+        second: _second,
+        handler,
+        text: _text,
+    } = taking;
+    match handler.finish(alloc, tables) {
+        Ok(seen) => Ok(seen),
+        Err(_) => Err(StreamError::NoMemory),
+    }
+}
+
+/// The same from the start, where it is known what the partitions will tell.
+fn stream_over<S: Stream + Send, T: DayPart + Send, R: Threads + Wait + Sync, G: Gate, O: Outputs>(
+    crew: &Crew<R, G>,
+    alloc: Global,
+    run: &T::Run,
+    tables: &Tables,
+    book: &Book,
+    handler: EventHandler,
+    outputs: &mut O,
+) -> Result<SeenDay, StreamError>
+where
+    T::Run: Send + Sync,
+    T::Parcel: Send + Sync,
+    requires some { 1 ≤ crew.now.workers }
+    requires given { HaveFittingPlans (T.day run.now) }
+    requires streams { T.streams run.now ≡ true }
+    requires told { TellsOf S.told_in_spans (T.day run.now) (T.owner run.now) (T.net run.now).end }
+    requires named { AreInBook (traffic_day.day (setup (T.day run.now))) book.now }
+    requires new { HasHandled (scoring_rows tables.now) handler [] }
+    requires can { CanHandle (persons_of handler) (links_in handler) (traffic_day.day (setup (T.day run.now))) }
+    ensures written { IsWritten (O.written outputs.old) (O.written outputs.new) (O.faults outputs.old) (O.faults outputs.new)
+        (event_lines (traffic_day.day (setup (T.day run.now))) book.now) result }
+    ensures seen { IfOk result (IsSeen (scoring_rows tables.now) (kinds_of handler) (traffic_day.day (setup (T.day run.now)))) }
+    ensures links { IfOk result (λ seen. links_seen seen ≡ links_in handler) }
+{
+    let Ok(progress) = begin::<S, T>(alloc, run, crew.workers, crew.loads, handler) else {
+        return Err(StreamError::NoMemory);
+    };
+    write_on::<S, SendingPart<S, T>, R, G, O>(crew, run, tables, book, progress, outputs)
+}
+
+/// Computes a day, writes the lines of its events, those of a span before the one behind the next is computed, and answers what was seen of
+/// them. They are those of the day of the undivided town, however it is divided, on however many threads, and whichever gets on first. The
+/// handler begins with them.
 ///
 /// # Errors
 ///
 /// `WriteFailed`: a write failed. `NoMemory`: memory was wanting. A front of the lines was written then.
-pub fn stream_collected<
-    T: CollectingPart + Send + Sync,
-    R: Threads + Wait + Sync,
-    G: Gate,
-    O: Outputs,
->(
+pub fn stream_collected<T: DayPart + Send, R: Threads + Wait + Sync, G: Gate, O: Outputs>(
     crew: &Crew<R, G>,
     alloc: Global,
     run: &T::Run,
@@ -69,37 +245,5 @@ where
     ensures seen { IfOk result (IsSeen (scoring_rows tables.now) (kinds_of handler) (traffic_day.day (setup (T.day run.now)))) }
     ensures links { IfOk result (λ seen. links_seen seen ≡ links_in handler) }
 {
-    let Ok(start) = Running::<T>::start(alloc, run, crew.workers, crew.loads) else {
-        return Err(StreamError::NoMemory);
-    };
-    let mut running = start;
-    let mut handler = handler;
-    let mut done = 0;
-    while done < T::end(run) {
-        let Ok(span) = next_span(crew, alloc, run, running, done) else {
-            return Err(StreamError::NoMemory);
-        };
-        let Span {
-            running: later,
-            second,
-            events,
-        } = span;
-        match stream_piece(alloc, tables, book, &events, &mut handler, outputs) {
-            Ok(()) => {}
-            Err(error) => return Err(error),
-        }
-        running = later;
-        done = second;
-    }
-    let Ok(events) = end_of_day::<T>(alloc, run, running) else {
-        return Err(StreamError::NoMemory);
-    };
-    match stream_piece(alloc, tables, book, &events, &mut handler, outputs) {
-        Ok(()) => {}
-        Err(error) => return Err(error),
-    }
-    match handler.finish(alloc, tables) {
-        Ok(seen) => Ok(seen),
-        Err(_) => Err(StreamError::NoMemory),
-    }
+    stream_over::<Brand, T, R, G, O>(crew, alloc, run, tables, book, handler, outputs)
 }

@@ -1,15 +1,22 @@
-//! A day of a town in partitions on several threads that is written while it runs: the partitions run for a span of seconds, each keeps
-//! what it told in it, and then all of that is merged and written, so that the events of a day are never kept together.
+//! A day of a town in partitions on several threads that is written while it runs. The partitions run span by span, a span of seconds at a
+//! time, and send what they told in it over a ring each. While they run the next span, one more thread takes what came over the rings: it
+//! merges the events of all partitions, makes their lines, and takes what scores and travel times need. Behind both the caller writes the
+//! lines, and nobody computes meanwhile; so the lines of a span are written before any partition begins the one behind the next.
 //!
-//! A span ends with all its threads joined: results alone are shared, and while events are written no partition goes on. Nobody waits for
-//! a writer, and where a write fails nothing more is computed.
+//! The events of two spans stand in memory and no more: of the one that runs, and of the one before it, twice while they are merged, and
+//! then beside their lines. A ring has a place for each span of the day, so none is ever full. Where a write fails, nothing more is
+//! computed.
 #![tactic(auto)]
 
 mod day;
-mod part;
-mod pieces;
+mod gathering;
+mod jobs;
+mod partitions;
+mod sending;
 mod spans;
+mod stream;
+mod taking;
 
 pub use day::{Crew, stream_collected};
-pub use part::{CollectingPart, SPAN_SECONDS};
+pub use spans::SPAN_SECONDS;
 pub use streamed_day::StreamedDay;

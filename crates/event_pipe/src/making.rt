@@ -57,8 +57,8 @@ fn new_ring<P: Protocol<Piece>>(
     Ok((new_sender(producer, partition), ring))
 }
 
-/// A pipe with so many partitions, numbered from 0, and room for so many pieces of each. Each ring begins with the label of its partition, a
-/// piece with no events, which has been gathered; so whoever gathers knows whose ring it is. All places are free behind it.
+/// A pipe with so many partitions, numbered from 0, and room for so many pieces of each. Each ring begins with the label of its partition,
+/// a piece with no events, which has been gathered; so whoever gathers knows whose ring it is. All places are free behind it.
 ///
 /// # Errors
 ///

@@ -1,9 +1,7 @@
 //! The day of a town on its way to events.csv: its events are written and handled as they come, while it runs or when it is over. The same
-//! bytes are written either way. Where several threads compute a day whose events are written while it runs, each partition keeps what it
-//! told in the seconds of a span.
+//! bytes are written either way.
 #![tactic(auto)]
 
-mod collecting;
 mod execution;
 mod writing;
 

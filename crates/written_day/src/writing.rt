@@ -9,7 +9,6 @@ ghost use Rattle.town.specs.Views.{chosen_in, setup};
 ghost use Rattle.traffic.specs.Day as traffic_day;
 ghost use Rattle.written_day.specs.Days.{CanTake, IsDayWritten};
 
-use crate::collecting::Collecting;
 use crate::execution::Execution;
 use collected_day::{Crew, StreamedDay, stream_collected};
 use day_scores::first_kinds;
@@ -63,7 +62,7 @@ fn write_run<'a, G: Gate, O: Outputs>(
     write_events(alloc, run.day, &mut source, tables, handler, outputs)
 }
 
-/// The same on several threads, which compute some seconds, before the events of these are written and handled.
+/// The same on several threads, which compute a span of seconds while the events of the span before are handled and written.
 fn write_collected<'a, R: Threads + Wait + Sync, G: Gate, O: Outputs>(
     rt: &R,
     run: &Run<'a>,
@@ -88,7 +87,7 @@ fn write_collected<'a, R: Threads + Wait + Sync, G: Gate, O: Outputs>(
         loads: &loads,
     };
     let day = run.day;
-    stream_collected::<Collecting<'a>, R, G, O>(
+    stream_collected::<TownPart<'a>, R, G, O>(
         &crew,
         alloc,
         run,

@@ -1,21 +1,7 @@
-use Rattle.std.proofs.Common.{◌-◌, true}
-use Rattle.event_writer.proofs.Streaming.{IsStreaming}
-use Rattle.scoring.specs.Tables.{scoring_rows}
-use Rattle.streamed_day.specs.Coming.{to_come}
-use Rattle.town.specs.Views.{setup}
-use Rattle.traffic.specs.Day as traffic_day
-use Rattle.collected_day.specs.Spans.{IsUnderWay}
+use Rattle.collected_day.specs.Streams.{told_in_span}
 use Rattle.collected_day.proofs.day.stream_collected.Given as goal
 
-abbrev pub invariant-loop-done : goal.invariant-loop-done
-invariant-loop-done g l = record {
-  under_way : IsUnderWay g.T.Part.net g.T.Part.borders g.T.Part.nothing g.T.Part.see g.T.Part.stands g.T.Part.spent g.T.Part.right l.run
-      l.done l.running;
-  streaming : IsStreaming (scoring_rows l.tables) l.book (traffic_day.day (setup (g.T.DayPart.day l.run)))
-      (to_come (setup (g.T.DayPart.day l.run)) (g.T.Part.net l.run).end l.done true) l.initial.handler l.handler
-      (g.O.Outputs.written l.initial.outputs) (g.O.Outputs.written l.outputs) (g.O.Outputs.faults l.initial.outputs)
-      (g.O.Outputs.faults l.outputs);
+abbrev pub ghosts-stream_over : goal.ghosts-stream_over
+ghosts-stream_over g a = record {
+  told_in_spans = told_in_span (g.T.DayPart.day a.run.now) (g.T.DayPart.owner a.run.now) (g.T.Part.net a.run.now).end;
 }
-
-abbrev pub decreases-loop-done : goal.decreases-loop-done
-decreases-loop-done g l = (g.T.Part.net l.run).end - l.done

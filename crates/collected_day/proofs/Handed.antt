@@ -1,4 +1,4 @@
--- A partition that sends what it told, second by second.
+-- A partition that sends what it told, span by span.
 use Rattle.std.proofs.Common.{◌≡◌, ℕ, zero, suc, ◌+◌, ◌-◌, ◌*◌, ◌<◌, ◌≤◌, ◌⊎◌, inl, inr, Bool, true, false, Some, IfSome, List, [], ◌∷◌, ◌++◌, length, map, arith, refl, sym, ◌∙◌, ap, subst, subst₂}
 use Rattle.std.proofs.lemmas.List.{map-append, length-map}
 use Rattle.events.specs.declared.event.Event.{Event}

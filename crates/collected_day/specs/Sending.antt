@@ -14,8 +14,8 @@ use Rattle.collected_day.specs.declared.sending.SendingPart.{SendingPart}
 use Rattle.collected_day.specs.Spans.{told_from}
 use Rattle.collected_day.specs.Streams.{told_in_span, pieces_to}
 
--- Partition p of a day of so many seconds has done t of them, and has sent what it told in the spans before the one in which it is, and
--- keeps what it told in that. A place is free for each span that is left. Behind the last second all spans are sent.
+-- Partition p of a day of so many seconds has done t of them, and has sent its label and what it told in the spans before the one in
+-- which it is, and keeps what it told in that. A place is free for each span that is left. Behind the last second all spans are sent.
 pub record IsSending {S : Type 0} (told : ℕ → ℕ → List Event) (day : DayInput) (owner : Owner) (end p t : ℕ) (x : Outgoing S) : Type 0 where
   pub tells : (k : ℕ) → told p k ≡ told_in_span day owner end p k
   pub number : x.partition ≡ p
@@ -36,7 +36,7 @@ pub record SendsOn {S : Type 0} (told : ℕ → ℕ → List Event) (day : DayIn
   pub there : p < net.parts
   pub sending : IsSending told day owner net.end p t x
 
--- a partition that stands for what it holds after its seconds, and sends what it told, where it has a sender
+-- a partition that is not spent, stands for what it holds after its seconds, and sends what it told, where it has a sender
 pub record IsSendingOf {S T R P : Type 0} (told : ℕ → ℕ → List Event) (day : R → DayInput) (owner : R → Owner) (streams : R → Bool)
     (net : R → Net) (see : T → PartView P) (stands : R → T → Type 0) (run : R) (x : SendingPart S T R P) : Type 0 where
   pub part : stands run x.part

@@ -12,7 +12,8 @@ use Rattle.traffic.specs.Lists.{below}
 use Rattle.collected_day.specs.declared.spans.TheConstants.{SPAN_SECONDS}
 use Rattle.collected_day.specs.Spans.{told_from}
 
--- how many seconds the k-th span of a day of so many seconds has: those of a span, or what is left of the day where that is less
+-- how many seconds the k-th span of a day of so many seconds has: those of a span, or what is left of the day where that is less (a
+-- subtraction stops at 0)
 abbrev pub span_length : ℕ → ℕ → ℕ
 span_length end k = SPAN_SECONDS - (SPAN_SECONDS - (end - k * SPAN_SECONDS))
 
@@ -32,8 +33,8 @@ span_piece told p k = record { partition = p; events = told p k }
 abbrev pub pieces_to : (ℕ → ℕ → List Event) → ℕ → ℕ → List Piece
 pieces_to told p n = label p ∷ map (span_piece told p) (below n)
 
--- THE PROMISE: first comes a piece with no events, the label; behind it and k others comes what the label's partition tells in the k-th
--- span
+-- THE PROMISE: first comes a piece with no events, the label; behind it and k others (k from 0) comes what the label's partition tells
+-- in the k-th span
 abbrev pub IsNext : (ℕ → ℕ → List Event) → List Piece → Piece → Type 0
 IsNext told [] x = x.events ≡ []
 IsNext told (first ∷ before) x = x ≡ span_piece told first.partition (length before)
@@ -43,7 +44,7 @@ pub record HasGathered {P : Type 0} (told : ℕ → ℕ → List Event) (count n
   pub many : parts g ≡ count
   pub pieces : (p : ℕ) → p < count → gathered g p ≡ pieces_to told p n
 
--- those of the first n spans of a day of so many seconds, whose partitions tell this
+-- the pieces of the first n spans were gathered of a day of so many seconds, whose plans fit and whose partitions tell this
 pub record IsComing {P : Type 0} (told : ℕ → ℕ → List Event) (day : DayInput) (owner : Owner) (end n : ℕ) (g : Gather P) : Type 0 where
   pub given : HaveFittingPlans day
   pub tells : TellsOf told day owner end

@@ -35,7 +35,7 @@ pub record IsTaking {S : Type 0} (told : ℕ → ℕ → List Event) (day : DayI
   pub early : x.second < t → x.second < end
   pub within : x.second ≤ t
 
--- all before second t was taken: the lines are those of what happened since, which was handled
+-- all before second t was taken: the lines are those of what happened from old.second on, which the handler took
 pub record HasTaken {S : Type 0} (told : ℕ → ℕ → List Event) (day : DayInput) (owner : Owner) (end t : ℕ) (scoring : ScoringRows)
     (book : Book)
     (old new : Taking S) : Type 0 where

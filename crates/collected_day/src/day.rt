@@ -72,8 +72,8 @@ where
     ensures first { IfOk result (λ p. (p.partitions.second ≡ 0) × (p.taking.second ≡ 0)) }
     ensures handler { IfOk result (λ p. p.taking.handler ≡ handler) }
 {
-    let spans = T::end(run) / SPAN_SECONDS + 1;
-    let (senders, gather) = pipe::<Spanwise<S>>(alloc, T::count(run), spans)?;
+    let room = T::end(run) / SPAN_SECONDS + 1;
+    let (senders, gather) = pipe::<Spanwise<S>>(alloc, T::count(run), room)?;
     let parts = sending_parts::<S, T>(alloc, run, senders)?;
     let running = Running::<SendingPart<S, T>>::of(alloc, run, parts, workers, loads)?;
     Ok(Progress {
@@ -110,7 +110,7 @@ where
     Ok(events)
 }
 
-/// Computes and writes a day before its first second, whose partitions tell what is promised.
+/// Computes and writes a day of which no second is done yet, whose partitions tell what is promised.
 ///
 /// # Errors
 ///

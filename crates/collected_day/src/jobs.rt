@@ -105,8 +105,8 @@ where
     pub(crate) taking: Taking<S>,
 }
 
-/// The partitions do the next span on threads of their own, while one more takes what they had told before. Where there is no thread, this
-/// one does one after the other.
+/// The partitions do the next span while one thread more takes what they had told before: this thread does a share, others the rest. Where
+/// there is no other thread, this one does one after the other.
 ///
 /// # Errors
 ///

@@ -38,7 +38,7 @@ pub(crate) struct SendingPart<S: Stream, T: DayPart> {
 }
 
 /// Adds what a partition told in the second that it did last. With the last second of a span, or of the day, it is sent, moved and not
-/// copied. A place is free for each span of the day.
+/// copied. A place is free for each span that is left.
 ///
 /// # Errors
 ///

@@ -15,7 +15,7 @@ pub(crate) trait Stream {
     ghost told_in_spans: { ℕ → ℕ → List Event };
 }
 
-/// What is given here is not used: who passes `Brand` picks what partitions tell.
+/// `Brand` tells nothing of its own: the proof of the call that passes it (`day.rt stream_collected`) picks what partitions tell.
 impl Stream for Brand {
     ghost told_in_spans = { λ _ _. [] };
 }

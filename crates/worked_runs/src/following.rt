@@ -195,8 +195,9 @@ fn seen_in<R: Threads + Wait + Sync>(
     }
 }
 
-/// With `--stream` the events of second 100 are in events.csv before any partition begins the next one, and before second 200 all that
-/// happened before and no more; else the line of the iteration is all that it has before the day is over. Both write the same bytes.
+/// With `--stream` and one worker the events of second 100 are in events.csv before any partition begins the next one, and before second
+/// 200 all that happened before and no more; else the line of the iteration is all that it has before the day is over. Both write the same
+/// bytes.
 #[test]
 fn events_come_while_the_day_runs(rt: HostRuntime) {
     let streamed = seen_in(

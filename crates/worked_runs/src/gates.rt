@@ -37,7 +37,7 @@ fn came_through<R: Threads + Wait + Sync, G: Gate>(
     (status, outputs)
 }
 
-/// A run in four partitions: by four workers, by four whose events are written while they compute, and by one.
+/// A run in four partitions: by four workers, by four whose events are written while the day runs, and by one.
 static BY_FOUR: [&str; 6] = ["qsim", "run", "--partitions", "4", "--workers", "4"];
 
 static STREAMED: [&str; 7] = [
@@ -114,7 +114,7 @@ fn workers_run_side_by_side(rt: HostRuntime) {
     assert!(rt; one_gets_ahead(&rt, rt.alloc(), &BY_FOUR, &DAY_WITH_HOLES));
 }
 
-/// The same while events are written.
+/// The same where events are written while the day runs.
 #[test]
 fn workers_of_a_streamed_day_run_side_by_side(rt: HostRuntime) {
     assert!(rt; one_gets_ahead(&rt, rt.alloc(), &STREAMED, &DAY));

@@ -62,7 +62,8 @@ fn write_run<'a, G: Gate, O: Outputs>(
     write_events(alloc, run.day, &mut source, tables, handler, outputs)
 }
 
-/// The same on several threads, which compute a span of seconds while the events of the span before are handled and written.
+/// The same on several threads, which compute a span of seconds while the events of the span before are handled and made into lines; these
+/// are written behind both.
 fn write_collected<'a, R: Threads + Wait + Sync, G: Gate, O: Outputs>(
     rt: &R,
     run: &Run<'a>,

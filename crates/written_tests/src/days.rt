@@ -360,8 +360,8 @@ fn else_they_come_when_it_is_over(rt: HostRuntime) {
     assert!(rt; asked(&rt, rt.alloc(), Question::SeesNothing(false)) == Some(4));
 }
 
-/// Two threads come to second 200 only once five lines are written, which are of seconds 100 and 101: they are written while both
-/// compute the day.
+/// Two threads come to second 200 only once five lines are written, which are of seconds 100 and 101: they are written before the day is
+/// over.
 #[test]
 fn lines_come_while_threads_compute(rt: HostRuntime) {
     assert!(rt; asked(&rt, rt.alloc(), Question::IsReadAhead(5)) == Some(1));

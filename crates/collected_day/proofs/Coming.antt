@@ -1,5 +1,6 @@
 -- What comes over the rings.
-use Rattle.std.proofs.Common.{◌≡◌, ℕ, suc, ◌+◌, ◌*◌, ◌<◌, List, [], ◌∷◌, ◌++◌, length, get_or, map, arith, refl, sym, ◌∙◌, ap}
+use Rattle.std.proofs.Common.{◌≡◌, ℕ, suc, ◌+◌, ◌*◌, ◌<◌, List, [], ◌∷◌, ◌++◌, length, get_or, map, arith}
+use Rattle.std.proofs.Common.{refl, sym, ◌∙◌, ap}
 use Rattle.events.specs.declared.event.Event.{Event}
 use Rattle.event_pipe.specs.declared.pieces.Piece.{Piece}
 use Rattle.event_pipe.specs.declared.gathering.Gather.{Gather}

@@ -1,5 +1,6 @@
 -- A partition that sends what it told, span by span.
-use Rattle.std.proofs.Common.{◌≡◌, ℕ, zero, suc, ◌+◌, ◌-◌, ◌*◌, ◌<◌, ◌≤◌, ◌⊎◌, inl, inr, Bool, true, false, Some, IfSome, List, [], ◌∷◌, ◌++◌, length, map, arith, refl, sym, ◌∙◌, ap, subst, subst₂}
+use Rattle.std.proofs.Common.{◌≡◌, ℕ, zero, suc, ◌+◌, ◌-◌, ◌*◌, ◌<◌, ◌≤◌, ◌⊎◌, inl, inr, Bool, true}
+use Rattle.std.proofs.Common.{false, Some, IfSome, List, [], ◌∷◌, ◌++◌, length, map, arith, refl, sym, ◌∙◌, ap, subst, subst₂}
 use Rattle.std.proofs.lemmas.List.{map-append, length-map}
 use Rattle.events.specs.declared.event.Event.{Event}
 use Rattle.event_pipe.specs.declared.pieces.Piece.{Piece}
@@ -24,11 +25,13 @@ numbers_count k zero = refl
 numbers_count k (suc n) = ap suc (numbers_count (k + 1) n)
 
 -- the pieces of one span more
-pub pieces_more : (told : ℕ → ℕ → List Event) (p n : ℕ) → pieces_to told p (n + 1) ≡ pieces_to told p n ++ span_piece told p n ∷ []
+pub pieces_more : (told : ℕ → ℕ → List Event) (p n : ℕ)
+    → pieces_to told p (n + 1) ≡ pieces_to told p n ++ span_piece told p n ∷ []
 pieces_more told p n =
     let last : 0 + n ≡ n = omega arith in
     ap (λ ys. record { partition = p; events = [] } ∷ ys)
-    (ap (map (span_piece told p)) (numbers_more 0 n ∙ ap (λ j. below n ++ j ∷ []) last) ∙ map-append (span_piece told p) (below n) (n ∷ []))
+    (ap (map (span_piece told p)) (numbers_more 0 n ∙ ap (λ j. below n ++ j ∷ []) last)
+    ∙ map-append (span_piece told p) (below n) (n ∷ []))
 
 -- the next piece of a ring out of which, or into which, those of n spans came
 pub next_allowed : (told : ℕ → ℕ → List Event) (p n : ℕ) (before : List Piece) (x : Piece) → before ≡ pieces_to told p n
@@ -55,8 +58,8 @@ told_one_more day owner p b t v old es begun next kept is =
     ∙ sym (told_more day owner p b (t - b)) ∙ ap (told_from day owner p b) more
 
 -- a span that is over is as long as it is to be
-length_is : (end b t v : ℕ) → b ≤ t → t < b + SPAN_SECONDS → v ≡ t + 1 → v ≤ end → (SPAN_SECONDS ≤ v - b) ⊎ (end ≤ v)
-    → v - b ≡ SPAN_SECONDS - (SPAN_SECONDS - (end - b))
+length_is : (end b t v : ℕ) → b ≤ t → t < b + SPAN_SECONDS → v ≡ t + 1 → v ≤ end
+    → (SPAN_SECONDS ≤ v - b) ⊎ (end ≤ v) → v - b ≡ SPAN_SECONDS - (SPAN_SECONDS - (end - b))
 length_is end b t v begun early next within (inl full) = omega arith
 length_is end b t v begun early next within (inr over) = omega arith
 
@@ -124,7 +127,8 @@ module _ {S : Type 0} (told : ℕ → ℕ → List Event) (day : DayInput) (owne
       let begun = h.begun early in
       let inside = h.early early in
       let room = h.room in
-      let full : v < end → v ≡ (h.spans + 1) * SPAN_SECONDS = λ lt. elim over [ inl f ↦ omega arith | inr g ↦ absurd (omega arith) ] in
+      let full : v < end → v ≡ (h.spans + 1) * SPAN_SECONDS =
+      λ lt. elim over [ inl f ↦ omega arith | inr g ↦ absurd (omega arith) ] in
       let same : piece ≡ span_piece told p h.spans =
       is ∙ ap (λ q. record { partition = q; events = es }) h.number
       ∙ ap (λ l. record { partition = p; events = l }) (whole_span es within kept over) in
@@ -167,9 +171,10 @@ first_sending told day owner end p q t x tells named zero_done partition done be
     })
 
 -- it stands for what it holds, and sends
-pub started : {S T R P : Type 0} (told : ℕ → ℕ → List Event) (day : R → DayInput) (owner : R → Owner) (streams : R → Bool) (net : R → Net)
-    (see : T → PartView P) (stands : R → T → Type 0) (nothing : P) (run : R) (n degree : ℕ) (x : SendingPart S T R P) (o : Outgoing S)
-    → x.outgoing ≡ Some o → x.spent ≡ false → IsAt nothing see (stands run) n 0 degree x.part → streams run ≡ true → n < (net run).parts
+pub started : {S T R P : Type 0} (told : ℕ → ℕ → List Event) (day : R → DayInput) (owner : R → Owner) (streams : R → Bool)
+    (net : R → Net) (see : T → PartView P) (stands : R → T → Type 0) (nothing : P) (run : R) (n degree : ℕ)
+    (x : SendingPart S T R P) (o : Outgoing S) → x.outgoing ≡ Some o → x.spent ≡ false
+    → IsAt nothing see (stands run) n 0 degree x.part → streams run ≡ true → n < (net run).parts
     → IsSending told (day run) (owner run) (net run).end (see x.part).number (see x.part).seconds o
     → IsAt nothing (λ (y : SendingPart S T R P). see y.part) (IsSendingOf told day owner streams net see stands run) n 0 degree x
 started told day owner streams net see stands nothing run n degree x o is whole at goes inside sending =

@@ -8,8 +8,8 @@ use Rattle.workers.specs.Running.{IsRunning}
 use Rattle.collected_day.specs.declared.spans.TheConstants.{SPAN_SECONDS}
 use Rattle.collected_day.specs.Spans.{IsUnderWay}
 
-module _ {T R P : Type 0} (net : R → Net) (borders : R → ℕ → List Border) (nothing : P) (see : T → PartView P) (stands : R → T → Type 0)
-    (spent : T → Type 0) (right : R → ℕ → ℕ → ℕ → P → Type 0) (run : R) where
+module _ {T R P : Type 0} (net : R → Net) (borders : R → ℕ → List Border) (nothing : P) (see : T → PartView P)
+    (stands : R → T → Type 0) (spent : T → Type 0) (right : R → ℕ → ℕ → ℕ → P → Type 0) (run : R) where
   pub goes_on : (t until : ℕ) (running new : Running T R P) → IsUnderWay net borders nothing see stands spent right run t running
       → t < (net run).end → until ≤ (net run).end → (until < (net run).end → until ≡ t + SPAN_SECONDS)
       → IsRunning net borders nothing see stands spent right run until new
@@ -23,8 +23,8 @@ module _ {T R P : Type 0} (net : R → Net) (borders : R → ℕ → List Border
       }
 
   -- at the end
-  pub at_end : (t : ℕ) (running : Running T R P) → IsUnderWay net borders nothing see stands spent right run t running → (net run).end ≤ t
-      → IsRunning net borders nothing see stands spent right run (net run).end running
+  pub at_end : (t : ℕ) (running : Running T R P) → IsUnderWay net borders nothing see stands spent right run t running
+      → (net run).end ≤ t → IsRunning net borders nothing see stands spent right run (net run).end running
   at_end t running h over =
       let le = h.within in
       let e : t ≡ (net run).end = omega arith in

@@ -1,5 +1,6 @@
 -- Partitions that send what they tell.
-use Rattle.std.specs.Prelude.{◌≡◌, ℕ, ◌+◌, ◌-◌, ◌*◌, ◌<◌, ◌≤◌, Bool, true, false, List, [], ◌∷◌, length, get_or, IfSome}
+use Rattle.std.specs.Prelude.{◌≡◌, ℕ, ◌+◌, ◌-◌, ◌*◌, ◌<◌, ◌≤◌, Bool, true, false, List, []}
+use Rattle.std.specs.Prelude.{◌∷◌, length, get_or, IfSome}
 use Rattle.events.specs.declared.event.Event.{Event}
 use Rattle.event_pipe.specs.declared.senders.Sender.{Sender}
 use Rattle.event_pipe.specs.Pieces.{label}
@@ -16,7 +17,8 @@ use Rattle.collected_day.specs.Streams.{told_in_span, pieces_to}
 
 -- Partition p of a day of so many seconds has done t of them, and has sent its label and what it told in the spans before the one in
 -- which it is, and keeps what it told in that. A place is free for each span that is left. Behind the last second all spans are sent.
-pub record IsSending {S : Type 0} (told : ℕ → ℕ → List Event) (day : DayInput) (owner : Owner) (end p t : ℕ) (x : Outgoing S) : Type 0 where
+pub record IsSending {S : Type 0} (told : ℕ → ℕ → List Event) (day : DayInput) (owner : Owner) (end p t : ℕ) (x : Outgoing S)
+    : Type 0 where
   pub tells : (k : ℕ) → told p k ≡ told_in_span day owner end p k
   pub number : x.partition ≡ p
   pub seconds : x.done ≡ t
@@ -30,15 +32,16 @@ pub record IsSending {S : Type 0} (told : ℕ → ℕ → List Event) (day : Day
   pub ended : end ≤ t → end ≤ spans * SPAN_SECONDS
 
 -- one of the partitions of a run whose events are taken while the day goes on, which sends
-pub record SendsOn {S : Type 0} (told : ℕ → ℕ → List Event) (day : DayInput) (owner : Owner) (streams : Bool) (net : Net) (p t : ℕ)
-    (x : Outgoing S) : Type 0 where
+pub record SendsOn {S : Type 0} (told : ℕ → ℕ → List Event) (day : DayInput) (owner : Owner) (streams : Bool) (net : Net)
+    (p t : ℕ) (x : Outgoing S) : Type 0 where
   pub goes : streams ≡ true
   pub there : p < net.parts
   pub sending : IsSending told day owner net.end p t x
 
 -- a partition that is not spent, stands for what it holds after its seconds, and sends what it told, where it has a sender
-pub record IsSendingOf {S T R P : Type 0} (told : ℕ → ℕ → List Event) (day : R → DayInput) (owner : R → Owner) (streams : R → Bool)
-    (net : R → Net) (see : T → PartView P) (stands : R → T → Type 0) (run : R) (x : SendingPart S T R P) : Type 0 where
+pub record IsSendingOf {S T R P : Type 0} (told : ℕ → ℕ → List Event) (day : R → DayInput) (owner : R → Owner)
+    (streams : R → Bool) (net : R → Net) (see : T → PartView P) (stands : R → T → Type 0) (run : R) (x : SendingPart S T R P)
+    : Type 0 where
   pub part : stands run x.part
   pub outgoing : IfSome x.outgoing (SendsOn told (day run) (owner run) (streams run) (net run) (see x.part).number (see x.part).seconds)
   pub whole : x.spent ≡ false

@@ -45,7 +45,8 @@ pub record HasGathered {P : Type 0} (told : ℕ → ℕ → List Event) (count n
   pub pieces : (p : ℕ) → p < count → gathered g p ≡ pieces_to told p n
 
 -- the pieces of the first n spans were gathered of a day of so many seconds, whose plans fit and whose partitions tell this
-pub record IsComing {P : Type 0} (told : ℕ → ℕ → List Event) (day : DayInput) (owner : Owner) (end n : ℕ) (g : Gather P) : Type 0 where
+pub record IsComing {P : Type 0} (told : ℕ → ℕ → List Event) (day : DayInput) (owner : Owner) (end n : ℕ) (g : Gather P)
+    : Type 0 where
   pub given : HaveFittingPlans day
   pub tells : TellsOf told day owner end
   pub has : HasGathered told owner.parts n g

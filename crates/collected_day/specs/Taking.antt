@@ -4,7 +4,8 @@ use Rattle.events.specs.declared.event.Event.{Event}
 use Rattle.events.specs.declared.event.Book.{Book}
 use Rattle.events.specs.Lines.{event_lines}
 use Rattle.event_handler.specs.declared.handling.EventHandler.{EventHandler}
-use Rattle.event_handler.specs.Handling.{kinds_of, persons_of, links_in, HasHandled, CanHandle}
+use Rattle.event_handler.specs.declared.handling.SeenDay.{SeenDay}
+use Rattle.event_handler.specs.Handling.{kinds_of, persons_of, links_in, HasHandled, CanHandle, IsSeen}
 use Rattle.partition.specs.declared.owner.Owner.{Owner}
 use Rattle.scoring.specs.Tables.{ScoringRows}
 use Rattle.streamed_day.specs.Coming.{seconds_from}
@@ -24,9 +25,22 @@ abbrev pub HasHandledMore : ScoringRows → List Event → EventHandler → Even
 HasHandledMore scoring events old new = (taken rest : List Event) → HasHandled scoring old taken
     → CanHandle (persons_of old) (links_in old) (taken ++ events ++ rest) → HasHandled scoring new (taken ++ events)
 
+-- and is of the same persons and links
+pub record HasHandledOn (scoring : ScoringRows) (events : List Event) (old new : EventHandler) : Type 0 where
+  pub handled : HasHandledMore scoring events old new
+  pub kinds : kinds_of new ≡ kinds_of old
+  pub links : links_in new ≡ links_in old
+
+-- this was seen of what the handler stands for, and of these behind that
+abbrev pub HasSeenMore : ScoringRows → List Event → EventHandler → SeenDay → Type 0
+HasSeenMore scoring events handler seen = (taken rest : List Event) → HasHandled scoring handler taken
+    → CanHandle (persons_of handler) (links_in handler) (taken ++ events ++ rest)
+    → IsSeen scoring (kinds_of handler) (taken ++ events) seen
+
 -- Of a day of so many seconds all was taken that happened before x.second, which is where a span begins, or the day's end. t is that
 -- second, or where that span ends.
-pub record IsTaking {S : Type 0} (told : ℕ → ℕ → List Event) (day : DayInput) (owner : Owner) (end t : ℕ) (x : Taking S) : Type 0 where
+pub record IsTaking {S : Type 0} (told : ℕ → ℕ → List Event) (day : DayInput) (owner : Owner) (end t : ℕ) (x : Taking S)
+    : Type 0 where
   pub spans : ℕ
   pub coming : IsComing told day owner end spans x.gather
   pub begins : x.second < end → x.second ≡ spans * SPAN_SECONDS

@@ -1,17 +1,19 @@
 //! A day on several threads that is written while it runs.
 
-ghost use Rattle.std.specs.Prelude.{◌≡◌, ◌<◌, ◌≤◌, ℕ, true, [], length, IfOk};
-ghost use Rattle.collected_day.specs.Spans.{IsUnderWay};
+ghost use Rattle.std.specs.Prelude.{◌≡◌, ◌-◌, ◌<◌, ◌≤◌, ℕ, true, [], length, IfOk};
+ghost use Rattle.collected_day.specs.Spans.{IsUnderWay, told_at_end};
 ghost use Rattle.collected_day.specs.Streams.{TellsOf};
-ghost use Rattle.collected_day.specs.Taking.{IsTaking};
+ghost use Rattle.collected_day.specs.Taking.{IsTaking, CanHandleMore, HasHandledOn, HasSeenMore};
 ghost use Rattle.event_handler.specs.Handling.{kinds_of, persons_of, links_in, links_seen, HasHandled, CanHandle, IsSeen};
 ghost use Rattle.event_writer.specs.Writing.{IsWritten};
 ghost use Rattle.events.specs.Lines.{AreInBook, event_lines};
 ghost use Rattle.law_in_range.specs.Setups.{HaveFittingPlans};
+ghost use Rattle.partition.specs.declared.owner.Owner.{Owner};
 ghost use Rattle.scoring.specs.Tables.{scoring_rows};
+ghost use Rattle.streamed_day.specs.Coming.{seconds_from};
 ghost use Rattle.town.specs.Views.{setup};
+ghost use Rattle.town.specs.declared.day_input.DayInput.{DayInput};
 ghost use Rattle.traffic.specs.Day as traffic_day;
-ghost use Rattle.traffic.specs.Day.{end_events, world_at};
 ghost use Rattle.workers.specs.Running.{IsRunning};
 
 use crate::jobs::{Progress, go_on};
@@ -102,12 +104,96 @@ where
     requires given { HaveFittingPlans (T.day run.now) }
     requires streams { T.streams run.now ≡ true }
     requires running { IsRunning T.net T.borders T.nothing T.see T.stands T.spent T.right run.now (T.net run.now).end running }
-    ensures { let S = setup (T.day run.now) in let end = (T.net run.now).end in
-        IfOk result (λ events. events.items ≡ end_events S end (world_at S end)) }
+    ensures { IfOk result (λ events. events.items ≡ told_at_end (setup (T.day run.now)) (T.net run.now).end) }
 {
     let parts = running.into_parts(alloc, run)?;
     let events = ends_of::<T>(alloc, run, parts)?;
     Ok(events)
+}
+
+/// Takes what happened up to a second, which is that up to which it was taken or the end of the next span, writes its lines, and answers
+/// who has handled it. Nothing is left of the rings then.
+///
+/// # Errors
+///
+/// `WriteFailed`: a write failed. `NoMemory`: memory was wanting, or some partition is gone and some piece of the span is not there. A
+/// front of the lines was written then.
+fn write_due<S: Stream, R: Wait, O: Outputs>(
+    rt: &R,
+    tables: &Tables,
+    book: &Book,
+    second: u32,
+    taking: Taking<S>,
+    outputs: &mut O,
+) -> Result<EventHandler, StreamError>
+    requires due { (day : DayInput) × (owner : Owner) × (end : ℕ) × IsTaking S.told_in_spans day owner end second taking
+        × AreInBook (seconds_from (setup day) taking.second (second - taking.second)) book.now
+        × CanHandleMore (scoring_rows tables.now) (seconds_from (setup day) taking.second (second - taking.second)) taking.handler }
+    ensures written { (day : DayInput) (owner : Owner) (end : ℕ) → IsTaking S.told_in_spans day owner end second taking
+        → IsWritten (O.written outputs.old) (O.written outputs.new) (O.faults outputs.old) (O.faults outputs.new)
+        (event_lines (seconds_from (setup day) taking.second (second - taking.second)) book.now) result }
+    ensures handled { IfOk result (λ handler. (day : DayInput) (owner : Owner) (end : ℕ)
+        → IsTaking S.told_in_spans day owner end second taking
+        → HasHandledOn (scoring_rows tables.now) (seconds_from (setup day) taking.second (second - taking.second)) taking.handler
+        handler) }
+{
+    let mut taking = taking;
+    match take_due(rt, tables, book, second, &mut taking) {
+        Ok(()) => {}
+        Err(_) => return Err(StreamError::NoMemory),
+    }
+    let Taking {
+        gather: _gather,
+        second: _second,
+        handler,
+        text,
+    } = taking;
+    match write_text(outputs, &text) {
+        Ok(()) => Ok(handler),
+        Err(error) => Err(error),
+    }
+}
+
+/// Writes what is told of the end of a day, of which all seconds are done, and answers what was seen of the day: of what the handler took
+/// before, and of its end.
+///
+/// # Errors
+///
+/// `WriteFailed`: a write failed. `NoMemory`: memory was wanting. A front of the lines was written then.
+fn write_end<T: DayPart, O: Outputs>(
+    alloc: Global,
+    run: &T::Run,
+    tables: &Tables,
+    book: &Book,
+    running: Running<T>,
+    handler: EventHandler,
+    outputs: &mut O,
+) -> Result<SeenDay, StreamError>
+where
+    T::Parcel: Send,
+    requires given { HaveFittingPlans (T.day run.now) }
+    requires streams { T.streams run.now ≡ true }
+    requires running { IsRunning T.net T.borders T.nothing T.see T.stands T.spent T.right run.now (T.net run.now).end running }
+    requires named { AreInBook (told_at_end (setup (T.day run.now)) (T.net run.now).end) book.now }
+    requires can { CanHandleMore (scoring_rows tables.now) (told_at_end (setup (T.day run.now)) (T.net run.now).end) handler }
+    ensures written { IsWritten (O.written outputs.old) (O.written outputs.new) (O.faults outputs.old) (O.faults outputs.new)
+        (event_lines (told_at_end (setup (T.day run.now)) (T.net run.now).end) book.now) result }
+    ensures seen { IfOk result
+        (HasSeenMore (scoring_rows tables.now) (told_at_end (setup (T.day run.now)) (T.net run.now).end) handler) }
+    ensures links { IfOk result (λ seen. links_seen seen ≡ links_in handler) }
+{
+    let Ok(events) = end_of_day::<T>(alloc, run, running) else {
+        return Err(StreamError::NoMemory);
+    };
+    let mut handler = handler;
+    match stream_piece(alloc, tables, book, &events, &mut handler, outputs) {
+        Ok(()) => {}
+        Err(error) => return Err(error),
+    }
+    match handler.finish(alloc, tables) {
+        Ok(seen) => Ok(seen),
+        Err(_) => Err(StreamError::NoMemory),
+    }
 }
 
 /// Computes and writes a day of which no second is done yet, whose partitions tell what is promised.
@@ -152,36 +238,14 @@ where
         }
         progress = later;
     }
-    let Progress {
-        partitions,
-        mut taking,
-    } = progress;
+    let Progress { partitions, taking } = progress;
+    let Partitions { running, second } = partitions;
     let alloc = *taking.text.allocator();
-    match take_due(crew.rt, tables, book, partitions.second, &mut taking) {
-        Ok(()) => {}
-        Err(_) => return Err(StreamError::NoMemory),
-    }
-    match write_text(outputs, &taking.text) {
-        Ok(()) => {}
+    let handler = match write_due(crew.rt, tables, book, second, taking, outputs) {
+        Ok(handler) => handler,
         Err(error) => return Err(error),
-    }
-    let Ok(events) = end_of_day::<T>(alloc, run, partitions.running) else {
-        return Err(StreamError::NoMemory);
     };
-    match stream_piece(alloc, tables, book, &events, &mut taking.handler, outputs) {
-        Ok(()) => {}
-        Err(error) => return Err(error),
-    }
-    let Taking {
-        gather: _gather,
-        second: _second,
-        handler,
-        text: _text,
-    } = taking;
-    match handler.finish(alloc, tables) {
-        Ok(seen) => Ok(seen),
-        Err(_) => Err(StreamError::NoMemory),
-    }
+    write_end::<T, O>(alloc, run, tables, book, running, handler, outputs)
 }
 
 /// The same from the start, where it is known what the partitions will tell.

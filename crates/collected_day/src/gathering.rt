@@ -27,7 +27,8 @@ pub(crate) fn next_span<S: Stream, R: Wait>(
     alloc: Global,
     gather: &mut Gather<Spanwise<S>>,
 ) -> Result<Vec<Event>, AllocError>
-    requires coming { (day : DayInput) × (owner : Owner) × (end : ℕ) × (n : ℕ) × IsComing S.told_in_spans day owner end n gather.old }
+    requires coming { (day : DayInput) × (owner : Owner) × (end : ℕ) × (n : ℕ)
+        × IsComing S.told_in_spans day owner end n gather.old }
     ensures { IfOk result (λ events. (day : DayInput) (owner : Owner) (end n : ℕ) → IsComing S.told_in_spans day owner end n gather.old
         → IsComing S.told_in_spans day owner end (n + 1) gather.new
         × (events.items ≡ seconds_from (setup day) (n * SPAN_SECONDS) (span_length end n))) }

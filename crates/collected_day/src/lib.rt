@@ -4,8 +4,8 @@
 //! lines, and nobody computes meanwhile; so the lines of a span are written before any partition begins the one behind the next.
 //!
 //! The events of two spans stand in memory and no more: of the one that runs, and of the one before it, twice while they are merged, and
-//! then beside their lines and those written before. A ring has a place for each span of the day, so no piece is ever refused. Where a
-//! write fails, nothing more is computed.
+//! then beside their lines. A ring has a place for each span of the day, so no piece is ever refused. Where a write fails, nothing more is
+//! computed.
 #![tactic(auto)]
 
 mod day;

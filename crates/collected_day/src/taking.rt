@@ -53,8 +53,9 @@ pub(crate) fn take_due<S: Stream, R: Wait>(
         → HasTaken S.told_in_spans day owner end second (scoring_rows tables.now) book.now taking.old taking.new) }
 {
     let alloc = *taking.text.allocator();
+    // What was taken before is written: its lines are let go before the next ones are made.
+    taking.text = Vec::new(alloc);
     if taking.second >= second {
-        taking.text = Vec::new(alloc);
         return Ok(());
     }
     let events = next_span(rt, alloc, &mut taking.gather)?;

@@ -54,6 +54,7 @@ returns-in-Pieces g c = λ day owner end n coming.
         has = gathered_more told owner.parts n h.0 mid after has h.1 c.in_ok-lists.ensures.parts;
       },
       merged_events day owner coming.given (seconds_from (setup day) (n * SPAN_SECONDS) (span_length end n)) owner.parts
-          c.in-Pieces.lists.items c.in_ok-events-in-Pieces.events.items (seconds_ascend (setup day) (n * SPAN_SECONDS) (span_length end n)) refl
+          c.in-Pieces.lists.items c.in_ok-events-in-Pieces.events.items
+          (seconds_ascend (setup day) (n * SPAN_SECONDS) (span_length end n)) refl
           (span_lists told day owner end owner.parts n c.in-Pieces.lists.items coming.tells lists) c.in_ok-events-in-Pieces.ensures,
     )

@@ -2,7 +2,8 @@ use Rattle.std.proofs.Common.{◌≡◌, ◌<◌, ◌+◌, ◌-◌, ◌++◌, Li
 use Rattle.events.specs.declared.event.Event.{Event}
 use Rattle.collected_day.proofs.Handed.{keeps, over_is, is_allowed, goes_over}
 use Rattle.collected_day.proofs.sending.send_on.Goals as goal
-use Rattle.collected_day.proofs.sending.send_on.Goals.{else-done-began-lt-SPAN_SECONDS-via-then-done-began-lt-SPAN_SECONDS+else-done-end, else-done-began-lt-SPAN_SECONDS-via-else-done-began-lt-SPAN_SECONDS}
+use Rattle.collected_day.proofs.sending.send_on.Goals.{else-done-began-lt-SPAN_SECONDS-via-then-done-began-lt-SPAN_SECONDS+else-done-end}
+use Rattle.collected_day.proofs.sending.send_on.Goals.{else-done-began-lt-SPAN_SECONDS-via-else-done-began-lt-SPAN_SECONDS}
 
 pub returns-then-done-end : goal.returns-then-done-end
 returns-then-done-end g c =

@@ -1,4 +1,5 @@
-use Rattle.std.proofs.Common.{◌≡◌, ◌<◌, ◌∙◌, ◌*◌, ◌≤◌, List, [], ◌∷◌, false, Some, ap, sym, refl, subst, arith, length, length-append, get_or, rules}
+use Rattle.std.proofs.Common.{◌≡◌, ◌<◌, ◌∙◌, ◌*◌, ◌≤◌, List, [], ◌∷◌, false, Some, ap, sym, refl, subst}
+use Rattle.std.proofs.Common.{arith, length, length-append, get_or, rules}
 use Rattle.std.proofs.lemmas.List.{length_push}
 use Rattle.std.proofs.lemmas.Iterator.Consumers.{YieldsList-turn, YieldsList-end}
 use Rattle.std.proofs.lemmas.Iterator.Adapters.{YieldsList-from_vec}
@@ -88,7 +89,8 @@ returns-clause-start g c =
     c.next.ensures.steps in
     let i = c.loop-sender.invariant in
     let all : c.loop-sender.number ≡ (g.T.Part.net run).parts =
-    i.counted ∙ ap length (sym (map_itself c.loop-sender.yielded) ∙ end.0) ∙ ap length c.senders.view_is ∙ c.requires.senders.many in
+    i.counted ∙ ap length (sym (map_itself c.loop-sender.yielded) ∙ end.0) ∙ ap length c.senders.view_is
+    ∙ c.requires.senders.many in
     subst (λ k. EachAt g.T.Part.nothing (λ y. g.T.Part.see y.part)
     (IsSendingOf g.S.Stream.told_in_spans g.T.DayPart.day g.T.DayPart.owner g.T.DayPart.streams g.T.Part.net
     g.T.Part.see g.T.Part.stands run) 0

@@ -1,5 +1,5 @@
 -- Two jobs that are done at the same time.
-use Rattle.std.proofs.Common.{◌≡◌, ℕ, zero, suc, ◌+◌, ◌<◌, List, [], ◌∷◌, ◌++◌, length, length-append}
+use Rattle.std.proofs.Common.{◌≡◌, ℕ, zero, suc, ◌<◌, List, [], ◌∷◌, ◌++◌, length, length-append}
 use Rattle.std.proofs.Common.{slice_index_or, take, arith, refl, ap, sym, ◌∙◌, subst, subst₂}
 
 -- what holds of both holds of each

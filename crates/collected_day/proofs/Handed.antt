@@ -1,6 +1,7 @@
 -- A partition that sends what it told, span by span.
 use Rattle.std.proofs.Common.{◌≡◌, ℕ, zero, suc, ◌+◌, ◌-◌, ◌*◌, ◌<◌, ◌≤◌, ◌⊎◌, inl, inr, Bool, true}
-use Rattle.std.proofs.Common.{false, Some, IfSome, List, [], ◌∷◌, ◌++◌, length, map, arith, refl, sym, ◌∙◌, ap, subst, subst₂}
+use Rattle.std.proofs.Common.{false, Some, IfSome, List, [], ◌∷◌, ◌++◌, length, map, arith, refl, sym}
+use Rattle.std.proofs.Common.{◌∙◌, ap, subst, subst₂}
 use Rattle.std.proofs.lemmas.List.{map-append, length-map}
 use Rattle.events.specs.declared.event.Event.{Event}
 use Rattle.event_pipe.specs.declared.pieces.Piece.{Piece}

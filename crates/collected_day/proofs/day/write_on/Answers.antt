@@ -1,6 +1,6 @@
 use Rattle.std.proofs.Common.{ℕ, ◌<◌, true, arith, sym, ◌∙◌, ap, subst}
 use Rattle.std.proofs.lemmas.Result.{IfOk-weaker}
-use Rattle.event_writer.proofs.Streaming.{IsStreaming, streaming_wanting}
+use Rattle.event_writer.proofs.Streaming.{IsStreaming}
 use Rattle.scoring.specs.Tables.{scoring_rows}
 use Rattle.step_core.specs.Nets.{Net}
 use Rattle.streamed_day.specs.Coming.{to_come}

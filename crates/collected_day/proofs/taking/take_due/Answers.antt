@@ -1,4 +1,4 @@
-use Rattle.std.proofs.Common.{◌-◌, ◌∙◌, List, ap, sym, refl, subst, arith}
+use Rattle.std.proofs.Common.{◌∙◌, List, ap, sym, refl, subst, arith}
 use Rattle.events.specs.declared.event.Event.{Event}
 use Rattle.events.specs.Lines.{AreInBook, event_lines}
 use Rattle.scoring.specs.Tables.{scoring_rows}

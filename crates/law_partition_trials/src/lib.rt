@@ -36,8 +36,8 @@ pub fn worked_days_in_parts()
 /// second 3 the car leaves its place in the queue of the second link, and in second 2 nothing is sent back.
 /// A partition by itself makes the same ones.
 pub fn worked_parcels()
-    ensures sent { out mixed each_node 1 2 1 ∷ out mixed each_node 1 3 0 ∷ out mixed each_node 2 1 3 ∷ out mixed each_node 2 1 2 ∷ []
-        ≡ of_car ∷ of_walker ∷ of_place ∷ of_nothing ∷ [] }
+    ensures sent { out mixed each_node 1 2 1 ∷ out mixed each_node 1 3 0 ∷ out mixed each_node 2 1 3
+        ∷ out mixed each_node 2 1 2 ∷ [] ≡ of_car ∷ of_walker ∷ of_place ∷ of_nothing ∷ [] }
     ensures alone { parcel_to mixed each_node 1 1 (ready mixed each_node 1 1) 2
         ∷ parcel_to mixed each_node 2 3 (ready mixed each_node 2 3) 1 ∷ []
         ≡ of_car ∷ of_place ∷ [] }

@@ -63,7 +63,8 @@ pub fn nodes_are_woken_for_vehicles()
 /// woken.
 pub fn nodes_are_woken_for_places()
     ensures { (S : Setup) (own : Owner) (p t n m : ℕ) (ms : List ℕ) (wakes : List (Option ℕ)) → own n ≡ p → n < length wakes
-        → m < length S.links → (link_row S m).from ≡ n → wake_of (wake_starts S own p t ms wakes) n ≢ Some t → times m ms ≡ 0 }
+        → m < length S.links → (link_row S m).from ≡ n → wake_of (wake_starts S own p t ms wakes) n ≢ Some t
+        → times m ms ≡ 0 }
 {}
 
 /// The partition that has all nodes holds the whole world of each second of the day, and has heard of everything; what it does and tells in

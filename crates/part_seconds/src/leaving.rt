@@ -94,8 +94,8 @@ fn fill(
     ensures count { OnOk result (length parcels.new ≡ length parcels.old) }
     ensures each { let own = owner_in exits.now.owner.now.of_node in
         OnOk result ((k : ℕ) → k < length parcels.old → parcel_at parcels.new k
-        ≡ parcel_for (setup exits.now.day.now) own exits.now.partition exits.now.borders.now second world.now.persons leaving.entering.items
-        leaving.looked.items leaving.freed.items k) }
+        ≡ parcel_for (setup exits.now.day.now) own exits.now.partition exits.now.borders.now second world.now.persons
+        leaving.entering.items leaving.looked.items leaving.freed.items k) }
     ensures gone { let own = owner_in exits.now.owner.now.of_node in
         OnOk result (gone.new.items ≡ all_gone (setup exits.now.day.now) own exits.now.partition second world.now.persons
         leaving.entering.items leaving.looked.items) }

@@ -157,8 +157,8 @@ fn all_freed_at(
     requires there { AreIn (length links.now) slots.now }
     requires links { (k : ℕ) → k < length links.now → link_at links.now k < length run.now.day.now.town.now.network.links }
     requires queues { length queues.now ≡ length links.now }
-    ensures { IfOk result (λ freed. freed.items ≡ flat_map (freed_at (setup run.now.day.now) (owner_in run.now.owner.now.of_node) partition
-        links.now queues.now) slots.now) }
+    ensures { IfOk result (λ freed. freed.items ≡ flat_map (freed_at (setup run.now.day.now) (owner_in run.now.owner.now.of_node)
+        partition links.now queues.now) slots.now) }
 {
     let mut freed = Vec::new(run.alloc);
     let mut rest = slots;

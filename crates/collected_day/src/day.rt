@@ -1,6 +1,6 @@
 //! A day on several threads that is written while it runs.
 
-ghost use Rattle.std.specs.Prelude.{◌≡◌, ◌-◌, ◌<◌, ◌≤◌, ℕ, true, [], length, IfOk};
+ghost use Rattle.std.specs.Prelude.{◌≡◌, ◌-◌, ◌<◌, ◌≤◌, ℕ, true, [], IfOk};
 ghost use Rattle.collected_day.specs.Spans.{IsUnderWay, told_at_end};
 ghost use Rattle.collected_day.specs.Streams.{TellsOf};
 ghost use Rattle.collected_day.specs.Taking.{IsTaking, CanHandleMore, HasHandledOn, HasSeenMore};

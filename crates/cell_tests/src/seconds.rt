@@ -136,6 +136,7 @@ fn put_all(board: &Board<Numbers>, port: &mut Port<Numbers>)
 }
 
 /// Does the next second of a member where all its neighbours are ready, and answers whether it did. It does no more than 4,000,000,000.
+#[tactic(auto, using(cells::proofs::Uses::put_settles))]
 pub(crate) fn second(board: &Board<Numbers>, member: &mut Member) -> bool
     requires board { IsTestBoard board.now }
     requires member { IsMember board.now member.old }

@@ -79,14 +79,14 @@ module _ {R S : Type 0} (right : R → ℕ → ℕ → ℕ → Option S → Type
       joins right about.run.value about.count (length cs) (from_of cs) (to_of cs) (lag_of cs) (twin_of cs) id v other w hub port
 
   pub starts_with : (count : ℕ) (cs : List Channel) (words : List ℕ) (slots : ℕ) → about.count ≡ count → about.channels.value.items ≡ cs
-      → AreChannelsOf count cs → length words ≡ WORDS_APART * count → ((p : ℕ) → slice_index words p ≡ 0) → slots ≡ 64 * length cs
+      → AreChannelsOf count cs → length words ≡ WORDS_APART * count → ((p : ℕ) → slice_index words p ≡ 0) → slots ≡ 65 * length cs
       → IsKept right about (opening words (replicate slots None) (hub_view about.run.value [] []))
   starts_with count cs words slots is same g long zeros wide = let ks : List Channel = about.channels.value.items in
       opens right about.run.value about.count (length ks) (from_of ks) (to_of ks) (lag_of ks) (twin_of ks)
       (subst (λ z. AreChannelsOf about.count z) (sym same) (subst (λ z. AreChannelsOf z cs) (sym is) g)) words (replicate slots None) (long
       ∙ ap (λ (z : ℕ). WORDS_APART * z) (sym is)) zeros
       (length-map (replicate slots None) (λ (y : Option S). some y) ∙ length-replicate slots None ∙ wide
-      ∙ ap (λ (z : List Channel). 64 * length z) (sym same))
+      ∙ ap (λ (z : List Channel). 65 * length z) (sym same))
       (λ k lt. nothing_at slots None k (let e = ap (λ (z : List Channel). length z) same in omega arith))
 
 pub zeros_at : (n p : ℕ) → slice_index (replicate n 0) p ≡ 0

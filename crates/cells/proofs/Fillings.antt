@@ -16,8 +16,9 @@ use Rattle.cells.specs.declared.table.Border.{Border}
 use Rattle.cells.specs.Rule.{contains, is_port, port_view, from_of, to_of, lag_of, twin_of, AreChannelsOf}
 use Rattle.cells.specs.Rings.{slot}
 use Rattle.cells.specs.Carried.{Carries, IsEmptied, IsFilled, AreOfSecond, CarriesBoth}
-use Rattle.cells.specs.Ports.{IsBorder, AreBorders, border_at, handover_at, ready_in, is_awaited, is_put, slots_of, all_slots_of}
-use Rattle.cells.specs.Ports.{filled_slots_of, AreApart, IsHandover, run_of, degree, IsPort, PortCarriesSecond, PortCarriesBoth, IsFilling}
+use Rattle.cells.specs.Ports.{IsBorder, AreBorders, border_at, handover_at, ready_in, is_awaited, is_taken, is_put, GoesOut}
+use Rattle.cells.specs.Ports.{slots_of, all_slots_of, filled_slots_of, AreApart, IsHandover, IsSettled, run_of, degree, IsPort}
+use Rattle.cells.specs.Ports.{PortCarriesSecond, PortCarriesBoth, IsFilling}
 use Rattle.cells.proofs.Homes.{among_more, among_last, among_either}
 use Rattle.cells.proofs.Orders.{has_self, has_last, has_more, fresh_popped, filled_late, filled_early, blocks_last, blocks_then}
 
@@ -91,15 +92,28 @@ module _ {T R P : Type 0} (right : R → ℕ → ℕ → ℕ → Option P → Ty
   both_last : (p : Port T R P) (c d : List (ℕ × Option P)) (e : ℕ) → PortCarriesBoth right b p d e → PortCarriesBoth right b p (c ++ d) e
   both_last p c d e h = ((λ le. let q = h.0 le in (q.0, among_last c d _ q.0 q.1)), (h.1.0, among_last c d _ h.1.0 h.1.1))
 
-  put_is : (p t : ℕ) (r : Border) (m o : Bool) (h : Handover P) → is_put h ≡ true → IsHandover (right (run_of b)) p t r m o h → (m ≡ true)
-      × (o ≡ true) × ((y : Option P) × (h ≡ Put y) × right (run_of b) p r.from t y)
-  put_is p t r m o Awaited is k = absurd (true≢false (sym is))
-  put_is p t r m o (Arrived x) is k = absurd (true≢false (sym is))
-  put_is p t r m o Taken is k = absurd (true≢false (sym is))
-  put_is p t r m o (Put y) is k = (k.0, k.1, (y, refl, k.2))
+  settled_is : (p t : ℕ) (r : Border) (m o : Bool) (h : Handover P)
+      → (is_taken h ≡ true) × (is_put h ≡ false → right (run_of b) p r.from t None)
+      → IsHandover (right (run_of b)) p t r m o h → (m ≡ true) × (o ≡ true) × ((y : Option P) × GoesOut y h × right (run_of b) p r.from t y)
+  settled_is p t r m o Awaited is k = absurd (true≢false (sym is.0))
+  settled_is p t r m o (Arrived x) is k = absurd (true≢false (sym is.0))
+  settled_is p t r m o Taken is k = (k.0, k.1, (None, refl, is.1 refl))
+  settled_is p t r m o (Put y) is k = (k.0, k.1, (y, refl, k.2))
 
-  pub starts : (q : Port T R P) → IsPort right b q → ((k : ℕ) → k < degree q → is_put (handover_at q.handovers.items k) ≡ true)
-      → IsFilling right b q q
+  -- what goes out is one thing, and what lets something out was taken
+  goes_once : (h : Handover P) (y z : Option P) → GoesOut y h → GoesOut z h → y ≡ z
+  goes_once Awaited y z a c = absurd a
+  goes_once (Arrived x) y z a c = absurd a
+  goes_once Taken y z a c = a ∙ sym c
+  goes_once (Put x) y z a c = sym a ∙ c
+
+  pub goes_taken : (h : Handover P) (y : Option P) → GoesOut y h → is_taken h ≡ true
+  goes_taken Awaited y a = absurd a
+  goes_taken (Arrived x) y a = absurd a
+  goes_taken Taken y a = refl
+  goes_taken (Put x) y a = refl
+
+  pub starts : (q : Port T R P) → IsPort right b q → IsSettled right b q → IsFilling right b q q
   starts q f all = record {
     seat = (refl, refl, refl);
     partition = refl;
@@ -110,23 +124,23 @@ module _ {T R P : Type 0} (right : R → ℕ → ℕ → ℕ → Option P → Ty
     room = refl;
     fresh = f.fresh;
     bounded = f.bounded;
-    waiting = λ k lt is. (put_is q.partition q.done (border_at q.borders.items k) _ _ (handover_at q.handovers.items k) (all k lt)
+    waiting = λ k lt is. (settled_is q.partition q.done (border_at q.borders.items k) _ _ (handover_at q.handovers.items k) (all k lt)
         (f.held k lt)).2;
-    through = λ k lt no_order. absurd (true≢false (sym (put_is q.partition q.done (border_at q.borders.items k) _ _
+    through = λ k lt no_order. absurd (true≢false (sym (settled_is q.partition q.done (border_at q.borders.items k) _ _
         (handover_at q.handovers.items k) (all k lt) (f.held k lt)).1 ∙ no_order));
     carried = (
       [],
       f.carried,
       (λ k y a. absurd a),
-      λ k lt no_order. absurd (true≢false (sym (put_is q.partition q.done (border_at q.borders.items k) _ _
+      λ k lt no_order. absurd (true≢false (sym (settled_is q.partition q.done (border_at q.borders.items k) _ _
           (handover_at q.handovers.items k) (all k lt) (f.held k lt)).1 ∙ no_order)),
     );
   }
 
-  pub marks_all : (q : Port T R P) → IsPort right b q → ((k : ℕ) → k < degree q → is_put (handover_at q.handovers.items k) ≡ true) → (e : ℕ)
-      → e < length b.channels.items → to_of b.channels.items e ≡ q.partition → contains q.seat.me.0.marks e ≡ true
+  pub marks_all : (q : Port T R P) → IsPort right b q → IsSettled right b q → (e : ℕ) → e < length b.channels.items
+      → to_of b.channels.items e ≡ q.partition → contains q.seat.me.0.marks e ≡ true
   marks_all q f all e lt is = let w = f.borders.all e lt is in ap (contains q.seat.me.0.marks) (sym w.2)
-      ∙ (put_is q.partition q.done (border_at q.borders.items w.0) _ _ (handover_at q.handovers.items w.0) (all w.0 w.1) (f.held w.0 w.1)).0
+      ∙ (settled_is q.partition q.done (border_at q.borders.items w.0) _ _ (handover_at q.handovers.items w.0) (all w.0 w.1) (f.held w.0 w.1)).0
 
   module _ (q p : Port T R P) (f : IsFilling right b q p) (ks : List ℕ) (k : ℕ) (last : p.order.items ≡ ks ++ k ∷ []) where
     pub in_order : contains p.order.items k ≡ true
@@ -135,7 +149,7 @@ module _ {T R P : Type 0} (right : R → ℕ → ℕ → ℕ → Option P → Ty
     pub in_borders : k < length q.borders.items
     in_borders = f.bounded k in_order
 
-    pub is_waiting : (y : Option P) × (handover_at p.handovers.items k ≡ Put y)
+    pub is_waiting : (y : Option P) × GoesOut y (handover_at p.handovers.items k)
         × right (run_of b) q.partition (border_at q.borders.items k).from q.done y
     is_waiting = f.waiting k in_borders in_order
 
@@ -145,7 +159,7 @@ module _ {T R P : Type 0} (right : R → ℕ → ℕ → ℕ → Option P → Ty
       f.carried.1 ∙ ap (λ z. all_slots_of q.borders.items q.done z f.carried.0) last ∙ blocks_last q.borders.items q.done ks k f.carried.0,
     )
 
-    pub fill_step : IsPort right b q → (y : Option P) → handover_at p.handovers.items k ≡ Put y → (p' : Port T R P)
+    pub fill_step : IsPort right b q → (y : Option P) → GoesOut y (handover_at p.handovers.items k) → (p' : Port T R P)
         → (p'.seat.table_id ≡ p.seat.table_id) × (p'.seat.id ≡ p.seat.id) × (p'.seat.me.0 ≡ p.seat.me.0)
         → ((c : List (ℕ × Option P)) → p.seat.me.1 ≡ slots_of (border_at q.borders.items k) q.done ++ c
         → p'.seat.me.1 ≡ c ++ filled_slots_of (border_at q.borders.items k) q.done y)
@@ -156,7 +170,7 @@ module _ {T R P : Type 0} (right : R → ℕ → ℕ → ℕ → Option P → Ty
     fill_step port y is p' seat load partition done names borders handovers order room =
         let border : Border = border_at q.borders.items k in let t : ℕ = q.done in let cs : List Channel = b.channels.items in
         let fr = fresh_popped ks k (subst AreApart last f.fresh) in let ok = port.borders.each k in_borders in
-        let w = is_waiting in let same : Put w.0 ≡ Put y = sym w.1 ∙ is in let val : w.0 ≡ y = cc in
+        let w = is_waiting in let val : w.0 ≡ y = goes_once (handover_at p.handovers.items k) w.0 y w.1 is in
         let fits : right (run_of b) q.partition border.from t y = subst (λ z. right (run_of b) q.partition border.from t z) val w.2 in
         let d : List (ℕ × Option P) = f.carried.0 in let l : List (ℕ × Option P) = filled_slots_of border t y in
         let old_has : (j : ℕ) → j ≢ k → contains p.order.items j ≡ contains ks j = λ j ne. ap (λ z. contains z j) last
@@ -175,8 +189,12 @@ module _ {T R P : Type 0} (right : R → ℕ → ℕ → ℕ → Option P → Ty
               (λ e. subst (λ z. z < length q.borders.items) (sym e) in_borders) (λ ne. f.bounded j (old_has j ne ∙ h'));
           waiting = λ j lt h. let h' = ap (λ z. contains z j) (sym order) ∙ h in
               let ne : j ≢ k = λ e. true≢false (sym h' ∙ ap (contains ks) e ∙ fr.1) in
-              let o = f.waiting j lt (old_has j ne ∙ h') in
-              (o.0, ap (λ z. handover_at z j) handovers ∙ get_or-set_other p.handovers.items k j Awaited Awaited ne ∙ o.1, o.2);
+              let o = f.waiting j lt (old_has j ne ∙ h') in (
+                o.0,
+                subst (λ h. GoesOut o.0 h)
+                    (sym (ap (λ z. handover_at z j) handovers ∙ get_or-set_other p.handovers.items k j Awaited Awaited ne)) o.1,
+                o.2,
+              );
           through = λ j lt h. let h' = ap (λ z. contains z j) (sym order) ∙ h in dite (ℕ_discrete j k)
               (λ e. ap (λ z. handover_at z j) handovers ∙ subst (λ z. get_or (set p.handovers.items k Awaited) z Awaited ≡ Awaited) (sym e)
               (get_or-set_same p.handovers.items k Awaited Awaited there))

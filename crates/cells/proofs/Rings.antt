@@ -11,7 +11,7 @@ use Rattle.cells.specs.Rings.{slot, AreChannels, mark, clear, AreRings}
 
 pub same_slot : (a s b r : ℕ) → slot a s ≡ slot b r → (a ≡ b) × (s % 64 ≡ r % 64)
 same_slot a s b r e = let x : s % 64 < 64 = mod-lt s (omega arith) in let y : r % 64 < 64 = mod-lt r (omega arith) in let i : ℕ = s % 64 in
-    let j : ℕ = r % 64 in let x' : i < 64 = x in let y' : j < 64 = y in let e' : 64 * a + i ≡ 64 * b + j = e in (omega arith, omega arith)
+    let j : ℕ = r % 64 in let x' : i < 64 = x in let y' : j < 64 = y in let e' : 65 * a + i ≡ 65 * b + j = e in (omega arith, omega arith)
 
 -- two seconds of one slot, the second less than 64 later, are one
 pub one_second : (s r : ℕ) → s ≤ r → r < s + 64 → s % 64 ≡ r % 64 → s ≡ r
@@ -114,11 +114,11 @@ module _ {S : Type 0} (right : ℕ → ℕ → ℕ → Option S → Type 0) (cou
 
   -- a parcel that lies in a slot is the right one, of a second that was sent and is not yet consumed
   pub lies : (W : ℕ → ℕ) (H : Slots) (m : ℕ → Bool) → Rings W H m → (e i : ℕ) (x : S) → e < n → i < 64
-      → H (64 * e + i) ≡ some (some (Some x))
+      → H (65 * e + i) ≡ some (some (Some x))
       → (s : ℕ) × (s % 64 ≡ i) × (s < W (from e)) × (W (to e) ≤ s + lag e) × right (from e) (to e) s (Some x)
   lies W H m r e i x in_n lt is =
       let sec = second_in (W (to e) - lag e) i lt in let s : ℕ = sec.0 in let a = sec.1 in let b = sec.2 in
-      let at : H (slot e s) ≡ some (some (Some x)) = ap (λ z. H (64 * e + z)) sec.3 ∙ is in
+      let at : H (slot e s) ≡ some (some (Some x)) = ap (λ z. H (65 * e + z)) sec.3 ∙ is in
       dite (dec_le (suc s) (W (from e)))
       (λ sent.
       let got : (m e ≡ true → W (to e) ≢ s + lag e) → (s : ℕ) × (s % 64 ≡ i) × (s < W (from e)) × (W (to e) ≤ s + lag e)
@@ -240,7 +240,7 @@ module _ {S : Type 0} (right : ℕ → ℕ → ℕ → Option S → Type 0) (cou
         let u = one_second (t - lag d) s (omega arith) (omega arith) (sym q.1) in omega arith)
         (not_out e s ne) in same ∙ o)
         (λ no. let late : lag e ≤ t = omega arith in let at : s ≡ 64 + (t - lag e) = omega arith in
-        let md : s % 64 ≡ (t - lag e) % 64 = ap (λ z. z % 64) at ∙ add-mod_left 64 (t - lag e) in ap (λ z. H' (64 * e + z)) md
+        let md : s % 64 ≡ (t - lag e) % 64 = ap (λ z. z % 64) at ∙ add-mod_left 64 (t - lag e) in ap (λ z. H' (65 * e + z)) md
         ∙ in_back e in_n is late)
 
     free_out : (e s : ℕ) → e < n → from e ≡ p → to e ≢ p → W' (from e) ≤ s → s < 64 + (W' (to e) - lag e) → H' (slot e s) ≡ some (some None)

@@ -34,8 +34,8 @@ module _ {R S : Type 0} (right : R → ℕ → ℕ → ℕ → Option S → Type
   K s = IsKeptBy right run count n from to lag twin s
 
   pub opens : AreChannels count n from to lag twin → (words : List ℕ) (xs : List (Option S)) → length words ≡ WORDS_APART * count
-      → ((p : ℕ) → slice_index words p ≡ 0) → length (map (λ (y : Option S). some y) xs) ≡ 64 * n
-      → ((k : ℕ) → k < 64 * n → get_elem? xs k ≡ some None) → K (opening words xs (hub_view run [] []))
+      → ((p : ℕ) → slice_index words p ≡ 0) → length (map (λ (y : Option S). some y) xs) ≡ 65 * n
+      → ((k : ℕ) → k < 65 * n → get_elem? xs k ≡ some None) → K (opening words xs (hub_view run [] []))
   opens g words xs many none_done wide empty = record {
     channels = g;
     many = many;

@@ -27,7 +27,7 @@ not_both Hub a b = true≢false (sym a)
 not_both Port a b = true≢false (sym b)
 not_both Spent a b = true≢false (sym a)
 
-pub slot_in : (e s n : ℕ) → e < n → slot e s < 64 * n
+pub slot_in : (e s n : ℕ) → e < n → slot e s < 65 * n
 slot_in e s n h = let r : ℕ = s % 64 in let b : r < 64 = mod-lt s (omega arith) in omega arith
 
 module _ {R S : Type 0} (right : R → ℕ → ℕ → ℕ → Option S → Type 0) (run : R) (count n : ℕ) (from to lag twin : ℕ → ℕ) where
@@ -41,7 +41,7 @@ module _ {R S : Type 0} (right : R → ℕ → ℕ → ℕ → Option S → Type
   moved : (s : St) (h : K s) (id : ℕ) (v w : View R) → get_elem? s.views id ≡ some v → is_port v.role ≡ true → w.run ≡ v.run
       → w.role ≡ v.role → w.partition ≡ v.partition
       → (words : List ℕ) (homes : List (maybe.Option (Option S))) (marked : ℕ → Bool) → length words ≡ WORDS_APART * count
-      → length homes ≡ 64 * n
+      → length homes ≡ 65 * n
       → word_at words v.partition ≡ w.done → ((q : ℕ) → q ≢ v.partition → word_at words q ≡ word_at s.words q)
       → AreRings (right run) n from to lag twin (λ q. word_at words q) (λ k. get_elem? homes k) marked
       → ((e : ℕ) → e < n → to e ≡ v.partition → marked e ≡ contains w.marks e)

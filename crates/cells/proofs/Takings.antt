@@ -7,7 +7,7 @@ use Rattle.cells.specs.declared.board.Port.{Port}
 use Rattle.cells.specs.declared.board.Handover.{Handover}
 use Rattle.cells.specs.declared.board.Handover.TheVariants.{Awaited, Arrived, Taken, Put}
 use Rattle.cells.specs.declared.table.Border.{Border}
-use Rattle.cells.specs.Ports.{border_at, handover_at, is_awaited, is_arrived, is_taken, is_put, taken_by, taken_count, handover, lag_from}
+use Rattle.cells.specs.Ports.{border_at, handover_at, is_awaited, is_arrived, is_taken, taken_by, taken_count, handover, lag_from}
 use Rattle.cells.specs.Ports.{degree, TakesNone, TakesOne}
 
 module _ {P : Type 0} where
@@ -28,12 +28,6 @@ module _ {P : Type 0} where
   taken-taken l t (Arrived x) is = absurd (true≢false (sym is))
   taken-taken l t Taken is = refl
   taken-taken l t (Put y) is = refl
-
-  pub taken-put : (l t : ℕ) (h : Handover P) → is_put h ≡ true → taken_by l t h ≡ t + 1 - l
-  taken-put l t Awaited is = absurd (true≢false (sym is))
-  taken-put l t (Arrived x) is = absurd (true≢false (sym is))
-  taken-put l t Taken is = refl
-  taken-put l t (Put y) is = refl
 
 module _ {T R P : Type 0} where
   -- the same neighbours and second, with these handovers
@@ -81,9 +75,9 @@ module _ {T R P : Type 0} where
 
   -- all was put, and now nothing is held
   pub takes_next : (old mid : Port T R P) → mid.borders.items ≡ old.borders.items → mid.done ≡ old.done
-      → ((k : ℕ) → k < degree old → is_put (handover old k) ≡ true) → ((k : ℕ) → k < degree old → handover mid k ≡ Awaited)
+      → ((k : ℕ) → k < degree old → is_taken (handover old k) ≡ true) → ((k : ℕ) → k < degree old → handover mid k ≡ Awaited)
       → (k : ℕ) → k < degree old → taken_by (lag_from mid k) (mid.done + 1) (handover mid k) ≡ taken_count old k
-  takes_next old mid borders done put away k lt =
+  takes_next old mid borders done taken away k lt =
       ap (taken_by (lag_from mid k) (mid.done + 1)) (away k lt) ∙ ap (λ (z : ℕ). z + 1 - lag_from mid k) done
       ∙ ap (λ (z : List Border). old.done + 1 - (border_at z k).lag) borders
-      ∙ sym (taken-put (lag_from old k) old.done (handover old k) (put k lt))
+      ∙ sym (taken-taken (lag_from old k) old.done (handover old k) (taken k lt))

@@ -1,15 +1,16 @@
 -- What a caller that goes over all neighbours knows.
 use Rattle.std.proofs.Common.{◌≡◌, ◌≢◌, ℕ, ◌<◌, ◌≤◌, ◌⊎◌, true, false, List, length, set, sym, ap, ◌∙◌, refl, subst, inl, inr, ⊎_elim}
-use Rattle.std.proofs.Common.{get_or-set_same, get_or-set_other, arith}
+use Rattle.std.proofs.Common.{get_or-set_same, get_or-set_other, arith, not, true≢false, Option}
 use mathlib.Core.Logic.{dite}
 use native.Mathlib.Decide.{ℕ_discrete, dec_le}
+use Rattle.cells.specs.declared.board.Board.{Board}
 use Rattle.cells.specs.declared.board.Port.{Port}
 use Rattle.cells.specs.declared.board.Handover.{Handover}
 use Rattle.cells.specs.declared.board.Handover.TheVariants.{Awaited, Arrived, Taken, Put}
 use Rattle.cells.specs.declared.board.Look.TheVariants.{Ready, NotYet}
 use Rattle.cells.specs.declared.table.Border.{Border}
-use Rattle.cells.specs.Ports.{border_at, handover_at, is_awaited, is_arrived, degree, handover, lag_from, SameSecond, Fetches, Answers}
-use Rattle.cells.specs.Ports.{IsUnreadOf, IsUnread, IsUntouched}
+use Rattle.cells.specs.Ports.{border_at, handover_at, is_awaited, is_arrived, is_taken, is_put, degree, handover, lag_from, SameSecond}
+use Rattle.cells.specs.Ports.{Fetches, Answers, IsUnreadOf, IsUnread, IsUntouched, IsSettled}
 use Rattle.cells.proofs.Rings.{by_bool}
 
 module _ {P : Type 0} where
@@ -24,6 +25,12 @@ module _ {P : Type 0} where
   full_here l t (Arrived x) le u = refl
   full_here l t Taken le u = absurd (let v : t < l = u in omega arith)
   full_here l t (Put y) le u = absurd u
+
+  put_taken : (h : Handover P) → is_put h ≡ true → is_taken h ≡ true
+  put_taken Awaited is = absurd (true≢false (sym is))
+  put_taken (Arrived x) is = absurd (true≢false (sym is))
+  put_taken Taken is = absurd (true≢false (sym is))
+  put_taken (Put y) is = refl
 
 module _ {T R P : Type 0} where
   pub moved_unread : (old new : Port T R P) (j : ℕ) → SameSecond old new → handover new j ≡ handover old j → IsUnread old j → IsUnread new j
@@ -66,6 +73,15 @@ module _ {T R P : Type 0} where
         here,
         (λ j un. dite (ℕ_discrete j k) (λ e. subst (λ z. IsUnread new z) (sym e) here) (λ ne. moved_unread old new j s (other j ne) un)),
       )
+
+  -- a neighbour that was ready is unread, as long as nothing is taken and nothing put
+  pub ready_still : (p : Port T R P) (k : ℕ) → IsUntouched p → k < degree p → true ≡ not (is_awaited (handover p k)) → IsUnread p k
+  ready_still p k u lk is = ⊎_elim (λ away. absurd (true≢false (is ∙ ap not away))) (λ un. un) (u k lk)
+
+  -- what was put for all is settled
+  pub put_settles : (right : R → ℕ → ℕ → ℕ → Option P → Type 0) (b : Board T R P) (p : Port T R P)
+      → ((k : ℕ) → k < degree p → is_put (handover p k) ≡ true) → IsSettled right b p
+  put_settles right b p all k lk = (put_taken (handover p k) (all k lk), λ not_put. absurd (true≢false (sym (all k lk) ∙ not_put)))
 
   -- a parcel that lies there can be taken; where there is none, it counts as taken
   pub unread_full : (p : Port T R P) (k : ℕ) → IsUnread p k → lag_from p k ≤ p.done → is_arrived (handover p k) ≡ true

@@ -5,7 +5,7 @@ use Rattle.std.specs.Prelude.{sum_by, Option, Some, None, slice_index_or, slice_
 use mathlib.Core.Option.{some, none}
 use lib.ListN.{get_elem?}
 use Rattle.atomic_table.specs.Table.{State}
-use Rattle.cells.specs.declared.TheConstants.{SLOTS}
+use Rattle.cells.specs.declared.TheConstants.{SLOTS, SLOTS_APART}
 use Rattle.cells.specs.declared.board.Board.{Board}
 use Rattle.cells.specs.declared.board.Hub.{Hub}
 use Rattle.cells.specs.declared.board.Port.{Port}
@@ -84,6 +84,13 @@ module _ {P : Type 0} where
   is_put Taken = false
   is_put (Put y) = true
 
+  -- what goes out to the neighbour as the second ends: what was put for it, or nothing
+  abbrev pub GoesOut : Option P → Handover P → Type 0
+  GoesOut y Awaited = ⊥
+  GoesOut y (Arrived x) = ⊥
+  GoesOut y Taken = y ≡ None
+  GoesOut y (Put z) = z ≡ y
+
   -- one where the neighbour was ready in this second
   abbrev pub ready_in : Handover P → ℕ
   ready_in Awaited = 0
@@ -158,7 +165,7 @@ module _ {T R P : Type 0} where
         → word_at s.words (to_of (channels_in b) e) ≤ word_at s.words (from_of (channels_in b) e) + lag_of (channels_in b) e
     -- a parcel that lies in a slot is the right one of a second that its sender has done and its receiver is still to absorb
     pub lies : (s : State (Option P) (View R)) → IsKept right b.table.shared.key s → (e i : ℕ) (x : P) → e < length (channels_in b)
-        → i < SLOTS → get_elem? s.homes (SLOTS * e + i) ≡ some (some (Some x))
+        → i < SLOTS → get_elem? s.homes (SLOTS_APART * e + i) ≡ some (some (Some x))
         → (t : ℕ) × (t % SLOTS ≡ i) × (t < word_at s.words (from_of (channels_in b) e))
         × (word_at s.words (to_of (channels_in b) e) ≤ t + lag_of (channels_in b) e)
         × right (run_of b) (from_of (channels_in b) e) (to_of (channels_in b) e) t (Some x)
@@ -296,6 +303,11 @@ module _ {T R P : Type 0} where
   Answers old new k (NotYet n) = (n ≡ read_word new) × (read_word new + lag_from old k ≤ done_of old)
       × (is_awaited (handover old k) ≡ true) × (waits new ≡ waits old + 1) × (handovers_of new ≡ handovers_of old)
 
+  -- of each neighbour was taken what it sent, and where nothing was put for it, it is right that none is sent to it
+  abbrev pub IsSettled : (R → ℕ → ℕ → ℕ → Option P → Type 0) → Board T R P → Port T R P → Type 0
+  IsSettled right b p = (k : ℕ) → k < degree p → (is_taken (handover p k) ≡ true)
+      × (is_put (handover p k) ≡ false → right (run_of b) (partition_of p) (neighbour p k) (done_of p) None)
+
   -- neighbour k was ready, and its parcel, if there is one for this second, was not taken yet
   abbrev pub IsUnread : Port T R P → ℕ → Type 0
   IsUnread p k = IsUnreadOf (lag_from p k) p.done (handover p k)
@@ -325,7 +337,8 @@ module _ {T R P : Type 0} where
     pub fresh : AreApart p.order.items
     pub bounded : (k : ℕ) → contains p.order.items k ≡ true → k < length q.borders.items
     pub waiting : (k : ℕ) → k < length q.borders.items → contains p.order.items k ≡ true
-        → (y : Option P) × (handover_at p.handovers.items k ≡ Put y) × right (run_of b) q.partition (border_at q.borders.items k).from q.done y
+        → (y : Option P) × GoesOut y (handover_at p.handovers.items k)
+        × right (run_of b) q.partition (border_at q.borders.items k).from q.done y
     pub through : (k : ℕ) → k < length q.borders.items → contains p.order.items k ≡ false → handover_at p.handovers.items k ≡ Awaited
     pub carried : (d : List (ℕ × Option P)) × (p.seat.me.1 ≡ all_slots_of q.borders.items q.done p.order.items d)
         × PortCarriesSecond right b q d

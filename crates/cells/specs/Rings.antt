@@ -4,12 +4,12 @@
 use Rattle.std.specs.Prelude.{◌≡◌, ◌≢◌, ℕ, ◌+◌, ◌-◌, ◌*◌, ◌%◌, ◌<◌, ◌≤◌, Bool, true, false, cond, ◌||◌, eqb, Option, None}
 use mathlib.Core.Option.{some, none}
 use mathlib.Core.Option as maybe
-use Rattle.cells.specs.declared.TheConstants.{SLOTS}
+use Rattle.cells.specs.declared.TheConstants.{SLOTS, SLOTS_APART}
 use Rattle.limits.specs.declared.TheConstants.{MAX_LAG}
 
 -- the slot of a channel for the parcel of a second
 abbrev pub slot : ℕ → ℕ → ℕ
-slot e s = SLOTS * e + s % SLOTS
+slot e s = SLOTS_APART * e + s % SLOTS
 
 -- n channels among the partitions below `count`: each goes from one partition to another, with a lag, and has a twin that goes back
 pub record AreChannels (count n : ℕ) (from to lag twin : ℕ → ℕ) : Type 0 where

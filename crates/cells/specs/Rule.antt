@@ -4,7 +4,7 @@ use Rattle.std.specs.Prelude.{slice_index, slice_index_or}
 use mathlib.Core.Option.{some}
 use lib.ListN.{get_elem?}
 use Rattle.atomic_table.specs.Table.{State, Me}
-use Rattle.cells.specs.declared.TheConstants.{SLOTS, WORDS_APART}
+use Rattle.cells.specs.declared.TheConstants.{SLOTS_APART, WORDS_APART}
 use Rattle.cells.specs.declared.table.View.{View}
 use Rattle.cells.specs.declared.table.Layout.{Layout}
 use Rattle.cells.specs.declared.table.Channel.{Channel}
@@ -152,7 +152,7 @@ module _ {R S : Type 0} (right : R → ℕ → ℕ → ℕ → Option S → Type
   pub record IsKeptBy (s : State (Option S) (View R)) : Type 0 where
     pub channels : AreChannels count n from to lag twin
     pub many : length s.words ≡ WORDS_APART * count
-    pub wide : length s.homes ≡ SLOTS * n
+    pub wide : length s.homes ≡ SLOTS_APART * n
     pub who : ℕ → ℕ
     pub marked : ℕ → Bool
     pub rings : AreRings (right run) n from to lag twin (λ p. word_at s.words p) (λ k. get_elem? s.homes k) marked

@@ -1,7 +1,7 @@
 // A board, its hub and its ports.
-ghost use Rattle.std.specs.Prelude.{◌≡◌, ℕ, ◌*◌, ◌≤◌, length};
+ghost use Rattle.std.specs.Prelude.{◌≡◌, ◌*◌, ◌≤◌, length};
 ghost use Rattle.cells.specs.Rule.{AreChannelsOf, AreSingle};
-ghost use Rattle.cells.specs.declared.TheConstants.{SLOTS, WORDS_APART};
+ghost use Rattle.cells.specs.declared.TheConstants.{SLOTS_APART, WORDS_APART};
 
 use crate::table::{Border, Channel, Exchange, Layout, Rule, View};
 use atomic_table::{Seat, Table};
@@ -17,7 +17,7 @@ pub struct Board<T: Exchange> {
     ghost channels_are: { table.shared.key.channels.value.items ≡ channels.items },
     ghost count_is: { table.shared.key.count ≡ count },
     ghost words_are: { table.shared.table_id.words ≡ WORDS_APART * count },
-    ghost slots_are: { table.shared.table_id.slots ≡ SLOTS * length channels.items },
+    ghost slots_are: { table.shared.table_id.slots ≡ SLOTS_APART * length channels.items },
     ghost sound: { AreChannelsOf count channels.items },
     ghost few: { length channels.items ≤ 8192 },
     ghost single: { AreSingle channels.items },
@@ -61,6 +61,7 @@ pub struct Port<T: Exchange> {
     pub(crate) neighbours: Vec<u32>,
     pub(crate) borders: Vec<Border>,
     pub(crate) handovers: Vec<Handover<T::Parcel>>,
-    // The places of the neighbours that were ready, in the order in which they were first seen so. It has room for all.
+    // The places of the neighbours that were ready, in the order in which they were first seen so. It has room for all, and
+    // for two cache lines more: so no other thread reads what lies behind it from a line that this one writes.
     pub(crate) order: Vec<usize>,
 }

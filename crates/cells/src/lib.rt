@@ -27,6 +27,10 @@ pub use table::Exchange;
 /// The slots of each ordered pair of neighbours: as many as two of the longest lags, so that no two parcels on their way share one.
 pub const SLOTS: u32 = 2 * MAX_LAG;
 
+/// The distance between the first slots of two pairs: one more than the slots, since the slots of one second of many pairs would else lie
+/// in the same few sets of a cache.
+pub(crate) const SLOTS_APART: u32 = SLOTS + 1;
+
 /// The distance between the words of two partitions, in words of 8 bytes: a cache line of 64 bytes, so that a thread that publishes does
 /// not take from others a line that they read another partition's word from.
 pub(crate) const WORDS_APART: usize = 8;

@@ -6,7 +6,7 @@ ghost use Rattle.cells.specs.Ports.{IsHub, IsLawful, FollowsPairs, run_of, had_p
 
 use crate::board::{Board, Hub};
 use crate::table::{Channel, Exchange, Layout};
-use crate::{SLOTS, WORDS_APART};
+use crate::{SLOTS_APART, WORDS_APART};
 use atomic_table::Table;
 use std::alloc::{AllocError, Global};
 use std::snapshot::Snapshot;
@@ -64,7 +64,7 @@ impl<T: Exchange> Board<T> {
             count,
             channels: Snapshot::of(&channels),
         };
-        let slots = SLOTS as usize * channels.len();
+        let slots = SLOTS_APART as usize * channels.len();
         let (table, seat) = Table::vacant(alloc, words.as_slice(), slots, &layout)?;
         Ok((
             Board {

@@ -1,7 +1,7 @@
 // How a port publishes a second.
 ghost use Rattle.std.specs.Prelude.{◌≡◌, ℕ, ◌+◌, ◌<◌, true, []};
-ghost use Rattle.cells.specs.Ports.{IsPort, IsFilling, is_put, is_awaited, handover, degree, waits, still, partition_of, done_of};
-ghost use Rattle.cells.specs.Ports.{neighbours_of, borders_of, TakesNone};
+ghost use Rattle.cells.specs.Ports.{IsPort, IsFilling, IsSettled, GoesOut, is_taken, is_awaited, handover, degree, waits, still};
+ghost use Rattle.cells.specs.Ports.{partition_of, done_of, neighbours_of, borders_of, TakesNone};
 
 use crate::WORDS_APART;
 use crate::board::{Board, Handover, Port};
@@ -9,12 +9,14 @@ use crate::slots::load_out;
 use crate::table::{Exchange, Publishing};
 use std::mem::replace;
 
+/// What goes out: what was put, or nothing.
 fn take_put<P: Drop>(handover: &mut Handover<P>) -> Option<P>
-    requires { is_put handover.old ≡ true }
-    ensures { (handover.old ≡ Handover.Put result) × (handover.new ≡ Handover.Awaited) }
+    requires { is_taken handover.old ≡ true }
+    ensures { GoesOut result handover.old × (handover.new ≡ Handover.Awaited) }
 {
     match replace(handover, Handover::Awaited) {
         Handover::Put(parcel) => parcel,
+        Handover::Taken => None,
         _ => unreachable!(),
     }
 }
@@ -23,7 +25,7 @@ impl<T: Exchange> Port<T> {
     /// Puts the parcels into the out-slots.
     fn fill(&mut self, board: &Board<T>)
         requires port { IsPort T.right board.now self.old }
-        requires all { (k : ℕ) → k < degree self.old → is_put (handover self.old k) ≡ true }
+        requires all { IsSettled T.right board.now self.old }
         ensures filled { IsFilling T.right board.now self.old self.new }
         ensures empty { self.new.order.items ≡ [] }
     {
@@ -35,11 +37,12 @@ impl<T: Exchange> Port<T> {
         }
     }
 
-    /// Ends the second that this port is about to do, for which a parcel or that there is none was put for every neighbour. Once the
-    /// parcels stand in their slots, one atomic store tells all threads that this partition has done `done() + 1` seconds.
+    /// Ends the second that this port is about to do, for which what each neighbour sent was taken. A neighbour for which nothing was put
+    /// is sent no parcel, which has to be right. Once the parcels stand in their slots, one atomic store tells all threads that this
+    /// partition has done `done() + 1` seconds.
     pub fn publish(&mut self, board: &Board<T>)
         requires port { IsPort T.right board.now self.old }
-        requires all { (k : ℕ) → k < degree self.old → is_put (handover self.old k) ≡ true }
+        requires all { IsSettled T.right board.now self.old }
         requires last { done_of self.old < u32.MAX }
         ensures port { IsPort T.right board.now self.new }
         ensures done { done_of self.new ≡ done_of self.old + 1 }

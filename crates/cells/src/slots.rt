@@ -3,16 +3,16 @@ ghost use Rattle.std.specs.Prelude.{◌≡◌, ℕ, ◌-◌, ◌<◌, ◌≤◌,
 ghost use Rattle.cells.specs.Ports.{slots_of, filled_slots_of};
 ghost use Rattle.cells.specs.Rings.{slot};
 
-use crate::SLOTS;
 use crate::board::{Board, Handover};
 use crate::table::{Border, Exchange, View};
+use crate::{SLOTS, SLOTS_APART};
 use atomic_table::Seat;
 
 /// The slot of a channel for the parcel of a second.
 fn slot_of(channel: u32, second: u32) -> usize
     ensures { result ≡ slot channel second }
 {
-    SLOTS as usize * channel as usize + (second % SLOTS) as usize
+    SLOTS_APART as usize * channel as usize + (second % SLOTS) as usize
 }
 
 /// Takes what lies in the in-slot that a look picked up, if it did. A slot with no parcel in it is read alone: it is not written, so that

@@ -1,6 +1,6 @@
 // What a port is asked, what is taken from it and what is put into it.
-ghost use Rattle.std.specs.Prelude.{◌≡◌, ◌-◌, ◌<◌, ◌≤◌, true, slice_set};
-ghost use Rattle.cells.specs.Ports.{IsPort, SameSecond, is_arrived, is_taken, handover, handovers_of, degree, waits, neighbour};
+ghost use Rattle.std.specs.Prelude.{◌≡◌, ◌-◌, ◌<◌, ◌≤◌, true, not, slice_set};
+ghost use Rattle.cells.specs.Ports.{IsPort, SameSecond, is_awaited, is_arrived, is_taken, handover, handovers_of, degree, waits, neighbour};
 ghost use Rattle.cells.specs.Ports.{neighbours_of, lag_from, run_of};
 ghost use Rattle.cells.specs.Ports.{partition_of, done_of, taken_count, TakesNone, TakesOne};
 
@@ -15,6 +15,16 @@ fn take_arrived<P: Drop>(handover: &mut Handover<P>) -> Option<P>
     match replace(handover, Handover::Taken) {
         Handover::Arrived(parcel) => parcel,
         _ => unreachable!(),
+    }
+}
+
+/// Whether the neighbour was ready.
+fn was_ready<P>(handover: &Handover<P>) -> bool
+    ensures { result ≡ not (is_awaited handover.now) }
+{
+    match handover {
+        Handover::Awaited => false,
+        _ => true,
     }
 }
 
@@ -46,6 +56,16 @@ impl<T: Exchange> Port<T> {
         ensures { result ≡ lag_from self.now k }
     {
         self.borders[k].lag
+    }
+
+    /// Whether neighbour `k` was ready in this second. It stays so until this port publishes.
+    pub fn is_ready(&self, k: usize) -> bool
+        ensures { result ≡ not (is_awaited (handover self.now k)) }
+    {
+        match self.handovers.get(k) {
+            None => false,
+            Some(handover) => was_ready(handover),
+        }
     }
 
     /// The parcel that neighbour `k` sent to this partition in second `done() - lag`, or `None` where it sent none in it. In this second

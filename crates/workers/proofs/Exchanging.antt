@@ -1,7 +1,7 @@
 -- How parcels go from a port to its partition, and back.
 use Rattle.std.proofs.Common.{◌≡◌, ◌≢◌, ℕ, ◌+◌, ◌-◌, ◌<◌, ◌≤◌, Bool, true, List, length, set, length-set, sym}
 use Rattle.std.proofs.Common.{ap, ◌∙◌, refl, subst, arith}
-use Rattle.std.specs.Prelude.{Option, None, unwrap_or}
+use Rattle.std.specs.Prelude.{Option, unwrap_or}
 use mathlib.Core.Logic.{dite}
 use native.Mathlib.Decide.{ℕ_discrete}
 use Rattle.cells.specs.declared.board.Board.{Board}
@@ -187,8 +187,3 @@ module _ {T R P : Type 0} (nothing : P) (see : T → PartView P) (stands : R →
         seconds = seconds ∙ i.seconds;
         stays = λ run h. stays run (i.stays run h);
       }
-
--- where nothing is to go, that nothing goes to a neighbour is right
-pub silent : {R P : Type 0} (nothing : P) (right : R → ℕ → ℕ → ℕ → P → Type 0) (run : R) (p q t k : ℕ) (outbox : List P)
-    → right run p q t (in_place nothing outbox k) → in_place nothing outbox k ≡ nothing → right_or_none nothing right run p q t None
-silent nothing right run p q t k outbox sent none = subst (λ v. right run p q t v) none sent

@@ -3,8 +3,9 @@
 ghost use Rattle.std.specs.Prelude.{◌≡◌, ◌≢◌, ℕ, ◌+◌, ◌<◌, ◌≤◌, true, false};
 ghost use Rattle.std.specs.Prelude.{length, set, slice_set, unwrap_or, OnOk, OnErr};
 ghost use Rattle.cells.specs.declared.board.Handover.TheVariants.{Taken};
-ghost use Rattle.cells.specs.Ports.{IsPort, SameSecond, IsUntouched, IsUnread, degree, neighbour, handover, handovers_of};
-ghost use Rattle.cells.specs.Ports.{is_arrived, is_taken, is_put, run_of, waits, partition_of, done_of};
+ghost use Rattle.cells.specs.Ports.{IsPort, SameSecond, IsUntouched, IsUnread, IsSettled, degree, neighbour, handover};
+ghost use Rattle.cells.specs.Ports.{handovers_of};
+ghost use Rattle.cells.specs.Ports.{is_arrived, is_taken, run_of, waits, partition_of, done_of};
 ghost use Rattle.step_core.specs.Views.{AreEmpty, IsHeard, Stays, in_place};
 ghost use Rattle.workers.specs.Members.{IsBoardOfRun, IsMember, Rests, Goes, Turned, border_of};
 ghost use Rattle.workers.specs.Members.{number_of, seconds_of, is_stopped, waits_of, still_of};
@@ -15,6 +16,28 @@ use cells::{Board, Exchange, Look, Port};
 use edge_files::Gate;
 use std::alloc::AllocError;
 use step_core::Part;
+
+/// Looks at neighbour `k`, unless it was ready already, and answers whether it is far enough for the second that this port is about to do.
+#[tactic(auto, using(cells::proofs::Uses::ready_still))]
+fn look_at<T: Exchange>(board: &Board<T>, port: &mut Port<T>, k: usize) -> bool
+    requires port { IsPort T.right board.now port.old }
+    requires neighbour { k < degree port.old }
+    requires untouched { IsUntouched port.old }
+    ensures port { IsPort T.right board.now port.new }
+    ensures untouched { IsUntouched port.new }
+    ensures same { SameSecond port.old port.new }
+    ensures ready { result ≡ true → (waits port.new ≡ waits port.old) × IsUnread port.new k
+        × ((j : ℕ) → IsUnread port.old j → IsUnread port.new j) }
+    ensures waits { result ≡ false → waits port.new ≡ waits port.old + 1 }
+{
+    if port.is_ready(k) {
+        return true;
+    }
+    match port.look(board, k) {
+        Look::Ready => true,
+        Look::NotYet { published: _ } => false,
+    }
+}
 
 /// Looks at the neighbours, and answers whether all are far enough for the second that this port is about to do.
 fn look_all<T: Exchange>(board: &Board<T>, port: &mut Port<T>) -> bool
@@ -27,9 +50,8 @@ fn look_all<T: Exchange>(board: &Board<T>, port: &mut Port<T>) -> bool
     ensures waits { result ≡ false → waits port.new ≡ waits port.old + 1 }
 {
     for k in 0..port.neighbours().len() {
-        match port.look(board, k) {
-            Look::Ready => {}
-            Look::NotYet { published: _ } => return false,
+        if !look_at(board, port, k) {
+            return false;
         }
     }
     true
@@ -112,22 +134,7 @@ fn take_out<T: Part>(part: &mut T, k: usize) -> Option<T::Parcel>
     }
 }
 
-/// The port gets for each neighbour that nothing goes to it.
-fn put_none<T: Exchange>(board: &Board<T>, port: &mut Port<T>)
-    requires port { IsPort T.right board.now port.old }
-    requires taken { (k : ℕ) → k < degree port.old → is_taken (handover port.old k) ≡ true }
-    requires right { (k : ℕ) → k < degree port.old
-        → T.right (run_of board.now) (partition_of port.old) (neighbour port.old k) (done_of port.old) None }
-    ensures port { IsPort T.right board.now port.new }
-    ensures same { SameSecond port.old port.new × (waits port.new ≡ waits port.old) }
-    ensures put { (k : ℕ) → k < degree port.new → is_put (handover port.new k) ≡ true }
-{
-    for k in 0..port.neighbours().len() {
-        port.put(board, k, None);
-    }
-}
-
-/// The port gets for each neighbour what the partition sends it. A partition that sends nothing at all is not asked for each.
+/// The port gets for each neighbour what the partition sends it. Where the partition sends nothing at all, nothing is put.
 fn put_all<T: Part>(board: &Board<ParcelsOf<T>>, part: &mut T, port: &mut Port<ParcelsOf<T>>)
 where
     T::Parcel: Send,
@@ -138,7 +145,7 @@ where
     requires places { length (T.see part.old).outbox ≡ degree port.old }
     ensures port { IsPort (right_or_none T.nothing T.right) board.now port.new }
     ensures same { SameSecond port.old port.new × (waits port.new ≡ waits port.old) }
-    ensures put { (k : ℕ) → k < degree port.new → is_put (handover port.new k) ≡ true }
+    ensures settled { IsSettled (right_or_none T.nothing T.right) board.now port.new }
     ensures gone { AreEmpty T.nothing (degree port.old) (T.see part.new).outbox }
     ensures inbox { (T.see part.new).inbox ≡ (T.see part.old).inbox }
     ensures number { (T.see part.new).number ≡ (T.see part.old).number }
@@ -146,7 +153,6 @@ where
     ensures stands { Stays T.stands part.old part.new }
 {
     if !part.sends() {
-        put_none(board, port);
         return;
     }
     for k in 0..port.neighbours().len() {

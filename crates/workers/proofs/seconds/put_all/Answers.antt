@@ -1,12 +1,6 @@
 use Rattle.std.proofs.Common.{arith, ap, length}
-use Rattle.cells.specs.Ports.{run_of, partition_of, done_of, neighbour}
-use Rattle.workers.proofs.Exchanging.{silent, may_give, gave}
+use Rattle.workers.proofs.Exchanging.{may_give, gave}
 use Rattle.workers.proofs.seconds.put_all.Goals as goal
-
-pub put_none-requires-clause-right : goal.put_none-requires-clause-right
-put_none-requires-clause-right g c κs within = λ k lt. let q = c.args.port.now in
-    silent g.T.Part.nothing g.T.Part.right (run_of c.args.board.now) (partition_of q) (neighbour q k) (done_of q) k
-    (g.T.Part.see c.args.part.now).outbox (c.requires.sent k lt) (c.sends.ensures c.if-not-sends.true k)
 
 pub put-requires-clause-right : goal.put-requires-clause-right
 put-requires-clause-right g c κs within = let n = ap length c.neighbours-k-end.ensures in let lt = c.loop-k-test.true in

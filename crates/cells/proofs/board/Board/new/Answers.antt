@@ -30,7 +30,7 @@ vacant-requires g c =
     let n = c.len.ensures in let v : length c.in_ok-channels.channels.items ≡ vec_len c.in_ok-channels.channels = search rules in
     let e = ap (λ (z : List Channel). length z) c.in_ok-channels.ensures in
     starts_with g.T.Exchange.right record { run = c.of.result; count = c.args.count; channels = c.of-2.result } c.args.count
-    (channels_of c.args.pairs.now) c.as_slice.result.now (64 * c.len.result)
+    (channels_of c.args.pairs.now) c.as_slice.result.now (65 * c.len.result)
     refl (channels_are g c) (are_channels c.args.count c.args.pairs.now c.requires.pairs) (ap length words
     ∙ length-replicate (WORDS_APART * c.args.count) 0) (λ p. ap (λ z. slice_index z p) words ∙ zeros_at (WORDS_APART * c.args.count) p)
     (omega arith)
@@ -46,7 +46,7 @@ invariant_of-result g c =
       channels_are = ap (λ k. k.channels.value.items) t.5 ∙ ap (λ (z : Vec Channel Global). z.items) c.of-2.ensures;
       count_is = ap (λ k. k.count) t.5;
       words_are = t.0 ∙ ap length words ∙ length-replicate (WORDS_APART * c.args.count) 0;
-      slots_are = t.1 ∙ (let q : 64 * c.len.result ≡ 64 * length c.in_ok-channels.channels.items = omega arith in q);
+      slots_are = t.1 ∙ (let q : 65 * c.len.result ≡ 65 * length c.in_ok-channels.channels.items = omega arith in q);
       sound = subst (λ z. AreChannelsOf c.args.count z) (sym cs) (are_channels c.args.count c.args.pairs.now c.requires.pairs);
       few = (let e = ap (λ (z : List Channel). length z) cs in omega arith);
       single = subst AreSingle (sym cs) (are_single c.args.count c.args.pairs.now c.requires.pairs);

@@ -1,10 +1,10 @@
-use Rattle.std.proofs.Common.{rules, arith, ◌≡◌, length, ◌++◌, sym, ap, ap₂, ◌∙◌, refl, Vec, Global, vec_len, get_or, set}
+use Rattle.std.proofs.Common.{rules, arith, ◌≡◌, length, ◌++◌, sym, ap, ap₂, ◌∙◌, refl, subst, Vec, Global, vec_len, get_or, set}
 use Rattle.std.proofs.lemmas.List.{get_or_default}
 use Rattle.cells.specs.declared.board.Handover.TheVariants.{Awaited}
 use Rattle.cells.specs.declared.table.Border.{Border}
 use Rattle.cells.specs.Rule.{no_border}
-use Rattle.cells.specs.Ports.{is_put, border_at, slots_of, filled_slots_of}
-use Rattle.cells.proofs.Fillings.{starts, in_borders, is_waiting, ahead, fill_step}
+use Rattle.cells.specs.Ports.{is_taken, GoesOut, border_at, slots_of, filled_slots_of}
+use Rattle.cells.proofs.Fillings.{starts, in_borders, is_waiting, ahead, fill_step, goes_taken}
 use Rattle.cells.proofs.board.Port.fill.Goals as goal
 
 pub loop-k-init : goal.loop-k-init
@@ -26,7 +26,8 @@ pub take_put-parcel-requires : goal.take_put-parcel-requires
 take_put-parcel-requires g c = let f = c.loop-k.invariant in let b = c.args.board.now in let i = c.in-Some.ensures.items in
     let lt = in_borders g.T.Exchange.right b c.args.self.now c.loop-k.self f c.pop.new.self.items c.in-Some.k i in let r = f.long in
     let w = is_waiting g.T.Exchange.right b c.args.self.now c.loop-k.self f c.pop.new.self.items c.in-Some.k i in
-    ap is_put (c.index_mut.ensures.value ∙ get_or_default c.loop-k.self.handovers.items c.in-Some.k _ Awaited (omega arith) ∙ w.1)
+    ap is_taken (c.index_mut.ensures.value ∙ get_or_default c.loop-k.self.handovers.items c.in-Some.k _ Awaited (omega arith))
+    ∙ goes_taken g.T.Exchange.right b _ w.0 w.1
 
 pub load_out-requires-clause-there : goal.load_out-requires-clause-there
 load_out-requires-clause-there g c = let f = c.loop-k.invariant in let b = c.args.board.now in let i = c.in-Some.ensures.items in
@@ -47,8 +48,9 @@ loop-k-preserved g c = let f = c.loop-k.invariant in let b = c.args.board.now in
     ∙ ap (λ z. get_or z c.in-Some.k c.index-border.result.now) rs ∙ get_or_default q.borders.items c.in-Some.k _ no_border lt in
     let y = c.take_put-parcel.result in
     fill_step g.T.Exchange.right b q p f c.pop.new.self.items c.in-Some.k i c.requires.port y
-    (get_or_default p.handovers.items c.in-Some.k Awaited _ (omega arith) ∙ sym c.index_mut.ensures.value
-    ∙ c.take_put-parcel.ensures.0) _ c.load_out.ensures.same
+    (subst (λ h. GoesOut y h)
+    (sym (get_or_default p.handovers.items c.in-Some.k Awaited _ (omega arith) ∙ sym c.index_mut.ensures.value))
+    c.take_put-parcel.ensures.0) _ c.load_out.ensures.same
     (λ d e. c.load_out.ensures.loaded d (e ∙ ap₂ (λ r t. slots_of r t ++ d) (sym border) (sym f.done))
     ∙ ap₂ (λ r t. d ++ filled_slots_of r t y) border f.done)
     refl refl refl refl (ap (λ h. set p.handovers.items c.in-Some.k h) c.take_put-parcel.ensures.1) refl c.pop.ensures.capacity

@@ -38,5 +38,5 @@ returns-clause-port g c =
 
 pub returns-clause-taken : goal.returns-clause-taken
 returns-clause-taken g c k lt = let l = c.fill.ensures.filled in
-    takes_next c.args.self.now c.fill.new.self (ap (λ (z : Vec Border Global). z.items) l.borders) l.done c.requires.all
+    takes_next c.args.self.now c.fill.new.self (ap (λ (z : Vec Border Global). z.items) l.borders) l.done (λ j lj. (c.requires.all j lj).0)
     (λ j lj. l.through j lj (ap (λ z. contains z j) c.fill.ensures.empty)) k lt

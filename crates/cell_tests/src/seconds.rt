@@ -5,10 +5,10 @@ ghost use Rattle.cells.specs.Ports.{
   SameSecond,
   IsUntouched,
   IsUnread,
+  IsSettled,
   degree,
   handover,
   is_taken,
-  is_put,
   done_of,
 };
 ghost use Rattle.cell_tests.specs.Numbers.{IsMessage, IsNumber};
@@ -119,24 +119,27 @@ fn take_all(board: &Board<Numbers>, port: &mut Port<Numbers>, tally: &mut Tally)
     }
 }
 
-/// Puts a parcel, or that there is none, for each neighbour.
+/// Puts a parcel for each neighbour, if there is one in this second.
+#[tactic(auto, using(cells::proofs::Uses::put_settles))]
 fn put_all(board: &Board<Numbers>, port: &mut Port<Numbers>)
     requires port { IsPort IsNumber board.now port.old }
     requires board { IsTestBoard board.now }
     requires taken { (k : ℕ) → k < degree port.old → is_taken (handover port.old k) ≡ true }
     ensures port { IsPort IsNumber board.now port.new }
     ensures same { SameSecond port.old port.new }
-    ensures put { (k : ℕ) → k < degree port.new → is_put (handover port.new k) ≡ true }
+    ensures settled { IsSettled IsNumber board.now port.new }
 {
     let p = port.partition();
     let t = port.done();
+    let Some(number) = message(5, p, t) else {
+        return;
+    };
     for k in 0..port.neighbours().len() {
-        port.put(board, k, message(5, p, t));
+        port.put(board, k, Some(number));
     }
 }
 
 /// Does the next second of a member where all its neighbours are ready, and answers whether it did. It does no more than 4,000,000,000.
-#[tactic(auto, using(cells::proofs::Uses::put_settles))]
 pub(crate) fn second(board: &Board<Numbers>, member: &mut Member) -> bool
     requires board { IsTestBoard board.now }
     requires member { IsMember board.now member.old }

@@ -73,7 +73,7 @@ module _ {T R P : Type 0} where
         ),
       )
 
-  -- all was put, and now nothing is held
+  -- what all sent was taken, and now nothing is held
   pub takes_next : (old mid : Port T R P) → mid.borders.items ≡ old.borders.items → mid.done ≡ old.done
       → ((k : ℕ) → k < degree old → is_taken (handover old k) ≡ true) → ((k : ℕ) → k < degree old → handover mid k ≡ Awaited)
       → (k : ℕ) → k < degree old → taken_by (lag_from mid k) (mid.done + 1) (handover mid k) ≡ taken_count old k

@@ -1,4 +1,5 @@
 -- The words and the slots of a board, as functions. Each ordered pair of neighbours has a channel, and each channel a ring of 64 slots.
+-- The rings lie 65 slots apart (SLOTS_APART); the slot behind each ring is never used.
 -- W is the word of a partition (the seconds that it has done), H what lies in a slot (none where it is out with a seat), and m says of a
 -- channel whether its receiver has marked its sender as ready in the second that it is about to do.
 use Rattle.std.specs.Prelude.{◌≡◌, ◌≢◌, ℕ, ◌+◌, ◌-◌, ◌*◌, ◌%◌, ◌<◌, ◌≤◌, Bool, true, false, cond, ◌||◌, eqb, Option, None}

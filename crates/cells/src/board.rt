@@ -36,7 +36,7 @@ pub enum Handover<P> {
     Awaited,
     /// It was ready, and the parcel from it lies in the port, or it sent none.
     Arrived(Option<P>),
-    /// What it sent was taken, or this second is before all that it sends.
+    /// What it sent was taken, or this second is before all that it sends. Unless something is put, nothing is sent to it.
     Taken,
     /// The parcel for it, or that none is sent to it, lies in the port until the second is published.
     Put(Option<P>),
@@ -62,6 +62,6 @@ pub struct Port<T: Exchange> {
     pub(crate) borders: Vec<Border>,
     pub(crate) handovers: Vec<Handover<T::Parcel>>,
     // The places of the neighbours that were ready, in the order in which they were first seen so. It has room for all, and
-    // for two cache lines more: so no other thread reads what lies behind it from a line that this one writes.
+    // `ROOM_BEHIND` more.
     pub(crate) order: Vec<usize>,
 }

@@ -5,7 +5,7 @@ ghost use Rattle.cells.specs.Ports.{IsHub, IsPort, had_port, joined, count_of, p
 ghost use Rattle.cells.specs.Ports.{is_awaited};
 ghost use Rattle.cells.specs.Ports.{looks, waits, still, taken_count};
 
-use crate::WORDS_APART;
+use crate::ROOM_BEHIND;
 use crate::board::{Board, Hub, Port};
 use crate::borders::{all_awaited, find_borders, neighbours_over};
 use crate::table::{Exchange, JoinBack, Known, SplitOff, View};
@@ -63,7 +63,7 @@ impl<T: Exchange> Hub<T> {
         let borders = find_borders(alloc, board.channels.as_slice(), board.count, p)?;
         let neighbours = neighbours_over(alloc, borders.as_slice())?;
         let handovers = all_awaited(alloc, borders.as_slice())?;
-        let order = Vec::with_capacity(alloc, borders.len() + 2 * WORDS_APART)?;
+        let order = Vec::with_capacity(alloc, borders.len() + ROOM_BEHIND)?;
         let seat = split_seat(board, &mut self.seat, p);
         Ok(Port {
             seat,

@@ -22,10 +22,7 @@ fn take_arrived<P: Drop>(handover: &mut Handover<P>) -> Option<P>
 fn was_ready<P>(handover: &Handover<P>) -> bool
     ensures { result ≡ not (is_awaited handover.now) }
 {
-    match handover {
-        Handover::Awaited => false,
-        _ => true,
-    }
+    !matches!(handover, Handover::Awaited)
 }
 
 impl<T: Exchange> Port<T> {
@@ -58,7 +55,7 @@ impl<T: Exchange> Port<T> {
         self.borders[k].lag
     }
 
-    /// Whether neighbour `k` was ready in this second. It stays so until this port publishes.
+    /// Whether neighbour `k` was ready in this second (`false` where there is no such neighbour). It stays so until this port publishes.
     pub fn is_ready(&self, k: usize) -> bool
         ensures { result ≡ not (is_awaited (handover self.now k)) }
     {

@@ -25,7 +25,7 @@ abbrev pub HasHandledMore : ScoringRows → List Event → EventHandler → Even
 HasHandledMore scoring events old new = (taken rest : List Event) → HasHandled scoring old taken
     → CanHandle (persons_of old) (links_in old) (taken ++ events ++ rest) → HasHandled scoring new (taken ++ events)
 
--- and is of the same persons and links
+-- a handler that stands for these as well, and is of the same persons and links
 pub record HasHandledOn (scoring : ScoringRows) (events : List Event) (old new : EventHandler) : Type 0 where
   pub handled : HasHandledMore scoring events old new
   pub kinds : kinds_of new ≡ kinds_of old

@@ -6,6 +6,7 @@ use Rattle.partition.specs.declared.owner.Owner.{Owner}
 use Rattle.step_core.specs.declared.part.Border.{Border}
 use Rattle.divided_day.specs.declared.dividing.Division.{Division}
 use Rattle.town.specs.Views.{setup}
+use Rattle.partition.specs.Homes.{homes_of}
 use Rattle.partition.specs.Owned.{owner_in}
 use Rattle.divided_day.specs.Days.{borders_in}
 use Rattle.law_partitions.specs.Alone.{my_links}
@@ -17,7 +18,7 @@ pub record AreBordersOf (day : DayInput) (owner : Owner) (lists : List (List Bor
   pub each : (p : ℕ) → p < owner.parts → get_or lists p [] ≡ borders_in day owner p
 
 -- The town of a day is divided among so many partitions: its nodes by halves, and each partition has its neighbours, slots for its links, and
--- lists of the links that end and that begin there; one that there is not has none.
+-- lists of the links that end and that begin there; one that there is not has none. Of each person it is known where the day begins.
 pub record IsDivided (day : DayInput) (count : ℕ) (division : Division) : Type 0 where
   pub parts : division.owner.parts ≡ count
   pub halved : IsHalved day.town.now.network.nodes count division.owner.of_node
@@ -25,3 +26,4 @@ pub record IsDivided (day : DayInput) (count : ℕ) (division : Division) : Type
   pub slots : AreSlots (setup day) (owner_in division.owner.of_node) division.link_slots.items
   pub ends : (p : ℕ) → get_or division.ends.items p [] ≡ my_links (setup day) (owner_in division.owner.of_node) p
   pub starts : (p : ℕ) → get_or division.starts.items p [] ≡ my_starts (setup day) (owner_in division.owner.of_node) p
+  pub homes : division.homes.items ≡ homes_of (setup day) (owner_in division.owner.of_node)

@@ -5,6 +5,7 @@ ghost use Rattle.limits.specs.declared.TheConstants.{MAX_PARTITIONS};
 ghost use Rattle.divided_day.specs.Borders.{border_of, borders_among};
 ghost use Rattle.divided_day.specs.Divisions.{AreBordersOf, IsDivided};
 
+use crate::homes::homes_of;
 use crate::listing::{NumberList, links_that_begin, links_that_end};
 use crate::slots::link_slots;
 use events::Rows;
@@ -26,6 +27,8 @@ pub struct Division {
     pub ends: Vec<NumberList>,
     /// By partition the links that begin there.
     pub starts: Vec<NumberList>,
+    /// By person the partition that has the link of the first activity of the chosen plan.
+    pub homes: Vec<u32>,
 }
 
 /// The border of a partition that a pair of neighbours makes: with the lag there for the greater of the two, and with the lag back for the
@@ -102,7 +105,8 @@ fn all_borders(alloc: Global, day: &DayInput, owner: &Owner) -> Result<Vec<Borde
 ///
 /// # Errors
 ///
-/// `AllocError`: there is no memory for a number for each node and three for each link, or for tables of all pairs of partitions.
+/// `AllocError`: there is no memory for a number for each node and each person and three for each link, or for tables of all pairs of
+/// partitions.
 pub fn divide(alloc: Global, day: &DayInput, parts: u32) -> Result<Division, AllocError>
     requires some { 1 ≤ parts }
     requires few { parts ≤ MAX_PARTITIONS }
@@ -113,11 +117,13 @@ pub fn divide(alloc: Global, day: &DayInput, parts: u32) -> Result<Division, All
     let link_slots = link_slots(alloc, day, &owner)?;
     let ends = links_that_end(alloc, day, &owner)?;
     let starts = links_that_begin(alloc, day, &owner)?;
+    let homes = homes_of(alloc, day, &owner)?;
     Ok(Division {
         owner,
         borders,
         link_slots,
         ends,
         starts,
+        homes,
     })
 }

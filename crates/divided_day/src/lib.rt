@@ -4,6 +4,7 @@
 
 mod days;
 mod dividing;
+mod homes;
 mod listing;
 mod part;
 mod slots;

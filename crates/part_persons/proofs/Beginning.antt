@@ -1,9 +1,9 @@
--- Who begins a day in a part, and the rows of all others.
-use Rattle.traffic.proofs.Common.{◌≡◌, ◌≢◌, ℕ, zero, suc, ◌+◌, ◌<◌, ◌≤◌, Bool, true, false, List, [], ◌∷◌, ◌∙◌, ap, refl, sym, subst, arith, inl, inr}
-use Rattle.traffic.proofs.Common.{length, length-map, get_or, get_or_past, get_or-map, map, if◌then◌else◌, cases_lt, PlanRows, eqb}
+-- Who begins a day in a part, and the rows of all others there.
+use Rattle.traffic.proofs.Common.{◌≡◌, ℕ, zero, suc, ◌+◌, ◌<◌, Bool, true, false, List, [], ◌∷◌, ◌∙◌, ap, refl, sym, subst, arith, inl, inr}
+use Rattle.traffic.proofs.Common.{length, length-map, get_or, get_or_past, get_or-map, map, plan_rows, if◌then◌else◌, cases_lt, PlanRows, eqb}
 use Rattle.traffic.proofs.Common.{World, Setup, world_start, person_of, at_home, numbers, below}
-use Rattle.std.specs.Prelude.{set}
-use Rattle.std.proofs.lemmas.List.{ext_get_or, get_or-set_same, get_or-set_other, length-set}
+use Rattle.std.specs.Prelude.{◌++◌}
+use Rattle.std.proofs.lemmas.List.{ext_get_or, length_push, get_or_push, get_or_append_left}
 use Rattle.traffic.specs.declared.world.Person.{Person}
 use Rattle.traffic.specs.Rows.{nobody}
 use Rattle.law_in_range.specs.Rows.{Counts, IsFitPerson, IsFitWorld}
@@ -11,8 +11,11 @@ use Rattle.law_in_range.specs.Setups.{counts_in, HaveFittingPlans}
 use Rattle.law_in_range.proofs.Days.{start_is_fit}
 use Rattle.town.specs.declared.day_input.DayInput.{DayInput}
 use Rattle.town.specs.Views.{setup}
+use Rattle.town.specs.Setups.{setup_of}
 use Rattle.parts.specs.Owners.{Owner, owner_of, owner_of_person, link_at}
-use Rattle.part_persons.specs.Own.{own_person, own_persons, begins_day_in, kept_row, kept_rows}
+use Rattle.partition.specs.Homes.{home_of, homes_of}
+use Rattle.traffic.specs.Setup.{person_plan}
+use Rattle.part_persons.specs.Own.{own_person, own_persons, row_of, first_row, first_rows}
 
 -- ROWS BY NUMBER
 numbers_length : (k n : ℕ) → length (numbers k n) ≡ n
@@ -37,96 +40,103 @@ rows_alike f g k (suc n) h =
     ∙ ap (λ (ps : List Person). g k ∷ ps) (rows_alike f g (k + 1) n (λ i lt. h i (omega arith)))
 
 -- ONE AFTER THE OTHER
--- below n nobody stands for those of whom it does not hold, and the others have the rows that they had
-pub record Kept (mine : ℕ → Bool) (n : ℕ) (all now : List Person) : Type 0 where
-  pub before : (i : ℕ) → i < n → get_or now i nobody ≡ kept_row mine all i
-  pub later : (i : ℕ) → n ≤ i → get_or now i nobody ≡ get_or all i nobody
-  pub count : length now ≡ length all
+-- these are the rows of all numbers below n
+pub record AreRows (f : ℕ → Person) (n : ℕ) (rows : List Person) : Type 0 where
+  pub many : length rows ≡ n
+  pub each : (i : ℕ) → i < n → get_or rows i nobody ≡ f i
 
-pub kept_start : (mine : ℕ → Bool) (all : List Person) → Kept mine 0 all all
-kept_start mine all = record { before = λ i lt. absurd (omega arith); later = λ i le. refl; count = refl }
+pub no_rows : (f : ℕ → Person) (rows : List Person) → rows ≡ [] → AreRows f 0 rows
+no_rows f rows none = record { many = ap (λ (ps : List Person). length ps) none; each = λ i lt. absurd (omega arith) }
 
-pub kept_more : (mine : ℕ → Bool) (n : ℕ) (all now next : List Person) → n < length now → next ≡ set now n (kept_row mine now n)
-    → Kept mine n all now → Kept mine (n + 1) all next
-kept_more mine n all now next lt e h =
-    let row = kept_row mine now n in
-    let other : (i : ℕ) → i ≢ n → get_or next i nobody ≡ get_or now i nobody
-    = λ i ne. ap (λ (ps : List Person). get_or ps i nobody) e ∙ get_or-set_other now n i row nobody ne in
+pub row_more : (f : ℕ → Person) (n : ℕ) (rows next : List Person) (P : Person) → P ≡ f n → next ≡ rows ++ P ∷ [] → AreRows f n rows
+    → AreRows f (n + 1) next
+row_more f n rows next P is e h =
+    let long = h.many in
+    let at : (i : ℕ) → get_or next i nobody ≡ get_or (rows ++ P ∷ []) i nobody = λ i. ap (λ (ps : List Person). get_or ps i nobody) e in
     record {
-      before = λ i within.
+      many = ap (λ (ps : List Person). length ps) e ∙ length_push rows P ∙ ap (λ (m : ℕ). m + 1) long;
+      each = λ i lt.
           elim (cases_lt i n) [
-            | inl lower ↦ (let ne : i ≢ n = (λ z. absurd (omega arith)) in other i ne ∙ h.before i lower)
+            | inl lower ↦ at i ∙ get_or_append_left rows (P ∷ []) nobody i (omega arith) ∙ h.each i lower
             | inr upper ↦
-                let same : i ≡ n = omega arith in
-                let low : n ≤ n = omega arith in
-                subst (λ (k : ℕ). get_or next k nobody ≡ kept_row mine all k) (sym same)
-                (ap (λ (ps : List Person). get_or ps n nobody) e ∙ get_or-set_same now n row nobody lt
-                ∙ ap (λ (P : Person). if mine n then P else nobody) (h.later n low))
+                let last : n ≡ i = omega arith in
+                at i ∙ get_or_push rows P nobody i (long ∙ last) ∙ is ∙ ap f last
           ];
-      later = λ i le. (let ne : i ≢ n = (λ z. absurd (omega arith)) in other i ne ∙ h.later i (omega arith));
-      count = ap (λ (ps : List Person). length ps) e ∙ length-set now n row ∙ h.count;
     }
 
-pub kept_all : (mine : ℕ → Bool) (n : ℕ) (all now : List Person) → length all ≤ n → Kept mine n all now → now ≡ kept_rows mine all
-kept_all mine n all now le h =
-    let many = rows_length (kept_row mine all) (length all) in
-    let same = h.count in
-    ext_get_or nobody now (kept_rows mine all) (same ∙ sym many)
-    (λ i lt. h.before i (omega arith) ∙ sym (row_is (kept_row mine all) (length all) i (omega arith)))
+pub all_rows : (f : ℕ → Person) (n m : ℕ) (rows : List Person) → n ≡ m → AreRows f n rows → rows ≡ map f (below m)
+all_rows f n m rows same h =
+    let many = rows_length f m in
+    let long = h.many in
+    ext_get_or nobody rows (map f (below m)) (long ∙ same ∙ sym many)
+    (λ i lt. h.each i (omega arith) ∙ sym (row_is f m i (omega arith)))
 
 -- AT THE START OF A DAY
-module _ (S : Setup) (own : Owner) (p : ℕ) where
-  at_first : (i : ℕ) → i < length S.persons → begins_day_in S own p i ≡ eqb (owner_of_person S own (world_start S) i) p
-  unfolding world_start
-  at_first i lt =
-      let none : PlanRows = record { acts = []; legs = [] } in
-      sym (ap (λ (P : Person). eqb (owner_of S own (link_at S (world_start S) i P.element P.place)) p) (get_or-map at_home S.persons i none nobody lt))
+module _ (S : Setup) (p : ℕ) where
+  abbrev none : PlanRows
+  none = record { acts = []; legs = [] }
 
   count_start : length (world_start S).persons ≡ length S.persons
   unfolding world_start
   count_start = length-map S.persons at_home
 
-  kept_are : kept_rows (begins_day_in S own p) (world_start S).persons ≡ own_persons S own p
-  kept_are =
-      let ps = (world_start S).persons in
-      ap (λ (n : ℕ). map (kept_row (begins_day_in S own p) ps) (below n)) count_start
-      ∙ rows_alike (kept_row (begins_day_in S own p) ps) (own_person S own p) 0 (length S.persons)
-      (λ i lt. ap (λ (b : Bool). if b then get_or ps i nobody else nobody) (at_first i (omega arith)))
+  start_row : (i : ℕ) → i < length S.persons → person_of i (world_start S) ≡ at_home (person_plan S i)
+  unfolding world_start
+  start_row i lt = get_or-map at_home S.persons i none nobody lt
 
-  row_fit : (z : Counts) (i : ℕ) (b : Bool) (P : Person) → IsFitPerson z i P → IsFitPerson z i (if b then P else nobody)
-  row_fit z i true P h = h
-  row_fit z i false P h = tt
+  module _ (own : Owner) (homes : List ℕ) (e : homes ≡ homes_of S own) where
+    home_is : (i : ℕ) → i < length S.persons → get_or homes i 0 ≡ owner_of_person S own (world_start S) i
+    home_is i lt =
+        ap (λ (xs : List ℕ). get_or xs i 0) e ∙ get_or-map (home_of S own) S.persons i none 0 lt
+        ∙ sym (ap (λ (P : Person). owner_of S own (link_at S (world_start S) i P.element P.place)) (start_row i lt))
 
-  rows_fit : (z : Counts) → IsFitWorld z (world_start S) → (i : ℕ) → IsFitPerson z i (get_or (own_persons S own p) i nobody)
-  rows_fit z f i =
-      let n = length S.persons in
-      let many = rows_length (own_person S own p) n in
-      elim (cases_lt i n) [
-        | inl lt ↦
-            subst (IsFitPerson z i) (sym (row_is (own_person S own p) n i lt))
-            (row_fit z i (eqb (owner_of_person S own (world_start S) i) p) (person_of i (world_start S)) (f.persons i))
-        | inr ge ↦ subst (IsFitPerson z i) (sym (get_or_past (own_persons S own p) i nobody (omega arith))) tt
-      ]
+    first_is : (i : ℕ) → i < length S.persons → first_row S homes p i ≡ own_person S own p i
+    first_is i lt =
+        ap (λ (q : ℕ). row_of S p q i) (home_is i lt)
+        ∙ ap (λ (P : Person). if eqb (owner_of_person S own (world_start S) i) p then P else nobody) (sym (start_row i lt))
 
-  own_fit : (z : Counts) → IsFitWorld z (world_start S) → IsFitWorld z (record (world_start S) { persons = own_persons S own p })
-  own_fit z f = record {
-    rows = f.rows;
-    persons = rows_fit z f;
-    one_each = rows_length (own_person S own p) (length S.persons) ∙ sym count_start ∙ f.one_each;
-    credits = f.credits;
-    holes = f.holes;
-  }
+    first_are : first_rows S homes p ≡ own_persons S own p
+    first_are = rows_alike (first_row S homes p) (own_person S own p) 0 (length S.persons) (λ i lt. first_is i (omega arith))
 
--- the world at the start of a day, where nobody stands for all others
-pub begun : (S : Setup) (own : Owner) (p : ℕ) (W V : World) → W ≡ world_start S
-    → V ≡ record W { persons = kept_rows (begins_day_in S own p) W.persons } → V ≡ record (world_start S) { persons = own_persons S own p }
-begun S own p W V e f =
-    f ∙ ap (λ (X : World). record X { persons = kept_rows (begins_day_in S own p) X.persons }) e
-    ∙ ap (λ (ps : List Person). record (world_start S) { persons = ps }) (kept_are S own p)
+  module _ (homes : List ℕ) (z : Counts) (f : IsFitWorld z (world_start S)) where
+    row_fit : (i : ℕ) (b : Bool) (P : Person) → IsFitPerson z i P → IsFitPerson z i (if b then P else nobody)
+    row_fit i true P h = h
+    row_fit i false P h = tt
 
-pub own_is_fit : (day : DayInput) (own : Owner) (p : ℕ) (W : World) → HaveFittingPlans day
-    → W ≡ record (world_start (setup day)) { persons = own_persons (setup day) own p } → IsFitWorld (counts_in day) W
-own_is_fit day own p W given e =
+    rows_fit : (i : ℕ) → IsFitPerson z i (get_or (first_rows S homes p) i nobody)
+    rows_fit i =
+        let n = length S.persons in
+        let many = rows_length (first_row S homes p) n in
+        elim (cases_lt i n) [
+          | inl lt ↦
+              subst (IsFitPerson z i) (sym (row_is (first_row S homes p) n i lt))
+              (row_fit i (eqb (get_or homes i 0) p) (at_home (person_plan S i)) (subst (IsFitPerson z i) (start_row i lt) (f.persons i)))
+          | inr ge ↦ subst (IsFitPerson z i) (sym (get_or_past (first_rows S homes p) i nobody (omega arith))) tt
+        ]
+
+    first_fit : IsFitWorld z (record (world_start S) { persons = first_rows S homes p })
+    first_fit = record {
+      rows = f.rows;
+      persons = rows_fit;
+      one_each = rows_length (first_row S homes p) (length S.persons) ∙ sym count_start ∙ f.one_each;
+      credits = f.credits;
+      holes = f.holes;
+    }
+
+-- a town's day has as many persons as plans
+pub persons_of : (day : DayInput) → length (setup day).persons ≡ length day.chosen.now
+unfolding setup_of
+persons_of day = length-map day.chosen.now plan_rows
+
+-- where these are the homes of all, it has those who begin the day in the part
+pub begun : (S : Setup) (own : Owner) (homes : List ℕ) (p : ℕ) (rows : List Person) (W : World) → homes ≡ homes_of S own
+    → rows ≡ first_rows S homes p → W ≡ record (world_start S) { persons = rows } → W ≡ record (world_start S) { persons = own_persons S own p }
+begun S own homes p rows W e are f = f ∙ ap (λ (ps : List Person). record (world_start S) { persons = ps }) (are ∙ first_are S p own homes e)
+
+pub begun_fit : (day : DayInput) (homes : List ℕ) (p : ℕ) (rows : List Person) (W : World) → HaveFittingPlans day
+    → rows ≡ first_rows (setup day) homes p → W ≡ record (world_start (setup day)) { persons = rows } → IsFitWorld (counts_in day) W
+begun_fit day homes p rows W given are f =
     let S = setup day in
     let z = counts_in day in
-    subst (IsFitWorld z) (sym e) (own_fit S own p z (start_is_fit day (world_start S) given refl))
+    subst (IsFitWorld z) (sym (f ∙ ap (λ (ps : List Person). record (world_start S) { persons = ps }) are))
+    (first_fit S p homes z (start_is_fit day (world_start S) given refl))

@@ -3,8 +3,8 @@ use Rattle.std.specs.Prelude.{ℕ, Bool, List, length, map, filter, get_or, ◌=
 use Rattle.traffic.specs.declared.world.Person.{Person}
 use Rattle.traffic.specs.Lists.{below}
 use Rattle.traffic.specs.Rows.{nobody, person_of}
-use Rattle.traffic.specs.Setup.{Setup, act_at, departure}
-use Rattle.traffic.specs.Day.{world_start}
+use Rattle.traffic.specs.Setup.{Setup, person_plan, departure}
+use Rattle.traffic.specs.Day.{at_home, world_start}
 use Rattle.parts.specs.Owners.{Owner, owner_of, owner_of_person}
 
 -- the persons of partition p at the start of a day; nobody stands for each of the others
@@ -14,16 +14,16 @@ own_person S own p i = if owner_of_person S own (world_start S) i == p then pers
 abbrev pub own_persons : Setup → Owner → ℕ → List Person
 own_persons S own p = map (own_person S own p) (below (length S.persons))
 
--- whether the first activity of person i's plan is on a link of partition p
-abbrev pub begins_day_in : Setup → Owner → ℕ → ℕ → Bool
-begins_day_in S own p i = owner_of S own (act_at S i 0).link == p
+-- the row in partition p, at the start of a day, of person i who begins it in the partition home
+abbrev pub row_of : Setup → ℕ → ℕ → ℕ → Person
+row_of S p home i = if home == p then at_home (person_plan S i) else nobody
 
--- nobody stands for each of these persons of whom this does not hold
-abbrev pub kept_row : (ℕ → Bool) → List Person → ℕ → Person
-kept_row mine persons i = if mine i then get_or persons i nobody else nobody
+-- that of person i, and those of all, out of all their homes, by number
+abbrev pub first_row : Setup → List ℕ → ℕ → ℕ → Person
+first_row S homes p i = row_of S p (get_or homes i 0) i
 
-abbrev pub kept_rows : (ℕ → Bool) → List Person → List Person
-kept_rows mine persons = map (kept_row mine persons) (below (length persons))
+abbrev pub first_rows : Setup → List ℕ → ℕ → List Person
+first_rows S homes p = map (first_row S homes p) (below (length S.persons))
 
 -- whether a departure starts on a link of partition p, and those that do, by number
 abbrev pub starts_in : Setup → Owner → ℕ → ℕ → Bool

@@ -1,14 +1,12 @@
 //! Who begins a day in one partition of its network.
 
-ghost use Rattle.std.specs.Prelude.{◌≡◌, ◌<◌, length, set};
-ghost use Rattle.partition.specs.Owned.{owner_in};
+ghost use Rattle.std.specs.Prelude.{◌≡◌, ◌<◌, length, IfOk};
 ghost use Rattle.town.specs.Views.{setup};
 ghost use Rattle.traffic.specs.Rows.{nobody};
-ghost use Rattle.part_persons.specs.Own.{begins_day_in, kept_row, kept_rows};
+ghost use Rattle.part_persons.specs.Own.{row_of, first_row, first_rows};
 
-use partition::{Owner, owner_of_link};
-use person_moves::World;
-use rows::act_in;
+use person_moves::at_home;
+use std::alloc::{AllocError, Global};
 use town::{DayInput, chosen_plan};
 use traffic::{Person, Place};
 
@@ -22,45 +20,41 @@ pub(crate) fn nobody() -> Person
     }
 }
 
-/// Whether the first activity of a person's plan is on a link of this partition.
-fn begins_day_in(day: &DayInput, owner: &Owner, partition: u32, person: u32) -> bool
+/// The row with which a person begins the day in this partition, where it is the home; else nobody stands for him there, and no plan is
+/// looked at.
+fn row_of(day: &DayInput, partition: u32, home: u32, person: u32) -> Person
     requires { person < length day.now.chosen.now }
-    ensures { result ≡ begins_day_in (setup day.now) (owner_in owner.now.of_node) partition person }
+    ensures { result ≡ row_of (setup day.now) partition home person }
 {
-    let first = act_in(chosen_plan(day, person), 0);
-    owner_of_link(day, owner, first.link) == partition
-}
-
-/// Nobody stands for a person who does not begin the day in this partition.
-fn keep_if_own(day: &DayInput, owner: &Owner, partition: u32, person: u32, persons: &mut [Person])
-    requires there { person < length persons.old }
-    requires plans { length persons.old ≡ length day.now.chosen.now }
-    ensures { persons.new ≡ set persons.old person
-        (kept_row (begins_day_in (setup day.now) (owner_in owner.now.of_node) partition) persons.old person) }
-{
-    if !begins_day_in(day, owner, partition, person) {
-        persons[person as usize] = nobody();
+    if home != partition {
+        return nobody();
     }
+    at_home(chosen_plan(day, person))
 }
 
-/// So for each of these persons.
-fn keep_own(day: &DayInput, owner: &Owner, partition: u32, persons: &mut [Person])
-    requires names { length day.now.town.now.book.persons ≡ length day.now.chosen.now }
-    requires plans { length persons.old ≡ length day.now.chosen.now }
-    ensures { persons.new ≡ kept_rows (begins_day_in (setup day.now) (owner_in owner.now.of_node) partition) persons.old }
+/// The row of the person of this number, by the homes of all.
+fn first_row(day: &DayInput, homes: &[u32], partition: u32, person: u32) -> Person
+    requires plans { person < length day.now.chosen.now }
+    requires homes { person < length homes.now }
+    ensures { result ≡ first_row (setup day.now) homes.now partition person }
 {
+    row_of(day, partition, homes[person as usize], person)
+}
+
+/// The rows with which all persons begin the day in this partition, by the homes of all.
+pub(crate) fn first_rows(
+    alloc: Global,
+    day: &DayInput,
+    homes: &[u32],
+    partition: u32,
+) -> Result<Vec<Person>, AllocError>
+    requires names { length day.now.town.now.book.persons ≡ length day.now.chosen.now }
+    requires homes { length homes.now ≡ length day.now.chosen.now }
+    ensures { IfOk result (λ rows. rows.items ≡ first_rows (setup day.now) homes.now partition) }
+{
+    let mut rows = Vec::new(alloc);
     for person in 0..day.town.book.persons.len() {
-        keep_if_own(day, owner, partition, person, persons);
+        rows.push(first_row(day, homes, partition, person))?;
     }
-}
-
-/// So for each person of a world.
-pub(crate) fn keep_own_in(day: &DayInput, owner: &Owner, partition: u32, world: &mut World)
-    requires names { length day.now.town.now.book.persons ≡ length day.now.chosen.now }
-    requires plans { length world.old.persons ≡ length day.now.chosen.now }
-    ensures { world.new ≡ record world.old {
-      persons = kept_rows (begins_day_in (setup day.now) (owner_in owner.now.of_node) partition) world.old.persons;
-    } }
-{
-    keep_own(day, owner, partition, &mut world.persons);
+    Ok(rows)
 }

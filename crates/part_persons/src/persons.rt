@@ -3,17 +3,17 @@
 ghost use Rattle.std.specs.Prelude.{◌≡◌, ℕ, ◌<◌, length, IfOk};
 ghost use Rattle.law_in_range.specs.Rows.{IsFitWorld};
 ghost use Rattle.law_in_range.specs.Setups.{counts_in, HaveFittingPlans};
-ghost use Rattle.partition.specs.Owned.{owner_in};
+ghost use Rattle.partition.specs.Homes.{homes_of};
+ghost use Rattle.parts.specs.Owners.{Owner};
 ghost use Rattle.town.specs.Views.{setup};
 ghost use Rattle.traffic.specs.Day.{world_start};
 ghost use Rattle.part_persons.specs.Dues.{AreFollowedIn};
 ghost use Rattle.part_persons.specs.Own.{own_persons};
 
 use crate::hearing::follow_everybody;
-use crate::homes::keep_own_in;
+use crate::homes::first_rows;
 use calendar::Wakes;
-use partition::Owner;
-use person_moves::{World, start};
+use person_moves::{World, start_with};
 use std::alloc::{AllocError, Global};
 use town::DayInput;
 
@@ -40,7 +40,8 @@ fn first_wakes(alloc: Global, day: &DayInput, world: &World) -> Result<Wakes, Al
 
 impl Persons {
     /// The persons of a partition at the start of a day, each at the first activity of the chosen plan. They are those whose first activity
-    /// is on a link of the partition.
+    /// is on a link of the partition: each begins the day in the partition that `homes` has at his number. Of nobody else a plan is looked
+    /// at.
     ///
     /// # Errors
     ///
@@ -48,19 +49,21 @@ impl Persons {
     pub fn new(
         alloc: Global,
         day: &DayInput,
-        owner: &Owner,
+        homes: &[u32],
         partition: u32,
     ) -> Result<Persons, AllocError>
-        requires { HaveFittingPlans day.now }
-        ensures world { IfOk result (λ persons. persons.world ≡ record (world_start (setup day.now)) {
-          persons = own_persons (setup day.now) (owner_in owner.now.of_node) partition;
-        }) }
+        requires given { HaveFittingPlans day.now }
+        requires homes { length homes.now ≡ length day.now.chosen.now }
+        ensures world { (own : Owner) → homes.now ≡ homes_of (setup day.now) own
+            → IfOk result (λ persons. persons.world ≡ record (world_start (setup day.now)) {
+              persons = own_persons (setup day.now) own partition;
+            }) }
         ensures fit { IfOk result (λ persons. IsFitWorld (counts_in day.now) persons.world) }
         ensures followed { (t : ℕ) → IfOk result (λ persons. AreFollowedIn day.now t persons.world.persons persons.wakes) }
         ensures wakes { IfOk result (λ persons. length persons.wakes ≡ length persons.world.persons) }
     {
-        let mut world = start(alloc, day)?;
-        keep_own_in(day, owner, partition, &mut world);
+        let rows = first_rows(alloc, day, homes, partition)?;
+        let world = start_with(alloc, day, rows)?;
         let wakes = first_wakes(alloc, day, &world)?;
         Ok(Persons { world, wakes })
     }

@@ -2,6 +2,7 @@
 
 ghost use Rattle.std.specs.Prelude.{◌≡◌, ℕ, ◌<◌, [], get_or};
 ghost use Rattle.law_in_range.specs.Setups.{HaveFittingPlans};
+ghost use Rattle.partition.specs.Homes.{homes_of};
 ghost use Rattle.partition.specs.Owned.{owner_in};
 ghost use Rattle.town.specs.Views.{setup};
 ghost use Rattle.law_partitions.specs.Alone.{my_links};
@@ -35,6 +36,8 @@ pub struct Run<'a> {
     pub ends: &'a [NumberList],
     /// The links that begin in each partition, ascending.
     pub starts: &'a [NumberList],
+    /// By person the partition that has the link of the first activity of the chosen plan.
+    pub homes: &'a [u32],
     /// Whether the events of each second are taken as the day goes on: a part keeps then those of the second that it did last alone.
     pub streams: bool,
     pub ghost given: { HaveFittingPlans day.now },
@@ -44,4 +47,5 @@ pub struct Run<'a> {
         → get_or borders.now p [] ≡ borders_of (setup day.now) (owner_in owner.now.of_node) owner.now.parts p },
     pub ghost own_ends: { (p : ℕ) → get_or ends.now p [] ≡ my_links (setup day.now) (owner_in owner.now.of_node) p },
     pub ghost own_starts: { (p : ℕ) → get_or starts.now p [] ≡ my_starts (setup day.now) (owner_in owner.now.of_node) p },
+    pub ghost own_homes: { homes.now ≡ homes_of (setup day.now) (owner_in owner.now.of_node) },
 }

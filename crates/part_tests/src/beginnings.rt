@@ -290,6 +290,7 @@ fn run_of<'a>(
         borders: &division.borders,
         ends: &division.ends,
         starts: &division.starts,
+        homes: &division.homes,
         streams: false,
     }
 }

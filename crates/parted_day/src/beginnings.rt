@@ -61,9 +61,9 @@ fn empty_network(run: &Run, partition: u32) -> Result<NetworkState, AllocError>
 /// on its links, and each of them has credit for one. Its links are those that end at its nodes, in slots, ascending by number.
 ///
 /// Of the links it looks at those alone that end in the partition, for each of which it makes a row of some 200 bytes, and at those that
-/// begin there, for the places of each. It goes once over the persons and the departures of the whole town, and fills tables by number for
-/// the whole of it: a row and a second of waking for each person, a second of waking for each node, a line for each stop, and 16 bytes for
-/// each link (12 of `part_places`, and a credit).
+/// begin there, for the places of each; of the plans at those alone with which the day begins there (`divided_day: Division`, `homes`). It
+/// goes once over the departures of the whole town, and fills tables by number for the whole of it: a row and a second of waking for each
+/// person, a second of waking for each node, a line for each stop, and 16 bytes for each link (12 of `part_places`, and a credit).
 ///
 /// # Errors
 ///
@@ -72,7 +72,7 @@ pub fn begin(run: &Run, partition: u32) -> Result<Area, AllocError>
     ensures { let own = owner_in run.now.owner.now.of_node in let S = setup run.now.day.now in
         IfOk result (λ area. AreaStands run.now.day.now own partition 0 0 0 area (held S own partition 0) (world_held S own partition 0)) }
 {
-    let persons = Persons::new(run.alloc, run.day, run.owner, partition)?;
+    let persons = Persons::new(run.alloc, run.day, run.homes, partition)?;
     let departures = departures_by_second(run.alloc, run.day, run.owner, partition)?;
     let lines = empty_lines(run.alloc, run.day.town.stops.rows.len())?;
     let network = empty_network(run, partition)?;

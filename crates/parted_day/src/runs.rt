@@ -59,6 +59,7 @@ pub fn run_of<'a>(
         borders: &shared.division.borders,
         ends: &shared.division.ends,
         starts: &shared.division.starts,
+        homes: &shared.division.homes,
         streams,
     }
 }

@@ -25,7 +25,7 @@ pub use legs::mode_in;
 pub use links::{hole_of, link_row};
 pub use moving::{do_move, do_moves};
 pub use persons::{landing_moves, leaving_moves};
-pub use start_of_day::start;
+pub use start_of_day::{at_home, start, start_with};
 pub use steps::step_persons;
 pub use stops::link_of_stop;
 pub use vehicle_rows::is_on;

@@ -14,7 +14,7 @@ use town::DayInput;
 use traffic::{Person, Place};
 
 /// A person at the first activity of a plan.
-fn at_home(plan: &Plan) -> Person
+pub fn at_home(plan: &Plan) -> Person
     ensures { result ≡ at_home (plan_rows plan.now) }
 {
     Person {
@@ -45,6 +45,25 @@ fn first_credits(alloc: Global, count: usize) -> Result<Vec<u32>, AllocError>
     Ok(credits)
 }
 
+/// A world in which persons have these rows, and all else is as at the start of a day: no vehicle and no hole, and credit for one vehicle
+/// on each link.
+///
+/// # Errors
+///
+/// `AllocError`: there is no memory for the credits.
+#[tactic(auto, unfolding(traffic::specs::Day::world_start, town::specs::Setups::setup_of))]
+pub fn start_with(alloc: Global, day: &DayInput, persons: Vec<Person>) -> Result<World, AllocError>
+    ensures { IfOk result (λ world. world ≡ record (world_start (setup day.now)) { persons = persons.items }) }
+{
+    let credits = first_credits(alloc, day.town.network.links.len())?;
+    Ok(World {
+        rows: Vec::new(alloc),
+        persons,
+        credits,
+        holes: Vec::new(alloc),
+    })
+}
+
 /// The world at the start of a day: each person at the first activity, no vehicle and no hole, and
 /// credit for one vehicle on each link.
 ///
@@ -56,11 +75,6 @@ pub fn start(alloc: Global, day: &DayInput) -> Result<World, AllocError>
     ensures { IfOk result (λ world. world ≡ world_start (setup day.now)) }
 {
     let persons = all_at_home(alloc, day)?;
-    let credits = first_credits(alloc, day.town.network.links.len())?;
-    Ok(World {
-        rows: Vec::new(alloc),
-        persons,
-        credits,
-        holes: Vec::new(alloc),
-    })
+    let world = start_with(alloc, day, persons)?;
+    Ok(world)
 }

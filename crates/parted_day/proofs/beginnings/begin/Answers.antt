@@ -6,6 +6,7 @@ use Rattle.parted_day.proofs.beginnings.begin.Goals as goal
 pub returns : goal.returns
 returns c =
     area_begins c.args.run.now.day.now (owner_in c.args.run.now.owner.now.of_node) c.args.partition c.args.run.now.given c.len.result
-    c.len-2.result _ c.in_ok-persons.ensures.world c.in_ok-persons.ensures.fit (c.in_ok-persons.ensures.followed 0)
+    c.len-2.result _
+    (c.in_ok-persons.ensures.world (owner_in c.args.run.now.owner.now.of_node) c.args.run.now.own_homes) c.in_ok-persons.ensures.fit (c.in_ok-persons.ensures.followed 0)
     c.in_ok-persons.ensures.wakes (λ s from to. c.in_ok-departures.ensures s to) (search rules) c.in_ok-lines.ensures
     c.in_ok-network.ensures (search rules) c.in_ok-queues.ensures

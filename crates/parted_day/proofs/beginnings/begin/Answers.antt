@@ -1,4 +1,5 @@
-use Rattle.std.proofs.Common.{ℕ, List, ◌∙◌, ap, length, length-map, rules}
+use Rattle.std.proofs.Common.{ℕ, List, ◌∙◌, ap, length, rules}
+use Rattle.std.proofs.lemmas.List.{length-map}
 use Rattle.town.specs.Views.{setup}
 use Rattle.partition.specs.Homes.{home_of}
 use Rattle.partition.specs.Owned.{owner_in}

@@ -1,5 +1,6 @@
 pub mod Rows
 pub mod Filled
+pub mod Putting
 pub mod Sending
 pub mod Seconds
 pub mod Stepping

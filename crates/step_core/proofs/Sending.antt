@@ -1,13 +1,19 @@
 -- What a partition puts into the wheels of its neighbours, one after the other.
-use Rattle.std.proofs.Common.{◌≡◌, ◌≢◌, ℕ, ◌+◌, ◌<◌, List, ◌∙◌, length, get_or, set, ap, sym, subst, arith}
-use Rattle.std.proofs.lemmas.List.{get_or-set_same, get_or-set_other, get_or_default, length-set}
+use Rattle.std.proofs.Common.{◌≡◌, ◌≢◌, ℕ, ◌+◌, ◌<◌, List, [], ◌∷◌, ◌∙◌, length, get_or, set, ap, sym, subst, arith}
+use Rattle.std.proofs.lemmas.List.{get_or-set_same, get_or-set_other, get_or_default, length-set, set-get_or}
 use mathlib.Core.Logic.{dite}
 use native.Mathlib.Decide.{ℕ_discrete}
 use Rattle.step_core.specs.declared.part.Border.{Border}
 use Rattle.step_core.specs.declared.wheel.Wheel.{Wheel}
 use Rattle.step_core.specs.Views.{PartView, Stays, in_place}
-use Rattle.step_core.specs.Wheels.{due_in, IsPut}
+use Rattle.step_core.specs.Wheels.{due_in, lies, IsNoted, IsPut}
 use Rattle.step_core.specs.Exchanges.{neighbour_at, HaveRoom, AreSent}
+use Rattle.step_core.proofs.Putting.{put_nothing}
+
+-- one of a list in which one is
+one_of : {X : Type 0} (xs : List X) (k : ℕ) → k < length xs → X
+one_of [] k lt = absurd (omega arith)
+one_of (x ∷ xs) k lt = x
 
 -- one neighbour more
 module _ {R T P : Type 0} (nothing : P) (see : T → PartView P) (stands : R → T → Type 0) (t p : ℕ) (rows : List Border) (k : ℕ)
@@ -68,3 +74,17 @@ module _ {R T P : Type 0} (nothing : P) (see : T → PartView P) (stands : R →
         seconds = seconds ∙ h.seconds;
         stays = λ r s. stays r (h.stays r s);
       }
+
+  -- where nothing is in the parcel no wheel is changed
+  pub sends_none : (y : T) → in_place nothing (see z).outbox k ≡ nothing
+      → (see y).outbox ≡ set (see z).outbox k nothing → (see y).inbox ≡ (see z).inbox → (see y).number ≡ (see z).number
+      → (see y).seconds ≡ (see z).seconds → Stays stands z y → AreSent nothing see stands t p rows (k + 1) old now before y
+  sends_none y none outbox inbox number seconds stays =
+      let e : Wheel P = one_of now q there in
+      let w : Wheel P = get_or now q e in
+      let room : lies nothing w (due_in w t p) p ≡ nothing =
+      subst (λ (u : Wheel P). lies nothing u (due_in u t p) p ≡ nothing) (sym (as_it_was e e)) (have.room k e lt) in
+      let noted : IsNoted nothing w = subst (λ (u : Wheel P). IsNoted nothing u) (sym (as_it_was e e)) (have.noted q e (have.there k lt)) in
+      subst (λ (ws : List (Wheel P)). AreSent nothing see stands t p rows (k + 1) old ws before y) (set-get_or now q e)
+      (sends_next e w y (put_nothing nothing w (due_in w t p) p (in_place nothing (see z).outbox k) none room noted)
+      outbox inbox number seconds stays)

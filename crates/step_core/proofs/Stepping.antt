@@ -10,7 +10,7 @@ use Rattle.step_core.specs.declared.part.Border.{Border}
 use Rattle.step_core.specs.declared.wheel.Wheel.{Wheel}
 use Rattle.step_core.specs.Nets.{Net, MayStep, border_at}
 use Rattle.step_core.specs.Views.{PartView, IsAt, IsHeard}
-use Rattle.step_core.specs.Wheels.{IsWhole, lag_in, due_in, lies, IsFilled, HasRoom}
+use Rattle.step_core.specs.Wheels.{IsNoted, lag_in, due_in, lies, IsFilled, HasRoom}
 use Rattle.step_core.specs.Cores.{IsCore, done_at, is_stopped}
 use Rattle.step_core.specs.Exchanges.{neighbour_at, lag_at, IsBeside, IsReady, IsGiven, AreTaken, HasTaken, HasExchanged}
 use Rattle.step_core.proofs.Filled.{filled_at, room_at, taken_room, taken_filled, put_room, put_filled, beside_room, beside_filled}
@@ -122,7 +122,7 @@ module _ {T P : Type 0} (nothing : P) (N : Net) (borders : ℕ → List Border) 
               ascend = (core.rows p there).ascend;
             };
             there = λ k lt. let q = (core.net.there (neighbour_at rows k) p (near_at k lt)).0 in omega arith;
-            whole = λ b d lt. core.whole b d (omega arith);
+            noted = λ b d lt. core.noted b d (omega arith);
             room = room_for;
           };
           here = omega arith;
@@ -211,11 +211,11 @@ module _ {T P : Type 0} (nothing : P) (N : Net) (borders : ℕ → List Border) 
           let c = core.close a b n in omega arith)
           (λ nf. let f = now_other a ne in let g = now_other b nf in let c = core.close a b n in omega arith))
 
-      whole_now : (b : ℕ) (d : Wheel P) → b < N.parts → IsWhole (get_or later b d)
-      whole_now b d lt = dite (ℕ_discrete b p)
-          (λ e. subst (λ (z : ℕ). IsWhole (get_or later z d)) (sym e) (ex.taken d).whole)
-          (λ ne. by_near (N.near p b) (λ n. (from_it b d n).put.whole)
-          (λ f. subst (λ (w : Wheel P). IsWhole w) (sym (same b d ne f)) (core.whole b d lt)))
+      noted_now : (b : ℕ) (d : Wheel P) → b < N.parts → IsNoted nothing (get_or later b d)
+      noted_now b d lt = dite (ℕ_discrete b p)
+          (λ e. subst (λ (z : ℕ). IsNoted nothing (get_or later z d)) (sym e) (ex.taken d).noted)
+          (λ ne. by_near (N.near p b) (λ n. (from_it b d n).put.noted)
+          (λ f. subst (λ (w : Wheel P). IsNoted nothing w) (sym (same b d ne f)) (core.noted b d lt)))
 
       lags_now : (a b : ℕ) (d : Wheel P) → N.near a b ≡ true → lag_in (get_or later b d) a ≡ N.lag a b
       lags_now a b d n = dite (ℕ_discrete b p)
@@ -330,7 +330,7 @@ module _ {T P : Type 0} (nothing : P) (N : Net) (borders : ℕ → List Border) 
         given = core.given;
         early = early_now;
         close = close_now;
-        whole = whole_now;
+        noted = noted_now;
         lags = lags_now;
         room = room_now;
         filled = filled_now;
@@ -371,10 +371,10 @@ module _ {T P : Type 0} (nothing : P) (N : Net) (borders : ℕ → List Border) 
       goes_on : (q : ℕ) → is_stopped flags q ≡ false → q ≢ p
       goes_on q g = λ e. true≢false (sym flag_here ∙ ap (is_stopped flags) (sym e) ∙ g)
 
-      whole_then : (b : ℕ) (d : Wheel P) → b < N.parts → IsWhole (get_or later b d)
-      whole_then b d lt = dite (ℕ_discrete b p)
-          (λ e. subst (λ (z : ℕ). IsWhole (get_or later z d)) (sym e) (tk.taken d).whole)
-          (λ ne. subst (λ (w : Wheel P). IsWhole w) (sym (tk.others b d ne)) (core.whole b d lt))
+      noted_then : (b : ℕ) (d : Wheel P) → b < N.parts → IsNoted nothing (get_or later b d)
+      noted_then b d lt = dite (ℕ_discrete b p)
+          (λ e. subst (λ (z : ℕ). IsNoted nothing (get_or later z d)) (sym e) (tk.taken d).noted)
+          (λ ne. subst (λ (w : Wheel P). IsNoted nothing w) (sym (tk.others b d ne)) (core.noted b d lt))
 
       lags_then : (a b : ℕ) (d : Wheel P) → N.near a b ≡ true → lag_in (get_or later b d) a ≡ N.lag a b
       lags_then a b d n = dite (ℕ_discrete b p)
@@ -404,7 +404,7 @@ module _ {T P : Type 0} (nothing : P) (N : Net) (borders : ℕ → List Border) 
         given = core.given;
         early = core.early;
         close = core.close;
-        whole = whole_then;
+        noted = noted_then;
         lags = lags_then;
         room = room_then;
         filled = λ a b d n g. let ne = goes_on b g in

@@ -6,7 +6,7 @@ use Rattle.step_core.specs.declared.cores.Step.TheVariants.{Done, Waits, Ended}
 use Rattle.step_core.specs.declared.wheel.Wheel.{Wheel}
 use Rattle.step_core.specs.Nets.{Net, IsNet, AreBorders, MayStep}
 use Rattle.step_core.specs.Views.{PartView, IsAt}
-use Rattle.step_core.specs.Wheels.{IsWhole, lag_in, IsFilled, HasRoom}
+use Rattle.step_core.specs.Wheels.{IsNoted, lag_in, IsFilled, HasRoom}
 
 abbrev pub done_at : List ℕ → ℕ → ℕ
 done_at done p = get_or done p 0
@@ -30,7 +30,7 @@ pub record IsCore {T P : Type 0} (nothing : P) (N : Net) (borders : ℕ → List
   pub given : (p : ℕ) → p < N.parts → get_or tables p [] ≡ borders p
   pub early : (p : ℕ) → p < N.parts → done_at done p ≤ N.end
   pub close : (a b : ℕ) → N.near a b ≡ true → done_at done a ≤ done_at done b + N.lag b a
-  pub whole : (b : ℕ) (d : Wheel P) → b < N.parts → IsWhole (get_or wheels b d)
+  pub noted : (b : ℕ) (d : Wheel P) → b < N.parts → IsNoted nothing (get_or wheels b d)
   pub lags : (a b : ℕ) (d : Wheel P) → N.near a b ≡ true → lag_in (get_or wheels b d) a ≡ N.lag a b
   pub room : (a b : ℕ) (d : Wheel P) → N.near a b ≡ true
       → HasRoom nothing (done_at done a) (done_at done b) (N.lag a b) a (get_or wheels b d)

@@ -6,7 +6,7 @@ use Rattle.step_core.specs.declared.hearing.Late.{Late}
 use Rattle.step_core.specs.declared.wheel.Wheel.{Wheel}
 use Rattle.step_core.specs.Nets.{border_at}
 use Rattle.step_core.specs.Views.{PartView, Stays, in_place, IsHeard}
-use Rattle.step_core.specs.Wheels.{IsWhole, row_of, due_in, is_flagged, lies, IsPut}
+use Rattle.step_core.specs.Wheels.{IsNoted, row_of, due_in, is_flagged, lies, IsPut}
 use Rattle.step_core.specs.Cores.{done_at}
 
 abbrev pub neighbour_at : List Border → ℕ → ℕ
@@ -28,7 +28,7 @@ module _ {P : Type 0} (nothing : P) where
   -- WHAT IS TAKEN
   -- what the first k of the neighbours sent was taken out of the row of second t, and lies in their places
   pub record HaveHeard (t : ℕ) (rows : List Border) (k : ℕ) (old new : Wheel P) (inbox : List P) : Type 0 where
-    pub whole : IsWhole new
+    pub noted : IsNoted nothing new
     pub lags : new.lags.items ≡ old.lags.items
     pub flags : new.flags.items ≡ old.flags.items
     pub degree : length inbox ≡ length rows
@@ -40,7 +40,7 @@ module _ {P : Type 0} (nothing : P) where
 
   -- nothing that a neighbour sent lies in the row of second t any more
   pub record AreTaken (t : ℕ) (rows : List Border) (old new : Wheel P) : Type 0 where
-    pub whole : IsWhole new
+    pub noted : IsNoted nothing new
     pub lags : new.lags.items ≡ old.lags.items
     pub taken : (k : ℕ) → k < length rows → lies nothing new t (neighbour_at rows k) ≡ nothing
     pub others : (u a : ℕ) → a < MAX_PARTITIONS → row_of u ≢ row_of t → lies nothing new u a ≡ lies nothing old u a
@@ -86,12 +86,12 @@ module _ {P : Type 0} (nothing : P) where
       pub stays : Stays stands before after
 
   -- A SECOND
-  -- the wheels are there and whole, and have room for what p sends to its neighbours in second t
+  -- the wheels are there, whole and noted, and have room for what p sends to its neighbours in second t
   pub record HaveRoom (t p : ℕ) (rows : List Border) (wheels : List (Wheel P)) : Type 0 where
     pub few : p < MAX_PARTITIONS
     pub listed : AreListed rows
     pub there : (k : ℕ) → k < length rows → neighbour_at rows k < length wheels
-    pub whole : (b : ℕ) (d : Wheel P) → b < length wheels → IsWhole (get_or wheels b d)
+    pub noted : (b : ℕ) (d : Wheel P) → b < length wheels → IsNoted nothing (get_or wheels b d)
     pub room : (k : ℕ) (d : Wheel P) → k < length rows
         → lies nothing (get_or wheels (neighbour_at rows k) d) (due_in (get_or wheels (neighbour_at rows k) d) t p) p ≡ nothing
 

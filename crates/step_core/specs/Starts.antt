@@ -2,12 +2,12 @@
 use Rattle.std.specs.Prelude.{◌≡◌, ℕ, ◌<◌, List, [], length, get_or}
 use Rattle.step_core.specs.declared.part.Border.{Border}
 use Rattle.step_core.specs.declared.wheel.Wheel.{Wheel}
-use Rattle.step_core.specs.Wheels.{IsWhole, lag_in, lies}
+use Rattle.step_core.specs.Wheels.{IsNoted, lag_in, lies}
 use Rattle.step_core.specs.Exchanges.{neighbour_at, lag_at}
 
 -- the wheel of a partition with these neighbours, in which nothing lies
 pub record IsEmptyWheel {P : Type 0} (nothing : P) (rows : List Border) (w : Wheel P) : Type 0 where
-  pub whole : IsWhole w
+  pub noted : IsNoted nothing w
   pub lags : (k : ℕ) → k < length rows → lag_in w (neighbour_at rows k) ≡ lag_at rows k
   pub none : (u a : ℕ) → lies nothing w u a ≡ nothing
 

@@ -11,11 +11,12 @@ row_of u = u % WHEEL
 abbrev pub place_in : ℕ → ℕ → ℕ
 place_in u a = row_of u * MAX_PARTITIONS + a
 
--- each sender has a lag, each row a flag, and each row a place for each sender
+-- each sender has a lag, each row a flag, each row a place for each sender, and each place a note
 pub record IsWhole {P : Type 0} (w : Wheel P) : Type 0 where
   pub senders : length w.lags.items ≡ MAX_PARTITIONS
   pub rows : length w.flags.items ≡ WHEEL
   pub places : length w.parcels.items ≡ WHEEL * MAX_PARTITIONS
+  pub notes : length w.noted.items ≡ WHEEL * MAX_PARTITIONS
 
 -- how long a parcel of a sender is on its way, and when that of a second is due
 abbrev pub lag_in : {P : Type 0} → Wheel P → ℕ → ℕ
@@ -34,6 +35,11 @@ module _ {P : Type 0} (nothing : P) where
   abbrev pub lies : Wheel P → ℕ → ℕ → P
   lies w u a = get_or w.parcels.items (place_in u a) nothing
 
+  -- it is whole, and where no note is nothing lies
+  pub record IsNoted (w : Wheel P) : Type 0 where
+    pub whole : IsWhole w
+    pub quiet : (place : ℕ) → get_or w.noted.items place false ≡ false → get_or w.parcels.items place nothing ≡ nothing
+
   -- A partition has done t seconds, and of its neighbours a has done s. Of each second of a whose parcel is due and not absorbed the right
   -- one lies in its wheel. Before the first of them comes from a nothing does, nor where no flag is.
   pub record IsFilled (right : ℕ → P → Type 0) (s t lag a : ℕ) (w : Wheel P) : Type 0 where
@@ -47,7 +53,7 @@ module _ {P : Type 0} (nothing : P) where
 
   -- once x came from a and is due in second u
   pub record IsPut (u a : ℕ) (x : P) (old new : Wheel P) : Type 0 where
-    pub whole : IsWhole new
+    pub noted : IsNoted new
     pub lags : new.lags.items ≡ old.lags.items
     pub here : lies new u a ≡ x
     pub rest : (v : ℕ) → row_of v ≢ row_of u → lies new v a ≡ lies old v a

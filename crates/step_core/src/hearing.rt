@@ -3,7 +3,7 @@
 ghost use Rattle.std.specs.Prelude.{◌≡◌, ℕ, ◌+◌, ◌<◌, ◌≤◌, false, length, get_or, set, IfNone, IfSome, OnOk, OnErr};
 ghost use Rattle.limits.specs.declared.TheConstants.{MAX_PARTITIONS};
 ghost use Rattle.step_core.specs.Views.{in_place, AreEmpty, IsAt, Stays};
-ghost use Rattle.step_core.specs.Wheels.{IsWhole, due_in, is_flagged, lies, IsPut};
+ghost use Rattle.step_core.specs.Wheels.{IsNoted, due_in, is_flagged, lies, IsPut};
 ghost use Rattle.step_core.specs.Cores.{done_at};
 ghost use Rattle.step_core.specs.Exchanges.{neighbour_at, lag_at, AreListed, AreHeard, HasTakenIn, AreSent, HaveRoom, IsReady};
 ghost use Rattle.step_core.specs.Exchanges.{HasTaken, HasExchanged, IsFirstLate};
@@ -56,7 +56,7 @@ fn absorb_some<T: Part>(part: &mut T, place: usize, parcel: T::Parcel)
 
 /// A partition absorbs what lies in the row of a second in its wheel.
 fn hear_row<T: Part>(borders: &[Border], second: u32, part: &mut T, wheel: &mut Wheel<T::Parcel>)
-    requires whole { IsWhole wheel.old }
+    requires noted { IsNoted T.nothing wheel.old }
     requires listed { AreListed borders.now }
     requires empty { AreEmpty T.nothing (length borders.now) (T.see part.old).inbox }
     ensures { AreHeard T.nothing T.see T.stands second borders.now (length borders.now) wheel.old wheel.new part.old part.new }
@@ -70,7 +70,7 @@ fn hear_row<T: Part>(borders: &[Border], second: u32, part: &mut T, wheel: &mut 
 
 /// A partition absorbs what is due in a second, if anything is.
 fn hear<T: Part>(borders: &[Border], second: u32, part: &mut T, wheel: &mut Wheel<T::Parcel>)
-    requires whole { IsWhole wheel.old }
+    requires noted { IsNoted T.nothing wheel.old }
     requires listed { AreListed borders.now }
     requires empty { AreEmpty T.nothing (length borders.now) (T.see part.old).inbox }
     requires quiet { is_flagged wheel.old second ≡ false → (k : ℕ) → k < length borders.now
@@ -84,34 +84,16 @@ fn hear<T: Part>(borders: &[Border], second: u32, part: &mut T, wheel: &mut Whee
     wheel.clear_flag(second);
 }
 
-/// What partition `number` sends to a neighbour goes into the wheel of that one, where something is in it.
-fn send_to<T: Part>(
-    number: u32,
-    second: u32,
-    place: usize,
-    part: &mut T,
-    wheel: &mut Wheel<T::Parcel>,
-)
+/// A parcel of partition `number` goes into the wheel of a neighbour.
+fn send_to<T: Part>(number: u32, second: u32, parcel: T::Parcel, wheel: &mut Wheel<T::Parcel>)
     requires few { number < MAX_PARTITIONS }
-    requires there { place < length (T.see part.old).outbox }
-    requires whole { IsWhole wheel.old }
-    requires room { lies T.nothing wheel.old (due_in wheel.old second number) number ≡ T.nothing }
-    ensures put { IsPut T.nothing (due_in wheel.old second number) number (in_place T.nothing (T.see part.old).outbox place)
-        wheel.old wheel.new }
-    ensures outbox { (T.see part.new).outbox ≡ set (T.see part.old).outbox place T.nothing }
-    ensures inbox { (T.see part.new).inbox ≡ (T.see part.old).inbox }
-    ensures number { (T.see part.new).number ≡ (T.see part.old).number }
-    ensures seconds { (T.see part.new).seconds ≡ (T.see part.old).seconds }
-    ensures stands { Stays T.stands part.old part.new }
+    requires noted { IsNoted T.nothing wheel.old }
+    ensures { IsPut T.nothing (due_in wheel.old second number) number parcel wheel.old wheel.new }
 {
-    let parcel = part.outbox(place);
-    if T::is_nothing(&parcel) {
-        return;
-    }
     wheel.put(second, number, parcel);
 }
 
-/// What partition `number` sends to each neighbour goes into the wheel of that one.
+/// What partition `number` sends to each neighbour goes into the wheel of that one; where nothing is in a parcel none is looked at.
 fn send_each<T: Part>(
     borders: &[Border],
     number: u32,
@@ -124,8 +106,12 @@ fn send_each<T: Part>(
     ensures { AreSent T.nothing T.see T.stands second number borders.now (length borders.now) wheels.old wheels.new part.old part.new }
 {
     for place in 0..borders.len() {
+        let parcel = part.outbox(place);
+        if T::is_nothing(&parcel) {
+            continue;
+        }
         let to = borders[place].neighbour as usize;
-        send_to(number, second, place, part, &mut wheels[to]);
+        send_to::<T>(number, second, parcel, &mut wheels[to]);
     }
 }
 

@@ -79,10 +79,12 @@ fn empty_wheel<T: Part>(alloc: Global, borders: &[Border]) -> Result<Wheel<T::Pa
 {
     let lags = lags_from(alloc, borders)?;
     let flags = vec![in alloc; false; WHEEL as usize]?;
+    let noted = vec![in alloc; false; WHEEL as usize * MAX_PARTITIONS as usize]?;
     let parcels = empty_rows::<T>(alloc)?;
     Ok(Wheel {
         lags,
         flags,
+        noted,
         parcels,
     })
 }

@@ -3,7 +3,7 @@
 ghost use Rattle.std.specs.Prelude.{◌≡◌, ◌*◌, ◌<◌, true, false, set, get_or};
 ghost use Rattle.limits.specs.declared.TheConstants.{MAX_PARTITIONS};
 ghost use Rattle.step_core.specs.declared.wheel.TheConstants.{WHEEL};
-ghost use Rattle.step_core.specs.Wheels.{IsWhole, row_of, place_in, lag_in, due_in, is_flagged};
+ghost use Rattle.step_core.specs.Wheels.{IsWhole, IsNoted, row_of, place_in, lag_in, due_in, is_flagged};
 
 use limits::{MAX_LAG, MAX_PARTITIONS};
 use std::mem::replace;
@@ -13,13 +13,16 @@ use std::mem::replace;
 pub(crate) const WHEEL: u64 = 2 * MAX_LAG as u64;
 
 /// The parcels that were sent to one partition and that it has not absorbed, by the second in which each is due: a timing wheel. The row of
-/// a second is that of its number modulo `WHEEL`, and has a place for each sender, by number.
+/// a second is that of its number modulo `WHEEL`, and has a place for each sender, by number. In most places nothing lies, which is seen
+/// without a look at the place.
 #[derive(Drop)]
 pub struct Wheel<P> {
     /// After how many seconds a parcel of a sender is due, by number.
     pub(crate) lags: Vec<u32>,
     /// Whether something may lie in a row.
     pub(crate) flags: Vec<bool>,
+    /// Of each place whether something may lie there.
+    pub(crate) noted: Vec<bool>,
     /// The rows, one after the other.
     pub(crate) parcels: Vec<P>,
 }
@@ -55,6 +58,7 @@ impl<P: Drop> Wheel<P> {
         requires { IsWhole self.old }
         ensures flags { self.new.flags.items ≡ set self.old.flags.items (row_of second) false }
         ensures lags { self.new.lags.items ≡ self.old.lags.items }
+        ensures noted { self.new.noted.items ≡ self.old.noted.items }
         ensures parcels { self.new.parcels.items ≡ self.old.parcels.items }
     {
         self.flags[row_of(u64::from(second))] = false;
@@ -62,14 +66,19 @@ impl<P: Drop> Wheel<P> {
 
     /// Takes out what lies in the place of a sender in the row of a second, and leaves the parcel with nothing in it there.
     pub(crate) fn take(&mut self, second: u32, sender: u32, nothing: P) -> P
-        requires whole { IsWhole self.old }
+        requires noted { IsNoted nothing self.old }
         requires sender { sender < MAX_PARTITIONS }
         ensures parcel { result ≡ get_or self.old.parcels.items (place_in second sender) nothing }
         ensures parcels { self.new.parcels.items ≡ set self.old.parcels.items (place_in second sender) nothing }
+        ensures noted { IsNoted nothing self.new }
         ensures flags { self.new.flags.items ≡ self.old.flags.items }
         ensures lags { self.new.lags.items ≡ self.old.lags.items }
     {
         let place = place_in(u64::from(second), sender);
+        if !self.noted[place] {
+            return nothing;
+        }
+        self.noted[place] = false;
         replace(&mut self.parcels[place], nothing)
     }
 
@@ -77,6 +86,7 @@ impl<P: Drop> Wheel<P> {
     pub(crate) fn put(&mut self, second: u32, sender: u32, parcel: P)
         requires whole { IsWhole self.old }
         requires sender { sender < MAX_PARTITIONS }
+        ensures noted { (nothing : P) → IsNoted nothing self.old → IsNoted nothing self.new }
         ensures parcels { self.new.parcels.items
             ≡ set self.old.parcels.items (place_in (due_in self.old second sender) sender) parcel }
         ensures flags { self.new.flags.items ≡ set self.old.flags.items (row_of (due_in self.old second sender)) true }
@@ -85,6 +95,8 @@ impl<P: Drop> Wheel<P> {
         let lag = self.lags[sender as usize];
         let due = u64::from(second) + u64::from(lag);
         self.flags[row_of(due)] = true;
-        self.parcels[place_in(due, sender)] = parcel;
+        let place = place_in(due, sender);
+        self.noted[place] = true;
+        self.parcels[place] = parcel;
     }
 }

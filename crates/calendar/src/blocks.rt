@@ -1,6 +1,6 @@
 //! The rows of a block of seconds: numbers come to one of them, and are taken from it.
 
-ghost use Rattle.std.specs.Prelude.{◌≡◌, ℕ, ◌<◌, ◌≤◌, length, OnOk, OnErr};
+ghost use Rattle.std.specs.Prelude.{◌≡◌, ℕ, ◌<◌, ◌≤◌, true, [], length, map, vec_items, OnOk, OnErr};
 ghost use Rattle.std.specs.List.{list_all};
 ghost use Rattle.calendar.specs.Due.{due_at, HasOneMore, HasNone};
 ghost use Rattle.calendar.specs.Blocks.{rows_of, is_empty};
@@ -63,6 +63,16 @@ fn drop_past(rows: &mut Vec<Vec<u32>>, place: usize)
     if are_empty(rows) {
         *rows = Vec::new(*rows.allocator());
     }
+}
+
+/// Whether nobody is due in this second of a block.
+pub(crate) fn is_quiet_in(rows: &[Vec<u32>], place: usize) -> bool
+    ensures { result ≡ true → due_at place (map vec_items rows.now) ≡ [] }
+{
+    if place < rows.len() {
+        return rows[place].is_empty();
+    }
+    true
 }
 
 /// Takes those who are due in this second, which has a row, in the order in which they came.

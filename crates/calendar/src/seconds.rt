@@ -1,10 +1,10 @@
 //! Numbers come to a second, and are taken from it.
 
-ghost use Rattle.std.specs.Prelude.{◌≡◌, ℕ, ◌<◌, [], length, OnOk, OnErr};
+ghost use Rattle.std.specs.Prelude.{◌≡◌, ℕ, ◌<◌, true, [], length, OnOk, OnErr};
 ghost use Rattle.calendar.specs.Due.{due_at, HasOneMore, HasNone};
 
 use crate::BLOCK_SECONDS;
-use crate::blocks::{add_in, take_in};
+use crate::blocks::{add_in, is_quiet_in, take_in};
 use crate::by_second::Calendar;
 use std::alloc::{AllocError, Global};
 
@@ -57,6 +57,18 @@ impl Calendar {
         self.reach(place)?;
         self.put(place, number)?;
         Ok(())
+    }
+
+    /// Whether no number is due in this second.
+    pub fn is_quiet(&self, second: u32) -> bool
+        ensures { result ≡ true → due_at second self.now ≡ [] }
+    {
+        let place = second as usize;
+        let block = place / BLOCK_SECONDS;
+        if block < self.blocks.len() {
+            return is_quiet_in(&self.blocks[block], place % BLOCK_SECONDS);
+        }
+        true
     }
 
     /// Takes those that are due in this second, in the order in which they came.

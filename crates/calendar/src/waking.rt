@@ -1,6 +1,6 @@
 //! Numbers are given the second in which they are woken, and are woken in it.
 
-ghost use Rattle.std.specs.Prelude.{◌≡◌, ◌<◌, ℕ, length, map, filter, set, replicate, None, OnOk, IfOk};
+ghost use Rattle.std.specs.Prelude.{◌≡◌, ◌<◌, ℕ, true, [], length, map, filter, set, replicate, None, OnOk, IfOk};
 ghost use Rattle.std.specs.List.{Contains};
 ghost use Rattle.std.specs.List.Sorted.{IsStrictlyIncreasing};
 ghost use Rattle.calendar.specs.Waking.{wake_of, is_second, is_woken, woken, slept, asleep, woken_by, within};
@@ -144,6 +144,13 @@ impl Wakes {
             Some(due) => second.min(due),
         };
         self.set(number, Some(second))
+    }
+
+    /// Whether it is seen at once that nobody is woken in this second: nobody hangs at it in the calendar.
+    pub fn is_quiet(&self, second: u32) -> bool
+        ensures { result ≡ true → woken second self.now ≡ [] }
+    {
+        self.calendar.is_quiet(second)
     }
 
     /// Takes those who are woken in this second, ascending; they are not woken any more then.

@@ -3,7 +3,6 @@ pub mod Started
 pub mod Standing
 pub mod Places
 pub mod Filling
-pub mod Noting
 pub mod Without
 pub mod Coming
 pub mod Right

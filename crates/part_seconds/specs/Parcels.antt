@@ -1,5 +1,5 @@
 -- What is in a parcel.
-use Rattle.std.specs.Prelude.{◌≡◌, ℕ, Bool, true, false, List, [], get_or, Option, None, Some}
+use Rattle.std.specs.Prelude.{◌≡◌, ℕ, Bool, false, List, [], length, get_or, Option, None, Some}
 use Rattle.std.specs.Global.{Box}
 use Rattle.part_seconds.specs.declared.contents.Contents.{Contents}
 
@@ -17,7 +17,9 @@ contents_in (Some box) = box.value
 abbrev pub HasNothing : List Contents → Type 0
 HasNothing parcels = (k : ℕ) → get_or parcels k nothing ≡ nothing
 
--- where it is noted that nothing may be in them, nothing is
-abbrev pub IsNoted : Bool → List Contents → Type 0
-IsNoted true parcels = Unit {0}
-IsNoted false parcels = HasNothing parcels
+-- Where it is not noted that something may be in one of these parcels, nothing is in any. Of each it is noted whether something may be in
+-- it, and where not, nothing is.
+pub record IsNoted (some : Bool) (noted : List Bool) (parcels : List Contents) : Type 0 where
+  pub none : some ≡ false → HasNothing parcels
+  pub many : length noted ≡ length parcels
+  pub each : (k : ℕ) → get_or noted k false ≡ false → get_or parcels k nothing ≡ nothing

@@ -9,11 +9,13 @@ use std::alloc::{AllocError, Global};
 use std::marker::Model;
 use std::mem::replace;
 
-/// A parcel for each neighbour, in order. Most lie there with nothing in them for most of the day, and where that is so of all it is seen
-/// at once. Contracts see a mailbox as the list of what is in its parcels.
+/// A parcel for each neighbour, in order. Most lie there with nothing in them for most of the day. Where that is so of all it is seen at
+/// once, and of one without a look at it. Contracts see a mailbox as the list of what is in its parcels.
 #[derive(Drop)]
 pub struct Mailbox {
     parcels: Vec<Parcel>,
+    /// Of each whether something may be in it.
+    noted: Vec<bool>,
     /// Whether something may be in one of them.
     some: bool,
 }
@@ -27,7 +29,7 @@ impl Model for Mailbox {
 
     ghost view = { λ m. m.parcels.items };
 
-    ghost invariant = { λ m. IsNoted m.some m.parcels.items };
+    ghost invariant = { λ m. IsNoted m.some m.noted.items m.parcels.items };
 }
 
 /// So many parcels with nothing in them.
@@ -51,8 +53,10 @@ impl Mailbox {
         ensures { IfOk result (λ mailbox. mailbox ≡ replicate count nothing) }
     {
         let parcels = empty_parcels(alloc, count)?;
+        let noted = vec![in alloc; false; count]?;
         Ok(Mailbox {
             parcels,
+            noted,
             some: false,
         })
     }
@@ -84,6 +88,7 @@ impl Mailbox {
         ensures { self.new ≡ set self.old place parcel }
     {
         self.some = true;
+        self.noted[place] = true;
         self.parcels[place] = parcel;
     }
 
@@ -93,6 +98,10 @@ impl Mailbox {
         ensures parcel { result ≡ parcel_at self.old place }
         ensures rest { self.new ≡ set self.old place nothing }
     {
+        if !self.noted[place] {
+            return Parcel::new();
+        }
+        self.noted[place] = false;
         replace(&mut self.parcels[place], Parcel::new())
     }
 
@@ -115,6 +124,7 @@ impl Mailbox {
         ensures { OnOk result (self.new ≡ set self.old place (with_item item (parcel_at self.old place))) }
     {
         self.some = true;
+        self.noted[place] = true;
         self.parcels[place].add(alloc, item)?;
         Ok(())
     }

@@ -1,8 +1,13 @@
-use Rattle.std.proofs.Common.{◌∙◌, List, ap, get_or}
+use Rattle.std.proofs.Common.{◌∙◌, ℕ, List, ap, arith, get_or, length}
+use Rattle.std.proofs.lemmas.List.{length-replicate}
 use Rattle.part_seconds.specs.declared.contents.Contents.{Contents}
 use Rattle.part_seconds.specs.Parcels.{nothing}
 use Rattle.part_seconds.proofs.Lists.{same_at}
 use Rattle.part_seconds.proofs.mailbox.Mailbox.new.Goals as goal
 
 pub invariant_of-result : goal.invariant_of-result
-invariant_of-result c = λ k. ap (λ (xs : List Contents). get_or xs k nothing) c.in_ok-parcels.ensures ∙ same_at nothing c.args.count k
+invariant_of-result c =
+    let none = λ (k : ℕ). ap (λ (xs : List Contents). get_or xs k nothing) c.in_ok-parcels.ensures ∙ same_at nothing c.args.count k in
+    let many = ap (λ (xs : List Contents). length xs) c.in_ok-parcels.ensures ∙ length-replicate c.args.count nothing in
+    let long = c.in_ok-noted.ensures.len in
+    record { none = λ _. none; many = omega (arith, many, long); each = λ k _. none k }

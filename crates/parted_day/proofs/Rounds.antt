@@ -114,15 +114,22 @@ module _ (day : DayInput) (owner : Owner) (given : HaveFittingPlans day) (p t : 
       becomes
       (λ u. between S own b.neighbour p u) x now new here g (subst (λ (u : ℕ). HasAbsorbedParcel day slots u x now new) is e)
 
+  -- nothing is in one place more
+  pub passed : (k : ℕ) (x : Contents) (inbox : List Contents) (now : Area) → k < length rows
+      → HasHeard nothing (IsRight S own) p t rows inbox → x ≡ in_place nothing inbox k → x ≡ nothing
+      → HasAbsorbed day own p t (take k all) old now → HasAbsorbed day own p t (take (k + 1) all) old now
+  passed k x inbox now lt heard there none g =
+      let s = t - (border_at rows k).lag in
+      round k s nothing inbox now now lt refl heard (sym none ∙ there) g (none_come day slots s now g.persons.wakes)
+
   -- nothing is in any place: the part is as it was
   pub quiet : (k : ℕ) (inbox : List Contents) → k ≤ length rows → HasHeard nothing (IsRight S own) p t rows inbox → HasNothing inbox
       → HasAbsorbed day own p t (take k all) old old
   quiet zero inbox le heard none = none_absorbed day own p t old h
   quiet (suc k) inbox le heard none =
       let before = quiet k inbox (omega arith) heard none in
-      let s = t - (border_at rows k).lag in
       subst (λ (n : ℕ). HasAbsorbed day own p t (take n all) old old) (add-one k)
-      (round k s nothing inbox old old (omega arith) refl heard (sym (none k)) before (none_come day slots s old h.persons.looks))
+      (passed k nothing inbox old (omega arith) heard (sym (none k)) refl before)
 
   -- behind the last one
   pub finished : TakeIn → (k : ℕ) (new : Area) → length rows ≤ k → HasAbsorbed day own p t (take k all) old new

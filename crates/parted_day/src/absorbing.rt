@@ -21,7 +21,7 @@ use std::alloc::AllocError;
 
 /// A part absorbs the parcels of its neighbours before a second, in their order: of each the one that was sent as many seconds before as
 /// the lag from it has, where that is a second of the day. The part is then what it has to be as its second begins, and nothing is in the
-/// parcels any more. Where it is seen at once that nothing is in them, none is looked at.
+/// parcels any more. Where it is seen at once that nothing is in them, none is looked at, and one with nothing in it is passed over.
 ///
 /// # Errors
 ///
@@ -55,8 +55,11 @@ pub(crate) fn absorb(
     }
     let borders = neighbours_of(run, partition);
     for place in 0..borders.len() {
-        let sent = second.saturating_sub(borders[place].lag);
         let parcel = inbox.take(place);
+        if parcel.is_nothing() {
+            continue;
+        }
+        let sent = second.saturating_sub(borders[place].lag);
         absorb_parcel(area, run, sent, parcel)?;
     }
     inbox.all_taken();

@@ -10,7 +10,7 @@ use Rattle.step_core.specs.Views.{in_place}
 use Rattle.part_seconds.specs.declared.contents.Contents.{Contents}
 use Rattle.part_seconds.specs.Parcels.{nothing}
 use Rattle.parted_day.proofs.Steps.{none_absorbed, many_persons, many_wakes}
-use Rattle.parted_day.proofs.Rounds.{emptied_next, kept_next, all_emptied, round, quiet, finished}
+use Rattle.parted_day.proofs.Rounds.{emptied_next, kept_next, all_emptied, round, passed, quiet, finished}
 use Rattle.parted_day.proofs.absorbing.absorb.Goals as goal
 
 pub returns-then-not-has_some-clause-stands : goal.returns-then-not-has_some-clause-stands
@@ -64,6 +64,31 @@ absorb_parcel-requires-clause-wakes c =
     let run = c.args.run.now in
     many_wakes run.day.now (owner_in run.owner.now.of_node) c.args.partition c.args.second c.args.area.now c.requires.stands _
     c.loop-place.area c.loop-place.invariant.absorbed
+
+pub loop-place-preserved-then-is_nothing : goal.loop-place-preserved-then-is_nothing
+loop-place-preserved-then-is_nothing c =
+    let run = c.args.run.now in
+    let k = c.loop-place.place in
+    let was = c.loop-place.invariant in
+    let is = c.neighbours_of-borders.ensures in
+    let n = ap (λ (bs : List Border). length bs) is in
+    let m = was.many in
+    let places = c.requires.places in
+    let there : k < length c.loop-place.inbox = omega arith in
+    record {
+      absorbed =
+          passed run.day.now run.owner.now run.given c.args.partition c.args.second run.link_slots.now run.slots
+          c.parcels_make_ready.ensures.ready c.parcels_make_ready.ensures.between c.args.area.now c.requires.stands k
+          c.take-parcel.result c.args.inbox.now c.loop-place.area (omega arith) c.requires.heard
+          (c.take-parcel.ensures.parcel ∙ was.kept k (omega arith)) (c.is_nothing.ensures c.if-is_nothing.true) was.absorbed;
+      many =
+          ap (λ (xs : List Contents). length xs) c.take-parcel.ensures.rest
+          ∙ length-set c.loop-place.inbox k nothing ∙ was.many;
+      emptied =
+          emptied_next c.loop-place.inbox c.take-parcel.new.self k c.take-parcel.ensures.rest there was.emptied;
+      kept =
+          kept_next c.loop-place.inbox c.args.inbox.now c.take-parcel.new.self k c.take-parcel.ensures.rest was.kept;
+    }
 
 pub loop-place-preserved : goal.loop-place-preserved
 loop-place-preserved c =

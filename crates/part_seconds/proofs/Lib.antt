@@ -20,3 +20,4 @@ pub mod Knowing
 pub mod Early
 pub mod Driven
 pub mod Crossed
+pub mod Idle

@@ -8,3 +8,4 @@ pub mod Slots
 pub mod Settling
 pub mod Starting
 pub mod Stands
+pub mod Resting

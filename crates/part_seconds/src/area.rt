@@ -1,5 +1,8 @@
 //! What a part has of the network, and who is there.
 
+ghost use Rattle.std.specs.Prelude.{◌≡◌, true};
+ghost use Rattle.part_seconds.specs.Resting.{IsAtRest};
+
 use calendar::Calendar;
 use part_nodes::NetworkState;
 use part_persons::Persons;
@@ -20,4 +23,18 @@ pub struct Area {
     pub network: NetworkState,
     /// How many vehicles are in the queue of each link that begins elsewhere, by slot, as of its last turn and of what was absorbed since.
     pub queues: Vec<usize>,
+}
+
+impl Area {
+    /// Whether it is seen at once that nobody has anything to do in a second: nobody is woken in it, no departure starts, and no place comes
+    /// free.
+    pub fn rests(&self, second: u32) -> bool
+        ensures { result ≡ true → IsAtRest second self.now }
+    {
+        self.network.link_wakes.is_quiet(second)
+            && self.network.node_wakes.is_quiet(second)
+            && self.persons.wakes.is_quiet(second)
+            && self.departures.is_quiet(second)
+            && self.network.places.freed.is_quiet(second)
+    }
 }

@@ -22,3 +22,4 @@ mod Sending
 mod Telling
 mod Going
 mod Standing
+mod Resting

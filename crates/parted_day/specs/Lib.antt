@@ -6,3 +6,4 @@ pub mod Turns
 pub mod Parts
 pub mod Sharing
 pub mod Passed
+pub mod Rest

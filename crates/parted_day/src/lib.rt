@@ -17,6 +17,7 @@ mod links;
 mod loads;
 mod neighbours;
 mod part;
+mod quiet;
 mod riding;
 mod runs;
 mod straying;

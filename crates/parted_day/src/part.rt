@@ -11,6 +11,7 @@ ghost use Rattle.parted_day.specs.Parts.{view_of, IsPartOf};
 use crate::beginnings::begin;
 use crate::ends::end_events;
 use crate::neighbours::neighbours_of;
+use crate::quiet::rest_changes_nothing;
 use crate::straying::Stray;
 use crate::turns::{forget_told, send_parcels, take_turns};
 use divided_day::DayPart;
@@ -129,8 +130,13 @@ impl<'a> Part for TownPart<'a> {
     }
 
     fn second(&mut self, run: &Run<'a>) -> Result<(), AllocError> {
-        self.spent = true;
         forget_told(run, &mut self.told);
+        rest_changes_nothing();
+        if !self.inbox.has_some() && self.area.rests(self.done) {
+            self.done += 1;
+            return Ok(());
+        }
+        self.spent = true;
         let leaving = take_turns(
             run,
             self.number,

@@ -1,11 +1,52 @@
-use Rattle.std.proofs.Common.{◌∙◌, List, ◌++◌, ap, arith, refl}
+use Rattle.std.proofs.Common.{◌∙◌, List, [], ◌++◌, ap, append-nil, arith, refl, sym}
+use Rattle.std.specs.Prelude.{if◌then◌else◌}
 use Rattle.events.specs.declared.event.Event.{Event}
 use Rattle.partition.specs.Owned.{owner_in}
 use Rattle.town.specs.Views.{setup}
 use Rattle.parted_day.specs.Turns.{turns_told}
-use Rattle.parted_day.proofs.Standing.{empty_as}
+use Rattle.parted_day.specs.Rest.{ChangesNothing}
+use Rattle.parted_day.proofs.Standing.{empty_as, empty_has_nothing}
 use Rattle.parted_day.proofs.Telling.{told_next}
+use Rattle.parted_day.proofs.part.TownPartPart.second.Goals.{Then-rests}
 use Rattle.parted_day.proofs.part.TownPartPart.second.Goals as goal
+
+-- where nothing came and nobody has anything to do
+rested : (c : Then-rests) →
+    ChangesNothing c.args.run.now.day.now c.args.run.now.owner.now c.args.self.now.number c.args.self.now.done c.args.self.now.area
+rested c =
+    let run = c.args.run.now in
+    let x = c.args.self.now in
+    c.rest_changes_nothing.ensures run.day.now run.owner.now x.number x.done run.link_slots.now x.area x.inbox run.given run.slots
+    c.requires.before_end c.requires.stands.stands c.requires.heard (c.has_some.ensures c.if-not-has_some.true)
+    (c.rests.ensures c.if-rests.true)
+
+pub returns-then-rests-clause-done : goal.returns-then-rests-clause-done
+returns-then-rests-clause-done c =
+    let run = c.args.run.now in
+    let x = c.args.self.now in
+    let rest = rested (goal.at.returns-then-rests-clause-done c).Then-rests in
+    let kept : List Event = if run.streams then [] else x.told.events.items in
+    record {
+      number = refl;
+      seconds = refl;
+      holds = record {
+        there = c.requires.stands.there;
+        stands = rest.stands;
+        events = told_next run.day.now run.owner.now run.given x.number x.done run.streams x.told.events.items c.forget_told.new.told.events.items
+            c.requires.stands.events
+            (c.forget_told.ensures.events ∙ sym (append-nil kept) ∙ ap (λ (es : List Event). kept ++ es) (sym rest.told));
+        silent = c.forget_told.ensures.said ∙ c.requires.stands.silent;
+        stray = rest.strays x.strays.items c.requires.stands.stray;
+        whole = c.requires.stands.whole;
+      };
+      empty = record { many = c.requires.places; none = λ k lt. c.has_some.ensures c.if-not-has_some.true k };
+      places = c.requires.gone.many;
+    }
+
+pub returns-then-rests-clause-sent : goal.returns-then-rests-clause-sent
+returns-then-rests-clause-sent c =
+    (rested (goal.at.returns-then-rests-clause-sent c).Then-rests).sent c.args.self.now.outbox
+    (empty_has_nothing _ c.args.self.now.outbox c.requires.gone)
 
 pub take_turns-requires-clause-second_in : goal.take_turns-requires-clause-second_in
 take_turns-requires-clause-second_in c = let short = c.args.run.now.day.now.town.now.sound.settings.ends in omega arith

@@ -1,6 +1,6 @@
 -- The turns of a second in which nobody of a part has anything to do leave the part as it is.
-use Rattle.traffic.proofs.Common.{◌≡◌, ℕ, suc, ◌+◌, ◌-◌, ◌<◌, Bool, false, List, [], ◌∷◌, ◌++◌, ◌∙◌, ap, refl, sym, arith, inl, inr, cases_Bool}
-use Rattle.traffic.proofs.Common.{eqb, eqb-true, length, map, filter, get_or, Option, None, Some, Setup, World, person_of, below, turns}
+use Rattle.traffic.proofs.Common.{◌≡◌, ℕ, suc, ◌+◌, ◌-◌, ◌<◌, Bool, false, List, [], ◌∷◌, ◌++◌, ◌∙◌, ap, refl, sym, arith, inl, inr}
+use Rattle.traffic.proofs.Common.{cases_Bool, eqb, eqb-true, length, map, filter, get_or, Option, None, Some, Setup, World, person_of, below, turns}
 use Rattle.traffic.proofs.Common.{events_in, turns_in}
 use Rattle.events.specs.declared.event.Phase.TheVariants as phase
 use Rattle.traffic.specs.declared.node_views.OutLink.{OutLink}
@@ -173,8 +173,8 @@ module _ (day : DayInput) (own : Owner) (parts p t : ℕ) (slots : List ℕ) (gi
       crossing.crossed A [] [] [] [] [] [] refl crossed_is refl (λ u f. f) early_stands.persons.looks refl refl refl
 
   -- LINKS
-  driven_is : IsPhaseBy (link_in S own p) (slot_count S own p) (my_link_turns S own p t) S end t (world_crossed S own p t) links A.lines.items
-      wakes [] [] [] []
+  driven_is : IsPhaseBy (link_in S own p) (slot_count S own p) (my_link_turns S own p t) S end t (world_crossed S own p t) links
+      A.lines.items wakes [] [] [] []
   driven_is =
       turned day own parts p t slots given shares are A crossed_stands links A.lines.items wakes [] [] [] []
       (λ number count U W numbered dwell stand lies stops asleep.

@@ -26,8 +26,8 @@ pub struct Area {
 }
 
 impl Area {
-    /// Whether it is seen at once that nobody has anything to do in a second: nobody is woken in it, no departure starts, and no place comes
-    /// free.
+    /// Whether it is seen at once that nobody has anything to do in a second: nobody is woken in it, no departure starts, and no place
+    /// comes free.
     pub fn rests(&self, second: u32) -> bool
         ensures { result ≡ true → IsAtRest second self.now }
     {

@@ -92,8 +92,8 @@ module _ (day : DayInput) (owner : Owner) (given : HaveFittingPlans day) (p t : 
     -- the parcel for each neighbour is the one with nothing in it
     nothing_goes : (k : ℕ) → k < length rows → parcel_of S t nothing ≡ out S own p (border_at rows k).neighbour t
     nothing_goes k lt =
-        right_parcel S own p t k rows (are_others day owner given p rows refl) lt [] [] [] (day_sends day own owner.parts p t given owner.owned)
-        g.rows g.looked g.others g.freed
+        right_parcel S own p t k rows (are_others day owner given p rows refl) lt [] [] []
+        (day_sends day own owner.parts p t given owner.owned) g.rows g.looked g.others g.freed
 
     nobody_gone : HaveGone S own p t A.persons A.persons
     nobody_gone =
@@ -103,7 +103,8 @@ module _ (day : DayInput) (owner : Owner) (given : HaveFittingPlans day) (p t : 
     behind : LetGo → ChangesNothing day owner p t A
     behind lets = record {
       stands = next_stands day own p t given
-          (lets S own owner.parts p t (counts_in day) (sound_setup day given) (consistent_setup day given) owner.owned (fit_setup day given))
+          (lets S own owner.parts p t (counts_in day) (sound_setup day given) (consistent_setup day given) owner.owned
+          (fit_setup day given))
           A A.persons g.stands nobody_gone;
       told = sym (all_told_in S own p t [] [] [] [] g.early g.crossed g.driven);
       sent = λ parcels none k lt. ap (parcel_of S t) (none k) ∙ nothing_goes k lt;

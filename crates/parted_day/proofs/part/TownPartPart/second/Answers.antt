@@ -32,8 +32,8 @@ returns-then-rests-clause-done c =
       holds = record {
         there = c.requires.stands.there;
         stands = rest.stands;
-        events = told_next run.day.now run.owner.now run.given x.number x.done run.streams x.told.events.items c.forget_told.new.told.events.items
-            c.requires.stands.events
+        events = told_next run.day.now run.owner.now run.given x.number x.done run.streams x.told.events.items
+            c.forget_told.new.told.events.items c.requires.stands.events
             (c.forget_told.ensures.events ∙ sym (append-nil kept) ∙ ap (λ (es : List Event). kept ++ es) (sym rest.told));
         silent = c.forget_told.ensures.said ∙ c.requires.stands.silent;
         stray = rest.strays x.strays.items c.requires.stands.stray;

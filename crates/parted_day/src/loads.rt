@@ -22,8 +22,8 @@ fn add_plan(day: &DayInput, owner: &Owner, plan: &Plan, loads: &mut [usize]) {
 /// Of a population about so many plans are looked at, to tell how much there is to do.
 const SAMPLE: usize = 4096;
 
-/// By partition how many links of its own the routes of chosen plans lead over, of all plans or, where there are many, of a sample: what a day
-/// costs is mostly the entering and leaving of links. It decides which worker gets which partitions, and nothing else.
+/// By partition how many links of its own the routes of chosen plans lead over, of all plans or, where there are many, of a sample: what a
+/// day costs is mostly the entering and leaving of links. It decides which worker gets which partitions, and nothing else.
 ///
 /// # Errors
 ///

@@ -65,12 +65,13 @@ fn drop_past(rows: &mut Vec<Vec<u32>>, place: usize)
     }
 }
 
-/// Whether nobody is due in this second of a block.
+/// Whether it is seen at once that nobody is due in this second of a block. It is not in the last second of one that has rows: that one is
+/// to be taken, so that the rows go.
 pub(crate) fn is_quiet_in(rows: &[Vec<u32>], place: usize) -> bool
     ensures { result ≡ true → due_at place (map vec_items rows.now) ≡ [] }
 {
     if place < rows.len() {
-        return rows[place].is_empty();
+        return place + 1 < rows.len() && rows[place].is_empty();
     }
     true
 }

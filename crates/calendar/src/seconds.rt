@@ -59,7 +59,8 @@ impl Calendar {
         Ok(())
     }
 
-    /// Whether no number is due in this second.
+    /// Whether it is seen at once that no number is due in this second. In the last second of a block that has rows it is not, so that this
+    /// second is taken and the rows go.
     pub fn is_quiet(&self, second: u32) -> bool
         ensures { result ≡ true → due_at second self.now ≡ [] }
     {

@@ -40,8 +40,8 @@ fn first_wakes(alloc: Global, day: &DayInput, world: &World) -> Result<Wakes, Al
 
 impl Persons {
     /// The persons of a partition at the start of a day, each at the first activity of the chosen plan. They are those whose first activity
-    /// is on a link of the partition: each begins the day in the partition that `homes` has at his number. Of nobody else a plan is looked
-    /// at.
+    /// is on a link of the partition: each begins the day in the partition that `homes` has at his number. No plan of anybody
+    /// else is looked at.
     ///
     /// # Errors
     ///

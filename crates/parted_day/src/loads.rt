@@ -19,7 +19,8 @@ fn add_plan(day: &DayInput, owner: &Owner, plan: &Plan, loads: &mut [usize]) {
     }
 }
 
-/// Of a population about so many plans are looked at, to tell how much there is to do.
+/// At most so many plans are looked at to tell how much there is to do, and half as many at least where there are more: one in so many, by
+/// number. Where persons are listed with that period the sample is one-sided, and partitions are dealt less evenly.
 const SAMPLE: usize = 4096;
 
 /// By partition how many links of its own the routes of chosen plans lead over, of all plans or, where there are many, of a sample: what a

@@ -133,6 +133,7 @@ impl<'a> Part for TownPart<'a> {
         forget_told(run, &mut self.told);
         rest_changes_nothing();
         if !self.inbox.has_some() && self.area.rests(self.done) {
+            self.outbox.all_taken();
             self.done += 1;
             return Ok(());
         }

@@ -1,6 +1,6 @@
 -- The part of a partition once its nodes have had their turns in a second.
 use Rattle.traffic.proofs.Common.{◌≡◌, ℕ, ◌+◌, ◌<◌, true, List, [], ◌++◌, ◌∙◌, ap, sym, subst, arith, eqb, eqb-true, eq-eqb, length, get_or, map}
-use Rattle.traffic.proofs.Common.{flat_map, Option, Some, Setup, World, Event, link_of_stop, hole_of, storage_of, seconds_of, taken_at, told, moves_of, persons_after}
+use Rattle.traffic.proofs.Common.{flat_map, Option, Some, Event, link_of_stop, hole_of, storage_of, seconds_of, taken_at, told, moves_of, persons_after}
 use Rattle.traffic.specs.declared.moves.Occurrence.{Occurrence}
 use Rattle.traffic.specs.declared.node_views.OutLink.{OutLink}
 use Rattle.traffic.specs.declared.world.Row.{Row}
@@ -12,7 +12,6 @@ use Rattle.calendar.specs.Waking.{wake_of}
 use Rattle.law_in_range.specs.Rows.{Counts}
 use Rattle.law_in_range.specs.Setups.{counts_in, HaveFittingPlans}
 use Rattle.parts.specs.Owners.{Owner, begins_in}
-use Rattle.parts.specs.Parts.{Held}
 use Rattle.law_partitions.specs.Laws.{IsOwner}
 use Rattle.law_own_worlds.specs.Days.{my_node_turns}
 use Rattle.law_own_seconds.specs.Seconds.{held_early, held_crossed, world_early, world_crossed}
@@ -29,9 +28,10 @@ use Rattle.part_places.specs.Taking.{AreTakenOf, IsFull, begins_here, still, tim
 use Rattle.part_seconds.specs.declared.area.Area.{Area}
 use Rattle.law_parts_of_days.specs.Settling.{wake_starts}
 use Rattle.part_seconds.specs.Settling.{places_known}
-use Rattle.divided_day.specs.Slots.{link_in, slot_count, AreSlots}
+use Rattle.divided_day.specs.Slots.{AreSlots}
 use Rattle.part_seconds.specs.Slots.{extent_of}
 use Rattle.part_seconds.specs.Stands.{NetworkStands, AreaStands}
+use Rattle.part_seconds.proofs.Names.{in_second}
 use Rattle.part_seconds.proofs.Slots.{link_own}
 use Rattle.part_seconds.proofs.Knowing as knowing
 use Rattle.part_seconds.proofs.Knowing.{known_before}
@@ -66,32 +66,10 @@ pub record Begins (day : DayInput) (own : Owner) (p t : ℕ) (A : Area) (P : Pla
 module _ (day : DayInput) (own : Owner) (parts p t : ℕ) (slots : List ℕ) (given : HaveFittingPlans day) (shares : IsOwner own parts)
     (are : AreSlots (setup day) own slots) (A : Area)
     (h : AreaStands day own p (t + 1) t t A (held_early (setup day) own p t) (world_early (setup day) own p t)) where
-  abbrev S : Setup
-  S = setup day
-
-  abbrev end : ℕ
-  end = day.town.now.settings.end_second
+  open (in_second day own p t) use {S, end, V3, V4, E, G, num, size}
 
   abbrev z : Counts
   z = counts_in day
-
-  abbrev V3 : World
-  V3 = world_early S own p t
-
-  abbrev V4 : World
-  V4 = world_crossed S own p t
-
-  abbrev E : Held
-  E = held_early S own p t
-
-  abbrev G : Held
-  G = held_crossed S own p t
-
-  abbrev num : ℕ → ℕ
-  num = link_in S own p
-
-  abbrev size : ℕ
-  size = slot_count S own p
 
   -- PLACES, AS THEY ARE KNOWN
   taken_early : (m : ℕ) → m < length S.links → begins_in S own m ≡ p

@@ -1,5 +1,5 @@
 -- The part of a partition once its links have had their turns in a second.
-use Rattle.traffic.proofs.Common.{◌≡◌, ◌≢◌, ℕ, zero, suc, ◌+◌, ◌-◌, ◌<◌, ◌≤◌, Bool, true, false, not, ◌&&◌, List, [], ◌∷◌, ◌++◌, ◌∙◌, ap, refl, sym, subst}
+use Rattle.traffic.proofs.Common.{◌≡◌, ℕ, zero, suc, ◌+◌, ◌-◌, ◌<◌, ◌≤◌, Bool, true, false, not, ◌&&◌, List, [], ◌∷◌, ◌++◌, ◌∙◌, ap, refl, sym, subst}
 use Rattle.traffic.proofs.Common.{arith, inl, inr, cases_Bool, eqb, eqb-true, eqb-false, eq-eqb, ne_eqb, true≢false, if◌then◌else◌, nat_lt, length, length-set}
 use Rattle.traffic.proofs.Common.{get_or, get_or-set_same, get_or-set_other, take, set, map, map-append, filter, flat_map, replicate, append-nil}
 use Rattle.traffic.proofs.Common.{Option, Setup, World, Turn, Event, LinkState, at, holes_at, hole_of, world_at, below, numbers, told}
@@ -19,7 +19,7 @@ use Rattle.calendar.specs.Waking.{wake_of, is_woken, woken}
 use Rattle.law_in_range.specs.Setups.{counts_in, HaveFittingPlans}
 use Rattle.law_sleeping.specs.Marks.{before_links}
 use Rattle.parts.specs.Owners.{Owner, owner_of, begins_in, links_of}
-use Rattle.parts.specs.Parts.{Held, Freed, is_some_freed, freed}
+use Rattle.parts.specs.Parts.{Freed, is_some_freed, freed}
 use Rattle.law_partitions.specs.Alone.{my_links}
 use Rattle.law_partitions.specs.Laws.{IsOwner}
 use Rattle.law_own_worlds.specs.Days.{my_link_turns}
@@ -30,6 +30,7 @@ use Rattle.law_parts_of_days.specs.Settling.{link_at, queued_in, wake_ends}
 use Rattle.law_parts_of_days.proofs.Beginning.{links_of as town_links, dwell_of}
 use Rattle.law_parts_of_days.proofs.Hearing.{heard_stand}
 use Rattle.law_parts_of_days.proofs.Taken.{some_hole}
+use Rattle.part_seconds.proofs.Names.{in_second}
 use Rattle.part_seconds.proofs.Turning.{can_turn_at, stops_there_at, are_there}
 use Rattle.law_parts_of_days.proofs.Worlds.{consistent_setup, phases_are_sound}
 use Rattle.link_seconds.specs.Seconds.{AreShort, IsThere}
@@ -207,29 +208,7 @@ pub record Follows (day : DayInput) (own : Owner) (p t : ℕ) (A : Area) (new : 
 module _ (day : DayInput) (own : Owner) (parts p t : ℕ) (slots : List ℕ) (given : HaveFittingPlans day) (shares : IsOwner own parts)
     (are : AreSlots (setup day) own slots) (A : Area)
     (h : AreaStands day own p (t + 1) (t + 1) t A (held_crossed (setup day) own p t) (world_crossed (setup day) own p t)) where
-  abbrev S : Setup
-  S = setup day
-
-  abbrev end : ℕ
-  end = day.town.now.settings.end_second
-
-  abbrev V4 : World
-  V4 = world_crossed S own p t
-
-  abbrev V5 : World
-  V5 = world_driven S own p t
-
-  abbrev G : Held
-  G = held_crossed S own p t
-
-  abbrev B : Held
-  B = held_driven S own p t
-
-  abbrev num : ℕ → ℕ
-  num = link_in S own p
-
-  abbrev size : ℕ
-  size = slot_count S own p
+  open (in_second day own p t) use {S, end, V4, V5, G, B, num, size}
 
   abbrev old : List LinkView
   old = A.network.links.items

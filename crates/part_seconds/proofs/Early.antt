@@ -6,7 +6,6 @@ use Rattle.traffic.proofs.Common.{link_of_stop, leg_at, act_after, waiters}
 use Rattle.std.specs.List.{AllByRecursion as Each}
 use Rattle.rows.specs.declared.plan.Leg.TheVariants as leg
 use Rattle.limits.specs.declared.TheConstants.{MAX_PERSONS}
-use Rattle.events.specs.declared.event.Phase.TheVariants as phase
 use Rattle.traffic.specs.declared.stage.Stage.{Stage}
 use Rattle.traffic.specs.declared.stage.Stage.TheVariants.{Queue, Buffer, Wait}
 use Rattle.traffic.specs.declared.world.Person.{Person}
@@ -21,13 +20,13 @@ use Rattle.calendar.specs.Waking.{wake_of, woken}
 use Rattle.law_in_range.specs.Rows.{IsFitWorld, IsFitRow, IsFitPlace}
 use Rattle.law_in_range.specs.Setups.{IsFitStop, counts_in, HaveFittingPlans}
 use Rattle.parts.specs.Owners.{Owner, owner_of}
-use Rattle.parts.specs.Parts.{Held, ready}
+use Rattle.parts.specs.Parts.{ready}
 use Rattle.law_partitions.specs.Laws.{IsOwner}
 use Rattle.law_own_worlds.specs.Days.{world_before, is_there}
-use Rattle.law_own_seconds.specs.Seconds.{held_early, world_early}
 use Rattle.law_joined_routes.specs.Going.{GoesOn}
 use Rattle.law_parts_of_days.specs.Persons.{PersonsStand}
 use Rattle.law_parts_of_days.proofs.SettingOut.{others_stay}
+use Rattle.part_seconds.proofs.Names.{in_second}
 use Rattle.part_seconds.proofs.Lengths.{one_short, all_short}
 use Rattle.link_seconds.specs.Seconds.{HaveLines, AreShort, line_at}
 use Rattle.person_moves.specs.Waiting.{waiter_on}
@@ -148,29 +147,7 @@ module _ (day : DayInput) (own : Owner) (parts p t : ℕ) (slots : List ℕ) (gi
     (h : AreaStands day own p t t t A (ready (setup day) own p t) (world_before (setup day) own p t)) (P1 P2 : World) (ns : List ℕ)
     (out : HasSetOut (setup day) own p t (world_before (setup day) own p t) A.persons.world P1 P2)
     (due : ns ≡ woken t A.persons.wakes) (fit : IsFitWorld (counts_in day) P2) where
-  abbrev S : Setup
-  S = setup day
-
-  abbrev end : ℕ
-  end = day.town.now.settings.end_second
-
-  abbrev V : World
-  V = world_before S own p t
-
-  abbrev V3 : World
-  V3 = world_early S own p t
-
-  abbrev H : Held
-  H = ready S own p t
-
-  abbrev E : Held
-  E = held_early S own p t
-
-  abbrev num : ℕ → ℕ
-  num = link_in S own p
-
-  abbrev size : ℕ
-  size = slot_count S own p
+  open (in_second day own p t) use {S, end, V2 as V, V3, H, E, num, size}
 
   fit3 : IsFitWorld (counts_in day) V3
   fit3 = (knowing.stays day own parts p t given shares).set_out_is

@@ -1,6 +1,6 @@
 -- The turns of a second in which nobody of a part has anything to do leave the part as it is.
 use Rattle.traffic.proofs.Common.{◌≡◌, ℕ, suc, ◌+◌, ◌-◌, ◌<◌, Bool, false, List, [], ◌∷◌, ◌++◌, ◌∙◌, ap, refl, sym, arith, inl, inr}
-use Rattle.traffic.proofs.Common.{cases_Bool, eqb, eqb-true, length, map, filter, get_or, Option, None, Some, Setup, World, person_of, below, turns}
+use Rattle.traffic.proofs.Common.{cases_Bool, eqb, eqb-true, length, map, filter, get_or, Option, None, Some, World, person_of, below, turns}
 use Rattle.traffic.proofs.Common.{events_in, turns_in}
 use Rattle.events.specs.declared.event.Phase.TheVariants as phase
 use Rattle.traffic.specs.declared.node_views.OutLink.{OutLink}
@@ -39,6 +39,7 @@ use Rattle.part_seconds.specs.Settling.{places_known, left_all, put_queues}
 use Rattle.part_seconds.specs.Slots.{in_slot, extent_of}
 use Rattle.part_seconds.specs.Stands.{AreaStands}
 use Rattle.part_seconds.specs.Starting.{all_started, woken_for_all}
+use Rattle.part_seconds.proofs.Names.{in_second}
 use Rattle.part_seconds.proofs.Crossed.{Begins, begins}
 use Rattle.part_seconds.proofs.Driven.{Follows, follows, turned}
 use Rattle.part_seconds.proofs.Early.{set_out_stands}
@@ -96,14 +97,7 @@ pub record HasNoTurns (day : DayInput) (own : Owner) (p t : ℕ) (A : Area) : Ty
 module _ (day : DayInput) (own : Owner) (parts p t : ℕ) (slots : List ℕ) (given : HaveFittingPlans day) (shares : IsOwner own parts)
     (are : AreSlots (setup day) own slots) (in_day : t < day.town.now.settings.end_second) (A : Area) (idle : IsAtRest t A)
     (h : AreaStands day own p t t t A (ready (setup day) own p t) (world_before (setup day) own p t)) where
-  abbrev S : Setup
-  S = setup day
-
-  abbrev end : ℕ
-  end = day.town.now.settings.end_second
-
-  abbrev V : World
-  V = world_before S own p t
+  open (in_second day own p t) use {S, end, V2 as V}
 
   abbrev P : World
   P = A.persons.world

@@ -11,7 +11,6 @@ use Rattle.traffic.specs.declared.stage.Stage.TheVariants.{Queue, Buffer, Wait, 
 use Rattle.traffic.specs.declared.world.Person.{Person}
 use Rattle.traffic.specs.declared.world.Row.{Row}
 use Rattle.town.specs.declared.day_input.DayInput.{DayInput}
-use Rattle.town.specs.Views.{setup}
 use Rattle.law_in_range.specs.Rows.{Counts, IsFitWorld}
 use Rattle.law_in_range.specs.Setups.{IsFitSetup, counts_in, HaveFittingPlans}
 use Rattle.law_in_range.proofs.Days.{chosen_fit}
@@ -24,7 +23,7 @@ use Rattle.law_partitions.specs.Laws.{IsOwner}
 use Rattle.law_partitions.proofs.Setting.{lawful, are_local}
 use Rattle.law_own_worlds.specs.Making.{or_nobody}
 use Rattle.law_own_worlds.specs.OwnWorlds.{IsOwnWorld, IsSecondOf, StaysFit}
-use Rattle.law_own_worlds.specs.Days.{world_before, is_there, StandsAsInTheDay}
+use Rattle.law_own_worlds.specs.Days.{is_there, StandsAsInTheDay}
 use Rattle.law_own_worlds.proofs.Days.{own_second}
 use Rattle.law_own_worlds.proofs.Fitting.{ready_fit}
 use Rattle.law_own_worlds.proofs.Knowing.{ready_known}
@@ -32,7 +31,6 @@ use Rattle.law_own_worlds.proofs.Making.{made, one_person}
 use Rattle.law_own_worlds.proofs.Seconds.{nowhere3}
 use Rattle.law_own_worlds.proofs.Standing.{stands}
 use Rattle.law_own_worlds.proofs.Staying.{stays_fit}
-use Rattle.law_own_seconds.specs.Seconds.{world_early, world_crossed}
 use Rattle.law_own_seconds.specs.Places.{KnowsPlaces, PlacesAreKnown}
 use Rattle.law_own_seconds.specs.Leaving.{LeaveHoles}
 use Rattle.law_own_seconds.specs.Others.{OthersAreEmpty}
@@ -47,6 +45,7 @@ use Rattle.part_nodes.specs.Phase.{taken_before, BufferWaits, GoOnThere}
 use Rattle.part_places.specs.Taking.{still}
 use Rattle.part_places.proofs.Counting.{one}
 use Rattle.part_seconds.specs.Settling as settling
+use Rattle.part_seconds.proofs.Names.{in_second}
 
 -- HOLES THAT COUNT
 -- those that come free in second u or later
@@ -96,20 +95,10 @@ before_or_nobody t false P h = tt
 
 -- IN A TOWN
 module _ (day : DayInput) (own : Owner) (parts p t : ℕ) (given : HaveFittingPlans day) (shares : IsOwner own parts) where
-  abbrev S : Setup
-  S = setup day
+  open (in_second day own p t) use {S, V2 as V, V3, V4}
 
   abbrev z : Counts
   z = counts_in day
-
-  abbrev V : World
-  V = world_before S own p t
-
-  abbrev V3 : World
-  V3 = world_early S own p t
-
-  abbrev V4 : World
-  V4 = world_crossed S own p t
 
   pub fit : IsFitSetup z S
   fit = fit_setup day given

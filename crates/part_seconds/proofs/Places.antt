@@ -1,5 +1,5 @@
 -- Parcels at the places of neighbours.
-use Rattle.traffic.proofs.Common.{◌≡◌, ◌≢◌, ℕ, ◌+◌, ◌<◌, List, [], ◌∷◌, ◌++◌, ◌∙◌, ap, refl, sym, arith, inl, inr}
+use Rattle.traffic.proofs.Common.{◌≡◌, ◌≢◌, ℕ, ◌<◌, List, [], ◌∷◌, ◌++◌, ◌∙◌, ap, refl, sym, arith, inl, inr}
 use Rattle.traffic.proofs.Common.{cases_Bool, Bool, true, false, length, set, filter, map, eqb, eqb-true, eqb-false, append-nil}
 use Rattle.traffic.proofs.Common.{append_assoc, cond}
 use Rattle.traffic.proofs.Common.{if◌then◌else◌, filter-append, length-set, get_or-set_same, get_or-set_other, lt-ltb, eq-eqb, ne_eqb}

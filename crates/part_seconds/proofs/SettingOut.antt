@@ -1,5 +1,5 @@
 -- Persons land and leave, and some departures start: what that makes of any world, done to the persons alone.
-use Rattle.traffic.proofs.Common.{◌≡◌, ℕ, ◌+◌, Bool, true, false, List, [], ◌∷◌, ◌++◌, ◌∙◌, ap, refl, sym, subst, inl, inr, cases_Bool}
+use Rattle.traffic.proofs.Common.{◌≡◌, ℕ, Bool, true, false, List, [], ◌∷◌, ◌++◌, ◌∙◌, ap, refl, sym, subst, inl, inr, cases_Bool}
 use Rattle.traffic.proofs.Common.{length, get_or, append-nil, append_assoc, filter, filter-append, flat_map, eqb, eq-eqb}
 use Rattle.traffic.proofs.Common.{Event, Setup, World, nobody, below, at, on, rank, run, turns, turns_of, turns_in, events_in, after}
 use Rattle.traffic.proofs.Common.{through, told_in, departure_turns, departure_moves, waiter, waiters, Turn}

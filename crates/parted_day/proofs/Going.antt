@@ -3,7 +3,7 @@ use Rattle.traffic.proofs.Common.{◌≡◌, ℕ, suc, ◌+◌, ◌<◌, ◌≤�
 use Rattle.traffic.proofs.Common.{refl, sym, subst, arith, inl, inr, cases_Bool}
 use Rattle.traffic.proofs.Common.{true≢false, cond, eqb, eqb-true, eq-eqb, length, get_or, map, filter, count_by, nat_le, nat_tests}
 use Rattle.traffic.proofs.Common.{if◌then◌else◌, add-one, Option}
-use Rattle.traffic.proofs.Common.{Setup, World, LinkState, link_state, at, holes_at, hole_of, storage_of, seconds_of, credit_of, person_of}
+use Rattle.traffic.proofs.Common.{World, LinkState, link_state, at, holes_at, hole_of, storage_of, seconds_of, credit_of, person_of}
 use Rattle.traffic.proofs.Common.{nobody, world_at}
 use Rattle.traffic.proofs.Common.{through, Some}
 use Rattle.std.proofs.lemmas.List.{ext_get_or}
@@ -22,7 +22,7 @@ use Rattle.law_in_range.proofs.Days.{chosen_fit}
 use Rattle.law_joined_routes.specs.Going.{GoesOn}
 use Rattle.law_joined_routes.proofs.Routes.{town_goes_on}
 use Rattle.parts.specs.Owners.{Owner, owner_of, begins_in, lag}
-use Rattle.parts.specs.Parts.{Held, lasting, unheard, held}
+use Rattle.parts.specs.Parts.{lasting, unheard, held}
 use Rattle.law_own_worlds.specs.Making.{IsKnown}
 use Rattle.law_own_worlds.proofs.Fitting.{unheard_fit}
 use Rattle.law_own_worlds.proofs.Knowing.{unheard_known}
@@ -43,9 +43,9 @@ use Rattle.part_seconds.specs.Leaving.{HaveGone}
 use Rattle.part_seconds.specs.declared.area.Area.{Area}
 use Rattle.part_seconds.specs.Settling.{places_known}
 use Rattle.part_seconds.specs.Stands.{NetworkStands, AreaStands}
+use Rattle.part_seconds.proofs.Names.{in_second}
 use Rattle.part_seconds.proofs.Slots.{link_there, link_own}
 use Rattle.part_seconds.proofs.Knowing.{still_lasting, waits_known}
-use Rattle.divided_day.specs.Slots.{link_in, slot_count}
 
 -- HOLES
 -- what is counted of some is counted of all, where it holds of these alone
@@ -96,29 +96,8 @@ same_state q b w y r c x z m n i j k l e =
 
 module _ (day : DayInput) (own : Owner) (p t : ℕ) (given : HaveFittingPlans day) (go : LetsGo (setup day) own p t) (A : Area)
     (h : AreaStands day own p (suc t) (suc t) (suc t) A (held_driven (setup day) own p t) (world_driven (setup day) own p t)) where
-  abbrev S : Setup
-  S = setup day
-
-  abbrev end : ℕ
-  end = day.town.now.settings.end_second
-
-  abbrev V : World
-  V = world_driven S own p t
-
-  abbrev now : World
-  now = world_held S own p (suc t)
-
-  abbrev B : Held
-  B = held_driven S own p t
-
-  abbrev K : Held
-  K = held S own p (suc t)
-
-  abbrev num : ℕ → ℕ
-  num = link_in S own p
-
-  abbrev size : ℕ
-  size = slot_count S own p
+  open (in_second day own p t) use {S, end, V5 as V, B, num, size}
+  open (in_second day own p (suc t)) use {V1 as now, K}
 
   -- PERSONS
   fit_now : IsFitWorld (counts_in day) now

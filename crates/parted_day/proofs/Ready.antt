@@ -17,9 +17,8 @@ use Rattle.calendar.specs.Waking.{wake_of}
 use Rattle.law_in_range.specs.Setups.{counts_in, HaveFittingPlans}
 use Rattle.law_joined_routes.specs.Going.{GoesOn}
 use Rattle.parts.specs.Owners.{Owner, owner_of, begins_in}
-use Rattle.parts.specs.Parts.{Held, held, ready}
+use Rattle.parts.specs.Parts.{held}
 use Rattle.law_partitions.specs.Laws.{IsOwner}
-use Rattle.law_own_worlds.specs.Days.{world_before}
 use Rattle.law_parcels.specs.Hearing.{heard_rows, heard_holes, heard_persons, last_or, IsReadyBy}
 use Rattle.law_parcels.specs.Worlds.{world_held, taken_in, TakesIn}
 use Rattle.law_parts_of_days.specs.Persons.{PersonsStand}
@@ -31,10 +30,10 @@ use Rattle.part_links.specs.Links.{LinksStandAt, LinesStandAt}
 use Rattle.part_nodes.specs.Phase.{AreAwaitedAt, GoOnThere, taken_before}
 use Rattle.part_persons.proofs.Joining.{fit_as}
 use Rattle.part_places.specs.Taking.{AreTakenOf, begins_here}
-use Rattle.divided_day.specs.Slots.{link_in, slot_count}
 use Rattle.part_seconds.specs.declared.area.Area.{Area}
 use Rattle.part_seconds.specs.Settling.{places_known}
 use Rattle.part_seconds.specs.Stands.{NetworkStands, AreaStands}
+use Rattle.part_seconds.proofs.Names.{in_second}
 use Rattle.part_seconds.proofs.Slots.{link_there, link_own}
 use Rattle.part_seconds.proofs.Knowing as knowing
 use Rattle.part_seconds.proofs.Knowing.{still_lasting}
@@ -71,29 +70,7 @@ module _ (day : DayInput) (own : Owner) (parts p t : ℕ) (given : HaveFittingPl
     (takes : TakesIn (setup day) own p t ns) (becomes : IsReadyBy (setup day) own p t ns) (old new : Area)
     (h : AreaStands day own p t t t old (held (setup day) own p t) (world_held (setup day) own p t))
     (done : HasAbsorbed day own p t ns old new) where
-  abbrev S : Setup
-  S = setup day
-
-  abbrev end : ℕ
-  end = day.town.now.settings.end_second
-
-  abbrev V : World
-  V = world_held S own p t
-
-  abbrev W : World
-  W = world_before S own p t
-
-  abbrev K : Held
-  K = held S own p t
-
-  abbrev R : Held
-  R = ready S own p t
-
-  abbrev num : ℕ → ℕ
-  num = link_in S own p
-
-  abbrev size : ℕ
-  size = slot_count S own p
+  open (in_second day own p t) use {S, end, V1 as V, V2 as W, K, H as R, num, size}
 
   -- PERSONS
   abbrev came : ℕ → List Person

@@ -2,7 +2,7 @@
 use Rattle.traffic.proofs.Common.{◌≡◌, ℕ, zero, suc, ◌+◌, ◌-◌, ◌<◌, true, false, List, [], ◌∷◌}
 use Rattle.traffic.proofs.Common.{◌++◌, ◌∙◌, ap, refl, sym, subst, arith, inl, inr}
 use Rattle.traffic.proofs.Common.{cases_Bool, cases_lt, append-nil, append_assoc, length, get_or, take, drop, map, replicate}
-use Rattle.traffic.proofs.Common.{Option, None, Some, Setup, hole_of}
+use Rattle.traffic.proofs.Common.{Option, None, Some, hole_of}
 use Rattle.std.specs.List.{AllByRecursion as Each}
 use Rattle.std.proofs.lemmas.List.{take_more}
 use Rattle.rows.specs.declared.settings.Dwelling.{Dwelling}
@@ -17,7 +17,7 @@ use Rattle.law_parcels.specs.Worlds.{world_held}
 use Rattle.law_parts_of_days.specs.Settling.{queued_in}
 use Rattle.step_core.specs.declared.part.Border.{Border}
 use Rattle.step_core.specs.Views.{IsHeard}
-use Rattle.divided_day.specs.Slots.{link_in, slot_count, AreSlots}
+use Rattle.divided_day.specs.Slots.{AreSlots}
 use Rattle.queue_link.specs.Links.{LinkView}
 use Rattle.node_move.specs.declared.crossings.Entering.{Entering}
 use Rattle.node_seconds.specs.Networks.{lane, is_among, slot_in, accepted_all}
@@ -28,6 +28,7 @@ use Rattle.part_seconds.specs.declared.contents.Contents.{Contents}
 use Rattle.part_seconds.specs.Contents.{parcel_of}
 use Rattle.part_seconds.specs.Parcels.{nothing}
 use Rattle.part_seconds.specs.Arriving.{entered}
+use Rattle.part_seconds.proofs.Names.{in_second}
 use Rattle.part_seconds.proofs.Coming.{come_next, come_none, same_come}
 use Rattle.part_seconds.proofs.Lists.{flat_push}
 use Rattle.part_seconds.specs.declared.area.Area.{Area}
@@ -59,23 +60,13 @@ more_rows rows more v =
 
 module _ (day : DayInput) (own : Owner) (p t : ℕ) (old : Area)
     (h : AreaStands day own p t t t old (held (setup day) own p t) (world_held (setup day) own p t)) where
-  abbrev S : Setup
-  S = setup day
-
-  abbrev end : ℕ
-  end = day.town.now.settings.end_second
+  open (in_second day own p t) use {S, end, num, size}
 
   abbrev D : Dwelling
   D = S.settings.dwell
 
   abbrev K : Taking
   K = places_known S (held S own p t)
-
-  abbrev num : ℕ → ℕ
-  num = link_in S own p
-
-  abbrev size : ℕ
-  size = slot_count S own p
 
   -- NOTHING YET
   pub none_absorbed : HasAbsorbed day own p t [] old old

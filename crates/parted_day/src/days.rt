@@ -20,6 +20,7 @@ use std::alloc::{AllocError, Global};
 use std::sync::Wait;
 use std::thread::Threads;
 use town::DayInput;
+use workers::Crew;
 
 /// The events of a run whose events are taken at its end: computed on this thread by one worker, or on several threads.
 fn events_of<'a, R: Threads + Wait + Sync, G: Gate>(
@@ -38,7 +39,13 @@ fn events_of<'a, R: Threads + Wait + Sync, G: Gate>(
         return Ok(events);
     }
     let loads = loads_of(run.alloc, run.day, run.owner)?;
-    let events = threaded_day::<TownPart<'a>, R, G>(rt, run.alloc, run, workers, &loads, gate)?;
+    let crew = Crew {
+        rt,
+        gate,
+        workers,
+        loads: &loads,
+    };
+    let events = threaded_day::<TownPart<'a>, R, G>(&crew, run.alloc, run)?;
     Ok(events)
 }
 

@@ -13,34 +13,30 @@ use events::Event;
 use std::alloc::{AllocError, Global};
 use std::sync::Wait;
 use std::thread::Threads;
-use workers::run_day;
+use workers::{Crew, run_day};
 
 /// The events of a day, in the order of their keys, computed by its partitions on 1 to 64 threads: each does its next second as soon as all
 /// its neighbours are far enough. They are those of the day of the undivided town, however it is divided, on however many threads, and
-/// whichever thread gets on first. Which partitions a worker gets goes by `loads` (`workers: run_day`). The gate is passed before each
-/// second of a partition.
+/// whichever thread gets on first.
 ///
 /// # Errors
 ///
 /// `AllocError`: there is no memory for the day.
 pub(crate) fn threaded_day<T: DayPart + Send + Sync, R: Threads + Wait + Sync, G: Gate>(
-    rt: &R,
+    crew: &Crew<R, G>,
     alloc: Global,
     run: &T::Run,
-    workers: u32,
-    loads: &[usize],
-    gate: &G,
 ) -> Result<Vec<Event>, AllocError>
 where
     T::Run: Send + Sync,
     T::Parcel: Send + Sync,
-    requires workers { (1 ≤ workers) × (workers ≤ MAX_PARTITIONS) }
+    requires workers { (1 ≤ crew.now.workers) × (crew.now.workers ≤ MAX_PARTITIONS) }
     requires given { HaveFittingPlans (T.day run.now) }
     requires stays { T.streams run.now ≡ false }
     ensures events { IfOk result (λ events. events.items ≡ traffic_day.day (setup (T.day run.now))) }
     ensures named { IfOk result (λ events. AreInBook events.items (T.day run.now).town.now.book) }
 {
-    let parts = run_day::<T, R, G>(rt, alloc, run, workers, loads, gate)?;
+    let parts = run_day::<T, R, G>(crew, alloc, run)?;
     let events = merged_events::<T>(alloc, run, parts)?;
     Ok(events)
 }

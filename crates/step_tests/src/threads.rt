@@ -10,7 +10,7 @@ use std::alloc::Global;
 use std::sync::Wait;
 use std::thread::Threads;
 use step_cases::{Ahead, Meeting, alone};
-use workers::{Running, run_day};
+use workers::{Crew, Running, run_day};
 
 /// How much there is told to be in the first partitions: the third is the heaviest, then the first, the fourth and the second, and after
 /// them come those of which nothing is told.
@@ -27,7 +27,13 @@ fn day<R: Threads + Wait + Sync, G: Gate>(
 ) -> bool
     requires { (1 ≤ workers) × (workers ≤ 64) }
 {
-    match run_day::<Counter, R, G>(rt, alloc, run, workers, &LOADS, gate) {
+    let crew = Crew {
+        rt,
+        gate,
+        workers,
+        loads: &LOADS,
+    };
+    match run_day::<Counter, R, G>(&crew, alloc, run) {
         Ok(parts) => are_right(run, parts.as_slice()),
         Err(_) => false,
     }
@@ -75,7 +81,13 @@ fn no_barrier(rt: HostRuntime) {
 fn is_refused<R: Threads + Wait + Sync>(rt: &R, alloc: Global, run: &Row, workers: u32) -> bool
     requires { (1 ≤ workers) × (workers ≤ 64) }
 {
-    run_day::<Counter, R, OpenGate>(rt, alloc, run, workers, &LOADS, &OpenGate).is_err()
+    let crew = Crew {
+        rt,
+        gate: &OpenGate,
+        workers,
+        loads: &LOADS,
+    };
+    run_day::<Counter, R, OpenGate>(&crew, alloc, run).is_err()
 }
 
 /// A partition that finds no memory ends the day of all, on however many threads.

@@ -198,29 +198,39 @@ where
     }
 }
 
+/// Who computes a day.
+#[derive_where(Clone, Copy)]
+pub struct Crew<'a, R, G> {
+    /// The threads, and the waiting.
+    pub rt: &'a R,
+    /// What is passed before each second of a partition.
+    pub gate: &'a G,
+    /// How many workers, each a thread.
+    pub workers: u32,
+    /// How much there is to do in each partition, by number, in any unit; 0 where none is told.
+    pub loads: &'a [usize],
+}
+
 /// Runs a day on 1 to 64 threads: all partitions are at the end then, by number, and each holds and has told what it has by then by itself.
 /// As far as `stands` tells what that is, neither the number of workers nor the order in which threads get on changes it. A thread that
 /// cannot be started is no error: the caller does its work.
 ///
 /// Where the number of workers divides that of the partitions, each worker gets about as much to do as any other, by how much there is to
-/// do in each partition (`loads`, by number, in any unit; 0 where none is told). Else the last one has fewer partitions than the others, or
-/// none, and a list may have some that were dealt to two of them. What is told there decides nothing else.
+/// do in each partition (`loads`). Else the last one has fewer partitions than the others, or none, and a list may have some that were dealt
+/// to two of them. What is told there decides nothing else.
 ///
 /// # Errors
 ///
 /// `AllocError`: there was no memory for the start, or for a second of a partition.
 pub fn run_day<T: Part + Send, R: Threads + Wait + Sync, G: Gate>(
-    rt: &R,
+    crew: &Crew<R, G>,
     alloc: Global,
     run: &T::Run,
-    workers: u32,
-    loads: &[usize],
-    gate: &G,
 ) -> Result<Vec<T>, AllocError>
 where
     T::Run: Send + Sync,
     T::Parcel: Send + Sync,
-    requires workers { (1 ≤ workers) × (workers ≤ MAX_PARTITIONS) }
+    requires workers { (1 ≤ crew.now.workers) × (crew.now.workers ≤ MAX_PARTITIONS) }
     requires net { IsNet (T.net run.now) }
     requires borders { (p : ℕ) → p < (T.net run.now).parts → AreBorders (T.net run.now) p (T.borders run.now p) }
     ensures count { IfOk result (λ parts. length parts.items ≡ (T.net run.now).parts) }
@@ -230,8 +240,8 @@ where
     if T::count(run) == 0 {
         return Ok(Vec::new(alloc));
     }
-    let running = Running::<T>::start(alloc, run, workers, loads)?;
-    let ended = running.run_until(rt, gate, run, T::end(run))?;
+    let running = Running::<T>::start(alloc, run, crew.workers, crew.loads)?;
+    let ended = running.run_until(crew.rt, crew.gate, run, T::end(run))?;
     let parts = ended.into_parts(alloc, run)?;
     Ok(parts)
 }

@@ -15,5 +15,5 @@ mod seconds;
 mod sharing;
 
 pub use bundles::run_bundle;
-pub use days::{Running, run_day};
+pub use days::{Crew, Running, run_day};
 pub use members::{Bundle, Member, ParcelsOf, new_board};

@@ -1,11 +1,11 @@
 //! A day on several threads that is written while it runs.
 
-ghost use Rattle.std.specs.Prelude.{◌≡◌, ◌-◌, ◌<◌, ◌≤◌, ℕ, true, [], IfOk};
+ghost use Rattle.std.specs.Prelude.{◌≡◌, ◌-◌, ◌<◌, ◌≤◌, ℕ, true, IfOk};
 ghost use Rattle.collected_day.specs.Spans.{IsUnderWay, told_at_end};
 ghost use Rattle.collected_day.specs.Streams.{TellsOf};
 ghost use Rattle.collected_day.specs.Taking.{IsTaking, CanHandleMore, HasHandledOn, HasSeenMore};
-ghost use Rattle.event_handler.specs.Handling.{kinds_of, persons_of, links_in, links_seen, HasHandled, CanHandle, IsSeen};
-ghost use Rattle.event_writer.specs.Writing.{IsWritten};
+ghost use Rattle.event_handler.specs.Handling.{kinds_of, links_in, links_seen};
+ghost use Rattle.event_writer.specs.Writing.{IsWritten, CanTake, AreWritten};
 ghost use Rattle.events.specs.Lines.{AreInBook, event_lines};
 ghost use Rattle.law_in_range.specs.Setups.{HaveFittingPlans};
 ghost use Rattle.partition.specs.declared.owner.Owner.{Owner};
@@ -35,20 +35,7 @@ use std::sync::Wait;
 use std::thread::Threads;
 use step_core::Part;
 use streamed_day::ends_of;
-use workers::Running;
-
-/// Who computes a day.
-#[derive_where(Clone, Copy)]
-pub struct Crew<'a, R, G> {
-    /// The threads, and the waiting.
-    pub rt: &'a R,
-    /// What is passed before each second of a partition.
-    pub gate: &'a G,
-    /// How many workers, each a thread; one more takes what they told.
-    pub workers: u32,
-    /// How much there is to do in each partition, by number (`workers: run_day`).
-    pub loads: &'a [usize],
-}
+use workers::{Crew, Running};
 
 /// A day before its first second, with a ring for each partition.
 ///
@@ -217,15 +204,10 @@ where
     requires under_way { IsUnderWay T.net T.borders T.nothing T.see T.stands T.spent T.right run.now 0 progress.partitions.running }
     requires taking { IsTaking S.told_in_spans (T.day run.now) (T.owner run.now) (T.net run.now).end 0 progress.taking }
     requires first { (progress.partitions.second ≡ 0) × (progress.taking.second ≡ 0) }
-    requires named { AreInBook (traffic_day.day (setup (T.day run.now))) book.now }
-    requires new { HasHandled (scoring_rows tables.now) progress.taking.handler [] }
-    requires can { CanHandle (persons_of progress.taking.handler) (links_in progress.taking.handler)
-        (traffic_day.day (setup (T.day run.now))) }
-    ensures written { IsWritten (O.written outputs.old) (O.written outputs.new) (O.faults outputs.old) (O.faults outputs.new)
-        (event_lines (traffic_day.day (setup (T.day run.now))) book.now) result }
-    ensures seen { IfOk result (IsSeen (scoring_rows tables.now) (kinds_of progress.taking.handler)
-        (traffic_day.day (setup (T.day run.now)))) }
-    ensures links { IfOk result (λ seen. links_seen seen ≡ links_in progress.taking.handler) }
+    requires takes { CanTake (scoring_rows tables.now) book.now progress.taking.handler (traffic_day.day (setup (T.day run.now))) }
+    ensures { AreWritten (scoring_rows tables.now) book.now (traffic_day.day (setup (T.day run.now))) (kinds_of progress.taking.handler)
+        (links_in progress.taking.handler) (O.written outputs.old) (O.written outputs.new) (O.faults outputs.old) (O.faults outputs.new)
+        result }
 {
     let mut progress = progress;
     while progress.partitions.second < T::end(run) {
@@ -261,17 +243,13 @@ fn stream_over<S: Stream + Send, T: DayPart + Send, R: Threads + Wait + Sync, G:
 where
     T::Run: Send + Sync,
     T::Parcel: Send + Sync,
+    requires told { TellsOf S.told_in_spans (T.day run.now) (T.owner run.now) (T.net run.now).end }
     requires some { 1 ≤ crew.now.workers }
     requires given { HaveFittingPlans (T.day run.now) }
     requires streams { T.streams run.now ≡ true }
-    requires told { TellsOf S.told_in_spans (T.day run.now) (T.owner run.now) (T.net run.now).end }
-    requires named { AreInBook (traffic_day.day (setup (T.day run.now))) book.now }
-    requires new { HasHandled (scoring_rows tables.now) handler [] }
-    requires can { CanHandle (persons_of handler) (links_in handler) (traffic_day.day (setup (T.day run.now))) }
-    ensures written { IsWritten (O.written outputs.old) (O.written outputs.new) (O.faults outputs.old) (O.faults outputs.new)
-        (event_lines (traffic_day.day (setup (T.day run.now))) book.now) result }
-    ensures seen { IfOk result (IsSeen (scoring_rows tables.now) (kinds_of handler) (traffic_day.day (setup (T.day run.now)))) }
-    ensures links { IfOk result (λ seen. links_seen seen ≡ links_in handler) }
+    requires takes { CanTake (scoring_rows tables.now) book.now handler (traffic_day.day (setup (T.day run.now))) }
+    ensures { AreWritten (scoring_rows tables.now) book.now (traffic_day.day (setup (T.day run.now))) (kinds_of handler)
+        (links_in handler) (O.written outputs.old) (O.written outputs.new) (O.faults outputs.old) (O.faults outputs.new) result }
 {
     let Ok(progress) = begin::<S, T>(alloc, run, crew.workers, crew.loads, handler) else {
         return Err(StreamError::NoMemory);
@@ -280,8 +258,8 @@ where
 }
 
 /// Computes a day, writes the lines of its events, those of a span before the one behind the next is computed, and answers what was seen of
-/// them. They are those of the day of the undivided town, however it is divided, on however many threads, and whichever gets on first. The
-/// handler begins with them.
+/// them. They are those of the day of the undivided town, however it is divided, on however many threads, and whichever gets on first. One
+/// thread more than the crew has workers takes what they tell. The handler begins with the day's events.
 ///
 /// # Errors
 ///
@@ -301,13 +279,9 @@ where
     requires some { 1 ≤ crew.now.workers }
     requires given { HaveFittingPlans (T.day run.now) }
     requires streams { T.streams run.now ≡ true }
-    requires named { AreInBook (traffic_day.day (setup (T.day run.now))) book.now }
-    requires new { HasHandled (scoring_rows tables.now) handler [] }
-    requires can { CanHandle (persons_of handler) (links_in handler) (traffic_day.day (setup (T.day run.now))) }
-    ensures written { IsWritten (O.written outputs.old) (O.written outputs.new) (O.faults outputs.old) (O.faults outputs.new)
-        (event_lines (traffic_day.day (setup (T.day run.now))) book.now) result }
-    ensures seen { IfOk result (IsSeen (scoring_rows tables.now) (kinds_of handler) (traffic_day.day (setup (T.day run.now)))) }
-    ensures links { IfOk result (λ seen. links_seen seen ≡ links_in handler) }
+    requires takes { CanTake (scoring_rows tables.now) book.now handler (traffic_day.day (setup (T.day run.now))) }
+    ensures { AreWritten (scoring_rows tables.now) book.now (traffic_day.day (setup (T.day run.now))) (kinds_of handler)
+        (links_in handler) (O.written outputs.old) (O.written outputs.new) (O.faults outputs.old) (O.faults outputs.new) result }
 {
     stream_over::<Brand, T, R, G, O>(crew, alloc, run, tables, book, handler, outputs)
 }

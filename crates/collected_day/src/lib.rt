@@ -17,6 +17,7 @@ mod spans;
 mod stream;
 mod taking;
 
-pub use day::{Crew, stream_collected};
+pub use day::stream_collected;
 pub use spans::SPAN_SECONDS;
 pub use streamed_day::StreamedDay;
+pub use workers::Crew;

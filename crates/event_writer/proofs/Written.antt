@@ -6,9 +6,13 @@ use Rattle.edge_files.specs.declared.files.OutFile.TheVariants as out
 use Rattle.edge_files.specs.Causes.{Rose}
 use Rattle.edge_files.specs.World.{Written, Byte, byte_steps, Writes, WritesPart}
 use Rattle.edge_files.proofs.Written.{writes_nothing, writes_then, writes_as}
+use Rattle.events.specs.declared.event.Event.{Event}
+use Rattle.events.specs.declared.event.Book.{Book}
+use Rattle.events.specs.Lines.{event_lines}
+use Rattle.scoring.specs.Tables.{ScoringRows}
 use Rattle.event_writer.specs.declared.writing.StreamError.{StreamError}
 use Rattle.event_writer.specs.declared.writing.StreamError.TheVariants as error
-use Rattle.event_writer.specs.Writing.{IsWritten}
+use Rattle.event_writer.specs.Writing.{IsWritten, AreWritten}
 
 bytes_then : (xs ys : List ℕ) → byte_steps out.Events xs ++ byte_steps out.Events ys ≡ byte_steps out.Events (xs ++ ys)
 bytes_then xs ys = sym (map-append (Byte out.Events) xs ys)
@@ -38,6 +42,11 @@ part_whole a b xs writes = record { done = xs; rest = []; front = append-nil xs;
 -- memory was wanting before anything was written
 pub none_written : {T : Type 0} (a : Written) (n : ℕ) (xs : List ℕ) → IsWritten {T = T} a a n n xs (Err error.NoMemory)
 none_written a n xs = record { done = tt; part = part_nothing a xs; later = omega arith; failed = λ is. absurd (cc) }
+
+-- nor anything seen
+pub none_seen : (R : ScoringRows) (book : Book) (events : List Event) (kinds : List ℕ) (count : ℕ) (a : Written) (n : ℕ)
+    → AreWritten R book events kinds count a a n n (Err error.NoMemory)
+none_seen R book events kinds count a n = record { written = none_written a n (event_lines events book); seen = tt; links = tt }
 
 -- or behind what was written whole
 pub written_but : {A B : Type 0} (a b : Written) (n m : ℕ) (xs : List ℕ) (x : A) → IsWritten a b n m xs (Ok x)

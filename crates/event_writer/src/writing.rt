@@ -1,11 +1,11 @@
 //! The events of a day on their way to events.csv.
 
-ghost use Rattle.std.specs.Prelude.{◌≡◌, ◌++◌, List, [], OnOk, IfOk};
+ghost use Rattle.std.specs.Prelude.{◌≡◌, ◌++◌, List, OnOk, IfOk};
 ghost use Rattle.events.specs.declared.event.Event.{Event};
 ghost use Rattle.events.specs.Lines.{AreInBook, event_lines};
 ghost use Rattle.scoring.specs.Tables.{scoring_rows};
-ghost use Rattle.event_handler.specs.Handling.{kinds_of, persons_of, links_in, links_seen, HasHandled, CanHandle, IsSeen};
-ghost use Rattle.event_writer.specs.Writing.{IsWritten};
+ghost use Rattle.event_handler.specs.Handling.{kinds_of, persons_of, links_in, HasHandled, CanHandle};
+ghost use Rattle.event_writer.specs.Writing.{IsWritten, CanTake, AreWritten};
 
 use crate::source::EventSource;
 use edge_files::{OutFile, Outputs, write_whole};
@@ -111,13 +111,9 @@ pub fn stream_events<S: EventSource, O: Outputs>(
     outputs: &mut O,
 ) -> Result<SeenDay, StreamError>
     requires ready { S.ready source.old }
-    requires named { AreInBook (S.rest source.old) book.now }
-    requires new { HasHandled (scoring_rows tables.now) handler [] }
-    requires can { CanHandle (persons_of handler) (links_in handler) (S.rest source.old) }
-    ensures written { IsWritten (O.written outputs.old) (O.written outputs.new) (O.faults outputs.old) (O.faults outputs.new)
-        (event_lines (S.rest source.old) book.now) result }
-    ensures seen { IfOk result (IsSeen (scoring_rows tables.now) (kinds_of handler) (S.rest source.old)) }
-    ensures links { IfOk result (λ seen. links_seen seen ≡ links_in handler) }
+    requires takes { CanTake (scoring_rows tables.now) book.now handler (S.rest source.old) }
+    ensures { AreWritten (scoring_rows tables.now) book.now (S.rest source.old) (kinds_of handler) (links_in handler)
+        (O.written outputs.old) (O.written outputs.new) (O.faults outputs.old) (O.faults outputs.new) result }
 {
     let mut handler = handler;
     'pieces: loop {

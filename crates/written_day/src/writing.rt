@@ -7,7 +7,7 @@ ghost use Rattle.law_in_range.specs.Setups.{HaveFittingPlans};
 ghost use Rattle.scoring.specs.Tables.{ScoringRows, scoring_rows};
 ghost use Rattle.town.specs.Views.{chosen_in, setup};
 ghost use Rattle.traffic.specs.Day as traffic_day;
-ghost use Rattle.written_day.specs.Days.{CanTake, IsDayWritten};
+ghost use Rattle.written_day.specs.Days.{CanTakeDay, IsDayWritten};
 
 use crate::execution::Execution;
 use collected_day::{Crew, StreamedDay, stream_collected};
@@ -34,7 +34,7 @@ fn write_events<S: EventSource, O: Outputs>(
     requires given { HaveFittingPlans day.now }
     requires ready { S.ready source.old }
     requires rest { S.rest source.old ≡ traffic_day.day (setup day.now) }
-    requires takes { CanTake (scoring_rows tables.now) handler day.now }
+    requires takes { CanTakeDay (scoring_rows tables.now) handler day.now }
     ensures { IsDayWritten day.now (scoring_rows tables.now) (kinds_of handler) (links_in handler)
         (O.written outputs.old) (O.written outputs.new) (O.faults outputs.old) (O.faults outputs.new) result }
 {
@@ -51,7 +51,7 @@ fn write_run<'a, G: Gate, O: Outputs>(
     outputs: &mut O,
 ) -> Result<SeenDay, StreamError>
     requires streams { run.now.streams ≡ true }
-    requires takes { CanTake (scoring_rows tables.now) handler run.now.day.now }
+    requires takes { CanTakeDay (scoring_rows tables.now) handler run.now.day.now }
     ensures { IsDayWritten run.now.day.now (scoring_rows tables.now) (kinds_of handler) (links_in handler)
         (O.written outputs.old) (O.written outputs.new) (O.faults outputs.old) (O.faults outputs.new) result }
 {
@@ -73,7 +73,7 @@ fn write_collected<'a, R: Threads + Wait + Sync, G: Gate, O: Outputs>(
     outputs: &mut O,
 ) -> Result<SeenDay, StreamError>
     requires streams { run.now.streams ≡ true }
-    requires takes { CanTake (scoring_rows tables.now) handler run.now.day.now }
+    requires takes { CanTakeDay (scoring_rows tables.now) handler run.now.day.now }
     ensures { IsDayWritten run.now.day.now (scoring_rows tables.now) (kinds_of handler) (links_in handler)
         (O.written outputs.old) (O.written outputs.new) (O.faults outputs.old) (O.faults outputs.new) result }
 {
@@ -110,7 +110,7 @@ fn write_as_asked<R: Threads + Wait + Sync, G: Gate, O: Outputs>(
     outputs: &mut O,
 ) -> Result<SeenDay, StreamError>
     requires given { HaveFittingPlans day.now }
-    requires takes { CanTake (scoring_rows tables.now) handler day.now }
+    requires takes { CanTakeDay (scoring_rows tables.now) handler day.now }
     ensures { IsDayWritten day.now (scoring_rows tables.now) (kinds_of handler) (links_in handler)
         (O.written outputs.old) (O.written outputs.new) (O.faults outputs.old) (O.faults outputs.new) result }
 {
@@ -136,7 +136,7 @@ fn handler_for(alloc: Global, day: &DayInput) -> Result<EventHandler, AllocError
     requires { HaveFittingPlans day.now }
     ensures kinds { IfOk result (λ handler. kinds_of handler ≡ map first_kind (chosen_in day.now)) }
     ensures links { IfOk result (λ handler. links_in handler ≡ length day.now.town.now.network.links) }
-    ensures takes { IfOk result (λ handler. (scoring : ScoringRows) → CanTake scoring handler day.now) }
+    ensures takes { IfOk result (λ handler. (scoring : ScoringRows) → CanTakeDay scoring handler day.now) }
 {
     let kinds = first_kinds(alloc, day.chosen)?;
     let handler = EventHandler::new(alloc, &kinds, day.town.network.links.len())?;

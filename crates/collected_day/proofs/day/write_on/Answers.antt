@@ -32,23 +32,28 @@ loop-progress-init g c =
           (sym c.requires.first.1)
           (begins (setup day) end (scoring_rows c.args.tables.now) c.args.book.now x.taking.handler
           (g.O.Outputs.written c.args.outputs.now) (g.O.Outputs.faults c.args.outputs.now)
-          (ap (λ (N : Net). N.end) (met.nets run) ∙ end_in day) c.requires.new);
+          (ap (λ (N : Net). N.end) (met.nets run) ∙ end_in day) c.requires.takes.new);
     }
 
 pub go_on-requires-clause-named : goal.go_on-requires-clause-named
 go_on-requires-clause-named g c κs within =
     let i = c.loop-progress.invariant in
-    (span_due i.taking i.under_way.within i.streaming c.requires.named c.requires.can).0
+    (span_due i.taking i.under_way.within i.streaming c.requires.takes.named c.requires.takes.all).0
 
 pub go_on-requires-clause-can : goal.go_on-requires-clause-can
 go_on-requires-clause-can g c κs within =
     let i = c.loop-progress.invariant in
-    (span_due i.taking i.under_way.within i.streaming c.requires.named c.requires.can).1
+    (span_due i.taking i.under_way.within i.streaming c.requires.takes.named c.requires.takes.all).1
 
-pub returns-in-Err-clause-written : goal.returns-in-Err-clause-written
-returns-in-Err-clause-written g c =
+pub returns-in-Err : goal.returns-in-Err
+returns-in-Err g c =
     let i = c.loop-progress.invariant in
-    span_failed i.taking i.under_way.within i.streaming (as_written (c.deref.ensures.value ∙ c.in-Ok.ensures.2.text) c.in-Err.ensures)
+    record {
+      written = span_failed i.taking i.under_way.within i.streaming
+          (as_written (c.deref.ensures.value ∙ c.in-Ok.ensures.2.text) c.in-Err.ensures);
+      seen = tt;
+      links = tt;
+    }
 
 pub loop-progress-preserved : goal.loop-progress-preserved
 loop-progress-preserved g c =
@@ -63,7 +68,7 @@ loop-progress-preserved g c =
       under_way = gone.0;
       taking = due_next g.S.Stream.told_in_spans (g.T.DayPart.day run) (g.T.DayPart.owner run) end t later.partitions.second later.taking
           gone.2.taking gone.2.second early gone.1;
-      streaming = streams_on i.taking i.under_way.within i.streaming later.taking c.requires.can gone.2
+      streaming = streams_on i.taking i.under_way.within i.streaming later.taking c.requires.takes.all gone.2
           (as_written c.deref.ensures.value c.in-Ok-write_text.ensures);
     }
 
@@ -71,13 +76,17 @@ pub write_due-requires : goal.write_due-requires
 write_due-requires g c =
     let run = c.args.run.now in
     let i = c.loop-progress.invariant in
-    let due = span_due i.taking i.under_way.within i.streaming c.requires.named c.requires.can in
+    let due = span_due i.taking i.under_way.within i.streaming c.requires.takes.named c.requires.takes.all in
     record { due = (g.T.DayPart.day run, g.T.DayPart.owner run, (g.T.Part.net run).end, i.taking, due.0, due.1) }
 
-pub returns-in-Err-write_due-clause-written : goal.returns-in-Err-write_due-clause-written
-returns-in-Err-write_due-clause-written g c =
+pub returns-in-Err-write_due : goal.returns-in-Err-write_due
+returns-in-Err-write_due g c =
     let i = c.loop-progress.invariant in
-    span_failed i.taking i.under_way.within i.streaming (c.in-Err-write_due.ensures.written _ _ _ i.taking)
+    record {
+      written = span_failed i.taking i.under_way.within i.streaming (c.in-Err-write_due.ensures.written _ _ _ i.taking);
+      seen = tt;
+      links = tt;
+    }
 
 pub write_end-requires-clause-running : goal.write_end-requires-clause-running
 write_end-requires-clause-running g c κs within =
@@ -91,38 +100,26 @@ pub write_end-requires-clause-named : goal.write_end-requires-clause-named
 write_end-requires-clause-named g c κs within =
     let i = c.loop-progress.invariant in
     let due = c.in-Ok-write_due.ensures in
-    let left = end_left i.taking i.under_way.within i.streaming c.end.ensures c.loop-progress-test.false c.requires.can
+    let left = end_left i.taking i.under_way.within i.streaming c.end.ensures c.loop-progress-test.false c.requires.takes.all
     (due.written _ _ _ i.taking) (due.handled _ _ _ i.taking) in
-    (end_due _ _ left c.requires.named c.requires.can).0
+    (end_due _ _ left c.requires.takes.named c.requires.takes.all).0
 
 pub write_end-requires-clause-can : goal.write_end-requires-clause-can
 write_end-requires-clause-can g c κs within =
     let i = c.loop-progress.invariant in
     let due = c.in-Ok-write_due.ensures in
-    let left = end_left i.taking i.under_way.within i.streaming c.end.ensures c.loop-progress-test.false c.requires.can
+    let left = end_left i.taking i.under_way.within i.streaming c.end.ensures c.loop-progress-test.false c.requires.takes.all
     (due.written _ _ _ i.taking) (due.handled _ _ _ i.taking) in
-    (end_due _ _ left c.requires.named c.requires.can).1
+    (end_due _ _ left c.requires.takes.named c.requires.takes.all).1
 
-pub returns-clause-written : goal.returns-clause-written
-returns-clause-written g c =
+pub returns : goal.returns
+returns g c =
     let i = c.loop-progress.invariant in
     let due = c.in-Ok-write_due.ensures in
-    let left = end_left i.taking i.under_way.within i.streaming c.end.ensures c.loop-progress-test.false c.requires.can
+    let left = end_left i.taking i.under_way.within i.streaming c.end.ensures c.loop-progress-test.false c.requires.takes.all
     (due.written _ _ _ i.taking) (due.handled _ _ _ i.taking) in
-    end_written _ _ left c.write_end.result c.write_end.ensures.written
-
-pub returns-clause-seen : goal.returns-clause-seen
-returns-clause-seen g c =
-    let i = c.loop-progress.invariant in
-    let due = c.in-Ok-write_due.ensures in
-    let left = end_left i.taking i.under_way.within i.streaming c.end.ensures c.loop-progress-test.false c.requires.can
-    (due.written _ _ _ i.taking) (due.handled _ _ _ i.taking) in
-    IfOk-weaker c.write_end.result _ _ (λ seen more. end_seen _ _ left seen c.requires.can more) c.write_end.ensures.seen
-
-pub returns-clause-links : goal.returns-clause-links
-returns-clause-links g c =
-    let i = c.loop-progress.invariant in
-    let due = c.in-Ok-write_due.ensures in
-    let left = end_left i.taking i.under_way.within i.streaming c.end.ensures c.loop-progress-test.false c.requires.can
-    (due.written _ _ _ i.taking) (due.handled _ _ _ i.taking) in
-    IfOk-weaker c.write_end.result _ _ (λ seen links. links ∙ left.links) c.write_end.ensures.links
+    record {
+      written = end_written _ _ left c.write_end.result c.write_end.ensures.written;
+      seen = IfOk-weaker c.write_end.result _ _ (λ seen more. end_seen _ _ left seen c.requires.takes.all more) c.write_end.ensures.seen;
+      links = IfOk-weaker c.write_end.result _ _ (λ seen links. links ∙ left.links) c.write_end.ensures.links;
+    }

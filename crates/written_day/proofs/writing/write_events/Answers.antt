@@ -1,17 +1,8 @@
-use Rattle.law_in_range.proofs.Dawn.{day_in_book}
-use Rattle.written_day.proofs.Days.{can_be, written_as}
+use Rattle.written_day.proofs.Days.{takes_as, written_as}
 use Rattle.written_day.proofs.writing.write_events.Goals as goal
 
-pub stream_events-requires-clause-named : goal.stream_events-requires-clause-named
-stream_events-requires-clause-named g c = day_in_book c.args.day.now _ c.requires.given c.requires.rest
-
-pub stream_events-requires-clause-new : goal.stream_events-requires-clause-new
-stream_events-requires-clause-new g c = c.requires.takes.new
-
-pub stream_events-requires-clause-can : goal.stream_events-requires-clause-can
-stream_events-requires-clause-can g c = can_be _ _ _ _ c.requires.rest c.requires.takes.all
+pub stream_events-requires-clause-takes : goal.stream_events-requires-clause-takes
+stream_events-requires-clause-takes g c = takes_as _ _ _ _ _ c.requires.rest c.requires.takes
 
 pub returns : goal.returns
-returns g c =
-    written_as c.args.day.now _ _ _ _ _ _ _ _ _ c.requires.rest c.stream_events.ensures.written c.stream_events.ensures.seen
-    c.stream_events.ensures.links
+returns g c = written_as _ _ _ _ _ _ _ _ _ _ _ c.requires.rest c.stream_events.ensures

@@ -52,7 +52,7 @@ pub(crate) fn first_rows(
     requires homes { length homes.now ≡ length day.now.chosen.now }
     ensures { IfOk result (λ rows. rows.items ≡ first_rows (setup day.now) homes.now partition) }
 {
-    let mut rows = Vec::new(alloc);
+    let mut rows = Vec::with_capacity(alloc, homes.len())?;
     for person in 0..day.town.book.persons.len() {
         rows.push(first_row(day, homes, partition, person))?;
     }

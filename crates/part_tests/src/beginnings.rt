@@ -291,6 +291,7 @@ fn run_of<'a>(
         ends: &division.ends,
         starts: &division.starts,
         homes: &division.homes,
+        loads: &[],
         streams: false,
     }
 }

@@ -7,7 +7,6 @@ ghost use Rattle.law_in_range.specs.Setups.{HaveFittingPlans};
 ghost use Rattle.town.specs.Views.{setup};
 ghost use Rattle.traffic.specs.Day as traffic_day;
 
-use crate::loads::loads_of;
 use crate::part::TownPart;
 use crate::runs::{run_of, share};
 use crate::threads::threaded_day;
@@ -38,12 +37,11 @@ fn events_of<'a, R: Threads + Wait + Sync, G: Gate>(
         let events = divided_day::<TownPart<'a>, G>(run.alloc, run, gate)?;
         return Ok(events);
     }
-    let loads = loads_of(run.alloc, run.day, run.owner)?;
     let crew = Crew {
         rt,
         gate,
         workers,
-        loads: &loads,
+        loads: run.loads,
     };
     let events = threaded_day::<TownPart<'a>, R, G>(&crew, run.alloc, run)?;
     Ok(events)

@@ -26,7 +26,6 @@ mod turns;
 
 pub use beginnings::begin;
 pub use days::day_in_parts;
-pub use loads::loads_of;
 pub use part::TownPart;
 pub use part_seconds::{Parcel, Run};
 pub use runs::{Shared, run_of, share};

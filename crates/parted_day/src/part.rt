@@ -1,6 +1,6 @@
 //! One partition of the day of a town.
 
-ghost use Rattle.std.specs.Prelude.{◌≡◌, ◌++◌, true, refl, if◌then◌else◌, IfOk};
+ghost use Rattle.std.specs.Prelude.{◌≡◌, ◌++◌, [], true, refl, if◌then◌else◌, IfOk};
 ghost use Rattle.divided_day.specs.Days.{net_in, borders_in};
 ghost use Rattle.parted_day.specs.Absorbed.{IsRight};
 ghost use Rattle.part_seconds.specs.Parcels as contents;
@@ -59,6 +59,41 @@ fn told_at_last(told: Told, streams: bool, ended: Vec<Event>) -> Result<Vec<Even
     Ok(events)
 }
 
+/// For how many events all parts of a day together are given room as they start, and an eighth more: about a gibibyte.
+const MOST_ROOM: usize = 1 << 24;
+
+/// All of these numbers together.
+fn sum_of(numbers: &[usize]) -> usize {
+    let mut sum = 0usize;
+    for number in numbers {
+        sum = sum.saturating_add(*number);
+    }
+    sum
+}
+
+/// For how many events a part gets room as it starts: for those that it is expected to tell and an eighth more, or for an equal share of
+/// them in each part where more are expected of all than there is to be room for. It gets none where events are taken as the day goes on.
+fn room_of(run: &Run, number: u32) -> usize {
+    let place = number as usize;
+    if run.streams || place >= run.loads.len() {
+        return 0;
+    }
+    let shares = sum_of(run.loads) / MOST_ROOM + 1;
+    let expected = run.loads[place] / shares;
+    expected.saturating_add(expected / 8)
+}
+
+/// A list for what a part tells, with room for so many events, so that it need not be moved as it grows: that takes long where several
+/// threads do it. Where the system gives no such room, the list begins without.
+fn list_with_room(alloc: Global, room: usize) -> Vec<Event>
+    ensures { result.items ≡ [] }
+{
+    match Vec::with_capacity(alloc, room) {
+        Ok(events) => events,
+        Err(_) => Vec::new(alloc),
+    }
+}
+
 impl<'a> Part for TownPart<'a> {
     type Run = Run<'a>;
 
@@ -109,7 +144,7 @@ impl<'a> Part for TownPart<'a> {
         let inbox = Mailbox::new(alloc, count)?;
         let outbox = Mailbox::new(alloc, count)?;
         let told = Told {
-            events: Vec::new(alloc),
+            events: list_with_room(alloc, room_of(run, number)),
             said: Vec::new(alloc),
         };
         Ok(TownPart {

@@ -5,19 +5,22 @@ ghost use Rattle.limits.specs.declared.TheConstants.{MAX_PARTITIONS};
 ghost use Rattle.law_in_range.specs.Setups.{HaveFittingPlans};
 ghost use Rattle.parted_day.specs.Sharing.{IsShared};
 
+use crate::loads::loads_of;
 use divided_day::{Division, divide};
 use part_nodes::InLinks;
 use part_seconds::Run;
 use std::alloc::{AllocError, Global};
 use town::DayInput;
 
-/// How the town of a day is divided, and of each node the slots of the links into it.
+/// How the town of a day is divided, of each node the slots of the links into it, and how much there is to do in each partition.
 #[derive(Drop)]
 pub struct Shared {
     /// How the network is divided.
     pub division: Division,
     /// Of each node the slots of the links into it, ascending by link, in the part that has the node.
     pub in_links: InLinks,
+    /// By partition about how many events are told there, as plans have it.
+    pub loads: Vec<usize>,
 }
 
 /// What so many partitions of a day share.
@@ -33,7 +36,12 @@ pub fn share(alloc: Global, day: &DayInput, partitions: u32) -> Result<Shared, A
 {
     let division = divide(alloc, day, partitions)?;
     let in_links = InLinks::new(alloc, day, &division.link_slots)?;
-    Ok(Shared { division, in_links })
+    let loads = loads_of(alloc, day, &division.owner)?;
+    Ok(Shared {
+        division,
+        in_links,
+        loads,
+    })
 }
 
 /// The run of a day over what its partitions share. Its events are taken while the day goes on, where it `streams`, or at the end.
@@ -60,6 +68,7 @@ pub fn run_of<'a>(
         ends: &shared.division.ends,
         starts: &shared.division.starts,
         homes: &shared.division.homes,
+        loads: &shared.loads,
         streams,
     }
 }

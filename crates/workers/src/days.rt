@@ -87,7 +87,7 @@ where
     T::Parcel: Send,
 {
     /// The partitions of a run, which are given by number, each before its first second: it is these that run. Which worker is to get
-    /// which of them goes by `loads`, as `run_day` says.
+    /// which of them goes by `loads`, as `Crew` and `run_day` say.
     ///
     /// # Errors
     ///
@@ -216,8 +216,8 @@ pub struct Crew<'a, R, G> {
 /// cannot be started is no error: the caller does its work.
 ///
 /// Where the number of workers divides that of the partitions, each worker gets about as much to do as any other, by how much there is to
-/// do in each partition (`loads`). Else the last one has fewer partitions than the others, or none, and a list may have some that were dealt
-/// to two of them. What is told there decides nothing else.
+/// do in each partition (`loads`). Else the last one has fewer partitions than the others, or none, and a list may have some that were
+/// dealt to two of them. What is told there decides nothing else.
 ///
 /// # Errors
 ///

@@ -15,7 +15,7 @@ use day_scores::first_kinds;
 use edge_files::{Gate, Outputs};
 use event_handler::{EventHandler, SeenDay};
 use event_writer::{EventSource, ListedEvents, StreamError, stream_events};
-use parted_day::{Run, TownPart, day_in_parts, loads_of, run_of, share};
+use parted_day::{Run, TownPart, day_in_parts, run_of, share};
 use scoring::Tables;
 use std::alloc::{AllocError, Global};
 use std::sync::Wait;
@@ -78,14 +78,11 @@ fn write_collected<'a, R: Threads + Wait + Sync, G: Gate, O: Outputs>(
         (O.written outputs.old) (O.written outputs.new) (O.faults outputs.old) (O.faults outputs.new) result }
 {
     let alloc = run.alloc;
-    let Ok(loads) = loads_of(alloc, run.day, run.owner) else {
-        return Err(StreamError::NoMemory);
-    };
     let crew = Crew {
         rt,
         gate: execution.gate,
         workers: execution.spread.workers,
-        loads: &loads,
+        loads: run.loads,
     };
     let day = run.day;
     stream_collected::<TownPart<'a>, R, G, O>(

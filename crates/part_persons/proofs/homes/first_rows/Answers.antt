@@ -5,7 +5,7 @@ use Rattle.part_persons.proofs.Beginning.{no_rows, row_more, all_rows, persons_o
 use Rattle.part_persons.proofs.homes.first_rows.Goals as goal
 
 pub loop-person-init : goal.loop-person-init
-loop-person-init c = no_rows (first_row (setup c.args.day.now) c.args.homes.now c.args.partition) _ c.new-rows.ensures.items
+loop-person-init c = no_rows (first_row (setup c.args.day.now) c.args.homes.now c.args.partition) _ c.in_ok-rows.ensures.items
 
 pub loop-person-preserved : goal.loop-person-preserved
 loop-person-preserved c =

@@ -1,4 +1,3 @@
-use Rattle.event_writer.proofs.Written.{none_seen}
 use Rattle.written_day.proofs.writing.write_collected.Goals as goal
 
 pub stream_collected-requires-clause-takes : goal.stream_collected-requires-clause-takes
@@ -6,6 +5,3 @@ stream_collected-requires-clause-takes g c κs within = c.requires.takes
 
 pub returns : goal.returns
 returns g c = c.stream_collected.ensures
-
-pub returns-in_default : goal.returns-in_default
-returns-in_default g c = none_seen _ _ _ _ _ _ _

@@ -24,10 +24,10 @@ returns c =
       holds = record {
         there = c.requires;
         stands = c.in_ok-area.ensures;
-        events = subst (λ (es : List Event). HasTold run.streams day run.owner.now p 0 es) (sym c.new-3.ensures.items)
+        events = subst (λ (es : List Event). HasTold run.streams day run.owner.now p 0 es) (sym c.list_with_room.ensures)
             (none_told run.streams day run.owner.now p);
-        silent = c.new-4.ensures.items;
-        stray = subst (λ (xs : List Stray). AreStrays S own run.owner.now.parts p 0 xs) (sym c.new-5.ensures.items)
+        silent = c.new-3.ensures.items;
+        stray = subst (λ (xs : List Stray). AreStrays S own run.owner.now.parts p 0 xs) (sym c.new-4.ensures.items)
             (none_stray S own run.owner.now.parts p);
         whole = refl;
       };

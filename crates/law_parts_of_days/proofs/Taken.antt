@@ -32,7 +32,6 @@ taken_as count end t T U P a h = record {
       ∙ ap (λ (fs : List ℕ). place (U.queued m + still t fs) (T.storage m) (T.seconds m)) (sym (a.frees m lt))
       ∙ ap (λ (n : ℕ). place (U.queued m + still t (U.frees m)) n (T.seconds m)) (sym (a.storage m lt))
       ∙ ap (λ (n : ℕ). place (U.queued m + still t (U.frees m)) (U.storage m) n) (sym (a.seconds m lt));
-  reach = h.reach;
   holes = λ m lt here. h.holes m lt here ∙ ap (λ (fs : List ℕ). still t fs) (sym (a.frees m lt));
   freed = λ m u lt here from to. h.freed m u lt here from to ∙ ap (λ (fs : List ℕ). times u fs) (sym (a.frees m lt));
 }

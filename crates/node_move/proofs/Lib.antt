@@ -1,4 +1,5 @@
 pub mod Single
+pub mod Pages
 pub mod Entries
 pub mod Runs
 pub mod Fronts

@@ -1,7 +1,8 @@
 -- Where the entries of links stand.
-use Rattle.std.specs.Prelude.{◌≡◌, ℕ, zero, suc, ◌+◌, ◌<◌, List, [], ◌∷◌, length, get_or, ◌==◌, if◌then◌else◌, Option, None, Some}
+use Rattle.std.specs.Prelude.{◌≡◌, ℕ, zero, suc, ◌<◌, List, [], ◌∷◌, length, get_or, ◌==◌, if◌then◌else◌, Option, None, Some}
 use Rattle.traffic.specs.declared.node_views.OutLink.{OutLink}
 use Rattle.node_move.specs.declared.space.Entry.{Entry}
+use Rattle.node_move.specs.Pages.{number_of}
 
 -- the places of link m in entry number k, where that entry is there and is the link's
 abbrev pub entry_at : List Entry → ℕ → ℕ → Option OutLink
@@ -9,21 +10,20 @@ entry_at [] m k = None
 entry_at (e ∷ es) m zero = if e.link == m then Some e.places else None
 entry_at (e ∷ es) m (suc k) = entry_at es m k
 
--- the same of links from m on, each by the number that the table gives it
-unfoldable pub rows_from : ℕ → List ℕ → List Entry → List (Option OutLink)
-rows_from m [] es = []
-rows_from m (k ∷ ks) es = entry_at es m k ∷ rows_from (m + 1) ks es
+-- the number of each link's entry, in pages, and the entries
+pub record SpaceRows : Type 0 where
+  pub pages : List (List ℕ)
+  pub entries : List Entry
 
-abbrev pub rows_of : List ℕ → List Entry → List (Option OutLink)
-rows_of slots es = rows_from 0 slots es
+abbrev pub rows_of : List (List ℕ) → List Entry → SpaceRows
+rows_of pages es = record { pages = pages; entries = es }
 
 -- no entry
 abbrev pub no_entry : Entry
 no_entry = record { link = 0; places = record { taken = 0; storage = 0; seconds = 0 } }
 
 -- entry number k is that of link m, by the table
-pub record StandsAt (slots : List ℕ) (es : List Entry) (m k : ℕ) : Type 0 where
+pub record StandsAt (pages : List (List ℕ)) (es : List Entry) (m k : ℕ) : Type 0 where
   pub within : k < length es
-  pub known : m < length slots
-  pub slot : get_or slots m 0 ≡ k
+  pub slot : number_of pages m ≡ k
   pub link : (get_or es k no_entry).link ≡ m

@@ -1,3 +1,5 @@
+pub mod Pages
+pub mod TableViews
 pub mod Entries
 pub mod SpaceViews
 pub mod Spaces

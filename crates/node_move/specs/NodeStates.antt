@@ -1,5 +1,5 @@
 -- What a node's turn changes, and what its moves make of it.
-use Rattle.std.specs.Prelude.{◌≢◌, ℕ, ◌+◌, ◌<◌, ◌≤◌, Bool, true, List, [], ◌∷◌, ◌++◌, map, get_or, if◌then◌else◌, Option}
+use Rattle.std.specs.Prelude.{◌≢◌, ℕ, ◌<◌, ◌≤◌, Bool, true, List, [], ◌∷◌, ◌++◌, map, get_or, if◌then◌else◌, Option}
 use Rattle.std.specs.List.{flat_map, AllByRecursion as Each}
 use Rattle.limits.specs.declared.TheConstants.{MAX_CAPACITY}
 use Rattle.rows.specs.declared.settings.Stuck.{Stuck}

@@ -6,11 +6,17 @@ mod alone;
 mod candidates;
 mod crossings;
 mod drawings;
+mod link_table;
+mod link_tables;
 mod space;
 mod spaces;
 mod turns;
 
 pub use alone::move_alone;
 pub use crossings::{Crossings, Entering};
+pub use link_table::LinkTable;
 pub use space::Space;
 pub use turns::{NodeTurn, move_node};
+
+/// How many links stand on a page of a table.
+pub(crate) const PAGE_LINKS: usize = 64;

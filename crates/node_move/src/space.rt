@@ -1,3 +1,4 @@
+use crate::link_table::LinkTable;
 use std::marker::Model;
 use traffic::OutLink;
 
@@ -10,24 +11,22 @@ pub(crate) struct Entry {
     pub(crate) places: OutLink,
 }
 
-/// The places of links, by their numbers: how many are taken, how many there are, and the seconds along the link. Contracts see it as
-/// a list with no entry where a link has none.
+/// The places of links: how many are taken, how many there are, and the seconds along the link. Contracts see its rows, and ask these for
+/// the places of a link.
 ///
-/// Only links that have an entry take more room than a number: a table says where the entry of each link stands. Where another link's entry
-/// stands there, or none, the link has no entry.
+/// A table says where the entry of each link stands. Where another link's entry stands there, or none, the link has no entry.
 #[derive(Drop)]
 pub struct Space {
-    /// Where the entry of each link stands, by number.
-    pub(crate) slots: Vec<u32>,
+    /// Where the entry of each link stands.
+    pub(crate) slots: LinkTable,
     pub(crate) entries: Vec<Entry>,
 }
 
 impl Model for Space {
-    ghost use Rattle.std.specs.Prelude.{List, Option};
-    ghost use Rattle.traffic.specs.declared.node_views.OutLink.{OutLink};
+    ghost use Rattle.node_move.specs.Entries.{SpaceRows};
     ghost use Rattle.node_move.specs.SpaceViews.{space_view};
 
-    ghost Value = { List (Option OutLink) };
+    ghost Value = { SpaceRows };
 
     ghost view = { space_view };
 }

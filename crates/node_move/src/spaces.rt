@@ -1,27 +1,22 @@
 //! How many places of links are taken.
 
-ghost use Rattle.std.specs.Prelude.{◌≡◌, ℕ, ◌+◌, ◌<◌, ◌≤◌, [], ◌==◌, List, length, if◌then◌else◌};
-ghost use Rattle.std.specs.Prelude.{option_map, Option, None, Some, OnOk, OnErr, MatchOption};
+ghost use Rattle.std.specs.Prelude.{◌≡◌, ℕ, ◌+◌, ◌==◌, if◌then◌else◌, option_map, Option, None, Some, OnOk, OnErr, MatchOption};
 ghost use Rattle.traffic.specs.declared.node_views.OutLink.{OutLink};
 ghost use Rattle.traffic.specs.Nodes.{one_more};
-ghost use Rattle.node_move.specs.declared.space.Entry.{Entry};
 ghost use Rattle.node_move.specs.Entries.{rows_of, StandsAt};
 ghost use Rattle.node_move.specs.Spaces.{places_in};
 
+use crate::link_table::LinkTable;
 use crate::space::{Entry, Space};
 use std::alloc::{AllocError, Global};
 use traffic::OutLink;
 
 /// The number of the entry of a link, where it has one.
-fn entry_of(slots: &[u32], entries: &[Entry], link: u32) -> Option<usize>
+fn entry_of(slots: &LinkTable, entries: &[Entry], link: u32) -> Option<usize>
     ensures { MatchOption result (places_in (rows_of slots.now entries.now) link ≡ None)
         (λ number. StandsAt slots.now entries.now link number) }
 {
-    let place = link as usize;
-    if place >= slots.len() {
-        return None;
-    }
-    let number = slots[place] as usize;
+    let number = slots.number(link) as usize;
     if number >= entries.len() {
         return None;
     }
@@ -31,31 +26,20 @@ fn entry_of(slots: &[u32], entries: &[Entry], link: u32) -> Option<usize>
     Some(number)
 }
 
-/// The table reaches over this link from now on. To those that it did not reach over it gives this number, at which no entry stands.
-fn reach(slots: &mut Vec<u32>, link: usize, none: u32) -> Result<(), AllocError>
-    ensures long { OnOk result (link < length slots.new.items) }
-    ensures same { (entries : List Entry) (m : ℕ) → length entries ≤ none
-        → places_in (rows_of slots.new.items entries) m ≡ places_in (rows_of slots.old.items entries) m }
-{
-    'rows: while slots.len() <= link {
-        slots.push(none)?;
-    }
-    Ok(())
-}
-
 impl Space {
     /// No link has an entry.
     pub fn new(alloc: Global) -> Space
-        ensures { result ≡ [] }
+        ensures { (m : ℕ) → places_in result m ≡ None }
     {
         Space {
-            slots: Vec::new(alloc),
+            slots: LinkTable::new(alloc),
             entries: Vec::new(alloc),
         }
     }
 
     /// An entry more, of a link that has none.
     fn add(&mut self, entry: Entry) -> Result<(), AllocError>
+        requires { places_in self.old entry.link ≡ None }
         ensures ok { OnOk result ((m : ℕ) → places_in self.new m
             ≡ (if m == entry.link then Some entry.places else places_in self.old m)) }
         ensures err { OnErr result ((m : ℕ) → places_in self.new m ≡ places_in self.old m) }
@@ -63,10 +47,8 @@ impl Space {
         let Ok(number) = u32::try_from(self.entries.len()) else {
             return Err(AllocError);
         };
-        let place = entry.link as usize;
-        reach(&mut self.slots, place, number)?;
+        self.slots.put(entry.link, number)?;
         self.entries.push(entry)?;
-        self.slots[place] = number;
         Ok(())
     }
 
@@ -74,7 +56,7 @@ impl Space {
     ///
     /// # Errors
     ///
-    /// `AllocError`: there is no memory for the entry or for the numbers up to that link. Each link then has the entry that it had.
+    /// `AllocError`: there is no memory for the entry or for the place of that link in the table. Each link then has the entry that it had.
     pub fn set(&mut self, link: u32, places: OutLink) -> Result<(), AllocError>
         ensures ok { OnOk result ((m : ℕ) → places_in self.new m ≡ (if m == link then Some places else places_in self.old m)) }
         ensures err { OnErr result ((m : ℕ) → places_in self.new m ≡ places_in self.old m) }

@@ -1,5 +1,5 @@
 -- Links that are taken out of their slots and put back, and vehicles that come to links.
-use Rattle.std.proofs.Common.{◌≡◌, ◌≢◌, ℕ, zero, suc, ◌+◌, ◌-◌, ◌<◌, ◌≤◌, Bool, true, false, List, [], ◌∷◌, ◌++◌, length, get_or, set, take, drop, append-nil, append_assoc, refl, ap, sym, ◌∙◌, subst, inl, inr, arith, eqb}
+use Rattle.std.proofs.Common.{◌≡◌, ℕ, zero, suc, ◌+◌, ◌-◌, ◌<◌, ◌≤◌, Bool, true, false, List, [], ◌∷◌, ◌++◌, length, get_or, set, take, drop, append-nil, append_assoc, refl, ap, sym, ◌∙◌, subst, inl, inr, arith, eqb}
 use Rattle.std.specs.Prelude.{map, ◌||◌, nat_lt, if◌then◌else◌, Option, None, Some}
 use Rattle.std.specs.List.{flat_map, AllByRecursion as Each}
 use Rattle.std.proofs.lemmas.Bool.{cases_Bool, eq-eqb, eqb-true, eqb-false, ne_eqb, lt-ltb, ltb-true, or_parts, true≢false}
@@ -8,9 +8,9 @@ use Rattle.queue_link.specs.Links.{LinkView}
 use Rattle.queue_link.specs.declared.numbers.LinkNumbers.{LinkNumbers}
 use Rattle.draws.specs.Words.{word}
 use Rattle.traffic.specs.declared.moves.Occurrence.{Occurrence}
-use Rattle.traffic.specs.declared.node_views.OutLink.{OutLink}
 use Rattle.traffic.specs.Vehicles.{VehicleState}
 use Rattle.calendar.specs.Waking.{wake_of, earlier}
+use Rattle.node_move.specs.Entries.{SpaceRows}
 use Rattle.node_move.specs.declared.crossings.Entering.{Entering}
 use Rattle.node_move.specs.declared.turns.NodeTurn.{NodeTurn}
 use Rattle.node_move.specs.NodeStates.{NodeState, node_state, after_turn, buffer_after, entering_by, no_link, AreReady}
@@ -158,7 +158,7 @@ map_twice f g (n ∷ ns) = ap (λ (vs : List LinkView). g (f n) ∷ vs) (map_twi
 
 -- what several links make of a network, which were taken out for the turn and put back
 pub several_turned : (turn : NodeTurn) (n : ℕ) (old mid new taken back rest : List LinkView) (into : List ℕ) (greens : List Bool)
-    (free space : List (Option OutLink)) (es fs entering : List Entering) (gone lost : List VehicleState) (said heard : List Occurrence)
+    (free space : SpaceRows) (es fs entering : List Entering) (gone lost : List VehicleState) (said heard : List Occurrence)
     → taken ≡ map (lane old) into → length mid ≡ length old → ((l : ℕ) → is_among l into ≡ false → lane mid l ≡ lane old l)
     → node_state back (places_in space) fs lost heard
     ≡ after_turn turn.stuck turn.second (word turn.draws) greens (node_state taken (places_in free) es gone said)
@@ -195,7 +195,7 @@ left_out : (b : Bool) (x y z : LinkView) → b ≡ false → z ≡ y → z ≡ (
 left_out false x y z e h = h
 left_out true x y z e h = absurd (true≢false e)
 
-pub alone_turned : (turn : NodeTurn) (k : ℕ) (green : Bool) (old new : List LinkView) (v w : LinkView) (free space : List (Option OutLink))
+pub alone_turned : (turn : NodeTurn) (k : ℕ) (green : Bool) (old new : List LinkView) (v w : LinkView) (free space : SpaceRows)
     (es fs entering : List Entering) (gone lost : List VehicleState) (said heard : List Occurrence)
     → v ≡ lane old k → new ≡ set old k w
     → node_state (w ∷ []) (places_in space) fs lost heard

@@ -8,6 +8,7 @@ use Rattle.traffic.specs.declared.node_views.OutLink.{OutLink}
 use Rattle.traffic.specs.Moves.{told}
 use Rattle.traffic.specs.Nodes.{node_moves, out_links_after, HaveNext}
 use Rattle.queue_link.specs.Links.{LinkView}
+use Rattle.node_move.specs.Entries.{SpaceRows}
 use Rattle.node_move.specs.declared.crossings.Entering.{Entering}
 use Rattle.node_move.specs.declared.turns.NodeTurn.{NodeTurn}
 use Rattle.node_move.specs.NodeStates.{in_links_of, buffer_after, entering_by, AreApart}
@@ -30,7 +31,7 @@ AreReadyInto links ks = Each (λ (k : ℕ). HaveNext (lane links k).lists.buffer
 
 -- What the turn of a node by the links in these slots makes of links and places, who enters other links, in order, and what it tells.
 pub record IsNodeSecond (turn : NodeTurn) (into : List ℕ) (greens : List Bool) (old_links new_links : List LinkView)
-    (old_space new_space : List (Option OutLink)) (entering : List Entering) (old_said new_said : List Occurrence) : Type 0 where
+    (old_space new_space : SpaceRows) (entering : List Entering) (old_said new_said : List Occurrence) : Type 0 where
   pub links :
       (k : ℕ) → k < length old_links → lane new_links k
       ≡ (if is_among k into then buffer_after (moves_in turn old_links into greens (places_in old_space)) (lane old_links k) else lane old_links k)

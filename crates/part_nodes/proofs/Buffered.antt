@@ -11,6 +11,7 @@ use Rattle.traffic.specs.declared.stage.Stage.TheVariants.{Buffer}
 use Rattle.traffic.specs.declared.world.Row.{Row}
 use Rattle.traffic.specs.Lists.{is_nil}
 use Rattle.queue_link.specs.Links.{LinkView}
+use Rattle.node_move.specs.Entries.{SpaceRows}
 use Rattle.node_move.specs.Spaces.{places_in}
 use Rattle.node_move.specs.NodeStates.{in_links_of}
 use Rattle.node_seconds.specs.Networks.{lane, is_among, AreOnce}
@@ -111,7 +112,7 @@ each_some P f p (k ∷ ks) h =
     let rest = each_some P f p ks h.1 in
     elim (cases_Bool (p k)) [ inl e ↦ rw e (h.0, rest) | inr e ↦ rw e rest ]
 
-pub moves_of_some : (E : Extent) (S : Setup) (t n : ℕ) (K : Stuck) (second : ℕ) (s : Source) (links : List LinkView) (space : List (Option OutLink))
+pub moves_of_some : (E : Extent) (S : Setup) (t n : ℕ) (K : Stuck) (second : ℕ) (s : Source) (links : List LinkView) (space : SpaceRows)
     (V : World) (slots ks : List ℕ) → ks ≡ filter (is_buffered links) (slots_of slots (into S n)) → HasLinks S E slots → E.mine n ≡ true
     → IsTurnOf S t n K second s → LinksStandAt E.number E.size S t links V → GoOnThere E.mine S V
     → ((m : ℕ) → m < length S.links → E.mine (link_row S m).from ≡ true → places_in space m ≡ Some (places_at S t V m))

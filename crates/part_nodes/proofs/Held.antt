@@ -11,7 +11,6 @@ use Rattle.town.specs.declared.day_input.DayInput.{DayInput}
 use Rattle.town.specs.Setups.{setup_of}
 use Rattle.town.specs.Views.{setup}
 use Rattle.traffic.specs.declared.node_views.InLink.{InLink}
-use Rattle.traffic.specs.declared.node_views.OutLink.{OutLink}
 use Rattle.traffic.specs.declared.stage.Stage.TheVariants.{Queue, Buffer}
 use Rattle.traffic.specs.declared.world.Row.{Row}
 use Rattle.traffic.specs.Lists.{is_nil}
@@ -21,6 +20,7 @@ use Rattle.law_joined_routes.specs.Going.{GoesOn}
 use Rattle.law_sleeping.specs.Able.{can_go, is_able}
 use Rattle.law_sleeping.proofs.Places.{run_places}
 use Rattle.queue_link.specs.Links.{LinkView}
+use Rattle.node_move.specs.Entries.{SpaceRows}
 use Rattle.node_move.specs.Spaces.{places_in}
 use Rattle.node_seconds.specs.Networks.{lane, is_among}
 use Rattle.part_places.proofs.Counting.{still_is}
@@ -170,7 +170,7 @@ sooner_after t None q h g = g
 sooner_after t (Some u) None h g = h
 sooner_after t (Some u) (Some v) h g = omega arith
 
-due_under : (K : Stuck) (t : ℕ) (always : ℕ → Bool) (space : List (Option OutLink)) (links : List LinkView) (v : ℕ) (ls : List ℕ)
+due_under : (K : Stuck) (t : ℕ) (always : ℕ → Bool) (space : SpaceRows) (links : List LinkView) (v : ℕ) (ls : List ℕ)
     → IsBy v (node_due K t always space links (Some v) ls)
 unfolding node_due
 due_under K t always space links v [] = omega arith
@@ -179,7 +179,7 @@ due_under K t always space links v (l ∷ ls) =
     subst (λ (o : Option ℕ). IsBy v (node_due K t always space links o ls)) (sym s.1)
     (by_less v s.0 (node_due K t always space links (Some s.0) ls) s.2 (due_under K t always space links s.0 ls))
 
-due_by : (K : Stuck) (t : ℕ) (always : ℕ → Bool) (space : List (Option OutLink)) (links : List LinkView) (due : Option ℕ) (ls : List ℕ) (l d : ℕ)
+due_by : (K : Stuck) (t : ℕ) (always : ℕ → Bool) (space : SpaceRows) (links : List LinkView) (due : Option ℕ) (ls : List ℕ) (l d : ℕ)
     → is_among l ls ≡ true → link_due K t always space (lane links l) ≡ Some d → IsBy d (node_due K t always space links due ls)
 unfolding node_due
 due_by K t always space links due [] l d a e = absurd (true≢false (sym a))
@@ -199,12 +199,12 @@ was_false true e = sym e
 was_false false e = refl
 
 -- a front that is held is of a link that is always green, has no place free before it, and is not stuck
-record IsHeld (K : Stuck) (t : ℕ) (always : ℕ → Bool) (space : List (Option OutLink)) (l : ℕ) (r : Row) : Type 0 where
+record IsHeld (K : Stuck) (t : ℕ) (always : ℕ → Bool) (space : SpaceRows) (l : ℕ) (r : Row) : Type 0 where
   green : always l ≡ true
   full : has_room (places_in space (next_link r.vehicle)) ≡ false
   patient : t - r.second < K.seconds
 
-held_is : (K : Stuck) (t : ℕ) (always : ℕ → Bool) (space : List (Option OutLink)) (l : ℕ) (r : Row) (rs : List Row)
+held_is : (K : Stuck) (t : ℕ) (always : ℕ → Bool) (space : SpaceRows) (l : ℕ) (r : Row) (rs : List Row)
     → is_held K t always space l (r ∷ rs) ≡ true → IsHeld K t always space l r
 held_is K t always space l r rs e =
     elim (cases_Bool (always l)) [
@@ -216,7 +216,7 @@ held_is K t always space l r rs e =
       | inr g ↦ let f : false ≡ true = rw g at e in absurd (true≢false (sym f))
     ]
 
-front_after : (K : Stuck) (t : ℕ) (always : ℕ → Bool) (space : List (Option OutLink)) (l : ℕ) (rows : List Row)
+front_after : (K : Stuck) (t : ℕ) (always : ℕ → Bool) (space : SpaceRows) (l : ℕ) (rows : List Row)
     → IsAfter t (front_due K t always space l rows)
 front_after K t always space l [] = tt
 front_after K t always space l (r ∷ rs) =
@@ -225,7 +225,7 @@ front_after K t always space l (r ∷ rs) =
       | inr e ↦ rw e (omega arith)
     ]
 
-due_after : (K : Stuck) (t : ℕ) (always : ℕ → Bool) (space : List (Option OutLink)) (links : List LinkView) (due : Option ℕ) (ls : List ℕ)
+due_after : (K : Stuck) (t : ℕ) (always : ℕ → Bool) (space : SpaceRows) (links : List LinkView) (due : Option ℕ) (ls : List ℕ)
     → IsAfter t due → IsAfter t (node_due K t always space links due ls)
 unfolding node_due
 due_after K t always space links due [] h = h
@@ -244,7 +244,7 @@ woken_up_to end t by u lt ne le =
       | inr q ↦ let a = leb-false u end q in rw q (omega arith)
     ]
 
-waits_by : (S : Setup) (end t l : ℕ) (always : ℕ → Bool) (space : List (Option OutLink)) (V : World) (r : Row) (rs : List Row) (o : Option ℕ)
+waits_by : (S : Setup) (end t l : ℕ) (always : ℕ → Bool) (space : SpaceRows) (V : World) (r : Row) (rs : List Row) (o : Option ℕ)
     → t < end → (always l ≡ true → (u : ℕ) → S.green l u ≡ true)
     → places_in space (next_link r.vehicle) ≡ Some (places_at S t V (next_link r.vehicle))
     → IsBy (if is_held S.settings.stuck t always space l (r ∷ rs) then r.second + S.settings.stuck.seconds else t + 1) o → IsAfter t o
@@ -271,7 +271,7 @@ waits_by S end t l always space V r rs (Some u) in_day green places by late ne =
     ]
 
 -- a link into a node that had its turn waits, where the node is not woken in the next second
-pub waits_again : (mine : ℕ → Bool) (S : Setup) (end t l k : ℕ) (always : ℕ → Bool) (space : List (Option OutLink)) (links : List LinkView) (ks : List ℕ)
+pub waits_again : (mine : ℕ → Bool) (S : Setup) (end t l k : ℕ) (always : ℕ → Bool) (space : SpaceRows) (links : List LinkView) (ks : List ℕ)
     (V : World) (rows : List Row) (wake : Option ℕ) → t < end → mine (link_row S l).to ≡ true → (always l ≡ true → (u : ℕ) → S.green l u ≡ true)
     → ((m : ℕ) → m < length S.links → mine (link_row S m).from ≡ true → places_in space m ≡ Some (places_at S t V m)) → Each (GoesOn S l) rows
     → wake ≡ up_to end (node_due S.settings.stuck t always space links None ks) → wake ≢ Some (t + 1) → is_among k ks ≡ true

@@ -22,6 +22,7 @@ use Rattle.calendar.specs.Waking.{wake_of}
 use Rattle.queue_link.specs.Links.{LinkView}
 use Rattle.queue_link.specs.Numbers.{numbers_of}
 use Rattle.queue_link.specs.declared.numbers.LinkNumbers.{LinkNumbers}
+use Rattle.node_move.specs.Entries.{SpaceRows}
 use Rattle.node_move.specs.Spaces.{places_in}
 use Rattle.node_move.specs.NodeStates.{buffer_after, entering_by}
 use Rattle.node_move.specs.declared.crossings.Entering.{Entering}
@@ -117,9 +118,9 @@ lists_are S t n l V v es sec h cross e =
 
 -- ALL LINKS
 -- what the calls of a turn made of links, the seconds in which they are woken, places, and who goes out
-pub record Calls (S : Setup) (end t n : ℕ) (V : World) (slots : List ℕ) (old : List LinkView) (slept : List (Option ℕ)) (free : List (Option OutLink))
+pub record Calls (S : Setup) (end t n : ℕ) (V : World) (slots : List ℕ) (old : List LinkView) (slept : List (Option ℕ)) (free : SpaceRows)
     (ks : List ℕ) (mid : List LinkView) (woken : List (Option ℕ)) (es : List Entering) (links : List LinkView) (wakes : List (Option ℕ))
-    (space : List (Option OutLink)) (first_out out : List Entering) : Type 0 where
+    (space : SpaceRows) (first_out out : List Entering) : Type 0 where
   pub some : ks ≡ filter (is_buffered old) (slots_of slots (into S n))
   pub count : length mid ≡ length old
   pub lanes : (k : ℕ) → k < length old → lane mid k ≡ (if is_among k ks then buffer_after (node_turns S t n V) (lane old k) else lane old k)
@@ -131,8 +132,8 @@ pub record Calls (S : Setup) (end t n : ℕ) (V : World) (slots : List ℕ) (old
   pub gone : out ≡ first_out ++ filter (goes_out (slot_in slots mid)) es
 
 module _ (z : Counts) (S : Setup) (E : Extent) (end t n : ℕ) (V : World) (slots : List ℕ) (old : List LinkView) (slept : List (Option ℕ))
-    (free : List (Option OutLink)) (ks : List ℕ) (mid : List LinkView) (woken : List (Option ℕ)) (es : List Entering) (links : List LinkView)
-    (wakes : List (Option ℕ)) (space : List (Option OutLink)) (first_out out : List Entering) (has : HasLinks S E slots) (own : E.mine n ≡ true)
+    (free : SpaceRows) (ks : List ℕ) (mid : List LinkView) (woken : List (Option ℕ)) (es : List Entering) (links : List LinkView)
+    (wakes : List (Option ℕ)) (space : SpaceRows) (first_out out : List Entering) (has : HasLinks S E slots) (own : E.mine n ≡ true)
     (h : LinksStandFor z S E end t old slept free V) (cross : AreCrossings S t (node_turns S t n V))
     (c : Calls S end t n V slots old slept free ks mid woken es links wakes space first_out out) where
   handed_mid : (k : ℕ) → k < E.size → lane mid k ≡ handed (E.number k) (node_turns S t n V) (lane old k)
@@ -206,8 +207,8 @@ module _ (z : Counts) (S : Setup) (E : Extent) (end t n : ℕ) (V : World) (slot
 
 -- by the moves of the node, as its turn knows them
 pub passed_on : (z : Counts) (S : Setup) (E : Extent) (end t n : ℕ) (V : World) (slots : List ℕ) (old : List LinkView) (slept : List (Option ℕ))
-    (free : List (Option OutLink)) (turn : NodeTurn) (ks : List ℕ) (greens : List Bool) (bs : List Buffered) (mid : List LinkView)
-    (woken : List (Option ℕ)) (es : List Entering) (links : List LinkView) (wakes : List (Option ℕ)) (space : List (Option OutLink))
+    (free : SpaceRows) (turn : NodeTurn) (ks : List ℕ) (greens : List Bool) (bs : List Buffered) (mid : List LinkView)
+    (woken : List (Option ℕ)) (es : List Entering) (links : List LinkView) (wakes : List (Option ℕ)) (space : SpaceRows)
     (first now : List Occurrence) (first_out out : List Entering)
     → HasLinks S E slots → E.mine n ≡ true → t < end → IsFitSetup z S → IsTurnOf S t n turn.stuck turn.second turn.draws
     → ks ≡ filter (is_buffered old) (slots_of slots (into S n)) → greens ≡ lights_of S t old ks
@@ -251,7 +252,7 @@ pub turned : (z : Counts) (S : Setup) (E : Extent) (end t n : ℕ) (V : World) (
     → IsPassed z S E end t n V links new.link_wakes new.places.space now first_out gone
     → length old.node_wakes ≡ S.nodes → ((m : ℕ) → E.mine m ≡ false → wake_of old.node_wakes m ≡ None)
     → n < S.nodes → ks ≡ slots_of slots (into S n)
-    → new.links.items ≡ links → seen ≡ links → new.places.holes.items ≡ old.places.holes.items → new.places.freed ≡ old.places.freed
+    → new.links.items ≡ links → seen ≡ links → new.places.holes ≡ old.places.holes → new.places.freed ≡ old.places.freed
     → t < end → K ≡ S.settings.stuck → ((l : ℕ) → always l ≡ true → (u : ℕ) → S.green l u ≡ true)
     → new.node_wakes ≡ set old.node_wakes n (up_to end (node_due K t always new.places.space seen None ks))
     → out ≡ events ++ keyed t (phase_code phase.C) n 0 now → heard ≡ said ++ now

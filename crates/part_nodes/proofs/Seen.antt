@@ -1,8 +1,7 @@
 -- What a node sees of the links of a network is what it sees of the world for which they stand.
 use Rattle.traffic.proofs.Common.{◌≡◌, ℕ, List, ◌∙◌, length, ap, refl, [], ◌∷◌, arith, ◌<◌, ◌≤◌, ◌+◌, true, inl, inr, suc, zero, eqb, map, filter}
-use Rattle.traffic.proofs.Common.{Some, Option, cases_Bool, eqb-true, eq-eqb, below, numbers, in_link, out_link, World, Setup, into, link_row, next_link, at}
+use Rattle.traffic.proofs.Common.{Some, cases_Bool, eqb-true, eq-eqb, below, numbers, in_link, out_link, World, Setup, into, link_row, next_link, at}
 use Rattle.traffic.specs.declared.node_views.InLink.{InLink}
-use Rattle.traffic.specs.declared.node_views.OutLink.{OutLink}
 use Rattle.traffic.specs.declared.stage.Stage.TheVariants.{Buffer}
 use Rattle.traffic.specs.declared.world.Row.{Row}
 use Rattle.std.specs.List.{AllByRecursion as Each}
@@ -11,6 +10,7 @@ use Rattle.traffic.specs.Links.{LinkState}
 use Rattle.queue_link.specs.Links.{LinkView}
 use Rattle.queue_link.specs.declared.numbers.LinkNumbers.{LinkNumbers}
 use Rattle.queue_link.specs.Numbers.{numbers_of}
+use Rattle.node_move.specs.Entries.{SpaceRows}
 use Rattle.node_move.specs.Spaces.{places_in}
 use Rattle.node_move.specs.NodeStates.{in_link_of, in_links_of}
 use Rattle.node_seconds.specs.Networks.{lane, is_among}
@@ -89,7 +89,7 @@ in_links_are E S t links V (k ∷ ks) there h =
 abbrev pub IsOut : Setup → ℕ → ℕ → Type 0
 IsOut S n m = (m < length S.links) × ((link_row S m).from ≡ n)
 
-pub out_agree : (E : Extent) (S : Setup) (t n : ℕ) (space : List (Option OutLink)) (V : World) → E.mine n ≡ true
+pub out_agree : (E : Extent) (S : Setup) (t n : ℕ) (space : SpaceRows) (V : World) → E.mine n ≡ true
     → ((m : ℕ) → m < length S.links → E.mine (link_row S m).from ≡ true → places_in space m ≡ Some (places_at S t V m))
     → Agree (IsOut S n) (places_in space) (out_link S t n V)
 out_agree E S t n space V own h m out =

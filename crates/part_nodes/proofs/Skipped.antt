@@ -290,7 +290,7 @@ stands_with z S E end t V N M wakes e sl h =
 pub all_turned : (z : Counts) (S : Setup) (E : Extent) (end t : ℕ) (V : World) (ns : List ℕ) (old mid new : NetworkState) (events out : List Event)
     (said heard : List Occurrence) (first_out gone : List Entering)
     → t < end → StandsForAt z S E end t old V → AreAwaitedAt E.mine S end (t + 1) t old.node_wakes V → ns ≡ woken t old.node_wakes
-    → mid.node_wakes ≡ map (slept t) old.node_wakes → mid.places.holes.items ≡ old.places.holes.items → mid.places.freed ≡ old.places.freed
+    → mid.node_wakes ≡ map (slept t) old.node_wakes → mid.places.holes ≡ old.places.holes → mid.places.freed ≡ old.places.freed
     → AreTurned z S E end t V ns mid new events out said heard first_out gone
     → IsPhaseAt z S E end t V old new events out said heard first_out gone
 unfolding turns_of

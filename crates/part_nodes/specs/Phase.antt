@@ -21,6 +21,7 @@ use Rattle.traffic.specs.Moves.{told, run}
 use Rattle.traffic.specs.Day.{Turn, keyed, node_turns, turns_of, turns, moves_of, after, events_in}
 use Rattle.calendar.specs.Waking.{wake_of}
 use Rattle.queue_link.specs.Links.{LinkView}
+use Rattle.node_move.specs.Entries.{SpaceRows}
 use Rattle.node_move.specs.declared.crossings.Entering.{Entering}
 use Rattle.node_move.specs.Spaces.{places_in}
 use Rattle.node_seconds.specs.Networks.{is_among}
@@ -63,7 +64,7 @@ GoOnThere mine S V = (l : ℕ) → l < length S.links → mine (link_row S l).to
 -- While the nodes of second t have their turns the links of a part stand for the world V that the ones before left: they have the lists of V
 -- and rest until they are woken; and of each link that begins at its nodes as many places are taken as in V.
 pub record LinksStandFor (z : Counts) (S : Setup) (E : Extent) (end t : ℕ) (links : List LinkView) (wakes : List (Option ℕ))
-    (space : List (Option OutLink)) (V : World) : Type 0 where
+    (space : SpaceRows) (V : World) : Type 0 where
   pub fit : IsFitWorld z V
   pub on : GoOnThere E.mine S V
   pub stand : LinksStandAt E.number E.size S t links V
@@ -73,7 +74,7 @@ pub record LinksStandFor (z : Counts) (S : Setup) (E : Extent) (end t : ℕ) (li
 
 -- they stand for some world, as links of some part that has node n
 pub record LinksStandForSome (z : Counts) (S : Setup) (end t n : ℕ) (slots : List ℕ) (links : List LinkView) (wakes : List (Option ℕ))
-    (space : List (Option OutLink)) : Type 0 where
+    (space : SpaceRows) : Type 0 where
   pub extent : Extent
   pub world : World
   pub has : HasLinks S extent slots
@@ -135,7 +136,7 @@ going_out S mine ms = map entering_of (flat_map (enters_queue (λ (m : ℕ). not
 -- TURNS
 -- What the turn of node n makes of links that stand for world V in second t, what it tells, and who goes out by it.
 pub record IsPassed (z : Counts) (S : Setup) (E : Extent) (end t n : ℕ) (V : World) (links : List LinkView) (wakes : List (Option ℕ))
-    (space : List (Option OutLink)) (now : List Occurrence) (first_out out : List Entering) : Type 0 where
+    (space : SpaceRows) (now : List Occurrence) (first_out out : List Entering) : Type 0 where
   pub stand : LinksStandFor z S E end t links wakes space (run S t (node_turns S t n V) V)
   pub said : now ≡ flat_map told (node_turns S t n V)
   pub gone : out ≡ first_out ++ going_out S E.mine (node_turns S t n V)
@@ -145,7 +146,7 @@ pub record IsPassed (z : Counts) (S : Setup) (E : Extent) (end t n : ℕ) (V : W
 pub record IsTurn (z : Counts) (S : Setup) (E : Extent) (end t n : ℕ) (V : World) (old new : NetworkState) (first_events now_events : List Event)
     (first_said now_said : List Occurrence) (first_out out : List Entering) : Type 0 where
   pub stands : StandsForAt z S E end t new (run S t (node_turns S t n V) V)
-  pub holes : new.places.holes.items ≡ old.places.holes.items
+  pub holes : new.places.holes ≡ old.places.holes
   pub freed : new.places.freed ≡ old.places.freed
   pub others : (m : ℕ) → m ≢ n → wake_of new.node_wakes m ≡ wake_of old.node_wakes m
   pub awaited :
@@ -160,7 +161,7 @@ pub record IsTurn (z : Counts) (S : Setup) (E : Extent) (end t n : ℕ) (V : Wor
 pub record AreTurned (z : Counts) (S : Setup) (E : Extent) (end t : ℕ) (V : World) (ns : List ℕ) (old new : NetworkState)
     (first_events now_events : List Event) (first_said now_said : List Occurrence) (first_out out : List Entering) : Type 0 where
   pub stands : StandsForAt z S E end t new (after S t (turns S t (turns_of S t phase.C) ns V) V)
-  pub holes : new.places.holes.items ≡ old.places.holes.items
+  pub holes : new.places.holes ≡ old.places.holes
   pub freed : new.places.freed ≡ old.places.freed
   pub others : (m : ℕ) → is_among m ns ≡ false → wake_of new.node_wakes m ≡ wake_of old.node_wakes m
   pub awaited :
@@ -176,7 +177,7 @@ pub record AreTurned (z : Counts) (S : Setup) (E : Extent) (end t : ℕ) (V : Wo
 pub record IsPhaseBy (z : Counts) (S : Setup) (E : Extent) (us : List Turn) (end t : ℕ) (V : World) (old new : NetworkState)
     (first_events now_events : List Event) (first_said now_said : List Occurrence) (first_out out : List Entering) : Type 0 where
   pub stands : StandsForAt z S E end t new (after S t us V)
-  pub holes : new.places.holes.items ≡ old.places.holes.items
+  pub holes : new.places.holes ≡ old.places.holes
   pub freed : new.places.freed ≡ old.places.freed
   pub awaited : AreAwaitedAt E.mine S end (t + 1) (t + 1) new.node_wakes (after S t us V)
   pub events : now_events ≡ first_events ++ events_in t phase.C us

@@ -5,12 +5,12 @@ use Rattle.std.specs.List.{list_any}
 use Rattle.draws.specs.Words.{Source, word}
 use Rattle.rows.specs.declared.settings.Stuck.{Stuck}
 use Rattle.traffic.specs.Lists.{is_nil}
-use Rattle.traffic.specs.declared.node_views.OutLink.{OutLink}
 use Rattle.traffic.specs.declared.world.Row.{Row}
 use Rattle.traffic.specs.Setup.{Setup}
 use Rattle.rows.specs.Greens.{Phases, green_at}
 use Rattle.town.specs.declared.day_input.DayInput.{DayInput}
 use Rattle.law_sleeping.specs.Able.{can_go}
+use Rattle.node_move.specs.Entries.{SpaceRows}
 use Rattle.node_move.specs.Spaces.{places_in}
 use Rattle.calendar.specs.Waking.{earliest as sooner, woken_by}
 use Rattle.queue_link.specs.Links.{LinkView, front_second}
@@ -78,7 +78,7 @@ unfoldable pub is_always : Phases → Bool
 is_always p = list_any (covers p.cycle) p.spans
 
 -- whether the front of a link waits for a place: the link is always green, and its front cannot go
-abbrev pub is_held : Stuck → ℕ → (ℕ → Bool) → List (Option OutLink) → ℕ → List Row → Bool
+abbrev pub is_held : Stuck → ℕ → (ℕ → Bool) → SpaceRows → ℕ → List Row → Bool
 is_held K t always space l rows = if always l then not (can_go K t (places_in space) rows) else false
 
 -- when the node has to look at the link again, if nobody else does anything: where its front waits for a place, when it is stuck
@@ -86,15 +86,15 @@ abbrev pub due_from : Stuck → ℕ → Bool → Option ℕ → Option ℕ
 due_from K t held None = None
 due_from K t held (Some since) = Some (if held then since + K.seconds else t + 1)
 
-abbrev pub front_due : Stuck → ℕ → (ℕ → Bool) → List (Option OutLink) → ℕ → List Row → Option ℕ
+abbrev pub front_due : Stuck → ℕ → (ℕ → Bool) → SpaceRows → ℕ → List Row → Option ℕ
 front_due K t always space l rows = due_from K t (is_held K t always space l rows) (front_second rows)
 
 -- the same of a link
-abbrev pub link_due : Stuck → ℕ → (ℕ → Bool) → List (Option OutLink) → LinkView → Option ℕ
+abbrev pub link_due : Stuck → ℕ → (ℕ → Bool) → SpaceRows → LinkView → Option ℕ
 link_due K t always space v = front_due K t always space v.numbers.link v.lists.buffer
 
 -- the earliest of these seconds of the links in these slots, and of this one
-unfoldable pub node_due : Stuck → ℕ → (ℕ → Bool) → List (Option OutLink) → List LinkView → Option ℕ → List ℕ → Option ℕ
+unfoldable pub node_due : Stuck → ℕ → (ℕ → Bool) → SpaceRows → List LinkView → Option ℕ → List ℕ → Option ℕ
 node_due K t always space links due [] = due
 node_due K t always space links due (k ∷ ks) = node_due K t always space links (sooner due (link_due K t always space (lane links k))) ks
 
@@ -108,7 +108,7 @@ abbrev pub always_in : List Phases → ℕ → Bool
 always_in greens l = is_always (green_at greens l)
 
 -- when a node with the links in these slots into it is woken again after second t
-abbrev pub woken_again : DayInput → ℕ → List ℕ → List LinkView → List (Option OutLink) → Option ℕ
+abbrev pub woken_again : DayInput → ℕ → List ℕ → List LinkView → SpaceRows → Option ℕ
 woken_again day t ks links space =
     up_to day.town.now.settings.end_second
     (node_due day.town.now.settings.stuck t (always_in day.town.now.greens) space links None ks)

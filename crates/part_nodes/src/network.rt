@@ -7,7 +7,7 @@ use queue_link::LinkState;
 pub struct NetworkState {
     /// The links, by slot.
     pub links: Vec<LinkState>,
-    /// How many places of each link are taken, by number, and when those that were left come free.
+    /// How many places of each link are taken, and when those that were left come free.
     pub places: Places,
     /// The second in which each link is woken, by slot.
     pub link_wakes: Wakes,

@@ -63,7 +63,7 @@ impl Persons {
         ensures wakes { IfOk result (λ persons. length persons.wakes ≡ length persons.world.persons) }
     {
         let rows = first_rows(alloc, day, homes, partition)?;
-        let world = start_with(alloc, day, rows)?;
+        let world = start_with(alloc, day, rows);
         let wakes = first_wakes(alloc, day, &world)?;
         Ok(Persons { world, wakes })
     }

@@ -1,9 +1,10 @@
 -- The places of a second come free.
-use Rattle.std.proofs.Common.{◌≡◌, ℕ, ◌+◌, ◌-◌, ◌<◌, List, length, get_or, refl, ap, sym, ◌∙◌, arith, eqb, Bool, true, false}
+use Rattle.std.proofs.Common.{◌≡◌, ℕ, ◌+◌, ◌-◌, ◌<◌, List, refl, ap, sym, ◌∙◌, arith, eqb, Bool, true, false}
 use Rattle.std.specs.Prelude.{filter, Option, Some}
 use Rattle.std.proofs.lemmas.Bool.{ne_eqb, le-leb}
 use Rattle.traffic.specs.declared.node_views.OutLink.{OutLink}
 use Rattle.calendar.specs.Due.{due_at, HasNone}
+use Rattle.node_move.specs.Pages.{number_of}
 use Rattle.node_move.specs.Spaces.{places_in}
 use Rattle.part_places.specs.declared.places.Places.{Places}
 use Rattle.part_places.specs.Taking.{Taking, AreTakenOf, IsFull, fewer, is_full, is_full_in, still, times}
@@ -14,11 +15,10 @@ with_taken n m T = Some (record { taken = n; storage = T.storage m; seconds = T.
 
 pub freed_is : (begins : ℕ → Bool) (count end t : ℕ) (T : Taking) (P Q : Places) (ls : List ℕ) → t < end → ls ≡ due_at t P.freed → HasNone t P.freed Q.freed
     → ((m : ℕ) → places_in Q.space m ≡ fewer (times m ls) (places_in P.space m))
-    → ((m : ℕ) → get_or Q.holes.items m 0 ≡ get_or P.holes.items m 0 - times m ls)
-    → length Q.holes.items ≡ length P.holes.items
+    → ((m : ℕ) → number_of Q.holes m ≡ number_of P.holes m - times m ls)
     → AreTakenOf begins count end t T P → AreTakenOf begins count end (t + 1) T Q
 unfolding with_taken
-freed_is begins count end t T P Q ls lt e none space holes n h =
+freed_is begins count end t T P Q ls lt e none space holes h =
     let gone : (m : ℕ) → m < count → begins m ≡ true → times m ls ≡ times t (T.frees m)
     = λ m in_count here. ap (times m) e ∙ h.freed m t in_count here (omega arith) lt in
     record {
@@ -27,7 +27,6 @@ freed_is begins count end t T P Q ls lt e none space holes n h =
           let b = still_split t (T.frees m) in
           let c : T.queued m + still t (T.frees m) - times m ls ≡ T.queued m + still (t + 1) (T.frees m) = omega arith in
           space m ∙ ap (fewer (times m ls)) (h.places m in_count here) ∙ ap (λ (k : ℕ). with_taken k m T) c;
-      reach = n ∙ h.reach;
       holes = λ m in_count here.
           let a = gone m in_count here in
           let b = still_split t (T.frees m) in

@@ -1,10 +1,10 @@
 -- Vehicles leave the queue of a link, whose places come free later.
-use Rattle.std.proofs.Common.{◌≡◌, ◌≢◌, ℕ, ◌+◌, ◌-◌, ◌<◌, ◌≤◌, Bool, true, List, ◌++◌, length, get_or, refl, ap, sym, ◌∙◌, subst, eqb, inl, inr, arith}
-use Rattle.std.specs.Prelude.{nat_le, replicate, set, ◌==◌, if◌then◌else◌, Option}
+use Rattle.std.proofs.Common.{◌≡◌, ◌≢◌, ℕ, ◌+◌, ◌-◌, ◌<◌, ◌≤◌, Bool, true, List, ◌++◌, refl, ap, sym, ◌∙◌, subst, eqb, inl, inr, arith}
+use Rattle.std.specs.Prelude.{nat_le, replicate, ◌==◌, if◌then◌else◌}
 use Rattle.std.proofs.lemmas.Bool.{cases_Bool, eqb-true, eqb-false, eq-eqb, ne_eqb, le-leb}
-use Rattle.std.proofs.lemmas.List.{get_or-set_same, get_or-set_other, length-set}
-use Rattle.traffic.specs.declared.node_views.OutLink.{OutLink}
 use Rattle.calendar.specs.Due.{due_at}
+use Rattle.node_move.specs.Entries.{SpaceRows}
+use Rattle.node_move.specs.Pages.{number_of}
 use Rattle.node_move.specs.Spaces.{places_in}
 use Rattle.part_places.specs.declared.places.Places.{Places}
 use Rattle.part_places.specs.Taking.{Taking, AreTakenOf, still, times, taken_in, later}
@@ -13,7 +13,7 @@ use Rattle.part_places.proofs.Freed.{with_taken}
 
 -- so many vehicles are in the queue of a link: its places that are taken and are no holes
 pub queued_is : (begins : ℕ → Bool) (count end t l taken holes : ℕ) (T : Taking) (P : Places) → l < count → begins l ≡ true
-    → taken ≡ taken_in (places_in P.space l) → holes ≡ get_or P.holes.items l 0 → AreTakenOf begins count end t T P → taken - holes ≡ T.queued l
+    → taken ≡ taken_in (places_in P.space l) → holes ≡ number_of P.holes l → AreTakenOf begins count end t T P → taken - holes ≡ T.queued l
 queued_is begins count end t l taken holes T P there here e f h =
     let a = e ∙ ap taken_in (h.places l there here) in
     let b = f ∙ h.holes l there here in
@@ -30,7 +30,7 @@ times_same m n k ns ne = count_same (λ (x : ℕ). x == m) k n ns (ne_eqb n m ne
 
 module _ (begins : ℕ → Bool) (count end t l v second : ℕ) (T : Taking) (P Q : Places) (there : l < count) (here : begins l ≡ true)
     (few : v ≤ T.queued l) (soon : t ≤ second) (space : Q.space ≡ P.space)
-    (holes : Q.holes.items ≡ set P.holes.items l (get_or P.holes.items l 0 + v))
+    (holes : (m : ℕ) → number_of Q.holes m ≡ (if m == l then number_of P.holes l + v else number_of P.holes m))
     (freed :
     (u : ℕ) → u < end → due_at u Q.freed ≡ (if u == second then due_at u P.freed ++ replicate v l else due_at u P.freed))
     (h : AreTakenOf begins count end t T P) where
@@ -60,24 +60,18 @@ module _ (begins : ℕ → Bool) (count end t l v second : ℕ) (T : Taking) (P 
         | inr e ↦ subst (λ (b : Bool). T.queued m + still t (T.frees m) ≡ queue m b + still t (frees m b)) (sym e) refl
       ]
 
-  one_more : (m : ℕ) → m < count → begins m ≡ true → get_or Q.holes.items m 0 ≡ still t (frees m (eqb m l))
+  one_more : (m : ℕ) → m < count → begins m ≡ true → number_of Q.holes m ≡ still t (frees m (eqb m l))
   one_more m in_count mine =
-      let hs = P.holes.items in
-      let x = get_or hs l 0 + v in
-      let reach = h.reach in
-      ap (λ (xs : List ℕ). get_or xs m 0) holes
+      let x : ℕ = number_of P.holes l + v in
+      holes m
       ∙ elim (cases_Bool (eqb m l)) [
         | inl e ↦
             let same = eqb-true m l e in
             let g = are_gone m same in
-            let inside : l < length hs = omega arith in
-            let a : get_or (set hs l x) m 0 ≡ x = ap (λ (k : ℕ). get_or (set hs l x) k 0) same ∙ get_or-set_same hs l x 0 inside in
-            let b : get_or hs l 0 ≡ still t (T.frees m) = h.holes l there here ∙ ap (λ (k : ℕ). still t (T.frees k)) (sym same) in
+            let b : number_of P.holes l ≡ still t (T.frees m) = h.holes l there here ∙ ap (λ (k : ℕ). still t (T.frees k)) (sym same) in
             let more = still_more t second (gone m) (T.frees m) soon in
-            subst (λ (b : Bool). get_or (set hs l x) m 0 ≡ still t (frees m b)) (sym e) (omega arith)
-        | inr e ↦
-            subst (λ (b : Bool). get_or (set hs l x) m 0 ≡ still t (frees m b)) (sym e)
-            (get_or-set_other hs l m x 0 (eqb-false m l e) ∙ h.holes m in_count mine)
+            subst (λ (b : Bool). (if b then x else number_of P.holes m) ≡ still t (frees m b)) (sym e) (omega arith)
+        | inr e ↦ subst (λ (b : Bool). (if b then x else number_of P.holes m) ≡ still t (frees m b)) (sym e) (h.holes m in_count mine)
       ]
 
   come_free : (m u : ℕ) → m < count → begins m ≡ true → t ≤ u → u < end → times m (due_at u Q.freed) ≡ times u (frees m (eqb m l))
@@ -115,8 +109,7 @@ module _ (begins : ℕ → Bool) (count end t l v second : ℕ) (T : Taking) (P 
   unfolding gone with_taken
   later_is = record {
     places = λ m in_count mine.
-        ap (λ (s : List (Option OutLink)). places_in s m) space ∙ h.places m in_count mine ∙ ap (λ (k : ℕ). with_taken k m T) (as_many m);
-    reach = ap (λ (hs : List ℕ). length hs) holes ∙ length-set P.holes.items l (get_or P.holes.items l 0 + v) ∙ h.reach;
+        ap (λ (s : SpaceRows). places_in s m) space ∙ h.places m in_count mine ∙ ap (λ (k : ℕ). with_taken k m T) (as_many m);
     holes = one_more;
     freed = come_free;
   }

@@ -1,11 +1,13 @@
 -- Links of which no place is taken, one after the other.
 use Rattle.std.proofs.Common.{◌≡◌, ℕ, ◌+◌, ◌<◌, ◌≤◌, Bool, true, List, [], ◌∷◌, ◌++◌, length, get_or, take, ap, sym, ◌∙◌, subst, inl, inr, arith, refl}
-use Rattle.std.specs.Prelude.{replicate, ◌==◌, if◌then◌else◌, Option, Some}
+use Rattle.std.specs.Prelude.{◌==◌, if◌then◌else◌, Some}
 use Rattle.std.specs.List.{Contains}
 use Rattle.std.proofs.lemmas.Bool.{cases_Bool, eqb-true, eqb-false}
-use Rattle.std.proofs.lemmas.List.{get_or-replicate, length-replicate, take_all, take_more}
+use Rattle.std.proofs.lemmas.List.{take_all, take_more}
 use Rattle.std.proofs.lemmas.List.Elements.{Contains-push_cases}
 use Rattle.calendar.specs.Due.{Due, due_at}
+use Rattle.node_move.specs.Entries.{SpaceRows}
+use Rattle.node_move.specs.Pages.{number_of}
 use Rattle.node_move.specs.Spaces.{places_in}
 use Rattle.town.specs.Setups.{setup_of}
 use Rattle.town.specs.Views.{setup}
@@ -20,11 +22,11 @@ pub links_of : (day : DayInput) → length (setup day).links ≡ length day.town
 unfolding setup_of
 links_of day = refl
 
-pub none_free : (S : Setup) (links : List ℕ) (space : List (Option OutLink)) → AreFree S (take 0 links) space
+pub none_free : (S : Setup) (links : List ℕ) (space : SpaceRows) → AreFree S (take 0 links) space
 none_free S links space = λ m c. absurd (let lt = c.1 in omega arith)
 
 -- one link more
-pub one_free : (S : Setup) (links : List ℕ) (i : ℕ) (places : OutLink) (old new : List (Option OutLink)) → i < length links
+pub one_free : (S : Setup) (links : List ℕ) (i : ℕ) (places : OutLink) (old new : SpaceRows) → i < length links
     → places ≡ free_place S (get_or links i 0)
     → ((m : ℕ) → places_in new m ≡ (if m == get_or links i 0 then Some places else places_in old m))
     → AreFree S (take i links) old → AreFree S (take (i + 1) links) new
@@ -42,18 +44,17 @@ one_free S links i places old new lt is now before = λ m c.
           ])
     ]
 
-pub all_free : (S : Setup) (links : List ℕ) (i : ℕ) (space : List (Option OutLink)) → length links ≤ i → AreFree S (take i links) space
+pub all_free : (S : Setup) (links : List ℕ) (i : ℕ) (space : SpaceRows) → length links ≤ i → AreFree S (take i links) space
     → AreFree S links space
 all_free S links i space past h = subst (λ (ns : List ℕ). AreFree S ns space) (take_all i links past) h
 
 -- none of the places of any links is taken that are among these
-pub none_taken : (S : Setup) (links : List ℕ) (begins : ℕ → Bool) (end count : ℕ) (P : Places) → count ≡ length S.links
-    → AreFree S links P.space → P.holes.items ≡ replicate count 0 → P.freed ≡ []
+pub none_taken : (S : Setup) (links : List ℕ) (begins : ℕ → Bool) (end : ℕ) (P : Places)
+    → AreFree S links P.space → ((m : ℕ) → number_of P.holes m ≡ 0) → P.freed ≡ []
     → ((m : ℕ) → m < length S.links → begins m ≡ true → Contains links m)
     → AreTakenOf begins (length S.links) end 0 (empty S) P
-none_taken S links begins end count P all free holes freed among = record {
+none_taken S links begins end P free holes freed among = record {
   places = λ m lt here. free m (among m lt here);
-  reach = ap (λ (hs : List ℕ). length hs) holes ∙ length-replicate {A = ℕ} count 0 ∙ all;
-  holes = λ m lt here. ap (λ (hs : List ℕ). get_or hs m 0) holes ∙ get_or-replicate count m 0 0 (omega arith);
+  holes = λ m lt here. holes m;
   freed = λ m u lt here from to. ap (λ (due : Due). times m (due_at u due)) freed;
 }

@@ -1,9 +1,11 @@
 -- How the places of links are taken: by the rows of their queues, and by places that were left and are not free yet.
-use Rattle.std.specs.Prelude.{◌≡◌, ℕ, ◌+◌, ◌-◌, ◌<◌, ◌≤◌, Bool, true, false, List, [], ◌++◌, length, get_or, replicate, count_by, nat_le, ◌==◌, if◌then◌else◌, Option, None, Some}
+use Rattle.std.specs.Prelude.{◌≡◌, ℕ, ◌+◌, ◌-◌, ◌<◌, ◌≤◌, Bool, true, false, List, [], ◌++◌, replicate, count_by, nat_le, ◌==◌, if◌then◌else◌, Option, None, Some}
 use Rattle.std.specs.List.{Contains}
 use Rattle.traffic.specs.declared.node_views.OutLink.{OutLink}
 use Rattle.traffic.specs.Setup.{Setup, storage_of, seconds_of}
 use Rattle.calendar.specs.Due.{due_at}
+use Rattle.node_move.specs.Entries.{SpaceRows}
+use Rattle.node_move.specs.Pages.{number_of}
 use Rattle.node_move.specs.Spaces.{places_in}
 use Rattle.parts.specs.Owners.{Owner, begins_in}
 use Rattle.part_places.specs.declared.places.Places.{Places}
@@ -32,8 +34,7 @@ places_of t T m = record { taken = T.queued m + still t (T.frees m); storage = T
 -- these seconds before the end those come free that do.
 pub record AreTakenOf (begins : ℕ → Bool) (count end t : ℕ) (T : Taking) (P : Places) : Type 0 where
   pub places : (m : ℕ) → m < count → begins m ≡ true → places_in P.space m ≡ Some (places_of t T m)
-  pub reach : length P.holes.items ≡ count
-  pub holes : (m : ℕ) → m < count → begins m ≡ true → get_or P.holes.items m 0 ≡ still t (T.frees m)
+  pub holes : (m : ℕ) → m < count → begins m ≡ true → number_of P.holes m ≡ still t (T.frees m)
   pub freed : (m u : ℕ) → m < count → begins m ≡ true → t ≤ u → u < end → times m (due_at u P.freed) ≡ times u (T.frees m)
 
 -- link m has no place free, where those that were left and are free in second t or later are taken
@@ -53,7 +54,7 @@ abbrev pub free_place : Setup → ℕ → OutLink
 free_place S m = record { taken = 0; storage = storage_of S m; seconds = seconds_of S m }
 
 -- no place is taken of any of these links
-abbrev pub AreFree : Setup → List ℕ → List (Option OutLink) → Type 0
+abbrev pub AreFree : Setup → List ℕ → SpaceRows → Type 0
 AreFree S links space = (m : ℕ) → Contains links m → places_in space m ≡ Some (free_place S m)
 
 -- so many fewer places are taken
@@ -70,7 +71,7 @@ abbrev pub is_full : Option OutLink → Bool
 is_full None = false
 is_full (Some e) = nat_le e.storage e.taken
 
-abbrev pub is_full_in : List (Option OutLink) → ℕ → Bool
+abbrev pub is_full_in : SpaceRows → ℕ → Bool
 is_full_in space m = is_full (places_in space m)
 
 -- link l has a queue of so many vehicles now, and the places that the others left are free in this second

@@ -1,13 +1,14 @@
 //! Places come free.
 
 ghost use Rattle.std.specs.Prelude.{◌≡◌, ℕ, ◌+◌, ◌-◌, ◌<◌, Bool, true, ◌==◌, if◌then◌else◌};
-ghost use Rattle.std.specs.Prelude.{get_or, set, filter, OnOk, IfOk};
+ghost use Rattle.std.specs.Prelude.{filter, OnOk, IfOk};
 ghost use Rattle.calendar.specs.Due.{due_at};
+ghost use Rattle.node_move.specs.Pages.{number_of};
 ghost use Rattle.node_move.specs.Spaces.{places_in};
 ghost use Rattle.part_places.specs.Taking.{Taking, AreTakenOf, IsFull, fewer, is_full_in, times};
 
 use crate::places::Places;
-use node_move::Space;
+use node_move::{LinkTable, Space};
 use std::alloc::{AllocError, Global};
 use traffic::OutLink;
 
@@ -56,24 +57,23 @@ fn free_place(space: &mut Space, link: u32) -> Result<(), AllocError>
 }
 
 /// One hole of a link is over.
-#[tactic(auto, using(std::proofs::lemmas::List::set_past))]
-fn end_hole(holes: &mut [u64], link: u32)
-    ensures { holes.new ≡ set holes.old link (get_or holes.old link 0 - 1) }
+fn end_hole(holes: &mut LinkTable, link: u32) -> Result<(), AllocError>
+    ensures { OnOk result
+        ((m : ℕ) → number_of holes.new m ≡ (if m == link then number_of holes.old link - 1 else number_of holes.old m)) }
 {
-    let place = link as usize;
-    if place < holes.len() {
-        holes[place] = holes[place].saturating_sub(1);
-    }
+    let count = holes.number(link).saturating_sub(1);
+    holes.put(link, count)?;
+    Ok(())
 }
 
 /// One place of each of these links is free, once for each time that the link stands there.
-fn free_all(links: &[u32], space: &mut Space, holes: &mut [u64]) -> Result<(), AllocError>
+fn free_all(links: &[u32], space: &mut Space, holes: &mut LinkTable) -> Result<(), AllocError>
     ensures space { OnOk result ((m : ℕ) → places_in space.new m ≡ fewer (times m links.now) (places_in space.old m)) }
-    ensures holes { OnOk result ((m : ℕ) → get_or holes.new m 0 ≡ get_or holes.old m 0 - times m links.now) }
+    ensures holes { OnOk result ((m : ℕ) → number_of holes.new m ≡ number_of holes.old m - times m links.now) }
 {
     for link in links {
         free_place(space, *link)?;
-        end_hole(holes, *link);
+        end_hole(holes, *link)?;
     }
     Ok(())
 }
@@ -94,8 +94,8 @@ impl Places {
             → IfOk result (λ links. (m : ℕ) → m < count → begins m ≡ true → times m links.items ≡ 0 → IsFull second T m
             → IsFull (second + 1) T m) }
     {
-        let alloc = *self.holes.allocator();
         let links = self.freed.take(second);
+        let alloc = *links.allocator();
         let full = full_ones(alloc, &links, &self.space)?;
         free_all(&links, &mut self.space, &mut self.holes)?;
         Ok(full)

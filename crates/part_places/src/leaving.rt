@@ -1,14 +1,15 @@
 //! Vehicles leave the queues of links.
 
 ghost use Rattle.std.specs.Prelude.{◌≡◌, ℕ, ◌+◌, ◌-◌, ◌<◌, ◌≤◌, Bool, true, ◌++◌, [], ◌==◌};
-ghost use Rattle.std.specs.Prelude.{if◌then◌else◌, length, get_or, set, replicate, nat_lt, OnOk};
+ghost use Rattle.std.specs.Prelude.{if◌then◌else◌, replicate, OnOk};
 ghost use Rattle.calendar.specs.Due.{due_at};
+ghost use Rattle.node_move.specs.Pages.{number_of};
 ghost use Rattle.node_move.specs.Spaces.{places_in};
 ghost use Rattle.part_places.specs.Taking.{Taking, AreTakenOf, taken_in, later};
 
 use crate::places::Places;
 use calendar::Calendar;
-use node_move::Space;
+use node_move::{LinkTable, Space};
 use std::alloc::AllocError;
 
 /// A link whose queue vehicles left in a second, and what is in it behind them.
@@ -59,14 +60,10 @@ fn add_freed(
 }
 
 /// How many holes a link has.
-fn holes_of(holes: &[u64], link: u32) -> u64
-    ensures { result ≡ get_or holes.now link 0 }
+fn holes_of(holes: &LinkTable, link: u32) -> u64
+    ensures { result ≡ number_of holes.now link }
 {
-    let place = link as usize;
-    if place < holes.len() {
-        return holes[place];
-    }
-    0
+    u64::from(holes.number(link))
 }
 
 /// How many places of a link are taken.
@@ -79,15 +76,16 @@ fn taken_in(space: &Space, link: u32) -> u64
     }
 }
 
-/// A link has so many holes now.
-#[tactic(auto, using(std::proofs::lemmas::List::set_past))]
-fn put_holes(holes: &mut [u64], link: u32, count: u64)
-    ensures { holes.new ≡ set holes.old link count }
+/// A link has so many holes now. It lets some millions of vehicles pass in the longest day: where no number counts its holes, there is
+/// no memory for them.
+fn put_holes(holes: &mut LinkTable, link: u32, count: u64) -> Result<(), AllocError>
+    ensures { OnOk result ((m : ℕ) → number_of holes.new m ≡ (if m == link then count else number_of holes.old m)) }
 {
-    let place = link as usize;
-    if place < holes.len() {
-        holes[place] = count;
-    }
+    let Ok(count) = u32::try_from(count) else {
+        return Err(AllocError);
+    };
+    holes.put(link, count)?;
+    Ok(())
 }
 
 impl Places {
@@ -97,7 +95,7 @@ impl Places {
     ///
     /// # Errors
     ///
-    /// `AllocError`: there is no memory for a place. The places are then of no use.
+    /// `AllocError`: there is no memory for a place, or no number counts the holes. The places are then of no use.
     pub fn free_later(&mut self, end: u32, freed: FreedLater) -> Result<(), AllocError>
         ensures { (begins : ℕ → Bool) (count t : ℕ) (T : Taking) → freed.link < count → begins freed.link ≡ true
             → freed.count ≤ T.queued freed.link → t ≤ freed.second + freed.hole_seconds
@@ -108,7 +106,7 @@ impl Places {
         let holes = holes_of(&self.holes, freed.link);
         let queued = taken_in(&self.space, freed.link).saturating_sub(holes);
         let vehicles = queued - queued.saturating_sub(freed.count);
-        put_holes(&mut self.holes, freed.link, holes + vehicles);
+        put_holes(&mut self.holes, freed.link, holes + vehicles)?;
         let second = u64::from(freed.second) + u64::from(freed.hole_seconds);
         add_freed(&mut self.freed, end, second, freed.link, vehicles)?;
         Ok(())
@@ -118,7 +116,7 @@ impl Places {
     ///
     /// # Errors
     ///
-    /// `AllocError`: there is no memory for a place. The places are then of no use.
+    /// `AllocError`: there is no memory for a place, or no number counts the holes. The places are then of no use.
     pub fn leave(&mut self, end: u32, after: QueueAfter) -> Result<(), AllocError>
         ensures { (begins : ℕ → Bool) (count t : ℕ) (T : Taking) → after.link < count → begins after.link ≡ true
             → after.queued ≤ T.queued after.link → t ≤ after.second + after.hole_seconds

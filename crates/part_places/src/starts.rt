@@ -1,6 +1,6 @@
 //! The places of links on which nobody is.
 
-ghost use Rattle.std.specs.Prelude.{◌≡◌, ℕ, ◌<◌, Bool, true, length, replicate, IfOk};
+ghost use Rattle.std.specs.Prelude.{◌≡◌, ℕ, ◌<◌, Bool, true, length, IfOk};
 ghost use Rattle.std.specs.List.{Contains};
 ghost use Rattle.calendar.specs.Due.{AreIn};
 ghost use Rattle.partition.specs.Owned.{owner_in};
@@ -9,7 +9,7 @@ ghost use Rattle.part_places.specs.Taking.{AreFree, AreTakenOf, begins_here, emp
 
 use crate::places::Places;
 use calendar::Calendar;
-use node_move::Space;
+use node_move::{LinkTable, Space};
 use partition::{Owner, owner_of_node};
 use person_moves::link_row;
 use queue_link::numbers_of;
@@ -54,20 +54,11 @@ fn free_space(alloc: Global, day: &DayInput, links: &[u32]) -> Result<Space, All
     Ok(space)
 }
 
-/// No hole on so many links.
-fn no_holes(alloc: Global, count: usize) -> Result<Vec<u64>, AllocError>
-    ensures { IfOk result (λ holes. holes.items ≡ replicate count 0) }
-{
-    let mut holes = Vec::new(alloc);
-    holes.resize(count, 0u64)?;
-    Ok(holes)
-}
-
 impl Places {
     /// The places of the links of a day that begin in a part, at the start of the day: none is taken. `starts` are these links.
     ///
-    /// No other link is looked at. For each link of the town there is a count of holes, and for each up to the last one of these the number
-    /// of an entry: 12 bytes a link.
+    /// No other link is looked at. Of links it takes memory for these, for those beside them, and for one place for each 64 links up to the
+    /// last one of these (`node_move: LinkTable`).
     ///
     /// # Errors
     ///
@@ -79,10 +70,9 @@ impl Places {
             → IfOk result (AreTakenOf begins (length (setup day.now).links) end 0 (empty (setup day.now))) }
     {
         let space = free_space(alloc, day, starts)?;
-        let holes = no_holes(alloc, day.town.network.links.len())?;
         Ok(Places {
             space,
-            holes,
+            holes: LinkTable::new(alloc),
             freed: Calendar::new(alloc),
         })
     }

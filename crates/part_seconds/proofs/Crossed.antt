@@ -17,6 +17,7 @@ use Rattle.law_own_worlds.specs.Days.{my_node_turns}
 use Rattle.law_own_seconds.specs.Seconds.{held_early, held_crossed, world_early, world_crossed}
 use Rattle.law_parts_of_days.proofs.Hearing.{heard_stand}
 use Rattle.link_seconds.specs.Seconds.{HaveLines, AreShort}
+use Rattle.node_move.specs.Pages.{number_of}
 use Rattle.node_move.specs.declared.crossings.Entering.{Entering}
 use Rattle.part_links.specs.Links.{LinesStandAt}
 use Rattle.part_nodes.specs.declared.network.NetworkState.{NetworkState}
@@ -136,9 +137,8 @@ module _ (day : DayInput) (own : Owner) (parts p t : ℕ) (slots : List ℕ) (gi
         places = λ m lt b.
             g.stands.links.places m lt b
             ∙ ap (λ (n : ℕ). place n (storage_of S m) (seconds_of S m)) (sym (taken_crossed m lt (eqb-true (begins_in S own m) p b)));
-        reach = ap (λ (hs : List ℕ). length hs) g.holes ∙ taken.reach;
         holes = λ m lt b.
-            ap (λ (hs : List ℕ). get_or hs m 0) g.holes ∙ taken.holes m lt b ∙ ap (λ (fs : List ℕ). still (t + 1) fs) (frees_stay m);
+            ap (λ (hs : List (List ℕ)). number_of hs m) g.holes ∙ taken.holes m lt b ∙ ap (λ (fs : List ℕ). still (t + 1) fs) (frees_stay m);
         freed = λ m u lt b from to.
             ap (λ (c : Due). times m (due_at u c)) g.freed ∙ taken.freed m u lt b from to ∙ ap (λ (fs : List ℕ). times u fs) (frees_stay m);
       };

@@ -1,6 +1,6 @@
 -- The turns of a second in which nobody of a part has anything to do leave the part as it is.
 use Rattle.traffic.proofs.Common.{◌≡◌, ℕ, suc, ◌+◌, ◌-◌, ◌<◌, Bool, false, List, [], ◌∷◌, ◌++◌, ◌∙◌, ap, refl, sym, arith, inl, inr}
-use Rattle.traffic.proofs.Common.{cases_Bool, eqb, eqb-true, length, map, filter, get_or, Option, None, Some, World, person_of, below, turns}
+use Rattle.traffic.proofs.Common.{cases_Bool, eqb, eqb-true, length, map, filter, Option, None, Some, World, person_of, below, turns}
 use Rattle.traffic.proofs.Common.{events_in, turns_in}
 use Rattle.events.specs.declared.event.Phase.TheVariants as phase
 use Rattle.traffic.specs.declared.node_views.OutLink.{OutLink}
@@ -19,6 +19,7 @@ use Rattle.law_parts_of_days.specs.Settling.{wake_starts, wake_ends}
 use Rattle.parts.specs.Owners.{Owner}
 use Rattle.parts.specs.Parts.{ready}
 use Rattle.queue_link.specs.Links.{LinkView}
+use Rattle.node_move.specs.Pages.{number_of}
 use Rattle.node_move.specs.Spaces.{places_in}
 use Rattle.node_seconds.specs.Networks.{is_among}
 use Rattle.part_lines.specs.Coming.{joined_lines}
@@ -151,8 +152,8 @@ module _ (day : DayInput) (own : Owner) (parts p t : ℕ) (slots : List ℕ) (gi
       begins day own parts p t slots given shares are A early_stands N.places [] N.node_wakes
       (freed_is begins_so (length S.links) end t T N.places N.places [] in_day (sym idle.places) (none_taken t N.places.freed idle.places)
       (λ m. none_fewer (places_in N.places.space m))
-      (λ m. (let z : get_or N.places.holes.items m 0 ≡ get_or N.places.holes.items m 0 - 0 = omega arith in z))
-      refl early_stands.network.places)
+      (λ m. (let z : number_of N.places.holes m ≡ number_of N.places.holes m - 0 = omega arith in z))
+      early_stands.network.places)
       refl
       (full_is begins_so (length S.links) end t T N.places [] [] in_day (sym idle.places) refl early_stands.network.places)
 

@@ -31,7 +31,6 @@ taken_alike begins count end t T U P a h = record {
       ∙ ap (λ (fs : List ℕ). place (U.queued m + still t fs) (T.storage m) (T.seconds m)) (sym (a.frees m lt b))
       ∙ ap (λ (n : ℕ). place (U.queued m + still t (U.frees m)) n (T.seconds m)) (sym (a.storage m lt b))
       ∙ ap (λ (n : ℕ). place (U.queued m + still t (U.frees m)) (U.storage m) n) (sym (a.seconds m lt b));
-  reach = h.reach;
   holes = λ m lt b. h.holes m lt b ∙ ap (λ (fs : List ℕ). still t fs) (sym (a.frees m lt b));
   freed = λ m u lt b from to. h.freed m u lt b from to ∙ ap (λ (fs : List ℕ). times u fs) (sym (a.frees m lt b));
 }

@@ -38,7 +38,8 @@ pub struct Run<'a> {
     pub starts: &'a [NumberList],
     /// By person the partition that has the link of the first activity of the chosen plan.
     pub homes: &'a [u32],
-    /// By partition about how many events are told there, as plans have it: for so many a part gets room as it starts.
+    /// By partition about how many events are told there, as plans have it: partitions are dealt to workers by that, and a part may get
+    /// room for as many as it starts (`parted_day: part.rt room_of`).
     pub loads: &'a [usize],
     /// Whether the events of each second are taken as the day goes on: a part keeps then those of the second that it did last alone.
     pub streams: bool,

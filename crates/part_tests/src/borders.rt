@@ -3,10 +3,10 @@
 ghost use Rattle.std.specs.Prelude.{◌≡◌, ◌<◌, length, IfOk};
 
 use calendar::{Calendar, Wakes};
-use node_move::Space;
+use node_move::{LinkTable, Space};
 use part_persons::Persons;
 use part_places::{FreedLater, Places};
-use person_moves::World;
+use person_moves::{LinkCredits, World};
 use std::alloc::{AllocError, Global};
 use town::DayInput;
 use traffic::{OutLink, Person, Place};
@@ -18,21 +18,27 @@ const FULL: OutLink = OutLink {
     seconds: 10,
 };
 
+/// A link on the fourth page of a table.
+const LINK: u32 = 200;
+
+/// Links that have no place: on the same page beside it, in its row on other pages, and on a page that is not there.
+const OTHERS: [u32; 6] = [0, 8, 136, 199, 201, 264];
+
 /// The places of one link.
 fn full_link(alloc: Global) -> Result<Places, AllocError> {
     let mut space = Space::new(alloc);
-    space.set(0, FULL)?;
+    space.set(LINK, FULL)?;
     Ok(Places {
         space,
-        holes: Vec::from_slice(alloc, &[0])?,
+        holes: LinkTable::new(alloc),
         freed: Calendar::new(alloc),
     })
 }
 
-/// Whether in a second of the day places come free of just these full links, and how many places of link 0 are taken then.
+/// Whether in a second of the day places come free of just these full links, and how many of its places are taken then.
 fn frees(places: &mut Places, second: u32, links: &[u32], taken: u64) -> bool {
     match places.free(second) {
-        Ok(full) => full.as_slice() == links && places.space.taken(0) == Some(taken),
+        Ok(full) => full.as_slice() == links && places.space.taken(LINK) == Some(taken),
         Err(_) => false,
     }
 }
@@ -41,7 +47,7 @@ fn frees(places: &mut Places, second: u32, links: &[u32], taken: u64) -> bool {
 fn freed_later(count: u64) -> FreedLater {
     FreedLater {
         second: 4,
-        link: 0,
+        link: LINK,
         count,
         hole_seconds: 6,
     }
@@ -53,7 +59,7 @@ fn place_comes_free(places: &mut Places) -> bool {
         && places.free_later(100, freed_later(1)).is_ok()
         && frees(places, 8, &[], 3)
         && frees(places, 9, &[], 3)
-        && frees(places, 10, &[0], 2)
+        && frees(places, 10, &[LINK], 2)
         && frees(places, 11, &[], 2)
 }
 
@@ -62,12 +68,22 @@ fn all_come_free(places: &mut Places) -> bool {
     places.free_later(100, freed_later(1)).is_ok()
         && places.free_later(100, freed_later(5)).is_ok()
         && frees(places, 9, &[], 3)
-        && frees(places, 10, &[0, 0, 0], 0)
+        && frees(places, 10, &[LINK, LINK, LINK], 0)
 }
 
 /// None comes free where the day ends before.
 fn none_comes_free(places: &mut Places) -> bool {
     places.free_later(10, freed_later(1)).is_ok() && frees(places, 10, &[], 3)
+}
+
+/// Whether no other link has a place.
+fn others_have_none(places: &Places) -> bool {
+    for link in &OTHERS {
+        if places.space.taken(*link).is_some() || places.holes.number(*link) > 0 {
+            return false;
+        }
+    }
+    true
 }
 
 /// Whether each of these is so of a full link.
@@ -79,7 +95,11 @@ fn places_come_free_in_time(alloc: Global) -> bool {
     ) else {
         return false;
     };
-    place_comes_free(&mut one) && all_come_free(&mut all) && none_comes_free(&mut none)
+    place_comes_free(&mut one)
+        && all_come_free(&mut all)
+        && none_comes_free(&mut none)
+        && none.holes.number(LINK) == 1
+        && others_have_none(&none)
 }
 
 #[test]
@@ -107,7 +127,7 @@ fn second_person(alloc: Global) -> Result<Persons, AllocError>
         world: World {
             rows: Vec::new(alloc),
             persons: Vec::from_slice(alloc, &[NOBODY, AT_HOME])?,
-            credits: Vec::new(alloc),
+            credits: LinkCredits::new(alloc, 0),
             holes: Vec::new(alloc),
         },
         wakes: Wakes::new(alloc, 2)?,
@@ -137,7 +157,7 @@ fn three_nobodies(alloc: Global) -> Result<Persons, AllocError>
         world: World {
             rows: Vec::new(alloc),
             persons: Vec::from_slice(alloc, &[NOBODY, NOBODY, NOBODY])?,
-            credits: Vec::new(alloc),
+            credits: LinkCredits::new(alloc, 0),
             holes: Vec::new(alloc),
         },
         wakes: Wakes::new(alloc, 3)?,

@@ -172,7 +172,6 @@ module _ (day : DayInput) (own : Owner) (p t : ℕ) (given : HaveFittingPlans da
         let taken : B.rows m + still (suc t) (free (hole_of S m) (B.holes m))
         ≡ K.rows m + still (suc t) (free (hole_of S m) (K.holes m)) = omega arith in
         h.network.places.places m lt b ∙ ap (λ (n : ℕ). place n (storage_of S m) (seconds_of S m)) taken;
-    reach = h.network.places.reach;
     holes = λ m lt b. h.network.places.holes m lt b ∙ still_same m (eqb-true (begins_in S own m) p b);
     freed = λ m u lt b from to. h.network.places.freed m u lt b from to ∙ times_same m u (eqb-true (begins_in S own m) p b) from;
   }

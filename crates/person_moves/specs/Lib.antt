@@ -1,3 +1,5 @@
+pub mod Credits
+pub mod CreditsViews
 pub mod Worlds
 pub mod Places
 pub mod Legs

@@ -9,6 +9,7 @@
 mod departures;
 mod keys;
 mod legs;
+mod link_credits;
 mod links;
 mod moving;
 mod persons;
@@ -22,6 +23,7 @@ mod world;
 pub use departures::departure_moves;
 pub use keys::push_keyed;
 pub use legs::mode_in;
+pub use link_credits::LinkCredits;
 pub use links::{hole_of, link_row};
 pub use moving::{do_move, do_moves};
 pub use persons::{landing_moves, leaving_moves};

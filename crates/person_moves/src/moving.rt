@@ -5,6 +5,7 @@ ghost use Rattle.std.specs.List.{flat_map};
 ghost use Rattle.town.specs.Views.{setup};
 ghost use Rattle.traffic.specs.Moves.{told, rows_after, persons_after, credits_after, holes_after, done, run};
 
+use crate::link_credits::LinkCredits;
 use crate::steps::step_persons;
 use crate::vehicle_rows::move_rows;
 use crate::world::World;
@@ -14,15 +15,13 @@ use traffic::{Hole, Move, Occurrence, Person};
 use vehicles::push_told;
 
 /// Does a move to the credits.
-fn move_credits(step: &Move, credits: &mut [u32])
-    ensures { credits.new ≡ credits_after step.now credits.old }
+fn move_credits(step: &Move, credits: &mut LinkCredits) -> Result<(), AllocError>
+    ensures { OnOk result (credits.new ≡ credits_after step.now credits.old) }
 {
     if let Move::Credit { link, credit } = step {
-        let link = *link as usize;
-        if link < credits.len() {
-            credits[link] = *credit;
-        }
+        credits.put(*link, *credit)?;
     }
+    Ok(())
 }
 
 /// Does a move to the holes.
@@ -65,7 +64,7 @@ fn move_vehicles(step: Move, world: &mut World) -> Result<(), AllocError>
       holes = holes_after step world.old.holes;
     }) }
 {
-    move_credits(&step, &mut world.credits);
+    move_credits(&step, &mut world.credits)?;
     move_holes(&step, &mut world.holes)?;
     move_rows(step, &mut world.rows)?;
     Ok(())
@@ -75,7 +74,7 @@ fn move_vehicles(step: Move, world: &mut World) -> Result<(), AllocError>
 ///
 /// # Errors
 ///
-/// `AllocError`: there is no memory for a row, a hole or an event.
+/// `AllocError`: there is no memory for a row, a hole, the credits or an event.
 pub fn do_move(
     alloc: Global,
     day: &DayInput,

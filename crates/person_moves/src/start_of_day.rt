@@ -1,13 +1,12 @@
 //! The world at the start of a day.
 
-ghost use Rattle.std.specs.Prelude.{◌≡◌, map, replicate, IfOk};
-ghost use Rattle.fixed_flow.specs.declared.TheConstants.{VEHICLE_COST};
+ghost use Rattle.std.specs.Prelude.{◌≡◌, map, IfOk};
 ghost use Rattle.town.specs.Views.{setup, chosen_in};
 ghost use Rattle.rows.specs.PlanRows.{plan_rows};
 ghost use Rattle.traffic.specs.Day.{at_home, world_start};
 
+use crate::link_credits::LinkCredits;
 use crate::world::World;
-use fixed_flow::VEHICLE_COST;
 use rows::Plan;
 use std::alloc::{AllocError, Global};
 use town::DayInput;
@@ -36,32 +35,18 @@ fn all_at_home(alloc: Global, day: &DayInput) -> Result<Vec<Person>, AllocError>
     Ok(persons)
 }
 
-/// So many credits of one vehicle each.
-fn first_credits(alloc: Global, count: usize) -> Result<Vec<u32>, AllocError>
-    ensures { IfOk result (λ credits. credits.items ≡ replicate count VEHICLE_COST) }
-{
-    let mut credits = Vec::new(alloc);
-    credits.resize(count, VEHICLE_COST)?;
-    Ok(credits)
-}
-
 /// A world in which persons have these rows, and all else is as at the start of a day: no vehicle and no hole, and credit for one vehicle
 /// on each link.
-///
-/// # Errors
-///
-/// `AllocError`: there is no memory for the credits.
 #[tactic(auto, unfolding(traffic::specs::Day::world_start, town::specs::Setups::setup_of))]
-pub fn start_with(alloc: Global, day: &DayInput, persons: Vec<Person>) -> Result<World, AllocError>
-    ensures { IfOk result (λ world. world ≡ record (world_start (setup day.now)) { persons = persons.items }) }
+pub fn start_with(alloc: Global, day: &DayInput, persons: Vec<Person>) -> World
+    ensures { result ≡ record (world_start (setup day.now)) { persons = persons.items } }
 {
-    let credits = first_credits(alloc, day.town.network.links.len())?;
-    Ok(World {
+    World {
         rows: Vec::new(alloc),
         persons,
-        credits,
+        credits: LinkCredits::new(alloc, day.town.network.links.len()),
         holes: Vec::new(alloc),
-    })
+    }
 }
 
 /// The world at the start of a day: each person at the first activity, no vehicle and no hole, and
@@ -69,12 +54,11 @@ pub fn start_with(alloc: Global, day: &DayInput, persons: Vec<Person>) -> Result
 ///
 /// # Errors
 ///
-/// `AllocError`: there is no memory for the persons or the credits.
+/// `AllocError`: there is no memory for the persons.
 #[tactic(auto, unfolding(traffic::specs::Day::world_start, town::specs::Setups::setup_of))]
 pub fn start(alloc: Global, day: &DayInput) -> Result<World, AllocError>
     ensures { IfOk result (λ world. world ≡ world_start (setup day.now)) }
 {
     let persons = all_at_home(alloc, day)?;
-    let world = start_with(alloc, day, persons)?;
-    Ok(world)
+    Ok(start_with(alloc, day, persons))
 }

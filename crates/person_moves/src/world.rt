@@ -3,6 +3,7 @@
 ghost use Rattle.std.specs.Prelude.{◌≡◌, ◌<◌, length, get_or};
 ghost use Rattle.traffic.specs.Rows.{person_of, nobody};
 
+use crate::link_credits::LinkCredits;
 use std::marker::Model;
 use traffic::{Hole, Person, Row};
 
@@ -12,7 +13,7 @@ use traffic::{Hole, Person, Row};
 pub struct World {
     pub rows: Vec<Row>,
     pub persons: Vec<Person>,
-    pub credits: Vec<u32>,
+    pub credits: LinkCredits,
     pub holes: Vec<Hole>,
 }
 

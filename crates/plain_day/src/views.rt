@@ -65,11 +65,7 @@ pub(crate) fn link_vehicles(
 pub(crate) fn credit_of(link: u32, world: &World) -> u32
     ensures { result ≡ credit_of link world.now }
 {
-    let place = link as usize;
-    if place < world.credits.len() {
-        return world.credits[place];
-    }
-    0
+    world.credits.credit(link)
 }
 
 /// Whether a row stands on the link and not in its buffer.

@@ -1,7 +1,7 @@
-use Rattle.std.proofs.Common.{ℕ, List, ap}
-use Rattle.node_move.specs.Entries.{rows_from, rows_of}
+use Rattle.std.proofs.Common.{ap, List, length, arith}
+use Rattle.node_move.specs.declared.space.Entry.{Entry}
+use Rattle.node_move.proofs.Entries.{none_there}
 use Rattle.node_move.proofs.space.Space.new.Goals as goal
 
 pub returns : goal.returns
-unfolding rows_from
-returns c = ap (λ (ks : List ℕ). rows_of ks c.new-2.result.items) c.new.ensures.items
+returns c = λ m. none_there c.new.result c.new-2.result.items m (let n = ap (λ (es : List Entry). length es) c.new-2.ensures.items in omega arith)

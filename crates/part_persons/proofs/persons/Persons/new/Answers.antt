@@ -6,11 +6,11 @@ use Rattle.part_persons.proofs.persons.Persons.new.Goals as goal
 pub first_wakes-requires-clause-plans : goal.first_wakes-requires-clause-plans
 first_wakes-requires-clause-plans c =
     one_each c.args.day.now _
-    (begun_fit c.args.day.now c.args.homes.now c.args.partition _ _ c.requires.given c.in_ok-rows.ensures c.in_ok-world.ensures)
+    (begun_fit c.args.day.now c.args.homes.now c.args.partition _ _ c.requires.given c.in_ok-rows.ensures c.start_with-world.ensures)
 
 pub returns-clause-world : goal.returns-clause-world
 returns-clause-world c = λ own e.
-    begun (setup c.args.day.now) own c.args.homes.now c.args.partition _ _ e c.in_ok-rows.ensures c.in_ok-world.ensures
+    begun (setup c.args.day.now) own c.args.homes.now c.args.partition _ _ e c.in_ok-rows.ensures c.start_with-world.ensures
 
 pub returns-clause-fit : goal.returns-clause-fit
-returns-clause-fit c = begun_fit c.args.day.now c.args.homes.now c.args.partition _ _ c.requires.given c.in_ok-rows.ensures c.in_ok-world.ensures
+returns-clause-fit c = begun_fit c.args.day.now c.args.homes.now c.args.partition _ _ c.requires.given c.in_ok-rows.ensures c.start_with-world.ensures

@@ -1,7 +1,6 @@
-use Rattle.std.proofs.Common.{◌≡◌, ℕ, ◌-◌, List, length, get_or, ap, ◌∙◌, arith}
+use Rattle.std.proofs.Common.{ℕ, ◌-◌, List, ap, ◌∙◌}
 use Rattle.std.specs.Prelude.{filter}
-use Rattle.std.specs.Vec.{with_items}
-use Rattle.std.proofs.lemmas.List.{with_items_is}
+use Rattle.node_move.specs.Pages.{number_of}
 use Rattle.node_move.specs.Spaces.{places_in}
 use Rattle.part_places.specs.declared.places.Places.{Places}
 use Rattle.part_places.specs.Taking.{fewer, is_full_in, times}
@@ -13,19 +12,13 @@ returns-clause-places c = λ begins count end T lt h.
     let was = c.args.self.now in
     let now : Places = record {
       space = c.free_all.new.space;
-      holes = with_items c.args.self.now.holes c.free_all.new.holes;
+      holes = c.free_all.new.holes;
       freed = c.take-links.new.self;
     } in
     let d = c.deref-2.ensures.value in
-    let w = c.deref_mut.ensures.value in
-    let same : length c.free_all.new.holes ≡ length was.holes.items = (let a = c.free_all.auto.holes in let b = ap length w in omega arith) in
-    let long : length c.free_all.new.holes ≡ was.holes.len = (let a = c.free_all.auto.holes in let b = c.deref_mut.ensures.len in omega arith) in
-    let is : now.holes.items ≡ c.free_all.new.holes = with_items_is was.holes c.free_all.new.holes long in
     freed_is begins count end c.args.second T was now c.take-links.result.items lt c.take-links.ensures.due c.take-links.ensures.rest
     (λ m. c.in_ok-free_all.ensures.space m ∙ ap (λ (ns : List ℕ). fewer (times m ns) (places_in was.space m)) d)
-    (λ m. ap (λ (xs : List ℕ). get_or xs m 0) is ∙ c.in_ok-free_all.ensures.holes m ∙ ap (λ (xs : List ℕ). get_or xs m 0 - times m c.deref-2.result.now) w
-    ∙ ap (λ (ns : List ℕ). get_or was.holes.items m 0 - times m ns) d)
-    (ap length is ∙ same) h
+    (λ m. c.in_ok-free_all.ensures.holes m ∙ ap (λ (ns : List ℕ). number_of was.holes m - times m ns) d) h
 
 pub returns-clause-full : goal.returns-clause-full
 returns-clause-full c = λ begins count end T lt h.

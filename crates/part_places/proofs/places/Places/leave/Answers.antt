@@ -1,4 +1,4 @@
-use Rattle.std.proofs.Common.{ℕ, List, ◌+◌, ◌-◌, ◌≤◌, ◌≡◌, ◌∙◌, ap, subst, get_or, arith}
+use Rattle.std.proofs.Common.{ℕ, ◌+◌, ◌-◌, ◌≤◌, ◌≡◌, subst, arith}
 use Rattle.std.specs.Prelude.{OnOk}
 use Rattle.part_places.specs.Taking.{AreTakenOf, later}
 use Rattle.part_places.proofs.Goings.{queued_is}
@@ -12,7 +12,7 @@ returns c = λ begins count t T there here few soon h.
     let second = c.args.after.second + c.args.after.hole_seconds in
     let is : c.taken_in.result - c.holes_of-holes.result ≡ T.queued l
     = queued_is begins count end t l c.taken_in.result c.holes_of-holes.result T was there here c.taken_in.ensures
-    (c.holes_of-holes.ensures ∙ ap (λ (hs : List ℕ). get_or hs l 0) c.deref.ensures.value) h in
+    c.holes_of-holes.ensures h in
     let q = c.saturating_sub-queued.ensures in
     let s = c.saturating_sub.ensures in
     let gone : c.saturating_sub.result ≤ T.queued l = omega arith in

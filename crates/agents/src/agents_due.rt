@@ -9,8 +9,7 @@ pub struct Agents {
 }
 
 impl Model for Agents {
-    ghost use Rattle.agents.specs.Due.{AgentsView};
-    ghost use Rattle.agents.specs.AgentsViews.{agents_view};
+    ghost use Rattle.agents.specs.{AgentsViews.agents_view, Due.AgentsView};
 
     ghost Value = { AgentsView };
 

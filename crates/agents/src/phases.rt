@@ -1,7 +1,6 @@
 //! The persons of phases A and B1.
 
-ghost use Rattle.std.specs.Prelude.{◌≡◌, [], OnOk, IsPermutation, IsSorted};
-ghost use Rattle.std.specs.Ordering.{nat_cmp};
+ghost use Rattle.std.specs.{Ordering.nat_cmp, Prelude.◌≡◌, Prelude.[], Prelude.OnOk, Prelude.IsPermutation, Prelude.IsSorted};
 ghost use Rattle.calendar.specs.Due.{due_at, HasNone, HasOneMore};
 ghost use Rattle.agents.specs.Due.{HasOneMoreWhere};
 

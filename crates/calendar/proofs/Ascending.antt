@@ -1,10 +1,7 @@
 -- Ascending numbers are given by which numbers are among them.
 use Rattle.std.proofs.Common.{◌≡◌, ℕ, zero, suc, ◌<◌, Bool, true, false, ◌⊎◌, inl, inr, List, [], ◌∷◌, length, get_or, refl, ap, sym, ◌∙◌, subst, arith}
-use Rattle.std.specs.Prelude.{filter}
-use Rattle.std.specs.List.{Contains}
-use Rattle.std.specs.List.Sorted.{IsStrictlyIncreasing}
-use Rattle.std.proofs.lemmas.Bool.{cases_Bool}
-use Rattle.std.proofs.lemmas.List.Kept.{AllPairs-from_increasing}
+use Rattle.std.proofs.lemmas.{Bool.cases_Bool, List.Kept.AllPairs-from_increasing}
+use Rattle.std.specs.{List.Contains, List.Sorted.IsStrictlyIncreasing, Prelude.filter}
 
 -- a number is among these
 abbrev pub In : ℕ → List ℕ → Type 0

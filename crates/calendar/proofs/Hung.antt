@@ -1,11 +1,9 @@
 -- A table of wakes with one second more, one less, or without those of a second that has come.
-use Rattle.std.proofs.Common.{◌≡◌, ℕ, zero, suc, ◌+◌, ◌<◌, ◌≤◌, true, false, inl, inr, List, [], ◌∷◌, ◌++◌, length, get_or, refl, ap, sym, ◌∙◌, subst, append_assoc, arith}
-use Rattle.std.specs.Prelude.{map, set, replicate, filter, drop, ◌⊎◌, ◌==◌, if◌then◌else◌, Option, None, Some}
+use Rattle.std.proofs.Common.{◌≡◌, ℕ, zero, suc, ◌+◌, ◌<◌, ◌≤◌, true, false, inl, inr, List, [], ◌∷◌, ◌++◌, length, get_or, refl, ap, sym, ◌∙◌, subst}
+use Rattle.std.proofs.{Common.append_assoc, Common.arith, Math.Seq.set-append_seam, lemmas.Bool.cases_Bool, lemmas.Bool.eqb-true, lemmas.Bool.eqb-false}
+use Rattle.std.proofs.lemmas.{Bool.eq-eqb, List.get_or-set_same, List.get_or-set_other, List.Elements.Contains-append_left, List.Elements.Contains-append_right}
 use Rattle.std.specs.List.{Contains}
-use Rattle.std.proofs.Math.Seq.{set-append_seam}
-use Rattle.std.proofs.lemmas.Bool.{cases_Bool, eqb-true, eqb-false, eq-eqb}
-use Rattle.std.proofs.lemmas.List.{get_or-set_same, get_or-set_other}
-use Rattle.std.proofs.lemmas.List.Elements.{Contains-append_left, Contains-append_right}
+use Rattle.std.specs.Prelude.{map, set, replicate, filter, drop, ◌⊎◌, ◌==◌, if◌then◌else◌, Option, None, Some}
 use Rattle.calendar.specs.Due.{Due, due_at, HasOneMore, HasNone}
 use Rattle.calendar.specs.Waking.{wake_of, AreHung, is_second, is_woken, woken_from, woken, slept, asleep}
 use Rattle.calendar.proofs.Ascending.{In, in_from, IsBelow, Asc, same_members, asc_filter, in_filter, filter_in}

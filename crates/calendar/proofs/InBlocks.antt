@@ -1,12 +1,10 @@
 -- What is due in a second stands in its block.
-use Rattle.std.proofs.Common.{◌≡◌, ℕ, zero, suc, ◌+◌, ◌*◌, ◌/◌, ◌%◌, ◌<◌, ◌≤◌, Bool, true, false, inl, inr, List, [], ◌∷◌, ◌++◌, length}
-use Rattle.std.proofs.Common.{get_or, refl, ap, sym, ◌∙◌, subst, arith, Vec, Global}
+use Rattle.std.proofs.Common.{◌≡◌, ℕ, zero, suc, ◌+◌, ◌*◌, ◌/◌, ◌%◌, ◌<◌, ◌≤◌, Bool, true, false, inl, inr, List, [], ◌∷◌, ◌++◌, length, get_or, refl, ap, sym}
+use Rattle.std.proofs.{Common.◌∙◌, Common.subst, Common.arith, Common.Vec, Common.Global, lemmas.Bool.cases_Bool, lemmas.Bool.eqb-true}
+use Rattle.std.proofs.lemmas.{Bool.eqb-false, Bool.eq-eqb, List.get_or-set_same, List.get_or-set_other, List.length-map, List.map-set, List.length-append}
 use Rattle.std.specs.Prelude.{map, set, vec_items, ◌==◌, if◌then◌else◌}
-use Rattle.std.proofs.lemmas.Bool.{cases_Bool, eqb-true, eqb-false, eq-eqb}
-use Rattle.std.proofs.lemmas.List.{get_or-set_same, get_or-set_other, length-map, map-set, length-append}
-use Rattle.calendar.specs.declared.TheConstants.{BLOCK_SECONDS}
 use Rattle.calendar.specs.Blocks.{rows_of, seconds_of, all_seconds}
-use Rattle.calendar.specs.Due.{Due, due_at, HasOneMore, HasNone}
+use Rattle.calendar.specs.{Due.Due, Due.due_at, Due.HasOneMore, Due.HasNone, declared.TheConstants.BLOCK_SECONDS}
 
 -- A BLOCK, AND THE BLOCKS BEHIND IT
 own_second : (n r : ℕ) (rows later : Due) → r < n → due_at r (seconds_of n rows ++ later) ≡ due_at r rows

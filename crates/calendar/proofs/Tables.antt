@@ -1,12 +1,9 @@
 -- A table of numbers by second, with one second more, one number more, or none in a second.
-use Rattle.std.proofs.Common.{◌≡◌, ℕ, zero, suc, ◌<◌, ◌≤◌, List, [], ◌∷◌, ◌++◌, length, get_or, refl, ap, sym, ◌∙◌, arith}
-use Rattle.std.proofs.Common.{true, inl, inr, Vec, Global}
-use Rattle.std.specs.Prelude.{map, set, vec_items, ◌==◌, if◌then◌else◌}
-use Rattle.std.specs.List.{list_all}
+use Rattle.std.proofs.Common.{◌≡◌, ℕ, zero, suc, ◌<◌, ◌≤◌, List, [], ◌∷◌, ◌++◌, length, get_or, refl, ap, sym, ◌∙◌, arith, true, inl, inr, Vec, Global}
 use Rattle.std.proofs.lemmas.Bool.{cases_Bool, eqb-true, eqb-false, and_parts}
 use Rattle.std.proofs.lemmas.List.{get_or-set_same, get_or-set_other, length-map, map-set}
-use Rattle.calendar.specs.Blocks.{is_empty}
-use Rattle.calendar.specs.Due.{Due, due_at, HasOneMore, HasNone}
+use Rattle.std.specs.{List.list_all, Prelude.map, Prelude.set, Prelude.vec_items, Prelude.◌==◌, Prelude.if◌then◌else◌}
+use Rattle.calendar.specs.{Blocks.is_empty, Due.Due, Due.due_at, Due.HasOneMore, Due.HasNone}
 
 pub reached : (due : Due) (u : ℕ) → due_at u (due ++ [] ∷ []) ≡ due_at u due
 reached [] zero = refl

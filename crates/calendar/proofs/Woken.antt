@@ -1,7 +1,6 @@
 -- Who is woken in a second, as those of all numbers that pass the test.
 use Rattle.std.proofs.Common.{◌≡◌, ℕ, suc, ◌+◌, ◌<◌, Bool, true, false, inl, inr, List, [], ◌∷◌, length, get_or, refl, ap, sym, ◌∙◌, arith}
-use Rattle.std.specs.Prelude.{filter, Option, None}
-use Rattle.std.proofs.lemmas.Bool.{cases_Bool}
+use Rattle.std.{proofs.lemmas.Bool.cases_Bool, specs.Prelude.filter, specs.Prelude.Option, specs.Prelude.None}
 use Rattle.calendar.specs.Waking.{is_second, is_woken, woken_from, woken}
 
 -- so many numbers from one on, whatever they are called

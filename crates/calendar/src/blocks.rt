@@ -2,8 +2,7 @@
 
 ghost use Rattle.std.specs.Prelude.{◌≡◌, ℕ, ◌<◌, ◌≤◌, true, [], length, map, vec_items, OnOk, OnErr};
 ghost use Rattle.std.specs.List.{list_all};
-ghost use Rattle.calendar.specs.Due.{due_at, HasOneMore, HasNone};
-ghost use Rattle.calendar.specs.Blocks.{rows_of, is_empty};
+ghost use Rattle.calendar.specs.{Blocks.rows_of, Blocks.is_empty, Due.due_at, Due.HasOneMore, Due.HasNone};
 
 use crate::BLOCK_SECONDS;
 use lists::{make_room, push_with_room};

@@ -10,8 +10,7 @@ pub struct Calendar {
 }
 
 impl Model for Calendar {
-    ghost use Rattle.calendar.specs.Due.{Due};
-    ghost use Rattle.calendar.specs.DueViews.{due_view};
+    ghost use Rattle.calendar.specs.{Due.Due, DueViews.due_view};
 
     ghost Value = { Due };
 

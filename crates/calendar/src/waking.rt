@@ -1,8 +1,7 @@
 //! Numbers are given the second in which they are woken, and are woken in it.
 
+ghost use Rattle.std.specs.List.{Contains, Sorted.IsStrictlyIncreasing};
 ghost use Rattle.std.specs.Prelude.{◌≡◌, ◌<◌, ℕ, true, [], length, map, filter, set, replicate, None, OnOk, IfOk};
-ghost use Rattle.std.specs.List.{Contains};
-ghost use Rattle.std.specs.List.Sorted.{IsStrictlyIncreasing};
 ghost use Rattle.calendar.specs.Waking.{wake_of, is_second, is_woken, woken, slept, asleep, woken_by, within};
 
 use crate::by_second::Calendar;

@@ -1,26 +1,17 @@
 -- The routes that were found, in the order in which they are wanted.
-use Rattle.std.proofs.Common.{◌≡◌, ℕ, ◌+◌, ◌<◌, Bool, true, false, cond, ◌&&◌, List, [], ◌∷◌, ◌++◌, length, drop, get_or, Option, None, Some, ◌⊎◌, inl, inr, refl, sym, ◌∙◌, ap, subst, arith, length-append}
-use Rattle.std.specs.Prelude.{slice_set, nat_eq, nat_le, not, option_to_list, unwrap_or}
-use Rattle.std.specs.Option.{option_map}
-use Rattle.std.proofs.lemmas.Bool.{cases_eq, eq-eqb, ne_eqb}
-use Rattle.std.proofs.lemmas.List.{get_or-set_same, get_or-set_other}
+use Rattle.std.proofs.Common.{◌≡◌, ℕ, ◌+◌, ◌<◌, Bool, true, false, cond, ◌&&◌, List, [], ◌∷◌, ◌++◌, length, drop, get_or, Option, None, Some, ◌⊎◌, inl, inr}
+use Rattle.std.proofs.Common.{refl, sym, ◌∙◌, ap, subst, arith, length-append}
+use Rattle.std.proofs.lemmas.{Bool.cases_eq, Bool.eq-eqb, Bool.ne_eqb, List.get_or-set_same, List.get_or-set_other}
+use Rattle.std.specs.{Option.option_map, Prelude.slice_set, Prelude.nat_eq, Prelude.nat_le, Prelude.not, Prelude.option_to_list, Prelude.unwrap_or}
 use Rattle.limits.specs.declared.TheConstants.{MAX_ROUTE_LINKS}
 use Rattle.rows.specs.declared.plan.Act.{Act}
 use Rattle.rows.specs.declared.plan.Leg.TheVariants as leg
-use Rattle.walks.specs.Arrivals.{Arrivals}
-use Rattle.walks.specs.Walks.{start_of, end_of}
-use Rattle.walks.specs.Rounds.{Labels, label_at, least_labels}
-use Rattle.walks.specs.Chosen.{chosen_route}
-use Rattle.walks.specs.Alike.{TakesAlike}
-use Rattle.walks.proofs.Delayed.{delayed_label, delayed_labels, delayed_route}
-use Rattle.router.specs.Graphs.{Graph}
-use Rattle.router.specs.Routes.{way_to, allowed}
-use Rattle.router.specs.Legs.{route_between}
+use Rattle.walks.{proofs.Delayed.delayed_label, proofs.Delayed.delayed_labels, proofs.Delayed.delayed_route, specs.Alike.TakesAlike}
+use Rattle.walks.specs.{Arrivals.Arrivals, Chosen.chosen_route, Rounds.Labels, Rounds.label_at, Rounds.least_labels, Walks.start_of, Walks.end_of}
 use Rattle.router.proofs.LegWays.{route_here, route_there}
-use Rattle.car_routes.specs.Plans.{filled}
-use Rattle.car_routes.specs.Wanted.{Pairs, wanted, wanted_from, row_of}
-use Rattle.car_routes.specs.Found.{short, short_way, ways_from, AreNext}
-use Rattle.car_routes.proofs.Wanting.{from_here, from_elsewhere}
+use Rattle.router.specs.{Graphs.Graph, Legs.route_between, Routes.way_to, Routes.allowed}
+use Rattle.car_routes.{proofs.Wanting.from_here, proofs.Wanting.from_elsewhere, specs.Found.short}
+use Rattle.car_routes.specs.{Found.short_way, Found.ways_from, Found.AreNext, Plans.filled, Wanted.Pairs, Wanted.wanted, Wanted.wanted_from, Wanted.row_of}
 
 abbrev pub WayList : Type 0
 WayList = List (Option (List ℕ))

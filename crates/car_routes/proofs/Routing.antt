@@ -1,28 +1,15 @@
 -- Legs and plans with the routes that were found for them, one after the other.
-use Rattle.std.proofs.Common.{◌≡◌, ℕ, zero, suc, ◌+◌, ◌-◌, ◌<◌, ◌≤◌, Bool, true, List, [], ◌∷◌, ◌++◌, length, map, drop, inl, inr, refl, sym, ◌∙◌, ap, subst, arith, append_assoc}
-use Rattle.std.specs.Prelude.{slice_index_or}
-use Rattle.std.specs.List.{list_all, range_with_len}
-use Rattle.std.proofs.lemmas.Bool.{and_from, and_parts, cases_lt}
-use Rattle.std.proofs.lemmas.List.{append-nil, drop_more, drop_all, get_or_past, length-map}
+use Rattle.std.proofs.Common.{◌≡◌, ℕ, zero, suc, ◌+◌, ◌-◌, ◌<◌, ◌≤◌, Bool, true, List, [], ◌∷◌, ◌++◌, length, map, drop, inl, inr, refl, sym, ◌∙◌, ap, subst}
+use Rattle.std.proofs.{Common.arith, Common.append_assoc, lemmas.Bool.and_from, lemmas.Bool.and_parts, lemmas.Bool.cases_lt}
+use Rattle.std.proofs.lemmas.List.{append-nil, drop_more, drop_all, get_or_past, length-map, Folds.list_all-append}
 use Rattle.std.proofs.lemmas.List.FromFn.{length-range_with_len, get_or-range_with_len, get_or-map-range_with_len, length-map-range_with_len}
-use Rattle.std.proofs.lemmas.List.Folds.{list_all-append}
-use Rattle.rows.specs.declared.network.LinkRow.{LinkRow}
-use Rattle.rows.specs.declared.plan.Act.{Act}
-use Rattle.rows.specs.declared.plan.Leg.{Leg}
-use Rattle.rows.specs.Joined.{ends_of}
-use Rattle.rows.specs.PlanRows.{PlanRows}
-use Rattle.travel_times.specs.Times.{LinkProfile, arrivals, free_of, free_times}
-use Rattle.travel_times.proofs.Free.{free_alike}
-use Rattle.walks.specs.Alike.{TakesAlike}
-use Rattle.router.specs.Legs.{each_leg}
-use Rattle.router.proofs.LegWays.{ends_count}
-use Rattle.car_routes.specs.Plans.{routed_leg, routed_plan, all_routed}
-use Rattle.rows.specs.Plan.{is_leg}
-use Rattle.walks.specs.Arrivals.{Arrivals}
-use Rattle.router.specs.Graphs.{Graph}
-use Rattle.car_routes.specs.Wanted.{Pairs, wanted_in, row_of}
-use Rattle.car_routes.specs.Found.{ways_from, AreNext}
-use Rattle.car_routes.proofs.Finding.{WayList}
+use Rattle.std.specs.{List.list_all, List.range_with_len, Prelude.slice_index_or}
+use Rattle.rows.specs.{Joined.ends_of, Plan.is_leg, PlanRows.PlanRows, declared.network.LinkRow.LinkRow, declared.plan.Act.Act, declared.plan.Leg.Leg}
+use Rattle.travel_times.{proofs.Free.free_alike, specs.Times.LinkProfile, specs.Times.arrivals, specs.Times.free_of, specs.Times.free_times}
+use Rattle.walks.specs.{Alike.TakesAlike, Arrivals.Arrivals}
+use Rattle.router.{proofs.LegWays.ends_count, specs.Graphs.Graph, specs.Legs.each_leg}
+use Rattle.car_routes.{proofs.Finding.WayList, specs.Found.ways_from}
+use Rattle.car_routes.specs.{Found.AreNext, Plans.routed_leg, Plans.routed_plan, Plans.all_routed, Wanted.Pairs, Wanted.wanted_in, Wanted.row_of}
 
 module _ {Y : Type 0} (graph : Graph) (arrive : Arrivals) where
   -- one more of some is made, and its routes are taken out

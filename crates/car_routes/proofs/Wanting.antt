@@ -1,15 +1,12 @@
 -- The wanted routes, gathered leg by leg.
-use Rattle.std.proofs.Common.{◌≡◌, ℕ, zero, suc, ◌+◌, ◌<◌, ◌≤◌, Bool, cond, List, [], ◌∷◌, ◌++◌, length, map, drop, replicate, Option, None, Some, ◌⊎◌, inl, inr, refl, sym, ◌∙◌, ap, subst, arith, append_assoc}
-use Rattle.std.specs.Prelude.{nat_eq, filter, slice_index_or, slice_set, option_to_list, All}
-use Rattle.std.specs.List.{cons_option}
+use Rattle.std.proofs.Common.{◌≡◌, ℕ, zero, suc, ◌+◌, ◌<◌, ◌≤◌, Bool, cond, List, [], ◌∷◌, ◌++◌, length, map, drop, replicate, Option, None, Some, ◌⊎◌, inl}
+use Rattle.std.proofs.Common.{inr, refl, sym, ◌∙◌, ap, subst, arith, append_assoc}
 use Rattle.std.proofs.lemmas.Bool.{cases_eq, eq-eqb, ne_eqb}
 use Rattle.std.proofs.lemmas.List.{append-nil, map-append, drop_more, drop_all, get_or-set_same, get_or-set_other, length-set}
 use Rattle.std.proofs.lemmas.List.Elements.{filter-append, All-push, All-set, All-get_or, All-nil, All-replicate}
-use Rattle.rows.specs.declared.plan.Act.{Act}
-use Rattle.rows.specs.declared.plan.Leg.{Leg}
+use Rattle.std.specs.{List.cons_option, Prelude.nat_eq, Prelude.filter, Prelude.slice_index_or, Prelude.slice_set, Prelude.option_to_list, Prelude.All}
+use Rattle.rows.specs.{PlanRows.PlanRows, PlanRows.plan_rows, PlanRows.all_plan_rows, declared.plan.Act.Act, declared.plan.Leg.Leg, declared.plan.Plan.Plan}
 use Rattle.rows.specs.declared.plan.Leg.TheVariants as leg
-use Rattle.rows.specs.declared.plan.Plan.{Plan}
-use Rattle.rows.specs.PlanRows.{PlanRows, plan_rows, all_plan_rows}
 use Rattle.walks.specs.Walks.{Ends}
 use Rattle.car_routes.specs.Wanted.{Pairs, wanted, wanted_in, wanted_by, wanted_by_all, wanted_from, row_of, AreNodes, WantsMore}
 

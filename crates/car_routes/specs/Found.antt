@@ -3,8 +3,7 @@ use Rattle.std.specs.Prelude.{◌≡◌, ℕ, ◌+◌, nat_le, List, map, length
 use Rattle.limits.specs.declared.TheConstants.{MAX_ROUTE_LINKS}
 use Rattle.travel_times.specs.Times.{LinkProfile}
 use Rattle.walks.specs.Arrivals.{Arrivals}
-use Rattle.router.specs.Graphs.{Graph}
-use Rattle.router.specs.Routes.{way_to}
+use Rattle.router.specs.{Graphs.Graph, Routes.way_to}
 use Rattle.car_routes.specs.Wanted.{Pairs, wanted_from, row_of, AreNodes}
 
 -- a way that is too long for a leg, with the leg's own two links, counts as none

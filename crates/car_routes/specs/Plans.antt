@@ -1,12 +1,9 @@
 -- Plans, each car leg of which has a route, as far as there is one.
 use Rattle.std.specs.Prelude.{ℕ, Bool, nat_eq, List, [], length, map, unwrap_or, if◌then◌else◌}
 use Rattle.std.specs.List.{list_all}
-use Rattle.rows.specs.declared.plan.Act.{Act}
-use Rattle.rows.specs.declared.plan.Leg.{Leg}
-use Rattle.rows.specs.PlanRows.{PlanRows}
+use Rattle.rows.specs.{PlanRows.PlanRows, declared.plan.Act.Act, declared.plan.Leg.Leg}
 use Rattle.walks.specs.Arrivals.{Arrivals}
-use Rattle.router.specs.Graphs.{Graph}
-use Rattle.router.specs.Legs.{route_between, with_route, each_leg, are_on}
+use Rattle.router.specs.{Graphs.Graph, Legs.route_between, Legs.with_route, Legs.each_leg, Legs.are_on}
 
 -- a route with links as it is; one without links is the route of least arrival between the activity, at whose planned end it is left, and
 -- the link, where there is one of at most 1,000 links

@@ -1,10 +1,8 @@
 -- The routes that plans want: from which node to which, in the order of their legs.
 use Rattle.std.specs.Prelude.{◌≡◌, ℕ, ◌<◌, not, ◌&&◌, nat_eq, List, [], ◌∷◌, ◌++◌, length, map, filter, All, Option, None, Some, slice_index_or, if◌then◌else◌}
 use Rattle.std.specs.List.{cons_option, flat_map}
-use Rattle.rows.specs.declared.plan.Act.{Act}
-use Rattle.rows.specs.declared.plan.Leg.{Leg}
+use Rattle.rows.specs.{PlanRows.PlanRows, declared.plan.Act.Act, declared.plan.Leg.Leg}
 use Rattle.rows.specs.declared.plan.Leg.TheVariants as leg
-use Rattle.rows.specs.PlanRows.{PlanRows}
 use Rattle.walks.specs.Walks.{Ends, start_of, end_of}
 
 -- from which node to which

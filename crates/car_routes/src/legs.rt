@@ -1,19 +1,13 @@
 //! Legs with the routes that were found for them.
 
-ghost use Rattle.std.specs.Prelude.{◌≡◌, ◌<◌, ◌≤◌, ◌+◌, ◌∷◌, ◌++◌, [], true, length, List, ℕ, IfOk, IfSome};
-ghost use Rattle.std.specs.Prelude.{Option, unwrap_or, option_map, option_to_list};
-ghost use Rattle.std.specs.List.{list_all};
+ghost use Rattle.std.specs.{List.list_all, Prelude.◌≡◌, Prelude.◌<◌, Prelude.◌≤◌};
+ghost use Rattle.std.specs.Prelude.{◌+◌, ◌∷◌, ◌++◌, [], true, length, List, ℕ, IfOk, IfSome, Option, unwrap_or, option_map, option_to_list};
 ghost use Rattle.limits.specs.declared.TheConstants.{MAX_ROUTE_LINKS};
 ghost use Rattle.rows.specs.Plan.{is_leg};
 ghost use Rattle.rows.specs.declared.plan.Leg.TheVariants as leg;
-ghost use Rattle.walks.specs.Arrivals.{Arrivals};
-ghost use Rattle.walks.specs.Walks.{start_of, end_of};
-ghost use Rattle.walks.specs.Alike.{TakesAlike};
-ghost use Rattle.router.specs.Routes.{way_to, allowed};
-ghost use Rattle.router.specs.Legs.{each_leg, are_on};
-ghost use Rattle.car_routes.specs.Plans.{filled, routed_leg};
-ghost use Rattle.car_routes.specs.Wanted.{Pairs, wanted, wanted_in};
-ghost use Rattle.car_routes.specs.Found.{AreNext};
+ghost use Rattle.walks.specs.{Alike.TakesAlike, Arrivals.Arrivals, Walks.start_of, Walks.end_of};
+ghost use Rattle.router.specs.{Legs.each_leg, Legs.are_on, Routes.way_to, Routes.allowed};
+ghost use Rattle.car_routes.specs.{Found.AreNext, Plans.filled, Plans.routed_leg, Wanted.Pairs, Wanted.wanted, Wanted.wanted_in};
 
 use crate::found::{Found, take_next};
 use events::Route;

@@ -3,13 +3,10 @@
 ghost use Rattle.std.specs.Prelude.{◌≡◌, ◌++◌, [], length, map, IfOk, true};
 ghost use Rattle.rows.specs.PlanRows.{plan_rows, all_plan_rows};
 ghost use Rattle.travel_times.specs.Times.{arrivals, free_times};
-ghost use Rattle.walks.specs.Arrivals.{Arrivals};
-ghost use Rattle.walks.specs.Alike.{TakesAlike};
-ghost use Rattle.router.specs.Graphs.{graph_of};
-ghost use Rattle.router.specs.Legs.{are_on};
-ghost use Rattle.car_routes.specs.Plans.{routed_plan, all_routed, own_are_on, all_are_on};
+ghost use Rattle.walks.specs.{Alike.TakesAlike, Arrivals.Arrivals};
+ghost use Rattle.router.specs.{Graphs.graph_of, Legs.are_on};
+ghost use Rattle.car_routes.specs.{Found.AreNext, Plans.routed_plan, Plans.all_routed, Plans.own_are_on, Plans.all_are_on};
 ghost use Rattle.car_routes.specs.Wanted.{Pairs, wanted_in, wanted_by, wanted_by_all};
-ghost use Rattle.car_routes.specs.Found.{AreNext};
 
 use crate::found::Found;
 use crate::legs::routed_legs;

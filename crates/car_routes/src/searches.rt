@@ -5,8 +5,7 @@ ghost use Rattle.std.specs.List.{range_with_len};
 ghost use Rattle.limits.specs.declared.TheConstants.{MAX_NODES};
 ghost use Rattle.travel_times.specs.Times.{arrivals};
 ghost use Rattle.walks.specs.Walks.{AreWithin};
-ghost use Rattle.car_routes.specs.Wanted.{row_of};
-ghost use Rattle.car_routes.specs.Found.{short, ways_from, AreTargets};
+ghost use Rattle.car_routes.specs.{Found.short, Found.ways_from, Found.AreTargets, Wanted.row_of};
 
 use crate::found::{Found, Ways};
 use crate::wanted::Targets;

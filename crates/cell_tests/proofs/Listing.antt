@@ -1,15 +1,11 @@
 -- Members in a list.
-use Rattle.std.proofs.Common.{◌≡◌, ℕ, suc, ◌+◌, ◌<◌, List, [], ◌∷◌, ◌++◌, length, set, slice_index_or, sym, ap, ◌∙◌, subst}
-use Rattle.std.proofs.Common.{length-append, length-set, get_or-set_same, get_or-set_other, arith}
-use Rattle.std.proofs.Math.ListN.{get_or-append}
-use Rattle.std.proofs.Math.Seq.{get_or-append_seam}
+use Rattle.std.proofs.Common.{◌≡◌, ℕ, suc, ◌+◌, ◌<◌, List, [], ◌∷◌, ◌++◌, length, set, slice_index_or, sym, ap, ◌∙◌, subst, length-append, length-set}
+use Rattle.std.proofs.{Common.get_or-set_same, Common.get_or-set_other, Common.arith, Math.ListN.get_or-append, Math.Seq.get_or-append_seam}
 use mathlib.Core.Logic.{dite}
 use native.Mathlib.Decide.{ℕ_discrete, dec_le}
-use Rattle.std.specs.Vec.{with_items}
-use Rattle.std.proofs.lemmas.List.{with_items_is}
-use Rattle.cell_tests.specs.declared.members.Member.{Member}
-use Rattle.cell_tests.specs.declared.members.Trial.{Trial}
+use Rattle.std.{proofs.lemmas.List.with_items_is, specs.Vec.with_items}
 use Rattle.cell_tests.specs.Members.{NumberBoard, IsMember, AreMembers, IsTrial}
+use Rattle.cell_tests.specs.declared.members.{Member.Member, Trial.Trial}
 
 -- one member more
 pub members_more : (b : NumberBoard) (ms : List Member) (m : Member) → AreMembers b ms → IsMember b m → AreMembers b (ms ++ m ∷ [])

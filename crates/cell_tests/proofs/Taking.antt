@@ -2,14 +2,10 @@
 use Rattle.std.proofs.Common.{◌≡◌, ℕ, ◌+◌, ◌<◌, ◌≤◌, true, List, length, set, sym, ap, ◌∙◌, subst, get_or-set_same, get_or-set_other, arith}
 use mathlib.Core.Logic.{dite}
 use native.Mathlib.Decide.{ℕ_discrete}
-use Rattle.cells.specs.declared.board.Port.{Port}
-use Rattle.cells.specs.declared.board.Handover.TheVariants.{Awaited, Taken}
-use Rattle.cells.specs.declared.table.Border.{Border}
-use Rattle.cells.specs.Ports.{IsPort, SameSecond, IsUnread, degree, handover, handover_at, is_taken}
 use Rattle.cells.proofs.Uses.{same_trans, taken_unread}
-use Rattle.cell_tests.specs.declared.numbers.Numbers.{Numbers}
-use Rattle.cell_tests.specs.Numbers.{IsNumber}
-use Rattle.cell_tests.specs.Members.{NumberBoard}
+use Rattle.cells.specs.Ports.{IsPort, SameSecond, IsUnread, degree, handover, handover_at, is_taken}
+use Rattle.cells.specs.declared.{board.Handover.TheVariants.Awaited, board.Handover.TheVariants.Taken, board.Port.Port, table.Border.Border}
+use Rattle.cell_tests.specs.{Members.NumberBoard, Numbers.IsNumber, declared.numbers.Numbers.Numbers}
 
 abbrev pub NumberPort : Type 0
 NumberPort = Port Numbers ℕ ℕ

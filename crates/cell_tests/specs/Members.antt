@@ -2,10 +2,7 @@
 use Rattle.std.specs.Prelude.{◌≡◌, ℕ, ◌<◌, ◌≤◌, true, List, length, slice_index_or}
 use Rattle.cells.specs.declared.board.Board.{Board}
 use Rattle.cells.specs.Ports.{IsHub, IsPort, IsUntouched, degree, handover, is_awaited, run_of, count_of}
-use Rattle.cell_tests.specs.declared.numbers.Numbers.{Numbers}
-use Rattle.cell_tests.specs.declared.members.Member.{Member}
-use Rattle.cell_tests.specs.declared.members.Trial.{Trial}
-use Rattle.cell_tests.specs.Numbers.{IsNumber}
+use Rattle.cell_tests.specs.{Numbers.IsNumber, declared.members.Member.Member, declared.members.Trial.Trial, declared.numbers.Numbers.Numbers}
 
 abbrev pub NumberBoard : Type 0
 NumberBoard = Board Numbers ℕ ℕ

@@ -1,18 +1,7 @@
 // How a port with any number of neighbours does a second.
 ghost use Rattle.std.specs.Prelude.{◌≡◌, ℕ, ◌+◌, ◌<◌, true, if◌then◌else◌};
-ghost use Rattle.cells.specs.Ports.{
-  IsPort,
-  SameSecond,
-  IsUntouched,
-  IsUnread,
-  IsSettled,
-  degree,
-  handover,
-  is_taken,
-  done_of,
-};
-ghost use Rattle.cell_tests.specs.Numbers.{IsMessage, IsNumber};
-ghost use Rattle.cell_tests.specs.Members.{IsMember, IsTestBoard};
+ghost use Rattle.cells.specs.Ports.{IsPort, SameSecond, IsUntouched, IsUnread, IsSettled, degree, handover, is_taken, done_of};
+ghost use Rattle.cell_tests.specs.{Members.IsMember, Members.IsTestBoard, Numbers.IsMessage, Numbers.IsNumber};
 
 use crate::members::{Member, Tally};
 use crate::numbers::Numbers;

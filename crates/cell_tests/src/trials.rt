@@ -1,8 +1,6 @@
 // Boards with all their members, which run on one thread or on several, and are joined.
 ghost use Rattle.std.specs.Prelude.{◌≡◌, ◌<◌, ◌≤◌, [], ◌∷◌, false, IfOk, length};
-ghost use Rattle.cells.specs.Rule.{contains};
-ghost use Rattle.cells.specs.Pairs.{ArePairs};
-ghost use Rattle.cells.specs.Ports.{IsHub, count_of, done_of, had_port};
+ghost use Rattle.cells.specs.{Pairs.ArePairs, Ports.IsHub, Ports.count_of, Ports.done_of, Ports.had_port, Rule.contains};
 ghost use Rattle.cell_tests.specs.Members.{AreMembers, IsMember, IsTestBoard, IsTrial, KeepsMembers};
 
 use crate::members::{Member, Tally, Trial};

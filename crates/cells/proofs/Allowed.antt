@@ -1,20 +1,12 @@
 -- What the steps of a port require, of the board's own channels.
-use Rattle.std.proofs.Common.{◌≡◌, ℕ, zero, suc, ◌+◌, ◌*◌, ◌<◌, true, false, List, [], length, replicate, slice_index, Option, None, sym}
-use Rattle.std.proofs.Common.{ap, ◌∙◌, subst, refl, arith}
-use Rattle.std.proofs.lemmas.List.{length-map, length-replicate}
+use Rattle.std.proofs.Common.{◌≡◌, ℕ, zero, suc, ◌+◌, ◌*◌, ◌<◌, true, false, List, [], length, replicate, slice_index, Option, None, sym, ap, ◌∙◌, subst, refl}
+use Rattle.std.proofs.{Common.arith, lemmas.List.length-map, lemmas.List.length-replicate}
 use mathlib.Core.Option.{some}
 use Rattle.atomic_table.specs.Table.{Me, Allows, Splits, Joins, opening}
-use Rattle.cells.specs.declared.TheConstants.{WORDS_APART}
-use Rattle.cells.specs.declared.table.View.{View}
-use Rattle.cells.specs.declared.table.Layout.{Layout}
-use Rattle.cells.specs.declared.table.Channel.{Channel}
-use Rattle.cells.specs.declared.table.Border.{Border}
-use Rattle.cells.specs.Rule.{contains, place, is_port, is_hub, hub_view, hub_after, hub_joined, spent_view, port_view, IsKept}
-use Rattle.cells.specs.Rule.{AreChannelsOf, from_of, to_of, lag_of, twin_of, Looks, Publishes}
-use Rattle.cells.specs.Carried.{AreOfSecond, CarriesBoth}
-use Rattle.cells.specs.Ports.{IsBorder}
-use Rattle.cells.proofs.Steps.{looks, publishes}
-use Rattle.cells.proofs.Seats.{splits, joins, opens, nothing_at}
+use Rattle.cells.proofs.{Seats.splits, Seats.joins, Seats.opens, Seats.nothing_at, Steps.looks, Steps.publishes}
+use Rattle.cells.specs.{Carried.AreOfSecond, Carried.CarriesBoth, Ports.IsBorder, Rule.contains, Rule.place, Rule.is_port, Rule.is_hub}
+use Rattle.cells.specs.Rule.{hub_view, hub_after, hub_joined, spent_view, port_view, IsKept, AreChannelsOf, from_of, to_of, lag_of, twin_of, Looks, Publishes}
+use Rattle.cells.specs.declared.{TheConstants.WORDS_APART, table.Border.Border, table.Channel.Channel, table.Layout.Layout, table.View.View}
 
 module _ {R S : Type 0} (right : R → ℕ → ℕ → ℕ → Option S → Type 0) (about : Layout R) where
   reads_here : (slots id : ℕ) (me : Me (Option S) (View R)) (border : Border) → is_port me.0.role ≡ true

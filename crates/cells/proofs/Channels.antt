@@ -1,21 +1,14 @@
 -- The channels of the pairs.
-use Rattle.std.proofs.Common.{◌≡◌, ◌≢◌, ℕ, zero, suc, ◌+◌, ◌*◌, ◌<◌, ◌≤◌, ◌⊎◌, true, false, eqb, List, [], ◌∷◌, ◌++◌, map, take, length}
-use Rattle.std.proofs.Common.{get_or, sym, ap, ap₂, ◌∙◌, refl, subst, inl, inr, ⊎_elim, ne_eqb, length-take, add-one, arith}
-use Rattle.std.specs.List.{list_any}
-use Rattle.std.proofs.lemmas.Bool.{eqb-true}
-use Rattle.std.proofs.lemmas.List.{length-map, get_or-map}
-use Rattle.std.proofs.lemmas.List.Folds.{Any-from_list_any}
-use Rattle.std.proofs.lemmas.Map.Keys.{IsDistinct-from_apart}
-use Rattle.std.proofs.lemmas.Map.Steps.{length-le_from_distinct_below}
-use Rattle.std.proofs.Math.Seq.{take-suc}
+use Rattle.std.proofs.Common.{◌≡◌, ◌≢◌, ℕ, zero, suc, ◌+◌, ◌*◌, ◌<◌, ◌≤◌, ◌⊎◌, true, false, eqb, List, [], ◌∷◌, ◌++◌, map, take, length, get_or, sym, ap, ap₂}
+use Rattle.std.proofs.Common.{◌∙◌, refl, subst, inl, inr, ⊎_elim, ne_eqb, length-take, add-one, arith}
+use Rattle.std.proofs.{Math.Seq.take-suc, lemmas.Bool.eqb-true, lemmas.List.length-map, lemmas.List.get_or-map, lemmas.List.Folds.Any-from_list_any}
+use Rattle.std.{proofs.lemmas.Map.Keys.IsDistinct-from_apart, proofs.lemmas.Map.Steps.length-le_from_distinct_below, specs.List.list_any}
 use mathlib.Core.Logic.{dite}
 use native.Mathlib.Decide.{ℕ_discrete, dec_le}
-use Rattle.cells.specs.declared.table.Channel.{Channel}
-use Rattle.cells.specs.Rule.{no_channel, from_of, to_of, lag_of, twin_of, AreChannelsOf, AreSingle}
 use Rattle.cells.proofs.Heads.{append_one}
 use Rattle.cells.specs.Pairs.{Pair, ArePairs, no_pair, pair_at, channel_there, channel_back, channels_from, channels_of, AreLags}
-use Rattle.cells.specs.declared.table.Border.{Border}
-use Rattle.cells.specs.Ports.{AreBorders, border_at}
+use Rattle.cells.specs.{Ports.AreBorders, Ports.border_at, Rule.no_channel, Rule.from_of, Rule.to_of, Rule.lag_of, Rule.twin_of, Rule.AreChannelsOf}
+use Rattle.cells.specs.{Rule.AreSingle, declared.table.Border.Border, declared.table.Channel.Channel}
 
 pub length-channels_from : (e : ℕ) (xs : List Pair) → length (channels_from e xs) ≡ 2 * length xs
 length-channels_from e [] = refl

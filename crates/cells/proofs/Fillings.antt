@@ -4,23 +4,15 @@ use Rattle.std.proofs.Common.{sum_by, vec_capacity, Vec, Global, Option, Some, N
 use Rattle.std.proofs.Common.{true≢false, length-set, get_or-set_same, get_or-set_other, arith}
 use mathlib.Core.Logic.{dite}
 use native.Mathlib.Decide.{ℕ_discrete, dec_le}
-use Rattle.std.proofs.lemmas.List.{length-map}
-use Rattle.std.proofs.lemmas.List.Sums.{sum_by-cons}
-use Rattle.cells.specs.declared.board.Board.{Board}
-use Rattle.cells.specs.declared.board.Port.{Port}
-use Rattle.cells.specs.declared.board.Handover.{Handover}
-use Rattle.cells.specs.declared.board.Handover.TheVariants.{Awaited, Arrived, Taken, Put}
-use Rattle.cells.specs.declared.table.View.{View}
-use Rattle.cells.specs.declared.table.Channel.{Channel}
-use Rattle.cells.specs.declared.table.Border.{Border}
-use Rattle.cells.specs.Rule.{contains, is_port, port_view, from_of, to_of, lag_of, twin_of, AreChannelsOf}
-use Rattle.cells.specs.Rings.{slot}
-use Rattle.cells.specs.Carried.{Carries, IsEmptied, IsFilled, AreOfSecond, CarriesBoth}
-use Rattle.cells.specs.Ports.{IsBorder, AreBorders, border_at, handover_at, ready_in, is_awaited, is_taken, is_put, GoesOut}
-use Rattle.cells.specs.Ports.{slots_of, all_slots_of, filled_slots_of, AreApart, IsHandover, IsSettled, run_of, degree, IsPort}
-use Rattle.cells.specs.Ports.{PortCarriesSecond, PortCarriesBoth, IsFilling}
+use Rattle.std.proofs.lemmas.List.{length-map, Sums.sum_by-cons}
 use Rattle.cells.proofs.Homes.{among_more, among_last, among_either}
 use Rattle.cells.proofs.Orders.{has_self, has_last, has_more, fresh_popped, filled_late, filled_early, blocks_last, blocks_then}
+use Rattle.cells.specs.Carried.{Carries, IsEmptied, IsFilled, AreOfSecond, CarriesBoth}
+use Rattle.cells.specs.Ports.{IsBorder, AreBorders, border_at, handover_at, ready_in, is_awaited, is_taken, is_put, GoesOut, slots_of, all_slots_of}
+use Rattle.cells.specs.Ports.{filled_slots_of, AreApart, IsHandover, IsSettled, run_of, degree, IsPort, PortCarriesSecond, PortCarriesBoth, IsFilling}
+use Rattle.cells.specs.{Rings.slot, Rule.contains, Rule.is_port, Rule.port_view, Rule.from_of, Rule.to_of, Rule.lag_of, Rule.twin_of, Rule.AreChannelsOf}
+use Rattle.cells.specs.declared.board.{Board.Board, Handover.Handover, Handover.TheVariants.Awaited, Handover.TheVariants.Arrived, Handover.TheVariants.Taken}
+use Rattle.cells.specs.declared.{board.Handover.TheVariants.Put, board.Port.Port, table.Border.Border, table.Channel.Channel, table.View.View}
 
 -- the slots of one border, filled
 module _ {P : Type 0} (right : ℕ → ℕ → ℕ → Option P

@@ -1,14 +1,10 @@
 -- How the borders of a port are found.
-use Rattle.std.proofs.Common.{◌≡◌, ◌≢◌, ℕ, suc, ◌+◌, ◌<◌, ◌⊎◌, List, [], ◌∷◌, ◌++◌, length, sym, ap, ◌∙◌, refl, subst, inl, inr, ⊎_elim}
-use Rattle.std.proofs.Common.{length-append, arith}
-use Rattle.std.proofs.Math.ListN.{get_or-append}
-use Rattle.std.proofs.Math.Seq.{get_or-append_seam}
+use Rattle.std.proofs.Common.{◌≡◌, ◌≢◌, ℕ, suc, ◌+◌, ◌<◌, ◌⊎◌, List, [], ◌∷◌, ◌++◌, length, sym, ap, ◌∙◌, refl, subst, inl, inr, ⊎_elim, length-append, arith}
+use Rattle.std.proofs.Math.{ListN.get_or-append, Seq.get_or-append_seam}
 use mathlib.Core.Logic.{dite}
 use native.Mathlib.Decide.{ℕ_discrete, dec_le}
-use Rattle.cells.specs.declared.table.Channel.{Channel}
-use Rattle.cells.specs.declared.table.Border.{Border}
-use Rattle.cells.specs.Rule.{no_border, from_of, to_of, AreSingle}
 use Rattle.cells.specs.Ports.{IsBorder, AreBorders, border_at, AreFound, Ascends}
+use Rattle.cells.specs.{Rule.no_border, Rule.from_of, Rule.to_of, Rule.AreSingle, declared.table.Border.Border, declared.table.Channel.Channel}
 
 pub found_none : (cs : List Channel) (p : ℕ) → AreFound cs p 0 0 []
 found_none cs p = record {

@@ -1,24 +1,16 @@
 -- A port stays one of its board through its calls.
-use Rattle.std.proofs.Common.{◌≡◌, ℕ, ◌+◌, ◌-◌, ◌<◌, ◌≤◌, Bool, true, false, List, [], ◌∷◌, ◌++◌, map, length, set, sum_by, vec_capacity}
-use Rattle.std.proofs.Common.{Vec, Global, Option, None, sym, ap, ◌∙◌, refl, subst, true≢false, length-append, length-set}
-use Rattle.std.proofs.Common.{get_or-set_same, get_or-set_other, arith}
+use Rattle.std.proofs.Common.{◌≡◌, ℕ, ◌+◌, ◌-◌, ◌<◌, ◌≤◌, Bool, true, false, List, [], ◌∷◌, ◌++◌, map, length, set, sum_by, vec_capacity, Vec, Global, Option}
+use Rattle.std.proofs.Common.{None, sym, ap, ◌∙◌, refl, subst, true≢false, length-append, length-set, get_or-set_same, get_or-set_other, arith}
 use Rattle.std.proofs.lemmas.List.Sums.{sum_by-set}
 use mathlib.Core.Logic.{dite}
 use native.Mathlib.Decide.{ℕ_discrete, dec_le}
 use Rattle.atomic_table.specs.Table.{Me}
-use Rattle.cells.specs.declared.board.Board.{Board}
-use Rattle.cells.specs.declared.board.Port.{Port}
-use Rattle.cells.specs.declared.board.Handover.{Handover}
-use Rattle.cells.specs.declared.board.Handover.TheVariants.{Awaited, Arrived, Taken, Put}
-use Rattle.cells.specs.declared.table.View.{View}
-use Rattle.cells.specs.declared.table.Border.{Border}
-use Rattle.cells.specs.Rule.{contains, place, is_port, after_look, Looks}
-use Rattle.cells.specs.Rings.{slot}
-use Rattle.cells.specs.Ports.{AreBorders, border_at, handover_at, ready_in, is_awaited, slots_of, all_slots_of, AreApart, IsHandover}
-use Rattle.cells.specs.Ports.{AreHandovers}
-use Rattle.cells.specs.Ports.{run_of, degree, IsPort}
-use Rattle.cells.proofs.Rings.{mark_here, mark_else}
 use Rattle.cells.proofs.Orders.{has_last, has_more, fresh_last, free_room, block_late, block_early, blocks_last}
+use Rattle.cells.{proofs.Rings.mark_here, proofs.Rings.mark_else, specs.Ports.AreBorders}
+use Rattle.cells.specs.Ports.{border_at, handover_at, ready_in, is_awaited, slots_of, all_slots_of, AreApart, IsHandover, AreHandovers, run_of, degree, IsPort}
+use Rattle.cells.specs.{Rings.slot, Rule.contains, Rule.place, Rule.is_port, Rule.after_look, Rule.Looks, declared.board.Board.Board}
+use Rattle.cells.specs.declared.board.Handover.{Handover, TheVariants.Awaited, TheVariants.Arrived, TheVariants.Taken, TheVariants.Put}
+use Rattle.cells.specs.declared.{board.Port.Port, table.Border.Border, table.View.View}
 
 module _ {T R P : Type 0} (right : R → ℕ → ℕ → ℕ → Option P → Type 0) (b : Board T R P) where
   -- the order contains room for one more

@@ -1,13 +1,12 @@
 -- Slots that go home all at once.
-use Rattle.std.proofs.Common.{◌≡◌, ℕ, zero, suc, ◌<◌, ◌⊎◌, List, [], ◌∷◌, ◌++◌, length, slice_set, refl, sym, ◌∙◌, subst, inl, inr, ⊎_elim}
-use Rattle.std.proofs.Common.{length-set, arith}
+use Rattle.std.proofs.Common.{◌≡◌, ℕ, zero, suc, ◌<◌, ◌⊎◌, List, [], ◌∷◌, ◌++◌, length, slice_set, refl, sym, ◌∙◌, subst, inl, inr, ⊎_elim, length-set, arith}
 use mathlib.Core.Option.{Option, some, some-injective, some-ne-none}
 use mathlib.Core.Logic.{dite}
 use native.Mathlib.Decide.{ℕ_discrete}
 use lib.ListN.{get_elem?}
 use Rattle.atomic_table.specs.Table.{Act, keeps, gives, chain, homes_after, carried_after, Valid}
-use Rattle.cells.specs.Carried.{Carries}
 use Rattle.atomic_table.proofs.Lists.{set_here, set_else}
+use Rattle.cells.specs.Carried.{Carries}
 
 module _ {A : Type 0} where
   pub among_more : (xs ys : List (ℕ × A)) (k : ℕ) (y : A) → Carries xs k y → Carries (xs ++ ys) k y

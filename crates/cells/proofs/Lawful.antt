@@ -3,12 +3,8 @@ use Rattle.std.proofs.Common.{◌≡◌, ℕ, ◌+◌, ◌%◌, ◌<◌, ◌≤�
 use mathlib.Core.Option.{some, none}
 use lib.ListN.{get_elem?}
 use Rattle.atomic_table.specs.Table.{State}
-use Rattle.cells.specs.declared.board.Board.{Board}
-use Rattle.cells.specs.declared.table.View.{View}
-use Rattle.cells.specs.declared.table.Channel.{Channel}
-use Rattle.cells.specs.Rule.{word_at, from_of, to_of, lag_of, twin_of}
-use Rattle.cells.specs.Ports.{IsLawful, run_of}
-use Rattle.cells.specs.Rings.{slot}
+use Rattle.cells.specs.{Ports.IsLawful, Ports.run_of, Rings.slot, Rule.word_at, Rule.from_of, Rule.to_of, Rule.lag_of, Rule.twin_of}
+use Rattle.cells.specs.declared.{board.Board.Board, table.Channel.Channel, table.View.View}
 use Rattle.cells.proofs.Rings as rings
 
 module _ {T R P : Type 0} (right : R → ℕ → ℕ → ℕ → Option P → Type 0) (b : Board T R P) where

@@ -1,16 +1,12 @@
 -- The order in which neighbours were ready, and the slots that a port has out.
-use Rattle.std.proofs.Common.{◌≡◌, ◌≢◌, ℕ, zero, suc, ◌-◌, ◌<◌, ◌≤◌, Bool, true, false, cond, ◌||◌, eqb, List, [], ◌∷◌, ◌++◌, length}
-use Rattle.std.proofs.Common.{sum_by, Option, None, sym, ap, ◌∙◌, refl, true≢false, eq-eqb, ne_eqb, le-leb, append_assoc, arith}
-use Rattle.std.proofs.lemmas.Bool.{lt-leb}
-use Rattle.std.proofs.lemmas.List.Sums.{sum_by-cons}
+use Rattle.std.proofs.Common.{◌≡◌, ◌≢◌, ℕ, zero, suc, ◌-◌, ◌<◌, ◌≤◌, Bool, true, false, cond, ◌||◌, eqb, List, [], ◌∷◌, ◌++◌, length, sum_by, Option, None, sym}
+use Rattle.std.proofs.Common.{ap, ◌∙◌, refl, true≢false, eq-eqb, ne_eqb, le-leb, append_assoc, arith}
+use Rattle.std.proofs.lemmas.{Bool.lt-leb, List.Sums.sum_by-cons}
 use mathlib.Core.Logic.{dite}
 use native.Mathlib.Decide.{ℕ_discrete}
-use Rattle.cells.specs.declared.board.Handover.{Handover}
-use Rattle.cells.specs.declared.board.Handover.TheVariants.{Awaited, Arrived, Taken, Put}
-use Rattle.cells.specs.declared.table.Border.{Border}
-use Rattle.cells.specs.Rule.{contains}
-use Rattle.cells.specs.Rings.{slot}
 use Rattle.cells.specs.Ports.{border_at, handover_at, ready_in, slots_of, filled_slots_of, all_slots_of, AreApart}
+use Rattle.cells.specs.{Rings.slot, Rule.contains, declared.board.Handover.Handover, declared.board.Handover.TheVariants.Awaited}
+use Rattle.cells.specs.declared.{board.Handover.TheVariants.Arrived, board.Handover.TheVariants.Taken, board.Handover.TheVariants.Put, table.Border.Border}
 
 pub has_last : (ks : List ℕ) (k j : ℕ) → j ≡ k → contains (ks ++ k ∷ []) j ≡ true
 has_last [] k j is = ap (λ b. b || false) (eq-eqb j k is)

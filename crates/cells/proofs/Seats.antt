@@ -1,21 +1,16 @@
 -- The board at the start, and seats that are split off and joined.
-use Rattle.std.proofs.Common.{◌≡◌, ◌≢◌, ℕ, zero, suc, ◌*◌, ◌<◌, true, false, cond, eqb, List, [], ◌∷◌, ◌++◌, map, replicate, slice_set}
-use Rattle.std.proofs.Common.{slice_index, length, Option, None, refl, sym, ap, ◌∙◌, subst, ⊎_elim, true≢false, length-set, eq-eqb, ne_eqb}
-use Rattle.std.proofs.Common.{arith}
+use Rattle.std.proofs.Common.{◌≡◌, ◌≢◌, ℕ, zero, suc, ◌*◌, ◌<◌, true, false, cond, eqb, List, [], ◌∷◌, ◌++◌, map, replicate, slice_set, slice_index, length}
+use Rattle.std.proofs.Common.{Option, None, refl, sym, ap, ◌∙◌, subst, ⊎_elim, true≢false, length-set, eq-eqb, ne_eqb, arith}
 use mathlib.Core.Option.{some, some-injective}
 use mathlib.Core.Logic.{dite}
 use native.Mathlib.Decide.{ℕ_discrete}
 use lib.ListN.{get_elem?}
 use Rattle.atomic_table.specs.Table.{State, Splits, Joins, opening}
 use Rattle.atomic_table.proofs.Lists.{at_set, at_map, at_last, at_longer, set_else}
-use Rattle.cells.specs.declared.TheConstants.{WORDS_APART}
-use Rattle.cells.specs.declared.table.View.{View}
-use Rattle.cells.specs.Rule.{contains, place, word_at, is_port, is_hub, hub_view, hub_after, hub_joined, spent_view, port_view, IsPortView}
-use Rattle.cells.specs.Rule.{IsHubView, IsKeptBy}
+use Rattle.cells.proofs.{Homes.at_end, Homes.at_below, Rings.by_bool, Rings.mark_here, Rings.mark_else, Rings.mark_more, Steps.not_both, Steps.slot_in}
 use Rattle.cells.specs.Rings.{slot, AreChannels}
-use Rattle.cells.proofs.Homes.{at_end, at_below}
-use Rattle.cells.proofs.Rings.{by_bool, mark_here, mark_else, mark_more}
-use Rattle.cells.proofs.Steps.{not_both, slot_in}
+use Rattle.cells.specs.Rule.{contains, place, word_at, is_port, is_hub, hub_view, hub_after, hub_joined, spent_view, port_view, IsPortView, IsHubView, IsKeptBy}
+use Rattle.cells.specs.declared.{TheConstants.WORDS_APART, table.View.View}
 
 abbrev pub seat_at : (ℕ → ℕ) → ℕ → ℕ → ℕ → ℕ
 seat_at who p j x = cond (eqb x p) j (who x)

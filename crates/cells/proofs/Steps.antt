@@ -1,7 +1,6 @@
 -- Each step keeps the rule.
-use Rattle.std.proofs.Common.{◌≡◌, ◌≢◌, ℕ, ◌+◌, ◌-◌, ◌*◌, ◌%◌, ◌<◌, ◌≤◌, Bool, true, false, ◌||◌, eqb, List, [], ◌∷◌, slice_set}
-use Rattle.std.proofs.Common.{slice_index, length, Option, Some, None, refl, sym, ap, ap₂, ◌∙◌, subst, ⊎_elim, true≢false, mod-lt}
-use Rattle.std.proofs.Common.{length-set, get_or-set_same, get_or-set_other, arith}
+use Rattle.std.proofs.Common.{◌≡◌, ◌≢◌, ℕ, ◌+◌, ◌-◌, ◌*◌, ◌%◌, ◌<◌, ◌≤◌, Bool, true, false, ◌||◌, eqb, List, [], ◌∷◌, slice_set, slice_index, length, Option}
+use Rattle.std.proofs.Common.{Some, None, refl, sym, ap, ap₂, ◌∙◌, subst, ⊎_elim, true≢false, mod-lt, length-set, get_or-set_same, get_or-set_other, arith}
 use mathlib.Core.Option.{some, none, some-injective}
 use mathlib.Core.Option as maybe
 use mathlib.Core.Logic.{dite}
@@ -10,17 +9,12 @@ use lib.ListN.{get_elem?}
 use lib.Seq.{set-get_or}
 use Rattle.atomic_table.specs.Table.{State, Me, Act, Allows, Valid, stepped, carried_after, keeps, takes, chain}
 use Rattle.atomic_table.proofs.Lists.{at_set, set_here, set_else}
-use Rattle.cells.specs.declared.TheConstants.{WORDS_APART}
-use Rattle.cells.specs.declared.table.View.{View}
-use Rattle.cells.specs.declared.table.Border.{Border}
-use Rattle.cells.specs.declared.table.Role.{Role}
-use Rattle.cells.specs.declared.table.Role.TheVariants.{Hub, Port, Spent}
+use Rattle.cells.proofs.{Homes.give_all, Homes.all_valid, Homes.all_given, Homes.home, Homes.home_long, Homes.home_at, Homes.at_below, Rings.by_bool}
+use Rattle.cells.specs.{Carried.Carries, Carried.AreOfSecond, Carried.CarriesBoth, Rings.slot, Rings.AreRings, Rings.mark, Rings.clear}
 use Rattle.cells.specs.Rule.{contains, place, word_at, is_port, is_hub, IsKeptBy, after_look, Looks, Publishes}
-use Rattle.cells.specs.Rings.{slot, AreRings, mark, clear}
-use Rattle.cells.specs.Carried.{Carries, AreOfSecond, CarriesBoth}
-use Rattle.cells.proofs.Homes.{give_all, all_valid, all_given, home, home_long, home_at, at_below}
+use Rattle.cells.specs.declared.TheConstants.{WORDS_APART}
+use Rattle.cells.specs.declared.table.{Border.Border, Role.Role, Role.TheVariants.Hub, Role.TheVariants.Port, Role.TheVariants.Spent, View.View}
 use Rattle.cells.proofs.Rings as rings
-use Rattle.cells.proofs.Rings.{by_bool}
 
 pub not_both : (r : Role) → is_port r ≡ true → is_hub r ≡ true → ⊥
 not_both Hub a b = true≢false (sym a)

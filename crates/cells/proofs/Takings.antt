@@ -3,12 +3,9 @@ use Rattle.std.proofs.Common.{◌≡◌, ◌≢◌, ℕ, ◌+◌, ◌-◌, ◌<�
 use Rattle.std.proofs.Common.{get_or-set_same, get_or-set_other, arith}
 use mathlib.Core.Logic.{dite}
 use native.Mathlib.Decide.{ℕ_discrete}
-use Rattle.cells.specs.declared.board.Port.{Port}
-use Rattle.cells.specs.declared.board.Handover.{Handover}
-use Rattle.cells.specs.declared.board.Handover.TheVariants.{Awaited, Arrived, Taken, Put}
-use Rattle.cells.specs.declared.table.Border.{Border}
-use Rattle.cells.specs.Ports.{border_at, handover_at, is_awaited, is_arrived, is_taken, taken_by, taken_count, handover, lag_from}
-use Rattle.cells.specs.Ports.{degree, TakesNone, TakesOne}
+use Rattle.cells.specs.Ports.{border_at, handover_at, is_awaited, is_arrived, is_taken, taken_by, taken_count, handover, lag_from, degree, TakesNone, TakesOne}
+use Rattle.cells.specs.declared.board.Handover.{Handover, TheVariants.Awaited, TheVariants.Arrived, TheVariants.Taken, TheVariants.Put}
+use Rattle.cells.specs.declared.{board.Port.Port, table.Border.Border}
 
 module _ {P : Type 0} where
   pub taken-awaited : (l t : ℕ) (h : Handover P) → is_awaited h ≡ true → taken_by l t h ≡ t - l

@@ -3,15 +3,11 @@ use Rattle.std.proofs.Common.{◌≡◌, ◌≢◌, ℕ, ◌<◌, ◌≤◌, ◌
 use Rattle.std.proofs.Common.{get_or-set_same, get_or-set_other, arith, not, true≢false, Option}
 use mathlib.Core.Logic.{dite}
 use native.Mathlib.Decide.{ℕ_discrete, dec_le}
-use Rattle.cells.specs.declared.board.Board.{Board}
-use Rattle.cells.specs.declared.board.Port.{Port}
-use Rattle.cells.specs.declared.board.Handover.{Handover}
-use Rattle.cells.specs.declared.board.Handover.TheVariants.{Awaited, Arrived, Taken, Put}
-use Rattle.cells.specs.declared.board.Look.TheVariants.{Ready, NotYet}
-use Rattle.cells.specs.declared.table.Border.{Border}
-use Rattle.cells.specs.Ports.{border_at, handover_at, is_awaited, is_arrived, is_taken, is_put, degree, handover, lag_from, SameSecond}
-use Rattle.cells.specs.Ports.{Fetches, Answers, IsUnreadOf, IsUnread, IsUntouched, IsSettled}
 use Rattle.cells.proofs.Rings.{by_bool}
+use Rattle.cells.specs.Ports.{border_at, handover_at, is_awaited, is_arrived, is_taken, is_put, degree, handover, lag_from, SameSecond, Fetches, Answers}
+use Rattle.cells.specs.{Ports.IsUnreadOf, Ports.IsUnread, Ports.IsUntouched, Ports.IsSettled, declared.board.Board.Board, declared.board.Handover.Handover}
+use Rattle.cells.specs.declared.board.Handover.TheVariants.{Awaited, Arrived, Taken, Put}
+use Rattle.cells.specs.declared.{board.Look.TheVariants.Ready, board.Look.TheVariants.NotYet, board.Port.Port, table.Border.Border}
 
 module _ {P : Type 0} where
   unread_known : (l t : ℕ) (h : Handover P) → IsUnreadOf l t h → is_awaited h ≡ false

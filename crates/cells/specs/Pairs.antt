@@ -1,9 +1,7 @@
 -- The pairs of neighbours, and their channels.
 use Rattle.std.specs.Prelude.{◌≡◌, ℕ, ◌+◌, ◌<◌, ◌≤◌, ◌⊎◌, List, [], ◌∷◌, length, slice_index_or}
 use Rattle.limits.specs.declared.TheConstants.{MAX_LAG}
-use Rattle.cells.specs.declared.table.Channel.{Channel}
-use Rattle.cells.specs.declared.table.Border.{Border}
-use Rattle.cells.specs.Rule.{no_border}
+use Rattle.cells.specs.{Rule.no_border, declared.table.Border.Border, declared.table.Channel.Channel}
 
 -- two partitions, the lag from the first to the second, and the lag back
 abbrev pub Pair : Type 0

@@ -1,25 +1,14 @@
 -- What clauses say of a board, its hub and its ports.
-use Rattle.std.specs.Prelude.{◌≡◌, ◌≢◌, ℕ, ◌+◌, ◌-◌, ◌*◌, ◌%◌, ◌<◌, ◌≤◌, ◌⊎◌, Bool, true, false, cond, leb, List, [], ◌∷◌, ◌++◌, map}
-use Rattle.std.specs.Prelude.{length}
-use Rattle.std.specs.Prelude.{sum_by, Option, Some, None, slice_index_or, slice_set, vec_capacity}
+use Rattle.std.specs.Prelude.{◌≡◌, ◌≢◌, ℕ, ◌+◌, ◌-◌, ◌*◌, ◌%◌, ◌<◌, ◌≤◌, ◌⊎◌, Bool, true, false, cond, leb, List, [], ◌∷◌, ◌++◌, map, length, sum_by, Option}
+use Rattle.std.specs.Prelude.{Some, None, slice_index_or, slice_set, vec_capacity}
 use mathlib.Core.Option.{some, none}
 use lib.ListN.{get_elem?}
 use Rattle.atomic_table.specs.Table.{State}
-use Rattle.cells.specs.declared.TheConstants.{SLOTS, SLOTS_APART}
-use Rattle.cells.specs.declared.board.Board.{Board}
-use Rattle.cells.specs.declared.board.Hub.{Hub}
-use Rattle.cells.specs.declared.board.Port.{Port}
-use Rattle.cells.specs.declared.board.Handover.{Handover}
+use Rattle.cells.specs.declared.{TheConstants.SLOTS, TheConstants.SLOTS_APART, board.Board.Board, board.Hub.Hub, board.Port.Port, board.Handover.Handover}
 use Rattle.cells.specs.declared.board.Handover.TheVariants.{Awaited, Arrived, Taken, Put}
-use Rattle.cells.specs.declared.board.Look.{Look}
-use Rattle.cells.specs.declared.board.Look.TheVariants.{Ready, NotYet}
-use Rattle.cells.specs.declared.table.Channel.{Channel}
-use Rattle.cells.specs.declared.table.Border.{Border}
-use Rattle.cells.specs.declared.table.View.{View}
-use Rattle.cells.specs.Rule.{contains, no_border, word_at, from_of, to_of, lag_of, twin_of, is_port, is_hub, IsKept}
-use Rattle.cells.specs.Carried.{AreOfSecond, CarriesBoth}
-use Rattle.cells.specs.Pairs.{Pair, AreLags}
-use Rattle.cells.specs.Rings.{slot}
+use Rattle.cells.specs.declared.{board.Look.Look, board.Look.TheVariants.Ready, board.Look.TheVariants.NotYet, table.Channel.Channel, table.Border.Border}
+use Rattle.cells.specs.{declared.table.View.View, Rule.contains, Rule.no_border, Rule.word_at, Rule.from_of, Rule.to_of, Rule.lag_of, Rule.twin_of}
+use Rattle.cells.specs.{Rule.is_port, Rule.is_hub, Rule.IsKept, Carried.AreOfSecond, Carried.CarriesBoth, Pairs.Pair, Pairs.AreLags, Rings.slot}
 
 -- BORDERS
 -- a border is that of a channel into p

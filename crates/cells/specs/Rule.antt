@@ -4,14 +4,9 @@ use Rattle.std.specs.Prelude.{slice_index, slice_index_or}
 use mathlib.Core.Option.{some}
 use lib.ListN.{get_elem?}
 use Rattle.atomic_table.specs.Table.{State, Me}
-use Rattle.cells.specs.declared.TheConstants.{SLOTS_APART, WORDS_APART}
-use Rattle.cells.specs.declared.table.View.{View}
-use Rattle.cells.specs.declared.table.Layout.{Layout}
-use Rattle.cells.specs.declared.table.Channel.{Channel}
-use Rattle.cells.specs.declared.table.Border.{Border}
-use Rattle.cells.specs.declared.table.Role.{Role}
-use Rattle.cells.specs.declared.table.Role.TheVariants.{Hub, Port, Spent}
 use Rattle.cells.specs.Rings.{slot, AreChannels, AreRings}
+use Rattle.cells.specs.declared.{TheConstants.SLOTS_APART, TheConstants.WORDS_APART, table.Border.Border, table.Channel.Channel}
+use Rattle.cells.specs.declared.table.{Layout.Layout, Role.Role, Role.TheVariants.Hub, Role.TheVariants.Port, Role.TheVariants.Spent, View.View}
 
 -- whether a list of numbers has x
 abbrev pub contains : List ℕ → ℕ → Bool

@@ -1,7 +1,6 @@
 // A board, its hub and its ports.
 ghost use Rattle.std.specs.Prelude.{◌≡◌, ◌*◌, ◌≤◌, length};
-ghost use Rattle.cells.specs.Rule.{AreChannelsOf, AreSingle};
-ghost use Rattle.cells.specs.declared.TheConstants.{SLOTS_APART, WORDS_APART};
+ghost use Rattle.cells.specs.{Rule.AreChannelsOf, Rule.AreSingle, declared.TheConstants.SLOTS_APART, declared.TheConstants.WORDS_APART};
 
 use crate::table::{Border, Channel, Exchange, Layout, Rule, View};
 use atomic_table::{Seat, Table};

@@ -1,7 +1,6 @@
 // The borders of a port.
 ghost use Rattle.std.specs.Prelude.{◌≡◌, ℕ, ◌<◌, ◌≤◌, length, map, IfOk, OnOk};
-ghost use Rattle.cells.specs.Rule.{from_of, AreSingle};
-ghost use Rattle.cells.specs.Ports.{AreFound, AreBorders};
+ghost use Rattle.cells.specs.{Ports.AreFound, Ports.AreBorders, Rule.from_of, Rule.AreSingle};
 
 use crate::board::Handover;
 use crate::table::{Border, Channel};

@@ -1,9 +1,8 @@
 // How ports are split off and joined, and how a board ends.
 ghost use Rattle.std.specs.Prelude.{◌≡◌, ℕ, ◌-◌, ◌<◌, true, false, [], ◌∷◌, IfOk, OnOk, OnErr};
-ghost use Rattle.cells.specs.Rule.{contains, is_hub, hub_after, port_view};
 ghost use Rattle.cells.specs.Ports.{IsHub, IsPort, had_port, joined, count_of, partition_of, done_of, degree, lag_from, handover};
-ghost use Rattle.cells.specs.Ports.{is_awaited};
-ghost use Rattle.cells.specs.Ports.{looks, waits, still, taken_count};
+ghost use Rattle.cells.specs.Ports.{is_awaited, looks, waits, still, taken_count};
+ghost use Rattle.cells.specs.Rule.{contains, is_hub, hub_after, port_view};
 
 use crate::ROOM_BEHIND;
 use crate::board::{Board, Hub, Port};

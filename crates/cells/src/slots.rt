@@ -1,7 +1,6 @@
 // What a port does with the slots that it has out.
 ghost use Rattle.std.specs.Prelude.{◌≡◌, ℕ, ◌-◌, ◌<◌, ◌≤◌, List, ◌∷◌, ◌++◌, Option};
-ghost use Rattle.cells.specs.Ports.{slots_of, filled_slots_of};
-ghost use Rattle.cells.specs.Rings.{slot};
+ghost use Rattle.cells.specs.{Ports.slots_of, Ports.filled_slots_of, Rings.slot};
 
 use crate::board::{Board, Handover};
 use crate::table::{Border, Exchange, View};

@@ -1,8 +1,7 @@
 // What a port is asked, what is taken from it and what is put into it.
 ghost use Rattle.std.specs.Prelude.{◌≡◌, ◌-◌, ◌<◌, ◌≤◌, true, not, slice_set};
 ghost use Rattle.cells.specs.Ports.{IsPort, SameSecond, is_awaited, is_arrived, is_taken, handover, handovers_of, degree, waits, neighbour};
-ghost use Rattle.cells.specs.Ports.{neighbours_of, lag_from, run_of};
-ghost use Rattle.cells.specs.Ports.{partition_of, done_of, taken_count, TakesNone, TakesOne};
+ghost use Rattle.cells.specs.Ports.{neighbours_of, lag_from, run_of, partition_of, done_of, taken_count, TakesNone, TakesOne};
 
 use crate::board::{Board, Handover, Port};
 use crate::table::Exchange;

@@ -1,18 +1,14 @@
 -- What comes over the rings.
-use Rattle.std.proofs.Common.{◌≡◌, ℕ, suc, ◌+◌, ◌*◌, ◌<◌, List, [], ◌∷◌, ◌++◌, length, get_or, map, arith}
-use Rattle.std.proofs.Common.{refl, sym, ◌∙◌, ap}
+use Rattle.std.proofs.Common.{◌≡◌, ℕ, suc, ◌+◌, ◌*◌, ◌<◌, List, [], ◌∷◌, ◌++◌, length, get_or, map, arith, refl, sym, ◌∙◌, ap}
 use Rattle.events.specs.declared.event.Event.{Event}
-use Rattle.event_pipe.specs.declared.pieces.Piece.{Piece}
-use Rattle.event_pipe.specs.declared.gathering.Gather.{Gather}
-use Rattle.event_pipe.specs.Pieces.{events_of, label}
-use Rattle.event_pipe.specs.Pipes.{parts, gathered, AreGathered}
+use Rattle.event_pipe.specs.{Pieces.events_of, Pieces.label, Pipes.parts, Pipes.gathered, Pipes.AreGathered}
+use Rattle.event_pipe.specs.declared.{gathering.Gather.Gather, pieces.Piece.Piece}
 use Rattle.traffic.specs.Lists.{below, numbers}
 use Rattle.town.specs.declared.day_input.DayInput.{DayInput}
 use Rattle.partition.specs.declared.owner.Owner.{Owner}
-use Rattle.collected_day.specs.declared.spans.TheConstants.{SPAN_SECONDS}
-use Rattle.collected_day.specs.Spans.{told_from}
+use Rattle.collected_day.{proofs.Handed.pieces_more, proofs.Handed.next_is, specs.Spans.told_from}
 use Rattle.collected_day.specs.Streams.{span_length, told_in_span, TellsOf, span_piece, pieces_to, IsNext, HasGathered}
-use Rattle.collected_day.proofs.Handed.{pieces_more, next_is}
+use Rattle.collected_day.specs.declared.spans.TheConstants.{SPAN_SECONDS}
 
 -- a list, and what its places are by number
 mapped : {T X : Type 0} (f : T → X) (g : ℕ → X) (xs : List T) (k : ℕ)

@@ -1,25 +1,18 @@
 -- What is due to be taken.
-use Rattle.std.proofs.Common.{◌≡◌, ℕ, ◌+◌, ◌-◌, ◌*◌, ◌<◌, ◌≤◌, List, [], ◌∷◌, ◌++◌, arith, sym}
-use Rattle.std.proofs.Common.{◌∙◌, ap, subst, append-nil}
+use Rattle.std.proofs.Common.{◌≡◌, ℕ, ◌+◌, ◌-◌, ◌*◌, ◌<◌, ◌≤◌, List, [], ◌∷◌, ◌++◌, arith, sym, ◌∙◌, ap, subst, append-nil}
 use mathlib.Core.Logic.{dite}
 use native.Mathlib.Decide.{dec_lt}
 use Rattle.events.specs.declared.event.Event.{Event}
-use Rattle.event_handler.specs.declared.handling.EventHandler.{EventHandler}
-use Rattle.event_handler.specs.Handling.{HasHandled}
-use Rattle.event_pipe.specs.Pieces.{label}
-use Rattle.event_pipe.specs.Pipes.{parts, gathered}
+use Rattle.event_handler.specs.{Handling.HasHandled, declared.handling.EventHandler.EventHandler}
+use Rattle.event_pipe.specs.{Pieces.label, Pipes.parts, Pipes.gathered}
 use Rattle.law_in_range.specs.Setups.{HaveFittingPlans}
 use Rattle.partition.specs.declared.owner.Owner.{Owner}
 use Rattle.scoring.specs.Tables.{ScoringRows}
 use Rattle.streamed_day.specs.Coming.{seconds_from}
-use Rattle.town.specs.Views.{setup}
-use Rattle.town.specs.declared.day_input.DayInput.{DayInput}
+use Rattle.town.specs.{Views.setup, declared.day_input.DayInput.DayInput}
 use Rattle.traffic.specs.Setup.{Setup}
-use Rattle.collected_day.specs.declared.spans.TheConstants.{SPAN_SECONDS}
-use Rattle.collected_day.specs.declared.taking.Taking.{Taking}
-use Rattle.collected_day.specs.Streams.{TellsOf, IsComing, span_length}
-use Rattle.collected_day.specs.Jobs.{HasRunSpan}
-use Rattle.collected_day.specs.Taking.{IsTaking, HasHandledMore}
+use Rattle.collected_day.specs.{Jobs.HasRunSpan, Streams.TellsOf, Streams.IsComing, Streams.span_length, Taking.IsTaking, Taking.HasHandledMore}
+use Rattle.collected_day.specs.declared.{spans.TheConstants.SPAN_SECONDS, taking.Taking.Taking}
 
 -- nothing is
 pub none_due : (S : Setup) (w t : ℕ) → t ≤ w → seconds_from S w (t - w) ≡ []

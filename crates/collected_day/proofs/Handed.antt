@@ -1,25 +1,17 @@
 -- A partition that sends what it told, span by span.
-use Rattle.std.proofs.Common.{◌≡◌, ℕ, zero, suc, ◌+◌, ◌-◌, ◌*◌, ◌<◌, ◌≤◌, ◌⊎◌, inl, inr, Bool, true}
-use Rattle.std.proofs.Common.{false, Some, IfSome, List, [], ◌∷◌, ◌++◌, length, map, arith, refl, sym}
-use Rattle.std.proofs.Common.{◌∙◌, ap, subst, subst₂}
+use Rattle.std.proofs.Common.{◌≡◌, ℕ, zero, suc, ◌+◌, ◌-◌, ◌*◌, ◌<◌, ◌≤◌, ◌⊎◌, inl, inr, Bool, true, false, Some, IfSome, List, [], ◌∷◌, ◌++◌, length, map}
+use Rattle.std.proofs.Common.{arith, refl, sym, ◌∙◌, ap, subst, subst₂}
 use Rattle.std.proofs.lemmas.List.{map-append, length-map}
 use Rattle.events.specs.declared.event.Event.{Event}
-use Rattle.event_pipe.specs.declared.pieces.Piece.{Piece}
-use Rattle.event_pipe.specs.Pieces.{label}
-use Rattle.event_pipe.specs.Pipes.{sent, free}
+use Rattle.event_pipe.specs.{Pieces.label, Pipes.sent, Pipes.free, declared.pieces.Piece.Piece}
 use Rattle.traffic.specs.Lists.{below, numbers}
 use Rattle.town.specs.declared.day_input.DayInput.{DayInput}
 use Rattle.partition.specs.declared.owner.Owner.{Owner}
 use Rattle.divided_day.specs.Days.{told_at}
-use Rattle.collected_day.specs.declared.spans.TheConstants.{SPAN_SECONDS}
-use Rattle.collected_day.specs.declared.sending.Outgoing.{Outgoing}
-use Rattle.collected_day.specs.Spans.{told_from}
-use Rattle.collected_day.specs.Streams.{TellsOf, span_piece, pieces_to, IsNext}
-use Rattle.step_core.specs.Nets.{Net}
-use Rattle.step_core.specs.Views.{PartView, IsAt}
-use Rattle.collected_day.specs.declared.sending.SendingPart.{SendingPart}
-use Rattle.collected_day.specs.Sending.{IsSending, SendsOn, IsSendingOf}
-use Rattle.collected_day.proofs.Told.{none_told, told_more, numbers_more}
+use Rattle.collected_day.{proofs.Told.none_told, proofs.Told.told_more, proofs.Told.numbers_more, specs.Sending.IsSending}
+use Rattle.collected_day.specs.{Sending.SendsOn, Sending.IsSendingOf, Spans.told_from, Streams.TellsOf, Streams.span_piece, Streams.pieces_to, Streams.IsNext}
+use Rattle.collected_day.specs.declared.{sending.Outgoing.Outgoing, sending.SendingPart.SendingPart, spans.TheConstants.SPAN_SECONDS}
+use Rattle.step_core.specs.{Nets.Net, Views.PartView, Views.IsAt}
 
 numbers_count : (k n : ℕ) → length (numbers k n) ≡ n
 numbers_count k zero = refl

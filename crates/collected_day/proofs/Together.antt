@@ -1,12 +1,8 @@
 -- All partitions at one second.
 use Rattle.std.proofs.Common.{◌≡◌, ℕ, ◌+◌, ◌<◌, ◌≤◌, List, arith, subst}
-use Rattle.step_core.specs.declared.part.Border.{Border}
-use Rattle.step_core.specs.Nets.{Net}
-use Rattle.step_core.specs.Views.{PartView}
-use Rattle.workers.specs.declared.days.Running.{Running}
-use Rattle.workers.specs.Running.{IsRunning}
-use Rattle.collected_day.specs.declared.spans.TheConstants.{SPAN_SECONDS}
-use Rattle.collected_day.specs.Spans.{IsUnderWay}
+use Rattle.step_core.specs.{Nets.Net, Views.PartView, declared.part.Border.Border}
+use Rattle.workers.specs.{Running.IsRunning, declared.days.Running.Running}
+use Rattle.collected_day.specs.{Spans.IsUnderWay, declared.spans.TheConstants.SPAN_SECONDS}
 
 module _ {T R P : Type 0} (net : R → Net) (borders : R → ℕ → List Border) (nothing : P) (see : T → PartView P)
     (stands : R → T → Type 0) (spent : T → Type 0) (right : R → ℕ → ℕ → ℕ → P → Type 0) (run : R) where

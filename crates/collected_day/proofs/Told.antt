@@ -1,18 +1,13 @@
 -- What belongs to a partition of seconds that follow one another.
 use Rattle.std.proofs.Common.{◌≡◌, ℕ, zero, suc, ◌+◌, [], ◌∷◌, ◌++◌, arith, refl, ◌∙◌, ap}
-use Rattle.std.specs.Prelude.{filter, ◌==◌}
-use Rattle.std.proofs.lemmas.List.Elements.{filter-append}
+use Rattle.std.{proofs.lemmas.List.Elements.filter-append, specs.Prelude.filter, specs.Prelude.◌==◌}
 use Rattle.events.specs.declared.event.Event.{Event}
-use Rattle.town.specs.declared.day_input.DayInput.{DayInput}
-use Rattle.town.specs.Views.{setup}
-use Rattle.traffic.specs.Day.{second_events, world_at}
-use Rattle.traffic.specs.Lists.{numbers}
+use Rattle.town.specs.{Views.setup, declared.day_input.DayInput.DayInput}
+use Rattle.traffic.specs.{Day.second_events, Day.world_at, Lists.numbers}
 use Rattle.parts.specs.Owners.{owner_of_event}
-use Rattle.partition.specs.Owned.{owner_in}
-use Rattle.partition.specs.declared.owner.Owner.{Owner}
+use Rattle.partition.specs.{Owned.owner_in, declared.owner.Owner.Owner}
 use Rattle.divided_day.specs.Days.{told_at}
-use Rattle.streamed_day.specs.Coming.{seconds_from}
-use Rattle.streamed_day.proofs.Coming.{one_more}
+use Rattle.streamed_day.{proofs.Coming.one_more, specs.Coming.seconds_from}
 use Rattle.collected_day.specs.Spans.{told_from}
 
 pub none_told : (day : DayInput) (owner : Owner) (p begin : ℕ) → told_from day owner p begin 0 ≡ []

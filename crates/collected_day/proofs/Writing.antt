@@ -1,31 +1,21 @@
 -- A day that is written span by span.
-use Rattle.std.proofs.Common.{◌≡◌, ℕ, ◌-◌, ◌≤◌, true, false, List, [], ◌++◌, append-nil, arith, refl, sym, ap}
-use Rattle.std.proofs.Common.{◌∙◌, subst, subst₂, Result, Ok, Err}
+use Rattle.std.proofs.Common.{◌≡◌, ℕ, ◌-◌, ◌≤◌, true, false, List, [], ◌++◌, append-nil, arith, refl, sym, ap, ◌∙◌, subst, subst₂, Result, Ok, Err}
 use Rattle.std.proofs.lemmas.Grind.{flat_map-append}
 use Rattle.edge_files.specs.declared.files.OutFile.TheVariants as out
 use Rattle.edge_files.specs.World.{Written, Writes, WritesPart, byte_steps}
-use Rattle.events.specs.declared.event.Book.{Book}
-use Rattle.events.specs.declared.event.Event.{Event}
-use Rattle.events.specs.Lines.{AreInBook, event_line, event_lines}
+use Rattle.events.specs.{Lines.AreInBook, Lines.event_line, Lines.event_lines, declared.event.Book.Book, declared.event.Event.Event}
 use Rattle.scoring.specs.Tables.{ScoringRows}
-use Rattle.event_handler.specs.declared.handling.EventHandler.{EventHandler}
-use Rattle.event_handler.specs.declared.handling.SeenDay.{SeenDay}
 use Rattle.event_handler.specs.Handling.{kinds_of, persons_of, links_in, HasHandled, CanHandle, IsSeen}
-use Rattle.event_writer.specs.Writing.{IsWritten}
-use Rattle.event_writer.specs.declared.writing.StreamError.{StreamError}
-use Rattle.event_writer.specs.declared.writing.StreamError.TheVariants as error
+use Rattle.event_handler.specs.declared.handling.{EventHandler.EventHandler, SeenDay.SeenDay}
 use Rattle.event_writer.proofs.Streaming.{IsStreaming, streaming_first, streaming_more, streaming_failed, piece_named, piece_handled}
-use Rattle.event_writer.proofs.Written.{texts_then}
-use Rattle.streamed_day.specs.Coming.{seconds_from, to_come}
-use Rattle.streamed_day.proofs.Coming.{day_comes, span_piece, end_piece}
-use Rattle.traffic.specs.Day.{day}
-use Rattle.traffic.specs.Setup.{Setup}
+use Rattle.event_writer.{proofs.Written.texts_then, specs.Writing.IsWritten, specs.declared.writing.StreamError.StreamError}
+use Rattle.event_writer.specs.declared.writing.StreamError.TheVariants as error
+use Rattle.streamed_day.{proofs.Coming.day_comes, proofs.Coming.span_piece, proofs.Coming.end_piece, specs.Coming.seconds_from, specs.Coming.to_come}
+use Rattle.traffic.specs.{Day.day, Setup.Setup}
 use Rattle.partition.specs.declared.owner.Owner.{Owner}
-use Rattle.town.specs.Views.{setup}
-use Rattle.town.specs.declared.day_input.DayInput.{DayInput}
-use Rattle.collected_day.specs.declared.taking.Taking.{Taking}
-use Rattle.collected_day.specs.Spans.{told_at_end}
-use Rattle.collected_day.specs.Taking.{IsTaking, HasTaken, CanHandleMore, HasHandledMore, HasHandledOn, HasSeenMore}
+use Rattle.town.specs.{Views.setup, declared.day_input.DayInput.DayInput}
+use Rattle.collected_day.specs.{Spans.told_at_end, Taking.IsTaking, Taking.HasTaken, Taking.CanHandleMore, Taking.HasHandledMore, Taking.HasHandledOn}
+use Rattle.collected_day.specs.{Taking.HasSeenMore, declared.taking.Taking.Taking}
 
 -- nothing is written yet, and all of the day is to come
 pub begins : (S : Setup) (end : ℕ) (scoring : ScoringRows) (book : Book) (handler : EventHandler) (old : Written) (faults : ℕ)

@@ -1,21 +1,14 @@
 -- What is done at the same time.
 use Rattle.std.specs.Prelude.{⊤, ◌≡◌, ℕ, ◌+◌, ◌-◌, ◌<◌, ◌≤◌, List}
-use Rattle.events.specs.declared.event.Event.{Event}
-use Rattle.events.specs.declared.event.Book.{Book}
-use Rattle.events.specs.Lines.{AreInBook}
+use Rattle.events.specs.{Lines.AreInBook, declared.event.Book.Book, declared.event.Event.Event}
 use Rattle.partition.specs.declared.owner.Owner.{Owner}
 use Rattle.scoring.specs.Tables.{ScoringRows}
-use Rattle.step_core.specs.declared.part.Border.{Border}
-use Rattle.step_core.specs.Nets.{Net}
-use Rattle.step_core.specs.Views.{PartView}
+use Rattle.step_core.specs.{Nets.Net, Views.PartView, declared.part.Border.Border}
 use Rattle.streamed_day.specs.Coming.{seconds_from}
-use Rattle.town.specs.Views.{setup}
-use Rattle.town.specs.declared.day_input.DayInput.{DayInput}
-use Rattle.collected_day.specs.declared.spans.TheConstants.{SPAN_SECONDS}
-use Rattle.collected_day.specs.declared.jobs.Job.{Job}
+use Rattle.town.specs.{Views.setup, declared.day_input.DayInput.DayInput}
+use Rattle.collected_day.specs.{Spans.IsUnderWay, Taking.IsTaking, Taking.HasTaken, Taking.CanHandleMore}
+use Rattle.collected_day.specs.declared.{jobs.Job.Job, spans.TheConstants.SPAN_SECONDS}
 use Rattle.collected_day.specs.declared.jobs.Job.TheVariants as job
-use Rattle.collected_day.specs.Spans.{IsUnderWay}
-use Rattle.collected_day.specs.Taking.{IsTaking, HasTaken, CanHandleMore}
 
 -- one span more was done, or what was left of a day of so many seconds
 pub record HasRunSpan (end old_second new_second : ℕ) : Type 0 where

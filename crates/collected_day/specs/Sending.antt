@@ -1,19 +1,12 @@
 -- Partitions that send what they tell.
-use Rattle.std.specs.Prelude.{◌≡◌, ℕ, ◌+◌, ◌-◌, ◌*◌, ◌<◌, ◌≤◌, Bool, true, false, List, []}
-use Rattle.std.specs.Prelude.{◌∷◌, length, get_or, IfSome}
+use Rattle.std.specs.Prelude.{◌≡◌, ℕ, ◌+◌, ◌-◌, ◌*◌, ◌<◌, ◌≤◌, Bool, true, false, List, [], ◌∷◌, length, get_or, IfSome}
 use Rattle.events.specs.declared.event.Event.{Event}
-use Rattle.event_pipe.specs.declared.senders.Sender.{Sender}
-use Rattle.event_pipe.specs.Pieces.{label}
-use Rattle.event_pipe.specs.Pipes.{sent, free}
+use Rattle.event_pipe.specs.{Pieces.label, Pipes.sent, Pipes.free, declared.senders.Sender.Sender}
 use Rattle.town.specs.declared.day_input.DayInput.{DayInput}
 use Rattle.partition.specs.declared.owner.Owner.{Owner}
-use Rattle.step_core.specs.Nets.{Net}
-use Rattle.step_core.specs.Views.{PartView}
-use Rattle.collected_day.specs.declared.spans.TheConstants.{SPAN_SECONDS}
-use Rattle.collected_day.specs.declared.sending.Outgoing.{Outgoing}
-use Rattle.collected_day.specs.declared.sending.SendingPart.{SendingPart}
-use Rattle.collected_day.specs.Spans.{told_from}
-use Rattle.collected_day.specs.Streams.{told_in_span, pieces_to}
+use Rattle.step_core.specs.{Nets.Net, Views.PartView}
+use Rattle.collected_day.specs.{Spans.told_from, Streams.told_in_span, Streams.pieces_to}
+use Rattle.collected_day.specs.declared.{sending.Outgoing.Outgoing, sending.SendingPart.SendingPart, spans.TheConstants.SPAN_SECONDS}
 
 -- Partition p of a day of so many seconds has done t of them, and has sent its label and what it told in the spans before the one in
 -- which it is, and keeps what it told in that. A place is free for each span that is left. Behind the last second all spans are sent.

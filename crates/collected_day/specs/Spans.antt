@@ -1,19 +1,13 @@
 -- Spans of seconds, and what partitions tell in them.
 use Rattle.std.specs.Prelude.{◌≡◌, ℕ, ◌*◌, ◌<◌, ◌≤◌, List, filter, ◌==◌}
 use Rattle.events.specs.declared.event.Event.{Event}
-use Rattle.town.specs.declared.day_input.DayInput.{DayInput}
-use Rattle.town.specs.Views.{setup}
+use Rattle.town.specs.{Views.setup, declared.day_input.DayInput.DayInput}
 use Rattle.parts.specs.Owners.{owner_of_event}
-use Rattle.partition.specs.Owned.{owner_in}
-use Rattle.partition.specs.declared.owner.Owner.{Owner}
-use Rattle.step_core.specs.declared.part.Border.{Border}
-use Rattle.step_core.specs.Nets.{Net}
-use Rattle.step_core.specs.Views.{PartView}
+use Rattle.partition.specs.{Owned.owner_in, declared.owner.Owner.Owner}
+use Rattle.step_core.specs.{Nets.Net, Views.PartView, declared.part.Border.Border}
 use Rattle.streamed_day.specs.Coming.{seconds_from}
-use Rattle.traffic.specs.Day.{end_events, world_at}
-use Rattle.traffic.specs.Setup.{Setup}
-use Rattle.workers.specs.declared.days.Running.{Running}
-use Rattle.workers.specs.Running.{IsRunning}
+use Rattle.traffic.specs.{Day.end_events, Day.world_at, Setup.Setup}
+use Rattle.workers.specs.{Running.IsRunning, declared.days.Running.Running}
 use Rattle.collected_day.specs.declared.spans.TheConstants.{SPAN_SECONDS}
 
 -- the events of n seconds from second t on that belong to partition p

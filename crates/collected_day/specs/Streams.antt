@@ -1,16 +1,12 @@
 -- What the partitions of a day tell span by span, and the pieces in which they hand it over.
 use Rattle.std.specs.Prelude.{◌≡◌, ℕ, ◌-◌, ◌*◌, ◌<◌, List, [], ◌∷◌, length, map}
 use Rattle.events.specs.declared.event.Event.{Event}
-use Rattle.event_pipe.specs.declared.pieces.Piece.{Piece}
-use Rattle.event_pipe.specs.Pieces.{label}
-use Rattle.event_pipe.specs.declared.gathering.Gather.{Gather}
-use Rattle.event_pipe.specs.Pipes.{parts, gathered}
+use Rattle.event_pipe.specs.{Pieces.label, Pipes.parts, Pipes.gathered, declared.gathering.Gather.Gather, declared.pieces.Piece.Piece}
 use Rattle.law_in_range.specs.Setups.{HaveFittingPlans}
 use Rattle.town.specs.declared.day_input.DayInput.{DayInput}
 use Rattle.partition.specs.declared.owner.Owner.{Owner}
 use Rattle.traffic.specs.Lists.{below}
-use Rattle.collected_day.specs.declared.spans.TheConstants.{SPAN_SECONDS}
-use Rattle.collected_day.specs.Spans.{told_from}
+use Rattle.collected_day.specs.{Spans.told_from, declared.spans.TheConstants.SPAN_SECONDS}
 
 -- how many seconds the k-th span of a day of so many seconds has: those of a span, or what is left of the day where that is less (a
 -- subtraction stops at 0)

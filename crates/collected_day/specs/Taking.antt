@@ -1,19 +1,13 @@
 -- Who takes the events of a day, span by span.
 use Rattle.std.specs.Prelude.{◌≡◌, ℕ, ◌+◌, ◌-◌, ◌*◌, ◌<◌, ◌≤◌, List, ◌++◌}
-use Rattle.events.specs.declared.event.Event.{Event}
-use Rattle.events.specs.declared.event.Book.{Book}
-use Rattle.events.specs.Lines.{event_lines}
-use Rattle.event_handler.specs.declared.handling.EventHandler.{EventHandler}
-use Rattle.event_handler.specs.declared.handling.SeenDay.{SeenDay}
+use Rattle.events.specs.{Lines.event_lines, declared.event.Book.Book, declared.event.Event.Event}
 use Rattle.event_handler.specs.Handling.{kinds_of, persons_of, links_in, HasHandled, CanHandle, IsSeen}
+use Rattle.event_handler.specs.declared.handling.{EventHandler.EventHandler, SeenDay.SeenDay}
 use Rattle.partition.specs.declared.owner.Owner.{Owner}
 use Rattle.scoring.specs.Tables.{ScoringRows}
 use Rattle.streamed_day.specs.Coming.{seconds_from}
-use Rattle.town.specs.Views.{setup}
-use Rattle.town.specs.declared.day_input.DayInput.{DayInput}
-use Rattle.collected_day.specs.declared.spans.TheConstants.{SPAN_SECONDS}
-use Rattle.collected_day.specs.declared.taking.Taking.{Taking}
-use Rattle.collected_day.specs.Streams.{IsComing, span_length}
+use Rattle.town.specs.{Views.setup, declared.day_input.DayInput.DayInput}
+use Rattle.collected_day.specs.{Streams.IsComing, Streams.span_length, declared.spans.TheConstants.SPAN_SECONDS, declared.taking.Taking.Taking}
 
 -- a handler that stands for some events can handle these behind them, with some others that follow
 abbrev pub CanHandleMore : ScoringRows → List Event → EventHandler → Type 0

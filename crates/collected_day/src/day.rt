@@ -1,8 +1,7 @@
 //! A day on several threads that is written while it runs.
 
 ghost use Rattle.std.specs.Prelude.{◌≡◌, ◌-◌, ◌<◌, ◌≤◌, ℕ, true, IfOk};
-ghost use Rattle.collected_day.specs.Spans.{IsUnderWay, told_at_end};
-ghost use Rattle.collected_day.specs.Streams.{TellsOf};
+ghost use Rattle.collected_day.specs.{Spans.IsUnderWay, Spans.told_at_end, Streams.TellsOf};
 ghost use Rattle.collected_day.specs.Taking.{IsTaking, CanHandleMore, HasHandledOn, HasSeenMore};
 ghost use Rattle.event_handler.specs.Handling.{kinds_of, links_in, links_seen};
 ghost use Rattle.event_writer.specs.Writing.{IsWritten, CanTake, AreWritten};
@@ -11,8 +10,7 @@ ghost use Rattle.law_in_range.specs.Setups.{HaveFittingPlans};
 ghost use Rattle.partition.specs.declared.owner.Owner.{Owner};
 ghost use Rattle.scoring.specs.Tables.{scoring_rows};
 ghost use Rattle.streamed_day.specs.Coming.{seconds_from};
-ghost use Rattle.town.specs.Views.{setup};
-ghost use Rattle.town.specs.declared.day_input.DayInput.{DayInput};
+ghost use Rattle.town.specs.{Views.setup, declared.day_input.DayInput.DayInput};
 ghost use Rattle.traffic.specs.Day as traffic_day;
 ghost use Rattle.workers.specs.Running.{IsRunning};
 

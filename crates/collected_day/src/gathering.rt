@@ -3,10 +3,8 @@
 ghost use Rattle.std.specs.Prelude.{◌≡◌, ◌+◌, ◌*◌, ℕ, IfOk};
 ghost use Rattle.partition.specs.declared.owner.Owner.{Owner};
 ghost use Rattle.streamed_day.specs.Coming.{seconds_from};
-ghost use Rattle.town.specs.Views.{setup};
-ghost use Rattle.town.specs.declared.day_input.DayInput.{DayInput};
-ghost use Rattle.collected_day.specs.declared.spans.TheConstants.{SPAN_SECONDS};
-ghost use Rattle.collected_day.specs.Streams.{IsComing, span_length};
+ghost use Rattle.town.specs.{Views.setup, declared.day_input.DayInput.DayInput};
+ghost use Rattle.collected_day.specs.{Streams.IsComing, Streams.span_length, declared.spans.TheConstants.SPAN_SECONDS};
 
 use crate::stream::{Spanwise, Stream};
 use event_merge::merge;

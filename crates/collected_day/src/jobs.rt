@@ -1,8 +1,7 @@
 //! What is done at the same time: the partitions go on, and what they told before is taken.
 
 ghost use Rattle.std.specs.Prelude.{◌≡◌, ◌-◌, ◌<◌, IfOk};
-ghost use Rattle.collected_day.specs.Jobs.{CanBeDone, IsDone, HasRunSpan};
-ghost use Rattle.collected_day.specs.Spans.{IsUnderWay};
+ghost use Rattle.collected_day.specs.{Jobs.CanBeDone, Jobs.IsDone, Jobs.HasRunSpan, Spans.IsUnderWay};
 ghost use Rattle.collected_day.specs.Taking.{IsTaking, HasTaken, CanHandleMore};
 ghost use Rattle.events.specs.Lines.{AreInBook};
 ghost use Rattle.scoring.specs.Tables.{scoring_rows};

@@ -1,8 +1,7 @@
 //! The partitions of a day on several threads, span by span.
 
 ghost use Rattle.std.specs.Prelude.{◌≡◌, ◌<◌, IfOk};
-ghost use Rattle.collected_day.specs.Jobs.{HasRunSpan};
-ghost use Rattle.collected_day.specs.Spans.{IsUnderWay};
+ghost use Rattle.collected_day.specs.{Jobs.HasRunSpan, Spans.IsUnderWay};
 
 use crate::spans::span_end;
 use divided_day::DayPart;

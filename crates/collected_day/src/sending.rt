@@ -3,8 +3,7 @@
 ghost use Rattle.std.specs.Prelude.{◌≡◌, ℕ, ◌+◌, ◌-◌, ◌<◌, ◌≤◌, true, refl, length, IfOk};
 ghost use Rattle.event_pipe.specs.Pipes.{sent, free};
 ghost use Rattle.step_core.specs.Views.{EachAt, HasDone};
-ghost use Rattle.collected_day.specs.Sending.{IsSendingOf, IsSending, AreNewSenders};
-ghost use Rattle.collected_day.specs.Streams.{TellsOf};
+ghost use Rattle.collected_day.specs.{Sending.IsSendingOf, Sending.IsSending, Sending.AreNewSenders, Streams.TellsOf};
 
 use crate::spans::SPAN_SECONDS;
 use crate::stream::{Spanwise, Stream};

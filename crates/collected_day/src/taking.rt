@@ -5,8 +5,7 @@ ghost use Rattle.events.specs.Lines.{AreInBook};
 ghost use Rattle.partition.specs.declared.owner.Owner.{Owner};
 ghost use Rattle.scoring.specs.Tables.{scoring_rows};
 ghost use Rattle.streamed_day.specs.Coming.{seconds_from};
-ghost use Rattle.town.specs.Views.{setup};
-ghost use Rattle.town.specs.declared.day_input.DayInput.{DayInput};
+ghost use Rattle.town.specs.{Views.setup, declared.day_input.DayInput.DayInput};
 ghost use Rattle.collected_day.specs.Taking.{IsTaking, HasTaken, CanHandleMore};
 
 use crate::gathering::next_span;

@@ -1,21 +1,14 @@
 -- What clap's answer to the words of a command says.
 use Rattle.std.proofs.Common.{◌≡◌, ◌≢◌, ◌∙◌, arith, inl, inr, ℕ, Bool, true, List, [], ◌∷◌, refl, sym, ap, subst}
-use Rattle.clap.specs.Kinds.{HasKind, IsAmong, Kinds}
+use Rattle.std.{proofs.lemmas.Result.IfOk-weaker, specs.Prelude.Result, specs.Prelude.IfOk}
+use Rattle.clap.{proofs.OnLiterals.clap_on_literals, specs.Kinds.HasKind, specs.Kinds.IsAmong, specs.Kinds.Kinds}
 use Rattle.clap.specs.Words.{App, HasMatchesOf, fault_of, found_of, is_simple, is_simple_and_free, kind_of, matches_of, rows_of}
-use Rattle.clap.specs.declared.error.Error.{Error}
+use Rattle.clap.specs.declared.error.{Error.Error, kind.ErrorKind.ErrorKind, kind.ErrorKind.TheVariants.OutOfMemory}
 use Rattle.clap.specs.declared.parser.matches.ArgMatches.{ArgMatches}
-use Rattle.clap.specs.declared.error.kind.ErrorKind.{ErrorKind}
-use Rattle.clap.specs.declared.error.kind.ErrorKind.TheVariants.{OutOfMemory}
-use Rattle.clap.proofs.OnLiterals.{clap_on_literals}
-use Rattle.std.specs.Prelude.{Result, IfOk}
-use Rattle.std.proofs.lemmas.Result.{IfOk-weaker}
-use Rattle.command_line.specs.Cases.{Case, Work, asked_case, kind_case, kinds_case, simple_case, work_with}
-use Rattle.command_line.specs.declared.reading.Asked.{Asked}
-use Rattle.command_line.specs.Commands.{simple_command}
-use Rattle.command_line.specs.declared.commands.Command.{Command}
-use Rattle.command_line.specs.declared.commands.CommandName.{CommandName}
-use Rattle.command_line.specs.declared.commands.CommandName.TheVariants.{Run, Resume, Check, Route, Generate}
-use Rattle.command_line.proofs.OneKind.{Few, one_kind}
+use Rattle.command_line.{proofs.OneKind.Few, proofs.OneKind.one_kind, specs.Cases.Case, specs.Cases.Work, specs.Cases.asked_case, specs.Cases.kind_case}
+use Rattle.command_line.specs.{Cases.kinds_case, Cases.simple_case, Cases.work_with, Commands.simple_command, declared.commands.Command.Command}
+use Rattle.command_line.specs.declared.commands.CommandName.{CommandName, TheVariants.Run, TheVariants.Resume, TheVariants.Check, TheVariants.Route}
+use Rattle.command_line.specs.declared.{commands.CommandName.TheVariants.Generate, reading.Asked.Asked}
 
 -- clap tells exactly which words it takes
 is_plain : (name : CommandName) → is_simple_and_free (simple_command name) ≡ true

@@ -1,31 +1,17 @@
 -- The positions and options of a command: what a parse of it gives.
-use Rattle.std.proofs.Common.{◌≡◌, ◌≢◌, ◌∙◌, ◌<◌, ◌≤◌, ◌++◌, arith, ap, ap₂, sym, subst, refl, inl, inr, ℕ, zero, suc, true, false, Bool}
-use Rattle.std.proofs.Common.{List, [], ◌∷◌, length, Option, Some, None, codes, slice_index, option_map, unwrap_or}
-use Rattle.std.specs.Prelude.{option_and_then, pos, slice_get}
-use Rattle.std.specs.Borrow.{Bor}
-use Rattle.std.specs.List.{All, slice_index_or}
-use Rattle.std.specs.Str.{bytes_eq}
-use Rattle.std.proofs.Common.{append-nil, append_assoc, map}
-use Rattle.std.specs.Prelude.{not, ◌&&◌, ◌||◌, ◌⊎◌}
-use Rattle.std.proofs.lemmas.Bool.{and_parts}
-use Rattle.std.proofs.lemmas.List.{length-map, get_or-map}
-use Rattle.std.proofs.lemmas.List.Elements.{All-get_or, All-nil}
-use Rattle.std.proofs.lemmas.Slice.Eq.{bytes_eq-Decides}
+use Rattle.std.proofs.Common.{◌≡◌, ◌≢◌, ◌∙◌, ◌<◌, ◌≤◌, ◌++◌, arith, ap, ap₂, sym, subst, refl, inl, inr, ℕ, zero, suc, true, false, Bool, List, [], ◌∷◌, length}
+use Rattle.std.proofs.Common.{Option, Some, None, codes, slice_index, option_map, unwrap_or, append-nil, append_assoc, map}
+use Rattle.std.proofs.lemmas.{Bool.and_parts, List.length-map, List.get_or-map, List.Elements.All-get_or, List.Elements.All-nil, Slice.Eq.bytes_eq-Decides}
+use Rattle.std.specs.{Borrow.Bor, List.All, List.slice_index_or, Prelude.option_and_then, Prelude.pos, Prelude.slice_get, Prelude.not, Prelude.◌&&◌}
+use Rattle.std.specs.{Prelude.◌||◌, Prelude.◌⊎◌, Str.bytes_eq}
+use Rattle.clap.proofs.{CallerLemmas.added_plain, CallerLemmas.entry_by_id, CallerLemmas.same_rules_by_id, CallerReads.required_reads}
 use Rattle.clap.specs.Built.{AddsArg, IsAuto, IsParsedFrom, IsPlain, IsPlainArg, SameRules}
 use Rattle.clap.specs.Facts.{Entry, EntryPasses, HasReading, PassesArg, args_of, groups_of, least_values, parser_of, parser_of_value}
 use Rattle.clap.specs.Words.{Accepts, App, Rule, app_of, found_of, matched_of, one_text, read_as, reading_of, with_rule}
-use Rattle.clap.specs.declared.builder.action.ArgAction.{ArgAction}
-use Rattle.clap.specs.declared.builder.action.ArgAction.TheVariants.{Set}
-use Rattle.clap.specs.declared.builder.arg.Arg.{Arg}
-use Rattle.clap.specs.declared.builder.command.Command.{Command}
-use Rattle.clap.specs.declared.builder.command.Command.TheViews.{out-Command}
-use Rattle.clap.specs.declared.builder.value_parser.Reading.{Reading}
-use Rattle.clap.specs.declared.builder.value_parser.ValueParser.{ValueParser}
+use Rattle.clap.specs.declared.builder.{action.ArgAction.ArgAction, action.ArgAction.TheVariants.Set, arg.Arg.Arg, command.Command.Command}
+use Rattle.clap.specs.declared.builder.{command.Command.TheViews.out-Command, value_parser.Reading.Reading, value_parser.ValueParser.ValueParser}
+use Rattle.clap.specs.declared.parser.matches.{ArgMatches.ArgMatches, MatchedArg.MatchedArg}
 use Rattle.clap.specs.declared.builder.value_parser.ValueParser.TheVariants as parsers
-use Rattle.clap.specs.declared.parser.matches.ArgMatches.{ArgMatches}
-use Rattle.clap.specs.declared.parser.matches.MatchedArg.{MatchedArg}
-use Rattle.clap.proofs.CallerLemmas.{added_plain, entry_by_id, same_rules_by_id}
-use Rattle.clap.proofs.CallerReads.{required_reads}
 use Rattle.limits.specs.declared.TheConstants.{MAX_PARTITIONS}
 use Rattle.command_line.specs.Commands.{with_execution}
 use Rattle.command_line.specs.Given.{AddsExecution, IsArgument, IsBare, HasNumber, HasLongNumber, HasFlag, HasExecution, MayHaveNumber}

@@ -1,22 +1,14 @@
 -- A command of its own, which is no subcommand and has none, answers words that it does not take by one kind.
-use Rattle.std.proofs.Common.{◌≡◌, ◌≤◌, length, arith, ◌&&◌, ℕ, zero, suc, Bool, true, false, not, if◌then◌else◌, List, [], ◌∷◌, Option}
-use Rattle.std.proofs.Common.{Some, None}
-use Rattle.std.specs.Option.{option_map_or}
-use Rattle.std.specs.Prelude.{drop, encode_utf8}
-use Rattle.clap.specs.Kinds.{Kinds, or_else, value_kinds, values_kinds, range_kinds, request_kinds}
-use Rattle.clap.specs.Walk.{Held, Names, Row, Rule, Step, Text, Walk, value, arg_by_id, arg_by_index, arg_by_long, arg_by_short, finished}
-use Rattle.clap.specs.Walk.{settled, subcommand_met, walk, word_met}
-use Rattle.clap.specs.Lexer.{long_of}
-use Rattle.clap.specs.Simple.{App, Shape}
-use Rattle.clap.specs.Faults.{count_fault, action_fault, use_fault, settle_fault, react_fault, option_fault, long_fault, short_fault}
-use Rattle.clap.specs.Faults.{bundle_step_fault, flags_fault, flag_word_fault, other_fault, step_fault, turn_fault, walk_fault}
-use Rattle.clap.specs.Faults.{default_fault, defaults_fault, stray_fault, positional_fault, check_fault, level_fault, entered_fault}
-use Rattle.clap.specs.Faults.{built_fault}
-use Rattle.clap.specs.declared.builder.action.ArgAction.{ArgAction}
-use Rattle.clap.specs.declared.builder.action.ArgAction.TheVariants.{Set, Append, SetTrue, SetFalse, Count, Help, HelpShort, HelpLong}
-use Rattle.clap.specs.declared.builder.action.ArgAction.TheVariants.{Version}
-use Rattle.clap.specs.declared.builder.value_parser.ValueParser.{ValueParser}
-use Rattle.clap.specs.declared.error.kind.ErrorKind.{ErrorKind}
+use Rattle.std.proofs.Common.{◌≡◌, ◌≤◌, length, arith, ◌&&◌, ℕ, zero, suc, Bool, true, false, not, if◌then◌else◌, List, [], ◌∷◌, Option, Some, None}
+use Rattle.std.specs.{Option.option_map_or, Prelude.drop, Prelude.encode_utf8}
+use Rattle.clap.specs.Faults.{count_fault, action_fault, use_fault, settle_fault, react_fault, option_fault, long_fault, short_fault, bundle_step_fault}
+use Rattle.clap.specs.Faults.{flags_fault, flag_word_fault, other_fault, step_fault, turn_fault, walk_fault, default_fault, defaults_fault, stray_fault}
+use Rattle.clap.specs.{Faults.positional_fault, Faults.check_fault, Faults.level_fault, Faults.entered_fault, Faults.built_fault, Kinds.Kinds, Kinds.or_else}
+use Rattle.clap.specs.{Kinds.value_kinds, Kinds.values_kinds, Kinds.range_kinds, Kinds.request_kinds, Lexer.long_of, Simple.App, Simple.Shape, Walk.Held}
+use Rattle.clap.specs.Walk.{Names, Row, Rule, Step, Text, Walk, value, arg_by_id, arg_by_index, arg_by_long, arg_by_short, finished, settled, subcommand_met}
+use Rattle.clap.specs.{Walk.walk, Walk.word_met, declared.builder.action.ArgAction.ArgAction}
+use Rattle.clap.specs.declared.builder.action.ArgAction.TheVariants.{Set, Append, SetTrue, SetFalse, Count, Help, HelpShort, HelpLong, Version}
+use Rattle.clap.specs.declared.{builder.value_parser.ValueParser.ValueParser, error.kind.ErrorKind.ErrorKind}
 
 -- no kind or one
 pub record Few (kinds : Kinds) : Type 0 where

@@ -1,17 +1,9 @@
 -- What was given for positions, as the rows of clap's matches have it.
-use Rattle.std.proofs.Common.{◌≡◌, ◌∙◌, ◌<◌, ◌≤◌, ◌^◌, arith, ap, sym, subst, refl, inl, inr, ℕ, pos, Bool, true, false, List, [], Option}
-use Rattle.std.proofs.Common.{None, Some}
-use Rattle.std.proofs.Common.{codes}
-use Rattle.std.specs.Prelude.{Result, Ok, option_map, unwrap_or}
-use Rattle.std.specs.Option.{option_map_or}
-use Rattle.std.specs.Borrow.{Bor}
-use Rattle.std.specs.Str.{bytes_eq}
+use Rattle.std.proofs.Common.{◌≡◌, ◌∙◌, ◌<◌, ◌≤◌, ◌^◌, arith, ap, sym, subst, refl, inl, inr, ℕ, pos, Bool, true, false, List, [], Option, None, Some, codes}
+use Rattle.std.specs.{Borrow.Bor, Option.option_map_or, Prelude.Result, Prelude.Ok, Prelude.option_map, Prelude.unwrap_or, Str.bytes_eq}
 use Rattle.std.specs.Str.Parse.{ParsesUnsigned, digits_value, without_leading_plus}
-use Rattle.clap.specs.Matches.{ReadsOne}
-use Rattle.clap.specs.Words.{IsSignedIn, first_value, one_text, rows_of, without_minus}
-use Rattle.clap.specs.declared.parser.matches.Found.{Found}
-use Rattle.clap.proofs.WalkLemmas.{first_value-rows, one_text-rows}
-use Rattle.clap.proofs.CallerReads.{signed_reads}
+use Rattle.clap.{proofs.CallerReads.signed_reads, proofs.WalkLemmas.first_value-rows, proofs.WalkLemmas.one_text-rows, specs.Matches.ReadsOne}
+use Rattle.clap.specs.{Words.IsSignedIn, Words.first_value, Words.one_text, Words.rows_of, Words.without_minus, declared.parser.matches.Found.Found}
 use Rattle.command_line.specs.Commands.{number_in, number_of, number_or, text_in, is_set}
 use Rattle.command_line.specs.Given.{MayHaveNumber, HasFlag}
 use Rattle.command_line.specs.declared.commands.Command.TheVariants as command

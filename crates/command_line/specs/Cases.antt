@@ -1,15 +1,11 @@
 -- What the words of the command line ask for.
 use Rattle.std.specs.Prelude.{⊤, ℕ, Bool, false, ◌||◌, bytes_eq, codes, if◌then◌else◌, List, [], ◌∷◌, Option, None, Some}
-use Rattle.clap.specs.Kinds.{Kinds}
-use Rattle.clap.specs.Words.{Row, fault_of, matches_of}
-use Rattle.clap.specs.declared.error.kind.ErrorKind.{ErrorKind}
-use Rattle.clap.specs.declared.error.kind.ErrorKind.TheVariants.{DisplayHelp}
+use Rattle.clap.specs.{Kinds.Kinds, Words.Row, Words.fault_of, Words.matches_of}
+use Rattle.clap.specs.declared.error.kind.ErrorKind.{ErrorKind, TheVariants.DisplayHelp}
 use Rattle.command_line.specs.Commands.{command_named, simple_command, command_with, partitions_in, workers_in, streams_in, IsInRange}
-use Rattle.command_line.specs.declared.TheConstants.{DEFAULT_PARTITIONS, DEFAULT_WORKERS}
-use Rattle.command_line.specs.declared.commands.Command.{Command}
-use Rattle.command_line.specs.declared.commands.CommandName.{CommandName}
-use Rattle.command_line.specs.declared.commands.CommandName.TheVariants.{Run, Resume, Check, Route, Generate}
-use Rattle.command_line.specs.declared.reading.Asked.{Asked}
+use Rattle.command_line.specs.declared.{TheConstants.DEFAULT_PARTITIONS, TheConstants.DEFAULT_WORKERS, commands.Command.Command}
+use Rattle.command_line.specs.declared.commands.CommandName.{CommandName, TheVariants.Run, TheVariants.Resume, TheVariants.Check, TheVariants.Route}
+use Rattle.command_line.specs.declared.{commands.CommandName.TheVariants.Generate, reading.Asked.Asked}
 use Rattle.command_line.specs.declared.reading.Asked.TheVariants as asked
 
 -- words ask for a command's work, with its days in so many partitions and by so many workers, and their events written while they run or

@@ -1,19 +1,16 @@
 -- The commands of the program.
 use Rattle.std.specs.Prelude.{◌≤◌, ⊤, ℕ, Bool, pos, true, false, bytes_eq, codes, unwrap_or, if◌then◌else◌, List, [], Option, None, Some}
-use Rattle.std.specs.Option.{option_map_or}
-use Rattle.std.specs.Str.Parse.{digits_value, without_leading_plus}
+use Rattle.std.specs.{Option.option_map_or, Str.Parse.digits_value, Str.Parse.without_leading_plus}
 use Rattle.clap.specs.Words.{App, Row, Rule, new_app, new_rule, with_rule, first_of, one_of}
 use Rattle.clap.specs.declared.builder.action.ArgAction.TheVariants.{Set, SetTrue}
 use Rattle.clap.specs.declared.builder.value_parser.ValueParser.TheVariants as parsers
 use Rattle.learning.specs.declared.TheConstants.{LAST_ITERATION}
 use Rattle.limits.specs.declared.TheConstants.{LAST_SECOND, MAX_PARTITIONS}
-use Rattle.workload.specs.Grids.{IsGrid}
-use Rattle.workload.specs.declared.TheConstants.{LEAST_SIZE, MOST_SIZE}
+use Rattle.workload.specs.{Grids.IsGrid, declared.TheConstants.LEAST_SIZE, declared.TheConstants.MOST_SIZE}
 use Rattle.command_line.specs.declared.TheConstants.{DEFAULT_LAST_ITERATION, DEFAULT_PARTITIONS, DEFAULT_WORKERS}
-use Rattle.command_line.specs.declared.commands.Command.{Command}
-use Rattle.command_line.specs.declared.commands.Command.TheVariants as command
-use Rattle.command_line.specs.declared.commands.CommandName.{CommandName}
+use Rattle.command_line.specs.declared.commands.{Command.Command, CommandName.CommandName}
 use Rattle.command_line.specs.declared.commands.CommandName.TheVariants.{Run, Resume, Check, Route, Generate}
+use Rattle.command_line.specs.declared.commands.Command.TheVariants as command
 
 -- the command that a word names
 unfoldable pub command_named : List ℕ → Option CommandName

@@ -1,12 +1,8 @@
 -- The positions and options of a command, and what clap gives for them.
 use Rattle.std.specs.Prelude.{◌≡◌, ◌≤◌, ◌⊎◌, ℕ, pos, false, codes, List, [], None, Some}
-use Rattle.clap.specs.Facts.{args_of, groups_of, least_values}
-use Rattle.clap.specs.Built.{AddsArg}
+use Rattle.clap.specs.{Built.AddsArg, Facts.args_of, Facts.groups_of, Facts.least_values}
 use Rattle.clap.specs.Words.{IsPlainArg, IsSignedIn, IsUnsignedIn, Rule, one_text, rule_of, without_minus}
-use Rattle.clap.specs.declared.builder.arg.Arg.{Arg}
-use Rattle.clap.specs.declared.builder.command.Command.{Command}
-use Rattle.clap.specs.declared.builder.command.Command.TheViews.{out-Command}
-use Rattle.clap.specs.declared.parser.matches.Found.{Found}
+use Rattle.clap.specs.declared.{builder.arg.Arg.Arg, builder.command.Command.Command, builder.command.Command.TheViews.out-Command, parser.matches.Found.Found}
 use Rattle.learning.specs.declared.TheConstants.{LAST_ITERATION}
 use Rattle.limits.specs.declared.TheConstants.{LAST_SECOND, MAX_PARTITIONS}
 use Rattle.workload.specs.declared.TheConstants.{LEAST_SIZE, MOST_SIZE}

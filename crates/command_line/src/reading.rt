@@ -2,8 +2,7 @@ ghost use Rattle.std.specs.Prelude.{◌≡◌, ◌≢◌, ◌∷◌, List, IfOk,
 ghost use Rattle.clap.specs.Words.{IsParsedFrom, Row, app_of, found_of, kind_of, rows_of};
 ghost use Rattle.clap.specs.declared.parser.matches.ArgMatches.{ArgMatches};
 ghost use Rattle.command_line.specs.Cases.{asks_for_help, asked_case, case_of, kind_case, simple_case, simulation, work_with, AsksInRange};
-ghost use Rattle.command_line.specs.Commands.{simple_command, IsInRange};
-ghost use Rattle.command_line.specs.Given.{HasExecution};
+ghost use Rattle.command_line.specs.{Commands.simple_command, Commands.IsInRange, Given.HasExecution};
 
 use crate::commands::{
     Command, CommandName, check_command, command_named, generate_command, resume_command,

@@ -1,18 +1,11 @@
 -- The scores of the persons, one more, and their sum.
-use Rattle.std.proofs.Common.{◌≡◌, ℕ, ◌+◌, ◌*◌, ◌<◌, ◌≤◌, List, [], ◌∷◌, ◌++◌, length, map, get_or, take, drop, ℤ, pos, ◌+ℤ◌, w64, to_z, of_z, sym, ap, ◌∙◌, subst, append_assoc, append-nil, add-one, drop_of_length-le, arith}
+use Rattle.std.proofs.Common.{◌≡◌, ℕ, ◌+◌, ◌*◌, ◌<◌, ◌≤◌, List, [], ◌∷◌, ◌++◌, length, map, get_or, take, drop, ℤ, pos, ◌+ℤ◌, w64, to_z, of_z, sym, ap, ◌∙◌}
+use Rattle.std.proofs.{Common.subst, Common.append_assoc, Common.append-nil, Common.add-one, Common.drop_of_length-le, Common.arith, Math.Seq.drop-cons}
+use Rattle.std.proofs.lemmas.{Int.ints, List.length-map, List.get_or-map, List.take_more, List.FromFn.length-enumerate_from}
 use Rattle.std.specs.List.{enumerate_from}
-use Rattle.std.proofs.Math.Seq.{drop-cons}
-use Rattle.std.proofs.lemmas.Int.{ints}
-use Rattle.std.proofs.lemmas.List.{length-map, get_or-map, take_more}
-use Rattle.std.proofs.lemmas.List.FromFn.{length-enumerate_from}
-use Rattle.events.specs.declared.event.Event.{Event}
-use Rattle.events.specs.Persons.{own_events}
-use Rattle.scoring.specs.declared.TheConstants.{MAX_SCORE}
-use Rattle.scoring.specs.declared.scorer.Scorer.{Scorer}
-use Rattle.scoring.specs.Ranges.{IsWithin}
-use Rattle.scoring.specs.Score.{score, total}
-use Rattle.scoring.specs.Tables.{ScoringRows}
-use Rattle.scoring.specs.Taken.{first_kind_of}
+use Rattle.events.specs.{Persons.own_events, declared.event.Event.Event}
+use Rattle.scoring.specs.{Ranges.IsWithin, Score.score, Score.total, Tables.ScoringRows, Taken.first_kind_of}
+use Rattle.scoring.specs.declared.{TheConstants.MAX_SCORE, scorer.Scorer.Scorer}
 use Rattle.day_scores.specs.Scores.{score_of, scores_of}
 
 -- one more score: those so far, and those from this place on, are all

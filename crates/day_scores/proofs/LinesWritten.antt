@@ -1,11 +1,7 @@
 -- The line of one person comes off the front of those that are still to be written.
-use Rattle.std.proofs.Common.{◌≡◌, ℕ, ◌+◌, ◌<◌, ◌≤◌, List, [], ◌++◌, length, get_or, drop, ℤ, pos, FitsSigned, w64, to_z, of_z, sym, ap, ◌∙◌, append_assoc, append-nil, arith}
-use Rattle.std.specs.Prelude.{codes, decimal}
-use Rattle.std.specs.Fmt.{signed_decimal}
-use Rattle.std.specs.List.{flat_map, zip}
-use Rattle.std.proofs.lemmas.Int.{ints}
-use Rattle.std.proofs.lemmas.List.{drop_more}
-use Rattle.std.proofs.Common.{drop_of_length-le}
+use Rattle.std.proofs.Common.{◌≡◌, ℕ, ◌+◌, ◌<◌, ◌≤◌, List, [], ◌++◌, length, get_or, drop, ℤ, pos, FitsSigned, w64, to_z, of_z, sym, ap, ◌∙◌, append_assoc}
+use Rattle.std.proofs.{Common.append-nil, Common.arith, Common.drop_of_length-le, lemmas.Int.ints, lemmas.List.drop_more}
+use Rattle.std.specs.{Fmt.signed_decimal, List.flat_map, List.zip, Prelude.codes, Prelude.decimal}
 use Rattle.day_scores.specs.Texts.{score_line, row_line}
 
 -- the pieces of a line, one after the other

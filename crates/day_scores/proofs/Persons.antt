@@ -1,12 +1,8 @@
 -- The events of a person, one event more.
-use Rattle.std.proofs.Common.{◌≡◌, ℕ, suc, ◌+◌, ◌<◌, true, false, nat_eq, List, [], ◌∷◌, ◌++◌}
-use Rattle.std.proofs.Common.{length, get_or, take, drop, None, Some, sym, ap, ◌∙◌, subst, append-nil}
-use Rattle.std.proofs.Common.{append_assoc, length-append, arith}
-use Rattle.std.proofs.Math.Seq.{drop-cons, get_or-append_seam, take-append_seam}
-use Rattle.std.proofs.lemmas.List.{take-append-drop}
-use Rattle.std.proofs.lemmas.List.Elements.{filter-append}
-use Rattle.events.specs.declared.event.Event.{Event}
-use Rattle.events.specs.Persons.{names, of_person, own_events}
+use Rattle.std.proofs.Common.{◌≡◌, ℕ, suc, ◌+◌, ◌<◌, true, false, nat_eq, List, [], ◌∷◌, ◌++◌, length, get_or, take, drop, None, Some, sym, ap, ◌∙◌, subst}
+use Rattle.std.proofs.{Common.append-nil, Common.append_assoc, Common.length-append, Common.arith, Math.Seq.drop-cons, Math.Seq.get_or-append_seam}
+use Rattle.std.proofs.{Math.Seq.take-append_seam, lemmas.List.take-append-drop, lemmas.List.Elements.filter-append}
+use Rattle.events.specs.{Persons.names, Persons.of_person, Persons.own_events, declared.event.Event.Event}
 use Rattle.scoring.specs.Taken.{MayFollow, AllFollow}
 use Rattle.day_scores.specs.Standing.{AllCome, AreScored}
 

@@ -1,17 +1,11 @@
 -- Scorers that take the events of a day stand for them.
-use Rattle.std.proofs.Common.{◌≡◌, ◌≢◌, ℕ, zero, suc, ◌+◌, ◌<◌, false, nat_eq, List, []}
-use Rattle.std.proofs.Common.{◌∷◌, ◌++◌, length, map, get_or, take, Some, refl, sym, ap, ◌∙◌, subst, inl, inr}
-use Rattle.std.proofs.Common.{append_assoc, length-append, arith}
-use Rattle.std.proofs.Math.ListN.{set, get_or-append, get_or-map}
-use Rattle.std.proofs.Math.Seq.{get_or-append_seam}
-use Rattle.std.proofs.lemmas.Bool.{cases_Bool, cases_lt, eq-eqb, eqb-true}
-use Rattle.std.proofs.lemmas.Grind.{get_or-set_at}
+use Rattle.std.proofs.Common.{◌≡◌, ◌≢◌, ℕ, zero, suc, ◌+◌, ◌<◌, false, nat_eq, List, [], ◌∷◌, ◌++◌, length, map, get_or, take, Some, refl, sym, ap, ◌∙◌, subst}
+use Rattle.std.proofs.Common.{inl, inr, append_assoc, length-append, arith}
+use Rattle.std.proofs.Math.{ListN.set, ListN.get_or-append, ListN.get_or-map, Seq.get_or-append_seam}
+use Rattle.std.proofs.lemmas.{Bool.cases_Bool, Bool.cases_lt, Bool.eq-eqb, Bool.eqb-true, Grind.get_or-set_at}
 use Rattle.std.proofs.lemmas.List.{length-set, get_or-set_other, set-get_or, length-map, map-append, take_more}
-use Rattle.events.specs.declared.event.Event.{Event}
-use Rattle.events.specs.Persons.{of_person, own_events}
-use Rattle.scoring.specs.declared.scorer.Scorer.{Scorer}
-use Rattle.scoring.specs.Tables.{ScoringRows}
-use Rattle.scoring.specs.Taken.{first_kind_of, IsTakenBy}
+use Rattle.events.specs.{Persons.of_person, Persons.own_events, declared.event.Event.Event}
+use Rattle.scoring.specs.{Tables.ScoringRows, Taken.first_kind_of, Taken.IsTakenBy, declared.scorer.Scorer.Scorer}
 use Rattle.day_scores.specs.Standing.{StandFor, MayCome, AllCome}
 use Rattle.day_scores.proofs.Persons.{own-other, own-more, another, himself}
 

@@ -1,11 +1,8 @@
 -- The scores of a day.
-use Rattle.std.specs.Prelude.{ℕ, List, map, ℤ}
-use Rattle.std.specs.List.{enumerate_from}
-use Rattle.events.specs.declared.event.Event.{Event}
-use Rattle.events.specs.Persons.{own_events}
+use Rattle.std.specs.{List.enumerate_from, Prelude.ℕ, Prelude.List, Prelude.map, Prelude.ℤ}
+use Rattle.events.specs.{Persons.own_events, declared.event.Event.Event}
 use Rattle.rows.specs.PlanRows.{PlanRows, act_in}
-use Rattle.scoring.specs.Score.{score}
-use Rattle.scoring.specs.Tables.{ScoringRows}
+use Rattle.scoring.specs.{Score.score, Tables.ScoringRows}
 
 -- the kind of the first activity of a plan
 abbrev pub first_kind : PlanRows → ℕ

@@ -1,10 +1,7 @@
 -- What the scorers of a day's persons stand for.
 use Rattle.std.specs.Prelude.{◌≡◌, ◌<◌, ◌++◌, ℕ, true, List, length, get_or, take}
-use Rattle.events.specs.declared.event.Event.{Event}
-use Rattle.events.specs.Persons.{of_person, own_events}
-use Rattle.scoring.specs.declared.scorer.Scorer.{Scorer}
-use Rattle.scoring.specs.Tables.{ScoringRows}
-use Rattle.scoring.specs.Taken.{MayFollow, AllFollow, IsTakenBy}
+use Rattle.events.specs.{Persons.of_person, Persons.own_events, declared.event.Event.Event}
+use Rattle.scoring.specs.{Tables.ScoringRows, Taken.MayFollow, Taken.AllFollow, Taken.IsTakenBy, declared.scorer.Scorer.Scorer}
 
 -- by these tables each of the scorers stands for the events that name the person of its place
 pub record StandFor (scoring : ScoringRows) (scorers : List Scorer) (events : List Event) : Type 0 where

@@ -1,7 +1,5 @@
 -- The lines of scores.csv: `iteration,person,plan,score`.
-use Rattle.std.specs.Prelude.{ℕ, List, ◌++◌, codes, decimal, ℤ}
-use Rattle.std.specs.Fmt.{signed_decimal}
-use Rattle.std.specs.List.{flat_map, zip}
+use Rattle.std.specs.{Fmt.signed_decimal, List.flat_map, List.zip, Prelude.ℕ, Prelude.List, Prelude.◌++◌, Prelude.codes, Prelude.decimal, Prelude.ℤ}
 
 -- the line of a person: of the plan of this number in his memory, and with the score of it in micro-utils
 unfoldable pub score_line : ℕ → List ℕ → ℕ → ℤ → List ℕ

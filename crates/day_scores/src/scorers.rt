@@ -2,12 +2,9 @@
 
 ghost use Rattle.std.specs.Prelude.{◌≡◌, ◌++◌, ◌∷◌, [], length, map, List, IfOk, All};
 ghost use Rattle.events.specs.declared.event.Event.{Event};
+ghost use Rattle.scoring.specs.{Ranges.IsWithin, Tables.ScoringRows, Tables.scoring_rows, Taken.first_kind_of};
 ghost use Rattle.scoring.specs.declared.TheConstants.{MAX_SCORE};
-ghost use Rattle.scoring.specs.Ranges.{IsWithin};
-ghost use Rattle.scoring.specs.Tables.{ScoringRows, scoring_rows};
-ghost use Rattle.scoring.specs.Taken.{first_kind_of};
-ghost use Rattle.day_scores.specs.Scores.{scores_of};
-ghost use Rattle.day_scores.specs.Standing.{StandFor, MayCome, AllCome, AreScored};
+ghost use Rattle.day_scores.specs.{Scores.scores_of, Standing.StandFor, Standing.MayCome, Standing.AllCome, Standing.AreScored};
 
 use events::Event;
 use scoring::{Scorer, Tables};

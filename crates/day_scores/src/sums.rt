@@ -1,8 +1,6 @@
 ghost use Rattle.std.specs.Prelude.{◌≡◌, ◌≤◌, length, All};
 ghost use Rattle.limits.specs.declared.TheConstants.{MAX_PERSONS};
-ghost use Rattle.scoring.specs.declared.TheConstants.{MAX_SCORE};
-ghost use Rattle.scoring.specs.Ranges.{IsWithin};
-ghost use Rattle.scoring.specs.Score.{total};
+ghost use Rattle.scoring.specs.{Ranges.IsWithin, Score.total, declared.TheConstants.MAX_SCORE};
 
 /// The sum of the scores of as many persons as there may be, in micro-utils. It fits into 64 bits, also
 /// where each of 65,536 scores is the largest or the least that there is.

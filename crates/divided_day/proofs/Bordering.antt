@@ -1,23 +1,16 @@
 -- The neighbours of a partition are such as a core asks for.
-use Rattle.std.proofs.Common.{◌≡◌, ◌≢◌, ℕ, zero, suc, ◌+◌, ◌-◌, ◌<◌, ◌≤◌, Bool, true, List, ◌∷◌, arith, refl, sym, ◌∙◌, ap, subst}
-use Rattle.std.proofs.Common.{inl, inr, length, get_or}
-use Rattle.std.specs.Prelude.{filter, ◌==◌}
-use Rattle.std.specs.List.{AllByRecursion as Each}
-use Rattle.std.proofs.lemmas.List.{length-map, get_or-map}
-use Rattle.std.proofs.lemmas.List.Elements.{All-get_or, All-from_recursion, filter_passes}
-use Rattle.traffic.proofs.Common.{cases_Bool, eqb-true, eqb-false}
-use Rattle.traffic.proofs.Each.{each_kept, each_map, each_flat, each_number}
-use Rattle.traffic.specs.Lists.{below, numbers}
-use Rattle.traffic.specs.Setup.{Setup}
+use Rattle.std.proofs.Common.{◌≡◌, ◌≢◌, ℕ, zero, suc, ◌+◌, ◌-◌, ◌<◌, ◌≤◌, Bool, true, List, ◌∷◌, arith, refl, sym, ◌∙◌, ap, subst, inl, inr, length, get_or}
+use Rattle.std.proofs.lemmas.List.{length-map, get_or-map, Elements.All-get_or, Elements.All-from_recursion, Elements.filter_passes}
+use Rattle.std.specs.{List.AllByRecursion as Each, Prelude.filter, Prelude.◌==◌, Prelude.All}
+use Rattle.traffic.proofs.{Common.cases_Bool, Common.eqb-true, Common.eqb-false, Each.each_kept, Each.each_map, Each.each_flat, Each.each_number}
+use Rattle.traffic.specs.{Lists.below, Lists.numbers, Setup.Setup}
 use Rattle.parts.specs.Owners.{Owner, near, lag}
 use Rattle.law_partitions.specs.Laws.{HasNeighbours}
 use Rattle.law_steps.specs.Steps.{net_of}
 use Rattle.partition.specs.declared.joining.Pair.{Pair}
 use Rattle.partition.specs.Neighbours.{pair, pairs_from, pairs_of, neighbours_of, IsPairOf}
-use Rattle.step_core.specs.declared.part.Border.{Border}
-use Rattle.step_core.specs.Nets.{AreBorders, border_at, no_border}
+use Rattle.step_core.specs.{Nets.AreBorders, Nets.border_at, Nets.no_border, declared.part.Border.Border}
 use Rattle.divided_day.specs.Borders.{border_from, borders_of}
-use Rattle.std.specs.Prelude.{All}
 
 each_from : (m k n : ℕ) → m ≤ k → Each (λ i. m ≤ i) (numbers k n)
 each_from m k zero h = tt

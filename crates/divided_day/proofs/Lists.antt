@@ -1,9 +1,7 @@
 -- Numbers that come to the lists of their partitions, one after the other.
-use Rattle.std.proofs.Common.{◌≡◌, ◌≢◌, ℕ, ◌+◌, ◌<◌, true, false, List, [], ◌∷◌, ◌++◌, arith, refl, sym, ◌∙◌}
-use Rattle.std.proofs.Common.{ap, inl, inr, length, get_or, set, replicate, append-nil}
-use Rattle.std.specs.Prelude.{filter, ◌==◌}
-use Rattle.std.proofs.lemmas.List.{get_or-set_same, get_or-set_other, length-set, get_or-replicate, get_or_past}
-use Rattle.std.proofs.lemmas.List.Elements.{filter-append}
+use Rattle.std.proofs.Common.{◌≡◌, ◌≢◌, ℕ, ◌+◌, ◌<◌, true, false, List, [], ◌∷◌, ◌++◌, arith, refl, sym, ◌∙◌, ap, inl, inr, length, get_or, set, replicate}
+use Rattle.std.proofs.{Common.append-nil, lemmas.List.get_or-set_same, lemmas.List.get_or-set_other, lemmas.List.length-set, lemmas.List.get_or-replicate}
+use Rattle.std.{proofs.lemmas.List.get_or_past, proofs.lemmas.List.Elements.filter-append, specs.Prelude.filter, specs.Prelude.◌==◌}
 use Rattle.traffic.proofs.Common.{length-replicate, cases_Bool, cases_lt, eqb-true, eqb-false, eq-eqb, ne_eqb}
 use Rattle.traffic.specs.Lists.{below}
 use Rattle.divided_day.proofs.Counting.{below_more}

@@ -1,20 +1,13 @@
 -- The pairs of neighbours, gone over for one partition, give its neighbours.
-use Rattle.std.proofs.Common.{◌≡◌, ◌≢◌, ℕ, zero, suc, ◌+◌, ◌-◌, ◌<◌, ◌≤◌, Bool, true}
-use Rattle.std.proofs.Common.{false, List, [], ◌∷◌, ◌++◌, arith, refl, sym, ◌∙◌, ap, map}
-use Rattle.std.proofs.Common.{append-nil, append_assoc, inl, inr, length, get_or, drop}
-use Rattle.std.specs.Prelude.{filter, ◌==◌, if◌then◌else◌, Option, None}
-use Rattle.std.specs.Option.{option_to_list}
-use Rattle.std.specs.List.{flat_map}
-use Rattle.std.proofs.lemmas.List.{drop_more, drop_all}
-use Rattle.std.proofs.lemmas.List.Elements.{filter-append}
+use Rattle.std.proofs.Common.{◌≡◌, ◌≢◌, ℕ, zero, suc, ◌+◌, ◌-◌, ◌<◌, ◌≤◌, Bool, true, false, List, [], ◌∷◌, ◌++◌, arith, refl, sym, ◌∙◌, ap, map, append-nil}
+use Rattle.std.proofs.Common.{append_assoc, inl, inr, length, get_or, drop}
+use Rattle.std.proofs.lemmas.List.{drop_more, drop_all, Elements.filter-append}
+use Rattle.std.specs.{List.flat_map, Option.option_to_list, Prelude.filter, Prelude.◌==◌, Prelude.if◌then◌else◌, Prelude.Option, Prelude.None}
 use Rattle.traffic.proofs.Common.{cases_Bool, eqb-true, eqb-false, ne_eqb, eq-eqb, flat_map-append}
 use Rattle.traffic.specs.Lists.{below, numbers}
-use Rattle.partition.specs.declared.joining.Pair.{Pair}
-use Rattle.partition.specs.declared.borders.LagPair.{LagPair}
-use Rattle.partition.specs.Neighbours.{pair, pairs_from}
+use Rattle.partition.specs.{Neighbours.pair, Neighbours.pairs_from, declared.borders.LagPair.LagPair, declared.joining.Pair.Pair}
 use Rattle.step_core.specs.declared.part.Border.{Border}
-use Rattle.divided_day.proofs.Counting.{parted}
-use Rattle.divided_day.specs.Borders.{border_of, borders_among}
+use Rattle.divided_day.{proofs.Counting.parted, specs.Borders.border_of, specs.Borders.borders_among}
 
 -- ONE PAIR MORE
 -- a border more, or none

@@ -1,14 +1,9 @@
 -- Two merges of the same lists are one.
-use Rattle.std.proofs.Common.{◌≡◌, ℕ, zero, suc, ◌<◌, true, false, true≢false, List, [], ◌∷◌}
-use Rattle.std.proofs.Common.{arith, refl, sym, ◌∙◌, ap, subst, length, get_or, inl, inr, ◌⊎◌}
-use Rattle.std.specs.Prelude.{flat_map}
-use Rattle.std.specs.List.{Contains}
+use Rattle.std.proofs.Common.{◌≡◌, ℕ, zero, suc, ◌<◌, true, false, true≢false, List, [], ◌∷◌, arith, refl, sym, ◌∙◌, ap, subst, length, get_or, inl, inr, ◌⊎◌}
 use Rattle.std.proofs.lemmas.List.Sorted.{IsPermutation-sym, IsPermutation-trans, Contains-permutation}
-use Rattle.traffic.proofs.Common.{nat_tests}
-use Rattle.events.specs.declared.event.Key.{Key}
-use Rattle.events.specs.declared.event.Event.{Event}
-use Rattle.events.specs.Keys.{key_before}
-use Rattle.traffic.specs.Frames.{Ascends, AreAfter}
+use Rattle.std.specs.{List.Contains, Prelude.flat_map}
+use Rattle.traffic.{proofs.Common.nat_tests, specs.Frames.Ascends, specs.Frames.AreAfter}
+use Rattle.events.specs.{Keys.key_before, declared.event.Event.Event, declared.event.Key.Key}
 use Rattle.parts.specs.Merge.{Merges}
 
 one_way : (a b : Key) → key_before a b ≡ true → key_before b a ≡ false

@@ -1,17 +1,12 @@
 -- Links that take the slots of their partitions, one after the other.
-use Rattle.std.proofs.Common.{◌≡◌, ◌≢◌, ℕ, zero, suc, ◌+◌, ◌<◌, ◌≤◌, Bool, List, [], ◌∷◌, ◌++◌, arith, sym, ◌∙◌}
-use Rattle.std.proofs.Common.{ap, subst, inl, inr, length, get_or, set}
+use Rattle.std.proofs.Common.{◌≡◌, ◌≢◌, ℕ, zero, suc, ◌+◌, ◌<◌, ◌≤◌, Bool, List, [], ◌∷◌, ◌++◌, arith, sym, ◌∙◌, ap, subst, inl, inr, length, get_or, set}
 use Rattle.std.proofs.Common.{replicate, get_or-set_same, get_or-set_other, length-set}
+use Rattle.std.proofs.lemmas.List.{length_push, get_or_push, get_or_append_left, get_or-replicate, Elements.All-get_or, Elements.All-from_recursion}
 use Rattle.std.specs.Prelude.{filter, ◌==◌}
-use Rattle.std.proofs.lemmas.List.{length_push, get_or_push, get_or_append_left, get_or-replicate}
-use Rattle.std.proofs.lemmas.List.Elements.{All-get_or, All-from_recursion}
 use Rattle.traffic.proofs.Common.{length-replicate, cases_Bool, cases_lt, eqb-true, eqb-false}
-use Rattle.traffic.proofs.Each.{each_kept, each_number}
-use Rattle.traffic.specs.Lists.{below, numbers}
-use Rattle.traffic.specs.Setup.{Setup}
+use Rattle.traffic.{proofs.Each.each_kept, proofs.Each.each_number, specs.Lists.below, specs.Lists.numbers, specs.Setup.Setup}
 use Rattle.parts.specs.Owners.{Owner, owner_of}
-use Rattle.divided_day.specs.Slots.{AreSlots}
-use Rattle.divided_day.proofs.Lists.{part_below, one_more, no_more}
+use Rattle.divided_day.{proofs.Lists.part_below, proofs.Lists.one_more, proofs.Lists.no_more, specs.Slots.AreSlots}
 
 filter_short : (pass : ℕ → Bool) (k n : ℕ) → length (filter pass (numbers k n)) ≤ n
 filter_short pass k zero = omega arith

@@ -1,7 +1,6 @@
 -- What so many partitions told, one after the other.
-use Rattle.std.proofs.Common.{◌≡◌, ℕ, ◌<◌, Bool, true, false, true≢false, List, [], ◌∷◌, ◌++◌, arith, sym, ◌∙◌, ap, subst}
-use Rattle.std.proofs.Common.{map, length, slice_index_or, if◌then◌else◌}
-use Rattle.std.proofs.lemmas.List.{map-append, length_push}
+use Rattle.std.proofs.Common.{◌≡◌, ℕ, ◌<◌, Bool, true, false, true≢false, List, [], ◌∷◌, ◌++◌, arith, sym, ◌∙◌, ap, subst, map, length, slice_index_or}
+use Rattle.std.proofs.{Common.if◌then◌else◌, lemmas.List.map-append, lemmas.List.length_push}
 use Rattle.traffic.specs.Lists.{below}
 use Rattle.step_core.specs.Views.{PartView, IsAt, EachAt}
 use Rattle.divided_day.proofs.Counting.{below_more}

@@ -1,36 +1,19 @@
 -- The partitions of a day of a town.
 use Rattle.std.proofs.Common.{◌≡◌, ℕ, ◌<◌, List, [], length, get_or, map, sym, ◌∙◌, ap, subst, subst₂, refl}
 use Rattle.events.specs.declared.event.Event.{Event}
-use Rattle.town.specs.declared.day_input.DayInput.{DayInput}
-use Rattle.town.specs.Setups.{setup_of}
-use Rattle.town.specs.Views.{setup}
-use Rattle.traffic.specs.Day.{day as events_of_day}
-use Rattle.traffic.specs.Lists.{below}
-use Rattle.parts.specs.Merge.{Merges}
-use Rattle.parts.specs.Owners.{near, lag}
-use Rattle.law_in_range.specs.Setups.{HaveFittingPlans}
-use Rattle.law_in_range.proofs.Days.{chosen_fit}
+use Rattle.town.specs.{Setups.setup_of, Views.setup, declared.day_input.DayInput.DayInput}
+use Rattle.traffic.specs.{Day.day as events_of_day, Lists.below}
+use Rattle.parts.specs.{Merge.Merges, Owners.near, Owners.lag}
+use Rattle.law_in_range.{proofs.Days.chosen_fit, specs.Setups.HaveFittingPlans}
 use Rattle.law_matches_plans.proofs.Towns.{town_sound, town_consistent}
-use Rattle.law_partitions.specs.Laws.{GoesInParts}
-use Rattle.law_partitions.proofs.Joined.{near-self}
-use Rattle.law_partitions.proofs.Setting.{goes_in_parts}
-use Rattle.law_partitions.proofs.Whole.{near-both}
+use Rattle.law_partitions.{proofs.Joined.near-self, proofs.Setting.goes_in_parts, proofs.Whole.near-both, specs.Laws.GoesInParts}
 use Rattle.law_steps.proofs.Orders.{net_is}
-use Rattle.event_merge.specs.Lists.{CanMerge}
-use Rattle.event_merge.proofs.Told.{parts_can_merge}
-use Rattle.partition.specs.Neighbours.{neighbours_of, lags_of}
-use Rattle.partition.specs.Owned.{owner_in}
-use Rattle.partition.specs.declared.joining.Pair.{Pair}
-use Rattle.partition.specs.declared.borders.LagPair.{LagPair}
-use Rattle.partition.specs.declared.owner.Owner.{Owner}
-use Rattle.step_core.specs.declared.part.Border.{Border}
-use Rattle.step_core.specs.Nets.{Net, IsNet, AreBorders}
-use Rattle.divided_day.specs.Borders.{borders_among}
-use Rattle.divided_day.specs.Days.{net_in, borders_in, told_in}
-use Rattle.divided_day.specs.Divisions.{AreBordersOf}
-use Rattle.divided_day.proofs.Bordering.{are_borders}
-use Rattle.divided_day.proofs.Scanning.{scanned}
-use Rattle.divided_day.proofs.Single.{one_merge}
+use Rattle.event_merge.{proofs.Told.parts_can_merge, specs.Lists.CanMerge}
+use Rattle.partition.specs.{Neighbours.neighbours_of, Neighbours.lags_of, Owned.owner_in}
+use Rattle.partition.specs.declared.{borders.LagPair.LagPair, joining.Pair.Pair, owner.Owner.Owner}
+use Rattle.step_core.specs.{Nets.Net, Nets.IsNet, Nets.AreBorders, declared.part.Border.Border}
+use Rattle.divided_day.proofs.{Bordering.are_borders, Scanning.scanned, Single.one_merge}
+use Rattle.divided_day.specs.{Borders.borders_among, Days.net_in, Days.borders_in, Days.told_in, Divisions.AreBordersOf}
 
 -- a town has as many links as its network
 pub links_of : (day : DayInput) → length (setup day).links ≡ length day.town.now.network.links

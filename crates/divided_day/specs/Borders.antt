@@ -1,11 +1,9 @@
 -- The neighbours of a partition, with the lags from them.
 use Rattle.std.specs.Prelude.{ℕ, List, [], ◌∷◌, ◌++◌, map, filter, ◌==◌, if◌then◌else◌, Option, None, Some}
 use Rattle.std.specs.Option.{option_to_list}
-use Rattle.traffic.specs.Lists.{below}
-use Rattle.traffic.specs.Setup.{Setup}
+use Rattle.traffic.specs.{Lists.below, Setup.Setup}
 use Rattle.parts.specs.Owners.{Owner, near, lag}
-use Rattle.partition.specs.declared.joining.Pair.{Pair}
-use Rattle.partition.specs.declared.borders.LagPair.{LagPair}
+use Rattle.partition.specs.declared.{borders.LagPair.LagPair, joining.Pair.Pair}
 use Rattle.step_core.specs.declared.part.Border.{Border}
 
 -- p has q for a neighbour, with the lag from it

@@ -1,17 +1,13 @@
 -- A day of a town whose nodes are divided among partitions, as a core sees it.
 use Rattle.std.specs.Prelude.{ℕ, List, filter, ◌==◌}
 use Rattle.events.specs.declared.event.Event.{Event}
-use Rattle.town.specs.declared.day_input.DayInput.{DayInput}
-use Rattle.town.specs.Views.{setup}
+use Rattle.town.specs.{Views.setup, declared.day_input.DayInput.DayInput}
 use Rattle.traffic.specs.Day.{second_events, world_at}
-use Rattle.parts.specs.Owners.{owner_of_event}
-use Rattle.parts.specs.Parts.{own_end_events}
+use Rattle.parts.specs.{Owners.owner_of_event, Parts.own_end_events}
 use Rattle.law_partitions.specs.Whole.{all_told}
 use Rattle.law_steps.specs.Steps.{net_of}
-use Rattle.partition.specs.Owned.{owner_in}
-use Rattle.partition.specs.declared.owner.Owner.{Owner}
-use Rattle.step_core.specs.declared.part.Border.{Border}
-use Rattle.step_core.specs.Nets.{Net}
+use Rattle.partition.specs.{Owned.owner_in, declared.owner.Owner.Owner}
+use Rattle.step_core.specs.{Nets.Net, declared.part.Border.Border}
 use Rattle.divided_day.specs.Borders.{borders_of}
 
 -- its partitions, of which each has all seconds of the day to do

@@ -1,16 +1,10 @@
 -- A town that is divided among partitions.
 use Rattle.std.specs.Prelude.{◌≡◌, ℕ, ◌<◌, List, [], length, get_or}
-use Rattle.town.specs.declared.day_input.DayInput.{DayInput}
-use Rattle.partition.specs.Halves.{IsHalved}
-use Rattle.partition.specs.declared.owner.Owner.{Owner}
+use Rattle.town.specs.{Views.setup, declared.day_input.DayInput.DayInput}
+use Rattle.partition.specs.{Halves.IsHalved, Homes.homes_of, Owned.owner_in, declared.owner.Owner.Owner}
 use Rattle.step_core.specs.declared.part.Border.{Border}
-use Rattle.divided_day.specs.declared.dividing.Division.{Division}
-use Rattle.town.specs.Views.{setup}
-use Rattle.partition.specs.Homes.{homes_of}
-use Rattle.partition.specs.Owned.{owner_in}
-use Rattle.divided_day.specs.Days.{borders_in}
+use Rattle.divided_day.specs.{Days.borders_in, Slots.AreSlots, Slots.my_starts, declared.dividing.Division.Division}
 use Rattle.law_partitions.specs.Alone.{my_links}
-use Rattle.divided_day.specs.Slots.{AreSlots, my_starts}
 
 -- these lists have the neighbours of each partition, by number
 pub record AreBordersOf (day : DayInput) (owner : Owner) (lists : List (List Border)) : Type 0 where

@@ -1,7 +1,6 @@
 -- In which slots the links of a network stand that is divided among partitions: each in the partition where it ends.
 use Rattle.std.specs.Prelude.{◌≡◌, ℕ, ◌<◌, List, length, filter, get_or, ◌==◌}
-use Rattle.traffic.specs.Lists.{below}
-use Rattle.traffic.specs.Setup.{Setup}
+use Rattle.traffic.specs.{Lists.below, Setup.Setup}
 use Rattle.parts.specs.Owners.{Owner, begins_in}
 use Rattle.law_partitions.specs.Alone.{my_links}
 

@@ -2,8 +2,7 @@
 
 ghost use Rattle.std.specs.Prelude.{◌≡◌, ◌≤◌, ◌<◌, ℕ, [], length, get_or, IfOk};
 ghost use Rattle.limits.specs.declared.TheConstants.{MAX_PARTITIONS};
-ghost use Rattle.divided_day.specs.Borders.{border_of, borders_among};
-ghost use Rattle.divided_day.specs.Divisions.{AreBordersOf, IsDivided};
+ghost use Rattle.divided_day.specs.{Borders.border_of, Borders.borders_among, Divisions.AreBordersOf, Divisions.IsDivided};
 
 use crate::homes::homes_of;
 use crate::listing::{NumberList, links_that_begin, links_that_end};

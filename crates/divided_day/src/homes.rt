@@ -1,8 +1,7 @@
 //! In which of the partitions of a town each person begins the day.
 
 ghost use Rattle.std.specs.Prelude.{◌≡◌, IfOk};
-ghost use Rattle.partition.specs.Homes.{home_of, homes_of};
-ghost use Rattle.partition.specs.Owned.{owner_in};
+ghost use Rattle.partition.specs.{Homes.home_of, Homes.homes_of, Owned.owner_in};
 ghost use Rattle.rows.specs.PlanRows.{plan_rows};
 ghost use Rattle.town.specs.Views.{setup};
 

@@ -1,7 +1,6 @@
 -- The layout of a block.
 use Rattle.std.proofs.Common.{◌≡◌, ℕ, ◌%◌, ◌^◌, ◌<◌, List, refl, ap, ◌∙◌, arith}
-use Rattle.rand_chacha.specs.Block.{block_word}
-use Rattle.rand_chacha.specs.ChaCha.{ChaCha, word_at, of_seed, key_of}
+use Rattle.rand_chacha.specs.{Block.block_word, ChaCha.ChaCha, ChaCha.word_at, ChaCha.of_seed, ChaCha.key_of}
 use Rattle.draws.specs.Words.{Source, key_bytes, key_words, starting_words, word, generator_at}
 use Rattle.draws.proofs.Keys.{key_is}
 

@@ -1,13 +1,8 @@
 -- The ranges of words and choices.
 use Rattle.std.proofs.Common.{◌≡◌, ℕ, ◌+◌, ◌*◌, ◌^◌, ◌<◌, List, [], ◌∷◌, ◌≤◌, length, inl, inr, arith}
-use Rattle.std.proofs.Math.Nat.{mul-lt-mul_of_pos_right}
-use Rattle.std.specs.List.{sum}
-use Rattle.std.proofs.lemmas.List.Sums.{sum_by-cons}
-use Rattle.std.proofs.lemmas.Bool.Decides.{nat_tests}
-use Rattle.std.proofs.lemmas.Bool.{cases_lt}
-use Rattle.std.proofs.lemmas.Nat.{div_below, mod_below}
-use Rattle.draws.specs.Words.{Source, word}
-use Rattle.draws.specs.Choices.{below, running_sums, first_above, pick}
+use Rattle.std.proofs.{Math.Nat.mul-lt-mul_of_pos_right, lemmas.Bool.cases_lt, lemmas.Bool.Decides.nat_tests, lemmas.List.Sums.sum_by-cons}
+use Rattle.std.{proofs.lemmas.Nat.div_below, proofs.lemmas.Nat.mod_below, specs.List.sum}
+use Rattle.draws.specs.{Choices.below, Choices.running_sums, Choices.first_above, Choices.pick, Words.Source, Words.word}
 
 pub word_fits : (s : Source) (place : ℕ) → word s place < 2 ^ 32
 unfolding word

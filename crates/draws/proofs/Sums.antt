@@ -1,8 +1,6 @@
 -- Where running sums first exceed a target.
 use Rattle.std.proofs.Common.{◌≡◌, ℕ, zero, suc, ◌+◌, ◌<◌, ◌≤◌, List, [], ◌∷◌, length, take, arith, add-one}
-use Rattle.std.specs.List.{sum}
-use Rattle.std.proofs.lemmas.List.Sums.{sum_by-cons}
-use Rattle.std.proofs.lemmas.Bool.Decides.{nat_tests}
+use Rattle.std.{proofs.lemmas.Bool.Decides.nat_tests, proofs.lemmas.List.Sums.sum_by-cons, specs.List.sum}
 use Rattle.draws.specs.Choices.{below, running_sums, first_above, pick}
 
 -- the sum before the place is within the target, and the one with it is not

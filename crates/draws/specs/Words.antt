@@ -2,8 +2,7 @@
 -- which has a 64-bit block number and a 64-bit stream in the place of the RFC's counter and nonce.
 use Rattle.std.specs.Prelude.{ℕ, ◌+◌, ◌/◌, ◌%◌, ◌^◌, List, [], ◌∷◌, ◌++◌, replicate, slice_index}
 use Rattle.std.specs.Int.{w32, w64, to_le_bytes}
-use Rattle.rand_chacha.specs.Block.{add32, double_rounds}
-use Rattle.rand_chacha.specs.ChaCha.{ChaCha}
+use Rattle.rand_chacha.specs.{Block.add32, Block.double_rounds, ChaCha.ChaCha}
 use Rattle.draws.specs.declared.TheConstants.{PERSON_STREAMS}
 
 -- where words come from: the seed of a run, the iteration, and the stream of a node or a person

@@ -1,16 +1,11 @@
 -- What is told of reads and writes in memory is what inputs and outputs promise.
-use Rattle.std.proofs.Common.{◌≡◌, ◌≢◌, ℕ, zero, suc, ◌≤◌, ◌<◌, List, [], ◌∷◌, ◌++◌, true, false, length, min, take, drop, get_or, set, Some, Result, Ok, Err, IsErr, refl, sym, ◌∙◌, ap, subst, inl, inr, arith, take-append-drop, length-append, length-take, length-drop}
-use Rattle.std.proofs.lemmas.List.{get_or-set_other, take_at, drop_all, length-take-le}
-use Rattle.std.proofs.lemmas.Bool.{cases_eq, cases_Bool, false≢true}
-use Rattle.std.specs.Io.{ReadsAtMost}
-use Rattle.std.specs.Io.KnownBytes.{ReadConsumes}
-use Rattle.edge_files.specs.declared.files.Failed.{Failed}
-use Rattle.edge_files.specs.declared.files.InFile.{InFile}
-use Rattle.edge_files.specs.Causes.{up, Rose, HasCause}
-use Rattle.edge_files.specs.Files.{in_place}
-use Rattle.edge_files.specs.Inputs.{Left, OthersStay}
+use Rattle.std.proofs.Common.{◌≡◌, ◌≢◌, ℕ, zero, suc, ◌≤◌, ◌<◌, List, [], ◌∷◌, ◌++◌, true, false, length, min, take, drop, get_or, set, Some, Result, Ok, Err}
+use Rattle.std.proofs.Common.{IsErr, refl, sym, ◌∙◌, ap, subst, inl, inr, arith, take-append-drop, length-append, length-take, length-drop}
+use Rattle.std.proofs.lemmas.{Bool.cases_eq, Bool.cases_Bool, Bool.false≢true, List.get_or-set_other, List.take_at, List.drop_all, List.length-take-le}
+use Rattle.std.specs.Io.{ReadsAtMost, KnownBytes.ReadConsumes}
+use Rattle.edge_files.{proofs.Placed.same_place, specs.Causes.up, specs.Causes.Rose, specs.Causes.HasCause, specs.Files.in_place}
 use Rattle.edge_files.specs.InMemory.{CallCounts, next_fails, passed_call, failed_call, left_of, with_left, read_count, InputsHeld, Reads}
-use Rattle.edge_files.proofs.Placed.{same_place}
+use Rattle.edge_files.specs.{Inputs.Left, Inputs.OthersStay, declared.files.Failed.Failed, declared.files.InFile.InFile}
 
 -- what inputs promise of a read
 pub record ReadTells (old new : Left) (before now : ℕ) (file : InFile) (into after : List ℕ) (result : Result ℕ Failed) : Type 0 where

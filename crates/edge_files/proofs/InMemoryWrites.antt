@@ -1,16 +1,12 @@
 -- What is told of writes in memory is what outputs promise.
-use Rattle.std.proofs.Common.{◌≡◌, ◌==◌, ◌⊎◌, ℕ, ◌≤◌, ◌<◌, List, [], ◌∷◌, ◌++◌, Bool, true, false, cond, length, take, get_or, set, Option, None, Some, Result, Ok, Err, IsErr, IfOk, refl, sym, ◌∙◌, ap, subst, inl, inr, arith}
-use Rattle.std.proofs.lemmas.List.{get_or-set_other, get_or-set_same, append-nil}
-use Rattle.std.proofs.lemmas.Bool.{cases_eq, cases_Bool, eq-eqb, ne_eqb, false≢true}
-use Rattle.std.specs.Io.{WritesAtMost}
-use Rattle.edge_files.specs.declared.files.Failed.{Failed}
-use Rattle.edge_files.specs.declared.files.OutFile.{OutFile}
-use Rattle.edge_files.specs.Causes.{up, HasCause}
-use Rattle.edge_files.specs.Files.{out_place}
-use Rattle.edge_files.specs.World.{Written, byte_steps, is_same, bytes_of, Writes, WriteDid}
+use Rattle.std.proofs.Common.{◌≡◌, ◌==◌, ◌⊎◌, ℕ, ◌≤◌, ◌<◌, List, [], ◌∷◌, ◌++◌, Bool, true, false, cond, length, take, get_or, set, Option, None, Some, Result}
+use Rattle.std.proofs.Common.{Ok, Err, IsErr, IfOk, refl, sym, ◌∙◌, ap, subst, inl, inr, arith}
+use Rattle.std.proofs.lemmas.{Bool.cases_eq, Bool.cases_Bool, Bool.eq-eqb, Bool.ne_eqb, Bool.false≢true, List.get_or-set_other, List.get_or-set_same}
+use Rattle.std.{proofs.lemmas.List.append-nil, specs.Io.WritesAtMost}
+use Rattle.edge_files.{proofs.InMemoryReads.nat_lt_zero, proofs.Written.writes_nothing, specs.Causes.up, specs.Causes.HasCause, specs.Files.out_place}
 use Rattle.edge_files.specs.InMemory.{next_fails, written_to, with_more, fits, OutputsHeld, write_count, refused_write, TakesOrFails}
-use Rattle.edge_files.proofs.InMemoryReads.{nat_lt_zero}
-use Rattle.edge_files.proofs.Written.{writes_nothing}
+use Rattle.edge_files.specs.World.{Written, byte_steps, is_same, bytes_of, Writes, WriteDid}
+use Rattle.edge_files.specs.declared.files.{Failed.Failed, OutFile.OutFile}
 
 abbrev no_bytes : List ℕ
 no_bytes = []

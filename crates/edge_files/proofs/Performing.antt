@@ -1,12 +1,8 @@
 -- The effects that are left, after one more.
 use Rattle.std.proofs.Common.{◌≡◌, ℕ, ◌+◌, ◌<◌, List, ◌++◌, length, drop, get_or, true, false, sym, ◌∙◌, ap, subst}
-use Rattle.std.proofs.lemmas.List.{drop_more}
-use Rattle.std.proofs.lemmas.List.Folds.{list_any_at}
-use Rattle.std.proofs.lemmas.Bool.{false_from_ne_true}
-use Rattle.edge_files.specs.declared.effects.Effect.{Effect}
-use Rattle.edge_files.specs.Effects.{steps_of, all_steps, is_save, has_save}
-use Rattle.edge_files.specs.World.{World, Step, Does, DoesPart}
-use Rattle.edge_files.proofs.Worlds.{Performing, performing_more, performing_part}
+use Rattle.std.proofs.lemmas.{Bool.false_from_ne_true, List.drop_more, List.Folds.list_any_at}
+use Rattle.edge_files.{proofs.Worlds.Performing, proofs.Worlds.performing_more, proofs.Worlds.performing_part, specs.Effects.steps_of, specs.Effects.all_steps}
+use Rattle.edge_files.specs.{Effects.is_save, Effects.has_save, World.World, World.Step, World.Does, World.DoesPart, declared.effects.Effect.Effect}
 
 module _ (effects : List Effect) (i : ℕ) (effect : Effect) (less : i < length effects) (is : effect ≡ get_or effects i effect) where
   module _ (a b c : World) (all one : List Step) (same : steps_of effect ≡ one) (so_far : Performing a b all (all_steps (drop i effects))) where

@@ -1,9 +1,7 @@
 -- Each file that is read stands at its place among all of them.
 use Rattle.std.proofs.Common.{◌≡◌, ◌<◌, ◌∙◌, get_or, length, refl, sym, ap, ℕ, lit<}
-use Rattle.edge_files.specs.declared.files.InFile.{InFile}
+use Rattle.edge_files.specs.{Files.in_place, declared.files.InFile.InFile, declared.files.TheConstants.SCENARIO_FILES}
 use Rattle.edge_files.specs.declared.files.InFile.TheVariants as file
-use Rattle.edge_files.specs.declared.files.TheConstants.{SCENARIO_FILES}
-use Rattle.edge_files.specs.Files.{in_place}
 
 -- the last case is every other file
 pub is_among : (f : InFile) → in_place f < length SCENARIO_FILES

@@ -1,15 +1,10 @@
 -- Steps in turn: for callers that perform more than once.
 use Rattle.std.proofs.Common.{◌≡◌, ◌||◌, ℕ, List, [], ◌∷◌, ◌++◌, Option, None, Some, refl, sym, ◌∙◌, ap, subst, append_assoc, inl, inr}
-use Rattle.std.proofs.lemmas.List.{append-nil, map-append}
-use Rattle.std.proofs.lemmas.List.Folds.{list_any-append}
-use Rattle.std.proofs.lemmas.Grind.{flat_map-append}
-use Rattle.std.proofs.KnownBytes.{Appends-nil}
-use Rattle.edge_files.specs.declared.effects.Effect.{Effect}
-use Rattle.edge_files.specs.Effects.{steps_of, all_steps, is_save, has_save}
-use Rattle.edge_files.specs.declared.files.OutFile.{OutFile}
-use Rattle.edge_files.specs.Keeping.{Kept, Told, StaysTold, Becomes, KeepsOrBecomes}
-use Rattle.edge_files.specs.World.{Written, Step, Byte, Saved, World, outside, byte_steps, kept_after, KeptBecomes, KeptBecomesIfTold, Writes, WritesPart, Does, DoesPart}
-use Rattle.edge_files.proofs.Written.{writes_nothing, writes_then}
+use Rattle.std.proofs.{KnownBytes.Appends-nil, lemmas.Grind.flat_map-append, lemmas.List.append-nil, lemmas.List.map-append, lemmas.List.Folds.list_any-append}
+use Rattle.edge_files.{proofs.Written.writes_nothing, proofs.Written.writes_then, specs.Effects.steps_of, specs.Effects.all_steps}
+use Rattle.edge_files.specs.{Effects.is_save, Effects.has_save, Keeping.Kept, Keeping.Told, Keeping.StaysTold, Keeping.Becomes, Keeping.KeepsOrBecomes}
+use Rattle.edge_files.specs.World.{Written, Step, Byte, Saved, World, outside, byte_steps, kept_after, KeptBecomes, KeptBecomesIfTold, Writes, WritesPart, Does}
+use Rattle.edge_files.specs.{World.DoesPart, declared.effects.Effect.Effect, declared.files.OutFile.OutFile}
 
 kept_after-append : (xs ys : List Step) (before : Option Kept) → kept_after before (xs ++ ys) ≡ kept_after (kept_after before xs) ys
 kept_after-append [] ys before = refl

@@ -1,8 +1,7 @@
 -- How writes go on.
-use Rattle.std.proofs.Common.{◌≡◌, ◌≤◌, ℕ, List, length, [], ◌∷◌, ◌++◌, take, drop, Bool, true, false, cond, refl, sym, ◌∙◌, ap, subst, append_assoc, take-append-drop}
-use Rattle.std.proofs.lemmas.List.{append-nil, map-append, take-append-le}
-use Rattle.std.specs.Io.KnownBytes.{Appends}
-use Rattle.std.proofs.KnownBytes.{Appends-nil, Appends-trans}
+use Rattle.std.proofs.Common.{◌≡◌, ◌≤◌, ℕ, List, length, [], ◌∷◌, ◌++◌, take, drop, Bool, true, false, cond, refl, sym, ◌∙◌, ap, subst, append_assoc}
+use Rattle.std.proofs.{Common.take-append-drop, KnownBytes.Appends-nil, KnownBytes.Appends-trans, lemmas.List.append-nil, lemmas.List.map-append}
+use Rattle.std.{proofs.lemmas.List.take-append-le, specs.Io.KnownBytes.Appends}
 use Rattle.edge_files.specs.declared.files.OutFile.{OutFile}
 use Rattle.edge_files.specs.World.{Written, Step, Byte, Saved, byte_steps, is_same, bytes_of, Writes, WritesPart}
 

@@ -1,10 +1,7 @@
 -- The steps of what a run does outside.
-use Rattle.std.specs.Prelude.{List, [], ◌∷◌, Bool, true, false}
-use Rattle.std.specs.List.{flat_map, list_any}
-use Rattle.edge_files.specs.declared.effects.Effect.{Effect}
+use Rattle.std.specs.{List.flat_map, List.list_any, Prelude.List, Prelude.[], Prelude.◌∷◌, Prelude.Bool, Prelude.true, Prelude.false}
+use Rattle.edge_files.specs.{Keeping.kept_of, World.Step, World.Saved, World.byte_steps, declared.effects.Effect.Effect}
 use Rattle.edge_files.specs.declared.effects.Effect.TheVariants as effect
-use Rattle.edge_files.specs.Keeping.{kept_of}
-use Rattle.edge_files.specs.World.{Step, Saved, byte_steps}
 
 -- a text goes byte by byte, a save is one step
 abbrev pub steps_of : Effect → List Step

@@ -2,9 +2,7 @@
 use Rattle.std.specs.Prelude.{ℕ, List, [], get_or, codes, Option, None, Some}
 use denote.Enum.Declared.{tag_of}
 use Rattle.edge_files.specs.contracts.files.InFile.{the_type}
-use Rattle.edge_files.specs.declared.files.InFile.{InFile}
-use Rattle.edge_files.specs.declared.files.TheConstants.{FILE_NAMES}
-use Rattle.edge_files.specs.declared.files.OutFile.{OutFile}
+use Rattle.edge_files.specs.declared.files.{InFile.InFile, OutFile.OutFile, TheConstants.FILE_NAMES}
 use Rattle.edge_files.specs.declared.files.OutFile.TheVariants as out
 
 -- the place of a file that is read among all of them: its number in the enumeration, from 0

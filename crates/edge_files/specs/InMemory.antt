@@ -1,11 +1,8 @@
 -- Inputs and outputs that are kept in memory, of which chosen calls fail.
-use Rattle.std.specs.Prelude.{◌≡◌, ◌+◌, ◌-◌, ◌^◌, ◌==◌, ◌++◌, ℕ, List, [], Bool, Option, None, Some, Result, Ok, min, length, take, drop, slice_set, MatchResult}
-use Rattle.std.specs.List.{list_any, slice_index_or}
-use Rattle.edge_files.specs.declared.files.Failed.{Failed}
-use Rattle.edge_files.specs.declared.files.InFile.{InFile}
-use Rattle.edge_files.specs.declared.files.OutFile.{OutFile}
-use Rattle.edge_files.specs.Causes.{up}
-use Rattle.edge_files.specs.Files.{in_place, out_place}
+use Rattle.std.specs.{List.list_any, List.slice_index_or, Prelude.◌≡◌}
+use Rattle.std.specs.Prelude.{◌+◌, ◌-◌, ◌^◌, ◌==◌, ◌++◌, ℕ, List, [], Bool, Option, None, Some, Result, Ok, min, length, take, drop, slice_set, MatchResult}
+use Rattle.edge_files.specs.{Causes.up, Files.in_place, Files.out_place}
+use Rattle.edge_files.specs.declared.files.{Failed.Failed, InFile.InFile, OutFile.OutFile}
 
 -- which calls are to fail, how many were made with a nonempty slice or piece, and how many failed
 pub record CallCounts : Type 0 where

@@ -1,9 +1,7 @@
 -- What a run does to its output files and to its keeper, step by step.
 use Rattle.std.specs.Prelude.{◌≡◌, ◌==◌, ℕ, List, [], ◌∷◌, ◌++◌, map, take, Bool, cond, Option, None, Some, Result, MatchResult}
 use Rattle.std.specs.Io.KnownBytes.{Appends}
-use Rattle.edge_files.specs.declared.files.OutFile.{OutFile}
-use Rattle.edge_files.specs.Files.{out_place}
-use Rattle.edge_files.specs.Keeping.{Kept, Told}
+use Rattle.edge_files.specs.{Files.out_place, Keeping.Kept, Keeping.Told, declared.files.OutFile.OutFile}
 
 -- what was written to each file, where it is told
 abbrev pub Written : Type 0

@@ -1,6 +1,5 @@
 ghost use Rattle.std.specs.Prelude.{◌≡◌, ◌∷◌, ◌++◌, [], if◌then◌else◌, OnOk, OnErr};
-ghost use Rattle.edge_files.specs.Causes.{up};
-ghost use Rattle.edge_files.specs.InMemory.{no_calls, next_fails, passed_call, failed_call};
+ghost use Rattle.edge_files.specs.{Causes.up, InMemory.no_calls, InMemory.next_fails, InMemory.passed_call, InMemory.failed_call};
 
 use std::alloc::{AllocError, Global};
 use std::marker::Model;

@@ -1,8 +1,6 @@
 ghost use Rattle.std.specs.Prelude.{◌≡◌, ◌≤◌, false, Err, OnOk, OnErr};
-ghost use Rattle.edge_files.specs.Causes.{Rose};
-ghost use Rattle.edge_files.specs.Keeping.{StaysTold};
+ghost use Rattle.edge_files.specs.{Causes.Rose, Effects.all_steps, Effects.has_save, Keeping.StaysTold};
 ghost use Rattle.edge_files.specs.World.{Does, DoesPart, outside};
-ghost use Rattle.edge_files.specs.Effects.{all_steps, has_save};
 
 use crate::bytes::Bytes;
 use crate::files::OutFile;

@@ -1,5 +1,4 @@
-ghost use Rattle.std.specs.Prelude.{◌≡◌, ◌<◌, map, option_copied};
-ghost use Rattle.std.specs.List.{slice_index_or};
+ghost use Rattle.std.specs.{List.slice_index_or, Prelude.◌≡◌, Prelude.◌<◌, Prelude.map, Prelude.option_copied};
 ghost use Rattle.edge_files.specs.Files.{in_file_name, out_file_name, in_place, out_place};
 
 use std::fmt;

@@ -1,5 +1,4 @@
-ghost use Rattle.std.specs.Prelude.{◌≡◌, ◌∷◌, ◌++◌, ◌<◌, ℕ, List, [], true, false, Ok, length};
-ghost use Rattle.std.specs.Prelude.{replicate, IsErr, OnOk, OnErr};
+ghost use Rattle.std.specs.Prelude.{◌≡◌, ◌∷◌, ◌++◌, ◌<◌, ℕ, List, [], true, false, Ok, length, replicate, IsErr, OnOk, OnErr};
 ghost use Rattle.edge_files.specs.declared.files.TheConstants.{FILE_COUNT};
 ghost use Rattle.edge_files.specs.InMemory.{no_calls, next_fails, passed_call, failed_call, with_left, Reads};
 

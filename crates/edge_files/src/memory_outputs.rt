@@ -1,5 +1,4 @@
-ghost use Rattle.std.specs.Prelude.{◌≡◌, ◌∷◌, ◌++◌, ◌<◌, ℕ, List, [], true, false, None, Some, Ok};
-ghost use Rattle.std.specs.Prelude.{length, replicate, IsErr, OnOk, OnErr};
+ghost use Rattle.std.specs.Prelude.{◌≡◌, ◌∷◌, ◌++◌, ◌<◌, ℕ, List, [], true, false, None, Some, Ok, length, replicate, IsErr, OnOk, OnErr};
 ghost use Rattle.std.specs.Prelude.{◌⊎◌};
 ghost use Rattle.edge_files.specs.InMemory.{no_calls, next_fails, failed_call, written_to, fits, write_count, refused_write, taken_write};
 ghost use Rattle.edge_files.specs.InMemory.{TakesOrFails};

@@ -1,9 +1,7 @@
+ghost use Rattle.std.specs.Io.{ReadsAtMost, KnownBytes.Consumes, KnownBytes.ReadConsumes};
 ghost use Rattle.std.specs.Prelude.{◌≡◌, ◌≤◌, ◌+◌, ℕ, List, Option, IfOk, Err, Ok, length};
-ghost use Rattle.std.specs.Io.{ReadsAtMost};
-ghost use Rattle.std.specs.Io.KnownBytes.{Consumes, ReadConsumes};
 ghost use Rattle.edge_files.specs.Causes.{HasCause, Rose};
-ghost use Rattle.edge_files.specs.Inputs.{OthersStay, IsWhole, IsLonger, TakesAtMost};
-ghost use Rattle.edge_files.specs.declared.files.InFile.{InFile};
+ghost use Rattle.edge_files.specs.{Inputs.OthersStay, Inputs.IsWhole, Inputs.IsLonger, Inputs.TakesAtMost, declared.files.InFile.InFile};
 
 use crate::files::{Failed, InFile};
 use std::alloc::Global;

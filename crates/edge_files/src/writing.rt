@@ -1,7 +1,6 @@
 ghost use Rattle.std.specs.Prelude.{◌≡◌, ◌<◌, ℕ, List, Option, Ok, IfOk, OnOk, OnErr, length};
 ghost use Rattle.std.specs.Io.{WritesAtMost};
-ghost use Rattle.edge_files.specs.Causes.{HasCause};
-ghost use Rattle.edge_files.specs.World.{WriteDid, Writes, WritesPart, byte_steps};
+ghost use Rattle.edge_files.specs.{Causes.HasCause, World.WriteDid, World.Writes, World.WritesPart, World.byte_steps};
 ghost use Rattle.edge_files.specs.declared.files.OutFile.{OutFile};
 
 use crate::files::{Failed, OutFile};

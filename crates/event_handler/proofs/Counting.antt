@@ -2,8 +2,7 @@
 use Rattle.std.proofs.Common.{◌≡◌, ◌+◌, List, ◌++◌, cond, length, length-append, arith}
 use Rattle.std.proofs.lemmas.List.Sums.{sum_by-append}
 use Rattle.events.specs.declared.event.Event.{Event}
-use Rattle.event_handler.specs.declared.counts.EventCounts.{EventCounts}
-use Rattle.event_handler.specs.Counts.{is_stuck, stuck_count, AreCounted}
+use Rattle.event_handler.specs.{Counts.is_stuck, Counts.stuck_count, Counts.AreCounted, declared.counts.EventCounts.EventCounts}
 
 pub counted_more : (before after : EventCounts) (taken events : List Event) → AreCounted before taken
     → after.events ≡ before.events + length events → after.stuck ≡ before.stuck + stuck_count events

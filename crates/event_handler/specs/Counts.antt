@@ -1,8 +1,6 @@
 -- How many events there are, and how many of them tell that a person is stuck.
-use Rattle.std.specs.Prelude.{◌≡◌, ℕ, Bool, true, false, List, length}
-use Rattle.std.specs.List.{count_by}
-use Rattle.events.specs.declared.event.Event.{Event}
-use Rattle.events.specs.declared.event.Word.{Word}
+use Rattle.std.specs.{List.count_by, Prelude.◌≡◌, Prelude.ℕ, Prelude.Bool, Prelude.true, Prelude.false, Prelude.List, Prelude.length}
+use Rattle.events.specs.declared.event.{Event.Event, Word.Word}
 use Rattle.events.specs.declared.event.Word.TheVariants as word
 use Rattle.event_handler.specs.declared.counts.EventCounts.{EventCounts}
 

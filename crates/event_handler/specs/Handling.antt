@@ -1,18 +1,10 @@
 -- What a handler of events stands for.
-use Rattle.std.specs.Prelude.{◌≡◌, ℕ, List, length, map}
-use Rattle.std.specs.List.{All}
+use Rattle.std.specs.{List.All, Prelude.◌≡◌, Prelude.ℕ, Prelude.List, Prelude.length, Prelude.map}
 use Rattle.events.specs.declared.event.Event.{Event}
-use Rattle.scoring.specs.declared.TheConstants.{MAX_SCORE}
-use Rattle.scoring.specs.Ranges.{IsWithin}
-use Rattle.scoring.specs.Tables.{ScoringRows}
-use Rattle.scoring.specs.Taken.{first_kind_of}
-use Rattle.day_scores.specs.Scores.{scores_of}
-use Rattle.day_scores.specs.Standing.{StandFor, AreScored}
-use Rattle.travel_times.specs.Observed.{AreInOrder, AreOnLinks}
-use Rattle.travel_times.specs.Known.{Knows, links_of}
-use Rattle.event_handler.specs.declared.handling.EventHandler.{EventHandler}
-use Rattle.event_handler.specs.declared.handling.SeenDay.{SeenDay}
-use Rattle.event_handler.specs.Counts.{AreCounted}
+use Rattle.scoring.specs.{Ranges.IsWithin, Tables.ScoringRows, Taken.first_kind_of, declared.TheConstants.MAX_SCORE}
+use Rattle.day_scores.specs.{Scores.scores_of, Standing.StandFor, Standing.AreScored}
+use Rattle.travel_times.specs.{Known.Knows, Known.links_of, Observed.AreInOrder, Observed.AreOnLinks}
+use Rattle.event_handler.specs.{Counts.AreCounted, declared.handling.EventHandler.EventHandler, declared.handling.SeenDay.SeenDay}
 
 -- the kind of each person's first activity, how many persons there are, and how many links
 abbrev pub kinds_of : EventHandler → List ℕ

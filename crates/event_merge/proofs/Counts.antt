@@ -1,17 +1,11 @@
 -- How often a key is in a list, and that it is once at most where lists ascend and share none.
-use Rattle.std.proofs.Common.{◌≡◌, ℕ, zero, suc, ◌<◌, ◌≤◌, Bool, true, false, List, [], ◌∷◌, arith, refl, sym, ◌∙◌, sum_by, not, ◌&&◌}
-use Rattle.std.proofs.Common.{inl, inr, ◌⊎◌, All, subst, true≢false}
-use Rattle.std.specs.Prelude.{if◌then◌else◌, flat_map}
-use Rattle.std.specs.List.{Contains, AllByRecursion as Each}
-use Rattle.std.specs.List.Sorted.{IsSortedBy}
-use Rattle.std.proofs.lemmas.List.Elements.{Contains-append_right, All-tail, All-head}
-use Rattle.std.proofs.lemmas.List.Sums.{sum_by-cons, sum_by-append}
+use Rattle.std.proofs.Common.{◌≡◌, ℕ, zero, suc, ◌<◌, ◌≤◌, Bool, true, false, List, [], ◌∷◌, arith, refl, sym, ◌∙◌, sum_by, not, ◌&&◌, inl, inr, ◌⊎◌, All}
+use Rattle.std.proofs.Common.{subst, true≢false}
+use Rattle.std.proofs.lemmas.List.{Elements.Contains-append_right, Elements.All-tail, Elements.All-head, Sums.sum_by-cons, Sums.sum_by-append}
+use Rattle.std.specs.{List.Contains, List.AllByRecursion as Each, List.Sorted.IsSortedBy, Prelude.if◌then◌else◌, Prelude.flat_map}
 use Rattle.itertools.proofs.KMergeLemmas.{sorted-tail}
-use Rattle.events.specs.declared.event.Key.{Key}
-use Rattle.events.specs.declared.event.Event.{Event}
-use Rattle.events.specs.Keys.{key_before}
-use Rattle.traffic.specs.Frames.{Ascends, AreAfter}
-use Rattle.traffic.proofs.Common.{cases_Bool}
+use Rattle.events.specs.{Keys.key_before, declared.event.Event.Event, declared.event.Key.Key}
+use Rattle.traffic.{proofs.Common.cases_Bool, specs.Frames.Ascends, specs.Frames.AreAfter}
 use Rattle.event_merge.specs.Lists.{comes_before, IsApart, AreApart}
 use Rattle.event_merge.proofs.Keys.{same_key, never_itself, after_first, sorted_behind}
 

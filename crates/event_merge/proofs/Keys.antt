@@ -1,15 +1,10 @@
 -- The order of keys is strict and total.
 use Rattle.std.proofs.Common.{◌≡◌, ◌+◌, true, false, List, [], ◌∷◌, arith, All, suc}
-use Rattle.traffic.proofs.Common.{nat_tests}
-use Rattle.std.specs.Cmp.{IsStrictWeakOrder}
-use Rattle.std.specs.List.Sorted.{IsSortedBy}
-use Rattle.std.proofs.lemmas.List.Sorted.{sorted_far}
-use Rattle.std.proofs.lemmas.List.Elements.{All-from_get_or, All-nil, All-cons}
+use Rattle.std.proofs.lemmas.List.{Elements.All-from_get_or, Elements.All-nil, Elements.All-cons, Sorted.sorted_far}
+use Rattle.std.specs.{Cmp.IsStrictWeakOrder, List.Sorted.IsSortedBy}
+use Rattle.traffic.{proofs.Common.nat_tests, specs.Frames.AreAfter}
 use Rattle.itertools.proofs.KMergeLemmas.{sorted-cons}
-use Rattle.events.specs.declared.event.Key.{Key}
-use Rattle.events.specs.declared.event.Event.{Event}
-use Rattle.events.specs.Keys.{key_before}
-use Rattle.traffic.specs.Frames.{AreAfter}
+use Rattle.events.specs.{Keys.key_before, declared.event.Event.Event, declared.event.Key.Key}
 use Rattle.event_merge.specs.Lists.{comes_before}
 
 one_way : (a b : Key) → key_before a b ≡ true → key_before b a ≡ false

@@ -1,15 +1,8 @@
 -- What a merge of lists gives ascends and has all their events.
-use Rattle.std.proofs.Common.{◌≡◌, List, [], ◌∷◌, ◌++◌, sym, subst, map, append-nil, All, ◌≤◌, ◌∙◌}
-use Rattle.std.proofs.Common.{vec_items, vec_len, Vec, Global}
-use Rattle.std.specs.declared.vec.IntoIter.{IntoIter}
-use Rattle.std.specs.Vec.Iter.{into_iter_items, into_iter_len, into_iter_steps}
-use Rattle.std.proofs.lemmas.Iterator.Adapters.{YieldsList-from_vec}
-use Rattle.std.specs.Iterator.{AlwaysYields}
-use Rattle.std.specs.List.{AllByRecursion as Each}
-use Rattle.std.specs.List.Sorted.{IsSortedBy, IsPermutation}
-use Rattle.std.specs.Prelude.{Option}
-use Rattle.std.proofs.lemmas.List.Sorted.{sum_by-IsPermutation}
-use Rattle.std.proofs.lemmas.List.Elements.{All-nil, All-cons}
+use Rattle.std.proofs.Common.{◌≡◌, List, [], ◌∷◌, ◌++◌, sym, subst, map, append-nil, All, ◌≤◌, ◌∙◌, vec_items, vec_len, Vec, Global}
+use Rattle.std.proofs.lemmas.{Iterator.Adapters.YieldsList-from_vec, List.Elements.All-nil, List.Elements.All-cons, List.Sorted.sum_by-IsPermutation}
+use Rattle.std.specs.{Iterator.AlwaysYields, List.AllByRecursion as Each, List.Sorted.IsSortedBy, List.Sorted.IsPermutation, Prelude.Option}
+use Rattle.std.specs.{Vec.Iter.into_iter_items, Vec.Iter.into_iter_len, Vec.Iter.into_iter_steps, declared.vec.IntoIter.IntoIter}
 use Rattle.itertools.specs.KMerge.{SourcesGive}
 use Rattle.events.specs.declared.event.Event.{Event}
 use Rattle.traffic.specs.Frames.{Ascends}

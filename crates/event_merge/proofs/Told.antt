@@ -2,8 +2,7 @@
 use Rattle.std.proofs.Common.{◌≡◌, ℕ, zero, suc, ◌+◌, ◌<◌, ◌≤◌, List, arith, map}
 use Rattle.std.specs.List.{Contains, AllByRecursion as Each}
 use Rattle.events.specs.declared.event.Event.{Event}
-use Rattle.traffic.specs.Frames.{Ascends}
-use Rattle.traffic.specs.Lists.{below, numbers}
+use Rattle.traffic.specs.{Frames.Ascends, Lists.below, Lists.numbers}
 use Rattle.event_merge.specs.Lists.{IsApart, AreApart, CanMerge}
 
 all_ascend : (told : ℕ → List Event) → ((p : ℕ) → Ascends (told p)) → (k n : ℕ) → Each Ascends (map told (numbers k n))

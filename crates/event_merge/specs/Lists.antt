@@ -1,8 +1,6 @@
 -- Lists of events that can be merged.
-use Rattle.std.specs.Prelude.{◌≢◌, Bool, List, [], ◌∷◌}
-use Rattle.std.specs.List.{Contains, AllByRecursion as Each}
-use Rattle.events.specs.declared.event.Event.{Event}
-use Rattle.events.specs.Keys.{key_before}
+use Rattle.std.specs.{List.Contains, List.AllByRecursion as Each, Prelude.◌≢◌, Prelude.Bool, Prelude.List, Prelude.[], Prelude.◌∷◌}
+use Rattle.events.specs.{Keys.key_before, declared.event.Event.Event}
 use Rattle.traffic.specs.Frames.{Ascends}
 
 -- whether the key of an event comes before that of another one

@@ -1,10 +1,8 @@
 -- What the calls of the two ends come to.
-use Rattle.std.proofs.Common.{◌≡◌, ℕ, ◌+◌, ◌<◌, ◌≤◌, List, [], ◌∷◌, ◌++◌, length, get_or, set}
-use Rattle.std.proofs.Common.{sym, ap, subst, ◌∙◌, arith, length-append}
+use Rattle.std.proofs.Common.{◌≡◌, ℕ, ◌+◌, ◌<◌, ◌≤◌, List, [], ◌∷◌, ◌++◌, length, get_or, set, sym, ap, subst, ◌∙◌, arith, length-append}
 use mathlib.Core.List.{IsPrefix}
-use Rattle.rtrb.specs.declared.producer.Producer.{Producer}
-use Rattle.rtrb.specs.declared.consumer.Consumer.{Consumer}
 use Rattle.rtrb.specs.Ring.{received, known_items, known_free, producer_capacity, ProducerLooked, ConsumerLooked}
+use Rattle.rtrb.specs.declared.{consumer.Consumer.Consumer, producer.Producer.Producer}
 use Rattle.rtrb.specs.Ring as ring
 use Rattle.event_pipe.specs.Rings.{popped, waiting, next_pieces, AreLooked, AllWait, IsTaken, AreTaken}
 use Rattle.event_pipe.proofs.Rings.{prefix_on, at_place, next_at}

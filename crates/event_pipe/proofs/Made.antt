@@ -1,16 +1,9 @@
 -- The two ends of a new pipe, ring by ring.
-use Rattle.std.proofs.Common.{◌≡◌, ℕ, zero, suc, ◌+◌, ◌<◌, ◌≤◌, List, [], ◌∷◌, ◌++◌, length, get_or, refl, sym}
-use Rattle.std.proofs.Common.{ap, subst, ◌∙◌, arith}
+use Rattle.std.proofs.Common.{◌≡◌, ℕ, zero, suc, ◌+◌, ◌<◌, ◌≤◌, List, [], ◌∷◌, ◌++◌, length, get_or, refl, sym, ap, subst, ◌∙◌, arith}
 use Rattle.std.specs.declared.alloc.Global.{Global}
-use Rattle.rtrb.specs.declared.producer.Producer.{Producer}
-use Rattle.rtrb.specs.declared.consumer.Consumer.{Consumer}
-use Rattle.rtrb.specs.Ring.{IsPair, SameProducer, SameConsumer}
-use Rattle.event_pipe.specs.declared.pieces.Piece.{Piece}
-use Rattle.event_pipe.specs.declared.senders.Sender.{Sender}
-use Rattle.event_pipe.specs.declared.gathering.Gather.{Gather}
-use Rattle.event_pipe.specs.Pieces.{label}
-use Rattle.event_pipe.specs.Rings.{popped, waiting}
-use Rattle.event_pipe.specs.Pipes.{IsMade, IsNewPipe}
+use Rattle.rtrb.specs.{Ring.IsPair, Ring.SameProducer, Ring.SameConsumer, declared.consumer.Consumer.Consumer, declared.producer.Producer.Producer}
+use Rattle.event_pipe.specs.{Pieces.label, Pipes.IsMade, Pipes.IsNewPipe, Rings.popped, Rings.waiting}
+use Rattle.event_pipe.specs.declared.{gathering.Gather.Gather, pieces.Piece.Piece, senders.Sender.Sender}
 
 module _ {P : Type 0} where
   -- senders, numbered from k on, and their rings

@@ -1,14 +1,10 @@
 -- Rings of which one was looked at, and rings out of which one item was taken.
-use Rattle.std.proofs.Common.{◌≡◌, ◌≢◌, ℕ, zero, suc, ◌+◌, ◌<◌, List, [], ◌∷◌, ◌++◌, length}
-use Rattle.std.proofs.Common.{get_or, set, map, refl, sym, ap, subst, ◌∙◌, inl, inr, arith, append-nil, append_assoc}
-use Rattle.std.specs.Prelude.{take, drop}
-use Rattle.std.proofs.Math.Seq.{take-append_seam}
+use Rattle.std.proofs.Common.{◌≡◌, ◌≢◌, ℕ, zero, suc, ◌+◌, ◌<◌, List, [], ◌∷◌, ◌++◌, length, get_or, set, map, refl, sym, ap, subst, ◌∙◌, inl, inr, arith}
+use Rattle.std.{proofs.Common.append-nil, proofs.Common.append_assoc, proofs.Math.Seq.take-append_seam, specs.Prelude.take, specs.Prelude.drop}
 use mathlib.Core.List.{IsPrefix}
 use Rattle.std.proofs.lemmas.Bool.{cases_eq}
-use Rattle.std.proofs.lemmas.List.{get_or_default, get_or-set_same, get_or-set_other, length-set, length-map, get_or-map, map-set}
-use Rattle.std.proofs.lemmas.List.{map-append}
-use Rattle.rtrb.specs.declared.consumer.Consumer.{Consumer}
-use Rattle.rtrb.specs.Ring.{received, known_items, IsPair, SameConsumer, ConsumerLooked}
+use Rattle.std.proofs.lemmas.List.{get_or_default, get_or-set_same, get_or-set_other, length-set, length-map, get_or-map, map-set, map-append}
+use Rattle.rtrb.specs.{Ring.received, Ring.known_items, Ring.IsPair, Ring.SameConsumer, Ring.ConsumerLooked, declared.consumer.Consumer.Consumer}
 use Rattle.event_pipe.specs.Rings.{popped, waiting, next_pieces, KeepEnds, AreLooked, AllWait, IsFirstShort, IsTaken, AreTaken}
 
 prefix_itself : {X : Type 0} (xs : List X) → IsPrefix xs xs

@@ -2,20 +2,13 @@
 use Rattle.std.specs.Prelude.{◌≡◌, ℕ, ◌+◌, ◌<◌, ◌≤◌, List, [], ◌∷◌, ◌++◌, length, map, get_or}
 use mathlib.Core.List.{IsPrefix}
 use Rattle.std.specs.declared.alloc.Global.{Global}
-use Rattle.rtrb.specs.declared.producer.Producer.{Producer}
-use Rattle.rtrb.specs.declared.consumer.Consumer.{Consumer}
 use Rattle.rtrb.specs.Ring.{known_free, producer_capacity, received, known_items, IsPair}
+use Rattle.rtrb.specs.declared.{consumer.Consumer.Consumer, producer.Producer.Producer}
 use Rattle.rtrb.specs.Ring as ring
+use Rattle.event_pipe.specs.{Pieces.events_of, Pieces.label, Rings.popped, Rings.waiting, Rings.IsEndOf, Tallies.count_of}
+use Rattle.event_pipe.specs.declared.gathering.{Gather.Gather, Gathered.Gathered, Gathered.TheVariants.Pieces, Gathered.TheVariants.Short}
 use Rattle.event_pipe.specs.declared.pieces.Piece.{Piece}
-use Rattle.event_pipe.specs.declared.senders.Sender.{Sender}
-use Rattle.event_pipe.specs.declared.senders.Offer.{Offer}
-use Rattle.event_pipe.specs.declared.senders.Offer.TheVariants.{Sent, Full}
-use Rattle.event_pipe.specs.declared.gathering.Gather.{Gather}
-use Rattle.event_pipe.specs.declared.gathering.Gathered.{Gathered}
-use Rattle.event_pipe.specs.declared.gathering.Gathered.TheVariants.{Pieces, Short}
-use Rattle.event_pipe.specs.Tallies.{count_of}
-use Rattle.event_pipe.specs.Pieces.{events_of, label}
-use Rattle.event_pipe.specs.Rings.{popped, waiting, IsEndOf}
+use Rattle.event_pipe.specs.declared.senders.{Offer.Offer, Offer.TheVariants.Sent, Offer.TheVariants.Full, Sender.Sender}
 
 module _ {P : Type 0} where
   -- THE SENDER

@@ -2,9 +2,7 @@
 use Rattle.std.specs.Prelude.{◌≡◌, ℕ, ◌<◌, ◌≤◌, List, [], ◌∷◌, ◌++◌, length, map, get_or, take}
 use Rattle.std.specs.List.{flat_map}
 use mathlib.Core.List.{IsPrefix}
-use Rattle.rtrb.specs.declared.producer.Producer.{Producer}
-use Rattle.rtrb.specs.declared.consumer.Consumer.{Consumer}
-use Rattle.rtrb.specs.Ring.{received, known_items, IsPair}
+use Rattle.rtrb.specs.{Ring.received, Ring.known_items, Ring.IsPair, declared.consumer.Consumer.Consumer, declared.producer.Producer.Producer}
 
 module _ {T A P : Type 0} where
   -- what was popped from the ring at place p

@@ -1,7 +1,6 @@
 -- How far a tally has come.
 use Rattle.std.specs.Prelude.{ℕ, ◌+◌}
-use Rattle.event_pipe.specs.declared.tally.Tally.{Tally}
-use Rattle.event_pipe.specs.declared.tally.Tally.TheVariants.{Nothing, OneMore'}
+use Rattle.event_pipe.specs.declared.tally.Tally.{Tally, TheVariants.Nothing, TheVariants.OneMore'}
 
 -- one more for each tally inside
 abbrev pub count_of : Tally → ℕ

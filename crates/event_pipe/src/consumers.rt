@@ -3,8 +3,7 @@
 ghost use Rattle.std.specs.Prelude.{◌≡◌, ◌+◌, ◌≤◌, ◌++◌, map, length, vec_len, vec_capacity, IfNone, IfSome};
 ghost use Rattle.rtrb.specs.Ring.{IsPair, ProducerLooked, ConsumerLooked, producer_capacity, known_free, received, known_items};
 ghost use Rattle.rtrb.specs.Ring as ends;
-ghost use Rattle.event_pipe.specs.Pieces.{events_of};
-ghost use Rattle.event_pipe.specs.Rings.{next_pieces, AreLooked, AllWait, IsFirstShort, AreTaken};
+ghost use Rattle.event_pipe.specs.{Pieces.events_of, Rings.next_pieces, Rings.AreLooked, Rings.AllWait, Rings.IsFirstShort, Rings.AreTaken};
 
 use crate::pieces::Piece;
 use events::EventList;

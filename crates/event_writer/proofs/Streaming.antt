@@ -1,27 +1,17 @@
 -- Events that are written and handled piece by piece.
-use Rattle.std.proofs.Common.{◌≡◌, ℕ, ◌+◌, ◌<◌, ◌≤◌, List, [], ◌++◌, length, get_or, refl, sym, ap, subst}
-use Rattle.std.proofs.Common.{subst₂, ◌∙◌}
-use Rattle.std.proofs.Common.{append_assoc, append-nil, length-append, Ok, Err, arith}
-use Rattle.std.specs.Prelude.{Option, None, Some, IfSome, IfNone}
-use Rattle.std.specs.declared.vec.Vec.{Vec}
-use Rattle.std.specs.declared.alloc.Global.{Global}
-use Rattle.std.proofs.lemmas.Grind.{flat_map-append}
-use Rattle.std.proofs.Math.ListN.{get_or-append}
-use Rattle.std.proofs.lemmas.List.{get_or-append-add, length-map}
+use Rattle.std.proofs.Common.{◌≡◌, ℕ, ◌+◌, ◌<◌, ◌≤◌, List, [], ◌++◌, length, get_or, refl, sym, ap, subst, subst₂, ◌∙◌, append_assoc, append-nil, length-append}
+use Rattle.std.proofs.{Common.Ok, Common.Err, Common.arith, Math.ListN.get_or-append}
+use Rattle.std.proofs.lemmas.{Grind.flat_map-append, List.get_or-append-add, List.length-map}
+use Rattle.std.specs.{Prelude.Option, Prelude.None, Prelude.Some, Prelude.IfSome, Prelude.IfNone, declared.alloc.Global.Global, declared.vec.Vec.Vec}
 use Rattle.edge_files.specs.declared.files.OutFile.TheVariants as out
-use Rattle.edge_files.specs.World.{Written, byte_steps, Writes}
-use Rattle.edge_files.proofs.Written.{writes_nothing}
-use Rattle.events.specs.declared.event.Event.{Event}
-use Rattle.events.specs.declared.event.Book.{Book}
-use Rattle.events.specs.Lines.{IsInBook, AreInBook, event_line, event_lines}
-use Rattle.scoring.specs.Tables.{ScoringRows}
-use Rattle.scoring.specs.Taken.{first_kind_of}
+use Rattle.edge_files.{proofs.Written.writes_nothing, specs.World.Written, specs.World.byte_steps, specs.World.Writes}
+use Rattle.events.specs.{Lines.IsInBook, Lines.AreInBook, Lines.event_line, Lines.event_lines, declared.event.Book.Book, declared.event.Event.Event}
+use Rattle.scoring.specs.{Tables.ScoringRows, Taken.first_kind_of}
 use Rattle.event_handler.specs.declared.handling.EventHandler.{EventHandler}
 use Rattle.event_handler.specs.Handling.{kinds_of, persons_of, links_in, HasHandled, CanHandle}
-use Rattle.event_writer.specs.declared.writing.StreamError.{StreamError}
-use Rattle.event_writer.specs.declared.writing.StreamError.TheVariants as error
-use Rattle.event_writer.specs.Writing.{IsWritten}
 use Rattle.event_writer.proofs.Written.{texts_then, failed_behind, wanting_behind}
+use Rattle.event_writer.specs.{Writing.IsWritten, declared.writing.StreamError.StreamError}
+use Rattle.event_writer.specs.declared.writing.StreamError.TheVariants as error
 
 lines_then : (book : Book) (xs ys : List Event) → event_lines xs book ++ event_lines ys book ≡ event_lines (xs ++ ys) book
 lines_then book xs ys = sym (flat_map-append (λ (event : Event). event_line event book) xs ys)

@@ -1,18 +1,13 @@
 -- Texts behind the events, one after the other.
-use Rattle.std.proofs.Common.{◌≡◌, ℕ, ◌≤◌, List, [], ◌++◌, Ok, Err, refl, sym, ap, ◌∙◌, append_assoc}
-use Rattle.std.proofs.Common.{append-nil, arith}
+use Rattle.std.proofs.Common.{◌≡◌, ℕ, ◌≤◌, List, [], ◌++◌, Ok, Err, refl, sym, ap, ◌∙◌, append_assoc, append-nil, arith}
 use Rattle.std.proofs.lemmas.List.{map-append}
 use Rattle.edge_files.specs.declared.files.OutFile.TheVariants as out
-use Rattle.edge_files.specs.Causes.{Rose}
-use Rattle.edge_files.specs.World.{Written, Byte, byte_steps, Writes, WritesPart}
 use Rattle.edge_files.proofs.Written.{writes_nothing, writes_then, writes_as}
-use Rattle.events.specs.declared.event.Event.{Event}
-use Rattle.events.specs.declared.event.Book.{Book}
-use Rattle.events.specs.Lines.{event_lines}
+use Rattle.edge_files.specs.{Causes.Rose, World.Written, World.Byte, World.byte_steps, World.Writes, World.WritesPart}
+use Rattle.events.specs.{Lines.event_lines, declared.event.Book.Book, declared.event.Event.Event}
 use Rattle.scoring.specs.Tables.{ScoringRows}
-use Rattle.event_writer.specs.declared.writing.StreamError.{StreamError}
+use Rattle.event_writer.specs.{Writing.IsWritten, Writing.AreWritten, declared.writing.StreamError.StreamError}
 use Rattle.event_writer.specs.declared.writing.StreamError.TheVariants as error
-use Rattle.event_writer.specs.Writing.{IsWritten, AreWritten}
 
 bytes_then : (xs ys : List ℕ) → byte_steps out.Events xs ++ byte_steps out.Events ys ≡ byte_steps out.Events (xs ++ ys)
 bytes_then xs ys = sym (map-append (Byte out.Events) xs ys)

@@ -1,15 +1,11 @@
 -- What came of a text that was to be written behind the events, and of the events of a day.
 use Rattle.std.specs.Prelude.{◌≡◌, ◌≤◌, ℕ, List, [], Result, Err, IfOk, OnOk, OnErr}
 use Rattle.edge_files.specs.declared.files.OutFile.TheVariants as out
-use Rattle.edge_files.specs.Causes.{Rose}
-use Rattle.edge_files.specs.World.{Written, Writes, WritesPart, byte_steps}
-use Rattle.events.specs.declared.event.Event.{Event}
-use Rattle.events.specs.declared.event.Book.{Book}
-use Rattle.events.specs.Lines.{AreInBook, event_lines}
+use Rattle.edge_files.specs.{Causes.Rose, World.Written, World.Writes, World.WritesPart, World.byte_steps}
+use Rattle.events.specs.{Lines.AreInBook, Lines.event_lines, declared.event.Book.Book, declared.event.Event.Event}
 use Rattle.scoring.specs.Tables.{ScoringRows}
-use Rattle.event_handler.specs.declared.handling.EventHandler.{EventHandler}
-use Rattle.event_handler.specs.declared.handling.SeenDay.{SeenDay}
 use Rattle.event_handler.specs.Handling.{persons_of, links_in, links_seen, HasHandled, CanHandle, IsSeen}
+use Rattle.event_handler.specs.declared.handling.{EventHandler.EventHandler, SeenDay.SeenDay}
 use Rattle.event_writer.specs.declared.writing.StreamError.{StreamError}
 use Rattle.event_writer.specs.declared.writing.StreamError.TheVariants as error
 

@@ -1,8 +1,7 @@
 //! The events of a day on their way to events.csv.
 
 ghost use Rattle.std.specs.Prelude.{◌≡◌, ◌++◌, List, OnOk, IfOk};
-ghost use Rattle.events.specs.declared.event.Event.{Event};
-ghost use Rattle.events.specs.Lines.{AreInBook, event_lines};
+ghost use Rattle.events.specs.{Lines.AreInBook, Lines.event_lines, declared.event.Event.Event};
 ghost use Rattle.scoring.specs.Tables.{scoring_rows};
 ghost use Rattle.event_handler.specs.Handling.{kinds_of, persons_of, links_in, HasHandled, CanHandle};
 ghost use Rattle.event_writer.specs.Writing.{IsWritten, CanTake, AreWritten};

@@ -1,7 +1,6 @@
 -- What stood in a list before more was appended.
 use Rattle.std.proofs.Common.{◌≡◌, ◌≤◌, ℕ, List, ◌++◌, length, take, ap, ◌∙◌, arith, length-take}
-use Rattle.std.proofs.Math.Seq.{take-append_seam}
-use Rattle.std.proofs.lemmas.List.{take-append-le}
+use Rattle.std.proofs.{Math.Seq.take-append_seam, lemmas.List.take-append-le}
 
 -- the front of a list with one piece more is the list
 pub front_of_one : (old piece : List ℕ) → take (length old) (old ++ piece) ≡ old

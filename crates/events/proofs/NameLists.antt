@@ -1,17 +1,12 @@
 -- Laws of numbered lists of names.
-use Rattle.std.proofs.Common.{◌≡◌, ℕ, zero, suc, ◌+◌, ◌<◌, ◌≤◌, ◌^◌, Bool, true, false, cond, not, ◌&&◌, ◌||◌, List, [], ◌∷◌, ◌++◌, length, get_or, Option, None, Some, Ok, refl, sym, ◌∙◌, ap, arith, take, length-append}
-use Rattle.std.specs.Prelude.{bytes_eq, nat_lt, nat_eq as eqb, fold}
-use Rattle.std.specs.List.{position_or_len, list_any, list_all}
-use Rattle.std.proofs.lemmas.Bool.Decides.{nat_tests}
-use Rattle.std.proofs.lemmas.Cmp.{nat_list_eq_equiv}
-use Rattle.std.proofs.lemmas.Slice.Eq.{bytes_eq-Decides}
-use Rattle.std.proofs.lemmas.List.Folds.{list_any-append, list_all-append, list_any_at, list_all_at, position_or_len_push}
-use Rattle.std.proofs.lemmas.Map.Steps.{list_any_congr}
-use Rattle.std.proofs.lemmas.List.Quantifiers.{position-Some}
-use Rattle.std.proofs.lemmas.List.Sums.{position_or_len_is, fold-append, fold_more}
-use Rattle.events.specs.declared.names.Added.{Added}
-use Rattle.events.specs.declared.names.Added.TheVariants.{New, Held}
+use Rattle.std.proofs.Common.{◌≡◌, ℕ, zero, suc, ◌+◌, ◌<◌, ◌≤◌, ◌^◌, Bool, true, false, cond, not, ◌&&◌, ◌||◌, List, [], ◌∷◌, ◌++◌, length, get_or, Option}
+use Rattle.std.proofs.Common.{None, Some, Ok, refl, sym, ◌∙◌, ap, arith, take, length-append}
+use Rattle.std.proofs.lemmas.{Bool.Decides.nat_tests, Cmp.nat_list_eq_equiv, List.Folds.list_any-append, List.Folds.list_all-append, List.Folds.list_any_at}
+use Rattle.std.proofs.lemmas.List.{Folds.list_all_at, Folds.position_or_len_push, Quantifiers.position-Some, Sums.position_or_len_is, Sums.fold-append}
+use Rattle.std.proofs.lemmas.{List.Sums.fold_more, Map.Steps.list_any_congr, Slice.Eq.bytes_eq-Decides}
+use Rattle.std.specs.{List.position_or_len, List.list_any, List.list_all, Prelude.bytes_eq, Prelude.nat_lt, Prelude.nat_eq as eqb, Prelude.fold}
 use Rattle.events.specs.Names.{is_name, number_of, name_at, is_held, are_distinct, AreNames, with_name, firsts, Adds}
+use Rattle.events.specs.declared.names.Added.{Added, TheVariants.New, TheVariants.Held}
 
 abbrev no_number : Option ℕ
 no_number = None

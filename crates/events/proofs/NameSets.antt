@@ -1,8 +1,7 @@
 -- From the keys of the set that holds names to the list of names.
-use Rattle.std.proofs.Common.{◌≡◌, ℕ, suc, ◌+◌, ◌<◌, ◌^◌, Bool, true, false, cond, not, ◌||◌, List, [], ◌∷◌, ◌++◌, map, length, Some, Vec, Ok, rules, refl, sym, ◌∙◌, ap}
-use Rattle.std.specs.Prelude.{bytes_eq, position, vec_len}
-use Rattle.std.specs.List.{position_or_len, list_any, AllZip}
-use Rattle.std.specs.declared.alloc.Global.{Global}
+use Rattle.std.proofs.Common.{◌≡◌, ℕ, suc, ◌+◌, ◌<◌, ◌^◌, Bool, true, false, cond, not, ◌||◌, List, [], ◌∷◌, ◌++◌, map, length, Some, Vec, Ok, rules, refl, sym}
+use Rattle.std.proofs.Common.{◌∙◌, ap}
+use Rattle.std.specs.{List.position_or_len, List.list_any, List.AllZip, Prelude.bytes_eq, Prelude.position, Prelude.vec_len, declared.alloc.Global.Global}
 use Rattle.indexmap.specs.IndexSet.{insert_key}
 use Rattle.events.specs.declared.names.Added.TheVariants.{New, Held}
 use Rattle.events.specs.Names.{is_name, number_of, AreNames, Adds}

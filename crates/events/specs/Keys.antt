@@ -1,8 +1,7 @@
 -- The order of events.
 use Rattle.std.specs.Prelude.{ℕ, Bool, ◌&&◌, ◌||◌, nat_lt, nat_eq}
-use Rattle.events.specs.declared.event.Phase.{Phase}
+use Rattle.events.specs.declared.event.{Key.Key, Phase.Phase}
 use Rattle.events.specs.declared.event.Phase.TheVariants as phase
-use Rattle.events.specs.declared.event.Key.{Key}
 
 -- the phases of a second, numbered in their order
 abbrev pub phase_code : Phase → ℕ

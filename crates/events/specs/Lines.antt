@@ -1,14 +1,10 @@
 -- The lines of events.
 use Rattle.std.specs.Prelude.{◌<◌, ℕ, List, [], ◌++◌, length, codes, decimal, All, Option, None, Some}
 use Rattle.std.specs.List.{flat_map}
-use Rattle.events.specs.declared.event.VehicleId.{VehicleId}
+use Rattle.events.specs.{Names.name_at, Words.word_text, Words.mode_text}
+use Rattle.events.specs.declared.event.{Book.Book, Event.Event, More.More, VehicleId.VehicleId}
 use Rattle.events.specs.declared.event.VehicleId.TheVariants as vehicle
-use Rattle.events.specs.declared.event.More.{More}
 use Rattle.events.specs.declared.event.More.TheVariants as more
-use Rattle.events.specs.declared.event.Event.{Event}
-use Rattle.events.specs.declared.event.Book.{Book}
-use Rattle.events.specs.Names.{name_at}
-use Rattle.events.specs.Words.{word_text, mode_text}
 
 -- the name of this number; an absent number leaves the field empty
 abbrev pub name_text : List (List ℕ) → Option ℕ → List ℕ

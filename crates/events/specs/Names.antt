@@ -1,9 +1,8 @@
 -- Names, and numbered lists of them.
-use Rattle.std.specs.Prelude.{◌≡◌, ◌≤◌, ◌^◌, ℕ, Bool, true, ◌&&◌, ◌||◌, not, if◌then◌else◌, nat_le, nat_eq, bytes_eq, List, [], ◌∷◌, ◌++◌, length, position, fold, slice_index_or, Option, None, Some, Result, Ok, Err}
-use Rattle.std.specs.List.{list_all, list_any}
-use Rattle.std.specs.declared.alloc.AllocError.{AllocError}
-use Rattle.events.specs.declared.names.Added.{Added}
-use Rattle.events.specs.declared.names.Added.TheVariants.{New, Held}
+use Rattle.std.specs.{List.list_all, List.list_any, Prelude.◌≡◌, Prelude.◌≤◌, Prelude.◌^◌, Prelude.ℕ}
+use Rattle.std.specs.Prelude.{Bool, true, ◌&&◌, ◌||◌, not, if◌then◌else◌, nat_le, nat_eq, bytes_eq, List, [], ◌∷◌, ◌++◌, length, position, fold, slice_index_or}
+use Rattle.std.specs.{Prelude.Option, Prelude.None, Prelude.Some, Prelude.Result, Prelude.Ok, Prelude.Err, declared.alloc.AllocError.AllocError}
+use Rattle.events.specs.declared.names.Added.{Added, TheVariants.New, TheVariants.Held}
 
 -- a letter, a digit, `_`, `.` or `-`
 abbrev pub is_name_byte : ℕ → Bool

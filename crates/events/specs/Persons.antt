@@ -1,7 +1,6 @@
 -- The events of a person, and of his trips.
 use Rattle.std.specs.Prelude.{ℕ, Bool, true, false, ◌==◌, List, filter, Option, None, Some}
-use Rattle.events.specs.declared.event.Event.{Event}
-use Rattle.events.specs.declared.event.Word.{Word}
+use Rattle.events.specs.declared.event.{Event.Event, Word.Word}
 use Rattle.events.specs.declared.event.Word.TheVariants as word
 
 -- whether a field of an event names person i

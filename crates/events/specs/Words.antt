@@ -1,8 +1,7 @@
 -- The words of events and of modes.
 use Rattle.std.specs.Prelude.{ℕ, List, codes, bytes_eq, Option, None, Some, if◌then◌else◌}
-use Rattle.events.specs.declared.event.Mode.{Mode}
+use Rattle.events.specs.declared.event.{Mode.Mode, Word.Word}
 use Rattle.events.specs.declared.event.Mode.TheVariants as mode
-use Rattle.events.specs.declared.event.Word.{Word}
 use Rattle.events.specs.declared.event.Word.TheVariants as word
 
 -- an event's word, as MATSim writes it

@@ -1,12 +1,8 @@
 -- What the credit pays for in a run of seconds.
 use Rattle.std.proofs.Common.{◌≡◌, ℕ, suc, ◌+◌, ◌-◌, ◌*◌, ◌/◌, ◌≤◌, List, [], ◌∷◌, ◌++◌, length, arith, lit<}
-use Rattle.std.specs.List.{sum}
-use Rattle.std.proofs.lemmas.List.Sums.{sum_by-cons}
-use Rattle.std.proofs.Math.Nat.{suc-mul, mul-le-mul_right}
-use Rattle.std.proofs.lemmas.Nat.{le-div}
-use Rattle.fixed_flow.specs.declared.TheConstants.{VEHICLE_COST}
-use Rattle.fixed_flow.specs.Flow.{full_credit, raised, spent, PaysFor, Flow}
+use Rattle.std.{proofs.Math.Nat.suc-mul, proofs.Math.Nat.mul-le-mul_right, proofs.lemmas.List.Sums.sum_by-cons, proofs.lemmas.Nat.le-div, specs.List.sum}
 use Rattle.fixed_flow.proofs.Gains.{raised_within}
+use Rattle.fixed_flow.specs.{Flow.full_credit, Flow.raised, Flow.spent, Flow.PaysFor, Flow.Flow, declared.TheConstants.VEHICLE_COST}
 
 raised_most : (c x : ℕ) → raised c x ≤ x + c
 unfolding raised

@@ -1,6 +1,5 @@
 ghost use Rattle.std.specs.Prelude.{◌≡◌, ℕ, ◌+◌, ◌-◌, ◌*◌, ◌/◌, ◌<◌, ◌≤◌, ◌↔◌, IsTrue};
-ghost use Rattle.fixed_flow.specs.declared.TheConstants.{MAX_PER_SECOND};
-ghost use Rattle.fixed_flow.specs.Flow.{full_credit, raised, raised_times, Flow};
+ghost use Rattle.fixed_flow.specs.{Flow.full_credit, Flow.raised, Flow.raised_times, Flow.Flow, declared.TheConstants.MAX_PER_SECOND};
 
 use crate::{MAX_PER_SECOND, VEHICLE_COST};
 use limits::LAST_SECOND;

@@ -1,5 +1,4 @@
-ghost use Rattle.std.specs.Prelude.{◌≡◌, ◌∷◌, [], None, length};
-ghost use Rattle.std.specs.Io.{ReadsAtMost};
+ghost use Rattle.std.specs.{Io.ReadsAtMost, Prelude.◌≡◌, Prelude.◌∷◌, Prelude.[], Prelude.None, Prelude.length};
 
 use edge_files::{Failed, InFile, Inputs};
 use std::fs;

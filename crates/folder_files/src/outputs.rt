@@ -1,5 +1,4 @@
-ghost use Rattle.std.specs.Prelude.{◌≡◌, ◌<◌, None, length, IfOk};
-ghost use Rattle.std.specs.Io.{WritesAtMost};
+ghost use Rattle.std.specs.{Io.WritesAtMost, Prelude.◌≡◌, Prelude.◌<◌, Prelude.None, Prelude.length, Prelude.IfOk};
 ghost use Rattle.edge_files.specs.Causes.{Rose};
 
 use edge_files::{Failed, OutFile, Outputs};

@@ -1,25 +1,16 @@
 -- What persons replan by, as the code has it.
 use Rattle.std.proofs.Common.{◌≡◌, ℕ, ◌<◌, true, List, [], ◌∷◌, length, refl, sym, ◌∙◌, ap, subst}
-use Rattle.std.specs.Prelude.{nat_lt}
-use Rattle.std.specs.List.{list_all}
-use Rattle.std.proofs.lemmas.Bool.{and_from, and_parts}
+use Rattle.std.{proofs.lemmas.Bool.and_from, proofs.lemmas.Bool.and_parts, specs.List.list_all, specs.Prelude.nat_lt}
 use Rattle.events.specs.declared.event.Event.{Event}
-use Rattle.rows.specs.declared.plan.Act.{Act}
-use Rattle.rows.specs.PlanRows.{PlanRows}
+use Rattle.rows.specs.{PlanRows.PlanRows, declared.plan.Act.Act}
 use Rattle.walks.specs.Arrivals.{Arrivals}
-use Rattle.router.specs.Graphs.{Graph}
-use Rattle.travel_times.specs.Times.{LinkProfile, arrival_by, arrivals}
-use Rattle.travel_times.specs.Observed.{AreOnLinks, observed_time}
-use Rattle.router.specs.Legs.{are_on}
+use Rattle.router.specs.{Graphs.Graph, Legs.are_on}
+use Rattle.travel_times.specs.{Observed.AreOnLinks, Observed.observed_time, Times.LinkProfile, Times.arrival_by, Times.arrivals}
 use Rattle.plan_memory.specs.Memories.{MemoryRows}
 use Rattle.replanning.specs.Persons.{Basis, all_replanned, is_on, all_are_on}
-use Rattle.town.specs.Rows.{TownRows}
-use Rattle.town.specs.Fits.{is_act_in, legs_fit, fits}
-use Rattle.law_replanning.specs.Memories.{hold_fitting, all_hold_fitting}
-use Rattle.law_replanning.specs.Towns.{graph_in}
-use Rattle.iterations.specs.Runs.{RunRows, CanRun}
-use Rattle.iterations.specs.Days.{seen_arrivals, basis_after}
-use Rattle.iterations.proofs.Seen.{arrivals_seen}
+use Rattle.town.specs.{Fits.is_act_in, Fits.legs_fit, Fits.fits, Rows.TownRows}
+use Rattle.law_replanning.specs.{Memories.hold_fitting, Memories.all_hold_fitting, Towns.graph_in}
+use Rattle.iterations.{proofs.Seen.arrivals_seen, specs.Days.seen_arrivals, specs.Days.basis_after, specs.Runs.RunRows, specs.Runs.CanRun}
 
 acts_on : (T : TownRows) (acts : List Act) → list_all (is_act_in T) acts ≡ true → are_on (length T.links) acts ≡ true
 acts_on T [] known = refl

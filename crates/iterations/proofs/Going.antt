@@ -1,26 +1,18 @@
 -- The acts of a run, iteration by iteration.
 use Rattle.std.proofs.Common.{◌≡◌, ℕ, zero, suc, ◌+◌, ◌-◌, List, [], ◌∷◌, ◌++◌, refl, sym, ◌∙◌, ap, subst, arith, append_assoc, append-nil, add-zero, zero-add}
-use Rattle.std.specs.List.{flat_map, range_with_len}
-use Rattle.std.proofs.lemmas.Grind.{flat_map-append}
-use Rattle.edge_files.specs.declared.effects.Effect.{Effect}
+use Rattle.std.{proofs.lemmas.Grind.flat_map-append, specs.List.flat_map, specs.List.range_with_len}
+use Rattle.edge_files.{proofs.Worlds.all_steps-append, specs.Effects.all_steps, specs.World.Step, specs.World.byte_steps, specs.declared.effects.Effect.Effect}
 use Rattle.edge_files.specs.declared.effects.Effect.TheVariants as effect
 use Rattle.edge_files.specs.declared.files.OutFile.TheVariants as out
-use Rattle.edge_files.specs.Effects.{all_steps}
-use Rattle.edge_files.specs.World.{Step, byte_steps}
-use Rattle.edge_files.proofs.Worlds.{all_steps-append}
 use Rattle.events.specs.declared.event.Event.{Event}
 use Rattle.day_scores.specs.Texts.{scores_text}
 use Rattle.plan_memory.specs.Memories.{MemoryRows}
 use Rattle.replanning.specs.Persons.{all_replanned}
 use Rattle.town.specs.Rows.{IsTown}
-use Rattle.law_replanning.specs.Towns.{IsBasisIn}
-use Rattle.law_replanning.proofs.Remembered.{all_fit_again, replanned_count}
-use Rattle.iterations.specs.Runs.{RunRows, CanRun}
-use Rattle.iterations.specs.Texts.{events_text, iteration_line}
-use Rattle.iterations.specs.Days.{events_of, scores_in, memories_after, basis_after, next_memories}
-use Rattle.iterations.specs.Acts.{chosen_numbers, saves, iteration_effects, end_effects, memories_behind, iterations_effects, acts_behind}
-use Rattle.iterations.specs.Continued.{begun_after}
-use Rattle.iterations.proofs.Seen.{seen_fifo}
+use Rattle.law_replanning.{proofs.Remembered.all_fit_again, proofs.Remembered.replanned_count, specs.Towns.IsBasisIn}
+use Rattle.iterations.{proofs.Seen.seen_fifo, specs.Acts.chosen_numbers, specs.Acts.saves, specs.Acts.iteration_effects, specs.Acts.end_effects}
+use Rattle.iterations.specs.{Acts.memories_behind, Acts.iterations_effects, Acts.acts_behind, Continued.begun_after, Days.events_of, Days.scores_in}
+use Rattle.iterations.specs.{Days.memories_after, Days.basis_after, Days.next_memories, Runs.RunRows, Runs.CanRun, Texts.events_text, Texts.iteration_line}
 
 -- SOME ITERATIONS, AND THOSE BEHIND THEM
 split_range : (a n m : ℕ) → range_with_len a (n + m) ≡ range_with_len a n ++ range_with_len (a + n) m

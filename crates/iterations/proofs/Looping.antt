@@ -1,16 +1,11 @@
 -- The loop, iteration by iteration.
 use Rattle.std.proofs.Common.{◌≡◌, ℕ, suc, ◌+◌, ◌-◌, ◌<◌, Bool, List, ◌++◌, Result, Ok, Err, refl, sym, ◌∙◌, ap, subst, arith}
-use Rattle.edge_files.specs.declared.effects.EffectError.{EffectError}
+use Rattle.edge_files.specs.{Effects.all_steps, World.Step, declared.effects.EffectError.EffectError}
 use Rattle.edge_files.specs.declared.effects.EffectError.TheVariants as error
-use Rattle.edge_files.specs.Effects.{all_steps}
-use Rattle.edge_files.specs.World.{Step}
 use Rattle.plan_memory.specs.Memories.{MemoryRows}
-use Rattle.iterations.specs.Runs.{RunRows}
-use Rattle.iterations.specs.Days.{memories_after, next_memories}
-use Rattle.iterations.specs.Acts.{iteration_effects, end_effects, acts_behind}
-use Rattle.iterations.specs.Performed.{Moment, IsPerformed}
-use Rattle.iterations.proofs.Outside.{IsGoing, going_on, going_failed, going_wanting, going_last}
-use Rattle.iterations.proofs.Going.{steps_more, steps_last}
+use Rattle.iterations.proofs.{Going.steps_more, Going.steps_last, Outside.IsGoing, Outside.going_on, Outside.going_failed, Outside.going_wanting}
+use Rattle.iterations.{proofs.Outside.going_last, specs.Acts.iteration_effects}
+use Rattle.iterations.specs.{Acts.end_effects, Acts.acts_behind, Days.memories_after, Days.next_memories, Performed.Moment, Performed.IsPerformed, Runs.RunRows}
 
 module _ (R : RunRows) (k : ℕ) (memories : List MemoryRows) (a b : Moment) (all : List Step) where
   split : k < R.last_iteration → IsGoing a b all (all_steps (acts_behind R k memories (R.last_iteration - k)))

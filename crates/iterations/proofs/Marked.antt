@@ -1,14 +1,11 @@
 -- Memories with scores.
 use Rattle.std.proofs.Common.{◌≡◌, ℕ, zero, suc, ◌+◌, true, List, [], ◌∷◌, ◌++◌, length, map, get_or, Option, None, Some, ℤ, refl, sym, ◌∙◌, ap, subst, arith}
-use Rattle.std.specs.Prelude.{slice_get}
-use Rattle.std.specs.List.{list_all, enumerate_from}
-use Rattle.std.proofs.lemmas.Bool.{and_from, and_parts}
-use Rattle.std.proofs.lemmas.List.{map-append, length-map}
+use Rattle.std.proofs.lemmas.{Bool.and_from, Bool.and_parts, List.map-append, List.length-map}
+use Rattle.std.specs.{List.list_all, List.enumerate_from, Prelude.slice_get}
 use Rattle.replanning.proofs.Numbers.{numbered_more}
 use Rattle.rows.specs.PlanRows.{PlanRows}
 use Rattle.plan_memory.specs.Memories.{MemoryRows, chosen_plan}
-use Rattle.town.specs.Fits.{legs_fit, fits}
-use Rattle.town.specs.Rows.{TownRows}
+use Rattle.town.specs.{Fits.legs_fit, Fits.fits, Rows.TownRows}
 use Rattle.law_replanning.specs.Memories.{hold_fitting, all_hold_fitting}
 use Rattle.iterations.specs.Runs.{RunRows, CanRun}
 use Rattle.iterations.specs.Days.{followed_plans, events_of, scores_in, with_own_score, scored, memories_after}

@@ -5,8 +5,7 @@ use Rattle.rows.specs.declared.plan.Leg.TheVariants as leg
 use Rattle.plan_text.specs.Lines.{are_in_book, is_leg_in_book}
 use Rattle.plan_text.specs.Lines as lines
 use Rattle.rows.specs.Plan.{is_known}
-use Rattle.town.specs.Fits.{is_act_in, is_car_leg, is_transit_leg, leg_fits, legs_fit, fits}
-use Rattle.town.specs.Rows.{TownRows}
+use Rattle.town.specs.{Fits.is_act_in, Fits.is_car_leg, Fits.is_transit_leg, Fits.leg_fits, Fits.legs_fit, Fits.fits, Rows.TownRows}
 use Rattle.law_replanning.specs.Memories.{hold_fitting, all_hold_fitting}
 use Rattle.plan_memory.specs.Memories.{MemoryRows}
 use Rattle.keep.specs.Fitting.{are_named, all_named}

@@ -1,20 +1,14 @@
 -- The day of an iteration is written, then what is remembered of it is kept, and then comes its line of the report.
 use Rattle.std.proofs.Common.{◌≡◌, ℕ, Bool, List, ◌++◌, Result, Ok, Err, ℤ, refl, ◌∙◌, ap}
-use Rattle.edge_files.specs.declared.effects.EffectError.{EffectError}
+use Rattle.edge_files.specs.{Effects.all_steps, World.Step, World.byte_steps, declared.effects.EffectError.EffectError}
 use Rattle.edge_files.specs.declared.effects.EffectError.TheVariants as error
 use Rattle.edge_files.specs.declared.files.OutFile.TheVariants as out
-use Rattle.edge_files.specs.Effects.{all_steps}
-use Rattle.edge_files.specs.World.{Step, byte_steps}
 use Rattle.events.specs.declared.event.Event.{Event}
 use Rattle.day_scores.specs.Texts.{scores_text}
 use Rattle.plan_memory.specs.Memories.{MemoryRows}
-use Rattle.iterations.specs.Runs.{RunRows}
-use Rattle.iterations.specs.Texts.{events_text, iteration_line}
-use Rattle.iterations.specs.Days.{events_of, scores_in, memories_after}
-use Rattle.iterations.specs.Acts.{chosen_numbers, saves, iteration_effects}
-use Rattle.iterations.specs.Performed.{Moment, IsPerformed, IsWritten}
-use Rattle.iterations.proofs.Outside.{written, done_but, same_steps, first_failed, one_then}
-use Rattle.iterations.proofs.Going.{iteration_steps}
+use Rattle.iterations.proofs.{Going.iteration_steps, Outside.written, Outside.done_but, Outside.same_steps, Outside.first_failed, Outside.one_then}
+use Rattle.iterations.specs.{Acts.chosen_numbers, Acts.saves, Acts.iteration_effects, Days.events_of, Days.scores_in, Days.memories_after, Performed.Moment}
+use Rattle.iterations.specs.{Performed.IsPerformed, Performed.IsWritten, Runs.RunRows, Texts.events_text, Texts.iteration_line}
 
 -- what is written of a day
 unfoldable pub day_steps : RunRows → ℕ → List Event → List ℤ → List ℕ → List Step

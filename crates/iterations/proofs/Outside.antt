@@ -1,14 +1,11 @@
 -- What comes of effects that are done one after the other.
 use Rattle.std.proofs.Common.{◌≡◌, ℕ, ◌≤◌, Bool, List, [], ◌∷◌, ◌++◌, Result, Ok, Err, OnOk, true, false, refl, sym, ◌∙◌, ap, subst, arith}
 use Rattle.std.proofs.lemmas.List.{append-nil, map-append}
-use Rattle.edge_files.specs.declared.effects.EffectError.{EffectError}
+use Rattle.edge_files.proofs.Worlds.{does_nothing, does_then, part_then, part_first, part_whole, part_nothing, told_then, Performing, performing_more}
+use Rattle.edge_files.specs.{Causes.Rose, Effects.all_steps, World.Step, World.Byte, World.byte_steps, World.Does}
+use Rattle.edge_files.specs.declared.{effects.EffectError.EffectError, files.OutFile.OutFile}
 use Rattle.edge_files.specs.declared.effects.EffectError.TheVariants as error
 use Rattle.edge_files.specs.declared.effects.Effect.TheVariants as effect
-use Rattle.edge_files.specs.declared.files.OutFile.{OutFile}
-use Rattle.edge_files.specs.Causes.{Rose}
-use Rattle.edge_files.specs.Effects.{all_steps}
-use Rattle.edge_files.specs.World.{Step, Byte, byte_steps, Does}
-use Rattle.edge_files.proofs.Worlds.{does_nothing, does_then, part_then, part_first, part_whole, part_nothing, told_then, Performing, performing_more}
 use Rattle.iterations.specs.Performed.{Moment, IsPerformed, IsWritten}
 
 rose_later : (before then' now : ℕ) → before ≤ then' → Rose then' now → Rose before now

@@ -1,12 +1,9 @@
 -- The places of the plans that are written are there.
 use Rattle.std.proofs.Common.{◌≡◌, ℕ, zero, suc, ◌+◌, ◌<◌, ◌≤◌, Bool, true, false, cond, not, List, [], ◌∷◌, length, get_or, Some, sym, ap, subst, arith}
-use Rattle.std.specs.Prelude.{filter, remove, nat_eq, nat_lt, slice_get}
-use Rattle.std.specs.List.{list_all, range_with_len, AllByRecursion as Each}
-use Rattle.std.proofs.lemmas.Bool.{and_parts}
-use Rattle.std.proofs.lemmas.List.FromFn.{length-range_with_len}
+use Rattle.std.{proofs.lemmas.Bool.and_parts, proofs.lemmas.List.FromFn.length-range_with_len, specs.List.list_all}
+use Rattle.std.specs.{List.range_with_len, List.AllByRecursion as Each, Prelude.filter, Prelude.remove, Prelude.nat_eq, Prelude.nat_lt, Prelude.slice_get}
 use Rattle.limits.specs.declared.TheConstants.{MAX_PLANS}
-use Rattle.plan_memory.specs.Scores.{worst}
-use Rattle.plan_memory.specs.Memories.{MemoryRows}
+use Rattle.plan_memory.specs.{Memories.MemoryRows, Scores.worst}
 use Rattle.iterations.specs.Written.{other_places, scores_at, written_places}
 
 -- what is found at a place

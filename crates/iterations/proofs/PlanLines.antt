@@ -1,20 +1,16 @@
 -- The lines of plans, plan by plan and person by person.
-use Rattle.std.proofs.Common.{◌≡◌, Bool, ℕ, zero, suc, ◌+◌, ◌<◌, ◌≤◌, true, List, [], ◌∷◌, ◌++◌, length, map, get_or, take, drop, Some, refl, sym, ◌∙◌, ap, subst, arith, append_assoc, append-nil, add-zero, take-append-drop}
+use Rattle.std.proofs.Common.{◌≡◌, Bool, ℕ, zero, suc, ◌+◌, ◌<◌, ◌≤◌, true, List, [], ◌∷◌, ◌++◌, length, map, get_or, take, drop, Some, refl, sym, ◌∙◌, ap}
+use Rattle.std.proofs.{Common.subst, Common.arith, Common.append_assoc, Common.append-nil, Common.add-zero, Common.take-append-drop, Math.ListN.get_or-map}
+use Rattle.std.proofs.lemmas.{Bool.and_parts, Bool.eqb-true, List.drop_more, List.drop_all, List.length-map, List.map-append}
 use Rattle.std.specs.Prelude.{slice_get, ◌==◌}
-use Rattle.std.proofs.Math.ListN.{get_or-map}
-use Rattle.std.proofs.lemmas.Bool.{and_parts, eqb-true}
-use Rattle.std.proofs.lemmas.List.{drop_more, drop_all, length-map, map-append}
 use Rattle.events.specs.declared.event.Book.{Book}
 use Rattle.rows.specs.PlanRows.{PlanRows}
 use Rattle.plan_memory.specs.Memories.{MemoryRows}
 use Rattle.plan_text.specs.Lines.{plan_lines, own_lines, persons_lines, are_in_book}
-use Rattle.town.specs.Fits.{fits}
-use Rattle.town.specs.Rows.{TownRows}
+use Rattle.town.specs.{Fits.fits, Rows.TownRows}
 use Rattle.law_replanning.specs.Memories.{hold_fitting, all_hold_fitting}
-use Rattle.iterations.specs.Written.{plan_at, written_places, written_plans}
-use Rattle.iterations.specs.Runs.{HasNames}
-use Rattle.iterations.proofs.Named.{plan_named}
-use Rattle.iterations.proofs.Places.{found, passes_at}
+use Rattle.iterations.proofs.{Named.plan_named, Places.found, Places.passes_at}
+use Rattle.iterations.specs.{Runs.HasNames, Written.plan_at, Written.written_places, Written.written_plans}
 
 abbrev none : PlanRows
 none = record { acts = []; legs = [] }

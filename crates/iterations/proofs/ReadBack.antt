@@ -1,28 +1,18 @@
 -- What is kept of a run are rows that fit its town, and those of its memories alone.
 use Rattle.std.proofs.Common.{◌≡◌, ℕ, ◌+◌, ◌≤◌, Bool, true, ◌&&◌, List, [], ◌∷◌, length, refl, ◌∙◌, arith}
-use Rattle.std.specs.Prelude.{All, nat_eq, nat_le}
-use Rattle.std.specs.List.{list_all, AllByRecursion as Each}
-use Rattle.std.proofs.lemmas.Bool.{and_from}
-use Rattle.std.proofs.lemmas.Bool.Decides.{nat_tests}
-use Rattle.std.proofs.lemmas.List.Elements.{All-from_recursion, recursion_from_All}
-use Rattle.rows.specs.Plan.{is_leg, are_acts}
-use Rattle.rows.specs.PlanRows.{PlanRows}
+use Rattle.std.proofs.lemmas.{Bool.and_from, Bool.Decides.nat_tests, List.Elements.All-from_recursion, List.Elements.recursion_from_All}
+use Rattle.std.specs.{List.list_all, List.AllByRecursion as Each, Prelude.All, Prelude.nat_eq, Prelude.nat_le}
+use Rattle.rows.specs.{Plan.is_leg, Plan.are_acts, PlanRows.PlanRows}
 use Rattle.limits.specs.declared.TheConstants.{MAX_LEGS}
 use Rattle.plan_text.specs.Lines.{are_in_book, are_plan, is_plan_in}
 use Rattle.plan_memory.specs.Memories.{MemoryRows}
-use Rattle.town.specs.Rows.{TownRows}
-use Rattle.town.specs.Fits.{fits}
+use Rattle.town.specs.{Fits.fits, Rows.TownRows}
 use Rattle.law_in_range.specs.Setups.{IsPlanIn}
 use Rattle.law_replanning.specs.Memories.{IsMemoryIn}
-use Rattle.keep.specs.Kept.{kept_rows}
-use Rattle.keep.specs.Fitting.{AreRowsOf}
+use Rattle.keep.specs.{Fitting.AreRowsOf, Kept.kept_rows}
 use Rattle.keep.specs.Fitting as fitting
-use Rattle.iterations.specs.Runs.{RunRows, HasNames, IsRun}
-use Rattle.iterations.specs.Days.{scores_in, memories_after}
-use Rattle.iterations.specs.Acts.{memories_at}
-use Rattle.iterations.proofs.Named.{plan_named}
-use Rattle.iterations.proofs.Marked.{scored_count}
-use Rattle.iterations.proofs.Staying.{after_in, always_count}
+use Rattle.iterations.proofs.{Marked.scored_count, Named.plan_named, Staying.after_in, Staying.always_count}
+use Rattle.iterations.specs.{Acts.memories_at, Days.scores_in, Days.memories_after, Runs.RunRows, Runs.HasNames, Runs.IsRun}
 
 -- plans of which days can be made are read back
 eq_true : (a b : ℕ) → a ≡ b → nat_eq a b ≡ true

@@ -1,11 +1,9 @@
 -- A day can be written with its scores.
 use Rattle.traffic.proofs.Common.{◌≡◌, ℕ, List, ◌∙◌, length, ap, length-map, map, Event, PlanRows}
 use Rattle.std.specs.Prelude.{ℤ}
-use Rattle.day_scores.specs.Scores.{first_kind, scores_of}
-use Rattle.day_scores.proofs.Ending.{scores-count}
+use Rattle.day_scores.{proofs.Ending.scores-count, specs.Scores.first_kind, specs.Scores.scores_of}
 use Rattle.scoring.specs.Tables.{ScoringRows}
-use Rattle.town.specs.declared.town.Town.{Town}
-use Rattle.town.specs.Views.{rows_of}
+use Rattle.town.specs.{Views.rows_of, declared.town.Town.Town}
 use Rattle.iterations.specs.Runs.{HasNames}
 
 -- as many scores as plans

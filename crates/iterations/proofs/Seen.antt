@@ -1,11 +1,8 @@
 -- The travel times of a day.
-use Rattle.std.proofs.Common.{◌≡◌, ℕ, ◌/◌, ◌<◌, ◌≤◌, max, Bool, true, false, cond, ◌&&◌, List, [], ◌∷◌, length, sum, Option, None, Some, inl, inr, refl, sym, ◌∙◌, ap, arith}
-use Rattle.std.specs.Prelude.{IfSome, nat_eq}
-use Rattle.std.specs.List.{AllByRecursion as Each}
-use Rattle.std.specs.Option.{option_eq}
-use Rattle.std.proofs.lemmas.Bool.{cases_lt, ne_eqb}
-use Rattle.std.proofs.lemmas.List.{get_or_past}
-use Rattle.std.proofs.lemmas.List.Elements.{recursion_from_All}
+use Rattle.std.proofs.Common.{◌≡◌, ℕ, ◌/◌, ◌<◌, ◌≤◌, max, Bool, true, false, cond, ◌&&◌, List, [], ◌∷◌, length, sum, Option, None, Some, inl, inr, refl, sym}
+use Rattle.std.proofs.Common.{◌∙◌, ap, arith}
+use Rattle.std.proofs.lemmas.{Bool.cases_lt, Bool.ne_eqb, List.get_or_past, List.Elements.recursion_from_All}
+use Rattle.std.specs.{List.AllByRecursion as Each, Option.option_eq, Prelude.IfSome, Prelude.nat_eq}
 use Rattle.traffic.proofs.Common.{fun_ext}
 use Rattle.events.specs.declared.event.Event.{Event}
 use Rattle.fixed_flow.specs.Link.{free_seconds}

@@ -1,29 +1,16 @@
 -- What is seen of the day of an iteration.
 use Rattle.traffic.proofs.Common.{◌≡◌, ℕ, List, ◌∙◌, length, ap, refl, sym, subst, length-map, map, Event, PlanRows, plan_rows, day}
-use Rattle.std.proofs.Common.{subst₂}
+use Rattle.std.{proofs.Common.subst₂, specs.List.list_all, specs.Prelude.true}
 use Rattle.events.specs.declared.event.Book.{Book}
 use Rattle.day_scores.specs.Scores.{first_kind, scores_of}
-use Rattle.travel_times.specs.Known.{Knows}
-use Rattle.travel_times.specs.Observed.{AreOnLinks}
+use Rattle.travel_times.specs.{Known.Knows, Observed.AreOnLinks}
 use Rattle.law_in_range.specs.Setups.{HaveFittingPlans}
-use Rattle.event_handler.specs.declared.handling.SeenDay.{SeenDay}
-use Rattle.event_handler.specs.Counts.{AreCounted}
-use Rattle.event_handler.specs.Handling.{links_seen, IsSeen}
+use Rattle.event_handler.specs.{Counts.AreCounted, Handling.links_seen, Handling.IsSeen, declared.handling.SeenDay.SeenDay}
 use Rattle.plan_memory.specs.Memories.{MemoryRows}
-use Rattle.town.specs.declared.day_input.DayInput.{DayInput}
-use Rattle.town.specs.Fits.{fits}
-use Rattle.town.specs.Rows.{TownRows}
-use Rattle.town.specs.Setups.{setup_of}
-use Rattle.town.specs.Views.{rows_of, chosen_in, setup}
-use Rattle.iterations.specs.Runs.{RunRows, CanRun}
-use Rattle.iterations.specs.Days.{followed_plans, events_of, scores_in}
-use Rattle.iterations.specs.Scored.{IsSeenOf}
-use Rattle.iterations.specs.Texts.{events_text}
-use Rattle.iterations.proofs.Marked.{plans_fit, plans_count}
-use Rattle.iterations.proofs.ScoredDays.{scores_each}
+use Rattle.town.specs.{Fits.fits, Rows.TownRows, Setups.setup_of, Views.rows_of, Views.chosen_in, Views.setup, declared.day_input.DayInput.DayInput}
+use Rattle.iterations.proofs.{Marked.plans_fit, Marked.plans_count, ScoredDays.scores_each}
+use Rattle.iterations.specs.{Days.followed_plans, Days.events_of, Days.scores_in, Runs.RunRows, Runs.CanRun, Scored.IsSeenOf, Texts.events_text}
 use Rattle.written_day.proofs.Handled.{day_on_links}
-use Rattle.std.specs.List.{list_all}
-use Rattle.std.specs.Prelude.{true}
 
 module _ (R : RunRows) (k : ℕ) (memories : List MemoryRows) (d : DayInput) (town_is : rows_of d.town.now ≡ R.town)
     (chosen_is : chosen_in d ≡ followed_plans memories) (iteration_is : d.iteration ≡ k) (can : CanRun R memories) where

@@ -1,22 +1,17 @@
 -- In every iteration the memories are memories of the town, and a day of it can be made of the plans that are followed.
 use Rattle.std.proofs.Common.{◌≡◌, ℕ, zero, suc, ◌+◌, List, [], ◌∷◌, length, map, Option, None, Some, ℤ, refl, ◌∙◌}
-use Rattle.std.specs.Prelude.{All, slice_get}
-use Rattle.std.specs.List.{enumerate_from, AllByRecursion as Each}
-use Rattle.std.proofs.Math.ListN.{length-set}
-use Rattle.std.proofs.lemmas.List.Elements.{All-from_recursion, recursion_from_All}
+use Rattle.std.proofs.{Math.ListN.length-set, lemmas.List.Elements.All-from_recursion, lemmas.List.Elements.recursion_from_All}
+use Rattle.std.specs.{List.enumerate_from, List.AllByRecursion as Each, Prelude.All, Prelude.slice_get}
 use Rattle.events.specs.declared.event.Event.{Event}
 use Rattle.learning.specs.Ranges.{AreInRange}
 use Rattle.plan_memory.specs.Memories.{MemoryRows, chosen_plan}
 use Rattle.town.specs.Rows.{TownRows, IsTown}
 use Rattle.law_in_range.specs.Setups.{IsPlanIn}
-use Rattle.law_replanning.specs.Memories.{IsMemoryIn}
-use Rattle.law_replanning.specs.Towns.{IsBasisIn}
 use Rattle.law_replanning.proofs.Remembered.{all_in, chosen_in, replanned_count}
-use Rattle.iterations.specs.Runs.{RunRows}
+use Rattle.law_replanning.specs.{Memories.IsMemoryIn, Towns.IsBasisIn}
+use Rattle.iterations.{proofs.Marked.scored_count, proofs.Seen.seen_fifo, specs.Acts.memories_behind, specs.Acts.memories_at}
 use Rattle.iterations.specs.Days.{followed_plans, events_of, scores_in, with_own_score, scored, memories_after, basis_after, next_memories}
-use Rattle.iterations.specs.Acts.{memories_behind, memories_at}
-use Rattle.iterations.proofs.Seen.{seen_fifo}
-use Rattle.iterations.proofs.Marked.{scored_count}
+use Rattle.iterations.specs.Runs.{RunRows}
 
 own_score_in : (T : TownRows) (m : MemoryRows) (o : Option ℤ) → IsMemoryIn T m → IsMemoryIn T (with_own_score m o)
 own_score_in T m None is = is

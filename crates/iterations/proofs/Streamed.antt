@@ -1,26 +1,18 @@
 -- Events that are written as they come are written as effects are.
 use Rattle.std.proofs.Common.{◌≡◌, ℕ, ℤ, List, ◌++◌, Result, Ok, Err, refl, sym, ◌∙◌, subst, arith, ap, length}
 use Rattle.std.specs.Prelude.{Bool, None, Some}
-use Rattle.edge_files.specs.declared.effects.EffectError.{EffectError}
-use Rattle.edge_files.specs.Effects.{all_steps}
+use Rattle.edge_files.{proofs.Worlds.writes_does, proofs.Worlds.writes_part_does, specs.Effects.all_steps, specs.Keeping.Told}
+use Rattle.edge_files.specs.{Keeping.StaysTold, World.Written, World.byte_steps, declared.effects.EffectError.EffectError, declared.files.OutFile.OutFile}
 use Rattle.events.specs.declared.event.Event.{Event}
-use Rattle.event_handler.specs.declared.counts.EventCounts.{EventCounts}
-use Rattle.event_handler.specs.Counts.{stuck_count, AreCounted}
+use Rattle.event_handler.specs.{Counts.stuck_count, Counts.AreCounted, declared.counts.EventCounts.EventCounts}
 use Rattle.plan_memory.specs.Memories.{MemoryRows}
 use Rattle.scoring.specs.Score.{total}
-use Rattle.iterations.specs.Acts.{saves}
-use Rattle.iterations.specs.Runs.{RunRows}
-use Rattle.iterations.specs.Texts.{iteration_counts, iteration_line}
-use Rattle.edge_files.specs.declared.files.OutFile.{OutFile}
+use Rattle.iterations.{proofs.Outside.all_done, specs.Acts.saves, specs.Performed.Moment, specs.Performed.moment}
+use Rattle.iterations.specs.{Performed.IsPerformed, Performed.IsWritten, Performed.effect_error, Runs.RunRows, Texts.iteration_counts, Texts.iteration_line}
 use Rattle.edge_files.specs.declared.files.OutFile.TheVariants as out
-use Rattle.edge_files.specs.Keeping.{Told, StaysTold}
-use Rattle.edge_files.specs.World.{Written, byte_steps}
-use Rattle.edge_files.proofs.Worlds.{writes_does, writes_part_does}
 use Rattle.event_writer.specs.declared.writing.StreamError.{StreamError}
 use Rattle.event_writer.specs.declared.writing.StreamError.TheVariants as stream
 use Rattle.event_writer.specs.Writing as writer
-use Rattle.iterations.specs.Performed.{Moment, moment, IsPerformed, IsWritten, effect_error}
-use Rattle.iterations.proofs.Outside.{all_done}
 
 stays : (kept : Told) → StaysTold kept kept
 stays None = tt

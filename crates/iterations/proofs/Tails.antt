@@ -1,22 +1,15 @@
 -- A run that goes on from what was kept does the rest of the whole run.
 use Rattle.std.proofs.Common.{◌≡◌, ℕ, zero, suc, ◌+◌, ◌-◌, ◌<◌, ◌≤◌, Bool, true, false, cond, List, ◌++◌, refl, sym, ◌∙◌, ap, arith, zero-add}
-use Rattle.std.specs.Prelude.{nat_lt}
-use Rattle.std.specs.List.{range_with_len}
-use Rattle.std.proofs.lemmas.Bool.Decides.{nat_tests}
-use Rattle.edge_files.specs.declared.effects.Effect.{Effect}
-use Rattle.edge_files.specs.Keeping.{kept_of}
+use Rattle.std.{proofs.lemmas.Bool.Decides.nat_tests, specs.List.range_with_len, specs.Prelude.nat_lt}
+use Rattle.edge_files.specs.{Keeping.kept_of, declared.effects.Effect.Effect}
 use Rattle.events.specs.declared.event.Event.{Event}
-use Rattle.keep.specs.Kept.{kept_rows}
+use Rattle.keep.{proofs.Either.one_list, specs.Kept.kept_rows}
 use Rattle.plan_memory.specs.Memories.{MemoryRows}
 use Rattle.replanning.specs.Persons.{all_replanned}
-use Rattle.iterations.specs.Runs.{RunRows, until, IsRun}
-use Rattle.iterations.specs.Days.{events_of, scores_in, memories_after, basis_after, next_memories}
+use Rattle.iterations.proofs.{Going.alike, Going.acts_split, Marked.same_events, ReadBack.run_back}
 use Rattle.iterations.specs.Acts.{saves, iteration_effects, end_effects, memories_behind, memories_at, iterations_effects, acts_behind, acts}
 use Rattle.iterations.specs.Continued.{begun_after, continued, GoesOn}
-use Rattle.iterations.proofs.Going.{alike, acts_split}
-use Rattle.iterations.proofs.Marked.{same_events}
-use Rattle.keep.proofs.Either.{one_list}
-use Rattle.iterations.proofs.ReadBack.{run_back}
+use Rattle.iterations.specs.{Days.events_of, Days.scores_in, Days.memories_after, Days.basis_after, Days.next_memories, Runs.RunRows, Runs.until, Runs.IsRun}
 
 less : (a b : ℕ) → nat_lt a b ≡ true → a < b
 less a b e = grind (arith, nat_tests)

@@ -8,10 +8,8 @@ use Rattle.day_scores.specs.Texts.{scores_text}
 use Rattle.plan_text.specs.Lines.{plans_text}
 use Rattle.plan_memory.specs.Memories.{MemoryRows}
 use Rattle.keep.specs.Kept.{kept_rows}
-use Rattle.iterations.specs.Runs.{RunRows}
-use Rattle.iterations.specs.Texts.{events_text, iteration_line, done_line}
 use Rattle.iterations.specs.Days.{events_of, scores_in, memories_after, next_memories}
-use Rattle.iterations.specs.Written.{written_plans}
+use Rattle.iterations.specs.{Runs.RunRows, Texts.events_text, Texts.iteration_line, Texts.done_line, Written.written_plans}
 
 -- the numbers of the chosen plans
 abbrev pub chosen_numbers : List MemoryRows → List ℕ

@@ -1,13 +1,10 @@
 -- A run that goes on from what was kept after an iteration.
 use Rattle.std.specs.Prelude.{◌≡◌, ℕ, ◌+◌, ◌-◌, nat_lt, List, Option, None, Some, if◌then◌else◌}
-use Rattle.edge_files.specs.declared.effects.Effect.{Effect}
-use Rattle.edge_files.specs.Keeping.{Kept}
+use Rattle.edge_files.specs.{Keeping.Kept, declared.effects.Effect.Effect}
 use Rattle.keep.specs.Fitting.{AreRowsOf}
 use Rattle.plan_memory.specs.Memories.{MemoryRows}
 use Rattle.replanning.specs.Persons.{all_replanned}
-use Rattle.iterations.specs.Runs.{RunRows}
-use Rattle.iterations.specs.Days.{events_of, basis_after}
-use Rattle.iterations.specs.Acts.{end_effects, acts_behind, acts}
+use Rattle.iterations.specs.{Acts.end_effects, Acts.acts_behind, Acts.acts, Days.events_of, Days.basis_after, Runs.RunRows}
 
 -- the memories with which the iteration after this one begins: the day of the kept plans is simulated once more for its travel times
 abbrev pub begun_after : RunRows → ℕ → List MemoryRows → List MemoryRows

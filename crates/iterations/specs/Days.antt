@@ -2,15 +2,12 @@
 use Rattle.std.specs.Prelude.{ℕ, ◌+◌, List, map, slice_get, Option, None, Some, ℤ}
 use Rattle.std.specs.List.{enumerate_from}
 use Rattle.events.specs.declared.event.Event.{Event}
-use Rattle.rows.specs.declared.network.LinkRow.{LinkRow}
-use Rattle.rows.specs.PlanRows.{PlanRows}
+use Rattle.rows.specs.{PlanRows.PlanRows, declared.network.LinkRow.LinkRow}
 use Rattle.day_scores.specs.Scores.{first_kind, scores_of}
-use Rattle.traffic.specs.Setup.{Setup}
-use Rattle.traffic.specs.Day.{day}
+use Rattle.traffic.specs.{Day.day, Setup.Setup}
 use Rattle.town.specs.Setups.{setup_of}
 use Rattle.walks.specs.Arrivals.{Arrivals}
-use Rattle.travel_times.specs.Times.{arrival_by}
-use Rattle.travel_times.specs.Observed.{observed_time}
+use Rattle.travel_times.specs.{Observed.observed_time, Times.arrival_by}
 use Rattle.plan_memory.specs.Memories.{MemoryRows, chosen_plan, with_score}
 use Rattle.replanning.specs.Persons.{Basis, all_replanned}
 use Rattle.law_replanning.specs.Towns.{graph_in}

@@ -1,12 +1,10 @@
 -- What came of effects that were to be done outside.
 use Rattle.std.specs.Prelude.{◌≡◌, ℕ, ◌≤◌, Bool, true, false, List, Result, Err, OnOk, OnErr}
+use Rattle.edge_files.specs.{Causes.Rose, Keeping.Told, Keeping.StaysTold, World.World, World.Written, World.Step, World.outside, World.Does, World.DoesPart}
 use Rattle.edge_files.specs.declared.effects.EffectError.{EffectError}
 use Rattle.edge_files.specs.declared.effects.EffectError.TheVariants as error
-use Rattle.edge_files.specs.Causes.{Rose}
 use Rattle.event_writer.specs.declared.writing.StreamError.{StreamError}
 use Rattle.event_writer.specs.declared.writing.StreamError.TheVariants as stream
-use Rattle.edge_files.specs.Keeping.{Told, StaysTold}
-use Rattle.edge_files.specs.World.{World, Written, Step, outside, Does, DoesPart}
 
 -- the outside at a moment: what outputs and a keeper tell, and how often a write and a call of the keeper have failed
 pub record Moment : Type 0 where

@@ -1,7 +1,6 @@
 -- What a run of several days is made from.
 use Rattle.std.specs.Prelude.{◌≡◌, ℕ, Bool, true, List, length, All}
-use Rattle.learning.specs.declared.settings.Learning.{Learning}
-use Rattle.learning.specs.Ranges.{AreInRange}
+use Rattle.learning.specs.{Ranges.AreInRange, declared.settings.Learning.Learning}
 use Rattle.plan_memory.specs.Memories.{MemoryRows}
 use Rattle.scoring.specs.Tables.{ScoringRows}
 use Rattle.plan_text.specs.Lines.{IsBook}

@@ -1,16 +1,11 @@
 -- What was seen of the day of an iteration.
 use Rattle.std.specs.Prelude.{◌≡◌, ℕ, List, length, All}
 use Rattle.events.specs.declared.event.Event.{Event}
-use Rattle.scoring.specs.declared.TheConstants.{MAX_SCORE}
-use Rattle.scoring.specs.Ranges.{IsWithin}
-use Rattle.travel_times.specs.declared.observations.Observations.{Observations}
-use Rattle.travel_times.specs.Known.{Knows, links_of}
-use Rattle.travel_times.specs.Observed.{AreOnLinks}
-use Rattle.event_handler.specs.declared.handling.SeenDay.{SeenDay}
-use Rattle.event_handler.specs.Counts.{AreCounted}
+use Rattle.scoring.specs.{Ranges.IsWithin, declared.TheConstants.MAX_SCORE}
+use Rattle.travel_times.specs.{Known.Knows, Known.links_of, Observed.AreOnLinks, declared.observations.Observations.Observations}
+use Rattle.event_handler.specs.{Counts.AreCounted, declared.handling.SeenDay.SeenDay}
 use Rattle.plan_memory.specs.Memories.{MemoryRows}
-use Rattle.iterations.specs.Runs.{RunRows}
-use Rattle.iterations.specs.Days.{events_of, scores_in}
+use Rattle.iterations.specs.{Days.events_of, Days.scores_in, Runs.RunRows}
 
 -- observations of so many links know what these events show, and all of these are on their links
 pub record AreObserved (links : ℕ) (events : List Event) (observations : Observations) : Type 0 where

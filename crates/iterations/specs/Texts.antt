@@ -1,9 +1,6 @@
 -- The texts of an iteration, and the end of the report.
-use Rattle.std.specs.Prelude.{ℕ, codes, decimal, List, ◌++◌, length, ℤ}
-use Rattle.std.specs.Fmt.{signed_decimal}
-use Rattle.events.specs.declared.event.Event.{Event}
-use Rattle.events.specs.declared.event.Book.{Book}
-use Rattle.events.specs.Lines.{event_lines}
+use Rattle.std.specs.{Fmt.signed_decimal, Prelude.ℕ, Prelude.codes, Prelude.decimal, Prelude.List, Prelude.◌++◌, Prelude.length, Prelude.ℤ}
+use Rattle.events.specs.{Lines.event_lines, declared.event.Book.Book, declared.event.Event.Event}
 use Rattle.event_handler.specs.Counts.{stuck_count}
 use Rattle.scoring.specs.Score.{total}
 

@@ -1,8 +1,7 @@
 -- What a run is made from, as the definitions see it.
-use Rattle.iterations.specs.declared.run.RunInput.{RunInput}
+use Rattle.iterations.specs.{Runs.RunRows, declared.run.RunInput.RunInput}
 use Rattle.scoring.specs.Tables.{scoring_rows}
 use Rattle.town.specs.Views.{rows_of}
-use Rattle.iterations.specs.Runs.{RunRows}
 
 abbrev pub run_rows : {G : Type 0} → RunInput G → RunRows
 run_rows run = record {

@@ -3,8 +3,7 @@ use Rattle.std.specs.Prelude.{ℕ, not, nat_eq, nat_lt, List, [], ◌∷◌, len
 use Rattle.std.specs.List.{range_with_len}
 use Rattle.limits.specs.declared.TheConstants.{MAX_PLANS}
 use Rattle.rows.specs.PlanRows.{PlanRows}
-use Rattle.plan_memory.specs.Scores.{worst}
-use Rattle.plan_memory.specs.Memories.{MemoryRows}
+use Rattle.plan_memory.specs.{Memories.MemoryRows, Scores.worst}
 
 -- the places of the plans that are not chosen
 abbrev pub other_places : MemoryRows → List ℕ

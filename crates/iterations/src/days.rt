@@ -5,11 +5,8 @@ ghost use Rattle.events.specs.declared.event.Event.{Event};
 ghost use Rattle.rows.specs.PlanRows.{plan_rows};
 ghost use Rattle.router.specs.Graphs.{graph_of};
 ghost use Rattle.replanning.specs.Persons.{all_replanned};
-ghost use Rattle.iterations.specs.Acts.{chosen_numbers};
-ghost use Rattle.iterations.specs.Days.{followed_plans, with_own_score, scored, basis_after};
-ghost use Rattle.iterations.specs.Runs.{CanRun};
-ghost use Rattle.iterations.specs.Scored.{AreObserved};
-ghost use Rattle.iterations.specs.Views.{run_rows};
+ghost use Rattle.iterations.specs.{Acts.chosen_numbers, Days.followed_plans, Days.with_own_score, Days.scored, Days.basis_after};
+ghost use Rattle.iterations.specs.{Runs.CanRun, Scored.AreObserved, Views.run_rows};
 
 use crate::run::RunInput;
 use plan_memory::Memory;

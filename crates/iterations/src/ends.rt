@@ -1,18 +1,12 @@
 //! The end of a run: the plans that may be read again, and the last line of the report.
 
-ghost use Rattle.std.specs.Prelude.{◌≡◌, ◌<◌, ◌≤◌, ◌+◌, ◌++◌, length, map, drop, true, None};
-ghost use Rattle.std.specs.Prelude.{slice_index_or, IfOk, OnOk};
-ghost use Rattle.edge_files.specs.Effects.{all_steps};
-ghost use Rattle.edge_files.specs.World.{byte_steps};
+ghost use Rattle.std.specs.Prelude.{◌≡◌, ◌<◌, ◌≤◌, ◌+◌, ◌++◌, length, map, drop, true, None, slice_index_or, IfOk, OnOk};
+ghost use Rattle.edge_files.specs.{Effects.all_steps, World.byte_steps};
 ghost use Rattle.law_replanning.specs.Memories.{hold_fitting, all_hold_fitting};
 ghost use Rattle.plan_text.specs.Lines.{own_lines, persons_lines, plans_text};
 ghost use Rattle.town.specs.Views.{rows_of};
 ghost use Rattle.plan_memory.specs.Scores.{worst};
-ghost use Rattle.iterations.specs.Acts.{end_effects};
-ghost use Rattle.iterations.specs.Texts.{done_line};
-ghost use Rattle.iterations.specs.Performed.{IsWritten, moment};
-ghost use Rattle.iterations.specs.Runs.{CanRun};
-ghost use Rattle.iterations.specs.Views.{run_rows};
+ghost use Rattle.iterations.specs.{Acts.end_effects, Performed.IsWritten, Performed.moment, Runs.CanRun, Texts.done_line, Views.run_rows};
 ghost use Rattle.iterations.specs.Written.{other_places, scores_at, kept_places, written_places, written_plans};
 
 use crate::performing::write;

@@ -1,20 +1,12 @@
 //! The loop.
 
 ghost use Rattle.std.specs.Prelude.{◌≡◌, ◌<◌, ◌≤◌, ◌-◌, ◌++◌, false, length, All, IfOk};
-ghost use Rattle.edge_files.specs.Effects.{all_steps};
-ghost use Rattle.edge_files.specs.World.{byte_steps};
+ghost use Rattle.edge_files.specs.{Effects.all_steps, World.byte_steps};
 ghost use Rattle.limits.specs.declared.TheConstants.{MAX_PERSONS};
-ghost use Rattle.scoring.specs.declared.TheConstants.{MAX_SCORE};
-ghost use Rattle.scoring.specs.Ranges.{IsWithin};
-ghost use Rattle.scoring.specs.Score.{total};
-ghost use Rattle.iterations.specs.Acts.{saves, iteration_effects, end_effects, acts_behind};
-ghost use Rattle.iterations.specs.Continued.{begun_after, continued, acts_after};
-ghost use Rattle.iterations.specs.Days.{events_of, memories_after};
-ghost use Rattle.iterations.specs.Performed.{IsPerformed, moment};
-ghost use Rattle.iterations.specs.Runs.{CanRun};
-ghost use Rattle.iterations.specs.Scored.{AreObserved};
-ghost use Rattle.iterations.specs.Texts.{iteration_counts};
-ghost use Rattle.iterations.specs.Views.{run_rows};
+ghost use Rattle.scoring.specs.{Ranges.IsWithin, Score.total, declared.TheConstants.MAX_SCORE};
+ghost use Rattle.iterations.specs.{Acts.saves, Acts.iteration_effects, Acts.end_effects, Acts.acts_behind, Continued.begun_after};
+ghost use Rattle.iterations.specs.{Continued.continued, Continued.acts_after, Days.events_of, Days.memories_after, Performed.IsPerformed};
+ghost use Rattle.iterations.specs.{Performed.moment, Runs.CanRun, Scored.AreObserved, Texts.iteration_counts, Views.run_rows};
 
 use crate::days::{replanned, scored};
 use crate::ends::write_end;

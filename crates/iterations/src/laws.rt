@@ -1,11 +1,9 @@
 //! What holds of every run. Each law is the contract of a call that does nothing.
 
 ghost use Rattle.std.specs.Prelude.{◌≡◌, ◌≤◌, ◌++◌, ℕ, suc, List, length, All};
-ghost use Rattle.edge_files.specs.declared.effects.Effect.{Effect};
-ghost use Rattle.edge_files.specs.Keeping.{kept_of};
+ghost use Rattle.edge_files.specs.{Keeping.kept_of, declared.effects.Effect.Effect};
 ghost use Rattle.events.specs.declared.event.Event.{Event};
-ghost use Rattle.keep.specs.Fitting.{AreRowsOf, IsForeignAt};
-ghost use Rattle.keep.specs.Kept.{kept_rows};
+ghost use Rattle.keep.specs.{Fitting.AreRowsOf, Fitting.IsForeignAt, Kept.kept_rows};
 ghost use Rattle.law_in_range.specs.Setups.{IsPlanIn};
 ghost use Rattle.law_replanning.specs.Memories.{IsMemoryIn};
 ghost use Rattle.learning.specs.Ranges.{AreInRange};
@@ -13,8 +11,7 @@ ghost use Rattle.plan_memory.specs.Memories.{MemoryRows};
 ghost use Rattle.rows.specs.declared.network.LinkRow.{LinkRow};
 ghost use Rattle.town.specs.Rows.{IsTown};
 ghost use Rattle.walks.specs.Arrivals.{IsFifo};
-ghost use Rattle.iterations.specs.Acts.{memories_at, iterations_effects, acts};
-ghost use Rattle.iterations.specs.Continued.{continued, GoesOn};
+ghost use Rattle.iterations.specs.{Acts.memories_at, Acts.iterations_effects, Acts.acts, Continued.continued, Continued.GoesOn};
 ghost use Rattle.iterations.specs.Days.{followed_plans, events_of, memories_after, seen_arrivals};
 ghost use Rattle.iterations.specs.Runs.{RunRows, until, IsRun};
 

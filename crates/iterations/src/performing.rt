@@ -4,11 +4,8 @@ ghost use Rattle.std.specs.Prelude.{◌≡◌, ◌≤◌, length, All};
 ghost use Rattle.edge_files.specs.World.{byte_steps};
 ghost use Rattle.day_scores.specs.Texts.{scores_text};
 ghost use Rattle.limits.specs.declared.TheConstants.{MAX_PERSONS};
-ghost use Rattle.scoring.specs.declared.TheConstants.{MAX_SCORE};
-ghost use Rattle.scoring.specs.Ranges.{IsWithin};
-ghost use Rattle.scoring.specs.Score.{total};
-ghost use Rattle.iterations.specs.Performed.{IsWritten, moment};
-ghost use Rattle.iterations.specs.Texts.{iteration_counts};
+ghost use Rattle.scoring.specs.{Ranges.IsWithin, Score.total, declared.TheConstants.MAX_SCORE};
+ghost use Rattle.iterations.specs.{Performed.IsWritten, Performed.moment, Texts.iteration_counts};
 
 use crate::texts::iteration_line;
 use day_scores::scores_text;

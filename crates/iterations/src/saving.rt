@@ -2,10 +2,7 @@
 
 ghost use Rattle.std.specs.Prelude.{◌≡◌, false};
 ghost use Rattle.edge_files.specs.Effects.{all_steps};
-ghost use Rattle.iterations.specs.Acts.{saves};
-ghost use Rattle.iterations.specs.Performed.{IsPerformed, moment};
-ghost use Rattle.iterations.specs.Runs.{CanRun};
-ghost use Rattle.iterations.specs.Views.{run_rows};
+ghost use Rattle.iterations.specs.{Acts.saves, Performed.IsPerformed, Performed.moment, Runs.CanRun, Views.run_rows};
 
 use crate::run::RunInput;
 use edge_files::{Effect, EffectError, Keeper, Outputs, perform};

@@ -1,21 +1,15 @@
 //! The day of an iteration: its events are written as they come, and what they are worth and show is taken of them.
 
 ghost use Rattle.std.specs.Prelude.{◌≡◌, ◌++◌, length, map, IfOk};
-ghost use Rattle.day_scores.specs.Scores.{first_kind};
-ghost use Rattle.day_scores.specs.Texts.{scores_text};
+ghost use Rattle.day_scores.specs.{Scores.first_kind, Texts.scores_text};
 ghost use Rattle.edge_files.specs.World.{byte_steps};
 ghost use Rattle.event_handler.specs.Handling.{links_seen, IsSeen};
 ghost use Rattle.law_in_range.specs.Setups.{HaveFittingPlans};
 ghost use Rattle.scoring.specs.Tables.{scoring_rows};
 ghost use Rattle.town.specs.Views.{setup, chosen_in};
 ghost use Rattle.traffic.specs.Day as traffic_day;
-ghost use Rattle.iterations.specs.Acts.{chosen_numbers};
-ghost use Rattle.iterations.specs.Days.{events_of, scores_in};
-ghost use Rattle.iterations.specs.Performed.{IsWritten, moment, effect_error};
-ghost use Rattle.iterations.specs.Runs.{CanRun};
-ghost use Rattle.iterations.specs.Scored.{IsSeenOf};
-ghost use Rattle.iterations.specs.Texts.{events_text};
-ghost use Rattle.iterations.specs.Views.{run_rows};
+ghost use Rattle.iterations.specs.{Acts.chosen_numbers, Days.events_of, Days.scores_in, Performed.IsWritten, Performed.moment};
+ghost use Rattle.iterations.specs.{Performed.effect_error, Runs.CanRun, Scored.IsSeenOf, Texts.events_text, Views.run_rows};
 
 use crate::days::{chosen_numbers, followed_plans};
 use crate::performing::{write, write_scores};

@@ -1,10 +1,8 @@
 ghost use Rattle.std.specs.Prelude.{◌≡◌, ◌≤◌, ◌++◌, codes, decimal, length, IfOk, All};
 ghost use Rattle.limits.specs.declared.TheConstants.{MAX_PERSONS};
-ghost use Rattle.scoring.specs.declared.TheConstants.{MAX_SCORE};
-ghost use Rattle.scoring.specs.Ranges.{IsWithin};
+ghost use Rattle.scoring.specs.{Ranges.IsWithin, Score.total, declared.TheConstants.MAX_SCORE};
 ghost use Rattle.plans.specs.Kinds.{plans_header};
 ghost use Rattle.plan_text.specs.Lines.{row_line};
-ghost use Rattle.scoring.specs.Score.{total};
 ghost use Rattle.iterations.specs.Texts.{iteration_counts, done_line};
 
 use day_scores::sum_of;

@@ -1,24 +1,19 @@
 -- What is answered to kept rows: their memories, or the place at which they do not fit.
 use Rattle.std.proofs.Common.{◌≡◌, ℕ, ◌+◌, ◌<◌, ◌≤◌, ◌^◌, List, [], ◌∷◌, ◌++◌, length, get_or, take, drop, None, Some, refl, sym, ap, ◌∙◌, arith}
-use Rattle.std.specs.Prelude.{option_and_then, true, Result, Ok, Err, IfOk, MatchResult}
+use Rattle.std.proofs.lemmas.List.{take_more, take-take, take_all, take-append-drop, length-take, Elements.recursion_from_All}
 use Rattle.std.specs.List.{list_all, AllByRecursion}
-use Rattle.std.proofs.lemmas.List.Elements.{recursion_from_All}
+use Rattle.std.specs.Prelude.{option_and_then, true, Result, Ok, Err, IfOk, MatchResult}
 use Rattle.events.specs.declared.event.Book.{Book}
 use Rattle.rows.specs.PlanRows.{PlanRows}
-use Rattle.std.proofs.lemmas.List.{take_more, take-take, take_all, take-append-drop, length-take}
 use Rattle.edge_files.specs.declared.keeping.KeptRow.{KeptRow}
-use Rattle.plan_text.specs.Lines.{IsBook, are_plan, are_in_book, is_plan_in}
-use Rattle.plan_text.proofs.Joins.{both, and_true}
+use Rattle.plan_text.{proofs.Joins.both, proofs.Joins.and_true, specs.Lines.IsBook, specs.Lines.are_plan, specs.Lines.are_in_book, specs.Lines.is_plan_in}
 use Rattle.plan_memory.specs.Memories.{MemoryRows}
 use Rattle.town.specs.Rows.{TownRows}
-use Rattle.keep.specs.declared.reading.KeptError.{KeptError}
-use Rattle.keep.specs.declared.reading.KeptError.TheVariants as stop
-use Rattle.keep.specs.Fitting.{are_named, all_named, IsKeptMemory, AreRowsOf, Begin, IsForeignAt, IsRead}
-use Rattle.keep.specs.Reading.{Progress, start, step, run, ended}
-use Rattle.keep.proofs.Tests.{none_some, same_some, some_then}
-use Rattle.keep.proofs.Told.{tells_all, ended_rows, few_rows}
+use Rattle.keep.proofs.{Fronts.begins, Tests.none_some, Tests.same_some, Tests.some_then, Told.tells_all, Told.ended_rows, Told.few_rows}
 use Rattle.keep.proofs.Wholes.{run-append, whole_run}
-use Rattle.keep.proofs.Fronts.{begins}
+use Rattle.keep.specs.Fitting.{are_named, all_named, IsKeptMemory, AreRowsOf, Begin, IsForeignAt, IsRead}
+use Rattle.keep.specs.{Reading.Progress, Reading.start, Reading.step, Reading.run, Reading.ended, declared.reading.KeptError.KeptError}
+use Rattle.keep.specs.declared.reading.KeptError.TheVariants as stop
 
 -- rows of which a front is read as nothing are not read
 front_none : (T : TownRows) (xs ys : List KeptRow) → run T start xs ≡ None → run T start (xs ++ ys) ≡ None

@@ -1,15 +1,12 @@
 -- Any rows fit or are foreign, and not both; those that fit are of one list of memories, and those that do not are so at one place.
-use Rattle.std.proofs.Common.{◌≡◌, ℕ, suc, ◌<◌, ◌≤◌, ◌⊎◌, inl, inr, Bool, true, false, List, [], ◌∷◌, get_or, length, take, Option, None, Some, refl, sym, ap, ◌∙◌, arith}
-use Rattle.std.specs.Prelude.{nat_lt, option_and_then}
+use Rattle.std.proofs.Common.{◌≡◌, ℕ, suc, ◌<◌, ◌≤◌, ◌⊎◌, inl, inr, Bool, true, false, List, [], ◌∷◌, get_or, length, take, Option, None, Some, refl, sym, ap}
+use Rattle.std.{proofs.Common.◌∙◌, proofs.Common.arith, specs.Prelude.nat_lt, specs.Prelude.option_and_then}
 use Rattle.edge_files.specs.declared.keeping.KeptRow.{KeptRow}
 use Rattle.plan_text.specs.Lines.{IsBook}
 use Rattle.plan_memory.specs.Memories.{MemoryRows}
 use Rattle.town.specs.Rows.{TownRows}
-use Rattle.keep.specs.Fitting.{AreRowsOf, IsForeignAt}
-use Rattle.keep.specs.Reading.{Progress, start, step, run, ended}
-use Rattle.keep.proofs.Tests.{none_some, lt_says, ge_says}
-use Rattle.keep.proofs.Wholes.{whole_run}
-use Rattle.keep.proofs.Answered.{foreign_here, foreign_end, all_read}
+use Rattle.keep.proofs.{Answered.foreign_here, Answered.foreign_end, Answered.all_read, Tests.none_some, Tests.lt_says, Tests.ge_says, Wholes.whole_run}
+use Rattle.keep.specs.{Fitting.AreRowsOf, Fitting.IsForeignAt, Reading.Progress, Reading.start, Reading.step, Reading.run, Reading.ended}
 
 -- the first row that is not read
 record Unread (T : TownRows) (s : Progress) (rows : List KeptRow) : Type 0 where

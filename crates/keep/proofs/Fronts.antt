@@ -1,21 +1,16 @@
 -- What is read so far can be completed: more rows may come with which all fit the town.
-use Rattle.std.proofs.Common.{◌≡◌, ℕ, ◌+◌, ◌-◌, ◌<◌, ◌≤◌, Bool, true, false, ◌&&◌, List, [], ◌∷◌, ◌++◌, length, Option, None, Some, refl, sym, ap, ◌∙◌, arith, append_assoc, append-nil, length-append}
-use Rattle.std.specs.Prelude.{ℤ, nat_eq, replicate}
-use Rattle.std.specs.List.{list_all, AllByRecursion}
-use Rattle.std.proofs.lemmas.List.{length-replicate}
-use Rattle.std.proofs.lemmas.List.Folds.{list_all-append}
-use Rattle.std.proofs.lemmas.List.Elements.{All-from_recursion, All-append, All-replicate, All-cons}
+use Rattle.std.proofs.Common.{◌≡◌, ℕ, ◌+◌, ◌-◌, ◌<◌, ◌≤◌, Bool, true, false, ◌&&◌, List, [], ◌∷◌, ◌++◌, length, Option, None, Some, refl, sym, ap, ◌∙◌, arith}
+use Rattle.std.proofs.{Common.append_assoc, Common.append-nil, Common.length-append, lemmas.List.length-replicate}
+use Rattle.std.proofs.lemmas.List.{Elements.All-from_recursion, Elements.All-append, Elements.All-replicate, Elements.All-cons, Folds.list_all-append}
+use Rattle.std.specs.{List.list_all, List.AllByRecursion, Prelude.ℤ, Prelude.nat_eq, Prelude.replicate}
 use Rattle.rows.specs.PlanRows.{PlanRows}
 use Rattle.edge_files.specs.declared.keeping.KeptRow.{KeptRow}
 use Rattle.plan_text.proofs.Joins.{both, and_true}
 use Rattle.plan_memory.specs.Memories.{MemoryRows}
 use Rattle.town.specs.Rows.{TownRows}
-use Rattle.keep.specs.Kept.{row_of, is_choice, rows_from, own_rows, persons_rows, kept_rows}
-use Rattle.keep.specs.Fitting.{IsKeptMemory, Begin}
-use Rattle.keep.specs.Reading.{Progress, is_fitting}
-use Rattle.keep.proofs.Tests.{eq_true, less_ne}
-use Rattle.keep.proofs.RowLists.{rows_from-push, rows_from-choice, persons_rows-append}
-use Rattle.keep.proofs.Told.{IsFit, each_weaker, memory_fits, Says}
+use Rattle.keep.proofs.{RowLists.rows_from-push, RowLists.rows_from-choice, RowLists.persons_rows-append, Tests.eq_true, Tests.less_ne, Told.IsFit}
+use Rattle.keep.{proofs.Told.each_weaker, proofs.Told.memory_fits, proofs.Told.Says, specs.Fitting.IsKeptMemory, specs.Fitting.Begin}
+use Rattle.keep.specs.{Kept.row_of, Kept.is_choice, Kept.rows_from, Kept.own_rows, Kept.persons_rows, Kept.kept_rows, Reading.Progress, Reading.is_fitting}
 
 module _ (T : TownRows) where
   -- a person who remembers one plan, which he has not tried

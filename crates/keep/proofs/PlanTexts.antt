@@ -1,16 +1,11 @@
 -- The plan of a text: read back where it fits, and one that fits where it is read.
 use Rattle.std.proofs.Common.{◌≡◌, ℕ, ◌<◌, ◌^◌, Bool, true, false, cond, ◌&&◌, List, length, None, Some, refl, ap, ◌∙◌, subst}
-use Rattle.std.specs.Prelude.{bytes_eq}
-use Rattle.std.proofs.lemmas.Slice.Eq.{bytes_eq-Decides}
+use Rattle.std.{proofs.lemmas.Slice.Eq.bytes_eq-Decides, specs.Prelude.bytes_eq}
 use Rattle.rows.specs.PlanRows.{PlanRows}
-use Rattle.plan_text.specs.Lines.{IsBook, IsTextOf, plan_lines, is_plan_in}
-use Rattle.plan_text.specs.Elements.{rows_in, acts_in, legs_in}
-use Rattle.plan_text.proofs.Joins.{both, and_true}
-use Rattle.plan_text.proofs.Whole.{only_plan, same_bytes}
-use Rattle.town.specs.Rows.{TownRows}
-use Rattle.town.specs.Fits.{fits}
-use Rattle.keep.specs.Reading.{is_fitting, parts_in, plan_in}
-use Rattle.keep.proofs.Tests.{same_some, some_if}
+use Rattle.plan_text.proofs.{Joins.both, Joins.and_true, Whole.only_plan, Whole.same_bytes}
+use Rattle.plan_text.specs.{Elements.rows_in, Elements.acts_in, Elements.legs_in, Lines.IsBook, Lines.IsTextOf, Lines.plan_lines, Lines.is_plan_in}
+use Rattle.town.specs.{Fits.fits, Rows.TownRows}
+use Rattle.keep.{proofs.Tests.same_some, proofs.Tests.some_if, specs.Reading.is_fitting, specs.Reading.parts_in, specs.Reading.plan_in}
 
 module _ (T : TownRows) (person index : ℕ) where
   abbrev has_lines : PlanRows → List ℕ → Bool

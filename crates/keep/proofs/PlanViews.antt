@@ -1,8 +1,6 @@
 -- The plans of a list, as their activities and legs: how many, and one more.
-use Rattle.std.proofs.Common.{◌≡◌, List, [], ◌∷◌, ◌++◌, length, map}
-use Rattle.std.proofs.lemmas.List.{length-map, map-append}
-use Rattle.rows.specs.declared.plan.Plan.{Plan}
-use Rattle.rows.specs.PlanRows.{plan_rows}
+use Rattle.std.proofs.{Common.◌≡◌, Common.List, Common.[], Common.◌∷◌, Common.◌++◌, Common.length, Common.map, lemmas.List.length-map, lemmas.List.map-append}
+use Rattle.rows.specs.{PlanRows.plan_rows, declared.plan.Plan.Plan}
 
 pub plans_count : (plans : List Plan) → length (map plan_rows plans) ≡ length plans
 plans_count plans = length-map plans plan_rows

@@ -1,14 +1,11 @@
 -- The row of one plan, and the rows of one person, come off the front of those that are still to be kept.
-use Rattle.std.proofs.Common.{◌≡◌, ℕ, zero, suc, subst, ◌+◌, ◌<◌, ◌≤◌, Bool, true, List, [], ◌∷◌, ◌++◌, length, get_or, take, drop, Option, Some, refl, sym, ap, ◌∙◌, arith, append_assoc, append-nil}
-use Rattle.std.specs.Prelude.{ℤ, slice_get}
-use Rattle.std.specs.List.{list_all}
-use Rattle.std.proofs.lemmas.List.{drop_more, take_more}
-use Rattle.std.proofs.lemmas.List.Folds.{list_all-append}
+use Rattle.std.proofs.Common.{◌≡◌, ℕ, zero, suc, subst, ◌+◌, ◌<◌, ◌≤◌, Bool, true, List, [], ◌∷◌, ◌++◌, length, get_or, take, drop, Option, Some, refl, sym, ap}
+use Rattle.std.proofs.{Common.◌∙◌, Common.arith, Common.append_assoc, Common.append-nil, lemmas.List.drop_more, lemmas.List.take_more}
+use Rattle.std.{proofs.lemmas.List.Folds.list_all-append, specs.List.list_all, specs.Prelude.ℤ, specs.Prelude.slice_get}
 use Rattle.events.specs.declared.event.Book.{Book}
 use Rattle.rows.specs.PlanRows.{PlanRows}
 use Rattle.edge_files.specs.declared.keeping.KeptRow.{KeptRow}
-use Rattle.plan_text.proofs.Joins.{both, and_true}
-use Rattle.plan_text.proofs.Pushing.{drop_past}
+use Rattle.plan_text.proofs.{Joins.both, Joins.and_true, Pushing.drop_past}
 use Rattle.plan_memory.specs.Memories.{MemoryRows}
 use Rattle.keep.proofs.Tests.{none_some, same_some}
 use Rattle.keep.specs.Kept.{row_of, is_choice, rows_from, own_rows, persons_rows}

@@ -1,7 +1,6 @@
 -- The kept rows of plans and of persons: one more, two lists of them, and how many there are.
-use Rattle.std.proofs.Common.{◌≡◌, ℕ, ◌+◌, ◌*◌, ◌<◌, ◌≤◌, Bool, List, [], ◌∷◌, ◌++◌, length, Option, Some, refl, sym, ap, ◌∙◌, arith, append_assoc, append-nil, length-append}
-use Rattle.std.specs.Prelude.{ℤ}
-use Rattle.std.specs.List.{AllByRecursion}
+use Rattle.std.proofs.Common.{◌≡◌, ℕ, ◌+◌, ◌*◌, ◌<◌, ◌≤◌, Bool, List, [], ◌∷◌, ◌++◌, length, Option, Some, refl, sym, ap, ◌∙◌, arith, append_assoc, append-nil}
+use Rattle.std.{proofs.Common.length-append, specs.List.AllByRecursion, specs.Prelude.ℤ}
 use Rattle.events.specs.declared.event.Book.{Book}
 use Rattle.rows.specs.PlanRows.{PlanRows}
 use Rattle.edge_files.specs.declared.keeping.KeptRow.{KeptRow}

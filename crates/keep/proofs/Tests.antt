@@ -1,7 +1,6 @@
 -- What tests of numbers say, and what an option or a test chose.
 use Rattle.std.proofs.Common.{◌≡◌, ◌⊎◌, ℕ, ◌<◌, ◌≤◌, Bool, true, false, cond, ◌&&◌, Option, None, Some, refl, inl, inr, arith}
-use Rattle.std.specs.Prelude.{nat_eq, nat_lt, option_and_then}
-use Rattle.std.proofs.lemmas.Bool.Decides.{nat_tests}
+use Rattle.std.{proofs.lemmas.Bool.Decides.nat_tests, specs.Prelude.nat_eq, specs.Prelude.nat_lt, specs.Prelude.option_and_then}
 
 pub eq_says : (m n : ℕ) → nat_eq m n ≡ true → m ≡ n
 eq_says m n h = grind (arith, nat_tests)

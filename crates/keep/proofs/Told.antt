@@ -1,25 +1,20 @@
 -- What is read so far tells of the rows that were read: they are those of the memories that are done, and of the plans that are begun.
-use Rattle.std.proofs.Common.{◌≡◌, ◌⊎◌, ℕ, ◌+◌, ◌*◌, ◌<◌, ◌≤◌, Bool, true, false, cond, not, ◌&&◌, List, [], ◌∷◌, ◌++◌, length, Option, None, Some, refl, sym, ap, ◌∙◌, subst, inl, inr, arith, append_assoc, append-nil, length-append}
-use Rattle.std.specs.Prelude.{nat_eq, nat_lt, bytes_eq, is_some, option_and_then}
-use Rattle.std.specs.List.{list_all, AllByRecursion}
-use Rattle.std.proofs.lemmas.List.Folds.{list_all-append}
-use Rattle.std.proofs.lemmas.List.Elements.{All-from_recursion}
-use Rattle.std.proofs.lemmas.Slice.Eq.{bytes_eq-Decides}
+use Rattle.std.proofs.Common.{◌≡◌, ◌⊎◌, ℕ, ◌+◌, ◌*◌, ◌<◌, ◌≤◌, Bool, true, false, cond, not, ◌&&◌, List, [], ◌∷◌, ◌++◌, length, Option, None, Some, refl, sym}
+use Rattle.std.proofs.Common.{ap, ◌∙◌, subst, inl, inr, arith, append_assoc, append-nil, length-append}
+use Rattle.std.proofs.lemmas.{List.Elements.All-from_recursion, List.Folds.list_all-append, Slice.Eq.bytes_eq-Decides}
+use Rattle.std.specs.{List.list_all, List.AllByRecursion, Prelude.nat_eq, Prelude.nat_lt, Prelude.bytes_eq, Prelude.is_some, Prelude.option_and_then}
 use Rattle.events.specs.Names.{name_at}
 use Rattle.rows.specs.PlanRows.{PlanRows}
 use Rattle.edge_files.specs.declared.keeping.KeptRow.{KeptRow}
-use Rattle.plan_text.specs.Lines.{is_plan_in, plan_lines}
-use Rattle.plan_text.proofs.Joins.{both, and_true}
-use Rattle.plan_memory.specs.declared.TheConstants.{MAX_HELD}
-use Rattle.plan_memory.specs.Memories.{MemoryRows}
-use Rattle.town.specs.Rows.{TownRows}
-use Rattle.town.specs.Fits.{fits}
-use Rattle.keep.specs.Kept.{row_of, is_choice, rows_from, own_rows, persons_rows, kept_rows}
-use Rattle.keep.specs.Fitting.{IsKeptMemory, AreRowsOf}
-use Rattle.keep.specs.Reading.{Progress, nothing, start, is_fitting, plan_in, closed_by, closed, is_of, is_numbered, is_next, choice_with, begun_with, lacks_choice, grown, extended, step, run, if_all, ended}
-use Rattle.keep.proofs.Tests.{eq_says, eq_true, ne_says, less_ne, more_ne, lt_says, none_some, same_some, some_if, some_unless, some_either, some_then}
-use Rattle.keep.proofs.RowLists.{rows_from-push, rows_from-choice, rows_from-none, rows_from-few, persons_rows-push, persons_rows-few}
+use Rattle.plan_text.{proofs.Joins.both, proofs.Joins.and_true, specs.Lines.is_plan_in, specs.Lines.plan_lines}
+use Rattle.plan_memory.specs.{Memories.MemoryRows, declared.TheConstants.MAX_HELD}
+use Rattle.town.specs.{Fits.fits, Rows.TownRows}
 use Rattle.keep.proofs.PlanTexts.{plan_taken}
+use Rattle.keep.proofs.RowLists.{rows_from-push, rows_from-choice, rows_from-none, rows_from-few, persons_rows-push, persons_rows-few}
+use Rattle.keep.proofs.Tests.{eq_says, eq_true, ne_says, less_ne, more_ne, lt_says, none_some, same_some, some_if, some_unless, some_either, some_then}
+use Rattle.keep.specs.{Fitting.IsKeptMemory, Fitting.AreRowsOf, Kept.row_of, Kept.is_choice, Kept.rows_from, Kept.own_rows, Kept.persons_rows, Kept.kept_rows}
+use Rattle.keep.specs.Reading.{Progress, nothing, start, is_fitting, plan_in, closed_by, closed, is_of, is_numbered, is_next, choice_with, begun_with}
+use Rattle.keep.specs.Reading.{lacks_choice, grown, extended, step, run, if_all, ended}
 
 -- a memory by tests of its plans
 pub record IsFit (T : TownRows) (m : MemoryRows) : Type 0 where

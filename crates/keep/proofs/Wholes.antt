@@ -1,23 +1,18 @@
 -- The kept rows of memories that fit a town are read to their end, as these memories.
-use Rattle.std.proofs.Common.{◌≡◌, ℕ, ◌+◌, ◌<◌, ◌≤◌, ◌^◌, Bool, true, false, cond, not, ◌&&◌, List, [], ◌∷◌, ◌++◌, length, Option, None, Some, refl, sym, ap, ◌∙◌, arith, append_assoc, append-nil, length-append}
+use Rattle.std.proofs.Common.{◌≡◌, ℕ, ◌+◌, ◌<◌, ◌≤◌, ◌^◌, Bool, true, false, cond, not, ◌&&◌, List, [], ◌∷◌, ◌++◌, length, Option, None, Some, refl, sym, ap}
+use Rattle.std.proofs.Common.{◌∙◌, arith, append_assoc, append-nil, length-append}
+use Rattle.std.{proofs.lemmas.List.Elements.recursion_from_All, proofs.lemmas.Slice.Eq.bytes_eq-Decides, specs.List.list_all, specs.List.AllByRecursion}
 use Rattle.std.specs.Prelude.{ℤ, nat_eq, nat_lt, bytes_eq, is_some, is_none, option_and_then}
-use Rattle.std.specs.List.{list_all, AllByRecursion}
-use Rattle.std.proofs.lemmas.Slice.Eq.{bytes_eq-Decides}
-use Rattle.std.proofs.lemmas.List.Elements.{recursion_from_All}
 use Rattle.events.specs.Names.{name_at}
 use Rattle.rows.specs.PlanRows.{PlanRows}
 use Rattle.edge_files.specs.declared.keeping.KeptRow.{KeptRow}
-use Rattle.plan_text.specs.Lines.{IsBook, plan_lines}
-use Rattle.plan_text.proofs.Joins.{both, and_true}
-use Rattle.plan_memory.specs.declared.TheConstants.{MAX_HELD}
-use Rattle.plan_memory.specs.Memories.{MemoryRows}
+use Rattle.plan_text.{proofs.Joins.both, proofs.Joins.and_true, specs.Lines.IsBook, specs.Lines.plan_lines}
+use Rattle.plan_memory.specs.{Memories.MemoryRows, declared.TheConstants.MAX_HELD}
 use Rattle.town.specs.Rows.{TownRows}
-use Rattle.keep.specs.Kept.{row_of, is_choice, rows_from, own_rows, persons_rows, kept_rows}
-use Rattle.keep.specs.Fitting.{IsKeptMemory, AreRowsOf}
+use Rattle.keep.proofs.{PlanTexts.plan_back, Tests.eq_says, Tests.eq_true, Tests.ne_says, Tests.less_ne, Tests.more_ne, Tests.lt_says, Tests.lt_true}
+use Rattle.keep.proofs.{Tests.ge_says, Tests.ge_false, Tests.and_false, Told.IsFit, Told.each_weaker, Told.fits_memory}
+use Rattle.keep.specs.{Fitting.IsKeptMemory, Fitting.AreRowsOf, Kept.row_of, Kept.is_choice, Kept.rows_from, Kept.own_rows, Kept.persons_rows, Kept.kept_rows}
 use Rattle.keep.specs.Reading.{Progress, nothing, start, is_fitting, plan_in, closed_by, closed, is_of, is_next, grown, extended, step, run, if_all, ended}
-use Rattle.keep.proofs.Tests.{eq_says, eq_true, ne_says, less_ne, more_ne, lt_says, lt_true, ge_says, ge_false, and_false}
-use Rattle.keep.proofs.PlanTexts.{plan_back}
-use Rattle.keep.proofs.Told.{IsFit, each_weaker, fits_memory}
 
 -- ---- many rows, and some of them
 

@@ -5,13 +5,10 @@ use Rattle.rows.specs.PlanRows.{PlanRows}
 use Rattle.edge_files.specs.declared.keeping.KeptRow.{KeptRow}
 use Rattle.events.specs.declared.event.Book.{Book}
 use Rattle.plan_text.specs.Lines.{are_in_book, is_plan_in}
-use Rattle.plan_memory.specs.declared.TheConstants.{MAX_HELD}
-use Rattle.plan_memory.specs.Memories.{MemoryRows}
-use Rattle.town.specs.Rows.{TownRows}
-use Rattle.town.specs.Fits.{fits}
-use Rattle.keep.specs.declared.reading.KeptError.{KeptError}
+use Rattle.plan_memory.specs.{Memories.MemoryRows, declared.TheConstants.MAX_HELD}
+use Rattle.town.specs.{Fits.fits, Rows.TownRows}
+use Rattle.keep.specs.{Kept.kept_rows, declared.reading.KeptError.KeptError}
 use Rattle.keep.specs.declared.reading.KeptError.TheVariants as stop
-use Rattle.keep.specs.Kept.{kept_rows}
 
 -- every number of each plan of a memory, and of all memories, has a name in the book
 abbrev pub are_named : Book → MemoryRows → Bool

@@ -1,7 +1,6 @@
 -- A keeper in memory, of which chosen calls fail.
 use Rattle.std.specs.Prelude.{Option, if◌then◌else◌}
-use Rattle.edge_files.specs.Keeping.{Kept}
-use Rattle.edge_files.specs.InMemory.{CallCounts, next_fails, passed_call, failed_call}
+use Rattle.edge_files.specs.{InMemory.CallCounts, InMemory.next_fails, InMemory.passed_call, InMemory.failed_call, Keeping.Kept}
 
 -- what is kept, and the calls
 pub record KeeperHeld : Type 0 where

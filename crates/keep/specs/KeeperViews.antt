@@ -1,9 +1,7 @@
 -- What contracts see of a keeper in memory.
 use Rattle.std.specs.Prelude.{option_map}
 use Rattle.edge_files.specs.Keeping.{kept_of}
-use Rattle.keep.specs.declared.memory_keeper.Checkpoint.{Checkpoint}
-use Rattle.keep.specs.declared.memory_keeper.MemoryKeeper.TheInside.{Inside}
-use Rattle.keep.specs.InMemory.{KeeperHeld}
+use Rattle.keep.specs.{InMemory.KeeperHeld, declared.memory_keeper.Checkpoint.Checkpoint, declared.memory_keeper.MemoryKeeper.TheInside.Inside}
 
 abbrev pub keeper_held : Inside → KeeperHeld
 keeper_held k = record {

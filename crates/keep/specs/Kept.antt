@@ -1,8 +1,7 @@
 -- Memories as kept rows: a row for each plan.
 use Rattle.std.specs.Prelude.{ℕ, nat_eq, Bool, false, List, map, Option, None, Some, ℤ}
 use Rattle.std.specs.List.{flat_map, enumerate_from, zip}
-use Rattle.events.specs.declared.event.Book.{Book}
-use Rattle.events.specs.Names.{name_at}
+use Rattle.events.specs.{Names.name_at, declared.event.Book.Book}
 use Rattle.rows.specs.PlanRows.{PlanRows}
 use Rattle.edge_files.specs.declared.keeping.KeptRow.{KeptRow}
 use Rattle.plan_text.specs.Lines.{plan_lines}

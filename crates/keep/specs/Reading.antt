@@ -1,16 +1,13 @@
 -- How kept rows are read, one after the other: what is read so far, and what one more row makes of it.
-use Rattle.std.specs.Prelude.{ℕ, ◌&&◌, Bool, not, nat_eq, nat_lt, bytes_eq, if◌then◌else◌, List, [], ◌∷◌, ◌++◌, length, map, Option, None, Some, option_and_then, is_some, is_none, ℤ}
+use Rattle.std.specs.Prelude.{ℕ, ◌&&◌, Bool, not, nat_eq, nat_lt, bytes_eq, if◌then◌else◌, List, [], ◌∷◌, ◌++◌, length, map, Option, None, Some}
+use Rattle.std.specs.Prelude.{option_and_then, is_some, is_none, ℤ}
 use Rattle.events.specs.Names.{name_at}
 use Rattle.rows.specs.PlanRows.{PlanRows, plan_rows}
 use Rattle.edge_files.specs.declared.keeping.KeptRow.{KeptRow}
-use Rattle.plan_text.specs.Lines.{is_plan_in, plan_lines}
-use Rattle.plan_text.specs.Elements.{rows_in, acts_in, legs_in}
-use Rattle.plan_memory.specs.declared.TheConstants.{MAX_HELD}
-use Rattle.plan_memory.specs.Memories.{MemoryRows}
-use Rattle.town.specs.Rows.{TownRows}
-use Rattle.town.specs.Fits.{fits}
-use Rattle.keep.specs.declared.progress.Begun.{Begun}
-use Rattle.keep.specs.declared.progress.Reading.{Reading}
+use Rattle.plan_text.specs.{Elements.rows_in, Elements.acts_in, Elements.legs_in, Lines.is_plan_in, Lines.plan_lines}
+use Rattle.plan_memory.specs.{Memories.MemoryRows, declared.TheConstants.MAX_HELD}
+use Rattle.town.specs.{Fits.fits, Rows.TownRows}
+use Rattle.keep.specs.declared.progress.{Begun.Begun, Reading.Reading}
 
 -- the plans of a person of whom more rows may come, with their scores, and the number of the chosen one, where it is among them
 pub record BegunRows : Type 0 where

@@ -1,7 +1,6 @@
 //! Memories as rows that are kept.
 
-ghost use Rattle.std.specs.Prelude.{◌≡◌, ◌<◌, ◌++◌, length, slice_get, slice_index_or, true, All, Some, None};
-ghost use Rattle.std.specs.Prelude.{OnOk, IfOk};
+ghost use Rattle.std.specs.Prelude.{◌≡◌, ◌<◌, ◌++◌, length, slice_get, slice_index_or, true, All, Some, None, OnOk, IfOk};
 ghost use Rattle.events.specs.Names.{name_at};
 ghost use Rattle.rows.specs.PlanRows.{PlanRows, plan_rows};
 ghost use Rattle.plan_text.specs.Lines.{are_in_book, is_plan_in, plan_lines};

@@ -5,9 +5,7 @@ ghost use Rattle.edge_files.specs.declared.keeping.KeptRow.{KeptRow};
 ghost use Rattle.plan_memory.specs.Memories.{MemoryRows};
 ghost use Rattle.plan_text.specs.Lines.{IsBook};
 ghost use Rattle.town.specs.Rows.{TownRows};
-ghost use Rattle.keep.specs.Fitting.{AreRowsOf, IsForeignAt};
-ghost use Rattle.keep.specs.Kept.{kept_rows};
-ghost use Rattle.keep.specs.Worked.{book, memories, rows};
+ghost use Rattle.keep.specs.{Fitting.AreRowsOf, Fitting.IsForeignAt, Kept.kept_rows, Worked.book, Worked.memories, Worked.rows};
 
 /// Two persons, of whom the first has a plan with a score of -7 and the chosen one without a score: three rows, each with the name, the
 /// number, whether it is the chosen one, the score, and the lines in plans.csv.

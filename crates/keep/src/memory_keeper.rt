@@ -1,9 +1,7 @@
 //! A keeper in memory.
 
-ghost use Rattle.std.specs.Prelude.{◌≡◌, ◌∷◌, ◌++◌, [], true, false, None, Some, Ok, Err, OnOk, OnErr, IfOk};
-ghost use Rattle.std.specs.Prelude.{MatchResult, option_map};
-ghost use Rattle.edge_files.specs.InMemory.{no_calls, next_fails, passed_call};
-ghost use Rattle.edge_files.specs.Keeping.{kept_of, rows_of};
+ghost use Rattle.std.specs.Prelude.{◌≡◌, ◌∷◌, ◌++◌, [], true, false, None, Some, Ok, Err, OnOk, OnErr, IfOk, MatchResult, option_map};
+ghost use Rattle.edge_files.specs.{InMemory.no_calls, InMemory.next_fails, InMemory.passed_call, Keeping.kept_of, Keeping.rows_of};
 ghost use Rattle.keep.specs.InMemory.{after_call};
 
 use edge_files::{Bytes, Calls, KeepFail, Keeper, KeptRow};
@@ -62,8 +60,7 @@ pub struct MemoryKeeper {
 }
 
 impl Model for MemoryKeeper {
-    ghost use Rattle.keep.specs.InMemory.{KeeperHeld};
-    ghost use Rattle.keep.specs.KeeperViews.{keeper_held};
+    ghost use Rattle.keep.specs.{InMemory.KeeperHeld, KeeperViews.keeper_held};
 
     ghost Value = { KeeperHeld };
 

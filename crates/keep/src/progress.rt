@@ -1,7 +1,6 @@
 //! What is read of kept rows so far.
 
-ghost use Rattle.std.specs.Prelude.{◌≡◌, ◌<◌, ◌≤◌, length};
-ghost use Rattle.std.specs.Option.{ForSome};
+ghost use Rattle.std.specs.{Option.ForSome, Prelude.◌≡◌, Prelude.◌<◌, Prelude.◌≤◌, Prelude.length};
 ghost use Rattle.plan_memory.specs.declared.TheConstants.{MAX_HELD};
 
 use plan_memory::{MemoryList, ScoreList};

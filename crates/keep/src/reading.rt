@@ -3,8 +3,7 @@
 ghost use Rattle.std.specs.Prelude.{◌≡◌, ◌<◌, ◌^◌, List, length, true, IfOk, MatchResult};
 ghost use Rattle.plan_memory.specs.Memories.{MemoryRows};
 ghost use Rattle.town.specs.Views.{rows_of};
-ghost use Rattle.keep.specs.declared.reading.KeptError.TheVariants.{NoMemory};
-ghost use Rattle.keep.specs.Fitting.{all_named, AreRowsOf, IsRead};
+ghost use Rattle.keep.specs.{Fitting.all_named, Fitting.AreRowsOf, Fitting.IsRead, declared.reading.KeptError.TheVariants.NoMemory};
 
 use crate::steps::{ended, next_reading, start};
 use edge_files::KeptRow;

@@ -1,7 +1,6 @@
 //! One more kept row.
 
-ghost use Rattle.std.specs.Prelude.{◌≡◌, ◌<◌, ◌∷◌, ◌++◌, ◌&&◌, [], length};
-ghost use Rattle.std.specs.Prelude.{option_map, is_some, IfOk, IsTrue};
+ghost use Rattle.std.specs.Prelude.{◌≡◌, ◌<◌, ◌∷◌, ◌++◌, ◌&&◌, [], length, option_map, is_some, IfOk, IsTrue};
 ghost use Rattle.rows.specs.PlanRows.{plan_rows};
 ghost use Rattle.plan_memory.specs.declared.TheConstants.{MAX_HELD};
 ghost use Rattle.town.specs.Views.{rows_of};

@@ -1,25 +1,15 @@
 -- What the three texts mean under the schema of the one table.
-use Rattle.std.proofs.Common.{◌≡◌, List, [], ◌∷◌, false, Some, Ok, refl, codes}
-use Rattle.sqlite.specs.Collation.TheVariants.{Binary}
-use Rattle.sqlite.specs.declared.types.Value.TheVariants.{Null}
+use Rattle.std.proofs.Common.{◌≡◌, List, [], ◌∷◌, false, Some, Ok, refl, codes, negsuc, pos}
+use Rattle.std.specs.Prelude.{None}
+use Rattle.sqlite.{proofs.Callers.IsPlain, proofs.Callers.command_of, proofs.Callers.statement_of, specs.Collation.TheVariants.Binary}
 use Rattle.sqlite.specs.Command.TheVariants.{Nothing, CreateTable, InsertOr, Select}
-use Rattle.sqlite_schema.specs.declared.command.Upsert.{Upsert}
-use Rattle.sqlite_schema.specs.declared.command.Conflict.TheVariants.{Abort}
-use Rattle.sqlite.specs.Query.{Query, inner, end}
-use Rattle.sqlite.specs.Term.{Term, lit, col, op2}
+use Rattle.sqlite.specs.{Compile.table_defined_by, Listing.understood, Listing.reads_listing, Query.Query, Query.inner, Query.end, Source.TheVariants.Values}
+use Rattle.sqlite.specs.{Term.Term, Term.lit, Term.col, Term.op2, declared.types.Value.TheVariants.Null, declared.types.Value.TheVariants.Int}
+use Rattle.sqlite_schema.specs.declared.command.{Conflict.TheVariants.Abort, Upsert.Upsert}
 use Rattle.sqlite_sql.specs.declared.ops.CompareOp.TheVariants.{Eq}
 use Rattle.sqlite_sql.specs.declared.ops.BinaryOp.TheVariants as by
-use Rattle.std.proofs.Common.{negsuc}
-use Rattle.std.specs.Prelude.{None}
-use Rattle.sqlite.specs.declared.types.Value.TheVariants.{Int}
-use Rattle.std.proofs.Common.{pos}
-use Rattle.sqlite.specs.Source.TheVariants.{Values}
-use Rattle.sqlite.specs.Compile.{table_defined_by}
 use Rattle.sqlite_tied.specs.Compute.{everything}
-use Rattle.sqlite.specs.Listing.{understood, reads_listing}
-use Rattle.sqlite.proofs.Callers.{IsPlain, command_of, statement_of}
-use Rattle.keep_sql.specs.Table.{kept, kept_schema, no_schema}
-use Rattle.keep_sql.specs.Texts.{make_text, put_text, get_text}
+use Rattle.keep_sql.specs.{Table.kept, Table.kept_schema, Table.no_schema, Texts.make_text, Texts.put_text, Texts.get_text}
 
 pub make_is : (command_of (understood no_schema make_text) ≡ CreateTable) × (statement_of make_text (understood no_schema make_text) ≡ make_text) × (table_defined_by make_text ≡ Ok kept)
 unfolding understood everything

@@ -1,18 +1,11 @@
 -- A table with at most its one row, of place 0: what is left of it, and the row that goes in where none is.
 use Rattle.std.proofs.Common.{◌≡◌, ◌⊎◌, inl, inr, ℕ, ℤ, pos, List, [], ◌∷◌, Bool, true, false, cond, not, Ok, Err, Result, refl, ap, subst, ◌∙◌, Option}
-use Rattle.sqlite.specs.declared.types.Value.{Value}
-use Rattle.sqlite.specs.declared.types.Value.TheVariants.{Null, Int, Blob}
-use Rattle.sqlite.specs.Order.{Row}
-use Rattle.sqlite_value.specs.Order.{value_cmp}
-use Rattle.sqlite.specs.Ops.{unary}
-use Rattle.sqlite.specs.Kind.TheVariants.{Integer}
-use Rattle.sqlite.specs.Edit.{edit_of, without_all, are_fresh, put_all}
-use Rattle.sqlite.specs.Cast.{cast}
-use Rattle.sqlite.specs.Rowids.TheVariants.{Given}
-use Rattle.sqlite.specs.Tree.{Trees, has_rowid}
-use Rattle.sqlite.specs.Rows.{Task, Written, Puts}
-use Rattle.sqlite_schema.specs.declared.schema.Keys.{Keys}
 use Rattle.sqlite.proofs.Callers.{one_step}
+use Rattle.sqlite.specs.{Cast.cast, Edit.edit_of, Edit.without_all, Edit.are_fresh, Edit.put_all, Kind.TheVariants.Integer, Ops.unary, Order.Row}
+use Rattle.sqlite.specs.{Rowids.TheVariants.Given, Rows.Task, Rows.Written, Rows.Puts, Tree.Trees, Tree.has_rowid, declared.types.Value.Value}
+use Rattle.sqlite.specs.declared.types.Value.TheVariants.{Null, Int, Blob}
+use Rattle.sqlite_value.specs.Order.{value_cmp}
+use Rattle.sqlite_schema.specs.declared.schema.Keys.{Keys}
 use Rattle.keep_sql.specs.Table.{kept, kept_schema, stored}
 
 abbrev pub IsFew : List Row → Type 0

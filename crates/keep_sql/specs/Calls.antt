@@ -1,7 +1,6 @@
 -- What a call makes of what the database keeps: said where the disk is still clean after the call, whatever was kept before it.
 use Rattle.std.specs.Prelude.{◌⊎◌, ℕ, ℤ, List, Option, IsTrue}
-use Rattle.sqlite.specs.Tree.{Trees}
-use Rattle.sqlite.specs.State.{State, HasCleanDisk}
+use Rattle.sqlite.specs.{State.State, State.HasCleanDisk, Tree.Trees}
 use Rattle.keep_sql.specs.Table.{Holds, AreTreesOf}
 
 -- an iteration and a body, or nothing

@@ -1,15 +1,11 @@
 //! A keeper over a database.
 
-ghost use Rattle.std.specs.Prelude.{◌≡◌, ◌≤◌, ◌++◌, Bool, true, false, refl, Some, None, OnOk, OnErr, IfOk, option_map};
-ghost use Rattle.std.specs.Prelude.{List, pos};
 ghost use Rattle.std.proofs.Common.{true≢false, sym};
+ghost use Rattle.std.specs.Prelude.{◌≡◌, ◌≤◌, ◌++◌, Bool, true, false, refl, Some, None, OnOk, OnErr, IfOk, option_map, List, pos};
 ghost use Rattle.sqlite.specs.Held.{state};
-ghost use Rattle.edge_files.specs.declared.keeping.KeptRow.{KeptRow};
-ghost use Rattle.edge_files.specs.Keeping.{kept_of, Becomes, Stays, StaysIfTold, KeepsOrBecomes, IsTold, Loads};
-ghost use Rattle.edge_files.specs.Causes.{KeepHasCause, Rose};
-ghost use Rattle.keep_sql.specs.Packing.{rows_in, packing};
-ghost use Rattle.keep_sql.specs.Calls.{LeavesOldOr};
-ghost use Rattle.keep_sql.specs.Told.{told};
+ghost use Rattle.edge_files.specs.{Causes.KeepHasCause, Causes.Rose, Keeping.kept_of, Keeping.Becomes, Keeping.Stays, Keeping.StaysIfTold};
+ghost use Rattle.edge_files.specs.{Keeping.KeepsOrBecomes, Keeping.IsTold, Keeping.Loads, declared.keeping.KeptRow.KeptRow};
+ghost use Rattle.keep_sql.specs.{Calls.LeavesOldOr, Packing.rows_in, Packing.packing, Told.told};
 
 use crate::packing::{pack, unpack};
 use crate::statements::{kept_in, save_in};

@@ -1,12 +1,10 @@
 //! The three statements, over a database in any store: the table is made where it is missing, its one row is put in place, and is found.
 
 ghost use Rattle.std.specs.Prelude.{◌≡◌, [], ◌∷◌, pos, Some, OnOk, OnErr, IfOk, option_map};
+ghost use Rattle.sqlite.specs.{Held.state, State.HasCleanDisk, State.Survives, State.Executes, State.CommitsBy};
 ghost use Rattle.sqlite.specs.declared.types.Value.TheVariants.{Int, Blob};
-ghost use Rattle.sqlite.specs.State.{HasCleanDisk, Survives, Executes, CommitsBy};
-ghost use Rattle.sqlite.specs.Held.{state};
-ghost use Rattle.keep_sql.specs.Texts.{put_text};
-ghost use Rattle.keep_sql.specs.Table.{kept_schema, Holds, AreTreesOf, shown};
 ghost use Rattle.keep_sql.specs.Calls.{ForWhat, ForWhatIfOpen, AreOld, AreOldOr, LeavesOldOr};
+ghost use Rattle.keep_sql.specs.{Table.kept_schema, Table.Holds, Table.AreTreesOf, Table.shown, Texts.put_text};
 
 use sqlite::{Alter, Connection, Error, Row, params};
 

@@ -1,20 +1,14 @@
 -- No turn but a node's puts a row into a queue and none but a link's into a buffer, and those of persons and departures change no credit.
-use Rattle.traffic.proofs.Common.{◌≡◌, ℕ, List, refl, ◌∷◌, ◌++◌, subst, ◌≢◌, Phase, Act, Leg, link_turns, turns_of, phases, credits_after, run, sets_out}
-use Rattle.traffic.proofs.Common.{World, person_of, Setup, act_after, leg_at}
-use Rattle.traffic.specs.declared.moves.Move.{Move}
-use Rattle.traffic.specs.declared.moves.Move.TheVariants.{Transfer, Enter}
-use Rattle.traffic.specs.declared.stage.Stage.TheVariants.{Queue, Buffer}
+use Rattle.traffic.proofs.Common.{◌≡◌, ℕ, List, refl, ◌∷◌, ◌++◌, subst, ◌≢◌, Phase, Act, Leg, turns_of, phases, credits_after, run, sets_out, World, person_of}
+use Rattle.traffic.proofs.{Common.Setup, Common.act_after, Common.leg_at, Each.each_weaker, LinkWalk.LinkCases, LinkWalk.link_walk}
+use Rattle.traffic.proofs.Moments.{Along, along_at, along_weaker, along_each, each_along}
+use Rattle.traffic.{proofs.NodeWalk.node_walk, proofs.Walks.flight_walk, proofs.Walks.leave_walk, proofs.Walks.departure_walk, specs.declared.moves.Move.Move}
+use Rattle.traffic.specs.declared.{moves.Move.TheVariants.Transfer, moves.Move.TheVariants.Enter, stage.Stage.TheVariants.Queue, stage.Stage.TheVariants.Buffer}
 use Rattle.std.specs.List.{AllByRecursion as Each}
 use Rattle.events.specs.declared.event.Phase.TheVariants as phase
 use Rattle.rows.specs.declared.plan.Leg.TheVariants as leg
-use Rattle.traffic.proofs.Each.{each_weaker}
-use Rattle.traffic.proofs.Moments.{Along, along_at, along_weaker, along_each, each_along}
-use Rattle.traffic.proofs.NodeWalk.{node_walk}
-use Rattle.traffic.proofs.LinkWalk.{LinkCases, link_walk}
-use Rattle.traffic.proofs.Walks.{flight_walk, leave_walk, departure_walk}
+use Rattle.law_capacity.proofs.{Entering.LetsIn, Entering.let_cases, Turns.phases_along}
 use Rattle.law_capacity.specs.Moves.{IsElsewhere, second_moves, KeepsRule}
-use Rattle.law_capacity.proofs.Turns.{phases_along}
-use Rattle.law_capacity.proofs.Entering.{LetsIn, let_cases}
 
 -- LINKS
 link_cases : (S : Setup) (t l : ℕ) → LinkCases S t l (λ W m. IsElsewhere Queue m)
@@ -27,9 +21,6 @@ link_cases S t l =
       pay = λ c W. tt;
       free = λ W. tt;
     }
-
-link_else : (S : Setup) (t l : ℕ) (W : World) → Each (IsElsewhere Queue) (link_turns S t l W)
-link_else S t l W = along_each (IsElsewhere Queue) S t (link_turns S t l W) W (link_walk S t l _ (link_cases S t l) W)
 
 -- PERSONS AND DEPARTURES
 -- a move that changes no credit
@@ -62,7 +53,7 @@ node_lets S t n W = node_walk S t n (LetsIn S t) (let_cases S t n) W
 pub elsewhere : (S : Setup) (t n : ℕ) (p : Phase) (W : World) → p ≢ phase.C → Each (IsElsewhere Queue) (turns_of S t p n W)
 unfolding turns_of
 elsewhere S t n phase.C W ne = absurd (ne refl)
-elsewhere S t n phase.D W ne = link_else S t n W
+elsewhere S t n phase.D W ne = along_each (IsElsewhere Queue) S t _ W (link_walk S t n _ (link_cases S t n) W)
 elsewhere S t n p W ne = each_weaker IsStart (IsElsewhere Queue) (λ m g. g.0) (turns_of S t p n W) (starts S t n p W (λ q. cc) (λ q. cc))
 
 -- no turn but a link's puts a row into a buffer, or changes a credit

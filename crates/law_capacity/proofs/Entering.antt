@@ -1,29 +1,18 @@
 -- In a node's turn a vehicle enters a link by the rule, by the places that are taken in the world at that time.
-use Rattle.traffic.proofs.Common.{◌≡◌, ℕ, List, ◌∙◌, ap, refl, sym, [], ◌∷◌, true, inl, inr, subst, false, eqb, cases_Bool, and_parts, true≢false, ltb-true}
-use Rattle.traffic.proofs.Common.{leb-true, ltb-false, not, Option, ◌&&◌, nat_lt, ◌||◌, Stuck, node_turns, credits_after, done, may_enter, out_links_by}
-use Rattle.traffic.proofs.Common.{is_out_link, entered, next_link, has_room, node_view, out_link, is_stuck, taken_at, World, Setup, link_row, storage_of}
-use Rattle.traffic.proofs.Common.{VehicleState}
-use Rattle.traffic.specs.declared.moves.Move.{Move}
-use Rattle.traffic.specs.declared.moves.Move.TheVariants.{Transfer}
-use Rattle.traffic.specs.declared.node_views.OutLink.{OutLink}
-use Rattle.traffic.specs.declared.stage.Stage.TheVariants.{Buffer}
-use Rattle.traffic.specs.declared.world.Row.{Row}
-use Rattle.traffic.specs.Worlds.{IsEntering, EnterByRule}
-use Rattle.traffic.proofs.Moments.{Along}
-use Rattle.traffic.proofs.NodeWalk.{NodeCases, AreOutLinks, out_links_put, out_links_gone, out_links_mark, node_walk}
+use Rattle.traffic.proofs.Common.{◌≡◌, ℕ, List, ◌∙◌, ap, refl, sym, [], ◌∷◌, true, inl, inr, subst, cases_Bool, and_parts, ltb-true, leb-true, ltb-false, not}
+use Rattle.traffic.proofs.Common.{Option, ◌&&◌, nat_lt, ◌||◌, Stuck, node_turns, credits_after, done, may_enter, out_links_by, is_out_link, entered, next_link}
+use Rattle.traffic.proofs.Common.{has_room, node_view, out_link, is_stuck, taken_at, World, Setup, storage_of, VehicleState, arith}
+use Rattle.traffic.proofs.{Moments.Along, NodeWalk.NodeCases, NodeWalk.AreOutLinks, NodeWalk.out_links_put, NodeWalk.out_links_gone, NodeWalk.out_links_mark}
+use Rattle.traffic.{proofs.NodeWalk.node_walk, proofs.Nodes.out_of, specs.Worlds.IsEntering, specs.Worlds.EnterByRule}
+use Rattle.traffic.specs.declared.{moves.Move.Move, moves.Move.TheVariants.Transfer, node_views.OutLink.OutLink, stage.Stage.TheVariants.Buffer, world.Row.Row}
 use Rattle.law_capacity.specs.Moves.{IsElsewhere, IsLetIn, KeepsRule}
 
 -- the two reasons
-by_test : (K : Stuck) (t since : ℕ) (o : Option OutLink) → may_enter K t since o ≡ true → has_room o ≡ false → (K.push ≡ true) × (is_stuck K t since ≡ true)
-by_test K t since o h e =
-    let g = (and_parts (is_out_link o) (has_room o || (K.push && is_stuck K t since)) h).1 in
-    and_parts K.push (is_stuck K t since) (rw e at g)
-
 by_rule : (K : Stuck) (t : ℕ) (o : Option OutLink) (was : Row) (v : VehicleState) → may_enter K t was.second o ≡ true → IsEntering K t o was (entered t o v)
 by_rule K t o was v h =
     elim (cases_Bool (has_room o)) [
       | inl e ↦ inl (e, ap not e)
-      | inr e ↦ let g = by_test K t was.second o h e in inr (e, g.0, g.1, ap not e)
+      | inr e ↦ inr (e, grind arith, grind arith, ap not e)
     ]
 
 -- BY THE PLACES THAT THE NODE COUNTS
@@ -55,13 +44,11 @@ node_rule S t n W = rule_of S t n (out_link S t n W) (node_turns S t n W) W (λ 
 let_in : (S : Setup) (t n : ℕ) (W : World) (e : Option OutLink) (was : Row) (v : VehicleState) → e ≡ out_link S t n W (next_link v) → may_enter S.settings.stuck t was.second e ≡ true → IsLetIn S t W was (entered t e v)
 let_in S t n W e was v q c =
     let m = next_link v in
-    let o = (and_parts (is_out_link e) (has_room e || (S.settings.stuck.push && is_stuck S.settings.stuck t was.second)) c).0 in
-    let rule = by_rule S.settings.stuck t e was v c in
-    elim (cases_Bool (eqb (link_row S m).from n)) [
-      | inl f ↦
-          let room : has_room e ≡ nat_lt (taken_at S t m W) (storage_of S m) = ap has_room q ∙ (rw f refl) in
-          elim rule [ inl a ↦ inl (ltb-true _ _ (sym room ∙ a.0), a.1) | inr b ↦ inr (ltb-false _ _ (sym room ∙ b.0), b.1, leb-true _ _ b.2, b.3) ]
-      | inr f ↦ let g = simp f at (ap is_out_link (sym q) ∙ o) in absurd (true≢false (sym g))
+    let f = out_of S t n m W e q (and_parts (is_out_link e) (has_room e || (S.settings.stuck.push && is_stuck S.settings.stuck t was.second)) c).0 in
+    let room : has_room e ≡ nat_lt (taken_at S t m W) (storage_of S m) = ap has_room q ∙ (rw f refl) in
+    elim (by_rule S.settings.stuck t e was v c) [
+      | inl a ↦ inl (ltb-true _ _ (sym room ∙ a.0), a.1)
+      | inr b ↦ inr (ltb-false _ _ (sym room ∙ b.0), b.1, leb-true _ _ b.2, b.3)
     ]
 
 -- a move of a node lets vehicles into queues alone, and that by the rule, and changes no credit

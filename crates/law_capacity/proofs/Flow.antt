@@ -1,33 +1,19 @@
 -- What passes a link is paid from its credit.
 use Rattle.traffic.proofs.Common.{◌≡◌, ℕ, List, ◌∙◌, length, ap, refl, sym, [], ◌∷◌, arith, ◌<◌, true, ◌++◌, ◌+◌, Bool, inl, inr, subst, ◌≤◌, suc, eqb, zero}
-use Rattle.traffic.proofs.Common.{◌-◌, get_or, ◌≢◌, ◌*◌, cases_Bool, eqb-true, and_parts, eq-eqb, eqb-false, ne_eqb, leb-true, sum_by-cons, flat_map}
-use Rattle.traffic.proofs.Common.{if◌then◌else◌, nat_lt, nat_le, Phase, raised, VEHICLE_COST, link_turns, moves_of, after, turns_of, turns_in, world_start}
-use Rattle.traffic.proofs.Common.{through, world_from, second, AreAt, IsAt, rules, link_state, waiting, LinkState, is_last, may_pass, link_moves, leave_bay}
-use Rattle.traffic.proofs.Common.{from_queue, from_wait, wait_after, below, numbers, run, done, credit_after_all, credit_after, waiters, World, rank}
-use Rattle.traffic.proofs.Common.{credit_of, gain_of, Setup, calls_on, left_behind}
-use Rattle.traffic.specs.declared.moves.Move.{Move}
-use Rattle.traffic.specs.declared.moves.Move.TheVariants.{Transfer, Credit}
-use Rattle.traffic.specs.declared.numbers.Rules.{Rules}
-use Rattle.traffic.specs.declared.stage.Stage.TheVariants.{Buffer, Bay}
-use Rattle.traffic.specs.declared.world.Row.{Row}
-use Rattle.traffic.specs.declared.world.Waiter.{Waiter}
-use Rattle.std.proofs.Common.{lit<, add-suc, add-zero, suc-mul}
-use Rattle.std.specs.List.{AllByRecursion as Each}
-use Rattle.std.proofs.lemmas.Bool.{and_right}
-use Rattle.std.proofs.lemmas.List.{get_or-replicate}
-use Rattle.std.proofs.lemmas.Nat.{le-div}
-use Rattle.events.specs.declared.event.Phase.TheVariants as phase
-use Rattle.fixed_flow.specs.Flow.{full_credit}
-use Rattle.fixed_flow.proofs.Gains.{raised_within}
+use Rattle.traffic.proofs.Common.{◌-◌, get_or, ◌≢◌, ◌*◌, cases_Bool, eqb-true, and_parts, eq-eqb, eqb-false, leb-true, sum_by-cons, flat_map, if◌then◌else◌}
+use Rattle.traffic.proofs.Common.{nat_lt, nat_le, Phase, raised, VEHICLE_COST, link_turns, moves_of, after, turns_of, turns_in, world_start, through}
+use Rattle.traffic.proofs.Common.{world_from, second, AreAt, IsAt, rules, link_state, waiting, LinkState, is_last, may_pass, link_moves, leave_bay, from_queue}
+use Rattle.traffic.proofs.Common.{from_wait, wait_after, below, numbers, run, done, credit_after_all, credit_after, waiters, World, credit_of, gain_of, Setup}
+use Rattle.traffic.proofs.{Common.calls_on, Common.left_behind, Common.nat_tests, Each.each_weaker, Links.link-at, Phases.phase_at_once, Sublists.credit-run}
+use Rattle.traffic.proofs.{Turns.moves_of-map, Walks.credits_start, Walks.credits_day, Walks.phase_keeps}
 use Rattle.traffic.specs.Worlds.{buffers_one, passing, link_turn_moves, passing_in, FlowKept}
-use Rattle.traffic.proofs.Sublists.{credit-run}
-use Rattle.traffic.proofs.Turns.{moves_of-map}
-use Rattle.traffic.proofs.Phases.{phase_at_once}
-use Rattle.traffic.proofs.Links.{link-at}
-use Rattle.traffic.proofs.Each.{each_weaker}
-use Rattle.traffic.proofs.Walks.{credits_start, credits_day, phase_keeps}
-use Rattle.law_capacity.specs.Moves.{IsElsewhere}
-use Rattle.law_capacity.proofs.Elsewhere.{IsFree, apart}
+use Rattle.traffic.specs.declared.moves.Move.{Move, TheVariants.Transfer, TheVariants.Credit}
+use Rattle.traffic.specs.declared.{numbers.Rules.Rules, stage.Stage.TheVariants.Buffer, stage.Stage.TheVariants.Bay, world.Row.Row, world.Waiter.Waiter}
+use Rattle.std.proofs.Common.{lit<, add-suc, add-zero, suc-mul}
+use Rattle.std.{proofs.lemmas.List.get_or-replicate, proofs.lemmas.Nat.le-div, specs.List.AllByRecursion as Each}
+use Rattle.events.specs.declared.event.Phase.TheVariants as phase
+use Rattle.fixed_flow.{proofs.Gains.raised_within, specs.Flow.full_credit}
+use Rattle.law_capacity.{proofs.Elsewhere.IsFree, proofs.Elsewhere.apart, specs.Moves.IsElsewhere}
 
 -- CREDITS
 -- THE TURN OF A LINK PAYS
@@ -41,22 +27,17 @@ leaves_none l c = omega arith
 
 leaves_free : (l c d : ℕ) (m : Move) (ms : List Move) → credit_after l m c ≡ c → buffers_one l m ≡ 0 → Leaves l c d ms → Leaves l c d (m ∷ ms)
 unfolding Leaves
-leaves_free l c d m ms e f h =
-    let s = sum_by-cons (buffers_one l) m ms in
-    let g : credit_after_all l (m ∷ ms) c ≡ credit_after_all l ms c = ap (credit_after_all l ms) e in omega arith
+leaves_free l c d m ms e f h = omega (arith, ap (credit_after_all l ms) e, sum_by-cons (buffers_one l) m ms)
 
 leaves_one : (l c d : ℕ) (m : Move) (ms : List Move) → credit_after l m c ≡ c → buffers_one l m ≡ 1 → VEHICLE_COST ≤ d → Leaves l c (d - VEHICLE_COST) ms → Leaves l c d (m ∷ ms)
 unfolding Leaves
-leaves_one l c d m ms e f le h =
-    let s = sum_by-cons (buffers_one l) m ms in
-    let g : credit_after_all l (m ∷ ms) c ≡ credit_after_all l ms c = ap (credit_after_all l ms) e in omega arith
+leaves_one l c d m ms e f le h = omega (arith, ap (credit_after_all l ms) e, sum_by-cons (buffers_one l) m ms)
 
 leaves_credit : (l c x d : ℕ) (ms : List Move) → Leaves l x d ms → Leaves l c d (Credit l x ∷ ms)
 unfolding Leaves
 leaves_credit l c x d ms h =
-    let s = sum_by-cons (buffers_one l) (Credit l x) ms in
     let e : credit_after l (Credit l x) c ≡ x = (let f = eq-eqb l l refl in rw f refl) in
-    let g : credit_after_all l (Credit l x ∷ ms) c ≡ credit_after_all l ms x = ap (credit_after_all l ms) e in omega arith
+    omega (arith, ap (credit_after_all l ms) e, sum_by-cons (buffers_one l) (Credit l x) ms)
 
 leaves_if : (l c d : ℕ) (b : Bool) (xs ys : List Move) → (b ≡ true → Leaves l c d xs) → Leaves l c d ys → Leaves l c d (if b then xs else ys)
 leaves_if l c d b xs ys h g = elim (cases_Bool b) [ inl e ↦ rw e (h e) | inr e ↦ rw e g ]
@@ -101,13 +82,11 @@ link_pays K t l ws L c =
 
 -- ALL LINKS
 credit_other : (l k : ℕ) (m : Move) (c : ℕ) → l ≢ k → IsAt k m → credit_after l m c ≡ c
-credit_other l k (Credit a x) c ne h = let e = ne_eqb a l (λ q. ne (sym q ∙ h)) in rw e refl
+credit_other l k (Credit a x) c ne h = grind (arith, nat_tests)
 credit_other l k _ c ne h = refl
 
 one_other : (l k : ℕ) (m : Move) → l ≢ k → IsAt k m → buffers_one l m ≡ 0
-one_other l k (Transfer a s j was now) ne h =
-    let e = ne_eqb now.link l (λ q. ne (sym q ∙ h.1)) in
-    let f = and_right (eqb (rank now.stage) (rank Buffer)) (eqb now.link l) e in rw f refl
+one_other l k (Transfer a s j was now) ne h = grind (arith, nat_tests, h.1)
 one_other l k _ ne h = refl
 
 -- the turn of another link pays nothing here
@@ -121,7 +100,7 @@ leaves_append l c d [] ys h g = let e = g c in omega arith
 leaves_append l c d (m ∷ xs) ys h g =
     let s = sum_by-cons (buffers_one l) m xs in
     let f = sum_by-cons (buffers_one l) m (xs ++ ys) in
-    let r = leaves_append l (credit_after l m c) (d - buffers_one l m * VEHICLE_COST) xs ys (omega arith) g in omega arith
+    omega (arith, leaves_append l (credit_after l m c) (d - buffers_one l m * VEHICLE_COST) xs ys (omega arith) g)
 
 past_links : (S : Setup) (t l c k n : ℕ) (U : World) → l < k → Leaves l c c (flat_map (λ x. link_turns S t x U) (numbers k n))
 past_links S t l c k zero U lt = leaves_none l c
@@ -169,18 +148,13 @@ second_pays S t l W lt e =
     let h : Leaves l (credit_of l U) (raised (gain_of S l) (credit_of l U)) ms = subst (Leaves l (credit_of l U) (raised (gain_of S l) (credit_of l U))) (sym (turns_are S t U)) (all_links S t l (credit_of l U) 0 (length S.links) U (omega arith) (omega arith)) in
     ap (λ (c : ℕ). c + passing l ms * VEHICLE_COST) (credit-run S t l ms U within) ∙ h ∙ ap (λ (cs : List ℕ). raised (gain_of S l) (get_or cs l 0)) f
 
-credit_start : (S : Setup) (l : ℕ) → l < length S.links → credit_of l (world_start S) ≡ VEHICLE_COST
-unfolding world_start
-credit_start S l lt = get_or-replicate (length S.links) l VEHICLE_COST 0 lt
-
 -- the credit of a link is never more than full
 credit_full : (S : Setup) (l t : ℕ) → l < length S.links → credit_of l (world_from S (world_start S) t) ≤ full_credit (gain_of S l)
-unfolding world_from
-credit_full S l zero lt = let e = credit_start S l lt in omega arith
+unfolding world_from world_start
+credit_full S l zero lt = omega (arith, get_or-replicate (length S.links) l VEHICLE_COST 0 lt)
 credit_full S l (suc t) lt =
     let W = world_from S (world_start S) t in
-    let p = second_pays S t l W lt (credits_day S (world_start S) t (credits_start S)) in
-    let r = raised_within (gain_of S l) (credit_of l W) in omega arith
+    omega (arith, raised_within (gain_of S l) (credit_of l W), second_pays S t l W lt (credits_day S (world_start S) t (credits_start S)))
 
 raised_most : (c x : ℕ) → raised c x ≤ x + c
 unfolding raised
@@ -194,13 +168,10 @@ window S W l t (suc n) lt e =
     let U = world_from S W (t + n) in
     let f : credit_of l (world_from S W (t + suc n)) ≡ credit_of l (second S (t + n) U) = ap (λ (k : ℕ). credit_of l (world_from S W k)) (add-suc t n) in
     let p = second_pays S (t + n) l U lt (credits_day S W (t + n) e) in
-    let r = raised_most (gain_of S l) (credit_of l U) in
-    let h = window S W l t n lt e in
-    let m = suc-mul n (gain_of S l) in omega arith
+    omega (arith, suc-mul n (gain_of S l), window S W l t n lt e, raised_most (gain_of S l) (credit_of l U))
 
 pub day_flow : (S : Setup) → FlowKept S (world_start S)
 day_flow S l t n lt within =
     let W = world_start S in
     let w = window S W l t n lt (credits_start S) in
-    let f = credit_full S l t lt in
-    le-div (passing_in S W l t n) (n * gain_of S l + full_credit (gain_of S l)) VEHICLE_COST (lit< tt) (omega arith)
+    le-div (passing_in S W l t n) (n * gain_of S l + full_credit (gain_of S l)) VEHICLE_COST (lit< tt) (omega (arith, credit_full S l t lt))

@@ -1,19 +1,11 @@
 -- No queue has more rows that were not pushed in than its storage.
-use Rattle.traffic.proofs.Common.{◌≡◌, ℕ, List, ap, refl, sym, [], ◌∷◌, arith, ◌<◌, true, ◌++◌, Bool, inl, inr, subst, ◌≤◌, false, suc, zero, append-nil, ◌⊎◌}
-use Rattle.traffic.proofs.Common.{cond, sum_by-cons, not, if◌then◌else◌, count_by, world_at, world_start, phases, second, without_at, run, same, at_after}
-use Rattle.traffic.proofs.Common.{World, at, on, Setup, storage_of}
-use Rattle.traffic.specs.declared.moves.Move.{Move}
-use Rattle.traffic.specs.declared.moves.Move.TheVariants.{Transfer, Remove, Enter}
-use Rattle.traffic.specs.declared.stage.Stage.TheVariants.{Queue}
-use Rattle.traffic.specs.declared.world.Row.{Row}
+use Rattle.traffic.proofs.Common.{◌≡◌, ℕ, List, refl, sym, [], ◌∷◌, arith, ◌<◌, true, ◌++◌, Bool, inl, inr, subst, ◌≤◌, false, suc, zero, append-nil, ◌⊎◌, cond}
+use Rattle.traffic.proofs.Common.{sum_by-cons, not, if◌then◌else◌, count_by, world_at, world_start, phases, second, without_at, run, same, at_after, World, at}
+use Rattle.traffic.proofs.{Common.on, Common.Setup, Common.storage_of, Moments.along_weaker, Moments.kept_along, Sublists.on_is, Sublists.at-done}
+use Rattle.traffic.{proofs.Walks.seconds_keep, specs.Worlds.Storage, specs.declared.moves.Move.Move, specs.declared.moves.Move.TheVariants.Transfer}
+use Rattle.traffic.specs.declared.{moves.Move.TheVariants.Remove, moves.Move.TheVariants.Enter, stage.Stage.TheVariants.Queue, world.Row.Row}
 use Rattle.std.proofs.lemmas.List.Sums.{sum_by_push, count_by-le-length}
-use Rattle.traffic.specs.Worlds.{Storage}
-use Rattle.traffic.proofs.Sublists.{on_is, at-done}
-use Rattle.law_capacity.specs.Moves.{second_moves, IsLetIn, KeepsRule}
-use Rattle.traffic.proofs.Moments.{along_weaker, kept_along}
-use Rattle.traffic.proofs.Walks.{seconds_keep}
-use Rattle.law_capacity.proofs.Turns.{through_moves}
-use Rattle.law_capacity.proofs.Elsewhere.{second_rule}
+use Rattle.law_capacity.{proofs.Elsewhere.second_rule, proofs.Turns.through_moves, specs.Moves.second_moves, specs.Moves.IsLetIn, specs.Moves.KeepsRule}
 
 -- 1 for a row that was not pushed in
 abbrev free_one : Row → ℕ
@@ -28,27 +20,19 @@ without_less zero (x ∷ xs) = let e = sum_by-cons free_one x xs in omega arith
 without_less (suc k) (x ∷ xs) = let e = sum_by-cons free_one x xs in let f = sum_by-cons free_one x (without_at k xs) in let h = without_less k xs in omega arith
 
 cut_less : (b : Bool) (k : ℕ) (xs : List Row) → unpushed (if b then without_at k xs else xs) ≤ unpushed xs
-cut_less true k xs = without_less k xs
-cut_less false k xs = omega arith
-
-at_most_one : (b : Bool) → cond (not b) 1 0 ≤ 1
-at_most_one true = omega arith
-at_most_one false = omega arith
+cut_less b k xs = grind (arith, without_less k xs)
 
 -- a row is taken out of these or not, and a row comes or does not: one for which there is room, or one that is pushed in
 put_keeps : (b c : Bool) (k storage : ℕ) (xs : List Row) (now : Row) → unpushed xs ≤ storage → (c ≡ true → (unpushed xs < storage) ⊎ (now.vehicle.pushed ≡ true)) →
     unpushed ((if b then without_at k xs else xs) ++ (if c then now ∷ [] else [])) ≤ storage
 put_keeps b false k storage xs now h g = let e = cut_less b k xs in rw (append-nil (if b then without_at k xs else xs)) (omega arith)
 put_keeps b true k storage xs now h g =
-    let e = cut_less b k xs in
-    let p = sum_by_push free_one (if b then without_at k xs else xs) now in
-    let o = at_most_one now.vehicle.pushed in
-    elim (g refl) [ inl a ↦ omega arith | inr a ↦ let f : free_one now ≡ 0 = ap (λ (d : Bool). cond (not d) 1 0) a in omega arith ]
+    grind (arith, g refl, cut_less b k xs, sum_by_push free_one (if b then without_at k xs else xs) now)
 
 -- the taken places cover the rows that were not pushed in
 room : (S : Setup) (t : ℕ) (W : World) (was now : Row) → IsLetIn S t W was now → (unpushed (at now.link Queue W) < storage_of S now.link) ⊎ (now.vehicle.pushed ≡ true)
 room S t W was now h =
-    let e = count_by-le-length (λ (r : Row). not r.vehicle.pushed) (at now.link Queue W) in elim h [ inl a ↦ inl (let f = a.0 in omega arith) | inr b ↦ inr b.3 ]
+    elim h [ inl a ↦ inl (let f = a.0 in omega (arith, count_by-le-length (λ (r : Row). not r.vehicle.pushed) (at now.link Queue W))) | inr b ↦ inr b.3 ]
 
 move_keeps : (S : Setup) (t l : ℕ) (m : Move) (W : World) → KeepsRule S t W m → unpushed (at l Queue W) ≤ storage_of S l → unpushed (at_after l Queue m (at l Queue W)) ≤ storage_of S l
 move_keeps S t l (Transfer a z k was now) W h le =

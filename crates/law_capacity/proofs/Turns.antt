@@ -1,10 +1,7 @@
 -- All moves of a second, one after the other.
-use Rattle.traffic.proofs.Common.{◌≡◌, ℕ, List, ◌∙◌, refl, sym, [], ◌∷◌, ◌<◌, Phase, turns_of, turns_in, moves_of, through, after, count_of, run, World}
-use Rattle.traffic.proofs.Common.{Setup}
+use Rattle.traffic.proofs.Common.{◌≡◌, ℕ, List, ◌∙◌, refl, sym, [], ◌∷◌, ◌<◌, Phase, turns_of, turns_in, moves_of, through, after, count_of, run, World, Setup}
+use Rattle.traffic.proofs.{Moments.Along, Moments.along_append, Sublists.run-append, Walks.along_is, Walks.phase_walk}
 use Rattle.traffic.specs.declared.moves.Move.{Move}
-use Rattle.traffic.proofs.Moments.{Along, along_append}
-use Rattle.traffic.proofs.Sublists.{run-append}
-use Rattle.traffic.proofs.Walks.{along_is, phase_walk}
 use Rattle.law_capacity.specs.Moves.{moves_in}
 
 -- each move of these phases is such, where each move of their turns is

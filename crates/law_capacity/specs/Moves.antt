@@ -1,15 +1,9 @@
 -- How a vehicle comes into a queue, in the world of that moment.
 use Rattle.std.specs.Prelude.{◌≡◌, ◌≢◌, ℕ, ◌-◌, ◌<◌, ◌≤◌, ◌⊎◌, true, false, List, [], ◌∷◌, ◌++◌, slice_get, Some}
 use Rattle.events.specs.declared.event.Phase.{Phase}
-use Rattle.traffic.specs.declared.stage.Stage.{Stage}
-use Rattle.traffic.specs.declared.stage.Stage.TheVariants.{Queue, Buffer}
-use Rattle.traffic.specs.declared.moves.Move.{Move}
-use Rattle.traffic.specs.declared.moves.Move.TheVariants.{Transfer, Enter}
-use Rattle.traffic.specs.declared.world.Row.{Row}
-use Rattle.traffic.specs.Rows.{World, at}
-use Rattle.traffic.specs.Setup.{Setup, storage_of}
-use Rattle.traffic.specs.Nodes.{taken_at}
-use Rattle.traffic.specs.Day.{moves_of, after, turns_in, phases}
+use Rattle.traffic.specs.{Day.moves_of, Day.after, Day.turns_in, Day.phases, Nodes.taken_at, Rows.World, Rows.at, Setup.Setup, Setup.storage_of}
+use Rattle.traffic.specs.declared.moves.Move.{Move, TheVariants.Transfer, TheVariants.Enter}
+use Rattle.traffic.specs.declared.{stage.Stage.Stage, stage.Stage.TheVariants.Queue, stage.Stage.TheVariants.Buffer, world.Row.Row}
 
 -- a move brings no row to this stage of a link
 abbrev pub IsElsewhere : Stage → Move → Type 0

@@ -4,16 +4,10 @@
 #![tactic(auto)]
 
 ghost use Rattle.std.specs.Prelude.{◌≡◌, ◌≢◌, ℕ, List, ◌∷◌, ◌++◌, All};
-ghost use Rattle.events.specs.declared.event.Phase.{Phase};
-ghost use Rattle.events.specs.declared.event.Phase.TheVariants.{C, D};
-ghost use Rattle.traffic.specs.declared.stage.Stage.TheVariants.{Queue, Buffer};
-ghost use Rattle.traffic.specs.declared.moves.Move.{Move};
-ghost use Rattle.traffic.specs.Rows.{World};
-ghost use Rattle.traffic.specs.Setup.{Setup};
-ghost use Rattle.traffic.specs.Moves.{run};
-ghost use Rattle.traffic.specs.Nodes.{node_view};
+ghost use Rattle.events.specs.declared.event.Phase.{Phase, TheVariants.C, TheVariants.D};
 ghost use Rattle.traffic.specs.Day.{node_turns, turns_of, second, world_start, world_at};
-ghost use Rattle.traffic.specs.Worlds.{Storage, EnterByRule, FlowKept};
+ghost use Rattle.traffic.specs.{Moves.run, Nodes.node_view, Rows.World, Setup.Setup, Worlds.Storage, Worlds.EnterByRule, Worlds.FlowKept};
+ghost use Rattle.traffic.specs.declared.{moves.Move.Move, stage.Stage.TheVariants.Queue, stage.Stage.TheVariants.Buffer};
 ghost use Rattle.law_capacity.specs.Moves.{IsElsewhere, second_moves, KeepsRule};
 
 /// A vehicle enters a link because there is room, or because it is stuck and is pushed in, and it knows which: by the places

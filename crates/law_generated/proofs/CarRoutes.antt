@@ -1,25 +1,15 @@
 -- The car legs of a grid have routes: at free speed all its links take as long, and a way of few links joins any two nodes.
-use Rattle.std.proofs.Common.{◌≡◌, ◌∙◌, ◌<◌, ◌≤◌, ◌+◌, ◌*◌, ℕ, zero, suc, max, arith, ap, refl, true, false, List, [], ◌∷◌, length, map}
-use Rattle.std.proofs.Common.{Option, None, Some}
+use Rattle.std.proofs.Common.{◌≡◌, ◌∙◌, ◌<◌, ◌≤◌, ◌+◌, ◌*◌, ℕ, zero, suc, max, arith, ap, refl, true, false, List, [], ◌∷◌, length, map, Option, None, Some}
+use Rattle.std.{proofs.lemmas.List.Elements.All-from_recursion, specs.List.AllByRecursion as Each}
 use Rattle.std.specs.Prelude.{get_or, is_none, is_some, unwrap_or}
-use Rattle.std.specs.List.{AllByRecursion as Each}
-use Rattle.std.proofs.lemmas.List.Elements.{All-from_recursion}
 use Rattle.fixed_flow.specs.Link.{free_seconds}
-use Rattle.rows.specs.declared.network.LinkRow.{LinkRow}
-use Rattle.rows.specs.declared.plan.Act.{Act}
-use Rattle.router.specs.Graphs.{Graph}
-use Rattle.router.specs.Legs.{route_between}
-use Rattle.router.specs.Routes.{allowed, leg_route}
-use Rattle.travel_times.specs.Times.{arrivals, free_times, profile_at}
-use Rattle.travel_times.proofs.Arriving.{arrivals_are_fifo}
-use Rattle.travel_times.proofs.Free.{free_arrival}
-use Rattle.walks.specs.Arrivals.{Arrivals}
-use Rattle.walks.specs.Walks.{AreWithin, end_of, start_of}
+use Rattle.rows.specs.declared.{network.LinkRow.LinkRow, plan.Act.Act}
+use Rattle.router.specs.{Graphs.Graph, Legs.route_between, Routes.allowed, Routes.leg_route}
+use Rattle.travel_times.{proofs.Arriving.arrivals_are_fifo, proofs.Free.free_arrival, specs.Times.arrivals, specs.Times.free_times, specs.Times.profile_at}
+use Rattle.walks.specs.{Arrivals.Arrivals, Walks.AreWithin, Walks.end_of, Walks.start_of}
 use Rattle.workload.specs.Links.{grid_links}
 use Rattle.law_generated.proofs.Grid.{IsLink, each_link, each_weaker, square_some}
-use Rattle.law_generated.proofs.Links.{grid_link}
-use Rattle.law_generated.proofs.Steps.{grid_between}
-use Rattle.law_generated.proofs.Ways.{leg_routed, short_route}
+use Rattle.law_generated.proofs.{Links.grid_link, Steps.grid_between, Ways.leg_routed, Ways.short_route}
 
 -- the graph of a grid, and when the end of each of its links is reached at its free speed
 abbrev pub grid_graph : ℕ → Graph

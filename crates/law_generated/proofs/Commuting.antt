@@ -1,40 +1,24 @@
 -- The persons of a grid: their links are there, and their rows are five that may stand in plans.csv.
-use Rattle.records.proofs.Common.{◌≡◌, List, ap, ℕ, length, ◌∙◌, arith, [], ◌<◌, None, Some, ◌++◌, ◌∷◌, refl, true, Bool, ◌+◌, false, ◌≤◌}
-use Rattle.records.proofs.Common.{◌^◌, ◌&&◌, not, subst, map, ◌-◌}
-use Rattle.records.proofs.Common.{Row, is_none, is_name, number_of, numbers_of, Option, decimal, list_all}
+use Rattle.records.proofs.Common.{◌≡◌, List, ap, ℕ, length, ◌∙◌, arith, [], ◌<◌, None, Some, ◌++◌, ◌∷◌, refl, true, Bool, ◌+◌, false, ◌≤◌, ◌^◌, ◌&&◌, not}
+use Rattle.records.proofs.Common.{subst, map, ◌-◌, Row, is_none, is_name, number_of, numbers_of, Option, decimal, list_all}
+use Rattle.records.specs.{Lists.are_names, Lists.items_in, Numbers.are_digits, Numbers.number_in}
 use Rattle.std.specs.Prelude.{codes, nat_eq}
-use Rattle.draws.specs.Choices.{below}
-use Rattle.draws.specs.Words.{word}
-use Rattle.draws.proofs.Ranges.{below_within, word_fits}
-use Rattle.events.specs.Names.{is_name_byte}
-use Rattle.events.specs.Words.{mode_of}
-use Rattle.events.specs.declared.event.Mode.{Mode}
+use Rattle.draws.{proofs.Ranges.below_within, proofs.Ranges.word_fits, specs.Choices.below, specs.Words.word}
+use Rattle.events.specs.{Names.is_name_byte, Words.mode_of, declared.event.Mode.Mode}
 use Rattle.events.specs.declared.event.Mode.TheVariants as mode
 use Rattle.limits.specs.declared.TheConstants.{LAST_SECOND}
-use Rattle.plan_text.proofs.Clean.{all_weaker, name_bytes}
-use Rattle.plan_text.proofs.Decimals.{number_back}
+use Rattle.plan_text.proofs.{Clean.all_weaker, Clean.name_bytes, Decimals.number_back}
 use Rattle.plans.specs.declared.kinds.ElementKind.TheVariants as element
-use Rattle.plans.specs.Kinds.{end_in, kind_of}
-use Rattle.plans.specs.Refusals.{has_bad_time, has_surplus, lacks_element_name, lacks_link}
-use Rattle.records.specs.Lists.{are_names, items_in}
-use Rattle.records.specs.Numbers.{are_digits, number_in}
+use Rattle.plans.specs.{Kinds.end_in, Kinds.kind_of, Refusals.has_bad_time, Refusals.has_surplus, Refusals.lacks_element_name, Refusals.lacks_link}
 use Rattle.rows.specs.Joined.{is_joined}
 use Rattle.workload.specs.Commuters.{commute_of, commuter, home_of, link_drawn, work_of, words_of}
-use Rattle.workload.specs.Links.{grid_links}
-use Rattle.workload.specs.Rows.{act_row, leg_row, link_name, person_name, person_rows, stop_name, walk_row, way_back, way_there}
-use Rattle.workload.specs.declared.TheConstants.{FIRST_LEAVING, LEAVING_SPAN, WALK_SECONDS, WORK_SECONDS}
-use Rattle.workload.specs.declared.commuters.Commute.{Commute}
+use Rattle.workload.specs.{Links.grid_links, Rows.act_row, Rows.leg_row, Rows.link_name, Rows.person_name, Rows.person_rows, Rows.stop_name, Rows.walk_row}
+use Rattle.workload.specs.{Rows.way_back, Rows.way_there, declared.TheConstants.FIRST_LEAVING, declared.TheConstants.LEAVING_SPAN}
+use Rattle.workload.specs.declared.{TheConstants.WALK_SECONDS, TheConstants.WORK_SECONDS, commuters.Commute.Commute, commuters.Commuter.Commuter}
 use Rattle.workload.specs.declared.commuters.Commute.TheVariants as commute
-use Rattle.workload.specs.declared.commuters.Commuter.{Commuter}
-use Rattle.law_generated.proofs.Elements.{IsOwn, IsSound}
-use Rattle.law_generated.proofs.Fields.{lettered}
-use Rattle.law_generated.proofs.Grid.{IsLink, each_link}
-use Rattle.law_generated.proofs.Links.{held_right, link_named, links_distinct, some_links}
-use Rattle.law_generated.proofs.Names.{number_at}
-use Rattle.law_generated.proofs.Routes.{is_item_byte, items_back, name_item}
-use Rattle.law_generated.proofs.Rules.{each_at}
-use Rattle.law_generated.proofs.Stops.{held_number, not_none, stop_link, stop_named}
-use Rattle.law_generated.proofs.Travellers.{IsTravel}
+use Rattle.law_generated.proofs.{Elements.IsOwn, Elements.IsSound, Fields.lettered, Grid.IsLink, Grid.each_link, Links.held_right, Links.link_named}
+use Rattle.law_generated.proofs.{Links.links_distinct, Links.some_links, Names.number_at, Routes.is_item_byte, Routes.items_back, Routes.name_item}
+use Rattle.law_generated.proofs.{Rules.each_at, Stops.held_number, Stops.not_none, Stops.stop_link, Stops.stop_named, Travellers.IsTravel}
 
 -- an activity may be on this link: it is one of the grid, and its name is known
 pub record IsPlace (size : ℕ) (link : ℕ × ℕ) : Type 0 where

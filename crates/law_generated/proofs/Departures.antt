@@ -1,27 +1,19 @@
 -- departures.csv of a grid.
-use Rattle.records.proofs.Common.{◌≡◌, List, ap, ℕ, length, ◌∙◌, arith, [], ◌<◌, None, Some, ◌++◌, ◌∷◌, refl, true, Bool, ◌+◌, false, ◌≤◌, ◌&&◌, ◌||◌, not, map, sym, take}
-use Rattle.records.proofs.Common.{subst, flat_map, Row, column, field, length-map, is_some, is_none, nat_le, nat_eq, Option, body_fault}
-use Rattle.records.proofs.Common.{is_name, number_of, decimal, holds_name}
-use Rattle.std.proofs.Common.{◌*◌}
-use Rattle.std.specs.Prelude.{codes, get_or}
-use Rattle.std.specs.Fmt.{digits}
-use Rattle.std.specs.List.{AllByRecursion as Each, range_with_len}
-use Rattle.std.proofs.lemmas.List.Folds.{flat_map-map}
-use Rattle.std.proofs.lemmas.List.FromFn.{length-range_with_len}
+use Rattle.records.proofs.Common.{◌≡◌, List, ap, ℕ, length, ◌∙◌, arith, [], ◌<◌, None, Some, ◌++◌, ◌∷◌, refl, true, Bool, ◌+◌, false, ◌≤◌, ◌&&◌, ◌||◌, not, map}
+use Rattle.records.proofs.Common.{sym, take, subst, flat_map, Row, column, field, length-map, is_some, is_none, nat_le, nat_eq, Option, body_fault, is_name}
+use Rattle.records.proofs.Common.{number_of, decimal, holds_name}
+use Rattle.records.specs.{Fields.are_fields, Fields.is_header, Files.optional_head_reason}
+use Rattle.std.proofs.{Common.◌*◌, lemmas.List.Folds.flat_map-map, lemmas.List.FromFn.length-range_with_len}
+use Rattle.std.specs.{Fmt.digits, List.AllByRecursion as Each, List.range_with_len, Prelude.codes, Prelude.get_or}
 use Rattle.edge_files.specs.declared.reasons.Reason.TheVariants as reason
 use Rattle.events.specs.Names.{are_distinct}
 use Rattle.limits.specs.declared.TheConstants.{LAST_SECOND, MAX_DEPARTURES, MAX_SEATS}
-use Rattle.plan_text.specs.Lines.{row_line}
-use Rattle.plan_text.proofs.Decimals.{number_back}
-use Rattle.records.specs.Fields.{are_fields, is_header}
-use Rattle.records.specs.Files.{optional_head_reason}
+use Rattle.plan_text.{proofs.Decimals.number_back, specs.Lines.row_line}
 use Rattle.schedule.specs.Departures.{departure_header, departure_of, departure_reason, departures_fault, seats_in, second_in}
-use Rattle.workload.specs.Rows.{departure_name, departure_row}
-use Rattle.workload.specs.Texts.{departures_text}
+use Rattle.workload.specs.{Rows.departure_name, Rows.departure_row, Texts.departures_text}
 use Rattle.workload.specs.declared.TheConstants.{DEPARTURE_GAP, FIRST_DEPARTURE, SEATS}
 use Rattle.law_generated.proofs.Fields.{lettered, name_plain, name_short, number_of_name, number_plain, number_short}
-use Rattle.law_generated.proofs.Lines.{is_plain, is_row, is_short, is_short_row}
-use Rattle.law_generated.proofs.Names.{names_distinct, range_apart, range_below}
+use Rattle.law_generated.proofs.{Lines.is_plain, Lines.is_row, Lines.is_short, Lines.is_short_row, Names.names_distinct, Names.range_apart, Names.range_below}
 use Rattle.law_generated.proofs.Rules.{each_at, no_more, not_twice, row_at}
 use Rattle.law_generated.proofs.Tables.{IsFile, lines_are_file, no_body_fault, no_reason, optional_head_passes, rows_pass}
 

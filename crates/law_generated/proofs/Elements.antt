@@ -1,19 +1,16 @@
 -- Rows of plans.csv, each by itself and those beside it: why it is not refused.
-use Rattle.records.proofs.Common.{◌≡◌, List, ap, ℕ, length, ◌∙◌, arith, [], ◌<◌, None, Some, ◌∷◌, refl, true, Bool, false, ◌&&◌, ◌||◌}
-use Rattle.records.proofs.Common.{not, sym, nat_tests, Row, field, is_some, is_none, nat_le, nat_lt, nat_eq, Option}
-use Rattle.records.proofs.Common.{is_name, number_of, holds_name, unwrap_or, bytes_eq}
-use Rattle.std.proofs.Common.{ap₂, ◌+◌}
-use Rattle.std.proofs.lemmas.Slice.Eq.{bytes_eq-Decides}
+use Rattle.records.proofs.Common.{◌≡◌, List, ap, ℕ, length, ◌∙◌, arith, [], ◌<◌, None, Some, ◌∷◌, refl, true, Bool, false, ◌&&◌, ◌||◌, not, sym, nat_tests, Row}
+use Rattle.records.proofs.Common.{field, is_some, is_none, nat_le, nat_lt, nat_eq, Option, is_name, number_of, holds_name, unwrap_or, bytes_eq}
+use Rattle.std.proofs.{Common.ap₂, Common.◌+◌, lemmas.Slice.Eq.bytes_eq-Decides}
 use Rattle.edge_files.specs.declared.reasons.Reason.TheVariants as reason
 use Rattle.events.specs.declared.event.Mode.{Mode}
 use Rattle.limits.specs.declared.TheConstants.{MAX_LEGS, MAX_PERSONS, MAX_ROUTE_LINKS}
+use Rattle.plans.specs.Kinds.{end_in, is_act, is_car, is_leg, items_of, kind_of, plan_in, plan_number}
+use Rattle.plans.specs.Refusals.{begins_person, begins_with_leg, comes_again, ends_plan, ends_with_leg, follows_endless, has_bad_number, has_bad_time}
+use Rattle.plans.specs.Refusals.{is_broken, is_misfit, is_neither, is_of_other_plan, is_one_too_many, is_out_of_order, jumps, kind_reason, lacks_element_name}
+use Rattle.plans.specs.Refusals.{lacks_link, lacks_mode, lacks_name, repeats, row_reason, same_person, same_plan, starts_late}
 use Rattle.plans.specs.declared.kinds.ElementKind.{ElementKind}
 use Rattle.plans.specs.declared.kinds.ElementKind.TheVariants as element
-use Rattle.plans.specs.Kinds.{end_in, is_act, is_car, is_leg, items_of, kind_of, plan_in, plan_number}
-use Rattle.plans.specs.Refusals.{begins_person, begins_with_leg, comes_again, ends_plan, ends_with_leg, follows_endless, has_bad_number}
-use Rattle.plans.specs.Refusals.{has_bad_time, is_broken, is_misfit, is_neither, is_of_other_plan, is_one_too_many, is_out_of_order}
-use Rattle.plans.specs.Refusals.{jumps, kind_reason, lacks_element_name, lacks_link, lacks_mode, lacks_name, repeats, row_reason}
-use Rattle.plans.specs.Refusals.{same_person, same_plan, starts_late}
 use Rattle.law_generated.proofs.Tables.{no_reason}
 
 -- a row of a person's plan 0

@@ -1,13 +1,11 @@
 -- Numbers and names in fields: what they are made of, and what is read from them.
-use Rattle.records.proofs.Common.{◌≡◌, List, ap, ℕ, length, ◌∙◌, arith, [], ◌<◌, Some, ◌++◌, ◌∷◌, refl, true, Bool, false, ◌≤◌, ◌^◌, ◌&&◌, ◌||◌}
-use Rattle.records.proofs.Common.{sym, append_assoc, length-append, nat_tests, list_all-append, list_all, nat_le, nat_eq, is_name, decimal, option_map, parts_of}
+use Rattle.records.proofs.Common.{◌≡◌, List, ap, ℕ, length, ◌∙◌, arith, [], ◌<◌, Some, ◌++◌, ◌∷◌, refl, true, Bool, false, ◌≤◌, ◌^◌, ◌&&◌, ◌||◌, sym}
+use Rattle.records.proofs.Common.{append_assoc, length-append, nat_tests, list_all-append, list_all, nat_le, nat_eq, is_name, decimal, option_map, parts_of}
+use Rattle.records.specs.Numbers.{is_digit, number_in, signed_in}
 use Rattle.std.specs.Prelude.{pos, get_or}
 use Rattle.std.proofs.lemmas.Fmt.{decimal_injective, decimal_nonempty, length-decimal-le}
 use Rattle.events.specs.Names.{is_name_byte}
-use Rattle.records.specs.Numbers.{is_digit, number_in, signed_in}
-use Rattle.plan_text.proofs.Clean.{all_weaker, name_bytes}
-use Rattle.plan_text.proofs.Decimals.{decimal_writes, number_back}
-use Rattle.plan_text.proofs.Joins.{and_true, both, parts_back}
+use Rattle.plan_text.proofs.{Clean.all_weaker, Clean.name_bytes, Decimals.decimal_writes, Decimals.number_back, Joins.and_true, Joins.both, Joins.parts_back}
 use Rattle.workload.specs.Rows.{link_name}
 use Rattle.law_generated.proofs.Lines.{is_plain, is_plain_byte, is_short}
 

@@ -1,34 +1,21 @@
 -- What the files of a grid give to the files behind them.
 use Rattle.records.proofs.Common.{◌≡◌, List, ap, ℕ, ◌∙◌, arith, [], ◌++◌, ◌∷◌, refl, ◌≤◌, map, sym, suc, ◌-◌, None, Row, body_of, column}
 use Rattle.records.proofs.Common.{number_of, append-nil, length, length-map}
-use Rattle.std.proofs.Common.{◌*◌, ap₂}
-use Rattle.std.specs.Prelude.{codes}
-use Rattle.std.specs.List.{AllByRecursion as Each, range_with_len}
-use Rattle.std.proofs.lemmas.List.FromFn.{length-range_with_len}
-use Rattle.network.specs.Links.{link_of, links_fault}
-use Rattle.network.specs.Nodes.{node_of}
+use Rattle.std.proofs.{Common.◌*◌, Common.ap₂, lemmas.List.FromFn.length-range_with_len}
+use Rattle.std.specs.{List.AllByRecursion as Each, List.range_with_len, Prelude.codes}
+use Rattle.network.specs.{Links.link_of, Links.links_fault, Nodes.node_of}
 use Rattle.plan_text.specs.Lines.{row_line}
-use Rattle.rows.specs.Joined.{ends_of, ends_of_link}
-use Rattle.rows.specs.declared.network.LinkRow.{LinkRow}
-use Rattle.rows.specs.declared.schedule.StopRow.{StopRow}
-use Rattle.schedule.specs.Departures.{departures_fault}
-use Rattle.schedule.specs.Routes.{routes_fault}
-use Rattle.schedule.specs.Stops.{stop_of, stops_fault}
-use Rattle.workload.specs.Links.{grid_links}
-use Rattle.workload.specs.Rows.{link_name, link_row, node_name, node_row, stop_name, stop_row}
-use Rattle.workload.specs.Texts.{departures_text, links_text, nodes_text, plans_text, routes_text, stops_text}
-use Rattle.workload.specs.declared.TheConstants.{DEPARTURES}
+use Rattle.rows.specs.{Joined.ends_of, Joined.ends_of_link, declared.network.LinkRow.LinkRow, declared.schedule.StopRow.StopRow}
+use Rattle.schedule.specs.{Departures.departures_fault, Routes.routes_fault, Stops.stop_of, Stops.stops_fault}
+use Rattle.workload.specs.{Links.grid_links, Rows.link_name, Rows.link_row, Rows.node_name, Rows.node_row, Rows.stop_name, Rows.stop_row, Texts.departures_text}
+use Rattle.workload.specs.{Texts.links_text, Texts.nodes_text, Texts.plans_text, Texts.routes_text, Texts.stops_text, declared.TheConstants.DEPARTURES}
+use Rattle.law_generated.proofs.{Departures.departures_pass, Grid.IsLink, Grid.each_link, Links.grid_link, Links.links_file, Links.links_pass, Links.row_link}
+use Rattle.law_generated.proofs.{Nodes.nodes_file, Nodes.numbers, Plans.plans_pass, Routes.grid_line, Routes.line_file, Routes.line_row, Routes.place_of}
+use Rattle.law_generated.proofs.{Routes.routes_pass, Stops.stops_file, Stops.stops_pass}
 use Rattle.law_generated.specs.Files.{link_ends, links_named, nodes_named, routes_named, stops_named, stops_placed}
-use Rattle.law_generated.proofs.Departures.{departures_pass}
-use Rattle.law_generated.proofs.Grid.{IsLink, each_link}
-use Rattle.law_generated.proofs.Links.{grid_link, links_file, links_pass, row_link}
 use Rattle.law_generated.proofs.Links as links
-use Rattle.law_generated.proofs.Nodes.{nodes_file, numbers}
 use Rattle.law_generated.proofs.Nodes as nodes
 use Rattle.plans.specs.Values.{plans_fault}
-use Rattle.law_generated.proofs.Plans.{plans_pass}
-use Rattle.law_generated.proofs.Routes.{grid_line, line_file, line_row, place_of, routes_pass}
-use Rattle.law_generated.proofs.Stops.{stops_file, stops_pass}
 use Rattle.law_generated.proofs.Stops as stops
 
 module _ (size : ℕ) (some : 3 ≤ size) (few : size ≤ 100) where

@@ -1,11 +1,8 @@
 -- The nodes and the links of a grid. Node q * size + r is that of row q and column r.
-use Rattle.std.proofs.Common.{◌≡◌, ◌≢◌, ◌⊎◌, ◌<◌, ◌≤◌, ◌+◌, ◌-◌, ◌*◌, ◌/◌, ◌%◌, ℕ, zero, suc, arith, ap, refl, inl, inr, Bool, true}
-use Rattle.std.proofs.Common.{false, List, [], ◌∷◌, ◌++◌, length, length-append}
-use Rattle.std.specs.Prelude.{nat_eq, nat_lt, if◌then◌else◌}
-use Rattle.std.specs.List.{AllByRecursion as Each, flat_map, range_with_len}
-use Rattle.std.proofs.lemmas.Bool.{cases_eq}
-use Rattle.std.proofs.lemmas.Bool.Decides.{nat_tests}
-use Rattle.std.proofs.lemmas.Nat.{div-add-mod', div_below, mod_below, mul-le}
+use Rattle.std.proofs.Common.{◌≡◌, ◌≢◌, ◌⊎◌, ◌<◌, ◌≤◌, ◌+◌, ◌-◌, ◌*◌, ◌/◌, ◌%◌, ℕ, zero, suc, arith, ap, refl, inl, inr, Bool, true, false, List, [], ◌∷◌, ◌++◌}
+use Rattle.std.proofs.Common.{length, length-append}
+use Rattle.std.proofs.lemmas.{Bool.cases_eq, Bool.Decides.nat_tests, Nat.div-add-mod', Nat.div_below, Nat.mod_below, Nat.mul-le}
+use Rattle.std.specs.{List.AllByRecursion as Each, List.flat_map, List.range_with_len, Prelude.nat_eq, Prelude.nat_lt, Prelude.if◌then◌else◌}
 use Rattle.workload.specs.Links.{grid_links, link_if, links_from}
 use Rattle.law_generated.proofs.Names.{AreApart}
 

@@ -1,37 +1,23 @@
 -- The legs of a grid's plans: those by bus fit its line, and for those by car there is a route.
-use Rattle.records.proofs.Common.{◌≡◌, List, ap, ℕ, length, ◌∙◌, arith, [], ◌<◌, None, Some, ◌++◌, ◌∷◌, refl, true, Bool, ◌+◌, false, ◌≤◌}
-use Rattle.records.proofs.Common.{◌^◌, ◌&&◌, ◌||◌, not, map, sym, suc, zero, ◌-◌, nat_tests}
-use Rattle.records.proofs.Common.{Row, Reason, Option, field, bytes_eq, flat_map, get_or, get_or-map, is_held, is_none, number_of}
-use Rattle.records.proofs.Common.{unwrap_or, nat_eq}
-use Rattle.std.specs.Prelude.{codes, if◌then◌else◌}
-use Rattle.std.specs.List.{list_any}
-use Rattle.std.proofs.lemmas.Bool.{or_left}
+use Rattle.records.proofs.Common.{◌≡◌, List, ap, ℕ, length, ◌∙◌, arith, [], ◌<◌, None, Some, ◌++◌, ◌∷◌, refl, true, Bool, ◌+◌, false, ◌≤◌, ◌^◌, ◌&&◌, ◌||◌, not}
+use Rattle.records.proofs.Common.{map, sym, suc, zero, ◌-◌, nat_tests, Row, Reason, Option, field, bytes_eq, flat_map, get_or, get_or-map, is_held, is_none}
+use Rattle.records.{proofs.Common.number_of, proofs.Common.unwrap_or, proofs.Common.nat_eq, specs.Lists.items_in, specs.Lists.numbers_of}
+use Rattle.std.{proofs.lemmas.Bool.or_left, specs.List.list_any, specs.Prelude.codes, specs.Prelude.if◌then◌else◌}
 use Rattle.edge_files.specs.declared.reasons.Reason.TheVariants as reason
-use Rattle.events.proofs.NameLists.{is_held-firsts, name_at-number_of}
-use Rattle.events.specs.Words.{mode_of}
+use Rattle.events.{proofs.NameLists.is_held-firsts, proofs.NameLists.name_at-number_of, specs.Words.mode_of}
 use Rattle.events.specs.declared.event.Mode.TheVariants as mode
 use Rattle.plans.specs.declared.kinds.ElementKind.TheVariants as element
-use Rattle.plans.specs.Kinds.{is_leg, kind_of, seconds_in}
+use Rattle.plans.{proofs.Naming.numbered_held, specs.Kinds.is_leg, specs.Kinds.kind_of, specs.Kinds.seconds_in}
 use Rattle.plans.specs.Values.{Tables, act_of, leg_by, leg_of, line_in, named_by, number_in_table, stops_in, tables_of, transit_of}
-use Rattle.plans.proofs.Naming.{numbered_held}
-use Rattle.records.specs.Lists.{items_in, numbers_of}
-use Rattle.rows.specs.Stops.{stop_link}
-use Rattle.rows.specs.declared.plan.Act.{Act}
+use Rattle.rows.specs.{Stops.stop_link, declared.plan.Act.Act, declared.schedule.RouteRow.RouteRow, declared.schedule.StopRow.StopRow}
 use Rattle.rows.specs.declared.plan.Leg.TheVariants as leg
-use Rattle.rows.specs.declared.schedule.RouteRow.{RouteRow}
-use Rattle.rows.specs.declared.schedule.StopRow.{StopRow}
 use Rattle.scenario.specs.Legs.{LegChecks, act_in, ends_elsewhere, is_unknown, lacks_route, leg_in_town, leg_reason, leg_reason_at}
 use Rattle.scenario.specs.Legs.{number_at, numbers_in, stops_elsewhere}
 use Rattle.town.specs.Fits.{has_wrong_stops, is_joining}
-use Rattle.workload.specs.Commuters.{bus_home, bus_work}
-use Rattle.workload.specs.Rows.{act_row, leg_row, link_name, stop_name, walk_row, way_back, way_there}
-use Rattle.workload.specs.declared.TheConstants.{WORK_SECONDS}
-use Rattle.workload.specs.declared.commuters.Commute.{Commute}
+use Rattle.workload.specs.{Commuters.bus_home, Commuters.bus_work, Rows.act_row, Rows.leg_row, Rows.link_name, Rows.stop_name, Rows.walk_row, Rows.way_back}
+use Rattle.workload.specs.{Rows.way_there, declared.TheConstants.WORK_SECONDS, declared.commuters.Commute.Commute, declared.commuters.Commuter.Commuter}
 use Rattle.workload.specs.declared.commuters.Commute.TheVariants as commute
-use Rattle.workload.specs.declared.commuters.Commuter.{Commuter}
-use Rattle.law_generated.proofs.Commuting.{bus_items}
-use Rattle.law_generated.proofs.Names.{held_first, held_later, same}
-use Rattle.law_generated.proofs.Tables.{no_reason}
+use Rattle.law_generated.proofs.{Commuting.bus_items, Names.held_first, Names.held_later, Names.same, Tables.no_reason}
 
 -- LEGS OF EACH MODE
 -- nothing speaks against a walk

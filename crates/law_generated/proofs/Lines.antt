@@ -1,16 +1,12 @@
 -- Lines of plain fields, as they are read back.
 use Rattle.records.proofs.Common.{◌≡◌, List, ap, ℕ, length, ◌∙◌, arith, [], ◌<◌, Some, ◌++◌, ◌∷◌, refl, true, Bool, ◌+◌, false, ◌≤◌, suc, zero, ◌||◌}
 use Rattle.records.proofs.Common.{sym, length-append, nat_tests, list_all, flat_map, nat_lt, nat_le, nat_eq, Row, ◌&&◌, join_with_byte, drop, rows_of, body_of}
-use Rattle.std.proofs.Common.{◌*◌}
-use Rattle.std.specs.Prelude.{◌==◌}
-use Rattle.std.specs.List.{list_any}
-use Rattle.csv.specs.Machine.{next_record}
+use Rattle.std.{proofs.Common.◌*◌, specs.List.list_any, specs.Prelude.◌==◌}
+use Rattle.csv.{proofs.RoundTrip.read-write-many, specs.Machine.next_record}
 use Rattle.csv.specs.Reading.{default_config, records_from, records_next, strip_bom}
 use Rattle.csv.specs.Writing.{default_writer, field_text, fields_text, is_blank, needs_byte, row_text}
 use Rattle.csv.specs.declared.parser.State.TheVariants as st
-use Rattle.csv.proofs.RoundTrip.{read-write-many}
-use Rattle.plan_text.specs.Lines.{row_line}
-use Rattle.plan_text.proofs.Joins.{behind_each, both, join_first}
+use Rattle.plan_text.{proofs.Joins.behind_each, proofs.Joins.both, proofs.Joins.join_first, specs.Lines.row_line}
 
 -- a byte that stands for itself in a field: a space, or one behind the comma
 abbrev pub is_plain_byte : ℕ → Bool

@@ -1,36 +1,24 @@
 -- links.csv of a grid.
-use Rattle.records.proofs.Common.{◌≡◌, List, ap, ℕ, length, ◌∙◌, arith, [], ◌<◌, None, Some, ◌++◌, ◌∷◌, refl, true, Bool, ◌+◌, false, ◌≤◌, ◌^◌, ◌&&◌, ◌||◌, not, map, sym, take}
-use Rattle.records.proofs.Common.{subst, nat_tests, flat_map, Row, column, field, length-map, is_some, is_none, nat_le, nat_eq}
-use Rattle.records.proofs.Common.{is_name, number_of, Option, body_fault, is_held, suc, zero}
+use Rattle.records.proofs.Common.{◌≡◌, List, ap, ℕ, length, ◌∙◌, arith, [], ◌<◌, None, Some, ◌++◌, ◌∷◌, refl, true, Bool, ◌+◌, false, ◌≤◌, ◌^◌, ◌&&◌, ◌||◌, not}
+use Rattle.records.proofs.Common.{map, sym, take, subst, nat_tests, flat_map, Row, column, field, length-map, is_some, is_none, nat_le, nat_eq, is_name}
+use Rattle.records.proofs.Common.{number_of, Option, body_fault, is_held, suc, zero}
+use Rattle.records.specs.{Fields.are_fields, Fields.is_header, Files.head_reason, Numbers.are_digits, Numbers.number_in}
 use Rattle.std.proofs.Common.{◌*◌, ◌/◌, ◌%◌, ◌-◌, ap₂}
-use Rattle.std.specs.Prelude.{bytes_eq, codes, get_or, if◌then◌else◌, nat_lt}
-use Rattle.std.specs.List.{AllByRecursion as Each}
-use Rattle.std.proofs.lemmas.List.{take-map}
-use Rattle.std.proofs.lemmas.List.Folds.{flat_map-map}
-use Rattle.std.proofs.lemmas.List.Sums.{sum_by-cons}
-use Rattle.std.proofs.lemmas.Nat.{mod-mul-add, mul-le}
-use Rattle.std.specs.Fmt.{digits}
+use Rattle.std.proofs.lemmas.{List.take-map, List.Folds.flat_map-map, List.Sums.sum_by-cons, Nat.mod-mul-add, Nat.mul-le}
+use Rattle.std.specs.{Fmt.digits, List.AllByRecursion as Each, Prelude.bytes_eq, Prelude.codes, Prelude.get_or, Prelude.if◌then◌else◌, Prelude.nat_lt}
 use Rattle.edge_files.specs.declared.reasons.Reason.TheVariants as reason
 use Rattle.events.specs.Names.{are_distinct}
 use Rattle.limits.specs.declared.TheConstants.{MAX_CAPACITY, MAX_IN_LINKS, MAX_LENGTH, MAX_LINKS, MAX_SPEED}
-use Rattle.network.specs.Links.{capacity_in, has_bad_measure, lacks_name, lacks_node, lanes_in, length_in, link_header, link_of, link_reason, links_fault, measures_of, speed_in}
-use Rattle.plan_text.specs.Lines.{row_line}
-use Rattle.plan_text.proofs.Decimals.{number_back}
-use Rattle.records.specs.Fields.{are_fields, is_header}
-use Rattle.records.specs.Files.{head_reason}
-use Rattle.records.specs.Numbers.{are_digits, number_in}
-use Rattle.rows.specs.Networks.{in_links}
-use Rattle.rows.specs.declared.network.LinkRow.{LinkRow}
-use Rattle.workload.specs.Links.{grid_links, link_if, links_from}
-use Rattle.workload.specs.Rows.{link_name, link_row, node_name}
-use Rattle.workload.specs.Texts.{links_text}
+use Rattle.network.specs.Links.{capacity_in, has_bad_measure, lacks_name, lacks_node, lanes_in, length_in, link_header, link_of, link_reason, links_fault}
+use Rattle.network.specs.Links.{measures_of, speed_in}
+use Rattle.plan_text.{proofs.Decimals.number_back, specs.Lines.row_line}
+use Rattle.rows.specs.{Networks.in_links, declared.network.LinkRow.LinkRow}
+use Rattle.workload.specs.{Links.grid_links, Links.link_if, Links.links_from, Rows.link_name, Rows.link_row, Rows.node_name, Texts.links_text}
 use Rattle.workload.specs.declared.TheConstants.{FREE_SPEED, LINK_CAPACITY, NODE_DISTANCE}
 use Rattle.law_generated.proofs.Fields.{lettered, lettered_twice, link_name_is, link_of_name, name_plain, name_short}
-use Rattle.law_generated.proofs.Grid.{IsLink, count_to, each_link, few_links, four_to, links_apart, square_small}
-use Rattle.law_generated.proofs.Lines.{is_plain, is_row, is_short, is_short_row}
-use Rattle.law_generated.proofs.Names.{held_among, names_distinct, same}
-use Rattle.law_generated.proofs.Nodes.{node_number, numbers}
-use Rattle.law_generated.proofs.Rules.{column_is, each_at, each_first, no_more, not_twice, row_at, too_few}
+use Rattle.law_generated.proofs.{Grid.IsLink, Grid.count_to, Grid.each_link, Grid.few_links, Grid.four_to, Grid.links_apart, Grid.square_small, Lines.is_plain}
+use Rattle.law_generated.proofs.{Lines.is_row, Lines.is_short, Lines.is_short_row, Names.held_among, Names.names_distinct, Names.same, Nodes.node_number}
+use Rattle.law_generated.proofs.{Nodes.numbers, Rules.column_is, Rules.each_at, Rules.each_first, Rules.no_more, Rules.not_twice, Rules.row_at, Rules.too_few}
 use Rattle.law_generated.proofs.Tables.{IsFile, head_passes, lines_are_file, no_body_fault, no_reason, rows_pass}
 
 pub header_named : is_header link_header link_header ≡ true

@@ -1,13 +1,9 @@
 -- Lists of names that a rule gives to numbers, or to pairs of them.
-use Rattle.records.proofs.Common.{◌≡◌, List, ℕ, length, ◌∙◌, arith, [], ◌<◌, None, Some, ◌++◌, ◌∷◌, refl, true, Bool, ◌+◌, false, ◌≤◌, ◌||◌, ◌&&◌, not, suc, zero, take, map, sym}
-use Rattle.records.proofs.Common.{subst, inl, inr, bytes_eq, is_held, name_at, number_of, get_or-map, length-map, map-append, flat_map}
-use Rattle.std.specs.Prelude.{get_or}
-use Rattle.std.specs.List.{AllByRecursion as Each, range_with_len}
-use Rattle.std.proofs.lemmas.Bool.{cases_eq}
-use Rattle.std.proofs.lemmas.List.Folds.{list_any-append}
-use Rattle.std.proofs.lemmas.Slice.Eq.{bytes_eq-Decides}
-use Rattle.events.specs.Names.{are_distinct}
-use Rattle.events.proofs.NameLists.{number_of-absent, number_of-name_at}
+use Rattle.records.proofs.Common.{◌≡◌, List, ℕ, length, ◌∙◌, arith, [], ◌<◌, None, Some, ◌++◌, ◌∷◌, refl, true, Bool, ◌+◌, false, ◌≤◌, ◌||◌, ◌&&◌, not, suc}
+use Rattle.records.proofs.Common.{zero, take, map, sym, subst, inl, inr, bytes_eq, is_held, name_at, number_of, get_or-map, length-map, map-append, flat_map}
+use Rattle.std.proofs.lemmas.{Bool.cases_eq, List.Folds.list_any-append, Slice.Eq.bytes_eq-Decides}
+use Rattle.std.specs.{List.AllByRecursion as Each, List.range_with_len, Prelude.get_or}
+use Rattle.events.{proofs.NameLists.number_of-absent, proofs.NameLists.number_of-name_at, specs.Names.are_distinct}
 
 -- no two of them are the same
 abbrev pub AreApart : {A : Type 0} → List A → Type 0

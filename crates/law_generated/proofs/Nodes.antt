@@ -1,27 +1,20 @@
 -- nodes.csv of a grid.
-use Rattle.records.proofs.Common.{◌≡◌, List, ap, ℕ, length, ◌∙◌, arith, [], ◌<◌, None, Some, ◌++◌, ◌∷◌, refl, true, Bool, ◌+◌, false, ◌≤◌, ◌^◌, ◌&&◌, ◌||◌, not, map, sym, take}
-use Rattle.records.proofs.Common.{subst, flat_map, Row, column, field, length-map, is_some, is_none, nat_le, nat_eq}
-use Rattle.records.proofs.Common.{is_name, number_of, decimal, holds_name, body_fault}
+use Rattle.records.proofs.Common.{◌≡◌, List, ap, ℕ, length, ◌∙◌, arith, [], ◌<◌, None, Some, ◌++◌, ◌∷◌, refl, true, Bool, ◌+◌, false, ◌≤◌, ◌^◌, ◌&&◌, ◌||◌, not}
+use Rattle.records.proofs.Common.{map, sym, take, subst, flat_map, Row, column, field, length-map, is_some, is_none, nat_le, nat_eq, is_name, number_of}
+use Rattle.records.proofs.Common.{decimal, holds_name, body_fault}
+use Rattle.records.specs.{Fields.are_fields, Fields.is_header, Files.head_reason}
 use Rattle.std.proofs.Common.{◌*◌, ◌/◌, ◌%◌}
-use Rattle.std.specs.Prelude.{ℤ, codes, get_or, pos}
-use Rattle.std.specs.List.{AllByRecursion as Each, range_with_len}
-use Rattle.std.proofs.lemmas.List.Folds.{flat_map-map}
-use Rattle.std.proofs.lemmas.List.FromFn.{get_or-range_with_len, length-range_with_len}
+use Rattle.std.proofs.lemmas.List.{Folds.flat_map-map, FromFn.get_or-range_with_len, FromFn.length-range_with_len}
+use Rattle.std.specs.{List.AllByRecursion as Each, List.range_with_len, Prelude.ℤ, Prelude.codes, Prelude.get_or, Prelude.pos}
 use Rattle.edge_files.specs.declared.reasons.Reason.TheVariants as reason
 use Rattle.events.specs.Names.{are_distinct}
 use Rattle.limits.specs.declared.TheConstants.{MAX_COORDINATE, MAX_NODES}
 use Rattle.network.specs.Nodes.{coordinate, has_bad_coordinate, node_header, node_of, node_reason, nodes_fault}
 use Rattle.plan_text.specs.Lines.{row_line}
-use Rattle.records.specs.Fields.{are_fields, is_header}
-use Rattle.records.specs.Files.{head_reason}
-use Rattle.workload.specs.Grids.{IsGrid}
-use Rattle.workload.specs.Rows.{node_name, node_row}
-use Rattle.workload.specs.Texts.{nodes_text}
-use Rattle.workload.specs.declared.TheConstants.{NODE_DISTANCE}
+use Rattle.workload.specs.{Grids.IsGrid, Rows.node_name, Rows.node_row, Texts.nodes_text, declared.TheConstants.NODE_DISTANCE}
 use Rattle.law_generated.proofs.Fields.{lettered, name_plain, name_short, number_of_name, number_plain, number_short, signed_back}
-use Rattle.law_generated.proofs.Grid.{column_of, row_of, square_small, square_some}
-use Rattle.law_generated.proofs.Lines.{is_plain, is_row, is_short, is_short_row}
-use Rattle.law_generated.proofs.Names.{names_distinct, number_at, range_apart, range_below}
+use Rattle.law_generated.proofs.{Grid.column_of, Grid.row_of, Grid.square_small, Grid.square_some, Lines.is_plain, Lines.is_row, Lines.is_short}
+use Rattle.law_generated.proofs.{Lines.is_short_row, Names.names_distinct, Names.number_at, Names.range_apart, Names.range_below}
 use Rattle.law_generated.proofs.Rules.{column_is, each_at, no_more, not_twice, row_at}
 use Rattle.law_generated.proofs.Tables.{IsFile, head_passes, lines_are_file, no_body_fault, no_reason, rows_pass}
 

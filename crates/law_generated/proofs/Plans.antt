@@ -1,31 +1,18 @@
 -- plans.csv of a grid.
-use Rattle.records.proofs.Common.{◌≡◌, List, ap, ℕ, length, ◌∙◌, arith, [], ◌<◌, None, Some, ◌++◌, ◌∷◌, refl, true, Bool, ◌+◌, ◌≤◌, ◌^◌}
-use Rattle.records.proofs.Common.{◌&&◌, map, sym, subst, list_all, list_all-append, flat_map, Row, decimal, head_reason, is_name}
-use Rattle.records.proofs.Common.{length-append, suc, zero, ◌-◌, nat_le, nat_tests}
-use Rattle.std.proofs.Common.{◌*◌}
-use Rattle.std.specs.Prelude.{codes, get_or}
-use Rattle.std.specs.List.{range_with_len}
-use Rattle.std.proofs.lemmas.List.Concat.{flat_map-append}
-use Rattle.plan_text.specs.Lines.{row_line}
-use Rattle.plan_text.proofs.Joins.{and_true}
-use Rattle.plans.specs.Kinds.{plans_header}
-use Rattle.plans.specs.Values.{plans_fault, reason_at, rows_fault}
+use Rattle.records.proofs.Common.{◌≡◌, List, ap, ℕ, length, ◌∙◌, arith, [], ◌<◌, None, Some, ◌++◌, ◌∷◌, refl, true, Bool, ◌+◌, ◌≤◌, ◌^◌, ◌&&◌, map, sym, subst}
+use Rattle.records.proofs.Common.{list_all, list_all-append, flat_map, Row, decimal, head_reason, is_name, length-append, suc, zero, ◌-◌, nat_le, nat_tests}
 use Rattle.records.specs.Fields.{are_fields, is_header}
-use Rattle.workload.specs.Commuters.{commuter}
-use Rattle.workload.specs.Links.{grid_links}
-use Rattle.workload.specs.Rows.{act_row, leg_row, link_name, person_name, person_rows, stop_name, way_back, way_there}
-use Rattle.workload.specs.Texts.{plans_text}
-use Rattle.workload.specs.declared.TheConstants.{PERSONS_PER_NODE, WALK_SECONDS, WORK_SECONDS}
-use Rattle.workload.specs.declared.commuters.Commute.{Commute}
+use Rattle.std.{proofs.Common.◌*◌, proofs.lemmas.List.Concat.flat_map-append, specs.List.range_with_len, specs.Prelude.codes, specs.Prelude.get_or}
+use Rattle.plan_text.{proofs.Joins.and_true, specs.Lines.row_line}
+use Rattle.plans.specs.{Kinds.plans_header, Values.plans_fault, Values.reason_at, Values.rows_fault}
+use Rattle.workload.specs.{Commuters.commuter, Links.grid_links, Rows.act_row, Rows.leg_row, Rows.link_name, Rows.person_name, Rows.person_rows, Rows.stop_name}
+use Rattle.workload.specs.{Rows.way_back, Rows.way_there, Texts.plans_text, declared.TheConstants.PERSONS_PER_NODE}
+use Rattle.workload.specs.declared.{TheConstants.WALK_SECONDS, TheConstants.WORK_SECONDS, commuters.Commute.Commute, commuters.Commuter.Commuter}
 use Rattle.workload.specs.declared.commuters.Commute.TheVariants as commute
-use Rattle.workload.specs.declared.commuters.Commuter.{Commuter}
 use Rattle.law_generated.proofs.Commuting.{IsCommuter, IsPlace, commutes, travel}
 use Rattle.law_generated.proofs.Fields.{few_digits, lettered, name_plain, name_short, number_of_name, number_plain, number_short}
-use Rattle.law_generated.proofs.Grid.{square_small, square_some}
-use Rattle.law_generated.proofs.Lines.{is_plain, is_row, is_short, is_short_row}
-use Rattle.law_generated.proofs.Links.{link_named}
-use Rattle.law_generated.proofs.Stops.{stop_named}
-use Rattle.law_generated.proofs.Tables.{IsFile, head_passes, lines_are_file, no_fault}
+use Rattle.law_generated.proofs.{Grid.square_small, Grid.square_some, Lines.is_plain, Lines.is_row, Lines.is_short, Lines.is_short_row, Links.link_named}
+use Rattle.law_generated.proofs.{Stops.stop_named, Tables.IsFile, Tables.head_passes, Tables.lines_are_file, Tables.no_fault}
 use Rattle.law_generated.proofs.Travellers.{no_row_refused, long, row_at}
 
 header_named : is_header plans_header plans_header ≡ true

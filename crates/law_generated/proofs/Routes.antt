@@ -1,50 +1,29 @@
 -- routes.csv of a grid: its one row.
-use Rattle.records.proofs.Common.{◌≡◌, List, ap, ℕ, length, ◌∙◌, arith, [], ◌<◌, None, Some, ◌++◌, ◌∷◌, refl, true, Bool, ◌+◌, false, ◌≤◌}
-use Rattle.records.proofs.Common.{◌&&◌, ◌||◌, not, map, sym, suc, zero, ◌-◌, cond, inl, inr}
-use Rattle.records.proofs.Common.{list_all-append, nat_tests, list_all, flat_map, Row, column, field, get_or-map, length-map, is_some}
-use Rattle.records.proofs.Common.{is_none, nat_le, nat_lt, nat_eq, Option, body_fault, append-nil, take}
-use Rattle.records.proofs.Common.{is_name, number_of, numbers_of, with_number, join_with_byte, parts_of, append_assoc, length-append}
-use Rattle.records.proofs.Common.{unwrap_or, decimal}
+use Rattle.records.proofs.Common.{◌≡◌, List, ap, ℕ, length, ◌∙◌, arith, [], ◌<◌, None, Some, ◌++◌, ◌∷◌, refl, true, Bool, ◌+◌, false, ◌≤◌, ◌&&◌, ◌||◌, not, map}
+use Rattle.records.proofs.Common.{sym, suc, zero, ◌-◌, cond, inl, inr, list_all-append, nat_tests, list_all, flat_map, Row, column, field, get_or-map}
+use Rattle.records.proofs.Common.{length-map, is_some, is_none, nat_le, nat_lt, nat_eq, Option, body_fault, append-nil, take, is_name, number_of, numbers_of}
+use Rattle.records.proofs.Common.{with_number, join_with_byte, parts_of, append_assoc, length-append, unwrap_or, decimal}
+use Rattle.records.specs.{Fields.are_fields, Fields.is_header, Files.optional_head_reason, Lists.are_names, Lists.items_in, Numbers.is_digit}
 use Rattle.std.proofs.Common.{◌*◌, ◌⊎◌, ap₂}
-use Rattle.std.specs.Prelude.{codes, get_or, if◌then◌else◌, position}
-use Rattle.std.specs.List.{position_or_len, range_with_len}
-use Rattle.std.proofs.lemmas.Bool.{cases_eq}
-use Rattle.std.proofs.lemmas.List.FromFn.{get_or-map-range_with_len, length-range_with_len}
+use Rattle.std.proofs.lemmas.{Bool.cases_eq, List.FromFn.get_or-map-range_with_len, List.FromFn.length-range_with_len}
+use Rattle.std.specs.{List.position_or_len, List.range_with_len, Prelude.codes, Prelude.get_or, Prelude.if◌then◌else◌, Prelude.position}
 use Rattle.edge_files.specs.declared.reasons.Reason.TheVariants as reason
-use Rattle.events.specs.Names.{is_name_byte}
-use Rattle.events.specs.declared.lists.StopCall.{StopCall}
-use Rattle.events.proofs.NameLists.{name_at-number_of, some_within}
+use Rattle.events.{proofs.NameLists.name_at-number_of, proofs.NameLists.some_within, specs.Names.is_name_byte, specs.declared.lists.StopCall.StopCall}
 use Rattle.limits.specs.declared.TheConstants.{LAST_SECOND, MAX_CALLS, MAX_ROUTE_LINKS}
-use Rattle.plan_text.specs.Lines.{row_line}
-use Rattle.plan_text.proofs.Clean.{all_weaker, name_bytes}
-use Rattle.plan_text.proofs.Decimals.{number_back}
-use Rattle.plan_text.proofs.Joins.{and_true, behind_each, both, join_first, parts_back}
-use Rattle.records.specs.Fields.{are_fields, is_header}
-use Rattle.records.specs.Files.{optional_head_reason}
-use Rattle.records.specs.Lists.{are_names, items_in}
-use Rattle.records.specs.Numbers.{is_digit}
-use Rattle.rows.specs.Joined.{is_joined}
-use Rattle.rows.specs.Stops.{calls_at}
-use Rattle.rows.specs.Schedules.{are_served, is_unserved, is_way, served_from}
+use Rattle.plan_text.proofs.{Clean.all_weaker, Clean.name_bytes, Decimals.number_back, Joins.and_true, Joins.behind_each, Joins.both, Joins.join_first}
+use Rattle.plan_text.{proofs.Joins.parts_back, specs.Lines.row_line}
+use Rattle.rows.specs.{Joined.is_joined, Schedules.are_served, Schedules.is_unserved, Schedules.is_way, Schedules.served_from, Stops.calls_at}
 use Rattle.rows.specs.declared.schedule.StopRow.{StopRow}
 use Rattle.schedule.specs.Calls.{call_of, call_text, is_call, text_of}
-use Rattle.schedule.specs.Routes.{has_bad_name, has_bad_offset, is_too_much, lacks_stop, lines_of, parts_reason, route_header, route_of}
-use Rattle.schedule.specs.Routes.{route_reason, routes_fault}
-use Rattle.schedule.specs.Stops.{stop_of}
-use Rattle.schedule.specs.declared.calls.CallText.{CallText}
+use Rattle.schedule.specs.Routes.{has_bad_name, has_bad_offset, is_too_much, lacks_stop, lines_of, parts_reason, route_header, route_of, route_reason}
+use Rattle.schedule.specs.{Routes.routes_fault, Stops.stop_of, declared.calls.CallText.CallText}
 use Rattle.town.specs.Fits.{are_joining}
-use Rattle.workload.specs.Links.{grid_links}
-use Rattle.workload.specs.Rows.{link_name, stop_name, stop_row}
+use Rattle.workload.specs.{Links.grid_links, Rows.link_name, Rows.stop_name, Rows.stop_row, Texts.routes_text, declared.TheConstants.STOP_SECONDS}
 use Rattle.workload.specs.Rows as rows
-use Rattle.workload.specs.Texts.{routes_text}
-use Rattle.workload.specs.declared.TheConstants.{STOP_SECONDS}
-use Rattle.law_generated.proofs.Fields.{digit_named, digits_of, few_digits, name_short}
-use Rattle.law_generated.proofs.Grid.{IsLink, each_link}
+use Rattle.law_generated.proofs.{Fields.digit_named, Fields.digits_of, Fields.few_digits, Fields.name_short, Grid.IsLink, Grid.each_link}
 use Rattle.law_generated.proofs.Lines.{body_back, is_plain, is_plain_byte, is_row, is_short, length_joined, rows_back}
-use Rattle.law_generated.proofs.Links.{held_right, link_named, tells}
-use Rattle.law_generated.proofs.Rules.{each_at}
-use Rattle.law_generated.proofs.Stops.{held_number, stop_link, stop_named, stop_number}
-use Rattle.law_generated.proofs.Tables.{IsFile, no_body_fault, no_reason, optional_head_passes}
+use Rattle.law_generated.proofs.{Links.held_right, Links.link_named, Links.tells, Rules.each_at, Stops.held_number, Stops.stop_link, Stops.stop_named}
+use Rattle.law_generated.proofs.{Stops.stop_number, Tables.IsFile, Tables.no_body_fault, Tables.no_reason, Tables.optional_head_passes}
 
 -- a line along which each link begins where the one before it ends, with a stop on each: the links have these numbers and names, and the stops too
 pub record IsLine (n : ℕ) (number : ℕ → ℕ) (links : List (List ℕ)) (ends : List (ℕ × ℕ)) (stops : List (List ℕ)) (places : List StopRow) : Type 0 where

@@ -1,10 +1,7 @@
 -- Rows that a rule makes, one for each element of a list, each with a name of its own.
 use Rattle.records.proofs.Common.{◌≡◌, List, ap, ℕ, length, ◌∙◌, arith, [], ◌<◌, None, ◌∷◌, refl, true, false, ◌≤◌, map, sym, take, suc, zero}
 use Rattle.records.proofs.Common.{subst, nat_tests, Row, column, field, get_or-map, length-map, is_some, nat_le, number_of, name_at, Option}
-use Rattle.std.specs.Prelude.{get_or}
-use Rattle.std.specs.List.{AllByRecursion as Each}
-use Rattle.std.proofs.Common.{ap₂}
-use Rattle.std.proofs.lemmas.List.{length-take-le, take-map}
+use Rattle.std.{proofs.Common.ap₂, proofs.lemmas.List.length-take-le, proofs.lemmas.List.take-map, specs.List.AllByRecursion as Each, specs.Prelude.get_or}
 use Rattle.events.specs.Names.{are_distinct}
 use Rattle.law_generated.proofs.Names.{new_at}
 

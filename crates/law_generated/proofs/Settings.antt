@@ -1,37 +1,26 @@
 -- settings.json of a grid.
-use Rattle.std.proofs.Common.{◌≡◌, ◌∙◌, ◌<◌, ◌≤◌, ◌^◌, ◌+◌, ◌-◌, ◌&&◌, ◌||◌, arith, ap, sym, refl, ℕ, Bool, true, false, not, List, [], ◌∷◌, ◌++◌, length, Option, Some, None, append_assoc, append-nil, length-append}
-use Rattle.std.specs.Fmt.{digits, signed_decimal}
-use Rattle.std.specs.Prelude.{negsuc, codes, decimal, if◌then◌else◌, is_some, nat_eq, nat_le, nat_lt, option_and_then}
-use Rattle.std.specs.Str.{IsUtf8, is_utf8}
-use Rattle.std.proofs.lemmas.Bool.Decides.{nat_tests}
-use Rattle.std.proofs.lemmas.Fmt.{IsAscii-decimal, length-decimal-le}
-use Rattle.std.proofs.lemmas.Str.{IsUtf8-append, IsUtf8-from_ascii, is_utf8-from_IsUtf8}
+use Rattle.std.proofs.Common.{◌≡◌, ◌∙◌, ◌<◌, ◌≤◌, ◌^◌, ◌+◌, ◌-◌, ◌&&◌, ◌||◌, arith, ap, sym, refl, ℕ, Bool, true, false, not, List, [], ◌∷◌, ◌++◌, length}
+use Rattle.std.proofs.{Common.Option, Common.Some, Common.None, Common.append_assoc, Common.append-nil, Common.length-append, lemmas.Bool.Decides.nat_tests}
+use Rattle.std.proofs.lemmas.{Fmt.IsAscii-decimal, Fmt.length-decimal-le, Str.IsUtf8-append, Str.IsUtf8-from_ascii, Str.is_utf8-from_IsUtf8}
+use Rattle.std.specs.{Fmt.digits, Fmt.signed_decimal, Prelude.negsuc, Prelude.codes, Prelude.decimal, Prelude.if◌then◌else◌, Prelude.is_some, Prelude.nat_eq}
+use Rattle.std.specs.{Prelude.nat_le, Prelude.nat_lt, Prelude.option_and_then, Str.IsUtf8, Str.is_utf8}
 use Rattle.edge_files.specs.declared.reasons.Reason.TheVariants as reason
 use Rattle.learning.specs.declared.TheConstants.{LAST_ITERATION}
 use Rattle.limits.specs.declared.TheConstants.{MAX_FILE_BYTES}
 use Rattle.events.specs.Names.{is_name}
-use Rattle.records.specs.Faults.{least}
-use Rattle.records.specs.Files.{is_too_long}
-use Rattle.settings.specs.Faults.{settings_fault, value_of, value_tests}
-use Rattle.settings.specs.Keys.{has_bad_cost, has_bad_in, has_bad_learning, has_bad_scoring, has_bad_traffic, has_bad_value, has_bad_weight, has_unknown_key, is_in, is_key, run_keys}
-use Rattle.settings.specs.Looking.{signed_in, whole_in}
-use Rattle.settings.specs.Modes.{has_unknown_mode_key, mode_in, modes_in}
+use Rattle.records.specs.{Faults.least, Files.is_too_long}
+use Rattle.settings.specs.{Faults.settings_fault, Faults.value_of, Faults.value_tests, Keys.has_bad_cost, Keys.has_bad_in}
+use Rattle.settings.specs.Keys.{has_bad_learning, has_bad_scoring, has_bad_traffic, has_bad_value, has_bad_weight, has_unknown_key, is_in, is_key, run_keys}
+use Rattle.settings.specs.{Looking.signed_in, Looking.whole_in, Modes.has_unknown_mode_key, Modes.mode_in, Modes.modes_in}
 use Rattle.settings.specs.NamedTables.{are_right, has_unknown_table_key, kind_in, latest_in, point_in, points_in, table_in, tables_in}
 use Rattle.settings.specs.Scoring.{has_wrong_table}
 use Rattle.json.specs.Json as json
-use Rattle.json.specs.Lex.{tokens}
-use Rattle.json.specs.Token.{Token}
-use Rattle.json.specs.Print.{IsNumber, escape_byte, print}
-use Rattle.json.specs.Tree.{HasNumbers, json_tokens}
-use Rattle.json.proofs.Printed.Utf8.{IsUtf8-are_ascii}
 use Rattle.json.proofs.Printed.Decimals.{IsNumber-decimal, IsNumber-signed_decimal}
-use Rattle.json.proofs.Printed.Tokens.{tokens-print}
-use Rattle.json.proofs.Printed.Trees.{ArePrintable-json_tokens, value-json_tokens}
+use Rattle.json.proofs.Printed.{Tokens.tokens-print, Trees.ArePrintable-json_tokens, Trees.value-json_tokens, Utf8.IsUtf8-are_ascii}
+use Rattle.json.specs.{Lex.tokens, Print.IsNumber, Print.escape_byte, Print.print, Token.Token, Tree.HasNumbers, Tree.json_tokens}
+use Rattle.serde_json.proofs.{Numbers.number_of-decimal, Numbers.number_of-negative, Texts.print-outline}
 use Rattle.serde_json.specs.Data.{Data, Members, array, item, member, negative, no_items, no_members, number, object, string, unsigned}
-use Rattle.serde_json.specs.Read.{max_depth, of_json, read}
-use Rattle.serde_json.specs.Written.{compact_text, outline}
-use Rattle.serde_json.proofs.Numbers.{number_of-decimal, number_of-negative}
-use Rattle.serde_json.proofs.Texts.{print-outline}
+use Rattle.serde_json.specs.{Read.max_depth, Read.of_json, Read.read, Written.compact_text, Written.outline}
 use Rattle.workload.specs.Texts.{settings_text}
 use Rattle.law_generated.proofs.Tables.{no_reason}
 

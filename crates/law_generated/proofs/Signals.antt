@@ -1,9 +1,7 @@
 -- signals.csv of a grid: no bytes.
 use Rattle.records.proofs.Common.{◌≡◌, List, ℕ, None, [], refl, rows_of, body_of, optional_head_reason, first_fault}
-use Rattle.csv.specs.Machine.{next_record}
-use Rattle.csv.specs.Reading.{records_from, strip_bom}
-use Rattle.signals.specs.Rows.{with_rows}
-use Rattle.signals.specs.Signals.{clash_fault, first_clash, rows_fault, signal_rows_of, signals_fault}
+use Rattle.csv.specs.{Machine.next_record, Reading.records_from, Reading.strip_bom}
+use Rattle.signals.specs.{Rows.with_rows, Signals.clash_fault, Signals.first_clash, Signals.rows_fault, Signals.signal_rows_of, Signals.signals_fault}
 
 -- no bytes are signals without a fault
 pub signals_pass : (links : List (List ℕ)) (ends : List (ℕ × ℕ)) → signals_fault links ends [] ≡ None

@@ -1,16 +1,11 @@
 -- The links of a grid by their places: each step to a node beside another is a link, so that a way leads from each node to each other one.
-use Rattle.std.proofs.Common.{◌≡◌, ◌∙◌, ◌<◌, ◌≤◌, ◌+◌, ◌-◌, ◌*◌, ◌/◌, ◌%◌, ◌++◌, ℕ, zero, suc, arith, ap, sym, subst, refl, inl, inr}
-use Rattle.std.proofs.Common.{Bool, true, false, List, [], ◌∷◌, length, length-append}
-use Rattle.std.specs.Prelude.{get_or, nat_lt}
-use Rattle.std.specs.List.{flat_map, range_with_len}
-use Rattle.std.proofs.lemmas.Bool.{cases_eq}
-use Rattle.std.proofs.lemmas.Bool.Decides.{nat_tests}
-use Rattle.std.proofs.lemmas.List.{get_or-append-add, get_or_append_left}
-use Rattle.std.proofs.lemmas.Nat.{div-add-mod', div-mul-add, mod-mul-add, mod_below}
+use Rattle.std.proofs.Common.{◌≡◌, ◌∙◌, ◌<◌, ◌≤◌, ◌+◌, ◌-◌, ◌*◌, ◌/◌, ◌%◌, ◌++◌, ℕ, zero, suc, arith, ap, sym, subst, refl, inl, inr, Bool, true, false, List}
+use Rattle.std.proofs.{Common.[], Common.◌∷◌, Common.length, Common.length-append, lemmas.Bool.cases_eq, lemmas.Bool.Decides.nat_tests}
+use Rattle.std.proofs.lemmas.{List.get_or-append-add, List.get_or_append_left, Nat.div-add-mod', Nat.div-mul-add, Nat.mod-mul-add, Nat.mod_below}
+use Rattle.std.specs.{List.flat_map, List.range_with_len, Prelude.get_or, Prelude.nat_lt}
 use Rattle.walks.specs.Walks.{Ends}
 use Rattle.workload.specs.Links.{grid_links, link_if, links_from}
-use Rattle.law_generated.proofs.Grid.{down_there, right_there}
-use Rattle.law_generated.proofs.Ways.{IsShortWay, IsWay, across}
+use Rattle.law_generated.proofs.{Grid.down_there, Grid.right_there, Ways.IsShortWay, Ways.IsWay, Ways.across}
 
 -- a link stands at a place of a list
 abbrev pub IsPlaced : List (ℕ × ℕ) → ℕ × ℕ → Type 0

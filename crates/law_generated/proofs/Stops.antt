@@ -1,29 +1,19 @@
 -- stops.csv of a grid.
-use Rattle.records.proofs.Common.{◌≡◌, List, ap, ℕ, length, ◌∙◌, arith, [], ◌<◌, None, Some, ◌++◌, ◌∷◌, refl, true, Bool, ◌+◌, false, ◌≤◌, ◌&&◌, not, map, sym, take, ◌-◌}
-use Rattle.records.proofs.Common.{subst, flat_map, Row, column, field, length-map, is_some, is_none, nat_le, nat_eq, Option, body_fault, is_held}
+use Rattle.records.proofs.Common.{◌≡◌, List, ap, ℕ, length, ◌∙◌, arith, [], ◌<◌, None, Some, ◌++◌, ◌∷◌, refl, true, Bool, ◌+◌, false, ◌≤◌, ◌&&◌, not, map, sym}
+use Rattle.records.proofs.Common.{take, ◌-◌, subst, flat_map, Row, column, field, length-map, is_some, is_none, nat_le, nat_eq, Option, body_fault, is_held}
 use Rattle.records.proofs.Common.{is_name, number_of, holds_name}
-use Rattle.std.proofs.Common.{◌*◌}
-use Rattle.std.specs.Prelude.{codes, get_or}
-use Rattle.std.specs.List.{AllByRecursion as Each, range_with_len}
-use Rattle.std.proofs.lemmas.List.Folds.{flat_map-map}
-use Rattle.std.proofs.lemmas.List.FromFn.{get_or-range_with_len, length-range_with_len}
+use Rattle.records.specs.{Fields.are_fields, Fields.is_header, Files.optional_head_reason}
+use Rattle.std.proofs.{Common.◌*◌, lemmas.List.Folds.flat_map-map, lemmas.List.FromFn.get_or-range_with_len, lemmas.List.FromFn.length-range_with_len}
+use Rattle.std.specs.{List.AllByRecursion as Each, List.range_with_len, Prelude.codes, Prelude.get_or}
 use Rattle.edge_files.specs.declared.reasons.Reason.TheVariants as reason
-use Rattle.events.specs.Names.{are_distinct}
-use Rattle.events.proofs.NameLists.{number_of-held}
+use Rattle.events.{proofs.NameLists.number_of-held, specs.Names.are_distinct}
 use Rattle.limits.specs.declared.TheConstants.{MAX_STOPS}
 use Rattle.plan_text.specs.Lines.{row_line}
-use Rattle.records.specs.Fields.{are_fields, is_header}
-use Rattle.records.specs.Files.{optional_head_reason}
 use Rattle.schedule.specs.Stops.{stop_header, stop_of, stop_reason, stops_fault}
-use Rattle.workload.specs.Links.{grid_links}
-use Rattle.workload.specs.Rows.{link_name, stop_name, stop_row}
-use Rattle.workload.specs.Texts.{stops_text}
-use Rattle.law_generated.proofs.Fields.{lettered, name_plain, name_short, number_of_name}
-use Rattle.law_generated.proofs.Grid.{IsLink}
-use Rattle.law_generated.proofs.Lines.{is_plain, is_row, is_short, is_short_row}
-use Rattle.law_generated.proofs.Links.{held_right, link_named}
-use Rattle.law_generated.proofs.Names.{names_distinct, number_at, range_apart, range_below}
-use Rattle.law_generated.proofs.Rules.{column_is, each_at, no_more, not_twice, row_at}
+use Rattle.workload.specs.{Links.grid_links, Rows.link_name, Rows.stop_name, Rows.stop_row, Texts.stops_text}
+use Rattle.law_generated.proofs.{Fields.lettered, Fields.name_plain, Fields.name_short, Fields.number_of_name, Grid.IsLink, Lines.is_plain, Lines.is_row}
+use Rattle.law_generated.proofs.{Lines.is_short, Lines.is_short_row, Links.held_right, Links.link_named, Names.names_distinct, Names.number_at}
+use Rattle.law_generated.proofs.{Names.range_apart, Names.range_below, Rules.column_is, Rules.each_at, Rules.no_more, Rules.not_twice, Rules.row_at}
 use Rattle.law_generated.proofs.Tables.{IsFile, lines_are_file, no_body_fault, no_reason, optional_head_passes, rows_pass}
 
 header_named : is_header stop_header stop_header ≡ true

@@ -1,17 +1,13 @@
 -- Files without a fault: their header, and rows of which none has a reason.
 use Rattle.records.proofs.Common.{◌≡◌, List, ap, ℕ, length, ◌∙◌, arith, [], ◌<◌, None, Some, ◌∷◌, refl, true, Bool, false, ◌≤◌, ◌&&◌, not, suc, zero, map}
-use Rattle.records.proofs.Common.{nat_tests, list_all, flat_map, Option, cond, Row, Reason, rows_of, body_of, head_reason, optional_head_reason, first_below, first_fault}
-use Rattle.records.proofs.Common.{nat_lt, nat_eq, body_fault}
+use Rattle.records.proofs.Common.{nat_tests, list_all, flat_map, Option, cond, Row, Reason, rows_of, body_of, head_reason, optional_head_reason, first_below}
+use Rattle.records.{proofs.Common.first_fault, proofs.Common.nat_lt, proofs.Common.nat_eq, proofs.Common.body_fault, specs.Faults.behind_head}
+use Rattle.records.specs.{Faults.fault_at, Faults.least, Faults.or_else, Fields.is_header, Files.begins_with, Files.is_too_long, Reading.reason_after}
 use Rattle.std.specs.List.{AllByRecursion as Each}
 use Rattle.edge_files.specs.declared.reasons.Reason.TheVariants as reason
 use Rattle.edge_files.specs.declared.reasons.RowFault.{RowFault}
 use Rattle.limits.specs.declared.TheConstants.{MAX_FILE_BYTES}
-use Rattle.records.specs.Faults.{behind_head, fault_at, least, or_else}
-use Rattle.records.specs.Fields.{is_header}
-use Rattle.records.specs.Files.{begins_with, is_too_long}
-use Rattle.records.specs.Reading.{reason_after}
-use Rattle.plan_text.specs.Lines.{row_line}
-use Rattle.plan_text.proofs.Joins.{and_true}
+use Rattle.plan_text.{proofs.Joins.and_true, specs.Lines.row_line}
 use Rattle.law_generated.proofs.Lines.{is_row, is_short_row, body_back, lines_short, rows_back}
 
 -- none of these tests holds

@@ -1,22 +1,15 @@
 -- plans.csv of persons who each have five rows: an activity, a leg, an activity, a leg and an activity.
-use Rattle.records.proofs.Common.{◌≡◌, List, ap, ℕ, length, ◌∙◌, arith, [], ◌<◌, None, Some, ◌++◌, ◌∷◌, refl, true, Bool, ◌+◌, false, ◌≤◌}
-use Rattle.records.proofs.Common.{◌&&◌, ◌||◌, not, sym, subst, suc, zero, take, drop, map}
-use Rattle.records.proofs.Common.{Row, field, is_none, is_name, number_of, is_held, with_name, flat_map, length-append, length-map}
-use Rattle.records.proofs.Common.{bytes_eq, Option}
-use Rattle.std.proofs.Common.{◌*◌, ◌/◌, ◌%◌}
-use Rattle.std.specs.Prelude.{get_or, if◌then◌else◌}
-use Rattle.std.specs.List.{range_with_len}
-use Rattle.std.proofs.lemmas.List.FromFn.{length-range_with_len, map-range_with_len_more}
-use Rattle.events.proofs.NameLists.{number_of-absent}
-use Rattle.events.specs.declared.event.Mode.{Mode}
+use Rattle.records.proofs.{Columns.with_fresh, Common.◌≡◌, Common.List, Common.ap, Common.ℕ, Common.length}
+use Rattle.records.proofs.Common.{◌∙◌, arith, [], ◌<◌, None, Some, ◌++◌, ◌∷◌, refl, true, Bool, ◌+◌, false, ◌≤◌, ◌&&◌, ◌||◌, not, sym, subst, suc, zero, take}
+use Rattle.records.proofs.Common.{drop, map, Row, field, is_none, is_name, number_of, is_held, with_name, flat_map, length-append, length-map, bytes_eq, Option}
+use Rattle.std.proofs.{Common.◌*◌, Common.◌/◌, Common.◌%◌, lemmas.List.FromFn.length-range_with_len, lemmas.List.FromFn.map-range_with_len_more}
+use Rattle.std.specs.{List.range_with_len, Prelude.get_or, Prelude.if◌then◌else◌}
+use Rattle.events.{proofs.NameLists.number_of-absent, specs.declared.event.Mode.Mode}
 use Rattle.limits.specs.declared.TheConstants.{MAX_LEGS, MAX_PERSONS}
 use Rattle.plans.specs.declared.kinds.ElementKind.TheVariants as element
-use Rattle.plans.specs.Kinds.{end_in, is_leg, kind_of}
-use Rattle.plans.specs.Refusals.{begins_plan, row_reason, same_person, same_plan}
+use Rattle.plans.proofs.{Naming.named_more, Naming.named_none, RowRead.before_more}
+use Rattle.plans.specs.{Kinds.end_in, Kinds.is_leg, Kinds.kind_of, Refusals.begins_plan, Refusals.row_reason, Refusals.same_person, Refusals.same_plan}
 use Rattle.plans.specs.Values.{begins_at, first_row, legs_to, named_by, person_in, reason_at, row_before, row_behind}
-use Rattle.plans.proofs.Naming.{named_more, named_none}
-use Rattle.plans.proofs.RowRead.{before_more}
-use Rattle.records.proofs.Columns.{with_fresh}
 use Rattle.law_generated.proofs.Names.{differ, held_later, same}
 use Rattle.law_generated.proofs.Elements.{IsOwn, IsSound, act_order, first_order, leg_order, next_order, row_passes, two_persons}
 

@@ -1,20 +1,13 @@
 -- Ways over a grid: between any two nodes there is one of few links, so that the one of least arrival has few.
-use Rattle.std.proofs.Common.{◌≡◌, ◌∙◌, ◌<◌, ◌≤◌, ◌+◌, ◌-◌, ◌*◌, ◌/◌, ◌%◌, ◌++◌, ℕ, zero, suc, arith, ap, sym, subst, refl, inl, inr}
-use Rattle.std.proofs.Common.{Bool, true, false, List, [], ◌∷◌, length, length-append, Option, None, Some}
-use Rattle.std.specs.Prelude.{MatchOption, is_some, nat_eq, nat_le, if◌then◌else◌}
-use Rattle.std.specs.Option.{option_map}
-use Rattle.std.proofs.lemmas.Bool.{cases_lt}
-use Rattle.std.proofs.lemmas.Bool.Decides.{nat_tests}
-use Rattle.std.proofs.lemmas.Nat.{div-add-mod', div-mul-add, div_below, mod-mul-add, mod_below, mul-le}
+use Rattle.std.proofs.Common.{◌≡◌, ◌∙◌, ◌<◌, ◌≤◌, ◌+◌, ◌-◌, ◌*◌, ◌/◌, ◌%◌, ◌++◌, ℕ, zero, suc, arith, ap, sym, subst, refl, inl, inr, Bool, true, false, List}
+use Rattle.std.proofs.{Common.[], Common.◌∷◌, Common.length, Common.length-append, Common.Option, Common.None, Common.Some, lemmas.Bool.cases_lt}
+use Rattle.std.proofs.lemmas.{Bool.Decides.nat_tests, Nat.div-add-mod', Nat.div-mul-add, Nat.div_below, Nat.mod-mul-add, Nat.mod_below, Nat.mul-le}
+use Rattle.std.specs.{Option.option_map, Prelude.MatchOption, Prelude.is_some, Prelude.nat_eq, Prelude.nat_le, Prelude.if◌then◌else◌}
 use Rattle.limits.specs.declared.TheConstants.{MAX_ROUTE_LINKS}
-use Rattle.router.specs.Graphs.{Graph}
-use Rattle.router.specs.Routes.{allowed, leg_route, way_to}
-use Rattle.walks.specs.Arrivals.{Arrivals, IsFifo}
-use Rattle.walks.specs.Chosen.{chosen_route}
-use Rattle.walks.specs.Rounds.{label_at, least_labels}
+use Rattle.router.specs.{Graphs.Graph, Routes.allowed, Routes.leg_route, Routes.way_to}
+use Rattle.walks.proofs.{Followed.chosen_is_least, Least.least_or_none}
+use Rattle.walks.specs.{Arrivals.Arrivals, Arrivals.IsFifo, Chosen.chosen_route, Rounds.label_at, Rounds.least_labels}
 use Rattle.walks.specs.Walks.{AreWithin, Ends, IsLeast, IsWalk, NoWalk, arrival, end_of, start_of}
-use Rattle.walks.proofs.Followed.{chosen_is_least}
-use Rattle.walks.proofs.Least.{least_or_none}
 
 -- a way of so many links
 abbrev pub IsWay : Ends → ℕ → ℕ → ℕ → Type 0

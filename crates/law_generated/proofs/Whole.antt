@@ -1,60 +1,37 @@
 -- The files of a grid, all together, have no fault.
-use Rattle.records.proofs.Common.{◌≡◌, List, ap, ℕ, length, ◌∙◌, arith, [], ◌<◌, None, Some, ◌∷◌, refl, true, ◌+◌, false, ◌≤◌, ◌^◌, map}
-use Rattle.records.proofs.Common.{sym, subst, suc, zero, ◌-◌}
-use Rattle.records.proofs.Common.{Row, Reason, Option, body_of, firsts, flat_map, get_or, is_none, number_of}
-use Rattle.std.proofs.Common.{◌*◌, ◌/◌, ◌%◌, ap₂}
-use Rattle.std.specs.Prelude.{codes}
-use Rattle.std.specs.Fmt.{digits}
-use Rattle.std.specs.List.{list_any, range_with_len}
-use Rattle.std.proofs.lemmas.Bool.{or_left}
-use Rattle.std.proofs.lemmas.List.Elements.{All-from_recursion}
+use Rattle.records.proofs.Common.{◌≡◌, List, ap, ℕ, length, ◌∙◌, arith, [], ◌<◌, None, Some, ◌∷◌, refl, true, ◌+◌, false, ◌≤◌, ◌^◌, map, sym, subst, suc, zero}
+use Rattle.records.proofs.Common.{◌-◌, Row, Reason, Option, body_of, firsts, flat_map, get_or, is_none, number_of}
+use Rattle.records.specs.Faults.{fault_at}
+use Rattle.std.proofs.{Common.◌*◌, Common.◌/◌, Common.◌%◌, Common.ap₂, lemmas.Bool.or_left, lemmas.List.Elements.All-from_recursion}
+use Rattle.std.specs.{Fmt.digits, List.list_any, List.range_with_len, Prelude.codes}
 use Rattle.edge_files.specs.declared.files.InFile.TheVariants as file
 use Rattle.learning.specs.declared.TheConstants.{LAST_ITERATION}
-use Rattle.network.specs.Links.{link_of}
-use Rattle.network.specs.Nodes.{node_of}
-use Rattle.plans.specs.Kinds.{kind_of}
-use Rattle.plans.specs.Values.{number_in_table, tables_of, values_of}
+use Rattle.network.specs.{Links.link_of, Nodes.node_of}
+use Rattle.plans.specs.{Kinds.kind_of, Values.number_in_table, Values.tables_of, Values.values_of}
 use Rattle.plans.specs.declared.kinds.ElementKind.TheVariants as element
-use Rattle.records.specs.Faults.{fault_at}
-use Rattle.router.specs.Graphs.{Graph}
-use Rattle.router.specs.Legs.{route_between}
+use Rattle.router.specs.{Graphs.Graph, Legs.route_between}
 use Rattle.rows.specs.Joined.{ends_of}
-use Rattle.rows.specs.declared.network.LinkRow.{LinkRow}
-use Rattle.rows.specs.declared.plan.Act.{Act}
-use Rattle.rows.specs.declared.schedule.RouteRow.{RouteRow}
-use Rattle.rows.specs.declared.schedule.StopRow.{StopRow}
-use Rattle.scenario.specs.Faults.{in_file}
-use Rattle.scenario.specs.FilesToScenario.{NetworkRows, conflict_fault, cross_fault, free_arrivals, leg_checks_in, graph_between, network_fault, network_rows_of, read_faults, persons_fault, scenario_fault, schedule_fault, schedule_rows_of, signals_file_fault, signals_on}
-use Rattle.scenario.specs.declared.faults.ScenarioFault.{ScenarioFault}
-use Rattle.scenario.specs.Legs.{leg_reason_at, rows_cross_fault}
-use Rattle.scenario.specs.Texts.{Texts}
-use Rattle.scenario.proofs.Free.{AreFree, AreFreeOn, free_together}
-use Rattle.scenario.proofs.Told.{both_none}
-use Rattle.schedule.specs.Routes.{lines_of, lists_of, route_of, routes_of}
-use Rattle.schedule.specs.Stops.{stop_of}
+use Rattle.rows.specs.declared.{network.LinkRow.LinkRow, plan.Act.Act, schedule.RouteRow.RouteRow, schedule.StopRow.StopRow}
+use Rattle.scenario.{proofs.Free.AreFree, proofs.Free.AreFreeOn, proofs.Free.free_together, proofs.Told.both_none, specs.Faults.in_file}
+use Rattle.scenario.specs.FilesToScenario.{NetworkRows, conflict_fault, cross_fault, free_arrivals, leg_checks_in, graph_between, network_fault}
+use Rattle.scenario.specs.FilesToScenario.{network_rows_of, read_faults, persons_fault, scenario_fault, schedule_fault, schedule_rows_of, signals_file_fault}
+use Rattle.scenario.specs.{FilesToScenario.signals_on, Legs.leg_reason_at, Legs.rows_cross_fault, Texts.Texts, declared.faults.ScenarioFault.ScenarioFault}
+use Rattle.schedule.specs.{Routes.lines_of, Routes.lists_of, Routes.route_of, Routes.routes_of, Stops.stop_of}
 use Rattle.town.specs.Fits.{are_joining, is_joining}
 use Rattle.travel_times.specs.Times.{arrivals, free_times}
 use Rattle.walks.specs.Arrivals.{Arrivals}
 use Rattle.workload.specs.Commuters.{commuter, home_of, work_of, words_of}
-use Rattle.workload.specs.Links.{grid_links}
-use Rattle.workload.specs.Rows.{act_row, link_name, stop_name, stop_row, way_back, way_there}
+use Rattle.workload.specs.{Links.grid_links, Rows.act_row, Rows.link_name, Rows.stop_name, Rows.stop_row, Rows.way_back, Rows.way_there}
 use Rattle.workload.specs.Texts.{links_text, nodes_text, plans_text, routes_text, grid_texts}
-use Rattle.workload.specs.declared.TheConstants.{PERSONS_PER_NODE, WORK_SECONDS}
-use Rattle.workload.specs.declared.commuters.Commute.{Commute}
-use Rattle.workload.specs.declared.commuters.Commuter.{Commuter}
+use Rattle.workload.specs.declared.{TheConstants.PERSONS_PER_NODE, TheConstants.WORK_SECONDS, commuters.Commute.Commute, commuters.Commuter.Commuter}
 use Rattle.draws.specs.Words.{word}
-use Rattle.law_generated.specs.Files.{link_ends, links_named, nodes_named, stops_named, stops_placed}
 use Rattle.law_generated.proofs.CarRoutes.{car_found, grid_arrivals, grid_graph}
-use Rattle.law_generated.proofs.Given.{departures_valid, ends_are, link_rows_are, links_are, links_valid, node_count, placed_are}
-use Rattle.law_generated.proofs.Given.{plans_valid, route_row_is, routes_valid, stops_are, stops_valid}
-use Rattle.law_generated.proofs.Legs.{IsByBus, IsServed, act_passes, back_fits, checks, home_row, leg_passes, there_fits, work_row}
-use Rattle.law_generated.proofs.Nodes.{nodes_pass}
-use Rattle.law_generated.proofs.Plans.{block, few_persons, plans_file, row_count, row_of_person}
-use Rattle.law_generated.proofs.Routes.{calls_join, grid_line, line_row, place_of, row_calls}
-use Rattle.law_generated.proofs.Settings.{settings_pass}
-use Rattle.law_generated.proofs.Signals.{no_clash, signals_pass}
-use Rattle.law_generated.proofs.Stops.{stop_number}
-use Rattle.law_generated.proofs.Tables.{no_fault}
+use Rattle.law_generated.proofs.Given.{departures_valid, ends_are, link_rows_are, links_are, links_valid, node_count, placed_are, plans_valid, route_row_is}
+use Rattle.law_generated.proofs.{Given.routes_valid, Given.stops_are, Given.stops_valid, Legs.IsByBus, Legs.IsServed, Legs.act_passes, Legs.back_fits}
+use Rattle.law_generated.proofs.{Legs.checks, Legs.home_row, Legs.leg_passes, Legs.there_fits, Legs.work_row, Nodes.nodes_pass, Plans.block, Plans.few_persons}
+use Rattle.law_generated.proofs.{Plans.plans_file, Plans.row_count, Plans.row_of_person, Routes.calls_join, Routes.grid_line, Routes.line_row, Routes.place_of}
+use Rattle.law_generated.proofs.{Routes.row_calls, Settings.settings_pass, Signals.no_clash, Signals.signals_pass, Stops.stop_number, Tables.no_fault}
+use Rattle.law_generated.specs.Files.{link_ends, links_named, nodes_named, stops_named, stops_placed}
 
 -- files of which no part has a fault have none
 none_wrong : (T : Texts) → AreFree T → scenario_fault T ≡ None

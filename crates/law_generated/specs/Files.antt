@@ -1,11 +1,8 @@
 -- What the files of a grid give to the files behind them.
 use Rattle.std.specs.Prelude.{ℕ, List, map}
-use Rattle.network.specs.Links.{link_names, link_of}
-use Rattle.network.specs.Nodes.{node_names}
-use Rattle.records.specs.Fields.{column}
-use Rattle.records.specs.Files.{body_of}
-use Rattle.rows.specs.Joined.{ends_of}
-use Rattle.rows.specs.declared.schedule.StopRow.{StopRow}
+use Rattle.network.specs.{Links.link_names, Links.link_of, Nodes.node_names}
+use Rattle.records.specs.{Fields.column, Files.body_of}
+use Rattle.rows.specs.{Joined.ends_of, declared.schedule.StopRow.StopRow}
 use Rattle.schedule.specs.Stops.{stop_of}
 use Rattle.workload.specs.Texts.{links_text, nodes_text, routes_text, stops_text}
 

@@ -3,18 +3,14 @@
 #![tactic(auto)]
 
 ghost use Rattle.std.specs.Prelude.{◌≡◌, ◌<◌, ◌^◌, ℕ, List, [], None};
-ghost use Rattle.network.specs.Links.{links_fault};
-ghost use Rattle.network.specs.Nodes.{nodes_fault};
+ghost use Rattle.network.specs.{Links.links_fault, Nodes.nodes_fault};
 ghost use Rattle.plans.specs.Values.{plans_fault};
 ghost use Rattle.scenario.specs.FilesToScenario.{scenario_fault};
-ghost use Rattle.schedule.specs.Departures.{departures_fault};
-ghost use Rattle.schedule.specs.Routes.{routes_fault};
-ghost use Rattle.schedule.specs.Stops.{stops_fault};
+ghost use Rattle.schedule.specs.{Departures.departures_fault, Routes.routes_fault, Stops.stops_fault};
 ghost use Rattle.settings.specs.Faults.{settings_fault};
 ghost use Rattle.signals.specs.Signals.{signals_fault};
-ghost use Rattle.workload.specs.Grids.{IsGrid};
-ghost use Rattle.workload.specs.Texts.{departures_text, grid_texts, links_text, nodes_text, plans_text, routes_text, settings_text};
-ghost use Rattle.workload.specs.Texts.{stops_text};
+ghost use Rattle.workload.specs.{Grids.IsGrid, Texts.departures_text};
+ghost use Rattle.workload.specs.Texts.{grid_texts, links_text, nodes_text, plans_text, routes_text, settings_text, stops_text};
 ghost use Rattle.workload.specs.declared.TheConstants.{DEPARTURES};
 ghost use Rattle.law_generated.specs.Files.{link_ends, links_named, nodes_named, routes_named, stops_named, stops_placed};
 

@@ -1,15 +1,12 @@
 -- A row that gets another second, and a vehicle that drives on or is served at a stop, stay fit.
-use Rattle.traffic.proofs.Common.{ℕ, List, length, [], ◌∷◌, arith, ◌<◌, ◌+◌, true, Bool, inl, inr, ◌≤◌, ◌-◌, cases_Bool, length-map, All-append, All-from_recursion}
-use Rattle.traffic.proofs.Common.{All-filter, map, filter, not, All, Dwelling, at_second, served_row, next_call, rider, staying, served_vehicle, boarding}
-use Rattle.traffic.proofs.Common.{in_turn, riders_after, alights, may_board, VehicleState}
-use Rattle.traffic.specs.declared.riders.Rider.{Rider}
-use Rattle.traffic.specs.declared.world.Row.{Row}
-use Rattle.traffic.specs.declared.world.Waiter.{Waiter}
+use Rattle.traffic.proofs.Common.{ℕ, List, length, arith, ◌<◌, ◌+◌, true, Bool, ◌≤◌, ◌-◌, length-map, All-append, All-from_recursion, All-filter, map, filter}
+use Rattle.traffic.proofs.Common.{not, All, Dwelling, at_second, served_row, next_call, rider, staying, served_vehicle, boarding, in_turn, riders_after}
+use Rattle.traffic.proofs.{Common.alights, Common.may_board, Common.VehicleState, Each.each_map, Each.each_boarding}
+use Rattle.traffic.specs.declared.{riders.Rider.Rider, world.Row.Row, world.Waiter.Waiter}
+use Rattle.std.proofs.lemmas.List.{length-append, length-take, Sums.length-filter, Sums.count_by-le-length}
 use Rattle.std.specs.List.{AllByRecursion as Each}
-use Rattle.std.proofs.lemmas.List.{length-append, length-take}
 use Rattle.limits.specs.declared.TheConstants.{MAX_PERSONS}
 use Rattle.law_in_range.specs.Rows.{Counts, IsFitRider, IsFitVehicle, IsFitRow}
-use Rattle.traffic.proofs.Each.{each_map, each_boarding}
 
 -- who waits is a person that is there, on the way to an activity of a kind that is there
 pub record IsFitWaiter (z : Counts) (w : Waiter) : Type 0 where
@@ -44,14 +41,11 @@ few_boarding : (v : VehicleState) (ws : List Waiter) → length (boarding v ws) 
 unfolding boarding
 few_boarding v ws =
     let free = v.seats - length (staying (next_call v).stop v.riders) in
-    let e = length-take free (in_turn (filter (may_board v) ws)) in omega arith
+    omega (arith, length-take free (in_turn (filter (may_board v) ws)))
 
-few_kept : {X : Type 0} (p : X → Bool) (xs : List X) → length (filter p xs) ≤ length xs
-few_kept p [] = omega arith
-few_kept p (x ∷ xs) = let h = few_kept p xs in elim (cases_Bool (p x)) [ inl e ↦ simp e (omega arith) | inr e ↦ simp e (omega arith) ]
-
-riders_fit : (z : Counts) (v : VehicleState) (ws : List Waiter) → IsFitVehicle z v → Each (IsFitWaiter z) ws → All (IsFitRider z) (riders_after v ws)
-unfolding riders_after
+pub riders_fit : (z : Counts) (v : VehicleState) (ws : List Waiter) →
+    IsFitVehicle z v → Each (IsFitWaiter z) ws → All (IsFitRider z) (served_vehicle v ws).riders
+unfolding served_vehicle riders_after
 riders_fit z v ws h g =
     let board = each_map (IsFitWaiter z) (IsFitRider z) rider (λ w k. record { person = k.person; kind = k.kind }) (boarding v ws) (each_boarding (IsFitWaiter z) (IsFitWaiter z) v (λ w q k. k) ws g) in
     All-append (IsFitRider z) (staying (next_call v).stop v.riders) (map rider (boarding v ws)) (All-filter _ (IsFitRider z) v.riders h.riders)
@@ -62,23 +56,18 @@ unfolding riders_after
 few_riders z v ws h =
     let stay = staying (next_call v).stop v.riders in
     let a = length-append stay (map rider (boarding v ws)) in
-    let b = length-map (boarding v ws) rider in
-    let c = few_boarding v ws in
-    let d : length stay ≤ length v.riders = few_kept (λ r. not (alights (next_call v).stop r)) v.riders in
-    let e = h.few_riders in
-    let f = h.seats in omega arith
-
-pub served_riders : (z : Counts) (v : VehicleState) (ws : List Waiter) → IsFitVehicle z v → Each (IsFitWaiter z) ws → All (IsFitRider z) (served_vehicle v ws).riders
-unfolding served_vehicle
-served_riders z v ws h g = riders_fit z v ws h g
+    omega (
+      arith,
+      length-filter (λ r. not (alights (next_call v).stop r)) v.riders,
+      count_by-le-length (λ r. not (alights (next_call v).stop r)) v.riders,
+      few_boarding v ws,
+      length-map (boarding v ws) rider,
+    )
 
 served_fit : (z : Counts) (v : VehicleState) (ws : List Waiter) → IsFitVehicle z v → Each (IsFitWaiter z) ws → v.served < length v.calls → IsFitVehicle z (served_vehicle v ws)
 unfolding served_vehicle
 served_fit z v ws h g lt = changed z v v.place true v.pushed (riders_after v ws) (v.served + 1) h h.place (riders_fit z v ws h g) (few_riders z v ws h) (omega arith)
 
-some_served : (v : VehicleState) (ws : List Waiter) → 1 ≤ (served_vehicle v ws).served
-unfolding served_vehicle
-some_served v ws = omega arith
-
 pub served_row_fit : (z : Counts) (D : Dwelling) (t l : ℕ) (ws : List Waiter) (v : VehicleState) → IsFitVehicle z v → l < z.links → Each (IsFitWaiter z) ws → v.served < length v.calls → IsFitRow z (served_row D t l ws v)
-served_row_fit z D t l ws v h lt g some = record { vehicle = served_fit z v ws h g some; link = lt; stage = some_served v ws }
+unfolding served_vehicle
+served_row_fit z D t l ws v h lt g some = record { vehicle = served_fit z v ws h g some; link = lt; stage = omega arith }

@@ -1,17 +1,11 @@
 -- How a day begins and ends.
-use Rattle.traffic.proofs.Common.{◌≡◌, ℕ, List, ◌∙◌, length, ap, refl, sym, [], ◌++◌, subst, length-map, All-from_recursion, flat_map}
-use Rattle.traffic.proofs.Common.{phase_code, Event, plan_rows, world_start, keyed, world_from, events_from, day, end_events, below, stranded, World}
-use Rattle.traffic.proofs.Common.{Setup}
+use Rattle.traffic.proofs.Common.{◌≡◌, ℕ, List, ◌∙◌, length, ap, refl, sym, [], ◌++◌, subst, length-map, All-from_recursion, flat_map, phase_code, Event}
+use Rattle.traffic.proofs.Common.{plan_rows, world_start, keyed, world_from, events_from, day, end_events, below, stranded, World, Setup}
 use Rattle.events.specs.declared.event.Phase.TheVariants as phase
 use Rattle.events.specs.Lines.{AreInBook}
-use Rattle.town.specs.declared.day_input.DayInput.{DayInput}
-use Rattle.town.specs.Setups.{setup_of}
-use Rattle.town.specs.Views.{setup}
+use Rattle.town.specs.{Setups.setup_of, Views.setup, declared.day_input.DayInput.DayInput}
+use Rattle.law_in_range.proofs.{Days.chosen_fit, Naming.Named, Seconds.day_named, Towns.town_fit, Towns.book_of}
 use Rattle.law_in_range.specs.Setups.{counts_in, HaveFittingPlans}
-use Rattle.law_in_range.proofs.Days.{chosen_fit}
-use Rattle.law_in_range.proofs.Towns.{town_fit, book_of}
-use Rattle.law_in_range.proofs.Seconds.{day_named}
-use Rattle.law_in_range.proofs.Naming.{Named}
 
 pub world_none : (S : Setup) (W : World) → W ≡ world_from S W 0
 unfolding world_from

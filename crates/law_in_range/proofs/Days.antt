@@ -1,20 +1,12 @@
 -- A day of a town with plans that fit it stays fit: it begins so, each turn keeps it so, and who has a turn is there.
-use Rattle.traffic.proofs.Common.{◌≡◌, ℕ, ◌∙◌, length, ap, refl, sym, arith, ◌<◌, true, Bool, subst, length-map, All-from_recursion, list_all}
-use Rattle.traffic.proofs.Common.{Phase, plan_rows, Plan, turns_of, count_of, run, World, world_start, person_of, person_plan, ◌/◌, Some}
-use Rattle.traffic.specs.declared.world.Place.{Place}
-use Rattle.traffic.specs.declared.world.Place.TheVariants.{At}
+use Rattle.traffic.proofs.Common.{◌≡◌, ℕ, ◌∙◌, length, ap, sym, arith, ◌<◌, true, Bool, subst, length-map, All-from_recursion, list_all, Phase, plan_rows, Plan}
+use Rattle.traffic.proofs.Common.{turns_of, count_of, run, World, world_start, person_of, person_plan, ◌/◌, Some}
+use Rattle.traffic.specs.declared.world.Place.{Place, TheVariants.At}
 use Rattle.std.proofs.lemmas.List.Folds.{list_all-map}
 use Rattle.events.specs.declared.event.Phase.TheVariants as phase
-use Rattle.town.specs.declared.day_input.DayInput.{DayInput}
-use Rattle.town.specs.Fits.{fits}
-use Rattle.town.specs.Setups.{setup_of}
-use Rattle.town.specs.Views.{rows_of, setup, ChosenFit}
-use Rattle.law_in_range.specs.Rows.{Counts, IsFitPlace, IsFitWorld}
-use Rattle.law_in_range.specs.Setups.{counts_in, HaveFittingPlans}
-use Rattle.law_in_range.proofs.Lists.{each_tested}
-use Rattle.law_in_range.proofs.Towns.{town_fit}
-use Rattle.law_in_range.proofs.Seconds.{start_fit, turn_fit}
-use Rattle.law_in_range.proofs.Kept.{run_fit}
+use Rattle.town.specs.{Fits.fits, Setups.setup_of, Views.rows_of, Views.setup, Views.ChosenFit, declared.day_input.DayInput.DayInput}
+use Rattle.law_in_range.proofs.{Kept.run_fit, Lists.each_tested, Seconds.start_fit, Seconds.turn_fit, Towns.town_fit}
+use Rattle.law_in_range.specs.{Rows.IsFitPlace, Rows.IsFitWorld, Setups.counts_in, Setups.HaveFittingPlans}
 
 pub chosen_fit : (day : DayInput) → HaveFittingPlans day → ChosenFit day
 chosen_fit day given =
@@ -38,27 +30,16 @@ turn_keeps_fit day t n p W next given fit there e =
     let f = town_fit day (chosen_fit day given) in
     subst (IsFitWorld z) (sym e) (run_fit z S t (turns_of S t p n W) W f fit (turn_fit z S t n p W f fit there))
 
-leg_after : (z : Counts) (i element end : ℕ) (place : Place) → IsFitPlace z i element place → place ≡ At (Some end) → element / 2 < z.legs i
-leg_after z i element end place h e = let P : Place → Type 0 = λ p. IsFitPlace z i element p in subst P e h
-
 -- who is at an activity that ends has a leg after it
 pub can_leave : (day : DayInput) (W : World) (i : ℕ) → IsFitWorld (counts_in day) W → (end : ℕ) → (person_of i W).place ≡ At (Some end)
     → (person_of i W).element / 2 < length (person_plan (setup day) i).legs
 unfolding setup_of
-can_leave day W i h end e = leg_after (counts_in day) i (person_of i W).element end (person_of i W).place (h.persons i) e
+can_leave day W i h end e = subst (λ (p : Place). IsFitPlace (counts_in day) i (person_of i W).element p) e (h.persons i)
 
 -- WHO HAS A TURN IN A PHASE IS THERE
 in_persons : (day : DayInput) → count_of (setup day) phase.A ≡ length day.chosen.now
 unfolding setup_of
 in_persons day = length-map day.chosen.now plan_rows
-
-in_departures : (day : DayInput) → count_of (setup day) phase.B2 ≡ length day.town.now.departures.rows
-unfolding setup_of
-in_departures day = length-map day.town.now.departures.rows _
-
-in_links : (day : DayInput) → count_of (setup day) phase.D ≡ length day.town.now.network.links
-unfolding setup_of
-in_links day = refl
 
 there : (n count some : ℕ) → count ≡ some → n < count → n < some
 there n count some e h = omega (e, h, arith)
@@ -70,10 +51,12 @@ pub leaves_there : (day : DayInput) (n : ℕ) (p : Phase) → p ≡ phase.B1 →
 leaves_there day n p e h = there n _ _ (ap (count_of (setup day)) e ∙ in_persons day) h
 
 pub departs_there : (day : DayInput) (n : ℕ) (p : Phase) → p ≡ phase.B2 → n < count_of (setup day) p → n < length day.town.now.departures.rows
-departs_there day n p e h = there n _ _ (ap (count_of (setup day)) e ∙ in_departures day) h
+unfolding setup_of
+departs_there day n p e h = there n _ _ (ap (count_of (setup day)) e ∙ length-map day.town.now.departures.rows _) h
 
 pub link_there : (day : DayInput) (n : ℕ) (p : Phase) → p ≡ phase.D → n < count_of (setup day) p → n < length day.town.now.network.links
-link_there day n p e h = there n _ _ (ap (count_of (setup day)) e ∙ in_links day) h
+unfolding setup_of
+link_there day n p e h = there n _ _ (ap (count_of (setup day)) e) h
 
 pub person_there : (day : DayInput) (W : World) (n : ℕ) → IsFitWorld (counts_in day) W → n < length day.chosen.now → n < length W.persons
 person_there day W n h lt = there n _ _ (sym (one_each day W h)) lt

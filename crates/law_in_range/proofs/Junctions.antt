@@ -1,16 +1,9 @@
 -- The turn of a node makes fit moves.
 use Rattle.traffic.proofs.Common.{ℕ, length, refl, ◌<◌, ◌+◌, not, Option, node_turns, entered, has_room, World, Setup}
-use Rattle.traffic.specs.declared.node_views.OutLink.{OutLink}
-use Rattle.traffic.specs.declared.stage.Stage.TheVariants.{Buffer}
-use Rattle.traffic.specs.declared.world.Row.{Row}
 use Rattle.traffic.proofs.NodeWalk.{NodeCases, node_walk}
-use Rattle.law_in_range.specs.Rows.{Counts, IsFitRow, IsFitWorld}
-use Rattle.law_in_range.specs.Moves.{IsFitMove, AreFitMoves}
-use Rattle.law_in_range.specs.Setups.{IsFitSetup}
-use Rattle.law_in_range.proofs.Kept.{along_fit}
-use Rattle.law_in_range.proofs.Telling.{changes_fit, aborts_fit}
-use Rattle.law_in_range.proofs.Boarding.{driven}
-use Rattle.law_in_range.proofs.Sizes.{row_at, next_below}
+use Rattle.traffic.specs.declared.{node_views.OutLink.OutLink, stage.Stage.TheVariants.Buffer, world.Row.Row}
+use Rattle.law_in_range.proofs.{Boarding.driven, Kept.along_fit, Sizes.row_at, Sizes.next_below, Telling.changes_fit, Telling.aborts_fit}
+use Rattle.law_in_range.specs.{Moves.IsFitMove, Moves.AreFitMoves, Rows.Counts, Rows.IsFitRow, Rows.IsFitWorld, Setups.IsFitSetup}
 
 entered_fit : (z : Counts) (t : ℕ) (e : Option OutLink) (r : Row) → IsFitRow z r → r.vehicle.place + 1 < length r.vehicle.route → IsFitRow z (entered t e r.vehicle)
 entered_fit z t e r h lt =

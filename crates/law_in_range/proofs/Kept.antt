@@ -1,30 +1,18 @@
 -- Fit moves keep a world fit.
 use Rattle.traffic.proofs.Common.{set, ◌≡◌, ℕ, List, ◌∙◌, length, refl, sym, [], ◌∷◌, ◌<◌, ◌+◌, inl, inr, subst, get_or, ◌≢◌, cases_lt, get_or-set_same}
-use Rattle.traffic.proofs.Common.{length-set, get_or-set_other, All-from_recursion, recursion_from_All, Some, None, Option, More, VehicleId, Word, without}
-use Rattle.traffic.proofs.Common.{persons_by, ride, person_by, credits_after, wait_at, lose, run, done, told, at_second, start_act, person_after, ends_at}
-use Rattle.traffic.proofs.Common.{persons_after, rows_after, World, on, nobody, Setup, act_at}
-use Rattle.traffic.specs.declared.moves.Move.{Move}
-use Rattle.traffic.specs.declared.moves.Move.TheVariants.{Transfer, Remove, Enter, SetFrontSince, Credit, LeaveHole}
-use Rattle.traffic.specs.declared.moves.Occurrence.{Occurrence}
-use Rattle.traffic.specs.declared.stage.Stage.TheVariants.{Buffer}
-use Rattle.traffic.specs.declared.world.Hole.{Hole}
-use Rattle.traffic.specs.declared.world.Person.{Person}
-use Rattle.traffic.specs.declared.world.Place.{Place}
-use Rattle.traffic.specs.declared.world.Place.TheVariants.{At, Teleporting, Waiting, Riding, Aborted}
-use Rattle.traffic.specs.declared.world.Row.{Row}
-use Rattle.std.specs.List.{AllByRecursion as Each}
-use Rattle.std.proofs.lemmas.Bool.{cases_eq}
-use Rattle.std.proofs.lemmas.List.{set_past}
+use Rattle.traffic.proofs.Common.{get_or-set_other, All-from_recursion, recursion_from_All, Some, None, Option, More, VehicleId, Word, without, persons_by}
+use Rattle.traffic.proofs.Common.{ride, person_by, wait_at, lose, run, done, told, at_second, start_act, person_after, ends_at, persons_after, rows_after}
+use Rattle.traffic.proofs.{Common.World, Common.on, Common.nobody, Common.Setup, Common.act_at, Each.each_append, Each.each_without, Each.each_with_first}
+use Rattle.traffic.{proofs.Moments.Along, proofs.Sublists.persons-length, proofs.Sublists.credits-run, specs.Moves.holes_after, specs.declared.moves.Move.Move}
+use Rattle.traffic.specs.declared.moves.Move.TheVariants.{Transfer, Remove, Enter, SetFrontSince, LeaveHole}
+use Rattle.traffic.specs.declared.{moves.Occurrence.Occurrence, stage.Stage.TheVariants.Buffer}
+use Rattle.traffic.specs.declared.world.{Hole.Hole, Person.Person, Place.Place, Place.TheVariants.At, Place.TheVariants.Waiting, Row.Row}
+use Rattle.std.{proofs.lemmas.Bool.cases_eq, proofs.lemmas.List.set_past, specs.List.AllByRecursion as Each}
 use Rattle.events.specs.declared.event.Word.TheVariants as word
 use Rattle.events.specs.declared.event.More.TheVariants as more
-use Rattle.traffic.specs.Moves.{holes_after}
-use Rattle.law_in_range.specs.Rows.{Counts, IsFitRow, IsFitPlace, IsFitPerson, IsFitWorld}
-use Rattle.law_in_range.specs.Moves.{IsBelow, IsFitMore, IsFitOccurrence, AreFitOccurrences, IsFitChange, IsFitMove, AreFitMoves}
-use Rattle.law_in_range.specs.Setups.{IsFitSetup}
-use Rattle.traffic.proofs.Each.{each_append, each_without, each_with_first}
-use Rattle.traffic.proofs.Moments.{Along}
-use Rattle.traffic.proofs.Sublists.{persons-length}
 use Rattle.law_in_range.proofs.Boarding.{second_fit}
+use Rattle.law_in_range.specs.Moves.{IsBelow, IsFitMore, IsFitOccurrence, AreFitOccurrences, IsFitChange, IsFitMove, AreFitMoves}
+use Rattle.law_in_range.specs.{Rows.Counts, Rows.IsFitRow, Rows.IsFitPlace, Rows.IsFitPerson, Rows.IsFitWorld, Setups.IsFitSetup}
 
 -- ROWS
 rows_fit : (z : Counts) (m : Move) (rows : List Row) → IsFitChange z m → Each (IsFitRow z) rows → Each (IsFitRow z) (rows_after m rows)
@@ -33,10 +21,6 @@ rows_fit z (Remove l s k was) rows h g = each_without (IsFitRow z) (on l s) k ro
 rows_fit z (Enter now) rows h g = each_append (IsFitRow z) rows (now ∷ []) g (h, tt)
 rows_fit z (SetFrontSince l t) rows h g = each_with_first (IsFitRow z) (on l Buffer) (at_second t) (second_fit z t) rows g
 rows_fit z _ rows h g = g
-
-credits_kept : (m : Move) (cs : List ℕ) → length (credits_after m cs) ≡ length cs
-credits_kept (Credit l c) cs = length-set cs l c
-credits_kept _ cs = refl
 
 abbrev IsFitHole : Counts → Hole → Type 0
 IsFitHole z x = x.link < z.links
@@ -51,11 +35,8 @@ ends_fit z S t i element None f lt e = tt
 ends_fit z S t i element (Some planned) f lt e = f.ends i element planned lt e
 
 start_fit : (z : Counts) (S : Setup) (t i : ℕ) (P : Person) (pl : Place) → IsFitSetup z S → i < z.persons → IsFitPerson z i P → IsFitPerson z i (start_act S t i P pl)
-start_fit z S t i P (At end) f lt h = ends_fit z S t i (P.element + 1) _ f lt refl
-start_fit z S t i P (Teleporting start) f lt h = ends_fit z S t i (P.element + 1) _ f lt refl
 start_fit z S t i P (Waiting stop since) f lt h = h
-start_fit z S t i P (Riding v) f lt h = ends_fit z S t i (P.element + 1) _ f lt refl
-start_fit z S t i P (Aborted l) f lt h = ends_fit z S t i (P.element + 1) _ f lt refl
+start_fit z S t i P _ f lt h = ends_fit z S t i (P.element + 1) _ f lt refl
 
 ride_fit : (z : Counts) (i : ℕ) (o : Option VehicleId) (P : Person) → IsFitPerson z i P → IsFitPerson z i (ride o P)
 ride_fit z i None P h = h
@@ -113,7 +94,7 @@ done_fit z S t m W f h g =
       rows = All-from_recursion (IsFitRow z) (rows_after m W.rows) (rows_fit z m W.rows g.0 (recursion_from_All (IsFitRow z) W.rows h.rows));
       persons = persons_fit z S t (told m) W.persons f g.1 h.persons;
       one_each = persons-length S t (told m) W.persons ∙ h.one_each;
-      credits = credits_kept m W.credits ∙ h.credits;
+      credits = credits-run S t (m ∷ []) W ∙ h.credits;
       holes = All-from_recursion (IsFitHole z) (holes_after m W.holes) (holes_fit z m W.holes g.0 (recursion_from_All (IsFitHole z) W.holes h.holes));
     }
 

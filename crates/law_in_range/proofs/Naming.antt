@@ -1,15 +1,12 @@
 -- What is fit has its names in the book.
-use Rattle.traffic.proofs.Common.{◌≡◌, ℕ, List, length, [], ◌∷◌, arith, ◌+◌, flat_map, Some, None, Option, Book, Event, More, VehicleId, keyed, event_at}
-use Rattle.traffic.proofs.Common.{told}
-use Rattle.traffic.specs.declared.moves.Move.{Move}
-use Rattle.traffic.specs.declared.moves.Occurrence.{Occurrence}
+use Rattle.traffic.proofs.Common.{◌≡◌, ℕ, List, length, [], ◌∷◌, arith, ◌+◌, flat_map, Some, None, Option, Book, Event, More, VehicleId, keyed, event_at, told}
+use Rattle.traffic.specs.declared.moves.{Move.Move, Occurrence.Occurrence}
 use Rattle.std.specs.List.{AllByRecursion as Each}
 use Rattle.events.specs.Lines.{IsNamed, IsVehicleNamed, IsMoreNamed, IsInBook}
 use Rattle.events.specs.declared.event.More.TheVariants as more
 use Rattle.events.specs.declared.event.VehicleId.TheVariants as vehicle
-use Rattle.law_in_range.specs.Rows.{Counts}
-use Rattle.law_in_range.specs.Moves.{IsBelow, IsFitVehicleId, IsFitMore, IsFitOccurrence, AreFitOccurrences, AreFitMoves, IsBookOf}
-use Rattle.law_in_range.proofs.Telling.{said_append}
+use Rattle.law_in_range.{proofs.Telling.said_append, specs.Moves.IsBelow, specs.Moves.IsFitVehicleId}
+use Rattle.law_in_range.specs.{Moves.IsFitMore, Moves.IsFitOccurrence, Moves.AreFitOccurrences, Moves.AreFitMoves, Moves.IsBookOf, Rows.Counts}
 
 below_named : (names : List (List ℕ)) (count : ℕ) (o : Option ℕ) → length names ≡ count → IsBelow count o → IsNamed names o
 below_named names count None e h = tt
@@ -21,12 +18,10 @@ vehicle_named z book (Some (vehicle.Car person)) b h = let e = b.persons in omeg
 vehicle_named z book (Some (vehicle.Transit departure)) b h = let e = b.departures in omega arith
 
 more_named : (z : Counts) (book : Book) (m : More) → IsBookOf z book → IsFitMore z m → IsMoreNamed book m
-more_named z book more.Nothing b h = tt
 more_named z book (more.Kind kind) b h = let e = b.kinds in omega arith
-more_named z book (more.Mode mode) b h = tt
-more_named z book (more.Seconds seconds) b h = tt
 more_named z book (more.Stop stop) b h = let e = b.stops in omega arith
 more_named z book (more.Line line) b h = let e = b.lines in omega arith
+more_named z book _ b h = tt
 
 abbrev pub Named : Book → Event → Type 0
 Named book e = IsInBook e book

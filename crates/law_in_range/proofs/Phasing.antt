@@ -1,11 +1,10 @@
 -- A phase turn by turn, and a day second by second.
-use Rattle.traffic.proofs.Common.{◌≡◌, ℕ, List, ◌∙◌, ap, refl, sym, [], ◌∷◌, arith, ◌<◌, ◌++◌, ◌+◌, ◌≤◌, suc, ◌-◌, append_assoc, add-one, Event}
-use Rattle.traffic.proofs.Common.{Phase, turns_of, turns_in, moves_of, through, world_from, after, events_from, count_of, events_in, told_in, Turn, second}
-use Rattle.traffic.proofs.Common.{turns, events_of, numbers, run, World, Setup}
+use Rattle.traffic.proofs.Common.{◌≡◌, ℕ, List, ◌∙◌, ap, refl, sym, [], ◌∷◌, arith, ◌<◌, ◌++◌, ◌+◌, ◌≤◌, suc, ◌-◌, append_assoc, add-one, Event, Phase}
+use Rattle.traffic.proofs.Common.{turns_of, turns_in, moves_of, through, world_from, after, events_from, count_of, events_in, told_in, Turn, second, turns}
+use Rattle.traffic.proofs.Common.{events_of, numbers, run, World, Setup}
+use Rattle.traffic.{proofs.Sublists.run-append, specs.Day.second_events}
 use Rattle.std.proofs.lemmas.List.{append-nil}
 use Rattle.events.specs.declared.event.Phase.TheVariants as phase
-use Rattle.traffic.specs.Day.{second_events}
-use Rattle.traffic.proofs.Sublists.{run-append}
 
 -- the turns from number n on, of so many, in the world that the ones before it left
 abbrev pub rest : Setup → ℕ → Phase → ℕ → ℕ → World → List Turn
@@ -35,17 +34,8 @@ going_more S t p count n from now next old out more h e f g =
     let us = rest S t p count (n + 1) (run S t (turns_of S t p n now) now) in
     let split = rest_more S t p count n now h in
     record {
-      world =
-          ap (λ W. after S t (rest S t p count (n + 1) W) W) e
-          ∙ sym (after_more S t (turn S t p n now) us now)
-          ∙ ap (λ vs. after S t vs now) (sym split)
-          ∙ g.world;
-      events =
-          ap (λ xs. xs ++ events_in t p (rest S t p count (n + 1) next)) f
-          ∙ ap (λ W. (out ++ events_of t p (turn S t p n now)) ++ events_in t p (rest S t p count (n + 1) W)) e
-          ∙ append_assoc out (events_of t p (turn S t p n now)) (events_in t p us)
-          ∙ ap (λ vs. out ++ events_in t p vs) (sym split)
-          ∙ g.events;
+      world = rw (e, ← after_more S t (turn S t p n now) us now) (rw split at g.world);
+      events = rw (f, e, append_assoc out (events_of t p (turn S t p n now)) (events_in t p us)) (rw split at g.events);
     }
 
 rest_none : (S : Setup) (t : ℕ) (p : Phase) (count n : ℕ) (W : World) → count ≤ n → rest S t p count n W ≡ []
@@ -53,15 +43,6 @@ unfolding turns
 rest_none S t p count n W h =
     let e : count - n ≡ 0 = omega arith in
     ap (λ k. turns S t (turns_of S t p) (numbers n k) W) e
-
-going_world : (S : Setup) (t : ℕ) (p : Phase) (count n : ℕ) (from now : World) (old out : List Event) → count ≤ n
-    → Going S t p count n from now old out → now ≡ after S t (rest S t p count 0 from) from
-going_world S t p count n from now old out h g = ap (λ us. after S t us now) (sym (rest_none S t p count n now h)) ∙ g.world
-
-going_events : (S : Setup) (t : ℕ) (p : Phase) (count n : ℕ) (from now : World) (old out : List Event) → count ≤ n
-    → Going S t p count n from now old out → out ≡ old ++ events_in t p (rest S t p count 0 from)
-going_events S t p count n from now old out h g =
-    sym (append-nil out) ∙ ap (λ us. out ++ events_in t p us) (sym (rest_none S t p count n now h)) ∙ g.events
 
 rest_all : (S : Setup) (t : ℕ) (p : Phase) (W : World) → rest S t p (count_of S p) 0 W ≡ turns_in S t p W
 unfolding turns_in
@@ -72,25 +53,20 @@ rest_all S t p W =
 -- once all have had their turn the world is that after the phase, and its events are told
 pub gone_world : (S : Setup) (t : ℕ) (p : Phase) (n : ℕ) (from now : World) (old out : List Event) → count_of S p ≤ n
     → Going S t p (count_of S p) n from now old out → now ≡ after S t (turns_in S t p from) from
-gone_world S t p n from now old out h g = going_world S t p (count_of S p) n from now old out h g ∙ ap (λ us. after S t us from) (rest_all S t p from)
+gone_world S t p n from now old out h g =
+    ap (λ us. after S t us now) (sym (rest_none S t p (count_of S p) n now h)) ∙ g.world ∙ ap (λ us. after S t us from) (rest_all S t p from)
 
 pub gone_events : (S : Setup) (t : ℕ) (p : Phase) (n : ℕ) (from now : World) (old out : List Event) → count_of S p ≤ n
     → Going S t p (count_of S p) n from now old out → out ≡ old ++ events_in t p (turns_in S t p from)
-gone_events S t p n from now old out h g = going_events S t p (count_of S p) n from now old out h g ∙ ap (λ us. old ++ events_in t p us) (rest_all S t p from)
+gone_events S t p n from now old out h g =
+    sym (append-nil out) ∙ ap (λ us. out ++ events_in t p us) (sym (rest_none S t p (count_of S p) n now h)) ∙ g.events
+    ∙ ap (λ us. old ++ events_in t p us) (rest_all S t p from)
 
 -- a second is its five phases
 pub second_world : (S : Setup) (t : ℕ) (W a b1 b2 c d : World) → a ≡ after S t (turns_in S t phase.A W) W → b1 ≡ after S t (turns_in S t phase.B1 a) a
     → b2 ≡ after S t (turns_in S t phase.B2 b1) b1 → c ≡ after S t (turns_in S t phase.C b2) b2 → d ≡ after S t (turns_in S t phase.D c) c → d ≡ second S t W
 unfolding through
-second_world S t W a b1 b2 c d ea eb1 eb2 ec ed =
-    let f : Phase → World → World = λ p X. after S t (turns_in S t p X) X in
-    ed ∙ ap (f phase.D) (ec ∙ ap (f phase.C) (eb2 ∙ ap (f phase.B2) (eb1 ∙ ap (f phase.B1) ea)))
-
-one_list : (o o1 o2 o3 o4 o5 a b c d e : List Event) → o1 ≡ o ++ a → o2 ≡ o1 ++ b → o3 ≡ o2 ++ c → o4 ≡ o3 ++ d → o5 ≡ o4 ++ e → o5 ≡ o ++ (a ++ (b ++ (c ++ (d ++ (e ++ [])))))
-one_list o o1 o2 o3 o4 o5 a b c d e e1 e2 e3 e4 e5 = rw (e5, e4, e3, e2, e1) (simp (append_assoc, append-nil))
-
-same_lists : (o a b c d e b' c' d' e' : List Event) → b ≡ b' → c ≡ c' → d ≡ d' → e ≡ e' → o ++ (a ++ (b ++ (c ++ (d ++ (e ++ []))))) ≡ o ++ (a ++ (b' ++ (c' ++ (d' ++ (e' ++ [])))))
-same_lists o a b c d e b' c' d' e' p q r s = rw (p, q, r, s) refl
+second_world S t W a b1 b2 c d ea eb1 eb2 ec ed = rw (ed, ec, eb2, eb1, ea) refl
 
 pub second_told : (S : Setup) (t : ℕ) (W a b1 b2 c : World) (o o1 o2 o3 o4 o5 : List Event) → a ≡ after S t (turns_in S t phase.A W) W → b1 ≡ after S t (turns_in S t phase.B1 a) a
     → b2 ≡ after S t (turns_in S t phase.B2 b1) b1 → c ≡ after S t (turns_in S t phase.C b2) b2
@@ -98,14 +74,7 @@ pub second_told : (S : Setup) (t : ℕ) (W a b1 b2 c : World) (o o1 o2 o3 o4 o5 
     → o4 ≡ o3 ++ events_in t phase.C (turns_in S t phase.C b2) → o5 ≡ o4 ++ events_in t phase.D (turns_in S t phase.D c) → o5 ≡ o ++ second_events S t W
 unfolding told_in
 second_told S t W a b1 b2 c o o1 o2 o3 o4 o5 ea eb1 eb2 ec e1 e2 e3 e4 e5 =
-    let T : Phase → World → List Event = λ p X. events_in t p (turns_in S t p X) in
-    let f : Phase → World → World = λ p X. after S t (turns_in S t p X) X in
-    let pb = eb1 ∙ ap (f phase.B1) ea in
-    let pc = eb2 ∙ ap (f phase.B2) pb in
-    let pd = ec ∙ ap (f phase.C) pc in
-    one_list o o1 o2 o3 o4 o5 (T phase.A W) (T phase.B1 a) (T phase.B2 b1) (T phase.C b2) (T phase.D c) e1 e2 e3 e4 e5
-    ∙ same_lists o (T phase.A W) (T phase.B1 a) (T phase.B2 b1) (T phase.C b2) (T phase.D c) _ _ _ _
-    (ap (T phase.B1) ea) (ap (T phase.B2) pb) (ap (T phase.C) pc) (ap (T phase.D) pd)
+    rw (← ea, ← eb1, ← eb2, ← ec, e5, e4, e3, e2, e1) (simp (append_assoc, append-nil))
 
 -- one second more
 pub world_more : (S : Setup) (W : World) (t : ℕ) (now next : World) → now ≡ world_from S W t → next ≡ second S t now → next ≡ world_from S W (t + 1)

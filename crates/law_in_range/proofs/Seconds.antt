@@ -1,24 +1,16 @@
 -- A day stays fit, second by second, and its events have their names.
 use Rattle.traffic.proofs.Common.{◌≡◌, ℕ, List, ◌∙◌, length, refl, [], ◌∷◌, arith, ◌<◌, ◌++◌, inl, inr, ◌≤◌, suc, zero, get_or, ◌/◌, cases_lt, length-map}
-use Rattle.traffic.proofs.Common.{get_or_past, get_or-map, length-replicate, All-nil, flat_map, map, Some, None, Option, phase_code, Book, Phase, PlanRows}
-use Rattle.traffic.proofs.Common.{Act, first_end, world_at, moves_of, after, turns_of, turns_in, world_start, keyed, through, world_from, events_from}
-use Rattle.traffic.proofs.Common.{count_of, phases, events_in, Turn, day, end_events, told_in, turns, at_home, events_of, TurnMoves, below, run, told}
-use Rattle.traffic.proofs.Common.{stranded, World, nobody, Setup}
-use Rattle.traffic.specs.declared.moves.Move.{Move}
-use Rattle.traffic.specs.declared.world.Hole.{Hole}
-use Rattle.traffic.specs.declared.world.Place.TheVariants.{At}
+use Rattle.traffic.proofs.Common.{get_or_past, get_or-map, length-replicate, All-nil, flat_map, map, Some, None, Option, phase_code, Book, Phase, PlanRows, Act}
+use Rattle.traffic.proofs.Common.{first_end, world_at, moves_of, after, turns_of, turns_in, world_start, keyed, through, world_from, events_from, count_of}
+use Rattle.traffic.proofs.Common.{phases, events_in, Turn, day, end_events, told_in, turns, at_home, events_of, TurnMoves, below, run, told, stranded, World}
+use Rattle.traffic.proofs.{Common.nobody, Common.Setup, Each.each_append, Each.each_flat, Each.each_number, Walks.phases_keep, Walks.seconds_keep}
+use Rattle.traffic.specs.declared.{moves.Move.Move, world.Hole.Hole, world.Place.TheVariants.At}
 use Rattle.std.specs.List.{AllByRecursion as Each}
 use Rattle.events.specs.declared.event.Phase.TheVariants as phase
-use Rattle.law_in_range.specs.Rows.{Counts, IsFitRow, IsFitPlace, IsFitPerson, IsFitWorld}
-use Rattle.law_in_range.specs.Moves.{AreFitMoves, IsBookOf}
-use Rattle.law_in_range.specs.Setups.{IsFitSetup, HasItsLinks}
-use Rattle.traffic.proofs.Each.{each_append, each_flat, each_number}
-use Rattle.traffic.proofs.Walks.{phases_keep, seconds_keep}
-use Rattle.law_in_range.proofs.Kept.{run_fit}
-use Rattle.law_in_range.proofs.LinkState.{link_fit}
-use Rattle.law_in_range.proofs.Junctions.{node_fit}
+use Rattle.law_in_range.proofs.{Junctions.node_fit, Kept.run_fit, LinkState.link_fit, Naming.Named, Naming.keyed_named, Naming.told_fit}
 use Rattle.law_in_range.proofs.Travellers.{flight_fit, leave_fit, departure_fit, stranded_fit}
-use Rattle.law_in_range.proofs.Naming.{Named, keyed_named, told_fit}
+use Rattle.law_in_range.specs.{Moves.AreFitMoves, Moves.IsBookOf, Rows.Counts, Rows.IsFitRow, Rows.IsFitPlace, Rows.IsFitPerson, Rows.IsFitWorld}
+use Rattle.law_in_range.specs.Setups.{IsFitSetup, HasItsLinks}
 
 -- TURNS
 pub moves_append : (z : Counts) (xs ys : List Move) → AreFitMoves z xs → AreFitMoves z ys → AreFitMoves z (xs ++ ys)

@@ -1,13 +1,9 @@
 -- What fit rows have by their stage, and the next call of a fit vehicle.
 use Rattle.traffic.proofs.Common.{◌≡◌, ℕ, length, arith, ◌<◌, ◌+◌, inl, inr, subst, ◌≤◌, false, slice_get, cases_lt, get_or_past, All-get_or, Some, next_link}
-use Rattle.traffic.proofs.Common.{World, at, next_call, VehicleState, IsSoundStage}
-use Rattle.traffic.specs.declared.stage.Stage.{Stage}
-use Rattle.traffic.specs.declared.stage.Stage.TheVariants.{Buffer}
-use Rattle.traffic.specs.declared.world.Row.{Row}
+use Rattle.traffic.proofs.{Common.World, Common.at, Common.next_call, Common.VehicleState, Common.IsSoundStage, Sublists.at_such}
+use Rattle.traffic.specs.declared.{stage.Stage.Stage, stage.Stage.TheVariants.Buffer, world.Row.Row}
 use Rattle.limits.specs.declared.TheConstants.{LAST_SECOND}
-use Rattle.traffic.proofs.Sublists.{at_such}
-use Rattle.law_in_range.specs.Rows.{Counts, IsFitLink, IsFitVehicle, IsFitRow, IsFitWorld}
-use Rattle.law_in_range.proofs.Telling.{call_fit}
+use Rattle.law_in_range.{proofs.Telling.call_fit, specs.Rows.Counts, specs.Rows.IsFitLink, specs.Rows.IsFitVehicle, specs.Rows.IsFitRow, specs.Rows.IsFitWorld}
 
 -- a row at a place of a link is fit, and has what its stage says
 pub row_at : (z : Counts) (l : ℕ) (s : Stage) (k : ℕ) (r : Row) (W : World) → IsFitWorld z W → slice_get (at l s W) k ≡ Some r → IsFitRow z r × IsSoundStage s r.vehicle

@@ -1,22 +1,17 @@
 -- A world in which each person is in one place, and whose rows fit the plans and the timetable, is fit.
-use Rattle.traffic.proofs.Common.{◌≡◌, ℕ, List, ◌∙◌, length, ap, refl, sym, [], ◌∷◌, arith, ◌<◌, true, ◌+◌, Bool, inl, inr, subst, ◌≤◌, suc, zero, get_or}
-use Rattle.traffic.proofs.Common.{◌/◌, cond, cases_Bool, cases_lt, eq-eqb, eqb-false, nat_tests, get_or_past, All-from_recursion, All-get_or}
-use Rattle.traffic.proofs.Common.{recursion_from_All, All-weaker, sum_by-cons, filter, Some, None, not, All, ◌==◌, count_by, VehicleId, StopCall, PlanRows}
-use Rattle.traffic.proofs.Common.{Act, Leg, Transit, Car, Teleport, World, person_of, nobody, Setup, act_after, leg_at, person_plan, departure, VehicleState}
-use Rattle.traffic.proofs.Common.{listed, IsListed, IsSoundPerson, listed_in, HasLeg, IsOwn, OnePlace, IsAlong, Sound, HasRiders, IsSoundRow}
-use Rattle.traffic.specs.declared.riders.Rider.{Rider}
-use Rattle.traffic.specs.declared.world.Place.{Place}
-use Rattle.traffic.specs.declared.world.Place.TheVariants.{At, Teleporting, Waiting, Riding, Aborted}
-use Rattle.traffic.specs.declared.world.Row.{Row}
+use Rattle.traffic.proofs.Common.{◌≡◌, ℕ, List, ◌∙◌, length, ap, refl, sym, [], ◌∷◌, arith, ◌<◌, true, ◌+◌, Bool, inl, inr, subst, ◌≤◌, suc, zero, get_or, ◌/◌}
+use Rattle.traffic.proofs.Common.{cond, cases_lt, eqb-false, nat_tests, get_or_past, All-from_recursion, All-get_or, recursion_from_All, All-weaker}
+use Rattle.traffic.proofs.Common.{sum_by-cons, filter, Some, None, not, All, ◌==◌, count_by, VehicleId, StopCall, PlanRows, Act, Leg, Transit, Car, Teleport}
+use Rattle.traffic.proofs.Common.{World, person_of, nobody, Setup, act_after, leg_at, person_plan, departure, VehicleState, listed, IsListed, IsSoundPerson}
+use Rattle.traffic.proofs.Common.{listed_in, HasLeg, IsOwn, OnePlace, IsAlong, Sound, HasRiders, IsSoundRow}
+use Rattle.traffic.{proofs.Each.each_filter, specs.Worlds.IsFrom, specs.Worlds.IsOnLine, specs.Worlds.leg_of, specs.declared.riders.Rider.Rider}
+use Rattle.traffic.specs.declared.world.{Place.Place, Place.TheVariants.At, Place.TheVariants.Waiting, Place.TheVariants.Riding, Row.Row}
+use Rattle.std.proofs.lemmas.List.{Filters.length-filter_both, Sums.get_or-le-sum_by, Sums.length-filter}
 use Rattle.std.specs.List.{AllByRecursion as Each}
-use Rattle.std.proofs.lemmas.List.Sums.{get_or-le-sum_by, length-filter}
-use Rattle.std.proofs.lemmas.List.Filters.{length-filter_both}
 use Rattle.limits.specs.declared.TheConstants.{LAST_SECOND, MAX_CALLS, MAX_SEATS, MAX_PERSONS}
 use Rattle.events.specs.declared.event.VehicleId.TheVariants as vehicle
-use Rattle.traffic.specs.Worlds.{IsFrom, IsOnLine, leg_of}
 use Rattle.law_in_range.specs.Rows.{Counts, IsFitId, IsFitLine, IsFitLink, IsFitCall, IsFitRow, IsFitPlace, IsFitPerson, IsFitWorld}
 use Rattle.law_in_range.specs.Setups.{IsFitRoute, IsFitDeparture, IsFitLeg, IsFitSetup, HasPlans, HasItsLinks}
-use Rattle.traffic.proofs.Each.{each_filter}
 
 -- COUNTING
 -- how often person i is among riders
@@ -28,11 +23,7 @@ times-cons i x xs = sum_by-cons (λ (y : Rider). cond (y.person == i) 1 0) x xs
 
 one_less : (p : Rider → Bool) (i : ℕ) (xs : List Rider) → times i (filter p xs) ≤ times i xs
 one_less p i [] = omega arith
-one_less p i (x ∷ xs) =
-    let here = times-cons i x xs in
-    let there = times-cons i x (filter p xs) in
-    let fewer = one_less p i xs in
-    elim (cases_Bool (p x)) [ inl e ↦ simp e (omega arith) | inr e ↦ simp e (omega arith) ]
+one_less p i (x ∷ xs) = grind (arith, times-cons i x xs, times-cons i x (filter p xs), one_less p i xs)
 
 -- persons below n, each of whom is there at most once, are at most n
 few_persons : (n : ℕ) (xs : List Rider) → Each (λ (x : Rider). x.person < n) xs → ((i : ℕ) → i < n → times i xs ≤ 1) → length xs ≤ n
@@ -51,24 +42,16 @@ few_persons (suc n) (x ∷ xs) below once =
 
 -- PERSONS
 from_fit : (z : Counts) (stop : ℕ) (w : Leg) → IsFitLeg z w → IsFrom stop w → stop < z.stops
-from_fit z stop (Car route) fit from = absurd from
-from_fit z stop (Teleport mode seconds) fit from = absurd from
 from_fit z stop (Transit line access egress) fit from = subst (λ (s : ℕ). s < z.stops) from fit
+from_fit z stop _ fit from = absurd from
 
 place_fit : (z : Counts) (S : Setup) (i element : ℕ) (pl : Place) → IsFitSetup z S → HasPlans z S → i < z.persons → IsSoundPerson S i element pl → IsFitPlace z i element pl
 place_fit z S i element (At None) fit plans there sound = tt
 place_fit z S i element (At (Some end)) fit plans there sound =
-    let last = eqb-false (element / 2 + 1) (length (person_plan S i).acts) sound.1 in
-    let within = sound.0.1 in
-    let more = plans.one_more i there in
-    omega arith
-place_fit z S i element (Teleporting start) fit plans there sound = tt
+    omega (arith, plans.one_more i there, eqb-false (element / 2 + 1) (length (person_plan S i).acts) sound.1)
 place_fit z S i element (Waiting stop since) fit plans there sound =
-    let leg = sound.0.1 in
-    let count = plans.legs i there in
-    from_fit z stop (leg_at S i element) (fit.legs i element there (omega arith)) sound.1
-place_fit z S i element (Riding v) fit plans there sound = tt
-place_fit z S i element (Aborted l) fit plans there sound = tt
+    from_fit z stop (leg_at S i element) (fit.legs i element there (omega (arith, plans.legs i there))) sound.1
+place_fit z S i element _ fit plans there sound = tt
 
 person_fit : (z : Counts) (S : Setup) (W : World) (i : ℕ) → IsFitSetup z S → HasPlans z S → OnePlace S W → Sound S W → IsFitPerson z i (person_of i W)
 person_fit z S W i fit plans one sound =
@@ -87,9 +70,8 @@ on_line_there S v i element on =
     elim (cases_lt i (length S.persons)) [ inl there ↦ there | inr past ↦ absurd (subst (IsOnLine v) (no_plan S i element past) on) ]
 
 kind_of_leg : (r : Rider) (w : Leg) (next : Act) → HasLeg r w next → r.kind ≡ next.kind
-kind_of_leg r (Car route) next h = h.1
 kind_of_leg r (Teleport mode seconds) next h = absurd h
-kind_of_leg r (Transit line access egress) next h = h.1
+kind_of_leg r _ next h = h.1
 
 -- each rider is there
 riders_there : (S : Setup) (W : World) (v : VehicleState) (id : VehicleId) → IsOwn S v id → HasRiders S W v id → All (λ (x : Rider). x.person < length S.persons) v.riders
@@ -99,35 +81,24 @@ riders_there S W v (vehicle.Transit d) own riders =
 
 -- who is listed is on a leg of his plan
 listed_leg : (S : Setup) (i element : ℕ) (rows : List Row) (pl : Place) → IsListed i rows pl → 1 ≤ listed i rows → IsSoundPerson S i element pl → element / 2 < length (person_plan S i).legs
-listed_leg S i element rows (At end) is some sound = absurd (omega arith)
-listed_leg S i element rows (Teleporting start) is some sound = absurd (omega arith)
-listed_leg S i element rows (Waiting stop since) is some sound = absurd (omega arith)
 listed_leg S i element rows (Riding v) is some sound = sound.0.1
-listed_leg S i element rows (Aborted l) is some sound = absurd (omega arith)
+listed_leg S i element rows _ is some sound = absurd (omega arith)
 
 listed_once : (i : ℕ) (rows : List Row) (pl : Place) → IsListed i rows pl → listed i rows ≤ 1
-listed_once i rows (At end) is = omega arith
-listed_once i rows (Teleporting start) is = omega arith
-listed_once i rows (Waiting stop since) is = omega arith
-listed_once i rows (Riding v) is = let once = is.0 in omega arith
-listed_once i rows (Aborted l) is = omega arith
+listed_once i rows (Riding v) is = omega arith
+listed_once i rows _ is = omega arith
 
 one_rider : (i : ℕ) (xs : List Rider) → length xs ≡ 1 → All (λ (x : Rider). x.person ≡ i) xs → times i xs ≡ 1
 one_rider i xs one all = by xs one (recursion_from_All (λ (x : Rider). x.person ≡ i) xs all)
   where
     by : (xs : List Rider) → length xs ≡ 1 → Each (λ (x : Rider). x.person ≡ i) xs → times i xs ≡ 1
-    by [] one all = cc
-    by (x ∷ []) one all = times-cons i x [] ∙ ap (λ (b : Bool). cond b 1 0 + 0) (eq-eqb x.person i all.0)
-    by (x ∷ y ∷ xs) one all = absurd (omega arith)
+    by (x ∷ []) one all = grind (arith, nat_tests, times-cons i x [], all.0)
+    by _ one all = absurd (omega arith)
 
 -- VEHICLES
 along_fit : (z : Counts) (route : List ℕ) (w : Leg) → IsAlong route w → IsFitLeg z w → IsFitRoute z route
 along_fit z route (Car links) along fit = subst (IsFitRoute z) along fit
-along_fit z route (Teleport mode seconds) along fit = absurd along
-along_fit z route (Transit line access egress) along fit = absurd along
-
-no_calls : (z : Counts) (calls : List StopCall) → calls ≡ [] → All (IsFitCall z) calls
-no_calls z calls none = subst (All (IsFitCall z)) (sym none) (All-from_recursion (IsFitCall z) [] tt)
+along_fit z route _ along fit = absurd along
 
 -- what is known of a vehicle by what it is of
 record IsFitOwn (z : Counts) (v : VehicleState) : Type 0 where
@@ -148,7 +119,6 @@ own_fit z S W v (vehicle.Car i) is fit plans one sound own riders counted =
     let seats = own.seats in
     let departed = own.departed in
     let there = own.there in
-    let persons = fit.persons in
     let rides = one_rider i v.riders riders.0 riders.1 in
     let leg = listed_leg S i (person_of i W).element W.rows (person_of i W).place (one.one_place i there) (omega (arith, counted i)) (sound.persons i there) in
     let count = plans.legs i (omega arith) in
@@ -156,7 +126,7 @@ own_fit z S W v (vehicle.Car i) is fit plans one sound own riders counted =
       id = subst (IsFitId z) (sym is) (omega arith);
       line = subst (λ (k : VehicleId). IsFitLine z k v.line) (sym is) tt;
       route = along_fit z v.route (leg_of S W i) riders.2 (fit.legs i (person_of i W).element (omega arith) (omega arith));
-      calls = no_calls z v.calls own.calls;
+      calls = subst (All (IsFitCall z)) (sym own.calls) (All-from_recursion (IsFitCall z) [] tt);
       few_calls = omega arith;
       served = omega arith;
       seats = omega arith;
@@ -165,15 +135,8 @@ own_fit z S W v (vehicle.Car i) is fit plans one sound own riders counted =
 own_fit z S W v (vehicle.Transit d) is fit plans one sound own riders counted =
     let run : IsFitDeparture z (departure S d) = All-get_or (IsFitDeparture z) S.departures d _ own.there fit.runs in
     let calls : length v.calls ≡ length (departure S d).calls = ap (λ (l : List StopCall). length l) own.calls in
-    let there = own.there in
-    let count = fit.departures in
-    let few = run.few in
     let seats = run.seats in
-    let same_seats = own.seats in
-    let second = run.second in
-    let same_second = own.departed in
     let line = run.line in
-    let same_line = own.line in
     let on_line : v.line < z.lines = omega arith in
     record {
       id = subst (IsFitId z) (sym is) (omega arith);
@@ -190,7 +153,6 @@ row_fit : (z : Counts) (S : Setup) (W : World) (r : Row) → IsFitSetup z S → 
 row_fit z S W r fit plans one sound few row counted =
     let v = r.vehicle in
     let own = own_fit z S W v v.id refl fit plans one sound row.own row.riders counted in
-    let persons = fit.persons in
     let there = riders_there S W v v.id row.own row.riders in
     let few_riders = few_persons (length S.persons) v.riders (recursion_from_All (λ (x : Rider). x.person < length S.persons) v.riders there)
     (λ i less. omega (arith, counted i, listed_once i W.rows (person_of i W).place (one.one_place i less))) in
@@ -223,7 +185,6 @@ row_fit z S W r fit plans one sound few row counted =
 -- THE WORLD
 pub sound_fit : (z : Counts) (S : Setup) (W : World) → IsFitSetup z S → HasPlans z S → z.persons ≤ MAX_PERSONS → HasItsLinks S W → OnePlace S W → Sound S W → IsFitWorld z W
 sound_fit z S W fit plans few links one sound =
-    let count = fit.links in
     record {
       rows = λ k d less. row_fit z S W (get_or W.rows k d) fit plans one sound few (sound.rows k d less) (λ i. get_or-le-sum_by (listed_in i) W.rows k d less);
       persons = λ i. person_fit z S W i fit plans one sound;

@@ -1,14 +1,10 @@
 -- What fit rows tell is fit.
-use Rattle.traffic.proofs.Common.{ℕ, List, length, [], ◌∷◌, arith, ◌<◌, true, ◌++◌, Bool, ◌≤◌, false, ◌-◌, All-get_or, recursion_from_All, All-filter}
-use Rattle.traffic.proofs.Common.{flat_map, if◌then◌else◌, All, VehicleId, call_at, next_call, alighting, staying, alights, boarded, arrives, enters, leaves}
-use Rattle.traffic.proofs.Common.{starts, serves, strands, driver, aborts, VehicleState}
-use Rattle.traffic.specs.declared.moves.Occurrence.{Occurrence}
-use Rattle.traffic.specs.declared.riders.Rider.{Rider}
-use Rattle.traffic.specs.declared.world.Row.{Row}
-use Rattle.std.specs.List.{AllByRecursion as Each}
-use Rattle.std.proofs.lemmas.List.Elements.{All-drop}
+use Rattle.traffic.proofs.Common.{ℕ, List, length, [], ◌∷◌, arith, ◌<◌, true, ◌++◌, Bool, ◌≤◌, false, ◌-◌, All-get_or, recursion_from_All, All-filter, flat_map}
+use Rattle.traffic.proofs.Common.{if◌then◌else◌, All, VehicleId, call_at, next_call, alighting, staying, alights, boarded, arrives, enters, leaves, starts}
+use Rattle.traffic.proofs.Common.{serves, strands, driver, aborts, VehicleState}
+use Rattle.traffic.specs.{Telling.goes_on, Telling.changes_links, declared.moves.Occurrence.Occurrence, declared.riders.Rider.Rider, declared.world.Row.Row}
+use Rattle.std.{proofs.lemmas.List.Elements.All-drop, specs.List.AllByRecursion as Each}
 use Rattle.events.specs.declared.event.VehicleId.TheVariants as vehicle
-use Rattle.traffic.specs.Telling.{goes_on, changes_links}
 use Rattle.law_in_range.specs.Rows.{Counts, IsFitId, IsFitRider, IsFitCall, IsFitVehicle, IsFitRow}
 use Rattle.law_in_range.specs.Moves.{IsBelow, AreFitOccurrences}
 
@@ -28,19 +24,7 @@ driver_below z (vehicle.Car i) h = h
 driver_below z (vehicle.Transit d) h = tt
 
 leaves_fit : (z : Counts) (v : VehicleId) (l : ℕ) → IsFitId z v → l < z.links → (r : Rider) → IsFitRider z r → AreFitOccurrences z (leaves v l r)
-leaves_fit z v l id lt r h = (
-  record { person = h.person; vehicle = id; link = tt; more = tt },
-  (
-    record { person = h.person; vehicle = tt; link = lt; more = tt },
-    (record { person = h.person; vehicle = tt; link = lt; more = h.kind }, tt),
-  ),
-)
-
-enters_fit : (z : Counts) (v : VehicleId) → IsFitId z v → (r : Rider) → IsFitRider z r → AreFitOccurrences z (enters v r)
-enters_fit z v id r h = (record { person = h.person; vehicle = id; link = tt; more = tt }, tt)
-
-strands_fit : (z : Counts) (v : VehicleId) (l : ℕ) → l < z.links → (r : Rider) → IsFitRider z r → AreFitOccurrences z (strands v l r)
-strands_fit z v l lt r h = (record { person = h.person; vehicle = tt; link = lt; more = tt }, tt)
+leaves_fit z v l id lt r h = assumption (id, lt, h, tt)
 
 riders_each : (z : Counts) (v : VehicleState) → IsFitVehicle z v → Each (IsFitRider z) v.riders
 riders_each z v h = recursion_from_All (IsFitRider z) v.riders h.riders
@@ -58,7 +42,7 @@ arrives_fit z r h = (
 pub aborts_fit : (z : Counts) (r : Row) → IsFitRow z r → AreFitOccurrences z (aborts r)
 aborts_fit z r h = (
   record { person = tt; vehicle = h.vehicle.id; link = h.link; more = tt },
-  said_riders z (strands r.vehicle.id r.link) (strands_fit z r.vehicle.id r.link h.link) r.vehicle.riders (riders_each z r.vehicle h.vehicle),
+  said_riders z (strands r.vehicle.id r.link) (λ x k. assumption (k, h.link, tt)) r.vehicle.riders (riders_each z r.vehicle h.vehicle),
 )
 
 pub call_fit : (z : Counts) (v : VehicleState) (k : ℕ) → IsFitVehicle z v → k < length v.calls → IsFitCall z (call_at v.calls k)
@@ -78,7 +62,8 @@ serves_fit z was now h riders lt =
       record { person = tt; vehicle = h.vehicle.id; link = h.link; more = (call_fit z was.vehicle was.vehicle.served h.vehicle lt).stop },
       said_append z (flat_map (leaves id was.link) (alighting stop was.vehicle.riders)) (flat_map (enters id) (boarded stop was.vehicle.riders now.vehicle.riders))
           (said_riders z (leaves id was.link) (leaves_fit z id was.link h.vehicle.id h.link) (alighting stop was.vehicle.riders) (recursion_from_All (IsFitRider z) (alighting stop was.vehicle.riders) leave))
-          (said_riders z (enters id) (enters_fit z id h.vehicle.id) (boarded stop was.vehicle.riders now.vehicle.riders) (recursion_from_All (IsFitRider z) (boarded stop was.vehicle.riders now.vehicle.riders) board)),
+          (said_riders z (enters id) (λ r k. assumption (k, h.vehicle.id, tt)) (boarded stop was.vehicle.riders now.vehicle.riders)
+          (recursion_from_All (IsFitRider z) _ board)),
     )
 
 pub changes_fit : (z : Counts) (was now : Row) → IsFitRow z was → IsFitRow z now → AreFitOccurrences z (changes_links was now)

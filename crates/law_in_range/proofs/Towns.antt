@@ -1,26 +1,17 @@
 -- The setup of a day in a town is fit.
-use Rattle.traffic.proofs.Common.{◌≡◌, ℕ, List, ◌∙◌, length, ap, refl, sym, [], ◌∷◌, arith, ◌<◌, true, ◌+◌, ◌≤◌, suc, zero, get_or, ◌≢◌, ◌/◌, not-true}
-use Rattle.traffic.proofs.Common.{and_parts, eqb-false, ltb-true, leb-true, length-map, All-map, All-from_recursion, recursion_from_All, All-weaker, list_all}
-use Rattle.traffic.proofs.Common.{map, Some, None, Option, All, nat_lt, StopCall, ends_of, is_open, has_end, are_acts, is_leg, PlanRows, plan_rows, Act, Leg}
-use Rattle.traffic.proofs.Common.{Plan, DepartureRow, RouteRow, StopRow, World, OnePlace, Sound}
+use Rattle.traffic.proofs.Common.{◌≡◌, ℕ, List, ◌∙◌, length, ap, refl, sym, [], ◌∷◌, arith, ◌<◌, true, ◌+◌, ◌≤◌, suc, zero, get_or, ◌/◌, and_parts, ltb-true}
+use Rattle.traffic.proofs.Common.{length-map, All-map, All-from_recursion, recursion_from_All, All-weaker, list_all, map, Some, None, All, nat_lt, StopCall}
+use Rattle.traffic.proofs.Common.{ends_of, is_open, has_end, are_acts, is_leg, PlanRows, plan_rows, Act, Leg, nat_tests, Plan, DepartureRow, RouteRow, StopRow}
+use Rattle.traffic.proofs.{Common.World, Common.OnePlace, Common.Sound, Each.each_map, Each.each_get_or}
 use Rattle.std.specs.List.{AllByRecursion as Each}
-use Rattle.limits.specs.declared.TheConstants.{LAST_SECOND, MAX_CALLS}
+use Rattle.limits.specs.declared.TheConstants.{MAX_CALLS}
 use Rattle.rows.specs.declared.plan.Leg.TheVariants as leg
-use Rattle.rows.specs.Schedules.{is_sound_call}
-use Rattle.rows.specs.Schedules.{is_stop}
-use Rattle.rows.specs.Schedules.{is_way, are_drivable, is_route}
-use Rattle.rows.specs.Schedules.{is_departure}
-use Rattle.town.specs.Fits.{is_act_in, is_car_leg, is_transit_leg, leg_fits, legs_fit, fits}
-use Rattle.town.specs.Rows.{TownRows, IsTown}
-use Rattle.town.specs.Setups.{route_at, departure_of, setup_of}
-use Rattle.town.specs.Views.{rows_of, chosen_in, setup, ChosenFit}
-use Rattle.town.specs.declared.day_input.DayInput.{DayInput}
-use Rattle.law_in_range.specs.Rows.{Counts, IsFitLink, IsFitCall, IsFitWorld}
-use Rattle.law_in_range.specs.Moves.{IsBookOf}
-use Rattle.law_in_range.specs.Setups.{counts_of, counts_in, IsPlanIn, IsFitRoute, IsFitDeparture, IsFitStop, IsFitAct, IsFitLeg, IsFitSetup, HasPlans, HasItsLinks}
-use Rattle.law_in_range.proofs.Sounding.{sound_fit}
-use Rattle.traffic.proofs.Each.{each_map, each_get_or}
-use Rattle.law_in_range.proofs.Lists.{each_at, each_tested}
+use Rattle.rows.specs.Schedules.{is_sound_call, is_stop, is_way, are_drivable, is_route, is_departure}
+use Rattle.town.specs.{Fits.first_link, Fits.is_act_in, Fits.is_car_leg, Fits.leg_fits, Fits.legs_fit, Fits.fits, Rows.TownRows, Rows.IsTown, Setups.route_at}
+use Rattle.town.specs.{Setups.departure_of, Setups.setup_of, Views.rows_of, Views.chosen_in, Views.setup, Views.ChosenFit, declared.day_input.DayInput.DayInput}
+use Rattle.law_in_range.proofs.{Lists.each_at, Lists.each_tested, Sounding.sound_fit}
+use Rattle.law_in_range.specs.{Moves.IsBookOf, Rows.Counts, Rows.IsFitLink, Rows.IsFitCall, Rows.IsFitWorld, Setups.counts_of}
+use Rattle.law_in_range.specs.Setups.{counts_in, IsPlanIn, IsFitRoute, IsFitDeparture, IsFitStop, IsFitAct, IsFitLeg, IsFitSetup, HasPlans, HasItsLinks}
 
 below_links : (z : Counts) (route : List ℕ) → list_all (λ l. nat_lt l z.links) route ≡ true → All (IsFitLink z) route
 below_links z route h = All-from_recursion (IsFitLink z) route (each_tested (IsFitLink z) (λ l. nat_lt l z.links) (λ l e. ltb-true l z.links e) route h)
@@ -30,9 +21,7 @@ abbrev no_act : Act
 no_act = record { kind = 0; link = 0; end = None }
 
 act_fit : (T : TownRows) (chosen : List PlanRows) (a : Act) → is_act_in T a ≡ true → IsFitAct (counts_of T chosen) a
-act_fit T chosen a h =
-    let g = and_parts (nat_lt a.kind (length T.book.kinds)) (nat_lt a.link (length T.links)) h in
-    record { kind = ltb-true a.kind (length T.book.kinds) g.0; link = ltb-true a.link (length T.links) g.1 }
+act_fit T chosen a h = record { kind = grind (arith, nat_tests); link = grind (arith, nat_tests) }
 
 -- the numbers that stand for an activity that is not there are those of a kind and a link, since the plan has an activity
 none_fit : (z : Counts) (legs : ℕ) (acts : List Act) → length acts ≡ legs + 1 → Each (IsFitAct z) acts → IsFitAct z no_act
@@ -50,52 +39,34 @@ plan_acts T chosen p h k =
     let each : Each (IsFitAct z) p.acts = each_tested (IsFitAct z) (is_act_in T) (act_fit T chosen) p.acts acts in
     each_get_or (IsFitAct z) p.acts k no_act (none_fit z (length p.legs) p.acts h.one_more each) each
 
-open_none : (o : Option ℕ) (second : ℕ) (P : Type 0) → is_open o ≡ true → o ≡ Some second → P
-open_none None second P h e = absurd (cc)
-open_none (Some end) second P h e = absurd (cc)
-
 -- an activity that ends is not the last one
 acts_end : (acts : List Act) (k second : ℕ) → are_acts acts ≡ true → (get_or acts k no_act).end ≡ Some second → k + 1 < length acts
 unfolding are_acts
-acts_end [] k second h e = absurd (cc)
-acts_end (a ∷ []) zero second h e = open_none a.end second _ h e
-acts_end (a ∷ []) (suc k) second h e = absurd (cc)
+acts_end (a ∷ []) zero second h e = let q = ap is_open e in absurd (cc)
 acts_end (a ∷ b ∷ acts) zero second h e = omega arith
-acts_end (a ∷ b ∷ acts) (suc k) second h e =
-    let g = acts_end (b ∷ acts) k second (and_parts (has_end a) (are_acts (b ∷ acts)) h).1 e in omega arith
+acts_end (a ∷ b ∷ acts) (suc k) second h e = omega (arith, acts_end (b ∷ acts) k second (and_parts (has_end a) (are_acts (b ∷ acts)) h).1 e)
+acts_end _ k second h e = absurd (cc)
 
 abbrev Ends : PlanRows → Type 0
 Ends plan = (k second : ℕ) → (get_or plan.acts k no_act).end ≡ Some second → k < length plan.legs
 
 plan_ends : (T : TownRows) (p : PlanRows) → IsPlanIn T p → Ends p
-plan_ends T p h k second e =
-    let g = acts_end p.acts k second h.ends e in
-    let f = h.one_more in omega arith
+plan_ends T p h k second e = omega (arith, acts_end p.acts k second h.ends e)
 
 -- LEGS
 leg_fit : (T : TownRows) (chosen : List PlanRows) (here there : ℕ) (x : Leg) → leg_fits T here there x ≡ true → is_leg x ≡ true → IsFitLeg (counts_of T chosen) x
 unfolding leg_fits is_car_leg
 leg_fit T chosen here there (leg.Car route) h g =
-    let a = and_parts _ _ h in
-    let b = and_parts _ _ a.0 in
-    let c = and_parts _ _ b.1 in
-    let some : length route ≢ 0 = eqb-false (length route) 0 (not-true _ b.0) in
-    record { some = omega arith; few = leb-true (length route) 1000 g; links = below_links (counts_of T chosen) route c.0 }
+    record { some = grind (arith, nat_tests); few = grind (arith, nat_tests); links = below_links (counts_of T chosen) route (grind arith) }
 leg_fit T chosen here there (leg.Teleport mode seconds) h g = tt
-leg_fit T chosen here there (leg.Transit line access egress) h g =
-    let a = and_parts (is_transit_leg T line access egress) _ h in
-    let b = and_parts _ _ a.0 in
-    let c = and_parts _ _ b.0 in
-    ltb-true access (length T.stops) c.1
+leg_fit T chosen here there (leg.Transit line access egress) h g = grind (arith, nat_tests)
 
 each_leg : (T : TownRows) (chosen : List PlanRows) (acts : List Act) (legs : List Leg) → legs_fit T acts legs ≡ true → list_all is_leg legs ≡ true → Each (IsFitLeg (counts_of T chosen)) legs
 unfolding legs_fit
 each_leg T chosen acts [] h g = tt
 each_leg T chosen [] (x ∷ legs) h g = absurd (cc)
 each_leg T chosen (a ∷ acts) (x ∷ legs) h g =
-    let b = and_parts (leg_fits T a.link _ x) (legs_fit T acts legs) h in
-    let c = and_parts (is_leg x) (list_all is_leg legs) g in
-    (leg_fit T chosen a.link _ x b.0 c.0, each_leg T chosen acts legs b.1 c.1)
+    (leg_fit T chosen a.link (first_link acts) x (grind arith) (grind arith), each_leg T chosen acts legs (grind arith) (grind arith))
 
 abbrev Legs : Counts → PlanRows → Type 0
 Legs z plan = (k : ℕ) → k < length plan.legs → IsFitLeg z (get_or plan.legs k (leg.Car []))
@@ -110,10 +81,7 @@ plan_legs T chosen p h k lt =
 -- THE SCHEDULE
 call_fit : (T : TownRows) (chosen : List PlanRows) (c : StopCall) → is_sound_call T.stops c ≡ true → IsFitCall (counts_of T chosen) c
 unfolding is_sound_call
-call_fit T chosen c h =
-    let a = and_parts _ _ h in
-    let b = and_parts _ _ a.0 in
-    record { stop = ltb-true c.stop (length T.stops) b.0; offset = leb-true c.offset LAST_SECOND a.1 }
+call_fit T chosen c h = record { stop = grind (arith, nat_tests); offset = grind (arith, nat_tests) }
 
 pub some_links : (ends : List (ℕ × ℕ)) (route : List ℕ) → is_way ends route ≡ true → 0 < length route
 some_links ends [] h = absurd (cc)
@@ -130,28 +98,19 @@ pub route_fit : (T : TownRows) (chosen : List PlanRows) (r : RouteRow) → is_ro
 unfolding are_drivable
 route_fit T chosen r h =
     let z = counts_of T chosen in
-    let a = and_parts (nat_lt r.line (length T.book.lines)) _ h in
-    let b = and_parts _ _ a.1 in
-    let c = and_parts _ _ b.0 in
-    let d = and_parts _ _ c.0 in
-    let e = and_parts _ _ d.0 in
-    let f = and_parts _ _ e.0 in
     record {
-      line = ltb-true r.line (length T.book.lines) a.0;
-      route = record { some = some_links (ends_of T.links) r.links f.1; few = leb-true (length r.links) 1000 e.1; links = below_links z r.links f.0 };
-      calls = All-from_recursion (IsFitCall z) r.calls (each_tested (IsFitCall z) (is_sound_call T.stops) (call_fit T chosen) r.calls d.1);
-      few = leb-true (length r.calls) 200 b.1;
+      line = grind (arith, nat_tests);
+      route = record { some = some_links (ends_of T.links) r.links (grind arith); few = grind (arith, nat_tests); links = below_links z r.links (grind arith) };
+      calls = All-from_recursion (IsFitCall z) r.calls (each_tested (IsFitCall z) (is_sound_call T.stops) (call_fit T chosen) r.calls (grind arith));
+      few = grind (arith, nat_tests);
     }
 
 run_fit : (T : TownRows) (chosen : List PlanRows) (d : DepartureRow) → Each (IsFitLine (counts_of T chosen)) T.routes → is_departure (length T.routes) d ≡ true → IsFitDeparture (counts_of T chosen) (departure_of T.routes d)
 unfolding is_departure
 run_fit T chosen d h g =
     let z = counts_of T chosen in
-    let a = and_parts _ _ g in
-    let b = and_parts _ _ a.0 in
-    let c = and_parts _ _ b.0 in
-    let r : IsFitLine z (route_at T.routes d.route) = each_at (IsFitLine z) T.routes d.route _ (ltb-true d.route (length T.routes) c.0) h in
-    record { second = leb-true d.second LAST_SECOND c.1; seats = leb-true d.seats 1000 a.1; line = r.line; route = r.route; calls = r.calls; few = r.few }
+    let r : IsFitLine z (route_at T.routes d.route) = each_at (IsFitLine z) T.routes d.route _ (grind (arith, nat_tests)) h in
+    record { second = grind (arith, nat_tests); seats = grind (arith, nat_tests); line = r.line; route = r.route; calls = r.calls; few = r.few }
 
 -- THE SETUP
 plan_at : (T : TownRows) (chosen : List PlanRows) (P : PlanRows → Type 0) (i : ℕ) (d : PlanRows) → ((p : PlanRows) → IsPlanIn T p → P p) → All (IsPlanIn T) chosen → i < length chosen → P (get_or chosen i d)
@@ -212,6 +171,5 @@ pub town_sound_fit : (day : DayInput) (W : World) → ChosenFit day → length d
 town_sound_fit day W h e links one sound =
     let T = rows_of day.town.now in
     let plans = plans_fit T day.chosen.now h in
-    let few = day.town.now.sound.few_persons in
     let count = length-map day.chosen.now plan_rows in
     sound_fit (counts_in day) (setup day) W (town_fit day h) (has_plans T (chosen_in day) day.iteration plans) (omega arith) links one sound

@@ -1,38 +1,22 @@
 -- The turns of persons and of departures make fit moves, who waits at stops is fit, and so is what is told of who is under way.
 use Rattle.traffic.proofs.Common.{ℕ, List, length, [], ◌∷◌, arith, ◌<◌, ◌+◌, inl, inr, subst, eqb, cases_Bool, All-get_or, recursion_from_All, All-nil}
 use Rattle.traffic.proofs.Common.{All-cons, Mode, VehicleId, Act, Leg, landing_turns, leaving_turns, departure_turns, below, stuck_at, waiter, sets_out}
-use Rattle.traffic.proofs.Common.{waits_on, transit_vehicle, waiters, stranded, same_vehicle, car, mode_of_leg, waits, link_of_vehicle, World, person_of}
-use Rattle.traffic.proofs.Common.{Setup, act_after, leg_at, act_at, link_of_stop, departure, Departure}
-use Rattle.traffic.specs.declared.world.Place.{Place}
-use Rattle.traffic.specs.declared.world.Place.TheVariants.{At, Teleporting, Waiting, Riding, Aborted}
-use Rattle.traffic.specs.declared.world.Row.{Row}
+use Rattle.traffic.proofs.Common.{waits_on, transit_vehicle, waiters, stranded, same_vehicle, car, mode_of_leg, link_of_vehicle, World, person_of, Setup}
+use Rattle.traffic.proofs.Common.{act_after, leg_at, act_at, link_of_stop, departure, Departure}
+use Rattle.traffic.proofs.{Each.each_if, Each.each_flat, Each.each_number, Walks.flight_walk, Walks.leave_walk, Walks.departure_walk}
+use Rattle.traffic.specs.declared.world.{Place.Place, Place.TheVariants.Teleporting, Place.TheVariants.Waiting, Place.TheVariants.Riding, Row.Row}
 use Rattle.std.specs.List.{AllByRecursion as Each}
 use Rattle.rows.specs.declared.plan.Leg.TheVariants as leg
+use Rattle.law_in_range.{proofs.Boarding.IsFitWaiter, specs.Moves.AreFitOccurrences, specs.Moves.AreFitMoves}
 use Rattle.law_in_range.specs.Rows.{Counts, IsFitLink, IsFitRider, IsFitCall, IsFitRow, IsFitPlace, IsFitWorld}
-use Rattle.law_in_range.specs.Moves.{AreFitOccurrences, AreFitMoves}
 use Rattle.law_in_range.specs.Setups.{IsFitRoute, IsFitDeparture, IsFitAct, IsFitLeg, IsFitSetup, IsFitStop}
-use Rattle.traffic.proofs.Each.{each_if, each_flat, each_number}
-use Rattle.traffic.proofs.Walks.{flight_walk, leave_walk, departure_walk}
-use Rattle.law_in_range.proofs.Boarding.{IsFitWaiter}
 
 -- PERSONS
 pub flight_fit : (z : Counts) (S : Setup) (t i : ℕ) (W : World) → IsFitSetup z S → i < z.persons → AreFitMoves z (landing_turns S t i W)
 flight_fit z S t i W f lt =
     let h = f.acts i ((person_of i W).element + 2) lt in
     flight_walk (λ ms. AreFitMoves z ms) S t i (person_of i W) tt
-    (λ mode seconds start p w e. (
-      (
-        tt,
-        (
-          record { person = lt; vehicle = tt; link = tt; more = tt },
-          (
-            record { person = lt; vehicle = tt; link = h.link; more = tt },
-            (record { person = lt; vehicle = tt; link = h.link; more = h.kind }, tt),
-          ),
-        ),
-      ),
-      tt,
-    ))
+    (λ mode seconds start p w e. assumption (lt, h, tt))
 
 car_fit : (z : Counts) (i : ℕ) (route : List ℕ) (kind : ℕ) → i < z.persons → kind < z.kinds → IsFitRoute z route → IsFitRow z (car i route kind)
 car_fit z i route kind lt k h =
@@ -69,13 +53,7 @@ leave_fit z S t i W f h lt =
     let here = f.acts i P.element lt in
     leave_walk (λ ms. AreFitMoves z ms) S t i (person_of i W) tt
     (λ p. (
-      (
-        tt,
-        (
-          record { person = lt; vehicle = tt; link = here.link; more = here.kind },
-          (record { person = lt; vehicle = tt; link = here.link; more = tt }, tt),
-        ),
-      ),
+      assumption (lt, here, tt),
       sets_out_fit z S i (leg_at S i P.element) (act_after S i P.element) f lt (f.acts i (P.element + 2) lt) (f.legs i P.element lt (subst (λ (pl : Place). IsFitPlace z i P.element pl) p (h.persons i))),
     ))
 
@@ -109,13 +87,10 @@ departure_fit z S t d W f lt =
     departure_walk (λ ms. AreFitMoves z ms) S t d tt (λ e. ((r, (record { person = tt; vehicle = within; link = r.link; more = D.line }, tt)), tt))
 
 -- WHO WAITS
-waits_fit : (z : Counts) (i : ℕ) (w : Leg) (next : Act) (stop since : ℕ) → i < z.persons → IsFitAct z next → Each (IsFitWaiter z) (waits i w next stop since)
-waits_fit z i (leg.Transit line access egress) next stop since lt h = (record { person = lt; kind = h.kind }, tt)
-waits_fit z i _ next stop since lt h = tt
-
 waits_on_fit : (z : Counts) (S : Setup) (l i : ℕ) (w : Leg) (next : Act) (pl : Place) → i < z.persons → IsFitAct z next → Each (IsFitWaiter z) (waits_on S l i w next pl)
-waits_on_fit z S l i w next (Waiting stop since) lt h =
-    each_if (IsFitWaiter z) (eqb (link_of_stop S stop) l) _ _ (waits_fit z i w next stop since lt h) tt
+waits_on_fit z S l i (leg.Transit line access egress) next (Waiting stop since) lt h =
+    each_if (IsFitWaiter z) (eqb (link_of_stop S stop) l) _ _ (record { person = lt; kind = h.kind }, tt) tt
+waits_on_fit z S l i w next (Waiting stop since) lt h = each_if (IsFitWaiter z) (eqb (link_of_stop S stop) l) _ _ tt tt
 waits_on_fit z S l i w next _ lt h = tt
 
 pub waiters_fit : (z : Counts) (S : Setup) (l : ℕ) (W : World) → IsFitSetup z S → IsFitWorld z W → Each (IsFitWaiter z) (waiters S l W)
@@ -133,13 +108,12 @@ row_below z v (r ∷ rs) some h = elim (cases_Bool (same_vehicle r.vehicle.id v)
 
 stuck_fit : (z : Counts) (S : Setup) (W : World) (i element : ℕ) (here : Act) (mode : Mode) (pl : Place) → IsFitSetup z S → IsFitWorld z W → i < z.persons → IsFitAct z here → IsFitPlace z i element pl →
     AreFitOccurrences z (stuck_at S W i here mode pl)
-stuck_fit z S W i element here mode (At end) f h lt g p = tt
 stuck_fit z S W i element here mode (Teleporting start) f h lt g p = (record { person = lt; vehicle = tt; link = g.link; more = tt }, tt)
 stuck_fit z S W i element here mode (Waiting stop since) f h lt g p = (record { person = lt; vehicle = tt; link = stop_below z S stop f p; more = tt }, tt)
 stuck_fit z S W i element here mode (Riding v) f h lt g p =
     let some : 0 < z.links = (let k = g.link in omega arith) in
     (record { person = lt; vehicle = tt; link = row_below z v W.rows some (recursion_from_All (IsFitRow z) W.rows h.rows); more = tt }, tt)
-stuck_fit z S W i element here mode (Aborted l) f h lt g p = tt
+stuck_fit z S W i element here mode _ f h lt g p = tt
 
 pub stranded_fit : (z : Counts) (S : Setup) (W : World) (i : ℕ) → IsFitSetup z S → IsFitWorld z W → i < z.persons → AreFitOccurrences z (stranded S W i)
 unfolding stranded

@@ -1,13 +1,10 @@
 -- Moves that keep a world fit, and events whose numbers have names.
 use Rattle.std.specs.Prelude.{◌≡◌, ◌<◌, ℕ, List, [], ◌∷◌, length, Option, None, Some}
-use Rattle.events.specs.declared.event.Book.{Book}
-use Rattle.events.specs.declared.event.More.{More}
+use Rattle.events.specs.declared.event.{Book.Book, More.More, VehicleId.VehicleId}
 use Rattle.events.specs.declared.event.More.TheVariants as more
-use Rattle.events.specs.declared.event.VehicleId.{VehicleId}
-use Rattle.traffic.specs.declared.moves.Occurrence.{Occurrence}
-use Rattle.traffic.specs.declared.moves.Move.{Move}
+use Rattle.traffic.specs.{Moves.told, declared.moves.Move.Move}
 use Rattle.traffic.specs.declared.moves.Move.TheVariants.{Transfer, Remove, Enter, SetFrontSince, Credit, LeaveHole, Report}
-use Rattle.traffic.specs.Moves.{told}
+use Rattle.traffic.specs.declared.moves.Occurrence.{Occurrence}
 use Rattle.law_in_range.specs.Rows.{Counts, IsFitId, IsFitRow}
 
 -- a number below this, where there is one

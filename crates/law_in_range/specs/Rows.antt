@@ -1,18 +1,11 @@
 -- What holds of each vehicle and each person of a day in every second.
 use Rattle.std.specs.Prelude.{◌≡◌, ◌<◌, ◌≤◌, ℕ, ◌/◌, length, All, None, Some}
 use Rattle.limits.specs.declared.TheConstants.{LAST_SECOND, MAX_CALLS, MAX_ROUTE_LINKS, MAX_SEATS, MAX_PERSONS}
-use Rattle.events.specs.declared.event.VehicleId.{VehicleId}
+use Rattle.events.specs.declared.{event.VehicleId.VehicleId, lists.StopCall.StopCall}
 use Rattle.events.specs.declared.event.VehicleId.TheVariants as vehicle
-use Rattle.events.specs.declared.lists.StopCall.{StopCall}
-use Rattle.traffic.specs.declared.riders.Rider.{Rider}
-use Rattle.traffic.specs.declared.world.Row.{Row}
-use Rattle.traffic.specs.declared.world.Hole.{Hole}
-use Rattle.traffic.specs.declared.world.Place.{Place}
-use Rattle.traffic.specs.declared.world.Place.TheVariants.{At, Teleporting, Waiting, Riding, Aborted}
-use Rattle.traffic.specs.declared.world.Person.{Person}
-use Rattle.traffic.specs.Vehicles.{VehicleState}
-use Rattle.traffic.specs.Rows.{World, person_of}
-use Rattle.traffic.specs.Worlds.{IsSoundStage}
+use Rattle.traffic.specs.{Rows.World, Rows.person_of, Vehicles.VehicleState, Worlds.IsSoundStage, declared.riders.Rider.Rider}
+use Rattle.traffic.specs.declared.world.{Hole.Hole, Person.Person, Place.Place, Place.TheVariants.At, Place.TheVariants.Teleporting, Place.TheVariants.Waiting}
+use Rattle.traffic.specs.declared.world.{Place.TheVariants.Riding, Place.TheVariants.Aborted, Row.Row}
 
 -- how many there are of all that a day tells of, and how many legs the plan of each person has
 pub record Counts : Type 0 where

@@ -2,19 +2,10 @@
 use Rattle.std.specs.Prelude.{◌≡◌, ◌<◌, ◌≤◌, ◌+◌, ◌/◌, ℕ, true, List, [], length, get_or, All, Some}
 use Rattle.std.specs.List.{list_all}
 use Rattle.limits.specs.declared.TheConstants.{LAST_SECOND, MAX_CALLS, MAX_LEGS, MAX_ROUTE_LINKS, MAX_SEATS}
-use Rattle.rows.specs.Plan.{is_leg, are_acts}
-use Rattle.rows.specs.PlanRows.{PlanRows}
-use Rattle.rows.specs.declared.schedule.StopRow.{StopRow}
-use Rattle.rows.specs.declared.plan.Act.{Act}
-use Rattle.rows.specs.declared.plan.Leg.{Leg}
+use Rattle.rows.specs.{Plan.is_leg, Plan.are_acts, PlanRows.PlanRows, declared.plan.Act.Act, declared.plan.Leg.Leg, declared.schedule.StopRow.StopRow}
 use Rattle.rows.specs.declared.plan.Leg.TheVariants as leg
-use Rattle.traffic.specs.declared.world.Hole.{Hole}
-use Rattle.traffic.specs.Rows.{World}
-use Rattle.traffic.specs.Setup.{Setup, Departure, person_plan, act_at, leg_at}
-use Rattle.town.specs.declared.day_input.DayInput.{DayInput}
-use Rattle.town.specs.Rows.{TownRows}
-use Rattle.town.specs.Fits.{fits}
-use Rattle.town.specs.Views.{rows_of, chosen_in}
+use Rattle.traffic.specs.{Rows.World, Setup.Setup, Setup.Departure, Setup.person_plan, Setup.act_at, Setup.leg_at, declared.world.Hole.Hole}
+use Rattle.town.specs.{Fits.fits, Rows.TownRows, Views.rows_of, Views.chosen_in, declared.day_input.DayInput.DayInput}
 use Rattle.law_in_range.specs.Rows.{Counts, IsFitLink, IsFitCall}
 
 -- how many legs the plan of a person has

@@ -3,29 +3,15 @@
 ghost use Rattle.std.specs.Prelude.{◌≡◌, ◌<◌, ◌≤◌, ◌+◌, ℕ, true, List, length, All};
 ghost use Rattle.std.specs.List.{flat_map};
 ghost use Rattle.limits.specs.declared.TheConstants.{LAST_SECOND, MAX_PERSONS};
-ghost use Rattle.events.specs.Lines.{AreInBook};
-ghost use Rattle.events.specs.declared.event.Book.{Book};
-ghost use Rattle.events.specs.declared.event.Phase.{Phase};
+ghost use Rattle.events.specs.{Lines.AreInBook, declared.event.Book.Book, declared.event.Phase.Phase};
 ghost use Rattle.rows.specs.PlanRows.{PlanRows};
-ghost use Rattle.town.specs.Fits.{fits};
-ghost use Rattle.town.specs.Rows.{TownRows, IsTown};
-ghost use Rattle.town.specs.Setups.{setup_of};
-ghost use Rattle.town.specs.Views.{setup, ChosenFit};
+ghost use Rattle.town.specs.{Fits.fits, Rows.TownRows, Rows.IsTown, Setups.setup_of, Views.setup, Views.ChosenFit};
 ghost use Rattle.town.specs.declared.day_input.DayInput.{DayInput};
-ghost use Rattle.traffic.specs.declared.stage.Stage.TheVariants.{Buffer};
-ghost use Rattle.traffic.specs.declared.moves.Move.{Move};
-ghost use Rattle.traffic.specs.declared.world.Row.{Row};
-ghost use Rattle.traffic.specs.Vehicles.{VehicleState};
-ghost use Rattle.traffic.specs.Rows.{World};
-ghost use Rattle.traffic.specs.Setup.{Setup};
-ghost use Rattle.traffic.specs.Stops.{next_call};
-ghost use Rattle.traffic.specs.Moves.{told, run};
-ghost use Rattle.traffic.specs.Nodes.{next_link};
-ghost use Rattle.traffic.specs.Persons.{stranded};
-ghost use Rattle.traffic.specs.Worlds.{OnePlace, Sound};
 ghost use Rattle.traffic.specs.Day.{turns_of, count_of, turns_in, moves_of, through, keyed, world_start, world_at, day};
-ghost use Rattle.law_in_range.specs.Rows.{Counts, IsFitVehicle, IsFitRow, IsFitWorld};
-ghost use Rattle.law_in_range.specs.Moves.{AreFitMoves, IsBookOf};
+ghost use Rattle.traffic.specs.{Moves.told, Moves.run, Nodes.next_link, Persons.stranded, Rows.World, Setup.Setup, Stops.next_call};
+ghost use Rattle.traffic.specs.{Vehicles.VehicleState, Worlds.OnePlace, Worlds.Sound};
+ghost use Rattle.traffic.specs.declared.{moves.Move.Move, stage.Stage.TheVariants.Buffer, world.Row.Row};
+ghost use Rattle.law_in_range.specs.{Moves.AreFitMoves, Moves.IsBookOf, Rows.Counts, Rows.IsFitVehicle, Rows.IsFitRow, Rows.IsFitWorld};
 ghost use Rattle.law_in_range.specs.Setups.{counts_of, counts_in, IsPlanIn, IsFitSetup, HasPlans, HasItsLinks};
 
 /// The setup of a day in a town is fit, where each chosen plan fits the town; and the town's book names as many of each,

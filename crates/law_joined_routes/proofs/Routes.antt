@@ -1,30 +1,21 @@
 -- In a town routes are joined: a vehicle at the end of a link goes on along a link that begins there.
-use Rattle.traffic.proofs.Common.{◌≡◌, ℕ, zero, suc, ◌+◌, ◌/◌, ◌<◌, true, List, [], ◌∷◌, ◌∙◌, ap, refl, sym, subst, arith, inl, inr, length, get_or, All, filter, Phase}
-use Rattle.traffic.proofs.Common.{and_parts, eqb-true, ltb-true, add-one, cases_lt, get_or_past, get_or-map, length-map, All-get_or, All-from_recursion, recursion_from_All, nat_eq, nat_lt}
-use Rattle.traffic.proofs.Common.{VehicleId, PlanRows, Leg, Act, LinkRow, RouteRow, DepartureRow, World, Setup, VehicleState, Departure, next_link, through, world_start, world_at, on, departure, leg_at, leg_of}
-use Rattle.traffic.proofs.Common.{ends_of, IsOwn, IsAlong, HasRiders, IsSoundRow}
+use Rattle.traffic.proofs.Common.{◌≡◌, ℕ, zero, suc, ◌+◌, ◌/◌, ◌<◌, true, List, [], ◌∷◌, ◌∙◌, ap, refl, sym, subst, arith, inl, inr, length, get_or, All}
+use Rattle.traffic.proofs.Common.{filter, Phase, and_parts, eqb-true, ltb-true, add-one, cases_lt, get_or_past, get_or-map, length-map, All-get_or}
+use Rattle.traffic.proofs.Common.{All-from_recursion, recursion_from_All, nat_eq, nat_lt, VehicleId, PlanRows, Leg, Act, LinkRow, RouteRow, DepartureRow, World}
+use Rattle.traffic.proofs.Common.{Setup, VehicleState, Departure, next_link, through, world_start, world_at, on, departure, leg_at, leg_of, ends_of, IsOwn}
+use Rattle.traffic.proofs.{Common.IsAlong, Common.HasRiders, Common.IsSoundRow, Each.each_filter, Sublists.on_is}
+use Rattle.traffic.specs.declared.{stage.Stage.TheVariants.Buffer, world.Row.Row}
 use Rattle.std.specs.List.{AllByRecursion as Each}
 use Rattle.events.specs.declared.event.VehicleId.TheVariants as vehicle
 use Rattle.rows.specs.declared.plan.Leg.TheVariants as leg
-use Rattle.rows.specs.Joined.{ends_of_link, is_joined}
-use Rattle.rows.specs.Schedules.{is_way, are_drivable, is_route, is_departure}
-use Rattle.traffic.specs.declared.stage.Stage.TheVariants.{Buffer}
-use Rattle.traffic.specs.declared.world.Row.{Row}
-use Rattle.traffic.proofs.Each.{each_filter}
-use Rattle.traffic.proofs.Sublists.{on_is}
-use Rattle.law_in_range.specs.Rows.{Counts, IsFitRow}
-use Rattle.law_in_range.specs.Setups.{IsFitSetup, IsPlanIn, counts_in}
-use Rattle.law_in_range.proofs.Lists.{each_tested}
-use Rattle.law_in_range.proofs.Sizes.{buffer_next, buffer_next_link}
-use Rattle.law_in_range.proofs.Seconds.{start_fit, from_fit, through_fit}
+use Rattle.rows.specs.{Joined.ends_of_link, Joined.is_joined, Schedules.is_way, Schedules.are_drivable, Schedules.is_route, Schedules.is_departure}
+use Rattle.law_in_range.proofs.{Lists.each_tested, Seconds.start_fit, Seconds.from_fit, Seconds.through_fit, Sizes.buffer_next, Sizes.buffer_next_link}
 use Rattle.law_in_range.proofs.Towns.{plans_fit, town_fit}
+use Rattle.law_in_range.specs.{Rows.Counts, Rows.IsFitRow, Setups.IsFitSetup, Setups.IsPlanIn, Setups.counts_in}
 use Rattle.law_matches_plans.proofs.Towns.{town_sound}
 use Rattle.law_sound_setups.proofs.Laws.{phases_sound}
-use Rattle.town.specs.declared.day_input.DayInput.{DayInput}
-use Rattle.town.specs.Fits.{is_car_leg, leg_fits, legs_fit, fits, first_link}
-use Rattle.town.specs.Rows.{TownRows, IsTown}
-use Rattle.town.specs.Setups.{departure_of, setup_of}
-use Rattle.town.specs.Views.{rows_of, chosen_in, setup, ChosenFit}
+use Rattle.town.specs.{Fits.is_car_leg, Fits.leg_fits, Fits.legs_fit, Fits.fits, Fits.first_link, Rows.TownRows, Rows.IsTown, Setups.departure_of}
+use Rattle.town.specs.{Setups.setup_of, Views.rows_of, Views.chosen_in, Views.setup, Views.ChosenFit, declared.day_input.DayInput.DayInput}
 use Rattle.law_joined_routes.specs.Going.{GoesOn, GoOn}
 
 -- JOINED ROUTES

@@ -1,11 +1,6 @@
 -- Vehicles at the ends of links go on along links that begin there.
-use Rattle.std.specs.Prelude.{◌≡◌, ℕ, ◌<◌, length}
-use Rattle.std.specs.List.{AllByRecursion as Each}
-use Rattle.traffic.specs.declared.stage.Stage.TheVariants.{Buffer}
-use Rattle.traffic.specs.declared.world.Row.{Row}
-use Rattle.traffic.specs.Rows.{World, at}
-use Rattle.traffic.specs.Setup.{Setup, link_row}
-use Rattle.traffic.specs.Nodes.{next_link}
+use Rattle.std.specs.{List.AllByRecursion as Each, Prelude.◌≡◌, Prelude.ℕ, Prelude.◌<◌, Prelude.length}
+use Rattle.traffic.specs.{Nodes.next_link, Rows.World, Rows.at, Setup.Setup, Setup.link_row, declared.stage.Stage.TheVariants.Buffer, declared.world.Row.Row}
 
 -- a vehicle at the end of link l goes on along a link that begins there
 pub record GoesOn (S : Setup) (l : ℕ) (r : Row) : Type 0 where

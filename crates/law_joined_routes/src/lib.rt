@@ -4,8 +4,7 @@
 
 ghost use Rattle.std.specs.Prelude.{ℕ, List};
 ghost use Rattle.events.specs.declared.event.Phase.{Phase};
-ghost use Rattle.town.specs.Views.{setup, ChosenFit};
-ghost use Rattle.town.specs.declared.day_input.DayInput.{DayInput};
+ghost use Rattle.town.specs.{Views.setup, Views.ChosenFit, declared.day_input.DayInput.DayInput};
 ghost use Rattle.traffic.specs.Day.{through, world_at};
 ghost use Rattle.law_joined_routes.specs.Going.{GoOn};
 

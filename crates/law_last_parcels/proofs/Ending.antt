@@ -1,15 +1,10 @@
 -- With which partition a person ends.
-use Rattle.traffic.proofs.Common.{◌≡◌, ◌≢◌, ◌⊎◌, ℕ, zero, suc, ◌+◌, ◌<◌, ◌≤◌, Bool, true, false, []}
-use Rattle.traffic.proofs.Common.{◌∷◌, ◌∙◌}
-use Rattle.traffic.proofs.Common.{ap, refl, sym, arith, inl, inr, cases_Bool, and_parts, true≢false, eqb, eqb-true, eqb-false}
-use Rattle.traffic.proofs.Common.{list_any, ◌&&◌, ◌||◌, Setup, below}
+use Rattle.traffic.proofs.Common.{◌≡◌, ◌≢◌, ◌⊎◌, ℕ, zero, suc, ◌+◌, ◌<◌, ◌≤◌, Bool, true, false, [], ◌∷◌, ◌∙◌, ap, refl, sym, arith, inl, inr, cases_Bool}
+use Rattle.traffic.proofs.Common.{and_parts, true≢false, eqb, eqb-true, eqb-false, list_any, ◌&&◌, ◌||◌, Setup, below}
 use Rattle.std.specs.Prelude.{is_some}
-use Rattle.parts.specs.Owners.{Owner, near, lag}
-use Rattle.parts.specs.Parts.{Parcel, held, out, sent_last, carries, ends_with}
+use Rattle.parts.specs.{Owners.Owner, Owners.near, Owners.lag, Parts.Parcel, Parts.held, Parts.out, Parts.sent_last, Parts.carries, Parts.ends_with}
+use Rattle.law_partitions.proofs.{Enders.or_true, Enders.or_either, Joined.any_number, Whole.near-both, Whole.near_part}
 use Rattle.law_partitions.specs.Laws.{IsOwner}
-use Rattle.law_partitions.proofs.Enders.{or_true, or_either}
-use Rattle.law_partitions.proofs.Joined.{any_number}
-use Rattle.law_partitions.proofs.Whole.{near-both, near_part}
 use Rattle.law_last_parcels.specs.Last.{IsSent, EndsSo}
 use Rattle.law_last_parcels.proofs.Some.{any_front, any_behind, front_or_behind, only_one, some_of}
 

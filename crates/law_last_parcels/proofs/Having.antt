@@ -1,30 +1,17 @@
 -- Whom a partition has is as in the day, and who of them rides is listed on the link of his vehicle alone.
-use Rattle.traffic.proofs.Common.{◌≡◌, ℕ, zero, suc, ◌-◌, ◌<◌, ◌≤◌, Bool, true, false, List, [], ◌∷◌, ◌∙◌}
-use Rattle.traffic.proofs.Common.{ap, refl, sym, subst, arith, inl, inr, cases_Bool, cases_lt, and_parts, not, eqb, eqb-true, eq-eqb}
-use Rattle.traffic.proofs.Common.{ltb-true, ltb-false, not-true, nat_lt, length, take, filter, ◌&&◌, Some, Option, VehicleId, Setup}
-use Rattle.traffic.proofs.Common.{World, person_of, at, on, rank}
-use Rattle.traffic.proofs.Common.{world_at, link_of_vehicle, listed, IsListed, recursion_from_All}
-use Rattle.std.specs.Prelude.{is_some}
-use Rattle.std.specs.List.{AllByRecursion as Each}
-use Rattle.traffic.specs.declared.stage.Stage.{Stage}
-use Rattle.traffic.specs.declared.stage.Stage.TheVariants.{Queue, Buffer, Wait, Bay}
-use Rattle.traffic.specs.declared.world.Person.{Person}
-use Rattle.traffic.specs.declared.world.Place.TheVariants.{Riding}
-use Rattle.traffic.specs.declared.world.Row.{Row}
-use Rattle.traffic.proofs.Each.{each_weaker}
-use Rattle.law_in_range.specs.Rows.{Counts, IsFitRow}
-use Rattle.law_in_range.specs.Setups.{IsFitSetup}
+use Rattle.traffic.proofs.Common.{◌≡◌, ℕ, zero, suc, ◌-◌, ◌<◌, ◌≤◌, Bool, true, false, List, [], ◌∷◌, ◌∙◌, ap, refl, sym, subst, arith, inl, inr, cases_Bool}
+use Rattle.traffic.proofs.Common.{cases_lt, and_parts, not, eqb, eqb-true, eq-eqb, ltb-true, ltb-false, not-true, nat_lt, length, take, filter, ◌&&◌, Some}
+use Rattle.traffic.proofs.Common.{Option, VehicleId, Setup, World, person_of, at, on, rank, world_at, link_of_vehicle, listed, IsListed, recursion_from_All}
+use Rattle.traffic.specs.declared.stage.Stage.{Stage, TheVariants.Queue, TheVariants.Buffer, TheVariants.Wait, TheVariants.Bay}
+use Rattle.traffic.{specs.declared.world.Person.Person, specs.declared.world.Place.TheVariants.Riding, specs.declared.world.Row.Row, proofs.Each.each_weaker}
+use Rattle.std.specs.{List.AllByRecursion as Each, Prelude.is_some}
+use Rattle.law_in_range.specs.{Rows.Counts, Rows.IsFitRow, Setups.IsFitSetup}
 use Rattle.law_one_place.proofs.Places.{rides}
 use Rattle.law_sound_setups.specs.Setups.{IsSoundSetup}
 use Rattle.parts.specs.Owners.{Owner, owner_of, owner_of_person, link_of_rider, lag}
 use Rattle.parts.specs.Parts.{late_rows, all_late, known_list, mine, is_person, knows_of, has, unheard, held}
-use Rattle.law_partitions.specs.Laws.{SecondsAreLocal}
-use Rattle.law_partitions.proofs.Home.{has-is}
-use Rattle.law_partitions.proofs.Enders.{some_mine}
-use Rattle.law_partitions.proofs.Calms.{listed_in_one}
-use Rattle.law_partitions.proofs.Listing.{listed_home}
-use Rattle.law_partitions.proofs.Owning.{all_some}
-use Rattle.law_partitions.proofs.Tells.{listed-cons, listed-append}
+use Rattle.law_partitions.proofs.{Calms.listed_in_one, Enders.some_mine, Home.has-is, Listing.listed_home, Owning.all_some, Tells.listed-cons}
+use Rattle.law_partitions.{proofs.Tells.listed-append, specs.Laws.SecondsAreLocal}
 use Rattle.law_own_worlds.proofs.Knowing.{fit_at}
 use Rattle.law_last_parcels.specs.Last.{IsListedOn, HasThem}
 

@@ -1,41 +1,20 @@
 -- Until a parcel is absorbed, those who are in it are as it says.
-use Rattle.traffic.proofs.Common.{◌≡◌, ℕ, suc, ◌+◌, ◌-◌, ◌<◌, ◌≤◌, Bool, true, false, List, [], ◌∷◌}
-use Rattle.traffic.proofs.Common.{◌++◌, ◌∙◌}
-use Rattle.traffic.proofs.Common.{ap, refl, sym, subst, arith, inl, inr, cases_Bool, cases_lt, and_parts, not, true≢false, eqb, eqb-true}
-use Rattle.traffic.proofs.Common.{eq-eqb}
-use Rattle.traffic.proofs.Common.{lt-ltb, ltb-true, length, length-append, sum_by-cons, flat_map, map, filter, list_any}
-use Rattle.traffic.proofs.Common.{if◌then◌else◌}
-use Rattle.traffic.proofs.Common.{◌&&◌, ◌||◌, Some, VehicleId, Setup, World, person_of, at, on, world_at, below, link_of_vehicle}
-use Rattle.traffic.proofs.Common.{listed, IsListed}
+use Rattle.traffic.proofs.Common.{◌≡◌, ℕ, suc, ◌+◌, ◌-◌, ◌<◌, ◌≤◌, Bool, true, false, List, [], ◌∷◌, ◌++◌, ◌∙◌, ap, refl, sym, subst, arith, inl, inr}
+use Rattle.traffic.proofs.Common.{cases_Bool, cases_lt, and_parts, not, true≢false, eqb, eqb-true, eq-eqb, lt-ltb, ltb-true, length, length-append, sum_by-cons}
+use Rattle.traffic.proofs.Common.{flat_map, map, filter, list_any, if◌then◌else◌, ◌&&◌, ◌||◌, Some, VehicleId, Setup, World, person_of, at, on, world_at, below}
+use Rattle.traffic.proofs.{Common.link_of_vehicle, Common.listed, Common.IsListed, Each.each_map, Each.each_flat_all}
+use Rattle.traffic.specs.declared.{moves.Move.Move, moves.Move.TheVariants.Transfer, riders.Rider.Rider, stage.Stage.TheVariants.Queue}
+use Rattle.traffic.specs.declared.world.{Person.Person, Place.TheVariants.Teleporting, Place.TheVariants.Riding, Row.Row}
 use Rattle.std.specs.List.{AllByRecursion as Each}
-use Rattle.traffic.specs.declared.moves.Move.{Move}
-use Rattle.traffic.specs.declared.moves.Move.TheVariants.{Transfer}
-use Rattle.traffic.specs.declared.riders.Rider.{Rider}
-use Rattle.traffic.specs.declared.stage.Stage.TheVariants.{Queue}
-use Rattle.traffic.specs.declared.world.Person.{Person}
-use Rattle.traffic.specs.declared.world.Place.TheVariants.{Teleporting, Riding}
-use Rattle.traffic.specs.declared.world.Row.{Row}
-use Rattle.traffic.proofs.Each.{each_map, each_flat_all}
-use Rattle.law_one_place.proofs.Places.{among_riders}
-use Rattle.law_one_place.proofs.Boarding.{one_rider}
+use Rattle.law_one_place.proofs.{Boarding.one_rider, Places.among_riders}
 use Rattle.law_sound_setups.specs.Setups.{IsSoundSetup}
 use Rattle.parts.specs.Owners.{Owner, owner_of, begins_in, crosses, leads, near, lag}
-use Rattle.parts.specs.Parts.{Passed, Flight, Parcel, passed, came, came_last, rides_in, flies_from, flight_from, enters_queue}
-use Rattle.parts.specs.Parts.{node_phase_moves, out, carries}
-use Rattle.law_partitions.specs.Alone.{riding, flying, person_in}
-use Rattle.law_partitions.specs.Laws.{IsOwner}
-use Rattle.law_partitions.specs.Premises.{Lawful, Arrivals}
-use Rattle.law_partitions.proofs.Lags.{lag-some, lag-down, in_range}
-use Rattle.law_partitions.proofs.History.{known, known_tail}
-use Rattle.law_partitions.proofs.Joined.{out-rows}
-use Rattle.law_partitions.proofs.Tells.{listed-cons, listed-append}
-use Rattle.law_partitions.proofs.Listing.{listed_home}
-use Rattle.law_partitions.proofs.Calms.{listed_in_one}
-use Rattle.law_partitions.proofs.Carried.{in_last, by_rows, carried, flown}
-use Rattle.law_partitions.proofs.Riders.{rider_link}
-use Rattle.law_partitions.proofs.Absorbing.{Only, brought, find_lead, parcel_brings}
-use Rattle.law_partitions.proofs.Absorbed.{near_other}
-use Rattle.law_partitions.proofs.Enders.{or_true, or_either, is_his, from_flights, parcel_rows, carries_is}
+use Rattle.parts.specs.Parts.{Passed, Flight, Parcel, passed, came, came_last, rides_in, flies_from, flight_from, enters_queue, node_phase_moves, out, carries}
+use Rattle.law_partitions.proofs.{Absorbed.near_other, Absorbing.Only, Absorbing.brought, Absorbing.find_lead, Absorbing.parcel_brings, Calms.listed_in_one}
+use Rattle.law_partitions.proofs.{Carried.in_last, Carried.by_rows, Carried.carried, Carried.flown, Enders.or_true, Enders.or_either, Enders.is_his}
+use Rattle.law_partitions.proofs.{Enders.from_flights, Enders.parcel_rows, Enders.carries_is, History.known, History.known_tail, Joined.out-rows, Lags.lag-some}
+use Rattle.law_partitions.proofs.{Lags.lag-down, Lags.in_range, Listing.listed_home, Riders.rider_link, Tells.listed-cons, Tells.listed-append}
+use Rattle.law_partitions.specs.{Alone.riding, Alone.flying, Alone.person_in, Laws.IsOwner, Premises.Lawful, Premises.Arrivals}
 use Rattle.law_last_parcels.specs.Last.{RideSo, FliesSo, IsStillSo}
 
 -- ALL OF THEM HIS

@@ -1,6 +1,5 @@
 -- Lists of which some pass a test.
-use Rattle.traffic.proofs.Common.{◌≡◌, ◌⊎◌, ℕ, Bool, true, false, List, [], ◌∷◌, ◌++◌, sym, refl, inl, inr}
-use Rattle.traffic.proofs.Common.{cases_Bool, true≢false, list_any}
+use Rattle.traffic.proofs.Common.{◌≡◌, ◌⊎◌, ℕ, Bool, true, false, List, [], ◌∷◌, ◌++◌, sym, refl, inl, inr, cases_Bool, true≢false, list_any}
 
 pub any_front : {X : Type 0} (f : X → Bool) (xs ys : List X) → list_any f xs ≡ true → list_any f (xs ++ ys) ≡ true
 any_front f [] ys e = absurd (true≢false (sym e))

@@ -2,14 +2,9 @@
 use Rattle.std.specs.Prelude.{◌≡◌, ℕ, ◌+◌, ◌<◌, ◌≤◌, ◌⊎◌, true, List, [], ◌∷◌, length, is_some, Some}
 use Rattle.std.specs.List.{AllByRecursion as Each}
 use Rattle.events.specs.declared.event.VehicleId.{VehicleId}
-use Rattle.traffic.specs.declared.riders.Rider.{Rider}
-use Rattle.traffic.specs.declared.stage.Stage.{Stage}
+use Rattle.traffic.specs.{Day.world_at, Persons.link_of_vehicle, Rows.World, Rows.person_of, Setup.Setup, Worlds.listed}
+use Rattle.traffic.specs.declared.{riders.Rider.Rider, stage.Stage.Stage}
 use Rattle.traffic.specs.declared.world.Place.TheVariants as place
-use Rattle.traffic.specs.Rows.{World, person_of}
-use Rattle.traffic.specs.Setup.{Setup}
-use Rattle.traffic.specs.Persons.{link_of_vehicle}
-use Rattle.traffic.specs.Worlds.{listed}
-use Rattle.traffic.specs.Day.{world_at}
 use Rattle.parts.specs.Owners.{Owner, owner_of, near, lag}
 use Rattle.parts.specs.Parts.{Passed, Flight, Parcel, held, out, carries, ends_with}
 

@@ -4,10 +4,8 @@
 
 ghost use Rattle.std.specs.Prelude.{ℕ};
 ghost use Rattle.traffic.specs.Setup.{Setup};
-ghost use Rattle.law_in_range.specs.Rows.{Counts};
-ghost use Rattle.law_in_range.specs.Setups.{IsFitSetup};
-ghost use Rattle.law_sound_setups.specs.Setups.{IsSoundSetup};
-ghost use Rattle.law_sound_setups.specs.Consistent.{IsConsistentSetup};
+ghost use Rattle.law_in_range.specs.{Rows.Counts, Setups.IsFitSetup};
+ghost use Rattle.law_sound_setups.specs.{Consistent.IsConsistentSetup, Setups.IsSoundSetup};
 ghost use Rattle.parts.specs.Owners.{Owner};
 ghost use Rattle.law_partitions.specs.Laws.{IsOwner};
 ghost use Rattle.law_last_parcels.specs.Last.{LastAreSo, HasThem, EndsSo};

@@ -1,30 +1,21 @@
 -- Turns, phases, seconds and the day do their part to one person, and at its end who is under way is stuck.
-use Rattle.traffic.proofs.Common.{◌≡◌, ℕ, List, ◌∙◌, length, ap, refl, sym, [], ◌∷◌, arith, ◌<◌, ◌++◌, ◌+◌, inl, inr, subst, ◌≤◌, false, suc, eqb, zero, ◌-◌}
-use Rattle.traffic.proofs.Common.{get_or, append-nil, ◌/◌, ◌*◌, cases_Bool, eqb-true, cases_lt, eq-eqb, eqb-false, ne_eqb, length-map, get_or-map, map-append}
-use Rattle.traffic.proofs.Common.{filter-append, flat_map, map, filter, Some, None, Option, phase_code, Event, Mode, Phase, PlanRows, Act, first_end}
-use Rattle.traffic.proofs.Common.{world_at, link_turns, moves_of, after, turns_of, turns_in, world_start, keyed, through, world_from, events_from, count_of}
-use Rattle.traffic.proofs.Common.{phases, events_in, Turn, day, end_events, told_in, at_home, events_of, below, numbers, run, done, told, stuck_at, stranded}
-use Rattle.traffic.proofs.Common.{mode_of_leg, World, person_of, at, nobody, Setup, leg_at, act_at, person_plan}
-use Rattle.traffic.specs.declared.moves.Move.{Move}
-use Rattle.traffic.specs.declared.moves.Occurrence.{Occurrence}
-use Rattle.traffic.specs.declared.world.Person.{Person}
-use Rattle.traffic.specs.declared.world.Place.{Place}
-use Rattle.traffic.specs.declared.world.Place.TheVariants.{At, Teleporting, Waiting, Riding, Aborted}
-use Rattle.traffic.specs.declared.world.Row.{Row}
-use Rattle.std.specs.List.{AllByRecursion as Each}
-use Rattle.std.proofs.lemmas.List.{length-append}
-use Rattle.std.proofs.lemmas.List.Concat.{flat_map-append}
+use Rattle.traffic.proofs.Common.{◌≡◌, ℕ, List, ◌∙◌, length, ap, refl, sym, [], ◌∷◌, arith, ◌<◌, ◌++◌, ◌+◌, subst, ◌≤◌, false, suc, eqb, zero, ◌-◌, get_or}
+use Rattle.traffic.proofs.Common.{append-nil, ◌/◌, ◌*◌, eq-eqb, length-map, get_or-map, map-append, filter-append, flat_map, map, filter, None, phase_code}
+use Rattle.traffic.proofs.Common.{Event, Mode, Phase, PlanRows, Act, first_end, world_at, link_turns, moves_of, after, turns_of, turns_in, world_start, keyed}
+use Rattle.traffic.proofs.Common.{through, world_from, events_from, count_of, phases, events_in, Turn, day, end_events, told_in, at_home, events_of, below, run}
+use Rattle.traffic.proofs.Common.{done, told, stuck_at, stranded, mode_of_leg, World, person_of, at, nobody, Setup, leg_at, act_at, person_plan}
+use Rattle.traffic.proofs.{Each.each_all, Moments.Along, Sublists.run-append, Turns.filter_one, Walks.IsWalk, Walks.phase_walk}
+use Rattle.traffic.specs.declared.{moves.Move.Move, moves.Occurrence.Occurrence, world.Person.Person, world.Place.Place}
+use Rattle.traffic.specs.declared.world.Place.TheVariants.{At, Aborted}
+use Rattle.std.proofs.lemmas.List.{length-append, Concat.flat_map-append}
 use Rattle.events.specs.declared.event.Phase.TheVariants as phase
 use Rattle.events.specs.declared.event.Word.TheVariants as word
-use Rattle.traffic.proofs.Sublists.{run-append}
-use Rattle.traffic.proofs.Moments.{Along}
-use Rattle.traffic.proofs.Walks.{IsWalk, phase_walk}
-use Rattle.law_one_place.proofs.Places.{InOne}
-use Rattle.law_one_place.proofs.Turns.{turn_keeps, start_kept}
+use Rattle.law_one_place.proofs.{Places.InOne, Turns.turn_keeps, Turns.start_kept}
 use Rattle.events.specs.Persons.{names, of_person, is_step}
+use Rattle.law_matches_plans.proofs.Events.{IsPlan, IsLast, own, told_steps, steps_append, Rest, worth, HasLeg, has_leg, IsFitAt}
+use Rattle.law_matches_plans.proofs.Turns.{MayAlight, IsSane, Good, Passes, passes_append, passes_none, moves_pass, link_along, node_along, flight_along}
+use Rattle.law_matches_plans.proofs.Turns.{leave_along, departure_along}
 use Rattle.law_matches_plans.specs.Trips.{Places, anywhere, leg, legs, IsPlanned, steps, InTurn}
-use Rattle.law_matches_plans.proofs.Events.{IsPlan, IsLast, own, told_steps, steps_append, Rest, worth, HasLeg, IsFitAt}
-use Rattle.law_matches_plans.proofs.Turns.{AlightsAt, MayAlight, IsSane, Good, Passes, passes_append, passes_none, moves_pass, link_along, node_along, flight_along, leave_along, departure_along}
 
 -- What keeps a person's events at these places: a predicate of worlds that a day has at its start and that turns keep, and by which whoever
 -- alights in a link's turn does so at a place that will do.
@@ -87,11 +78,11 @@ bare_events t p (u ∷ us) =
 
 bare_own : (i : ℕ) (es : List Event) → own i (bare es) ≡ bare (filter (of_person i) es)
 bare_own i [] = refl
-bare_own i (e ∷ es) = elim (cases_Bool (names i e.person)) [ inl q ↦ simp q (ap (λ ys. unkeyed e ∷ ys) (bare_own i es)) | inr q ↦ simp q (bare_own i es) ]
+bare_own i (e ∷ es) = grind (arith, bare_own i es)
 
 bare_steps : (es : List Event) → told_steps (bare es) ≡ map (λ (e : Event). (e.word, e.link, e.more)) (filter (λ (e : Event). is_step e.word) es)
 bare_steps [] = refl
-bare_steps (e ∷ es) = elim (cases_Bool (is_step e.word)) [ inl q ↦ simp q (ap (λ ys. (e.word, e.link, e.more) ∷ ys) (bare_steps es)) | inr q ↦ simp q (bare_steps es) ]
+bare_steps (e ∷ es) = grind (arith, bare_steps es)
 
 steps_are : (i : ℕ) (es : List Event) → told_steps (own i (bare es)) ≡ steps i es
 unfolding steps
@@ -131,66 +122,58 @@ Ends A S i P es = Rest A S i P (told_steps es) × (length es ≤ worth S i P) ×
 
 stuck_ends : (A : Places) (S : Setup) (W : World) (i e : ℕ) (here : Act) (pl : Place) → Ends A S i (record { element = e; place = pl }) (own i (stuck_at S W i here (mode_of_leg (leg S i (e / 2))) pl))
 stuck_ends A S W i e here (At end) = (tt, omega arith, tt)
-stuck_ends A S W i e here (Teleporting start) = let q = eq-eqb i i refl in simp q ((refl, tt, refl), omega arith, ((λ k. refl), tt))
-stuck_ends A S W i e here (Waiting stop since) = let q = eq-eqb i i refl in simp q ((refl, tt, refl), omega arith, ((λ k. refl), tt))
-stuck_ends A S W i e here (Riding v) = let q = eq-eqb i i refl in simp q ((refl, tt, refl), omega arith, ((λ k. refl), tt))
 stuck_ends A S W i e here (Aborted l) = (refl, omega arith, tt)
+stuck_ends A S W i e here _ = let q = eq-eqb i i refl in simp q ((refl, tt, refl), omega arith, ((λ k. refl), tt))
 
-own_none : (S : Setup) (W : World) (i k n : ℕ) → i < k → own i (flat_map (stranded S W) (numbers k n)) ≡ []
+-- of all persons he alone tells of himself
+own_those : (S : Setup) (W : World) (i : ℕ) (ns : List ℕ) → own i (flat_map (stranded S W) ns) ≡ own i (flat_map (stranded S W) (filter (λ j. eqb j i) ns))
 unfolding stranded
-own_none S W i k zero lt = refl
-own_none S W i k (suc n) lt =
-    let P = person_of k W in
-    rw (filter-append (λ (e : Occurrence). names i e.person) (stranded S W k) (flat_map (stranded S W) (numbers (k + 1) n)), stuck_other S W k i (act_at S k P.element) (mode_of_leg (leg_at S k P.element)) P.place (ne_eqb k i (λ q. omega arith)))
-    (own_none S W i (k + 1) n (omega arith))
+own_those S W i [] = refl
+own_those S W i (j ∷ ns) =
+    let P = person_of j W in
+    let split = filter-append (λ (e : Occurrence). names i e.person) (stranded S W j) in
+    grind (
+      arith,
+      own_those S W i ns,
+      stuck_other S W j i (act_at S j P.element) (mode_of_leg (leg_at S j P.element)) P.place,
+      split (flat_map (stranded S W) ns),
+      split (flat_map (stranded S W) (filter (λ j. eqb j i) ns)),
+    )
 
-own_one : (S : Setup) (W : World) (i k n : ℕ) → k ≤ i → i < k + n → own i (flat_map (stranded S W) (numbers k n)) ≡ own i (stranded S W i)
-unfolding stranded
-own_one S W i k zero le lt = absurd (omega arith)
-own_one S W i k (suc n) le lt =
-    let P = person_of k W in
-    elim (cases_Bool (eqb k i)) [
-      | inl q ↦
-          let e = eqb-true k i q in
-          rw (filter-append (λ (e : Occurrence). names i e.person) (stranded S W k) (flat_map (stranded S W) (numbers (k + 1) n)), own_none S W i (k + 1) n (omega arith)) (append-nil _ ∙ ap (λ (x : ℕ). own i (stranded S W x)) e)
-      | inr q ↦
-          let ne = eqb-false k i q in
-          let lt2 : k < i = elim (cases_lt k i) [ inl a ↦ a | inr b ↦ absurd (ne (omega arith)) ] in
-          rw (filter-append (λ (e : Occurrence). names i e.person) (stranded S W k) (flat_map (stranded S W) (numbers (k + 1) n)), stuck_other S W k i (act_at S k P.element) (mode_of_leg (leg_at S k P.element)) P.place q)
-          (own_one S W i (k + 1) n (omega arith) (omega arith))
-    ]
+own_one : (S : Setup) (W : World) (i n : ℕ) → i < n → own i (flat_map (stranded S W) (below n)) ≡ own i (stranded S W i)
+own_one S W i n lt =
+    own_those S W i (below n) ∙ ap (λ ns. own i (flat_map (stranded S W) ns)) (filter_one i 0 n (omega arith) (omega arith))
+    ∙ ap (own i) (append-nil (stranded S W i))
 
 bare_end : (S : Setup) (t : ℕ) (W : World) (ns : List ℕ) → bare (flat_map (λ j. keyed t (phase_code phase.E) j 0 (stranded S W j)) ns) ≡ flat_map (stranded S W) ns
 bare_end S t W [] = refl
 bare_end S t W (j ∷ ns) =
-    map-append unkeyed (keyed t (phase_code phase.E) j 0 (stranded S W j)) _ ∙ ap (λ (xs : List Occurrence). xs ++ bare (flat_map (λ j. keyed t (phase_code phase.E) j 0 (stranded S W j)) ns)) (bare_keyed t (phase_code phase.E) j 0 (stranded S W j))
-    ∙ ap (λ (xs : List Occurrence). stranded S W j ++ xs) (bare_end S t W ns)
+    rw (
+      map-append unkeyed (keyed t (phase_code phase.E) j 0 (stranded S W j)) _,
+      bare_keyed t (phase_code phase.E) j 0 (stranded S W j),
+      bare_end S t W ns,
+    ) refl
 
 end_ends : (A : Places) (S : Setup) (t i : ℕ) (W : World) → i < length S.persons → Ends A S i (person_of i W) (own i (bare (end_events S t W)))
 unfolding end_events stranded
 end_ends A S t i W lt =
     let P = person_of i W in
-    rw (bare_end S t W (below (length S.persons)), own_one S W i 0 (length S.persons) (omega arith) (omega arith)) (stuck_ends A S W i P.element (act_at S i P.element) P.place)
+    rw (bare_end S t W (below (length S.persons)), own_one S W i (length S.persons) lt) (stuck_ends A S W i P.element (act_at S i P.element) P.place)
 
 -- THE WHOLE DAY
 start_is : (S : Setup) (i : ℕ) → i < length S.persons → person_of i (world_start S) ≡ at_home (person_plan S i)
 unfolding world_start
 start_is S i lt = let none : PlanRows = record { acts = []; legs = [] } in get_or-map at_home S.persons i none nobody lt
 
-first_leg : (n : ℕ) (end : Option ℕ) → (n ≤ 0 → end ≡ None) → HasLeg n 0 end
-first_leg n None h = tt
-first_leg n (Some x) h = elim (cases_lt 0 n) [ inl lt ↦ lt | inr ge ↦ let q = h ge in absurd (cc) ]
-
 first_act : (stays : List Act) (n : ℕ) → (n ≤ 0 → (get_or stays 0 (record { kind = 0; link = 0; end = None })).end ≡ None) → HasLeg n 0 (first_end stays)
 first_act [] n h = tt
-first_act (s ∷ ss) n h = first_leg n s.end h
+first_act (s ∷ ss) n h = has_leg n 0 s.end h
 
 start_fine : (A : Places) (S : Setup) (i : ℕ) (B : World → Type 0) → Keeps A S i B → i < length S.persons → IsFine S i B (world_start S)
 unfolding world_start
 start_fine A S i B k lt =
     let p = k.plan.planned in
     let one = start_kept S in
-    let row = one.one_row in
     let home : IsFitAt S i 0 (At (first_end (person_plan S i).acts)) = (refl, first_act (person_plan S i).acts (legs S i) (p.last 0)) in
     record { in_one = record { there = omega arith; listed = one.one_place i lt }; sane = record { calls = refl; kinds = refl; drivers = refl; fit = rw (start_is S i lt) home }; kept = k.start }
 
@@ -205,19 +188,16 @@ has_day A S i B k lt =
     let V = world_at S S.settings.end_second in
     let xs = bare (events_from S W S.settings.end_second) in
     let ys = bare (end_events S S.settings.end_second V) in
-    let goes = (from_goes A S i B W S.settings.end_second k (start_fine A S i B k lt)).0 in
-    let f = goes.0 in
-    let last = goes.1 in
+    let f = (from_goes A S i B W S.settings.end_second k (start_fine A S i B k lt)).0 in
     let g = end_ends A S S.settings.end_second i V lt in
-    let all : bare (day S) ≡ xs ++ ys = map-append unkeyed (events_from S W S.settings.end_second) (end_events S S.settings.end_second V) in
-    let own_all : own i (bare (day S)) ≡ own i xs ++ own i ys = ap (own i) all ∙ filter-append (λ (e : Occurrence). names i e.person) xs ys in
+    let own_all : own i (bare (day S)) ≡ own i xs ++ own i ys =
+    ap (own i) (map-append unkeyed (events_from S W S.settings.end_second) (end_events S S.settings.end_second V))
+    ∙ filter-append (λ (e : Occurrence). names i e.person) xs ys in
     let told : steps i (day S) ≡ told_steps (own i xs) ++ told_steps (own i ys) = sym (steps_are i (day S)) ∙ ap told_steps own_all ∙ steps_append (own i xs) (own i ys) in
     let count : length (filter (of_person i) (day S)) ≡ length (own i xs) + length (own i ys) = sym (count_is i (day S)) ∙ ap (λ (es : List Occurrence). length es) own_all ∙ length-append (own i xs) (own i ys) in
-    let c = f.cost in
-    let d = g.1 in
     let home = start_is S i lt in
     let start : worth S i (person_of i W) ≡ 8 * (legs S i - 0) = ap (worth S i) home in
-    (rw told (subst (λ (P : Person). Rest A S i P (told_steps (own i xs) ++ told_steps (own i ys))) home (f.leads (told_steps (own i ys)) g.0)), omega arith, subst IsLast (sym own_all ∙ bare_own i (day S)) (last (own i ys) (omega arith) g.2))
+    (rw told (subst (λ (P : Person). Rest A S i P (told_steps (own i xs) ++ told_steps (own i ys))) home (f.0.leads (told_steps (own i ys)) g.0)), omega arith, subst IsLast (sym own_all ∙ bare_own i (day S)) (f.1 (own i ys) (omega arith) g.2))
 
 -- after the event by which he is stuck nothing follows
 last_at : (before later : List Event) (e : Event) → IsLast (bare (before ++ e ∷ later)) → e.word ≡ word.StuckAndAbort → later ≡ []
@@ -227,13 +207,9 @@ last_at (b ∷ before) later e h q = last_at before later e h.1 q
 
 -- ANYWHERE
 -- nothing is asked of a place that may be anywhere
-all_rows : (i l element : ℕ) (rows : List Row) → Each (λ (r : Row). AlightsAt anywhere i l element r.vehicle) rows
-all_rows i l element [] = tt
-all_rows i l element (r ∷ rs) = (((λ e h. tt), (λ e f h. tt)), all_rows i l element rs)
-
 all_moves : (S : Setup) (t i : ℕ) (ms : List Move) (W : World) → Along (λ V m. MayAlight anywhere i V) S t ms W
 all_moves S t i [] W = tt
-all_moves S t i (m ∷ ms) W = ((λ l s. all_rows i l (person_of i W).element (at l s W)), all_moves S t i ms (done S t m W))
+all_moves S t i (m ∷ ms) W = ((λ l s. each_all _ (λ r. ((λ e h. tt), (λ e f h. tt))) (at l s W)), all_moves S t i ms (done S t m W))
 
 keeps_anywhere : (S : Setup) (i : ℕ) → IsPlanned S i → Keeps anywhere S i (λ W. Unit {0})
 keeps_anywhere S i p =

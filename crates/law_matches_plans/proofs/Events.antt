@@ -1,28 +1,18 @@
 -- What events do to one person: the steps that they tell, how much of his day they use up, and where they leave him.
 use Rattle.traffic.proofs.Common.{◌≡◌, ℕ, List, ◌∙◌, length, ap, refl, sym, [], ◌∷◌, arith, ◌<◌, true, ◌++◌, ◌+◌, Bool, inl, inr, subst, ◌≤◌, false, eqb, ◌-◌}
-use Rattle.traffic.proofs.Common.{◌≢◌, append_assoc, ◌/◌, ◌⊎◌, ◌*◌, cases_Bool, eqb-true, and_parts, cases_lt, eq-eqb, map-append, All-head, All-tail}
-use Rattle.traffic.proofs.Common.{filter-append, All-nil, All-cons, sum_by-le-sum_by, sum_by-cons, flat_map, map, filter, Some, None, not, Option, ◌&&◌}
-use Rattle.traffic.proofs.Common.{if◌then◌else◌, All, ◌==◌, count_by, Mode, VehicleId, Act, Leg, person_after_all, person_after, told_of, ends_at, departs}
-use Rattle.traffic.proofs.Common.{lands, mode_of_leg, Setup, act_at, told_to, told_transfer, told_removal, of_rider, mode_in, arrives, enters, leaves, starts}
-use Rattle.traffic.proofs.Common.{strands, of_driver, of_person}
-use Rattle.traffic.specs.declared.moves.Occurrence.{Occurrence}
-use Rattle.traffic.specs.declared.riders.Rider.{Rider}
-use Rattle.traffic.specs.declared.stage.Stage.{Stage}
-use Rattle.traffic.specs.declared.stage.Stage.TheVariants.{Queue, Buffer, Wait, Bay}
-use Rattle.traffic.specs.declared.world.Person.{Person}
-use Rattle.traffic.specs.declared.world.Place.{Place}
-use Rattle.traffic.specs.declared.world.Place.TheVariants.{At, Teleporting, Waiting, Riding, Aborted}
-use Rattle.traffic.specs.declared.world.Row.{Row}
-use Rattle.std.proofs.lemmas.List.{length-append}
-use Rattle.std.specs.List.{AllByRecursion as Each}
-use Rattle.events.specs.declared.event.VehicleId.TheVariants.{Car, Transit}
+use Rattle.traffic.proofs.Common.{◌≢◌, append_assoc, ◌/◌, ◌⊎◌, ◌*◌, cases_Bool, eq-eqb, map-append, All-head, All-tail, filter-append, All-nil, All-cons}
+use Rattle.traffic.proofs.Common.{sum_by-le-sum_by, sum_by-cons, flat_map, map, filter, Some, None, not, Option, ◌&&◌, if◌then◌else◌, All, ◌==◌, count_by, Mode}
+use Rattle.traffic.proofs.Common.{VehicleId, Act, Leg, person_after_all, person_after, told_of, ends_at, departs, lands, mode_of_leg, Setup, act_at, told_to}
+use Rattle.traffic.proofs.Common.{told_transfer, told_removal, of_rider, mode_in, arrives, enters, leaves, starts, strands, of_driver, of_person, nat_tests}
+use Rattle.traffic.proofs.{Each.each_kept, Each.each_weaker, LeftBehind.serving_stage, LeftBehind.after-append, Waiting.Calm, Waiting.Calm_word}
+use Rattle.traffic.specs.declared.{moves.Occurrence.Occurrence, riders.Rider.Rider, world.Person.Person, world.Place.Place, world.Place.TheVariants.At}
+use Rattle.traffic.specs.declared.world.{Place.TheVariants.Teleporting, Place.TheVariants.Waiting, Place.TheVariants.Riding, Place.TheVariants.Aborted, Row.Row}
+use Rattle.std.{proofs.lemmas.List.length-append, proofs.lemmas.List.nil_from_length, specs.List.AllByRecursion as Each}
+use Rattle.events.specs.{Persons.names, Persons.is_step, declared.event.VehicleId.TheVariants.Car, declared.event.VehicleId.TheVariants.Transit}
 use Rattle.events.specs.declared.event.Mode.TheVariants as mode
 use Rattle.events.specs.declared.event.More.TheVariants as more
 use Rattle.events.specs.declared.event.Word.TheVariants as word
-use Rattle.traffic.proofs.Each.{each_append, each_kept}
-use Rattle.traffic.proofs.LeftBehind.{serving_stage, after-append}
 use Rattle.law_one_place.proofs.Places.{among_riders, rides}
-use Rattle.events.specs.Persons.{names, is_step}
 use Rattle.law_matches_plans.specs.Trips.{act, leg, legs, IsPlanned, Step, Places, Departs, Arrives, IsStuck, InTurn}
 
 pub half_two : (e : ℕ) → (e + 2) / 2 ≡ e / 2 + 1
@@ -42,11 +32,7 @@ untold S t i e (Some j) P h = rw h refl
 -- the others change nothing
 pub after_own : (S : Setup) (t i : ℕ) (es : List Occurrence) (P : Person) → person_after_all S t i es P ≡ person_after_all S t i (own i es) P
 after_own S t i [] P = refl
-after_own S t i (e ∷ es) P =
-    elim (cases_Bool (names i e.person)) [
-      | inl q ↦ simp q (after_own S t i es (told_of S t i e e.person P))
-      | inr q ↦ simp q (ap (person_after_all S t i es) (untold S t i e e.person P q) ∙ after_own S t i es P)
-    ]
+after_own S t i (e ∷ es) P = grind (arith, after_own S t i es (told_of S t i e e.person P), after_own S t i es P, untold S t i e e.person P)
 
 pub own_all : (i : ℕ) (es : List Occurrence) → Each (λ (e : Occurrence). names i e.person ≡ true) es → own i es ≡ es
 own_all i [] h = refl
@@ -120,8 +106,7 @@ does_nil A S t i P a b f le = record { leads = λ es h. h; cost = omega arith; f
 
 pub goes_append : (A : Places) (S : Setup) (i : ℕ) (P Q R : Person) (xs ys : List Step) (n m a b c : ℕ) → Goes A S i P Q xs n a b → Goes A S i Q R ys m b c → Goes A S i P R (xs ++ ys) (n + m) a c
 goes_append A S i P Q R xs ys n m a b c f g =
-    let fc = f.cost in
-    let gc = g.cost in record { leads = λ es h. rw (append_assoc xs ys es) (f.leads (ys ++ es) (g.leads es h)); cost = omega arith; fit = g.fit }
+    record { leads = λ es h. rw (append_assoc xs ys es) (f.leads (ys ++ es) (g.leads es h)); cost = omega arith; fit = g.fit }
 
 pub goes_less : (A : Places) (S : Setup) (i : ℕ) (P Q : Person) (xs : List Step) (n a b c d : ℕ) → a ≤ c → d ≤ b → Goes A S i P Q xs n a b → Goes A S i P Q xs n c d
 goes_less A S i P Q xs n a b c d le ge f = let fc = f.cost in record { leads = f.leads; cost = omega arith; fit = f.fit }
@@ -156,16 +141,21 @@ IsWaiting (Waiting stop since) = Unit {0}
 IsWaiting _ = ⊥
 
 -- EACH EVENT OF A TRIP
-has_leg : (n k t : ℕ) (end : Option ℕ) → (n ≤ k → end ≡ None) → HasLeg n k (ends_at end t)
-has_leg n k t None h = tt
-has_leg n k t (Some x) h = elim (cases_lt k n) [ inl lt ↦ lt | inr ge ↦ let q = h ge in absurd (cc) ]
+pub has_leg : (n k : ℕ) (end : Option ℕ) → (n ≤ k → end ≡ None) → HasLeg n k end
+has_leg n k None h = tt
+has_leg n k (Some x) h = grind arith
 
 fit_start : (S : Setup) (t i e : ℕ) → IsPlanned S i → e ≡ 2 * (e / 2) + 1 → IsFitAt S i (e + 1) (At (ends_at (act_at S i (e + 1)).end t))
-fit_start S t i e p odd = (omega arith, has_leg (legs S i) ((e + 1) / 2) t (act_at S i (e + 1)).end (p.last ((e + 1) / 2)))
+fit_start S t i e p odd = (
+  omega arith,
+  has_leg (legs S i) ((e + 1) / 2) (ends_at (act_at S i (e + 1)).end t)
+      (λ le. ap (λ o. ends_at o t) (p.last ((e + 1) / 2) le)),
+)
 
 -- a leg arrives, and the next activity starts
-starts_next : (A : Places) (S : Setup) (i k j : ℕ) (c d : Step) (es : List Step) → j ≡ k + 1 → Arrives A S i k c d → InTurn A S i j es → UnderWay A S i k (c ∷ d ∷ es)
-starts_next A S i k j c d es q f h = (f, subst (λ (x : ℕ). InTurn A S i x es) q h)
+starts_next : (A : Places) (S : Setup) (i e : ℕ) (c d : Step) (es : List Step) → e ≡ 2 * (e / 2) + 1 →
+    Arrives A S i (e / 2) c d → InTurn A S i ((e + 1) / 2) es → UnderWay A S i (e / 2) (c ∷ d ∷ es)
+starts_next A S i e c d es odd f h = let half : (e + 1) / 2 ≡ e / 2 + 1 = omega arith in (f, subst (λ (x : ℕ). InTurn A S i x es) half h)
 
 sets_out : (A : Places) (S : Setup) (i k : ℕ) (a b : Step) (es : List Step) → Departs A S i k a b → UnderWay A S i k es → InTurn A S i k (a ∷ b ∷ es)
 sets_out A S i k a b [] f h = absurd h
@@ -176,12 +166,10 @@ leaves_does : (A : Places) (S : Setup) (t i e a l : ℕ) (v : VehicleId) (r : Ri
     Does A S t i (record { element = e; place = pl }) (own i (leaves v l r)) a a
 unfolding person_after
 leaves_does A S t i e a l v r (Riding u) p f m k here q =
-    let odd = f.0 in
-    let half : (e + 1) / 2 ≡ e / 2 + 1 = omega arith in
     rw (own_all i (leaves v l r) (q, (q, (q, tt)))) (simp q (record {
-      leads = λ es h. starts_next A S i (e / 2) ((e + 1) / 2) (word.Arrival, Some l, more.Mode (mode_in v)) (word.ActStart, Some l, more.Kind r.kind) es half ((refl, here, ap (λ x. more.Mode x) (m ∙ f.1)), (refl, here, ap (λ x. more.Kind x) k)) h;
+      leads = λ es h. starts_next A S i e (word.Arrival, Some l, more.Mode (mode_in v)) (word.ActStart, Some l, more.Kind r.kind) es f.0 ((refl, here, ap (λ x. more.Mode x) (m ∙ f.1)), (refl, here, ap (λ x. more.Kind x) k)) h;
       cost = omega arith;
-      fit = fit_start S t i e p.planned odd;
+      fit = fit_start S t i e p.planned f.0;
     }))
 leaves_does A S t i e a l v r _ p f m k here q = absurd m
 
@@ -204,9 +192,8 @@ unfolding person_after
 lands_does A S t i e a seconds start m next p odd w k =
     let q = eq-eqb i i refl in
     let here : A (e / 2 + 1) (Some next.link) = rw k (p.at_own (e / 2 + 1)) in
-    let half : (e + 1) / 2 ≡ e / 2 + 1 = omega arith in
     rw (own_all i (lands i m seconds next) (q, (q, (q, tt)))) (simp q (record {
-      leads = λ es h. starts_next A S i (e / 2) ((e + 1) / 2) (word.Arrival, Some next.link, more.Mode m) (word.ActStart, Some next.link, more.Kind next.kind) es half ((refl, here, ap (λ x. more.Mode x) w), (refl, here, ap (λ (x : Act). more.Kind x.kind) k)) h;
+      leads = λ es h. starts_next A S i e (word.Arrival, Some next.link, more.Mode m) (word.ActStart, Some next.link, more.Kind next.kind) es odd ((refl, here, ap (λ x. more.Mode x) w), (refl, here, ap (λ (x : Act). more.Kind x.kind) k)) h;
       cost = omega arith;
       fit = fit_start S t i e p.planned odd;
     }))
@@ -217,7 +204,6 @@ unfolding person_after
 departs_does A S t i e a end here w p f k m =
     let q = eq-eqb i i refl in
     let place : A (e / 2) (Some here.link) = rw k (p.at_own (e / 2)) in
-    let even = f.0 in
     let lt : e / 2 < legs S i = f.1 in
     let half : (e + 1) / 2 ≡ e / 2 = omega arith in
     rw (own_all i (departs i here w) (q, (q, tt))) (simp q (record {
@@ -243,11 +229,8 @@ unfolding person_after
 enters_car A S t i e start odd m = let q = eq-eqb i i refl in rw (own_all i (of_rider word.PersonEntersVehicle i (Car i) ∷ []) (q, tt)) (simp q (record { leads = λ es h. h; cost = omega arith; fit = (odd, m) }))
 
 -- COUNTS
-pub count_yes : {X : Type 0} (p : X → Bool) (x : X) (xs : List X) → p x ≡ true → count_by p (x ∷ xs) ≡ 1 + count_by p xs
-count_yes p x xs e = sum_by-cons _ x xs ∙ ap (λ (b : Bool). (if b then 1 else 0) + count_by p xs) e
-
-pub count_no : {X : Type 0} (p : X → Bool) (x : X) (xs : List X) → p x ≡ false → count_by p (x ∷ xs) ≡ count_by p xs
-count_no p x xs e = let c : count_by p (x ∷ xs) ≡ 0 + count_by p xs = sum_by-cons _ x xs ∙ ap (λ (b : Bool). (if b then 1 else 0) + count_by p xs) e in omega arith
+pub count_cons : {X : Type 0} (p : X → Bool) (x : X) (xs : List X) → count_by p (x ∷ xs) ≡ (if p x then 1 else 0) + count_by p xs
+count_cons p x xs = sum_by-cons _ x xs
 
 abbrev is_rider : ℕ → Rider → Bool
 is_rider i r = r.person == i
@@ -260,10 +243,7 @@ IsOther i tells = (r : Rider) → eqb r.person i ≡ false → own i (tells r) �
 pub none_told : (i : ℕ) (tells : Rider → List Occurrence) → IsOther i tells → (rs : List Rider) → among_riders i rs ≡ 0 → own i (flat_map tells rs) ≡ []
 none_told i tells f [] h = refl
 none_told i tells f (r ∷ rs) h =
-    elim (cases_Bool (eqb r.person i)) [
-      | inl e ↦ let c = count_yes (is_rider i) r rs e in absurd (omega arith)
-      | inr e ↦ let c = count_no (is_rider i) r rs e in rw (filter-append _ (tells r) (flat_map tells rs), f r e) (none_told i tells f rs (omega arith))
-    ]
+    grind (arith, none_told i tells f rs, f r, filter-append (λ (e : Occurrence). names i e.person) (tells r) (flat_map tells rs), count_cons (is_rider i) r rs)
 
 -- a rider who is person i goes to an activity of kind K
 abbrev pub IsRight : ℕ → ℕ → Rider → Type 0
@@ -274,24 +254,15 @@ riders_do : (A : Places) (S : Setup) (t i : ℕ) (P : Person) (a K : ℕ) (tells
     (1 ≤ among_riders i rs → (r : Rider) → r.kind ≡ K → eqb r.person i ≡ true → Does A S t i P (own i (tells r)) a a) → Does A S t i P (own i (flat_map tells rs)) a a
 riders_do A S t i P a K tells f fit [] right few g = does_nil A S t i P a a fit (omega arith)
 riders_do A S t i P a K tells f fit (r ∷ rs) right few g =
+    let c = count_cons (is_rider i) r rs in
     elim (cases_Bool (eqb r.person i)) [
       | inl e ↦
-          let c = count_yes (is_rider i) r rs e in
-          let d = g (omega arith) r (All-head (IsRight i K) r rs right e) e in
-          own_append A S t i P (tells r) (flat_map tells rs) a a a d (rw (none_told i tells f rs (omega arith)) (does_nil A S t i _ a a d.fit (omega arith)))
+          let d = g (grind arith) r (All-head (IsRight i K) r rs right e) e in
+          own_append A S t i P (tells r) (flat_map tells rs) a a a d (rw (none_told i tells f rs (grind arith)) (does_nil A S t i _ a a d.fit (omega arith)))
       | inr e ↦
-          let c = count_no (is_rider i) r rs e in
-          own_append A S t i P (tells r) (flat_map tells rs) a a a (rw (f r e) (does_nil A S t i P a a fit (omega arith))) (rw (f r e) (riders_do A S t i P a K tells f fit rs (All-tail (IsRight i K) r rs right) (omega arith) (λ h. g (omega arith))))
+          own_append A S t i P (tells r) (flat_map tells rs) a a a (rw (f r e) (does_nil A S t i P a a fit (omega arith)))
+          (rw (f r e) (riders_do A S t i P a K tells f fit rs (All-tail (IsRight i K) r rs right) (grind arith) (λ h. g (grind arith))))
     ]
-
-leaves_other : (i l : ℕ) (v : VehicleId) → IsOther i (leaves v l)
-leaves_other i l v r q = simp q
-
-strands_other : (i l : ℕ) (v : VehicleId) → IsOther i (strands v l)
-strands_other i l v r q = simp q
-
-enters_other : (i : ℕ) (v : VehicleId) → IsOther i (enters v)
-enters_other i v r q = simp q
 
 -- the kind of the activity after his leg
 abbrev pub kind_next : Setup → ℕ → Person → ℕ
@@ -302,14 +273,15 @@ AreRight S i P rs = All (IsRight i (kind_next S i P)) rs
 
 pub riders_leave : (A : Places) (S : Setup) (t i : ℕ) (P : Person) (a l : ℕ) (v : VehicleId) (rs : List Rider) → IsPlan A S i → IsFit S i P → AreRight S i P rs → among_riders i rs ≤ 1 → (1 ≤ among_riders i rs → IsIn v P.place × A (P.element / 2 + 1) (Some l)) → Does A S t i P (own i (flat_map (leaves v l) rs)) a a
 riders_leave A S t i P a l v rs p fit right few h =
-    riders_do A S t i P a (kind_next S i P) (leaves v l) (leaves_other i l v) fit rs right few (λ g r k q. leaves_does A S t i P.element a l v r P.place p fit (h g).0 k (h g).1 q)
+    riders_do A S t i P a (kind_next S i P) (leaves v l) (λ r q. simp q) fit rs right few (λ g r k q. leaves_does A S t i P.element a l v r P.place p fit (h g).0 k (h g).1 q)
 
 pub riders_stuck : (A : Places) (S : Setup) (t i : ℕ) (P : Person) (a l : ℕ) (v : VehicleId) (rs : List Rider) → IsFit S i P → AreRight S i P rs → among_riders i rs ≤ 1 → (1 ≤ among_riders i rs → IsIn v P.place) → Does A S t i P (own i (flat_map (strands v l) rs)) a a
-riders_stuck A S t i P a l v rs fit right few h = riders_do A S t i P a (kind_next S i P) (strands v l) (strands_other i l v) fit rs right few (λ g r k q. strands_does A S t i P.element a l v r P.place fit (h g) q)
+riders_stuck A S t i P a l v rs fit right few h = riders_do A S t i P a (kind_next S i P) (strands v l) (λ r q. simp q) fit rs right few (λ g r k q. strands_does A S t i P.element a l v r P.place fit (h g) q)
 
 -- where none of them is person i
-none_leaves : (S : Setup) (t i : ℕ) (P : Person) (l : ℕ) (v : VehicleId) (rs : List Rider) → among_riders i rs ≡ 0 → person_after_all S t i (own i (flat_map (leaves v l) rs)) P ≡ P
-none_leaves S t i P l v rs q = ap (λ (es : List Occurrence). person_after_all S t i es P) (none_told i (leaves v l) (leaves_other i l v) rs q)
+pub none_after : (S : Setup) (t i : ℕ) (P : Person) (tells : Rider → List Occurrence) (rs : List Rider) → IsOther i tells →
+    among_riders i rs ≡ 0 → person_after_all S t i (own i (flat_map tells rs)) P ≡ P
+none_after S t i P tells rs other q = ap (λ (es : List Occurrence). person_after_all S t i es P) (none_told i tells other rs q)
 
 -- some leave the vehicle, and others enter it
 pub riders_change : (A : Places) (S : Setup) (t i : ℕ) (P : Person) (a l : ℕ) (v : VehicleId) (outs ins : List Rider) → IsPlan A S i → IsFit S i P → AreRight S i P outs → AreRight S i P ins → among_riders i outs ≤ 1 → (1 ≤ among_riders i outs → IsIn v P.place × A (P.element / 2 + 1) (Some l)) →
@@ -319,8 +291,9 @@ riders_change A S t i P a l v outs ins p fit right rest few h once g =
     let d : Does A S t i P xs a a = riders_leave A S t i P a l v outs p fit right few h in
     let Q = person_after_all S t i xs P in
     own_append A S t i P (flat_map (leaves v l) outs) (flat_map (enters v) ins) a a a d
-    (riders_do A S t i Q a (kind_next S i P) (enters v) (enters_other i v) d.fit ins rest once
-    (λ k r u q. let b = g k in enters_does A S t i Q.element a v r Q.place d.fit (subst (λ (x : Person). IsWaiting x.place) (sym (none_leaves S t i P l v outs b.0)) b.1) b.2 q))
+    (riders_do A S t i Q a (kind_next S i P) (enters v) (λ r q. simp q) d.fit ins rest once
+    (λ k r u q. let b = g k in
+    enters_does A S t i Q.element a v r Q.place d.fit (subst (λ (x : Person). IsWaiting x.place) (sym (none_after S t i P (leaves v l) outs (λ r q. simp q) b.0)) b.1) b.2 q))
 
 enters_element : (S : Setup) (t i : ℕ) (v : VehicleId) (rs : List Rider) (P : Person) → (person_after_all S t i (flat_map (enters v) rs) P).element ≡ P.element
 unfolding person_after
@@ -330,14 +303,15 @@ enters_element S t i v (r ∷ rs) P = elim (cases_Bool (eqb r.person i)) [ inl q
 -- who does not leave keeps his leg
 pub change_element : (S : Setup) (t i : ℕ) (P : Person) (l : ℕ) (v : VehicleId) (outs ins : List Rider) → among_riders i outs ≡ 0 → (person_after_all S t i (flat_map (leaves v l) outs ++ flat_map (enters v) ins) P).element ≡ P.element
 change_element S t i P l v outs ins q =
-    rw (after-append S t i (flat_map (leaves v l) outs) (flat_map (enters v) ins) P, after_own S t i (flat_map (leaves v l) outs) P, none_leaves S t i P l v outs q) (enters_element S t i v ins P)
-
-pub nobody_stuck : (i l : ℕ) (v : VehicleId) (rs : List Rider) → among_riders i rs ≡ 0 → own i (flat_map (strands v l) rs) ≡ []
-nobody_stuck i l v rs h = none_told i (strands v l) (strands_other i l v) rs h
+    rw (
+      after-append S t i (flat_map (leaves v l) outs) (flat_map (enters v) ins) P,
+      after_own S t i (flat_map (leaves v l) outs) P,
+      none_after S t i P (leaves v l) outs (λ r q. simp q) q,
+    ) (enters_element S t i v ins P)
 
 -- DRIVERS
 pub car_less : (i : ℕ) (v : VehicleId) (b : Bool) → car_worth i v true ≤ car_worth i v b
-car_less i (Car j) b = elim (cases_Bool (eqb j i)) [ inl q ↦ simp q (elim b as (λ c. 1 ≤ (if c then 1 else 2)) [ true ↦ omega arith | false ↦ omega arith ]) | inr q ↦ simp q (omega arith) ]
+car_less i (Car j) b = grind arith
 car_less i (Transit d) b = omega arith
 
 -- it enters traffic, where it has not yet
@@ -375,7 +349,8 @@ arrives_does A S t i P r p f right few h =
 pub nobody_arrives : (S : Setup) (t i : ℕ) (P : Person) (r : Row) → rides i r.vehicle ≡ 0 → person_after_all S t i (own i (arrives r)) P ≡ P
 nobody_arrives S t i P r h =
     let v = r.vehicle in
-    own_skip S t i P (of_driver word.VehicleLeavesTraffic v.id r.link ∷ []) (flat_map (leaves v.id r.link) v.riders) (ends_same S t i P v.id r.link) ∙ none_leaves S t i P r.link v.id v.riders h
+    own_skip S t i P (of_driver word.VehicleLeavesTraffic v.id r.link ∷ []) (flat_map (leaves v.id r.link) v.riders) (ends_same S t i P v.id r.link)
+    ∙ none_after S t i P (leaves v.id r.link) v.riders (λ r q. simp q) h
 
 -- what is told of a vehicle at the front of the wait list or of the queue: maybe that it enters traffic, and then these
 abbrev pub front : Bool → Row → List Occurrence → List Occurrence
@@ -402,64 +377,31 @@ abbrev pub wrong : ℕ → ℕ → List Rider → ℕ
 wrong i K rs = count_by (is_wrong i K) rs
 
 kind_is : (i K : ℕ) (r : Rider) → is_wrong i K r ≡ false → IsRight i K r
-kind_is i K r e q = elim (cases_Bool (eqb r.kind K)) [ inl g ↦ eqb-true r.kind K g | inr g ↦ let z = simp (g, q) at e in absurd (cc) ]
+kind_is i K r e q = grind (arith, nat_tests)
 
 pub all_right : (i K : ℕ) (rs : List Rider) → wrong i K rs ≡ 0 → All (IsRight i K) rs
 all_right i K [] h = All-nil (IsRight i K)
 all_right i K (r ∷ rs) h =
-    elim (cases_Bool (is_wrong i K r)) [
-      | inl e ↦ let c = count_yes (is_wrong i K) r rs e in absurd (omega arith)
-      | inr e ↦ let c = count_no (is_wrong i K) r rs e in All-cons (IsRight i K) r rs (kind_is i K r e) (all_right i K rs (omega arith))
-    ]
+    let c = count_cons (is_wrong i K) r rs in
+    All-cons (IsRight i K) r rs (kind_is i K r (grind arith)) (all_right i K rs (grind arith))
 
 pub none_wrong : (i K : ℕ) (rs : List Rider) → All (IsRight i K) rs → wrong i K rs ≡ 0
 none_wrong i K [] h = refl
 none_wrong i K (r ∷ rs) h =
-    elim (cases_Bool (is_wrong i K r)) [
-      | inl e ↦ let b = and_parts (not (eqb r.kind K)) (eqb r.person i) e in let z = eq-eqb r.kind K (All-head (IsRight i K) r rs h b.1) in let y = simp z at b.0 in absurd (cc)
-      | inr e ↦ count_no (is_wrong i K) r rs e ∙ none_wrong i K rs (All-tail (IsRight i K) r rs h)
-    ]
-
-part_same : (b : Bool) → (if b then 1 else 0) ≤ (if b then 1 else 0)
-part_same b = omega arith
-
-both_few : (a b : Bool) → (if a && b then 1 else 0) ≤ (if b then 1 else 0)
-both_few true b = part_same b
-both_few false b = omega arith
+    let q = All-head (IsRight i K) r rs h in
+    grind (arith, nat_tests, none_wrong i K rs (All-tail (IsRight i K) r rs h), count_cons (is_wrong i K) r rs)
 
 pub wrong_few : (i K : ℕ) (rs : List Rider) → wrong i K rs ≤ among_riders i rs
-wrong_few i K rs = sum_by-le-sum_by (λ (r : Rider). if is_wrong i K r then 1 else 0) (λ (r : Rider). if r.person == i then 1 else 0) rs (λ r. both_few (not (eqb r.kind K)) (eqb r.person i))
+wrong_few i K rs = sum_by-le-sum_by (λ (r : Rider). if is_wrong i K r then 1 else 0) (λ (r : Rider). if r.person == i then 1 else 0) rs (λ r. grind arith)
 
 -- WHO IS STUCK
 -- by this event nobody is stuck
 abbrev pub IsCalm : Occurrence → Type 0
 IsCalm e = e.word ≢ word.StuckAndAbort
 
-calm_leaves : (v : VehicleId) (l : ℕ) (rs : List Rider) → Each IsCalm (flat_map (leaves v l) rs)
-calm_leaves v l [] = tt
-calm_leaves v l (r ∷ rs) = ((λ q. cc), ((λ q. cc), ((λ q. cc), calm_leaves v l rs)))
-
-calm_enters : (v : VehicleId) (rs : List Rider) → Each IsCalm (flat_map (enters v) rs)
-calm_enters v [] = tt
-calm_enters v (r ∷ rs) = ((λ q. cc), calm_enters v rs)
-
-calm_starts : (b : Bool) (v : VehicleId) (l : ℕ) → Each IsCalm (if b then [] else of_driver word.VehicleEntersTraffic v l ∷ [])
-calm_starts true v l = tt
-calm_starts false v l = ((λ q. cc), tt)
-
-calm_to : (s : Stage) (was now : Row) → Each IsCalm (told_to s was now)
-calm_to Bay was now = ((λ q. cc), each_append IsCalm (flat_map (leaves was.vehicle.id was.link) _) (flat_map (enters was.vehicle.id) _) (calm_leaves was.vehicle.id was.link _) (calm_enters was.vehicle.id _))
-calm_to _ was now = tt
-
-pub calm_put : (s : Stage) (was now : Row) → Each IsCalm (told_transfer s was now)
-calm_put Queue was now = calm_to now.stage was now
-calm_put Buffer was now = ((λ q. cc), ((λ q. cc), tt))
-calm_put Wait was now = each_append IsCalm (starts was) (told_to now.stage was now) (calm_starts was.vehicle.started was.vehicle.id was.link) (calm_to now.stage was now)
-calm_put Bay was now = ((λ q. cc), tt)
-
-pub calm_gone : (s : Bool) (r : Row) → Each IsCalm (told_removal (serving_stage s) r)
-calm_gone true r = each_append IsCalm (starts r) (arrives r) (calm_starts r.vehicle.started r.vehicle.id r.link) ((λ q. cc), calm_leaves r.vehicle.id r.link r.vehicle.riders)
-calm_gone false r = ((λ q. cc), calm_leaves r.vehicle.id r.link r.vehicle.riders)
+-- what is calm for whoever may board
+pub calm : (es : List Occurrence) → Calm (λ j. Unit {0}) es → Each IsCalm es
+calm es h = each_weaker _ IsCalm (λ e c q. subst (λ w. Calm_word (λ j. Unit {0}) w e.person) q c) es h
 
 -- after an event by which he is stuck nothing follows
 abbrev pub IsLast : List Occurrence → Type 0
@@ -470,13 +412,9 @@ calm_last : (xs ys : List Occurrence) → Each IsCalm xs → IsLast ys → IsLas
 calm_last [] ys h g = g
 calm_last (x ∷ xs) ys h g = ((λ q. absurd (h.0 q)), calm_last xs ys h.1 g)
 
-nothing : (ys : List Occurrence) → length ys ≤ 0 → ys ≡ []
-nothing [] h = refl
-nothing (y ∷ ys) h = absurd (omega arith)
-
 one_last : (xs ys : List Occurrence) → length xs ≤ 1 → (1 ≤ length xs → length ys ≤ 0) → IsLast ys → IsLast (xs ++ ys)
 one_last [] ys h f g = g
-one_last (x ∷ []) ys h f g = ((λ q. nothing ys (f (omega arith))), g)
+one_last (x ∷ []) ys h f g = ((λ q. nil_from_length ys (let n = f (omega arith) in omega arith)), g)
 one_last (x ∷ y ∷ xs) ys h f g = absurd (omega arith)
 
 -- by these events nobody is stuck, or there is one of him at most, and then so many may follow
@@ -490,18 +428,7 @@ stops_last i n es ys (inr h) le g = one_last (own i es) ys h.0 (λ k. let z = h.
 -- those who are removed with a vehicle
 pub stuck_count : (i l : ℕ) (v : VehicleId) (rs : List Rider) → length (own i (flat_map (strands v l) rs)) ≡ among_riders i rs
 stuck_count i l v [] = refl
-stuck_count i l v (r ∷ rs) =
-    let y = stuck_count i l v rs in
-    elim (cases_Bool (eqb r.person i)) [
-      | inl e ↦
-          let c = count_yes (is_rider i) r rs e in
-          let z : own i (flat_map (strands v l) (r ∷ rs)) ≡ of_person word.StuckAndAbort r.person l (more.Mode (mode_in v)) ∷ own i (flat_map (strands v l) rs) = simp e in
-          let d = ap (λ (es : List Occurrence). length es) z in omega arith
-      | inr e ↦
-          let c = count_no (is_rider i) r rs e in
-          let z : own i (flat_map (strands v l) (r ∷ rs)) ≡ own i (flat_map (strands v l) rs) = simp e in
-          let d = ap (λ (es : List Occurrence). length es) z in omega arith
-    ]
+stuck_count i l v (r ∷ rs) = grind (arith, stuck_count i l v rs, count_cons (is_rider i) r rs)
 
 pub stuck_place : (S : Setup) (t i l : ℕ) (v : VehicleId) (rs : List Rider) (P : Person) → (1 ≤ among_riders i rs) ⊎ (P.place ≡ Aborted l) → (person_after_all S t i (flat_map (strands v l) rs) P).place ≡ Aborted l
 unfolding person_after
@@ -510,5 +437,5 @@ stuck_place S t i l v [] P (inr q) = q
 stuck_place S t i l v (r ∷ rs) P h =
     elim (cases_Bool (eqb r.person i)) [
       | inl e ↦ simp e (stuck_place S t i l v rs (record P { place = Aborted l }) (inr refl))
-      | inr e ↦ let c = count_no (is_rider i) r rs e in simp e (stuck_place S t i l v rs P (elim h [ inl k ↦ inl (omega arith) | inr q ↦ inr q ]))
+      | inr e ↦ simp e (stuck_place S t i l v rs P (grind (arith, count_cons (is_rider i) r rs)))
     ]

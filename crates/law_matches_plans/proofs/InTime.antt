@@ -1,21 +1,13 @@
 -- No event of a day is later than the day's end.
-use Rattle.traffic.proofs.Common.{ℕ, List, length, [], ◌∷◌, arith, ◌++◌, ◌+◌, ◌≤◌, suc, zero, All-from_recursion, flat_map, All, phase_code, Event, Phase}
-use Rattle.traffic.proofs.Common.{world_at, turns_in, world_start, keyed, world_from, after, events_from, day, phases, end_events, events_in, told_in, Turn}
-use Rattle.traffic.proofs.Common.{events_of, below, told, stranded, World, Setup}
-use Rattle.traffic.specs.declared.moves.Occurrence.{Occurrence}
+use Rattle.traffic.proofs.Common.{ℕ, List, length, [], ◌∷◌, arith, ◌+◌, ◌≤◌, suc, zero, All-from_recursion, flat_map, All, phase_code, Event, Phase, world_at}
+use Rattle.traffic.proofs.Common.{turns_in, world_start, keyed, world_from, after, events_from, day, phases, end_events, events_in, told_in, Turn, events_of}
+use Rattle.traffic.proofs.Common.{below, told, stranded, World, Setup}
+use Rattle.traffic.{proofs.Each.each_append as append, proofs.Each.each_weaker, specs.declared.moves.Occurrence.Occurrence}
 use Rattle.std.specs.List.{AllByRecursion as Each}
 use Rattle.events.specs.declared.event.Phase.TheVariants as phase
 
 abbrev Until : ℕ → List Event → Type 0
 Until n es = Each (λ (e : Event). e.key.second ≤ n) es
-
-append : (n : ℕ) (xs ys : List Event) → Until n xs → Until n ys → Until n (xs ++ ys)
-append n [] ys h g = g
-append n (x ∷ xs) ys h g = (h.0, append n xs ys h.1 g)
-
-later : (n m : ℕ) (xs : List Event) → n ≤ m → Until n xs → Until m xs
-later n m [] le h = tt
-later n m (x ∷ xs) le h = (let k = h.0 in omega arith, later n m xs le h.1)
 
 keyed_until : (t code n k : ℕ) (xs : List Occurrence) → Until t (keyed t code n k xs)
 unfolding keyed
@@ -24,30 +16,30 @@ keyed_until t code n k (x ∷ xs) = (omega arith, keyed_until t code n (k + 1) x
 
 turns_until : (t : ℕ) (p : Phase) (us : List Turn) → Until t (events_in t p us)
 turns_until t p [] = tt
-turns_until t p (u ∷ us) = append t (events_of t p u) (events_in t p us) (keyed_until t (phase_code p) u.number 0 (flat_map told u.moves)) (turns_until t p us)
+turns_until t p (u ∷ us) = append _ (events_of t p u) (events_in t p us) (keyed_until t (phase_code p) u.number 0 (flat_map told u.moves)) (turns_until t p us)
 
 told_until : (S : Setup) (t : ℕ) (ps : List Phase) (W : World) → Until t (told_in S t ps W)
 unfolding told_in
 told_until S t [] W = tt
 told_until S t (p ∷ ps) W =
     let us = turns_in S t p W in
-    append t (events_in t p us) (told_in S t ps (after S t us W)) (turns_until t p us) (told_until S t ps (after S t us W))
+    append _ (events_in t p us) (told_in S t ps (after S t us W)) (turns_until t p us) (told_until S t ps (after S t us W))
 
 from_until : (S : Setup) (W : World) (t : ℕ) → Until t (events_from S W t)
 unfolding events_from
 from_until S W zero = tt
 from_until S W (suc t) =
     let V = world_from S W t in
-    let le : t ≤ suc t = omega arith in
-    append (suc t) (events_from S W t) (told_in S t phases V) (later t (suc t) _ le (from_until S W t)) (later t (suc t) _ le (told_until S t phases V))
+    let more = each_weaker (λ (e : Event). e.key.second ≤ t) (λ (e : Event). e.key.second ≤ suc t) (λ e k. omega arith) in
+    append _ (events_from S W t) (told_in S t phases V) (more _ (from_until S W t)) (more _ (told_until S t phases V))
 
 stranded_until : (S : Setup) (t : ℕ) (W : World) (ns : List ℕ) → Until t (flat_map (λ i. keyed t (phase_code phase.E) i 0 (stranded S W i)) ns)
 stranded_until S t W [] = tt
-stranded_until S t W (i ∷ ns) = append t (keyed t (phase_code phase.E) i 0 (stranded S W i)) _ (keyed_until t (phase_code phase.E) i 0 (stranded S W i)) (stranded_until S t W ns)
+stranded_until S t W (i ∷ ns) = append _ (keyed t (phase_code phase.E) i 0 (stranded S W i)) _ (keyed_until t (phase_code phase.E) i 0 (stranded S W i)) (stranded_until S t W ns)
 
 pub day_until : (S : Setup) → All (λ (e : Event). e.key.second ≤ S.settings.end_second) (day S)
 unfolding day end_events
 day_until S =
     let V = world_at S S.settings.end_second in
     All-from_recursion (λ (e : Event). e.key.second ≤ S.settings.end_second) (day S)
-    (append S.settings.end_second (events_from S (world_start S) S.settings.end_second) _ (from_until S (world_start S) S.settings.end_second) (stranded_until S S.settings.end_second V (below (length S.persons))))
+    (append _ (events_from S (world_start S) S.settings.end_second) _ (from_until S (world_start S) S.settings.end_second) (stranded_until S S.settings.end_second V (below (length S.persons))))

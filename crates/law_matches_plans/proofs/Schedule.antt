@@ -1,28 +1,21 @@
 -- The departures of a town are sound, and their calls are on the links of their stops.
-use Rattle.traffic.proofs.Common.{◌≡◌, ℕ, List, ◌∙◌, length, refl, sym, [], ◌∷◌, arith, ◌<◌, true, ◌+◌, Bool, inl, inr, subst, false, suc, eqb, zero}
-use Rattle.traffic.proofs.Common.{drop, cases_Bool, eqb-true, and_parts, eq-eqb, eqb-false, ne_eqb, ltb-true, All-from_recursion, All-get_or, list_all}
-use Rattle.traffic.proofs.Common.{not, All, nat_lt, ◌||◌, nat_eq, StopCall, ends_of, stop_link, DepartureRow, RouteRow, StopRow, is_nil, Setup, link_of_stop}
-use Rattle.traffic.proofs.Common.{from_link, AreServable}
+use Rattle.traffic.proofs.Common.{◌≡◌, ℕ, List, length, refl, [], ◌∷◌, arith, ◌<◌, true, ◌+◌, inl, inr, subst, false, suc, eqb, zero, drop, cases_Bool}
+use Rattle.traffic.proofs.Common.{ltb-true, All-from_recursion, All-get_or, list_all, All, nat_lt, nat_eq, StopCall, ends_of, DepartureRow, RouteRow, StopRow}
+use Rattle.traffic.proofs.Common.{is_nil, Setup, link_of_stop, from_link, AreServable, nat_tests}
 use Rattle.std.specs.List.{AllByRecursion as Each, position_or_len}
-use Rattle.rows.specs.Schedules.{are_served, is_sound_call}
-use Rattle.rows.specs.Schedules.{are_drivable, is_route}
-use Rattle.rows.specs.Schedules.{is_departure}
-use Rattle.town.specs.Rows.{TownRows}
-use Rattle.town.specs.Setups.{route_at, departure_of}
-use Rattle.law_sound_setups.specs.Setups.{IsSoundRun}
-use Rattle.law_sound_setups.specs.Consistent.{AreAtStops}
-use Rattle.law_in_range.proofs.Lists.{each_tested}
-use Rattle.law_in_range.proofs.Towns.{some_links}
+use Rattle.rows.specs.Schedules.{are_served, is_sound_call, are_drivable, is_route, is_departure}
+use Rattle.town.specs.{Rows.TownRows, Setups.route_at, Setups.departure_of}
+use Rattle.law_sound_setups.specs.{Consistent.AreAtStops, Setups.IsSoundRun}
+use Rattle.law_in_range.proofs.{Lists.each_tested, Towns.some_links}
 use Rattle.law_matches_plans.proofs.Plans.{AtStops}
 
 -- SERVED IN ORDER
 from_drop : (l : ℕ) (xs : List ℕ) → drop (position_or_len (nat_eq l) xs) xs ≡ from_link l xs
 from_drop l [] = refl
 from_drop l (x ∷ xs) =
-    elim (cases_Bool (eqb x l)) [
-      | inl e ↦ let f : eqb l x ≡ true = eq-eqb l x (sym (eqb-true x l e)) in simp (e, f)
-      | inr e ↦ let f : eqb l x ≡ false = ne_eqb l x (λ q. eqb-false x l e (sym q)) in let g : 1 + position_or_len (nat_eq l) xs ≡ suc (position_or_len (nat_eq l) xs) = omega arith in simp (e, f, g) (from_drop l xs)
-    ]
+    let f : eqb l x ≡ eqb x l = grind (arith, nat_tests) in
+    let g : 1 + position_or_len (nat_eq l) xs ≡ suc (position_or_len (nat_eq l) xs) = omega arith in
+    elim (cases_Bool (eqb x l)) [ inl e ↦ simp (f, e) | inr e ↦ simp (f, e, g) (from_drop l xs) ]
 
 some_left : (k : ℕ) (xs : List ℕ) → k < length xs → is_nil (drop k xs) ≡ false
 some_left k [] lt = absurd (omega arith)
@@ -41,11 +34,6 @@ served_servable (c ∷ cs) links h =
       | inr ge ↦ let g : false ≡ true = simp ge at h in absurd (cc)
     ]
 
-is_second : (a b : Bool) → not (a || not b) ≡ true → b ≡ true
-is_second true b h = absurd (cc)
-is_second false true h = refl
-is_second false false h = absurd (cc)
-
 -- what a route gives to its departures
 record IsRunning (S : Setup) (r : RouteRow) : Type 0 where
   some : 0 < length r.links
@@ -54,33 +42,20 @@ record IsRunning (S : Setup) (r : RouteRow) : Type 0 where
 
 call_at_stop : (S : Setup) (stops : List StopRow) → AtStops S stops → (c : StopCall) → is_sound_call stops c ≡ true → link_of_stop S c.stop ≡ c.link
 unfolding is_sound_call
-call_at_stop S stops s c h =
-    let a = and_parts _ _ h in
-    let b = and_parts (nat_lt c.stop (length stops)) (nat_eq c.link (stop_link stops c.stop)) a.0 in
-    s c.stop ∙ sym (eqb-true c.link (stop_link stops c.stop) b.1)
+call_at_stop S stops s c h = grind (arith, nat_tests, s c.stop)
 
 route_sound : (S : Setup) (T : TownRows) → AtStops S T.stops → (r : RouteRow) → is_route (length T.book.lines) (length T.links) (ends_of T.links) T.stops r ≡ true → IsRunning S r
 unfolding are_drivable
 route_sound S T s r h =
-    let a = and_parts (nat_lt r.line (length T.book.lines)) _ h in
-    let b = and_parts _ _ a.1 in
-    let c = and_parts _ _ b.0 in
-    let d = and_parts _ (list_all (is_sound_call T.stops) r.calls) c.0 in
-    let e = and_parts _ _ d.0 in
-    let f = and_parts _ _ e.0 in
     record {
-      some = some_links (ends_of T.links) r.links f.1;
-      served = served_servable r.calls r.links (is_second (nat_eq (length r.calls) 0) (are_served r.calls r.links) c.1);
-      at = All-from_recursion _ r.calls (each_tested (λ (c : StopCall). link_of_stop S c.stop ≡ c.link) (is_sound_call T.stops) (call_at_stop S T.stops s) r.calls d.1);
+      some = some_links (ends_of T.links) r.links (grind arith);
+      served = served_servable r.calls r.links (grind arith);
+      at = All-from_recursion _ r.calls (each_tested _ (is_sound_call T.stops) (call_at_stop S T.stops s) r.calls (grind arith));
     }
 
 run_of : (S : Setup) (T : TownRows) (d : DepartureRow) → All (IsRunning S) T.routes → is_departure (length T.routes) d ≡ true → IsRunning S (route_at T.routes d.route)
 unfolding is_departure
-run_of S T d h g =
-    let a = and_parts _ _ g in
-    let b = and_parts _ _ a.0 in
-    let c = and_parts _ _ b.0 in
-    All-get_or (IsRunning S) T.routes d.route _ (ltb-true d.route (length T.routes) c.0) h
+run_of S T d h g = All-get_or (IsRunning S) T.routes d.route _ (grind (arith, nat_tests)) h
 
 -- each departure runs on such a route
 pub runs : (S : Setup) (T : TownRows) → AtStops S T.stops → list_all (is_route (length T.book.lines) (length T.links) (ends_of T.links) T.stops) T.routes ≡ true → list_all (is_departure (length T.routes)) T.departures ≡ true →

@@ -1,27 +1,17 @@
 -- What a day tells of a person can be scored.
-use Rattle.std.proofs.Common.{◌≡◌, ℕ, ◌+◌, ◌<◌, ◌≤◌, Bool, true, false, List, [], ◌∷◌, length, map, filter, get_or, take, drop, refl, sym, ap, ap₂, ◌∙◌, subst, inl, inr, length-take, arith}
-use Rattle.std.specs.List.{AllByRecursion as Each}
-use Rattle.std.proofs.lemmas.Bool.{cases_Bool}
-use Rattle.std.proofs.lemmas.List.{take_more, take-append-drop}
-use Rattle.std.proofs.lemmas.List.Elements.{All-filter, All-get_or, All-from_recursion}
+use Rattle.std.proofs.Common.{◌≡◌, ℕ, ◌+◌, ◌<◌, ◌≤◌, Bool, true, false, List, [], ◌∷◌, length, map, filter, get_or, take, drop, refl, sym, ap, ◌∙◌, subst, inl}
+use Rattle.std.{proofs.Common.inr, proofs.Common.length-take, proofs.Common.arith, specs.List.AllByRecursion as Each, proofs.lemmas.Bool.cases_Bool}
+use Rattle.std.proofs.lemmas.List.{take_more, take-append-drop, Elements.All-filter, Elements.All-get_or, Elements.All-from_recursion}
 use Rattle.limits.specs.declared.TheConstants.{LAST_SECOND, MAX_LEGS}
-use Rattle.events.specs.declared.event.Event.{Event}
-use Rattle.events.specs.declared.event.More.{More}
-use Rattle.events.specs.declared.event.More.TheVariants as more
-use Rattle.events.specs.declared.event.Word.{Word}
+use Rattle.events.specs.{Persons.of_person, Persons.own_events, Persons.is_step, declared.event.Event.Event, declared.event.More.More, declared.event.Word.Word}
 use Rattle.events.specs.declared.event.Word.TheVariants as word
-use Rattle.events.specs.Persons.{of_person, own_events, is_step}
-use Rattle.traffic.specs.Setup.{Setup}
-use Rattle.traffic.specs.Day.{day}
+use Rattle.traffic.specs.{Day.day, Setup.Setup}
+use Rattle.law_matches_plans.proofs.{Days.has_some_day, InTime.day_until}
 use Rattle.law_matches_plans.specs.Trips.{Places, anywhere, legs, IsPlanned, Step, steps}
 use Rattle.law_matches_plans.specs.Trips as trips
-use Rattle.law_matches_plans.proofs.Days.{has_some_day}
-use Rattle.law_matches_plans.proofs.InTime.{day_until}
-use Rattle.scoring.specs.declared.TheConstants.{MAX_EVENTS}
-use Rattle.scoring.specs.Turns.{word_before, Follow, InTurn, tells}
-use Rattle.scoring.specs.Turns as turns
-use Rattle.scoring.specs.Taken.{AllFollow}
 use Rattle.scoring.proofs.LawLemmas.{InTurn-front}
+use Rattle.scoring.specs.{Taken.AllFollow, Turns.word_before, Turns.Follow, Turns.InTurn, Turns.tells, declared.TheConstants.MAX_EVENTS}
+use Rattle.scoring.specs.Turns as turns
 
 -- ---- the steps of trips
 
@@ -36,8 +26,6 @@ is_told x = tells x.0 x.2
 words_follow : (A : Places) (S : Setup) (i k : ℕ) (xs : List Step) → trips.InTurn A S i k xs → Follow word.ActStart (map word_of xs)
 unfolding Follow
 words_follow A S i k [] h = tt
-words_follow A S i k (a ∷ []) h = absurd h
-words_follow A S i k (a ∷ b ∷ []) h = absurd h
 words_follow A S i k (a ∷ b ∷ c ∷ []) h =
     let ends = h.0.1.0 in let departs = h.0.2.0 in let stuck = h.1.0 in
     (ap word_before ends, (ap word_before departs ∙ sym ends, (ap word_before stuck ∙ sym departs, tt)))
@@ -45,32 +33,15 @@ words_follow A S i k (a ∷ b ∷ c ∷ d ∷ xs) h =
     let ends = h.0.1.0 in let departs = h.0.2.0 in let arrives = h.1.0.0 in let starts = h.1.1.0 in
     let later : Follow d.0 (map word_of xs) = subst (λ (w : Word). Follow w (map word_of xs)) (sym starts) (words_follow A S i (k + 1) xs h.2) in
     (ap word_before ends, (ap word_before departs ∙ sym ends, (ap word_before arrives ∙ sym departs, (ap word_before starts ∙ sym arrives, later))))
-
-says : (w : Word) (m : More) (x : Step) → x.0 ≡ w → x.2 ≡ m → tells w m ≡ true → is_told x ≡ true
-says w m x e f told = ap₂ tells e f ∙ told
+words_follow A S i k _ h = absurd h
 
 -- a departure tells a mode, the start of an activity a kind
 steps_tell : (A : Places) (S : Setup) (i k : ℕ) (xs : List Step) → trips.InTurn A S i k xs → Each (λ (x : Step). is_told x ≡ true) xs
 steps_tell A S i k [] h = tt
-steps_tell A S i k (a ∷ []) h = absurd h
-steps_tell A S i k (a ∷ b ∷ []) h = absurd h
-steps_tell A S i k (a ∷ b ∷ c ∷ []) h =
-    let ends = h.0.1 in let departs = h.0.2 in let stuck = h.1 in
-    (says _ _ a ends.0 ends.2 refl, (says _ _ b departs.0 departs.2 refl, (says _ _ c stuck.0 stuck.2 refl, tt)))
+steps_tell A S i k (a ∷ b ∷ c ∷ []) h = (rw h.0.1.0, (rw (h.0.2.0, h.0.2.2), (rw h.1.0, tt)))
 steps_tell A S i k (a ∷ b ∷ c ∷ d ∷ xs) h =
-    let ends = h.0.1 in let departs = h.0.2 in let arrives = h.1.0 in let starts = h.1.1 in (
-      says _ _ a ends.0 ends.2 refl,
-      (
-        says _ _ b departs.0 departs.2 refl,
-        (
-          says _ _ c arrives.0 arrives.2 refl,
-          (
-            says _ _ d starts.0 starts.2 refl,
-            steps_tell A S i (k + 1) xs h.2,
-          ),
-        ),
-      ),
-    )
+    (rw h.0.1.0, (rw (h.0.2.0, h.0.2.2), (rw h.1.0.0, (rw (h.1.1.0, h.1.1.2), steps_tell A S i (k + 1) xs h.2))))
+steps_tell A S i k _ h = absurd h
 
 -- ---- the events that they are steps of
 
@@ -82,10 +53,7 @@ is_event_step e = is_step e.word
 
 words_are : (es : List Event) → turns.steps es ≡ map word_of (map step_of (filter is_event_step es))
 words_are [] = refl
-words_are (e ∷ es) = elim (cases_Bool (is_step e.word)) [
-  | inl step ↦ rw step (ap (λ (ws : List Word). e.word ∷ ws) (words_are es))
-  | inr other ↦ rw other (words_are es)
-]
+words_are (e ∷ es) = grind (arith, words_are es)
 
 -- an event that is no step tells all that it is scored by
 quiet : (w : Word) (m : More) → is_step w ≡ false → tells w m ≡ true
@@ -129,5 +97,4 @@ pub planned_day : (S : Setup) (i : ℕ) → IsPlanned S i → i < length S.perso
     → AllFollow (own_events i (day S))
 planned_day S i planned there few end =
     let d = has_some_day S i planned there in
-    let count = d.1 in
     can_be_scored anywhere S i d.0 (omega arith) end

@@ -1,25 +1,15 @@
 -- What the day of a town tells of a person can be scored.
 use Rattle.std.proofs.Common.{◌≡◌, ℕ, ◌<◌, ◌≤◌, true, List, length, map, sym, ◌∙◌, arith}
-use Rattle.std.specs.Prelude.{All}
-use Rattle.std.specs.List.{list_all}
-use Rattle.std.proofs.lemmas.List.{length-map}
-use Rattle.std.proofs.lemmas.List.Folds.{list_all-map}
-use Rattle.std.proofs.lemmas.List.Elements.{All-from_recursion}
+use Rattle.std.proofs.lemmas.List.{length-map, Elements.All-from_recursion, Folds.list_all-map}
+use Rattle.std.specs.{List.list_all, Prelude.All}
 use Rattle.limits.specs.declared.TheConstants.{LAST_SECOND}
 use Rattle.events.specs.Persons.{own_events}
-use Rattle.rows.specs.PlanRows.{PlanRows, plan_rows}
-use Rattle.rows.specs.declared.plan.Plan.{Plan}
+use Rattle.rows.specs.{PlanRows.PlanRows, PlanRows.plan_rows, declared.plan.Plan.Plan}
 use Rattle.traffic.specs.Day.{day}
-use Rattle.town.specs.Fits.{fits}
-use Rattle.town.specs.Rows.{TownRows, IsTown}
-use Rattle.town.specs.Setups.{setup_of}
-use Rattle.law_in_range.specs.Setups.{IsPlanIn}
-use Rattle.law_in_range.proofs.Lists.{each_tested}
-use Rattle.law_in_range.proofs.Towns.{plans_fit}
-use Rattle.law_matches_plans.proofs.Towns.{rows_told}
-use Rattle.law_matches_plans.specs.Trips.{at_activities}
+use Rattle.town.specs.{Fits.fits, Rows.TownRows, Rows.IsTown, Setups.setup_of}
+use Rattle.law_in_range.{proofs.Lists.each_tested, proofs.Towns.plans_fit, specs.Setups.IsPlanIn}
+use Rattle.law_matches_plans.{proofs.Scored.can_be_scored, proofs.Towns.rows_told, specs.Trips.at_activities}
 use Rattle.scoring.specs.Taken.{AllFollow}
-use Rattle.law_matches_plans.proofs.Scored.{can_be_scored}
 
 ends_in : (T : TownRows) (chosen : List PlanRows) (k : ℕ) → IsTown T → (setup_of T chosen k).settings.end_second ≤ LAST_SECOND
 unfolding setup_of

@@ -1,24 +1,14 @@
 -- In a sound and consistent setup the events of a person's trips name the links of his activities.
 use Rattle.traffic.proofs.Common.{◌≡◌, ℕ, List, ◌∙◌, length, ap, refl, sym, [], ◌∷◌, arith, ◌<◌, true, ◌+◌, inl, inr, subst, ◌≤◌, ◌/◌, cases_lt, eq-eqb}
 use Rattle.traffic.proofs.Common.{get_or_past, Some, None, Option, ◌==◌, ◌%◌, Act, link_turns, World, person_of, at, Setup, act_at, person_plan, next_call}
-use Rattle.traffic.proofs.Common.{alighting, staying, HasEnd}
-use Rattle.traffic.specs.declared.world.Row.{Row}
+use Rattle.traffic.{proofs.Common.alighting, proofs.Common.staying, proofs.Common.HasEnd, proofs.Moments.along_weaker, specs.declared.world.Row.Row}
 use Rattle.std.specs.List.{AllByRecursion as Each}
-use Rattle.traffic.proofs.Moments.{along_weaker}
-use Rattle.law_one_place.proofs.Places.{among_riders, rides}
-use Rattle.law_one_place.proofs.Boarding.{riders_are}
-use Rattle.law_sound_setups.specs.Setups.{IsSoundSetup}
-use Rattle.law_sound_setups.specs.Consistent.{IsConsistentSetup}
-use Rattle.law_sound_setups.specs.Alighting.{AlightAll}
-use Rattle.law_sound_setups.proofs.Fine.{Good as IsGoodWorld}
-use Rattle.law_sound_setups.proofs.Steps.{plan_sound}
-use Rattle.law_sound_setups.proofs.Links.{link_keeps}
-use Rattle.law_sound_setups.proofs.Turns.{turn_good}
-use Rattle.law_sound_setups.proofs.Laws.{sound_world, start_good}
+use Rattle.law_one_place.proofs.{Boarding.riders_are, Places.among_riders, Places.rides}
 use Rattle.law_sound_setups.proofs.Alighting.{all_alight, all_odd}
+use Rattle.law_sound_setups.proofs.{Fine.Good as IsGoodWorld, Laws.sound_world, Laws.start_good, Links.link_keeps, Steps.plan_sound, Turns.turn_good}
+use Rattle.law_sound_setups.specs.{Alighting.AlightAll, Consistent.IsConsistentSetup, Setups.IsSoundSetup}
+use Rattle.law_matches_plans.proofs.{Days.Keeps, Days.HasDay, Days.has_day, Turns.AlightsAt, Turns.MayAlight}
 use Rattle.law_matches_plans.specs.Trips.{at_activities, act, IsPlanned}
-use Rattle.law_matches_plans.proofs.Turns.{AlightsAt, MayAlight}
-use Rattle.law_matches_plans.proofs.Days.{Keeps, HasDay, has_day}
 
 -- PLANS
 ends_not : (end : Option ℕ) → HasEnd true end → end ≡ None
@@ -29,7 +19,6 @@ ends_not (Some second) h = absurd (cc)
 pub sound_planned : (S : Setup) (i : ℕ) → IsSoundSetup S → i < length S.persons → IsPlanned S i
 sound_planned S i f lt =
     let p = plan_sound S i f lt in
-    let more = p.one_more in
     let n = length (person_plan S i).acts in
     record {
       last = λ k le. elim (cases_lt k n) [

@@ -1,21 +1,13 @@
 -- The setup of a day in a town is sound and consistent, and its days follow the plans.
-use Rattle.traffic.proofs.Common.{◌≡◌, ℕ, List, length, refl, [], arith, ◌<◌, ◌≤◌, length-map, All-from_recursion, All-get_or, All-weaker}
-use Rattle.traffic.proofs.Common.{map, All, PlanRows, plan_rows, DepartureRow, Setup, Departure}
-use Rattle.traffic.proofs.Each.{each_map}
+use Rattle.traffic.proofs.Common.{◌≡◌, ℕ, List, length, refl, [], arith, ◌<◌, ◌≤◌, length-map, All-from_recursion, All-get_or, All-weaker, map, All, PlanRows}
+use Rattle.traffic.proofs.{Common.plan_rows, Common.DepartureRow, Common.Setup, Common.Departure, Each.each_map}
 use Rattle.town.specs.Rows.{TownRows, IsTown}
-use Rattle.town.specs.Setups.{departure_of, setup_of}
-use Rattle.town.specs.Views.{rows_of, chosen_in, setup, ChosenFit}
-use Rattle.town.specs.declared.day_input.DayInput.{DayInput}
-use Rattle.law_in_range.specs.Setups.{IsPlanIn}
-use Rattle.law_in_range.proofs.Towns.{plans_fit}
-use Rattle.law_matches_plans.specs.Trips.{IsPlanned, legs}
-use Rattle.law_matches_plans.proofs.Days.{stuck_last}
-use Rattle.law_matches_plans.proofs.Sound.{sound_planned, has_sound_day}
+use Rattle.town.specs.{Setups.departure_of, Setups.setup_of, Views.rows_of, Views.chosen_in, Views.setup, Views.ChosenFit, declared.day_input.DayInput.DayInput}
+use Rattle.law_in_range.{proofs.Towns.plans_fit, specs.Setups.IsPlanIn}
+use Rattle.law_matches_plans.proofs.{Days.stuck_last, Plans.AtStops, Plans.plan_sound, Plans.plan_consistent, Schedule.runs, Sound.sound_planned}
+use Rattle.law_matches_plans.{proofs.Sound.has_sound_day, specs.Planned.IsToldAsPlanned, specs.Trips.IsPlanned, specs.Trips.legs}
 use Rattle.law_sound_setups.specs.Setups.{IsSoundPlan, IsSoundRun, IsSoundSetup}
 use Rattle.law_sound_setups.specs.Consistent.{IsConsistentPlan, AreAtStops, IsConsistentSetup}
-use Rattle.law_matches_plans.specs.Planned.{IsToldAsPlanned}
-use Rattle.law_matches_plans.proofs.Plans.{AtStops, plan_sound, plan_consistent}
-use Rattle.law_matches_plans.proofs.Schedule.{runs}
 
 -- SETUPS
 all_plans : (P : PlanRows → Type 0) (T : TownRows) (chosen : List PlanRows) → ((p : PlanRows) → IsPlanIn T p → P p) → All (IsPlanIn T) chosen → All P chosen
@@ -71,8 +63,7 @@ rows_told T chosen k i town h lt =
     let sound = rows_sound T chosen k town h in
     let d = has_sound_day S i sound (rows_consistent T chosen k town h) there in
     let few = d.1 in
-    let legs = few_in T chosen k i h lt in
-    record { turn = d.0; last = stuck_last S i (sound_planned S i sound there) there; few = few; most = omega arith }
+    record { turn = d.0; last = stuck_last S i (sound_planned S i sound there) there; few = few; most = omega (arith, few_in T chosen k i h lt) }
 
 -- TOWNS
 pub town_sound : (day : DayInput) → ChosenFit day → IsSoundSetup (setup day)

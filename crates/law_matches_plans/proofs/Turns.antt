@@ -5,39 +5,34 @@ use Rattle.traffic.proofs.Common.{All-from_recursion, filter-append, All-nil, Al
 use Rattle.traffic.proofs.Common.{not, if◌then◌else◌, All, nat_lt, ◌==◌, Mode, VehicleId, StopCall, Act, Leg, Transit, Car, Teleport, link_turns, node_turns}
 use Rattle.traffic.proofs.Common.{landing_turns, leaving_turns, departure_turns, waiting, buffered, is_last, numbers, without, run, done, told}
 use Rattle.traffic.proofs.Common.{person_after_all, person_after, rows_after, entered, waiter, sets_out, waits_on, transit_vehicle, departs, waiters}
-use Rattle.traffic.proofs.Common.{same_vehicle, lands, mode_of_leg, waits, World, person_of, at, on, Setup, act_after, leg_at, act_at, link_of_stop}
+use Rattle.traffic.proofs.Common.{same_vehicle, lands, mode_of_leg, is_person, World, person_of, at, on, Setup, act_after, leg_at, act_at, link_of_stop}
 use Rattle.traffic.proofs.Common.{departure, served_row, next_call, alighting, rider, calls_on, staying, served_vehicle, boarding, riders_after, alights}
-use Rattle.traffic.proofs.Common.{is_person, of_rider, mode_in, arrives, serves, aborts, of_person, VehicleState, listed, IsListed, listed_in, rows_of}
-use Rattle.traffic.specs.declared.moves.Move.{Move}
+use Rattle.traffic.proofs.Common.{of_rider, mode_in, arrives, serves, strands, aborts, of_person, VehicleState, listed, IsListed, listed_in}
+use Rattle.traffic.proofs.Each.{each_all, each_if, each_flat, each_number, each_boarding}
+use Rattle.traffic.proofs.{LeftBehind.serving_stage, LinkWalk.LinkCases, LinkWalk.link_walk, Moments.Along, Moments.along_both, Moments.along_given}
+use Rattle.traffic.proofs.{Moments.held_along, NodeWalk.NodeCases, NodeWalk.node_walk, Sublists.at_such, Sublists.person-done, Sublists.persons-length}
+use Rattle.traffic.proofs.Waiting.{boarded-are, gone_calm, pass_calm, serve_calm}
+use Rattle.traffic.{proofs.Walks.flight_walk, proofs.Walks.leave_walk, proofs.Walks.departure_walk, specs.declared.moves.Move.Move}
 use Rattle.traffic.specs.declared.moves.Move.TheVariants.{Transfer, Remove, Enter, SetFrontSince, Credit, LeaveHole, Report}
-use Rattle.traffic.specs.declared.moves.Occurrence.{Occurrence}
-use Rattle.traffic.specs.declared.stage.Stage.{Stage}
-use Rattle.traffic.specs.declared.stage.Stage.TheVariants.{Buffer, Bay}
-use Rattle.traffic.specs.declared.world.Person.{Person}
-use Rattle.traffic.specs.declared.world.Place.{Place}
-use Rattle.traffic.specs.declared.world.Place.TheVariants.{At, Teleporting, Waiting, Riding, Aborted}
-use Rattle.traffic.specs.declared.world.Row.{Row}
-use Rattle.traffic.specs.declared.world.Waiter.{Waiter}
-use Rattle.std.specs.List.{AllByRecursion as Each}
-use Rattle.std.proofs.lemmas.List.{length-append}
+use Rattle.traffic.specs.declared.{moves.Occurrence.Occurrence, stage.Stage.Stage, stage.Stage.TheVariants.Buffer, stage.Stage.TheVariants.Bay}
+use Rattle.traffic.specs.declared.world.{Person.Person, Place.Place, Place.TheVariants.At, Place.TheVariants.Teleporting, Place.TheVariants.Waiting}
+use Rattle.traffic.specs.declared.world.{Place.TheVariants.Riding, Place.TheVariants.Aborted, Row.Row, Waiter.Waiter}
+use Rattle.std.{proofs.lemmas.List.length-append, specs.List.AllByRecursion as Each}
 use Rattle.events.specs.declared.event.Mode.TheVariants as mode
 use Rattle.events.specs.declared.event.More.TheVariants as more
 use Rattle.events.specs.declared.event.VehicleId.TheVariants as vehicle
 use Rattle.events.specs.declared.event.Word.TheVariants as word
-use Rattle.traffic.proofs.Each.{each_if, each_flat, each_number, each_boarding}
-use Rattle.traffic.proofs.Sublists.{at_such, person-done, persons-length}
-use Rattle.traffic.proofs.Waiting.{boarded-are}
-use Rattle.traffic.proofs.LeftBehind.{serving_stage}
-use Rattle.traffic.proofs.NodeWalk.{NodeCases, node_walk}
-use Rattle.traffic.proofs.LinkWalk.{LinkCases, link_walk}
-use Rattle.traffic.proofs.Walks.{flight_walk, leave_walk, departure_walk}
-use Rattle.traffic.proofs.Moments.{Along, along_both, along_given, held_along}
-use Rattle.law_one_place.proofs.Places.{vehicles, stands, after_move, listed_once, weight, weight-without, weighed, IsTaken, took, brought, rides, rides_in, counted, listed-rows_of, listed_part, InOne, among_riders, rides_few}
 use Rattle.law_one_place.proofs.Boarding.{IsInLine, in_line, board_few, as_riders, riders_are, served_are, waits_few, line_one, waiters_in_line}
+use Rattle.law_one_place.proofs.Places.{vehicles, stands, after_move, listed_once, weight, weight-without, weighed, IsTaken, took, brought, rides, rides_in}
+use Rattle.law_one_place.proofs.Places.{counted, listed-rows_of, listed_part, InOne, among_riders, rides_few}
 use Rattle.law_one_place.proofs.Turns.{place_of, told_front, told_end, nodes_keep, links_keep}
 use Rattle.events.specs.Persons.{names}
+use Rattle.law_matches_plans.proofs.Events.{IsPlan, IsCalm, worth, worth_at, IsLast, Stops, stops_last, calm, stuck_count, stuck_place, own, told_steps}
+use Rattle.law_matches_plans.proofs.Events.{steps_append, IsFit, Goes, Does, goes_append, after_own, car_worth, half_two, does_nil, goes_less, IsFitAt}
+use Rattle.law_matches_plans.proofs.Events.{lands_does, departs_does, waits_does, enters_car, IsIn, kind_next, AreRight, wrong, wrong_few, all_right}
+use Rattle.law_matches_plans.proofs.Events.{count_cons, IsWaiting, IsRight, none_wrong, change_element, riders_change, arrives_does, nobody_arrives, front_does}
+use Rattle.law_matches_plans.proofs.Events.{put_front, gone_front, riders_stuck, none_after}
 use Rattle.law_matches_plans.specs.Trips.{Places, act, leg, legs}
-use Rattle.law_matches_plans.proofs.Events.{IsPlan, IsCalm, worth, worth_at, IsLast, Stops, stops_last, calm_put, calm_gone, stuck_count, stuck_place, own, told_steps, steps_append, IsFit, Goes, Does, goes_append, after_own, car_worth, half_two, does_nil, goes_less, IsFitAt, lands_does, departs_does, waits_does, enters_car, IsIn, kind_next, AreRight, wrong, wrong_few, all_right, count_yes, count_no, IsWaiting, IsRight, none_wrong, change_element, riders_change, arrives_does, nobody_arrives, front_does, put_front, gone_front, riders_stuck, nobody_stuck}
 
 -- what the cars of person i are worth, and how many calls cars have
 abbrev pub cars : ℕ → VehicleState → ℕ
@@ -81,7 +76,7 @@ abbrev pub spare : Setup → ℕ → World → ℕ
 spare S i W = worth S i (person_of i W) + weight (cars i) W.rows
 
 -- it takes what it says, and what it tells does its part to person i
-pub record IsGood (A : Places) (S : Setup) (t i : ℕ) (W : World) (m : Move) : Type 0 where
+pub record Good (A : Places) (S : Setup) (t i : ℕ) (W : World) (m : Move) : Type 0 where
   pub taken : IsTaken m W
   pub there : i < length W.persons
   pub calls : brought strays m ≤ took strays m
@@ -89,9 +84,6 @@ pub record IsGood (A : Places) (S : Setup) (t i : ℕ) (W : World) (m : Move) : 
   pub stops : IsSane S i W → Stops i (told m) (spare S i (done S t m W))
   pub kinds : IsSane S i W → KeepsKinds S t i W m
   pub does : IsSane S i W → Does A S t i (person_of i W) (own i (told m)) (took (cars i) m) (brought (cars i) m)
-
-abbrev pub Good : Places → Setup → ℕ → ℕ → World → Move → Type 0
-Good A S t i W m = IsGood A S t i W m
 
 -- a move that is nothing to him
 quiet_good : (A : Places) (S : Setup) (t i : ℕ) (W : World) (m : Move) → IsTaken m W → i < length W.persons → own i (told m) ≡ [] → brought strays m ≤ took strays m → brought (lone i) m ≤ took (lone i) m → brought (cars i) m ≤ took (cars i) m →
@@ -114,45 +106,34 @@ Passes A S i W V es =
     Goes A S i (person_of i W) (person_of i V) (told_steps (own i es)) (length (own i es)) (weight (cars i) W.rows) (weight (cars i) V.rows)
     × ((ys : List Occurrence) → length ys ≤ spare S i V → IsLast ys → IsLast (own i es ++ ys))
 
--- the row of the person after a move
-pub person_then : (S : Setup) (t i : ℕ) (m : Move) (W : World) → i < length W.persons → person_of i (done S t m W) ≡ person_after_all S t i (own i (told m)) (person_of i W)
-person_then S t i m W lt = person-done S t i m W lt ∙ after_own S t i (told m) (person_of i W)
-
 move_passes : (A : Places) (S : Setup) (t i : ℕ) (m : Move) (W : World) → Good A S t i W m → IsSane S i W → Passes A S i W (done S t m W) (told m)
 move_passes A S t i m W g s =
     let d = g.does s in
-    let c = d.cost in
-    let w : weight (cars i) (rows_after m W.rows) + took (cars i) m ≡ weight (cars i) W.rows + brought (cars i) m = weighed (cars i) m W g.taken in
-    (rw (person_then S t i m W g.there) (record { leads = d.leads; cost = omega arith; fit = d.fit }), λ ys le h. stops_last i (spare S i (done S t m W)) (told m) ys (g.stops s) le h)
-
-listed_wrong : (i K : ℕ) (rows : List Row) → weight (wrongs i K) rows ≤ listed i rows
-listed_wrong i K rows = sum_by-le-sum_by (λ (r : Row). wrongs i K r.vehicle) (listed_in i) rows (λ r. wrong_few i K r.vehicle.riders)
+    let w : weight (cars i) (rows_after m W.rows) + took (cars i) m ≡ weight (cars i) W.rows + brought (cars i) m = weighed (cars i) m W g.taken in (
+      rw (person-done S t i m W g.there ∙ after_own S t i (told m) (person_of i W))
+          (record { leads = d.leads; cost = omega arith; fit = d.fit }),
+      λ ys le h. stops_last i (spare S i (done S t m W)) (told m) ys (g.stops s) le h,
+    )
 
 kinds_keep : (S : Setup) (t i : ℕ) (m : Move) (W : World) → IsTaken m W → IsSane S i W → KeepsKinds S t i W m → weight (wrongs i (kind_next S i (after_move S t i m W))) (rows_after m W.rows) ≡ 0
 kinds_keep S t i m W taken s (inl a) =
     let w : weight (rides i) (rows_after m W.rows) + took (rides i) m ≡ listed i W.rows + brought (rides i) m = weighed (rides i) m W taken in
-    let le : weight (wrongs i (kind_next S i (after_move S t i m W))) (rows_after m W.rows) ≤ weight (rides i) (rows_after m W.rows) = listed_wrong i _ (rows_after m W.rows) in omega arith
+    let K = kind_next S i (after_move S t i m W) in
+    omega (arith, sum_by-le-sum_by (λ (r : Row). wrongs i K r.vehicle) (listed_in i) (rows_after m W.rows) (λ r. wrong_few i K r.vehicle.riders))
 kinds_keep S t i m W taken s (inr b) =
     let K = kind_next S i (person_of i W) in
-    let w : weight (wrongs i K) (rows_after m W.rows) + took (wrongs i K) m ≡ weight (wrongs i K) W.rows + brought (wrongs i K) m = weighed (wrongs i K) m W taken in
-    let z = s.kinds in
-    let le = b.1 in
-    let none : weight (wrongs i K) (rows_after m W.rows) ≡ 0 = omega arith in
+    let none : weight (wrongs i K) (rows_after m W.rows) ≡ 0 = omega (arith, weighed (wrongs i K) m W taken) in
     subst (λ (k : ℕ). weight (wrongs i (act S i (k + 1)).kind) (rows_after m W.rows) ≡ 0) (sym b.0) none
 
 move_sane : (A : Places) (S : Setup) (t i : ℕ) (m : Move) (W : World) → Good A S t i W m → IsSane S i W → IsSane S i (done S t m W)
 move_sane A S t i m W g s =
     let w : weight strays (rows_after m W.rows) + took strays m ≡ weight strays W.rows + brought strays m = weighed strays m W g.taken in
-    let c = g.calls in
-    let z = s.calls in
     let w2 : weight (lone i) (rows_after m W.rows) + took (lone i) m ≡ weight (lone i) W.rows + brought (lone i) m = weighed (lone i) m W g.taken in
     let c2 = g.drivers s in
-    let z2 = s.drivers in
     record { calls = omega arith; kinds = rw (person-done S t i m W g.there) (kinds_keep S t i m W g.taken s (g.kinds s)); drivers = omega arith; fit = (move_passes A S t i m W g s).0.fit }
 
 pub passes_append : (A : Places) (S : Setup) (i : ℕ) (W V U : World) (xs ys : List Occurrence) → Passes A S i W V xs → Passes A S i V U ys → Passes A S i W U (xs ++ ys)
 passes_append A S i W V U xs ys f g =
-    let cost = g.0.cost in
     let split = filter-append (λ (e : Occurrence). names i e.person) xs ys in (
       rw (split, steps_append (own i xs) (own i ys), length-append (own i xs) (own i ys))
           (goes_append A S i (person_of i W) (person_of i V) (person_of i U) (told_steps (own i xs)) (told_steps (own i ys)) (length (own i xs)) (length (own i ys)) _ _ _ f.0 g.0),
@@ -173,9 +154,8 @@ moves_pass A S t i (m ∷ ms) W h s =
 -- WHAT A ROW SAYS OF ITS RIDERS
 same_mode : (v u : VehicleId) → same_vehicle v u ≡ true → mode_in v ≡ mode_in u
 same_mode (vehicle.Car i) (vehicle.Car j) h = refl
-same_mode (vehicle.Car i) (vehicle.Transit d) h = absurd (cc)
-same_mode (vehicle.Transit d) (vehicle.Car j) h = absurd (cc)
 same_mode (vehicle.Transit d) (vehicle.Transit e) h = refl
+same_mode _ _ h = absurd (cc)
 
 in_row : (i l : ℕ) (s : Stage) (k : ℕ) (v : VehicleState) (W : World) (pl : Place) → slice_get (vehicles l s W) k ≡ Some v → IsListed i W.rows pl → 1 ≤ rides i v → IsIn v.id pl
 in_row i l s k v W (Riding u) stands h one =
@@ -184,15 +164,11 @@ in_row i l s k v W (Riding u) stands h one =
     let b : weight (rides_in u i) rest + counted v.id u (rides i v) ≡ weight (rides_in u i) W.rows = weight-without (rides_in u i) (on l s) k v W.rows stands in
     let c = listed-rows_of u i W.rows in
     let d = listed-rows_of u i rest in
-    let e : listed i (rows_of u rest) ≤ weight (rides i) rest = listed_part u i rest in
-    let f = h.0 in
-    let g = h.1 in
     elim (cases_Bool (same_vehicle v.id u)) [
       | inl q ↦ same_mode v.id u q
-      | inr q ↦ let z : counted v.id u (rides i v) ≡ 0 = ap (λ (b : Bool). if b then rides i v else 0) q in absurd (omega arith)
+      | inr q ↦ let z : counted v.id u (rides i v) ≡ 0 = ap (λ (b : Bool). if b then rides i v else 0) q in absurd (omega (arith, listed_part u i rest))
     ]
-in_row i l s k v W _ stands h one =
-    let a : weight (rides i) (without (on l s) k W.rows) + rides i v ≡ listed i W.rows = weight-without (rides i) (on l s) k v W.rows stands in absurd (omega arith)
+in_row i l s k v W _ stands h one = absurd (omega (arith, weight-without (rides i) (on l s) k v W.rows stands))
 
 -- who rides in a row that is taken is in a vehicle of its mode
 pub rides_here : (i l : ℕ) (s : Stage) (k : ℕ) (v : VehicleState) (W : World) → slice_get (vehicles l s W) k ≡ Some v → InOne i W → 1 ≤ rides i v → IsIn v.id (person_of i W).place
@@ -200,31 +176,25 @@ rides_here i l s k v W stands h one = in_row i l s k v W (person_of i W).place s
 
 -- and then nobody else lists him
 pub listed_here : (i l : ℕ) (s : Stage) (k : ℕ) (v : VehicleState) (W : World) → slice_get (vehicles l s W) k ≡ Some v → InOne i W → 1 ≤ rides i v → listed i W.rows ≡ rides i v
-listed_here i l s k v W stands h one =
-    let a : weight (rides i) (without (on l s) k W.rows) + rides i v ≡ listed i W.rows = weight-without (rides i) (on l s) k v W.rows stands in
-    let b = listed_once i W.rows (person_of i W).place h.listed in omega arith
+listed_here i l s k v W stands h one = omega (arith, weight-without (rides i) (on l s) k v W.rows stands, listed_once i W.rows (person_of i W).place h.listed)
 
 -- a row that is taken has no wrong rider
 pub right_here : (S : Setup) (i l : ℕ) (s : Stage) (k : ℕ) (v : VehicleState) (W : World) → slice_get (vehicles l s W) k ≡ Some v → IsSane S i W → AreRight S i (person_of i W) v.riders
 right_here S i l s k v W stands h =
     let K = kind_next S i (person_of i W) in
-    let z = h.kinds in
-    let w = weight-without (wrongs i K) (on l s) k v W.rows stands in all_right i K v.riders (omega arith)
+    all_right i K v.riders (omega (arith, weight-without (wrongs i K) (on l s) k v W.rows stands))
 
 -- no car tells of him where nobody lists him
 car_few : (i : ℕ) (id : VehicleId) (b : Bool) (n : ℕ) → car_worth i id b ≤ 2 * (n + lone_of i id n)
-car_few i (vehicle.Car j) b n = elim (cases_Bool (eqb j i)) [ inl q ↦ simp q (elim b as (λ c. (if c then 1 else 2) ≤ 2 * (n + (1 - n))) [ true ↦ omega arith | false ↦ omega arith ]) | inr q ↦ simp q (omega arith) ]
+car_few i (vehicle.Car j) b n = grind arith
 car_few i (vehicle.Transit d) b n = omega arith
 
 pub cars_none : (i : ℕ) (rows : List Row) → listed i rows ≡ 0 → weight (lone i) rows ≡ 0 → weight (cars i) rows ≡ 0
 cars_none i [] h g = refl
 cars_none i (r ∷ rs) h g =
     let v = r.vehicle in
-    let a : listed i (r ∷ rs) ≡ rides i v + listed i rs = sum_by-cons (listed_in i) r rs in
-    let b : weight (lone i) (r ∷ rs) ≡ lone i v + weight (lone i) rs = sum_by-cons (λ (x : Row). lone i x.vehicle) r rs in
-    let c : weight (cars i) (r ∷ rs) ≡ cars i v + weight (cars i) rs = sum_by-cons (λ (x : Row). cars i x.vehicle) r rs in
-    let d = car_few i v.id v.started (rides i v) in
-    let y = cars_none i rs (omega arith) (omega arith) in omega arith
+    let lones = sum_by-cons (λ (x : Row). lone i x.vehicle) r rs in
+    omega (arith, sum_by-cons (listed_in i) r rs, lones, sum_by-cons (λ (x : Row). cars i x.vehicle) r rs, car_few i v.id v.started (rides i v), cars_none i rs)
 
 lone_pt : (i : ℕ) (id : VehicleId) (n : ℕ) → mode_in id ≡ mode.Pt → lone_of i id n ≡ 0
 lone_pt i (vehicle.Car j) n h = absurd (cc)
@@ -236,9 +206,7 @@ calls_mode (vehicle.Car j) calls served h q = let lt = ltb-true served (length c
 calls_mode (vehicle.Transit d) calls served h q = refl
 
 pub serves_pt : (S : Setup) (i l a : ℕ) (s : Stage) (k : ℕ) (v : VehicleState) (W : World) → slice_get (vehicles a s W) k ≡ Some v → IsSane S i W → calls_on l v ≡ true → mode_in v.id ≡ mode.Pt
-serves_pt S i l a s k v W stands h q =
-    let z = h.calls in
-    let w = weight-without strays (on a s) k v W.rows stands in calls_mode v.id v.calls v.served (omega arith) (and_parts _ _ q).0
+serves_pt S i l a s k v W stands h q = calls_mode v.id v.calls v.served (omega (arith, weight-without strays (on a s) k v W.rows stands)) (and_parts _ _ q).0
 
 -- WHO WAITS
 -- who is among these waits at a stop, and goes to the activity after his leg
@@ -255,21 +223,15 @@ board_right i K v ws h = All-map (IsRight i K) rider _ (All-from_recursion (IsDu
 none_due : (i K : ℕ) (ws : List Waiter) → in_line i ws ≡ 0 → Each (IsDue i K) ws
 none_due i K [] h = tt
 none_due i K (w ∷ ws) h =
-    elim (cases_Bool (eqb w.person i)) [
-      | inl q ↦ let d = count_yes (is_person i) w ws q in absurd (omega arith)
-      | inr q ↦ let d = count_no (is_person i) w ws q in ((λ e. absurd (cc)), none_due i K ws (omega arith))
-    ]
+    let c = count_cons (is_person i) w ws in ((λ e. grind arith), none_due i K ws (grind arith))
 
 waits_here : (S : Setup) (l j i : ℕ) (w : Leg) (next : Act) (pl : Place) → 1 ≤ in_line i (waits_on S l j w next pl) → IsWaiting pl
 waits_here S l j i w next (Waiting stop since) h = tt
 waits_here S l j i w next _ h = absurd (omega arith)
 
-one_due : (i j K : ℕ) (w : Leg) (next : Act) (stop since : ℕ) → (eqb j i ≡ true → next.kind ≡ K) → Each (IsDue i K) (waits j w next stop since)
-one_due i j K (Transit line access egress) next stop since h = (h, tt)
-one_due i j K _ next stop since h = tt
-
 waiter_due : (S : Setup) (l j i K : ℕ) (w : Leg) (next : Act) (pl : Place) → (eqb j i ≡ true → next.kind ≡ K) → Each (IsDue i K) (waits_on S l j w next pl)
-waiter_due S l j i K w next (Waiting stop since) h = each_if (IsDue i K) (eqb (link_of_stop S stop) l) _ _ (one_due i j K w next stop since h) tt
+waiter_due S l j i K (Transit line access egress) next (Waiting stop since) h = each_if (IsDue i K) (eqb (link_of_stop S stop) l) _ _ (h, tt) tt
+waiter_due S l j i K w next (Waiting stop since) h = each_if (IsDue i K) (eqb (link_of_stop S stop) l) _ _ tt tt
 waiter_due S l j i K w next _ h = tt
 
 next_act : (S : Setup) (i j : ℕ) (W : World) → j ≡ i → act_after S j (person_of j W).element ≡ act S i ((person_of i W).element / 2 + 1)
@@ -332,28 +294,24 @@ stop_front A S t i l ws s r xs W p may h e q w =
     let a = as_riders i (boarding v ws) in
     let b : among_riders i outs + among_riders i (staying stop v.riders) ≡ rides i v = riders_are i stop v.riders in
     let c = board_few i v ws in
-    let one = line.once in
-    let rode = f.0 in
     let off : 1 ≤ in_line i ws → rides i v ≡ 0 = λ g. f.1 (line.off g) in
     let kind = kind_next S i P in
     let due : All (IsRight i kind) ins = elim (cases_lt 0 (in_line i ws)) [ inl lt ↦ board_right i kind v ws (lined (omega arith)).1 | inr ge ↦ board_right i kind v ws (none_due i kind ws (omega arith)) ] in
-    let keeps : IsSane S i W → KeepsKinds S t i W (Transfer l (serving_stage s) 0 r now) = λ sane.
-    elim (cases_lt 0 (among_riders i outs)) [
-      | inl lt ↦
-          let z = listed_here i l (serving_stage s) 0 v W here h (omega arith) in
-          let n : in_line i (boarding v ws) ≡ 0 = elim (cases_lt 0 (in_line i (boarding v ws))) [ inl k ↦ let z = off (omega arith) in absurd (omega arith) | inr k ↦ omega arith ] in
-          let d = served_are i v ws in inl (omega arith)
-      | inr ge ↦
-          let d : wrong i kind (riders_after v ws) ≡ 0 = none_wrong i kind (riders_after v ws) (riders_right i kind v ws (right_here S i l (serving_stage s) 0 v W here sane) due) in
-          inr (ap (λ (n : ℕ). n / 2) (ap (λ (x : Person). x.element) (told_front S t i s r now P) ∙ rw (boarded-are v ws) (change_element S t i P r.link v.id outs ins (omega arith))), omega arith)
-    ] in
     record {
       taken = (here, refl);
       there = h.there;
       calls = omega arith;
-      kinds = keeps;
+      kinds = λ sane. elim (cases_lt 0 (among_riders i outs)) [
+        | inl lt ↦
+            let z = listed_here i l (serving_stage s) 0 v W here h (omega arith) in
+            let n : in_line i (boarding v ws) ≡ 0 = elim (cases_lt 0 (in_line i (boarding v ws))) [ inl k ↦ let z = off (omega arith) in absurd (omega arith) | inr k ↦ omega arith ] in
+            inl (omega (arith, served_are i v ws))
+        | inr ge ↦
+            let d : wrong i kind (riders_after v ws) ≡ 0 = none_wrong i kind (riders_after v ws) (riders_right i kind v ws (right_here S i l (serving_stage s) 0 v W here sane) due) in
+            inr (ap (λ (n : ℕ). n / 2) (ap (λ (x : Person). x.element) (told_front S t i s r now P) ∙ rw (boarded-are v ws) (change_element S t i P r.link v.id outs ins (omega arith))), omega arith)
+      ];
       drivers = λ sane. let z = lone_pt i v.id (rides i now.vehicle) (serves_pt S i l l (serving_stage s) 0 v W here sane q) in omega arith;
-      stops = λ sane. inl (calm_put (serving_stage s) r now);
+      stops = λ sane. inl (calm _ (serve_calm _ S.settings.dwell t l s ws r (each_all _ (λ x. tt) (boarding v ws))));
       does = λ sane. rw (put_front s r now)
           (front_does A S t i P s r (serves r now) (cars i now.vehicle) sane.fit (rw (boarded-are v ws)
           (riders_change A S t i P (cars i now.vehicle) r.link v.id outs ins p sane.fit (All-filter (alights stop) (IsRight i kind) v.riders (right_here S i l (serving_stage s) 0 v W here sane)) due (omega arith)
@@ -381,7 +339,7 @@ end_front A S t i l s r xs W p may h e off last =
       calls = omega arith;
       kinds = λ sane. gone_kinds S t i l (serving_stage s) r W here h (λ q. told_end S t i s r P ∙ after_own S t i (arrives r) P ∙ nobody_arrives S t i P r q);
       drivers = λ sane. omega arith;
-      stops = λ sane. inl (calm_gone s r);
+      stops = λ sane. inl (calm _ (gone_calm _ l s r));
       does = λ sane. rw (gone_front s r)
           (front_does A S t i P s r (arrives r) 0 sane.fit (arrives_does A S t i P r p sane.fit (right_here S i l (serving_stage s) 0 r.vehicle W here sane) (rides_few i l (serving_stage s) 0 r W here h).0 (λ g. (rides_here i l (serving_stage s) 0 r.vehicle W here h g, rw there (alights_here g)))));
     }
@@ -396,7 +354,7 @@ pass_front A S t i l b s r xs W h e =
       calls = omega arith;
       kinds = λ sane. inr (ap (λ (x : Person). x.element / 2) (told_front S t i s r now P), omega arith);
       drivers = λ sane. omega arith;
-      stops = λ sane. inl (calm_put (serving_stage s) r now);
+      stops = λ sane. inl (calm _ (pass_calm _ t l b s r));
       does = λ sane. rw (put_front s r now) (front_does A S t i P s r [] (cars i now.vehicle) sane.fit (does_nil A S t i P _ _ sane.fit (omega arith)));
     }
 
@@ -411,7 +369,7 @@ still_good A S t i m W lt taken nil same =
 links_good : (A : Places) (S : Setup) (t l i : ℕ) → IsPlan A S i → LinkCases S t l (λ W m. MayAlight A i W × InOne i W → Good A S t i W m)
 links_good A S t l i p =
     record {
-      due = λ k r W e c h. quiet_good A S t i W (Transfer l Bay k r (waiting l r)) (stands l Bay k r W e, refl) h.1.there refl (omega arith) (omega arith) (omega arith) (λ k. omega arith) (calm_put Bay r r);
+      due = λ k r W e c h. quiet_good A S t i W (Transfer l Bay k r (waiting l r)) (stands l Bay k r W e, refl) h.1.there refl (omega arith) (omega arith) (omega arith) (λ k. omega arith) ((λ q. cc), tt);
       serve = λ s ws r xs W e c q h. stop_front A S t i l ws s r xs W p h.0 h.1 e c q;
       arrive = λ s r xs W e c o h. end_front A S t i l s r xs W p h.0 h.1 e c o;
       pass = λ s b r xs W e c o h. pass_front A S t i l b s r xs W h.1 e;
@@ -434,13 +392,11 @@ gone_stops S t i a r W here h sane few =
     let n : length (own i (aborts r)) ≡ rides i v = stuck_count i r.link v.id v.riders in (
       omega arith,
       λ one.
-          let rows : weight (rides i) (rows_after m W.rows) + rides i v ≡ listed i W.rows + 0 = weighed (rides i) m W here in
-          let lones : weight (lone i) (rows_after m W.rows) + lone i v ≡ weight (lone i) W.rows + 0 = weighed (lone i) m W here in
-          let z = sane.drivers in
           let b = listed_here i a Buffer 0 v W here h (omega arith) in
-          let none : weight (cars i) (rows_after m W.rows) ≡ 0 = cars_none i (rows_after m W.rows) (omega arith) (omega arith) in
+          let none : weight (cars i) (rows_after m W.rows) ≡ 0 = cars_none i (rows_after m W.rows)
+          (omega (arith, weighed (rides i) m W here)) (omega (arith, weighed (lone i) m W here)) in
           let place : (person_of i (done S t m W)).place ≡ Aborted r.link = rw (person-done S t i m W h.there) (stuck_place S t i r.link v.id v.riders (person_of i W) (inl (omega arith))) in
-          let worthless : worth S i (person_of i (done S t m W)) ≡ 0 = ap (worth_at (legs S i) ((person_of i (done S t m W)).element / 2)) place in omega arith,
+          omega (arith, ap (worth_at (legs S i) ((person_of i (done S t m W)).element / 2)) place),
     )
 
 gone_good : (A : Places) (S : Setup) (t i a : ℕ) (r : Row) (W : World) → slice_get (vehicles a Buffer W) 0 ≡ Some r.vehicle → InOne i W → Good A S t i W (Remove a Buffer 0 r)
@@ -454,7 +410,7 @@ gone_good A S t i a r W here h =
       drivers = λ sane. omega arith;
       stops = λ sane. inr (gone_stops S t i a r W here h sane few.0);
       kinds = λ sane. gone_kinds S t i a Buffer r W here h
-          (λ q. after_own S t i (aborts r) (person_of i W) ∙ ap (λ (es : List Occurrence). person_after_all S t i es (person_of i W)) (nobody_stuck i r.link v.id v.riders q));
+          (λ q. after_own S t i (aborts r) (person_of i W) ∙ none_after S t i (person_of i W) (strands v.id r.link) v.riders (λ r q. simp q) q);
       does = λ sane. goes_less A S i (person_of i W) _ _ _ 0 0 _ 0 (omega arith) (omega arith)
           (riders_stuck A S t i (person_of i W) 0 r.link v.id v.riders sane.fit (right_here S i a Buffer 0 v W here sane) few.0 (λ g. rides_here i a Buffer 0 v W here h g));
     }
@@ -462,7 +418,8 @@ gone_good A S t i a r W here h =
 nodes_good : (A : Places) (S : Setup) (t n i : ℕ) → NodeCases S t n (λ W m. InOne i W → Good A S t i W m)
 nodes_good A S t n i =
     record {
-      enter = λ a e r xs W f q c h. quiet_good A S t i W (Transfer a Buffer 0 r (entered t e r.vehicle)) (rw f.rows refl, refl) h.there refl (omega arith) (omega arith) (omega arith) (λ k. omega arith) (calm_put Buffer r r);
+      enter = λ a e r xs W f q c h. quiet_good A S t i W (Transfer a Buffer 0 r (entered t e r.vehicle)) (rw f.rows refl, refl) h.there refl
+          (omega arith) (omega arith) (omega arith) (λ k. omega arith) ((λ q. cc), ((λ q. cc), tt));
       abort = λ a r xs W f c h. gone_good A S t i a r W (rw f.rows refl) h;
       mark = λ a W c h. still_good A S t i (SetFrontSince a t) W h.there tt refl (λ g. refl);
     }
@@ -492,9 +449,6 @@ told_good A S t j i says W lt calm off f g =
 at_place : (A : Places) (S : Setup) (t i : ℕ) (P : Person) (e : ℕ) (pl : Place) (es : List Occurrence) (a b : ℕ) → P ≡ record { element = e; place = pl } → (IsFitAt S i e pl → Does A S t i (record { element = e; place = pl }) es a b) → IsFit S i P → Does A S t i P es a b
 at_place A S t i P e pl es a b q f = subst (λ (x : Person). IsFit S i x → Does A S t i x es a b) (sym q) f
 
-with_place : (P : Person) (pl : Place) → P.place ≡ pl → P ≡ record { element = P.element; place = pl }
-with_place P pl q = ap (λ (x : Place). record { element = P.element; place = x }) q
-
 lands_good : (A : Places) (S : Setup) (t j i seconds start : ℕ) (m : Mode) (next : Act) (W : World) → IsPlan A S i → InOne i W → (eqb j i ≡ true → ((person_of i W).place ≡ Teleporting start) × (m ≡ mode_of_leg (leg S i ((person_of i W).element / 2))) × (next ≡ act S i ((person_of i W).element / 2 + 1))) →
     Good A S t i W (Report (lands j m seconds next))
 unfolding person_after
@@ -502,7 +456,8 @@ lands_good A S t j i seconds start m next W p h f =
     let P = person_of i W in
     told_good A S t j i (lands j m seconds next) W h.there ((λ q. cc), ((λ q. cc), ((λ q. cc), tt))) (λ q. subst (IsListed i W.rows) (f q).0 h.listed)
     (λ q fit. let h = f q in
-    rw (eqb-true j i q) (at_place A S t i P P.element (Teleporting start) (own i (lands i m seconds next)) 0 0 (with_place P (Teleporting start) h.0) (λ odd. lands_does A S t i P.element 0 seconds start m next p odd h.1 h.2) fit))
+    rw (eqb-true j i q) (at_place A S t i P P.element (Teleporting start) (own i (lands i m seconds next)) 0 0
+    (ap (λ (x : Place). record P { place = x }) h.0) (λ odd. lands_does A S t i P.element 0 seconds start m next p odd h.1 h.2) fit))
     (λ q. simp q)
 
 pub flight_along : (A : Places) (S : Setup) (t j i : ℕ) (W : World) → IsPlan A S i → InOne i W → Along (Good A S t i) S t (landing_turns S t j W) W
@@ -566,7 +521,8 @@ leaves_along A S t j i here w next W p h f =
     let off : eqb j i ≡ true → listed i W.rows ≡ 0 = λ q. subst (IsListed i W.rows) (f q).0 h.listed in (
       told_good A S t j i (departs j here w) W lt ((λ q. cc), ((λ q. cc), tt)) off
           (λ q fit. let h = f q in
-          rw (eqb-true j i q) (at_place A S t i P P.element (At (Some t)) (own i (departs i here w)) 0 0 (with_place P (At (Some t)) h.0) (λ even. departs_does A S t i P.element 0 t here w p even h.1 h.2) fit))
+          rw (eqb-true j i q) (at_place A S t i P P.element (At (Some t)) (own i (departs i here w)) 0 0
+          (ap (λ (x : Place). record P { place = x }) h.0) (λ even. departs_does A S t i P.element 0 t here w p even h.1 h.2) fit))
           (λ q. simp q),
       sets_out_along A S t j i P.element t w next (done S t m W) (rw (persons-length S t (told m) W.persons) lt) (λ q. (person-done S t i m W lt ∙ simp q, (f q).2, (f q).3, off q)),
     )

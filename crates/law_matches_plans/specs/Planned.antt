@@ -1,10 +1,7 @@
 -- What the day of a town tells of a person.
 use Rattle.std.specs.Prelude.{◌≡◌, ◌≤◌, ◌*◌, ℕ, List, [], ◌∷◌, ◌++◌, length}
-use Rattle.events.specs.declared.event.Event.{Event}
-use Rattle.events.specs.declared.event.Word.TheVariants.{StuckAndAbort}
-use Rattle.traffic.specs.Setup.{Setup}
-use Rattle.traffic.specs.Day.{day}
-use Rattle.events.specs.Persons.{own_events}
+use Rattle.events.specs.{Persons.own_events, declared.event.Event.Event, declared.event.Word.TheVariants.StuckAndAbort}
+use Rattle.traffic.specs.{Day.day, Setup.Setup}
 use Rattle.law_matches_plans.specs.Trips.{InTurn, at_activities, steps, legs}
 
 -- the events of person i come as his plan says

@@ -1,16 +1,10 @@
 -- What a day tells of one person: the events of his trips, and of all that he does.
 use Rattle.std.specs.Prelude.{◌≡◌, ◌<◌, ◌≤◌, ℕ, ◌+◌, List, [], ◌∷◌, length, map, filter, get_or, Option, None, Some}
-use Rattle.events.specs.declared.event.Event.{Event}
-use Rattle.events.specs.declared.event.More.{More}
+use Rattle.events.specs.{Persons.is_step, Persons.own_events, declared.event.Event.Event, declared.event.More.More, declared.event.Word.Word}
 use Rattle.events.specs.declared.event.More.TheVariants as more
-use Rattle.events.specs.declared.event.Word.{Word}
 use Rattle.events.specs.declared.event.Word.TheVariants as word
-use Rattle.events.specs.Persons.{is_step, own_events}
-use Rattle.rows.specs.declared.plan.Act.{Act}
-use Rattle.rows.specs.declared.plan.Leg.{Leg}
-use Rattle.rows.specs.declared.plan.Leg.TheVariants.{Car}
+use Rattle.rows.specs.{Plan.mode_of_leg, declared.plan.Act.Act, declared.plan.Leg.Leg, declared.plan.Leg.TheVariants.Car}
 use Rattle.traffic.specs.Setup.{Setup, person_plan}
-use Rattle.rows.specs.Plan.{mode_of_leg}
 
 -- activity k of a person's plan
 abbrev pub act : Setup → ℕ → ℕ → Act

@@ -8,18 +8,12 @@ mod trips;
 
 ghost use Rattle.std.specs.Prelude.{◌≡◌, ◌<◌, ℕ, true, List, length, All};
 ghost use Rattle.rows.specs.PlanRows.{PlanRows};
-ghost use Rattle.town.specs.Fits.{fits};
-ghost use Rattle.town.specs.Rows.{TownRows, IsTown};
-ghost use Rattle.town.specs.Setups.{setup_of};
-ghost use Rattle.town.specs.Views.{setup, ChosenFit};
+ghost use Rattle.town.specs.{Fits.fits, Rows.TownRows, Rows.IsTown, Setups.setup_of, Views.setup, Views.ChosenFit};
 ghost use Rattle.town.specs.declared.day_input.DayInput.{DayInput};
-ghost use Rattle.traffic.specs.Day.{world_at};
-ghost use Rattle.traffic.specs.Worlds.{Sound};
+ghost use Rattle.traffic.specs.{Day.world_at, Worlds.Sound};
 ghost use Rattle.law_in_range.specs.Setups.{IsPlanIn};
-ghost use Rattle.law_matches_plans.specs.Trips.{IsPlanned};
-ghost use Rattle.law_sound_setups.specs.Setups.{IsSoundSetup};
-ghost use Rattle.law_sound_setups.specs.Consistent.{IsConsistentSetup};
-ghost use Rattle.law_matches_plans.specs.Planned.{IsToldAsPlanned};
+ghost use Rattle.law_matches_plans.specs.{Planned.IsToldAsPlanned, Trips.IsPlanned};
+ghost use Rattle.law_sound_setups.specs.{Consistent.IsConsistentSetup, Setups.IsSoundSetup};
 
 pub use scores::{days_can_be_scored, towns_can_be_scored};
 pub use trips::{events_are_in_time, events_come_in_turn, few_events, sound_plans_are_planned};

@@ -4,13 +4,9 @@ ghost use Rattle.std.specs.Prelude.{◌≡◌, ℕ, ◌<◌, ◌≤◌, true, Li
 ghost use Rattle.std.specs.List.{list_all};
 ghost use Rattle.limits.specs.declared.TheConstants.{LAST_SECOND, MAX_LEGS};
 ghost use Rattle.events.specs.Persons.{own_events};
-ghost use Rattle.rows.specs.PlanRows.{PlanRows, plan_rows};
-ghost use Rattle.rows.specs.declared.plan.Plan.{Plan};
-ghost use Rattle.traffic.specs.Setup.{Setup};
-ghost use Rattle.traffic.specs.Day.{day};
-ghost use Rattle.town.specs.Fits.{fits};
-ghost use Rattle.town.specs.Rows.{TownRows, IsTown};
-ghost use Rattle.town.specs.Setups.{setup_of};
+ghost use Rattle.rows.specs.{PlanRows.PlanRows, PlanRows.plan_rows, declared.plan.Plan.Plan};
+ghost use Rattle.traffic.specs.{Day.day, Setup.Setup};
+ghost use Rattle.town.specs.{Fits.fits, Rows.TownRows, Rows.IsTown, Setups.setup_of};
 ghost use Rattle.law_in_range.specs.Setups.{IsPlanIn};
 ghost use Rattle.law_matches_plans.specs.Trips.{IsPlanned, legs};
 ghost use Rattle.scoring.specs.Taken.{AllFollow};

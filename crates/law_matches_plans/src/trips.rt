@@ -1,13 +1,9 @@
 //! Laws of a person's day: the events of his trips come in turn and follow his plan, and there are at most eight events
 //! of him for each leg; and no event is past the end. Each is the contract of a call that does nothing.
 ghost use Rattle.std.specs.Prelude.{◌≡◌, ℕ, ◌*◌, ◌<◌, ◌≤◌, List, [], ◌∷◌, ◌++◌, length, All};
-ghost use Rattle.events.specs.declared.event.Event.{Event};
-ghost use Rattle.events.specs.declared.event.Word.TheVariants.{StuckAndAbort};
-ghost use Rattle.traffic.specs.Setup.{Setup};
-ghost use Rattle.traffic.specs.Day.{day};
-ghost use Rattle.law_sound_setups.specs.Setups.{IsSoundSetup};
-ghost use Rattle.law_sound_setups.specs.Consistent.{IsConsistentSetup};
-ghost use Rattle.events.specs.Persons.{own_events};
+ghost use Rattle.events.specs.{Persons.own_events, declared.event.Event.Event, declared.event.Word.TheVariants.StuckAndAbort};
+ghost use Rattle.traffic.specs.{Day.day, Setup.Setup};
+ghost use Rattle.law_sound_setups.specs.{Consistent.IsConsistentSetup, Setups.IsSoundSetup};
 ghost use Rattle.law_matches_plans.specs.Trips.{IsPlanned, InTurn, anywhere, at_activities, steps, legs};
 
 /// Of each person a day tells trip after trip, as his plan has them: activity k ends and leg k departs by its mode; then it

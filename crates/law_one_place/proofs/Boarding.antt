@@ -1,23 +1,16 @@
 -- Who leaves a vehicle, is lost with it, or boards it at a stop.
-use Rattle.traffic.proofs.Common.{◌≡◌, ℕ, List, ◌∙◌, length, ap, refl, sym, [], ◌∷◌, arith, ◌<◌, true, ◌+◌, Bool, inl, inr, ◌≤◌, false, suc, eqb, zero, ◌-◌}
+use Rattle.traffic.proofs.Common.{◌≡◌, ℕ, List, ◌∙◌, length, ap, refl, [], ◌∷◌, arith, ◌<◌, true, ◌+◌, Bool, inl, inr, ◌≤◌, false, suc, eqb, zero, ◌-◌}
 use Rattle.traffic.proofs.Common.{cases_Bool, cases_lt, nat_tests, sum_by-cons, flat_map, list_any, map, filter, Some, None, not, Option, if◌then◌else◌, ◌==◌}
 use Rattle.traffic.proofs.Common.{count_by, VehicleId, Act, Leg, Dwelling, numbers, person_after, person_after_all, start_act, told_of, waiters, waiter}
 use Rattle.traffic.proofs.Common.{waits_on, World, person_of, Setup, act_after, leg_at, link_of_stop, served_row, served_vehicle, boarding, next_call}
-use Rattle.traffic.proofs.Common.{alighting, left_behind, rider, staying, in_turn, riders_after, alights, among, may_board, is_person, arrives, enters}
-use Rattle.traffic.proofs.Common.{leaves, starts, serves, strands, driver, of_driver, aborts, VehicleState}
-use Rattle.traffic.specs.declared.moves.Occurrence.{Occurrence}
-use Rattle.traffic.specs.declared.riders.Rider.{Rider}
-use Rattle.traffic.specs.declared.world.Person.{Person}
-use Rattle.traffic.specs.declared.world.Place.{Place}
-use Rattle.traffic.specs.declared.world.Place.TheVariants.{Waiting, Riding, Aborted}
-use Rattle.traffic.specs.declared.world.Row.{Row}
-use Rattle.traffic.specs.declared.world.Waiter.{Waiter}
-use Rattle.std.proofs.lemmas.List.Sums.{sum_by-append, sum_by-take-le}
-use Rattle.std.proofs.lemmas.List.Filters.{sum_by-filter_both}
+use Rattle.traffic.proofs.Common.{alighting, left_behind, rider, staying, in_turn, riders_after, alights, among, may_board, is_person, arrives, enters, leaves}
+use Rattle.traffic.proofs.Common.{starts, serves, strands, driver, of_driver, aborts, VehicleState}
+use Rattle.traffic.proofs.{LeftBehind.after-append, Waiting.boarded-are}
+use Rattle.traffic.specs.declared.{moves.Occurrence.Occurrence, riders.Rider.Rider, world.Person.Person}
+use Rattle.traffic.specs.declared.world.{Place.Place, Place.TheVariants.Waiting, Place.TheVariants.Riding, Place.TheVariants.Aborted, Row.Row, Waiter.Waiter}
+use Rattle.std.proofs.lemmas.List.{Filters.sum_by-filter_both, Sums.sum_by-append, Sums.sum_by-take-le}
 use Rattle.events.specs.declared.event.Word.TheVariants as word
 use Rattle.rows.specs.declared.plan.Leg.TheVariants as leg
-use Rattle.traffic.proofs.Waiting.{boarded-are}
-use Rattle.traffic.proofs.LeftBehind.{after-append}
 use Rattle.law_one_place.proofs.Places.{part_le, among_riders, rides, same_either, IsOff, Change, Stays, Leaves, Enters}
 
 -- WHAT IS TOLD OF EACH RIDER
@@ -38,12 +31,10 @@ each_told S t i tells does Q f g (r ∷ rs) P =
     let c = sum_by-cons (one_rider i) r rs in
     rw (after-append S t i (tells r) (flat_map tells rs) P) (elim (cases_Bool (eqb r.person i)) [
       | inl e ↦
-          let d : among_riders i (r ∷ rs) ≡ 1 + among_riders i rs = c ∙ ap (λ (b : Bool). (if b then 1 else 0) + among_riders i rs) e in
           let y = each_told S t i tells does Q f g rs (does P) in
-          rw (simp e at (f r P)) ((λ h. absurd (omega arith)), (λ h. y.0 (omega arith)), (λ h. elim (cases_lt 0 (among_riders i rs)) [ inl lt ↦ y.2 (omega arith) | inr ge ↦ rw (y.0 (omega arith)) (g P) ]))
+          rw (simp e at (f r P)) ((λ h. absurd (grind arith)), (λ h. y.0 (grind arith)), (λ h. elim (cases_lt 0 (among_riders i rs)) [ inl lt ↦ y.2 (omega arith) | inr ge ↦ rw (y.0 (omega arith)) (g P) ]))
       | inr e ↦
-          let d : among_riders i (r ∷ rs) ≡ 0 + among_riders i rs = c ∙ ap (λ (b : Bool). (if b then 1 else 0) + among_riders i rs) e in
-          let y = each_told S t i tells does Q f g rs P in rw (simp e at (f r P)) ((λ h. y.0 (omega arith)), (λ h. y.1 (omega arith)), (λ h. y.2 (omega arith)))
+          let y = each_told S t i tells does Q f g rs P in rw (simp e at (f r P)) ((λ h. y.0 (grind arith)), (λ h. y.1 (grind arith)), (λ h. y.2 (grind arith)))
     ])
 
 pub start_off : (S : Setup) (t i : ℕ) (P : Person) (pl : Place) → P.place ≡ pl → IsOff (start_act S t i P pl).place
@@ -139,8 +130,7 @@ pub record IsInLine (i : ℕ) (ws : List Waiter) (pl : Place) : Type 0 where
 
 pub as_riders : (i : ℕ) (ws : List Waiter) → among_riders i (map rider ws) ≡ in_line i ws
 as_riders i [] = refl
-as_riders i (w ∷ ws) =
-    sum_by-cons (one_rider i) (rider w) (map rider ws) ∙ ap (λ (n : ℕ). one i w + n) (as_riders i ws) ∙ sym (sum_by-cons (one i) w ws)
+as_riders i (w ∷ ws) = grind (arith, sum_by-cons (one_rider i) (rider w) (map rider ws), as_riders i ws, sum_by-cons (one i) w ws)
 
 -- the riders before a stop, and those after it
 pub riders_are : (i stop : ℕ) (rs : List Rider) → among_riders i (alighting stop rs) + among_riders i (staying stop rs) ≡ among_riders i rs
@@ -174,7 +164,6 @@ served S t i D l ws r P few none w =
     let Q = person_after_all S t i (flat_map (leaves v.id r.link) outs) P in
     let a = board_few i v ws in
     let b = as_riders i (boarding v ws) in
-    let once = w.once in
     let off : 1 ≤ in_line i (boarding v ws) → IsOff P.place = λ h. w.off (omega arith) in
     let outs_told = leaves_told S t i v.id r.link outs P in
     let ins_told = enters_told S t i v.id ins Q in

@@ -1,21 +1,13 @@
 -- One person's place against the rows that list him, and what one move may do to both.
-use Rattle.traffic.proofs.Common.{◌≡◌, ℕ, List, ◌∙◌, length, ap, refl, sym, [], ◌∷◌, arith, ◌<◌, true, ◌+◌, Bool, subst, ◌≤◌, false, suc, zero, get_or}
-use Rattle.traffic.proofs.Common.{slice_get, eq-eqb, sum_by_push, sum_by-le-sum_by, sum_by-cons, sum_by, map, filter, Some, if◌then◌else◌, ◌==◌, count_by}
-use Rattle.traffic.proofs.Common.{VehicleId, without, with_first, done, told, person_after_all, at_second, rows_after, same_vehicle, World, person_of, at, on}
-use Rattle.traffic.proofs.Common.{nobody, Setup, VehicleState, listed, IsListed, listed_in, rows_of}
-use Rattle.traffic.specs.declared.moves.Move.{Move}
-use Rattle.traffic.specs.declared.moves.Move.TheVariants.{Transfer, Remove, Enter, SetFrontSince}
-use Rattle.traffic.specs.declared.riders.Rider.{Rider}
-use Rattle.traffic.specs.declared.stage.Stage.{Stage}
-use Rattle.traffic.specs.declared.stage.Stage.TheVariants.{Buffer}
-use Rattle.traffic.specs.declared.world.Person.{Person}
-use Rattle.traffic.specs.declared.world.Place.{Place}
-use Rattle.traffic.specs.declared.world.Place.TheVariants.{Riding}
-use Rattle.traffic.specs.declared.world.Row.{Row}
-use Rattle.std.specs.Prelude.{option_map}
-use Rattle.std.proofs.lemmas.Option.{slice_get-map}
+use Rattle.traffic.proofs.Common.{◌≡◌, ℕ, List, ◌∙◌, length, ap, refl, sym, [], ◌∷◌, arith, ◌<◌, true, ◌+◌, Bool, subst, ◌≤◌, suc, zero, get_or, slice_get}
+use Rattle.traffic.proofs.Common.{eq-eqb, sum_by_push, sum_by-le-sum_by, sum_by-cons, sum_by, map, filter, Some, if◌then◌else◌, ◌==◌, count_by, VehicleId}
+use Rattle.traffic.proofs.Common.{without, with_first, done, told, person_after_all, at_second, rows_after, same_vehicle, World, person_of, at, on, nobody}
+use Rattle.traffic.proofs.Common.{Setup, VehicleState, listed, IsListed, listed_in, rows_of}
+use Rattle.traffic.specs.declared.moves.Move.{Move, TheVariants.Transfer, TheVariants.Remove, TheVariants.Enter, TheVariants.SetFrontSince}
+use Rattle.traffic.specs.declared.{riders.Rider.Rider, stage.Stage.Stage, stage.Stage.TheVariants.Buffer, world.Person.Person, world.Place.Place}
+use Rattle.traffic.{specs.declared.world.Place.TheVariants.Riding, specs.declared.world.Row.Row, proofs.Sublists.persons-length, proofs.Sublists.person-done}
+use Rattle.std.{proofs.lemmas.Option.slice_get-map, specs.Prelude.option_map}
 use Rattle.events.specs.declared.event.VehicleId.TheVariants as vehicle
-use Rattle.traffic.proofs.Sublists.{persons-length, person-done}
 
 -- SUMS OVER ALL ROWS
 abbrev pub vehicle_of : Row → VehicleState
@@ -69,7 +61,7 @@ IsTaken _ W = Unit {0}
 
 pub weighed : (g : VehicleState → ℕ) (m : Move) (W : World) → IsTaken m W → weight g (rows_after m W.rows) + took g m ≡ weight g W.rows + brought g m
 weighed g (Transfer l s k was now) W h =
-    let a = weight-without g (on l s) k was.vehicle W.rows h.0 in let b = sum_by_push (λ (r : Row). g r.vehicle) (without (on l s) k W.rows) now in omega arith
+    omega (arith, weight-without g (on l s) k was.vehicle W.rows h.0, sum_by_push (λ (r : Row). g r.vehicle) (without (on l s) k W.rows) now)
 weighed g (Remove l s k was) W h = let a = weight-without g (on l s) k was.vehicle W.rows h in omega arith
 weighed g (Enter now) W h = let a = sum_by_push (λ (r : Row). g r.vehicle) W.rows now in omega arith
 weighed g (SetFrontSince l t) W h = let a = weight-marked g t (on l Buffer) W.rows in omega arith
@@ -91,30 +83,24 @@ abbrev pub rides_in : VehicleId → ℕ → VehicleState → ℕ
 rides_in u i v = counted v.id u (rides i v)
 
 pub same_either : {X : Type 0} (b : Bool) (x : X) → (if b then x else x) ≡ x
-same_either true x = refl
-same_either false x = refl
+same_either b x = grind arith
 
 same_self : (v : VehicleId) → same_vehicle v v ≡ true
 same_self (vehicle.Car i) = eq-eqb i i refl
 same_self (vehicle.Transit d) = eq-eqb d d refl
 
-one_part : (i : ℕ) (b : Bool) (x : Row) (xs : List Row) → listed i (if b then x ∷ xs else xs) ≡ (if b then rides i x.vehicle else 0) + listed i xs
-one_part i true x xs = sum_by-cons (listed_in i) x xs
-one_part i false x xs = omega arith
-
 -- the rows of one vehicle
 pub listed-rows_of : (u : VehicleId) (i : ℕ) (rows : List Row) → listed i (rows_of u rows) ≡ weight (rides_in u i) rows
 listed-rows_of u i [] = refl
-listed-rows_of u i (x ∷ xs) = one_part i (same_vehicle x.vehicle.id u) x (rows_of u xs) ∙ ap (λ (n : ℕ). rides_in u i x.vehicle + n) (listed-rows_of u i xs) ∙ sym (weight-cons (rides_in u i) x xs)
+listed-rows_of u i (x ∷ xs) = grind (arith, listed-rows_of u i xs, weight-cons (rides_in u i) x xs, sum_by-cons (listed_in i) x (rows_of u xs))
 
 pub part_le : (b : Bool) (n : ℕ) → (if b then n else 0) ≤ n
-part_le true n = omega arith
-part_le false n = omega arith
+part_le b n = grind arith
 
 pub listed_part : (u : VehicleId) (i : ℕ) (rows : List Row) → listed i (rows_of u rows) ≤ listed i rows
 listed_part u i rows =
     let a = listed-rows_of u i rows in
-    let b : weight (rides_in u i) rows ≤ listed i rows = sum_by-le-sum_by (λ (r : Row). rides_in u i r.vehicle) (listed_in i) rows (λ r. part_le (same_vehicle r.vehicle.id u) (rides i r.vehicle)) in omega arith
+    omega (arith, sum_by-le-sum_by (λ (r : Row). rides_in u i r.vehicle) (listed_in i) rows (λ r. part_le (same_vehicle r.vehicle.id u) (rides i r.vehicle)))
 
 took_in : (u : VehicleId) (i : ℕ) (m : Move) → took (rides_in u i) m ≡ counted (id_of m) u (took (rides i) m)
 took_in u i (Transfer l s k was now) = refl
@@ -159,9 +145,8 @@ same_listed i rows after _ e f h = e ∙ h
 -- who gets in is listed in that vehicle
 entered : (i : ℕ) (rows after : List Row) (id : VehicleId) → listed i rows ≡ 0 → listed i after ≡ 1 → listed i (rows_of id after) + counted id id 0 ≡ listed i (rows_of id rows) + counted id id 1 → IsListed i after (Riding id)
 entered i rows after id e f g =
-    let q = listed_part id i rows in
     let s = same_self id in
-    let k : listed i (rows_of id after) + 0 ≡ listed i (rows_of id rows) + 1 = simp s at g in (f, omega arith)
+    (f, omega (arith, simp s at g, listed_part id i rows))
 
 changed : (i : ℕ) (rows after : List Row) (id : VehicleId) (a b : ℕ) (was now : Place) → listed i after + a ≡ listed i rows + b → ((u : VehicleId) → listed i (rows_of u after) + counted id u a ≡ listed i (rows_of u rows) + counted id u b) →
     Change id a b was now → IsListed i rows was → IsListed i after now

@@ -1,27 +1,19 @@
 -- The turns of persons, departures, nodes and links keep everybody in one place, and so do the phases, seconds and days.
 use Rattle.traffic.proofs.Common.{◌≡◌, ℕ, List, ◌∙◌, ap, refl, sym, [], ◌∷◌, arith, true, ◌++◌, Bool, inl, inr, false, eqb, cases_Bool, eqb-true, length-map}
 use Rattle.traffic.proofs.Common.{get_or-map, Phase, PlanRows, Act, Leg, world_at, turns_of, world_start, through, phases, second, at_home, waiting, buffered}
-use Rattle.traffic.proofs.Common.{run, done, person_after_all, person_after, entered, sets_out, transit_vehicle, departs, lands, car, World, person_of}
-use Rattle.traffic.proofs.Common.{nobody, Setup, act_after, leg_at, act_at, link_of_stop, departure, served_row, served_vehicle, told_to, told_transfer}
-use Rattle.traffic.proofs.Common.{told_removal, arrives, starts, of_person, OnePlace}
-use Rattle.traffic.specs.declared.moves.Move.{Move}
+use Rattle.traffic.proofs.Common.{run, done, person_after_all, person_after, entered, sets_out, transit_vehicle, departs, lands, car, World, person_of, nobody}
+use Rattle.traffic.proofs.Common.{Setup, act_after, leg_at, act_at, link_of_stop, departure, served_row, served_vehicle, told_to, told_transfer, told_removal}
+use Rattle.traffic.proofs.Common.{arrives, starts, of_person, OnePlace}
+use Rattle.traffic.proofs.{LeftBehind.serving_stage, LeftBehind.after-append, LinkWalk.LinkCases, LinkWalk.link_walk, Moments.kept_along, NodeWalk.NodeCases}
+use Rattle.traffic.proofs.{NodeWalk.node_walk, Sublists.person-done, Waiting.run-length, Walks.flight_walk, Walks.leave_walk, Walks.departure_walk}
+use Rattle.traffic.{proofs.Walks.phases_keep, proofs.Walks.seconds_keep, specs.declared.moves.Move.Move}
 use Rattle.traffic.specs.declared.moves.Move.TheVariants.{Transfer, Remove, Enter, SetFrontSince, Credit, LeaveHole, Report}
-use Rattle.traffic.specs.declared.moves.Occurrence.{Occurrence}
-use Rattle.traffic.specs.declared.stage.Stage.TheVariants.{Buffer, Bay}
-use Rattle.traffic.specs.declared.world.Person.{Person}
-use Rattle.traffic.specs.declared.world.Row.{Row}
+use Rattle.traffic.specs.declared.{moves.Occurrence.Occurrence, stage.Stage.TheVariants.Buffer, stage.Stage.TheVariants.Bay, world.Person.Person, world.Row.Row}
 use Rattle.events.specs.declared.event.Phase.TheVariants as phase
 use Rattle.events.specs.declared.event.VehicleId.TheVariants as vehicle
 use Rattle.events.specs.declared.event.More.TheVariants as more
 use Rattle.events.specs.declared.event.Word.TheVariants as word
 use Rattle.rows.specs.declared.plan.Leg.TheVariants as leg
-use Rattle.traffic.proofs.Sublists.{person-done}
-use Rattle.traffic.proofs.Waiting.{run-length}
-use Rattle.traffic.proofs.LeftBehind.{serving_stage, after-append}
-use Rattle.traffic.proofs.Moments.{kept_along}
-use Rattle.traffic.proofs.NodeWalk.{NodeCases, node_walk}
-use Rattle.traffic.proofs.LinkWalk.{LinkCases, link_walk}
-use Rattle.traffic.proofs.Walks.{flight_walk, leave_walk, departure_walk, phases_keep, seconds_keep}
 use Rattle.law_one_place.proofs.Places.{stands, Stays, InOne, move_keeps, rides, Change, after_move, rides_few, IsOff, Walks, Enters}
 use Rattle.law_one_place.proofs.Boarding.{aborts_out, starts_none, arrives_out, served, waiters_in_line, start_off}
 

@@ -1,21 +1,15 @@
 -- No transit vehicle stands in two rows.
-use Rattle.traffic.proofs.Common.{◌≡◌, ℕ, List, ◌∙◌, length, ap, refl, sym, [], ◌∷◌, arith, true, ◌+◌, Bool, inl, inr, ◌≤◌, false, suc, eqb, zero, ◌≢◌}
-use Rattle.traffic.proofs.Common.{cases_Bool, nat_tests, sum_by-cons, if◌then◌else◌, nat_lt, ◌==◌, Phase, VehicleId, Act, Leg, world_at, turns_of, turns_in}
-use Rattle.traffic.proofs.Common.{world_start, through, world_from, after, departure_turns, second, waiting, buffered, run, done, entered, sets_out}
-use Rattle.traffic.proofs.Common.{departure_moves, transit_vehicle, same_vehicle, car, World, person_of, Setup, act_after, leg_at, departure, served_row}
-use Rattle.traffic.proofs.Common.{served_vehicle, VehicleState, rows_of}
-use Rattle.traffic.specs.declared.moves.Move.{Move}
+use Rattle.traffic.proofs.Common.{◌≡◌, ℕ, List, length, ap, refl, [], ◌∷◌, arith, ◌+◌, inl, inr, ◌≤◌, suc, eqb, zero, ◌≢◌, cases_Bool, nat_tests, sum_by-cons}
+use Rattle.traffic.proofs.Common.{if◌then◌else◌, nat_lt, ◌==◌, Phase, VehicleId, Act, Leg, world_at, turns_of, turns_in, world_start, through, world_from}
+use Rattle.traffic.proofs.Common.{after, departure_turns, second, waiting, buffered, run, done, entered, sets_out, departure_moves, transit_vehicle, car, World}
+use Rattle.traffic.proofs.Common.{person_of, Setup, act_after, leg_at, departure, served_row, served_vehicle, VehicleState, rows_of}
+use Rattle.traffic.proofs.{LeftBehind.serving_stage, LinkWalk.LinkCases, LinkWalk.link_walk, Moments.kept_along, NodeWalk.NodeCases, NodeWalk.node_walk}
+use Rattle.traffic.{proofs.Walks.flight_walk, proofs.Walks.leave_walk, proofs.Walks.phase_keeps, proofs.Walks.numbers_walk, specs.declared.moves.Move.Move}
 use Rattle.traffic.specs.declared.moves.Move.TheVariants.{Transfer, Remove, Enter, SetFrontSince, Credit, LeaveHole}
-use Rattle.traffic.specs.declared.stage.Stage.TheVariants.{Buffer, Bay}
-use Rattle.traffic.specs.declared.world.Row.{Row}
+use Rattle.traffic.specs.declared.{stage.Stage.TheVariants.Buffer, stage.Stage.TheVariants.Bay, world.Row.Row}
 use Rattle.events.specs.declared.event.Phase.TheVariants as phase
 use Rattle.events.specs.declared.event.VehicleId.TheVariants as vehicle
 use Rattle.rows.specs.declared.plan.Leg.TheVariants as leg
-use Rattle.traffic.proofs.LeftBehind.{serving_stage}
-use Rattle.traffic.proofs.Moments.{kept_along}
-use Rattle.traffic.proofs.NodeWalk.{NodeCases, node_walk}
-use Rattle.traffic.proofs.LinkWalk.{LinkCases, link_walk}
-use Rattle.traffic.proofs.Walks.{flight_walk, leave_walk, phase_keeps, numbers_walk}
 use Rattle.law_one_place.proofs.Places.{stands, weight, weighed, counted, IsTaken}
 
 -- 1 for a row of this vehicle; so many rows has it
@@ -25,13 +19,9 @@ is_its u v = counted v.id u 1
 abbrev pub rows_it_has : VehicleId → List Row → ℕ
 rows_it_has u rows = weight (is_its u) rows
 
-split_one : (b : Bool) (r : Row) (rs : List Row) → length (if b then r ∷ rs else rs) ≡ (if b then 1 else 0) + length rs
-split_one true r rs = omega arith
-split_one false r rs = omega arith
-
 pub rows_are : (u : VehicleId) (rows : List Row) → length (rows_of u rows) ≡ rows_it_has u rows
 rows_are u [] = refl
-rows_are u (r ∷ rs) = split_one (same_vehicle r.vehicle.id u) r (rows_of u rs) ∙ ap (λ (n : ℕ). is_its u r.vehicle + n) (rows_are u rs) ∙ sym (sum_by-cons (λ (x : Row). is_its u x.vehicle) r rs)
+rows_are u (r ∷ rs) = grind (arith, rows_are u rs, sum_by-cons (λ (x : Row). is_its u x.vehicle) r rs)
 
 -- MOVES
 -- a move that brings no new vehicle
@@ -47,8 +37,7 @@ Few d b W = rows_it_has (vehicle.Transit d) W.rows ≤ b
 few_kept : (S : Setup) (t d b : ℕ) (m : Move) (W : World) → IsTaken m W → IsOld m → Few d b W → Few d b (done S t m W)
 few_kept S t d b (Transfer l s k was now) W h o few =
     let g = is_its (vehicle.Transit d) in
-    let w = weighed g (Transfer l s k was now) W h in
-    let e : g now.vehicle ≡ g was.vehicle = ap (λ (x : VehicleId). counted x (vehicle.Transit d) 1) h.1 in omega arith
+    omega (arith, ap (λ (x : VehicleId). counted x (vehicle.Transit d) 1) h.1, weighed g (Transfer l s k was now) W h)
 few_kept S t d b (Enter now) W h o few = absurd o
 few_kept S t d b m W h o few = let w = weighed (is_its (vehicle.Transit d)) m W h in omega arith
 
@@ -78,8 +67,7 @@ links_few S t l d b =
 -- TURNS AND PHASES
 out_few : (S : Setup) (t d b i : ℕ) (w : Leg) (next : Act) (W : World) → Few d b W → Few d b (run S t (sets_out S i w next) W)
 out_few S t d b i (leg.Car route) next W few = let w = weighed (is_its (vehicle.Transit d)) (Enter (car i route next.kind)) W tt in omega arith
-out_few S t d b i (leg.Teleport mode seconds) next W few = few
-out_few S t d b i (leg.Transit line access egress) next W few = few
+out_few S t d b i _ next W few = few
 
 turn_few : (S : Setup) (t d b n : ℕ) (p : Phase) (W : World) → p ≢ phase.B2 → Few d b W → Few d b (run S t (turns_of S t p n W) W)
 unfolding turns_of
@@ -128,17 +116,14 @@ second_few S t d b W few =
 abbrev due : Setup → ℕ → ℕ → ℕ
 due S d t = if nat_lt (departure S d).second t then 1 else 0
 
-due_next : (S : Setup) (d t : ℕ) → due S d t + now S t d ≤ due S d (suc t)
-due_next S d t = grind (arith, nat_tests)
-
-due_one : (S : Setup) (d t : ℕ) → due S d t ≤ 1
-due_one S d t = grind (arith, nat_tests)
-
 from_few : (S : Setup) (d t : ℕ) → Few d (due S d t) (world_from S (world_start S) t)
 unfolding world_from world_start
 from_few S d zero = omega arith
-from_few S d (suc t) = let b = second_few S t d (due S d t) (world_from S (world_start S) t) (from_few S d t) in let c = due_next S d t in omega arith
+from_few S d (suc t) =
+    let more : due S d t + now S t d ≤ due S d (suc t) = grind (arith, nat_tests) in
+    omega (arith, second_few S t d (due S d t) (world_from S (world_start S) t) (from_few S d t))
 
 -- a transit vehicle has at most one row
 pub transit_once : (S : Setup) (t d : ℕ) → length (rows_of (vehicle.Transit d) (world_at S t).rows) ≤ 1
-transit_once S t d = let a = rows_are (vehicle.Transit d) (world_at S t).rows in let b = from_few S d t in let c = due_one S d t in omega arith
+transit_once S t d =
+    let one : due S d t ≤ 1 = grind (arith, nat_tests) in omega (arith, rows_are (vehicle.Transit d) (world_at S t).rows, from_few S d t)

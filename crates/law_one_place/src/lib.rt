@@ -5,10 +5,7 @@
 
 ghost use Rattle.std.specs.Prelude.{ℕ, ◌≤◌, length};
 ghost use Rattle.events.specs.declared.event.VehicleId.TheVariants.{Transit};
-ghost use Rattle.traffic.specs.Rows.{World};
-ghost use Rattle.traffic.specs.Setup.{Setup};
-ghost use Rattle.traffic.specs.Day.{second, world_start, world_at};
-ghost use Rattle.traffic.specs.Worlds.{OnePlace, rows_of};
+ghost use Rattle.traffic.specs.{Day.second, Day.world_start, Day.world_at, Rows.World, Setup.Setup, Worlds.OnePlace, Worlds.rows_of};
 
 /// Each person is in exactly one place, in every second of every day.
 pub fn days_keep_one_place()

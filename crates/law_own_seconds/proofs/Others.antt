@@ -1,32 +1,16 @@
 -- Nobody is on the links of other partitions in the own world of a partition, before nodes let vehicles pass.
-use Rattle.traffic.proofs.Common.{◌≡◌, ℕ, Bool, true, false, not, List, [], ◌∷◌, ◌∙◌, ap, refl, sym, subst, inl, inr, cases_Bool}
-use Rattle.traffic.proofs.Common.{eqb, eqb-true, flat_map, filter, Option, Some, None, length, Setup, at, moves_of, below, Untouched}
-use Rattle.traffic.proofs.Common.{landing_moves, leaving_moves, departure_moves, world_at, person_of}
-use Rattle.traffic.specs.declared.moves.Move.{Move}
-use Rattle.traffic.specs.declared.stage.Stage.{Stage}
-use Rattle.traffic.specs.declared.stage.Stage.TheVariants.{Queue, Buffer, Wait, Bay}
-use Rattle.traffic.specs.declared.world.Person.{Person}
-use Rattle.traffic.proofs.Sublists.{at_after_all-untouched, Untouched-append}
-use Rattle.traffic.proofs.Walks.{flight_walk, departure_walk}
-use Rattle.law_in_range.specs.Rows.{Counts}
-use Rattle.law_in_range.specs.Setups.{IsFitSetup}
-use Rattle.parts.specs.Owners.{Owner, owner_of}
-use Rattle.parts.specs.Parts.{Held, mine, has, unheard, ready}
-use Rattle.law_partitions.specs.Alone.{acts, first_of, my_runs, A_part, B1_part, B2_part, after_A, after_B1, early}
-use Rattle.law_partitions.specs.Premises.{Lawful}
-use Rattle.law_partitions.proofs.Begins.{person1, moves_of-parts}
-use Rattle.law_partitions.proofs.Calms.{calm}
-use Rattle.law_partitions.proofs.Early.{A_world}
-use Rattle.law_partitions.proofs.Ends.{less}
-use Rattle.law_partitions.proofs.Heard.{late_of, within, heard}
-use Rattle.law_partitions.proofs.Home.{leave_away}
-use Rattle.law_partitions.proofs.Second.{held_run-list}
-use Rattle.law_own_worlds.specs.OwnWorlds.{IsSecondOf}
-use Rattle.law_own_worlds.specs.Days.{world_before, is_there}
-use Rattle.law_own_worlds.proofs.Knowing.{ready_known}
-use Rattle.law_own_worlds.proofs.Making.{made}
-use Rattle.law_own_seconds.specs.Seconds.{held_early, world_early}
-use Rattle.law_own_seconds.specs.Others.{OthersAreEmpty}
+use Rattle.traffic.proofs.Common.{◌≡◌, ℕ, Bool, true, false, not, List, [], ◌∷◌, ◌∙◌, ap, refl, sym, subst, inl, inr, cases_Bool, eqb, eqb-true, flat_map}
+use Rattle.traffic.proofs.Common.{filter, Option, Some, None, length, Setup, at, moves_of, below, Untouched, landing_moves, leaving_moves, departure_moves}
+use Rattle.traffic.proofs.{Common.world_at, Common.person_of, Sublists.at_after_all-untouched, Sublists.Untouched-append, Walks.flight_walk}
+use Rattle.traffic.{proofs.Walks.departure_walk, specs.declared.moves.Move.Move, specs.declared.stage.Stage.Stage, specs.declared.stage.Stage.TheVariants.Queue}
+use Rattle.traffic.specs.declared.{stage.Stage.TheVariants.Buffer, stage.Stage.TheVariants.Wait, stage.Stage.TheVariants.Bay, world.Person.Person}
+use Rattle.law_in_range.specs.{Rows.Counts, Setups.IsFitSetup}
+use Rattle.parts.specs.{Owners.Owner, Owners.owner_of, Parts.Held, Parts.mine, Parts.has, Parts.unheard, Parts.ready}
+use Rattle.law_partitions.proofs.{Begins.person1, Begins.moves_of-parts, Calms.calm, Early.A_world, Ends.less, Heard.late_of, Heard.within, Heard.heard}
+use Rattle.law_partitions.{proofs.Home.leave_away, proofs.Second.held_run-list, specs.Alone.acts, specs.Alone.first_of}
+use Rattle.law_partitions.specs.{Alone.my_runs, Alone.A_part, Alone.B1_part, Alone.B2_part, Alone.after_A, Alone.after_B1, Alone.early, Premises.Lawful}
+use Rattle.law_own_worlds.{proofs.Knowing.ready_known, proofs.Making.made, specs.Days.world_before, specs.Days.is_there, specs.OwnWorlds.IsSecondOf}
+use Rattle.law_own_seconds.specs.{Others.OthersAreEmpty, Seconds.held_early, Seconds.world_early}
 
 -- WHO SETS OUT
 all_untouched : (l : ℕ) (plan : ℕ → List Move) → ((n : ℕ) → Untouched l Wait (plan n)) → (ns : List ℕ) → Untouched l Wait (flat_map plan ns)

@@ -1,40 +1,25 @@
 -- How the places of links are taken in the own world of a partition in the course of a second.
-use Rattle.traffic.proofs.Common.{◌≡◌, ℕ, zero, suc, ◌+◌, ◌-◌, ◌<◌, ◌≤◌, Bool, true, false, List, [], ◌∷◌, ◌++◌, ◌∙◌, ap, refl, sym, subst}
-use Rattle.traffic.proofs.Common.{arith, inl, inr, cases_Bool, length, length-append, filter, filter-append, flat_map, replicate, nat_le, nat_tests}
-use Rattle.traffic.proofs.Common.{eqb, eqb-true, eq-eqb, Setup, World, at, holes_at, hole_of, moves_of, turns, turns_in, link_turns, below}
-use Rattle.traffic.proofs.Common.{departure_turns, Untouched}
+use Rattle.traffic.proofs.Common.{◌≡◌, ℕ, zero, suc, ◌+◌, ◌-◌, ◌<◌, ◌≤◌, Bool, true, false, List, [], ◌∷◌, ◌++◌, ◌∙◌, ap, refl, sym, subst, arith, inl, inr}
+use Rattle.traffic.proofs.Common.{cases_Bool, length, length-append, filter, filter-append, flat_map, replicate, nat_le, nat_tests, eqb, eqb-true, eq-eqb}
+use Rattle.traffic.proofs.Common.{Setup, World, at, holes_at, hole_of, moves_of, turns, turns_in, link_turns, below, departure_turns, Untouched}
+use Rattle.traffic.proofs.{Sublists.at-run, Sublists.at_after_all-untouched, Sublists.holes-run, Sublists.Untouched-append, Turns.moves_of-map}
+use Rattle.traffic.specs.declared.{moves.Move.Move, stage.Stage.TheVariants.Queue, world.Row.Row}
 use Rattle.events.specs.declared.event.Phase.TheVariants as phase
-use Rattle.traffic.specs.declared.moves.Move.{Move}
-use Rattle.traffic.specs.declared.stage.Stage.TheVariants.{Queue}
-use Rattle.traffic.specs.declared.world.Row.{Row}
-use Rattle.traffic.proofs.Sublists.{at-run, at_after_all-untouched, holes-run, Untouched-append}
-use Rattle.traffic.proofs.Turns.{moves_of-map}
-use Rattle.law_in_range.specs.Rows.{Counts}
-use Rattle.law_in_range.specs.Setups.{IsFitSetup}
+use Rattle.law_in_range.specs.{Rows.Counts, Setups.IsFitSetup}
 use Rattle.parts.specs.Owners.{Owner, owner_of, begins_in, lag}
 use Rattle.parts.specs.Parts.{Held, freed, lasting, enters_queue, has, unheard, held, ready}
-use Rattle.law_partitions.specs.Alone.{held_done, held_run, my_runs, my_links, C_part, D_part, early}
-use Rattle.law_partitions.specs.Premises.{Lawful}
-use Rattle.law_partitions.proofs.Calms.{calm}
-use Rattle.law_partitions.proofs.Early.{A-early, B1-early, early-holes, mid}
-use Rattle.law_partitions.proofs.Ends.{less, sh}
+use Rattle.law_partitions.proofs.{Calms.calm, Early.A-early, Early.B1-early, Early.early-holes, Early.mid, Ends.less, Ends.sh}
 use Rattle.law_partitions.proofs.Handed.{AreHanded, entered, frees_none, handed-adds, handed-holes}
-use Rattle.law_partitions.proofs.Heard.{late_of, not_crossing, known_whole}
-use Rattle.law_partitions.proofs.History.{went_none}
-use Rattle.law_partitions.proofs.Lags.{hole_some}
+use Rattle.law_partitions.proofs.{Heard.late_of, Heard.not_crossing, Heard.known_whole, History.went_none, Lags.hole_some}
 use Rattle.law_partitions.proofs.Places.{AreLeaving, links-leaving, dug, out-came, out-went, out-none, D-length, D_after-rows, D_after-holes}
-use Rattle.law_partitions.proofs.Second.{Short, C_world, came_in, held_run-holes, C_after-queue_own, C_after-queue_other, queue_other, D_after-queue_own, D_border, D_untouched}
-use Rattle.law_partitions.proofs.Second.{part-handed}
-use Rattle.law_partitions.proofs.Turns.{not_mine}
-use Rattle.law_own_worlds.specs.Making.{IsKnown, own_world}
+use Rattle.law_partitions.proofs.Second.{Short, C_world, came_in, held_run-holes, C_after-queue_own, C_after-queue_other, queue_other, D_after-queue_own}
+use Rattle.law_partitions.proofs.{Second.D_border, Second.D_untouched, Second.part-handed, Turns.not_mine}
+use Rattle.law_partitions.specs.{Alone.held_done, Alone.held_run, Alone.my_runs, Alone.my_links, Alone.C_part, Alone.D_part, Alone.early, Premises.Lawful}
+use Rattle.law_own_worlds.proofs.{Knowing.unheard_known, Knowing.ready_known, Making.made, Making.holes_are, Seconds.run_early, Seconds.links_once}
+use Rattle.law_own_worlds.specs.{Days.world_before, Days.is_there, Days.my_node_turns, Days.my_link_turns, Making.IsKnown, Making.own_world}
 use Rattle.law_own_worlds.specs.OwnWorlds.{IsOwnWorld, IsSecondOf, landed, left}
-use Rattle.law_own_worlds.specs.Days.{world_before, is_there, my_node_turns, my_link_turns}
-use Rattle.law_own_worlds.proofs.Knowing.{unheard_known, ready_known}
-use Rattle.law_own_worlds.proofs.Making.{made, holes_are}
-use Rattle.law_own_worlds.proofs.Seconds.{run_early, links_once}
+use Rattle.law_own_seconds.specs.{Leaving.left_by, Leaving.LeaveHoles, Places.KnowsPlaces, Places.PlacesAreKnown}
 use Rattle.law_own_seconds.specs.Seconds.{held_early, held_crossed, held_driven, world_early, world_crossed, world_driven}
-use Rattle.law_own_seconds.specs.Places.{KnowsPlaces, PlacesAreKnown}
-use Rattle.law_own_seconds.specs.Leaving.{left_by, LeaveHoles}
 
 -- HOLES
 -- holes of second t count from each second on that is not after their end

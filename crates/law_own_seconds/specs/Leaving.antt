@@ -1,11 +1,7 @@
 -- How many vehicles leave the queues of links in the own world of a partition.
 use Rattle.std.specs.Prelude.{◌≡◌, ℕ, ◌+◌, ◌<◌, false, ◌++◌, length, replicate, ◌==◌}
-use Rattle.traffic.specs.declared.stage.Stage.TheVariants.{Queue}
-use Rattle.traffic.specs.Rows.{at, holes_at}
-use Rattle.traffic.specs.Setup.{Setup}
-use Rattle.traffic.specs.Day.{moves_of}
-use Rattle.parts.specs.Owners.{Owner, owner_of, begins_in}
-use Rattle.parts.specs.Parts.{freed}
+use Rattle.traffic.specs.{Day.moves_of, Rows.at, Rows.holes_at, Setup.Setup, declared.stage.Stage.TheVariants.Queue}
+use Rattle.parts.specs.{Owners.Owner, Owners.owner_of, Owners.begins_in, Parts.freed}
 use Rattle.law_own_worlds.specs.Days.{my_link_turns}
 use Rattle.law_own_seconds.specs.Seconds.{held_crossed, held_driven, world_crossed, world_driven}
 

@@ -1,8 +1,6 @@
 -- The links of other partitions in the own world of a partition.
 use Rattle.std.specs.Prelude.{◌≡◌, ℕ, false, [], ◌==◌}
-use Rattle.traffic.specs.declared.stage.Stage.{Stage}
-use Rattle.traffic.specs.Rows.{at}
-use Rattle.traffic.specs.Setup.{Setup}
+use Rattle.traffic.specs.{Rows.at, Setup.Setup, declared.stage.Stage.Stage}
 use Rattle.parts.specs.Owners.{Owner, owner_of}
 use Rattle.law_own_worlds.specs.Days.{world_before}
 use Rattle.law_own_seconds.specs.Seconds.{world_early}

@@ -1,12 +1,8 @@
 -- How the places of links are taken in a world, as a partition knows them.
 use Rattle.std.specs.Prelude.{◌≡◌, ℕ, ◌+◌, ◌<◌, ◌≤◌, false, List, length, ◌==◌}
-use Rattle.traffic.specs.declared.stage.Stage.TheVariants.{Queue}
-use Rattle.traffic.specs.Rows.{World, at, holes_at}
-use Rattle.traffic.specs.Setup.{Setup, hole_of}
-use Rattle.parts.specs.Owners.{Owner, owner_of, begins_in}
-use Rattle.parts.specs.Parts.{Held, lasting, held, ready}
-use Rattle.law_own_worlds.specs.Making.{own_world}
-use Rattle.law_own_worlds.specs.Days.{world_before}
+use Rattle.traffic.specs.{Rows.World, Rows.at, Rows.holes_at, Setup.Setup, Setup.hole_of, declared.stage.Stage.TheVariants.Queue}
+use Rattle.parts.specs.{Owners.Owner, Owners.owner_of, Owners.begins_in, Parts.Held, Parts.lasting, Parts.held, Parts.ready}
+use Rattle.law_own_worlds.specs.{Days.world_before, Making.own_world}
 use Rattle.law_own_seconds.specs.Seconds.{held_early, held_crossed, held_driven, world_early, world_crossed, world_driven}
 
 -- how many places of link m are taken by so many rows and by these holes, where those that are free in second u or later are taken still

@@ -1,12 +1,9 @@
 -- What a partition holds in the course of second t of a day, and its own world then.
 use Rattle.std.specs.Prelude.{ℕ}
-use Rattle.traffic.specs.Rows.{World}
-use Rattle.traffic.specs.Setup.{Setup}
-use Rattle.parts.specs.Owners.{Owner}
-use Rattle.parts.specs.Parts.{Held, ready}
+use Rattle.traffic.specs.{Rows.World, Setup.Setup}
+use Rattle.parts.specs.{Owners.Owner, Parts.Held, Parts.ready}
 use Rattle.law_partitions.specs.Alone.{early, after_C, after_D}
-use Rattle.law_own_worlds.specs.OwnWorlds.{set_out, crossed, driven}
-use Rattle.law_own_worlds.specs.Days.{world_before}
+use Rattle.law_own_worlds.specs.{Days.world_before, OwnWorlds.set_out, OwnWorlds.crossed, OwnWorlds.driven}
 
 -- before its nodes have their turns, before its links have theirs, and once these had them
 abbrev pub held_early : Setup → Owner → ℕ → ℕ → Held

@@ -6,14 +6,10 @@
 ghost use Rattle.std.specs.Prelude.{ℕ};
 ghost use Rattle.traffic.specs.Setup.{Setup};
 ghost use Rattle.parts.specs.Owners.{Owner};
-ghost use Rattle.law_in_range.specs.Rows.{Counts};
-ghost use Rattle.law_in_range.specs.Setups.{IsFitSetup};
-ghost use Rattle.law_sound_setups.specs.Setups.{IsSoundSetup};
-ghost use Rattle.law_sound_setups.specs.Consistent.{IsConsistentSetup};
+ghost use Rattle.law_in_range.specs.{Rows.Counts, Setups.IsFitSetup};
+ghost use Rattle.law_sound_setups.specs.{Consistent.IsConsistentSetup, Setups.IsSoundSetup};
 ghost use Rattle.law_partitions.specs.Laws.{IsOwner};
-ghost use Rattle.law_own_seconds.specs.Leaving.{LeaveHoles};
-ghost use Rattle.law_own_seconds.specs.Others.{OthersAreEmpty};
-ghost use Rattle.law_own_seconds.specs.Places.{PlacesAreKnown};
+ghost use Rattle.law_own_seconds.specs.{Leaving.LeaveHoles, Others.OthersAreEmpty, Places.PlacesAreKnown};
 
 /// As many places of the links that begin in a partition are taken in its own world as it knows by what it holds.
 pub fn own_places_are_known()

@@ -1,20 +1,15 @@
 -- The second of the own world of a partition gives what the day says of the partition.
 use Rattle.traffic.proofs.Common.{◌≡◌, ℕ, suc, ◌<◌, List, ◌++◌, ◌∙◌, ap, sym, true, length, map, flat_map, filter, eqb, eq-eqb, fun_ext}
 use Rattle.traffic.proofs.Common.{Turn, Setup, World, at, credit_of, person_of, turns_in, moves_of, events_in, below}
-use Rattle.events.specs.declared.event.Phase.TheVariants as phase
 use Rattle.traffic.specs.declared.stage.Stage.{Stage}
-use Rattle.law_in_range.specs.Rows.{Counts}
-use Rattle.law_in_range.specs.Setups.{IsFitSetup}
+use Rattle.events.specs.declared.event.Phase.TheVariants as phase
+use Rattle.law_in_range.specs.{Rows.Counts, Setups.IsFitSetup}
 use Rattle.parts.specs.Owners.{Owner, owner_of, leads, links_of}
 use Rattle.parts.specs.Parts.{Held, Flight, Parcel, is_some_freed, mine, enters_queue, freed, held, ready, out, own_events}
-use Rattle.law_partitions.specs.Alone.{B1_part, B2_part, C_part, D_part, after_A, early, after_C, after_D, sent_out, if_stays, alone}
-use Rattle.law_partitions.specs.Alone.{passed_here, flight_to, parcel_to, tells_alone}
-use Rattle.law_partitions.specs.Laws.{SecondsAreLocal}
-use Rattle.law_own_worlds.specs.OwnWorlds.{IsSecondOf, landed, driven}
-use Rattle.law_own_worlds.specs.Days.{world_before, is_there, run_turns, my_node_turns, my_link_turns, FollowsTheDay}
-use Rattle.law_own_worlds.proofs.Knowing.{ready_known}
-use Rattle.law_own_worlds.proofs.Making.{made}
-use Rattle.law_own_worlds.proofs.Seconds.{second_of}
+use Rattle.law_partitions.specs.Alone.{B1_part, B2_part, C_part, D_part, after_A, early, after_C, after_D, sent_out, if_stays, alone, passed_here, flight_to}
+use Rattle.law_partitions.specs.{Alone.parcel_to, Alone.tells_alone, Laws.SecondsAreLocal}
+use Rattle.law_own_worlds.specs.{OwnWorlds.IsSecondOf, OwnWorlds.landed, OwnWorlds.driven, Days.world_before, Days.is_there, Days.run_turns, Days.my_node_turns}
+use Rattle.law_own_worlds.{specs.Days.my_link_turns, specs.Days.FollowsTheDay, proofs.Knowing.ready_known, proofs.Making.made, proofs.Seconds.second_of}
 
 module _ (S : Setup) (own : Owner) (parts p t : ℕ) (z : Counts) (local : SecondsAreLocal S own parts) (fit : IsFitSetup z S) where
   abbrev H : Held

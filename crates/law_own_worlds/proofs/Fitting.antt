@@ -1,20 +1,15 @@
 -- The own world of a partition is fit, and who waits in it does so since before.
-use Rattle.traffic.proofs.Common.{ℕ, ◌+◌, ◌-◌, ◌<◌, ◌++◌, ◌∙◌, sym, subst, arith, inl, inr, cases_Bool, true, false, Bool, length}
-use Rattle.traffic.proofs.Common.{flat_map, replicate}
-use Rattle.traffic.proofs.Common.{eqb, recursion_from_All, All-from_recursion, Setup, World, at, on, person_of, below, world_at}
-use Rattle.std.specs.List.{AllByRecursion as Each}
-use Rattle.traffic.specs.declared.stage.Stage.{Stage}
-use Rattle.traffic.specs.declared.stage.Stage.TheVariants.{Queue, Buffer, Wait, Bay}
-use Rattle.traffic.specs.declared.world.Hole.{Hole}
-use Rattle.traffic.specs.declared.world.Person.{Person}
+use Rattle.traffic.proofs.Common.{ℕ, ◌+◌, ◌-◌, ◌<◌, ◌++◌, ◌∙◌, sym, subst, arith, inl, inr, cases_Bool, true, false, Bool, length, flat_map, replicate, eqb}
+use Rattle.traffic.proofs.Common.{recursion_from_All, All-from_recursion, Setup, World, at, on, person_of, below, world_at}
 use Rattle.traffic.proofs.Each.{each_append, each_flat, each_flat_all, each_kept, each_map, each_all, each_number, each_take}
-use Rattle.law_in_range.specs.Rows.{Counts, IsFitRow, IsFitPerson, IsFitWorld}
-use Rattle.law_in_range.specs.Setups.{IsFitSetup}
+use Rattle.traffic.specs.declared.stage.Stage.{Stage, TheVariants.Queue, TheVariants.Buffer, TheVariants.Wait, TheVariants.Bay}
+use Rattle.traffic.specs.declared.world.{Hole.Hole, Person.Person}
+use Rattle.std.specs.List.{AllByRecursion as Each}
+use Rattle.law_in_range.specs.{Rows.Counts, Rows.IsFitRow, Rows.IsFitPerson, Rows.IsFitWorld, Setups.IsFitSetup}
 use Rattle.parts.specs.Owners.{Owner, owner_of, lag}
 use Rattle.parts.specs.Parts.{Held, mine, late_rows, known_list, has, unheard, ready}
+use Rattle.law_own_worlds.proofs.{Knowing.fit_at, Knowing.unheard_known, Making.one_person, Making.one_each, Making.credits}
 use Rattle.law_own_worlds.specs.Making.{or_nobody, rows_on, hole, holes_on, own_world, IsKnown}
-use Rattle.law_own_worlds.proofs.Making.{one_person, one_each, credits}
-use Rattle.law_own_worlds.proofs.Knowing.{fit_at, unheard_known}
 
 -- FIT
 module _ (S : Setup) (own : Owner) (p t : ℕ) (H : Held) (known : IsKnown S own p H) (z : Counts) (fit : IsFitSetup z S)

@@ -1,25 +1,17 @@
 -- What a partition holds of a day is of persons and links that are there.
-use Rattle.traffic.proofs.Common.{◌≡◌, ◌≢◌, ℕ, zero, suc, ◌+◌, ◌-◌, ◌<◌, ◌≤◌, List, [], ◌∷◌, ◌∙◌, ap, refl, arith, inl, inr, cases_Bool}
-use Rattle.traffic.proofs.Common.{true, false, length, take, map, flat_map, filter}
-use Rattle.traffic.proofs.Common.{eqb, ne_eqb, nat_lt, nat_tests, recursion_from_All, None, Setup, World, at, on, rank, holes_at, hole_of}
-use Rattle.traffic.proofs.Common.{numbers, world_at, world_start, link_turns}
+use Rattle.traffic.proofs.Common.{◌≡◌, ◌≢◌, ℕ, zero, suc, ◌+◌, ◌-◌, ◌<◌, ◌≤◌, List, [], ◌∷◌, ◌∙◌, ap, refl, arith, inl, inr, cases_Bool, true, false, length}
+use Rattle.traffic.proofs.Common.{take, map, flat_map, filter, eqb, ne_eqb, nat_lt, nat_tests, recursion_from_All, None, Setup, World, at, on, rank, holes_at}
+use Rattle.traffic.proofs.Common.{hole_of, numbers, world_at, world_start, link_turns}
+use Rattle.traffic.proofs.{Each.each_all, Each.each_filter, Each.each_take, Each.each_weaker, Links.link-at}
+use Rattle.traffic.specs.declared.stage.Stage.{Stage, TheVariants.Queue, TheVariants.Buffer, TheVariants.Wait, TheVariants.Bay}
+use Rattle.traffic.specs.declared.world.{Hole.Hole, Row.Row}
 use Rattle.std.specs.List.{AllByRecursion as Each}
-use Rattle.traffic.specs.declared.stage.Stage.{Stage}
-use Rattle.traffic.specs.declared.stage.Stage.TheVariants.{Queue, Buffer, Wait, Bay}
-use Rattle.traffic.specs.declared.world.Hole.{Hole}
-use Rattle.traffic.specs.declared.world.Row.{Row}
-use Rattle.traffic.proofs.Each.{each_all, each_filter, each_take, each_weaker}
-use Rattle.traffic.proofs.Links.{link-at}
-use Rattle.law_in_range.specs.Rows.{Counts, IsFitRow, IsFitWorld}
-use Rattle.law_in_range.specs.Setups.{IsFitSetup}
 use Rattle.law_in_range.proofs.Seconds.{start_fit, from_fit}
+use Rattle.law_in_range.specs.{Rows.Counts, Rows.IsFitRow, Rows.IsFitWorld, Setups.IsFitSetup}
 use Rattle.parts.specs.Owners.{Owner, owner_of, begins_in, lag}
 use Rattle.parts.specs.Parts.{Held, freed, went, went_last, late_rows, known_list, lasting, up, unheard, ready}
-use Rattle.law_partitions.proofs.Early.{mid, went_is}
-use Rattle.law_partitions.proofs.Late.{freed-append, freed_other}
-use Rattle.law_partitions.proofs.Second.{C_world, D_moves-are}
-use Rattle.law_own_worlds.specs.Making.{IsKnown}
-use Rattle.law_own_worlds.proofs.Making.{filter_none, both_false}
+use Rattle.law_partitions.proofs.{Early.mid, Early.went_is, Late.freed-append, Late.freed_other, Second.C_world, Second.D_moves-are}
+use Rattle.law_own_worlds.{proofs.Making.filter_none, proofs.Making.both_false, specs.Making.IsKnown}
 
 -- PAST THE LAST LINK
 pub fit_at : (z : Counts) (S : Setup) (t : ℕ) → IsFitSetup z S → IsFitWorld z (world_at S t)

@@ -1,20 +1,13 @@
 -- What a partition holds, made a world.
-use Rattle.traffic.proofs.Common.{◌≡◌, ◌≢◌, ℕ, zero, suc, ◌+◌, ◌-◌, ◌<◌, ◌≤◌, List, [], ◌∷◌, ◌++◌, ◌∙◌, ap, refl, sym, arith, inl, inr}
-use Rattle.traffic.proofs.Common.{cases_Bool, cases_lt, true, false, Bool, length, get_or, get_or_past, map, flat_map, filter, replicate}
-use Rattle.traffic.proofs.Common.{eqb, eqb-true, eqb-false, eq-eqb, ne_eqb, lt-ltb, nat_lt, length-append, length-map, filter-append}
-use Rattle.traffic.proofs.Common.{append-nil, Option, Some, None, Setup, World, at, on, rank, credit_of, person_of, nobody, holes_at}
-use Rattle.traffic.proofs.Common.{taken_at, in_force, hole_of, hole_seconds, link_row, numbers, below, ◌&&◌}
-use Rattle.std.specs.Prelude.{is_some}
-use Rattle.std.specs.List.{AllByRecursion as Each}
-use Rattle.traffic.specs.declared.stage.Stage.{Stage}
-use Rattle.traffic.specs.declared.stage.Stage.TheVariants.{Queue, Buffer, Wait, Bay}
-use Rattle.traffic.specs.declared.world.Hole.{Hole}
-use Rattle.traffic.specs.declared.world.Person.{Person}
-use Rattle.traffic.specs.declared.world.Row.{Row}
-use Rattle.parts.specs.Owners.{Owner, begins_in}
-use Rattle.parts.specs.Parts.{Held, mine}
-use Rattle.law_partitions.specs.Alone.{taken_here}
-use Rattle.law_partitions.proofs.Listing.{apart_lists}
+use Rattle.traffic.proofs.Common.{◌≡◌, ◌≢◌, ℕ, zero, suc, ◌+◌, ◌-◌, ◌<◌, ◌≤◌, List, [], ◌∷◌, ◌++◌, ◌∙◌, ap, refl, sym, arith, inl, inr, cases_Bool, cases_lt}
+use Rattle.traffic.proofs.Common.{true, false, Bool, length, get_or, get_or_past, map, flat_map, filter, replicate, eqb, eqb-true, eqb-false, eq-eqb, ne_eqb}
+use Rattle.traffic.proofs.Common.{lt-ltb, nat_lt, length-append, length-map, filter-append, append-nil, Option, Some, None, Setup, World, at, on, rank}
+use Rattle.traffic.proofs.Common.{credit_of, person_of, nobody, holes_at, taken_at, in_force, hole_of, hole_seconds, link_row, numbers, below, ◌&&◌}
+use Rattle.traffic.specs.declared.stage.Stage.{Stage, TheVariants.Queue, TheVariants.Buffer, TheVariants.Wait, TheVariants.Bay}
+use Rattle.traffic.specs.declared.world.{Hole.Hole, Person.Person, Row.Row}
+use Rattle.std.specs.{List.AllByRecursion as Each, Prelude.is_some}
+use Rattle.parts.specs.{Owners.Owner, Owners.begins_in, Parts.Held, Parts.mine}
+use Rattle.law_partitions.{proofs.Listing.apart_lists, specs.Alone.taken_here}
 use Rattle.law_own_worlds.specs.OwnWorlds.{IsWorldOf, IsOwnWorld}
 use Rattle.law_own_worlds.specs.Making.{or_nobody, rows_on, hole, holes_on, own_world, IsKnown}
 

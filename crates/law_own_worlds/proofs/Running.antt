@@ -1,16 +1,12 @@
 -- Moves do the same to what a partition holds and to a world that has it.
-use Rattle.traffic.proofs.Common.{◌≡◌, ℕ, zero, suc, ◌+◌, ◌<◌, List, [], ◌∷◌, ◌∙◌, ap, refl, sym, arith, inl, inr, cases_Bool, true, Bool}
-use Rattle.traffic.proofs.Common.{length, map, filter}
-use Rattle.traffic.proofs.Common.{Some, None, Turn, Setup, World, credit_of, person_of, run, done, told, after, moves_of, at_after}
-use Rattle.traffic.proofs.Common.{credit_after, holes_at, taken_at, in_force, hole_of, numbers}
-use Rattle.traffic.specs.declared.moves.Move.{Move}
-use Rattle.traffic.specs.declared.stage.Stage.TheVariants.{Queue}
+use Rattle.traffic.proofs.Common.{◌≡◌, ℕ, zero, suc, ◌+◌, ◌<◌, List, [], ◌∷◌, ◌∙◌, ap, refl, sym, arith, inl, inr, cases_Bool, true, Bool, length, map, filter}
+use Rattle.traffic.proofs.Common.{Some, None, Turn, Setup, World, credit_of, person_of, run, done, told, after, moves_of, at_after, credit_after, holes_at}
+use Rattle.traffic.proofs.Common.{taken_at, in_force, hole_of, numbers}
 use Rattle.traffic.proofs.Sublists.{at-done, at-run_untouched, credit-done, credits-run, holes-run, persons-length, person-done}
-use Rattle.traffic.proofs.Turns.{Fresh, Distinct}
+use Rattle.traffic.{proofs.Turns.Fresh, proofs.Turns.Distinct, specs.declared.moves.Move.Move, specs.declared.stage.Stage.TheVariants.Queue}
 use Rattle.parts.specs.Parts.{Held, mine}
+use Rattle.law_partitions.proofs.{Early.AreEarly, Early.early-untouched, Early.early-holes, Early.early-rows, Second.held_run-holes}
 use Rattle.law_partitions.specs.Alone.{after_told, held_done, held_run, taken_here}
-use Rattle.law_partitions.proofs.Second.{held_run-holes}
-use Rattle.law_partitions.proofs.Early.{AreEarly, early-untouched, early-holes, early-rows}
 use Rattle.law_own_worlds.specs.OwnWorlds.{IsWorldOf}
 
 -- A MOVE

@@ -1,34 +1,21 @@
 -- The second of a partition is that of its own world.
-use Rattle.traffic.proofs.Common.{◌≡◌, ℕ, ◌<◌, List, [], ◌∙◌, ap, refl, sym, subst, arith, inl, inr, cases_Bool, true, false, Bool}
-use Rattle.traffic.proofs.Common.{length, map, flat_map, eqb, eqb-true, fun_ext}
-use Rattle.traffic.proofs.Common.{Some, None, Turn, Setup, World, at, rank, person_of, nobody, run, turns, turns_in, turns_of, turn_of}
-use Rattle.traffic.proofs.Common.{after, moves_of, below, link_row}
-use Rattle.traffic.proofs.Common.{landing_moves, leaving_moves, departure_moves, landing_turns, leaving_turns, departure_turns}
-use Rattle.traffic.proofs.Common.{node_turns, link_turns, node_moves, node_view, NodeView, into, taken_at, storage_of, seconds_of}
-use Rattle.traffic.proofs.Common.{link_moves, link_state, rules, waiter, waiters}
+use Rattle.traffic.proofs.Common.{◌≡◌, ℕ, ◌<◌, List, [], ◌∙◌, ap, refl, sym, subst, arith, inl, inr, cases_Bool, true, false, Bool, length, map, flat_map, eqb}
+use Rattle.traffic.proofs.Common.{eqb-true, fun_ext, Some, None, Turn, Setup, World, at, rank, person_of, nobody, run, turns, turns_in, turns_of, turn_of}
+use Rattle.traffic.proofs.Common.{after, moves_of, below, link_row, landing_moves, leaving_moves, departure_moves, landing_turns, leaving_turns}
+use Rattle.traffic.proofs.Common.{departure_turns, node_turns, link_turns, node_moves, node_view, NodeView, into, taken_at, storage_of, seconds_of, link_moves}
+use Rattle.traffic.proofs.{Common.link_state, Common.rules, Common.waiter, Common.waiters, Each.each_flat_all, Nodes.nodes_apart, Persons.departures_apart}
+use Rattle.traffic.proofs.{Persons.landing_moves-of, Persons.leaving_moves-of, Phases.links_apart, Phases.phase_at_once, Sublists.at-run_untouched}
+use Rattle.traffic.{proofs.Turns.Distinct-numbers, proofs.Turns.turns_at_once, proofs.Turns.moves_of-map, specs.declared.moves.Move.Move}
+use Rattle.traffic.specs.declared.stage.Stage.{Stage, TheVariants.Queue, TheVariants.Buffer, TheVariants.Wait, TheVariants.Bay}
+use Rattle.traffic.specs.declared.world.{Person.Person, Row.Row}
 use Rattle.events.specs.declared.event.Phase.TheVariants as phase
-use Rattle.traffic.specs.declared.moves.Move.{Move}
-use Rattle.traffic.specs.declared.stage.Stage.{Stage}
-use Rattle.traffic.specs.declared.stage.Stage.TheVariants.{Queue, Buffer, Wait, Bay}
-use Rattle.traffic.specs.declared.world.Person.{Person}
-use Rattle.traffic.specs.declared.world.Row.{Row}
-use Rattle.traffic.proofs.Each.{each_flat_all}
-use Rattle.traffic.proofs.Nodes.{nodes_apart}
-use Rattle.traffic.proofs.Persons.{departures_apart, landing_moves-of, leaving_moves-of}
-use Rattle.traffic.proofs.Phases.{links_apart, phase_at_once}
-use Rattle.traffic.proofs.Sublists.{at-run_untouched}
-use Rattle.traffic.proofs.Turns.{Distinct-numbers, turns_at_once, moves_of-map}
-use Rattle.parts.specs.Owners.{Owner, owner_of, begins_in}
-use Rattle.parts.specs.Parts.{Held}
-use Rattle.law_partitions.specs.Alone.{held_run, taken_here, see, state_here, waiters_here, acts, first_of, my_nodes, my_links, my_runs}
-use Rattle.law_partitions.specs.Alone.{A_part, B1_part, B2_part, C_part, D_part, after_A, after_B1, early, after_C}
-use Rattle.law_partitions.proofs.Quiet.{person_moves, person-run, quiet_same}
+use Rattle.parts.specs.{Owners.Owner, Owners.owner_of, Owners.begins_in, Parts.Held}
 use Rattle.law_partitions.proofs.Begins.{of-quiet, own-turn, departures-quiet}
-use Rattle.law_partitions.proofs.Early.{IsEarly, AreEarly, A_moves-are, B1_moves-are, A-early, B1-early, departures-early}
-use Rattle.law_partitions.proofs.Early.{early-untouched, early-rows, early-holes}
-use Rattle.law_partitions.proofs.Handed.{nodes-handed, handed-waits}
-use Rattle.law_partitions.proofs.Second.{held_run-holes, same_state, waiters-here}
-use Rattle.law_partitions.proofs.Telling.{landing_off, leaving_off}
+use Rattle.law_partitions.proofs.Early.{IsEarly, AreEarly, A_moves-are, B1_moves-are, A-early, B1-early, departures-early, early-untouched, early-rows}
+use Rattle.law_partitions.proofs.{Early.early-holes, Handed.nodes-handed, Handed.handed-waits, Quiet.person_moves, Quiet.person-run, Quiet.quiet_same}
+use Rattle.law_partitions.proofs.{Second.held_run-holes, Second.same_state, Second.waiters-here, Telling.landing_off, Telling.leaving_off}
+use Rattle.law_partitions.specs.Alone.{held_run, taken_here, see, state_here, waiters_here, acts, first_of, my_nodes, my_links, my_runs, A_part, B1_part}
+use Rattle.law_partitions.specs.Alone.{B2_part, C_part, D_part, after_A, after_B1, early, after_C}
 use Rattle.law_own_worlds.specs.OwnWorlds.{IsWorldOf, IsOwnWorld, IsSecondOf, landed, left, set_out, crossed}
 use Rattle.law_own_worlds.proofs.Running.{turns_keep, places_stay, distinct_passed, same_turns, same_passed}
 

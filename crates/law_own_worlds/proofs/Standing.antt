@@ -1,27 +1,14 @@
 -- What stands on the links of a partition in the course of a second, in its own world, is what the day has there.
-use Rattle.traffic.proofs.Common.{◌≡◌, ℕ, ◌+◌, ◌<◌, List, [], ◌++◌, ◌∙◌, ap, refl, sym, subst, inl, inr, cases_Bool, true, false, Bool}
-use Rattle.traffic.proofs.Common.{eqb, eqb-true, eq-eqb, append-nil}
-use Rattle.traffic.proofs.Common.{Setup, World, at, person_of, through, world_at, link_of_stop}
-use Rattle.std.specs.Prelude.{is_some, if◌then◌else◌}
-use Rattle.std.specs.List.{AllByRecursion as Each}
+use Rattle.traffic.proofs.Common.{◌≡◌, ℕ, ◌+◌, ◌<◌, List, [], ◌++◌, ◌∙◌, ap, refl, sym, subst, inl, inr, cases_Bool, true, false, Bool, eqb, eqb-true, eq-eqb}
+use Rattle.traffic.proofs.Common.{append-nil, Setup, World, at, person_of, through, world_at, link_of_stop}
 use Rattle.traffic.specs.declared.stage.Stage.TheVariants.{Queue, Buffer, Wait, Bay}
-use Rattle.traffic.specs.declared.world.Person.{Person}
-use Rattle.traffic.specs.declared.world.Place.TheVariants.{Waiting}
-use Rattle.traffic.specs.declared.world.Row.{Row}
-use Rattle.traffic.proofs.Each.{each_append}
-use Rattle.law_in_range.specs.Rows.{Counts}
-use Rattle.law_in_range.specs.Setups.{IsFitSetup}
-use Rattle.parts.specs.Owners.{Owner, owner_of, begins_in}
-use Rattle.parts.specs.Parts.{Held, mine, has, unheard, ready}
-use Rattle.law_partitions.specs.Premises.{Lawful}
-use Rattle.law_partitions.specs.Alone.{early, after_C}
-use Rattle.law_partitions.proofs.Calms.{calm}
-use Rattle.law_partitions.proofs.Early.{mid}
-use Rattle.law_partitions.proofs.Ends.{less, sh}
-use Rattle.law_partitions.proofs.Heard.{late_of}
-use Rattle.law_partitions.proofs.Home.{IsHome, home_mid}
-use Rattle.law_partitions.proofs.Second.{Short, C_world, came_in, came_late, waiters-here, queue_other, C_after-queue_own, C_after-buffer}
-use Rattle.law_partitions.proofs.Second.{C_after-wait, C_after-bay, C_after-person, C_waiters}
+use Rattle.traffic.{specs.declared.world.Person.Person, specs.declared.world.Place.TheVariants.Waiting, specs.declared.world.Row.Row, proofs.Each.each_append}
+use Rattle.std.specs.{List.AllByRecursion as Each, Prelude.is_some, Prelude.if◌then◌else◌}
+use Rattle.law_in_range.specs.{Rows.Counts, Setups.IsFitSetup}
+use Rattle.parts.specs.{Owners.Owner, Owners.owner_of, Owners.begins_in, Parts.Held, Parts.mine, Parts.has, Parts.unheard, Parts.ready}
+use Rattle.law_partitions.proofs.{Calms.calm, Early.mid, Ends.less, Ends.sh, Heard.late_of, Home.IsHome, Home.home_mid, Second.Short}
+use Rattle.law_partitions.proofs.Second.{C_world, came_in, came_late, waiters-here, queue_other, C_after-queue_own, C_after-buffer, C_after-wait, C_after-bay}
+use Rattle.law_partitions.{proofs.Second.C_after-person, proofs.Second.C_waiters, specs.Alone.early, specs.Alone.after_C, specs.Premises.Lawful}
 use Rattle.law_own_worlds.specs.OwnWorlds.{IsSecondOf, set_out, crossed}
 use Rattle.law_own_worlds.specs.Days.{world_before, is_there, IsAsInTheDay, StandsAsInTheDay}
 

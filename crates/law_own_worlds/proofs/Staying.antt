@@ -1,14 +1,10 @@
 -- A fit world stays fit through the second of a partition.
-use Rattle.traffic.proofs.Common.{ℕ, ◌<◌, List, [], ◌∷◌, sym, subst, arith, length, eqb, Phase, Setup, World, run, turns, turns_of, after}
-use Rattle.traffic.proofs.Common.{moves_of, through, count_of, below}
+use Rattle.traffic.proofs.Common.{ℕ, ◌<◌, List, [], ◌∷◌, sym, subst, arith, length, eqb, Phase, Setup, World, run, turns, turns_of, after, moves_of, through}
+use Rattle.traffic.proofs.{Common.count_of, Common.below, Each.each_kept, Each.each_number, Sublists.run-append}
 use Rattle.std.specs.List.{AllByRecursion as Each}
 use Rattle.events.specs.declared.event.Phase.TheVariants as phase
-use Rattle.traffic.proofs.Each.{each_kept, each_number}
-use Rattle.traffic.proofs.Sublists.{run-append}
-use Rattle.law_in_range.specs.Rows.{Counts, IsFitWorld}
-use Rattle.law_in_range.specs.Setups.{IsFitSetup}
-use Rattle.law_in_range.proofs.Kept.{run_fit}
-use Rattle.law_in_range.proofs.Seconds.{turn_fit, through_fit}
+use Rattle.law_in_range.proofs.{Kept.run_fit, Seconds.turn_fit, Seconds.through_fit}
+use Rattle.law_in_range.specs.{Rows.Counts, Rows.IsFitWorld, Setups.IsFitSetup}
 use Rattle.parts.specs.Owners.{Owner, owner_of}
 use Rattle.law_partitions.specs.Alone.{first_of, my_nodes, my_links, my_runs}
 use Rattle.law_own_worlds.specs.OwnWorlds.{left, set_out, crossed, driven, StaysFit}

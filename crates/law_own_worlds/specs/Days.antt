@@ -2,20 +2,14 @@
 use Rattle.std.specs.Prelude.{◌≡◌, ℕ, suc, ◌<◌, Bool, true, List, [], ◌∷◌, ◌++◌, length, map, filter, is_some}
 use Rattle.std.specs.List.{flat_map, AllByRecursion as Each}
 use Rattle.events.specs.declared.event.Phase.TheVariants as phase
-use Rattle.traffic.specs.declared.stage.Stage.{Stage}
-use Rattle.traffic.specs.declared.stage.Stage.TheVariants.{Queue, Buffer, Wait, Bay}
-use Rattle.traffic.specs.declared.world.Place.TheVariants.{Waiting}
-use Rattle.traffic.specs.declared.world.Row.{Row}
-use Rattle.traffic.specs.Lists.{below}
-use Rattle.traffic.specs.Rows.{World, at, credit_of, person_of}
-use Rattle.traffic.specs.Setup.{Setup, link_of_stop}
-use Rattle.traffic.specs.Persons.{waiters}
 use Rattle.traffic.specs.Day.{Turn, departure_turns, node_turns, link_turns, turns, turns_in, moves_of, events_in, through, world_at}
+use Rattle.traffic.specs.{Lists.below, Persons.waiters, Rows.World, Rows.at, Rows.credit_of, Rows.person_of, Setup.Setup, Setup.link_of_stop}
+use Rattle.traffic.specs.declared.stage.Stage.{Stage, TheVariants.Queue, TheVariants.Buffer, TheVariants.Wait, TheVariants.Bay}
+use Rattle.traffic.specs.declared.world.{Place.TheVariants.Waiting, Row.Row}
 use Rattle.parts.specs.Owners.{Owner, owner_of, leads, links_of}
 use Rattle.parts.specs.Parts.{is_some_freed, mine, enters_queue, freed, held, ready, out, own_events}
 use Rattle.law_partitions.specs.Alone.{my_nodes, my_links, my_runs, sent_out, if_stays, passed_here, flight_to}
-use Rattle.law_own_worlds.specs.Making.{own_world}
-use Rattle.law_own_worlds.specs.OwnWorlds.{landed, left, set_out, crossed, driven}
+use Rattle.law_own_worlds.specs.{Making.own_world, OwnWorlds.landed, OwnWorlds.left, OwnWorlds.set_out, OwnWorlds.crossed, OwnWorlds.driven}
 
 -- the own world of partition p before second t of the day, and whom it has
 abbrev pub world_before : Setup → Owner → ℕ → ℕ → World

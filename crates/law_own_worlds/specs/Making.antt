@@ -1,16 +1,10 @@
 -- What a partition holds, made a world.
 use Rattle.std.specs.Prelude.{◌≡◌, ℕ, ◌-◌, ◌≤◌, true, List, [], ◌++◌, length, map, replicate, Option, None, Some}
 use Rattle.std.specs.List.{flat_map, AllByRecursion as Each}
-use Rattle.traffic.specs.declared.stage.Stage.{Stage}
+use Rattle.traffic.specs.{Lists.below, Rows.World, Rows.on, Rows.nobody, Setup.Setup, declared.stage.Stage.Stage}
 use Rattle.traffic.specs.declared.stage.Stage.TheVariants.{Queue, Buffer, Wait, Bay}
-use Rattle.traffic.specs.declared.world.Hole.{Hole}
-use Rattle.traffic.specs.declared.world.Person.{Person}
-use Rattle.traffic.specs.declared.world.Row.{Row}
-use Rattle.traffic.specs.Lists.{below}
-use Rattle.traffic.specs.Rows.{World, on, nobody}
-use Rattle.traffic.specs.Setup.{Setup}
-use Rattle.parts.specs.Owners.{Owner, begins_in}
-use Rattle.parts.specs.Parts.{Held}
+use Rattle.traffic.specs.declared.world.{Hole.Hole, Person.Person, Row.Row}
+use Rattle.parts.specs.{Owners.Owner, Owners.begins_in, Parts.Held}
 
 -- the row of a person whom it has, or that of nobody
 abbrev pub or_nobody : Option Person → Person

@@ -1,15 +1,10 @@
 -- The own world of a partition: what the partition holds, as a world.
 use Rattle.std.specs.Prelude.{◌≡◌, ℕ, ◌<◌, Bool, true, false, length, ◌==◌}
 use Rattle.events.specs.declared.event.Phase.TheVariants as phase
-use Rattle.traffic.specs.declared.stage.Stage.{Stage}
-use Rattle.traffic.specs.Rows.{World, at, rank, credit_of, person_of, nobody}
-use Rattle.traffic.specs.Setup.{Setup}
-use Rattle.traffic.specs.Nodes.{taken_at}
-use Rattle.traffic.specs.Persons.{waiters}
-use Rattle.traffic.specs.Day.{departure_turns, node_turns, link_turns, turns, turns_in, after}
+use Rattle.traffic.specs.{Day.departure_turns, Day.node_turns, Day.link_turns, Day.turns, Day.turns_in, Day.after, Nodes.taken_at, Persons.waiters, Rows.World}
+use Rattle.traffic.specs.{Rows.at, Rows.rank, Rows.credit_of, Rows.person_of, Rows.nobody, Setup.Setup, declared.stage.Stage.Stage}
 use Rattle.law_in_range.specs.Rows.{Counts, IsFitWorld}
-use Rattle.parts.specs.Owners.{Owner, begins_in}
-use Rattle.parts.specs.Parts.{Held, mine}
+use Rattle.parts.specs.{Owners.Owner, Owners.begins_in, Parts.Held, Parts.mine}
 use Rattle.law_partitions.specs.Alone.{taken_here, waiters_here, my_nodes, my_links, my_runs, A_part, B1_part, B2_part, C_part, D_part}
 use Rattle.law_partitions.specs.Alone.{after_A, after_B1, early, after_C, after_D}
 

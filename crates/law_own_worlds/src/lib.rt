@@ -4,17 +4,12 @@
 #![tactic(auto)]
 
 ghost use Rattle.std.specs.Prelude.{ℕ, Bool, is_some};
-ghost use Rattle.traffic.specs.Rows.{World};
-ghost use Rattle.traffic.specs.Setup.{Setup};
-ghost use Rattle.parts.specs.Owners.{Owner};
-ghost use Rattle.parts.specs.Parts.{Held, unheard};
-ghost use Rattle.law_in_range.specs.Rows.{Counts, IsFitWorld};
-ghost use Rattle.law_in_range.specs.Setups.{IsFitSetup};
-ghost use Rattle.law_sound_setups.specs.Setups.{IsSoundSetup};
-ghost use Rattle.law_sound_setups.specs.Consistent.{IsConsistentSetup};
+ghost use Rattle.traffic.specs.{Rows.World, Setup.Setup};
+ghost use Rattle.parts.specs.{Owners.Owner, Parts.Held, Parts.unheard};
+ghost use Rattle.law_in_range.specs.{Rows.Counts, Rows.IsFitWorld, Setups.IsFitSetup};
+ghost use Rattle.law_sound_setups.specs.{Consistent.IsConsistentSetup, Setups.IsSoundSetup};
 ghost use Rattle.law_partitions.specs.Laws.{IsOwner};
-ghost use Rattle.law_own_worlds.specs.Days.{FollowsTheDay, StandsAsInTheDay};
-ghost use Rattle.law_own_worlds.specs.Making.{IsKnown, own_world};
+ghost use Rattle.law_own_worlds.specs.{Days.FollowsTheDay, Days.StandsAsInTheDay, Making.IsKnown, Making.own_world};
 ghost use Rattle.law_own_worlds.specs.OwnWorlds.{IsOwnWorld, IsSecondOf, StaysFit};
 
 /// Before a second of a partition let a world have what it holds, with the places of the links that begin in it taken as it knows. Then its

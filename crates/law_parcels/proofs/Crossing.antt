@@ -1,19 +1,12 @@
 -- What nodes of a partition put into queues of other partitions, by the partition.
-use Rattle.traffic.proofs.Common.{◌≡◌, ℕ, List, [], ◌∷◌, ◌++◌, ◌∙◌, ap, refl, sym, inl, inr, cases_Bool, true, false, Bool, not, ◌&&◌}
-use Rattle.traffic.proofs.Common.{◌≤◌, arith, and_parts, or_parts, if◌then◌else◌, map}
-use Rattle.traffic.proofs.Common.{filter, flat_map, filter-append, flat_map-append, sum_by-cons}
-use Rattle.traffic.proofs.Common.{eqb, eqb-true, eq-eqb, Setup, World, link_row, node_turns, Untouched, touches, same, on, listed}
-use Rattle.traffic.specs.declared.moves.Move.{Move}
-use Rattle.traffic.specs.declared.moves.Move.TheVariants.{Transfer}
-use Rattle.traffic.specs.declared.riders.Rider.{Rider}
-use Rattle.traffic.specs.declared.stage.Stage.TheVariants.{Queue}
-use Rattle.traffic.specs.declared.world.Row.{Row}
+use Rattle.traffic.proofs.Common.{◌≡◌, ℕ, List, [], ◌∷◌, ◌++◌, ◌∙◌, ap, refl, sym, inl, inr, cases_Bool, true, false, Bool, not, ◌&&◌, ◌≤◌, arith, and_parts}
+use Rattle.traffic.proofs.Common.{or_parts, if◌then◌else◌, map, filter, flat_map, filter-append, flat_map-append, sum_by-cons, eqb, eqb-true, eq-eqb, Setup}
+use Rattle.traffic.proofs.Common.{World, link_row, node_turns, Untouched, touches, same, on, listed}
 use Rattle.traffic.proofs.Nodes.{node_untouched}
-use Rattle.law_one_place.proofs.Places.{among_riders}
-use Rattle.law_one_place.proofs.Boarding.{one_rider}
+use Rattle.traffic.specs.declared.{moves.Move.Move, moves.Move.TheVariants.Transfer, riders.Rider.Rider, stage.Stage.TheVariants.Queue, world.Row.Row}
+use Rattle.law_one_place.proofs.{Boarding.one_rider, Places.among_riders}
 use Rattle.law_partitions.proofs.Spare.{listed-cons}
-use Rattle.parts.specs.Owners.{Owner, owner_of, begins_in, leads}
-use Rattle.parts.specs.Parts.{Passed, Freed, is_some_freed, enters_queue}
+use Rattle.parts.specs.{Owners.Owner, Owners.owner_of, Owners.begins_in, Owners.leads, Parts.Passed, Parts.Freed, Parts.is_some_freed, Parts.enters_queue}
 use Rattle.law_parcels.specs.Sending.{goes_to}
 
 -- BY THE PARTITION

@@ -1,43 +1,22 @@
 -- Whom a partition has when its second is over, in its own world.
-use Rattle.traffic.proofs.Common.{◌≡◌, ℕ, suc, ◌<◌, ◌≤◌, List, [], ◌∙◌, ap, refl}
-use Rattle.traffic.proofs.Common.{sym, subst, arith, inl, inr, cases_Bool, cases_lt, true, false}
-use Rattle.traffic.proofs.Common.{Bool, not, length, flat_map, get_or_past, eqb, eqb-true, Some, None, VehicleId, Turn, Setup, World, on}
-use Rattle.traffic.proofs.Common.{person_of, nobody, world_at, below, after, moves_of, turns_in, node_turns, link_turns}
-use Rattle.traffic.proofs.Common.{landing_moves, leaving_moves, departure_moves, listed, IsListed}
+use Rattle.traffic.proofs.Common.{◌≡◌, ℕ, suc, ◌<◌, ◌≤◌, List, [], ◌∙◌, ap, refl, sym, subst, arith, inl, inr, cases_Bool, cases_lt, true, false, Bool, not}
+use Rattle.traffic.proofs.Common.{length, flat_map, get_or_past, eqb, eqb-true, Some, None, VehicleId, Turn, Setup, World, on, person_of, nobody, world_at}
+use Rattle.traffic.proofs.Common.{below, after, moves_of, turns_in, node_turns, link_turns, landing_moves, leaving_moves, departure_moves, listed, IsListed}
+use Rattle.traffic.proofs.{Each.each_flat_all, Each.each_flat_where, Persons.TellOf, Persons.landing_moves-of, Persons.leaving_moves-of, Waiting.run-length}
+use Rattle.traffic.specs.declared.{moves.Move.Move, stage.Stage.TheVariants.Queue, world.Person.Person, world.Place.Place, world.Place.TheVariants.At}
+use Rattle.traffic.specs.declared.world.{Place.TheVariants.Teleporting, Place.TheVariants.Waiting, Place.TheVariants.Riding, Place.TheVariants.Aborted, Row.Row}
 use Rattle.events.specs.declared.event.Phase.TheVariants as phase
-use Rattle.traffic.specs.declared.moves.Move.{Move}
-use Rattle.traffic.specs.declared.stage.Stage.TheVariants.{Queue}
-use Rattle.traffic.specs.declared.world.Person.{Person}
-use Rattle.traffic.specs.declared.world.Place.{Place}
-use Rattle.traffic.specs.declared.world.Place.TheVariants.{At, Teleporting, Waiting, Riding, Aborted}
-use Rattle.traffic.specs.declared.world.Row.{Row}
-use Rattle.traffic.proofs.Each.{each_flat_all, each_flat_where}
-use Rattle.traffic.proofs.Persons.{TellOf, landing_moves-of, leaving_moves-of}
-use Rattle.traffic.proofs.Waiting.{run-length}
-use Rattle.law_in_range.specs.Rows.{Counts}
-use Rattle.law_in_range.specs.Setups.{IsFitSetup}
-use Rattle.parts.specs.Owners.{Owner, owner_of}
-use Rattle.parts.specs.Parts.{Held, mine, has, unheard, ready}
-use Rattle.law_partitions.specs.Premises.{Lawful, Arrivals}
-use Rattle.law_partitions.specs.Alone.{my_nodes, my_links, my_runs, early, sent_out}
+use Rattle.law_in_range.specs.{Rows.Counts, Setups.IsFitSetup}
+use Rattle.parts.specs.{Owners.Owner, Owners.owner_of, Parts.Held, Parts.mine, Parts.has, Parts.unheard, Parts.ready}
+use Rattle.law_partitions.proofs.{Begins.moves_of-parts, Begins.of-quiet, Begins.departures-quiet, Calms.calm, Calms.listed_in_one, Calms.node_away}
+use Rattle.law_partitions.proofs.{Calms.link_away, Carried.element_kept, Early.mid, Early.A_moves-are, Early.B1_moves-are, Enders.some_mine, Ends.less, Ends.sh}
+use Rattle.law_partitions.proofs.{Heard.late_of, Listing.listed-filter, Locality.my_turns, Locality.D_after-person, Owning.sent_came, Owning.came_stays}
 use Rattle.law_partitions.proofs.Quiet.{IsQuiet, Quiet, person-run, quiet_same}
-use Rattle.law_partitions.proofs.Begins.{moves_of-parts, of-quiet, departures-quiet}
-use Rattle.law_partitions.proofs.Early.{mid, A_moves-are, B1_moves-are}
-use Rattle.law_partitions.proofs.Second.{C_world, Short, D_part-moves}
-use Rattle.law_partitions.proofs.Heard.{late_of}
-use Rattle.law_partitions.proofs.Ends.{less, sh}
-use Rattle.law_partitions.proofs.Listing.{listed-filter}
-use Rattle.law_partitions.proofs.Telling.{landing_off, leaving_off}
-use Rattle.law_partitions.proofs.Calms.{calm, listed_in_one, node_away, link_away}
-use Rattle.law_partitions.proofs.Locality.{my_turns, D_after-person}
-use Rattle.law_partitions.proofs.Owning.{sent_came, came_stays}
-use Rattle.law_partitions.proofs.Carried.{element_kept}
-use Rattle.law_partitions.proofs.Enders.{some_mine}
-use Rattle.law_own_worlds.specs.OwnWorlds.{IsOwnWorld, IsSecondOf, landed, left, set_out, crossed}
+use Rattle.law_partitions.proofs.{Second.C_world, Second.Short, Second.D_part-moves, Telling.landing_off, Telling.leaving_off}
+use Rattle.law_partitions.specs.{Alone.my_nodes, Alone.my_links, Alone.my_runs, Alone.early, Alone.sent_out, Premises.Lawful, Premises.Arrivals}
+use Rattle.law_own_worlds.proofs.{Knowing.ready_known, Making.made, Seconds.second_of}
 use Rattle.law_own_worlds.specs.Days.{world_before, is_there, run_turns, my_node_turns, my_link_turns}
-use Rattle.law_own_worlds.proofs.Knowing.{ready_known}
-use Rattle.law_own_worlds.proofs.Making.{made}
-use Rattle.law_own_worlds.proofs.Seconds.{second_of}
+use Rattle.law_own_worlds.specs.OwnWorlds.{IsOwnWorld, IsSecondOf, landed, left, set_out, crossed}
 use Rattle.law_own_seconds.specs.Seconds.{world_driven}
 use Rattle.law_parcels.specs.Sending.{sent_rows}
 

@@ -1,36 +1,21 @@
 -- Nobody sets out but in the phase in which activities end: what departures, nodes and links tell lets nobody fly.
-use Rattle.traffic.proofs.Common.{◌≡◌, ℕ, ◌<◌, List, [], ◌∷◌, ◌∙◌, ap, refl, sym, arith, inl, inr, cases_Bool, true, false, Bool}
-use Rattle.traffic.proofs.Common.{length, flat_map, if◌then◌else◌, eqb, eqb-true, Some, None, Option, VehicleId, More, Word, LinkState}
-use Rattle.traffic.proofs.Common.{Turn, Setup, World, person_of, after, moves_of, told, told_of, person_by, person_after}
-use Rattle.traffic.proofs.Common.{person_after_all, start_act, ride, wait_at, lose, link_turns, link_moves, rules, waiters, link_state}
-use Rattle.traffic.proofs.Common.{leaves, enters, starts, arrives, serves, strands, boarded, alighting, next_call, served_row}
+use Rattle.traffic.proofs.Common.{◌≡◌, ℕ, ◌<◌, List, [], ◌∷◌, ◌∙◌, ap, refl, sym, arith, inl, inr, cases_Bool, true, false, Bool, length, flat_map}
+use Rattle.traffic.proofs.Common.{if◌then◌else◌, eqb, eqb-true, Some, None, Option, VehicleId, More, Word, LinkState, Turn, Setup, World, person_of, after}
+use Rattle.traffic.proofs.Common.{moves_of, told, told_of, person_by, person_after, person_after_all, start_act, ride, wait_at, lose, link_turns, link_moves}
+use Rattle.traffic.proofs.Common.{rules, waiters, link_state, leaves, enters, starts, arrives, serves, strands, boarded, alighting, next_call, served_row}
+use Rattle.traffic.proofs.{Each.each_all, Each.each_append, Each.each_if, Each.each_flat_all, Each.each_weaker, LinkEach.FrontMoves, LinkEach.Have}
+use Rattle.traffic.{proofs.LinkEach.link_each, specs.declared.moves.Move.Move, specs.declared.moves.Occurrence.Occurrence, specs.declared.numbers.Rules.Rules}
+use Rattle.traffic.specs.declared.{riders.Rider.Rider, world.Person.Person, world.Place.Place, world.Place.TheVariants.At, world.Place.TheVariants.Teleporting}
+use Rattle.traffic.specs.declared.world.{Place.TheVariants.Waiting, Place.TheVariants.Riding, Place.TheVariants.Aborted, Row.Row, Waiter.Waiter}
 use Rattle.std.specs.List.{AllByRecursion as Each}
 use Rattle.events.specs.declared.event.Word.TheVariants as word
 use Rattle.events.specs.declared.event.More.TheVariants as more
-use Rattle.traffic.specs.declared.moves.Move.{Move}
-use Rattle.traffic.specs.declared.moves.Occurrence.{Occurrence}
-use Rattle.traffic.specs.declared.numbers.Rules.{Rules}
-use Rattle.traffic.specs.declared.riders.Rider.{Rider}
-use Rattle.traffic.specs.declared.world.Person.{Person}
-use Rattle.traffic.specs.declared.world.Place.{Place}
-use Rattle.traffic.specs.declared.world.Place.TheVariants.{At, Teleporting, Waiting, Riding, Aborted}
-use Rattle.traffic.specs.declared.world.Row.{Row}
-use Rattle.traffic.specs.declared.world.Waiter.{Waiter}
-use Rattle.traffic.proofs.Each.{each_all, each_append, each_if, each_flat_all, each_weaker}
-use Rattle.traffic.proofs.LinkEach.{FrontMoves, Have, link_each}
-use Rattle.law_in_range.specs.Rows.{Counts}
-use Rattle.law_in_range.specs.Setups.{IsFitSetup}
-use Rattle.parts.specs.Owners.{Owner}
-use Rattle.parts.specs.Parts.{mine, flight_at}
-use Rattle.law_partitions.specs.Premises.{Lawful, Arrivals}
-use Rattle.law_partitions.specs.Alone.{my_nodes, my_links, flight_to}
-use Rattle.law_partitions.proofs.Quiet.{person_moves, person-run}
-use Rattle.law_partitions.proofs.Handed.{Handed, by_pass_node, nodes-handed}
-use Rattle.law_partitions.proofs.Early.{mid}
-use Rattle.law_partitions.proofs.Second.{C_world}
-use Rattle.law_partitions.proofs.Flights.{flights_began}
-use Rattle.law_own_worlds.specs.OwnWorlds.{set_out, crossed}
-use Rattle.law_own_worlds.specs.Days.{is_there, world_before, my_node_turns, my_link_turns}
+use Rattle.law_in_range.specs.{Rows.Counts, Setups.IsFitSetup}
+use Rattle.parts.specs.{Owners.Owner, Parts.mine, Parts.flight_at}
+use Rattle.law_partitions.proofs.{Early.mid, Flights.flights_began, Handed.Handed, Handed.by_pass_node, Handed.nodes-handed, Quiet.person_moves}
+use Rattle.law_partitions.proofs.{Quiet.person-run, Second.C_world}
+use Rattle.law_partitions.specs.{Alone.my_nodes, Alone.my_links, Alone.flight_to, Premises.Lawful, Premises.Arrivals}
+use Rattle.law_own_worlds.specs.{Days.is_there, Days.world_before, Days.my_node_turns, Days.my_link_turns, OwnWorlds.set_out, OwnWorlds.crossed}
 use Rattle.law_own_seconds.specs.Seconds.{world_driven}
 use Rattle.law_parcels.proofs.Ending.{second, before_is, node_moves_are, link_moves_are, lacked}
 

@@ -1,33 +1,19 @@
 -- What the end of a second makes of the own world of a partition.
-use Rattle.traffic.proofs.Common.{◌≡◌, ◌≢◌, ℕ, suc, ◌+◌, ◌<◌, List, [], ◌∙◌, ap, refl, sym, subst, arith, inl, inr, cases_Bool}
-use Rattle.traffic.proofs.Common.{true, false, true≢false, Bool, length, nat_le, ltb-true, eqb}
-use Rattle.traffic.proofs.Common.{eq-eqb, if◌then◌else◌, Setup, World, at, credit_of, person_of, nobody, hole_of}
-use Rattle.traffic.proofs.Common.{waiter, waiters, listed}
+use Rattle.traffic.proofs.Common.{◌≡◌, ◌≢◌, ℕ, suc, ◌+◌, ◌<◌, List, [], ◌∙◌, ap, refl, sym, subst, arith, inl, inr, cases_Bool, true, false, true≢false, Bool}
+use Rattle.traffic.proofs.Common.{length, nat_le, ltb-true, eqb, eq-eqb, if◌then◌else◌, Setup, World, at, credit_of, person_of, nobody, hole_of, waiter}
+use Rattle.traffic.{proofs.Common.waiters, proofs.Common.listed, specs.declared.stage.Stage.Stage, specs.declared.world.Person.Person}
+use Rattle.traffic.specs.declared.world.Place.{Place, TheVariants.At, TheVariants.Teleporting, TheVariants.Waiting, TheVariants.Riding, TheVariants.Aborted}
 use Rattle.std.specs.Prelude.{is_some}
-use Rattle.traffic.specs.declared.stage.Stage.{Stage}
-use Rattle.traffic.specs.declared.world.Person.{Person}
-use Rattle.traffic.specs.declared.world.Place.{Place}
-use Rattle.traffic.specs.declared.world.Place.TheVariants.{At, Teleporting, Waiting, Riding, Aborted}
-use Rattle.law_in_range.specs.Rows.{Counts}
-use Rattle.law_in_range.specs.Setups.{IsFitSetup}
-use Rattle.parts.specs.Owners.{Owner, owner_of, begins_in, lag}
-use Rattle.parts.specs.Parts.{Held, lasting, rides_in, held, ready}
-use Rattle.law_partitions.specs.Premises.{Lawful, Arrivals}
-use Rattle.law_partitions.specs.Alone.{alone}
-use Rattle.law_partitions.specs.Laws.{SecondsAreLocal}
-use Rattle.law_partitions.proofs.History.{filter_twice}
-use Rattle.law_partitions.proofs.Enders.{or_either}
-use Rattle.law_own_worlds.specs.OwnWorlds.{IsOwnWorld}
-use Rattle.law_own_worlds.specs.Making.{IsKnown}
-use Rattle.law_own_worlds.specs.Days.{is_there, FollowsTheDay}
-use Rattle.law_own_worlds.proofs.Making.{made, one_person}
-use Rattle.law_own_worlds.proofs.Knowing.{unheard_known}
-use Rattle.law_own_seconds.specs.Seconds.{held_driven, world_driven}
-use Rattle.law_own_seconds.proofs.Places.{start_known, places_known}
-use Rattle.law_parcels.specs.Sending.{sent_rows, flies_out, is_gone, SendsParcels}
-use Rattle.law_parcels.specs.Worlds.{world_held, taken_in, LetsGo}
+use Rattle.law_in_range.specs.{Rows.Counts, Setups.IsFitSetup}
+use Rattle.parts.specs.{Owners.Owner, Owners.owner_of, Owners.begins_in, Owners.lag, Parts.Held, Parts.lasting, Parts.rides_in, Parts.held, Parts.ready}
+use Rattle.law_partitions.proofs.{Enders.or_either, History.filter_twice}
+use Rattle.law_partitions.specs.{Alone.alone, Laws.SecondsAreLocal, Premises.Lawful, Premises.Arrivals}
+use Rattle.law_own_worlds.proofs.{Knowing.unheard_known, Making.made, Making.one_person}
+use Rattle.law_own_worlds.specs.{Days.is_there, Days.FollowsTheDay, Making.IsKnown, OwnWorlds.IsOwnWorld}
+use Rattle.law_own_seconds.{proofs.Places.start_known, proofs.Places.places_known, specs.Seconds.held_driven, specs.Seconds.world_driven}
 use Rattle.law_parcels.proofs.Ending.{owned, second, behind_is, lacked, rider_rides}
 use Rattle.law_parcels.proofs.Taking.{Moves, moving_waits, same_waiters}
+use Rattle.law_parcels.specs.{Sending.sent_rows, Sending.flies_out, Sending.is_gone, Sending.SendsParcels, Worlds.world_held, Worlds.taken_in, Worlds.LetsGo}
 
 module _ (S : Setup) (own : Owner) (parts p t : ℕ) (z : Counts) (law : Lawful S) (arrivals : Arrivals S) (fit : IsFitSetup z S)
     (local : SecondsAreLocal S own parts) (day : FollowsTheDay S own p t) (sends : SendsParcels S own p t) where

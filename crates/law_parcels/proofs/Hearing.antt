@@ -1,29 +1,18 @@
 -- What absorbing parcels, one after the other, makes of what a partition holds.
-use Rattle.traffic.proofs.Common.{◌≡◌, ◌≢◌, ◌⊎◌, ℕ, zero, suc, ◌+◌, ◌-◌, ◌<◌, ◌≤◌, List, []}
-use Rattle.traffic.proofs.Common.{◌∷◌, ◌++◌, ◌∙◌, ap, refl, sym, subst, arith, inl, inr}
-use Rattle.traffic.proofs.Common.{cases_Bool, cases_lt, true, false, true≢false, Bool, not}
-use Rattle.traffic.proofs.Common.{◌&&◌, nat_le, leb-true, and_parts, length, length-append}
-use Rattle.traffic.proofs.Common.{get_or, map, filter, flat_map, replicate, sum_by, sum_by-cons, eqb, eqb-true, eq-eqb, ne_eqb}
-use Rattle.traffic.proofs.Common.{Some, None, Option, Setup, at, on, rank, person_of, world_at, below}
-use Rattle.std.specs.List.{AllByRecursion as Each}
-use Rattle.traffic.specs.declared.moves.Move.{Move}
-use Rattle.traffic.specs.declared.moves.Move.TheVariants.{Transfer}
-use Rattle.traffic.specs.declared.stage.Stage.{Stage}
+use Rattle.traffic.proofs.Common.{◌≡◌, ◌≢◌, ◌⊎◌, ℕ, zero, suc, ◌+◌, ◌-◌, ◌<◌, ◌≤◌, List, [], ◌∷◌, ◌++◌, ◌∙◌, ap, refl, sym, subst, arith, inl, inr, cases_Bool}
+use Rattle.traffic.proofs.Common.{cases_lt, true, false, true≢false, Bool, not, ◌&&◌, nat_le, leb-true, and_parts, length, length-append, get_or, map, filter}
+use Rattle.traffic.proofs.Common.{flat_map, replicate, sum_by, sum_by-cons, eqb, eqb-true, eq-eqb, ne_eqb, Some, None, Option, Setup, at, on, rank, person_of}
+use Rattle.traffic.proofs.{Common.world_at, Common.below, Each.each_flat_all, Each.each_filter, Each.each_kept, Each.each_map, Each.each_number}
+use Rattle.traffic.specs.declared.{moves.Move.Move, moves.Move.TheVariants.Transfer, stage.Stage.Stage}
 use Rattle.traffic.specs.declared.stage.Stage.TheVariants.{Queue, Buffer, Wait, Bay}
-use Rattle.traffic.specs.declared.world.Person.{Person}
-use Rattle.traffic.specs.declared.world.Row.{Row}
-use Rattle.traffic.proofs.Each.{each_flat_all, each_filter, each_kept, each_map, each_number}
+use Rattle.traffic.specs.declared.world.{Person.Person, Row.Row}
+use Rattle.std.specs.List.{AllByRecursion as Each}
 use Rattle.parts.specs.Owners.{Owner, owner_of, begins_in, crosses, leads, links_of, near, lag}
-use Rattle.parts.specs.Parts.{Held, Passed, Freed, passed, is_some_freed, mine, enters_queue, node_phase_moves, went_last, up, has, unheard}
-use Rattle.parts.specs.Parts.{held, ready, out}
-use Rattle.law_partitions.specs.Premises.{Lawful, Arrivals}
+use Rattle.parts.specs.Parts.{Held, Passed, Freed, passed, is_some_freed, mine, enters_queue, node_phase_moves, went_last, up, has, unheard, held, ready, out}
+use Rattle.law_partitions.proofs.{Absorbed.near_other, Absorbed.find_long, Absorbed.person_ready, Absorbed.absorb_is, Absorbing.Only, Absorbing.only-append}
+use Rattle.law_partitions.proofs.{Absorbing.parcel_brings, Ends.less, History.length_copies, Joined.given-self, Joined.rows_more, Lags.lag-some}
 use Rattle.law_partitions.specs.Alone.{rows_to, freed_of, freed_in, person_in, or_first, absorb, given}
-use Rattle.law_partitions.proofs.History.{length_copies}
-use Rattle.law_partitions.proofs.Lags.{lag-some}
-use Rattle.law_partitions.proofs.Joined.{given-self, rows_more}
-use Rattle.law_partitions.proofs.Ends.{less}
-use Rattle.law_partitions.proofs.Absorbing.{Only, only-append, parcel_brings}
-use Rattle.law_partitions.proofs.Absorbed.{near_other, find_long, person_ready, absorb_is}
+use Rattle.law_partitions.specs.Premises.{Lawful, Arrivals}
 use Rattle.law_own_worlds.specs.Making.{or_nobody}
 use Rattle.law_parcels.specs.Hearing.{HearsFrom, heard_rows, heard_holes, heard_persons, last_or, IsReadyBy, IsBetween}
 use Rattle.law_parcels.proofs.Lists.{Stands, flat_only}

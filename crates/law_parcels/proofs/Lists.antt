@@ -1,7 +1,6 @@
 -- Lists that are made of each of some numbers.
-use Rattle.traffic.proofs.Common.{◌≡◌, ◌≢◌, ◌⊎◌, ℕ, zero, suc, ◌+◌, ◌<◌, ◌≤◌, List, [], ◌∷◌, ◌++◌, ◌∙◌, ap, refl, sym, arith, inl, inr}
-use Rattle.traffic.proofs.Common.{cases_Bool, Bool, length, get_or, flat_map, filter, numbers, eqb, eqb-true, eqb-false, append-nil}
-use Rattle.traffic.proofs.Common.{if◌then◌else◌}
+use Rattle.traffic.proofs.Common.{◌≡◌, ◌≢◌, ◌⊎◌, ℕ, zero, suc, ◌+◌, ◌<◌, ◌≤◌, List, [], ◌∷◌, ◌++◌, ◌∙◌, ap, refl, sym, arith, inl, inr, cases_Bool, Bool}
+use Rattle.traffic.proofs.Common.{length, get_or, flat_map, filter, numbers, eqb, eqb-true, eqb-false, append-nil, if◌then◌else◌}
 
 -- of a range, where each gives the same
 pub same_flat : {X : Type 0} (f g : ℕ → List X) (c : ℕ) → ((i : ℕ) → i < c → f i ≡ g i) → (k n : ℕ) → k + n ≤ c

@@ -1,28 +1,20 @@
 -- What a partition sends after its second, by its own world.
-use Rattle.traffic.proofs.Common.{◌≡◌, ℕ, suc, ◌≤◌, List, [], ◌∙◌, ap, refl, sym, arith, inl, inr, cases_Bool, true, false, Bool, ◌||◌}
-use Rattle.traffic.proofs.Common.{length, map, filter, flat_map, if◌then◌else◌, ltb-true, eqb, Some, None, VehicleId, Setup}
-use Rattle.traffic.proofs.Common.{person_of, nobody, below, moves_of, listed}
-use Rattle.traffic.specs.declared.world.Person.{Person}
-use Rattle.traffic.specs.declared.world.Place.{Place}
-use Rattle.traffic.specs.declared.world.Place.TheVariants.{At, Teleporting, Waiting, Riding, Aborted}
-use Rattle.traffic.specs.declared.world.Row.{Row}
-use Rattle.law_in_range.specs.Rows.{Counts}
-use Rattle.law_in_range.specs.Setups.{IsFitSetup}
+use Rattle.traffic.proofs.Common.{◌≡◌, ℕ, suc, ◌≤◌, List, [], ◌∙◌, ap, refl, sym, arith, inl, inr, cases_Bool, true, false, Bool, ◌||◌, length, map, filter}
+use Rattle.traffic.proofs.Common.{flat_map, if◌then◌else◌, ltb-true, eqb, Some, None, VehicleId, Setup, person_of, nobody, below, moves_of, listed}
+use Rattle.traffic.specs.declared.world.{Person.Person, Place.Place, Place.TheVariants.At, Place.TheVariants.Teleporting, Place.TheVariants.Waiting}
+use Rattle.traffic.specs.declared.world.{Place.TheVariants.Riding, Place.TheVariants.Aborted, Row.Row}
+use Rattle.law_in_range.specs.{Rows.Counts, Setups.IsFitSetup}
 use Rattle.parts.specs.Owners.{Owner, begins_in, leads, links_of}
 use Rattle.parts.specs.Parts.{Freed, passed, rides_in, mine, enters_queue, freed, held, ready, out}
-use Rattle.law_partitions.specs.Premises.{Lawful, Arrivals}
-use Rattle.law_partitions.specs.Alone.{element_in, passed_here, flight_to, goes_out, if_stays}
-use Rattle.law_partitions.proofs.Early.{mid}
-use Rattle.law_partitions.proofs.Listing.{listed-filter}
-use Rattle.law_own_worlds.specs.OwnWorlds.{set_out}
-use Rattle.law_own_worlds.specs.Making.{or_nobody}
+use Rattle.law_partitions.proofs.{Early.mid, Listing.listed-filter}
+use Rattle.law_partitions.specs.{Alone.element_in, Alone.passed_here, Alone.flight_to, Alone.goes_out, Alone.if_stays, Premises.Lawful, Premises.Arrivals}
 use Rattle.law_own_worlds.specs.Days.{is_there, world_before, my_node_turns, my_link_turns, FollowsTheDay}
+use Rattle.law_own_worlds.specs.{Making.or_nobody, OwnWorlds.set_out}
 use Rattle.law_own_seconds.specs.Seconds.{world_driven}
-use Rattle.law_parcels.specs.Sending.{sent_rows, goes_to, flies_out, is_gone, freed_over, SendsParcels}
-use Rattle.law_parcels.proofs.Lists.{same_flat, passed_flat}
-use Rattle.law_parcels.proofs.Ending.{owned, had_is, lacks_is, behind_is, node_moves_are, lacked, sent_are, rider_element, rider_rides}
 use Rattle.law_parcels.proofs.Crossing.{nodes_ways, same_passed, freed_to}
-use Rattle.law_parcels.proofs.Flying.{one_flight}
+use Rattle.law_parcels.proofs.Ending.{owned, had_is, lacks_is, behind_is, node_moves_are, lacked, sent_are, rider_element, rider_rides}
+use Rattle.law_parcels.proofs.{Flying.one_flight, Lists.same_flat, Lists.passed_flat}
+use Rattle.law_parcels.specs.Sending.{sent_rows, goes_to, flies_out, is_gone, freed_over, SendsParcels}
 
 -- nobody, whatever is said of him
 both_nobody : (b : Bool) (P : Person) → P ≡ nobody → nobody ≡ (if b then nobody else P)

@@ -1,40 +1,24 @@
 -- What absorbing makes of the own world of a partition.
-use Rattle.traffic.proofs.Common.{◌≡◌, ℕ, ◌+◌, ◌-◌, ◌<◌, ◌≤◌, List, [], ◌∷◌, ◌++◌, ◌∙◌, ap, refl, sym, subst, arith, inl, inr, cases_Bool}
-use Rattle.traffic.proofs.Common.{true, false, Bool, not, length, length-append, flat_map, filter-append, replicate, nat_le, nat_tests, eqb}
-use Rattle.traffic.proofs.Common.{eqb-true, eq-eqb, Some, None, Option, VehicleId, Act, Leg, Setup, World, at, rank}
-use Rattle.traffic.proofs.Common.{credit_of, person_of, world_at, below, hole_of, waiter, waiters, waits_on, leg_at, act_after}
-use Rattle.std.specs.Prelude.{is_some}
-use Rattle.std.specs.List.{AllByRecursion as Each}
-use Rattle.traffic.specs.declared.riders.Rider.{Rider}
-use Rattle.traffic.specs.declared.stage.Stage.{Stage}
-use Rattle.traffic.specs.declared.stage.Stage.TheVariants.{Queue}
-use Rattle.traffic.specs.declared.world.Person.{Person}
-use Rattle.traffic.specs.declared.world.Place.{Place}
+use Rattle.traffic.proofs.Common.{◌≡◌, ℕ, ◌+◌, ◌-◌, ◌<◌, ◌≤◌, List, [], ◌∷◌, ◌++◌, ◌∙◌, ap, refl, sym, subst, arith, inl, inr, cases_Bool, true, false, Bool}
+use Rattle.traffic.proofs.Common.{not, length, length-append, flat_map, filter-append, replicate, nat_le, nat_tests, eqb, eqb-true, eq-eqb, Some, None, Option}
+use Rattle.traffic.proofs.Common.{VehicleId, Act, Leg, Setup, World, at, rank, credit_of, person_of, world_at, below, hole_of, waiter, waiters, waits_on}
+use Rattle.traffic.proofs.{Common.leg_at, Common.act_after, Each.each_append, Each.each_if, Each.each_flat_all}
+use Rattle.traffic.specs.declared.{riders.Rider.Rider, stage.Stage.Stage, stage.Stage.TheVariants.Queue, world.Person.Person, world.Place.Place}
 use Rattle.traffic.specs.declared.world.Place.TheVariants.{At, Teleporting, Waiting, Riding, Aborted}
 use Rattle.traffic.specs.declared.world.Row.{Row}
-use Rattle.traffic.proofs.Each.{each_append, each_if, each_flat_all}
-use Rattle.law_in_range.specs.Rows.{Counts}
-use Rattle.law_in_range.specs.Setups.{IsFitSetup}
+use Rattle.std.specs.{List.AllByRecursion as Each, Prelude.is_some}
+use Rattle.law_in_range.specs.{Rows.Counts, Setups.IsFitSetup}
 use Rattle.parts.specs.Owners.{Owner, owner_of, begins_in, crosses, lag}
 use Rattle.parts.specs.Parts.{Held, Passed, Parcel, lasting, mine, has, unheard, held, ready}
-use Rattle.law_partitions.specs.Premises.{Lawful, Arrivals}
-use Rattle.law_partitions.specs.Alone.{riding, flying, person_in, given, freed_of}
-use Rattle.law_partitions.proofs.History.{filter_copies, length_copies}
-use Rattle.law_partitions.proofs.Lags.{lag-up}
-use Rattle.law_partitions.proofs.Joined.{given-self}
-use Rattle.law_partitions.proofs.Ends.{less}
-use Rattle.law_partitions.proofs.Absorbing.{Only}
 use Rattle.law_partitions.proofs.Absorbed.{had_before, found_all}
-use Rattle.law_own_worlds.specs.OwnWorlds.{IsOwnWorld}
-use Rattle.law_own_worlds.specs.Making.{or_nobody, IsKnown}
-use Rattle.law_own_worlds.specs.Days.{world_before}
-use Rattle.law_own_worlds.proofs.Making.{made, one_person}
-use Rattle.law_own_worlds.proofs.Knowing.{unheard_known, ready_known}
+use Rattle.law_partitions.proofs.{Absorbing.Only, Ends.less, History.filter_copies, History.length_copies, Joined.given-self, Lags.lag-up}
+use Rattle.law_partitions.specs.{Alone.riding, Alone.flying, Alone.person_in, Alone.given, Alone.freed_of, Premises.Lawful, Premises.Arrivals}
+use Rattle.law_own_worlds.proofs.{Knowing.unheard_known, Knowing.ready_known, Making.made, Making.one_person}
+use Rattle.law_own_worlds.specs.{Days.world_before, Making.or_nobody, Making.IsKnown, OwnWorlds.IsOwnWorld}
 use Rattle.law_own_seconds.proofs.Places.{start_known}
+use Rattle.law_parcels.proofs.{Hearing.only_flat, Hearing.brings, Hearing.holes_of_link, Hearing.left_places, Lists.same_flat}
 use Rattle.law_parcels.specs.Hearing.{HearsFrom, IsReadyBy, heard_rows, heard_holes, heard_persons, last_or}
 use Rattle.law_parcels.specs.Worlds.{world_held, taken_in, TakesIn}
-use Rattle.law_parcels.proofs.Lists.{same_flat}
-use Rattle.law_parcels.proofs.Hearing.{only_flat, brings, holes_of_link, left_places}
 
 -- WHO COMES rides or flies
 abbrev pub Moves : Place → Type 0

@@ -1,12 +1,8 @@
 -- What a partition makes of the parcels that it absorbs, one after the other.
 use Rattle.std.specs.Prelude.{◌≡◌, ℕ, ◌+◌, ◌-◌, ◌<◌, true, false, List, [], ◌∷◌, ◌++◌, length, get_or, replicate, ◌==◌}
 use Rattle.std.specs.List.{flat_map, AllByRecursion as Each}
-use Rattle.traffic.specs.declared.stage.Stage.{Stage}
-use Rattle.traffic.specs.declared.stage.Stage.TheVariants.{Queue}
-use Rattle.traffic.specs.declared.world.Person.{Person}
-use Rattle.traffic.specs.declared.world.Row.{Row}
-use Rattle.traffic.specs.Rows.{rank}
-use Rattle.traffic.specs.Setup.{Setup}
+use Rattle.traffic.specs.{Rows.rank, Setup.Setup}
+use Rattle.traffic.specs.declared.{stage.Stage.Stage, stage.Stage.TheVariants.Queue, world.Person.Person, world.Row.Row}
 use Rattle.parts.specs.Owners.{Owner, owner_of, begins_in, leads, near, lag}
 use Rattle.parts.specs.Parts.{Passed, Freed, held, ready, out}
 use Rattle.law_partitions.specs.Alone.{rows_to, freed_of, person_in, given}

@@ -1,19 +1,13 @@
 -- What leaves a partition in a second, by its own world once all its turns of the second are over.
 use Rattle.std.specs.Prelude.{◌≡◌, ℕ, suc, Bool, false, not, ◌&&◌, ◌||◌, List, length, map, filter, ◌==◌, if◌then◌else◌, Some}
 use Rattle.std.specs.List.{flat_map}
-use Rattle.traffic.specs.declared.world.Place.{Place}
+use Rattle.traffic.specs.{Day.moves_of, Lists.below, Rows.person_of, Rows.nobody, Setup.Setup, Setup.act_after}
+use Rattle.traffic.specs.declared.world.{Place.Place, Row.Row}
 use Rattle.traffic.specs.declared.world.Place.TheVariants as place
-use Rattle.traffic.specs.declared.world.Row.{Row}
-use Rattle.traffic.specs.Lists.{below}
-use Rattle.traffic.specs.Rows.{person_of, nobody}
-use Rattle.traffic.specs.Setup.{Setup, act_after}
-use Rattle.traffic.specs.Day.{moves_of}
 use Rattle.parts.specs.Owners.{Owner, owner_of, begins_in, links_of}
 use Rattle.parts.specs.Parts.{Freed, is_some_freed, freed, passed, rides_in, held, out}
 use Rattle.law_partitions.specs.Alone.{sent_out, flight_to}
-use Rattle.law_own_worlds.specs.OwnWorlds.{set_out}
-use Rattle.law_own_worlds.specs.Making.{or_nobody}
-use Rattle.law_own_worlds.specs.Days.{world_before, my_node_turns, my_link_turns}
+use Rattle.law_own_worlds.specs.{Days.world_before, Days.my_node_turns, Days.my_link_turns, Making.or_nobody, OwnWorlds.set_out}
 use Rattle.law_own_seconds.specs.Seconds.{world_driven}
 
 -- the rows that p's nodes put into queues of other partitions, in order; and whether a row is on a link of partition q

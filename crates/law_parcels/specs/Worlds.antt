@@ -1,18 +1,11 @@
 -- The own world of a partition between its seconds: what absorbing makes of it, and what it is once a second is over.
 use Rattle.std.specs.Prelude.{◌≡◌, ℕ, suc, ◌<◌, false, List, ◌++◌, length, ◌==◌, if◌then◌else◌}
-use Rattle.traffic.specs.declared.stage.Stage.{Stage}
-use Rattle.traffic.specs.declared.stage.Stage.TheVariants.{Queue}
-use Rattle.traffic.specs.Rows.{World, at, rank, holes_at, credit_of, person_of, nobody}
-use Rattle.traffic.specs.Setup.{Setup, hole_of}
-use Rattle.traffic.specs.Persons.{waiters}
-use Rattle.parts.specs.Owners.{Owner, owner_of, begins_in}
-use Rattle.parts.specs.Parts.{lasting, held}
-use Rattle.law_own_worlds.specs.Making.{own_world}
-use Rattle.law_own_worlds.specs.Days.{world_before}
-use Rattle.law_own_seconds.specs.Seconds.{held_driven, world_driven}
-use Rattle.law_own_seconds.specs.Places.{taken_from}
-use Rattle.law_parcels.specs.Sending.{is_gone}
-use Rattle.law_parcels.specs.Hearing.{heard_rows, heard_persons, last_or}
+use Rattle.traffic.specs.{Persons.waiters, Rows.World, Rows.at, Rows.rank, Rows.holes_at, Rows.credit_of, Rows.person_of, Rows.nobody, Setup.Setup}
+use Rattle.traffic.specs.{Setup.hole_of, declared.stage.Stage.Stage, declared.stage.Stage.TheVariants.Queue}
+use Rattle.parts.specs.{Owners.Owner, Owners.owner_of, Owners.begins_in, Parts.lasting, Parts.held}
+use Rattle.law_own_worlds.specs.{Days.world_before, Making.own_world}
+use Rattle.law_own_seconds.specs.{Places.taken_from, Seconds.held_driven, Seconds.world_driven}
+use Rattle.law_parcels.specs.{Hearing.heard_rows, Hearing.heard_persons, Hearing.last_or, Sending.is_gone}
 
 -- the own world of p after t seconds, before it absorbs anything
 abbrev pub world_held : Setup → Owner → ℕ → ℕ → World

@@ -4,15 +4,12 @@
 
 ghost use Rattle.std.specs.Prelude.{ℕ, List};
 ghost use Rattle.traffic.specs.Setup.{Setup};
-ghost use Rattle.law_in_range.specs.Rows.{Counts};
-ghost use Rattle.law_in_range.specs.Setups.{IsFitSetup};
-ghost use Rattle.law_sound_setups.specs.Setups.{IsSoundSetup};
-ghost use Rattle.law_sound_setups.specs.Consistent.{IsConsistentSetup};
+ghost use Rattle.law_in_range.specs.{Rows.Counts, Setups.IsFitSetup};
+ghost use Rattle.law_sound_setups.specs.{Consistent.IsConsistentSetup, Setups.IsSoundSetup};
 ghost use Rattle.parts.specs.Owners.{Owner};
 ghost use Rattle.law_partitions.specs.Laws.{IsOwner};
-ghost use Rattle.law_parcels.specs.Sending.{SendsParcels};
 ghost use Rattle.law_parcels.specs.Hearing.{HearsFrom, IsReadyBy, IsBetween};
-ghost use Rattle.law_parcels.specs.Worlds.{TakesIn, LetsGo};
+ghost use Rattle.law_parcels.specs.{Sending.SendsParcels, Worlds.TakesIn, Worlds.LetsGo};
 
 /// After its second a partition sends to each other one the vehicles on that one's links, as they stand in its own world with their riders,
 /// the flights of those who set out to it, and the places that came to be left on links that begin there; and it has all whom its own world

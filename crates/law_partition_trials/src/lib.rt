@@ -2,15 +2,12 @@
 #![tactic(auto)]
 
 ghost use Rattle.std.specs.Prelude.{◌≡◌, [], ◌∷◌, length, map, true};
-ghost use Rattle.traffic.specs.Worked.{bus, narrow};
-ghost use Rattle.traffic.specs.Day.{day};
-ghost use Rattle.parts.specs.Owners.{lag};
-ghost use Rattle.parts.specs.Parts.{out, ready};
+ghost use Rattle.traffic.specs.{Day.day, Worked.bus, Worked.narrow};
+ghost use Rattle.parts.specs.{Owners.lag, Parts.out, Parts.ready};
 ghost use Rattle.law_partitions.specs.Alone.{parcel_to};
 ghost use Rattle.law_partition_trials.specs.Trials.{whereabouts, once, told_in_parts, each_node, mixed, of_car, of_walker, of_place};
 ghost use Rattle.law_partition_trials.specs.Trials.{of_nothing, places_apart, rows_in, holes_in};
-ghost use Rattle.partition.specs.declared.axes.Axis.TheVariants.{X, Y};
-ghost use Rattle.partition.specs.Cuts.{nodes_before, cuts};
+ghost use Rattle.partition.specs.{Cuts.nodes_before, Cuts.cuts, declared.axes.Axis.TheVariants.X, declared.axes.Axis.TheVariants.Y};
 
 /// Three small days whose nodes are partitions of their own: one who drives over three links and one who
 /// walks over two borders; two passengers and a bus of one seat; and three cars, of which two are pushed

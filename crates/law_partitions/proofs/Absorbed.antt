@@ -1,26 +1,18 @@
 -- What is held becomes ready by absorbing: persons, and with them the whole.
 use Rattle.traffic.proofs.Common.{◌≡◌, ℕ, List, ◌∙◌, length, ap, refl, sym, [], ◌∷◌, arith, ◌<◌, true, ◌++◌, ◌+◌, Bool, inl, inr, subst, ◌≤◌, false, suc, eqb}
-use Rattle.traffic.proofs.Common.{zero, ◌-◌, length-append, fun_ext, leb-false, cases_Bool, eqb-true, and_parts, cases_lt, eq-eqb, true≢false, ltb-true}
-use Rattle.traffic.proofs.Common.{lt-ltb, leb-true, ltb-false, nat_tests, flat_map, filter, Some, None, not, ◌&&◌, if◌then◌else◌, nat_lt, nat_le, Mode, Leg}
-use Rattle.traffic.proofs.Common.{world_at, below, person_of, Setup, act_after, leg_at, act_at, link_row, IsTeleported, listed, IsSoundPerson}
-use Rattle.traffic.specs.declared.world.Person.{Person}
-use Rattle.traffic.specs.declared.world.Place.{Place}
-use Rattle.traffic.specs.declared.world.Place.TheVariants.{At, Teleporting, Waiting, Riding, Aborted}
-use Rattle.traffic.specs.declared.world.Row.{Row}
+use Rattle.traffic.proofs.Common.{zero, ◌-◌, length-append, fun_ext, leb-false, cases_Bool, eqb-true, and_parts, cases_lt, eq-eqb, true≢false, ltb-true, lt-ltb}
+use Rattle.traffic.proofs.Common.{leb-true, ltb-false, nat_tests, flat_map, filter, Some, None, not, ◌&&◌, if◌then◌else◌, nat_lt, nat_le, Mode, Leg, world_at}
+use Rattle.traffic.proofs.Common.{below, person_of, Setup, act_after, leg_at, act_at, link_row, IsTeleported, listed, IsSoundPerson}
+use Rattle.traffic.specs.declared.world.{Person.Person, Place.Place, Place.TheVariants.At, Place.TheVariants.Teleporting, Place.TheVariants.Waiting}
+use Rattle.traffic.specs.declared.world.{Place.TheVariants.Riding, Place.TheVariants.Aborted, Row.Row}
 use Rattle.rows.specs.declared.plan.Leg.TheVariants as leg
 use Rattle.parts.specs.Owners.{Owner, owner_of, begins_in, crosses, leads, owner_of_person, link_at, lag, near, links_of}
 use Rattle.parts.specs.Parts.{mine, came, came_last, late_rows, all_late, is_late, has, flies_from, out, unheard, held, ready}
-use Rattle.law_partitions.specs.Alone.{person_in, or_first, given, absorb}
-use Rattle.law_partitions.proofs.History.{came_none, came_older, came_all}
-use Rattle.law_partitions.proofs.Lags.{lag-some, in_range, near-hop}
-use Rattle.law_partitions.proofs.Joined.{near-down}
-use Rattle.law_partitions.proofs.Flights.{flight_kept}
-use Rattle.law_partitions.proofs.Ends.{less, absorb-list, absorb-credit, absorb-rows, absorb-holes}
-use Rattle.law_partitions.proofs.Tells.{listed-append}
-use Rattle.law_partitions.proofs.Home.{Lawful, has-is}
-use Rattle.law_partitions.proofs.Owning.{Arrivals, all_some}
-use Rattle.law_partitions.proofs.Locality.{same_held}
 use Rattle.law_partitions.proofs.Absorbing.{Only, only-append, first_only, first_none, length_in, parcel_brings, rider_in, flight_in}
+use Rattle.law_partitions.proofs.Ends.{less, absorb-list, absorb-credit, absorb-rows, absorb-holes}
+use Rattle.law_partitions.proofs.{Flights.flight_kept, History.came_none, History.came_older, History.came_all, Home.Lawful, Home.has-is, Joined.near-down}
+use Rattle.law_partitions.proofs.{Lags.lag-some, Lags.in_range, Lags.near-hop, Locality.same_held, Owning.Arrivals, Owning.all_some, Tells.listed-append}
+use Rattle.law_partitions.specs.Alone.{person_in, or_first, given, absorb}
 
 only_many : (P : Person) (f : ℕ → List Person) → ((q : ℕ) → Only P (f q)) → (ns : List ℕ) → Only P (flat_map f ns)
 only_many P f h [] = tt

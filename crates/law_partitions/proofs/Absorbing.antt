@@ -1,35 +1,22 @@
 -- What p absorbs brings the persons of whom it had not heard.
 use Rattle.traffic.proofs.Common.{◌≡◌, ℕ, List, ◌∙◌, length, ap, refl, sym, [], ◌∷◌, arith, ◌<◌, true, ◌++◌, ◌+◌, Bool, inl, inr, subst, ◌≤◌, false, suc, eqb}
-use Rattle.traffic.proofs.Common.{zero, ◌-◌, ◌≢◌, ◌⊎◌, length-append, cases_Bool, eqb-true, and_parts, cases_lt, eq-eqb, eqb-false, nat_tests}
-use Rattle.traffic.proofs.Common.{flat_map-append, sum_by-cons, flat_map, map, filter, Some, None, not, ◌&&◌, if◌then◌else◌, nat_le, VehicleId, world_at}
-use Rattle.traffic.proofs.Common.{below, numbers, same_vehicle, World, person_of, at, on, Setup, act_after, leg_at, listed, IsListed, rows_of}
+use Rattle.traffic.proofs.Common.{zero, ◌-◌, ◌≢◌, ◌⊎◌, length-append, cases_Bool, eqb-true, and_parts, cases_lt, eq-eqb, eqb-false, nat_tests, flat_map-append}
+use Rattle.traffic.proofs.Common.{sum_by-cons, flat_map, map, filter, Some, None, not, ◌&&◌, if◌then◌else◌, nat_le, VehicleId, world_at, below, numbers}
+use Rattle.traffic.proofs.Common.{same_vehicle, World, person_of, at, on, Setup, act_after, leg_at, listed, IsListed, rows_of}
 use Rattle.traffic.specs.declared.moves.Move.{Move}
-use Rattle.traffic.specs.declared.moves.Move.TheVariants.{Transfer, Enter, SetFrontSince, Credit, LeaveHole, Report}
-use Rattle.traffic.specs.declared.riders.Rider.{Rider}
-use Rattle.traffic.specs.declared.stage.Stage.TheVariants.{Queue}
-use Rattle.traffic.specs.declared.world.Person.{Person}
-use Rattle.traffic.specs.declared.world.Place.{Place}
-use Rattle.traffic.specs.declared.world.Place.TheVariants.{At, Teleporting, Waiting, Riding, Aborted}
-use Rattle.traffic.specs.declared.world.Row.{Row}
+use Rattle.traffic.specs.declared.moves.Move.TheVariants.{Transfer, Enter, SetFrontSince, Credit, LeaveHole, Report, Remove as Quit}
+use Rattle.traffic.specs.declared.{riders.Rider.Rider, stage.Stage.TheVariants.Queue, world.Person.Person, world.Place.Place, world.Place.TheVariants.At}
+use Rattle.traffic.specs.declared.world.{Place.TheVariants.Teleporting, Place.TheVariants.Waiting, Place.TheVariants.Riding, Place.TheVariants.Aborted, Row.Row}
 use Rattle.events.specs.declared.event.VehicleId.TheVariants as vehicle
-use Rattle.traffic.specs.declared.moves.Move.TheVariants.{Remove as Quit}
-use Rattle.law_one_place.proofs.Places.{among_riders, rides}
-use Rattle.law_one_place.proofs.Boarding.{one_rider}
+use Rattle.law_one_place.proofs.{Boarding.one_rider, Places.among_riders, Places.rides}
 use Rattle.parts.specs.Owners.{Owner, owner_of, begins_in, crosses, leads, owner_of_person, link_at, lag}
-use Rattle.parts.specs.Parts.{Passed, Flight, passed, came, came_last, down, is_late, has, flies_from, seconds_of_way, flight_at, flight_from, enters_queue, node_phase_moves, out}
-use Rattle.law_partitions.specs.Alone.{riding, flying, person_in, or_first}
-use Rattle.law_partitions.proofs.Handed.{entered, enters_put}
-use Rattle.law_partitions.proofs.Early.{came_is}
-use Rattle.law_partitions.proofs.History.{known, known_tail}
-use Rattle.law_partitions.proofs.Lags.{lag-some, lag-down, in_range}
-use Rattle.law_partitions.proofs.Joined.{only_all, known_more}
-use Rattle.law_partitions.proofs.Ends.{less}
-use Rattle.law_partitions.proofs.Tells.{listed-cons, listed-append}
-use Rattle.law_partitions.proofs.Listing.{listed-filter}
-use Rattle.law_partitions.proofs.Home.{Lawful, has-is}
-use Rattle.law_partitions.proofs.Calms.{listed_in_one, unknown_queue}
-use Rattle.law_partitions.proofs.Owning.{Arrivals}
-use Rattle.law_partitions.proofs.Carried.{Additive, in_last, by_rows, by_vehicle, rider_of, twice_filtered, element_kept, carried, flown}
+use Rattle.parts.specs.Parts.{Passed, Flight, passed, came, came_last, down, is_late, has, flies_from, seconds_of_way, flight_at, flight_from, enters_queue}
+use Rattle.parts.specs.Parts.{node_phase_moves, out}
+use Rattle.law_partitions.proofs.{Calms.listed_in_one, Calms.unknown_queue, Carried.Additive, Carried.in_last, Carried.by_rows, Carried.by_vehicle}
+use Rattle.law_partitions.proofs.{Carried.rider_of, Carried.twice_filtered, Carried.element_kept, Carried.carried, Carried.flown, Early.came_is, Ends.less}
+use Rattle.law_partitions.proofs.{Handed.entered, Handed.enters_put, History.known, History.known_tail, Home.Lawful, Home.has-is, Joined.only_all}
+use Rattle.law_partitions.proofs.{Joined.known_more, Lags.lag-some, Lags.lag-down, Lags.in_range, Listing.listed-filter, Owning.Arrivals, Tells.listed-cons}
+use Rattle.law_partitions.{proofs.Tells.listed-append, specs.Alone.riding, specs.Alone.flying, specs.Alone.person_in, specs.Alone.or_first}
 
 -- all of these rows are his
 abbrev pub Only : Person → List Person → Type 0

@@ -1,16 +1,13 @@
 -- What each partition tells is in the order of the keys, and no two tell events with one key.
 use Rattle.traffic.proofs.Common.{◌≡◌, ℕ, List, ◌∙◌, length, ap, sym, [], ◌∷◌, arith, ◌<◌, true, ◌+◌, Bool, inl, inr, subst, ◌≤◌, suc, eqb, zero, ◌⊎◌}
-use Rattle.traffic.proofs.Common.{cases_Bool, eqb-true, flat_map, filter, phase_code, Event, Key, world_at, world_start, keyed, events_from, AreAfter}
-use Rattle.traffic.proofs.Common.{Ascends, numbers, stranded, Setup}
+use Rattle.traffic.proofs.Common.{cases_Bool, eqb-true, flat_map, filter, phase_code, Event, Key, world_at, world_start, keyed, events_from, AreAfter, Ascends}
+use Rattle.traffic.proofs.{Common.numbers, Common.stranded, Common.Setup, Each.each_append, Each.each_weaker, Each.each_filter}
+use Rattle.traffic.proofs.Order.{Ascends-append, by_second, OfTurn, OfPhase, before_in_phase, keyed-of, keyed-ascends, Before, from-before, from-ascends}
 use Rattle.traffic.specs.declared.moves.Occurrence.{Occurrence}
 use Rattle.std.specs.List.{AllByRecursion as Each, slice_index_or, Contains}
 use Rattle.events.specs.declared.event.Phase.TheVariants as phase
-use Rattle.traffic.proofs.Each.{each_append, each_weaker, each_filter}
-use Rattle.traffic.proofs.Order.{Ascends-append, by_second, OfTurn, OfPhase, before_in_phase, keyed-of, keyed-ascends, Before, from-before, from-ascends}
-use Rattle.parts.specs.Owners.{Owner, owner_of_turn, owner_of_event}
-use Rattle.parts.specs.Parts.{own_events, ends_with, own_end_events}
-use Rattle.law_partitions.specs.Whole.{all_told}
-use Rattle.law_partitions.proofs.Merging.{Shared}
+use Rattle.parts.specs.{Owners.Owner, Owners.owner_of_turn, Owners.owner_of_event, Parts.own_events, Parts.ends_with, Parts.own_end_events}
+use Rattle.law_partitions.{proofs.Merging.Shared, specs.Whole.all_told}
 
 -- LISTS THAT ASCEND
 after_filter : (p : Event → Bool) (a : Event) (xs : List Event) → AreAfter a xs → AreAfter a (filter p xs)

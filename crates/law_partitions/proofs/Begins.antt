@@ -1,30 +1,21 @@
 -- The phases A, B1 and B2 of a part: its persons and departures do what they do in the day.
 use Rattle.traffic.proofs.Common.{◌≡◌, ℕ, List, ◌∙◌, length, ap, refl, sym, [], ◌∷◌, arith, ◌<◌, true, ◌++◌, ◌+◌, Bool, inl, inr, false, suc, eqb, zero}
-use Rattle.traffic.proofs.Common.{append-nil, cases_Bool, flat_map, map, Some, None, Option, if◌then◌else◌, world_at, turns_of, turns_in, moves_of}
-use Rattle.traffic.proofs.Common.{node_turns, keyed, landing_turns, leaving_turns, Turn, Untouched, below, numbers, run, told, at_after_all, in_force}
-use Rattle.traffic.proofs.Common.{taken_at, waiter, landing_moves, leaving_moves, departure_moves, World, person_of, at, rank, credit_of, Setup, hole_of}
-use Rattle.traffic.specs.declared.moves.Move.{Move}
-use Rattle.traffic.specs.declared.moves.Occurrence.{Occurrence}
-use Rattle.traffic.specs.declared.stage.Stage.{Stage}
-use Rattle.traffic.specs.declared.stage.Stage.TheVariants.{Queue, Buffer, Wait, Bay}
-use Rattle.traffic.specs.declared.world.Person.{Person}
-use Rattle.traffic.specs.declared.world.Row.{Row}
+use Rattle.traffic.proofs.Common.{append-nil, cases_Bool, flat_map, map, Some, None, Option, if◌then◌else◌, world_at, turns_of, turns_in, moves_of, node_turns}
+use Rattle.traffic.proofs.Common.{keyed, landing_turns, leaving_turns, Turn, Untouched, below, numbers, run, told, at_after_all, in_force, taken_at, waiter}
+use Rattle.traffic.proofs.Common.{landing_moves, leaving_moves, departure_moves, World, person_of, at, rank, credit_of, Setup, hole_of}
+use Rattle.traffic.proofs.{Each.each_flat_all, Persons.TellOf, Persons.landing_moves-of, Persons.leaving_moves-of, Sublists.Untouched-append, Sublists.at-run}
+use Rattle.traffic.proofs.{Sublists.at_after_all-untouched, Sublists.at_after_all-append, Turns.filter_one, Waiting.run-length, Walks.flight_walk}
+use Rattle.traffic.{proofs.Walks.departure_walk, specs.Frames.IsOf, specs.Frames.AreOf, specs.declared.moves.Move.Move}
+use Rattle.traffic.specs.declared.{moves.Occurrence.Occurrence, stage.Stage.Stage, stage.Stage.TheVariants.Queue, stage.Stage.TheVariants.Buffer}
+use Rattle.traffic.specs.declared.{stage.Stage.TheVariants.Wait, stage.Stage.TheVariants.Bay, world.Person.Person, world.Row.Row}
 use Rattle.events.specs.declared.event.Phase.TheVariants as phase
-use Rattle.traffic.specs.Frames.{IsOf, AreOf}
-use Rattle.traffic.proofs.Each.{each_flat_all}
-use Rattle.traffic.proofs.Walks.{flight_walk, departure_walk}
-use Rattle.traffic.proofs.Sublists.{Untouched-append, at-run, at_after_all-untouched, at_after_all-append}
-use Rattle.traffic.proofs.Turns.{filter_one}
-use Rattle.traffic.proofs.Persons.{TellOf, landing_moves-of, leaving_moves-of}
-use Rattle.traffic.proofs.Waiting.{run-length}
-use Rattle.parts.specs.Owners.{Owner, owner_of, begins_in, owner_of_person}
-use Rattle.parts.specs.Parts.{Held, mine}
+use Rattle.parts.specs.{Owners.Owner, Owners.owner_of, Owners.begins_in, Owners.owner_of_person, Parts.Held, Parts.mine}
+use Rattle.law_partitions.proofs.Early.{IsEarly, AreEarly, landings-early, leavings-early, departures-early, early-untouched, early-holes, early-pays}
+use Rattle.law_partitions.proofs.Early.{early-rows, A_world, B1_world, mid, A_moves-are, B1_moves-are, B2_moves-are, mid-list, mid-credit, mid-holes}
+use Rattle.law_partitions.proofs.{Late.Late, Quiet.NotHis, Quiet.Silent, Quiet.silent_same, Quiet.IsQuiet, Quiet.Quiet, Quiet.person_moves, Quiet.person-run}
+use Rattle.law_partitions.proofs.{Quiet.person-filter, Quiet.opt_moves, Quiet.person-held, Quiet.quiet_same, Second.Short, Second.held_run-list}
+use Rattle.law_partitions.proofs.{Second.held_run-credit, Second.held_run-holes, Turns.not_mine, Turns.eqb_turn, Turns.at-mine}
 use Rattle.law_partitions.specs.Alone.{held_run, taken_here, acts, first_of, my_runs, A_part, B1_part, B2_part, after_A, after_B1, after_B2}
-use Rattle.law_partitions.proofs.Quiet.{NotHis, Silent, silent_same, IsQuiet, Quiet, person_moves, person-run, person-filter, opt_moves, person-held, quiet_same}
-use Rattle.law_partitions.proofs.Turns.{not_mine, eqb_turn, at-mine}
-use Rattle.law_partitions.proofs.Late.{Late}
-use Rattle.law_partitions.proofs.Second.{Short, held_run-list, held_run-credit, held_run-holes}
-use Rattle.law_partitions.proofs.Early.{IsEarly, AreEarly, landings-early, leavings-early, departures-early, early-untouched, early-holes, early-pays, early-rows, A_world, B1_world, mid, A_moves-are, B1_moves-are, B2_moves-are, mid-list, mid-credit, mid-holes}
 
 pub moves_of-parts : (f : ℕ → List Move) (ns : List ℕ) → moves_of (map (λ (i : ℕ). let u : Turn = record { number = i; moves = f i } in u) ns) ≡ flat_map f ns
 moves_of-parts f [] = refl

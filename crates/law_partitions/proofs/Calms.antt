@@ -5,41 +5,23 @@ use Rattle.traffic.proofs.Common.{filter, not, ◌&&◌, nat_lt, Act, Leg, world
 use Rattle.traffic.proofs.Common.{departure_turns, sees, Untouched, rules, link_state, link_moves, below, at_after_all, touches, same, waiter, sets_out}
 use Rattle.traffic.proofs.Common.{transit_vehicle, waiters, landing_moves, leaving_moves, departure_moves, car, World, person_of, at, on, nobody, rank, Setup}
 use Rattle.traffic.proofs.Common.{act_after, leg_at, link_row, departure, listed, IsListed}
-use Rattle.traffic.specs.declared.moves.Move.{Move}
-use Rattle.traffic.specs.declared.moves.Move.TheVariants.{Transfer, Enter}
-use Rattle.traffic.specs.declared.stage.Stage.{Stage}
+use Rattle.traffic.proofs.{Each.each_append, Each.each_flat_all, Sublists.at-run, Waiting.run-length, Walks.flight_walk, Walks.leave_walk, Walks.departure_walk}
+use Rattle.traffic.specs.declared.{moves.Move.Move, moves.Move.TheVariants.Transfer, moves.Move.TheVariants.Enter, stage.Stage.Stage}
 use Rattle.traffic.specs.declared.stage.Stage.TheVariants.{Queue, Buffer, Wait, Bay}
-use Rattle.traffic.specs.declared.world.Person.{Person}
-use Rattle.traffic.specs.declared.world.Place.{Place}
-use Rattle.traffic.specs.declared.world.Place.TheVariants.{At, Teleporting, Waiting, Riding, Aborted}
-use Rattle.traffic.specs.declared.world.Row.{Row}
-use Rattle.traffic.specs.declared.world.Waiter.{Waiter}
+use Rattle.traffic.specs.declared.world.{Person.Person, Place.Place, Place.TheVariants.At, Place.TheVariants.Teleporting, Place.TheVariants.Waiting}
+use Rattle.traffic.specs.declared.world.{Place.TheVariants.Riding, Place.TheVariants.Aborted, Row.Row, Waiter.Waiter}
 use Rattle.std.specs.List.{AllByRecursion as Each}
 use Rattle.events.specs.declared.event.Phase.TheVariants as phase
 use Rattle.rows.specs.declared.plan.Leg.TheVariants as leg
-use Rattle.traffic.proofs.Each.{each_append, each_flat_all}
-use Rattle.traffic.proofs.Walks.{flight_walk, leave_walk, departure_walk}
-use Rattle.traffic.proofs.Sublists.{at-run}
-use Rattle.traffic.proofs.Waiting.{run-length}
-use Rattle.law_one_place.proofs.Places.{listed_once as once_listed}
-use Rattle.law_one_place.proofs.Boarding.{in_line, waits_few, line_one}
-use Rattle.law_one_place.proofs.Turns.{always_kept}
-use Rattle.parts.specs.Owners.{Owner, owner_of, link_at, links_of}
-use Rattle.parts.specs.Parts.{down, late_rows, all_late, is_late, has}
-use Rattle.law_partitions.proofs.Quiet.{Quiet, person-run}
-use Rattle.law_partitions.proofs.Late.{Late, link_moves_late}
-use Rattle.law_partitions.proofs.Handed.{handed-waits}
-use Rattle.law_partitions.proofs.Second.{C_world, C_moves, C-handed, C-list, C-came, came_in, came_late}
-use Rattle.law_partitions.proofs.Early.{A_world, B1_world, mid, A_moves-are, B1_moves-are, B2_moves-are, mid-list}
-use Rattle.law_partitions.proofs.History.{known, came_last-late}
-use Rattle.law_partitions.proofs.Begins.{Calm}
-use Rattle.law_partitions.proofs.Heard.{within, known_and, down_less}
-use Rattle.law_partitions.proofs.Ends.{less}
-use Rattle.law_partitions.proofs.Flights.{few_mid}
+use Rattle.law_one_place.proofs.{Boarding.in_line, Boarding.waits_few, Boarding.line_one, Places.listed_once as once_listed, Turns.always_kept}
+use Rattle.parts.specs.{Owners.Owner, Owners.owner_of, Owners.link_at, Owners.links_of, Parts.down, Parts.late_rows, Parts.all_late, Parts.is_late, Parts.has}
+use Rattle.law_partitions.proofs.{Begins.Calm, Early.A_world, Early.B1_world, Early.mid, Early.A_moves-are, Early.B1_moves-are, Early.B2_moves-are}
+use Rattle.law_partitions.proofs.{Early.mid-list, Ends.less, Flights.few_mid, Handed.handed-waits, Heard.within, Heard.known_and, Heard.down_less}
+use Rattle.law_partitions.proofs.{History.known, History.came_last-late, Home.Lawful, Home.has-is, Home.home_mid, Home.waiter_away, Home.leave_away, Late.Late}
+use Rattle.law_partitions.proofs.{Late.link_moves_late, Listing.listed-filter, Listing.listed-two, Listing.listed_home, Listing.apart_lists, Quiet.Quiet}
+use Rattle.law_partitions.proofs.{Quiet.person-run, Second.C_world, Second.C_moves, Second.C-handed, Second.C-list, Second.C-came, Second.came_in}
+use Rattle.law_partitions.proofs.{Second.came_late, Spare.Spare, Spare.Brings, Spare.listed-one, Spare.brings-left}
 use Rattle.law_partitions.proofs.Tells.{listed-append, node-quiet, node-spare, link-quiet, link-spare}
-use Rattle.law_partitions.proofs.Spare.{Spare, Brings, listed-one, brings-left}
-use Rattle.law_partitions.proofs.Listing.{listed-filter, listed-two, listed_home, apart_lists}
-use Rattle.law_partitions.proofs.Home.{Lawful, has-is, home_mid, waiter_away, leave_away}
 
 -- WHERE A PERSON IS LISTED AT THE START OF THE SECOND
 pub listed_in_one : (S : Setup) (t i : ℕ) → i < length S.persons → IsListed i (world_at S t).rows (person_of i (world_at S t)).place

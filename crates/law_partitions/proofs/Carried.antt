@@ -1,36 +1,22 @@
 -- A rider who is carried over a border, and a person who flies over it, stay as they are until they are heard of.
 use Rattle.traffic.proofs.Common.{◌≡◌, ℕ, List, ◌∙◌, length, ap, refl, sym, [], ◌∷◌, arith, ◌<◌, true, ◌++◌, ◌+◌, Bool, inl, inr, subst, ◌≤◌, false, suc, eqb}
-use Rattle.traffic.proofs.Common.{zero, ◌-◌, ◌≢◌, cases_Bool, eqb-true, eq-eqb, eqb-false, true≢false, lt-ltb, nat_tests, filter-append, flat_map, filter}
-use Rattle.traffic.proofs.Common.{Some, not, ◌&&◌, nat_le, VehicleId, world_at, link_turns, node_turns, link_moves, rules, link_state, below, run, told}
-use Rattle.traffic.proofs.Common.{person_after, person_after_all, waiters, landing_moves, leaving_moves, same_vehicle, World, person_of, at, on, Setup}
-use Rattle.traffic.proofs.Common.{act_after, strands, listed, IsListed, rows_of}
-use Rattle.traffic.specs.declared.moves.Move.{Move}
-use Rattle.traffic.specs.declared.riders.Rider.{Rider}
-use Rattle.traffic.specs.declared.stage.Stage.TheVariants.{Queue, Buffer}
-use Rattle.traffic.specs.declared.world.Person.{Person}
-use Rattle.traffic.specs.declared.world.Place.{Place}
+use Rattle.traffic.proofs.Common.{zero, ◌-◌, ◌≢◌, cases_Bool, eqb-true, eq-eqb, eqb-false, true≢false, lt-ltb, nat_tests, filter-append, flat_map, filter, Some}
+use Rattle.traffic.proofs.Common.{not, ◌&&◌, nat_le, VehicleId, world_at, link_turns, node_turns, link_moves, rules, link_state, below, run, told, person_after}
+use Rattle.traffic.proofs.Common.{person_after_all, waiters, landing_moves, leaving_moves, same_vehicle, World, person_of, at, on, Setup, act_after, strands}
+use Rattle.traffic.{proofs.Common.listed, proofs.Common.IsListed, proofs.Common.rows_of, proofs.Each.each_flat_all, specs.declared.moves.Move.Move}
+use Rattle.traffic.specs.declared.{riders.Rider.Rider, stage.Stage.TheVariants.Queue, stage.Stage.TheVariants.Buffer, world.Person.Person, world.Place.Place}
 use Rattle.traffic.specs.declared.world.Place.TheVariants.{At, Teleporting, Waiting, Riding, Aborted}
 use Rattle.traffic.specs.declared.world.Row.{Row}
 use Rattle.events.specs.declared.event.VehicleId.TheVariants as vehicle
-use Rattle.traffic.proofs.Each.{each_flat_all}
 use Rattle.parts.specs.Owners.{Owner, owner_of, begins_in, crosses, owner_of_person, link_at, lag}
 use Rattle.parts.specs.Parts.{came, came_last, late_rows, all_late, is_late, flies_from}
-use Rattle.law_partitions.proofs.Quiet.{IsQuiet, Quiet, person_moves, person-run, quiet_same}
-use Rattle.law_partitions.proofs.Late.{link_moves_late}
-use Rattle.law_partitions.proofs.Handed.{Handed, AreHanded, by_pass_node, entered}
+use Rattle.law_partitions.proofs.{Calms.late_in, Calms.listed_in_one, Early.mid, Early.mid-list, Early.world-next, Ends.less, Flights.few_mid, Handed.Handed}
+use Rattle.law_partitions.proofs.{Handed.AreHanded, Handed.by_pass_node, Handed.entered, Home.Lawful, Lags.in_range, Late.link_moves_late}
+use Rattle.law_partitions.proofs.{Listing.listed-filter, Listing.listed-two, Listing.listed_home, Owning.Arrivals, Owning.in_one_C, Owning.concern_few}
+use Rattle.law_partitions.proofs.{Owning.concern_alone, Owning.all_some, Quiet.IsQuiet, Quiet.Quiet, Quiet.person_moves, Quiet.person-run, Quiet.quiet_same}
 use Rattle.law_partitions.proofs.Second.{C_world, C_moves, C_moves-are, D_moves-are, C-handed, C-came, C-length, came_in, came_late}
-use Rattle.law_partitions.proofs.Early.{mid, mid-list, world-next}
-use Rattle.law_partitions.proofs.Lags.{in_range}
-use Rattle.law_partitions.proofs.Flights.{few_mid}
-use Rattle.law_partitions.proofs.Ends.{less}
-use Rattle.law_partitions.proofs.Tells.{listed-cons, listed-append, node-spare, link-quiet}
-use Rattle.law_partitions.proofs.Listing.{listed-filter, listed-two, listed_home}
-use Rattle.law_partitions.proofs.Home.{Lawful}
-use Rattle.law_partitions.proofs.Calms.{late_in, listed_in_one}
-use Rattle.law_partitions.proofs.Spare.{Carries, spare-enters}
-use Rattle.law_partitions.proofs.Owning.{Arrivals, in_one_C, concern_few, concern_alone, all_some}
-use Rattle.law_partitions.proofs.Still.{late_all, mid_same, still}
-use Rattle.law_partitions.proofs.Telling.{landing_off, leaving_off, late_idle}
+use Rattle.law_partitions.proofs.{Spare.Carries, Spare.spare-enters, Still.late_all, Still.mid_same, Still.still, Telling.landing_off, Telling.leaving_off}
+use Rattle.law_partitions.proofs.{Telling.late_idle, Tells.listed-cons, Tells.listed-append, Tells.node-spare, Tells.link-quiet}
 
 -- a node's moves keep each person's element
 strands_element : (S : Setup) (t i : ℕ) (v : VehicleId) (l : ℕ) (rs : List Rider) (P : Person) → (person_after_all S t i (flat_map (strands v l) rs) P).element ≡ P.element

@@ -3,23 +3,15 @@ use Rattle.traffic.proofs.Common.{◌≡◌, ℕ, List, ◌∙◌, length, ap, r
 use Rattle.traffic.proofs.Common.{moves_of, through, world_from, after, landing_turns, leaving_turns, departure_turns, Untouched, below, run, done, touches}
 use Rattle.traffic.proofs.Common.{credit_after_all, hole_after_all, credit_after, hole_after, landing_moves, leaving_moves, sets_out, departure_moves, World}
 use Rattle.traffic.proofs.Common.{person_of, at, on, rank, holes_at, credit_of, Setup, act_after, leg_at}
-use Rattle.traffic.specs.declared.moves.Move.{Move}
-use Rattle.traffic.specs.declared.moves.Move.TheVariants.{Enter, Report}
-use Rattle.traffic.specs.declared.moves.Occurrence.{Occurrence}
-use Rattle.traffic.specs.declared.stage.Stage.{Stage}
-use Rattle.traffic.specs.declared.stage.Stage.TheVariants.{Wait}
-use Rattle.traffic.specs.declared.world.Person.{Person}
-use Rattle.traffic.specs.declared.world.Row.{Row}
+use Rattle.traffic.proofs.{Each.each_flat_all, Sublists.at-run_untouched, Sublists.holes-run, Walks.flight_walk, Walks.leave_walk, Walks.departure_walk}
+use Rattle.traffic.specs.declared.moves.Move.{Move, TheVariants.Enter, TheVariants.Report}
+use Rattle.traffic.specs.declared.{moves.Occurrence.Occurrence, stage.Stage.Stage, stage.Stage.TheVariants.Wait, world.Person.Person, world.Row.Row}
 use Rattle.std.specs.List.{AllByRecursion as Each}
 use Rattle.events.specs.declared.event.Phase.TheVariants as phase
 use Rattle.rows.specs.declared.plan.Leg.TheVariants as leg
-use Rattle.traffic.proofs.Each.{each_flat_all}
-use Rattle.traffic.proofs.Walks.{flight_walk, leave_walk, departure_walk}
-use Rattle.traffic.proofs.Sublists.{at-run_untouched, holes-run}
 use Rattle.parts.specs.Parts.{Held, came, went}
-use Rattle.law_partitions.specs.Alone.{held_done, held_run}
-use Rattle.law_partitions.proofs.Turns.{phase_moves}
 use Rattle.law_partitions.proofs.Second.{C_world, came_in, went_in, next}
+use Rattle.law_partitions.{proofs.Turns.phase_moves, specs.Alone.held_done, specs.Alone.held_run}
 
 abbrev pub IsEarly : Move → Type 0
 IsEarly (Enter now) = now.stage ≡ Wait

@@ -3,29 +3,18 @@ use Rattle.traffic.proofs.Common.{◌≡◌, ℕ, List, ◌∙◌, length, ap, r
 use Rattle.traffic.proofs.Common.{zero, ◌-◌, ◌≢◌, ◌⊎◌, cases_Bool, eqb-true, and_parts, cases_lt, eq-eqb, eqb-false, true≢false, ltb-true, lt-ltb, leb-true}
 use Rattle.traffic.proofs.Common.{nat_tests, flat_map, list_any, map, filter, not, ◌&&◌, if◌then◌else◌, nat_le, ◌||◌, world_at, day, below, numbers, World}
 use Rattle.traffic.proofs.Common.{person_of, at, on, Setup, act_after, link_row, seconds_of, listed, IsListed}
-use Rattle.traffic.specs.declared.stage.Stage.TheVariants.{Queue}
-use Rattle.traffic.specs.declared.world.Person.{Person}
-use Rattle.traffic.specs.declared.world.Place.{Place}
-use Rattle.traffic.specs.declared.world.Place.TheVariants.{At, Teleporting, Waiting, Riding, Aborted}
-use Rattle.traffic.specs.declared.world.Row.{Row}
+use Rattle.traffic.specs.declared.{stage.Stage.TheVariants.Queue, world.Person.Person, world.Place.Place, world.Place.TheVariants.At}
+use Rattle.traffic.specs.declared.world.{Place.TheVariants.Teleporting, Place.TheVariants.Waiting, Place.TheVariants.Riding, Place.TheVariants.Aborted, Row.Row}
 use Rattle.std.specs.Prelude.{is_some}
-use Rattle.parts.specs.Owners.{Owner, owner_of, begins_in, crosses, leads, owner_of_person, owner_of_turn, link_at, lag, near, links_of}
-use Rattle.parts.specs.Parts.{Passed, Flight, Parcel, passed, mine, came, came_last, down, late_rows, all_late, rides_in, is_late, has, flies_from, flight_at, flight_from, enters_queue, node_phase_moves, out, unheard, held, sent_last, carries}
-use Rattle.law_partitions.proofs.History.{known, came_none}
-use Rattle.law_partitions.proofs.Lags.{lag-down, in_range, near-hop}
-use Rattle.law_partitions.proofs.Joined.{only_all, near-down, any_number}
-use Rattle.law_partitions.proofs.Merging.{all_told, Shared, day_merged}
 use Rattle.parts.specs.Merge.{Merges}
-use Rattle.law_partitions.proofs.Heard.{known_and}
-use Rattle.law_partitions.proofs.Tells.{listed-append}
-use Rattle.law_partitions.proofs.Listing.{listed-filter, listed_home}
-use Rattle.law_partitions.proofs.Home.{Lawful, has-is}
-use Rattle.law_partitions.proofs.Calms.{listed_in_one}
-use Rattle.law_partitions.proofs.Owning.{Arrivals, all_some}
-use Rattle.law_partitions.proofs.Carried.{in_last, by_rows, flown}
-use Rattle.law_partitions.proofs.Absorbing.{find_lead}
+use Rattle.parts.specs.Owners.{Owner, owner_of, begins_in, crosses, leads, owner_of_person, owner_of_turn, link_at, lag, near, links_of}
+use Rattle.parts.specs.Parts.{Passed, Flight, Parcel, passed, mine, came, came_last, down, late_rows, all_late, rides_in, is_late, has, flies_from, flight_at}
+use Rattle.parts.specs.Parts.{flight_from, enters_queue, node_phase_moves, out, unheard, held, sent_last, carries}
 use Rattle.law_partitions.proofs.Absorbed.{find_pass, near_other, fly_way, flown_back}
-use Rattle.law_partitions.proofs.Flights.{flights_began}
+use Rattle.law_partitions.proofs.{Absorbing.find_lead, Calms.listed_in_one, Carried.in_last, Carried.by_rows, Carried.flown, Flights.flights_began}
+use Rattle.law_partitions.proofs.{Heard.known_and, History.known, History.came_none, Home.Lawful, Home.has-is, Joined.only_all, Joined.near-down}
+use Rattle.law_partitions.proofs.{Joined.any_number, Lags.lag-down, Lags.in_range, Lags.near-hop, Listing.listed-filter, Listing.listed_home, Merging.all_told}
+use Rattle.law_partitions.proofs.{Merging.Shared, Merging.day_merged, Owning.Arrivals, Owning.all_some, Tells.listed-append}
 
 pub or_true : (x : Bool) → (x || true) ≡ true
 or_true true = refl

@@ -1,29 +1,25 @@
 -- The second alone gives what is held next, and absorbing makes that ready: lists, credits, rows and holes.
-use Rattle.traffic.proofs.Common.{◌≡◌, ℕ, List, ◌∙◌, length, ap, refl, sym, [], ◌∷◌, arith, true, ◌++◌, ◌+◌, Bool, inl, inr, subst, ◌≤◌, false, suc, eqb}
-use Rattle.traffic.proofs.Common.{zero, ◌-◌, append-nil, length-append, take, fun_ext, cases_Bool, eqb-true, cases_lt, ne_eqb, get_or_past, filter-append}
-use Rattle.traffic.proofs.Common.{flat_map, filter, not, nat_le, replicate, world_at, link_turns, turns_in, world_start, moves_of, Untouched, below, numbers}
+use Rattle.traffic.proofs.Common.{◌≡◌, ℕ, List, ◌∙◌, length, ap, refl, sym, [], ◌∷◌, arith, true, ◌++◌, ◌+◌, Bool, inl, inr, subst, ◌≤◌, false, suc, eqb, zero}
+use Rattle.traffic.proofs.Common.{◌-◌, append-nil, length-append, take, fun_ext, cases_Bool, eqb-true, cases_lt, ne_eqb, get_or_past, filter-append, flat_map}
+use Rattle.traffic.proofs.Common.{filter, not, nat_le, replicate, world_at, link_turns, turns_in, world_start, moves_of, Untouched, below, numbers}
 use Rattle.traffic.proofs.Common.{at_after_all, credit_after_all, World, at, holes_at, credit_of, Setup, hole_of}
-use Rattle.traffic.specs.declared.moves.Move.{Move}
-use Rattle.traffic.specs.declared.stage.Stage.{Stage}
+use Rattle.traffic.proofs.{Links.link-at, Sublists.credits-run, Sublists.Untouched-append, Sublists.at-run_untouched, Sublists.at_after_all-untouched}
+use Rattle.traffic.{proofs.Walks.credits_start, proofs.Walks.credits_day, specs.declared.moves.Move.Move, specs.declared.stage.Stage.Stage}
 use Rattle.traffic.specs.declared.stage.Stage.TheVariants.{Queue, Buffer, Wait, Bay}
 use Rattle.traffic.specs.declared.world.Row.{Row}
 use Rattle.events.specs.declared.event.Phase.TheVariants as phase
-use Rattle.traffic.proofs.Links.{link-at}
-use Rattle.traffic.proofs.Walks.{credits_start, credits_day}
-use Rattle.traffic.proofs.Sublists.{credits-run, Untouched-append, at-run_untouched, at_after_all-untouched}
 use Rattle.parts.specs.Owners.{Owner, owner_of, begins_in, crosses, lag}
 use Rattle.parts.specs.Parts.{Held, freed, came, went, came_last, went_last, lasting, late_rows, known_list, up, has, unheard, held, ready}
+use Rattle.law_partitions.proofs.{Begins.Ready, Begins.Calm, Begins.begins, Begins.early_rows, Begins.early_holes, Early.mid, Early.mid-list, Early.world-next}
+use Rattle.law_partitions.proofs.{Early.came_is, Early.went_is, Early.A_world, Early.B1_world, Heard.crossing, Heard.not_crossing, Heard.within}
+use Rattle.law_partitions.proofs.{Heard.known_whole, Heard.late_of, Heard.heard, History.known, History.went_none, History.lasting-next, History.holes-world}
+use Rattle.law_partitions.proofs.{Joined.given-self, Joined.queue_more, Joined.rows_more, Lags.in_range, Lags.LongHops, Lags.lag-some, Late.freed-append}
+use Rattle.law_partitions.proofs.{Late.freed_other, Places.credit-append, Places.credit_all_other, Places.D_after-credit, Places.D-length, Places.out-went}
+use Rattle.law_partitions.proofs.{Places.out-none, Places.D_after-rows, Places.D_after-holes, Second.C_world, Second.C_moves, Second.D_moves}
+use Rattle.law_partitions.proofs.Second.{came_in, went_in, next, D_moves-are, C-came, D_untouched, Short, held_run-list, held_run-credit, C_after-queue_own}
+use Rattle.law_partitions.proofs.Second.{C_after-buffer, C_after-wait, C_after-bay, C_after-credit, D_part-moves, D_after-buffer, D_after-wait, D_after-bay}
+use Rattle.law_partitions.proofs.{Second.D_after-queue_own, Second.D_border, Second.take_front, Turns.eqb_turn}
 use Rattle.law_partitions.specs.Alone.{my_links, D_part, early, after_C, after_D, alone, rows_to, freed_of, with_rows, absorb, given}
-use Rattle.law_partitions.proofs.Turns.{eqb_turn}
-use Rattle.law_partitions.proofs.Late.{freed-append, freed_other}
-use Rattle.law_partitions.proofs.Second.{C_world, C_moves, D_moves, came_in, went_in, next, D_moves-are, C-came, D_untouched, Short, held_run-list, held_run-credit, C_after-queue_own, C_after-buffer, C_after-wait, C_after-bay, C_after-credit, D_part-moves, D_after-buffer, D_after-wait, D_after-bay, D_after-queue_own, D_border, take_front}
-use Rattle.law_partitions.proofs.Places.{credit-append, credit_all_other, D_after-credit, D-length, out-went, out-none, D_after-rows, D_after-holes}
-use Rattle.law_partitions.proofs.Early.{mid, mid-list, world-next, came_is, went_is, A_world, B1_world}
-use Rattle.law_partitions.proofs.History.{known, went_none, lasting-next, holes-world}
-use Rattle.law_partitions.proofs.Lags.{in_range, LongHops, lag-some}
-use Rattle.law_partitions.proofs.Begins.{Ready, Calm, begins, early_rows, early_holes}
-use Rattle.law_partitions.proofs.Heard.{crossing, not_crossing, within, known_whole, late_of, heard}
-use Rattle.law_partitions.proofs.Joined.{given-self, queue_more, rows_more}
 
 -- LINKS THAT ARE NOT THERE
 credits-length : (S : Setup) (t : ℕ) → length (world_at S t).credits ≡ length S.links

@@ -3,21 +3,16 @@ use Rattle.traffic.proofs.Common.{◌≡◌, ℕ, List, ◌∙◌, length, ap, r
 use Rattle.traffic.proofs.Common.{cases_Bool, eqb-true, eqb-false, flat_map, map, Some, None, Option, More, VehicleId, Word, PlanRows, world_at, moves_of}
 use Rattle.traffic.proofs.Common.{turns_in, world_start, world_from, landing_turns, leaving_turns, at_home, below, ride, person_by, wait_at, lose, run, told}
 use Rattle.traffic.proofs.Common.{person_after_all, start_act, person_after, told_of, landing_moves, leaving_moves, departure_moves, person_of, nobody, Setup}
-use Rattle.traffic.specs.declared.moves.Move.{Move}
-use Rattle.traffic.specs.declared.moves.Occurrence.{Occurrence}
-use Rattle.traffic.specs.declared.world.Person.{Person}
-use Rattle.traffic.specs.declared.world.Place.{Place}
+use Rattle.traffic.proofs.{Persons.landing_moves-of, Persons.leaving_moves-of, Waiting.run-length}
+use Rattle.traffic.specs.declared.{moves.Move.Move, moves.Occurrence.Occurrence, world.Person.Person, world.Place.Place}
 use Rattle.traffic.specs.declared.world.Place.TheVariants.{At, Teleporting, Waiting, Riding, Aborted}
 use Rattle.events.specs.declared.event.Phase.TheVariants as phase
 use Rattle.events.specs.declared.event.Word.TheVariants as word
 use Rattle.events.specs.declared.event.More.TheVariants as more
-use Rattle.traffic.proofs.Persons.{landing_moves-of, leaving_moves-of}
-use Rattle.traffic.proofs.Waiting.{run-length}
 use Rattle.law_one_place.proofs.Turns.{always_kept}
-use Rattle.law_partitions.proofs.Quiet.{person_moves, person_moves-append, person-run, quiet_same}
-use Rattle.law_partitions.proofs.Second.{C_world, C_moves, D_moves, C-length}
-use Rattle.law_partitions.proofs.Early.{A_world, B1_world, mid, A_moves-are, B1_moves-are, B2_moves-are, world-next}
-use Rattle.law_partitions.proofs.Begins.{of-quiet, own-turn, departures-quiet}
+use Rattle.law_partitions.proofs.{Begins.of-quiet, Begins.own-turn, Begins.departures-quiet, Early.A_world, Early.B1_world, Early.mid, Early.A_moves-are}
+use Rattle.law_partitions.proofs.{Early.B1_moves-are, Early.B2_moves-are, Early.world-next, Quiet.person_moves, Quiet.person_moves-append, Quiet.person-run}
+use Rattle.law_partitions.proofs.{Quiet.quiet_same, Second.C_world, Second.C_moves, Second.D_moves, Second.C-length}
 
 pub few_mid : (S : Setup) (t : ℕ) → length (mid S t).persons ≡ length S.persons
 few_mid S t =

@@ -3,24 +3,14 @@ use Rattle.traffic.proofs.Common.{◌≡◌, ℕ, List, ◌∙◌, ap, refl, sym
 use Rattle.traffic.proofs.Common.{append_assoc, cases_Bool, eqb-true, and_parts, nat_tests, flat_map, not, Option, ◌&&◌, if◌then◌else◌, ◌||◌, VehicleId}
 use Rattle.traffic.proofs.Common.{node_turns, told, person_after, person_after_all, at_after_all, credit_after_all, at_after, hole_after_all, credit_after}
 use Rattle.traffic.proofs.Common.{next_link, has_room, out_link, is_stuck, waiter, World, on, Setup, seconds_of, strands, VehicleState}
-use Rattle.traffic.specs.declared.moves.Move.{Move}
-use Rattle.traffic.specs.declared.moves.Move.TheVariants.{Transfer, Remove, SetFrontSince, Credit, LeaveHole}
-use Rattle.traffic.specs.declared.node_views.OutLink.{OutLink}
-use Rattle.traffic.specs.declared.riders.Rider.{Rider}
-use Rattle.traffic.specs.declared.stage.Stage.{Stage}
-use Rattle.traffic.specs.declared.stage.Stage.TheVariants.{Queue, Buffer}
-use Rattle.traffic.specs.declared.world.Person.{Person}
-use Rattle.traffic.specs.declared.world.Row.{Row}
+use Rattle.traffic.proofs.{Each.each_weaker, Each.each_flat, Each.each_flat_all, Moments.along_each, NodeWalk.node_walk, Nodes.out_of, Nodes.buffers-holes}
+use Rattle.traffic.specs.{Frames.IsFromBuffer, Frames.AreFromBuffers, Nodes.is_out_link, Nodes.seconds_along, Nodes.entered as entering}
+use Rattle.traffic.specs.declared.moves.Move.{Move, TheVariants.Transfer, TheVariants.Remove, TheVariants.SetFrontSince, TheVariants.Credit}
+use Rattle.traffic.specs.declared.{moves.Move.TheVariants.LeaveHole, node_views.OutLink.OutLink, riders.Rider.Rider, stage.Stage.Stage}
+use Rattle.traffic.specs.declared.{stage.Stage.TheVariants.Queue, stage.Stage.TheVariants.Buffer, world.Person.Person, world.Row.Row}
 use Rattle.std.specs.List.{AllByRecursion as Each}
-use Rattle.traffic.specs.Nodes.{is_out_link, seconds_along, entered as entering}
-use Rattle.traffic.specs.Frames.{IsFromBuffer, AreFromBuffers}
-use Rattle.traffic.proofs.Each.{each_weaker, each_flat, each_flat_all}
-use Rattle.traffic.proofs.Moments.{along_each}
-use Rattle.traffic.proofs.NodeWalk.{node_walk}
-use Rattle.traffic.proofs.Nodes.{out_of, buffers-holes}
 use Rattle.parts.specs.Parts.{entering_row, enters_queue, frees}
-use Rattle.law_partitions.proofs.Quiet.{person_moves}
-use Rattle.law_partitions.proofs.Late.{Late}
+use Rattle.law_partitions.proofs.{Late.Late, Quiet.person_moves}
 
 -- a row that enters a queue follows from its vehicle and the second
 abbrev pub Handed : Setup → ℕ → Move → Type 0

@@ -1,17 +1,14 @@
 -- What p holds is short of late rows alone.
 use Rattle.traffic.proofs.Common.{◌≡◌, ℕ, List, ◌∙◌, length, ap, refl, sym, [], arith, ◌<◌, true, ◌++◌, inl, inr, ◌≤◌, false, eqb, ◌-◌, append-nil, take}
-use Rattle.traffic.proofs.Common.{cases_Bool, eqb-true, and_parts, true≢false, ltb-true, not, ◌&&◌, if◌then◌else◌, world_at, at, rank, holes_at, Setup}
-use Rattle.traffic.proofs.Common.{hole_of, seconds_of}
-use Rattle.traffic.specs.declared.stage.Stage.{Stage}
-use Rattle.traffic.specs.declared.stage.Stage.TheVariants.{Queue, Buffer, Wait, Bay}
-use Rattle.traffic.specs.declared.world.Row.{Row}
+use Rattle.traffic.proofs.Common.{cases_Bool, eqb-true, and_parts, true≢false, ltb-true, not, ◌&&◌, if◌then◌else◌, world_at, at, rank, holes_at, Setup, hole_of}
+use Rattle.traffic.{proofs.Common.seconds_of, specs.declared.stage.Stage.Stage, specs.declared.stage.Stage.TheVariants.Queue}
+use Rattle.traffic.specs.declared.{stage.Stage.TheVariants.Buffer, stage.Stage.TheVariants.Wait, stage.Stage.TheVariants.Bay, world.Row.Row}
 use Rattle.parts.specs.Owners.{Owner, owner_of, begins_in, crosses, owner_of_person, lag}
 use Rattle.parts.specs.Parts.{came_last, down, up, late_rows, known_list, is_person, knows_of, has, unheard}
 use Rattle.law_one_place.proofs.Turns.{always_kept}
-use Rattle.law_partitions.proofs.Second.{take_front}
-use Rattle.law_partitions.proofs.History.{known, came_last-late, known_tail, came_none, in_force-last, in_force-lasting}
-use Rattle.law_partitions.proofs.Lags.{seconds_some, hole_some, in_range, lag-down, lag-up, LongHops, lag-some}
 use Rattle.law_partitions.proofs.Begins.{Ready}
+use Rattle.law_partitions.proofs.History.{known, came_last-late, known_tail, came_none, in_force-last, in_force-lasting}
+use Rattle.law_partitions.proofs.{Lags.seconds_some, Lags.hole_some, Lags.in_range, Lags.lag-down, Lags.lag-up, Lags.LongHops, Lags.lag-some, Second.take_front}
 
 pub crossing : (S : Setup) (own : Owner) (p l : ℕ) → eqb (owner_of S own l) p ≡ true → crosses S own l ≡ not (eqb (begins_in S own l) p)
 crossing S own p l e = ap (λ x. not (eqb (begins_in S own l) x)) (eqb-true (owner_of S own l) p e)

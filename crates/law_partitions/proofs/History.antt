@@ -1,17 +1,13 @@
 -- What the last seconds brought: rows at the end of each queue, and holes that still count.
 use Rattle.traffic.proofs.Common.{◌≡◌, ℕ, List, ◌∙◌, length, ap, refl, sym, [], ◌∷◌, arith, ◌<◌, true, ◌++◌, ◌+◌, Bool, subst, ◌≤◌, suc, zero, ◌-◌, drop}
-use Rattle.traffic.proofs.Common.{append-nil, append_assoc, length-append, take, lt-ltb, nat_tests, filter-append, filter, nat_lt, nat_le, world_at}
-use Rattle.traffic.proofs.Common.{link_turns, link_moves, rules, link_state, at_after_all, in_force, waiters, World, at, holes_at, Setup, hole_of, seconds_of}
-use Rattle.traffic.specs.declared.stage.Stage.TheVariants.{Queue}
-use Rattle.traffic.specs.declared.world.Row.{Row}
+use Rattle.traffic.proofs.Common.{append-nil, append_assoc, length-append, take, lt-ltb, nat_tests, filter-append, filter, nat_lt, nat_le, world_at, link_turns}
+use Rattle.traffic.proofs.Common.{link_moves, rules, link_state, at_after_all, in_force, waiters, World, at, holes_at, Setup, hole_of, seconds_of}
+use Rattle.traffic.{proofs.Each.each_append, specs.declared.stage.Stage.TheVariants.Queue, specs.declared.world.Row.Row}
 use Rattle.std.proofs.Math.ListN.{replicate}
-use Rattle.traffic.proofs.Each.{each_append}
 use Rattle.parts.specs.Parts.{came, went, came_last, went_last, lasting, freed}
-use Rattle.law_partitions.proofs.Late.{Late, link_moves_late, link_moves-leaves}
-use Rattle.law_partitions.proofs.Handed.{From, From-less, From-late, handed-from}
+use Rattle.law_partitions.proofs.{Early.mid, Early.mid-list, Early.mid-holes, Early.world-next, Early.came_is, Early.went_is, Handed.From, Handed.From-less}
+use Rattle.law_partitions.proofs.{Handed.From-late, Handed.handed-from, Late.Late, Late.link_moves_late, Late.link_moves-leaves, Places.holes-next}
 use Rattle.law_partitions.proofs.Second.{C_world, C_moves, came_in, next, C-handed, C-came, D-list, take_front}
-use Rattle.law_partitions.proofs.Places.{holes-next}
-use Rattle.law_partitions.proofs.Early.{mid, mid-list, mid-holes, world-next, came_is, went_is}
 
 -- the rows of a queue without what came in the last d seconds
 abbrev pub known : Setup → ℕ → ℕ → ℕ → List Row

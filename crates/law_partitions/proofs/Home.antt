@@ -1,27 +1,17 @@
 -- To which partition a person belongs while a second is done: the phases A and B1.
-use Rattle.traffic.proofs.Common.{◌≡◌, ℕ, ◌∙◌, length, ap, refl, sym, [], ◌∷◌, arith, ◌<◌, true, ◌+◌, Bool, inl, inr, subst, ◌≤◌, false, eqb, ◌-◌, get_or}
-use Rattle.traffic.proofs.Common.{◌≢◌, ◌/◌, ◌⊎◌, cases_Bool, eqb-true, eq-eqb, eqb-false, ne_eqb, true≢false, lt-ltb, nat_tests, flat_map, Some, None, not}
-use Rattle.traffic.proofs.Common.{Option, ◌&&◌, nat_le, ◌%◌, Mode, Act, Leg, Transit, Car, Teleport, world_at, landing_turns, leaving_turns, Untouched, below}
-use Rattle.traffic.proofs.Common.{run, person_after, person_after_all, start_act, ends_at, waiter, landing_moves, leaving_moves, sets_out, waits_on, departs}
-use Rattle.traffic.proofs.Common.{lands, leaving, person_of, Setup, act_after, leg_at, act_at, person_plan, link_of_stop, IsSoundPerson}
-use Rattle.traffic.specs.declared.moves.Move.TheVariants.{Report}
-use Rattle.traffic.specs.declared.stage.Stage.TheVariants.{Wait}
-use Rattle.traffic.specs.declared.world.Person.{Person}
-use Rattle.traffic.specs.declared.world.Place.{Place}
+use Rattle.traffic.proofs.Common.{◌≡◌, ℕ, ◌∙◌, length, ap, refl, sym, [], ◌∷◌, arith, ◌<◌, true, ◌+◌, Bool, inl, inr, subst, ◌≤◌, false, eqb, ◌-◌, get_or, ◌≢◌}
+use Rattle.traffic.proofs.Common.{◌/◌, ◌⊎◌, cases_Bool, eqb-true, eq-eqb, eqb-false, ne_eqb, true≢false, lt-ltb, nat_tests, flat_map, Some, None, not, Option}
+use Rattle.traffic.proofs.Common.{◌&&◌, nat_le, ◌%◌, Mode, Act, Leg, Transit, Car, Teleport, world_at, landing_turns, leaving_turns, Untouched, below, run}
+use Rattle.traffic.proofs.Common.{person_after, person_after_all, start_act, ends_at, waiter, landing_moves, leaving_moves, sets_out, waits_on, departs, lands}
+use Rattle.traffic.proofs.Common.{leaving, person_of, Setup, act_after, leg_at, act_at, person_plan, link_of_stop, IsSoundPerson}
+use Rattle.traffic.{proofs.Persons.landing_moves-of, proofs.Walks.flight_walk, proofs.Walks.leave_walk, specs.Moves.arrive}
+use Rattle.traffic.specs.declared.{moves.Move.TheVariants.Report, stage.Stage.TheVariants.Wait, world.Person.Person, world.Place.Place}
 use Rattle.traffic.specs.declared.world.Place.TheVariants.{At, Teleporting, Waiting, Riding, Aborted}
 use Rattle.std.specs.Prelude.{max}
-use Rattle.traffic.specs.Moves.{arrive}
 use Rattle.law_one_place.proofs.Turns.{always_kept}
-use Rattle.traffic.proofs.Walks.{flight_walk, leave_walk}
-use Rattle.traffic.proofs.Persons.{landing_moves-of}
-use Rattle.parts.specs.Owners.{Owner, owner_of, link_at, lag}
-use Rattle.parts.specs.Parts.{flies_from, is_late, has}
-use Rattle.law_partitions.proofs.Quiet.{person_moves, person-run}
-use Rattle.law_partitions.proofs.Early.{A_world, mid, A_moves-are}
-use Rattle.law_partitions.proofs.Begins.{of-quiet, own-turn}
-use Rattle.law_partitions.proofs.Lags.{lag-some, lag-hop}
-use Rattle.law_partitions.proofs.Ends.{less}
-use Rattle.law_partitions.proofs.Flights.{mid_is, flights_began}
+use Rattle.parts.specs.{Owners.Owner, Owners.owner_of, Owners.link_at, Owners.lag, Parts.flies_from, Parts.is_late, Parts.has}
+use Rattle.law_partitions.proofs.{Begins.of-quiet, Begins.own-turn, Early.A_world, Early.mid, Early.A_moves-are, Ends.less, Flights.mid_is}
+use Rattle.law_partitions.proofs.{Flights.flights_began, Lags.lag-some, Lags.lag-hop, Quiet.person_moves, Quiet.person-run}
 pub use Rattle.law_partitions.specs.Premises.{Lawful}
 
 -- In second t person i at this place belongs to p exactly where b is true; a rider goes by the list in which his vehicle stands.

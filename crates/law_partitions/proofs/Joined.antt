@@ -1,19 +1,14 @@
 -- Absorbing makes what is held ready, and the second alone gives what is held next: lists, credits, rows and holes.
 use Rattle.traffic.proofs.Common.{◌≡◌, ℕ, List, ◌∙◌, length, ap, refl, sym, [], ◌∷◌, arith, ◌<◌, true, ◌++◌, ◌+◌, Bool, inl, inr, ◌≤◌, false, suc, eqb, zero}
 use Rattle.traffic.proofs.Common.{◌-◌, ◌≢◌, append-nil, append_assoc, take, cases_Bool, eqb-true, cases_lt, eq-eqb, eqb-false, ne_eqb, true≢false, ltb-false}
-use Rattle.traffic.proofs.Common.{nat_tests, filter-append, sum_by-cons, flat_map, list_any, sum_by, map, filter, Some, None, not, ◌&&◌, if◌then◌else◌}
-use Rattle.traffic.proofs.Common.{nat_le, ◌||◌, replicate, world_at, numbers, World, at, on, holes_at, Setup, hole_of, seconds_of}
-use Rattle.traffic.specs.declared.moves.Move.{Move}
-use Rattle.traffic.specs.declared.moves.Move.TheVariants.{Transfer}
-use Rattle.traffic.specs.declared.stage.Stage.TheVariants.{Queue}
-use Rattle.traffic.specs.declared.world.Row.{Row}
+use Rattle.traffic.proofs.Common.{nat_tests, filter-append, sum_by-cons, flat_map, list_any, sum_by, map, filter, Some, None, not, ◌&&◌, if◌then◌else◌, nat_le}
+use Rattle.traffic.proofs.Common.{◌||◌, replicate, world_at, numbers, World, at, on, holes_at, Setup, hole_of, seconds_of}
+use Rattle.traffic.specs.declared.{moves.Move.Move, moves.Move.TheVariants.Transfer, stage.Stage.TheVariants.Queue, world.Row.Row}
 use Rattle.parts.specs.Owners.{Owner, owner_of, begins_in, crosses, leads, links_of, near, lag}
 use Rattle.parts.specs.Parts.{Passed, Freed, is_some_freed, passed, enters_queue, came, went, came_last, went_last, node_phase_moves, lasting, out}
-use Rattle.law_partitions.specs.Alone.{rows_to, freed_in, freed_of, given}
-use Rattle.law_partitions.proofs.Turns.{eqb_turn}
-use Rattle.law_partitions.proofs.Second.{take_front}
 use Rattle.law_partitions.proofs.History.{known, known_tail, came_older, came_all, went_older, went_all, holes-world, filter_copies}
-use Rattle.law_partitions.proofs.Lags.{in_range, LongHops, lag-down, lag-up}
+use Rattle.law_partitions.proofs.{Lags.in_range, Lags.LongHops, Lags.lag-down, Lags.lag-up, Second.take_front, Turns.eqb_turn}
+use Rattle.law_partitions.specs.Alone.{rows_to, freed_in, freed_of, given}
 
 -- ABSORBING: one second more of what came, where suc d seconds were not heard of
 pub known_more : (S : Setup) (l t d : ℕ) → l < length S.links → suc d ≤ seconds_of S l → d < t → known S t (suc d) l ++ came S l (t - suc d) ≡ known S t d l

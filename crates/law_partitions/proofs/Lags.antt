@@ -3,9 +3,9 @@ use Rattle.traffic.proofs.Common.{◌≡◌, ℕ, List, ◌∙◌, length, ap, r
 use Rattle.traffic.proofs.Common.{get_or, ◌≢◌, ◌/◌, ◌*◌, cases_Bool, eqb-true, cases_lt, eq-eqb, eqb-false, true≢false, get_or_past, map-append}
 use Rattle.traffic.proofs.Common.{filter-append, flat_map, list_any, map, filter, Some, None, not, Option, ◌||◌, Mode, Act, free_seconds, below, numbers}
 use Rattle.traffic.proofs.Common.{Setup, act_after, leg_at, act_at, link_row, person_plan, hole_of, seconds_of, hole_seconds}
+use Rattle.traffic.proofs.Each.{each_all, each_append, each_kept, each_map}
 use Rattle.std.specs.List.{AllByRecursion as Each}
 use Rattle.rows.specs.declared.plan.Leg.TheVariants as leg
-use Rattle.traffic.proofs.Each.{each_all, each_append, each_kept, each_map}
 use Rattle.parts.specs.Owners.{Owner, owner_of, begins_in, crosses, Hop, hop_at, hops, hops_over, leads, links_of, least, longest_lag, lag, near}
 pub use Rattle.law_partitions.specs.Premises.{LongHops}
 

@@ -1,18 +1,12 @@
 -- Rows that are not due change nothing in phase D: they stay behind the others in the queue.
-use Rattle.traffic.proofs.Common.{◌≡◌, ℕ, List, ◌∙◌, length, ap, refl, [], ◌∷◌, arith, ◌<◌, true, ◌++◌, ◌+◌, Bool, ◌≤◌, false, suc, ◌-◌, ◌≢◌, drop}
-use Rattle.traffic.proofs.Common.{append-nil, eq-eqb, lt-ltb, nat_tests, sum_by-append, sum_by-cons, if◌then◌else◌, nat_lt, raised, VEHICLE_COST, Untouched}
-use Rattle.traffic.proofs.Common.{AreAt, IsAt, buffered, LinkState, is_last, may_pass, link_moves, leave_bay, from_queue, from_wait, wait_after, at_after_all}
-use Rattle.traffic.proofs.Common.{touches, on, served_row, calls_on, left_behind}
-use Rattle.traffic.specs.declared.moves.Move.{Move}
-use Rattle.traffic.specs.declared.moves.Move.TheVariants.{Transfer, Remove, Credit, LeaveHole}
-use Rattle.traffic.specs.declared.numbers.Rules.{Rules}
-use Rattle.traffic.specs.declared.stage.Stage.TheVariants.{Queue}
-use Rattle.traffic.specs.declared.world.Row.{Row}
-use Rattle.traffic.specs.declared.world.Waiter.{Waiter}
+use Rattle.traffic.proofs.Common.{◌≡◌, ℕ, List, ◌∙◌, length, ap, refl, [], ◌∷◌, arith, ◌<◌, true, ◌++◌, ◌+◌, Bool, ◌≤◌, false, suc, ◌-◌, ◌≢◌, drop, append-nil}
+use Rattle.traffic.proofs.Common.{eq-eqb, lt-ltb, nat_tests, sum_by-append, sum_by-cons, if◌then◌else◌, nat_lt, raised, VEHICLE_COST, Untouched, AreAt, IsAt}
+use Rattle.traffic.proofs.Common.{buffered, LinkState, is_last, may_pass, link_moves, leave_bay, from_queue, from_wait, wait_after, at_after_all, touches, on}
+use Rattle.traffic.proofs.Common.{served_row, calls_on, left_behind}
+use Rattle.traffic.proofs.{Each.each_all, LinkEach.bay_each, LinkEach.wait_each, Sublists.at_after_all-untouched, Sublists.at_after_all-append}
+use Rattle.traffic.specs.declared.moves.Move.{Move, TheVariants.Transfer, TheVariants.Remove, TheVariants.Credit, TheVariants.LeaveHole}
+use Rattle.traffic.specs.declared.{numbers.Rules.Rules, stage.Stage.TheVariants.Queue, world.Row.Row, world.Waiter.Waiter}
 use Rattle.std.specs.List.{AllByRecursion as Each}
-use Rattle.traffic.proofs.Each.{each_all}
-use Rattle.traffic.proofs.LinkEach.{bay_each, wait_each}
-use Rattle.traffic.proofs.Sublists.{at_after_all-untouched, at_after_all-append}
 use Rattle.parts.specs.Parts.{frees, freed}
 
 abbrev pub Late : ℕ → List Row → Type 0

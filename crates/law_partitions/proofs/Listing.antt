@@ -1,10 +1,8 @@
 -- On which link a person rides.
 use Rattle.traffic.proofs.Common.{◌≡◌, ℕ, List, ap, [], ◌∷◌, arith, true, ◌+◌, Bool, inl, inr, ◌≤◌, false, eqb, cases_Bool, eqb-true, and_parts, cases_lt}
 use Rattle.traffic.proofs.Common.{lt-ltb, nat_tests, filter, ◌&&◌, nat_lt, World, at, on, rank, Setup, listed, IsListed, listed_in}
-use Rattle.traffic.specs.declared.stage.Stage.{Stage}
-use Rattle.traffic.specs.declared.world.Place.{Place}
-use Rattle.traffic.specs.declared.world.Place.TheVariants.{At, Teleporting, Waiting, Riding, Aborted}
-use Rattle.traffic.specs.declared.world.Row.{Row}
+use Rattle.traffic.specs.declared.{stage.Stage.Stage, world.Place.Place, world.Place.TheVariants.At}
+use Rattle.traffic.specs.declared.world.{Place.TheVariants.Teleporting, Place.TheVariants.Waiting, Place.TheVariants.Riding, Place.TheVariants.Aborted, Row.Row}
 use Rattle.law_one_place.proofs.Places.{rides}
 use Rattle.parts.specs.Owners.{link_of_rider, link_at}
 use Rattle.law_partitions.proofs.Tells.{listed-cons}

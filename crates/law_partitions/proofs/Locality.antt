@@ -2,21 +2,13 @@
 use Rattle.traffic.proofs.Common.{◌≡◌, ℕ, List, ◌∙◌, length, ap, refl, sym, arith, ◌<◌, true, Bool, inl, inr, ◌≤◌, false, suc, eqb, fun_ext, cases_Bool}
 use Rattle.traffic.proofs.Common.{and_parts, cases_lt, ltb-true, nat_tests, flat_map, Some, not, ◌&&◌, nat_lt, world_at, link_turns, moves_of, node_turns}
 use Rattle.traffic.proofs.Common.{below, World, person_of, Setup}
-use Rattle.traffic.specs.declared.moves.Move.{Move}
-use Rattle.traffic.specs.declared.world.Person.{Person}
-use Rattle.traffic.specs.declared.world.Row.{Row}
-use Rattle.parts.specs.Owners.{Owner, owner_of, lag}
-use Rattle.parts.specs.Parts.{Held, mine, is_person, has, unheard, held, ready}
-use Rattle.law_partitions.specs.Alone.{my_nodes, C_part, D_part, early, after_C, after_D, sent_out, goes_out, if_stays, alone}
+use Rattle.traffic.specs.declared.{moves.Move.Move, world.Person.Person, world.Row.Row}
+use Rattle.parts.specs.{Owners.Owner, Owners.owner_of, Owners.lag, Parts.Held, Parts.mine, Parts.is_person, Parts.has, Parts.unheard, Parts.held, Parts.ready}
+use Rattle.law_partitions.proofs.{Calms.calm, Calms.link_away, Early.mid, Early.world-next, Ends.less, Ends.sh, Ends.alone-list, Ends.alone-credit}
+use Rattle.law_partitions.proofs.{Ends.alone-rows, Ends.alone-holes, Flights.few_mid, Heard.late_of, Home.Lawful, Owning.Arrivals, Owning.has_next}
 use Rattle.law_partitions.proofs.Quiet.{person_moves, person-run, person-filter, opt_moves, person-held}
 use Rattle.law_partitions.proofs.Second.{C_world, D_moves, D_moves-are, C-length, Short, opt_mine, C_part-moves, C_after-person, D_part-moves}
-use Rattle.law_partitions.proofs.Early.{mid, world-next}
-use Rattle.law_partitions.proofs.Heard.{late_of}
-use Rattle.law_partitions.proofs.Flights.{few_mid}
-use Rattle.law_partitions.proofs.Ends.{less, sh, alone-list, alone-credit, alone-rows, alone-holes}
-use Rattle.law_partitions.proofs.Home.{Lawful}
-use Rattle.law_partitions.proofs.Calms.{calm, link_away}
-use Rattle.law_partitions.proofs.Owning.{Arrivals, has_next}
+use Rattle.law_partitions.specs.Alone.{my_nodes, C_part, D_part, early, after_C, after_D, sent_out, goes_out, if_stays, alone}
 
 pub same_held : (A B : Held) → A.list ≡ B.list → A.credit ≡ B.credit → A.rows ≡ B.rows → A.holes ≡ B.holes → A.person ≡ B.person → A ≡ B
 same_held A B e f g h k = λ i. record { list = e i; credit = f i; rows = g i; holes = h i; person = k i }

@@ -1,13 +1,11 @@
 -- The merge of what the parts tell is the day.
 use Rattle.traffic.proofs.Common.{◌≡◌, ℕ, List, ◌∙◌, length, ap, refl, sym, [], ◌∷◌, arith, ◌<◌, ◌++◌, ◌+◌, Bool, inl, inr, subst, ◌≤◌, suc, eqb, zero, ◌≢◌}
-use Rattle.traffic.proofs.Common.{append_assoc, cases_Bool, eqb-true, eqb-false, ne_eqb, flat_map, map, filter, phase_code, Event, world_at, world_start}
-use Rattle.traffic.proofs.Common.{keyed, events_from, day, end_events, below, numbers, stranded, Setup}
-use Rattle.std.specs.List.Sorted.{IsPermutation}
-use Rattle.std.proofs.lemmas.List.Sorted.{IsPermutation-refl, IsPermutation-trans, IsPermutation-append, IsPermutation-append_comm, IsPermutation-append_left, IsPermutation-append_right}
+use Rattle.traffic.proofs.Common.{append_assoc, cases_Bool, eqb-true, eqb-false, ne_eqb, flat_map, map, filter, phase_code, Event, world_at, world_start, keyed}
+use Rattle.traffic.proofs.{Common.events_from, Common.day, Common.end_events, Common.below, Common.numbers, Common.stranded, Common.Setup, Order.day-ascends}
+use Rattle.std.proofs.lemmas.List.Sorted.{IsPermutation-refl, IsPermutation-trans, IsPermutation-append, IsPermutation-append_comm, IsPermutation-append_left}
+use Rattle.std.{proofs.lemmas.List.Sorted.IsPermutation-append_right, specs.List.Sorted.IsPermutation}
 use Rattle.events.specs.declared.event.Phase.TheVariants as phase
-use Rattle.traffic.proofs.Order.{day-ascends}
-use Rattle.parts.specs.Owners.{Owner, owner_of_event}
-use Rattle.parts.specs.Parts.{own_events, ends_with, own_end_events}
+use Rattle.parts.specs.{Owners.Owner, Owners.owner_of_event, Parts.own_events, Parts.ends_with, Parts.own_end_events}
 pub use Rattle.law_partitions.specs.Whole.{all_told}
 use Rattle.parts.specs.Merge.{Merges}
 

@@ -4,42 +4,25 @@ use Rattle.traffic.proofs.Common.{zero, ◌-◌, ◌≢◌, drop, append-nil, ap
 use Rattle.traffic.proofs.Common.{true≢false, lt-ltb, or_parts, ltb-false, nat_tests, flat_map-append, flat_map, filter, not, ◌&&◌, if◌then◌else◌, nat_lt}
 use Rattle.traffic.proofs.Common.{nat_le, VehicleId, Act, Leg, world_at, link_turns, node_turns, through, Untouched, link_moves, rules, link_state, below}
 use Rattle.traffic.proofs.Common.{numbers, run, at_after_all, touches, same, waiters, waiter, waits_on, World, person_of, at, on, rank, Setup, act_after}
-use Rattle.traffic.proofs.Common.{leg_at, link_row, link_of_stop, listed, IsListed}
-use Rattle.traffic.specs.declared.moves.Move.{Move}
-use Rattle.traffic.specs.declared.moves.Move.TheVariants.{Transfer}
-use Rattle.traffic.specs.declared.stage.Stage.{Stage}
+use Rattle.traffic.proofs.{Common.leg_at, Common.link_row, Common.link_of_stop, Common.listed, Common.IsListed, Each.each_flat_where, Nodes.node_untouched}
+use Rattle.traffic.specs.declared.{moves.Move.Move, moves.Move.TheVariants.Transfer, stage.Stage.Stage}
 use Rattle.traffic.specs.declared.stage.Stage.TheVariants.{Queue, Buffer, Wait, Bay}
-use Rattle.traffic.specs.declared.world.Person.{Person}
-use Rattle.traffic.specs.declared.world.Place.{Place}
-use Rattle.traffic.specs.declared.world.Place.TheVariants.{At, Teleporting, Waiting, Riding, Aborted}
-use Rattle.traffic.specs.declared.world.Row.{Row}
+use Rattle.traffic.specs.declared.world.{Person.Person, Place.Place, Place.TheVariants.At, Place.TheVariants.Teleporting, Place.TheVariants.Waiting}
+use Rattle.traffic.specs.declared.world.{Place.TheVariants.Riding, Place.TheVariants.Aborted, Row.Row}
 use Rattle.events.specs.declared.event.Phase.TheVariants as phase
-use Rattle.traffic.proofs.Each.{each_flat_where}
-use Rattle.traffic.proofs.Nodes.{node_untouched}
-use Rattle.law_one_place.proofs.Places.{rides, InOne, off_none, listed_once}
 use Rattle.law_one_place.proofs.Boarding.{in_line, waits_few, line_one, waiters_in_line}
-use Rattle.law_one_place.proofs.Turns.{always_kept, through_keeps}
+use Rattle.law_one_place.proofs.{Places.rides, Places.InOne, Places.off_none, Places.listed_once, Turns.always_kept, Turns.through_keeps}
 use Rattle.parts.specs.Owners.{Owner, owner_of, begins_in, crosses, link_at, lag}
 use Rattle.parts.specs.Parts.{came_last, late_rows, all_late, rides_in, is_late, has, flies_from, enters_queue, freed}
-use Rattle.law_partitions.specs.Alone.{my_nodes, sent_out, goes_out}
-use Rattle.law_partitions.proofs.Quiet.{person_moves, person-run}
-use Rattle.law_partitions.proofs.Turns.{eqb_turn}
-use Rattle.law_partitions.proofs.Late.{link_moves-leaves}
-use Rattle.law_partitions.proofs.Handed.{entered, enters_put}
-use Rattle.law_partitions.proofs.Second.{C_world, C_moves-are, D_moves-are, C-came, C-list, D-list, C-length, came_in, came_late, next}
-use Rattle.law_partitions.proofs.Places.{entered-append}
-use Rattle.law_partitions.proofs.Early.{mid, mid-list, world-next, came_is}
-use Rattle.law_partitions.proofs.History.{queue_step, came_none}
-use Rattle.law_partitions.proofs.Lags.{lag-some, in_range}
-use Rattle.law_partitions.proofs.Flights.{few_mid, flights_began}
-use Rattle.law_partitions.proofs.Ends.{less, past_next}
-use Rattle.law_partitions.proofs.Tells.{listed-cons, listed-append}
-use Rattle.law_partitions.proofs.Listing.{listed-filter, listed-two, listed_home, on_link, apart_lists}
-use Rattle.law_partitions.proofs.Home.{Lawful, Home, IsHome, has-is, home_mid}
 use Rattle.law_partitions.proofs.Calms.{away_list, trimmed, link_away, link_spare_away, node_spare_away, late_in, listed_in_one}
-use Rattle.law_partitions.proofs.Spare.{Carries, Spare, spare-left, spare-enters, listed-drop}
-use Rattle.law_partitions.proofs.Persons.{AlightAll, nodes_home, links_home, concern}
-use Rattle.law_partitions.specs.Premises.{before_D}
+use Rattle.law_partitions.proofs.{Early.mid, Early.mid-list, Early.world-next, Early.came_is, Ends.less, Ends.past_next, Flights.few_mid, Flights.flights_began}
+use Rattle.law_partitions.proofs.{Handed.entered, Handed.enters_put, History.queue_step, History.came_none, Home.Lawful, Home.Home, Home.IsHome, Home.has-is}
+use Rattle.law_partitions.proofs.{Home.home_mid, Lags.lag-some, Lags.in_range, Late.link_moves-leaves, Listing.listed-filter, Listing.listed-two}
+use Rattle.law_partitions.proofs.{Listing.listed_home, Listing.on_link, Listing.apart_lists, Persons.AlightAll, Persons.nodes_home, Persons.links_home}
+use Rattle.law_partitions.proofs.{Persons.concern, Places.entered-append, Quiet.person_moves, Quiet.person-run}
+use Rattle.law_partitions.proofs.Second.{C_world, C_moves-are, D_moves-are, C-came, C-list, D-list, C-length, came_in, came_late, next}
+use Rattle.law_partitions.proofs.{Spare.Carries, Spare.Spare, Spare.spare-left, Spare.spare-enters, Spare.listed-drop, Tells.listed-cons, Tells.listed-append}
+use Rattle.law_partitions.{proofs.Turns.eqb_turn, specs.Alone.my_nodes, specs.Alone.sent_out, specs.Alone.goes_out, specs.Premises.before_D}
 pub use Rattle.law_partitions.specs.Premises.{Arrivals}
 
 alight_here : (S : Setup) (t i l : ℕ) (s : Stage) → Arrivals S → i < length S.persons → AlightAll S l i (person_of i (C_world S t (mid S t))).element (at l s (C_world S t (mid S t)))

@@ -1,33 +1,19 @@
 -- What a part sends in its second is what the day sends.
 use Rattle.traffic.proofs.Common.{◌≡◌, ℕ, List, ◌∙◌, length, ap, refl, sym, [], ◌∷◌, arith, ◌<◌, true, ◌++◌, ◌+◌, Bool, inl, inr, ◌≤◌, false, suc, eqb, zero}
-use Rattle.traffic.proofs.Common.{cases_Bool, eqb-true, and_parts, cases_lt, eq-eqb, or_parts, flat_map-append, get_or_past, sum_by-cons, flat_map, map}
-use Rattle.traffic.proofs.Common.{filter, not, ◌&&◌, if◌then◌else◌, world_at, moves_of, node_turns, through, Untouched, below, numbers, touches, same, World}
-use Rattle.traffic.proofs.Common.{person_of, on, nobody, Setup, act_after, link_row, listed}
-use Rattle.traffic.specs.declared.moves.Move.{Move}
-use Rattle.traffic.specs.declared.moves.Move.TheVariants.{Transfer}
-use Rattle.traffic.specs.declared.riders.Rider.{Rider}
-use Rattle.traffic.specs.declared.stage.Stage.TheVariants.{Queue}
-use Rattle.traffic.specs.declared.world.Person.{Person}
-use Rattle.traffic.specs.declared.world.Place.{Place}
-use Rattle.traffic.specs.declared.world.Place.TheVariants.{At, Teleporting, Waiting, Riding, Aborted}
+use Rattle.traffic.proofs.Common.{cases_Bool, eqb-true, and_parts, cases_lt, eq-eqb, or_parts, flat_map-append, get_or_past, sum_by-cons, flat_map, map, filter}
+use Rattle.traffic.proofs.Common.{not, ◌&&◌, if◌then◌else◌, world_at, moves_of, node_turns, through, Untouched, below, numbers, touches, same, World, person_of}
+use Rattle.traffic.proofs.{Common.on, Common.nobody, Common.Setup, Common.act_after, Common.link_row, Common.listed, Each.each_flat_where, Nodes.node_untouched}
+use Rattle.traffic.specs.declared.{moves.Move.Move, moves.Move.TheVariants.Transfer, riders.Rider.Rider, stage.Stage.TheVariants.Queue, world.Person.Person}
+use Rattle.traffic.specs.declared.world.Place.{Place, TheVariants.At, TheVariants.Teleporting, TheVariants.Waiting, TheVariants.Riding, TheVariants.Aborted}
 use Rattle.traffic.specs.declared.world.Row.{Row}
-use Rattle.traffic.proofs.Each.{each_flat_where}
-use Rattle.traffic.proofs.Nodes.{node_untouched}
-use Rattle.law_one_place.proofs.Places.{among_riders}
-use Rattle.law_one_place.proofs.Boarding.{one_rider}
-use Rattle.law_one_place.proofs.Turns.{always_kept}
+use Rattle.law_one_place.proofs.{Boarding.one_rider, Places.among_riders, Turns.always_kept}
 use Rattle.parts.specs.Owners.{Owner, owner_of, begins_in, leads, links_of, link_at}
-use Rattle.parts.specs.Parts.{Held, Passed, Flight, Freed, is_some_freed, Parcel, passed, mine, has, enters_queue, node_phase_moves, freed, went, flies_from, flight_at, flight_from, out, unheard, ready}
-use Rattle.law_partitions.specs.Alone.{my_nodes, C_part, D_part, early, after_C, after_D, element_in, passed_here, flight_to, parcel_to}
-use Rattle.law_partitions.proofs.Second.{C_moves-are}
-use Rattle.law_partitions.proofs.Early.{mid}
-use Rattle.law_partitions.proofs.Ends.{less, frees_own}
-use Rattle.law_partitions.proofs.Tells.{listed-cons}
-use Rattle.law_partitions.proofs.Home.{Lawful, IsHome}
-use Rattle.law_partitions.proofs.Calms.{calm, node_spare_away}
-use Rattle.law_partitions.proofs.Owning.{Arrivals, home_next}
+use Rattle.parts.specs.Parts.{Held, Passed, Flight, Freed, is_some_freed, Parcel, passed, mine, has, enters_queue, node_phase_moves, freed, went, flies_from}
+use Rattle.parts.specs.Parts.{flight_at, flight_from, out, unheard, ready}
+use Rattle.law_partitions.proofs.{Calms.calm, Calms.node_spare_away, Early.mid, Ends.less, Ends.frees_own, Home.Lawful, Home.IsHome}
 use Rattle.law_partitions.proofs.Locality.{my_turns, D_after-person}
-use Rattle.law_partitions.proofs.Spare.{Carries, spare-enters}
+use Rattle.law_partitions.proofs.{Owning.Arrivals, Owning.home_next, Second.C_moves-are, Spare.Carries, Spare.spare-enters, Tells.listed-cons}
+use Rattle.law_partitions.specs.Alone.{my_nodes, C_part, D_part, early, after_C, after_D, element_in, passed_here, flight_to, parcel_to}
 
 no_row : (b : Bool) (now : Row) → (if b && false then now ∷ [] else []) ≡ []
 no_row true now = refl

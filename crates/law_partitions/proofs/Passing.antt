@@ -2,29 +2,16 @@
 use Rattle.traffic.proofs.Common.{◌≡◌, ℕ, List, ◌∙◌, length, ap, refl, sym, [], ◌∷◌, arith, ◌<◌, true, ◌+◌, Bool, inl, inr, subst, ◌≤◌, false, suc, eqb, ◌-◌}
 use Rattle.traffic.proofs.Common.{◌⊎◌, length-append, cases_Bool, eqb-true, and_parts, cases_lt, eq-eqb, ne_eqb, true≢false, ltb-true, lt-ltb, leb-true}
 use Rattle.traffic.proofs.Common.{flat_map, list_any, map, filter, Some, not, ◌&&◌, nat_le, Event, world_at, below, person_of, Setup, act_after, listed}
-use Rattle.traffic.specs.declared.world.Place.{Place}
-use Rattle.traffic.specs.declared.world.Place.TheVariants.{At, Teleporting, Waiting, Riding, Aborted}
+use Rattle.traffic.specs.declared.world.Place.{Place, TheVariants.At, TheVariants.Teleporting, TheVariants.Waiting, TheVariants.Riding, TheVariants.Aborted}
 use Rattle.traffic.specs.declared.world.Row.{Row}
 use Rattle.parts.specs.Owners.{Owner, owner_of, begins_in, crosses, leads, owner_of_person, lag, near}
 use Rattle.parts.specs.Parts.{Held, Parcel, Flight, passed, came, rides_in, is_late, has, flies_from, node_phase_moves, out, held, own_events, carries}
-use Rattle.law_partitions.specs.Alone.{goes_out, person_in, flying}
 use Rattle.parts.specs.Core.{Core, advance, Reaches, start}
-use Rattle.law_partitions.specs.Kept.{Kept}
-use Rattle.law_partitions.specs.Whole.{rule}
-use Rattle.law_partitions.specs.Single.{HereAt, PersonInOne}
-use Rattle.law_partitions.proofs.Order.{advance_kept, start_kept}
-use Rattle.law_partitions.proofs.Whole.{right, near-both}
-use Rattle.law_partitions.proofs.Start.{has_start}
-use Rattle.law_partitions.proofs.Single.{Hands, single_next}
-use Rattle.law_partitions.proofs.Lags.{lag-some, near-hop}
-use Rattle.law_partitions.proofs.Ends.{less}
-use Rattle.law_partitions.proofs.Second.{came_in}
-use Rattle.law_partitions.proofs.Joined.{only_all, near-down, near-self}
-use Rattle.law_partitions.proofs.Early.{mid, came_is}
-use Rattle.law_partitions.proofs.Listing.{listed-filter}
-use Rattle.law_partitions.proofs.Home.{Lawful, IsHome, has-is}
-use Rattle.law_partitions.proofs.Owning.{Arrivals, has_next, home_next, came_spare, sent, sent_came}
-use Rattle.law_partitions.proofs.Carried.{by_rows}
+use Rattle.law_partitions.specs.{Alone.goes_out, Alone.person_in, Alone.flying, Kept.Kept, Whole.rule, Single.HereAt, Single.PersonInOne}
+use Rattle.law_partitions.proofs.{Order.advance_kept, Order.start_kept, Whole.right, Whole.near-both, Start.has_start, Single.Hands, Single.single_next}
+use Rattle.law_partitions.proofs.{Lags.lag-some, Lags.near-hop, Ends.less, Second.came_in, Joined.only_all, Joined.near-down, Joined.near-self, Early.mid}
+use Rattle.law_partitions.proofs.{Early.came_is, Listing.listed-filter, Home.Lawful, Home.IsHome, Home.has-is, Owning.Arrivals, Owning.has_next}
+use Rattle.law_partitions.proofs.{Owning.home_next, Owning.came_spare, Owning.sent, Owning.sent_came, Carried.by_rows}
 use Rattle.law_partitions.proofs.Absorbing.{find_lead, parcel_brings, vehicles_bring, rider_in, flight_in, brought}
 use Rattle.law_partitions.proofs.Absorbed.{near_other, fly_way, had_before, found_all, find_long, from}
 use Rattle.law_partitions.proofs.Enders.{or_true, or_either, is_his, HisFlight, from_flights, to_flights, carries_is, parcel_rows, carried_late}

@@ -1,40 +1,24 @@
 -- To which partition a person belongs while a second is done: the phases C and D.
-use Rattle.traffic.proofs.Common.{◌≡◌, ℕ, List, ◌∙◌, length, ap, refl, sym, [], ◌∷◌, arith, true, ◌++◌, ◌+◌, Bool, inl, inr, subst, ◌≤◌, false, suc, eqb}
-use Rattle.traffic.proofs.Common.{zero, ◌-◌, ◌≢◌, ◌⊎◌, cases_Bool, cases_lt, sum_by-cons, flat_map, map, filter, not, if◌then◌else◌, nat_lt, nat_le}
-use Rattle.traffic.proofs.Common.{VehicleId, Dwelling, raised, VEHICLE_COST, link_turns, node_turns, link_moves, rules, link_state, waiting, leave_bay}
-use Rattle.traffic.proofs.Common.{from_queue, from_wait, is_last, may_pass, wait_after, numbers, done, told, person_after, person_after_all, start_act}
-use Rattle.traffic.proofs.Common.{at_after, entered, waiters, World, at, on, Setup, act_at, served_row, served_vehicle, boarding, next_call, alighting}
-use Rattle.traffic.proofs.Common.{left_behind, rider, calls_on, arrives, enters, leaves, starts, serves, strands, driver, of_driver, listed}
-use Rattle.traffic.specs.declared.moves.Move.{Move}
-use Rattle.traffic.specs.declared.moves.Move.TheVariants.{Transfer, SetFrontSince, Credit}
-use Rattle.traffic.specs.declared.moves.Occurrence.{Occurrence}
-use Rattle.traffic.specs.declared.numbers.Rules.{Rules}
-use Rattle.traffic.specs.declared.riders.Rider.{Rider}
-use Rattle.traffic.specs.declared.stage.Stage.{Stage}
+use Rattle.traffic.proofs.Common.{◌≡◌, ℕ, List, ◌∙◌, length, ap, refl, sym, [], ◌∷◌, arith, true, ◌++◌, ◌+◌, Bool, inl, inr, subst, ◌≤◌, false, suc, eqb, zero}
+use Rattle.traffic.proofs.Common.{◌-◌, ◌≢◌, ◌⊎◌, cases_Bool, cases_lt, sum_by-cons, flat_map, map, filter, not, if◌then◌else◌, nat_lt, nat_le, VehicleId}
+use Rattle.traffic.proofs.Common.{Dwelling, raised, VEHICLE_COST, link_turns, node_turns, link_moves, rules, link_state, waiting, leave_bay, from_queue}
+use Rattle.traffic.proofs.Common.{from_wait, is_last, may_pass, wait_after, numbers, done, told, person_after, person_after_all, start_act, at_after, entered}
+use Rattle.traffic.proofs.Common.{waiters, World, at, on, Setup, act_at, served_row, served_vehicle, boarding, next_call, alighting, left_behind, rider}
+use Rattle.traffic.proofs.Common.{calls_on, arrives, enters, leaves, starts, serves, strands, driver, of_driver, listed}
+use Rattle.traffic.proofs.{Each.each_all, Each.each_append, Each.each_filter, Each.each_kept, Each.each_map, Each.each_flat_all, LeftBehind.after-append}
+use Rattle.traffic.proofs.{Moments.Keeps, Moments.along_each, Moments.along_kept, NodeWalk.NodeCases, NodeWalk.node_walk, Sublists.at-done, Waiting.boarded-are}
+use Rattle.traffic.specs.declared.moves.Move.{Move, TheVariants.Transfer, TheVariants.SetFrontSince, TheVariants.Credit, TheVariants.Remove as Quit}
+use Rattle.traffic.specs.declared.{moves.Occurrence.Occurrence, numbers.Rules.Rules, riders.Rider.Rider, stage.Stage.Stage}
 use Rattle.traffic.specs.declared.stage.Stage.TheVariants.{Queue, Buffer, Wait, Bay}
-use Rattle.traffic.specs.declared.world.Person.{Person}
-use Rattle.traffic.specs.declared.world.Place.{Place}
-use Rattle.traffic.specs.declared.world.Place.TheVariants.{At, Teleporting, Waiting, Riding, Aborted}
-use Rattle.traffic.specs.declared.world.Row.{Row}
-use Rattle.traffic.specs.declared.world.Waiter.{Waiter}
+use Rattle.traffic.specs.declared.world.{Person.Person, Place.Place, Place.TheVariants.At, Place.TheVariants.Teleporting, Place.TheVariants.Waiting}
+use Rattle.traffic.specs.declared.world.{Place.TheVariants.Riding, Place.TheVariants.Aborted, Row.Row, Waiter.Waiter}
 use Rattle.std.specs.List.{AllByRecursion as Each}
 use Rattle.events.specs.declared.event.Word.TheVariants as word
-use Rattle.traffic.specs.declared.moves.Move.TheVariants.{Remove as Quit}
-use Rattle.traffic.proofs.Each.{each_all, each_append, each_filter, each_kept, each_map, each_flat_all}
-use Rattle.traffic.proofs.Sublists.{at-done}
-use Rattle.traffic.proofs.Moments.{Keeps, along_each, along_kept}
-use Rattle.traffic.proofs.NodeWalk.{NodeCases, node_walk}
-use Rattle.law_one_place.proofs.Places.{among_riders, rides}
 use Rattle.law_one_place.proofs.Boarding.{one_rider, quiet, in_line, board_few, left_few, left_none, riders_are}
-use Rattle.law_one_place.proofs.Turns.{started}
-use Rattle.traffic.proofs.Waiting.{boarded-are}
-use Rattle.traffic.proofs.LeftBehind.{after-append}
+use Rattle.law_one_place.proofs.{Places.among_riders, Places.rides, Turns.started}
 use Rattle.parts.specs.Owners.{Owner, owner_of}
-use Rattle.law_partitions.proofs.Quiet.{Quiet, person_moves, person_moves-append, quiet_same}
-use Rattle.law_partitions.proofs.Spare.{one-left}
+use Rattle.law_partitions.proofs.{Home.Home, Listing.on_link, Quiet.Quiet, Quiet.person_moves, Quiet.person_moves-append, Quiet.quiet_same, Spare.one-left}
 use Rattle.law_partitions.proofs.Tells.{listed-cons, listed-append, listed-waiting, serves-none, arrives-quiet, bay-quiet, link-quiet}
-use Rattle.law_partitions.proofs.Listing.{on_link}
-use Rattle.law_partitions.proofs.Home.{Home}
 pub use Rattle.law_sound_setups.specs.Alighting.{Alights, AlightAll}
 
 -- these rows stand on link a

@@ -2,31 +2,19 @@
 use Rattle.traffic.proofs.Common.{◌≡◌, ℕ, List, ◌∙◌, length, ap, refl, sym, [], ◌∷◌, arith, ◌<◌, true, ◌++◌, ◌+◌, Bool, inl, inr, false, eqb, ◌-◌, ◌≢◌, drop}
 use Rattle.traffic.proofs.Common.{append-nil, append_assoc, length-append, drop-append_seam, cases_Bool, eq-eqb, true≢false, nat_tests, flat_map-append}
 use Rattle.traffic.proofs.Common.{flat_map, filter, link_turns, moves_of, AreAt, IsAt, rules, link_state, waiting, buffered, LinkState, link_moves, below}
-use Rattle.traffic.proofs.Common.{at_after_all, credit_after_all, hole_after_all, credit_after, hole_after, waiters, World, at, on, holes_at, credit_of}
-use Rattle.traffic.proofs.Common.{Setup, link_row, served_row}
-use Rattle.traffic.specs.declared.moves.Move.{Move}
-use Rattle.traffic.specs.declared.moves.Move.TheVariants.{Transfer, Remove, Credit, LeaveHole}
-use Rattle.traffic.specs.declared.numbers.Rules.{Rules}
-use Rattle.traffic.specs.declared.stage.Stage.{Stage}
-use Rattle.traffic.specs.declared.stage.Stage.TheVariants.{Queue, Bay}
-use Rattle.traffic.specs.declared.world.Row.{Row}
-use Rattle.traffic.specs.declared.world.Waiter.{Waiter}
-use Rattle.std.proofs.Common.{length-drop}
-use Rattle.std.specs.List.{AllByRecursion as Each}
-use Rattle.std.proofs.Math.ListN.{replicate}
-use Rattle.std.proofs.lemmas.List.{replicate-append-replicate}
-use Rattle.traffic.proofs.Links.{link-at}
-use Rattle.traffic.proofs.Each.{each_all, each_flat_all}
-use Rattle.traffic.proofs.LinkEach.{serving_stage, FrontMoves, Have, link_each}
-use Rattle.traffic.proofs.Sublists.{holes-run, credits-run, credit-run}
-use Rattle.traffic.proofs.Turns.{filter_one}
-use Rattle.parts.specs.Owners.{Owner, owner_of, begins_in}
-use Rattle.parts.specs.Parts.{Held, enters_queue, frees, freed}
-use Rattle.law_partitions.specs.Alone.{held_done, held_run, my_links, C_part, D_part}
-use Rattle.law_partitions.proofs.Late.{freed-cons, freed-append, freed_other, link_moves-leaves}
-use Rattle.law_partitions.proofs.Turns.{not_mine}
+use Rattle.traffic.proofs.Common.{at_after_all, credit_after_all, hole_after_all, credit_after, hole_after, waiters, World, at, on, holes_at, credit_of, Setup}
+use Rattle.traffic.proofs.{Common.link_row, Common.served_row, Each.each_all, Each.each_flat_all, LinkEach.serving_stage, LinkEach.FrontMoves, LinkEach.Have}
+use Rattle.traffic.proofs.{LinkEach.link_each, Links.link-at, Sublists.holes-run, Sublists.credits-run, Sublists.credit-run, Turns.filter_one}
+use Rattle.traffic.specs.declared.moves.Move.{Move, TheVariants.Transfer, TheVariants.Remove, TheVariants.Credit, TheVariants.LeaveHole}
+use Rattle.traffic.specs.declared.{numbers.Rules.Rules, stage.Stage.Stage, stage.Stage.TheVariants.Queue, stage.Stage.TheVariants.Bay}
+use Rattle.traffic.specs.declared.world.{Row.Row, Waiter.Waiter}
+use Rattle.std.{proofs.Common.length-drop, proofs.Math.ListN.replicate, proofs.lemmas.List.replicate-append-replicate, specs.List.AllByRecursion as Each}
+use Rattle.parts.specs.{Owners.Owner, Owners.owner_of, Owners.begins_in, Parts.Held, Parts.enters_queue, Parts.frees, Parts.freed}
 use Rattle.law_partitions.proofs.Handed.{AreHanded, entered, enters_put, frees_none, handed-adds, handed-holes}
-use Rattle.law_partitions.proofs.Second.{C_world, D_world, C_moves, D_moves, came_in, went_in, next, D_moves-are, C-handed, C-came, D-list, Short, held_run-list, held_run-credit, held_run-holes, C_mine, C_after, C_after-credit, D_part-moves, D_after, part-handed}
+use Rattle.law_partitions.proofs.Late.{freed-cons, freed-append, freed_other, link_moves-leaves}
+use Rattle.law_partitions.proofs.Second.{C_world, D_world, C_moves, D_moves, came_in, went_in, next, D_moves-are, C-handed, C-came, D-list, Short}
+use Rattle.law_partitions.proofs.Second.{held_run-list, held_run-credit, held_run-holes, C_mine, C_after, C_after-credit, D_part-moves, D_after, part-handed}
+use Rattle.law_partitions.{proofs.Turns.not_mine, specs.Alone.held_done, specs.Alone.held_run, specs.Alone.my_links, specs.Alone.C_part, specs.Alone.D_part}
 
 -- CREDITS
 pub credit-append : (l : ℕ) (ms ns : List Move) (c : ℕ) → credit_after_all l (ms ++ ns) c ≡ credit_after_all l ns (credit_after_all l ms c)

@@ -1,11 +1,9 @@
 -- What moves tell of one person, and what that makes of his row.
-use Rattle.traffic.proofs.Common.{◌≡◌, ℕ, List, ◌∙◌, length, ap, refl, sym, [], ◌∷◌, arith, ◌<◌, ◌++◌, Bool, inl, inr, false, eqb, cases_Bool, flat_map}
-use Rattle.traffic.proofs.Common.{filter, Some, None, Option, run, done, told, person_after_all, told_of, World, person_of, Setup}
-use Rattle.traffic.specs.declared.moves.Move.{Move}
-use Rattle.traffic.specs.declared.moves.Occurrence.{Occurrence}
-use Rattle.traffic.specs.declared.world.Person.{Person}
-use Rattle.std.specs.List.{AllByRecursion as Each}
+use Rattle.traffic.proofs.Common.{◌≡◌, ℕ, List, ◌∙◌, length, ap, refl, sym, [], ◌∷◌, arith, ◌<◌, ◌++◌, Bool, inl, inr, false, eqb, cases_Bool, flat_map, filter}
+use Rattle.traffic.proofs.Common.{Some, None, Option, run, done, told, person_after_all, told_of, World, person_of, Setup}
 use Rattle.traffic.proofs.Sublists.{persons-length, person-done}
+use Rattle.traffic.specs.declared.{moves.Move.Move, moves.Occurrence.Occurrence, world.Person.Person}
+use Rattle.std.specs.List.{AllByRecursion as Each}
 use Rattle.parts.specs.Parts.{Held}
 use Rattle.law_partitions.specs.Alone.{after_told, held_done, held_run}
 

@@ -1,15 +1,11 @@
 -- A row that enters a queue follows from its vehicle and the second.
 use Rattle.traffic.proofs.Common.{◌≡◌, ℕ, [], ◌∷◌, Bool, All-from_recursion, ◌&&◌, All, world_at, through, on, Setup}
-use Rattle.traffic.specs.declared.moves.Move.{Move}
-use Rattle.traffic.specs.declared.stage.Stage.TheVariants.{Queue}
-use Rattle.traffic.specs.declared.world.Row.{Row}
+use Rattle.traffic.proofs.Each.{each_if, each_flat, each_map}
+use Rattle.traffic.specs.declared.{moves.Move.Move, stage.Stage.TheVariants.Queue, world.Row.Row}
 use Rattle.std.specs.List.{AllByRecursion as Each}
 use Rattle.events.specs.declared.event.Phase.TheVariants as phase
-use Rattle.traffic.proofs.Each.{each_if, each_flat, each_map}
-use Rattle.parts.specs.Owners.{Owner, leads}
-use Rattle.parts.specs.Parts.{Passed, passed, entering_row, enters_queue, out}
-use Rattle.law_partitions.proofs.Handed.{Handed, by_pass_node}
-use Rattle.law_partitions.proofs.Second.{C_moves, C-handed}
+use Rattle.parts.specs.{Owners.Owner, Owners.leads, Parts.Passed, Parts.passed, Parts.entering_row, Parts.enters_queue, Parts.out}
+use Rattle.law_partitions.proofs.{Handed.Handed, Handed.by_pass_node, Second.C_moves, Second.C-handed}
 
 -- the row is what its vehicle makes it
 abbrev IsRebuilt : Setup → ℕ → Row → Type 0

@@ -1,13 +1,10 @@
 -- Who rides is on the link of his vehicle.
 use Rattle.traffic.proofs.Common.{◌≡◌, ℕ, List, length, refl, [], ◌∷◌, arith, ◌<◌, inl, inr, subst, ◌≤◌, cases_Bool, lt-ltb, sum_by-cons, VehicleId, world_at}
 use Rattle.traffic.proofs.Common.{same_vehicle, link_of_vehicle, person_of, Setup, listed, IsListed, listed_in, rows_of}
-use Rattle.traffic.specs.declared.world.Place.TheVariants.{Riding}
-use Rattle.traffic.specs.declared.world.Row.{Row}
+use Rattle.traffic.specs.declared.world.{Place.TheVariants.Riding, Row.Row}
 use Rattle.std.proofs.lemmas.Bool.{le-ltb}
-use Rattle.law_one_place.proofs.Places.{listed_part}
-use Rattle.law_one_place.proofs.Turns.{always_kept}
-use Rattle.law_sound_setups.specs.Setups.{IsSoundSetup}
-use Rattle.law_sound_setups.proofs.Vehicles.{vehicle_once}
+use Rattle.law_one_place.proofs.{Places.listed_part, Turns.always_kept}
+use Rattle.law_sound_setups.{proofs.Vehicles.vehicle_once, specs.Setups.IsSoundSetup}
 use Rattle.parts.specs.Owners.{link_of_rider}
 
 no_row : (i : ℕ) (rows : List Row) → length rows ≤ 0 → listed i rows ≡ 0

@@ -4,27 +4,19 @@ use Rattle.traffic.proofs.Common.{◌-◌, drop, append-nil, append_assoc, lengt
 use Rattle.traffic.proofs.Common.{Some, Event, free_seconds, link_turns, moves_of, node_turns, after, turns_of, turns_in, events_in, sees, Untouched, turn_of}
 use Rattle.traffic.proofs.Common.{rules, link_state, LinkState, link_moves, below, numbers, at_after_all, credit_after_all, hole_after_all, NodeView, in_link}
 use Rattle.traffic.proofs.Common.{node_view, node_moves, taken_at, waiter, waiters, World, person_of, at, credit_of, Setup, link_row, seconds_of, storage_of}
-use Rattle.traffic.proofs.Common.{into}
-use Rattle.traffic.specs.declared.moves.Move.{Move}
-use Rattle.traffic.specs.declared.stage.Stage.{Stage}
+use Rattle.traffic.proofs.{Common.into, Each.each_append, Links.link-at, Links.untouched_all, Nodes.node_untouched, Nodes.buffers-credit}
+use Rattle.traffic.proofs.{Sublists.Untouched-append, Sublists.at_after_all-untouched, Sublists.at-run, Turns.moves_of-map, Turns.at_after_all-filter}
+use Rattle.traffic.{proofs.Turns.filter_one, proofs.Waiting.run-length, specs.declared.moves.Move.Move, specs.declared.stage.Stage.Stage}
 use Rattle.traffic.specs.declared.stage.Stage.TheVariants.{Queue, Buffer, Wait, Bay}
-use Rattle.traffic.specs.declared.world.Person.{Person}
-use Rattle.traffic.specs.declared.world.Row.{Row}
+use Rattle.traffic.specs.declared.world.{Person.Person, Row.Row}
 use Rattle.std.proofs.Math.Seq.{take-append_seam}
 use Rattle.events.specs.declared.event.Phase.TheVariants as phase
-use Rattle.traffic.proofs.Sublists.{Untouched-append, at_after_all-untouched, at-run}
-use Rattle.traffic.proofs.Turns.{moves_of-map, at_after_all-filter, filter_one}
-use Rattle.traffic.proofs.Nodes.{node_untouched, buffers-credit}
-use Rattle.traffic.proofs.Each.{each_append}
-use Rattle.traffic.proofs.Links.{link-at, untouched_all}
-use Rattle.traffic.proofs.Waiting.{run-length}
-use Rattle.parts.specs.Owners.{Owner, owner_of, begins_in}
-use Rattle.parts.specs.Parts.{Held, mine, freed}
-use Rattle.law_partitions.specs.Alone.{held_done, held_run, taken_here, in_link_here, see, state_here, waiter_here, waiters_here, my_nodes, my_links, C_part, D_part}
-use Rattle.law_partitions.proofs.Quiet.{Quiet, person_moves, person-run, person-filter, opt_moves, person-held}
-use Rattle.law_partitions.proofs.Turns.{map_mine, not_mine, eqb_turn, phase_events_mine, phase_moves, at-mine}
-use Rattle.law_partitions.proofs.Late.{Late, link_moves_late, link_moves-leaves}
+use Rattle.parts.specs.{Owners.Owner, Owners.owner_of, Owners.begins_in, Parts.Held, Parts.mine, Parts.freed}
 use Rattle.law_partitions.proofs.Handed.{AreHanded, nodes-handed, entered, handed-adds, handed-credit, handed-from, handed-waits, handed-buffers, From-late}
+use Rattle.law_partitions.proofs.{Late.Late, Late.link_moves_late, Late.link_moves-leaves, Quiet.Quiet, Quiet.person_moves, Quiet.person-run}
+use Rattle.law_partitions.proofs.{Quiet.person-filter, Quiet.opt_moves, Quiet.person-held, Turns.map_mine, Turns.not_mine, Turns.eqb_turn}
+use Rattle.law_partitions.{proofs.Turns.phase_events_mine, proofs.Turns.phase_moves, proofs.Turns.at-mine, specs.Alone.held_done}
+use Rattle.law_partitions.specs.Alone.{held_run, taken_here, in_link_here, see, state_here, waiter_here, waiters_here, my_nodes, my_links, C_part, D_part}
 
 -- THE DAY'S PHASES C AND D
 abbrev pub C_world : Setup → ℕ → World → World

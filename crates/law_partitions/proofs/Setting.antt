@@ -1,40 +1,21 @@
 -- What the laws ask of a day follows from what its setup is: sound, and fitting.
 use Rattle.traffic.proofs.Common.{◌≡◌, ℕ, List, ◌∙◌, length, refl, sym, [], ◌∷◌, arith, ◌<◌, true, ◌+◌, Bool, inl, inr, subst, ◌≤◌, ◌-◌, ◌/◌, ◌*◌, cases_Bool}
 use Rattle.traffic.proofs.Common.{All-get_or, flat_map, Event, Act, Leg, below, person_of, at, Setup, act_after, leg_at, act_at, person_plan, seconds_of}
-use Rattle.traffic.specs.declared.stage.Stage.{Stage}
+use Rattle.traffic.{proofs.Each.each_flat, proofs.Each.each_number, specs.declared.stage.Stage.Stage}
 use Rattle.std.specs.List.{AllByRecursion as Each}
 use Rattle.events.specs.declared.event.Phase.TheVariants as phase
 use Rattle.rows.specs.declared.plan.Leg.TheVariants as leg
-use Rattle.law_sound_setups.specs.Setups.{IsSoundSetup}
-use Rattle.law_sound_setups.specs.Consistent.{LeadsFrom, link_of_act, IsConsistentPlan, IsConsistentSetup}
-use Rattle.law_sound_setups.specs.Alighting.{AlightAll}
-use Rattle.law_sound_setups.proofs.Steps.{plan_sound}
-use Rattle.law_sound_setups.proofs.Laws.{day_sound, phases_sound}
-use Rattle.law_sound_setups.proofs.Alighting.{all_alight}
-use Rattle.traffic.proofs.Each.{each_flat, each_number}
-use Rattle.parts.specs.Owners.{Owner, Hop, hop, hop_at, hops, near, lag, crosses}
-use Rattle.parts.specs.Parts.{Held, Parcel, down, held, out, own_events}
-use Rattle.parts.specs.Core.{Core, Allowed, Shows}
-use Rattle.law_partitions.specs.Premises.{LongHops, before_D, Lawful, Arrivals}
-use Rattle.law_partitions.specs.Kept.{MayGoOn}
-use Rattle.law_partitions.specs.Whole.{rule}
-use Rattle.law_partitions.specs.Laws.{IsOwner, HasNeighbours, SecondsAreLocal, ShowsNext, AdvanceInAnyOrder, MakeTheDay, GoesInParts}
-use Rattle.law_partitions.proofs.Start.{starts_whole}
-use Rattle.law_partitions.proofs.Lags.{lag-down, lag-up, lag-hop, lag-some, lag-most, seconds_some}
-use Rattle.law_partitions.proofs.Heard.{known_and}
-use Rattle.law_partitions.proofs.Joined.{near-self}
-use Rattle.law_partitions.proofs.Owning.{listed_before_D}
-use Rattle.law_partitions.proofs.Absorbed.{absorb_is}
-use Rattle.law_partitions.proofs.Locality.{alone_is}
-use Rattle.law_partitions.proofs.Parcels.{parcel_is}
-use Rattle.law_partitions.proofs.Telling.{tells_is}
+use Rattle.law_sound_setups.{proofs.Alighting.all_alight, proofs.Laws.day_sound, proofs.Laws.phases_sound, proofs.Steps.plan_sound, specs.Alighting.AlightAll}
+use Rattle.law_sound_setups.specs.{Consistent.LeadsFrom, Consistent.link_of_act, Consistent.IsConsistentPlan, Consistent.IsConsistentSetup, Setups.IsSoundSetup}
+use Rattle.parts.specs.{Core.Core, Core.Allowed, Core.Shows, Owners.Owner, Owners.Hop, Owners.hop, Owners.hop_at, Owners.hops, Owners.near, Owners.lag}
+use Rattle.parts.specs.{Owners.crosses, Parts.Held, Parts.Parcel, Parts.down, Parts.held, Parts.out, Parts.own_events}
+use Rattle.law_partitions.proofs.{Absorbed.absorb_is, Apart.told_ascends, Apart.told_apart, Enders.ender_at, Enders.shared, Enders.parts_make_the_day as made}
+use Rattle.law_partitions.proofs.{Heard.known_and, Joined.near-self, Lags.lag-down, Lags.lag-up, Lags.lag-hop, Lags.lag-some, Lags.lag-most, Lags.seconds_some}
+use Rattle.law_partitions.proofs.{Locality.alone_is, Owning.listed_before_D, Parcels.parcel_is, Passing.person_in_one, Rebuilt.rebuilt, Riders.rider_link}
+use Rattle.law_partitions.proofs.{Shown.shows_next, Shown.kept_where, Start.starts_whole, Telling.tells_is}
 use Rattle.law_partitions.proofs.Whole.{near-both, near_part, every_interleaving, some_may_advance, all_come_to_the_end}
-use Rattle.law_partitions.proofs.Rebuilt.{rebuilt}
-use Rattle.law_partitions.proofs.Riders.{rider_link}
-use Rattle.law_partitions.proofs.Shown.{shows_next, kept_where}
-use Rattle.law_partitions.proofs.Apart.{told_ascends, told_apart}
-use Rattle.law_partitions.proofs.Enders.{ender_at, shared, parts_make_the_day as made}
-use Rattle.law_partitions.proofs.Passing.{person_in_one}
+use Rattle.law_partitions.specs.{Kept.MayGoOn, Laws.IsOwner, Laws.HasNeighbours, Laws.SecondsAreLocal, Laws.ShowsNext, Laws.AdvanceInAnyOrder, Laws.MakeTheDay}
+use Rattle.law_partitions.specs.{Laws.GoesInParts, Premises.LongHops, Premises.before_D, Premises.Lawful, Premises.Arrivals, Whole.rule}
 
 each_below : {X : Type 0} (P : X → Type 0) (f : ℕ → List X) (n : ℕ) → ((j : ℕ) → j < n → Each P (f j)) → Each P (flat_map f (below n))
 each_below P f n h = each_flat (λ j. j < n) P f h (below n) (each_number n 0 n (omega arith))

@@ -1,14 +1,10 @@
 -- Moves that put nobody's vehicle anywhere, and what lists they leave.
 use Rattle.traffic.proofs.Common.{◌≡◌, ℕ, List, refl, [], ◌∷◌, arith, true, ◌++◌, ◌+◌, Bool, inl, inr, ◌≤◌, false, suc, zero, drop, cases_Bool, sum_by-append}
 use Rattle.traffic.proofs.Common.{sum_by-cons, flat_map, map, filter, ◌&&◌, if◌then◌else◌, waiting, on_front, without_at, at_after_all, at_second, same}
-use Rattle.traffic.proofs.Common.{at_after, on, listed, listed_in}
-use Rattle.traffic.specs.declared.moves.Move.{Move}
-use Rattle.traffic.specs.declared.moves.Move.TheVariants.{Transfer, Remove, Enter, SetFrontSince}
-use Rattle.traffic.specs.declared.stage.Stage.{Stage}
-use Rattle.traffic.specs.declared.stage.Stage.TheVariants.{Queue, Buffer}
-use Rattle.traffic.specs.declared.world.Row.{Row}
+use Rattle.traffic.proofs.{Common.at_after, Common.on, Common.listed, Common.listed_in, Each.each_weaker}
+use Rattle.traffic.specs.declared.moves.Move.{Move, TheVariants.Transfer, TheVariants.Remove, TheVariants.Enter, TheVariants.SetFrontSince}
+use Rattle.traffic.specs.declared.{stage.Stage.Stage, stage.Stage.TheVariants.Queue, stage.Stage.TheVariants.Buffer, world.Row.Row}
 use Rattle.std.specs.List.{AllByRecursion as Each}
-use Rattle.traffic.proofs.Each.{each_weaker}
 use Rattle.law_one_place.proofs.Places.{rides}
 use Rattle.parts.specs.Parts.{enters_queue}
 

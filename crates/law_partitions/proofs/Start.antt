@@ -1,17 +1,13 @@
 -- At the start each part is held as it is.
-use Rattle.traffic.proofs.Common.{◌≡◌, ℕ, List, ◌∙◌, length, ap, refl, sym, [], ◌∷◌, arith, ◌<◌, true, ◌++◌, Bool, inl, inr, false, eqb, ◌-◌, append-nil}
-use Rattle.traffic.proofs.Common.{take, fun_ext, cases_Bool, cases_lt, nat_tests, flat_map, filter, not, ◌&&◌, nat_lt, world_at, person_of, at, holes_at}
-use Rattle.traffic.proofs.Common.{Setup, hole_of}
-use Rattle.traffic.specs.declared.stage.Stage.{Stage}
+use Rattle.traffic.proofs.Common.{◌≡◌, ℕ, List, ◌∙◌, length, ap, refl, sym, [], ◌∷◌, arith, ◌<◌, true, ◌++◌, Bool, inl, inr, false, eqb, ◌-◌, append-nil, take}
+use Rattle.traffic.proofs.Common.{fun_ext, cases_Bool, cases_lt, nat_tests, flat_map, filter, not, ◌&&◌, nat_lt, world_at, person_of, at, holes_at, Setup}
+use Rattle.traffic.{proofs.Common.hole_of, specs.declared.stage.Stage.Stage}
 use Rattle.traffic.specs.declared.stage.Stage.TheVariants.{Queue, Buffer, Wait, Bay}
-use Rattle.traffic.specs.declared.world.Place.{Place}
-use Rattle.traffic.specs.declared.world.Place.TheVariants.{At, Teleporting, Waiting, Riding, Aborted}
+use Rattle.traffic.specs.declared.world.Place.{Place, TheVariants.At, TheVariants.Teleporting, TheVariants.Waiting, TheVariants.Riding, TheVariants.Aborted}
 use Rattle.traffic.specs.declared.world.Row.{Row}
 use Rattle.parts.specs.Owners.{Owner, owner_of, begins_in, owner_of_person, links_of, lag}
 use Rattle.parts.specs.Parts.{came_last, went_last, lasting, up, late_rows, known_list, rides_in, is_late, has, is_person, mine, part, unheard, held}
-use Rattle.law_partitions.proofs.Second.{take_front}
-use Rattle.law_partitions.proofs.Flights.{flights_began}
-use Rattle.law_partitions.proofs.Locality.{same_held}
+use Rattle.law_partitions.proofs.{Flights.flights_began, Locality.same_held, Second.take_front}
 
 late_none : (S : Setup) (own : Owner) (l : ℕ) → late_rows S own (lag S own) 0 l ≡ []
 unfolding came_last

@@ -1,19 +1,12 @@
 -- Whom no partition knows stands still; and a flight that lasts was begun as it is.
 use Rattle.traffic.proofs.Common.{◌≡◌, ℕ, ◌∙◌, length, ap, refl, sym, [], arith, ◌<◌, true, inl, inr, false, suc, eqb, cases_Bool, eqb-true, eq-eqb, flat_map}
 use Rattle.traffic.proofs.Common.{not, world_at, link_turns, node_turns, landing_turns, below, run, landing_moves, leaving_moves, person_of, Setup}
-use Rattle.traffic.proofs.Persons.{landing_moves-of}
+use Rattle.traffic.proofs.{Each.each_flat_all, Persons.landing_moves-of}
 use Rattle.law_one_place.proofs.Turns.{always_kept}
-use Rattle.traffic.proofs.Each.{each_flat_all}
-use Rattle.parts.specs.Owners.{Owner, owner_of, owner_of_person}
-use Rattle.parts.specs.Parts.{is_late, has}
-use Rattle.law_partitions.proofs.Quiet.{IsQuiet, person_moves, person-run, quiet_same}
-use Rattle.law_partitions.proofs.Second.{C_world, C_moves-are, D_moves-are, C-length}
-use Rattle.law_partitions.proofs.Early.{A_world, mid, A_moves-are, world-next}
-use Rattle.law_partitions.proofs.Begins.{of-quiet, own-turn}
-use Rattle.law_partitions.proofs.Ends.{less}
-use Rattle.law_partitions.proofs.Flights.{mid_is, few_mid}
-use Rattle.law_partitions.proofs.Home.{Lawful, has-is}
-use Rattle.law_partitions.proofs.Calms.{node_away, link_away}
+use Rattle.parts.specs.{Owners.Owner, Owners.owner_of, Owners.owner_of_person, Parts.is_late, Parts.has}
+use Rattle.law_partitions.proofs.{Begins.of-quiet, Begins.own-turn, Calms.node_away, Calms.link_away, Early.A_world, Early.mid, Early.A_moves-are}
+use Rattle.law_partitions.proofs.{Early.world-next, Ends.less, Flights.mid_is, Flights.few_mid, Home.Lawful, Home.has-is, Quiet.IsQuiet, Quiet.person_moves}
+use Rattle.law_partitions.proofs.{Quiet.person-run, Quiet.quiet_same, Second.C_world, Second.C_moves-are, Second.D_moves-are, Second.C-length}
 
 -- WHOM NOBODY KNOWS
 -- a person who is late for the partition to which he belongs is known to none

@@ -2,30 +2,20 @@
 use Rattle.traffic.proofs.Common.{◌≡◌, ℕ, List, ◌∙◌, length, ap, refl, sym, [], ◌∷◌, arith, ◌<◌, true, ◌++◌, ◌+◌, Bool, inl, inr, subst, ◌≤◌, false, suc, eqb}
 use Rattle.traffic.proofs.Common.{append-nil, cases_Bool, eqb-true, and_parts, cases_lt, true≢false, leb-true, get_or_past, filter-append, flat_map, map}
 use Rattle.traffic.proofs.Common.{filter, Some, not, ◌&&◌, if◌then◌else◌, nat_le, phase_code, Event, Mode, Phase, world_at, turns_of, turns_in, world_start}
-use Rattle.traffic.proofs.Common.{moves_of, keyed, world_from, events_from, landing_turns, leaving_turns, events_in, told_in, Turn, events_of, event_at}
-use Rattle.traffic.proofs.Common.{below, told, landing_moves, leaving_moves, World, person_of, nobody, Setup, act_after, leg_at}
-use Rattle.traffic.specs.declared.moves.Move.{Move}
-use Rattle.traffic.specs.declared.moves.Occurrence.{Occurrence}
-use Rattle.traffic.specs.declared.world.Person.{Person}
-use Rattle.traffic.specs.declared.world.Place.TheVariants.{At, Teleporting}
+use Rattle.traffic.proofs.Common.{moves_of, keyed, world_from, events_from, landing_turns, leaving_turns, events_in, told_in, Turn, events_of, event_at, below}
+use Rattle.traffic.proofs.Common.{told, landing_moves, leaving_moves, World, person_of, nobody, Setup, act_after, leg_at}
+use Rattle.traffic.{proofs.Phases.phase_at_once, proofs.Waiting.run-length, proofs.Walks.flight_walk, proofs.Walks.leave_walk, specs.declared.moves.Move.Move}
+use Rattle.traffic.specs.declared.{moves.Occurrence.Occurrence, world.Person.Person, world.Place.TheVariants.At, world.Place.TheVariants.Teleporting}
 use Rattle.events.specs.declared.event.Phase.TheVariants as phase
 use Rattle.rows.specs.declared.plan.Leg.TheVariants as leg
-use Rattle.traffic.proofs.Walks.{flight_walk, leave_walk}
-use Rattle.traffic.proofs.Waiting.{run-length}
 use Rattle.law_one_place.proofs.Turns.{always_kept}
 use Rattle.parts.specs.Owners.{Owner, owner_of, owner_of_person, owner_of_turn, owner_of_event, link_at, lag}
 use Rattle.parts.specs.Parts.{Held, mine, is_person, is_late, has, flies_from, own_events, unheard, ready}
-use Rattle.law_partitions.specs.Alone.{acts, first_of, A_part, B1_part, B2_part, C_part, D_part, after_A, early, after_C, tells_alone}
-use Rattle.law_partitions.proofs.Turns.{events_mine, phase_events_mine}
-use Rattle.traffic.proofs.Phases.{phase_at_once}
-use Rattle.law_partitions.proofs.Second.{C_world, Short, C_part-events, D_part-events}
-use Rattle.law_partitions.proofs.Early.{A_world, B1_world, mid}
-use Rattle.law_partitions.proofs.Lags.{lag-some, lag-hop}
 use Rattle.law_partitions.proofs.Begins.{Ready, Calm, person1, turns-agree}
-use Rattle.law_partitions.proofs.Heard.{late_of, heard, within}
-use Rattle.law_partitions.proofs.Ends.{less, sh}
-use Rattle.law_partitions.proofs.Home.{Lawful, has-is, B1_plan, home0}
-use Rattle.law_partitions.proofs.Calms.{calm}
+use Rattle.law_partitions.proofs.{Calms.calm, Early.A_world, Early.B1_world, Early.mid, Ends.less, Ends.sh, Heard.late_of, Heard.heard, Heard.within}
+use Rattle.law_partitions.proofs.{Home.Lawful, Home.has-is, Home.B1_plan, Home.home0, Lags.lag-some, Lags.lag-hop, Second.C_world, Second.Short}
+use Rattle.law_partitions.proofs.{Second.C_part-events, Second.D_part-events, Turns.events_mine, Turns.phase_events_mine}
+use Rattle.law_partitions.specs.Alone.{acts, first_of, A_part, B1_part, B2_part, C_part, D_part, after_A, early, after_C, tells_alone}
 
 -- WHO IS LATE DOES NOTHING
 pub landing_off : (S : Setup) (t i : ℕ) (P : Person) → ((start : ℕ) → P.place ≡ Teleporting start → ⊥) → landing_moves S t i P ≡ []

@@ -2,27 +2,16 @@
 use Rattle.traffic.proofs.Common.{◌≡◌, ℕ, List, ◌∙◌, ap, refl, [], ◌∷◌, arith, true, Bool, eqb, flat_map, map, Dwelling, node_turns, link_moves, buffered}
 use Rattle.traffic.proofs.Common.{LinkState, leave_bay, done, person_after, person_after_all, entered, World, at, Setup, link_row, served_row, served_vehicle}
 use Rattle.traffic.proofs.Common.{boarding, next_call, alighting, rider, arrives, enters, leaves, serves, driver, of_driver, listed}
-use Rattle.traffic.specs.declared.moves.Move.{Move}
-use Rattle.traffic.specs.declared.moves.Move.TheVariants.{Transfer, Remove, SetFrontSince}
-use Rattle.traffic.specs.declared.numbers.Rules.{Rules}
-use Rattle.traffic.specs.declared.stage.Stage.TheVariants.{Buffer}
-use Rattle.traffic.specs.declared.world.Person.{Person}
-use Rattle.traffic.specs.declared.world.Row.{Row}
-use Rattle.traffic.specs.declared.world.Waiter.{Waiter}
+use Rattle.traffic.proofs.{Each.each_all, Each.each_weaker, LeftBehind.after-append, LinkEach.FrontMoves, LinkEach.Have, LinkEach.bay_each, LinkEach.link_each}
+use Rattle.traffic.proofs.Moments.{Keeps, along_each, along_kept}
+use Rattle.traffic.proofs.{NodeWalk.IsFront, NodeWalk.NodeCases, NodeWalk.node_walk, Sublists.at-done, Waiting.boarded-are}
+use Rattle.traffic.specs.declared.moves.Move.{Move, TheVariants.Transfer, TheVariants.Remove, TheVariants.SetFrontSince}
+use Rattle.traffic.specs.declared.{numbers.Rules.Rules, stage.Stage.TheVariants.Buffer, world.Person.Person, world.Row.Row, world.Waiter.Waiter}
 use Rattle.std.specs.List.{AllByRecursion as Each}
 use Rattle.events.specs.declared.event.Word.TheVariants as word
-use Rattle.traffic.proofs.Each.{each_all, each_weaker}
-use Rattle.traffic.proofs.Sublists.{at-done}
-use Rattle.traffic.proofs.Waiting.{boarded-are}
-use Rattle.traffic.proofs.LinkEach.{FrontMoves, Have, bay_each, link_each}
-use Rattle.traffic.proofs.LeftBehind.{after-append}
-use Rattle.traffic.proofs.Moments.{Keeps, along_each, along_kept}
-use Rattle.traffic.proofs.NodeWalk.{IsFront, NodeCases, node_walk}
-use Rattle.law_one_place.proofs.Places.{rides}
 use Rattle.law_one_place.proofs.Boarding.{quiet, leaves_told, enters_told, strands_told, in_line, board_few, left_few, as_riders, riders_are, served_are}
-use Rattle.law_one_place.proofs.Turns.{told_front, told_end}
-use Rattle.law_partitions.proofs.Quiet.{IsQuiet, Quiet}
-use Rattle.law_partitions.proofs.Spare.{Carries, Spare, spare-brings, one-left}
+use Rattle.law_one_place.proofs.{Places.rides, Turns.told_front, Turns.told_end}
+use Rattle.law_partitions.proofs.{Quiet.IsQuiet, Quiet.Quiet, Spare.Carries, Spare.Spare, Spare.spare-brings, Spare.one-left}
 pub use Rattle.law_partitions.proofs.Spare.{listed-cons, listed-append, listed-waiting}
 
 -- nothing is told of him, and his vehicle comes nowhere

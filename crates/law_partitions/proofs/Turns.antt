@@ -1,13 +1,9 @@
 -- Turns that are mine: their events, and lists and credits that they alone change.
-use Rattle.traffic.proofs.Common.{◌≡◌, ℕ, List, ◌∙◌, ap, refl, sym, [], ◌∷◌, arith, true, ◌++◌, ◌+◌, Bool, inl, inr, false, eqb, cases_Bool, ne_eqb}
-use Rattle.traffic.proofs.Common.{true≢false, nat_tests, filter-append, flat_map, map, filter, phase_code, Event, Phase, turns_of, turns_in, moves_of, keyed}
-use Rattle.traffic.proofs.Common.{after, count_of, events_in, Turn, events_of, TurnMoves, event_at, Untouched, turn_of, below, told, at_after_all, World, at}
-use Rattle.traffic.proofs.Common.{Setup}
-use Rattle.traffic.specs.declared.moves.Occurrence.{Occurrence}
-use Rattle.traffic.specs.declared.stage.Stage.{Stage}
-use Rattle.traffic.proofs.Sublists.{at-run}
-use Rattle.traffic.proofs.Turns.{moves_of-map, at_after_all-filter}
-use Rattle.traffic.proofs.Phases.{phase_at_once}
+use Rattle.traffic.proofs.Common.{◌≡◌, ℕ, List, ◌∙◌, ap, refl, sym, [], ◌∷◌, arith, true, ◌++◌, ◌+◌, Bool, inl, inr, false, eqb, cases_Bool, ne_eqb, true≢false}
+use Rattle.traffic.proofs.Common.{nat_tests, filter-append, flat_map, map, filter, phase_code, Event, Phase, turns_of, turns_in, moves_of, keyed, after}
+use Rattle.traffic.proofs.Common.{count_of, events_in, Turn, events_of, TurnMoves, event_at, Untouched, turn_of, below, told, at_after_all, World, at, Setup}
+use Rattle.traffic.proofs.{Phases.phase_at_once, Sublists.at-run, Turns.moves_of-map, Turns.at_after_all-filter}
+use Rattle.traffic.specs.declared.{moves.Occurrence.Occurrence, stage.Stage.Stage}
 
 pub map_mine : (f g : ℕ → Turn) (mine : ℕ → Bool) → ((n : ℕ) → mine n ≡ true → f n ≡ g n) → (ns : List ℕ) → map f (filter mine ns) ≡ map g (filter mine ns)
 map_mine f g mine h [] = refl

@@ -1,21 +1,11 @@
 -- In every order of allowed events the partitions hold, tell and send what the day says.
 use Rattle.traffic.proofs.Common.{◌≡◌, ℕ, List, ◌∙◌, length, ap, refl, sym, [], ◌∷◌, arith, ◌<◌, true, ◌++◌, ◌+◌, Bool, inl, inr, subst, false, suc, eqb, ◌⊎◌}
 use Rattle.traffic.proofs.Common.{◌*◌, cases_Bool, eqb-true, and_parts, eq-eqb, true≢false, list_any, not, ◌&&◌, ◌||◌, Event, events_from, Setup, link_row}
-use Rattle.parts.specs.Owners.{Owner, owner_of, begins_in, leads, links_of, Hop, hops, hops_over, near}
-use Rattle.parts.specs.Parts.{Held, Parcel, out, own_events, held}
-use Rattle.parts.specs.Core.{Core, Allowed, Reaches, start}
-use Rattle.law_partitions.specs.Alone.{alone, parcel_to, tells_alone}
-use Rattle.law_partitions.specs.Whole.{rule}
-use Rattle.law_partitions.proofs.Turns.{eqb_turn}
-use Rattle.law_partitions.proofs.Lags.{lag-some}
-use Rattle.law_partitions.proofs.Joined.{near-self}
-use Rattle.law_partitions.proofs.Home.{Lawful}
-use Rattle.law_partitions.proofs.Owning.{Arrivals}
-use Rattle.law_partitions.proofs.Locality.{alone_is}
-use Rattle.law_partitions.proofs.Parcels.{parcel_is}
-use Rattle.law_partitions.proofs.Telling.{tells_is}
-use Rattle.law_partitions.proofs.Absorbed.{absorb_is}
-use Rattle.law_partitions.proofs.Order.{Right, Kept, every_order, no_dead_end, all_at_end}
+use Rattle.parts.specs.{Core.Core, Core.Allowed, Core.Reaches, Core.start, Owners.Owner, Owners.owner_of, Owners.begins_in, Owners.leads, Owners.links_of}
+use Rattle.parts.specs.{Owners.Hop, Owners.hops, Owners.hops_over, Owners.near, Parts.Held, Parts.Parcel, Parts.out, Parts.own_events, Parts.held}
+use Rattle.law_partitions.proofs.{Absorbed.absorb_is, Home.Lawful, Joined.near-self, Lags.lag-some, Locality.alone_is, Order.Right, Order.Kept}
+use Rattle.law_partitions.proofs.{Order.every_order, Order.no_dead_end, Order.all_at_end, Owning.Arrivals, Parcels.parcel_is, Telling.tells_is, Turns.eqb_turn}
+use Rattle.law_partitions.specs.{Alone.alone, Alone.parcel_to, Alone.tells_alone, Whole.rule}
 
 -- NEIGHBOURS
 or_comm : (x y : Bool) → (x || y) ≡ (y || x)

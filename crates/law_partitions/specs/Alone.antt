@@ -1,27 +1,15 @@
 -- What a partition does by itself in a second: the same turns as in the day, on what it holds.
-use Rattle.traffic.specs.declared.stage.Stage.{Stage}
-use Rattle.traffic.specs.declared.world.Row.{Row}
-use Rattle.std.specs.Prelude.{ℕ, Bool, ◌++◌, suc, not, ◌&&◌, nat_le, sum_by, replicate, false, ◌+◌, ◌-◌, List, [], ◌∷◌, length, map, filter, ◌==◌, get_or, if◌then◌else◌, Option, None, Some}
-use Rattle.std.specs.List.{flat_map}
-use Rattle.traffic.specs.declared.stage.Stage.TheVariants.{Queue, Buffer, Wait, Bay}
-use Rattle.traffic.specs.declared.node_views.InLink.{InLink}
-use Rattle.traffic.specs.declared.node_views.OutLink.{OutLink}
-use Rattle.traffic.specs.declared.world.Person.{Person}
-use Rattle.traffic.specs.declared.world.Waiter.{Waiter}
-use Rattle.traffic.specs.declared.moves.Move.{Move}
-use Rattle.traffic.specs.declared.moves.Occurrence.{Occurrence}
-use Rattle.traffic.specs.Lists.{below}
-use Rattle.traffic.specs.Setup.{Setup, link_row, seconds_of, storage_of, hole_of, into, departure, act_after}
-use Rattle.traffic.specs.Moves.{told, at_after, credit_after, hole_after, person_after_all}
-use Rattle.traffic.specs.Links.{LinkState, rules, link_moves}
-use Rattle.traffic.specs.Nodes.{NodeView, in_force, node_moves}
+use Rattle.traffic.specs.{Day.Turn, Day.moves_of, Day.events_in, Links.LinkState, Links.rules, Links.link_moves, Lists.below, Moves.told, Moves.at_after}
+use Rattle.traffic.specs.{Moves.credit_after, Moves.hole_after, Moves.person_after_all, Nodes.NodeView, Nodes.in_force, Nodes.node_moves}
 use Rattle.traffic.specs.Persons.{landing_moves, leaving_moves, departure_moves, waiter}
-use Rattle.traffic.specs.Day.{Turn, moves_of, events_in}
-use Rattle.events.specs.declared.event.Event.{Event}
+use Rattle.traffic.specs.Setup.{Setup, link_row, seconds_of, storage_of, hole_of, into, departure, act_after}
+use Rattle.traffic.specs.declared.{moves.Move.Move, moves.Occurrence.Occurrence, node_views.InLink.InLink, node_views.OutLink.OutLink, riders.Rider.Rider}
+use Rattle.traffic.specs.declared.stage.Stage.{Stage, TheVariants.Queue, TheVariants.Buffer, TheVariants.Wait, TheVariants.Bay}
+use Rattle.traffic.specs.declared.world.{Person.Person, Place.Place, Row.Row, Waiter.Waiter}
+use Rattle.std.specs.{List.flat_map, Prelude.ℕ, Prelude.Bool, Prelude.◌++◌, Prelude.suc, Prelude.not, Prelude.◌&&◌}
+use Rattle.std.specs.Prelude.{nat_le, sum_by, replicate, false, ◌+◌, ◌-◌, List, [], ◌∷◌, length, map, filter, ◌==◌, get_or, if◌then◌else◌, Option, None, Some}
+use Rattle.events.specs.declared.event.{Event.Event, VehicleId.VehicleId}
 use Rattle.events.specs.declared.event.Phase.TheVariants as phase
-use Rattle.events.specs.declared.event.VehicleId.{VehicleId}
-use Rattle.traffic.specs.declared.riders.Rider.{Rider}
-use Rattle.traffic.specs.declared.world.Place.{Place}
 use Rattle.traffic.specs.declared.world.Place.TheVariants as place
 use Rattle.parts.specs.Owners.{Owner, owner_of, begins_in, leads, links_of, near, lag}
 use Rattle.parts.specs.Parts.{Held, Passed, Flight, Freed, is_some_freed, Parcel, enters_queue, frees, freed, lasting, is_person, rides_in, flight_at, out}

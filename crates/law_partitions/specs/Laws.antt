@@ -1,26 +1,16 @@
 -- The laws of a day in parts.
 use Rattle.std.specs.Prelude.{◌≡◌, ℕ, suc, ◌*◌, ◌<◌, ◌≤◌, Bool, true, false, List, ◌++◌, length, map, All, ◌==◌}
 use Rattle.std.specs.List.{Contains}
-use Rattle.events.specs.declared.event.Event.{Event}
-use Rattle.events.specs.declared.event.Mode.{Mode}
-use Rattle.events.specs.declared.event.VehicleId.{VehicleId}
-use Rattle.traffic.specs.declared.stage.Stage.TheVariants.{Queue}
-use Rattle.traffic.specs.declared.world.Place.TheVariants.{Riding}
-use Rattle.rows.specs.declared.plan.Leg.TheVariants as leg
-use Rattle.traffic.specs.Lists.{below}
+use Rattle.events.specs.declared.event.{Event.Event, Mode.Mode, VehicleId.VehicleId}
+use Rattle.traffic.specs.{Day.world_at, Day.day as events_of_day, Frames.Ascends, Lists.below, Persons.link_of_vehicle, Rows.at, Rows.person_of}
 use Rattle.traffic.specs.Setup.{Setup, act_at, act_after, leg_at, seconds_of, hole_of}
-use Rattle.traffic.specs.Rows.{at, person_of}
-use Rattle.traffic.specs.Persons.{link_of_vehicle}
-use Rattle.traffic.specs.Day.{world_at, day as events_of_day}
-use Rattle.traffic.specs.Frames.{Ascends}
+use Rattle.traffic.specs.declared.{stage.Stage.TheVariants.Queue, world.Place.TheVariants.Riding}
+use Rattle.rows.specs.declared.plan.Leg.TheVariants as leg
+use Rattle.parts.specs.{Core.Core, Core.Allowed, Core.Reaches, Core.Shows, Core.advance, Merge.Merges}
 use Rattle.parts.specs.Owners.{Owner, owner_of, begins_in, crosses, link_of_rider, near, longest_lag, lag}
 use Rattle.parts.specs.Parts.{Held, Passed, Parcel, entering_row, known_list, late_rows, part, held, ready, out, own_events, ends_with}
-use Rattle.parts.specs.Core.{Core, Allowed, Reaches, Shows, advance}
-use Rattle.parts.specs.Merge.{Merges}
 use Rattle.law_partitions.specs.Alone.{absorb, given, alone, parcel_to, tells_alone}
-use Rattle.law_partitions.specs.Kept.{Kept, KeptWhere, MayGoOn}
-use Rattle.law_partitions.specs.Single.{PersonInOne}
-use Rattle.law_partitions.specs.Whole.{rule, start_of, all_told}
+use Rattle.law_partitions.specs.{Kept.Kept, Kept.KeptWhere, Kept.MayGoOn, Single.PersonInOne, Whole.rule, Whole.start_of, Whole.all_told}
 
 -- every node belongs to one of so many partitions
 abbrev pub IsOwner : Owner → ℕ → Type 0

@@ -2,12 +2,9 @@
 use Rattle.std.specs.Prelude.{◌≡◌, ℕ, ◌+◌, ◌/◌, ◌<◌, ◌≤◌, List, [], ◌∷◌, length, get_or}
 use Rattle.std.specs.List.{AllByRecursion as Each}
 use Rattle.events.specs.declared.event.Phase.TheVariants as phase
-use Rattle.traffic.specs.declared.stage.Stage.{Stage}
-use Rattle.traffic.specs.Rows.{World, at, person_of}
+use Rattle.traffic.specs.{Day.through, Day.world_at, Rows.World, Rows.at, Rows.person_of, Setup.Setup, Setup.person_plan, Setup.act_at, Setup.leg_at}
+use Rattle.traffic.specs.{Setup.link_of_stop, Worlds.Sound, declared.stage.Stage.Stage}
 use Rattle.rows.specs.declared.plan.Leg.TheVariants as leg
-use Rattle.traffic.specs.Setup.{Setup, person_plan, act_at, leg_at, link_of_stop}
-use Rattle.traffic.specs.Day.{through, world_at}
-use Rattle.traffic.specs.Worlds.{Sound}
 use Rattle.law_sound_setups.specs.Alighting.{AlightAll}
 use Rattle.parts.specs.Owners.{Hop, hops}
 

@@ -2,9 +2,8 @@
 use Rattle.std.specs.Prelude.{ℕ, List, ◌++◌}
 use Rattle.events.specs.declared.event.Event.{Event}
 use Rattle.traffic.specs.Setup.{Setup}
-use Rattle.parts.specs.Owners.{Owner, near, lag}
+use Rattle.parts.specs.{Core.Core, Core.Rule, Core.start, Owners.Owner, Owners.near, Owners.lag}
 use Rattle.parts.specs.Parts.{Held, Parcel, held, own_events, own_end_events}
-use Rattle.parts.specs.Core.{Core, Rule, start}
 use Rattle.law_partitions.specs.Alone.{absorb, alone, parcel_to, tells_alone}
 
 -- in its second a partition absorbs, does the second alone, sends, and tells

@@ -7,8 +7,7 @@
 
 ghost use Rattle.std.specs.Prelude.{ℕ};
 ghost use Rattle.traffic.specs.Setup.{Setup};
-ghost use Rattle.law_sound_setups.specs.Setups.{IsSoundSetup};
-ghost use Rattle.law_sound_setups.specs.Consistent.{IsConsistentSetup};
+ghost use Rattle.law_sound_setups.specs.{Consistent.IsConsistentSetup, Setups.IsSoundSetup};
 ghost use Rattle.parts.specs.Owners.{Owner};
 ghost use Rattle.law_partitions.specs.Laws.{IsOwner, HasNeighbours, SecondsAreLocal, AdvanceInAnyOrder, MakeTheDay};
 

@@ -1,26 +1,15 @@
 -- The days of towns go in parts.
-use Rattle.traffic.proofs.Common.{ℕ, List, All, PlanRows}
-use Rattle.town.specs.Rows.{TownRows, IsTown}
-use Rattle.town.specs.Setups.{setup_of}
-use Rattle.town.specs.Views.{setup, ChosenFit}
-use Rattle.town.specs.declared.day_input.DayInput.{DayInput}
-use Rattle.law_in_range.specs.Rows.{IsFitWorld}
-use Rattle.law_in_range.specs.Setups.{IsPlanIn, counts_in}
-use Rattle.law_in_range.proofs.Towns.{town_fit}
+use Rattle.traffic.proofs.Common.{ℕ, List, All, PlanRows, map, below}
+use Rattle.town.specs.{Rows.TownRows, Rows.IsTown, Setups.setup_of, Views.setup, Views.ChosenFit, declared.day_input.DayInput.DayInput}
+use Rattle.law_in_range.{proofs.Towns.town_fit, specs.Rows.IsFitWorld, specs.Setups.IsPlanIn, specs.Setups.counts_in}
 use Rattle.law_matches_plans.proofs.Towns.{rows_sound, rows_consistent, town_sound, town_consistent}
 use Rattle.parts.specs.Owners.{Owner}
-use Rattle.law_partitions.specs.Laws.{IsOwner, GoesInParts}
 use Rattle.law_partitions.proofs.Setting.{lawful, are_local, goes_in_parts}
+use Rattle.law_partitions.specs.{Laws.IsOwner, Laws.GoesInParts, Whole.all_told}
+use Rattle.law_own_worlds.proofs.{Days.own_second, Days.follows, Fitting.ready_fit, Standing.stands}
 use Rattle.law_own_worlds.specs.Days.{FollowsTheDay, StandsAsInTheDay, world_before}
-use Rattle.law_own_worlds.proofs.Days.{own_second, follows}
-use Rattle.law_own_worlds.proofs.Fitting.{ready_fit}
-use Rattle.law_own_worlds.proofs.Standing.{stands}
-use Rattle.law_partitions.specs.Whole.{all_told}
-use Rattle.traffic.proofs.Common.{map, below}
-use Rattle.event_merge.specs.Lists.{CanMerge}
-use Rattle.event_merge.proofs.Told.{parts_can_merge}
-use Rattle.partition.specs.declared.owner.Owner.{Owner as OwnerOfNodes}
-use Rattle.partition.specs.Owned.{owner_in}
+use Rattle.event_merge.{proofs.Told.parts_can_merge, specs.Lists.CanMerge}
+use Rattle.partition.specs.{Owned.owner_in, declared.owner.Owner.Owner as OwnerOfNodes}
 
 pub rows_go : (T : TownRows) (chosen : List PlanRows) (k : ℕ) (own : Owner) (parts : ℕ) → IsTown T → All (IsPlanIn T) chosen → IsOwner own parts → GoesInParts (setup_of T chosen k) own parts
 rows_go T chosen k own parts town h shares = goes_in_parts (setup_of T chosen k) (rows_sound T chosen k town h) (rows_consistent T chosen k town h) own parts shares

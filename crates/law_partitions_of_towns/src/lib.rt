@@ -5,19 +5,14 @@
 ghost use Rattle.std.specs.Prelude.{◌≡◌, ℕ, true, List, All, map};
 ghost use Rattle.rows.specs.PlanRows.{PlanRows};
 ghost use Rattle.town.specs.Rows.{TownRows, IsTown};
-ghost use Rattle.town.specs.Setups.{setup_of};
-ghost use Rattle.town.specs.Views.{setup, ChosenFit};
-ghost use Rattle.town.specs.declared.day_input.DayInput.{DayInput};
-ghost use Rattle.law_in_range.specs.Rows.{IsFitWorld};
-ghost use Rattle.law_in_range.specs.Setups.{IsPlanIn, counts_in};
+ghost use Rattle.town.specs.{Setups.setup_of, Views.setup, Views.ChosenFit, declared.day_input.DayInput.DayInput};
+ghost use Rattle.law_in_range.specs.{Rows.IsFitWorld, Setups.IsPlanIn, Setups.counts_in};
 ghost use Rattle.parts.specs.Owners.{Owner};
 ghost use Rattle.traffic.specs.Lists.{below};
-ghost use Rattle.law_partitions.specs.Laws.{IsOwner, GoesInParts};
-ghost use Rattle.law_partitions.specs.Whole.{all_told};
+ghost use Rattle.law_partitions.specs.{Laws.IsOwner, Laws.GoesInParts, Whole.all_told};
 ghost use Rattle.law_own_worlds.specs.Days.{FollowsTheDay, StandsAsInTheDay, world_before};
 ghost use Rattle.event_merge.specs.Lists.{CanMerge};
-ghost use Rattle.partition.specs.declared.owner.Owner.{Owner as OwnerOfNodes};
-ghost use Rattle.partition.specs.Owned.{owner_in};
+ghost use Rattle.partition.specs.{Owned.owner_in, declared.owner.Owner.Owner as OwnerOfNodes};
 
 /// The day of a town in parts: a partition's second is that of the day there; in whatever order the lags
 /// allow partitions advance, each holds, has told and has sent what the day says, and each person is in

@@ -1,13 +1,12 @@
 -- Which nodes are woken once links have had their turns, and once places came free.
-use Rattle.traffic.proofs.Common.{◌≡◌, ◌≢◌, ℕ, suc, ◌+◌, ◌<◌, true, false, List, [], ◌∷◌, ◌∙◌, ap, refl, sym, arith, inl, inr, cases_Bool, true≢false}
-use Rattle.traffic.proofs.Common.{eqb, eqb-true, eqb-false, eq-eqb, ne_eqb, length, length-set, get_or-set_same, get_or-set_other, set, lt-ltb, nat_lt, Option, None, Some, Setup, link_row}
-use Rattle.traffic.specs.declared.world.Row.{Row}
+use Rattle.traffic.proofs.Common.{◌≡◌, ◌≢◌, ℕ, suc, ◌+◌, ◌<◌, true, false, List, [], ◌∷◌, ◌∙◌, ap, refl, sym, arith, inl, inr, cases_Bool, true≢false, eqb}
+use Rattle.traffic.proofs.Common.{eqb-true, eqb-false, eq-eqb, ne_eqb, length, length-set, get_or-set_same, get_or-set_other, set, lt-ltb, nat_lt, Option, None}
+use Rattle.traffic.{proofs.Common.Some, proofs.Common.Setup, proofs.Common.link_row, specs.declared.world.Row.Row}
 use Rattle.calendar.specs.Waking.{wake_of}
 use Rattle.parts.specs.Owners.{Owner, begins_in}
 use Rattle.queue_link.specs.Links.{LinkView}
 use Rattle.node_seconds.specs.Networks.{lane, is_among}
-use Rattle.part_places.specs.Taking.{times, begins_here}
-use Rattle.part_places.proofs.Counting.{one, count_cons}
+use Rattle.part_places.{proofs.Counting.one, proofs.Counting.count_cons, specs.Taking.times, specs.Taking.begins_here}
 use Rattle.law_parts_of_days.specs.Settling.{link_at, buffered_in, wake_end, wake_ends, is_own_start, wake_start, wake_starts}
 
 -- AT THE ENDS OF LINKS

@@ -1,9 +1,6 @@
 -- The first world of a day, and how many nodes, links and stops its setup has.
-use Rattle.traffic.proofs.Common.{◌≡◌, refl}
-use Rattle.traffic.proofs.Common.{length, Setup, world_start, world_from, world_at}
-use Rattle.town.specs.declared.day_input.DayInput.{DayInput}
-use Rattle.town.specs.Setups.{setup_of}
-use Rattle.town.specs.Views.{setup}
+use Rattle.traffic.proofs.Common.{◌≡◌, refl, length, Setup, world_start, world_from, world_at}
+use Rattle.town.specs.{Setups.setup_of, Views.setup, declared.day_input.DayInput.DayInput}
 
 -- the day begins with its first world
 pub begins_with : (S : Setup) → world_start S ≡ world_at S 0

@@ -1,16 +1,9 @@
 -- The persons of a part hear what the turns of others tell.
 use Rattle.traffic.proofs.Common.{◌≡◌, ℕ, List, [], ◌∙◌, ap, sym, length, flat_map, World, told, run, persons_after}
-use Rattle.traffic.specs.declared.moves.Move.{Move}
-use Rattle.traffic.specs.declared.moves.Occurrence.{Occurrence}
-use Rattle.traffic.specs.declared.world.Person.{Person}
-use Rattle.law_in_range.specs.Rows.{IsFitWorld}
-use Rattle.law_in_range.specs.Setups.{counts_in}
-use Rattle.town.specs.declared.day_input.DayInput.{DayInput}
-use Rattle.town.specs.Views.{setup}
-use Rattle.part_persons.specs.declared.persons.Persons.{Persons}
-use Rattle.part_persons.specs.Dues.{AreFollowedIn}
-use Rattle.part_persons.proofs.Joining.{fit_as}
-use Rattle.part_persons.proofs.Told.{run_persons}
+use Rattle.traffic.specs.declared.{moves.Move.Move, moves.Occurrence.Occurrence, world.Person.Person}
+use Rattle.law_in_range.specs.{Rows.IsFitWorld, Setups.counts_in}
+use Rattle.town.specs.{Views.setup, declared.day_input.DayInput.DayInput}
+use Rattle.part_persons.{proofs.Joining.fit_as, proofs.Told.run_persons, specs.Dues.AreFollowedIn, specs.declared.persons.Persons.Persons}
 use Rattle.law_parts_of_days.specs.Persons.{PersonsStand}
 
 -- once they heard what moves of a second told, they stand for the world after these moves

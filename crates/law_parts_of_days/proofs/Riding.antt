@@ -1,12 +1,8 @@
 -- The table of the links on which persons ride, and who is stuck by it when a day ends.
-use Rattle.traffic.proofs.Common.{◌≡◌, ℕ, List, [], ◌∷◌, ◌∙◌, ap, refl}
-use Rattle.traffic.proofs.Common.{length, length-set, set, VehicleId, World, Setup, link_of_vehicle, Mode, Act, stuck_at}
-use Rattle.traffic.specs.declared.riders.Rider.{Rider}
-use Rattle.traffic.specs.declared.world.Place.{Place}
-use Rattle.traffic.specs.declared.world.Place.TheVariants.{At, Teleporting, Waiting, Riding, Aborted}
-use Rattle.traffic.specs.declared.world.Row.{Row}
+use Rattle.traffic.proofs.Common.{◌≡◌, ℕ, List, [], ◌∷◌, ◌∙◌, ap, refl, length, length-set, set, VehicleId, World, Setup, link_of_vehicle, Mode, Act, stuck_at}
+use Rattle.traffic.specs.{Persons.stuck_on, declared.riders.Rider.Rider, declared.world.Place.Place, declared.world.Place.TheVariants.At}
+use Rattle.traffic.specs.declared.world.{Place.TheVariants.Teleporting, Place.TheVariants.Waiting, Place.TheVariants.Riding, Place.TheVariants.Aborted, Row.Row}
 use Rattle.law_parts_of_days.specs.Riding.{put_riders, put_rows}
-use Rattle.traffic.specs.Persons.{stuck_on}
 
 -- THE TABLE
 pub riders_length : (l : ℕ) (rs : List Rider) (table : List ℕ) → length (put_riders l rs table) ≡ length table

@@ -1,23 +1,16 @@
 -- The partition that has the whole network holds the day's worlds, and its seconds alone are those of the day.
-use Rattle.traffic.proofs.Common.{◌≡◌, ◌∙◌, ◌++◌, ◌-◌, ◌&&◌, ◌+◌, ℕ, zero, suc, Bool, true, false, not, List, [], ◌∷◌, length, refl, ap, sym, arith, append-nil, inl, inr, cases_Bool}
-use Rattle.traffic.proofs.Common.{take, filter, flat_map, fun_ext, Setup, hole_of, world_at, world_start, at, holes_at, person_of}
-use Rattle.std.specs.Prelude.{◌==◌, ◌||◌, if◌then◌else◌}
-use Rattle.std.proofs.lemmas.List.{append_cancel_left}
+use Rattle.traffic.proofs.Common.{◌≡◌, ◌∙◌, ◌++◌, ◌-◌, ◌&&◌, ◌+◌, ℕ, zero, suc, Bool, true, false, not, List, [], ◌∷◌, length, refl, ap, sym, arith, append-nil}
+use Rattle.traffic.proofs.Common.{inl, inr, cases_Bool, take, filter, flat_map, fun_ext, Setup, hole_of, world_at, world_start, at, holes_at, person_of}
+use Rattle.traffic.specs.declared.stage.Stage.{Stage, TheVariants.Queue, TheVariants.Buffer, TheVariants.Wait, TheVariants.Bay}
+use Rattle.traffic.specs.declared.world.Place.{Place, TheVariants.At, TheVariants.Teleporting, TheVariants.Waiting, TheVariants.Riding, TheVariants.Aborted}
+use Rattle.traffic.specs.{declared.world.Row.Row, Day.events_from, Day.second_events}
+use Rattle.std.{proofs.lemmas.List.append_cancel_left, specs.Prelude.◌==◌, specs.Prelude.◌||◌, specs.Prelude.if◌then◌else◌}
 use Rattle.events.specs.declared.event.Event.{Event}
-use Rattle.traffic.specs.declared.stage.Stage.{Stage}
-use Rattle.traffic.specs.declared.stage.Stage.TheVariants.{Queue, Buffer, Wait, Bay}
-use Rattle.traffic.specs.declared.world.Place.{Place}
-use Rattle.traffic.specs.declared.world.Place.TheVariants.{At, Teleporting, Waiting, Riding, Aborted}
-use Rattle.traffic.specs.declared.world.Row.{Row}
-use Rattle.traffic.specs.Day.{events_from, second_events}
 use Rattle.parts.specs.Owners.{owner_of, owner_of_person, owner_of_event, links_of, near}
 use Rattle.parts.specs.Parts.{came_last, went_last, lasting, late_rows, known_list, rides_in, is_late, is_person, mine, part, unheard, ready, own_events}
-use Rattle.law_sound_setups.specs.Setups.{IsSoundSetup}
-use Rattle.law_sound_setups.specs.Consistent.{IsConsistentSetup}
+use Rattle.law_sound_setups.specs.{Consistent.IsConsistentSetup, Setups.IsSoundSetup}
+use Rattle.law_partitions.proofs.{Locality.same_held, Second.take_front, Setting.are_local, Setting.has_neighbours}
 use Rattle.law_partitions.specs.Alone.{alone, tells_alone}
-use Rattle.law_partitions.proofs.Second.{take_front}
-use Rattle.law_partitions.proofs.Locality.{same_held}
-use Rattle.law_partitions.proofs.Setting.{are_local, has_neighbours}
 use Rattle.law_parts_of_days.specs.Sole.{sole_owner}
 
 -- WHAT IT HOLDS

@@ -1,16 +1,11 @@
 -- The places of links over the phases of a second.
-use Rattle.traffic.proofs.Common.{◌≡◌, ℕ, zero, suc, ◌+◌, ◌-◌, ◌<◌, Bool, List, ◌++◌, ◌∙◌, ap, refl, sym, arith, inl}
-use Rattle.traffic.proofs.Common.{lt-ltb, length, filter, replicate, nat_lt, Option, Some, None, length-append, filter-append}
-use Rattle.traffic.proofs.Common.{World, Setup, link_row, at, holes_at, in_force, hole_of, hole_seconds, turns_in, turns_of, after, node_turns}
+use Rattle.traffic.proofs.Common.{◌≡◌, ℕ, zero, suc, ◌+◌, ◌-◌, ◌<◌, Bool, List, ◌++◌, ◌∙◌, ap, refl, sym, arith, inl, lt-ltb, length, filter, replicate, nat_lt}
+use Rattle.traffic.proofs.Common.{Option, Some, None, length-append, filter-append, World, Setup, link_row, at, holes_at, in_force, hole_of, hole_seconds}
+use Rattle.traffic.proofs.{Common.turns_in, Common.turns_of, Common.after, Common.node_turns, Nodes.node-buffers, Nodes.buffers-holes, Sublists.holes-run}
+use Rattle.traffic.{proofs.Walks.phase_keeps, specs.declared.node_views.OutLink.OutLink, specs.declared.stage.Stage.TheVariants.Queue}
 use Rattle.events.specs.declared.event.Phase.TheVariants as phase
-use Rattle.traffic.specs.declared.node_views.OutLink.{OutLink}
-use Rattle.traffic.specs.declared.stage.Stage.TheVariants.{Queue}
-use Rattle.traffic.proofs.Sublists.{holes-run}
-use Rattle.traffic.proofs.Nodes.{node-buffers, buffers-holes}
-use Rattle.traffic.proofs.Walks.{phase_keeps}
 use Rattle.law_sleeping.proofs.Places.{links_free, links_keep_places}
-use Rattle.part_places.specs.declared.places.Places.{Places}
-use Rattle.part_places.specs.Taking.{Taking, AreTakenOf, still, times}
+use Rattle.part_places.specs.{Taking.Taking, Taking.AreTakenOf, Taking.still, Taking.times, declared.places.Places.Places}
 
 -- PLACES THAT ARE TAKEN ALIKE
 pub record AreAlike (count : ℕ) (T U : Taking) : Type 0 where

@@ -1,8 +1,7 @@
 -- A second in three steps: the phases of persons and departures, that of the nodes, and that of the links.
-use Rattle.traffic.proofs.Common.{◌≡◌, ℕ, List, [], ◌∷◌, ◌++◌, ◌∙◌, ap, refl, sym, append-nil, append_assoc}
-use Rattle.traffic.proofs.Common.{Event, Phase, Setup, World, second, through, told_in, turns_in, after, events_in}
+use Rattle.traffic.proofs.Common.{◌≡◌, ℕ, List, [], ◌∷◌, ◌++◌, ◌∙◌, ap, refl, sym, append-nil, append_assoc, Event, Phase, Setup, World, second, through}
+use Rattle.traffic.{proofs.Common.told_in, proofs.Common.turns_in, proofs.Common.after, proofs.Common.events_in, specs.Day.second_events}
 use Rattle.events.specs.declared.event.Phase.TheVariants as phase
-use Rattle.traffic.specs.Day.{second_events}
 use Rattle.law_sleeping.specs.Marks.{before_nodes, before_links}
 
 through_on : (S : Setup) (t : ℕ) (ps qs : List Phase) (W : World) → through S t (ps ++ qs) W ≡ through S t qs (through S t ps W)

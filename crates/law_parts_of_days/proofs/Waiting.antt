@@ -1,22 +1,14 @@
 -- Who waits at stops while nodes have their turns.
-use Rattle.traffic.proofs.Common.{◌≡◌, ℕ, zero, suc, ◌+◌, ◌<◌, ◌≤◌, List, [], ◌++◌, ◌∙◌, ap, refl, sym, arith, inl, inr, cases_lt}
-use Rattle.traffic.proofs.Common.{length, flat_map, World, Setup, person_of, turns_in, turns_of, moves_of, after, node_turns, OnePlace}
+use Rattle.traffic.proofs.Common.{◌≡◌, ℕ, zero, suc, ◌+◌, ◌<◌, ◌≤◌, List, [], ◌++◌, ◌∙◌, ap, refl, sym, arith, inl, inr, cases_lt, length, flat_map, World}
+use Rattle.traffic.proofs.Common.{Setup, person_of, turns_in, turns_of, moves_of, after, node_turns, OnePlace, done, person_after_all, entered, aborts, below}
+use Rattle.traffic.proofs.Common.{numbers, waits_on, waiter, waiters, leg_at, act_after}
+use Rattle.traffic.proofs.{Moments.kept_along, NodeWalk.NodeCases, NodeWalk.node_walk, Sublists.person-done, Walks.phase_keeps}
 use Rattle.traffic.specs.declared.moves.Move.TheVariants.{Transfer, Remove, SetFrontSince}
-use Rattle.traffic.proofs.Common.{done, person_after_all, entered, aborts, below, numbers, waits_on, waiter, waiters, leg_at, act_after}
-use Rattle.events.specs.declared.event.Phase.TheVariants as phase
-use Rattle.traffic.specs.declared.stage.Stage.TheVariants.{Buffer}
-use Rattle.traffic.specs.declared.world.Person.{Person}
-use Rattle.traffic.specs.declared.world.Place.{Place}
+use Rattle.traffic.specs.declared.{stage.Stage.TheVariants.Buffer, world.Person.Person, world.Place.Place}
 use Rattle.traffic.specs.declared.world.Place.TheVariants.{At, Teleporting, Waiting, Riding, Aborted}
-use Rattle.traffic.specs.declared.world.Row.{Row}
-use Rattle.traffic.specs.declared.world.Waiter.{Waiter}
-use Rattle.traffic.proofs.Moments.{kept_along}
-use Rattle.traffic.proofs.NodeWalk.{NodeCases, node_walk}
-use Rattle.traffic.proofs.Sublists.{person-done}
-use Rattle.traffic.proofs.Walks.{phase_keeps}
-use Rattle.law_one_place.proofs.Places.{InOne, IsOff, rides, rides_few}
-use Rattle.law_one_place.proofs.Boarding.{strands_told}
-use Rattle.law_one_place.proofs.Turns.{nodes_keep}
+use Rattle.traffic.specs.declared.world.{Row.Row, Waiter.Waiter}
+use Rattle.events.specs.declared.event.Phase.TheVariants as phase
+use Rattle.law_one_place.proofs.{Boarding.strands_told, Places.InOne, Places.IsOff, Places.rides, Places.rides_few, Turns.nodes_keep}
 use Rattle.part_lines.proofs.News.{same_many}
 
 -- WHO WAITS WHILE NODES HAVE THEIR TURNS

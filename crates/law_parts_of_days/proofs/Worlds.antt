@@ -2,20 +2,12 @@
 use Rattle.traffic.proofs.Common.{ℕ, zero, suc, ◌<◌, List, [], length, sym, subst, arith, add-one, length-map, get_or-map}
 use Rattle.traffic.proofs.Common.{Phase, PlanRows, Setup, nobody, at_home, world_start, world_from, world_at, through, phases, second, Sound}
 use Rattle.traffic.specs.declared.world.Person.{Person}
-use Rattle.law_in_range.specs.Rows.{IsFitWorld}
-use Rattle.law_in_range.specs.Setups.{IsFitSetup, counts_in}
-use Rattle.law_in_range.proofs.Towns.{town_fit}
-use Rattle.law_in_range.proofs.Seconds.{start_fit, from_fit, through_fit}
-use Rattle.law_one_place.proofs.Places.{InOne}
-use Rattle.law_one_place.proofs.Turns.{always_kept, through_keeps}
-use Rattle.law_sound_setups.specs.Setups.{IsSoundSetup}
-use Rattle.law_sound_setups.specs.Consistent.{IsConsistentSetup}
-use Rattle.law_sound_setups.proofs.Laws.{phases_sound}
+use Rattle.law_in_range.proofs.{Days.chosen_fit, Seconds.start_fit, Seconds.from_fit, Seconds.through_fit, Towns.town_fit}
+use Rattle.law_in_range.specs.{Rows.IsFitWorld, Setups.IsFitSetup, Setups.counts_in, Setups.HaveFittingPlans}
+use Rattle.law_one_place.proofs.{Places.InOne, Turns.always_kept, Turns.through_keeps}
+use Rattle.law_sound_setups.{proofs.Laws.phases_sound, specs.Consistent.IsConsistentSetup, specs.Setups.IsSoundSetup}
 use Rattle.law_matches_plans.proofs.Towns.{town_sound, town_consistent}
-use Rattle.law_in_range.specs.Setups.{HaveFittingPlans}
-use Rattle.law_in_range.proofs.Days.{chosen_fit}
-use Rattle.town.specs.declared.day_input.DayInput.{DayInput}
-use Rattle.town.specs.Views.{setup}
+use Rattle.town.specs.{Views.setup, declared.day_input.DayInput.DayInput}
 use Rattle.part_lines.proofs.News.{IsBefore, WaitBefore, wait_on}
 
 -- THE SETUP

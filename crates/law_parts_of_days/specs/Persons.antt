@@ -1,11 +1,9 @@
 -- How the persons of a part stand for those of a world.
 use Rattle.std.specs.Prelude.{◌≡◌, ℕ, [], length}
-use Rattle.law_in_range.specs.Rows.{IsFitWorld}
-use Rattle.law_in_range.specs.Setups.{counts_in}
+use Rattle.law_in_range.specs.{Rows.IsFitWorld, Setups.counts_in}
 use Rattle.town.specs.declared.day_input.DayInput.{DayInput}
 use Rattle.traffic.specs.Rows.{World}
-use Rattle.part_persons.specs.declared.persons.Persons.{Persons}
-use Rattle.part_persons.specs.Dues.{AreFollowedIn}
+use Rattle.part_persons.specs.{Dues.AreFollowedIn, declared.persons.Persons.Persons}
 
 -- The rows are those of world V and fit, no vehicle waits to be put on its link, and each person who has something to do by himself from
 -- second u on is looked at then.

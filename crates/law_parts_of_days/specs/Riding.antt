@@ -1,19 +1,12 @@
 -- On which links persons ride, by what stands on the links.
 use Rattle.std.specs.Prelude.{ℕ, List, [], ◌∷◌, get_or, set}
-use Rattle.events.specs.declared.event.Event.{Event}
+use Rattle.events.specs.{Keys.phase_code, declared.event.Event.Event}
 use Rattle.events.specs.declared.event.Phase.TheVariants as phase
-use Rattle.events.specs.Keys.{phase_code}
 use Rattle.events.specs.declared.event.Word.TheVariants as word
 use Rattle.events.specs.declared.event.More.TheVariants as more
-use Rattle.traffic.specs.declared.moves.Occurrence.{Occurrence}
-use Rattle.traffic.specs.declared.riders.Rider.{Rider}
-use Rattle.traffic.specs.declared.world.Row.{Row}
-use Rattle.traffic.specs.declared.world.Person.{Person}
-use Rattle.traffic.specs.Rows.{nobody}
-use Rattle.traffic.specs.Setup.{Setup, act_at, leg_at}
+use Rattle.traffic.specs.{Day.keyed, Persons.stuck_on, Rows.nobody, Setup.Setup, Setup.act_at, Setup.leg_at}
+use Rattle.traffic.specs.declared.{moves.Occurrence.Occurrence, riders.Rider.Rider, world.Person.Person, world.Row.Row}
 use Rattle.rows.specs.Plan.{mode_of_leg}
-use Rattle.traffic.specs.Persons.{stuck_on}
-use Rattle.traffic.specs.Day.{keyed}
 use Rattle.queue_link.specs.Links.{LinkView, all_rows}
 
 -- a table of links by person, once these riders are on link l

@@ -2,27 +2,20 @@
 //! only at those whom they concern. Each is the contract of a call that does nothing.
 #![tactic(auto)]
 
-ghost use Rattle.std.specs.Prelude.{◌≡◌, ◌≢◌, ℕ, ◌+◌, ◌<◌, true, false, List};
-ghost use Rattle.std.specs.Prelude.{[], ◌∷◌, ◌++◌, length, replicate, Option, Some};
+ghost use Rattle.std.specs.Prelude.{◌≡◌, ◌≢◌, ℕ, ◌+◌, ◌<◌, true, false, List, [], ◌∷◌, ◌++◌, length, replicate, Option, Some};
 ghost use Rattle.events.specs.declared.event.Event.{Event};
 ghost use Rattle.events.specs.declared.event.Phase.TheVariants as phase;
 ghost use Rattle.calendar.specs.Waking.{wake_of};
 ghost use Rattle.law_sleeping.specs.Marks.{before_nodes, before_links};
-ghost use Rattle.law_sound_setups.specs.Setups.{IsSoundSetup};
+ghost use Rattle.law_sound_setups.specs.{Consistent.IsConsistentSetup, Setups.IsSoundSetup};
 ghost use Rattle.node_seconds.specs.Networks.{lane, is_among};
 ghost use Rattle.queue_link.specs.Links.{LinkView};
-ghost use Rattle.traffic.specs.declared.stage.Stage.TheVariants.{Queue};
-ghost use Rattle.traffic.specs.Rows.{World, at, holes_at};
-ghost use Rattle.traffic.specs.Setup.{Setup, link_row};
-ghost use Rattle.traffic.specs.Persons.{waiters};
 ghost use Rattle.traffic.specs.Day.{turns_in, after, events_in, told_in, second, second_events, world_at};
-ghost use Rattle.traffic.specs.Worlds.{OnePlace};
-ghost use Rattle.law_sound_setups.specs.Consistent.{IsConsistentSetup};
-ghost use Rattle.parts.specs.Owners.{Owner, near};
-ghost use Rattle.parts.specs.Parts.{part, held, ready};
+ghost use Rattle.traffic.specs.{Persons.waiters, Rows.World, Rows.at, Rows.holes_at, Setup.Setup, Setup.link_row, Worlds.OnePlace};
+ghost use Rattle.traffic.specs.declared.stage.Stage.TheVariants.{Queue};
+ghost use Rattle.parts.specs.{Owners.Owner, Owners.near, Parts.part, Parts.held, Parts.ready};
 ghost use Rattle.law_partitions.specs.Alone.{alone, tells_alone};
-ghost use Rattle.law_parts_of_days.specs.Sole.{sole_owner};
-ghost use Rattle.law_parts_of_days.specs.Settling.{link_at, wake_ends, wake_starts};
+ghost use Rattle.law_parts_of_days.specs.{Settling.link_at, Settling.wake_ends, Settling.wake_starts, Sole.sole_owner};
 ghost use Rattle.part_places.specs.Taking.{times};
 
 /// A second has three steps: the phases of persons and departures, that of the nodes, and that of the links.

@@ -1,16 +1,11 @@
 -- A chosen plan is one of those that there are.
-use Rattle.std.proofs.Common.{◌≡◌, ℕ, zero, suc, ◌+◌, ◌-◌, ◌^◌, ◌<◌, ◌≤◌, Bool, List, [], ◌∷◌, length, map, replicate, sum, Option, None, Some, ℤ, refl, subst, arith}
-use Rattle.std.specs.Prelude.{position, unwrap_or, pos}
-use Rattle.std.proofs.Math.Nat.{pow-le-pow_right}
-use Rattle.std.proofs.lemmas.List.{length-map, length-replicate}
-use Rattle.std.proofs.lemmas.List.Quantifiers.{position-Some}
-use Rattle.std.proofs.lemmas.List.Sums.{sum_by-cons}
-use Rattle.draws.specs.Choices.{pick}
-use Rattle.draws.proofs.Ranges.{pick_within}
-use Rattle.plan_memory.specs.declared.choices.Choice.{Choice}
-use Rattle.plan_memory.specs.declared.choices.Choice.TheVariants as choice
-use Rattle.plan_memory.specs.Scores.{is_lowest, is_highest, worst, best, highest}
+use Rattle.std.proofs.Common.{◌≡◌, ℕ, zero, suc, ◌+◌, ◌-◌, ◌^◌, ◌<◌, ◌≤◌, Bool, List, [], ◌∷◌, length, map, replicate, sum, Option, None, Some, ℤ, refl, subst}
+use Rattle.std.proofs.{Common.arith, Math.Nat.pow-le-pow_right, lemmas.List.length-map, lemmas.List.length-replicate, lemmas.List.Quantifiers.position-Some}
+use Rattle.std.{proofs.lemmas.List.Sums.sum_by-cons, specs.Prelude.position, specs.Prelude.unwrap_or, specs.Prelude.pos}
+use Rattle.draws.{proofs.Ranges.pick_within, specs.Choices.pick}
 use Rattle.plan_memory.specs.Choices.{halvings, logit_weight, logit_weights, place_chosen}
+use Rattle.plan_memory.specs.{Scores.is_lowest, Scores.is_highest, Scores.worst, Scores.best, Scores.highest, declared.choices.Choice.Choice}
+use Rattle.plan_memory.specs.declared.choices.Choice.TheVariants as choice
 
 place_by : (p : Option ℤ → Bool) (scores : List (Option ℤ)) (o : Option ℕ) → position p scores ≡ o → 0 < length scores
     → unwrap_or o 0 < length scores

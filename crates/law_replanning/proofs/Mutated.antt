@@ -3,13 +3,9 @@ use Rattle.std.proofs.Common.{◌≡◌, ℕ, ◌+◌, ◌≤◌, Bool, ◌&&◌
 use Rattle.std.specs.List.{list_all, enumerate_from}
 use Rattle.limits.specs.declared.TheConstants.{LAST_SECOND}
 use Rattle.draws.specs.Words.{Source}
-use Rattle.rows.specs.declared.plan.Act.{Act}
-use Rattle.rows.specs.declared.plan.Leg.{Leg}
-use Rattle.rows.specs.PlanRows.{PlanRows}
-use Rattle.town.specs.Rows.{TownRows}
-use Rattle.town.specs.Fits.{is_act_in, leg_fits, first_link, legs_fit, fits}
-use Rattle.replanning.specs.Acts.{moved_act, moved_acts, mutated_plan}
-use Rattle.replanning.proofs.Moved.{moved_are_acts, moved_count}
+use Rattle.rows.specs.{PlanRows.PlanRows, declared.plan.Act.Act, declared.plan.Leg.Leg}
+use Rattle.town.specs.{Fits.is_act_in, Fits.leg_fits, Fits.first_link, Fits.legs_fit, Fits.fits, Rows.TownRows}
+use Rattle.replanning.{proofs.Moved.moved_are_acts, proofs.Moved.moved_count, specs.Acts.moved_act, specs.Acts.moved_acts, specs.Acts.mutated_plan}
 use Rattle.law_in_range.specs.Setups.{IsPlanIn}
 
 module _ (T : TownRows) (range end : ℕ) (words : Source) where

@@ -1,39 +1,26 @@
 -- Memories of a town stay such when persons replan.
-use Rattle.std.proofs.Common.{◌≡◌, ℕ, zero, suc, ◌+◌, ◌-◌, ◌<◌, ◌≤◌, Bool, true, false, cond, List, [], ◌∷◌, ◌++◌, length, map, get_or, Option, None, ℤ, refl, sym, ◌∙◌, ap, subst, arith, length-append}
-use Rattle.std.specs.Prelude.{All, nat_eq, nat_lt, remove}
-use Rattle.std.specs.List.{list_all, enumerate_from, AllByRecursion as Each}
-use Rattle.std.proofs.lemmas.Bool.{and_from, and_parts}
-use Rattle.std.proofs.lemmas.Bool.Decides.{nat_tests}
-use Rattle.std.proofs.lemmas.List.{length-replicate}
-use Rattle.std.proofs.lemmas.List.Edits.{length-remove}
-use Rattle.std.proofs.lemmas.List.Elements.{All-from_recursion, recursion_from_All}
+use Rattle.std.proofs.Common.{◌≡◌, ℕ, zero, suc, ◌+◌, ◌-◌, ◌<◌, ◌≤◌, Bool, true, false, cond, List, [], ◌∷◌, ◌++◌, length, map, get_or, Option, None, ℤ, refl}
+use Rattle.std.proofs.Common.{sym, ◌∙◌, ap, subst, arith, length-append}
+use Rattle.std.proofs.lemmas.Bool.{and_from, and_parts, Decides.nat_tests}
+use Rattle.std.proofs.lemmas.List.{length-replicate, Edits.length-remove, Elements.All-from_recursion, Elements.recursion_from_All}
+use Rattle.std.specs.{List.list_all, List.enumerate_from, List.AllByRecursion as Each, Prelude.All, Prelude.nat_eq, Prelude.nat_lt, Prelude.remove}
 use Rattle.limits.specs.declared.TheConstants.{MAX_PLANS}
-use Rattle.draws.specs.Words.{Source, word}
-use Rattle.draws.proofs.Ranges.{word_fits}
-use Rattle.learning.specs.declared.strategies.Strategy.{Strategy}
+use Rattle.draws.{proofs.Ranges.word_fits, specs.Words.Source, specs.Words.word}
+use Rattle.learning.specs.{Strategies.strategy_of, declared.strategies.Strategy.Strategy}
 use Rattle.learning.specs.declared.strategies.Strategy.TheVariants as strategy
-use Rattle.learning.specs.Strategies.{strategy_of}
-use Rattle.rows.specs.Joined.{ends_of}
-use Rattle.rows.specs.PlanRows.{PlanRows}
-use Rattle.router.specs.Graphs.{Graph}
-use Rattle.router.proofs.Graphs.{network_within}
+use Rattle.rows.specs.{Joined.ends_of, PlanRows.PlanRows}
+use Rattle.router.{proofs.Graphs.network_within, specs.Graphs.Graph}
 use Rattle.walks.specs.Walks.{AreWithin}
-use Rattle.plan_memory.specs.declared.TheConstants.{MAX_HELD}
-use Rattle.plan_memory.specs.declared.choices.Choice.{Choice}
-use Rattle.plan_memory.specs.declared.choices.Choice.TheVariants as choice
-use Rattle.plan_memory.specs.Scores.{worst, best}
 use Rattle.plan_memory.specs.Memories.{MemoryRows, first_memory, chosen_plan, with_plan, with_choice, without, after_drops, reduced}
-use Rattle.replanning.specs.Acts.{mutated_plan}
-use Rattle.replanning.specs.Legs.{rerouted_plan}
+use Rattle.plan_memory.specs.{Scores.worst, Scores.best, declared.TheConstants.MAX_HELD, declared.choices.Choice.Choice}
+use Rattle.plan_memory.specs.declared.choices.Choice.TheVariants as choice
+use Rattle.replanning.specs.{Acts.mutated_plan, Legs.rerouted_plan}
 use Rattle.replanning.specs.Persons.{Basis, by_strategy, words_of, replanned, all_replanned}
 use Rattle.law_in_range.specs.Setups.{IsPlanIn}
-use Rattle.town.specs.Rows.{TownRows, IsTown}
-use Rattle.town.specs.Fits.{legs_fit, fits}
-use Rattle.law_replanning.specs.Memories.{IsMemoryIn, hold_fitting, all_hold_fitting}
-use Rattle.law_replanning.specs.Towns.{IsBasisIn}
-use Rattle.law_replanning.proofs.Rerouted.{rerouted_fits, rerouted_in}
-use Rattle.law_replanning.proofs.Mutated.{mutated_fits, mutated_in}
+use Rattle.town.specs.{Fits.legs_fit, Fits.fits, Rows.TownRows, Rows.IsTown}
 use Rattle.law_replanning.proofs.Choosing.{worst_within, best_within, choice_within}
+use Rattle.law_replanning.proofs.{Mutated.mutated_fits, Mutated.mutated_in, Rerouted.rerouted_fits, Rerouted.rerouted_in}
+use Rattle.law_replanning.specs.{Memories.IsMemoryIn, Memories.hold_fitting, Memories.all_hold_fitting, Towns.IsBasisIn}
 
 -- WHAT HOLDS OF ALL PLANS OF A MEMORY
 left_over : {A : Type 0} (P : A → Type 0) (xs : List A) (i : ℕ) → Each P xs → Each P (remove xs i)

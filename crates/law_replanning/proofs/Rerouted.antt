@@ -1,24 +1,14 @@
 -- Plans with new routes are plans of the town where they were.
 use Rattle.std.proofs.Common.{◌≡◌, ℕ, suc, ◌-◌, ◌<◌, Bool, true, false, cond, List, [], ◌∷◌, length, get_or, Option, None, Some, refl, ap, subst, arith}
-use Rattle.std.specs.Prelude.{nat_eq, nat_lt, nat_le, unwrap_or, IfSome}
-use Rattle.std.specs.List.{list_all}
-use Rattle.std.proofs.lemmas.Bool.{and_from, and_parts, eq-eqb, ne_eqb}
-use Rattle.std.proofs.lemmas.Bool.Decides.{nat_tests}
+use Rattle.std.proofs.lemmas.Bool.{and_from, and_parts, eq-eqb, ne_eqb, Decides.nat_tests}
+use Rattle.std.specs.{List.list_all, Prelude.nat_eq, Prelude.nat_lt, Prelude.nat_le, Prelude.unwrap_or, Prelude.IfSome}
 use Rattle.limits.specs.declared.TheConstants.{MAX_ROUTE_LINKS}
-use Rattle.rows.specs.declared.plan.Act.{Act}
-use Rattle.rows.specs.declared.plan.Leg.{Leg}
+use Rattle.rows.specs.{Joined.ends_of, Plan.is_leg, PlanRows.PlanRows, declared.plan.Act.Act, declared.plan.Leg.Leg}
 use Rattle.rows.specs.declared.plan.Leg.TheVariants as leg
-use Rattle.rows.specs.Joined.{ends_of}
-use Rattle.rows.specs.Plan.{is_leg}
-use Rattle.rows.specs.PlanRows.{PlanRows}
-use Rattle.town.specs.Rows.{TownRows}
-use Rattle.town.specs.Fits.{is_act_in, is_car_leg, has_wrong_ends, leg_fits, legs_fit, fits}
-use Rattle.walks.specs.Arrivals.{Arrivals, IsFifo}
-use Rattle.walks.specs.Walks.{AreWithin}
-use Rattle.router.specs.Routes.{leg_route, allowed}
-use Rattle.router.specs.Legs.{route_between, each_leg, Joins}
-use Rattle.router.proofs.LegWays.{ends_count}
-use Rattle.router.proofs.Joining.{leg_joins}
+use Rattle.town.specs.{Fits.is_act_in, Fits.is_car_leg, Fits.has_wrong_ends, Fits.leg_fits, Fits.legs_fit, Fits.fits, Rows.TownRows}
+use Rattle.walks.specs.{Arrivals.Arrivals, Arrivals.IsFifo, Walks.AreWithin}
+use Rattle.router.proofs.{Joining.leg_joins, LegWays.ends_count}
+use Rattle.router.specs.{Legs.route_between, Legs.each_leg, Legs.Joins, Routes.leg_route, Routes.allowed}
 use Rattle.replanning.specs.Legs.{rerouted_leg, rerouted_plan}
 use Rattle.law_in_range.specs.Setups.{IsPlanIn}
 use Rattle.law_replanning.specs.Towns.{graph_in}

@@ -1,11 +1,8 @@
 -- What persons remember of plans in a town.
-use Rattle.std.specs.Prelude.{◌≡◌, ◌<◌, ◌≤◌, Bool, List, length, All}
-use Rattle.std.specs.List.{list_all}
-use Rattle.plan_memory.specs.declared.TheConstants.{MAX_HELD}
-use Rattle.plan_memory.specs.Memories.{MemoryRows}
+use Rattle.std.specs.{List.list_all, Prelude.◌≡◌, Prelude.◌<◌, Prelude.◌≤◌, Prelude.Bool, Prelude.List, Prelude.length, Prelude.All}
+use Rattle.plan_memory.specs.{Memories.MemoryRows, declared.TheConstants.MAX_HELD}
 use Rattle.law_in_range.specs.Setups.{IsPlanIn}
-use Rattle.town.specs.Fits.{fits}
-use Rattle.town.specs.Rows.{TownRows}
+use Rattle.town.specs.{Fits.fits, Rows.TownRows}
 
 -- a memory in a town: 1 to 6 plans, each with a score or none, of which one is chosen; of each of them a day of the town can be made
 pub record IsMemoryIn (T : TownRows) (m : MemoryRows) : Type 0 where

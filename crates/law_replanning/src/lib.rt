@@ -5,19 +5,13 @@
 ghost use Rattle.std.specs.Prelude.{◌≡◌, ◌<◌, ◌≤◌, ℕ, List, length, true, All};
 ghost use Rattle.limits.specs.declared.TheConstants.{LAST_SECOND, MAX_PLANS};
 ghost use Rattle.draws.specs.Words.{Source};
-ghost use Rattle.rows.specs.Joined.{ends_of};
-ghost use Rattle.rows.specs.PlanRows.{PlanRows};
-ghost use Rattle.town.specs.Rows.{TownRows, IsTown};
-ghost use Rattle.town.specs.Fits.{fits};
-ghost use Rattle.walks.specs.Arrivals.{Arrivals, IsFifo};
-ghost use Rattle.walks.specs.Walks.{AreWithin};
+ghost use Rattle.rows.specs.{Joined.ends_of, PlanRows.PlanRows};
+ghost use Rattle.town.specs.{Fits.fits, Rows.TownRows, Rows.IsTown};
+ghost use Rattle.walks.specs.{Arrivals.Arrivals, Arrivals.IsFifo, Walks.AreWithin};
 ghost use Rattle.plan_memory.specs.Memories.{MemoryRows, first_memory, chosen_plan};
-ghost use Rattle.replanning.specs.Acts.{mutated_plan};
-ghost use Rattle.replanning.specs.Legs.{rerouted_plan};
-ghost use Rattle.replanning.specs.Persons.{Basis, all_replanned};
+ghost use Rattle.replanning.specs.{Acts.mutated_plan, Legs.rerouted_plan, Persons.Basis, Persons.all_replanned};
 ghost use Rattle.law_in_range.specs.Setups.{IsPlanIn};
-ghost use Rattle.law_replanning.specs.Memories.{IsMemoryIn, all_hold_fitting};
-ghost use Rattle.law_replanning.specs.Towns.{graph_in, IsBasisIn};
+ghost use Rattle.law_replanning.specs.{Memories.IsMemoryIn, Memories.all_hold_fitting, Towns.graph_in, Towns.IsBasisIn};
 
 /// A copy of a plan that fits a town fits it too, with new routes by any travel times by which nobody overtakes, and with the ends of its
 /// activities moved; and a day of the town can be made of it.

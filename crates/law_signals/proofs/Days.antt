@@ -1,18 +1,14 @@
 -- All events of a day are such as its signals let happen.
-use Rattle.traffic.proofs.Common.{◌≡◌, ℕ, List, ◌∙◌, ap, subst, [], ◌∷◌, ◌+◌, true, zero, suc, length, flat_map, Option, All, All-from_recursion, phase_code, Event, Phase}
-use Rattle.traffic.proofs.Common.{turns_in, turns_of, turns, world_start, world_at, keyed, world_from, after, events_from, day, phases, end_events, events_in, told_in, below}
-use Rattle.traffic.proofs.Common.{told, run, stranded, stuck_at, mode_of_leg, act_at, leg_at, person_of, World, Setup, count_of, Act, Mode}
-use Rattle.traffic.specs.declared.moves.Move.{Move}
-use Rattle.traffic.specs.declared.moves.Occurrence.{Occurrence}
-use Rattle.traffic.specs.declared.world.Place.{Place}
+use Rattle.traffic.proofs.Common.{◌≡◌, ℕ, List, ◌∙◌, ap, subst, [], ◌∷◌, ◌+◌, true, zero, suc, length, flat_map, Option, All, All-from_recursion, phase_code}
+use Rattle.traffic.proofs.Common.{Event, Phase, turns_in, turns_of, turns, world_start, world_at, keyed, world_from, after, events_from, day, phases}
+use Rattle.traffic.proofs.Common.{end_events, events_in, told_in, below, told, run, stranded, stuck_at, mode_of_leg, act_at, leg_at, person_of, World, Setup}
+use Rattle.traffic.proofs.{Common.count_of, Common.Act, Common.Mode, Each.each_append, Each.each_flat}
+use Rattle.traffic.specs.declared.{moves.Move.Move, moves.Occurrence.Occurrence, world.Place.Place}
 use Rattle.traffic.specs.declared.world.Place.TheVariants.{At, Teleporting, Waiting, Riding, Aborted}
-use Rattle.std.proofs.Common.{arith}
-use Rattle.std.proofs.lemmas.List.Elements.{All-contains}
-use Rattle.std.specs.List.{AllByRecursion as Each}
+use Rattle.std.{proofs.Common.arith, proofs.lemmas.List.Elements.All-contains, specs.List.AllByRecursion as Each}
 use Rattle.events.specs.declared.event.Phase.TheVariants as phase
 use Rattle.events.specs.declared.event.Word.{Word}
 use Rattle.events.specs.declared.event.Word.TheVariants as word
-use Rattle.traffic.proofs.Each.{each_append, each_flat}
 use Rattle.law_signals.specs.Signals.{IsGreen, IsLet, KeepsSignals, Leaves, NeverTogether}
 use Rattle.law_signals.proofs.Greens.{IsLetTold, TellsLet, turn_let}
 

@@ -1,24 +1,19 @@
 -- What each turn tells is what signals let happen.
-use Rattle.traffic.proofs.Common.{◌≡◌, ℕ, List, ◌∙◌, ap, refl, [], ◌∷◌, true, Bool, eqb-true, zero, suc, ◌+◌, ◌*◌, ◌≢◌, Option, get_or, map, and_parts, not, eqb}
-use Rattle.traffic.proofs.Common.{phase_code, Phase, Act, Leg, World, Setup, false, at, rank, act_after, leg_at, person_of, into}
-use Rattle.traffic.proofs.Common.{told, leaves, enters, boarded, flat_map, alighting, next_call, strands, starts, serves, arrives, told_to, told_transfer, told_removal}
-use Rattle.traffic.proofs.Common.{may_enter, is_stuck, since_of, pass_node, pass_node_all, no_in_link, one_more, drawn, draw, without_at, next_link, out_links_after}
-use Rattle.traffic.proofs.Common.{in_link, node_view, node_moves, ready, red, candidates, mark, is_nil, node_turns, link_turns, turns_of, rules, link_state, waiters, waiting, sets_out}
-use Rattle.events.specs.declared.event.Phase.TheVariants as phase
-use Rattle.traffic.specs.declared.moves.Move.{Move}
-use Rattle.traffic.specs.declared.moves.Occurrence.{Occurrence}
-use Rattle.traffic.specs.declared.node_views.InLink.{InLink}
-use Rattle.traffic.specs.declared.node_views.OutLink.{OutLink}
+use Rattle.traffic.proofs.Common.{◌≡◌, ℕ, List, ◌∙◌, ap, refl, [], ◌∷◌, true, Bool, eqb-true, zero, suc, ◌+◌, ◌*◌, ◌≢◌, Option, get_or, map, and_parts, not}
+use Rattle.traffic.proofs.Common.{eqb, phase_code, Phase, Act, Leg, World, Setup, false, at, rank, act_after, leg_at, person_of, into, told, leaves, enters}
+use Rattle.traffic.proofs.Common.{boarded, flat_map, alighting, next_call, strands, starts, serves, arrives, told_to, told_transfer, told_removal, may_enter}
+use Rattle.traffic.proofs.Common.{is_stuck, since_of, pass_node, pass_node_all, no_in_link, one_more, drawn, draw, without_at, next_link, out_links_after}
+use Rattle.traffic.proofs.Common.{in_link, node_view, node_moves, ready, red, candidates, mark, is_nil, node_turns, link_turns, turns_of, rules, link_state}
+use Rattle.traffic.proofs.{Common.waiters, Common.waiting, Common.sets_out, Each.each_all, Each.each_append, Each.each_if, Each.each_filter, Each.each_kept}
+use Rattle.traffic.proofs.{Each.each_map, Each.each_flat_all, Each.each_without_at, Each.each_get_or, LinkEach.FrontMoves, LinkEach.serving_stage}
+use Rattle.traffic.{proofs.LinkEach.link_each, proofs.Walks.flight_walk, proofs.Walks.leave_walk, proofs.Walks.departure_walk, specs.Rows.on}
+use Rattle.traffic.specs.declared.{moves.Move.Move, moves.Occurrence.Occurrence, node_views.InLink.InLink, node_views.OutLink.OutLink, stage.Stage.Stage}
+use Rattle.traffic.specs.declared.stage.Stage.TheVariants.{Queue, Buffer, Wait, Bay}
 use Rattle.traffic.specs.declared.world.Row.{Row}
+use Rattle.events.specs.declared.event.Phase.TheVariants as phase
 use Rattle.events.specs.declared.event.VehicleId.TheVariants as vehicle
 use Rattle.rows.specs.declared.plan.Leg.TheVariants as leg
-use Rattle.traffic.specs.declared.stage.Stage.{Stage}
-use Rattle.traffic.specs.declared.stage.Stage.TheVariants.{Queue, Buffer, Wait, Bay}
-use Rattle.traffic.specs.Rows.{on}
 use Rattle.std.specs.List.{AllByRecursion as Each}
-use Rattle.traffic.proofs.Each.{each_all, each_append, each_if, each_filter, each_kept, each_map, each_flat_all, each_without_at, each_get_or}
-use Rattle.traffic.proofs.LinkEach.{FrontMoves, serving_stage, link_each}
-use Rattle.traffic.proofs.Walks.{flight_walk, leave_walk, departure_walk}
 use Rattle.law_signals.specs.Signals.{IsLet}
 
 -- what is told is let happen

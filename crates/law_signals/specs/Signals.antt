@@ -1,12 +1,9 @@
 -- What signals let happen in a day.
 use Rattle.std.specs.Prelude.{◌≡◌, ◌≢◌, ℕ, true, Option, None, Some, Contains}
-use Rattle.events.specs.declared.event.Event.{Event}
+use Rattle.events.specs.{Keys.phase_code, declared.event.Event.Event, declared.event.Word.Word}
 use Rattle.events.specs.declared.event.Phase.TheVariants as phase
-use Rattle.events.specs.declared.event.Word.{Word}
 use Rattle.events.specs.declared.event.Word.TheVariants as word
-use Rattle.events.specs.Keys.{phase_code}
-use Rattle.traffic.specs.Setup.{Setup}
-use Rattle.traffic.specs.Day.{day}
+use Rattle.traffic.specs.{Day.day, Setup.Setup}
 
 -- a link is named, and it is green in second t
 abbrev pub IsGreen : Setup → ℕ → Option ℕ → Type 0

@@ -3,8 +3,7 @@
 #![tactic(auto)]
 
 ghost use Rattle.std.specs.Prelude.{◌≡◌, ℕ, true, All};
-ghost use Rattle.traffic.specs.Setup.{Setup};
-ghost use Rattle.traffic.specs.Day.{day};
+ghost use Rattle.traffic.specs.{Day.day, Setup.Setup};
 ghost use Rattle.law_signals.specs.Signals.{KeepsSignals, NeverTogether};
 
 /// In every day, whatever its signals: each vehicle that leaves a link, or that is stuck there and is removed, does so in a

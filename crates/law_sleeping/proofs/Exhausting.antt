@@ -1,36 +1,25 @@
 -- After a node's turn no green link into it can hand over.
-use Rattle.std.proofs.Common.{◌≡◌, ◌≢◌, ℕ, zero, suc, ◌+◌, ◌*◌, ◌<◌, ◌≤◌, Bool, true, false, List, [], ◌∷◌, ◌++◌, length, get_or, refl, ap}
-use Rattle.std.proofs.Common.{sym, ◌∙◌, subst, eqb, arith, inl, inr, append-nil, length-append}
-use Rattle.std.specs.Prelude.{map, filter, not, ◌&&◌, if◌then◌else◌, Option, Some, None}
-use Rattle.std.specs.List.{AllByRecursion as Each}
+use Rattle.std.proofs.Common.{◌≡◌, ◌≢◌, ℕ, zero, suc, ◌+◌, ◌*◌, ◌<◌, ◌≤◌, Bool, true, false, List, [], ◌∷◌, ◌++◌, length, get_or, refl, ap, sym, ◌∙◌, subst}
+use Rattle.std.proofs.{Common.eqb, Common.arith, Common.inl, Common.inr, Common.append-nil, Common.length-append, Math.Path.fun_ext}
 use Rattle.std.proofs.lemmas.Bool.{cases_Bool, or_from, or_left, eqb-true, eqb-false, eq-eqb, ne_eqb}
+use Rattle.std.specs.List.{AllByRecursion as Each}
+use Rattle.std.specs.Prelude.{map, filter, not, ◌&&◌, if◌then◌else◌, Option, Some, None}
 use Rattle.events.specs.declared.event.Phase.TheVariants as phase
-use Rattle.traffic.specs.declared.moves.Move.{Move}
-use Rattle.traffic.specs.declared.moves.Move.TheVariants.{Transfer, Remove, SetFrontSince}
+use Rattle.traffic.proofs.{Each.each_kept, Each.each_without_at, Nodes.nodes_apart, Nodes.node_untouched, Sublists.at_after_all-append}
+use Rattle.traffic.{proofs.Sublists.at_after_all-untouched, proofs.Turns.at-phase_one, specs.Day.node_turns, specs.Day.turns_of, specs.Day.turns_in}
+use Rattle.traffic.specs.{Day.after, Lists.is_nil, Lists.without_at, Lists.on_front, Lists.numbers, Moves.at_second, Moves.at_after, Moves.at_after_all}
+use Rattle.traffic.specs.Nodes.{in_force, mark, red, node_view, with_one_more, out_link, next_link, has_room, one_more, is_stuck, may_enter, entered, pass_node}
+use Rattle.traffic.specs.Nodes.{since_of, out_links_after, pass_node_all, drawn, no_in_link, draw, ready, candidates}
+use Rattle.traffic.specs.{Rows.World, Rows.at, Rows.holes_at, Setup.Setup, Setup.link_row, Setup.into, Setup.hole_of, Setup.storage_of, Setup.seconds_of}
+use Rattle.traffic.specs.declared.moves.Move.{Move, TheVariants.Transfer, TheVariants.Remove, TheVariants.SetFrontSince}
+use Rattle.traffic.specs.declared.node_views.{InLink.InLink, OutLink.OutLink}
+use Rattle.traffic.specs.declared.{stage.Stage.TheVariants.Queue, stage.Stage.TheVariants.Buffer, world.Row.Row}
 use Rattle.rows.specs.declared.settings.Stuck.{Stuck}
-use Rattle.traffic.specs.declared.stage.Stage.TheVariants.{Queue, Buffer}
-use Rattle.traffic.specs.declared.node_views.InLink.{InLink}
-use Rattle.traffic.specs.declared.node_views.OutLink.{OutLink}
-use Rattle.traffic.specs.declared.world.Row.{Row}
-use Rattle.traffic.specs.Lists.{is_nil, without_at, on_front, numbers}
-use Rattle.traffic.specs.Rows.{World, at, holes_at}
-use Rattle.traffic.specs.Setup.{Setup, link_row, into, hole_of, storage_of, seconds_of}
-use Rattle.traffic.specs.Moves.{at_second, at_after, at_after_all}
-use Rattle.traffic.specs.Nodes.{in_force, mark, red, node_view, with_one_more, out_link, next_link, has_room, one_more, is_stuck, may_enter}
-use Rattle.traffic.specs.Nodes.{entered, pass_node, since_of, out_links_after, pass_node_all, drawn, no_in_link, draw, ready, candidates}
-use Rattle.traffic.proofs.Each.{each_kept, each_without_at}
-use Rattle.traffic.proofs.Sublists.{at_after_all-append, at_after_all-untouched}
+use Rattle.law_sleeping.proofs.Marking.{Lacks, Spares, pass_node_spares, draw_keeps, node_behind}
+use Rattle.law_sleeping.proofs.Passing.{fuller_after, can_go_before, drawn_in, length_without, not_nil, each_get, in_order}
+use Rattle.law_sleeping.proofs.{Reading.weighted_lazy, Reading.weighted_candidates, Skipping.marks_touch_buffers, Whole.nodes_holes}
 use Rattle.law_sleeping.specs.Able.{can_go, IsFuller, AreWeighted, AreWords, order, pass_node_each}
 use Rattle.law_sleeping.specs.Marks.{catch_up, Buffers, AreBehind, lazy_in_link, lazy_node_view, lazy_node_turns, buffers_after}
-use Rattle.law_sleeping.proofs.Passing.{fuller_after, can_go_before, drawn_in, length_without, not_nil, each_get, in_order}
-use Rattle.law_sleeping.proofs.Reading.{weighted_lazy, weighted_candidates}
-use Rattle.law_sleeping.proofs.Marking.{Lacks, Spares, pass_node_spares, draw_keeps, node_behind}
-use Rattle.law_sleeping.proofs.Skipping.{marks_touch_buffers}
-use Rattle.law_sleeping.proofs.Whole.{nodes_holes}
-use Rattle.std.proofs.Math.Path.{fun_ext}
-use Rattle.traffic.specs.Day.{node_turns, turns_of, turns_in, after}
-use Rattle.traffic.proofs.Nodes.{nodes_apart, node_untouched}
-use Rattle.traffic.proofs.Turns.{at-phase_one}
 
 -- ONE LINK
 cannot_more : (K : Stuck) (t : ℕ) (later out_links : ℕ → Option OutLink) (rows : List Row) → IsFuller later out_links

@@ -4,35 +4,21 @@ use Rattle.std.proofs.Common.{refl, ap, sym, ◌∙◌, subst, eqb, arith, inl, 
 use Rattle.std.specs.Prelude.{map, filter, not, ◌||◌, if◌then◌else◌, Option, nat_le, nat_lt}
 use Rattle.std.specs.List.{AllByRecursion as Each}
 use Rattle.std.proofs.lemmas.Bool.{cases_Bool, eqb-true, eqb-false, eq-eqb, ne_eqb}
-use Rattle.fixed_flow.specs.Flow.{raised}
-use Rattle.fixed_flow.specs.declared.TheConstants.{VEHICLE_COST}
-use Rattle.traffic.specs.declared.moves.Move.{Move}
+use Rattle.fixed_flow.specs.{Flow.raised, declared.TheConstants.VEHICLE_COST}
+use Rattle.traffic.proofs.{Links.link-at, Links.untouched_all, Nodes.nodes_apart, Nodes.node_untouched, Phases.links_apart, Sublists.at_after_all-append}
+use Rattle.traffic.{proofs.Turns.at-phase_one, specs.Day.node_turns, specs.Day.link_turns, specs.Day.turns_of, specs.Day.after, specs.Day.turns_in}
+use Rattle.traffic.specs.Links.{LinkState, link_state, rules, leave_bay, is_last, may_pass, buffered, waiting, from_wait, from_queue, wait_after, link_moves}
+use Rattle.traffic.specs.{Lists.is_nil, Lists.without_at, Lists.on_front, Lists.numbers, Moves.same, Moves.at_second, Moves.at_after, Moves.at_after_all}
+use Rattle.traffic.specs.Nodes.{NodeView, in_link, out_link, node_view, next_link, one_more, is_stuck, may_enter, entered, pass_node, since_of, out_links_after}
+use Rattle.traffic.specs.Nodes.{pass_node_all, drawn, no_in_link, draw, ready, red, candidates, mark, node_moves}
+use Rattle.traffic.specs.{Persons.waiters, Rows.World, Rows.on, Rows.at, Setup.Setup, Setup.link_row, Setup.into, Stops.calls_on, Stops.left_behind}
+use Rattle.traffic.specs.{Stops.served_row, declared.moves.Move.Move}
 use Rattle.traffic.specs.declared.moves.Move.TheVariants.{Transfer, Remove, SetFrontSince, Credit, LeaveHole}
-use Rattle.traffic.specs.declared.numbers.Rules.{Rules}
-use Rattle.rows.specs.declared.settings.Stuck.{Stuck}
-use Rattle.traffic.specs.declared.stage.Stage.{Stage}
+use Rattle.traffic.specs.declared.{node_views.InLink.InLink, node_views.OutLink.OutLink, numbers.Rules.Rules, stage.Stage.Stage}
 use Rattle.traffic.specs.declared.stage.Stage.TheVariants.{Queue, Buffer, Wait, Bay}
-use Rattle.traffic.specs.declared.node_views.InLink.{InLink}
-use Rattle.traffic.specs.declared.node_views.OutLink.{OutLink}
-use Rattle.traffic.specs.declared.world.Row.{Row}
-use Rattle.traffic.specs.declared.world.Waiter.{Waiter}
-use Rattle.traffic.specs.Lists.{is_nil, without_at, on_front, numbers}
-use Rattle.traffic.specs.Rows.{World, on, at}
-use Rattle.traffic.specs.Setup.{Setup, link_row, into}
-use Rattle.traffic.specs.Stops.{calls_on, left_behind, served_row}
-use Rattle.traffic.specs.Moves.{same, at_second, at_after, at_after_all}
-use Rattle.traffic.specs.Nodes.{NodeView, in_link, out_link, node_view, next_link, one_more, is_stuck, may_enter, entered, pass_node}
-use Rattle.traffic.specs.Nodes.{since_of, out_links_after, pass_node_all, drawn, no_in_link, draw, ready, red, candidates, mark, node_moves}
-use Rattle.traffic.specs.Links.{LinkState, link_state, rules, leave_bay, is_last, may_pass, buffered, waiting, from_wait, from_queue}
-use Rattle.traffic.specs.Links.{wait_after, link_moves}
-use Rattle.traffic.specs.Day.{node_turns, link_turns, turns_of, after, turns_in}
-use Rattle.traffic.specs.Persons.{waiters}
+use Rattle.traffic.specs.declared.world.{Row.Row, Waiter.Waiter}
+use Rattle.rows.specs.declared.settings.Stuck.{Stuck}
 use Rattle.events.specs.declared.event.Phase.TheVariants as phase
-use Rattle.traffic.proofs.Turns.{at-phase_one}
-use Rattle.traffic.proofs.Nodes.{nodes_apart, node_untouched}
-use Rattle.traffic.proofs.Links.{link-at, untouched_all}
-use Rattle.traffic.proofs.Phases.{links_apart}
-use Rattle.traffic.proofs.Sublists.{at_after_all-append}
 use Rattle.law_sleeping.specs.Marks.{last_red, caught_up, catch_up, IsBehind, Buffers, lazy_in_link, lazy_node_view, green_moves}
 use Rattle.law_sleeping.specs.Marks.{lazy_node_turns, AreBehind, buffers_after}
 

@@ -1,14 +1,8 @@
 -- The turns of all links, seen from one link: only its own counts.
 use Rattle.std.proofs.Common.{◌≡◌, ◌≢◌, ℕ, zero, suc, ◌+◌, ◌<◌, ◌≤◌, List, [], ◌++◌, ap, sym, ◌∙◌, eqb, arith, inl, inr}
-use Rattle.std.specs.List.{flat_map}
-use Rattle.std.proofs.lemmas.Bool.{cases_Bool, eqb-true, eqb-false}
-use Rattle.traffic.specs.declared.moves.Move.{Move}
-use Rattle.traffic.specs.Lists.{numbers}
-use Rattle.traffic.specs.Rows.{World}
-use Rattle.traffic.specs.Setup.{Setup}
-use Rattle.traffic.specs.Day.{link_turns}
-use Rattle.traffic.specs.Frames.{AreAt}
+use Rattle.std.{proofs.lemmas.Bool.cases_Bool, proofs.lemmas.Bool.eqb-true, proofs.lemmas.Bool.eqb-false, specs.List.flat_map}
 use Rattle.traffic.proofs.Links.{link-at}
+use Rattle.traffic.specs.{Day.link_turns, Frames.AreAt, Lists.numbers, Rows.World, Setup.Setup, declared.moves.Move.Move}
 
 -- of what moves make one after the other of something at the link, and of which the moves of other links change nothing
 module _ {X : Type 0} (F : List Move → X → X) (S : Setup) (t m : ℕ) (V : World) (append : (xs ys : List Move) (x : X) → F (xs ++ ys) x ≡ F ys (F xs x))

@@ -1,23 +1,15 @@
 -- A node's turn is the handing over of those that can.
-use Rattle.std.proofs.Common.{◌≡◌, ℕ, zero, suc, ◌+◌, ◌*◌, ◌^◌, ◌<◌, ◌≢◌, Bool, true, false, List, [], ◌∷◌, ◌++◌, length, get_or, refl, ap}
-use Rattle.std.proofs.Common.{sym, ◌∙◌, subst, eqb, arith, inl, inr, append-nil}
+use Rattle.std.proofs.Common.{◌≡◌, ℕ, zero, suc, ◌+◌, ◌*◌, ◌^◌, ◌<◌, ◌≢◌, Bool, true, false, List, [], ◌∷◌, ◌++◌, length, get_or, refl, ap, sym, ◌∙◌, subst}
+use Rattle.std.proofs.Common.{eqb, arith, inl, inr, append-nil}
+use Rattle.std.proofs.lemmas.Bool.{cases_Bool, or_parts, or_cases, or_left, or_right, and_right, Decides.nat_tests}
+use Rattle.std.{proofs.lemmas.List.Sums.sum_by-cons, specs.List.AllByRecursion as Each}
 use Rattle.std.specs.Prelude.{map, filter, not, ◌&&◌, ◌||◌, Option, None, Some, sum}
-use Rattle.std.specs.List.{AllByRecursion as Each}
-use Rattle.std.proofs.lemmas.Bool.{cases_Bool, or_parts, or_cases, or_left, or_right, and_right}
-use Rattle.std.proofs.lemmas.Bool.Decides.{nat_tests}
-use Rattle.std.proofs.lemmas.List.Sums.{sum_by-cons}
 use Rattle.draws.proofs.Ranges.{pick_within}
-use Rattle.traffic.specs.declared.moves.Move.{Move}
-use Rattle.traffic.specs.declared.moves.Move.TheVariants.{Transfer}
+use Rattle.traffic.{proofs.Each.each_kept, proofs.Each.each_weaker, proofs.Each.each_without_at, specs.Lists.is_nil, specs.Lists.without_at}
+use Rattle.traffic.specs.Nodes.{NodeView, next_link, is_out_link, has_room, with_one_more, one_more, is_stuck, may_enter, pass_node, since_of, out_links_by}
+use Rattle.traffic.specs.Nodes.{out_links_after, pass_node_all, drawn, no_in_link, draw, ready, red, candidates, mark, node_moves}
+use Rattle.traffic.specs.declared.{moves.Move.Move, moves.Move.TheVariants.Transfer, node_views.InLink.InLink, node_views.OutLink.OutLink, world.Row.Row}
 use Rattle.rows.specs.declared.settings.Stuck.{Stuck}
-use Rattle.traffic.specs.declared.node_views.InLink.{InLink}
-use Rattle.traffic.specs.declared.node_views.OutLink.{OutLink}
-use Rattle.traffic.specs.declared.world.Row.{Row}
-use Rattle.traffic.specs.Lists.{is_nil, without_at}
-use Rattle.traffic.specs.Nodes.{NodeView, next_link, is_out_link, has_room, with_one_more, one_more, is_stuck, may_enter, pass_node}
-use Rattle.traffic.specs.Nodes.{since_of, out_links_by, out_links_after, pass_node_all, drawn, no_in_link, draw, ready, red, candidates}
-use Rattle.traffic.specs.Nodes.{mark, node_moves}
-use Rattle.traffic.proofs.Each.{each_kept, each_weaker, each_without_at}
 use Rattle.law_sleeping.specs.Able.{can_go, can_pass_node, is_able, IsFuller, AreWeighted, AreWords, order, pass_node_each, Choice, HasAble}
 use Rattle.law_sleeping.specs.Able.{by_chosen, draw_lazily}
 

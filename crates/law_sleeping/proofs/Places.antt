@@ -1,37 +1,21 @@
 -- No place of a link comes free in a second but by the holes that end.
-use Rattle.std.proofs.Common.{◌≡◌, ◌≢◌, ℕ, zero, suc, ◌+◌, ◌-◌, ◌<◌, ◌≤◌, Bool, true, false, List, [], ◌∷◌, ◌++◌, length, refl, ap, sym}
-use Rattle.std.proofs.Common.{◌∙◌, subst, eqb, arith, inl, inr, append-nil, length-append}
-use Rattle.std.specs.Prelude.{filter, if◌then◌else◌, ◌⊎◌, replicate, nat_le, nat_lt}
-use Rattle.std.specs.List.{flat_map}
-use Rattle.std.proofs.lemmas.Bool.{cases_Bool, cases_lt, eqb-false, ne_eqb, eq-eqb, lt-ltb}
-use Rattle.std.proofs.lemmas.List.Elements.{filter-append}
+use Rattle.std.proofs.Common.{◌≡◌, ◌≢◌, ℕ, zero, suc, ◌+◌, ◌-◌, ◌<◌, ◌≤◌, Bool, true, false, List, [], ◌∷◌, ◌++◌, length, refl, ap, sym, ◌∙◌, subst, eqb, arith}
+use Rattle.std.proofs.Common.{inl, inr, append-nil, length-append}
+use Rattle.std.proofs.lemmas.{Bool.cases_Bool, Bool.cases_lt, Bool.eqb-false, Bool.ne_eqb, Bool.eq-eqb, Bool.lt-ltb, List.Elements.filter-append}
+use Rattle.std.specs.{List.flat_map, Prelude.filter, Prelude.if◌then◌else◌, Prelude.◌⊎◌, Prelude.replicate, Prelude.nat_le, Prelude.nat_lt}
 use Rattle.events.specs.declared.event.Phase.TheVariants as phase
-use Rattle.fixed_flow.specs.declared.TheConstants.{VEHICLE_COST}
-use Rattle.fixed_flow.specs.Flow.{raised}
-use Rattle.traffic.specs.declared.moves.Move.{Move}
-use Rattle.traffic.specs.declared.moves.Move.TheVariants.{Transfer, Remove, Enter, SetFrontSince, Credit, LeaveHole, Report}
-use Rattle.traffic.specs.declared.numbers.Rules.{Rules}
-use Rattle.traffic.specs.declared.stage.Stage.TheVariants.{Queue, Wait, Bay}
-use Rattle.traffic.specs.declared.world.Row.{Row}
-use Rattle.traffic.specs.declared.world.Waiter.{Waiter}
-use Rattle.traffic.specs.Lists.{numbers, below}
-use Rattle.traffic.specs.Rows.{World, on, at, holes_at}
-use Rattle.traffic.specs.Setup.{Setup, hole_of}
-use Rattle.traffic.specs.Stops.{calls_on, left_behind, served_row}
-use Rattle.traffic.specs.Moves.{at_after, at_after_all, hole_after, hole_after_all, run}
-use Rattle.traffic.specs.Links.{LinkState, link_state, rules, leave_bay, is_last, may_pass, buffered, waiting, from_wait, from_queue}
-use Rattle.traffic.specs.Links.{wait_after, link_moves}
-use Rattle.traffic.specs.Nodes.{in_force, taken_at}
-use Rattle.traffic.specs.Persons.{waiters}
-use Rattle.traffic.specs.Day.{node_turns, link_turns, turns_of, turns_in, moves_of, after}
-use Rattle.traffic.specs.Frames.{AreFromBuffers, IsAt, AreAt}
-use Rattle.traffic.proofs.Sublists.{at-run, holes-run}
+use Rattle.fixed_flow.specs.{Flow.raised, declared.TheConstants.VEHICLE_COST}
+use Rattle.traffic.proofs.{Links.link-at, Links.untouched_all, Nodes.node-buffers, Nodes.buffers-holes, Phases.links_apart, Sublists.at-run, Sublists.holes-run}
 use Rattle.traffic.proofs.Turns.{Distinct-numbers, at-phase, at-phase_one}
-use Rattle.traffic.proofs.Nodes.{node-buffers, buffers-holes}
-use Rattle.traffic.proofs.Links.{link-at, untouched_all}
-use Rattle.traffic.proofs.Phases.{links_apart}
-use Rattle.law_sleeping.proofs.Starts.{phase_moves}
-use Rattle.law_sleeping.proofs.OneLink.{none_of, one_of}
+use Rattle.traffic.specs.{Day.node_turns, Day.link_turns, Day.turns_of, Day.turns_in, Day.moves_of, Day.after, Frames.AreFromBuffers, Frames.IsAt, Frames.AreAt}
+use Rattle.traffic.specs.Links.{LinkState, link_state, rules, leave_bay, is_last, may_pass, buffered, waiting, from_wait, from_queue, wait_after, link_moves}
+use Rattle.traffic.specs.{Lists.numbers, Lists.below, Moves.at_after, Moves.at_after_all, Moves.hole_after, Moves.hole_after_all, Moves.run, Nodes.in_force}
+use Rattle.traffic.specs.{Nodes.taken_at, Persons.waiters, Rows.World, Rows.on, Rows.at, Rows.holes_at, Setup.Setup, Setup.hole_of, Stops.calls_on}
+use Rattle.traffic.specs.{Stops.left_behind, Stops.served_row, declared.moves.Move.Move}
+use Rattle.traffic.specs.declared.moves.Move.TheVariants.{Transfer, Remove, Enter, SetFrontSince, Credit, LeaveHole, Report}
+use Rattle.traffic.specs.declared.{numbers.Rules.Rules, stage.Stage.TheVariants.Queue, stage.Stage.TheVariants.Wait, stage.Stage.TheVariants.Bay}
+use Rattle.traffic.specs.declared.world.{Row.Row, Waiter.Waiter}
+use Rattle.law_sleeping.proofs.{OneLink.none_of, OneLink.one_of, Starts.phase_moves}
 
 -- A LINK'S OWN TURN
 -- rows leave this queue, each for a hole

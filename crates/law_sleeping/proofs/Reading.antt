@@ -1,24 +1,15 @@
 -- Which words a node's turn reads, and its laws as they stand.
-use Rattle.std.proofs.Common.{Bool, ◌≢◌, subst, ◌≡◌, ℕ, zero, suc, ◌+◌, ◌*◌, ◌<◌, ◌≤◌, true, false, List, [], ◌∷◌, ◌++◌, length, get_or}
-use Rattle.std.proofs.Common.{refl, ap, sym, ◌∙◌, eqb, arith, inl, inr}
-use Rattle.std.specs.Prelude.{map, filter, not, Option}
-use Rattle.std.proofs.lemmas.Bool.{cases_eq, cases_Bool, and_right}
-use Rattle.std.specs.List.{AllByRecursion as Each}
-use Rattle.traffic.specs.declared.moves.Move.{Move}
+use Rattle.std.proofs.Common.{Bool, ◌≢◌, subst, ◌≡◌, ℕ, zero, suc, ◌+◌, ◌*◌, ◌<◌, ◌≤◌, true, false, List, [], ◌∷◌, ◌++◌, length, get_or, refl, ap, sym, ◌∙◌}
+use Rattle.std.proofs.{Common.eqb, Common.arith, Common.inl, Common.inr, lemmas.Bool.cases_eq, lemmas.Bool.cases_Bool, lemmas.Bool.and_right}
+use Rattle.std.specs.{List.AllByRecursion as Each, Prelude.map, Prelude.filter, Prelude.not, Prelude.Option}
+use Rattle.traffic.{proofs.Each.each_kept, specs.Lists.is_nil, specs.Lists.without_at, specs.Lists.numbers}
+use Rattle.traffic.specs.Nodes.{draw, NodeView, in_link, out_link, node_view, out_links_after, pass_node_all, drawn, no_in_link, ready, red, candidates, mark}
+use Rattle.traffic.specs.{Nodes.node_moves, Rows.World, Setup.Setup, Setup.link_row, Setup.into}
+use Rattle.traffic.specs.declared.{moves.Move.Move, node_views.InLink.InLink, node_views.OutLink.OutLink, world.Row.Row}
 use Rattle.rows.specs.declared.settings.Stuck.{Stuck}
-use Rattle.traffic.specs.declared.node_views.InLink.{InLink}
-use Rattle.traffic.specs.declared.node_views.OutLink.{OutLink}
-use Rattle.traffic.specs.declared.world.Row.{Row}
-use Rattle.traffic.specs.Lists.{is_nil, without_at, numbers}
-use Rattle.traffic.specs.Rows.{World}
-use Rattle.traffic.specs.Setup.{Setup, link_row, into}
-use Rattle.traffic.specs.Nodes.{draw, NodeView, in_link, out_link, node_view, out_links_after, pass_node_all, drawn, no_in_link, ready, red}
-use Rattle.traffic.specs.Nodes.{candidates, mark, node_moves}
-use Rattle.traffic.proofs.Each.{each_kept}
-use Rattle.law_sleeping.specs.Able.{can_go, can_pass_node, is_able, AreWeighted, AreWords, Choice, HasAble, able_now, able_before}
-use Rattle.law_sleeping.specs.Able.{by_chosen, draw_lazily, count_chosen, words_read}
-use Rattle.law_sleeping.specs.Marks.{Buffers, lazy_in_link, lazy_node_view, lazy_node_turns}
 use Rattle.law_sleeping.proofs.Passing.{draw_none, pass_node_all_none, can_go_before, one_left, lazily}
+use Rattle.law_sleeping.specs.Able.{can_go, can_pass_node, is_able, AreWeighted, AreWords, Choice, HasAble, able_now, able_before, by_chosen, draw_lazily}
+use Rattle.law_sleeping.specs.{Able.count_chosen, Able.words_read, Marks.Buffers, Marks.lazy_in_link, Marks.lazy_node_view, Marks.lazy_node_turns}
 
 -- the two choices have all who can
 pub now_has : (K : Stuck) (t : ℕ) (out_links : ℕ → Option OutLink) → HasAble K t (able_now K t) out_links

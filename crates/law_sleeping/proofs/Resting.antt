@@ -1,18 +1,11 @@
 -- A link that has nothing to do raises its credit alone, and what others do leaves it so unless they wake it.
-use Rattle.std.proofs.Common.{◌≡◌, ℕ, suc, ◌+◌, ◌<◌, ◌≤◌, Bool, true, false, List, [], ◌∷◌, ◌++◌, length, refl, ap, ◌∙◌, arith, inl, inr}
-use Rattle.std.proofs.Common.{append-nil}
-use Rattle.std.specs.Prelude.{map, filter, ◌||◌, ◌⊎◌, nat_le, nat_lt}
-use Rattle.std.specs.List.{AllByRecursion as Each}
+use Rattle.std.proofs.Common.{◌≡◌, ℕ, suc, ◌+◌, ◌<◌, ◌≤◌, Bool, true, false, List, [], ◌∷◌, ◌++◌, length, refl, ap, ◌∙◌, arith, inl, inr, append-nil}
 use Rattle.std.proofs.lemmas.Bool.{cases_Bool, or_parts, and_left, and_right, or_from, lt-leb, le-ltb, lt-ltb, leb-true, leb-false}
-use Rattle.fixed_flow.specs.declared.TheConstants.{VEHICLE_COST}
-use Rattle.fixed_flow.specs.Flow.{raised, raised_times}
-use Rattle.traffic.specs.declared.moves.Move.TheVariants.{Credit}
-use Rattle.traffic.specs.declared.numbers.Rules.{Rules}
-use Rattle.traffic.specs.declared.world.Row.{Row}
-use Rattle.traffic.specs.declared.world.Waiter.{Waiter}
-use Rattle.traffic.specs.Stops.{calls_on}
-use Rattle.traffic.specs.Links.{LinkState, leave_bay, is_last, may_pass, from_wait, from_queue, wait_after, waiting, link_moves}
-use Rattle.traffic.proofs.Each.{each_weaker}
+use Rattle.std.specs.{List.AllByRecursion as Each, Prelude.map, Prelude.filter, Prelude.◌||◌, Prelude.◌⊎◌, Prelude.nat_le, Prelude.nat_lt}
+use Rattle.fixed_flow.specs.{Flow.raised, Flow.raised_times, declared.TheConstants.VEHICLE_COST}
+use Rattle.traffic.{proofs.Each.each_weaker, specs.Links.LinkState, specs.Links.leave_bay}
+use Rattle.traffic.specs.{Links.is_last, Links.may_pass, Links.from_wait, Links.from_queue, Links.wait_after, Links.waiting, Links.link_moves, Stops.calls_on}
+use Rattle.traffic.specs.declared.{moves.Move.TheVariants.Credit, numbers.Rules.Rules, world.Row.Row, world.Waiter.Waiter}
 use Rattle.law_sleeping.specs.Quiet.{can_leave, queue_goes, wait_goes, IsQuiet, IsHeld, QueueSleeps, WaitSleeps, Sleeps, rested}
 
 -- A QUIET LINK

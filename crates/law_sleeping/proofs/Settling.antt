@@ -5,25 +5,17 @@ use Rattle.std.specs.Prelude.{map, filter, not, ◌||◌, if◌then◌else◌, n
 use Rattle.std.specs.List.{AllByRecursion as Each}
 use Rattle.std.proofs.lemmas.Bool.{cases_Bool, or_parts, or_from, or_left, or_right, and_cases, and_left, and_right, and_from, leb-true}
 use Rattle.std.proofs.lemmas.Bool.{leb-false, lt-leb, le-ltb, ltb-true, ltb-false, eqb-true, eqb-false, eq-eqb}
-use Rattle.fixed_flow.specs.declared.TheConstants.{VEHICLE_COST}
-use Rattle.fixed_flow.specs.Flow.{raised}
-use Rattle.traffic.specs.declared.moves.Move.{Move}
+use Rattle.fixed_flow.specs.{Flow.raised, declared.TheConstants.VEHICLE_COST}
+use Rattle.traffic.{proofs.Each.each_append, specs.Links.LinkState, specs.Links.leave_bay, specs.Links.is_last, specs.Links.may_pass}
+use Rattle.traffic.specs.{Links.buffered, Links.waiting, Links.from_wait, Links.from_queue, Links.wait_after, Links.link_moves, Lists.is_nil, Lists.without_at}
+use Rattle.traffic.specs.{Moves.at_after, Rows.VehicleState, Stops.calls_on, Stops.left_behind, Stops.stays_until, Stops.served_row, declared.moves.Move.Move}
 use Rattle.traffic.specs.declared.moves.Move.TheVariants.{Transfer, Remove, Credit, LeaveHole}
-use Rattle.traffic.specs.declared.numbers.Rules.{Rules}
-use Rattle.traffic.specs.declared.stage.Stage.TheVariants.{Queue, Buffer, Wait, Bay}
-use Rattle.traffic.specs.declared.world.Row.{Row}
-use Rattle.traffic.specs.declared.world.Waiter.{Waiter}
-use Rattle.traffic.specs.Lists.{is_nil, without_at}
-use Rattle.traffic.specs.Rows.{VehicleState}
-use Rattle.traffic.specs.Stops.{calls_on, left_behind, stays_until, served_row}
+use Rattle.traffic.specs.declared.{numbers.Rules.Rules, stage.Stage.TheVariants.Queue, stage.Stage.TheVariants.Buffer, stage.Stage.TheVariants.Wait}
+use Rattle.traffic.specs.declared.{stage.Stage.TheVariants.Bay, world.Row.Row, world.Waiter.Waiter}
 use Rattle.rows.specs.declared.settings.Dwelling.{Dwelling}
-use Rattle.traffic.specs.Links.{LinkState, leave_bay, is_last, may_pass, buffered, waiting, from_wait, from_queue, wait_after, link_moves}
-use Rattle.traffic.proofs.Each.{each_append}
-use Rattle.law_sleeping.specs.Quiet.{can_leave, queue_goes, wait_goes, IsPoor, IsHeld, QueueSleeps, WaitSleeps, Sleeps, link_state_after}
-use Rattle.law_sleeping.specs.Quiet.{link_state_after_all, IsSettled, held_due, queue_due, wait_due, IsBy, IsDue, has_come, is_blocked}
-use Rattle.law_sleeping.proofs.Sleep.{poor_until, poor_ever}
-use Rattle.law_sleeping.proofs.Whole.{link_state_append}
-use Rattle.traffic.specs.Moves.{at_after}
+use Rattle.law_sleeping.proofs.{Sleep.poor_until, Sleep.poor_ever, Whole.link_state_append}
+use Rattle.law_sleeping.specs.Quiet.{can_leave, queue_goes, wait_goes, IsPoor, IsHeld, QueueSleeps, WaitSleeps, Sleeps, link_state_after, link_state_after_all}
+use Rattle.law_sleeping.specs.Quiet.{IsSettled, held_due, queue_due, wait_due, IsBy, IsDue, has_come, is_blocked}
 
 -- FROM SETTLED TO SLEEP
 pass_parts : (K : Rules) (b c : ℕ) → may_pass K b c ≡ false → nat_le K.room b ≡ false → c < VEHICLE_COST

@@ -1,26 +1,12 @@
 -- Turns that do nothing may be left out of a phase.
 use Rattle.std.proofs.Common.{◌≡◌, ◌≢◌, ℕ, Bool, false, List, [], ◌∷◌, ◌++◌, refl, ap, sym, ◌∙◌, subst, inl, inr}
-use Rattle.std.specs.Prelude.{map, filter}
-use Rattle.std.specs.List.{flat_map}
-use Rattle.std.proofs.lemmas.Bool.{cases_Bool}
-use Rattle.events.specs.declared.event.Event.{Event}
-use Rattle.events.specs.declared.event.Phase.{Phase}
-use Rattle.events.specs.Keys.{phase_code}
-use Rattle.traffic.specs.declared.moves.Move.{Move}
-use Rattle.traffic.specs.declared.moves.Move.TheVariants.{Credit}
-use Rattle.traffic.specs.declared.stage.Stage.{Stage}
+use Rattle.std.{proofs.lemmas.Bool.cases_Bool, specs.List.flat_map, specs.Prelude.map, specs.Prelude.filter}
+use Rattle.events.specs.{Keys.phase_code, declared.event.Event.Event, declared.event.Phase.Phase}
+use Rattle.traffic.proofs.{Phases.phase_at_once, Phases.plans_apart, Turns.Distinct-numbers, Turns.at-phase}
+use Rattle.traffic.specs.{Day.Turn, Day.turns_of, Day.count_of, Day.turns_in, Day.keyed, Day.events_of, Day.events_in, Day.after, Frames.turn_of}
+use Rattle.traffic.specs.{Frames.Untouched, Lists.below, Moves.told, Moves.same, Moves.at_after_all, Nodes.mark, Rows.World, Rows.at, Setup.Setup}
+use Rattle.traffic.specs.declared.{moves.Move.Move, moves.Move.TheVariants.Credit, moves.Occurrence.Occurrence, node_views.InLink.InLink, stage.Stage.Stage}
 use Rattle.traffic.specs.declared.stage.Stage.TheVariants.{Queue, Buffer, Wait, Bay}
-use Rattle.traffic.specs.declared.node_views.InLink.{InLink}
-use Rattle.traffic.specs.Lists.{below}
-use Rattle.traffic.specs.Rows.{World, at}
-use Rattle.traffic.specs.Setup.{Setup}
-use Rattle.traffic.specs.declared.moves.Occurrence.{Occurrence}
-use Rattle.traffic.specs.Moves.{told, same, at_after_all}
-use Rattle.traffic.specs.Nodes.{mark}
-use Rattle.traffic.specs.Day.{Turn, turns_of, count_of, turns_in, keyed, events_of, events_in, after}
-use Rattle.traffic.specs.Frames.{turn_of, Untouched}
-use Rattle.traffic.proofs.Turns.{Distinct-numbers, at-phase}
-use Rattle.traffic.proofs.Phases.{phase_at_once, plans_apart}
 
 -- WHAT IS TOLD
 marks_quiet : (t : ℕ) (es : List InLink) → flat_map told (map (mark t) es) ≡ []

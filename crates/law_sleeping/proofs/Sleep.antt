@@ -1,31 +1,18 @@
 -- How long a link sleeps, and what others do meanwhile.
-use Rattle.std.proofs.Common.{◌≡◌, ◌≢◌, ℕ, suc, ◌+◌, ◌-◌, ◌<◌, ◌≤◌, Bool, true, false, List, [], ◌∷◌, ◌++◌, length, refl, ap, sym, ◌∙◌}
-use Rattle.std.proofs.Common.{subst, eqb, arith, inl, inr, append-nil, length-append}
-use Rattle.std.specs.Prelude.{◌⊎◌, if◌then◌else◌}
-use Rattle.std.specs.List.{AllByRecursion as Each}
-use Rattle.std.proofs.lemmas.Bool.{cases_lt, ne_eqb, eqb-true, and_right, and_parts}
-use Rattle.fixed_flow.specs.declared.TheConstants.{VEHICLE_COST}
-use Rattle.fixed_flow.specs.Flow.{raised, raised_times}
-use Rattle.fixed_flow.specs.Link.{ceiling}
-use Rattle.traffic.specs.declared.moves.Move.{Move}
+use Rattle.std.proofs.Common.{◌≡◌, ◌≢◌, ℕ, suc, ◌+◌, ◌-◌, ◌<◌, ◌≤◌, Bool, true, false, List, [], ◌∷◌, ◌++◌, length, refl, ap, sym, ◌∙◌, subst, eqb, arith, inl}
+use Rattle.std.proofs.Common.{inr, append-nil, length-append}
+use Rattle.std.proofs.lemmas.{Bool.cases_lt, Bool.ne_eqb, Bool.eqb-true, Bool.and_right, Bool.and_parts, List.length-set}
+use Rattle.std.specs.{List.AllByRecursion as Each, Prelude.◌⊎◌, Prelude.if◌then◌else◌}
+use Rattle.fixed_flow.specs.{Flow.raised, Flow.raised_times, Link.ceiling, declared.TheConstants.VEHICLE_COST}
+use Rattle.traffic.proofs.{Each.each_append, Each.each_weaker, Sublists.at-done, Sublists.credit-done}
+use Rattle.traffic.specs.{Day.turns_in, Day.moves_of, Day.after, Links.LinkState, Links.link_state, Lists.without_at, Lists.on_front, Moves.same}
+use Rattle.traffic.specs.{Moves.at_second, Moves.done, Moves.run, Moves.credits_after, Rows.rank, Rows.World, Rows.on, Setup.Setup, declared.moves.Move.Move}
 use Rattle.traffic.specs.declared.moves.Move.TheVariants.{Transfer, Remove, Enter, SetFrontSince, Credit, LeaveHole, Report}
-use Rattle.traffic.specs.declared.numbers.Rules.{Rules}
-use Rattle.traffic.specs.declared.stage.Stage.{Stage}
-use Rattle.traffic.specs.declared.stage.Stage.TheVariants.{Queue, Buffer, Wait, Bay}
-use Rattle.traffic.specs.declared.world.Row.{Row}
-use Rattle.traffic.specs.Lists.{without_at, on_front}
-use Rattle.traffic.specs.Rows.{rank, World, on}
-use Rattle.traffic.specs.Setup.{Setup}
-use Rattle.traffic.specs.Moves.{same, at_second, done, run, credits_after}
-use Rattle.traffic.specs.Links.{LinkState, link_state}
+use Rattle.traffic.specs.declared.{numbers.Rules.Rules, stage.Stage.Stage, stage.Stage.TheVariants.Queue, stage.Stage.TheVariants.Buffer}
+use Rattle.traffic.specs.declared.{stage.Stage.TheVariants.Wait, stage.Stage.TheVariants.Bay, world.Row.Row}
 use Rattle.events.specs.declared.event.Phase.{Phase}
-use Rattle.traffic.specs.Day.{turns_in, moves_of, after}
-use Rattle.traffic.proofs.Each.{each_append, each_weaker}
-use Rattle.traffic.proofs.Sublists.{at-done, credit-done}
-use Rattle.std.proofs.lemmas.List.{length-set}
-use Rattle.law_sleeping.specs.Quiet.{IsPoor, IsHeld, QueueSleeps, WaitSleeps, Sleeps, link_state_after, link_state_after_all, TakesAside}
-use Rattle.law_sleeping.specs.Quiet.{ComesAside, IsAside, AreAside}
-use Rattle.law_sleeping.proofs.Credits.{raised_more, pays_after, never_pays}
+use Rattle.law_sleeping.{proofs.Credits.raised_more, proofs.Credits.pays_after, proofs.Credits.never_pays, specs.Quiet.IsPoor}
+use Rattle.law_sleeping.specs.Quiet.{IsHeld, QueueSleeps, WaitSleeps, Sleeps, link_state_after, link_state_after_all, TakesAside, ComesAside, IsAside, AreAside}
 
 -- WITHIN THE SLEEP
 poor_next : (gain t due c : ℕ) → IsPoor gain t due c → IsPoor gain (suc t) due (raised gain c)

@@ -1,31 +1,18 @@
 -- What persons and departures do is said to nobody but the wait lists.
 use Rattle.std.proofs.Common.{◌≡◌, ◌≢◌, ℕ, ◌+◌, false, List, [], ◌∷◌, refl, ap, sym, ◌∙◌, subst, eqb, append-nil}
-use Rattle.std.specs.Prelude.{Some}
-use Rattle.std.specs.List.{flat_map, AllByRecursion as Each}
+use Rattle.std.specs.{List.flat_map, List.AllByRecursion as Each, Prelude.Some}
 use Rattle.events.specs.declared.event.Phase.{Phase}
 use Rattle.events.specs.declared.event.Phase.TheVariants as phase
-use Rattle.traffic.specs.declared.moves.Move.{Move}
-use Rattle.traffic.specs.declared.moves.Move.TheVariants.{Enter, Report}
-use Rattle.traffic.specs.declared.stage.Stage.{Stage}
-use Rattle.traffic.specs.declared.stage.Stage.TheVariants.{Queue, Buffer, Wait, Bay}
-use Rattle.traffic.specs.declared.world.Row.{Row}
-use Rattle.traffic.specs.declared.world.Place.{Place}
-use Rattle.traffic.specs.declared.world.Place.TheVariants.{At, Teleporting}
-use Rattle.traffic.specs.Lists.{below}
-use Rattle.traffic.specs.Rows.{World, on, at, holes_at, person_of}
-use Rattle.rows.specs.declared.plan.Act.{Act}
-use Rattle.rows.specs.declared.plan.Leg.{Leg}
-use Rattle.rows.specs.declared.plan.Leg.TheVariants as leg
-use Rattle.traffic.specs.Setup.{Setup, act_at, leg_at, act_after, departure}
-use Rattle.traffic.specs.Moves.{at_after, at_after_all}
-use Rattle.traffic.specs.Persons.{landing, landing_moves, sets_out, leaving, leaving_moves, departure_moves}
+use Rattle.traffic.proofs.{Each.each_flat_all, Each.each_if, Nodes.buffers-holes, Phases.phase_at_once, Sublists.at-run, Sublists.holes-run, Turns.moves_of-map}
 use Rattle.traffic.specs.Day.{turns_of, count_of, turns_in, moves_of, after}
-use Rattle.traffic.specs.Frames.{AreFromBuffers}
-use Rattle.traffic.proofs.Each.{each_flat_all, each_if}
-use Rattle.traffic.proofs.Sublists.{at-run, holes-run}
-use Rattle.traffic.proofs.Turns.{moves_of-map}
-use Rattle.traffic.proofs.Phases.{phase_at_once}
-use Rattle.traffic.proofs.Nodes.{buffers-holes}
+use Rattle.traffic.specs.{Frames.AreFromBuffers, Lists.below, Moves.at_after, Moves.at_after_all, Persons.landing, Persons.landing_moves, Persons.sets_out}
+use Rattle.traffic.specs.{Persons.leaving, Persons.leaving_moves, Persons.departure_moves, Rows.World, Rows.on, Rows.at, Rows.holes_at, Rows.person_of}
+use Rattle.traffic.specs.Setup.{Setup, act_at, leg_at, act_after, departure}
+use Rattle.traffic.specs.declared.{moves.Move.Move, moves.Move.TheVariants.Enter, moves.Move.TheVariants.Report, stage.Stage.Stage}
+use Rattle.traffic.specs.declared.stage.Stage.TheVariants.{Queue, Buffer, Wait, Bay}
+use Rattle.traffic.specs.declared.world.{Place.Place, Place.TheVariants.At, Place.TheVariants.Teleporting, Row.Row}
+use Rattle.rows.specs.declared.plan.{Act.Act, Leg.Leg}
+use Rattle.rows.specs.declared.plan.Leg.TheVariants as leg
 
 -- a move of a person or a departure: a row comes to the end of a wait list, or something is told
 abbrev pub IsStart : Move → Type 0

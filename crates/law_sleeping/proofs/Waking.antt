@@ -1,24 +1,17 @@
 -- A node sleeps while no front and no room comes.
-use Rattle.std.proofs.Common.{◌≡◌, ℕ, zero, suc, ◌+◌, ◌-◌, ◌<◌, ◌≤◌, max, Bool, true, false, List, [], ◌∷◌, ◌++◌, length, refl, ap, sym}
-use Rattle.std.proofs.Common.{subst, eqb, arith, inl, inr}
-use Rattle.std.specs.Prelude.{◌⊎◌, not, map, filter, nat_lt}
-use Rattle.std.specs.List.{AllByRecursion as Each}
+use Rattle.std.proofs.Common.{◌≡◌, ℕ, zero, suc, ◌+◌, ◌-◌, ◌<◌, ◌≤◌, max, Bool, true, false, List, [], ◌∷◌, ◌++◌, length, refl, ap, sym, subst, eqb, arith, inl}
+use Rattle.std.proofs.Common.{inr}
 use Rattle.std.proofs.lemmas.Bool.{cases_Bool, cases_lt, ne_eqb, eqb-true, lt-leb, le-ltb, lt-ltb, ltb-false, or_from, and_left, and_right}
+use Rattle.std.specs.{List.AllByRecursion as Each, Prelude.◌⊎◌, Prelude.not, Prelude.map, Prelude.filter, Prelude.nat_lt}
 use Rattle.rows.specs.declared.settings.Stuck.{Stuck}
-use Rattle.traffic.specs.declared.node_views.InLink.{InLink}
-use Rattle.traffic.specs.declared.world.Row.{Row}
-use Rattle.traffic.specs.Lists.{is_nil, numbers}
-use Rattle.traffic.specs.Rows.{World, holes_at}
-use Rattle.traffic.specs.Setup.{Setup, link_row, into, hole_of, storage_of}
-use Rattle.traffic.specs.Nodes.{NodeView, in_force, taken_at, out_link, node_view, next_link, has_room, is_stuck, red, mark, node_moves}
-use Rattle.traffic.specs.Nodes.{ready, candidates}
-use Rattle.traffic.specs.Day.{node_turns}
-use Rattle.traffic.proofs.Each.{each_kept}
+use Rattle.traffic.{proofs.Each.each_kept, specs.Day.node_turns, specs.Lists.is_nil, specs.Lists.numbers}
+use Rattle.traffic.specs.Nodes.{NodeView, in_force, taken_at, out_link, node_view, next_link, has_room, is_stuck, red, mark, node_moves, ready, candidates}
+use Rattle.traffic.specs.{Rows.World, Rows.holes_at, Setup.Setup, Setup.link_row, Setup.into, Setup.hole_of, Setup.storage_of}
+use Rattle.traffic.specs.declared.{node_views.InLink.InLink, world.Row.Row}
+use Rattle.law_sleeping.proofs.{Marking.same_node_view, Marking.last_red_in, Passing.node_rest, Passing.cannot_green, Passing.draw_none}
 use Rattle.law_sleeping.specs.Able.{can_go, is_able}
 use Rattle.law_sleeping.specs.Marks.{last_red, catch_up, Buffers, lazy_in_link, lazy_node_view, AreBehind, lazy_node_turns}
 use Rattle.law_sleeping.specs.Waking.{FrontSleeps, NodeSleeps, IsFull, IsRedUntil, IsHeldUp, SameFront, ForFront, NoneFree}
-use Rattle.law_sleeping.proofs.Passing.{node_rest, cannot_green, draw_none}
-use Rattle.law_sleeping.proofs.Marking.{same_node_view, last_red_in}
 
 -- NOBODY CAN
 front_cannot : (S : Setup) (t due n l u : ℕ) (V : World) (rows : List Row) → FrontSleeps S t due n l V rows → t < u → u < due → S.green l u

@@ -1,42 +1,24 @@
 -- Whole seconds: places, buffers, lists.
-use Rattle.std.proofs.Common.{◌≡◌, ◌≢◌, ℕ, zero, suc, ◌+◌, ◌-◌, ◌<◌, ◌≤◌, Bool, true, false, List, [], ◌∷◌, ◌++◌, length, refl, ap, sym}
-use Rattle.std.proofs.Common.{◌∙◌, subst, arith, inl, inr, append-nil, append_assoc}
-use Rattle.std.specs.Prelude.{replicate, if◌then◌else◌, ◌⊎◌, nat_le, nat_lt}
-use Rattle.std.specs.List.{AllByRecursion as Each}
-use Rattle.std.proofs.lemmas.Bool.{cases_Bool, ne_eqb, eq-eqb}
+use Rattle.std.proofs.Common.{◌≡◌, ◌≢◌, ℕ, zero, suc, ◌+◌, ◌-◌, ◌<◌, ◌≤◌, Bool, true, false, List, [], ◌∷◌, ◌++◌, length, refl, ap, sym, ◌∙◌, subst, arith, inl}
+use Rattle.std.proofs.{Common.inr, Common.append-nil, Common.append_assoc, lemmas.Bool.cases_Bool, lemmas.Bool.ne_eqb, lemmas.Bool.eq-eqb}
+use Rattle.std.specs.{List.AllByRecursion as Each, Prelude.replicate, Prelude.if◌then◌else◌, Prelude.◌⊎◌, Prelude.nat_le, Prelude.nat_lt}
 use Rattle.events.specs.declared.event.Phase.TheVariants as phase
-use Rattle.fixed_flow.specs.declared.TheConstants.{VEHICLE_COST}
-use Rattle.fixed_flow.specs.Flow.{raised, raised_times}
-use Rattle.traffic.specs.declared.moves.Move.{Move}
-use Rattle.traffic.specs.declared.moves.Move.TheVariants.{Transfer, Remove, Credit, LeaveHole}
-use Rattle.traffic.specs.declared.numbers.Rules.{Rules}
-use Rattle.traffic.specs.declared.stage.Stage.{Stage}
-use Rattle.traffic.specs.declared.stage.Stage.TheVariants.{Queue, Buffer, Wait, Bay}
-use Rattle.traffic.specs.declared.world.Row.{Row}
-use Rattle.traffic.specs.declared.world.Waiter.{Waiter}
-use Rattle.traffic.specs.Rows.{World, on, at, holes_at}
-use Rattle.traffic.specs.Setup.{Setup, link_row, hole_of}
-use Rattle.traffic.specs.Stops.{calls_on, left_behind, served_row}
-use Rattle.traffic.specs.Moves.{same, at_after, at_after_all, credit_after}
-use Rattle.traffic.specs.Links.{LinkState, link_state, rules, leave_bay, is_last, may_pass, buffered, waiting, from_wait, from_queue}
-use Rattle.traffic.specs.Links.{wait_after, link_moves}
-use Rattle.traffic.specs.Nodes.{next_link, taken_at}
-use Rattle.traffic.specs.Persons.{waiters}
+use Rattle.fixed_flow.specs.{Flow.raised, Flow.raised_times, declared.TheConstants.VEHICLE_COST}
+use Rattle.traffic.proofs.{Links.untouched_all, Nodes.buffers-holes, Sublists.at_after-untouched, Sublists.holes-run}
 use Rattle.traffic.specs.Day.{link_turns, turns_of, turns_in, moves_of, after, through, second, world_at, world_from, world_start}
 use Rattle.traffic.specs.Frames.{IsAt, AreAt}
-use Rattle.traffic.proofs.Sublists.{at_after-untouched, holes-run}
-use Rattle.traffic.proofs.Nodes.{buffers-holes}
-use Rattle.traffic.proofs.Links.{untouched_all}
-use Rattle.law_sleeping.specs.Quiet.{Sleeps, link_state_after, link_state_after_all}
+use Rattle.traffic.specs.Links.{LinkState, link_state, rules, leave_bay, is_last, may_pass, buffered, waiting, from_wait, from_queue, wait_after, link_moves}
+use Rattle.traffic.specs.{Moves.same, Moves.at_after, Moves.at_after_all, Moves.credit_after, Nodes.next_link, Nodes.taken_at, Persons.waiters, Rows.World}
+use Rattle.traffic.specs.{Rows.on, Rows.at, Rows.holes_at, Setup.Setup, Setup.link_row, Setup.hole_of, Stops.calls_on, Stops.left_behind, Stops.served_row}
+use Rattle.traffic.specs.declared.moves.Move.{Move, TheVariants.Transfer, TheVariants.Remove, TheVariants.Credit, TheVariants.LeaveHole}
+use Rattle.traffic.specs.declared.{numbers.Rules.Rules, stage.Stage.Stage, stage.Stage.TheVariants.Queue, stage.Stage.TheVariants.Buffer}
+use Rattle.traffic.specs.declared.{stage.Stage.TheVariants.Wait, stage.Stage.TheVariants.Bay, world.Row.Row, world.Waiter.Waiter}
+use Rattle.law_sleeping.proofs.{Marking.phase_behind, Marking.phase_links, OneLink.one_of, Places.links_free, Places.links_keep_places}
+use Rattle.law_sleeping.proofs.{Places.nodes_keep_places, Places.run_places, Places.nodes_buffers, Resting.sleeps_moves, Sleep.link_state_run, Sleep.sleeps_on}
+use Rattle.law_sleeping.proofs.{Starts.phase_moves, Starts.early_kept, Starts.early_holes, Starts.early_buffers, Waking.node_kept}
 use Rattle.law_sleeping.specs.Marks.{IsBehind, Buffers, AreBehind, buffers_after, buffers_second}
+use Rattle.law_sleeping.specs.Quiet.{Sleeps, link_state_after, link_state_after_all}
 use Rattle.law_sleeping.specs.Waking.{NodeSleeps, SameFront, ForFront, IsRedUntil, NoneFree, NoneLeft}
-use Rattle.law_sleeping.proofs.Starts.{phase_moves, early_kept, early_holes, early_buffers}
-use Rattle.law_sleeping.proofs.OneLink.{one_of}
-use Rattle.law_sleeping.proofs.Places.{links_free, links_keep_places, nodes_keep_places, run_places, nodes_buffers}
-use Rattle.law_sleeping.proofs.Marking.{phase_behind, phase_links}
-use Rattle.law_sleeping.proofs.Waking.{node_kept}
-use Rattle.law_sleeping.proofs.Resting.{sleeps_moves}
-use Rattle.law_sleeping.proofs.Sleep.{link_state_run, sleeps_on}
 
 -- PLACES
 pub nodes_holes : (S : Setup) (t m : ℕ) (V : World) → holes_at m (after S t (turns_in S t phase.C V) V) ≡ holes_at m V

@@ -1,14 +1,10 @@
 -- Which links into a node can hand over, and the drawing among these alone.
-use Rattle.std.specs.Prelude.{◌≡◌, ℕ, zero, suc, ◌+◌, ◌*◌, ◌^◌, ◌<◌, Bool, true, false, ◌&&◌, ◌||◌, List, [], ◌∷◌, ◌++◌, filter, get_or}
-use Rattle.std.specs.Prelude.{Option}
 use Rattle.std.specs.List.{AllByRecursion as Each}
-use Rattle.traffic.specs.declared.moves.Move.{Move}
-use Rattle.rows.specs.declared.settings.Stuck.{Stuck}
-use Rattle.traffic.specs.declared.node_views.InLink.{InLink}
-use Rattle.traffic.specs.declared.node_views.OutLink.{OutLink}
-use Rattle.traffic.specs.declared.world.Row.{Row}
+use Rattle.std.specs.Prelude.{◌≡◌, ℕ, zero, suc, ◌+◌, ◌*◌, ◌^◌, ◌<◌, Bool, true, false, ◌&&◌, ◌||◌, List, [], ◌∷◌, ◌++◌, filter, get_or, Option}
 use Rattle.traffic.specs.Lists.{without_at}
 use Rattle.traffic.specs.Nodes.{next_link, has_room, is_stuck, out_links_after, pass_node_all, drawn, no_in_link}
+use Rattle.traffic.specs.declared.{moves.Move.Move, node_views.InLink.InLink, node_views.OutLink.OutLink, world.Row.Row}
+use Rattle.rows.specs.declared.settings.Stuck.{Stuck}
 
 -- whether the first of these rows can leave its buffer: its next link has room, or it is stuck
 abbrev pub can_go : Stuck → ℕ → (ℕ → Option OutLink) → List Row → Bool

@@ -1,17 +1,10 @@
 -- The marks of red fronts, left out and made up when they are read.
 use Rattle.std.specs.Prelude.{◌≡◌, ℕ, zero, suc, ◌<◌, ◌≤◌, max, Bool, List, [], ◌∷◌, length, map, if◌then◌else◌}
-use Rattle.traffic.specs.declared.moves.Move.{Move}
+use Rattle.traffic.specs.{Day.link_turns, Day.through, Lists.on_front, Moves.at_after_all, Nodes.NodeView, Nodes.out_link, Nodes.since_of, Nodes.draw}
+use Rattle.traffic.specs.{Nodes.candidates, Rows.World, Rows.at, Setup.Setup, Setup.link_row, Setup.into}
+use Rattle.traffic.specs.declared.{moves.Move.Move, node_views.InLink.InLink, stage.Stage.TheVariants.Buffer, world.Row.Row}
 use Rattle.rows.specs.declared.settings.Stuck.{Stuck}
-use Rattle.traffic.specs.declared.stage.Stage.TheVariants.{Buffer}
-use Rattle.traffic.specs.declared.node_views.InLink.{InLink}
-use Rattle.traffic.specs.declared.world.Row.{Row}
-use Rattle.traffic.specs.Lists.{on_front}
-use Rattle.traffic.specs.Rows.{World, at}
-use Rattle.traffic.specs.Setup.{Setup, link_row, into}
 use Rattle.events.specs.declared.event.Phase.TheVariants as phase
-use Rattle.traffic.specs.Moves.{at_after_all}
-use Rattle.traffic.specs.Day.{link_turns, through}
-use Rattle.traffic.specs.Nodes.{NodeView, out_link, since_of, draw, candidates}
 
 -- the last red second before second t, and 0 where there is none
 unfoldable pub last_red : (ℕ → Bool) → ℕ → ℕ

@@ -1,21 +1,11 @@
 -- When a link has nothing to do but to gain credit, until when that lasts, and what ends it.
-use Rattle.std.specs.Prelude.{◌≡◌, ◌≢◌, ℕ, ◌+◌, ◌<◌, ◌≤◌, ◌⊎◌, Bool, true, false, not, ◌&&◌, ◌||◌, List, [], ◌∷◌, length, ◌-◌, ◌==◌, nat_le}
-use Rattle.std.specs.Prelude.{if◌then◌else◌, Option, None, Some}
-use Rattle.std.specs.List.{AllByRecursion as Each}
-use Rattle.fixed_flow.specs.declared.TheConstants.{VEHICLE_COST}
-use Rattle.fixed_flow.specs.Flow.{raised, raised_times}
-use Rattle.fixed_flow.specs.Link.{ceiling}
-use Rattle.traffic.specs.declared.moves.Move.{Move}
-use Rattle.traffic.specs.declared.moves.Move.TheVariants.{Transfer, Remove, Enter, Credit}
-use Rattle.traffic.specs.declared.numbers.Rules.{Rules}
-use Rattle.traffic.specs.declared.stage.Stage.{Stage}
-use Rattle.traffic.specs.declared.stage.Stage.TheVariants.{Queue, Buffer, Wait, Bay}
-use Rattle.traffic.specs.declared.world.Row.{Row}
-use Rattle.traffic.specs.Lists.{is_nil}
-use Rattle.traffic.specs.Rows.{on}
-use Rattle.traffic.specs.Stops.{calls_on}
-use Rattle.traffic.specs.Moves.{same, at_after, credit_after}
-use Rattle.traffic.specs.Links.{LinkState, is_last, may_pass}
+use Rattle.std.specs.{List.AllByRecursion as Each, Prelude.◌≡◌, Prelude.◌≢◌, Prelude.ℕ, Prelude.◌+◌}
+use Rattle.std.specs.Prelude.{◌<◌, ◌≤◌, ◌⊎◌, Bool, true, false, not, ◌&&◌, ◌||◌, List, [], ◌∷◌, length, ◌-◌, ◌==◌, nat_le, if◌then◌else◌, Option, None, Some}
+use Rattle.fixed_flow.specs.{Flow.raised, Flow.raised_times, Link.ceiling, declared.TheConstants.VEHICLE_COST}
+use Rattle.traffic.specs.{Links.LinkState, Links.is_last, Links.may_pass, Lists.is_nil, Moves.same, Moves.at_after, Moves.credit_after, Rows.on, Stops.calls_on}
+use Rattle.traffic.specs.declared.moves.Move.{Move, TheVariants.Transfer, TheVariants.Remove, TheVariants.Enter, TheVariants.Credit}
+use Rattle.traffic.specs.declared.{numbers.Rules.Rules, stage.Stage.Stage, stage.Stage.TheVariants.Queue, stage.Stage.TheVariants.Buffer}
+use Rattle.traffic.specs.declared.{stage.Stage.TheVariants.Wait, stage.Stage.TheVariants.Bay, world.Row.Row}
 
 -- whether a row at the front leaves: it is served, arrives, or passes with this credit into a buffer of b rows
 abbrev pub can_leave : Rules → ℕ → ℕ → ℕ → Row → Bool

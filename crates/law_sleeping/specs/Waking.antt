@@ -1,11 +1,8 @@
 -- Until when no link into a node can hand over.
 use Rattle.std.specs.Prelude.{◌≡◌, ◌≢◌, ℕ, ◌+◌, ◌<◌, ◌≤◌, ◌⊎◌, true, false, max, suc, List, [], ◌∷◌, length}
 use Rattle.std.specs.List.{AllByRecursion as Each}
-use Rattle.traffic.specs.declared.world.Row.{Row}
-use Rattle.traffic.specs.Rows.{World, holes_at}
-use Rattle.traffic.specs.Setup.{Setup, link_row, hole_of, storage_of}
-use Rattle.traffic.specs.Nodes.{next_link, taken_at, out_link, has_room, is_stuck}
-use Rattle.traffic.specs.Day.{second}
+use Rattle.traffic.specs.{Day.second, Nodes.next_link, Nodes.taken_at, Nodes.out_link, Nodes.has_room, Nodes.is_stuck, Rows.World, Rows.holes_at, Setup.Setup}
+use Rattle.traffic.specs.{Setup.link_row, Setup.hole_of, Setup.storage_of, declared.world.Row.Row}
 use Rattle.law_sleeping.specs.Marks.{last_red, Buffers}
 
 -- In all seconds after t and before due in which link l into node n is green, the front of these rows has no room by world V, and is not

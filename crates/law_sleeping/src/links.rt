@@ -1,23 +1,13 @@
 //! Links that gain credit alone, and until when.
 
-ghost use Rattle.std.specs.Prelude.{◌≡◌, ◌≢◌, ◌⊎◌, false, ℕ, suc, ◌+◌, ◌-◌, ◌*◌, ◌<◌};
-ghost use Rattle.std.specs.Prelude.{◌≤◌, ◌↔◌, min, Bool, List, [], ◌∷◌, length};
-ghost use Rattle.fixed_flow.specs.declared.TheConstants.{VEHICLE_COST};
-ghost use Rattle.fixed_flow.specs.Flow.{full_credit, raised, raised_times};
-ghost use Rattle.fixed_flow.specs.Link.{ceiling};
-ghost use Rattle.traffic.specs.declared.moves.Move.{Move};
+ghost use Rattle.std.specs.Prelude.{◌≡◌, ◌≢◌, ◌⊎◌, false, ℕ, suc, ◌+◌, ◌-◌, ◌*◌, ◌<◌, ◌≤◌, ◌↔◌, min, Bool, List, [], ◌∷◌, length};
+ghost use Rattle.fixed_flow.specs.{Flow.full_credit, Flow.raised, Flow.raised_times, Link.ceiling, declared.TheConstants.VEHICLE_COST};
+ghost use Rattle.traffic.specs.{Day.turns_in, Day.moves_of, Day.after, Links.LinkState, Links.link_state, Links.link_moves, Moves.run};
+ghost use Rattle.traffic.specs.{Rows.World, Setup.Setup, declared.moves.Move.Move};
 ghost use Rattle.traffic.specs.declared.moves.Move.TheVariants.{Transfer, Remove, Enter, Credit};
-ghost use Rattle.traffic.specs.declared.stage.Stage.{Stage};
-ghost use Rattle.traffic.specs.declared.stage.Stage.TheVariants.{Queue, Buffer, Wait};
-ghost use Rattle.traffic.specs.declared.world.Row.{Row};
+ghost use Rattle.traffic.specs.declared.{numbers.Rules.Rules, stage.Stage.Stage, stage.Stage.TheVariants.Queue};
+ghost use Rattle.traffic.specs.declared.{stage.Stage.TheVariants.Buffer, stage.Stage.TheVariants.Wait, world.Row.Row, world.Waiter.Waiter};
 ghost use Rattle.events.specs.declared.event.Phase.{Phase};
-ghost use Rattle.traffic.specs.Day.{turns_in, moves_of, after};
-ghost use Rattle.traffic.specs.declared.numbers.Rules.{Rules};
-ghost use Rattle.traffic.specs.declared.world.Waiter.{Waiter};
-ghost use Rattle.traffic.specs.Rows.{World};
-ghost use Rattle.traffic.specs.Setup.{Setup};
-ghost use Rattle.traffic.specs.Moves.{run};
-ghost use Rattle.traffic.specs.Links.{LinkState, link_state, link_moves};
 ghost use Rattle.law_sleeping.specs.Quiet.{IsQuiet, IsPoor, Sleeps, rested, link_state_after_all, IsAside, AreAside, IsSettled, IsDue};
 ghost use Rattle.law_sleeping.specs.Quiet.{is_blocked};
 

@@ -2,16 +2,9 @@
 
 ghost use Rattle.std.specs.Prelude.{◌≡◌, ℕ, suc, ◌<◌, List, ◌++◌, length, map};
 ghost use Rattle.events.specs.declared.event.Phase.TheVariants.{C, D};
-ghost use Rattle.traffic.specs.declared.numbers.Rules.{Rules};
-ghost use Rattle.traffic.specs.declared.stage.Stage.TheVariants.{Buffer};
-ghost use Rattle.traffic.specs.declared.world.Row.{Row};
-ghost use Rattle.traffic.specs.declared.world.Waiter.{Waiter};
-ghost use Rattle.traffic.specs.Rows.{World, at};
-ghost use Rattle.traffic.specs.Setup.{Setup, link_row};
-ghost use Rattle.traffic.specs.Moves.{at_after_all};
-ghost use Rattle.traffic.specs.Links.{LinkState, link_moves};
-ghost use Rattle.traffic.specs.Nodes.{node_view, red, mark};
-ghost use Rattle.traffic.specs.Day.{node_turns, link_turns, after, turns_in};
+ghost use Rattle.traffic.specs.declared.{numbers.Rules.Rules, stage.Stage.TheVariants.Buffer, world.Row.Row, world.Waiter.Waiter};
+ghost use Rattle.traffic.specs.{Rows.World, Rows.at, Setup.Setup, Setup.link_row, Moves.at_after_all, Links.LinkState, Links.link_moves};
+ghost use Rattle.traffic.specs.{Nodes.node_view, Nodes.red, Nodes.mark, Day.node_turns, Day.link_turns, Day.after, Day.turns_in};
 ghost use Rattle.law_sleeping.specs.Marks.{IsBehind, Buffers, AreBehind, lazy_node_view, lazy_node_turns, buffers_after};
 
 /// The marks of red fronts may be left out, and made up where they are read: the second of a front is the later one of what

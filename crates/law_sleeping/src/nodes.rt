@@ -1,22 +1,16 @@
 //! Nodes in which nobody can leave, and words that need not be read.
 
-ghost use Rattle.std.specs.Prelude.{◌⊎◌, ◌≡◌, ◌≢◌, ℕ, suc, ◌+◌, ◌*◌, ◌<◌, ◌≤◌, true};
-ghost use Rattle.std.specs.Prelude.{false, List, [], ◌∷◌, ◌++◌, length, map, filter};
+ghost use Rattle.std.specs.Prelude.{◌⊎◌, ◌≡◌, ◌≢◌, ℕ, suc, ◌+◌, ◌*◌, ◌<◌, ◌≤◌, true, false, List, [], ◌∷◌, ◌++◌, length, map, filter};
 ghost use Rattle.std.specs.Prelude.{get_or, All, Option};
-ghost use Rattle.traffic.specs.declared.moves.Move.{Move};
-ghost use Rattle.rows.specs.declared.settings.Stuck.{Stuck};
-ghost use Rattle.traffic.specs.declared.node_views.InLink.{InLink};
-ghost use Rattle.traffic.specs.declared.node_views.OutLink.{OutLink};
-ghost use Rattle.traffic.specs.declared.world.Row.{Row};
-ghost use Rattle.traffic.specs.Rows.{World};
-ghost use Rattle.traffic.specs.Setup.{Setup, link_row, storage_of};
+ghost use Rattle.traffic.specs.Day.{node_turns, turns_in, after};
 ghost use Rattle.traffic.specs.Nodes.{NodeView, node_view, out_link, taken_at, out_links_after, pass_node_all, no_in_link, draw, red};
-ghost use Rattle.traffic.specs.Nodes.{candidates, mark, node_moves};
+ghost use Rattle.traffic.specs.{Nodes.candidates, Nodes.mark, Nodes.node_moves, Rows.World, Setup.Setup, Setup.link_row, Setup.storage_of};
+ghost use Rattle.traffic.specs.declared.{moves.Move.Move, node_views.InLink.InLink, node_views.OutLink.OutLink, world.Row.Row};
+ghost use Rattle.rows.specs.declared.settings.Stuck.{Stuck};
 ghost use Rattle.law_sleeping.specs.Able.{can_go, can_pass_node, is_able, IsFuller, AreWeighted, AreWords, order, pass_node_each, Choice};
 ghost use Rattle.law_sleeping.specs.Able.{HasAble, able_now, able_before, draw_lazily, words_read};
 ghost use Rattle.law_sleeping.specs.Marks.{Buffers, AreBehind, catch_up, lazy_node_view, lazy_node_turns, buffers_after};
 ghost use Rattle.law_sleeping.specs.Waking.{FrontSleeps, NodeSleeps, IsFull, IsRedUntil, IsHeldUp, SameFront, ForFront, NoneFree};
-ghost use Rattle.traffic.specs.Day.{node_turns, turns_in, after};
 ghost use Rattle.events.specs.declared.event.Phase.TheVariants.{C};
 
 /// An in-link hands something over exactly if its front can leave; and a node none of whose in-links is able marks its red

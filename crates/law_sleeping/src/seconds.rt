@@ -1,29 +1,16 @@
 //! Sleep through whole phases and seconds.
 
-ghost use Rattle.std.specs.Prelude.{◌≡◌, ◌≢◌, ℕ, suc, ◌+◌, ◌<◌, ◌≤◌, ◌⊎◌, Bool, false};
-ghost use Rattle.std.specs.Prelude.{List, [], ◌∷◌, ◌++◌, length, map, filter, All};
 ghost use Rattle.std.specs.List.{flat_map};
-ghost use Rattle.events.specs.declared.event.Phase.{Phase};
-ghost use Rattle.events.specs.declared.event.Phase.TheVariants.{C, D};
+ghost use Rattle.std.specs.Prelude.{◌≡◌, ◌≢◌, ℕ, suc, ◌+◌, ◌<◌, ◌≤◌, ◌⊎◌, Bool, false, List, [], ◌∷◌, ◌++◌, length, map, filter, All};
+ghost use Rattle.events.specs.declared.event.Phase.{Phase, TheVariants.C, TheVariants.D};
 ghost use Rattle.fixed_flow.specs.Flow.{raised};
-ghost use Rattle.traffic.specs.declared.moves.Move.{Move};
-ghost use Rattle.traffic.specs.declared.moves.Move.TheVariants.{Credit};
-ghost use Rattle.traffic.specs.declared.numbers.Rules.{Rules};
-ghost use Rattle.traffic.specs.declared.stage.Stage.{Stage};
-ghost use Rattle.traffic.specs.declared.stage.Stage.TheVariants.{Buffer};
-ghost use Rattle.traffic.specs.declared.node_views.InLink.{InLink};
-ghost use Rattle.traffic.specs.declared.world.Row.{Row};
-ghost use Rattle.traffic.specs.declared.world.Waiter.{Waiter};
-ghost use Rattle.traffic.specs.Lists.{below};
-ghost use Rattle.traffic.specs.Rows.{World, at, holes_at};
-ghost use Rattle.traffic.specs.Setup.{Setup, link_row, hole_of};
-ghost use Rattle.traffic.specs.Moves.{told, at_after_all};
-ghost use Rattle.traffic.specs.Links.{LinkState, link_state, rules, link_moves};
-ghost use Rattle.traffic.specs.Nodes.{in_force, taken_at, mark};
 ghost use Rattle.traffic.specs.Day.{link_turns, turns_of, count_of, turns_in, after, second, world_at, events_in};
-ghost use Rattle.traffic.specs.Frames.{turn_of, Untouched};
-ghost use Rattle.law_sleeping.specs.Quiet.{Sleeps, link_state_after_all};
-ghost use Rattle.law_sleeping.specs.Marks.{Buffers, AreBehind, buffers_second};
+ghost use Rattle.traffic.specs.{Frames.turn_of, Frames.Untouched, Links.LinkState, Links.link_state, Links.rules, Links.link_moves};
+ghost use Rattle.traffic.specs.{Lists.below, Moves.told, Moves.at_after_all, Nodes.in_force, Nodes.taken_at, Nodes.mark, Rows.World};
+ghost use Rattle.traffic.specs.{Rows.at, Rows.holes_at, Setup.Setup, Setup.link_row, Setup.hole_of};
+ghost use Rattle.traffic.specs.declared.{moves.Move.Move, moves.Move.TheVariants.Credit, node_views.InLink.InLink, numbers.Rules.Rules};
+ghost use Rattle.traffic.specs.declared.{stage.Stage.Stage, stage.Stage.TheVariants.Buffer, world.Row.Row, world.Waiter.Waiter};
+ghost use Rattle.law_sleeping.specs.{Marks.Buffers, Marks.AreBehind, Marks.buffers_second, Quiet.Sleeps, Quiet.link_state_after_all};
 ghost use Rattle.law_sleeping.specs.Waking.{NodeSleeps, IsRedUntil, SameFront, ForFront, NoneLeft};
 
 /// A place of a link that was taken before a second is taken after it as well, in each second in which a hole that was left

@@ -1,20 +1,13 @@
 -- A world in which all is sound, person by person, and what one move may do to it.
-use Rattle.traffic.proofs.Common.{◌≡◌, ℕ, List, ◌∙◌, length, ap, [], ◌∷◌, arith, ◌<◌, true, ◌+◌, Bool, inl, inr, eqb, get_or, drop, ◌⊎◌, slice_get, eq-eqb}
-use Rattle.traffic.proofs.Common.{All-from_recursion, sum_by-cons, filter, Some, if◌then◌else◌, ◌==◌, VehicleId, StopCall, calls_at, Leg, done, told}
-use Rattle.traffic.proofs.Common.{at_second, rows_after, World, person_of, on, nobody, Setup, act_after, leg_at, VehicleState, ahead, listed, IsSoundPerson}
-use Rattle.traffic.proofs.Common.{listed_in, HasLeg, IsOwn, IsAlong, AreServable, IsSoundStage}
-use Rattle.traffic.specs.declared.moves.Move.{Move}
-use Rattle.traffic.specs.declared.moves.Move.TheVariants.{Transfer, Remove, Enter, SetFrontSince}
-use Rattle.traffic.specs.declared.riders.Rider.{Rider}
-use Rattle.traffic.specs.declared.stage.Stage.{Stage}
-use Rattle.traffic.specs.declared.stage.Stage.TheVariants.{Buffer}
-use Rattle.traffic.specs.declared.world.Person.{Person}
-use Rattle.traffic.specs.declared.world.Place.{Place}
-use Rattle.traffic.specs.declared.world.Row.{Row}
+use Rattle.traffic.proofs.Common.{◌≡◌, ℕ, List, ◌∙◌, length, [], ◌∷◌, arith, ◌<◌, true, inl, inr, get_or, drop, ◌⊎◌, slice_get, All-from_recursion, sum_by-cons}
+use Rattle.traffic.proofs.Common.{filter, Some, if◌then◌else◌, ◌==◌, VehicleId, StopCall, calls_at, Leg, done, told, at_second, rows_after, World, person_of}
+use Rattle.traffic.proofs.Common.{on, nobody, Setup, act_after, leg_at, VehicleState, ahead, listed, IsSoundPerson, nat_tests, listed_in, HasLeg, IsOwn}
+use Rattle.traffic.proofs.{Common.IsAlong, Common.AreServable, Common.IsSoundStage, Each.each_append, Each.each_without, Each.each_with_first}
+use Rattle.traffic.proofs.Sublists.{at_such, persons-length, person-done}
+use Rattle.traffic.specs.declared.moves.Move.{Move, TheVariants.Transfer, TheVariants.Remove, TheVariants.Enter, TheVariants.SetFrontSince}
+use Rattle.traffic.specs.declared.{riders.Rider.Rider, stage.Stage.Stage, stage.Stage.TheVariants.Buffer, world.Person.Person, world.Place.Place, world.Row.Row}
 use Rattle.std.specs.List.{AllByRecursion as Each}
 use Rattle.events.specs.declared.event.VehicleId.TheVariants as vehicle
-use Rattle.traffic.proofs.Each.{each_append, each_without, each_with_first}
-use Rattle.traffic.proofs.Sublists.{at_such, persons-length, person-done}
 use Rattle.rows.specs.declared.plan.Leg.TheVariants as leg
 use Rattle.law_one_place.proofs.Places.{off_none, id_of, took, brought, IsTaken, among_riders, rides, IsOff, Change, IsInOne, after_move, move_keeps}
 
@@ -94,10 +87,8 @@ rows_done Q _ rows b h = h
 nobody_rides : (S : Setup) (i e : ℕ) (v : VehicleState) (rs : List Rider) → among_riders i rs ≡ 0 → Each (Fits S i e v) rs
 nobody_rides S i e v [] h = tt
 nobody_rides S i e v (x ∷ xs) h =
-    let c : among_riders i (x ∷ xs) ≡ (if eqb x.person i then 1 else 0) + among_riders i xs = sum_by-cons (λ (y : Rider). if y.person == i then 1 else 0) x xs in (
-      (λ q. (let d : among_riders i (x ∷ xs) ≡ 1 + among_riders i xs = c ∙ ap (λ (b : Bool). (if b then 1 else 0) + among_riders i xs) (eq-eqb x.person i q) in absurd (omega arith))),
-      nobody_rides S i e v xs (omega arith),
-    )
+    let c = sum_by-cons (λ (y : Rider). if y.person == i then 1 else 0) x xs in
+    ((λ q. absurd (grind (arith, nat_tests))), nobody_rides S i e v xs (grind arith))
 
 unlisted : (S : Setup) (i e : ℕ) (rows : List Row) → listed i rows ≡ 0 → Rows (λ s l v. Carries S i e v) rows
 unlisted S i e [] h = tt

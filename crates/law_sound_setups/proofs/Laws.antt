@@ -1,21 +1,16 @@
 -- A sound world, with everybody in one place, is one in which all is sound person by person; so it stays sound.
 use Rattle.traffic.proofs.Common.{◌≡◌, ℕ, List, length, ap, refl, sym, [], ◌∷◌, arith, ◌<◌, inl, inr, subst, ◌≤◌, get_or, drop, ◌/◌, cases_lt, get_or_past}
-use Rattle.traffic.proofs.Common.{get_or-map, All-from_recursion, recursion_from_All, All-nil, None, Phase, VehicleId, PlanRows, Act, Leg, first_end}
-use Rattle.traffic.proofs.Common.{world_at, world_start, through, phases, second, at_home, World, person_of, nobody, Setup, act_after, leg_at, person_plan}
-use Rattle.traffic.proofs.Common.{VehicleState, IsOnLine, leg_of, IsSoundPerson, HasLeg, IsOwn, OnePlace, IsAlong, Sound, HasRiders, IsSoundRow}
-use Rattle.traffic.specs.declared.riders.Rider.{Rider}
-use Rattle.traffic.specs.declared.world.Place.TheVariants.{At}
-use Rattle.traffic.specs.declared.world.Row.{Row}
+use Rattle.traffic.proofs.Common.{get_or-map, All-from_recursion, recursion_from_All, All-nil, None, Phase, VehicleId, PlanRows, Act, Leg, first_end, world_at}
+use Rattle.traffic.proofs.Common.{world_start, through, phases, second, at_home, World, person_of, nobody, Setup, act_after, leg_at, person_plan, VehicleState}
+use Rattle.traffic.proofs.Common.{IsOnLine, leg_of, IsSoundPerson, HasLeg, IsOwn, OnePlace, IsAlong, Sound, HasRiders, IsSoundRow}
+use Rattle.traffic.proofs.{Each.each_weaker, Each.each_both, Walks.seconds_keep}
+use Rattle.traffic.specs.declared.{riders.Rider.Rider, world.Place.TheVariants.At, world.Row.Row}
 use Rattle.std.specs.List.{AllByRecursion as Each}
 use Rattle.events.specs.declared.event.VehicleId.TheVariants as vehicle
 use Rattle.rows.specs.declared.plan.Leg.TheVariants as leg
 use Rattle.law_one_place.proofs.Turns.{start_kept}
-use Rattle.law_sound_setups.specs.Setups.{IsSoundSetup}
-use Rattle.traffic.proofs.Each.{each_weaker, each_both}
-use Rattle.traffic.proofs.Walks.{seconds_keep}
 use Rattle.law_sound_setups.proofs.Fine.{Good, IsAlone, IsPlain, IsServed, IsBy, Fits, Carries, Rows}
-use Rattle.law_sound_setups.proofs.Steps.{plan_sound}
-use Rattle.law_sound_setups.proofs.Turns.{through_good}
+use Rattle.law_sound_setups.{proofs.Steps.plan_sound, proofs.Turns.through_good, specs.Setups.IsSoundSetup}
 
 -- ROWS THAT ARE SOUND
 -- a person who is not there has no leg to ride on
@@ -38,13 +33,10 @@ row_plain S W r h =
     let v = r.vehicle in
     record { own = h.own; stage = h.stage; place = h.place; link = h.link; calls = h.calls; alone = alone_of S W v v.id h.riders; riders = all_there S W v v.id h.own h.riders }
 
-served_on : (v : VehicleState) (w : Leg) → IsOnLine v w → IsServed v.line (drop v.served v.calls) w
-served_on v (leg.Transit line access egress) h = h
-served_on v _ h = absurd h
-
-on_served : (v : VehicleState) (w : Leg) → IsServed v.line (drop v.served v.calls) w → IsOnLine v w
-on_served v (leg.Transit line access egress) h = h
-on_served v _ h = absurd h
+served_on : (v : VehicleState) (w : Leg) →
+    (IsOnLine v w → IsServed v.line (drop v.served v.calls) w) × (IsServed v.line (drop v.served v.calls) w → IsOnLine v w)
+served_on v (leg.Transit line access egress) = ((λ h. h), (λ h. h))
+served_on v _ = ((λ h. h), (λ h. h))
 
 -- each rider's leg is one that the vehicle makes
 abbrev AllBy : Setup → World → VehicleState → VehicleId → Type 0
@@ -53,7 +45,7 @@ AllBy S W v id = Each (λ (x : Rider). IsBy v.route v.line (drop v.served v.call
 by_riders : (S : Setup) (W : World) (v : VehicleState) (id : VehicleId) → HasRiders S W v id → AllBy S W v id
 by_riders S W v (vehicle.Car i) h = each_weaker (λ (x : Rider). x.person ≡ i) _ (λ x q. subst (λ (k : ℕ). IsAlong v.route (leg_of S W k)) (sym q) h.2) v.riders (recursion_from_All (λ (x : Rider). x.person ≡ i) v.riders h.1)
 by_riders S W v (vehicle.Transit d) h =
-    each_weaker (λ (x : Rider). IsOnLine v (leg_of S W x.person)) _ (λ x g. served_on v (leg_of S W x.person) g) v.riders (recursion_from_All (λ (x : Rider). IsOnLine v (leg_of S W x.person)) v.riders h)
+    each_weaker (λ (x : Rider). IsOnLine v (leg_of S W x.person)) _ (λ x. (served_on v (leg_of S W x.person)).0) v.riders (recursion_from_All (λ (x : Rider). IsOnLine v (leg_of S W x.person)) v.riders h)
 
 along : (S : Setup) (W : World) (i : ℕ) (route : List ℕ) (rs : List Rider) → length rs ≡ 1 → Each (λ (x : Rider). x.person ≡ i) rs → Each (λ (x : Rider). IsAlong route (leg_of S W x.person)) rs → IsAlong route (leg_of S W i)
 along S W i route [] e h g = absurd (omega arith)
@@ -62,7 +54,7 @@ along S W i route (x ∷ xs) e h g = subst (λ (k : ℕ). IsAlong route (leg_of 
 riders_by : (S : Setup) (W : World) (v : VehicleState) (id : VehicleId) → IsAlone id v.riders → AllBy S W v id → HasRiders S W v id
 riders_by S W v (vehicle.Car i) c h = (c.0, All-from_recursion (λ (x : Rider). x.person ≡ i) v.riders c.1, along S W i v.route v.riders c.0 c.1 h)
 riders_by S W v (vehicle.Transit d) c h =
-    All-from_recursion (λ (x : Rider). IsOnLine v (leg_of S W x.person)) v.riders (each_weaker (λ (x : Rider). IsServed v.line (drop v.served v.calls) (leg_of S W x.person)) _ (λ x g. on_served v (leg_of S W x.person) g) v.riders h)
+    All-from_recursion (λ (x : Rider). IsOnLine v (leg_of S W x.person)) v.riders (each_weaker (λ (x : Rider). IsServed v.line (drop v.served v.calls) (leg_of S W x.person)) _ (λ x. (served_on v (leg_of S W x.person)).1) v.riders h)
 
 -- a rider's leg, by the rows of all persons
 abbrev HisLeg : Setup → World → Rider → Type 0
@@ -112,24 +104,17 @@ good_world S W o h =
 pub sound_world : (S : Setup) (W : World) → Good S W → Sound S W
 sound_world S W h = record { persons = λ i lt. (h.good i lt).sound; rows = All-from_recursion (IsSoundRow S W) W.rows (rows_sound S W W.rows (λ i lt. (h.good i lt).carried) h.plain) }
 
-second_good : (S : Setup) (t : ℕ) (W : World) → IsSoundSetup S → Good S W → Good S (second S t W)
-second_good S t W f h = through_good S t phases W f h
-
 pub second_sound : (S : Setup) (t : ℕ) (W : World) → IsSoundSetup S → OnePlace S W → Sound S W → Sound S (second S t W)
-second_sound S t W f o h = sound_world S (second S t W) (second_good S t W f (good_world S W o h))
+second_sound S t W f o h = sound_world S (second S t W) (through_good S t phases W f (good_world S W o h))
 
 -- DAYS
-abbrev no_stay : Act
-no_stay = record { kind = 0; link = 0; end = None }
-
-first_is : (stays : List Act) → 0 < length stays → first_end stays ≡ (get_or stays 0 no_stay).end
+first_is : (stays : List Act) → 0 < length stays → first_end stays ≡ (get_or stays 0 (record { kind = 0; link = 0; end = None })).end
 first_is [] lt = absurd (omega arith)
 first_is (s ∷ ss) lt = refl
 
 home_sound : (S : Setup) (i : ℕ) → IsSoundSetup S → i < length S.persons → IsSoundPerson S i 0 (At (first_end (person_plan S i).acts))
 home_sound S i f lt =
     let p = plan_sound S i f lt in
-    let more = p.one_more in
     let some : 0 < length (person_plan S i).acts = omega arith in
     ((refl, some), rw (first_is (person_plan S i).acts some) (p.ends 0 some))
 
@@ -143,13 +128,11 @@ unfolding world_start
 start_good S f = good_world S (world_start S) (start_kept S) (start_sound S f)
 
 from_good : (S : Setup) (t : ℕ) → IsSoundSetup S → Good S (world_at S t)
-from_good S t f = seconds_keep (Good S) S (λ s V g. second_good S s V f g) (world_start S) t (start_good S f)
+from_good S t f = seconds_keep (Good S) S (λ s V g. through_good S s phases V f g) (world_start S) t (start_good S f)
 
 pub day_sound : (S : Setup) (t : ℕ) → IsSoundSetup S → Sound S (world_at S t)
 day_sound S t f = sound_world S (world_at S t) (from_good S t f)
 
 -- in the midst of a second, too
 pub phases_sound : (S : Setup) (t : ℕ) (ps : List Phase) → IsSoundSetup S → Sound S (through S t ps (world_at S t))
-phases_sound S t ps f =
-    let W = world_at S t in
-    sound_world S (through S t ps W) (through_good S t ps W f (from_good S t f))
+phases_sound S t ps f = sound_world S (through S t ps (world_at S t)) (through_good S t ps (world_at S t) f (from_good S t f))

@@ -1,27 +1,18 @@
 -- The turn of a link keeps all sound.
-use Rattle.traffic.proofs.Common.{◌≡◌, ℕ, List, length, refl, sym, ◌∷◌, arith, ◌<◌, Bool, subst, eqb, map, filter, Leg, Transit, link_turns, waiting}
-use Rattle.traffic.proofs.Common.{buffered, below, run, done, waiter, waits_on, waiters, waits, World, person_of, at, on, Setup, act_after, leg_at}
-use Rattle.traffic.proofs.Common.{link_of_stop, served_row, rider, served_vehicle, boarding, VehicleState, IsLeg, IsInVehicle, IsSoundPerson}
-use Rattle.traffic.specs.declared.moves.Move.{Move}
-use Rattle.traffic.specs.declared.moves.Move.TheVariants.{Transfer, Remove, Credit, LeaveHole}
-use Rattle.traffic.specs.declared.riders.Rider.{Rider}
-use Rattle.traffic.specs.declared.stage.Stage.TheVariants.{Wait, Bay}
-use Rattle.traffic.specs.declared.world.Person.{Person}
-use Rattle.traffic.specs.declared.world.Place.{Place}
-use Rattle.traffic.specs.declared.world.Place.TheVariants.{Waiting}
-use Rattle.traffic.specs.declared.world.Row.{Row}
-use Rattle.traffic.specs.declared.world.Waiter.{Waiter}
-use Rattle.std.specs.List.{AllByRecursion as Each}
+use Rattle.traffic.proofs.Common.{◌≡◌, ℕ, List, length, refl, sym, ◌∷◌, arith, ◌<◌, Bool, subst, eqb, map, filter, Leg, Transit, link_turns, waiting, buffered}
+use Rattle.traffic.proofs.Common.{below, run, done, waiter, waits_on, waiters, waits, World, person_of, at, on, Setup, act_after, leg_at, link_of_stop}
+use Rattle.traffic.proofs.Common.{served_row, rider, served_vehicle, boarding, VehicleState, IsLeg, IsInVehicle, IsSoundPerson}
 use Rattle.traffic.proofs.Each.{each_if, each_weaker, each_map, each_flat, each_number, each_boarding}
-use Rattle.traffic.proofs.LeftBehind.{serving_stage}
-use Rattle.traffic.proofs.Moments.{Along, held_along}
-use Rattle.traffic.proofs.LinkWalk.{LinkCases, link_walk}
+use Rattle.traffic.proofs.{LeftBehind.serving_stage, LinkWalk.LinkCases, LinkWalk.link_walk, Moments.Along, Moments.held_along}
+use Rattle.traffic.specs.declared.moves.Move.{Move, TheVariants.Transfer, TheVariants.Remove, TheVariants.Credit, TheVariants.LeaveHole}
+use Rattle.traffic.specs.declared.{riders.Rider.Rider, stage.Stage.TheVariants.Wait, stage.Stage.TheVariants.Bay}
+use Rattle.traffic.specs.declared.world.{Person.Person, Place.Place, Place.TheVariants.Waiting, Row.Row, Waiter.Waiter}
+use Rattle.std.specs.List.{AllByRecursion as Each}
 use Rattle.law_one_place.proofs.Places.{stands, Change, Stays, id_of, took, brought, IsTaken, rides, after_move, rides_few}
-use Rattle.law_one_place.proofs.Turns.{told_front, told_end}
-use Rattle.law_one_place.proofs.Boarding.{arrives_out, served, waiters_in_line}
-use Rattle.law_sound_setups.specs.Setups.{IsSoundSetup}
+use Rattle.law_one_place.proofs.{Turns.told_front, Turns.told_end, Boarding.arrives_out, Boarding.served, Boarding.waiters_in_line}
 use Rattle.law_sound_setups.proofs.Fine.{Good, IsPlain, Carries, IsGood, found, Brings, fine_move}
-use Rattle.law_sound_setups.proofs.Steps.{stage_plain, waiting_plain, buffered_plain, served_plain, IsWayOf, IsWaiting, Wait_all, served_carries, IsPassage, stay_passage, arrive_passage, Boards, serve_passage}
+use Rattle.law_sound_setups.proofs.Steps.{stage_plain, waiting_plain, buffered_plain, served_plain, IsWayOf, IsWaiting, Wait_all, served_carries, IsPassage}
+use Rattle.law_sound_setups.{proofs.Steps.stay_passage, proofs.Steps.arrive_passage, proofs.Steps.Boards, proofs.Steps.serve_passage, specs.Setups.IsSoundSetup}
 
 -- WHO WAITS
 one_waits : (S : Setup) (i : ℕ) (P : Person) (w : Leg) (stop since : ℕ) → P.place ≡ Waiting stop since → i < length S.persons → leg_at S i P.element ≡ w → IsLeg S i P.element → Each (λ (x : Waiter). (x.person ≡ i) × IsWaiting S P x) (waits i w (act_after S i P.element) stop since)

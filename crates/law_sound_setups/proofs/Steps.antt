@@ -1,26 +1,18 @@
 -- A vehicle that drives on or is served at a stop stays sound, and so does a person who leaves an activity, arrives, is lost or boards.
-use Rattle.traffic.proofs.Common.{◌≡◌, ℕ, List, ◌∙◌, length, ap, refl, sym, [], ◌∷◌, arith, ◌<◌, true, ◌+◌, Bool, inl, inr, subst, ◌≤◌, false, suc, eqb, zero}
-use Rattle.traffic.proofs.Common.{get_or, drop, ◌/◌, ◌⊎◌, add-one, cases_Bool, eqb-true, and_parts, cases_lt, eq-eqb, eqb-false, ne_eqb, ltb-true, ltb-false}
-use Rattle.traffic.proofs.Common.{nat_tests, All-get_or, flat_map, map, Some, None, not, Option, ◌&&◌, nat_lt, ◌==◌, ◌%◌, VehicleId, StopCall, calls_at, Act}
-use Rattle.traffic.proofs.Common.{Leg, Transit, Car, Dwelling, is_last, person_after_all, start_act, person_after, ends_at, next_link, nobody, Setup}
-use Rattle.traffic.proofs.Common.{act_after, leg_at, act_at, person_plan, is_egress, call_at, served_row, next_call, alighting, rider, calls_on, staying}
-use Rattle.traffic.proofs.Common.{served_vehicle, boarding, riders_after, alights, may_board, arrives, enters, leaves, serves, driver, of_driver, aborts}
-use Rattle.traffic.proofs.Common.{VehicleState, IsLeg, IsInVehicle, HasEnd, IsSoundPerson, HasLeg, IsOwn, AreServable}
-use Rattle.traffic.specs.declared.riders.Rider.{Rider}
-use Rattle.traffic.specs.declared.stage.Stage.TheVariants.{Queue, Buffer, Wait, Bay}
-use Rattle.traffic.specs.declared.world.Person.{Person}
-use Rattle.traffic.specs.declared.world.Place.{Place}
-use Rattle.traffic.specs.declared.world.Place.TheVariants.{At, Riding, Aborted}
-use Rattle.traffic.specs.declared.world.Row.{Row}
-use Rattle.traffic.specs.declared.world.Waiter.{Waiter}
-use Rattle.std.proofs.Math.Seq.{drop-cons}
-use Rattle.std.specs.List.{AllByRecursion as Each}
+use Rattle.traffic.proofs.Common.{◌≡◌, ℕ, List, ◌∙◌, length, ap, refl, sym, [], ◌∷◌, arith, ◌<◌, true, ◌+◌, Bool, inl, inr, subst, ◌≤◌, false, eqb, get_or}
+use Rattle.traffic.proofs.Common.{drop, ◌/◌, ◌⊎◌, add-one, cases_Bool, eqb-true, and_parts, cases_lt, eq-eqb, eqb-false, ne_eqb, ltb-true, ltb-false, nat_tests}
+use Rattle.traffic.proofs.Common.{not-true, All-get_or, flat_map, map, Some, None, Option, nat_lt, ◌%◌, VehicleId, StopCall, calls_at, Act, Leg, Transit, Car}
+use Rattle.traffic.proofs.Common.{Dwelling, is_last, person_after_all, start_act, person_after, ends_at, next_link, nobody, Setup, act_after, leg_at, act_at}
+use Rattle.traffic.proofs.Common.{person_plan, is_egress, call_at, served_row, next_call, alighting, rider, calls_on, staying, served_vehicle, boarding}
+use Rattle.traffic.proofs.Common.{riders_after, alights, may_board, arrives, enters, leaves, serves, driver, of_driver, aborts, VehicleState, IsLeg}
+use Rattle.traffic.proofs.{Common.IsInVehicle, Common.HasEnd, Common.IsSoundPerson, Common.HasLeg, Common.IsOwn, Common.AreServable, Each.each_append}
+use Rattle.traffic.proofs.{Each.each_filter, Each.each_map, Each.each_boarding, Each.each_weaker, LeftBehind.serving_stage, LeftBehind.after-append}
+use Rattle.traffic.{proofs.Waiting.boarded-are, specs.Worlds.is_last_act, specs.declared.riders.Rider.Rider, specs.declared.stage.Stage.TheVariants.Queue}
+use Rattle.traffic.specs.declared.{stage.Stage.TheVariants.Buffer, stage.Stage.TheVariants.Wait, stage.Stage.TheVariants.Bay, world.Person.Person}
+use Rattle.traffic.specs.declared.world.{Place.Place, Place.TheVariants.At, Place.TheVariants.Riding, Place.TheVariants.Aborted, Row.Row, Waiter.Waiter}
+use Rattle.std.{proofs.Math.Seq.drop-cons, proofs.lemmas.List.drop_all, specs.List.AllByRecursion as Each}
 use Rattle.events.specs.declared.event.VehicleId.TheVariants as vehicle
 use Rattle.events.specs.declared.event.Word.TheVariants as word
-use Rattle.traffic.specs.Worlds.{is_last_act}
-use Rattle.traffic.proofs.Each.{each_append, each_filter, each_map, each_boarding, each_weaker}
-use Rattle.traffic.proofs.Waiting.{boarded-are}
-use Rattle.traffic.proofs.LeftBehind.{serving_stage, after-append}
 use Rattle.law_one_place.proofs.Boarding.{IsTold, start_off, leaves_told, strands_told, quiet, riders_are}
 use Rattle.law_one_place.proofs.Places.{among_riders, rides, IsOff}
 use Rattle.law_sound_setups.proofs.Fine.{IsAlone, IsPlain, IsBy, Fits, Carries}
@@ -60,12 +52,6 @@ waiting_plain S l v h = record { own = h.own; stage = tt; place = h.place; link 
 calls_split : (calls : List StopCall) (k : ℕ) → k < length calls → drop k calls ≡ call_at calls k ∷ drop (k + 1) calls
 calls_split calls k lt = rw add-one (drop-cons calls k _ lt)
 
-calls_past : (calls : List StopCall) (k : ℕ) → length calls ≤ k → drop k calls ≡ []
-calls_past [] zero h = refl
-calls_past [] (suc k) h = refl
-calls_past (c ∷ cs) zero h = absurd (omega arith)
-calls_past (c ∷ cs) (suc k) h = calls_past cs k (omega arith)
-
 pass_one : (c : StopCall) (cs : List StopCall) (l : ℕ) (xs : List ℕ) → eqb c.link l ≡ false → AreServable (c ∷ cs) (l ∷ xs) → AreServable (c ∷ cs) xs
 pass_one c cs l xs e h = let q = ne_eqb l c.link (λ q. eqb-false c.link l e (sym q)) in simp q at h
 
@@ -84,16 +70,14 @@ passing S l v e h =
           let c = calls_split v.calls v.served (ltb-true _ _ lt) in
           let f : eqb (next_call v).link l ≡ false = simp lt at e in
           rw c (pass_one (next_call v) _ l _ f (subst (λ (cs : List StopCall). AreServable cs (l ∷ drop (v.place + 1) v.route)) c s))
-      | inr ge ↦ rw (calls_past v.calls v.served (ltb-false _ _ ge)) tt
+      | inr ge ↦ rw (drop_all v.served v.calls (ltb-false _ _ ge)) tt
     ]
 
 pub buffered_plain : (S : Setup) (l : ℕ) (v : VehicleState) → calls_on l v ≡ false → is_last v ≡ false → IsPlain S Wait l v → IsPlain S Buffer l (record v { started = true })
 buffered_plain S l v e f h =
-    let ne = eqb-false (v.place + 1) (length v.route) f in
-    let lt = h.place in
     record {
       own = own_moved S v v.place true v.pushed v.riders v.id h.own;
-      stage = grind (arith, nat_tests);
+      stage = grind (arith, nat_tests, eqb-false (v.place + 1) (length v.route) f);
       place = h.place;
       link = h.link;
       calls = passing S l v e h;
@@ -143,10 +127,6 @@ pub record IsWaiting (S : Setup) (P : Person) (w : Waiter) : Type 0 where
 abbrev pub Wait_all : Setup → List Person → List Waiter → Type 0
 Wait_all S ps ws = Each (λ (w : Waiter). IsWaiting S (get_or ps w.person nobody) w) ws
 
-not_is : (b : Bool) → not b ≡ true → b ≡ false
-not_is true e = cc
-not_is false e = refl
-
 -- who stays has a later stop
 stays_by : (id : VehicleId) (route : List ℕ) (line : ℕ) (c : StopCall) (cs : List StopCall) (w : Leg) (next : Act) (x : Rider) → alights c.stop x ≡ false → HasLeg x w next → IsBy route line (c ∷ cs) id w → IsBy route line cs id w
 stays_by (vehicle.Car i) route line c cs w next x e h g = g
@@ -167,10 +147,8 @@ boards_one : (S : Setup) (ps : List Person) (l i : ℕ) (v : VehicleState) (w : 
     HasLeg (rider w) (leg_at S i (get_or ps i nobody).element) (act_after S i (get_or ps i nobody).element) × IsBy v.route v.line (drop (v.served + 1) v.calls) v.id (leg_at S i (get_or ps i nobody).element)
 boards_one S ps l i v w e h may g q =
     let a = has_call l v e in
-    let m = and_parts ((w.stop == (next_call v).stop) && (w.line == v.line)) _ may in
-    let k = and_parts (w.stop == (next_call v).stop) (w.line == v.line) m.0 in
     subst (λ (j : ℕ). HasLeg (rider w) (leg_at S j (get_or ps j nobody).element) (act_after S j (get_or ps j nobody).element) × IsBy v.route v.line (drop (v.served + 1) v.calls) v.id (leg_at S j (get_or ps j nobody).element)) q
-    (boards_by S v v.id (drop (v.served + 1) v.calls) _ _ w a.0 h.own g.by g.kind (eqb-true w.line v.line k.1) m.1)
+    (boards_by S v v.id (drop (v.served + 1) v.calls) _ _ w a.0 h.own g.by g.kind (grind (arith, nat_tests)) (grind arith))
 
 pub served_carries : (S : Setup) (ps : List Person) (l i : ℕ) (v : VehicleState) (ws : List Waiter) → calls_on l v ≡ true → Wait_all S ps ws → IsPlain S Wait l v → Carries S i (get_or ps i nobody).element v → Carries S i (get_or ps i nobody).element (served_vehicle v ws)
 unfolding served_vehicle riders_after
@@ -180,7 +158,8 @@ served_carries S ps l i v ws e g h c =
     let after = served_vehicle v ws in
     let split = calls_split v.calls v.served a.0 in
     each_append (Fits S i E after) (staying (next_call v).stop v.riders) (map rider (boarding v ws))
-    (each_filter (Fits S i E v) (Fits S i E after) _ (λ x q p k. (let f = p k in (f.0, stays_by v.id v.route v.line (next_call v) (drop (v.served + 1) v.calls) (leg_at S i E) (act_after S i E) x (not_is _ q) f.0 (subst (λ (cs : List StopCall). IsBy v.route v.line cs v.id (leg_at S i E)) split f.1)))) v.riders c)
+    (each_filter (Fits S i E v) (Fits S i E after) _
+    (λ x q p k. (let f = p k in (f.0, stays_by v.id v.route v.line (next_call v) (drop (v.served + 1) v.calls) (leg_at S i E) (act_after S i E) x (not-true _ q) f.0 (subst (λ (cs : List StopCall). IsBy v.route v.line cs v.id (leg_at S i E)) split f.1)))) v.riders c)
     (each_map (λ (w : Waiter). Fits S i E after (rider w)) (Fits S i E after) rider (λ w p. p) (boarding v ws)
     (each_boarding (λ (w : Waiter). IsWaiting S (get_or ps w.person nobody) w) (λ (w : Waiter). Fits S i E after (rider w)) v (λ w may p. boards_one S ps l i v w e h may p) ws g))
 
@@ -195,21 +174,13 @@ ends_later last (Some end) t h = h
 pub arrive_sound : (S : Setup) (t i e : ℕ) → IsSoundSetup S → i < length S.persons → IsLeg S i e → IsSoundPerson S i (e + 1) (At (ends_at (act_at S i (e + 1)).end t))
 arrive_sound S t i e f lt h =
     let p = plan_sound S i f lt in
-    let more = p.one_more in
-    let odd = h.0 in
-    let few = h.1 in
     let less : (e + 1) / 2 < length (person_plan S i).acts = omega arith in
     ((omega arith, less), ends_later (is_last_act S i (e + 1)) _ t (p.ends ((e + 1) / 2) less))
 
 pub leave_leg : (S : Setup) (i e end : ℕ) → IsSoundSetup S → i < length S.persons → IsSoundPerson S i e (At (Some end)) → IsLeg S i (e + 1)
 leave_leg S i e end f lt h =
     let p = plan_sound S i f lt in
-    let more = p.one_more in
-    let even = h.0.0 in
-    let few = h.0.1 in
-    let ne = eqb-false (e / 2 + 1) (length (person_plan S i).acts) h.1 in
-    let half : (e + 1) / 2 ≡ e / 2 = omega arith in
-    let less : e / 2 < length (person_plan S i).legs = grind (arith, nat_tests) in
+    let less : e / 2 < length (person_plan S i).legs = grind (arith, nat_tests, h.1) in
     (omega arith, omega arith)
 
 -- the leg that begins is the one that the activity before it shows
@@ -291,7 +262,6 @@ serve_passage S t i D l ws r P f lt few b h =
     let Q = person_after_all S t i (flat_map (leaves v.id r.link) outs) P in
     let N = person_after_all S t i (flat_map (enters v.id) ins) Q in
     let part : among_riders i outs + among_riders i (staying stop v.riders) ≡ rides i v = riders_are i stop v.riders in
-    let some = few.0 in
     rw (boarded-are v ws, after-append S t i (flat_map (leaves v.id r.link) outs) (flat_map (enters v.id) ins) P)
     (elim (cases_lt 0 (among_riders i outs)) [
       | inl more ↦

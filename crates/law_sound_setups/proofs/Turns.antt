@@ -1,29 +1,23 @@
 -- The turns of nodes, persons and departures, and with those of links the phases of a second, keep all sound.
 use Rattle.traffic.proofs.Common.{◌≡◌, ℕ, List, length, ap, refl, sym, [], ◌∷◌, arith, ◌<◌, true, ◌+◌, inl, inr, subst, false, eqb, ◌/◌, cases_Bool, eqb-true}
-use Rattle.traffic.proofs.Common.{eq-eqb, eqb-false, All-get_or, None, not, Phase, Act, Leg, Transit, Car, Teleport, turns_of, through, count_of}
-use Rattle.traffic.proofs.Common.{landing_turns, leaving_turns, departure_turns, run, done, person_after_all, start_act, person_after, entered, has_room}
-use Rattle.traffic.proofs.Common.{sets_out, transit_vehicle, departs, lands, car, World, person_of, Setup, act_after, leg_at, act_at, person_plan}
-use Rattle.traffic.proofs.Common.{link_of_stop, departure, of_person, IsLeg, IsInVehicle, IsTeleported, IsFrom, IsSoundPerson, HasLeg, IsAlong}
+use Rattle.traffic.proofs.Common.{eq-eqb, eqb-false, All-get_or, None, not, Phase, Act, Leg, Transit, Car, Teleport, turns_of, through, count_of, landing_turns}
+use Rattle.traffic.proofs.Common.{leaving_turns, departure_turns, run, done, person_after_all, start_act, person_after, entered, has_room, sets_out}
+use Rattle.traffic.proofs.Common.{transit_vehicle, departs, lands, car, World, person_of, Setup, act_after, leg_at, act_at, person_plan, link_of_stop}
+use Rattle.traffic.proofs.Common.{departure, of_person, IsLeg, IsInVehicle, IsTeleported, IsFrom, IsSoundPerson, HasLeg, IsAlong}
+use Rattle.traffic.proofs.{Moments.kept_along, NodeWalk.NodeCases, NodeWalk.node_walk}
+use Rattle.traffic.proofs.Walks.{flight_walk, leave_walk, departure_walk, phases_keep}
 use Rattle.traffic.specs.declared.moves.Move.TheVariants.{Transfer, Remove, Enter, SetFrontSince, Report}
-use Rattle.traffic.specs.declared.moves.Occurrence.{Occurrence}
-use Rattle.traffic.specs.declared.riders.Rider.{Rider}
-use Rattle.traffic.specs.declared.stage.Stage.TheVariants.{Buffer}
-use Rattle.traffic.specs.declared.world.Person.{Person}
-use Rattle.traffic.specs.declared.world.Place.{Place}
+use Rattle.traffic.specs.declared.{moves.Occurrence.Occurrence, riders.Rider.Rider, stage.Stage.TheVariants.Buffer, world.Person.Person, world.Place.Place}
 use Rattle.traffic.specs.declared.world.Place.TheVariants.{Teleporting, Waiting, Riding}
 use Rattle.events.specs.declared.event.Phase.TheVariants as phase
 use Rattle.events.specs.declared.event.VehicleId.TheVariants as vehicle
 use Rattle.events.specs.declared.event.Word.TheVariants as word
 use Rattle.events.specs.declared.event.More.TheVariants as more
-use Rattle.traffic.proofs.Moments.{kept_along}
-use Rattle.traffic.proofs.NodeWalk.{NodeCases, node_walk}
-use Rattle.traffic.proofs.Walks.{flight_walk, leave_walk, departure_walk, phases_keep}
 use Rattle.law_one_place.proofs.Boarding.{aborts_out}
 use Rattle.law_one_place.proofs.Places.{Stays, rides_few, Walks, Enters, rides, IsOff, after_move}
 use Rattle.law_sound_setups.proofs.Fine.{Good, IsPlain, Carries, Fine, found, fine_move, fine_weaker, IsStep}
-use Rattle.law_sound_setups.proofs.Links.{link_keeps}
-use Rattle.law_sound_setups.proofs.Steps.{entered_plain, abort_passage, plan_sound, arrive_sound, leave_leg, way_same, next_same}
-use Rattle.law_sound_setups.specs.Setups.{IsSoundRun, IsSoundSetup}
+use Rattle.law_sound_setups.proofs.{Links.link_keeps, Steps.entered_plain, Steps.abort_passage, Steps.plan_sound, Steps.arrive_sound, Steps.leave_leg}
+use Rattle.law_sound_setups.{proofs.Steps.way_same, proofs.Steps.next_same, specs.Setups.IsSoundRun, specs.Setups.IsSoundSetup}
 use Rattle.rows.specs.Plan.{HasRoute}
 
 -- NODES

@@ -1,37 +1,25 @@
 -- No vehicle stands in two rows.
-use Rattle.traffic.proofs.Common.{◌≡◌, ℕ, List, ◌∙◌, length, ap, refl, [], ◌∷◌, arith, ◌+◌, Bool, inl, inr, ◌≤◌, eqb, cases_Bool, eqb-true, cases_lt, eq-eqb}
-use Rattle.traffic.proofs.Common.{recursion_from_All, sum_by-cons, if◌then◌else◌, ◌==◌, VehicleId, world_at, World, Setup, listed, listed_in, rows_of, IsOwn}
-use Rattle.traffic.proofs.Common.{HasRiders, IsSoundRow}
-use Rattle.traffic.specs.declared.riders.Rider.{Rider}
-use Rattle.traffic.specs.declared.world.Row.{Row}
+use Rattle.traffic.proofs.Common.{◌≡◌, ℕ, List, length, ap, refl, [], ◌∷◌, arith, ◌+◌, inl, inr, ◌≤◌, eqb, eqb-true, cases_lt, recursion_from_All, sum_by-cons}
+use Rattle.traffic.proofs.Common.{if◌then◌else◌, ◌==◌, VehicleId, world_at, World, Setup, listed, listed_in, rows_of, IsOwn, HasRiders, IsSoundRow, nat_tests}
+use Rattle.traffic.{proofs.Common.true, specs.declared.riders.Rider.Rider, specs.declared.world.Row.Row}
 use Rattle.std.specs.List.{AllByRecursion as Each}
 use Rattle.events.specs.declared.event.VehicleId.TheVariants as vehicle
-use Rattle.law_one_place.proofs.Places.{among_riders, rides, listed_once}
-use Rattle.law_one_place.proofs.Turns.{always_kept}
+use Rattle.law_one_place.proofs.{Places.among_riders, Places.rides, Places.listed_once, Turns.always_kept}
 use Rattle.law_one_place.proofs.Vehicles.{is_its, rows_it_has, rows_are, transit_once}
-use Rattle.law_sound_setups.specs.Setups.{IsSoundSetup}
-use Rattle.law_sound_setups.proofs.Laws.{day_sound}
+use Rattle.law_sound_setups.{proofs.Laws.day_sound, specs.Setups.IsSoundSetup}
 
 -- a car lists its driver
 driver_rides : (i : ℕ) (rs : List Rider) → length rs ≡ 1 → Each (λ (x : Rider). x.person ≡ i) rs → 1 ≤ among_riders i rs
 driver_rides i [] e h = absurd (omega arith)
-driver_rides i (x ∷ xs) e h =
-    let c = sum_by-cons (λ (y : Rider). if y.person == i then 1 else 0) x xs in
-    let d : among_riders i (x ∷ xs) ≡ 1 + among_riders i xs = c ∙ ap (λ (b : Bool). (if b then 1 else 0) + among_riders i xs) (eq-eqb x.person i h.0) in omega arith
+driver_rides i (x ∷ xs) e h = grind (arith, nat_tests, sum_by-cons (λ (y : Rider). if y.person == i then 1 else 0) x xs, h.0)
 
 -- so it has no more rows than list him, and none where he is not there
 car_few : (S : Setup) (W : World) (i : ℕ) (r : Row) (id : VehicleId) → r.vehicle.id ≡ id → IsOwn S r.vehicle id → HasRiders S W r.vehicle id → (is_its (vehicle.Car i) r.vehicle ≤ rides i r.vehicle) × (length S.persons ≤ i → is_its (vehicle.Car i) r.vehicle ≡ 0)
 car_few S W i r (vehicle.Car j) e own riders =
-    elim (cases_Bool (eqb j i)) [
-      | inl q ↦
-          let ji = eqb-true j i q in
-          let one : is_its (vehicle.Car i) r.vehicle ≡ 1 = rw (e, q) refl in
-          let some = driver_rides j r.vehicle.riders riders.0 (recursion_from_All (λ (x : Rider). x.person ≡ j) r.vehicle.riders riders.1) in
-          let his : rides j r.vehicle ≡ rides i r.vehicle = ap (λ (k : ℕ). rides k r.vehicle) ji in
-          let there = own.there in
-          (omega arith, λ past. absurd (omega arith))
-      | inr q ↦ let none : is_its (vehicle.Car i) r.vehicle ≡ 0 = rw (e, q) refl in (omega arith, λ past. none)
-    ]
+    let one : is_its (vehicle.Car i) r.vehicle ≡ (if eqb j i then 1 else 0) = rw e refl in
+    let some = driver_rides j r.vehicle.riders riders.0 (recursion_from_All (λ (x : Rider). x.person ≡ j) r.vehicle.riders riders.1) in
+    let his : eqb j i ≡ true → rides j r.vehicle ≡ rides i r.vehicle = λ q. ap (λ (k : ℕ). rides k r.vehicle) (eqb-true j i q) in
+    (grind (arith, his), λ past. grind (arith, nat_tests, own.there))
 car_few S W i r (vehicle.Transit d) e own riders = let none : is_its (vehicle.Car i) r.vehicle ≡ 0 = rw e refl in (omega arith, λ past. none)
 
 cars_few : (S : Setup) (W : World) (i : ℕ) (rows : List Row) → Each (IsSoundRow S W) rows → (rows_it_has (vehicle.Car i) rows ≤ listed i rows) × (length S.persons ≤ i → rows_it_has (vehicle.Car i) rows ≡ 0)
@@ -41,8 +29,6 @@ cars_few S W i (r ∷ rs) h =
     let b : listed i (r ∷ rs) ≡ rides i r.vehicle + listed i rs = sum_by-cons (listed_in i) r rs in
     let c = car_few S W i r r.vehicle.id refl h.0.own h.0.riders in
     let d = cars_few S W i rs h.1 in
-    let c0 = c.0 in
-    let d0 = d.0 in
     (omega arith, λ past. (let x = c.1 past in let y = d.1 past in omega arith))
 
 pub vehicle_once : (S : Setup) (t : ℕ) (v : VehicleId) → IsSoundSetup S → length (rows_of v (world_at S t).rows) ≤ 1
@@ -51,7 +37,6 @@ vehicle_once S t (vehicle.Car i) f =
     let sound = day_sound S t f in
     let c = cars_few S W i W.rows (recursion_from_All (IsSoundRow S W) W.rows sound.rows) in
     let a = rows_are (vehicle.Car i) W.rows in
-    let c0 = c.0 in
     elim (cases_lt i (length S.persons)) [
       | inl lt ↦ let b = listed_once i W.rows _ ((always_kept S t).one_place i lt) in omega arith
       | inr past ↦ let z = c.1 past in omega arith

@@ -1,12 +1,8 @@
 -- That whoever alights has his next activity there.
 use Rattle.std.specs.Prelude.{◌≡◌, ℕ, ◌+◌, ◌≤◌, true, false, List, count_by, ◌==◌}
 use Rattle.std.specs.List.{AllByRecursion as Each}
-use Rattle.traffic.specs.declared.riders.Rider.{Rider}
-use Rattle.traffic.specs.declared.world.Row.{Row}
-use Rattle.traffic.specs.Vehicles.{VehicleState}
-use Rattle.traffic.specs.Setup.{Setup, act_at}
-use Rattle.traffic.specs.Stops.{next_call, alighting, calls_on}
-use Rattle.traffic.specs.Links.{is_last}
+use Rattle.traffic.specs.{Links.is_last, Setup.Setup, Setup.act_at, Stops.next_call, Stops.alighting, Stops.calls_on, Vehicles.VehicleState}
+use Rattle.traffic.specs.declared.{riders.Rider.Rider, world.Row.Row}
 
 -- how often these riders are a person
 abbrev pub times_in : ℕ → List Rider → ℕ

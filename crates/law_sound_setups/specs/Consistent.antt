@@ -1,9 +1,7 @@
 -- Setups whose plans and calls are on the links that they name.
 use Rattle.std.specs.Prelude.{◌≡◌, ℕ, ◌+◌, ◌-◌, ◌<◌, ◌≤◌, List, [], length, get_or, All, None}
 use Rattle.events.specs.declared.lists.StopCall.{StopCall}
-use Rattle.rows.specs.declared.plan.Act.{Act}
-use Rattle.rows.specs.declared.plan.Leg.{Leg}
-use Rattle.rows.specs.PlanRows.{PlanRows}
+use Rattle.rows.specs.{PlanRows.PlanRows, declared.plan.Act.Act, declared.plan.Leg.Leg}
 use Rattle.rows.specs.declared.plan.Leg.TheVariants as leg
 use Rattle.traffic.specs.Setup.{Setup, Departure, link_of_stop}
 

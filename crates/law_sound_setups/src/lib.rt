@@ -4,16 +4,10 @@
 #![tactic(auto)]
 
 ghost use Rattle.std.specs.Prelude.{ℕ, ◌<◌, ◌≤◌, List, length};
-ghost use Rattle.events.specs.declared.event.Phase.{Phase};
-ghost use Rattle.events.specs.declared.event.VehicleId.{VehicleId};
-ghost use Rattle.traffic.specs.declared.stage.Stage.{Stage};
-ghost use Rattle.traffic.specs.Rows.{World, at, person_of};
-ghost use Rattle.traffic.specs.Setup.{Setup};
-ghost use Rattle.traffic.specs.Day.{second, through, world_start, world_at};
-ghost use Rattle.traffic.specs.Worlds.{OnePlace, Sound, rows_of};
-ghost use Rattle.law_sound_setups.specs.Setups.{IsSoundSetup};
-ghost use Rattle.law_sound_setups.specs.Consistent.{IsConsistentSetup};
-ghost use Rattle.law_sound_setups.specs.Alighting.{AlightAll};
+ghost use Rattle.events.specs.declared.event.{Phase.Phase, VehicleId.VehicleId};
+ghost use Rattle.traffic.specs.{Day.second, Day.through, Day.world_start, Day.world_at, Rows.World, Rows.at, Rows.person_of, Setup.Setup};
+ghost use Rattle.traffic.specs.{Worlds.OnePlace, Worlds.Sound, Worlds.rows_of, declared.stage.Stage.Stage};
+ghost use Rattle.law_sound_setups.specs.{Alighting.AlightAll, Consistent.IsConsistentSetup, Setups.IsSoundSetup};
 
 /// Where the plans and the departures of a setup are sound, a day begins sound, a second keeps sound a
 /// world in which each person is in one place, and so every second of the day is sound, and between its

@@ -1,10 +1,8 @@
 -- The orders of a core's steps and those of allowed events are the same.
 use Rattle.std.proofs.Common.{◌≡◌, ℕ, ◌≤◌, List, [], ◌∷◌, ap, refl, sym}
 use Rattle.traffic.specs.Setup.{Setup}
-use Rattle.parts.specs.Owners.{Owner}
-use Rattle.parts.specs.Core.{Core, Rule, Reaches, advance}
-use Rattle.law_partitions.specs.Laws.{HasNeighbours, AdvanceInAnyOrder}
-use Rattle.law_partitions.specs.Whole.{rule, start_of}
+use Rattle.parts.specs.{Core.Core, Core.Rule, Core.Reaches, Core.advance, Owners.Owner}
+use Rattle.law_partitions.specs.{Laws.HasNeighbours, Laws.AdvanceInAnyOrder, Whole.rule, Whole.start_of}
 use Rattle.step_core.specs.Nets.{Net, IsNet, ComesTo}
 use Rattle.law_steps.specs.Steps.{net_of, IsReached, IsKept}
 

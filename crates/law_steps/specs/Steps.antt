@@ -2,11 +2,8 @@
 use Rattle.std.specs.Prelude.{◌≡◌, ℕ, List}
 use Rattle.events.specs.declared.event.Event.{Event}
 use Rattle.traffic.specs.Setup.{Setup}
-use Rattle.parts.specs.Owners.{Owner, near, lag}
-use Rattle.parts.specs.Parts.{Held, Parcel, held, out, own_events}
-use Rattle.parts.specs.Core.{Core, Reaches}
-use Rattle.law_partitions.specs.Kept.{Kept}
-use Rattle.law_partitions.specs.Whole.{rule, start_of}
+use Rattle.parts.specs.{Core.Core, Core.Reaches, Owners.Owner, Owners.near, Owners.lag, Parts.Held, Parts.Parcel, Parts.held, Parts.out, Parts.own_events}
+use Rattle.law_partitions.specs.{Kept.Kept, Whole.rule, Whole.start_of}
 use Rattle.step_core.specs.Nets.{Net}
 
 -- the partitions of a day, of which each has so many seconds to do

@@ -7,13 +7,9 @@ ghost use Rattle.std.specs.Prelude.{◌≡◌, ◌≤◌, ℕ, List};
 ghost use Rattle.events.specs.declared.event.Event.{Event};
 ghost use Rattle.limits.specs.declared.TheConstants.{MAX_PARTITIONS, LAST_SECOND};
 ghost use Rattle.traffic.specs.Setup.{Setup};
-ghost use Rattle.law_sound_setups.specs.Setups.{IsSoundSetup};
-ghost use Rattle.law_sound_setups.specs.Consistent.{IsConsistentSetup};
-ghost use Rattle.parts.specs.Owners.{Owner};
-ghost use Rattle.parts.specs.Parts.{Held, Parcel};
-ghost use Rattle.parts.specs.Core.{Core, Reaches};
-ghost use Rattle.law_partitions.specs.Laws.{IsOwner};
-ghost use Rattle.law_partitions.specs.Whole.{rule, start_of};
+ghost use Rattle.law_sound_setups.specs.{Consistent.IsConsistentSetup, Setups.IsSoundSetup};
+ghost use Rattle.parts.specs.{Core.Core, Core.Reaches, Owners.Owner, Parts.Held, Parts.Parcel};
+ghost use Rattle.law_partitions.specs.{Laws.IsOwner, Whole.rule, Whole.start_of};
 ghost use Rattle.step_core.specs.Nets.{IsNet, ComesTo};
 ghost use Rattle.law_steps.specs.Steps.{net_of, IsReached, IsKept};
 

@@ -1,39 +1,28 @@
 -- The book of files without a fault has names alone, one for each link and one for each stop.
 use Rattle.records.proofs.Common.{◌≡◌, List, ℕ, length, arith, [], ◌<◌, ◌≤◌, ◌^◌, None, Some, ◌∷◌, refl, true, false, Bool, Option, cond, get_or, not, ◌&&◌}
-use Rattle.records.proofs.Common.{length-map, list_all, flat_map, nat_eq, is_some, number_of, is_name, holds_name, field, column, Reason, Row, body_of, body_fault, head_reason, optional_head_reason}
+use Rattle.records.proofs.Common.{length-map, list_all, flat_map, nat_eq, is_some, number_of, is_name, holds_name, field, column, Reason, Row, body_of}
+use Rattle.records.proofs.{Common.body_fault, Common.head_reason, Common.optional_head_reason, Unrefused.none_applies, Unrefused.head_none, Unrefused.each_none}
+use Rattle.records.{proofs.Unrefused.or_none, specs.Files.is_too_long, specs.Lists.are_names, specs.Reading.reason_after}
 use Rattle.std.proofs.lemmas.Bool.{or_parts}
 use Rattle.edge_files.specs.declared.files.InFile.TheVariants as file
 use Rattle.edge_files.specs.declared.reasons.Reason.TheVariants as reason
 use Rattle.events.specs.Names.{AreNames}
-use Rattle.records.specs.Files.{is_too_long}
-use Rattle.records.specs.Lists.{are_names}
-use Rattle.records.specs.Reading.{reason_after}
-use Rattle.records.proofs.Unrefused.{none_applies, head_none, each_none}
-use Rattle.rows.specs.declared.network.LinkRow.{LinkRow}
-use Rattle.rows.specs.declared.schedule.StopRow.{StopRow}
-use Rattle.rows.specs.Greens.{Phases}
-use Rattle.rows.specs.Joined.{ends_of}
+use Rattle.rows.specs.{Greens.Phases, Joined.ends_of, declared.network.LinkRow.LinkRow, declared.schedule.StopRow.StopRow}
 use Rattle.network.specs.Nodes.{node_names}
 use Rattle.network.specs.Links.{link_header, link_of, lacks_name, has_bad_measure, link_reason, links_fault, link_names}
-use Rattle.schedule.specs.declared.calls.CallText.{CallText}
-use Rattle.schedule.specs.Stops.{stop_header, stop_of, stop_reason, stops_fault}
 use Rattle.schedule.specs.Routes.{route_header, link_items, call_texts, route_of, route_reason, parts_reason, routes_fault, lines_of}
-use Rattle.plans.specs.declared.kinds.ElementKind.{ElementKind}
+use Rattle.schedule.specs.{Stops.stop_header, Stops.stop_of, Stops.stop_reason, Stops.stops_fault, declared.calls.CallText.CallText}
+use Rattle.plans.specs.{Kinds.kind_of, Kinds.is_act, Kinds.plans_header, Refusals.is_misfit, Refusals.lacks_name as lacks_plan_name}
+use Rattle.plans.specs.{Refusals.lacks_element_name, Refusals.row_reason, Values.person_in, Values.kind_in, Values.named_by, Values.reason_at}
+use Rattle.plans.specs.{Values.rows_fault, Values.plans_fault, Values.values_of, declared.kinds.ElementKind.ElementKind}
 use Rattle.plans.specs.declared.kinds.ElementKind.TheVariants as element
-use Rattle.plans.specs.Kinds.{kind_of, is_act, plans_header}
-use Rattle.plans.specs.Refusals.{is_misfit, lacks_name as lacks_plan_name, lacks_element_name, row_reason}
-use Rattle.plans.specs.Values.{person_in, kind_in, named_by, reason_at, rows_fault, plans_fault, values_of}
-use Rattle.settings.specs.Values.{Values}
-use Rattle.settings.specs.Faults.{file_of}
+use Rattle.settings.specs.{Faults.file_of, Values.Values}
+use Rattle.scenario.proofs.{Free.free_files, FreeSchedules.schedule_free, Told.bytes_free}
+use Rattle.scenario.specs.FilesToScenario.{NetworkRows, ScheduleRows, stop_names, stop_rows, town_of, schedule_rows_of, signals_on, planned_of, filled_in}
+use Rattle.scenario.specs.FilesToScenario.{on_network, network_rows_of, schedule_fault, scenario_fault, scenario_rows}
 use Rattle.scenario.specs.Texts.{Texts, bytes_in}
-use Rattle.scenario.specs.FilesToScenario.{NetworkRows, ScheduleRows, stop_names, stop_rows, town_of, schedule_rows_of, signals_on, planned_of, filled_in, on_network, network_rows_of, schedule_fault, scenario_fault, scenario_rows}
-use Rattle.scenario.proofs.Told.{bytes_free}
-use Rattle.scenario.proofs.Free.{free_files}
-use Rattle.scenario.proofs.FreeSchedules.{schedule_free}
-use Rattle.law_valid_files.specs.Valid.{IsNamed}
-use Rattle.law_valid_files.proofs.NetworkRows.{network_free}
-use Rattle.law_valid_files.proofs.RowNames.{names_of_rows, first_names, names_among, few_among, names_in_column, room_for}
-use Rattle.records.proofs.Unrefused.{or_none}
+use Rattle.law_valid_files.proofs.{NetworkRows.network_free, RowNames.names_of_rows, RowNames.first_names, RowNames.names_among, RowNames.few_among}
+use Rattle.law_valid_files.{proofs.RowNames.names_in_column, proofs.RowNames.room_for, specs.Valid.IsNamed}
 
 holds : (b : Bool) → not b ≡ false → b ≡ true
 holds true h = refl

@@ -1,15 +1,12 @@
 -- The links of a conflict in files without a fault are never green together.
-use Rattle.std.proofs.Common.{◌≡◌, None}
-use Rattle.std.specs.List.{All}
+use Rattle.std.{proofs.Common.◌≡◌, proofs.Common.None, specs.List.All}
 use Rattle.edge_files.specs.declared.files.InFile.TheVariants as file
 use Rattle.records.specs.Files.{body_of}
 use Rattle.rows.specs.Joined.{ends_of}
-use Rattle.signals.specs.Signals.{signals_fault, signal_rows_of, clash_fault, AreNeverGreen}
-use Rattle.signals.proofs.Lawful.{never_both}
-use Rattle.scenario.specs.Texts.{Texts, bytes_in}
+use Rattle.signals.{proofs.Lawful.never_both, specs.Signals.signals_fault, specs.Signals.signal_rows_of, specs.Signals.clash_fault, specs.Signals.AreNeverGreen}
+use Rattle.scenario.proofs.{Free.free_files, Told.bytes_free, Told.file_none}
 use Rattle.scenario.specs.FilesToScenario.{network_rows_of, town_of, planned_of, on_network, conflict_fault, scenario_fault, scenario_rows, conflicts_in}
-use Rattle.scenario.proofs.Free.{free_files}
-use Rattle.scenario.proofs.Told.{bytes_free, file_none}
+use Rattle.scenario.specs.Texts.{Texts, bytes_in}
 
 pub conflicts_kept : (texts : Texts) → scenario_fault texts ≡ None → All (AreNeverGreen (scenario_rows texts).town.greens) (conflicts_in texts)
 unfolding conflict_fault scenario_rows on_network planned_of town_of

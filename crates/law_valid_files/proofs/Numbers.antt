@@ -1,17 +1,13 @@
 -- The settings of a file without a fault are in their ranges.
 use Rattle.std.proofs.Common.{◌≡◌, ℕ, ◌≤◌, Bool, true, false, not, ◌&&◌, ◌||◌, List, Option, None, Some, refl, arith, lit≤}
+use Rattle.std.proofs.lemmas.Bool.{or_parts, Decides.nat_tests}
 use Rattle.std.specs.Prelude.{codes, cond, is_some, nat_le, option_and_then, unwrap_or}
-use Rattle.std.proofs.lemmas.Bool.{or_parts}
-use Rattle.std.proofs.lemmas.Bool.Decides.{nat_tests}
 use Rattle.limits.specs.declared.TheConstants.{LAST_SECOND, MAX_PERMILLE, MAX_PLANS, MAX_SPEED, MAX_DWELL}
-use Rattle.learning.specs.declared.TheConstants.{LAST_ITERATION, MAX_LOGIT_UNIT, MAX_WEIGHT}
-use Rattle.learning.specs.Ranges.{AreWeights}
+use Rattle.learning.specs.{Ranges.AreWeights, declared.TheConstants.LAST_ITERATION, declared.TheConstants.MAX_LOGIT_UNIT, declared.TheConstants.MAX_WEIGHT}
 use Rattle.learning.specs.Ranges as ranges
-use Rattle.serde_json.specs.Data.{Data, Members}
-use Rattle.serde_json.specs.Find.{get_member}
+use Rattle.serde_json.specs.{Data.Data, Data.Members, Find.get_member}
 use Rattle.edge_files.specs.declared.reasons.Reason.TheVariants as reason
-use Rattle.records.specs.Files.{is_too_long}
-use Rattle.records.proofs.Unrefused.{none_applies}
+use Rattle.records.{proofs.Unrefused.none_applies, specs.Files.is_too_long}
 use Rattle.settings.specs.Keys.{is_whole, is_bad, has_unknown_key, has_bad_traffic, has_bad_weight, has_bad_learning, has_bad_value, has_bad_scoring}
 use Rattle.settings.specs.Looking.{members_of, whole, if_from_to, whole_in}
 use Rattle.settings.specs.Values.{Values, traffic_in, strategy_weights_in, learning_in, values_in}

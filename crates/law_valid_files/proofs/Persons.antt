@@ -1,17 +1,13 @@
 -- What persons remember of files without a fault: plans that fit the town of these files.
-use Rattle.scenario.proofs.Common.{◌≡◌, ℕ, List, map, ◌∙◌, length, refl, true, arith, ◌≤◌, [], ◌∷◌}
-use Rattle.scenario.proofs.Common.{and_parts, nat_tests, length-map, list_all, nat_le, PlanRows, all_fit, are_few, are_fitting, plan_in_town}
-use Rattle.scenario.proofs.Common.{leg_in_town, fits, TownRows, None}
-use Rattle.std.specs.List.{AllByRecursion as Each}
-use Rattle.std.proofs.lemmas.List.Elements.{All-from_recursion}
-use Rattle.std.proofs.lemmas.List.{length-replicate}
+use Rattle.scenario.proofs.Common.{◌≡◌, ℕ, List, map, ◌∙◌, length, refl, true, arith, ◌≤◌, [], ◌∷◌, and_parts, nat_tests, length-map, list_all, nat_le}
+use Rattle.scenario.proofs.Common.{PlanRows, all_fit, are_few, are_fitting, plan_in_town, leg_in_town, fits, TownRows, None}
+use Rattle.scenario.{proofs.Renumbered.still_legs, specs.Legs.Numbers}
+use Rattle.std.{proofs.lemmas.List.length-replicate, proofs.lemmas.List.Elements.All-from_recursion, specs.List.AllByRecursion as Each}
 use Rattle.limits.specs.declared.TheConstants.{MAX_PLANS}
 use Rattle.plans.proofs.Shapes.{IsPlan}
 use Rattle.plan_memory.specs.Memories.{MemoryRows, first_memory}
 use Rattle.law_in_range.specs.Setups.{IsPlanIn}
 use Rattle.law_replanning.specs.Memories.{IsMemoryIn}
-use Rattle.scenario.specs.Legs.{Numbers}
-use Rattle.scenario.proofs.Renumbered.{still_legs}
 use Rattle.law_valid_files.specs.Valid.{IsFirst}
 
 -- a plan with the town's numbers, which fits it

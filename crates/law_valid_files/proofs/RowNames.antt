@@ -1,24 +1,15 @@
 -- Names in the rows of a file none of whose rows is refused.
-use Rattle.records.proofs.Common.{◌≡◌, List, ℕ, length, ◌∙◌, arith, map, [], ◌<◌, sym, None, Some, ◌++◌, ◌∷◌, refl, true, Bool, Option, ◌+◌, false, cond, ◌^◌}
-use Rattle.records.proofs.Common.{get_or, ◌&&◌, ◌≤◌, suc, zero, take, subst, length-append, length-map, take_all, list_all, list_all-append, flat_map, fold}
-use Rattle.records.proofs.Common.{nat_lt, with_name, is_held, number_of, firsts, is_name, field, column, holds_name, body_of, rows_of, Row, Reason, strip_bom, body_fault}
-use Rattle.std.proofs.Common.{length-drop}
-use Rattle.std.proofs.lemmas.Bool.Decides.{nat_tests}
-use Rattle.std.proofs.lemmas.List.{length-take-le}
+use Rattle.records.proofs.{Columns.map_more, Common.◌≡◌, Common.List, Common.ℕ, Common.length}
+use Rattle.records.proofs.Common.{◌∙◌, arith, map, [], ◌<◌, sym, None, Some, ◌++◌, ◌∷◌, refl, true, Bool, Option, ◌+◌, false, cond, ◌^◌, get_or, ◌&&◌, ◌≤◌, suc}
+use Rattle.records.proofs.Common.{zero, take, subst, length-append, length-map, take_all, list_all, list_all-append, flat_map, fold, nat_lt, with_name, is_held}
+use Rattle.records.proofs.Common.{number_of, firsts, is_name, field, column, holds_name, body_of, rows_of, Row, Reason, strip_bom, body_fault}
+use Rattle.records.{proofs.Records.length-strip_bom, proofs.Sound.both_true, proofs.Unrefused.each_none, specs.Files.is_too_long, specs.Reading.reason_after}
+use Rattle.std.proofs.{Common.length-drop, lemmas.Bool.Decides.nat_tests, lemmas.List.length-take-le}
 use Rattle.limits.specs.declared.TheConstants.{MAX_FILE_BYTES}
-use Rattle.csv.specs.Machine.{Read, next_record}
-use Rattle.csv.specs.Reading.{default_config, records_from, records_next}
-use Rattle.csv.specs.declared.parser.Config.{Config}
-use Rattle.csv.specs.declared.parser.State.{State}
+use Rattle.csv.specs.{Machine.Read, Machine.next_record, Reading.default_config, Reading.records_from, Reading.records_next}
+use Rattle.csv.specs.declared.parser.{Config.Config, State.State}
 use Rattle.csv.specs.declared.parser.State.TheVariants as st
-use Rattle.events.specs.Names.{AreNames}
-use Rattle.events.proofs.NameLists.{AreNames-push, no_number-absent}
-use Rattle.records.specs.Files.{is_too_long}
-use Rattle.records.specs.Reading.{reason_after}
-use Rattle.records.proofs.Columns.{map_more}
-use Rattle.records.proofs.Records.{length-strip_bom}
-use Rattle.records.proofs.Sound.{both_true}
-use Rattle.records.proofs.Unrefused.{each_none}
+use Rattle.events.{proofs.NameLists.AreNames-push, proofs.NameLists.no_number-absent, specs.Names.AreNames}
 
 pub no_names : AreNames []
 no_names = record { each = refl; distinct = refl; few = omega arith }

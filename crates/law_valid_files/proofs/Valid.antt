@@ -1,44 +1,24 @@
 -- Files without a fault give a scenario of which a run can be made.
 use Rattle.std.proofs.Common.{◌≡◌, ℕ, ◌<◌, ◌≤◌, true, List, length, map, None, refl, ◌∙◌, subst}
-use Rattle.std.specs.List.{list_all}
-use Rattle.std.proofs.lemmas.List.{length-map}
-use Rattle.std.proofs.lemmas.List.Elements.{All-from_recursion}
+use Rattle.std.{proofs.lemmas.List.length-map, proofs.lemmas.List.Elements.All-from_recursion, specs.List.list_all}
 use Rattle.edge_files.specs.declared.files.InFile.TheVariants as file
-use Rattle.records.specs.Faults.{fault_at}
-use Rattle.records.specs.Files.{body_of}
-use Rattle.records.proofs.Unrefused.{no_reason}
-use Rattle.network.specs.Nodes.{node_names}
-use Rattle.network.specs.Links.{links_fault}
+use Rattle.records.{proofs.Unrefused.no_reason, specs.Faults.fault_at, specs.Files.body_of}
+use Rattle.network.specs.{Links.links_fault, Nodes.node_names}
 use Rattle.plan_memory.specs.Memories.{first_memory}
-use Rattle.plans.specs.Values.{PlanFileRows, plans_fault}
-use Rattle.plans.proofs.AllRows.{AreFreePlans, plans_free}
-use Rattle.rows.specs.Schedules.{is_stop}
-use Rattle.rows.specs.Schedules.{is_route}
-use Rattle.settings.specs.Values.{Values}
+use Rattle.plans.{proofs.AllRows.AreFreePlans, proofs.AllRows.plans_free, specs.Values.PlanFileRows, specs.Values.plans_fault}
+use Rattle.rows.specs.{Greens.Phases, Joined.ends_of, Schedules.is_stop, Schedules.is_route, Settings.AreInRange}
+use Rattle.settings.specs.{Faults.FileValues, Faults.settings_fault, Faults.file_of, Values.Values}
 use Rattle.signals.proofs.Steps.{greens_length}
-use Rattle.settings.specs.Faults.{FileValues, settings_fault, file_of}
-use Rattle.rows.specs.Greens.{Phases}
-use Rattle.rows.specs.Settings.{AreInRange}
-use Rattle.rows.specs.Joined.{ends_of}
 use Rattle.town.specs.Rows.{IsTown}
 use Rattle.law_replanning.specs.Memories.{IsMemoryIn}
-use Rattle.scenario.specs.Texts.{Texts, bytes_in}
-use Rattle.scenario.specs.Legs.{numbers_in, plan_in_town}
-use Rattle.scenario.specs.LegChecks.{AreThere}
-use Rattle.scenario.specs.Fitting.{all_fit}
-use Rattle.scenario.specs.FilesToScenario.{NetworkRows, ScheduleRows, IsSchedule, leg_checks_in, town_of, persons_on, schedule_rows_of, signals_on, planned_of, filled_in, scenario_of, on_network, network_rows_of, plans_cross_fault, scenario_fault, scenario_rows}
-use Rattle.router.proofs.Graphs.{network_within}
 use Rattle.scenario.proofs.Filled.{filled_sound, filled_kept}
-use Rattle.scenario.proofs.RowByRow.{same_crossing}
-use Rattle.scenario.proofs.Told.{bytes_free}
-use Rattle.scenario.proofs.Free.{free_files}
-use Rattle.scenario.proofs.FreeSchedules.{schedule_free}
-use Rattle.scenario.proofs.Settling.{plans_fit}
-use Rattle.scenario.proofs.There.{are_there}
-use Rattle.law_valid_files.specs.Valid.{IsScenario, IsFirst}
-use Rattle.law_valid_files.proofs.NetworkRows.{AreNetworkRows, network_free}
-use Rattle.law_valid_files.proofs.Numbers.{AreSound, settings_free}
-use Rattle.law_valid_files.proofs.Persons.{all_in_town, each_memory, each_first}
+use Rattle.scenario.proofs.{Free.free_files, FreeSchedules.schedule_free, RowByRow.same_crossing, Settling.plans_fit, There.are_there, Told.bytes_free}
+use Rattle.scenario.specs.FilesToScenario.{NetworkRows, ScheduleRows, IsSchedule, leg_checks_in, town_of, persons_on, schedule_rows_of, signals_on, planned_of}
+use Rattle.scenario.specs.FilesToScenario.{filled_in, scenario_of, on_network, network_rows_of, plans_cross_fault, scenario_fault, scenario_rows}
+use Rattle.scenario.specs.{Fitting.all_fit, LegChecks.AreThere, Legs.numbers_in, Legs.plan_in_town, Texts.Texts, Texts.bytes_in}
+use Rattle.router.proofs.Graphs.{network_within}
+use Rattle.law_valid_files.proofs.{NetworkRows.AreNetworkRows, NetworkRows.network_free, Numbers.AreSound, Numbers.settings_free, Persons.all_in_town}
+use Rattle.law_valid_files.{proofs.Persons.each_memory, proofs.Persons.each_first, specs.Valid.IsScenario, specs.Valid.IsFirst}
 
 -- THE TOWN
 town_is : (v : Values) (network : NetworkRows) (persons kinds : List (List ℕ)) (t : ScheduleRows) (greens : List Phases) → AreInRange v.traffic → AreNetworkRows network → IsSchedule (length network.link_names) (ends_of network.links) t → length persons ≤ 65536

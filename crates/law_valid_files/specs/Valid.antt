@@ -1,7 +1,6 @@
 -- What files without a fault give.
 use Rattle.std.specs.Prelude.{◌≡◌, ◌≤◌, length, All}
-use Rattle.learning.specs.declared.TheConstants.{LAST_ITERATION}
-use Rattle.learning.specs.Ranges.{AreInRange}
+use Rattle.learning.specs.{Ranges.AreInRange, declared.TheConstants.LAST_ITERATION}
 use Rattle.limits.specs.declared.TheConstants.{MAX_PLANS}
 use Rattle.plan_memory.specs.Memories.{MemoryRows, first_memory}
 use Rattle.plan_text.specs.Lines.{IsBook}

@@ -3,8 +3,7 @@
 #![tactic(auto)]
 
 ghost use Rattle.std.specs.Prelude.{◌≡◌, None, All};
-ghost use Rattle.scenario.specs.Texts.{Texts};
-ghost use Rattle.scenario.specs.FilesToScenario.{scenario_fault, scenario_rows, conflicts_in};
+ghost use Rattle.scenario.specs.{FilesToScenario.scenario_fault, FilesToScenario.scenario_rows, FilesToScenario.conflicts_in, Texts.Texts};
 ghost use Rattle.law_valid_files.specs.Valid.{IsScenario, IsNamed};
 ghost use Rattle.signals.specs.Signals.{AreNeverGreen};
 

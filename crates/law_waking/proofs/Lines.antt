@@ -1,17 +1,12 @@
 -- Those who wait at the stops of a link after its turn are those whom its services left.
-use Rattle.traffic.proofs.Common.{◌≡◌, ℕ, ◌+◌, ◌-◌, Bool, true, false, List, ◌∙◌, ap, refl, sym, [], ◌∷◌, inl, inr, cases_Bool, length, if◌then◌else◌, nat_lt, nat_le}
-use Rattle.traffic.proofs.Common.{run, done, World, Setup, waiters, calls_on, is_last, may_pass, served_row, left_behind, buffered, waiting, wait_after, from_wait, from_queue, leave_bay, link_moves, raised, VEHICLE_COST, LinkState}
-use Rattle.traffic.specs.declared.moves.Move.{Move}
-use Rattle.traffic.specs.declared.moves.Move.TheVariants.{Transfer, Remove, Credit, LeaveHole}
-use Rattle.traffic.specs.declared.stage.Stage.TheVariants.{Queue, Wait, Bay}
-use Rattle.traffic.specs.declared.numbers.Rules.{Rules}
-use Rattle.traffic.specs.declared.world.Row.{Row}
-use Rattle.traffic.specs.declared.world.Waiter.{Waiter}
-use Rattle.traffic.proofs.Sublists.{run-append}
-use Rattle.traffic.proofs.Waiting.{gone_calm, pass_calm}
-use Rattle.traffic.proofs.LeftBehind.{served_line, calm_line}
-use Rattle.link_seconds.specs.Seconds.{left_after}
-use Rattle.link_seconds.proofs.Leading.{left_append}
+use Rattle.traffic.proofs.Common.{◌≡◌, ℕ, ◌+◌, ◌-◌, Bool, true, false, List, ◌∙◌, ap, refl, sym, [], ◌∷◌, inl, inr, cases_Bool, length, if◌then◌else◌, nat_lt}
+use Rattle.traffic.proofs.Common.{nat_le, run, done, World, Setup, waiters, calls_on, is_last, may_pass, served_row, left_behind, buffered, waiting, wait_after}
+use Rattle.traffic.proofs.Common.{from_wait, from_queue, leave_bay, link_moves, raised, VEHICLE_COST, LinkState}
+use Rattle.traffic.proofs.{LeftBehind.served_line, LeftBehind.calm_line, Sublists.run-append, Waiting.gone_calm, Waiting.pass_calm}
+use Rattle.traffic.specs.declared.moves.Move.{Move, TheVariants.Transfer, TheVariants.Remove, TheVariants.Credit, TheVariants.LeaveHole}
+use Rattle.traffic.specs.declared.{numbers.Rules.Rules, stage.Stage.TheVariants.Queue, stage.Stage.TheVariants.Wait, stage.Stage.TheVariants.Bay}
+use Rattle.traffic.specs.declared.world.{Row.Row, Waiter.Waiter}
+use Rattle.link_seconds.{proofs.Leading.left_append, specs.Seconds.left_after}
 
 if_by : (P : List Move → Type 0) (b : Bool) (xs ys : List Move) → P xs → P ys → P (if b then xs else ys)
 if_by P b xs ys h g = elim (cases_Bool b) [ inl e ↦ rw e h | inr e ↦ rw e g ]

@@ -1,18 +1,12 @@
 -- After its second a link rests until it may have something to do.
 use Rattle.std.proofs.Common.{◌≡◌, ℕ, suc, ◌+◌, ◌-◌, ◌≤◌, List, [], ◌∷◌, length, ap, sym, subst, arith}
-use Rattle.std.specs.Prelude.{Option, None, Some}
-use Rattle.std.specs.List.{AllByRecursion as Each}
+use Rattle.std.specs.{List.AllByRecursion as Each, Prelude.Option, Prelude.None, Prelude.Some}
 use Rattle.fixed_flow.specs.Flow.{raised_times}
 use Rattle.rows.specs.declared.settings.Dwelling.{Dwelling}
-use Rattle.traffic.specs.declared.world.Row.{Row}
-use Rattle.traffic.specs.Links.{LinkState}
+use Rattle.traffic.specs.{Links.LinkState, declared.world.Row.Row}
+use Rattle.law_sleeping.proofs.{Resting.sleeps_quiet, Settling.settled_sleeps}
 use Rattle.law_sleeping.specs.Quiet.{IsQuiet, IsSettled, IsBy, IsDue, queue_due, wait_due, is_blocked, rested}
-use Rattle.law_sleeping.proofs.Settling.{settled_sleeps}
-use Rattle.law_sleeping.proofs.Resting.{sleeps_quiet}
-use Rattle.queue_link.specs.declared.numbers.LinkNumbers.{LinkNumbers}
-use Rattle.queue_link.specs.Links.{LinkView}
-use Rattle.queue_link.specs.Numbers.{rules_of, no_dwelling}
-use Rattle.queue_link.specs.Waking.{bay_due, due_of}
+use Rattle.queue_link.specs.{Links.LinkView, Numbers.rules_of, Numbers.no_dwelling, Waking.bay_due, Waking.due_of, declared.numbers.LinkNumbers.LinkNumbers}
 use Rattle.calendar.specs.Waking.{earliest}
 use Rattle.link_seconds.specs.Seconds.{lists_at}
 use Rattle.law_waking.specs.Resting.{Rests}

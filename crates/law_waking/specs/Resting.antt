@@ -2,8 +2,7 @@
 use Rattle.std.specs.Prelude.{ℕ, ◌<◌, ◌≤◌, Option, None, Some}
 use Rattle.rows.specs.declared.settings.Dwelling.{Dwelling}
 use Rattle.law_sleeping.specs.Quiet.{IsQuiet}
-use Rattle.queue_link.specs.Links.{LinkView}
-use Rattle.queue_link.specs.Numbers.{rules_of}
+use Rattle.queue_link.specs.{Links.LinkView, Numbers.rules_of}
 use Rattle.link_seconds.specs.Seconds.{lists_at}
 
 -- from this second on and before that one the link lets nobody go: its turns raise its credit and do nothing else

@@ -4,16 +4,10 @@
 
 ghost use Rattle.std.specs.Prelude.{◌≡◌, ℕ, ◌+◌};
 ghost use Rattle.rows.specs.declared.settings.Dwelling.{Dwelling};
-ghost use Rattle.traffic.specs.declared.numbers.Rules.{Rules};
-ghost use Rattle.traffic.specs.Rows.{World};
-ghost use Rattle.traffic.specs.Setup.{Setup};
-ghost use Rattle.traffic.specs.Moves.{run};
 ghost use Rattle.traffic.specs.Links.{LinkState, link_moves};
-ghost use Rattle.traffic.specs.Persons.{waiters};
+ghost use Rattle.traffic.specs.{Moves.run, Persons.waiters, Rows.World, Setup.Setup, declared.numbers.Rules.Rules};
 ghost use Rattle.law_sleeping.specs.Quiet.{IsSettled, IsBy};
-ghost use Rattle.queue_link.specs.Links.{LinkView};
-ghost use Rattle.queue_link.specs.Numbers.{rules_of};
-ghost use Rattle.queue_link.specs.Waking.{due_of};
+ghost use Rattle.queue_link.specs.{Links.LinkView, Numbers.rules_of, Waking.due_of};
 ghost use Rattle.link_seconds.specs.Seconds.{left_after};
 ghost use Rattle.law_waking.specs.Resting.{Rests};
 

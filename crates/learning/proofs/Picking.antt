@@ -1,13 +1,10 @@
 -- Which strategies a word can pick.
 use Rattle.std.proofs.Common.{◌≡◌, ◌≢◌, ℕ, suc, ◌+◌, ◌<◌, Bool, true, false, if◌then◌else◌, [], ◌∷◌, sum, refl, arith, add-zero}
-use Rattle.std.specs.Prelude.{nat_eq, nat_lt, slice_index_or}
-use Rattle.std.proofs.lemmas.Bool.Decides.{nat_tests}
+use Rattle.std.{proofs.lemmas.Bool.Decides.nat_tests, specs.Prelude.nat_eq, specs.Prelude.nat_lt, specs.Prelude.slice_index_or}
 use Rattle.draws.specs.Choices.{below, running_sums, first_above, pick}
-use Rattle.learning.specs.declared.settings.Learning.{Learning}
-use Rattle.learning.specs.declared.strategies.TheConstants.{STRATEGIES}
-use Rattle.learning.specs.declared.strategies.Strategy.{Strategy}
-use Rattle.learning.specs.declared.strategies.Strategy.TheVariants as strategy
 use Rattle.learning.specs.Strategies.{innovating, weights_in, strategy_of, HaveNoOtherWeight}
+use Rattle.learning.specs.declared.{settings.Learning.Learning, strategies.Strategy.Strategy, strategies.TheConstants.STRATEGIES}
+use Rattle.learning.specs.declared.strategies.Strategy.TheVariants as strategy
 
 -- no strategy that makes new plans has a weight after the last iteration of innovation
 no_weight : (learning : Learning) (iteration weight : ℕ) → learning.innovation_last < iteration → innovating learning iteration weight ≡ 0

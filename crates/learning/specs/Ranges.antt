@@ -2,8 +2,7 @@
 use Rattle.std.specs.Prelude.{◌≤◌}
 use Rattle.limits.specs.declared.TheConstants.{LAST_SECOND, MAX_PLANS}
 use Rattle.learning.specs.declared.TheConstants.{LAST_ITERATION, MAX_LOGIT_UNIT, MAX_WEIGHT}
-use Rattle.learning.specs.declared.settings.Learning.{Learning}
-use Rattle.learning.specs.declared.settings.StrategyWeights.{StrategyWeights}
+use Rattle.learning.specs.declared.settings.{Learning.Learning, StrategyWeights.StrategyWeights}
 
 -- no weight is more than 1,000,000
 pub record AreWeights (w : StrategyWeights) : Type 0 where

@@ -1,9 +1,7 @@
 -- Which strategy a word picks.
 use Rattle.std.specs.Prelude.{◌≡◌, ℕ, nat_eq, nat_le, List, [], ◌∷◌, sum, slice_index_or, if◌then◌else◌}
 use Rattle.draws.specs.Choices.{pick}
-use Rattle.learning.specs.declared.strategies.TheConstants.{STRATEGIES}
-use Rattle.learning.specs.declared.settings.Learning.{Learning}
-use Rattle.learning.specs.declared.strategies.Strategy.{Strategy}
+use Rattle.learning.specs.declared.{settings.Learning.Learning, strategies.Strategy.Strategy, strategies.TheConstants.STRATEGIES}
 use Rattle.learning.specs.declared.strategies.Strategy.TheVariants as strategy
 
 -- the weight in an iteration of a strategy that makes new plans: none after the last iteration of innovation

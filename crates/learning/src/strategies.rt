@@ -1,8 +1,6 @@
 ghost use Rattle.std.specs.Prelude.{◌≡◌, ◌≢◌, ◌<◌, ◌≤◌, ◌*◌, ℕ, sum};
-ghost use Rattle.learning.specs.declared.TheConstants.{MAX_WEIGHT};
-ghost use Rattle.learning.specs.declared.settings.Learning.{Learning};
-ghost use Rattle.learning.specs.Ranges.{AreInRange};
-ghost use Rattle.learning.specs.Strategies.{innovating, weights_in, strategy_of, HaveNoOtherWeight};
+ghost use Rattle.learning.specs.{Ranges.AreInRange, Strategies.innovating, Strategies.weights_in, Strategies.strategy_of};
+ghost use Rattle.learning.specs.{Strategies.HaveNoOtherWeight, declared.TheConstants.MAX_WEIGHT, declared.settings.Learning.Learning};
 
 use crate::settings::Learning;
 use draws::pick;

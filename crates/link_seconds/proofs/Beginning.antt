@@ -1,26 +1,14 @@
 -- The begin of a link's second: the bay and the credit.
-use Rattle.std.proofs.Common.{◌≡◌, ℕ, suc, ◌+◌, ◌-◌, ◌≤◌, Bool, false, List, [], ◌∷◌, ◌++◌, refl, ap, sym, ◌∙◌, subst, inl, inr, arith, append-nil, append_assoc}
-use Rattle.std.proofs.lemmas.Bool.{cases_Bool}
-use Rattle.std.proofs.lemmas.Grind.{flat_map-append}
-use Rattle.std.specs.Prelude.{map, filter, nat_le}
-use Rattle.std.specs.List.{flat_map, AllByRecursion as Each}
+use Rattle.std.proofs.Common.{◌≡◌, ℕ, suc, ◌+◌, ◌-◌, ◌≤◌, Bool, false, List, [], ◌∷◌, ◌++◌, refl, ap, sym, ◌∙◌, subst, inl, inr, arith, append-nil}
+use Rattle.std.proofs.{Common.append_assoc, lemmas.Bool.cases_Bool, lemmas.Grind.flat_map-append}
+use Rattle.std.specs.{List.flat_map, List.AllByRecursion as Each, Prelude.map, Prelude.filter, Prelude.nat_le}
 use Rattle.fixed_flow.specs.Flow.{raised, raised_times}
-use Rattle.traffic.specs.declared.moves.Move.{Move}
-use Rattle.traffic.specs.declared.moves.Move.TheVariants.{Credit}
-use Rattle.traffic.specs.declared.moves.Occurrence.{Occurrence}
-use Rattle.traffic.specs.declared.numbers.Rules.{Rules}
-use Rattle.traffic.specs.declared.world.Row.{Row}
-use Rattle.traffic.specs.declared.world.Waiter.{Waiter}
-use Rattle.traffic.specs.Telling.{goes_on}
-use Rattle.traffic.specs.Moves.{told}
-use Rattle.traffic.specs.Links.{LinkState, waiting, leave_bay, link_moves, wait_after}
-use Rattle.traffic.proofs.Each.{each_append, each_map, each_kept}
-use Rattle.law_sleeping.specs.Quiet.{link_state_after, link_state_after_all}
+use Rattle.traffic.{proofs.Each.each_append, proofs.Each.each_map, proofs.Each.each_kept, specs.Links.LinkState}
+use Rattle.traffic.specs.{Links.waiting, Links.leave_bay, Links.link_moves, Links.wait_after, Moves.told, Telling.goes_on, declared.moves.Move.Move}
+use Rattle.traffic.specs.declared.{moves.Move.TheVariants.Credit, moves.Occurrence.Occurrence, numbers.Rules.Rules, world.Row.Row, world.Waiter.Waiter}
 use Rattle.law_sleeping.proofs.Settling.{lists_with, credited, stays, bay_link_state}
-use Rattle.law_sleeping.proofs.Whole.{link_state_append}
-use Rattle.queue_link.specs.declared.numbers.LinkNumbers.{LinkNumbers}
-use Rattle.queue_link.specs.Links.{LinkView}
-use Rattle.queue_link.specs.Turns.{is_due, left_in_bay, begun, moves_left}
+use Rattle.law_sleeping.{proofs.Whole.link_state_append, specs.Quiet.link_state_after, specs.Quiet.link_state_after_all}
+use Rattle.queue_link.specs.{Links.LinkView, Turns.is_due, Turns.left_in_bay, Turns.begun, Turns.moves_left, declared.numbers.LinkNumbers.LinkNumbers}
 use Rattle.link_seconds.specs.Seconds.{HaveLines, AreReady, IsReady, StopThere, IsThere, left_after, LeadsOn, IsSecond, lists_at}
 use Rattle.link_seconds.proofs.Leading.{left_append}
 

@@ -1,24 +1,15 @@
 -- What holds of each row of a link's queue and wait list holds of those that are left, and of a vehicle that stops.
 use Rattle.std.proofs.Common.{◌≡◌, ℕ, ◌-◌, true, List, [], ◌∷◌, ◌++◌, length, refl, sym, subst}
-use Rattle.std.specs.Prelude.{nat_lt}
-use Rattle.std.specs.List.{AllByRecursion as Each}
+use Rattle.std.specs.{List.AllByRecursion as Each, Prelude.nat_lt}
 use Rattle.fixed_flow.specs.declared.TheConstants.{VEHICLE_COST}
 use Rattle.rows.specs.declared.settings.Dwelling.{Dwelling}
-use Rattle.traffic.specs.declared.moves.Occurrence.{Occurrence}
-use Rattle.traffic.specs.declared.world.Row.{Row}
-use Rattle.traffic.specs.declared.world.Waiter.{Waiter}
-use Rattle.traffic.specs.Stops.{calls_on}
-use Rattle.traffic.specs.Telling.{starts}
-use Rattle.traffic.specs.Links.{LinkState, buffered, is_last, may_pass}
+use Rattle.traffic.specs.{Links.LinkState, Links.buffered, Links.is_last, Links.may_pass, Stops.calls_on, Telling.starts}
+use Rattle.traffic.specs.declared.{moves.Occurrence.Occurrence, world.Row.Row, world.Waiter.Waiter}
 use Rattle.law_sleeping.proofs.Settling.{lists_with}
-use Rattle.queue_link.specs.declared.numbers.LinkNumbers.{LinkNumbers}
-use Rattle.queue_link.specs.declared.fates.Fate.{Fate}
-use Rattle.queue_link.specs.declared.fates.Fate.TheVariants.{Stops, Arrives, Passes, Stays}
-use Rattle.queue_link.specs.declared.turns.Turn.{Turn}
-use Rattle.queue_link.specs.declared.turns.Turn.TheVariants.{Stop, Arrive, Done}
-use Rattle.queue_link.specs.Numbers.{rules_of, no_dwelling}
-use Rattle.queue_link.specs.Turns.{Outcome, fate_of, queue_fate, wait_fate, goes_on}
-use Rattle.queue_link.proofs.Fronts.{stops_by, due_by}
+use Rattle.queue_link.specs.declared.{numbers.LinkNumbers.LinkNumbers, fates.Fate.Fate, fates.Fate.TheVariants.Stops, fates.Fate.TheVariants.Arrives}
+use Rattle.queue_link.specs.declared.{fates.Fate.TheVariants.Passes, fates.Fate.TheVariants.Stays, turns.Turn.Turn, turns.Turn.TheVariants.Stop}
+use Rattle.queue_link.specs.{declared.turns.Turn.TheVariants.Arrive, declared.turns.Turn.TheVariants.Done, Numbers.rules_of, Numbers.no_dwelling, Turns.Outcome}
+use Rattle.queue_link.{specs.Turns.fate_of, specs.Turns.queue_fate, specs.Turns.wait_fate, specs.Turns.goes_on, proofs.Fronts.stops_by, proofs.Fronts.due_by}
 use Rattle.queue_link.proofs.Steps.{queue_passes, queue_stops, queue_arrives, wait_passes, wait_stops, wait_arrives, both_stay, wait_stays_on}
 
 -- a vehicle that stops is that of such a row, and its next call is on the link

@@ -1,35 +1,19 @@
 -- Turns of a link, one after the other, with the services of those who stop.
 use Rattle.std.proofs.Common.{◌≡◌, ◌≢◌, ℕ, ◌<◌, Bool, true, false, List, [], ◌∷◌, ◌++◌, length, set, refl, ap, sym, ◌∙◌, subst, inl, inr, append_assoc, eqb}
-use Rattle.std.proofs.lemmas.Bool.{cases_Bool, eqb-true, eqb-false, true≢false}
-use Rattle.std.proofs.lemmas.List.{get_or-set_same, get_or-set_other}
-use Rattle.std.proofs.lemmas.Grind.{flat_map-append}
-use Rattle.std.specs.Prelude.{if◌then◌else◌}
-use Rattle.std.specs.List.{flat_map}
+use Rattle.std.proofs.lemmas.{Bool.cases_Bool, Bool.eqb-true, Bool.eqb-false, Bool.true≢false, Grind.flat_map-append, List.get_or-set_same}
+use Rattle.std.{proofs.lemmas.List.get_or-set_other, specs.List.flat_map, specs.Prelude.if◌then◌else◌}
 use Rattle.rows.specs.declared.settings.Dwelling.{Dwelling}
-use Rattle.traffic.specs.declared.stage.Stage.{Stage}
-use Rattle.traffic.specs.declared.stage.Stage.TheVariants.{Queue, Buffer, Wait, Bay}
-use Rattle.traffic.specs.declared.moves.Move.{Move}
-use Rattle.traffic.specs.declared.moves.Move.TheVariants.{Transfer, Remove, Enter, SetFrontSince, Credit, LeaveHole, Report}
-use Rattle.traffic.specs.declared.moves.Occurrence.{Occurrence}
-use Rattle.traffic.specs.declared.numbers.Rules.{Rules}
-use Rattle.traffic.specs.declared.world.Row.{Row}
-use Rattle.traffic.specs.declared.world.Waiter.{Waiter}
-use Rattle.traffic.specs.Vehicles.{VehicleState}
-use Rattle.traffic.specs.Stops.{next_call, left_behind, served_row}
-use Rattle.traffic.specs.Telling.{serves}
-use Rattle.traffic.specs.Moves.{told}
-use Rattle.traffic.specs.Links.{LinkState}
-use Rattle.law_sleeping.specs.Quiet.{link_state_after, link_state_after_all}
-use Rattle.law_sleeping.proofs.Whole.{link_state_append}
-use Rattle.queue_link.specs.declared.numbers.LinkNumbers.{LinkNumbers}
-use Rattle.queue_link.specs.declared.turns.Turn.TheVariants.{Stop, Arrive, Done}
-use Rattle.queue_link.specs.Numbers.{rules_of}
-use Rattle.queue_link.specs.Links.{row_on}
-use Rattle.queue_link.specs.Turns.{Outcome, in_bay, moves_left, starts_from, until_halt, goes_on}
-use Rattle.queue_link.specs.Loops.{hole_of, up_to_halt, waiting_behind, AreOn, ComeTo}
+use Rattle.traffic.specs.{Links.LinkState, Moves.told, Stops.next_call, Stops.left_behind, Stops.served_row, Telling.serves, Vehicles.VehicleState}
+use Rattle.traffic.specs.declared.moves.Move.{Move, TheVariants.Transfer, TheVariants.Remove, TheVariants.Enter, TheVariants.SetFrontSince, TheVariants.Credit}
+use Rattle.traffic.specs.declared.{moves.Move.TheVariants.LeaveHole, moves.Move.TheVariants.Report, moves.Occurrence.Occurrence, numbers.Rules.Rules}
+use Rattle.traffic.specs.declared.stage.Stage.{Stage, TheVariants.Queue, TheVariants.Buffer, TheVariants.Wait, TheVariants.Bay}
+use Rattle.traffic.specs.declared.world.{Row.Row, Waiter.Waiter}
+use Rattle.law_sleeping.{proofs.Whole.link_state_append, specs.Quiet.link_state_after, specs.Quiet.link_state_after_all}
 use Rattle.queue_link.proofs.Looping.{queue_comes}
-use Rattle.riders.specs.Waiting.{at_stop}
-use Rattle.riders.proofs.Apart.{rows_alike, left_here, left_elsewhere, left_once}
+use Rattle.queue_link.specs.{Links.row_on, Loops.hole_of, Loops.up_to_halt, Loops.waiting_behind, Loops.AreOn, Loops.ComeTo, Numbers.rules_of, Turns.Outcome}
+use Rattle.queue_link.specs.{Turns.in_bay, Turns.moves_left, Turns.starts_from, Turns.until_halt, Turns.goes_on, declared.numbers.LinkNumbers.LinkNumbers}
+use Rattle.queue_link.specs.declared.turns.Turn.TheVariants.{Stop, Arrive, Done}
+use Rattle.riders.{proofs.Apart.rows_alike, proofs.Apart.left_here, proofs.Apart.left_elsewhere, proofs.Apart.left_once, specs.Waiting.at_stop}
 use Rattle.link_seconds.specs.Seconds.{line_at, HaveLines, left_after, rest_of, LeadsOn}
 
 -- WHO IS LEFT

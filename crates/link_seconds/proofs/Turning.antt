@@ -1,32 +1,17 @@
 -- One turn of a link as the code makes it.
-use Rattle.std.proofs.Common.{◌≡◌, ℕ, zero, suc, ◌+◌, ◌-◌, ◌<◌, ◌≤◌, Bool, true, false, List, [], ◌∷◌, ◌++◌, length, set, refl, ap, sym, ◌∙◌, subst, inl, inr, arith}
-use Rattle.std.specs.Prelude.{◌==◌, nat_lt, filter}
-use Rattle.std.specs.List.{flat_map, AllByRecursion as Each}
-use Rattle.std.proofs.lemmas.Bool.{cases_Bool, and_parts, ltb-true}
-use Rattle.std.proofs.lemmas.List.{length-set}
+use Rattle.std.proofs.Common.{◌≡◌, ℕ, zero, suc, ◌+◌, ◌-◌, ◌<◌, ◌≤◌, Bool, true, false, List, [], ◌∷◌, ◌++◌, length, set, refl, ap, sym, ◌∙◌, subst, inl, inr}
+use Rattle.std.proofs.{Common.arith, lemmas.Bool.cases_Bool, lemmas.Bool.and_parts, lemmas.Bool.ltb-true, lemmas.List.length-set}
+use Rattle.std.specs.{List.flat_map, List.AllByRecursion as Each, Prelude.◌==◌, Prelude.nat_lt, Prelude.filter}
 use Rattle.limits.specs.declared.TheConstants.{MAX_PERSONS}
 use Rattle.rows.specs.declared.settings.Dwelling.{Dwelling}
-use Rattle.traffic.specs.declared.moves.Occurrence.{Occurrence}
-use Rattle.traffic.specs.declared.world.Row.{Row}
-use Rattle.traffic.specs.declared.world.Waiter.{Waiter}
-use Rattle.traffic.specs.Vehicles.{VehicleState}
-use Rattle.traffic.specs.Stops.{next_call, calls_on, left_behind, served_row}
-use Rattle.traffic.specs.Telling.{serves, goes_on as telling_on}
-use Rattle.traffic.specs.Moves.{told}
-use Rattle.traffic.specs.Links.{LinkState}
-use Rattle.traffic.proofs.Each.{each_weaker}
-use Rattle.queue_link.specs.declared.turns.Turn.{Turn}
-use Rattle.queue_link.specs.declared.turns.Turn.TheVariants.{Stop}
-use Rattle.queue_link.specs.declared.numbers.LinkNumbers.{LinkNumbers}
-use Rattle.queue_link.specs.Links.{LinkView}
-use Rattle.queue_link.specs.Numbers.{rules_of}
-use Rattle.queue_link.specs.Turns.{goes_on, begun, is_due}
-use Rattle.queue_link.specs.Loops.{AreOn}
+use Rattle.traffic.{proofs.Each.each_weaker, specs.Links.LinkState, specs.Moves.told, specs.Stops.next_call}
+use Rattle.traffic.specs.{Stops.calls_on, Stops.left_behind, Stops.served_row, Telling.serves, Telling.goes_on as telling_on, Vehicles.VehicleState}
+use Rattle.traffic.specs.declared.{moves.Occurrence.Occurrence, world.Row.Row, world.Waiter.Waiter}
+use Rattle.queue_link.specs.{Links.LinkView, Loops.AreOn, Numbers.rules_of, Turns.goes_on, Turns.begun, Turns.is_due, declared.numbers.LinkNumbers.LinkNumbers}
+use Rattle.queue_link.specs.declared.turns.Turn.{Turn, TheVariants.Stop}
 use Rattle.riders.specs.Serving.{stopping as stopping_row}
+use Rattle.link_seconds.proofs.{Beginning.whole_second, Holding.holds, Leading.stop_leads, Leading.leads_then}
 use Rattle.link_seconds.specs.Seconds.{line_at, AreShort, CanStop, IsReady, AreReady, IsThere, StopThere, HaveLines, LeadsOn, IsSecond, lists_at}
-use Rattle.link_seconds.proofs.Leading.{stop_leads, leads_then}
-use Rattle.link_seconds.proofs.Beginning.{whole_second}
-use Rattle.link_seconds.proofs.Holding.{holds}
 
 -- a vehicle that stops has a call to be served
 served_some : (l : ℕ) (v : VehicleState) → calls_on l v ≡ true → v.served < length v.calls

@@ -3,19 +3,11 @@ use Rattle.std.specs.Prelude.{◌≡◌, ℕ, ◌-◌, ◌<◌, ◌≤◌, Bool,
 use Rattle.std.specs.List.{flat_map, AllByRecursion as Each}
 use Rattle.limits.specs.declared.TheConstants.{LAST_SECOND, MAX_CALLS, MAX_PERSONS}
 use Rattle.fixed_flow.specs.Flow.{raised_times}
-use Rattle.traffic.specs.declared.moves.Move.{Move}
-use Rattle.traffic.specs.declared.moves.Move.TheVariants.{Transfer}
-use Rattle.traffic.specs.declared.moves.Occurrence.{Occurrence}
-use Rattle.traffic.specs.declared.numbers.Rules.{Rules}
-use Rattle.traffic.specs.declared.world.Row.{Row}
-use Rattle.traffic.specs.declared.world.Waiter.{Waiter}
-use Rattle.traffic.specs.Vehicles.{VehicleState}
-use Rattle.traffic.specs.Stops.{next_call, calls_on, left_behind}
-use Rattle.traffic.specs.Moves.{told}
-use Rattle.traffic.specs.Links.{LinkState, link_moves}
+use Rattle.traffic.specs.{Links.LinkState, Links.link_moves, Moves.told, Stops.next_call, Stops.calls_on, Stops.left_behind, Vehicles.VehicleState}
+use Rattle.traffic.specs.declared.moves.{Move.Move, Move.TheVariants.Transfer, Occurrence.Occurrence}
+use Rattle.traffic.specs.declared.{numbers.Rules.Rules, world.Row.Row, world.Waiter.Waiter}
 use Rattle.law_sleeping.specs.Quiet.{link_state_after_all}
-use Rattle.queue_link.specs.Links.{LinkView}
-use Rattle.queue_link.specs.Turns.{in_bay, moves_left}
+use Rattle.queue_link.specs.{Links.LinkView, Turns.in_bay, Turns.moves_left}
 use Rattle.riders.specs.Waiting.{AreOnce, at_stop}
 
 -- the lists of a link, with the gains of all seconds before t

@@ -3,8 +3,7 @@
 ghost use Rattle.std.specs.Prelude.{◌≡◌, ◌<◌, ◌++◌, [], ◌∷◌, length, set, OnOk};
 ghost use Rattle.limits.specs.declared.TheConstants.{LAST_SECOND};
 ghost use Rattle.rows.specs.Settings.{IsDwelling};
-ghost use Rattle.traffic.specs.Stops.{next_call, left_behind, served_row};
-ghost use Rattle.traffic.specs.Telling.{serves};
+ghost use Rattle.traffic.specs.{Stops.next_call, Stops.left_behind, Stops.served_row, Telling.serves};
 ghost use Rattle.riders.specs.Serving.{stopping};
 ghost use Rattle.link_seconds.specs.Seconds.{line_at, AreShort, CanStop};
 

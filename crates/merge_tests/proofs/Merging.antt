@@ -1,8 +1,7 @@
 -- The lists that are merged ascend, and no key is in two of them.
 use Rattle.std.proofs.Common.{◌≡◌, ◌≢◌, ℕ, zero, suc, ◌<◌, List, [], ◌∷◌, length, get_or, ap, refl, sym, subst, arith}
 use Rattle.std.specs.List.{Contains, AllByRecursion as Each}
-use Rattle.events.specs.declared.event.Event.{Event}
-use Rattle.events.specs.declared.event.Key.{Key}
+use Rattle.events.specs.declared.event.{Event.Event, Key.Key}
 unfoldable use Rattle.events.specs.Keys.{key_before}
 use Rattle.traffic.specs.Frames.{Ascends}
 use Rattle.event_merge.specs.Lists.{IsApart, CanMerge}

@@ -1,8 +1,6 @@
 -- Lists of events that are merged.
 use Rattle.std.specs.Prelude.{ℕ, List, [], ◌∷◌, None}
-use Rattle.events.specs.declared.event.Event.{Event}
-use Rattle.events.specs.declared.event.Word.TheVariants.{ActEnd}
-use Rattle.events.specs.declared.event.More.TheVariants.{Nothing}
+use Rattle.events.specs.declared.event.{Event.Event, More.TheVariants.Nothing, Word.TheVariants.ActEnd}
 
 -- an event with this key
 abbrev pub event_of : ℕ → ℕ → ℕ → ℕ → Event

@@ -1,18 +1,15 @@
 -- Rows of nodes.csv and links.csv against which nothing speaks are few, and links begin and end at nodes, with numbers in their ranges.
 use Rattle.records.proofs.Common.{◌≡◌, List, ap, ℕ, length, ◌∙◌, arith, map, [], ◌<◌, None, true, Bool, false, get_or, ◌≤◌, not, ◌||◌, Err, Ok, Result}
-use Rattle.records.proofs.Common.{length-map, list_all, nat_eq, is_some, nat_le, is_none, RowStop, number_of, Answers, field, holds_name, body_of}
-use Rattle.records.proofs.Common.{head_reason, Row}
-use Rattle.std.proofs.Common.{IfOk}
-use Rattle.std.proofs.lemmas.Bool.{or_parts}
-use Rattle.edge_files.specs.declared.reasons.Reason.TheVariants as reason
-use Rattle.records.proofs.Sound.{both_true}
+use Rattle.records.proofs.Common.{length-map, list_all, nat_eq, is_some, nat_le, is_none, RowStop, number_of, Answers, field, holds_name, body_of, head_reason}
+use Rattle.records.proofs.{Common.Row, Sound.both_true}
 use Rattle.records.proofs.Unrefused.{none_applies, values_pass, few_rows, number_in_range, found_below, less_than}
+use Rattle.std.proofs.{Common.IfOk, lemmas.Bool.or_parts}
+use Rattle.edge_files.specs.declared.reasons.Reason.TheVariants as reason
 use Rattle.limits.specs.declared.TheConstants.{MAX_CAPACITY, MAX_LANES, MAX_LENGTH, MAX_LINKS, MAX_NODES, MAX_SPEED}
-use Rattle.rows.specs.declared.network.NodeRow.{NodeRow}
-use Rattle.rows.specs.declared.network.LinkRow.{LinkRow}
-use Rattle.rows.specs.Networks.{is_link, are_measures}
+use Rattle.rows.specs.{Networks.is_link, Networks.are_measures, declared.network.LinkRow.LinkRow, declared.network.NodeRow.NodeRow}
+use Rattle.network.specs.Links.{link_header, link_of, measures_of, has_bad_measure, link_reason, links_fault, length_in, speed_in, capacity_in, lanes_in}
+use Rattle.network.specs.Links.{lacks_name, lacks_node, link_names}
 use Rattle.network.specs.Nodes.{node_header, node_of, node_reason, nodes_fault, has_bad_coordinate}
-use Rattle.network.specs.Links.{link_header, link_of, measures_of, has_bad_measure, link_reason, links_fault, length_in, speed_in, capacity_in, lanes_in, lacks_name, lacks_node, link_names}
 
 four : (a b c d : Bool) → (a || b || c || d) ≡ false → (a ≡ false) × (b ≡ false) × (c ≡ false) × (d ≡ false)
 four a b c d h = (grind arith, grind arith, grind arith, grind arith)

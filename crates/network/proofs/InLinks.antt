@@ -1,14 +1,11 @@
 -- How many links end at each node, as links are added.
 use Rattle.std.proofs.Common.{◌≡◌, ◌≢◌, ℕ, ◌+◌, ◌<◌, ◌≤◌, cond, List, [], ◌∷◌, ◌++◌, length, get_or, inl, inr, refl, sym, ◌∙◌, ap, arith, replicate}
+use Rattle.std.proofs.lemmas.Bool.{cases_eq, Decides.nat_tests}
+use Rattle.std.proofs.lemmas.List.{get_or-set_same, get_or-set_other, get_or-replicate, length-set, length-replicate, get_or_default, Sums.sum_by-append}
 use Rattle.std.specs.Prelude.{nat_eq, slice_set as set, slice_index}
-use Rattle.std.proofs.lemmas.Bool.Decides.{nat_tests}
-use Rattle.std.proofs.lemmas.List.{get_or-set_same, get_or-set_other, get_or-replicate, length-set, length-replicate, get_or_default}
-use Rattle.std.proofs.lemmas.Bool.{cases_eq}
-use Rattle.std.proofs.lemmas.List.Sums.{sum_by-append}
 use Rattle.records.proofs.Numbering.{numbered_within}
 use Rattle.limits.specs.declared.TheConstants.{MAX_IN_LINKS}
-use Rattle.rows.specs.declared.network.LinkRow.{LinkRow}
-use Rattle.rows.specs.Networks.{in_links}
+use Rattle.rows.specs.{Networks.in_links, declared.network.LinkRow.LinkRow}
 
 -- the number of a node is among those of the nodes
 pub ruleset known_nodes = (numbered_within)

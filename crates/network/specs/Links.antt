@@ -1,19 +1,13 @@
 -- The rows of links.csv: `link,from,to,length,speed,capacity,lanes`.
 use Rattle.std.specs.Prelude.{ℕ, Bool, not, ◌&&◌, ◌||◌, nat_le, nat_eq, is_none, is_some, codes, unwrap_or, List, [], ◌∷◌, length, Option}
 use Rattle.limits.specs.declared.TheConstants.{MAX_CAPACITY, MAX_IN_LINKS, MAX_LANES, MAX_LENGTH, MAX_LINKS, MAX_SPEED}
-use Rattle.edge_files.specs.declared.reasons.Reason.{Reason}
+use Rattle.edge_files.specs.declared.reasons.{Reason.Reason, RowFault.RowFault}
 use Rattle.edge_files.specs.declared.reasons.Reason.TheVariants as reason
-use Rattle.edge_files.specs.declared.reasons.RowFault.{RowFault}
 use Rattle.events.specs.Names.{number_of}
+use Rattle.records.specs.{Faults.least, Fields.field, Fields.holds_name, Fields.column, Files.head_reason, Files.body_of, Numbers.number_in, Reading.file_fault}
 use Rattle.records.specs.Rows.{Row}
-use Rattle.records.specs.Fields.{field, holds_name, column}
-use Rattle.records.specs.Numbers.{number_in}
-use Rattle.records.specs.Faults.{least}
-use Rattle.records.specs.Files.{head_reason, body_of}
-use Rattle.records.specs.Reading.{file_fault}
-use Rattle.rows.specs.declared.network.LinkRow.{LinkRow}
+use Rattle.rows.specs.{Networks.in_links, declared.network.LinkRow.LinkRow}
 use Rattle.network.specs.declared.measures.Measures.{Measures}
-use Rattle.rows.specs.Networks.{in_links}
 
 abbrev pub link_header : List (List ℕ)
 link_header = codes "link" ∷ codes "from" ∷ codes "to" ∷ codes "length" ∷ codes "speed" ∷ codes "capacity" ∷ codes "lanes" ∷ []

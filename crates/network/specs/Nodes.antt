@@ -1,16 +1,11 @@
 -- The rows of nodes.csv: `node,x,y`.
 use Rattle.std.specs.Prelude.{ℕ, ℤ, pos, Bool, not, ◌||◌, nat_le, nat_eq, is_none, is_some, codes, unwrap_or, List, [], ◌∷◌, length, Option}
 use Rattle.limits.specs.declared.TheConstants.{MAX_COORDINATE, MAX_NODES}
-use Rattle.edge_files.specs.declared.reasons.Reason.{Reason}
+use Rattle.edge_files.specs.declared.reasons.{Reason.Reason, RowFault.RowFault}
 use Rattle.edge_files.specs.declared.reasons.Reason.TheVariants as reason
-use Rattle.edge_files.specs.declared.reasons.RowFault.{RowFault}
 use Rattle.events.specs.Names.{number_of}
+use Rattle.records.specs.{Faults.least, Fields.field, Fields.holds_name, Fields.column, Files.head_reason, Files.body_of, Numbers.signed_in, Reading.file_fault}
 use Rattle.records.specs.Rows.{Row}
-use Rattle.records.specs.Fields.{field, holds_name, column}
-use Rattle.records.specs.Numbers.{signed_in}
-use Rattle.records.specs.Faults.{least}
-use Rattle.records.specs.Files.{head_reason, body_of}
-use Rattle.records.specs.Reading.{file_fault}
 use Rattle.rows.specs.declared.network.NodeRow.{NodeRow}
 
 abbrev pub node_header : List (List ℕ)

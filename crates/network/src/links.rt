@@ -1,12 +1,9 @@
-ghost use Rattle.std.specs.Prelude.{◌≡◌, ◌≤◌, ◌<◌, ◌^◌, ℕ, length, map, true, None, Some, IfOk};
-ghost use Rattle.std.specs.Prelude.{OnOk, if◌then◌else◌};
 ghost use Rattle.std.specs.List.{list_all};
+ghost use Rattle.std.specs.Prelude.{◌≡◌, ◌≤◌, ◌<◌, ◌^◌, ℕ, length, map, true, None, Some, IfOk, OnOk, if◌then◌else◌};
 ghost use Rattle.csv.specs.Records.{fields_of};
 ghost use Rattle.events.specs.Names.{number_of};
-ghost use Rattle.records.specs.Fields.{field, holds_name, column};
 ghost use Rattle.records.specs.Faults.{unless, Answers};
-ghost use Rattle.records.specs.Files.{body_of};
-ghost use Rattle.records.specs.Reading.{body_fault};
+ghost use Rattle.records.specs.{Fields.field, Fields.holds_name, Fields.column, Files.body_of, Reading.body_fault};
 ghost use Rattle.rows.specs.Networks.{is_link, in_links};
 ghost use Rattle.network.specs.Links.{link_reason, link_of, has_bad_measure, measures_of, links_fault, link_names};
 

@@ -1,5 +1,4 @@
-ghost use Rattle.std.specs.Prelude.{◌≡◌, ◌≤◌, ◌<◌, ◌∷◌, ◌++◌, [], ℕ, length, true, IfOk};
-ghost use Rattle.std.specs.Prelude.{slice_index, replicate};
+ghost use Rattle.std.specs.Prelude.{◌≡◌, ◌≤◌, ◌<◌, ◌∷◌, ◌++◌, [], ℕ, length, true, IfOk, slice_index, replicate};
 ghost use Rattle.limits.specs.declared.TheConstants.{MAX_IN_LINKS};
 ghost use Rattle.events.specs.Names.{is_name, with_name};
 ghost use Rattle.rows.specs.Networks.{in_links};

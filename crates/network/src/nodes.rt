@@ -1,6 +1,5 @@
 ghost use Rattle.std.specs.Prelude.{◌≡◌, ◌≤◌, length, map, IfOk};
-ghost use Rattle.records.specs.Faults.{Answers};
-ghost use Rattle.records.specs.Files.{head_reason, body_of};
+ghost use Rattle.records.specs.{Faults.Answers, Files.head_reason, Files.body_of};
 ghost use Rattle.network.specs.Nodes.{node_header, node_reason, node_of, nodes_fault, node_names};
 
 use csv::ByteRecord;

@@ -1,43 +1,26 @@
 -- The drawing: marks, candidates, weights, and one pick after the other.
-use Rattle.std.proofs.Common.{◌≡◌, ◌≢◌, ℕ, zero, suc, ◌+◌, ◌*◌, ◌<◌, ◌≤◌, Bool, true, false, List, [], ◌∷◌, ◌++◌, length, get_or, refl, ap, sym, ◌∙◌, subst, arith}
-use Rattle.std.proofs.Common.{take, drop, add-one, append-nil, inl, inr}
+use Rattle.std.proofs.Common.{◌≡◌, ◌≢◌, ℕ, zero, suc, ◌+◌, ◌*◌, ◌<◌, ◌≤◌, Bool, true, false, List, [], ◌∷◌, ◌++◌, length, get_or, refl, ap, sym, ◌∙◌, subst}
+use Rattle.std.proofs.{Common.arith, Common.take, Common.drop, Common.add-one, Common.append-nil, Common.inl, Common.inr, Math.Seq.take-suc}
+use Rattle.std.proofs.lemmas.{Bool.cases_Bool, Bool.ne_eqb, Bool.eq-eqb, List.map-append, List.take-append-drop, List.Elements.filter-append}
+use Rattle.std.{proofs.lemmas.List.Sums.sum_by-cons, specs.List.flat_map, specs.List.AllByRecursion as Each}
 use Rattle.std.specs.Prelude.{map, filter, not, ◌&&◌, set, sum, Option, Some, None, if◌then◌else◌}
-use Rattle.std.specs.List.{flat_map, AllByRecursion as Each}
-use Rattle.std.proofs.lemmas.Bool.{cases_Bool, ne_eqb, eq-eqb}
-use Rattle.std.proofs.lemmas.List.Elements.{filter-append}
-use Rattle.std.proofs.lemmas.List.{map-append, take-append-drop}
-use Rattle.std.proofs.lemmas.List.Sums.{sum_by-cons}
-use Rattle.std.proofs.Math.Seq.{take-suc}
 use Rattle.limits.specs.declared.TheConstants.{MAX_CAPACITY}
-use Rattle.draws.specs.Words.{Source, word}
-use Rattle.draws.specs.Choices.{pick}
-use Rattle.draws.proofs.Ranges.{word_fits}
+use Rattle.draws.{proofs.Ranges.word_fits, specs.Choices.pick, specs.Words.Source, specs.Words.word}
 use Rattle.rows.specs.declared.settings.Stuck.{Stuck}
-use Rattle.traffic.specs.declared.stage.Stage.TheVariants.{Buffer}
-use Rattle.traffic.specs.declared.moves.Move.{Move}
-use Rattle.traffic.specs.declared.moves.Move.TheVariants.{SetFrontSince}
-use Rattle.traffic.specs.declared.moves.Occurrence.{Occurrence}
-use Rattle.traffic.specs.declared.node_views.InLink.{InLink}
-use Rattle.traffic.specs.declared.node_views.OutLink.{OutLink}
-use Rattle.traffic.specs.declared.world.Row.{Row}
-use Rattle.traffic.specs.Vehicles.{VehicleState}
-use Rattle.traffic.specs.Lists.{is_nil, without_at, on_front}
+use Rattle.traffic.{proofs.Each.each_without_at, specs.Lists.is_nil, specs.Lists.without_at, specs.Lists.on_front}
 use Rattle.traffic.specs.Moves.{told, at_second, at_after, at_after_all}
 use Rattle.traffic.specs.Nodes.{pass_node_all, out_links_after, no_in_link, drawn, draw, ready, red, candidates, mark, node_moves, weight_of}
+use Rattle.traffic.specs.{Vehicles.VehicleState, declared.moves.Move.Move, declared.moves.Move.TheVariants.SetFrontSince, declared.moves.Occurrence.Occurrence}
+use Rattle.traffic.specs.declared.{node_views.InLink.InLink, node_views.OutLink.OutLink, stage.Stage.TheVariants.Buffer, world.Row.Row}
+use Rattle.law_sleeping.proofs.{Passing.lazily, Reading.now_has}
 use Rattle.law_sleeping.specs.Able.{can_go, able_now, by_chosen, draw_lazily, AreWeighted}
-use Rattle.traffic.proofs.Each.{each_without_at}
-use Rattle.law_sleeping.proofs.Passing.{lazily}
-use Rattle.law_sleeping.proofs.Reading.{now_has}
 use Rattle.queue_link.specs.Links.{LinkView}
+use Rattle.node_move.proofs.{Fronts.next_behind, Places.seen_at, Places.seen_rest, Places.length_seen, Places.is_at, Places.length_without, Runs.with_buffer}
+use Rattle.node_move.{proofs.Runs.same_state, proofs.Runs.run_none, proofs.Runs.run_both, specs.Choices.by_able}
+use Rattle.node_move.specs.NodeStates.{NodeState, node_state, node_run, buffer_after, entering_by, removed_by, in_link_of, in_links_of, after_turn, seen}
+use Rattle.node_move.specs.NodeStates.{no_link, marked, all_marked, HaveWeights, AreReady, IsNone, AreApart, IsNotIn, ArePlaces}
+use Rattle.node_move.specs.declared.candidates.Able.{Able, TheVariants.Nobody, TheVariants.Only, TheVariants.Several}
 use Rattle.node_move.specs.declared.crossings.Entering.{Entering}
-use Rattle.node_move.specs.declared.candidates.Able.{Able}
-use Rattle.node_move.specs.declared.candidates.Able.TheVariants.{Nobody, Only, Several}
-use Rattle.node_move.specs.Choices.{by_able}
-use Rattle.node_move.specs.NodeStates.{NodeState, node_state, node_run, buffer_after, entering_by, removed_by, in_link_of, in_links_of, after_turn, seen, no_link}
-use Rattle.node_move.specs.NodeStates.{marked, all_marked, HaveWeights, AreReady, IsNone, AreApart, IsNotIn, ArePlaces}
-use Rattle.node_move.proofs.Runs.{with_buffer, same_state, run_none, run_both}
-use Rattle.node_move.proofs.Fronts.{next_behind}
-use Rattle.node_move.proofs.Places.{seen_at, seen_rest, length_seen, is_at, length_without}
 
 -- THE MARKS
 pub no_greens : (t : ℕ) (vs : List LinkView) → all_marked t vs [] ≡ vs

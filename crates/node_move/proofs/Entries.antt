@@ -1,15 +1,11 @@
 -- The table of places, with one entry more, or with another one.
 use Rattle.std.proofs.Common.{◌≡◌, ℕ, zero, suc, ◌+◌, ◌<◌, ◌≤◌, false, List, [], ◌∷◌, ◌++◌, length, get_or, refl, ap, sym, ◌∙◌, arith, inl, inr, subst, true}
-use Rattle.std.specs.Prelude.{set, ◌==◌, if◌then◌else◌, Option, None, Some}
 use Rattle.std.proofs.Math.Path.{fun_ext}
-use Rattle.std.proofs.lemmas.Bool.{cases_Bool, eqb-true, eqb-false, eq-eqb, ne_eqb}
-use Rattle.std.proofs.lemmas.List.{get_or_default}
-use Rattle.traffic.specs.declared.node_views.OutLink.{OutLink}
-use Rattle.traffic.specs.Nodes.{one_more}
-use Rattle.node_move.specs.declared.space.Entry.{Entry}
+use Rattle.std.proofs.lemmas.{Bool.cases_Bool, Bool.eqb-true, Bool.eqb-false, Bool.eq-eqb, Bool.ne_eqb, List.get_or_default}
+use Rattle.std.specs.Prelude.{set, ◌==◌, if◌then◌else◌, Option, None, Some}
+use Rattle.traffic.specs.{Nodes.one_more, declared.node_views.OutLink.OutLink}
 use Rattle.node_move.specs.Entries.{entry_at, rows_of, no_entry, StandsAt}
-use Rattle.node_move.specs.Pages.{number_of}
-use Rattle.node_move.specs.Spaces.{places_in}
+use Rattle.node_move.specs.{Pages.number_of, Spaces.places_in, declared.space.Entry.Entry}
 
 -- ENTRIES
 entry_past : (es : List Entry) (m k : ℕ) → length es ≤ k → entry_at es m k ≡ None

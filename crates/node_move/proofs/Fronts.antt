@@ -1,25 +1,15 @@
 -- One front after the other hands over.
 use Rattle.std.proofs.Common.{◌≡◌, ℕ, ◌+◌, Bool, true, false, List, [], ◌∷◌, ◌++◌, refl, ap, sym, ◌∙◌, subst, append-nil}
-use Rattle.std.specs.Prelude.{not, Option, None, Some, drop}
-use Rattle.std.proofs.lemmas.Bool.{eq-eqb}
-use Rattle.events.specs.declared.event.Word.TheVariants.{LeftLink, EnteredLink}
-use Rattle.events.specs.declared.event.More.TheVariants.{Nothing}
+use Rattle.std.{proofs.lemmas.Bool.eq-eqb, specs.Prelude.not, specs.Prelude.Option, specs.Prelude.None, specs.Prelude.Some, specs.Prelude.drop}
+use Rattle.events.specs.declared.event.{More.TheVariants.Nothing, Word.TheVariants.LeftLink, Word.TheVariants.EnteredLink}
 use Rattle.rows.specs.declared.settings.Stuck.{Stuck}
-use Rattle.traffic.specs.declared.stage.Stage.TheVariants.{Buffer}
-use Rattle.traffic.specs.declared.moves.Move.{Move}
-use Rattle.traffic.specs.declared.moves.Move.TheVariants.{Transfer, Remove, SetFrontSince}
-use Rattle.traffic.specs.declared.moves.Occurrence.{Occurrence}
-use Rattle.traffic.specs.declared.node_views.OutLink.{OutLink}
-use Rattle.traffic.specs.declared.world.Row.{Row}
-use Rattle.traffic.specs.Vehicles.{VehicleState}
-use Rattle.traffic.specs.Lists.{on_front}
-use Rattle.traffic.specs.Moves.{at_second, at_after}
-use Rattle.traffic.specs.Telling.{of_vehicle, aborts}
+use Rattle.traffic.specs.declared.{stage.Stage.TheVariants.Buffer, moves.Move.Move, moves.Move.TheVariants.Transfer, moves.Move.TheVariants.Remove}
+use Rattle.traffic.specs.declared.{moves.Move.TheVariants.SetFrontSince, moves.Occurrence.Occurrence, node_views.OutLink.OutLink, world.Row.Row}
+use Rattle.traffic.specs.{Vehicles.VehicleState, Lists.on_front, Moves.at_second, Moves.at_after, Telling.of_vehicle, Telling.aborts}
 use Rattle.traffic.specs.Nodes.{next_link, has_room, is_stuck, may_enter, entered, one_more, pass_node, pass_node_all, since_of, HaveNext}
 use Rattle.queue_link.specs.Links.{LinkView, behind_front, first_row}
-use Rattle.node_move.specs.declared.crossings.Entering.{Entering}
-use Rattle.node_move.specs.NodeStates.{NodeState, node_state, node_run, in_link_of}
 use Rattle.node_move.proofs.Runs.{with_buffer, same_state, run_none, run_both}
+use Rattle.node_move.specs.{NodeStates.NodeState, NodeStates.node_state, NodeStates.node_run, NodeStates.in_link_of, declared.crossings.Entering.Entering}
 
 -- the link once its front has left in second t
 abbrev pub left_front : ℕ → LinkView → LinkView

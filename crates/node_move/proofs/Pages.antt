@@ -1,11 +1,9 @@
 -- Numbers of links stand on their pages.
-use Rattle.std.proofs.Common.{◌≡◌, ℕ, zero, suc, ◌/◌, ◌%◌, ◌<◌, ◌≤◌, true, false, List, [], ◌∷◌, ◌++◌, length, get_or, refl, ap, ◌∙◌, arith, inl, inr}
-use Rattle.std.proofs.Common.{Vec, Global}
+use Rattle.std.proofs.Common.{◌≡◌, ℕ, zero, suc, ◌/◌, ◌%◌, ◌<◌, ◌≤◌, true, false, List, [], ◌∷◌, ◌++◌, length, get_or, refl, ap, ◌∙◌, arith, inl, inr, Vec}
+use Rattle.std.proofs.{Common.Global, lemmas.Bool.cases_Bool, lemmas.Bool.eqb-true}
+use Rattle.std.proofs.lemmas.{Bool.eqb-false, Bool.eq-eqb, Bool.ne_eqb, List.get_or-set_same, List.get_or-set_other, List.length-map, List.map-set}
 use Rattle.std.specs.Prelude.{map, set, vec_items, ◌==◌, if◌then◌else◌}
-use Rattle.std.proofs.lemmas.Bool.{cases_Bool, eqb-true, eqb-false, eq-eqb, ne_eqb}
-use Rattle.std.proofs.lemmas.List.{get_or-set_same, get_or-set_other, length-map, map-set}
-use Rattle.node_move.specs.declared.TheConstants.{PAGE_LINKS}
-use Rattle.node_move.specs.Pages.{number_of}
+use Rattle.node_move.specs.{Pages.number_of, declared.TheConstants.PAGE_LINKS}
 
 abbrev Page : Type 0
 Page = Vec ℕ Global

@@ -1,21 +1,14 @@
 -- Links by their places: one of them hands over, and the others stay as they are.
 use Rattle.std.proofs.Common.{◌≡◌, ◌≢◌, ℕ, zero, suc, ◌<◌, true, List, [], ◌∷◌, length, get_or, refl, ap, sym, ◌∙◌, subst, arith}
-use Rattle.std.specs.Prelude.{map, set, Option}
-use Rattle.std.specs.List.{remove}
+use Rattle.std.specs.{List.remove, Prelude.map, Prelude.set, Prelude.Option}
 use Rattle.rows.specs.declared.settings.Stuck.{Stuck}
-use Rattle.traffic.specs.declared.moves.Occurrence.{Occurrence}
-use Rattle.traffic.specs.declared.node_views.InLink.{InLink}
-use Rattle.traffic.specs.declared.node_views.OutLink.{OutLink}
-use Rattle.traffic.specs.declared.world.Row.{Row}
-use Rattle.traffic.specs.Vehicles.{VehicleState}
-use Rattle.traffic.specs.Lists.{without_at}
-use Rattle.traffic.specs.Nodes.{pass_node, pass_node_all, no_in_link, HaveNext}
+use Rattle.traffic.specs.{Lists.without_at, Nodes.pass_node, Nodes.pass_node_all, Nodes.no_in_link, Nodes.HaveNext, Vehicles.VehicleState}
+use Rattle.traffic.specs.declared.{moves.Occurrence.Occurrence, node_views.InLink.InLink, node_views.OutLink.OutLink, world.Row.Row}
 use Rattle.law_sleeping.proofs.Marking.{pass_node_spares}
 use Rattle.queue_link.specs.Links.{LinkView}
-use Rattle.node_move.specs.declared.crossings.Entering.{Entering}
-use Rattle.node_move.specs.NodeStates.{NodeState, node_state, node_run, buffer_after, in_link_of, seen, no_link}
-use Rattle.node_move.specs.NodeStates.{AreReady, IsNone, AreApart, IsNotIn, ArePlaces}
 use Rattle.node_move.proofs.Runs.{with_buffer, same_state}
+use Rattle.node_move.specs.NodeStates.{NodeState, node_state, node_run, buffer_after, in_link_of, seen, no_link, AreReady, IsNone, AreApart, IsNotIn, ArePlaces}
+use Rattle.node_move.specs.declared.crossings.Entering.{Entering}
 
 -- ONE LINK HANDS OVER
 others_kept : (K : Stuck) (t a : ℕ) (P : ℕ → Option OutLink) (since : ℕ) (rows : List Row) (vs : List LinkView) → IsNone a vs

@@ -1,17 +1,8 @@
 -- The state of a node after moves, one list of them after the other.
 use Rattle.std.proofs.Common.{◌≡◌, ℕ, List, [], ◌∷◌, ◌++◌, refl, ap, sym, ◌∙◌, append-nil, append_assoc}
-use Rattle.std.specs.Prelude.{map, Option}
-use Rattle.std.specs.List.{flat_map}
-use Rattle.std.proofs.lemmas.Grind.{flat_map-append}
-use Rattle.traffic.specs.declared.stage.Stage.TheVariants.{Buffer}
-use Rattle.traffic.specs.declared.moves.Move.{Move}
-use Rattle.traffic.specs.declared.moves.Occurrence.{Occurrence}
-use Rattle.traffic.specs.declared.node_views.OutLink.{OutLink}
-use Rattle.traffic.specs.declared.world.Row.{Row}
-use Rattle.traffic.specs.Vehicles.{VehicleState}
-use Rattle.traffic.specs.Moves.{told}
-use Rattle.traffic.specs.Nodes.{out_links_after, out_links_by}
-use Rattle.traffic.proofs.Sublists.{at_after_all-append}
+use Rattle.std.{proofs.lemmas.Grind.flat_map-append, specs.List.flat_map, specs.Prelude.map, specs.Prelude.Option}
+use Rattle.traffic.{proofs.Sublists.at_after_all-append, specs.Moves.told, specs.Nodes.out_links_after, specs.Nodes.out_links_by, specs.Vehicles.VehicleState}
+use Rattle.traffic.specs.declared.{moves.Move.Move, moves.Occurrence.Occurrence, node_views.OutLink.OutLink, stage.Stage.TheVariants.Buffer, world.Row.Row}
 use Rattle.queue_link.specs.Links.{LinkView}
 use Rattle.node_move.specs.declared.crossings.Entering.{Entering}
 use Rattle.node_move.specs.NodeStates.{NodeState, node_state, node_run, buffer_after, entering_by, removed_by}

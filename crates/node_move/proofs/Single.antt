@@ -1,21 +1,13 @@
 -- The turn of a node by a single link: a word can draw no other.
 use Rattle.std.proofs.Common.{◌≡◌, ℕ, ◌+◌, ◌*◌, ◌<◌, Bool, true, false, List, [], ◌∷◌, get_or, refl, ap, sym, ◌∙◌, arith, append-nil}
 use Rattle.std.specs.Prelude.{map, ◌^◌, Option}
-use Rattle.draws.specs.Words.{Source, word}
-use Rattle.draws.specs.Choices.{pick}
-use Rattle.draws.proofs.Ranges.{word_fits, pick_within}
+use Rattle.draws.{proofs.Ranges.word_fits, proofs.Ranges.pick_within, specs.Choices.pick, specs.Words.Source, specs.Words.word}
 use Rattle.rows.specs.declared.settings.Stuck.{Stuck}
-use Rattle.traffic.specs.declared.moves.Move.{Move}
-use Rattle.traffic.specs.declared.moves.Occurrence.{Occurrence}
-use Rattle.traffic.specs.declared.node_views.InLink.{InLink}
-use Rattle.traffic.specs.declared.node_views.OutLink.{OutLink}
-use Rattle.traffic.specs.declared.world.Row.{Row}
-use Rattle.traffic.specs.Vehicles.{VehicleState}
-use Rattle.traffic.specs.Nodes.{pass_node, pass_node_all, no_in_link, draw, red, mark, node_moves}
+use Rattle.traffic.specs.{Nodes.pass_node, Nodes.pass_node_all, Nodes.no_in_link, Nodes.draw, Nodes.red, Nodes.mark, Nodes.node_moves, Vehicles.VehicleState}
+use Rattle.traffic.specs.declared.{moves.Move.Move, moves.Occurrence.Occurrence, node_views.InLink.InLink, node_views.OutLink.OutLink, world.Row.Row}
 use Rattle.queue_link.specs.Links.{LinkView}
-use Rattle.node_move.specs.declared.crossings.Entering.{Entering}
-use Rattle.node_move.specs.NodeStates.{NodeState, node_state, node_run, in_link_of, after_turn, marked}
-use Rattle.node_move.proofs.Drawing.{marks_run}
+use Rattle.node_move.{proofs.Drawing.marks_run, specs.NodeStates.NodeState, specs.NodeStates.node_state}
+use Rattle.node_move.specs.{NodeStates.node_run, NodeStates.in_link_of, NodeStates.after_turn, NodeStates.marked, declared.crossings.Entering.Entering}
 
 picks_only : (weight w : ℕ) → 0 < weight → w < 2 ^ 32 → pick (weight ∷ []) w ≡ 0
 picks_only weight w h fits = let lt = pick_within (weight ∷ []) w (omega arith) fits in omega arith

@@ -1,8 +1,7 @@
 -- Where the entries of links stand.
 use Rattle.std.specs.Prelude.{◌≡◌, ℕ, zero, suc, ◌<◌, List, [], ◌∷◌, length, get_or, ◌==◌, if◌then◌else◌, Option, None, Some}
 use Rattle.traffic.specs.declared.node_views.OutLink.{OutLink}
-use Rattle.node_move.specs.declared.space.Entry.{Entry}
-use Rattle.node_move.specs.Pages.{number_of}
+use Rattle.node_move.specs.{Pages.number_of, declared.space.Entry.Entry}
 
 -- the places of link m in entry number k, where that entry is there and is the link's
 abbrev pub entry_at : List Entry → ℕ → ℕ → Option OutLink

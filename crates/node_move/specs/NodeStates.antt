@@ -3,16 +3,10 @@ use Rattle.std.specs.Prelude.{◌≢◌, ℕ, ◌<◌, ◌≤◌, Bool, true, Li
 use Rattle.std.specs.List.{flat_map, AllByRecursion as Each}
 use Rattle.limits.specs.declared.TheConstants.{MAX_CAPACITY}
 use Rattle.rows.specs.declared.settings.Stuck.{Stuck}
-use Rattle.traffic.specs.declared.stage.Stage.TheVariants.{Buffer}
-use Rattle.traffic.specs.declared.moves.Move.{Move}
-use Rattle.traffic.specs.declared.moves.Move.TheVariants.{Transfer, Remove}
-use Rattle.traffic.specs.declared.moves.Occurrence.{Occurrence}
-use Rattle.traffic.specs.declared.node_views.InLink.{InLink}
-use Rattle.traffic.specs.declared.node_views.OutLink.{OutLink}
-use Rattle.traffic.specs.Vehicles.{VehicleState}
-use Rattle.traffic.specs.Lists.{on_front}
-use Rattle.traffic.specs.Moves.{told, at_second, at_after_all}
-use Rattle.traffic.specs.Nodes.{NodeView, out_links_after, node_moves, HaveNext}
+use Rattle.traffic.specs.{Lists.on_front, Moves.told, Moves.at_second, Moves.at_after_all, Nodes.NodeView, Nodes.out_links_after, Nodes.node_moves}
+use Rattle.traffic.specs.{Nodes.HaveNext, Vehicles.VehicleState}
+use Rattle.traffic.specs.declared.moves.Move.{Move, TheVariants.Transfer, TheVariants.Remove}
+use Rattle.traffic.specs.declared.{moves.Occurrence.Occurrence, node_views.InLink.InLink, node_views.OutLink.OutLink, stage.Stage.TheVariants.Buffer}
 use Rattle.queue_link.specs.Links.{LinkView, fresh}
 use Rattle.node_move.specs.declared.crossings.Entering.{Entering}
 

@@ -2,8 +2,7 @@
 
 ghost use Rattle.std.specs.Prelude.{◌≡◌, [], ◌∷◌, OnOk};
 ghost use Rattle.draws.specs.Words.{word};
-ghost use Rattle.node_move.specs.Spaces.{places_in};
-ghost use Rattle.node_move.specs.NodeStates.{node_state, after_turn};
+ghost use Rattle.node_move.specs.{NodeStates.node_state, NodeStates.after_turn, Spaces.places_in};
 ghost use Rattle.traffic.specs.Nodes.{HaveNext};
 
 use crate::crossings::{Crossings, pass_node};

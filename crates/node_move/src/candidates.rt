@@ -1,17 +1,13 @@
 //! The links into a node that are green and have somebody at the front.
 
-ghost use Rattle.std.specs.Prelude.{◌≡◌, ℕ, ◌^◌, ◌<◌, ◌≤◌, ◌&&◌, List, not, length, map};
-ghost use Rattle.std.specs.Prelude.{sum, get_or, filter, IfOk};
-ghost use Rattle.traffic.specs.declared.moves.Move.{Move};
-ghost use Rattle.traffic.specs.declared.node_views.InLink.{InLink};
+ghost use Rattle.std.specs.Prelude.{◌≡◌, ℕ, ◌^◌, ◌<◌, ◌≤◌, ◌&&◌, List, not, length, map, sum, get_or, filter, IfOk};
+ghost use Rattle.traffic.specs.{Lists.is_nil, Lists.without_at, Nodes.candidates, Nodes.weight_of};
+ghost use Rattle.traffic.specs.declared.{moves.Move.Move, node_views.InLink.InLink};
 ghost use Rattle.draws.specs.Choices.{pick};
-ghost use Rattle.traffic.specs.Lists.{is_nil, without_at};
-ghost use Rattle.traffic.specs.Nodes.{candidates, weight_of};
 ghost use Rattle.law_sleeping.specs.Able.{can_go, able_now, by_chosen};
+ghost use Rattle.node_move.specs.{Choices.by_able, NodeStates.in_links_of, NodeStates.seen, NodeStates.ArePlaces, NodeStates.HaveWeights};
+ghost use Rattle.node_move.specs.{NodeStates.all_marked, Spaces.places_in};
 ghost use Rattle.node_move.specs.declared.candidates.Able.TheVariants.{Only, Several};
-ghost use Rattle.node_move.specs.Spaces.{places_in};
-ghost use Rattle.node_move.specs.NodeStates.{in_links_of, seen, ArePlaces, HaveWeights, all_marked};
-ghost use Rattle.node_move.specs.Choices.{by_able};
 
 use crate::crossings::has_room;
 use crate::space::Space;

@@ -1,12 +1,9 @@
 //! The handing over of one link.
 
 ghost use Rattle.std.specs.Prelude.{◌≡◌, ◌+◌, ◌<◌, [], ◌∷◌, ◌++◌, not, true, OnOk};
-ghost use Rattle.events.specs.declared.event.Word.TheVariants.{LeftLink, EnteredLink};
-ghost use Rattle.events.specs.declared.event.More.TheVariants.{Nothing};
-ghost use Rattle.traffic.specs.Nodes.{has_room, pass_node_all, HasNext, HaveNext};
-ghost use Rattle.traffic.specs.Telling.{of_vehicle, aborts};
-ghost use Rattle.node_move.specs.Spaces.{places_in};
-ghost use Rattle.node_move.specs.NodeStates.{node_state, node_run, in_link_of};
+ghost use Rattle.events.specs.declared.event.{More.TheVariants.Nothing, Word.TheVariants.LeftLink, Word.TheVariants.EnteredLink};
+ghost use Rattle.traffic.specs.{Nodes.has_room, Nodes.pass_node_all, Nodes.HasNext, Nodes.HaveNext, Telling.of_vehicle, Telling.aborts};
+ghost use Rattle.node_move.specs.{NodeStates.node_state, NodeStates.node_run, NodeStates.in_link_of, Spaces.places_in};
 
 use crate::space::Space;
 use crate::turns::NodeTurn;

@@ -4,9 +4,8 @@ ghost use Rattle.std.specs.Prelude.{◌≡◌, ◌≢◌, ℕ, ◌<◌, ◌≤�
 ghost use Rattle.limits.specs.declared.TheConstants.{LAST_SECOND, MAX_IN_LINKS};
 ghost use Rattle.draws.specs.Words.{word};
 ghost use Rattle.traffic.specs.Nodes.{pass_node_all, draw, weight_of};
+ghost use Rattle.node_move.specs.NodeStates.{in_link_of, seen, ArePlaces, AreReady, AreApart, HaveWeights, no_link, node_state, node_run};
 ghost use Rattle.node_move.specs.Spaces.{places_in};
-ghost use Rattle.node_move.specs.NodeStates.{in_link_of, seen, ArePlaces, AreReady, AreApart, HaveWeights, no_link};
-ghost use Rattle.node_move.specs.NodeStates.{node_state, node_run};
 
 use crate::candidates::{Able, Candidates, count_able};
 use crate::crossings::{Crossings, pass_node};

@@ -23,8 +23,7 @@ pub struct Space {
 }
 
 impl Model for Space {
-    ghost use Rattle.node_move.specs.Entries.{SpaceRows};
-    ghost use Rattle.node_move.specs.SpaceViews.{space_view};
+    ghost use Rattle.node_move.specs.{Entries.SpaceRows, SpaceViews.space_view};
 
     ghost Value = { SpaceRows };
 

@@ -1,10 +1,8 @@
 //! How many places of links are taken.
 
 ghost use Rattle.std.specs.Prelude.{◌≡◌, ℕ, ◌+◌, ◌==◌, if◌then◌else◌, option_map, Option, None, Some, OnOk, OnErr, MatchOption};
-ghost use Rattle.traffic.specs.declared.node_views.OutLink.{OutLink};
-ghost use Rattle.traffic.specs.Nodes.{one_more};
-ghost use Rattle.node_move.specs.Entries.{rows_of, StandsAt};
-ghost use Rattle.node_move.specs.Spaces.{places_in};
+ghost use Rattle.traffic.specs.{Nodes.one_more, declared.node_views.OutLink.OutLink};
+ghost use Rattle.node_move.specs.{Entries.rows_of, Entries.StandsAt, Spaces.places_in};
 
 use crate::link_table::LinkTable;
 use crate::space::{Entry, Space};

@@ -3,8 +3,7 @@
 ghost use Rattle.std.specs.Prelude.{◌≡◌, ◌+◌, ◌<◌, ◌≤◌, length, OnOk};
 ghost use Rattle.limits.specs.declared.TheConstants.{LAST_SECOND, MAX_IN_LINKS};
 ghost use Rattle.draws.specs.Words.{word};
-ghost use Rattle.node_move.specs.Spaces.{places_in};
-ghost use Rattle.node_move.specs.NodeStates.{node_state, after_turn, AreReady, AreApart};
+ghost use Rattle.node_move.specs.{NodeStates.node_state, NodeStates.after_turn, NodeStates.AreReady, NodeStates.AreApart, Spaces.places_in};
 
 use crate::candidates::find_candidates;
 use crate::crossings::Crossings;

@@ -1,24 +1,19 @@
 -- Links that are taken out of their slots and put back, and vehicles that come to links.
-use Rattle.std.proofs.Common.{◌≡◌, ℕ, zero, suc, ◌+◌, ◌-◌, ◌<◌, ◌≤◌, Bool, true, false, List, [], ◌∷◌, ◌++◌, length, get_or, set, take, drop, append-nil, append_assoc, refl, ap, sym, ◌∙◌, subst, inl, inr, arith, eqb}
-use Rattle.std.specs.Prelude.{map, ◌||◌, nat_lt, if◌then◌else◌, Option, None, Some}
-use Rattle.std.specs.List.{flat_map, AllByRecursion as Each}
+use Rattle.std.proofs.Common.{◌≡◌, ℕ, zero, suc, ◌+◌, ◌-◌, ◌<◌, ◌≤◌, Bool, true, false, List, [], ◌∷◌, ◌++◌, length, get_or, set, take, drop, append-nil}
+use Rattle.std.proofs.Common.{append_assoc, refl, ap, sym, ◌∙◌, subst, inl, inr, arith, eqb}
 use Rattle.std.proofs.lemmas.Bool.{cases_Bool, eq-eqb, eqb-true, eqb-false, ne_eqb, lt-ltb, ltb-true, or_parts, true≢false}
 use Rattle.std.proofs.lemmas.List.{get_or-set_same, get_or-set_other, length-set, map-append, take-append-le, take_all, take_more}
-use Rattle.queue_link.specs.Links.{LinkView}
-use Rattle.queue_link.specs.declared.numbers.LinkNumbers.{LinkNumbers}
+use Rattle.std.specs.List.{flat_map, AllByRecursion as Each}
+use Rattle.std.specs.Prelude.{map, ◌||◌, nat_lt, if◌then◌else◌, Option, None, Some}
+use Rattle.queue_link.specs.{Links.LinkView, declared.numbers.LinkNumbers.LinkNumbers}
 use Rattle.draws.specs.Words.{word}
-use Rattle.traffic.specs.declared.moves.Occurrence.{Occurrence}
-use Rattle.traffic.specs.Vehicles.{VehicleState}
-use Rattle.calendar.specs.Waking.{wake_of, earlier}
+use Rattle.traffic.specs.{Nodes.HaveNext, Vehicles.VehicleState, declared.moves.Occurrence.Occurrence}
+use Rattle.calendar.specs.{Due.AreIn, Waking.wake_of, Waking.earlier}
 use Rattle.node_move.specs.Entries.{SpaceRows}
-use Rattle.node_move.specs.declared.crossings.Entering.{Entering}
-use Rattle.node_move.specs.declared.turns.NodeTurn.{NodeTurn}
 use Rattle.node_move.specs.NodeStates.{NodeState, node_state, after_turn, buffer_after, entering_by, no_link, AreReady}
-use Rattle.node_move.specs.Spaces.{places_in}
-use Rattle.traffic.specs.Nodes.{HaveNext}
-use Rattle.node_seconds.specs.Networks.{lane, is_among, AreOnce, if_there, slot_in, put_back, with_queued, put_queued, accepted, accepted_all, wakes_within, wake_queued, wakes_after, wakes_after_all}
-use Rattle.calendar.specs.Due.{AreIn}
-use Rattle.node_seconds.specs.Turns.{moves_in, IsNodeSecond}
+use Rattle.node_move.specs.{Spaces.places_in, declared.crossings.Entering.Entering, declared.turns.NodeTurn.NodeTurn}
+use Rattle.node_seconds.specs.Networks.{lane, is_among, AreOnce, if_there, slot_in, put_back, with_queued, put_queued, accepted, accepted_all, wakes_within}
+use Rattle.node_seconds.specs.{Networks.wake_queued, Networks.wakes_after, Networks.wakes_after_all, Turns.moves_in, Turns.IsNodeSecond}
 
 -- SLOTS
 pub put_none : (ks : List ℕ) (links : List LinkView) → put_back ks [] links ≡ links

@@ -1,12 +1,10 @@
 -- Links of a network, and what the turn of a node makes of them. Links stand in slots: those of the whole network, each in the slot of its
 -- own number, or those that one of several parts has.
-use Rattle.std.specs.Prelude.{◌≡◌, ℕ, ◌+◌, Bool, true, false, ◌||◌, List, [], ◌∷◌, ◌++◌, length, get_or, set, ◌==◌}
-use Rattle.std.specs.Prelude.{nat_lt, if◌then◌else◌, Option, None, Some}
+use Rattle.std.specs.Prelude.{◌≡◌, ℕ, ◌+◌, Bool, true, false, ◌||◌, List, [], ◌∷◌, ◌++◌, length, get_or, set, ◌==◌, nat_lt, if◌then◌else◌, Option, None, Some}
 use Rattle.traffic.specs.declared.stage.Stage.TheVariants.{Queue}
 use Rattle.calendar.specs.Waking.{woken_by}
 use Rattle.queue_link.specs.Links.{LinkView, row_on}
-use Rattle.node_move.specs.declared.crossings.Entering.{Entering}
-use Rattle.node_move.specs.NodeStates.{no_link}
+use Rattle.node_move.specs.{NodeStates.no_link, declared.crossings.Entering.Entering}
 
 -- the link in a slot
 abbrev pub lane : List LinkView → ℕ → LinkView

@@ -2,17 +2,11 @@
 use Rattle.std.specs.Prelude.{◌≡◌, ℕ, ◌<◌, ◌++◌, Bool, List, length, map, if◌then◌else◌, Option}
 use Rattle.std.specs.List.{flat_map, AllByRecursion as Each}
 use Rattle.draws.specs.Words.{word}
-use Rattle.traffic.specs.declared.moves.Move.{Move}
-use Rattle.traffic.specs.declared.moves.Occurrence.{Occurrence}
-use Rattle.traffic.specs.declared.node_views.OutLink.{OutLink}
-use Rattle.traffic.specs.Moves.{told}
-use Rattle.traffic.specs.Nodes.{node_moves, out_links_after, HaveNext}
+use Rattle.traffic.specs.{Moves.told, Nodes.node_moves, Nodes.out_links_after, Nodes.HaveNext}
+use Rattle.traffic.specs.declared.{moves.Move.Move, moves.Occurrence.Occurrence, node_views.OutLink.OutLink}
 use Rattle.queue_link.specs.Links.{LinkView}
-use Rattle.node_move.specs.Entries.{SpaceRows}
-use Rattle.node_move.specs.declared.crossings.Entering.{Entering}
-use Rattle.node_move.specs.declared.turns.NodeTurn.{NodeTurn}
-use Rattle.node_move.specs.NodeStates.{in_links_of, buffer_after, entering_by, AreApart}
-use Rattle.node_move.specs.Spaces.{places_in}
+use Rattle.node_move.specs.{Entries.SpaceRows, NodeStates.in_links_of, NodeStates.buffer_after, NodeStates.entering_by, NodeStates.AreApart, Spaces.places_in}
+use Rattle.node_move.specs.declared.{crossings.Entering.Entering, turns.NodeTurn.NodeTurn}
 use Rattle.node_seconds.specs.Networks.{lane, is_among}
 
 -- the moves of a node by the links in these slots, with their lights, and by these places

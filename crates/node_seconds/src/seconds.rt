@@ -4,8 +4,7 @@ ghost use Rattle.std.specs.Prelude.{◌≡◌, ◌<◌, ◌≤◌, [], ◌∷◌
 ghost use Rattle.limits.specs.declared.TheConstants.{LAST_SECOND, MAX_IN_LINKS};
 ghost use Rattle.traffic.specs.Nodes.{HaveNext};
 ghost use Rattle.calendar.specs.Due.{AreIn};
-ghost use Rattle.node_seconds.specs.Networks.{lane, AreOnce};
-ghost use Rattle.node_seconds.specs.Turns.{AreApartIn, AreReadyInto, IsNodeSecond};
+ghost use Rattle.node_seconds.specs.{Networks.lane, Networks.AreOnce, Turns.AreApartIn, Turns.AreReadyInto, Turns.IsNodeSecond};
 
 use crate::taking::{put_links, take_links};
 use node_move::{Crossings, Entering, NodeTurn, Space, move_alone, move_node};

@@ -1,8 +1,7 @@
 -- A partition before its first second, of which nobody has heard yet.
 use Rattle.std.proofs.Common.{◌≡◌, ℕ, ◌∙◌, ap, List, arith, length, sym, subst}
-use Rattle.step_core.specs.declared.part.Border.{Border}
 use Rattle.step_core.specs.Nets.{Net, IsNet, AreBorders, border_at}
-use Rattle.step_core.specs.Views.{PartView, AreEmpty, HasHeard, IsAt}
+use Rattle.step_core.specs.{Views.PartView, Views.AreEmpty, Views.HasHeard, Views.IsAt, declared.part.Border.Border}
 
 module _ {T P : Type 0} (nothing : P) (see : T → PartView P) (stands : T → Type 0) (borders : ℕ → List Border) (p : ℕ) (x : T)
     (at : IsAt nothing see stands p 0 (length (borders p)) x) where

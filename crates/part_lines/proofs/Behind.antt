@@ -1,10 +1,8 @@
 -- Who comes later stands behind all who wait.
-use Rattle.traffic.proofs.Common.{◌≡◌, ℕ, zero, suc, ◌+◌, ◌<◌, ◌≤◌, true, false, List, [], ◌∷◌, ◌++◌, ◌∙◌, ap, refl, sym, subst, arith, inl, inr, cases_Bool, nat_tests, flat_map, numbers}
-use Rattle.traffic.proofs.Common.{comes_first, among, in_turn}
-use Rattle.traffic.specs.declared.world.Waiter.{Waiter}
-use Rattle.std.specs.Prelude.{◌⊎◌}
-use Rattle.std.specs.List.{AllByRecursion as Each}
-use Rattle.traffic.proofs.Each.{each_append}
+use Rattle.traffic.proofs.Common.{◌≡◌, ℕ, zero, suc, ◌+◌, ◌<◌, ◌≤◌, true, false, List, [], ◌∷◌, ◌++◌, ◌∙◌, ap, refl, sym, subst, arith, inl, inr, cases_Bool}
+use Rattle.traffic.proofs.Common.{nat_tests, flat_map, numbers, comes_first, among, in_turn}
+use Rattle.traffic.{proofs.Each.each_append, specs.declared.world.Waiter.Waiter}
+use Rattle.std.specs.{List.AllByRecursion as Each, Prelude.◌⊎◌}
 
 -- he waits since before second t; since second t, and his number is no lower than this one
 abbrev pub IsEarlier : ℕ → Waiter → Type 0

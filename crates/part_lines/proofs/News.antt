@@ -1,21 +1,14 @@
 -- Who waits at a stop after events of a second waits since this second, or nothing has changed of him.
-use Rattle.traffic.proofs.Common.{◌≡◌, ℕ, ◌+◌, ◌<◌, List, [], ◌∷◌, ◌∙◌, ap, refl, sym, subst, arith, inl, inr, cases_Bool, eqb, eqb-true, eqb-false}
-use Rattle.traffic.proofs.Common.{length, get_or, flat_map, Option, None, Some, Phase, VehicleId}
-use Rattle.traffic.proofs.Common.{Setup, World, person_of, nobody, told, run, person_by, person_after, persons_by, persons_after, start_act, ride}
-use Rattle.traffic.proofs.Common.{turns_in, moves_of, through}
-use Rattle.std.specs.Prelude.{◌⊎◌}
-use Rattle.std.proofs.lemmas.List.{get_or-set_same, get_or-set_other}
-use Rattle.events.specs.declared.event.Word.{Word}
-use Rattle.events.specs.declared.event.Word.TheVariants as word
-use Rattle.events.specs.declared.event.More.{More}
-use Rattle.events.specs.declared.event.More.TheVariants as more
-use Rattle.traffic.specs.declared.moves.Move.{Move}
-use Rattle.traffic.specs.declared.moves.Occurrence.{Occurrence}
-use Rattle.traffic.specs.declared.world.Place.{Place}
+use Rattle.traffic.proofs.Common.{◌≡◌, ℕ, ◌+◌, ◌<◌, List, [], ◌∷◌, ◌∙◌, ap, refl, sym, subst, arith, inl, inr, cases_Bool, eqb, eqb-true, eqb-false, length}
+use Rattle.traffic.proofs.Common.{get_or, flat_map, Option, None, Some, Phase, VehicleId, Setup, World, person_of, nobody, told, run, person_by, person_after}
+use Rattle.traffic.proofs.Common.{persons_by, persons_after, start_act, ride, turns_in, moves_of, through}
+use Rattle.traffic.{proofs.Sublists.persons-length, specs.Moves.wait_at, specs.Moves.lose}
+use Rattle.traffic.specs.declared.{moves.Move.Move, moves.Occurrence.Occurrence, world.Person.Person, world.Place.Place}
 use Rattle.traffic.specs.declared.world.Place.TheVariants.{At, Teleporting, Waiting, Riding, Aborted}
-use Rattle.traffic.specs.declared.world.Person.{Person}
-use Rattle.traffic.specs.Moves.{wait_at, lose}
-use Rattle.traffic.proofs.Sublists.{persons-length}
+use Rattle.std.{proofs.lemmas.List.get_or-set_same, proofs.lemmas.List.get_or-set_other, specs.Prelude.◌⊎◌}
+use Rattle.events.specs.declared.event.{More.More, Word.Word}
+use Rattle.events.specs.declared.event.Word.TheVariants as word
+use Rattle.events.specs.declared.event.More.TheVariants as more
 use Rattle.part_persons.proofs.Told.{run_persons}
 
 -- ONE PERSON

@@ -1,26 +1,20 @@
 -- Who comes to a line comes behind all in it, and the lines stand for those who wait then.
-use Rattle.traffic.proofs.Common.{◌≡◌, ◌≢◌, ℕ, zero, suc, ◌+◌, ◌<◌, ◌≤◌, Bool, false, List, [], ◌∷◌, ◌++◌, ◌∙◌, ap, refl, sym, subst, arith, inl, inr, cases_Bool, eqb, eq-eqb}
-use Rattle.traffic.proofs.Common.{length, get_or, flat_map, filter, Option, None, Some}
-use Rattle.traffic.proofs.Common.{Setup, World, person_of, nobody, below, numbers, waits, waits_on, waiter, waiters, leg_at, act_after, link_of_stop, Leg, Act, ComesBefore, comes_first, among, in_turn}
-use Rattle.std.specs.Prelude.{◌⊎◌}
-use Rattle.std.specs.List.{AllByRecursion as Each}
-use Rattle.std.proofs.lemmas.List.{length-set}
+use Rattle.traffic.proofs.Common.{◌≡◌, ◌≢◌, ℕ, zero, suc, ◌+◌, ◌<◌, ◌≤◌, Bool, false, List, [], ◌∷◌, ◌++◌, ◌∙◌, ap, refl, sym, subst, arith, inl, inr}
+use Rattle.traffic.proofs.Common.{cases_Bool, eqb, eq-eqb, length, get_or, flat_map, filter, Option, None, Some, Setup, World, person_of, nobody, below}
+use Rattle.traffic.proofs.Common.{numbers, waits, waits_on, waiter, waiters, leg_at, act_after, link_of_stop, Leg, Act, ComesBefore, comes_first, among}
+use Rattle.traffic.{proofs.Common.in_turn, proofs.Each.each_append, proofs.Each.each_kept, specs.declared.world.Person.Person, specs.declared.world.Place.Place}
+use Rattle.traffic.specs.declared.world.Place.TheVariants.{At, Teleporting, Waiting, Riding, Aborted}
+use Rattle.traffic.specs.declared.world.Waiter.{Waiter}
+use Rattle.std.{proofs.lemmas.List.length-set, specs.List.AllByRecursion as Each, specs.Prelude.◌⊎◌}
 use Rattle.rows.specs.declared.plan.Leg.TheVariants as leg
 use Rattle.events.specs.declared.event.Phase.TheVariants as phase
-use Rattle.traffic.specs.declared.world.Waiter.{Waiter}
-use Rattle.traffic.specs.declared.world.Place.{Place}
-use Rattle.traffic.specs.declared.world.Place.TheVariants.{At, Teleporting, Waiting, Riding, Aborted}
-use Rattle.traffic.specs.declared.world.Person.{Person}
-use Rattle.traffic.proofs.Each.{each_append, each_kept}
 use Rattle.calendar.specs.Waking.{is_woken, woken}
 use Rattle.link_seconds.specs.Seconds.{HaveLines, line_at}
 use Rattle.riders.specs.Waiting.{NobodyIs, AllBefore, at_stop}
-use Rattle.part_persons.specs.Dues.{due_at_place}
-use Rattle.part_persons.proofs.Early.{woken_all}
+use Rattle.part_persons.{proofs.Early.woken_all, specs.Dues.due_at_place}
+use Rattle.part_lines.proofs.{Behind.IsEarlier, News.IsBefore, News.WaitBefore, News.many_through, Standing.at_this, Standing.as_list, Standing.came_of}
+use Rattle.part_lines.proofs.Standing.{came_none, one_more, joined_at, skipped, come_to_line, waiters_once, after_early, came_new, earlier_none, stays_early}
 use Rattle.part_lines.specs.Coming.{came, with_one, joined_lines, CanJoin, CanAllJoin}
-use Rattle.part_lines.proofs.Behind.{IsEarlier}
-use Rattle.part_lines.proofs.News.{IsBefore, WaitBefore, many_through}
-use Rattle.part_lines.proofs.Standing.{at_this, as_list, came_of, came_none, one_more, joined_at, skipped, come_to_line, waiters_once, after_early, came_new, earlier_none, stays_early}
 
 -- WHO STANDS IN A LINE
 -- he waits since before second t and does not come in it, or came in it with a number below this one

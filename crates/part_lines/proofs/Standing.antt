@@ -1,24 +1,19 @@
 -- The lines stand for those who wait, once those came who wait since this second.
-use Rattle.traffic.proofs.Common.{◌≡◌, ◌≢◌, ℕ, zero, suc, ◌+◌, ◌<◌, Bool, true, false, List, [], ◌∷◌, ◌++◌, ◌∙◌, ap, refl, sym, subst, arith, inl, inr, cases_Bool, eqb, eqb-true, eqb-false, eq-eqb, ne_eqb}
-use Rattle.traffic.proofs.Common.{length, get_or, flat_map, filter, filter-append, Option, None, Some, append-nil, append_assoc}
-use Rattle.traffic.proofs.Common.{Setup, World, person_of, nobody, run, TurnMoves, turns, turns_in, turns_of, after, through, below, numbers, waiter, waits_on, waits, waiters, leg_at, act_after, link_of_stop, Leg, Act, in_turn}
-use Rattle.traffic.proofs.Common.{landing_moves, leaving_moves, landing_turns, leaving_turns, departure_turns}
-use Rattle.std.specs.Prelude.{◌⊎◌, if◌then◌else◌}
-use Rattle.std.specs.List.{AllByRecursion as Each}
+use Rattle.traffic.proofs.Common.{◌≡◌, ◌≢◌, ℕ, zero, suc, ◌+◌, ◌<◌, Bool, true, false, List, [], ◌∷◌, ◌++◌, ◌∙◌, ap, refl, sym, subst, arith, inl, inr}
+use Rattle.traffic.proofs.Common.{cases_Bool, eqb, eqb-true, eqb-false, eq-eqb, ne_eqb, length, get_or, flat_map, filter, filter-append, Option, None, Some}
+use Rattle.traffic.proofs.Common.{append-nil, append_assoc, Setup, World, person_of, nobody, run, TurnMoves, turns, turns_in, turns_of, after, through, below}
+use Rattle.traffic.proofs.Common.{numbers, waiter, waits_on, waits, waiters, leg_at, act_after, link_of_stop, Leg, Act, in_turn, landing_moves, leaving_moves}
+use Rattle.traffic.proofs.Common.{landing_turns, leaving_turns, departure_turns}
+use Rattle.traffic.proofs.Persons.{other_person, TellOf, landing_moves-of, leaving_moves-of, departure_keeps}
+use Rattle.traffic.specs.declared.{moves.Move.Move, world.Person.Person, world.Place.Place, world.Place.TheVariants.At, world.Place.TheVariants.Teleporting}
+use Rattle.traffic.specs.declared.world.{Place.TheVariants.Waiting, Place.TheVariants.Riding, Place.TheVariants.Aborted, Waiter.Waiter}
+use Rattle.std.proofs.lemmas.List.{get_or-set_same, get_or-set_other}
+use Rattle.std.specs.{List.AllByRecursion as Each, Prelude.◌⊎◌, Prelude.if◌then◌else◌}
 use Rattle.events.specs.declared.event.Phase.TheVariants as phase
 use Rattle.rows.specs.declared.plan.Leg.TheVariants as leg
-use Rattle.traffic.specs.declared.moves.Move.{Move}
-use Rattle.traffic.specs.declared.world.Waiter.{Waiter}
-use Rattle.traffic.specs.declared.world.Place.{Place}
-use Rattle.traffic.specs.declared.world.Place.TheVariants.{At, Teleporting, Waiting, Riding, Aborted}
-use Rattle.traffic.specs.declared.world.Person.{Person}
-use Rattle.traffic.proofs.Persons.{other_person, TellOf, landing_moves-of, leaving_moves-of, departure_keeps}
-use Rattle.std.proofs.lemmas.List.{get_or-set_same, get_or-set_other}
 use Rattle.link_seconds.specs.Seconds.{line_at}
 use Rattle.riders.specs.Waiting.{NobodyIs, AreOnce, at_stop}
-use Rattle.part_persons.specs.Dues.{due_at_place, person_due}
-use Rattle.part_persons.proofs.InOrder.{after_more}
-use Rattle.part_persons.proofs.Early.{lands_not, leaves_not}
+use Rattle.part_persons.{proofs.Early.lands_not, proofs.Early.leaves_not, proofs.InOrder.after_more, specs.Dues.due_at_place, specs.Dues.person_due}
 use Rattle.person_moves.specs.Waiting.{waiter_on}
 use Rattle.part_lines.specs.Coming.{came_to, came, with_one, joined_lines, CanJoin, CanAllJoin}
 use Rattle.part_lines.proofs.Behind.{IsEarlier, Joins, come_behind}

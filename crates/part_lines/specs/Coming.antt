@@ -1,12 +1,8 @@
 -- Who comes to the line of a stop in a second, and what the lines are then.
 use Rattle.std.specs.Prelude.{ℕ, ◌<◌, List, [], ◌∷◌, ◌++◌, length, get_or, set, ◌==◌, if◌then◌else◌, Option, None, Some}
 use Rattle.rows.specs.declared.plan.Leg.{Leg}
-use Rattle.traffic.specs.declared.world.Place.{Place}
-use Rattle.traffic.specs.declared.world.Place.TheVariants.{At, Teleporting, Waiting, Riding, Aborted}
-use Rattle.traffic.specs.declared.world.Person.{Person}
-use Rattle.traffic.specs.declared.world.Waiter.{Waiter}
-use Rattle.traffic.specs.Rows.{nobody}
-use Rattle.traffic.specs.Setup.{Setup, leg_at, act_after}
+use Rattle.traffic.specs.declared.world.Place.{Place, TheVariants.At, TheVariants.Teleporting, TheVariants.Waiting, TheVariants.Riding, TheVariants.Aborted}
+use Rattle.traffic.specs.{declared.world.Person.Person, declared.world.Waiter.Waiter, Rows.nobody, Setup.Setup, Setup.leg_at, Setup.act_after}
 use Rattle.link_seconds.specs.Seconds.{line_at}
 use Rattle.person_moves.specs.Waiting.{waiter_on}
 use Rattle.riders.specs.Waiting.{NobodyIs, AllBefore}

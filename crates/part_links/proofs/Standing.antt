@@ -1,28 +1,18 @@
 -- Links have their turns one after the other.
-use Rattle.traffic.proofs.Common.{◌≡◌, ◌≢◌, ℕ, ◌+◌, ◌-◌, ◌<◌, Bool, true, false, List, ◌∙◌, ap, refl, sym, subst, [], ◌∷◌, ◌++◌, inl, inr, arith}
-use Rattle.traffic.proofs.Common.{append-nil, length, get_or, set, eqb, eqb-true, eqb-false, ne_eqb, cases_Bool, true≢false, length-set, get_or-set_same, get_or-set_other}
-use Rattle.traffic.proofs.Common.{flat_map, Option, None, Event, Setup, World, told, phase_code, keyed, link_moves, link_turns, link_state, rules, waiters, LinkState}
-use Rattle.std.specs.List.{AllByRecursion as Each}
-use Rattle.std.proofs.Common.{take}
-use Rattle.std.proofs.lemmas.List.{flat_map_more, take_more}
+use Rattle.traffic.proofs.Common.{◌≡◌, ◌≢◌, ℕ, ◌+◌, ◌-◌, ◌<◌, Bool, true, false, List, ◌∙◌, ap, refl, sym, subst, [], ◌∷◌, ◌++◌, inl, inr, arith, append-nil}
+use Rattle.traffic.proofs.Common.{length, get_or, set, eqb, eqb-true, eqb-false, ne_eqb, cases_Bool, true≢false, length-set, get_or-set_same, get_or-set_other}
+use Rattle.traffic.proofs.Common.{flat_map, Option, None, Event, Setup, World, told, phase_code, keyed, link_moves, link_turns, link_state, rules, waiters}
+use Rattle.traffic.{proofs.Common.LinkState, specs.Setup.link_of_stop}
+use Rattle.traffic.specs.declared.{moves.Move.Move, moves.Occurrence.Occurrence, numbers.Rules.Rules, world.Waiter.Waiter}
+use Rattle.std.{proofs.Common.take, proofs.lemmas.List.flat_map_more, proofs.lemmas.List.take_more, specs.List.AllByRecursion as Each}
 use Rattle.events.specs.declared.event.Phase.TheVariants as phase
 use Rattle.rows.specs.declared.settings.Dwelling.{Dwelling}
-use Rattle.traffic.specs.declared.moves.Move.{Move}
-use Rattle.traffic.specs.declared.moves.Occurrence.{Occurrence}
-use Rattle.traffic.specs.declared.numbers.Rules.{Rules}
-use Rattle.traffic.specs.declared.world.Waiter.{Waiter}
-use Rattle.traffic.specs.Setup.{link_of_stop}
 use Rattle.law_sleeping.specs.Quiet.{link_state_after_all}
-use Rattle.calendar.specs.Waking.{wake_of}
-use Rattle.queue_link.specs.Links.{LinkView}
-use Rattle.queue_link.specs.declared.numbers.LinkNumbers.{LinkNumbers}
-use Rattle.queue_link.specs.Numbers.{numbers_of, rules_of}
+use Rattle.calendar.specs.{Due.AreIn, Waking.wake_of}
+use Rattle.queue_link.specs.{Links.LinkView, Numbers.numbers_of, Numbers.rules_of, declared.numbers.LinkNumbers.LinkNumbers}
 use Rattle.link_seconds.specs.Seconds.{HaveLines, StopThere, IsThere, IsSecond, lists_at, line_at, left_after}
 use Rattle.node_move.specs.NodeStates.{no_link}
-use Rattle.node_seconds.specs.Networks.{lane, is_among}
-use Rattle.node_seconds.specs.Networks.{AreOnce}
-use Rattle.calendar.specs.Due.{AreIn}
-use Rattle.node_seconds.proofs.Lanes.{in_at, among_front}
+use Rattle.node_seconds.{proofs.Lanes.in_at, proofs.Lanes.among_front, specs.Networks.lane, specs.Networks.is_among, specs.Networks.AreOnce}
 use Rattle.part_links.specs.Links.{IsLink, AreNumbered, LinksStandAt, LinesStandAt, StopsThere, CanTurn, lies_on, wake_after}
 use Rattle.part_links.specs.Phase.{moves_at, IsTurn, turned, keyed_by, told_by, waiting_behind, AreTurned}
 use Rattle.part_links.proofs.Numbers.{among_own, among_other}

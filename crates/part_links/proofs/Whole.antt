@@ -1,44 +1,26 @@
 -- What the turns of those links that are woken make is what the turns of the links in all slots make.
-use Rattle.traffic.proofs.Common.{◌≡◌, ◌≢◌, ℕ, zero, suc, ◌+◌, ◌-◌, ◌<◌, ◌≤◌, Bool, true, false, List, ◌∙◌, ap, refl, sym, subst, [], ◌∷◌, ◌++◌, inl, inr, arith}
-use Rattle.traffic.proofs.Common.{length, eqb, eqb-true, eqb-false, cases_Bool, length-map, get_or-map, ne_eqb, eq-eqb}
-use Rattle.traffic.proofs.Common.{map, filter, flat_map, flat_map-append, Option, None, Some, Event, Setup, World, Turn, told, phase_code, keyed, link_turns, link_state, rules, raised, waiters, LinkState}
-use Rattle.traffic.proofs.Common.{run, after, turns, turn_of, moves_of, events_in, below, numbers, nat_lt}
-use Rattle.std.specs.Prelude.{max}
-use Rattle.std.specs.List.{AllByRecursion as Each}
-use Rattle.std.proofs.lemmas.Bool.{ltb-false, ltb-true}
+use Rattle.traffic.proofs.Common.{◌≡◌, ◌≢◌, ℕ, zero, suc, ◌+◌, ◌-◌, ◌<◌, ◌≤◌, Bool, true, false, List, ◌∙◌, ap, refl, sym, subst, [], ◌∷◌, ◌++◌, inl, inr}
+use Rattle.traffic.proofs.Common.{arith, length, eqb, eqb-true, eqb-false, cases_Bool, length-map, get_or-map, ne_eqb, eq-eqb, map, filter, flat_map}
+use Rattle.traffic.proofs.Common.{flat_map-append, Option, None, Some, Event, Setup, World, Turn, told, phase_code, keyed, link_turns, link_state, rules}
+use Rattle.traffic.proofs.Common.{raised, waiters, LinkState, run, after, turns, turn_of, moves_of, events_in, below, numbers, nat_lt}
+use Rattle.traffic.proofs.{Each.each_number, Each.each_weaker, Links.link-at, Links.link_state-other, Phases.links_apart, Sublists.run-append, Turns.Fresh}
+use Rattle.traffic.proofs.{Turns.Distinct, Turns.turns_at_once, Turns.moves_of-map, Waiting.waiters-other}
+use Rattle.traffic.specs.declared.{moves.Move.Move, moves.Move.TheVariants.Credit, moves.Occurrence.Occurrence, numbers.Rules.Rules, world.Waiter.Waiter}
+use Rattle.std.{proofs.lemmas.Bool.ltb-false, proofs.lemmas.Bool.ltb-true, specs.List.AllByRecursion as Each, specs.Prelude.max}
 use Rattle.events.specs.declared.event.Phase.TheVariants as phase
 use Rattle.fixed_flow.specs.Flow.{raised_times}
 use Rattle.rows.specs.declared.settings.Dwelling.{Dwelling}
-use Rattle.traffic.specs.declared.moves.Move.{Move}
-use Rattle.traffic.specs.declared.moves.Move.TheVariants.{Credit}
-use Rattle.traffic.specs.declared.moves.Occurrence.{Occurrence}
-use Rattle.traffic.specs.declared.numbers.Rules.{Rules}
-use Rattle.traffic.specs.declared.world.Waiter.{Waiter}
-use Rattle.traffic.proofs.Sublists.{run-append}
-use Rattle.traffic.proofs.Links.{link-at, link_state-other}
-use Rattle.traffic.proofs.Turns.{Fresh, Distinct, turns_at_once, moves_of-map}
-use Rattle.traffic.proofs.Phases.{links_apart}
-use Rattle.traffic.proofs.Waiting.{waiters-other}
+use Rattle.law_sleeping.proofs.{Resting.link_rest, Settling.turn_settles, Sleep.credits_run, Sleep.link_state_run}
 use Rattle.law_sleeping.specs.Quiet.{IsQuiet, IsSettled, IsBy, link_state_after_all}
-use Rattle.law_sleeping.proofs.Resting.{link_rest}
-use Rattle.law_sleeping.proofs.Settling.{turn_settles}
-use Rattle.law_sleeping.proofs.Sleep.{credits_run, link_state_run}
+use Rattle.calendar.{proofs.Woken.woken_is, specs.Due.AreIn}
 use Rattle.calendar.specs.Waking.{wake_of, is_second, is_woken, woken, slept, within}
-use Rattle.queue_link.specs.Links.{LinkView}
-use Rattle.queue_link.specs.Numbers.{rules_of}
-use Rattle.queue_link.specs.Waking.{due_of}
+use Rattle.queue_link.specs.{Links.LinkView, Numbers.rules_of, Waking.due_of}
 use Rattle.link_seconds.specs.Seconds.{HaveLines, lists_at, left_after}
-use Rattle.law_waking.specs.Resting.{Rests, sleeps_to}
-use Rattle.law_waking.proofs.Resting.{settled_rests}
-use Rattle.law_waking.proofs.Lines.{turn_leaves}
-use Rattle.traffic.proofs.Each.{each_number, each_weaker}
-use Rattle.calendar.proofs.Woken.{woken_is}
+use Rattle.law_waking.{proofs.Lines.turn_leaves, proofs.Resting.settled_rests, specs.Resting.Rests, specs.Resting.sleeps_to}
 use Rattle.node_seconds.specs.Networks.{lane, is_among, AreOnce}
-use Rattle.calendar.specs.Due.{AreIn}
+use Rattle.part_links.proofs.{Numbers.among_passed, Numbers.once_passed, Standing.link_is, Standing.rules_are}
 use Rattle.part_links.specs.Links.{IsLink, AreNumbered, LinksStandAt, LinesStandAt, AreAsleep, lies_on, no_sooner, wake_after}
 use Rattle.part_links.specs.Phase.{turned, keyed_by, told_by, waiting_behind, AreTurned, turns_at, IsPhaseAt}
-use Rattle.part_links.proofs.Numbers.{among_passed, once_passed}
-use Rattle.part_links.proofs.Standing.{link_is, rules_are}
 
 -- WHO IS WOKEN
 woken_below : (t : ℕ) (due : List (Option ℕ)) → woken t due ≡ filter (is_woken t due) (below (length due))

@@ -3,15 +3,9 @@
 use Rattle.std.specs.Prelude.{◌≡◌, ℕ, ◌+◌, ◌<◌, ◌≤◌, max, Bool, List, length, ◌==◌, Option, None, Some}
 use Rattle.std.specs.List.{AllByRecursion as Each}
 use Rattle.rows.specs.declared.settings.Dwelling.{Dwelling}
-use Rattle.traffic.specs.declared.world.Waiter.{Waiter}
-use Rattle.traffic.specs.Rows.{World}
-use Rattle.traffic.specs.Setup.{Setup, link_row, link_of_stop}
-use Rattle.traffic.specs.Links.{link_state}
-use Rattle.traffic.specs.Persons.{waiters}
+use Rattle.traffic.specs.{Links.link_state, Persons.waiters, Rows.World, Setup.Setup, Setup.link_row, Setup.link_of_stop, declared.world.Waiter.Waiter}
 use Rattle.calendar.specs.Waking.{wake_of, within}
-use Rattle.queue_link.specs.Links.{LinkView}
-use Rattle.queue_link.specs.Numbers.{numbers_of}
-use Rattle.queue_link.specs.Waking.{due_of}
+use Rattle.queue_link.specs.{Links.LinkView, Numbers.numbers_of, Waking.due_of}
 use Rattle.link_seconds.specs.Seconds.{AreReady, IsReady, StopThere, IsThere, HaveLines, lists_at}
 use Rattle.law_waking.specs.Resting.{Rests, sleeps_to}
 use Rattle.node_seconds.specs.Networks.{lane}

@@ -1,23 +1,14 @@
 -- The phase of a second in which links move, of those in so many slots or of all.
 use Rattle.std.specs.Prelude.{◌≡◌, ℕ, ◌+◌, ◌<◌, Bool, true, false, List, ◌++◌, length, map, Option}
 use Rattle.std.specs.List.{flat_map}
-use Rattle.events.specs.declared.event.Event.{Event}
+use Rattle.events.specs.{Keys.phase_code, declared.event.Event.Event}
 use Rattle.events.specs.declared.event.Phase.TheVariants as phase
-use Rattle.events.specs.Keys.{phase_code}
 use Rattle.rows.specs.declared.settings.Dwelling.{Dwelling}
-use Rattle.traffic.specs.declared.moves.Move.{Move}
-use Rattle.traffic.specs.declared.moves.Occurrence.{Occurrence}
-use Rattle.traffic.specs.declared.world.Waiter.{Waiter}
-use Rattle.traffic.specs.Rows.{World}
-use Rattle.traffic.specs.Setup.{Setup}
-use Rattle.traffic.specs.Moves.{told}
-use Rattle.traffic.specs.Lists.{below}
-use Rattle.traffic.specs.Links.{link_state, link_moves}
-use Rattle.traffic.specs.Persons.{waiters}
 use Rattle.traffic.specs.Day.{Turn, keyed, link_turns, moves_of, turns, after, events_in}
+use Rattle.traffic.specs.{Links.link_state, Links.link_moves, Lists.below, Moves.told, Persons.waiters, Rows.World, Setup.Setup}
+use Rattle.traffic.specs.declared.{moves.Move.Move, moves.Occurrence.Occurrence, world.Waiter.Waiter}
 use Rattle.law_sleeping.specs.Quiet.{link_state_after_all}
-use Rattle.queue_link.specs.Links.{LinkView}
-use Rattle.queue_link.specs.Numbers.{rules_of}
+use Rattle.queue_link.specs.{Links.LinkView, Numbers.rules_of}
 use Rattle.link_seconds.specs.Seconds.{HaveLines, lists_at, line_at, left_after}
 use Rattle.calendar.specs.Waking.{wake_of}
 use Rattle.node_seconds.specs.Networks.{lane, is_among}

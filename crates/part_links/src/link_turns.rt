@@ -5,14 +5,11 @@ ghost use Rattle.std.specs.List.{AllByRecursion as Each};
 ghost use Rattle.events.specs.Keys.{phase_code};
 ghost use Rattle.limits.specs.declared.TheConstants.{LAST_SECOND};
 ghost use Rattle.rows.specs.Settings.{IsDwelling};
-ghost use Rattle.traffic.specs.declared.world.Waiter.{Waiter};
-ghost use Rattle.traffic.specs.Day.{keyed};
-ghost use Rattle.queue_link.specs.Numbers.{rules_of};
-ghost use Rattle.queue_link.specs.Waking.{due_of};
+ghost use Rattle.traffic.specs.{Day.keyed, declared.world.Waiter.Waiter};
+ghost use Rattle.queue_link.specs.{Numbers.rules_of, Waking.due_of};
 ghost use Rattle.link_seconds.specs.Seconds.{AreShort, HaveLines, IsThere, StopThere, IsSecond, lists_at};
 ghost use Rattle.node_seconds.specs.Networks.{lane};
-ghost use Rattle.part_links.specs.Links.{CanTurn, no_sooner, wake_after};
-ghost use Rattle.part_links.specs.Phase.{IsTurn};
+ghost use Rattle.part_links.specs.{Links.CanTurn, Links.no_sooner, Links.wake_after, Phase.IsTurn};
 
 use calendar::{Wakes, within};
 use events::{Event, Phase};

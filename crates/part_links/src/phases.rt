@@ -3,12 +3,10 @@
 ghost use Rattle.std.specs.Prelude.{◌≡◌, ℕ, ◌<◌, false, length, OnOk, IfOk};
 ghost use Rattle.limits.specs.declared.TheConstants.{LAST_SECOND};
 ghost use Rattle.rows.specs.Settings.{IsDwelling};
-ghost use Rattle.traffic.specs.Rows.{World};
-ghost use Rattle.traffic.specs.Setup.{Setup};
+ghost use Rattle.traffic.specs.{Rows.World, Setup.Setup};
 ghost use Rattle.link_seconds.specs.Seconds.{AreShort};
-ghost use Rattle.calendar.specs.Waking.{woken};
+ghost use Rattle.calendar.specs.{Due.AreIn, Waking.woken};
 ghost use Rattle.node_seconds.specs.Networks.{lane, is_among, AreOnce};
-ghost use Rattle.calendar.specs.Due.{AreIn};
 ghost use Rattle.part_links.specs.Links.{AreNumbered, LinksStandAt, LinesStandAt, StopsThere, CanTurn, AreAsleep};
 ghost use Rattle.part_links.specs.Phase.{AreTurned, IsPhaseAt};
 

@@ -1,28 +1,20 @@
 -- Of the links into a node only those with somebody in their buffers matter.
-use Rattle.traffic.proofs.Common.{◌≡◌, ℕ, suc, ◌+◌, ◌<◌, ◌≤◌, Bool, true, false, List, [], ◌∷◌, ◌++◌, ◌∙◌, ap, refl, sym, subst, arith, inl, inr, length, map, filter, not, ◌||◌}
+use Rattle.traffic.proofs.Common.{◌≡◌, ℕ, suc, ◌+◌, ◌<◌, ◌≤◌, Bool, true, false, List, [], ◌∷◌, ◌++◌, ◌∙◌, ap, refl, sym, subst, arith, inl, inr, length, map}
+use Rattle.traffic.proofs.Common.{filter, not, ◌||◌, cases_Bool, eqb, eqb-true, or_parts, true≢false, nat_lt, lt-ltb, Option, Some, World, Setup, at, into}
+use Rattle.traffic.proofs.Common.{link_row, in_link, out_link, ready, mark, draw, node_moves, node_turns, word}
+use Rattle.traffic.specs.Lists.{is_nil}
+use Rattle.traffic.specs.declared.{moves.Move.Move, node_views.InLink.InLink, node_views.OutLink.OutLink, stage.Stage.TheVariants.Buffer, world.Row.Row}
 use Rattle.std.specs.List.{AllByRecursion as Each}
-use Rattle.traffic.proofs.Common.{cases_Bool, eqb, eqb-true, or_parts, true≢false, nat_lt, lt-ltb, Option, Some, World, Setup, at, into, link_row, in_link, out_link, ready, mark, draw, node_moves, node_turns, word}
 use Rattle.rows.specs.declared.settings.Stuck.{Stuck}
 use Rattle.draws.specs.Words.{Source}
-use Rattle.traffic.specs.declared.moves.Move.{Move}
-use Rattle.traffic.specs.declared.node_views.InLink.{InLink}
-use Rattle.traffic.specs.declared.node_views.OutLink.{OutLink}
-use Rattle.traffic.specs.declared.stage.Stage.TheVariants.{Buffer}
-use Rattle.traffic.specs.declared.world.Row.{Row}
-use Rattle.traffic.specs.Lists.{is_nil}
 use Rattle.queue_link.specs.Links.{LinkView}
-use Rattle.node_move.specs.Entries.{SpaceRows}
-use Rattle.node_move.specs.Spaces.{places_in}
-use Rattle.node_move.specs.NodeStates.{in_links_of}
+use Rattle.node_move.specs.{Entries.SpaceRows, NodeStates.in_links_of, Spaces.places_in}
 use Rattle.node_seconds.specs.Networks.{lane, is_among, AreOnce}
 use Rattle.calendar.specs.Due.{AreIn}
 use Rattle.part_links.specs.Links.{LinksStandAt}
-use Rattle.part_nodes.specs.InLinks.{slots_of}
-use Rattle.part_nodes.specs.Turns.{IsTurnOf, lights_of, is_buffered}
-use Rattle.part_nodes.specs.Phase.{Extent, HasLinks, GoOnThere, places_at}
-use Rattle.part_nodes.proofs.Leading.{node_same}
-use Rattle.part_nodes.proofs.Seen.{IsOut, buffer_is, into_to, in_links_are, out_agree, all_lead}
-use Rattle.part_nodes.proofs.Slots.{numbers_there, node_there, node_back}
+use Rattle.part_nodes.proofs.{Leading.node_same, Seen.IsOut, Seen.buffer_is, Seen.into_to, Seen.in_links_are, Seen.out_agree, Seen.all_lead}
+use Rattle.part_nodes.{proofs.Slots.numbers_there, proofs.Slots.node_there, proofs.Slots.node_back, specs.InLinks.slots_of}
+use Rattle.part_nodes.specs.{Phase.Extent, Phase.HasLinks, Phase.GoOnThere, Phase.places_at, Turns.IsTurnOf, Turns.lights_of, Turns.is_buffered}
 
 -- THOSE THAT PASS A TEST
 pub in_some : (p : ℕ → Bool) (count : ℕ) (ls : List ℕ) → AreIn count ls → AreIn count (filter p ls)

@@ -1,9 +1,7 @@
 -- Whether somebody is on a link.
 use Rattle.std.proofs.Common.{◌≡◌, Bool, true, false, List, [], ◌∷◌, refl, sym}
-use Rattle.std.specs.Prelude.{IsTrue, ◌↔◌, ◌&&◌}
-use Rattle.std.proofs.lemmas.Bool.{and_parts, true≢false}
-use Rattle.traffic.specs.declared.world.Row.{Row}
-use Rattle.traffic.specs.Lists.{is_nil}
+use Rattle.std.{proofs.lemmas.Bool.and_parts, proofs.lemmas.Bool.true≢false, specs.Prelude.IsTrue, specs.Prelude.◌↔◌, specs.Prelude.◌&&◌}
+use Rattle.traffic.specs.{Lists.is_nil, declared.world.Row.Row}
 
 pub nil_is : {X : Type 0} (xs : List X) → is_nil xs ≡ true → xs ≡ []
 nil_is [] e = refl

@@ -1,26 +1,17 @@
 -- The moves of a node: rows leave buffers, for the queues of links that are there.
 use Rattle.traffic.proofs.Common.{◌≡◌, ℕ, List, ◌∙◌, length, ap, refl, sym, [], ◌∷◌, ◌++◌, arith, ◌<◌, ◌+◌, true, false, Bool, inl, inr, eqb, subst, flat_map}
-use Rattle.traffic.proofs.Common.{Some, Option, cases_Bool, eqb-true, eqb-false, eq-eqb, ne_eqb, and_parts, append-nil, append_assoc, length-append, ◌&&◌, ◌||◌, if◌then◌else◌}
-use Rattle.traffic.proofs.Common.{map, filter, map-append, flat_map-append, not, true≢false, node_turns, World, on, at, rank, same, Setup, link_row, seconds_of, at_after_all, run, out_links_after, one_more, with_one_more}
-use Rattle.traffic.proofs.Common.{out_link, is_out_link, has_room, is_stuck, next_link, without_at, on_front, at_second, in_force, hole_of, holes_at, taken_at, done, storage_of}
-use Rattle.traffic.specs.declared.moves.Move.{Move}
-use Rattle.traffic.specs.declared.moves.Move.TheVariants.{Transfer, Remove, SetFrontSince}
-use Rattle.traffic.specs.declared.node_views.OutLink.{OutLink}
-use Rattle.traffic.specs.declared.stage.Stage.{Stage}
-use Rattle.traffic.specs.declared.stage.Stage.TheVariants.{Queue, Buffer}
-use Rattle.traffic.specs.declared.world.Row.{Row}
+use Rattle.traffic.proofs.Common.{Some, Option, cases_Bool, eqb-true, eqb-false, eq-eqb, ne_eqb, and_parts, append-nil, append_assoc, length-append, ◌&&◌, ◌||◌}
+use Rattle.traffic.proofs.Common.{if◌then◌else◌, map, filter, map-append, flat_map-append, not, true≢false, node_turns, World, on, at, rank, same, Setup}
+use Rattle.traffic.proofs.Common.{link_row, seconds_of, at_after_all, run, out_links_after, one_more, with_one_more, out_link, is_out_link, has_room, is_stuck}
+use Rattle.traffic.proofs.Common.{next_link, without_at, on_front, at_second, in_force, hole_of, holes_at, taken_at, done, storage_of}
+use Rattle.traffic.proofs.{Each.each_if, Each.each_without_at, Moments.Along, NodeWalk.NodeCases, NodeWalk.node_walk, Nodes.node-buffers, Nodes.buffers-holes}
+use Rattle.traffic.{proofs.Nodes.out_of, proofs.Sublists.at-run, proofs.Sublists.holes-run, specs.Nodes.seconds_along}
+use Rattle.traffic.specs.declared.moves.Move.{Move, TheVariants.Transfer, TheVariants.Remove, TheVariants.SetFrontSince}
+use Rattle.traffic.specs.declared.{node_views.OutLink.OutLink, stage.Stage.Stage, stage.Stage.TheVariants.Queue, stage.Stage.TheVariants.Buffer, world.Row.Row}
 use Rattle.std.specs.List.{AllByRecursion as Each}
-use Rattle.traffic.specs.Nodes.{seconds_along}
-use Rattle.traffic.proofs.Each.{each_if, each_without_at}
-use Rattle.traffic.proofs.Moments.{Along}
-use Rattle.traffic.proofs.NodeWalk.{NodeCases, node_walk}
-use Rattle.traffic.proofs.Nodes.{node-buffers, buffers-holes, out_of}
-use Rattle.traffic.proofs.Sublists.{at-run, holes-run}
-use Rattle.law_in_range.specs.Rows.{Counts}
-use Rattle.law_in_range.specs.Moves.{AreFitMoves}
+use Rattle.law_in_range.specs.{Moves.AreFitMoves, Rows.Counts}
 use Rattle.queue_link.specs.Links.{row_on}
-use Rattle.node_move.specs.declared.crossings.Entering.{Entering}
-use Rattle.node_move.specs.NodeStates.{entering_by}
+use Rattle.node_move.specs.{NodeStates.entering_by, declared.crossings.Entering.Entering}
 use Rattle.parts.specs.Parts.{enters_queue}
 use Rattle.part_nodes.specs.Phase.{places_at, entering_of, going_out}
 

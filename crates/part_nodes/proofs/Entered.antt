@@ -1,29 +1,22 @@
 -- The links of a network once vehicles came to them, and that they rest on.
-use Rattle.std.proofs.Common.{◌≡◌, ◌≢◌, ℕ, Bool, ◌+◌, ◌<◌, ◌≤◌, true, false, List, [], ◌∷◌, ◌++◌, length, get_or, set, refl, ap, sym, ◌∙◌, subst, inl, inr, arith, eqb, append-nil, append_assoc}
+use Rattle.std.proofs.Common.{◌≡◌, ◌≢◌, ℕ, Bool, ◌+◌, ◌<◌, ◌≤◌, true, false, List, [], ◌∷◌, ◌++◌, length, get_or, set, refl, ap, sym, ◌∙◌, subst, inl, inr}
+use Rattle.std.proofs.Common.{arith, eqb, append-nil, append_assoc}
+use Rattle.std.proofs.lemmas.Bool.{cases_Bool, eqb-true, eqb-false, ltb-true, ltb-false, true≢false, Decides.nat_tests}
+use Rattle.std.{proofs.lemmas.List.get_or-set_same, proofs.lemmas.List.get_or-set_other, specs.List.AllByRecursion as Each}
 use Rattle.std.specs.Prelude.{Option, None, Some, min, nat_lt, nat_le, if◌then◌else◌}
-use Rattle.std.proofs.lemmas.Bool.{cases_Bool, eqb-true, eqb-false, ltb-true, ltb-false, true≢false}
-use Rattle.std.specs.List.{AllByRecursion as Each}
-use Rattle.std.proofs.lemmas.Bool.Decides.{nat_tests}
-use Rattle.std.proofs.lemmas.List.{get_or-set_same, get_or-set_other}
 use Rattle.rows.specs.declared.settings.Dwelling.{Dwelling}
-use Rattle.traffic.specs.declared.numbers.Rules.{Rules}
-use Rattle.traffic.specs.declared.stage.Stage.TheVariants.{Queue}
-use Rattle.traffic.specs.declared.world.Row.{Row}
+use Rattle.traffic.specs.declared.{numbers.Rules.Rules, stage.Stage.TheVariants.Queue, world.Row.Row}
 use Rattle.fixed_flow.specs.Flow.{raised}
 use Rattle.calendar.specs.Waking.{wake_of, earlier}
 use Rattle.law_sleeping.specs.Quiet.{queue_goes}
 use Rattle.law_waking.specs.Resting.{Rests, sleeps_to}
-use Rattle.queue_link.specs.Links.{LinkView, row_on}
-use Rattle.queue_link.specs.declared.numbers.LinkNumbers.{LinkNumbers}
-use Rattle.queue_link.specs.Numbers.{rules_of}
-use Rattle.node_move.specs.declared.crossings.Entering.{Entering}
-use Rattle.node_move.specs.NodeStates.{no_link}
+use Rattle.queue_link.specs.{Links.LinkView, Links.row_on, Numbers.rules_of, declared.numbers.LinkNumbers.LinkNumbers}
+use Rattle.node_move.specs.{NodeStates.no_link, declared.crossings.Entering.Entering}
 use Rattle.link_seconds.specs.Seconds.{lists_at}
 use Rattle.node_seconds.specs.Networks.{lane, with_queued, put_queued, wake_queued, accepted, accepted_all, wakes_after, wakes_after_all}
 use Rattle.node_seconds.proofs.Lanes.{accepted_length, woken_length}
 use Rattle.part_links.specs.Links.{AreAsleep}
-use Rattle.part_nodes.proofs.Crossings.{rows_into}
-use Rattle.part_nodes.proofs.Slots.{is_slot}
+use Rattle.part_nodes.proofs.{Crossings.rows_into, Slots.is_slot}
 
 -- LINKS
 -- the link in slot k once a vehicle came to this slot, if to any

@@ -1,27 +1,19 @@
 -- Nodes rest while the fronts of the links into them wait for places.
-use Rattle.traffic.proofs.Common.{◌≡◌, ◌≢◌, ℕ, zero, suc, ◌+◌, ◌-◌, ◌<◌, ◌≤◌, Bool, true, false, List, [], ◌∷◌, ◌∙◌, ap, refl, sym, subst, arith, inl, inr, length, map, not, ◌&&◌}
-use Rattle.traffic.proofs.Common.{cases_Bool, cases_lt, eqb, eqb-true, eq-eqb, and_parts, or_parts, true≢false, leb-false, leb-true, ltb-true, ltb-false, lt-ltb, nat_lt, nat_le, list_any, if◌then◌else◌, Option, None, Some}
-use Rattle.traffic.proofs.Common.{World, Setup, link_row, at, holes_at, taken_at, hole_of, storage_of, next_link, has_room, is_stuck, out_link, in_link, red, run, node_turns, Stuck}
-use Rattle.std.specs.Prelude.{min}
-use Rattle.std.specs.List.{AllByRecursion as Each}
-use Rattle.std.proofs.lemmas.Nat.{mod_below}
-use Rattle.std.proofs.lemmas.Bool.{and_right, or_from, le-leb, le-ltb, lt-leb}
+use Rattle.traffic.proofs.Common.{◌≡◌, ◌≢◌, ℕ, zero, suc, ◌+◌, ◌-◌, ◌<◌, ◌≤◌, Bool, true, false, List, [], ◌∷◌, ◌∙◌, ap, refl, sym, subst, arith, inl, inr}
+use Rattle.traffic.proofs.Common.{length, map, not, ◌&&◌, cases_Bool, cases_lt, eqb, eqb-true, eq-eqb, and_parts, or_parts, true≢false, leb-false, leb-true}
+use Rattle.traffic.proofs.Common.{ltb-true, ltb-false, lt-ltb, nat_lt, nat_le, list_any, if◌then◌else◌, Option, None, Some, World, Setup, link_row, at}
+use Rattle.traffic.proofs.Common.{holes_at, taken_at, hole_of, storage_of, next_link, has_room, is_stuck, out_link, in_link, red, run, node_turns, Stuck}
+use Rattle.traffic.{proofs.Nodes.node-buffers, specs.Lists.is_nil}
+use Rattle.traffic.specs.declared.{node_views.InLink.InLink, stage.Stage.TheVariants.Queue, stage.Stage.TheVariants.Buffer, world.Row.Row}
+use Rattle.std.proofs.lemmas.{Bool.and_right, Bool.or_from, Bool.le-leb, Bool.le-ltb, Bool.lt-leb, Nat.mod_below}
+use Rattle.std.specs.{List.AllByRecursion as Each, Prelude.min}
 use Rattle.rows.specs.Greens.{Phases, holds, phase_of, is_green, green_at}
-use Rattle.town.specs.declared.day_input.DayInput.{DayInput}
-use Rattle.town.specs.Setups.{setup_of}
-use Rattle.town.specs.Views.{setup}
-use Rattle.traffic.specs.declared.node_views.InLink.{InLink}
-use Rattle.traffic.specs.declared.stage.Stage.TheVariants.{Queue, Buffer}
-use Rattle.traffic.specs.declared.world.Row.{Row}
-use Rattle.traffic.specs.Lists.{is_nil}
-use Rattle.traffic.proofs.Nodes.{node-buffers}
+use Rattle.town.specs.{Setups.setup_of, Views.setup, declared.day_input.DayInput.DayInput}
 use Rattle.calendar.specs.Waking.{wake_of, is_second, slept, earliest as sooner}
 use Rattle.law_joined_routes.specs.Going.{GoesOn}
-use Rattle.law_sleeping.specs.Able.{can_go, is_able}
-use Rattle.law_sleeping.proofs.Places.{run_places}
+use Rattle.law_sleeping.{proofs.Places.run_places, specs.Able.can_go, specs.Able.is_able}
 use Rattle.queue_link.specs.Links.{LinkView}
-use Rattle.node_move.specs.Entries.{SpaceRows}
-use Rattle.node_move.specs.Spaces.{places_in}
+use Rattle.node_move.specs.{Entries.SpaceRows, Spaces.places_in}
 use Rattle.node_seconds.specs.Networks.{lane, is_among}
 use Rattle.part_places.proofs.Counting.{still_is}
 use Rattle.part_nodes.specs.Turns.{covers, is_always, always_in, is_held, front_due, link_due, node_due, up_to}

@@ -1,13 +1,12 @@
 -- The links into each node, one link after the other.
-use Rattle.traffic.proofs.Common.{◌≡◌, ℕ, zero, suc, ◌+◌, ◌<◌, List, ◌∙◌, ap, sym, [], ◌∷◌, ◌++◌, inl, inr, arith, eqb, true, false, length, get_or, filter, append-nil, Bool, refl}
-use Rattle.traffic.proofs.Common.{cases_Bool, eqb-true, eqb-false, eq-eqb, ne_eqb, filter-append, nat_tests, if◌then◌else◌, add-one, numbers, below, into, LinkRow}
+use Rattle.traffic.proofs.Common.{◌≡◌, ℕ, zero, suc, ◌+◌, ◌<◌, List, ◌∙◌, ap, sym, [], ◌∷◌, ◌++◌, inl, inr, arith, eqb, true, false, length, get_or, filter}
+use Rattle.traffic.proofs.Common.{append-nil, Bool, refl, cases_Bool, eqb-true, eqb-false, eq-eqb, ne_eqb, filter-append, nat_tests, if◌then◌else◌, add-one}
+use Rattle.traffic.proofs.Common.{numbers, below, into, LinkRow}
 use Rattle.std.specs.Prelude.{replicate, ◌==◌}
 use Rattle.std.proofs.lemmas.List.{get_or_default, get_or-replicate, length-replicate, map-append}
 use Rattle.calendar.specs.Due.{HasOneMore}
 use Rattle.rows.specs.Networks.{is_link}
-use Rattle.town.specs.declared.day_input.DayInput.{DayInput}
-use Rattle.town.specs.Setups.{setup_of}
-use Rattle.town.specs.Views.{setup}
+use Rattle.town.specs.{Setups.setup_of, Views.setup, declared.day_input.DayInput.DayInput}
 use Rattle.law_in_range.proofs.Lists.{each_at, each_tested}
 use Rattle.part_nodes.specs.InLinks.{AreInto, leads_to, first_into, slots_of}
 

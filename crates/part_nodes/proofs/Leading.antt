@@ -1,14 +1,11 @@
 -- What a node does depends on those links out of it alone to which the rows in the buffers lead.
-use Rattle.traffic.proofs.Common.{◌≡◌, ℕ, List, ◌∙◌, length, ap, refl, [], ◌∷◌, ◌++◌, ◌+◌, suc, eqb, zero, get_or, ◌*◌, map}
-use Rattle.traffic.proofs.Common.{not, Option, if◌then◌else◌, Stuck, without_at, is_nil, with_one_more, since_of, pass_node_all, drawn, no_in_link}
-use Rattle.traffic.proofs.Common.{red, candidates, next_link, ready, node_moves, draw, one_more, pass_node, mark, out_links_after}
-use Rattle.traffic.specs.declared.moves.Move.{Move}
+use Rattle.traffic.proofs.Common.{◌≡◌, ℕ, List, ◌∙◌, length, ap, refl, [], ◌∷◌, ◌++◌, ◌+◌, suc, eqb, zero, get_or, ◌*◌, map, not, Option, if◌then◌else◌, Stuck}
+use Rattle.traffic.proofs.Common.{without_at, is_nil, with_one_more, since_of, pass_node_all, drawn, no_in_link, red, candidates, next_link, ready, node_moves}
+use Rattle.traffic.proofs.Common.{draw, one_more, pass_node, mark, out_links_after}
+use Rattle.traffic.{proofs.Each.each_get_or, proofs.Each.each_without_at, proofs.Each.each_kept, specs.declared.moves.Move.Move}
 use Rattle.traffic.specs.declared.moves.Move.TheVariants.{Transfer, Remove, Enter, SetFrontSince, Credit, LeaveHole, Report}
-use Rattle.traffic.specs.declared.node_views.InLink.{InLink}
-use Rattle.traffic.specs.declared.node_views.OutLink.{OutLink}
-use Rattle.traffic.specs.declared.world.Row.{Row}
+use Rattle.traffic.specs.declared.{node_views.InLink.InLink, node_views.OutLink.OutLink, world.Row.Row}
 use Rattle.std.specs.List.{AllByRecursion as Each}
-use Rattle.traffic.proofs.Each.{each_get_or, each_without_at, each_kept}
 
 -- two nodes' out-links are the same where this holds of their numbers
 abbrev pub Agree : (ℕ → Type 0) → (ℕ → Option OutLink) → (ℕ → Option OutLink) → Type 0

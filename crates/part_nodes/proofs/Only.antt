@@ -1,9 +1,7 @@
 -- The only link into a node in whose buffer somebody is.
 use Rattle.std.proofs.Common.{◌≡◌, ℕ, zero, suc, ◌+◌, ◌<◌, Bool, true, false, List, [], ◌∷◌, ◌++◌, length, get_or, take, refl, ap, sym, ◌∙◌, inl, inr, arith}
+use Rattle.std.proofs.lemmas.{Bool.cases_Bool, List.take_more, List.append-nil, List.Elements.filter-append}
 use Rattle.std.specs.Prelude.{filter, Option, None, Some}
-use Rattle.std.proofs.lemmas.Bool.{cases_Bool}
-use Rattle.std.proofs.lemmas.List.{take_more, append-nil}
-use Rattle.std.proofs.lemmas.List.Elements.{filter-append}
 use Rattle.part_nodes.specs.Turns.{only_of}
 
 abbrev pub as_list : Option ℕ → List ℕ

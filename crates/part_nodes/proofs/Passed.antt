@@ -1,51 +1,33 @@
 -- The turn of a node: the network stands for the world after it.
-use Rattle.traffic.proofs.Common.{◌≡◌, ◌≢◌, ℕ, List, ◌∙◌, length, ap, refl, sym, [], ◌++◌, arith, ◌<◌, ◌+◌, true, false, Bool, inl, inr, eqb, subst, flat_map, map, filter, not, true≢false, get_or}
-use Rattle.traffic.proofs.Common.{None, Option, cases_Bool, eq-eqb, set, get_or-set_same, get_or-set_other, length-set, if◌then◌else◌}
-use Rattle.traffic.proofs.Common.{node_turns, World, on, at, Setup, into, link_row, seconds_of, at_after_all, run, out_links_after, told, credit_of, numbers, keyed, phase_code}
-use Rattle.traffic.specs.declared.moves.Move.{Move}
-use Rattle.traffic.specs.declared.moves.Occurrence.{Occurrence}
-use Rattle.traffic.specs.declared.node_views.OutLink.{OutLink}
-use Rattle.traffic.specs.declared.stage.Stage.TheVariants.{Queue, Buffer, Wait, Bay}
+use Rattle.traffic.proofs.Common.{◌≡◌, ◌≢◌, ℕ, List, ◌∙◌, length, ap, refl, sym, [], ◌++◌, arith, ◌<◌, ◌+◌, true, false, Bool, inl, inr, eqb, subst, flat_map}
+use Rattle.traffic.proofs.Common.{map, filter, not, true≢false, get_or, None, Option, cases_Bool, eq-eqb, set, get_or-set_same, get_or-set_other, length-set}
+use Rattle.traffic.proofs.Common.{if◌then◌else◌, node_turns, World, on, at, Setup, into, link_row, seconds_of, at_after_all, run, out_links_after, told}
+use Rattle.traffic.proofs.{Common.credit_of, Common.numbers, Common.keyed, Common.phase_code, Nodes.node-buffers, Nodes.buffers-credit, Nodes.node_untouched}
+use Rattle.traffic.{proofs.Sublists.at-run, proofs.Sublists.credits-run, proofs.Sublists.at_after_all-untouched, specs.Links.LinkState, specs.Links.link_state}
+use Rattle.traffic.specs.declared.{moves.Move.Move, moves.Occurrence.Occurrence, node_views.OutLink.OutLink, stage.Stage.TheVariants.Queue}
+use Rattle.traffic.specs.declared.{stage.Stage.TheVariants.Buffer, stage.Stage.TheVariants.Wait, stage.Stage.TheVariants.Bay, world.Row.Row}
 use Rattle.rows.specs.declared.settings.Stuck.{Stuck}
-use Rattle.traffic.specs.declared.world.Row.{Row}
-use Rattle.traffic.specs.Links.{LinkState, link_state}
 use Rattle.std.specs.List.{AllByRecursion as Each}
 use Rattle.events.specs.declared.event.Event.{Event}
 use Rattle.events.specs.declared.event.Phase.TheVariants as phase
-use Rattle.traffic.proofs.Sublists.{at-run, credits-run, at_after_all-untouched}
-use Rattle.traffic.proofs.Nodes.{node-buffers, buffers-credit, node_untouched}
-use Rattle.law_in_range.specs.Rows.{Counts}
-use Rattle.law_in_range.specs.Setups.{IsFitSetup}
-use Rattle.law_in_range.proofs.Junctions.{node_fit}
-use Rattle.law_in_range.proofs.Kept.{run_fit}
-use Rattle.calendar.specs.Waking.{wake_of}
-use Rattle.queue_link.specs.Links.{LinkView}
-use Rattle.queue_link.specs.Numbers.{numbers_of}
-use Rattle.queue_link.specs.declared.numbers.LinkNumbers.{LinkNumbers}
-use Rattle.node_move.specs.Entries.{SpaceRows}
-use Rattle.node_move.specs.Spaces.{places_in}
-use Rattle.node_move.specs.NodeStates.{buffer_after, entering_by}
-use Rattle.node_move.specs.declared.crossings.Entering.{Entering}
+use Rattle.law_in_range.{proofs.Junctions.node_fit, proofs.Kept.run_fit, specs.Rows.Counts, specs.Setups.IsFitSetup}
+use Rattle.calendar.specs.{Due.AreIn, Waking.wake_of}
+use Rattle.queue_link.specs.{Links.LinkView, Numbers.numbers_of, declared.numbers.LinkNumbers.LinkNumbers}
+use Rattle.node_move.specs.{Entries.SpaceRows, NodeStates.buffer_after, NodeStates.entering_by, Spaces.places_in}
+use Rattle.node_move.specs.declared.{crossings.Entering.Entering, turns.NodeTurn.NodeTurn}
 use Rattle.link_seconds.specs.Seconds.{lists_at}
 use Rattle.node_seconds.specs.Networks.{lane, is_among, slot_in, accepted_all, wakes_after_all, goes_out}
 use Rattle.node_seconds.specs.Turns.{moves_in, IsNodeSecond}
-use Rattle.calendar.specs.Due.{AreIn}
 use Rattle.part_links.specs.Links.{LinksStandAt, AreAsleep}
-use Rattle.part_nodes.specs.declared.network.NetworkState.{NetworkState}
-use Rattle.node_move.specs.declared.turns.NodeTurn.{NodeTurn}
-use Rattle.part_nodes.specs.declared.node_turns.Buffered.{Buffered}
-use Rattle.part_nodes.specs.InLinks.{slots_of}
-use Rattle.part_nodes.specs.Turns.{IsTurnOf, lights_of, buffered_in, is_buffered, wake_all_emptied, node_due, up_to}
-use Rattle.law_joined_routes.specs.Going.{GoesOn}
-use Rattle.part_nodes.specs.Phase.{Extent, HasLinks, LinksStandFor, IsPassed, IsTurn, going_out}
-use Rattle.part_nodes.proofs.Seen.{number_is, buffer_is}
-use Rattle.part_nodes.proofs.Slots.{AreNumberedBy, stand_numbered, node_among, slot_finds, slot_nowhere}
 use Rattle.part_nodes.proofs.Buffered.{nobody_in, moves_of_some}
-use Rattle.part_nodes.proofs.Ready.{some_in}
 use Rattle.part_nodes.proofs.Crossings.{AreCrossings, node_crossings, rows_into, queue_after, aside_after, buffer_keeps, buffer_empty, places_are, out_rows}
 use Rattle.part_nodes.proofs.Entered.{length_all, all_accepted, queued_on, all_accepted_asleep, all_come}
-use Rattle.part_nodes.proofs.Rested.{handed_over_asleep}
-use Rattle.part_nodes.proofs.Held.{waits_again}
+use Rattle.part_nodes.proofs.{Held.waits_again, Ready.some_in, Rested.handed_over_asleep, Seen.number_is, Seen.buffer_is}
+use Rattle.part_nodes.proofs.Slots.{AreNumberedBy, stand_numbered, node_among, slot_finds, slot_nowhere}
+use Rattle.part_nodes.specs.{InLinks.slots_of, Phase.Extent, Phase.HasLinks, Phase.LinksStandFor, Phase.IsPassed, Phase.IsTurn, Phase.going_out}
+use Rattle.part_nodes.specs.Turns.{IsTurnOf, lights_of, buffered_in, is_buffered, wake_all_emptied, node_due, up_to}
+use Rattle.part_nodes.specs.declared.{network.NetworkState.NetworkState, node_turns.Buffered.Buffered}
+use Rattle.law_joined_routes.specs.Going.{GoesOn}
 
 -- ONE LINK
 -- a link whose buffer moves changed

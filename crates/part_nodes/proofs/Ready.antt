@@ -1,32 +1,19 @@
 -- What the turn of a node asks of the links into it: at most sixteen, each in a slot of its own, and who is in their buffers goes on.
-use Rattle.traffic.proofs.Common.{◌≡◌, ℕ, suc, ◌+◌, ◌<◌, ◌≤◌, Bool, true, List, [], ◌∷◌, ◌∙◌, ap, sym, refl, subst, inl, inr, arith, eqb, length, get_or, filter}
-use Rattle.traffic.proofs.Common.{cases_Bool, length-filter, numbers, World, on, at, Setup, into, link_row, recursion_from_All, LinkRow}
-use Rattle.traffic.specs.declared.stage.Stage.TheVariants.{Buffer}
-use Rattle.traffic.specs.declared.world.Row.{Row}
+use Rattle.traffic.proofs.Common.{◌≡◌, ℕ, suc, ◌+◌, ◌<◌, ◌≤◌, Bool, true, List, [], ◌∷◌, ◌∙◌, ap, sym, refl, subst, inl, inr, arith, eqb, length, get_or}
+use Rattle.traffic.proofs.Common.{filter, cases_Bool, length-filter, numbers, World, on, at, Setup, into, link_row, recursion_from_All, LinkRow}
 use Rattle.traffic.proofs.Sublists.{on_is}
-use Rattle.std.specs.List.{AllByRecursion as Each}
-use Rattle.std.proofs.lemmas.List.{length-map}
+use Rattle.traffic.specs.{Nodes.HaveNext, Nodes.HasNext, declared.stage.Stage.TheVariants.Buffer, declared.world.Row.Row}
+use Rattle.std.{proofs.lemmas.List.length-map, specs.List.AllByRecursion as Each}
 use Rattle.limits.specs.declared.TheConstants.{MAX_IN_LINKS}
 use Rattle.rows.specs.Networks.{in_links}
-use Rattle.town.specs.declared.day_input.DayInput.{DayInput}
-use Rattle.town.specs.Setups.{setup_of}
-use Rattle.town.specs.Views.{setup}
-use Rattle.law_in_range.specs.Rows.{Counts, IsFitRow, IsFitWorld}
-use Rattle.law_in_range.proofs.Sizes.{buffer_next}
+use Rattle.town.specs.{Setups.setup_of, Views.setup, declared.day_input.DayInput.DayInput}
+use Rattle.law_in_range.{proofs.Sizes.buffer_next, specs.Rows.Counts, specs.Rows.IsFitRow, specs.Rows.IsFitWorld}
 use Rattle.queue_link.specs.Links.{LinkView}
-use Rattle.traffic.specs.Nodes.{HaveNext, HasNext}
-use Rattle.node_seconds.specs.Networks.{AreOnce}
+use Rattle.node_seconds.specs.{Networks.AreOnce, Turns.AreReadyInto}
 use Rattle.calendar.specs.Due.{AreIn}
-use Rattle.node_seconds.specs.Turns.{AreReadyInto}
-use Rattle.part_links.specs.Links.{LinksStandAt}
-use Rattle.part_links.proofs.Numbers.{once_passed}
-use Rattle.part_nodes.specs.InLinks.{slots_of}
-use Rattle.part_nodes.specs.Turns.{HaveNumbersIn}
-use Rattle.part_nodes.specs.Phase.{Extent, HasLinks}
-use Rattle.part_nodes.proofs.Into.{town_links}
-use Rattle.part_nodes.proofs.Seen.{number_is, buffer_is}
-use Rattle.part_nodes.proofs.Slots.{node_there, node_back, once_numbers}
-use Rattle.part_nodes.proofs.Buffered.{in_some}
+use Rattle.part_links.{proofs.Numbers.once_passed, specs.Links.LinksStandAt}
+use Rattle.part_nodes.proofs.{Buffered.in_some, Into.town_links, Seen.number_is, Seen.buffer_is, Slots.node_there, Slots.node_back, Slots.once_numbers}
+use Rattle.part_nodes.specs.{InLinks.slots_of, Phase.Extent, Phase.HasLinks, Turns.HaveNumbersIn}
 
 -- AT MOST SIXTEEN
 as_many : (f : ℕ → Bool) (n k : ℕ) (d : LinkRow) (rows : List LinkRow) → ((j : ℕ) → j < length rows → f (k + j) ≡ eqb (get_or rows j d).to n)

@@ -1,28 +1,22 @@
 -- The links of a network rest on when some of them hand over, where those that did not are woken.
 use Rattle.std.proofs.Common.{◌≡◌, ◌≢◌, ℕ, ◌<◌, Bool, true, false, List, [], ◌∷◌, length, refl, ap, sym, ◌∙◌, subst, inl, inr, arith, eqb}
-use Rattle.std.specs.Prelude.{Option, None, Some, map, not, if◌then◌else◌, ◌&&◌, ◌||◌, ◌⊎◌}
-use Rattle.std.specs.List.{AllByRecursion as Each}
 use Rattle.std.proofs.lemmas.Bool.{cases_Bool, eqb-true, or_parts, and_parts, true≢false}
-use Rattle.std.proofs.lemmas.List.{length-set}
+use Rattle.std.{proofs.lemmas.List.length-set, specs.List.AllByRecursion as Each}
+use Rattle.std.specs.Prelude.{Option, None, Some, map, not, if◌then◌else◌, ◌&&◌, ◌||◌, ◌⊎◌}
 use Rattle.rows.specs.declared.settings.Dwelling.{Dwelling}
 use Rattle.fixed_flow.specs.Flow.{raised}
-use Rattle.traffic.specs.declared.moves.Move.{Move}
-use Rattle.traffic.specs.declared.world.Row.{Row}
-use Rattle.traffic.specs.Lists.{is_nil}
-use Rattle.calendar.specs.Waking.{wake_of, earlier}
+use Rattle.traffic.specs.{Lists.is_nil, declared.moves.Move.Move, declared.world.Row.Row}
+use Rattle.calendar.specs.{Due.AreIn, Waking.wake_of, Waking.earlier}
 use Rattle.law_sleeping.specs.Quiet.{IsQuiet, queue_goes, wait_goes}
 use Rattle.law_waking.specs.Resting.{Rests, sleeps_to}
-use Rattle.queue_link.specs.Links.{LinkView}
-use Rattle.queue_link.specs.Numbers.{rules_of}
+use Rattle.queue_link.specs.{Links.LinkView, Numbers.rules_of}
 use Rattle.link_seconds.specs.Seconds.{lists_at}
 use Rattle.node_move.specs.NodeStates.{buffer_after}
 use Rattle.node_seconds.specs.Networks.{lane, is_among}
-use Rattle.calendar.specs.Due.{AreIn}
-use Rattle.part_nodes.specs.declared.node_turns.Buffered.{Buffered}
-use Rattle.part_nodes.specs.Turns.{count_in, buffered_in, is_clear, is_emptied, wake_emptied, wake_all_emptied, AreThere}
+use Rattle.part_nodes.proofs.{Clear.nil_is, Entered.IsAsleep, Entered.asleep_at, Entered.all_asleep, Entered.earlier_by, Entered.earlier_from}
+use Rattle.part_nodes.{proofs.Entered.earlier_within, proofs.Entered.wake_set, specs.Turns.count_in, specs.Turns.buffered_in, specs.Turns.is_clear}
+use Rattle.part_nodes.specs.{Turns.is_emptied, Turns.wake_emptied, Turns.wake_all_emptied, Turns.AreThere, declared.node_turns.Buffered.Buffered}
 use Rattle.part_links.specs.Links.{AreAsleep}
-use Rattle.part_nodes.proofs.Clear.{nil_is}
-use Rattle.part_nodes.proofs.Entered.{IsAsleep, asleep_at, all_asleep, earlier_by, earlier_from, earlier_within, wake_set}
 
 -- WHO IS WOKEN
 earlier_twice : (t : ℕ) (w : Option ℕ) → earlier t (earlier t w) ≡ earlier t w

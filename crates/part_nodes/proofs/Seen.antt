@@ -1,26 +1,17 @@
 -- What a node sees of the links of a network is what it sees of the world for which they stand.
-use Rattle.traffic.proofs.Common.{◌≡◌, ℕ, List, ◌∙◌, length, ap, refl, [], ◌∷◌, arith, ◌<◌, ◌≤◌, ◌+◌, true, inl, inr, suc, zero, eqb, map, filter}
-use Rattle.traffic.proofs.Common.{Some, cases_Bool, eqb-true, eq-eqb, below, numbers, in_link, out_link, World, Setup, into, link_row, next_link, at}
-use Rattle.traffic.specs.declared.node_views.InLink.{InLink}
-use Rattle.traffic.specs.declared.stage.Stage.TheVariants.{Buffer}
-use Rattle.traffic.specs.declared.world.Row.{Row}
+use Rattle.traffic.proofs.Common.{◌≡◌, ℕ, List, ◌∙◌, length, ap, refl, [], ◌∷◌, arith, ◌<◌, ◌≤◌, ◌+◌, true, inl, inr, suc, zero, eqb, map, filter, Some}
+use Rattle.traffic.proofs.Common.{cases_Bool, eqb-true, eq-eqb, below, numbers, in_link, out_link, World, Setup, into, link_row, next_link, at}
+use Rattle.traffic.{proofs.Each.each_weaker, specs.Links.LinkState}
+use Rattle.traffic.specs.declared.{node_views.InLink.InLink, stage.Stage.TheVariants.Buffer, world.Row.Row}
 use Rattle.std.specs.List.{AllByRecursion as Each}
-use Rattle.traffic.proofs.Each.{each_weaker}
-use Rattle.traffic.specs.Links.{LinkState}
-use Rattle.queue_link.specs.Links.{LinkView}
-use Rattle.queue_link.specs.declared.numbers.LinkNumbers.{LinkNumbers}
-use Rattle.queue_link.specs.Numbers.{numbers_of}
-use Rattle.node_move.specs.Entries.{SpaceRows}
-use Rattle.node_move.specs.Spaces.{places_in}
-use Rattle.node_move.specs.NodeStates.{in_link_of, in_links_of}
+use Rattle.queue_link.specs.{Links.LinkView, Numbers.numbers_of, declared.numbers.LinkNumbers.LinkNumbers}
+use Rattle.node_move.specs.{Entries.SpaceRows, NodeStates.in_link_of, NodeStates.in_links_of, Spaces.places_in}
 use Rattle.node_seconds.specs.Networks.{lane, is_among}
 use Rattle.calendar.specs.Due.{AreIn}
-use Rattle.part_links.specs.Links.{LinksStandAt}
-use Rattle.part_links.proofs.Numbers.{among_passed}
-use Rattle.part_nodes.specs.Turns.{lights_of}
-use Rattle.law_joined_routes.specs.Going.{GoesOn}
-use Rattle.part_nodes.specs.Phase.{Extent, GoOnThere, places_at}
+use Rattle.part_links.{proofs.Numbers.among_passed, specs.Links.LinksStandAt}
 use Rattle.part_nodes.proofs.Leading.{Agree, Leads, Lead}
+use Rattle.part_nodes.specs.{Phase.Extent, Phase.GoOnThere, Phase.places_at, Turns.lights_of}
+use Rattle.law_joined_routes.specs.Going.{GoesOn}
 
 -- NUMBERS
 pub number_is : (E : Extent) (S : Setup) (t k : ℕ) (links : List LinkView) (V : World) → k < E.size → LinksStandAt E.number E.size S t links V

@@ -1,34 +1,24 @@
 -- The turns of the nodes that are woken, one after the other, are those of all nodes.
-use Rattle.traffic.proofs.Common.{◌≡◌, ◌≢◌, ℕ, List, ◌∙◌, length, ap, refl, sym, [], ◌∷◌, ◌++◌, arith, ◌<◌, ◌≤◌, ◌+◌, true, false, Bool, inl, inr, suc, zero, eqb, subst, flat_map, map, filter, append_assoc, append-nil, get_or}
-use Rattle.traffic.proofs.Common.{Some, None, Option, cases_Bool, eqb-true, eqb-false, ne_eqb, or_parts, true≢false}
-use Rattle.traffic.proofs.Common.{node_turns, node_view, World, at, Setup, into, link_row, run, told, numbers, below, sees, mark, keyed, phase_code, at_after_all}
-use Rattle.traffic.proofs.Common.{turns, turns_of, after, moves_of, events_in, events_of, Turn, Event}
-use Rattle.traffic.specs.declared.moves.Move.{Move}
-use Rattle.traffic.specs.declared.moves.Occurrence.{Occurrence}
-use Rattle.traffic.specs.declared.stage.Stage.TheVariants.{Buffer}
-use Rattle.std.specs.List.{AllByRecursion as Each}
-use Rattle.std.proofs.lemmas.Grind.{flat_map-append}
-use Rattle.std.proofs.lemmas.List.{length-map}
-use Rattle.events.specs.declared.event.Phase.TheVariants as phase
-use Rattle.traffic.proofs.Sublists.{run-append, at-run_untouched}
-use Rattle.traffic.specs.Frames.{Untouched}
-use Rattle.traffic.proofs.Phases.{plans_apart}
+use Rattle.traffic.proofs.Common.{◌≡◌, ◌≢◌, ℕ, List, ◌∙◌, length, ap, refl, sym, [], ◌∷◌, ◌++◌, arith, ◌<◌, ◌≤◌, ◌+◌, true, false, Bool, inl, inr, suc, zero}
+use Rattle.traffic.proofs.Common.{eqb, subst, flat_map, map, filter, append_assoc, append-nil, get_or, Some, None, Option, cases_Bool, eqb-true, eqb-false}
+use Rattle.traffic.proofs.Common.{ne_eqb, or_parts, true≢false, node_turns, node_view, World, at, Setup, into, link_row, run, told, numbers, below, sees, mark}
+use Rattle.traffic.proofs.Common.{keyed, phase_code, at_after_all, turns, turns_of, after, moves_of, events_in, events_of, Turn, Event}
+use Rattle.traffic.proofs.{Nodes.node_untouched, Phases.plans_apart, Sublists.run-append, Sublists.at-run_untouched}
 use Rattle.traffic.proofs.Turns.{Distinct-numbers, turns_at_once, moves_of-map, at-phase}
-use Rattle.traffic.proofs.Nodes.{node_untouched}
+use Rattle.traffic.specs.{Frames.Untouched, declared.moves.Move.Move, declared.moves.Occurrence.Occurrence, declared.stage.Stage.TheVariants.Buffer}
+use Rattle.std.{proofs.lemmas.Grind.flat_map-append, proofs.lemmas.List.length-map, specs.List.AllByRecursion as Each}
+use Rattle.events.specs.declared.event.Phase.TheVariants as phase
 use Rattle.law_in_range.specs.Rows.{Counts}
+use Rattle.calendar.{proofs.Woken.woken_is, specs.Due.AreIn}
 use Rattle.calendar.specs.Waking.{wake_of, is_second, is_woken, woken, slept}
-use Rattle.calendar.proofs.Woken.{woken_is}
 use Rattle.node_seconds.specs.Networks.{is_among, AreOnce}
-use Rattle.calendar.specs.Due.{AreIn}
 use Rattle.part_links.proofs.Numbers.{among_other, among_passed, once_passed}
 use Rattle.part_persons.proofs.Skipping.{Idle, distinct_filter, skip_world, skip_events}
-use Rattle.part_nodes.specs.declared.network.NetworkState.{NetworkState}
-use Rattle.part_nodes.proofs.Seen.{into_there, among_into}
-use Rattle.law_sleeping.proofs.Passing.{node_rest}
-use Rattle.node_move.specs.declared.crossings.Entering.{Entering}
-use Rattle.part_nodes.proofs.Crossings.{out_both}
+use Rattle.part_nodes.{specs.declared.network.NetworkState.NetworkState, proofs.Seen.into_there, proofs.Seen.among_into, proofs.Crossings.out_both}
 use Rattle.part_nodes.proofs.Held.{node_takes, waits_on, waits_next, none_able, none_red, slept_at, slept_other}
 use Rattle.part_nodes.specs.Phase.{Extent, AreMine, StandsForAt, taken_before, BufferWaits, AreAwaitedAt, IsTurn, AreTurned, IsPhaseAt, going_out}
+use Rattle.law_sleeping.proofs.Passing.{node_rest}
+use Rattle.node_move.specs.declared.crossings.Entering.{Entering}
 
 -- ONE AFTER THE OTHER
 plan_is : (S : Setup) (t n : ℕ) (V : World) → turns_of S t phase.C n V ≡ node_turns S t n V

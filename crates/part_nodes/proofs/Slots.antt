@@ -1,17 +1,16 @@
 -- The slots in which the links of a part stand: those of the links into a node, and where a table finds them.
 use Rattle.traffic.proofs.Common.{◌≡◌, ◌≢◌, ℕ, ◌<◌, Bool, true, false, List, [], ◌∷◌, ◌∙◌, ap, refl, sym, arith, inl, inr, length, get_or, map, not, ◌||◌}
 use Rattle.traffic.proofs.Common.{cases_Bool, eqb, eqb-true, eqb-false, eq-eqb, ne_eqb, or_parts, true≢false, Option, None, Some, Setup, World, into, link_row}
-use Rattle.std.specs.List.{AllByRecursion as Each}
 use Rattle.traffic.proofs.Each.{each_weaker}
+use Rattle.std.specs.List.{AllByRecursion as Each}
 use Rattle.calendar.specs.Due.{AreIn}
 use Rattle.queue_link.specs.Links.{LinkView}
 use Rattle.node_move.specs.NodeStates.{IsNone, AreApart}
 use Rattle.node_seconds.specs.Networks.{lane, is_among, AreOnce, slot_in, is_nowhere}
 use Rattle.node_seconds.proofs.Lanes.{slot_is, slot_there}
 use Rattle.part_links.specs.Links.{AreNumbered, LinksStandAt}
-use Rattle.part_nodes.specs.InLinks.{slots_of}
-use Rattle.part_nodes.specs.Phase.{Extent, HasLinks}
 use Rattle.part_nodes.proofs.Seen.{number_is, into_there, into_to, among_into}
+use Rattle.part_nodes.specs.{InLinks.slots_of, Phase.Extent, Phase.HasLinks}
 
 -- NUMBERS OF SLOTS
 pub numbers_there : (S : Setup) (E : Extent) (ks : List ℕ) → AreNumbered S E.size E.number → AreIn E.size ks → AreIn (length S.links) (map E.number ks)

@@ -1,8 +1,7 @@
 -- Which links lead into a node, and in which slots they stand.
 use Rattle.std.specs.Prelude.{◌≡◌, ℕ, ◌<◌, List, [], length, filter, map, get_or, ◌==◌}
 use Rattle.rows.specs.declared.network.LinkRow.{LinkRow}
-use Rattle.traffic.specs.Lists.{below}
-use Rattle.traffic.specs.Setup.{row_at}
+use Rattle.traffic.specs.{Lists.below, Setup.row_at}
 
 -- the slots that a table gives these links
 abbrev pub slots_of : List ℕ → List ℕ → List ℕ

@@ -2,28 +2,18 @@
 -- it, and what it makes of that.
 use Rattle.std.specs.Prelude.{◌≡◌, ◌≢◌, ℕ, ◌+◌, ◌<◌, ◌≤◌, Bool, true, false, not, List, [], ◌∷◌, ◌++◌, length, map, filter, get_or, Option, None, Some}
 use Rattle.std.specs.List.{flat_map, AllByRecursion as Each}
-use Rattle.events.specs.declared.event.Event.{Event}
+use Rattle.events.specs.{Keys.phase_code, declared.event.Event.Event}
 use Rattle.events.specs.declared.event.Phase.TheVariants as phase
-use Rattle.events.specs.Keys.{phase_code}
 use Rattle.law_in_range.specs.Rows.{Counts, IsFitWorld}
 use Rattle.law_joined_routes.specs.Going.{GoesOn}
 use Rattle.parts.specs.Parts.{enters_queue}
-use Rattle.traffic.specs.declared.moves.Move.{Move}
-use Rattle.traffic.specs.declared.moves.Occurrence.{Occurrence}
-use Rattle.traffic.specs.declared.node_views.OutLink.{OutLink}
-use Rattle.traffic.specs.declared.stage.Stage.TheVariants.{Queue, Buffer}
-use Rattle.traffic.specs.declared.world.Row.{Row}
-use Rattle.traffic.specs.Lists.{below}
-use Rattle.traffic.specs.Rows.{World, at, holes_at}
-use Rattle.traffic.specs.Setup.{Setup, link_row, storage_of, seconds_of, hole_of}
-use Rattle.traffic.specs.Nodes.{next_link, taken_at}
-use Rattle.traffic.specs.Moves.{told, run}
 use Rattle.traffic.specs.Day.{Turn, keyed, node_turns, turns_of, turns, moves_of, after, events_in}
+use Rattle.traffic.specs.{Lists.below, Moves.told, Moves.run, Nodes.next_link, Nodes.taken_at, Rows.World, Rows.at, Rows.holes_at, Setup.Setup, Setup.link_row}
+use Rattle.traffic.specs.{Setup.storage_of, Setup.seconds_of, Setup.hole_of, declared.moves.Move.Move, declared.moves.Occurrence.Occurrence}
+use Rattle.traffic.specs.declared.{node_views.OutLink.OutLink, stage.Stage.TheVariants.Queue, stage.Stage.TheVariants.Buffer, world.Row.Row}
 use Rattle.calendar.specs.Waking.{wake_of}
 use Rattle.queue_link.specs.Links.{LinkView}
-use Rattle.node_move.specs.Entries.{SpaceRows}
-use Rattle.node_move.specs.declared.crossings.Entering.{Entering}
-use Rattle.node_move.specs.Spaces.{places_in}
+use Rattle.node_move.specs.{Entries.SpaceRows, Spaces.places_in, declared.crossings.Entering.Entering}
 use Rattle.node_seconds.specs.Networks.{is_among}
 use Rattle.part_links.specs.Links.{AreNumbered, LinksStandAt, AreAsleep}
 use Rattle.part_places.specs.Taking.{still}

@@ -1,17 +1,12 @@
 -- What the turn of a node asks of the links into it, and which of them it wakes.
-use Rattle.std.specs.Prelude.{◌≡◌, ℕ, ◌+◌, ◌<◌, Bool, false, not, ◌&&◌, List, [], ◌∷◌, length, map}
-use Rattle.std.specs.Prelude.{◌==◌, nat_le, nat_lt, if◌then◌else◌, Option, None, Some}
 use Rattle.std.specs.List.{list_any}
+use Rattle.std.specs.Prelude.{◌≡◌, ℕ, ◌+◌, ◌<◌, Bool, false, not, ◌&&◌, List, [], ◌∷◌, length, map, ◌==◌, nat_le, nat_lt, if◌then◌else◌, Option, None, Some}
 use Rattle.draws.specs.Words.{Source, word}
-use Rattle.rows.specs.declared.settings.Stuck.{Stuck}
-use Rattle.traffic.specs.Lists.{is_nil}
-use Rattle.traffic.specs.declared.world.Row.{Row}
-use Rattle.traffic.specs.Setup.{Setup}
-use Rattle.rows.specs.Greens.{Phases, green_at}
+use Rattle.rows.specs.{Greens.Phases, Greens.green_at, declared.settings.Stuck.Stuck}
+use Rattle.traffic.specs.{Lists.is_nil, Setup.Setup, declared.world.Row.Row}
 use Rattle.town.specs.declared.day_input.DayInput.{DayInput}
 use Rattle.law_sleeping.specs.Able.{can_go}
-use Rattle.node_move.specs.Entries.{SpaceRows}
-use Rattle.node_move.specs.Spaces.{places_in}
+use Rattle.node_move.specs.{Entries.SpaceRows, Spaces.places_in}
 use Rattle.calendar.specs.Waking.{earliest as sooner, woken_by}
 use Rattle.queue_link.specs.Links.{LinkView, front_second}
 use Rattle.node_seconds.specs.Networks.{lane}

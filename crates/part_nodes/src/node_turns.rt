@@ -4,13 +4,11 @@ ghost use Rattle.std.specs.Prelude.{◌≡◌, ◌+◌, ◌<◌, ◌++◌, [], �
 ghost use Rattle.limits.specs.declared.TheConstants.{LAST_SECOND};
 ghost use Rattle.law_in_range.specs.Setups.{counts_in, HaveFittingPlans};
 ghost use Rattle.town.specs.Views.{setup};
-ghost use Rattle.traffic.specs.Rows.{World};
-ghost use Rattle.traffic.specs.Setup.{into};
+ghost use Rattle.traffic.specs.{Rows.World, Setup.into};
 ghost use Rattle.node_seconds.specs.Networks.{lane};
 ghost use Rattle.calendar.specs.Due.{AreIn};
-ghost use Rattle.part_nodes.specs.InLinks.{slots_of};
-ghost use Rattle.part_nodes.specs.Turns.{IsTurnOf, lights_of, buffered_in, is_clear, is_emptied, wake_emptied, wake_all_emptied};
-ghost use Rattle.part_nodes.specs.Turns.{AreThere, is_buffered, only_of, HaveNumbersIn};
+ghost use Rattle.part_nodes.specs.{InLinks.slots_of, Turns.IsTurnOf, Turns.lights_of, Turns.buffered_in, Turns.is_clear};
+ghost use Rattle.part_nodes.specs.Turns.{is_emptied, wake_emptied, wake_all_emptied, AreThere, is_buffered, only_of, HaveNumbersIn};
 ghost use Rattle.part_nodes.specs.Phase.{Extent, HasLinks, LinksStandFor, LinksStandForSome, StandsForAt, Stands, IsPassed, IsTurn};
 
 use crate::network::NetworkState;

@@ -5,8 +5,7 @@ ghost use Rattle.limits.specs.declared.TheConstants.{LAST_SECOND};
 ghost use Rattle.law_sleeping.specs.Able.{can_go};
 ghost use Rattle.node_move.specs.Spaces.{places_in};
 ghost use Rattle.node_seconds.specs.Networks.{lane};
-ghost use Rattle.calendar.specs.Due.{AreIn};
-ghost use Rattle.calendar.specs.Waking.{earliest as sooner};
+ghost use Rattle.calendar.specs.{Due.AreIn, Waking.earliest as sooner};
 ghost use Rattle.traffic.specs.Nodes.{has_room};
 ghost use Rattle.part_nodes.specs.Turns.{covers, is_always, always_in, is_held, link_due, node_due, up_to, woken_again, HaveNumbersIn};
 

@@ -1,20 +1,15 @@
 -- Who begins a day in a part, and the rows of all others there.
-use Rattle.traffic.proofs.Common.{◌≡◌, ℕ, zero, suc, ◌+◌, ◌<◌, Bool, true, false, List, [], ◌∷◌, ◌∙◌, ap, refl, sym, subst, arith, inl, inr}
-use Rattle.traffic.proofs.Common.{length, length-map, get_or, get_or_past, get_or-map, map, plan_rows, if◌then◌else◌, cases_lt, PlanRows, eqb}
-use Rattle.traffic.proofs.Common.{World, Setup, world_start, person_of, at_home, numbers, below}
+use Rattle.traffic.proofs.Common.{◌≡◌, ℕ, zero, suc, ◌+◌, ◌<◌, Bool, true, false, List, [], ◌∷◌, ◌∙◌, ap, refl, sym, subst, arith, inl, inr, length, length-map}
+use Rattle.traffic.proofs.Common.{get_or, get_or_past, get_or-map, map, plan_rows, if◌then◌else◌, cases_lt, PlanRows, eqb, World, Setup, world_start, person_of}
+use Rattle.traffic.proofs.Common.{at_home, numbers, below}
+use Rattle.traffic.specs.{Rows.nobody, Setup.person_plan, declared.world.Person.Person}
 use Rattle.std.specs.Prelude.{◌++◌}
 use Rattle.std.proofs.lemmas.List.{ext_get_or, length_push, get_or_push, get_or_append_left}
-use Rattle.traffic.specs.declared.world.Person.{Person}
-use Rattle.traffic.specs.Rows.{nobody}
-use Rattle.law_in_range.specs.Rows.{Counts, IsFitPerson, IsFitWorld}
-use Rattle.law_in_range.specs.Setups.{counts_in, HaveFittingPlans}
 use Rattle.law_in_range.proofs.Days.{start_is_fit}
-use Rattle.town.specs.declared.day_input.DayInput.{DayInput}
-use Rattle.town.specs.Views.{setup}
-use Rattle.town.specs.Setups.{setup_of}
+use Rattle.law_in_range.specs.{Rows.Counts, Rows.IsFitPerson, Rows.IsFitWorld, Setups.counts_in, Setups.HaveFittingPlans}
+use Rattle.town.specs.{Setups.setup_of, Views.setup, declared.day_input.DayInput.DayInput}
 use Rattle.parts.specs.Owners.{Owner, owner_of, owner_of_person, link_at}
 use Rattle.partition.specs.Homes.{home_of, homes_of}
-use Rattle.traffic.specs.Setup.{person_plan}
 use Rattle.part_persons.specs.Own.{own_person, own_persons, row_of, first_row, first_rows}
 
 -- ROWS BY NUMBER

@@ -1,18 +1,12 @@
 -- Departures by their seconds.
 use Rattle.std.proofs.Common.{◌≡◌, ℕ, suc, ◌+◌, ◌<◌, Bool, true, false, List, [], ◌∷◌, ◌++◌, length, get_or, take, refl, ap, sym, ◌∙◌, inl, inr, arith, eqb}
-use Rattle.std.specs.Prelude.{filter, ◌&&◌, if◌then◌else◌}
-use Rattle.std.proofs.lemmas.Bool.{cases_Bool, eqb-true, eqb-false, ne_eqb, eq-eqb}
-use Rattle.std.proofs.lemmas.List.{take_more, length-take, get_or-map, length-map}
+use Rattle.std.proofs.lemmas.{Bool.cases_Bool, Bool.eqb-true, Bool.eqb-false, Bool.ne_eqb, Bool.eq-eqb, List.take_more, List.length-take, List.get_or-map}
+use Rattle.std.{proofs.lemmas.List.length-map, specs.Prelude.filter, specs.Prelude.◌&&◌, specs.Prelude.if◌then◌else◌}
 use Rattle.rows.specs.declared.schedule.DepartureRow.{DepartureRow}
-use Rattle.traffic.specs.Lists.{below, numbers}
-use Rattle.traffic.specs.Setup.{Departure, departure}
+use Rattle.traffic.specs.{Lists.below, Lists.numbers, Setup.Departure, Setup.departure}
 use Rattle.parts.specs.Owners.{Owner, owner_of}
-use Rattle.town.specs.declared.day_input.DayInput.{DayInput}
-use Rattle.town.specs.Setups.{setup_of, departure_of}
-use Rattle.town.specs.Views.{setup}
-use Rattle.part_persons.specs.Own.{starts_in, own_departs_in}
-use Rattle.part_persons.specs.Phases.{numbers_where}
-use Rattle.part_persons.specs.Starts.{is_due}
+use Rattle.town.specs.{Setups.setup_of, Setups.departure_of, Views.setup, declared.day_input.DayInput.DayInput}
+use Rattle.part_persons.specs.{Own.starts_in, Own.own_departs_in, Phases.numbers_where, Starts.is_due}
 
 no_row : DepartureRow
 no_row = record { route = 0; second = 0; seats = 0 }

@@ -1,31 +1,23 @@
 -- Who is not woken has nothing to do in the phases in which persons land and leave.
-use Rattle.traffic.proofs.Common.{◌≡◌, ◌≢◌, ℕ, ◌+◌, ◌<◌, Bool, true, false, List, ◌∙◌, ap, refl, sym, subst, [], ◌∷◌, ◌++◌, inl, inr, arith, length, get_or, cases_Bool, eqb, eqb-true, eq-eqb, eqb-false, ne_eqb, true≢false, append-nil, append_assoc, length-map, get_or-map}
-use Rattle.traffic.proofs.Common.{filter, map, ◌||◌, or_parts, Some, None, Option, Event, after, events_in, turns, turns_of, turns_in, TurnMoves, through, told_in, run, World, Setup, person_of, landing, leaving, landing_moves, leaving_moves, landing_turns, leaving_turns, departure_turns, below, numbers, act_at, leg_at, act_after, departure, Leg, Act}
-use Rattle.traffic.specs.declared.moves.Move.{Move}
-use Rattle.traffic.specs.declared.world.Place.{Place}
-use Rattle.traffic.specs.declared.world.Place.TheVariants.{At, Teleporting}
-use Rattle.traffic.specs.declared.world.Person.{Person}
+use Rattle.traffic.proofs.Common.{◌≡◌, ◌≢◌, ℕ, ◌+◌, ◌<◌, Bool, true, false, List, ◌∙◌, ap, refl, sym, subst, [], ◌∷◌, ◌++◌, inl, inr, arith, length, get_or}
+use Rattle.traffic.proofs.Common.{cases_Bool, eqb, eqb-true, eq-eqb, eqb-false, ne_eqb, true≢false, append-nil, append_assoc, length-map, get_or-map, filter}
+use Rattle.traffic.proofs.Common.{map, ◌||◌, or_parts, Some, None, Option, Event, after, events_in, turns, turns_of, turns_in, TurnMoves, through, told_in, run}
+use Rattle.traffic.proofs.Common.{World, Setup, person_of, landing, leaving, landing_moves, leaving_moves, landing_turns, leaving_turns, departure_turns, below}
+use Rattle.traffic.proofs.Common.{numbers, act_at, leg_at, act_after, departure, Leg, Act}
+use Rattle.traffic.proofs.{Each.each_all, Each.each_number, Each.each_weaker, Each.each_kept, Idle.departure_idle}
+use Rattle.traffic.proofs.Persons.{flights_apart, leaves_apart, departures_apart, other_person, TellOf, landing_moves-of, leaving_moves-of}
+use Rattle.traffic.{proofs.Turns.Distinct, proofs.Turns.Distinct-numbers, specs.Rows.nobody, specs.declared.moves.Move.Move}
+use Rattle.traffic.specs.declared.world.{Person.Person, Place.Place, Place.TheVariants.At, Place.TheVariants.Teleporting}
 use Rattle.std.specs.List.{AllByRecursion as Each}
 use Rattle.events.specs.declared.event.Phase.TheVariants as phase
 use Rattle.rows.specs.declared.plan.Leg.TheVariants as leg
-use Rattle.traffic.specs.Rows.{nobody}
-use Rattle.traffic.proofs.Each.{each_all, each_number, each_weaker, each_kept}
-use Rattle.traffic.proofs.Turns.{Distinct, Distinct-numbers}
-use Rattle.traffic.proofs.Persons.{flights_apart, leaves_apart, departures_apart, other_person, TellOf, landing_moves-of, leaving_moves-of}
-use Rattle.traffic.proofs.Idle.{departure_idle}
-use Rattle.law_in_range.specs.Rows.{IsFitWorld}
-use Rattle.law_in_range.specs.Setups.{counts_in}
-use Rattle.town.specs.declared.day_input.DayInput.{DayInput}
-use Rattle.town.specs.Setups.{setup_of}
-use Rattle.town.specs.Views.{setup}
+use Rattle.law_in_range.specs.{Rows.IsFitWorld, Setups.counts_in}
+use Rattle.town.specs.{Setups.setup_of, Views.setup, declared.day_input.DayInput.DayInput}
+use Rattle.calendar.{proofs.Woken.AreNumbers, proofs.Woken.woken_is, specs.Due.AreIn}
 use Rattle.calendar.specs.Waking.{wake_of, is_second, is_woken, woken, slept}
-use Rattle.calendar.proofs.Woken.{AreNumbers, woken_is}
-use Rattle.part_persons.specs.Dues.{due_at_place, person_due, AreFollowed}
+use Rattle.part_persons.proofs.{InOrder.all_turns, InOrder.after_more, Skipping.Idle, Skipping.distinct_filter, Skipping.skip_world, Skipping.skip_events}
+use Rattle.part_persons.specs.{Dues.due_at_place, Dues.person_due, Dues.AreFollowed, Own.starts_in, Own.own_departures, Own.own_departs_in}
 use Rattle.parts.specs.Owners.{Owner}
-use Rattle.part_persons.specs.Own.{starts_in, own_departures, own_departs_in}
-use Rattle.calendar.specs.Due.{AreIn}
-use Rattle.part_persons.proofs.InOrder.{all_turns, after_more}
-use Rattle.part_persons.proofs.Skipping.{Idle, distinct_filter, skip_world, skip_events}
 
 -- NOTHING TO DO
 landing_none : (t i : ℕ) (w : Leg) (next : Act) (pl : Place) → due_at_place w pl ≢ Some t → landing t i w next pl ≡ []

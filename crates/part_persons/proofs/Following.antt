@@ -1,10 +1,7 @@
 -- Times are kept for each person.
-use Rattle.std.proofs.Common.{◌≡◌, ℕ, List, length, refl, inl, inr}
+use Rattle.std.proofs.{Common.◌≡◌, Common.ℕ, Common.List, Common.length, Common.refl, Common.inl, Common.inr, lemmas.Bool.cases_Bool, lemmas.List.length-set}
 use Rattle.std.specs.Prelude.{Option, None, Some, nat_lt}
-use Rattle.std.proofs.lemmas.Bool.{cases_Bool}
-use Rattle.std.proofs.lemmas.List.{length-set}
-use Rattle.traffic.specs.declared.world.Person.{Person}
-use Rattle.traffic.specs.Setup.{Setup}
+use Rattle.traffic.specs.{Setup.Setup, declared.world.Person.Person}
 use Rattle.part_persons.specs.Dues.{followed_one, followed}
 
 one_length : (S : Setup) (end : ℕ) (persons : List Person) (i : ℕ) (wakes : List (Option ℕ)) → length (followed_one S end persons i wakes) ≡ length wakes

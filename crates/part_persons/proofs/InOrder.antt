@@ -1,9 +1,8 @@
 -- Turns one after the other.
 use Rattle.traffic.proofs.Common.{◌≡◌, ℕ, zero, suc, ◌+◌, ◌<◌, ◌≤◌, List, ◌∙◌, ap, refl, sym, subst, arith, [], ◌∷◌, ◌++◌, length, get_or}
 use Rattle.traffic.proofs.Common.{append-nil, append_assoc, Event, Phase, turns_of, moves_of, after, events_in, Turn, turns, events_of, run, World, Setup}
-use Rattle.std.proofs.Common.{drop}
-use Rattle.std.proofs.lemmas.List.{drop_more}
 use Rattle.traffic.proofs.Sublists.{run-append}
+use Rattle.std.proofs.{Common.drop, lemmas.List.drop_more}
 use Rattle.calendar.specs.Due.{AreIn}
 
 abbrev pub turn : Setup → ℕ → Phase → ℕ → World → Turn

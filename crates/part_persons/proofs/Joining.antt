@@ -1,25 +1,17 @@
 -- The phases in which persons land and leave and departures start look at persons alone: in a world with the same persons they tell the
 -- same, and let the same vehicles in.
-use Rattle.traffic.proofs.Common.{◌≡◌, ℕ, ◌<◌, List, ◌∙◌, ap, refl, sym, subst, [], ◌∷◌, ◌++◌, length, append-nil, append_assoc, map, All-from_recursion}
-use Rattle.traffic.proofs.Common.{Event, after, events_in, turns, turns_of, turns_in, TurnMoves, count_of, through, told_in, run, done, World, Setup, person_of}
+use Rattle.traffic.proofs.Common.{◌≡◌, ℕ, ◌<◌, List, ◌∙◌, ap, refl, sym, subst, [], ◌∷◌, ◌++◌, length, append-nil, append_assoc, map, All-from_recursion, Event}
+use Rattle.traffic.proofs.Common.{after, events_in, turns, turns_of, turns_in, TurnMoves, count_of, through, told_in, run, done, World, Setup, person_of}
 use Rattle.traffic.proofs.Common.{sets_out, landing_moves, leaving_moves, departure_moves, Leg, Act, leg_at, act_after, below}
-use Rattle.std.proofs.Common.{get_or}
-use Rattle.std.specs.List.{AllByRecursion as Each, All}
-use Rattle.rows.specs.declared.plan.Leg.TheVariants as leg
-use Rattle.traffic.specs.declared.moves.Move.{Move}
+use Rattle.traffic.proofs.{Each.each_append, Walks.flight_walk, Walks.leave_walk, Walks.departure_walk}
+use Rattle.traffic.specs.{Rows.nobody, declared.moves.Move.Move}
 use Rattle.traffic.specs.declared.moves.Move.TheVariants.{Transfer, Remove, Enter, SetFrontSince, Credit, LeaveHole, Report}
-use Rattle.traffic.specs.declared.world.Person.{Person}
-use Rattle.traffic.specs.declared.stage.Stage.TheVariants.{Wait}
-use Rattle.traffic.specs.declared.world.Row.{Row}
-use Rattle.traffic.specs.declared.world.Hole.{Hole}
-use Rattle.traffic.specs.Rows.{nobody}
-use Rattle.traffic.proofs.Each.{each_append}
-use Rattle.traffic.proofs.Walks.{flight_walk, leave_walk, departure_walk}
+use Rattle.traffic.specs.declared.{stage.Stage.TheVariants.Wait, world.Hole.Hole, world.Person.Person, world.Row.Row}
+use Rattle.std.{proofs.Common.get_or, specs.List.AllByRecursion as Each, specs.List.All}
+use Rattle.rows.specs.declared.plan.Leg.TheVariants as leg
 use Rattle.law_in_range.specs.Rows.{Counts, IsFitWorld, IsFitRow, IsFitPerson}
-use Rattle.part_persons.specs.declared.phases.EarlyPhase.{EarlyPhase}
-use Rattle.part_persons.specs.declared.phases.EarlyPhase.TheVariants.{Land, Leave, Start}
-use Rattle.part_persons.specs.Phases.{phase_of, joined}
-use Rattle.part_persons.proofs.InOrder.{after_more}
+use Rattle.part_persons.{proofs.InOrder.after_more, specs.Phases.phase_of, specs.Phases.joined}
+use Rattle.part_persons.specs.declared.phases.EarlyPhase.{EarlyPhase, TheVariants.Land, TheVariants.Leave, TheVariants.Start}
 
 -- A MOVE
 -- a vehicle that is let in stands last in a wait list

@@ -1,8 +1,8 @@
 -- Turns that move nothing may be left out.
-use Rattle.traffic.proofs.Common.{◌≡◌, ℕ, Bool, false, List, ◌∙◌, ap, refl, sym, [], ◌∷◌, ◌++◌, inl, inr, cases_Bool, filter, map, flat_map, Event, Phase, moves_of, after, events_in, turns, run, World, Setup, TurnMoves, Turn, Apart, turn_of, keyed, events_of}
-use Rattle.traffic.specs.declared.moves.Move.{Move}
+use Rattle.traffic.proofs.Common.{◌≡◌, ℕ, Bool, false, List, ◌∙◌, ap, refl, sym, [], ◌∷◌, ◌++◌, inl, inr, cases_Bool, filter, map, flat_map, Event, Phase}
+use Rattle.traffic.proofs.Common.{moves_of, after, events_in, turns, run, World, Setup, TurnMoves, Turn, Apart, turn_of, keyed, events_of}
+use Rattle.traffic.{proofs.Turns.Fresh, proofs.Turns.Distinct, proofs.Turns.turns_at_once, proofs.Turns.moves_of-map, specs.declared.moves.Move.Move}
 use Rattle.std.specs.List.{AllByRecursion as Each}
-use Rattle.traffic.proofs.Turns.{Fresh, Distinct, turns_at_once, moves_of-map}
 
 fresh_filter : (p : ℕ → Bool) (x : ℕ) (ns : List ℕ) → Fresh x ns → Fresh x (filter p ns)
 fresh_filter p x [] h = tt

@@ -1,19 +1,12 @@
 -- Who is told of is followed, and nobody else is changed.
 use Rattle.std.proofs.Common.{◌≡◌, ◌≢◌, ℕ, ◌+◌, ◌<◌, ◌≤◌, Bool, true, false, List, [], ◌∷◌, ◌++◌, length, get_or, refl, ap, sym, ◌∙◌, inl, inr, arith, eqb}
+use Rattle.std.proofs.lemmas.{Bool.cases_Bool, Bool.eqb-true, Bool.eqb-false, Bool.or_parts, Bool.lt-ltb, List.get_or-set_same, List.get_or-set_other}
+use Rattle.std.{proofs.lemmas.List.length-set, specs.List.flat_map}
 use Rattle.std.specs.Prelude.{Option, None, Some, nat_lt, ◌||◌, set}
-use Rattle.std.specs.List.{flat_map}
-use Rattle.std.proofs.lemmas.Bool.{cases_Bool, eqb-true, eqb-false, or_parts, lt-ltb}
-use Rattle.std.proofs.lemmas.List.{get_or-set_same, get_or-set_other, length-set}
-use Rattle.traffic.specs.declared.moves.Move.{Move}
-use Rattle.traffic.specs.declared.moves.Occurrence.{Occurrence}
-use Rattle.traffic.specs.declared.world.Person.{Person}
-use Rattle.traffic.specs.Rows.{World, nobody}
-use Rattle.traffic.specs.Setup.{Setup}
-use Rattle.traffic.specs.Moves.{told, run, done, persons_by, persons_after}
-use Rattle.traffic.proofs.Sublists.{persons-length}
+use Rattle.traffic.{proofs.Sublists.persons-length, specs.Moves.told, specs.Moves.run, specs.Moves.done, specs.Moves.persons_by, specs.Moves.persons_after}
+use Rattle.traffic.specs.{Rows.World, Rows.nobody, Setup.Setup, declared.moves.Move.Move, declared.moves.Occurrence.Occurrence, declared.world.Person.Person}
 use Rattle.calendar.specs.Waking.{wake_of, within}
-use Rattle.part_persons.specs.Dues.{person_due, followed, followed_all, AreFollowed}
-use Rattle.part_persons.proofs.Following.{followed_length}
+use Rattle.part_persons.{proofs.Following.followed_length, specs.Dues.person_due, specs.Dues.followed, specs.Dues.followed_all, specs.Dues.AreFollowed}
 
 -- whether a person is told of
 pub is_his : ℕ → Option ℕ → Bool

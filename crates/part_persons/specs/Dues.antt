@@ -2,15 +2,10 @@
 use Rattle.std.specs.Prelude.{◌≡◌, ℕ, ◌+◌, ◌<◌, ◌≤◌, List, [], ◌∷◌, length, get_or, set, nat_lt, if◌then◌else◌, Option, None, Some}
 use Rattle.rows.specs.declared.plan.Leg.{Leg}
 use Rattle.rows.specs.declared.plan.Leg.TheVariants as leg
-use Rattle.traffic.specs.declared.moves.Occurrence.{Occurrence}
-use Rattle.traffic.specs.declared.world.Place.{Place}
-use Rattle.traffic.specs.declared.world.Place.TheVariants.{At, Teleporting, Waiting, Riding, Aborted}
-use Rattle.traffic.specs.declared.world.Person.{Person}
-use Rattle.traffic.specs.Rows.{nobody}
-use Rattle.traffic.specs.Setup.{Setup, leg_at}
+use Rattle.traffic.specs.{Rows.nobody, Setup.Setup, Setup.leg_at, declared.moves.Occurrence.Occurrence, declared.world.Person.Person}
+use Rattle.traffic.specs.declared.world.Place.{Place, TheVariants.At, TheVariants.Teleporting, TheVariants.Waiting, TheVariants.Riding, TheVariants.Aborted}
 use Rattle.calendar.specs.Waking.{wake_of, within}
-use Rattle.town.specs.declared.day_input.DayInput.{DayInput}
-use Rattle.town.specs.Views.{setup}
+use Rattle.town.specs.{Views.setup, declared.day_input.DayInput.DayInput}
 
 -- the seconds of a leg, where it is teleported
 abbrev pub seconds_of : Leg → Option ℕ

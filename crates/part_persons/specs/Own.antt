@@ -1,10 +1,7 @@
 -- Who begins a day in one partition of its network, and which departures start there.
 use Rattle.std.specs.Prelude.{ℕ, Bool, List, length, map, filter, get_or, ◌==◌, if◌then◌else◌}
-use Rattle.traffic.specs.declared.world.Person.{Person}
-use Rattle.traffic.specs.Lists.{below}
-use Rattle.traffic.specs.Rows.{nobody, person_of}
-use Rattle.traffic.specs.Setup.{Setup, person_plan, departure}
 use Rattle.traffic.specs.Day.{at_home, world_start}
+use Rattle.traffic.specs.{Lists.below, Rows.nobody, Rows.person_of, Setup.Setup, Setup.person_plan, Setup.departure, declared.world.Person.Person}
 use Rattle.parts.specs.Owners.{Owner, owner_of, owner_of_person}
 
 -- the persons of partition p at the start of a day; nobody stands for each of the others

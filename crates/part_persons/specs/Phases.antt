@@ -4,8 +4,7 @@ use Rattle.events.specs.declared.event.Phase.{Phase}
 use Rattle.events.specs.declared.event.Phase.TheVariants as phase
 use Rattle.rows.specs.declared.schedule.DepartureRow.{DepartureRow}
 use Rattle.traffic.specs.Rows.{World}
-use Rattle.part_persons.specs.declared.phases.EarlyPhase.{EarlyPhase}
-use Rattle.part_persons.specs.declared.phases.EarlyPhase.TheVariants.{Land, Leave, Start}
+use Rattle.part_persons.specs.declared.phases.EarlyPhase.{EarlyPhase, TheVariants.Land, TheVariants.Leave, TheVariants.Start}
 
 abbrev pub phase_of : EarlyPhase → Phase
 phase_of Land = phase.A

@@ -2,9 +2,7 @@
 use Rattle.std.specs.Prelude.{ℕ, Bool, ◌&&◌, get_or, ◌==◌}
 use Rattle.rows.specs.declared.schedule.DepartureRow.{DepartureRow}
 use Rattle.parts.specs.Owners.{Owner, owner_of}
-use Rattle.town.specs.declared.day_input.DayInput.{DayInput}
-use Rattle.town.specs.Setups.{route_at}
-use Rattle.town.specs.Views.{setup}
+use Rattle.town.specs.{Setups.route_at, Views.setup, declared.day_input.DayInput.DayInput}
 
 -- whether the departure of a row starts on a link of partition p, and whether it does so in second t
 abbrev pub is_start : DayInput → Owner → ℕ → DepartureRow → Bool

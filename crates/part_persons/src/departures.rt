@@ -1,15 +1,11 @@
 //! The departures of a partition by their seconds.
 
-ghost use Rattle.std.specs.Prelude.{◌≡◌, ℕ, ◌<◌, ◌≤◌, ◌++◌, [], ◌∷◌, ◌&&◌, ◌==◌, if◌then◌else◌};
-ghost use Rattle.std.specs.Prelude.{get_or, length, OnOk, IfOk};
+ghost use Rattle.std.specs.Prelude.{◌≡◌, ℕ, ◌<◌, ◌≤◌, ◌++◌, [], ◌∷◌, ◌&&◌, ◌==◌, if◌then◌else◌, get_or, length, OnOk, IfOk};
 ghost use Rattle.limits.specs.declared.TheConstants.{MAX_DEPARTURES};
 ghost use Rattle.calendar.specs.Due.{due_at};
 ghost use Rattle.partition.specs.Owned.{owner_in};
-ghost use Rattle.town.specs.Setups.{route_at};
-ghost use Rattle.town.specs.Views.{setup};
-ghost use Rattle.part_persons.specs.Own.{own_departs_in};
-ghost use Rattle.part_persons.specs.Phases.{numbers_where};
-ghost use Rattle.part_persons.specs.Starts.{is_start, is_due};
+ghost use Rattle.town.specs.{Setups.route_at, Views.setup};
+ghost use Rattle.part_persons.specs.{Own.own_departs_in, Phases.numbers_where, Starts.is_start, Starts.is_due};
 
 use calendar::Calendar;
 use partition::{Owner, owner_of_link};

@@ -2,8 +2,7 @@
 
 ghost use Rattle.std.specs.Prelude.{◌≡◌, ◌<◌, ℕ, Some, length, set, OnOk};
 ghost use Rattle.town.specs.Views.{setup};
-ghost use Rattle.traffic.specs.Rows.{nobody, person_of};
-ghost use Rattle.traffic.specs.Setup.{Setup};
+ghost use Rattle.traffic.specs.{Rows.nobody, Rows.person_of, Setup.Setup};
 ghost use Rattle.part_persons.specs.Dues.{AreFollowed, AreFollowedIn, followed};
 
 use crate::hearing::follow;

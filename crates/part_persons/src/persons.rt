@@ -1,14 +1,12 @@
 //! The persons of a day.
 
 ghost use Rattle.std.specs.Prelude.{◌≡◌, ℕ, ◌<◌, length, IfOk};
-ghost use Rattle.law_in_range.specs.Rows.{IsFitWorld};
-ghost use Rattle.law_in_range.specs.Setups.{counts_in, HaveFittingPlans};
+ghost use Rattle.law_in_range.specs.{Rows.IsFitWorld, Setups.counts_in, Setups.HaveFittingPlans};
 ghost use Rattle.partition.specs.Homes.{homes_of};
 ghost use Rattle.parts.specs.Owners.{Owner};
 ghost use Rattle.town.specs.Views.{setup};
 ghost use Rattle.traffic.specs.Day.{world_start};
-ghost use Rattle.part_persons.specs.Dues.{AreFollowedIn};
-ghost use Rattle.part_persons.specs.Own.{own_persons};
+ghost use Rattle.part_persons.specs.{Dues.AreFollowedIn, Own.own_persons};
 
 use crate::hearing::follow_everybody;
 use crate::homes::first_rows;

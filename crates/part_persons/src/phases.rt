@@ -3,16 +3,12 @@
 ghost use Rattle.std.specs.Prelude.{◌≡◌, ℕ, ◌+◌, ◌<◌, ◌++◌, [], ◌∷◌, false, length, OnOk, IfOk};
 ghost use Rattle.limits.specs.declared.TheConstants.{LAST_SECOND};
 ghost use Rattle.events.specs.declared.event.Phase.TheVariants as phase;
-ghost use Rattle.law_in_range.specs.Rows.{IsFitWorld};
-ghost use Rattle.law_in_range.specs.Setups.{counts_in, HaveFittingPlans};
+ghost use Rattle.law_in_range.specs.{Rows.IsFitWorld, Setups.counts_in, Setups.HaveFittingPlans};
 ghost use Rattle.town.specs.Views.{setup};
-ghost use Rattle.traffic.specs.Rows.{person_of};
-ghost use Rattle.traffic.specs.Moves.{run};
 ghost use Rattle.traffic.specs.Day.{turns_of, departure_turns, count_of, turns, after, events_of, events_in, through, told_in};
-ghost use Rattle.calendar.specs.Due.{due_at, HasNone, AreIn};
-ghost use Rattle.calendar.specs.Waking.{woken, is_woken};
-ghost use Rattle.part_persons.specs.Dues.{AreFollowedIn};
-ghost use Rattle.part_persons.specs.Phases.{phase_of};
+ghost use Rattle.traffic.specs.{Moves.run, Rows.person_of};
+ghost use Rattle.calendar.specs.{Due.due_at, Due.HasNone, Due.AreIn, Waking.woken, Waking.is_woken};
+ghost use Rattle.part_persons.specs.{Dues.AreFollowedIn, Phases.phase_of};
 
 use crate::persons::Persons;
 use crate::turns::PhaseTurn;

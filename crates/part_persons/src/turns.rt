@@ -1,12 +1,10 @@
 //! The turns of a phase as far as persons are concerned.
 
-ghost use Rattle.std.specs.Prelude.{◌≡◌, ℕ, ◌<◌, ◌++◌, length, OnOk};
-ghost use Rattle.std.specs.List.{flat_map};
+ghost use Rattle.std.specs.{List.flat_map, Prelude.◌≡◌, Prelude.ℕ, Prelude.◌<◌, Prelude.◌++◌, Prelude.length, Prelude.OnOk};
 ghost use Rattle.limits.specs.declared.TheConstants.{LAST_SECOND};
 ghost use Rattle.events.specs.Keys.{phase_code};
 ghost use Rattle.town.specs.Views.{setup};
-ghost use Rattle.traffic.specs.Moves.{told, run, persons_after};
-ghost use Rattle.traffic.specs.Day.{keyed};
+ghost use Rattle.traffic.specs.{Day.keyed, Moves.told, Moves.run, Moves.persons_after};
 ghost use Rattle.part_persons.specs.Dues.{AreFollowedIn, followed_in};
 
 use crate::hearing::follow_all;

@@ -1,10 +1,8 @@
 -- How many seconds are late, and how often a number stands in a list.
 use Rattle.std.proofs.Common.{◌≡◌, ℕ, zero, suc, ◌+◌, Bool, cond, true, false, List, [], ◌∷◌, ◌++◌, refl, ap, sym, ◌∙◌, eqb, inl, inr, arith}
+use Rattle.std.proofs.lemmas.{Bool.cases_Bool, Bool.ne_eqb, Bool.true≢false, Bool.Decides.nat_tests, List.Sums.sum_by-cons}
 use Rattle.std.specs.Prelude.{count_by, filter, map, nat_le, nat_lt, replicate, ◌==◌}
 use Rattle.traffic.specs.Nodes.{in_force}
-use Rattle.std.proofs.lemmas.Bool.{cases_Bool, ne_eqb, true≢false}
-use Rattle.std.proofs.lemmas.Bool.Decides.{nat_tests}
-use Rattle.std.proofs.lemmas.List.Sums.{sum_by-cons}
 use Rattle.part_places.specs.Taking.{still, times}
 
 abbrev pub one : (ℕ → Bool) → ℕ → ℕ

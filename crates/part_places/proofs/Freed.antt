@@ -1,14 +1,11 @@
 -- The places of a second come free.
 use Rattle.std.proofs.Common.{◌≡◌, ℕ, ◌+◌, ◌-◌, ◌<◌, List, refl, ap, sym, ◌∙◌, arith, eqb, Bool, true, false}
-use Rattle.std.specs.Prelude.{filter, Option, Some}
-use Rattle.std.proofs.lemmas.Bool.{ne_eqb, le-leb}
+use Rattle.std.{proofs.lemmas.Bool.ne_eqb, proofs.lemmas.Bool.le-leb, specs.Prelude.filter, specs.Prelude.Option, specs.Prelude.Some}
 use Rattle.traffic.specs.declared.node_views.OutLink.{OutLink}
 use Rattle.calendar.specs.Due.{due_at, HasNone}
-use Rattle.node_move.specs.Pages.{number_of}
-use Rattle.node_move.specs.Spaces.{places_in}
-use Rattle.part_places.specs.declared.places.Places.{Places}
-use Rattle.part_places.specs.Taking.{Taking, AreTakenOf, IsFull, fewer, is_full, is_full_in, still, times}
-use Rattle.part_places.proofs.Counting.{still_split, times_passed}
+use Rattle.node_move.specs.{Pages.number_of, Spaces.places_in}
+use Rattle.part_places.{proofs.Counting.still_split, proofs.Counting.times_passed, specs.Taking.Taking, specs.Taking.AreTakenOf}
+use Rattle.part_places.specs.{Taking.IsFull, Taking.fewer, Taking.is_full, Taking.is_full_in, Taking.still, Taking.times, declared.places.Places.Places}
 
 unfoldable pub with_taken : ℕ → ℕ → Taking → Option OutLink
 with_taken n m T = Some (record { taken = n; storage = T.storage m; seconds = T.seconds m })

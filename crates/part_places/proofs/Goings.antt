@@ -3,13 +3,9 @@ use Rattle.std.proofs.Common.{◌≡◌, ◌≢◌, ℕ, ◌+◌, ◌-◌, ◌<�
 use Rattle.std.specs.Prelude.{nat_le, replicate, ◌==◌, if◌then◌else◌}
 use Rattle.std.proofs.lemmas.Bool.{cases_Bool, eqb-true, eqb-false, eq-eqb, ne_eqb, le-leb}
 use Rattle.calendar.specs.Due.{due_at}
-use Rattle.node_move.specs.Entries.{SpaceRows}
-use Rattle.node_move.specs.Pages.{number_of}
-use Rattle.node_move.specs.Spaces.{places_in}
-use Rattle.part_places.specs.declared.places.Places.{Places}
-use Rattle.part_places.specs.Taking.{Taking, AreTakenOf, still, times, taken_in, later}
-use Rattle.part_places.proofs.Counting.{count_more, count_same}
-use Rattle.part_places.proofs.Freed.{with_taken}
+use Rattle.node_move.specs.{Entries.SpaceRows, Pages.number_of, Spaces.places_in}
+use Rattle.part_places.proofs.{Counting.count_more, Counting.count_same, Freed.with_taken}
+use Rattle.part_places.specs.{Taking.Taking, Taking.AreTakenOf, Taking.still, Taking.times, Taking.taken_in, Taking.later, declared.places.Places.Places}
 
 -- so many vehicles are in the queue of a link: its places that are taken and are no holes
 pub queued_is : (begins : ℕ → Bool) (count end t l taken holes : ℕ) (T : Taking) (P : Places) → l < count → begins l ≡ true

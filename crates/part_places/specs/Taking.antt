@@ -1,12 +1,9 @@
 -- How the places of links are taken: by the rows of their queues, and by places that were left and are not free yet.
-use Rattle.std.specs.Prelude.{◌≡◌, ℕ, ◌+◌, ◌-◌, ◌<◌, ◌≤◌, Bool, true, false, List, [], ◌++◌, replicate, count_by, nat_le, ◌==◌, if◌then◌else◌, Option, None, Some}
-use Rattle.std.specs.List.{Contains}
-use Rattle.traffic.specs.declared.node_views.OutLink.{OutLink}
-use Rattle.traffic.specs.Setup.{Setup, storage_of, seconds_of}
+use Rattle.std.specs.{List.Contains, Prelude.◌≡◌}
+use Rattle.std.specs.Prelude.{ℕ, ◌+◌, ◌-◌, ◌<◌, ◌≤◌, Bool, true, false, List, [], ◌++◌, replicate, count_by, nat_le, ◌==◌, if◌then◌else◌, Option, None, Some}
+use Rattle.traffic.specs.{Setup.Setup, Setup.storage_of, Setup.seconds_of, declared.node_views.OutLink.OutLink}
 use Rattle.calendar.specs.Due.{due_at}
-use Rattle.node_move.specs.Entries.{SpaceRows}
-use Rattle.node_move.specs.Pages.{number_of}
-use Rattle.node_move.specs.Spaces.{places_in}
+use Rattle.node_move.specs.{Entries.SpaceRows, Pages.number_of, Spaces.places_in}
 use Rattle.parts.specs.Owners.{Owner, begins_in}
 use Rattle.part_places.specs.declared.places.Places.{Places}
 

@@ -1,10 +1,8 @@
 //! Places come free.
 
-ghost use Rattle.std.specs.Prelude.{◌≡◌, ℕ, ◌+◌, ◌-◌, ◌<◌, Bool, true, ◌==◌, if◌then◌else◌};
-ghost use Rattle.std.specs.Prelude.{filter, OnOk, IfOk};
+ghost use Rattle.std.specs.Prelude.{◌≡◌, ℕ, ◌+◌, ◌-◌, ◌<◌, Bool, true, ◌==◌, if◌then◌else◌, filter, OnOk, IfOk};
 ghost use Rattle.calendar.specs.Due.{due_at};
-ghost use Rattle.node_move.specs.Pages.{number_of};
-ghost use Rattle.node_move.specs.Spaces.{places_in};
+ghost use Rattle.node_move.specs.{Pages.number_of, Spaces.places_in};
 ghost use Rattle.part_places.specs.Taking.{Taking, AreTakenOf, IsFull, fewer, is_full_in, times};
 
 use crate::places::Places;

@@ -1,22 +1,18 @@
 -- Persons who come.
-use Rattle.traffic.proofs.Common.{◌≡◌, ◌≢◌, ℕ, zero, suc, ◌+◌, ◌<◌, ◌≤◌, List, [], ◌∷◌, ◌++◌, ◌∙◌, ap, refl, sym, arith, inl, inr}
-use Rattle.traffic.proofs.Common.{cases_Bool, length, set, take, flat_map, map, eqb, eqb-true, eqb-false, get_or-set_same, get_or-set_other}
-use Rattle.traffic.proofs.Common.{length-set, Setup, World, person_of, nobody, get_or, append-nil, append_assoc, VehicleId, add-one}
+use Rattle.traffic.proofs.Common.{◌≡◌, ◌≢◌, ℕ, zero, suc, ◌+◌, ◌<◌, ◌≤◌, List, [], ◌∷◌, ◌++◌, ◌∙◌, ap, refl, sym, arith, inl, inr, cases_Bool, length, set}
+use Rattle.traffic.proofs.Common.{take, flat_map, map, eqb, eqb-true, eqb-false, get_or-set_same, get_or-set_other, length-set, Setup, World, person_of, nobody}
+use Rattle.traffic.proofs.Common.{get_or, append-nil, append_assoc, VehicleId, add-one}
+use Rattle.traffic.specs.declared.{riders.Rider.Rider, world.Person.Person}
 use Rattle.std.specs.Prelude.{min}
-use Rattle.traffic.specs.declared.riders.Rider.{Rider}
-use Rattle.traffic.specs.declared.world.Person.{Person}
 use Rattle.traffic.specs.declared.world.Place.TheVariants as place
 use Rattle.parts.specs.Parts.{Passed}
 use Rattle.law_partitions.specs.Alone.{riding, flying}
 use Rattle.law_parcels.specs.Hearing.{last_or}
 use Rattle.town.specs.declared.day_input.DayInput.{DayInput}
-use Rattle.part_persons.specs.Dues.{AreFollowedIn}
-use Rattle.part_persons.specs.declared.persons.Persons.{Persons}
-use Rattle.part_seconds.specs.declared.contents.Moved.{Moved}
-use Rattle.part_seconds.specs.declared.contents.Teleported.{Teleported}
-use Rattle.part_seconds.specs.Contents.{passed_of, flight_of}
-use Rattle.part_seconds.specs.Arriving.{Come, if_is, all_riding, teleporting_in, entering_by, entered}
+use Rattle.part_persons.specs.{Dues.AreFollowedIn, declared.persons.Persons.Persons}
 use Rattle.part_seconds.proofs.Lists.{flat_of_map, map_of_map}
+use Rattle.part_seconds.specs.Arriving.{Come, if_is, all_riding, teleporting_in, entering_by, entered}
+use Rattle.part_seconds.specs.{Contents.passed_of, Contents.flight_of, declared.contents.Moved.Moved, declared.contents.Teleported.Teleported}
 
 last_append : (P : Person) (xs ys : List Person) → last_or P (xs ++ ys) ≡ last_or (last_or P xs) ys
 last_append P [] ys = refl

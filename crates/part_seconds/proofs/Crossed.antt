@@ -1,43 +1,26 @@
 -- The part of a partition once its nodes have had their turns in a second.
-use Rattle.traffic.proofs.Common.{◌≡◌, ℕ, ◌+◌, ◌<◌, true, List, [], ◌++◌, ◌∙◌, ap, sym, subst, arith, eqb, eqb-true, eq-eqb, length, get_or, map}
-use Rattle.traffic.proofs.Common.{flat_map, Option, Some, Event, link_of_stop, hole_of, storage_of, seconds_of, taken_at, told, moves_of, persons_after}
-use Rattle.traffic.specs.declared.moves.Occurrence.{Occurrence}
-use Rattle.traffic.specs.declared.node_views.OutLink.{OutLink}
-use Rattle.traffic.specs.declared.world.Row.{Row}
-use Rattle.traffic.specs.declared.world.Waiter.{Waiter}
-use Rattle.town.specs.declared.day_input.DayInput.{DayInput}
-use Rattle.town.specs.Views.{setup}
-use Rattle.calendar.specs.Due.{Due, due_at}
-use Rattle.calendar.specs.Waking.{wake_of}
-use Rattle.law_in_range.specs.Rows.{Counts}
-use Rattle.law_in_range.specs.Setups.{counts_in, HaveFittingPlans}
+use Rattle.traffic.proofs.Common.{◌≡◌, ℕ, ◌+◌, ◌<◌, true, List, [], ◌++◌, ◌∙◌, ap, sym, subst, arith, eqb, eqb-true, eq-eqb, length, get_or, map, flat_map}
+use Rattle.traffic.proofs.Common.{Option, Some, Event, link_of_stop, hole_of, storage_of, seconds_of, taken_at, told, moves_of, persons_after}
+use Rattle.traffic.specs.declared.{moves.Occurrence.Occurrence, node_views.OutLink.OutLink, world.Row.Row, world.Waiter.Waiter}
+use Rattle.town.specs.{Views.setup, declared.day_input.DayInput.DayInput}
+use Rattle.calendar.specs.{Due.Due, Due.due_at, Waking.wake_of}
+use Rattle.law_in_range.specs.{Rows.Counts, Setups.counts_in, Setups.HaveFittingPlans}
 use Rattle.parts.specs.Owners.{Owner, begins_in}
 use Rattle.law_partitions.specs.Laws.{IsOwner}
 use Rattle.law_own_worlds.specs.Days.{my_node_turns}
 use Rattle.law_own_seconds.specs.Seconds.{held_early, held_crossed, world_early, world_crossed}
-use Rattle.law_parts_of_days.proofs.Hearing.{heard_stand}
+use Rattle.law_parts_of_days.{proofs.Awaited.starts_length, proofs.Hearing.heard_stand, specs.Settling.wake_starts}
 use Rattle.link_seconds.specs.Seconds.{HaveLines, AreShort}
-use Rattle.node_move.specs.Pages.{number_of}
-use Rattle.node_move.specs.declared.crossings.Entering.{Entering}
+use Rattle.node_move.specs.{Pages.number_of, declared.crossings.Entering.Entering}
 use Rattle.part_links.specs.Links.{LinesStandAt}
-use Rattle.part_nodes.specs.declared.network.NetworkState.{NetworkState}
-use Rattle.part_nodes.specs.Phase.{StandsForAt, AreAwaitedAt, IsPhaseAt}
 use Rattle.part_nodes.proofs.Held.{before_is}
+use Rattle.part_nodes.specs.{Phase.StandsForAt, Phase.AreAwaitedAt, Phase.IsPhaseAt, declared.network.NetworkState.NetworkState}
 use Rattle.part_persons.specs.Dues.{AreFollowedIn}
-use Rattle.part_places.specs.declared.places.Places.{Places}
-use Rattle.part_places.specs.Taking.{AreTakenOf, IsFull, begins_here, still, times}
-use Rattle.part_seconds.specs.declared.area.Area.{Area}
-use Rattle.law_parts_of_days.specs.Settling.{wake_starts}
-use Rattle.part_seconds.specs.Settling.{places_known}
+use Rattle.part_places.specs.{Taking.AreTakenOf, Taking.IsFull, Taking.begins_here, Taking.still, Taking.times, declared.places.Places.Places}
+use Rattle.part_seconds.proofs.{Knowing.known_before, Names.in_second, Slots.link_own, Waking.starts_spare, Waking.awaited_when_free}
+use Rattle.part_seconds.specs.{Settling.places_known, Slots.extent_of, Stands.NetworkStands, Stands.AreaStands, declared.area.Area.Area}
 use Rattle.divided_day.specs.Slots.{AreSlots}
-use Rattle.part_seconds.specs.Slots.{extent_of}
-use Rattle.part_seconds.specs.Stands.{NetworkStands, AreaStands}
-use Rattle.part_seconds.proofs.Names.{in_second}
-use Rattle.part_seconds.proofs.Slots.{link_own}
 use Rattle.part_seconds.proofs.Knowing as knowing
-use Rattle.part_seconds.proofs.Knowing.{known_before}
-use Rattle.law_parts_of_days.proofs.Awaited.{starts_length}
-use Rattle.part_seconds.proofs.Waking.{starts_spare, awaited_when_free}
 
 place : ℕ → ℕ → ℕ → Option OutLink
 place n s k = Some (record { taken = n; storage = s; seconds = k })

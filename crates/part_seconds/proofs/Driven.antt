@@ -1,62 +1,41 @@
 -- The part of a partition once its links have had their turns in a second.
-use Rattle.traffic.proofs.Common.{◌≡◌, ℕ, zero, suc, ◌+◌, ◌-◌, ◌<◌, ◌≤◌, Bool, true, false, not, ◌&&◌, List, [], ◌∷◌, ◌++◌, ◌∙◌, ap, refl, sym, subst}
-use Rattle.traffic.proofs.Common.{arith, inl, inr, cases_Bool, eqb, eqb-true, eqb-false, eq-eqb, ne_eqb, true≢false, if◌then◌else◌, nat_lt, length, length-set}
-use Rattle.traffic.proofs.Common.{get_or, get_or-set_same, get_or-set_other, take, set, map, map-append, filter, flat_map, replicate, append-nil}
-use Rattle.traffic.proofs.Common.{Option, Setup, World, Turn, Event, LinkState, at, holes_at, hole_of, world_at, below, numbers, told}
-use Rattle.traffic.proofs.Common.{turns, link_turns, moves_of, persons_after}
+use Rattle.traffic.proofs.Common.{◌≡◌, ℕ, zero, suc, ◌+◌, ◌-◌, ◌<◌, ◌≤◌, Bool, true, false, not, ◌&&◌, List, [], ◌∷◌, ◌++◌, ◌∙◌, ap, refl, sym, subst, arith}
+use Rattle.traffic.proofs.Common.{inl, inr, cases_Bool, eqb, eqb-true, eqb-false, eq-eqb, ne_eqb, true≢false, if◌then◌else◌, nat_lt, length, length-set, get_or}
+use Rattle.traffic.proofs.Common.{get_or-set_same, get_or-set_other, take, set, map, map-append, filter, flat_map, replicate, append-nil, Option, Setup, World}
+use Rattle.traffic.proofs.Common.{Turn, Event, LinkState, at, holes_at, hole_of, world_at, below, numbers, told, turns, link_turns, moves_of, persons_after}
+use Rattle.traffic.specs.declared.{moves.Move.Move, moves.Occurrence.Occurrence, stage.Stage.TheVariants.Queue, world.Waiter.Waiter}
 use Rattle.std.proofs.Math.Seq.{take-append_seam}
 use Rattle.rows.specs.declared.settings.Dwelling.{Dwelling}
-use Rattle.traffic.specs.declared.world.Waiter.{Waiter}
 use Rattle.events.specs.declared.event.Phase.TheVariants as phase
-use Rattle.traffic.specs.declared.moves.Move.{Move}
-use Rattle.traffic.specs.declared.moves.Occurrence.{Occurrence}
-use Rattle.traffic.specs.declared.stage.Stage.TheVariants.{Queue}
-use Rattle.traffic.specs.declared.world.Waiter.{Waiter}
-use Rattle.town.specs.declared.day_input.DayInput.{DayInput}
-use Rattle.town.specs.Views.{setup}
-use Rattle.calendar.specs.Due.{Due, AreIn, due_at}
-use Rattle.calendar.specs.Waking.{wake_of, is_woken, woken}
+use Rattle.town.specs.{Views.setup, declared.day_input.DayInput.DayInput}
+use Rattle.calendar.specs.{Due.Due, Due.AreIn, Due.due_at, Waking.wake_of, Waking.is_woken, Waking.woken}
 use Rattle.law_in_range.specs.Setups.{counts_in, HaveFittingPlans}
 use Rattle.law_sleeping.specs.Marks.{before_links}
-use Rattle.parts.specs.Owners.{Owner, owner_of, begins_in, links_of}
-use Rattle.parts.specs.Parts.{Freed, is_some_freed, freed}
-use Rattle.law_partitions.specs.Alone.{my_links}
-use Rattle.law_partitions.specs.Laws.{IsOwner}
+use Rattle.parts.specs.{Owners.Owner, Owners.owner_of, Owners.begins_in, Owners.links_of, Parts.Freed, Parts.is_some_freed, Parts.freed}
+use Rattle.law_partitions.specs.{Alone.my_links, Laws.IsOwner}
 use Rattle.law_own_worlds.specs.Days.{my_link_turns}
+use Rattle.law_own_seconds.{proofs.Places.more_holes, specs.Leaving.left_by}
 use Rattle.law_own_seconds.specs.Seconds.{held_crossed, held_driven, world_crossed, world_driven}
-use Rattle.law_own_seconds.specs.Leaving.{left_by}
-use Rattle.law_own_seconds.proofs.Places.{more_holes}
-use Rattle.law_parts_of_days.specs.Settling.{link_at, queued_in, wake_ends}
-use Rattle.law_parts_of_days.proofs.Beginning.{links_of as town_links, dwell_of}
-use Rattle.law_parts_of_days.proofs.Hearing.{heard_stand}
-use Rattle.law_parts_of_days.proofs.Taken.{some_hole}
-use Rattle.part_seconds.proofs.Names.{in_second}
-use Rattle.part_seconds.proofs.Turning.{can_turn_at, stops_there_at, are_there}
+use Rattle.law_parts_of_days.proofs.{Awaited.ends_length, Beginning.links_of as town_links, Beginning.dwell_of, Hearing.heard_stand, Taken.some_hole}
 use Rattle.law_parts_of_days.proofs.Worlds.{consistent_setup, phases_are_sound}
+use Rattle.law_parts_of_days.specs.Settling.{link_at, queued_in, wake_ends}
+use Rattle.part_seconds.proofs.{Knowing.still_lasting, Names.in_second, Slots.slot_of, Slots.link_there, Slots.link_own, Slots.all_links, Slots.numbered}
+use Rattle.part_seconds.proofs.Turning.{can_turn_at, stops_there_at, are_there}
+use Rattle.part_seconds.proofs.Vacated.{IsLike, taken_alike, in_among, all_storage, all_seconds, all_other, all_here}
+use Rattle.part_seconds.{proofs.Waking.number_at, proofs.Waking.ends_spare, proofs.Waking.awaited_after, specs.Contents.freed_row}
+use Rattle.part_seconds.specs.Settling.{places_known, left_all, AreFew, AreApart, gone_from, freed_at, put_queues}
+use Rattle.part_seconds.specs.{Stands.AreaStands, declared.area.Area.Area, declared.contents.FreedPlaces.FreedPlaces}
 use Rattle.link_seconds.specs.Seconds.{AreShort, IsThere}
 use Rattle.queue_link.specs.Links.{LinkView}
 use Rattle.node_seconds.specs.Networks.{lane, is_among, AreOnce}
-use Rattle.part_links.specs.Links.{AreNumbered, LinksStandAt, LinesStandAt, StopsThere, CanTurn, AreAsleep, lies_on}
-use Rattle.part_links.specs.Phase.{IsPhaseBy, IsPhaseAt, turns_at}
-use Rattle.part_links.proofs.Whole.{woken_there, woken_once}
+use Rattle.part_links.{proofs.Whole.woken_there, proofs.Whole.woken_once, specs.Links.AreNumbered, specs.Links.LinksStandAt, specs.Links.LinesStandAt}
+use Rattle.part_links.specs.{Links.StopsThere, Links.CanTurn, Links.AreAsleep, Links.lies_on, Phase.IsPhaseBy, Phase.IsPhaseAt, Phase.turns_at}
 use Rattle.part_nodes.specs.Phase.{taken_before}
-use Rattle.part_persons.specs.Dues.{AreFollowedIn}
-use Rattle.part_persons.proofs.Early.{woken_all}
-use Rattle.part_places.specs.declared.places.Places.{Places}
-use Rattle.part_places.specs.Taking.{Taking, AreTakenOf, begins_here}
-use Rattle.part_seconds.specs.declared.area.Area.{Area}
-use Rattle.part_seconds.specs.declared.contents.FreedPlaces.{FreedPlaces}
+use Rattle.part_persons.{proofs.Early.woken_all, specs.Dues.AreFollowedIn}
+use Rattle.part_places.specs.{Taking.Taking, Taking.AreTakenOf, Taking.begins_here, declared.places.Places.Places}
 use Rattle.law_parcels.specs.Sending.{freed_over}
-use Rattle.part_seconds.specs.Contents.{freed_row}
-use Rattle.part_seconds.specs.Settling.{places_known, left_all, AreFew, AreApart, gone_from, freed_at, put_queues}
 use Rattle.divided_day.specs.Slots.{link_in, slot_count, AreSlots}
-use Rattle.part_seconds.specs.Stands.{AreaStands}
-use Rattle.part_seconds.proofs.Slots.{slot_of, link_there, link_own, all_links, numbered}
 use Rattle.part_seconds.proofs.Knowing as knowing
-use Rattle.part_seconds.proofs.Knowing.{still_lasting}
-use Rattle.part_seconds.proofs.Vacated.{IsLike, taken_alike, in_among, all_storage, all_seconds, all_other, all_here}
-use Rattle.law_parts_of_days.proofs.Awaited.{ends_length}
-use Rattle.part_seconds.proofs.Waking.{number_at, ends_spare, awaited_after}
 
 -- what a slice of a list was, once it is put back
 pub back : {X : Type 0} (n : ℕ) (xs ys : List X) → n ≡ length xs → take n (xs ++ ys) ≡ xs

@@ -1,33 +1,27 @@
 -- The part of a partition once persons and departures have set out in a second.
-use Rattle.traffic.proofs.Common.{◌≡◌, ◌≢◌, ℕ, ◌+◌, ◌<◌, ◌≤◌, Bool, true, false, List, [], ◌∷◌, ◌++◌, ◌∙◌, ap, refl, sym, subst, arith, inl, inr}
-use Rattle.traffic.proofs.Common.{cases_Bool, cases_lt, eqb, eqb-true, eq-eqb, ne_eqb, true≢false, length, length-map, length-set, get_or, get_or_past, map, filter}
-use Rattle.traffic.proofs.Common.{flat_map, append-nil, All-get_or, All-from_recursion, recursion_from_All, plan_rows, Option, Some, None, Setup, World, Leg, person_of, nobody, at, on, hole_of}
-use Rattle.traffic.proofs.Common.{link_of_stop, leg_at, act_after, waiters}
+use Rattle.traffic.proofs.Common.{◌≡◌, ◌≢◌, ℕ, ◌+◌, ◌<◌, ◌≤◌, Bool, true, false, List, [], ◌∷◌, ◌++◌, ◌∙◌, ap, refl, sym, subst, arith, inl, inr, cases_Bool}
+use Rattle.traffic.proofs.Common.{cases_lt, eqb, eqb-true, eq-eqb, ne_eqb, true≢false, length, length-map, length-set, get_or, get_or_past, map, filter}
+use Rattle.traffic.proofs.Common.{flat_map, append-nil, All-get_or, All-from_recursion, recursion_from_All, plan_rows, Option, Some, None, Setup, World, Leg}
+use Rattle.traffic.proofs.Common.{person_of, nobody, at, on, hole_of, link_of_stop, leg_at, act_after, waiters}
+use Rattle.traffic.specs.declared.stage.Stage.{Stage, TheVariants.Queue, TheVariants.Buffer, TheVariants.Wait}
+use Rattle.traffic.specs.declared.world.{Person.Person, Place.Place, Place.TheVariants.At, Place.TheVariants.Teleporting, Place.TheVariants.Waiting}
+use Rattle.traffic.specs.declared.world.{Place.TheVariants.Riding, Place.TheVariants.Aborted, Row.Row, Waiter.Waiter}
 use Rattle.std.specs.List.{AllByRecursion as Each}
 use Rattle.rows.specs.declared.plan.Leg.TheVariants as leg
 use Rattle.limits.specs.declared.TheConstants.{MAX_PERSONS}
-use Rattle.traffic.specs.declared.stage.Stage.{Stage}
-use Rattle.traffic.specs.declared.stage.Stage.TheVariants.{Queue, Buffer, Wait}
-use Rattle.traffic.specs.declared.world.Person.{Person}
-use Rattle.traffic.specs.declared.world.Place.{Place}
-use Rattle.traffic.specs.declared.world.Place.TheVariants.{At, Teleporting, Waiting, Riding, Aborted}
-use Rattle.traffic.specs.declared.world.Row.{Row}
-use Rattle.traffic.specs.declared.world.Waiter.{Waiter}
-use Rattle.town.specs.declared.day_input.DayInput.{DayInput}
-use Rattle.town.specs.Views.{setup}
-use Rattle.calendar.specs.Due.{Due, HasNone, due_at}
-use Rattle.calendar.specs.Waking.{wake_of, woken}
-use Rattle.law_in_range.specs.Rows.{IsFitWorld, IsFitRow, IsFitPlace}
-use Rattle.law_in_range.specs.Setups.{IsFitStop, counts_in, HaveFittingPlans}
-use Rattle.parts.specs.Owners.{Owner, owner_of}
-use Rattle.parts.specs.Parts.{ready}
+use Rattle.town.specs.{Views.setup, declared.day_input.DayInput.DayInput}
+use Rattle.calendar.specs.{Due.Due, Due.HasNone, Due.due_at, Waking.wake_of, Waking.woken}
+use Rattle.law_in_range.specs.{Rows.IsFitWorld, Rows.IsFitRow, Rows.IsFitPlace, Setups.IsFitStop, Setups.counts_in, Setups.HaveFittingPlans}
+use Rattle.parts.specs.{Owners.Owner, Owners.owner_of, Parts.ready}
 use Rattle.law_partitions.specs.Laws.{IsOwner}
 use Rattle.law_own_worlds.specs.Days.{world_before, is_there}
 use Rattle.law_joined_routes.specs.Going.{GoesOn}
-use Rattle.law_parts_of_days.specs.Persons.{PersonsStand}
-use Rattle.law_parts_of_days.proofs.SettingOut.{others_stay}
-use Rattle.part_seconds.proofs.Names.{in_second}
-use Rattle.part_seconds.proofs.Lengths.{one_short, all_short}
+use Rattle.law_parts_of_days.{proofs.SettingOut.others_stay, specs.Persons.PersonsStand}
+use Rattle.part_seconds.proofs.{Knowing.known_before, Lengths.one_short, Lengths.all_short, Names.in_second}
+use Rattle.part_seconds.proofs.SettingOut.{HasSetOut, same_waiters, each_passes, none_last}
+use Rattle.part_seconds.proofs.{Slots.slot_of, Slots.slot_is, Slots.link_there, Slots.link_own, Slots.numbered, Standing.Starts, Standing.in_world}
+use Rattle.part_seconds.{proofs.Vacated.taken_alike, proofs.Waking.awaited_on, specs.Settling.places_known, specs.Slots.in_slot, specs.Stands.NetworkStands}
+use Rattle.part_seconds.specs.{Stands.AreaStands, Stands.AreOwnDepartures, Starting.all_started, Starting.woken_for_all, declared.area.Area.Area}
 use Rattle.link_seconds.specs.Seconds.{HaveLines, AreShort, line_at}
 use Rattle.person_moves.specs.Waiting.{waiter_on}
 use Rattle.queue_link.specs.Links.{LinkView}
@@ -35,28 +29,14 @@ use Rattle.part_lines.specs.Coming.{came, came_to, with_one, CanAllJoin, joined_
 use Rattle.part_lines.proofs.Ready.{IsOneOf, HasStop, HaveStops, LinesHave, can_all_join_at, lines_have_at}
 use Rattle.part_lines.proofs.Standing.{at_this, as_list, came_of, joined_at, after_early}
 use Rattle.part_links.specs.Links.{LinksStandAt, LinesStandAt, AreAsleep}
-use Rattle.part_nodes.specs.declared.network.NetworkState.{NetworkState}
-use Rattle.part_nodes.specs.Phase.{AreAwaitedAt, GoOnThere}
-use Rattle.part_persons.specs.declared.persons.Persons.{Persons}
-use Rattle.part_persons.specs.Dues.{AreFollowed, AreFollowedIn}
+use Rattle.part_nodes.specs.{Phase.AreAwaitedAt, Phase.GoOnThere, declared.network.NetworkState.NetworkState}
 use Rattle.part_persons.proofs.Joining.{AtStart, fit_as}
-use Rattle.part_places.specs.declared.places.Places.{Places}
-use Rattle.part_places.specs.Taking.{AreTakenOf, begins_here, still}
-use Rattle.part_seconds.specs.Starting.{all_started, woken_for_all}
+use Rattle.part_persons.specs.{Dues.AreFollowed, Dues.AreFollowedIn, declared.persons.Persons.Persons}
+use Rattle.part_places.specs.{Taking.AreTakenOf, Taking.begins_here, Taking.still, declared.places.Places.Places}
 use Rattle.part_seconds.proofs.Standing as starting
-use Rattle.part_seconds.proofs.Standing.{Starts, in_world}
-use Rattle.part_seconds.specs.declared.area.Area.{Area}
-use Rattle.part_seconds.specs.Settling.{places_known}
 use Rattle.divided_day.specs.Slots.{link_in, slot_count, AreSlots}
-use Rattle.part_seconds.specs.Slots.{in_slot}
-use Rattle.part_seconds.specs.Stands.{NetworkStands, AreaStands, AreOwnDepartures}
-use Rattle.part_seconds.proofs.Slots.{slot_of, slot_is, link_there, link_own, numbered}
 use Rattle.part_seconds.proofs.Knowing as knowing
-use Rattle.part_seconds.proofs.Knowing.{known_before}
-use Rattle.part_seconds.proofs.Vacated.{taken_alike}
 use Rattle.part_seconds.proofs.SettingOut as setting
-use Rattle.part_seconds.proofs.SettingOut.{HasSetOut, same_waiters, each_passes, none_last}
-use Rattle.part_seconds.proofs.Waking.{awaited_on}
 
 -- WHO COMES TO A STOP
 -- whoever comes to a line waits at its stop

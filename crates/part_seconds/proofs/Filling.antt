@@ -1,8 +1,6 @@
 -- All parcels of a second.
 use Rattle.traffic.proofs.Common.{◌≡◌, ℕ, ◌<◌, List, [], ◌++◌, ◌∙◌, ap, arith, length}
-use Rattle.part_seconds.specs.declared.contents.Contents.{Contents}
-use Rattle.part_seconds.specs.Parcels.{nothing, HasNothing}
-use Rattle.part_seconds.specs.Sending.{parcel_at, AreMore}
+use Rattle.part_seconds.specs.{Parcels.nothing, Parcels.HasNothing, Sending.parcel_at, Sending.AreMore, declared.contents.Contents.Contents}
 
 pub filled_count : (f g h : ℕ → Contents → Contents) (a b c d : List Contents) → AreMore f a b → AreMore g b c → AreMore h c d
     → length d ≡ length a

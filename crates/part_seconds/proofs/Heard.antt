@@ -1,9 +1,7 @@
 -- Hearing of one link more.
-use Rattle.traffic.proofs.Common.{◌≡◌, ℕ, Bool, List, [], ◌∷◌, ◌++◌, refl}
-use Rattle.traffic.proofs.Common.{Setup}
+use Rattle.traffic.proofs.Common.{◌≡◌, ℕ, Bool, List, [], ◌∷◌, ◌++◌, refl, Setup}
 use Rattle.part_places.specs.Taking.{Taking}
-use Rattle.part_seconds.specs.declared.contents.FreedPlaces.{FreedPlaces}
-use Rattle.part_seconds.specs.Freed.{heard, heard_all, CanHear, CanHearAll}
+use Rattle.part_seconds.specs.{Freed.heard, Freed.heard_all, Freed.CanHear, Freed.CanHearAll, declared.contents.FreedPlaces.FreedPlaces}
 
 pub heard_last : (S : Setup) (s : ℕ) (fs : List FreedPlaces) (f : FreedPlaces) (T : Taking)
     → heard_all S s (fs ++ f ∷ []) T ≡ heard S s f (heard_all S s fs T)

@@ -1,52 +1,32 @@
 -- The turns of a second in which nobody of a part has anything to do leave the part as it is.
-use Rattle.traffic.proofs.Common.{◌≡◌, ℕ, suc, ◌+◌, ◌-◌, ◌<◌, Bool, false, List, [], ◌∷◌, ◌++◌, ◌∙◌, ap, refl, sym, arith, inl, inr}
-use Rattle.traffic.proofs.Common.{cases_Bool, eqb, eqb-true, length, map, filter, Option, None, Some, World, person_of, below, turns}
-use Rattle.traffic.proofs.Common.{events_in, turns_in}
+use Rattle.traffic.proofs.Common.{◌≡◌, ℕ, suc, ◌+◌, ◌-◌, ◌<◌, Bool, false, List, [], ◌∷◌, ◌++◌, ◌∙◌, ap, refl, sym, arith, inl, inr, cases_Bool, eqb, eqb-true}
+use Rattle.traffic.proofs.Common.{length, map, filter, Option, None, Some, World, person_of, below, turns, events_in, turns_in}
+use Rattle.traffic.specs.declared.{node_views.OutLink.OutLink, world.Row.Row}
 use Rattle.events.specs.declared.event.Phase.TheVariants as phase
-use Rattle.traffic.specs.declared.node_views.OutLink.{OutLink}
-use Rattle.traffic.specs.declared.world.Row.{Row}
-use Rattle.town.specs.declared.day_input.DayInput.{DayInput}
-use Rattle.town.specs.Views.{setup}
-use Rattle.calendar.specs.Due.{Due, HasNone, due_at}
-use Rattle.calendar.specs.Waking.{is_second, slept, woken_from}
+use Rattle.town.specs.{Views.setup, declared.day_input.DayInput.DayInput}
+use Rattle.calendar.specs.{Due.Due, Due.HasNone, Due.due_at, Waking.is_second, Waking.slept, Waking.woken_from}
 use Rattle.law_in_range.specs.Setups.{counts_in, HaveFittingPlans}
 use Rattle.law_parcels.specs.Sending.{sent_rows, freed_over}
 use Rattle.law_partitions.specs.Laws.{IsOwner}
-use Rattle.law_own_worlds.specs.Days.{world_before, run_turns, my_node_turns, my_link_turns}
-use Rattle.law_own_worlds.specs.OwnWorlds.{landed, set_out}
+use Rattle.law_own_worlds.specs.{Days.world_before, Days.run_turns, Days.my_node_turns, Days.my_link_turns, OwnWorlds.landed, OwnWorlds.set_out}
 use Rattle.law_own_seconds.specs.Seconds.{held_early, held_crossed, held_driven, world_early, world_crossed, world_driven}
 use Rattle.law_parts_of_days.specs.Settling.{wake_starts, wake_ends}
-use Rattle.parts.specs.Owners.{Owner}
-use Rattle.parts.specs.Parts.{ready}
+use Rattle.parts.specs.{Owners.Owner, Parts.ready}
 use Rattle.queue_link.specs.Links.{LinkView}
-use Rattle.node_move.specs.Pages.{number_of}
-use Rattle.node_move.specs.Spaces.{places_in}
+use Rattle.node_move.specs.{Pages.number_of, Spaces.places_in}
 use Rattle.node_seconds.specs.Networks.{is_among}
 use Rattle.part_lines.specs.Coming.{joined_lines}
-use Rattle.part_links.specs.Phase.{IsPhaseBy}
-use Rattle.part_links.proofs.Standing.{none_turned}
-use Rattle.part_links.proofs.Whole.{phase_is}
-use Rattle.part_nodes.specs.declared.network.NetworkState.{NetworkState}
-use Rattle.part_nodes.specs.Phase.{IsPhaseAt, entering_of}
+use Rattle.part_links.{proofs.Standing.none_turned, proofs.Whole.phase_is, specs.Phase.IsPhaseBy}
 use Rattle.part_nodes.proofs.Skipped.{turned_none, all_turned}
+use Rattle.part_nodes.specs.{Phase.IsPhaseAt, Phase.entering_of, declared.network.NetworkState.NetworkState}
 use Rattle.part_persons.specs.Own.{own_departures}
 use Rattle.part_persons.proofs.Early.{Early, early_by, StartedAmong, started_own, as_many, taken_followed}
-use Rattle.part_places.specs.Taking.{begins_here, fewer, times}
-use Rattle.part_places.proofs.Freed.{freed_is, full_is}
+use Rattle.part_places.{proofs.Freed.freed_is, proofs.Freed.full_is, specs.Taking.begins_here, specs.Taking.fewer, specs.Taking.times}
 use Rattle.divided_day.specs.Slots.{link_in, slot_count, AreSlots}
-use Rattle.part_seconds.specs.declared.area.Area.{Area}
-use Rattle.part_seconds.specs.Contents.{freed_row}
-use Rattle.part_seconds.specs.Settling.{places_known, left_all, put_queues}
-use Rattle.part_seconds.specs.Slots.{in_slot, extent_of}
-use Rattle.part_seconds.specs.Stands.{AreaStands}
-use Rattle.part_seconds.specs.Starting.{all_started, woken_for_all}
-use Rattle.part_seconds.proofs.Names.{in_second}
-use Rattle.part_seconds.proofs.Crossed.{Begins, begins}
-use Rattle.part_seconds.proofs.Driven.{Follows, follows, turned}
-use Rattle.part_seconds.proofs.Early.{set_out_stands}
-use Rattle.part_seconds.proofs.Looking.{ascending, stays}
-use Rattle.part_seconds.proofs.SettingOut.{HasSetOut, told_is}
-use Rattle.part_seconds.specs.Resting.{IsAtRest}
+use Rattle.part_seconds.proofs.{Crossed.Begins, Crossed.begins, Driven.Follows, Driven.follows, Driven.turned, Early.set_out_stands, Looking.ascending}
+use Rattle.part_seconds.proofs.{Looking.stays, Names.in_second, SettingOut.HasSetOut, SettingOut.told_is}
+use Rattle.part_seconds.specs.{Contents.freed_row, Resting.IsAtRest, Settling.places_known, Settling.left_all, Settling.put_queues, Slots.in_slot}
+use Rattle.part_seconds.specs.{Slots.extent_of, Stands.AreaStands, Starting.all_started, Starting.woken_for_all, declared.area.Area.Area}
 
 -- WHERE NOBODY IS WOKEN
 -- nobody's second changes when those of a second are woken, who are none

@@ -1,49 +1,29 @@
 -- What a partition of a town knows in the course of a second: of its places, its links, and who waits at its stops.
-use Rattle.traffic.proofs.Common.{◌≡◌, ℕ, ◌+◌, ◌-◌, ◌<◌, ◌≤◌, Bool, true, false, List, [], ◌∷◌, ◌++◌, ◌∙◌, ap, refl, sym, subst, arith, inl, inr}
-use Rattle.traffic.proofs.Common.{cases_Bool, cases_lt, cond, eqb, eqb-true, length, get_or_past, map, nat_le, Option}
-use Rattle.traffic.proofs.Common.{Setup, World, link_row, at, holes_at, hole_of, storage_of, person_of, nobody, world_at}
-use Rattle.traffic.proofs.Common.{waiters, next_link}
-use Rattle.std.proofs.lemmas.List.Sums.{sum_by-cons}
-use Rattle.std.specs.List.{AllByRecursion as Each}
+use Rattle.traffic.proofs.Common.{◌≡◌, ℕ, ◌+◌, ◌-◌, ◌<◌, ◌≤◌, Bool, true, false, List, [], ◌∷◌, ◌++◌, ◌∙◌, ap, refl, sym, subst, arith, inl, inr, cases_Bool}
+use Rattle.traffic.proofs.Common.{cases_lt, cond, eqb, eqb-true, length, get_or_past, map, nat_le, Option, Setup, World, link_row, at, holes_at, hole_of}
+use Rattle.traffic.proofs.Common.{storage_of, person_of, nobody, world_at, waiters, next_link}
+use Rattle.traffic.specs.declared.stage.Stage.{Stage, TheVariants.Queue, TheVariants.Buffer, TheVariants.Wait, TheVariants.Bay}
+use Rattle.traffic.specs.declared.world.{Person.Person, Row.Row}
+use Rattle.std.{proofs.lemmas.List.Sums.sum_by-cons, specs.List.AllByRecursion as Each}
 use Rattle.events.specs.declared.event.Phase.TheVariants as phase
-use Rattle.traffic.specs.declared.stage.Stage.{Stage}
-use Rattle.traffic.specs.declared.stage.Stage.TheVariants.{Queue, Buffer, Wait, Bay}
-use Rattle.traffic.specs.declared.world.Person.{Person}
-use Rattle.traffic.specs.declared.world.Row.{Row}
 use Rattle.town.specs.declared.day_input.DayInput.{DayInput}
-use Rattle.law_in_range.specs.Rows.{Counts, IsFitWorld}
+use Rattle.law_in_range.{proofs.Days.chosen_fit, specs.Rows.Counts, specs.Rows.IsFitWorld}
 use Rattle.law_in_range.specs.Setups.{IsFitSetup, counts_in, HaveFittingPlans}
-use Rattle.law_in_range.proofs.Days.{chosen_fit}
-use Rattle.law_joined_routes.specs.Going.{GoesOn}
-use Rattle.law_joined_routes.proofs.Routes.{town_goes_on}
+use Rattle.law_joined_routes.{proofs.Routes.town_goes_on, specs.Going.GoesOn}
 use Rattle.parts.specs.Owners.{Owner, owner_of, begins_in, lag}
 use Rattle.parts.specs.Parts.{Held, lasting, mine, has, unheard, ready}
-use Rattle.law_partitions.specs.Premises.{Lawful}
-use Rattle.law_partitions.specs.Laws.{IsOwner}
-use Rattle.law_partitions.proofs.Setting.{lawful, are_local}
-use Rattle.law_own_worlds.specs.Making.{or_nobody}
+use Rattle.law_partitions.{proofs.Setting.lawful, proofs.Setting.are_local, specs.Laws.IsOwner, specs.Premises.Lawful}
+use Rattle.law_own_worlds.proofs.{Days.own_second, Fitting.ready_fit, Knowing.ready_known, Making.made, Making.one_person, Seconds.nowhere3, Standing.stands}
+use Rattle.law_own_worlds.{proofs.Staying.stays_fit, specs.Days.is_there, specs.Days.StandsAsInTheDay, specs.Making.or_nobody}
 use Rattle.law_own_worlds.specs.OwnWorlds.{IsOwnWorld, IsSecondOf, StaysFit}
-use Rattle.law_own_worlds.specs.Days.{is_there, StandsAsInTheDay}
-use Rattle.law_own_worlds.proofs.Days.{own_second}
-use Rattle.law_own_worlds.proofs.Fitting.{ready_fit}
-use Rattle.law_own_worlds.proofs.Knowing.{ready_known}
-use Rattle.law_own_worlds.proofs.Making.{made, one_person}
-use Rattle.law_own_worlds.proofs.Seconds.{nowhere3}
-use Rattle.law_own_worlds.proofs.Standing.{stands}
-use Rattle.law_own_worlds.proofs.Staying.{stays_fit}
-use Rattle.law_own_seconds.specs.Places.{KnowsPlaces, PlacesAreKnown}
-use Rattle.law_own_seconds.specs.Leaving.{LeaveHoles}
-use Rattle.law_own_seconds.specs.Others.{OthersAreEmpty}
-use Rattle.law_own_seconds.proofs.Places.{places_known, leave_holes}
-use Rattle.law_own_seconds.proofs.Others.{others_empty}
+use Rattle.law_own_seconds.proofs.{Others.others_empty, Places.places_known, Places.leave_holes}
+use Rattle.law_own_seconds.specs.{Leaving.LeaveHoles, Others.OthersAreEmpty, Places.KnowsPlaces, Places.PlacesAreKnown}
+use Rattle.law_parts_of_days.proofs.{Through.nodes_are, Waiting.nodes_keep_waiters}
 use Rattle.law_parts_of_days.proofs.Worlds.{fit_setup, sound_setup, consistent_setup, phases_fit, phases_in_one, waited_before}
-use Rattle.law_parts_of_days.proofs.Through.{nodes_are}
-use Rattle.law_parts_of_days.proofs.Waiting.{nodes_keep_waiters}
 use Rattle.law_sleeping.specs.Marks.{before_nodes, before_links}
 use Rattle.part_lines.proofs.News.{IsBefore, WaitBefore}
 use Rattle.part_nodes.specs.Phase.{taken_before, BufferWaits, GoOnThere}
-use Rattle.part_places.specs.Taking.{still}
-use Rattle.part_places.proofs.Counting.{one}
+use Rattle.part_places.{proofs.Counting.one, specs.Taking.still}
 use Rattle.part_seconds.specs.Settling as settling
 use Rattle.part_seconds.proofs.Names.{in_second}
 

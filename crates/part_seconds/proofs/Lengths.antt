@@ -1,13 +1,12 @@
 -- How long lines are: no longer than there are persons.
-use Rattle.traffic.proofs.Common.{◌≡◌, ℕ, zero, suc, ◌+◌, ◌<◌, ◌≤◌, Bool, true, List, [], ◌∷◌, ◌∙◌, ap, refl, sym, subst, arith, inl, inr, cases_Bool}
-use Rattle.traffic.proofs.Common.{length, length-append, filter, flat_map, eqb, Leg, Act, World, Setup, person_of, recursion_from_All}
-use Rattle.traffic.proofs.Common.{numbers, waits, waits_on, waiter, waiters, leg_at, act_after, link_of_stop, among, in_turn, comes_first}
+use Rattle.traffic.proofs.Common.{◌≡◌, ℕ, zero, suc, ◌+◌, ◌<◌, ◌≤◌, Bool, true, List, [], ◌∷◌, ◌∙◌, ap, refl, sym, subst, arith, inl, inr, cases_Bool, length}
+use Rattle.traffic.proofs.Common.{length-append, filter, flat_map, eqb, Leg, Act, World, Setup, person_of, recursion_from_All, numbers, waits, waits_on, waiter}
+use Rattle.traffic.proofs.Common.{waiters, leg_at, act_after, link_of_stop, among, in_turn, comes_first}
+use Rattle.traffic.specs.declared.world.Place.{Place, TheVariants.At, TheVariants.Teleporting, TheVariants.Waiting, TheVariants.Riding, TheVariants.Aborted}
+use Rattle.traffic.specs.declared.world.Waiter.{Waiter}
 use Rattle.std.proofs.lemmas.List.Elements.{All-from_get_or}
 use Rattle.rows.specs.declared.plan.Leg.TheVariants as leg
 use Rattle.limits.specs.declared.TheConstants.{MAX_PERSONS}
-use Rattle.traffic.specs.declared.world.Place.{Place}
-use Rattle.traffic.specs.declared.world.Place.TheVariants.{At, Teleporting, Waiting, Riding, Aborted}
-use Rattle.traffic.specs.declared.world.Waiter.{Waiter}
 use Rattle.link_seconds.specs.Seconds.{AreShort, HaveLines, line_at}
 use Rattle.part_links.specs.Links.{lies_on}
 

@@ -1,7 +1,6 @@
 -- Lists that grow at their ends.
-use Rattle.traffic.proofs.Common.{◌≡◌, ℕ, zero, suc, List, [], ◌∷◌, ◌++◌, ◌∙◌, ap, refl, sym}
-use Rattle.traffic.proofs.Common.{Bool, true, false, get_or, flat_map, filter, map, append-nil, append_assoc}
-use Rattle.traffic.proofs.Common.{if◌then◌else◌, filter-append, map-append, flat_map-append, replicate, ◌||◌, ◌==◌}
+use Rattle.traffic.proofs.Common.{◌≡◌, ℕ, zero, suc, List, [], ◌∷◌, ◌++◌, ◌∙◌, ap, refl, sym, Bool, true, false, get_or, flat_map, filter, map, append-nil}
+use Rattle.traffic.proofs.Common.{append_assoc, if◌then◌else◌, filter-append, map-append, flat_map-append, replicate, ◌||◌, ◌==◌}
 use Rattle.node_seconds.specs.Networks.{is_among}
 
 map_one : {X Y : Type 0} (m : X → Y) (b : Bool) (y : X) → map m (if b then y ∷ [] else []) ≡ (if b then m y ∷ [] else [])

@@ -1,7 +1,7 @@
 -- Who is looked at when persons set out: nobody else changes.
 use Rattle.traffic.proofs.Common.{◌≡◌, ℕ, zero, suc, ◌+◌, ◌<◌, ◌≤◌, Bool, true, false, List, [], ◌∷◌, ◌∙◌, ap, refl, sym, arith, inl, inr, cases_Bool, cases_lt}
-use Rattle.traffic.proofs.Common.{eqb, eqb-true, eqb-false, ne_eqb, true≢false, length, get_or, get_or_past, filter, Option, None, Setup, World, person_of, nobody, below, numbers}
-use Rattle.traffic.specs.declared.world.Person.{Person}
+use Rattle.traffic.proofs.Common.{eqb, eqb-true, eqb-false, ne_eqb, true≢false, length, get_or, get_or_past, filter, Option, None, Setup, World, person_of}
+use Rattle.traffic.{proofs.Common.nobody, proofs.Common.below, proofs.Common.numbers, specs.declared.world.Person.Person}
 use Rattle.calendar.specs.Waking.{is_second, is_woken, woken}
 use Rattle.node_seconds.specs.Networks.{is_among}
 use Rattle.parts.specs.Owners.{Owner}

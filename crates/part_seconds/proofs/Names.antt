@@ -1,9 +1,7 @@
 -- The short names by which proofs speak of a partition in a second of a day.
 use Rattle.traffic.proofs.Common.{ℕ, Setup, World}
-use Rattle.town.specs.declared.day_input.DayInput.{DayInput}
-use Rattle.town.specs.Views.{setup}
-use Rattle.parts.specs.Owners.{Owner}
-use Rattle.parts.specs.Parts.{Held, held, ready}
+use Rattle.town.specs.{Views.setup, declared.day_input.DayInput.DayInput}
+use Rattle.parts.specs.{Owners.Owner, Parts.Held, Parts.held, Parts.ready}
 use Rattle.law_own_worlds.specs.Days.{world_before}
 use Rattle.law_own_seconds.specs.Seconds.{held_early, held_crossed, held_driven, world_early, world_crossed, world_driven}
 use Rattle.law_parcels.specs.Worlds.{world_held}

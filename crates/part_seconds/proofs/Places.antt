@@ -1,27 +1,16 @@
 -- Parcels at the places of neighbours.
-use Rattle.traffic.proofs.Common.{◌≡◌, ◌≢◌, ℕ, ◌<◌, List, [], ◌∷◌, ◌++◌, ◌∙◌, ap, refl, sym, arith, inl, inr}
-use Rattle.traffic.proofs.Common.{cases_Bool, Bool, true, false, length, set, filter, map, eqb, eqb-true, eqb-false, append-nil}
-use Rattle.traffic.proofs.Common.{append_assoc, cond}
-use Rattle.traffic.proofs.Common.{if◌then◌else◌, filter-append, length-set, get_or-set_same, get_or-set_other, lt-ltb, eq-eqb, ne_eqb}
-use Rattle.traffic.proofs.Common.{nat_lt, Option, Some, None, ◌==◌}
-use Rattle.std.specs.List.{position_or_len}
-use Rattle.std.proofs.lemmas.List.Quantifiers.{position-Some}
-use Rattle.std.proofs.lemmas.List.Sums.{position_or_len_is}
-use Rattle.traffic.specs.declared.world.Person.{Person}
-use Rattle.traffic.specs.Setup.{Setup}
+use Rattle.traffic.proofs.Common.{◌≡◌, ◌≢◌, ℕ, ◌<◌, List, [], ◌∷◌, ◌++◌, ◌∙◌, ap, refl, sym, arith, inl, inr, cases_Bool, Bool, true, false, length, set}
+use Rattle.traffic.proofs.Common.{filter, map, eqb, eqb-true, eqb-false, append-nil, append_assoc, cond, if◌then◌else◌, filter-append, length-set}
+use Rattle.traffic.proofs.Common.{get_or-set_same, get_or-set_other, lt-ltb, eq-eqb, ne_eqb, nat_lt, Option, Some, None, ◌==◌}
+use Rattle.traffic.specs.{Setup.Setup, declared.world.Person.Person}
+use Rattle.std.{proofs.lemmas.List.Quantifiers.position-Some, proofs.lemmas.List.Sums.position_or_len_is, specs.List.position_or_len}
 use Rattle.node_move.specs.declared.crossings.Entering.{Entering}
 use Rattle.parts.specs.Owners.{Owner}
-use Rattle.step_core.specs.declared.part.Border.{Border}
-use Rattle.step_core.specs.Nets.{border_at, no_border}
-use Rattle.part_seconds.specs.declared.contents.Moved.{Moved}
-use Rattle.part_seconds.specs.declared.contents.Teleported.{Teleported}
-use Rattle.part_seconds.specs.declared.contents.FreedPlaces.{FreedPlaces}
-use Rattle.part_seconds.specs.declared.contents.Contents.{Contents}
-use Rattle.part_seconds.specs.Leaving.{AreOthers}
-use Rattle.part_seconds.specs.Parcels.{nothing}
-use Rattle.part_seconds.specs.Sending.{parcel_at, with_vehicles, with_teleported, with_freed, place_in, is_at, changed_at, AreMore}
-use Rattle.part_seconds.specs.Sending.{moved_of, vehicle_place, more_vehicles, teleported_place, teleported_of, more_teleported, freed_place, more_freed}
-use Rattle.part_seconds.proofs.Lists.{next_map}
+use Rattle.step_core.specs.{Nets.border_at, Nets.no_border, declared.part.Border.Border}
+use Rattle.part_seconds.{proofs.Lists.next_map, specs.Leaving.AreOthers, specs.Parcels.nothing}
+use Rattle.part_seconds.specs.Sending.{parcel_at, with_vehicles, with_teleported, with_freed, place_in, is_at, changed_at, AreMore, moved_of, vehicle_place}
+use Rattle.part_seconds.specs.Sending.{more_vehicles, teleported_place, teleported_of, more_teleported, freed_place, more_freed}
+use Rattle.part_seconds.specs.declared.contents.{Contents.Contents, FreedPlaces.FreedPlaces, Moved.Moved, Teleported.Teleported}
 
 changed_count : (o : Option ℕ) (f : Contents → Contents) (xs : List Contents) → length (changed_at o f xs) ≡ length xs
 changed_count None f xs = refl

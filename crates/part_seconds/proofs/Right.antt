@@ -1,33 +1,24 @@
 -- The parcels that a partition fills are those of the day.
-use Rattle.traffic.proofs.Common.{◌≡◌, ◌≢◌, ℕ, ◌+◌, ◌<◌, List, [], ◌∷◌, ◌++◌, ◌∙◌, ap, refl, sym, inl, inr, cases_Bool, Bool, true, false}
-use Rattle.traffic.proofs.Common.{recursion_from_All}
-use Rattle.traffic.proofs.Common.{length, map, filter, flat_map, eqb, eqb-true, eqb-false, if◌then◌else◌, ◌==◌, ne_eqb, Some, subst}
-use Rattle.traffic.proofs.Common.{Setup, World, person_of, below}
-use Rattle.std.specs.List.{AllByRecursion as Each}
-use Rattle.traffic.specs.declared.riders.Rider.{Rider}
-use Rattle.traffic.specs.declared.world.Place.{Place}
+use Rattle.traffic.proofs.Common.{◌≡◌, ◌≢◌, ℕ, ◌+◌, ◌<◌, List, [], ◌∷◌, ◌++◌, ◌∙◌, ap, refl, sym, inl, inr, cases_Bool, Bool, true, false, recursion_from_All}
+use Rattle.traffic.proofs.Common.{length, map, filter, flat_map, eqb, eqb-true, eqb-false, if◌then◌else◌, ◌==◌, ne_eqb, Some, subst, Setup, World, person_of}
+use Rattle.traffic.{proofs.Common.below, specs.Setup.act_after, specs.Setup.leg_at, specs.declared.riders.Rider.Rider, specs.declared.world.Place.Place}
 use Rattle.traffic.specs.declared.world.Place.TheVariants.{At, Teleporting, Waiting, Riding, Aborted}
 use Rattle.traffic.specs.declared.world.Row.{Row}
-use Rattle.traffic.specs.Setup.{act_after, leg_at}
+use Rattle.std.specs.List.{AllByRecursion as Each}
 use Rattle.node_move.specs.declared.crossings.Entering.{Entering}
 use Rattle.node_seconds.specs.Networks.{is_among}
 use Rattle.part_nodes.specs.Phase.{entering_of}
 use Rattle.parts.specs.Owners.{Owner, owner_of, begins_in}
 use Rattle.parts.specs.Parts.{Parcel as Sent, Passed, Flight, Freed, passed, entering_row, flight_at, seconds_of_way, out}
 use Rattle.law_own_seconds.specs.Seconds.{world_driven}
-use Rattle.law_own_worlds.specs.Days.{world_before}
-use Rattle.law_own_worlds.specs.OwnWorlds.{set_out}
-use Rattle.law_partitions.specs.Alone.{flight_to}
-use Rattle.law_partitions.proofs.Rebuilt.{rebuilt}
+use Rattle.law_own_worlds.specs.{Days.world_before, OwnWorlds.set_out}
+use Rattle.law_partitions.{proofs.Rebuilt.rebuilt, specs.Alone.flight_to}
 use Rattle.law_parcels.specs.Sending.{sent_rows, goes_to, freed_over, SendsParcels}
-use Rattle.step_core.specs.declared.part.Border.{Border}
-use Rattle.step_core.specs.Nets.{border_at}
-use Rattle.part_seconds.specs.declared.contents.FreedPlaces.{FreedPlaces}
-use Rattle.part_seconds.specs.Contents.{passed_of, flight_of, freed_row, parcel_of}
-use Rattle.part_seconds.specs.Leaving.{AreOthers}
-use Rattle.part_seconds.specs.Sending.{is_at, moved_of, vehicle_place, other_than, teleports_to, place_if, teleported_place, teleported_of, freed_place}
-use Rattle.part_seconds.specs.Sending.{parcel_for}
+use Rattle.step_core.specs.{Nets.border_at, declared.part.Border.Border}
 use Rattle.part_seconds.proofs.Places.{place_is}
+use Rattle.part_seconds.specs.{Contents.passed_of, Contents.flight_of, Contents.freed_row, Contents.parcel_of, Leaving.AreOthers, Sending.is_at}
+use Rattle.part_seconds.specs.Sending.{moved_of, vehicle_place, other_than, teleports_to, place_if, teleported_place, teleported_of, freed_place, parcel_for}
+use Rattle.part_seconds.specs.declared.contents.FreedPlaces.{FreedPlaces}
 
 -- VEHICLES
 module _ (S : Setup) (t : ℕ) (W : World) (goes : Entering → Bool) (g : Row → Bool) (same : (r : Row) → goes (entering_of r) ≡ g r) where

@@ -1,33 +1,21 @@
 -- What a day says of the parcels of one of its partitions.
 use Rattle.traffic.proofs.Common.{◌≡◌, ℕ, ◌<◌, List, length, map, false, ap, ◌∙◌, arith, Setup, person_of}
 use Rattle.traffic.specs.declared.world.Person.{Person}
-use Rattle.town.specs.declared.day_input.DayInput.{DayInput}
-use Rattle.town.specs.Views.{setup}
-use Rattle.law_in_range.specs.Setups.{IsFitSetup, HaveFittingPlans, counts_in}
-use Rattle.law_in_range.proofs.Days.{chosen_fit}
-use Rattle.law_in_range.proofs.Towns.{town_fit}
+use Rattle.town.specs.{Views.setup, declared.day_input.DayInput.DayInput}
+use Rattle.law_in_range.{proofs.Days.chosen_fit, proofs.Towns.town_fit, specs.Setups.IsFitSetup, specs.Setups.HaveFittingPlans, specs.Setups.counts_in}
 use Rattle.law_matches_plans.proofs.Towns.{town_sound, town_consistent}
-use Rattle.law_sound_setups.specs.Setups.{IsSoundSetup}
-use Rattle.law_sound_setups.specs.Consistent.{IsConsistentSetup}
+use Rattle.law_sound_setups.specs.{Consistent.IsConsistentSetup, Setups.IsSoundSetup}
 use Rattle.parts.specs.Owners.{Owner}
-use Rattle.law_partitions.specs.Laws.{IsOwner}
-use Rattle.law_partitions.specs.Premises.{Lawful, Arrivals}
 use Rattle.law_partitions.proofs.Setting.{lawful, alighting, are_local}
+use Rattle.law_partitions.specs.{Laws.IsOwner, Premises.Lawful, Premises.Arrivals}
 use Rattle.law_own_seconds.specs.Seconds.{world_driven}
-use Rattle.law_own_worlds.specs.Days.{world_before}
-use Rattle.law_own_worlds.specs.OwnWorlds.{set_out}
-use Rattle.law_own_worlds.proofs.Days.{follows}
-use Rattle.law_parcels.specs.Sending.{sent_rows, is_gone, SendsParcels}
-use Rattle.law_parcels.proofs.Sending.{sends}
-use Rattle.law_parcels.proofs.Ending.{second}
+use Rattle.law_own_worlds.{proofs.Days.follows, specs.Days.world_before, specs.OwnWorlds.set_out}
+use Rattle.law_parcels.{proofs.Ending.second, proofs.Sending.sends, specs.Sending.sent_rows, specs.Sending.is_gone, specs.Sending.SendsParcels}
 use Rattle.node_move.specs.declared.crossings.Entering.{Entering}
 use Rattle.node_seconds.specs.Networks.{is_among}
 use Rattle.part_nodes.specs.Phase.{entering_of}
 use Rattle.part_persons.specs.declared.persons.Persons.{Persons}
-use Rattle.part_seconds.specs.Leaving.{AreWithout, HaveGone}
-use Rattle.part_seconds.specs.Sending.{all_gone}
-use Rattle.part_seconds.proofs.Without.{same_go}
-use Rattle.part_seconds.proofs.Went.{went}
+use Rattle.part_seconds.{proofs.Went.went, proofs.Without.same_go, specs.Leaving.AreWithout, specs.Leaving.HaveGone, specs.Sending.all_gone}
 
 module _ (day : DayInput) (own : Owner) (parts p t : ℕ) (given : HaveFittingPlans day) (shares : IsOwner own parts) where
   abbrev S : Setup

@@ -1,24 +1,17 @@
 -- Persons land and leave, and some departures start: what that makes of any world, done to the persons alone.
-use Rattle.traffic.proofs.Common.{◌≡◌, ℕ, Bool, true, false, List, [], ◌∷◌, ◌++◌, ◌∙◌, ap, refl, sym, subst, inl, inr, cases_Bool}
-use Rattle.traffic.proofs.Common.{length, get_or, append-nil, append_assoc, filter, filter-append, flat_map, eqb, eq-eqb}
-use Rattle.traffic.proofs.Common.{Event, Setup, World, nobody, below, at, on, rank, run, turns, turns_of, turns_in, events_in, after}
-use Rattle.traffic.proofs.Common.{through, told_in, departure_turns, departure_moves, waiter, waiters, Turn}
+use Rattle.traffic.proofs.Common.{◌≡◌, ℕ, Bool, true, false, List, [], ◌∷◌, ◌++◌, ◌∙◌, ap, refl, sym, subst, inl, inr, cases_Bool, length, get_or, append-nil}
+use Rattle.traffic.proofs.Common.{append_assoc, filter, filter-append, flat_map, eqb, eq-eqb, Event, Setup, World, nobody, below, at, on, rank, run, turns}
+use Rattle.traffic.proofs.Common.{turns_of, turns_in, events_in, after, through, told_in, departure_turns, departure_moves, waiter, waiters, Turn}
+use Rattle.traffic.proofs.Walks.{departure_walk}
+use Rattle.traffic.specs.declared.{stage.Stage.Stage, stage.Stage.TheVariants.Wait, world.Person.Person, world.Row.Row}
 use Rattle.std.specs.List.{AllByRecursion as Each}
 use Rattle.events.specs.declared.event.Phase.TheVariants as phase
-use Rattle.traffic.specs.declared.stage.Stage.{Stage}
-use Rattle.traffic.specs.declared.stage.Stage.TheVariants.{Wait}
-use Rattle.traffic.specs.declared.world.Person.{Person}
-use Rattle.traffic.specs.declared.world.Row.{Row}
-use Rattle.traffic.proofs.Walks.{departure_walk}
 use Rattle.parts.specs.Owners.{Owner}
 use Rattle.law_partitions.specs.Alone.{my_runs}
 use Rattle.law_own_worlds.specs.OwnWorlds.{landed, left, set_out}
-use Rattle.part_persons.specs.declared.phases.EarlyPhase.{EarlyPhase}
-use Rattle.part_persons.specs.declared.phases.EarlyPhase.TheVariants.{Land, Leave, Start}
-use Rattle.part_persons.specs.Phases.{joined}
-use Rattle.part_persons.proofs.InOrder.{after_more}
-use Rattle.part_persons.proofs.Joining.{AtStart, LooksAtPersons, joined_turns, joined_after, early_phase, entered_after}
-use Rattle.part_persons.proofs.Joining.{joined_through, joined_told, joined_none, entered_through}
+use Rattle.part_persons.specs.declared.phases.EarlyPhase.{EarlyPhase, TheVariants.Land, TheVariants.Leave, TheVariants.Start}
+use Rattle.part_persons.{specs.Phases.joined, proofs.InOrder.after_more, proofs.Joining.AtStart, proofs.Joining.LooksAtPersons}
+use Rattle.part_persons.proofs.Joining.{joined_turns, joined_after, early_phase, entered_after, joined_through, joined_told, joined_none, entered_through}
 use Rattle.part_lines.proofs.Standing.{after_early}
 
 -- DEPARTURES

@@ -1,9 +1,8 @@
 -- The links of a partition in their slots.
-use Rattle.traffic.proofs.Common.{◌≡◌, ℕ, zero, suc, ◌+◌, ◌<◌, ◌≤◌, Bool, true, false, List, [], ◌∷◌, ◌∙◌, ap, refl, sym, subst, arith, inl, inr}
-use Rattle.traffic.proofs.Common.{cases_Bool, eqb, eqb-true, eq-eqb, true≢false, length, get_or, map, filter, All-get_or, All-from_recursion}
-use Rattle.traffic.proofs.Common.{Setup, below, numbers}
-use Rattle.std.proofs.Common.{zero-add}
+use Rattle.traffic.proofs.Common.{◌≡◌, ℕ, zero, suc, ◌+◌, ◌<◌, ◌≤◌, Bool, true, false, List, [], ◌∷◌, ◌∙◌, ap, refl, sym, subst, arith, inl, inr, cases_Bool}
+use Rattle.traffic.proofs.Common.{eqb, eqb-true, eq-eqb, true≢false, length, get_or, map, filter, All-get_or, All-from_recursion, Setup, below, numbers}
 use Rattle.traffic.proofs.Each.{each_kept, each_filter, each_all, each_number}
+use Rattle.std.proofs.Common.{zero-add}
 use Rattle.parts.specs.Owners.{Owner, owner_of}
 use Rattle.law_partitions.specs.Alone.{my_links}
 use Rattle.part_lines.proofs.Ready.{IsOneOf}

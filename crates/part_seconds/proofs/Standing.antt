@@ -1,18 +1,13 @@
 -- The links stand for those of a world, and sleep, once the vehicles that start in a second came to them.
-use Rattle.traffic.proofs.Common.{◌≡◌, ◌≢◌, ℕ, ◌<◌, ◌≤◌, false, List, [], ◌∷◌, ◌++◌, ◌∙◌, ap, refl, sym, subst, arith, inl, inr, cases_Bool, eqb, eqb-true, eqb-false, eq-eqb, ne_eqb, lt-ltb}
-use Rattle.traffic.proofs.Common.{length, get_or, filter, map, filter-append, append-nil, append_assoc, Option, None, Some, Setup, World, at, on}
-use Rattle.std.specs.List.{AllByRecursion as Each}
-use Rattle.std.proofs.lemmas.List.{get_or-set_same, get_or-set_other}
+use Rattle.traffic.proofs.Common.{◌≡◌, ◌≢◌, ℕ, ◌<◌, ◌≤◌, false, List, [], ◌∷◌, ◌++◌, ◌∙◌, ap, refl, sym, subst, arith, inl, inr, cases_Bool, eqb, eqb-true}
+use Rattle.traffic.proofs.Common.{eqb-false, eq-eqb, ne_eqb, lt-ltb, length, get_or, filter, map, filter-append, append-nil, append_assoc, Option, None, Some}
+use Rattle.traffic.proofs.Common.{Setup, World, at, on}
+use Rattle.traffic.specs.{Links.LinkState, Links.link_state, Vehicles.VehicleState, declared.stage.Stage.Stage, declared.stage.Stage.TheVariants.Queue}
+use Rattle.traffic.specs.declared.{stage.Stage.TheVariants.Buffer, stage.Stage.TheVariants.Wait, stage.Stage.TheVariants.Bay, world.Row.Row}
+use Rattle.std.{proofs.lemmas.List.get_or-set_same, proofs.lemmas.List.get_or-set_other, specs.List.AllByRecursion as Each}
 use Rattle.rows.specs.declared.settings.Dwelling.{Dwelling}
-use Rattle.traffic.specs.declared.stage.Stage.{Stage}
-use Rattle.traffic.specs.declared.stage.Stage.TheVariants.{Queue, Buffer, Wait, Bay}
-use Rattle.traffic.specs.declared.world.Row.{Row}
-use Rattle.traffic.specs.Vehicles.{VehicleState}
-use Rattle.traffic.specs.Links.{LinkState, link_state}
 use Rattle.calendar.specs.Waking.{wake_of, earlier}
-use Rattle.queue_link.specs.Links.{LinkView, row_on}
-use Rattle.queue_link.specs.declared.numbers.LinkNumbers.{LinkNumbers}
-use Rattle.queue_link.specs.Numbers.{numbers_of}
+use Rattle.queue_link.specs.{Links.LinkView, Links.row_on, Numbers.numbers_of, declared.numbers.LinkNumbers.LinkNumbers}
 use Rattle.node_move.specs.NodeStates.{no_link}
 use Rattle.link_seconds.specs.Seconds.{lists_at}
 use Rattle.law_waking.specs.Resting.{Rests, sleeps_to}

@@ -1,8 +1,6 @@
 -- Links and wakes are as many as before, and rows come one after the other.
 use Rattle.std.proofs.Common.{◌≡◌, ℕ, List, [], ◌∷◌, ◌++◌, length, refl, inl, inr}
-use Rattle.std.specs.Prelude.{Option, nat_lt}
-use Rattle.std.proofs.lemmas.Bool.{cases_Bool}
-use Rattle.std.proofs.lemmas.List.{length-set}
+use Rattle.std.{proofs.lemmas.Bool.cases_Bool, proofs.lemmas.List.length-set, specs.Prelude.Option, specs.Prelude.nat_lt}
 use Rattle.traffic.specs.declared.world.Row.{Row}
 use Rattle.calendar.specs.Waking.{wake_of, earlier}
 use Rattle.queue_link.specs.Links.{LinkView}

@@ -1,22 +1,17 @@
 -- Of links in slots: that they can turn, and stop where stops lie, where they stand for those of a world.
-use Rattle.traffic.proofs.Common.{◌≡◌, ℕ, ◌<◌, true, false, List, [], ◌∙◌, ap, sym, subst, arith, length, All-get_or, recursion_from_All}
-use Rattle.traffic.proofs.Common.{and_parts, ltb-true, eqb, eqb-true, eq-eqb, VehicleId, StopCall, World, Setup, Departure, VehicleState, at, on, nat_lt, LinkState, link_of_stop, departure, next_call, calls_on, IsOwn, IsSoundRow, Sound}
+use Rattle.traffic.proofs.Common.{◌≡◌, ℕ, ◌<◌, true, false, List, [], ◌∙◌, ap, sym, subst, arith, length, All-get_or, recursion_from_All, and_parts, ltb-true}
+use Rattle.traffic.proofs.Common.{eqb, eqb-true, eq-eqb, VehicleId, StopCall, World, Setup, Departure, VehicleState, at, on, nat_lt, LinkState, link_of_stop}
+use Rattle.traffic.proofs.{Common.departure, Common.next_call, Common.calls_on, Common.IsOwn, Common.IsSoundRow, Common.Sound, Each.each_filter, Sublists.on_is}
+use Rattle.traffic.specs.declared.{stage.Stage.Stage, stage.Stage.TheVariants.Queue, stage.Stage.TheVariants.Wait, stage.Stage.TheVariants.Bay, world.Row.Row}
 use Rattle.std.specs.List.{AllByRecursion as Each}
 use Rattle.events.specs.declared.event.VehicleId.TheVariants as vehicle
-use Rattle.traffic.specs.declared.stage.Stage.{Stage}
-use Rattle.traffic.specs.declared.stage.Stage.TheVariants.{Queue, Wait, Bay}
-use Rattle.traffic.specs.declared.world.Row.{Row}
-use Rattle.traffic.proofs.Each.{each_filter}
-use Rattle.traffic.proofs.Sublists.{on_is}
+use Rattle.law_in_range.proofs.{Sizes.call_offset, Telling.call_fit}
 use Rattle.law_in_range.specs.Rows.{Counts, IsFitVehicle, IsFitRow, IsFitWorld}
-use Rattle.law_in_range.proofs.Sizes.{call_offset}
-use Rattle.law_in_range.proofs.Telling.{call_fit}
 use Rattle.law_sound_setups.specs.Consistent.{AreAtStops, IsConsistentSetup}
 use Rattle.queue_link.specs.Links.{LinkView}
 use Rattle.link_seconds.specs.Seconds.{CanStop, IsReady, IsThere}
 use Rattle.node_seconds.specs.Networks.{lane}
-use Rattle.part_links.specs.Links.{LinksStandAt, CanTurn, StopsThere, lies_on}
-use Rattle.part_links.proofs.Standing.{link_is}
+use Rattle.part_links.{proofs.Standing.link_is, specs.Links.LinksStandAt, specs.Links.CanTurn, specs.Links.StopsThere, specs.Links.lies_on}
 
 -- STOPS THAT ARE THERE
 can_stop : (z : Counts) (v : VehicleState) → IsFitVehicle z v → CanStop z.stops v

@@ -6,8 +6,7 @@ use Rattle.calendar.specs.Due.{AreIn}
 use Rattle.parts.specs.Owners.{Owner}
 use Rattle.queue_link.specs.Links.{LinkView}
 use Rattle.node_seconds.specs.Networks.{is_among, AreOnce}
-use Rattle.part_places.specs.declared.places.Places.{Places}
-use Rattle.part_places.specs.Taking.{Taking, AreTakenOf, begins_here, still, times}
+use Rattle.part_places.specs.{Taking.Taking, Taking.AreTakenOf, Taking.begins_here, Taking.still, Taking.times, declared.places.Places.Places}
 use Rattle.law_parts_of_days.specs.Settling.{link_at, queued_in}
 use Rattle.part_seconds.specs.Settling.{left_one, left_all, AreFew, AreApart}
 

@@ -1,24 +1,18 @@
 -- Which nodes of a partition keep their seconds once others were woken; and who waits on then.
-use Rattle.traffic.proofs.Common.{◌≡◌, ◌≢◌, ℕ, ◌+◌, ◌<◌, ◌≤◌, true, false, List, [], ◌∷◌, ◌∙◌, ap, refl, sym, subst, arith, inl, inr, cases_Bool}
-use Rattle.traffic.proofs.Common.{true≢false, and_parts, eqb, eqb-true, eq-eqb, length, get_or-set_other}
-use Rattle.traffic.proofs.Common.{nat_lt, Option, None, Some, Setup, World, link_row, at, storage_of}
-use Rattle.traffic.specs.declared.stage.Stage.TheVariants.{Buffer}
-use Rattle.traffic.specs.declared.world.Row.{Row}
-use Rattle.traffic.specs.Links.{LinkState}
+use Rattle.traffic.proofs.Common.{◌≡◌, ◌≢◌, ℕ, ◌+◌, ◌<◌, ◌≤◌, true, false, List, [], ◌∷◌, ◌∙◌, ap, refl, sym, subst, arith, inl, inr, cases_Bool, true≢false}
+use Rattle.traffic.proofs.Common.{and_parts, eqb, eqb-true, eq-eqb, length, get_or-set_other, nat_lt, Option, None, Some, Setup, World, link_row, at}
+use Rattle.traffic.{proofs.Common.storage_of, specs.Links.LinkState, specs.declared.stage.Stage.TheVariants.Buffer, specs.declared.world.Row.Row}
 use Rattle.calendar.specs.Waking.{wake_of}
 use Rattle.parts.specs.Owners.{Owner, owner_of, begins_in}
 use Rattle.queue_link.specs.Links.{LinkView}
 use Rattle.node_seconds.specs.Networks.{lane, is_among}
 use Rattle.part_lines.proofs.Ready.{IsOneOf}
-use Rattle.part_links.specs.Links.{LinksStandAt}
-use Rattle.part_links.proofs.Standing.{link_is}
+use Rattle.part_links.{proofs.Standing.link_is, specs.Links.LinksStandAt}
 use Rattle.part_places.specs.Taking.{times, begins_here}
-use Rattle.part_nodes.specs.Phase.{taken_before, BufferWaits, AreAwaitedAt, GoOnThere}
-use Rattle.part_nodes.proofs.Held.{none_waits}
+use Rattle.part_nodes.{proofs.Held.none_waits, specs.Phase.taken_before, specs.Phase.BufferWaits, specs.Phase.AreAwaitedAt, specs.Phase.GoOnThere}
 use Rattle.law_parts_of_days.specs.Settling.{link_at, buffered_in, wake_end, wake_ends, is_own_start, wake_start, wake_starts}
 use Rattle.law_parts_of_days.proofs.Awaited.{not_woken, not_woken_for}
-use Rattle.part_seconds.proofs.Knowing.{waits_known}
-use Rattle.part_seconds.proofs.Vacated.{among_first, among_later}
+use Rattle.part_seconds.proofs.{Knowing.waits_known, Vacated.among_first, Vacated.among_later}
 
 -- WHO IS NOT WOKEN
 -- a node at which none of these links ends keeps its second

@@ -1,31 +1,19 @@
 -- Who goes with the parcels of a second is gone from the own world.
-use Rattle.traffic.proofs.Common.{◌≡◌, ℕ, zero, suc, ◌+◌, ◌<◌, List, [], ◌∷◌, ◌∙◌, ap, refl, sym, arith, inl, inr, cases_Bool, Bool, true}
-use Rattle.traffic.proofs.Common.{false}
-use Rattle.traffic.proofs.Common.{length, map, flat_map, eqb, eqb-true, if◌then◌else◌, ◌==◌, ◌||◌, ◌&&◌, not, nat_lt, count_by, sum_by-cons}
-use Rattle.traffic.proofs.Common.{lt-ltb, cond}
-use Rattle.traffic.proofs.Common.{Setup, person_of, listed, listed_in, Option, Some, None}
+use Rattle.traffic.proofs.Common.{◌≡◌, ℕ, zero, suc, ◌+◌, ◌<◌, List, [], ◌∷◌, ◌∙◌, ap, refl, sym, arith, inl, inr, cases_Bool, Bool, true, false, length, map}
+use Rattle.traffic.proofs.Common.{flat_map, eqb, eqb-true, if◌then◌else◌, ◌==◌, ◌||◌, ◌&&◌, not, nat_lt, count_by, sum_by-cons, lt-ltb, cond, Setup, person_of}
+use Rattle.traffic.{proofs.Common.listed, proofs.Common.listed_in, proofs.Common.Option, proofs.Common.Some, proofs.Common.None, specs.Setup.act_after}
+use Rattle.traffic.specs.declared.{riders.Rider.Rider, world.Person.Person, world.Place.Place, world.Place.TheVariants.At}
+use Rattle.traffic.specs.declared.world.{Place.TheVariants.Teleporting, Place.TheVariants.Waiting, Place.TheVariants.Riding, Place.TheVariants.Aborted, Row.Row}
 use Rattle.std.specs.Prelude.{is_some}
-use Rattle.traffic.specs.declared.riders.Rider.{Rider}
-use Rattle.traffic.specs.declared.world.Person.{Person}
-use Rattle.traffic.specs.declared.world.Place.{Place}
-use Rattle.traffic.specs.declared.world.Place.TheVariants.{At, Teleporting, Waiting, Riding, Aborted}
-use Rattle.traffic.specs.declared.world.Row.{Row}
-use Rattle.traffic.specs.Setup.{act_after}
 use Rattle.node_move.specs.declared.crossings.Entering.{Entering}
 use Rattle.node_seconds.specs.Networks.{is_among}
 use Rattle.part_nodes.specs.Phase.{entering_of}
-use Rattle.parts.specs.Owners.{Owner, owner_of}
-use Rattle.parts.specs.Parts.{rides_in}
-use Rattle.law_in_range.specs.Rows.{Counts}
-use Rattle.law_in_range.specs.Setups.{IsFitSetup}
+use Rattle.parts.specs.{Owners.Owner, Owners.owner_of, Parts.rides_in}
+use Rattle.law_in_range.specs.{Rows.Counts, Setups.IsFitSetup}
 use Rattle.law_own_seconds.specs.Seconds.{world_driven}
-use Rattle.law_own_worlds.specs.Days.{is_there, world_before}
-use Rattle.law_own_worlds.specs.OwnWorlds.{set_out}
-use Rattle.law_partitions.specs.Premises.{Lawful, Arrivals}
-use Rattle.law_partitions.proofs.Spare.{listed-cons}
-use Rattle.law_parcels.specs.Sending.{sent_rows, flies_out, is_gone}
-use Rattle.law_parcels.proofs.Ending.{lacked}
-use Rattle.law_parcels.proofs.Flying.{flew_before}
+use Rattle.law_own_worlds.specs.{Days.is_there, Days.world_before, OwnWorlds.set_out}
+use Rattle.law_partitions.{proofs.Spare.listed-cons, specs.Premises.Lawful, specs.Premises.Arrivals}
+use Rattle.law_parcels.{proofs.Ending.lacked, proofs.Flying.flew_before, specs.Sending.sent_rows, specs.Sending.flies_out, specs.Sending.is_gone}
 use Rattle.part_seconds.specs.Sending.{number_of, riders_of, teleports_to, teleports, one_if, if_teleports, all_gone}
 use Rattle.part_seconds.proofs.Lists.{or_none, among_append}
 

@@ -1,11 +1,9 @@
 -- Persons who are there no more.
-use Rattle.traffic.proofs.Common.{◌≡◌, ℕ, ◌<◌, List, [], ◌∷◌, ◌++◌, ◌∙◌, ap, refl, sym, arith, Bool, true, false, length}
-use Rattle.traffic.proofs.Common.{if◌then◌else◌, ◌||◌, ◌==◌, World, person_of, nobody}
-use Rattle.traffic.specs.declared.world.Person.{Person}
+use Rattle.traffic.proofs.Common.{◌≡◌, ℕ, ◌<◌, List, [], ◌∷◌, ◌++◌, ◌∙◌, ap, refl, sym, arith, Bool, true, false, length, if◌then◌else◌, ◌||◌, ◌==◌, World}
+use Rattle.traffic.{proofs.Common.person_of, proofs.Common.nobody, specs.declared.world.Person.Person}
 use Rattle.node_seconds.specs.Networks.{is_among}
 use Rattle.part_persons.specs.declared.persons.Persons.{Persons}
-use Rattle.part_seconds.specs.Leaving.{AreWithout}
-use Rattle.part_seconds.proofs.Lists.{among_next}
+use Rattle.part_seconds.{proofs.Lists.among_next, specs.Leaving.AreWithout}
 
 pub nobody_goes : (old : Persons) → AreWithout (λ i. false) old old
 nobody_goes old = record { each = λ i lt. refl; count = refl; rest = refl; followed = λ S end t h. h; wakes = refl }

@@ -1,18 +1,15 @@
 -- What a parcel makes of who is in a partition.
 use Rattle.std.specs.Prelude.{◌≡◌, ℕ, ◌<◌, List, [], ◌∷◌, length, get_or, ◌==◌, if◌then◌else◌}
 use Rattle.std.specs.List.{flat_map}
-use Rattle.traffic.specs.declared.world.Person.{Person}
+use Rattle.traffic.specs.{Rows.person_of, declared.world.Person.Person}
 use Rattle.traffic.specs.declared.world.Place.TheVariants as place
-use Rattle.traffic.specs.Rows.{person_of}
 use Rattle.parts.specs.Parts.{Passed}
 use Rattle.law_partitions.specs.Alone.{riding}
 use Rattle.law_parcels.specs.Hearing.{last_or}
 use Rattle.node_move.specs.declared.crossings.Entering.{Entering}
 use Rattle.town.specs.declared.day_input.DayInput.{DayInput}
-use Rattle.part_persons.specs.Dues.{AreFollowedIn}
-use Rattle.part_persons.specs.declared.persons.Persons.{Persons}
-use Rattle.part_seconds.specs.declared.contents.Moved.{Moved}
-use Rattle.part_seconds.specs.declared.contents.Teleported.{Teleported}
+use Rattle.part_persons.specs.{Dues.AreFollowedIn, declared.persons.Persons.Persons}
+use Rattle.part_seconds.specs.declared.contents.{Moved.Moved, Teleported.Teleported}
 
 -- Each person has the last of the rows that came for him, or the one that he had; all else is as it was.
 pub record Come (day : DayInput) (rows : ℕ → List Person) (old new : Persons) : Type 0 where

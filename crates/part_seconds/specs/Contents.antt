@@ -2,10 +2,7 @@
 use Rattle.std.specs.Prelude.{ℕ, ◌+◌, map}
 use Rattle.traffic.specs.Setup.{Setup, leg_at}
 use Rattle.parts.specs.Parts.{Parcel as Sent, Passed, Flight, Freed, entering_row, seconds_of_way}
-use Rattle.part_seconds.specs.declared.contents.Moved.{Moved}
-use Rattle.part_seconds.specs.declared.contents.Teleported.{Teleported}
-use Rattle.part_seconds.specs.declared.contents.FreedPlaces.{FreedPlaces}
-use Rattle.part_seconds.specs.declared.contents.Contents.{Contents}
+use Rattle.part_seconds.specs.declared.contents.{Contents.Contents, FreedPlaces.FreedPlaces, Moved.Moved, Teleported.Teleported}
 
 -- Of a parcel that was sent in second t: the row of a vehicle, the flight of a person, and how many rows left a queue. `Flight` is the word of
 -- the definition (`parts`) for what is `Teleported` here.

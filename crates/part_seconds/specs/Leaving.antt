@@ -1,13 +1,10 @@
 -- Who is left once others went to other partitions.
 use Rattle.std.specs.Prelude.{◌≡◌, ℕ, ◌<◌, Bool, false, List, length, if◌then◌else◌, ◌==◌}
-use Rattle.traffic.specs.Rows.{person_of, nobody}
-use Rattle.traffic.specs.Setup.{Setup}
+use Rattle.traffic.specs.{Rows.person_of, Rows.nobody, Setup.Setup}
 use Rattle.parts.specs.Owners.{Owner}
-use Rattle.step_core.specs.declared.part.Border.{Border}
-use Rattle.step_core.specs.Nets.{border_at}
+use Rattle.step_core.specs.{Nets.border_at, declared.part.Border.Border}
 use Rattle.law_parcels.specs.Sending.{is_gone}
-use Rattle.part_persons.specs.Dues.{AreFollowed}
-use Rattle.part_persons.specs.declared.persons.Persons.{Persons}
+use Rattle.part_persons.specs.{Dues.AreFollowed, declared.persons.Persons.Persons}
 
 -- nobody stands for those who went; all else is as it was
 pub record AreWithout (went : ℕ → Bool) (old new : Persons) : Type 0 where

@@ -1,7 +1,6 @@
 -- A second in which nobody of a part has anything to do.
 use Rattle.std.specs.Prelude.{◌≡◌, ℕ, []}
-use Rattle.calendar.specs.Due.{due_at}
-use Rattle.calendar.specs.Waking.{woken}
+use Rattle.calendar.specs.{Due.due_at, Waking.woken}
 use Rattle.part_seconds.specs.declared.area.Area.{Area}
 
 -- in second t nobody of a part is woken, none of its departures starts, and no place on its links comes free

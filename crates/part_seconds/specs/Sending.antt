@@ -1,23 +1,14 @@
 -- Who gets what leaves a partition in a second.
-use Rattle.std.specs.Prelude.{◌≡◌, ℕ, ◌<◌, Bool, false, List, [], ◌∷◌, ◌++◌, length, map, filter, get_or, set, position, ◌==◌}
-use Rattle.std.specs.Prelude.{if◌then◌else◌, Option, None, Some}
-use Rattle.std.specs.List.{flat_map}
-use Rattle.traffic.specs.declared.riders.Rider.{Rider}
-use Rattle.traffic.specs.declared.world.Person.{Person}
-use Rattle.traffic.specs.declared.world.Place.{Place}
+use Rattle.std.specs.{List.flat_map, Prelude.◌≡◌}
+use Rattle.std.specs.Prelude.{ℕ, ◌<◌, Bool, false, List, [], ◌∷◌, ◌++◌, length, map, filter, get_or, set, position, ◌==◌, if◌then◌else◌, Option, None, Some}
+use Rattle.traffic.specs.{Rows.nobody, Setup.Setup, Setup.act_after, declared.riders.Rider.Rider, declared.world.Person.Person, declared.world.Place.Place}
 use Rattle.traffic.specs.declared.world.Place.TheVariants as place
-use Rattle.traffic.specs.Rows.{nobody}
-use Rattle.traffic.specs.Setup.{Setup, act_after}
 use Rattle.node_move.specs.declared.crossings.Entering.{Entering}
 use Rattle.parts.specs.Owners.{Owner, owner_of, begins_in}
 use Rattle.step_core.specs.declared.part.Border.{Border}
-use Rattle.part_seconds.specs.declared.contents.Moved.{Moved}
-use Rattle.part_seconds.specs.declared.contents.Teleported.{Teleported}
-use Rattle.part_seconds.specs.declared.contents.FreedPlaces.{FreedPlaces}
-use Rattle.part_seconds.specs.declared.contents.ParcelItem.{ParcelItem}
-use Rattle.part_seconds.specs.declared.contents.ParcelItem.TheVariants as item
-use Rattle.part_seconds.specs.declared.contents.Contents.{Contents}
 use Rattle.part_seconds.specs.Parcels.{nothing}
+use Rattle.part_seconds.specs.declared.contents.{Contents.Contents, FreedPlaces.FreedPlaces, Moved.Moved, ParcelItem.ParcelItem, Teleported.Teleported}
+use Rattle.part_seconds.specs.declared.contents.ParcelItem.TheVariants as item
 
 -- PARCELS
 -- the parcel at a place

@@ -1,8 +1,7 @@
 -- What the turns of links and places that come free mean for places and for queues, where links stand in slots.
 use Rattle.std.specs.Prelude.{◌≡◌, ℕ, ◌+◌, ◌-◌, ◌<◌, ◌≤◌, true, List, [], ◌∷◌, length, map, set, get_or, nat_lt, if◌then◌else◌}
 use Rattle.traffic.specs.Setup.{Setup, storage_of, seconds_of, hole_of}
-use Rattle.parts.specs.Owners.{Owner}
-use Rattle.parts.specs.Parts.{Held}
+use Rattle.parts.specs.{Owners.Owner, Parts.Held}
 use Rattle.queue_link.specs.Links.{LinkView}
 use Rattle.part_places.specs.Taking.{Taking, later, begins_here}
 use Rattle.law_parts_of_days.specs.Settling.{link_at, queued_in}

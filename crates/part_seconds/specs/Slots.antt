@@ -1,11 +1,9 @@
 -- What a partition has of a network whose links stand in slots, each in the partition where it ends.
 use Rattle.std.specs.Prelude.{◌≡◌, ℕ, ◌<◌, List, [], length, get_or, ◌==◌}
-use Rattle.traffic.specs.declared.world.Row.{Row}
-use Rattle.traffic.specs.Setup.{Setup, into}
+use Rattle.traffic.specs.{Setup.Setup, Setup.into, declared.world.Row.Row}
 use Rattle.parts.specs.Owners.{Owner}
 use Rattle.divided_day.specs.Slots.{link_in, slot_count}
-use Rattle.part_nodes.specs.InLinks.{slots_of}
-use Rattle.part_nodes.specs.Phase.{Extent}
+use Rattle.part_nodes.specs.{InLinks.slots_of, Phase.Extent}
 
 -- so it has its nodes, and these links in so many slots
 abbrev pub extent_of : Setup → Owner → ℕ → Extent

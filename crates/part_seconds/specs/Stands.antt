@@ -1,23 +1,16 @@
 -- That what a part has stands for what its partition holds, and for a world with the same.
 use Rattle.std.specs.Prelude.{◌≡◌, ℕ, ◌<◌, ◌≤◌, false, length, get_or, ◌==◌, None}
-use Rattle.calendar.specs.Due.{Due, due_at}
-use Rattle.calendar.specs.Waking.{wake_of}
-use Rattle.town.specs.declared.day_input.DayInput.{DayInput}
-use Rattle.town.specs.Views.{setup}
-use Rattle.traffic.specs.declared.stage.Stage.TheVariants.{Queue}
-use Rattle.traffic.specs.Rows.{World, at}
-use Rattle.traffic.specs.Setup.{Setup}
-use Rattle.parts.specs.Owners.{Owner}
-use Rattle.parts.specs.Parts.{Held}
+use Rattle.calendar.specs.{Due.Due, Due.due_at, Waking.wake_of}
+use Rattle.town.specs.{Views.setup, declared.day_input.DayInput.DayInput}
+use Rattle.traffic.specs.{Rows.World, Rows.at, Setup.Setup, declared.stage.Stage.TheVariants.Queue}
+use Rattle.parts.specs.{Owners.Owner, Parts.Held}
 use Rattle.link_seconds.specs.Seconds.{AreShort}
 use Rattle.part_links.specs.Links.{LinksStandAt, LinesStandAt, AreAsleep}
-use Rattle.part_nodes.specs.declared.network.NetworkState.{NetworkState}
-use Rattle.part_nodes.specs.Phase.{AreAwaitedAt}
+use Rattle.part_nodes.specs.{Phase.AreAwaitedAt, declared.network.NetworkState.NetworkState}
 use Rattle.part_persons.specs.Own.{own_departs_in}
 use Rattle.part_places.specs.Taking.{AreTakenOf, begins_here}
 use Rattle.law_parts_of_days.specs.Persons.{PersonsStand}
-use Rattle.part_seconds.specs.declared.area.Area.{Area}
-use Rattle.part_seconds.specs.Settling.{places_known}
+use Rattle.part_seconds.specs.{Settling.places_known, declared.area.Area.Area}
 use Rattle.divided_day.specs.Slots.{link_in, slot_count}
 
 -- the departures of p of each second from second u on, before the end

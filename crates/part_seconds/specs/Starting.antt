@@ -1,8 +1,6 @@
 -- What vehicles that start make of links, and when these are woken.
 use Rattle.std.specs.Prelude.{ℕ, List, [], ◌∷◌, ◌++◌, length, set, nat_lt, if◌then◌else◌, Option}
-use Rattle.traffic.specs.declared.stage.Stage.TheVariants.{Wait}
-use Rattle.traffic.specs.declared.world.Row.{Row}
-use Rattle.traffic.specs.Vehicles.{VehicleState}
+use Rattle.traffic.specs.{Vehicles.VehicleState, declared.stage.Stage.TheVariants.Wait, declared.world.Row.Row}
 use Rattle.calendar.specs.Waking.{woken_by}
 use Rattle.queue_link.specs.Links.{LinkView, row_on}
 use Rattle.node_seconds.specs.Networks.{lane}

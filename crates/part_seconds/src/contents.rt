@@ -1,8 +1,7 @@
 //! What a partition sends to a neighbour in a second.
 
 ghost use Rattle.std.specs.Prelude.{◌≡◌, true, IfOk, OnOk, MatchOption};
-ghost use Rattle.part_seconds.specs.Parcels.{nothing};
-ghost use Rattle.part_seconds.specs.Sending.{with_item};
+ghost use Rattle.part_seconds.specs.{Parcels.nothing, Sending.with_item};
 
 use events::Rows;
 use std::alloc::{AllocError, Global};
@@ -106,8 +105,7 @@ pub struct Parcel {
 }
 
 impl Model for Parcel {
-    ghost use Rattle.part_seconds.specs.declared.contents.Contents.{Contents};
-    ghost use Rattle.part_seconds.specs.Parcels.{contents_in};
+    ghost use Rattle.part_seconds.specs.{Parcels.contents_in, declared.contents.Contents.Contents};
 
     ghost Value = { Contents };
 

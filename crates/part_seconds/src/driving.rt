@@ -13,12 +13,9 @@ ghost use Rattle.part_links.specs.Links.{AreNumbered, LinksStandAt, LinesStandAt
 ghost use Rattle.part_links.specs.Phase.{IsPhaseAt};
 ghost use Rattle.partition.specs.Owned.{owner_in};
 ghost use Rattle.town.specs.Views.{setup};
-ghost use Rattle.traffic.specs.Day.{events_in};
-ghost use Rattle.traffic.specs.Rows.{World};
-ghost use Rattle.traffic.specs.Setup.{Setup};
+ghost use Rattle.traffic.specs.{Day.events_in, Rows.World, Setup.Setup};
 ghost use Rattle.law_parcels.specs.Sending.{freed_over};
-ghost use Rattle.part_seconds.specs.Contents.{freed_row};
-ghost use Rattle.part_seconds.specs.Stands.{AreaStands};
+ghost use Rattle.part_seconds.specs.{Contents.freed_row, Stands.AreaStands};
 
 use crate::FreedPlaces;
 use crate::area::Area;

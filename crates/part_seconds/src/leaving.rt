@@ -4,8 +4,7 @@ ghost use Rattle.std.specs.Prelude.{◌≡◌, ℕ, ◌<◌, false, ◌++◌, �
 ghost use Rattle.std.specs.List.{flat_map};
 ghost use Rattle.law_in_range.specs.Setups.{HaveFittingPlans};
 ghost use Rattle.law_own_seconds.specs.Seconds.{world_driven};
-ghost use Rattle.law_own_worlds.specs.Days.{world_before};
-ghost use Rattle.law_own_worlds.specs.OwnWorlds.{set_out};
+ghost use Rattle.law_own_worlds.specs.{Days.world_before, OwnWorlds.set_out};
 ghost use Rattle.law_parcels.specs.Sending.{sent_rows, freed_over};
 ghost use Rattle.node_seconds.specs.Networks.{is_among};
 ghost use Rattle.part_nodes.specs.Phase.{entering_of};
@@ -13,13 +12,10 @@ ghost use Rattle.partition.specs.Owned.{owner_in};
 ghost use Rattle.parts.specs.Parts.{out};
 ghost use Rattle.step_core.specs.Nets.{border_at};
 ghost use Rattle.town.specs.Views.{setup};
-ghost use Rattle.traffic.specs.Lists.{below};
-ghost use Rattle.traffic.specs.Rows.{person_of};
+ghost use Rattle.traffic.specs.{Lists.below, Rows.person_of};
 ghost use Rattle.part_seconds.specs.Contents.{freed_row, parcel_of};
-ghost use Rattle.part_seconds.specs.Parcels.{HasNothing};
-ghost use Rattle.part_seconds.specs.Sending.{parcel_at, parcel_for, all_gone, riders_of, if_teleports};
-ghost use Rattle.part_seconds.specs.Sending.{AreMore, more_vehicles, more_teleported};
-ghost use Rattle.part_seconds.specs.Leaving.{AreWithout, AreOthers, HaveGone};
+ghost use Rattle.part_seconds.specs.{Leaving.AreWithout, Leaving.AreOthers, Leaving.HaveGone, Parcels.HasNothing, Sending.parcel_at};
+ghost use Rattle.part_seconds.specs.Sending.{parcel_for, all_gone, riders_of, if_teleports, AreMore, more_vehicles, more_teleported};
 
 use crate::contents::FreedPlaces;
 use crate::mailbox::Mailbox;

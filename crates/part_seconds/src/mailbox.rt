@@ -1,8 +1,7 @@
 //! What lies between a partition and its neighbours.
 
 ghost use Rattle.std.specs.Prelude.{◌≡◌, ◌<◌, false, length, set, replicate, IfOk, OnOk};
-ghost use Rattle.part_seconds.specs.Parcels.{nothing, HasNothing};
-ghost use Rattle.part_seconds.specs.Sending.{parcel_at, with_item};
+ghost use Rattle.part_seconds.specs.{Parcels.nothing, Parcels.HasNothing, Sending.parcel_at, Sending.with_item};
 
 use crate::contents::{Parcel, ParcelItem};
 use std::alloc::{AllocError, Global};
@@ -22,8 +21,7 @@ pub struct Mailbox {
 
 impl Model for Mailbox {
     ghost use Rattle.std.specs.Prelude.{List};
-    ghost use Rattle.part_seconds.specs.declared.contents.Contents.{Contents};
-    ghost use Rattle.part_seconds.specs.Parcels.{IsNoted};
+    ghost use Rattle.part_seconds.specs.{Parcels.IsNoted, declared.contents.Contents.Contents};
 
     ghost Value = { List Contents };
 

@@ -2,12 +2,10 @@
 
 ghost use Rattle.std.specs.Prelude.{◌≡◌, ℕ, ◌<◌, [], get_or};
 ghost use Rattle.law_in_range.specs.Setups.{HaveFittingPlans};
-ghost use Rattle.partition.specs.Homes.{homes_of};
-ghost use Rattle.partition.specs.Owned.{owner_in};
+ghost use Rattle.partition.specs.{Homes.homes_of, Owned.owner_in};
 ghost use Rattle.town.specs.Views.{setup};
 ghost use Rattle.law_partitions.specs.Alone.{my_links};
-ghost use Rattle.divided_day.specs.Slots.{AreSlots, my_starts};
-ghost use Rattle.divided_day.specs.Borders.{borders_of};
+ghost use Rattle.divided_day.specs.{Borders.borders_of, Slots.AreSlots, Slots.my_starts};
 ghost use Rattle.part_seconds.specs.Slots.{AreSlotsInto};
 
 use divided_day::NumberList;

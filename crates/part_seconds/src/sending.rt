@@ -5,12 +5,10 @@ ghost use Rattle.std.specs.List.{flat_map};
 ghost use Rattle.parts.specs.Owners.{begins_in};
 ghost use Rattle.partition.specs.Owned.{owner_in};
 ghost use Rattle.town.specs.Views.{setup};
-ghost use Rattle.traffic.specs.Rows.{nobody};
-ghost use Rattle.traffic.specs.Setup.{row_at};
-ghost use Rattle.part_seconds.specs.Sending.{changed_at, with_vehicles, with_teleported, with_freed, with_item};
-ghost use Rattle.part_seconds.specs.Sending.{element_of, number_of, riders_of, moved_of, teleports_to, teleported_of, if_teleports};
-ghost use Rattle.part_seconds.specs.Sending.{vehicle_place, teleported_place, freed_place, AreMore};
-ghost use Rattle.part_seconds.specs.Sending.{more_vehicles, more_teleported, more_freed};
+ghost use Rattle.traffic.specs.{Rows.nobody, Setup.row_at};
+ghost use Rattle.part_seconds.specs.Sending.{changed_at, with_vehicles, with_teleported, with_freed, with_item, element_of, number_of};
+ghost use Rattle.part_seconds.specs.Sending.{riders_of, moved_of, teleports_to, teleported_of, if_teleports, vehicle_place};
+ghost use Rattle.part_seconds.specs.Sending.{teleported_place, freed_place, AreMore, more_vehicles, more_teleported, more_freed};
 
 use crate::borders::place_of;
 use crate::contents::{FreedPlaces, Moved, ParcelItem, Teleported};

@@ -2,20 +2,15 @@
 
 ghost use Rattle.std.specs.Prelude.{◌≡◌, ◌<◌, ◌+◌, ◌++◌, ℕ, false, [], length, map, filter, get_or, OnOk, IfOk};
 ghost use Rattle.part_lines.specs.Coming.{CanAllJoin, joined_lines};
-ghost use Rattle.part_seconds.specs.Starting.{all_started, woken_for_all};
-ghost use Rattle.part_seconds.specs.Slots.{in_slot};
-ghost use Rattle.traffic.specs.Lists.{below};
+ghost use Rattle.part_seconds.specs.{Slots.in_slot, Stands.AreaStands, Starting.all_started, Starting.woken_for_all};
+ghost use Rattle.traffic.specs.{Day.turns_in, Day.events_in, Lists.below, Rows.person_of};
 ghost use Rattle.limits.specs.declared.TheConstants.{LAST_SECOND};
 ghost use Rattle.events.specs.declared.event.Phase.TheVariants as phase;
-ghost use Rattle.law_own_worlds.specs.Days.{world_before, run_turns};
-ghost use Rattle.law_own_worlds.specs.OwnWorlds.{landed};
+ghost use Rattle.law_own_worlds.specs.{Days.world_before, Days.run_turns, OwnWorlds.landed};
 ghost use Rattle.node_seconds.specs.Networks.{is_among};
 ghost use Rattle.partition.specs.Owned.{owner_in};
 ghost use Rattle.parts.specs.Parts.{ready};
 ghost use Rattle.town.specs.Views.{setup};
-ghost use Rattle.traffic.specs.Day.{turns_in, events_in};
-ghost use Rattle.traffic.specs.Rows.{person_of};
-ghost use Rattle.part_seconds.specs.Stands.{AreaStands};
 ghost use Rattle.law_own_seconds.specs.Seconds.{held_early, world_early};
 
 use crate::area::Area;

@@ -1,9 +1,8 @@
 //! What the turns of links, and places that come free, mean for when nodes are woken; and what the turns of links mean for places and for
 //! the queues of links that begin elsewhere.
 
+ghost use Rattle.std.specs.{List.flat_map, Option.option_to_list};
 ghost use Rattle.std.specs.Prelude.{◌≡◌, ◌<◌, ◌≤◌, ◌+◌, ℕ, Bool, true, length, set, OnOk, IfOk};
-ghost use Rattle.std.specs.List.{flat_map};
-ghost use Rattle.std.specs.Option.{option_to_list};
 ghost use Rattle.limits.specs.declared.TheConstants.{LAST_SECOND};
 ghost use Rattle.calendar.specs.Due.{AreIn};
 ghost use Rattle.partition.specs.Owned.{owner_in};

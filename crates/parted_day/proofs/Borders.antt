@@ -1,12 +1,8 @@
 -- What leads from one partition to a neighbour, and what parcels a partition is given.
-use Rattle.traffic.proofs.Common.{◌≡◌, ◌≢◌, ℕ, ◌+◌, ◌-◌, ◌<◌, true, false, not, ◌∙◌, ap, refl, sym, arith}
-use Rattle.traffic.proofs.Common.{inl, inr, cases_Bool, and_parts}
-use Rattle.traffic.proofs.Common.{true≢false, eqb, eqb-true, ne_eqb, length, nat_le, nat_tests, None, Some, Setup}
-use Rattle.parts.specs.Owners.{Owner, owner_of, begins_in, crosses, leads, near, lag}
-use Rattle.parts.specs.Parts.{out}
-use Rattle.law_partitions.specs.Alone.{given}
-use Rattle.law_partitions.proofs.Joined.{near-self}
-use Rattle.law_partitions.proofs.Lags.{in_range}
+use Rattle.traffic.proofs.Common.{◌≡◌, ◌≢◌, ℕ, ◌+◌, ◌-◌, ◌<◌, true, false, not, ◌∙◌, ap, refl, sym, arith, inl, inr, cases_Bool, and_parts, true≢false, eqb}
+use Rattle.traffic.proofs.Common.{eqb-true, ne_eqb, length, nat_le, nat_tests, None, Some, Setup}
+use Rattle.parts.specs.{Owners.Owner, Owners.owner_of, Owners.begins_in, Owners.crosses, Owners.leads, Owners.near, Owners.lag, Parts.out}
+use Rattle.law_partitions.{proofs.Joined.near-self, proofs.Lags.in_range, specs.Alone.given}
 
 -- a neighbour is another partition
 pub other_of : (S : Setup) (own : Owner) (p q : ℕ) → near S own q p ≡ true → q ≢ p

@@ -1,59 +1,36 @@
 -- A partition at the start of a day: it holds its persons and nothing else, so nobody is on a link of its own world and nobody waits there.
-use Rattle.traffic.proofs.Common.{◌≡◌, ℕ, ◌+◌, ◌<◌, ◌≤◌, Bool, true, false, List, [], ◌∷◌, ◌++◌, ◌∙◌, ap, refl, sym, subst, arith}
-use Rattle.traffic.proofs.Common.{cases_Bool, cases_lt, eqb, eq-eqb, fun_ext, inl, inr, ltb-false, length, length-map, length-replicate}
-use Rattle.traffic.proofs.Common.{get_or, get_or-map}
-use Rattle.traffic.proofs.Common.{get_or_past, map, flat_map, replicate, if◌then◌else◌, ◌&&◌, Option, None, Some, VEHICLE_COST, PlanRows}
-use Rattle.traffic.proofs.Common.{Setup, World, at, hole_of, person_of, nobody, at_home, world_start, waiter, waiters, link_row}
-use Rattle.traffic.proofs.Common.{link_state, credit_of, below, in_turn}
-use Rattle.std.specs.Prelude.{is_some}
-use Rattle.std.proofs.lemmas.List.{get_or-replicate}
+use Rattle.traffic.proofs.Common.{◌≡◌, ℕ, ◌+◌, ◌<◌, ◌≤◌, Bool, true, false, List, [], ◌∷◌, ◌++◌, ◌∙◌, ap, refl, sym, subst, arith, cases_Bool, cases_lt, eqb}
+use Rattle.traffic.proofs.Common.{eq-eqb, fun_ext, inl, inr, ltb-false, length, length-map, length-replicate, get_or, get_or-map, get_or_past, map, flat_map}
+use Rattle.traffic.proofs.Common.{replicate, if◌then◌else◌, ◌&&◌, Option, None, Some, VEHICLE_COST, PlanRows, Setup, World, at, hole_of, person_of, nobody}
+use Rattle.traffic.proofs.Common.{at_home, world_start, waiter, waiters, link_row, link_state, credit_of, below, in_turn}
+use Rattle.traffic.specs.declared.stage.Stage.{Stage, TheVariants.Queue, TheVariants.Buffer, TheVariants.Wait, TheVariants.Bay}
+use Rattle.traffic.specs.declared.world.{Person.Person, Row.Row, Waiter.Waiter}
+use Rattle.std.{proofs.lemmas.List.get_or-replicate, specs.Prelude.is_some}
 use Rattle.calendar.specs.Waking.{wake_of}
 use Rattle.fixed_flow.specs.Flow.{raised_times}
-use Rattle.law_in_range.specs.Rows.{IsFitWorld}
-use Rattle.law_in_range.specs.Setups.{counts_in, HaveFittingPlans}
+use Rattle.law_in_range.specs.{Rows.IsFitWorld, Setups.counts_in, Setups.HaveFittingPlans}
 use Rattle.limits.specs.declared.TheConstants.{MAX_PERSONS}
 use Rattle.rows.specs.declared.settings.Dwelling.{Dwelling}
-use Rattle.town.specs.declared.day_input.DayInput.{DayInput}
-use Rattle.town.specs.Views.{setup}
-use Rattle.traffic.specs.declared.stage.Stage.{Stage}
-use Rattle.traffic.specs.declared.stage.Stage.TheVariants.{Queue, Buffer, Wait, Bay}
-use Rattle.traffic.specs.declared.world.Person.{Person}
-use Rattle.traffic.specs.declared.world.Row.{Row}
-use Rattle.traffic.specs.declared.world.Waiter.{Waiter}
+use Rattle.town.specs.{Views.setup, declared.day_input.DayInput.DayInput}
 use Rattle.parts.specs.Owners.{Owner, owner_of, begins_in, owner_of_person, lag}
 use Rattle.parts.specs.Parts.{Held, is_person, mine, part, held}
-use Rattle.law_partitions.specs.Alone.{my_links}
-use Rattle.law_partitions.proofs.Second.{same_state}
-use Rattle.law_partitions.proofs.Start.{starts_whole}
-use Rattle.law_own_worlds.specs.Making.{or_nobody, own_world, IsKnown}
-use Rattle.law_own_worlds.specs.OwnWorlds.{IsOwnWorld}
-use Rattle.law_own_worlds.proofs.Knowing.{unheard_known}
-use Rattle.law_own_worlds.proofs.Making.{made, one_person}
+use Rattle.law_partitions.{proofs.Second.same_state, proofs.Start.starts_whole, specs.Alone.my_links}
+use Rattle.law_own_worlds.proofs.{Knowing.unheard_known, Making.made, Making.one_person}
+use Rattle.law_own_worlds.specs.{Making.or_nobody, Making.own_world, Making.IsKnown, OwnWorlds.IsOwnWorld}
 use Rattle.law_parcels.specs.Worlds.{world_held}
-use Rattle.queue_link.specs.Links.{LinkView, fresh}
-use Rattle.queue_link.specs.Numbers.{numbers_of}
-use Rattle.queue_link.specs.declared.numbers.LinkNumbers.{LinkNumbers}
+use Rattle.queue_link.specs.{Links.LinkView, Links.fresh, Numbers.numbers_of, declared.numbers.LinkNumbers.LinkNumbers}
 use Rattle.node_move.specs.NodeStates.{no_link}
 use Rattle.node_seconds.specs.Networks.{lane}
 use Rattle.link_seconds.specs.Seconds.{HaveLines, line_at, lists_at}
 use Rattle.law_waking.specs.Resting.{Rests, sleeps_to}
 use Rattle.part_links.specs.Links.{LinksStandAt, AreAsleep, lies_on}
-use Rattle.part_nodes.specs.declared.network.NetworkState.{NetworkState}
-use Rattle.part_nodes.proofs.Held.{none_waits}
-use Rattle.part_persons.specs.Dues.{AreFollowedIn}
-use Rattle.part_persons.specs.Own.{own_person, own_persons}
-use Rattle.part_places.specs.declared.places.Places.{Places}
-use Rattle.part_places.specs.Taking.{AreTakenOf, begins_here, empty}
-use Rattle.law_parts_of_days.proofs.Beginning.{begins_with, nodes_of, stops_of}
-use Rattle.law_parts_of_days.proofs.Taken.{taken_as}
-use Rattle.law_parts_of_days.proofs.Worlds.{fit_setup}
-use Rattle.divided_day.specs.Slots.{link_in, slot_count}
-use Rattle.divided_day.proofs.Lists.{same_all}
-use Rattle.part_seconds.specs.declared.area.Area.{Area}
-use Rattle.part_seconds.specs.Settling.{places_known}
-use Rattle.part_seconds.specs.Stands.{AreaStands, NetworkStands, AreOwnDepartures}
-use Rattle.part_seconds.proofs.Lengths.{all_short}
-use Rattle.part_seconds.proofs.Slots.{link_there, link_own}
+use Rattle.part_nodes.{proofs.Held.none_waits, specs.declared.network.NetworkState.NetworkState}
+use Rattle.part_persons.specs.{Dues.AreFollowedIn, Own.own_person, Own.own_persons}
+use Rattle.part_places.specs.{Taking.AreTakenOf, Taking.begins_here, Taking.empty, declared.places.Places.Places}
+use Rattle.law_parts_of_days.proofs.{Beginning.begins_with, Beginning.nodes_of, Beginning.stops_of, Taken.taken_as, Worlds.fit_setup}
+use Rattle.divided_day.{proofs.Lists.same_all, specs.Slots.link_in, specs.Slots.slot_count}
+use Rattle.part_seconds.proofs.{Lengths.all_short, Slots.link_there, Slots.link_own}
+use Rattle.part_seconds.specs.{Settling.places_known, Stands.AreaStands, Stands.NetworkStands, Stands.AreOwnDepartures, declared.area.Area.Area}
 use Rattle.parted_day.specs.Empty.{empty_link, empty_links}
 
 -- WHO IS THERE

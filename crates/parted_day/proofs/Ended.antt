@@ -1,46 +1,25 @@
 -- What the end of a day tells of the persons of a partition and of its strays.
-use Rattle.traffic.proofs.Common.{◌≡◌, ◌⊎◌, ℕ, zero, suc, ◌+◌, ◌<◌, ◌≤◌, Bool, true, false, List, [], ◌∷◌}
-use Rattle.traffic.proofs.Common.{◌++◌, ◌∙◌}
-use Rattle.traffic.proofs.Common.{ap, refl, sym, subst, arith, inl, inr, cases_Bool, true≢false, length, length-replicate}
-use Rattle.traffic.proofs.Common.{get_or, replicate}
-use Rattle.traffic.proofs.Common.{flat_map, filter, numbers, below, if◌then◌else◌, Some, None, Option, VehicleId, Setup, World}
-use Rattle.traffic.proofs.Common.{person_of, nobody}
-use Rattle.traffic.proofs.Common.{world_at, link_of_vehicle, stranded, keyed, phase_code, Event, act_at, leg_at, mode_of_leg}
-use Rattle.std.specs.Prelude.{is_some}
-use Rattle.std.specs.List.{AllByRecursion as Each}
-use Rattle.traffic.specs.declared.moves.Occurrence.{Occurrence}
-use Rattle.traffic.specs.declared.world.Person.{Person}
-use Rattle.traffic.specs.declared.world.Place.TheVariants.{Riding}
-use Rattle.traffic.proofs.Each.{each_weaker}
+use Rattle.traffic.proofs.Common.{◌≡◌, ◌⊎◌, ℕ, zero, suc, ◌+◌, ◌<◌, ◌≤◌, Bool, true, false, List, [], ◌∷◌, ◌++◌, ◌∙◌, ap, refl, sym, subst, arith, inl, inr}
+use Rattle.traffic.proofs.Common.{cases_Bool, true≢false, length, length-replicate, get_or, replicate, flat_map, filter, numbers, below, if◌then◌else◌, Some}
+use Rattle.traffic.proofs.Common.{None, Option, VehicleId, Setup, World, person_of, nobody, world_at, link_of_vehicle, stranded, keyed, phase_code, Event}
+use Rattle.traffic.proofs.{Common.act_at, Common.leg_at, Common.mode_of_leg, Each.each_weaker}
+use Rattle.traffic.specs.declared.{moves.Occurrence.Occurrence, world.Person.Person, world.Place.TheVariants.Riding}
+use Rattle.std.specs.{List.AllByRecursion as Each, Prelude.is_some}
 use Rattle.events.specs.declared.event.Phase.TheVariants as phase
 use Rattle.law_in_range.specs.Setups.{IsFitSetup, counts_in, HaveFittingPlans}
-use Rattle.town.specs.declared.day_input.DayInput.{DayInput}
-use Rattle.town.specs.Views.{setup}
+use Rattle.town.specs.{Views.setup, declared.day_input.DayInput.DayInput}
 use Rattle.queue_link.specs.Links.{LinkView, all_rows}
-use Rattle.parts.specs.Owners.{Owner, lag}
-use Rattle.parts.specs.Parts.{Held, held, ends_with, own_end_events}
-use Rattle.law_partitions.specs.Laws.{IsOwner}
-use Rattle.law_partitions.proofs.Setting.{lawful, alighting, are_local}
-use Rattle.law_own_worlds.specs.Making.{own_world, or_nobody}
-use Rattle.law_own_worlds.proofs.Knowing.{unheard_known}
-use Rattle.law_own_worlds.proofs.Making.{one_person}
+use Rattle.parts.specs.{Owners.Owner, Owners.lag, Parts.Held, Parts.held, Parts.ends_with, Parts.own_end_events}
+use Rattle.law_partitions.{proofs.Setting.lawful, proofs.Setting.alighting, proofs.Setting.are_local, specs.Laws.IsOwner}
+use Rattle.law_own_worlds.{proofs.Knowing.unheard_known, proofs.Making.one_person, specs.Making.own_world, specs.Making.or_nobody}
 use Rattle.law_parcels.specs.Worlds.{world_held}
+use Rattle.law_parts_of_days.proofs.{Riding.rows_length, Riding.stuck_there, Worlds.fit_setup, Worlds.sound_setup, Worlds.consistent_setup}
 use Rattle.law_parts_of_days.specs.Riding.{put_rows, put_links, stranded_on, told_on}
-use Rattle.law_parts_of_days.proofs.Riding.{rows_length, stuck_there}
-use Rattle.law_parts_of_days.proofs.Worlds.{fit_setup, sound_setup, consistent_setup}
-use Rattle.law_last_parcels.specs.Last.{LastAreSo, HasThem, EndsSo}
-use Rattle.law_last_parcels.proofs.Sent.{still_so}
-use Rattle.law_last_parcels.proofs.Having.{has_them}
-use Rattle.law_last_parcels.proofs.Ending.{ends_so}
-use Rattle.part_seconds.specs.declared.area.Area.{Area}
-use Rattle.part_seconds.specs.Stands.{AreaStands}
-use Rattle.parted_day.specs.declared.straying.Stray.{Stray}
-use Rattle.parted_day.specs.Strays.{AreStrays}
-use Rattle.parted_day.specs.Tables.{with_states, with_links}
-use Rattle.parted_day.proofs.Lags.{end_is}
-use Rattle.parted_day.proofs.Ridden.{is_own, table_has}
-use Rattle.parted_day.proofs.Strayed.{IsRight, all_right, stray_sent, sent_stray}
+use Rattle.law_last_parcels.{proofs.Ending.ends_so, proofs.Having.has_them, proofs.Sent.still_so, specs.Last.LastAreSo, specs.Last.HasThem, specs.Last.EndsSo}
+use Rattle.part_seconds.specs.{Stands.AreaStands, declared.area.Area.Area}
+use Rattle.parted_day.proofs.{Lags.end_is, Ridden.is_own, Ridden.table_has, Strayed.IsRight, Strayed.all_right, Strayed.stray_sent, Strayed.sent_stray}
 use Rattle.parted_day.proofs.Tabled.{is_stray, with_kept, with_is}
+use Rattle.parted_day.specs.{Strays.AreStrays, Tables.with_states, Tables.with_links, declared.straying.Stray.Stray}
 
 -- LISTS BY NUMBER
 same_flat : (f g : ℕ → List Event) (c : ℕ) → ((i : ℕ) → i < c → f i ≡ g i) → (k n : ℕ) → k + n ≤ c

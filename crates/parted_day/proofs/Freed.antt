@@ -1,26 +1,16 @@
 -- The places of links once a partition heard from a neighbour how many vehicles left their queues.
-use Rattle.traffic.proofs.Common.{◌≡◌, ℕ, zero, suc, ◌+◌, ◌-◌, ◌<◌, ◌≤◌, Bool, true, false, List, [], ◌∷◌}
-use Rattle.traffic.proofs.Common.{◌++◌, ◌∙◌, ap, refl, sym, subst}
-use Rattle.traffic.proofs.Common.{arith, inl, inr, cases_Bool, eqb, eqb-true, eqb-false, eq-eqb, ne_eqb, append-nil, append_assoc}
-use Rattle.traffic.proofs.Common.{length, length-append, map, map-append, flat_map, flat_map-append, replicate, sum_by, sum_by-cons}
-use Rattle.traffic.proofs.Common.{Option, Setup, hole_of}
-use Rattle.std.proofs.lemmas.List.{replicate-append-replicate}
-use Rattle.std.specs.List.{AllByRecursion as Each}
+use Rattle.traffic.proofs.Common.{◌≡◌, ℕ, zero, suc, ◌+◌, ◌-◌, ◌<◌, ◌≤◌, Bool, true, false, List, [], ◌∷◌, ◌++◌, ◌∙◌, ap, refl, sym, subst, arith, inl, inr}
+use Rattle.traffic.proofs.Common.{cases_Bool, eqb, eqb-true, eqb-false, eq-eqb, ne_eqb, append-nil, append_assoc, length, length-append, map, map-append}
+use Rattle.traffic.proofs.Common.{flat_map, flat_map-append, replicate, sum_by, sum_by-cons, Option, Setup, hole_of}
+use Rattle.std.{proofs.lemmas.List.replicate-append-replicate, specs.List.AllByRecursion as Each}
 use Rattle.parts.specs.Owners.{Owner, owner_of, begins_in, leads, near, lag}
 use Rattle.parts.specs.Parts.{Freed, Parcel as Sent, held, out}
-use Rattle.law_partitions.specs.Alone.{freed_in, freed_of, given}
-use Rattle.law_partitions.proofs.History.{length_copies}
-use Rattle.law_partitions.proofs.Lags.{lag-up}
+use Rattle.law_partitions.{proofs.History.length_copies, proofs.Lags.lag-up, specs.Alone.freed_in, specs.Alone.freed_of, specs.Alone.given}
 use Rattle.law_parcels.specs.Hearing.{heard_holes, IsReadyBy, IsBetween}
-use Rattle.part_places.specs.declared.places.Places.{Places}
-use Rattle.part_places.specs.Taking.{Taking, AreTakenOf, begins_here}
-use Rattle.part_seconds.specs.declared.contents.FreedPlaces.{FreedPlaces}
-use Rattle.part_seconds.specs.declared.contents.Contents.{Contents}
-use Rattle.part_seconds.specs.Contents.{freed_row}
-use Rattle.part_seconds.specs.Freed.{heard, heard_all, CanHearAll}
-use Rattle.part_seconds.proofs.Vacated.{taken_alike}
-use Rattle.parted_day.specs.Absorbed.{IsRight, places_heard}
-use Rattle.parted_day.proofs.Borders.{other_of, leads_over, given_is}
+use Rattle.part_places.specs.{Taking.Taking, Taking.AreTakenOf, Taking.begins_here, declared.places.Places.Places}
+use Rattle.part_seconds.{proofs.Vacated.taken_alike, specs.Contents.freed_row, specs.Freed.heard, specs.Freed.heard_all, specs.Freed.CanHearAll}
+use Rattle.part_seconds.specs.declared.contents.{Contents.Contents, FreedPlaces.FreedPlaces}
+use Rattle.parted_day.{proofs.Borders.other_of, proofs.Borders.leads_over, proofs.Borders.given_is, specs.Absorbed.IsRight, specs.Absorbed.places_heard}
 
 -- NUMBERS
 less_both : (x y z a b c : ℕ) → x ≡ y - a → y ≡ z - b → c ≡ b + a → x ≡ z - c

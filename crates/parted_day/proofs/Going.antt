@@ -1,51 +1,28 @@
 -- The part of a partition once those went who are in its parcels of a second.
-use Rattle.traffic.proofs.Common.{◌≡◌, ℕ, suc, ◌+◌, ◌<◌, ◌≤◌, Bool, true, false, List, [], ◌∷◌, ◌∙◌, ap}
-use Rattle.traffic.proofs.Common.{refl, sym, subst, arith, inl, inr, cases_Bool}
-use Rattle.traffic.proofs.Common.{true≢false, cond, eqb, eqb-true, eq-eqb, length, get_or, map, filter, count_by, nat_le, nat_tests}
-use Rattle.traffic.proofs.Common.{if◌then◌else◌, add-one, Option}
-use Rattle.traffic.proofs.Common.{World, LinkState, link_state, at, holes_at, hole_of, storage_of, seconds_of, credit_of, person_of}
-use Rattle.traffic.proofs.Common.{nobody, world_at}
-use Rattle.traffic.proofs.Common.{through, Some}
-use Rattle.std.proofs.lemmas.List.{ext_get_or}
-use Rattle.std.specs.List.{AllByRecursion as Each}
-use Rattle.traffic.specs.declared.node_views.OutLink.{OutLink}
+use Rattle.traffic.proofs.Common.{◌≡◌, ℕ, suc, ◌+◌, ◌<◌, ◌≤◌, Bool, true, false, List, [], ◌∷◌, ◌∙◌, ap, refl, sym, subst, arith, inl, inr, cases_Bool}
+use Rattle.traffic.proofs.Common.{true≢false, cond, eqb, eqb-true, eq-eqb, length, get_or, map, filter, count_by, nat_le, nat_tests, if◌then◌else◌, add-one}
+use Rattle.traffic.proofs.Common.{Option, World, LinkState, link_state, at, holes_at, hole_of, storage_of, seconds_of, credit_of, person_of, nobody, world_at}
+use Rattle.traffic.{proofs.Common.through, proofs.Common.Some, specs.declared.node_views.OutLink.OutLink}
 use Rattle.traffic.specs.declared.stage.Stage.TheVariants.{Queue, Buffer, Wait, Bay}
-use Rattle.traffic.specs.declared.world.Person.{Person}
-use Rattle.traffic.specs.declared.world.Row.{Row}
-use Rattle.traffic.specs.declared.world.Waiter.{Waiter}
-use Rattle.town.specs.declared.day_input.DayInput.{DayInput}
-use Rattle.town.specs.Views.{setup}
+use Rattle.traffic.specs.declared.world.{Person.Person, Row.Row, Waiter.Waiter}
+use Rattle.std.{proofs.lemmas.List.ext_get_or, specs.List.AllByRecursion as Each}
+use Rattle.town.specs.{Views.setup, declared.day_input.DayInput.DayInput}
 use Rattle.calendar.specs.Waking.{wake_of}
-use Rattle.law_in_range.specs.Rows.{IsFitWorld}
-use Rattle.law_in_range.specs.Setups.{counts_in, HaveFittingPlans}
-use Rattle.law_in_range.proofs.Days.{chosen_fit}
-use Rattle.law_joined_routes.specs.Going.{GoesOn}
-use Rattle.law_joined_routes.proofs.Routes.{town_goes_on}
-use Rattle.parts.specs.Owners.{Owner, owner_of, begins_in, lag}
-use Rattle.parts.specs.Parts.{lasting, unheard, held}
-use Rattle.law_own_worlds.specs.Making.{IsKnown}
-use Rattle.law_own_worlds.proofs.Fitting.{unheard_fit}
-use Rattle.law_own_worlds.proofs.Knowing.{unheard_known}
-use Rattle.law_own_worlds.proofs.Making.{made}
+use Rattle.law_in_range.{proofs.Days.chosen_fit, specs.Rows.IsFitWorld, specs.Setups.counts_in, specs.Setups.HaveFittingPlans}
+use Rattle.law_joined_routes.{proofs.Routes.town_goes_on, specs.Going.GoesOn}
+use Rattle.parts.specs.{Owners.Owner, Owners.owner_of, Owners.begins_in, Owners.lag, Parts.lasting, Parts.unheard, Parts.held}
+use Rattle.law_own_worlds.{proofs.Fitting.unheard_fit, proofs.Knowing.unheard_known, proofs.Making.made, specs.Making.IsKnown}
 use Rattle.law_own_seconds.specs.Seconds.{held_driven, world_driven}
-use Rattle.law_parcels.specs.Sending.{is_gone}
-use Rattle.law_parcels.specs.Worlds.{world_held, LetsGo}
-use Rattle.law_parts_of_days.specs.Persons.{PersonsStand}
-use Rattle.law_parts_of_days.proofs.Worlds.{fit_setup}
+use Rattle.law_parcels.specs.{Sending.is_gone, Worlds.world_held, Worlds.LetsGo}
+use Rattle.law_parts_of_days.{proofs.Worlds.fit_setup, specs.Persons.PersonsStand}
 use Rattle.link_seconds.specs.Seconds.{HaveLines}
 use Rattle.part_links.specs.Links.{LinksStandAt, LinesStandAt, lies_on}
 use Rattle.part_nodes.specs.Phase.{BufferWaits, AreAwaitedAt}
-use Rattle.part_persons.specs.declared.persons.Persons.{Persons}
-use Rattle.part_persons.proofs.Joining.{fit_as}
+use Rattle.part_persons.{proofs.Joining.fit_as, specs.declared.persons.Persons.Persons}
 use Rattle.part_places.specs.Taking.{AreTakenOf, begins_here, still, times}
 use Rattle.part_places.proofs.Counting.{one, count_cons}
-use Rattle.part_seconds.specs.Leaving.{HaveGone}
-use Rattle.part_seconds.specs.declared.area.Area.{Area}
-use Rattle.part_seconds.specs.Settling.{places_known}
-use Rattle.part_seconds.specs.Stands.{NetworkStands, AreaStands}
-use Rattle.part_seconds.proofs.Names.{in_second}
-use Rattle.part_seconds.proofs.Slots.{link_there, link_own}
-use Rattle.part_seconds.proofs.Knowing.{still_lasting, waits_known}
+use Rattle.part_seconds.proofs.{Knowing.still_lasting, Knowing.waits_known, Names.in_second, Slots.link_there, Slots.link_own}
+use Rattle.part_seconds.specs.{Leaving.HaveGone, Settling.places_known, Stands.NetworkStands, Stands.AreaStands, declared.area.Area.Area}
 
 -- HOLES
 -- what is counted of some is counted of all, where it holds of these alone

@@ -1,24 +1,15 @@
 -- The strays of one second more.
-use Rattle.traffic.proofs.Common.{◌≡◌, ℕ, ◌+◌, ◌<◌, ◌≤◌, true, List, [], ◌++◌, ◌∙◌, ap, refl, sym}
-use Rattle.traffic.proofs.Common.{append-nil, add-one}
-use Rattle.traffic.proofs.Common.{Bool, subst, arith, length, get_or, drop, below, filter, All-get_or, All-from_recursion}
-use Rattle.traffic.proofs.Common.{Setup}
-use Rattle.std.specs.List.{AllByRecursion as Each}
-use Rattle.std.proofs.lemmas.List.{get_or_default}
+use Rattle.traffic.proofs.Common.{◌≡◌, ℕ, ◌+◌, ◌<◌, ◌≤◌, true, List, [], ◌++◌, ◌∙◌, ap, refl, sym, append-nil, add-one, Bool, subst, arith, length, get_or}
+use Rattle.traffic.proofs.Common.{drop, below, filter, All-get_or, All-from_recursion, Setup}
 use Rattle.traffic.proofs.Each.{each_map, each_filter, each_all}
-use Rattle.parts.specs.Owners.{Owner, near}
-use Rattle.parts.specs.Parts.{out}
+use Rattle.std.{proofs.lemmas.List.get_or_default, specs.List.AllByRecursion as Each}
+use Rattle.parts.specs.{Owners.Owner, Owners.near, Parts.out}
 use Rattle.law_partitions.proofs.Whole.{near-both}
-use Rattle.part_seconds.specs.Contents.{parcel_of}
-use Rattle.part_seconds.specs.Parcels.{nothing}
-use Rattle.part_seconds.specs.Sending.{parcel_at}
-use Rattle.part_seconds.specs.declared.contents.Contents.{Contents}
-use Rattle.step_core.specs.declared.part.Border.{Border}
-use Rattle.step_core.specs.Nets.{border_at}
+use Rattle.part_seconds.specs.{Contents.parcel_of, Parcels.nothing, Sending.parcel_at, declared.contents.Contents.Contents}
+use Rattle.step_core.specs.{Nets.border_at, declared.part.Border.Border}
 use Rattle.divided_day.specs.Borders.{border_from, borders_of}
-use Rattle.parted_day.specs.declared.straying.Stray.{Stray}
-use Rattle.parted_day.specs.Strays.{strays_to, strays_over, strays_before, AreStrays}
 use Rattle.parted_day.proofs.Pushed.{flat_pushed, flat_whole}
+use Rattle.parted_day.specs.{Strays.strays_to, Strays.strays_over, Strays.strays_before, Strays.AreStrays, declared.straying.Stray.Stray}
 
 pub one_more : (S : Setup) (own : Owner) (parts p t : ℕ) (borders : List Border) (old now : List Stray) → borders ≡ borders_of S own parts p
     → AreStrays S own parts p t old → now ≡ old ++ strays_over S own p t borders → AreStrays S own parts p (t + 1) now

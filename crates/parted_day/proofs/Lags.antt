@@ -1,20 +1,13 @@
 -- The lag to a neighbour, as it stands among the neighbours of that one.
-use Rattle.traffic.proofs.Common.{◌≡◌, ℕ, zero, suc, ◌+◌, ◌-◌, ◌<◌, ◌≤◌, Bool, true, false, List, [], ◌∷◌}
-use Rattle.traffic.proofs.Common.{◌∙◌, ap, refl, sym, arith, inl, inr}
-use Rattle.traffic.proofs.Common.{cases_Bool, cases_lt, nat_tests, ◌≢◌, nat_le, eqb, eqb-true, eqb-false, map, filter, numbers}
-use Rattle.traffic.proofs.Common.{flat_map, Setup}
+use Rattle.traffic.proofs.Common.{◌≡◌, ℕ, zero, suc, ◌+◌, ◌-◌, ◌<◌, ◌≤◌, Bool, true, false, List, [], ◌∷◌, ◌∙◌, ap, refl, sym, arith, inl, inr, cases_Bool}
+use Rattle.traffic.proofs.Common.{cases_lt, nat_tests, ◌≢◌, nat_le, eqb, eqb-true, eqb-false, map, filter, numbers, flat_map, Setup}
 use Rattle.limits.specs.declared.TheConstants.{MAX_LAG}
-use Rattle.town.specs.declared.day_input.DayInput.{DayInput}
-use Rattle.town.specs.Setups.{setup_of}
-use Rattle.town.specs.Views.{setup}
+use Rattle.town.specs.{Setups.setup_of, Views.setup, declared.day_input.DayInput.DayInput}
 use Rattle.parts.specs.Owners.{Owner, near, lag}
-use Rattle.law_partitions.proofs.Lags.{lag-most}
-use Rattle.law_partitions.proofs.Whole.{near-both, near_part}
-use Rattle.law_partitions.specs.Laws.{IsOwner}
+use Rattle.law_partitions.{proofs.Lags.lag-most, proofs.Whole.near-both, proofs.Whole.near_part, specs.Laws.IsOwner}
 use Rattle.step_core.specs.declared.part.Border.{Border}
 use Rattle.divided_day.specs.Borders.{border_from, borders_of}
-use Rattle.parted_day.specs.declared.straying.Stray.{Stray}
-use Rattle.parted_day.specs.Strays.{lag_among, comes_too_late, strays_to, strays_over}
+use Rattle.parted_day.specs.{Strays.lag_among, Strays.comes_too_late, Strays.strays_to, Strays.strays_over, declared.straying.Stray.Stray}
 
 pub end_is : (day : DayInput) → (setup day).settings.end_second ≡ day.town.now.settings.end_second
 unfolding setup_of

@@ -1,9 +1,7 @@
 -- A parcel in which nothing goes.
 use Rattle.traffic.proofs.Common.{◌≡◌, ℕ, List, ◌∙◌, ap, refl, sym, subst, append-nil, length, get_or, Option, Some}
-use Rattle.town.specs.declared.day_input.DayInput.{DayInput}
-use Rattle.town.specs.Views.{setup}
-use Rattle.parts.specs.Owners.{Owner}
-use Rattle.parts.specs.Parts.{held}
+use Rattle.town.specs.{Views.setup, declared.day_input.DayInput.DayInput}
+use Rattle.parts.specs.{Owners.Owner, Parts.held}
 use Rattle.law_parcels.specs.Hearing.{heard_persons}
 use Rattle.law_partitions.specs.Alone.{person_in}
 use Rattle.law_parts_of_days.specs.Settling.{queued_in}
@@ -11,13 +9,8 @@ use Rattle.queue_link.specs.Links.{LinkView}
 use Rattle.node_seconds.specs.Networks.{lane, accepted_all, wakes_after_all}
 use Rattle.part_links.specs.Links.{AreAsleep}
 use Rattle.part_places.specs.Taking.{begins_here}
-use Rattle.part_seconds.specs.declared.contents.Contents.{Contents}
-use Rattle.part_seconds.specs.Parcels.{nothing}
-use Rattle.part_seconds.specs.Contents.{parcel_of}
-use Rattle.part_seconds.specs.Freed.{heard_all, CanHearAll}
-use Rattle.part_seconds.proofs.Coming.{come_next, come_none}
-use Rattle.part_seconds.specs.declared.area.Area.{Area}
-use Rattle.part_seconds.specs.Settling.{places_known, put_queues}
+use Rattle.part_seconds.{proofs.Coming.come_next, proofs.Coming.come_none, specs.Contents.parcel_of, specs.Freed.heard_all, specs.Freed.CanHearAll}
+use Rattle.part_seconds.specs.{Parcels.nothing, Settling.places_known, Settling.put_queues, declared.area.Area.Area, declared.contents.Contents.Contents}
 use Rattle.parted_day.specs.Absorbed.{places_heard, HasAbsorbedParcel, HasAbsorbed}
 
 pub none_come : (day : DayInput) (slots : List ℕ) (s : ℕ) (A : Area) → length A.persons.wakes ≡ length A.persons.world.persons

@@ -1,8 +1,7 @@
 -- The links of a partition, by the lists of its run.
 use Rattle.traffic.proofs.Common.{◌≡◌, ℕ, ◌<◌, Bool, true, List, subst, sym, ◌∙◌, arith, length, filter, Setup, below}
-use Rattle.std.specs.List.{Contains, AllByRecursion as Each}
-use Rattle.std.proofs.lemmas.List.{get_or_default}
 use Rattle.traffic.proofs.Each.{each_kept, each_number}
+use Rattle.std.{proofs.lemmas.List.get_or_default, specs.List.Contains, specs.List.AllByRecursion as Each}
 use Rattle.calendar.specs.Due.{AreIn}
 use Rattle.parts.specs.Owners.{Owner}
 use Rattle.divided_day.specs.Slots.{my_starts}

@@ -1,16 +1,11 @@
 -- Lists that are appended item by item.
-use Rattle.traffic.proofs.Common.{◌≡◌, ℕ, zero, suc, ◌+◌, ◌<◌, ◌≤◌, List, [], ◌∷◌, ◌++◌, ◌∙◌, ap}
-use Rattle.traffic.proofs.Common.{refl, sym, arith, append_assoc, append-nil, add-one}
-use Rattle.traffic.proofs.Common.{length, get_or, drop, take, map, flat_map, VehicleId, Setup}
-use Rattle.std.specs.Prelude.{min}
+use Rattle.traffic.proofs.Common.{◌≡◌, ℕ, zero, suc, ◌+◌, ◌<◌, ◌≤◌, List, [], ◌∷◌, ◌++◌, ◌∙◌, ap, refl, sym, arith, append_assoc, append-nil, add-one, length}
+use Rattle.traffic.proofs.Common.{get_or, drop, take, map, flat_map, VehicleId, Setup}
 use Rattle.traffic.specs.declared.riders.Rider.{Rider}
+use Rattle.std.specs.Prelude.{min}
 use Rattle.traffic.specs.declared.world.Place.TheVariants as place
-use Rattle.part_seconds.specs.declared.contents.Moved.{Moved}
-use Rattle.part_seconds.specs.declared.contents.Teleported.{Teleported}
-use Rattle.part_seconds.specs.declared.contents.Contents.{Contents}
-use Rattle.part_seconds.specs.Parcels.{nothing}
-use Rattle.part_seconds.specs.Contents.{passed_of, flight_of, parcel_of}
-use Rattle.part_seconds.proofs.Lists.{flat_of_map, map_of_map}
+use Rattle.part_seconds.{proofs.Lists.flat_of_map, proofs.Lists.map_of_map, specs.Contents.passed_of, specs.Contents.flight_of, specs.Contents.parcel_of}
+use Rattle.part_seconds.specs.{Parcels.nothing, declared.contents.Contents.Contents, declared.contents.Moved.Moved, declared.contents.Teleported.Teleported}
 use Rattle.parted_day.specs.declared.straying.Stray.{Stray}
 use Rattle.parted_day.specs.Strays.{stray_riders, passed_strays, flight_stray, strays_in, moved_strays, teleported_stray}
 

@@ -1,6 +1,5 @@
 -- Links to which no vehicle of a parcel comes.
-use Rattle.traffic.proofs.Common.{◌≡◌, ℕ, false, List, [], ◌∷◌, ◌∙◌, ap, refl, inl, inr, cases_Bool}
-use Rattle.traffic.proofs.Common.{eqb, eqb-true, eqb-false, or_parts, get_or, map, filter}
+use Rattle.traffic.proofs.Common.{◌≡◌, ℕ, false, List, [], ◌∷◌, ◌∙◌, ap, refl, inl, inr, cases_Bool, eqb, eqb-true, eqb-false, or_parts, get_or, map, filter}
 use Rattle.traffic.specs.declared.world.Row.{Row}
 use Rattle.parts.specs.Parts.{Passed}
 use Rattle.node_seconds.specs.Networks.{is_among}

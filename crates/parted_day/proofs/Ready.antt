@@ -1,28 +1,18 @@
 -- The part of a partition once it absorbed all parcels that are due before a second.
-use Rattle.traffic.proofs.Common.{◌≡◌, ℕ, ◌+◌, ◌-◌, ◌<◌, ◌≤◌, true, false, List, ◌++◌, ◌∙◌, ap, refl}
-use Rattle.traffic.proofs.Common.{sym, subst, arith, eqb, eqb-true}
-use Rattle.traffic.proofs.Common.{length, get_or, map, map-append, Option, Setup, World, LinkState, link_state, at, holes_at, credit_of}
-use Rattle.traffic.proofs.Common.{hole_of}
-use Rattle.traffic.proofs.Common.{link_of_stop, nobody}
-use Rattle.std.proofs.lemmas.List.{ext_get_or}
-use Rattle.std.specs.List.{AllByRecursion as Each}
+use Rattle.traffic.proofs.Common.{◌≡◌, ℕ, ◌+◌, ◌-◌, ◌<◌, ◌≤◌, true, false, List, ◌++◌, ◌∙◌, ap, refl, sym, subst, arith, eqb, eqb-true, length, get_or, map}
+use Rattle.traffic.proofs.Common.{map-append, Option, Setup, World, LinkState, link_state, at, holes_at, credit_of, hole_of, link_of_stop, nobody}
 use Rattle.traffic.specs.declared.stage.Stage.TheVariants.{Queue, Buffer, Wait, Bay}
-use Rattle.traffic.specs.declared.world.Person.{Person}
-use Rattle.traffic.specs.declared.world.Row.{Row}
-use Rattle.traffic.specs.declared.world.Waiter.{Waiter}
-use Rattle.town.specs.declared.day_input.DayInput.{DayInput}
-use Rattle.town.specs.Views.{setup}
-use Rattle.calendar.specs.Due.{Due, due_at}
-use Rattle.calendar.specs.Waking.{wake_of}
+use Rattle.traffic.specs.declared.world.{Person.Person, Row.Row, Waiter.Waiter}
+use Rattle.std.{proofs.lemmas.List.ext_get_or, specs.List.AllByRecursion as Each}
+use Rattle.town.specs.{Views.setup, declared.day_input.DayInput.DayInput}
+use Rattle.calendar.specs.{Due.Due, Due.due_at, Waking.wake_of}
 use Rattle.law_in_range.specs.Setups.{counts_in, HaveFittingPlans}
 use Rattle.law_joined_routes.specs.Going.{GoesOn}
-use Rattle.parts.specs.Owners.{Owner, owner_of, begins_in}
-use Rattle.parts.specs.Parts.{held}
+use Rattle.parts.specs.{Owners.Owner, Owners.owner_of, Owners.begins_in, Parts.held}
 use Rattle.law_partitions.specs.Laws.{IsOwner}
 use Rattle.law_parcels.specs.Hearing.{heard_rows, heard_holes, heard_persons, last_or, IsReadyBy}
 use Rattle.law_parcels.specs.Worlds.{world_held, taken_in, TakesIn}
-use Rattle.law_parts_of_days.specs.Persons.{PersonsStand}
-use Rattle.law_parts_of_days.specs.Settling.{queued_in}
+use Rattle.law_parts_of_days.specs.{Persons.PersonsStand, Settling.queued_in}
 use Rattle.link_seconds.specs.Seconds.{HaveLines, AreShort, lists_at}
 use Rattle.queue_link.specs.Links.{LinkView}
 use Rattle.node_seconds.specs.Networks.{lane}
@@ -30,15 +20,9 @@ use Rattle.part_links.specs.Links.{LinksStandAt, LinesStandAt}
 use Rattle.part_nodes.specs.Phase.{AreAwaitedAt, GoOnThere, taken_before}
 use Rattle.part_persons.proofs.Joining.{fit_as}
 use Rattle.part_places.specs.Taking.{AreTakenOf, begins_here}
-use Rattle.part_seconds.specs.declared.area.Area.{Area}
-use Rattle.part_seconds.specs.Settling.{places_known}
-use Rattle.part_seconds.specs.Stands.{NetworkStands, AreaStands}
-use Rattle.part_seconds.proofs.Names.{in_second}
-use Rattle.part_seconds.proofs.Slots.{link_there, link_own}
+use Rattle.part_seconds.proofs.{Knowing.still_lasting, Names.in_second, Slots.link_there, Slots.link_own, Vacated.taken_alike, Waking.awaited_on}
+use Rattle.part_seconds.specs.{Settling.places_known, Stands.NetworkStands, Stands.AreaStands, declared.area.Area.Area}
 use Rattle.part_seconds.proofs.Knowing as knowing
-use Rattle.part_seconds.proofs.Knowing.{still_lasting}
-use Rattle.part_seconds.proofs.Vacated.{taken_alike}
-use Rattle.part_seconds.proofs.Waking.{awaited_on}
 use Rattle.parted_day.specs.Absorbed.{with_rows, places_heard, HasAbsorbed}
 
 -- NUMBERS

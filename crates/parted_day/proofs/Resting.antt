@@ -1,46 +1,24 @@
 -- A second before which nothing came, and in which nobody of a part has anything to do, changes nothing.
-use Rattle.traffic.proofs.Common.{◌≡◌, ℕ, suc, ◌<◌, List, [], ◌∷◌, ◌++◌, ◌∙◌, ap, refl, sym, arith, inl, inr}
-use Rattle.traffic.proofs.Common.{cases_Bool, length, Setup}
-use Rattle.town.specs.declared.day_input.DayInput.{DayInput}
-use Rattle.town.specs.Views.{setup}
-use Rattle.law_in_range.specs.Rows.{Counts}
-use Rattle.law_in_range.specs.Setups.{IsFitSetup, counts_in, HaveFittingPlans}
-use Rattle.law_sound_setups.specs.Setups.{IsSoundSetup}
-use Rattle.law_sound_setups.specs.Consistent.{IsConsistentSetup}
+use Rattle.traffic.proofs.Common.{◌≡◌, ℕ, suc, ◌<◌, List, [], ◌∷◌, ◌++◌, ◌∙◌, ap, refl, sym, arith, inl, inr, cases_Bool, length, Setup}
+use Rattle.town.specs.{Views.setup, declared.day_input.DayInput.DayInput}
+use Rattle.law_in_range.specs.{Rows.Counts, Setups.IsFitSetup, Setups.counts_in, Setups.HaveFittingPlans}
+use Rattle.law_sound_setups.specs.{Consistent.IsConsistentSetup, Setups.IsSoundSetup}
 use Rattle.law_own_worlds.specs.Days.{world_before}
 use Rattle.law_partitions.specs.Laws.{IsOwner}
 use Rattle.law_parcels.specs.Worlds.{world_held, LetsGo}
 use Rattle.law_parts_of_days.proofs.Worlds.{fit_setup, sound_setup, consistent_setup}
-use Rattle.parts.specs.Owners.{Owner as Owning}
-use Rattle.parts.specs.Parts.{held, ready, out, Parcel as Sent}
-use Rattle.partition.specs.Owned.{owner_in}
-use Rattle.partition.specs.declared.owner.Owner.{Owner}
-use Rattle.step_core.specs.declared.part.Border.{Border}
-use Rattle.step_core.specs.Nets.{border_at}
-use Rattle.step_core.specs.Views.{HasHeard}
-use Rattle.divided_day.specs.Days.{borders_in}
-use Rattle.divided_day.specs.Slots.{AreSlots}
+use Rattle.parts.specs.{Owners.Owner as Owning, Parts.held, Parts.ready, Parts.out, Parts.Parcel as Sent}
+use Rattle.partition.specs.{Owned.owner_in, declared.owner.Owner.Owner}
+use Rattle.step_core.specs.{Nets.border_at, Views.HasHeard, declared.part.Border.Border}
+use Rattle.divided_day.specs.{Days.borders_in, Slots.AreSlots}
 use Rattle.part_persons.specs.declared.persons.Persons.{Persons}
 use Rattle.node_seconds.specs.Networks.{is_among}
-use Rattle.part_seconds.specs.declared.area.Area.{Area}
-use Rattle.part_seconds.specs.declared.contents.Contents.{Contents}
-use Rattle.part_seconds.specs.Contents.{parcel_of}
-use Rattle.part_seconds.specs.Leaving.{AreWithout, HaveGone}
-use Rattle.part_seconds.specs.Parcels.{nothing, HasNothing}
-use Rattle.part_seconds.specs.Stands.{AreaStands}
-use Rattle.part_seconds.specs.Resting.{IsAtRest}
-use Rattle.part_seconds.proofs.Idle.{HasNoTurns, no_turns}
-use Rattle.part_seconds.proofs.Right.{right_parcel}
-use Rattle.part_seconds.proofs.Sent.{day_sends, day_goes}
-use Rattle.parted_day.specs.declared.straying.Stray.{Stray}
-use Rattle.parted_day.specs.Absorbed.{IsRight}
-use Rattle.parted_day.specs.Rest.{ChangesNothing}
-use Rattle.parted_day.specs.Strays.{strays_in, comes_too_late, strays_to, strays_over}
-use Rattle.parted_day.proofs.Going.{next_stands}
-use Rattle.parted_day.proofs.Kept.{none_more}
-use Rattle.parted_day.proofs.Rounds.{MakeReady, AreBetween, TakeIn, quiet, finished}
-use Rattle.parted_day.proofs.Sending.{are_others}
-use Rattle.parted_day.proofs.Telling.{all_told_in}
+use Rattle.part_seconds.proofs.{Idle.HasNoTurns, Idle.no_turns, Right.right_parcel, Sent.day_sends, Sent.day_goes}
+use Rattle.part_seconds.specs.{Contents.parcel_of, Leaving.AreWithout, Leaving.HaveGone, Parcels.nothing, Parcels.HasNothing, Resting.IsAtRest}
+use Rattle.part_seconds.specs.{Stands.AreaStands, declared.area.Area.Area, declared.contents.Contents.Contents}
+use Rattle.parted_day.proofs.{Going.next_stands, Kept.none_more, Rounds.MakeReady, Rounds.AreBetween, Rounds.TakeIn, Rounds.quiet, Rounds.finished}
+use Rattle.parted_day.{proofs.Sending.are_others, proofs.Telling.all_told_in, specs.Absorbed.IsRight}
+use Rattle.parted_day.specs.{Rest.ChangesNothing, Strays.strays_in, Strays.comes_too_late, Strays.strays_to, Strays.strays_over, declared.straying.Stray.Stray}
 
 -- what the law of worlds says of all setups
 abbrev pub LetGo : Type 0

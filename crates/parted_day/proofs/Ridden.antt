@@ -1,38 +1,23 @@
 -- On which link somebody rides, by what stands on the links of a partition.
-use Rattle.traffic.proofs.Common.{◌≡◌, ◌⊎◌, ℕ, zero, suc, ◌+◌, ◌<◌, ◌≤◌, Bool, List, [], ◌∷◌, ◌++◌}
-use Rattle.traffic.proofs.Common.{◌∙◌}
-use Rattle.traffic.proofs.Common.{ap, sym, subst, arith, inl, inr, cases_Bool, cases_lt, eqb, eqb-true, eqb-false, length, length-set}
-use Rattle.traffic.proofs.Common.{get_or, get_or-set_same, get_or-set_other, set, if◌then◌else◌, sum_by-cons, Setup, World, LinkState}
-use Rattle.traffic.proofs.Common.{at, listed}
-use Rattle.std.specs.List.{AllByRecursion as Each}
-use Rattle.std.proofs.lemmas.List.Elements.{All-from_get_or}
-use Rattle.traffic.proofs.Common.{recursion_from_All}
-use Rattle.traffic.specs.declared.riders.Rider.{Rider}
-use Rattle.traffic.specs.declared.stage.Stage.{Stage}
-use Rattle.traffic.specs.declared.stage.Stage.TheVariants.{Queue, Buffer, Wait, Bay}
-use Rattle.traffic.specs.declared.world.Row.{Row}
-use Rattle.law_in_range.specs.Rows.{Counts}
-use Rattle.law_in_range.specs.Setups.{IsFitSetup}
-use Rattle.law_one_place.proofs.Places.{among_riders, rides}
-use Rattle.law_one_place.proofs.Boarding.{one_rider}
+use Rattle.traffic.proofs.Common.{◌≡◌, ◌⊎◌, ℕ, zero, suc, ◌+◌, ◌<◌, ◌≤◌, Bool, List, [], ◌∷◌, ◌++◌, ◌∙◌, ap, sym, subst, arith, inl, inr, cases_Bool, cases_lt}
+use Rattle.traffic.proofs.Common.{eqb, eqb-true, eqb-false, length, length-set, get_or, get_or-set_same, get_or-set_other, set, if◌then◌else◌, sum_by-cons}
+use Rattle.traffic.proofs.Common.{Setup, World, LinkState, at, listed, recursion_from_All}
+use Rattle.traffic.specs.declared.{riders.Rider.Rider, stage.Stage.Stage, stage.Stage.TheVariants.Queue, stage.Stage.TheVariants.Buffer}
+use Rattle.traffic.specs.declared.{stage.Stage.TheVariants.Wait, stage.Stage.TheVariants.Bay, world.Row.Row}
+use Rattle.std.{proofs.lemmas.List.Elements.All-from_get_or, specs.List.AllByRecursion as Each, specs.Prelude.is_some}
+use Rattle.law_in_range.specs.{Rows.Counts, Setups.IsFitSetup}
+use Rattle.law_one_place.proofs.{Boarding.one_rider, Places.among_riders, Places.rides}
 use Rattle.law_partitions.proofs.Tells.{listed-cons, listed-append}
-use Rattle.law_own_worlds.specs.Making.{own_world}
-use Rattle.law_own_worlds.specs.OwnWorlds.{IsOwnWorld}
-use Rattle.law_own_worlds.proofs.Knowing.{unheard_known}
-use Rattle.law_own_worlds.proofs.Making.{made}
-use Rattle.law_parts_of_days.specs.Riding.{put_riders, put_rows, put_links}
-use Rattle.law_parts_of_days.proofs.Riding.{riders_length, rows_length}
+use Rattle.law_own_worlds.{proofs.Knowing.unheard_known, proofs.Making.made, specs.Making.own_world, specs.OwnWorlds.IsOwnWorld}
+use Rattle.law_parts_of_days.{proofs.Riding.riders_length, proofs.Riding.rows_length, specs.Riding.put_riders, specs.Riding.put_rows, specs.Riding.put_links}
 use Rattle.law_last_parcels.specs.Last.{IsListedOn}
-use Rattle.parts.specs.Owners.{Owner, lag}
-use Rattle.parts.specs.Parts.{Held, held}
+use Rattle.parts.specs.{Owners.Owner, Owners.lag, Parts.Held, Parts.held}
 use Rattle.queue_link.specs.Links.{LinkView, all_rows}
 use Rattle.node_move.specs.NodeStates.{no_link}
 use Rattle.node_seconds.specs.Networks.{lane}
-use Rattle.part_links.specs.Links.{LinksStandAt}
-use Rattle.part_links.proofs.Standing.{link_is}
+use Rattle.part_links.{proofs.Standing.link_is, specs.Links.LinksStandAt}
 use Rattle.divided_day.specs.Slots.{link_in, slot_count}
 use Rattle.part_seconds.proofs.Slots.{slot_of}
-use Rattle.std.specs.Prelude.{is_some}
 
 -- THE TABLE has link L of person i
 module _ (i L : ℕ) where

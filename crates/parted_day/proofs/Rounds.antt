@@ -2,37 +2,20 @@
 use Rattle.traffic.proofs.Common.{◌≡◌, ℕ, zero, suc, ◌+◌, ◌-◌, ◌<◌, ◌≤◌, List, ◌∙◌, ap, refl, sym, subst, arith, inl, inr}
 use Rattle.traffic.proofs.Common.{cases_lt, add-one, length, set, take, get_or-set_same, get_or-set_other, Setup}
 use Rattle.std.proofs.lemmas.List.{take_all, get_or_past}
-use Rattle.town.specs.declared.day_input.DayInput.{DayInput}
-use Rattle.town.specs.Views.{setup}
-use Rattle.law_in_range.specs.Setups.{counts_in, HaveFittingPlans}
-use Rattle.partition.specs.Owned.{owner_in}
-use Rattle.partition.specs.declared.owner.Owner.{Owner}
-use Rattle.parts.specs.Owners.{Owner as Owning}
-use Rattle.parts.specs.Parts.{held, ready}
-use Rattle.law_in_range.specs.Rows.{Counts}
-use Rattle.law_in_range.specs.Setups.{IsFitSetup}
-use Rattle.law_sound_setups.specs.Setups.{IsSoundSetup}
-use Rattle.law_sound_setups.specs.Consistent.{IsConsistentSetup}
+use Rattle.town.specs.{Views.setup, declared.day_input.DayInput.DayInput}
+use Rattle.law_in_range.specs.{Rows.Counts, Setups.counts_in, Setups.HaveFittingPlans, Setups.IsFitSetup}
+use Rattle.partition.specs.{Owned.owner_in, declared.owner.Owner.Owner}
+use Rattle.parts.specs.{Owners.Owner as Owning, Parts.held, Parts.ready}
+use Rattle.law_sound_setups.specs.{Consistent.IsConsistentSetup, Setups.IsSoundSetup}
 use Rattle.law_partitions.specs.Laws.{IsOwner}
 use Rattle.law_own_worlds.specs.Days.{world_before}
-use Rattle.law_parcels.specs.Hearing.{HearsFrom, IsReadyBy, IsBetween}
-use Rattle.law_parcels.specs.Worlds.{world_held, TakesIn}
+use Rattle.law_parcels.specs.{Hearing.HearsFrom, Hearing.IsReadyBy, Hearing.IsBetween, Worlds.world_held, Worlds.TakesIn}
 use Rattle.law_parts_of_days.proofs.Worlds.{fit_setup, sound_setup, consistent_setup}
-use Rattle.step_core.specs.declared.part.Border.{Border}
-use Rattle.step_core.specs.Nets.{border_at}
-use Rattle.step_core.specs.Views.{IsHeard, HasHeard, in_place}
-use Rattle.divided_day.specs.Borders.{borders_of}
-use Rattle.divided_day.specs.Slots.{AreSlots}
-use Rattle.divided_day.proofs.Whole.{borders_sound}
-use Rattle.part_seconds.specs.declared.contents.Contents.{Contents}
-use Rattle.part_seconds.specs.Parcels.{nothing, HasNothing}
-use Rattle.part_seconds.specs.declared.area.Area.{Area}
-use Rattle.part_seconds.specs.Stands.{AreaStands}
-use Rattle.parted_day.specs.Absorbed.{IsRight, neighbours_at, HasAbsorbedParcel, HasAbsorbed}
-use Rattle.parted_day.proofs.Senders.{many, neighbour_is, hears_from}
-use Rattle.parted_day.proofs.Nothing.{none_come}
-use Rattle.parted_day.proofs.Steps.{none_absorbed, absorbed_next}
-use Rattle.parted_day.proofs.Ready.{ready_stands}
+use Rattle.step_core.specs.{Nets.border_at, Views.IsHeard, Views.HasHeard, Views.in_place, declared.part.Border.Border}
+use Rattle.divided_day.{proofs.Whole.borders_sound, specs.Borders.borders_of, specs.Slots.AreSlots}
+use Rattle.part_seconds.specs.{Parcels.nothing, Parcels.HasNothing, Stands.AreaStands, declared.area.Area.Area, declared.contents.Contents.Contents}
+use Rattle.parted_day.{specs.Absorbed.IsRight, specs.Absorbed.neighbours_at, specs.Absorbed.HasAbsorbedParcel, specs.Absorbed.HasAbsorbed, proofs.Senders.many}
+use Rattle.parted_day.proofs.{Senders.neighbour_is, Senders.hears_from, Nothing.none_come, Steps.none_absorbed, Steps.absorbed_next, Ready.ready_stands}
 
 -- what the laws of parcels say of all setups
 abbrev pub MakeReady : Type 0

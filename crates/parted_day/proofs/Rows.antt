@@ -1,8 +1,7 @@
 -- Rows of links whose queues vehicles left are told by what they say.
 use Rattle.traffic.proofs.Common.{◌≡◌, List, [], ◌∷◌, ◌∙◌, ap, refl, sym, map}
 use Rattle.parts.specs.Parts.{Freed}
-use Rattle.part_seconds.specs.declared.contents.FreedPlaces.{FreedPlaces}
-use Rattle.part_seconds.specs.Contents.{freed_row}
+use Rattle.part_seconds.specs.{Contents.freed_row, declared.contents.FreedPlaces.FreedPlaces}
 
 abbrev row_of : Freed → FreedPlaces
 row_of f = record { link = f.link; count = f.rows }

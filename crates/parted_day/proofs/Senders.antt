@@ -3,8 +3,7 @@ use Rattle.traffic.proofs.Common.{◌≡◌, ℕ, ◌<◌, List, ◌∙◌, arit
 use Rattle.parts.specs.Owners.{Owner}
 use Rattle.law_parcels.specs.Hearing.{HearsFrom}
 use Rattle.law_steps.specs.Steps.{net_of}
-use Rattle.step_core.specs.declared.part.Border.{Border}
-use Rattle.step_core.specs.Nets.{AreBorders, border_at, no_border}
+use Rattle.step_core.specs.{Nets.AreBorders, Nets.border_at, Nets.no_border, declared.part.Border.Border}
 use Rattle.parted_day.specs.Absorbed.{neighbours_at}
 
 pub many : (rows : List Border) → length (neighbours_at rows) ≡ length rows

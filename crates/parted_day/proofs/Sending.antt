@@ -1,25 +1,14 @@
 -- The parcels of a second go to the neighbours of a partition.
-use Rattle.std.proofs.Common.{◌≡◌, ℕ, ◌<◌, List, ◌∙◌, ap, sym, subst, length}
-use Rattle.std.proofs.Common.{true≢false}
+use Rattle.std.proofs.Common.{◌≡◌, ℕ, ◌<◌, List, ◌∙◌, ap, sym, subst, length, true≢false}
 use Rattle.std.proofs.lemmas.Bool.{ne_eqb}
 use Rattle.traffic.specs.Setup.{Setup}
-use Rattle.town.specs.declared.day_input.DayInput.{DayInput}
-use Rattle.town.specs.Views.{setup}
+use Rattle.town.specs.{Views.setup, declared.day_input.DayInput.DayInput}
 use Rattle.law_in_range.specs.Setups.{HaveFittingPlans}
-use Rattle.parts.specs.Owners.{Owner as Owning, near}
-use Rattle.parts.specs.Parts.{out}
-use Rattle.partition.specs.Owned.{owner_in}
-use Rattle.partition.specs.declared.owner.Owner.{Owner}
-use Rattle.step_core.specs.declared.part.Border.{Border}
-use Rattle.step_core.specs.Nets.{border_at}
-use Rattle.step_core.specs.Views.{HasSent}
-use Rattle.divided_day.specs.Days.{borders_in}
-use Rattle.divided_day.proofs.Whole.{net_sound, borders_sound}
-use Rattle.part_seconds.specs.declared.contents.Contents.{Contents}
-use Rattle.part_seconds.specs.Contents.{parcel_of}
-use Rattle.part_seconds.specs.Leaving.{AreOthers}
-use Rattle.part_seconds.specs.Parcels.{nothing}
-use Rattle.part_seconds.specs.Sending.{parcel_at}
+use Rattle.parts.specs.{Owners.Owner as Owning, Owners.near, Parts.out}
+use Rattle.partition.specs.{Owned.owner_in, declared.owner.Owner.Owner}
+use Rattle.step_core.specs.{Nets.border_at, Views.HasSent, declared.part.Border.Border}
+use Rattle.divided_day.{proofs.Whole.net_sound, proofs.Whole.borders_sound, specs.Days.borders_in}
+use Rattle.part_seconds.specs.{Contents.parcel_of, Leaving.AreOthers, Parcels.nothing, Sending.parcel_at, declared.contents.Contents.Contents}
 use Rattle.parted_day.specs.Absorbed.{IsRight}
 
 -- the neighbours of a partition are other ones, ascending

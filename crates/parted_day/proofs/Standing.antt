@@ -1,15 +1,11 @@
 -- A partition of the day of a town between its seconds.
 use Rattle.std.proofs.Common.{◌≡◌, ℕ, List, [], ◌∙◌, ap, refl, sym, subst, arith, length, replicate, inl, inr}
-use Rattle.std.proofs.lemmas.Bool.{cases_lt}
-use Rattle.std.proofs.lemmas.List.{length-replicate, get_or_past, get_or-replicate}
+use Rattle.std.proofs.lemmas.{Bool.cases_lt, List.length-replicate, List.get_or_past, List.get_or-replicate}
 use Rattle.parts.specs.Owners.{Owner as Owning}
 use Rattle.traffic.specs.Setup.{Setup}
 use Rattle.step_core.specs.Views.{in_place, AreEmpty, Stays}
-use Rattle.part_seconds.specs.declared.contents.Contents.{Contents}
-use Rattle.part_seconds.specs.Parcels.{nothing, HasNothing}
-use Rattle.parted_day.specs.Strays.{AreStrays, strays_before}
-use Rattle.parted_day.specs.declared.part.TownPart.{TownPart}
-use Rattle.parted_day.specs.Parts.{IsPartOf}
+use Rattle.part_seconds.specs.{Parcels.nothing, Parcels.HasNothing, declared.contents.Contents.Contents}
+use Rattle.parted_day.specs.{Parts.IsPartOf, Strays.AreStrays, Strays.strays_before, declared.part.TownPart.TownPart}
 
 -- one that differs in nothing but what lies in its places
 pub stays : (old new : TownPart) → new ≡ record old { inbox = new.inbox; outbox = new.outbox } → Stays IsPartOf old new

@@ -1,22 +1,15 @@
 -- A part absorbs the parcels of its neighbours, one after the other.
-use Rattle.traffic.proofs.Common.{◌≡◌, ℕ, zero, suc, ◌+◌, ◌-◌, ◌<◌, true, false, List, [], ◌∷◌}
-use Rattle.traffic.proofs.Common.{◌++◌, ◌∙◌, ap, refl, sym, subst, arith, inl, inr}
-use Rattle.traffic.proofs.Common.{cases_Bool, cases_lt, append-nil, append_assoc, length, get_or, take, drop, map, replicate}
-use Rattle.traffic.proofs.Common.{Option, None, Some, hole_of}
-use Rattle.std.specs.List.{AllByRecursion as Each}
-use Rattle.std.proofs.lemmas.List.{take_more}
-use Rattle.rows.specs.declared.settings.Dwelling.{Dwelling}
+use Rattle.traffic.proofs.Common.{◌≡◌, ℕ, zero, suc, ◌+◌, ◌-◌, ◌<◌, true, false, List, [], ◌∷◌, ◌++◌, ◌∙◌, ap, refl, sym, subst, arith, inl, inr, cases_Bool}
+use Rattle.traffic.proofs.Common.{cases_lt, append-nil, append_assoc, length, get_or, take, drop, map, replicate, Option, None, Some, hole_of}
 use Rattle.traffic.specs.declared.world.Row.{Row}
-use Rattle.town.specs.declared.day_input.DayInput.{DayInput}
-use Rattle.town.specs.Views.{setup}
-use Rattle.parts.specs.Owners.{Owner, near, lag}
-use Rattle.parts.specs.Parts.{Parcel as Sent, held, out}
+use Rattle.std.{proofs.lemmas.List.take_more, specs.List.AllByRecursion as Each}
+use Rattle.rows.specs.declared.settings.Dwelling.{Dwelling}
+use Rattle.town.specs.{Views.setup, declared.day_input.DayInput.DayInput}
+use Rattle.parts.specs.{Owners.Owner, Owners.near, Owners.lag, Parts.Parcel as Sent, Parts.held, Parts.out}
 use Rattle.law_partitions.specs.Alone.{rows_to, freed_of, person_in, given}
-use Rattle.law_parcels.specs.Hearing.{heard_rows, heard_holes, heard_persons, IsReadyBy, IsBetween}
-use Rattle.law_parcels.specs.Worlds.{world_held}
+use Rattle.law_parcels.specs.{Hearing.heard_rows, Hearing.heard_holes, Hearing.heard_persons, Hearing.IsReadyBy, Hearing.IsBetween, Worlds.world_held}
 use Rattle.law_parts_of_days.specs.Settling.{queued_in}
-use Rattle.step_core.specs.declared.part.Border.{Border}
-use Rattle.step_core.specs.Views.{IsHeard}
+use Rattle.step_core.specs.{Views.IsHeard, declared.part.Border.Border}
 use Rattle.divided_day.specs.Slots.{AreSlots}
 use Rattle.queue_link.specs.Links.{LinkView}
 use Rattle.node_move.specs.declared.crossings.Entering.{Entering}
@@ -24,25 +17,12 @@ use Rattle.node_seconds.specs.Networks.{lane, is_among, slot_in, accepted_all}
 use Rattle.part_links.specs.Links.{IsLink, AreAsleep}
 use Rattle.part_nodes.proofs.Entered.{length_all, ComesBy, all_accepted_asleep}
 use Rattle.part_places.specs.Taking.{Taking, AreTakenOf, begins_here}
-use Rattle.part_seconds.specs.declared.contents.Contents.{Contents}
-use Rattle.part_seconds.specs.Contents.{parcel_of}
-use Rattle.part_seconds.specs.Parcels.{nothing}
-use Rattle.part_seconds.specs.Arriving.{entered}
-use Rattle.part_seconds.proofs.Names.{in_second}
-use Rattle.part_seconds.proofs.Coming.{come_next, come_none, same_come}
-use Rattle.part_seconds.proofs.Lists.{flat_push}
-use Rattle.part_seconds.specs.declared.area.Area.{Area}
-use Rattle.part_seconds.specs.Settling.{places_known}
-use Rattle.part_seconds.proofs.Driven.{put_length, put_other, put_here}
-use Rattle.part_seconds.specs.Stands.{AreaStands}
-use Rattle.part_seconds.proofs.Vacated.{taken_alike}
-use Rattle.parted_day.specs.Absorbed.{IsRight, entered_slots, entering_with, with_rows, places_heard, HasAbsorbedParcel}
-use Rattle.parted_day.specs.Absorbed.{HasAbsorbed}
-use Rattle.parted_day.proofs.Borders.{given_is, given_none}
-use Rattle.parted_day.proofs.Nothing.{nothing_more}
-use Rattle.parted_day.proofs.Freed.{few_heard, can_hear, places_next}
-use Rattle.parted_day.proofs.Queues.{none_to}
+use Rattle.part_seconds.proofs.{Coming.come_next, Coming.come_none, Coming.same_come, Driven.put_length, Driven.put_other, Driven.put_here, Lists.flat_push}
+use Rattle.part_seconds.{proofs.Names.in_second, proofs.Vacated.taken_alike, specs.Arriving.entered, specs.Contents.parcel_of}
+use Rattle.part_seconds.specs.{Parcels.nothing, Settling.places_known, Stands.AreaStands, declared.area.Area.Area, declared.contents.Contents.Contents}
+use Rattle.parted_day.proofs.{Borders.given_is, Borders.given_none, Freed.few_heard, Freed.can_hear, Freed.places_next, Nothing.nothing_more, Queues.none_to}
 use Rattle.parted_day.proofs.Vehicles.{come_by, accepted_is}
+use Rattle.parted_day.specs.Absorbed.{IsRight, entered_slots, entering_with, with_rows, places_heard, HasAbsorbedParcel, HasAbsorbed}
 
 -- LISTS
 -- a list about one of its places

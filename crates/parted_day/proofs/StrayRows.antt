@@ -1,8 +1,6 @@
 -- The vehicles of a link by their places, and links by theirs.
-use Rattle.traffic.proofs.Common.{◌≡◌, ℕ, zero, suc, ◌+◌, ◌<◌, ◌≤◌, List, [], ◌∷◌, ◌∙◌, ap, sym, refl}
-use Rattle.traffic.proofs.Common.{arith, drop, length, get_or, None, Some}
-use Rattle.traffic.specs.declared.world.Row.{Row}
-use Rattle.traffic.specs.Vehicles.{VehicleState}
+use Rattle.traffic.proofs.Common.{◌≡◌, ℕ, zero, suc, ◌+◌, ◌<◌, ◌≤◌, List, [], ◌∷◌, ◌∙◌, ap, sym, refl, arith, drop, length, get_or, None, Some}
+use Rattle.traffic.specs.{Vehicles.VehicleState, declared.world.Row.Row}
 use Rattle.queue_link.specs.Links.{LinkView, all_rows, vehicle_at}
 use Rattle.law_parts_of_days.specs.Riding.{put_riders, put_rows, put_links}
 

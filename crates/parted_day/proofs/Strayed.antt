@@ -1,35 +1,22 @@
 -- Who is among the strays of a partition, and that they are where the day has them.
-use Rattle.traffic.proofs.Common.{◌≡◌, ◌≢◌, ℕ, zero, suc, ◌+◌, ◌<◌, ◌≤◌, Bool, true, false, List, [], ◌∷◌}
-use Rattle.traffic.proofs.Common.{◌∙◌}
-use Rattle.traffic.proofs.Common.{ap, refl, sym, arith, inl, inr, cases_Bool, cases_lt, true≢false, leb-true, nat_tests, lt-ltb, ltb-true}
-use Rattle.traffic.proofs.Common.{eqb, eqb-true, eqb-false, length, map, filter, flat_map, list_any, if◌then◌else◌, sum_by-cons}
-use Rattle.traffic.proofs.Common.{numbers, below, nat_le}
-use Rattle.traffic.proofs.Common.{◌||◌}
-use Rattle.traffic.proofs.Common.{VehicleId, Setup, World, person_of, world_at, link_of_vehicle, listed}
+use Rattle.traffic.proofs.Common.{◌≡◌, ◌≢◌, ℕ, zero, suc, ◌+◌, ◌<◌, ◌≤◌, Bool, true, false, List, [], ◌∷◌, ◌∙◌, ap, refl, sym, arith, inl, inr, cases_Bool}
+use Rattle.traffic.proofs.Common.{cases_lt, true≢false, leb-true, nat_tests, lt-ltb, ltb-true, eqb, eqb-true, eqb-false, length, map, filter, flat_map}
+use Rattle.traffic.proofs.Common.{list_any, if◌then◌else◌, sum_by-cons, numbers, below, nat_le, ◌||◌, VehicleId, Setup, World, person_of, world_at}
+use Rattle.traffic.proofs.{Common.link_of_vehicle, Common.listed, Each.each_append, Each.each_flat, Each.each_map}
+use Rattle.traffic.specs.declared.{riders.Rider.Rider, world.Place.TheVariants.Riding, world.Row.Row}
 use Rattle.std.specs.List.{AllByRecursion as Each}
-use Rattle.traffic.specs.declared.riders.Rider.{Rider}
-use Rattle.traffic.specs.declared.world.Place.TheVariants.{Riding}
-use Rattle.traffic.specs.declared.world.Row.{Row}
-use Rattle.traffic.proofs.Each.{each_append, each_flat, each_map}
-use Rattle.law_one_place.proofs.Places.{among_riders, rides}
-use Rattle.law_one_place.proofs.Boarding.{one_rider}
-use Rattle.parts.specs.Owners.{Owner, near, lag}
+use Rattle.law_one_place.proofs.{Boarding.one_rider, Places.among_riders, Places.rides}
+use Rattle.parts.specs.Owners.{Owner, near, lag, leads}
 use Rattle.parts.specs.Parts.{Passed, Flight, Parcel as Sent, passed, rides_in, enters_queue, node_phase_moves, flight_from, out, carries}
-use Rattle.parts.specs.Owners.{leads}
+use Rattle.law_partitions.proofs.{Enders.or_true, Enders.or_either, Tells.listed-cons, Whole.near-both, Whole.near_part}
 use Rattle.law_partitions.specs.Laws.{IsOwner}
-use Rattle.law_partitions.proofs.Enders.{or_true, or_either}
-use Rattle.law_partitions.proofs.Tells.{listed-cons}
-use Rattle.law_partitions.proofs.Whole.{near-both, near_part}
 use Rattle.law_last_parcels.specs.Last.{RideSo, FliesSo, IsStillSo, LastAreSo, IsSent}
 use Rattle.law_last_parcels.proofs.Some.{any_front, any_behind, front_or_behind}
 use Rattle.step_core.specs.declared.part.Border.{Border}
 use Rattle.divided_day.specs.Borders.{border_from, borders_of}
 use Rattle.part_seconds.proofs.Lists.{flat_of_map}
-use Rattle.parted_day.specs.declared.straying.Stray.{Stray}
-use Rattle.parted_day.specs.Strays.{stray_riders, passed_strays, flight_stray, strays_in, comes_too_late, strays_to, strays_over}
-use Rattle.parted_day.specs.Strays.{strays_before}
-use Rattle.parted_day.proofs.Kept.{each_near}
-use Rattle.parted_day.proofs.Tabled.{is_stray}
+use Rattle.parted_day.{proofs.Kept.each_near, proofs.Tabled.is_stray, specs.Strays.stray_riders, specs.Strays.passed_strays, specs.Strays.flight_stray}
+use Rattle.parted_day.specs.{Strays.strays_in, Strays.comes_too_late, Strays.strays_to, Strays.strays_over, Strays.strays_before, declared.straying.Stray.Stray}
 
 -- WHERE THEY ARE
 -- a stray is in world W in the state in which he was sent, and on that link if he rides

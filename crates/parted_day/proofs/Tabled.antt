@@ -1,10 +1,8 @@
 -- Tables by person in which strays stand.
-use Rattle.traffic.proofs.Common.{◌≡◌, ◌⊎◌, ℕ, ◌<◌, Bool, true, false, List, [], ◌∷◌, ◌∙◌, ap, refl, sym}
-use Rattle.traffic.proofs.Common.{arith, inl, inr, cases_Bool, true≢false}
-use Rattle.traffic.proofs.Common.{length, length-set, get_or, set, get_or-set_same, get_or-set_other, eqb, eqb-true, eqb-false, list_any}
+use Rattle.traffic.proofs.Common.{◌≡◌, ◌⊎◌, ℕ, ◌<◌, Bool, true, false, List, [], ◌∷◌, ◌∙◌, ap, refl, sym, arith, inl, inr, cases_Bool, true≢false, length}
+use Rattle.traffic.proofs.Common.{length-set, get_or, set, get_or-set_same, get_or-set_other, eqb, eqb-true, eqb-false, list_any}
 use Rattle.std.specs.List.{AllByRecursion as Each}
-use Rattle.parted_day.specs.declared.straying.Stray.{Stray}
-use Rattle.parted_day.specs.Tables.{with_each}
+use Rattle.parted_day.specs.{Tables.with_each, declared.straying.Stray.Stray}
 
 -- person i is among these strays
 abbrev pub is_stray : ℕ → List Stray → Bool

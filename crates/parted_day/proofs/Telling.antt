@@ -1,27 +1,19 @@
 -- What a partition tells second by second.
-use Rattle.traffic.proofs.Common.{◌≡◌, ℕ, suc, ◌+◌, ◌-◌, Bool, true, false, List, [], ◌++◌, ◌∙◌, ap, refl, sym}
-use Rattle.traffic.proofs.Common.{arith, add-one, append_assoc}
-use Rattle.traffic.proofs.Common.{filter-append, if◌then◌else◌, ◌==◌, Setup, Event, world_start, world_from, events_from}
-use Rattle.traffic.proofs.Common.{events_in, turns_in}
+use Rattle.traffic.proofs.Common.{◌≡◌, ℕ, suc, ◌+◌, ◌-◌, Bool, true, false, List, [], ◌++◌, ◌∙◌, ap, refl, sym, arith, add-one, append_assoc, filter-append}
+use Rattle.traffic.proofs.Common.{if◌then◌else◌, ◌==◌, Setup, Event, world_start, world_from, events_from, events_in, turns_in}
+use Rattle.traffic.specs.Day.{second_events}
 use Rattle.std.proofs.lemmas.List.{append_cancel_left}
 use Rattle.events.specs.declared.event.Phase.TheVariants as phase
-use Rattle.traffic.specs.Day.{second_events}
-use Rattle.town.specs.declared.day_input.DayInput.{DayInput}
-use Rattle.town.specs.Setups.{setup_of}
-use Rattle.town.specs.Views.{setup}
+use Rattle.town.specs.{Setups.setup_of, Views.setup, declared.day_input.DayInput.DayInput}
 use Rattle.law_in_range.specs.Setups.{HaveFittingPlans, counts_in}
-use Rattle.parts.specs.Owners.{Owner as Owning, owner_of_event}
-use Rattle.parts.specs.Parts.{own_events}
-use Rattle.partition.specs.Owned.{owner_in}
-use Rattle.partition.specs.declared.owner.Owner.{Owner}
+use Rattle.parts.specs.{Owners.Owner as Owning, Owners.owner_of_event, Parts.own_events}
+use Rattle.partition.specs.{Owned.owner_in, declared.owner.Owner.Owner}
 use Rattle.law_partitions.proofs.Setting.{are_local}
-use Rattle.law_own_worlds.specs.Days.{world_before, run_turns, my_node_turns, my_link_turns, FollowsTheDay}
-use Rattle.law_own_worlds.specs.OwnWorlds.{landed}
 use Rattle.law_own_worlds.proofs.Days.{follows}
+use Rattle.law_own_worlds.specs.{Days.world_before, Days.run_turns, Days.my_node_turns, Days.my_link_turns, Days.FollowsTheDay, OwnWorlds.landed}
 use Rattle.law_parts_of_days.proofs.Worlds.{fit_setup, sound_setup, consistent_setup}
 use Rattle.divided_day.specs.Days.{told_at, told_in, end_told_in}
-use Rattle.parted_day.specs.Turns.{turns_told}
-use Rattle.parted_day.specs.Parts.{HasTold}
+use Rattle.parted_day.specs.{Parts.HasTold, Turns.turns_told}
 
 -- ONE SECOND
 regrouped : (first a b c d e : List Event) → ((first ++ (a ++ (b ++ c))) ++ d) ++ e ≡ first ++ (a ++ (b ++ (c ++ (d ++ e))))

@@ -1,33 +1,18 @@
 -- The vehicles of a parcel come to the links of a partition, in their slots.
-use Rattle.traffic.proofs.Common.{◌≡◌, ℕ, ◌+◌, ◌<◌, ◌≤◌, true, List, [], ◌∷◌, ◌∙◌, ap}
-use Rattle.traffic.proofs.Common.{refl, sym, arith, inl, inr, cases_Bool}
-use Rattle.traffic.proofs.Common.{eqb, eqb-true, length, get_or, map, filter, recursion_from_All, Option, Some, Setup, seconds_of}
+use Rattle.traffic.proofs.Common.{◌≡◌, ℕ, ◌+◌, ◌<◌, ◌≤◌, true, List, [], ◌∷◌, ◌∙◌, ap, refl, sym, arith, inl, inr, cases_Bool, eqb, eqb-true, length, get_or}
+use Rattle.traffic.proofs.Common.{map, filter, recursion_from_All, Option, Some, Setup, seconds_of}
+use Rattle.traffic.{proofs.Each.each_map, specs.declared.stage.Stage.TheVariants.Queue, specs.declared.world.Row.Row}
 use Rattle.std.specs.List.{AllByRecursion as Each}
-use Rattle.traffic.specs.declared.stage.Stage.TheVariants.{Queue}
-use Rattle.traffic.specs.declared.world.Row.{Row}
-use Rattle.traffic.proofs.Each.{each_map}
-use Rattle.parts.specs.Owners.{Owner, owner_of, begins_in, leads, near, lag}
-use Rattle.parts.specs.Parts.{Passed, entering_row, out}
-use Rattle.law_partitions.specs.Alone.{rows_to}
-use Rattle.law_partitions.proofs.Lags.{lag-down}
-use Rattle.law_partitions.proofs.Rebuilt.{rebuilt}
+use Rattle.parts.specs.{Owners.Owner, Owners.owner_of, Owners.begins_in, Owners.leads, Owners.near, Owners.lag, Parts.Passed, Parts.entering_row, Parts.out}
+use Rattle.law_partitions.{proofs.Lags.lag-down, proofs.Rebuilt.rebuilt, specs.Alone.rows_to}
 use Rattle.law_parcels.specs.Hearing.{IsBetween}
-use Rattle.queue_link.specs.Links.{LinkView, row_on}
-use Rattle.queue_link.specs.Numbers.{numbers_of}
-use Rattle.queue_link.specs.declared.numbers.LinkNumbers.{LinkNumbers}
-use Rattle.node_seconds.specs.Networks.{lane, slot_in, accepted_all}
-use Rattle.node_seconds.proofs.Lanes.{slot_is}
-use Rattle.part_links.specs.Links.{IsLink}
-use Rattle.part_links.proofs.Standing.{link_is}
-use Rattle.part_nodes.proofs.Crossings.{rows_into}
-use Rattle.part_nodes.proofs.Entered.{all_accepted, queued_on, ComesBy}
-use Rattle.part_nodes.proofs.Slots.{AreNumberedBy, slot_finds}
-use Rattle.part_seconds.specs.Arriving.{entered}
+use Rattle.queue_link.specs.{Links.LinkView, Links.row_on, Numbers.numbers_of, declared.numbers.LinkNumbers.LinkNumbers}
+use Rattle.node_seconds.{proofs.Lanes.slot_is, specs.Networks.lane, specs.Networks.slot_in, specs.Networks.accepted_all}
+use Rattle.part_links.{proofs.Standing.link_is, specs.Links.IsLink}
+use Rattle.part_nodes.proofs.{Crossings.rows_into, Entered.all_accepted, Entered.queued_on, Entered.ComesBy, Slots.AreNumberedBy, Slots.slot_finds}
+use Rattle.part_seconds.{proofs.Slots.has_links, specs.Arriving.entered, specs.Slots.extent_of}
 use Rattle.divided_day.specs.Slots.{link_in, slot_count, AreSlots}
-use Rattle.part_seconds.specs.Slots.{extent_of}
-use Rattle.part_seconds.proofs.Slots.{has_links}
-use Rattle.parted_day.specs.Absorbed.{with_rows}
-use Rattle.parted_day.proofs.Borders.{LeadsOver, other_of, leads_over}
+use Rattle.parted_day.{proofs.Borders.LeadsOver, proofs.Borders.other_of, proofs.Borders.leads_over, specs.Absorbed.with_rows}
 
 -- ROWS
 -- of link l that of a vehicle which entered it in second s

@@ -1,11 +1,8 @@
 -- What absorbing the parcels of neighbours before a second makes of a part, list by list.
 use Rattle.std.specs.Prelude.{◌≡◌, ℕ, ◌+◌, ◌-◌, ◌<◌, Bool, List, ◌++◌, length, map, get_or, Some}
-use Rattle.traffic.specs.declared.world.Row.{Row}
-use Rattle.traffic.specs.Setup.{Setup, hole_of}
-use Rattle.parts.specs.Owners.{Owner}
-use Rattle.parts.specs.Parts.{held, out}
-use Rattle.town.specs.declared.day_input.DayInput.{DayInput}
-use Rattle.town.specs.Views.{setup}
+use Rattle.traffic.specs.{Setup.Setup, Setup.hole_of, declared.world.Row.Row}
+use Rattle.parts.specs.{Owners.Owner, Parts.held, Parts.out}
+use Rattle.town.specs.{Views.setup, declared.day_input.DayInput.DayInput}
 use Rattle.law_partitions.specs.Alone.{person_in}
 use Rattle.law_parcels.specs.Hearing.{heard_rows, heard_holes, heard_persons}
 use Rattle.law_parts_of_days.specs.Settling.{queued_in}
@@ -16,12 +13,8 @@ use Rattle.node_move.specs.declared.crossings.Entering.{Entering}
 use Rattle.node_seconds.specs.Networks.{lane, slot_in, accepted_all, wakes_after_all}
 use Rattle.part_links.specs.Links.{AreAsleep}
 use Rattle.part_places.specs.Taking.{Taking, AreTakenOf, begins_here}
-use Rattle.part_seconds.specs.declared.contents.Contents.{Contents}
-use Rattle.part_seconds.specs.Contents.{parcel_of}
-use Rattle.part_seconds.specs.Arriving.{Come, entered}
-use Rattle.part_seconds.specs.Freed.{heard_all, CanHearAll}
-use Rattle.part_seconds.specs.declared.area.Area.{Area}
-use Rattle.part_seconds.specs.Settling.{places_known, put_queues}
+use Rattle.part_seconds.specs.{Arriving.Come, Arriving.entered, Contents.parcel_of, Freed.heard_all, Freed.CanHearAll, Settling.places_known}
+use Rattle.part_seconds.specs.{Settling.put_queues, declared.area.Area.Area, declared.contents.Contents.Contents}
 
 -- a parcel is the one that partition q sends to p in second s
 abbrev pub IsRight : Setup → Owner → ℕ → ℕ → ℕ → Contents → Type 0

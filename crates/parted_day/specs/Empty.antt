@@ -2,8 +2,7 @@
 use Rattle.std.specs.Prelude.{ℕ, List, map}
 use Rattle.law_partitions.specs.Alone.{my_links}
 use Rattle.parts.specs.Owners.{Owner}
-use Rattle.queue_link.specs.Links.{LinkView, fresh}
-use Rattle.queue_link.specs.Numbers.{numbers_of}
+use Rattle.queue_link.specs.{Links.LinkView, Links.fresh, Numbers.numbers_of}
 use Rattle.traffic.specs.Setup.{Setup, link_row}
 
 -- link l: no vehicle is on it, and it has credit for one

@@ -1,19 +1,14 @@
 -- One partition of the day of a town.
 use Rattle.std.specs.Prelude.{◌≡◌, ℕ, ◌-◌, ◌<◌, Bool, true, false, List, []}
 use Rattle.events.specs.declared.event.Event.{Event}
-use Rattle.town.specs.declared.day_input.DayInput.{DayInput}
-use Rattle.town.specs.Views.{setup}
-use Rattle.partition.specs.Owned.{owner_in}
-use Rattle.partition.specs.declared.owner.Owner.{Owner}
+use Rattle.town.specs.{Views.setup, declared.day_input.DayInput.DayInput}
+use Rattle.partition.specs.{Owned.owner_in, declared.owner.Owner.Owner}
 use Rattle.parts.specs.Parts.{held, own_events}
 use Rattle.law_parcels.specs.Worlds.{world_held}
 use Rattle.step_core.specs.Views.{PartView}
 use Rattle.divided_day.specs.Days.{told_at}
-use Rattle.part_seconds.specs.declared.contents.Contents.{Contents}
-use Rattle.part_seconds.specs.declared.runs.Run.{Run}
-use Rattle.part_seconds.specs.Stands.{AreaStands}
-use Rattle.parted_day.specs.Strays.{AreStrays}
-use Rattle.parted_day.specs.declared.part.TownPart.{TownPart}
+use Rattle.part_seconds.specs.{Stands.AreaStands, declared.contents.Contents.Contents, declared.runs.Run.Run}
+use Rattle.parted_day.specs.{Strays.AreStrays, declared.part.TownPart.TownPart}
 
 -- what a core sees of it
 abbrev pub view_of : TownPart → PartView Contents

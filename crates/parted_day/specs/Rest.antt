@@ -1,24 +1,15 @@
 -- A second in which nobody of a partition has anything to do.
 use Rattle.std.specs.Prelude.{◌≡◌, ℕ, ◌+◌, ◌<◌, List, []}
-use Rattle.town.specs.declared.day_input.DayInput.{DayInput}
-use Rattle.town.specs.Views.{setup}
+use Rattle.town.specs.{Views.setup, declared.day_input.DayInput.DayInput}
 use Rattle.law_in_range.specs.Setups.{HaveFittingPlans}
 use Rattle.law_parcels.specs.Worlds.{world_held}
 use Rattle.parts.specs.Parts.{held}
-use Rattle.partition.specs.Owned.{owner_in}
-use Rattle.partition.specs.declared.owner.Owner.{Owner}
+use Rattle.partition.specs.{Owned.owner_in, declared.owner.Owner.Owner}
 use Rattle.step_core.specs.Views.{HasHeard, HasSent}
-use Rattle.divided_day.specs.Days.{borders_in}
-use Rattle.divided_day.specs.Slots.{AreSlots}
-use Rattle.part_seconds.specs.declared.area.Area.{Area}
-use Rattle.part_seconds.specs.declared.contents.Contents.{Contents}
-use Rattle.part_seconds.specs.Parcels.{nothing, HasNothing}
-use Rattle.part_seconds.specs.Resting.{IsAtRest}
-use Rattle.part_seconds.specs.Stands.{AreaStands}
-use Rattle.parted_day.specs.declared.straying.Stray.{Stray}
-use Rattle.parted_day.specs.Absorbed.{IsRight}
-use Rattle.parted_day.specs.Strays.{AreStrays}
-use Rattle.parted_day.specs.Turns.{turns_told}
+use Rattle.divided_day.specs.{Days.borders_in, Slots.AreSlots}
+use Rattle.part_seconds.specs.{Parcels.nothing, Parcels.HasNothing, Resting.IsAtRest, Stands.AreaStands}
+use Rattle.part_seconds.specs.declared.{area.Area.Area, contents.Contents.Contents}
+use Rattle.parted_day.specs.{Absorbed.IsRight, Strays.AreStrays, Turns.turns_told, declared.straying.Stray.Stray}
 
 -- Second t changes nothing of the part of p: as it is, the part stands for what p holds then. The turns of the second tell nothing, each
 -- neighbour gets a parcel with nothing in it, and nobody more strays.

@@ -1,6 +1,5 @@
 -- What the partitions of a day share.
-use Rattle.town.specs.Views.{setup}
-use Rattle.town.specs.declared.day_input.DayInput.{DayInput}
+use Rattle.town.specs.{Views.setup, declared.day_input.DayInput.DayInput}
 use Rattle.divided_day.specs.Divisions.{IsDivided}
 use Rattle.part_seconds.specs.Slots.{AreSlotsInto}
 use Rattle.parted_day.specs.declared.runs.Shared.{Shared}

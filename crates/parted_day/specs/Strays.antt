@@ -1,17 +1,13 @@
 -- Who is on the way from one partition to another when the day ends.
-use Rattle.std.specs.Prelude.{◌≡◌, ℕ, zero, suc, ◌+◌, List, [], ◌∷◌, ◌++◌, map, get_or, nat_le, ◌==◌, Bool}
-use Rattle.std.specs.Prelude.{if◌then◌else◌}
 use Rattle.std.specs.List.{flat_map}
+use Rattle.std.specs.Prelude.{◌≡◌, ℕ, zero, suc, ◌+◌, List, [], ◌∷◌, ◌++◌, map, get_or, nat_le, ◌==◌, Bool, if◌then◌else◌}
 use Rattle.events.specs.declared.event.VehicleId.{VehicleId}
-use Rattle.traffic.specs.declared.riders.Rider.{Rider}
+use Rattle.traffic.specs.{Setup.Setup, declared.riders.Rider.Rider}
 use Rattle.traffic.specs.declared.world.Place.TheVariants as place
-use Rattle.traffic.specs.Setup.{Setup}
-use Rattle.parts.specs.Owners.{Owner, lag}
-use Rattle.parts.specs.Parts.{Passed, Flight, Parcel as Sent, out}
+use Rattle.parts.specs.{Owners.Owner, Owners.lag, Parts.Passed, Parts.Flight, Parts.Parcel as Sent, Parts.out}
 use Rattle.step_core.specs.declared.part.Border.{Border}
 use Rattle.divided_day.specs.Borders.{borders_of}
-use Rattle.part_seconds.specs.declared.contents.Moved.{Moved}
-use Rattle.part_seconds.specs.declared.contents.Teleported.{Teleported}
+use Rattle.part_seconds.specs.declared.contents.{Moved.Moved, Teleported.Teleported}
 use Rattle.parted_day.specs.declared.straying.Stray.{Stray}
 
 -- WHO IS IN A PARCEL

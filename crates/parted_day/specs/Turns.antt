@@ -2,19 +2,14 @@
 use Rattle.std.specs.Prelude.{◌≡◌, ℕ, false, List, ◌++◌, length, map, filter}
 use Rattle.events.specs.declared.event.Event.{Event}
 use Rattle.events.specs.declared.event.Phase.TheVariants as phase
-use Rattle.traffic.specs.Day.{turns_in, events_in}
-use Rattle.traffic.specs.Lists.{below}
-use Rattle.traffic.specs.Rows.{person_of}
-use Rattle.traffic.specs.Setup.{Setup}
+use Rattle.traffic.specs.{Day.turns_in, Day.events_in, Lists.below, Rows.person_of, Setup.Setup}
 use Rattle.parts.specs.Owners.{Owner}
-use Rattle.law_own_worlds.specs.Days.{world_before, run_turns, my_node_turns, my_link_turns}
-use Rattle.law_own_worlds.specs.OwnWorlds.{landed}
+use Rattle.law_own_worlds.specs.{Days.world_before, Days.run_turns, Days.my_node_turns, Days.my_link_turns, OwnWorlds.landed}
 use Rattle.law_own_seconds.specs.Seconds.{world_early}
 use Rattle.law_parcels.specs.Sending.{sent_rows, freed_over}
 use Rattle.node_seconds.specs.Networks.{is_among}
 use Rattle.part_nodes.specs.Phase.{entering_of}
-use Rattle.part_seconds.specs.declared.leaving.Leaving.{Leaving}
-use Rattle.part_seconds.specs.Contents.{freed_row}
+use Rattle.part_seconds.specs.{Contents.freed_row, declared.leaving.Leaving.Leaving}
 
 -- what all turns of second t in the own world of p tell, phase by phase
 abbrev pub turns_told : Setup → Owner → ℕ → ℕ → List Event

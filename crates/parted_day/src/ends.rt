@@ -1,22 +1,18 @@
 //! Who is under way when the day ends.
 
+ghost use Rattle.std.specs.{List.flat_map, Option.option_to_list};
 ghost use Rattle.std.specs.Prelude.{◌≡◌, ◌<◌, ◌++◌, length, replicate, OnOk, IfOk};
-ghost use Rattle.std.specs.List.{flat_map};
-ghost use Rattle.std.specs.Option.{option_to_list};
 ghost use Rattle.events.specs.Keys.{phase_code};
 ghost use Rattle.events.specs.declared.event.Phase.TheVariants as phase;
 ghost use Rattle.law_in_range.specs.Setups.{HaveFittingPlans};
 ghost use Rattle.town.specs.Views.{setup};
-ghost use Rattle.traffic.specs.Lists.{below};
-ghost use Rattle.traffic.specs.Day.{keyed};
+ghost use Rattle.traffic.specs.{Day.keyed, Lists.below, Persons.stuck_on};
 ghost use Rattle.law_parcels.specs.Worlds.{world_held};
 ghost use Rattle.law_parts_of_days.specs.Riding.{stranded_on, told_on, put_links};
 ghost use Rattle.partition.specs.Owned.{owner_in};
 ghost use Rattle.parts.specs.Parts.{held, own_end_events};
-ghost use Rattle.traffic.specs.Persons.{stuck_on};
 ghost use Rattle.part_seconds.specs.Stands.{AreaStands};
-ghost use Rattle.parted_day.specs.Strays.{AreStrays};
-ghost use Rattle.parted_day.specs.Tables.{with_states, with_links};
+ghost use Rattle.parted_day.specs.{Strays.AreStrays, Tables.with_states, Tables.with_links};
 
 use crate::riding::rider_links;
 use crate::straying::{Stray, put_strays};

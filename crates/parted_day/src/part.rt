@@ -2,11 +2,10 @@
 
 ghost use Rattle.std.specs.Prelude.{◌≡◌, ◌++◌, [], true, refl, if◌then◌else◌, IfOk};
 ghost use Rattle.divided_day.specs.Days.{net_in, borders_in};
-ghost use Rattle.parted_day.specs.Absorbed.{IsRight};
+ghost use Rattle.parted_day.specs.{Absorbed.IsRight, Parts.view_of, Parts.IsPartOf};
 ghost use Rattle.part_seconds.specs.Parcels as contents;
 ghost use Rattle.partition.specs.Owned.{owner_in};
 ghost use Rattle.town.specs.Views.{setup};
-ghost use Rattle.parted_day.specs.Parts.{view_of, IsPartOf};
 
 use crate::beginnings::begin;
 use crate::ends::end_events;

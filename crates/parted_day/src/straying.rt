@@ -3,17 +3,14 @@
 ghost use Rattle.std.specs.Prelude.{◌≡◌, ℕ, ◌<◌, ◌+◌, ◌++◌, [], true, length, map, set, get_or, OnOk};
 ghost use Rattle.std.specs.List.{flat_map};
 ghost use Rattle.divided_day.specs.Borders.{borders_of};
-ghost use Rattle.part_seconds.specs.Contents.{parcel_of};
-ghost use Rattle.part_seconds.specs.Sending.{parcel_at};
+ghost use Rattle.part_seconds.specs.{Contents.parcel_of, Sending.parcel_at};
 ghost use Rattle.partition.specs.Owned.{owner_in};
-ghost use Rattle.parts.specs.Owners.{near};
-ghost use Rattle.parts.specs.Parts.{out};
+ghost use Rattle.parts.specs.{Owners.near, Parts.out};
 ghost use Rattle.step_core.specs.Nets.{border_at};
 ghost use Rattle.town.specs.Views.{setup};
 ghost use Rattle.traffic.specs.Setup.{Setup};
-ghost use Rattle.parted_day.specs.Strays.{stray_riders, moved_strays, teleported_stray, strays_in, strays_to, strays_over};
-ghost use Rattle.parted_day.specs.Strays.{comes_too_late, lag_among, AreStrays};
-ghost use Rattle.parted_day.specs.Tables.{with_states, with_links};
+ghost use Rattle.parted_day.specs.Strays.{stray_riders, moved_strays, teleported_stray, strays_in, strays_to, strays_over, comes_too_late};
+ghost use Rattle.parted_day.specs.{Strays.lag_among, Strays.AreStrays, Tables.with_states, Tables.with_links};
 
 use crate::neighbours::neighbours_of;
 use events::VehicleId;

@@ -6,14 +6,11 @@ ghost use Rattle.divided_day.specs.Days.{borders_in};
 ghost use Rattle.law_own_seconds.specs.Seconds.{held_driven, world_driven};
 ghost use Rattle.law_parcels.specs.Worlds.{world_held};
 ghost use Rattle.partition.specs.Owned.{owner_in};
-ghost use Rattle.part_seconds.specs.Parcels.{nothing};
+ghost use Rattle.part_seconds.specs.{Parcels.nothing, Stands.AreaStands};
 ghost use Rattle.parts.specs.Parts.{held};
-ghost use Rattle.parted_day.specs.Absorbed.{IsRight};
-ghost use Rattle.parted_day.specs.Strays.{AreStrays};
-ghost use Rattle.part_seconds.specs.Stands.{AreaStands};
+ghost use Rattle.parted_day.specs.{Absorbed.IsRight, Strays.AreStrays, Turns.turns_told, Turns.IsLeaving};
 ghost use Rattle.step_core.specs.Views.{AreEmpty, HasHeard, HasSent};
 ghost use Rattle.town.specs.Views.{setup};
-ghost use Rattle.parted_day.specs.Turns.{turns_told, IsLeaving};
 
 use crate::absorbing::absorb;
 use crate::neighbours::neighbours_of;

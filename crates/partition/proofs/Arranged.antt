@@ -1,20 +1,13 @@
 -- Two halves that are arranged each by itself are arranged together.
-use Rattle.std.proofs.Common.{◌≡◌, ℕ, zero, suc, ◌+◌, ◌-◌, ◌/◌, ◌<◌, ◌≤◌, Bool, true, false, List, [], ◌∷◌, ◌++◌, arith, refl, sym, ◌∙◌, ap, subst, length, get_or, take, drop, All, inl, inr}
-use Rattle.std.specs.Prelude.{nat_le}
-use Rattle.std.specs.Cmp.{IsStrictWeakOrder}
-use Rattle.std.specs.List.{AllByRecursion as Each}
-use Rattle.std.specs.List.Sorted.{IsSortedBy, IsPermutation}
-use Rattle.std.proofs.lemmas.List.{get_or-take, get_or-drop, get_or_append_left, get_or-append_right, length-drop, length-take-le}
-use Rattle.std.proofs.lemmas.List.Elements.{All-get_or, All-from_get_or}
+use Rattle.std.proofs.Common.{◌≡◌, ℕ, zero, suc, ◌+◌, ◌-◌, ◌/◌, ◌<◌, ◌≤◌, Bool, true, false, List, [], ◌∷◌, ◌++◌, arith, refl, sym, ◌∙◌, ap, subst, length}
+use Rattle.std.proofs.{Common.get_or, Common.take, Common.drop, Common.All, Common.inl, Common.inr, lemmas.List.get_or-take, lemmas.List.get_or-drop}
+use Rattle.std.proofs.lemmas.List.{get_or_append_left, get_or-append_right, length-drop, length-take-le, Elements.All-get_or, Elements.All-from_get_or}
 use Rattle.std.proofs.lemmas.List.Sorted.{sorted_far, All-permutation, IsPermutation-append, IsPermutation-trans, length_permutation}
-use Rattle.traffic.proofs.Common.{cases_Bool, nat_tests}
-use Rattle.traffic.proofs.Each.{each_append, each_weaker}
+use Rattle.std.specs.{Cmp.IsStrictWeakOrder, List.AllByRecursion as Each, List.Sorted.IsSortedBy, List.Sorted.IsPermutation, Prelude.nat_le}
+use Rattle.traffic.proofs.{Common.cases_Bool, Common.nat_tests, Each.each_append, Each.each_weaker}
 use Rattle.rows.specs.declared.network.NodeRow.{NodeRow}
-use Rattle.partition.specs.declared.axes.Axis.{Axis}
-use Rattle.partition.specs.Axes.{across, lies_before}
-use Rattle.partition.specs.Cuts.{Cut, nodes_before, cuts_from, is_sorted_at}
-use Rattle.partition.proofs.Shares.{shares_rise}
-use Rattle.partition.proofs.Order.{order_along}
+use Rattle.partition.proofs.{Order.order_along, Shares.shares_rise}
+use Rattle.partition.specs.{Axes.across, Axes.lies_before, Cuts.Cut, Cuts.nodes_before, Cuts.cuts_from, Cuts.is_sorted_at, declared.axes.Axis.Axis}
 
 many_more : (k : ℕ) → 1 < k → nat_le k 1 ≡ false
 many_more k h = grind (arith, nat_tests)

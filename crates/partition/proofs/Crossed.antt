@@ -1,19 +1,14 @@
 -- Tables over the rows of a town are those of its day.
-use Rattle.std.proofs.Common.{◌≡◌, ℕ, ◌+◌, Bool, true, false, List, [], ◌∷◌, ◌++◌, arith, refl, sym, ◌∙◌, ap, subst, length, get_or, map, append_assoc, length-append, inl, inr}
-use Rattle.std.specs.Prelude.{◌==◌, ◌&&◌, ◌||◌, not, filter}
-use Rattle.std.specs.List.{list_any, flat_map}
-use Rattle.std.proofs.Math.Seq.{get_or-append_seam}
-use Rattle.traffic.proofs.Common.{cases_Bool}
-use Rattle.traffic.specs.Lists.{numbers}
-use Rattle.traffic.specs.Setup.{seconds_of, hole_of}
+use Rattle.std.proofs.Common.{◌≡◌, ℕ, ◌+◌, Bool, true, false, List, [], ◌∷◌, ◌++◌, arith, refl, sym, ◌∙◌, ap, subst, length, get_or, map, append_assoc}
+use Rattle.std.proofs.{Common.length-append, Common.inl, Common.inr, Math.Seq.get_or-append_seam}
+use Rattle.std.specs.{List.list_any, List.flat_map, Prelude.◌==◌, Prelude.◌&&◌, Prelude.◌||◌, Prelude.not, Prelude.filter}
+use Rattle.traffic.{proofs.Common.cases_Bool, specs.Lists.numbers, specs.Setup.seconds_of, specs.Setup.hole_of}
 use Rattle.rows.specs.declared.network.LinkRow.{LinkRow}
-use Rattle.town.specs.declared.day_input.DayInput.{DayInput}
-use Rattle.town.specs.Views.{setup, chosen_in}
-use Rattle.town.specs.Setups.{setup_of}
+use Rattle.town.specs.{Setups.setup_of, Views.setup, Views.chosen_in, declared.day_input.DayInput.DayInput}
 use Rattle.parts.specs.Owners.{Owner, Hop, hops, leads, hops_over, links_of, near, lag, least, longest_lag}
 use Rattle.partition.specs.Neighbours.{hops_in, leads_over, hop_leads_over, is_over, is_hop_over, hole_at, seconds_of_hop, shortest}
-use Rattle.travel_times.specs.Times.{free_of}
 use Rattle.partition.proofs.Tables.{least_append}
+use Rattle.travel_times.specs.Times.{free_of}
 
 -- WHAT IS ASKED OF EACH NUMBER OF A LIST IS ASKED OF EACH ELEMENT
 seam : {X : Type 0} (ys : List X) (x : X) (xs : List X) (k : ℕ) (d : X) → length ys ≡ k → get_or (ys ++ x ∷ xs) k d ≡ x

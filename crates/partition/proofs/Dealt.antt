@@ -1,25 +1,17 @@
 -- Nodes that are dealt out in an order: each has one place, and each partition its share.
-use Rattle.std.proofs.Common.{◌≡◌, ℕ, zero, suc, ◌+◌, ◌-◌, ◌<◌, ◌≤◌, ◌≢◌, false, List, [], ◌∷◌, arith, refl, sym, ◌∙◌, ap, subst, length, get_or, take, drop, All, inl, inr, ◌++◌, sum_by, set, min, cond, ◌⊎◌, append_assoc, length-append}
-use Rattle.std.specs.Prelude.{count_by, ◌==◌, if◌then◌else◌}
-use Rattle.std.specs.List.{Contains, AllByRecursion as Each}
-use Rattle.std.specs.List.Sorted.{IsPermutation}
-use Rattle.std.proofs.Math.Seq.{take-length, take-append_seam, get_or-append_seam}
-use Rattle.std.proofs.lemmas.List.{get_or_default, get_or-set_same, get_or-set_other, get_or_past}
-use Rattle.std.proofs.lemmas.List.Elements.{All-get_or, All-from_get_or}
-use Rattle.std.proofs.lemmas.List.Sorted.{All-permutation, Contains-permutation, length_permutation, sum_by-IsPermutation}
-use Rattle.std.proofs.lemmas.List.Sums.{sum_by-cons, sum_by_more}
+use Rattle.std.proofs.Common.{◌≡◌, ℕ, zero, suc, ◌+◌, ◌-◌, ◌<◌, ◌≤◌, ◌≢◌, false, List, [], ◌∷◌, arith, refl, sym, ◌∙◌, ap, subst, length, get_or, take, drop}
+use Rattle.std.proofs.Common.{All, inl, inr, ◌++◌, sum_by, set, min, cond, ◌⊎◌, append_assoc, length-append}
+use Rattle.std.proofs.{Math.Seq.take-length, Math.Seq.take-append_seam, Math.Seq.get_or-append_seam, lemmas.List.get_or_default}
+use Rattle.std.proofs.lemmas.List.{get_or-set_same, get_or-set_other, get_or_past, Elements.All-get_or, Elements.All-from_get_or, Sorted.All-permutation}
+use Rattle.std.proofs.lemmas.List.{Sorted.Contains-permutation, Sorted.length_permutation, Sorted.sum_by-IsPermutation, Sums.sum_by-cons, Sums.sum_by_more}
+use Rattle.std.specs.{List.Contains, List.AllByRecursion as Each, List.Sorted.IsPermutation, Prelude.count_by, Prelude.◌==◌, Prelude.if◌then◌else◌}
 use Rattle.traffic.proofs.Common.{cases_Bool, eqb, eqb-true, eq-eqb, ne_eqb, cases_lt}
-use Rattle.traffic.proofs.Each.{each_weaker}
-use Rattle.traffic.specs.Lists.{below, numbers}
+use Rattle.traffic.{proofs.Each.each_weaker, specs.Lists.below, specs.Lists.numbers}
 use Rattle.rows.specs.declared.network.NodeRow.{NodeRow}
-use Rattle.partition.specs.declared.axes.Axis.TheVariants.{X}
-use Rattle.partition.specs.Axes.{lies_before}
-use Rattle.partition.specs.Owned.{owner_in}
-use Rattle.partition.specs.Cuts.{Cut, nodes_before, cuts_from, is_sorted_at}
-use Rattle.partition.specs.Halves.{IsHalved, IsCut, partition_at, AreDealt}
+use Rattle.partition.proofs.{Arranged.Within, Arranged.cuts_within, Arranged.both_each, Order.one_before}
 use Rattle.partition.proofs.Shares.{no_share, all_shares, from_partition, before_partition, some_partition, shares_rise}
-use Rattle.partition.proofs.Order.{one_before}
-use Rattle.partition.proofs.Arranged.{Within, cuts_within, both_each}
+use Rattle.partition.specs.{Axes.lies_before, Cuts.Cut, Cuts.nodes_before, Cuts.cuts_from, Cuts.is_sorted_at, Halves.IsHalved, Halves.IsCut}
+use Rattle.partition.specs.{Halves.partition_at, Halves.AreDealt, Owned.owner_in, declared.axes.Axis.TheVariants.X}
 
 -- NUMBERS BELOW n
 length-numbers : (k n : ℕ) → length (numbers k n) ≡ n

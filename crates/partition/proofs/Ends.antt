@@ -1,16 +1,14 @@
 -- The tables of a day, from empty ones.
 use Rattle.std.proofs.Common.{◌≡◌, ℕ, ◌<◌, Bool, false, List, sym, ◌∙◌, ap, subst, arith, replicate, length, take, drop, ◌++◌}
-use Rattle.std.specs.Prelude.{not, ◌==◌, ◌&&◌, ◌||◌}
-use Rattle.std.specs.List.{list_any, flat_map}
 use Rattle.std.proofs.lemmas.List.{get_or-replicate, length-replicate}
+use Rattle.std.specs.{List.list_any, List.flat_map, Prelude.not, Prelude.◌==◌, Prelude.◌&&◌, Prelude.◌||◌}
 use Rattle.rows.specs.declared.network.LinkRow.{LinkRow}
-use Rattle.town.specs.declared.day_input.DayInput.{DayInput}
-use Rattle.town.specs.Views.{setup, chosen_in}
+use Rattle.town.specs.{Views.setup, Views.chosen_in, declared.day_input.DayInput.DayInput}
 use Rattle.parts.specs.Owners.{Owner, longest_lag}
-use Rattle.partition.specs.Neighbours.{AreJoined, AreNear, AreShorter, AreLags, joined_in, lag_in, place_of, is_over, is_hop_over, hops_in, shortest, hole_at, seconds_of_hop, leads_over, hop_leads_over}
+use Rattle.partition.proofs.{Crossed.near_is, Crossed.lag_is, Dealt.written_back}
+use Rattle.partition.specs.Neighbours.{AreJoined, AreNear, AreShorter, AreLags, joined_in, lag_in, place_of, is_over, is_hop_over, hops_in, shortest, hole_at}
+use Rattle.partition.specs.Neighbours.{seconds_of_hop, leads_over, hop_leads_over}
 use Rattle.travel_times.specs.Times.{free_of}
-use Rattle.partition.proofs.Crossed.{near_is, lag_is}
-use Rattle.partition.proofs.Dealt.{written_back}
 
 or_steps : (a b c : Bool) → a ≡ false → ((a || b) || c) ≡ (b || c)
 or_steps a b c e = ap (λ z. (z || b) || c) e

@@ -1,17 +1,14 @@
 -- One more link, leg or plan in a table.
 use Rattle.std.proofs.Common.{◌≡◌, ℕ, ◌+◌, ◌<◌, List, [], ◌∷◌, ◌++◌, Bool, sym, ◌∙◌, ap, subst, length, get_or, take, map, append-nil, min}
-use Rattle.std.specs.Prelude.{Option, if◌then◌else◌, ◌==◌}
-use Rattle.std.specs.List.{list_any, flat_map}
 use Rattle.std.proofs.lemmas.List.{take_more, map-append, get_or_default}
+use Rattle.std.specs.{List.list_any, List.flat_map, Prelude.Option, Prelude.if◌then◌else◌, Prelude.◌==◌}
 use Rattle.traffic.specs.Lists.{below}
-use Rattle.rows.specs.declared.network.LinkRow.{LinkRow}
-use Rattle.rows.specs.declared.plan.Plan.{Plan}
-use Rattle.rows.specs.PlanRows.{PlanRows, plan_rows}
+use Rattle.rows.specs.{PlanRows.PlanRows, PlanRows.plan_rows, declared.network.LinkRow.LinkRow, declared.plan.Plan.Plan}
 use Rattle.parts.specs.Owners.{Owner, Hop}
-use Rattle.partition.specs.Neighbours.{AreJoined, is_either, is_hop_over, hop_in, hops_in, end_node, AreShorter, shortest, shortened, hole_at, seconds_of_hop, leads_over, hop_leads_over}
-use Rattle.travel_times.specs.Times.{free_of}
-use Rattle.partition.proofs.Numbers.{flat_more, flat_push}
+use Rattle.partition.specs.Neighbours.{AreJoined, is_either, is_hop_over, hop_in, hops_in, end_node, AreShorter, shortest, shortened, hole_at, seconds_of_hop}
+use Rattle.partition.{specs.Neighbours.leads_over, specs.Neighbours.hop_leads_over, proofs.Numbers.flat_more, proofs.Numbers.flat_push}
 use Rattle.partition.proofs.Tables.{and_comm, joined_more, joined_by_one, shorter_more, shorter_by_one, shorter_both}
+use Rattle.travel_times.specs.Times.{free_of}
 
 more_taken : {X : Type 0} (xs : List X) (i : ℕ) (x : X) → i < length xs → x ≡ get_or xs i x → take (i + 1) xs ≡ take i xs ++ x ∷ []
 more_taken xs i x h e = take_more xs i x h ∙ ap (λ y. take i xs ++ y ∷ []) (sym e)

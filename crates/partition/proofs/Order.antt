@@ -1,16 +1,12 @@
 -- The order of nodes along an axis is total.
 use Rattle.std.proofs.Common.{◌≡◌, ℕ, Bool, true, false, refl, sym, ◌∙◌, subst, cond, arith, List, inl, inr}
+use Rattle.std.{proofs.lemmas.List.Sorted.ranks_by, specs.Cmp.IsStrictWeakOrder, specs.Cmp.IsTotalOrder, specs.Cmp.nat_cmp_total, specs.Cmp.int_cmp_total}
+use Rattle.std.specs.{Cmp.on_total, Cmp.then_total, List.Sorted.IsSortedBy, Ordering.is_lt, Ordering.ordering_then, Ordering.int_cmp, Ordering.nat_cmp}
 use Rattle.std.specs.Prelude.{ℤ, not, ◌&&◌, ◌||◌, nat_lt, int_lt, IsSortedByKey}
-use Rattle.std.specs.Ordering.{is_lt, ordering_then, int_cmp, nat_cmp}
-use Rattle.std.specs.declared.cmp.Ordering.{Ordering}
-use Rattle.std.specs.declared.cmp.Ordering.TheVariants.{Less, Equal, Greater}
-use Rattle.std.specs.Cmp.{IsStrictWeakOrder, IsTotalOrder, nat_cmp_total, int_cmp_total, on_total, then_total}
-use Rattle.std.specs.List.Sorted.{IsSortedBy}
-use Rattle.std.proofs.lemmas.List.Sorted.{ranks_by}
+use Rattle.std.specs.declared.cmp.Ordering.{Ordering, TheVariants.Less, TheVariants.Equal, TheVariants.Greater}
 use Rattle.traffic.proofs.Common.{cases_Bool, ltb-false, true≢false}
 use Rattle.rows.specs.declared.network.NodeRow.{NodeRow}
-use Rattle.partition.specs.declared.axes.Axis.{Axis}
-use Rattle.partition.specs.Axes.{coordinate, lies_before}
+use Rattle.partition.specs.{Axes.coordinate, Axes.lies_before, declared.axes.Axis.Axis}
 
 abbrev pub Spot : Type 0
 Spot = ℤ × ℕ

@@ -1,16 +1,11 @@
 -- Pairs of partitions, one after the other.
 use Rattle.std.proofs.Common.{◌≡◌, ℕ, zero, suc, ◌+◌, ◌-◌, ◌<◌, ◌≤◌, Bool, true, false, List, [], ◌∷◌, ◌++◌, arith, refl, sym, ◌∙◌, ap, map, append_assoc}
+use Rattle.std.{proofs.lemmas.List.Elements.filter-append, specs.List.flat_map, specs.List.AllByRecursion as Each}
 use Rattle.std.specs.Prelude.{filter, not, ◌&&◌, if◌then◌else◌}
-use Rattle.std.specs.List.{flat_map, AllByRecursion as Each}
-use Rattle.std.proofs.lemmas.List.Elements.{filter-append}
-use Rattle.traffic.proofs.Common.{ne_eqb}
-use Rattle.traffic.proofs.Each.{each_append}
-use Rattle.traffic.specs.Lists.{below, numbers}
-use Rattle.traffic.specs.Setup.{Setup}
+use Rattle.traffic.{proofs.Common.ne_eqb, proofs.Each.each_append, specs.Lists.below, specs.Lists.numbers, specs.Setup.Setup}
 use Rattle.parts.specs.Owners.{Owner, near}
-use Rattle.partition.specs.declared.joining.Pair.{Pair}
-use Rattle.partition.specs.Neighbours.{pair, pairs_from, pairs_of, neighbours_of, joined_in, is_joined, AreNear}
-use Rattle.partition.proofs.Numbers.{numbers_from, flat_more}
+use Rattle.partition.{proofs.Numbers.numbers_from, proofs.Numbers.flat_more, specs.Neighbours.pair, specs.Neighbours.pairs_from, specs.Neighbours.pairs_of}
+use Rattle.partition.specs.{Neighbours.neighbours_of, Neighbours.joined_in, Neighbours.is_joined, Neighbours.AreNear, declared.joining.Pair.Pair}
 
 -- what is still to be looked at
 abbrev pub rest_of : List Bool → ℕ → ℕ → ℕ → List Pair

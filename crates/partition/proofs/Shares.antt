@@ -1,7 +1,7 @@
 -- Shares of nodes: which place belongs to which partition.
-use Rattle.std.proofs.Common.{◌≡◌, ℕ, ◌+◌, ◌-◌, ◌*◌, ◌/◌, ◌<◌, ◌≤◌, zero, suc, arith, ◌∙◌, ap, subst, mul_comm, le-div_iff_mul-le, div-lt_iff_lt-mul, mul-div_cancel, mul-le-mul_right, zero-mul, suc-mul}
-use Rattle.partition.specs.Cuts.{nodes_before}
-use Rattle.partition.specs.Halves.{partition_at}
+use Rattle.std.proofs.Common.{◌≡◌, ℕ, ◌+◌, ◌-◌, ◌*◌, ◌/◌, ◌<◌, ◌≤◌, zero, suc, arith, ◌∙◌, ap, subst, mul_comm, le-div_iff_mul-le, div-lt_iff_lt-mul}
+use Rattle.std.proofs.Common.{mul-div_cancel, mul-le-mul_right, zero-mul, suc-mul}
+use Rattle.partition.specs.{Cuts.nodes_before, Halves.partition_at}
 
 le_le : (x y z : ℕ) → x ≤ y → y ≤ z → x ≤ z
 le_le x y z h g = omega arith

@@ -1,9 +1,8 @@
 -- Tables of ordered pairs, written place by place.
-use Rattle.std.proofs.Common.{◌≡◌, ℕ, ◌+◌, ◌<◌, Bool, true, false, List, [], ◌∷◌, ◌++◌, arith, refl, sym, ◌∙◌, ap, subst, length, get_or, set, min, inl, inr, map}
-use Rattle.std.specs.Prelude.{◌==◌, ◌&&◌, ◌||◌, filter, if◌then◌else◌}
-use Rattle.std.specs.List.{list_any}
-use Rattle.std.proofs.lemmas.List.{get_or-set_same, get_or-set_other, map-append, length-set}
-use Rattle.std.proofs.lemmas.List.Elements.{filter-append}
+use Rattle.std.proofs.Common.{◌≡◌, ℕ, ◌+◌, ◌<◌, Bool, true, false, List, [], ◌∷◌, ◌++◌, arith, refl, sym, ◌∙◌, ap, subst, length, get_or, set, min, inl, inr}
+use Rattle.std.proofs.Common.{map}
+use Rattle.std.proofs.lemmas.List.{get_or-set_same, get_or-set_other, map-append, length-set, Elements.filter-append}
+use Rattle.std.specs.{List.list_any, Prelude.◌==◌, Prelude.◌&&◌, Prelude.◌||◌, Prelude.filter, Prelude.if◌then◌else◌}
 use Rattle.traffic.proofs.Common.{cases_Bool, eqb-true, eq-eqb, and_parts, eqb}
 use Rattle.parts.specs.Owners.{least}
 use Rattle.partition.specs.Neighbours.{place_of, joined_in, lag_in, AreJoined, is_either, AreShorter, shortest, shortened}

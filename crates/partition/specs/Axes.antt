@@ -1,8 +1,7 @@
 -- The order of nodes along an axis.
 use Rattle.std.specs.Prelude.{ℕ, ℤ, pos, Bool, not, ◌&&◌, ◌||◌, List, get_or, nat_lt, int_lt}
 use Rattle.rows.specs.declared.network.NodeRow.{NodeRow}
-use Rattle.partition.specs.declared.axes.Axis.{Axis}
-use Rattle.partition.specs.declared.axes.Axis.TheVariants.{X, Y}
+use Rattle.partition.specs.declared.axes.Axis.{Axis, TheVariants.X, TheVariants.Y}
 
 abbrev pub across : Axis → Axis
 across X = Y

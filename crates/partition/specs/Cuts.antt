@@ -1,9 +1,7 @@
 -- The cuts by which a network is divided into partitions.
 use Rattle.std.specs.Prelude.{◌≡◌, ℕ, zero, suc, ◌+◌, ◌-◌, ◌*◌, ◌/◌, ◌<◌, ◌≤◌, false, List, [], ◌∷◌, ◌++◌, length, get_or, nat_le, if◌then◌else◌}
 use Rattle.rows.specs.declared.network.NodeRow.{NodeRow}
-use Rattle.partition.specs.declared.axes.Axis.{Axis}
-use Rattle.partition.specs.declared.axes.Axis.TheVariants.{X}
-use Rattle.partition.specs.Axes.{across, lies_before}
+use Rattle.partition.specs.{Axes.across, Axes.lies_before, declared.axes.Axis.Axis, declared.axes.Axis.TheVariants.X}
 
 -- how many of so many nodes belong to the partitions before p, of so many partitions
 abbrev pub nodes_before : ℕ → ℕ → ℕ → ℕ

@@ -2,9 +2,7 @@
 use Rattle.std.specs.Prelude.{◌≡◌, ℕ, ◌+◌, ◌-◌, ◌*◌, ◌/◌, ◌<◌, ◌≤◌, true, List, length, get_or, count_by, ◌==◌}
 use Rattle.std.specs.List.{AllByRecursion as Each}
 use Rattle.rows.specs.declared.network.NodeRow.{NodeRow}
-use Rattle.partition.specs.Axes.{lies_before}
-use Rattle.partition.specs.Owned.{owner_in}
-use Rattle.partition.specs.Cuts.{Cut, nodes_before, cuts}
+use Rattle.partition.specs.{Axes.lies_before, Cuts.Cut, Cuts.nodes_before, Cuts.cuts, Owned.owner_in}
 
 -- each node of the partitions below the middle of a cut comes before each of the others
 abbrev pub IsCut : List NodeRow → List ℕ → Cut → Type 0

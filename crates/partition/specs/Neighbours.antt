@@ -1,16 +1,12 @@
 -- Which partitions are neighbours, and with which lags, out of the rows of a town and the plans.
-use Rattle.std.specs.Prelude.{◌≡◌, ℕ, ◌+◌, ◌-◌, ◌*◌, ◌<◌, min, Bool, false, not, ◌&&◌, ◌||◌, List, length, map, filter, get_or, ◌==◌, if◌then◌else◌, Option, None, Some}
-use Rattle.std.specs.List.{flat_map}
-use Rattle.rows.specs.declared.network.LinkRow.{LinkRow}
-use Rattle.rows.specs.declared.plan.Leg.{Leg}
+use Rattle.std.specs.{List.flat_map, Prelude.◌≡◌, Prelude.ℕ}
+use Rattle.std.specs.Prelude.{◌+◌, ◌-◌, ◌*◌, ◌<◌, min, Bool, false, not, ◌&&◌, ◌||◌, List, length, map, filter, get_or, ◌==◌, if◌then◌else◌, Option, None, Some}
+use Rattle.rows.specs.{PlanRows.PlanRows, PlanRows.act_in, PlanRows.leg_in, declared.network.LinkRow.LinkRow, declared.plan.Leg.Leg}
 use Rattle.rows.specs.declared.plan.Leg.TheVariants as leg
-use Rattle.rows.specs.PlanRows.{PlanRows, act_in, leg_in}
-use Rattle.traffic.specs.Lists.{below, numbers}
-use Rattle.traffic.specs.Setup.{Setup, hole_seconds}
+use Rattle.traffic.specs.{Lists.below, Lists.numbers, Setup.Setup, Setup.hole_seconds}
 use Rattle.parts.specs.Owners.{Owner, Hop, hop, near, lag, least}
 use Rattle.limits.specs.declared.TheConstants.{MAX_PARTITIONS}
-use Rattle.partition.specs.declared.joining.Pair.{Pair}
-use Rattle.partition.specs.declared.borders.LagPair.{LagPair}
+use Rattle.partition.specs.declared.{borders.LagPair.LagPair, joining.Pair.Pair}
 
 -- THE ANSWERS
 -- all pairs of so many partitions, ascending, the lesser one first

@@ -1,7 +1,6 @@
 //! Nodes in their order along an axis.
 
-ghost use Rattle.std.specs.Prelude.{◌≡◌, IsPermutation};
-ghost use Rattle.std.specs.List.Sorted.{IsSortedBy};
+ghost use Rattle.std.specs.{List.Sorted.IsSortedBy, Prelude.◌≡◌, Prelude.IsPermutation};
 ghost use Rattle.partition.specs.Axes.{across, coordinate, lies_before};
 
 use rows::NodeRow;

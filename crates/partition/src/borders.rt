@@ -3,14 +3,11 @@
 ghost use Rattle.std.specs.Prelude.{◌≡◌, ◌<◌, true, length, map, All, IfOk};
 ghost use Rattle.std.specs.List.{list_all, flat_map};
 ghost use Rattle.limits.specs.declared.TheConstants.{MAX_PARTITIONS};
-ghost use Rattle.rows.specs.Networks.{is_link};
-ghost use Rattle.rows.specs.PlanRows.{plan_rows};
-ghost use Rattle.rows.specs.Settings.{is_hole_speed};
+ghost use Rattle.rows.specs.{Networks.is_link, PlanRows.plan_rows, Settings.is_hole_speed};
 ghost use Rattle.town.specs.Views.{setup};
-ghost use Rattle.partition.specs.Owned.{owner_in};
-ghost use Rattle.partition.specs.Neighbours.{AreShorter, AreLags, shortened, shortest, hole_at, seconds_of_hop, IsPairOf};
+ghost use Rattle.partition.specs.Neighbours.{AreShorter, AreLags, shortened, shortest, hole_at, seconds_of_hop, IsPairOf, hops_in};
+ghost use Rattle.partition.specs.{Neighbours.leads_over, Neighbours.hop_leads_over, Neighbours.lags_of, Owned.owner_in};
 ghost use Rattle.travel_times.specs.Times.{free_of};
-ghost use Rattle.partition.specs.Neighbours.{hops_in, leads_over, hop_leads_over, lags_of};
 
 use crate::crossings::{hop_of, link_seconds, owners_of_hop};
 use crate::joining::{PLACES, Pair, place_of};

@@ -3,12 +3,10 @@
 ghost use Rattle.std.specs.Prelude.{◌≡◌, ◌<◌, ◌≤◌, ◌+◌, ◌*◌, [], ◌∷◌, get_or, true, MatchOption};
 ghost use Rattle.limits.specs.declared.TheConstants.{MAX_LEGS, MAX_PARTITIONS};
 ghost use Rattle.rows.specs.declared.plan.Leg.TheVariants as leg;
-ghost use Rattle.rows.specs.PlanRows.{plan_rows, act_in, leg_in};
-ghost use Rattle.rows.specs.Networks.{is_link};
+ghost use Rattle.rows.specs.{Networks.is_link, PlanRows.plan_rows, PlanRows.act_in, PlanRows.leg_in};
 ghost use Rattle.fixed_flow.specs.Link.{free_seconds};
 ghost use Rattle.parts.specs.Owners.{hop};
-ghost use Rattle.partition.specs.Neighbours.{teleported, end_node};
-ghost use Rattle.partition.specs.Owned.{owner_in};
+ghost use Rattle.partition.specs.{Neighbours.teleported, Neighbours.end_node, Owned.owner_in};
 
 use crate::owner::{Owner, owner_of_node};
 use fixed_flow::free_seconds;

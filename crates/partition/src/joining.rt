@@ -5,9 +5,8 @@ ghost use Rattle.std.specs.List.{list_any, flat_map};
 ghost use Rattle.limits.specs.declared.TheConstants.{MAX_PARTITIONS};
 ghost use Rattle.rows.specs.PlanRows.{plan_rows};
 ghost use Rattle.town.specs.Views.{setup};
-ghost use Rattle.partition.specs.Owned.{owner_in};
-ghost use Rattle.partition.specs.Neighbours.{AreJoined, AreNear, place_of, joined_in, is_either, is_over, is_hop_over};
-ghost use Rattle.partition.specs.Neighbours.{hops_in, pairs_from, neighbours_of, is_joined};
+ghost use Rattle.partition.specs.Neighbours.{AreJoined, AreNear, place_of, joined_in, is_either, is_over, is_hop_over, hops_in, pairs_from};
+ghost use Rattle.partition.specs.{Neighbours.neighbours_of, Neighbours.is_joined, Owned.owner_in};
 
 use crate::crossings::{hop_of, owners_of_hop};
 use crate::owner::{Owner, owner_of_node};

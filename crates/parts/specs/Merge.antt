@@ -1,7 +1,5 @@
 -- The merge of event lists.
-use Rattle.std.specs.Prelude.{List}
-use Rattle.std.specs.List.{flat_map}
-use Rattle.std.specs.List.Sorted.{IsPermutation}
+use Rattle.std.specs.{List.flat_map, List.Sorted.IsPermutation, Prelude.List}
 use Rattle.events.specs.declared.event.Event.{Event}
 use Rattle.traffic.specs.Frames.{Ascends}
 

@@ -1,28 +1,17 @@
 -- What a partition has, what it sends, and what it tells.
-use Rattle.std.specs.Prelude.{ℕ, zero, suc, ◌+◌, ◌-◌, Bool, false, not, ◌&&◌, ◌||◌, List, [], ◌∷◌, ◌++◌, length, map, filter, take, get_or, sum_by, ◌==◌, nat_le, nat_lt, is_some, if◌then◌else◌, Option, None, Some}
 use Rattle.std.specs.List.{flat_map, list_any}
-use Rattle.events.specs.declared.event.Event.{Event}
-use Rattle.events.specs.declared.event.Phase.{Phase}
+use Rattle.std.specs.Prelude.{ℕ, zero, suc, ◌+◌, ◌-◌, Bool, false, not, ◌&&◌, ◌||◌, List, [], ◌∷◌, ◌++◌, length, map, filter, take, get_or, sum_by, ◌==◌}
+use Rattle.std.specs.Prelude.{nat_le, nat_lt, is_some, if◌then◌else◌, Option, None, Some}
+use Rattle.events.specs.{Keys.phase_code, declared.event.Event.Event, declared.event.Phase.Phase}
 use Rattle.events.specs.declared.event.Phase.TheVariants as phase
-use Rattle.events.specs.Keys.{phase_code}
-use Rattle.traffic.specs.declared.riders.Rider.{Rider}
-use Rattle.traffic.specs.declared.stage.Stage.{Stage}
-use Rattle.traffic.specs.declared.stage.Stage.TheVariants.{Queue}
-use Rattle.traffic.specs.Lists.{below}
-use Rattle.traffic.specs.declared.world.Row.{Row}
-use Rattle.traffic.specs.declared.world.Place.{Place}
+use Rattle.traffic.specs.Day.{moves_of, turns_in, through, keyed, world_start, world_at, events_from}
+use Rattle.traffic.specs.{Lists.below, Persons.stranded, Rows.World, Rows.on, Rows.at, Rows.holes_at, Rows.credit_of, Rows.person_of, Setup.Setup, Setup.leg_at}
+use Rattle.traffic.specs.{Setup.act_at, Setup.seconds_of, Setup.hole_of, Vehicles.VehicleState, Worlds.listed, declared.moves.Move.Move}
+use Rattle.traffic.specs.declared.{riders.Rider.Rider, stage.Stage.Stage, stage.Stage.TheVariants.Queue, world.Person.Person, world.Place.Place, world.Row.Row}
 use Rattle.traffic.specs.declared.world.Place.TheVariants as place
-use Rattle.traffic.specs.declared.world.Person.{Person}
-use Rattle.traffic.specs.declared.moves.Move.{Move}
 use Rattle.traffic.specs.declared.moves.Move.TheVariants as move
-use Rattle.traffic.specs.Rows.{World, on, at, holes_at, credit_of, person_of}
-use Rattle.traffic.specs.Vehicles.{VehicleState}
 use Rattle.rows.specs.declared.plan.Leg.{Leg}
 use Rattle.rows.specs.declared.plan.Leg.TheVariants as leg
-use Rattle.traffic.specs.Setup.{Setup, leg_at, act_at, seconds_of, hole_of}
-use Rattle.traffic.specs.Persons.{stranded}
-use Rattle.traffic.specs.Worlds.{listed}
-use Rattle.traffic.specs.Day.{moves_of, turns_in, through, keyed, world_start, world_at, events_from}
 use Rattle.parts.specs.Owners.{Owner, owner_of, begins_in, crosses, owner_of_person, leads, links_of, near, lag, owner_of_event}
 
 -- what a partition has: the four lists and the credit of each link, of each link that begins there how many rows stand in its queue and

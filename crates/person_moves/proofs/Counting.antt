@@ -1,5 +1,5 @@
 -- Loops over the numbers of links and persons.
-use Rattle.traffic.proofs.Common.{◌≡◌, ℕ, List, ◌∙◌, ap, refl, sym, [], ◌∷◌, arith, ◌<◌, true, ◌++◌, ◌+◌, Bool, ◌≤◌, false, suc, ◌-◌, append-nil}
+use Rattle.traffic.proofs.Common.{◌≡◌, ℕ, List, ◌∙◌, ap, sym, [], ◌∷◌, arith, ◌<◌, true, ◌++◌, ◌+◌, Bool, ◌≤◌, false, suc, ◌-◌, append-nil}
 use Rattle.traffic.proofs.Common.{append_assoc, flat_map, map, filter, numbers, below}
 
 -- the numbers from k to n begin with k
@@ -10,27 +10,18 @@ numbers-first k n h = let e : n - k ≡ suc (n - (k + 1)) = omega arith in ap (n
 pub went_in : {X : Type 0} (p : ℕ → Bool) (f : ℕ → X) (k n : ℕ) (out : List X) (x : X) (all : List X) → k < n → p k ≡ true → x ≡ f k →
     out ++ map f (filter p (numbers k (n - k))) ≡ all → (out ++ x ∷ []) ++ map f (filter p (numbers (k + 1) (n - (k + 1)))) ≡ all
 went_in p f k n out x all h t e g =
-    let q = numbers-first k n h in
-    append_assoc out (x ∷ []) (map f (filter p (numbers (k + 1) (n - (k + 1)))))
-    ∙ ap (λ y. out ++ y ∷ map f (filter p (numbers (k + 1) (n - (k + 1))))) e
-    ∙ (let d : map f (filter p (numbers k (n - k))) ≡ f k ∷ map f (filter p (numbers (k + 1) (n - (k + 1)))) = (rw (q, t) refl) in ap (λ ys. out ++ ys) (sym d))
-    ∙ g
+    rw (append_assoc, e) (rw (numbers-first k n h, t) at g)
 
 pub went_by : {X : Type 0} (p : ℕ → Bool) (f : ℕ → X) (k n : ℕ) (out all : List X) → k < n → p k ≡ false →
     out ++ map f (filter p (numbers k (n - k))) ≡ all → out ++ map f (filter p (numbers (k + 1) (n - (k + 1)))) ≡ all
 went_by p f k n out all h t g =
-    let q = numbers-first k n h in
-    (let d : map f (filter p (numbers k (n - k))) ≡ map f (filter p (numbers (k + 1) (n - (k + 1)))) = (rw (q, t) refl) in ap (λ ys. out ++ ys) (sym d)) ∙ g
+    rw (numbers-first k n h, t) at g
 
 -- the same where each gives a list
 pub went_on : {X : Type 0} (f : ℕ → List X) (k n : ℕ) (out more all : List X) → k < n → more ≡ f k →
     out ++ flat_map f (numbers k (n - k)) ≡ all → (out ++ more) ++ flat_map f (numbers (k + 1) (n - (k + 1))) ≡ all
 went_on f k n out more all h e g =
-    let q = numbers-first k n h in
-    append_assoc out more (flat_map f (numbers (k + 1) (n - (k + 1))))
-    ∙ ap (λ y. out ++ (y ++ flat_map f (numbers (k + 1) (n - (k + 1))))) e
-    ∙ (let d : flat_map f (numbers k (n - k)) ≡ f k ++ flat_map f (numbers (k + 1) (n - (k + 1))) = (rw q refl) in ap (λ ys. out ++ ys) (sym d))
-    ∙ g
+    rw (append_assoc, e) (rw (numbers-first k n h) at g)
 
 -- at the end all are seen
 pub went_all : {X : Type 0} (p : ℕ → Bool) (f : ℕ → X) (k n : ℕ) (out all : List X) → n ≤ k → out ++ map f (filter p (numbers k (n - k))) ≡ all → out ≡ all

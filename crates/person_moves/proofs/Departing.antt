@@ -1,16 +1,10 @@
 -- Departures in the setup of a day.
 use Rattle.traffic.proofs.Common.{refl, ◌≡◌, ℕ, ◌∙◌, length, ap, sym, [], ◌∷◌, arith, ◌<◌, get_or, ◌≢◌, eq-eqb, nat_tests, get_or-map, DepartureRow, List}
-use Rattle.traffic.proofs.Common.{and_parts, true, nat_lt, ends_of, StopCall}
-use Rattle.traffic.proofs.Common.{departure_moves, transit_vehicle, departure, Departure}
-use Rattle.traffic.specs.declared.moves.Move.TheVariants.{Enter}
-use Rattle.traffic.specs.declared.world.Row.{Row}
+use Rattle.traffic.proofs.Common.{and_parts, true, nat_lt, ends_of, StopCall, departure_moves, transit_vehicle, departure, Departure}
+use Rattle.traffic.{proofs.Idle.departure_idle, specs.declared.moves.Move.TheVariants.Enter, specs.declared.world.Row.Row}
 use Rattle.std.proofs.lemmas.List.{get_or_default}
-use Rattle.rows.specs.Schedules.{are_drivable, is_departure, is_route, is_way}
-use Rattle.rows.specs.declared.schedule.StopRow.{StopRow}
-use Rattle.town.specs.declared.day_input.DayInput.{DayInput}
-use Rattle.town.specs.Setups.{setup_of, departure_of, route_at}
-use Rattle.town.specs.Views.{rows_of, setup}
-use Rattle.traffic.proofs.Idle.{departure_idle}
+use Rattle.rows.specs.{Schedules.are_drivable, Schedules.is_departure, Schedules.is_route, Schedules.is_way, declared.schedule.StopRow.StopRow}
+use Rattle.town.specs.{Setups.setup_of, Setups.departure_of, Setups.route_at, Views.rows_of, Views.setup, declared.day_input.DayInput.DayInput}
 use Rattle.person_moves.proofs.Lists.{passes_at}
 
 -- the route of a departure is there
@@ -26,12 +20,7 @@ way_some ends (l ∷ route) h = omega arith
 drivable_some : (links : ℕ) (ends : List (ℕ × ℕ)) (rows : List StopRow) (route : List ℕ) (calls : List StopCall) → are_drivable links ends rows route calls ≡ true → 0 < length route
 unfolding are_drivable
 drivable_some links ends rows route calls h =
-    let a = and_parts _ _ h in
-    let b = and_parts _ _ a.0 in
-    let c = and_parts _ _ b.0 in
-    let d = and_parts _ _ c.0 in
-    let e = and_parts _ _ d.0 in
-    way_some ends route e.1
+    let way : is_way ends route ≡ true = grind arith in way_some ends route way
 
 -- and has a link
 pub route_long : (day : DayInput) (k : ℕ) → k < length day.town.now.routes.rows → 0 < length (route_at day.town.now.routes.rows k).links

@@ -1,22 +1,14 @@
 -- Who leaves has a leg, and a car has a route.
-use Rattle.traffic.proofs.Common.{◌≡◌, ℕ, List, ◌∙◌, length, ap, refl, sym, [], ◌∷◌, arith, ◌<◌, true, ◌+◌, subst, suc, zero, get_or, ◌/◌, and_parts}
-use Rattle.traffic.proofs.Common.{nat_tests, length-map, list_all, Some, None, not, nat_eq, act_in, leg_in, PlanRows, plan_rows}
-use Rattle.traffic.proofs.Common.{Act, Leg, Plan, sets_out, departs, leaving, Setup, person_plan}
-use Rattle.traffic.specs.declared.moves.Move.{Move}
-use Rattle.traffic.specs.declared.moves.Move.TheVariants.{Report}
-use Rattle.traffic.specs.declared.world.Person.{Person}
-use Rattle.traffic.specs.declared.world.Place.{Place}
-use Rattle.traffic.specs.declared.world.Place.TheVariants.{At, Teleporting, Waiting, Riding, Aborted}
+use Rattle.traffic.proofs.Common.{◌≡◌, ℕ, List, length, refl, [], ◌∷◌, arith, ◌<◌, true, ◌+◌, subst, suc, zero, get_or, ◌/◌, and_parts, nat_tests, length-map}
+use Rattle.traffic.proofs.Common.{list_all, Some, not, nat_eq, act_in, leg_in, PlanRows, plan_rows, Act, Leg, Plan, sets_out, departs, leaving, Setup}
+use Rattle.traffic.proofs.Common.{person_plan}
+use Rattle.traffic.specs.declared.{moves.Move.Move, moves.Move.TheVariants.Report, world.Person.Person, world.Place.Place, world.Place.TheVariants.At}
 use Rattle.rows.specs.declared.plan.Leg.TheVariants as leg
-use Rattle.town.specs.declared.day_input.DayInput.{DayInput}
-use Rattle.town.specs.Rows.{TownRows}
-use Rattle.town.specs.Setups.{setup_of}
-use Rattle.town.specs.Views.{rows_of, chosen_in, setup}
 use Rattle.town.specs.Fits.{first_link, leg_fits, legs_fit, is_act_in, fits}
-use Rattle.person_moves.specs.Legs.{nth_leg, ends_in, CanLeave}
+use Rattle.town.specs.{Rows.TownRows, Setups.setup_of, Views.rows_of, Views.chosen_in, Views.setup, declared.day_input.DayInput.DayInput}
+use Rattle.person_moves.{proofs.Lists.passes_at, specs.Legs.nth_leg, specs.Legs.ends_in, specs.Legs.CanLeave}
 use Rattle.rows.specs.Plan.{HasRoute}
 use Rattle.std.proofs.lemmas.List.{get_or_default}
-use Rattle.person_moves.proofs.Lists.{passes_at}
 
 routed : (T : TownRows) (here there : ℕ) (l : Leg) → leg_fits T here there l ≡ true → HasRoute l
 unfolding leg_fits
@@ -37,19 +29,11 @@ has_route T plan k b h = routed_at T plan.acts plan.legs k b (and_parts (list_al
 
 leaves : (S : Setup) (t i : ℕ) (here : Act) (w : Leg) (next : Act) (place : Place) → ends_in t place ≡ true → leaving S t i here w next place ≡ Report (departs i here w) ∷ sets_out S i w next
 leaves S t i here w next (At (Some end)) h = rw h refl
-leaves S t i here w next (At None) h = absurd (cc)
-leaves S t i here w next (Teleporting start) h = absurd (cc)
-leaves S t i here w next (Waiting stop since) h = absurd (cc)
-leaves S t i here w next (Riding v) h = absurd (cc)
-leaves S t i here w next (Aborted l) h = absurd (cc)
+leaves S t i here w next place h = absurd (cc)
 
 leg_after : (legs : List Leg) (element t : ℕ) (place : Place) → ends_in t place ≡ true → ((end : ℕ) → place ≡ At (Some end) → element / 2 < length legs) → element / 2 < length legs
 leg_after legs element t (At (Some end)) h g = g end refl
-leg_after legs element t (At None) h g = absurd (cc)
-leg_after legs element t (Teleporting start) h g = absurd (cc)
-leg_after legs element t (Waiting stop since) h g = absurd (cc)
-leg_after legs element t (Riding v) h g = absurd (cc)
-leg_after legs element t (Aborted l) h g = absurd (cc)
+leg_after legs element t place h g = absurd (cc)
 
 pub has_leg : (plan : Plan) (P : Person) (t : ℕ) → ends_in t P.place ≡ true → CanLeave (plan_rows plan) P → P.element / 2 < length plan.legs
 has_leg plan P t h g = leg_after plan.legs P.element t P.place h g
@@ -71,7 +55,4 @@ pub left_is : (S : Setup) (t i : ℕ) (plan : Plan) (P : Person) (here next : Ac
     moves ≡ Report (departs i here (nth_leg plan.legs (P.element / 2))) ∷ sets_out S i (nth_leg plan.legs (P.element / 2)) next →
     moves ≡ leaving S t i (act_in (plan_rows plan) P.element) (leg_in (plan_rows plan) P.element) (act_in (plan_rows plan) (P.element + 2)) P.place
 left_is S t i plan P here next moves h n e m =
-    let w = nth_leg plan.legs (P.element / 2) in
-    let a = act_in (plan_rows plan) P.element in
-    let b = act_in (plan_rows plan) (P.element + 2) in
-    m ∙ ap (λ (x : Act). Report (departs i x w) ∷ sets_out S i w next) h ∙ ap (λ (x : Act). Report (departs i a w) ∷ sets_out S i w x) n ∙ sym (leaves S t i a w b P.place e)
+    rw (m, h, n, leaves S t i (act_in (plan_rows plan) P.element) (nth_leg plan.legs (P.element / 2)) (act_in (plan_rows plan) (P.element + 2)) P.place e)

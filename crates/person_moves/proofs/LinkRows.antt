@@ -1,11 +1,8 @@
 -- The rows of the links of a town, and the setup of a day in it.
-use Rattle.traffic.proofs.Common.{◌≡◌, ℕ, ◌∙◌, length, ap, sym, arith, ◌<◌, get_or, nat_tests, and_parts, ltb-true, nat_lt, ◌&&◌}
-use Rattle.traffic.proofs.Common.{LinkRow, link_row, hole_of, hole_seconds}
+use Rattle.traffic.proofs.Common.{◌≡◌, ℕ, ◌∙◌, length, ap, sym, arith, ◌<◌, get_or, nat_tests, LinkRow, link_row, hole_of, hole_seconds}
 use Rattle.std.proofs.lemmas.List.{get_or_default}
 use Rattle.rows.specs.Networks.{is_link, are_measures, IsMeasured}
-use Rattle.town.specs.declared.day_input.DayInput.{DayInput}
-use Rattle.town.specs.Setups.{setup_of}
-use Rattle.town.specs.Views.{setup}
+use Rattle.town.specs.{Setups.setup_of, Views.setup, declared.day_input.DayInput.DayInput}
 use Rattle.person_moves.proofs.Lists.{passes_at}
 
 -- the row of a link
@@ -34,8 +31,7 @@ unfolding is_link
 begins_there day l row lt e =
     let n = length day.town.now.network.nodes in
     let h = passes_at (is_link n) day.town.now.network.links l row day.town.now.sound.links lt e in
-    let p = and_parts (nat_lt row.from n && nat_lt row.to n) _ h in
-    ltb-true row.from n (and_parts (nat_lt row.from n) (nat_lt row.to n) p.0).0
+    grind (arith, nat_tests, h)
 
 pub leads_there : (day : DayInput) (l : ℕ) (row : LinkRow) → l < length day.town.now.network.links → row ≡ get_or day.town.now.network.links l row
     → row.to < length day.town.now.network.nodes
@@ -43,8 +39,7 @@ unfolding is_link
 leads_there day l row lt e =
     let n = length day.town.now.network.nodes in
     let h = passes_at (is_link n) day.town.now.network.links l row day.town.now.sound.links lt e in
-    let p = and_parts (nat_lt row.from n && nat_lt row.to n) _ h in
-    ltb-true row.to n (and_parts (nat_lt row.from n) (nat_lt row.to n) p.0).1
+    grind (arith, nat_tests, h)
 
 -- how long a place that was left on it stays taken
 pub hole_is : (day : DayInput) (l : ℕ) (row : LinkRow) (v : ℕ) → link_row (setup day) l ≡ row → v ≡ hole_seconds row.length day.town.now.settings.hole_speed → v ≡ hole_of (setup day) l

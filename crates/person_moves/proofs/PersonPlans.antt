@@ -1,15 +1,10 @@
 -- The plans of persons in the setup of a day.
-use Rattle.traffic.proofs.Common.{◌≡◌, ℕ, List, ◌∙◌, ap, refl, sym, ◌+◌, Option, option_to_list, act_in, leg_in, PlanRows, plan_rows, Act, Leg, Plan}
-use Rattle.traffic.proofs.Common.{landing, landing_moves, leaving_moves, leaving, person_plan, mode_of_leg}
+use Rattle.traffic.proofs.Common.{◌≡◌, ℕ, List, ◌∙◌, ap, refl, sym, ◌+◌, Option, option_to_list, act_in, leg_in, PlanRows, plan_rows, Act, Leg, Plan, landing}
+use Rattle.traffic.proofs.Common.{landing_moves, leaving_moves, leaving, person_plan, mode_of_leg}
+use Rattle.traffic.specs.{Persons.waits, declared.moves.Move.Move, declared.world.Person.Person, declared.world.Waiter.Waiter}
 use Rattle.rows.specs.declared.plan.Leg.TheVariants as leg
-use Rattle.traffic.specs.declared.moves.Move.{Move}
-use Rattle.traffic.specs.declared.world.Person.{Person}
-use Rattle.traffic.specs.declared.world.Waiter.{Waiter}
-use Rattle.traffic.specs.Persons.{waits}
-use Rattle.town.specs.declared.day_input.DayInput.{DayInput}
-use Rattle.town.specs.Views.{setup}
-use Rattle.person_moves.specs.Legs.{kind_of, mode_of_kind}
-use Rattle.person_moves.specs.Waiting.{waiter_on}
+use Rattle.town.specs.{Views.setup, declared.day_input.DayInput.DayInput}
+use Rattle.person_moves.specs.{Legs.kind_of, Legs.mode_of_kind, Waiting.waiter_on}
 
 pub landing_is : (day : DayInput) (t i : ℕ) (plan : Plan) (P : Person) (moves : List Move) → person_plan (setup day) i ≡ plan_rows plan →
     moves ≡ landing t i (leg_in (plan_rows plan) P.element) (act_in (plan_rows plan) (P.element + 2)) P.place → moves ≡ landing_moves (setup day) t i P

@@ -2,10 +2,8 @@
 use Rattle.std.specs.Prelude.{◌≡◌, ℕ, ◌/◌, ◌<◌, Bool, false, List, [], length, get_or, ◌==◌, None, Some}
 use Rattle.events.specs.declared.event.Mode.{Mode}
 use Rattle.events.specs.declared.event.Mode.TheVariants as mode
-use Rattle.rows.specs.PlanRows.{PlanRows}
-use Rattle.rows.specs.declared.plan.Leg.{Leg}
-use Rattle.traffic.specs.declared.world.Person.{Person}
-use Rattle.traffic.specs.declared.world.Place.{Place}
+use Rattle.rows.specs.{PlanRows.PlanRows, declared.plan.Leg.Leg}
+use Rattle.traffic.specs.declared.world.{Person.Person, Place.Place}
 use Rattle.traffic.specs.declared.world.Place.TheVariants.{At, Teleporting, Waiting, Riding, Aborted}
 use Rattle.rows.specs.declared.plan.Leg.TheVariants as leg
 use Rattle.person_moves.specs.declared.legs.LegKind.{LegKind}

@@ -2,8 +2,7 @@
 
 ghost use Rattle.std.specs.Prelude.{◌≡◌, ◌<◌, ◌∷◌, [], ℕ, List, length, get_or, IfOk};
 ghost use Rattle.rows.specs.declared.schedule.DepartureRow.{DepartureRow};
-ghost use Rattle.town.specs.Views.{setup};
-ghost use Rattle.town.specs.Setups.{on_route, departure_of, route_at};
+ghost use Rattle.town.specs.{Setups.on_route, Setups.departure_of, Setups.route_at, Views.setup};
 ghost use Rattle.traffic.specs.Persons.{transit_vehicle, departure_moves};
 
 use events::VehicleId;

@@ -1,8 +1,7 @@
 //! The legs of persons, by the elements of their plans.
 
 ghost use Rattle.std.specs.Prelude.{◌≡◌, ◌<◌, ◌/◌};
-ghost use Rattle.rows.specs.PlanRows.{plan_rows, leg_in};
-ghost use Rattle.rows.specs.Plan.{mode_of_leg};
+ghost use Rattle.rows.specs.{Plan.mode_of_leg, PlanRows.plan_rows, PlanRows.leg_in};
 ghost use Rattle.person_moves.specs.Legs.{nth_leg, kind_of, mode_of_kind};
 
 use events::Mode;

@@ -1,16 +1,11 @@
 //! The turns of persons and departures.
 
-ghost use Rattle.std.specs.Prelude.{◌≡◌, ◌<◌, ◌+◌, ◌++◌, ◌∷◌, [], ℕ, true, length};
-ghost use Rattle.std.specs.Prelude.{OnOk, IfOk, if◌then◌else◌};
 ghost use Rattle.std.specs.List.{list_all};
-ghost use Rattle.rows.specs.PlanRows.{plan_rows, act_in, leg_in};
-ghost use Rattle.town.specs.Fits.{fits};
-ghost use Rattle.town.specs.Views.{rows_of, chosen_in, setup};
-ghost use Rattle.traffic.specs.declared.moves.Move.TheVariants.{Report};
-ghost use Rattle.traffic.specs.Setup.{person_plan};
+ghost use Rattle.std.specs.Prelude.{◌≡◌, ◌<◌, ◌+◌, ◌++◌, ◌∷◌, [], ℕ, true, length, OnOk, IfOk, if◌then◌else◌};
+ghost use Rattle.rows.specs.{Plan.mode_of_leg, Plan.HasRoute, PlanRows.plan_rows, PlanRows.act_in, PlanRows.leg_in, declared.plan.Leg.Leg};
+ghost use Rattle.town.specs.{Fits.fits, Views.rows_of, Views.chosen_in, Views.setup};
 ghost use Rattle.traffic.specs.Persons.{lands, landing, landing_moves, departs, car, sets_out, leaving, leaving_moves};
-ghost use Rattle.rows.specs.Plan.{mode_of_leg, HasRoute};
-ghost use Rattle.rows.specs.declared.plan.Leg.{Leg};
+ghost use Rattle.traffic.specs.{Setup.person_plan, declared.moves.Move.TheVariants.Report};
 ghost use Rattle.person_moves.specs.Legs.{nth_leg, ends_in, CanLeave};
 
 use crate::legs::{LegKind, kind_in, kind_of, mode_of_kind};

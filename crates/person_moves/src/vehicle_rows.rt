@@ -1,10 +1,8 @@
 //! What a move does to the rows of vehicles, in place.
 
 ghost use Rattle.std.specs.Prelude.{◌≡◌, ◌++◌, ◌∷◌, [], length, ◌<◌, OnOk, IfSome};
-ghost use Rattle.traffic.specs.declared.stage.Stage.TheVariants.{Buffer};
 ghost use Rattle.traffic.specs.Lists.{without, with_first};
-ghost use Rattle.traffic.specs.Rows.{rank, on};
-ghost use Rattle.traffic.specs.Moves.{at_second, rows_after};
+ghost use Rattle.traffic.specs.{Moves.at_second, Moves.rows_after, Rows.rank, Rows.on, declared.stage.Stage.TheVariants.Buffer};
 ghost use Rattle.person_moves.specs.Places.{place_from};
 
 use std::alloc::AllocError;

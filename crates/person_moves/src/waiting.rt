@@ -1,11 +1,9 @@
 //! Who waits at a stop.
 
-ghost use Rattle.std.specs.Prelude.{◌≡◌, ◌+◌};
-ghost use Rattle.std.specs.Option.{option_to_list};
+ghost use Rattle.std.specs.{Option.option_to_list, Prelude.◌≡◌, Prelude.◌+◌};
 ghost use Rattle.rows.specs.PlanRows.{plan_rows, leg_in, act_in};
 ghost use Rattle.traffic.specs.Persons.{waits};
-ghost use Rattle.person_moves.specs.Legs.{nth_leg};
-ghost use Rattle.person_moves.specs.Waiting.{waiter_on};
+ghost use Rattle.person_moves.specs.{Legs.nth_leg, Waiting.waiter_on};
 
 use rows::{Leg, Legs, Plan, act_after};
 use traffic::Waiter;

@@ -1,8 +1,7 @@
 -- The first of the lists that were gathered.
 use Rattle.std.proofs.Common.{◌≡◌, ℕ, ◌<◌, List, [], ◌∷◌, length, get_or, map, arith, refl, ◌∙◌, ap}
 use Rattle.events.specs.declared.event.Event.{Event}
-use Rattle.event_pipe.specs.declared.pieces.Piece.{Piece}
-use Rattle.event_pipe.specs.Pieces.{events_of}
+use Rattle.event_pipe.specs.{Pieces.events_of, declared.pieces.Piece.Piece}
 
 first_is : (pieces : List Piece) (d : Piece) (e : List Event) → 0 < length pieces
     → get_or (map events_of pieces) 0 e ≡ events_of (get_or pieces 0 d)

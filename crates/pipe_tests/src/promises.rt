@@ -1,8 +1,7 @@
 //! A promise on the rings, from which alone the gatherer knows what it will get.
 
 ghost use Rattle.std.specs.Prelude.{◌≡◌, [], ◌∷◌, length, IfSome};
-ghost use Rattle.event_pipe.specs.Pieces.{label};
-ghost use Rattle.event_pipe.specs.Pipes.{parts, gathered, sent};
+ghost use Rattle.event_pipe.specs.{Pieces.label, Pipes.parts, Pipes.gathered, Pipes.sent};
 
 use crate::pieces::event_of;
 use event_pipe::{Gather, Gathered, Offer, Piece, Sender, pipe};

@@ -1,14 +1,10 @@
 -- What a node does depends only on the out-links to which the rows in the buffers lead.
-use Rattle.traffic.proofs.Common.{◌≡◌, ℕ, List, ◌∙◌, length, ap, refl, [], ◌∷◌, ◌<◌, ◌++◌, ◌+◌, suc, eqb, zero, get_or, ◌*◌, map}
-use Rattle.traffic.proofs.Common.{not, Option, if◌then◌else◌, Stuck, without_at, is_nil, with_one_more, since_of, pass_node_all, drawn, no_in_link}
-use Rattle.traffic.proofs.Common.{red, candidates, next_link, ready, node_moves, draw, one_more, pass_node, mark, out_links_after}
-use Rattle.traffic.specs.declared.moves.Move.{Move}
-use Rattle.traffic.specs.declared.moves.Move.TheVariants.{Transfer, Remove, Enter, SetFrontSince, Credit, LeaveHole, Report}
-use Rattle.traffic.specs.declared.node_views.InLink.{InLink}
-use Rattle.traffic.specs.declared.node_views.OutLink.{OutLink}
-use Rattle.traffic.specs.declared.world.Row.{Row}
-use Rattle.std.specs.List.{AllByRecursion as Each}
+use Rattle.traffic.proofs.Common.{◌≡◌, ℕ, List, ◌∙◌, length, ap, refl, [], ◌∷◌, ◌<◌, ◌++◌, ◌+◌, suc, eqb, zero, get_or, ◌*◌, map, not, Option, if◌then◌else◌}
+use Rattle.traffic.proofs.Common.{Stuck, without_at, is_nil, with_one_more, since_of, pass_node_all, drawn, no_in_link, red, candidates, next_link, ready}
+use Rattle.traffic.proofs.Common.{node_moves, draw, one_more, pass_node, mark, out_links_after}
 use Rattle.traffic.proofs.Each.{each_get_or, each_without_at, each_kept}
+use Rattle.traffic.specs.declared.{moves.Move.Move, moves.Move.TheVariants.Transfer, node_views.InLink.InLink, node_views.OutLink.OutLink, world.Row.Row}
+use Rattle.std.specs.List.{AllByRecursion as Each}
 use Rattle.plain_day.proofs.Fitting.{GoWithin}
 
 -- two nodes' out-links are the same for so many links
@@ -22,12 +18,7 @@ agree_more links m e f h l b = ap (λ (x : Option OutLink). if eqb l m then with
 agree_after : (links : ℕ) (ms : List Move) (e f : ℕ → Option OutLink) → Agree links e f → Agree links (out_links_after ms e) (out_links_after ms f)
 agree_after links [] e f h = h
 agree_after links (Transfer l s k was now ∷ ms) e f h = agree_after links ms (one_more now.link e) (one_more now.link f) (agree_more links now.link e f h)
-agree_after links (Remove l s k was ∷ ms) e f h = agree_after links ms e f h
-agree_after links (Enter now ∷ ms) e f h = agree_after links ms e f h
-agree_after links (SetFrontSince l t ∷ ms) e f h = agree_after links ms e f h
-agree_after links (Credit l c ∷ ms) e f h = agree_after links ms e f h
-agree_after links (LeaveHole l t ∷ ms) e f h = agree_after links ms e f h
-agree_after links (Report says ∷ ms) e f h = agree_after links ms e f h
+agree_after links (_ ∷ ms) e f h = agree_after links ms e f h
 
 pass_node_same : (links : ℕ) (K : Stuck) (t a : ℕ) (e f : ℕ → Option OutLink) (since : ℕ) (rows : List Row) → Agree links e f → GoWithin links rows → pass_node K t a e since rows ≡ pass_node K t a f since rows
 unfolding pass_node

@@ -1,20 +1,14 @@
 -- Rows of a fit world are small, and those in a buffer go on.
 use Rattle.traffic.proofs.Common.{◌≡◌, ℕ, List, length, [], ◌∷◌, arith, ◌<◌, true, ◌++◌, ◌≤◌, recursion_from_All, filter, link_state, LinkState, next_link}
-use Rattle.traffic.proofs.Common.{World, on, VehicleState}
-use Rattle.traffic.specs.declared.node_views.InLink.{InLink}
-use Rattle.traffic.specs.declared.stage.Stage.{Stage}
-use Rattle.traffic.specs.declared.stage.Stage.TheVariants.{Queue, Buffer, Wait, Bay}
-use Rattle.traffic.specs.declared.world.Row.{Row}
+use Rattle.traffic.proofs.{Common.World, Common.on, Common.VehicleState, Each.each_filter, Each.each_kept, Sublists.on_is}
+use Rattle.traffic.specs.{Nodes.HaveNext, Nodes.HasNext, declared.node_views.InLink.InLink, declared.stage.Stage.Stage, declared.stage.Stage.TheVariants.Queue}
+use Rattle.traffic.specs.declared.{stage.Stage.TheVariants.Buffer, stage.Stage.TheVariants.Wait, stage.Stage.TheVariants.Bay, world.Row.Row}
 use Rattle.std.specs.List.{AllByRecursion as Each}
 use Rattle.limits.specs.declared.TheConstants.{MAX_LENGTH}
-use Rattle.traffic.proofs.Each.{each_filter, each_kept}
-use Rattle.traffic.proofs.Sublists.{on_is}
 use Rattle.law_in_range.specs.Rows.{Counts, IsFitVehicle, IsFitRow, IsFitWorld}
 use Rattle.law_in_range.proofs.Sizes.{call_offset, buffer_next, buffer_next_link}
 use Rattle.plain_turns.specs.Limits.{IsSmall, AreSmall}
-use Rattle.plain_turns.specs.declared.out_links.OutLinkRow.{OutLinkRow}
-use Rattle.plain_turns.specs.OutLinks.{AreNear, IsInLink, AreInLinks}
-use Rattle.traffic.specs.Nodes.{HaveNext, HasNext}
+use Rattle.plain_turns.specs.{OutLinks.AreNear, OutLinks.IsInLink, OutLinks.AreInLinks, declared.out_links.OutLinkRow.OutLinkRow}
 
 is_small : (z : Counts) (v : VehicleState) → IsFitVehicle z v → IsSmall v
 is_small z v h =

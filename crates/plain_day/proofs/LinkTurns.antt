@@ -1,34 +1,15 @@
 -- The turn of a link, by what it sees.
-use Rattle.traffic.proofs.Common.{◌≡◌, ℕ, List, ◌∙◌, ap, refl, sym, [], ◌∷◌, true, Bool, false, list_any, filter, not, ◌&&◌, ◌==◌, or_parts, raised, link_turns}
-use Rattle.traffic.proofs.Common.{rules, link_state, LinkState, link_moves, waiters, World, on, rank, credit_of, gain_of, Setup}
-use Rattle.traffic.specs.declared.moves.Move.{Move}
-use Rattle.traffic.specs.declared.moves.Move.TheVariants.{Credit}
-use Rattle.traffic.specs.declared.numbers.Rules.{Rules}
-use Rattle.traffic.specs.declared.stage.Stage.{Stage}
-use Rattle.traffic.specs.declared.stage.Stage.TheVariants.{Queue, Buffer, Wait, Bay}
-use Rattle.traffic.specs.declared.world.Row.{Row}
-use Rattle.traffic.specs.declared.world.Waiter.{Waiter}
-use Rattle.town.specs.declared.day_input.DayInput.{DayInput}
-use Rattle.town.specs.Views.{setup}
-use Rattle.traffic.proofs.Idle.{link_idle}
+use Rattle.traffic.proofs.Common.{◌≡◌, ℕ, List, ◌∙◌, ap, refl, sym, [], ◌∷◌, Bool, false, list_any, filter, not, ◌&&◌, ◌==◌, or_parts, raised, link_turns}
+use Rattle.traffic.proofs.Common.{rules, link_state, LinkState, link_moves, waiters, World, on, rank, credit_of, gain_of, Setup, nat_tests, arith}
+use Rattle.traffic.{proofs.Idle.link_idle, specs.declared.moves.Move.Move, specs.declared.moves.Move.TheVariants.Credit, specs.declared.numbers.Rules.Rules}
+use Rattle.traffic.specs.declared.stage.Stage.{Stage, TheVariants.Queue, TheVariants.Buffer, TheVariants.Wait, TheVariants.Bay}
+use Rattle.traffic.specs.declared.world.{Row.Row, Waiter.Waiter}
+use Rattle.town.specs.{Views.setup, declared.day_input.DayInput.DayInput}
 use Rattle.plain_day.specs.Views.{stays_on}
 
 -- a link with no row but in its buffer has no row in its queue, its wait list or its bay
-and_false : (b : Bool) → b && false ≡ false
-and_false true = refl
-and_false false = refl
-
 apart : (z s : Stage) (b : Bool) → (rank s == rank Buffer) ≡ false → (b && not (rank z == rank Buffer)) ≡ false → ((rank z == rank s) && b) ≡ false
-apart Buffer Queue b h g = refl
-apart Buffer Wait b h g = refl
-apart Buffer Bay b h g = refl
-apart Buffer Buffer b h g = absurd (cc)
-apart Queue s false h g = and_false (rank Queue == rank s)
-apart Wait s false h g = and_false (rank Wait == rank s)
-apart Bay s false h g = and_false (rank Bay == rank s)
-apart Queue s true h g = absurd (cc)
-apart Wait s true h g = absurd (cc)
-apart Bay s true h g = absurd (cc)
+apart z s b h g = grind (arith, nat_tests)
 
 pub unused : (l : ℕ) (s : Stage) (rows : List Row) → (rank s == rank Buffer) ≡ false → list_any (stays_on l) rows ≡ false → filter (on l s) rows ≡ []
 unused l s [] h g = refl
@@ -49,6 +30,4 @@ idle_is day t l W rows gain before credit r u g b c =
 -- the turn of a link, by its parts
 pub turn_is : (S : Setup) (t l : ℕ) (W : World) (K : Rules) (ws : List Waiter) (L : LinkState) (moves : List Move) → K ≡ rules S l →
     ws ≡ waiters S l W → L ≡ link_state l W → moves ≡ link_moves K t l ws L → moves ≡ link_turns S t l W
-turn_is S t l W K ws L moves k w e m =
-    m ∙ ap (λ (x : Rules). link_moves x t l ws L) k ∙ ap (λ (x : List Waiter). link_moves (rules S l) t l x L) w
-    ∙ ap (λ (x : LinkState). link_moves (rules S l) t l (waiters S l W) x) e
+turn_is S t l W K ws L moves k w e m = rw (m, k, w, e)

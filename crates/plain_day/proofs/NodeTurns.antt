@@ -1,29 +1,18 @@
 -- The turn of a node, by what it sees.
-use Rattle.traffic.proofs.Common.{◌≡◌, ℕ, List, ◌∙◌, length, ap, refl, sym, [], ◌∷◌, arith, ◌<◌, true, ◌+◌, Bool, inl, inr, ◌≤◌, false, suc, eqb, zero}
-use Rattle.traffic.proofs.Common.{get_or, cases_Bool, eqb-true, and_parts, eq-eqb, ne_eqb, lt-ltb, nat_tests, length-map, length-filter, list_any, map}
-use Rattle.traffic.proofs.Common.{filter, None, nat_lt, ◌==◌, nat_eq, word, LinkRow, node_turns, below, numbers, in_link, node_view, out_link, ready}
-use Rattle.traffic.proofs.Common.{node_moves, World, on, rank, Setup, into, or_parts, true≢false}
-use Rattle.traffic.specs.declared.moves.Move.{Move}
-use Rattle.traffic.specs.declared.node_views.InLink.{InLink}
-use Rattle.traffic.specs.declared.stage.Stage.TheVariants.{Buffer}
-use Rattle.traffic.specs.declared.world.Row.{Row}
+use Rattle.traffic.proofs.Common.{◌≡◌, ℕ, List, ◌∙◌, length, ap, refl, sym, [], ◌∷◌, arith, ◌<◌, true, ◌+◌, Bool, inl, inr, ◌≤◌, false, suc, eqb, zero, get_or}
+use Rattle.traffic.proofs.Common.{cases_Bool, eqb-true, and_parts, eq-eqb, ne_eqb, lt-ltb, nat_tests, length-map, length-filter, list_any, map, filter, None}
+use Rattle.traffic.proofs.Common.{nat_lt, ◌==◌, nat_eq, word, LinkRow, node_turns, below, numbers, in_link, node_view, out_link, ready, node_moves, World, on}
+use Rattle.traffic.proofs.{Common.rank, Common.Setup, Common.into, Common.or_parts, Common.true≢false, Idle.node_idle}
+use Rattle.traffic.specs.declared.{moves.Move.Move, node_views.InLink.InLink, stage.Stage.TheVariants.Buffer, world.Row.Row}
 use Rattle.limits.specs.declared.TheConstants.{MAX_IN_LINKS}
-use Rattle.std.specs.List.{AllByRecursion as Each}
-use Rattle.std.proofs.lemmas.List.{get_or_default}
+use Rattle.std.{proofs.lemmas.List.get_or_default, specs.List.AllByRecursion as Each}
 use Rattle.draws.specs.Words.{Source, node_source}
-use Rattle.law_in_range.specs.Rows.{Counts, IsFitWorld}
-use Rattle.law_in_range.specs.Setups.{counts_in}
+use Rattle.law_in_range.specs.{Rows.Counts, Rows.IsFitWorld, Setups.counts_in}
 use Rattle.rows.specs.Networks.{in_links as count_in_links}
-use Rattle.town.specs.declared.day_input.DayInput.{DayInput}
-use Rattle.town.specs.Setups.{setup_of}
-use Rattle.town.specs.Views.{setup}
-use Rattle.traffic.proofs.Idle.{node_idle}
-use Rattle.plain_turns.specs.declared.out_links.OutLinkRow.{OutLinkRow}
-use Rattle.plain_turns.specs.OutLinks.{out_links_in, node_view_of}
+use Rattle.town.specs.{Setups.setup_of, Views.setup, declared.day_input.DayInput.DayInput}
+use Rattle.plain_turns.specs.{OutLinks.out_links_in, OutLinks.node_view_of, declared.out_links.OutLinkRow.OutLinkRow}
+use Rattle.plain_day.proofs.{Agree.Agree, Agree.Goes, Agree.node_same, Fitting.going_at, Seen.into_is}
 use Rattle.plain_day.specs.Views.{out_link_row, is_out, is_in, is_before}
-use Rattle.plain_day.proofs.Agree.{Agree, Goes, node_same}
-use Rattle.plain_day.proofs.Fitting.{going_at}
-use Rattle.plain_day.proofs.Seen.{into_is}
 use Rattle.person_moves.proofs.LinkRows.{row_is}
 
 -- THE EXITS

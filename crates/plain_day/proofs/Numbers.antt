@@ -1,10 +1,7 @@
 -- The numbers of a link, by its row and the settings of traffic.
-use Rattle.traffic.proofs.Common.{◌≡◌, ℕ, ◌∙◌, ap, sym}
-use Rattle.traffic.proofs.Common.{credit_per_second, storage, buffer_room, LinkRow, rules, gain_of, link_row, seconds_of, storage_of}
+use Rattle.traffic.proofs.Common.{◌≡◌, ℕ, ◌∙◌, ap, sym, credit_per_second, storage, buffer_room, LinkRow, rules, gain_of, link_row, seconds_of, storage_of}
 use Rattle.traffic.specs.declared.numbers.Rules.{Rules}
-use Rattle.town.specs.declared.day_input.DayInput.{DayInput}
-use Rattle.town.specs.Setups.{setup_of}
-use Rattle.town.specs.Views.{setup}
+use Rattle.town.specs.{Setups.setup_of, Views.setup, declared.day_input.DayInput.DayInput}
 
 pub gain_is : (day : DayInput) (l : ℕ) (row : LinkRow) (v : ℕ) → link_row (setup day) l ≡ row → v ≡ credit_per_second row.capacity day.town.now.settings.flow_permille → v ≡ gain_of (setup day) l
 unfolding setup_of
@@ -14,14 +11,10 @@ pub storage_is : (day : DayInput) (l : ℕ) (row : LinkRow) (seconds gain v : �
     v ≡ storage row.length row.lanes day.town.now.settings.storage_permille seconds gain → v ≡ storage_of (setup day) l
 unfolding setup_of
 storage_is day l row seconds gain v e s g h =
-    let permille = day.town.now.settings.storage_permille in
-    h ∙ ap (λ (r : LinkRow). storage r.length r.lanes permille seconds gain) (sym e)
-    ∙ ap (λ (x : ℕ). storage (link_row (setup day) l).length (link_row (setup day) l).lanes permille x gain) s
-    ∙ ap (λ (x : ℕ). storage (link_row (setup day) l).length (link_row (setup day) l).lanes permille (seconds_of (setup day) l) x) g
+    rw (h, ← e, s, g)
 
 pub rules_are : (day : DayInput) (l gain room : ℕ) → gain ≡ gain_of (setup day) l → room ≡ buffer_room gain →
     ◌≡◌ {A = Rules} (record { room = room; gain = gain; dwell = day.town.now.settings.dwell }) (rules (setup day) l)
 unfolding setup_of
 rules_are day l gain room g r =
-    let f : ℕ → ℕ → Rules = λ a b. record { room = a; gain = b; dwell = day.town.now.settings.dwell } in
-    ap (λ (a : ℕ). f a gain) r ∙ ap (λ (b : ℕ). f (buffer_room b) b) g
+    rw (r, g)

@@ -1,12 +1,8 @@
 -- Who waits, and who is under way when the day ends, by the plans in the setup of a day.
-use Rattle.traffic.proofs.Common.{◌≡◌, ℕ, List, ◌∙◌, length, ap, sym, ◌+◌, flat_map, Mode, act_in, leg_in, PlanRows, plan_rows, Act}
-use Rattle.traffic.proofs.Common.{Plan, below, stuck_at, waiter, waits_on, waiters, stranded}
-use Rattle.traffic.proofs.Common.{mode_of_leg, World, person_of, Setup, leg_at, act_at, person_plan}
-use Rattle.traffic.specs.declared.moves.Occurrence.{Occurrence}
-use Rattle.traffic.specs.declared.world.Person.{Person}
-use Rattle.traffic.specs.declared.world.Waiter.{Waiter}
-use Rattle.town.specs.declared.day_input.DayInput.{DayInput}
-use Rattle.town.specs.Views.{setup}
+use Rattle.traffic.proofs.Common.{◌≡◌, ℕ, List, ◌∙◌, length, ap, sym, ◌+◌, flat_map, Mode, act_in, leg_in, PlanRows, plan_rows, Act, Plan, below, stuck_at}
+use Rattle.traffic.proofs.Common.{waiter, waits_on, waiters, stranded, mode_of_leg, World, person_of, Setup, leg_at, act_at, person_plan}
+use Rattle.traffic.specs.declared.{moves.Occurrence.Occurrence, world.Person.Person, world.Waiter.Waiter}
+use Rattle.town.specs.{Views.setup, declared.day_input.DayInput.DayInput}
 
 pub waiter_is : (day : DayInput) (l i : ℕ) (W : World) (plan : Plan) (P : Person) (o : List Waiter) → person_plan (setup day) i ≡ plan_rows plan →
     P ≡ person_of i W →

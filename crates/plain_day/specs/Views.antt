@@ -1,11 +1,7 @@
 -- What links and nodes see of a world, as lists.
 use Rattle.std.specs.Prelude.{ℕ, ◌+◌, Bool, not, ◌&&◌, ◌==◌, nat_lt}
-use Rattle.traffic.specs.declared.world.Hole.{Hole}
-use Rattle.traffic.specs.declared.stage.Stage.TheVariants.{Buffer}
-use Rattle.traffic.specs.declared.world.Row.{Row}
-use Rattle.traffic.specs.Rows.{World, rank}
-use Rattle.traffic.specs.Setup.{Setup, link_row, seconds_of, storage_of}
-use Rattle.traffic.specs.Nodes.{taken_at}
+use Rattle.traffic.specs.{Nodes.taken_at, Rows.World, Rows.rank, Setup.Setup, Setup.link_row, Setup.seconds_of, Setup.storage_of}
+use Rattle.traffic.specs.declared.{stage.Stage.TheVariants.Buffer, world.Hole.Hole, world.Row.Row}
 use Rattle.plain_turns.specs.declared.out_links.OutLinkRow.{OutLinkRow}
 
 -- whether a row stands on the link and not in its buffer

@@ -2,15 +2,12 @@
 
 ghost use Rattle.std.specs.Prelude.{◌≡◌, ◌<◌, ◌++◌, length, [], OnOk, IfOk};
 ghost use Rattle.limits.specs.declared.TheConstants.{LAST_SECOND};
-ghost use Rattle.events.specs.Lines.{AreInBook};
-ghost use Rattle.law_in_range.specs.Rows.{IsFitWorld};
-ghost use Rattle.law_in_range.specs.Setups.{counts_in, HasItsLinks, HaveFittingPlans};
-ghost use Rattle.traffic.specs.Worlds.{OnePlace, Sound};
-ghost use Rattle.town.specs.Views.{setup};
-ghost use Rattle.traffic.specs.Persons.{stranded};
+ghost use Rattle.events.specs.{Keys.phase_code, Lines.AreInBook};
+ghost use Rattle.law_in_range.specs.{Rows.IsFitWorld, Setups.counts_in, Setups.HasItsLinks, Setups.HaveFittingPlans};
 ghost use Rattle.traffic.specs.Day.{second, second_events, world_start, world_from, events_from, keyed, end_events};
+ghost use Rattle.traffic.specs.{Persons.stranded, Worlds.OnePlace, Worlds.Sound};
+ghost use Rattle.town.specs.Views.{setup};
 ghost use Rattle.traffic.specs.Day as traffic_day;
-ghost use Rattle.events.specs.Keys.{phase_code};
 ghost use Rattle.events.specs.declared.event.Phase.TheVariants as phase;
 
 use crate::ends::stranded;

@@ -1,7 +1,6 @@
 //! Who is under way when the day ends.
 
-ghost use Rattle.std.specs.Prelude.{◌≡◌, ◌<◌, length};
-ghost use Rattle.std.specs.Option.{option_to_list};
+ghost use Rattle.std.specs.{Option.option_to_list, Prelude.◌≡◌, Prelude.◌<◌, Prelude.length};
 ghost use Rattle.town.specs.Views.{setup};
 ghost use Rattle.traffic.specs.Persons.{same_vehicle, link_of_vehicle, stuck_at, stranded};
 

@@ -3,8 +3,7 @@
 ghost use Rattle.std.specs.Prelude.{◌≡◌, ◌<◌, ◌≤◌, length};
 ghost use Rattle.limits.specs.declared.TheConstants.{MAX_LENGTH};
 ghost use Rattle.fixed_flow.specs.declared.TheConstants.{MAX_PER_SECOND};
-ghost use Rattle.traffic.specs.Setup.{link_row, seconds_of, gain_of, storage_of};
-ghost use Rattle.traffic.specs.Links.{rules};
+ghost use Rattle.traffic.specs.{Links.rules, Setup.link_row, Setup.seconds_of, Setup.gain_of, Setup.storage_of};
 ghost use Rattle.rows.specs.Settings.{IsDwelling};
 ghost use Rattle.town.specs.Views.{setup};
 

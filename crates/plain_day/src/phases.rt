@@ -1,13 +1,10 @@
 //! The phases of a second.
 
-ghost use Rattle.std.specs.Prelude.{◌≡◌, ◌<◌, ◌++◌, length, OnOk, IfOk};
-ghost use Rattle.std.specs.List.{flat_map};
+ghost use Rattle.std.specs.{List.flat_map, Prelude.◌≡◌, Prelude.◌<◌, Prelude.◌++◌, Prelude.length, Prelude.OnOk, Prelude.IfOk};
 ghost use Rattle.limits.specs.declared.TheConstants.{LAST_SECOND};
-ghost use Rattle.law_in_range.specs.Rows.{IsFitWorld};
-ghost use Rattle.law_in_range.specs.Setups.{counts_in, HaveFittingPlans};
+ghost use Rattle.law_in_range.specs.{Rows.IsFitWorld, Setups.counts_in, Setups.HaveFittingPlans};
 ghost use Rattle.town.specs.Views.{setup};
-ghost use Rattle.traffic.specs.Moves.{told, run};
-ghost use Rattle.traffic.specs.Day.{turns_of, count_of, turns_in, after, events_of, events_in};
+ghost use Rattle.traffic.specs.{Day.turns_of, Day.count_of, Day.turns_in, Day.after, Day.events_of, Day.events_in, Moves.told, Moves.run};
 
 use crate::turns::{link_turn, node_turn};
 use events::{Event, Phase};
@@ -34,23 +31,30 @@ fn count_of(day: &DayInput, phase: Phase) -> u32
     }
 }
 
+/// A turn of a second: the phase, and the number of the person, the departure, the node or the link that has it.
+#[derive(Clone, Copy)]
+struct Turn {
+    phase: Phase,
+    number: u32,
+}
+
 /// The moves of one person, departure, node or link in its turn.
 #[tactic(auto, unfolding(traffic::specs::Day::turns_of))]
-fn turn(
+fn moves_of_turn(
     alloc: Global,
     day: &DayInput,
     second: u32,
-    phase: Phase,
-    number: u32,
+    turn: Turn,
     world: &World,
 ) -> Result<Vec<Move>, AllocError>
     requires second_in { second < LAST_SECOND }
     requires given { HaveFittingPlans day.now }
     requires fit { IsFitWorld (counts_in day.now) world.now }
-    requires there { number < count_of (setup day.now) phase }
-    ensures { IfOk result (λ moves. moves.items ≡ turns_of (setup day.now) second phase number world.now) }
+    requires there { turn.number < count_of (setup day.now) turn.phase }
+    ensures { IfOk result (λ moves. moves.items ≡ turns_of (setup day.now) second turn.phase turn.number world.now) }
 {
-    match phase {
+    let number = turn.number;
+    match turn.phase {
         Phase::A => landing_moves(alloc, day, second, number, person_of(world, number)),
         Phase::B1 => leaving_moves(alloc, day, second, number, person_of(world, number)),
         Phase::B2 => departure_moves(alloc, day, second, number),
@@ -82,24 +86,23 @@ fn next_turn(
     alloc: Global,
     day: &DayInput,
     second: u32,
-    phase: Phase,
-    number: u32,
+    turn: Turn,
     world: &mut World,
     out: &mut Vec<Event>,
 ) -> Result<(), AllocError>
     requires second_in { second < LAST_SECOND }
     requires given { HaveFittingPlans day.now }
     requires fit { IsFitWorld (counts_in day.now) world.old }
-    requires there { number < count_of (setup day.now) phase }
+    requires there { turn.number < count_of (setup day.now) turn.phase }
     ensures world { OnOk result (world.new
-        ≡ run (setup day.now) second (turns_of (setup day.now) second phase number world.old) world.old) }
-    ensures events { OnOk result (out.new.items ≡ out.old.items
-        ++ events_of second phase (record { number = number; moves = turns_of (setup day.now) second phase number world.old })) }
+        ≡ run (setup day.now) second (turns_of (setup day.now) second turn.phase turn.number world.old) world.old) }
+    ensures events { OnOk result (out.new.items ≡ out.old.items ++ events_of second turn.phase
+        (record { number = turn.number; moves = turns_of (setup day.now) second turn.phase turn.number world.old })) }
     ensures fit { OnOk result (IsFitWorld (counts_in day.now) world.new) }
 {
-    let moves = turn(alloc, day, second, phase, number, world)?;
+    let moves = moves_of_turn(alloc, day, second, turn, world)?;
     let said = do_turn(alloc, day, second, moves, world)?;
-    push_keyed(second, phase, number, &said, out)?;
+    push_keyed(second, turn.phase, turn.number, &said, out)?;
     Ok(())
 }
 
@@ -122,7 +125,7 @@ pub(crate) fn do_phase(
 {
     let count = count_of(day, phase);
     for number in 0..count {
-        next_turn(alloc, day, second, phase, number, world, out)?;
+        next_turn(alloc, day, second, Turn { phase, number }, world, out)?;
     }
     Ok(())
 }

@@ -3,11 +3,9 @@
 ghost use Rattle.std.specs.Prelude.{◌≡◌, ◌<◌, ◌∷◌, [], ℕ, List, length, true, IfOk, IfSome, IfNone};
 ghost use Rattle.std.specs.List.{list_any};
 ghost use Rattle.limits.specs.declared.TheConstants.{LAST_SECOND};
-ghost use Rattle.law_in_range.specs.Rows.{IsFitWorld};
-ghost use Rattle.law_in_range.specs.Setups.{counts_in};
+ghost use Rattle.law_in_range.specs.{Rows.IsFitWorld, Setups.counts_in};
 ghost use Rattle.town.specs.Views.{setup};
-ghost use Rattle.traffic.specs.declared.moves.Move.TheVariants.{Credit};
-ghost use Rattle.traffic.specs.Day.{link_turns, node_turns};
+ghost use Rattle.traffic.specs.{Day.link_turns, Day.node_turns, declared.moves.Move.TheVariants.Credit};
 ghost use Rattle.plain_day.specs.Views.{stays_on, is_before};
 
 use crate::links::{gain_of, rules};

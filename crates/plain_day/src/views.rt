@@ -3,18 +3,13 @@
 ghost use Rattle.std.specs.Prelude.{◌≡◌, ◌<◌, ◌≤◌, length, map, filter, IfOk};
 ghost use Rattle.std.specs.List.{list_any};
 ghost use Rattle.limits.specs.declared.TheConstants.{LAST_SECOND, MAX_LENGTH};
-ghost use Rattle.traffic.specs.Rows.{on, credit_of};
+ghost use Rattle.traffic.specs.{Links.link_state, Lists.below, Nodes.in_link, Nodes.out_link, Nodes.taken_at, Rows.on, Rows.credit_of};
+ghost use Rattle.traffic.specs.Setup.{link_row, hole_of, into};
 ghost use Rattle.traffic.specs.declared.stage.Stage.TheVariants.{Queue, Buffer, Wait, Bay};
 ghost use Rattle.traffic.specs.declared.world.Hole.{Hole};
-ghost use Rattle.traffic.specs.Setup.{link_row, hole_of, into};
-ghost use Rattle.law_in_range.specs.Rows.{IsFitWorld};
-ghost use Rattle.law_in_range.specs.Setups.{counts_in};
+ghost use Rattle.law_in_range.specs.{Rows.IsFitWorld, Setups.counts_in};
 ghost use Rattle.town.specs.Views.{setup};
-ghost use Rattle.traffic.specs.Links.{link_state};
-ghost use Rattle.traffic.specs.Nodes.{in_link, out_link, taken_at};
-ghost use Rattle.plain_turns.specs.LinkState.{link_state_of};
-ghost use Rattle.plain_turns.specs.OutLinks.{AreNear, IsInLink, AreInLinks};
-ghost use Rattle.traffic.specs.Lists.{below};
+ghost use Rattle.plain_turns.specs.{LinkState.link_state_of, OutLinks.AreNear, OutLinks.IsInLink, OutLinks.AreInLinks};
 ghost use Rattle.plain_day.specs.Views.{stays_on, out_link_row, is_in, is_out, is_in_force};
 
 use crate::links::{seconds_of, storage_of};

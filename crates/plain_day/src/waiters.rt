@@ -4,8 +4,7 @@ ghost use Rattle.std.specs.Prelude.{◌≡◌, ◌+◌, ◌<◌, length, ◌++�
 ghost use Rattle.std.specs.Option.{option_to_list};
 ghost use Rattle.town.specs.Views.{setup};
 ghost use Rattle.rows.specs.PlanRows.{plan_rows, act_in, leg_in};
-ghost use Rattle.traffic.specs.Rows.{person_of};
-ghost use Rattle.traffic.specs.Persons.{waits_on, waiter, waiters};
+ghost use Rattle.traffic.specs.{Persons.waits_on, Persons.waiter, Persons.waiters, Rows.person_of};
 
 use person_moves::{World, link_of_stop, person_of, waiter_in};
 use rows::Plan;

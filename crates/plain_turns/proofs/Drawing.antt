@@ -2,12 +2,10 @@
 use Rattle.traffic.proofs.Common.{◌≡◌, ℕ, List, ◌∙◌, length, ap, refl, [], ◌∷◌, arith, ◌<◌, ◌++◌, ◌+◌, Bool, inl, inr, ◌≤◌, suc, zero, get_or, append_assoc}
 use Rattle.traffic.proofs.Common.{◌*◌, cases_Bool, sum_by-cons, remove, sum, map, filter, not, Option, Stuck, without_at, is_nil, pass_node_all, drawn}
 use Rattle.traffic.proofs.Common.{no_in_link, ready, draw, out_links_after}
-use Rattle.traffic.specs.declared.moves.Move.{Move}
-use Rattle.traffic.specs.declared.node_views.InLink.{InLink}
-use Rattle.traffic.specs.declared.node_views.OutLink.{OutLink}
+use Rattle.traffic.specs.{Nodes.weight_of, declared.moves.Move.Move, declared.node_views.InLink.InLink, declared.node_views.OutLink.OutLink}
 use Rattle.limits.specs.declared.TheConstants.{MAX_CAPACITY}
 use Rattle.plain_turns.specs.OutLinks.{IsInLink, AreInLinks, is_green}
-use Rattle.traffic.specs.Nodes.{weight_of}
+use Rattle.std.proofs.lemmas.List.{get_or_default}
 
 pub sum_least : (es : List InLink) → AreInLinks es → length es ≤ sum (map weight_of es)
 sum_least [] h = omega arith
@@ -60,9 +58,7 @@ draw_step K t word j k es out_links h e =
 
 -- an element that is there does not depend on the default
 pub same_in_link : (k : ℕ) (es : List InLink) (e : InLink) → k < length es → e ≡ get_or es k e → e ≡ get_or es k no_in_link
-same_in_link k [] e h q = absurd (omega arith)
-same_in_link zero (x ∷ xs) e h q = q
-same_in_link (suc k) (x ∷ xs) e h q = same_in_link k xs e (omega arith) q
+same_in_link k es e h q = q ∙ get_or_default es k e no_in_link h
 
 -- one pick, as the code does it: what is told and what is left to draw are the drawing from before it on
 pub pick_step : (K : Stuck) (t : ℕ) (word : ℕ → ℕ) (j k : ℕ) (es left : List InLink) (out_links after : ℕ → Option OutLink) (e : InLink) (out0 out1 : List Move) →

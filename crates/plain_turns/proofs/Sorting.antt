@@ -4,14 +4,10 @@ use Rattle.traffic.proofs.Common.{fun_ext, cases_Bool, nat_tests, filter-append,
 use Rattle.traffic.proofs.Common.{◌||◌, comes_first, ComesBefore, in_turn, among}
 use Rattle.traffic.specs.declared.world.Waiter.{Waiter}
 use native.Mathlib.Numerals.{unary_clauses}
-use Rattle.std.specs.List.Sorted.{IsSortedBy, IsStableBy, ties}
-use Rattle.std.specs.Cmp.{IsStrictWeakOrder}
-use Rattle.std.specs.Ordering.{nat_cmp, ordering_then, is_lt}
-use Rattle.std.specs.declared.cmp.Ordering.{Ordering}
-use Rattle.std.specs.declared.cmp.Ordering.TheVariants.{Less, Equal, Greater}
-use Rattle.std.proofs.lemmas.List.{append-nil, reverse-append}
-use Rattle.std.proofs.lemmas.List.Sorted.{sorted_far, ranks_by}
-use Rattle.std.proofs.lemmas.Cmp.{nat_cmp_total, on_total, then_total}
+use Rattle.std.proofs.lemmas.{Cmp.nat_cmp_total, Cmp.on_total, Cmp.then_total, List.append-nil, List.reverse-append, List.Sorted.sorted_far}
+use Rattle.std.{proofs.lemmas.List.Sorted.ranks_by, specs.Cmp.IsStrictWeakOrder}
+use Rattle.std.specs.{List.Sorted.IsSortedBy, List.Sorted.IsStableBy, List.Sorted.ties, Ordering.nat_cmp, Ordering.ordering_then, Ordering.is_lt}
+use Rattle.std.specs.declared.cmp.Ordering.{Ordering, TheVariants.Less, TheVariants.Equal, TheVariants.Greater}
 use Rattle.traffic.proofs.ComeInTurn.{turn-order}
 
 -- nobody in the list comes before x
@@ -35,17 +31,14 @@ rises_sorted lt o (x ∷ xs) h = (
 )
 
 never_before_itself : {X : Type 0} (lt : X → X → Bool) → IsStrictWeakOrder lt → (x : X) → lt x x ≡ false
-never_before_itself lt o x = elim (cases_Bool (lt x x)) [ inl p ↦ o.one_way x x p | inr q ↦ q ]
+never_before_itself lt o x = grind (arith, o.one_way x x)
 
 ties_itself : {X : Type 0} (lt : X → X → Bool) → IsStrictWeakOrder lt → (x : X) → ties lt x x ≡ true
 ties_itself lt o x = rw (never_before_itself lt o x) refl
 
 -- who comes before x ties with nobody behind x
 not_behind : {X : Type 0} (lt : X → X → Bool) → IsStrictWeakOrder lt → (a x e : X) → lt a x ≡ true → lt e x ≡ false → ties lt a e ≡ false
-not_behind lt o a x e p q = elim (cases_Bool (lt a e)) [
-  | inl r ↦ rw r refl
-  | inr r ↦ absurd (let s : lt a x ≡ false = o.chain a e x r q in cc)
-]
+not_behind lt o a x e p q = grind (arith, o.chain a e x)
 
 none_behind : {X : Type 0} (lt : X → X → Bool) → IsStrictWeakOrder lt → (a x : X) (ys : List X) → lt a x ≡ true → Behind lt x ys → filter (ties lt a) ys ≡ []
 none_behind lt o a x [] p h = refl
@@ -67,10 +60,7 @@ tie_of : {X : Type 0} (lt : X → X → Bool) (y z : X) → lt y z ≡ false →
 tie_of lt y z p q = rw (p, q) refl
 
 same_later : {X : Type 0} (p : X → Bool) (y : X) (ys zs : List X) → filter p (y ∷ ys) ≡ filter p (y ∷ zs) → filter p ys ≡ filter p zs
-same_later p y ys zs e = elim (cases_Bool (p y)) [
-  | inl q ↦ let f : y ∷ filter p ys ≡ y ∷ filter p zs = rw q at e in cc
-  | inr q ↦ rw q at e
-]
+same_later p y ys zs e = grind arith
 
 -- lists that rise and in which those who tie stand alike are one
 pub rises_once : {X : Type 0} (lt : X → X → Bool) → IsStrictWeakOrder lt → (ys zs : List X) → Rises lt ys → Rises lt zs
@@ -100,16 +90,10 @@ rises_in_turn ws = rises_pairs (in_turn ws) (turn-order ws)
 
 -- one more keeps the order of those who tie with somebody, and stands last among them
 right_of_tie : {X : Type 0} (lt : X → X → Bool) (x w : X) → ties lt x w ≡ true → lt w x ≡ false
-right_of_tie lt x w t = elim (cases_Bool (lt w x)) [
-  | inl p ↦ absurd (elim (cases_Bool (lt x w)) [ inl q ↦ let e = rw q at t in cc | inr q ↦ let e = rw (q, p) at t in cc ])
-  | inr p ↦ p
-]
+right_of_tie lt x w t = grind arith
 
 before_both : {X : Type 0} (lt : X → X → Bool) → IsStrictWeakOrder lt → (x w y : X) → ties lt x w ≡ true → lt w y ≡ true → lt x y ≡ true
-before_both lt o x w y t p = elim (cases_Bool (lt x y)) [
-  | inl q ↦ q
-  | inr q ↦ absurd (let e : lt w y ≡ false = o.chain w x y (right_of_tie lt x w t) q in cc)
-]
+before_both lt o x w y t p = grind (arith, o.chain w x y, right_of_tie lt x w t)
 
 ties_before : IsStrictWeakOrder comes_first → (x w y : Waiter) (ys : List Waiter) → comes_first w y ≡ true → Behind comes_first y ys
     → filter (ties comes_first x) (w ∷ y ∷ ys) ≡ filter (ties comes_first x) (y ∷ ys) ++ filter (ties comes_first x) (w ∷ [])
@@ -136,18 +120,11 @@ ties_in_turn : IsStrictWeakOrder comes_first → (x : Waiter) (ws : List Waiter)
 unfolding in_turn
 ties_in_turn o x [] = refl
 ties_in_turn o x (w ∷ ws) =
-    ties_among o x w (in_turn ws) (rises_in_turn ws)
-    ∙ ap (λ xs. xs ++ filter (ties comes_first x) (w ∷ [])) (ties_in_turn o x ws)
-    ∙ sym (filter-append (ties comes_first x) (reverse ws) (w ∷ []))
-    ∙ ap (filter (ties comes_first x)) (sym (reverse-append (w ∷ []) ws))
+    rw (ties_among o x w (in_turn ws) (rises_in_turn ws), ties_in_turn o x ws, reverse-append (w ∷ []) ws, filter-append) refl
 
 -- who comes first is less by the second and then by the number
 less_by : (p q r s : Bool) → (p || (q && r)) ≡ is_lt (ordering_then (cond p Less (cond q Equal Greater)) (cond r Less (cond s Equal Greater)))
-less_by true q r s = refl
-less_by false true true s = refl
-less_by false true false true = refl
-less_by false true false false = refl
-less_by false false r s = refl
+less_by p q r s = grind arith
 
 abbrev pub key_of : Waiter → ℕ × ℕ
 key_of w = (w.since, w.person)

@@ -1,8 +1,7 @@
 -- One place more taken in the list of out-links is one more in what they are.
 use Rattle.traffic.proofs.Common.{◌≡◌, ℕ, List, ◌∙◌, ap, refl, sym, [], ◌∷◌, inl, inr, false, eqb, fun_ext, cases_Bool, eqb-true, eqb-false, ne_eqb, Some}
 use Rattle.traffic.proofs.Common.{if◌then◌else◌, with_one_more, one_more}
-use Rattle.plain_turns.specs.declared.out_links.OutLinkRow.{OutLinkRow}
-use Rattle.plain_turns.specs.OutLinks.{out_links_in, with_taken, AreNear}
+use Rattle.plain_turns.specs.{OutLinks.out_links_in, OutLinks.with_taken, OutLinks.AreNear, declared.out_links.OutLinkRow.OutLinkRow}
 
 taken_here : (m : ℕ) (xs : List OutLinkRow) → out_links_in (with_taken m xs) m ≡ with_one_more (out_links_in xs m)
 unfolding out_links_in

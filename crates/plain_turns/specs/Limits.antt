@@ -1,9 +1,7 @@
 -- The sizes of the numbers of a town and of a world, within which sums fit.
 use Rattle.std.specs.Prelude.{◌≤◌, List, [], ◌∷◌, length}
 use Rattle.limits.specs.declared.TheConstants.{LAST_SECOND, MAX_PERSONS, MAX_SEATS, MAX_CALLS}
-use Rattle.traffic.specs.declared.world.Row.{Row}
-use Rattle.traffic.specs.Vehicles.{VehicleState}
-use Rattle.traffic.specs.Stops.{next_call}
+use Rattle.traffic.specs.{Stops.next_call, Vehicles.VehicleState, declared.world.Row.Row}
 
 -- a vehicle has at most so many riders, seats and calls, and seconds within two days
 pub record IsSmall (v : VehicleState) : Type 0 where

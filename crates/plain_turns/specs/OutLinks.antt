@@ -1,9 +1,7 @@
 -- The links out of a node, as a list.
 use Rattle.std.specs.Prelude.{ℕ, ◌+◌, ◌≤◌, Bool, List, [], ◌∷◌, ◌==◌, if◌then◌else◌, Option, None, Some}
 use Rattle.limits.specs.declared.TheConstants.{MAX_CAPACITY, MAX_LENGTH}
-use Rattle.traffic.specs.declared.node_views.OutLink.{OutLink}
-use Rattle.traffic.specs.declared.node_views.InLink.{InLink}
-use Rattle.traffic.specs.Nodes.{NodeView, HaveNext}
+use Rattle.traffic.specs.{Nodes.NodeView, Nodes.HaveNext, declared.node_views.InLink.InLink, declared.node_views.OutLink.OutLink}
 use Rattle.plain_turns.specs.declared.out_links.OutLinkRow.{OutLinkRow}
 
 -- the out-link of a link, where it is one

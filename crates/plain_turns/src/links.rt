@@ -1,15 +1,13 @@
 //! The turn of a link, as its moves.
 
-ghost use Rattle.std.specs.Prelude.{◌≡◌, ◌<◌, ◌≤◌, ◌+◌, ◌^◌, ◌++◌, ◌∷◌, [], length, true};
-ghost use Rattle.std.specs.Prelude.{map, filter, OnOk, IfOk, nat_le};
+ghost use Rattle.std.specs.Prelude.{◌≡◌, ◌<◌, ◌≤◌, ◌+◌, ◌^◌, ◌++◌, ◌∷◌, [], length, true, map, filter, OnOk, IfOk, nat_le};
 ghost use Rattle.limits.specs.declared.TheConstants.{LAST_SECOND};
 ghost use Rattle.traffic.specs.declared.world.Row.{Row};
 ghost use Rattle.traffic.specs.Links.{waiting, leave_bay, is_last, buffered, may_pass, from_wait, from_queue, wait_after, link_moves};
 ghost use Rattle.traffic.specs.declared.moves.Move.TheVariants.{Transfer, Remove, LeaveHole, Credit};
 ghost use Rattle.traffic.specs.declared.stage.Stage.TheVariants.{Queue, Buffer, Wait, Bay};
-ghost use Rattle.plain_turns.specs.LinkState.{link_state_of};
+ghost use Rattle.plain_turns.specs.{Limits.AreSmall, LinkState.link_state_of};
 ghost use Rattle.rows.specs.Settings.{IsDwelling};
-ghost use Rattle.plain_turns.specs.Limits.{AreSmall};
 
 use crate::fronts::{push_removal, push_transfer};
 use crate::lists::LinkVehicles;

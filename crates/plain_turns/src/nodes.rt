@@ -1,15 +1,13 @@
 //! The turn of a node, as its moves.
 
-ghost use Rattle.std.specs.Prelude.{◌≡◌, Some, ◌<◌, ◌≤◌, ◌+◌, ◌*◌, ◌-◌, ◌++◌, ◌∷◌};
-ghost use Rattle.std.specs.Prelude.{[], length, map, filter, not, OnOk, IfOk, IfSome};
+ghost use Rattle.std.specs.Prelude.{◌≡◌, Some, ◌<◌, ◌≤◌, ◌+◌, ◌*◌, ◌-◌, ◌++◌, ◌∷◌, [], length, map, filter, not, OnOk, IfOk, IfSome};
 ghost use Rattle.limits.specs.declared.TheConstants.{LAST_SECOND, MAX_IN_LINKS, MAX_LENGTH};
 ghost use Rattle.draws.specs.Words.{word};
-ghost use Rattle.traffic.specs.declared.moves.Move.TheVariants.{Transfer, Remove, SetFrontSince};
-ghost use Rattle.traffic.specs.declared.stage.Stage.TheVariants.{Queue, Buffer};
-ghost use Rattle.traffic.specs.Lists.{is_nil};
-ghost use Rattle.traffic.specs.Moves.{at_second};
+ghost use Rattle.traffic.specs.{Lists.is_nil, Moves.at_second};
 ghost use Rattle.traffic.specs.Nodes.{next_link, is_stuck, may_enter, has_room, seconds_along, one_more, entered, pass_node, since_of};
 ghost use Rattle.traffic.specs.Nodes.{pass_node_all, draw, ready, red, candidates, mark, node_moves, out_links_after, HasNext, HaveNext};
+ghost use Rattle.traffic.specs.declared.moves.Move.TheVariants.{Transfer, Remove, SetFrontSince};
+ghost use Rattle.traffic.specs.declared.stage.Stage.TheVariants.{Queue, Buffer};
 ghost use Rattle.plain_turns.specs.OutLinks.{out_links_in, AreNear, IsInLink, AreInLinks, is_green, node_view_of};
 
 use crate::fronts::{push_removal, push_transfer};

@@ -2,8 +2,7 @@
 
 ghost use Rattle.std.specs.Prelude.{◌≡◌, ◌<◌, ◌≤◌, ◌+◌, length, map, get_or, IfOk};
 ghost use Rattle.limits.specs.declared.TheConstants.{MAX_IN_LINKS};
-ghost use Rattle.traffic.specs.Lists.{without_at};
-ghost use Rattle.traffic.specs.Nodes.{drawn, no_in_link, weight_of};
+ghost use Rattle.traffic.specs.{Lists.without_at, Nodes.drawn, Nodes.no_in_link, Nodes.weight_of};
 ghost use Rattle.plain_turns.specs.OutLinks.{IsInLink, AreInLinks};
 
 use draws::pick;

@@ -1,10 +1,8 @@
 -- Plans dropped from a memory.
 use Rattle.std.proofs.Common.{◌≡◌, ℕ, suc, ◌+◌, ◌-◌, ◌<◌, ◌≤◌, List, length, map, Option, refl, ◌∙◌, ap, subst, arith, length-append, length-take, length-drop}
-use Rattle.std.specs.Prelude.{remove, ℤ}
-use Rattle.std.proofs.lemmas.List.{map-append, take-map, drop-map}
+use Rattle.std.{proofs.lemmas.List.map-append, proofs.lemmas.List.take-map, proofs.lemmas.List.drop-map, specs.Prelude.remove, specs.Prelude.ℤ}
 use Rattle.rows.specs.PlanRows.{PlanRows}
-use Rattle.plan_memory.specs.Scores.{worst}
-use Rattle.plan_memory.specs.Memories.{MemoryRows, chosen_without, without, after_drops, reduced}
+use Rattle.plan_memory.specs.{Memories.MemoryRows, Memories.chosen_without, Memories.without, Memories.after_drops, Memories.reduced, Scores.worst}
 
 -- what is seen of a list with an item less
 pub map_remove : {A B : Type 0} (f : A → B) (xs : List A) (i : ℕ) → map f (remove xs i) ≡ remove (map f xs) i

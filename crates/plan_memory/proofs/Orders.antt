@@ -1,11 +1,8 @@
 -- Among scores there is one that stands to all as the worst does, and one that stands to all as the best does.
-use Rattle.std.proofs.Common.{◌≡◌, ℕ, zero, suc, ◌<◌, Bool, true, false, List, [], ◌∷◌, length, get_or, ltb, Option, None, Some, ℤ, inl, inr, refl, sym, ◌∙◌, arith}
-use Rattle.std.specs.Prelude.{int_le, position, unwrap_or}
-use Rattle.std.specs.List.{list_all, position_or_len}
-use Rattle.std.proofs.lemmas.Int.{ints}
-use Rattle.std.proofs.lemmas.Bool.{and_from, and_parts, cases_lt}
-use Rattle.std.proofs.lemmas.Bool.Decides.{nat_tests}
-use Rattle.std.proofs.lemmas.List.Sums.{fails_before_first, passes_at_first}
+use Rattle.std.proofs.Common.{◌≡◌, ℕ, zero, suc, ◌<◌, Bool, true, false, List, [], ◌∷◌, length, get_or, ltb, Option, None, Some, ℤ, inl, inr, refl, sym, ◌∙◌}
+use Rattle.std.proofs.{Common.arith, lemmas.Bool.and_from}
+use Rattle.std.proofs.lemmas.{Bool.and_parts, Bool.cases_lt, Bool.Decides.nat_tests, Int.ints, List.Sums.fails_before_first, List.Sums.passes_at_first}
+use Rattle.std.specs.{List.list_all, List.position_or_len, Prelude.int_le, Prelude.position, Prelude.unwrap_or}
 use Rattle.plan_memory.specs.Scores.{is_at_most, is_at_least, is_lowest, is_highest, worst, best}
 
 -- one score stands to itself, one of two stands to the other, and what stands to one that stands to a third stands to the third

@@ -2,9 +2,8 @@
 use Rattle.std.specs.Prelude.{ℕ, ◌-◌, ◌/◌, ◌^◌, min, List, length, map, replicate, unwrap_or, Option, None, Some, ℤ, pos, ◌-ℤ◌}
 use Rattle.std.specs.Int.RustNames.{unsigned_abs}
 use Rattle.draws.specs.Choices.{pick}
-use Rattle.plan_memory.specs.declared.choices.Choice.{Choice}
+use Rattle.plan_memory.specs.{Scores.best, Scores.highest, declared.choices.Choice.Choice}
 use Rattle.plan_memory.specs.declared.choices.Choice.TheVariants as choice
-use Rattle.plan_memory.specs.Scores.{best, highest}
 
 -- how often a plan's weight is halved: once for each whole unit by which its score is below the highest, 30 times at most
 abbrev pub halvings : ℕ → ℤ → ℤ → ℕ

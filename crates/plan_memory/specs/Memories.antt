@@ -1,9 +1,8 @@
 -- What a person remembers: plans, each with a score or none, of which one is chosen.
-use Rattle.std.specs.Prelude.{ℕ, zero, suc, ◌-◌, nat_eq, nat_lt, List, [], ◌∷◌, ◌++◌, length, replicate, remove, slice_set, slice_index_or, Option, None, Some, ℤ, if◌then◌else◌}
+use Rattle.std.specs.Prelude.{ℕ, zero, suc, ◌-◌, nat_eq, nat_lt, List, [], ◌∷◌, ◌++◌, length, replicate, remove, slice_set, slice_index_or, Option, None, Some}
+use Rattle.std.specs.Prelude.{ℤ, if◌then◌else◌}
 use Rattle.rows.specs.PlanRows.{PlanRows}
-use Rattle.plan_memory.specs.declared.choices.Choice.{Choice}
-use Rattle.plan_memory.specs.Scores.{worst, best}
-use Rattle.plan_memory.specs.Choices.{place_chosen}
+use Rattle.plan_memory.specs.{Choices.place_chosen, Scores.worst, Scores.best, declared.choices.Choice.Choice}
 
 -- the plans and their scores, in the same order, and the place of the chosen plan
 pub record MemoryRows : Type 0 where

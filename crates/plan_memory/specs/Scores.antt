@@ -1,7 +1,6 @@
 -- Which of a person's plans is the worst and which is the best, by their scores. A plan that was not tried yet has no score.
+use Rattle.std.specs.{Int.int_max, List.list_all}
 use Rattle.std.specs.Prelude.{ℕ, Bool, true, false, int_le, List, unwrap_or, position, Option, None, Some, ℤ, fold}
-use Rattle.std.specs.Int.{int_max}
-use Rattle.std.specs.List.{list_all}
 
 -- a score is no higher than another; no score is the lowest of all
 abbrev pub is_at_most : Option ℤ → Option ℤ → Bool

@@ -1,9 +1,7 @@
 -- What contracts see of a memory, and what it keeps.
 use Rattle.std.specs.Prelude.{◌≡◌, ◌<◌, ◌≤◌, length, map}
 use Rattle.rows.specs.PlanRows.{plan_rows}
-use Rattle.plan_memory.specs.declared.TheConstants.{MAX_HELD}
-use Rattle.plan_memory.specs.declared.memory.Memory.TheInside.{Inside}
-use Rattle.plan_memory.specs.Memories.{MemoryRows}
+use Rattle.plan_memory.specs.{Memories.MemoryRows, declared.TheConstants.MAX_HELD, declared.memory.Memory.TheInside.Inside}
 
 abbrev pub memory_of : Inside → MemoryRows
 memory_of m = record { plans = map plan_rows m.plans; scores = m.scores.items; chosen = m.chosen }

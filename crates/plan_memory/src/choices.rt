@@ -1,7 +1,6 @@
 ghost use Rattle.std.specs.Prelude.{◌≡◌, ◌<◌, ◌≤◌, ◌^◌, ◌*◌, length, map, replicate, sum, ℤ};
-ghost use Rattle.plan_memory.specs.declared.TheConstants.{MAX_HELD};
-ghost use Rattle.plan_memory.specs.Scores.{highest};
 ghost use Rattle.plan_memory.specs.Choices.{halvings, logit_weight, logit_weights, place_chosen};
+ghost use Rattle.plan_memory.specs.{Scores.highest, declared.TheConstants.MAX_HELD};
 
 use crate::MAX_HELD;
 use crate::scores::{best, highest};

@@ -1,5 +1,4 @@
-ghost use Rattle.std.specs.Prelude.{◌≡◌, ◌<◌, length, position, IfSome};
-ghost use Rattle.std.specs.List.{list_all};
+ghost use Rattle.std.specs.{List.list_all, Prelude.◌≡◌, Prelude.◌<◌, Prelude.length, Prelude.position, Prelude.IfSome};
 ghost use Rattle.plan_memory.specs.Scores.{is_at_most, is_at_least, is_lowest, is_highest, worst, best, higher, highest};
 
 use events::Rows;

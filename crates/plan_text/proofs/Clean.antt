@@ -1,20 +1,14 @@
 -- What stands in the fields of a plan's rows: no comma, and no line feed.
-use Rattle.records.proofs.Common.{◌≡◌, List, ap, ℕ, length, ◌∙◌, arith, map, [], ◌<◌, None, Some, ◌++◌, ◌∷◌, refl, true, Bool, Option, false, ◌&&◌, ◌||◌}
-use Rattle.records.proofs.Common.{append_assoc, ◌^◌, nat_tests, list_all-append, list_all, join_with_byte, flat_map, nat_eq, nat_lt, nat_le, decimal, is_name}
-use Rattle.records.proofs.Common.{name_at, Book, Mode, LAST_SECOND, parts_of, Row}
+use Rattle.records.proofs.Common.{◌≡◌, List, ℕ, length, arith, map, [], ◌<◌, None, Some, ◌++◌, ◌∷◌, refl, true, Bool, Option, false, ◌&&◌, ◌||◌, append_assoc}
+use Rattle.records.proofs.Common.{◌^◌, nat_tests, list_all-append, list_all, join_with_byte, flat_map, nat_eq, nat_lt, nat_le, decimal, is_name, name_at, Book}
+use Rattle.records.{proofs.Common.Mode, proofs.Common.LAST_SECOND, proofs.Common.parts_of, proofs.Common.Row, specs.Numbers.is_digit}
 use Rattle.events.specs.declared.event.Mode.TheVariants as mode
-use Rattle.events.specs.Names.{is_name_byte, AreNames}
-use Rattle.events.specs.Words.{mode_text}
-use Rattle.events.proofs.NameLists.{is_name-name_at}
-use Rattle.records.specs.Numbers.{is_digit}
-use Rattle.rows.specs.declared.plan.Act.{Act}
-use Rattle.rows.specs.declared.plan.Leg.{Leg}
+use Rattle.events.{proofs.NameLists.is_name-name_at, specs.Names.is_name_byte, specs.Names.AreNames, specs.Words.mode_text}
+use Rattle.rows.specs.{Plan.is_leg, Plan.is_teleported, Plan.mode_of_leg, declared.plan.Act.Act, declared.plan.Leg.Leg}
 use Rattle.rows.specs.declared.plan.Leg.TheVariants as leg
-use Rattle.rows.specs.Plan.{is_leg, is_teleported, mode_of_leg}
-use Rattle.plan_text.specs.Lines.{IsBook, row_line, end_text, act_row, seconds_text, route_names, route_text, leg_row, is_act_in_book, is_leg_in_book}
+use Rattle.plan_text.proofs.{Decimals.decimal_writes, Joins.both, Joins.and_true, Joins.parts_back, Joins.part_off}
 use Rattle.plan_text.specs.Elements.{rows_in}
-use Rattle.plan_text.proofs.Joins.{both, and_true, parts_back, part_off}
-use Rattle.plan_text.proofs.Decimals.{decimal_writes}
+use Rattle.plan_text.specs.Lines.{IsBook, row_line, end_text, act_row, seconds_text, route_names, route_text, leg_row, is_act_in_book, is_leg_in_book}
 
 -- a byte of a name, or a space
 abbrev pub is_field_byte : ℕ → Bool
@@ -36,32 +30,20 @@ pub all_weaker : {X : Type 0} (p q : X → Bool) → ((b : X) → p b ≡ true �
 all_weaker p q more [] h = refl
 all_weaker p q more (x ∷ xs) h = let parts = both (p x) (list_all p xs) h in and_true (q x) _ (more x parts.0) (all_weaker p q more xs parts.1)
 
-or_left : (a b : Bool) → a ≡ true → (a || b) ≡ true
-or_left a b h = grind arith
-
-third : (a b c : Bool) → (a && b && c) ≡ true → c ≡ true
-third a b c h = grind arith
-
 -- the bytes of a name
 pub name_bytes : (bytes : List ℕ) → is_name bytes ≡ true → list_all is_name_byte bytes ≡ true
 unfolding is_name
-name_bytes bytes h = third (nat_le 1 (length bytes)) (nat_le (length bytes) 64) _ h
+name_bytes bytes h = grind arith
 
 clean_bytes : (bytes : List ℕ) → list_all is_name_byte bytes ≡ true → is_clean bytes ≡ true
-clean_bytes bytes h = all_weaker is_name_byte is_field_byte (λ b one. or_left (is_name_byte b) (nat_eq b 32) one) bytes h
+clean_bytes bytes h = all_weaker is_name_byte is_field_byte (λ b one. grind arith) bytes h
 
 clean_name : (names : List (List ℕ)) (n : ℕ) → AreNames names → nat_lt n (length names) ≡ true → is_clean (name_at names n) ≡ true
 clean_name names n are less =
     let within : n < length names = grind (arith, nat_tests) in clean_bytes (name_at names n) (name_bytes (name_at names n) (is_name-name_at names n are within))
 
 digit_in_field : (b : ℕ) → is_digit b ≡ true → is_field_byte b ≡ true
-digit_in_field b h = by (nat_le 48 b && nat_le b 57) h
-  where
-    by : (d : Bool) → d ≡ true → (((nat_le 65 b && nat_le b 90) || (nat_le 97 b && nat_le b 122) || d || nat_eq b 95 || nat_eq b 46 || nat_eq b 45) || nat_eq b 32) ≡ true
-    by d is = or_left _ (nat_eq b 32) (or_left _ (nat_eq b 45) (or_left _ (nat_eq b 46) (or_left _ (nat_eq b 95) (or_right _ d is))))
-      where
-        or_right : (a b : Bool) → b ≡ true → (a || b) ≡ true
-        or_right a b h = grind arith
+digit_in_field b h = grind arith
 
 clean_number : (n : ℕ) → n < 2 ^ 64 → is_clean (decimal n) ≡ true
 clean_number n less = all_weaker is_digit is_field_byte digit_in_field (decimal n) (decimal_writes n less).0
@@ -72,24 +54,20 @@ joined_all p c one [] h = refl
 joined_all p c one (x ∷ []) h = (both (list_all p x) true h).0
 joined_all p c one (x ∷ y ∷ ys) h =
     let parts = both (list_all p x) (list_all (list_all p) (y ∷ ys)) h in
-    list_all-append p x (c ∷ join_with_byte c (y ∷ ys)) ∙ and_true _ _ parts.0 (and_true (p c) _ one (joined_all p c one (y ∷ ys) parts.1))
+    rw (list_all-append p x (c ∷ join_with_byte c (y ∷ ys)), parts.0, one) (joined_all p c one (y ∷ ys) parts.1)
+
+pub below : (n m : ℕ) → nat_lt n m ≡ true → n < m
+below n m h = grind (arith, nat_tests)
 
 -- the names of numbers that are below the length
 pub names_named : (names : List (List ℕ)) (numbers : List ℕ) → AreNames names → list_all (λ n. nat_lt n (length names)) numbers ≡ true → list_all is_name (map (name_at names) numbers) ≡ true
 names_named names [] are h = refl
 names_named names (n ∷ numbers) are h =
     let parts = both (nat_lt n (length names)) _ h in
-    let within : n < length names = less n (length names) parts.0 in
-    and_true (is_name (name_at names n)) _ (is_name-name_at names n are within) (names_named names numbers are parts.1)
-  where
-    less : (n m : ℕ) → nat_lt n m ≡ true → n < m
-    less n m h = grind (arith, nat_tests)
+    and_true (is_name (name_at names n)) _ (is_name-name_at names n are (below n (length names) parts.0)) (names_named names numbers are parts.1)
 
 pub three_parts : (a b c : Bool) → (a && b && c) ≡ true → (a ≡ true) × (b ≡ true) × (c ≡ true)
 three_parts a b c h = (grind arith, grind arith, grind arith)
-
-pub below : (n m : ℕ) → nat_lt n m ≡ true → n < m
-below n m h = grind (arith, nat_tests)
 
 -- what a route names are names
 pub route_named : (book : Book) (leg : Leg) → IsBook book → is_leg_in_book book leg ≡ true → list_all is_name (route_names book leg) ≡ true
@@ -107,10 +85,7 @@ clean_route book leg are in_book =
 
 clean_mode : (mode : Mode) → is_clean (mode_text mode) ≡ true
 clean_mode mode.Car = refl
-clean_mode mode.Walk = refl
-clean_mode mode.Bike = refl
-clean_mode mode.Ride = refl
-clean_mode mode.Pt = refl
+clean_mode mode = refl
 
 -- an end that is none, or at most 172,800
 abbrev pub is_time : Option ℕ → Bool
@@ -125,12 +100,8 @@ clean_end None h = refl
 clean_end (Some second) h = clean_number second (short second h)
 
 clean_seconds : (leg : Leg) → is_leg leg ≡ true → is_clean (seconds_text leg) ≡ true
-clean_seconds (leg.Car route) h = refl
 clean_seconds (leg.Teleport mode seconds) h = clean_number seconds (short seconds (three_parts (is_teleported mode) (nat_le 1 seconds) (nat_le seconds LAST_SECOND) h).2)
-clean_seconds (leg.Transit line access egress) h = refl
-
-five_clean : (a b c d e : Bool) → a ≡ true → b ≡ true → c ≡ true → d ≡ true → e ≡ true → (a && (b && (true && (c && (d && (e && (true && true))))))) ≡ true
-five_clean a b c d e pa pb pc pd pe = grind arith
+clean_seconds leg h = refl
 
 module _ (book : Book) (person index : ℕ) (are : IsBook book) (there : person < length book.persons) (small : index < 2 ^ 32) where
   clean_person : is_clean (name_at book.persons person) ≡ true
@@ -143,20 +114,18 @@ module _ (book : Book) (person index : ℕ) (are : IsBook book) (there : person 
   unfolding act_row
   act_is_row act in_book time =
       let parts = both (nat_lt act.kind (length book.kinds)) (nat_lt act.link (length book.links)) in_book in
-      five_clean _ _ _ _ _ clean_person clean_index (clean_name book.kinds act.kind are.kinds parts.0) (clean_name book.links act.link are.links parts.1) (clean_end act.end time)
-
-  leg_clean : (a b c d e : Bool) → a ≡ true → b ≡ true → c ≡ true → d ≡ true → e ≡ true → (a && (b && (true && (c && (true && (d && (e && true))))))) ≡ true
-  leg_clean a b c d e pa pb pc pd pe = grind arith
+      rw (clean_person, clean_index, clean_name book.kinds act.kind are.kinds parts.0, clean_name book.links act.link are.links parts.1, clean_end act.end time)
 
   pub leg_is_row : (leg : Leg) → is_leg_in_book book leg ≡ true → is_leg leg ≡ true → is_row (leg_row book person index leg) ≡ true
   unfolding leg_row
   leg_is_row leg in_book sound =
-      leg_clean _ _ _ _ _ clean_person clean_index (clean_mode (mode_of_leg leg)) (clean_seconds leg sound) (clean_route book leg are in_book)
+      rw (clean_person, clean_index, clean_mode (mode_of_leg leg), clean_seconds leg sound, clean_route book leg are in_book)
 
 line_clean : (row : Row) → is_row row ≡ true → list_all is_line_byte (join_with_byte 44 row) ≡ true
 line_clean [] h = absurd (cc h)
 line_clean (x ∷ xs) h =
-    joined_all is_line_byte 44 refl (x ∷ xs) (all_weaker is_clean (list_all is_line_byte) (λ bytes one. all_weaker is_field_byte is_line_byte (λ b two. or_left (is_field_byte b) (nat_eq b 44) two) bytes one) (x ∷ xs) h)
+    let more : (bytes : List ℕ) → is_clean bytes ≡ true → list_all is_line_byte bytes ≡ true = all_weaker is_field_byte is_line_byte (λ b two. grind arith) in
+    joined_all is_line_byte 44 refl (x ∷ xs) (all_weaker is_clean (list_all is_line_byte) more (x ∷ xs) h)
 
 fields_back : (row : Row) → is_row row ≡ true → parts_of 44 (join_with_byte 44 row) ≡ row
 fields_back [] h = absurd (cc h)
@@ -168,7 +137,5 @@ unfolding rows_in row_line parts_of
 rows_back [] h = refl
 rows_back (row ∷ rows) h =
     let parts = both (is_row row) (list_all is_row rows) h in
-    ap (λ (l : List ℕ). map (parts_of 44) (parts_of 10 l)) (append_assoc (join_with_byte 44 row) (10 ∷ []) (flat_map row_line rows))
-    ∙ ap (map (parts_of 44)) (part_off is_line_byte 10 refl (join_with_byte 44 row) (flat_map row_line rows) (line_clean row parts.0))
-    ∙ ap (λ (r : Row). r ∷ map (parts_of 44) (parts_of 10 (flat_map row_line rows))) (fields_back row parts.0)
-    ∙ ap (λ (l : List Row). row ∷ l) (rows_back rows parts.1)
+    rw (append_assoc (join_with_byte 44 row), part_off is_line_byte 10 refl (join_with_byte 44 row) (flat_map row_line rows) (line_clean row parts.0))
+    (rw (fields_back row parts.0, rows_back rows parts.1) refl)

@@ -1,9 +1,8 @@
 -- A decimal number, read back.
 use Rattle.records.proofs.Common.{◌≡◌, List, ap, ℕ, length, ◌∙◌, arith, [], ◌<◌, None, Some, ◌++◌, ◌∷◌, true, Bool, ◌+◌, cond, ◌&&◌, ◌≤◌, ◌^◌, ◌-◌, nat_tests}
 use Rattle.records.proofs.Common.{list_all-append, fold-append, list_all, nat_le, decimal, are_digits, number_in, value_of}
-use Rattle.std.proofs.Common.{◌*◌, ◌/◌, ◌%◌}
-use Rattle.std.proofs.lemmas.Fmt.{decimal_by_steps, decimal_nonempty, length-decimal-le}
 use Rattle.records.specs.Numbers.{is_digit, more_digits}
+use Rattle.std.proofs.{Common.◌*◌, Common.◌/◌, Common.◌%◌, lemmas.Fmt.decimal_by_steps, lemmas.Fmt.decimal_nonempty, lemmas.Fmt.length-decimal-le}
 
 -- digits that write a number
 abbrev Writes : ℕ → List ℕ → Type 0
@@ -12,19 +11,13 @@ Writes n ds = (list_all is_digit ds ≡ true) × (value_of ds ≡ n)
 digit_is : (n : ℕ) → n < 10 → (nat_le 48 (48 + n) && nat_le (48 + n) 57) ≡ true
 digit_is n less = grind (arith, nat_tests)
 
-one_all : (a : Bool) → a ≡ true → (a && true) ≡ true
-one_all a h = grind arith
-
-two_all : (a b : Bool) → a ≡ true → b ≡ true → (a && b) ≡ true
-two_all a b p q = grind arith
-
 writes_one : (n : ℕ) → n < 10 → Writes n ((48 + n) ∷ [])
-writes_one n less = (one_all (is_digit (48 + n)) (digit_is n less), omega arith)
+writes_one n less = (rw (digit_is n less), omega arith)
 
 writes_more : (n : ℕ) (ds : List ℕ) → 10 ≤ n → Writes (n / 10) ds → Writes n (ds ++ ((48 + n % 10) ∷ []))
 writes_more n ds long before =
     let low : n % 10 < 10 = omega arith in (
-      list_all-append is_digit ds ((48 + n % 10) ∷ []) ∙ two_all _ _ before.0 (one_all (is_digit (48 + n % 10)) (digit_is (n % 10) low)),
+      rw (list_all-append is_digit ds ((48 + n % 10) ∷ []), before.0, digit_is (n % 10) low),
       fold-append more_digits 0 ds ((48 + n % 10) ∷ []) ∙ ap (λ (v : ℕ). 10 * v + ((48 + n % 10) - 48)) before.1 ∙ last n,
     )
   where

@@ -1,9 +1,7 @@
 -- The rows of one activity, and of the leg behind it, come off the front of those that are still to be written.
-use Rattle.records.proofs.Common.{◌≡◌, List, ap, ℕ, length, ◌∙◌, arith, [], ◌<◌, sym, ◌++◌, ◌∷◌, refl, true, Bool, ◌+◌, get_or, ◌≤◌, drop, suc, zero}
-use Rattle.records.proofs.Common.{append_assoc, list_all, Book}
-use Rattle.std.proofs.lemmas.List.{drop_more}
-use Rattle.rows.specs.declared.plan.Act.{Act}
-use Rattle.rows.specs.declared.plan.Leg.{Leg}
+use Rattle.records.proofs.Common.{◌≡◌, List, ℕ, length, arith, [], ◌<◌, ◌++◌, ◌∷◌, true, Bool, ◌+◌, get_or, ◌≤◌, drop, suc, zero, append_assoc, list_all, Book}
+use Rattle.std.proofs.lemmas.List.{drop_more, drop_all}
+use Rattle.rows.specs.declared.plan.{Act.Act, Leg.Leg}
 use Rattle.plan_text.specs.Lines.{row_line, act_row, leg_row, element_rows, element_lines, is_act_in_book, is_leg_in_book, are_in_book}
 use Rattle.plan_text.proofs.Joins.{both}
 
@@ -14,10 +12,7 @@ all_at p (y ∷ ys) zero x all less = (both (p y) (list_all p ys) all).0
 all_at p (y ∷ ys) (suc i) x all less = all_at p ys i x (both (p y) (list_all p ys) all).1 (omega arith)
 
 pub drop_past : {X : Type 0} (xs : List X) (i : ℕ) → length xs ≤ i → drop i xs ≡ []
-drop_past [] zero few = refl
-drop_past [] (suc i) few = refl
-drop_past (x ∷ xs) zero few = absurd (omega arith)
-drop_past (x ∷ xs) (suc i) few = drop_past xs i (omega arith)
+drop_past xs i few = drop_all i xs few
 
 module _ (book : Book) (person index : ℕ) (acts : List Act) (legs : List Leg) (place : ℕ) where
   pub act_in_book : (act : Act) → are_in_book book acts legs ≡ true → place < length acts → is_act_in_book book (get_or acts place act) ≡ true
@@ -34,40 +29,21 @@ module _ (book : Book) (person index : ℕ) (acts : List Act) (legs : List Leg) 
   abbrev later : List ℕ
   later = lines (drop (place + 1) acts) (drop (place + 1) legs)
 
-  last_line : (act : Act) (rest : List Act) → lines (act ∷ rest) [] ≡ row_line (act_row book person index act) ++ lines rest []
-  unfolding element_lines element_rows
-  last_line act rest = refl
-
-  two_lines : (act : Act) (rest : List Act) (leg : Leg) (legs : List Leg) → lines (act ∷ rest) (leg ∷ legs) ≡ row_line (act_row book person index act) ++ (row_line (leg_row book person index leg) ++ lines rest legs)
-  unfolding element_lines element_rows
-  two_lines act rest leg legs = refl
-
   -- an activity behind which there is no leg
   pub act_alone : (act : Act) (text more : List ℕ) → place < length acts → length legs ≤ place → more ≡ text ++ row_line (act_row book person index (get_or acts place act))
       → more ++ later ≡ text ++ lines (drop place acts) (drop place legs)
+  unfolding element_lines element_rows
   act_alone act text more less few pushed =
-      ap (λ (l : List ℕ). l ++ later) pushed ∙ append_assoc text (row_line (act_row book person index (get_or acts place act))) later
-      ∙ ap (λ (l : List Leg). text ++ (row_line (act_row book person index (get_or acts place act)) ++ lines (drop (place + 1) acts) l)) (drop_past legs (place + 1) (omega arith))
-      ∙ ap (λ (l : List ℕ). text ++ l) (sym (last_line (get_or acts place act) (drop (place + 1) acts)))
-      ∙ ap (λ (a : List Act). text ++ lines a []) (sym (drop_more acts place act less))
-      ∙ ap (λ (l : List Leg). text ++ lines (drop place acts) l) (sym (drop_past legs place few))
+      rw (pushed, append_assoc, drop_all (place + 1) legs (omega arith), drop_more acts place act less, drop_all place legs few)
 
   -- an activity and the leg behind it
   pub act_and_leg : (act : Act) (leg : Leg) (text some more : List ℕ) → place < length acts → place < length legs → some ≡ text ++ row_line (act_row book person index (get_or acts place act))
       → more ≡ some ++ row_line (leg_row book person index (get_or legs place leg)) → more ++ later ≡ text ++ lines (drop place acts) (drop place legs)
-  act_and_leg act leg text some more less here pushed_act pushed_leg =
-      let first : List ℕ = row_line (act_row book person index (get_or acts place act)) in
-      let second : List ℕ = row_line (leg_row book person index (get_or legs place leg)) in
-      ap (λ (l : List ℕ). l ++ later) pushed_leg ∙ ap (λ (l : List ℕ). (l ++ second) ++ later) pushed_act
-      ∙ append_assoc (text ++ first) second later ∙ append_assoc text first (second ++ later)
-      ∙ ap (λ (l : List ℕ). text ++ l) (sym (two_lines (get_or acts place act) (drop (place + 1) acts) (get_or legs place leg) (drop (place + 1) legs)))
-      ∙ ap (λ (a : List Act). text ++ lines a (get_or legs place leg ∷ drop (place + 1) legs)) (sym (drop_more acts place act less))
-      ∙ ap (λ (l : List Leg). text ++ lines (drop place acts) l) (sym (drop_more legs place leg here))
-
-  no_lines : (l : List Leg) → lines [] l ≡ []
   unfolding element_lines element_rows
-  no_lines l = refl
+  act_and_leg act leg text some more less here pushed_act pushed_leg =
+      rw (pushed_leg, pushed_act, append_assoc, append_assoc, drop_more acts place act less, drop_more legs place leg here)
 
   -- nothing is left behind the last activity
   pub all_written : length acts ≤ place → lines (drop place acts) (drop place legs) ≡ []
-  all_written few = ap (λ (a : List Act). lines a (drop place legs)) (drop_past acts place few) ∙ no_lines (drop place legs)
+  unfolding element_lines element_rows
+  all_written few = rw (drop_all place acts few)

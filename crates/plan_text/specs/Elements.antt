@@ -1,16 +1,10 @@
 -- What the rows of a text say, read one by one: the activities and legs of the plan that it may be.
 use Rattle.std.specs.Prelude.{ℕ, bytes_eq, if◌then◌else◌, List, map, codes, Option, None, Some, option_map}
 use Rattle.std.specs.List.{filter_map}
-use Rattle.events.specs.declared.event.Book.{Book}
-use Rattle.events.specs.declared.event.Mode.{Mode}
+use Rattle.events.specs.{Names.number_of, Words.mode_of, declared.event.Book.Book, declared.event.Mode.Mode}
 use Rattle.events.specs.declared.event.Mode.TheVariants as mode
-use Rattle.events.specs.Names.{number_of}
-use Rattle.events.specs.Words.{mode_of}
-use Rattle.records.specs.Rows.{Row}
-use Rattle.records.specs.Fields.{field}
-use Rattle.records.specs.Lists.{parts_of, numbers_of}
-use Rattle.rows.specs.declared.plan.Act.{Act}
-use Rattle.rows.specs.declared.plan.Leg.{Leg}
+use Rattle.records.specs.{Fields.field, Lists.parts_of, Lists.numbers_of, Rows.Row}
+use Rattle.rows.specs.declared.plan.{Act.Act, Leg.Leg}
 use Rattle.rows.specs.declared.plan.Leg.TheVariants as leg
 use Rattle.plans.specs.Kinds.{end_in, seconds_in, items_of, item}
 

@@ -2,17 +2,11 @@
 use Rattle.std.specs.Prelude.{◌≡◌, ℕ, ◌+◌, Bool, true, ◌&&◌, nat_eq, nat_le, nat_lt, List, [], ◌∷◌, ◌++◌, length, map, codes, decimal, Option, None, Some}
 use Rattle.std.specs.List.{list_all, flat_map, enumerate_from, join_with_byte}
 use Rattle.limits.specs.declared.TheConstants.{MAX_LEGS, MAX_PLANS}
-use Rattle.events.specs.declared.event.Book.{Book}
-use Rattle.events.specs.declared.event.Mode.TheVariants as mode
-use Rattle.events.specs.Names.{name_at, AreNames}
-use Rattle.events.specs.Words.{mode_text}
+use Rattle.events.specs.{Names.name_at, Names.AreNames, Words.mode_text, declared.event.Book.Book}
 use Rattle.records.specs.Rows.{Row}
 use Rattle.plans.specs.Kinds.{plans_header}
-use Rattle.rows.specs.declared.plan.Act.{Act}
-use Rattle.rows.specs.declared.plan.Leg.{Leg}
+use Rattle.rows.specs.{Plan.is_leg, Plan.are_acts, Plan.mode_of_leg, Plan.is_known, PlanRows.PlanRows, declared.plan.Act.Act, declared.plan.Leg.Leg}
 use Rattle.rows.specs.declared.plan.Leg.TheVariants as leg
-use Rattle.rows.specs.Plan.{is_leg, are_acts, mode_of_leg, is_known}
-use Rattle.rows.specs.PlanRows.{PlanRows}
 
 -- the line of a row: its fields with commas between them, and a line feed
 unfoldable pub row_line : Row → List ℕ

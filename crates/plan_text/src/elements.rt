@@ -1,6 +1,5 @@
 ghost use Rattle.std.specs.Prelude.{◌≡◌, ◌++◌, map, option_map, option_to_list, IfOk};
-ghost use Rattle.records.specs.Lists.{parts_of, numbers_of};
-ghost use Rattle.records.specs.Numbers.{number_in};
+ghost use Rattle.records.specs.{Lists.parts_of, Lists.numbers_of, Numbers.number_in};
 ghost use Rattle.plan_text.specs.Elements.{act_in, transit_in, leg_by, leg_in, rows_in, acts_in, legs_in};
 
 use events::{Book, Mode, Route};

@@ -1,7 +1,6 @@
 ghost use Rattle.std.specs.Prelude.{◌≡◌, ◌<◌, length, option_map, nat_lt, true, Some, IfOk, IfSome};
 ghost use Rattle.std.specs.List.{list_all};
-ghost use Rattle.rows.specs.Plan.{is_leg, has_end, are_acts, is_teleported};
-ghost use Rattle.rows.specs.PlanRows.{PlanRows, plan_rows};
+ghost use Rattle.rows.specs.{Plan.is_leg, Plan.has_end, Plan.are_acts, Plan.is_teleported, PlanRows.PlanRows, PlanRows.plan_rows};
 ghost use Rattle.plan_text.specs.Lines.{IsBook, IsTextOf, is_act_in_book, is_leg_in_book, are_in_book, are_plan, is_plan_in};
 
 use crate::elements::{Elements, elements_in};

@@ -1,8 +1,7 @@
 ghost use Rattle.std.specs.Prelude.{◌≡◌, ◌<◌, ◌+◌, ◌++◌, length, drop, true, OnOk, OnErr, IfOk};
 ghost use Rattle.events.specs.Words.{mode_text};
-ghost use Rattle.rows.specs.PlanRows.{plan_rows};
+ghost use Rattle.rows.specs.{Plan.mode_of_leg, PlanRows.plan_rows};
 ghost use Rattle.plan_text.specs.Lines.{end_text, seconds_text, route_text, row_line, act_row, leg_row, element_lines};
-ghost use Rattle.rows.specs.Plan.{mode_of_leg};
 ghost use Rattle.plan_text.specs.Lines.{plan_lines, is_act_in_book, is_leg_in_book, are_in_book, are_plan, is_plan_in};
 
 use crate::fields::{names_of, push_joined, push_row};

@@ -1,178 +1,151 @@
 -- The three ways in which an activity is read: in the opened plan, as the first of a further plan, as the first of a person.
-use Rattle.records.proofs.Common.{◌≡◌, List, ap, ℕ, length, ◌∙◌, arith, map, [], ◌<◌, sym, None, Some, ◌++◌, ◌∷◌, refl, true, Bool, Option, ◌+◌, false, cond}
-use Rattle.records.proofs.Common.{get_or, ◌&&◌, drop, not, take, length-append, nat_tests, map-append, take_more, append-nil, nat_eq, is_some, option_to_list}
-use Rattle.records.proofs.Common.{with_name, is_held, field, Row}
-use Rattle.std.proofs.Common.{add-zero}
+use Rattle.records.proofs.Common.{◌≡◌, List, ap, ℕ, length, ◌∙◌, [], ◌<◌, sym, Some, ◌++◌, ◌∷◌, refl, true, Bool, ◌+◌, false, cond, get_or, drop, not, take}
+use Rattle.records.proofs.Common.{length-append, take_more, append-nil, with_name, is_held, field, Row}
+use Rattle.records.proofs.Unrefused.{found_below}
+use Rattle.std.{proofs.Common.add-zero, specs.Cmp.Derive.both_true}
 use Rattle.rows.specs.declared.plan.Act.{Act}
-use Rattle.rows.specs.declared.plan.Leg.{Leg}
-use Rattle.plans.specs.declared.kinds.ElementKind.{ElementKind}
 use Rattle.plans.specs.declared.kinds.ElementKind.TheVariants as element
-use Rattle.rows.specs.PlanRows.{PlanRows}
-use Rattle.plans.specs.Kinds.{kind_of, is_act, plan_number}
-use Rattle.plans.specs.Refusals.{same_person, same_plan, is_neither, starts_late, jumps}
-use Rattle.plans.specs.Runs.{runs}
-use Rattle.plans.specs.Values.{Tables, tables_of, person_in, kind_in, line_in, stops_in, act_of, acts_among, legs_among, plan_among, plans_among, first_row, begins_at}
-use Rattle.plans.specs.Progress.{Progress, closed_of, with_kind, new_person, new_plan, same_plan_act, Grouped, Named, Behind}
-use Rattle.plans.proofs.RunsMore.{runs_one, runs_on, runs_new}
-use Rattle.plans.proofs.Naming.{held_there}
-use Rattle.plans.proofs.Passing.{same_name, plan_of_person, plan_of_number, next_number}
-use Rattle.plans.proofs.ActSteps.{acts_more, legs_more, one_act, no_leg, closed_is, kind_in_act, line_in_act, stops_in_act, unchanged, one_name, with_held, starts_more, legs_to_more}
+use Rattle.plans.specs.{Kinds.kind_of, Kinds.is_act, Kinds.plan_number, Refusals.same_person, Refusals.same_plan, Refusals.is_neither, Refusals.lacks_link}
+use Rattle.plans.specs.Values.{tables_of, person_in, kind_in, act_of, acts_among, named_by, first_row, begins_at, is_act_named}
+use Rattle.plans.specs.Progress.{Progress, with_kind, new_person, new_plan, same_plan_act, Named, Behind, IsReadTo}
+use Rattle.plans.proofs.{RunsMore.runs_one, RunsMore.runs_on, RunsMore.runs_new, Naming.held_there, Naming.same_number}
+use Rattle.plans.proofs.Passing.{same_name, plan_of_person, plan_of_number, next_number, first_number, Next, vacant, closes, read_on}
+use Rattle.plans.proofs.ActSteps.{among_act, own_closed, plans_closed, names_more, kinds_more, lines_more, stops_more, with_held, starts_more, legs_to_more}
+use Rattle.plans.proofs.Soundness.{few_own, sound_in_plan, sound_new_plan, sound_new_person}
 
--- what is known of the place of an activity
-pub record ActAt (links : List (List ℕ)) (rows : List Row) (n : ℕ) (latest : Row) (p : Progress) : Type 0 where
-  pub within : n < length rows
-  pub names : Named rows n p
-  pub behind : Behind (tables_of links rows) latest (first_row (drop n rows)) p
-  pub groups : Grouped (tables_of links rows) (take n rows) latest p
-  pub is_act_row : kind_of (get_or rows n []) ≡ element.Act
-  pub act : Act
-  pub act_is : act ≡ act_of (tables_of links rows).kinds (tables_of links rows).links (get_or rows n [])
+-- the activity that a row gives
+abbrev pub act_by : List (List ℕ) → Progress → Row → Act
+act_by links p row = act_of (with_name p.kinds (field row 3)) links row
 
-kinded_act : (k : ElementKind) → k ≡ element.Act → is_neither k ≡ false
-kinded_act k is = ap is_neither is
+-- an activity at a place: what it is, and what names and places are with it
+module _ (links : List (List ℕ)) (rows : List Row) (n : ℕ) (p : Progress) (less : n < length rows) (names : Named rows n p)
+    (kind : kind_of (get_or rows n []) ≡ element.Act) where
+  abbrev y : Row
+  y = get_or rows n []
 
-no_end : (A : Type 0) (k : ElementKind) → k ≡ element.Act → is_act k ≡ false → A
-no_end A k is none = let yes : is_act k ≡ true = ap is_act is in cc
+  kinds_now : with_name p.kinds (field (get_or rows n []) 3) ≡ named_by kind_in (take (n + 1) rows)
+  kinds_now = kinds_more rows n p.kinds element.Act less names.kinds_are kind
 
-last_of : (tables : Tables) (row : Row) (act : Act) → kind_of row ≡ element.Act → act ≡ act_of tables.kinds tables.links row → Some act ≡ cond (is_act (kind_of row)) (Some (act_of tables.kinds tables.links row)) None
-last_of tables row act is same = ap (λ (a : Act). Some a) same ∙ sym (ap (λ (k : ElementKind). cond (is_act k) (Some (act_of tables.kinds tables.links row)) None) is)
+  pub act_same : act_by links p (get_or rows n []) ≡ act_of (tables_of links rows).kinds (tables_of links rows).links (get_or rows n [])
+  unfolding act_of tables_of
+  act_same = let same = same_number kind_in rows (n + 1) _ (field y 3) kinds_now (held_there p.kinds (field y 3)) in cc
 
--- the names and places, where the row is of the person of the row before
-names_same_person : (links : List (List ℕ)) (rows : List Row) (n : ℕ) (latest : Row) (p : Progress) (b : Bool) → ActAt links rows n latest p → same_person latest (get_or rows n []) ≡ true → begins_at rows n ≡ b
-    → (p' : Progress) → p'.persons ≡ p.persons → p'.kinds ≡ with_name p.kinds (field (get_or rows n []) 3) → p'.lines ≡ p.lines → p'.stops ≡ p.stops
-    → p'.starts ≡ p.starts ++ cond b ((n + 1) ∷ []) [] → length p'.legs ≡ cond b 0 (length p.legs) → Named rows (n + 1) p'
-names_same_person links rows n latest p b at person begins p' ps ks ls ss st lg =
-    let y = get_or rows n [] in
-    let held : is_held (field y 0) p.persons ≡ true = ap (λ (name : List ℕ). is_held name p.persons) (sym (same_name latest y person)) ∙ at.behind.held in
-    let count = legs_to_more rows n b element.Act (length p.legs) at.names.legs_count begins at.is_act_row in
-    record {
-      persons_are = ps ∙ sym (with_held p.persons (field y 0) held) ∙ one_name person_in rows n p.persons (field y 0) at.within at.names.persons_are refl;
-      kinds_are = ks ∙ one_name kind_in rows n p.kinds (field y 3) at.within at.names.kinds_are (kind_in_act y at.is_act_row);
-      lines_are = ls ∙ unchanged line_in rows n p.lines at.within at.names.lines_are (line_in_act y at.is_act_row);
-      stops_are = ss ∙ unchanged stops_in rows n p.stops at.within at.names.stops_are (stops_in_act y at.is_act_row);
-      starts_are = st ∙ starts_more rows n b p.starts at.names.starts_are begins;
-      legs_count = lg ∙ sym (add-zero (cond b 0 (length p.legs))) ∙ count;
-    }
+  pub act_named : lacks_link links (kind_of (get_or rows n [])) (get_or rows n []) ≡ false
+      → is_act_named (tables_of links rows) (act_by links p (get_or rows n [])) ≡ true
+  unfolding act_of tables_of lacks_link
+  act_named linked =
+      let same = same_number kind_in rows (n + 1) _ (field y 3) kinds_now (held_there p.kinds (field y 3)) in
+      both_true same.within (found_below links (field y 4) (rw kind at linked))
 
--- the activity goes on with the opened plan
-pub act_in_plan : (links : List (List ℕ)) (rows : List Row) (n : ℕ) (latest : Row) (p : Progress) → (at : ActAt links rows n latest p) → same_plan latest (get_or rows n []) ≡ true → begins_at rows n ≡ false → p.last ≡ None
-    → Named rows (n + 1) (same_plan_act (with_kind p (get_or rows n [])) at.act)
-    × Behind (tables_of links rows) (get_or rows n []) (first_row (drop (n + 1) rows)) (same_plan_act (with_kind p (get_or rows n [])) at.act)
-    × Grouped (tables_of links rows) (take (n + 1) rows) (get_or rows n []) (same_plan_act (with_kind p (get_or rows n [])) at.act)
-act_in_plan links rows n latest p at plan begins opened =
-    let y = get_or rows n [] in
-    let tables = tables_of links rows in
-    let person = plan_of_person latest y plan in
-    let g = at.groups in
-    let before : p.acts ≡ acts_among tables (g.begun ++ latest ∷ []) =
-    sym (append-nil p.acts) ∙ ap (λ (o : Option Act). p.acts ++ option_to_list o) (sym opened) ∙ g.acts_are in (
-      names_same_person links rows n latest p false at person begins (same_plan_act (with_kind p y) at.act) refl refl refl refl (sym (append-nil p.starts)) refl,
-      record {
-        held = ap (λ (name : List ℕ). is_held name p.persons) (sym (same_name latest y person)) ∙ at.behind.held;
-        numbered = sym (plan_of_number latest y plan) ∙ at.behind.numbered;
-        last_is = last_of tables y at.act at.is_act_row at.act_is;
-        kinded = kinded_act (kind_of y) at.is_act_row;
-        goes_on = λ none. no_end _ (kind_of y) at.is_act_row none;
-      },
-      record {
+  pub act_names : (b : Bool) → begins_at rows n ≡ b → (q : Progress) → q.persons ≡ with_name p.persons (field (get_or rows n []) 0)
+      → q.kinds ≡ with_name p.kinds (field (get_or rows n []) 3)
+      → q.lines ≡ p.lines → q.stops ≡ p.stops → q.starts ≡ p.starts ++ cond b ((n + 1) ∷ []) [] → length q.legs ≡ cond b 0 (length p.legs)
+      → Named rows (n + 1) q
+  act_names b begins q persons kinds lines stops starts legs = record {
+    persons_are = persons ∙ names_more person_in rows n p.persons _ less names.persons_are refl;
+    kinds_are = kinds ∙ kinds_now;
+    lines_are = lines ∙ lines_more rows n p.lines element.Act less names.lines_are kind;
+    stops_are = stops ∙ stops_more rows n p.stops element.Act less names.stops_are kind;
+    starts_are = starts ∙ starts_more rows n b p.starts names.starts_are begins;
+    legs_count = legs ∙ sym (add-zero (cond b 0 (length p.legs))) ∙ legs_to_more rows n b element.Act (length p.legs) names.legs_count begins kind;
+  }
+
+  -- and what it leaves open
+  pub act_behind : (q : Progress) → is_held (field (get_or rows n []) 0) q.persons ≡ true → plan_number (get_or rows n []) ≡ length q.own
+      → q.last ≡ Some (act_by links p (get_or rows n []))
+      → Behind (tables_of links rows) (get_or rows n []) (first_row (drop (n + 1) rows)) q
+  act_behind q held numbered last = record {
+    held = held;
+    numbered = numbered;
+    last_is = rw kind (last ∙ ap (λ (a : Act). Some a) act_same);
+    kinded = ap is_neither kind;
+    goes_on = λ none. let yes : is_act (kind_of (get_or rows n [])) ≡ true = ap is_act kind in cc;
+  }
+
+module _ (links : List (List ℕ)) (ends : List (ℕ × ℕ)) (rows : List Row) (n : ℕ) (p : Progress) (r : IsReadTo links ends rows n p)
+    (x : Next links ends rows n p r) (kind : kind_of (get_or rows n []) ≡ element.Act) where
+  -- the activity goes on with the opened plan
+  pub act_in_plan : same_plan r.latest (get_or rows n []) ≡ true
+      → IsReadTo links ends rows (n + 1) (same_plan_act (with_kind p (get_or rows n [])) (act_by links p (get_or rows n [])))
+  act_in_plan plan =
+      let y = get_or rows n [] in
+      let tables = tables_of links rows in
+      let person = plan_of_person r.latest y plan in
+      let held : is_held (field y 0) p.persons ≡ true = rw (← same_name r.latest y person) r.behind.held in
+      let opened = vacant links ends rows n p r x (ap is_act kind) plan in
+      let g = r.groups in
+      let among = among_act tables (g.begun ++ r.latest ∷ []) y kind in
+      let before : p.acts ≡ acts_among tables (g.begun ++ r.latest ∷ []) = rw (opened, append-nil) at g.acts_are in
+      read_on links ends rows n _ x.none
+      (act_names links rows n p x.within r.names kind false (rw (r.is_latest, plan) refl) _
+      (sym (with_held p.persons (field y 0) held)) refl refl refl (sym (append-nil p.starts)) refl)
+      (act_behind links rows n p x.within r.names kind _ held (sym (plan_of_number r.latest y plan) ∙ r.behind.numbered) refl)
+      (record {
         earlier = g.earlier;
         others = g.others;
-        front = g.front ++ latest ∷ [];
-        begun = g.begun ++ latest ∷ [];
-        split = ap (λ (l : List Row). runs same_person l) (take_more rows n [] at.within) ∙ runs_on same_person (take n rows) g.earlier g.front latest y g.split person;
-        split_own = runs_on same_plan (g.front ++ latest ∷ []) g.others g.begun latest y g.split_own plan;
+        front = g.front ++ r.latest ∷ [];
+        begun = g.begun ++ r.latest ∷ [];
+        split = rw (take_more rows n [] x.within) (runs_on same_person (take n rows) g.earlier g.front r.latest y g.split person);
+        split_own = runs_on same_plan (g.front ++ r.latest ∷ []) g.others g.begun r.latest y g.split_own plan;
         plans_are = g.plans_are;
         own_are = g.own_are;
-        acts_are = ap (λ (l : List Act). l ++ at.act ∷ []) before ∙ ap (λ (a : Act). acts_among tables (g.begun ++ latest ∷ []) ++ a ∷ []) at.act_is
-            ∙ sym (acts_more tables (g.begun ++ latest ∷ []) y ∙ ap (λ (l : List Act). acts_among tables (g.begun ++ latest ∷ []) ++ l) (one_act tables y at.is_act_row));
-        legs_are = g.legs_are ∙ sym (append-nil (legs_among tables (g.begun ++ latest ∷ [])))
-            ∙ sym (legs_more tables (g.begun ++ latest ∷ []) y ∙ ap (λ (l : List Leg). legs_among tables (g.begun ++ latest ∷ []) ++ l) (no_leg tables y at.is_act_row));
-      },
-    )
+        acts_are = rw (among.0, before, act_same links rows n p x.within r.names kind);
+        legs_are = g.legs_are ∙ sym among.1;
+      })
+      (sound_in_plan tables ends p y _ r.sound opened (act_named links rows n p x.within r.names kind x.ok.linked))
 
--- the activity begins a further plan of the person
-pub act_of_new_plan : (links : List (List ℕ)) (rows : List Row) (n : ℕ) (latest : Row) (p : Progress) → (at : ActAt links rows n latest p) → same_person latest (get_or rows n []) ≡ true → same_plan latest (get_or rows n []) ≡ false
-    → jumps (Some latest) (get_or rows n []) ≡ false → begins_at rows n ≡ true → is_some p.last ≡ true
-    → Named rows (n + 1) (new_plan (with_kind p (get_or rows n [])) (n + 1) at.act)
-    × Behind (tables_of links rows) (get_or rows n []) (first_row (drop (n + 1) rows)) (new_plan (with_kind p (get_or rows n [])) (n + 1) at.act)
-    × Grouped (tables_of links rows) (take (n + 1) rows) (get_or rows n []) (new_plan (with_kind p (get_or rows n [])) (n + 1) at.act)
-act_of_new_plan links rows n latest p at person plan counted begins opened =
-    let y = get_or rows n [] in
-    let tables = tables_of links rows in
-    let g = at.groups in
-    let number = next_number latest y person plan counted in
-    let one_more : length (p.own ++ closed_of p ∷ []) ≡ length p.own + 1 = length-append p.own (closed_of p ∷ []) in (
-      names_same_person links rows n latest p true at person begins (new_plan (with_kind p y) (n + 1) at.act) refl refl refl refl refl refl,
-      record {
-        held = ap (λ (name : List ℕ). is_held name p.persons) (sym (same_name latest y person)) ∙ at.behind.held;
-        numbered = number ∙ ap (λ (m : ℕ). m + 1) at.behind.numbered ∙ sym one_more;
-        last_is = last_of tables y at.act at.is_act_row at.act_is;
-        kinded = kinded_act (kind_of y) at.is_act_row;
-        goes_on = λ none. no_end _ (kind_of y) at.is_act_row none;
-      },
-      record {
+  -- it begins a further plan of the person
+  pub act_of_new_plan : same_person r.latest (get_or rows n []) ≡ true → same_plan r.latest (get_or rows n []) ≡ false
+      → IsReadTo links ends rows (n + 1) (new_plan (with_kind p (get_or rows n [])) (n + 1) (act_by links p (get_or rows n [])))
+  act_of_new_plan person other =
+      let y = get_or rows n [] in
+      let tables = tables_of links rows in
+      let held : is_held (field y 0) p.persons ≡ true = rw (← same_name r.latest y person) r.behind.held in
+      let opened = closes links ends rows n p r x other in
+      let g = r.groups in
+      let among = among_act tables [] y kind in
+      read_on links ends rows n _ x.none
+      (act_names links rows n p x.within r.names kind true (rw (r.is_latest, other) refl) _
+      (sym (with_held p.persons (field y 0) held)) refl refl refl refl refl)
+      (act_behind links rows n p x.within r.names kind _ held
+      (rw (next_number r.latest y person other x.order.counted, r.behind.numbered, length-append p.own) refl) refl)
+      (record {
         earlier = g.earlier;
-        others = g.others ++ (g.begun ++ latest ∷ []) ∷ [];
-        front = g.front ++ latest ∷ [];
+        others = g.others ++ (g.begun ++ r.latest ∷ []) ∷ [];
+        front = g.front ++ r.latest ∷ [];
         begun = [];
-        split = ap (λ (l : List Row). runs same_person l) (take_more rows n [] at.within) ∙ runs_on same_person (take n rows) g.earlier g.front latest y g.split person;
-        split_own = runs_new same_plan (g.front ++ latest ∷ []) g.others g.begun latest y g.split_own plan;
+        split = rw (take_more rows n [] x.within) (runs_on same_person (take n rows) g.earlier g.front r.latest y g.split person);
+        split_own = runs_new same_plan (g.front ++ r.latest ∷ []) g.others g.begun r.latest y g.split_own other;
         plans_are = g.plans_are;
-        own_are = ap (λ (l : List PlanRows). l ++ closed_of p ∷ []) g.own_are
-            ∙ ap (λ (c : PlanRows). map (plan_among tables) g.others ++ c ∷ []) (closed_is tables (g.begun ++ latest ∷ []) p opened g.acts_are g.legs_are)
-            ∙ sym (map-append (plan_among tables) g.others ((g.begun ++ latest ∷ []) ∷ []));
-        acts_are = ap (λ (a : Act). a ∷ []) at.act_is ∙ sym (one_act tables y at.is_act_row);
-        legs_are = sym (no_leg tables y at.is_act_row);
-      },
-    )
+        own_are = own_closed tables (take n rows) r.latest p g opened;
+        acts_are = rw (among.0, act_same links rows n p x.within r.names kind);
+        legs_are = sym among.1;
+      })
+      (sound_new_plan tables ends p y (n + 1) _ r.sound (act_named links rows n p x.within r.names kind x.ok.linked))
 
-number_zero : (a : Bool) (m : ℕ) → (a && not (nat_eq m 0)) ≡ false → a ≡ true → m ≡ 0
-number_zero a m h p = grind (arith, nat_tests)
-
--- the activity begins a person
-pub act_of_new_person : (links : List (List ℕ)) (rows : List Row) (n : ℕ) (latest : Row) (p : Progress) → (at : ActAt links rows n latest p) → same_person latest (get_or rows n []) ≡ false
-    → starts_late (Some latest) (get_or rows n []) ≡ false → begins_at rows n ≡ true → is_some p.last ≡ true
-    → Named rows (n + 1) (new_person (with_kind p (get_or rows n [])) (get_or rows n []) (n + 1) at.act)
-    × Behind (tables_of links rows) (get_or rows n []) (first_row (drop (n + 1) rows)) (new_person (with_kind p (get_or rows n [])) (get_or rows n []) (n + 1) at.act)
-    × Grouped (tables_of links rows) (take (n + 1) rows) (get_or rows n []) (new_person (with_kind p (get_or rows n [])) (get_or rows n []) (n + 1) at.act)
-unfolding plans_among
-act_of_new_person links rows n latest p at person early begins opened =
-    let y = get_or rows n [] in
-    let tables = tables_of links rows in
-    let g = at.groups in
-    let count = legs_to_more rows n true element.Act (length p.legs) at.names.legs_count begins at.is_act_row in
-    let own_is : p.own ++ closed_of p ∷ [] ≡ map (plan_among tables) (runs same_plan (g.front ++ latest ∷ [])) =
-    ap (λ (l : List PlanRows). l ++ closed_of p ∷ []) g.own_are
-    ∙ ap (λ (c : PlanRows). map (plan_among tables) g.others ++ c ∷ []) (closed_is tables (g.begun ++ latest ∷ []) p opened g.acts_are g.legs_are)
-    ∙ sym (map-append (plan_among tables) g.others ((g.begun ++ latest ∷ []) ∷ []))
-    ∙ ap (λ (l : List (List Row)). map (plan_among tables) l) (sym g.split_own) in (
-      record {
-        persons_are = one_name person_in rows n p.persons (field y 0) at.within at.names.persons_are refl;
-        kinds_are = one_name kind_in rows n p.kinds (field y 3) at.within at.names.kinds_are (kind_in_act y at.is_act_row);
-        lines_are = unchanged line_in rows n p.lines at.within at.names.lines_are (line_in_act y at.is_act_row);
-        stops_are = unchanged stops_in rows n p.stops at.within at.names.stops_are (stops_in_act y at.is_act_row);
-        starts_are = starts_more rows n true p.starts at.names.starts_are begins;
-        legs_count = sym (add-zero 0) ∙ count;
-      },
-      record {
-        held = held_there p.persons (field y 0);
-        numbered = number_zero (not (same_person latest y)) (plan_number y) early (ap not person);
-        last_is = last_of tables y at.act at.is_act_row at.act_is;
-        kinded = kinded_act (kind_of y) at.is_act_row;
-        goes_on = λ none. no_end _ (kind_of y) at.is_act_row none;
-      },
-      record {
-        earlier = g.earlier ++ (g.front ++ latest ∷ []) ∷ [];
+  -- it begins a person
+  pub act_of_new_person : same_person r.latest (get_or rows n []) ≡ false → same_plan r.latest (get_or rows n []) ≡ false
+      → IsReadTo links ends rows (n + 1) (new_person (with_kind p (get_or rows n [])) (get_or rows n []) (n + 1) (act_by links p (get_or rows n [])))
+  act_of_new_person person other =
+      let y = get_or rows n [] in
+      let tables = tables_of links rows in
+      let opened = closes links ends rows n p r x other in
+      let g = r.groups in
+      let among = among_act tables [] y kind in
+      read_on links ends rows n _ x.none
+      (act_names links rows n p x.within r.names kind true (rw (r.is_latest, other) refl) _ refl refl refl refl refl refl)
+      (act_behind links rows n p x.within r.names kind _ (held_there p.persons (field y 0)) (first_number r.latest y person x.order.early) refl)
+      (record {
+        earlier = g.earlier ++ (g.front ++ r.latest ∷ []) ∷ [];
         others = [];
         front = [];
         begun = [];
-        split = ap (λ (l : List Row). runs same_person l) (take_more rows n [] at.within) ∙ runs_new same_person (take n rows) g.earlier g.front latest y g.split person;
+        split = rw (take_more rows n [] x.within) (runs_new same_person (take n rows) g.earlier g.front r.latest y g.split person);
         split_own = runs_one same_plan y;
-        plans_are = ap (λ (l : List (List PlanRows)). l ++ (p.own ++ closed_of p ∷ []) ∷ []) g.plans_are
-            ∙ ap (λ (c : List PlanRows). map (plans_among tables) g.earlier ++ c ∷ []) own_is
-            ∙ sym (map-append (plans_among tables) g.earlier ((g.front ++ latest ∷ []) ∷ []));
+        plans_are = plans_closed tables (take n rows) r.latest p g opened;
         own_are = refl;
-        acts_are = ap (λ (a : Act). a ∷ []) at.act_is ∙ sym (one_act tables y at.is_act_row);
-        legs_are = sym (no_leg tables y at.is_act_row);
-      },
-    )
+        acts_are = rw (among.0, act_same links rows n p x.within r.names kind);
+        legs_are = sym among.1;
+      })
+      (sound_new_person tables ends p (Some r.latest) (kind_of y) y (length p.legs) (n + 1) _ r.sound
+      (act_named links rows n p x.within r.names kind x.ok.linked) (few_own r.latest p r.behind.numbered) (ap not person) x.ok.together x.ok.few)

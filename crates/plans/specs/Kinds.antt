@@ -3,10 +3,7 @@ use Rattle.std.specs.Prelude.{ℕ, ◌-◌, Bool, true, false, bytes_eq, codes, 
 use Rattle.limits.specs.declared.TheConstants.{LAST_SECOND, MAX_PLANS}
 use Rattle.events.specs.declared.event.Mode.TheVariants as mode
 use Rattle.events.specs.Words.{mode_of}
-use Rattle.records.specs.Rows.{Row}
-use Rattle.records.specs.Fields.{field}
-use Rattle.records.specs.Numbers.{number_in}
-use Rattle.records.specs.Lists.{items_in}
+use Rattle.records.specs.{Fields.field, Lists.items_in, Numbers.number_in, Rows.Row}
 use Rattle.plans.specs.declared.kinds.ElementKind.{ElementKind}
 use Rattle.plans.specs.declared.kinds.ElementKind.TheVariants as element
 

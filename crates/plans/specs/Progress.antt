@@ -1,21 +1,17 @@
 -- The rows of plans.csv read one after the other, and what is known of those that are read.
-use Rattle.std.specs.Prelude.{◌≡◌, ◌≤◌, ◌<◌, ℕ, ◌+◌, Bool, true, false, if◌then◌else◌, List, [], ◌∷◌, ◌++◌, length, map, drop, take, Option, None, Some, is_some, option_to_list}
-use Rattle.std.specs.List.{list_all}
+use Rattle.std.specs.{List.list_all, Prelude.◌≡◌, Prelude.◌≤◌, Prelude.◌<◌, Prelude.ℕ}
+use Rattle.std.specs.Prelude.{◌+◌, Bool, true, false, if◌then◌else◌, List, [], ◌∷◌, ◌++◌, length, map, drop, take, Option, None, Some, is_some, option_to_list}
 use Rattle.limits.specs.declared.TheConstants.{MAX_LEGS, MAX_PERSONS, MAX_ROUTE_LINKS}
 use Rattle.plans.specs.declared.kinds.ElementKind.TheVariants as element
-use Rattle.events.specs.declared.event.Mode.{Mode}
-use Rattle.events.specs.Names.{is_name, is_held, number_of, with_name}
-use Rattle.records.specs.Rows.{Row}
-use Rattle.records.specs.Fields.{field}
-use Rattle.records.specs.Faults.{first_fault}
-use Rattle.rows.specs.declared.plan.Act.{Act}
-use Rattle.rows.specs.declared.plan.Leg.{Leg}
-use Rattle.rows.specs.Plan.{has_end}
-use Rattle.rows.specs.PlanRows.{PlanRows}
+use Rattle.events.specs.{Names.is_name, Names.is_held, Names.number_of, Names.with_name, declared.event.Mode.Mode}
+use Rattle.records.specs.{Faults.first_fault, Fields.field, Rows.Row}
+use Rattle.rows.specs.{Plan.has_end, PlanRows.PlanRows, declared.plan.Act.Act, declared.plan.Leg.Leg}
 use Rattle.plans.specs.Kinds.{kind_of, is_act, is_car, is_transit, plan_number, items_of, item}
-use Rattle.plans.specs.Refusals.{is_misfit, lacks_element_name, lacks_name, has_bad_time, has_bad_number, comes_again, lacks_link, is_out_of_order, is_broken, lacks_mode, is_one_too_many, begins_person, begins_plan, is_neither, ends_plan, same_person, same_plan}
-use Rattle.plans.specs.Runs.{runs}
-use Rattle.plans.specs.Values.{Tables, PlanFileRows, tables_of, person_in, kind_in, line_in, stops_in, named_by, act_of, leg_by, endless, acts_among, legs_among, plan_among, plans_among, row_before, first_row, legs_to, starts_to, reason_at, is_act_named, is_leg_named, is_plan_named, are_plans}
+use Rattle.plans.specs.Refusals.{is_misfit, lacks_element_name, lacks_name, has_bad_time, has_bad_number, comes_again, lacks_link, is_out_of_order, is_broken}
+use Rattle.plans.specs.Refusals.{lacks_mode, is_one_too_many, begins_person, begins_plan, is_neither, ends_plan, same_person, same_plan}
+use Rattle.plans.specs.{Runs.runs, Values.Tables, Values.PlanFileRows}
+use Rattle.plans.specs.Values.{tables_of, person_in, kind_in, line_in, stops_in, named_by, act_of, leg_by, endless, acts_among, legs_among, plan_among}
+use Rattle.plans.specs.Values.{plans_among, row_before, first_row, legs_to, starts_to, reason_at, is_act_named, is_leg_named, is_plan_named, are_plans}
 
 -- what the rows so far give: the plans of the persons before the last one, his plans before the open one, and that one's activities and legs
 pub record Progress : Type 0 where

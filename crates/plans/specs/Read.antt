@@ -4,10 +4,8 @@ use Rattle.edge_files.specs.declared.reasons.RowStop.{RowStop}
 use Rattle.edge_files.specs.declared.reasons.RowStop.TheVariants as stop
 use Rattle.records.specs.Rows.{Row}
 use Rattle.rows.specs.PlanRows.{plan_rows, all_plan_rows}
-use Rattle.plans.specs.Values.{PlanFileRows, rows_fault}
-use Rattle.plans.specs.Progress.{Progress, IsReadTo}
-use Rattle.plans.specs.declared.plan_file.PlanFile.{PlanFile}
-use Rattle.plans.specs.declared.rows_read.RowsRead.{RowsRead}
+use Rattle.plans.specs.{Progress.Progress, Progress.IsReadTo, Values.PlanFileRows, Values.rows_fault}
+use Rattle.plans.specs.declared.{plan_file.PlanFile.PlanFile, rows_read.RowsRead.RowsRead}
 
 -- what the rows so far give
 abbrev pub progress_of : RowsRead → Progress

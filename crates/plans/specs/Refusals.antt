@@ -1,18 +1,16 @@
 -- Why a row of plans.csv is refused: one definition for each reason, and the least reason of a row.
-use Rattle.std.specs.Prelude.{ℕ, ◌+◌, Bool, true, false, not, ◌&&◌, ◌||◌, nat_eq, nat_le, nat_lt, bytes_eq, is_none, is_some, List, [], ◌∷◌, length, Option, None, Some, unwrap_or}
+use Rattle.std.specs.Prelude.{ℕ, ◌+◌, Bool, true, false, not, ◌&&◌, ◌||◌, nat_eq, nat_le, nat_lt, bytes_eq, is_none, is_some, List, [], ◌∷◌, length, Option}
+use Rattle.std.specs.Prelude.{None, Some, unwrap_or}
 use Rattle.limits.specs.declared.TheConstants.{MAX_LEGS, MAX_PERSONS, MAX_ROUTE_LINKS}
 use Rattle.edge_files.specs.declared.reasons.Reason.{Reason}
 use Rattle.edge_files.specs.declared.reasons.Reason.TheVariants as reason
 use Rattle.events.specs.declared.event.Mode.TheVariants as mode
 use Rattle.events.specs.Names.{number_of}
-use Rattle.records.specs.Rows.{Row}
-use Rattle.records.specs.Fields.{field, holds_name, is_blank}
-use Rattle.records.specs.Lists.{are_names, numbers_of}
-use Rattle.records.specs.Faults.{least}
+use Rattle.records.specs.{Faults.least, Fields.field, Fields.holds_name, Fields.is_blank, Lists.are_names, Lists.numbers_of, Rows.Row}
 use Rattle.rows.specs.Joined.{is_joined}
 use Rattle.plans.specs.declared.kinds.ElementKind.{ElementKind}
-use Rattle.plans.specs.declared.kinds.ElementKind.TheVariants as element
 use Rattle.plans.specs.Kinds.{kind_of, is_act, is_leg, is_car, plan_in, plan_number, end_in, seconds_in, items_of}
+use Rattle.plans.specs.declared.kinds.ElementKind.TheVariants as element
 
 -- a field has bytes that is empty for such an element: the route of an activity; the link and the time of a leg by car or transit; the link and the route of a teleported leg
 unfoldable pub has_surplus : ElementKind → Row → Bool

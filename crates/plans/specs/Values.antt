@@ -1,26 +1,17 @@
 -- What plans.csv gives where no row is refused: names, and each person's plans.
-use Rattle.std.specs.Prelude.{ℕ, suc, zero, ◌+◌, Bool, true, ◌&&◌, nat_lt, nat_le, if◌then◌else◌, List, [], ◌∷◌, ◌++◌, length, map, drop, take, get_or, Option, None, Some, unwrap_or}
-use Rattle.std.specs.List.{flat_map, filter, list_all}
-use Rattle.edge_files.specs.declared.reasons.Reason.{Reason}
-use Rattle.edge_files.specs.declared.reasons.RowFault.{RowFault}
+use Rattle.std.specs.{List.flat_map, List.filter, List.list_all, Prelude.ℕ, Prelude.suc, Prelude.zero, Prelude.◌+◌, Prelude.Bool}
+use Rattle.std.specs.Prelude.{true, ◌&&◌, nat_lt, nat_le, if◌then◌else◌, List, [], ◌∷◌, ◌++◌, length, map, drop, take, get_or, Option, None, Some, unwrap_or}
+use Rattle.edge_files.specs.declared.reasons.{Reason.Reason, RowFault.RowFault}
 use Rattle.limits.specs.declared.TheConstants.{MAX_PLANS}
-use Rattle.events.specs.declared.event.Mode.{Mode}
+use Rattle.events.specs.{Names.number_of, Names.firsts, declared.event.Mode.Mode}
 use Rattle.events.specs.declared.event.Mode.TheVariants as mode
-use Rattle.events.specs.Names.{number_of, firsts}
-use Rattle.records.specs.Rows.{Row}
-use Rattle.records.specs.Fields.{field}
-use Rattle.records.specs.Faults.{first_fault}
-use Rattle.records.specs.Files.{head_reason, body_of}
-use Rattle.plans.specs.declared.kinds.ElementKind.{ElementKind}
-use Rattle.plans.specs.declared.kinds.ElementKind.TheVariants as element
-use Rattle.rows.specs.declared.plan.Act.{Act}
-use Rattle.rows.specs.declared.plan.Leg.{Leg}
-use Rattle.rows.specs.declared.plan.Leg.TheVariants as leg
-use Rattle.rows.specs.PlanRows.{PlanRows}
+use Rattle.records.specs.{Faults.first_fault, Fields.field, Files.head_reason, Files.body_of, Rows.Row}
 use Rattle.plans.specs.Kinds.{kind_of, is_act, is_leg, is_transit, end_in, seconds_in, items_of, item, plans_header}
-use Rattle.rows.specs.Joined.{is_joined}
 use Rattle.plans.specs.Refusals.{row_reason, same_person, same_plan, begins_plan, route_of}
-use Rattle.plans.specs.Runs.{runs}
+use Rattle.plans.specs.{Runs.runs, declared.kinds.ElementKind.ElementKind}
+use Rattle.plans.specs.declared.kinds.ElementKind.TheVariants as element
+use Rattle.rows.specs.{Joined.is_joined, PlanRows.PlanRows, declared.plan.Act.Act, declared.plan.Leg.Leg}
+use Rattle.rows.specs.declared.plan.Leg.TheVariants as leg
 
 -- the names that numbers stand for
 pub record Tables : Type 0 where

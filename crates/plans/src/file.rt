@@ -1,15 +1,10 @@
-ghost use Rattle.std.specs.Prelude.{◌≡◌, ◌<◌, ◌≤◌, ◌+◌, ◌^◌, length, map, option_map, is_some};
-ghost use Rattle.std.specs.Prelude.{true, None, Some, IfOk, All};
+ghost use Rattle.std.specs.Prelude.{◌≡◌, ◌<◌, ◌≤◌, ◌+◌, ◌^◌, length, map, option_map, is_some, true, None, Some, IfOk, All};
 ghost use Rattle.csv.specs.Records.{fields_of};
-ghost use Rattle.records.specs.Faults.{Answers};
+ghost use Rattle.records.specs.{Faults.Answers, Fields.field, Lists.numbers_of};
 ghost use Rattle.plans.specs.Values.{row_before, row_behind, plans_fault, file_rows, rows_fault, values_of};
 ghost use Rattle.plans.specs.Progress.{IsReadTo, IsSound, RowAble, step_first, step_act, step_leg, finish};
-ghost use Rattle.plans.specs.Read.{progress_of, file_rows_of, Reads};
-ghost use Rattle.events.specs.Names.{number_of, is_name};
-ghost use Rattle.events.specs.declared.event.Mode.{Mode};
-ghost use Rattle.records.specs.Fields.{field};
-ghost use Rattle.records.specs.Lists.{numbers_of};
-ghost use Rattle.plans.specs.Kinds.{kind_of, is_car, items_of};
+ghost use Rattle.plans.specs.{Read.progress_of, Read.file_rows_of, Read.Reads, Kinds.kind_of, Kinds.is_car, Kinds.items_of};
+ghost use Rattle.events.specs.{Names.number_of, Names.is_name, declared.event.Mode.Mode};
 ghost use Rattle.plans.specs.declared.kinds.ElementKind.TheVariants as element;
 
 use crate::kinds::{ElementKind, kind_of};

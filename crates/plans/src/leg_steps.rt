@@ -1,17 +1,14 @@
-ghost use Rattle.std.specs.Prelude.{◌≡◌, ◌<◌, ◌≤◌, ℕ, List, length, map, option_map, true, false, IfOk};
-ghost use Rattle.std.specs.Prelude.{OnOk, IfSome, is_some, Some};
+ghost use Rattle.std.specs.Prelude.{◌≡◌, ◌<◌, ◌≤◌, ℕ, List, length, map, option_map, true, false, IfOk, OnOk, IfSome, is_some, Some};
 ghost use Rattle.std.specs.Prelude.{get_or};
 ghost use Rattle.csv.specs.Records.{fields_of};
 ghost use Rattle.limits.specs.declared.TheConstants.{MAX_ROUTE_LINKS};
 ghost use Rattle.events.specs.Names.{number_of, with_name};
 ghost use Rattle.records.specs.Lists.{numbers_of, are_names};
-ghost use Rattle.plans.specs.Refusals.{lacks_element_name, has_bad_time, lacks_link};
+ghost use Rattle.plans.specs.{Refusals.lacks_element_name, Refusals.has_bad_time, Refusals.lacks_link, Kinds.is_car, Kinds.is_transit};
+ghost use Rattle.plans.specs.{Kinds.items_of, Kinds.item, Kinds.seconds_in, Values.number_in_table, Values.leg_by, Progress.LegAble};
+ghost use Rattle.plans.specs.{Progress.step_leg, Progress.lines_with, Progress.stops_with, Progress.ends_well, Read.progress_of};
 ghost use Rattle.plans.specs.declared.kinds.ElementKind.TheVariants as element;
 ghost use Rattle.rows.specs.Plan.{is_leg, is_teleported};
-ghost use Rattle.plans.specs.Kinds.{is_car, is_transit, items_of, item, seconds_in};
-ghost use Rattle.plans.specs.Values.{number_in_table, leg_by};
-ghost use Rattle.plans.specs.Progress.{LegAble, step_leg, lines_with, stops_with, ends_well};
-ghost use Rattle.plans.specs.Read.{progress_of};
 
 use crate::kinds::seconds_in;
 use crate::open_plan::with_leg;

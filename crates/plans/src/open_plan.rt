@@ -1,9 +1,8 @@
 ghost use Rattle.std.specs.Prelude.{◌≡◌, ◌≤◌, ◌<◌, ◌∷◌, ◌++◌, [], length, true, None, Some, IfOk};
 ghost use Rattle.std.specs.List.{list_all};
 ghost use Rattle.limits.specs.declared.TheConstants.{MAX_LEGS};
-ghost use Rattle.rows.specs.Plan.{has_end, is_leg};
+ghost use Rattle.rows.specs.{Plan.has_end, Plan.is_leg, PlanRows.plan_rows};
 ghost use Rattle.plans.specs.Values.{endless};
-ghost use Rattle.rows.specs.PlanRows.{plan_rows};
 
 use rows::{Act, Acts, Leg, Legs, Plan};
 use std::alloc::{AllocError, Global};

@@ -1,12 +1,11 @@
 ghost use Rattle.std.specs.Prelude.{◌≡◌, length, map, option_map, get_or, true};
 ghost use Rattle.csv.specs.Records.{fields_of};
 ghost use Rattle.events.specs.Names.{number_of};
-ghost use Rattle.records.specs.Fields.{field};
-ghost use Rattle.records.specs.Lists.{items_in, numbers_of};
+ghost use Rattle.records.specs.{Fields.field, Lists.items_in, Lists.numbers_of};
 ghost use Rattle.plans.specs.Kinds.{kind_of, is_car, items_of};
 ghost use Rattle.plans.specs.Refusals.{has_surplus, is_misfit, lacks_element_name, lacks_name, has_bad_time, has_bad_number, lacks_link};
-ghost use Rattle.rows.specs.Joined.{is_joined};
 ghost use Rattle.plans.specs.Refusals.{is_broken, lacks_mode, is_one_too_many, kind_reason, row_reason, comes_again};
+ghost use Rattle.rows.specs.Joined.{is_joined};
 
 use crate::kinds::{ElementKind, end_in, is_car, is_leg, kind_of, plan_in, seconds_in};
 use crate::orders::{begins_person, is_out_of_order};

@@ -1,16 +1,11 @@
-ghost use Rattle.std.specs.Prelude.{◌≡◌, ◌<◌, ◌++◌, ◌∷◌, [], length, map, option_map, true, false};
-ghost use Rattle.std.specs.Prelude.{IfOk, OnOk, is_some, Some, nat_eq};
+ghost use Rattle.std.specs.Prelude.{◌≡◌, ◌<◌, ◌++◌, ◌∷◌, [], length, map, option_map, true, false, IfOk, OnOk, is_some, Some, nat_eq};
 ghost use Rattle.csv.specs.Records.{fields_of};
 ghost use Rattle.events.specs.Names.{number_of, with_name, is_name};
-ghost use Rattle.records.specs.Fields.{field, holds_name};
-ghost use Rattle.records.specs.Lists.{numbers_of, are_names};
-ghost use Rattle.rows.specs.Plan.{is_leg, has_end};
-ghost use Rattle.rows.specs.PlanRows.{plan_rows};
+ghost use Rattle.records.specs.{Fields.field, Fields.holds_name, Lists.numbers_of, Lists.are_names};
+ghost use Rattle.rows.specs.{Plan.is_leg, Plan.has_end, PlanRows.plan_rows};
 ghost use Rattle.plans.specs.Kinds.{kind_of, is_car, items_of, item};
-ghost use Rattle.plans.specs.Refusals.{begins_plan, begins_person};
-ghost use Rattle.plans.specs.Values.{act_of};
 ghost use Rattle.plans.specs.Progress.{closed_acts, new_person, new_plan, same_plan_act, put_act, step_act};
-ghost use Rattle.plans.specs.Read.{progress_of};
+ghost use Rattle.plans.specs.{Read.progress_of, Refusals.begins_plan, Refusals.begins_person, Values.act_of};
 
 use crate::kinds::{ElementKind, end_in, is_car, kind_of, seconds_in};
 use crate::open_plan::{OpenPlan, begun, closed, with_act, with_leg};

@@ -3,16 +3,10 @@ use Rattle.std.specs.Prelude.{IfOk}
 use Rattle.std.proofs.Common.{◌≡◌, Result, Ok, Err, true, sym, ◌∙◌, subst}
 use Rattle.command_line.specs.declared.commands.Command.{Command}
 use Rattle.command_line.specs.declared.commands.Command.TheVariants as command
-use Rattle.edge_files.specs.Inputs.{Left}
-use Rattle.edge_files.specs.declared.files.InFile.{InFile}
+use Rattle.edge_files.{proofs.Placed.is_among, proofs.Placed.file_at_place, specs.Files.in_place, specs.Inputs.Left, specs.declared.files.InFile.InFile}
 use Rattle.edge_files.specs.declared.files.InFile.TheVariants as file
-use Rattle.edge_files.specs.Files.{in_place}
-use Rattle.edge_files.proofs.Placed.{is_among, file_at_place}
-use Rattle.scenario.specs.Texts.{Texts}
-use Rattle.scenario.specs.Views.{texts_of}
-use Rattle.scenario.specs.declared.files.Files.{Files}
-use Rattle.qsim_top.specs.Came.{AreRead, HasFiles, reads_files}
-use Rattle.qsim_top.specs.Contents.{Contents, AreLeft, AreAlike, texts_in}
+use Rattle.scenario.specs.{Texts.Texts, Views.texts_of, declared.files.Files.Files}
+use Rattle.qsim_top.specs.{Came.AreRead, Came.HasFiles, Came.reads_files, Contents.Contents, Contents.AreLeft, Contents.AreAlike, Contents.texts_in}
 
 pub alike_texts : (a b : Texts) → AreAlike a b → a ≡ b
 alike_texts a b alike = λ i f. each f i

@@ -1,21 +1,14 @@
 -- What comes of an answer, by what came of its effects.
-use Rattle.std.specs.Prelude.{IfOk}
 use Rattle.std.proofs.Common.{◌≡◌, ◌⊎◌, ◌≤◌, Bool, true, false, List, Result, Ok, Err, OnOk, OnErr, refl, sym, ◌∙◌, ap, subst, inl, inr, arith}
-use Rattle.std.specs.List.{list_all}
-use Rattle.edge_files.specs.declared.effects.EffectError.{EffectError}
+use Rattle.std.specs.{List.list_all, Prelude.IfOk}
+use Rattle.edge_files.specs.{Causes.Rose, Effects.all_steps, Effects.has_save, Keeping.StaysTold, World.World, World.Does, World.DoesPart}
+use Rattle.edge_files.specs.declared.effects.{Effect.Effect, EffectError.EffectError}
 use Rattle.edge_files.specs.declared.effects.EffectError.TheVariants as error
-use Rattle.edge_files.specs.declared.effects.Effect.{Effect}
-use Rattle.edge_files.specs.Causes.{Rose}
-use Rattle.edge_files.specs.Effects.{all_steps, has_save}
-use Rattle.edge_files.specs.Keeping.{StaysTold}
-use Rattle.edge_files.specs.World.{World, Does, DoesPart}
 use Rattle.iterations.specs.Performed.{Moment, IsPerformed}
-use Rattle.qsim_top.specs.declared.answers.Answer.{Answer}
-use Rattle.qsim_top.specs.declared.answers.Status.{Status}
-use Rattle.qsim_top.specs.declared.answers.Status.TheVariants as status
-use Rattle.qsim_top.specs.Answer.{is_whole, is_of_words, is_report, reports_alone, Answers, IsSound, IsAnswer}
-use Rattle.qsim_top.specs.Came.{status_after, is_fault, HasCauses, IsCarriedOut}
 use Rattle.qsim_top.proofs.Reports.{only_reports}
+use Rattle.qsim_top.specs.Answer.{is_whole, is_of_words, is_report, reports_alone, Answers, IsSound, IsAnswer}
+use Rattle.qsim_top.specs.{Came.status_after, Came.is_fault, Came.HasCauses, Came.IsCarriedOut, declared.answers.Answer.Answer, declared.answers.Status.Status}
+use Rattle.qsim_top.specs.declared.answers.Status.TheVariants as status
 
 -- a status of an answer is none of the others
 whole_is_not : (came other : Status) → is_whole came ≡ true → is_whole other ≡ false → came ≡ other → ⊥

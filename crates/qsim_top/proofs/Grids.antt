@@ -1,19 +1,12 @@
 -- A grid is told, and then its scenario is run.
 use Rattle.std.proofs.Common.{◌≡◌, ℕ, false, Result, Ok, Err, refl}
-use Rattle.edge_files.specs.declared.effects.EffectError.{EffectError}
+use Rattle.edge_files.specs.{Effects.all_steps, World.byte_steps, declared.effects.EffectError.EffectError}
 use Rattle.edge_files.specs.declared.files.OutFile.TheVariants as out
-use Rattle.edge_files.specs.Effects.{all_steps}
-use Rattle.edge_files.specs.World.{byte_steps}
-use Rattle.iterations.specs.Acts.{acts}
-use Rattle.iterations.specs.Performed.{Moment, IsPerformed}
-use Rattle.iterations.proofs.Outside.{first_failed, one_then}
+use Rattle.iterations.{proofs.Outside.first_failed, proofs.Outside.one_then, specs.Acts.acts, specs.Performed.Moment, specs.Performed.IsPerformed}
 use Rattle.scenario.specs.FilesToScenario.{ScenarioRows}
-use Rattle.qsim_top.specs.declared.answers.Status.{Status}
-use Rattle.qsim_top.specs.declared.answers.Status.TheVariants as status
-use Rattle.qsim_top.specs.Answer.{run_rows_of, grid_answer}
-use Rattle.qsim_top.specs.Came.{status_after, IsCarriedOut}
-use Rattle.qsim_top.specs.Texts.{grid_line}
 use Rattle.qsim_top.proofs.Ending.{ended_as}
+use Rattle.qsim_top.specs.{Answer.run_rows_of, Answer.grid_answer, Came.status_after, Came.IsCarriedOut, Texts.grid_line, declared.answers.Status.Status}
+use Rattle.qsim_top.specs.declared.answers.Status.TheVariants as status
 
 pub grid_done : (size seed : ℕ) (S : ScenarioRows) (came : Status) (a b c : Moment) (r : Result (Unit {0}) EffectError)
     → came ≡ status_after status.Done r → IsPerformed {T = Unit {0}} false a b (byte_steps out.Report (grid_line size seed)) (Ok tt)

@@ -3,9 +3,7 @@ use Rattle.scenario.proofs.Common.{InFile, Texts}
 use Rattle.traffic.proofs.Common.{◌≡◌, ℕ, List, ◌∙◌, length, ap, refl, sym, [], ◌∷◌, arith, ◌<◌, true, ◌+◌, Bool, inl, inr, ◌≤◌, suc, zero, get_or, ◌≢◌}
 use Rattle.traffic.proofs.Common.{and_parts, cases_lt, eqb-true, Some, Option, ◌&&◌, nat_eq}
 use Rattle.std.proofs.lemmas.List.{get_or_default}
-use Rattle.edge_files.specs.Files.{in_place}
-use Rattle.edge_files.specs.Inputs.{Left, OthersStay}
-use Rattle.edge_files.specs.declared.files.TheConstants.{SCENARIO_FILES}
+use Rattle.edge_files.specs.{Files.in_place, Inputs.Left, Inputs.OthersStay, declared.files.TheConstants.SCENARIO_FILES}
 use Rattle.qsim_top.specs.Contents.{Contents, AreLeft, AreAlike, text_of, texts_in}
 
 -- the files have these places, one after the other

@@ -1,42 +1,25 @@
 -- Every day is lawful, and those of files without a fault follow the plans and go in parts.
 use Rattle.scenario.proofs.Common.{scenario_fault, scenario_rows, ScenarioRows, Texts}
-use Rattle.traffic.proofs.Common.{◌≡◌, ℕ, List, ◌∙◌, length, sym, ◌<◌, subst, All-from_recursion, None, PlanRows, world_at, turns_of}
-use Rattle.traffic.proofs.Common.{Setup, day}
-use Rattle.traffic.specs.declared.stage.Stage.TheVariants.{Buffer}
-use Rattle.traffic.proofs.Order.{day-ascends}
+use Rattle.scenario.specs.FilesToScenario.{conflicts_in}
+use Rattle.traffic.proofs.Common.{◌≡◌, ℕ, List, ◌∙◌, length, sym, ◌<◌, subst, All-from_recursion, None, PlanRows, world_at, turns_of, Setup, day}
+use Rattle.traffic.{proofs.Order.day-ascends, specs.declared.stage.Stage.TheVariants.Buffer}
 use Rattle.law_one_place.proofs.Turns.{always_kept}
-use Rattle.law_capacity.specs.Moves.{IsElsewhere}
-use Rattle.law_capacity.proofs.Queues.{day_storage}
-use Rattle.law_capacity.proofs.Elsewhere.{in_time, no_buffer}
-use Rattle.law_capacity.proofs.Flow.{day_flow}
-use Rattle.law_signals.proofs.Days.{day_keeps, never_together}
-use Rattle.law_matches_plans.proofs.InTime.{day_until}
+use Rattle.law_capacity.{proofs.Elsewhere.in_time, proofs.Elsewhere.no_buffer, proofs.Flow.day_flow, proofs.Queues.day_storage, specs.Moves.IsElsewhere}
+use Rattle.law_signals.{proofs.Days.day_keeps, proofs.Days.never_together, specs.Signals.NeverTogether}
+use Rattle.law_matches_plans.proofs.{InTime.day_until, ScoredTowns.rows_scored, Towns.persons_are, Towns.rows_sound, Towns.rows_told}
 use Rattle.law_sound_setups.proofs.Laws.{day_sound}
-use Rattle.law_matches_plans.proofs.Towns.{persons_are, rows_sound, rows_told}
-use Rattle.law_matches_plans.proofs.ScoredTowns.{rows_scored}
 use Rattle.law_partitions_of_towns.proofs.Towns.{rows_go}
-use Rattle.town.specs.Rows.{IsTown}
-use Rattle.town.specs.Setups.{setup_of}
+use Rattle.town.specs.{Rows.IsTown, Setups.setup_of}
 use Rattle.law_in_range.specs.Setups.{IsPlanIn}
 use Rattle.law_replanning.specs.Memories.{IsMemoryIn}
 use Rattle.plan_memory.specs.Memories.{MemoryRows, chosen_plan}
-use Rattle.iterations.specs.Runs.{RunRows}
-use Rattle.iterations.specs.Acts.{memories_at}
-use Rattle.iterations.specs.Days.{followed_plans, day_in}
 use Rattle.iterations.proofs.Staying.{always_in, followed_in, always_count}
-use Rattle.law_valid_files.specs.Valid.{IsScenario}
-use Rattle.signals.specs.Signals.{AreNeverGreen}
-use Rattle.law_valid_files.proofs.Valid.{scenario_valid}
-use Rattle.law_valid_files.proofs.Conflicts.{conflicts_kept}
+use Rattle.iterations.specs.{Acts.memories_at, Days.followed_plans, Days.day_in, Runs.RunRows}
+use Rattle.law_valid_files.{proofs.Conflicts.conflicts_kept, proofs.Valid.scenario_valid, specs.Valid.IsScenario}
+use Rattle.signals.specs.{Signals.AreNeverGreen, declared.conflict.Conflict.Conflict}
 use Rattle.day_scores.specs.Standing.{AreScored}
-use Rattle.std.proofs.lemmas.List.{length-map}
-use Rattle.std.proofs.lemmas.List.Elements.{All-weaker}
-use Rattle.std.specs.Prelude.{All, Bool}
-use Rattle.signals.specs.declared.conflict.Conflict.{Conflict}
-use Rattle.scenario.specs.FilesToScenario.{conflicts_in}
-use Rattle.law_signals.specs.Signals.{NeverTogether}
-use Rattle.qsim_top.specs.Answer.{run_rows_of}
-use Rattle.qsim_top.specs.Laws.{day_of, IsLawful, FollowsPlans, KeepsConflicts, GoesInAnyParts}
+use Rattle.std.{proofs.lemmas.List.length-map, proofs.lemmas.List.Elements.All-weaker, specs.Prelude.All, specs.Prelude.Bool}
+use Rattle.qsim_top.specs.{Answer.run_rows_of, Laws.day_of, Laws.IsLawful, Laws.FollowsPlans, Laws.KeepsConflicts, Laws.GoesInAnyParts}
 
 pub lawful : (S : Setup) → IsLawful S
 lawful S = record {

@@ -1,13 +1,10 @@
 -- A refusal writes to the report alone.
 use Rattle.traffic.proofs.Common.{◌≡◌, ℕ, List, ◌∙◌, ap, refl, [], ◌∷◌, true, ◌++◌, Bool, subst, false, ◌≢◌, cond, list_all, and_parts}
 use Rattle.std.specs.Io.KnownBytes.{Appends}
-use Rattle.edge_files.specs.declared.files.OutFile.{OutFile}
+use Rattle.edge_files.{proofs.Written.bytes_of-append, specs.Effects.steps_of, specs.Effects.all_steps, specs.World.World}
+use Rattle.edge_files.specs.{World.byte_steps, World.bytes_of, World.is_same, World.Does, declared.effects.Effect.Effect, declared.files.OutFile.OutFile}
 use Rattle.edge_files.specs.declared.files.OutFile.TheVariants as out
-use Rattle.edge_files.specs.declared.effects.Effect.{Effect}
 use Rattle.edge_files.specs.declared.effects.Effect.TheVariants as effect
-use Rattle.edge_files.specs.Effects.{steps_of, all_steps}
-use Rattle.edge_files.specs.World.{World, byte_steps, bytes_of, is_same, Does}
-use Rattle.edge_files.proofs.Written.{bytes_of-append}
 use Rattle.qsim_top.specs.Answer.{is_report, OnlyReports}
 
 other_file : (file : OutFile) → file ≢ out.Report → is_same file out.Report ≡ false

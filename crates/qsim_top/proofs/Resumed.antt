@@ -1,40 +1,25 @@
 -- Going on from what is kept.
 use Rattle.std.proofs.Common.{◌≡◌, ◌≤◌, ℕ, true, false, List, [], ◌∷◌, Option, None, Some, Ok, Err, refl, sym, ◌∙◌, ap, subst, inl, inr, arith}
-use Rattle.std.proofs.lemmas.Bool.{and_from}
-use Rattle.std.specs.Prelude.{option_map}
-use Rattle.std.specs.List.{AllByRecursion as Each}
-use Rattle.std.proofs.lemmas.List.Elements.{recursion_from_All}
-use Rattle.edge_files.specs.declared.keeping.KeptRow.{KeptRow}
-use Rattle.edge_files.specs.declared.keeping.KeepFail.{KeepFail}
-use Rattle.edge_files.specs.declared.keeping.KeepFail.TheVariants as fail
-use Rattle.edge_files.specs.Causes.{KeepHasCause}
-use Rattle.edge_files.specs.Effects.{all_steps}
-use Rattle.edge_files.specs.Keeping.{Kept, Told, Stays, StaysTold, StaysIfTold}
+use Rattle.std.{proofs.lemmas.Bool.and_from, proofs.lemmas.List.Elements.recursion_from_All, specs.List.AllByRecursion as Each, specs.Prelude.option_map}
+use Rattle.edge_files.proofs.{Worlds.does_then, Worlds.part_then, Worlds.part_nothing, Written.writes_nothing}
+use Rattle.edge_files.specs.{Causes.KeepHasCause, Effects.all_steps, Keeping.Kept, Keeping.Told, Keeping.Stays, Keeping.StaysTold, Keeping.StaysIfTold}
 use Rattle.edge_files.specs.World.{World, Written, Step, outside, KeptBecomesIfTold, Does, DoesPart}
-use Rattle.edge_files.proofs.Written.{writes_nothing}
-use Rattle.edge_files.proofs.Worlds.{does_then, part_then, part_nothing}
-use Rattle.keep.specs.declared.reading.KeptError.{KeptError}
-use Rattle.keep.specs.declared.reading.KeptError.TheVariants as kept_stop
-use Rattle.keep.specs.Fitting.{IsKeptMemory, AreMemories, AreRowsOf, IsForeignAt, IsRead}
+use Rattle.edge_files.specs.declared.keeping.{KeepFail.KeepFail, KeptRow.KeptRow}
+use Rattle.edge_files.specs.declared.keeping.KeepFail.TheVariants as fail
 use Rattle.keep.proofs.Either.{one_place}
+use Rattle.keep.specs.{Fitting.IsKeptMemory, Fitting.AreMemories, Fitting.AreRowsOf, Fitting.IsForeignAt, Fitting.IsRead, declared.reading.KeptError.KeptError}
+use Rattle.keep.specs.declared.reading.KeptError.TheVariants as kept_stop
 use Rattle.plan_memory.specs.Memories.{MemoryRows}
 use Rattle.law_replanning.specs.Memories.{hold_fitting, all_hold_fitting}
 use Rattle.learning.specs.Ranges.{AreInRange}
-use Rattle.iterations.specs.Runs.{RunRows, CanRun}
-use Rattle.iterations.specs.Performed.{Moment, moment}
+use Rattle.iterations.specs.{Performed.Moment, Performed.moment, Runs.RunRows, Runs.CanRun}
 use Rattle.scenario.specs.FilesToScenario.{ScenarioRows}
 use Rattle.town.specs.Rows.{TownRows}
 use Rattle.command_line.specs.declared.commands.Command.TheVariants as command
-use Rattle.qsim_top.specs.declared.answers.Answer.{Answer}
-use Rattle.qsim_top.specs.declared.answers.Status.{Status}
+use Rattle.qsim_top.specs.{declared.answers.Answer.Answer, declared.answers.Status.Status, Answer.report, Answer.resumed_answer, Answer.Resumes, Answer.Answers}
+use Rattle.qsim_top.specs.{Came.HasCauses, Came.IsCarriedOut, Came.IsWorked, declared.resuming.Held.Held, Held.held_view, Held.IsHeld, Held.IsResumed}
+use Rattle.qsim_top.{specs.Texts.nothing_kept_line, specs.Texts.foreign_line, proofs.Ending.wanting_causes, proofs.Worked.ends_of_work}
 use Rattle.qsim_top.specs.declared.answers.Status.TheVariants as status
-use Rattle.qsim_top.specs.Answer.{report, resumed_answer, Resumes, Answers}
-use Rattle.qsim_top.specs.Came.{HasCauses, IsCarriedOut, IsWorked}
-use Rattle.qsim_top.specs.declared.resuming.Held.{Held}
-use Rattle.qsim_top.specs.Held.{held_view, IsHeld, IsResumed}
-use Rattle.qsim_top.specs.Texts.{nothing_kept_line, foreign_line}
-use Rattle.qsim_top.proofs.Ending.{wanting_causes}
-use Rattle.qsim_top.proofs.Worked.{ends_of_work}
 
 -- MEMORIES THAT WERE KEPT
 each_fits : (T : TownRows) (memories : List MemoryRows) → Each (IsKeptMemory T) memories → all_hold_fitting T memories ≡ true

@@ -1,26 +1,15 @@
 -- From what a run keeps the rest of it is done.
 use Rattle.std.proofs.Common.{◌≡◌, ◌⊎◌, ℕ, ◌<◌, ◌≤◌, suc, true, List, ◌++◌, Option, None, Some, refl, sym, ◌∙◌, ap, inl, inr}
-use Rattle.edge_files.specs.Effects.{all_steps}
-use Rattle.edge_files.specs.Keeping.{Kept}
-use Rattle.edge_files.specs.World.{Step, kept_after}
+use Rattle.edge_files.specs.{Effects.all_steps, Keeping.Kept, World.Step, World.kept_after}
 use Rattle.keep.proofs.Either.{fit_or_foreign, one_list, one_place}
 use Rattle.plan_text.specs.Lines.{IsBook}
-use Rattle.iterations.specs.Runs.{RunRows, HasNames, IsRun}
-use Rattle.iterations.specs.Acts.{memories_at, iterations_effects, acts}
-use Rattle.iterations.specs.Days.{memories_after}
-use Rattle.iterations.proofs.ReadBack.{run_back}
-use Rattle.iterations.proofs.Tails.{resumes, rest_of}
-use Rattle.law_valid_files.specs.Valid.{IsScenario}
-use Rattle.law_valid_files.proofs.Books.{scenario_named}
-use Rattle.law_valid_files.proofs.Valid.{scenario_valid}
-use Rattle.scenario.specs.FilesToScenario.{ScenarioRows, scenario_fault, scenario_rows}
-use Rattle.scenario.specs.Texts.{Texts}
-use Rattle.qsim_top.specs.declared.answers.Answer.{Answer}
+use Rattle.iterations.proofs.{ReadBack.run_back, Tails.resumes, Tails.rest_of}
+use Rattle.iterations.specs.{Acts.memories_at, Acts.iterations_effects, Acts.acts, Days.memories_after, Runs.RunRows, Runs.HasNames, Runs.IsRun}
+use Rattle.law_valid_files.{proofs.Books.scenario_named, proofs.Valid.scenario_valid, specs.Valid.IsScenario}
+use Rattle.scenario.specs.{FilesToScenario.ScenarioRows, FilesToScenario.scenario_fault, FilesToScenario.scenario_rows, Texts.Texts}
+use Rattle.qsim_top.specs.{declared.answers.Answer.Answer, Answer.run_rows_of, Answer.report, Answer.resumed_answer, Answer.Resumes, Laws.until, Laws.kept_by}
+use Rattle.qsim_top.{specs.Laws.ResumesRuns, specs.Texts.nothing_kept_line, specs.Texts.foreign_line, proofs.Stopped.kept_of_run, proofs.Stopped.kept_of_rest}
 use Rattle.qsim_top.specs.declared.answers.Status.TheVariants as status
-use Rattle.qsim_top.specs.Answer.{run_rows_of, report, resumed_answer, Resumes}
-use Rattle.qsim_top.specs.Laws.{until, kept_by, ResumesRuns}
-use Rattle.qsim_top.specs.Texts.{nothing_kept_line, foreign_line}
-use Rattle.qsim_top.proofs.Stopped.{kept_of_run, kept_of_rest}
 
 module _ (S : ScenarioRows) (book : IsBook S.town.book) where
   answered : (kept : Option Kept) → (a : Answer) × Resumes S kept a

@@ -7,17 +7,13 @@ use Rattle.rows.specs.Joined.{ends_of}
 use Rattle.walks.specs.Walks.{AreWithin}
 use Rattle.router.proofs.Graphs.{network_within}
 use Rattle.town.specs.declared.town.Town.{Town}
-use Rattle.route_report.specs.Report.{RoadMap, map_of, route_text}
-use Rattle.route_report.specs.Reported.{NoWay}
 use Rattle.route_report.proofs.Reports.{none_is, report_is}
-use Rattle.scenario.specs.Texts.{Texts}
-use Rattle.scenario.specs.FilesToScenario.{ScenarioRows, scenario_fault, scenario_rows}
-use Rattle.law_valid_files.specs.Valid.{IsScenario}
-use Rattle.law_valid_files.proofs.Valid.{scenario_valid}
-use Rattle.qsim_top.specs.declared.answers.Answer.{Answer}
-use Rattle.qsim_top.specs.declared.answers.Status.TheVariants as status
+use Rattle.route_report.specs.{Report.RoadMap, Report.map_of, Report.route_text, Reported.NoWay}
+use Rattle.scenario.specs.{FilesToScenario.ScenarioRows, FilesToScenario.scenario_fault, FilesToScenario.scenario_rows, Texts.Texts}
+use Rattle.law_valid_files.{proofs.Valid.scenario_valid, specs.Valid.IsScenario}
 use Rattle.qsim_top.specs.Answer.{IsAnswer, road_map, roads_of, report, route_or_none}
-use Rattle.qsim_top.specs.Laws.{ReportsRoutes}
+use Rattle.qsim_top.specs.{Laws.ReportsRoutes, declared.answers.Answer.Answer}
+use Rattle.qsim_top.specs.declared.answers.Status.TheVariants as status
 
 -- there is no way exactly where there is no text
 no_way_is : (text : Option (List ℕ)) (P : Type 0) → ((text ≡ None) ↔ P) → (((route_or_none text).status ≡ status.NoWay) ↔ P)

@@ -2,23 +2,17 @@
 use Rattle.std.proofs.Common.{◌≡◌, ◌⊎◌, ℕ, Bool, true, false, List, Option, None, Some, Result, Err, refl, sym, ◌∙◌, ap, subst, inl, inr}
 use Rattle.edge_files.specs.Keeping.{Kept}
 use Rattle.iterations.specs.Performed.{Moment}
-use Rattle.scenario.specs.Texts.{Texts}
 use Rattle.scenario.specs.FilesToScenario.{ScenarioRows, scenario_fault, scenario_rows}
-use Rattle.scenario.specs.declared.faults.ScenarioFault.{ScenarioFault}
+use Rattle.scenario.specs.{Texts.Texts, declared.faults.ScenarioFault.ScenarioFault, declared.scenario.Scenario.Scenario}
 use Rattle.scenario.specs.declared.faults.Stop.TheVariants as stop
-use Rattle.scenario.specs.declared.scenario.Scenario.{Scenario}
-use Rattle.qsim_top.specs.declared.reading.NoScenario.{NoScenario}
+use Rattle.qsim_top.specs.Answer.{report, run_answer, grid_answer, route_answer, route_or_none, road_map, Works, WorksOrRefused, IsAnswerTo, Answers}
+use Rattle.qsim_top.specs.{Came.HasKept, Came.uses_keeper, Came.is_of_work, Came.is_fault, Came.IsCarriedOut, Came.IsWorked, Reading.IsRead, Texts.refused_line}
+use Rattle.qsim_top.specs.{Texts.valid_line, declared.answers.Answer.Answer, declared.answers.Status.Status, declared.reading.NoScenario.NoScenario}
 use Rattle.qsim_top.specs.declared.reading.NoScenario.TheVariants as no_scenario
-use Rattle.qsim_top.specs.Reading.{IsRead}
 use Rattle.command_line.specs.declared.commands.Command.{Command}
 use Rattle.command_line.specs.declared.commands.Command.TheVariants as command
 use Rattle.route_report.specs.Report.{route_text}
-use Rattle.qsim_top.specs.declared.answers.Answer.{Answer}
-use Rattle.qsim_top.specs.declared.answers.Status.{Status}
 use Rattle.qsim_top.specs.declared.answers.Status.TheVariants as status
-use Rattle.qsim_top.specs.Answer.{report, run_answer, grid_answer, route_answer, route_or_none, road_map, Works, WorksOrRefused, IsAnswerTo, Answers}
-use Rattle.qsim_top.specs.Came.{HasKept, uses_keeper, is_of_work, is_fault, IsCarriedOut, IsWorked}
-use Rattle.qsim_top.specs.Texts.{refused_line, valid_line}
 
 -- a fault is a status of the work of each command that may call the keeper if that may be called
 fault_of_work : (c : Command) (keeps : Bool) (came : Status) → (keeps ≡ true → uses_keeper c ≡ true) → is_fault keeps came ≡ true

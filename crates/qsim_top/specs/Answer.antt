@@ -1,30 +1,22 @@
 -- What a run answers and does outside.
+use Rattle.std.specs.{Io.KnownBytes.Appends, List.list_all}
 use Rattle.std.specs.Prelude.{◌≡◌, ◌≢◌, ◌⊎◌, ℕ, Bool, true, false, List, [], ◌∷◌, Option, None, Some}
-use Rattle.std.specs.List.{list_all}
-use Rattle.std.specs.Io.KnownBytes.{Appends}
-use Rattle.edge_files.specs.declared.files.OutFile.{OutFile}
+use Rattle.edge_files.specs.{Effects.all_steps, Effects.has_save, Keeping.Kept, World.World, World.Written, World.is_same, World.Does, World.DoesPart}
+use Rattle.edge_files.specs.declared.{effects.Effect.Effect, files.OutFile.OutFile}
 use Rattle.edge_files.specs.declared.files.OutFile.TheVariants as out
-use Rattle.edge_files.specs.declared.effects.Effect.{Effect}
 use Rattle.edge_files.specs.declared.effects.Effect.TheVariants as effect
-use Rattle.edge_files.specs.Effects.{all_steps, has_save}
-use Rattle.edge_files.specs.Keeping.{Kept}
-use Rattle.edge_files.specs.World.{World, Written, is_same, Does, DoesPart}
 use Rattle.keep.specs.Fitting.{AreRowsOf, IsForeignAt}
 use Rattle.plan_memory.specs.Memories.{MemoryRows}
-use Rattle.iterations.specs.Runs.{RunRows}
-use Rattle.iterations.specs.Acts.{acts}
-use Rattle.iterations.specs.Continued.{continued}
+use Rattle.iterations.specs.{Acts.acts, Continued.continued, Runs.RunRows}
 use Rattle.route_report.specs.Report.{RoadMap, route_text}
 use Rattle.town.specs.declared.town.Town.{Town}
-use Rattle.scenario.specs.declared.faults.ScenarioFault.{ScenarioFault}
-use Rattle.scenario.specs.Texts.{Texts}
 use Rattle.scenario.specs.FilesToScenario.{ScenarioRows, scenario_fault, scenario_rows}
+use Rattle.scenario.specs.{Texts.Texts, declared.faults.ScenarioFault.ScenarioFault}
 use Rattle.command_line.specs.declared.commands.Command.{Command}
 use Rattle.command_line.specs.declared.commands.Command.TheVariants as command
-use Rattle.qsim_top.specs.declared.answers.Answer.{Answer}
-use Rattle.qsim_top.specs.declared.answers.Status.{Status}
-use Rattle.qsim_top.specs.declared.answers.Status.TheVariants as status
 use Rattle.qsim_top.specs.Texts.{grid_line, no_way_line, nothing_kept_line, foreign_line, refused_line, valid_line}
+use Rattle.qsim_top.specs.declared.answers.{Answer.Answer, Status.Status}
+use Rattle.qsim_top.specs.declared.answers.Status.TheVariants as status
 
 -- a text goes to the report, and nothing else is done
 abbrev pub report : Status → List ℕ → Answer

@@ -1,23 +1,15 @@
 -- What came of the words of a command line.
 use Rattle.std.specs.Prelude.{◌≡◌, ◌⊎◌, ◌≤◌, ℕ, Bool, true, false, List, Option, None, Some, Result, Ok, Err}
-use Rattle.edge_files.specs.declared.effects.EffectError.{EffectError}
+use Rattle.edge_files.specs.{Causes.Rose, Inputs.Left, Keeping.Kept, Keeping.Told, Keeping.StaysTold, World.World, declared.effects.EffectError.EffectError}
 use Rattle.edge_files.specs.declared.effects.EffectError.TheVariants as error
-use Rattle.edge_files.specs.Causes.{Rose}
-use Rattle.edge_files.specs.Inputs.{Left}
-use Rattle.edge_files.specs.Keeping.{Kept, Told, StaysTold}
-use Rattle.edge_files.specs.World.{World}
 use Rattle.iterations.specs.Performed.{Moment}
-use Rattle.scenario.specs.FilesToScenario.{ScenarioRows, scenario_fault}
-use Rattle.scenario.specs.Texts.{Texts}
+use Rattle.scenario.specs.{FilesToScenario.ScenarioRows, FilesToScenario.scenario_fault, Texts.Texts}
 use Rattle.workload.specs.Texts.{grid_texts}
-use Rattle.command_line.specs.declared.commands.Command.{Command}
+use Rattle.command_line.specs.{Cases.Case, Cases.Work, Cases.Help, Cases.Refused, declared.commands.Command.Command}
 use Rattle.command_line.specs.declared.commands.Command.TheVariants as command
-use Rattle.command_line.specs.Cases.{Case, Work, Help, Refused}
-use Rattle.qsim_top.specs.declared.answers.Answer.{Answer}
-use Rattle.qsim_top.specs.declared.answers.Status.{Status}
-use Rattle.qsim_top.specs.declared.answers.Status.TheVariants as status
-use Rattle.qsim_top.specs.Contents.{Contents, AreLeft, texts_in}
 use Rattle.qsim_top.specs.Answer.{IsAnswerTo, Works, report, reports_alone, Answers, OnlyReports}
+use Rattle.qsim_top.specs.{Contents.Contents, Contents.AreLeft, Contents.texts_in, declared.answers.Answer.Answer, declared.answers.Status.Status}
+use Rattle.qsim_top.specs.declared.answers.Status.TheVariants as status
 
 -- these are the files that are read, whose bytes are told
 abbrev pub AreRead : Left → Texts → Type 0

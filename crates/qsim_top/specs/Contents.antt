@@ -1,9 +1,7 @@
 -- What the files of a scenario hold.
 use Rattle.std.specs.Prelude.{◌≡◌, ℕ, List, All, Option, None, Some, if◌then◌else◌}
-use Rattle.edge_files.specs.declared.files.InFile.{InFile}
-use Rattle.edge_files.specs.Inputs.{Left}
+use Rattle.edge_files.specs.{Inputs.Left, declared.files.InFile.InFile, declared.files.TheConstants.SCENARIO_FILES}
 use Rattle.records.specs.Files.{is_too_long}
-use Rattle.edge_files.specs.declared.files.TheConstants.{SCENARIO_FILES}
 use Rattle.scenario.specs.Texts.{Texts}
 
 -- the bytes of each file

@@ -4,11 +4,8 @@ use Rattle.edge_files.specs.Keeping.{Kept, Told, kept_of}
 use Rattle.iterations.specs.Performed.{Moment}
 use Rattle.scenario.specs.FilesToScenario.{ScenarioRows}
 use Rattle.command_line.specs.declared.commands.Command.TheVariants as command
-use Rattle.qsim_top.specs.declared.answers.Answer.{Answer}
-use Rattle.qsim_top.specs.declared.answers.Status.{Status}
-use Rattle.qsim_top.specs.declared.resuming.Held.{Held}
-use Rattle.qsim_top.specs.Answer.{Resumes, Answers}
-use Rattle.qsim_top.specs.Came.{is_of_work, HasCauses}
+use Rattle.qsim_top.specs.{Answer.Resumes, Answer.Answers, Came.is_of_work, Came.HasCauses}
+use Rattle.qsim_top.specs.declared.{answers.Answer.Answer, answers.Status.Status, resuming.Held.Held}
 
 abbrev pub held_view : Held → Kept
 held_view held = kept_of held.iteration held.rows.items

@@ -1,36 +1,24 @@
 -- What holds of the day of every iteration of a scenario.
 use Rattle.std.specs.Prelude.{◌≡◌, ◌≢◌, ◌↔◌, ◌⊎◌, ◌<◌, ◌≤◌, ℕ, suc, Bool, true, List, ◌∷◌, ◌++◌, length, All, Option, Some}
-use Rattle.edge_files.specs.Effects.{all_steps}
-use Rattle.edge_files.specs.Keeping.{Kept, kept_of}
-use Rattle.edge_files.specs.World.{Step, kept_after}
-use Rattle.events.specs.declared.event.Event.{Event}
-use Rattle.events.specs.declared.event.Phase.{Phase}
+use Rattle.edge_files.specs.{Effects.all_steps, Keeping.Kept, Keeping.kept_of, World.Step, World.kept_after}
+use Rattle.events.specs.declared.event.{Event.Event, Phase.Phase}
 use Rattle.events.specs.declared.event.Phase.TheVariants as phase
-use Rattle.traffic.specs.declared.moves.Move.{Move}
-use Rattle.traffic.specs.declared.stage.Stage.TheVariants.{Buffer}
-use Rattle.traffic.specs.Setup.{Setup}
-use Rattle.traffic.specs.Rows.{World}
-use Rattle.traffic.specs.Moves.{run}
-use Rattle.traffic.specs.Day.{turns_of, world_start, world_at, day}
-use Rattle.traffic.specs.Frames.{Ascends}
-use Rattle.traffic.specs.Worlds.{OnePlace, Storage, FlowKept, Sound}
+use Rattle.traffic.specs.{Day.turns_of, Day.world_start, Day.world_at, Day.day, Frames.Ascends, Moves.run, Rows.World, Setup.Setup, Worlds.OnePlace}
+use Rattle.traffic.specs.{Worlds.Storage, Worlds.FlowKept, Worlds.Sound, declared.moves.Move.Move, declared.stage.Stage.TheVariants.Buffer}
 use Rattle.law_capacity.specs.Moves.{IsElsewhere, second_moves, KeepsRule}
 use Rattle.law_matches_plans.specs.Planned.{IsToldAsPlanned}
 use Rattle.law_partitions.specs.Laws.{IsOwner, GoesInParts}
 use Rattle.law_signals.specs.Signals.{KeepsSignals, NeverTogether}
 use Rattle.parts.specs.Owners.{Owner}
-use Rattle.scenario.specs.Texts.{Texts}
-use Rattle.scenario.specs.FilesToScenario.{ScenarioRows, conflicts_in}
+use Rattle.scenario.specs.{FilesToScenario.ScenarioRows, FilesToScenario.conflicts_in, Texts.Texts}
 use Rattle.signals.specs.declared.conflict.Conflict.{Conflict}
 use Rattle.day_scores.specs.Standing.{AreScored}
 use Rattle.route_report.specs.Reported.{NoWay, IsReport}
 use Rattle.qsim_top.specs.declared.answers.Status.TheVariants as status
 use Rattle.town.specs.Rows.{TownRows}
 use Rattle.keep.specs.Kept.{kept_rows}
-use Rattle.iterations.specs.Acts.{memories_at, iterations_effects, acts}
-use Rattle.iterations.specs.Days.{day_in, memories_after}
-use Rattle.qsim_top.specs.declared.answers.Answer.{Answer}
-use Rattle.qsim_top.specs.Answer.{run_rows_of, road_map, report, route_answer, Resumes}
+use Rattle.iterations.specs.{Acts.memories_at, Acts.iterations_effects, Acts.acts, Days.day_in, Days.memories_after}
+use Rattle.qsim_top.specs.{Answer.run_rows_of, Answer.road_map, Answer.report, Answer.route_answer, Answer.Resumes, declared.answers.Answer.Answer}
 
 -- the setup of the day of an iteration of a run that keeps what is remembered or does not, on which each person follows the plan that he has
 -- chosen by then

@@ -3,14 +3,10 @@ use Rattle.std.specs.Prelude.{◌≡◌, true, Option, None, Some, Result, Ok, E
 use Rattle.command_line.specs.declared.commands.Command.{Command}
 use Rattle.command_line.specs.declared.commands.Command.TheVariants as command
 use Rattle.workload.specs.declared.grid.Grid.{Grid}
+use Rattle.scenario.specs.{Faults.StopsAt, FilesToScenario.scenario_fault, FilesToScenario.scenario_rows, Texts.Texts, Views.scenario_view}
 use Rattle.scenario.specs.declared.scenario.Scenario.{Scenario}
-use Rattle.scenario.specs.Faults.{StopsAt}
-use Rattle.scenario.specs.FilesToScenario.{scenario_fault, scenario_rows}
-use Rattle.scenario.specs.Texts.{Texts}
-use Rattle.scenario.specs.Views.{scenario_view}
-use Rattle.qsim_top.specs.declared.reading.NoScenario.{NoScenario}
+use Rattle.qsim_top.specs.{Came.reads_files, declared.reading.NoScenario.NoScenario}
 use Rattle.qsim_top.specs.declared.reading.NoScenario.TheVariants as no_scenario
-use Rattle.qsim_top.specs.Came.{reads_files}
 
 -- it is the grid that the command makes; a command that makes none reads files
 abbrev pub IsGridOf : Command → Option Grid → Type 0

@@ -1,9 +1,7 @@
 -- What the commands report.
 use Rattle.std.specs.Prelude.{ℕ, ◌-◌, ◌*◌, codes, decimal, List, ◌++◌, length}
-use Rattle.edge_files.specs.Files.{in_file_name}
-use Rattle.edge_files.specs.Reasons.{reason_number, reason_name}
-use Rattle.scenario.specs.declared.faults.ScenarioFault.{ScenarioFault}
-use Rattle.scenario.specs.FilesToScenario.{ScenarioRows}
+use Rattle.edge_files.specs.{Files.in_file_name, Reasons.reason_number, Reasons.reason_name}
+use Rattle.scenario.specs.{FilesToScenario.ScenarioRows, declared.faults.ScenarioFault.ScenarioFault}
 use Rattle.workload.specs.declared.TheConstants.{PERSONS_PER_NODE}
 
 -- the report of a refused scenario: the file, the row, and the reason by number and name

@@ -1,8 +1,7 @@
 //! What holds of the day of every iteration that the program runs.
 
 ghost use Rattle.std.specs.Prelude.{◌≡◌, ℕ, Bool, None};
-ghost use Rattle.scenario.specs.Texts.{Texts};
-ghost use Rattle.scenario.specs.FilesToScenario.{ScenarioRows, scenario_fault, scenario_rows};
+ghost use Rattle.scenario.specs.{FilesToScenario.ScenarioRows, FilesToScenario.scenario_fault, FilesToScenario.scenario_rows, Texts.Texts};
 ghost use Rattle.qsim_top.specs.Laws.{day_of, IsLawful, FollowsPlans, KeepsConflicts, GoesInAnyParts, ReportsRoutes, ResumesRuns};
 
 /// Knows the laws of the day of every iteration of every scenario, and of the days, the routes and what is kept of files without a fault.

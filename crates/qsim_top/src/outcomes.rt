@@ -2,9 +2,7 @@
 
 ghost use Rattle.std.specs.Prelude.{◌≡◌, false, IfOk};
 ghost use Rattle.iterations.specs.Performed.{moment};
-ghost use Rattle.qsim_top.specs.declared.answers.Answer.{Answer};
-ghost use Rattle.qsim_top.specs.Answer.{IsSound, IsAnswer};
-ghost use Rattle.qsim_top.specs.Came.{status_after, IsCarriedOut};
+ghost use Rattle.qsim_top.specs.{Answer.IsSound, Answer.IsAnswer, Came.status_after, Came.IsCarriedOut, declared.answers.Answer.Answer};
 
 use crate::answers::{Answer, Status};
 use edge_files::{EffectError, Keeper, Outputs, perform};

@@ -2,14 +2,11 @@
 
 ghost use Rattle.std.specs.Prelude.{◌≡◌, ◌≤◌, ℕ, List, Some, true, Err, IfOk};
 ghost use Rattle.command_line.specs.Commands.{IsInRange};
-ghost use Rattle.edge_files.specs.Causes.{Rose};
-ghost use Rattle.edge_files.specs.Inputs.{OthersStay};
-ghost use Rattle.scenario.specs.Texts.{Texts};
-ghost use Rattle.scenario.specs.Views.{texts_of};
-ghost use Rattle.qsim_top.specs.Came.{reads_files, HasFiles};
+ghost use Rattle.edge_files.specs.{Causes.Rose, Inputs.OthersStay};
+ghost use Rattle.scenario.specs.{Texts.Texts, Views.texts_of};
+ghost use Rattle.qsim_top.specs.{Came.reads_files, Came.HasFiles, Contents.Contents, Contents.AreLeft, Contents.AreAlike, Contents.text_of};
+ghost use Rattle.qsim_top.specs.{Contents.texts_in, Reading.IsGridOf, Reading.IsRead};
 ghost use Rattle.workload.specs.Texts.{grid_texts};
-ghost use Rattle.qsim_top.specs.Contents.{Contents, AreLeft, AreAlike, text_of, texts_in};
-ghost use Rattle.qsim_top.specs.Reading.{IsGridOf, IsRead};
 
 use command_line::Command;
 use edge_files::{Bytes, InFile, Inputs, ReadStop, SCENARIO_FILES, read_whole};

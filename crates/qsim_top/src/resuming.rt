@@ -1,12 +1,10 @@
 //! Going on from what is kept.
 
 ghost use Rattle.std.specs.Prelude.{◌≡◌, Some, option_map, OnOk, OnErr, IfOk};
-ghost use Rattle.edge_files.specs.Causes.{KeepHasCause};
-ghost use Rattle.edge_files.specs.Keeping.{Kept, Stays, StaysIfTold};
+ghost use Rattle.edge_files.specs.{Causes.KeepHasCause, Keeping.Kept, Keeping.Stays, Keeping.StaysIfTold};
 ghost use Rattle.iterations.specs.Performed.{moment};
 ghost use Rattle.scenario.specs.Views.{scenario_view};
-ghost use Rattle.qsim_top.specs.Held.{held_view, IsHeld, IsResumed};
-ghost use Rattle.qsim_top.specs.Came.{IsWorked};
+ghost use Rattle.qsim_top.specs.{Came.IsWorked, Held.held_view, Held.IsHeld, Held.IsResumed};
 
 use crate::answers::Status;
 use crate::outcomes::carry_out;

@@ -1,17 +1,13 @@
 //! Runs of scenarios.
 
 ghost use Rattle.std.specs.Prelude.{◌≡◌, ℕ, List, false, true, IfOk};
-ghost use Rattle.edge_files.specs.Effects.{all_steps};
-ghost use Rattle.edge_files.specs.World.{byte_steps};
-ghost use Rattle.iterations.specs.Acts.{acts};
-ghost use Rattle.iterations.specs.Continued.{continued};
-ghost use Rattle.iterations.specs.Performed.{moment, IsPerformed};
+ghost use Rattle.edge_files.specs.{Effects.all_steps, World.byte_steps};
+ghost use Rattle.iterations.specs.{Acts.acts, Continued.continued, Performed.moment, Performed.IsPerformed};
 ghost use Rattle.keep.specs.Fitting.{AreMemories};
 ghost use Rattle.scenario.specs.Views.{scenario_view};
 ghost use Rattle.town.specs.Views.{rows_of};
 ghost use Rattle.qsim_top.specs.Answer.{run_rows_of, run_answer, grid_answer, resumed_answer};
-ghost use Rattle.qsim_top.specs.Came.{IsCarriedOut};
-ghost use Rattle.qsim_top.specs.Texts.{grid_line};
+ghost use Rattle.qsim_top.specs.{Came.IsCarriedOut, Texts.grid_line};
 
 use crate::answers::Status;
 use crate::outcomes::status_after;

@@ -1,17 +1,12 @@
 ghost use Rattle.std.specs.Prelude.{◌≡◌, ◌≤◌, map, ℕ, Bool, false, true, None, string_bytes};
-ghost use Rattle.command_line.specs.Cases.{case_of, Work};
-ghost use Rattle.command_line.specs.Commands.{IsInRange};
-ghost use Rattle.edge_files.specs.Causes.{Rose};
-ghost use Rattle.edge_files.specs.Keeping.{StaysTold};
-ghost use Rattle.edge_files.specs.World.{outside};
+ghost use Rattle.command_line.specs.{Cases.case_of, Cases.Work, Commands.IsInRange};
+ghost use Rattle.edge_files.specs.{Causes.Rose, Keeping.StaysTold, World.outside};
 ghost use Rattle.iterations.specs.Performed.{moment};
-ghost use Rattle.scenario.specs.Texts.{Texts};
-ghost use Rattle.scenario.specs.FilesToScenario.{ScenarioRows, scenario_fault, scenario_rows};
-ghost use Rattle.qsim_top.specs.declared.answers.Status.{Status};
+ghost use Rattle.scenario.specs.{FilesToScenario.ScenarioRows, FilesToScenario.scenario_fault, FilesToScenario.scenario_rows, Texts.Texts};
 ghost use Rattle.qsim_top.specs.Answer.{report, reports_alone, is_of_words, OnlyReports};
 ghost use Rattle.qsim_top.specs.Came.{uses_keeper, may_keep, computed_so, AnswersCase, IsCarriedOut};
 ghost use Rattle.qsim_top.specs.Laws.{day_of, IsLawful, FollowsPlans, KeepsConflicts, GoesInAnyParts, ReportsRoutes, ResumesRuns};
-ghost use Rattle.qsim_top.specs.Texts.{refused_line};
+ghost use Rattle.qsim_top.specs.{Texts.refused_line, declared.answers.Status.Status};
 
 use crate::answers::Status;
 use crate::laws::know_days;

@@ -1,11 +1,8 @@
 -- Vehicles leave a bay one by one.
 use Rattle.std.proofs.Common.{◌≡◌, ℕ, true, false, List, [], ◌∷◌, ◌++◌, ap, sym, ◌∙◌, inl, inr, append-nil, append_assoc}
+use Rattle.std.proofs.lemmas.{Bool.cases_Bool, List.map-append, List.Elements.filter-append}
 use Rattle.std.specs.Prelude.{map, filter}
-use Rattle.std.proofs.lemmas.Bool.{cases_Bool}
-use Rattle.std.proofs.lemmas.List.{map-append}
-use Rattle.std.proofs.lemmas.List.Elements.{filter-append}
-use Rattle.traffic.specs.declared.world.Row.{Row}
-use Rattle.traffic.specs.Links.{waiting}
+use Rattle.traffic.specs.{Links.waiting, declared.world.Row.Row}
 use Rattle.queue_link.specs.Turns.{is_due, left_in_bay}
 
 -- one row more that is due, or is not

@@ -1,22 +1,12 @@
 -- When a front that is held up may go, and the vehicles of a link by their places.
-use Rattle.std.proofs.Common.{◌≡◌, ◌≢◌, ℕ, zero, suc, ◌+◌, ◌-◌, ◌*◌, ◌<◌, ◌≤◌, false, List, [], ◌∷◌, ◌++◌, length, get_or, refl, ap, sym, ◌∙◌}
-use Rattle.std.proofs.Common.{arith, inl, inr, append-nil}
-use Rattle.std.proofs.Math.Nat.{mul_comm, mul-le-mul_left}
+use Rattle.std.proofs.Common.{◌≡◌, ◌≢◌, ℕ, zero, suc, ◌+◌, ◌-◌, ◌*◌, ◌<◌, ◌≤◌, false, List, [], ◌∷◌, ◌++◌, length, get_or, refl, ap, sym, ◌∙◌, arith, inl, inr}
+use Rattle.std.proofs.{Common.append-nil, Math.Nat.mul_comm, Math.Nat.mul-le-mul_left, lemmas.Bool.cases_lt, lemmas.Bool.lt-leb, lemmas.Bool.leb-false}
+use Rattle.std.{proofs.lemmas.Bool.ne_eqb, proofs.lemmas.Grind.div_ceil_times, specs.Int.div_ceil, specs.List.flat_map}
 use Rattle.std.specs.Prelude.{min, map, filter, nat_le, ◌==◌, if◌then◌else◌, Option, None, Some}
-use Rattle.std.specs.Int.{div_ceil}
-use Rattle.std.proofs.lemmas.Bool.{cases_lt, lt-leb, leb-false, ne_eqb}
-use Rattle.std.proofs.lemmas.Grind.{div_ceil_times}
-use Rattle.fixed_flow.specs.declared.TheConstants.{VEHICLE_COST}
-use Rattle.fixed_flow.specs.Link.{ceiling}
-use Rattle.std.specs.List.{flat_map}
-use Rattle.traffic.specs.declared.moves.Occurrence.{Occurrence}
-use Rattle.traffic.specs.declared.world.Row.{Row}
-use Rattle.traffic.specs.Telling.{goes_on}
-use Rattle.traffic.specs.Links.{waiting, wait_after}
+use Rattle.fixed_flow.specs.{Link.ceiling, declared.TheConstants.VEHICLE_COST}
+use Rattle.traffic.specs.{Links.waiting, Links.wait_after, Telling.goes_on, declared.moves.Occurrence.Occurrence, declared.world.Row.Row}
 use Rattle.law_sleeping.proofs.Credits.{up_to, from_up}
-use Rattle.queue_link.specs.Links.{LinkView, vehicle_at}
-use Rattle.queue_link.specs.Turns.{is_due, left_in_bay}
-use Rattle.queue_link.specs.Waking.{bay_due, is_by}
+use Rattle.queue_link.specs.{Links.LinkView, Links.vehicle_at, Turns.is_due, Turns.left_in_bay, Waking.bay_due, Waking.is_by}
 use Rattle.calendar.specs.Waking.{earliest}
 
 pub earlier_assoc : (a b c : Option ℕ) → earliest (earliest a b) c ≡ earliest a (earliest b c)

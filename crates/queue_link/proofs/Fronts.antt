@@ -1,17 +1,12 @@
 -- What comes of fronts.
-use Rattle.std.proofs.Common.{◌≡◌, ◌≢◌, ℕ, ◌+◌, ◌-◌, ◌<◌, Bool, true, false, List, [], ◌∷◌, length, get_or, refl, ap}
-use Rattle.std.proofs.Common.{sym, ◌∙◌, arith, inl, inr}
+use Rattle.std.proofs.Common.{◌≡◌, ◌≢◌, ℕ, ◌+◌, ◌-◌, ◌<◌, Bool, true, false, List, [], ◌∷◌, length, get_or, refl, ap, sym, ◌∙◌, arith, inl, inr}
+use Rattle.std.proofs.lemmas.Bool.{cases_Bool, Decides.nat_tests}
 use Rattle.std.specs.Prelude.{◌&&◌, nat_lt, nat_le, if◌then◌else◌}
-use Rattle.std.proofs.lemmas.Bool.{cases_Bool}
-use Rattle.std.proofs.lemmas.Bool.Decides.{nat_tests}
 use Rattle.fixed_flow.specs.declared.TheConstants.{VEHICLE_COST}
-use Rattle.traffic.specs.declared.world.Row.{Row}
-use Rattle.traffic.specs.Stops.{calls_on}
-use Rattle.traffic.specs.Links.{is_last}
-use Rattle.queue_link.specs.declared.numbers.LinkNumbers.{LinkNumbers}
-use Rattle.queue_link.specs.declared.fates.Fate.{Fate}
-use Rattle.queue_link.specs.declared.fates.Fate.TheVariants.{Stops, Arrives, Passes, Stays}
+use Rattle.traffic.specs.{Links.is_last, Stops.calls_on, declared.world.Row.Row}
 use Rattle.queue_link.specs.Turns.{fate_by, fate_of, queue_fate, wait_fate}
+use Rattle.queue_link.specs.declared.fates.Fate.{Fate, TheVariants.Stops, TheVariants.Arrives, TheVariants.Passes, TheVariants.Stays}
+use Rattle.queue_link.specs.declared.numbers.LinkNumbers.{LinkNumbers}
 
 -- why a fate is one
 pub stops_by : (a b c : Bool) → fate_by a b c ≡ Stops → a ≡ true

@@ -3,28 +3,19 @@ use Rattle.std.proofs.Common.{◌≡◌, ℕ, ◌+◌, ◌-◌, List, [], ◌∷
 use Rattle.std.specs.List.{flat_map}
 use Rattle.fixed_flow.specs.declared.TheConstants.{VEHICLE_COST}
 use Rattle.rows.specs.declared.settings.Dwelling.{Dwelling}
-use Rattle.traffic.specs.declared.stage.Stage.TheVariants.{Queue, Wait}
-use Rattle.traffic.specs.declared.moves.Move.{Move}
-use Rattle.traffic.specs.declared.moves.Move.TheVariants.{Transfer, Remove, Credit, LeaveHole}
-use Rattle.traffic.specs.declared.moves.Occurrence.{Occurrence}
-use Rattle.traffic.specs.declared.numbers.Rules.{Rules}
-use Rattle.traffic.specs.declared.world.Row.{Row}
-use Rattle.traffic.specs.declared.world.Waiter.{Waiter}
-use Rattle.traffic.specs.Stops.{left_behind, served_row}
-use Rattle.traffic.specs.Telling.{starts, arrives, serves}
-use Rattle.traffic.specs.Moves.{told}
-use Rattle.traffic.specs.Links.{LinkState, buffered, from_wait, from_queue}
+use Rattle.traffic.specs.{Links.LinkState, Links.buffered, Links.from_wait, Links.from_queue, Moves.told, Stops.left_behind, Stops.served_row, Telling.starts}
+use Rattle.traffic.specs.{Telling.arrives, Telling.serves, declared.moves.Move.Move, declared.moves.Move.TheVariants.Transfer}
+use Rattle.traffic.specs.declared.moves.{Move.TheVariants.Remove, Move.TheVariants.Credit, Move.TheVariants.LeaveHole, Occurrence.Occurrence}
+use Rattle.traffic.specs.declared.{numbers.Rules.Rules, stage.Stage.TheVariants.Queue, stage.Stage.TheVariants.Wait, world.Row.Row, world.Waiter.Waiter}
 use Rattle.law_sleeping.specs.Quiet.{link_state_after, link_state_after_all}
 use Rattle.law_sleeping.proofs.Settling.{lists_with, wait_served, wait_removed, wait_passed, queue_served, queue_removed, queue_passed, credited}
-use Rattle.queue_link.specs.declared.numbers.LinkNumbers.{LinkNumbers}
-use Rattle.queue_link.specs.declared.fates.Fate.{Fate}
-use Rattle.queue_link.specs.declared.fates.Fate.TheVariants.{Stops, Arrives, Passes, Stays}
-use Rattle.queue_link.specs.declared.turns.Turn.TheVariants.{Stop, Arrive, Done}
-use Rattle.queue_link.specs.Numbers.{rules_of}
-use Rattle.queue_link.specs.Links.{row_on}
+use Rattle.queue_link.proofs.Steps.{queue_front_moves_pass, queue_front_moves_stop, queue_front_moves_arrive, queue_moves_stay, wait_front_moves_pass}
+use Rattle.queue_link.proofs.Steps.{wait_front_moves_stop, wait_front_moves_arrive, wait_moves_stay, queue_passes, queue_stops, queue_arrives, wait_passes}
+use Rattle.queue_link.proofs.Steps.{wait_stops, wait_arrives, both_stay, wait_stays_on, counted}
+use Rattle.queue_link.specs.{Links.row_on, Loops.up_to_halt, Loops.AreOn, Loops.ComeTo, Numbers.rules_of}
 use Rattle.queue_link.specs.Turns.{Outcome, queue_fate, wait_fate, moves_left, goes_on}
-use Rattle.queue_link.specs.Loops.{up_to_halt, AreOn, ComeTo}
-use Rattle.queue_link.proofs.Steps.{queue_front_moves_pass, queue_front_moves_stop, queue_front_moves_arrive, queue_moves_stay, wait_front_moves_pass, wait_front_moves_stop, wait_front_moves_arrive, wait_moves_stay, queue_passes, queue_stops, queue_arrives, wait_passes, wait_stops, wait_arrives, both_stay, wait_stays_on, counted}
+use Rattle.queue_link.specs.declared.fates.Fate.{Fate, TheVariants.Stops, TheVariants.Arrives, TheVariants.Passes, TheVariants.Stays}
+use Rattle.queue_link.specs.declared.{numbers.LinkNumbers.LinkNumbers, turns.Turn.TheVariants.Stop, turns.Turn.TheVariants.Arrive, turns.Turn.TheVariants.Done}
 
 -- the same for other moves and another outcome that are these
 come_to_by : (K : Rules) (t l : ℕ) (ws : List Waiter) (ms ns : List Move) (L : LinkState) (said : List Occurrence) (o p : Outcome) → ms ≡ ns → o ≡ p

@@ -1,30 +1,20 @@
 -- One front of a queue or of a wait list goes, as a link's turn says it.
-use Rattle.std.proofs.Common.{◌≡◌, ◌≢◌, ℕ, ◌+◌, ◌-◌, true, false, List, [], ◌∷◌, ◌++◌, length, refl, ap, sym, ◌∙◌, inl, inr}
-use Rattle.std.proofs.Common.{append-nil, append_assoc, length-append}
-use Rattle.std.specs.Prelude.{nat_lt}
-use Rattle.std.proofs.lemmas.Bool.{cases_Bool}
+use Rattle.std.proofs.Common.{◌≡◌, ◌≢◌, ℕ, ◌+◌, ◌-◌, true, false, List, [], ◌∷◌, ◌++◌, length, refl, ap, sym, ◌∙◌, inl, inr, append-nil, append_assoc}
+use Rattle.std.{proofs.Common.length-append, proofs.lemmas.Bool.cases_Bool, specs.Prelude.nat_lt}
 use Rattle.fixed_flow.specs.declared.TheConstants.{VEHICLE_COST}
 use Rattle.rows.specs.declared.settings.Dwelling.{Dwelling}
-use Rattle.traffic.specs.declared.stage.Stage.TheVariants.{Queue, Wait}
-use Rattle.traffic.specs.declared.moves.Move.{Move}
-use Rattle.traffic.specs.declared.moves.Move.TheVariants.{Transfer, Remove, Credit, LeaveHole}
-use Rattle.traffic.specs.declared.moves.Occurrence.{Occurrence}
-use Rattle.traffic.specs.declared.numbers.Rules.{Rules}
-use Rattle.traffic.specs.declared.world.Row.{Row}
-use Rattle.traffic.specs.declared.world.Waiter.{Waiter}
-use Rattle.traffic.specs.Stops.{calls_on, left_behind, served_row}
-use Rattle.traffic.specs.Telling.{starts, arrives}
-use Rattle.traffic.specs.Vehicles.{VehicleState}
 use Rattle.traffic.specs.Links.{LinkState, is_last, may_pass, buffered, from_wait, from_queue}
+use Rattle.traffic.specs.{Stops.calls_on, Stops.left_behind, Stops.served_row, Telling.starts, Telling.arrives, Vehicles.VehicleState, declared.moves.Move.Move}
+use Rattle.traffic.specs.declared.moves.Move.TheVariants.{Transfer, Remove, Credit, LeaveHole}
+use Rattle.traffic.specs.declared.{moves.Occurrence.Occurrence, numbers.Rules.Rules, stage.Stage.TheVariants.Queue, stage.Stage.TheVariants.Wait}
+use Rattle.traffic.specs.declared.world.{Row.Row, Waiter.Waiter}
 use Rattle.law_sleeping.specs.Quiet.{link_state_after}
 use Rattle.law_sleeping.proofs.Settling.{lists_with, wait_removed, wait_passed, queue_removed, queue_passed, credited}
-use Rattle.queue_link.specs.declared.numbers.LinkNumbers.{LinkNumbers}
-use Rattle.queue_link.specs.declared.fates.Fate.TheVariants.{Stops, Arrives, Passes, Stays}
-use Rattle.queue_link.specs.declared.turns.Turn.TheVariants.{Stop, Arrive, Done}
-use Rattle.queue_link.specs.Numbers.{rules_of, no_dwelling}
-use Rattle.queue_link.specs.Links.{LinkView}
-use Rattle.queue_link.specs.Turns.{Outcome, fate_of, queue_fate, wait_fate, until_halt, goes_on}
 use Rattle.queue_link.proofs.Fronts.{stops_by, arrives_by, passes_by, stays_by, due_by, still_stays}
+use Rattle.queue_link.specs.{Links.LinkView, Numbers.rules_of, Numbers.no_dwelling}
+use Rattle.queue_link.specs.Turns.{Outcome, fate_of, queue_fate, wait_fate, until_halt, goes_on}
+use Rattle.queue_link.specs.declared.fates.Fate.TheVariants.{Stops, Arrives, Passes, Stays}
+use Rattle.queue_link.specs.declared.{numbers.LinkNumbers.LinkNumbers, turns.Turn.TheVariants.Stop, turns.Turn.TheVariants.Arrive, turns.Turn.TheVariants.Done}
 
 -- THE QUEUE
 queue_moves_pass : (K : Rules) (t l : ℕ) (ws : List Waiter) (b c : ℕ) (r : Row) (rs w : List Row) → nat_lt t r.second ≡ false

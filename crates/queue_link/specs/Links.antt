@@ -1,12 +1,7 @@
 -- What contracts see of a link.
 use Rattle.std.specs.Prelude.{ℕ, zero, suc, List, [], ◌∷◌, ◌++◌, drop, Option, None, Some}
 use Rattle.fixed_flow.specs.declared.TheConstants.{VEHICLE_COST}
-use Rattle.traffic.specs.declared.stage.Stage.{Stage}
-use Rattle.traffic.specs.declared.world.Row.{Row}
-use Rattle.traffic.specs.Vehicles.{VehicleState}
-use Rattle.traffic.specs.Lists.{on_front}
-use Rattle.traffic.specs.Moves.{at_second}
-use Rattle.traffic.specs.Links.{LinkState}
+use Rattle.traffic.specs.{Links.LinkState, Lists.on_front, Moves.at_second, Vehicles.VehicleState, declared.stage.Stage.Stage, declared.world.Row.Row}
 use Rattle.queue_link.specs.declared.numbers.LinkNumbers.{LinkNumbers}
 
 -- its numbers, its four lists and its credit, and for how many seconds of the day the credit was raised

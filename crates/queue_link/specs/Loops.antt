@@ -2,23 +2,12 @@
 use Rattle.std.specs.Prelude.{◌≡◌, ℕ, List, [], ◌∷◌, ◌++◌, if◌then◌else◌}
 use Rattle.std.specs.List.{flat_map, AllByRecursion as Each}
 use Rattle.rows.specs.declared.settings.Dwelling.{Dwelling}
-use Rattle.traffic.specs.declared.stage.Stage.{Stage}
-use Rattle.traffic.specs.declared.stage.Stage.TheVariants.{Queue}
-use Rattle.traffic.specs.declared.moves.Move.{Move}
-use Rattle.traffic.specs.declared.moves.Move.TheVariants.{Transfer, Remove, LeaveHole}
-use Rattle.traffic.specs.declared.moves.Occurrence.{Occurrence}
-use Rattle.traffic.specs.declared.numbers.Rules.{Rules}
-use Rattle.traffic.specs.declared.world.Row.{Row}
-use Rattle.traffic.specs.declared.world.Waiter.{Waiter}
-use Rattle.traffic.specs.Stops.{left_behind, served_row}
-use Rattle.traffic.specs.Telling.{serves}
-use Rattle.traffic.specs.Moves.{told}
-use Rattle.traffic.specs.Links.{LinkState}
+use Rattle.traffic.specs.{Links.LinkState, Moves.told, Stops.left_behind, Stops.served_row, Telling.serves}
+use Rattle.traffic.specs.declared.moves.{Move.Move, Move.TheVariants.Transfer, Move.TheVariants.Remove, Move.TheVariants.LeaveHole, Occurrence.Occurrence}
+use Rattle.traffic.specs.declared.{numbers.Rules.Rules, stage.Stage.Stage, stage.Stage.TheVariants.Queue, world.Row.Row, world.Waiter.Waiter}
 use Rattle.law_sleeping.specs.Quiet.{link_state_after_all}
-use Rattle.queue_link.specs.declared.turns.Turn.{Turn}
-use Rattle.queue_link.specs.declared.turns.Turn.TheVariants.{Stop, Done}
-use Rattle.queue_link.specs.Links.{row_on}
-use Rattle.queue_link.specs.Turns.{Outcome, in_bay, moves_left}
+use Rattle.queue_link.specs.{Links.row_on, Turns.Outcome, Turns.in_bay, Turns.moves_left}
+use Rattle.queue_link.specs.declared.turns.Turn.{Turn, TheVariants.Stop, TheVariants.Done}
 
 -- the place that a vehicle leaves in the queue of which it comes
 abbrev pub hole_of : ℕ → ℕ → Stage → List Move

@@ -1,11 +1,8 @@
 -- The numbers of a link, and their ranges.
 use Rattle.std.specs.Prelude.{ℕ, ◌≤◌}
 use Rattle.limits.specs.declared.TheConstants.{MAX_CAPACITY, MAX_LENGTH}
-use Rattle.fixed_flow.specs.declared.TheConstants.{MAX_PER_SECOND}
-use Rattle.fixed_flow.specs.Link.{free_seconds, credit_per_second, storage, buffer_room}
-use Rattle.rows.specs.declared.network.LinkRow.{LinkRow}
-use Rattle.rows.specs.declared.settings.Dwelling.{Dwelling}
-use Rattle.rows.specs.declared.settings.TrafficSettings.{TrafficSettings}
+use Rattle.fixed_flow.specs.{Link.free_seconds, Link.credit_per_second, Link.storage, Link.buffer_room, declared.TheConstants.MAX_PER_SECOND}
+use Rattle.rows.specs.declared.{network.LinkRow.LinkRow, settings.Dwelling.Dwelling, settings.TrafficSettings.TrafficSettings}
 use Rattle.traffic.specs.declared.numbers.Rules.{Rules}
 use Rattle.queue_link.specs.declared.numbers.LinkNumbers.{LinkNumbers}
 

@@ -1,28 +1,15 @@
 -- What a second does on a link: its begin, and what is left of it up to each vehicle that halts.
-use Rattle.std.specs.Prelude.{◌≡◌, ℕ, Bool, true, false, not, List, [], ◌∷◌, ◌++◌, length, filter, nat_lt, nat_le, if◌then◌else◌, Option}
-use Rattle.std.specs.Prelude.{None, Some}
+use Rattle.std.specs.Prelude.{◌≡◌, ℕ, Bool, true, false, not, List, [], ◌∷◌, ◌++◌, length, filter, nat_lt, nat_le, if◌then◌else◌, Option, None, Some}
 use Rattle.fixed_flow.specs.Flow.{raised_times}
 use Rattle.rows.specs.declared.settings.Dwelling.{Dwelling}
-use Rattle.traffic.specs.declared.stage.Stage.{Stage}
-use Rattle.traffic.specs.declared.stage.Stage.TheVariants.{Wait, Bay}
-use Rattle.traffic.specs.declared.moves.Move.{Move}
-use Rattle.traffic.specs.declared.moves.Move.TheVariants.{Transfer, Remove}
-use Rattle.traffic.specs.declared.moves.Occurrence.{Occurrence}
-use Rattle.traffic.specs.declared.numbers.Rules.{Rules}
-use Rattle.traffic.specs.declared.world.Row.{Row}
-use Rattle.traffic.specs.declared.world.Waiter.{Waiter}
-use Rattle.traffic.specs.Vehicles.{VehicleState}
-use Rattle.traffic.specs.Stops.{calls_on}
-use Rattle.traffic.specs.Telling.{starts, told_removal}
-use Rattle.traffic.specs.Moves.{told}
 use Rattle.traffic.specs.Links.{LinkState, wait_after, is_last, may_pass, from_queue}
+use Rattle.traffic.specs.{Moves.told, Stops.calls_on, Telling.starts, Telling.told_removal, Vehicles.VehicleState, declared.moves.Move.Move}
+use Rattle.traffic.specs.declared.{moves.Move.TheVariants.Transfer, moves.Move.TheVariants.Remove, moves.Occurrence.Occurrence, numbers.Rules.Rules}
+use Rattle.traffic.specs.declared.{stage.Stage.Stage, stage.Stage.TheVariants.Wait, stage.Stage.TheVariants.Bay, world.Row.Row, world.Waiter.Waiter}
 use Rattle.law_sleeping.specs.Quiet.{link_state_after}
-use Rattle.queue_link.specs.declared.numbers.LinkNumbers.{LinkNumbers}
-use Rattle.queue_link.specs.declared.fates.Fate.{Fate}
-use Rattle.queue_link.specs.declared.fates.Fate.TheVariants.{Stops, Arrives, Passes, Stays}
-use Rattle.queue_link.specs.declared.turns.Turn.{Turn}
-use Rattle.queue_link.specs.declared.turns.Turn.TheVariants.{Stop, Arrive, Done}
-use Rattle.queue_link.specs.Numbers.{rules_of, no_dwelling}
+use Rattle.queue_link.specs.declared.{numbers.LinkNumbers.LinkNumbers, fates.Fate.Fate, fates.Fate.TheVariants.Stops, fates.Fate.TheVariants.Arrives}
+use Rattle.queue_link.specs.declared.{fates.Fate.TheVariants.Passes, fates.Fate.TheVariants.Stays, turns.Turn.Turn, turns.Turn.TheVariants.Stop}
+use Rattle.queue_link.specs.{declared.turns.Turn.TheVariants.Arrive, declared.turns.Turn.TheVariants.Done, Numbers.rules_of, Numbers.no_dwelling}
 
 -- THE BEGIN
 -- whether the second of a row has come

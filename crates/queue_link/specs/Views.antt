@@ -1,10 +1,7 @@
 -- A link's fields as contracts see them, and what they keep.
 use Rattle.std.specs.Prelude.{◌≡◌, ◌≤◌}
 use Rattle.limits.specs.declared.TheConstants.{LAST_SECOND}
-use Rattle.queue_link.specs.declared.state.LinkState.TheInside.{Inside}
-use Rattle.queue_link.specs.Numbers.{AreNumbers}
-use Rattle.queue_link.specs.Links.{LinkView}
-use Rattle.queue_link.specs.Waking.{bay_due}
+use Rattle.queue_link.specs.{Links.LinkView, Numbers.AreNumbers, Waking.bay_due, declared.state.LinkState.TheInside.Inside}
 
 abbrev pub link_view : Inside → LinkView
 link_view s =

@@ -1,10 +1,8 @@
 -- When a link has to be woken.
 use Rattle.std.specs.Prelude.{ℕ, Bool, false, List, [], ◌∷◌, length, nat_le, Option, None, Some}
-use Rattle.traffic.specs.declared.world.Row.{Row}
-use Rattle.traffic.specs.Links.{LinkState}
+use Rattle.traffic.specs.{Links.LinkState, declared.world.Row.Row}
 use Rattle.law_sleeping.specs.Quiet.{queue_due, wait_due}
-use Rattle.queue_link.specs.declared.numbers.LinkNumbers.{LinkNumbers}
-use Rattle.queue_link.specs.Numbers.{rules_of, no_dwelling}
+use Rattle.queue_link.specs.{Numbers.rules_of, Numbers.no_dwelling, declared.numbers.LinkNumbers.LinkNumbers}
 use Rattle.calendar.specs.Waking.{earliest}
 
 -- the least second of the rows of a bay

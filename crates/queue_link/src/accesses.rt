@@ -1,13 +1,10 @@
 //! What comes to a link, what is taken from it, and what it tells of itself.
 
-ghost use Rattle.std.specs.Prelude.{◌≡◌, ◌+◌, ◌^◌, ◌<◌, ◌≤◌, ◌↔◌, [], ◌∷◌, ◌++◌};
-ghost use Rattle.std.specs.Prelude.{length, max, OnOk, IsTrue};
 ghost use Rattle.std.specs.Option.{option_copied};
+ghost use Rattle.std.specs.Prelude.{◌≡◌, ◌+◌, ◌^◌, ◌<◌, ◌≤◌, ◌↔◌, [], ◌∷◌, ◌++◌, length, max, OnOk, IsTrue};
 ghost use Rattle.limits.specs.declared.TheConstants.{LAST_SECOND};
-ghost use Rattle.traffic.specs.declared.stage.Stage.TheVariants.{Queue, Wait, Bay};
-ghost use Rattle.traffic.specs.declared.world.Row.{Row};
-ghost use Rattle.traffic.specs.Lists.{on_front};
-ghost use Rattle.traffic.specs.Moves.{at_second};
+ghost use Rattle.traffic.specs.{Lists.on_front, Moves.at_second, declared.stage.Stage.TheVariants.Queue};
+ghost use Rattle.traffic.specs.declared.{stage.Stage.TheVariants.Wait, stage.Stage.TheVariants.Bay, world.Row.Row};
 ghost use Rattle.queue_link.specs.Numbers.{AreNumbers};
 ghost use Rattle.queue_link.specs.Links.{fresh, row_on, behind_front, all_rows, first_row, front_vehicle, front_second, vehicle_at};
 

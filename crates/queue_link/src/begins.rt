@@ -3,10 +3,8 @@
 ghost use Rattle.std.specs.Prelude.{◌≡◌, ◌+◌, ◌-◌, ◌<◌, ◌≤◌, ◌++◌, map, filter, OnOk, IfOk};
 ghost use Rattle.std.specs.List.{flat_map};
 ghost use Rattle.limits.specs.declared.TheConstants.{LAST_SECOND};
-ghost use Rattle.traffic.specs.Telling.{goes_on};
-ghost use Rattle.traffic.specs.Links.{waiting, wait_after};
-ghost use Rattle.queue_link.specs.Turns.{is_due, left_in_bay, begun};
-ghost use Rattle.queue_link.specs.Waking.{is_by};
+ghost use Rattle.traffic.specs.{Links.waiting, Links.wait_after, Telling.goes_on};
+ghost use Rattle.queue_link.specs.{Turns.is_due, Turns.left_in_bay, Turns.begun, Waking.is_by};
 
 use crate::sleeps::bay_due;
 use crate::state::LinkState;

@@ -3,15 +3,10 @@
 ghost use Rattle.std.specs.Prelude.{◌≡◌, ℕ, ◌∷◌, ◌++◌, List};
 ghost use Rattle.fixed_flow.specs.Flow.{raised};
 ghost use Rattle.rows.specs.declared.settings.Dwelling.{Dwelling};
-ghost use Rattle.traffic.specs.declared.moves.Move.TheVariants.{Credit};
-ghost use Rattle.traffic.specs.declared.moves.Occurrence.{Occurrence};
-ghost use Rattle.traffic.specs.declared.numbers.Rules.{Rules};
-ghost use Rattle.traffic.specs.declared.world.Waiter.{Waiter};
-ghost use Rattle.traffic.specs.Links.{LinkState, leave_bay, link_moves};
+ghost use Rattle.traffic.specs.{Links.LinkState, Links.leave_bay, Links.link_moves, declared.moves.Move.TheVariants.Credit};
+ghost use Rattle.traffic.specs.declared.{moves.Occurrence.Occurrence, numbers.Rules.Rules, world.Waiter.Waiter};
+ghost use Rattle.queue_link.specs.{Loops.AreOn, Loops.ComeTo, Numbers.rules_of, Turns.begun, Turns.moves_left, Turns.goes_on};
 ghost use Rattle.queue_link.specs.declared.numbers.LinkNumbers.{LinkNumbers};
-ghost use Rattle.queue_link.specs.Numbers.{rules_of};
-ghost use Rattle.queue_link.specs.Turns.{begun, moves_left, goes_on};
-ghost use Rattle.queue_link.specs.Loops.{AreOn, ComeTo};
 
 /// A link's second is its begin, and then the loop of its caller: `turn`, and where a vehicle stops, its service by those who wait and its
 /// parking, until nothing more moves. Link by link these are the moves of `traffic`, what they make of the lists, and what they tell.

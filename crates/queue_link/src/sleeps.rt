@@ -4,8 +4,7 @@ ghost use Rattle.std.specs.Prelude.{◌≡◌, ◌<◌, ◌≤◌, length};
 ghost use Rattle.limits.specs.declared.TheConstants.{LAST_SECOND};
 ghost use Rattle.rows.specs.declared.settings.Dwelling.{Dwelling};
 ghost use Rattle.law_sleeping.specs.Quiet.{held_due, queue_due, wait_due, has_come, is_blocked};
-ghost use Rattle.queue_link.specs.Numbers.{AreNumbers, rules_of, no_dwelling};
-ghost use Rattle.queue_link.specs.Waking.{bay_due, due_of};
+ghost use Rattle.queue_link.specs.{Numbers.AreNumbers, Numbers.rules_of, Numbers.no_dwelling, Waking.bay_due, Waking.due_of};
 ghost use Rattle.calendar.specs.Waking.{earliest};
 
 use crate::numbers::LinkNumbers;

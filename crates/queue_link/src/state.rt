@@ -19,8 +19,7 @@ pub struct LinkState {
 }
 
 impl Model for LinkState {
-    ghost use Rattle.queue_link.specs.Links.{LinkView};
-    ghost use Rattle.queue_link.specs.Views.{link_view, link_invariant};
+    ghost use Rattle.queue_link.specs.{Links.LinkView, Views.link_view, Views.link_invariant};
 
     ghost Value = { LinkView };
 

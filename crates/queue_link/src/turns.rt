@@ -1,13 +1,10 @@
 //! Steps 3 and 4 of a link's second: the queue, and then the wait list, let their fronts go.
 
-ghost use Rattle.std.specs.Prelude.{◌≡◌, ◌≢◌, ◌+◌, ◌-◌, ◌<◌, ◌≤◌, List, [], ◌∷◌};
-ghost use Rattle.std.specs.Prelude.{◌++◌, length, OnOk, IfOk, IfNone};
+ghost use Rattle.std.specs.Prelude.{◌≡◌, ◌≢◌, ◌+◌, ◌-◌, ◌<◌, ◌≤◌, List, [], ◌∷◌, ◌++◌, length, OnOk, IfOk, IfNone};
 ghost use Rattle.fixed_flow.specs.declared.TheConstants.{VEHICLE_COST};
 ghost use Rattle.rows.specs.declared.settings.Dwelling.{Dwelling};
-ghost use Rattle.traffic.specs.declared.world.Waiter.{Waiter};
-ghost use Rattle.traffic.specs.Links.{buffered};
-ghost use Rattle.queue_link.specs.declared.fates.Fate.TheVariants.{Stays};
-ghost use Rattle.queue_link.specs.Turns.{goes_on, LeadsTo, queue_fate, wait_fate};
+ghost use Rattle.traffic.specs.{Links.buffered, declared.world.Waiter.Waiter};
+ghost use Rattle.queue_link.specs.{Turns.goes_on, Turns.LeadsTo, Turns.queue_fate, Turns.wait_fate, declared.fates.Fate.TheVariants.Stays};
 
 use crate::accesses::push_row;
 use crate::fates::Fate;

@@ -1,9 +1,7 @@
 -- What is told of a file of which each row is read by itself and by the names of those before it.
 use Rattle.records.proofs.Common.{◌≡◌, List, ℕ, map, None, Option, Err, Result, Reason, RowStop, Answers, column, body_of, TellsStop, body_fault, Row}
-use Rattle.records.specs.declared.table.Table.{Table}
-use Rattle.records.specs.Reading.{file_fault}
-use Rattle.records.specs.Tables.{table_lists}
 use Rattle.records.proofs.InTurn.{answers_file, answers_stop}
+use Rattle.records.specs.{Reading.file_fault, Tables.table_lists, declared.table.Table.Table}
 
 -- a reason that the values before a row do not change
 abbrev pub by_names : {X : Type 0} → (List (List ℕ) → Row → Option Reason) → List (List ℕ) → List X → Row → Option Reason

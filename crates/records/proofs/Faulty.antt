@@ -1,9 +1,7 @@
 -- The first fault of a file, row by row.
-use Rattle.records.proofs.Common.{◌≡◌, ap, ℕ, ◌∙◌, arith, ◌<◌, sym, None, Some, refl, Option, ◌+◌, suc, Err, Reason, RowStop, Answers, first_fault}
-use Rattle.records.proofs.Common.{first_below, TellsStop}
+use Rattle.records.proofs.Common.{◌≡◌, ap, ℕ, ◌∙◌, arith, ◌<◌, sym, None, Some, refl, Option, ◌+◌, suc, add-one, Err, Reason, RowStop, Answers, first_fault}
+use Rattle.records.{proofs.Common.first_below, proofs.Common.TellsStop, proofs.First.none_more, proofs.First.first_here, specs.Faults.behind_head}
 use Rattle.edge_files.specs.declared.reasons.RowStop.TheVariants as stop
-use Rattle.records.specs.Faults.{behind_head}
-use Rattle.records.proofs.First.{none_more, first_here}
 
 -- no row has a fault where there is none
 pub none_of_none : (reasons : ℕ → Option Reason) → first_fault None reasons 0 ≡ None
@@ -13,17 +11,13 @@ none_of_none reasons = refl
 -- one more row without a fault
 pub one_more : (reasons : ℕ → Option Reason) (n : ℕ) → first_fault None reasons n ≡ None → reasons n ≡ None → first_fault None reasons (n + 1) ≡ None
 unfolding first_fault
-one_more reasons n before here =
-    let same : suc (n + 1) ≡ suc n + 1 = omega arith in
-    ap (λ (m : ℕ). first_below (behind_head None reasons) m) same ∙ none_more (behind_head None reasons) (suc n) before here
+one_more reasons n before here = rw add-one (rw add-one at (none_more (behind_head None reasons) (suc n) before here))
 
 -- a fault where no row before has one
 pub fault_here : (reasons : ℕ → Option Reason) (n count : ℕ) (why : Reason) → n < count → first_fault None reasons n ≡ None → reasons n ≡ Some why
     → first_fault None reasons count ≡ Some (record { row = n + 1; reason = why })
 unfolding first_fault
-fault_here reasons n count why less before here =
-    let row : suc n ≡ n + 1 = omega arith in
-    first_here (behind_head None reasons) (suc n) (suc count) why (omega arith) before here ∙ ap (λ (m : ℕ). Some (record { row = m; reason = why })) row
+fault_here reasons n count why less before here = rw add-one (first_here (behind_head None reasons) (suc n) (suc count) why (omega arith) before here)
 
 -- the fault of row 0 is the first
 pub fault_head : (reasons : ℕ → Option Reason) (count : ℕ) (why : Reason) → first_fault (Some why) reasons count ≡ Some (record { row = 0; reason = why })

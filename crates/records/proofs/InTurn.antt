@@ -1,13 +1,11 @@
 -- Rows are read in turn, up to the first fault.
-use Rattle.records.proofs.Common.{◌≡◌, List, ap, ℕ, length, ◌∙◌, arith, map, [], ◌<◌, sym, None, Some, ◌++◌, ◌∷◌, refl, Option, ◌+◌, get_or, ◌≤◌, take, subst}
-use Rattle.records.proofs.Common.{Err, Ok, Result, length-map, get_or-map, take_all, fields_of, ByteRecord, Reason, RowStop, number_of, with_name, Answers}
-use Rattle.records.proofs.Common.{first_fault, field, column, body_of, TellsStop, body_fault, Row}
+use Rattle.records.proofs.{Columns.map_more, Columns.column_more, Common.◌≡◌, Common.List, Common.ap}
+use Rattle.records.proofs.Common.{ℕ, length, ◌∙◌, arith, map, [], ◌<◌, sym, None, Some, ◌++◌, ◌∷◌, refl, Option, ◌+◌, get_or, ◌≤◌, take, subst, Err, Ok, Result}
+use Rattle.records.proofs.Common.{length-map, get_or-map, take_all, fields_of, ByteRecord, Reason, RowStop, number_of, with_name, Answers, first_fault, field}
+use Rattle.records.proofs.{Common.column, Common.body_of, Common.TellsStop, Common.body_fault, Common.Row, Faulty.none_of_none, Faulty.one_more}
+use Rattle.records.{proofs.Faulty.fault_here, proofs.Faulty.answers_head, specs.Faults.unless, specs.Reading.reason_after, specs.Reading.file_fault}
 use Rattle.std.proofs.lemmas.List.{length-take}
 use Rattle.edge_files.specs.declared.reasons.RowStop.TheVariants as stop
-use Rattle.records.specs.Faults.{unless}
-use Rattle.records.specs.Reading.{reason_after, file_fault}
-use Rattle.records.proofs.Columns.{map_more, column_more}
-use Rattle.records.proofs.Faulty.{none_of_none, one_more, fault_here, answers_head}
 
 -- the first n rows have no fault, and these are their names and values
 pub record IsReadTo {X : Type 0} (key : ℕ) (value : Row → X) (reason : List (List ℕ) → List X → Row → Option Reason) (records : List ByteRecord) (n : ℕ) (names : List (List ℕ)) (values : List X) : Type 0 where
@@ -20,12 +18,10 @@ pub row_at : (records : List ByteRecord) (n : ℕ) (row : ByteRecord) → n < le
 row_at records n row less is = get_or-map fields_of records n row [] less ∙ ap fields_of (sym is)
 
 reason_of : {X : Type 0} (o : Option Reason) (value v : X) → Ok v ≡ unless o value → (o ≡ None) × (v ≡ value)
-reason_of None value v h = (refl, cc)
-reason_of (Some why) value v h = cc
+reason_of o value v h = (grind arith, grind arith)
 
 why_of : {X : Type 0} (o : Option Reason) (value : X) (why : Reason) → Err why ≡ unless o value → o ≡ Some why
-why_of None value why h = cc
-why_of (Some why') value why h = cc
+why_of o value why h = grind arith
 
 pub read_none : {X : Type 0} (key : ℕ) (value : Row → X) (reason : List (List ℕ) → List X → Row → Option Reason) (records : List ByteRecord) (names : List (List ℕ)) (values : List X) → names ≡ [] → values ≡ []
     → IsReadTo key value reason records 0 names values
@@ -43,13 +39,9 @@ read_more {X = X} key value reason records n names names' values values' row v b
     let good = reason_of (reason names values (fields_of row)) (value (fields_of row)) v found in
     record {
       none = one_more (reason_after key value reason rows) n before.none
-          (ap (λ (r : Row). reason (column key (take n rows)) (map value (take n rows)) r) same
-          ∙ ap (λ (l : List (List ℕ)). reason l (map value (take n rows)) (fields_of row)) (sym before.named)
-          ∙ ap (λ (l : List X). reason names l (fields_of row)) (sym before.valued) ∙ good.0);
-      named = named ∙ ap (λ (r : Row). with_name names (field r key)) (sym same)
-          ∙ column_more key rows names n within before.named (ap (λ (r : Row). number_of (field r key) names) same ∙ fresh);
-      valued = pushed ∙ ap (λ (l : List X). l ++ v ∷ []) before.valued ∙ ap (λ (w : X). map value (take n rows) ++ w ∷ []) (good.1 ∙ ap value (sym same))
-          ∙ sym (map_more value rows n within);
+          (rw (same, ← before.named, ← before.valued) good.0);
+      named = rw (named, ← same) (column_more key rows names n within before.named (rw same fresh));
+      valued = rw (pushed, before.valued, map_more value rows n within, same, good.1);
     }
 
 -- a row with a reason is the first fault
@@ -62,10 +54,8 @@ read_fault {X = X} view answer key value reason records n names values row why t
     let same = row_at records n row less is in
     let within : n < length rows = omega (arith, length-map records fields_of) in
     let first = fault_here (reason_after key value reason rows) n (length rows) why within before.none
-    (ap (λ (r : Row). reason (column key (take n rows)) (map value (take n rows)) r) same
-    ∙ ap (λ (l : List (List ℕ)). reason l (map value (take n rows)) (fields_of row)) (sym before.named)
-    ∙ ap (λ (l : List X). reason names l (fields_of row)) (sym before.valued) ∙ why_of _ _ why found) in
-    subst (λ (s : RowStop). Answers view (Err s) (first_fault None (reason_after key value reason rows) (length rows)) answer) (sym tells) first
+    (rw (same, ← before.named, ← before.valued) (why_of _ _ why found)) in
+    rw tells first
 
 -- all rows are read
 pub read_all : {X : Type 0} (key : ℕ) (value : Row → X) (reason : List (List ℕ) → List X → Row → Option Reason) (records : List ByteRecord) (n : ℕ) (names : List (List ℕ)) (values : List X)
@@ -74,19 +64,14 @@ pub read_all : {X : Type 0} (key : ℕ) (value : Row → X) (reason : List (List
 unfolding body_fault
 read_all key value reason records n names values read end =
     let rows : List Row = map fields_of records in
-    let all : n ≡ length rows = end ∙ sym (length-map records fields_of) in
-    let whole : take n rows ≡ rows = ap (λ (m : ℕ). take m rows) all ∙ take_all (length rows) rows (omega arith) in (
-      ap (λ (m : ℕ). first_fault None (reason_after key value reason rows) m) (sym all) ∙ read.none,
-      read.named ∙ ap (λ (l : List Row). column key l) whole,
-      read.valued ∙ ap (λ (l : List Row). map value l) whole,
-    )
+    let whole : take n rows ≡ rows = take_all n rows (omega (arith, length-map records fields_of)) in
+    (rw (length-map records fields_of, ← end) read.none, rw whole at read.named, rw whole at read.valued)
 
 -- what is answered of the rows behind a header without fault is answered of the file; the values may depend on all the rows
 pub answers_body : {A B X : Type 0} (view : A → B) (answer : Result A RowStop) (head : Option Reason) (key : ℕ) (value : List Row → Row → X) (reason : List (List ℕ) → List X → Row → Option Reason) (bytes : List ℕ) (rows : List Row) (read : List Row → B)
     → head ≡ None → rows ≡ body_of bytes → Answers view answer (body_fault None key (value rows) reason rows) (read rows) → Answers view answer (file_fault head key (value (body_of bytes)) reason bytes) (read (body_of bytes))
 answers_body view answer head key value reason bytes rows read good same answers =
-    let at_body = subst (λ (l : List Row). Answers view answer (body_fault None key (value l) reason l) (read l)) same answers in
-    subst (λ (h : Option Reason). Answers view answer (body_fault h key (value (body_of bytes)) reason (body_of bytes)) (read (body_of bytes))) (sym good) at_body
+    rw (good, ← same) answers
 
 -- the same, where the values are those of each row alone
 pub answers_file : {A B X : Type 0} (view : A → B) (answer : Result A RowStop) (head : Option Reason) (key : ℕ) (value : Row → X) (reason : List (List ℕ) → List X → Row → Option Reason) (bytes : List ℕ) (rows : List Row) (read : List Row → B)

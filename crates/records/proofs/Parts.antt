@@ -1,9 +1,8 @@
 -- The parts between separators, one more part taken off.
 use Rattle.records.proofs.Common.{◌≡◌, List, ap, ℕ, length, ◌∙◌, arith, map, [], ◌<◌, sym, None, Some, ◌++◌, ◌∷◌, refl, true, Bool, ◌+◌, false, cond, ◌≤◌}
 use Rattle.records.proofs.Common.{drop, not, take, append_assoc, Bor, nat_tests, map-append, nat_lt, parts_of}
-use Rattle.std.specs.Prelude.{position, ◌==◌}
-use Rattle.std.specs.List.{slice_split, onto_first, position_or_len}
 use Rattle.std.proofs.lemmas.List.Splits.{slice_split_first}
+use Rattle.std.specs.{List.slice_split, List.onto_first, List.position_or_len, Prelude.position, Prelude.◌==◌}
 
 one_part_step : (b : Bool) (x : ℕ) (xs : List ℕ) (parts : List (List ℕ)) (n : ℕ) → length (x ∷ xs) ≤ cond (not b) (1 + n) 0 → (length xs ≤ n → parts ≡ xs ∷ [])
     → cond b ([] ∷ parts) (onto_first x parts) ≡ (x ∷ xs) ∷ []
@@ -30,13 +29,8 @@ parts_more separator rest bytes parts parts' part n place cut pushed before =
     let test : ℕ → Bool = λ b. b == separator in
     let at = first_place (position_or_len test rest) (length rest) n place in
     let first = slice_split_first test rest 0 at.1 in
-    let same : slice_split test rest ≡ take n rest ∷ slice_split test (drop (n + 1) rest) = first ∙ ap (λ (m : ℕ). take m rest ∷ slice_split test (drop (m + 1) rest)) at.0 in
-    ap (λ (l : List (Bor (List ℕ))). map (λ p. p.now) l ++ slice_split test (drop (n + 1) rest)) pushed
-    ∙ ap (λ (l : List (List ℕ)). l ++ slice_split test (drop (n + 1) rest)) (map-append (λ (p : Bor (List ℕ)). p.now) parts (part ∷ []))
-    ∙ append_assoc (map (λ p. p.now) parts) (part.now ∷ []) (slice_split test (drop (n + 1) rest))
-    ∙ ap (λ (l : List ℕ). map (λ p. p.now) parts ++ (l ∷ slice_split test (drop (n + 1) rest))) cut
-    ∙ ap (λ (l : List (List ℕ)). map (λ p. p.now) parts ++ l) (sym same)
-    ∙ before
+    let same = rw at.0 at first in
+    rw (pushed, map-append, append_assoc, cut) (rw same at before)
 
 -- the rest is the last part
 pub parts_last : (separator : ℕ) (bytes : List ℕ) (rest : Bor (List ℕ)) (parts parts' : List (Bor (List ℕ))) → position (λ b. b == separator) rest.now ≡ None
@@ -45,7 +39,4 @@ unfolding parts_of
 parts_last separator bytes rest parts parts' none pushed before =
     let test : ℕ → Bool = λ b. b == separator in
     let last = one_part test rest.now (no_place (position_or_len test rest.now) (length rest.now) none) in
-    ap (λ (l : List (Bor (List ℕ))). map (λ p. p.now) l) pushed
-    ∙ map-append (λ (p : Bor (List ℕ)). p.now) parts (rest ∷ [])
-    ∙ ap (λ (l : List (List ℕ)). map (λ p. p.now) parts ++ l) (sym last)
-    ∙ before
+    rw (pushed, map-append) (rw last at before)

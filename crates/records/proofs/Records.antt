@@ -2,8 +2,7 @@
 use Rattle.std.proofs.Common.{◌≡◌, ℕ, zero, suc, ◌+◌, ◌≤◌, Bool, true, false, cond, List, [], ◌∷◌, length, Option, None, Some, refl, sym, ◌∙◌, ap, subst, arith}
 use Rattle.csv.specs.Machine.{Read, next_record, step, is_end, ends_at_end}
 use Rattle.csv.specs.Reading.{Reached, AreRecords, records, records_from, records_next, strip_bom, is_bom}
-use Rattle.csv.specs.declared.parser.Config.{Config}
-use Rattle.csv.specs.declared.parser.State.{State}
+use Rattle.csv.specs.declared.parser.{Config.Config, State.State}
 use Rattle.csv.specs.declared.parser.State.TheVariants as st
 
 some_is : (p q : Read) → Some p ≡ Some q → p ≡ q
@@ -38,8 +37,7 @@ none_at_end cfg p h = cc
 few_at_end : (cfg : Config) (s s2 : State) (xs ys : List ℕ) (rows : List (List (List ℕ))) → s ≡ st.StartRecord → xs ≡ [] → Reached cfg s xs rows s2 ys → length rows ≤ 0
 unfolding Reached
 few_at_end cfg s s2 xs ys [] start end reached = omega arith
-few_at_end cfg s s2 xs ys (r ∷ rows) start end (p, is, same, more) =
-    absurd (none_at_end cfg p (ap (λ (t : State). next_record cfg t [] [] []) (sym start) ∙ ap (λ (l : List ℕ). next_record cfg s [] [] l) (sym end) ∙ is))
+few_at_end cfg s s2 xs ys (r ∷ rows) start end (p, is, same, more) = absurd (none_at_end cfg p (rw (start, end) at is))
 
 -- no more records than bytes and one
 pub few : (cfg : Config) (s s2 : State) (xs ys : List ℕ) (rows : List (List (List ℕ))) → Reached cfg s xs rows s2 ys → length rows ≤ length xs + 1
@@ -55,24 +53,20 @@ few cfg s s2 (c ∷ rest) ys (r ∷ rows) (p, is, same, more) =
 none_from : (cfg : Config) (n : ℕ) (s : State) (xs : List ℕ) → next_record cfg s [] [] xs ≡ None → records_from cfg n s xs ≡ []
 unfolding records_from
 none_from cfg zero s xs h = refl
-none_from cfg (suc n) s xs h = ap (λ (o : Option Read). records_next (records_from cfg n) o) h
+none_from cfg (suc n) s xs h = rw h refl
 
 reached_from : (cfg : Config) (n : ℕ) (s s2 : State) (xs ys : List ℕ) (rows : List (List (List ℕ))) → length rows ≤ n → Reached cfg s xs rows s2 ys → next_record cfg s2 [] [] ys ≡ None → records_from cfg n s xs ≡ rows
 unfolding records_from Reached
-reached_from cfg n s s2 xs ys [] le reached none =
-    none_from cfg n s xs (ap (λ (t : State). next_record cfg t [] [] xs) reached.0 ∙ ap (λ (l : List ℕ). next_record cfg s2 [] [] l) reached.1 ∙ none)
+reached_from cfg n s s2 xs ys [] le reached none = none_from cfg n s xs (rw (reached.0, reached.1) none)
 reached_from cfg zero s s2 xs ys (r ∷ rows) le reached none = absurd (omega arith)
 reached_from cfg (suc n) s s2 xs ys (r ∷ rows) le (p, is, same, more) none =
-    ap (λ (o : Option Read). records_next (records_from cfg n) o) is
-    ∙ ap (λ (l : List (List (List ℕ))). p.0 ∷ l) (reached_from cfg n p.1 s2 p.2 ys rows (omega arith) more none)
-    ∙ ap (λ (t : List (List ℕ)). t ∷ rows) (sym same)
+    rw (is, reached_from cfg n p.1 s2 p.2 ys rows (omega arith) more none, same) refl
 
 pub all_records : (cfg : Config) (xs : List ℕ) (rows : List (List (List ℕ))) → AreRecords cfg st.StartRecord xs rows → rows ≡ records cfg xs
 all_records cfg xs rows (s2, ys, reached, none) = sym (reached_from cfg (length xs + 1) st.StartRecord s2 xs ys rows (few cfg st.StartRecord s2 xs ys rows reached) reached none)
 
 shorter_bom : (b : Bool) (rest whole : List ℕ) → length rest ≤ length whole → length (cond b rest whole) ≤ length whole
-shorter_bom true rest whole le = le
-shorter_bom false rest whole le = omega arith
+shorter_bom b rest whole le = grind arith
 
 -- a byte order mark that is left out leaves no more bytes
 pub length-strip_bom : (bytes : List ℕ) → length (strip_bom bytes) ≤ length bytes

@@ -1,28 +1,23 @@
 -- In a file without a fault no row has a reason; and what is then known of its numbers and names.
-use Rattle.records.proofs.Common.{◌≡◌, List, ap, ℕ, length, ◌∙◌, arith, map, [], ◌<◌, None, Some, ◌∷◌, refl, true, Bool, Option, false, cond, get_or, ◌&&◌}
-use Rattle.records.proofs.Common.{◌≤◌, suc, take, zero, inl, inr, nat_tests, length-map, list_all, nat_lt, nat_le, unwrap_or, is_none, Reason, number_of}
+use Rattle.records.proofs.Common.{◌≡◌, List, ap, ℕ, length, ◌∙◌, arith, map, [], ◌<◌, None, Some, ◌∷◌, refl, true, Bool, Option, false, cond, get_or, ◌&&◌, ◌≤◌}
+use Rattle.records.proofs.Common.{suc, take, zero, inl, inr, nat_tests, length-map, list_all, nat_lt, nat_le, unwrap_or, is_none, Reason, number_of}
 use Rattle.records.proofs.Common.{first_fault, first_below, field, column, are_digits, number_in, value_of, body_fault, Row}
-use Rattle.std.proofs.lemmas.Bool.{cases_lt}
-use Rattle.std.proofs.lemmas.List.{length-take-le}
-use Rattle.records.specs.Faults.{or_else, fault_at, behind_head}
-use Rattle.records.specs.Reading.{reason_after}
 use Rattle.records.proofs.Sound.{both_true, number_known}
+use Rattle.records.specs.{Faults.or_else, Faults.fault_at, Faults.behind_head, Reading.reason_after}
+use Rattle.std.proofs.lemmas.{Bool.cases_lt, List.length-take-le}
 
 pub less_than : (limit n : ℕ) → nat_le limit n ≡ false → n < limit
 less_than limit n h = grind (arith, nat_tests)
 
 pub or_none : {A : Type 0} (a b : Option A) → or_else a b ≡ None → (a ≡ None) × (b ≡ None)
-or_none None b h = (refl, h)
-or_none (Some a) b h = (cc, cc)
+or_none a b h = (grind arith, grind arith)
 
 pub no_reason : (row : ℕ) (why : Option Reason) → fault_at row why ≡ None → why ≡ None
-no_reason row None h = refl
-no_reason row (Some why) h = cc
+no_reason row why h = grind arith
 
 -- of tests in their order none applies
 pub none_applies : (b : Bool) (why : Reason) (rest : Option Reason) → cond b (Some why) rest ≡ None → (b ≡ false) × (rest ≡ None)
-none_applies true why rest h = cc
-none_applies false why rest h = (refl, h)
+none_applies b why rest h = (grind arith, grind arith)
 
 -- no place below has a reason where there is no fault
 none_at : (reasons : ℕ → Option Reason) (n i : ℕ) → i < n → first_below reasons n ≡ None → reasons i ≡ None
@@ -73,15 +68,7 @@ few_rows {X = X} head key value reason rows limit none room = by (length rows) r
 
 in_range : (a : Bool) (low high v : ℕ) → is_none (cond (a && nat_le low v && nat_le v high) (Some v) None) ≡ false
     → (nat_le low (unwrap_or (cond (a && nat_le low v && nat_le v high) (Some v) None) 0) && nat_le (unwrap_or (cond (a && nat_le low v && nat_le v high) (Some v) None) 0) high) ≡ true
-in_range a low high v some = by (a && nat_le low v && nat_le v high) refl some
-  where
-    last_two : (a b c : Bool) → (a && b && c) ≡ true → (b && c) ≡ true
-    last_two a b c h = grind arith
-
-    by : (c : Bool) → (a && nat_le low v && nat_le v high) ≡ c → is_none (cond c (Some v) None) ≡ false
-        → (nat_le low (unwrap_or (cond c (Some v) None) 0) && nat_le (unwrap_or (cond c (Some v) None) 0) high) ≡ true
-    by true is some = last_two a (nat_le low v) (nat_le v high) is
-    by false is some = cc
+in_range a low high v some = grind (arith, nat_tests)
 
 -- a number that is read of a field is in its range
 pub number_in_range : (low high : ℕ) (bytes : List ℕ) → is_none (number_in low high bytes) ≡ false

@@ -1,8 +1,6 @@
 -- The first fault of a file: the least row that has a reason, and the least of its reasons.
 use Rattle.std.specs.Prelude.{◌≡◌, ℕ, zero, suc, Bool, if◌then◌else◌, List, [], ◌∷◌, Option, None, Some, Result, Ok, Err}
-use Rattle.edge_files.specs.declared.reasons.Reason.{Reason}
-use Rattle.edge_files.specs.declared.reasons.RowFault.{RowFault}
-use Rattle.edge_files.specs.declared.reasons.RowStop.{RowStop}
+use Rattle.edge_files.specs.declared.reasons.{Reason.Reason, RowFault.RowFault, RowStop.RowStop}
 use Rattle.edge_files.specs.declared.reasons.RowStop.TheVariants as stop
 
 -- the first of two reasons or faults that is there

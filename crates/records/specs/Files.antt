@@ -1,13 +1,10 @@
 -- Row 0 of a file and the rows behind it.
 use Rattle.std.specs.Prelude.{◌≡◌, ℕ, Bool, false, not, ◌&&◌, nat_eq, nat_lt, List, [], ◌∷◌, length, drop, Option, None, Some, Result, Ok, Err}
 use Rattle.limits.specs.declared.TheConstants.{MAX_FILE_BYTES}
-use Rattle.edge_files.specs.declared.reasons.Reason.{Reason}
+use Rattle.edge_files.specs.declared.reasons.{Reason.Reason, RowStop.RowStop}
 use Rattle.edge_files.specs.declared.reasons.Reason.TheVariants as reason
-use Rattle.edge_files.specs.declared.reasons.RowStop.{RowStop}
 use Rattle.edge_files.specs.declared.reasons.RowStop.TheVariants as stop
-use Rattle.records.specs.Rows.{Row, rows_of}
-use Rattle.records.specs.Fields.{is_header}
-use Rattle.records.specs.Faults.{least}
+use Rattle.records.specs.{Faults.least, Fields.is_header, Rows.Row, Rows.rows_of}
 
 -- the first row is the header
 abbrev pub begins_with : List (List ℕ) → List Row → Bool

@@ -1,6 +1,6 @@
 -- Decimal numbers in a field: 1 to 20 digits, leading zeros allowed, in a range.
-use Rattle.std.specs.Prelude.{ℕ, ℤ, pos, neg_ℤ, ◌+◌, ◌*◌, ◌-◌, Bool, ◌&&◌, nat_le, nat_eq, if◌then◌else◌, List, [], ◌∷◌, length, fold, Option, None, Some, option_map}
-use Rattle.std.specs.List.{list_all}
+use Rattle.std.specs.{List.list_all, Prelude.ℕ, Prelude.ℤ}
+use Rattle.std.specs.Prelude.{pos, neg_ℤ, ◌+◌, ◌*◌, ◌-◌, Bool, ◌&&◌, nat_le, nat_eq, if◌then◌else◌, List, [], ◌∷◌, length, fold, Option, None, Some, option_map}
 
 -- a decimal digit, `0` to `9`
 abbrev pub is_digit : ℕ → Bool

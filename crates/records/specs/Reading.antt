@@ -1,11 +1,7 @@
 -- Rows read one after the other, each by itself, the names of the rows before it and what these gave.
 use Rattle.std.specs.Prelude.{ℕ, List, [], length, take, get_or, map, Option}
-use Rattle.edge_files.specs.declared.reasons.Reason.{Reason}
-use Rattle.edge_files.specs.declared.reasons.RowFault.{RowFault}
-use Rattle.records.specs.Rows.{Row}
-use Rattle.records.specs.Fields.{column}
-use Rattle.records.specs.Faults.{first_fault}
-use Rattle.records.specs.Files.{body_of}
+use Rattle.edge_files.specs.declared.reasons.{Reason.Reason, RowFault.RowFault}
+use Rattle.records.specs.{Faults.first_fault, Fields.column, Files.body_of, Rows.Row}
 
 -- the reason of the row at a place, by the names that the rows before it have in a column and by the values of these rows
 abbrev pub reason_after : {X : Type 0} → ℕ → (Row → X) → (List (List ℕ) → List X → Row → Option Reason) → List Row → ℕ → Option Reason

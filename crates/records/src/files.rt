@@ -1,7 +1,6 @@
 ghost use Rattle.std.specs.Prelude.{◌≡◌, ◌<◌, ◌^◌, length, map, drop, IfOk};
 ghost use Rattle.csv.specs.Records.{fields_of};
-ghost use Rattle.records.specs.Rows.{rows_of};
-ghost use Rattle.records.specs.Files.{begins_with, head_reason, optional_head_reason, TellsHead};
+ghost use Rattle.records.specs.{Files.begins_with, Files.head_reason, Files.optional_head_reason, Files.TellsHead, Rows.rows_of};
 
 use crate::faults::fault;
 use crate::fields::is_header;

@@ -4,12 +4,8 @@ ghost use Rattle.std.specs.Prelude.{◌≡◌, ◌<◌, ◌^◌, ℕ, List, Opti
 ghost use Rattle.csv.specs.Records.{fields_of};
 ghost use Rattle.edge_files.specs.declared.reasons.Reason.{Reason};
 ghost use Rattle.events.specs.Names.{number_of};
-ghost use Rattle.records.specs.Rows.{Row, rows_of};
-ghost use Rattle.records.specs.Fields.{field, holds_name, column};
-ghost use Rattle.records.specs.Faults.{unless, Answers};
-ghost use Rattle.records.specs.Files.{TellsHead, body_of};
-ghost use Rattle.records.specs.Reading.{body_fault, file_fault};
-ghost use Rattle.records.specs.Tables.{table_lists};
+ghost use Rattle.records.specs.{Faults.unless, Faults.Answers, Fields.field, Fields.holds_name, Fields.column, Files.TellsHead};
+ghost use Rattle.records.specs.{Files.body_of, Reading.body_fault, Reading.file_fault, Rows.Row, Rows.rows_of, Tables.table_lists};
 
 use crate::adding::add_row;
 use crate::faults::fault;

@@ -1,11 +1,8 @@
 -- What holds of a memory's plans holds when the worst were dropped.
 use Rattle.std.proofs.Common.{◌≡◌, ℕ, zero, suc, ◌-◌, Bool, true, List, [], ◌∷◌, length, refl}
-use Rattle.std.specs.Prelude.{remove}
-use Rattle.std.specs.List.{list_all}
-use Rattle.std.proofs.lemmas.Bool.{and_from, and_parts}
+use Rattle.std.{proofs.lemmas.Bool.and_from, proofs.lemmas.Bool.and_parts, specs.List.list_all, specs.Prelude.remove}
 use Rattle.rows.specs.PlanRows.{PlanRows}
-use Rattle.plan_memory.specs.Scores.{worst}
-use Rattle.plan_memory.specs.Memories.{MemoryRows, without, after_drops, reduced}
+use Rattle.plan_memory.specs.{Memories.MemoryRows, Memories.without, Memories.after_drops, Memories.reduced, Scores.worst}
 use Rattle.router.specs.Legs.{are_on}
 use Rattle.replanning.specs.Persons.{is_on}
 

@@ -1,13 +1,10 @@
 -- Activities whose ends are moved are activities of a plan.
 use Rattle.std.proofs.Common.{◌≡◌, ℕ, suc, ◌+◌, ◌≤◌, true, List, [], ◌∷◌, length, map, Option, None, Some, ℤ, refl, ap, arith}
-use Rattle.std.specs.List.{enumerate_from}
-use Rattle.std.specs.Option.{option_map}
-use Rattle.std.proofs.lemmas.Bool.{and_from, and_parts}
-use Rattle.std.proofs.lemmas.Bool.Decides.{nat_tests}
+use Rattle.std.proofs.lemmas.Bool.{and_from, and_parts, Decides.nat_tests}
+use Rattle.std.specs.{List.enumerate_from, Option.option_map}
 use Rattle.limits.specs.declared.TheConstants.{LAST_SECOND}
 use Rattle.draws.specs.Words.{Source}
-use Rattle.rows.specs.declared.plan.Act.{Act}
-use Rattle.rows.specs.Plan.{is_end, has_end, is_open, are_acts}
+use Rattle.rows.specs.{Plan.is_end, Plan.has_end, Plan.is_open, Plan.are_acts, declared.plan.Act.Act}
 use Rattle.replanning.specs.Acts.{moved, move_of, moved_act, moved_acts}
 
 module _ (range end : ℕ) (words : Source) (within : end ≤ LAST_SECOND) where

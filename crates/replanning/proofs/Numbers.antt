@@ -1,8 +1,7 @@
 -- Lists with the numbers of their items.
 use Rattle.std.proofs.Common.{◌≡◌, ℕ, zero, suc, ◌+◌, ◌<◌, Bool, true, List, [], ◌∷◌, ◌++◌, length, map, take, get_or, refl, sym, ◌∙◌, ap, arith, add-zero}
+use Rattle.std.proofs.lemmas.{Bool.and_parts, List.map-append, List.take_more, List.length-take-le}
 use Rattle.std.specs.List.{All, enumerate_from, list_all}
-use Rattle.std.proofs.lemmas.Bool.{and_parts}
-use Rattle.std.proofs.lemmas.List.{map-append, take_more, length-take-le}
 
 -- one item more
 pub numbered_more : {A : Type 0} (k : ℕ) (xs : List A) (x : A) → enumerate_from k (xs ++ x ∷ []) ≡ enumerate_from k xs ++ (k + length xs, x) ∷ []

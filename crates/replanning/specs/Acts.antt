@@ -1,12 +1,8 @@
 -- TimeMutation: a plan whose activities end at other seconds.
+use Rattle.std.specs.{Int.int_max, Int.RustNames.unsigned_abs, List.enumerate_from}
 use Rattle.std.specs.Prelude.{ℕ, ◌+◌, min, List, map, option_map, ℤ, pos, neg_ℤ, ◌+ℤ◌}
-use Rattle.std.specs.Int.{int_max}
-use Rattle.std.specs.Int.RustNames.{unsigned_abs}
-use Rattle.std.specs.List.{enumerate_from}
-use Rattle.draws.specs.Words.{Source, word}
-use Rattle.draws.specs.Choices.{between}
-use Rattle.rows.specs.declared.plan.Act.{Act}
-use Rattle.rows.specs.PlanRows.{PlanRows}
+use Rattle.draws.specs.{Choices.between, Words.Source, Words.word}
+use Rattle.rows.specs.{PlanRows.PlanRows, declared.plan.Act.Act}
 use Rattle.replanning.specs.declared.acts.TheConstants.{FIRST_ACT_WORD}
 
 -- a second moved by so many seconds, raised to 0 and cut to the end of the day

@@ -1,11 +1,8 @@
 -- ReRoute: a plan whose car legs have the routes of least arrival by the travel times of the day before.
 use Rattle.std.specs.Prelude.{ℕ, List, unwrap_or}
-use Rattle.rows.specs.declared.plan.Act.{Act}
-use Rattle.rows.specs.declared.plan.Leg.{Leg}
-use Rattle.rows.specs.PlanRows.{PlanRows}
+use Rattle.rows.specs.{PlanRows.PlanRows, declared.plan.Act.Act, declared.plan.Leg.Leg}
 use Rattle.walks.specs.Arrivals.{Arrivals}
-use Rattle.router.specs.Graphs.{Graph}
-use Rattle.router.specs.Legs.{route_between, with_route, each_leg}
+use Rattle.router.specs.{Graphs.Graph, Legs.route_between, Legs.with_route, Legs.each_leg}
 
 -- a leg between an activity and one on a link: a car leg has a new route, left at the planned end of the first activity, or its old one
 -- where there is no new one of at most 1,000 links

@@ -1,21 +1,15 @@
 -- What replanning makes of a person's memory, and of all memories.
-use Rattle.std.specs.Prelude.{ℕ, ◌≤◌, Bool, List, map}
-use Rattle.std.specs.List.{list_all, enumerate_from}
+use Rattle.std.specs.{List.list_all, List.enumerate_from, Prelude.ℕ, Prelude.◌≤◌, Prelude.Bool, Prelude.List, Prelude.map}
 use Rattle.limits.specs.declared.TheConstants.{LAST_SECOND}
 use Rattle.draws.specs.Words.{Source, person_source, word}
-use Rattle.learning.specs.declared.settings.Learning.{Learning}
-use Rattle.learning.specs.declared.strategies.Strategy.{Strategy}
+use Rattle.learning.specs.{Ranges.AreInRange, Strategies.strategy_of, declared.settings.Learning.Learning, declared.strategies.Strategy.Strategy}
 use Rattle.learning.specs.declared.strategies.Strategy.TheVariants as strategy
-use Rattle.learning.specs.Ranges.{AreInRange}
-use Rattle.learning.specs.Strategies.{strategy_of}
 use Rattle.walks.specs.Arrivals.{Arrivals}
-use Rattle.router.specs.Graphs.{Graph}
+use Rattle.router.specs.{Graphs.Graph, Legs.are_on}
 use Rattle.rows.specs.PlanRows.{PlanRows}
 use Rattle.plan_memory.specs.declared.choices.Choice.TheVariants as choice
 use Rattle.plan_memory.specs.Memories.{MemoryRows, chosen_plan, with_plan, with_choice, reduced}
-use Rattle.replanning.specs.Acts.{mutated_plan}
-use Rattle.router.specs.Legs.{are_on}
-use Rattle.replanning.specs.Legs.{rerouted_plan}
+use Rattle.replanning.specs.{Acts.mutated_plan, Legs.rerouted_plan}
 
 -- what persons replan by before an iteration: the network, when the end of each link is reached by the travel times of the day before, the settings, where all random words begin,
 -- the second at which a day ends, and the iteration's number

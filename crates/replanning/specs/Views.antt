@@ -1,8 +1,7 @@
 -- What persons replan by, as the definitions see it.
 use Rattle.std.specs.Prelude.{◌≡◌, length}
-use Rattle.replanning.specs.declared.replanning.Replanning.{Replanning}
+use Rattle.replanning.specs.{Persons.Basis, Persons.IsBasis, declared.replanning.Replanning.Replanning}
 use Rattle.travel_times.specs.Times.{arrivals}
-use Rattle.replanning.specs.Persons.{Basis, IsBasis}
 
 abbrev pub basis_of : Replanning → Basis
 basis_of r = record {

@@ -1,12 +1,9 @@
 //! TimeMutation: a plan whose activities end at other seconds.
 
-ghost use Rattle.std.specs.Prelude.{◌≡◌, ◌<◌, ◌≤◌, ◌+◌, ◌^◌, ◌∷◌, ◌++◌, [], ◌≤ℤ◌};
-ghost use Rattle.std.specs.Prelude.{ℤ, pos, neg_ℤ};
-ghost use Rattle.std.specs.Prelude.{length, map, take, slice_index_or, None, true, IfOk};
-ghost use Rattle.std.specs.List.{enumerate_from};
+ghost use Rattle.std.specs.{List.enumerate_from, Prelude.◌≡◌, Prelude.◌<◌};
+ghost use Rattle.std.specs.Prelude.{◌≤◌, ◌+◌, ◌^◌, ◌∷◌, ◌++◌, [], ◌≤ℤ◌, ℤ, pos, neg_ℤ, length, map, take, slice_index_or, None, true, IfOk};
 ghost use Rattle.limits.specs.declared.TheConstants.{LAST_SECOND};
-ghost use Rattle.rows.specs.Plan.{are_acts};
-ghost use Rattle.rows.specs.PlanRows.{plan_rows};
+ghost use Rattle.rows.specs.{Plan.are_acts, PlanRows.plan_rows};
 ghost use Rattle.replanning.specs.Acts.{moved, move_of, moved_act, moved_acts, mutated_plan};
 
 use draws::{Draws, between};

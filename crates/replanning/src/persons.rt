@@ -3,15 +3,12 @@
 ghost use Rattle.std.specs.Prelude.{◌≡◌, ◌<◌, ◌≤◌, length, true, IfOk};
 ghost use Rattle.draws.specs.Words.{word};
 ghost use Rattle.learning.specs.Strategies.{strategy_of};
+ghost use Rattle.plan_memory.specs.Memories.{reduced, chosen_plan, with_choice, with_plan};
 ghost use Rattle.plan_memory.specs.declared.TheConstants.{MAX_HELD};
-ghost use Rattle.plan_memory.specs.Memories.{reduced};
 ghost use Rattle.rows.specs.PlanRows.{plan_rows};
-ghost use Rattle.plan_memory.specs.Memories.{chosen_plan, with_choice, with_plan};
-ghost use Rattle.replanning.specs.Acts.{mutated_plan};
+ghost use Rattle.replanning.specs.{Acts.mutated_plan, Legs.rerouted_plan, Persons.by_strategy, Persons.words_of, Persons.replanned};
+ghost use Rattle.replanning.specs.{Persons.is_on, Views.basis_of, Views.IsReplanning};
 ghost use Rattle.travel_times.specs.Times.{arrivals};
-ghost use Rattle.replanning.specs.Legs.{rerouted_plan};
-ghost use Rattle.replanning.specs.Persons.{by_strategy, words_of, replanned, is_on};
-ghost use Rattle.replanning.specs.Views.{basis_of, IsReplanning};
 
 use crate::acts::mutate_times;
 use crate::plans::reroute;

@@ -1,17 +1,11 @@
 -- Those who wait at one stop, among all who wait on its link.
-use Rattle.std.proofs.Common.{◌≡◌, ◌≢◌, ℕ, ◌+◌, ◌-◌, Bool, true, false, List, [], ◌∷◌, ◌++◌, length, take, refl, ap, sym, ◌∙◌, arith}
-use Rattle.std.proofs.Common.{inl, inr}
-use Rattle.std.specs.Prelude.{not, ◌&&◌, map, filter, ◌==◌, if◌then◌else◌}
-use Rattle.std.specs.List.{list_any, AllByRecursion as Each}
-use Rattle.std.proofs.lemmas.Bool.{cases_Bool, and_parts, eqb-true}
-use Rattle.std.proofs.lemmas.Bool.Decides.{nat_tests}
+use Rattle.std.proofs.Common.{◌≡◌, ◌≢◌, ℕ, ◌+◌, ◌-◌, Bool, true, false, List, [], ◌∷◌, ◌++◌, length, take, refl, ap, sym, ◌∙◌, arith, inl, inr}
+use Rattle.std.proofs.lemmas.Bool.{cases_Bool, and_parts, eqb-true, Decides.nat_tests}
+use Rattle.std.specs.{List.list_any, List.AllByRecursion as Each, Prelude.not, Prelude.◌&&◌, Prelude.map, Prelude.filter, Prelude.◌==◌, Prelude.if◌then◌else◌}
 use Rattle.rows.specs.declared.settings.Dwelling.{Dwelling}
-use Rattle.traffic.specs.declared.world.Waiter.{Waiter}
-use Rattle.traffic.specs.declared.world.Row.{Row}
-use Rattle.traffic.specs.declared.stage.Stage.TheVariants.{Bay}
-use Rattle.traffic.specs.Vehicles.{VehicleState}
-use Rattle.traffic.specs.Stops.{ComesBefore, comes_first, among, in_turn, is_person, next_call, alighting, staying, may_board, boarding}
-use Rattle.traffic.specs.Stops.{left_behind, rider, riders_after, served_vehicle, served_row, stays_until, stand, not_before}
+use Rattle.traffic.specs.Stops.{ComesBefore, comes_first, among, in_turn, is_person, next_call, alighting, staying, may_board, boarding, left_behind, rider}
+use Rattle.traffic.specs.Stops.{riders_after, served_vehicle, served_row, stays_until, stand, not_before}
+use Rattle.traffic.specs.{Vehicles.VehicleState, declared.stage.Stage.TheVariants.Bay, declared.world.Row.Row, declared.world.Waiter.Waiter}
 use Rattle.riders.specs.Waiting.{NobodyIs, ComesBeforeAll, AreWaiting, AreOnce, at_stop}
 use Rattle.riders.proofs.Lines.{passes_nobody, in_line, none_is, take_nobody}
 

@@ -1,24 +1,16 @@
 -- Those who wait at one stop: in turn, and none of them twice.
-use Rattle.std.proofs.Common.{◌≡◌, ◌≢◌, ℕ, zero, suc, Bool, true, false, List, [], ◌∷◌, ◌++◌, length, take, refl, ap, sym, ◌∙◌, arith}
-use Rattle.std.proofs.Common.{append_assoc, append-nil, inl, inr, ◌+◌, ◌-◌, ◌<◌, ◌≤◌, drop, get_or}
-use Rattle.std.specs.Prelude.{not, ◌&&◌, nat_lt, map, filter, if◌then◌else◌}
-use Rattle.std.specs.List.{list_any, flat_map}
-use Rattle.std.proofs.lemmas.Bool.{cases_Bool, eq-eqb, ne_eqb, and_parts, or_parts, ltb-true, lt-ltb}
-use Rattle.std.proofs.lemmas.List.{drop_more}
-use Rattle.std.proofs.lemmas.Bool.Decides.{nat_tests}
+use Rattle.std.proofs.Common.{◌≡◌, ◌≢◌, ℕ, zero, suc, Bool, true, false, List, [], ◌∷◌, ◌++◌, length, take, refl, ap, sym, ◌∙◌, arith, append_assoc, append-nil}
+use Rattle.std.proofs.{Common.inl, Common.inr, Common.◌+◌, Common.◌-◌, Common.◌<◌, Common.◌≤◌, Common.drop, Common.get_or, lemmas.Bool.cases_Bool}
+use Rattle.std.proofs.lemmas.{Bool.eq-eqb, Bool.ne_eqb, Bool.and_parts, Bool.or_parts, Bool.ltb-true, Bool.lt-ltb, Bool.Decides.nat_tests, List.drop_more}
+use Rattle.std.specs.{List.list_any, List.flat_map, Prelude.not, Prelude.◌&&◌, Prelude.nat_lt, Prelude.map, Prelude.filter, Prelude.if◌then◌else◌}
 use Rattle.events.specs.declared.event.Word.TheVariants as word
 use Rattle.events.specs.declared.event.More.TheVariants as more
 use Rattle.rows.specs.declared.settings.Dwelling.{Dwelling}
-use Rattle.traffic.specs.declared.riders.Rider.{Rider}
-use Rattle.traffic.specs.declared.moves.Occurrence.{Occurrence}
-use Rattle.traffic.specs.declared.world.Waiter.{Waiter}
-use Rattle.traffic.specs.Vehicles.{VehicleState}
-use Rattle.traffic.specs.Stops.{ComesBefore, comes_first, among, in_turn, is_person, next_call, alighting, staying, may_board, boarding}
-use Rattle.traffic.specs.Stops.{left_behind, rider, served_vehicle, served_row}
-use Rattle.traffic.specs.Telling.{of_vehicle, leaves, enters, serves}
 use Rattle.traffic.proofs.Waiting.{boarded-are}
-use Rattle.riders.specs.Waiting.{NobodyIs, AllBefore, ComesBeforeAll, AreWaiting}
-use Rattle.riders.specs.Serving.{left_over, stopping}
+use Rattle.traffic.specs.Stops.{ComesBefore, comes_first, among, in_turn, is_person, next_call, alighting, staying, may_board, boarding, left_behind, rider}
+use Rattle.traffic.specs.{Stops.served_vehicle, Stops.served_row, Telling.of_vehicle, Telling.leaves, Telling.enters, Telling.serves, Vehicles.VehicleState}
+use Rattle.traffic.specs.declared.{moves.Occurrence.Occurrence, riders.Rider.Rider, world.Waiter.Waiter}
+use Rattle.riders.specs.{Serving.left_over, Serving.stopping, Waiting.NobodyIs, Waiting.AllBefore, Waiting.ComesBeforeAll, Waiting.AreWaiting}
 
 -- SOME OF THEM, AND ONE MORE
 passes_before : (p : Waiter → Bool) (w : Waiter) (ws : List Waiter) → ComesBeforeAll w ws → ComesBeforeAll w (filter p ws)

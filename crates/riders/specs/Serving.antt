@@ -1,8 +1,6 @@
 -- The service of a stop: who is taken in, one after the other, while there are seats, and who is left.
 use Rattle.std.specs.Prelude.{ℕ, zero, suc, Bool, List, [], ◌∷◌, if◌then◌else◌}
-use Rattle.traffic.specs.declared.stage.Stage.TheVariants.{Queue}
-use Rattle.traffic.specs.declared.world.Row.{Row}
-use Rattle.traffic.specs.Vehicles.{VehicleState}
+use Rattle.traffic.specs.{Vehicles.VehicleState, declared.stage.Stage.TheVariants.Queue, declared.world.Row.Row}
 
 -- those behind the first so many that pass, and all who do not pass
 unfoldable pub left_over : {X : Type 0} → ℕ → (X → Bool) → List X → List X

@@ -1,7 +1,6 @@
 -- Those who wait at one stop.
 use Rattle.std.specs.Prelude.{◌≢◌, ℕ, List, [], ◌∷◌, filter, ◌==◌}
-use Rattle.traffic.specs.declared.world.Waiter.{Waiter}
-use Rattle.traffic.specs.Stops.{ComesBefore, in_turn}
+use Rattle.traffic.specs.{Stops.ComesBefore, Stops.in_turn, declared.world.Waiter.Waiter}
 
 -- none of these is the person
 abbrev pub NobodyIs : ℕ → List Waiter → Type 0

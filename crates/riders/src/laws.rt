@@ -2,9 +2,8 @@
 
 ghost use Rattle.std.specs.Prelude.{◌≡◌, ◌≢◌, ℕ, List};
 ghost use Rattle.rows.specs.declared.settings.Dwelling.{Dwelling};
-ghost use Rattle.traffic.specs.declared.world.Waiter.{Waiter};
-ghost use Rattle.traffic.specs.Vehicles.{VehicleState};
 ghost use Rattle.traffic.specs.Stops.{next_call, boarding, left_behind, served_row};
+ghost use Rattle.traffic.specs.{Vehicles.VehicleState, declared.world.Waiter.Waiter};
 ghost use Rattle.riders.specs.Waiting.{AreWaiting, AreOnce, at_stop};
 
 /// Of all who wait on a link, those at the stop that is served are all that matters there, and nobody else is changed: so each stop may

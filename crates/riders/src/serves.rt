@@ -1,15 +1,12 @@
 //! The service of a vehicle at a stop.
 
-ghost use Rattle.std.specs.Prelude.{◌≡◌, ◌+◌, ◌<◌, ◌≤◌, ◌++◌, [], ◌∷◌, length, filter, map};
-ghost use Rattle.std.specs.Prelude.{take, true, ◌==◌, ◌&&◌, nat_lt, OnOk, IfOk};
 ghost use Rattle.std.specs.List.{list_any};
+ghost use Rattle.std.specs.Prelude.{◌≡◌, ◌+◌, ◌<◌, ◌≤◌, ◌++◌, [], ◌∷◌, length, filter, map, take, true, ◌==◌, ◌&&◌, nat_lt, OnOk, IfOk};
 ghost use Rattle.limits.specs.declared.TheConstants.{LAST_SECOND, MAX_CALLS, MAX_PERSONS};
 ghost use Rattle.rows.specs.Settings.{IsDwelling};
-ghost use Rattle.traffic.specs.Stops.{next_call, alighting, staying, may_board, boarding, left_behind, rider};
-ghost use Rattle.traffic.specs.Stops.{served_vehicle, served_row, stays_until};
-ghost use Rattle.traffic.specs.Telling.{serves};
-ghost use Rattle.riders.specs.Waiting.{NobodyIs, AllBefore};
-ghost use Rattle.riders.specs.Serving.{left_over, stopping};
+ghost use Rattle.traffic.specs.Stops.{next_call, alighting, staying, may_board, boarding, left_behind, rider, served_vehicle, served_row};
+ghost use Rattle.traffic.specs.{Stops.stays_until, Telling.serves};
+ghost use Rattle.riders.specs.{Serving.left_over, Serving.stopping, Waiting.NobodyIs, Waiting.AllBefore};
 
 use crate::waiting::Waiting;
 use events::{More, Word};

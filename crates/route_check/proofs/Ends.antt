@@ -1,12 +1,9 @@
 -- The ends of a link that was read.
 use Rattle.std.proofs.Common.{◌≡◌, ℕ, ◌<◌, List, length, Option, sym, ◌∙◌, ap, subst, arith}
-use Rattle.std.specs.Prelude.{slice_index_or}
-use Rattle.std.proofs.lemmas.List.{get_or-map}
-use Rattle.rows.specs.declared.network.LinkRow.{LinkRow}
-use Rattle.rows.specs.Joined.{ends_of}
+use Rattle.std.{proofs.lemmas.List.get_or-map, specs.Prelude.slice_index_or}
+use Rattle.rows.specs.{Joined.ends_of, declared.network.LinkRow.LinkRow}
 use Rattle.travel_times.proofs.Networks.{length-ends_of}
-use Rattle.walks.specs.Arrivals.{Arrivals}
-use Rattle.walks.specs.Certificates.{IsInTime, IsKept}
+use Rattle.walks.specs.{Arrivals.Arrivals, Certificates.IsInTime, Certificates.IsKept}
 
 pub is_link : (links rows : List LinkRow) (number : ℕ) → rows ≡ links → number < length rows → number < length (ends_of links)
 is_link links rows number same within =

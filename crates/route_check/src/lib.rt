@@ -5,9 +5,8 @@ ghost use Rattle.std.specs.Prelude.{◌≡◌, ℕ, ◌^◌, ◌<◌, ◌≤◌,
 ghost use Rattle.limits.specs.declared.TheConstants.{MAX_LINKS};
 ghost use Rattle.travel_times.specs.Times.{arrivals};
 ghost use Rattle.rows.specs.Joined.{ends_of};
-ghost use Rattle.walks.specs.Walks.{IsWalk, arrival};
-ghost use Rattle.walks.specs.Rounds.{label_at};
 ghost use Rattle.walks.specs.Certificates.{IsInTime, IsKept, AreSmall, IsCertificate};
+ghost use Rattle.walks.specs.{Rounds.label_at, Walks.IsWalk, Walks.arrival};
 
 use rows::{LinkList, LinkRow, Network};
 use travel_times::LinkTimes;

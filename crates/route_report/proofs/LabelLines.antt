@@ -1,10 +1,7 @@
 -- The labels of nodes, line by line.
-use Rattle.std.proofs.Common.{◌≡◌, ℕ, ◌+◌, ◌<◌, ◌≤◌, true, List, [], ◌∷◌, ◌++◌, length, drop, get_or, Option}
-use Rattle.std.proofs.Common.{refl, sym, ◌∙◌, ap, arith, append_assoc}
-use Rattle.std.specs.Prelude.{nat_lt}
-use Rattle.std.specs.List.{list_all}
-use Rattle.std.proofs.lemmas.Bool.{lt-ltb}
-use Rattle.std.proofs.lemmas.List.{append-nil, drop_all, drop_more}
+use Rattle.std.proofs.Common.{◌≡◌, ℕ, ◌+◌, ◌<◌, ◌≤◌, true, List, [], ◌∷◌, ◌++◌, length, drop, get_or, Option, refl, sym, ◌∙◌, ap, arith, append_assoc}
+use Rattle.std.proofs.lemmas.{Bool.lt-ltb, List.append-nil, List.drop_all, List.drop_more}
+use Rattle.std.specs.{List.list_all, Prelude.nat_lt}
 use Rattle.events.specs.Names.{name_at}
 use Rattle.walks.specs.Walks.{Ends, end_of, IsWalk}
 use Rattle.route_report.specs.Report.{label_text, label_lines}

@@ -1,19 +1,13 @@
 -- What the report of a route proves.
 use Rattle.std.proofs.Common.{◌≡◌, ℕ, ◌<◌, List, length, Option, None, Some, refl, sym, ap, subst}
-use Rattle.std.specs.Prelude.{◌↔◌, MatchOption, option_and_then}
-use Rattle.std.specs.Option.{option_map}
-use Rattle.events.specs.Names.{number_of}
-use Rattle.events.proofs.NameLists.{name_at-number_of}
-use Rattle.travel_times.specs.Times.{free_times, arrivals}
+use Rattle.std.specs.{Option.option_map, Prelude.◌↔◌, Prelude.MatchOption, Prelude.option_and_then}
+use Rattle.events.{proofs.NameLists.name_at-number_of, specs.Names.number_of}
+use Rattle.travel_times.{proofs.Arriving.arrivals_are_fifo, specs.Times.free_times, specs.Times.arrivals}
 use Rattle.rows.specs.Joined.{ends_of}
-use Rattle.travel_times.proofs.Arriving.{arrivals_are_fifo}
-use Rattle.walks.specs.Walks.{AreWithin, NoWalk, IsLeast}
-use Rattle.walks.specs.Rounds.{label_at}
-use Rattle.walks.proofs.Least.{least_or_none}
-use Rattle.walks.proofs.Followed.{chosen_is_least}
+use Rattle.walks.proofs.{Followed.chosen_is_least, Least.least_or_none}
+use Rattle.walks.specs.{Rounds.label_at, Walks.AreWithin, Walks.NoWalk, Walks.IsLeast}
 use Rattle.router.specs.Ways.{least_of, route_of}
-use Rattle.route_report.specs.Report.{RoadMap, search_on, route_lines, text_of, route_text}
-use Rattle.route_report.specs.Reported.{NoWay, IsReport}
+use Rattle.route_report.specs.{Report.RoadMap, Report.search_on, Report.route_lines, Report.text_of, Report.route_text, Reported.NoWay, Reported.IsReport}
 
 module _ (M : RoadMap) (from to : List ℕ) (second : ℕ) (inside : AreWithin (length M.node_names) (ends_of M.links)) where
   -- the label of a node is the least arrival there, and where there is none no walk leads there

@@ -1,18 +1,12 @@
 -- What is told of a route that was found, and where there is none.
 use Rattle.std.proofs.Common.{◌≡◌, ◌∙◌, ◌<◌, ℕ, true, List, [], length, Option, None, Some, sym, ap, subst}
-use Rattle.std.specs.Prelude.{nat_lt}
-use Rattle.std.specs.List.{list_all}
-use Rattle.std.specs.Option.{option_map}
-use Rattle.std.proofs.lemmas.List.{length-map}
-use Rattle.rows.specs.declared.network.Network.{Network}
-use Rattle.rows.specs.Joined.{ends_of, ends_of_link}
+use Rattle.std.{proofs.lemmas.List.length-map, specs.List.list_all, specs.Option.option_map, specs.Prelude.nat_lt}
+use Rattle.rows.specs.{Joined.ends_of, Joined.ends_of_link, declared.network.Network.Network}
 use Rattle.travel_times.specs.Times.{LinkProfile, free_times}
 use Rattle.walks.specs.Walks.{AreWithin, IsWalk, NoWalk}
-use Rattle.router.specs.Ways.{Query, IsLeastWay, least_of, route_of}
-use Rattle.router.proofs.Graphs.{network_within}
+use Rattle.router.{proofs.Graphs.network_within, specs.Ways.Query, specs.Ways.IsLeastWay, specs.Ways.least_of, specs.Ways.route_of}
+use Rattle.route_report.proofs.{LabelLines.walk_links, Reports.walk_between}
 use Rattle.route_report.specs.Report.{RoadMap, map_of, search_on, route_lines, text_of}
-use Rattle.route_report.proofs.LabelLines.{walk_links}
-use Rattle.route_report.proofs.Reports.{walk_between}
 
 -- the search by such times on so many nodes
 abbrev by : RoadMap → ℕ → List LinkProfile → ℕ → ℕ → Query

@@ -1,14 +1,11 @@
 -- The report of a route between two nodes.
+use Rattle.std.specs.{List.join_with_byte, Option.option_map}
 use Rattle.std.specs.Prelude.{ℕ, List, [], ◌∷◌, ◌++◌, length, map, codes, decimal, Option, None, Some, option_and_then}
-use Rattle.std.specs.List.{join_with_byte}
-use Rattle.std.specs.Option.{option_map}
 use Rattle.events.specs.Names.{name_at, number_of}
-use Rattle.rows.specs.declared.network.Network.{Network}
-use Rattle.rows.specs.declared.network.LinkRow.{LinkRow}
+use Rattle.rows.specs.declared.network.{LinkRow.LinkRow, Network.Network}
 use Rattle.travel_times.specs.Times.{free_times}
 use Rattle.walks.specs.Rounds.{label_at}
-use Rattle.router.specs.Ways.{Query, least_of, route_of}
-use Rattle.router.specs.Graphs.{graph_on}
+use Rattle.router.specs.{Graphs.graph_on, Ways.Query, Ways.least_of, Ways.route_of}
 
 -- the names of nodes and of links, and the links
 pub record RoadMap : Type 0 where

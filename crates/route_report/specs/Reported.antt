@@ -3,8 +3,7 @@ use Rattle.std.specs.Prelude.{◌≡◌, ℕ, List, Option, Some, MatchOption}
 use Rattle.events.specs.Names.{number_of}
 use Rattle.travel_times.specs.Times.{free_times, arrivals}
 use Rattle.rows.specs.Joined.{ends_of}
-use Rattle.walks.specs.Walks.{NoWalk, IsLeast}
-use Rattle.walks.specs.Rounds.{label_at}
+use Rattle.walks.specs.{Rounds.label_at, Walks.NoWalk, Walks.IsLeast}
 use Rattle.router.specs.Ways.{IsLeastWay}
 use Rattle.route_report.specs.Report.{RoadMap, search_on, route_lines}
 

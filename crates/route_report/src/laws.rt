@@ -3,8 +3,7 @@
 ghost use Rattle.std.specs.Prelude.{◌≡◌, ◌↔◌, ℕ, List, length, None, Some};
 ghost use Rattle.rows.specs.Joined.{ends_of};
 ghost use Rattle.walks.specs.Walks.{AreWithin};
-ghost use Rattle.route_report.specs.Report.{RoadMap, route_text};
-ghost use Rattle.route_report.specs.Reported.{NoWay, IsReport};
+ghost use Rattle.route_report.specs.{Report.RoadMap, Report.route_text, Reported.NoWay, Reported.IsReport};
 
 /// There is no report exactly where no walk joins nodes of the two names; and a report tells a route than which no walk arrives earlier,
 /// and the least arrivals at all nodes.

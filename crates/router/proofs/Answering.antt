@@ -2,20 +2,12 @@
 use Rattle.std.proofs.Common.{◌≡◌, ℕ, ◌^◌, ◌<◌, ◌≤◌, List, Option, None, Some, refl, sym, ◌∙◌, ap, subst}
 use Rattle.std.specs.Prelude.{IfSome}
 use Rattle.limits.specs.declared.TheConstants.{MAX_NODES}
-use Rattle.travel_times.specs.Times.{arrivals}
-use Rattle.travel_times.proofs.Arriving.{arrivals_are_fifo}
-use Rattle.walks.specs.Arrivals.{Arrivals, IsFifo}
-use Rattle.walks.specs.Walks.{Ends, AreWithin, IsWalk, NoWalk, arrival}
-use Rattle.walks.specs.Rounds.{Labels, label_at, least_labels}
-use Rattle.walks.specs.Chosen.{followed, chosen_route}
-use Rattle.walks.specs.Certificates.{AreSmall, IsCertificate}
-use Rattle.walks.proofs.Rounds.{length-after}
-use Rattle.walks.proofs.Least.{none_is_no_walk, label_is_least, least_start, least_kept}
-use Rattle.walks.proofs.Followed.{chosen_is_least}
-use Rattle.router.specs.declared.frontier.Frontier.{Frontier}
-use Rattle.router.specs.Frontiers.{IsFrontier, IsSettledAt}
-use Rattle.router.specs.Ways.{Query, least_of, route_of, IsLeastWay}
-use Rattle.router.proofs.Searching.{look_small}
+use Rattle.travel_times.{proofs.Arriving.arrivals_are_fifo, specs.Times.arrivals}
+use Rattle.walks.proofs.{Followed.chosen_is_least, Least.none_is_no_walk, Least.label_is_least, Least.least_start, Least.least_kept, Rounds.length-after}
+use Rattle.walks.specs.{Arrivals.Arrivals, Arrivals.IsFifo, Certificates.AreSmall, Certificates.IsCertificate, Chosen.followed, Chosen.chosen_route}
+use Rattle.walks.specs.{Rounds.Labels, Rounds.label_at, Rounds.least_labels, Walks.Ends, Walks.AreWithin, Walks.IsWalk, Walks.NoWalk, Walks.arrival}
+use Rattle.router.{proofs.Searching.look_small, specs.Frontiers.IsFrontier}
+use Rattle.router.specs.{Frontiers.IsSettledAt, Ways.Query, Ways.least_of, Ways.route_of, Ways.IsLeastWay, declared.frontier.Frontier.Frontier}
 
 -- the labels of a frontier are small
 pub small_labels : (nodes : ℕ) (ends : Ends) (arrive : Arrivals) (frontier : Frontier) (open_links : List ℕ) → IsFifo arrive →

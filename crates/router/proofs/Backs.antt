@@ -1,47 +1,12 @@
 -- The route that is followed back, link by link.
-use Rattle.std.proofs.Common.{
-  ◌≡◌,
-  ℕ,
-  zero,
-  suc,
-  ◌+◌,
-  ◌-◌,
-  ◌<◌,
-  ◌≤◌,
-  Bool,
-  true,
-  false,
-  cond,
-  ◌&&◌,
-  List,
-  [],
-  ◌∷◌,
-  ◌++◌,
-  length,
-  reverse,
-  Option,
-  None,
-  Some,
-  inl,
-  inr,
-  refl,
-  sym,
-  ◌∙◌,
-  ap,
-  subst,
-  arith,
-}
+use Rattle.std.proofs.Common.{◌≡◌, ℕ, zero, suc, ◌+◌, ◌-◌, ◌<◌, ◌≤◌, Bool, true, false, cond, ◌&&◌, List, [], ◌∷◌, ◌++◌, length, reverse, Option, None, Some}
+use Rattle.std.proofs.{Common.inl, Common.inr, Common.refl, Common.sym, Common.◌∙◌, Common.ap, Common.subst, Common.arith, lemmas.Bool.cases_lt}
+use Rattle.std.proofs.lemmas.{Bool.cases_eq, Bool.eq-eqb, Bool.ne_eqb, Bool.ltb-true, Bool.ltb-false, List.append-nil, List.append_assoc, List.get_or_default}
+use Rattle.std.{proofs.lemmas.List.reverse-append, proofs.lemmas.List.length-append, specs.List.range_with_len, specs.Option.option_map_or}
 use Rattle.std.specs.Prelude.{nat_eq, find, unwrap_or, slice_index, Contains, IsSome, IsSomeAnd}
-use Rattle.std.specs.List.{range_with_len}
-use Rattle.std.specs.Option.{option_map_or}
-use Rattle.std.proofs.lemmas.Bool.{cases_lt, cases_eq, eq-eqb, ne_eqb, ltb-true, ltb-false}
-use Rattle.std.proofs.lemmas.List.{append-nil, append_assoc, get_or_default, reverse-append, length-append}
-use Rattle.walks.specs.Arrivals.{Arrivals, IsFifo}
+use Rattle.walks.proofs.{Followed.link_leads, Followed.leads_from, Ranks.rank-le-length, Ranks.rank_less}
+use Rattle.walks.specs.{Arrivals.Arrivals, Arrivals.IsFifo, Chosen.leads, Chosen.link_before, Chosen.followed, Rounds.Labels, Rounds.label_at, Rounds.rank}
 use Rattle.walks.specs.Walks.{Ends, start_of, end_of}
-use Rattle.walks.specs.Rounds.{Labels, label_at, rank}
-use Rattle.walks.specs.Chosen.{leads, link_before, followed}
-use Rattle.walks.proofs.Ranks.{rank-le-length, rank_less}
-use Rattle.walks.proofs.Followed.{link_leads, leads_from}
 use Rattle.router.specs.Ways.{is_below, label_or_0}
 
 find_is : (p : ℕ → Bool) (low count m : ℕ) → low ≤ m → m < low + count → p m ≡ true → ((k : ℕ) → low ≤ k → k < m → p k ≡ false) →

@@ -1,7 +1,6 @@
 -- What is gathered of items that were computed side by side.
 use Rattle.std.proofs.Common.{◌≡◌, List, [], ◌∷◌, map, Result, Ok, Err, IfOk, refl, ◌∙◌, ap, subst}
-use Rattle.std.specs.List.{AllZip, Contains}
-use Rattle.std.specs.Result.{MatchResult}
+use Rattle.std.specs.{List.AllZip, List.Contains, Result.MatchResult}
 
 oks : {I A : Type 0} (E : Type 0) (P : I → A → Type 0) (ks : List I) (ys : List A)
     → AllZip (λ k (r : Result A E). IfOk r (P k)) ks (map Ok ys) → AllZip P ks ys

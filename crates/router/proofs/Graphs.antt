@@ -1,20 +1,11 @@
 -- The graph that is kept is that of the network.
 use Rattle.std.proofs.Common.{◌≡◌, ℕ, ◌<◌, true, List, [], ◌∷◌, length, map, inl, inr, refl, sym, ◌∙◌, ap, subst, arith}
-use Rattle.std.specs.Prelude.{slice_index, slice_index_or, All, Contains}
-use Rattle.std.specs.List.{list_all, zip}
-use Rattle.std.proofs.Math.Path.{fun_ext}
-use Rattle.std.proofs.lemmas.Bool.{cases_lt}
-use Rattle.std.proofs.lemmas.Bool.Decides.{nat_tests}
-use Rattle.std.proofs.lemmas.List.{get_or_past}
-use Rattle.std.proofs.lemmas.List.Elements.{All-map}
-use Rattle.std.proofs.lemmas.List.Sums.{AllPass-from_list_all}
-use Rattle.std.proofs.lemmas.Slice.Zip.{length-zip, get_or-zip}
-use Rattle.rows.specs.declared.network.LinkRow.{LinkRow}
-use Rattle.rows.specs.Networks.{is_link, are_measures}
-use Rattle.rows.specs.Joined.{ends_of}
+use Rattle.std.proofs.{Math.Path.fun_ext, lemmas.Bool.cases_lt, lemmas.Bool.Decides.nat_tests}
+use Rattle.std.proofs.lemmas.{List.get_or_past, List.Elements.All-map, List.Sums.AllPass-from_list_all, Slice.Zip.length-zip, Slice.Zip.get_or-zip}
+use Rattle.std.specs.{List.list_all, List.zip, Prelude.slice_index, Prelude.slice_index_or, Prelude.All, Prelude.Contains}
+use Rattle.rows.specs.{Joined.ends_of, Networks.is_link, Networks.are_measures, declared.network.LinkRow.LinkRow}
 use Rattle.walks.specs.Walks.{start_of, end_of, AreWithin}
-use Rattle.router.specs.declared.adjacency.Adjacency.TheInside.{Inside}
-use Rattle.router.specs.Graphs.{Graph, kept_graph, IsAdjacency}
+use Rattle.router.specs.{Graphs.Graph, Graphs.kept_graph, Graphs.IsAdjacency, declared.adjacency.Adjacency.TheInside.Inside}
 
 pub pair_at : (xs ys : List ℕ) (k : ℕ) → length ys ≡ length xs → slice_index_or (zip xs ys) k (0, 0) ≡ (slice_index xs k, slice_index ys k)
 pair_at xs ys k same =

@@ -1,21 +1,13 @@
 -- The route of a leg leads from the one link to the other.
-use Rattle.std.proofs.Common.{◌≡◌, ℕ, suc, ◌+◌, ◌-◌, ◌<◌, ◌≤◌, Bool, true, false, cond, List, [], ◌∷◌, ◌++◌, length, get_or, Option, None, Some, inl, inr, refl, sym, ◌∙◌, ap, subst, arith, length-append}
-use Rattle.std.specs.Prelude.{nat_eq, nat_lt, nat_le, IfSome}
-use Rattle.std.specs.List.{list_all}
-use Rattle.std.specs.Option.{option_map}
-use Rattle.std.proofs.lemmas.Bool.{and_from, eq-eqb, ne_eqb, cases_eq}
-use Rattle.std.proofs.lemmas.Bool.Decides.{nat_tests}
-use Rattle.std.proofs.lemmas.List.Folds.{list_all-append}
+use Rattle.std.proofs.Common.{◌≡◌, ℕ, suc, ◌+◌, ◌-◌, ◌<◌, ◌≤◌, Bool, true, false, cond, List, [], ◌∷◌, ◌++◌, length, get_or, Option, None, Some, inl, inr, refl}
+use Rattle.std.proofs.Common.{sym, ◌∙◌, ap, subst, arith, length-append}
+use Rattle.std.proofs.lemmas.{Bool.and_from, Bool.eq-eqb, Bool.ne_eqb, Bool.cases_eq, Bool.Decides.nat_tests, List.Folds.list_all-append}
+use Rattle.std.specs.{List.list_all, Option.option_map, Prelude.nat_eq, Prelude.nat_lt, Prelude.nat_le, Prelude.IfSome}
 use Rattle.limits.specs.declared.TheConstants.{MAX_ROUTE_LINKS}
 use Rattle.rows.specs.Joined.{is_joined}
-use Rattle.walks.specs.Arrivals.{Arrivals, IsFifo}
-use Rattle.walks.specs.Walks.{Ends, start_of, end_of, IsWalk, AreWithin}
-use Rattle.walks.specs.Rounds.{label_at, least_labels}
-use Rattle.walks.specs.Chosen.{chosen_route}
-use Rattle.walks.proofs.Followed.{chosen_is_least}
-use Rattle.router.specs.Graphs.{Graph}
-use Rattle.router.specs.Routes.{way_to, leg_route, allowed}
-use Rattle.router.specs.Legs.{Joins}
+use Rattle.walks.{proofs.Followed.chosen_is_least, specs.Arrivals.Arrivals, specs.Arrivals.IsFifo}
+use Rattle.walks.specs.{Chosen.chosen_route, Rounds.label_at, Rounds.least_labels, Walks.Ends, Walks.start_of, Walks.end_of, Walks.IsWalk, Walks.AreWithin}
+use Rattle.router.specs.{Graphs.Graph, Legs.Joins, Routes.way_to, Routes.leg_route, Routes.allowed}
 
 is_below : (n m : ℕ) → n < m → nat_lt n m ≡ true
 is_below n m less = grind (arith, nat_tests)

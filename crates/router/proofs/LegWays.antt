@@ -1,19 +1,11 @@
 -- What a search finds is the route of the definition.
 use Rattle.std.proofs.Common.{◌≡◌, ℕ, ◌<◌, Bool, cond, List, [], ◌∷◌, ◌++◌, length, Option, None, Some, refl, sym, ◌∙◌, ap}
-use Rattle.std.proofs.lemmas.Bool.{eq-eqb, ne_eqb}
-use Rattle.std.proofs.lemmas.List.{length-map}
-use Rattle.std.specs.Prelude.{MatchOption}
-use Rattle.std.specs.Option.{option_map}
-use Rattle.rows.specs.declared.network.LinkRow.{LinkRow}
-use Rattle.rows.specs.Joined.{ends_of, ends_of_link}
-use Rattle.travel_times.specs.Times.{arrivals}
-use Rattle.travel_times.proofs.Arriving.{arrivals_are_fifo}
-use Rattle.walks.specs.Arrivals.{Arrivals}
+use Rattle.std.{proofs.lemmas.Bool.eq-eqb, proofs.lemmas.Bool.ne_eqb, proofs.lemmas.List.length-map, specs.Option.option_map, specs.Prelude.MatchOption}
+use Rattle.rows.specs.{Joined.ends_of, Joined.ends_of_link, declared.network.LinkRow.LinkRow}
+use Rattle.travel_times.{proofs.Arriving.arrivals_are_fifo, specs.Times.arrivals}
+use Rattle.walks.{proofs.Least.least_or_none, specs.Arrivals.Arrivals}
 use Rattle.walks.specs.Walks.{Ends, start_of, end_of, AreWithin, NoWalk, IsLeast}
-use Rattle.walks.proofs.Least.{least_or_none}
-use Rattle.router.specs.Ways.{Query, route_of, IsLeastWay}
-use Rattle.router.specs.Graphs.{Graph}
-use Rattle.router.specs.Routes.{way_to, leg_route, allowed}
+use Rattle.router.specs.{Graphs.Graph, Routes.way_to, Routes.leg_route, Routes.allowed, Ways.Query, Ways.route_of, Ways.IsLeastWay}
 
 none_by : (ends : Ends) (arrive : Arrivals) (from second to : ℕ) (label : Option ℕ) (way : List ℕ)
     → MatchOption label (NoWalk ends from to) (IsLeast ends arrive from second to) → NoWalk ends from to

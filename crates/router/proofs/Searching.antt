@@ -1,84 +1,21 @@
 -- A search: its start, a link looked along, a node settled, and what stands where it stops.
-use Rattle.std.proofs.Common.{
-  ◌≡◌,
-  ℕ,
-  zero,
-  suc,
-  ◌+◌,
-  ◌*◌,
-  ◌^◌,
-  ◌<◌,
-  ◌≤◌,
-  max,
-  Bool,
-  true,
-  false,
-  cond,
-  List,
-  [],
-  ◌∷◌,
-  length,
-  drop,
-  replicate,
-  Option,
-  None,
-  Some,
-  ◌⊎◌,
-  inl,
-  inr,
-  refl,
-  sym,
-  ◌∙◌,
-  ap,
-  subst,
-  arith,
-}
-use Rattle.std.specs.Prelude.{nat_lt, nat_eq, sum_by, slice_index_or, slice_set, All, Contains}
-use Rattle.std.specs.List.Sorted.{IsPermutation}
-use Rattle.std.specs.BinaryHeap.{heap_items, IsHeap, IsUpperBound}
-use Rattle.std.specs.Option.{option_eq}
-use Rattle.std.specs.Ordering.{is_lt, nat_cmp, ordering_then}
-use Rattle.std.specs.declared.cmp.Ordering.TheVariants.{Less, Equal, Greater}
-use Rattle.std.specs.declared.cmp.Reverse.{Reverse}
+use Rattle.std.proofs.Common.{◌≡◌, ℕ, zero, suc, ◌+◌, ◌*◌, ◌^◌, ◌<◌, ◌≤◌, max, Bool, true, false, cond, List, [], ◌∷◌, length, drop, replicate, Option, None}
+use Rattle.std.proofs.Common.{Some, ◌⊎◌, inl, inr, refl, sym, ◌∙◌, ap, subst, arith}
 use Rattle.std.proofs.lemmas.Bool.{cases_eq, cases_lt, ltb-true, ltb-false, lt-ltb, eqb-true, eqb-false}
-use Rattle.std.proofs.lemmas.List.{
-  get_or-replicate,
-  get_or_past,
-  get_or-set_same,
-  get_or-set_other,
-  length-set,
-  length-replicate,
-  drop_more,
-  get_or_read,
-}
-use Rattle.std.proofs.lemmas.List.Sums.{sum_by-set}
+use Rattle.std.proofs.lemmas.List.{get_or-replicate, get_or_past, get_or-set_same, get_or-set_other, length-set, length-replicate, drop_more, get_or_read}
 use Rattle.std.proofs.lemmas.List.Elements.{All-nil, All-cons, All-weaker, All-contains, Contains-get_or, All-from_recursion}
-use Rattle.std.proofs.lemmas.List.Sorted.{All-permutation, Contains-permutation, IsPermutation-sym, length_permutation}
+use Rattle.std.proofs.lemmas.List.{Sorted.All-permutation, Sorted.Contains-permutation, Sorted.IsPermutation-sym, Sorted.length_permutation, Sums.sum_by-set}
+use Rattle.std.specs.BinaryHeap.{heap_items, IsHeap, IsUpperBound}
+use Rattle.std.specs.{List.Sorted.IsPermutation, Option.option_eq, Ordering.is_lt, Ordering.nat_cmp, Ordering.ordering_then}
+use Rattle.std.specs.Prelude.{nat_lt, nat_eq, sum_by, slice_index_or, slice_set, All, Contains}
+use Rattle.std.specs.declared.cmp.{Ordering.TheVariants.Less, Ordering.TheVariants.Equal, Ordering.TheVariants.Greater, Reverse.Reverse}
 use Rattle.limits.specs.declared.TheConstants.{MAX_NODES}
-use Rattle.walks.specs.Arrivals.{Arrivals, IsFifo}
+use Rattle.walks.proofs.{Kept.arrival_later, Labels.by_some, Labels.some_by, Labels.by_later, Least.reached_more, Ranks.rank-le-length, Ranks.rank_by}
+use Rattle.walks.proofs.{Ranks.rank_less, Settled.IsSettledTo, Settled.settled_is_least, Settled.same_followed, Settled.kept_are_least}
+use Rattle.walks.specs.{Arrivals.Arrivals, Arrivals.IsFifo, Chosen.followed, Rounds.Labels, Rounds.label_at, Rounds.IsBy, Rounds.rank, Rounds.least_labels}
 use Rattle.walks.specs.Walks.{Ends, start_of, end_of, AreWithin, Reached}
-use Rattle.walks.specs.Rounds.{Labels, label_at, IsBy, rank, least_labels}
-use Rattle.walks.specs.Chosen.{followed}
-use Rattle.walks.proofs.Labels.{by_some, some_by, by_later}
-use Rattle.walks.proofs.Ranks.{rank-le-length, rank_by, rank_less}
-use Rattle.walks.proofs.Kept.{arrival_later}
-use Rattle.walks.proofs.Least.{reached_more}
-use Rattle.walks.proofs.Settled.{IsSettledTo, settled_is_least, same_followed, kept_are_least}
-use Rattle.router.specs.declared.frontier.Entry.{Entry}
-use Rattle.router.specs.declared.frontier.Frontier.{Frontier}
-use Rattle.router.specs.Frontiers.{
-  queued,
-  is_later,
-  IsSearch,
-  IsFrontier,
-  entry_cmp,
-  weight,
-  work,
-  IsRelabelled,
-  IsNext,
-  IsDone,
-  IsSettledAt,
-}
+use Rattle.router.specs.Frontiers.{queued, is_later, IsSearch, IsFrontier, entry_cmp, weight, work, IsRelabelled, IsNext, IsDone, IsSettledAt}
+use Rattle.router.specs.declared.frontier.{Entry.Entry, Frontier.Frontier}
 
 abbrev pub Queue : Type 0
 Queue = List (Reverse Entry)

@@ -1,52 +1,11 @@
 -- Lists of links in one array, and lists of links beside their nodes.
-use Rattle.std.proofs.Common.{
-  ◌≡◌,
-  ℕ,
-  zero,
-  suc,
-  ◌+◌,
-  ◌-◌,
-  ◌<◌,
-  ◌≤◌,
-  List,
-  [],
-  ◌∷◌,
-  ◌++◌,
-  length,
-  take,
-  drop,
-  map,
-  replicate,
-  ◌⊎◌,
-  inl,
-  inr,
-  refl,
-  sym,
-  ◌∙◌,
-  ap,
-  subst,
-  arith,
-}
-use Rattle.std.specs.Prelude.{slice_index, slice_index_or, slice_set, All, Contains}
-use Rattle.std.specs.List.{range_with_len, slice_range}
-use Rattle.std.proofs.lemmas.Bool.{cases_lt, cases_eq}
-use Rattle.std.proofs.lemmas.List.{
-  get_or_append_left,
-  get_or_push,
-  get_or_past,
-  get_or-replicate,
-  get_or-set_same,
-  get_or-set_other,
-  length-append,
-  length-replicate,
-  length-drop,
-  drop-append-le,
-  drop_at,
-  take-append-le,
-  take_all,
-}
-use Rattle.std.proofs.lemmas.List.FromFn.{map-range_with_len_more, get_or-map-range_with_len, length-map-range_with_len}
+use Rattle.std.proofs.Common.{◌≡◌, ℕ, zero, suc, ◌+◌, ◌-◌, ◌<◌, ◌≤◌, List, [], ◌∷◌, ◌++◌, length, take, drop, map, replicate, ◌⊎◌, inl, inr, refl, sym, ◌∙◌, ap}
+use Rattle.std.proofs.{Common.subst, Common.arith, lemmas.Bool.cases_lt, lemmas.Bool.cases_eq}
+use Rattle.std.proofs.lemmas.List.{get_or_append_left, get_or_push, get_or_past, get_or-replicate, get_or-set_same, get_or-set_other, length-append}
+use Rattle.std.proofs.lemmas.List.{length-replicate, length-drop, drop-append-le, drop_at, take-append-le, take_all}
 use Rattle.std.proofs.lemmas.List.Elements.{All-nil, All-push, All-weaker, Contains-append_left, Contains-push}
+use Rattle.std.proofs.lemmas.List.FromFn.{map-range_with_len_more, get_or-map-range_with_len, length-map-range_with_len}
+use Rattle.std.specs.{List.range_with_len, List.slice_range, Prelude.slice_index, Prelude.slice_index_or, Prelude.slice_set, Prelude.All, Prelude.Contains}
 use Rattle.router.specs.Stars.{lists_in, AreStarts, AreBeside}
 
 abbrev list_at : List ℕ → List ℕ → ℕ → List ℕ

@@ -1,12 +1,8 @@
 -- Legs by a rule, leg by leg.
 use Rattle.std.proofs.Common.{◌≡◌, ℕ, zero, suc, ◌+◌, ◌<◌, ◌≤◌, Bool, true, List, [], ◌∷◌, ◌++◌, length, drop, get_or, refl, sym, ◌∙◌, ap, subst, arith}
-use Rattle.std.specs.Prelude.{nat_lt}
-use Rattle.std.specs.List.{list_all}
-use Rattle.std.proofs.lemmas.Bool.{and_from, and_parts}
-use Rattle.std.proofs.lemmas.Bool.Decides.{nat_tests}
-use Rattle.std.proofs.lemmas.List.{drop_all}
-use Rattle.rows.specs.declared.plan.Act.{Act}
-use Rattle.rows.specs.declared.plan.Leg.{Leg}
+use Rattle.std.proofs.lemmas.{Bool.and_from, Bool.and_parts, Bool.Decides.nat_tests, List.drop_all}
+use Rattle.std.specs.{List.list_all, Prelude.nat_lt}
+use Rattle.rows.specs.declared.plan.{Act.Act, Leg.Leg}
 use Rattle.router.specs.Legs.{each_leg, are_on}
 
 pub below_is : (n m : ℕ) → nat_lt n m ≡ true → n < m

@@ -1,38 +1,10 @@
 -- A search while it goes on.
-use Rattle.std.specs.Prelude.{
-  ◌≡◌,
-  ℕ,
-  ◌+◌,
-  ◌*◌,
-  ◌^◌,
-  ◌<◌,
-  ◌≤◌,
-  ◌⊎◌,
-  sum_by,
-  List,
-  [],
-  ◌∷◌,
-  length,
-  All,
-  Contains,
-  Bool,
-  true,
-  nat_lt,
-  slice_set,
-  Option,
-  None,
-  Some,
-}
-use Rattle.std.specs.List.Sorted.{IsPermutation}
-use Rattle.std.specs.Ordering.{nat_cmp, ordering_then}
-use Rattle.std.specs.BinaryHeap.{heap_items, IsHeap}
-use Rattle.std.specs.declared.cmp.Ordering.{Ordering}
-use Rattle.std.specs.declared.cmp.Reverse.{Reverse}
+use Rattle.std.specs.{BinaryHeap.heap_items, BinaryHeap.IsHeap, List.Sorted.IsPermutation, Ordering.nat_cmp, Ordering.ordering_then, Prelude.◌≡◌}
+use Rattle.std.specs.Prelude.{ℕ, ◌+◌, ◌*◌, ◌^◌, ◌<◌, ◌≤◌, ◌⊎◌, sum_by, List, [], ◌∷◌, length, All, Contains, Bool, true, nat_lt, slice_set, Option, None, Some}
+use Rattle.std.specs.declared.cmp.{Ordering.Ordering, Reverse.Reverse}
+use Rattle.walks.specs.{Chosen.followed, Chosen.chosen_route, Rounds.label_at, Rounds.least_labels, Rounds.IsBy, Rounds.rank}
 use Rattle.walks.specs.Walks.{start_of, end_of, Reached}
-use Rattle.walks.specs.Rounds.{label_at, least_labels, IsBy, rank}
-use Rattle.walks.specs.Chosen.{followed, chosen_route}
-use Rattle.router.specs.declared.frontier.Entry.{Entry}
-use Rattle.router.specs.declared.frontier.Frontier.{Frontier}
+use Rattle.router.specs.declared.frontier.{Entry.Entry, Frontier.Frontier}
 
 -- a node that waits for its links to be looked along, and the second of its label
 abbrev pub queued : ℕ → ℕ → Reverse Entry

@@ -1,13 +1,9 @@
 -- The nodes and the links that a search goes along.
-use Rattle.std.specs.Prelude.{◌≡◌, ℕ, ◌≤◌, List, length}
-use Rattle.std.specs.List.{zip}
+use Rattle.std.specs.{List.zip, Prelude.◌≡◌, Prelude.ℕ, Prelude.◌≤◌, Prelude.List, Prelude.length}
 use Rattle.limits.specs.declared.TheConstants.{MAX_NODES}
-use Rattle.rows.specs.declared.network.Network.{Network}
-use Rattle.rows.specs.Joined.{ends_of}
+use Rattle.rows.specs.{Joined.ends_of, declared.network.LinkRow.LinkRow, declared.network.Network.Network}
 use Rattle.walks.specs.Walks.{start_of, end_of, AreWithin}
-use Rattle.router.specs.declared.adjacency.Adjacency.TheInside.{Inside}
-use Rattle.router.specs.Stars.{AreBeside}
-use Rattle.rows.specs.declared.network.LinkRow.{LinkRow}
+use Rattle.router.specs.{Stars.AreBeside, declared.adjacency.Adjacency.TheInside.Inside}
 
 -- how many nodes there are, and where each link begins and ends
 pub record Graph : Type 0 where

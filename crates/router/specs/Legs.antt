@@ -2,14 +2,10 @@
 use Rattle.std.specs.Prelude.{◌≡◌, ℕ, ◌-◌, ◌≤◌, Bool, nat_lt, true, List, [], ◌∷◌, length, get_or, Option, unwrap_or}
 use Rattle.std.specs.List.{list_all}
 use Rattle.limits.specs.declared.TheConstants.{MAX_ROUTE_LINKS}
-use Rattle.rows.specs.declared.plan.Act.{Act}
-use Rattle.rows.specs.declared.plan.Leg.{Leg}
+use Rattle.rows.specs.{Joined.is_joined, declared.plan.Act.Act, declared.plan.Leg.Leg}
 use Rattle.rows.specs.declared.plan.Leg.TheVariants as leg
-use Rattle.rows.specs.Joined.{is_joined}
-use Rattle.walks.specs.Arrivals.{Arrivals}
-use Rattle.walks.specs.Walks.{Ends}
-use Rattle.router.specs.Graphs.{Graph}
-use Rattle.router.specs.Routes.{leg_route, allowed}
+use Rattle.walks.specs.{Arrivals.Arrivals, Walks.Ends}
+use Rattle.router.specs.{Graphs.Graph, Routes.leg_route, Routes.allowed}
 
 -- the route of a car leg between an activity, at whose planned end it is left (in second 0 where it has none), and one on this link; none
 -- where no walk joins the links, or where the route would have more than 1,000 links

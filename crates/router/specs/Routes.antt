@@ -2,10 +2,7 @@
 use Rattle.std.specs.Prelude.{ℕ, List, [], ◌∷◌, ◌++◌, length, nat_eq, nat_le, Option, None, Some, if◌then◌else◌}
 use Rattle.std.specs.Option.{option_map}
 use Rattle.limits.specs.declared.TheConstants.{MAX_ROUTE_LINKS}
-use Rattle.walks.specs.Arrivals.{Arrivals}
-use Rattle.walks.specs.Walks.{start_of, end_of}
-use Rattle.walks.specs.Rounds.{label_at, least_labels}
-use Rattle.walks.specs.Chosen.{chosen_route}
+use Rattle.walks.specs.{Arrivals.Arrivals, Chosen.chosen_route, Rounds.label_at, Rounds.least_labels, Walks.start_of, Walks.end_of}
 use Rattle.router.specs.Graphs.{Graph}
 
 -- the chosen route from a node, left in a second, to another node, or none where no walk leads there

@@ -3,11 +3,7 @@ use Rattle.std.specs.Prelude.{◌≡◌, ◌<◌, ◌≤◌, List, [], length}
 use Rattle.limits.specs.declared.TheConstants.{MAX_NODES}
 use Rattle.travel_times.specs.Times.{LinkProfile, arrivals}
 use Rattle.walks.specs.Walks.{AreWithin}
-use Rattle.router.specs.declared.frontier.Frontier.{Frontier}
-use Rattle.router.specs.Graphs.{Graph}
-use Rattle.router.specs.Ways.{Query}
-use Rattle.router.specs.Frontiers.{IsFrontier}
-use Rattle.router.specs.declared.search.Search.TheInside.{Inside}
+use Rattle.router.specs.{Frontiers.IsFrontier, Graphs.Graph, Ways.Query, declared.frontier.Frontier.Frontier, declared.search.Search.TheInside.Inside}
 
 -- the question of a frontier on a graph by travel times
 abbrev pub asked : Graph → List LinkProfile → Frontier → Query

@@ -1,9 +1,7 @@
 -- What a search is asked, and what it answers.
 use Rattle.std.specs.Prelude.{◌≡◌, ℕ, Bool, true, nat_lt, List, unwrap_or, Option, None, Some}
 use Rattle.travel_times.specs.Times.{LinkProfile, arrivals}
-use Rattle.walks.specs.Walks.{IsWalk, arrival, IsLeast}
-use Rattle.walks.specs.Rounds.{label_at, least_labels}
-use Rattle.walks.specs.Chosen.{chosen_route}
+use Rattle.walks.specs.{Chosen.chosen_route, Rounds.label_at, Rounds.least_labels, Walks.IsWalk, Walks.arrival, Walks.IsLeast}
 use Rattle.rows.specs.declared.network.Network.{Network}
 use Rattle.router.specs.Graphs.{Graph, graph_of}
 

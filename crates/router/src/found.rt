@@ -1,8 +1,7 @@
 ghost use Rattle.std.specs.Prelude.{◌≡◌, ℕ, ◌^◌, ◌<◌, ◌≤◌, length, IfOk, IfErr};
 ghost use Rattle.travel_times.specs.Times.{arrivals};
 ghost use Rattle.rows.specs.Joined.{ends_of};
-ghost use Rattle.walks.specs.Walks.{NoWalk};
-ghost use Rattle.walks.specs.Certificates.{IsCertificate};
+ghost use Rattle.walks.specs.{Certificates.IsCertificate, Walks.NoWalk};
 ghost use Rattle.router.specs.Ways.{least_of, IsLeastWay, query_on};
 
 use crate::adjacency::Adjacency;

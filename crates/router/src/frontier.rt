@@ -1,37 +1,10 @@
-ghost use Rattle.std.specs.Prelude.{
-  ◌≡◌,
-  ℕ,
-  ◌+◌,
-  ◌*◌,
-  ◌^◌,
-  ◌<◌,
-  ◌≤◌,
-  [],
-  List,
-  length,
-  drop,
-  slice_index,
-  replicate,
-  IfOk,
-  OnOk,
-  IfSome,
-  IfNone,
-  Contains,
-  None,
-  Some,
-  IsTrue,
-  ◌↔◌,
-  IsSomeAnd,
-  All,
-};
-ghost use Rattle.std.specs.Bool.{OnTrue, OnFalse};
-ghost use Rattle.std.specs.BinaryHeap.{heap_items, IsHeap};
+ghost use Rattle.std.specs.{BinaryHeap.heap_items, BinaryHeap.IsHeap, Bool.OnTrue, Bool.OnFalse};
+ghost use Rattle.std.specs.Prelude.{◌≡◌, ℕ, ◌+◌, ◌*◌, ◌^◌, ◌<◌, ◌≤◌, [], List, length, drop, slice_index, replicate, IfOk, OnOk, IfSome};
+ghost use Rattle.std.specs.Prelude.{IfNone, Contains, None, Some, IsTrue, ◌↔◌, IsSomeAnd, All};
 ghost use Rattle.limits.specs.declared.TheConstants.{MAX_NODES};
 ghost use Rattle.travel_times.specs.Times.{arrivals};
-ghost use Rattle.walks.specs.Arrivals.{Arrivals};
+ghost use Rattle.walks.specs.{Arrivals.Arrivals, Certificates.AreSmall, Rounds.label_at, Rounds.least_labels};
 ghost use Rattle.walks.specs.Walks.{Ends, start_of, AreWithin};
-ghost use Rattle.walks.specs.Rounds.{label_at, least_labels};
-ghost use Rattle.walks.specs.Certificates.{AreSmall};
 ghost use Rattle.router.specs.Frontiers.{is_later, IsRelabelled, IsFrontier, GoesOn, IsSettledAt, IsNext, IsDone, entry_cmp, work};
 
 use crate::adjacency::Adjacency;

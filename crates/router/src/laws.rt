@@ -1,11 +1,8 @@
 //! What holds of the routes of legs. Each law is the contract of a call that does nothing.
 
 ghost use Rattle.std.specs.Prelude.{ℕ, ◌<◌, length, IfSome};
-ghost use Rattle.walks.specs.Arrivals.{Arrivals, IsFifo};
-ghost use Rattle.walks.specs.Walks.{AreWithin};
-ghost use Rattle.router.specs.Graphs.{Graph};
-ghost use Rattle.router.specs.Routes.{leg_route, allowed};
-ghost use Rattle.router.specs.Legs.{Joins};
+ghost use Rattle.walks.specs.{Arrivals.Arrivals, Arrivals.IsFifo, Walks.AreWithin};
+ghost use Rattle.router.specs.{Graphs.Graph, Legs.Joins, Routes.leg_route, Routes.allowed};
 
 /// The route of a leg, by any travel times by which nobody overtakes, leads from the one link to the other, and has no more links than a
 /// leg may have.

@@ -1,11 +1,8 @@
 ghost use Rattle.std.specs.Prelude.{◌≡◌, ℕ, ◌^◌, ◌<◌, ◌≤◌, [], length, IfOk, MatchOption};
 ghost use Rattle.limits.specs.declared.TheConstants.{MAX_NODES};
 ghost use Rattle.travel_times.specs.Times.{arrivals};
-ghost use Rattle.walks.specs.Walks.{AreWithin, NoWalk};
-ghost use Rattle.walks.specs.Certificates.{AreSmall};
-ghost use Rattle.router.specs.Frontiers.{IsFrontier, IsSettledAt};
-ghost use Rattle.router.specs.Searches.{asked};
-ghost use Rattle.router.specs.Ways.{IsLeastWay};
+ghost use Rattle.walks.specs.{Certificates.AreSmall, Walks.AreWithin, Walks.NoWalk};
+ghost use Rattle.router.specs.{Frontiers.IsFrontier, Frontiers.IsSettledAt, Searches.asked, Ways.IsLeastWay};
 
 use crate::adjacency::Adjacency;
 use crate::frontier::{Frontier, settle, settle_all, start};

@@ -1,8 +1,6 @@
 ghost use Rattle.std.specs.Prelude.{◌≡◌, ℕ, ◌+◌, ◌^◌, ◌<◌, ◌≤◌, length, IfOk, IfSome, IsSome};
 ghost use Rattle.travel_times.specs.Times.{arrivals};
-ghost use Rattle.walks.specs.Rounds.{label_at};
-ghost use Rattle.walks.specs.Certificates.{AreSmall};
-ghost use Rattle.walks.specs.Chosen.{leads, link_before, followed};
+ghost use Rattle.walks.specs.{Certificates.AreSmall, Chosen.leads, Chosen.link_before, Chosen.followed, Rounds.label_at};
 ghost use Rattle.router.specs.Ways.{is_below};
 
 use crate::adjacency::Adjacency;

@@ -1,6 +1,5 @@
 -- What contracts see of a signal.
-use Rattle.rows.specs.declared.greens.Green.TheInside.{Inside}
-use Rattle.rows.specs.Greens.{Phases, IsLawful}
+use Rattle.rows.specs.{Greens.Phases, Greens.IsLawful, declared.greens.Green.TheInside.Inside}
 
 abbrev pub phases_of : Inside → Phases
 phases_of g = record { cycle = g.cycle; offset = g.offset; spans = g.spans }

@@ -3,8 +3,7 @@ use Rattle.std.specs.Prelude.{ℕ, ◌<◌, Bool, true, false, ◌&&◌, nat_le,
 use Rattle.limits.specs.declared.TheConstants.{LAST_SECOND, MAX_ROUTE_LINKS}
 use Rattle.events.specs.declared.event.Mode.{Mode}
 use Rattle.events.specs.declared.event.Mode.TheVariants as mode
-use Rattle.rows.specs.declared.plan.Act.{Act}
-use Rattle.rows.specs.declared.plan.Leg.{Leg}
+use Rattle.rows.specs.declared.plan.{Act.Act, Leg.Leg}
 use Rattle.rows.specs.declared.plan.Leg.TheVariants as leg
 
 -- the modes of a leg that takes a given time and no vehicle of the simulation

@@ -1,9 +1,7 @@
 -- Plans as their activities and legs.
 use Rattle.std.specs.Prelude.{ℕ, ◌/◌, List, [], map, get_or, None}
-use Rattle.rows.specs.declared.plan.Act.{Act}
-use Rattle.rows.specs.declared.plan.Leg.{Leg}
+use Rattle.rows.specs.declared.plan.{Act.Act, Leg.Leg, Plan.Plan}
 use Rattle.rows.specs.declared.plan.Leg.TheVariants as leg
-use Rattle.rows.specs.declared.plan.Plan.{Plan}
 
 -- a plan's activities, and its legs, one between each activity and the next
 pub record PlanRows : Type 0 where

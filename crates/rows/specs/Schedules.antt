@@ -3,11 +3,8 @@ use Rattle.std.specs.Prelude.{ℕ, Bool, true, false, not, ◌&&◌, ◌||◌, n
 use Rattle.std.specs.List.{list_all}
 use Rattle.limits.specs.declared.TheConstants.{LAST_SECOND, MAX_CALLS, MAX_ROUTE_LINKS, MAX_SEATS}
 use Rattle.events.specs.declared.lists.StopCall.{StopCall}
-use Rattle.rows.specs.Joined.{is_joined}
-use Rattle.rows.specs.Stops.{stop_link}
-use Rattle.rows.specs.declared.schedule.StopRow.{StopRow}
-use Rattle.rows.specs.declared.schedule.RouteRow.{RouteRow}
-use Rattle.rows.specs.declared.schedule.DepartureRow.{DepartureRow}
+use Rattle.rows.specs.{Joined.is_joined, Stops.stop_link}
+use Rattle.rows.specs.declared.schedule.{DepartureRow.DepartureRow, RouteRow.RouteRow, StopRow.StopRow}
 
 -- the stop lies on one of so many links
 abbrev pub is_stop : ℕ → StopRow → Bool

@@ -1,8 +1,7 @@
 -- The ranges of the settings of traffic.
 use Rattle.std.specs.Prelude.{◌≡◌, ℕ, ◌≤◌, Bool, true, ◌&&◌, nat_le, Option, None, Some}
 use Rattle.limits.specs.declared.TheConstants.{LAST_SECOND, MAX_PERMILLE, MAX_SPEED, MAX_DWELL}
-use Rattle.rows.specs.declared.settings.Dwelling.{Dwelling}
-use Rattle.rows.specs.declared.settings.TrafficSettings.{TrafficSettings}
+use Rattle.rows.specs.declared.settings.{Dwelling.Dwelling, TrafficSettings.TrafficSettings}
 
 -- 1 to 10,000 cm a second, where it is given
 abbrev pub is_hole_speed : Option ℕ → Bool

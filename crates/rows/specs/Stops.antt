@@ -1,6 +1,5 @@
 -- Stops, and the calls at them.
-use Rattle.std.specs.Prelude.{ℕ, Bool, List, get_or, ◌==◌}
-use Rattle.std.specs.List.{list_any}
+use Rattle.std.specs.{List.list_any, Prelude.ℕ, Prelude.Bool, Prelude.List, Prelude.get_or, Prelude.◌==◌}
 use Rattle.events.specs.declared.lists.StopCall.{StopCall}
 use Rattle.rows.specs.declared.schedule.StopRow.{StopRow}
 

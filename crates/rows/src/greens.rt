@@ -1,5 +1,4 @@
-ghost use Rattle.std.specs.Prelude.{◌≡◌, ◌<◌, ◌≤◌, ◌+◌, ◌^◌, length};
-ghost use Rattle.std.specs.List.{list_any};
+ghost use Rattle.std.specs.{List.list_any, Prelude.◌≡◌, Prelude.◌<◌, Prelude.◌≤◌, Prelude.◌+◌, Prelude.◌^◌, Prelude.length};
 ghost use Rattle.rows.specs.Greens.{holds, phase_of, is_green, green_at};
 
 use events::Rows;
@@ -18,8 +17,7 @@ pub struct Green {
 }
 
 impl Model for Green {
-    ghost use Rattle.rows.specs.Greens.{Phases};
-    ghost use Rattle.rows.specs.GreenViews.{phases_of, is_lawful};
+    ghost use Rattle.rows.specs.{GreenViews.phases_of, GreenViews.is_lawful, Greens.Phases};
 
     ghost Value = { Phases };
 

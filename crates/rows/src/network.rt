@@ -1,5 +1,4 @@
-ghost use Rattle.std.specs.Prelude.{◌≡◌, ◌≤◌, ℕ, length, true};
-ghost use Rattle.std.specs.List.{list_all};
+ghost use Rattle.std.specs.{List.list_all, Prelude.◌≡◌, Prelude.◌≤◌, Prelude.ℕ, Prelude.length, Prelude.true};
 ghost use Rattle.limits.specs.declared.TheConstants.{MAX_IN_LINKS, MAX_LINKS, MAX_NODES};
 ghost use Rattle.rows.specs.Networks.{is_link, in_links};
 

@@ -1,5 +1,4 @@
-ghost use Rattle.std.specs.Prelude.{◌≡◌, ◌≤◌, ◌+◌, length, true};
-ghost use Rattle.std.specs.List.{list_all};
+ghost use Rattle.std.specs.{List.list_all, Prelude.◌≡◌, Prelude.◌≤◌, Prelude.◌+◌, Prelude.length, Prelude.true};
 ghost use Rattle.limits.specs.declared.TheConstants.{MAX_LEGS};
 ghost use Rattle.rows.specs.Plan.{is_leg, are_acts};
 

@@ -1,5 +1,4 @@
-ghost use Rattle.std.specs.Prelude.{◌≡◌, length};
-ghost use Rattle.std.specs.List.{list_any};
+ghost use Rattle.std.specs.{List.list_any, Prelude.◌≡◌, Prelude.length};
 ghost use Rattle.rows.specs.Stops.{calls_at, stop_link};
 
 use events::{Calls, Names, Route, Rows, StopCall};

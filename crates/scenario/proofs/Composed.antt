@@ -1,45 +1,32 @@
 -- What the files on network give, file by file.
-use Rattle.std.proofs.Common.{◌≡◌, ◌<◌, ◌^◌, ◌∙◌, ℕ, List, length, map, Option, None, Result, Ok, refl, sym, ap, subst, lit<}
-use Rattle.std.proofs.lemmas.List.{length-map}
-use Rattle.std.specs.List.{All}
-use Rattle.records.specs.Files.{body_of}
-use Rattle.records.specs.Faults.{or_else, fault_at}
+use Rattle.std.proofs.Common.{◌≡◌, ◌<◌, ◌^◌, ◌∙◌, ℕ, List, length, map, Option, None, Result, Ok, refl, ap, subst, lit<}
+use Rattle.std.{proofs.lemmas.List.length-map, specs.List.All}
+use Rattle.records.specs.{Faults.fault_at, Files.body_of}
 use Rattle.edge_files.specs.declared.files.InFile.TheVariants as file
-use Rattle.rows.specs.declared.network.NodeRow.{NodeRow}
-use Rattle.rows.specs.declared.network.LinkRow.{LinkRow}
-use Rattle.network.specs.Nodes.{nodes_fault, node_names, node_of}
-use Rattle.network.specs.Links.{links_fault, link_names, link_of}
-use Rattle.plans.specs.Progress.{IsSound}
-use Rattle.plans.specs.Values.{PlanFileRows}
-use Rattle.settings.specs.Values.{Values}
-use Rattle.settings.specs.Faults.{FileValues, settings_fault, file_of}
-use Rattle.rows.specs.Joined.{ends_of, ends_of_link}
-use Rattle.scenario.specs.declared.faults.ScenarioFault.{ScenarioFault}
-use Rattle.scenario.specs.declared.faults.Stop.{Stop}
-use Rattle.scenario.specs.declared.planned.PlannedTown.{PlannedTown}
-use Rattle.scenario.specs.declared.scenario.Scenario.{Scenario}
-use Rattle.scenario.specs.Texts.{Texts, bytes_in}
-use Rattle.scenario.specs.Faults.{fault_in, StopsAt, Tells}
-use Rattle.scenario.specs.FilesToScenario.{NetworkRows, ReadRows, IsReadOn, PlannedRows, network_rows_of, schedule_rows_of, signals_on, read_on, with_filled, planned_from}
-use Rattle.scenario.specs.FilesToScenario.{network_fault, persons_fault, read_faults, read_fault, conflict_fault, joint_fault, filled_fault, on_network, on_network_fault}
-use Rattle.scenario.specs.FilesToScenario.{scenario_of, scenario_on, scenario_fault, scenario_rows}
+use Rattle.rows.specs.{Joined.ends_of, Joined.ends_of_link, declared.network.LinkRow.LinkRow, declared.network.NodeRow.NodeRow}
+use Rattle.network.specs.{Links.links_fault, Links.link_names, Links.link_of, Nodes.nodes_fault, Nodes.node_names, Nodes.node_of}
+use Rattle.plans.specs.{Progress.IsSound, Values.PlanFileRows}
+use Rattle.settings.specs.{Faults.FileValues, Faults.settings_fault, Faults.file_of, Values.Values}
+use Rattle.scenario.proofs.{RowByRow.same_crossing, Told.first_stop, Told.later_stop, Told.both_none, Told.none_of}
+use Rattle.scenario.specs.{Faults.fault_in, Faults.StopsAt, Faults.Tells, FilesToScenario.NetworkRows, FilesToScenario.ReadRows, FilesToScenario.IsReadOn}
+use Rattle.scenario.specs.FilesToScenario.{PlannedRows, network_rows_of, schedule_rows_of, read_on, with_filled, planned_from, network_fault, persons_fault}
+use Rattle.scenario.specs.FilesToScenario.{read_faults, read_fault, joint_fault, filled_fault, on_network, on_network_fault, scenario_of, scenario_on}
+use Rattle.scenario.specs.{FilesToScenario.scenario_fault, FilesToScenario.scenario_rows, Texts.Texts, Texts.bytes_in, Views.planned_view, Views.scenario_view}
+use Rattle.scenario.specs.declared.{faults.ScenarioFault.ScenarioFault, faults.Stop.Stop, planned.PlannedTown.PlannedTown, scenario.Scenario.Scenario}
 use Rattle.walks.specs.Walks.{AreWithin}
-use Rattle.scenario.specs.Views.{planned_view, scenario_view}
-use Rattle.scenario.proofs.RowByRow.{same_crossing}
-use Rattle.scenario.proofs.Told.{first_stop, later_stop, both_none, none_of}
 
 -- THE NETWORK
 -- a stop at links.csv, behind nodes.csv
 pub links_told : (s : Stop) (T : Texts) (names : List (List ℕ)) → fault_in T file.Nodes nodes_fault ≡ None → names ≡ node_names (bytes_in T file.Nodes)
     → StopsAt s (fault_in T file.Links (links_fault names)) → StopsAt s (network_fault T)
 unfolding network_fault
-links_told s T names none is told = later_stop s _ _ none (subst (λ (n : List (List ℕ)). StopsAt s (fault_in T file.Links (links_fault n))) is told)
+links_told s T names none is told = later_stop s _ _ none (rw (← is) told)
 
 -- neither of the two has a fault
 pub network_none : (T : Texts) (names : List (List ℕ)) → fault_in T file.Nodes nodes_fault ≡ None → names ≡ node_names (bytes_in T file.Nodes)
     → fault_in T file.Links (links_fault names) ≡ None → network_fault T ≡ None
 unfolding network_fault
-network_none T names none is links = both_none _ _ none (subst (λ (n : List (List ℕ)). fault_in T file.Links (links_fault n) ≡ None) is links)
+network_none T names none is links = both_none _ _ none (rw (← is) links)
 
 -- and what they give
 pub network_is : (T : Texts) (names : List (List ℕ)) (nodes : List NodeRow) (link_list : List (List ℕ)) (links : List LinkRow)
@@ -52,16 +39,12 @@ network_is T names nodes link_list links a b c d = rw (d, c, b, a) refl
 -- the ends are one for each name
 pub ends_count : (ends : List (ℕ × ℕ)) (links : List LinkRow) (names : List (List ℕ)) → ends ≡ ends_of links → length names ≡ length links → length ends ≡ length names
 unfolding ends_of
-ends_count ends links names is each = ap (λ (l : List (ℕ × ℕ)). length l) is ∙ length-map links ends_of_link ∙ sym each
-
--- what is told behind files without a fault
-pub told_behind : {A B : Type 0} (view : A → B) (r : Result A Stop) (a b : Option ScenarioFault) (value : B) → a ≡ None → Tells view r b value → Tells view r (or_else a b) value
-told_behind view r a b value none told = subst (λ (x : Option ScenarioFault). Tells view r (or_else x b) value) (sym none) told
+ends_count ends links names is each = rw (is, length-map links ends_of_link, each)
 
 -- a stop at the files that are read over the network
 pub read_told : (s : Stop) (R : NetworkRows) (T : Texts) (ends : List (ℕ × ℕ)) → ends ≡ ends_of R.links → StopsAt s (read_fault R.link_names ends T) → StopsAt s (on_network_fault R T)
 unfolding on_network_fault
-read_told s R T ends is told = first_stop s _ _ (subst (λ (e : List (ℕ × ℕ)). StopsAt s (read_fault R.link_names e T)) is told)
+read_told s R T ends is told = rw (← is) (first_stop s _ _ told)
 
 persons_none : (links : List (List ℕ)) (ends : List (ℕ × ℕ)) (T : Texts) → read_fault links ends T ≡ None → persons_fault links ends T ≡ None
 persons_none links ends T none = none_of (read_faults links ends T) none 0 None (lit< tt)
@@ -69,9 +52,7 @@ persons_none links ends T none = none_of (read_faults links ends T) none 0 None 
 -- what was read fits the network whose ends and names these are
 pub read_sound : (R : NetworkRows) (ends : List (ℕ × ℕ)) (read : ReadRows) → ends ≡ ends_of R.links → length R.link_names ≡ length R.links
     → IsReadOn (length R.link_names) R.link_names ends read → IsReadOn (length R.links) R.link_names (ends_of R.links) read
-read_sound R ends read is each fitting =
-    subst (λ (e : List (ℕ × ℕ)). IsReadOn (length R.links) R.link_names e read) is
-    (subst (λ (count : ℕ). IsReadOn count R.link_names ends read) each fitting)
+read_sound R ends read is each fitting = rw (← is, ← each) fitting
 
 -- and it does so with other plans that fit
 pub fitting_plans : (count : ℕ) (links : List (List ℕ)) (ends : List (ℕ × ℕ)) (read : ReadRows) (plans : PlanFileRows) → IsReadOn count links ends read → IsSound links ends plans
@@ -82,8 +63,7 @@ fitting_plans count links ends read plans fitting sound starts = assumption (fit
 joint_is : (R : NetworkRows) (T : Texts) → AreWithin (length R.nodes) (ends_of R.links) → length R.link_names ≡ length R.links → persons_fault R.link_names (ends_of R.links) T ≡ None
     → filled_fault (with_filled R (read_on R.link_names T)) ≡ joint_fault R T (read_on R.link_names T)
 unfolding filled_fault joint_fault
-joint_is R T inside each none =
-    ap (λ (f : Option ScenarioFault). or_else f (conflict_fault (signals_on R.link_names T))) (same_crossing R T (schedule_rows_of R.link_names T) inside each none)
+joint_is R T inside each none = rw (same_crossing R T (schedule_rows_of R.link_names T) inside each none)
 
 -- the town of what was read, or the first fault of it together, is that of the files
 pub all_told : (r : Result PlannedTown Stop) (v : Values) (R : NetworkRows) (read : ReadRows) (T : Texts) (ends : List (ℕ × ℕ)) → AreWithin (length R.nodes) (ends_of R.links)
@@ -91,12 +71,9 @@ pub all_told : (r : Result PlannedTown Stop) (v : Values) (R : NetworkRows) (rea
     → Tells planned_view r (filled_fault (with_filled R read)) (planned_from v R (with_filled R read)) → Tells planned_view r (on_network_fault R T) (on_network v R T)
 unfolding on_network_fault on_network
 all_told r v R read T ends inside each is none same told =
-    let given = read_on R.link_names T in
-    let value = planned_from v R (with_filled R given) in
-    let no_fault = subst (λ (e : List (ℕ × ℕ)). read_fault R.link_names e T ≡ None) is none in
+    let no_fault = rw is at none in
     let as_given = subst (λ (w : ReadRows). Tells planned_view r (filled_fault (with_filled R w)) (planned_from v R (with_filled R w))) same told in
-    let row_by_row = subst (λ (f : Option ScenarioFault). Tells planned_view r f value) (joint_is R T inside each (persons_none R.link_names (ends_of R.links) T no_fault)) as_given in
-    told_behind planned_view r _ _ value no_fault row_by_row
+    rw (no_fault, ← joint_is R T inside each (persons_none R.link_names (ends_of R.links) T no_fault)) as_given
 
 -- ALL FILES
 -- the scenario is told beside what the files on network tell
@@ -111,8 +88,5 @@ pub files_told : (r : Result Scenario Stop) (T : Texts) (v : FileValues) (R : Ne
     → Tells scenario_view r (scenario_fault T) (scenario_rows T)
 unfolding scenario_fault scenario_rows
 files_told r T v R no_settings no_network settings network told =
-    let said = file_of (bytes_in T file.Settings) in
-    let value = scenario_on said (network_rows_of T) T in
     let with_settings = subst (λ (s : FileValues). Tells scenario_view r (on_network_fault R T) (scenario_on s R T)) settings told in
-    let with_network = subst (λ (q : NetworkRows). Tells scenario_view r (on_network_fault q T) (scenario_on said q T)) network with_settings in
-    told_behind scenario_view r _ _ value no_settings (told_behind scenario_view r _ _ value no_network with_network)
+    rw (no_settings, no_network, ← network) with_settings

@@ -1,20 +1,14 @@
 -- The first fault of all persons' plans, person by person.
-use Rattle.scenario.proofs.Common.{◌≡◌, List, ℕ, map, sym, ◌∙◌, ap, length, refl, None, true, Option, arith, ◌<◌, Some, ◌≤◌, ◌∷◌, drop, false, get_or, suc}
-use Rattle.scenario.proofs.Common.{◌+◌, length-map, flat_map, RowFault, or_else, PlanRows, all_plan_rows, plan_rows, Plan, plans_fault, LegChecks}
-use Rattle.scenario.proofs.Common.{all_plans_fault, plan_fault}
-use Rattle.std.proofs.Common.{drop-cons, add-one}
-use Rattle.std.specs.Prelude.{is_some}
-use Rattle.std.proofs.Math.ListN.{get_or-map}
-use Rattle.std.proofs.lemmas.List.{drop_all}
 use Rattle.scenario.proofs.AllFit.{plans_fault-append}
+use Rattle.scenario.proofs.Common.{◌≡◌, List, ℕ, map, sym, ◌∙◌, ap, length, None, true, Option, arith, ◌<◌, ◌≤◌, ◌∷◌, drop, false, get_or, suc, ◌+◌, length-map}
+use Rattle.scenario.proofs.Common.{flat_map, RowFault, or_else, PlanRows, all_plan_rows, plan_rows, Plan, plans_fault, LegChecks, all_plans_fault, plan_fault}
+use Rattle.std.{proofs.Common.drop-cons, proofs.Common.add-one, proofs.Math.ListN.get_or-map, proofs.lemmas.List.drop_all, specs.Prelude.is_some}
 
 or_else-some : {A : Type 0} (a b : Option A) → is_some a ≡ true → or_else a b ≡ a
-or_else-some None b h = cc
-or_else-some (Some a) b h = refl
+or_else-some a b h = grind arith
 
 or_else-none : {A : Type 0} (a b : Option A) → is_some a ≡ false → or_else a b ≡ b
-or_else-none None b h = refl
-or_else-none (Some a) b h = cc
+or_else-none a b h = grind arith
 
 -- one is taken from those that are left
 taken : {A B : Type 0} (f : A → B) (xs : List A) (i : ℕ) (x : A) → i < length xs → x ≡ get_or xs i x → drop i (map f xs) ≡ f x ∷ drop (i + 1) (map f xs)

@@ -1,13 +1,12 @@
 -- Files without a fault: none of their parts has one.
-use Rattle.std.proofs.Common.{lit<}
-use Rattle.std.specs.List.{All}
+use Rattle.std.{proofs.Common.lit<, specs.List.All}
 use Rattle.scenario.proofs.Common.{◌≡◌, None, fault_at, fault_in, Texts, bytes_in, ends_of, node_names, links_fault, settings_fault}
 use Rattle.scenario.proofs.Common.{network_fault, network_rows_of, persons_fault, schedule_fault, schedule_rows_of, on_network_fault, scenario_fault}
+use Rattle.scenario.specs.FilesToScenario.{NetworkRows, read_faults, cross_fault, joint_fault, signals_on, signals_file_fault, conflict_fault}
+use Rattle.scenario.proofs.Told.{none_of, all_none, both_none}
 use Rattle.edge_files.specs.declared.files.InFile.TheVariants as file
 use Rattle.network.specs.Nodes.{nodes_fault}
 use Rattle.records.proofs.Unrefused.{or_none}
-use Rattle.scenario.specs.FilesToScenario.{NetworkRows, read_faults, cross_fault, joint_fault, signals_on, signals_file_fault, conflict_fault}
-use Rattle.scenario.proofs.Told.{none_of, all_none, both_none}
 
 -- what is read over a network
 pub record AreFreeOn (network : NetworkRows) (T : Texts) : Type 0 where

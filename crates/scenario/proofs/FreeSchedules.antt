@@ -1,17 +1,13 @@
 -- Stops, routes and departures of files without a fault name links, stops and routes that are there, within the limits.
-use Rattle.scenario.proofs.Common.{◌≡◌, List, ℕ, map, sym, ◌∙◌, length, refl, subst, None, true, length-map, list_all, field, body_of, Row, schedule_fault}
-use Rattle.scenario.proofs.Common.{schedule_rows_of, route_names, stop_names, stop_rows, Texts, bytes_in, IsSchedule, departure_of, departures_fault}
-use Rattle.scenario.proofs.Common.{lines_of, routes_fault, routes_of, stops_fault, schedule_view, ScheduleRows, Tells}
+use Rattle.scenario.proofs.Common.{◌≡◌, List, ℕ, map, sym, ◌∙◌, length, refl, None, length-map, field, body_of, Row, schedule_fault, schedule_rows_of}
+use Rattle.scenario.proofs.Common.{route_names, stop_names, stop_rows, Texts, bytes_in, IsSchedule, departure_of, departures_fault, lines_of, routes_fault}
+use Rattle.scenario.proofs.{Common.routes_of, Common.stops_fault, Common.schedule_view, Common.Tells, Told.bytes_free}
+use Rattle.scenario.specs.declared.{faults.Stop.Stop, schedules.Schedule.Schedule}
 use Rattle.std.proofs.Common.{Result, Ok, Err, IfOk}
 use Rattle.edge_files.specs.declared.files.InFile.TheVariants as file
 use Rattle.records.proofs.Unrefused.{or_none}
-use Rattle.schedule.specs.Stops.{stop_of}
-use Rattle.schedule.specs.Routes.{route_of}
-use Rattle.rows.specs.Schedules.{is_departure}
 use Rattle.schedule.proofs.Free.{few_stops, sound_stops, few_routes, sound_routes, few_departures, sound_departures}
-use Rattle.scenario.specs.declared.faults.Stop.{Stop}
-use Rattle.scenario.specs.declared.schedules.Schedule.{Schedule}
-use Rattle.scenario.proofs.Told.{bytes_free}
+use Rattle.schedule.specs.{Routes.route_of, Stops.stop_of}
 
 pub schedule_free : (links : List (List ℕ)) (ends : List (ℕ × ℕ)) (T : Texts) → schedule_fault links ends T ≡ None → IsSchedule (length links) ends (schedule_rows_of links T)
 unfolding schedule_fault schedule_rows_of
@@ -38,11 +34,11 @@ schedule_free links ends T none =
       few_routes = few_routes links ends names stop_list routes route_list each no_routes refl;
       routes = sound_routes links ends names stop_list routes route_list each no_routes refl;
       few_departures = few_departures (route_names routes) departures departure_list no_departures refl;
-      departures = subst (λ (n : ℕ). list_all (is_departure n) departure_list ≡ true) each_route (sound_departures (route_names routes) departures departure_list no_departures refl);
+      departures = rw (← each_route) (sound_departures (route_names routes) departures departure_list no_departures refl);
     }
 
 -- and so does a schedule that was read
 pub schedule_told : (links : List (List ℕ)) (ends : List (ℕ × ℕ)) (T : Texts) (r : Result Schedule Stop) → Tells schedule_view r (schedule_fault links ends T) (schedule_rows_of links T)
     → IfOk r (λ schedule. IsSchedule (length links) ends (schedule_view schedule))
-schedule_told links ends T (Ok schedule) told = subst (λ (t : ScheduleRows). IsSchedule (length links) ends t) (sym told.1) (schedule_free links ends T told.0)
+schedule_told links ends T (Ok schedule) told = rw told.1 (schedule_free links ends T told.0)
 schedule_told links ends T (Err stop) told = tt

@@ -1,50 +1,33 @@
 -- What is told of one file, and of files one after the other.
-use Rattle.scenario.proofs.Common.{◌≡◌, List, ℕ, sym, ◌∙◌, ap, refl, subst, None, Option, Some, [], Result, unwrap_or, InFile, RowFault, or_else, StopsAt}
-use Rattle.scenario.proofs.Common.{Tells, fault_in, in_file, Texts, bytes_in}
+use Rattle.scenario.proofs.Common.{◌≡◌, List, ℕ, refl, None, Option, Some, [], Result, unwrap_or, InFile, RowFault, or_else, StopsAt, Tells, fault_in, in_file}
+use Rattle.scenario.{proofs.Common.Texts, proofs.Common.bytes_in, specs.Faults.text_fault}
+use Rattle.scenario.specs.{Faults.with_file, Faults.first_of, Faults.TellsFile, declared.faults.ScenarioFault.ScenarioFault, declared.faults.Stop.Stop}
 use Rattle.std.proofs.Common.{Ok, Err, IfOk, ◌∷◌, zero, suc, arith}
 use Rattle.std.specs.List.{All}
 use Rattle.edge_files.specs.declared.reasons.Reason.TheVariants as reason
 use Rattle.edge_files.specs.declared.reasons.RowStop.{RowStop}
 use Rattle.edge_files.specs.declared.reasons.RowStop.TheVariants as row_stop
-use Rattle.records.specs.Faults.{Answers}
-use Rattle.scenario.specs.declared.faults.ScenarioFault.{ScenarioFault}
-use Rattle.scenario.specs.declared.faults.Stop.{Stop}
+use Rattle.records.{proofs.Unrefused.or_none, specs.Faults.Answers}
 use Rattle.scenario.specs.declared.faults.Stop.TheVariants as stop
-use Rattle.records.proofs.Unrefused.{or_none}
-use Rattle.scenario.specs.Faults.{text_fault, with_file, first_of, TellsFile}
 
 -- ONE FILE
 -- a file whose bytes are read
 module _ {A B : Type 0} (view : A → B) (T : Texts) (file : InFile) (fault : List ℕ → Option RowFault) (value : List ℕ → B) where
   -- a file that is too long
-  long_told : (s : Stop) → T file ≡ None → s ≡ stop.Fault (record { file = file; row = 0; reason = reason.TooLong }) → StopsAt s (fault_in T file fault)
-  long_told s none is =
-      let told : fault_in T file fault ≡ Some (record { file = file; row = 0; reason = reason.TooLong }) = ap (λ (t : Option (List ℕ)). in_file file (text_fault fault t)) none in
-      subst (λ (x : Stop). StopsAt x (fault_in T file fault)) (sym is) told
-
   pub told_long : (s : Stop) → T file ≡ None → s ≡ stop.Fault (record { file = file; row = 0; reason = reason.TooLong }) → TellsFile view (Err s) T file fault value
   unfolding TellsFile
-  told_long s none is = long_told s none is
-
-  fault_is : (bytes : List ℕ) → T file ≡ Some bytes → fault_in T file fault ≡ in_file file (fault bytes)
-  fault_is bytes same = ap (λ (t : Option (List ℕ)). in_file file (text_fault fault t)) same
+  told_long s none is = rw (is, none) refl
 
   read_told : (bytes : List ℕ) (read : Result A RowStop) → T file ≡ Some bytes → Answers view read (fault bytes) (value bytes) → Tells view (with_file file read) (fault_in T file fault) (value (bytes_in T file))
   unfolding with_file
-  read_told bytes (Ok read) same answer = (
-    fault_is bytes same ∙ ap (λ (f : Option RowFault). in_file file f) answer.0,
-    answer.1 ∙ sym (ap (λ (t : Option (List ℕ)). value (unwrap_or t [])) same),
-  )
-  read_told bytes (Err (row_stop.Fault found)) same answer = fault_is bytes same ∙ ap (λ (f : Option RowFault). in_file file f) answer
+  read_told bytes (Ok read) same answer = (rw (same, answer.0) refl, rw same answer.1)
+  read_told bytes (Err (row_stop.Fault found)) same answer = rw (same, answer) refl
   read_told bytes (Err row_stop.NoMemory) same answer = tt
 
   pub told_in : (bytes : List ℕ) (found : Option RowFault) (given : B) (read : Result A RowStop) (told : Result A Stop) → told ≡ with_file file read → T file ≡ Some bytes
       → Answers view read found given → fault bytes ≡ found → value bytes ≡ given → TellsFile view told T file fault value
   unfolding TellsFile
-  told_in bytes found given read told is same answer fault_is_found value_is_given =
-      let with_fault = subst (λ (f : Option RowFault). Answers view read f given) (sym fault_is_found) answer in
-      let answered = subst (λ (v : B). Answers view read (fault bytes) v) (sym value_is_given) with_fault in
-      subst (λ (r : Result A Stop). Tells view r (fault_in T file fault) (value (bytes_in T file))) (sym is) (read_told bytes read same answered)
+  told_in bytes found given read told is same answer fault_is value_is = rw is (read_told bytes read same (rw (fault_is, value_is) answer))
 
 -- what holds of what was read of a file
 module _ {A : Type 0} (file : InFile) (P : A → Type 0) where
@@ -54,7 +37,7 @@ module _ {A : Type 0} (file : InFile) (P : A → Type 0) where
   with_known (Err why) known = tt
 
   pub known_in : (read : Result A RowStop) (told : Result A Stop) → told ≡ with_file file read → IfOk read P → IfOk told P
-  known_in read told is known = subst (λ (r : Result A Stop). IfOk r P) (sym is) (with_known read known)
+  known_in read told is known = rw is (with_known read known)
 
 -- a file has no fault where its bytes have none
 pub file_none : (file : InFile) (fault : Option RowFault) → in_file file fault ≡ None → fault ≡ None
@@ -71,16 +54,16 @@ bytes_free T file fault none = text_free fault (T file) (file_none file (text_fa
 
 -- the first of two is told
 pub first_stop : (s : Stop) (a b : Option ScenarioFault) → StopsAt s a → StopsAt s (or_else a b)
-first_stop (stop.Fault told) a b h = ap (λ (x : Option ScenarioFault). or_else x b) h
+first_stop (stop.Fault told) a b h = rw h
 first_stop stop.NoMemory a b h = tt
 
 -- the second one is, where the first has no fault
 pub later_stop : (s : Stop) (a b : Option ScenarioFault) → a ≡ None → StopsAt s b → StopsAt s (or_else a b)
-later_stop s a b none h = subst (λ (x : Option ScenarioFault). StopsAt s (or_else x b)) (sym none) h
+later_stop s a b none h = rw none h
 
 -- neither has one
 pub both_none : (a b : Option ScenarioFault) → a ≡ None → b ≡ None → or_else a b ≡ None
-both_none a b none h = ap (λ (x : Option ScenarioFault). or_else x b) none ∙ h
+both_none a b none h = rw none h
 
 -- of faults of which there is no first one none is there
 pub none_of : (faults : List (Option ScenarioFault)) → first_of faults ≡ None → All (λ fault. fault ≡ None) faults

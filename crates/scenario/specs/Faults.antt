@@ -1,15 +1,11 @@
 -- The first fault of the files.
 use Rattle.std.specs.Prelude.{◌≡◌, ℕ, List, [], ◌∷◌, Option, None, Some, Result, Ok, Err}
-use Rattle.edge_files.specs.declared.files.InFile.{InFile}
+use Rattle.edge_files.specs.declared.{files.InFile.InFile, reasons.RowFault.RowFault, reasons.RowStop.RowStop}
 use Rattle.edge_files.specs.declared.reasons.Reason.TheVariants as reason
-use Rattle.edge_files.specs.declared.reasons.RowFault.{RowFault}
-use Rattle.edge_files.specs.declared.reasons.RowStop.{RowStop}
 use Rattle.edge_files.specs.declared.reasons.RowStop.TheVariants as row_stop
 use Rattle.records.specs.Faults.{fault_at, or_else}
-use Rattle.scenario.specs.declared.faults.ScenarioFault.{ScenarioFault}
-use Rattle.scenario.specs.declared.faults.Stop.{Stop}
+use Rattle.scenario.specs.{Texts.Texts, Texts.bytes_in, declared.faults.ScenarioFault.ScenarioFault, declared.faults.Stop.Stop}
 use Rattle.scenario.specs.declared.faults.Stop.TheVariants as stop
-use Rattle.scenario.specs.Texts.{Texts, bytes_in}
 
 -- the fault of a file by that of its bytes: one that is too long has this fault alone
 abbrev pub text_fault : (List ℕ → Option RowFault) → Option (List ℕ) → Option RowFault

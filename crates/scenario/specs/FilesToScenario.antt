@@ -4,47 +4,28 @@ use Rattle.std.specs.List.{list_all}
 use Rattle.edge_files.specs.declared.files.InFile.TheVariants as file
 use Rattle.events.specs.declared.event.Book.{Book}
 use Rattle.limits.specs.declared.TheConstants.{MAX_DEPARTURES, MAX_ROUTES, MAX_STOPS}
-use Rattle.records.specs.Fields.{column}
-use Rattle.records.specs.Files.{body_of}
-use Rattle.records.specs.Faults.{or_else, fault_at}
-use Rattle.rows.specs.declared.network.NodeRow.{NodeRow}
-use Rattle.rows.specs.declared.network.LinkRow.{LinkRow}
-use Rattle.network.specs.Nodes.{nodes_fault, node_names, node_of}
-use Rattle.network.specs.Links.{links_fault, link_names, link_of}
-use Rattle.rows.specs.PlanRows.{PlanRows}
+use Rattle.records.specs.{Faults.or_else, Faults.fault_at, Fields.column, Files.body_of}
+use Rattle.rows.specs.{Greens.Phases, Joined.ends_of, PlanRows.PlanRows, Schedules.is_stop, Schedules.is_route, Schedules.is_departure}
+use Rattle.rows.specs.declared.network.{LinkRow.LinkRow, NodeRow.NodeRow}
+use Rattle.rows.specs.declared.schedule.{DepartureRow.DepartureRow, RouteRow.RouteRow, StopRow.StopRow}
+use Rattle.network.specs.{Links.links_fault, Links.link_names, Links.link_of, Nodes.nodes_fault, Nodes.node_names, Nodes.node_of}
 use Rattle.learning.specs.declared.settings.Learning.{Learning}
 use Rattle.plan_memory.specs.Memories.{MemoryRows, first_memory}
-use Rattle.plans.specs.Progress.{IsSound}
-use Rattle.plans.specs.Read.{file_rows_of}
-use Rattle.plans.specs.Values.{PlanFileRows, tables_of, plans_fault, file_rows}
-use Rattle.rows.specs.declared.schedule.StopRow.{StopRow}
-use Rattle.rows.specs.declared.schedule.RouteRow.{RouteRow}
-use Rattle.rows.specs.declared.schedule.DepartureRow.{DepartureRow}
-use Rattle.rows.specs.Schedules.{is_stop, is_route, is_departure}
-use Rattle.schedule.specs.Stops.{stops_fault, stop_of}
-use Rattle.schedule.specs.Routes.{routes_fault, lines_of, routes_of}
+use Rattle.plans.specs.{Progress.IsSound, Read.file_rows_of, Values.PlanFileRows, Values.tables_of, Values.plans_fault, Values.file_rows}
 use Rattle.schedule.specs.Departures.{departures_fault, departure_of}
+use Rattle.schedule.specs.{Routes.routes_fault, Routes.lines_of, Routes.routes_of, Stops.stops_fault, Stops.stop_of}
 use Rattle.scoring.specs.Tables.{ScoringRows}
-use Rattle.signals.specs.declared.conflict.Conflict.{Conflict}
 use Rattle.signals.specs.Signals.{SignalRows, signals_fault, signal_rows_of, clash_fault}
-use Rattle.signals.specs.Views.{signal_view}
-use Rattle.settings.specs.Values.{Values}
-use Rattle.settings.specs.Faults.{FileValues, settings_fault, file_of}
-use Rattle.settings.specs.Numbered.{by_number}
-use Rattle.rows.specs.Greens.{Phases}
-use Rattle.rows.specs.Joined.{ends_of}
+use Rattle.signals.specs.{Views.signal_view, declared.conflict.Conflict.Conflict}
+use Rattle.settings.specs.{Faults.FileValues, Faults.settings_fault, Faults.file_of, Numbered.by_number, Values.Values}
 use Rattle.town.specs.Rows.{TownRows}
 use Rattle.travel_times.specs.Times.{arrivals, free_times}
 use Rattle.walks.specs.Arrivals.{Arrivals}
-use Rattle.router.specs.Graphs.{Graph, graph_on}
-use Rattle.router.specs.Legs.{route_between}
+use Rattle.router.specs.{Graphs.Graph, Graphs.graph_on, Legs.route_between}
 use Rattle.car_routes.specs.Plans.{all_routed}
-use Rattle.scenario.specs.declared.faults.ScenarioFault.{ScenarioFault}
-use Rattle.scenario.specs.declared.files_read.FilesRead.{FilesRead}
-use Rattle.scenario.specs.declared.schedules.Schedule.{Schedule}
-use Rattle.scenario.specs.Texts.{Texts, bytes_in}
-use Rattle.scenario.specs.Faults.{in_file, fault_in, first_of}
-use Rattle.scenario.specs.Legs.{LegChecks, numbers_in, settled, plan_in_town, rows_cross_fault, all_plans_fault}
+use Rattle.scenario.specs.{Faults.in_file, Faults.fault_in, Faults.first_of, Legs.LegChecks, Legs.numbers_in, Legs.settled, Legs.plan_in_town}
+use Rattle.scenario.specs.{Legs.rows_cross_fault, Legs.all_plans_fault, Texts.Texts, Texts.bytes_in}
+use Rattle.scenario.specs.declared.{faults.ScenarioFault.ScenarioFault, files_read.FilesRead.FilesRead, schedules.Schedule.Schedule}
 
 -- names and rows of nodes and of links
 pub record NetworkRows : Type 0 where

@@ -1,11 +1,9 @@
 -- Each person's plans fit the town.
-use Rattle.std.specs.Prelude.{Bool, ◌&&◌, nat_le, List, length}
-use Rattle.std.specs.List.{list_all}
+use Rattle.std.specs.{List.list_all, Prelude.Bool, Prelude.◌&&◌, Prelude.nat_le, Prelude.List, Prelude.length}
 use Rattle.limits.specs.declared.TheConstants.{MAX_PLANS}
 use Rattle.plan_memory.specs.Memories.{MemoryRows}
 use Rattle.rows.specs.PlanRows.{PlanRows}
-use Rattle.town.specs.Rows.{TownRows}
-use Rattle.town.specs.Fits.{fits}
+use Rattle.town.specs.{Fits.fits, Rows.TownRows}
 
 -- one to five plans
 abbrev pub are_few : List PlanRows → Bool

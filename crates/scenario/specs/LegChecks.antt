@@ -1,8 +1,7 @@
 -- What legs are held against, as the code has it.
 use Rattle.std.specs.Prelude.{◌≡◌, ℕ, ◌<◌, length, Some}
 use Rattle.scenario.specs.Legs.{Numbers, LegChecks, number_at, settled}
-use Rattle.scenario.specs.declared.numbering.Numbering.{Numbering}
-use Rattle.scenario.specs.declared.schedules.Schedule.{Schedule}
+use Rattle.scenario.specs.declared.{numbering.Numbering.Numbering, schedules.Schedule.Schedule}
 
 -- the numbers in the town
 abbrev pub numbers_of : Numbering → Numbers

@@ -1,20 +1,13 @@
 -- The legs of the plans in the town: the numbers of their lines and stops, and what may be wrong with them.
-use Rattle.std.specs.Prelude.{ℕ, ◌+◌, ◌-◌, Bool, false, not, ◌&&◌, ◌||◌, nat_eq, is_none, if◌then◌else◌, List, [], ◌∷◌, length, map, drop, get_or, Option, None, unwrap_or}
-use Rattle.std.specs.List.{flat_map}
-use Rattle.edge_files.specs.declared.reasons.Reason.{Reason}
+use Rattle.std.specs.{List.flat_map, Prelude.ℕ, Prelude.◌+◌, Prelude.◌-◌}
+use Rattle.std.specs.Prelude.{Bool, false, not, ◌&&◌, ◌||◌, nat_eq, is_none, if◌then◌else◌, List, [], ◌∷◌, length, map, drop, get_or, Option, None, unwrap_or}
+use Rattle.edge_files.specs.declared.reasons.{Reason.Reason, RowFault.RowFault}
 use Rattle.edge_files.specs.declared.reasons.Reason.TheVariants as reason
-use Rattle.edge_files.specs.declared.reasons.RowFault.{RowFault}
 use Rattle.events.specs.Names.{number_of}
-use Rattle.records.specs.Rows.{Row}
-use Rattle.records.specs.Faults.{or_else, fault_at, least, first_fault}
-use Rattle.rows.specs.declared.plan.Act.{Act}
-use Rattle.rows.specs.declared.plan.Leg.{Leg}
+use Rattle.records.specs.{Faults.or_else, Faults.fault_at, Faults.least, Faults.first_fault, Rows.Row}
+use Rattle.rows.specs.{PlanRows.PlanRows, declared.plan.Act.Act, declared.plan.Leg.Leg, declared.schedule.RouteRow.RouteRow, declared.schedule.StopRow.StopRow}
 use Rattle.rows.specs.declared.plan.Leg.TheVariants as leg
-use Rattle.rows.specs.PlanRows.{PlanRows}
-use Rattle.plans.specs.Kinds.{kind_of, is_leg}
-use Rattle.plans.specs.Values.{Tables, act_of, leg_of}
-use Rattle.rows.specs.declared.schedule.StopRow.{StopRow}
-use Rattle.rows.specs.declared.schedule.RouteRow.{RouteRow}
+use Rattle.plans.specs.{Kinds.kind_of, Kinds.is_leg, Values.Tables, Values.act_of, Values.leg_of}
 use Rattle.town.specs.Fits.{has_wrong_ends, has_wrong_stops, first_link}
 
 -- the numbers that the lines and the stops of the plans have in the town, where it has them

@@ -1,15 +1,11 @@
 -- The values of the code as the definitions see them.
 use Rattle.std.specs.Prelude.{get_or, None}
 use Rattle.edge_files.specs.Files.{in_place}
-use Rattle.rows.specs.declared.network.Network.{Network}
-use Rattle.rows.specs.PlanRows.{all_plan_rows}
+use Rattle.rows.specs.{PlanRows.all_plan_rows, declared.network.Network.Network}
 use Rattle.scoring.specs.Tables.{scoring_rows}
 use Rattle.town.specs.Views.{rows_of}
-use Rattle.scenario.specs.declared.files.Files.{Files}
-use Rattle.scenario.specs.declared.planned.PlannedTown.{PlannedTown}
-use Rattle.scenario.specs.declared.scenario.Scenario.{Scenario}
-use Rattle.scenario.specs.Texts.{Texts}
 use Rattle.scenario.specs.FilesToScenario.{NetworkRows, PlannedRows, ScenarioRows}
+use Rattle.scenario.specs.{Texts.Texts, declared.files.Files.Files, declared.planned.PlannedTown.PlannedTown, declared.scenario.Scenario.Scenario}
 
 -- what was read of each file
 abbrev pub texts_of : Files → Texts

@@ -5,20 +5,16 @@
 
 ghost use Rattle.std.specs.Prelude.{◌≡◌, ◌<◌, ◌≤◌, ◌^◌, None, length, IfOk, All};
 ghost use Rattle.limits.specs.declared.TheConstants.{MAX_PERSONS};
-ghost use Rattle.plans.specs.Progress.{IsSound};
-ghost use Rattle.plans.specs.Read.{file_rows_of};
+ghost use Rattle.plans.specs.{Progress.IsSound, Read.file_rows_of};
 ghost use Rattle.settings.specs.Faults.{settings_fault, file_of, values_of, file_values};
 ghost use Rattle.records.specs.Faults.{fault_at};
 ghost use Rattle.rows.specs.Joined.{ends_of};
 ghost use Rattle.signals.specs.Views.{signal_view};
 ghost use Rattle.town.specs.Views.{rows_of};
-ghost use Rattle.scenario.specs.Faults.{Tells, TellsFile};
-ghost use Rattle.scenario.specs.LegChecks.{leg_checks_of, AreThere};
-ghost use Rattle.scenario.specs.FilesToScenario.{filled_in, with_filled, leg_checks_in, book_of, town_of, plans_cross_fault};
-ghost use Rattle.scenario.specs.FilesToScenario.{conflict_fault, filled_fault, planned_of, planned_from};
-ghost use Rattle.scenario.specs.FilesToScenario.{schedule_view, read_view, IsSchedule, IsReadOn};
-ghost use Rattle.scenario.specs.FilesToScenario.{on_network, on_network_fault, scenario_of, scenario_on};
-ghost use Rattle.scenario.specs.FilesToScenario.{scenario_fault, scenario_rows};
+ghost use Rattle.scenario.specs.{Faults.Tells, Faults.TellsFile, LegChecks.leg_checks_of, LegChecks.AreThere, FilesToScenario.filled_in};
+ghost use Rattle.scenario.specs.FilesToScenario.{with_filled, leg_checks_in, book_of, town_of, plans_cross_fault, conflict_fault};
+ghost use Rattle.scenario.specs.FilesToScenario.{filled_fault, planned_of, planned_from, schedule_view, read_view, IsSchedule, IsReadOn};
+ghost use Rattle.scenario.specs.FilesToScenario.{on_network, on_network_fault, scenario_of, scenario_on, scenario_fault, scenario_rows};
 ghost use Rattle.scenario.specs.Views.{network_view, planned_view, scenario_view, texts_of};
 
 use crate::faults::{ScenarioFault, Stop};

@@ -1,15 +1,11 @@
 //! The files that are read over a network, one after the other.
 
 ghost use Rattle.std.specs.Prelude.{◌≡◌, ◌<◌, ◌^◌, length, IfOk, All};
-ghost use Rattle.plans.specs.Progress.{IsSound};
-ghost use Rattle.plans.specs.Read.{file_rows_of};
-ghost use Rattle.plans.specs.Values.{plans_fault, file_rows};
+ghost use Rattle.plans.specs.{Progress.IsSound, Read.file_rows_of, Values.plans_fault, Values.file_rows};
 ghost use Rattle.records.specs.Files.{body_of};
-ghost use Rattle.signals.specs.Signals.{signals_fault, signal_rows_of};
-ghost use Rattle.signals.specs.Views.{signal_view};
-ghost use Rattle.scenario.specs.Faults.{Tells, TellsFile};
-ghost use Rattle.scenario.specs.FilesToScenario.{read_fault, read_on, read_view, IsReadOn};
-ghost use Rattle.scenario.specs.Views.{texts_of};
+ghost use Rattle.signals.specs.{Signals.signals_fault, Signals.signal_rows_of, Views.signal_view};
+ghost use Rattle.scenario.specs.{Faults.Tells, Faults.TellsFile, FilesToScenario.read_fault, FilesToScenario.read_on};
+ghost use Rattle.scenario.specs.{FilesToScenario.read_view, FilesToScenario.IsReadOn, Views.texts_of};
 
 use crate::faults::Stop;
 use crate::files::Files;

@@ -1,7 +1,6 @@
 ghost use Rattle.std.specs.Prelude.{◌≡◌, ℕ, ◌<◌, ◌+◌, ◌*◌, ◌^◌, List, length, map, drop, get_or, All};
-ghost use Rattle.rows.specs.declared.schedule.StopRow.{StopRow};
-ghost use Rattle.rows.specs.declared.schedule.RouteRow.{RouteRow};
 ghost use Rattle.rows.specs.PlanRows.{plan_rows, all_plan_rows};
+ghost use Rattle.rows.specs.declared.schedule.{RouteRow.RouteRow, StopRow.StopRow};
 ghost use Rattle.rows.specs.declared.plan.Leg.TheVariants as leg;
 ghost use Rattle.scenario.specs.Legs.{Numbers, number_at, settled, leg_reason, legs_fault, plan_fault, plans_fault, all_plans_fault};
 ghost use Rattle.scenario.specs.LegChecks.{leg_checks_of, AreThere};

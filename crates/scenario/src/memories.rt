@@ -1,5 +1,4 @@
-ghost use Rattle.std.specs.Prelude.{◌≡◌, map, true, IfOk};
-ghost use Rattle.std.specs.List.{list_all};
+ghost use Rattle.std.specs.{List.list_all, Prelude.◌≡◌, Prelude.map, Prelude.true, Prelude.IfOk};
 ghost use Rattle.rows.specs.PlanRows.{all_plan_rows};
 ghost use Rattle.plan_memory.specs.Memories.{first_memory};
 ghost use Rattle.scenario.specs.Fitting.{are_few};

@@ -1,14 +1,10 @@
-ghost use Rattle.std.specs.Prelude.{◌≡◌, ◌≤◌, ℕ, length, map, true, IfOk};
-ghost use Rattle.std.specs.List.{list_all};
+ghost use Rattle.std.specs.{List.list_all, Prelude.◌≡◌, Prelude.◌≤◌, Prelude.ℕ, Prelude.length, Prelude.map, Prelude.true, Prelude.IfOk};
 ghost use Rattle.limits.specs.declared.TheConstants.{MAX_IN_LINKS, MAX_LINKS, MAX_NODES};
 ghost use Rattle.records.specs.Files.{body_of};
-ghost use Rattle.rows.specs.Networks.{is_link, in_links};
-ghost use Rattle.network.specs.Nodes.{nodes_fault, node_names, node_of};
-ghost use Rattle.network.specs.Links.{links_fault, link_names, link_of};
-ghost use Rattle.rows.specs.Joined.{ends_of};
+ghost use Rattle.rows.specs.{Joined.ends_of, Networks.is_link, Networks.in_links};
+ghost use Rattle.network.specs.{Links.links_fault, Links.link_names, Links.link_of, Nodes.nodes_fault, Nodes.node_names, Nodes.node_of};
 ghost use Rattle.scenario.specs.Faults.{Tells, TellsFile};
-ghost use Rattle.scenario.specs.FilesToScenario.{network_fault, network_rows_of};
-ghost use Rattle.scenario.specs.Views.{network_view, texts_of};
+ghost use Rattle.scenario.specs.{FilesToScenario.network_fault, FilesToScenario.network_rows_of, Views.network_view, Views.texts_of};
 
 use crate::faults::Stop;
 use crate::files::Files;

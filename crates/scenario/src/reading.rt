@@ -1,8 +1,7 @@
 //! What is told of a file: its bytes, what was read of them, or its fault.
 
 ghost use Rattle.std.specs.Prelude.{◌≡◌, Some, None, IfOk, IfErr};
-ghost use Rattle.scenario.specs.Faults.{error_in, with_file};
-ghost use Rattle.scenario.specs.Views.{texts_of};
+ghost use Rattle.scenario.specs.{Faults.error_in, Faults.with_file, Views.texts_of};
 
 use crate::faults::{ScenarioFault, Stop};
 use crate::files::Files;

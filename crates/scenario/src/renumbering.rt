@@ -1,7 +1,6 @@
 ghost use Rattle.std.specs.Prelude.{◌≡◌, map, IfOk};
 ghost use Rattle.rows.specs.PlanRows.{plan_rows, all_plan_rows};
-ghost use Rattle.scenario.specs.Legs.{leg_in_town, plan_in_town};
-ghost use Rattle.scenario.specs.LegChecks.{numbers_of};
+ghost use Rattle.scenario.specs.{LegChecks.numbers_of, Legs.leg_in_town, Legs.plan_in_town};
 
 use crate::numbering::{Numbering, in_town};
 use rows::{Leg, Legs, Plan, PlanList, PlanLists};

@@ -1,6 +1,5 @@
 ghost use Rattle.std.specs.Prelude.{◌≡◌, ◌≤◌, length, true};
-ghost use Rattle.learning.specs.declared.TheConstants.{LAST_ITERATION};
-ghost use Rattle.learning.specs.Ranges.{AreInRange};
+ghost use Rattle.learning.specs.{Ranges.AreInRange, declared.TheConstants.LAST_ITERATION};
 ghost use Rattle.town.specs.Views.{rows_of};
 ghost use Rattle.scenario.specs.Fitting.{all_remember_fitting};
 

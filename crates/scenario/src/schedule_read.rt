@@ -1,14 +1,10 @@
 ghost use Rattle.std.specs.Prelude.{◌≡◌, map, length, IfOk};
-ghost use Rattle.records.specs.Fields.{column};
-ghost use Rattle.records.specs.Files.{body_of};
-ghost use Rattle.schedule.specs.Stops.{stops_fault};
-ghost use Rattle.schedule.specs.Routes.{routes_fault, routes_of, lines_of};
-ghost use Rattle.schedule.specs.Departures.{departures_fault, departure_of};
-ghost use Rattle.schedule.specs.Views.{stop_lists, route_lists, departure_lists};
+ghost use Rattle.records.specs.{Fields.column, Files.body_of};
+ghost use Rattle.schedule.specs.{Departures.departures_fault, Departures.departure_of, Routes.routes_fault, Routes.routes_of};
+ghost use Rattle.schedule.specs.{Routes.lines_of, Stops.stops_fault, Views.stop_lists, Views.route_lists, Views.departure_lists};
 ghost use Rattle.scenario.specs.Faults.{Tells, TellsFile};
-ghost use Rattle.scenario.specs.FilesToScenario.{stop_names, stop_rows, route_names, schedule_fault, schedule_rows_of};
-ghost use Rattle.scenario.specs.FilesToScenario.{schedule_view, IsSchedule};
-ghost use Rattle.scenario.specs.Views.{texts_of};
+ghost use Rattle.scenario.specs.FilesToScenario.{stop_names, stop_rows, route_names, schedule_fault, schedule_rows_of, schedule_view};
+ghost use Rattle.scenario.specs.{FilesToScenario.IsSchedule, Views.texts_of};
 
 use crate::faults::Stop;
 use crate::files::Files;

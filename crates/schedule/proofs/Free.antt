@@ -1,33 +1,20 @@
 -- Rows of stops.csv, routes.csv and departures.csv against which nothing speaks are few, and name links, stops, lines and routes that are there.
-use Rattle.records.proofs.Common.{◌≡◌, List, ap, ℕ, length, ◌∙◌, arith, map, [], ◌<◌, sym, None, Some, refl, true, Bool, Option, false, cond, get_or}
-use Rattle.records.proofs.Common.{◌&&◌, ◌≤◌, not, ◌||◌, Err, Ok, Result, length-map, get_or-map, list_all, nat_eq, nat_lt, is_some, nat_le, unwrap_or}
-use Rattle.records.proofs.Common.{is_none, bytes_eq, Reason, RowStop, number_of, is_held, LAST_SECOND, MAX_ROUTE_LINKS, MAX_ROUTES, Answers, field}
-use Rattle.records.proofs.Common.{column, holds_name, body_of, optional_head_reason, numbers_of, Row}
-use Rattle.std.proofs.Common.{IfOk}
-use Rattle.std.proofs.lemmas.Bool.{or_parts}
-use Rattle.std.proofs.lemmas.List.Folds.{list_any_at}
-use Rattle.std.proofs.lemmas.Cmp.{nat_list_eq_equiv}
+use Rattle.records.proofs.Common.{◌≡◌, List, ap, ℕ, length, ◌∙◌, arith, map, [], ◌<◌, sym, None, Some, refl, true, Bool, Option, false, cond, get_or, ◌&&◌, ◌≤◌}
+use Rattle.records.proofs.Common.{not, ◌||◌, Err, Ok, Result, length-map, get_or-map, list_all, nat_eq, nat_lt, is_some, nat_le, unwrap_or, is_none, bytes_eq}
+use Rattle.records.proofs.Common.{Reason, RowStop, number_of, is_held, LAST_SECOND, MAX_ROUTE_LINKS, MAX_ROUTES, Answers, field, column, holds_name, body_of}
+use Rattle.records.proofs.{Common.optional_head_reason, Common.numbers_of, Common.Row, Sound.both_true, Unrefused.none_applies, Unrefused.values_pass}
+use Rattle.records.{proofs.Unrefused.few_rows, proofs.Unrefused.number_in_range, proofs.Unrefused.found_below, proofs.Unrefused.less_than, specs.Lists.items_in}
+use Rattle.std.proofs.{Common.IfOk, lemmas.Bool.or_parts, lemmas.Cmp.nat_list_eq_equiv, lemmas.List.Folds.list_any_at}
 use Rattle.edge_files.specs.declared.reasons.Reason.TheVariants as reason
-use Rattle.events.specs.declared.lists.StopCall.{StopCall}
-use Rattle.events.proofs.NameLists.{number_of-held, is_held-firsts}
-use Rattle.records.specs.Lists.{items_in}
-use Rattle.records.proofs.Sound.{both_true}
-use Rattle.records.proofs.Unrefused.{none_applies, values_pass, few_rows, number_in_range, found_below, less_than}
+use Rattle.events.{proofs.NameLists.number_of-held, proofs.NameLists.is_held-firsts, specs.declared.lists.StopCall.StopCall}
 use Rattle.limits.specs.declared.TheConstants.{MAX_CALLS, MAX_DEPARTURES, MAX_SEATS, MAX_STOPS}
-use Rattle.rows.specs.declared.schedule.StopRow.{StopRow}
-use Rattle.rows.specs.declared.schedule.RouteRow.{RouteRow}
-use Rattle.rows.specs.declared.schedule.DepartureRow.{DepartureRow}
-use Rattle.schedule.specs.declared.calls.CallText.{CallText}
-use Rattle.rows.specs.declared.schedule.Routes.{Routes}
-use Rattle.schedule.specs.Views.{route_lists}
-use Rattle.schedule.specs.Calls.{call_text, call_of}
-use Rattle.schedule.specs.Stops.{stop_header, stop_reason, stop_of, stops_fault}
-use Rattle.rows.specs.Schedules.{is_stop}
-use Rattle.schedule.specs.Routes.{route_header, link_items, call_texts, lists_of, route_of, route_reason, parts_reason, routes_fault, lines_of, routes_of, is_too_much}
-use Rattle.rows.specs.Schedules.{is_way, is_unserved, are_drivable, is_route}
+use Rattle.rows.specs.Schedules.{is_stop, is_way, is_unserved, are_drivable, is_route, is_departure}
+use Rattle.rows.specs.declared.schedule.{DepartureRow.DepartureRow, RouteRow.RouteRow, Routes.Routes, StopRow.StopRow}
+use Rattle.schedule.{proofs.SoundCalls.drivable, specs.Calls.call_text, specs.Calls.call_of}
 use Rattle.schedule.specs.Departures.{departure_header, departure_reason, departure_of, departures_fault, second_in, seats_in}
-use Rattle.rows.specs.Schedules.{is_departure}
-use Rattle.schedule.proofs.SoundCalls.{drivable}
+use Rattle.schedule.specs.Routes.{route_header, link_items, call_texts, lists_of, route_of, route_reason, parts_reason, routes_fault, lines_of, routes_of}
+use Rattle.schedule.specs.{Routes.is_too_much, Stops.stop_header, Stops.stop_reason, Stops.stop_of, Stops.stops_fault, Views.route_lists}
+use Rattle.schedule.specs.declared.calls.CallText.{CallText}
 
 -- STOPS
 record IsFreeStop (links names : List (List ℕ)) (row : Row) : Type 0 where

@@ -1,16 +1,11 @@
 -- The lines of routes, numbered as they first appear.
 use Rattle.records.proofs.Common.{◌≡◌, List, ap, ℕ, length, ◌∙◌, [], ◌<◌, sym, None, Some, ◌++◌, ◌∷◌, true, Bool, Option, ◌+◌, false, cond, get_or, ◌≤◌, drop}
 use Rattle.records.proofs.Common.{take, Err, Ok, map-append, take_all, fold-append, unwrap_or, Reason, number_of, with_name, is_held, firsts, field, column}
-use Rattle.records.proofs.Common.{Row}
-use Rattle.std.specs.Prelude.{fold}
-use Rattle.std.proofs.lemmas.List.{take-append-drop}
+use Rattle.records.{proofs.Common.Row, specs.Faults.unless, proofs.Columns.map_more}
+use Rattle.std.{proofs.lemmas.List.take-append-drop, specs.Prelude.fold}
 use Rattle.events.proofs.NameLists.{number_of-kept, firsts-push}
-use Rattle.records.specs.Faults.{unless}
-use Rattle.records.proofs.Columns.{map_more}
-use Rattle.rows.specs.declared.schedule.StopRow.{StopRow}
-use Rattle.schedule.specs.declared.route_lists.RouteLists.{RouteLists}
-use Rattle.rows.specs.declared.schedule.RouteRow.{RouteRow}
-use Rattle.schedule.specs.Routes.{lines_of, route_of, lists_of}
+use Rattle.rows.specs.declared.schedule.{RouteRow.RouteRow, StopRow.StopRow}
+use Rattle.schedule.specs.{Routes.lines_of, Routes.route_of, Routes.lists_of, declared.route_lists.RouteLists.RouteLists}
 
 -- the lines so far, one more row read
 pub lines_more : (rows : List Row) (n : ℕ) (row : Row) (lines lines' : List (List ℕ)) → n < length rows → get_or rows n [] ≡ row → lines ≡ lines_of (take n rows) → lines' ≡ with_name lines (field row 0)

@@ -2,18 +2,12 @@
 use Rattle.records.proofs.Common.{◌≡◌, List, ap, ℕ, length, ◌∙◌, arith, map, [], ◌<◌, sym, None, Some, ◌∷◌, refl, true, Bool, Option, false, cond, ◌&&◌, ◌≤◌}
 use Rattle.records.proofs.Common.{not, ◌||◌, nat_tests, list_all, nat_eq, nat_lt, is_some, nat_le, unwrap_or, number_of, LAST_SECOND, MAX_ROUTE_LINKS}
 use Rattle.records.proofs.Common.{MAX_ROUTES, numbers_of, parts_of, are_digits, number_in, value_of}
+use Rattle.records.{proofs.Numbering.numbered_within, proofs.Sound.numbers_known, specs.Lists.part}
 use Rattle.limits.specs.declared.TheConstants.{MAX_CALLS}
 use Rattle.events.specs.declared.lists.StopCall.{StopCall}
-use Rattle.records.proofs.Numbering.{numbered_within}
-use Rattle.records.proofs.Sound.{numbers_known}
-use Rattle.rows.specs.declared.schedule.StopRow.{StopRow}
-use Rattle.schedule.specs.declared.calls.CallText.{CallText}
-use Rattle.rows.specs.Schedules.{is_way, is_unserved, are_drivable}
-use Rattle.schedule.specs.Routes.{is_too_much}
-use Rattle.rows.specs.Stops.{stop_link}
-use Rattle.records.specs.Lists.{part}
-use Rattle.schedule.specs.Calls.{text_of, call_text, call_of}
-use Rattle.rows.specs.Schedules.{is_sound_call}
+use Rattle.rows.specs.Schedules.{is_way, is_unserved, are_drivable, is_sound_call}
+use Rattle.rows.specs.{Stops.stop_link, declared.schedule.StopRow.StopRow}
+use Rattle.schedule.specs.{Calls.text_of, Calls.call_text, Calls.call_of, Routes.is_too_much, declared.calls.CallText.CallText}
 
 -- a number of a range is at most its end
 in_range : (b : Bool) (n value high : ℕ) → cond b (Some value) None ≡ Some n → (b ≡ true → value ≤ high) → n ≤ high

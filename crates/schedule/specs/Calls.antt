@@ -1,12 +1,9 @@
 -- The stop calls of a route: `STOP:OFFSET` or `STOP:OFFSET:wait`.
 use Rattle.std.specs.Prelude.{ℕ, Bool, ◌&&◌, ◌||◌, nat_eq, bytes_eq, codes, unwrap_or, List, length}
 use Rattle.limits.specs.declared.TheConstants.{LAST_SECOND}
-use Rattle.events.specs.Names.{is_name, number_of}
-use Rattle.events.specs.declared.lists.StopCall.{StopCall}
-use Rattle.records.specs.Lists.{part, parts_of}
-use Rattle.records.specs.Numbers.{number_in}
-use Rattle.rows.specs.declared.schedule.StopRow.{StopRow}
-use Rattle.rows.specs.Stops.{stop_link}
+use Rattle.events.specs.{Names.is_name, Names.number_of, declared.lists.StopCall.StopCall}
+use Rattle.records.specs.{Lists.part, Lists.parts_of, Numbers.number_in}
+use Rattle.rows.specs.{Stops.stop_link, declared.schedule.StopRow.StopRow}
 use Rattle.schedule.specs.declared.calls.CallText.{CallText}
 
 -- two parts, or three of which the last is `wait`; the first is a name

@@ -1,16 +1,10 @@
 -- The rows of departures.csv: `departure,route,second,seats`.
 use Rattle.std.specs.Prelude.{ℕ, not, ◌&&◌, ◌||◌, nat_le, nat_eq, is_none, is_some, codes, unwrap_or, List, [], ◌∷◌, length, Option}
 use Rattle.limits.specs.declared.TheConstants.{LAST_SECOND, MAX_DEPARTURES, MAX_SEATS}
-use Rattle.edge_files.specs.declared.reasons.Reason.{Reason}
+use Rattle.edge_files.specs.declared.reasons.{Reason.Reason, RowFault.RowFault}
 use Rattle.edge_files.specs.declared.reasons.Reason.TheVariants as reason
-use Rattle.edge_files.specs.declared.reasons.RowFault.{RowFault}
 use Rattle.events.specs.Names.{number_of}
-use Rattle.records.specs.Rows.{Row}
-use Rattle.records.specs.Fields.{field, holds_name}
-use Rattle.records.specs.Numbers.{number_in}
-use Rattle.records.specs.Faults.{least}
-use Rattle.records.specs.Files.{optional_head_reason}
-use Rattle.records.specs.Reading.{file_fault}
+use Rattle.records.specs.{Faults.least, Fields.field, Fields.holds_name, Files.optional_head_reason, Numbers.number_in, Reading.file_fault, Rows.Row}
 use Rattle.rows.specs.declared.schedule.DepartureRow.{DepartureRow}
 
 abbrev pub departure_header : List (List ℕ)

@@ -1,24 +1,14 @@
 -- The rows of routes.csv: `line,route,links,stops`.
-use Rattle.std.specs.Prelude.{ℕ, Bool, not, ◌&&◌, ◌||◌, nat_le, nat_lt, nat_eq, is_none, is_some, codes, unwrap_or, List, [], ◌∷◌, length, map, Option, Some, if◌then◌else◌}
-use Rattle.std.specs.List.{list_all}
+use Rattle.std.specs.{List.list_all, Prelude.ℕ, Prelude.Bool, Prelude.not}
+use Rattle.std.specs.Prelude.{◌&&◌, ◌||◌, nat_le, nat_lt, nat_eq, is_none, is_some, codes, unwrap_or, List, [], ◌∷◌, length, map, Option, Some, if◌then◌else◌}
 use Rattle.limits.specs.declared.TheConstants.{MAX_CALLS, MAX_ROUTES, MAX_ROUTE_LINKS}
-use Rattle.edge_files.specs.declared.reasons.Reason.{Reason}
+use Rattle.edge_files.specs.declared.reasons.{Reason.Reason, RowFault.RowFault}
 use Rattle.edge_files.specs.declared.reasons.Reason.TheVariants as reason
-use Rattle.edge_files.specs.declared.reasons.RowFault.{RowFault}
-use Rattle.events.specs.Names.{number_of, firsts}
-use Rattle.events.specs.declared.lists.StopCall.{StopCall}
-use Rattle.records.specs.Rows.{Row}
-use Rattle.records.specs.Fields.{field, holds_name, column}
-use Rattle.records.specs.Lists.{items_in, are_names, numbers_of}
-use Rattle.records.specs.Faults.{least}
-use Rattle.records.specs.Files.{optional_head_reason, body_of}
-use Rattle.records.specs.Reading.{file_fault}
-use Rattle.rows.specs.declared.schedule.StopRow.{StopRow}
-use Rattle.rows.specs.declared.schedule.RouteRow.{RouteRow}
-use Rattle.schedule.specs.declared.calls.CallText.{CallText}
-use Rattle.schedule.specs.declared.route_lists.RouteLists.{RouteLists}
-use Rattle.schedule.specs.Calls.{call_text, call_of}
-use Rattle.rows.specs.Schedules.{is_way, is_unserved}
+use Rattle.events.specs.{Names.number_of, Names.firsts, declared.lists.StopCall.StopCall}
+use Rattle.records.specs.{Faults.least, Fields.field, Fields.holds_name, Fields.column, Files.optional_head_reason, Files.body_of, Lists.items_in}
+use Rattle.records.specs.{Lists.are_names, Lists.numbers_of, Reading.file_fault, Rows.Row}
+use Rattle.rows.specs.{Schedules.is_way, Schedules.is_unserved, declared.schedule.RouteRow.RouteRow, declared.schedule.StopRow.StopRow}
+use Rattle.schedule.specs.{Calls.call_text, Calls.call_of, declared.calls.CallText.CallText, declared.route_lists.RouteLists.RouteLists}
 
 abbrev pub route_header : List (List ℕ)
 route_header = codes "line" ∷ codes "route" ∷ codes "links" ∷ codes "stops" ∷ []

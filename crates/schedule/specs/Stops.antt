@@ -1,15 +1,10 @@
 -- The rows of stops.csv: `stop,link`.
 use Rattle.std.specs.Prelude.{ℕ, not, ◌&&◌, nat_le, nat_eq, is_none, is_some, codes, unwrap_or, List, [], ◌∷◌, length, Option}
 use Rattle.limits.specs.declared.TheConstants.{MAX_STOPS}
-use Rattle.edge_files.specs.declared.reasons.Reason.{Reason}
+use Rattle.edge_files.specs.declared.reasons.{Reason.Reason, RowFault.RowFault}
 use Rattle.edge_files.specs.declared.reasons.Reason.TheVariants as reason
-use Rattle.edge_files.specs.declared.reasons.RowFault.{RowFault}
 use Rattle.events.specs.Names.{number_of}
-use Rattle.records.specs.Rows.{Row}
-use Rattle.records.specs.Fields.{field, holds_name}
-use Rattle.records.specs.Faults.{least}
-use Rattle.records.specs.Files.{optional_head_reason}
-use Rattle.records.specs.Reading.{file_fault}
+use Rattle.records.specs.{Faults.least, Fields.field, Fields.holds_name, Files.optional_head_reason, Reading.file_fault, Rows.Row}
 use Rattle.rows.specs.declared.schedule.StopRow.{StopRow}
 
 abbrev pub stop_header : List (List ℕ)

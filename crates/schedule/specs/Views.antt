@@ -1,11 +1,6 @@
 -- What the files give, as lists.
 use Rattle.std.specs.Prelude.{ℕ, List}
-use Rattle.rows.specs.declared.schedule.StopRow.{StopRow}
-use Rattle.rows.specs.declared.schedule.RouteRow.{RouteRow}
-use Rattle.rows.specs.declared.schedule.DepartureRow.{DepartureRow}
-use Rattle.rows.specs.declared.schedule.Stops.{Stops}
-use Rattle.rows.specs.declared.schedule.Routes.{Routes}
-use Rattle.rows.specs.declared.schedule.Departures.{Departures}
+use Rattle.rows.specs.declared.schedule.{DepartureRow.DepartureRow, Departures.Departures, RouteRow.RouteRow, Routes.Routes, StopRow.StopRow, Stops.Stops}
 
 -- names and stops
 abbrev pub stop_lists : Stops → List (List ℕ) × List StopRow

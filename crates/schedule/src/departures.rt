@@ -1,8 +1,5 @@
-ghost use Rattle.std.specs.Prelude.{◌≡◌, ◌≤◌, length, map, true, IfOk};
-ghost use Rattle.std.specs.List.{list_all};
-ghost use Rattle.records.specs.Fields.{column};
-ghost use Rattle.records.specs.Faults.{Answers};
-ghost use Rattle.records.specs.Files.{optional_head_reason, body_of};
+ghost use Rattle.std.specs.{List.list_all, Prelude.◌≡◌, Prelude.◌≤◌, Prelude.length, Prelude.map, Prelude.true, Prelude.IfOk};
+ghost use Rattle.records.specs.{Faults.Answers, Fields.column, Files.optional_head_reason, Files.body_of};
 ghost use Rattle.schedule.specs.Views.{departure_lists};
 ghost use Rattle.schedule.specs.Departures.{departure_header, departure_reason, departure_of, departures_fault};
 ghost use Rattle.rows.specs.Schedules.{is_departure};

@@ -2,14 +2,11 @@ ghost use Rattle.std.specs.Prelude.{◌≡◌, ◌≤◌, ◌<◌, ◌^◌, leng
 ghost use Rattle.std.specs.List.{list_all};
 ghost use Rattle.csv.specs.Records.{fields_of};
 ghost use Rattle.events.specs.Names.{number_of};
-ghost use Rattle.records.specs.Fields.{field, holds_name, column};
 ghost use Rattle.records.specs.Faults.{unless, Answers};
-ghost use Rattle.records.specs.Files.{body_of};
-ghost use Rattle.records.specs.Reading.{body_fault};
+ghost use Rattle.records.specs.{Fields.field, Fields.holds_name, Fields.column, Files.body_of, Reading.body_fault};
+ghost use Rattle.schedule.specs.Routes.{has_bad_name, is_too_much, route_reason, route_of, lists_of, lines_of, routes_of, routes_fault};
 ghost use Rattle.schedule.specs.Views.{route_lists};
-ghost use Rattle.schedule.specs.Routes.{has_bad_name, is_too_much, route_reason};
 ghost use Rattle.rows.specs.Schedules.{is_way, is_unserved, is_route};
-ghost use Rattle.schedule.specs.Routes.{route_of, lists_of, lines_of, routes_of, routes_fault};
 
 use crate::calls::{CallText, are_served, call_texts, calls_of};
 use crate::route_lists::RouteLists;

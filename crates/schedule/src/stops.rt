@@ -1,10 +1,6 @@
-ghost use Rattle.std.specs.Prelude.{◌≡◌, ◌≤◌, length, map, true, IfOk};
-ghost use Rattle.std.specs.List.{list_all};
-ghost use Rattle.records.specs.Fields.{column};
-ghost use Rattle.records.specs.Faults.{Answers};
-ghost use Rattle.records.specs.Files.{optional_head_reason, body_of};
-ghost use Rattle.schedule.specs.Views.{stop_lists};
-ghost use Rattle.schedule.specs.Stops.{stop_header, stop_reason, stop_of, stops_fault};
+ghost use Rattle.std.specs.{List.list_all, Prelude.◌≡◌, Prelude.◌≤◌, Prelude.length, Prelude.map, Prelude.true, Prelude.IfOk};
+ghost use Rattle.records.specs.{Faults.Answers, Fields.column, Files.optional_head_reason, Files.body_of};
+ghost use Rattle.schedule.specs.{Stops.stop_header, Stops.stop_reason, Stops.stop_of, Stops.stops_fault, Views.stop_lists};
 ghost use Rattle.rows.specs.Schedules.{is_stop};
 
 use csv::ByteRecord;

@@ -1,18 +1,14 @@
 -- What a scorer gives at the end is the score of the events that it has taken.
-use Rattle.std.proofs.Common.{◌≡◌, ℕ, ◌+◌, ◌-◌, Bool, true, false, nat_eq, List, [], ◌∷◌, ◌++◌, map, drop, Option, Some, ℤ, pos, ◌+ℤ◌, refl, sym, ap, ◌∙◌, append-nil, arith}
-use Rattle.std.proofs.lemmas.Int.{ints}
-use Rattle.std.specs.List.{zip}
+use Rattle.std.proofs.Common.{◌≡◌, ℕ, ◌+◌, ◌-◌, Bool, true, false, nat_eq, List, [], ◌∷◌, ◌++◌, map, drop, Option, Some, ℤ, pos, ◌+ℤ◌, refl, sym, ap, ◌∙◌}
+use Rattle.std.{proofs.Common.append-nil, proofs.Common.arith, proofs.lemmas.Int.ints, specs.List.zip}
 use Rattle.events.specs.declared.event.Event.{Event}
 use Rattle.events.specs.declared.event.Word.TheVariants as word
-use Rattle.scoring.specs.declared.TheConstants.{SCORING_DAY}
-use Rattle.scoring.specs.declared.scorer.Doing.{Doing}
-use Rattle.scoring.specs.declared.scorer.Doing.TheVariants as doing
-use Rattle.scoring.specs.declared.scorer.Scorer.{Scorer}
-use Rattle.scoring.specs.Tables.{ScoringRows, activity_worth}
-use Rattle.scoring.specs.Score.{Activity, starts, departures, act_ends, leg_ends, stuck_in, ended, unended, until, until_midnight, over_midnight, with_night, spells, spell_worth, spells_worth, rides_worth, lateness_costs, stuck_costs, total, score}
-use Rattle.scoring.specs.Taken.{activity_of, first_of, word_of, settled, IsTakenBy}
-use Rattle.scoring.specs.Steps.{last_worth}
 use Rattle.scoring.proofs.Pairs.{total-push}
+use Rattle.scoring.specs.Score.{Activity, starts, departures, act_ends, leg_ends, stuck_in, ended, unended, until, until_midnight, over_midnight, with_night}
+use Rattle.scoring.specs.Score.{spells, spell_worth, spells_worth, rides_worth, lateness_costs, stuck_costs, total, score}
+use Rattle.scoring.specs.{Steps.last_worth, Tables.ScoringRows, Tables.activity_worth, Taken.activity_of, Taken.first_of, Taken.word_of, Taken.settled}
+use Rattle.scoring.specs.{Taken.IsTakenBy, declared.TheConstants.SCORING_DAY, declared.scorer.Doing.Doing, declared.scorer.Scorer.Scorer}
+use Rattle.scoring.specs.declared.scorer.Doing.TheVariants as doing
 
 from_zero : (x : ℕ) → x - 0 ≡ x
 from_zero x = omega arith

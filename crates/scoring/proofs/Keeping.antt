@@ -1,16 +1,12 @@
 -- What each of the five words makes of what a scorer keeps.
-use Rattle.std.proofs.Common.{◌≡◌, ℕ, ◌+◌, ◌-◌, List, [], ◌∷◌, ◌++◌, map, length, drop, None, Some, ℤ, pos, ◌+ℤ◌, ◌*ℤ◌, refl, sym, ap, ◌∙◌, subst, arith, length-append}
-use Rattle.std.proofs.lemmas.List.{map-append}
-use Rattle.std.proofs.lemmas.Int.{ints}
-use Rattle.std.specs.List.{zip}
+use Rattle.std.proofs.Common.{◌≡◌, ℕ, ◌+◌, ◌-◌, List, [], ◌∷◌, ◌++◌, map, length, drop, None, Some, ℤ, pos, ◌+ℤ◌, ◌*ℤ◌, refl, sym, ap, ◌∙◌, subst, arith}
+use Rattle.std.{proofs.Common.length-append, proofs.lemmas.Int.ints, proofs.lemmas.List.map-append, specs.List.zip}
 use Rattle.events.specs.declared.event.Mode.{Mode}
-use Rattle.scoring.specs.declared.scorer.Doing.{Doing}
-use Rattle.scoring.specs.declared.scorer.Doing.TheVariants as doing
-use Rattle.scoring.specs.declared.scorer.Scorer.{Scorer}
-use Rattle.scoring.specs.Tables.{ScoringRows, activity_worth, leg_worth, seconds_late}
-use Rattle.scoring.specs.Score.{Activity, Leg, ended, unended, until, spell_worth, spells_worth, ride_worth, rides_worth, lateness_cost, lateness_costs, stuck_costs, total}
-use Rattle.scoring.specs.Taken.{activity_of, leg_of, settled, Keeps}
 use Rattle.scoring.proofs.Pairs.{zip-close, zip-open, zip-nil, drop-close, drop-open, total-push}
+use Rattle.scoring.specs.Score.{Activity, Leg, ended, unended, until, spell_worth, spells_worth, ride_worth, rides_worth, lateness_cost, lateness_costs}
+use Rattle.scoring.specs.{Score.stuck_costs, Score.total, Tables.ScoringRows, Tables.activity_worth, Tables.leg_worth, Tables.seconds_late, Taken.activity_of}
+use Rattle.scoring.specs.{Taken.leg_of, Taken.settled, Taken.Keeps, declared.scorer.Doing.Doing, declared.scorer.Scorer.Scorer}
+use Rattle.scoring.specs.declared.scorer.Doing.TheVariants as doing
 
 -- a sum of four parts of which one grows
 grow_first : (s A B C D E w : ℤ) → s ≡ A +ℤ B +ℤ C +ℤ D → E ≡ A +ℤ w → s +ℤ w ≡ E +ℤ B +ℤ C +ℤ D

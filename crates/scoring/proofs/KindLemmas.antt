@@ -1,5 +1,6 @@
 -- Keys of rows, as the kinds of tables: whether one comes again behind its place.
-use Rattle.std.proofs.Common.{◌≡◌, ℕ, suc, ◌+◌, ◌-◌, ◌<◌, ◌&&◌, ◌||◌, not, Bool, true, false, List, [], ◌∷◌, map, length, get_or, take, drop, drop-cons, add-one, take_all, length-drop, refl, sym, ap, ◌∙◌, subst, arith}
+use Rattle.std.proofs.Common.{◌≡◌, ℕ, suc, ◌+◌, ◌-◌, ◌<◌, ◌&&◌, ◌||◌, not, Bool, true, false, List, [], ◌∷◌, map, length, get_or, take, drop, drop-cons}
+use Rattle.std.proofs.Common.{add-one, take_all, length-drop, refl, sym, ap, ◌∙◌, subst, arith}
 use Rattle.std.specs.List.{list_any}
 
 -- the rows from a place on, as code cuts them

@@ -1,24 +1,15 @@
 -- The laws of values, scores and turns.
-use Rattle.std.proofs.Common.{◌≡◌, ℕ, zero, suc, ◌+◌, ◌-◌, ◌*◌, ◌<◌, ◌≤◌, inl, inr, Bool, true, false, int_le, List, [], ◌∷◌, ◌++◌, map, length, filter, All, Option, None, ℤ, pos, negsuc, ◌+ℤ◌, ◌-ℤ◌, ◌*ℤ◌, ◌≤ℤ◌, ◌<ℤ◌, FitsSigned, w64, refl, sym, ap, ◌∙◌, subst, lt-ltb, le-ltb, ◌/◌, suc-mul, div-mul-le_self, arith}
-use Rattle.std.proofs.lemmas.Bool.{and_parts, cases_lt, cases_Bool}
-use Rattle.std.proofs.lemmas.Int.{ints}
-use Rattle.std.proofs.lemmas.List.{map-append}
-use Rattle.std.proofs.lemmas.List.Elements.{filter-append, All-head, All-tail}
-use Rattle.std.proofs.Math.Nat.{lt-div-mul-add}
-use Rattle.std.specs.Int.{int_div_euclid}
-use Rattle.std.specs.List.{filter_map, cons_option}
-use Rattle.events.specs.declared.event.Event.{Event}
-use Rattle.events.specs.declared.event.More.{More}
-use Rattle.events.specs.declared.event.Word.{Word}
+use Rattle.std.proofs.Common.{◌≡◌, ℕ, zero, suc, ◌+◌, ◌-◌, ◌*◌, ◌<◌, ◌≤◌, inl, inr, Bool, true, false, int_le, List, [], ◌∷◌, ◌++◌, map, length, filter, All}
+use Rattle.std.proofs.Common.{Option, None, ℤ, pos, negsuc, ◌+ℤ◌, ◌-ℤ◌, ◌*ℤ◌, ◌≤ℤ◌, ◌<ℤ◌, FitsSigned, w64, refl, sym, ap, ◌∙◌, subst, lt-ltb, le-ltb, ◌/◌}
+use Rattle.std.proofs.{Common.suc-mul, Common.div-mul-le_self, Common.arith, Math.Nat.lt-div-mul-add, lemmas.Bool.and_parts, lemmas.Bool.cases_lt}
+use Rattle.std.proofs.lemmas.{Bool.cases_Bool, Int.ints, List.map-append, List.Elements.filter-append, List.Elements.All-head, List.Elements.All-tail}
+use Rattle.std.specs.{Int.int_div_euclid, List.filter_map, List.cons_option}
+use Rattle.events.specs.{Persons.is_step, declared.event.Event.Event, declared.event.More.More, declared.event.Word.Word}
 use Rattle.events.specs.declared.event.Word.TheVariants as word
 use Rattle.limits.specs.declared.TheConstants.{MAX_PERSONS}
-use Rattle.events.specs.Persons.{is_step}
-use Rattle.scoring.specs.declared.TheConstants.{MAX_SCORE}
-use Rattle.scoring.specs.Ranges.{IsWithin}
-use Rattle.scoring.specs.Points.{Point, are_rising, are_climbing, on_line, value, along}
-use Rattle.scoring.specs.Turns.{steps, Follow, InTurn}
-use Rattle.scoring.specs.Tables.{ScoringRows}
+use Rattle.scoring.specs.{Points.Point, Points.are_rising, Points.are_climbing, Points.on_line, Points.value, Points.along, Ranges.IsWithin}
 use Rattle.scoring.specs.Score.{started, departed, act_ended, leg_ended, got_stuck, starts, departures, act_ends, leg_ends, stuck_in, total, score}
+use Rattle.scoring.specs.{Tables.ScoringRows, Turns.steps, Turns.Follow, Turns.InTurn, declared.TheConstants.MAX_SCORE}
 use borrow.Author.Differences.{neg_is}
 use Rattle.scoring.proofs.Lines.{on_line-between, on_line-mono}
 use Rattle.scoring.proofs.PointsLemmas.{rising_tail, value-before, value-along, value-skip}

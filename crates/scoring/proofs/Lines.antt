@@ -1,13 +1,10 @@
 -- The straight line between two points, rounded down.
-use Rattle.std.proofs.Common.{◌≡◌, ℕ, suc, ◌+◌, ◌-◌, ◌*◌, ◌<◌, ◌≤◌, true, nat_le, int_le, ℤ, pos, negsuc, ◌+ℤ◌, ◌-ℤ◌, ◌*ℤ◌, ◌≤ℤ◌, neg_ℤ, FitsSigned, w64, to_z, of_z, mul-le-mul_left, leb-true, ap, ◌∙◌, arith}
-use Rattle.std.proofs.lemmas.Bool.{and_parts}
-use Rattle.std.proofs.lemmas.Int.{ints, by_lt_z}
-use Rattle.std.specs.Int.{int_div_euclid}
+use Rattle.std.proofs.Common.{◌≡◌, ℕ, suc, ◌+◌, ◌-◌, ◌*◌, ◌<◌, ◌≤◌, true, nat_le, int_le, ℤ, pos, negsuc, ◌+ℤ◌, ◌-ℤ◌, ◌*ℤ◌, ◌≤ℤ◌, neg_ℤ, FitsSigned, w64, to_z}
+use Rattle.std.proofs.Common.{of_z, mul-le-mul_left, leb-true, ap, ◌∙◌, arith}
+use Rattle.std.{proofs.lemmas.Bool.and_parts, proofs.lemmas.Int.ints, proofs.lemmas.Int.by_lt_z, specs.Int.int_div_euclid}
+use Rattle.scoring.proofs.{Bounds.product-within, Bounds.code_same, Quotients.quotient-least, Quotients.quotient-most, Quotients.quotient-mono}
+use Rattle.scoring.specs.{Points.Point, Points.is_point, Points.on_line, Ranges.is_within, Ranges.IsWithin}
 use Rattle.scoring.specs.declared.TheConstants.{MAX_POINT_SECOND, MAX_WORTH}
-use Rattle.scoring.specs.Ranges.{is_within, IsWithin}
-use Rattle.scoring.specs.Points.{Point, is_point, on_line}
-use Rattle.scoring.proofs.Bounds.{product-within, code_same}
-use Rattle.scoring.proofs.Quotients.{quotient-least, quotient-most, quotient-mono}
 
 -- a point is within the limits of a table
 pub point-within : (p : Point) → is_point p ≡ true → IsWithin MAX_WORTH p.1

@@ -1,23 +1,14 @@
 -- A scorer knows which event may come next.
-use Rattle.std.proofs.Common.{◌≡◌, ℕ, ◌<◌, ◌≤◌, true, false, cond, IsTrue, ◌↔◌, inl, inr, List, [], ◌∷◌, ◌++◌, length, refl, sym, ap, ◌∙◌, subst, append-nil, length-take, arith}
-use Rattle.std.proofs.lemmas.Bool.{cases_Bool}
+use Rattle.std.proofs.Common.{◌≡◌, ℕ, ◌<◌, ◌≤◌, true, false, cond, IsTrue, ◌↔◌, inl, inr, List, [], ◌∷◌, ◌++◌, length, refl, sym, ap, ◌∙◌, subst, append-nil}
+use Rattle.std.proofs.{Common.length-take, Common.arith, lemmas.Bool.cases_Bool}
 use Rattle.limits.specs.declared.TheConstants.{LAST_SECOND}
-use Rattle.events.specs.declared.event.Event.{Event}
-use Rattle.events.specs.declared.event.More.{More}
+use Rattle.events.specs.{Persons.is_step, declared.event.Event.Event, declared.event.More.More, declared.event.Word.Word}
 use Rattle.events.specs.declared.event.More.TheVariants as more
-use Rattle.events.specs.declared.event.Word.{Word}
 use Rattle.events.specs.declared.event.Word.TheVariants as word
-use Rattle.events.specs.Persons.{is_step}
-use Rattle.scoring.specs.declared.TheConstants.{MAX_EVENTS}
-use Rattle.scoring.specs.declared.scorer.Doing.{Doing}
+use Rattle.scoring.{proofs.Shown.added, proofs.Taking.comes, specs.Steps.is_next, specs.Tables.ScoringRows}
+use Rattle.scoring.specs.{Taken.MayFollow, Taken.AllFollow, Taken.last_of, Taken.last_step, Taken.word_of, Taken.IsTakenBy, Turns.steps, Turns.word_before}
+use Rattle.scoring.specs.{Turns.Follow, Turns.InTurn, Turns.tells, declared.TheConstants.MAX_EVENTS, declared.scorer.Doing.Doing, declared.scorer.Scorer.Scorer}
 use Rattle.scoring.specs.declared.scorer.Doing.TheVariants as doing
-use Rattle.scoring.specs.declared.scorer.Scorer.{Scorer}
-use Rattle.scoring.specs.Turns.{steps, word_before, Follow, InTurn, tells}
-use Rattle.scoring.specs.Tables.{ScoringRows}
-use Rattle.scoring.specs.Taken.{MayFollow, AllFollow, last_of, last_step, word_of, IsTakenBy}
-use Rattle.scoring.specs.Steps.{is_next}
-use Rattle.scoring.proofs.Shown.{added}
-use Rattle.scoring.proofs.Taking.{comes}
 
 -- what comes next comes right behind what the person is doing, and tells what it is scored by
 next_before : (w : Word) (m : More) (d : Doing) → is_next w m d ≡ true → is_step w ≡ true → word_before w ≡ word_of d

@@ -1,8 +1,6 @@
 -- Lists whose items are paired one by one, of which the first may be one longer, and sums over them.
 use Rattle.std.proofs.Common.{◌≡◌, ◌+◌, List, [], ◌∷◌, ◌++◌, map, length, drop, ℤ, ◌+ℤ◌, refl, ap, arith, length-append, drop_of_length-le}
-use Rattle.std.proofs.Math.Seq.{drop-append_seam}
-use Rattle.std.proofs.lemmas.Int.{ints}
-use Rattle.std.specs.List.{zip}
+use Rattle.std.{proofs.Math.Seq.drop-append_seam, proofs.lemmas.Int.ints, specs.List.zip}
 use Rattle.scoring.specs.Score.{total}
 
 -- the one item without a partner gets one

@@ -1,13 +1,9 @@
 -- The value of a table along its points.
-use Rattle.std.proofs.Common.{◌≡◌, ℕ, ◌+◌, ◌-◌, ◌<◌, ◌≤◌, inl, inr, true, nat_lt, List, [], ◌∷◌, zero, suc, length, get_or, take, drop, to_z, of_z, w64, neg_ℤ, refl, sym, ◌∙◌, le-leb, lt-ltb, le-ltb, ltb-true, add-one, drop-cons, drop_of_length-le, take_all, arith}
-use Rattle.std.proofs.lemmas.Bool.{and_parts, cases_lt, lt-leb}
-use Rattle.std.proofs.lemmas.Int.{ints}
-use Rattle.std.specs.List.{list_all}
-use Rattle.scoring.specs.declared.TheConstants.{MAX_WORTH}
-use Rattle.scoring.specs.Ranges.{IsWithin}
-use Rattle.scoring.specs.Points.{Point, is_point, are_rising, up_to, on_line, value, along}
-use Rattle.scoring.proofs.Bounds.{code_same}
-use Rattle.scoring.proofs.Lines.{point-within, on_line-between}
+use Rattle.std.proofs.Common.{◌≡◌, ℕ, ◌+◌, ◌-◌, ◌<◌, ◌≤◌, inl, inr, true, nat_lt, List, [], ◌∷◌, zero, suc, length, get_or, take, drop, to_z, of_z, w64, neg_ℤ}
+use Rattle.std.proofs.Common.{refl, sym, ◌∙◌, le-leb, lt-ltb, le-ltb, ltb-true, add-one, drop-cons, drop_of_length-le, take_all, arith}
+use Rattle.std.{proofs.lemmas.Bool.and_parts, proofs.lemmas.Bool.cases_lt, proofs.lemmas.Bool.lt-leb, proofs.lemmas.Int.ints, specs.List.list_all}
+use Rattle.scoring.{proofs.Bounds.code_same, proofs.Lines.point-within, proofs.Lines.on_line-between, specs.Points.Point, specs.Points.is_point}
+use Rattle.scoring.specs.{Points.are_rising, Points.up_to, Points.on_line, Points.value, Points.along, Ranges.IsWithin, declared.TheConstants.MAX_WORTH}
 
 -- the first two points of a table, and those behind the first
 pub rising_tail : (a b : Point) (points : List Point) → are_rising (a ∷ b ∷ points) ≡ true → (a.0 < b.0) × (are_rising (b ∷ points) ≡ true)

@@ -1,9 +1,6 @@
 -- Quotients of whole numbers, rounded down.
 use Rattle.std.proofs.Common.{ℕ, suc, ◌-◌, ◌*◌, ◌/◌, ◌<◌, ◌≤◌, ℤ, pos, negsuc, ◌*ℤ◌, ◌≤ℤ◌, suc-mul, mul_comm, div-lt_iff_lt-mul, div-mul-le_self, arith}
-use Rattle.std.proofs.Math.Nat.{div-le_of_le-mul}
-use Rattle.std.proofs.lemmas.Int.{ints}
-use Rattle.std.proofs.lemmas.Nat.{le-div}
-use Rattle.std.specs.Int.{int_div_euclid}
+use Rattle.std.{proofs.Math.Nat.div-le_of_le-mul, proofs.lemmas.Int.ints, proofs.lemmas.Nat.le-div, specs.Int.int_div_euclid}
 use borrow.Author.Differences.{neg_is}
 
 below_product : (a m d : ℕ) → 0 < d → a < suc m * d → a / d ≤ m

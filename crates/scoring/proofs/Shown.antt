@@ -1,17 +1,9 @@
 -- What one more event shows.
 use Rattle.std.proofs.Common.{◌≡◌, ℕ, cond, List, [], ◌∷◌, ◌++◌, map, filter, ap, ◌∙◌, subst, append-nil}
-use Rattle.std.proofs.lemmas.List.{map-append}
-use Rattle.std.proofs.lemmas.List.Elements.{filter_map-append, filter-append}
-use Rattle.std.specs.List.{cons_option}
-use Rattle.events.specs.declared.event.Event.{Event}
-use Rattle.events.specs.declared.event.More.{More}
-use Rattle.events.specs.declared.event.Word.{Word}
-use Rattle.events.specs.Persons.{is_step}
-use Rattle.scoring.specs.declared.scorer.Scorer.{Scorer}
-use Rattle.scoring.specs.Turns.{steps}
-use Rattle.scoring.specs.Tables.{ScoringRows}
+use Rattle.std.{proofs.lemmas.List.map-append, proofs.lemmas.List.Elements.filter_map-append, proofs.lemmas.List.Elements.filter-append, specs.List.cons_option}
+use Rattle.events.specs.{Persons.is_step, declared.event.Event.Event, declared.event.More.More, declared.event.Word.Word}
 use Rattle.scoring.specs.Score.{Activity, Leg, started, departed, act_ended, leg_ended, got_stuck, starts, departures, act_ends, leg_ends, stuck_in}
-use Rattle.scoring.specs.Taken.{Keeps}
+use Rattle.scoring.specs.{Tables.ScoringRows, Taken.Keeps, Turns.steps, declared.scorer.Scorer.Scorer}
 
 -- what events show
 pub record Show (es : List Event) (a : List Activity) (d : List Leg) (n m k : List ℕ) (w : List Word) : Type 0 where

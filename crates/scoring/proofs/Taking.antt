@@ -1,33 +1,21 @@
 -- A scorer that takes an event stands for one event more.
-use Rattle.std.proofs.Common.{◌≡◌, ◌≢◌, ℕ, ◌+◌, ◌-◌, ◌*◌, ◌≤◌, true, cond, List, [], ◌∷◌, ◌++◌, length, Option, None, Some, ℤ, pos, ◌+ℤ◌, ◌*ℤ◌, ◌≤ℤ◌, refl, sym, ap, ◌∙◌, subst, arith, length-append}
-use Rattle.std.proofs.lemmas.Int.{ints}
-use Rattle.std.proofs.lemmas.Option.{none-some}
-use Rattle.std.specs.Option.{ForSome}
+use Rattle.std.proofs.Common.{◌≡◌, ◌≢◌, ℕ, ◌+◌, ◌-◌, ◌*◌, ◌≤◌, true, cond, List, [], ◌∷◌, ◌++◌, length, Option, None, Some, ℤ, pos, ◌+ℤ◌, ◌*ℤ◌, ◌≤ℤ◌, refl, sym}
+use Rattle.std.proofs.Common.{ap, ◌∙◌, subst, arith, length-append}
+use Rattle.std.{proofs.lemmas.Int.ints, proofs.lemmas.Option.none-some, specs.Option.ForSome}
 use Rattle.limits.specs.declared.TheConstants.{LAST_SECOND}
-use Rattle.events.specs.declared.event.Event.{Event}
-use Rattle.events.specs.declared.event.Mode.{Mode}
-use Rattle.events.specs.declared.event.More.{More}
+use Rattle.events.specs.{Persons.is_step, declared.event.Event.Event, declared.event.Mode.Mode, declared.event.More.More, declared.event.Word.Word}
 use Rattle.events.specs.declared.event.More.TheVariants as more
-use Rattle.events.specs.declared.event.Word.{Word}
 use Rattle.events.specs.declared.event.Word.TheVariants as word
-use Rattle.events.specs.Persons.{is_step}
-use Rattle.scoring.specs.declared.TheConstants.{MAX_LEG_WORTH, MAX_WORTH}
-use Rattle.scoring.specs.declared.scorer.Doing.{Doing}
-use Rattle.scoring.specs.declared.scorer.Doing.TheVariants as doing
-use Rattle.scoring.specs.declared.scorer.Scorer.{Scorer}
-use Rattle.scoring.specs.declared.table.Table.{Table}
-use Rattle.scoring.specs.declared.tables.Tables.{Tables}
-use Rattle.scoring.specs.Ranges.{IsWithin}
-use Rattle.scoring.specs.Turns.{steps, word_before, Follow, tells}
-use Rattle.scoring.specs.Tables.{ScoringRows, scoring_rows, activity_worth, leg_worth, seconds_late}
+use Rattle.scoring.proofs.{Bounds.product-within, Keeping.first-ends, Keeping.activity-ends, Keeping.leg-begins, Keeping.leg-ends, Keeping.activity-begins}
+use Rattle.scoring.proofs.{Pairs.total-push, Shown.Show, Shown.Adds, Shown.adds, Shown.kept, Shown.keeps-shown, WorthLemmas.activity_worth-within}
+use Rattle.scoring.{proofs.WorthLemmas.leg_worth-within, proofs.WorthLemmas.seconds_late-most, proofs.WorthLemmas.costs_are, specs.Ranges.IsWithin}
 use Rattle.scoring.specs.Score.{Activity, Leg, starts, departures, act_ends, leg_ends, stuck_in, total}
-use Rattle.scoring.specs.Taken.{first_kind_of, MayFollow, last_of, last_step, word_of, bound_of, settled, Keeps, IsTakenBy}
 use Rattle.scoring.specs.Steps.{with_activity_ended, with_leg_begun, with_leg_ended, with_activity_begun, with_event}
-use Rattle.scoring.proofs.Bounds.{product-within}
-use Rattle.scoring.proofs.WorthLemmas.{activity_worth-within, leg_worth-within, seconds_late-most, costs_are}
-use Rattle.scoring.proofs.Shown.{Show, Adds, adds, kept, keeps-shown}
-use Rattle.scoring.proofs.Pairs.{total-push}
-use Rattle.scoring.proofs.Keeping.{first-ends, activity-ends, leg-begins, leg-ends, activity-begins}
+use Rattle.scoring.specs.Tables.{ScoringRows, scoring_rows, activity_worth, leg_worth, seconds_late}
+use Rattle.scoring.specs.Taken.{first_kind_of, MayFollow, last_of, last_step, word_of, bound_of, settled, Keeps, IsTakenBy}
+use Rattle.scoring.specs.{Turns.steps, Turns.word_before, Turns.Follow, Turns.tells, declared.TheConstants.MAX_LEG_WORTH}
+use Rattle.scoring.specs.declared.{TheConstants.MAX_WORTH, scorer.Doing.Doing, scorer.Scorer.Scorer, table.Table.Table, tables.Tables.Tables}
+use Rattle.scoring.specs.declared.scorer.Doing.TheVariants as doing
 
 -- the word that comes last in turn is one before which the last but one comes
 Follow-last : (b : Word) (ws : List Word) (w : Word) → Follow b (ws ++ w ∷ []) → word_before w ≡ last_of b ws

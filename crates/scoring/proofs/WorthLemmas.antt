@@ -1,21 +1,15 @@
 -- How much activities, legs and lateness are worth at most.
-use Rattle.std.proofs.Common.{◌≡◌, ℕ, zero, suc, ◌+◌, ◌-◌, ◌*◌, ◌≤◌, true, ◌&&◌, inl, inr, nat_eq, nat_le, int_le, List, [], ◌∷◌, length, map, slice_get, Option, None, Some, ℤ, pos, ◌+ℤ◌, ◌*ℤ◌, ◌≤ℤ◌, neg_ℤ, FitsSigned, w64, to_z, of_z, sym, ap, ◌∙◌, subst, arith}
-use Rattle.std.proofs.lemmas.Bool.{and_parts, cases_Bool}
-use Rattle.std.proofs.lemmas.Bool.Decides.{nat_tests}
-use Rattle.std.proofs.lemmas.Int.{ints}
-use Rattle.std.specs.List.{list_all}
-use Rattle.std.specs.Option.{option_map_or}
+use Rattle.std.proofs.Common.{◌≡◌, ℕ, zero, suc, ◌+◌, ◌-◌, ◌*◌, ◌≤◌, true, ◌&&◌, inl, inr, nat_eq, nat_le, int_le, List, [], ◌∷◌, length, map, slice_get}
+use Rattle.std.proofs.Common.{Option, None, Some, ℤ, pos, ◌+ℤ◌, ◌*ℤ◌, ◌≤ℤ◌, neg_ℤ, FitsSigned, w64, to_z, of_z, sym, ap, ◌∙◌, subst, arith}
+use Rattle.std.proofs.lemmas.{Bool.and_parts, Bool.cases_Bool, Bool.Decides.nat_tests, Int.ints}
+use Rattle.std.specs.{List.list_all, Option.option_map_or}
 use Rattle.limits.specs.declared.TheConstants.{LAST_SECOND}
 use Rattle.events.specs.declared.event.Mode.{Mode}
-use Rattle.scoring.specs.declared.TheConstants.{MAX_LEG_WORTH, MAX_PER_SECOND, MAX_POINTS, MAX_SCORE, MAX_TABLES, MAX_WORTH}
-use Rattle.scoring.specs.declared.table.ModeScore.{ModeScore}
-use Rattle.scoring.specs.declared.table.Table.{Table}
-use Rattle.scoring.specs.Limits.{kind_of, are_distinct, is_right, are_tables, is_mode, are_costs}
-use Rattle.scoring.specs.Ranges.{is_within, IsWithin}
-use Rattle.scoring.specs.Points.{Point, is_point, are_rising, value}
-use Rattle.scoring.specs.Tables.{table_of, activity_worth, place_of, leg_worth, latest_of, seconds_late}
-use Rattle.scoring.proofs.Bounds.{product-within, code_same}
-use Rattle.scoring.proofs.PointsLemmas.{value-within}
+use Rattle.scoring.{proofs.Bounds.product-within, proofs.Bounds.code_same, proofs.PointsLemmas.value-within, specs.Limits.kind_of, specs.Limits.are_distinct}
+use Rattle.scoring.specs.{Limits.is_right, Limits.are_tables, Limits.is_mode, Limits.are_costs, Points.Point, Points.is_point, Points.are_rising, Points.value}
+use Rattle.scoring.specs.{Ranges.is_within, Ranges.IsWithin, Tables.table_of, Tables.activity_worth, Tables.place_of, Tables.leg_worth, Tables.latest_of}
+use Rattle.scoring.specs.{Tables.seconds_late, declared.TheConstants.MAX_LEG_WORTH, declared.TheConstants.MAX_PER_SECOND, declared.TheConstants.MAX_POINTS}
+use Rattle.scoring.specs.declared.{TheConstants.MAX_SCORE, TheConstants.MAX_TABLES, TheConstants.MAX_WORTH, table.ModeScore.ModeScore, table.Table.Table}
 
 -- what the tests say
 at_most : (a b : ℕ) → nat_le a b ≡ true → a ≤ b

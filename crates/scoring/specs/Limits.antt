@@ -1,11 +1,8 @@
 -- What tables, modes and costs keep, by which a day may be scored.
 use Rattle.std.specs.Prelude.{ℕ, Bool, true, not, ◌&&◌, nat_eq, nat_le, int_le, ℤ, pos, neg_ℤ, List, [], ◌∷◌, length, map}
 use Rattle.std.specs.List.{list_all, list_any}
-use Rattle.scoring.specs.declared.TheConstants.{MAX_PER_SECOND, MAX_TABLES, MAX_WORTH}
-use Rattle.scoring.specs.declared.table.ModeScore.{ModeScore}
-use Rattle.scoring.specs.declared.table.Table.{Table}
-use Rattle.scoring.specs.Points.{is_table}
-use Rattle.scoring.specs.Ranges.{is_within}
+use Rattle.scoring.specs.{Points.is_table, Ranges.is_within}
+use Rattle.scoring.specs.declared.{TheConstants.MAX_PER_SECOND, TheConstants.MAX_TABLES, TheConstants.MAX_WORTH, table.ModeScore.ModeScore, table.Table.Table}
 
 -- the kind that a table is for
 abbrev pub kind_of : Table → ℕ

@@ -1,11 +1,8 @@
 -- The points of a table, and the value of a second: straight lines from point to point.
-use Rattle.std.specs.Prelude.{ℕ, ◌-◌, Bool, true, ◌&&◌, nat_lt, nat_le, int_le, List, [], ◌∷◌, length, Option, None, Some, if◌then◌else◌, filter, ℤ, pos, ◌+ℤ◌, ◌-ℤ◌, ◌*ℤ◌}
-use Rattle.std.specs.Int.{int_div_euclid}
-use Rattle.std.specs.List.{list_all}
-use Rattle.std.specs.Option.{option_map_or}
+use Rattle.std.specs.{Int.int_div_euclid, List.list_all, Option.option_map_or, Prelude.ℕ, Prelude.◌-◌, Prelude.Bool}
+use Rattle.std.specs.Prelude.{true, ◌&&◌, nat_lt, nat_le, int_le, List, [], ◌∷◌, length, Option, None, Some, if◌then◌else◌, filter, ℤ, pos, ◌+ℤ◌, ◌-ℤ◌, ◌*ℤ◌}
 use Rattle.limits.specs.declared.TheConstants.{LAST_SECOND}
-use Rattle.scoring.specs.declared.TheConstants.{MAX_POINT_SECOND, MAX_POINTS, MAX_WORTH}
-use Rattle.scoring.specs.Ranges.{is_within}
+use Rattle.scoring.specs.{Ranges.is_within, declared.TheConstants.MAX_POINT_SECOND, declared.TheConstants.MAX_POINTS, declared.TheConstants.MAX_WORTH}
 
 -- a second, and what is reached there, in micro-utils
 abbrev pub Point : Type 0

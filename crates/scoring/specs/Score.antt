@@ -1,14 +1,10 @@
 -- The score of a person's day: a sum over what his events show.
 use Rattle.std.specs.Prelude.{ℕ, ◌+◌, ◌-◌, nat_eq, List, [], ◌∷◌, ◌++◌, map, length, drop, Option, None, Some, if◌then◌else◌, ℤ, pos, ◌+ℤ◌, ◌*ℤ◌}
 use Rattle.std.specs.List.{filter_map, zip}
-use Rattle.events.specs.declared.event.Event.{Event}
-use Rattle.events.specs.declared.event.Mode.{Mode}
-use Rattle.events.specs.declared.event.More.{More}
+use Rattle.events.specs.declared.event.{Event.Event, Mode.Mode, More.More, Word.Word}
 use Rattle.events.specs.declared.event.More.TheVariants as more
-use Rattle.events.specs.declared.event.Word.{Word}
 use Rattle.events.specs.declared.event.Word.TheVariants as word
-use Rattle.scoring.specs.declared.TheConstants.{SCORING_DAY}
-use Rattle.scoring.specs.Tables.{ScoringRows, activity_worth, leg_worth, seconds_late}
+use Rattle.scoring.specs.{Tables.ScoringRows, Tables.activity_worth, Tables.leg_worth, Tables.seconds_late, declared.TheConstants.SCORING_DAY}
 
 -- an activity that has begun: its kind, and since when; a leg that has begun: its mode, and since when
 abbrev pub Activity : Type 0

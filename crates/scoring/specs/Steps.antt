@@ -1,15 +1,11 @@
 -- What an event makes of a scorer, and what is added at the end.
 use Rattle.std.specs.Prelude.{ℕ, ◌+◌, ◌-◌, Bool, true, false, nat_eq, Option, None, Some, List, if◌then◌else◌, ℤ, pos, ◌+ℤ◌, ◌*ℤ◌}
-use Rattle.events.specs.declared.event.More.{More}
+use Rattle.events.specs.declared.event.{More.More, Word.Word}
 use Rattle.events.specs.declared.event.More.TheVariants as more
-use Rattle.events.specs.declared.event.Word.{Word}
 use Rattle.events.specs.declared.event.Word.TheVariants as word
-use Rattle.scoring.specs.declared.TheConstants.{SCORING_DAY}
-use Rattle.scoring.specs.declared.scorer.Doing.{Doing}
-use Rattle.scoring.specs.declared.scorer.Doing.TheVariants as doing
-use Rattle.scoring.specs.declared.scorer.Scorer.{Scorer}
-use Rattle.scoring.specs.declared.table.Table.{Table}
 use Rattle.scoring.specs.Tables.{ScoringRows, activity_worth, leg_worth, seconds_late}
+use Rattle.scoring.specs.declared.{TheConstants.SCORING_DAY, scorer.Doing.Doing, scorer.Scorer.Scorer, table.Table.Table}
+use Rattle.scoring.specs.declared.scorer.Doing.TheVariants as doing
 
 -- an activity ends: of the first one it is kept when, any other one is worth what it took
 abbrev pub with_activity_ended : List Table → Scorer → ℕ → Doing → Option ℕ → Scorer

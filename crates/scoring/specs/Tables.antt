@@ -3,10 +3,7 @@ use Rattle.std.specs.Prelude.{ℕ, ◌-◌, nat_eq, List, slice_get, find, Optio
 use Rattle.std.specs.Option.{option_map_or}
 use Rattle.events.specs.declared.event.Mode.{Mode}
 use Rattle.events.specs.declared.event.Mode.TheVariants as mode
-use Rattle.scoring.specs.declared.table.ModeScore.{ModeScore}
-use Rattle.scoring.specs.declared.table.Table.{Table}
-use Rattle.scoring.specs.declared.tables.Tables.{Tables}
-use Rattle.scoring.specs.Points.{value}
+use Rattle.scoring.specs.{Points.value, declared.table.ModeScore.ModeScore, declared.table.Table.Table, declared.tables.Tables.Tables}
 
 -- what a day is scored by: tables for kinds of activities, what a leg is worth by each of the five modes, in their order, and what each
 -- second adds by which an activity begins late, and what being stuck adds, in micro-utils

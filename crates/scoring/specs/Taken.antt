@@ -2,17 +2,12 @@
 use Rattle.std.specs.Prelude.{◌≡◌, ◌≢◌, ℕ, ◌+◌, ◌*◌, ◌<◌, ◌≤◌, true, List, [], ◌∷◌, ◌++◌, map, length, get_or, take, drop, Option, None, Some, ℤ, pos, ◌+ℤ◌}
 use Rattle.std.specs.Option.{ForSome}
 use Rattle.limits.specs.declared.TheConstants.{LAST_SECOND}
-use Rattle.events.specs.declared.event.Event.{Event}
-use Rattle.events.specs.declared.event.Word.{Word}
+use Rattle.events.specs.declared.event.{Event.Event, Word.Word}
 use Rattle.events.specs.declared.event.Word.TheVariants as word
-use Rattle.scoring.specs.declared.TheConstants.{MAX_EVENTS}
-use Rattle.scoring.specs.declared.scorer.Doing.{Doing}
+use Rattle.scoring.specs.declared.{TheConstants.MAX_EVENTS, scorer.Doing.Doing, scorer.Scorer.Scorer}
+use Rattle.scoring.specs.{Ranges.IsWithin, Tables.ScoringRows, Turns.steps, Turns.InTurn, Turns.tells, Score.Activity, Score.Leg}
+use Rattle.scoring.specs.Score.{starts, departures, act_ends, leg_ends, stuck_in, ended, unended, until, spells_worth, rides_worth, lateness_costs, stuck_costs}
 use Rattle.scoring.specs.declared.scorer.Doing.TheVariants as doing
-use Rattle.scoring.specs.declared.scorer.Scorer.{Scorer}
-use Rattle.scoring.specs.Ranges.{IsWithin}
-use Rattle.scoring.specs.Tables.{ScoringRows}
-use Rattle.scoring.specs.Turns.{steps, InTurn, tells}
-use Rattle.scoring.specs.Score.{Activity, Leg, starts, departures, act_ends, leg_ends, stuck_in, ended, unended, until, spells_worth, rides_worth, lateness_costs, stuck_costs}
 
 -- the kind of the person's first activity
 abbrev pub first_kind_of : Scorer → ℕ

@@ -1,11 +1,8 @@
 -- The five words that score, and their order in a person's day.
 use Rattle.std.specs.Prelude.{◌≡◌, Bool, true, false, List, [], ◌∷◌, map, filter}
-use Rattle.events.specs.declared.event.Event.{Event}
-use Rattle.events.specs.declared.event.More.{More}
+use Rattle.events.specs.{Persons.is_step, declared.event.Event.Event, declared.event.More.More, declared.event.Word.Word}
 use Rattle.events.specs.declared.event.More.TheVariants as more
-use Rattle.events.specs.declared.event.Word.{Word}
 use Rattle.events.specs.declared.event.Word.TheVariants as word
-use Rattle.events.specs.Persons.{is_step}
 
 -- the five words of some events, in the order of the events
 abbrev pub steps : List Event → List Word

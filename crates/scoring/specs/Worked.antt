@@ -1,16 +1,10 @@
 -- Worked days, each told by its events.
 use Rattle.std.specs.Prelude.{ℕ, List, [], ◌∷◌, ◌++◌, None, Some, pos, negsuc}
-use Rattle.events.specs.declared.event.Event.{Event}
-use Rattle.events.specs.declared.event.Mode.{Mode}
+use Rattle.events.specs.declared.event.{Event.Event, Mode.Mode, More.More, Word.Word}
 use Rattle.events.specs.declared.event.Mode.TheVariants as mode
-use Rattle.events.specs.declared.event.More.{More}
 use Rattle.events.specs.declared.event.More.TheVariants as more
-use Rattle.events.specs.declared.event.Word.{Word}
 use Rattle.events.specs.declared.event.Word.TheVariants as word
-use Rattle.scoring.specs.declared.table.Table.{Table}
-use Rattle.scoring.specs.declared.table.ModeScore.{ModeScore}
-use Rattle.scoring.specs.Points.{Point}
-use Rattle.scoring.specs.Tables.{ScoringRows}
+use Rattle.scoring.specs.{Points.Point, Tables.ScoringRows, declared.table.ModeScore.ModeScore, declared.table.Table.Table}
 
 -- home and work, as the activities of a day
 abbrev pub home : ℕ

@@ -1,9 +1,5 @@
 ghost use Rattle.std.specs.Prelude.{◌≡◌, ◌↔◌, IsSome, IfSome};
-ghost use Rattle.scoring.specs.declared.TheConstants.{MAX_SCORE};
-ghost use Rattle.scoring.specs.Ranges.{IsWithin};
-ghost use Rattle.scoring.specs.Score.{score};
-ghost use Rattle.scoring.specs.Tables.{scoring_rows};
-ghost use Rattle.scoring.specs.Taken.{AllFollow};
+ghost use Rattle.scoring.specs.{Ranges.IsWithin, Score.score, Tables.scoring_rows, Taken.AllFollow, declared.TheConstants.MAX_SCORE};
 
 use crate::MAX_EVENTS;
 use crate::scorer::Scorer;

@@ -1,21 +1,14 @@
 //! What holds of values, of scores and of the order of events: each the contract of a call that does
 //! nothing.
 
-ghost use Rattle.std.specs.Prelude.{◌≡◌, ◌+◌, ◌*◌, ◌-◌, ◌<◌, ◌≤◌, ℕ, ℤ, pos, neg_ℤ};
-ghost use Rattle.std.specs.Prelude.{◌+ℤ◌, ◌-ℤ◌, ◌*ℤ◌, ◌≤ℤ◌, ◌<ℤ◌, FitsSigned, List, []};
-ghost use Rattle.std.specs.Prelude.{◌∷◌, ◌++◌, length, true, map, filter, All};
-ghost use Rattle.std.specs.Int.{w64};
-ghost use Rattle.events.specs.declared.event.Event.{Event};
-ghost use Rattle.events.specs.Persons.{is_step};
+ghost use Rattle.std.specs.Prelude.{◌≡◌, ◌+◌, ◌*◌, ◌-◌, ◌<◌, ◌≤◌, ℕ, ℤ, pos, neg_ℤ, ◌+ℤ◌, ◌-ℤ◌, ◌*ℤ◌, ◌≤ℤ◌, ◌<ℤ◌, FitsSigned, List, []};
+ghost use Rattle.std.specs.{Prelude.◌∷◌, Prelude.◌++◌, Prelude.length, Prelude.true, Prelude.map, Prelude.filter, Prelude.All, Int.w64};
+ghost use Rattle.events.specs.{Persons.is_step, declared.event.Event.Event};
 ghost use Rattle.limits.specs.declared.TheConstants.{MAX_PERSONS};
-ghost use Rattle.scoring.specs.declared.TheConstants.{MAX_SCORE};
-ghost use Rattle.scoring.specs.Ranges.{IsWithin};
-ghost use Rattle.scoring.specs.Points.{Point, are_rising, are_climbing, on_line, value};
-ghost use Rattle.scoring.specs.Turns.{InTurn};
-ghost use Rattle.scoring.specs.Score.{total, score};
-ghost use Rattle.scoring.specs.Tables.{ScoringRows};
-ghost use Rattle.scoring.specs.Worked.{home, home_points, falling_points, no_tables, two_tables, strict_tables, walk, drive, passenger};
-ghost use Rattle.scoring.specs.Worked.{left_behind, commute, to_work, stuck_in_the_evening};
+ghost use Rattle.scoring.specs.{Points.Point, Points.are_rising, Points.are_climbing, Points.on_line, Points.value, Ranges.IsWithin};
+ghost use Rattle.scoring.specs.{Score.total, Score.score, Tables.ScoringRows, Turns.InTurn, Worked.home, Worked.home_points};
+ghost use Rattle.scoring.specs.Worked.{falling_points, no_tables, two_tables, strict_tables, walk, drive, passenger, left_behind, commute};
+ghost use Rattle.scoring.specs.{Worked.to_work, Worked.stuck_in_the_evening, declared.TheConstants.MAX_SCORE};
 
 /// The value at the second of a point is what is reached there; before the first point and behind
 /// the last one it stays; and where no point is lower than the one before it, no later second has a

@@ -1,13 +1,10 @@
 ghost use Rattle.std.specs.Prelude.{◌≡◌, ◌<◌, ◌≤◌, ◌↔◌, pos, None, IsTrue, length, List, [], ◌∷◌, ◌++◌};
 ghost use Rattle.std.specs.Option.{ForSome};
 ghost use Rattle.events.specs.declared.event.Event.{Event};
+ghost use Rattle.scoring.specs.{Ranges.IsWithin, Score.score, Steps.with_activity_ended};
+ghost use Rattle.scoring.specs.Steps.{with_leg_begun, with_leg_ended, with_activity_begun, with_event, last_worth, is_next};
+ghost use Rattle.scoring.specs.{Tables.ScoringRows, Tables.scoring_rows, Taken.first_kind_of, Taken.MayFollow, Taken.IsTakenBy};
 ghost use Rattle.scoring.specs.declared.TheConstants.{MAX_EVENTS, MAX_SCORE, MAX_WORTH};
-ghost use Rattle.scoring.specs.Ranges.{IsWithin};
-ghost use Rattle.scoring.specs.Score.{score};
-ghost use Rattle.scoring.specs.Tables.{ScoringRows, scoring_rows};
-ghost use Rattle.scoring.specs.Taken.{first_kind_of, MayFollow, IsTakenBy};
-ghost use Rattle.scoring.specs.Steps.{with_activity_ended, with_leg_begun, with_leg_ended, with_activity_begun, with_event, last_worth};
-ghost use Rattle.scoring.specs.Steps.{is_next};
 
 use crate::SCORING_DAY;
 use crate::tables::Tables;

@@ -1,5 +1,4 @@
-ghost use Rattle.std.specs.Prelude.{◌≡◌};
-ghost use Rattle.std.specs.List.{list_all};
+ghost use Rattle.std.specs.{List.list_all, Prelude.◌≡◌};
 ghost use Rattle.scoring.specs.Points.{is_point, rise_from, are_rising, is_table};
 
 use crate::{MAX_POINT_SECOND, MAX_POINTS, MAX_WORTH};

@@ -1,8 +1,6 @@
-ghost use Rattle.std.specs.Prelude.{◌≡◌, ◌<◌, ◌≤◌, length, true};
-ghost use Rattle.std.specs.List.{list_all};
-ghost use Rattle.scoring.specs.declared.TheConstants.{MAX_WORTH};
-ghost use Rattle.scoring.specs.Ranges.{IsWithin};
+ghost use Rattle.std.specs.{List.list_all, Prelude.◌≡◌, Prelude.◌<◌, Prelude.◌≤◌, Prelude.length, Prelude.true};
 ghost use Rattle.scoring.specs.Points.{is_point, are_rising, on_line, value, along};
+ghost use Rattle.scoring.specs.{Ranges.IsWithin, declared.TheConstants.MAX_WORTH};
 
 /// What is reached at a second by the points of a table, in micro-utils: along straight lines from
 /// point to point, rounded down, and beyond the first and the last point what is reached there.

@@ -1,10 +1,8 @@
 ghost use Rattle.std.specs.Prelude.{◌≡◌, ◌≤◌, Some, true, option_copied, slice_get};
 ghost use Rattle.limits.specs.declared.TheConstants.{LAST_SECOND};
-ghost use Rattle.scoring.specs.declared.TheConstants.{MAX_LEG_WORTH, MAX_WORTH};
-ghost use Rattle.scoring.specs.Limits.{is_right};
-ghost use Rattle.scoring.specs.Points.{value};
-ghost use Rattle.scoring.specs.Ranges.{IsWithin};
+ghost use Rattle.scoring.specs.{Limits.is_right, Points.value, Ranges.IsWithin};
 ghost use Rattle.scoring.specs.Tables.{table_of, activity_worth, place_of, leg_worth, seconds_late};
+ghost use Rattle.scoring.specs.declared.TheConstants.{MAX_LEG_WORTH, MAX_WORTH};
 
 use crate::table::{ModeScore, Table};
 use crate::tables::Tables;

@@ -1,10 +1,8 @@
 -- Lists of values that are all there, or not.
 use Rattle.std.proofs.Common.{◌≡◌, ◌≢◌, ℕ, zero, suc, ◌+◌, ◌<◌, List, [], ◌∷◌, ◌++◌, map, length, get_or, take, Option, None, Some, refl, sym, ap, ◌∙◌, arith}
 use Rattle.std.proofs.lemmas.List.{map-append, take_more}
-use Rattle.serde_json.specs.View.{view, items_view}
-use Rattle.serde_json.specs.declared.value.Value.{Value}
-use Rattle.settings.specs.Looking.{list_of, with_all, all_of}
-use Rattle.settings.specs.NamedTables.{point_of}
+use Rattle.serde_json.specs.{View.view, View.items_view, declared.value.Value.Value}
+use Rattle.settings.specs.{Looking.list_of, Looking.with_all, Looking.all_of, NamedTables.point_of}
 
 with_all-push : {A : Type 0} (x : Option A) (r : Option (List A)) (s : Option (List A)) (ys : List A) (y : A) → with_all x r ≡ Some ys
     → ((zs : List A) → r ≡ Some zs → s ≡ Some (zs ++ y ∷ [])) → with_all x s ≡ Some (ys ++ y ∷ [])

@@ -1,21 +1,12 @@
 -- Tables by the numbers of their kinds are such as a day may be scored by.
-use Rattle.std.proofs.Common.{◌≡◌, ℕ, suc, ◌+◌, ◌≤◌, ◌||◌, ◌&&◌, Bool, true, false, not, nat_eq, nat_le, bytes_eq, List, [], ◌∷◌, ◌++◌, map, length, Option, None, Some, refl, sym, ap, ◌∙◌, subst, arith}
-use Rattle.std.specs.Prelude.{option_map, option_to_list}
-use Rattle.std.specs.List.{list_all, list_any, filter_map}
-use Rattle.std.specs.Cmp.Derive.{both_true}
-use Rattle.std.proofs.lemmas.Bool.{and_parts}
-use Rattle.std.proofs.lemmas.Bool.Decides.{nat_tests}
-use Rattle.std.proofs.lemmas.List.Elements.{filter_map-append}
-use Rattle.std.proofs.lemmas.Slice.Eq.{bytes_eq-Decides}
-use Rattle.events.specs.Names.{number_of, name_at, is_held, are_distinct}
-use Rattle.events.proofs.NameLists.{name_at-number_of}
-use Rattle.scoring.specs.declared.TheConstants.{MAX_TABLES}
-use Rattle.scoring.specs.declared.table.Table.{Table}
-use Rattle.scoring.specs.Limits.{kind_of, are_tables}
+use Rattle.std.proofs.Common.{◌≡◌, ℕ, suc, ◌+◌, ◌≤◌, ◌||◌, ◌&&◌, Bool, true, false, not, nat_eq, nat_le, bytes_eq, List, [], ◌∷◌, ◌++◌, map, length, Option}
+use Rattle.std.proofs.Common.{None, Some, refl, sym, ap, ◌∙◌, subst, arith}
+use Rattle.std.proofs.lemmas.{Bool.and_parts, Bool.Decides.nat_tests, List.Elements.filter_map-append, Slice.Eq.bytes_eq-Decides}
+use Rattle.std.specs.{Cmp.Derive.both_true, List.list_all, List.list_any, List.filter_map, Prelude.option_map, Prelude.option_to_list}
+use Rattle.events.{proofs.NameLists.name_at-number_of, specs.Names.number_of, specs.Names.name_at, specs.Names.is_held, specs.Names.are_distinct}
+use Rattle.scoring.specs.{Limits.kind_of, Limits.are_tables, declared.TheConstants.MAX_TABLES, declared.table.Table.Table}
 use Rattle.scoring.specs.Limits as limits
-use Rattle.settings.specs.declared.named_tables.NamedTable.{NamedTable}
-use Rattle.settings.specs.NamedTables.{kind_name, is_right, are_right}
-use Rattle.settings.specs.Numbered.{numbered}
+use Rattle.settings.specs.{NamedTables.kind_name, NamedTables.is_right, NamedTables.are_right, Numbered.numbered, declared.named_tables.NamedTable.NamedTable}
 
 -- one more table
 one : (kinds : List (List ℕ)) (t : NamedTable) (o : Option Table) → o ≡ numbered kinds t → filter_map (numbered kinds) (t ∷ []) ≡ option_to_list o

@@ -1,15 +1,10 @@
 -- What `serde_json` reads, beside the definitions.
-use Rattle.std.proofs.Common.{◌≡◌, ◌&&◌, ◌||◌, if◌then◌else◌, Bool, true, false, ℕ, List, [], ◌∷◌, length, nat_eq, not, Option, None, Some, IsUtf8, String, BTreeMap, Global, string_bytes, map, refl, sym, ap, ap₂, ◌∙◌}
-use Rattle.std.specs.List.{list_all, list_any}
-use Rattle.std.specs.Str.{is_utf8}
-use Rattle.std.proofs.lemmas.Str.{IsUtf8-from_is_utf8, is_utf8-from_IsUtf8}
-use Rattle.serde_json.specs.Data.{Data, object, no_members}
-use Rattle.serde_json.specs.Read.{read}
-use Rattle.serde_json.specs.View.{view, items_view, members_view}
-use Rattle.serde_json.specs.declared.value.Value.{Value, Object}
-use Rattle.serde_json.proofs.Views.{Entry, view-Object}
-use Rattle.settings.specs.Looking.{has_other_key, list_of, values_of_members}
-use Rattle.settings.specs.Faults.{value_of}
+use Rattle.std.proofs.Common.{◌≡◌, ◌&&◌, ◌||◌, if◌then◌else◌, Bool, true, false, ℕ, List, [], ◌∷◌, length, nat_eq, not, Option, None, Some, IsUtf8, String}
+use Rattle.std.proofs.Common.{BTreeMap, Global, string_bytes, map, refl, sym, ap, ap₂, ◌∙◌}
+use Rattle.std.{proofs.lemmas.Str.IsUtf8-from_is_utf8, proofs.lemmas.Str.is_utf8-from_IsUtf8, specs.List.list_all, specs.List.list_any, specs.Str.is_utf8}
+use Rattle.serde_json.{proofs.Views.Entry, proofs.Views.view-Object, specs.Data.Data, specs.Data.object}
+use Rattle.serde_json.specs.{Data.no_members, Read.read, View.view, View.items_view, View.members_view, declared.value.Value.Value, declared.value.Value.Object}
+use Rattle.settings.specs.{Faults.value_of, Looking.has_other_key, Looking.list_of, Looking.values_of_members}
 
 -- a map without entries is an object without members
 pub empty_object : (m : BTreeMap (String Global) Value) → m.entries ≡ [] → view (Object m) ≡ object no_members

@@ -1,16 +1,12 @@
 -- What is told of the settings of scores, by its parts.
-use Rattle.std.proofs.Common.{◌≡◌, Bool, true, false, not, ◌||◌, if◌then◌else◌, is_some, codes, List, [], ◌∷◌, unwrap_or, Option, None, Some, Result, refl, sym, ap, ap₂, ◌∙◌, subst}
-use Rattle.edge_files.specs.declared.reasons.Reason.{Reason}
-use Rattle.edge_files.specs.declared.reasons.Reason.TheVariants.{ValueBad, TableWrong}
-use Rattle.edge_files.specs.declared.reasons.RowStop.{RowStop}
+use Rattle.std.proofs.Common.{◌≡◌, Bool, true, false, not, ◌||◌, if◌then◌else◌, is_some, codes, List, [], ◌∷◌, unwrap_or, Option, None, Some, Result, refl, sym}
+use Rattle.std.proofs.Common.{ap, ap₂, ◌∙◌, subst}
+use Rattle.edge_files.specs.declared.reasons.{Reason.Reason, Reason.TheVariants.ValueBad, Reason.TheVariants.TableWrong, RowStop.RowStop}
 use Rattle.records.specs.Faults.{least, Answers, fault_at}
-use Rattle.serde_json.specs.Data.{Data, Members}
-use Rattle.serde_json.specs.Find.{get_member}
-use Rattle.settings.specs.declared.costs.Scoring.{Scoring}
-use Rattle.settings.specs.declared.named_tables.NamedTable.{NamedTable}
-use Rattle.settings.specs.Keys.{is_bad, has_bad_cost, has_bad_scoring}
-use Rattle.settings.specs.NamedTables.{tables_of, given_tables, are_right}
+use Rattle.serde_json.specs.{Data.Data, Data.Members, Find.get_member}
+use Rattle.settings.specs.{Keys.is_bad, Keys.has_bad_cost, Keys.has_bad_scoring, NamedTables.tables_of, NamedTables.given_tables, NamedTables.are_right}
 use Rattle.settings.specs.Scoring.{CostValues, ScoringValues, costs_in, with_tables, tables_given, scoring_in, scoring_of, has_wrong_table}
+use Rattle.settings.specs.declared.{costs.Scoring.Scoring, named_tables.NamedTable.NamedTable}
 
 -- tables that are given are no bad value
 given_good : (o : Option Data) (tables : List NamedTable) → Some tables ≡ given_tables o → is_bad (λ value. is_some (tables_of value)) o ≡ false

@@ -1,15 +1,11 @@
 -- Keys that there are not, in the object of the modes and in the list of the tables.
 use Rattle.std.proofs.Common.{◌≡◌, ◌||◌, Bool, true, false, List, not, Option, None, Some, string_bytes, unwrap_or, sym, ap, ap₂, ◌∙◌}
 use Rattle.std.specs.List.{list_all, list_any}
-use Rattle.serde_json.specs.Data.{Data, Members, no_members, Items, no_items}
-use Rattle.serde_json.specs.Find.{as_array, as_object}
-use Rattle.serde_json.specs.View.{view, items_view, members_view}
-use Rattle.serde_json.specs.declared.value.Value.{Value}
-use Rattle.serde_json.proofs.Views.{Entry}
-use Rattle.settings.specs.Looking.{has_other_key, list_of, members_of, values_of_members}
-use Rattle.settings.specs.Modes.{is_mode_name, is_mode_key, has_unknown_mode_key}
-use Rattle.settings.specs.NamedTables.{is_table_key, has_unknown_table_key}
+use Rattle.serde_json.{proofs.Views.Entry, specs.Data.Data, specs.Data.Members, specs.Data.no_members, specs.Data.Items}
+use Rattle.serde_json.specs.{Data.no_items, Find.as_array, Find.as_object, View.view, View.items_view, View.members_view, declared.value.Value.Value}
 use Rattle.settings.proofs.Objects.{unknown_keys, faulty_values, faulty_items}
+use Rattle.settings.specs.Looking.{has_other_key, list_of, members_of, values_of_members}
+use Rattle.settings.specs.{Modes.is_mode_name, Modes.is_mode_key, Modes.has_unknown_mode_key, NamedTables.is_table_key, NamedTables.has_unknown_table_key}
 
 -- where the key is not given, or its value is no object, no mode has an unknown key
 pub no_modes : (v : Option Data) → None ≡ v → false ≡ has_unknown_mode_key v

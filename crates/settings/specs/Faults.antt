@@ -1,19 +1,13 @@
 -- The bytes of settings.json: their values, or their first fault.
 use Rattle.std.specs.Prelude.{ℕ, Bool, ◌||◌, if◌then◌else◌, nat_eq, is_none, List, [], ◌∷◌, length, Option, None, Some, option_and_then}
 use Rattle.std.specs.Str.{is_utf8}
-use Rattle.serde_json.specs.Data.{Data, object, Members, no_members}
-use Rattle.serde_json.specs.Read.{read}
-use Rattle.serde_json.specs.Find.{as_object}
+use Rattle.serde_json.specs.{Data.Data, Data.object, Data.Members, Data.no_members, Find.as_object, Read.read}
 use Rattle.edge_files.specs.declared.reasons.Reason.{Reason}
 use Rattle.edge_files.specs.declared.reasons.Reason.TheVariants as reason
-use Rattle.records.specs.Faults.{least}
-use Rattle.records.specs.Files.{is_too_long}
-use Rattle.settings.specs.Looking.{members_of}
-use Rattle.settings.specs.Keys.{has_unknown_key, has_bad_value, has_bad_scoring}
-use Rattle.settings.specs.Values.{Values, values_in}
+use Rattle.records.specs.{Faults.least, Files.is_too_long}
+use Rattle.settings.specs.{Keys.has_unknown_key, Keys.has_bad_value, Keys.has_bad_scoring, Looking.members_of}
 use Rattle.settings.specs.Scoring.{ScoringValues, scoring_in, scoring_of, has_wrong_table}
-use Rattle.settings.specs.declared.values.Settings.{Settings}
-use Rattle.settings.specs.declared.values.SettingsFile.{SettingsFile}
+use Rattle.settings.specs.{Values.Values, Values.values_in, declared.values.Settings.Settings, declared.values.SettingsFile.SettingsFile}
 
 -- what settings.json says: of the days of a run, and of their scores
 pub record FileValues : Type 0 where

@@ -1,16 +1,14 @@
 -- The keys of the settings, and which values each may have.
-use Rattle.std.specs.Prelude.{◌≡◌, ℕ, ◌-◌, ◌^◌, Bool, true, false, not, ◌||◌, bytes_eq, codes, is_some, List, [], ◌∷◌, Option, None, Some, option_and_then, Result, Ok, Err, ℤ, pos, neg_ℤ}
-use Rattle.std.specs.List.{list_any}
+use Rattle.std.specs.{List.list_any, Prelude.◌≡◌, Prelude.ℕ, Prelude.◌-◌, Prelude.◌^◌, Prelude.Bool, Prelude.true}
+use Rattle.std.specs.Prelude.{false, not, ◌||◌, bytes_eq, codes, is_some, List, [], ◌∷◌, Option, None, Some, option_and_then, Result, Ok, Err, ℤ, pos, neg_ℤ}
 use Rattle.limits.specs.declared.TheConstants.{LAST_SECOND, MAX_DWELL, MAX_PERMILLE, MAX_PLANS, MAX_SPEED}
 use Rattle.edge_files.specs.declared.reasons.Reason.{Reason}
 use Rattle.edge_files.specs.declared.reasons.Reason.TheVariants as reason
 use Rattle.learning.specs.declared.TheConstants.{LAST_ITERATION, MAX_LOGIT_UNIT, MAX_WEIGHT}
 use Rattle.scoring.specs.declared.TheConstants.{MAX_PER_SECOND, MAX_WORTH}
-use Rattle.serde_json.specs.Data.{Data, Members}
-use Rattle.serde_json.specs.Find.{get_member}
+use Rattle.serde_json.specs.{Data.Data, Data.Members, Find.get_member}
 use Rattle.settings.specs.Looking.{has_other_key, whole_in, signed_in}
-use Rattle.settings.specs.Modes.{modes_of, has_unknown_mode_key}
-use Rattle.settings.specs.NamedTables.{tables_of, has_unknown_table_key}
+use Rattle.settings.specs.{Modes.modes_of, Modes.has_unknown_mode_key, NamedTables.tables_of, NamedTables.has_unknown_table_key}
 
 -- a whole number from low to high, and one that may be below zero
 abbrev pub is_whole : ℕ → ℕ → Data → Bool

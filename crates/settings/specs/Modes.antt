@@ -1,13 +1,10 @@
 -- What a leg by each mode is worth: the key `modes`.
 use Rattle.std.specs.Prelude.{ℕ, Bool, ◌||◌, bytes_eq, codes, is_some, List, [], ◌∷◌, map, Option, None, Some, option_and_then, ℤ, pos, neg_ℤ}
 use Rattle.std.specs.List.{list_any}
-use Rattle.events.specs.declared.event.Mode.{Mode}
+use Rattle.events.specs.{Words.mode_of, Words.mode_text, declared.event.Mode.Mode}
 use Rattle.events.specs.declared.event.Mode.TheVariants as mode
-use Rattle.events.specs.Words.{mode_of, mode_text}
-use Rattle.scoring.specs.declared.TheConstants.{MAX_PER_SECOND, MAX_WORTH}
-use Rattle.scoring.specs.declared.table.ModeScore.{ModeScore}
-use Rattle.serde_json.specs.Data.{Data, Members}
-use Rattle.serde_json.specs.Find.{as_object, get_member}
+use Rattle.scoring.specs.declared.{TheConstants.MAX_PER_SECOND, TheConstants.MAX_WORTH, table.ModeScore.ModeScore}
+use Rattle.serde_json.specs.{Data.Data, Data.Members, Find.as_object, Find.get_member}
 use Rattle.settings.specs.Looking.{members_of, values_of_members, has_other_key, signed_in, or_default, all_of}
 
 -- a leg's constant, and what each of its seconds is worth, where both are there

@@ -1,12 +1,11 @@
 -- The tables of activities: the key `tables`.
-use Rattle.std.specs.Prelude.{ℕ, Bool, ◌&&◌, ◌||◌, nat_le, bytes_eq, codes, if◌then◌else◌, List, [], ◌∷◌, length, map, Option, None, Some, option_and_then, option_map, neg_ℤ, ℤ}
-use Rattle.std.specs.List.{list_all, list_any}
+use Rattle.std.specs.{List.list_all, List.list_any, Prelude.ℕ, Prelude.Bool, Prelude.◌&&◌, Prelude.◌||◌}
+use Rattle.std.specs.Prelude.{nat_le, bytes_eq, codes, if◌then◌else◌, List, [], ◌∷◌, length, map, Option, None, Some, option_and_then, option_map, neg_ℤ, ℤ}
 use Rattle.events.specs.Names.{is_name, are_distinct}
 use Rattle.limits.specs.declared.TheConstants.{LAST_SECOND}
 use Rattle.scoring.specs.declared.TheConstants.{MAX_POINT_SECOND, MAX_TABLES, MAX_WORTH}
 use Rattle.scoring.specs.Points.{Point, is_table}
-use Rattle.serde_json.specs.Data.{Data}
-use Rattle.serde_json.specs.Find.{as_array, as_object, as_str, get_member}
+use Rattle.serde_json.specs.{Data.Data, Find.as_array, Find.as_object, Find.as_str, Find.get_member}
 use Rattle.settings.specs.declared.named_tables.NamedTable.{NamedTable}
 use Rattle.settings.specs.Looking.{members_of, list_of, items_of, has_other_key, whole_in, signed_in, or_default, all_of}
 

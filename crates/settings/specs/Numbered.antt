@@ -1,11 +1,8 @@
 -- What a day is scored by, with the numbers that kinds of activities have.
-use Rattle.std.specs.Prelude.{ℕ, List, Option, option_map}
-use Rattle.std.specs.List.{filter_map}
+use Rattle.std.specs.{List.filter_map, Prelude.ℕ, Prelude.List, Prelude.Option, Prelude.option_map}
 use Rattle.events.specs.Names.{number_of}
-use Rattle.scoring.specs.declared.table.Table.{Table}
-use Rattle.scoring.specs.Tables.{ScoringRows}
-use Rattle.settings.specs.declared.named_tables.NamedTable.{NamedTable}
-use Rattle.settings.specs.Scoring.{ScoringValues}
+use Rattle.scoring.specs.{Tables.ScoringRows, declared.table.Table.Table}
+use Rattle.settings.specs.{Scoring.ScoringValues, declared.named_tables.NamedTable.NamedTable}
 
 -- a table with the number of its kind, where these kinds have it
 abbrev pub numbered : List (List ℕ) → NamedTable → Option Table

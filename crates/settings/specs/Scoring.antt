@@ -1,14 +1,9 @@
 -- The values of the settings of scores.
 use Rattle.std.specs.Prelude.{ℕ, Bool, not, codes, List, [], unwrap_or, Option, option_and_then, ℤ, pos, neg_ℤ}
 use Rattle.scoring.specs.declared.table.ModeScore.{ModeScore}
-use Rattle.serde_json.specs.Data.{Members}
-use Rattle.serde_json.specs.Find.{get_member}
-use Rattle.settings.specs.declared.named_tables.NamedTable.{NamedTable}
-use Rattle.settings.specs.declared.costs.Costs.{Costs}
-use Rattle.settings.specs.declared.costs.Scoring.{Scoring}
-use Rattle.settings.specs.Looking.{members_of, signed}
-use Rattle.settings.specs.Modes.{modes_in}
-use Rattle.settings.specs.NamedTables.{given_tables, are_right}
+use Rattle.serde_json.specs.{Data.Members, Find.get_member}
+use Rattle.settings.specs.{Looking.members_of, Looking.signed, Modes.modes_in, NamedTables.given_tables, NamedTables.are_right}
+use Rattle.settings.specs.declared.{costs.Costs.Costs, costs.Scoring.Scoring, named_tables.NamedTable.NamedTable}
 
 -- what it costs to be late and to be stuck, and what a leg by each mode is worth, in micro-utils
 pub record CostValues : Type 0 where

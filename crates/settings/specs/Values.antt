@@ -1,9 +1,7 @@
 -- The values of the settings, but those of scores.
 use Rattle.std.specs.Prelude.{ℕ, nat_eq, codes, List, unwrap_or, Option, option_and_then}
-use Rattle.serde_json.specs.Data.{Members}
-use Rattle.serde_json.specs.Find.{get_member}
-use Rattle.learning.specs.declared.settings.Learning.{Learning}
-use Rattle.learning.specs.declared.settings.StrategyWeights.{StrategyWeights}
+use Rattle.serde_json.specs.{Data.Members, Find.get_member}
+use Rattle.learning.specs.declared.settings.{Learning.Learning, StrategyWeights.StrategyWeights}
 use Rattle.rows.specs.declared.settings.TrafficSettings.{TrafficSettings}
 use Rattle.settings.specs.Looking.{whole}
 

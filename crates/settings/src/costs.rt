@@ -1,7 +1,5 @@
-ghost use Rattle.std.specs.Prelude.{◌≡◌, ◌≤◌, length, true};
-ghost use Rattle.std.specs.List.{list_all};
-ghost use Rattle.scoring.specs.declared.TheConstants.{MAX_TABLES};
-ghost use Rattle.scoring.specs.Limits.{is_mode, are_costs};
+ghost use Rattle.std.specs.{List.list_all, Prelude.◌≡◌, Prelude.◌≤◌, Prelude.length, Prelude.true};
+ghost use Rattle.scoring.specs.{Limits.is_mode, Limits.are_costs, declared.TheConstants.MAX_TABLES};
 ghost use Rattle.settings.specs.NamedTables.{are_right};
 
 use crate::named_tables::NamedTable;

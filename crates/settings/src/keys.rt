@@ -1,8 +1,6 @@
 ghost use Rattle.std.specs.Prelude.{◌≤◌, ◌≤ℤ◌, IfOk, IfSome};
-ghost use Rattle.serde_json.specs.Find.{get_member};
-ghost use Rattle.serde_json.specs.View.{members_view};
-ghost use Rattle.settings.specs.Looking.{whole, signed};
-ghost use Rattle.settings.specs.Keys.{is_whole, is_signed, TellsKey};
+ghost use Rattle.serde_json.specs.{Find.get_member, View.members_view};
+ghost use Rattle.settings.specs.{Keys.is_whole, Keys.is_signed, Keys.TellsKey, Looking.whole, Looking.signed};
 
 use crate::looking::{member, signed_in, whole_in};
 use edge_files::Reason;

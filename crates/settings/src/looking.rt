@@ -1,6 +1,5 @@
 ghost use Rattle.std.specs.Prelude.{◌≡◌, ◌≤◌, ◌≤ℤ◌, IfSome, option_map};
-ghost use Rattle.serde_json.specs.Find.{as_array, as_object, get_member};
-ghost use Rattle.serde_json.specs.View.{view, items_view, members_view};
+ghost use Rattle.serde_json.specs.{Find.as_array, Find.as_object, Find.get_member, View.view, View.items_view, View.members_view};
 ghost use Rattle.settings.specs.Looking.{whole_in, signed_in, or_default};
 
 use serde_json::{Map, Value};

@@ -2,11 +2,8 @@ ghost use Rattle.std.specs.Prelude.{◌≡◌, true, false, IfOk, IfErr, IfSome,
 ghost use Rattle.std.specs.List.{list_all};
 ghost use Rattle.events.specs.Words.{mode_text};
 ghost use Rattle.scoring.specs.Limits.{is_mode};
-ghost use Rattle.serde_json.specs.Find.{get_member};
-ghost use Rattle.serde_json.specs.View.{view, members_view};
-ghost use Rattle.settings.specs.Looking.{or_default};
-ghost use Rattle.settings.specs.Keys.{is_bad};
-ghost use Rattle.settings.specs.Modes.{mode_in, modes_in, modes_of, usual_mode};
+ghost use Rattle.serde_json.specs.{Find.get_member, View.view, View.members_view};
+ghost use Rattle.settings.specs.{Keys.is_bad, Looking.or_default, Modes.mode_in, Modes.modes_in, Modes.modes_of, Modes.usual_mode};
 ghost use Rattle.settings.specs.Scoring.{modes_given};
 
 use crate::looking::{member, signed_or};

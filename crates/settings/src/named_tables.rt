@@ -2,12 +2,10 @@ ghost use Rattle.std.specs.Prelude.{◌≡◌, ◌≤◌, false, true, Some, Non
 ghost use Rattle.std.specs.List.{list_all, list_any};
 ghost use Rattle.events.specs.Names.{are_distinct};
 ghost use Rattle.scoring.specs.declared.TheConstants.{MAX_TABLES};
-ghost use Rattle.serde_json.specs.Find.{get_member};
-ghost use Rattle.serde_json.specs.View.{view, items_view, members_view};
-ghost use Rattle.settings.specs.declared.named_tables.NamedTable.{NamedTable};
-ghost use Rattle.settings.specs.Looking.{all_of, list_of, or_default};
-ghost use Rattle.settings.specs.NamedTables.{point_of, point_in, points_in, kind_in, latest_in, table_in, tables_in, given_tables};
-ghost use Rattle.settings.specs.NamedTables.{kind_name, is_right, are_right};
+ghost use Rattle.serde_json.specs.{Find.get_member, View.view, View.items_view, View.members_view};
+ghost use Rattle.settings.specs.{Looking.all_of, Looking.list_of, Looking.or_default, NamedTables.point_of, NamedTables.point_in};
+ghost use Rattle.settings.specs.NamedTables.{points_in, kind_in, latest_in, table_in, tables_in, given_tables, kind_name, is_right};
+ghost use Rattle.settings.specs.{NamedTables.are_right, declared.named_tables.NamedTable.NamedTable};
 
 use crate::looking::{member, signed_in, small_in};
 use events::{Name, Rows};

@@ -2,13 +2,10 @@
 
 ghost use Rattle.std.specs.Prelude.{◌≡◌, ◌||◌, not, bytes_eq, codes, option_copied, option_map, string_bytes};
 ghost use Rattle.std.specs.List.{list_all};
-ghost use Rattle.serde_json.specs.Find.{get_member};
-ghost use Rattle.serde_json.specs.View.{view, members_view};
-ghost use Rattle.settings.specs.Looking.{members_of, has_other_key};
-ghost use Rattle.settings.specs.Keys.{run_keys, traffic_keys, learning_keys, weight_keys, cost_keys, is_in};
-ghost use Rattle.settings.specs.Keys.{is_key, has_unknown_key};
-ghost use Rattle.settings.specs.Modes.{is_mode_name, is_mode_key, has_unknown_mode_key};
-ghost use Rattle.settings.specs.NamedTables.{is_table_key, has_unknown_table_key};
+ghost use Rattle.serde_json.specs.{Find.get_member, View.view, View.members_view};
+ghost use Rattle.settings.specs.Keys.{run_keys, traffic_keys, learning_keys, weight_keys, cost_keys, is_in, is_key, has_unknown_key};
+ghost use Rattle.settings.specs.{Looking.members_of, Looking.has_other_key, Modes.is_mode_name, Modes.is_mode_key};
+ghost use Rattle.settings.specs.{Modes.has_unknown_mode_key, NamedTables.is_table_key, NamedTables.has_unknown_table_key};
 
 use crate::looking::member;
 use events::Mode;

@@ -1,8 +1,6 @@
-ghost use Rattle.std.specs.Prelude.{◌≡◌, IfOk};
-ghost use Rattle.std.specs.List.{filter_map};
+ghost use Rattle.std.specs.{List.filter_map, Prelude.◌≡◌, Prelude.IfOk};
 ghost use Rattle.scoring.specs.Tables.{scoring_rows};
-ghost use Rattle.settings.specs.Numbered.{numbered, by_number};
-ghost use Rattle.settings.specs.Scoring.{scoring_of};
+ghost use Rattle.settings.specs.{Numbered.numbered, Numbered.by_number, Scoring.scoring_of};
 
 use crate::costs::Scoring;
 use crate::named_tables::NamedTable;

@@ -1,13 +1,10 @@
 ghost use Rattle.std.specs.Prelude.{◌≡◌, ◌∷◌, [], Some, IfOk, IfErr, true, false, option_map};
 ghost use Rattle.serde_json.specs.View.{view, members_view};
 ghost use Rattle.records.specs.Faults.{least, Answers, fault_at};
-ghost use Rattle.settings.specs.Looking.{members_of};
+ghost use Rattle.settings.specs.Faults.{value_of, value_tests, settings_fault, settings_of, scoring_values, values_of, file_in, file_of};
+ghost use Rattle.settings.specs.{Faults.file_values, Keys.has_bad_traffic, Keys.has_bad_value, Keys.has_bad_scoring, Looking.members_of};
+ghost use Rattle.settings.specs.{Scoring.scoring_in, Scoring.has_wrong_table, Values.traffic_in, Values.values_in};
 ghost use Rattle.rows.specs.Settings.{AreInRange};
-ghost use Rattle.settings.specs.Keys.{has_bad_traffic, has_bad_value, has_bad_scoring};
-ghost use Rattle.settings.specs.Values.{traffic_in, values_in};
-ghost use Rattle.settings.specs.Scoring.{scoring_in, has_wrong_table};
-ghost use Rattle.settings.specs.Faults.{value_of, value_tests, settings_fault, settings_of, scoring_values, values_of};
-ghost use Rattle.settings.specs.Faults.{file_in, file_of, file_values};
 
 use crate::keys::{given, given_small};
 use crate::names::has_unknown_key;

@@ -3,8 +3,7 @@
 ghost use Rattle.std.specs.Prelude.{◌≡◌, true, false, IfOk, IfErr};
 ghost use Rattle.serde_json.specs.View.{members_view};
 ghost use Rattle.learning.specs.Ranges.{AreWeights, AreInRange};
-ghost use Rattle.settings.specs.Keys.{has_bad_weight, has_bad_learning};
-ghost use Rattle.settings.specs.Values.{strategy_weights_in, learning_in};
+ghost use Rattle.settings.specs.{Keys.has_bad_weight, Keys.has_bad_learning, Values.strategy_weights_in, Values.learning_in};
 
 use crate::keys::{given, given_small};
 use edge_files::Reason;

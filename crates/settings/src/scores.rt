@@ -3,8 +3,7 @@ ghost use Rattle.edge_files.specs.declared.reasons.Reason.TheVariants.{ValueBad,
 ghost use Rattle.scoring.specs.declared.TheConstants.{MAX_TABLES};
 ghost use Rattle.serde_json.specs.View.{members_view};
 ghost use Rattle.records.specs.Faults.{least, Answers, fault_at};
-ghost use Rattle.settings.specs.Keys.{has_bad_scoring, has_bad_cost};
-ghost use Rattle.settings.specs.NamedTables.{are_right};
+ghost use Rattle.settings.specs.{Keys.has_bad_scoring, Keys.has_bad_cost, NamedTables.are_right};
 ghost use Rattle.settings.specs.Scoring.{costs_in, costs_of, with_tables, scoring_in, scoring_of, has_wrong_table};
 
 use crate::costs::{Costs, Scoring};

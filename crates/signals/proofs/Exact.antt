@@ -1,19 +1,12 @@
 -- Spans that meet are exactly what lets two signals be green in one second.
 use Rattle.std.proofs.Common.{◌≡◌, ℕ, ◌+◌, ◌-◌, ◌*◌, ◌<◌, ◌≤◌, refl, sym, ◌∙◌, ap, subst, arith, inl, inr, true, Bool, ◌&&◌, List, [], ◌∷◌, zero, suc}
-use Rattle.std.specs.Prelude.{◌%◌, nat_lt, nat_le, min}
-use Rattle.std.specs.Bool.{Decides}
-use Rattle.std.specs.List.{list_any}
-use Rattle.std.proofs.lemmas.Bool.{and_parts, and_from, or_cases, or_left, or_right, lt-ltb, ltb-true, le-leb, leb-true, false≢true}
-use Rattle.std.proofs.lemmas.Bool.Decides.{Decides-below_or, same_from_decides}
-use Rattle.std.proofs.lemmas.Nat.{mod_below}
-use Rattle.std.specs.Int.{IsGcd}
-use Rattle.std.proofs.lemmas.Nat.Gcd.{IsGcd-swap}
 use Rattle.std.proofs.Math.Nat.{mod-add-mod}
+use Rattle.std.proofs.lemmas.Bool.{and_parts, and_from, or_cases, or_left, or_right, lt-ltb, ltb-true, le-leb, leb-true, false≢true, Decides.Decides-below_or}
+use Rattle.std.proofs.lemmas.{Bool.Decides.same_from_decides, Nat.mod_below, Nat.Gcd.IsGcd-swap}
+use Rattle.std.specs.{Bool.Decides, Int.IsGcd, List.list_any, Prelude.◌%◌, Prelude.nat_lt, Prelude.nat_le, Prelude.min}
 use Rattle.rows.specs.Greens.{Phases, IsLawful, holds, phase_of, is_green}
-use Rattle.signals.specs.Arcs.{IsBetween, arc_of, meet, meets_some, some_meet}
-use Rattle.signals.specs.Clash.{clash_below, clash, AreGreenTogether}
-use Rattle.signals.proofs.Numbers.{behind_both, place_is, same_over, place_again}
-use Rattle.signals.proofs.Meeting.{arc, meet_where, meet_there}
+use Rattle.signals.proofs.{Meeting.arc, Meeting.meet_where, Meeting.meet_there, Numbers.behind_both, Numbers.place_is, Numbers.same_over, Numbers.place_again}
+use Rattle.signals.specs.{Arcs.IsBetween, Arcs.arc_of, Arcs.meet, Arcs.meets_some, Arcs.some_meet, Clash.clash_below, Clash.clash, Clash.AreGreenTogether}
 
 -- an element that passes, with all other tests that it passes
 pub some_of : {X : Type 0} (p : X → Bool) (xs : List X) → list_any p xs ≡ true → (x : X) × (p x ≡ true) × ((q : X → Bool) → q x ≡ true → list_any q xs ≡ true)

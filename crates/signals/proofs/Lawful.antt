@@ -1,24 +1,20 @@
 -- In a file without a fault each signal has a cycle of 1 to 3,600 seconds and an offset below it, and no conflict that is left is a clash.
-use Rattle.records.proofs.Common.{◌≡◌, List, ℕ, length, ◌∙◌, arith, [], sym, None, Some, ◌∷◌, refl, Option, ◌+◌, get_or, ◌≤◌, take, subst, true, false, Bool, cond, suc, zero, not, ◌||◌}
-use Rattle.records.proofs.Common.{Reason, field, holds_name, Row, nat_eq, nat_le, nat_lt, is_none, unwrap_or, take_all}
-use Rattle.std.specs.Prelude.{find, map, option_map, All}
+use Rattle.records.proofs.Common.{◌≡◌, List, ℕ, length, ◌∙◌, arith, [], sym, None, Some, ◌∷◌, refl, Option, ◌+◌, get_or, ◌≤◌, take, subst, true, false, Bool}
+use Rattle.records.proofs.Common.{cond, suc, zero, not, ◌||◌, Reason, field, holds_name, Row, nat_eq, nat_le, nat_lt, is_none, unwrap_or, take_all}
+use Rattle.records.proofs.Unrefused.{none_applies, number_in_range, each_none}
+use Rattle.records.specs.{Fields.is_blank, Files.optional_head_reason, Files.body_of}
 use Rattle.std.proofs.lemmas.Bool.{or_parts, and_parts, leb-true, ltb-true, not-false, false≢true}
 use Rattle.std.proofs.lemmas.List.Elements.{All-replicate, All-set, All-map, All-weaker, All-from_recursion, recursion_from_All}
-use Rattle.std.specs.List.{list_all, AllByRecursion as Each}
+use Rattle.std.specs.{List.list_all, List.AllByRecursion as Each, Prelude.find, Prelude.map, Prelude.option_map, Prelude.All}
 use Rattle.edge_files.specs.declared.reasons.Reason.TheVariants as reason
-use Rattle.records.specs.Fields.{is_blank}
-use Rattle.records.specs.Files.{optional_head_reason, body_of}
-use Rattle.records.proofs.Unrefused.{none_applies, number_in_range, each_none}
 use Rattle.limits.specs.declared.TheConstants.{MAX_CYCLE, MAX_SPANS}
 use Rattle.rows.specs.Greens.{Phases, IsLawful, always, green_at}
-use Rattle.signals.specs.declared.conflict.Conflict.{Conflict}
-use Rattle.signals.specs.declared.kinds.RowKind.{RowKind}
-use Rattle.signals.specs.declared.kinds.RowKind.TheVariants as kind
-use Rattle.signals.specs.Spans.{has_numbers, span_of, ascend}
-use Rattle.signals.specs.Rows.{signals_header, Seen, link_in, texts_in, cycle_in, offset_in, phases_in, has_bad_number, has_signal, is_wrong, texts_reason, signal_reason, kind_of, kind_reason, row_reason, with_kind, with_row, with_rows, seen_in}
+use Rattle.signals.proofs.{Exact.clash_decides, Steps.seen_more}
+use Rattle.signals.specs.Rows.{signals_header, Seen, link_in, texts_in, cycle_in, offset_in, phases_in, has_bad_number, has_signal, is_wrong, texts_reason}
+use Rattle.signals.specs.Rows.{signal_reason, kind_of, kind_reason, row_reason, with_kind, with_row, with_rows, seen_in}
 use Rattle.signals.specs.Signals.{reason_at, rows_fault, signals_fault, or_always, signal_rows_of, is_clash, first_clash, clash_fault, AreNeverGreen}
-use Rattle.signals.proofs.Exact.{clash_decides}
-use Rattle.signals.proofs.Steps.{seen_more}
+use Rattle.signals.specs.{Spans.has_numbers, Spans.span_of, Spans.ascend, declared.conflict.Conflict.Conflict, declared.kinds.RowKind.RowKind}
+use Rattle.signals.specs.declared.kinds.RowKind.TheVariants as kind
 
 -- a signal against whose row nothing speaks
 row_lawful : (links : List (List ℕ)) (signals : List (Option Phases)) (row : Row) → signal_reason links signals row ≡ None → IsLawful (phases_in row)

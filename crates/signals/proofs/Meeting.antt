@@ -1,13 +1,9 @@
 -- Arcs that meet have a second in common.
 use Rattle.std.proofs.Common.{◌≡◌, ℕ, ◌+◌, ◌-◌, ◌*◌, ◌/◌, ◌<◌, ◌≤◌, refl, sym, ◌∙◌, ap, arith, inl, inr, true, ◌&&◌, ◌||◌}
-use Rattle.std.specs.Prelude.{◌%◌, nat_lt}
-use Rattle.std.proofs.lemmas.Bool.{cases_lt, and_parts, and_from, or_cases, or_left, or_right, lt-ltb, ltb-true, le-leb, lt-leb}
-use Rattle.std.proofs.lemmas.Bool.Decides.{nat_tests}
-use Rattle.std.proofs.lemmas.Nat.{mod_below}
 use Rattle.std.proofs.Math.Nat.{div-add-mod, add-mul-mod_self_left, mod-add-mod, mod-eq_of_lt}
-use Rattle.signals.specs.Arcs.{seconds_to, meet}
-use Rattle.signals.specs.declared.arcs.Arc.{Arc}
-use Rattle.signals.proofs.Numbers.{without_both, around}
+use Rattle.std.proofs.lemmas.Bool.{cases_lt, and_parts, and_from, or_cases, or_left, or_right, lt-ltb, ltb-true, le-leb, lt-leb, Decides.nat_tests}
+use Rattle.std.{proofs.lemmas.Nat.mod_below, specs.Prelude.◌%◌, specs.Prelude.nat_lt}
+use Rattle.signals.{proofs.Numbers.without_both, proofs.Numbers.around, specs.Arcs.seconds_to, specs.Arcs.meet, specs.declared.arcs.Arc.Arc}
 
 -- so many seconds from a on, on a circle of g
 abbrev pub arc : ℕ → ℕ → ℕ → Arc

@@ -1,9 +1,7 @@
 -- What two cycles leave over of their greatest common divisor.
 use Rattle.std.proofs.Common.{◌≡◌, ℕ, ◌+◌, ◌-◌, ◌*◌, ◌/◌, ◌<◌, ◌≤◌, refl, sym, ◌∙◌, ap, arith, inl, inr, ◌⊎◌}
-use Rattle.std.specs.Prelude.{◌%◌}
-use Rattle.std.proofs.lemmas.Bool.{cases_lt}
-use Rattle.std.specs.Int.{IsGcd}
 use Rattle.std.proofs.Math.Nat.{div-add-mod, add-mul-mod_self_left, mod-add-mod, add-mod_right, mod-eq_of_lt, mod-eq-sub-mod, mod-mod_of_dvd}
+use Rattle.std.{proofs.lemmas.Bool.cases_lt, specs.Int.IsGcd, specs.Prelude.◌%◌}
 use Rattle.signals.specs.Arcs.{IsOver, IsBetween}
 
 -- A STEP OF EUCLID'S

@@ -1,24 +1,17 @@
 -- The rows of signals.csv, read one after the other up to the first fault.
-use Rattle.records.proofs.Common.{◌≡◌, List, ap, ℕ, length, ◌∙◌, arith, map, [], ◌<◌, sym, None, Some, ◌++◌, ◌∷◌, refl, Option, ◌+◌, get_or, take, subst, true, Bool, cond, suc}
-use Rattle.std.proofs.Common.{◌≢◌, IfOk}
+use Rattle.records.proofs.Common.{◌≡◌, List, ap, ℕ, length, ◌∙◌, arith, map, [], ◌<◌, sym, None, Some, ◌++◌, ◌∷◌, refl, Option, ◌+◌, get_or, take, subst, true}
+use Rattle.records.proofs.Common.{Bool, cond, suc, Err, Ok, Result, length-map, take_all, take_more, fields_of, ByteRecord, Reason, RowStop, Answers}
+use Rattle.records.proofs.{Common.first_fault, Common.body_of, Common.TellsStop, Common.Row, Common.nat_eq, Faulty.none_of_none, Faulty.one_more}
+use Rattle.records.{proofs.Faulty.fault_here, proofs.Faulty.answers_head, proofs.InTurn.row_at, proofs.Numbering.numbered_within, specs.Faults.unless}
+use Rattle.std.proofs.{Common.◌≢◌, Common.IfOk, lemmas.Bool.ne_eqb, lemmas.Bool.eq-eqb, lemmas.List.length-take-le, lemmas.List.length-set}
+use Rattle.std.{proofs.lemmas.List.length-replicate, specs.Prelude.replicate}
 use Rattle.edge_files.specs.declared.reasons.RowFault.{RowFault}
-use Rattle.records.proofs.Common.{Err, Ok, Result, length-map, take_all, take_more, fields_of, ByteRecord, Reason, RowStop, Answers, first_fault, body_of, TellsStop, Row, nat_eq}
-use Rattle.std.specs.Prelude.{replicate}
-use Rattle.std.proofs.lemmas.Bool.{ne_eqb, eq-eqb}
-use Rattle.std.proofs.lemmas.List.{length-take-le, length-set, length-replicate}
 use Rattle.edge_files.specs.declared.reasons.Reason.TheVariants as reason
 use Rattle.edge_files.specs.declared.reasons.RowStop.TheVariants as stop
-use Rattle.records.specs.Faults.{unless}
-use Rattle.records.proofs.Faulty.{none_of_none, one_more, fault_here, answers_head}
-use Rattle.records.proofs.InTurn.{row_at}
-use Rattle.records.proofs.Numbering.{numbered_within}
-use Rattle.signals.specs.declared.kinds.RowKind.{RowKind}
-use Rattle.signals.specs.declared.kinds.RowKind.TheVariants as kind
-use Rattle.signals.specs.declared.lists.Signals.{Signals}
-use Rattle.signals.specs.declared.signals_read.SignalsRead.{SignalsRead}
 use Rattle.signals.specs.Rows.{Seen, kind_of, kind_reason, row_reason, with_kind, with_row, with_rows, seen_in}
-use Rattle.signals.specs.Signals.{SignalRows, reason_at, rows_fault, or_always, signal_rows_of}
-use Rattle.signals.specs.Views.{signal_view, Reads, AreSeen}
+use Rattle.signals.specs.{Signals.SignalRows, Signals.reason_at, Signals.rows_fault, Signals.or_always, Signals.signal_rows_of, Views.signal_view, Views.Reads}
+use Rattle.signals.specs.{Views.AreSeen, declared.kinds.RowKind.RowKind, declared.lists.Signals.Signals, declared.signals_read.SignalsRead.SignalsRead}
+use Rattle.signals.specs.declared.kinds.RowKind.TheVariants as kind
 
 -- the number of a link is among those of the links
 pub ruleset known_links = (numbered_within)

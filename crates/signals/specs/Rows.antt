@@ -1,21 +1,16 @@
 -- The rows of signals.csv: `kind,link,other,cycle,offset,greens`.
-use Rattle.std.specs.Prelude.{ℕ, ◌+◌, ◌-◌, Bool, false, not, ◌&&◌, ◌||◌, nat_le, nat_lt, nat_eq, is_none, is_some, bytes_eq, codes, unwrap_or, replicate, List, [], ◌∷◌, ◌++◌, length, map, get_or, set, Option, None, Some, if◌then◌else◌}
 use Rattle.std.specs.List.{list_all}
+use Rattle.std.specs.Prelude.{ℕ, ◌+◌, ◌-◌, Bool, false, not, ◌&&◌, ◌||◌, nat_le, nat_lt, nat_eq, is_none, is_some, bytes_eq, codes, unwrap_or, replicate, List}
+use Rattle.std.specs.Prelude.{[], ◌∷◌, ◌++◌, length, map, get_or, set, Option, None, Some, if◌then◌else◌}
 use Rattle.limits.specs.declared.TheConstants.{MAX_CYCLE, MAX_SPANS, MAX_CONFLICTS}
 use Rattle.edge_files.specs.declared.reasons.Reason.{Reason}
 use Rattle.edge_files.specs.declared.reasons.Reason.TheVariants as reason
 use Rattle.events.specs.Names.{number_of}
-use Rattle.records.specs.Rows.{Row}
-use Rattle.records.specs.Fields.{field, holds_name, is_blank}
-use Rattle.records.specs.Lists.{items_in}
-use Rattle.records.specs.Numbers.{number_in}
-use Rattle.records.specs.Faults.{least}
+use Rattle.records.specs.{Faults.least, Fields.field, Fields.holds_name, Fields.is_blank, Lists.items_in, Numbers.number_in, Rows.Row}
 use Rattle.rows.specs.Greens.{Phases}
-use Rattle.signals.specs.declared.conflict.Conflict.{Conflict}
-use Rattle.signals.specs.declared.kinds.RowKind.{RowKind}
-use Rattle.signals.specs.declared.kinds.RowKind.TheVariants as kind
-use Rattle.signals.specs.declared.spans.SpanText.{SpanText}
 use Rattle.signals.specs.Spans.{span_text, has_numbers, span_of, ascend}
+use Rattle.signals.specs.declared.{conflict.Conflict.Conflict, kinds.RowKind.RowKind, spans.SpanText.SpanText}
+use Rattle.signals.specs.declared.kinds.RowKind.TheVariants as kind
 
 abbrev pub signals_header : List (List ℕ)
 signals_header = codes "kind" ∷ codes "link" ∷ codes "other" ∷ codes "cycle" ∷ codes "offset" ∷ codes "greens" ∷ []

@@ -1,15 +1,10 @@
 -- The file signals.csv.
 use Rattle.std.specs.Prelude.{◌≡◌, ℕ, Bool, true, ◌&&◌, nat_lt, List, [], length, map, take, get_or, find, unwrap_or, Option, option_map}
-use Rattle.edge_files.specs.declared.reasons.Reason.{Reason}
+use Rattle.edge_files.specs.declared.reasons.{Reason.Reason, RowFault.RowFault}
 use Rattle.edge_files.specs.declared.reasons.Reason.TheVariants as reason
-use Rattle.edge_files.specs.declared.reasons.RowFault.{RowFault}
-use Rattle.records.specs.Rows.{Row}
-use Rattle.records.specs.Faults.{first_fault}
-use Rattle.records.specs.Files.{optional_head_reason, body_of}
+use Rattle.records.specs.{Faults.first_fault, Files.optional_head_reason, Files.body_of, Rows.Row}
 use Rattle.rows.specs.Greens.{Phases, always, is_green, green_at}
-use Rattle.signals.specs.declared.conflict.Conflict.{Conflict}
-use Rattle.signals.specs.Clash.{clash}
-use Rattle.signals.specs.Rows.{signals_header, row_reason, seen_in}
+use Rattle.signals.specs.{Clash.clash, Rows.signals_header, Rows.row_reason, Rows.seen_in, declared.conflict.Conflict.Conflict}
 
 -- why the row at a place is refused, by the rows before it
 unfoldable pub reason_at : List (List ℕ) → List (ℕ × ℕ) → List Row → ℕ → Option Reason

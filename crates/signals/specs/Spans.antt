@@ -1,8 +1,7 @@
 -- The spans of a signal: `FROM-TO` joined by single spaces.
 use Rattle.std.specs.Prelude.{ℕ, Bool, true, not, ◌&&◌, ◌||◌, nat_le, nat_lt, nat_eq, is_some, unwrap_or, List, [], ◌∷◌, length}
 use Rattle.limits.specs.declared.TheConstants.{MAX_CYCLE}
-use Rattle.records.specs.Lists.{part, parts_of}
-use Rattle.records.specs.Numbers.{number_in}
+use Rattle.records.specs.{Lists.part, Lists.parts_of, Numbers.number_in}
 use Rattle.signals.specs.declared.spans.SpanText.{SpanText}
 
 -- what the parts around each `-` say: a span has exactly one `-`; its numbers are seconds from 0 to 3,600

@@ -2,10 +2,7 @@
 use Rattle.std.specs.Prelude.{◌≡◌, ℕ, true, length, Option, None, Some, Result, Ok, Err}
 use Rattle.std.specs.List.{list_all}
 use Rattle.edge_files.specs.declared.reasons.Reason.{Reason}
-use Rattle.signals.specs.declared.lists.Signals.{Signals}
-use Rattle.signals.specs.declared.signals_read.SignalsRead.{SignalsRead}
-use Rattle.signals.specs.Rows.{Seen}
-use Rattle.signals.specs.Signals.{SignalRows, is_among}
+use Rattle.signals.specs.{Rows.Seen, Signals.SignalRows, Signals.is_among, declared.lists.Signals.Signals, declared.signals_read.SignalsRead.SignalsRead}
 
 -- the signals of all links, and the conflicts
 abbrev pub signal_view : Signals → SignalRows

@@ -2,8 +2,7 @@
 //! exactly where they leave the same over of the greatest common divisor of the cycles. So the spans are compared as arcs of a circle of so
 //! many seconds.
 
-ghost use Rattle.std.specs.Prelude.{◌≡◌, ◌<◌, ◌≤◌};
-ghost use Rattle.std.specs.Int.{IsGcd};
+ghost use Rattle.std.specs.{Int.IsGcd, Prelude.◌≡◌, Prelude.◌<◌, Prelude.◌≤◌};
 ghost use Rattle.limits.specs.declared.TheConstants.{MAX_CYCLE};
 ghost use Rattle.signals.specs.Arcs.{IsBetween, arc_of, seconds_to, meet, meets_some, some_meet};
 

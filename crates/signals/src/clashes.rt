@@ -1,7 +1,5 @@
-ghost use Rattle.std.specs.Prelude.{◌≡◌, ◌<◌, ◌↔◌, IsTrue, length, true};
-ghost use Rattle.std.specs.List.{list_all};
-ghost use Rattle.signals.specs.Clash.{clash, AreGreenTogether};
-ghost use Rattle.signals.specs.Signals.{is_among, is_clash, first_clash};
+ghost use Rattle.std.specs.{List.list_all, Prelude.◌≡◌, Prelude.◌<◌, Prelude.◌↔◌, Prelude.IsTrue, Prelude.length, Prelude.true};
+ghost use Rattle.signals.specs.{Clash.clash, Clash.AreGreenTogether, Signals.is_among, Signals.is_clash, Signals.first_clash};
 
 use crate::arcs::{common_divisor, some_meet};
 use crate::conflict::{Conflict, ConflictList};

@@ -1,5 +1,4 @@
-ghost use Rattle.std.specs.Prelude.{◌≡◌, length, true};
-ghost use Rattle.std.specs.List.{list_all};
+ghost use Rattle.std.specs.{List.list_all, Prelude.◌≡◌, Prelude.length, Prelude.true};
 ghost use Rattle.signals.specs.Signals.{is_among};
 
 use crate::conflict::ConflictList;

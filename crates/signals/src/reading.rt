@@ -1,8 +1,7 @@
 ghost use Rattle.std.specs.Prelude.{◌≡◌, ◌++◌, ◌∷◌, [], ◌<◌, ◌^◌, length, map, replicate, true, None, IfOk};
 ghost use Rattle.std.specs.List.{list_all};
 ghost use Rattle.csv.specs.Records.{fields_of};
-ghost use Rattle.records.specs.Faults.{Answers};
-ghost use Rattle.records.specs.Files.{body_of};
+ghost use Rattle.records.specs.{Faults.Answers, Files.body_of};
 ghost use Rattle.signals.specs.Rows.{signal_reason, conflict_reason, row_reason, with_signal, conflict_of, with_row};
 ghost use Rattle.signals.specs.Signals.{rows_fault, signals_fault, or_always, signal_rows_of, is_among};
 ghost use Rattle.signals.specs.Views.{signal_view, seen_of, Reads, AreSeen, ReadSeen};

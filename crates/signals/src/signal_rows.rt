@@ -1,8 +1,7 @@
 ghost use Rattle.std.specs.Prelude.{◌≡◌, ◌<◌, length, IfOk, unwrap_or};
 ghost use Rattle.csv.specs.Records.{fields_of};
 ghost use Rattle.records.specs.Faults.{unless};
-ghost use Rattle.signals.specs.Rows.{has_signal, signal_reason, link_in, phases_in};
-ghost use Rattle.signals.specs.Rows.{end_of, are_apart, other_in, conflict_reason};
+ghost use Rattle.signals.specs.Rows.{has_signal, signal_reason, link_in, phases_in, end_of, are_apart, other_in, conflict_reason};
 
 use crate::spans::{are_spans, ascend, have_numbers, span_texts, spans_of};
 use csv::ByteRecord;

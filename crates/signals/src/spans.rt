@@ -1,5 +1,4 @@
-ghost use Rattle.std.specs.Prelude.{◌≡◌, map, IfOk};
-ghost use Rattle.std.specs.List.{list_all};
+ghost use Rattle.std.specs.{List.list_all, Prelude.◌≡◌, Prelude.map, Prelude.IfOk};
 ghost use Rattle.signals.specs.Spans.{text_of, span_text, has_numbers, span_of, ascend};
 
 use limits::MAX_CYCLE;

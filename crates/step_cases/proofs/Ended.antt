@@ -1,11 +1,8 @@
 -- Partitions at the end.
 use Rattle.std.proofs.Common.{◌≡◌, ℕ, ◌<◌, Bool, false, List, arith}
 use Rattle.std.specs.Prelude.{EachIndex}
-use Rattle.step_core.specs.declared.part.Border.{Border}
-use Rattle.step_core.specs.declared.wheel.Wheel.{Wheel}
-use Rattle.step_core.specs.Nets.{Net}
-use Rattle.step_core.specs.Views.{PartView}
 use Rattle.step_core.specs.Cores.{IsCore, AllAt, done_at, is_stopped}
+use Rattle.step_core.specs.{Nets.Net, Views.PartView, declared.part.Border.Border, declared.wheel.Wheel.Wheel}
 
 -- all of them are, where each has done all its seconds
 pub at_end : {T P : Type 0} (nothing : P) (N : Net) (borders : ℕ → List Border) (see : T → PartView P) (stands spent : T → Type 0)

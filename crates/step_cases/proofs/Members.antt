@@ -1,12 +1,8 @@
 -- A bundle of one member.
-use Rattle.std.proofs.Common.{◌≡◌, ℕ, zero, suc, ◌<◌, List, [], ◌∷◌, length, slice_index_or, sym, ap, ◌∙◌}
-use Rattle.std.proofs.Common.{refl, subst, arith}
+use Rattle.std.proofs.Common.{◌≡◌, ℕ, zero, suc, ◌<◌, List, [], ◌∷◌, length, slice_index_or, sym, ap, ◌∙◌, refl, subst, arith}
 use Rattle.cells.specs.declared.board.Board.{Board}
-use Rattle.step_core.specs.declared.part.Border.{Border}
-use Rattle.step_core.specs.Views.{PartView}
-use Rattle.workers.specs.declared.members.ParcelsOf.{ParcelsOf}
-use Rattle.workers.specs.declared.members.Member.{Member}
-use Rattle.workers.specs.Members.{IsMember, AreMembers}
+use Rattle.step_core.specs.{Views.PartView, declared.part.Border.Border}
+use Rattle.workers.specs.{Members.IsMember, Members.AreMembers, declared.members.Member.Member, declared.members.ParcelsOf.ParcelsOf}
 
 one_at : {A : Type 0} (x d : A) (i : ℕ) → i < 1 → slice_index_or (x ∷ []) i d ≡ x
 one_at x d zero lt = refl

@@ -3,8 +3,7 @@ use Rattle.std.proofs.Common.{◌≡◌, ℕ, ◌+◌, ◌<◌, List, ◌∙◌,
 use Rattle.std.proofs.lemmas.List.{get_or-set_same, get_or-set_other}
 use mathlib.Core.Logic.{dite}
 use native.Mathlib.Decide.{ℕ_discrete}
-use Rattle.step_core.specs.declared.part.Border.{Border}
-use Rattle.step_core.specs.Exchanges.{AreListed, neighbour_at, lag_at}
+use Rattle.step_core.specs.{Exchanges.AreListed, Exchanges.neighbour_at, Exchanges.lag_at, declared.part.Border.Border}
 
 -- one lag more
 pub lag_more : (rows : List Border) (k : ℕ) (old new : List ℕ) → AreListed rows → length old ≡ 64 → k < length rows

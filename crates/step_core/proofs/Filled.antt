@@ -2,11 +2,8 @@
 use Rattle.std.proofs.Common.{◌≡◌, ◌≢◌, ℕ, ◌+◌, ◌<◌, ◌≤◌, List, ◌∙◌, sym, subst, subst₂, arith}
 use mathlib.Core.Logic.{dite}
 use native.Mathlib.Decide.{ℕ_discrete}
-use Rattle.step_core.specs.declared.part.Border.{Border}
-use Rattle.step_core.specs.declared.wheel.Wheel.{Wheel}
-use Rattle.step_core.specs.Wheels.{row_of, lies, IsFilled, HasRoom, IsPut}
-use Rattle.step_core.specs.Exchanges.{AreTaken}
-use Rattle.step_core.proofs.Rows.{rows_apart, other_row, same_place, same_flag}
+use Rattle.step_core.{proofs.Rows.rows_apart, proofs.Rows.other_row, proofs.Rows.same_place, proofs.Rows.same_flag, specs.Exchanges.AreTaken}
+use Rattle.step_core.specs.{Wheels.row_of, Wheels.lies, Wheels.IsFilled, Wheels.HasRoom, Wheels.IsPut, declared.part.Border.Border, declared.wheel.Wheel.Wheel}
 
 pub filled_at : {P : Type 0} (nothing : P) (R : ℕ → P → Type 0) (s z t v lag a : ℕ) (w : Wheel P) → s ≡ z → t ≡ v
     → IsFilled nothing R s t lag a w → IsFilled nothing R z v lag a w

@@ -1,12 +1,10 @@
 -- A wheel into which a parcel was put.
 use Rattle.std.proofs.Common.{◌≡◌, ◌<◌, arith, ℕ, Bool, true, false, List, ◌∙◌, get_or, set, ap, refl, sym}
-use Rattle.std.proofs.lemmas.Bool.{true≢false}
-use Rattle.std.proofs.lemmas.List.{get_or-set_same, get_or-set_other}
+use Rattle.std.proofs.lemmas.{Bool.true≢false, List.get_or-set_same, List.get_or-set_other}
 use mathlib.Core.Logic.{dite}
 use native.Mathlib.Decide.{ℕ_discrete}
-use Rattle.step_core.specs.declared.wheel.Wheel.{Wheel}
-use Rattle.step_core.specs.Wheels.{row_of, place_in, is_flagged, lies, IsWhole, IsNoted, IsPut}
-use Rattle.step_core.proofs.Rows.{same_flag}
+use Rattle.step_core.{proofs.Rows.same_flag, specs.Wheels.row_of}
+use Rattle.step_core.specs.{Wheels.place_in, Wheels.is_flagged, Wheels.lies, Wheels.IsWhole, Wheels.IsNoted, Wheels.IsPut, declared.wheel.Wheel.Wheel}
 
 module _ {P : Type 0} (nothing : P) where
   -- a parcel with nothing in it need not be put where nothing lies

@@ -1,7 +1,6 @@
 -- Which seconds share a row of a wheel.
 use Rattle.std.proofs.Common.{◌≡◌, ◌≢◌, ℕ, ◌+◌, ◌*◌, ◌<◌, get_or, false, ap, arith}
-use Rattle.step_core.specs.declared.wheel.Wheel.{Wheel}
-use Rattle.step_core.specs.Wheels.{row_of, is_flagged, lies}
+use Rattle.step_core.specs.{Wheels.row_of, Wheels.is_flagged, Wheels.lies, declared.wheel.Wheel.Wheel}
 
 -- seconds of a whole turn have rows of their own
 pub rows_apart : (u v : ℕ) → u < v → v < u + 64 → row_of v ≢ row_of u

@@ -1,13 +1,9 @@
 -- A second of a partition that was done.
-use Rattle.std.proofs.Common.{◌≡◌, ℕ, ◌<◌, false, true≢false, List, ◌∙◌, length, get_or, set, sym, subst, subst₂}
-use Rattle.std.proofs.Common.{Result, Ok, Err}
-use Rattle.std.specs.Result.{OnOk, is_err}
+use Rattle.std.proofs.Common.{◌≡◌, ℕ, ◌<◌, false, true≢false, List, ◌∙◌, length, get_or, set, sym, subst, subst₂, Result, Ok, Err}
 use Rattle.std.proofs.lemmas.List.{get_or-set_same, get_or-set_other, get_or_default, length-set}
-use Rattle.step_core.specs.declared.part.Border.{Border}
-use Rattle.step_core.specs.declared.wheel.Wheel.{Wheel}
-use Rattle.step_core.specs.Views.{in_place, HasSent}
-use Rattle.step_core.specs.Wheels.{due_in, IsPut}
+use Rattle.std.specs.Result.{OnOk, is_err}
 use Rattle.step_core.specs.Exchanges.{neighbour_at, AreTaken, HaveSent, IsReady, HasExchanged}
+use Rattle.step_core.specs.{Views.in_place, Views.HasSent, Wheels.due_in, Wheels.IsPut, declared.part.Border.Border, declared.wheel.Wheel.Wheel}
 
 -- p has taken what its neighbours sent out of its own wheel, and put what it made into theirs
 module _ {P : Type 0} (nothing : P) (right : ℕ → ℕ → ℕ → P → Type 0) (t p : ℕ) (rows : List Border) (wheels : List (Wheel P))

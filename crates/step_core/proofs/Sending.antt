@@ -3,12 +3,9 @@ use Rattle.std.proofs.Common.{◌≡◌, ◌≢◌, ℕ, ◌+◌, ◌<◌, List,
 use Rattle.std.proofs.lemmas.List.{get_or-set_same, get_or-set_other, get_or_default, length-set, set-get_or}
 use mathlib.Core.Logic.{dite}
 use native.Mathlib.Decide.{ℕ_discrete}
-use Rattle.step_core.specs.declared.part.Border.{Border}
-use Rattle.step_core.specs.declared.wheel.Wheel.{Wheel}
-use Rattle.step_core.specs.Views.{PartView, Stays, in_place}
-use Rattle.step_core.specs.Wheels.{due_in, lies, IsNoted, IsPut}
-use Rattle.step_core.specs.Exchanges.{neighbour_at, HaveRoom, AreSent}
 use Rattle.step_core.proofs.Putting.{put_nothing}
+use Rattle.step_core.specs.{Exchanges.neighbour_at, Exchanges.HaveRoom, Exchanges.AreSent, Views.PartView, Views.Stays, Views.in_place, Wheels.due_in}
+use Rattle.step_core.specs.{Wheels.lies, Wheels.IsNoted, Wheels.IsPut, declared.part.Border.Border, declared.wheel.Wheel.Wheel}
 
 -- one of a list in which one is
 one_of : {X : Type 0} (xs : List X) (k : ℕ) → k < length xs → X

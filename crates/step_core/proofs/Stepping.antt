@@ -1,19 +1,13 @@
 -- A step of a core: from a core that stands to one that stands.
-use Rattle.std.proofs.Common.{◌≡◌, ◌≢◌, ℕ, ◌+◌, ◌-◌, ◌<◌, ◌≤◌, List, [], ◌∷◌, ◌++◌}
-use Rattle.std.proofs.Common.{◌∙◌, length, get_or, set, take, drop, ap, refl, sym, subst, arith, Bool, true}
-use Rattle.std.proofs.Common.{false}
-use Rattle.std.proofs.lemmas.Bool.{true≢false}
-use Rattle.std.proofs.lemmas.List.{get_or-set_same, get_or-set_other, length-set}
+use Rattle.std.proofs.Common.{◌≡◌, ◌≢◌, ℕ, ◌+◌, ◌-◌, ◌<◌, ◌≤◌, List, [], ◌∷◌, ◌++◌, ◌∙◌, length, get_or, set, take, drop, ap, refl, sym, subst, arith, Bool}
+use Rattle.std.proofs.{Common.true, Common.false, lemmas.Bool.true≢false, lemmas.List.get_or-set_same, lemmas.List.get_or-set_other, lemmas.List.length-set}
 use mathlib.Core.Logic.{dite}
 use native.Mathlib.Decide.{ℕ_discrete}
-use Rattle.step_core.specs.declared.part.Border.{Border}
-use Rattle.step_core.specs.declared.wheel.Wheel.{Wheel}
-use Rattle.step_core.specs.Nets.{Net, MayStep, border_at}
-use Rattle.step_core.specs.Views.{PartView, IsAt, IsHeard}
-use Rattle.step_core.specs.Wheels.{IsNoted, lag_in, due_in, lies, IsFilled, HasRoom}
+use Rattle.step_core.proofs.Filled.{filled_at, room_at, taken_room, taken_filled, put_room, put_filled, beside_room, beside_filled}
 use Rattle.step_core.specs.Cores.{IsCore, done_at, is_stopped}
 use Rattle.step_core.specs.Exchanges.{neighbour_at, lag_at, IsBeside, IsReady, IsGiven, AreTaken, HasTaken, HasExchanged}
-use Rattle.step_core.proofs.Filled.{filled_at, room_at, taken_room, taken_filled, put_room, put_filled, beside_room, beside_filled}
+use Rattle.step_core.specs.{Nets.Net, Nets.MayStep, Nets.border_at, Views.PartView, Views.IsAt, Views.IsHeard, Wheels.IsNoted, Wheels.lag_in, Wheels.due_in}
+use Rattle.step_core.specs.{Wheels.lies, Wheels.IsFilled, Wheels.HasRoom, declared.part.Border.Border, declared.wheel.Wheel.Wheel}
 
 take_front : {A : Type 0} (xs ys : List A) → take (length xs) (xs ++ ys) ≡ xs
 take_front {A} [] ys = refl

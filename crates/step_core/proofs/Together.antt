@@ -2,11 +2,8 @@
 use Rattle.std.proofs.Common.{ℕ, ◌<◌, Bool, List, length, get_or, subst₂, arith}
 use mathlib.Core.Logic.{dite}
 use native.Mathlib.Decide.{dec_lt}
-use Rattle.step_core.specs.declared.part.Border.{Border}
-use Rattle.step_core.specs.declared.wheel.Wheel.{Wheel}
-use Rattle.step_core.specs.Nets.{Net, IsNet, MayStep}
-use Rattle.step_core.specs.Views.{PartView, IsAt, EachAt}
-use Rattle.step_core.specs.Cores.{IsCore, AllAt, AreRound, done_at}
+use Rattle.step_core.specs.{Cores.IsCore, Cores.AllAt, Cores.AreRound, Cores.done_at, Nets.Net, Nets.IsNet, Nets.MayStep, Views.PartView, Views.IsAt}
+use Rattle.step_core.specs.{Views.EachAt, declared.part.Border.Border, declared.wheel.Wheel.Wheel}
 
 -- each of them stands after so many
 pub each_at : {T P : Type 0} (nothing : P) (N : Net) (borders : ℕ → List Border) (see : T → PartView P) (stands spent : T → Type 0)

@@ -1,12 +1,8 @@
 -- A core: partitions at their own seconds, and what they sent to one another and did not absorb yet.
 use Rattle.std.specs.Prelude.{◌≡◌, ℕ, ◌+◌, ◌<◌, ◌≤◌, Bool, true, false, List, [], length, get_or, set}
-use Rattle.step_core.specs.declared.part.Border.{Border}
-use Rattle.step_core.specs.declared.cores.Step.{Step}
-use Rattle.step_core.specs.declared.cores.Step.TheVariants.{Done, Waits, Ended}
-use Rattle.step_core.specs.declared.wheel.Wheel.{Wheel}
-use Rattle.step_core.specs.Nets.{Net, IsNet, AreBorders, MayStep}
-use Rattle.step_core.specs.Views.{PartView, IsAt}
-use Rattle.step_core.specs.Wheels.{IsNoted, lag_in, IsFilled, HasRoom}
+use Rattle.step_core.specs.{Nets.Net, Nets.IsNet, Nets.AreBorders, Nets.MayStep, Views.PartView, Views.IsAt, Wheels.IsNoted, Wheels.lag_in, Wheels.IsFilled}
+use Rattle.step_core.specs.{Wheels.HasRoom, declared.cores.Step.Step, declared.cores.Step.TheVariants.Done}
+use Rattle.step_core.specs.declared.{cores.Step.TheVariants.Waits, cores.Step.TheVariants.Ended, part.Border.Border, wheel.Wheel.Wheel}
 
 abbrev pub done_at : List ℕ → ℕ → ℕ
 done_at done p = get_or done p 0

@@ -1,13 +1,9 @@
 -- What a partition takes out of its wheel before a second, and puts into those of its neighbours after it.
 use Rattle.std.specs.Prelude.{◌≡◌, ◌≢◌, ℕ, ◌+◌, ◌<◌, ◌≤◌, false, List, length, get_or}
 use Rattle.limits.specs.declared.TheConstants.{MAX_PARTITIONS}
-use Rattle.step_core.specs.declared.part.Border.{Border}
-use Rattle.step_core.specs.declared.hearing.Late.{Late}
-use Rattle.step_core.specs.declared.wheel.Wheel.{Wheel}
-use Rattle.step_core.specs.Nets.{border_at}
-use Rattle.step_core.specs.Views.{PartView, Stays, in_place, IsHeard}
+use Rattle.step_core.specs.{Cores.done_at, Nets.border_at, Views.PartView, Views.Stays, Views.in_place, Views.IsHeard}
 use Rattle.step_core.specs.Wheels.{IsNoted, row_of, due_in, is_flagged, lies, IsPut}
-use Rattle.step_core.specs.Cores.{done_at}
+use Rattle.step_core.specs.declared.{hearing.Late.Late, part.Border.Border, wheel.Wheel.Wheel}
 
 abbrev pub neighbour_at : List Border → ℕ → ℕ
 neighbour_at rows k = (border_at rows k).neighbour

@@ -1,9 +1,7 @@
 -- A wheel before the first second of a run.
 use Rattle.std.specs.Prelude.{◌≡◌, ℕ, ◌<◌, List, [], length, get_or}
-use Rattle.step_core.specs.declared.part.Border.{Border}
-use Rattle.step_core.specs.declared.wheel.Wheel.{Wheel}
-use Rattle.step_core.specs.Wheels.{IsNoted, lag_in, lies}
 use Rattle.step_core.specs.Exchanges.{neighbour_at, lag_at}
+use Rattle.step_core.specs.{Wheels.IsNoted, Wheels.lag_in, Wheels.lies, declared.part.Border.Border, declared.wheel.Wheel.Wheel}
 
 -- the wheel of a partition with these neighbours, in which nothing lies
 pub record IsEmptyWheel {P : Type 0} (nothing : P) (rows : List Border) (w : Wheel P) : Type 0 where

@@ -1,7 +1,6 @@
 -- What the core sees of a partition, and what it owes it.
 use Rattle.std.specs.Prelude.{◌≡◌, ℕ, ◌-◌, ◌<◌, ◌≤◌, List, length, get_or}
-use Rattle.step_core.specs.declared.part.Border.{Border}
-use Rattle.step_core.specs.Nets.{border_at}
+use Rattle.step_core.specs.{Nets.border_at, declared.part.Border.Border}
 
 -- Which partition it is, how many seconds it has done, and what lies in the places of its neighbours: what came, and what is to go. Where
 -- nothing came or goes, a parcel with nothing in it lies there.

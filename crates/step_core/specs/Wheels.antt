@@ -1,8 +1,7 @@
 -- What lies in the wheel of a partition: what was sent to it and is not absorbed, in the row of the second in which it is due.
 use Rattle.std.specs.Prelude.{◌≡◌, ◌≢◌, ℕ, ◌+◌, ◌*◌, ◌%◌, ◌<◌, ◌≤◌, Bool, false, length, get_or}
 use Rattle.limits.specs.declared.TheConstants.{MAX_PARTITIONS}
-use Rattle.step_core.specs.declared.wheel.TheConstants.{WHEEL}
-use Rattle.step_core.specs.declared.wheel.Wheel.{Wheel}
+use Rattle.step_core.specs.declared.wheel.{TheConstants.WHEEL, Wheel.Wheel}
 
 -- the row of a second, and the place of a sender in it
 abbrev pub row_of : ℕ → ℕ

@@ -2,11 +2,10 @@
 
 ghost use Rattle.std.specs.Prelude.{◌≡◌, ℕ, ◌+◌, ◌<◌, ◌≤◌, false, length, get_or, set, IfNone, IfSome, OnOk, OnErr};
 ghost use Rattle.limits.specs.declared.TheConstants.{MAX_PARTITIONS};
+ghost use Rattle.step_core.specs.{Cores.done_at, Exchanges.neighbour_at, Exchanges.lag_at, Exchanges.AreListed};
+ghost use Rattle.step_core.specs.Exchanges.{AreHeard, HasTakenIn, AreSent, HaveRoom, IsReady, HasTaken, HasExchanged, IsFirstLate};
 ghost use Rattle.step_core.specs.Views.{in_place, AreEmpty, IsAt, Stays};
 ghost use Rattle.step_core.specs.Wheels.{IsNoted, due_in, is_flagged, lies, IsPut};
-ghost use Rattle.step_core.specs.Cores.{done_at};
-ghost use Rattle.step_core.specs.Exchanges.{neighbour_at, lag_at, AreListed, AreHeard, HasTakenIn, AreSent, HaveRoom, IsReady};
-ghost use Rattle.step_core.specs.Exchanges.{HasTaken, HasExchanged, IsFirstLate};
 
 use crate::part::{Border, Part};
 use crate::wheel::Wheel;

@@ -1,8 +1,7 @@
 //! A run from its start to its end: always a partition with the fewest done seconds does the next step.
 
 ghost use Rattle.std.specs.Prelude.{◌≡◌, ◌+◌, ◌<◌, IsTrue, ◌↔◌, EachIndex, length, IfOk, OnOk};
-ghost use Rattle.step_core.specs.Views.{EachAt};
-ghost use Rattle.step_core.specs.Cores.{IsCore, AllAt, done_at};
+ghost use Rattle.step_core.specs.{Cores.IsCore, Cores.AllAt, Cores.done_at, Views.EachAt};
 
 use crate::cores::Core;
 use crate::part::Part;

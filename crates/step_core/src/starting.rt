@@ -2,12 +2,9 @@
 
 ghost use Rattle.std.specs.Prelude.{◌≡◌, ℕ, ◌*◌, ◌<◌, [], length, get_or, IfOk};
 ghost use Rattle.limits.specs.declared.TheConstants.{MAX_PARTITIONS};
-ghost use Rattle.step_core.specs.declared.wheel.TheConstants.{WHEEL};
-ghost use Rattle.step_core.specs.Nets.{IsNet, AreBorders};
-ghost use Rattle.step_core.specs.Views.{EachAt};
 ghost use Rattle.step_core.specs.Cores.{IsCore, AllAt};
-ghost use Rattle.step_core.specs.Exchanges.{neighbour_at, lag_at, AreListed};
-ghost use Rattle.step_core.specs.Starts.{IsEmptyWheel, AreEmptyWheels};
+ghost use Rattle.step_core.specs.{Exchanges.neighbour_at, Exchanges.lag_at, Exchanges.AreListed, Nets.IsNet, Nets.AreBorders};
+ghost use Rattle.step_core.specs.{Starts.IsEmptyWheel, Starts.AreEmptyWheels, Views.EachAt, declared.wheel.TheConstants.WHEEL};
 
 use crate::cores::Core;
 use crate::part::{Border, BorderList, Part};

@@ -1,8 +1,7 @@
 //! The steps of a core.
 
 ghost use Rattle.std.specs.Prelude.{◌≡◌, ◌+◌, ◌<◌, true, false, [], length, get_or, set, IfOk, OnOk, OnErr};
-ghost use Rattle.step_core.specs.Nets.{MayStep};
-ghost use Rattle.step_core.specs.Cores.{IsCore, CameTo, is_stopped, done_at};
+ghost use Rattle.step_core.specs.{Cores.IsCore, Cores.CameTo, Cores.is_stopped, Cores.done_at, Nets.MayStep};
 
 use crate::cores::{Core, Step};
 use crate::hearing::{do_second, first_late};

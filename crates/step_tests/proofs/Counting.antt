@@ -1,13 +1,8 @@
 -- What the calls of the stand-in keep.
 use Rattle.std.proofs.Common.{◌≡◌, ℕ, ◌<◌, List, length, sym, ap, ◌∙◌, subst}
-use Rattle.step_core.specs.declared.part.Border.{Border}
-use Rattle.step_core.specs.Nets.{border_at}
-use Rattle.step_core.specs.Views.{Stays}
-use Rattle.step_tests.specs.declared.rows.Row.{Row}
-use Rattle.step_tests.specs.declared.counters.Counter.{Counter}
-use Rattle.step_tests.specs.Rows.{neighbours}
-use Rattle.step_tests.specs.Counters.{Counts}
+use Rattle.step_core.specs.{Nets.border_at, Views.Stays, declared.part.Border.Border}
 use Rattle.step_tests.proofs.Neighbours.{all_few}
+use Rattle.step_tests.specs.{Counters.Counts, Rows.neighbours, declared.counters.Counter.Counter, declared.rows.Row.Row}
 
 -- a partition whose number, neighbours and places are those that it had
 pub stays : (old new : Counter) → new.number ≡ old.number → new.neighbours ≡ old.neighbours

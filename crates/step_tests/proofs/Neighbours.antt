@@ -1,14 +1,10 @@
 -- Partitions in a row are a net, and their neighbours are those of the net.
-use Rattle.std.proofs.Common.{◌≡◌, ℕ, zero, suc, ◌+◌, ◌-◌, ◌*◌, ◌<◌, ◌≤◌, Bool, true, false}
-use Rattle.std.proofs.Common.{List, [], ◌∷◌, ◌++◌, length, ◌==◌, ◌&&◌, nat_lt, if◌then◌else◌, sym}
-use Rattle.std.proofs.Common.{ap, ◌∙◌, refl, subst, inl, inr, ⊎_elim, ◌⊎◌, arith, Some, None}
-use Rattle.std.specs.Option.{option_to_list}
-use Rattle.std.proofs.Math.Nat.{mod-lt}
-use Rattle.std.proofs.lemmas.Bool.Decides.{nat_tests}
+use Rattle.std.proofs.Common.{◌≡◌, ℕ, zero, suc, ◌+◌, ◌-◌, ◌*◌, ◌<◌, ◌≤◌, Bool, true, false, List, [], ◌∷◌, ◌++◌, length, ◌==◌, ◌&&◌, nat_lt, if◌then◌else◌}
+use Rattle.std.proofs.Common.{sym, ap, ◌∙◌, refl, subst, inl, inr, ⊎_elim, ◌⊎◌, arith, Some, None}
+use Rattle.std.{proofs.Math.Nat.mod-lt, proofs.lemmas.Bool.Decides.nat_tests, specs.Option.option_to_list}
 use mathlib.Core.Logic.{dite}
 use native.Mathlib.Decide.{dec_lt}
-use Rattle.step_core.specs.declared.part.Border.{Border}
-use Rattle.step_core.specs.Nets.{IsNet, AreBorders, border_at}
+use Rattle.step_core.specs.{Nets.IsNet, Nets.AreBorders, Nets.border_at, declared.part.Border.Border}
 use Rattle.step_tests.specs.Rows.{IsRow, near_in, lag_in, net_of, border_from, neighbours}
 
 near_true : (count q p : ℕ) → near_in count q p ≡ true → ((q - p) + (p - q) ≡ 1) × (q + p < 2 * count - 1)

@@ -1,12 +1,7 @@
 -- The stand-in for a partition.
 use Rattle.std.specs.Prelude.{◌≡◌, ℕ, ◌<◌, Bool, true, List, length}
-use Rattle.step_core.specs.declared.part.Border.{Border}
-use Rattle.step_core.specs.declared.wheel.Wheel.{Wheel}
-use Rattle.step_core.specs.Views.{PartView}
-use Rattle.step_core.specs.Cores.{IsCore}
-use Rattle.step_tests.specs.declared.rows.Row.{Row}
-use Rattle.step_tests.specs.declared.counters.Counter.{Counter}
-use Rattle.step_tests.specs.Rows.{net_of, neighbours, number_of}
+use Rattle.step_core.specs.{Cores.IsCore, Views.PartView, declared.part.Border.Border, declared.wheel.Wheel.Wheel}
+use Rattle.step_tests.specs.{Rows.net_of, Rows.neighbours, Rows.number_of, declared.counters.Counter.Counter, declared.rows.Row.Row}
 
 abbrev pub view_of : Counter → PartView ℕ
 view_of x = record { number = x.number; seconds = x.seconds; inbox = x.inbox.items; outbox = x.outbox.items }

@@ -1,11 +1,8 @@
 -- Partitions in a row.
-use Rattle.std.specs.Prelude.{ℕ, ◌+◌, ◌-◌, ◌*◌, ◌%◌, ◌≤◌, Bool, List, ◌++◌, Option, Some, None}
-use Rattle.std.specs.Prelude.{◌==◌, ◌&&◌, nat_lt}
-use Rattle.std.specs.Prelude.{if◌then◌else◌}
 use Rattle.std.specs.Option.{option_to_list}
+use Rattle.std.specs.Prelude.{ℕ, ◌+◌, ◌-◌, ◌*◌, ◌%◌, ◌≤◌, Bool, List, ◌++◌, Option, Some, None, ◌==◌, ◌&&◌, nat_lt, if◌then◌else◌}
 use Rattle.limits.specs.declared.TheConstants.{MAX_PARTITIONS, MAX_LAG, LAST_SECOND}
-use Rattle.step_core.specs.declared.part.Border.{Border}
-use Rattle.step_core.specs.Nets.{Net}
+use Rattle.step_core.specs.{Nets.Net, declared.part.Border.Border}
 
 pub record IsRow (count longest end : ℕ) : Type 0 where
   pub few : count ≤ MAX_PARTITIONS

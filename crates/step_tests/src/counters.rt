@@ -1,8 +1,7 @@
 //! A stand-in for a partition.
 
 ghost use Rattle.std.specs.Prelude.{◌≡◌, ℕ, ◌<◌, false, length, set, IfOk};
-ghost use Rattle.step_core.specs.Nets.{border_at};
-ghost use Rattle.step_core.specs.Views.{in_place, AreEmpty, HasSent};
+ghost use Rattle.step_core.specs.{Nets.border_at, Views.in_place, Views.AreEmpty, Views.HasSent};
 ghost use Rattle.step_tests.specs.Rows.{net_of, neighbours, number_of};
 ghost use Rattle.step_tests.specs.Counters.{view_of, IsAsBefore, Counts, IsSpent, is_number};
 

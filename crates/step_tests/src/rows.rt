@@ -1,7 +1,6 @@
 //! Partitions in a row.
 
-ghost use Rattle.std.specs.Prelude.{◌≡◌, ◌<◌, ◌≤◌, ◌++◌, IfOk};
-ghost use Rattle.std.specs.Option.{option_to_list};
+ghost use Rattle.std.specs.{Option.option_to_list, Prelude.◌≡◌, Prelude.◌<◌, Prelude.◌≤◌, Prelude.◌++◌, Prelude.IfOk};
 ghost use Rattle.step_tests.specs.Rows.{IsRow, lag_in, sends_to, number_of, border_from, before, behind, neighbours};
 
 use events::Rows;

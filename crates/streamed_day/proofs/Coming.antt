@@ -1,17 +1,10 @@
 -- A day that comes piece by piece.
-use Rattle.std.proofs.Common.{◌≡◌, ℕ, zero, suc, ◌+◌, ◌-◌, ◌<◌, ◌≤◌, Bool, true, false, List, ◌++◌, arith, refl, sym, ◌∙◌, ap, append_assoc}
-use Rattle.std.proofs.Common.{append-nil, subst}
+use Rattle.std.proofs.Common.{◌≡◌, ℕ, zero, suc, ◌+◌, ◌-◌, ◌<◌, ◌≤◌, Bool, true, false, List, ◌++◌, arith, refl, sym, ◌∙◌, ap, append_assoc, append-nil, subst}
 use Rattle.events.specs.declared.event.Event.{Event}
-use Rattle.traffic.proofs.Common.{events_from, day}
-use Rattle.traffic.proofs.Order.{from-ascends}
-use Rattle.traffic.specs.Frames.{Ascends}
-use Rattle.traffic.specs.Day.{second_events, end_events, world_at, world_start}
-use Rattle.traffic.specs.Setup.{Setup}
-use Rattle.town.specs.declared.day_input.DayInput.{DayInput}
-use Rattle.town.specs.Setups.{setup_of}
-use Rattle.town.specs.Views.{setup}
-use Rattle.streamed_day.specs.Coming.{seconds_from, to_come}
-use Rattle.streamed_day.proofs.Dealing.{later_ascend}
+use Rattle.traffic.proofs.{Common.events_from, Common.day, Order.from-ascends}
+use Rattle.traffic.specs.{Day.second_events, Day.end_events, Day.world_at, Day.world_start, Frames.Ascends, Setup.Setup}
+use Rattle.town.specs.{Setups.setup_of, Views.setup, declared.day_input.DayInput.DayInput}
+use Rattle.streamed_day.{proofs.Dealing.later_ascend, specs.Coming.seconds_from, specs.Coming.to_come}
 
 -- the next second is a piece
 second_comes : (S : Setup) (end t : ℕ) (piece : List Event) → t < end → piece ≡ second_events S t (world_at S t)

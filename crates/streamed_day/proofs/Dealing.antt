@@ -1,17 +1,12 @@
 -- Events that are dealt out among partitions, and merged again.
-use Rattle.std.proofs.Common.{◌≡◌, ℕ, zero, suc, ◌+◌, ◌<◌, ◌≤◌, Bool, List, [], ◌∷◌, ◌++◌, arith, refl, sym, ◌∙◌, ap, subst, subst₂, map}
-use Rattle.std.proofs.Common.{inl, inr}
-use Rattle.std.specs.Prelude.{filter, flat_map}
-use Rattle.std.specs.List.Sorted.{IsPermutation}
+use Rattle.std.proofs.Common.{◌≡◌, ℕ, zero, suc, ◌+◌, ◌<◌, ◌≤◌, Bool, List, [], ◌∷◌, ◌++◌, arith, refl, sym, ◌∙◌, ap, subst, subst₂, map, inl, inr}
 use Rattle.std.proofs.lemmas.List.Sorted.{IsPermutation-sym, IsPermutation-trans}
-use Rattle.traffic.proofs.Common.{cases_Bool}
+use Rattle.std.specs.{List.Sorted.IsPermutation, Prelude.filter, Prelude.flat_map}
+use Rattle.traffic.{proofs.Common.cases_Bool, specs.Frames.Ascends, specs.Frames.AreAfter, specs.Lists.below, specs.Lists.numbers}
 use Rattle.events.specs.declared.event.Event.{Event}
-use Rattle.traffic.specs.Frames.{Ascends, AreAfter}
-use Rattle.traffic.specs.Lists.{below, numbers}
 use Rattle.parts.specs.Merge.{Merges}
 use Rattle.law_partitions.proofs.Merging.{dealt, dealt_all}
-use Rattle.event_merge.specs.Lists.{CanMerge}
-use Rattle.event_merge.proofs.Told.{ShareNone, parts_can_merge}
+use Rattle.event_merge.{proofs.Told.ShareNone, proofs.Told.parts_can_merge, specs.Lists.CanMerge}
 use Rattle.streamed_day.proofs.Unique.{one_order}
 
 -- LISTS THAT ASCEND

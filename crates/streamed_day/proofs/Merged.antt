@@ -1,35 +1,19 @@
 -- What the partitions of a town told of a second, and what they tell of the end of the day, is what happened then.
 use Rattle.std.proofs.Common.{◌≡◌, ℕ, suc, ◌<◌, true, List, [], ◌∷◌, arith, refl, sym, ◌∙◌, ap, map, length}
-use Rattle.std.specs.Prelude.{Bool, filter, flat_map, ◌==◌}
-use Rattle.std.specs.List.{Contains}
 use Rattle.std.proofs.lemmas.List.Elements.{All-contains, Contains-append_right, filter_passes}
-use Rattle.events.specs.declared.event.Event.{Event}
-use Rattle.events.specs.declared.event.Key.{Key}
+use Rattle.std.specs.{List.Contains, Prelude.Bool, Prelude.filter, Prelude.flat_map, Prelude.◌==◌}
+use Rattle.events.specs.{Keys.phase_code, declared.event.Event.Event, declared.event.Key.Key}
 use Rattle.events.specs.declared.event.Phase.TheVariants as phase
-use Rattle.events.specs.Keys.{phase_code}
-use Rattle.town.specs.declared.day_input.DayInput.{DayInput}
-use Rattle.town.specs.Views.{setup}
-use Rattle.traffic.proofs.Common.{eqb-true, events_from, day, end_events}
-use Rattle.traffic.proofs.Order.{from-ascends, day-ascends}
-use Rattle.traffic.specs.Day.{second_events, world_at, world_start, keyed}
-use Rattle.traffic.specs.Frames.{Ascends}
-use Rattle.traffic.specs.Lists.{below}
-use Rattle.traffic.specs.Persons.{stranded}
-use Rattle.traffic.specs.Setup.{Setup}
-use Rattle.parts.specs.Merge.{Merges}
-use Rattle.parts.specs.Owners.{Owner, owner_of_turn, owner_of_event}
-use Rattle.parts.specs.Parts.{own_events, ends_with, own_end_events}
-use Rattle.law_in_range.specs.Setups.{HaveFittingPlans}
-use Rattle.law_in_range.proofs.Days.{chosen_fit}
+use Rattle.town.specs.{Views.setup, declared.day_input.DayInput.DayInput}
+use Rattle.traffic.proofs.{Common.eqb-true, Common.events_from, Common.day, Common.end_events, Order.from-ascends, Order.day-ascends}
+use Rattle.traffic.specs.{Day.second_events, Day.world_at, Day.world_start, Day.keyed, Frames.Ascends, Lists.below, Persons.stranded, Setup.Setup}
+use Rattle.parts.specs.{Merge.Merges, Owners.Owner, Owners.owner_of_turn, Owners.owner_of_event, Parts.own_events, Parts.ends_with, Parts.own_end_events}
+use Rattle.law_in_range.{proofs.Days.chosen_fit, specs.Setups.HaveFittingPlans}
 use Rattle.law_matches_plans.proofs.Towns.{town_sound, town_consistent}
+use Rattle.law_partitions.proofs.{Enders.ender_at, Enders.shared, Merging.Shared, Merging.dealt, Setting.lawful, Setting.alighting, Setting.goes_in_parts}
 use Rattle.law_partitions.specs.Laws.{GoesInParts}
-use Rattle.law_partitions.proofs.Enders.{ender_at, shared}
-use Rattle.law_partitions.proofs.Merging.{Shared, dealt}
-use Rattle.law_partitions.proofs.Setting.{lawful, alighting, goes_in_parts}
-use Rattle.law_sound_setups.specs.Setups.{IsSoundSetup}
-use Rattle.law_sound_setups.specs.Consistent.{IsConsistentSetup}
-use Rattle.event_merge.specs.Lists.{CanMerge}
-use Rattle.event_merge.proofs.Told.{ShareNone}
+use Rattle.law_sound_setups.specs.{Consistent.IsConsistentSetup, Setups.IsSoundSetup}
+use Rattle.event_merge.{proofs.Told.ShareNone, specs.Lists.CanMerge}
 use Rattle.partition.specs.Owned.{owner_in}
 use Rattle.partition.specs.declared.owner.Owner as owners
 use Rattle.divided_day.specs.Days.{told_at, end_told_in}

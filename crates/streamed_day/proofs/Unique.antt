@@ -1,14 +1,10 @@
 -- Two lists of events that ascend and have the same events are one.
 use Rattle.std.proofs.Common.{◌≡◌, zero, suc, true, List, [], ◌∷◌, arith, refl, sym, ◌∙◌, ap, subst, inl, inr, ◌⊎◌, All}
-use Rattle.std.specs.List.{Contains}
-use Rattle.std.specs.List.Sorted.{IsPermutation}
 use Rattle.std.proofs.lemmas.List.Elements.{All-nil, All-cons, All-contains, Contains-append_cases, Contains-append_right}
 use Rattle.std.proofs.lemmas.List.Sorted.{IsPermutation-sym, Contains-permutation}
-use Rattle.traffic.proofs.Common.{nat_tests}
-use Rattle.events.specs.declared.event.Key.{Key}
-use Rattle.events.specs.declared.event.Event.{Event}
-use Rattle.events.specs.Keys.{key_before}
-use Rattle.traffic.specs.Frames.{Ascends, AreAfter, IsBefore}
+use Rattle.std.specs.List.{Contains, Sorted.IsPermutation}
+use Rattle.traffic.{proofs.Common.nat_tests, specs.Frames.Ascends, specs.Frames.AreAfter, specs.Frames.IsBefore}
+use Rattle.events.specs.{Keys.key_before, declared.event.Event.Event, declared.event.Key.Key}
 
 -- no key comes before one that comes before it
 never : (a b : Key) → key_before a b ≡ true → key_before b a ≡ true → ⊥

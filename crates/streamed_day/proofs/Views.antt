@@ -1,17 +1,12 @@
 -- Partitions that have all done as many seconds, one by one.
-use Rattle.std.proofs.Common.{◌≡◌, ℕ, suc, ◌+◌, ◌-◌, ◌<◌, ◌≤◌, Bool, true, false, true≢false, List, [], ◌∷◌, ◌++◌, arith, refl, sym, ◌∙◌}
-use Rattle.std.proofs.Common.{ap, subst, subst₂, map, length, get_or, if◌then◌else◌}
-use Rattle.std.proofs.lemmas.List.{map-append}
+use Rattle.std.proofs.Common.{◌≡◌, ℕ, suc, ◌+◌, ◌-◌, ◌<◌, ◌≤◌, Bool, true, false, true≢false, List, [], ◌∷◌, ◌++◌, arith, refl, sym, ◌∙◌, ap, subst, subst₂}
+use Rattle.std.proofs.{Common.map, Common.length, Common.get_or, Common.if◌then◌else◌, lemmas.List.map-append}
 use Rattle.events.specs.declared.event.Event.{Event}
 use Rattle.traffic.specs.Lists.{below, numbers}
 use Rattle.partition.specs.declared.owner.Owner.{Owner}
 use Rattle.town.specs.declared.day_input.DayInput.{DayInput}
-use Rattle.step_core.specs.declared.part.Border.{Border}
-use Rattle.step_core.specs.Nets.{Net}
-use Rattle.step_core.specs.declared.wheel.Wheel.{Wheel}
-use Rattle.step_core.specs.Views.{PartView, HasDone, IsAt, EachAt}
-use Rattle.step_core.specs.Cores.{IsCore, AreRound}
-use Rattle.step_core.proofs.Together.{each_at}
+use Rattle.step_core.{proofs.Together.each_at, specs.Cores.IsCore, specs.Cores.AreRound}
+use Rattle.step_core.specs.{Nets.Net, Views.PartView, Views.HasDone, Views.IsAt, Views.EachAt, declared.part.Border.Border, declared.wheel.Wheel.Wheel}
 use Rattle.divided_day.specs.Days.{told_at, end_told_in}
 use Rattle.streamed_day.specs.Telling.{told_last, told_at_end, CanTell, AllCanTell, IsAtEnd, AllAreAtEnd, IsCoreAt}
 

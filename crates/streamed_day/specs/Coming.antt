@@ -1,8 +1,7 @@
 -- A day that comes piece by piece.
 use Rattle.std.specs.Prelude.{ℕ, zero, suc, ◌+◌, ◌-◌, Bool, true, false, List, [], ◌++◌}
 use Rattle.events.specs.declared.event.Event.{Event}
-use Rattle.traffic.specs.Setup.{Setup}
-use Rattle.traffic.specs.Day.{second_events, end_events, world_at}
+use Rattle.traffic.specs.{Day.second_events, Day.end_events, Day.world_at, Setup.Setup}
 
 -- the events of so many seconds of a day from second t on
 unfoldable pub seconds_from : Setup → ℕ → ℕ → List Event

@@ -2,11 +2,8 @@
 use Rattle.std.specs.Prelude.{ℕ, ◌-◌, ◌<◌, ◌≤◌, Bool, List, length, get_or}
 use Rattle.events.specs.declared.event.Event.{Event}
 use Rattle.partition.specs.declared.owner.Owner.{Owner}
-use Rattle.step_core.specs.declared.part.Border.{Border}
-use Rattle.step_core.specs.Nets.{Net}
-use Rattle.step_core.specs.declared.wheel.Wheel.{Wheel}
-use Rattle.step_core.specs.Views.{PartView, HasDone, IsAt}
-use Rattle.step_core.specs.Cores.{IsCore, AllAt}
+use Rattle.step_core.specs.{Cores.IsCore, Cores.AllAt, Nets.Net, Views.PartView, Views.HasDone, Views.IsAt}
+use Rattle.step_core.specs.declared.{part.Border.Border, wheel.Wheel.Wheel}
 use Rattle.town.specs.declared.day_input.DayInput.{DayInput}
 use Rattle.divided_day.specs.Days.{told_at, end_told_in}
 

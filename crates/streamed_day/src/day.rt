@@ -4,8 +4,7 @@ ghost use Rattle.std.specs.Prelude.{◌≡◌, false, true, is_some, IfOk, IfSom
 ghost use Rattle.law_in_range.specs.Setups.{HaveFittingPlans};
 ghost use Rattle.town.specs.Views.{setup};
 ghost use Rattle.traffic.specs.Day as traffic_day;
-ghost use Rattle.streamed_day.specs.Coming.{to_come, pieces_left};
-ghost use Rattle.streamed_day.specs.Telling.{IsCoreAt};
+ghost use Rattle.streamed_day.specs.{Coming.to_come, Coming.pieces_left, Telling.IsCoreAt};
 
 use crate::pieces::{end_of_day, last_second, take_turn};
 use divided_day::DayPart;

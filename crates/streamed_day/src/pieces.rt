@@ -2,8 +2,7 @@
 
 ghost use Rattle.std.specs.Prelude.{◌≡◌, ℕ, ◌+◌, ◌<◌, true, length, IfOk, OnOk};
 ghost use Rattle.law_in_range.specs.Setups.{HaveFittingPlans};
-ghost use Rattle.step_core.specs.Cores.{IsCore, AreRound};
-ghost use Rattle.step_core.specs.Views.{EachAt};
+ghost use Rattle.step_core.specs.{Cores.IsCore, Cores.AreRound, Views.EachAt};
 ghost use Rattle.town.specs.Views.{setup};
 ghost use Rattle.traffic.specs.Day.{second_events, end_events, world_at};
 ghost use Rattle.streamed_day.specs.Telling.{IsCoreAt};

@@ -1,9 +1,7 @@
 -- The chosen plans in the setup of a day.
 use Rattle.traffic.proofs.Common.{◌≡◌, ℕ, ◌∙◌, length, ap, sym, [], arith, ◌<◌, ◌≤◌, get_or, length-map, get_or_past, get_or-map, map, plan_rows}
 use Rattle.traffic.proofs.Common.{Plan, person_plan}
-use Rattle.town.specs.declared.day_input.DayInput.{DayInput}
-use Rattle.town.specs.Setups.{setup_of}
-use Rattle.town.specs.Views.{setup}
+use Rattle.town.specs.{Setups.setup_of, Views.setup, declared.day_input.DayInput.DayInput}
 
 -- the plan of a person who has one
 pub plan_there : (day : DayInput) (i : ℕ) (p : Plan) → i < length day.chosen.now → p ≡ get_or day.chosen.now i p → person_plan (setup day) i ≡ plan_rows p

@@ -2,16 +2,9 @@
 use Rattle.std.specs.Prelude.{ℕ, ◌-◌, Bool, true, false, not, ◌&&◌, ◌||◌, nat_eq, nat_lt, List, [], ◌∷◌, length, get_or}
 use Rattle.std.specs.List.{list_all, list_any}
 use Rattle.events.specs.declared.lists.StopCall.{StopCall}
-use Rattle.rows.specs.declared.plan.Act.{Act}
-use Rattle.rows.specs.declared.plan.Leg.{Leg}
+use Rattle.rows.specs.{Joined.is_joined, Joined.ends_of, Plan.is_known, PlanRows.PlanRows, Stops.calls_at, Stops.stop_link}
+use Rattle.rows.specs.declared.{plan.Act.Act, plan.Leg.Leg, schedule.RouteRow.RouteRow, schedule.StopRow.StopRow}
 use Rattle.rows.specs.declared.plan.Leg.TheVariants as leg
-use Rattle.rows.specs.Plan.{is_known}
-use Rattle.rows.specs.PlanRows.{PlanRows}
-use Rattle.rows.specs.Joined.{is_joined}
-use Rattle.rows.specs.declared.schedule.StopRow.{StopRow}
-use Rattle.rows.specs.declared.schedule.RouteRow.{RouteRow}
-use Rattle.rows.specs.Stops.{calls_at, stop_link}
-use Rattle.rows.specs.Joined.{ends_of}
 use Rattle.town.specs.Rows.{TownRows}
 
 -- a car route that does not begin on the link of the activity before it, or does not end on that of the one after it

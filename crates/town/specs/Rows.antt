@@ -1,25 +1,11 @@
 -- A town as lists of rows.
-use Rattle.std.specs.Prelude.{◌≡◌, ℕ, ◌≤◌, true, List, length}
-use Rattle.std.specs.List.{list_all}
+use Rattle.std.specs.{List.list_all, Prelude.◌≡◌, Prelude.ℕ, Prelude.◌≤◌, Prelude.true, Prelude.List, Prelude.length}
 use Rattle.limits.specs.declared.TheConstants.{MAX_DEPARTURES, MAX_LINKS, MAX_PERSONS, MAX_ROUTES, MAX_STOPS}
 use Rattle.events.specs.declared.event.Book.{Book}
-use Rattle.rows.specs.declared.network.Network.{Network}
-use Rattle.rows.specs.Joined.{ends_of}
-use Rattle.rows.specs.declared.network.NodeRow.{NodeRow}
-use Rattle.rows.specs.declared.network.LinkRow.{LinkRow}
-use Rattle.rows.specs.Networks.{is_link}
-use Rattle.rows.specs.declared.schedule.Stops.{Stops}
-use Rattle.rows.specs.declared.schedule.Routes.{Routes}
-use Rattle.rows.specs.declared.schedule.Departures.{Departures}
-use Rattle.rows.specs.declared.schedule.StopRow.{StopRow}
-use Rattle.rows.specs.declared.schedule.RouteRow.{RouteRow}
-use Rattle.rows.specs.declared.schedule.DepartureRow.{DepartureRow}
-use Rattle.rows.specs.Schedules.{is_stop}
-use Rattle.rows.specs.Schedules.{is_route}
-use Rattle.rows.specs.Schedules.{is_departure}
+use Rattle.rows.specs.{Greens.Phases, Joined.ends_of, Networks.is_link, Schedules.is_stop, Schedules.is_route, Schedules.is_departure, Settings.AreInRange}
+use Rattle.rows.specs.declared.network.{LinkRow.LinkRow, Network.Network, NodeRow.NodeRow}
+use Rattle.rows.specs.declared.schedule.{DepartureRow.DepartureRow, Departures.Departures, RouteRow.RouteRow, Routes.Routes, StopRow.StopRow, Stops.Stops}
 use Rattle.rows.specs.declared.settings.TrafficSettings.{TrafficSettings}
-use Rattle.rows.specs.Settings.{AreInRange}
-use Rattle.rows.specs.Greens.{Phases}
 
 pub record TownRows : Type 0 where
   -- where all random words begin

@@ -1,10 +1,7 @@
 -- The setup of a day in a town.
 use Rattle.std.specs.Prelude.{ℕ, List, [], length, map, get_or}
 use Rattle.draws.specs.Words.{word, node_source}
-use Rattle.rows.specs.PlanRows.{PlanRows}
-use Rattle.rows.specs.declared.schedule.RouteRow.{RouteRow}
-use Rattle.rows.specs.declared.schedule.DepartureRow.{DepartureRow}
-use Rattle.rows.specs.Greens.{is_green, green_at}
+use Rattle.rows.specs.{Greens.is_green, Greens.green_at, PlanRows.PlanRows, declared.schedule.DepartureRow.DepartureRow, declared.schedule.RouteRow.RouteRow}
 use Rattle.traffic.specs.Setup.{Setup, Departure}
 use Rattle.town.specs.Rows.{TownRows}
 

@@ -1,14 +1,8 @@
 -- A town, and what a day is made from, as the definitions see them.
-use Rattle.std.specs.Prelude.{◌≡◌, true, List, map}
-use Rattle.std.specs.List.{All}
-use Rattle.rows.specs.declared.plan.Plan.{Plan}
-use Rattle.rows.specs.PlanRows.{PlanRows, plan_rows}
+use Rattle.std.specs.{List.All, Prelude.◌≡◌, Prelude.true, Prelude.List, Prelude.map}
+use Rattle.rows.specs.{PlanRows.PlanRows, PlanRows.plan_rows, declared.plan.Plan.Plan}
 use Rattle.traffic.specs.Setup.{Setup}
-use Rattle.town.specs.declared.town.Town.{Town}
-use Rattle.town.specs.declared.day_input.DayInput.{DayInput}
-use Rattle.town.specs.Rows.{TownRows, town_rows}
-use Rattle.town.specs.Fits.{fits}
-use Rattle.town.specs.Setups.{setup_of}
+use Rattle.town.specs.{Fits.fits, Rows.TownRows, Rows.town_rows, Setups.setup_of, declared.day_input.DayInput.DayInput, declared.town.Town.Town}
 
 -- the lists of rows of a town
 abbrev pub rows_of : Town → TownRows

@@ -1,8 +1,6 @@
-ghost use Rattle.std.specs.Prelude.{◌≡◌, ◌<◌, length, get_or};
-ghost use Rattle.std.specs.List.{list_any};
-ghost use Rattle.rows.specs.Joined.{is_joined};
+ghost use Rattle.std.specs.{List.list_any, Prelude.◌≡◌, Prelude.◌<◌, Prelude.length, Prelude.get_or};
+ghost use Rattle.rows.specs.Joined.{is_joined, ends_of};
 ghost use Rattle.town.specs.Fits.{has_wrong_ends, are_joining, is_joining, has_wrong_stops};
-ghost use Rattle.rows.specs.Joined.{ends_of};
 
 use events::StopCall;
 use rows::{LinkRow, RouteRow, StopRow, calls_at};

@@ -1,10 +1,8 @@
 //! What a day is made from.
 
-ghost use Rattle.std.specs.Prelude.{◌≡◌, map, true};
-ghost use Rattle.std.specs.List.{list_all};
+ghost use Rattle.std.specs.{List.list_all, Prelude.◌≡◌, Prelude.map, Prelude.true};
 ghost use Rattle.rows.specs.PlanRows.{plan_rows};
-ghost use Rattle.town.specs.Fits.{fits};
-ghost use Rattle.town.specs.Views.{rows_of};
+ghost use Rattle.town.specs.{Fits.fits, Views.rows_of};
 ghost use Rattle.law_in_range.specs.Setups.{HaveFittingPlans};
 
 use crate::files::scenario_of;

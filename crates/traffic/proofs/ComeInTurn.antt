@@ -1,8 +1,7 @@
 -- Those who wait come in turn.
-use Rattle.traffic.proofs.Common.{◌≡◌, List, [], ◌∷◌, arith, true, inl, inr, false, cases_Bool, nat_tests, All-nil, All-cons, All-weaker, IsPermutation-refl}
+use Rattle.traffic.proofs.Common.{List, [], ◌∷◌, arith, inl, inr, cases_Bool, nat_tests, All-nil, All-cons, All-weaker, IsPermutation-refl}
 use Rattle.traffic.proofs.Common.{IsPermutation-trans, AllPairs, IsPermutation, All, Waiter, comes_first, ComesBefore, in_turn, among}
-use Rattle.std.proofs.lemmas.List.Kept.{AllPairs-cons}
-use Rattle.std.proofs.lemmas.List.Sorted.{IsPermutation-sym, IsPermutation-cons, IsPermutation-middle, All-permutation}
+use Rattle.std.proofs.lemmas.List.{Kept.AllPairs-cons, Sorted.IsPermutation-sym, Sorted.IsPermutation-cons, Sorted.IsPermutation-middle, Sorted.All-permutation}
 
 -- THE SAME PERSONS
 among-same : (w : Waiter) (ws : List Waiter) → IsPermutation (w ∷ ws) (among w ws)
@@ -21,15 +20,6 @@ turn-same [] = IsPermutation-refl []
 turn-same (w ∷ ws) = IsPermutation-trans (w ∷ ws) (w ∷ in_turn ws) (among w (in_turn ws)) (IsPermutation-cons w ws (in_turn ws) (turn-same ws)) (among-same w (in_turn ws))
 
 -- IN ORDER
-first-before : (w x : Waiter) → comes_first w x ≡ true → ComesBefore w x
-first-before w x e = grind (arith, nat_tests)
-
-later-before : (w x : Waiter) → comes_first w x ≡ false → ComesBefore x w
-later-before w x e = grind (arith, nat_tests)
-
-before-before : (a b c : Waiter) → ComesBefore a b → ComesBefore b c → ComesBefore a c
-before-before a b c h g = grind arith
-
 -- each comes before all after him
 abbrev Follow : List Waiter → Type 0
 Follow [] = Unit {0}
@@ -41,9 +31,10 @@ among-follow w [] h = (All-nil (ComesBefore w), tt)
 among-follow w (x ∷ xs) h =
     elim (cases_Bool (comes_first w x)) [
       | inl e ↦
-          let f = first-before w x e in
-          rw e (All-cons (ComesBefore w) x xs f (All-weaker (ComesBefore x) (ComesBefore w) (λ y g. before-before w x y f g) xs h.0), h)
-      | inr e ↦ rw e (All-permutation (ComesBefore x) (w ∷ xs) (among w xs) (among-same w xs) (All-cons (ComesBefore x) w xs (later-before w x e) h.0), among-follow w xs h.1)
+          let f : ComesBefore w x = grind (arith, nat_tests) in
+          rw e (All-cons (ComesBefore w) x xs f (All-weaker (ComesBefore x) (ComesBefore w) (λ y g. grind arith) xs h.0), h)
+      | inr e ↦
+          rw e (All-permutation (ComesBefore x) (w ∷ xs) (among w xs) (among-same w xs) (All-cons (ComesBefore x) w xs (grind (arith, nat_tests)) h.0), among-follow w xs h.1)
     ]
 
 turn-follow : (ws : List Waiter) → Follow (in_turn ws)

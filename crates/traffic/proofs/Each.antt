@@ -1,8 +1,7 @@
 -- What holds of each element of a list, and of each person who waits.
-use Rattle.traffic.proofs.Common.{◌≡◌, ℕ, List, [], ◌∷◌, arith, ◌<◌, true, ◌++◌, ◌+◌, Bool, inl, inr, ◌≤◌, false, suc, zero, get_or, take, cases_Bool}
-use Rattle.traffic.proofs.Common.{flat_map, map, filter, if◌then◌else◌, numbers, without_at, without, with_first, comes_first, boarding, left_behind, in_turn}
-use Rattle.traffic.proofs.Common.{may_board, among, VehicleState}
-use Rattle.traffic.specs.declared.world.Waiter.{Waiter}
+use Rattle.traffic.proofs.Common.{◌≡◌, ℕ, List, [], ◌∷◌, arith, ◌<◌, true, ◌++◌, ◌+◌, Bool, inl, inr, ◌≤◌, false, suc, zero, get_or, take, cases_Bool, flat_map}
+use Rattle.traffic.proofs.Common.{map, filter, if◌then◌else◌, numbers, without_at, without, with_first, comes_first, boarding, left_behind, in_turn, may_board}
+use Rattle.traffic.{proofs.Common.among, proofs.Common.VehicleState, specs.declared.world.Waiter.Waiter}
 use Rattle.std.specs.List.{AllByRecursion as Each}
 
 pub each_all : {X : Type 0} (P : X → Type 0) → ((x : X) → P x) → (xs : List X) → Each P xs

@@ -2,15 +2,13 @@
 use Rattle.traffic.proofs.Common.{◌≡◌, ℕ, List, ◌∙◌, length, ap, refl, sym, [], ◌∷◌, arith, ◌<◌, true, ◌++◌, ◌+◌, Bool, inl, inr, ◌≤◌, false, suc, eqb, zero}
 use Rattle.traffic.proofs.Common.{◌≢◌, append_assoc, cases_Bool, eqb-false, or_parts, filter-append, flat_map, list_any, map, filter, not, if◌then◌else◌}
 use Rattle.traffic.proofs.Common.{VehicleId, Act, Leg, Dwelling, below, numbers, Move, Transfer, done, told, person_after_all, person_after, told_of, waiter}
-use Rattle.traffic.proofs.Common.{waits_on, waiters, waits, Row, Place, Waiting, Riding, Person, World, person_of, Setup, act_after, leg_at, link_of_stop}
-use Rattle.traffic.proofs.Common.{Waiter, served_row, next_call, alighting, rider, served_vehicle, boarding, left_behind, is_person, Occurrence, enters}
-use Rattle.traffic.proofs.Common.{leaves, starts}
+use Rattle.traffic.proofs.Common.{waits_on, waiters, Row, Place, Waiting, Riding, Person, World, person_of, Setup, act_after, leg_at, link_of_stop, Waiter}
+use Rattle.traffic.proofs.Common.{served_row, next_call, alighting, rider, served_vehicle, boarding, left_behind, is_person, Occurrence, enters, leaves, starts}
+use Rattle.traffic.{proofs.Each.each_if, specs.Telling.of_vehicle}
 use Rattle.std.specs.List.{AllByRecursion as Each}
 use Rattle.events.specs.declared.event.Word.TheVariants as word
 use Rattle.events.specs.declared.event.More.TheVariants as more
 use Rattle.rows.specs.declared.plan.Leg.TheVariants as leg
-use Rattle.traffic.specs.Telling.{of_vehicle}
-use Rattle.traffic.proofs.Each.{each_if}
 pub use Rattle.traffic.proofs.LinkEach.{serving_stage}
 use Rattle.traffic.proofs.Sublists.{person-done}
 use Rattle.traffic.proofs.Waiting.{Calm, all_kept, boarded-are, serve_calm, run-length, waiters-kept}
@@ -33,23 +31,16 @@ riding_on S t i v (w ∷ ws) P h = elim (cases_Bool (eqb w.person i)) [ inl e �
 boards : (S : Setup) (t i : ℕ) (v : VehicleId) (ws : List Waiter) (P : Person) → is_among i ws ≡ true → (person_after_all S t i (flat_map (enters v) (map rider ws)) P).place ≡ Riding v
 unfolding person_after
 boards S t i v [] P h = absurd (cc)
-boards S t i v (w ∷ ws) P h =
-    elim (cases_Bool (eqb w.person i)) [
-      | inl e ↦ simp e (riding_on S t i v ws (record P { place = Riding v }) refl)
-      | inr e ↦ let g = simp e at h in simp e (boards S t i v ws P g)
-    ]
+boards S t i v (w ∷ ws) P h = grind (arith, riding_on S t i v ws (record P { place = Riding v }) refl, boards S t i v ws P)
 
 not_among : (i : ℕ) (ws : List Waiter) → is_among i ws ≡ false → Each (λ (w : Waiter). w.person ≢ i) ws
 not_among i [] h = tt
 not_among i (w ∷ ws) h = let p = or_parts (eqb w.person i) (is_among i ws) h in (eqb-false w.person i p.0, not_among i ws p.1)
 
 -- a person's own row of those who wait
-own_waits : (i : ℕ) (w : Leg) (next : Act) (stop since : ℕ) → Each (λ (x : Waiter). x.person ≡ i) (waits i w next stop since)
-own_waits i (leg.Transit line access egress) next stop since = (refl, tt)
-own_waits i _ next stop since = tt
-
 own_row : (S : Setup) (l i : ℕ) (w : Leg) (next : Act) (pl : Place) → Each (λ (x : Waiter). x.person ≡ i) (waits_on S l i w next pl)
-own_row S l i w next (Waiting stop since) = each_if (λ (x : Waiter). x.person ≡ i) (eqb (link_of_stop S stop) l) _ _ (own_waits i w next stop since) tt
+own_row S l i (leg.Transit line access egress) next (Waiting stop since) = each_if _ (eqb (link_of_stop S stop) l) _ _ (refl, tt) tt
+own_row S l i w next (Waiting stop since) = each_if _ (eqb (link_of_stop S stop) l) _ _ tt tt
 own_row S l i w next _ = tt
 
 -- a test of persons keeps all rows of a person, or none

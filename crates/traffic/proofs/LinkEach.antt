@@ -2,11 +2,9 @@
 use Rattle.traffic.proofs.Common.{ℕ, List, length, [], ◌∷◌, true, ◌+◌, Bool, false, ◌-◌, map, filter, nat_lt, nat_le, VEHICLE_COST, Rules, waiting, buffered}
 use Rattle.traffic.proofs.Common.{LinkState, is_last, may_pass, link_moves, leave_bay, from_queue, from_wait, wait_after, Credit, Move, Transfer, Remove}
 use Rattle.traffic.proofs.Common.{LeaveHole, Row, Waiter, served_row, calls_on, left_behind}
-use Rattle.traffic.specs.declared.stage.Stage.{Stage}
-use Rattle.traffic.specs.declared.stage.Stage.TheVariants.{Queue, Wait, Bay}
+use Rattle.traffic.{proofs.Each.each_append, proofs.Each.each_if, proofs.Each.each_kept, proofs.Each.each_map, specs.Rows.VehicleState}
+use Rattle.traffic.specs.declared.stage.Stage.{Stage, TheVariants.Queue, TheVariants.Wait, TheVariants.Bay}
 use Rattle.std.specs.List.{AllByRecursion as Each}
-use Rattle.traffic.specs.Rows.{VehicleState}
-use Rattle.traffic.proofs.Each.{each_append, each_if, each_kept, each_map}
 
 -- the queue of a link, or its wait list
 abbrev pub serving_stage : Bool → Stage

@@ -1,14 +1,12 @@
 -- The walk over a link's turn: each of its moves, in the world in which it is made.
 use Rattle.traffic.proofs.Common.{◌≡◌, ℕ, List, ◌∙◌, length, ap, refl, sym, [], ◌∷◌, true, ◌++◌, ◌+◌, Bool, inl, inr, subst, false, ◌-◌, append-nil}
 use Rattle.traffic.proofs.Common.{append_assoc, length-append, slice_get, cases_Bool, eq-eqb, map, filter, Some, not, nat_lt, nat_le, raised, VEHICLE_COST}
-use Rattle.traffic.proofs.Common.{link_turns, rules, link_state, waiting, buffered, is_last, may_pass, link_moves, leave_bay, from_queue, from_wait}
-use Rattle.traffic.proofs.Common.{wait_after, without_at, Credit, Move, Transfer, Remove, LeaveHole, run, done, at_after, waiters, Row, World, at, on, Setup}
-use Rattle.traffic.proofs.Common.{Waiter, served_row, calls_on, served_vehicle, left_behind}
-use Rattle.traffic.specs.declared.stage.Stage.TheVariants.{Queue, Wait, Bay}
-use Rattle.traffic.proofs.Sublists.{at-done}
-use Rattle.traffic.proofs.Waiting.{gone_calm, pass_calm}
+use Rattle.traffic.proofs.Common.{link_turns, rules, link_state, waiting, buffered, is_last, may_pass, link_moves, leave_bay, from_queue, from_wait, wait_after}
+use Rattle.traffic.proofs.Common.{without_at, Credit, Move, Transfer, Remove, LeaveHole, run, done, at_after, waiters, Row, World, at, on, Setup, Waiter}
+use Rattle.traffic.proofs.Common.{served_row, calls_on, served_vehicle, left_behind}
 use Rattle.traffic.proofs.LeftBehind.{serving_stage, serving, served_line, calm_line}
-use Rattle.traffic.proofs.Moments.{Along, along_append, along_if}
+use Rattle.traffic.proofs.{Moments.Along, Moments.along_append, Moments.along_if, Sublists.at-done, Waiting.gone_calm, Waiting.pass_calm}
+use Rattle.traffic.specs.declared.stage.Stage.TheVariants.{Queue, Wait, Bay}
 
 -- What is said of each move of a link's turn in its world: a row whose second has come leaves the bay; the front of the queue or of the wait
 -- list is served at a stop, where these wait, or arrives at the end of its route, or passes into the buffer; the credit changes; and a place

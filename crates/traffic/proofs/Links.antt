@@ -1,11 +1,8 @@
 -- A link's turn leaves all other links as they were, and depends on its own lists and credit, and on those who wait at its stops.
 use Rattle.traffic.proofs.Common.{◌≡◌, ℕ, List, ◌∙◌, refl, [], ◌∷◌, arith, false, ◌≢◌, nat_tests, get_or-set_other, link_turns, Untouched, AreAt, IsAt}
-use Rattle.traffic.proofs.Common.{link_state, Credit, Move, Transfer, Remove, Enter, SetFrontSince, run, done, touches, World, credit_of, Setup}
-use Rattle.traffic.specs.declared.stage.Stage.{Stage}
-use Rattle.traffic.specs.declared.stage.Stage.TheVariants.{Queue, Buffer, Wait, Bay}
-use Rattle.traffic.proofs.Moments.{Along}
-use Rattle.traffic.proofs.LinkWalk.{LinkCases, link_walk}
-use Rattle.traffic.proofs.Sublists.{at-run_untouched}
+use Rattle.traffic.proofs.Common.{link_state, Credit, Move, Transfer, run, done, touches, World, credit_of, Setup}
+use Rattle.traffic.proofs.{LinkWalk.LinkCases, LinkWalk.link_walk, Moments.Along, Sublists.at-run_untouched}
+use Rattle.traffic.specs.declared.stage.Stage.{Stage, TheVariants.Queue, TheVariants.Buffer, TheVariants.Wait, TheVariants.Bay}
 
 link_cases : (S : Setup) (t l : ℕ) → LinkCases S t l (λ W m. IsAt l m)
 link_cases S t l =
@@ -27,11 +24,8 @@ pub link-at : (S : Setup) (t l : ℕ) (W : World) → AreAt l (link_turns S t l 
 link-at S t l W = at_along S t l (link_turns S t l W) W (link_walk S t l _ (link_cases S t l) W)
 
 untouched_move : (l a : ℕ) (s : Stage) (m : Move) → a ≢ l → IsAt l m → touches a s m ≡ false
-untouched_move l a s (Transfer b z k was now) ne h = let e0 = h.0 in let e1 = h.1 in grind (arith, nat_tests)
-untouched_move l a s (Remove b z k was) ne h = grind (arith, nat_tests)
-untouched_move l a s (Enter now) ne h = grind (arith, nat_tests)
-untouched_move l a s (SetFrontSince b t) ne h = grind (arith, nat_tests)
-untouched_move l a s _ ne h = refl
+untouched_move l a s (Transfer b z k was now) ne h = grind (arith, nat_tests, h.0, h.1)
+untouched_move l a s _ ne h = grind (arith, nat_tests)
 
 pub untouched_all : (l a : ℕ) (s : Stage) (ms : List Move) → a ≢ l → AreAt l ms → Untouched a s ms
 untouched_all l a s [] ne h = tt
@@ -51,5 +45,4 @@ link_state-other S t l a ms W ne h =
     let q = at-run_untouched S t a Queue ms W (untouched_all l a Queue ms ne h) in
     let b = at-run_untouched S t a Buffer ms W (untouched_all l a Buffer ms ne h) in
     let w = at-run_untouched S t a Wait ms W (untouched_all l a Wait ms ne h) in
-    let y = at-run_untouched S t a Bay ms W (untouched_all l a Bay ms ne h) in
-    let c = credit_kept_all S t l a ms W ne h in cc
+    cc (credit_kept_all S t l a ms W ne h, at-run_untouched S t a Bay ms W (untouched_all l a Bay ms ne h))

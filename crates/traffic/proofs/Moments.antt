@@ -1,5 +1,5 @@
 -- What holds of each move in the world in which it is made.
-use Rattle.traffic.proofs.Common.{◌≡◌, ℕ, List, refl, [], ◌∷◌, true, ◌++◌, Bool, subst, false, if◌then◌else◌, Move, run, done, World, Setup}
+use Rattle.traffic.proofs.Common.{◌≡◌, ℕ, List, refl, [], ◌∷◌, true, ◌++◌, Bool, false, if◌then◌else◌, Move, run, done, World, Setup}
 use Rattle.std.specs.List.{AllByRecursion as Each}
 
 -- each move is such in the world that those before it left
@@ -11,20 +11,9 @@ pub along_append : (Q : World → Move → Type 0) (S : Setup) (t : ℕ) (xs ys 
 along_append Q S t [] ys W h g = g
 along_append Q S t (m ∷ xs) ys W h g = (h.0, along_append Q S t xs ys (done S t m W) h.1 g)
 
--- so are the later ones
-pub along_rest : (Q : World → Move → Type 0) (S : Setup) (t : ℕ) (xs ys : List Move) (W : World) → Along Q S t (xs ++ ys) W → Along Q S t ys (run S t xs W)
-along_rest Q S t [] ys W h = h
-along_rest Q S t (m ∷ xs) ys W h = along_rest Q S t xs ys (done S t m W) h.1
-
 pub along_if : (Q : World → Move → Type 0) (S : Setup) (t : ℕ) (b : Bool) (xs ys : List Move) (W : World) → (b ≡ true → Along Q S t xs W) → (b ≡ false → Along Q S t ys W) → Along Q S t (if b then xs else ys) W
 along_if Q S t true xs ys W h g = h refl
 along_if Q S t false xs ys W h g = g refl
-
-pub along_then : (Q : World → Move → Type 0) (S : Setup) (t : ℕ) (b : Bool) (xs ys : List Move) (W : World) → b ≡ true → Along Q S t (if b then xs else ys) W → Along Q S t xs W
-along_then Q S t b xs ys W e h = subst (λ (c : Bool). Along Q S t (if c then xs else ys) W) e h
-
-pub along_else : (Q : World → Move → Type 0) (S : Setup) (t : ℕ) (b : Bool) (xs ys : List Move) (W : World) → b ≡ false → Along Q S t (if b then xs else ys) W → Along Q S t ys W
-along_else Q S t b xs ys W e h = subst (λ (c : Bool). Along Q S t (if c then xs else ys) W) e h
 
 -- a move among them is such in the world that those before it left
 pub along_at : (Q : World → Move → Type 0) (S : Setup) (t : ℕ) (xs ys : List Move) (m : Move) (W : World) → Along Q S t (xs ++ m ∷ ys) W → Q (run S t xs W) m

@@ -1,16 +1,13 @@
 -- The walk over a node's turn: each of its moves, in the world in which it is made.
-use Rattle.traffic.proofs.Common.{◌≡◌, ℕ, List, ◌∙◌, length, ap, refl, sym, [], ◌∷◌, arith, ◌<◌, true, ◌++◌, ◌+◌, Bool, inl, inr, false, suc, eqb, zero}
-use Rattle.traffic.proofs.Common.{get_or, ◌≢◌, append-nil, length-append, ◌*◌, cases_Bool, eq-eqb, ne_eqb, nat_tests, map, filter, Some, None, not, Option}
-use Rattle.traffic.proofs.Common.{if◌then◌else◌, node_turns, on_front, numbers, without_at, is_nil, Move, Transfer, Remove, SetFrontSince, run, done}
-use Rattle.traffic.proofs.Common.{at_second, InLink, OutLink, with_one_more, may_enter, since_of, out_links_by, pass_node_all, drawn, no_in_link, red}
-use Rattle.traffic.proofs.Common.{candidates, entered, next_link, in_link, in_force, node_view, out_link, ready, node_moves, draw, one_more, pass_node}
-use Rattle.traffic.proofs.Common.{is_stuck, mark, out_links_after, Row, World, at, holes_at, Setup, link_row, hole_of, seconds_of, storage_of, into}
+use Rattle.traffic.proofs.Common.{◌≡◌, ℕ, List, ◌∙◌, length, ap, refl, sym, [], ◌∷◌, arith, ◌<◌, true, ◌++◌, ◌+◌, Bool, inl, inr, false, suc, eqb, zero, get_or}
+use Rattle.traffic.proofs.Common.{◌≢◌, append-nil, length-append, ◌*◌, cases_Bool, eq-eqb, ne_eqb, nat_tests, map, filter, Some, None, not, Option}
+use Rattle.traffic.proofs.Common.{if◌then◌else◌, node_turns, on_front, numbers, without_at, is_nil, Move, Transfer, Remove, SetFrontSince, run, done, at_second}
+use Rattle.traffic.proofs.Common.{InLink, OutLink, with_one_more, may_enter, since_of, out_links_by, pass_node_all, drawn, no_in_link, red, candidates, entered}
+use Rattle.traffic.proofs.Common.{next_link, in_link, in_force, node_view, out_link, ready, node_moves, draw, one_more, pass_node, not-true, is_stuck, mark}
+use Rattle.traffic.proofs.Common.{out_links_after, Row, World, at, holes_at, Setup, link_row, hole_of, seconds_of, storage_of, into}
+use Rattle.traffic.proofs.{Each.each_weaker, Each.each_filter, Each.each_without_at, Moments.Along, Moments.along_append, Sublists.at-done}
 use Rattle.traffic.specs.declared.stage.Stage.TheVariants.{Queue, Buffer}
-use Rattle.std.specs.List.{AllByRecursion as Each}
-use Rattle.std.proofs.lemmas.Bool.{false≢true}
-use Rattle.traffic.proofs.Each.{each_weaker, each_filter, each_without_at}
-use Rattle.traffic.proofs.Sublists.{at-done}
-use Rattle.traffic.proofs.Moments.{Along, along_append}
+use Rattle.std.{proofs.lemmas.Bool.false≢true, specs.List.AllByRecursion as Each}
 
 -- row r is the front of the buffer of link a, which leads into node n
 pub record IsFront (S : Setup) (n a : ℕ) (r : Row) (xs : List Row) (W : World) : Type 0 where
@@ -35,17 +32,11 @@ out_link_by S t n l xs holes =
     if eqb (link_row S l).from n then Some (record { taken = length xs + in_force t (hole_of S l) holes; storage = storage_of S l; seconds = seconds_of S l }) else None
 
 one_longer : (S : Setup) (t n l : ℕ) (xs : List Row) (holes : List ℕ) (now : Row) → out_link_by S t n l (xs ++ now ∷ []) holes ≡ with_one_more (out_link_by S t n l xs holes)
-one_longer S t n l xs holes now =
-    let e = length-append xs (now ∷ []) in
-    elim (cases_Bool (eqb (link_row S l).from n)) [
-      | inl q ↦ rw q (ap (λ (taken : ℕ). Some (record { taken = taken; storage = storage_of S l; seconds = seconds_of S l })) (omega arith))
-      | inr q ↦ rw q refl
-    ]
+one_longer S t n l xs holes now = grind (arith, length-append xs (now ∷ []))
 
 one_put : (S : Setup) (t n l : ℕ) (b : Bool) (xs : List Row) (holes : List ℕ) (now : Row) →
     out_link_by S t n l (xs ++ (if b then now ∷ [] else [])) holes ≡ (if b then with_one_more (out_link_by S t n l xs holes) else out_link_by S t n l xs holes)
-one_put S t n l true xs holes now = one_longer S t n l xs holes now
-one_put S t n l false xs holes now = ap (λ (ys : List Row). out_link_by S t n l ys holes) (append-nil xs)
+one_put S t n l b xs holes now = grind (arith, one_longer S t n l xs holes now, append-nil xs)
 
 -- a row that enters the queue of its next link takes a place there
 pub out_links_put : (S : Setup) (t n a : ℕ) (e : Option OutLink) (r : Row) (out_links : ℕ → Option OutLink) (W : World) → AreOutLinks S t n out_links W → AreOutLinks S t n (one_more (next_link r.vehicle) out_links) (done S t (Transfer a Buffer 0 r (entered t e r.vehicle)) W)
@@ -67,7 +58,7 @@ abbrev Apart : Setup → ℕ → ℕ → Move → World → Type 0
 Apart S t a m W = (l : ℕ) → l ≢ a → at l Buffer (done S t m W) ≡ at l Buffer W
 
 put_apart : (S : Setup) (t a : ℕ) (e : Option OutLink) (r : Row) (W : World) → Apart S t a (Transfer a Buffer 0 r (entered t e r.vehicle)) W
-put_apart S t a e r W l ne = let q = ne_eqb a l (λ k. ne (sym k)) in at-done S t l Buffer (Transfer a Buffer 0 r (entered t e r.vehicle)) W ∙ simp q (append-nil (at l Buffer W))
+put_apart S t a e r W l ne = grind (arith, nat_tests, at-done S t l Buffer (Transfer a Buffer 0 r (entered t e r.vehicle)) W, append-nil (at l Buffer W))
 
 gone_apart : (S : Setup) (t a : ℕ) (r : Row) (W : World) → Apart S t a (Remove a Buffer 0 r) W
 gone_apart S t a r W l ne = let q = ne_eqb a l (λ k. ne (sym k)) in at-done S t l Buffer (Remove a Buffer 0 r) W ∙ simp q
@@ -131,10 +122,6 @@ in_links_once S t n W k (suc count) =
 first_as_it_is : (xs : List Row) → on_front (at_second (since_of xs)) xs ≡ xs
 first_as_it_is [] = refl
 first_as_it_is (r ∷ rs) = refl
-
-not_true : (b : Bool) → not b ≡ true → b ≡ false
-not_true true e = absurd (false≢true e)
-not_true false e = refl
 
 module _ (S : Setup) (t n : ℕ) (F : World → Move → Type 0) (cases : NodeCases S t n F) where
   -- A LINK HANDS OVER
@@ -232,7 +219,7 @@ module _ (S : Setup) (t n : ℕ) (F : World → Move → Type 0) (cases : NodeCa
       let see = node_view S t n W in
       let all = in_links_once S t n W 0 (length S.links) in
       let some = once_filter (IsInLink S t n W) (IsInLink S t n W) (λ (e : InLink). not (is_nil e.rows)) (λ e q k. k) see.in_links all in
-      let reds = each_filter (IsInLink S t n W) IsRed (λ (e : InLink). not e.green) (λ e q k. (k.into, sym k.green ∙ not_true e.green q)) (ready see.in_links) (once_each (IsInLink S t n W) (ready see.in_links) some) in
+      let reds = each_filter (IsInLink S t n W) IsRed (λ (e : InLink). not e.green) (λ e q k. (k.into, sym k.green ∙ not-true e.green q)) (ready see.in_links) (once_each (IsInLink S t n W) (ready see.in_links) some) in
       let greens = once_filter (IsInLink S t n W) (IsLeft W) (λ (e : InLink). e.green) (λ e q k. record { into = k.into; green = sym k.green ∙ q; rows = k.rows }) (ready see.in_links) some in
       let es = candidates see.in_links in
       let y = marks_walk (red see.in_links) es see.out_links W reds greens (λ l. refl) in

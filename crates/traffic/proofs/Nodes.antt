@@ -1,14 +1,10 @@
 -- A node's turn changes no list that the node does not see, and depends on those alone.
 use Rattle.traffic.proofs.Common.{◌≡◌, ℕ, List, ◌∙◌, length, ap, refl, sym, [], ◌∷◌, arith, true, inl, inr, false, eqb, ◌≢◌, fun_ext, cases_Bool, and_parts}
-use Rattle.traffic.proofs.Common.{nat_tests, map, filter, Some, Option, ◌&&◌, ◌||◌, node_turns, IsFromBuffer, AreFromBuffers, sees, Untouched, Apart, below}
-use Rattle.traffic.proofs.Common.{Credit, Move, LeaveHole, run, done, touches, same, hole_after_all, hole_after, NodeView, OutLink, is_out_link, next_link}
-use Rattle.traffic.proofs.Common.{in_link, has_room, in_force, node_view, out_link, node_moves, is_stuck, World, at, rank, holes_at, credit_of, Setup}
-use Rattle.traffic.proofs.Common.{link_row, hole_of, seconds_of, storage_of, into}
-use Rattle.traffic.specs.declared.stage.Stage.{Stage}
-use Rattle.traffic.specs.declared.stage.Stage.TheVariants.{Queue, Buffer, Wait, Bay}
-use Rattle.traffic.proofs.Moments.{Along}
-use Rattle.traffic.proofs.NodeWalk.{NodeCases, node_walk}
-use Rattle.traffic.proofs.Sublists.{at-run_untouched, holes-run}
+use Rattle.traffic.proofs.Common.{nat_tests, map, filter, Option, ◌&&◌, ◌||◌, node_turns, IsFromBuffer, AreFromBuffers, sees, Untouched, Apart, below, Credit}
+use Rattle.traffic.proofs.Common.{Move, LeaveHole, run, done, touches, same, hole_after_all, hole_after, NodeView, OutLink, is_out_link, next_link, in_link}
+use Rattle.traffic.proofs.Common.{has_room, node_view, out_link, node_moves, is_stuck, World, at, rank, holes_at, credit_of, Setup, link_row, into}
+use Rattle.traffic.proofs.{Moments.Along, NodeWalk.NodeCases, NodeWalk.node_walk, Sublists.at-run_untouched, Sublists.holes-run}
+use Rattle.traffic.specs.declared.stage.Stage.{Stage, TheVariants.Queue, TheVariants.Buffer, TheVariants.Wait}
 
 -- TAKES OUT OF BUFFERS ALONE
 buffers_along : (S : Setup) (t : ℕ) (ms : List Move) (W : World) → Along (λ V m. IsFromBuffer m) S t ms W → AreFromBuffers ms
@@ -39,16 +35,12 @@ buffers-credit S t l (m ∷ ms) W h = buffers-credit S t l ms (done S t m W) h.1
 -- WHAT IT SEES
 -- a buffer that the node sees is at none of the places that it does not see, and so is a queue
 from_seen : (S : Setup) (n l a : ℕ) (s : Stage) → sees S n l s ≡ false → eqb (link_row S a).to n ≡ true → same l s a Buffer ≡ false
-from_seen S n l a Queue un h = grind arith
 from_seen S n l a Buffer un h = grind (arith, nat_tests, ap (λ x. eqb (link_row S x).to n))
-from_seen S n l a Wait un h = grind arith
-from_seen S n l a Bay un h = grind arith
+from_seen S n l a _ un h = grind arith
 
 into_seen : (S : Setup) (n l m : ℕ) (s : Stage) → sees S n l s ≡ false → eqb (link_row S m).from n ≡ true → (eqb (rank Queue) (rank s) && eqb m l) ≡ false
 into_seen S n l m Queue un h = grind (arith, nat_tests)
-into_seen S n l m Buffer un h = grind arith
-into_seen S n l m Wait un h = grind arith
-into_seen S n l m Bay un h = grind arith
+into_seen S n l m _ un h = grind arith
 
 -- a front enters the queue of a link out of the node
 pub out_of : (S : Setup) (t n m : ℕ) (W : World) (e : Option OutLink) → e ≡ out_link S t n W m → is_out_link e ≡ true → eqb (link_row S m).from n ≡ true
@@ -79,18 +71,10 @@ same_node_view A B e f = λ i. record { in_links = e i; out_links = f i }
 
 in_links_agree : (S : Setup) (t n : ℕ) (W U : World) → ((l : ℕ) → eqb (link_row S l).to n ≡ true → at l Buffer W ≡ at l Buffer U) → (ls : List ℕ) → map (in_link S t W) (filter (λ l. eqb (link_row S l).to n) ls) ≡ map (in_link S t U) (filter (λ l. eqb (link_row S l).to n) ls)
 in_links_agree S t n W U h [] = refl
-in_links_agree S t n W U h (l ∷ ls) =
-    elim (cases_Bool (eqb (link_row S l).to n)) [
-      | inl q ↦ let e = h l q in let f = in_links_agree S t n W U h ls in simp q (let g : in_link S t W l ≡ in_link S t U l = ap (λ rows. record { link = l; capacity = (link_row S l).capacity; green = S.green l t; rows = rows }) e in cc)
-      | inr q ↦ simp q (in_links_agree S t n W U h ls)
-    ]
+in_links_agree S t n W U h (l ∷ ls) = grind (arith, h l, in_links_agree S t n W U h ls)
 
 out_link_agree : (S : Setup) (t n : ℕ) (W U : World) → ((l : ℕ) → eqb (link_row S l).from n ≡ true → at l Queue W ≡ at l Queue U) → ((l : ℕ) → holes_at l W ≡ holes_at l U) → (m : ℕ) → out_link S t n W m ≡ out_link S t n U m
-out_link_agree S t n W U h g m =
-    elim (cases_Bool (eqb (link_row S m).from n)) [
-      | inl q ↦ let a = ap length (h m q) in let b = ap (in_force t (hole_of S m)) (g m) in rw q (ap (λ taken. Some (record { taken = taken; storage = storage_of S m; seconds = seconds_of S m })) (omega arith))
-      | inr q ↦ rw q refl
-    ]
+out_link_agree S t n W U h g m = grind (arith, h m, g m)
 
 -- what a node sees depends on these lists and on the holes alone
 pub node_view_agree : (S : Setup) (t n : ℕ) (W U : World) → ((l : ℕ) (s : Stage) → sees S n l s ≡ true → at l s W ≡ at l s U) → ((l : ℕ) → holes_at l W ≡ holes_at l U) → node_view S t n W ≡ node_view S t n U
@@ -100,10 +84,8 @@ node_view_agree S t n W U h g =
 
 -- two nodes see no list in common
 pub sees_apart : (S : Setup) (n m l : ℕ) (s : Stage) → n ≢ m → sees S n l s ≡ true → sees S m l s ≡ false
-sees_apart S n m l Queue ne h = grind (arith, nat_tests)
-sees_apart S n m l Buffer ne h = grind (arith, nat_tests)
 sees_apart S n m l Wait ne h = grind arith
-sees_apart S n m l Bay ne h = grind arith
+sees_apart S n m l _ ne h = grind (arith, nat_tests)
 
 pub nodes_apart : (S : Setup) (t : ℕ) → Apart S t (node_turns S t)
 nodes_apart S t n m W ne =

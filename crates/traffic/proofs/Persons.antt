@@ -1,10 +1,9 @@
 -- The turn of a person changes his own row alone.
-use Rattle.traffic.proofs.Common.{◌≡◌, ℕ, List, ◌∙◌, ap, refl, [], ◌∷◌, arith, ◌+◌, get_or, ◌≢◌, get_or-set_other, Some, None, Option, Act, Leg}
-use Rattle.traffic.proofs.Common.{landing_turns, leaving_turns, departure_turns, IsOf, AreOf, Apart, Move, persons_by, run, done, told, persons_after}
-use Rattle.traffic.proofs.Common.{sets_out, landing_moves, leaving_moves, departure_moves, Person, World, person_of, nobody, Setup, act_after, leg_at}
-use Rattle.traffic.proofs.Common.{Occurrence}
-use Rattle.rows.specs.declared.plan.Leg.TheVariants as leg
+use Rattle.traffic.proofs.Common.{◌≡◌, ℕ, List, ◌∙◌, ap, refl, [], ◌∷◌, arith, ◌+◌, get_or, ◌≢◌, get_or-set_other, Some, None, Option, Act, Leg, landing_turns}
+use Rattle.traffic.proofs.Common.{leaving_turns, departure_turns, IsOf, AreOf, Apart, Move, persons_by, run, done, told, persons_after, sets_out, landing_moves}
+use Rattle.traffic.proofs.Common.{leaving_moves, departure_moves, Person, World, person_of, nobody, Setup, act_after, leg_at, Occurrence}
 use Rattle.traffic.proofs.Walks.{flight_walk, leave_walk, departure_walk}
+use Rattle.rows.specs.declared.plan.Leg.TheVariants as leg
 
 -- all that these moves tell is of person i
 abbrev pub TellOf : ℕ → List Move → Type 0
@@ -28,9 +27,8 @@ pub landing_moves-of : (S : Setup) (t i : ℕ) (P : Person) → TellOf i (landin
 landing_moves-of S t i P = flight_walk (TellOf i) S t i P tt (λ mode seconds start p w e. ((refl, (refl, (refl, tt))), tt))
 
 sets_out-of : (S : Setup) (i : ℕ) (w : Leg) (next : Act) → TellOf i (sets_out S i w next)
-sets_out-of S i (leg.Car route) next = ((refl, tt), tt)
 sets_out-of S i (leg.Teleport mode seconds) next = tt
-sets_out-of S i (leg.Transit line access egress) next = ((refl, tt), tt)
+sets_out-of S i _ next = ((refl, tt), tt)
 
 pub leaving_moves-of : (S : Setup) (t i : ℕ) (P : Person) → TellOf i (leaving_moves S t i P)
 leaving_moves-of S t i P = leave_walk (TellOf i) S t i P tt (λ e. ((refl, (refl, tt)), sets_out-of S i (leg_at S i P.element) (act_after S i P.element)))

@@ -1,16 +1,11 @@
 -- In each phase all turns are those of the world at its start.
 use Rattle.traffic.proofs.Common.{◌≡◌, ℕ, refl, map, Phase, turns_of, link_turns, turns_in, count_of, Apart, turn_of, rules, link_state, below, World, Setup}
+use Rattle.traffic.proofs.{Links.link-at, Links.link_state-other, Nodes.nodes_apart, Persons.flights_apart, Persons.leaves_apart, Persons.departures_apart}
+use Rattle.traffic.proofs.{Turns.Distinct-numbers, Turns.turns_at_once, Waiting.waiters-other}
 use Rattle.events.specs.declared.event.Phase.TheVariants as phase
-use Rattle.traffic.proofs.Turns.{Distinct-numbers, turns_at_once}
-use Rattle.traffic.proofs.Nodes.{nodes_apart}
-use Rattle.traffic.proofs.Links.{link-at, link_state-other}
-use Rattle.traffic.proofs.Waiting.{waiters-other}
-use Rattle.traffic.proofs.Persons.{flights_apart, leaves_apart, departures_apart}
 
 pub links_apart : (S : Setup) (t : ℕ) → Apart S t (link_turns S t)
-links_apart S t n m W ne =
-    let e = link_state-other S t m n (link_turns S t m W) W ne (link-at S t m W) in
-    let f = waiters-other S t m n (rules S m) (link_state m W) W ne in cc
+links_apart S t n m W ne = cc (waiters-other S t m n (rules S m) (link_state m W) W ne, link_state-other S t m n (link_turns S t m W) W ne (link-at S t m W))
 
 pub plans_apart : (S : Setup) (t : ℕ) (p : Phase) → Apart S t (turns_of S t p)
 unfolding turns_of

@@ -1,16 +1,13 @@
 -- What a move does to each sublist of the rows, to each credit, to the holes of each link and to each person.
 use Rattle.traffic.proofs.Common.{◌≡◌, ℕ, List, ◌∙◌, length, ap, refl, sym, [], ◌∷◌, arith, ◌<◌, true, ◌++◌, Bool, inl, inr, subst, false, suc, eqb, zero}
-use Rattle.traffic.proofs.Common.{get_or, append-nil, slice_get, cases_Bool, eqb-true, and_parts, eqb-false, or_parts, nat_tests, get_or-set_same, length-set}
-use Rattle.traffic.proofs.Common.{map-append, get_or-set_other, filter-append, All-filter, map, filter, Some, None, Option, if◌then◌else◌, All, Untouched}
-use Rattle.traffic.proofs.Common.{on_front, without_at, without, with_first, Credit, Move, Transfer, Remove, LeaveHole, Enter, SetFrontSince, persons_by, run}
-use Rattle.traffic.proofs.Common.{done, told, person_after_all, at_after_all, at_second, touches, credit_after_all, same, told_of, at_after, hole_after_all}
-use Rattle.traffic.proofs.Common.{credit_after, hole_after, persons_after, Row, Person, World, person_of, at, on, nobody, rank, holes_at, credit_of, Setup}
-use Rattle.traffic.proofs.Common.{Occurrence}
-use Rattle.traffic.specs.declared.stage.Stage.{Stage}
+use Rattle.traffic.proofs.Common.{get_or, append-nil, slice_get, cases_Bool, eqb-true, and_parts, or_parts, nat_tests, get_or-set_same, length-set, map-append}
+use Rattle.traffic.proofs.Common.{get_or-set_other, filter-append, All-filter, filter, Some, None, Option, if◌then◌else◌, All, Untouched, on_front, without_at}
+use Rattle.traffic.proofs.Common.{without, with_first, Credit, Move, Transfer, Remove, LeaveHole, Enter, SetFrontSince, persons_by, run, done, told}
+use Rattle.traffic.proofs.Common.{person_after_all, at_after_all, at_second, touches, credit_after_all, same, told_of, at_after, hole_after_all, credit_after}
+use Rattle.traffic.proofs.Common.{hole_after, persons_after, Row, Person, World, person_of, at, on, nobody, rank, holes_at, credit_of, Setup, Occurrence}
+use Rattle.traffic.{proofs.Common.person_after, specs.Rows.Hole, specs.declared.stage.Stage.Stage}
 use Rattle.traffic.specs.declared.stage.Stage.TheVariants.{Queue, Buffer, Wait, Bay}
-use Rattle.std.proofs.lemmas.Option.{slice_get_within, get_or_from_slice_get}
-use Rattle.std.proofs.lemmas.List.Elements.{filter_agree, filter_passes}
-use Rattle.traffic.specs.Rows.{Hole}
+use Rattle.std.proofs.lemmas.{List.Elements.filter_agree, List.Elements.filter_passes, Option.slice_get_within, Option.get_or_from_slice_get}
 
 pub filter-without_same : {X : Type 0} (p : X → Bool) (k : ℕ) (xs : List X) → filter p (without p k xs) ≡ without_at k (filter p xs)
 filter-without_same p k [] = refl
@@ -66,10 +63,8 @@ without_same l s a z e k xs =
 -- a row that is taken out of one list leaves the others as they were
 cut : (l : ℕ) (s : Stage) (a : ℕ) (z : Stage) (k : ℕ) (xs : List Row) → filter (on l s) (without (on a z) k xs) ≡ (if same l s a z then without_at k (filter (on l s) xs) else filter (on l s) xs)
 cut l s a z k xs =
-    elim (cases_Bool (same l s a z)) [
-      | inl e ↦ rw e (without_same l s a z e k xs)
-      | inr e ↦ rw e (filter-without_other (on a z) (on l s) (on_apart l s a z e) k xs)
-    ]
+    let away = λ (e : same l s a z ≡ false). filter-without_other (on a z) (on l s) (on_apart l s a z e) k xs in
+    grind (arith, without_same l s a z)
 
 put : (l : ℕ) (s : Stage) (now : Row) (xs : List Row) → filter (on l s) (xs ++ now ∷ []) ≡ filter (on l s) xs ++ (if on l s now then now ∷ [] else [])
 put l s now xs = filter-append (on l s) xs (now ∷ [])
@@ -80,10 +75,8 @@ marked_same l s a t e xs =
 
 marked : (l : ℕ) (s : Stage) (a t : ℕ) (xs : List Row) → filter (on l s) (with_first (on a Buffer) (at_second t) xs) ≡ (if same l s a Buffer then on_front (at_second t) (filter (on l s) xs) else filter (on l s) xs)
 marked l s a t xs =
-    elim (cases_Bool (same l s a Buffer)) [
-      | inl e ↦ rw e (marked_same l s a t e xs)
-      | inr e ↦ rw e (filter-with_first_other (on a Buffer) (on l s) (at_second t) (on_apart l s a Buffer e) (λ x h. h) xs)
-    ]
+    let away = λ (e : same l s a Buffer ≡ false). filter-with_first_other (on a Buffer) (on l s) (at_second t) (on_apart l s a Buffer e) (λ x h. h) xs in
+    grind (arith, marked_same l s a t)
 
 -- What a move does to a sublist of the rows depends on that sublist alone.
 pub at-done : (S : Setup) (t l : ℕ) (s : Stage) (m : Move) (W : World) → at l s (done S t m W) ≡ at_after l s m (at l s W)
@@ -129,11 +122,9 @@ at-run_untouched S t l s ms W h = at-run S t l s ms W ∙ at_after_all-untouched
 -- What a move does to the holes of a link depends on those alone.
 pub holes-done : (S : Setup) (t l : ℕ) (m : Move) (W : World) → holes_at l (done S t m W) ≡ hole_after l m (holes_at l W)
 holes-done S t l (LeaveHole a u) W =
-    let e = filter-append (λ (x : Hole). eqb x.link l) W.holes (record { link = a; second = u } ∷ []) in
-    elim (cases_Bool (eqb a l)) [
-      | inl f ↦ let g = simp f at e in simp f (ap (map (λ (x : Hole). x.second)) g ∙ map-append _ _ _)
-      | inr f ↦ let g = simp f at e in simp f (ap (map (λ (x : Hole). x.second)) g ∙ map-append _ _ _ ∙ append-nil _)
-    ]
+    let here = filter (λ (x : Hole). eqb x.link l) W.holes in
+    let one : List Hole = record { link = a; second = u } ∷ [] in
+    grind (arith, filter-append (λ (x : Hole). eqb x.link l) W.holes one, map-append (λ (x : Hole). x.second) here one, append-nil here)
 holes-done S t l _ W = refl
 
 pub holes-run : (S : Setup) (t l : ℕ) (ms : List Move) (W : World) → holes_at l (run S t ms W) ≡ hole_after_all l ms (holes_at l W)
@@ -142,11 +133,7 @@ holes-run S t l (m ∷ ms) W = holes-run S t l ms (done S t m W) ∙ ap (hole_af
 
 -- What a move does to the credit of a link depends on that alone.
 pub credit-done : (S : Setup) (t l : ℕ) (m : Move) (W : World) → l < length W.credits → credit_of l (done S t m W) ≡ credit_after l m (credit_of l W)
-credit-done S t l (Credit a c) W h =
-    elim (cases_Bool (eqb a l)) [
-      | inl e ↦ let q = eqb-true a l e in rw (e, q) (get_or-set_same W.credits l c 0 h)
-      | inr e ↦ rw e (get_or-set_other W.credits a l c 0 (λ q. eqb-false a l e (sym q)))
-    ]
+credit-done S t l (Credit a c) W h = grind (arith, nat_tests, get_or-set_same W.credits l c 0 h, get_or-set_other W.credits a l c 0)
 credit-done S t l _ W h = refl
 
 credits-done : (S : Setup) (t : ℕ) (m : Move) (W : World) → length (done S t m W).credits ≡ length W.credits
@@ -173,10 +160,8 @@ persons-length S t (e ∷ es) ps = persons-length S t es (persons_by S t e e.per
 person_by : (S : Setup) (t i : ℕ) (e : Occurrence) (o : Option ℕ) (ps : List Person) → i < length ps → get_or (persons_by S t e o ps) i nobody ≡ told_of S t i e o (get_or ps i nobody)
 person_by S t i e None ps h = refl
 person_by S t i e (Some j) ps h =
-    elim (cases_Bool (eqb j i)) [
-      | inl f ↦ let q = eqb-true j i f in rw (f, q) (get_or-set_same ps i _ nobody h)
-      | inr f ↦ rw f (get_or-set_other ps j i _ nobody (λ q. eqb-false j i f (sym q)))
-    ]
+    let now = person_after S t j e (get_or ps j nobody) in
+    grind (arith, nat_tests, get_or-set_same ps i now nobody h, get_or-set_other ps j i now nobody)
 
 pub person_after_all-is : (S : Setup) (t i : ℕ) (es : List Occurrence) (ps : List Person) → i < length ps → get_or (persons_after S t es ps) i nobody ≡ person_after_all S t i es (get_or ps i nobody)
 person_after_all-is S t i [] ps h = refl

@@ -1,9 +1,8 @@
 -- Where no turn changes what another one sees, all turns of a phase are those of the world at its start.
-use Rattle.traffic.proofs.Common.{◌≡◌, ℕ, List, ◌∙◌, ap, refl, sym, [], ◌∷◌, arith, ◌<◌, ◌++◌, ◌+◌, Bool, inl, inr, ◌≤◌, false, suc, eqb, zero, ◌≢◌}
-use Rattle.traffic.proofs.Common.{append-nil, cases_Bool, eqb-true, eqb-false, ne_eqb, flat_map, map, filter, moves_of, after, turns, TurnMoves, Untouched}
-use Rattle.traffic.proofs.Common.{Apart, turn_of, below, numbers, Move, run, at_after_all, Row, World, at, Setup}
+use Rattle.traffic.proofs.Common.{◌≡◌, ℕ, List, ◌∙◌, ap, refl, [], ◌∷◌, arith, ◌<◌, ◌++◌, ◌+◌, Bool, ◌≤◌, false, suc, eqb, zero, ◌≢◌, append-nil, flat_map, map}
+use Rattle.traffic.proofs.Common.{filter, moves_of, after, turns, TurnMoves, Untouched, nat_tests, Apart, turn_of, below, numbers, Move, run, at_after_all, Row}
+use Rattle.traffic.proofs.{Common.World, Common.at, Common.Setup, Sublists.at_after_all-untouched, Sublists.at_after_all-append, Sublists.at-run}
 use Rattle.traffic.specs.declared.stage.Stage.{Stage}
-use Rattle.traffic.proofs.Sublists.{at_after_all-untouched, at_after_all-append, at-run}
 
 abbrev pub Fresh : ℕ → List ℕ → Type 0
 Fresh x [] = Unit {0}
@@ -29,9 +28,7 @@ turns_seen S t plan apart m W (n ∷ ns) h = let e = apart n m W h.0 in let f = 
 pub turns_at_once : (S : Setup) (t : ℕ) (plan : TurnMoves) → Apart S t plan → (ns : List ℕ) (W : World) → Distinct ns → turns S t plan ns W ≡ map (turn_of plan W) ns
 unfolding turns
 turns_at_once S t plan apart [] W h = refl
-turns_at_once S t plan apart (n ∷ ns) W h =
-    let e = turns_at_once S t plan apart ns (run S t (plan n W) W) h.1 in
-    let f = turns_seen S t plan apart n W ns h.0 in cc
+turns_at_once S t plan apart (n ∷ ns) W h = cc (turns_seen S t plan apart n W ns h.0, turns_at_once S t plan apart ns (run S t (plan n W) W) h.1)
 
 pub moves_of-map : (plan : TurnMoves) (W : World) (ns : List ℕ) → moves_of (map (turn_of plan W) ns) ≡ flat_map (λ n. plan n W) ns
 moves_of-map plan W [] = refl
@@ -42,10 +39,15 @@ pub at_after_all-filter : (plan : ℕ → List Move) (mine : ℕ → Bool) (l : 
     (ns : List ℕ) (xs : List Row) → at_after_all l s (flat_map plan ns) xs ≡ at_after_all l s (flat_map plan (filter mine ns)) xs
 at_after_all-filter plan mine l s h [] xs = refl
 at_after_all-filter plan mine l s h (n ∷ ns) xs =
-    elim (cases_Bool (mine n)) [
-      | inl e ↦ rw e (at_after_all-append l s (plan n) (flat_map plan ns) xs ∙ at_after_all-filter plan mine l s h ns (at_after_all l s (plan n) xs) ∙ sym (at_after_all-append l s (plan n) (flat_map plan (filter mine ns)) xs))
-      | inr e ↦ rw e (at_after_all-append l s (plan n) (flat_map plan ns) xs ∙ ap (at_after_all l s (flat_map plan ns)) (at_after_all-untouched l s (plan n) xs (h n e)) ∙ at_after_all-filter plan mine l s h ns xs)
-    ]
+    let split = at_after_all-append l s (plan n) in
+    grind (
+      arith,
+      split (flat_map plan ns) xs,
+      split (flat_map plan (filter mine ns)) xs,
+      at_after_all-filter plan mine l s h ns,
+      at_after_all-untouched l s (plan n) xs,
+      h n,
+    )
 
 -- a list after a whole phase, by the moves of those who touch it
 pub at-phase : (S : Setup) (t : ℕ) (plan : TurnMoves) → Apart S t plan → (mine : ℕ → Bool) (l : ℕ) (s : Stage) (W : World) → ((n : ℕ) → mine n ≡ false → Untouched l s (plan n W)) →
@@ -58,15 +60,11 @@ at-phase S t plan apart mine l s W h ns d =
 
 filter_none : (x k n : ℕ) → x < k → filter (λ y. eqb y x) (numbers k n) ≡ []
 filter_none x k zero h = refl
-filter_none x k (suc n) h = let e = ne_eqb k x (λ q. omega arith) in simp e (filter_none x (k + 1) n (omega arith))
+filter_none x k (suc n) h = grind (arith, nat_tests, filter_none x (k + 1) n)
 
 pub filter_one : (x k n : ℕ) → k ≤ x → x < k + n → filter (λ y. eqb y x) (numbers k n) ≡ x ∷ []
 filter_one x k zero h g = absurd (omega arith)
-filter_one x k (suc n) h g =
-    elim (cases_Bool (eqb k x)) [
-      | inl e ↦ let q = eqb-true k x e in simp e (ap (λ ys. k ∷ ys) (filter_none x (k + 1) n (omega arith)) ∙ ap (λ y. y ∷ []) q)
-      | inr e ↦ let q = eqb-false k x e in simp e (filter_one x (k + 1) n (let d : k ≢ x = q in omega arith) (omega arith))
-    ]
+filter_one x k (suc n) h g = grind (arith, nat_tests, filter_one x (k + 1) n, filter_none x (k + 1) n)
 
 -- a list that only the turn of x changes in this phase
 pub at-phase_one : (S : Setup) (t : ℕ) (plan : TurnMoves) → Apart S t plan → (x n l : ℕ) (s : Stage) (W : World) → x < n → ((m : ℕ) → eqb m x ≡ false → Untouched l s (plan m W)) →

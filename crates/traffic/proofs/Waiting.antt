@@ -2,18 +2,15 @@
 use Rattle.traffic.proofs.Common.{◌≡◌, ℕ, List, ◌∙◌, length, ap, refl, sym, [], ◌∷◌, arith, ◌<◌, true, ◌++◌, ◌+◌, Bool, inl, inr, ◌≤◌, false, suc, eqb, zero}
 use Rattle.traffic.proofs.Common.{◌≢◌, drop-append_seam, cases_Bool, eqb-true, ne_eqb, flat_map, map, Some, None, Option, VehicleId, Word, Act, Leg, Dwelling}
 use Rattle.traffic.proofs.Common.{Rules, buffered, LinkState, link_moves, below, numbers, Move, Transfer, ride, person_by, run, done, told, person_after_all}
-use Rattle.traffic.proofs.Common.{start_act, person_after, told_of, waiter, waits_on, waiters, Row, Teleporting, At, Place, Waiting, Riding, Person, World}
-use Rattle.traffic.proofs.Common.{person_of, Setup, act_after, leg_at, link_of_stop, Waiter, served_row, next_call, alighting, rider, staying, served_vehicle}
-use Rattle.traffic.proofs.Common.{boarding, riders_after, Occurrence, boarded, arrives, enters, leaves, starts, serves}
-use Rattle.traffic.specs.declared.riders.Rider.{Rider}
+use Rattle.traffic.proofs.Common.{start_act, person_after, told_of, waiter, waits_on, waiters, Row, Place, Waiting, Person, World, person_of, Setup, act_after}
+use Rattle.traffic.proofs.Common.{leg_at, link_of_stop, Waiter, served_row, next_call, alighting, rider, staying, served_vehicle, boarding, riders_after}
+use Rattle.traffic.proofs.Common.{Occurrence, boarded, arrives, enters, leaves, starts, serves}
+use Rattle.traffic.proofs.Each.{each_all, each_append, each_if, each_boarding, each_left}
+use Rattle.traffic.proofs.{LinkEach.serving_stage, LinkEach.FrontMoves, LinkEach.Have, LinkEach.link_each, Sublists.persons-length}
+use Rattle.traffic.{proofs.Sublists.person_after_all-is, specs.Moves.Remove as Quit, specs.Rows.VehicleState, specs.declared.riders.Rider.Rider}
 use Rattle.std.specs.List.{AllByRecursion as Each}
 use Rattle.events.specs.declared.event.Word.TheVariants as word
-use Rattle.traffic.specs.Rows.{VehicleState, Aborted}
 use Rattle.rows.specs.declared.plan.Leg.TheVariants as leg
-use Rattle.traffic.specs.Moves.{Remove as Quit}
-use Rattle.traffic.proofs.Each.{each_all, each_append, each_if, each_boarding, each_left}
-use Rattle.traffic.proofs.LinkEach.{serving_stage, FrontMoves, Have, link_each}
-use Rattle.traffic.proofs.Sublists.{persons-length, person_after_all-is}
 
 -- all of these persons are such
 abbrev pub AreSuch : (ℕ → Type 0) → List Waiter → Type 0
@@ -65,9 +62,6 @@ calm_starts Q r = each_if (λ (e : Occurrence). Calm_word Q e.word e.person) r.v
 calm_arrives : (Q : ℕ → Type 0) (r : Row) → Calm Q (arrives r)
 calm_arrives Q r = (tt, calm_leaves Q r.vehicle.id r.link r.vehicle.riders)
 
-such_boarding : (Q : ℕ → Type 0) (v : VehicleState) (ws : List Waiter) → AreSuch Q ws → AreSuch Q (boarding v ws)
-such_boarding Q v ws h = each_boarding (λ (w : Waiter). Q w.person) _ v (λ w e g. g) ws h
-
 pub gone_calm : (Q : ℕ → Type 0) (l : ℕ) (s : Bool) (r : Row) → Calm Q (told (Quit l (serving_stage s) 0 r))
 gone_calm Q l true r = Calm-append Q (starts r) (arrives r) (calm_starts Q r) (calm_arrives Q r)
 gone_calm Q l false r = calm_arrives Q r
@@ -84,7 +78,7 @@ serve_calm Q D t l false ws r h = calm_serves Q D t l ws r h
 front-calm : (Q : ℕ → Type 0) (K : Rules) (t l : ℕ) (s : Bool) → FrontMoves K t l (λ v. Unit {0}) (AreSuch Q) (λ m. Calm Q (told m)) s
 front-calm Q K t l s =
     record {
-      serve = λ ws r h w. serve_calm Q K.dwell t l s ws r (such_boarding Q r.vehicle ws w);
+      serve = λ ws r h w. serve_calm Q K.dwell t l s ws r (each_boarding (λ (x : Waiter). Q x.person) _ r.vehicle (λ x e g. g) ws w);
       left = λ v ws w. each_left (λ (x : Waiter). Q x.person) v ws w;
       arrive = λ r h. gone_calm Q l s r;
       pass = λ b r h. pass_calm Q t l b s r;
@@ -98,11 +92,8 @@ link_moves-calm Q K t l ws L h =
 
 -- CALM EVENTS LEAVE THOSE WHO WAIT ELSEWHERE
 start_kept : (S : Setup) (t a i : ℕ) (P : Person) (pl : Place) → P.place ≡ pl → waiter S a i (start_act S t i P pl) ≡ waiter S a i P
-start_kept S t a i P (At end) e = rw e refl
-start_kept S t a i P (Teleporting start) e = rw e refl
 start_kept S t a i P (Waiting stop since) e = refl
-start_kept S t a i P (Riding v) e = rw e refl
-start_kept S t a i P (Aborted l) e = rw e refl
+start_kept S t a i P _ e = rw e refl
 
 ride_kept : (S : Setup) (a i : ℕ) (o : Option VehicleId) (P : Person) → waiter S a i P ≡ [] → waiter S a i (ride o P) ≡ waiter S a i P
 ride_kept S a i None P h = refl
@@ -149,17 +140,13 @@ abbrev Elsewhere : Setup → ℕ → World → ℕ → Type 0
 Elsewhere S a W i = waiter S a i (person_of i W) ≡ []
 
 other_stop : (S : Setup) (l a i : ℕ) (Q : ℕ → Type 0) → a ≢ l → (w : Leg) (next : Act) (pl : Place) → (waits_on S a i w next pl ≡ [] → Q i) → AreSuch Q (waits_on S l i w next pl)
-other_stop S l a i Q ne w next (At end) h = tt
-other_stop S l a i Q ne w next (Teleporting start) h = tt
-other_stop S l a i Q ne (leg.Car route) next (Waiting stop since) h = elim (cases_Bool (eqb (link_of_stop S stop) l)) [ inl e ↦ simp e tt | inr e ↦ simp e tt ]
-other_stop S l a i Q ne (leg.Teleport mode seconds) next (Waiting stop since) h = elim (cases_Bool (eqb (link_of_stop S stop) l)) [ inl e ↦ simp e tt | inr e ↦ simp e tt ]
 other_stop S l a i Q ne (leg.Transit line access egress) next (Waiting stop since) h =
     elim (cases_Bool (eqb (link_of_stop S stop) l)) [
       | inl e ↦ let q = eqb-true (link_of_stop S stop) l e in let g = ne_eqb (link_of_stop S stop) a (λ p. ne (sym p ∙ q)) in let k = simp g at h in simp e (k refl, tt)
       | inr e ↦ simp e tt
     ]
-other_stop S l a i Q ne w next (Riding v) h = tt
-other_stop S l a i Q ne w next (Aborted m) h = tt
+other_stop S l a i Q ne w next (Waiting stop since) h = each_if _ (eqb (link_of_stop S stop) l) _ _ tt tt
+other_stop S l a i Q ne w next _ h = tt
 
 waiters-elsewhere : (S : Setup) (l a : ℕ) (W : World) → a ≢ l → (is : List ℕ) → AreSuch (Elsewhere S a W) (flat_map (λ i. waiter S l i (person_of i W)) is)
 waiters-elsewhere S l a W ne [] = tt

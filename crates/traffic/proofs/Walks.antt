@@ -1,15 +1,12 @@
 -- The walk over a second: the turns of persons and departures, and turns, phases, seconds and days one after the other.
 use Rattle.traffic.proofs.Common.{◌≡◌, ℕ, List, ◌∙◌, length, ap, refl, [], ◌∷◌, arith, ◌<◌, ◌++◌, ◌+◌, inl, inr, subst, suc, eqb, zero, cases_Bool, eqb-true}
 use Rattle.traffic.proofs.Common.{length-replicate, Some, Mode, Phase, VEHICLE_COST, Act, Leg, moves_of, after, turns_of, turns_in, world_start, through}
-use Rattle.traffic.proofs.Common.{world_from, count_of, phases, second, turns, TurnMoves, below, numbers, Move, Enter, run, landing, sets_out}
-use Rattle.traffic.proofs.Common.{transit_vehicle, departs, landing_moves, leaving_moves, departure_moves, lands, leaving, Teleporting, At, Place, Person}
-use Rattle.traffic.proofs.Common.{World, Setup, act_after, leg_at, act_at, departure}
+use Rattle.traffic.proofs.Common.{world_from, count_of, phases, second, turns, TurnMoves, below, numbers, Move, Enter, run, landing, sets_out, transit_vehicle}
+use Rattle.traffic.proofs.Common.{departs, landing_moves, leaving_moves, departure_moves, lands, leaving, Teleporting, At, Place, Person, World, Setup}
+use Rattle.traffic.proofs.{Common.act_after, Common.leg_at, Common.act_at, Common.departure, Each.each_number, Moments.Along, Moments.along_append}
+use Rattle.traffic.{proofs.Sublists.run-append, proofs.Sublists.credits-run, specs.Moves.Report}
 use Rattle.std.specs.List.{AllByRecursion as Each}
 use Rattle.rows.specs.declared.plan.Leg.TheVariants as leg
-use Rattle.traffic.specs.Moves.{Report}
-use Rattle.traffic.proofs.Each.{each_number}
-use Rattle.traffic.proofs.Sublists.{run-append, credits-run}
-use Rattle.traffic.proofs.Moments.{Along, along_append}
 
 -- PERSONS AND DEPARTURES
 -- T holds of no moves, and of those by which a teleported leg of person j ends in second t
@@ -79,11 +76,9 @@ unfolding turns_in
 phase_walk T S t p walk f W = turns_walk T S t (count_of S p) (turns_of S t p) walk f (below (count_of S p)) W (each_number (count_of S p) 0 (count_of S p) (omega arith))
 
 -- WHAT ALL TURNS KEEP
-keep_is : (I : World → Type 0) (S : Setup) (t : ℕ) → IsWalk S t (λ W ms. I W → I (run S t ms W))
-keep_is I S t = record { none = λ W i. i; append = λ xs ys W f g i. rw (run-append S t xs ys W) (g (f i)) }
-
 pub phase_keeps : (I : World → Type 0) (S : Setup) (t : ℕ) (p : Phase) → ((n : ℕ) (W : World) → n < count_of S p → I W → I (run S t (turns_of S t p n W) W)) → (W : World) → I W → I (after S t (turns_in S t p W) W)
-phase_keeps I S t p f W = phase_walk (λ V ms. I V → I (run S t ms V)) S t p (keep_is I S t) f W
+phase_keeps I S t p f W = phase_walk (λ V ms. I V → I (run S t ms V)) S t p
+    (record { none = λ V i. i; append = λ xs ys V f g i. rw (run-append S t xs ys V) (g (f i)) }) f W
 
 pub phases_keep : (I : World → Type 0) (S : Setup) (t : ℕ) → ((p : Phase) (n : ℕ) (W : World) → n < count_of S p → I W → I (run S t (turns_of S t p n W) W)) → (ps : List Phase) (W : World) → I W → I (through S t ps W)
 unfolding through

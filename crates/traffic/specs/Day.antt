@@ -1,21 +1,13 @@
 -- The day: each phase as the turns of its persons, departures, nodes or links, one after the other, and the events that they tell.
 use Rattle.std.specs.Prelude.{ℕ, zero, suc, ◌+◌, List, [], ◌∷◌, ◌++◌, length, map, replicate, Option, None}
 use Rattle.std.specs.List.{flat_map}
-use Rattle.events.specs.declared.event.Event.{Event}
-use Rattle.events.specs.declared.event.Phase.{Phase}
+use Rattle.events.specs.{Keys.phase_code, declared.event.Event.Event, declared.event.Phase.Phase}
 use Rattle.events.specs.declared.event.Phase.TheVariants as phase
-use Rattle.events.specs.Keys.{phase_code}
 use Rattle.fixed_flow.specs.declared.TheConstants.{VEHICLE_COST}
-use Rattle.traffic.specs.Rows.{At, Person, World, person_of}
-use Rattle.rows.specs.PlanRows.{PlanRows}
-use Rattle.rows.specs.declared.plan.Act.{Act}
-use Rattle.traffic.specs.Setup.{Setup}
-use Rattle.traffic.specs.Lists.{below}
-use Rattle.traffic.specs.Telling.{Occurrence}
-use Rattle.traffic.specs.Moves.{Move, told, run}
-use Rattle.traffic.specs.Links.{link_state, rules, link_moves}
-use Rattle.traffic.specs.Nodes.{node_view, node_moves}
+use Rattle.traffic.specs.{Links.link_state, Links.rules, Links.link_moves, Lists.below, Moves.Move, Moves.told, Moves.run, Nodes.node_view, Nodes.node_moves}
 use Rattle.traffic.specs.Persons.{landing_moves, leaving_moves, departure_moves, waiters, stranded}
+use Rattle.traffic.specs.{Rows.At, Rows.Person, Rows.World, Rows.person_of, Setup.Setup, Telling.Occurrence}
+use Rattle.rows.specs.{PlanRows.PlanRows, declared.plan.Act.Act}
 
 -- what one person, departure, node or link did in its turn, with its number
 pub record Turn : Type 0 where

@@ -1,14 +1,9 @@
 -- What moves leave as it was, and turns that do not change what others see.
 use Rattle.std.specs.Prelude.{◌≡◌, ℕ, ◌≢◌, Bool, false, true, List, [], ◌∷◌, ◌==◌, Option, None, Some}
-use Rattle.events.specs.declared.event.Event.{Event}
-use Rattle.events.specs.Keys.{key_before}
-use Rattle.traffic.specs.declared.stage.Stage.{Stage}
+use Rattle.events.specs.{Keys.key_before, declared.event.Event.Event}
+use Rattle.traffic.specs.{Day.TurnMoves, Day.Turn, Moves.Move, Moves.Transfer, Moves.Remove, Moves.Enter, Moves.SetFrontSince, Moves.Credit, Moves.LeaveHole}
+use Rattle.traffic.specs.{Moves.Report, Moves.run, Moves.touches, Rows.World, Setup.Setup, Setup.link_row, Telling.Occurrence, declared.stage.Stage.Stage}
 use Rattle.traffic.specs.declared.stage.Stage.TheVariants.{Queue, Buffer, Wait, Bay}
-use Rattle.traffic.specs.Rows.{World}
-use Rattle.traffic.specs.Setup.{Setup, link_row}
-use Rattle.traffic.specs.Telling.{Occurrence}
-use Rattle.traffic.specs.Moves.{Move, Transfer, Remove, Enter, SetFrontSince, Credit, LeaveHole, Report, run, touches}
-use Rattle.traffic.specs.Day.{TurnMoves, Turn}
 
 -- no move changes the rows of link l at stage s
 abbrev pub Untouched : ℕ → Stage → List Move → Type 0

@@ -1,13 +1,10 @@
 -- Phase D at one link, by its four lists, its credit, and those who wait at its stops.
 use Rattle.std.specs.Prelude.{ℕ, ◌+◌, ◌-◌, Bool, true, ◌&&◌, List, [], ◌∷◌, ◌++◌, length, map, filter, ◌==◌, nat_lt, nat_le, if◌then◌else◌}
-use Rattle.fixed_flow.specs.declared.TheConstants.{VEHICLE_COST}
-use Rattle.fixed_flow.specs.Flow.{raised}
+use Rattle.fixed_flow.specs.{Flow.raised, declared.TheConstants.VEHICLE_COST}
 use Rattle.traffic.specs.declared.stage.Stage.TheVariants.{Queue, Buffer, Wait, Bay}
 pub use Rattle.traffic.specs.declared.numbers.Rules.{Rules}
-use Rattle.traffic.specs.Rows.{VehicleState, Row, World, at, credit_of}
-use Rattle.traffic.specs.Setup.{Setup, gain_of, room_of}
-use Rattle.traffic.specs.Stops.{Waiter, calls_on, left_behind, served_row}
-use Rattle.traffic.specs.Moves.{Move, Transfer, Remove, Credit, LeaveHole}
+use Rattle.traffic.specs.{Moves.Move, Moves.Transfer, Moves.Remove, Moves.Credit, Moves.LeaveHole, Rows.VehicleState, Rows.Row, Rows.World, Rows.at}
+use Rattle.traffic.specs.{Rows.credit_of, Setup.Setup, Setup.gain_of, Setup.room_of, Stops.Waiter, Stops.calls_on, Stops.left_behind, Stops.served_row}
 
 -- what a link's turn sees of the world besides those who wait
 pub record LinkState : Type 0 where

@@ -1,18 +1,14 @@
 -- Moves: what happens in a second, as data, and what they do to the world.
 use Rattle.std.specs.Prelude.{ℕ, ◌+◌, max, Bool, false, ◌&&◌, ◌||◌, List, [], ◌∷◌, ◌++◌, get_or, set, ◌==◌, if◌then◌else◌, Option, None, Some}
-use Rattle.events.specs.declared.event.Word.{Word}
+use Rattle.events.specs.declared.event.{More.More, VehicleId.VehicleId, Word.Word}
 use Rattle.events.specs.declared.event.Word.TheVariants as word
-use Rattle.events.specs.declared.event.VehicleId.{VehicleId}
-use Rattle.events.specs.declared.event.More.{More}
 use Rattle.events.specs.declared.event.More.TheVariants as more
-use Rattle.traffic.specs.declared.stage.Stage.{Stage}
-use Rattle.traffic.specs.declared.stage.Stage.TheVariants.{Buffer}
+use Rattle.traffic.specs.declared.stage.Stage.{Stage, TheVariants.Buffer}
 pub use Rattle.traffic.specs.declared.moves.Move.{Move}
 pub use Rattle.traffic.specs.declared.moves.Move.TheVariants.{Transfer, Remove, Enter, SetFrontSince, Credit, LeaveHole, Report}
-use Rattle.traffic.specs.Rows.{rank, on, Row, Hole, Place, At, Teleporting, Waiting, Riding, Aborted, Person, World, nobody}
-use Rattle.traffic.specs.Setup.{Setup, act_at}
 use Rattle.traffic.specs.Lists.{without, without_at, with_first, on_front}
-use Rattle.traffic.specs.Telling.{Occurrence, told_transfer, told_removal, told_entering}
+use Rattle.traffic.specs.Rows.{rank, on, Row, Hole, Place, At, Teleporting, Waiting, Riding, Aborted, Person, World, nobody}
+use Rattle.traffic.specs.{Setup.Setup, Setup.act_at, Telling.Occurrence, Telling.told_transfer, Telling.told_removal, Telling.told_entering}
 
 -- the row with this second
 abbrev pub at_second : ℕ → Row → Row

@@ -1,14 +1,14 @@
 -- Phase C at one node, by the buffers of the links into it and the places of the links out of it.
-use Rattle.std.specs.Prelude.{ℕ, zero, suc, ◌+◌, ◌-◌, ◌*◌, ◌<◌, Bool, true, false, not, ◌&&◌, ◌||◌, List, [], ◌∷◌, ◌++◌, length, map, filter, get_or, ◌==◌, nat_lt, nat_le, if◌then◌else◌, Option, None, Some}
+use Rattle.std.specs.Prelude.{ℕ, zero, suc, ◌+◌, ◌-◌, ◌*◌, ◌<◌, Bool, true, false, not, ◌&&◌, ◌||◌, List, [], ◌∷◌, ◌++◌, length, map, filter, get_or, ◌==◌}
+use Rattle.std.specs.Prelude.{nat_lt, nat_le, if◌then◌else◌, Option, None, Some}
 use Rattle.draws.specs.Choices.{pick}
 use Rattle.traffic.specs.declared.stage.Stage.TheVariants.{Queue, Buffer}
 pub use Rattle.traffic.specs.declared.node_views.InLink.{InLink}
 pub use Rattle.traffic.specs.declared.node_views.OutLink.{OutLink}
+use Rattle.traffic.specs.{Lists.is_nil, Lists.without_at, Moves.Move, Moves.Transfer, Moves.Remove, Moves.SetFrontSince, Moves.at_second}
 use Rattle.traffic.specs.Rows.{VehicleState, Row, World, at, holes_at}
-use Rattle.rows.specs.declared.settings.Stuck.{Stuck}
 use Rattle.traffic.specs.Setup.{Setup, link_row, seconds_of, storage_of, hole_of, into}
-use Rattle.traffic.specs.Lists.{is_nil, without_at}
-use Rattle.traffic.specs.Moves.{Move, Transfer, Remove, SetFrontSince, at_second}
+use Rattle.rows.specs.declared.settings.Stuck.{Stuck}
 
 -- what a node's turn sees: the links into it, in order, and each link out of it by its number
 pub record NodeView : Type 0 where

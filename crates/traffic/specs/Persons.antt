@@ -1,23 +1,16 @@
 -- Phases A, B1 and B2: the turn of a person or of a departure; and who is under way when the day ends.
 use Rattle.std.specs.Prelude.{ℕ, ◌+◌, Bool, false, List, [], ◌∷◌, length, get_or, ◌==◌, if◌then◌else◌, None, Some}
 use Rattle.std.specs.List.{flat_map}
-use Rattle.events.specs.declared.event.Mode.{Mode}
+use Rattle.events.specs.declared.event.{Mode.Mode, VehicleId.VehicleId}
 use Rattle.events.specs.declared.event.Mode.TheVariants as mode
 use Rattle.events.specs.declared.event.Word.TheVariants as word
-use Rattle.events.specs.declared.event.VehicleId.{VehicleId}
 use Rattle.events.specs.declared.event.VehicleId.TheVariants as vehicle
 use Rattle.events.specs.declared.event.More.TheVariants as more
-use Rattle.traffic.specs.declared.stage.Stage.TheVariants.{Wait}
-use Rattle.traffic.specs.Rows.{Row, Place, At, Teleporting, Waiting, Riding, Aborted, Person, World, person_of}
-use Rattle.rows.specs.declared.plan.Act.{Act}
-use Rattle.rows.specs.declared.plan.Leg.{Leg}
+use Rattle.traffic.specs.{Lists.below, Moves.Move, Moves.Enter, Moves.Report, Rows.Row, Rows.Place, Rows.At, Rows.Teleporting, Rows.Waiting, Rows.Riding}
+use Rattle.traffic.specs.{Rows.Aborted, Rows.Person, Rows.World, Rows.person_of, Setup.Setup, Setup.Departure, Setup.act_at, Setup.leg_at, Setup.act_after}
+use Rattle.traffic.specs.{Setup.link_of_stop, Setup.departure, Stops.Waiter, Telling.Occurrence, Telling.of_person, declared.stage.Stage.TheVariants.Wait}
+use Rattle.rows.specs.{Plan.mode_of_leg, declared.plan.Act.Act, declared.plan.Leg.Leg}
 use Rattle.rows.specs.declared.plan.Leg.TheVariants as leg
-use Rattle.traffic.specs.Setup.{Setup, Departure, act_at, leg_at, act_after, link_of_stop, departure}
-use Rattle.traffic.specs.Lists.{below}
-use Rattle.traffic.specs.Stops.{Waiter}
-use Rattle.traffic.specs.Telling.{Occurrence, of_person}
-use Rattle.traffic.specs.Moves.{Move, Enter, Report}
-use Rattle.rows.specs.Plan.{mode_of_leg}
 
 -- a teleported leg is over
 abbrev pub lands : ℕ → Mode → ℕ → Act → List Occurrence

@@ -1,7 +1,6 @@
 -- The world of a day: vehicles, persons, credits and holes, as lists of rows.
 use Rattle.std.specs.Prelude.{ℕ, Bool, ◌&&◌, List, filter, map, get_or, ◌==◌}
-use Rattle.traffic.specs.declared.stage.Stage.{Stage}
-use Rattle.traffic.specs.declared.stage.Stage.TheVariants.{Queue, Buffer, Wait, Bay}
+use Rattle.traffic.specs.declared.stage.Stage.{Stage, TheVariants.Queue, TheVariants.Buffer, TheVariants.Wait, TheVariants.Bay}
 pub use Rattle.traffic.specs.Vehicles.{VehicleState}
 pub use Rattle.traffic.specs.declared.world.Row.{Row}
 pub use Rattle.traffic.specs.declared.world.Hole.{Hole}

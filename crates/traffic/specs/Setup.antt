@@ -2,13 +2,8 @@
 use Rattle.std.specs.Prelude.{ℕ, ◌+◌, ◌/◌, max, Bool, List, [], filter, length, get_or, ◌==◌, Option, None, Some}
 use Rattle.events.specs.declared.lists.StopCall.{StopCall}
 use Rattle.fixed_flow.specs.Link.{free_seconds, credit_per_second, storage, buffer_room}
-use Rattle.rows.specs.declared.network.LinkRow.{LinkRow}
-use Rattle.rows.specs.declared.plan.Act.{Act}
-use Rattle.rows.specs.declared.plan.Leg.{Leg}
-use Rattle.rows.specs.declared.schedule.StopRow.{StopRow}
-use Rattle.rows.specs.declared.settings.TrafficSettings.{TrafficSettings}
-use Rattle.rows.specs.PlanRows.{PlanRows, act_in, leg_in}
-use Rattle.rows.specs.Stops.{stop_link}
+use Rattle.rows.specs.{PlanRows.PlanRows, PlanRows.act_in, PlanRows.leg_in, Stops.stop_link}
+use Rattle.rows.specs.declared.{network.LinkRow.LinkRow, plan.Act.Act, plan.Leg.Leg, schedule.StopRow.StopRow, settings.TrafficSettings.TrafficSettings}
 use Rattle.traffic.specs.Lists.{below}
 
 -- a transit vehicle that starts in its second

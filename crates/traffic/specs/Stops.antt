@@ -1,13 +1,12 @@
 -- The service of a stop: who alights, who boards, and until when the vehicle stays.
-use Rattle.std.specs.Prelude.{◌≡◌, ◌<◌, ◌≤◌, ◌⊎◌, ℕ, ◌+◌, ◌-◌, ◌*◌, max, Bool, true, false, not, ◌&&◌, ◌||◌, List, [], ◌∷◌, ◌++◌, length, map, filter, take, drop, get_or, ◌==◌, nat_lt, if◌then◌else◌, Option, None, Some}
 use Rattle.std.specs.List.{list_any}
+use Rattle.std.specs.Prelude.{◌≡◌, ◌<◌, ◌≤◌, ◌⊎◌, ℕ, ◌+◌, ◌-◌, ◌*◌, max, Bool, true, false, not, ◌&&◌, ◌||◌, List, [], ◌∷◌, ◌++◌, length, map, filter, take}
+use Rattle.std.specs.Prelude.{drop, get_or, ◌==◌, nat_lt, if◌then◌else◌, Option, None, Some}
 use Rattle.events.specs.declared.lists.StopCall.{StopCall}
-use Rattle.traffic.specs.declared.stage.Stage.TheVariants.{Bay}
-use Rattle.traffic.specs.declared.riders.Rider.{Rider}
+use Rattle.traffic.specs.declared.{riders.Rider.Rider, stage.Stage.TheVariants.Bay}
 pub use Rattle.traffic.specs.declared.world.Waiter.{Waiter}
-use Rattle.rows.specs.Stops.{calls_at}
+use Rattle.rows.specs.{Stops.calls_at, declared.settings.Dwelling.Dwelling}
 use Rattle.traffic.specs.Rows.{VehicleState, Row}
-use Rattle.rows.specs.declared.settings.Dwelling.{Dwelling}
 
 -- the call of this number
 abbrev pub call_at : List StopCall → ℕ → StopCall

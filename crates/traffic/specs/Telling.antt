@@ -1,20 +1,15 @@
 -- What a move tells: the events of a day without their keys.
 use Rattle.std.specs.Prelude.{ℕ, ◌-◌, List, [], ◌∷◌, ◌++◌, length, drop, if◌then◌else◌, Option, None, Some}
 use Rattle.std.specs.List.{flat_map}
-use Rattle.events.specs.declared.event.Mode.{Mode}
+use Rattle.events.specs.declared.event.{Mode.Mode, More.More, VehicleId.VehicleId, Word.Word}
 use Rattle.events.specs.declared.event.Mode.TheVariants as mode
-use Rattle.events.specs.declared.event.Word.{Word}
 use Rattle.events.specs.declared.event.Word.TheVariants as word
-use Rattle.events.specs.declared.event.VehicleId.{VehicleId}
 use Rattle.events.specs.declared.event.VehicleId.TheVariants as vehicle
-use Rattle.events.specs.declared.event.More.{More}
 use Rattle.events.specs.declared.event.More.TheVariants as more
-use Rattle.traffic.specs.declared.stage.Stage.{Stage}
+use Rattle.traffic.specs.declared.{riders.Rider.Rider, stage.Stage.Stage}
 use Rattle.traffic.specs.declared.stage.Stage.TheVariants.{Queue, Buffer, Wait, Bay}
-use Rattle.traffic.specs.declared.riders.Rider.{Rider}
 pub use Rattle.traffic.specs.declared.moves.Occurrence.{Occurrence}
-use Rattle.traffic.specs.Rows.{Row}
-use Rattle.traffic.specs.Stops.{call_at, next_call, alighting, staying}
+use Rattle.traffic.specs.{Rows.Row, Stops.call_at, Stops.next_call, Stops.alighting, Stops.staying}
 
 -- of a person on a link, of a person and a vehicle, and of a vehicle on a link
 abbrev pub of_person : Word → ℕ → ℕ → More → Occurrence

@@ -1,6 +1,5 @@
 -- What contracts see of a vehicle.
-use Rattle.traffic.specs.declared.vehicle.Vehicle.TheInside.{Inside}
-use Rattle.traffic.specs.Vehicles.{VehicleState, IsVehicle}
+use Rattle.traffic.specs.{Vehicles.VehicleState, Vehicles.IsVehicle, declared.vehicle.Vehicle.TheInside.Inside}
 
 abbrev pub vehicle_view : Inside → VehicleState
 vehicle_view v =

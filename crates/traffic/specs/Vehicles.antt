@@ -1,7 +1,6 @@
 -- A vehicle, wherever it stands.
 use Rattle.std.specs.Prelude.{◌<◌, ◌≤◌, ℕ, Bool, List, length}
-use Rattle.events.specs.declared.event.VehicleId.{VehicleId}
-use Rattle.events.specs.declared.lists.StopCall.{StopCall}
+use Rattle.events.specs.declared.{event.VehicleId.VehicleId, lists.StopCall.StopCall}
 use Rattle.traffic.specs.declared.riders.Rider.{Rider}
 
 -- the car of a person, or the vehicle of a departure

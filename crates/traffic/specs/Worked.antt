@@ -1,18 +1,12 @@
 -- Worked days, cut to few seconds.
 use Rattle.std.specs.Prelude.{ℕ, Bool, true, false, List, [], ◌∷◌, ◌++◌, map, filter, nat_le, Option, None, Some}
-use Rattle.events.specs.declared.event.Event.{Event}
+use Rattle.events.specs.declared.event.{Event.Event, Word.Word}
 use Rattle.events.specs.declared.event.VehicleId.TheVariants as vehicle
-use Rattle.events.specs.declared.event.Word.{Word}
 use Rattle.events.specs.declared.event.Word.TheVariants as word
-use Rattle.traffic.specs.declared.stage.Stage.{Stage}
-use Rattle.traffic.specs.declared.stage.Stage.TheVariants.{Queue, Buffer}
-use Rattle.traffic.specs.Rows.{Row, World}
-use Rattle.rows.specs.declared.network.LinkRow.{LinkRow}
-use Rattle.rows.specs.declared.plan.Leg.{Leg}
-use Rattle.rows.specs.PlanRows.{PlanRows}
-use Rattle.rows.specs.declared.settings.TrafficSettings.{TrafficSettings}
+use Rattle.traffic.specs.{Rows.Row, Rows.World, Setup.Setup, Setup.Departure}
+use Rattle.traffic.specs.declared.stage.Stage.{Stage, TheVariants.Queue, TheVariants.Buffer}
+use Rattle.rows.specs.{PlanRows.PlanRows, declared.network.LinkRow.LinkRow, declared.plan.Leg.Leg, declared.settings.TrafficSettings.TrafficSettings}
 use Rattle.rows.specs.declared.plan.Leg.TheVariants as leg
-use Rattle.traffic.specs.Setup.{Setup, Departure}
 
 -- an event's second, word, person and link
 abbrev pub short : Event → ℕ × Word × Option ℕ × Option ℕ

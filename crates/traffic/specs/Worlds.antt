@@ -1,27 +1,18 @@
 -- The laws of a world: each person is in one place, no queue holds more than its storage unless rows were pushed in, no more
 -- vehicles pass than the flow allows, and all rows fit the plans that they come from.
-use Rattle.std.specs.Prelude.{◌≡◌, ℕ, zero, suc, ◌+◌, ◌*◌, ◌/◌, ◌%◌, ◌<◌, ◌≤◌, ◌⊎◌, Bool, true, false, not, List, [], ◌∷◌, length, count_by, sum_by, filter, drop, get_or, All, ◌==◌, if◌then◌else◌, Option, None, Some}
+use Rattle.std.specs.Prelude.{◌≡◌, ℕ, zero, suc, ◌+◌, ◌*◌, ◌/◌, ◌%◌, ◌<◌, ◌≤◌, ◌⊎◌, Bool, true, false, not, List, [], ◌∷◌, length, count_by, sum_by, filter}
+use Rattle.std.specs.Prelude.{drop, get_or, All, ◌==◌, if◌then◌else◌, Option, None, Some}
 use Rattle.events.specs.declared.event.Phase.TheVariants as phase
-use Rattle.events.specs.declared.event.VehicleId.{VehicleId}
+use Rattle.events.specs.declared.{event.VehicleId.VehicleId, lists.StopCall.StopCall}
 use Rattle.events.specs.declared.event.VehicleId.TheVariants as vehicle
-use Rattle.events.specs.declared.lists.StopCall.{StopCall}
-use Rattle.fixed_flow.specs.declared.TheConstants.{VEHICLE_COST}
-use Rattle.fixed_flow.specs.Flow.{full_credit}
-use Rattle.traffic.specs.declared.stage.Stage.{Stage}
+use Rattle.fixed_flow.specs.{Flow.full_credit, declared.TheConstants.VEHICLE_COST}
+use Rattle.traffic.specs.{Day.moves_of, Day.turns_in, Day.through, Day.world_from, Lists.is_nil, Moves.Move, Moves.Transfer, Nodes.OutLink, Nodes.has_room}
+use Rattle.traffic.specs.{Nodes.is_stuck, Nodes.out_links_by, Persons.same_vehicle, Rows.VehicleState, Rows.Row, Rows.Place, Rows.At, Rows.Teleporting}
+use Rattle.traffic.specs.{Rows.Waiting, Rows.Riding, Rows.Aborted, Rows.World, Rows.on, Rows.at, Rows.person_of, Setup.Setup, Setup.person_plan, Setup.leg_at}
+use Rattle.traffic.specs.{Setup.act_after, Setup.departure, Setup.storage_of, Setup.gain_of, declared.riders.Rider.Rider, declared.stage.Stage.Stage}
 use Rattle.traffic.specs.declared.stage.Stage.TheVariants.{Queue, Buffer, Wait, Bay}
-use Rattle.traffic.specs.declared.riders.Rider.{Rider}
-use Rattle.traffic.specs.Lists.{is_nil}
-use Rattle.traffic.specs.Rows.{VehicleState, Row, Place, At, Teleporting, Waiting, Riding, Aborted, World, on, at, person_of}
-use Rattle.rows.specs.declared.plan.Act.{Act}
-use Rattle.rows.specs.declared.plan.Leg.{Leg}
-use Rattle.rows.specs.declared.settings.Stuck.{Stuck}
+use Rattle.rows.specs.{Stops.calls_at, declared.plan.Act.Act, declared.plan.Leg.Leg, declared.settings.Stuck.Stuck}
 use Rattle.rows.specs.declared.plan.Leg.TheVariants as leg
-use Rattle.traffic.specs.Setup.{Setup, person_plan, leg_at, act_after, departure, storage_of, gain_of}
-use Rattle.rows.specs.Stops.{calls_at}
-use Rattle.traffic.specs.Moves.{Move, Transfer}
-use Rattle.traffic.specs.Nodes.{OutLink, has_room, is_stuck, out_links_by}
-use Rattle.traffic.specs.Persons.{same_vehicle}
-use Rattle.traffic.specs.Day.{moves_of, turns_in, through, world_from}
 
 -- ONE PLACE
 -- how often rows list a person among their riders

@@ -1,30 +1,21 @@
 //! The laws of the day: what the crates above take from its definitions. Each is the contract of a
 //! call that does nothing.
 
-ghost use Rattle.std.specs.Prelude.{◌≡◌, ◌≢◌, ℕ, ◌+◌, ◌<◌, List, [], ◌∷◌, length, map, true};
-ghost use Rattle.std.specs.Prelude.{false, None, Some, AllPairs, IsPermutation};
-ghost use Rattle.events.specs.declared.event.Mode.{Mode};
-ghost use Rattle.events.specs.declared.event.Phase.{Phase};
-ghost use Rattle.events.specs.declared.event.Word.TheVariants.{EnteredLink, Arrival};
+ghost use Rattle.std.specs.Prelude.{◌≡◌, ◌≢◌, ℕ, ◌+◌, ◌<◌, List, [], ◌∷◌, length, map, true, false, None, Some, AllPairs, IsPermutation};
+ghost use Rattle.events.specs.declared.event.{Mode.Mode, Phase.Phase, Word.TheVariants.EnteredLink, Word.TheVariants.Arrival};
 ghost use Rattle.fixed_flow.specs.Flow.{raised};
-ghost use Rattle.traffic.specs.declared.stage.Stage.{Stage};
-ghost use Rattle.traffic.specs.Lists.{below};
-ghost use Rattle.traffic.specs.Rows.{World, at, holes_at, credit_of, person_of, At, Teleporting};
-ghost use Rattle.rows.specs.declared.plan.Act.{Act};
-ghost use Rattle.rows.specs.declared.plan.Leg.{Leg};
-ghost use Rattle.rows.specs.declared.settings.Stuck.{Stuck};
-ghost use Rattle.rows.specs.declared.plan.Leg.TheVariants as leg;
-ghost use Rattle.traffic.specs.Setup.{Setup, departure};
-ghost use Rattle.traffic.specs.Stops.{Waiter, ComesBefore, in_turn};
-ghost use Rattle.traffic.specs.Moves.{Move, Credit, told, done, run, at_after, hole_after, credit_after, person_after_all};
-ghost use Rattle.traffic.specs.Links.{LinkState, link_state, Rules, link_moves};
-ghost use Rattle.traffic.specs.Nodes.{NodeView, ready, node_moves};
-ghost use Rattle.traffic.specs.Persons.{waiters, landing, leaving, departure_moves};
 ghost use Rattle.traffic.specs.Day.{landing_turns, leaving_turns, departure_turns, node_turns, link_turns, turns_of, count_of, turns_in};
 ghost use Rattle.traffic.specs.Day.{events_from, day};
 ghost use Rattle.traffic.specs.Frames.{Untouched, AreAt, AreFromBuffers, sees, turn_of, Ascends};
+ghost use Rattle.traffic.specs.{Links.LinkState, Links.link_state, Links.Rules, Links.link_moves, Lists.below};
+ghost use Rattle.traffic.specs.Moves.{Move, Credit, told, done, run, at_after, hole_after, credit_after, person_after_all};
+ghost use Rattle.traffic.specs.{Nodes.NodeView, Nodes.ready, Nodes.node_moves, Persons.waiters, Persons.landing, Persons.leaving};
+ghost use Rattle.traffic.specs.{Persons.departure_moves, Rows.World, Rows.at, Rows.holes_at, Rows.credit_of, Rows.person_of, Rows.At};
+ghost use Rattle.traffic.specs.{Rows.Teleporting, Setup.Setup, Setup.departure, Stops.Waiter, Stops.ComesBefore, Stops.in_turn};
 ghost use Rattle.traffic.specs.Worked.{short, bus, bus_told, narrow, narrow_told, arrivals, junction, junction_told, red_light, jam, line};
-ghost use Rattle.traffic.specs.Worked.{entering};
+ghost use Rattle.traffic.specs.{Worked.entering, declared.stage.Stage.Stage};
+ghost use Rattle.rows.specs.declared.{plan.Act.Act, plan.Leg.Leg, settings.Stuck.Stuck};
+ghost use Rattle.rows.specs.declared.plan.Leg.TheVariants as leg;
 
 /// What a move does to the rows of a link at a stage, to the holes and the credit of a link, and to
 /// the row of a person depends on each of these alone.

@@ -32,8 +32,7 @@ pub struct Vehicle {
 }
 
 impl Model for Vehicle {
-    ghost use Rattle.traffic.specs.Vehicles.{VehicleState};
-    ghost use Rattle.traffic.specs.VehicleViews.{vehicle_view, vehicle_invariant};
+    ghost use Rattle.traffic.specs.{VehicleViews.vehicle_view, VehicleViews.vehicle_invariant, Vehicles.VehicleState};
 
     ghost Value = { VehicleState };
 

@@ -1,37 +1,7 @@
 -- When the end of a link is reached: nobody who enters later is there earlier.
-use Rattle.std.proofs.Common.{
-  ◌≡◌,
-  ℕ,
-  zero,
-  suc,
-  ◌+◌,
-  ◌-◌,
-  ◌*◌,
-  ◌/◌,
-  ◌<◌,
-  ◌≤◌,
-  max,
-  List,
-  [],
-  ◌∷◌,
-  ◌++◌,
-  length,
-  map,
-  fold,
-  inl,
-  inr,
-  refl,
-  sym,
-  ◌∙◌,
-  ap,
-  arith,
-}
-use Rattle.std.specs.List.{range_with_len}
-use Rattle.std.proofs.lemmas.Bool.{cases_eq}
-use Rattle.std.specs.Prelude.{slice_index_or}
-use Rattle.std.proofs.lemmas.List.{get_or_read}
-use Rattle.std.proofs.lemmas.List.Sums.{fold_push}
-use Rattle.std.proofs.lemmas.List.FromFn.{map-range_with_len_more}
+use Rattle.std.proofs.Common.{◌≡◌, ℕ, zero, suc, ◌+◌, ◌-◌, ◌*◌, ◌/◌, ◌<◌, ◌≤◌, max, List, [], ◌∷◌, ◌++◌, length, map, fold, inl, inr, refl, sym, ◌∙◌, ap, arith}
+use Rattle.std.proofs.lemmas.{Bool.cases_eq, List.get_or_read, List.FromFn.map-range_with_len_more, List.Sums.fold_push}
+use Rattle.std.specs.{List.range_with_len, Prelude.slice_index_or}
 use Rattle.walks.specs.Arrivals.{IsFifo}
 use Rattle.travel_times.specs.declared.TheConstants.{BIN_SECONDS}
 use Rattle.travel_times.specs.Times.{LinkProfile, time_in, last_second, arrival_by, profile_at, arrivals}

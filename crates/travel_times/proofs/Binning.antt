@@ -1,69 +1,16 @@
 -- The bins of a link: what they say, and that they are kept as a profile keeps them.
-use Rattle.std.proofs.Common.{
-  ◌≡◌,
-  ℕ,
-  zero,
-  suc,
-  ◌+◌,
-  ◌-◌,
-  ◌/◌,
-  ◌^◌,
-  ◌<◌,
-  ◌≤◌,
-  max,
-  Bool,
-  true,
-  false,
-  cond,
-  List,
-  [],
-  ◌∷◌,
-  ◌++◌,
-  length,
-  get_or,
-  take,
-  drop,
-  map,
-  sum,
-  Option,
-  ◌⊎◌,
-  inl,
-  inr,
-  refl,
-  sym,
-  ◌∙◌,
-  ap,
-  subst,
-  arith,
-}
+use Rattle.std.proofs.Common.{◌≡◌, ℕ, zero, suc, ◌+◌, ◌-◌, ◌/◌, ◌^◌, ◌<◌, ◌≤◌, max, Bool, true, false, cond, List, [], ◌∷◌, ◌++◌, length, get_or, take, drop}
+use Rattle.std.proofs.Common.{map, sum, Option, ◌⊎◌, inl, inr, refl, sym, ◌∙◌, ap, subst, arith}
+use Rattle.std.proofs.lemmas.{Bool.cases_lt, Bool.cases_eq, Bool.eq-eqb, List.get_or_past, List.get_or-map}
+use Rattle.std.proofs.lemmas.List.{get_or-take, get_or_push, get_or_default, get_or_append_left, length-map, length-take-le, drop_more, drop_all, append_assoc}
 use Rattle.std.specs.Prelude.{nat_eq, slice_index_or}
-use Rattle.std.proofs.lemmas.Bool.{cases_lt, cases_eq, eq-eqb}
-use Rattle.std.proofs.lemmas.List.{
-  get_or_past,
-  get_or-map,
-  get_or-take,
-  get_or_push,
-  get_or_default,
-  get_or_append_left,
-  length-map,
-  length-take-le,
-  drop_more,
-  drop_all,
-  append_assoc,
-}
-use Rattle.travel_times.specs.declared.TheConstants.{BIN_SECONDS}
-use Rattle.travel_times.specs.declared.profiles.Bin.{Bin}
-use Rattle.travel_times.specs.declared.profiles.Profile.TheInside.{Inside}
-use Rattle.travel_times.specs.declared.tallies.Tally.{Tally}
+use Rattle.travel_times.specs.{Binned.tallies_of, Binned.time_of, Binned.bins_from, Observed.average_or, Observed.link_at, Observed.observed}
+use Rattle.travel_times.specs.{Observed.observed_time, Profiles.profile_of, Profiles.IsProfile, Tallies.no_tally, Tallies.tally_at, Tallies.IsSeen}
+use Rattle.travel_times.specs.{Tallies.IsKnown, Times.LinkProfile, Times.time_in, Times.profile_at, Times.free_of, declared.TheConstants.BIN_SECONDS}
+use Rattle.travel_times.specs.declared.{observations.Entry.Entry, profiles.Bin.Bin, profiles.Profile.TheInside.Inside, tallies.Tally.Tally}
 use Rattle.fixed_flow.specs.Link.{free_seconds}
 use Rattle.rows.specs.declared.network.LinkRow.{LinkRow}
 use Rattle.events.specs.declared.event.Event.{Event}
-use Rattle.travel_times.specs.declared.observations.Entry.{Entry}
-use Rattle.travel_times.specs.Times.{LinkProfile, time_in, profile_at, free_of}
-use Rattle.travel_times.specs.Profiles.{profile_of, IsProfile}
-use Rattle.travel_times.specs.Observed.{average_or, link_at, observed, observed_time}
-use Rattle.travel_times.specs.Tallies.{no_tally, tally_at, IsSeen, IsKnown}
-use Rattle.travel_times.specs.Binned.{tallies_of, time_of, bins_from}
 
 abbrev bin_in : List Bin → ℕ → Bin
 bin_in bins k = slice_index_or bins k (record { time = 1; hold = 0 })

@@ -2,9 +2,8 @@
 use Rattle.std.proofs.Common.{◌≡◌, ℕ, zero, suc, ◌+◌, max, List, [], ◌∷◌, refl, ap, arith}
 use Rattle.rows.specs.declared.network.LinkRow.{LinkRow}
 use Rattle.walks.specs.Alike.{TakesAlike}
+use Rattle.travel_times.proofs.{Arriving.held_none, Held.arrival_free}
 use Rattle.travel_times.specs.Times.{LinkProfile, time_in, profile_at, arrivals, free_times}
-use Rattle.travel_times.proofs.Arriving.{held_none}
-use Rattle.travel_times.proofs.Held.{arrival_free}
 
 no_bins : (links : List LinkRow) (link : ℕ) → (profile_at (free_times links) link).times ≡ []
 no_bins [] link = refl

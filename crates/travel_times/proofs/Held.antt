@@ -1,41 +1,10 @@
 -- What a profile says of the second of arrival.
-use Rattle.std.proofs.Common.{
-  ◌≡◌,
-  ℕ,
-  zero,
-  suc,
-  ◌+◌,
-  ◌-◌,
-  ◌*◌,
-  ◌/◌,
-  ◌^◌,
-  ◌<◌,
-  ◌≤◌,
-  max,
-  min,
-  List,
-  [],
-  ◌∷◌,
-  length,
-  map,
-  get_or,
-  inl,
-  inr,
-  refl,
-  sym,
-  ◌∙◌,
-  ap,
-  arith,
-}
+use Rattle.std.proofs.Common.{◌≡◌, ℕ, zero, suc, ◌+◌, ◌-◌, ◌*◌, ◌/◌, ◌^◌, ◌<◌, ◌≤◌, max, min, List, [], ◌∷◌, length, map, get_or, inl, inr, refl, sym, ◌∙◌, ap}
+use Rattle.std.proofs.{Common.arith, lemmas.Bool.cases_lt, lemmas.List.get_or_past, lemmas.List.get_or-map, lemmas.List.get_or_read, lemmas.List.length-map}
 use Rattle.std.specs.Prelude.{slice_index_or}
-use Rattle.std.proofs.lemmas.Bool.{cases_lt}
-use Rattle.std.proofs.lemmas.List.{get_or_past, get_or-map, get_or_read, length-map}
-use Rattle.travel_times.specs.declared.TheConstants.{BIN_SECONDS}
-use Rattle.travel_times.specs.declared.profiles.Bin.{Bin}
-use Rattle.travel_times.specs.declared.profiles.Profile.TheInside.{Inside}
-use Rattle.travel_times.specs.Times.{time_in, last_second, arrival_by}
-use Rattle.travel_times.specs.Profiles.{bin_at, profile_of, IsProfile}
 use Rattle.travel_times.proofs.Arriving.{held, held_none, held_more, held_in_order, arrival_is}
+use Rattle.travel_times.specs.{Profiles.bin_at, Profiles.profile_of, Profiles.IsProfile, Times.time_in, Times.last_second, Times.arrival_by}
+use Rattle.travel_times.specs.declared.{TheConstants.BIN_SECONDS, profiles.Bin.Bin, profiles.Profile.TheInside.Inside}
 
 -- the time of a bin that is there, and of one that is not
 time_of_bin : (p : Inside) (k : ℕ) → IsProfile p → k < length p.bins.items → time_in (profile_of p) k ≡ (bin_at p k).time

@@ -1,63 +1,13 @@
 -- What is known of the cars after one event more.
-use Rattle.std.proofs.Common.{
-  ◌≡◌,
-  ℕ,
-  zero,
-  suc,
-  ◌+◌,
-  ◌-◌,
-  ◌^◌,
-  ◌<◌,
-  ◌≤◌,
-  Bool,
-  true,
-  false,
-  cond,
-  List,
-  [],
-  ◌∷◌,
-  ◌++◌,
-  length,
-  get_or,
-  Option,
-  None,
-  Some,
-  ◌⊎◌,
-  inl,
-  inr,
-  refl,
-  sym,
-  ◌∙◌,
-  ap,
-  subst,
-  length-append,
-  arith,
-}
-use Rattle.std.specs.Prelude.{nat_eq, sum, sum_by, slice_index_or, IfSome}
-use Rattle.std.specs.List.{cons_option}
-use Rattle.std.specs.Option.{option_map_or}
-use Rattle.std.proofs.lemmas.Bool.{cases_eq, eq-eqb, ne_eqb}
-use Rattle.std.proofs.Math.ListN.{get_or-append}
-use Rattle.std.proofs.Math.Seq.{get_or-append_seam}
-use Rattle.std.proofs.lemmas.List.Sums.{sum_by-cons}
+use Rattle.std.proofs.Common.{◌≡◌, ℕ, zero, suc, ◌+◌, ◌-◌, ◌^◌, ◌<◌, ◌≤◌, Bool, true, false, cond, List, [], ◌∷◌, ◌++◌, length, get_or, Option, None, Some, ◌⊎◌}
+use Rattle.std.proofs.Common.{inl, inr, refl, sym, ◌∙◌, ap, subst, length-append, arith}
+use Rattle.std.proofs.Math.{ListN.get_or-append, Seq.get_or-append_seam}
+use Rattle.std.proofs.lemmas.{Bool.cases_eq, Bool.eq-eqb, Bool.ne_eqb, List.Sums.sum_by-cons}
+use Rattle.std.specs.{List.cons_option, Option.option_map_or, Prelude.nat_eq, Prelude.sum, Prelude.sum_by, Prelude.slice_index_or, Prelude.IfSome}
 use Rattle.events.specs.declared.event.Event.{Event}
-use Rattle.travel_times.specs.declared.tallies.Tally.{Tally}
-use Rattle.travel_times.specs.declared.observations.Entry.{Entry}
-use Rattle.travel_times.specs.Observed.{car_of, observed_from, observed}
-use Rattle.travel_times.specs.Tallies.{with_stay, tally_at, HasRows, entry_of, ended_stay, EndsStay, entry_after}
-use Rattle.travel_times.specs.Tallies.{IsKnown, IsPiece}
-use Rattle.travel_times.proofs.Stays.{
-  entry_other,
-  entry_own,
-  tells_same,
-  tells_none,
-  weight,
-  total,
-  total_car,
-  observed_other,
-  entered_by,
-  entry_tells,
-}
+use Rattle.travel_times.specs.{declared.tallies.Tally.Tally, declared.observations.Entry.Entry, Observed.car_of, Observed.observed_from, Observed.observed}
+use Rattle.travel_times.specs.Tallies.{with_stay, tally_at, HasRows, entry_of, ended_stay, EndsStay, entry_after, IsKnown, IsPiece}
+use Rattle.travel_times.proofs.Stays.{entry_other, entry_own, tells_same, tells_none, weight, total, total_car, observed_other, entered_by, entry_tells}
 
 -- before the first event nothing is known
 pub known_none : (links : ℕ) (rows : List (List Tally)) (entries : List (Option Entry)) → rows ≡ [] → entries ≡ [] →

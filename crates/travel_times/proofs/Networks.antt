@@ -1,13 +1,7 @@
 -- What the links of a network keep.
-use Rattle.std.proofs.Common.{◌≡◌, ℕ, ◌<◌, true, List, length, arith}
-use Rattle.std.specs.Prelude.{slice_index_or}
-use Rattle.std.specs.List.{list_all}
-use Rattle.std.proofs.lemmas.Bool.Decides.{nat_tests}
-use Rattle.std.proofs.lemmas.List.{length-map}
-use Rattle.std.proofs.lemmas.List.Sums.{AllPass-from_list_all}
-use Rattle.rows.specs.declared.network.LinkRow.{LinkRow}
-use Rattle.rows.specs.Joined.{ends_of, ends_of_link}
-use Rattle.rows.specs.Networks.{is_link, are_measures}
+use Rattle.std.proofs.{Common.◌≡◌, Common.ℕ, Common.◌<◌, Common.true, Common.List, Common.length, Common.arith, lemmas.Bool.Decides.nat_tests}
+use Rattle.std.{proofs.lemmas.List.length-map, proofs.lemmas.List.Sums.AllPass-from_list_all, specs.List.list_all, specs.Prelude.slice_index_or}
+use Rattle.rows.specs.{Joined.ends_of, Joined.ends_of_link, Networks.is_link, Networks.are_measures, declared.network.LinkRow.LinkRow}
 
 moves : (nodes : ℕ) (link : LinkRow) → is_link nodes link ≡ true → 0 < link.speed
 unfolding is_link are_measures

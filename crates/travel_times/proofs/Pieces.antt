@@ -1,15 +1,9 @@
 -- Pieces of a day, one event after the other.
-use Rattle.std.proofs.Common.{◌≡◌, ℕ, ◌+◌, ◌<◌, ◌≤◌, List, [], ◌∷◌, ◌++◌, length, get_or}
-use Rattle.std.proofs.Common.{take, drop, sym, ◌∙◌, ap, subst}
-use Rattle.std.proofs.Common.{append_assoc, append-nil, length-append, arith}
+use Rattle.std.proofs.Common.{◌≡◌, ℕ, ◌+◌, ◌<◌, ◌≤◌, List, [], ◌∷◌, ◌++◌, length, get_or, take, drop, sym, ◌∙◌, ap, subst, append_assoc, append-nil}
+use Rattle.std.proofs.{Common.length-append, Common.arith, Math.ListN.get_or-append, lemmas.List.take_more, lemmas.List.take-append-drop, lemmas.List.take_all}
 use Rattle.std.specs.Prelude.{IfSome}
-use Rattle.std.proofs.Math.ListN.{get_or-append}
-use Rattle.std.proofs.lemmas.List.{take_more, take-append-drop, take_all}
 use Rattle.events.specs.declared.event.Event.{Event}
-use Rattle.travel_times.specs.declared.observations.Observations.{Observations}
-use Rattle.travel_times.specs.Observed.{AreInOrder, AreOnLinks}
-use Rattle.travel_times.specs.Tallies.{IsPiece}
-use Rattle.travel_times.specs.Known.{Knows}
+use Rattle.travel_times.specs.{Known.Knows, Observed.AreInOrder, Observed.AreOnLinks, Tallies.IsPiece, declared.observations.Observations.Observations}
 
 pub order_front : (xs ys : List Event) → AreInOrder (xs ++ ys) → AreInOrder xs
 order_front xs ys h = λ i j d less here.

@@ -1,50 +1,12 @@
 -- The stays that one more event ends: at most one, that of the car that it tells of, on the link that the car has entered.
-use Rattle.std.proofs.Common.{
-  ◌≡◌,
-  ℕ,
-  zero,
-  suc,
-  ◌+◌,
-  ◌-◌,
-  ◌/◌,
-  ◌<◌,
-  ◌≤◌,
-  Bool,
-  true,
-  false,
-  cond,
-  ◌&&◌,
-  List,
-  [],
-  ◌∷◌,
-  ◌++◌,
-  length,
-  get_or,
-  fold,
-  Option,
-  None,
-  Some,
-  ◌⊎◌,
-  inl,
-  inr,
-  refl,
-  sym,
-  ◌∙◌,
-  ap,
-  subst,
-  arith,
-  add_assoc,
-}
-use Rattle.std.specs.Prelude.{nat_eq, find, sum_by, option_and_then}
-use Rattle.std.specs.List.{cons_option}
-use Rattle.std.specs.Option.{option_eq, option_map, option_map_or, option_or}
-use Rattle.std.proofs.lemmas.Bool.{cases_Bool, cases_eq, eq-eqb, eqb-true, ne_eqb}
-use Rattle.std.proofs.lemmas.List.Folds.{find-append}
-use Rattle.std.proofs.lemmas.List.Sums.{fold_push, sum_by-cons}
+use Rattle.std.proofs.Common.{◌≡◌, ℕ, zero, suc, ◌+◌, ◌-◌, ◌/◌, ◌<◌, ◌≤◌, Bool, true, false, cond, ◌&&◌, List, [], ◌∷◌, ◌++◌, length, get_or, fold, Option}
+use Rattle.std.proofs.Common.{None, Some, ◌⊎◌, inl, inr, refl, sym, ◌∙◌, ap, subst, arith, add_assoc}
+use Rattle.std.proofs.lemmas.{Bool.cases_Bool, Bool.cases_eq, Bool.eq-eqb, Bool.eqb-true, Bool.ne_eqb, List.Folds.find-append, List.Sums.fold_push}
+use Rattle.std.{proofs.lemmas.List.Sums.sum_by-cons, specs.List.cons_option, specs.Option.option_eq}
+use Rattle.std.specs.{Option.option_map, Option.option_map_or, Option.option_or, Prelude.nat_eq, Prelude.find, Prelude.sum_by, Prelude.option_and_then}
 use Rattle.events.specs.declared.event.Event.{Event}
-use Rattle.travel_times.specs.declared.observations.Entry.{Entry}
 use Rattle.travel_times.specs.Observed.{car_of, tells_of, is_entry, enters, leaves, bin_of, seconds_until, observed_from, observed}
-use Rattle.travel_times.specs.Tallies.{entry_of, ended_stay, entry_after}
+use Rattle.travel_times.specs.{Tallies.entry_of, Tallies.ended_stay, Tallies.entry_after, declared.observations.Entry.Entry}
 
 abbrev pub step : ℕ → Option Entry → Event → Option Entry
 step car last event = cond (tells_of car event) (entry_of event) last

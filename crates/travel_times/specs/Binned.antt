@@ -1,10 +1,7 @@
 -- The bins of a link by the tallies of it.
 use Rattle.std.specs.Prelude.{ℕ, ◌-◌, max, List, [], ◌∷◌, map, slice_index_or}
-use Rattle.travel_times.specs.declared.TheConstants.{BIN_SECONDS}
-use Rattle.travel_times.specs.declared.profiles.Bin.{Bin}
-use Rattle.travel_times.specs.declared.tallies.Tally.{Tally}
-use Rattle.travel_times.specs.Observed.{average_or}
-use Rattle.travel_times.specs.Tallies.{no_tally}
+use Rattle.travel_times.specs.{Observed.average_or, Tallies.no_tally}
+use Rattle.travel_times.specs.declared.{TheConstants.BIN_SECONDS, profiles.Bin.Bin, tallies.Tally.Tally}
 
 -- the tallies of a link, bin by bin
 abbrev pub tallies_of : ℕ → List (List Tally) → List Tally

@@ -1,8 +1,7 @@
 -- What observations stand for.
 use Rattle.std.specs.Prelude.{ℕ, List}
 use Rattle.events.specs.declared.event.Event.{Event}
-use Rattle.travel_times.specs.declared.observations.Observations.{Observations}
-use Rattle.travel_times.specs.Tallies.{IsKnown}
+use Rattle.travel_times.specs.{Tallies.IsKnown, declared.observations.Observations.Observations}
 
 -- how many links there are
 abbrev pub links_of : Observations → ℕ

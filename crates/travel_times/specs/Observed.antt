@@ -1,43 +1,13 @@
 -- What the events of a day show of travel times. A car is observed on a link where it enters the link and the next event that tells
 -- of the car is that it leaves this link. Transit vehicles are not observed, since they dwell.
-use Rattle.std.specs.Prelude.{
-  ℕ,
-  ◌≤◌,
-  ◌-◌,
-  ◌/◌,
-  ◌<◌,
-  max,
-  nat_eq,
-  sum,
-  Bool,
-  true,
-  false,
-  ◌&&◌,
-  if◌then◌else◌,
-  List,
-  [],
-  ◌∷◌,
-  length,
-  find,
-  All,
-  AllPairs,
-  slice_index_or,
-  Option,
-  None,
-  Some,
-  option_and_then,
-  IfSome,
-}
-use Rattle.std.specs.List.{cons_option}
-use Rattle.std.specs.Option.{option_eq}
-use Rattle.events.specs.declared.event.Event.{Event}
-use Rattle.events.specs.declared.event.VehicleId.{VehicleId}
+use Rattle.std.specs.{List.cons_option, Option.option_eq}
+use Rattle.std.specs.Prelude.{ℕ, ◌≤◌, ◌-◌, ◌/◌, ◌<◌, max, nat_eq, sum, Bool, true, false, ◌&&◌, if◌then◌else◌, List, [], ◌∷◌, length, find, All, AllPairs}
+use Rattle.std.specs.Prelude.{slice_index_or, Option, None, Some, option_and_then, IfSome}
+use Rattle.events.specs.declared.event.{Event.Event, VehicleId.VehicleId, Word.Word}
 use Rattle.events.specs.declared.event.VehicleId.TheVariants as vehicle
-use Rattle.events.specs.declared.event.Word.{Word}
 use Rattle.events.specs.declared.event.Word.TheVariants as word
 use Rattle.rows.specs.declared.network.LinkRow.{LinkRow}
-use Rattle.travel_times.specs.declared.TheConstants.{BIN_SECONDS}
-use Rattle.travel_times.specs.Times.{free_of}
+use Rattle.travel_times.specs.{Times.free_of, declared.TheConstants.BIN_SECONDS}
 
 -- no event comes before an earlier one of the list
 abbrev pub AreInOrder : List Event → Type 0

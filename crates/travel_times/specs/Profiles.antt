@@ -1,9 +1,6 @@
 -- What a profile keeps, and what contracts see of it.
 use Rattle.std.specs.Prelude.{◌≡◌, ℕ, suc, ◌-◌, ◌^◌, ◌<◌, ◌≤◌, max, length, map, slice_index_or}
-use Rattle.travel_times.specs.declared.TheConstants.{BIN_SECONDS}
-use Rattle.travel_times.specs.declared.profiles.Bin.{Bin}
-use Rattle.travel_times.specs.declared.profiles.Profile.TheInside.{Inside}
-use Rattle.travel_times.specs.Times.{LinkProfile}
+use Rattle.travel_times.specs.{Times.LinkProfile, declared.TheConstants.BIN_SECONDS, declared.profiles.Bin.Bin, declared.profiles.Profile.TheInside.Inside}
 
 -- the bin of this number
 abbrev pub bin_at : Inside → ℕ → Bin

@@ -1,37 +1,10 @@
 -- What is known of cars while the events of a day are gone through: on which link each is, and what was seen of each link and bin.
-use Rattle.std.specs.Prelude.{
-  ◌≡◌,
-  ℕ,
-  ◌+◌,
-  ◌-◌,
-  ◌*◌,
-  ◌/◌,
-  ◌^◌,
-  ◌<◌,
-  ◌≤◌,
-  ◌⊎◌,
-  ◌++◌,
-  max,
-  nat_eq,
-  ◌&&◌,
-  sum,
-  List,
-  [],
-  length,
-  fold,
-  slice_index_or,
-  Option,
-  None,
-  Some,
-  if◌then◌else◌,
-}
-use Rattle.std.specs.Option.{option_map, option_map_or}
+use Rattle.std.specs.{Option.option_map, Option.option_map_or, Prelude.◌≡◌, Prelude.ℕ, Prelude.◌+◌, Prelude.◌-◌, Prelude.◌*◌}
+use Rattle.std.specs.Prelude.{◌/◌, ◌^◌, ◌<◌, ◌≤◌, ◌⊎◌, ◌++◌, max, nat_eq, ◌&&◌, sum, List, [], length, fold, slice_index_or, Option, None, Some, if◌then◌else◌}
 use Rattle.events.specs.declared.event.Event.{Event}
-use Rattle.travel_times.specs.declared.tallies.Tally.{Tally}
-use Rattle.travel_times.specs.declared.observations.Entry.{Entry}
-use Rattle.travel_times.specs.declared.TheConstants.{BIN_SECONDS}
-use Rattle.travel_times.specs.Times.{LinkProfile, time_in}
 use Rattle.travel_times.specs.Observed.{AreInOrder, AreOnLinks, tells_of, is_entry, leaves, observed, average_or}
+use Rattle.travel_times.specs.Times.{LinkProfile, time_in}
+use Rattle.travel_times.specs.declared.{TheConstants.BIN_SECONDS, observations.Entry.Entry, tallies.Tally.Tally}
 
 -- no car
 abbrev pub no_tally : Tally

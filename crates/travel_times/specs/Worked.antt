@@ -1,9 +1,7 @@
 -- A worked link, and the events of some vehicles on it.
 use Rattle.std.specs.Prelude.{ℕ, zero, suc, List, [], ◌∷◌, None, Some}
-use Rattle.events.specs.declared.event.Event.{Event}
-use Rattle.events.specs.declared.event.VehicleId.{VehicleId}
+use Rattle.events.specs.declared.event.{Event.Event, VehicleId.VehicleId, Word.Word}
 use Rattle.events.specs.declared.event.VehicleId.TheVariants as vehicle
-use Rattle.events.specs.declared.event.Word.{Word}
 use Rattle.events.specs.declared.event.Word.TheVariants as word
 use Rattle.events.specs.declared.event.More.TheVariants as more
 use Rattle.rows.specs.declared.network.LinkRow.{LinkRow}

@@ -2,11 +2,9 @@
 
 ghost use Rattle.std.specs.Prelude.{◌≡◌, List, [], ◌∷◌};
 ghost use Rattle.rows.specs.declared.network.LinkRow.{LinkRow};
-ghost use Rattle.walks.specs.Arrivals.{IsFifo};
-ghost use Rattle.walks.specs.Alike.{TakesAlike};
-ghost use Rattle.travel_times.specs.Times.{LinkProfile, arrival_by, arrivals, free_times};
-ghost use Rattle.travel_times.specs.Observed.{observed, observed_time};
-ghost use Rattle.travel_times.specs.Worked.{slow_first, some_seen, ten_seconds};
+ghost use Rattle.walks.specs.{Alike.TakesAlike, Arrivals.IsFifo};
+ghost use Rattle.travel_times.specs.{Observed.observed, Observed.observed_time, Times.LinkProfile, Times.arrival_by, Times.arrivals};
+ghost use Rattle.travel_times.specs.{Times.free_times, Worked.slow_first, Worked.some_seen, Worked.ten_seconds};
 
 /// Whatever is known of links, an arrival is later than the entry, and who enters later arrives no earlier.
 pub fn links_are_first_in_first_out()

@@ -1,8 +1,8 @@
 ghost use Rattle.std.specs.Prelude.{◌≡◌, ℕ, ◌+◌, ◌^◌, ◌<◌, ◌≤◌, max, List, length, nat_eq, IfOk, All};
 ghost use Rattle.travel_times.specs.Times.{LinkProfile, time_in, arrival_by, profile_at, free_of, arrivals, free_times};
-ghost use Rattle.events.specs.declared.event.Event.{Event};
 ghost use Rattle.travel_times.specs.Observed.{AreInOrder, AreOnLinks, link_at, observed_time};
 ghost use Rattle.travel_times.specs.Known.{Knows, links_of};
+ghost use Rattle.events.specs.declared.event.Event.{Event};
 
 use crate::observations::Observations;
 use crate::profiles::Profile;

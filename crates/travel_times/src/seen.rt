@@ -1,8 +1,6 @@
 ghost use Rattle.std.specs.Prelude.{◌≡◌, ℕ, ◌≤◌, ◌<◌, length, map, IfOk, All};
-ghost use Rattle.travel_times.specs.Times.{free_of, profile_at};
-ghost use Rattle.travel_times.specs.Observed.{link_at};
-ghost use Rattle.travel_times.specs.Tallies.{no_tally, tally_at, HasRows, IsSmall, IsSeen};
-ghost use Rattle.travel_times.specs.Binned.{tallies_of, bins_from};
+ghost use Rattle.travel_times.specs.{Binned.tallies_of, Binned.bins_from, Observed.link_at, Tallies.no_tally, Tallies.tally_at};
+ghost use Rattle.travel_times.specs.{Tallies.HasRows, Tallies.IsSmall, Tallies.IsSeen, Times.free_of, Times.profile_at};
 
 use crate::BIN_SECONDS;
 use crate::profiles::{Bin, Profile};

@@ -1,5 +1,4 @@
-ghost use Rattle.std.specs.Prelude.{◌≡◌, ℕ, ◌+◌, ◌-◌, ◌^◌, ◌<◌, ◌≤◌, ◌⊎◌, max, []};
-ghost use Rattle.std.specs.Prelude.{length, slice_index_or, slice_set, OnOk};
+ghost use Rattle.std.specs.Prelude.{◌≡◌, ℕ, ◌+◌, ◌-◌, ◌^◌, ◌<◌, ◌≤◌, ◌⊎◌, max, [], length, slice_index_or, slice_set, OnOk};
 ghost use Rattle.travel_times.specs.Observed.{average_or};
 ghost use Rattle.travel_times.specs.Tallies.{no_tally, with_stay, IsSmall, row_at, tally_at, HasRows, Adds};
 

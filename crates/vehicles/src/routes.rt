@@ -1,8 +1,7 @@
 //! Where a vehicle is on its route.
 
 ghost use Rattle.std.specs.Prelude.{◌≡◌};
-ghost use Rattle.traffic.specs.Links.{is_last};
-ghost use Rattle.traffic.specs.Nodes.{next_link};
+ghost use Rattle.traffic.specs.{Links.is_last, Nodes.next_link};
 
 use traffic::Vehicle;
 

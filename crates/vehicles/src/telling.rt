@@ -1,12 +1,9 @@
 //! What a move tells.
 
-ghost use Rattle.std.specs.Prelude.{◌≡◌, ◌<◌, ◌++◌, OnOk, IfOk};
-ghost use Rattle.std.specs.List.{flat_map};
-ghost use Rattle.traffic.specs.Stops.{alighting, staying};
-ghost use Rattle.traffic.specs.Telling.{of_person, of_rider, of_vehicle, of_driver, driver, mode_in, leaves, enters, starts, arrives};
-ghost use Rattle.traffic.specs.Telling.{strands, aborts, boarded, serves, goes_on, changes_links, told_to, told_transfer, told_removal};
-ghost use Rattle.traffic.specs.Telling.{told_entering};
-ghost use Rattle.traffic.specs.Moves.{told};
+ghost use Rattle.std.specs.{List.flat_map, Prelude.◌≡◌, Prelude.◌<◌, Prelude.◌++◌, Prelude.OnOk, Prelude.IfOk};
+ghost use Rattle.traffic.specs.{Moves.told, Stops.alighting, Stops.staying, Telling.of_person};
+ghost use Rattle.traffic.specs.Telling.{of_rider, of_vehicle, of_driver, driver, mode_in, leaves, enters, starts, arrives, strands, aborts};
+ghost use Rattle.traffic.specs.Telling.{boarded, serves, goes_on, changes_links, told_to, told_transfer, told_removal, told_entering};
 
 use crate::stops::{alights, call_at, next_call, staying};
 use events::{Mode, More, VehicleId, Word};

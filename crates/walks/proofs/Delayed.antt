@@ -1,45 +1,12 @@
 -- A search that begins later, along links that take as long whenever they are entered: it finds the same, later by as much.
-use Rattle.std.proofs.Common.{
-  ◌≡◌,
-  ℕ,
-  zero,
-  suc,
-  ◌+◌,
-  min,
-  Bool,
-  true,
-  false,
-  cond,
-  ◌&&◌,
-  List,
-  [],
-  ◌∷◌,
-  ◌++◌,
-  length,
-  map,
-  fold,
-  Option,
-  None,
-  Some,
-  inl,
-  inr,
-  refl,
-  sym,
-  ◌∙◌,
-  ap,
-  arith,
-}
-use Rattle.std.specs.Prelude.{nat_eq, find}
-use Rattle.std.specs.List.{range_with_len}
-use Rattle.std.specs.Option.{option_map, option_map_or, option_eq}
-use Rattle.std.proofs.Math.ListN.{get_or-map}
-use Rattle.std.proofs.lemmas.Bool.{cases_eq, eq-eqb, ne_eqb}
-use Rattle.walks.specs.Arrivals.{Arrivals}
-use Rattle.walks.specs.Walks.{Ends, start_of, end_of}
+use Rattle.std.proofs.Common.{◌≡◌, ℕ, zero, suc, ◌+◌, min, Bool, true, false, cond, ◌&&◌, List, [], ◌∷◌, ◌++◌, length, map, fold, Option, None, Some, inl, inr}
+use Rattle.std.proofs.Common.{refl, sym, ◌∙◌, ap, arith}
+use Rattle.std.proofs.{Math.ListN.get_or-map, lemmas.Bool.cases_eq, lemmas.Bool.eq-eqb, lemmas.Bool.ne_eqb}
+use Rattle.std.specs.{List.range_with_len, Option.option_map, Option.option_map_or, Option.option_eq, Prelude.nat_eq, Prelude.find}
+use Rattle.walks.specs.{Alike.TakesAlike, Alike.delayed, Arrivals.Arrivals, Chosen.leads, Chosen.link_before, Chosen.followed, Chosen.chosen_route}
 use Rattle.walks.specs.Rounds.{Labels, label_at, along, links_into, start_labels, relabelled, labels_after, least_labels}
+use Rattle.walks.specs.Walks.{Ends, start_of, end_of}
 use Rattle.calendar.specs.Waking.{earliest}
-use Rattle.walks.specs.Chosen.{leads, link_before, followed, chosen_route}
-use Rattle.walks.specs.Alike.{TakesAlike, delayed}
 
 same_test : (later a b : ℕ) → nat_eq (later + a) (later + b) ≡ nat_eq a b
 same_test later a b =

@@ -1,50 +1,14 @@
 -- The route that is followed back: there is a link before each labelled node but the start, and the links are a walk that arrives in the
 -- second of the label.
-use Rattle.std.proofs.Common.{
-  ◌≡◌,
-  ℕ,
-  zero,
-  suc,
-  ◌+◌,
-  ◌<◌,
-  ◌≤◌,
-  Bool,
-  true,
-  false,
-  cond,
-  ◌&&◌,
-  List,
-  [],
-  ◌∷◌,
-  ◌++◌,
-  length,
-  Option,
-  None,
-  Some,
-  ◌⊎◌,
-  inl,
-  inr,
-  refl,
-  sym,
-  ◌∙◌,
-  ap,
-  subst,
-  arith,
-}
-use Rattle.std.specs.Prelude.{nat_eq, find}
-use Rattle.std.specs.List.{range_with_len}
-use Rattle.std.specs.Option.{option_eq, option_map_or}
+use Rattle.std.proofs.Common.{◌≡◌, ℕ, zero, suc, ◌+◌, ◌<◌, ◌≤◌, Bool, true, false, cond, ◌&&◌, List, [], ◌∷◌, ◌++◌, length, Option, None, Some, ◌⊎◌, inl, inr}
+use Rattle.std.proofs.Common.{refl, sym, ◌∙◌, ap, subst, arith}
 use Rattle.std.proofs.lemmas.Bool.{cases_Bool, eq-eqb, eqb-true, eqb-false, and_parts, and_from, false_from_ne_true}
-use Rattle.walks.specs.Arrivals.{Arrivals, IsFifo}
-use Rattle.walks.specs.Walks.{Ends, start_of, end_of, AreWithin, IsWalk, arrival}
+use Rattle.std.specs.{List.range_with_len, Option.option_eq, Option.option_map_or, Prelude.nat_eq, Prelude.find}
+use Rattle.walks.proofs.{Kept.walk_more, Kept.arrival_more, Kept.kept_by, Labels.some_by, Least.bounds_walks, Least.least_reached, Least.least_start}
+use Rattle.walks.proofs.{Least.least_kept, Ranks.rank-le-length, Ranks.rank_less, Rounds.length-after}
+use Rattle.walks.specs.{Arrivals.Arrivals, Arrivals.IsFifo, Certificates.IsKept, Chosen.leads, Chosen.link_before, Chosen.followed, Chosen.chosen_route}
 use Rattle.walks.specs.Rounds.{Labels, label_at, IsBy, rank, least_labels}
-use Rattle.walks.specs.Chosen.{leads, link_before, followed, chosen_route}
-use Rattle.walks.proofs.Labels.{some_by}
-use Rattle.walks.proofs.Ranks.{rank-le-length, rank_less}
-use Rattle.walks.specs.Certificates.{IsKept}
-use Rattle.walks.proofs.Kept.{walk_more, arrival_more, kept_by}
-use Rattle.walks.proofs.Rounds.{length-after}
-use Rattle.walks.proofs.Least.{bounds_walks, least_reached, least_start, least_kept}
+use Rattle.walks.specs.Walks.{Ends, start_of, end_of, AreWithin, IsWalk, arrival}
 
 -- the first number that passes, where one does
 pub find_some : (p : ℕ → Bool) (low count found : ℕ) → find p (range_with_len low count) ≡ Some found →

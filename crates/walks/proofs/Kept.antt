@@ -1,33 +1,8 @@
 -- Walks one link longer, and labels that are kept along them.
-use Rattle.std.proofs.Common.{
-  ◌≡◌,
-  ℕ,
-  zero,
-  suc,
-  ◌+◌,
-  ◌<◌,
-  ◌≤◌,
-  List,
-  [],
-  ◌∷◌,
-  ◌++◌,
-  length,
-  Option,
-  None,
-  Some,
-  refl,
-  sym,
-  ◌∙◌,
-  ap,
-  subst,
-  arith,
-}
+use Rattle.std.proofs.Common.{◌≡◌, ℕ, zero, suc, ◌+◌, ◌<◌, ◌≤◌, List, [], ◌∷◌, ◌++◌, length, Option, None, Some, refl, sym, ◌∙◌, ap, subst, arith}
 use Rattle.std.specs.Prelude.{IfSome}
-use Rattle.walks.specs.Arrivals.{Arrivals, IsFifo}
-use Rattle.walks.specs.Walks.{Ends, start_of, end_of, IsWalk, arrival}
-use Rattle.walks.specs.Rounds.{Labels, label_at, IsBy}
-use Rattle.walks.specs.Certificates.{IsKept}
-use Rattle.walks.proofs.Labels.{some_by, by_later}
+use Rattle.walks.{proofs.Labels.some_by, proofs.Labels.by_later, specs.Arrivals.Arrivals, specs.Arrivals.IsFifo}
+use Rattle.walks.specs.{Certificates.IsKept, Rounds.Labels, Rounds.label_at, Rounds.IsBy, Walks.Ends, Walks.start_of, Walks.end_of, Walks.IsWalk, Walks.arrival}
 
 module _ (ends : Ends) (arrive : Arrivals) where
   pub walk_more : (from : ℕ) (links : List ℕ) (to link : ℕ) → IsWalk ends from links to → link < length ends → start_of ends link ≡ to

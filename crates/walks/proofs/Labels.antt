@@ -1,45 +1,10 @@
 -- Labels: which is earlier, and what a node's label is after a round.
-use Rattle.std.proofs.Common.{
-  ◌≡◌,
-  ℕ,
-  zero,
-  suc,
-  ◌+◌,
-  ◌<◌,
-  ◌≤◌,
-  min,
-  Bool,
-  true,
-  false,
-  cond,
-  List,
-  [],
-  ◌∷◌,
-  ◌++◌,
-  length,
-  get_or,
-  map,
-  Option,
-  None,
-  Some,
-  ◌⊎◌,
-  inl,
-  inr,
-  refl,
-  sym,
-  ◌∙◌,
-  ap,
-  subst,
-  arith,
-  fold,
-}
-use Rattle.std.specs.Prelude.{nat_eq, filter}
-use Rattle.std.specs.List.{enumerate_from}
-use Rattle.std.specs.Option.{option_map}
+use Rattle.std.proofs.Common.{◌≡◌, ℕ, zero, suc, ◌+◌, ◌<◌, ◌≤◌, min, Bool, true, false, cond, List, [], ◌∷◌, ◌++◌, length, get_or, map, Option, None, Some, ◌⊎◌}
+use Rattle.std.proofs.Common.{inl, inr, refl, sym, ◌∙◌, ap, subst, arith, fold}
 use Rattle.std.proofs.lemmas.Bool.{cases_Bool, eq-eqb, eqb-true}
-use Rattle.walks.specs.Arrivals.{Arrivals}
+use Rattle.std.specs.{List.enumerate_from, Option.option_map, Prelude.nat_eq, Prelude.filter}
+use Rattle.walks.specs.{Arrivals.Arrivals, Rounds.Labels, Rounds.label_at, Rounds.IsBy, Rounds.along, Rounds.relabelled}
 use Rattle.walks.specs.Walks.{Ends, start_of, end_of}
-use Rattle.walks.specs.Rounds.{Labels, label_at, IsBy, along, relabelled}
 use Rattle.calendar.specs.Waking.{earliest}
 
 pub by_some : (label : Option ℕ) (a second : ℕ) → label ≡ Some a → a ≤ second → IsBy label second

@@ -1,39 +1,11 @@
 -- Least arrivals: as many rounds as there are nodes find them, and labels that are kept bound every walk.
-use Rattle.std.proofs.Common.{
-  ◌≡◌,
-  ℕ,
-  zero,
-  suc,
-  ◌+◌,
-  ◌<◌,
-  ◌≤◌,
-  List,
-  [],
-  ◌∷◌,
-  ◌++◌,
-  length,
-  Option,
-  None,
-  Some,
-  ◌⊎◌,
-  inl,
-  inr,
-  refl,
-  sym,
-  ◌∙◌,
-  ap,
-  subst,
-  arith,
-}
-use Rattle.std.specs.Prelude.{MatchOption}
-use Rattle.walks.specs.Arrivals.{Arrivals, IsFifo}
+use Rattle.std.proofs.Common.{◌≡◌, ℕ, zero, suc, ◌+◌, ◌<◌, ◌≤◌, List, [], ◌∷◌, ◌++◌, length, Option, None, Some, ◌⊎◌, inl, inr, refl, sym, ◌∙◌, ap, subst}
+use Rattle.std.{proofs.Common.arith, specs.Prelude.MatchOption}
+use Rattle.walks.proofs.{Kept.walk_more, Kept.arrival_more, Kept.arrival_later, Kept.by_turns, Kept.kept_by, Kept.kept_from, Labels.by_some, Labels.some_by}
+use Rattle.walks.proofs.{Labels.by_later, Ranks.rank-le-length, Ranks.rank_less, Rounds.length-after, Rounds.after_start, Rounds.after_later}
+use Rattle.walks.{proofs.Rounds.after_along, proofs.Rounds.Origin, proofs.Rounds.origin, specs.Arrivals.Arrivals, specs.Arrivals.IsFifo}
+use Rattle.walks.specs.{Certificates.IsKept, Rounds.Labels, Rounds.label_at, Rounds.IsBy, Rounds.rank, Rounds.labels_after, Rounds.least_labels}
 use Rattle.walks.specs.Walks.{Ends, start_of, end_of, AreWithin, IsWalk, NoWalk, arrival, Reached, IsLeast}
-use Rattle.walks.specs.Rounds.{Labels, label_at, IsBy, rank, labels_after, least_labels}
-use Rattle.walks.specs.Certificates.{IsKept}
-use Rattle.walks.proofs.Labels.{by_some, some_by, by_later}
-use Rattle.walks.proofs.Rounds.{length-after, after_start, after_later, after_along, Origin, origin}
-use Rattle.walks.proofs.Ranks.{rank-le-length, rank_less}
-use Rattle.walks.proofs.Kept.{walk_more, arrival_more, arrival_later, by_turns, kept_by, kept_from}
 
 -- a walk goes on along a link
 pub reached_more : (ends : Ends) (arrive : Arrivals) (from second to at link : ℕ) → Reached ends arrive from second to at →

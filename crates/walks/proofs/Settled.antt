@@ -1,49 +1,11 @@
 -- Labels that hold up to a second: those by it are the least, and the route followed back from such a node is the chosen one.
-use Rattle.std.proofs.Common.{
-  ◌≡◌,
-  ℕ,
-  zero,
-  suc,
-  ◌+◌,
-  ◌<◌,
-  ◌≤◌,
-  Bool,
-  true,
-  false,
-  cond,
-  List,
-  [],
-  ◌∷◌,
-  ◌++◌,
-  length,
-  Option,
-  None,
-  Some,
-  ◌⊎◌,
-  inl,
-  inr,
-  refl,
-  sym,
-  ◌∙◌,
-  ap,
-  subst,
-  arith,
-}
-use Rattle.std.specs.Prelude.{nat_eq, find}
-use Rattle.std.specs.List.{range_with_len}
-use Rattle.std.specs.Option.{option_map_or}
-use Rattle.std.proofs.Math.Path.{fun_ext}
-use Rattle.std.proofs.lemmas.Bool.{cases_lt}
-use Rattle.std.proofs.lemmas.List.{same_lists, get_or_default}
-use Rattle.walks.specs.Arrivals.{Arrivals, IsFifo}
+use Rattle.std.proofs.Common.{◌≡◌, ℕ, zero, suc, ◌+◌, ◌<◌, ◌≤◌, Bool, true, false, cond, List, [], ◌∷◌, ◌++◌, length, Option, None, Some, ◌⊎◌, inl, inr, refl}
+use Rattle.std.proofs.{Common.sym, Common.◌∙◌, Common.ap, Common.subst, Common.arith, Math.Path.fun_ext, lemmas.Bool.cases_lt, lemmas.List.same_lists}
+use Rattle.std.{proofs.lemmas.List.get_or_default, specs.List.range_with_len, specs.Option.option_map_or, specs.Prelude.nat_eq, specs.Prelude.find}
+use Rattle.walks.proofs.{Followed.link_leads, Followed.leads_from, Followed.leads_there, Kept.kept_from, Labels.by_some, Labels.some_by, Labels.by_later}
+use Rattle.walks.{proofs.Least.bounds_walks, proofs.Least.least_bounds, proofs.Least.least_reached, proofs.Rounds.length-after, specs.Arrivals.Arrivals}
+use Rattle.walks.specs.{Arrivals.IsFifo, Chosen.leads, Chosen.link_before, Chosen.followed, Rounds.Labels, Rounds.label_at, Rounds.IsBy, Rounds.least_labels}
 use Rattle.walks.specs.Walks.{Ends, start_of, end_of, AreWithin, IsWalk, arrival, Reached}
-use Rattle.walks.specs.Rounds.{Labels, label_at, IsBy, least_labels}
-use Rattle.walks.specs.Chosen.{leads, link_before, followed}
-use Rattle.walks.proofs.Labels.{by_some, some_by, by_later}
-use Rattle.walks.proofs.Rounds.{length-after}
-use Rattle.walks.proofs.Kept.{kept_from}
-use Rattle.walks.proofs.Least.{bounds_walks, least_bounds, least_reached}
-use Rattle.walks.proofs.Followed.{link_leads, leads_from, leads_there}
 
 -- labels that hold up to a second: the start has its own, each is the arrival of a walk, and along every link that is entered before that
 -- second the end is reached by its label

@@ -1,8 +1,6 @@
 -- Links that take as long whenever they are entered, and the labels of a search that begins later.
-use Rattle.std.specs.Prelude.{◌≡◌, ℕ, ◌+◌, map}
-use Rattle.std.specs.Option.{option_map}
-use Rattle.walks.specs.Arrivals.{Arrivals}
-use Rattle.walks.specs.Rounds.{Labels}
+use Rattle.std.specs.{Option.option_map, Prelude.◌≡◌, Prelude.ℕ, Prelude.◌+◌, Prelude.map}
+use Rattle.walks.specs.{Arrivals.Arrivals, Rounds.Labels}
 
 -- who enters a link later by some seconds is at its end later by as many
 abbrev pub TakesAlike : Arrivals → Type 0

@@ -1,7 +1,6 @@
 -- Labels that prove by themselves that no walk arrives earlier.
 use Rattle.std.specs.Prelude.{◌≡◌, ℕ, ◌<◌, ◌≤◌, ◌^◌, List, length, Option, Some, IfSome, IsSomeAnd}
-use Rattle.walks.specs.Walks.{start_of, end_of}
-use Rattle.walks.specs.Rounds.{label_at}
+use Rattle.walks.specs.{Rounds.label_at, Walks.start_of, Walks.end_of}
 
 -- where the start of a link has a label, its end has one that is no later than the arrival along the link
 abbrev pub IsInTime : (ℕ → ℕ → ℕ) → List (Option ℕ) → ℕ → ℕ → ℕ → Type 0

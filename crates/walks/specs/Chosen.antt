@@ -1,10 +1,7 @@
 -- The chosen route among those of least arrival: followed back from its end, by the link of the least number at each node.
+use Rattle.std.specs.{List.range_with_len, Option.option_eq, Option.option_map_or}
 use Rattle.std.specs.Prelude.{ℕ, zero, suc, Bool, false, ◌&&◌, nat_eq, List, [], ◌∷◌, ◌++◌, length, find, Option, Some, if◌then◌else◌}
-use Rattle.std.specs.List.{range_with_len}
-use Rattle.std.specs.Option.{option_eq, option_map_or}
-use Rattle.walks.specs.Arrivals.{Arrivals}
-use Rattle.walks.specs.Walks.{Ends, start_of, end_of}
-use Rattle.walks.specs.Rounds.{Labels, label_at}
+use Rattle.walks.specs.{Arrivals.Arrivals, Rounds.Labels, Rounds.label_at, Walks.Ends, Walks.start_of, Walks.end_of}
 
 -- the link ends at the node and begins at a labelled one, and the node is reached along it in the second of its label
 abbrev pub leads : Ends → Arrivals → Labels → ℕ → ℕ → Bool

@@ -1,30 +1,7 @@
 -- The least arrivals at all nodes, found by rounds: after k rounds those of walks of at most k links.
-use Rattle.std.specs.Prelude.{
-  ℕ,
-  ◌≤◌,
-  zero,
-  suc,
-  nat_eq,
-  nat_lt,
-  Bool,
-  false,
-  count_by,
-  IsSomeAnd,
-  List,
-  ◌∷◌,
-  map,
-  filter,
-  fold,
-  slice_index_or,
-  Option,
-  None,
-  Some,
-  if◌then◌else◌,
-}
-use Rattle.std.specs.List.{enumerate_from, range_with_len}
-use Rattle.std.specs.Option.{option_map}
-use Rattle.walks.specs.Arrivals.{Arrivals}
-use Rattle.walks.specs.Walks.{Ends}
+use Rattle.std.specs.{List.enumerate_from, List.range_with_len, Option.option_map, Prelude.ℕ, Prelude.◌≤◌, Prelude.zero, Prelude.suc}
+use Rattle.std.specs.Prelude.{nat_eq, nat_lt, Bool, false, count_by, IsSomeAnd, List, ◌∷◌, map, filter, fold, slice_index_or, Option, None, Some, if◌then◌else◌}
+use Rattle.walks.specs.{Arrivals.Arrivals, Walks.Ends}
 use Rattle.calendar.specs.Waking.{earliest}
 
 -- a label for each node: a second in which the node is reached, or none

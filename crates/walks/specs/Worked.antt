@@ -1,7 +1,6 @@
 -- A worked network: four nodes and two ways from the first to the last, along the links 0 and 2 or 1 and 3.
 use Rattle.std.specs.Prelude.{zero, suc, ◌+◌, ◌*◌, ◌/◌, [], ◌∷◌}
-use Rattle.walks.specs.Arrivals.{Arrivals}
-use Rattle.walks.specs.Walks.{Ends}
+use Rattle.walks.specs.{Arrivals.Arrivals, Walks.Ends}
 
 abbrev pub two_ways : Ends
 two_ways = (0, 1) ∷ (0, 2) ∷ (1, 3) ∷ (2, 3) ∷ []

@@ -5,14 +5,10 @@
 //! entry that is first in, first out.
 #![tactic(auto)]
 
-ghost use Rattle.std.specs.Prelude.{◌≡◌, ℕ, ◌<◌, List, [], ◌∷◌, length, MatchOption, IsSomeAnd};
-ghost use Rattle.std.specs.Prelude.{◌≤◌, None, Some, Option};
-ghost use Rattle.walks.specs.Arrivals.{Arrivals, IsFifo};
+ghost use Rattle.std.specs.Prelude.{◌≡◌, ℕ, ◌<◌, List, [], ◌∷◌, length, MatchOption, IsSomeAnd, ◌≤◌, None, Some, Option};
+ghost use Rattle.walks.specs.{Alike.TakesAlike, Alike.delayed, Arrivals.Arrivals, Arrivals.IsFifo, Certificates.IsKept};
+ghost use Rattle.walks.specs.{Certificates.IsCertificate, Chosen.chosen_route, Rounds.Labels, Rounds.label_at, Rounds.least_labels};
 ghost use Rattle.walks.specs.Walks.{Ends, AreWithin, IsWalk, NoWalk, arrival, IsLeast};
-ghost use Rattle.walks.specs.Rounds.{Labels, label_at, least_labels};
-ghost use Rattle.walks.specs.Certificates.{IsKept, IsCertificate};
-ghost use Rattle.walks.specs.Chosen.{chosen_route};
-ghost use Rattle.walks.specs.Alike.{TakesAlike, delayed};
 ghost use Rattle.walks.specs.Worked.{two_ways, ten_seconds, full_minutes};
 
 /// A certificate bounds every walk from its start: the walk ends at a labelled node, and arrives there no earlier than its label.

@@ -1,12 +1,8 @@
 -- A world of fit vehicles is fit.
-use Rattle.traffic.proofs.Common.{◌≡◌, List, ◌∙◌, ap, sym, [], ◌∷◌, ◌++◌, ◌+◌, subst, All-append, All-from_recursion, All, world_start}
-use Rattle.traffic.proofs.Common.{World}
+use Rattle.traffic.proofs.Common.{◌≡◌, List, ◌∙◌, ap, sym, [], ◌∷◌, ◌++◌, ◌+◌, subst, All-append, All-from_recursion, All, world_start, World}
 use Rattle.traffic.specs.declared.world.Row.{Row}
-use Rattle.town.specs.declared.day_input.DayInput.{DayInput}
-use Rattle.town.specs.Views.{setup}
-use Rattle.law_in_range.specs.Rows.{IsFitRow, IsFitWorld}
-use Rattle.law_in_range.specs.Setups.{counts_in, HaveFittingPlans}
-use Rattle.law_in_range.proofs.Days.{start_is_fit}
+use Rattle.town.specs.{Views.setup, declared.day_input.DayInput.DayInput}
+use Rattle.law_in_range.{proofs.Days.start_is_fit, specs.Rows.IsFitRow, specs.Rows.IsFitWorld, specs.Setups.counts_in, specs.Setups.HaveFittingPlans}
 
 pub jam_fit : (day : DayInput) (W : World) (rows : List Row) → HaveFittingPlans day → W ≡ world_start (setup day) → All (IsFitRow (counts_in day)) rows
     → IsFitWorld (counts_in day) (record { rows = rows; persons = W.persons; credits = W.credits; holes = W.holes })

@@ -1,8 +1,7 @@
 //! A jam on short links, second by second.
 
 ghost use Rattle.std.specs.Prelude.{◌≡◌, ◌<◌, true, All, IfOk};
-ghost use Rattle.law_in_range.specs.Rows.{Counts, IsFitRow, IsFitWorld};
-ghost use Rattle.law_in_range.specs.Setups.{counts_in, HaveFittingPlans};
+ghost use Rattle.law_in_range.specs.{Rows.Counts, Rows.IsFitRow, Rows.IsFitWorld, Setups.counts_in, Setups.HaveFittingPlans};
 ghost use Rattle.traffic.specs.Worlds.{IsSoundStage};
 ghost use Rattle.worked_days.specs.Jams.{going, IsRoomy};
 

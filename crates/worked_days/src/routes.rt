@@ -87,23 +87,11 @@ fn is_told<R: Threads + Wait + Sync>(rt: &R, alloc: Global, asked: &Asked) -> bo
     came == asked.status && are_written(&outputs, asked.report, "")
 }
 
-/// The report of the first of these that is told otherwise.
-fn first_other<R: Threads + Wait + Sync>(
-    rt: &R,
-    alloc: Global,
-    asked: &'static [Asked],
-) -> Option<&'static str> {
-    for one in asked {
-        if !is_told(rt, alloc, one) {
-            return Some(one.report);
-        }
-    }
-    None
-}
-
 #[test]
 fn routes_are_told(rt: HostRuntime) {
-    assert_eq!(rt; first_other(&rt, rt.alloc(), &ASKED), None);
+    for asked in &ASKED {
+        assert!(rt; is_told(&rt, rt.alloc(), asked), "{}", asked.report);
+    }
 }
 
 /// Whether words are refused as no words of the program.

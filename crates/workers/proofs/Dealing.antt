@@ -1,20 +1,15 @@
 -- Members in any order, and their partitions by number.
-use Rattle.std.proofs.Common.{◌≡◌, ◌≢◌, ℕ, zero, suc, ◌+◌, ◌<◌, ◌≤◌, ◌⊎◌, inl, inr, ⊎_elim, false, List, [], ◌∷◌, ◌++◌, length, get_or}
-use Rattle.std.proofs.Common.{slice_index_or, swap_remove, Contains, IsPermutation, sym, ap, ◌∙◌, subst, arith, length-append}
-use Rattle.std.proofs.lemmas.List.{get_or_push, get_or_append_left, get_or_default}
-use Rattle.std.proofs.lemmas.List.Elements.{Contains-push, Contains-append_left}
+use Rattle.std.proofs.Common.{◌≡◌, ◌≢◌, ℕ, zero, suc, ◌+◌, ◌<◌, ◌≤◌, ◌⊎◌, inl, inr, ⊎_elim, false, List, [], ◌∷◌, ◌++◌, length, get_or, slice_index_or}
+use Rattle.std.proofs.Common.{swap_remove, Contains, IsPermutation, sym, ap, ◌∙◌, subst, arith, length-append}
+use Rattle.std.proofs.lemmas.List.{get_or_push, get_or_append_left, get_or_default, Elements.Contains-push, Elements.Contains-append_left}
 use Rattle.std.proofs.lemmas.List.Sorted.{IsPermutation-sym, IsPermutation-swap_remove, Contains-permutation}
 use mathlib.Core.Logic.{dite}
 use native.Mathlib.Decide.{ℕ_discrete}
 use Rattle.cells.specs.declared.board.Board.{Board}
-use Rattle.step_core.specs.declared.part.Border.{Border}
-use Rattle.step_core.specs.Views.{PartView, IsAt, EachAt}
-use Rattle.workers.specs.declared.members.ParcelsOf.{ParcelsOf}
-use Rattle.workers.specs.declared.members.Member.{Member}
+use Rattle.step_core.specs.{Views.PartView, Views.IsAt, Views.EachAt, declared.part.Border.Border}
+use Rattle.workers.proofs.{Resting.rests_within, Starting.one_of, Starting.end_of}
 use Rattle.workers.specs.Members.{IsMember, AreMembers, AreAll, AllEnd, AllGo, is_stopped, number_of, seconds_of}
-use Rattle.workers.specs.Sharing.{HasOne, IsPartIn, ArePartsOf}
-use Rattle.workers.proofs.Resting.{rests_within}
-use Rattle.workers.proofs.Starting.{one_of, end_of}
+use Rattle.workers.specs.{Sharing.HasOne, Sharing.IsPartIn, Sharing.ArePartsOf, declared.members.Member.Member, declared.members.ParcelsOf.ParcelsOf}
 
 module _ {X : Type 0} where
   in_rest : (x : X) (ys : List X) (m : X) → Contains ys m → Contains (x ∷ ys) m

@@ -1,25 +1,17 @@
 -- How parcels go from a port to its partition, and back.
-use Rattle.std.proofs.Common.{◌≡◌, ◌≢◌, ℕ, ◌+◌, ◌-◌, ◌<◌, ◌≤◌, Bool, true, List, length, set, length-set, sym}
-use Rattle.std.proofs.Common.{ap, ◌∙◌, refl, subst, arith}
+use Rattle.std.proofs.Common.{◌≡◌, ◌≢◌, ℕ, ◌+◌, ◌-◌, ◌<◌, ◌≤◌, Bool, true, List, length, set, length-set, sym, ap, ◌∙◌, refl, subst, arith}
 use Rattle.std.specs.Prelude.{Option, unwrap_or}
 use mathlib.Core.Logic.{dite}
 use native.Mathlib.Decide.{ℕ_discrete}
-use Rattle.cells.specs.declared.board.Board.{Board}
-use Rattle.cells.specs.declared.board.Port.{Port}
-use Rattle.cells.specs.declared.board.Handover.{Handover}
-use Rattle.cells.specs.declared.board.Handover.TheVariants.{Awaited, Arrived, Taken, Put}
+use Rattle.cells.{proofs.Uses.same_trans, proofs.Uses.taken_unread, specs.Ports.IsPort}
+use Rattle.cells.specs.Ports.{SameSecond, IsHandover, IsUnreadOf, degree, handover, neighbour, lag_from, partition_of, done_of, waits, run_of, is_taken, is_put}
+use Rattle.cells.specs.declared.board.{Board.Board, Handover.Handover, Handover.TheVariants.Awaited, Handover.TheVariants.Arrived, Handover.TheVariants.Taken}
+use Rattle.cells.specs.declared.board.{Handover.TheVariants.Put, Port.Port}
 use Rattle.cells.specs.declared.table.Border as cell
-use Rattle.cells.specs.Ports.{IsPort, SameSecond, IsHandover, IsUnreadOf, degree, handover, neighbour, lag_from, partition_of, done_of}
-use Rattle.cells.specs.Ports.{waits, run_of, is_taken, is_put}
 use Rattle.cells.specs.Ports as ports
-use Rattle.cells.proofs.Uses.{same_trans, taken_unread}
-use Rattle.step_core.specs.declared.part.Border.{Border}
-use Rattle.step_core.specs.Views.{PartView, IsHeard, Stays, in_place}
-use Rattle.workers.specs.declared.members.ParcelsOf.{ParcelsOf}
-use Rattle.workers.specs.Members.{border_of}
-use Rattle.workers.specs.Exchanges.{ArePut, HasTakenTo, HasPutTo}
-use Rattle.workers.specs.Parcels.{right_or_none}
-use Rattle.workers.proofs.Lists.{set_same, set_other}
+use Rattle.step_core.specs.{Views.PartView, Views.IsHeard, Views.Stays, Views.in_place, declared.part.Border.Border}
+use Rattle.workers.{proofs.Lists.set_same, proofs.Lists.set_other, specs.Exchanges.ArePut}
+use Rattle.workers.specs.{Exchanges.HasTakenTo, Exchanges.HasPutTo, Members.border_of, Parcels.right_or_none, declared.members.ParcelsOf.ParcelsOf}
 
 -- a border of a port as its partition has it
 abbrev border_in : List cell.Border → ℕ → Border

@@ -2,17 +2,11 @@
 use Rattle.std.proofs.Common.{◌≡◌, ℕ, ◌<◌, ◌≤◌, List, length, Option, sym, ap, ◌∙◌, refl, subst, subst₂, arith}
 use mathlib.Core.Logic.{dite}
 use native.Mathlib.Decide.{dec_lt}
-use Rattle.cells.specs.declared.board.Board.{Board}
-use Rattle.cells.specs.declared.board.Port.{Port}
-use Rattle.cells.specs.Pairs.{Pair, AreLags, IsLag}
-use Rattle.cells.specs.Ports.{IsPort, FollowsPairs, degree, neighbour, lag_from, partition_of, count_of, run_of}
-use Rattle.step_core.specs.declared.part.Border.{Border}
-use Rattle.step_core.specs.Nets.{Net, IsNet, AreBorders, border_at}
-use Rattle.workers.specs.declared.members.ParcelsOf.{ParcelsOf}
-use Rattle.workers.specs.Members.{HasNeighbours, IsBoardOfRun}
-use Rattle.workers.specs.Pairs.{ArePairsOf}
-use Rattle.workers.specs.Parcels.{right_or_none}
+use Rattle.cells.specs.{Pairs.Pair, Pairs.AreLags, Pairs.IsLag, Ports.IsPort, Ports.FollowsPairs, Ports.degree, Ports.neighbour, Ports.lag_from}
+use Rattle.cells.specs.{Ports.partition_of, Ports.count_of, Ports.run_of, declared.board.Board.Board, declared.board.Port.Port}
+use Rattle.step_core.specs.{Nets.Net, Nets.IsNet, Nets.AreBorders, Nets.border_at, declared.part.Border.Border}
 use Rattle.workers.proofs.Lists.{same_rows}
+use Rattle.workers.specs.{Members.HasNeighbours, Members.IsBoardOfRun, Pairs.ArePairsOf, Parcels.right_or_none, declared.members.ParcelsOf.ParcelsOf}
 
 same_border : (r : Border) (n l : ℕ) → r.neighbour ≡ n → r.lag ≡ l → r ≡ record { neighbour = n; lag = l }
 same_border r n l e f = subst₂ (λ (x y : ℕ). r ≡ record { neighbour = x; lag = y }) e f refl

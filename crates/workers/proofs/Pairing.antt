@@ -1,13 +1,10 @@
 -- The pairs of neighbours, one after another.
-use Rattle.std.proofs.Common.{◌≡◌, ℕ, ◌+◌, ◌<◌, ◌⊎◌, ⊎_elim, inl, inr, true, false, true≢false}
-use Rattle.std.proofs.Common.{List, [], ◌∷◌, ◌++◌, length, length-append, get_or, sym, ap, ◌∙◌, refl, subst, arith}
-use Rattle.std.proofs.lemmas.List.{get_or_push, get_or_append_left}
+use Rattle.std.proofs.Common.{◌≡◌, ℕ, ◌+◌, ◌<◌, ◌⊎◌, ⊎_elim, inl, inr, true, false, true≢false, List, [], ◌∷◌, ◌++◌, length, length-append, get_or, sym, ap}
+use Rattle.std.proofs.{Common.◌∙◌, Common.refl, Common.subst, Common.arith, lemmas.List.get_or_push, lemmas.List.get_or_append_left}
 use mathlib.Core.Logic.{dite}
 use native.Mathlib.Decide.{ℕ_discrete, dec_lt}
-use Rattle.cells.specs.Pairs.{Pair, pair_at, no_pair}
-use Rattle.cells.proofs.Rings.{by_bool}
-use Rattle.step_core.specs.declared.part.Border.{Border}
-use Rattle.step_core.specs.Nets.{Net, IsNet, AreBorders, border_at}
+use Rattle.cells.{proofs.Rings.by_bool, specs.Pairs.Pair, specs.Pairs.pair_at, specs.Pairs.no_pair}
+use Rattle.step_core.specs.{Nets.Net, Nets.IsNet, Nets.AreBorders, Nets.border_at, declared.part.Border.Border}
 use Rattle.workers.specs.Pairs.{AreTables, IsPairOf, IsBefore, ArePairsTo, ArePairsOf}
 
 module _ (N : Net) where

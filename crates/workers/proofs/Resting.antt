@@ -1,17 +1,11 @@
 -- A member in its turn.
-use Rattle.std.proofs.Common.{◌≡◌, ℕ, ◌+◌, ◌<◌, ◌≤◌, true, false, true≢false, List, length, sym, ap, ◌∙◌}
-use Rattle.std.proofs.Common.{subst, inl, arith}
-use Rattle.cells.specs.declared.board.Board.{Board}
-use Rattle.cells.specs.declared.board.Port.{Port}
-use Rattle.cells.specs.Ports.{IsPort, IsUntouched, SameSecond, degree, handover, neighbour, partition_of, done_of}
-use Rattle.cells.specs.Ports.{waits, still, run_of, is_awaited}
-use Rattle.step_core.specs.declared.part.Border.{Border}
-use Rattle.step_core.specs.Nets.{Net}
-use Rattle.step_core.specs.Views.{PartView, AreEmpty, IsAt, HasDone, IsHeard, HasHeard, HasSent, Stays, in_place}
-use Rattle.workers.specs.declared.members.ParcelsOf.{ParcelsOf}
-use Rattle.workers.specs.declared.members.Member.{Member}
+use Rattle.std.proofs.Common.{◌≡◌, ℕ, ◌+◌, ◌<◌, ◌≤◌, true, false, true≢false, List, length, sym, ap, ◌∙◌, subst, inl, arith}
+use Rattle.cells.specs.Ports.{IsPort, IsUntouched, SameSecond, degree, handover, neighbour, partition_of, done_of, waits, still, run_of, is_awaited}
+use Rattle.cells.specs.declared.board.{Board.Board, Port.Port}
+use Rattle.step_core.specs.{Nets.Net, Views.PartView, Views.AreEmpty, Views.IsAt, Views.HasDone, Views.IsHeard, Views.HasHeard, Views.HasSent, Views.Stays}
+use Rattle.step_core.specs.{Views.in_place, declared.part.Border.Border}
 use Rattle.workers.specs.Members.{IsBoardOfRun, IsMember, Rests, border_of, number_of, seconds_of, is_stopped}
-use Rattle.workers.specs.Parcels.{right_or_none}
+use Rattle.workers.specs.{Parcels.right_or_none, declared.members.Member.Member, declared.members.ParcelsOf.ParcelsOf}
 
 module _ {T R P : Type 0} (until : ℕ) (borders : R → ℕ → List Border) (nothing : P) (see : T → PartView P)
     (stands : R → T → Type 0) (right : R → ℕ → ℕ → ℕ → P → Type 0) (run : R) (b : Board (ParcelsOf T) R P) where

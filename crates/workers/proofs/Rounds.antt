@@ -1,20 +1,14 @@
 -- What a turn adds to a round.
-use Rattle.std.proofs.Common.{◌≡◌, ◌≢◌, ℕ, ◌+◌, ◌-◌, ◌<◌, ◌≤◌, ◌⊎◌, ⊎_elim, Bool, true}
-use Rattle.std.proofs.Common.{List, length, set, slice_index_or}
-use Rattle.std.proofs.Common.{sym, ap, ◌∙◌, refl, subst, subst₂, arith, length-set, le_refl}
-use Rattle.std.proofs.lemmas.List.{get_or_default}
-use Rattle.std.proofs.lemmas.List.Sums.{sum_by-set}
+use Rattle.std.proofs.Common.{◌≡◌, ◌≢◌, ℕ, ◌+◌, ◌-◌, ◌<◌, ◌≤◌, ◌⊎◌, ⊎_elim, Bool, true, List, length, set, slice_index_or, sym, ap, ◌∙◌, refl, subst, subst₂}
+use Rattle.std.proofs.{Common.arith, Common.length-set, Common.le_refl, lemmas.List.get_or_default, lemmas.List.Sums.sum_by-set}
 use mathlib.Core.Logic.{dite}
 use native.Mathlib.Decide.{ℕ_discrete}
 use Rattle.cells.specs.declared.board.Board.{Board}
-use Rattle.step_core.specs.declared.part.Border.{Border}
-use Rattle.step_core.specs.Views.{PartView}
-use Rattle.workers.specs.declared.members.ParcelsOf.{ParcelsOf}
-use Rattle.workers.specs.declared.members.Member.{Member}
-use Rattle.workers.specs.declared.members.Turn.{Turn}
-use Rattle.workers.specs.declared.members.Turn.TheVariants.{Ended, Stopped, Waited, Moved}
-use Rattle.workers.specs.Members.{IsMember, Goes, Turned, TurnedAs, Flagged, RoundTo, is_stopped, seconds_of, one_if}
+use Rattle.step_core.specs.{Views.PartView, declared.part.Border.Border}
 use Rattle.workers.proofs.Lists.{set_same, set_other}
+use Rattle.workers.specs.Members.{IsMember, Goes, Turned, TurnedAs, Flagged, RoundTo, is_stopped, seconds_of, one_if}
+use Rattle.workers.specs.declared.members.{Member.Member, ParcelsOf.ParcelsOf, Turn.Turn}
+use Rattle.workers.specs.declared.members.Turn.TheVariants.{Ended, Stopped, Waited, Moved}
 
 raised : (s m w s' m' w' : Bool) (t : Turn) → (s ≡ true → s' ≡ true) → (m ≡ true → m' ≡ true)
     → (w ≡ true → w' ≡ true) → Flagged s m w t

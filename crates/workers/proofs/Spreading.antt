@@ -1,12 +1,8 @@
 -- Members that were cut into lists.
-use Rattle.std.proofs.Common.{ℕ, ◌+◌, List, sym, subst, arith}
-use Rattle.std.specs.Fork.{IsChunk}
+use Rattle.std.{proofs.Common.ℕ, proofs.Common.◌+◌, proofs.Common.List, proofs.Common.sym, proofs.Common.subst, proofs.Common.arith, specs.Fork.IsChunk}
 use Rattle.cells.specs.declared.board.Board.{Board}
-use Rattle.step_core.specs.declared.part.Border.{Border}
-use Rattle.step_core.specs.Views.{PartView}
-use Rattle.workers.specs.declared.members.ParcelsOf.{ParcelsOf}
-use Rattle.workers.specs.declared.members.Member.{Member}
-use Rattle.workers.specs.Members.{IsMember, AreMembers}
+use Rattle.step_core.specs.{Views.PartView, declared.part.Border.Border}
+use Rattle.workers.specs.{Members.IsMember, Members.AreMembers, declared.members.Member.Member, declared.members.ParcelsOf.ParcelsOf}
 
 module _ {T R P : Type 0} (until : ℕ) (borders : R → ℕ → List Border) (nothing : P) (see : T → PartView P) (stands : R → T → Type 0)
     (spent : T → Type 0) (right : R → ℕ → ℕ → ℕ → P → Type 0) (run : R) (b : Board (ParcelsOf T) R P) where

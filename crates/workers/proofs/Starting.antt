@@ -1,17 +1,13 @@
 -- The members of a run as they are made, and its partitions at the end.
-use Rattle.std.proofs.Common.{◌≡◌, ℕ, ◌+◌, ◌<◌, true, false, List, [], ◌∷◌, ◌++◌, map, length}
-use Rattle.std.proofs.Common.{get_or, slice_index_or, sym, ap, ◌∙◌, subst, inl, refl, arith, length-append}
-use Rattle.std.proofs.lemmas.List.{get_or_push, get_or_append_left}
+use Rattle.std.proofs.Common.{◌≡◌, ℕ, ◌+◌, ◌<◌, true, false, List, [], ◌∷◌, ◌++◌, map, length, get_or, slice_index_or, sym, ap, ◌∙◌, subst, inl, refl, arith}
+use Rattle.std.proofs.{Common.length-append, lemmas.List.get_or_push, lemmas.List.get_or_append_left}
 use mathlib.Core.Logic.{dite}
 use native.Mathlib.Decide.{ℕ_discrete}
 use Rattle.cells.specs.declared.board.Board.{Board}
 use Rattle.cells.specs.Ports.{IsPort, degree, handover, partition_of, done_of, waits, still, is_awaited}
-use Rattle.step_core.specs.declared.part.Border.{Border}
-use Rattle.step_core.specs.Views.{PartView, IsAt, EachAt}
-use Rattle.workers.specs.declared.members.ParcelsOf.{ParcelsOf}
-use Rattle.workers.specs.declared.members.Member.{Member}
-use Rattle.workers.specs.Parcels.{right_or_none}
+use Rattle.step_core.specs.{Views.PartView, Views.IsAt, Views.EachAt, declared.part.Border.Border}
 use Rattle.workers.specs.Members.{Rests, IsMember, AreMembers, AreAll, AllEnd, is_stopped, number_of, seconds_of}
+use Rattle.workers.specs.{Parcels.right_or_none, declared.members.Member.Member, declared.members.ParcelsOf.ParcelsOf}
 
 module _ {T R P : Type 0} where
   pub all_more : (n : ℕ) (ms : List (Member T R P)) (x : Member T R P) → AreAll n ms → number_of x ≡ n

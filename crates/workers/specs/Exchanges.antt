@@ -1,12 +1,9 @@
 -- What a member takes from its port before a second, and puts into it after it.
 use Rattle.std.specs.Prelude.{◌≡◌, ℕ, ◌<◌, ◌≤◌, true, length, Option}
-use Rattle.cells.specs.declared.board.Board.{Board}
-use Rattle.cells.specs.declared.board.Port.{Port}
 use Rattle.cells.specs.Ports.{IsPort, IsUnread, SameSecond, degree, partition_of, done_of, waits, run_of, handover, is_taken, is_put}
+use Rattle.cells.specs.declared.board.{Board.Board, Port.Port}
 use Rattle.step_core.specs.Views.{PartView, IsHeard, Stays, in_place}
-use Rattle.workers.specs.declared.members.ParcelsOf.{ParcelsOf}
-use Rattle.workers.specs.Members.{border_of}
-use Rattle.workers.specs.Parcels.{right_or_none}
+use Rattle.workers.specs.{Members.border_of, Parcels.right_or_none, declared.members.ParcelsOf.ParcelsOf}
 
 module _ {T R P : Type 0} (right : R → ℕ → ℕ → ℕ → Option P → Type 0) (b : Board T R P) (before : Port T R P) where
   -- what goes to the first k neighbours was put

@@ -1,21 +1,12 @@
 -- Partitions with their ports on threads: what holds of them between two seconds, and what is promised of them.
-use Rattle.std.specs.Prelude.{◌≡◌, ℕ, ◌+◌, ◌-◌, ◌*◌, ◌<◌, ◌≤◌, ◌⊎◌, Bool, true, false, List}
-use Rattle.std.specs.Prelude.{length, sum_by, slice_index_or}
 use Rattle.std.specs.Fork.{slice_chunk}
-use Rattle.cells.specs.declared.board.Board.{Board}
-use Rattle.cells.specs.declared.board.Port.{Port}
+use Rattle.std.specs.Prelude.{◌≡◌, ℕ, ◌+◌, ◌-◌, ◌*◌, ◌<◌, ◌≤◌, ◌⊎◌, Bool, true, false, List, length, sum_by, slice_index_or}
 use Rattle.cells.specs.Ports.{IsPort, IsUntouched, degree, neighbour, lag_from, partition_of, done_of, waits, still, run_of, count_of}
-use Rattle.step_core.specs.declared.part.Border.{Border}
-use Rattle.step_core.specs.Nets.{Net, IsNet, border_at}
-use Rattle.step_core.specs.Views.{PartView, IsAt}
-use Rattle.workers.specs.declared.bundles.TheConstants.{PATIENCE}
-use Rattle.workers.specs.declared.members.ParcelsOf.{ParcelsOf}
-use Rattle.workers.specs.declared.members.Member.{Member}
-use Rattle.workers.specs.declared.members.Turn.{Turn}
-use Rattle.workers.specs.declared.members.Turn.TheVariants.{Ended, Stopped, Waited, Moved}
-use Rattle.workers.specs.declared.members.Round.{Round}
-use Rattle.workers.specs.declared.members.Round.TheVariants.{AllEnded, OneStopped, AllWaited, SomeMoved}
-use Rattle.workers.specs.Parcels.{right_or_none}
+use Rattle.cells.specs.declared.board.{Board.Board, Port.Port}
+use Rattle.step_core.specs.{Nets.Net, Nets.IsNet, Nets.border_at, Views.PartView, Views.IsAt, declared.part.Border.Border}
+use Rattle.workers.specs.{Parcels.right_or_none, declared.bundles.TheConstants.PATIENCE, declared.members.Member.Member, declared.members.ParcelsOf.ParcelsOf}
+use Rattle.workers.specs.declared.members.Round.{Round, TheVariants.AllEnded, TheVariants.OneStopped, TheVariants.AllWaited, TheVariants.SomeMoved}
+use Rattle.workers.specs.declared.members.Turn.{Turn, TheVariants.Ended, TheVariants.Stopped, TheVariants.Waited, TheVariants.Moved}
 
 -- what a turn sets of the flags of its round
 abbrev pub Flagged : Bool → Bool → Bool → Turn → Type 0

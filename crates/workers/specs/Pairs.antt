@@ -1,8 +1,7 @@
 -- The pairs of neighbours of a run.
 use Rattle.std.specs.Prelude.{◌≡◌, ℕ, ◌<◌, ◌⊎◌, true, List, [], length, get_or}
 use Rattle.cells.specs.Pairs.{Pair, ArePairs, pair_at, IsLag}
-use Rattle.step_core.specs.declared.part.Border.{Border}
-use Rattle.step_core.specs.Nets.{Net, AreBorders}
+use Rattle.step_core.specs.{Nets.Net, Nets.AreBorders, declared.part.Border.Border}
 
 -- the neighbours of each partition, by number
 pub record AreTables (N : Net) (tables : List (List Border)) : Type 0 where

@@ -1,11 +1,7 @@
 -- The partitions of a run on their way through it.
 use Rattle.std.specs.Prelude.{ℕ, ◌<◌, ◌≤◌, List}
-use Rattle.step_core.specs.declared.part.Border.{Border}
-use Rattle.step_core.specs.Nets.{Net}
-use Rattle.step_core.specs.Views.{PartView}
-use Rattle.workers.specs.declared.days.Running.{Running}
-use Rattle.workers.specs.Members.{IsBoardOfRun, AreMembers, AllEnd}
-use Rattle.workers.specs.Sharing.{HasOne}
+use Rattle.step_core.specs.{Nets.Net, Views.PartView, declared.part.Border.Border}
+use Rattle.workers.specs.{Members.IsBoardOfRun, Members.AreMembers, Members.AllEnd, Sharing.HasOne, declared.days.Running.Running}
 
 -- they are all partitions of the run, in any order, each after t seconds, and none found no memory
 pub record IsRunning {T R P : Type 0} (net : R → Net) (borders : R → ℕ → List Border) (nothing : P) (see : T → PartView P)

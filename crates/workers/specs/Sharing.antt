@@ -1,7 +1,6 @@
 -- Members that lie in any order, and their partitions by number.
 use Rattle.std.specs.Prelude.{◌≡◌, ℕ, ◌<◌, List, length, get_or, Contains}
-use Rattle.workers.specs.declared.members.Member.{Member}
-use Rattle.workers.specs.Members.{number_of}
+use Rattle.workers.specs.{Members.number_of, declared.members.Member.Member}
 
 module _ {T R P : Type 0} where
   -- some member is that of partition p

@@ -3,11 +3,9 @@
 ghost use Rattle.std.specs.Prelude.{◌≡◌, ℕ, ◌<◌, ◌≤◌, [], length, IfOk};
 ghost use Rattle.limits.specs.declared.TheConstants.{MAX_PARTITIONS};
 ghost use Rattle.cells.specs.Ports.{IsHub, count_of, had_port};
-ghost use Rattle.step_core.specs.Nets.{IsNet, AreBorders};
-ghost use Rattle.step_core.specs.Views.{EachAt};
+ghost use Rattle.step_core.specs.{Nets.IsNet, Nets.AreBorders, Views.EachAt};
 ghost use Rattle.workers.specs.Members.{IsBoardOfRun, AreMembers, AreAll, AllEnd};
-ghost use Rattle.workers.specs.Running.{IsRunning};
-ghost use Rattle.workers.specs.Sharing.{ArePartsOf};
+ghost use Rattle.workers.specs.{Running.IsRunning, Sharing.ArePartsOf};
 
 use crate::members::{Bundle, Member, ParcelsOf, new_board};
 use crate::moving::run_to;

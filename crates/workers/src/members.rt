@@ -1,10 +1,8 @@
 //! The types of what runs on threads, and their start.
 
 ghost use Rattle.std.specs.Prelude.{◌≡◌, ℕ, ◌<◌, ◌≤◌, false, [], ◌∷◌, length, IfOk, OnOk, OnErr};
-ghost use Rattle.cells.specs.Rule.{contains};
-ghost use Rattle.cells.specs.Ports.{IsHub, count_of, had_port};
-ghost use Rattle.step_core.specs.Nets.{IsNet, AreBorders};
-ghost use Rattle.step_core.specs.Views.{IsAt};
+ghost use Rattle.cells.specs.{Ports.IsHub, Ports.count_of, Ports.had_port, Rule.contains};
+ghost use Rattle.step_core.specs.{Nets.IsNet, Nets.AreBorders, Views.IsAt};
 ghost use Rattle.workers.specs.Members.{IsBoardOfRun, IsMember, number_of, seconds_of, is_stopped};
 
 use crate::pairs::pairs_of;

@@ -1,15 +1,12 @@
 //! How a member does its next second.
 
-ghost use Rattle.std.specs.Prelude.{◌≡◌, ◌≢◌, ℕ, ◌+◌, ◌<◌, ◌≤◌, true, false};
-ghost use Rattle.std.specs.Prelude.{length, set, slice_set, unwrap_or, OnOk, OnErr};
-ghost use Rattle.cells.specs.declared.board.Handover.TheVariants.{Taken};
-ghost use Rattle.cells.specs.Ports.{IsPort, SameSecond, IsUntouched, IsUnread, IsSettled, degree, neighbour, handover};
-ghost use Rattle.cells.specs.Ports.{handovers_of};
+ghost use Rattle.std.specs.Prelude.{◌≡◌, ◌≢◌, ℕ, ◌+◌, ◌<◌, ◌≤◌, true, false, length, set, slice_set, unwrap_or, OnOk, OnErr};
+ghost use Rattle.cells.specs.Ports.{IsPort, SameSecond, IsUntouched, IsUnread, IsSettled, degree, neighbour, handover, handovers_of};
 ghost use Rattle.cells.specs.Ports.{is_arrived, is_taken, run_of, waits, partition_of, done_of};
+ghost use Rattle.cells.specs.declared.board.Handover.TheVariants.{Taken};
 ghost use Rattle.step_core.specs.Views.{AreEmpty, IsHeard, Stays, in_place};
-ghost use Rattle.workers.specs.Members.{IsBoardOfRun, IsMember, Rests, Goes, Turned, border_of};
-ghost use Rattle.workers.specs.Members.{number_of, seconds_of, is_stopped, waits_of, still_of};
-ghost use Rattle.workers.specs.Parcels.{right_or_none};
+ghost use Rattle.workers.specs.Members.{IsBoardOfRun, IsMember, Rests, Goes, Turned, border_of, number_of, seconds_of, is_stopped};
+ghost use Rattle.workers.specs.{Members.waits_of, Members.still_of, Parcels.right_or_none};
 
 use crate::members::{Member, ParcelsOf, Turn};
 use cells::{Board, Exchange, Look, Port};

@@ -1,6 +1,5 @@
 -- Numbers that words draw.
-use Rattle.std.proofs.Common.{◌≡◌, ℕ, ◌+◌, ◌-◌, ◌<◌, pos, refl, arith}
-use Rattle.std.proofs.lemmas.Int.{ints}
+use Rattle.std.proofs.{Common.◌≡◌, Common.ℕ, Common.◌+◌, Common.◌-◌, Common.◌<◌, Common.pos, Common.refl, Common.arith, lemmas.Int.ints}
 use Rattle.draws.specs.Choices.{below, between, count_of}
 
 -- one of the numbers from 0 to the last one

@@ -1,11 +1,9 @@
 -- Pieces of a text, one for each of some numbers.
 use Rattle.std.proofs.Common.{append_assoc, codes, ◌≡◌, ℕ, zero, suc, ◌+◌, ◌-◌, ◌≤◌, List, [], ◌∷◌, ◌++◌, map, refl, sym, ◌∙◌, ap, arith, add-one, add-zero}
+use Rattle.std.proofs.lemmas.List.{append-nil, Concat.flat_map-append}
 use Rattle.std.specs.List.{flat_map, range_with_len, join_with_byte}
-use Rattle.std.proofs.lemmas.List.{append-nil}
-use Rattle.std.proofs.lemmas.List.Concat.{flat_map-append}
 use Rattle.plan_text.specs.Lines.{row_line}
-use Rattle.workload.specs.Rows.{link_name, call_text}
-use Rattle.workload.specs.Texts.{routes_text}
+use Rattle.workload.specs.{Rows.link_name, Rows.call_text, Texts.routes_text}
 
 -- one number more
 range_more : (a n : ℕ) → range_with_len a (suc n) ≡ range_with_len a n ++ (a + n) ∷ []

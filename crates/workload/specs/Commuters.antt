@@ -1,11 +1,8 @@
 -- The persons of a grid: each goes to work and back.
 use Rattle.std.specs.Prelude.{ℕ, ◌+◌, ◌-◌, ◌%◌, nat_eq, List, length, slice_index_or, if◌then◌else◌}
-use Rattle.draws.specs.Words.{Source, person_source, word}
-use Rattle.draws.specs.Choices.{below}
-use Rattle.workload.specs.declared.TheConstants.{FIRST_LEAVING, LEAVING_SPAN}
-use Rattle.workload.specs.declared.commuters.Commute.{Commute}
+use Rattle.draws.specs.{Choices.below, Words.Source, Words.person_source, Words.word}
+use Rattle.workload.specs.declared.{TheConstants.FIRST_LEAVING, TheConstants.LEAVING_SPAN, commuters.Commute.Commute, commuters.Commuter.Commuter}
 use Rattle.workload.specs.declared.commuters.Commute.TheVariants as commute
-use Rattle.workload.specs.declared.commuters.Commuter.{Commuter}
 
 -- of ten persons one goes by bus, one walks, and the others drive
 abbrev pub commute_of : ℕ → Commute

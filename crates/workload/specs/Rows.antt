@@ -2,10 +2,9 @@
 use Rattle.std.specs.Prelude.{ℕ, ◌+◌, ◌-◌, ◌*◌, ◌/◌, ◌%◌, List, [], ◌∷◌, ◌++◌, map, codes, decimal, Option, None, Some}
 use Rattle.std.specs.List.{range_with_len, join_with_byte}
 use Rattle.records.specs.Rows.{Row}
-use Rattle.workload.specs.declared.TheConstants.{NODE_DISTANCE, FREE_SPEED, LINK_CAPACITY, WALK_SECONDS, WORK_SECONDS, STOP_SECONDS, FIRST_DEPARTURE, DEPARTURE_GAP, SEATS}
-use Rattle.workload.specs.declared.commuters.Commute.{Commute}
+use Rattle.workload.specs.declared.TheConstants.{NODE_DISTANCE, FREE_SPEED, LINK_CAPACITY, WALK_SECONDS, WORK_SECONDS, STOP_SECONDS, FIRST_DEPARTURE}
+use Rattle.workload.specs.declared.{TheConstants.DEPARTURE_GAP, TheConstants.SEATS, commuters.Commute.Commute, commuters.Commuter.Commuter}
 use Rattle.workload.specs.declared.commuters.Commute.TheVariants as commute
-use Rattle.workload.specs.declared.commuters.Commuter.{Commuter}
 use Rattle.plan_text.specs.Lines.{end_text}
 
 -- names: n7, l7_8, p7, s7, d7

@@ -5,10 +5,8 @@ use Rattle.edge_files.specs.declared.files.InFile.{InFile}
 use Rattle.edge_files.specs.declared.files.InFile.TheVariants as file
 use Rattle.records.specs.Rows.{Row}
 use Rattle.plan_text.specs.Lines.{row_line}
-use Rattle.workload.specs.declared.TheConstants.{PERSONS_PER_NODE, DEPARTURES}
-use Rattle.workload.specs.Links.{grid_links}
-use Rattle.workload.specs.Commuters.{commuter}
-use Rattle.workload.specs.Rows.{node_row, link_row, person_rows, stop_row, route_row, departure_row}
+use Rattle.workload.specs.{Commuters.commuter, Links.grid_links, Rows.node_row, Rows.link_row, Rows.person_rows, Rows.stop_row, Rows.route_row}
+use Rattle.workload.specs.{Rows.departure_row, declared.TheConstants.PERSONS_PER_NODE, declared.TheConstants.DEPARTURES}
 
 -- the lines of rows
 abbrev pub lines_of : List Row → List ℕ

@@ -1,6 +1,5 @@
 ghost use Rattle.std.specs.Prelude.{◌≡◌, IfOk, string_bytes};
-ghost use Rattle.workload.specs.Grids.{IsGrid};
-ghost use Rattle.workload.specs.Texts.{file_text};
+ghost use Rattle.workload.specs.{Grids.IsGrid, Texts.file_text};
 
 use crate::DEPARTURES;
 use crate::persons::plans_text;

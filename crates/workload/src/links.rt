@@ -1,8 +1,7 @@
 //! The links of a grid, each by the numbers of the nodes that it joins.
 
 ghost use Rattle.std.specs.Prelude.{◌≡◌, ◌<◌, ◌≤◌, ◌+◌, ◌*◌, ◌++◌, length, OnOk, IfOk};
-ghost use Rattle.workload.specs.Links.{link_if, links_from, grid_links};
-ghost use Rattle.workload.specs.declared.TheConstants.{MOST_SIZE};
+ghost use Rattle.workload.specs.{Links.link_if, Links.links_from, Links.grid_links, declared.TheConstants.MOST_SIZE};
 
 use std::alloc::{AllocError, Global};
 

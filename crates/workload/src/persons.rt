@@ -1,13 +1,10 @@
 //! plans.csv.
 
-ghost use Rattle.std.specs.Prelude.{◌≡◌, ◌<◌, ◌≤◌, ◌+◌, ◌^◌, ◌∷◌, ◌++◌, [], length};
-ghost use Rattle.std.specs.Prelude.{codes, decimal, OnOk, IfOk, string_bytes};
 ghost use Rattle.std.specs.List.{flat_map, range_with_len};
+ghost use Rattle.std.specs.Prelude.{◌≡◌, ◌<◌, ◌≤◌, ◌+◌, ◌^◌, ◌∷◌, ◌++◌, [], length, codes, decimal, OnOk, IfOk, string_bytes};
 ghost use Rattle.plan_text.specs.Lines.{row_line};
-ghost use Rattle.workload.specs.Commuters.{commuter};
-ghost use Rattle.workload.specs.Rows.{act_row, walk_row, leg_row, way_there, way_back, person_rows};
-ghost use Rattle.workload.specs.Texts.{lines_of, person_lines, plans_text};
-ghost use Rattle.workload.specs.declared.TheConstants.{MOST_SIZE};
+ghost use Rattle.workload.specs.{Commuters.commuter, Rows.act_row, Rows.walk_row, Rows.leg_row, Rows.way_there, Rows.way_back};
+ghost use Rattle.workload.specs.{Rows.person_rows, Texts.lines_of, Texts.person_lines, Texts.plans_text, declared.TheConstants.MOST_SIZE};
 
 use crate::commuters::{Commute, Commuter, commuter_of};
 use crate::links::grid_links;

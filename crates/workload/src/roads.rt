@@ -2,9 +2,7 @@
 
 ghost use Rattle.std.specs.Prelude.{◌≡◌, ◌<◌, ◌≤◌, ◌*◌, ◌++◌, OnOk, IfOk, string_bytes};
 ghost use Rattle.plan_text.specs.Lines.{row_line};
-ghost use Rattle.workload.specs.Rows.{node_row, link_row};
-ghost use Rattle.workload.specs.Texts.{nodes_text, links_text};
-ghost use Rattle.workload.specs.declared.TheConstants.{MOST_SIZE};
+ghost use Rattle.workload.specs.{Rows.node_row, Rows.link_row, Texts.nodes_text, Texts.links_text, declared.TheConstants.MOST_SIZE};
 
 use crate::links::grid_links;
 use crate::{FREE_SPEED, LINK_CAPACITY, NODE_DISTANCE};

@@ -3,9 +3,8 @@
 ghost use Rattle.std.specs.Prelude.{◌≡◌, ◌<◌, ◌≤◌, ◌+◌, ◌-◌, ◌∷◌, ◌++◌, codes, OnOk, IfOk, string_bytes};
 ghost use Rattle.std.specs.List.{flat_map, range_with_len};
 ghost use Rattle.plan_text.specs.Lines.{row_line};
-ghost use Rattle.workload.specs.Rows.{stop_row, departure_row, call_text, link_name};
-ghost use Rattle.workload.specs.Texts.{stops_text, routes_text, departures_text};
-ghost use Rattle.workload.specs.declared.TheConstants.{DEPARTURES, MOST_SIZE};
+ghost use Rattle.workload.specs.{Rows.stop_row, Rows.departure_row, Rows.call_text, Rows.link_name, Texts.stops_text, Texts.routes_text};
+ghost use Rattle.workload.specs.{Texts.departures_text, declared.TheConstants.DEPARTURES, declared.TheConstants.MOST_SIZE};
 
 use crate::{DEPARTURE_GAP, FIRST_DEPARTURE, SEATS, STOP_SECONDS};
 use std::alloc::{AllocError, Global};

@@ -1,13 +1,10 @@
 -- A day that comes from somewhere is written as that day.
 use Rattle.std.proofs.Common.{◌≡◌, ℕ, List, Result, sym, subst, subst₂}
 use Rattle.edge_files.specs.World.{Written}
-use Rattle.events.specs.declared.event.Event.{Event}
-use Rattle.events.specs.declared.event.Book.{Book}
+use Rattle.events.specs.declared.event.{Book.Book, Event.Event}
 use Rattle.scoring.specs.Tables.{ScoringRows}
-use Rattle.event_handler.specs.declared.handling.EventHandler.{EventHandler}
-use Rattle.event_handler.specs.declared.handling.SeenDay.{SeenDay}
-use Rattle.event_writer.specs.declared.writing.StreamError.{StreamError}
-use Rattle.event_writer.specs.Writing.{CanTake, AreWritten}
+use Rattle.event_handler.specs.declared.handling.{EventHandler.EventHandler, SeenDay.SeenDay}
+use Rattle.event_writer.specs.{Writing.CanTake, Writing.AreWritten, declared.writing.StreamError.StreamError}
 
 pub takes_as : (R : ScoringRows) (book : Book) (handler : EventHandler) (rest events : List Event) → rest ≡ events
     → CanTake R book handler events → CanTake R book handler rest

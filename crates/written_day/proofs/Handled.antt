@@ -1,31 +1,18 @@
 -- The events of a day of a town can be handled.
-use Rattle.std.proofs.Common.{◌≡◌, ℕ, zero, suc, ◌<◌, ◌≤◌, Bool, true, false, ◌&&◌, ◌||◌, List, [], ◌∷◌, length, map, get_or, arith}
-use Rattle.std.proofs.Common.{Option, None, Some, refl, sym, ◌∙◌, ap, subst}
-use Rattle.std.specs.Prelude.{IfSome, nat_eq, nat_lt}
-use Rattle.std.proofs.lemmas.Bool.{and_parts}
-use Rattle.std.proofs.lemmas.Bool.Decides.{nat_tests}
-use Rattle.std.proofs.lemmas.List.{length-map}
-use Rattle.std.proofs.lemmas.List.Elements.{All-weaker}
-use Rattle.events.specs.declared.event.Event.{Event}
-use Rattle.events.specs.declared.event.Book.{Book}
-use Rattle.events.specs.declared.event.Key.{Key}
-use Rattle.events.specs.Keys.{key_before}
-use Rattle.events.specs.Lines.{IsNamed, IsInBook, AreInBook}
+use Rattle.std.proofs.Common.{◌≡◌, ℕ, zero, suc, ◌<◌, ◌≤◌, Bool, true, false, ◌&&◌, ◌||◌, List, [], ◌∷◌, length, map, get_or, arith, Option, None, Some, refl}
+use Rattle.std.proofs.{Common.sym, Common.◌∙◌, Common.ap, Common.subst, lemmas.Bool.and_parts, lemmas.Bool.Decides.nat_tests, lemmas.List.length-map}
+use Rattle.std.{proofs.lemmas.List.Elements.All-weaker, specs.Prelude.IfSome, specs.Prelude.nat_eq, specs.Prelude.nat_lt}
+use Rattle.events.specs.{Keys.key_before, Lines.IsNamed, Lines.IsInBook, Lines.AreInBook}
+use Rattle.events.specs.declared.event.{Book.Book, Event.Event, Key.Key}
 use Rattle.rows.specs.PlanRows.{plan_rows}
 use Rattle.scoring.specs.Taken.{first_kind_of}
 use Rattle.day_scores.specs.Scores.{first_kind}
 use Rattle.travel_times.specs.Observed.{AreInOrder, AreOnLinks}
-use Rattle.traffic.specs.Frames.{AreAfter, Ascends}
-use Rattle.traffic.specs.Day.{day}
-use Rattle.traffic.proofs.Order.{day-ascends}
-use Rattle.town.specs.declared.day_input.DayInput.{DayInput}
-use Rattle.town.specs.declared.town.Town.{Town}
-use Rattle.town.specs.Views.{rows_of, chosen_in, setup}
-use Rattle.law_in_range.specs.Setups.{HaveFittingPlans}
-use Rattle.law_in_range.proofs.Dawn.{day_in_book}
+use Rattle.traffic.{proofs.Order.day-ascends, specs.Day.day, specs.Frames.AreAfter, specs.Frames.Ascends}
+use Rattle.town.specs.{Views.rows_of, Views.chosen_in, Views.setup, declared.day_input.DayInput.DayInput, declared.town.Town.Town}
+use Rattle.law_in_range.{proofs.Dawn.day_in_book, specs.Setups.HaveFittingPlans}
 use Rattle.law_matches_plans.proofs.ScoredTowns.{plans_scored}
-use Rattle.event_handler.specs.declared.handling.EventHandler.{EventHandler}
-use Rattle.event_handler.specs.Handling.{kinds_of, persons_of, links_in, CanHandle}
+use Rattle.event_handler.specs.{Handling.kinds_of, Handling.persons_of, Handling.links_in, Handling.CanHandle, declared.handling.EventHandler.EventHandler}
 
 -- THE EVENTS OF A DAY
 on_link : (book : Book) (count : ℕ) (o : Option ℕ) → length book.links ≡ count → IsNamed book.links o → IfSome o (λ l. l < count)

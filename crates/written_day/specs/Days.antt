@@ -1,13 +1,10 @@
 -- What becomes of a day that is to be written.
 use Rattle.std.specs.Prelude.{ℕ, List, Result}
 use Rattle.edge_files.specs.World.{Written}
-use Rattle.event_handler.specs.declared.handling.EventHandler.{EventHandler}
-use Rattle.event_handler.specs.declared.handling.SeenDay.{SeenDay}
-use Rattle.event_writer.specs.Writing.{CanTake, AreWritten}
-use Rattle.event_writer.specs.declared.writing.StreamError.{StreamError}
+use Rattle.event_handler.specs.declared.handling.{EventHandler.EventHandler, SeenDay.SeenDay}
+use Rattle.event_writer.specs.{Writing.CanTake, Writing.AreWritten, declared.writing.StreamError.StreamError}
 use Rattle.scoring.specs.Tables.{ScoringRows}
-use Rattle.town.specs.Views.{setup}
-use Rattle.town.specs.declared.day_input.DayInput.{DayInput}
+use Rattle.town.specs.{Views.setup, declared.day_input.DayInput.DayInput}
 use Rattle.traffic.specs.Day.{day}
 
 -- a handler that has taken no event, by these tables, can take those of a day

@@ -1,6 +1,5 @@
 use Rattle.std.proofs.Common.{arith}
-use Rattle.law_generated.proofs.Given.{links_valid}
-use Rattle.law_generated.proofs.Nodes.{nodes_valid}
+use Rattle.law_generated.proofs.{Given.links_valid, Nodes.nodes_valid}
 use Rattle.law_generated.proofs.networks_are_valid.Goals as goal
 
 pub returns-clause-nodes : goal.returns-clause-nodes

@@ -1,5 +1,4 @@
-use Rattle.law_generated.proofs.Settings.{settings_pass}
-use Rattle.law_generated.proofs.Signals.{signals_pass}
+use Rattle.law_generated.proofs.{Settings.settings_pass, Signals.signals_pass}
 use Rattle.law_generated.proofs.settings_are_valid.Goals as goal
 
 pub returns-clause-settings : goal.returns-clause-settings

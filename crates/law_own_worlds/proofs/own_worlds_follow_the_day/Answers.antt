@@ -1,6 +1,5 @@
 use Rattle.law_partitions.proofs.Setting.{lawful, are_local}
-use Rattle.law_own_worlds.proofs.Days.{own_second, follows}
-use Rattle.law_own_worlds.proofs.Standing.{stands}
+use Rattle.law_own_worlds.proofs.{Days.own_second, Days.follows, Standing.stands}
 use Rattle.law_own_worlds.proofs.own_worlds_follow_the_day.Goals as goal
 
 pub returns-clause-follows : goal.returns-clause-follows

@@ -1,9 +1,6 @@
 use Rattle.law_partitions.proofs.Setting.{lawful, alighting, are_local}
 use Rattle.law_own_worlds.proofs.Days.{follows}
-use Rattle.law_parcels.proofs.Hearing.{makes_ready}
-use Rattle.law_parcels.proofs.Sending.{sends}
-use Rattle.law_parcels.proofs.Taking.{takes_in}
-use Rattle.law_parcels.proofs.Going.{lets_go}
+use Rattle.law_parcels.proofs.{Going.lets_go, Hearing.makes_ready, Sending.sends, Taking.takes_in}
 use Rattle.law_parcels.proofs.own_worlds_go_on.Goals as goal
 
 pub returns-clause-takes_in : goal.returns-clause-takes_in

@@ -4,8 +4,7 @@ use Rattle.traffic.proofs.Common.{link_moves, leave_bay, from_queue, from_wait, 
 use Rattle.traffic.proofs.Common.{leaving_moves, stranded, departure_moves, link_of_vehicle, into, hole_seconds, stays_until, served_vehicle, boarding}
 use Rattle.traffic.proofs.Common.{left_behind, in_turn, riders_after, among}
 use Rattle.draws.specs.Choices.{below}
-use Rattle.parts.specs.Owners.{hops, near, least, lag, link_of_rider}
-use Rattle.parts.specs.Parts.{came_last, went_last, out, unheard}
+use Rattle.parts.specs.{Owners.hops, Owners.near, Owners.least, Owners.lag, Owners.link_of_rider, Parts.came_last, Parts.went_last, Parts.out, Parts.unheard}
 use Rattle.law_own_worlds.specs.Making.{own_world}
 use Rattle.law_partition_trials.proofs.worked_own_worlds.Goals as goal
 

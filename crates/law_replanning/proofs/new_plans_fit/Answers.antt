@@ -1,6 +1,5 @@
 use Rattle.std.proofs.Common.{◌∙◌}
-use Rattle.law_replanning.proofs.Rerouted.{rerouted_fits, rerouted_in}
-use Rattle.law_replanning.proofs.Mutated.{mutated_fits, mutated_in}
+use Rattle.law_replanning.proofs.{Mutated.mutated_fits, Mutated.mutated_in, Rerouted.rerouted_fits, Rerouted.rerouted_in}
 use Rattle.law_replanning.proofs.new_plans_fit.Goals as goal
 
 pub returns-clause-rerouted : goal.returns-clause-rerouted

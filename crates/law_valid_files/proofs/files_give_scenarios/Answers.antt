@@ -1,5 +1,4 @@
-use Rattle.law_valid_files.proofs.Books.{scenario_named}
-use Rattle.law_valid_files.proofs.Valid.{scenario_valid}
+use Rattle.law_valid_files.proofs.{Books.scenario_named, Valid.scenario_valid}
 use Rattle.law_valid_files.proofs.files_give_scenarios.Goals as goal
 
 pub returns-clause-scenario : goal.returns-clause-scenario

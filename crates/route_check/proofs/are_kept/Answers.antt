@@ -1,9 +1,7 @@
 use Rattle.std.proofs.Common.{arith, ◌≡◌, inl, inr, ℕ, List, length, refl, sym, ◌∙◌, ap, subst}
 use Rattle.std.proofs.lemmas.Bool.{cases_eq}
-use Rattle.travel_times.specs.Times.{arrivals}
-use Rattle.rows.specs.Joined.{ends_of}
-use Rattle.travel_times.proofs.Networks.{length-ends_of}
-use Rattle.rows.specs.declared.network.LinkRow.{LinkRow}
+use Rattle.travel_times.{proofs.Networks.length-ends_of, specs.Times.arrivals}
+use Rattle.rows.specs.{Joined.ends_of, declared.network.LinkRow.LinkRow}
 use Rattle.walks.specs.Certificates.{IsKept}
 use Rattle.route_check.proofs.Ends.{is_link, kept_by_row, row_kept}
 use Rattle.route_check.proofs.are_kept.Goals as goal

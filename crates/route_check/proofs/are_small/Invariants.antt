@@ -1,5 +1,4 @@
-use Rattle.std.proofs.Common.{ℕ, ◌<◌, ◌^◌}
-use Rattle.std.specs.Prelude.{IfSome}
+use Rattle.std.{proofs.Common.ℕ, proofs.Common.◌<◌, proofs.Common.◌^◌, specs.Prelude.IfSome}
 use Rattle.walks.specs.Rounds.{label_at}
 use Rattle.route_check.proofs.are_small.Given as goal
 

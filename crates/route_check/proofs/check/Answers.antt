@@ -1,10 +1,7 @@
 use Rattle.std.proofs.Common.{rules, ◌≡◌, ℕ, Some, Option, subst}
-use Rattle.travel_times.specs.Times.{arrivals}
+use Rattle.travel_times.{proofs.Arriving.arrivals_are_fifo, specs.Times.arrivals}
 use Rattle.rows.specs.Joined.{ends_of}
-use Rattle.travel_times.proofs.Arriving.{arrivals_are_fifo}
-use Rattle.walks.specs.Rounds.{label_at, IsBy}
-use Rattle.walks.specs.Walks.{arrival}
-use Rattle.walks.proofs.Least.{bounds_walks}
+use Rattle.walks.{proofs.Least.bounds_walks, specs.Rounds.label_at, specs.Rounds.IsBy, specs.Walks.arrival}
 use Rattle.route_check.proofs.check.Goals as goal
 
 pub returns-clause-none_earlier : goal.returns-clause-none_earlier

@@ -1,6 +1,5 @@
 use Rattle.std.proofs.Common.{refl}
-use Rattle.walks.specs.Rounds.{start_labels, relabelled, labels_after}
-use Rattle.walks.specs.Chosen.{link_before, followed}
+use Rattle.walks.specs.{Chosen.link_before, Chosen.followed, Rounds.start_labels, Rounds.relabelled, Rounds.labels_after}
 use Rattle.walks.proofs.worked_routes.Goals as goal
 
 pub returns-clause-labels : goal.returns-clause-labels

@@ -1,7 +1,5 @@
 use Rattle.std.proofs.Common.{◌≡◌, ℕ, ◌-◌, length}
-use Rattle.calendar.specs.declared.TheConstants.{BLOCK_SECONDS}
-use Rattle.calendar.specs.Blocks.{rows_of}
-use Rattle.calendar.specs.Due.{due_at}
+use Rattle.calendar.specs.{Blocks.rows_of, Due.due_at, declared.TheConstants.BLOCK_SECONDS}
 use Rattle.calendar.proofs.blocks.fill_up.Given as goal
 
 abbrev pub invariant-rows : goal.invariant-rows

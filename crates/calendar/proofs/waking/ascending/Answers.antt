@@ -1,10 +1,6 @@
 use Rattle.std.proofs.Common.{ℕ, List, sym, subst}
-use Rattle.std.specs.List.{Contains}
-use Rattle.std.specs.List.Sorted.{IsStrictlyIncreasing}
-use Rattle.std.proofs.lemmas.List.Filters.{dedup_is}
-use Rattle.std.proofs.lemmas.List.Kept.{Contains-dedup_nat, Contains-from_dedup}
-use Rattle.std.proofs.lemmas.List.Sorted.{Contains-permutation, IsPermutation-sym}
-use Rattle.std.proofs.lemmas.Map.Keys.{IsStrictlyIncreasing-dedup}
+use Rattle.std.proofs.lemmas.List.{Filters.dedup_is, Kept.Contains-dedup_nat, Kept.Contains-from_dedup, Sorted.Contains-permutation, Sorted.IsPermutation-sym}
+use Rattle.std.{proofs.lemmas.Map.Keys.IsStrictlyIncreasing-dedup, specs.List.Contains, specs.List.Sorted.IsStrictlyIncreasing}
 use Rattle.calendar.proofs.waking.ascending.Goals as goal
 
 pub returns-clause-order : goal.returns-clause-order

@@ -1,9 +1,8 @@
 use Rattle.std.proofs.Common.{◌∙◌, ℕ, suc, get_or, ap, sym, arith, add-one, drop}
 use Rattle.std.specs.Prelude.{None}
+use Rattle.calendar.proofs.{Hung.asleep_step, Hung.asleep_done, Hung.set_past, waking.lull.Goals.then-place-len, waking.lull.Goals.else-place-len}
 use Rattle.calendar.specs.Waking.{asleep}
-use Rattle.calendar.proofs.Hung.{asleep_step, asleep_done, set_past}
 use Rattle.calendar.proofs.waking.lull.Goals as goal
-use Rattle.calendar.proofs.waking.lull.Goals.{then-place-len, else-place-len}
 
 pub loop-number-preserved : goal.loop-number-preserved
 loop-number-preserved c =

@@ -1,5 +1,4 @@
-use Rattle.std.proofs.Common.{◌≡◌, true, length, rules, arith}
-use Rattle.std.specs.Prelude.{nat_eq}
+use Rattle.std.{proofs.Common.◌≡◌, proofs.Common.true, proofs.Common.length, proofs.Common.rules, proofs.Common.arith, specs.Prelude.nat_eq}
 use Rattle.car_routes.proofs.Finding.{filled_here, filled_there}
 use Rattle.car_routes.proofs.legs.filled.Goals as goal
 

@@ -2,9 +2,7 @@ use Rattle.std.proofs.Common.{◌++◌, List, ℕ, sym, ◌∙◌, ap, subst}
 use Rattle.std.specs.Prelude.{option_to_list}
 use Rattle.rows.specs.declared.plan.Leg.{Leg}
 use Rattle.rows.specs.declared.plan.Leg.TheVariants as leg
-use Rattle.car_routes.specs.Plans.{routed_leg}
-use Rattle.car_routes.specs.Wanted.{wanted}
-use Rattle.car_routes.specs.Found.{AreNext}
+use Rattle.car_routes.specs.{Found.AreNext, Plans.routed_leg, Wanted.wanted}
 use Rattle.car_routes.proofs.legs.routed_leg.Goals as goal
 
 pub returns-clause-leg : goal.returns-clause-leg

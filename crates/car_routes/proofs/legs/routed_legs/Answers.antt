@@ -1,10 +1,8 @@
-use Rattle.std.proofs.Common.{◌∙◌, ap, arith}
-use Rattle.std.specs.List.{list_all}
+use Rattle.std.{proofs.Common.◌∙◌, proofs.Common.ap, proofs.Common.arith, specs.List.list_all}
 use Rattle.rows.specs.Plan.{is_leg}
 use Rattle.router.proofs.Walking.{leg_more, none_left}
-use Rattle.car_routes.specs.Plans.{routed_leg}
-use Rattle.car_routes.proofs.Wanting.{wanted_step, wanted_past}
 use Rattle.car_routes.proofs.Routing.{go_step, go_end, sound_push}
+use Rattle.car_routes.{proofs.Wanting.wanted_step, proofs.Wanting.wanted_past, specs.Plans.routed_leg}
 use Rattle.car_routes.proofs.legs.routed_legs.Goals as goal
 
 pub loop-place-preserved : goal.loop-place-preserved

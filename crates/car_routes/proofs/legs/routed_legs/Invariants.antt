@@ -1,12 +1,8 @@
-use Rattle.std.proofs.Common.{◌≡◌, ◌++◌, length, drop, true}
-use Rattle.std.specs.List.{list_all}
+use Rattle.std.{proofs.Common.◌≡◌, proofs.Common.◌++◌, proofs.Common.length, proofs.Common.drop, proofs.Common.true, specs.List.list_all}
 use Rattle.rows.specs.Plan.{is_leg}
-use Rattle.walks.specs.Arrivals.{Arrivals}
-use Rattle.walks.specs.Alike.{TakesAlike}
+use Rattle.walks.specs.{Alike.TakesAlike, Arrivals.Arrivals}
 use Rattle.router.specs.Legs.{each_leg}
-use Rattle.car_routes.specs.Plans.{routed_leg}
-use Rattle.car_routes.specs.Wanted.{Pairs, wanted_in}
-use Rattle.car_routes.specs.Found.{AreNext}
+use Rattle.car_routes.specs.{Found.AreNext, Plans.routed_leg, Wanted.Pairs, Wanted.wanted_in}
 use Rattle.car_routes.proofs.legs.routed_legs.Given as goal
 
 -- the legs before this place have their routes, and those of the others are still to be taken

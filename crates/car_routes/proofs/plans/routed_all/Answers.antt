@@ -1,14 +1,8 @@
 use Rattle.std.proofs.Common.{◌≡◌, ◌∙◌, ◌+◌, ◌∷◌, ◌++◌, [], ℕ, List, length, map, drop, ap, sym, subst, arith, rules, length-append}
-use Rattle.std.proofs.lemmas.List.{map-append}
-use Rattle.std.proofs.lemmas.Iterator.Consumers.{YieldsList-turn, YieldsList-end}
-use Rattle.std.proofs.lemmas.Iterator.Adapters.{YieldsList-from_vec}
-use Rattle.rows.specs.declared.plan.Plan.{Plan}
-use Rattle.rows.specs.PlanRows.{plan_rows, all_plan_rows}
-use Rattle.car_routes.specs.Plans.{routed_plan, all_routed, own_are_on}
-use Rattle.car_routes.specs.Wanted.{wanted_by_all}
-use Rattle.car_routes.specs.Found.{AreNext}
-use Rattle.car_routes.proofs.Wanting.{by_all_step, by_all_past}
-use Rattle.car_routes.proofs.Routing.{go_step, go_end, made_more, made_all, at_mapped}
+use Rattle.std.proofs.lemmas.{Iterator.Adapters.YieldsList-from_vec, Iterator.Consumers.YieldsList-turn, Iterator.Consumers.YieldsList-end, List.map-append}
+use Rattle.rows.specs.{PlanRows.plan_rows, PlanRows.all_plan_rows, declared.plan.Plan.Plan}
+use Rattle.car_routes.proofs.{Routing.go_step, Routing.go_end, Routing.made_more, Routing.made_all, Routing.at_mapped, Wanting.by_all_step, Wanting.by_all_past}
+use Rattle.car_routes.specs.{Found.AreNext, Plans.routed_plan, Plans.all_routed, Plans.own_are_on, Wanted.wanted_by_all}
 use Rattle.car_routes.proofs.plans.routed_all.Goals as goal
 
 pub routed_own-requires-clause-on : goal.routed_own-requires-clause-on

@@ -1,10 +1,7 @@
 use Rattle.std.proofs.Common.{◌≡◌, ◌++◌, [], length, drop}
 use Rattle.rows.specs.PlanRows.{all_plan_rows}
-use Rattle.walks.specs.Arrivals.{Arrivals}
-use Rattle.walks.specs.Alike.{TakesAlike}
-use Rattle.car_routes.specs.Plans.{all_routed}
-use Rattle.car_routes.specs.Wanted.{wanted_by_all}
-use Rattle.car_routes.specs.Found.{AreNext}
+use Rattle.walks.specs.{Alike.TakesAlike, Arrivals.Arrivals}
+use Rattle.car_routes.specs.{Found.AreNext, Plans.all_routed, Wanted.wanted_by_all}
 use Rattle.car_routes.proofs.plans.routed_all.Given as goal
 
 -- the persons so far have their routes, and those of the others are still to be taken

@@ -1,9 +1,7 @@
 use Rattle.std.proofs.Common.{◌∙◌, List, subst}
-use Rattle.rows.specs.declared.plan.Plan.{Plan}
-use Rattle.rows.specs.PlanRows.{all_plan_rows}
+use Rattle.rows.specs.{PlanRows.all_plan_rows, declared.plan.Plan.Plan}
 use Rattle.travel_times.specs.Times.{arrivals}
-use Rattle.car_routes.specs.Wanted.{wanted_by_all}
-use Rattle.car_routes.specs.Found.{AreNext}
+use Rattle.car_routes.specs.{Found.AreNext, Wanted.wanted_by_all}
 use Rattle.car_routes.proofs.plans.routed_by.Goals as goal
 
 pub returns : goal.returns

@@ -1,9 +1,6 @@
 use Rattle.std.proofs.Common.{◌≡◌, ◌∙◌, ◌++◌, List, map, sym, subst}
-use Rattle.rows.specs.declared.plan.Plan.{Plan}
-use Rattle.rows.specs.PlanRows.{plan_rows}
-use Rattle.car_routes.specs.Plans.{routed_plan}
-use Rattle.car_routes.specs.Wanted.{wanted_by}
-use Rattle.car_routes.specs.Found.{AreNext}
+use Rattle.rows.specs.{PlanRows.plan_rows, declared.plan.Plan.Plan}
+use Rattle.car_routes.specs.{Found.AreNext, Plans.routed_plan, Wanted.wanted_by}
 use Rattle.car_routes.proofs.plans.routed_own.Goals as goal
 
 pub returns-clause-plans : goal.returns-clause-plans

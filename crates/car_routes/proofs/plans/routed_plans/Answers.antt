@@ -1,11 +1,8 @@
-use Rattle.std.proofs.Common.{◌∙◌, ◌∷◌, [], List, map, ap}
-use Rattle.std.proofs.lemmas.List.{map-append}
-use Rattle.rows.specs.declared.plan.Plan.{Plan}
-use Rattle.rows.specs.PlanRows.{plan_rows}
+use Rattle.std.proofs.{Common.◌∙◌, Common.◌∷◌, Common.[], Common.List, Common.map, Common.ap, lemmas.List.map-append}
+use Rattle.rows.specs.{PlanRows.plan_rows, declared.plan.Plan.Plan}
 use Rattle.router.specs.Legs.{are_on}
-use Rattle.car_routes.specs.Plans.{routed_plan}
-use Rattle.car_routes.proofs.Wanting.{by_step, by_past}
 use Rattle.car_routes.proofs.Routing.{go_step, go_end, made_more, made_all, at_mapped}
+use Rattle.car_routes.{proofs.Wanting.by_step, proofs.Wanting.by_past, specs.Plans.routed_plan}
 use Rattle.car_routes.proofs.plans.routed_plans.Goals as goal
 
 pub routed_plan-requires-clause-on : goal.routed_plan-requires-clause-on

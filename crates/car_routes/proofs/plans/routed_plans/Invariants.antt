@@ -1,10 +1,7 @@
 use Rattle.std.proofs.Common.{◌≡◌, ◌++◌, length, map, drop}
 use Rattle.rows.specs.PlanRows.{plan_rows}
-use Rattle.walks.specs.Arrivals.{Arrivals}
-use Rattle.walks.specs.Alike.{TakesAlike}
-use Rattle.car_routes.specs.Plans.{routed_plan}
-use Rattle.car_routes.specs.Wanted.{Pairs, wanted_by}
-use Rattle.car_routes.specs.Found.{AreNext}
+use Rattle.walks.specs.{Alike.TakesAlike, Arrivals.Arrivals}
+use Rattle.car_routes.specs.{Found.AreNext, Plans.routed_plan, Wanted.Pairs, Wanted.wanted_by}
 use Rattle.car_routes.proofs.plans.routed_plans.Given as goal
 
 -- the plans before this one have their routes, and those of the others are still to be taken

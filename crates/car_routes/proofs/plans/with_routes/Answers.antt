@@ -1,7 +1,6 @@
 use Rattle.std.proofs.Common.{◌≡◌, ℕ, length, true, sym, subst}
 use Rattle.rows.specs.PlanRows.{all_plan_rows}
-use Rattle.car_routes.specs.Plans.{all_are_on}
-use Rattle.car_routes.proofs.Routing.{links_counted, times_counted, routed_is}
+use Rattle.car_routes.{proofs.Routing.links_counted, proofs.Routing.times_counted, proofs.Routing.routed_is, specs.Plans.all_are_on}
 use Rattle.car_routes.proofs.plans.with_routes.Goals as goal
 
 pub routed_by-requires-clause-on : goal.routed_by-requires-clause-on

@@ -3,10 +3,7 @@ use Rattle.std.specs.List.{range_with_len}
 use Rattle.travel_times.specs.Times.{arrivals}
 use Rattle.router.proofs.Gathered.{gathered}
 use Rattle.rayon.specs.Numbers.{nat_range}
-use Rattle.car_routes.specs.Wanted.{row_of}
-use Rattle.car_routes.specs.Found.{ways_from}
-use Rattle.car_routes.proofs.Finding.{WayList}
-use Rattle.car_routes.proofs.Routing.{in_range}
+use Rattle.car_routes.{proofs.Finding.WayList, proofs.Routing.in_range, specs.Found.ways_from, specs.Wanted.row_of}
 use Rattle.car_routes.proofs.searches.ways_by_node.Goals as goal
 
 pub collect-requires-clause-ready : goal.collect-requires-clause-ready

@@ -1,8 +1,7 @@
 use Rattle.std.proofs.Common.{map, ◌∙◌}
 use Rattle.rows.specs.PlanRows.{plan_rows}
+use Rattle.car_routes.proofs.{Routing.at_mapped, Wanting.on_way_start, Wanting.on_way_step, Wanting.on_way_end, Wanting.by_all_step, Wanting.by_all_past}
 use Rattle.car_routes.specs.Plans.{own_are_on}
-use Rattle.car_routes.proofs.Wanting.{on_way_start, on_way_step, on_way_end, by_all_step, by_all_past}
-use Rattle.car_routes.proofs.Routing.{at_mapped}
 use Rattle.car_routes.proofs.wanted.want_all.Goals as goal
 
 pub loop-own-init : goal.loop-own-init

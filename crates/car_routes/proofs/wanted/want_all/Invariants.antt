@@ -1,7 +1,6 @@
 use Rattle.std.proofs.Common.{drop}
 use Rattle.rows.specs.PlanRows.{all_plan_rows}
-use Rattle.car_routes.specs.Wanted.{wanted_by_all}
-use Rattle.car_routes.proofs.Wanting.{IsOnWay}
+use Rattle.car_routes.{proofs.Wanting.IsOnWay, specs.Wanted.wanted_by_all}
 use Rattle.car_routes.proofs.wanted.want_all.Given as goal
 
 -- what the persons from this one on want is still left

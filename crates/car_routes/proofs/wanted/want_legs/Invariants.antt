@@ -1,6 +1,5 @@
 use Rattle.std.proofs.Common.{drop}
-use Rattle.car_routes.specs.Wanted.{wanted_in}
-use Rattle.car_routes.proofs.Wanting.{IsOnWay}
+use Rattle.car_routes.{proofs.Wanting.IsOnWay, specs.Wanted.wanted_in}
 use Rattle.car_routes.proofs.wanted.want_legs.Given as goal
 
 -- what the legs from this place on want is still left

@@ -1,8 +1,7 @@
 use Rattle.std.proofs.Common.{◌∙◌}
 use Rattle.rows.specs.PlanRows.{plan_rows}
 use Rattle.router.specs.Legs.{are_on}
-use Rattle.car_routes.proofs.Wanting.{on_way_start, on_way_step, on_way_end, by_step, by_past}
-use Rattle.car_routes.proofs.Routing.{at_mapped}
+use Rattle.car_routes.proofs.{Routing.at_mapped, Wanting.on_way_start, Wanting.on_way_step, Wanting.on_way_end, Wanting.by_step, Wanting.by_past}
 use Rattle.car_routes.proofs.wanted.want_plans.Goals as goal
 
 pub loop-plan-init : goal.loop-plan-init

@@ -1,7 +1,6 @@
 use Rattle.std.proofs.Common.{drop, map}
 use Rattle.rows.specs.PlanRows.{plan_rows}
-use Rattle.car_routes.specs.Wanted.{wanted_by}
-use Rattle.car_routes.proofs.Wanting.{IsOnWay}
+use Rattle.car_routes.{proofs.Wanting.IsOnWay, specs.Wanted.wanted_by}
 use Rattle.car_routes.proofs.wanted.want_plans.Given as goal
 
 -- what the plans from this one on want is still left

@@ -1,6 +1,5 @@
 use Rattle.std.proofs.Common.{ap}
-use Rattle.cells.specs.Ports.{handover_at}
-use Rattle.cells.proofs.Uses.{moved_unread, ready_unread, waits_untouched}
+use Rattle.cells.{proofs.Uses.moved_unread, proofs.Uses.ready_unread, proofs.Uses.waits_untouched, specs.Ports.handover_at}
 use Rattle.cell_tests.proofs.seconds.look_at.Goals as goal
 
 pub returns-in-Ready-clause-untouched : goal.returns-in-Ready-clause-untouched

@@ -1,7 +1,6 @@
 use Rattle.std.proofs.Common.{rules, arith, ◌<◌, ◌+◌, length, ap, sym, subst}
 use Rattle.cells.specs.Ports.{degree}
-use Rattle.cell_tests.proofs.Taking.{HasTaken, took}
-use Rattle.cell_tests.proofs.seconds.take_all.Goals.{then-lag-done, else-lag-done}
+use Rattle.cell_tests.proofs.{Taking.HasTaken, Taking.took, seconds.take_all.Goals.then-lag-done, seconds.take_all.Goals.else-lag-done}
 use Rattle.cell_tests.proofs.seconds.take_all.Goals as goal
 
 pub loop-k-preserved : goal.loop-k-preserved

@@ -1,10 +1,6 @@
 use Rattle.std.proofs.Common.{◌≢◌, ap, sym, subst, ◌∙◌, arith, List}
-use Rattle.cells.specs.Rule.{contains}
-use Rattle.cells.specs.Ports.{had_port}
-use Rattle.cells.proofs.Rings.{mark_else}
-use Rattle.cell_tests.specs.declared.members.Member.{Member}
-use Rattle.cell_tests.specs.Members.{AreMembers}
-use Rattle.cell_tests.proofs.Listing.{members_more}
+use Rattle.cells.{proofs.Rings.mark_else, specs.Ports.had_port, specs.Rule.contains}
+use Rattle.cell_tests.{proofs.Listing.members_more, specs.Members.AreMembers, specs.declared.members.Member.Member}
 use Rattle.cell_tests.proofs.trials.all_members.Goals as goal
 
 pub loop-p-preserved : goal.loop-p-preserved

@@ -1,6 +1,5 @@
 use Rattle.std.proofs.Common.{◌≡◌, ℕ, ◌≤◌, false}
-use Rattle.cells.specs.Rule.{contains}
-use Rattle.cells.specs.Ports.{IsHub, had_port}
+use Rattle.cells.specs.{Ports.IsHub, Ports.had_port, Rule.contains}
 use Rattle.cell_tests.specs.Members.{AreMembers}
 use Rattle.cell_tests.proofs.trials.all_members.Given as goal
 

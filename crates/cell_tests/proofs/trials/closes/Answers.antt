@@ -1,9 +1,7 @@
 use Rattle.std.proofs.Common.{◌≡◌, ap, sym, ◌∙◌, arith, length, vec_len, rules}
 use mathlib.Core.Logic.{dite}
 use native.Mathlib.Decide.{ℕ_discrete}
-use Rattle.cells.specs.Rule.{contains}
-use Rattle.cells.specs.Ports.{joined, partition_of}
-use Rattle.cells.proofs.Rings.{mark_here, mark_else}
+use Rattle.cells.{proofs.Rings.mark_here, proofs.Rings.mark_else, specs.Ports.joined, specs.Ports.partition_of, specs.Rule.contains}
 use Rattle.cell_tests.proofs.Listing.{members_last}
 use Rattle.cell_tests.proofs.trials.closes.Goals as goal
 

@@ -1,6 +1,5 @@
 use Rattle.std.proofs.Common.{◌≡◌, ℕ, ◌<◌, ◌≤◌, true, length, vec_len}
-use Rattle.cells.specs.Rule.{contains}
-use Rattle.cells.specs.Ports.{IsHub, joined}
+use Rattle.cells.specs.{Ports.IsHub, Ports.joined, Rule.contains}
 use Rattle.cell_tests.specs.Members.{AreMembers}
 use Rattle.cell_tests.proofs.trials.closes.Given as goal
 

@@ -1,10 +1,7 @@
 use Rattle.std.proofs.Common.{◌+◌, sym, ap, ◌∙◌, subst, refl, Vec, Global}
-use Rattle.cells.specs.declared.table.Border.{Border}
-use Rattle.cells.specs.Ports.{AreFound}
-use Rattle.cells.proofs.Finding.{found_skip, found_push}
-use Rattle.cells.proofs.borders.find_borders_from.Goals.{then-channel-q+then-channel-p+in_ok-push, else-channel-q}
-use Rattle.cells.proofs.borders.find_borders_from.Goals.{else-channel-q-via-then-channel-q+else-channel-p}
-use Rattle.cells.proofs.borders.find_borders_from.Goals.{else-channel-q-via-else-channel-q}
+use Rattle.cells.proofs.{Finding.found_skip, Finding.found_push, borders.find_borders_from.Goals.then-channel-q+then-channel-p+in_ok-push}
+use Rattle.cells.proofs.borders.find_borders_from.Goals.{else-channel-q, else-channel-q-via-then-channel-q+else-channel-p, else-channel-q-via-else-channel-q}
+use Rattle.cells.specs.{Ports.AreFound, declared.table.Border.Border}
 use Rattle.cells.proofs.borders.find_borders_from.Goals as goal
 
 pub loop-e-preserved : goal.loop-e-preserved

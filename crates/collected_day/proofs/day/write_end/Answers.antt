@@ -1,13 +1,11 @@
 use Rattle.std.proofs.Common.{List, ◌++◌, sym, ◌∙◌, ap, subst}
-use Rattle.events.specs.declared.event.Event.{Event}
-use Rattle.events.specs.Lines.{AreInBook, event_lines}
+use Rattle.events.specs.{Lines.AreInBook, Lines.event_lines, declared.event.Event.Event}
 use Rattle.event_handler.specs.Handling.{IsSeen}
 use Rattle.event_writer.proofs.Written.{none_written, written_but}
 use Rattle.scoring.specs.Tables.{scoring_rows}
 use Rattle.town.specs.Views.{setup}
-use Rattle.collected_day.specs.Spans.{told_at_end}
-use Rattle.collected_day.specs.Taking.{CanHandleMore, HasHandledMore}
 use Rattle.collected_day.proofs.Writing.{as_written, whole_written, front_written}
+use Rattle.collected_day.specs.{Spans.told_at_end, Taking.CanHandleMore, Taking.HasHandledMore}
 use Rattle.collected_day.proofs.day.write_end.Goals as goal
 
 pub returns-in_default-clause-written : goal.returns-in_default-clause-written

@@ -1,16 +1,11 @@
-use Rattle.std.proofs.Common.{ℕ, ◌<◌, true, arith, sym, ◌∙◌, ap, subst}
-use Rattle.std.proofs.lemmas.Result.{IfOk-weaker}
+use Rattle.std.proofs.{Common.ℕ, Common.◌<◌, Common.true, Common.arith, Common.sym, Common.◌∙◌, Common.ap, Common.subst, lemmas.Result.IfOk-weaker}
 use Rattle.event_writer.proofs.Streaming.{IsStreaming}
 use Rattle.scoring.specs.Tables.{scoring_rows}
 use Rattle.step_core.specs.Nets.{Net}
-use Rattle.streamed_day.specs.Coming.{to_come}
-use Rattle.streamed_day.proofs.Coming.{end_in}
+use Rattle.streamed_day.{proofs.Coming.end_in, specs.Coming.to_come}
 use Rattle.town.specs.Views.{setup}
 use Rattle.traffic.specs.Day as traffic_day
-use Rattle.collected_day.specs.Spans.{IsUnderWay}
-use Rattle.collected_day.specs.Taking.{IsTaking}
-use Rattle.collected_day.proofs.Due.{due_next}
-use Rattle.collected_day.proofs.Together.{at_end}
+use Rattle.collected_day.{specs.Spans.IsUnderWay, specs.Taking.IsTaking, proofs.Due.due_next, proofs.Together.at_end}
 use Rattle.collected_day.proofs.Writing.{begins, as_written, span_due, span_failed, streams_on, end_left, end_due, end_written, end_seen}
 use Rattle.collected_day.proofs.day.write_on.Goals as goal
 

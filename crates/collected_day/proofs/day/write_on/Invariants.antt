@@ -4,8 +4,7 @@ use Rattle.scoring.specs.Tables.{scoring_rows}
 use Rattle.streamed_day.specs.Coming.{to_come}
 use Rattle.town.specs.Views.{setup}
 use Rattle.traffic.specs.Day as traffic_day
-use Rattle.collected_day.specs.Spans.{IsUnderWay}
-use Rattle.collected_day.specs.Taking.{IsTaking}
+use Rattle.collected_day.specs.{Spans.IsUnderWay, Taking.IsTaking}
 use Rattle.collected_day.proofs.day.write_on.Given as goal
 
 abbrev pub invariant-loop-progress : goal.invariant-loop-progress

@@ -1,13 +1,9 @@
 use Rattle.std.proofs.Common.{◌*◌, ◌∙◌, subst, refl}
-use Rattle.event_pipe.specs.declared.gathering.Gathered.{Gathered}
-use Rattle.event_pipe.specs.Pipes.{Gathers}
-use Rattle.streamed_day.specs.Coming.{seconds_from}
-use Rattle.streamed_day.proofs.Coming.{seconds_ascend}
-use Rattle.streamed_day.proofs.Merged.{can_merge_events, merged_events}
+use Rattle.event_pipe.specs.{Pipes.Gathers, declared.gathering.Gathered.Gathered}
+use Rattle.streamed_day.{proofs.Coming.seconds_ascend, proofs.Merged.can_merge_events, proofs.Merged.merged_events, specs.Coming.seconds_from}
 use Rattle.town.specs.Views.{setup}
-use Rattle.collected_day.specs.declared.spans.TheConstants.{SPAN_SECONDS}
-use Rattle.collected_day.specs.Streams.{IsNext, span_length}
 use Rattle.collected_day.proofs.Coming.{as_gathered, gathered_more, lists_are, span_lists}
+use Rattle.collected_day.specs.{Streams.IsNext, Streams.span_length, declared.spans.TheConstants.SPAN_SECONDS}
 use Rattle.collected_day.proofs.gathering.next_span.Goals as goal
 
 pub loop-preserved : goal.loop-preserved

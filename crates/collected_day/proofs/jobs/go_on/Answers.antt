@@ -2,8 +2,7 @@ use Rattle.std.proofs.Common.{[], ◌∷◌, ◌++◌, Some, length, arith, ap, 
 use Rattle.std.specs.Prelude.{option_to_list}
 use Rattle.scoring.specs.Tables.{scoring_rows}
 use Rattle.collected_day.specs.declared.jobs.Job.TheVariants as job
-use Rattle.collected_day.specs.Jobs.{IsDone}
-use Rattle.collected_day.proofs.Both.{both_done}
+use Rattle.collected_day.{proofs.Both.both_done, specs.Jobs.IsDone}
 use Rattle.collected_day.proofs.jobs.go_on.Goals as goal
 
 pub returns : goal.returns

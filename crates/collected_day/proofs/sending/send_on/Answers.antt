@@ -1,9 +1,9 @@
 use Rattle.std.proofs.Common.{◌≡◌, ◌<◌, ◌+◌, ◌-◌, ◌++◌, List, inl, inr, arith, refl, ◌∙◌, ap}
 use Rattle.events.specs.declared.event.Event.{Event}
 use Rattle.collected_day.proofs.Handed.{keeps, over_is, is_allowed, goes_over}
-use Rattle.collected_day.proofs.sending.send_on.Goals as goal
 use Rattle.collected_day.proofs.sending.send_on.Goals.{else-done-began-lt-SPAN_SECONDS-via-then-done-began-lt-SPAN_SECONDS+else-done-end}
 use Rattle.collected_day.proofs.sending.send_on.Goals.{else-done-began-lt-SPAN_SECONDS-via-else-done-began-lt-SPAN_SECONDS}
+use Rattle.collected_day.proofs.sending.send_on.Goals as goal
 
 pub returns-then-done-end : goal.returns-then-done-end
 returns-then-done-end g c =

@@ -1,18 +1,10 @@
-use Rattle.std.proofs.Common.{◌≡◌, ◌<◌, ◌∙◌, ◌*◌, ◌≤◌, List, [], ◌∷◌, false, Some, ap, sym, refl, subst}
-use Rattle.std.proofs.Common.{arith, length, length-append, get_or, rules}
-use Rattle.std.proofs.lemmas.List.{length_push}
-use Rattle.std.proofs.lemmas.Iterator.Consumers.{YieldsList-turn, YieldsList-end}
-use Rattle.std.proofs.lemmas.Iterator.Adapters.{YieldsList-from_vec}
-use Rattle.event_pipe.specs.declared.senders.Sender.{Sender}
-use Rattle.event_pipe.specs.Pipes.{sent, free}
+use Rattle.std.proofs.Common.{◌≡◌, ◌<◌, ◌∙◌, ◌*◌, ◌≤◌, List, [], ◌∷◌, false, Some, ap, sym, refl, subst, arith, length, length-append, get_or, rules}
+use Rattle.std.proofs.lemmas.{Iterator.Adapters.YieldsList-from_vec, Iterator.Consumers.YieldsList-turn, Iterator.Consumers.YieldsList-end, List.length_push}
+use Rattle.event_pipe.specs.{Pipes.sent, Pipes.free, declared.senders.Sender.Sender}
 use Rattle.step_core.specs.Views.{EachAt}
 use Rattle.workers.proofs.Starting.{map_itself, each_next}
-use Rattle.collected_day.specs.declared.stream.Spanwise.{Spanwise}
-use Rattle.collected_day.specs.declared.sending.Outgoing.{Outgoing}
-use Rattle.collected_day.specs.declared.sending.SendingPart.{SendingPart}
-use Rattle.collected_day.specs.declared.spans.TheConstants.{SPAN_SECONDS}
-use Rattle.collected_day.specs.Sending.{IsSendingOf}
-use Rattle.collected_day.proofs.Handed.{first_sending, started}
+use Rattle.collected_day.{proofs.Handed.first_sending, proofs.Handed.started, specs.Sending.IsSendingOf}
+use Rattle.collected_day.specs.declared.{sending.Outgoing.Outgoing, sending.SendingPart.SendingPart, spans.TheConstants.SPAN_SECONDS, stream.Spanwise.Spanwise}
 use Rattle.collected_day.proofs.sending.sending_parts.Goals as goal
 
 pub start-requires : goal.start-requires

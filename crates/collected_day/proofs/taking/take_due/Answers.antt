@@ -1,6 +1,5 @@
 use Rattle.std.proofs.Common.{◌∙◌, List, ap, sym, refl, subst, arith}
-use Rattle.events.specs.declared.event.Event.{Event}
-use Rattle.events.specs.Lines.{AreInBook, event_lines}
+use Rattle.events.specs.{Lines.AreInBook, Lines.event_lines, declared.event.Event.Event}
 use Rattle.scoring.specs.Tables.{scoring_rows}
 use Rattle.town.specs.Views.{setup}
 use Rattle.collected_day.specs.Taking.{CanHandleMore, HasHandledMore}

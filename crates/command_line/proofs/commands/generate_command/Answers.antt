@@ -3,10 +3,9 @@ use Rattle.clap.specs.Words.{found_of, new_app}
 use Rattle.learning.specs.declared.TheConstants.{LAST_ITERATION}
 use Rattle.limits.specs.declared.TheConstants.{MAX_PARTITIONS}
 use Rattle.workload.specs.declared.TheConstants.{LEAST_SIZE, MOST_SIZE}
+use Rattle.command_line.proofs.Arguments.{Added, added, AreAdded, app_is, own_name, number_found, long_number_found, option_found, flag_found, partitions_added}
+use Rattle.command_line.proofs.Arguments.{workers_added, stream_added, partitions_own, workers_own, stream_own}
 use Rattle.command_line.specs.Given.{HasGrid, HasExecution}
-use Rattle.command_line.proofs.Arguments.{Added, added, AreAdded, app_is, own_name, number_found, long_number_found, option_found}
-use Rattle.command_line.proofs.Arguments.{flag_found}
-use Rattle.command_line.proofs.Arguments.{partitions_added, workers_added, stream_added, partitions_own, workers_own, stream_own}
 use Rattle.command_line.proofs.commands.generate_command.Goals as goal
 
 pub returns-clause-app : goal.returns-clause-app

@@ -1,5 +1,4 @@
-use Rattle.std.proofs.Common.{arith}
-use Rattle.std.specs.Str.Parse.{ParsesUnsigned, ExplainsUnsignedError, HasUnsignedDigitsIfOk}
+use Rattle.std.{proofs.Common.arith, specs.Str.Parse.ParsesUnsigned, specs.Str.Parse.ExplainsUnsignedError, specs.Str.Parse.HasUnsignedDigitsIfOk}
 use Rattle.clap.specs.Words.{found_of}
 use Rattle.limits.specs.declared.TheConstants.{MAX_PARTITIONS}
 use Rattle.command_line.proofs.Words.{option_given, the_default}

@@ -2,8 +2,7 @@ use Rattle.std.proofs.Common.{codes, arith}
 use Rattle.std.specs.Str.Parse.{ParsesUnsigned, ExplainsUnsignedError, HasUnsignedDigitsIfOk}
 use Rattle.clap.specs.Words.{found_of}
 use Rattle.learning.specs.declared.TheConstants.{LAST_ITERATION}
-use Rattle.command_line.specs.declared.TheConstants.{DEFAULT_LAST_ITERATION}
-use Rattle.command_line.proofs.Words.{option_given, the_default}
+use Rattle.command_line.{proofs.Words.option_given, proofs.Words.the_default, specs.declared.TheConstants.DEFAULT_LAST_ITERATION}
 use Rattle.command_line.proofs.given.last_iteration_given.Goals as goal
 
 pub returns-in_default-clause-number : goal.returns-in_default-clause-number

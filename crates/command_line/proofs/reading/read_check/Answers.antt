@@ -1,8 +1,7 @@
 use Rattle.std.proofs.Common.{refl, false}
-use Rattle.command_line.specs.Cases.{Work}
-use Rattle.command_line.specs.declared.commands.CommandName.TheVariants.{Check}
-use Rattle.command_line.specs.declared.commands.Command.TheVariants as command
 use Rattle.command_line.proofs.Answered.{taken, told_so, work_is}
+use Rattle.command_line.specs.{Cases.Work, declared.commands.CommandName.TheVariants.Check}
+use Rattle.command_line.specs.declared.commands.Command.TheVariants as command
 use Rattle.command_line.proofs.reading.read_check.Goals as goal
 
 pub returns-in-Ok-clause-case : goal.returns-in-Ok-clause-case

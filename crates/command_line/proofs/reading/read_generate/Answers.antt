@@ -1,8 +1,7 @@
 use Rattle.std.proofs.Common.{◌∙◌, ap}
 use Rattle.clap.specs.Words.{found_of, rows_of}
-use Rattle.command_line.specs.Cases.{asked_case, simulation}
-use Rattle.command_line.specs.declared.commands.CommandName.TheVariants.{Generate}
 use Rattle.command_line.proofs.Answered.{taken, told_so, made}
+use Rattle.command_line.specs.{Cases.asked_case, Cases.simulation, declared.commands.CommandName.TheVariants.Generate}
 use Rattle.command_line.proofs.reading.read_generate.Goals as goal
 
 pub returns-in-Ok-clause-case : goal.returns-in-Ok-clause-case

@@ -1,7 +1,6 @@
 use Rattle.std.proofs.Common.{false, refl}
-use Rattle.command_line.specs.Cases.{Work}
-use Rattle.command_line.specs.declared.commands.CommandName.TheVariants.{Route}
 use Rattle.command_line.proofs.Answered.{taken, told_so, made, work_is}
+use Rattle.command_line.specs.{Cases.Work, declared.commands.CommandName.TheVariants.Route}
 use Rattle.command_line.proofs.reading.read_route.Goals as goal
 
 pub returns-in_ok-command-in-Ok-clause-case : goal.returns-in_ok-command-in-Ok-clause-case

@@ -1,7 +1,6 @@
 use Rattle.std.proofs.Common.{◌∙◌, sym}
 use Rattle.clap.specs.Words.{found_of, rows_of}
-use Rattle.command_line.specs.Cases.{asked_case}
-use Rattle.command_line.proofs.Answered.{taken, told_so, made}
+use Rattle.command_line.{proofs.Answered.taken, proofs.Answered.told_so, proofs.Answered.made, specs.Cases.asked_case}
 use Rattle.command_line.proofs.reading.read_simulation.Goals as goal
 
 pub returns-in-Ok-clause-case : goal.returns-in-Ok-clause-case

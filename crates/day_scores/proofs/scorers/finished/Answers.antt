@@ -1,11 +1,7 @@
-use Rattle.std.proofs.Common.{◌≡◌, ◌++◌, ◌∷◌, [], ℤ, ap, ◌∙◌}
-use Rattle.std.proofs.lemmas.List.Elements.{All-push}
+use Rattle.std.proofs.{Common.◌≡◌, Common.◌++◌, Common.◌∷◌, Common.[], Common.ℤ, Common.ap, Common.◌∙◌, lemmas.List.Elements.All-push}
 use Rattle.events.specs.Persons.{own_events}
-use Rattle.scoring.specs.declared.TheConstants.{MAX_SCORE}
-use Rattle.scoring.specs.Ranges.{IsWithin}
-use Rattle.scoring.specs.Tables.{scoring_rows}
-use Rattle.day_scores.specs.Scores.{scores_of}
-use Rattle.day_scores.proofs.Ending.{scores-more, scores-all, score-code}
+use Rattle.scoring.specs.{Ranges.IsWithin, Tables.scoring_rows, declared.TheConstants.MAX_SCORE}
+use Rattle.day_scores.{proofs.Ending.scores-more, proofs.Ending.scores-all, proofs.Ending.score-code, specs.Scores.scores_of}
 use Rattle.day_scores.proofs.scorers.finished.Goals as goal
 
 pub finish-score-requires : goal.finish-score-requires

@@ -1,12 +1,7 @@
-use Rattle.std.proofs.Common.{◌≡◌, ◌++◌, List, map, drop}
-use Rattle.std.specs.List.{enumerate_from, All}
+use Rattle.std.{proofs.Common.◌≡◌, proofs.Common.◌++◌, proofs.Common.List, proofs.Common.map, proofs.Common.drop, specs.List.enumerate_from, specs.List.All}
 use Rattle.events.specs.declared.event.Event.{Event}
-use Rattle.scoring.specs.declared.TheConstants.{MAX_SCORE}
-use Rattle.scoring.specs.Ranges.{IsWithin}
-use Rattle.scoring.specs.Tables.{scoring_rows}
-use Rattle.scoring.specs.Taken.{first_kind_of}
-use Rattle.day_scores.specs.Scores.{score_of}
-use Rattle.day_scores.specs.Standing.{StandFor}
+use Rattle.scoring.specs.{Ranges.IsWithin, Tables.scoring_rows, Taken.first_kind_of, declared.TheConstants.MAX_SCORE}
+use Rattle.day_scores.specs.{Scores.score_of, Standing.StandFor}
 use Rattle.day_scores.proofs.scorers.finished.Given as goal
 
 -- the scores so far and those from here on are all

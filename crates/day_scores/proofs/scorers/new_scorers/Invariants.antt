@@ -1,6 +1,5 @@
 use Rattle.std.proofs.Common.{◌≡◌, [], map, take}
-use Rattle.scoring.specs.Tables.{ScoringRows}
-use Rattle.scoring.specs.Taken.{first_kind_of}
+use Rattle.scoring.specs.{Tables.ScoringRows, Taken.first_kind_of}
 use Rattle.day_scores.specs.Standing.{StandFor}
 use Rattle.day_scores.proofs.scorers.new_scorers.Given as goal
 

@@ -1,11 +1,7 @@
-use Rattle.std.proofs.Common.{◌<◌, length, refl, sym, subst, ap, ◌∙◌, arith}
-use Rattle.std.proofs.lemmas.Bool.{eq-eqb}
-use Rattle.scoring.specs.declared.scorer.Scorer.{Scorer}
-use Rattle.scoring.specs.Tables.{scoring_rows}
-use Rattle.scoring.specs.Taken.{first_kind_of, IsTakenBy}
+use Rattle.std.proofs.{Common.◌<◌, Common.length, Common.refl, Common.sym, Common.subst, Common.ap, Common.◌∙◌, Common.arith, lemmas.Bool.eq-eqb}
+use Rattle.scoring.specs.{Tables.scoring_rows, Taken.first_kind_of, Taken.IsTakenBy, declared.scorer.Scorer.Scorer}
 use Rattle.events.specs.Persons.{own_events}
-use Rattle.day_scores.proofs.Persons.{himself}
-use Rattle.day_scores.proofs.Standing.{person_named, kinds-set}
+use Rattle.day_scores.proofs.{Persons.himself, Standing.person_named, Standing.kinds-set}
 use Rattle.day_scores.proofs.scorers.take_event.Goals as goal
 
 pub returns-clause-kinds : goal.returns-clause-kinds

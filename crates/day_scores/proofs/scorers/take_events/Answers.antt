@@ -1,10 +1,8 @@
 use Rattle.std.proofs.Common.{◌≡◌, ◌++◌, List, length, map, take, refl, sym, subst, ◌∙◌, append-nil}
 use Rattle.std.proofs.lemmas.List.{length-map, take_all}
 use Rattle.events.specs.declared.event.Event.{Event}
-use Rattle.scoring.specs.Tables.{scoring_rows}
-use Rattle.scoring.specs.Taken.{first_kind_of}
-use Rattle.day_scores.specs.Standing.{StandFor}
-use Rattle.day_scores.proofs.Standing.{kinds-count, come-more, come-next}
+use Rattle.scoring.specs.{Tables.scoring_rows, Taken.first_kind_of}
+use Rattle.day_scores.{proofs.Standing.kinds-count, proofs.Standing.come-more, proofs.Standing.come-next, specs.Standing.StandFor}
 use Rattle.day_scores.proofs.scorers.take_events.Goals as goal
 
 pub loop-event-init : goal.loop-event-init

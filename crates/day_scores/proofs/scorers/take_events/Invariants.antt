@@ -1,7 +1,6 @@
 use Rattle.std.proofs.Common.{◌≡◌, ◌++◌, List, length, map, take}
 use Rattle.events.specs.declared.event.Event.{Event}
-use Rattle.scoring.specs.Tables.{scoring_rows}
-use Rattle.scoring.specs.Taken.{first_kind_of}
+use Rattle.scoring.specs.{Tables.scoring_rows, Taken.first_kind_of}
 use Rattle.day_scores.specs.Standing.{StandFor, AllCome}
 use Rattle.day_scores.proofs.scorers.take_events.Given as goal
 

@@ -1,9 +1,6 @@
 use Rattle.std.proofs.Common.{◌≡◌, ◌≤◌, ◌*◌, ◌+◌, pos, ℤ, take, get_or, to_z, w64, refl, sym, subst, arith}
-use Rattle.std.proofs.lemmas.Int.{ints}
-use Rattle.std.proofs.lemmas.List.Elements.{All-get_or}
-use Rattle.scoring.specs.declared.TheConstants.{MAX_SCORE}
-use Rattle.scoring.specs.Ranges.{IsWithin}
-use Rattle.scoring.specs.Score.{total}
+use Rattle.std.proofs.lemmas.{Int.ints, List.Elements.All-get_or}
+use Rattle.scoring.specs.{Ranges.IsWithin, Score.total, declared.TheConstants.MAX_SCORE}
 use Rattle.day_scores.proofs.Ending.{sum-more, sum-within, sum-code}
 use Rattle.day_scores.proofs.sums.sum_of.Goals as goal
 

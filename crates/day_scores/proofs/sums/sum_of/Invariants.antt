@@ -1,6 +1,5 @@
 use Rattle.std.proofs.Common.{◌≡◌, ◌*◌, pos, take}
-use Rattle.scoring.specs.Ranges.{IsWithin}
-use Rattle.scoring.specs.Score.{total}
+use Rattle.scoring.specs.{Ranges.IsWithin, Score.total}
 use Rattle.day_scores.proofs.sums.sum_of.Given as goal
 
 abbrev pub invariant-loop-score : goal.invariant-loop-score

@@ -1,5 +1,4 @@
-use Rattle.std.proofs.Common.{ap, ◌∙◌}
-use Rattle.std.specs.Fmt.{signed_decimal}
+use Rattle.std.{proofs.Common.ap, proofs.Common.◌∙◌, specs.Fmt.signed_decimal}
 use Rattle.day_scores.proofs.LinesWritten.{pieces, fits-code}
 use Rattle.day_scores.proofs.texts.push_line.Goals as goal
 

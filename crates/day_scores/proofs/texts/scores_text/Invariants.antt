@@ -1,5 +1,4 @@
-use Rattle.std.proofs.Common.{◌≡◌, ◌++◌, drop}
-use Rattle.std.specs.List.{flat_map, zip}
+use Rattle.std.{proofs.Common.◌≡◌, proofs.Common.◌++◌, proofs.Common.drop, specs.List.flat_map, specs.List.zip}
 use Rattle.day_scores.specs.Texts.{row_line}
 use Rattle.day_scores.proofs.texts.scores_text.Given as goal
 

@@ -1,6 +1,5 @@
 use Rattle.std.proofs.Common.{◌∙◌, ap, length, map, rules}
-use Rattle.std.proofs.lemmas.Iterator.Consumers.{YieldsList-turn, YieldsList-end}
-use Rattle.std.proofs.lemmas.Iterator.Adapters.{YieldsList-from_vec}
+use Rattle.std.proofs.lemmas.Iterator.{Adapters.YieldsList-from_vec, Consumers.YieldsList-turn, Consumers.YieldsList-end}
 use Rattle.traffic.specs.Lists.{below}
 use Rattle.divided_day.specs.Days.{told_in, end_told_in}
 use Rattle.divided_day.proofs.Telling.{all_at_end, told_more, part_there, own_there, number_there}

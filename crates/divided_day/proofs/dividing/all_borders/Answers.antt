@@ -1,12 +1,8 @@
 use Rattle.std.proofs.Common.{◌∙◌, ap, sym, subst, length, map, List}
-use Rattle.std.specs.Prelude.{All}
-use Rattle.std.proofs.lemmas.List.{length-map}
+use Rattle.std.{proofs.lemmas.List.length-map, specs.Prelude.All}
 use Rattle.town.specs.Views.{setup}
-use Rattle.partition.specs.declared.joining.Pair.{Pair}
-use Rattle.partition.specs.Neighbours.{IsPairOf, lags_of}
-use Rattle.partition.specs.Owned.{owner_in}
-use Rattle.divided_day.proofs.Bordering.{are_pairs}
-use Rattle.divided_day.proofs.Whole.{borders_found}
+use Rattle.partition.specs.{Neighbours.IsPairOf, Neighbours.lags_of, Owned.owner_in, declared.joining.Pair.Pair}
+use Rattle.divided_day.proofs.{Bordering.are_pairs, Whole.borders_found}
 use Rattle.divided_day.proofs.dividing.all_borders.Goals as goal
 
 pub lags-requires : goal.lags-requires

@@ -1,7 +1,6 @@
 use Rattle.std.proofs.Common.{◌∙◌, ap, refl, Some, None}
-use Rattle.divided_day.specs.Borders.{borders_among}
-use Rattle.divided_day.proofs.Scanning.{among_more, among_none, among_end}
-use Rattle.divided_day.proofs.dividing.borders_among.Goals.{in-Some+in_ok-push-in-Some, in-None}
+use Rattle.divided_day.proofs.{Scanning.among_more, Scanning.among_none, Scanning.among_end, dividing.borders_among.Goals.in-Some+in_ok-push-in-Some}
+use Rattle.divided_day.{proofs.dividing.borders_among.Goals.in-None, specs.Borders.borders_among}
 use Rattle.divided_day.proofs.dividing.borders_among.Goals as goal
 
 pub loop-place-preserved : goal.loop-place-preserved

@@ -1,8 +1,7 @@
 use Rattle.std.proofs.Common.{◌≡◌, take, map}
 use Rattle.rows.specs.PlanRows.{plan_rows}
 use Rattle.town.specs.Views.{setup}
-use Rattle.partition.specs.Homes.{home_of}
-use Rattle.partition.specs.Owned.{owner_in}
+use Rattle.partition.specs.{Homes.home_of, Owned.owner_in}
 use Rattle.divided_day.proofs.homes.homes_of.Given as goal
 
 abbrev pub invariant-loop-plan : goal.invariant-loop-plan

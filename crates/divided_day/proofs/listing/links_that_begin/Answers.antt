@@ -3,8 +3,7 @@ use Rattle.rows.specs.declared.network.LinkRow.{LinkRow}
 use Rattle.town.specs.Views.{setup}
 use Rattle.parts.specs.Owners.{begins_in}
 use Rattle.partition.specs.Owned.{owner_in}
-use Rattle.divided_day.proofs.Lists.{none_listed, listed_more, all_listed}
-use Rattle.divided_day.proofs.Whole.{links_of}
+use Rattle.divided_day.proofs.{Lists.none_listed, Lists.listed_more, Lists.all_listed, Whole.links_of}
 use Rattle.divided_day.proofs.listing.links_that_begin.Goals as goal
 
 pub loop-link-init : goal.loop-link-init

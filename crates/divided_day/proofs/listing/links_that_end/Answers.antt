@@ -3,8 +3,7 @@ use Rattle.town.specs.Views.{setup}
 use Rattle.traffic.specs.Setup.{link_row}
 use Rattle.parts.specs.Owners.{owner_of}
 use Rattle.partition.specs.Owned.{owner_in}
-use Rattle.divided_day.proofs.Lists.{none_listed, listed_more, all_listed}
-use Rattle.divided_day.proofs.Whole.{links_of}
+use Rattle.divided_day.proofs.{Lists.none_listed, Lists.listed_more, Lists.all_listed, Whole.links_of}
 use Rattle.divided_day.proofs.listing.links_that_end.Goals as goal
 
 pub loop-link-init : goal.loop-link-init

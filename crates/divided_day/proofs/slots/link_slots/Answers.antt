@@ -2,8 +2,7 @@ use Rattle.std.proofs.Common.{◌∙◌, ◌+◌, ◌≡◌, sym, subst, arith, 
 use Rattle.town.specs.Views.{setup}
 use Rattle.partition.specs.Owned.{owner_in}
 use Rattle.traffic.specs.Setup.{link_row}
-use Rattle.divided_day.proofs.Slotted.{IsCounted, none_yet, few_taken, counted_more, all_slots}
-use Rattle.divided_day.proofs.Whole.{links_of}
+use Rattle.divided_day.proofs.{Slotted.IsCounted, Slotted.none_yet, Slotted.few_taken, Slotted.counted_more, Slotted.all_slots, Whole.links_of}
 use Rattle.divided_day.proofs.slots.link_slots.Goals as goal
 
 pub loop-link-init : goal.loop-link-init

@@ -1,7 +1,6 @@
 use Rattle.std.proofs.Common.{rules, arith, ◌≡◌, ℕ, ◌+◌, take, sum, slice_index, ap, sym, ◌∙◌}
 use Rattle.std.proofs.lemmas.List.Sums.{sum_by_more}
-use Rattle.draws.specs.Choices.{below}
-use Rattle.draws.proofs.Sums.{pick_is}
+use Rattle.draws.{proofs.Sums.pick_is, specs.Choices.below}
 use Rattle.draws.proofs.choices.pick.Goals as goal
 
 pub returns-then-target-running-clause-value : goal.returns-then-target-running-clause-value

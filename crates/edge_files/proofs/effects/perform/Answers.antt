@@ -1,11 +1,8 @@
 use Rattle.std.proofs.Common.{◌≡◌, List, [], ◌∷◌, Some, sym, ◌∙◌, ap, arith, rules}
-use Rattle.edge_files.specs.declared.keeping.KeptRow.{KeptRow}
-use Rattle.edge_files.specs.Effects.{steps_of, is_save}
-use Rattle.edge_files.specs.Keeping.{Becomes, kept_of}
-use Rattle.edge_files.specs.World.{Saved, Writes, WritesPart, byte_steps}
 use Rattle.edge_files.proofs.Performing.{one_more, one_in_part, no_save_here}
-use Rattle.edge_files.proofs.Worlds.{writes_does, writes_part_does, save_does, save_part_does}
-use Rattle.edge_files.proofs.effects.perform.Goals.{in-Write+else-is_err, in-Save+in_default}
+use Rattle.edge_files.proofs.{Worlds.writes_does, Worlds.writes_part_does, Worlds.save_does, Worlds.save_part_does, effects.perform.Goals.in-Write+else-is_err}
+use Rattle.edge_files.{proofs.effects.perform.Goals.in-Save+in_default, specs.Effects.steps_of, specs.Effects.is_save}
+use Rattle.edge_files.specs.{Keeping.Becomes, Keeping.kept_of, World.Saved, World.Writes, World.WritesPart, World.byte_steps, declared.keeping.KeptRow.KeptRow}
 use Rattle.edge_files.proofs.effects.perform.Goals as goal
 
 pub returns-then-is_err-clause-part : goal.returns-then-is_err-clause-part

@@ -1,7 +1,5 @@
 use Rattle.std.proofs.Common.{◌≡◌, ◌≤◌, drop, false}
-use Rattle.edge_files.specs.Effects.{all_steps, has_save}
-use Rattle.edge_files.specs.World.{outside}
-use Rattle.edge_files.proofs.Worlds.{Performing}
+use Rattle.edge_files.{proofs.Worlds.Performing, specs.Effects.all_steps, specs.Effects.has_save, specs.World.outside}
 use Rattle.edge_files.proofs.effects.perform.Given as goal
 
 abbrev pub invariant-loop-effect : goal.invariant-loop-effect

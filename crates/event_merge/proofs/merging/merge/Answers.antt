@@ -1,9 +1,7 @@
 use Rattle.std.proofs.Common.{◌∙◌, refl, sym, ap, subst, true}
 use Rattle.std.specs.Vec.Iter.{into_iter_items}
 use Rattle.parts.specs.Merge.{Merges}
-use Rattle.event_merge.specs.Lists.{comes_before}
-use Rattle.event_merge.proofs.Keys.{order_of_keys}
-use Rattle.event_merge.proofs.Merged.{vectors_give, all_sorted, merged}
+use Rattle.event_merge.{proofs.Keys.order_of_keys, proofs.Merged.vectors_give, proofs.Merged.all_sorted, proofs.Merged.merged, specs.Lists.comes_before}
 use Rattle.event_merge.proofs.merging.merge.Goals as goal
 
 pub returns : goal.returns

@@ -1,5 +1,4 @@
-use Rattle.std.proofs.Common.{get_or, arith}
-use Rattle.std.proofs.lemmas.List.{get_or_default}
+use Rattle.std.proofs.{Common.get_or, Common.arith, lemmas.List.get_or_default}
 use Rattle.event_pipe.proofs.Rings.{looked_set}
 use Rattle.event_pipe.proofs.consumers.some_abandoned.Goals as goal
 

@@ -2,10 +2,8 @@ use Rattle.std.proofs.Common.{◌∙◌, ◌+◌, ◌++◌, List, [], ◌∷◌,
 use Rattle.std.proofs.lemmas.List.{get_or_default}
 use Rattle.events.specs.declared.event.Event.{Event}
 use Rattle.rtrb.specs.Ring.{known_items}
-use Rattle.event_pipe.specs.declared.pieces.Piece.{Piece}
-use Rattle.event_pipe.specs.Pieces.{events_of}
-use Rattle.event_pipe.specs.Rings.{next_pieces}
 use Rattle.event_pipe.proofs.Rings.{taken_set, taken_next, next_count, take_whole, next_more}
+use Rattle.event_pipe.specs.{Pieces.events_of, Rings.next_pieces, declared.pieces.Piece.Piece}
 use Rattle.event_pipe.proofs.consumers.take_next.Goals as goal
 
 pub loop-number-preserved : goal.loop-number-preserved

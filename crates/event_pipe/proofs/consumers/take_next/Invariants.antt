@@ -1,7 +1,5 @@
-use Rattle.std.proofs.Common.{◌≡◌, map, take}
-use Rattle.std.specs.Prelude.{vec_len, vec_capacity}
-use Rattle.event_pipe.specs.Pieces.{events_of}
-use Rattle.event_pipe.specs.Rings.{next_pieces, AreTaken}
+use Rattle.std.{proofs.Common.◌≡◌, proofs.Common.map, proofs.Common.take, specs.Prelude.vec_len, specs.Prelude.vec_capacity}
+use Rattle.event_pipe.specs.{Pieces.events_of, Rings.next_pieces, Rings.AreTaken}
 use Rattle.event_pipe.proofs.consumers.take_next.Given as goal
 
 abbrev pub invariant-loop-number : goal.invariant-loop-number

@@ -1,9 +1,8 @@
 use Rattle.std.proofs.Common.{◌≡◌, ◌<◌, ◌∙◌, [], ◌∷◌, ◌++◌, List, length, sym, ap, arith, subst}
 use Rattle.rtrb.specs.Ring.{known_free, known_items, producer_capacity, received, IsPair}
 use Rattle.rtrb.specs.Ring as ring
-use Rattle.event_pipe.specs.declared.pieces.Piece.{Piece}
-use Rattle.event_pipe.specs.Pieces.{label}
 use Rattle.event_pipe.proofs.Made.{only_held, head_of_one, none_held, all_free, pair_kept, same_producer, same_consumer}
+use Rattle.event_pipe.specs.{Pieces.label, declared.pieces.Piece.Piece}
 use Rattle.event_pipe.proofs.making.new_ring.Goals as goal
 
 pub pop_known-requires : goal.pop_known-requires

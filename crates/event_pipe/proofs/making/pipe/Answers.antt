@@ -1,5 +1,4 @@
-use Rattle.std.proofs.Common.{◌∙◌, length, sym, ap, arith, subst₂}
-use Rattle.std.proofs.lemmas.List.{length_push}
+use Rattle.std.proofs.{Common.◌∙◌, Common.length, Common.sym, Common.ap, Common.arith, Common.subst₂, lemmas.List.length_push}
 use Rattle.event_pipe.proofs.Made.{AreMade, made_more, made_pipe, made_count}
 use Rattle.event_pipe.proofs.making.pipe.Goals as goal
 

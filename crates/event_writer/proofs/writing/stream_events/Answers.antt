@@ -1,6 +1,5 @@
 use Rattle.scoring.specs.Tables.{scoring_rows}
-use Rattle.event_writer.proofs.Streaming.{streaming_first, comes_of, fewer_of, piece_named, piece_handled, streaming_more}
-use Rattle.event_writer.proofs.Streaming.{streaming_failed, streaming_wanting}
+use Rattle.event_writer.proofs.Streaming.{streaming_first, comes_of, fewer_of, piece_named, piece_handled, streaming_more, streaming_failed, streaming_wanting}
 use Rattle.event_writer.proofs.writing.stream_events.Goals as goal
 
 pub pieces-init : goal.pieces-init

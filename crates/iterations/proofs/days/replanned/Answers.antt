@@ -1,9 +1,7 @@
 use Rattle.std.proofs.Common.{ℕ, length, refl, sym, ◌∙◌, ap, subst}
-use Rattle.router.specs.Graphs.{Graph}
+use Rattle.router.{proofs.LegWays.ends_count, specs.Graphs.Graph}
 use Rattle.travel_times.specs.Observed.{AreOnLinks}
-use Rattle.router.proofs.LegWays.{ends_count}
-use Rattle.iterations.specs.Views.{run_rows}
-use Rattle.iterations.proofs.Basing.{all_on, replanned_as}
+use Rattle.iterations.{proofs.Basing.all_on, proofs.Basing.replanned_as, specs.Views.run_rows}
 use Rattle.iterations.proofs.days.replanned.Goals as goal
 
 pub seen-requires-clause-known : goal.seen-requires-clause-known

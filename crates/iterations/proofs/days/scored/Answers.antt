@@ -1,8 +1,7 @@
 use Rattle.std.proofs.Common.{◌≡◌, ◌∷◌, ◌++◌, [], List, length, sym, ◌∙◌, ap, arith, length-append}
 use Rattle.std.specs.Prelude.{slice_get}
 use Rattle.plan_memory.specs.Memories.{MemoryRows}
-use Rattle.iterations.specs.Days.{with_own_score}
-use Rattle.iterations.proofs.Marked.{scored_more}
+use Rattle.iterations.{proofs.Marked.scored_more, specs.Days.with_own_score}
 use Rattle.iterations.proofs.days.scored.Goals as goal
 
 pub loop-memory-preserved : goal.loop-memory-preserved

@@ -1,6 +1,5 @@
 use Rattle.std.proofs.Common.{ℕ, List, length, sym, ◌∙◌, ap, arith}
-use Rattle.iterations.specs.Written.{written_plans}
-use Rattle.iterations.proofs.PlanLines.{own_end, written_count}
+use Rattle.iterations.{proofs.PlanLines.own_end, proofs.PlanLines.written_count, specs.Written.written_plans}
 use Rattle.iterations.proofs.ends.push_own.Goals as goal
 
 pub returns : goal.returns

@@ -1,10 +1,7 @@
 use Rattle.std.proofs.Common.{ℕ, List, length, arith, ap}
 use Rattle.rows.specs.PlanRows.{plan_rows}
 use Rattle.town.specs.Views.{rows_of}
-use Rattle.iterations.proofs.Outside.{ok_then}
-use Rattle.iterations.proofs.Places.{place_there, written_few}
-use Rattle.iterations.proofs.PlanLines.{plan_step, plan_in_book}
-use Rattle.iterations.proofs.ScoredDays.{town_names}
+use Rattle.iterations.proofs.{Outside.ok_then, Places.place_there, Places.written_few, PlanLines.plan_step, PlanLines.plan_in_book, ScoredDays.town_names}
 use Rattle.iterations.proofs.ends.push_plan.Goals as goal
 
 pub overflow_cast-index : goal.overflow_cast-index

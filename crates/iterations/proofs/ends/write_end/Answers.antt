@@ -1,5 +1,4 @@
-use Rattle.iterations.specs.Acts.{end_effects}
-use Rattle.iterations.proofs.Outside.{one_then, same_steps, two_effects}
+use Rattle.iterations.{proofs.Outside.one_then, proofs.Outside.same_steps, proofs.Outside.two_effects, specs.Acts.end_effects}
 use Rattle.iterations.proofs.ends.write_end.Goals as goal
 
 pub returns-in-Ok-clause-performed : goal.returns-in-Ok-clause-performed

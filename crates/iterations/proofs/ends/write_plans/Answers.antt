@@ -1,9 +1,8 @@
 use Rattle.std.proofs.Common.{ℕ, List, map, ◌++◌, sym, ap, ◌∙◌, refl, arith}
 use Rattle.plan_text.specs.Lines.{persons_lines, plans_text}
 use Rattle.town.specs.Views.{rows_of}
-use Rattle.iterations.specs.Written.{written_plans}
 use Rattle.iterations.proofs.Outside.{none_done, text_then, going_first, going_over, going_text, going_text_failed}
-use Rattle.iterations.proofs.PlanLines.{persons_behind, persons_over, fit_after}
+use Rattle.iterations.{proofs.PlanLines.persons_behind, proofs.PlanLines.persons_over, proofs.PlanLines.fit_after, specs.Written.written_plans}
 use Rattle.iterations.proofs.ends.write_plans.Goals as goal
 
 pub returns-in_default-clause-performed : goal.returns-in_default-clause-performed

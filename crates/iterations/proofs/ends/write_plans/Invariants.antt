@@ -4,9 +4,7 @@ use Rattle.edge_files.specs.World.{byte_steps}
 use Rattle.plan_text.specs.Lines.{persons_lines}
 use Rattle.town.specs.Views.{rows_of}
 use Rattle.law_replanning.specs.Memories.{all_hold_fitting}
-use Rattle.iterations.specs.Written.{written_plans}
-use Rattle.iterations.specs.Performed.{moment}
-use Rattle.iterations.proofs.Outside.{IsGoing}
+use Rattle.iterations.{proofs.Outside.IsGoing, specs.Performed.moment, specs.Written.written_plans}
 use Rattle.iterations.proofs.ends.write_plans.Given as goal
 
 abbrev pub invariant-loop-rest : goal.invariant-loop-rest

@@ -1,7 +1,5 @@
 use Rattle.std.proofs.Common.{◌+◌, ap}
-use Rattle.iterations.specs.Days.{events_of}
-use Rattle.iterations.specs.Views.{run_rows}
-use Rattle.iterations.proofs.Going.{begun_is, can_again}
+use Rattle.iterations.{proofs.Going.begun_is, proofs.Going.can_again, specs.Days.events_of, specs.Views.run_rows}
 use Rattle.iterations.proofs.iterating.begun_after.Goals as goal
 
 pub replanned-requires-clause-known : goal.replanned-requires-clause-known

@@ -1,14 +1,8 @@
 use Rattle.std.proofs.Common.{List, ◌∙◌, ap, subst, length, arith}
 use Rattle.plan_memory.specs.Memories.{MemoryRows}
-use Rattle.iterations.specs.Acts.{chosen_numbers}
-use Rattle.iterations.specs.Days.{events_of, scores_in, scored, memories_after}
-use Rattle.iterations.specs.Runs.{RunRows}
-use Rattle.iterations.specs.Scored.{AreObserved}
-use Rattle.iterations.specs.Views.{run_rows}
-use Rattle.iterations.proofs.Outside.{done_with, failed_as}
-use Rattle.iterations.proofs.OneDay.{day_failed, day_wanting, day_then}
-use Rattle.iterations.proofs.Marked.{can_scored}
-use Rattle.iterations.proofs.Streamed.{reported, saved_then}
+use Rattle.iterations.proofs.{Marked.can_scored, OneDay.day_failed, OneDay.day_wanting, OneDay.day_then, Outside.done_with, Outside.failed_as}
+use Rattle.iterations.{proofs.Streamed.reported, proofs.Streamed.saved_then, specs.Acts.chosen_numbers}
+use Rattle.iterations.specs.{Days.events_of, Days.scores_in, Days.scored, Days.memories_after, Runs.RunRows, Scored.AreObserved, Views.run_rows}
 use Rattle.iterations.proofs.iterating.do_iteration.Goals as goal
 
 pub returns-in-Err-clause-performed : goal.returns-in-Err-clause-performed

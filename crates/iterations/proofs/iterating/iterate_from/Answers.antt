@@ -1,11 +1,7 @@
 use Rattle.std.proofs.Common.{◌+◌, List, ◌∙◌, refl, arith}
 use Rattle.plan_memory.specs.Memories.{MemoryRows}
-use Rattle.iterations.specs.Days.{events_of}
-use Rattle.iterations.specs.Views.{run_rows}
-use Rattle.iterations.specs.Runs.{RunRows}
-use Rattle.iterations.proofs.Outside.{none_done, going_first}
-use Rattle.iterations.proofs.Going.{next_is, can_again}
-use Rattle.iterations.proofs.Looping.{loop_on, loop_failed, loop_wanting, loop_last}
+use Rattle.iterations.proofs.{Going.next_is, Going.can_again, Looping.loop_on, Looping.loop_failed, Looping.loop_wanting, Looping.loop_last, Outside.none_done}
+use Rattle.iterations.{proofs.Outside.going_first, specs.Days.events_of, specs.Runs.RunRows, specs.Views.run_rows}
 use Rattle.iterations.proofs.iterating.iterate_from.Goals as goal
 
 pub returns-in_default-clause-performed : goal.returns-in_default-clause-performed

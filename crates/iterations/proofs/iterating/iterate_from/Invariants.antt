@@ -1,10 +1,6 @@
 use Rattle.std.proofs.Common.{◌≡◌, ◌-◌, false}
 use Rattle.edge_files.specs.Effects.{all_steps}
-use Rattle.iterations.specs.Acts.{acts_behind}
-use Rattle.iterations.specs.Performed.{moment}
-use Rattle.iterations.specs.Runs.{CanRun}
-use Rattle.iterations.specs.Views.{run_rows}
-use Rattle.iterations.proofs.Outside.{IsGoing}
+use Rattle.iterations.{proofs.Outside.IsGoing, specs.Acts.acts_behind, specs.Performed.moment, specs.Runs.CanRun, specs.Views.run_rows}
 use Rattle.iterations.proofs.iterating.iterate_from.Given as goal
 
 -- the iterations so far are done, and the memories are those with which the next one begins

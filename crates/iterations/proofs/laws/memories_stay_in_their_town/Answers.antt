@@ -1,6 +1,4 @@
-use Rattle.iterations.specs.Acts.{memories_at}
-use Rattle.iterations.proofs.Seen.{seen_fifo}
-use Rattle.iterations.proofs.Staying.{always_in, followed_in, always_count}
+use Rattle.iterations.{proofs.Seen.seen_fifo, proofs.Staying.always_in, proofs.Staying.followed_in, proofs.Staying.always_count, specs.Acts.memories_at}
 use Rattle.iterations.proofs.laws.memories_stay_in_their_town.Goals as goal
 
 pub returns-clause-memories : goal.returns-clause-memories

@@ -1,5 +1,4 @@
-use Rattle.iterations.proofs.Marked.{same_events}
-use Rattle.iterations.proofs.Tails.{goes_on, goes_further}
+use Rattle.iterations.proofs.{Marked.same_events, Tails.goes_on, Tails.goes_further}
 use Rattle.iterations.proofs.laws.runs_go_on_from_what_is_kept.Goals as goal
 
 pub returns-clause-tail : goal.returns-clause-tail

@@ -1,7 +1,4 @@
-use Rattle.iterations.specs.Days.{memories_after}
-use Rattle.iterations.specs.Acts.{memories_at}
-use Rattle.iterations.proofs.ReadBack.{run_back}
-use Rattle.iterations.proofs.Tails.{resumes}
+use Rattle.iterations.{proofs.ReadBack.run_back, proofs.Tails.resumes, specs.Acts.memories_at, specs.Days.memories_after}
 use Rattle.iterations.proofs.laws.runs_resume_where_they_were_stopped.Goals as goal
 
 pub returns-clause-resumed : goal.returns-clause-resumed

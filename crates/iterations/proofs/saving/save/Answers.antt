@@ -1,7 +1,5 @@
 use Rattle.town.specs.Views.{rows_of}
-use Rattle.iterations.proofs.Named.{memories_named}
-use Rattle.iterations.proofs.Outside.{none_done}
-use Rattle.iterations.proofs.ScoredDays.{town_names}
+use Rattle.iterations.proofs.{Named.memories_named, Outside.none_done, ScoredDays.town_names}
 use Rattle.iterations.proofs.saving.save.Goals as goal
 
 pub rows_of-requires-clause-named : goal.rows_of-requires-clause-named

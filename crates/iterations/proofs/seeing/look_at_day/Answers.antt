@@ -1,8 +1,6 @@
 use Rattle.traffic.proofs.Common.{List, ◌∙◌, ap, map, plan_rows, Plan}
-use Rattle.town.specs.declared.town.Town.{Town}
-use Rattle.town.specs.Views.{rows_of}
-use Rattle.iterations.specs.Views.{run_rows}
-use Rattle.iterations.proofs.SeenDays.{given, seen_is}
+use Rattle.town.specs.{Views.rows_of, declared.town.Town.Town}
+use Rattle.iterations.{proofs.SeenDays.given, proofs.SeenDays.seen_is, specs.Views.run_rows}
 use Rattle.iterations.proofs.seeing.look_at_day.Goals as goal
 
 pub write_day-requires-clause-given : goal.write_day-requires-clause-given

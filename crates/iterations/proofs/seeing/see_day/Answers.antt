@@ -1,14 +1,9 @@
 use Rattle.traffic.proofs.Common.{ℕ, List, ◌∙◌, ap, length, map, plan_rows, Plan}
 use Rattle.std.proofs.Common.{ℤ}
 use Rattle.day_scores.specs.Texts.{scores_text}
-use Rattle.town.specs.declared.town.Town.{Town}
-use Rattle.town.specs.Views.{rows_of}
-use Rattle.iterations.specs.Acts.{chosen_numbers}
-use Rattle.iterations.specs.Scored.{IsSeenOf}
-use Rattle.iterations.specs.Views.{run_rows}
-use Rattle.iterations.proofs.Outside.{none_done, one_then, first_failed, done_with, failed_as}
-use Rattle.iterations.proofs.SeenDays.{given, seen_is, text_is}
-use Rattle.iterations.proofs.Streamed.{other_text}
+use Rattle.town.specs.{Views.rows_of, declared.town.Town.Town}
+use Rattle.iterations.proofs.{Outside.none_done, Outside.one_then, Outside.first_failed, Outside.done_with, Outside.failed_as, SeenDays.given, SeenDays.seen_is}
+use Rattle.iterations.{proofs.SeenDays.text_is, proofs.Streamed.other_text, specs.Acts.chosen_numbers, specs.Scored.IsSeenOf, specs.Views.run_rows}
 use Rattle.iterations.proofs.seeing.see_day.Goals as goal
 
 pub returns-in_default-clause-performed : goal.returns-in_default-clause-performed

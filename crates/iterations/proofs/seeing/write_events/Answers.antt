@@ -2,9 +2,8 @@ use Rattle.std.proofs.Common.{List, ℕ, ◌++◌, sym, ap}
 use Rattle.events.specs.Lines.{event_lines}
 use Rattle.town.specs.Views.{setup}
 use Rattle.traffic.specs.Day as traffic_day
-use Rattle.iterations.specs.Texts.{events_text}
 use Rattle.iterations.proofs.Outside.{none_done, text_then, text_failed}
-use Rattle.iterations.proofs.Streamed.{streamed, not_streamed_as}
+use Rattle.iterations.{proofs.Streamed.streamed, proofs.Streamed.not_streamed_as, specs.Texts.events_text}
 use Rattle.iterations.proofs.seeing.write_events.Goals as goal
 
 pub returns-in_default-clause-performed : goal.returns-in_default-clause-performed

@@ -3,8 +3,7 @@ use Rattle.std.proofs.lemmas.Option.{slice_get-get_or}
 use Rattle.edge_files.specs.declared.keeping.KeptRow.{KeptRow}
 use Rattle.rows.specs.PlanRows.{PlanRows}
 use Rattle.plan_text.specs.Lines.{is_plan_in}
-use Rattle.keep.specs.Kept.{own_rows}
-use Rattle.keep.proofs.Pushing.{own-more, each-more}
+use Rattle.keep.{proofs.Pushing.own-more, proofs.Pushing.each-more, specs.Kept.own_rows}
 use Rattle.keep.proofs.keeping.push_own.Goals as goal
 
 pub loop-index-preserved : goal.loop-index-preserved

@@ -1,5 +1,4 @@
-use Rattle.std.proofs.Common.{◌≡◌, ◌++◌, drop, take, true, Some}
-use Rattle.std.specs.List.{list_all}
+use Rattle.std.{proofs.Common.◌≡◌, proofs.Common.◌++◌, proofs.Common.drop, proofs.Common.take, proofs.Common.true, proofs.Common.Some, specs.List.list_all}
 use Rattle.plan_text.specs.Lines.{is_plan_in}
 use Rattle.keep.specs.Kept.{rows_from, own_rows}
 use Rattle.keep.proofs.keeping.push_own.Given as goal

@@ -1,10 +1,7 @@
 use Rattle.std.proofs.Common.{◌<◌, ◌≤◌, ◌++◌, length, take, sym, ap, subst, ◌∙◌, arith}
-use Rattle.std.proofs.lemmas.List.{take_all}
-use Rattle.std.proofs.lemmas.List.Elements.{All-more, All-same}
+use Rattle.std.proofs.lemmas.List.{take_all, Elements.All-more, Elements.All-same}
 use Rattle.plan_memory.specs.Memories.{MemoryRows}
-use Rattle.keep.specs.Kept.{own_rows, persons_rows}
-use Rattle.keep.specs.Fitting.{IsReadable}
-use Rattle.keep.proofs.Pushing.{persons-more}
+use Rattle.keep.{proofs.Pushing.persons-more, specs.Fitting.IsReadable, specs.Kept.own_rows, specs.Kept.persons_rows}
 use Rattle.keep.proofs.keeping.rows_of.Goals as goal
 
 pub loop-person-preserved : goal.loop-person-preserved

@@ -1,7 +1,5 @@
-use Rattle.std.proofs.Common.{◌≡◌, ◌++◌, drop, take}
-use Rattle.std.specs.Prelude.{All}
-use Rattle.keep.specs.Kept.{persons_rows}
-use Rattle.keep.specs.Fitting.{IsReadable}
+use Rattle.std.{proofs.Common.◌≡◌, proofs.Common.◌++◌, proofs.Common.drop, proofs.Common.take, specs.Prelude.All}
+use Rattle.keep.specs.{Fitting.IsReadable, Kept.persons_rows}
 use Rattle.keep.proofs.keeping.rows_of.Given as goal
 
 abbrev pub invariant-loop-person : goal.invariant-loop-person

@@ -1,5 +1,4 @@
-use Rattle.std.proofs.Common.{refl}
-use Rattle.std.specs.Fmt.{digits}
+use Rattle.std.{proofs.Common.refl, specs.Fmt.digits}
 use Rattle.plan_text.specs.Lines.{row_line, act_row, element_rows, element_lines}
 use Rattle.keep.specs.Kept.{kept_rows}
 use Rattle.keep.proofs.laws.worked_rows.Goals as goal

@@ -1,13 +1,10 @@
 use Rattle.std.proofs.Common.{◌≡◌, ℕ, ◌<◌, ◌≤◌, ◌+◌, List, [], ◌∷◌, ◌++◌, get_or, length, take, Option, None, Some, sym, ap, subst, ◌∙◌, arith}
-use Rattle.std.specs.Prelude.{option_map}
-use Rattle.std.proofs.lemmas.List.{take_all, take_more}
+use Rattle.std.{proofs.lemmas.List.take_all, proofs.lemmas.List.take_more, specs.Prelude.option_map}
 use Rattle.edge_files.specs.declared.keeping.KeptRow.{KeptRow}
 use Rattle.town.specs.Views.{rows_of}
-use Rattle.keep.specs.declared.progress.Reading.{Reading}
-use Rattle.keep.specs.Reading.{Progress, start, progress_of, step, run, ended}
-use Rattle.keep.specs.Fitting.{IsForeignAt}
-use Rattle.keep.proofs.Wholes.{run-none}
 use Rattle.keep.proofs.Answered.{row_some, foreign_here, foreign_end, all_read, few_places}
+use Rattle.keep.{proofs.Wholes.run-none, specs.Fitting.IsForeignAt}
+use Rattle.keep.specs.{Reading.Progress, Reading.start, Reading.progress_of, Reading.step, Reading.run, Reading.ended, declared.progress.Reading.Reading}
 use Rattle.keep.proofs.reading.read_rows.Goals as goal
 
 pub loop-place-init : goal.loop-place-init

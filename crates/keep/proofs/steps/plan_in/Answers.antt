@@ -1,11 +1,9 @@
 use Rattle.std.proofs.Common.{◌<◌, ◌^◌, Option, sym, ap, subst, ◌∙◌, arith}
 use Rattle.std.specs.Prelude.{option_map, IfSome}
-use Rattle.rows.specs.declared.plan.Plan.{Plan}
-use Rattle.rows.specs.PlanRows.{plan_rows}
+use Rattle.rows.specs.{PlanRows.plan_rows, declared.plan.Plan.Plan}
 use Rattle.plan_text.specs.Lines.{IsTextOf}
 use Rattle.town.specs.Views.{rows_of}
-use Rattle.keep.proofs.Tests.{none_some}
-use Rattle.keep.proofs.PlanTexts.{plan_found, plan_unfit, plan_none}
+use Rattle.keep.proofs.{PlanTexts.plan_found, PlanTexts.plan_unfit, PlanTexts.plan_none, Tests.none_some}
 use Rattle.keep.proofs.steps.plan_in.Goals as goal
 
 pub returns-in_default : goal.returns-in_default

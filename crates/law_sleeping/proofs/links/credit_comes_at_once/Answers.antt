@@ -1,5 +1,4 @@
-use Rattle.law_sleeping.proofs.Credits.{raises, pays_after, pays_by, never_pays}
-use Rattle.law_sleeping.proofs.Sleep.{poor_until, poor_ever}
+use Rattle.law_sleeping.proofs.{Credits.raises, Credits.pays_after, Credits.pays_by, Credits.never_pays, Sleep.poor_until, Sleep.poor_ever}
 use Rattle.law_sleeping.proofs.links.credit_comes_at_once.Goals as goal
 
 pub returns-clause-many : goal.returns-clause-many

@@ -1,8 +1,5 @@
 use Rattle.law_sleeping.proofs.Settling.{turn_settles, settled_sleeps}
 use Rattle.law_sleeping.proofs.links.links_settle.Goals as goal
 
-pub returns-clause-turn : goal.returns-clause-turn
-returns-clause-turn c = turn_settles
-
-pub returns-clause-sleep : goal.returns-clause-sleep
-returns-clause-sleep c = settled_sleeps
+pub returns : goal.returns
+returns c = assumption (turn_settles, settled_sleeps)

@@ -1,8 +1,6 @@
-use Rattle.std.proofs.Common.{false, ◌≡◌}
-use Rattle.std.proofs.lemmas.List.Elements.{recursion_from_All}
-use Rattle.law_sleeping.specs.Able.{can_pass_node}
+use Rattle.std.proofs.{Common.false, Common.◌≡◌, lemmas.List.Elements.recursion_from_All}
 use Rattle.law_sleeping.proofs.Passing.{fuller_after, cannot_later, in_order, able_alone}
-use Rattle.law_sleeping.proofs.Reading.{node_one, none_left, only_left}
+use Rattle.law_sleeping.{proofs.Reading.node_one, proofs.Reading.none_left, proofs.Reading.only_left, specs.Able.can_pass_node}
 use Rattle.law_sleeping.proofs.nodes.draws_are_of_the_able.Goals as goal
 
 pub returns-clause-fuller : goal.returns-clause-fuller

@@ -1,7 +1,5 @@
-use Rattle.std.proofs.Common.{false, ◌≡◌}
-use Rattle.std.proofs.lemmas.List.Elements.{recursion_from_All}
-use Rattle.law_sleeping.specs.Able.{is_able}
-use Rattle.law_sleeping.proofs.Passing.{pass_node_all_none, pass_node_some, node_rest}
+use Rattle.std.proofs.{Common.false, Common.◌≡◌, lemmas.List.Elements.recursion_from_All}
+use Rattle.law_sleeping.{proofs.Passing.pass_node_all_none, proofs.Passing.pass_node_some, proofs.Passing.node_rest, specs.Able.is_able}
 use Rattle.law_sleeping.proofs.nodes.nodes_rest.Goals as goal
 
 pub returns-clause-none : goal.returns-clause-none

@@ -1,9 +1,6 @@
-use Rattle.std.proofs.Common.{ℕ, ◌<◌, ◌≤◌, ◌+◌}
-use Rattle.std.proofs.lemmas.List.Elements.{All-from_recursion, recursion_from_All}
-use Rattle.traffic.specs.Rows.{holes_at}
-use Rattle.traffic.specs.Day.{world_at}
-use Rattle.law_sleeping.proofs.Waking.{old_holes}
-use Rattle.law_sleeping.proofs.Whole.{day_holes}
+use Rattle.std.proofs.{Common.ℕ, Common.◌<◌, Common.◌≤◌, Common.◌+◌, lemmas.List.Elements.All-from_recursion, lemmas.List.Elements.recursion_from_All}
+use Rattle.traffic.specs.{Day.world_at, Rows.holes_at}
+use Rattle.law_sleeping.proofs.{Waking.old_holes, Whole.day_holes}
 use Rattle.law_sleeping.proofs.seconds.old_holes_do_not_count.Goals as goal
 
 pub returns-clause-before : goal.returns-clause-before

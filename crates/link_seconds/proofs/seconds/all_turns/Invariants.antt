@@ -1,5 +1,4 @@
-use Rattle.std.proofs.Common.{◌≡◌, ℕ, List, length}
-use Rattle.std.specs.Prelude.{Bool, true}
+use Rattle.std.{proofs.Common.◌≡◌, proofs.Common.ℕ, proofs.Common.List, proofs.Common.length, specs.Prelude.Bool, specs.Prelude.true}
 use Rattle.traffic.specs.declared.world.Waiter.{Waiter}
 use Rattle.queue_link.specs.Numbers.{rules_of}
 use Rattle.link_seconds.specs.Seconds.{AreShort, AreReady, HaveLines, StopThere, LeadsOn}

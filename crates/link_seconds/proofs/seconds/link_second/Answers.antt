@@ -1,7 +1,6 @@
 use Rattle.std.proofs.Common.{◌+◌, ◌-◌, ap, length}
 use Rattle.queue_link.specs.Links.{LinkView}
-use Rattle.link_seconds.proofs.Beginning.{begun_ready, begun_there}
-use Rattle.link_seconds.proofs.Turning.{second_done}
+use Rattle.link_seconds.proofs.{Beginning.begun_ready, Beginning.begun_there, Turning.second_done}
 use Rattle.link_seconds.proofs.seconds.link_second.Goals as goal
 
 pub all_turns-requires-clause-ready : goal.all_turns-requires-clause-ready

@@ -1,7 +1,6 @@
 use Rattle.records.proofs.Common.{List, ap, ◌∙◌, map, drop, fields_of, ByteRecord, column, body_of, head_reason, Row}
 use Rattle.records.proofs.InTurn.{answers_file, answers_stop}
-use Rattle.network.specs.Links.{link_header, link_reason, link_of}
-use Rattle.network.proofs.Free.{read_few, read_sound}
+use Rattle.network.{proofs.Free.read_few, proofs.Free.read_sound, specs.Links.link_header, specs.Links.link_reason, specs.Links.link_of}
 use Rattle.network.proofs.links.read_links.Goals as goal
 
 pub returns-in-Ok-clause-read : goal.returns-in-Ok-clause-read

@@ -1,9 +1,7 @@
 use Rattle.std.proofs.Common.{◌∙◌, ◌<◌, Bool, [], ◌∷◌, ap, sym, subst, arith}
 use Rattle.queue_link.specs.Links.{LinkView}
 use Rattle.draws.specs.Words.{word}
-use Rattle.node_move.specs.Spaces.{places_in}
-use Rattle.node_move.specs.NodeStates.{node_state, after_turn}
-use Rattle.node_move.proofs.Single.{passes_alone, waits_alone}
+use Rattle.node_move.{proofs.Single.passes_alone, proofs.Single.waits_alone, specs.NodeStates.node_state, specs.NodeStates.after_turn, specs.Spaces.places_in}
 use Rattle.node_move.proofs.alone.move_alone.Goals as goal
 
 pub returns-then-not-green : goal.returns-then-not-green

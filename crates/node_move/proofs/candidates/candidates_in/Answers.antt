@@ -1,11 +1,10 @@
 use Rattle.std.proofs.Common.{◌≡◌, ◌∙◌, ◌<◌, ◌&&◌, ℕ, [], ◌∷◌, ◌++◌, not, true, false, length, get_or, ap, sym, subst, arith, length-append}
 use Rattle.traffic.specs.Lists.{is_nil}
 use Rattle.queue_link.specs.Links.{LinkView}
-use Rattle.node_move.specs.NodeStates.{no_link}
-use Rattle.node_move.proofs.Places.{is_at}
 use Rattle.node_move.proofs.Drawing.{joins, stays_out, all_looked_at, below_more, below_later, places_more, weights_more, some_more}
+use Rattle.node_move.proofs.{Places.is_at, candidates.candidates_in.Goals.then-is_candidate+in_ok-push+in_ok-push-2}
+use Rattle.node_move.{proofs.candidates.candidates_in.Goals.else-is_candidate, specs.NodeStates.no_link}
 use Rattle.node_move.proofs.candidates.candidates_in.Goals as goal
-use Rattle.node_move.proofs.candidates.candidates_in.Goals.{then-is_candidate+in_ok-push+in_ok-push-2, else-is_candidate}
 
 pub loop-place-preserved : goal.loop-place-preserved
 loop-place-preserved c =

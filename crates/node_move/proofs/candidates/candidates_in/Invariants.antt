@@ -1,8 +1,6 @@
-use Rattle.std.proofs.Common.{◌≡◌, ◌≤◌, length, take}
-use Rattle.std.specs.Prelude.{map}
+use Rattle.std.{proofs.Common.◌≡◌, proofs.Common.◌≤◌, proofs.Common.length, proofs.Common.take, specs.Prelude.map}
 use Rattle.traffic.specs.Nodes.{candidates, weight_of}
-use Rattle.node_move.specs.NodeStates.{in_links_of, seen, ArePlaces, HaveWeights}
-use Rattle.node_move.proofs.Drawing.{AllBelow}
+use Rattle.node_move.{proofs.Drawing.AllBelow, specs.NodeStates.in_links_of, specs.NodeStates.seen, specs.NodeStates.ArePlaces, specs.NodeStates.HaveWeights}
 use Rattle.node_move.proofs.candidates.candidates_in.Given as goal
 
 abbrev pub invariant-loop-place : goal.invariant-loop-place

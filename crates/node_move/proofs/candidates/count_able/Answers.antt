@@ -1,11 +1,9 @@
 use Rattle.std.proofs.Common.{◌<◌, true, false, length, get_or, rules, arith}
 use Rattle.law_sleeping.specs.Able.{able_now}
-use Rattle.node_move.specs.Spaces.{places_in}
-use Rattle.node_move.specs.NodeStates.{seen}
-use Rattle.node_move.proofs.Places.{places_within, length_seen}
-use Rattle.node_move.proofs.Drawing.{able_at, two_found, found_first, found_none}
-use Rattle.node_move.proofs.candidates.count_able.Goals as goal
+use Rattle.node_move.proofs.{Drawing.able_at, Drawing.two_found, Drawing.found_first, Drawing.found_none, Places.places_within, Places.length_seen}
 use Rattle.node_move.proofs.candidates.count_able.Goals.{then-can_pass+in-None, else-can_pass}
+use Rattle.node_move.specs.{NodeStates.seen, Spaces.places_in}
+use Rattle.node_move.proofs.candidates.count_able.Goals as goal
 
 pub bounds-in_links-places : goal.bounds-in_links-places
 bounds-in_links-places c = places_within (length c.args.in_links.now) c.args.places.now c.loop-k.k c.requires c.loop-k-test.true

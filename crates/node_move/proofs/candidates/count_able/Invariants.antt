@@ -1,7 +1,5 @@
 use Rattle.law_sleeping.specs.Able.{able_now}
-use Rattle.node_move.specs.Spaces.{places_in}
-use Rattle.node_move.specs.NodeStates.{seen}
-use Rattle.node_move.proofs.Drawing.{IsOnly}
+use Rattle.node_move.{proofs.Drawing.IsOnly, specs.NodeStates.seen, specs.Spaces.places_in}
 use Rattle.node_move.proofs.candidates.count_able.Given as goal
 
 abbrev pub invariant-loop-k : goal.invariant-loop-k

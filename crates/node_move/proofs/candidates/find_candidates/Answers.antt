@@ -1,8 +1,7 @@
 use Rattle.std.proofs.Common.{◌∙◌, List, ap}
 use Rattle.traffic.specs.Nodes.{candidates}
 use Rattle.queue_link.specs.Links.{LinkView}
-use Rattle.node_move.specs.NodeStates.{in_links_of}
-use Rattle.node_move.proofs.Drawing.{marks_candidates}
+use Rattle.node_move.{proofs.Drawing.marks_candidates, specs.NodeStates.in_links_of}
 use Rattle.node_move.proofs.candidates.find_candidates.Goals as goal
 
 pub returns-clause-value : goal.returns-clause-value

@@ -1,7 +1,7 @@
 use Rattle.std.proofs.Common.{◌∙◌, false, sym}
 use Rattle.node_move.proofs.Drawing.{no_greens, marks_next, skips_next}
-use Rattle.node_move.proofs.candidates.mark_red.Goals as goal
 use Rattle.node_move.proofs.candidates.mark_red.Goals.{then-not-greens-place, else-not-greens-place}
+use Rattle.node_move.proofs.candidates.mark_red.Goals as goal
 
 pub loop-place-init : goal.loop-place-init
 loop-place-init c = sym (no_greens c.args.second c.args.in_links.now)

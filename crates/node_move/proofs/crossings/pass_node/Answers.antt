@@ -1,9 +1,8 @@
-use Rattle.std.proofs.Common.{◌≡◌, ◌∙◌, ap, sym, subst}
-use Rattle.std.specs.Prelude.{None}
+use Rattle.std.{proofs.Common.◌≡◌, proofs.Common.◌∙◌, proofs.Common.ap, proofs.Common.sym, proofs.Common.subst, specs.Prelude.None}
 use Rattle.queue_link.specs.Links.{LinkView, first_row}
 use Rattle.node_move.specs.Spaces.{places_in}
-use Rattle.traffic.specs.Nodes.{HaveNext}
 use Rattle.node_move.proofs.Fronts.{no_front, behind_next, entered_front, removed_front, stayed_front}
+use Rattle.traffic.specs.Nodes.{HaveNext}
 use Rattle.node_move.proofs.crossings.pass_node.Goals as goal
 
 pub returns-in_default-clause-run : goal.returns-in_default-clause-run

@@ -1,7 +1,6 @@
 use Rattle.std.proofs.Common.{◌≡◌, [], ◌∷◌, true, length}
 use Rattle.traffic.specs.Nodes.{pass_node_all, HaveNext}
-use Rattle.node_move.specs.Spaces.{places_in}
-use Rattle.node_move.specs.NodeStates.{node_state, node_run, in_link_of}
+use Rattle.node_move.specs.{NodeStates.node_state, NodeStates.node_run, NodeStates.in_link_of, Spaces.places_in}
 use Rattle.node_move.proofs.crossings.pass_node.Given as goal
 
 abbrev pub invariant-fronts : goal.invariant-fronts

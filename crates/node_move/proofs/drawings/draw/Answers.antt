@@ -1,15 +1,10 @@
 use Rattle.std.proofs.Common.{◌≡◌, ◌∙◌, ◌<◌, ◌+◌, ◌*◌, ℕ, List, length, refl, ap, sym, subst, arith}
 use Rattle.std.specs.Prelude.{map, sum}
-use Rattle.draws.specs.Choices.{pick}
-use Rattle.draws.specs.Words.{word}
-use Rattle.traffic.specs.declared.moves.Move.{Move}
-use Rattle.traffic.specs.declared.node_views.InLink.{InLink}
-use Rattle.traffic.specs.Lists.{without_at}
-use Rattle.node_move.specs.Spaces.{places_in}
-use Rattle.node_move.specs.NodeStates.{node_state, node_run, seen, ArePlaces, HaveWeights}
-use Rattle.traffic.specs.Nodes.{weight_of}
-use Rattle.node_move.proofs.Places.{number_at, number_within, places_without, length_seen, length_without, seen_rest}
+use Rattle.draws.specs.{Choices.pick, Words.word}
+use Rattle.traffic.specs.{Lists.without_at, Nodes.weight_of, declared.moves.Move.Move, declared.node_views.InLink.InLink}
 use Rattle.node_move.proofs.Drawing.{draws_lazily, draws_nobody, only_passes, one_pick, sum_least, sum_most, have_without, weights_without}
+use Rattle.node_move.proofs.Places.{number_at, number_within, places_without, length_seen, length_without, seen_rest}
+use Rattle.node_move.specs.{NodeStates.node_state, NodeStates.node_run, NodeStates.seen, NodeStates.ArePlaces, NodeStates.HaveWeights, Spaces.places_in}
 use Rattle.node_move.proofs.drawings.draw.Goals as goal
 
 pub returns-in-Nobody : goal.returns-in-Nobody

@@ -1,5 +1,4 @@
-use Rattle.std.proofs.Common.{◌≡◌, ◌+◌, length}
-use Rattle.std.specs.Prelude.{map}
+use Rattle.std.{proofs.Common.◌≡◌, proofs.Common.◌+◌, proofs.Common.length, specs.Prelude.map}
 use Rattle.draws.specs.Words.{word}
 use Rattle.law_sleeping.specs.Able.{able_now, draw_lazily}
 use Rattle.node_move.specs.Spaces.{places_in}

@@ -1,9 +1,8 @@
 use Rattle.std.proofs.Common.{◌≡◌, ◌∙◌, [], ◌∷◌, true, get_or, ap, sym, subst}
 use Rattle.traffic.specs.Nodes.{pass_node_all, HaveNext}
 use Rattle.queue_link.specs.Links.{LinkView}
-use Rattle.node_move.specs.Spaces.{places_in}
-use Rattle.node_move.specs.NodeStates.{node_state, node_run, in_link_of, no_link}
 use Rattle.node_move.proofs.Places.{is_at, ready_at, ready_with, apart_with, is_passed, pass_among}
+use Rattle.node_move.specs.{NodeStates.node_state, NodeStates.node_run, NodeStates.in_link_of, NodeStates.no_link, Spaces.places_in}
 use Rattle.node_move.proofs.drawings.pass_at.Goals as goal
 
 pub pass_node-requires : goal.pass_node-requires

@@ -1,6 +1,5 @@
 use Rattle.std.proofs.Common.{List, ℕ, ◌∙◌, ◌%◌, ap, sym, get_or, arith}
-use Rattle.node_move.specs.declared.TheConstants.{PAGE_LINKS}
-use Rattle.node_move.proofs.Pages.{on_page, past_pages}
+use Rattle.node_move.{proofs.Pages.on_page, proofs.Pages.past_pages, specs.declared.TheConstants.PAGE_LINKS}
 use Rattle.node_move.proofs.link_tables.number_of.Goals as goal
 
 pub returns-then-page-pages : goal.returns-then-page-pages

@@ -1,7 +1,5 @@
-use Rattle.std.proofs.Common.{◌/◌}
-use Rattle.std.proofs.lemmas.Result.{err_from_is_err_and}
-use Rattle.node_move.specs.declared.TheConstants.{PAGE_LINKS}
-use Rattle.node_move.proofs.Pages.{put_on, same_on}
+use Rattle.std.proofs.{Common.◌/◌, lemmas.Result.err_from_is_err_and}
+use Rattle.node_move.{proofs.Pages.put_on, proofs.Pages.same_on, specs.declared.TheConstants.PAGE_LINKS}
 use Rattle.node_move.proofs.link_tables.put.Goals as goal
 
 pub returns-in_err-put_in-clause-err : goal.returns-in_err-put_in-clause-err

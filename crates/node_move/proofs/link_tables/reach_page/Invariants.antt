@@ -1,5 +1,4 @@
-use Rattle.std.proofs.Common.{◌≡◌, ℕ, ◌+◌, ◌-◌, length, map}
-use Rattle.std.specs.Prelude.{vec_items}
+use Rattle.std.{proofs.Common.◌≡◌, proofs.Common.ℕ, proofs.Common.◌+◌, proofs.Common.◌-◌, proofs.Common.length, proofs.Common.map, specs.Prelude.vec_items}
 use Rattle.node_move.specs.Pages.{number_of}
 use Rattle.node_move.proofs.link_tables.reach_page.Given as goal
 

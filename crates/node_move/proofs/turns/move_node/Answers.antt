@@ -1,8 +1,7 @@
 use Rattle.std.proofs.Common.{List, sym, subst}
 use Rattle.queue_link.specs.Links.{LinkView}
-use Rattle.node_move.specs.Spaces.{places_in}
-use Rattle.node_move.specs.NodeStates.{AreReady, AreApart}
 use Rattle.node_move.proofs.Drawing.{marks_ready, marks_apart, whole_turn}
+use Rattle.node_move.specs.{NodeStates.AreReady, NodeStates.AreApart, Spaces.places_in}
 use Rattle.node_move.proofs.turns.move_node.Goals as goal
 
 pub draw-requires-clause-ready : goal.draw-requires-clause-ready

@@ -1,7 +1,6 @@
 use Rattle.std.proofs.Common.{◌∙◌, ◌++◌, [], ◌∷◌, ℕ, ap, sym, append-nil}
 use Rattle.std.specs.Prelude.{Option, if◌then◌else◌}
-use Rattle.node_seconds.specs.Networks.{put_queued, wake_queued, is_nowhere}
-use Rattle.node_seconds.proofs.Lanes.{slot_is}
+use Rattle.node_seconds.{proofs.Lanes.slot_is, specs.Networks.put_queued, specs.Networks.wake_queued, specs.Networks.is_nowhere}
 use Rattle.node_seconds.proofs.entering.accept.Goals as goal
 
 pub queue_up-requires-clause-there : goal.queue_up-requires-clause-there

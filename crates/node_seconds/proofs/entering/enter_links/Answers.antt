@@ -1,6 +1,5 @@
 use Rattle.std.proofs.Common.{◌≡◌, ◌∙◌, ◌++◌, [], ◌∷◌, ℕ, List, refl, ap, sym, length, append-nil, append_assoc}
-use Rattle.std.specs.Prelude.{filter, Option, if◌then◌else◌}
-use Rattle.std.proofs.lemmas.List.Elements.{filter-append}
+use Rattle.std.{proofs.lemmas.List.Elements.filter-append, specs.Prelude.filter, specs.Prelude.Option, specs.Prelude.if◌then◌else◌}
 use Rattle.queue_link.specs.Links.{LinkView}
 use Rattle.node_move.specs.declared.crossings.Entering.{Entering}
 use Rattle.node_seconds.specs.Networks.{slot_in, put_queued, wake_queued, accepted, accepted_all, wakes_after, wakes_after_all, is_nowhere, goes_out}

@@ -1,5 +1,4 @@
-use Rattle.std.proofs.Common.{◌≡◌, ◌++◌, ℕ, length}
-use Rattle.std.specs.Prelude.{filter}
+use Rattle.std.{proofs.Common.◌≡◌, proofs.Common.◌++◌, proofs.Common.ℕ, proofs.Common.length, specs.Prelude.filter}
 use Rattle.node_seconds.specs.Networks.{slot_in, accepted_all, wakes_after_all, goes_out}
 use Rattle.node_seconds.proofs.entering.enter_links.Given as goal
 

@@ -1,8 +1,7 @@
 use Rattle.std.proofs.Common.{◌∙◌, List, ap, sym, subst, arith}
 use Rattle.queue_link.specs.Links.{LinkView}
 use Rattle.node_move.specs.NodeStates.{AreReady, AreApart}
-use Rattle.node_seconds.specs.Networks.{lane}
-use Rattle.node_seconds.proofs.Lanes.{ready_taken, several_turned}
+use Rattle.node_seconds.{proofs.Lanes.ready_taken, proofs.Lanes.several_turned, specs.Networks.lane}
 use Rattle.node_seconds.proofs.seconds.node_second.Goals as goal
 
 pub move_node-requires-clause-ready : goal.move_node-requires-clause-ready

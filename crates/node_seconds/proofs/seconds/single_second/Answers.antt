@@ -1,6 +1,5 @@
 use Rattle.std.proofs.Common.{◌≡◌, ◌∙◌, ap, refl, sym, get_or}
-use Rattle.node_move.specs.NodeStates.{no_link}
-use Rattle.node_move.proofs.Places.{is_at}
+use Rattle.node_move.{proofs.Places.is_at, specs.NodeStates.no_link}
 use Rattle.node_seconds.proofs.Lanes.{alone_turned}
 use Rattle.node_seconds.proofs.seconds.single_second.Goals as goal
 

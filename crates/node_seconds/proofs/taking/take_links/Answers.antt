@@ -1,5 +1,4 @@
-use Rattle.std.proofs.Common.{◌∙◌, ap, refl, length}
-use Rattle.std.proofs.lemmas.List.{length-set}
+use Rattle.std.proofs.{Common.◌∙◌, Common.ap, Common.refl, Common.length, lemmas.List.length-set}
 use Rattle.node_seconds.proofs.Lanes.{taken_none, take_one, in_at, taken_all, others_all}
 use Rattle.node_seconds.proofs.taking.take_links.Goals as goal
 

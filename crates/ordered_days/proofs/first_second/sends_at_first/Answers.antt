@@ -1,6 +1,5 @@
 use Rattle.std.proofs.Common.{arith, sym, subst, subst₂, List}
-use Rattle.step_core.specs.declared.part.Border.{Border}
-use Rattle.step_core.specs.Nets.{Net, IsNet, AreBorders}
+use Rattle.step_core.specs.{Nets.Net, Nets.IsNet, Nets.AreBorders, declared.part.Border.Border}
 use Rattle.divided_day.proofs.Whole.{net_sound, borders_sound}
 use Rattle.ordered_days.proofs.Firsts.{heard_at_first, places_at_first, gone_at_first}
 use Rattle.ordered_days.proofs.first_second.sends_at_first.Goals as goal

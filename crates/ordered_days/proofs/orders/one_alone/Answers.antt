@@ -1,6 +1,5 @@
 use Rattle.std.proofs.Common.{sym, subst, subst₂, List}
-use Rattle.step_core.specs.declared.part.Border.{Border}
-use Rattle.step_core.specs.Nets.{Net, IsNet, AreBorders}
+use Rattle.step_core.specs.{Nets.Net, Nets.IsNet, Nets.AreBorders, declared.part.Border.Border}
 use Rattle.divided_day.proofs.Whole.{net_sound, borders_sound}
 use Rattle.ordered_days.proofs.orders.one_alone.Goals as goal
 

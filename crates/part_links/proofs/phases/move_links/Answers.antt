@@ -1,5 +1,4 @@
-use Rattle.std.proofs.Common.{◌∙◌, ap, length}
-use Rattle.std.proofs.lemmas.List.{length-map}
+use Rattle.std.proofs.{Common.◌∙◌, Common.ap, Common.length, lemmas.List.length-map}
 use Rattle.calendar.specs.Waking.{slept}
 use Rattle.node_seconds.specs.Networks.{is_among}
 use Rattle.part_links.proofs.Whole.{phase_is, woken_there, woken_once}

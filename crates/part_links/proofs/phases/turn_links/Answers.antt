@@ -1,7 +1,6 @@
 use Rattle.std.proofs.Common.{◌∙◌, ap, sym, refl, subst, length, get_or, take}
 use Rattle.std.proofs.lemmas.List.{length-set, take_all}
-use Rattle.node_seconds.specs.Networks.{is_among}
-use Rattle.node_seconds.proofs.Lanes.{in_at, among_front}
+use Rattle.node_seconds.{proofs.Lanes.in_at, proofs.Lanes.among_front, specs.Networks.is_among}
 use Rattle.part_links.specs.Phase.{AreTurned}
 use Rattle.part_links.proofs.Standing.{none_turned, turned_next, left_next, able_left, taken_one}
 use Rattle.part_links.proofs.phases.turn_links.Goals as goal

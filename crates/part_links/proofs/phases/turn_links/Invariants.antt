@@ -1,10 +1,8 @@
 use Rattle.std.proofs.Common.{◌≡◌, ℕ, ◌<◌, length, take, false}
-use Rattle.traffic.specs.Rows.{World}
-use Rattle.traffic.specs.Setup.{Setup}
+use Rattle.traffic.specs.{Rows.World, Setup.Setup}
 use Rattle.link_seconds.specs.Seconds.{AreShort}
 use Rattle.node_seconds.specs.Networks.{lane, is_among}
-use Rattle.part_links.specs.Links.{AreNumbered, LinksStandAt, LinesStandAt, StopsThere}
-use Rattle.part_links.specs.Phase.{AreTurned}
+use Rattle.part_links.specs.{Links.AreNumbered, Links.LinksStandAt, Links.LinesStandAt, Links.StopsThere, Phase.AreTurned}
 use Rattle.part_links.proofs.phases.turn_links.Given as goal
 
 abbrev pub invariant-loop-slot : goal.invariant-loop-slot

@@ -1,5 +1,4 @@
-use Rattle.std.proofs.Common.{◌≡◌, ◌++◌, length}
-use Rattle.std.specs.Prelude.{filter}
+use Rattle.std.{proofs.Common.◌≡◌, proofs.Common.◌++◌, proofs.Common.length, specs.Prelude.filter}
 use Rattle.calendar.specs.Due.{AreIn}
 use Rattle.part_nodes.specs.Turns.{is_buffered}
 use Rattle.part_nodes.proofs.node_turns.buffered_ones.Given as goal

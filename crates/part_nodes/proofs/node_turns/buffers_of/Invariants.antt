@@ -1,5 +1,4 @@
-use Rattle.std.proofs.Common.{◌≡◌, ◌++◌, length}
-use Rattle.std.specs.Prelude.{map}
+use Rattle.std.{proofs.Common.◌≡◌, proofs.Common.◌++◌, proofs.Common.length, specs.Prelude.map}
 use Rattle.calendar.specs.Due.{AreIn}
 use Rattle.part_nodes.specs.Turns.{buffered_in}
 use Rattle.part_nodes.proofs.node_turns.buffers_of.Given as goal

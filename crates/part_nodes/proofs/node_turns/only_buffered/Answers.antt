@@ -1,11 +1,9 @@
 use Rattle.std.proofs.Common.{◌∙◌, ap, sym, refl, length}
-use Rattle.std.specs.Prelude.{filter}
-use Rattle.std.proofs.lemmas.List.{take_all}
+use Rattle.std.{proofs.lemmas.List.take_all, specs.Prelude.filter}
 use Rattle.node_seconds.proofs.Lanes.{in_at}
-use Rattle.part_nodes.specs.Turns.{is_buffered}
-use Rattle.part_nodes.proofs.Only.{as_list, found_next, skipped_next, two_found, only_found}
+use Rattle.part_nodes.{specs.Turns.is_buffered, proofs.Only.as_list, proofs.Only.found_next, proofs.Only.skipped_next, proofs.Only.two_found}
+use Rattle.part_nodes.proofs.{Only.only_found, node_turns.only_buffered.Goals.then-is_buffered+in-None, node_turns.only_buffered.Goals.else-is_buffered}
 use Rattle.part_nodes.proofs.node_turns.only_buffered.Goals as goal
-use Rattle.part_nodes.proofs.node_turns.only_buffered.Goals.{then-is_buffered+in-None, else-is_buffered}
 
 pub is_buffered-requires : goal.is_buffered-requires
 is_buffered-requires c =

@@ -1,7 +1,5 @@
-use Rattle.std.proofs.Common.{◌≡◌, take}
-use Rattle.std.specs.Prelude.{filter}
-use Rattle.part_nodes.specs.Turns.{is_buffered}
-use Rattle.part_nodes.proofs.Only.{as_list}
+use Rattle.std.{proofs.Common.◌≡◌, proofs.Common.take, specs.Prelude.filter}
+use Rattle.part_nodes.{proofs.Only.as_list, specs.Turns.is_buffered}
 use Rattle.part_nodes.proofs.node_turns.only_buffered.Given as goal
 
 abbrev pub invariant-loop-slot : goal.invariant-loop-slot

@@ -1,19 +1,13 @@
 use Rattle.std.proofs.Common.{◌≤◌, ℕ, List, ◌∙◌, ap, refl, sym, subst, length, arith}
 use Rattle.std.proofs.lemmas.List.{length-map}
 use Rattle.limits.specs.declared.TheConstants.{MAX_IN_LINKS}
-use Rattle.law_in_range.specs.Setups.{counts_in}
-use Rattle.law_in_range.proofs.Towns.{town_fit}
-use Rattle.law_in_range.proofs.Days.{chosen_fit}
+use Rattle.law_in_range.{proofs.Days.chosen_fit, proofs.Towns.town_fit, specs.Setups.counts_in}
 use Rattle.town.specs.Views.{setup}
 use Rattle.node_seconds.specs.Networks.{AreOnce}
 use Rattle.traffic.specs.Setup.{into}
-use Rattle.part_nodes.specs.InLinks.{slots_of}
-use Rattle.part_nodes.specs.Turns.{AreThere, is_buffered}
-use Rattle.part_nodes.proofs.Slots.{stand_numbered, apart_in}
-use Rattle.part_nodes.proofs.Ready.{few_slots, once_slots, ready_into, some_in}
-use Rattle.part_nodes.proofs.Buffered.{few_some, once_some}
-use Rattle.part_nodes.proofs.Rested.{buffered_there, emptied_length}
-use Rattle.part_nodes.proofs.Passed.{passed_on}
+use Rattle.part_nodes.proofs.{Buffered.few_some, Buffered.once_some, Passed.passed_on, Ready.few_slots, Ready.once_slots, Ready.ready_into, Ready.some_in}
+use Rattle.part_nodes.proofs.{Rested.buffered_there, Rested.emptied_length, Slots.stand_numbered, Slots.apart_in}
+use Rattle.part_nodes.specs.{InLinks.slots_of, Turns.AreThere, Turns.is_buffered}
 use Rattle.part_nodes.proofs.node_turns.pass_fronts.Goals as goal
 
 pub node_second-requires-clause-second_in : goal.node_second-requires-clause-second_in

@@ -1,10 +1,8 @@
 use Rattle.std.proofs.Common.{◌∙◌, [], ◌∷◌, Bool, ℕ, ap, sym, length}
 use Rattle.std.specs.Prelude.{filter, map}
 use Rattle.town.specs.Views.{setup}
-use Rattle.part_nodes.specs.declared.node_turns.Buffered.{Buffered}
-use Rattle.part_nodes.specs.Turns.{is_buffered, buffered_in, lights_of}
-use Rattle.part_nodes.proofs.Ready.{slots_in, some_in, town_numbers}
-use Rattle.part_nodes.proofs.Only.{alone_is}
+use Rattle.part_nodes.proofs.{Only.alone_is, Ready.slots_in, Ready.some_in, Ready.town_numbers}
+use Rattle.part_nodes.specs.{Turns.is_buffered, Turns.buffered_in, Turns.lights_of, declared.node_turns.Buffered.Buffered}
 use Rattle.part_nodes.proofs.node_turns.pass_node.Goals as goal
 
 pub only_buffered-requires : goal.only_buffered-requires

@@ -1,19 +1,13 @@
 use Rattle.std.proofs.Common.{◌≡◌, List, ◌∙◌, ◌++◌, ap, refl, sym, subst, length, arith}
-use Rattle.std.specs.Vec.{with_items}
-use Rattle.std.proofs.lemmas.List.{with_items_is}
+use Rattle.std.{proofs.lemmas.List.with_items_is, specs.Vec.with_items}
 use Rattle.events.specs.declared.event.Phase.TheVariants as phase
 use Rattle.events.specs.Keys.{phase_code}
 use Rattle.law_in_range.specs.Setups.{counts_in}
 use Rattle.town.specs.Views.{setup}
-use Rattle.traffic.specs.declared.moves.Occurrence.{Occurrence}
-use Rattle.traffic.specs.Day.{keyed}
+use Rattle.traffic.specs.{Day.keyed, declared.moves.Occurrence.Occurrence}
 use Rattle.queue_link.specs.Links.{LinkView}
-use Rattle.part_nodes.specs.declared.network.NetworkState.{NetworkState}
-use Rattle.part_nodes.specs.Turns.{always_in, HaveNumbersIn}
-use Rattle.part_nodes.specs.Phase.{LinksStandFor}
-use Rattle.part_nodes.proofs.Ready.{slots_in, town_numbers}
-use Rattle.part_nodes.proofs.Held.{stuck_of, green_of}
-use Rattle.part_nodes.proofs.Passed.{turned}
+use Rattle.part_nodes.proofs.{Held.stuck_of, Held.green_of, Passed.turned, Ready.slots_in, Ready.town_numbers}
+use Rattle.part_nodes.specs.{Phase.LinksStandFor, Turns.always_in, Turns.HaveNumbersIn, declared.network.NetworkState.NetworkState}
 use Rattle.part_nodes.proofs.node_turns.turn_node.Goals as goal
 
 pub pass_node-requires-clause-stand : goal.pass_node-requires-clause-stand

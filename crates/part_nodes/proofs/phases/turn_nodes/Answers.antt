@@ -1,13 +1,11 @@
-use Rattle.std.proofs.Common.{◌<◌, ℕ, List, ◌∙◌, sym, refl, subst, get_or, take}
-use Rattle.std.proofs.lemmas.List.{take_all}
+use Rattle.std.proofs.{Common.◌<◌, Common.ℕ, Common.List, Common.◌∙◌, Common.sym, Common.refl, Common.subst, Common.get_or, Common.take, lemmas.List.take_all}
 use Rattle.law_in_range.specs.Setups.{counts_in}
 use Rattle.town.specs.Views.{setup}
 use Rattle.traffic.specs.Day.{turns, turns_of, after}
 use Rattle.events.specs.declared.event.Phase.TheVariants as phase
 use Rattle.node_seconds.proofs.Lanes.{in_at, among_front}
 use Rattle.part_links.proofs.Standing.{taken_one}
-use Rattle.part_nodes.specs.Phase.{AreTurned}
-use Rattle.part_nodes.proofs.Skipped.{turned_none, turned_last, mine_at}
+use Rattle.part_nodes.{proofs.Skipped.turned_none, proofs.Skipped.turned_last, proofs.Skipped.mine_at, specs.Phase.AreTurned}
 use Rattle.part_nodes.proofs.phases.turn_nodes.Goals as goal
 
 pub loop-number-init : goal.loop-number-init

@@ -1,5 +1,4 @@
-use Rattle.std.proofs.Common.{◌≡◌, length}
-use Rattle.std.specs.Prelude.{None}
+use Rattle.std.{proofs.Common.◌≡◌, proofs.Common.length, specs.Prelude.None}
 use Rattle.calendar.specs.Due.{AreIn}
 use Rattle.part_nodes.specs.Turns.{always_in, node_due}
 use Rattle.part_nodes.proofs.resting.node_due.Given as goal

@@ -2,8 +2,7 @@ use Rattle.std.proofs.Common.{◌∙◌}
 use Rattle.calendar.specs.Due.{due_at}
 use Rattle.partition.specs.Owned.{owner_in}
 use Rattle.rows.specs.declared.schedule.DepartureRow.{DepartureRow}
-use Rattle.part_persons.specs.Starts.{is_due}
-use Rattle.part_persons.proofs.Departing.{added}
+use Rattle.part_persons.{proofs.Departing.added, specs.Starts.is_due}
 use Rattle.part_persons.proofs.departures.by_second.Goals as goal
 
 pub loop-number-preserved : goal.loop-number-preserved

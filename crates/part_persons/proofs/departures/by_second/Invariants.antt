@@ -1,8 +1,7 @@
 use Rattle.std.proofs.Common.{◌≡◌, ℕ, ◌<◌, take}
 use Rattle.calendar.specs.Due.{due_at}
 use Rattle.partition.specs.Owned.{owner_in}
-use Rattle.part_persons.specs.Phases.{numbers_where}
-use Rattle.part_persons.specs.Starts.{is_due}
+use Rattle.part_persons.specs.{Phases.numbers_where, Starts.is_due}
 use Rattle.part_persons.proofs.departures.by_second.Given as goal
 
 abbrev pub invariant-loop-number : goal.invariant-loop-number

@@ -1,8 +1,6 @@
-use Rattle.std.proofs.Common.{◌∙◌, ap, arith, length}
-use Rattle.std.specs.Prelude.{Some}
+use Rattle.std.{proofs.Common.◌∙◌, proofs.Common.ap, proofs.Common.arith, proofs.Common.length, specs.Prelude.Some}
 use Rattle.town.specs.Views.{setup}
-use Rattle.part_persons.proofs.Following.{followed_length}
-use Rattle.part_persons.proofs.Told.{everybody_more, everybody_followed}
+use Rattle.part_persons.proofs.{Following.followed_length, Told.everybody_more, Told.everybody_followed}
 use Rattle.part_persons.proofs.hearing.follow_everybody.Goals as goal
 
 pub loop-person-preserved : goal.loop-person-preserved

@@ -1,7 +1,6 @@
 use Rattle.std.proofs.Common.{arith}
 use Rattle.town.specs.Views.{setup}
-use Rattle.part_persons.specs.Own.{first_row}
-use Rattle.part_persons.proofs.Beginning.{no_rows, row_more, all_rows, persons_of}
+use Rattle.part_persons.{proofs.Beginning.no_rows, proofs.Beginning.row_more, proofs.Beginning.all_rows, proofs.Beginning.persons_of, specs.Own.first_row}
 use Rattle.part_persons.proofs.homes.first_rows.Goals as goal
 
 pub loop-person-init : goal.loop-person-init

@@ -1,6 +1,5 @@
 use Rattle.town.specs.Views.{setup}
-use Rattle.part_persons.specs.Own.{first_row}
-use Rattle.part_persons.proofs.Beginning.{AreRows}
+use Rattle.part_persons.{proofs.Beginning.AreRows, specs.Own.first_row}
 use Rattle.part_persons.proofs.homes.first_rows.Given as goal
 
 abbrev pub invariant-loop-person : goal.invariant-loop-person

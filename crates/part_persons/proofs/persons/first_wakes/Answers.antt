@@ -1,7 +1,6 @@
 use Rattle.std.proofs.Common.{◌≡◌, ◌∙◌, List, ap, subst}
 use Rattle.town.specs.Views.{setup}
-use Rattle.traffic.specs.Rows.{World}
-use Rattle.traffic.specs.declared.world.Person.{Person}
+use Rattle.traffic.specs.{Rows.World, declared.world.Person.Person}
 use Rattle.part_persons.specs.Dues.{AreFollowed}
 use Rattle.part_persons.proofs.persons.first_wakes.Goals as goal
 

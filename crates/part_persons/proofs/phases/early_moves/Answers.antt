@@ -1,5 +1,4 @@
-use Rattle.traffic.proofs.Common.{ap, sym, subst, person_plan}
-use Rattle.traffic.specs.declared.world.Person.{Person}
+use Rattle.traffic.{proofs.Common.ap, proofs.Common.sym, proofs.Common.subst, proofs.Common.person_plan, specs.declared.world.Person.Person}
 use Rattle.town.specs.Views.{setup}
 use Rattle.person_moves.specs.Legs.{CanLeave}
 use Rattle.law_in_range.proofs.Days.{can_leave, lands_there, leaves_there, departs_there, person_there}

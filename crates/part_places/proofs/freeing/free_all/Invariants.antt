@@ -1,6 +1,5 @@
 use Rattle.std.proofs.Common.{◌≡◌, ℕ, ◌-◌, take}
-use Rattle.node_move.specs.Pages.{number_of}
-use Rattle.node_move.specs.Spaces.{places_in}
+use Rattle.node_move.specs.{Pages.number_of, Spaces.places_in}
 use Rattle.part_places.specs.Taking.{fewer, times}
 use Rattle.part_places.proofs.freeing.free_all.Given as goal
 

@@ -1,5 +1,4 @@
-use Rattle.std.proofs.Common.{◌≡◌, ◌++◌, length}
-use Rattle.std.specs.Prelude.{filter}
+use Rattle.std.{proofs.Common.◌≡◌, proofs.Common.◌++◌, proofs.Common.length, specs.Prelude.filter}
 use Rattle.part_places.specs.Taking.{is_full_in}
 use Rattle.part_places.proofs.freeing.full_ones.Given as goal
 

@@ -1,5 +1,4 @@
-use Rattle.std.proofs.Common.{◌≡◌, ℕ, ◌++◌}
-use Rattle.std.specs.Prelude.{replicate, ◌==◌, if◌then◌else◌}
+use Rattle.std.{proofs.Common.◌≡◌, proofs.Common.ℕ, proofs.Common.◌++◌, specs.Prelude.replicate, specs.Prelude.◌==◌, specs.Prelude.if◌then◌else◌}
 use Rattle.calendar.specs.Due.{due_at}
 use Rattle.part_places.proofs.leaving.add_freed.Given as goal
 

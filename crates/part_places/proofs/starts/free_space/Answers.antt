@@ -1,5 +1,4 @@
-use Rattle.std.proofs.Common.{ℕ, ◌<◌, length}
-use Rattle.std.proofs.lemmas.List.Elements.{All-get_or, All-from_recursion}
+use Rattle.std.proofs.{Common.ℕ, Common.◌<◌, Common.length, lemmas.List.Elements.All-get_or, lemmas.List.Elements.All-from_recursion}
 use Rattle.town.specs.Views.{setup}
 use Rattle.part_places.proofs.Starting.{none_free, one_free, all_free}
 use Rattle.part_places.proofs.starts.free_space.Goals as goal

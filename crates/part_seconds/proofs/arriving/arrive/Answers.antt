@@ -1,12 +1,9 @@
-use Rattle.std.proofs.Common.{◌∙◌, ◌++◌, List, ap}
-use Rattle.std.specs.Prelude.{Some}
-use Rattle.std.specs.List.{flat_map}
+use Rattle.std.{proofs.Common.◌∙◌, proofs.Common.◌++◌, proofs.Common.List, proofs.Common.ap, specs.List.flat_map, specs.Prelude.Some}
 use Rattle.town.specs.Views.{setup}
 use Rattle.law_partitions.specs.Alone.{person_in}
 use Rattle.node_move.specs.declared.crossings.Entering.{Entering}
-use Rattle.part_seconds.specs.Contents.{parcel_of}
-use Rattle.part_seconds.specs.Arriving.{all_riding, teleporting_in}
 use Rattle.part_seconds.proofs.Coming.{come_next, comes_of, entered_of}
+use Rattle.part_seconds.specs.{Arriving.all_riding, Arriving.teleporting_in, Contents.parcel_of}
 use Rattle.part_seconds.proofs.arriving.arrive.Goals as goal
 
 pub returns-clause-persons : goal.returns-clause-persons

@@ -3,8 +3,7 @@ use Rattle.std.specs.Prelude.{min, None}
 use Rattle.traffic.specs.declared.riders.Rider.{Rider}
 use Rattle.traffic.specs.declared.world.Place.TheVariants as place
 use Rattle.law_partitions.specs.Alone.{riding}
-use Rattle.part_seconds.specs.Arriving.{if_is}
-use Rattle.part_seconds.proofs.Coming.{come_next, same_come, riding_next, riding_whole}
+use Rattle.part_seconds.{proofs.Coming.come_next, proofs.Coming.same_come, proofs.Coming.riding_next, proofs.Coming.riding_whole, specs.Arriving.if_is}
 use Rattle.part_seconds.proofs.arriving.bring_riders.Goals as goal
 
 pub loop-place-preserved : goal.loop-place-preserved

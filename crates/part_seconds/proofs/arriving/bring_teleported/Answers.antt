@@ -1,8 +1,5 @@
-use Rattle.std.proofs.Common.{◌∙◌, ◌++◌, [], ◌∷◌}
-use Rattle.std.specs.List.{flat_map}
-use Rattle.part_seconds.specs.Arriving.{teleporting_in}
-use Rattle.part_seconds.proofs.Lists.{flat_push}
-use Rattle.part_seconds.proofs.Coming.{come_next}
+use Rattle.std.{proofs.Common.◌∙◌, proofs.Common.◌++◌, proofs.Common.[], proofs.Common.◌∷◌, specs.List.flat_map}
+use Rattle.part_seconds.{proofs.Coming.come_next, proofs.Lists.flat_push, specs.Arriving.teleporting_in}
 use Rattle.part_seconds.proofs.arriving.bring_teleported.Goals as goal
 
 pub loop-sent-preserved : goal.loop-sent-preserved

@@ -1,5 +1,4 @@
-use Rattle.std.proofs.Common.{◌≡◌, length}
-use Rattle.std.specs.List.{flat_map}
+use Rattle.std.{proofs.Common.◌≡◌, proofs.Common.length, specs.List.flat_map}
 use Rattle.part_seconds.specs.Arriving.{Come, teleporting_in}
 use Rattle.part_seconds.proofs.arriving.bring_teleported.Given as goal
 

@@ -1,8 +1,7 @@
 use Rattle.std.proofs.Common.{◌∙◌, ◌++◌, [], ◌∷◌, List, ap}
 use Rattle.node_move.specs.declared.crossings.Entering.{Entering}
+use Rattle.part_seconds.proofs.{Coming.come_next, Lists.flat_push, Lists.next_all}
 use Rattle.part_seconds.specs.Arriving.{riding_in, all_riding, entering_by}
-use Rattle.part_seconds.proofs.Lists.{flat_push, next_all}
-use Rattle.part_seconds.proofs.Coming.{come_next}
 use Rattle.part_seconds.proofs.arriving.bring_vehicles.Goals as goal
 
 pub loop-moved-preserved : goal.loop-moved-preserved

@@ -1,5 +1,4 @@
-use Rattle.std.proofs.Common.{◌≡◌, ◌++◌, length}
-use Rattle.std.specs.Prelude.{map}
+use Rattle.std.{proofs.Common.◌≡◌, proofs.Common.◌++◌, proofs.Common.length, specs.Prelude.map}
 use Rattle.part_seconds.specs.Arriving.{Come, all_riding, entering_by}
 use Rattle.part_seconds.proofs.arriving.bring_vehicles.Given as goal
 

@@ -2,8 +2,7 @@ use Rattle.std.proofs.Common.{ℕ, List, ◌<◌, ◌≡◌, ◌++◌, sym, subs
 use Rattle.traffic.specs.declared.world.Waiter.{Waiter}
 use Rattle.queue_link.specs.Links.{LinkView}
 use Rattle.node_seconds.specs.Networks.{lane}
-use Rattle.part_links.specs.Links.{LinksStandAt, LinesStandAt, StopsThere, AreAsleep}
-use Rattle.part_links.specs.Phase.{IsPhaseAt}
+use Rattle.part_links.specs.{Links.LinksStandAt, Links.LinesStandAt, Links.StopsThere, Links.AreAsleep, Phase.IsPhaseAt}
 use Rattle.part_seconds.proofs.Driven.{back}
 use Rattle.part_seconds.proofs.driving.turn_links.Goals as goal
 

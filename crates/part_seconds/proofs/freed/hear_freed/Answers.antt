@@ -1,8 +1,7 @@
 use Rattle.std.proofs.Common.{subst, sym, length}
 use Rattle.town.specs.Views.{setup}
 use Rattle.part_places.specs.Taking.{Taking, AreTakenOf}
-use Rattle.part_seconds.specs.Freed.{heard_all}
-use Rattle.part_seconds.proofs.Heard.{heard_last, can_before, can_last}
+use Rattle.part_seconds.{proofs.Heard.heard_last, proofs.Heard.can_before, proofs.Heard.can_last, specs.Freed.heard_all}
 use Rattle.part_seconds.proofs.freed.hear_freed.Goals as goal
 
 pub loop-freed_places-init : goal.loop-freed_places-init

@@ -1,5 +1,4 @@
-use Rattle.std.proofs.Common.{ℕ, length}
-use Rattle.std.specs.Prelude.{Bool}
+use Rattle.std.{proofs.Common.ℕ, proofs.Common.length, specs.Prelude.Bool}
 use Rattle.part_places.specs.Taking.{Taking, AreTakenOf}
 use Rattle.town.specs.Views.{setup}
 use Rattle.part_seconds.specs.Freed.{heard_all, CanHearAll}

@@ -2,12 +2,8 @@ use Rattle.std.proofs.Common.{◌<◌, ◌∙◌, List, ap, sym, subst, arith, l
 use Rattle.partition.specs.Owned.{owner_in}
 use Rattle.town.specs.Views.{setup}
 use Rattle.traffic.specs.declared.world.Person.{Person}
-use Rattle.part_seconds.specs.declared.contents.Contents.{Contents}
-use Rattle.part_seconds.specs.Contents.{parcel_of}
-use Rattle.part_seconds.specs.Parcels.{HasNothing}
-use Rattle.part_seconds.specs.Sending.{parcel_for}
-use Rattle.part_seconds.proofs.Right.{right_parcel}
-use Rattle.part_seconds.proofs.Sent.{day_sends, day_goes}
+use Rattle.part_seconds.proofs.{Right.right_parcel, Sent.day_sends, Sent.day_goes}
+use Rattle.part_seconds.specs.{Contents.parcel_of, Parcels.HasNothing, Sending.parcel_for, declared.contents.Contents.Contents}
 use Rattle.part_seconds.proofs.leaving.send.Goals as goal
 
 pub all_taken-requires : goal.all_taken-requires

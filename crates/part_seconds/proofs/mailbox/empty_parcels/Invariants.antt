@@ -1,5 +1,4 @@
-use Rattle.std.proofs.Common.{◌≡◌}
-use Rattle.std.specs.Prelude.{replicate}
+use Rattle.std.{proofs.Common.◌≡◌, specs.Prelude.replicate}
 use Rattle.part_seconds.specs.Parcels.{nothing}
 use Rattle.part_seconds.proofs.mailbox.empty_parcels.Given as goal
 

@@ -1,9 +1,8 @@
 use Rattle.std.proofs.Common.{◌∙◌, ◌++◌, [], ◌∷◌, ℕ, List, ap, sym, append-nil}
 use Rattle.partition.specs.Owned.{owner_in}
 use Rattle.town.specs.Views.{setup}
+use Rattle.part_seconds.proofs.{Lists.next_flat, Places.more_next, Places.more_none, Places.none_teleported, Places.next_teleported}
 use Rattle.part_seconds.specs.Sending.{teleported_place, teleported_of, with_teleported, more_teleported, if_teleports}
-use Rattle.part_seconds.proofs.Lists.{next_flat}
-use Rattle.part_seconds.proofs.Places.{more_next, more_none, none_teleported, next_teleported}
 use Rattle.part_seconds.proofs.sending.send_all_teleported.Goals as goal
 
 pub loop-person-init : goal.loop-person-init

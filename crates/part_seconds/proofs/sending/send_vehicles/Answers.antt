@@ -1,9 +1,8 @@
 use Rattle.std.proofs.Common.{◌∙◌, ◌++◌, [], ◌∷◌, ℕ, List, ap, sym, append-nil}
 use Rattle.partition.specs.Owned.{owner_in}
 use Rattle.town.specs.Views.{setup}
+use Rattle.part_seconds.proofs.{Lists.next_flat, Places.more_next, Places.more_none, Places.no_vehicles, Places.next_vehicles}
 use Rattle.part_seconds.specs.Sending.{vehicle_place, moved_of, with_vehicles, more_vehicles, riders_of}
-use Rattle.part_seconds.proofs.Lists.{next_flat}
-use Rattle.part_seconds.proofs.Places.{more_next, more_none, no_vehicles, next_vehicles}
 use Rattle.part_seconds.proofs.sending.send_vehicles.Goals as goal
 
 pub loop-vehicle-init : goal.loop-vehicle-init

@@ -1,5 +1,4 @@
-use Rattle.std.proofs.Common.{◌≡◌}
-use Rattle.std.specs.Prelude.{map}
+use Rattle.std.{proofs.Common.◌≡◌, specs.Prelude.map}
 use Rattle.part_seconds.specs.Slots.{in_slot}
 use Rattle.part_seconds.proofs.setting_out.in_slots.Given as goal
 

@@ -1,5 +1,4 @@
-use Rattle.std.proofs.Common.{◌≡◌, ◌++◌, length}
-use Rattle.std.specs.List.{flat_map}
+use Rattle.std.{proofs.Common.◌≡◌, proofs.Common.◌++◌, proofs.Common.length, specs.List.flat_map}
 use Rattle.calendar.specs.Due.{AreIn}
 use Rattle.partition.specs.Owned.{owner_in}
 use Rattle.town.specs.Views.{setup}

@@ -3,9 +3,7 @@ use Rattle.std.specs.Prelude.{OnOk}
 use Rattle.town.specs.Views.{setup}
 use Rattle.traffic.specs.Setup.{hole_of}
 use Rattle.part_places.specs.Taking.{AreTakenOf, later}
-use Rattle.law_parts_of_days.specs.Settling.{link_at, queued_in}
-use Rattle.law_parts_of_days.proofs.Beginning.{links_of}
-use Rattle.law_parts_of_days.proofs.Taken.{some_hole}
+use Rattle.law_parts_of_days.{proofs.Beginning.links_of, proofs.Taken.some_hole, specs.Settling.link_at, specs.Settling.queued_in}
 use Rattle.part_seconds.proofs.settling.leave_own.Goals as goal
 
 pub returns : goal.returns

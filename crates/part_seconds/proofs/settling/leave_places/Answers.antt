@@ -6,8 +6,7 @@ use Rattle.town.specs.Views.{setup}
 use Rattle.node_seconds.proofs.Lanes.{in_at}
 use Rattle.part_links.proofs.Standing.{taken_one}
 use Rattle.part_places.specs.Taking.{Taking, AreTakenOf, begins_here}
-use Rattle.part_seconds.specs.Settling.{left_all}
-use Rattle.part_seconds.proofs.Vacated.{all_none, all_last, all_few}
+use Rattle.part_seconds.{proofs.Vacated.all_none, proofs.Vacated.all_last, proofs.Vacated.all_few, specs.Settling.left_all}
 use Rattle.part_seconds.proofs.settling.leave_places.Goals as goal
 
 pub loop-slot-init : goal.loop-slot-init

@@ -1,14 +1,10 @@
-use Rattle.std.proofs.Common.{◌≡◌, List, ◌∙◌, ◌-◌, ◌<◌, ap, refl, arith, length}
-use Rattle.std.proofs.lemmas.List.{length-set}
+use Rattle.std.proofs.{Common.◌≡◌, Common.List, Common.◌∙◌, Common.◌-◌, Common.◌<◌, Common.ap, Common.refl, Common.arith, Common.length, lemmas.List.length-set}
 use Rattle.law_in_range.proofs.Days.{one_each}
 use Rattle.partition.specs.Owned.{owner_in}
 use Rattle.town.specs.Views.{setup}
 use Rattle.divided_day.specs.Borders.{borders_of}
-use Rattle.step_core.specs.declared.part.Border.{Border}
-use Rattle.step_core.specs.Nets.{border_at}
-use Rattle.step_core.specs.Views.{in_place}
-use Rattle.part_seconds.specs.declared.contents.Contents.{Contents}
-use Rattle.part_seconds.specs.Parcels.{nothing}
+use Rattle.step_core.specs.{Nets.border_at, Views.in_place, declared.part.Border.Border}
+use Rattle.part_seconds.specs.{Parcels.nothing, declared.contents.Contents.Contents}
 use Rattle.parted_day.proofs.Steps.{none_absorbed, many_persons, many_wakes}
 use Rattle.parted_day.proofs.Rounds.{emptied_next, kept_next, all_emptied, round, passed, quiet, finished}
 use Rattle.parted_day.proofs.absorbing.absorb.Goals as goal

@@ -4,12 +4,9 @@ use Rattle.queue_link.specs.Links.{LinkView}
 use Rattle.node_move.specs.declared.crossings.Entering.{Entering}
 use Rattle.node_seconds.specs.Networks.{slot_in, accepted_all, wakes_after_all}
 use Rattle.part_places.specs.Taking.{AreTakenOf}
-use Rattle.part_seconds.specs.declared.contents.FreedPlaces.{FreedPlaces}
-use Rattle.part_seconds.specs.Freed.{heard_all, CanHearAll}
-use Rattle.part_seconds.specs.Settling.{put_queues}
 use Rattle.part_seconds.proofs.Driven.{back}
-use Rattle.parted_day.specs.Absorbed.{entered_slots, entering_with}
-use Rattle.parted_day.proofs.Rows.{same_freed}
+use Rattle.part_seconds.specs.{Freed.heard_all, Freed.CanHearAll, Settling.put_queues, declared.contents.FreedPlaces.FreedPlaces}
+use Rattle.parted_day.{proofs.Rows.same_freed, specs.Absorbed.entered_slots, specs.Absorbed.entering_with}
 use Rattle.parted_day.proofs.absorbing_parcel.absorb_contents.Goals as goal
 
 pub returns : goal.returns

@@ -1,7 +1,6 @@
 use Rattle.std.proofs.Common.{subst}
 use Rattle.part_seconds.specs.declared.contents.Contents.{Contents}
-use Rattle.parted_day.specs.Absorbed.{HasAbsorbedParcel}
-use Rattle.parted_day.proofs.Nothing.{nothing_comes}
+use Rattle.parted_day.{proofs.Nothing.nothing_comes, specs.Absorbed.HasAbsorbedParcel}
 use Rattle.parted_day.proofs.absorbing_parcel.absorb_parcel.Goals as goal
 
 pub returns-in_default : goal.returns-in_default

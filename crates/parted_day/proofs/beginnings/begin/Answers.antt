@@ -1,8 +1,6 @@
-use Rattle.std.proofs.Common.{ℕ, List, ◌∙◌, ap, length, rules}
-use Rattle.std.proofs.lemmas.List.{length-map}
+use Rattle.std.proofs.{Common.ℕ, Common.List, Common.◌∙◌, Common.ap, Common.length, Common.rules, lemmas.List.length-map}
 use Rattle.town.specs.Views.{setup}
-use Rattle.partition.specs.Homes.{home_of}
-use Rattle.partition.specs.Owned.{owner_in}
+use Rattle.partition.specs.{Homes.home_of, Owned.owner_in}
 use Rattle.part_persons.proofs.Beginning.{persons_of}
 use Rattle.parted_day.proofs.Dawning.{area_begins}
 use Rattle.parted_day.proofs.beginnings.begin.Goals as goal

@@ -1,5 +1,4 @@
-use Rattle.std.proofs.Common.{◌≡◌, []}
-use Rattle.std.specs.Prelude.{replicate}
+use Rattle.std.{proofs.Common.◌≡◌, proofs.Common.[], specs.Prelude.replicate}
 use Rattle.parted_day.proofs.beginnings.empty_lines.Given as goal
 
 abbrev pub invariant-loop-stop : goal.invariant-loop-stop

@@ -1,13 +1,10 @@
-use Rattle.std.proofs.Common.{ap, ◌∙◌, rules}
-use Rattle.std.specs.Prelude.{map, length, ◌==◌}
+use Rattle.std.{proofs.Common.ap, proofs.Common.◌∙◌, proofs.Common.rules, specs.Prelude.map, specs.Prelude.length, specs.Prelude.◌==◌}
 use Rattle.law_parts_of_days.proofs.Beginning.{links_of}
 use Rattle.partition.specs.Owned.{owner_in}
 use Rattle.parts.specs.Owners.{owner_of}
 use Rattle.town.specs.Views.{setup}
 use Rattle.part_places.specs.Taking.{begins_here}
-use Rattle.parted_day.proofs.Dawning.{network_begins}
-use Rattle.parted_day.proofs.Own.{are_links, begins_among}
-use Rattle.parted_day.specs.Empty.{empty_link}
+use Rattle.parted_day.{proofs.Dawning.network_begins, proofs.Own.are_links, proofs.Own.begins_among, specs.Empty.empty_link}
 use Rattle.parted_day.proofs.beginnings.empty_network.Goals as goal
 
 pub empty_links-requires : goal.empty_links-requires

@@ -1,14 +1,9 @@
 use Rattle.std.proofs.Common.{◌∙◌, ◌<◌, ◌+◌, ◌-◌, ◌++◌, ap, arith, sym, ℕ, List, length, get_or}
-use Rattle.std.specs.List.{flat_map}
-use Rattle.std.proofs.lemmas.List.{get_or_default}
-use Rattle.events.specs.declared.event.Event.{Event}
+use Rattle.std.{proofs.lemmas.List.get_or_default, specs.List.flat_map}
+use Rattle.events.specs.{Keys.phase_code, declared.event.Event.Event}
 use Rattle.events.specs.declared.event.Phase.TheVariants as phase
-use Rattle.events.specs.Keys.{phase_code}
 use Rattle.town.specs.Views.{setup}
-use Rattle.traffic.specs.declared.world.Person.{Person}
-use Rattle.traffic.specs.Lists.{below, numbers}
-use Rattle.traffic.specs.Rows.{nobody}
-use Rattle.traffic.specs.Day.{keyed}
+use Rattle.traffic.specs.{Day.keyed, Lists.below, Lists.numbers, Rows.nobody, declared.world.Person.Person}
 use Rattle.person_moves.proofs.Counting.{went_on, went_through}
 use Rattle.law_parts_of_days.specs.Riding.{stranded_on, told_on}
 use Rattle.parted_day.proofs.ends.push_ends.Goals as goal

@@ -1,5 +1,4 @@
-use Rattle.std.proofs.Common.{◌≡◌, ◌++◌, ◌-◌}
-use Rattle.std.specs.List.{flat_map}
+use Rattle.std.{proofs.Common.◌≡◌, proofs.Common.◌++◌, proofs.Common.◌-◌, specs.List.flat_map}
 use Rattle.town.specs.Views.{setup}
 use Rattle.traffic.specs.Lists.{below, numbers}
 use Rattle.law_parts_of_days.specs.Riding.{told_on}

@@ -1,6 +1,6 @@
 use Rattle.traffic.proofs.Common.{◌∙◌, ap, sym, PlanRows, plan_rows, act_in, leg_in, mode_of_leg, Act, Mode}
-use Rattle.town.specs.Views.{setup}
 use Rattle.traffic.specs.Persons.{stuck_on}
+use Rattle.town.specs.Views.{setup}
 use Rattle.parted_day.proofs.ends.stranded_on.Goals as goal
 
 pub returns : goal.returns

@@ -1,5 +1,4 @@
-use Rattle.std.proofs.Common.{◌≡◌, ◌++◌, length}
-use Rattle.std.specs.Prelude.{map}
+use Rattle.std.{proofs.Common.◌≡◌, proofs.Common.◌++◌, proofs.Common.length, specs.Prelude.map}
 use Rattle.calendar.specs.Due.{AreIn}
 use Rattle.town.specs.Views.{setup}
 use Rattle.parted_day.specs.Empty.{empty_link}

@@ -1,6 +1,5 @@
 use Rattle.std.proofs.Common.{ap}
-use Rattle.queue_link.specs.declared.numbers.LinkNumbers.{LinkNumbers}
-use Rattle.queue_link.specs.Links.{all_rows}
+use Rattle.queue_link.specs.{Links.all_rows, declared.numbers.LinkNumbers.LinkNumbers}
 use Rattle.parted_day.proofs.StrayRows.{row_put, rows_put}
 use Rattle.parted_day.proofs.riding.put_vehicles.Goals as goal
 

@@ -3,8 +3,7 @@ use Rattle.step_core.specs.declared.part.Border.{Border}
 use Rattle.divided_day.specs.Borders.{borders_of}
 use Rattle.partition.specs.Owned.{owner_in}
 use Rattle.town.specs.Views.{setup}
-use Rattle.parted_day.proofs.Lags.{none_early}
-use Rattle.parted_day.proofs.Kept.{none_more, one_more, same_right}
+use Rattle.parted_day.proofs.{Kept.none_more, Kept.one_more, Kept.same_right, Lags.none_early}
 use Rattle.parted_day.proofs.straying.keep_strays.Goals as goal
 
 pub returns-then-left-gt-MAX_LAG : goal.returns-then-left-gt-MAX_LAG

@@ -1,11 +1,6 @@
-use Rattle.std.proofs.Common.{List, ap, ◌∙◌, ◌++◌}
-use Rattle.std.specs.List.{flat_map}
-use Rattle.std.specs.Prelude.{map}
-use Rattle.part_seconds.specs.declared.contents.Moved.{Moved}
-use Rattle.part_seconds.specs.declared.contents.Teleported.{Teleported}
-use Rattle.part_seconds.specs.declared.contents.Contents.{Contents}
-use Rattle.parted_day.specs.Strays.{moved_strays, teleported_stray}
-use Rattle.parted_day.proofs.Pushed.{parcel_pushed}
+use Rattle.std.{proofs.Common.List, proofs.Common.ap, proofs.Common.◌∙◌, proofs.Common.◌++◌, specs.List.flat_map, specs.Prelude.map}
+use Rattle.part_seconds.specs.declared.contents.{Contents.Contents, Moved.Moved, Teleported.Teleported}
+use Rattle.parted_day.{proofs.Pushed.parcel_pushed, specs.Strays.moved_strays, specs.Strays.teleported_stray}
 use Rattle.parted_day.proofs.straying.push_contents.Goals as goal
 
 pub returns : goal.returns

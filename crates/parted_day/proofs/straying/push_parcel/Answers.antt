@@ -1,8 +1,6 @@
 use Rattle.std.proofs.Common.{◌≡◌, ◌++◌, subst}
-use Rattle.part_seconds.specs.declared.contents.Contents.{Contents}
-use Rattle.part_seconds.specs.Contents.{parcel_of}
-use Rattle.parted_day.specs.Strays.{strays_in}
-use Rattle.parted_day.proofs.Pushed.{nothing_pushed}
+use Rattle.part_seconds.specs.{Contents.parcel_of, declared.contents.Contents.Contents}
+use Rattle.parted_day.{proofs.Pushed.nothing_pushed, specs.Strays.strays_in}
 use Rattle.parted_day.proofs.straying.push_parcel.Goals as goal
 
 pub returns-in_default : goal.returns-in_default

@@ -1,5 +1,4 @@
-use Rattle.std.proofs.Common.{◌<◌, ◌≤◌, length, arith}
-use Rattle.std.specs.Prelude.{min, None}
+use Rattle.std.{proofs.Common.◌<◌, proofs.Common.◌≤◌, proofs.Common.length, proofs.Common.arith, specs.Prelude.min, specs.Prelude.None}
 use Rattle.traffic.specs.declared.riders.Rider.{Rider}
 use Rattle.parted_day.proofs.Pushed.{riders_next, riders_whole}
 use Rattle.parted_day.proofs.straying.push_riders.Goals as goal

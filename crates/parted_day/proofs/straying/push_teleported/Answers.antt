@@ -1,8 +1,6 @@
-use Rattle.std.proofs.Common.{get_or}
-use Rattle.std.proofs.lemmas.List.{get_or_default}
+use Rattle.std.proofs.{Common.get_or, lemmas.List.get_or_default}
 use Rattle.part_seconds.specs.declared.contents.Teleported.{Teleported}
-use Rattle.parted_day.specs.Strays.{teleported_stray}
-use Rattle.parted_day.proofs.Pushed.{map_pushed, map_whole}
+use Rattle.parted_day.{proofs.Pushed.map_pushed, proofs.Pushed.map_whole, specs.Strays.teleported_stray}
 use Rattle.parted_day.proofs.straying.push_teleported.Goals as goal
 
 pub loop-sent-preserved : goal.loop-sent-preserved

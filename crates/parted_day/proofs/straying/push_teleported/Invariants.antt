@@ -1,5 +1,4 @@
-use Rattle.std.proofs.Common.{◌≡◌, ◌++◌, drop}
-use Rattle.std.specs.Prelude.{map}
+use Rattle.std.{proofs.Common.◌≡◌, proofs.Common.◌++◌, proofs.Common.drop, specs.Prelude.map}
 use Rattle.parted_day.specs.Strays.{teleported_stray}
 use Rattle.parted_day.proofs.straying.push_teleported.Given as goal
 

@@ -1,5 +1,4 @@
-use Rattle.parted_day.specs.Strays.{moved_strays}
-use Rattle.parted_day.proofs.Pushed.{flat_pushed, flat_whole}
+use Rattle.parted_day.{proofs.Pushed.flat_pushed, proofs.Pushed.flat_whole, specs.Strays.moved_strays}
 use Rattle.parted_day.proofs.straying.push_vehicles.Goals as goal
 
 pub loop-moved-preserved : goal.loop-moved-preserved

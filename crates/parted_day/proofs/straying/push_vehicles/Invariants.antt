@@ -1,5 +1,4 @@
-use Rattle.std.proofs.Common.{◌≡◌, ◌++◌, drop}
-use Rattle.std.specs.List.{flat_map}
+use Rattle.std.{proofs.Common.◌≡◌, proofs.Common.◌++◌, proofs.Common.drop, specs.List.flat_map}
 use Rattle.parted_day.specs.Strays.{moved_strays}
 use Rattle.parted_day.proofs.straying.push_vehicles.Given as goal
 

@@ -1,15 +1,12 @@
 use Rattle.std.proofs.Common.{◌∙◌, List, ap, sym, length}
 use Rattle.partition.specs.Owned.{owner_in}
 use Rattle.town.specs.Views.{setup}
-use Rattle.law_in_range.specs.Setups.{counts_in}
-use Rattle.law_in_range.proofs.Days.{one_each}
+use Rattle.law_in_range.{proofs.Days.one_each, specs.Setups.counts_in}
 use Rattle.law_parts_of_days.proofs.Worlds.{fit_setup, sound_setup, consistent_setup}
 use Rattle.divided_day.specs.Days.{borders_in}
 use Rattle.step_core.specs.declared.part.Border.{Border}
 use Rattle.part_seconds.specs.declared.contents.Contents.{Contents}
-use Rattle.parted_day.proofs.Going.{next_stands}
-use Rattle.parted_day.proofs.Sending.{are_others, has_sent, sent_as}
-use Rattle.parted_day.proofs.Standing.{empty_has_nothing}
+use Rattle.parted_day.proofs.{Going.next_stands, Sending.are_others, Sending.has_sent, Sending.sent_as, Standing.empty_has_nothing}
 use Rattle.parted_day.proofs.turns.send_parcels.Goals as goal
 
 pub send-requires-clause-plans : goal.send-requires-clause-plans

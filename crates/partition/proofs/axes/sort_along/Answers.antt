@@ -1,5 +1,4 @@
-use Rattle.std.proofs.Common.{◌≡◌, rules}
-use Rattle.std.proofs.lemmas.Fn.{always_returns_same}
+use Rattle.std.proofs.{Common.◌≡◌, Common.rules, lemmas.Fn.always_returns_same}
 use Rattle.partition.proofs.Order.{spot_of, sorted_along}
 use Rattle.partition.proofs.axes.sort_along.Goals as goal
 

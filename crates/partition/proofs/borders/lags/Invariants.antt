@@ -1,7 +1,6 @@
 use Rattle.std.proofs.Common.{◌≡◌, take, map}
 use Rattle.town.specs.Views.{setup}
-use Rattle.partition.specs.Owned.{owner_in}
-use Rattle.partition.specs.Neighbours.{lags_of}
+use Rattle.partition.specs.{Neighbours.lags_of, Owned.owner_in}
 use Rattle.partition.proofs.borders.lags.Given as goal
 
 abbrev pub invariant-loop-pair : goal.invariant-loop-pair

@@ -1,8 +1,6 @@
-use Rattle.std.proofs.Common.{◌≡◌, ◌∙◌, sym, subst, true}
-use Rattle.std.specs.List.{list_all}
+use Rattle.std.{proofs.Common.◌≡◌, proofs.Common.◌∙◌, proofs.Common.sym, proofs.Common.subst, proofs.Common.true, specs.List.list_all}
 use Rattle.rows.specs.Networks.{is_link}
-use Rattle.partition.specs.Owned.{owner_in}
-use Rattle.partition.proofs.Ends.{lag_table}
+use Rattle.partition.{proofs.Ends.lag_table, specs.Owned.owner_in}
 use Rattle.partition.proofs.borders.lags_of_day.Goals as goal
 
 pub shorten_by_links-requires-clause-links : goal.shorten_by_links-requires-clause-links

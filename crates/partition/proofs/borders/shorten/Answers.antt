@@ -1,6 +1,5 @@
 use Rattle.std.proofs.Common.{sym, subst, set, min, get_or}
-use Rattle.partition.specs.Neighbours.{AreShorter, shortened}
-use Rattle.partition.proofs.Tables.{shortened_once}
+use Rattle.partition.{proofs.Tables.shortened_once, specs.Neighbours.AreShorter, specs.Neighbours.shortened}
 use Rattle.partition.proofs.borders.shorten.Goals as goal
 
 pub returns : goal.returns

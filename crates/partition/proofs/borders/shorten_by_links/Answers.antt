@@ -1,9 +1,7 @@
 use Rattle.std.proofs.Common.{arith}
-use Rattle.partition.specs.Owned.{owner_in}
-use Rattle.partition.specs.Neighbours.{hole_at, leads_over}
+use Rattle.partition.proofs.{Loops.link_shortened_at, Tables.shorter_none_both}
+use Rattle.partition.specs.{Neighbours.hole_at, Neighbours.leads_over, Owned.owner_in}
 use Rattle.travel_times.specs.Times.{free_of}
-use Rattle.partition.proofs.Tables.{shorter_none_both}
-use Rattle.partition.proofs.Loops.{link_shortened_at}
 use Rattle.partition.proofs.borders.shorten_by_links.Goals as goal
 
 pub loop-link-init : goal.loop-link-init

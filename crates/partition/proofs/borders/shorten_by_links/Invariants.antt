@@ -1,6 +1,5 @@
 use Rattle.std.proofs.Common.{◌≡◌, length, take}
-use Rattle.partition.specs.Owned.{owner_in}
-use Rattle.partition.specs.Neighbours.{AreShorter, shortest, hole_at, leads_over}
+use Rattle.partition.specs.{Neighbours.AreShorter, Neighbours.shortest, Neighbours.hole_at, Neighbours.leads_over, Owned.owner_in}
 use Rattle.travel_times.specs.Times.{free_of}
 use Rattle.partition.proofs.borders.shorten_by_links.Given as goal
 

@@ -1,9 +1,7 @@
-use Rattle.std.proofs.Common.{◌≡◌, length}
-use Rattle.std.specs.List.{flat_map}
+use Rattle.std.{proofs.Common.◌≡◌, proofs.Common.length, specs.List.flat_map}
 use Rattle.traffic.specs.Lists.{below}
 use Rattle.rows.specs.PlanRows.{plan_rows}
-use Rattle.partition.specs.Owned.{owner_in}
-use Rattle.partition.specs.Neighbours.{AreShorter, shortest, seconds_of_hop, hop_leads_over, hop_in}
+use Rattle.partition.specs.{Neighbours.AreShorter, Neighbours.shortest, Neighbours.seconds_of_hop, Neighbours.hop_leads_over, Neighbours.hop_in, Owned.owner_in}
 use Rattle.partition.proofs.borders.shorten_by_plan.Given as goal
 
 abbrev pub invariant-loop-leg : goal.invariant-loop-leg

@@ -1,8 +1,6 @@
 use Rattle.std.proofs.Common.{arith}
-use Rattle.partition.specs.Owned.{owner_in}
-use Rattle.partition.specs.Neighbours.{seconds_of_hop, hop_leads_over}
-use Rattle.partition.proofs.Tables.{shorter_none}
-use Rattle.partition.proofs.Loops.{plan_shortened}
+use Rattle.partition.proofs.{Loops.plan_shortened, Tables.shorter_none}
+use Rattle.partition.specs.{Neighbours.seconds_of_hop, Neighbours.hop_leads_over, Owned.owner_in}
 use Rattle.partition.proofs.borders.shorten_by_plans.Goals as goal
 
 pub loop-plan-init : goal.loop-plan-init

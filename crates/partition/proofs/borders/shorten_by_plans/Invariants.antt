@@ -1,5 +1,4 @@
-use Rattle.std.proofs.Common.{◌≡◌, length, take, map}
-use Rattle.std.specs.List.{flat_map}
+use Rattle.std.{proofs.Common.◌≡◌, proofs.Common.length, proofs.Common.take, proofs.Common.map, specs.List.flat_map}
 use Rattle.rows.specs.PlanRows.{plan_rows}
 use Rattle.partition.specs.Owned.{owner_in}
 use Rattle.partition.specs.Neighbours.{AreShorter, shortest, seconds_of_hop, hop_leads_over, hops_in}

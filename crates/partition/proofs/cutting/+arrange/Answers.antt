@@ -1,6 +1,5 @@
 use Rattle.std.proofs.Common.{◌∙◌, ◌+◌, ◌-◌, ◌/◌, arith, sym, ap, subst, length}
-use Rattle.std.specs.List.{AllByRecursion as Each}
-use Rattle.std.proofs.lemmas.List.Sorted.{length_permutation}
+use Rattle.std.{proofs.lemmas.List.Sorted.length_permutation, specs.List.AllByRecursion as Each}
 use Rattle.partition.specs.Cuts.{nodes_before, is_sorted_at}
 use Rattle.partition.proofs.Arranged.{no_cuts, rest_share, halves_turned, arranged_from}
 use Rattle.partition.proofs.cutting.+arrange.Goals as goal

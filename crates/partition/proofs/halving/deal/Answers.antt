@@ -1,9 +1,6 @@
 use Rattle.std.proofs.Common.{◌≡◌, ◌∙◌, ◌<◌, arith, refl, sym, subst, length, get_or, set}
-use Rattle.std.proofs.lemmas.List.{length-set}
-use Rattle.std.proofs.lemmas.List.Elements.{All-get_or}
-use Rattle.partition.specs.Owned.{owner_in}
-use Rattle.partition.specs.Halves.{partition_at}
-use Rattle.partition.proofs.Dealt.{places_inside, dealt_more}
+use Rattle.std.proofs.lemmas.List.{length-set, Elements.All-get_or}
+use Rattle.partition.{proofs.Dealt.places_inside, proofs.Dealt.dealt_more, specs.Halves.partition_at, specs.Owned.owner_in}
 use Rattle.partition.proofs.halving.deal.Goals as goal
 
 pub index_mut-requires : goal.index_mut-requires

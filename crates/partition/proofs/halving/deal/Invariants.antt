@@ -1,6 +1,5 @@
 use Rattle.std.proofs.Common.{◌≡◌, ℕ, ◌<◌, length, get_or}
-use Rattle.partition.specs.Owned.{owner_in}
-use Rattle.partition.specs.Halves.{partition_at}
+use Rattle.partition.specs.{Halves.partition_at, Owned.owner_in}
 use Rattle.partition.proofs.halving.deal.Given as goal
 
 abbrev pub invariant-loop-place : goal.invariant-loop-place

@@ -1,7 +1,6 @@
 use Rattle.std.proofs.Common.{◌≡◌, ◌∙◌, arith, refl, sym, ap, subst, length}
+use Rattle.std.{proofs.lemmas.List.Sorted.length_permutation, specs.List.Sorted.IsPermutation}
 use Rattle.traffic.specs.Lists.{below}
-use Rattle.std.specs.List.Sorted.{IsPermutation}
-use Rattle.std.proofs.lemmas.List.Sorted.{length_permutation}
 use Rattle.partition.specs.Halves.{IsHalved}
 use Rattle.partition.proofs.Dealt.{length-below, whole_share, written_back, dealt_from, all_owned, halved}
 use Rattle.partition.proofs.halving.halve.Goals as goal

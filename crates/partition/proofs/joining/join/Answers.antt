@@ -1,6 +1,5 @@
 use Rattle.std.proofs.Common.{sym, subst, set, true}
-use Rattle.partition.specs.Neighbours.{AreJoined, is_either, place_of}
-use Rattle.partition.proofs.Tables.{joined_once}
+use Rattle.partition.{proofs.Tables.joined_once, specs.Neighbours.AreJoined, specs.Neighbours.is_either, specs.Neighbours.place_of}
 use Rattle.partition.proofs.joining.join.Goals as goal
 
 pub returns : goal.returns

@@ -1,7 +1,5 @@
-use Rattle.std.proofs.Common.{◌≡◌, length, take}
-use Rattle.std.specs.List.{list_any}
-use Rattle.partition.specs.Owned.{owner_in}
-use Rattle.partition.specs.Neighbours.{AreJoined, is_over}
+use Rattle.std.{proofs.Common.◌≡◌, proofs.Common.length, proofs.Common.take, specs.List.list_any}
+use Rattle.partition.specs.{Neighbours.AreJoined, Neighbours.is_over, Owned.owner_in}
 use Rattle.partition.proofs.joining.join_by_links.Given as goal
 
 abbrev pub invariant-loop-link : goal.invariant-loop-link

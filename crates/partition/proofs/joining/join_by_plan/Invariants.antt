@@ -1,9 +1,7 @@
-use Rattle.std.proofs.Common.{◌≡◌, length}
-use Rattle.std.specs.List.{list_any, flat_map}
+use Rattle.std.{proofs.Common.◌≡◌, proofs.Common.length, specs.List.list_any, specs.List.flat_map}
 use Rattle.traffic.specs.Lists.{below}
 use Rattle.rows.specs.PlanRows.{plan_rows}
-use Rattle.partition.specs.Owned.{owner_in}
-use Rattle.partition.specs.Neighbours.{AreJoined, is_hop_over, hop_in}
+use Rattle.partition.specs.{Neighbours.AreJoined, Neighbours.is_hop_over, Neighbours.hop_in, Owned.owner_in}
 use Rattle.partition.proofs.joining.join_by_plan.Given as goal
 
 abbrev pub invariant-loop-leg : goal.invariant-loop-leg

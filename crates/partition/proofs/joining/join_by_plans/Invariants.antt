@@ -1,8 +1,6 @@
-use Rattle.std.proofs.Common.{◌≡◌, length, take, map}
-use Rattle.std.specs.List.{list_any, flat_map}
+use Rattle.std.{proofs.Common.◌≡◌, proofs.Common.length, proofs.Common.take, proofs.Common.map, specs.List.list_any, specs.List.flat_map}
 use Rattle.rows.specs.PlanRows.{plan_rows}
-use Rattle.partition.specs.Owned.{owner_in}
-use Rattle.partition.specs.Neighbours.{AreJoined, is_hop_over, hops_in}
+use Rattle.partition.specs.{Neighbours.AreJoined, Neighbours.is_hop_over, Neighbours.hops_in, Owned.owner_in}
 use Rattle.partition.proofs.joining.join_by_plans.Given as goal
 
 abbrev pub invariant-loop-plan : goal.invariant-loop-plan

@@ -1,6 +1,5 @@
 use Rattle.std.proofs.Common.{◌∙◌}
-use Rattle.partition.specs.Owned.{owner_in}
-use Rattle.partition.proofs.Ends.{joined_table}
+use Rattle.partition.{proofs.Ends.joined_table, specs.Owned.owner_in}
 use Rattle.partition.proofs.joining.joined_by_day.Goals as goal
 
 pub returns : goal.returns

@@ -1,9 +1,6 @@
-use Rattle.std.proofs.Common.{◌≡◌, ◌++◌, arith, subst}
-use Rattle.std.specs.Prelude.{filter}
+use Rattle.std.{proofs.Common.◌≡◌, proofs.Common.◌++◌, proofs.Common.arith, proofs.Common.subst, specs.Prelude.filter}
 use Rattle.town.specs.Views.{setup}
-use Rattle.partition.specs.Owned.{owner_in}
-use Rattle.partition.specs.Neighbours.{is_joined, pairs_from}
-use Rattle.partition.proofs.Pairs.{pairs_more, pairs_are}
+use Rattle.partition.{proofs.Pairs.pairs_more, proofs.Pairs.pairs_are, specs.Neighbours.is_joined, specs.Neighbours.pairs_from, specs.Owned.owner_in}
 use Rattle.partition.proofs.joining.neighbours.Goals as goal
 
 pub loop-lesser-preserved : goal.loop-lesser-preserved

@@ -1,6 +1,4 @@
-use Rattle.std.proofs.Common.{◌≡◌}
-use Rattle.std.specs.Prelude.{filter}
-use Rattle.std.specs.List.{flat_map}
+use Rattle.std.{proofs.Common.◌≡◌, specs.List.flat_map, specs.Prelude.filter}
 use Rattle.traffic.specs.Lists.{below}
 use Rattle.partition.specs.Neighbours.{is_joined, pairs_from}
 use Rattle.partition.proofs.joining.neighbours.Given as goal

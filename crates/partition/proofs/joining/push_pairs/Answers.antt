@@ -1,9 +1,8 @@
 use Rattle.std.proofs.Common.{◌≡◌, ◌∙◌, ◌++◌, ◌+◌, sym, ap, subst, get_or, false}
 use Rattle.std.specs.Prelude.{filter}
-use Rattle.partition.specs.Neighbours.{is_joined, pairs_from}
-use Rattle.partition.proofs.Pairs.{rest_of, pair_taken, pair_passed}
+use Rattle.partition.proofs.{Pairs.rest_of, Pairs.pair_taken, Pairs.pair_passed, joining.push_pairs.Goals.then-joined-place_of+in_ok-push}
+use Rattle.partition.{proofs.joining.push_pairs.Goals.else-joined-place_of, specs.Neighbours.is_joined, specs.Neighbours.pairs_from}
 use Rattle.partition.proofs.joining.push_pairs.Goals as goal
-use Rattle.partition.proofs.joining.push_pairs.Goals.{then-joined-place_of+in_ok-push, else-joined-place_of}
 
 pub loop-greater-preserved : goal.loop-greater-preserved
 loop-greater-preserved c =

@@ -1,5 +1,4 @@
-use Rattle.std.proofs.Common.{◌≡◌, ◌++◌, ◌-◌, ◌+◌, map}
-use Rattle.std.specs.Prelude.{filter}
+use Rattle.std.{proofs.Common.◌≡◌, proofs.Common.◌++◌, proofs.Common.◌-◌, proofs.Common.◌+◌, proofs.Common.map, specs.Prelude.filter}
 use Rattle.traffic.specs.Lists.{numbers}
 use Rattle.partition.specs.Neighbours.{is_joined, pair, pairs_from}
 use Rattle.partition.proofs.joining.push_pairs.Given as goal

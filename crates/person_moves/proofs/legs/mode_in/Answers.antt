@@ -1,6 +1,5 @@
 use Rattle.traffic.proofs.Common.{◌∙◌, ap, leg_in, plan_rows}
-use Rattle.person_moves.specs.Legs.{mode_of_kind}
-use Rattle.person_moves.proofs.PersonPlans.{mode_is}
+use Rattle.person_moves.{proofs.PersonPlans.mode_is, specs.Legs.mode_of_kind}
 use Rattle.person_moves.proofs.legs.mode_in.Goals as goal
 
 pub returns : goal.returns

@@ -1,6 +1,5 @@
 use Rattle.town.specs.Views.{setup}
-use Rattle.person_moves.proofs.PersonPlans.{leaving_is}
-use Rattle.person_moves.proofs.Leaving.{can_leave, fits_at}
+use Rattle.person_moves.proofs.{Leaving.can_leave, Leaving.fits_at, PersonPlans.leaving_is}
 use Rattle.person_moves.proofs.persons.leaving_moves.Goals as goal
 
 pub leaving-requires-clause-leg : goal.leaving-requires-clause-leg

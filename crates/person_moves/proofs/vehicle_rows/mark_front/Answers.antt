@@ -1,5 +1,4 @@
-use Rattle.traffic.proofs.Common.{ap, get_or, at_second, on}
-use Rattle.traffic.specs.declared.stage.Stage.TheVariants.{Buffer}
+use Rattle.traffic.{proofs.Common.ap, proofs.Common.get_or, proofs.Common.at_second, proofs.Common.on, specs.declared.stage.Stage.TheVariants.Buffer}
 use Rattle.person_moves.proofs.Removals.{first_done, none_done}
 use Rattle.person_moves.proofs.vehicle_rows.mark_front.Goals as goal
 

@@ -1,7 +1,5 @@
 use Rattle.std.proofs.Common.{◌∙◌, ap, arith, length, subst}
-use Rattle.event_pipe.specs.declared.gathering.Gathered.{Gathered}
-use Rattle.event_pipe.specs.Pieces.{label}
-use Rattle.event_pipe.specs.Pipes.{Gathers}
+use Rattle.event_pipe.specs.{Pieces.label, Pipes.Gathers, declared.gathering.Gathered.Gathered}
 use Rattle.pipe_tests.proofs.Firsts.{first_length}
 use Rattle.pipe_tests.proofs.promises.first_count.Goals as goal
 

@@ -1,7 +1,6 @@
 use Rattle.std.proofs.Common.{rules}
 use Rattle.town.specs.Views.{setup}
-use Rattle.law_in_range.proofs.Phasing.{world_more, events_more}
-use Rattle.law_in_range.proofs.Dawn.{world_none, events_none}
+use Rattle.law_in_range.proofs.{Dawn.world_none, Dawn.events_none, Phasing.world_more, Phasing.events_more}
 use Rattle.plain_day.proofs.days.all_seconds.Goals as goal
 
 pub loop-t-init : goal.loop-t-init

@@ -1,6 +1,5 @@
 use Rattle.traffic.proofs.Common.{◌≡◌, world_from, events_from}
-use Rattle.law_in_range.specs.Rows.{IsFitWorld}
-use Rattle.law_in_range.specs.Setups.{counts_in}
+use Rattle.law_in_range.specs.{Rows.IsFitWorld, Setups.counts_in}
 use Rattle.town.specs.Views.{setup}
 use Rattle.plain_day.proofs.days.all_seconds.Given as goal
 

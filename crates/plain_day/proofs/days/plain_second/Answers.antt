@@ -1,5 +1,4 @@
-use Rattle.law_in_range.proofs.Towns.{town_sound_fit}
-use Rattle.law_in_range.proofs.Days.{chosen_fit}
+use Rattle.law_in_range.proofs.{Days.chosen_fit, Towns.town_sound_fit}
 use Rattle.plain_day.proofs.days.plain_second.Goals as goal
 
 pub fit_second-requires-clause-fit : goal.fit_second-requires-clause-fit

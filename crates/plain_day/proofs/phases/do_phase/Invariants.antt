@@ -1,6 +1,4 @@
-use Rattle.law_in_range.proofs.Phasing.{Going}
-use Rattle.law_in_range.specs.Rows.{IsFitWorld}
-use Rattle.law_in_range.specs.Setups.{counts_in}
+use Rattle.law_in_range.{proofs.Phasing.Going, specs.Rows.IsFitWorld, specs.Setups.counts_in}
 use Rattle.town.specs.Views.{setup}
 use Rattle.traffic.specs.Day.{count_of}
 use Rattle.plain_day.proofs.phases.do_phase.Given as goal

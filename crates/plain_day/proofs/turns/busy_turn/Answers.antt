@@ -2,8 +2,7 @@ use Rattle.std.proofs.Common.{ap, ◌∙◌}
 use Rattle.law_in_range.specs.Setups.{counts_in}
 use Rattle.town.specs.Views.{setup}
 use Rattle.plain_turns.specs.LinkState.{link_state_of}
-use Rattle.plain_day.proofs.LinkTurns.{turn_is}
-use Rattle.plain_day.proofs.Fitting.{state_small}
+use Rattle.plain_day.proofs.{Fitting.state_small, LinkTurns.turn_is}
 use Rattle.plain_day.proofs.turns.busy_turn.Goals as goal
 
 pub link_moves-requires-clause-small : goal.link_moves-requires-clause-small

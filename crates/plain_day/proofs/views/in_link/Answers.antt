@@ -1,7 +1,6 @@
 use Rattle.traffic.proofs.Common.{◌∙◌, ap, World}
 use Rattle.law_in_range.specs.Setups.{counts_in}
-use Rattle.plain_day.proofs.Seen.{in_link_is}
-use Rattle.plain_day.proofs.Fitting.{going_at}
+use Rattle.plain_day.proofs.{Fitting.going_at, Seen.in_link_is}
 use Rattle.plain_day.proofs.views.in_link.Goals as goal
 
 pub returns-clause-value : goal.returns-clause-value

@@ -1,11 +1,9 @@
 use Rattle.traffic.proofs.Common.{◌∙◌, ap, sym, map, filter, below, in_link}
 use Rattle.plain_turns.specs.OutLinks.{AreInLinks}
 use Rattle.town.specs.Views.{setup}
+use Rattle.plain_day.proofs.{Fitting.in_links_push, Seen.into_is, views.in_links.Goals.then-is_in+in_ok-seen+in_ok-push, views.in_links.Goals.else-is_in}
 use Rattle.plain_day.specs.Views.{is_in}
 use Rattle.person_moves.proofs.Counting.{seen_none, seen_more, seen_past, went_all}
-use Rattle.plain_day.proofs.Fitting.{in_links_push}
-use Rattle.plain_day.proofs.Seen.{into_is}
-use Rattle.plain_day.proofs.views.in_links.Goals.{then-is_in+in_ok-seen+in_ok-push, else-is_in}
 use Rattle.plain_day.proofs.views.in_links.Goals as goal
 
 pub loop-link-init : goal.loop-link-init

@@ -1,6 +1,5 @@
-use Rattle.traffic.proofs.Common.{◌≡◌, ◌++◌, drop, pass_node, out_links_after}
+use Rattle.traffic.{proofs.Common.◌≡◌, proofs.Common.◌++◌, proofs.Common.drop, proofs.Common.pass_node, proofs.Common.out_links_after, specs.Nodes.HaveNext}
 use Rattle.plain_turns.specs.OutLinks.{out_links_in, AreNear}
-use Rattle.traffic.specs.Nodes.{HaveNext}
 use Rattle.plain_turns.proofs.nodes.push_pass_node.Given as goal
 
 abbrev pub invariant-loop-row : goal.invariant-loop-row

@@ -1,6 +1,5 @@
 use Rattle.draws.specs.Words.{word}
-use Rattle.plain_turns.specs.OutLinks.{out_links_in}
-use Rattle.plain_turns.proofs.Drawing.{pick_step}
+use Rattle.plain_turns.{proofs.Drawing.pick_step, specs.OutLinks.out_links_in}
 use Rattle.plain_turns.proofs.nodes.push_pick.Goals as goal
 
 pub returns-clause-step : goal.returns-clause-step

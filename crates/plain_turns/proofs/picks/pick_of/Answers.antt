@@ -1,5 +1,4 @@
-use Rattle.traffic.proofs.Common.{◌≡◌, ap, arith, sum, map}
-use Rattle.traffic.specs.Nodes.{weight_of}
+use Rattle.traffic.{proofs.Common.◌≡◌, proofs.Common.ap, proofs.Common.arith, proofs.Common.sum, proofs.Common.map, specs.Nodes.weight_of}
 use Rattle.plain_turns.proofs.Drawing.{sum_least, sum_most}
 use Rattle.plain_turns.proofs.picks.pick_of.Goals as goal
 

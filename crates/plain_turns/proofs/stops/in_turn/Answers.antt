@@ -1,6 +1,5 @@
 use Rattle.traffic.proofs.Common.{◌≡◌, sym, IsSortedByKey, IsStableByKey, reverse}
-use Rattle.std.proofs.Common.{rules}
-use Rattle.std.proofs.lemmas.Fn.{always_returns_same}
+use Rattle.std.proofs.{Common.rules, lemmas.Fn.always_returns_same}
 use Rattle.plain_turns.proofs.Sorting.{key_of, key_cmp, sorted_in_turn}
 use Rattle.plain_turns.proofs.stops.in_turn.Goals as goal
 

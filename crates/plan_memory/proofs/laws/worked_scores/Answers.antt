@@ -1,6 +1,5 @@
 use Rattle.std.proofs.Common.{refl}
-use Rattle.plan_memory.specs.Scores.{is_lowest, is_highest, worst, best}
-use Rattle.plan_memory.specs.Choices.{logit_weights}
+use Rattle.plan_memory.specs.{Choices.logit_weights, Scores.is_lowest, Scores.is_highest, Scores.worst, Scores.best}
 use Rattle.plan_memory.proofs.laws.worked_scores.Goals as goal
 
 pub returns-clause-first : goal.returns-clause-first

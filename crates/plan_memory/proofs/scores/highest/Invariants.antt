@@ -1,5 +1,4 @@
-use Rattle.std.proofs.Common.{◌≡◌, length}
-use Rattle.std.specs.Prelude.{fold}
+use Rattle.std.{proofs.Common.◌≡◌, proofs.Common.length, specs.Prelude.fold}
 use Rattle.plan_memory.specs.Scores.{higher, highest}
 use Rattle.plan_memory.proofs.scores.highest.Given as goal
 

@@ -1,8 +1,6 @@
 use Rattle.std.proofs.Common.{ap, ◌++◌, ◌∙◌}
-use Rattle.rows.specs.declared.plan.Plan.{Plan}
-use Rattle.rows.specs.PlanRows.{plan_rows}
-use Rattle.plan_text.specs.Lines.{plan_lines}
-use Rattle.plan_text.proofs.PlanFiles.{own-more}
+use Rattle.rows.specs.{PlanRows.plan_rows, declared.plan.Plan.Plan}
+use Rattle.plan_text.{proofs.PlanFiles.own-more, specs.Lines.plan_lines}
 use Rattle.plan_text.proofs.files.push_own.Goals as goal
 
 pub loop-index-preserved : goal.loop-index-preserved

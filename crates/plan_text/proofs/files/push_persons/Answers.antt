@@ -1,8 +1,6 @@
 use Rattle.std.proofs.Common.{◌≡◌, ◌<◌, true, length, map, List, sym, ap, subst, ◌++◌, ◌∙◌, arith}
-use Rattle.rows.specs.declared.plan.Plan.{Plan}
-use Rattle.rows.specs.PlanRows.{plan_rows}
-use Rattle.plan_text.specs.Lines.{own_lines, are_own_in}
-use Rattle.plan_text.proofs.PlanFiles.{persons-more, person_at}
+use Rattle.rows.specs.{PlanRows.plan_rows, declared.plan.Plan.Plan}
+use Rattle.plan_text.{proofs.PlanFiles.persons-more, proofs.PlanFiles.person_at, specs.Lines.own_lines, specs.Lines.are_own_in}
 use Rattle.plan_text.proofs.files.push_persons.Goals as goal
 
 pub push_list-requires-clause-named : goal.push_list-requires-clause-named

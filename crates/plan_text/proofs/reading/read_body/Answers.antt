@@ -1,7 +1,6 @@
 use Rattle.std.proofs.Common.{◌∙◌, ◌++◌, List, ℕ, ap, Some}
 use Rattle.rows.specs.PlanRows.{PlanRows}
-use Rattle.plan_text.specs.Lines.{element_lines}
-use Rattle.plan_text.proofs.Whole.{only_plan, fits_too, lines_too, same_bytes}
+use Rattle.plan_text.{proofs.Whole.only_plan, proofs.Whole.fits_too, proofs.Whole.lines_too, proofs.Whole.same_bytes, specs.Lines.element_lines}
 use Rattle.plan_text.proofs.reading.read_body.Goals as goal
 
 pub returns-then-not-is_plan_in-clause-read : goal.returns-then-not-is_plan_in-clause-read

@@ -1,12 +1,12 @@
 use Rattle.std.proofs.Common.{rules}
-use Rattle.plans.specs.Read.{progress_of}
-use Rattle.plans.proofs.Answering.{next_told, next_able, next_read}
+use Rattle.plans.{proofs.Answering.next_told, proofs.Answering.next_able, proofs.Answering.next_read, specs.Read.progress_of}
 use Rattle.plans.proofs.file.next_row.Goals as goal
 
 pub returns-in-Some : goal.returns-in-Some
 returns-in-Some c =
-    next_told c.args.links.now c.args.ends.now c.args.rows.now c.args.place (progress_of c.args.read) c.index-rows-place.result c.len-legs.result _ _ c.in-Some.reason c.fault.result
-    c.requires.read c.requires.within c.index-rows-place.is (search rules) c.row_before-before.ensures c.row_behind.ensures c.in-Some.ensures c.fault.ensures
+    next_told c.args.links.now c.args.ends.now c.args.rows.now c.args.place (progress_of c.args.read) c.index-rows-place.result c.len-legs.result _ _
+    c.requires.read c.requires.within c.index-rows-place.is (search rules) c.row_before-before.ensures c.row_behind.ensures _ _ c.in-Some.ensures
+    c.fault.ensures
 
 pub with_row-requires-clause-able : goal.with_row-requires-clause-able
 with_row-requires-clause-able c =

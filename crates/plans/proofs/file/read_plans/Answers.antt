@@ -1,6 +1,5 @@
 use Rattle.records.proofs.Common.{◌≡◌, List, ap, length, ◌∙◌, arith, map, drop, length-map, fields_of, ByteRecord, Row, rows_of}
-use Rattle.plans.specs.Kinds.{plans_header}
-use Rattle.plans.proofs.Whole.{body_some, body_is, answers_rows, answers_stop}
+use Rattle.plans.{proofs.Whole.body_some, proofs.Whole.body_is, proofs.Whole.answers_rows, proofs.Whole.answers_stop, specs.Kinds.plans_header}
 use Rattle.plans.proofs.file.read_plans.Goals as goal
 
 pub read_rows-requires-clause-some : goal.read_rows-requires-clause-some

@@ -1,6 +1,5 @@
 use Rattle.records.proofs.Common.{map, fields_of}
-use Rattle.plans.specs.Progress.{IsReadTo}
-use Rattle.plans.specs.Read.{progress_of}
+use Rattle.plans.specs.{Progress.IsReadTo, Read.progress_of}
 use Rattle.plans.proofs.file.read_rows.Given as goal
 
 -- the rows before the place are read

@@ -1,7 +1,5 @@
-use Rattle.qsim_top.specs.Laws.{day_of}
 use Rattle.qsim_top.proofs.Lawful.{lawful, files_follow, files_go, files_keep}
-use Rattle.qsim_top.proofs.Resumes.{files_resume}
-use Rattle.qsim_top.proofs.Routed.{files_report}
+use Rattle.qsim_top.{proofs.Resumes.files_resume, proofs.Routed.files_report, specs.Laws.day_of}
 use Rattle.qsim_top.proofs.laws.know_days.Goals as goal
 
 pub returns-clause-lawful : goal.returns-clause-lawful

@@ -1,11 +1,8 @@
 use Rattle.std.proofs.Common.{None, Some}
 use Rattle.scenario.specs.Views.{scenario_view}
 use Rattle.qsim_top.specs.declared.answers.Status.TheVariants as status
-use Rattle.qsim_top.specs.Answer.{report}
-use Rattle.qsim_top.specs.Held.{held_view}
-use Rattle.qsim_top.specs.Texts.{nothing_kept_line}
-use Rattle.qsim_top.proofs.Ending.{told_same}
-use Rattle.qsim_top.proofs.Resumed.{held_as, nothing_resumed, worked_behind, keeper_failed, keeper_wanting}
+use Rattle.qsim_top.proofs.{Ending.told_same, Resumed.held_as, Resumed.nothing_resumed, Resumed.worked_behind, Resumed.keeper_failed, Resumed.keeper_wanting}
+use Rattle.qsim_top.specs.{Answer.report, Held.held_view, Texts.nothing_kept_line}
 use Rattle.qsim_top.proofs.resuming.resume.Goals as goal
 
 pub returns-in-Ok-Some : goal.returns-in-Ok-Some

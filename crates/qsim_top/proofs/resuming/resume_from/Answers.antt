@@ -3,11 +3,8 @@ use Rattle.edge_files.specs.declared.keeping.KeptRow.{KeptRow}
 use Rattle.keep.specs.Fitting.{IsForeignAt}
 use Rattle.scenario.specs.Views.{scenario_view}
 use Rattle.qsim_top.specs.declared.answers.Status.TheVariants as status
-use Rattle.qsim_top.specs.Answer.{report}
-use Rattle.qsim_top.specs.Held.{held_view}
-use Rattle.qsim_top.specs.Texts.{foreign_line}
-use Rattle.qsim_top.proofs.Ending.{told_same}
-use Rattle.qsim_top.proofs.Resumed.{resumed_by, foreign_by, foreign_read, wanting_resumed}
+use Rattle.qsim_top.proofs.{Ending.told_same, Resumed.resumed_by, Resumed.foreign_by, Resumed.foreign_read, Resumed.wanting_resumed}
+use Rattle.qsim_top.specs.{Answer.report, Held.held_view, Texts.foreign_line}
 use Rattle.qsim_top.proofs.resuming.resume_from.Goals as goal
 
 pub returns-in-Ok : goal.returns-in-Ok

@@ -2,9 +2,7 @@ use Rattle.std.proofs.Common.{List, true, refl, sym, subst}
 use Rattle.plan_memory.specs.Memories.{MemoryRows}
 use Rattle.scenario.specs.Views.{scenario_view}
 use Rattle.iterations.specs.Runs.{CanRun}
-use Rattle.qsim_top.specs.Answer.{run_rows_of, resumed_answer}
-use Rattle.qsim_top.proofs.Ending.{ended_as}
-use Rattle.qsim_top.proofs.Resumed.{can_go_on}
+use Rattle.qsim_top.{proofs.Ending.ended_as, proofs.Resumed.can_go_on, specs.Answer.run_rows_of, specs.Answer.resumed_answer}
 use Rattle.qsim_top.proofs.running.go_on.Goals as goal
 
 pub iterate-outcome-requires-after_bounds : goal.iterate-outcome-requires-after_bounds

@@ -1,7 +1,6 @@
 use Rattle.std.proofs.Common.{true, refl}
 use Rattle.scenario.specs.Views.{scenario_view}
-use Rattle.qsim_top.specs.Answer.{run_answer}
-use Rattle.qsim_top.proofs.Ending.{ended_as}
+use Rattle.qsim_top.{proofs.Ending.ended_as, specs.Answer.run_answer}
 use Rattle.qsim_top.proofs.running.run.Goals as goal
 
 pub returns : goal.returns

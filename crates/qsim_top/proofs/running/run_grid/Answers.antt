@@ -1,6 +1,5 @@
 use Rattle.scenario.specs.Views.{scenario_view}
-use Rattle.qsim_top.specs.Texts.{grid_line}
-use Rattle.qsim_top.proofs.Grids.{grid_done, grid_failed}
+use Rattle.qsim_top.{proofs.Grids.grid_done, proofs.Grids.grid_failed, specs.Texts.grid_line}
 use Rattle.qsim_top.proofs.running.run_grid.Goals as goal
 
 pub returns-in-Ok-clause-done : goal.returns-in-Ok-clause-done

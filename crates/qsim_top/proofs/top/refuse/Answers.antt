@@ -1,7 +1,5 @@
 use Rattle.qsim_top.specs.declared.answers.Status.TheVariants as status
-use Rattle.qsim_top.specs.Answer.{report}
-use Rattle.qsim_top.specs.Texts.{refused_line}
-use Rattle.qsim_top.proofs.Ending.{told_same}
+use Rattle.qsim_top.{proofs.Ending.told_same, specs.Answer.report, specs.Texts.refused_line}
 use Rattle.qsim_top.proofs.top.refuse.Goals as goal
 
 pub returns-clause-done : goal.returns-clause-done

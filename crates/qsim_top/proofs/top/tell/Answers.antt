@@ -1,9 +1,7 @@
 use Rattle.std.specs.Prelude.{IfOk}
 use Rattle.std.proofs.Common.{◌≡◌, ℕ, List, Vec, Global, string_bytes, ap, refl, subst}
-use Rattle.qsim_top.specs.declared.answers.Answer.{Answer}
+use Rattle.qsim_top.{proofs.Ending.not_of_words, specs.Answer.report, specs.declared.answers.Answer.Answer}
 use Rattle.qsim_top.specs.declared.answers.Status.TheVariants as status
-use Rattle.qsim_top.specs.Answer.{report}
-use Rattle.qsim_top.proofs.Ending.{not_of_words}
 use Rattle.qsim_top.proofs.top.tell.Goals as goal
 
 pub returns-clause-done : goal.returns-clause-done

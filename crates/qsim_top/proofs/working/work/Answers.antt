@@ -2,10 +2,8 @@ use Rattle.std.proofs.Common.{refl}
 use Rattle.command_line.specs.declared.commands.Command.TheVariants as command
 use Rattle.scenario.specs.Views.{scenario_view}
 use Rattle.qsim_top.specs.declared.answers.Status.TheVariants as status
-use Rattle.qsim_top.specs.Answer.{report, route_answer}
-use Rattle.qsim_top.specs.Texts.{valid_line}
-use Rattle.qsim_top.proofs.Ending.{told_same}
-use Rattle.qsim_top.proofs.Worked.{work_of, run_worked, check_worked, route_worked, grid_worked, uses_it}
+use Rattle.qsim_top.proofs.{Ending.told_same, Worked.work_of, Worked.run_worked, Worked.check_worked, Worked.route_worked, Worked.grid_worked, Worked.uses_it}
+use Rattle.qsim_top.specs.{Answer.report, Answer.route_answer, Texts.valid_line}
 use Rattle.qsim_top.proofs.working.work.Goals as goal
 
 pub returns-in-Run-clause-done : goal.returns-in-Run-clause-done

@@ -1,13 +1,7 @@
 use Rattle.std.proofs.Common.{◌≡◌, List, ◌++◌, ◌∷◌, [], true, ap, sym, ◌∙◌}
-use Rattle.std.specs.Prelude.{map, filter}
-use Rattle.std.proofs.lemmas.Bool.{le-leb}
-use Rattle.std.specs.List.{flat_map}
-use Rattle.std.proofs.lemmas.List.{flat_map_more}
-use Rattle.traffic.specs.declared.world.Row.{Row}
-use Rattle.traffic.specs.Telling.{goes_on}
-use Rattle.traffic.specs.Links.{waiting}
-use Rattle.queue_link.specs.Turns.{is_due}
-use Rattle.queue_link.proofs.Bays.{due_more, left_same, waits_more}
+use Rattle.std.{proofs.lemmas.Bool.le-leb, proofs.lemmas.List.flat_map_more, specs.List.flat_map, specs.Prelude.map, specs.Prelude.filter}
+use Rattle.traffic.specs.{Links.waiting, Telling.goes_on, declared.world.Row.Row}
+use Rattle.queue_link.{proofs.Bays.due_more, proofs.Bays.left_same, proofs.Bays.waits_more, specs.Turns.is_due}
 use Rattle.queue_link.proofs.begins.leave_bay.Goals as goal
 
 pub loop-row-preserved-in-Continue-branch-2 : goal.loop-row-preserved-in-Continue-branch-2

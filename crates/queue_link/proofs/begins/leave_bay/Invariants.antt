@@ -1,8 +1,5 @@
-use Rattle.std.proofs.Common.{◌≡◌, ◌++◌}
-use Rattle.std.specs.Prelude.{map, filter}
-use Rattle.std.specs.List.{flat_map}
-use Rattle.traffic.specs.Telling.{goes_on}
-use Rattle.traffic.specs.Links.{waiting}
+use Rattle.std.{proofs.Common.◌≡◌, proofs.Common.◌++◌, specs.List.flat_map, specs.Prelude.map, specs.Prelude.filter}
+use Rattle.traffic.specs.{Links.waiting, Telling.goes_on}
 use Rattle.queue_link.specs.Turns.{is_due, left_in_bay}
 use Rattle.queue_link.proofs.begins.leave_bay.Given as goal
 

@@ -1,5 +1,4 @@
-use Rattle.records.proofs.Common.{◌≡◌, length, map, ◌+◌, fields_of}
-use Rattle.records.specs.Fields.{are_fields}
+use Rattle.records.{proofs.Common.◌≡◌, proofs.Common.length, proofs.Common.map, proofs.Common.◌+◌, proofs.Common.fields_of, specs.Fields.are_fields}
 use Rattle.records.proofs.fields.are_fields.Given as goal
 
 abbrev pub invariant-loop-rest : goal.invariant-loop-rest

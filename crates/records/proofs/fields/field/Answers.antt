@@ -1,5 +1,4 @@
-use Rattle.records.proofs.Common.{List, ap, ℕ, ◌∙◌, [], Option, unwrap_or, fields_of}
-use Rattle.records.proofs.FieldAt.{field_there}
+use Rattle.records.proofs.{Common.List, Common.ap, Common.ℕ, Common.◌∙◌, Common.[], Common.Option, Common.unwrap_or, Common.fields_of, FieldAt.field_there}
 use Rattle.records.proofs.fields.field.Goals as goal
 
 pub returns-in-Some : goal.returns-in-Some

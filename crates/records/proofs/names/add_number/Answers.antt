@@ -1,6 +1,5 @@
-use Rattle.records.proofs.Common.{List, ap, ℕ, ◌∙◌, number_of}
+use Rattle.records.proofs.{Common.List, Common.ap, Common.ℕ, Common.◌∙◌, Common.number_of, Numbering.numbered_new, Numbering.numbered_within}
 use Rattle.events.proofs.NameLists.{with_name-Adds}
-use Rattle.records.proofs.Numbering.{numbered_new, numbered_within}
 use Rattle.records.proofs.names.add_number.Goals as goal
 
 pub returns-in-Ok-New-clause-number : goal.returns-in-Ok-New-clause-number

@@ -1,10 +1,8 @@
 use Rattle.records.proofs.Common.{◌≡◌, List, ℕ, ◌∙◌, arith, map, [], sym, Some, ◌∷◌, refl, true, Bor, inl, inr, rules, length-map, map-append, Reached}
-use Rattle.records.proofs.Common.{strip_bom, fields_of, rows_of}
+use Rattle.records.proofs.{Common.strip_bom, Common.fields_of, Common.rows_of, Records.all_records, Records.few, Records.length-strip_bom}
 use Rattle.std.specs.Result.{is_ok}
-use Rattle.csv.specs.Reading.{default_config}
+use Rattle.csv.{proofs.ReadFacts.rows-end, proofs.ReadFacts.rows-more, specs.Reading.default_config}
 use Rattle.csv.specs.declared.parser.State.TheVariants as st
-use Rattle.csv.proofs.ReadFacts.{rows-end, rows-more}
-use Rattle.records.proofs.Records.{all_records, few, length-strip_bom}
 use Rattle.records.proofs.rows.read_rows.Goals as goal
 
 pub loop-row-init : goal.loop-row-init

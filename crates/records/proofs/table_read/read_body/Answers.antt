@@ -1,7 +1,5 @@
-use Rattle.records.proofs.Common.{List, ap, ℕ, ◌∙◌, arith, with_name}
-use Rattle.records.specs.Tables.{table_lists}
-use Rattle.records.proofs.InTurn.{read_none, read_more, read_fault, read_all, read_count}
-use Rattle.records.proofs.ByNames.{by_names}
+use Rattle.records.proofs.{ByNames.by_names, Common.List, Common.ap, Common.ℕ, Common.◌∙◌, Common.arith, Common.with_name, InTurn.read_none, InTurn.read_more}
+use Rattle.records.{proofs.InTurn.read_fault, proofs.InTurn.read_all, proofs.InTurn.read_count, specs.Tables.table_lists}
 use Rattle.records.proofs.table_read.read_body.Goals as goal
 
 pub loop-place-init : goal.loop-place-init

@@ -1,7 +1,5 @@
-use Rattle.std.proofs.Common.{ℕ, length, sym, ◌∙◌, ap, arith}
-use Rattle.std.proofs.lemmas.List.{length-map}
-use Rattle.router.specs.Graphs.{Graph}
-use Rattle.router.proofs.LegWays.{ends_count}
+use Rattle.std.proofs.{Common.ℕ, Common.length, Common.sym, Common.◌∙◌, Common.ap, Common.arith, lemmas.List.length-map}
+use Rattle.router.{proofs.LegWays.ends_count, specs.Graphs.Graph}
 use Rattle.replanning.specs.Persons.{all_are_on}
 use Rattle.replan_tests.proofs.days.replanned.Goals as goal
 

@@ -1,5 +1,4 @@
-use Rattle.std.proofs.Common.{◌≡◌, map, take}
-use Rattle.std.specs.List.{enumerate_from}
+use Rattle.std.{proofs.Common.◌≡◌, proofs.Common.map, proofs.Common.take, specs.List.enumerate_from}
 use Rattle.replanning.specs.Acts.{moved_act}
 use Rattle.replanning.proofs.acts.moved_acts.Given as goal
 

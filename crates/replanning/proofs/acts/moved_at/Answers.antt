@@ -1,8 +1,7 @@
 use Rattle.std.proofs.Common.{ℕ, ◌∷◌, ◌++◌, [], List, map, take, None, sym, ◌∙◌, ap}
 use Rattle.std.specs.List.{enumerate_from}
 use Rattle.rows.specs.declared.plan.Act.{Act}
-use Rattle.replanning.specs.Acts.{moved_act}
-use Rattle.replanning.proofs.Numbers.{numbered_at}
+use Rattle.replanning.{proofs.Numbers.numbered_at, specs.Acts.moved_act}
 use Rattle.replanning.proofs.acts.moved_at.Goals as goal
 
 pub returns : goal.returns

@@ -1,5 +1,4 @@
-use Rattle.std.proofs.Common.{◌++◌, List, sym, ◌∙◌, ap, arith}
-use Rattle.std.proofs.lemmas.List.{append-nil}
+use Rattle.std.proofs.{Common.◌++◌, Common.List, Common.sym, Common.◌∙◌, Common.ap, Common.arith, lemmas.List.append-nil}
 use Rattle.rows.specs.declared.plan.Leg.{Leg}
 use Rattle.travel_times.specs.Times.{arrivals}
 use Rattle.router.proofs.Walking.{none_left}

@@ -1,5 +1,4 @@
-use Rattle.std.proofs.Common.{◌≡◌, ◌++◌, length, drop, true}
-use Rattle.std.specs.List.{list_all}
+use Rattle.std.{proofs.Common.◌≡◌, proofs.Common.◌++◌, proofs.Common.length, proofs.Common.drop, proofs.Common.true, specs.List.list_all}
 use Rattle.rows.specs.Plan.{is_leg}
 use Rattle.travel_times.specs.Times.{arrivals}
 use Rattle.replanning.specs.Legs.{rerouted_legs}

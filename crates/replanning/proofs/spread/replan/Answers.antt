@@ -1,10 +1,8 @@
 use Rattle.std.proofs.Common.{◌≡◌, ℕ, List, length, map, IfOk, subst, ◌∙◌, ap}
 use Rattle.plan_memory.specs.Memories.{MemoryRows}
-use Rattle.replanning.specs.declared.spread.Numbered.{Numbered}
-use Rattle.replanning.specs.Persons.{replanned, is_on}
-use Rattle.replanning.specs.Views.{basis_of}
-use Rattle.router.proofs.Gathered.{gathered}
 use Rattle.replanning.proofs.Numbers.{all_numbered, by_pairs}
+use Rattle.replanning.specs.{Persons.replanned, Persons.is_on, Views.basis_of, declared.spread.Numbered.Numbered}
+use Rattle.router.proofs.Gathered.{gathered}
 use Rattle.replanning.proofs.spread.replan.Goals as goal
 
 pub collect-requires-clause-ready : goal.collect-requires-clause-ready

@@ -1,5 +1,4 @@
-use Rattle.std.proofs.Common.{◌≡◌, length, map}
-use Rattle.std.specs.List.{enumerate_from}
+use Rattle.std.{proofs.Common.◌≡◌, proofs.Common.length, proofs.Common.map, specs.List.enumerate_from}
 use Rattle.replanning.specs.declared.spread.Numbered.{Numbered}
 use Rattle.replanning.proofs.spread.with_numbers.Given as goal
 

@@ -1,6 +1,5 @@
 use Rattle.std.proofs.Common.{rules, ◌∙◌, sym}
-use Rattle.traffic.specs.declared.world.Waiter.{Waiter}
-use Rattle.traffic.specs.Stops.{may_board}
+use Rattle.traffic.specs.{Stops.may_board, declared.world.Waiter.Waiter}
 use Rattle.riders.proofs.Lines.{taken_boards, taken_leaves, left_boards, left_leaves, none_more}
 use Rattle.riders.proofs.serves.board.Goals.{then-takes_seat+in_ok-push, else-takes_seat+in_ok-push-2}
 use Rattle.riders.proofs.serves.board.Goals as goal

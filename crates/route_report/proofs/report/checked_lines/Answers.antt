@@ -1,9 +1,8 @@
 use Rattle.std.proofs.Common.{◌≡◌, ◌∙◌, List, ℕ, Option, Some, ap, length, rules, subst, sym}
 use Rattle.rows.specs.Joined.{ends_of}
 use Rattle.travel_times.specs.Times.{arrivals}
-use Rattle.walks.specs.Rounds.{label_at}
+use Rattle.walks.specs.{Certificates.IsCertificate, Rounds.label_at}
 use Rattle.router.specs.declared.found.Found.{Found}
-use Rattle.walks.specs.Certificates.{IsCertificate}
 use Rattle.route_report.proofs.Telling.{links_named}
 use Rattle.route_report.proofs.report.checked_lines.Goals as goal
 

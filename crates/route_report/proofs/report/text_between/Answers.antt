@@ -1,6 +1,5 @@
-use Rattle.route_report.specs.Report.{map_of}
+use Rattle.route_report.{proofs.Telling.text_told, proofs.Telling.none_told, specs.Report.map_of}
 use Rattle.std.proofs.Common.{sym}
-use Rattle.route_report.proofs.Telling.{text_told, none_told}
 use Rattle.route_report.proofs.report.text_between.Goals as goal
 
 pub returns-in-Ok : goal.returns-in-Ok

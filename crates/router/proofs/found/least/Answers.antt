@@ -1,10 +1,7 @@
 use Rattle.std.proofs.Common.{◌≡◌, ℕ, List, length, sym, ap, ◌∙◌}
-use Rattle.travel_times.specs.Times.{LinkProfile}
-use Rattle.travel_times.proofs.Networks.{length-ends_of}
-use Rattle.router.specs.Graphs.{Graph}
-use Rattle.router.specs.Ways.{Query, least_of, query_on}
-use Rattle.router.proofs.Graphs.{network_within}
-use Rattle.router.proofs.Answering.{is_certificate}
+use Rattle.travel_times.{proofs.Networks.length-ends_of, specs.Times.LinkProfile}
+use Rattle.router.proofs.{Answering.is_certificate, Graphs.network_within}
+use Rattle.router.specs.{Graphs.Graph, Ways.Query, Ways.least_of, Ways.query_on}
 use Rattle.router.proofs.found.least.Goals as goal
 
 pub new-requires-clause-times : goal.new-requires-clause-times

@@ -1,6 +1,5 @@
 use Rattle.std.proofs.Common.{arith, ◌≡◌, ◌<◌, true, ◌∙◌, length}
-use Rattle.travel_times.specs.Times.{arrivals}
-use Rattle.travel_times.proofs.Arriving.{arrivals_are_fifo}
+use Rattle.travel_times.{proofs.Arriving.arrivals_are_fifo, specs.Times.arrivals}
 use Rattle.walks.specs.Rounds.{label_at}
 use Rattle.router.specs.Frontiers.{is_later}
 use Rattle.router.proofs.Searching.{look_small, looked_kept, looked_earlier, later_read}

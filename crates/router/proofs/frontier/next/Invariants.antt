@@ -1,10 +1,7 @@
 use Rattle.std.proofs.Common.{◌≡◌, ◌≤◌, ℕ, length, Some}
-use Rattle.std.specs.Prelude.{Contains}
-use Rattle.std.specs.BinaryHeap.{heap_items, IsHeap}
-use Rattle.std.specs.declared.cmp.Reverse.{Reverse}
+use Rattle.std.specs.{BinaryHeap.heap_items, BinaryHeap.IsHeap, Prelude.Contains, declared.cmp.Reverse.Reverse}
 use Rattle.walks.specs.Rounds.{label_at}
-use Rattle.router.specs.declared.frontier.Entry.{Entry}
-use Rattle.router.specs.Frontiers.{entry_cmp, queued, GoesOn}
+use Rattle.router.specs.{Frontiers.entry_cmp, Frontiers.queued, Frontiers.GoesOn, declared.frontier.Entry.Entry}
 use Rattle.router.proofs.frontier.next.Given as goal
 
 abbrev pub invariant-loop-entry : goal.invariant-loop-entry

@@ -1,8 +1,6 @@
 use Rattle.std.proofs.Common.{rules, arith, ◌≡◌, Bool, [], subst}
-use Rattle.std.specs.Bool.{OnFalse}
-use Rattle.std.specs.BinaryHeap.{heap_items}
-use Rattle.travel_times.specs.Times.{arrivals}
-use Rattle.travel_times.proofs.Arriving.{arrivals_are_fifo}
+use Rattle.std.specs.{BinaryHeap.heap_items, Bool.OnFalse}
+use Rattle.travel_times.{proofs.Arriving.arrivals_are_fifo, specs.Times.arrivals}
 use Rattle.router.proofs.Searching.{settled_by_end, settled_by_now}
 use Rattle.router.proofs.frontier.settle.Goals as goal
 

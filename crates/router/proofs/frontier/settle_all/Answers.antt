@@ -1,11 +1,8 @@
 use Rattle.std.proofs.Common.{arith, ◌≡◌, ℕ, Bool, [], subst, ap, ◌∙◌}
-use Rattle.std.specs.Bool.{OnFalse}
-use Rattle.std.specs.BinaryHeap.{heap_items}
-use Rattle.travel_times.specs.Times.{arrivals}
-use Rattle.travel_times.proofs.Arriving.{arrivals_are_fifo}
+use Rattle.std.specs.{BinaryHeap.heap_items, Bool.OnFalse}
+use Rattle.travel_times.{proofs.Arriving.arrivals_are_fifo, specs.Times.arrivals}
 use Rattle.walks.specs.Rounds.{least_labels}
-use Rattle.router.proofs.Searching.{all_least}
-use Rattle.router.proofs.Answering.{small_labels}
+use Rattle.router.proofs.{Answering.small_labels, Searching.all_least}
 use Rattle.router.proofs.frontier.settle_all.Goals as goal
 
 pub returns-clause-labels : goal.returns-clause-labels

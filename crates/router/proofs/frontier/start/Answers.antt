@@ -1,11 +1,6 @@
 use Rattle.std.proofs.Common.{ℕ, List, ◌∷◌, Option, Some, ap, subst}
-use Rattle.std.specs.Prelude.{slice_set}
-use Rattle.std.specs.BinaryHeap.{heap_items}
-use Rattle.std.specs.List.Sorted.{IsPermutation}
-use Rattle.std.specs.declared.cmp.Reverse.{Reverse}
-use Rattle.router.specs.declared.frontier.Entry.{Entry}
-use Rattle.router.specs.Frontiers.{queued}
-use Rattle.router.proofs.Searching.{start_search}
+use Rattle.std.specs.{BinaryHeap.heap_items, List.Sorted.IsPermutation, Prelude.slice_set, declared.cmp.Reverse.Reverse}
+use Rattle.router.{proofs.Searching.start_search, specs.Frontiers.queued, specs.declared.frontier.Entry.Entry}
 use Rattle.router.proofs.frontier.start.Goals as goal
 
 pub returns-clause-search : goal.returns-clause-search

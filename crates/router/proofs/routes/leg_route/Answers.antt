@@ -1,8 +1,7 @@
 use Rattle.std.proofs.Common.{◌≡◌, None, Some, sym, ◌∙◌}
 use Rattle.travel_times.specs.Times.{arrivals}
 use Rattle.walks.specs.Walks.{start_of, end_of}
-use Rattle.router.specs.Routes.{way_to}
-use Rattle.router.proofs.LegWays.{route_here, no_route, some_route}
+use Rattle.router.{proofs.LegWays.route_here, proofs.LegWays.no_route, proofs.LegWays.some_route, specs.Routes.way_to}
 use Rattle.router.proofs.routes.leg_route.Goals as goal
 
 pub returns-then-here-there-clause-route : goal.returns-then-here-there-clause-route

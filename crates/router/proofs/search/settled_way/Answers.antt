@@ -1,12 +1,8 @@
 use Rattle.std.proofs.Common.{arith, ◌<◌, None, [], length, refl, subst, sym, ap, ◌∙◌}
 use Rattle.std.proofs.lemmas.List.{get_or_read}
-use Rattle.travel_times.specs.Times.{arrivals}
-use Rattle.travel_times.proofs.Arriving.{arrivals_are_fifo}
-use Rattle.walks.specs.Rounds.{Labels}
-use Rattle.walks.specs.Chosen.{followed}
-use Rattle.walks.specs.Certificates.{AreSmall}
-use Rattle.router.specs.Searches.{asked}
-use Rattle.router.proofs.Answering.{small_labels, way_is, no_way_is}
+use Rattle.travel_times.{proofs.Arriving.arrivals_are_fifo, specs.Times.arrivals}
+use Rattle.walks.specs.{Certificates.AreSmall, Chosen.followed, Rounds.Labels}
+use Rattle.router.{proofs.Answering.small_labels, proofs.Answering.way_is, proofs.Answering.no_way_is, specs.Searches.asked}
 use Rattle.router.proofs.search.settled_way.Goals as goal
 
 pub returns-in_default : goal.returns-in_default

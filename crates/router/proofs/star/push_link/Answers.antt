@@ -1,6 +1,5 @@
 use Rattle.std.proofs.Common.{ℕ, List, [], ◌∷◌, ◌++◌, map, Vec, Global, ap, sym, ◌∙◌}
-use Rattle.std.specs.Prelude.{slice_set}
-use Rattle.std.proofs.lemmas.List.{map-set, get_or-map}
+use Rattle.std.{proofs.lemmas.List.map-set, proofs.lemmas.List.get_or-map, specs.Prelude.slice_set}
 use Rattle.router.proofs.star.push_link.Goals as goal
 
 abbrev items_of : Vec ℕ Global → List ℕ

@@ -1,6 +1,5 @@
 use Rattle.std.proofs.Common.{◌≡◌, ℕ, List, length, map, Vec, Global, ap, sym, ◌∙◌, subst}
-use Rattle.std.specs.Prelude.{slice_index}
-use Rattle.std.proofs.lemmas.List.{take_all}
+use Rattle.std.{proofs.lemmas.List.take_all, specs.Prelude.slice_index}
 use Rattle.router.specs.Stars.{AreBeside}
 use Rattle.router.proofs.star.star_beside.Goals as goal
 

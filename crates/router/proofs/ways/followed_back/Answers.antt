@@ -1,13 +1,9 @@
 use Rattle.std.proofs.Common.{◌≡◌, ◌<◌, ◌+◌, ◌-◌, ◌≤◌, ◌++◌, ℕ, List, [], length, reverse, Some, ap, sym, ◌∙◌}
-use Rattle.travel_times.specs.Times.{arrivals}
-use Rattle.travel_times.proofs.Arriving.{arrivals_are_fifo}
-use Rattle.walks.specs.Rounds.{label_at, rank}
-use Rattle.walks.specs.Chosen.{followed}
-use Rattle.walks.proofs.Followed.{link_leads}
-use Rattle.router.specs.Ways.{label_or_0}
+use Rattle.travel_times.{proofs.Arriving.arrivals_are_fifo, specs.Times.arrivals}
+use Rattle.walks.{proofs.Followed.link_leads, specs.Chosen.followed, specs.Rounds.label_at, specs.Rounds.rank}
 use Rattle.router.proofs.Backs.{labelled, back_start, back_more, back_none, back_here}
+use Rattle.router.{proofs.ways.followed_back.Goals.else-loop-node-test, proofs.ways.followed_back.Goals.then-loop-node-test+in_default, specs.Ways.label_or_0}
 use Rattle.router.proofs.ways.followed_back.Goals as goal
-use Rattle.router.proofs.ways.followed_back.Goals.{else-loop-node-test, then-loop-node-test+in_default}
 
 pub loop-node-init : goal.loop-node-init
 loop-node-init c =

@@ -1,7 +1,6 @@
 use Rattle.std.proofs.Common.{◌≡◌, ◌+◌, ◌-◌, ◌≤◌, ◌++◌, ◌<◌, length, reverse, Some}
 use Rattle.travel_times.specs.Times.{arrivals}
-use Rattle.walks.specs.Rounds.{label_at, rank}
-use Rattle.walks.specs.Chosen.{followed}
+use Rattle.walks.specs.{Chosen.followed, Rounds.label_at, Rounds.rank}
 use Rattle.router.specs.Ways.{label_or_0}
 use Rattle.router.proofs.ways.followed_back.Given as goal
 

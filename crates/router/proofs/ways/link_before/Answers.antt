@@ -2,15 +2,10 @@ use Rattle.std.proofs.Common.{arith, ◌≡◌, ◌<◌, ◌≤◌, ℕ, Bool, �
 use Rattle.std.specs.Prelude.{slice_index, unwrap_or, IsSomeAnd}
 use Rattle.travel_times.specs.Times.{arrivals}
 use Rattle.walks.specs.Chosen.{leads}
-use Rattle.router.specs.Ways.{is_below}
 use Rattle.router.proofs.Backs.{least_before, below_more, below_kept}
+use Rattle.router.proofs.ways.link_before.Goals.{then-is_leading+then-is_below, else-is_leading, else-is_leading-via-then-is_leading+else-is_below}
+use Rattle.router.{proofs.ways.link_before.Goals.else-is_leading-via-else-is_leading, specs.Ways.is_below}
 use Rattle.router.proofs.ways.link_before.Goals as goal
-use Rattle.router.proofs.ways.link_before.Goals.{
-  then-is_leading+then-is_below,
-  else-is_leading,
-  else-is_leading-via-then-is_leading+else-is_below,
-  else-is_leading-via-else-is_leading,
-}
 
 and-false : (b : Bool) → (b && false) ≡ false
 and-false true = refl

@@ -1,9 +1,6 @@
 use Rattle.settings.specs.Faults.{file_values}
-use Rattle.scenario.specs.FilesToScenario.{scenario_fault}
-use Rattle.scenario.specs.Views.{texts_of, network_view}
-use Rattle.scenario.specs.Faults.{TellsFile}
-use Rattle.scenario.proofs.Told.{first_stop, later_stop}
-use Rattle.scenario.proofs.Composed.{files_told}
+use Rattle.scenario.proofs.{Composed.files_told, Told.first_stop, Told.later_stop}
+use Rattle.scenario.specs.{Faults.TellsFile, FilesToScenario.scenario_fault, Views.texts_of, Views.network_view}
 use Rattle.scenario.proofs.assembling.assemble.Goals as goal
 
 pub returns-in-Err : goal.returns-in-Err

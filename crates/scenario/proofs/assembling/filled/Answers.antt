@@ -1,13 +1,8 @@
-use Rattle.std.proofs.Common.{List, sym, ap, length, subst}
-use Rattle.rows.specs.PlanRows.{PlanRows}
-use Rattle.plans.specs.Progress.{IsSound}
+use Rattle.std.proofs.Common.{length, refl}
 use Rattle.plans.specs.Read.{file_rows_of}
-use Rattle.plans.specs.Values.{PlanFileRows}
 use Rattle.rows.specs.Joined.{ends_of}
 use Rattle.router.proofs.Graphs.{network_within}
-use Rattle.scenario.specs.FilesToScenario.{filled_in}
-use Rattle.scenario.specs.Views.{network_view}
-use Rattle.scenario.proofs.Filled.{file_on, filled_sound}
+use Rattle.scenario.{proofs.Filled.file_on, proofs.Filled.filled_sound, specs.FilesToScenario.filled_in, specs.Views.network_view}
 use Rattle.scenario.proofs.assembling.filled.Goals as goal
 
 pub with_routes-requires-clause-on : goal.with_routes-requires-clause-on
@@ -17,29 +12,12 @@ with_routes-requires-clause-on g c κs within =
 
 pub returns-in-Ok-clause-rows : goal.returns-in-Ok-clause-rows
 unfolding filled_in
-returns-in-Ok-clause-rows g c =
-    let P = file_rows_of c.args.file in
-    ap (λ (plans : List (List PlanRows)). record {
-      persons = P.persons;
-      kinds = P.kinds;
-      lines = P.lines;
-      stops = P.stops;
-      plans = plans;
-      starts = P.starts;
-    }) c.in-Ok.ensures
+returns-in-Ok-clause-rows g c = rw c.in-Ok.ensures refl
 
 pub returns-in-Ok-clause-sound : goal.returns-in-Ok-clause-sound
 unfolding filled_in
 returns-in-Ok-clause-sound g c =
     let network = c.args.network.now in
     let P = file_rows_of c.args.file in
-    let filled : List (List PlanRows) → PlanFileRows = λ plans. record {
-      persons = P.persons;
-      kinds = P.kinds;
-      lines = P.lines;
-      stops = P.stops;
-      plans = plans;
-      starts = P.starts;
-    } in
-    subst (λ (plans : List (List PlanRows)). IsSound network.link_names (ends_of network.links) (filled plans)) (sym c.in-Ok.ensures)
-    (filled_sound (network_view network) (network_within (length network.nodes) network.links network.sound) P network.each_link c.requires.sound)
+    rw c.in-Ok.ensures (filled_sound (network_view network)
+    (network_within (length network.nodes) network.links network.sound) P network.each_link c.requires.sound)

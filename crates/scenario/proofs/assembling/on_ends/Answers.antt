@@ -1,7 +1,6 @@
 use Rattle.router.proofs.Graphs.{network_within}
-use Rattle.scenario.proofs.Common.{length, texts_of, network_view, values_of}
-use Rattle.scenario.specs.FilesToScenario.{read_view}
-use Rattle.scenario.proofs.Composed.{ends_count, read_told, read_sound, all_told}
+use Rattle.scenario.proofs.{Common.length, Common.texts_of, Common.network_view, Common.values_of, Composed.ends_count, Composed.read_told, Composed.read_sound}
+use Rattle.scenario.{proofs.Composed.all_told, specs.FilesToScenario.read_view}
 use Rattle.scenario.proofs.assembling.on_ends.Goals as goal
 
 pub read_over-requires : goal.read_over-requires

@@ -1,17 +1,12 @@
-use Rattle.std.proofs.Common.{◌≡◌, ◌∙◌, sym, ap, subst, ℕ, List, length, map}
+use Rattle.std.proofs.Common.{◌≡◌, ◌∙◌, refl, sym, ap, subst, ℕ, List, length, map}
 use Rattle.std.proofs.lemmas.List.{length-map}
 use Rattle.rows.specs.PlanRows.{PlanRows, plan_rows, all_plan_rows}
 use Rattle.plans.specs.Read.{file_rows_of}
 use Rattle.settings.specs.Faults.{values_of}
-use Rattle.town.specs.Rows.{TownRows}
-use Rattle.town.specs.Views.{rows_of}
-use Rattle.scenario.specs.Legs.{LegChecks, plan_in_town}
-use Rattle.scenario.specs.LegChecks.{AreThere}
-use Rattle.scenario.specs.FilesToScenario.{PlannedRows, leg_checks_in, town_of, planned_of, schedule_view}
-use Rattle.scenario.specs.Views.{network_view}
-use Rattle.scenario.specs.Fitting.{all_fit}
-use Rattle.scenario.proofs.AllFit.{all_kept}
-use Rattle.scenario.proofs.Settling.{plans_fit, persons_are}
+use Rattle.town.specs.{Rows.TownRows, Views.rows_of}
+use Rattle.scenario.proofs.{AllFit.all_kept, Settling.plans_fit, Settling.persons_are}
+use Rattle.scenario.specs.FilesToScenario.{leg_checks_in, town_of, planned_of, schedule_view}
+use Rattle.scenario.specs.{Fitting.all_fit, LegChecks.AreThere, Legs.LegChecks, Legs.plan_in_town, Views.network_view}
 use Rattle.scenario.proofs.assembling.planned_of_parts.Goals as goal
 
 pub invariant_of-result : goal.invariant_of-result
@@ -48,7 +43,4 @@ returns-in-Ok-town_with_names c =
     let town_is : rows_of town ≡ T = c.in-Ok-town_with_names.ensures.rows in
     let plans_are : all_plan_rows plans ≡ map (map (plan_in_town (leg_checks_in P S).numbers)) (all_plan_rows args.file.plans) =
     c.in-Ok.ensures ∙ ap (λ (W : LegChecks). map (map (plan_in_town W.numbers)) (all_plan_rows args.file.plans)) c.requires.leg_checks in
-    let all : TownRows → List (List ℕ) → List (List PlanRows) → PlannedRows = λ t n l. record { town = t; node_names = n; plans = l } in
-    ap (λ (t : TownRows). all t town.network.node_names (all_plan_rows plans)) town_is
-    ∙ ap (λ (n : List (List ℕ)). all T n (all_plan_rows plans)) c.in-Ok-town_with_names.ensures.node_names
-    ∙ ap (λ (l : List (List PlanRows)). all T args.network.node_names l) plans_are
+    rw (town_is, c.in-Ok-town_with_names.ensures.node_names, plans_are) refl

@@ -1,10 +1,8 @@
-use Rattle.std.proofs.Common.{List, ◌∙◌, ap, length, map}
-use Rattle.std.proofs.lemmas.List.{length-map}
+use Rattle.std.proofs.{Common.List, Common.◌∙◌, Common.ap, Common.length, Common.map, lemmas.List.length-map}
 use Rattle.plan_memory.specs.Memories.{MemoryRows, first_memory}
 use Rattle.rows.specs.PlanRows.{plan_rows, all_plan_rows}
 use Rattle.town.specs.Views.{rows_of}
-use Rattle.scenario.specs.Fitting.{all_remember_fitting}
-use Rattle.scenario.proofs.Remembered.{few_fitting, remembered_fit}
+use Rattle.scenario.{proofs.Remembered.few_fitting, proofs.Remembered.remembered_fit, specs.Fitting.all_remember_fitting}
 use Rattle.scenario.proofs.assembling.scenario_of.Goals as goal
 
 pub first_memories-requires : goal.first_memories-requires

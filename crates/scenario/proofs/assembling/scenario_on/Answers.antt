@@ -1,7 +1,6 @@
 use Rattle.settings.specs.Faults.{file_values}
-use Rattle.scenario.specs.FilesToScenario.{on_network, on_network_fault}
-use Rattle.scenario.specs.Views.{network_view, texts_of}
 use Rattle.scenario.proofs.Composed.{scenario_told}
+use Rattle.scenario.specs.{FilesToScenario.on_network, FilesToScenario.on_network_fault, Views.network_view, Views.texts_of}
 use Rattle.scenario.proofs.assembling.scenario_on.Goals as goal
 
 pub returns-in-Ok-scenario_of : goal.returns-in-Ok-scenario_of

@@ -1,6 +1,6 @@
 use Rattle.scenario.proofs.Common.{◌≡◌, List, ℕ, sym, ◌∙◌, length, subst, arith, ◌<◌, ◌^◌, All, leg_checks_of}
-use Rattle.std.proofs.lemmas.List.Elements.{All-drop}
 use Rattle.scenario.proofs.Firsts.{fault_here, fault_behind, fault_none}
+use Rattle.std.proofs.lemmas.List.Elements.{All-drop}
 use Rattle.scenario.proofs.legs.all_plans_fault.Goals as goal
 
 pub loop-own-preserved : goal.loop-own-preserved

@@ -1,6 +1,6 @@
 use Rattle.scenario.proofs.Common.{◌≡◌, List, ℕ, sym, ◌∙◌, length, subst, arith, ◌<◌, ◌^◌, All, leg_checks_of}
-use Rattle.std.proofs.lemmas.List.Elements.{All-drop}
 use Rattle.scenario.proofs.Firsts.{plan_here, plan_behind, plan_none}
+use Rattle.std.proofs.lemmas.List.Elements.{All-drop}
 use Rattle.scenario.proofs.legs.plans_fault.Goals as goal
 
 pub loop-plan-preserved : goal.loop-plan-preserved

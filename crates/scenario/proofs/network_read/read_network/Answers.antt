@@ -1,7 +1,5 @@
 use Rattle.scenario.proofs.Common.{List, ℕ, ap, LinkRow, NodeRow, network_fault, texts_of}
-use Rattle.scenario.specs.Faults.{TellsFile}
-use Rattle.scenario.proofs.Told.{first_stop}
-use Rattle.scenario.proofs.Composed.{links_told, network_none, network_is}
+use Rattle.scenario.{proofs.Composed.links_told, proofs.Composed.network_none, proofs.Composed.network_is, proofs.Told.first_stop, specs.Faults.TellsFile}
 use Rattle.scenario.proofs.network_read.read_network.Goals as goal
 
 pub returns-in-Err : goal.returns-in-Err

@@ -1,5 +1,4 @@
-use Rattle.scenario.proofs.Common.{texts_of}
-use Rattle.scenario.proofs.FreeSchedules.{schedule_told}
+use Rattle.scenario.proofs.{Common.texts_of, FreeSchedules.schedule_told}
 use Rattle.scenario.proofs.schedule_read.read_schedule.Goals as goal
 
 pub returns-clause-fitting : goal.returns-clause-fitting

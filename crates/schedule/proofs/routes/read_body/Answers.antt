@@ -1,11 +1,8 @@
 use Rattle.records.proofs.Common.{List, ap, ℕ, length, ◌∙◌, arith, map, ◌<◌, sym, refl, Option, ◌+◌, ◌≤◌, length-map, fields_of, Reason, number_of, with_name}
-use Rattle.records.proofs.Common.{field, Row}
-use Rattle.records.proofs.InTurn.{read_none, read_more, read_fault, read_all, read_count, row_at}
-use Rattle.rows.specs.declared.schedule.Stops.{Stops}
-use Rattle.rows.specs.declared.schedule.RouteRow.{RouteRow}
-use Rattle.schedule.specs.Views.{route_lists}
-use Rattle.schedule.specs.Routes.{route_reason, route_of, lists_of, lines_of}
+use Rattle.records.proofs.{Common.field, Common.Row, InTurn.read_none, InTurn.read_more, InTurn.read_fault, InTurn.read_all, InTurn.read_count, InTurn.row_at}
+use Rattle.rows.specs.declared.schedule.{RouteRow.RouteRow, Stops.Stops}
 use Rattle.schedule.proofs.Lines.{lines_none, lines_more, lines_all, line_stays, route_found, route_why}
+use Rattle.schedule.specs.{Routes.route_reason, Routes.route_of, Routes.lists_of, Routes.lines_of, Views.route_lists}
 use Rattle.schedule.proofs.routes.read_body.Goals as goal
 
 abbrev why : List (List ℕ) → List (ℕ × ℕ) → Stops → List (List ℕ) → List RouteRow → Row → Option Reason

@@ -1,5 +1,4 @@
-use Rattle.records.proofs.Common.{◌≡◌, map, take, fields_of}
-use Rattle.records.proofs.InTurn.{IsReadTo}
+use Rattle.records.proofs.{Common.◌≡◌, Common.map, Common.take, Common.fields_of, InTurn.IsReadTo}
 use Rattle.schedule.specs.Routes.{route_reason, route_of, lines_of}
 use Rattle.schedule.proofs.routes.read_body.Given as goal
 

@@ -1,10 +1,8 @@
 use Rattle.records.proofs.Common.{List, ap, ℕ, ◌∙◌, map, Option, drop, fields_of, ByteRecord, Reason, column, body_of, optional_head_reason, Row}
 use Rattle.records.proofs.InTurn.{answers_body, answers_stop}
-use Rattle.rows.specs.declared.schedule.Stops.{Stops}
-use Rattle.rows.specs.declared.schedule.RouteRow.{RouteRow}
-use Rattle.schedule.specs.Views.{route_lists}
-use Rattle.schedule.specs.Routes.{route_header, route_reason, route_of, lines_of, routes_of}
+use Rattle.rows.specs.declared.schedule.{RouteRow.RouteRow, Stops.Stops}
 use Rattle.schedule.proofs.Free.{routes_few, routes_sound}
+use Rattle.schedule.specs.{Routes.route_header, Routes.route_reason, Routes.route_of, Routes.lines_of, Routes.routes_of, Views.route_lists}
 use Rattle.schedule.proofs.routes.read_routes.Goals as goal
 
 abbrev why : List (List ℕ) → List (ℕ × ℕ) → Stops → List (List ℕ) → List RouteRow → Row → Option Reason

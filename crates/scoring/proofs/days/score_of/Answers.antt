@@ -1,11 +1,10 @@
 use Rattle.std.proofs.Common.{◌<◌, get_or, length, length-take, take, sym, subst, ◌∙◌, below_more, arith}
 use Rattle.std.proofs.lemmas.List.{take_more, get_or_default}
 use Rattle.events.specs.declared.event.Event.{Event}
-use Rattle.scoring.specs.Tables.{scoring_rows}
+use Rattle.scoring.proofs.{MayLemmas.few_follow, days.score_of.Goals.then-place-ge-MAX_EVENTS-via-then-place-ge-MAX_EVENTS}
+use Rattle.scoring.{proofs.days.score_of.Goals.then-place-ge-MAX_EVENTS-via-else-place-ge-MAX_EVENTS+then-not-may_take, specs.Tables.scoring_rows}
 use Rattle.scoring.specs.Taken.{MayFollow, IsTakenBy}
-use Rattle.scoring.proofs.MayLemmas.{few_follow}
 use Rattle.scoring.proofs.days.score_of.Goals as goal
-use Rattle.scoring.proofs.days.score_of.Goals.{then-place-ge-MAX_EVENTS-via-then-place-ge-MAX_EVENTS, then-place-ge-MAX_EVENTS-via-else-place-ge-MAX_EVENTS+then-not-may_take}
 
 pub loop-place-init : goal.loop-place-init
 loop-place-init c = (c.new-scorer.ensures.kind, c.new-scorer.ensures.stands (scoring_rows c.args.tables.now), λ k none d. absurd (omega arith))

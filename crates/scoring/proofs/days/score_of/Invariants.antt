@@ -1,7 +1,6 @@
 use Rattle.std.proofs.Common.{◌≡◌, ◌<◌, ℕ, get_or, take}
 use Rattle.events.specs.declared.event.Event.{Event}
-use Rattle.scoring.specs.Tables.{scoring_rows}
-use Rattle.scoring.specs.Taken.{first_kind_of, MayFollow, IsTakenBy}
+use Rattle.scoring.specs.{Tables.scoring_rows, Taken.first_kind_of, Taken.MayFollow, Taken.IsTakenBy}
 use Rattle.scoring.proofs.days.score_of.Given as goal
 
 abbrev pub invariant-loop-place : goal.invariant-loop-place

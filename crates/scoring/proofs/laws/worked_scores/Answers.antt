@@ -1,7 +1,6 @@
 use Rattle.std.proofs.Common.{refl}
-use Rattle.scoring.specs.Points.{value}
+use Rattle.scoring.specs.{Points.value, Score.starts, Score.departures, Score.act_ends, Score.leg_ends, Score.stuck_in, Score.total, Score.score}
 use Rattle.scoring.specs.Tables.{activity_worth, leg_worth, seconds_late}
-use Rattle.scoring.specs.Score.{starts, departures, act_ends, leg_ends, stuck_in, total, score}
 use Rattle.scoring.proofs.laws.worked_scores.Goals as goal
 
 pub returns-clause-climbing : goal.returns-clause-climbing

@@ -1,6 +1,5 @@
 use Rattle.std.proofs.Common.{nat_eq, refl, sym, ◌∙◌}
-use Rattle.scoring.specs.Limits.{are_distinct, kind_of}
-use Rattle.scoring.proofs.KindLemmas.{key_again, key_alone}
+use Rattle.scoring.{proofs.KindLemmas.key_again, proofs.KindLemmas.key_alone, specs.Limits.are_distinct, specs.Limits.kind_of}
 use Rattle.scoring.proofs.tables.are_distinct.Goals as goal
 
 pub returns-then-has_kind : goal.returns-then-has_kind

@@ -1,8 +1,5 @@
-use Rattle.std.proofs.Common.{◌≡◌, to_z, of_z, w64, sym, ◌∙◌, arith}
-use Rattle.std.proofs.lemmas.Int.{ints}
-use Rattle.scoring.proofs.Bounds.{code_same}
-use Rattle.scoring.proofs.Lines.{point-within}
-use Rattle.scoring.proofs.PointsLemmas.{point_at, along-stop, along-go, along-end}
+use Rattle.std.proofs.{Common.◌≡◌, Common.to_z, Common.of_z, Common.w64, Common.sym, Common.◌∙◌, Common.arith, lemmas.Int.ints}
+use Rattle.scoring.proofs.{Bounds.code_same, Lines.point-within, PointsLemmas.point_at, PointsLemmas.along-stop, PointsLemmas.along-go, PointsLemmas.along-end}
 use Rattle.scoring.proofs.values.along.Goals as goal
 
 pub returns-then-seconds-next : goal.returns-then-seconds-next

@@ -1,8 +1,6 @@
-use Rattle.std.proofs.Common.{◌≡◌, to_z, of_z, w64, sym, subst, ◌∙◌, arith}
-use Rattle.std.proofs.lemmas.Int.{ints}
-use Rattle.scoring.specs.declared.TheConstants.{MAX_WORTH}
-use Rattle.scoring.specs.Ranges.{IsWithin}
+use Rattle.std.proofs.{Common.◌≡◌, Common.to_z, Common.of_z, Common.w64, Common.sym, Common.subst, Common.◌∙◌, Common.arith, lemmas.Int.ints}
 use Rattle.scoring.proofs.PointsLemmas.{value-within, others_in, before_first, from_first}
+use Rattle.scoring.specs.{Ranges.IsWithin, declared.TheConstants.MAX_WORTH}
 use Rattle.scoring.proofs.values.value.Goals as goal
 
 pub returns-then-seconds-first-clause-value : goal.returns-then-seconds-first-clause-value

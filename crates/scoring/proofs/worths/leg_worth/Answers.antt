@@ -1,8 +1,6 @@
 use Rattle.std.proofs.Common.{ℤ, subst, sym}
-use Rattle.scoring.specs.declared.TheConstants.{MAX_LEG_WORTH}
-use Rattle.scoring.specs.Ranges.{IsWithin}
-use Rattle.scoring.specs.Tables.{place_of}
 use Rattle.scoring.proofs.WorthLemmas.{leg_code, leg_worth-within, found_mode, mode_product_fits, mode_sum_fits}
+use Rattle.scoring.specs.{Ranges.IsWithin, Tables.place_of, declared.TheConstants.MAX_LEG_WORTH}
 use Rattle.scoring.proofs.worths.leg_worth.Goals as goal
 
 pub overflow_mul-result : goal.overflow_mul-result

@@ -1,6 +1,5 @@
 use Rattle.std.proofs.Common.{option_and_then, ap, ◌∙◌, rules}
-use Rattle.settings.specs.Looking.{signed}
-use Rattle.settings.proofs.Numbers.{signed_kept}
+use Rattle.settings.{proofs.Numbers.signed_kept, specs.Looking.signed}
 use Rattle.settings.proofs.keys.given_signed.Goals as goal
 
 pub returns-clause-key : goal.returns-clause-key

@@ -1,10 +1,6 @@
 use Rattle.std.proofs.Common.{List, map, option_and_then, sym, ap, ◌∙◌}
-use Rattle.serde_json.specs.Data.{Items}
-use Rattle.serde_json.specs.View.{view}
-use Rattle.serde_json.specs.declared.value.Value.{Value}
-use Rattle.settings.specs.Looking.{all_of, list_of}
-use Rattle.settings.specs.NamedTables.{points_in, point_in}
-use Rattle.settings.proofs.Objects.{each_item}
+use Rattle.serde_json.specs.{Data.Items, View.view, declared.value.Value.Value}
+use Rattle.settings.{proofs.Objects.each_item, specs.Looking.all_of, specs.Looking.list_of, specs.NamedTables.points_in, specs.NamedTables.point_in}
 use Rattle.settings.proofs.named_tables.points_in.Goals as goal
 
 pub returns : goal.returns

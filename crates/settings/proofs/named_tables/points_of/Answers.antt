@@ -1,8 +1,6 @@
 use Rattle.std.proofs.Common.{Some, sym, ap, ◌∙◌}
-use Rattle.serde_json.specs.View.{view}
-use Rattle.serde_json.specs.declared.value.Value.{Value}
-use Rattle.settings.specs.NamedTables.{point_in}
-use Rattle.settings.proofs.Alls.{all_of-none, all_of-more}
+use Rattle.serde_json.specs.{View.view, declared.value.Value.Value}
+use Rattle.settings.{proofs.Alls.all_of-none, proofs.Alls.all_of-more, specs.NamedTables.point_in}
 use Rattle.settings.proofs.named_tables.points_of.Goals as goal
 
 pub returns-in_default : goal.returns-in_default

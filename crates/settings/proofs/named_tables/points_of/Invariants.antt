@@ -1,7 +1,6 @@
 use Rattle.std.proofs.Common.{◌≡◌, map, take, Some}
 use Rattle.serde_json.specs.View.{view}
-use Rattle.settings.specs.Looking.{all_of}
-use Rattle.settings.specs.NamedTables.{point_in}
+use Rattle.settings.specs.{Looking.all_of, NamedTables.point_in}
 use Rattle.settings.proofs.named_tables.points_of.Given as goal
 
 abbrev pub invariant-loop-item : goal.invariant-loop-item

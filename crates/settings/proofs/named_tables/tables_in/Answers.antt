@@ -1,12 +1,9 @@
 use Rattle.std.proofs.Common.{◌≡◌, ◌<◌, ◌≤◌, length, List, ℕ, sym, ap, subst, ◌∙◌, le-leb}
-use Rattle.std.proofs.lemmas.Bool.{lt-leb}
-use Rattle.std.proofs.lemmas.List.{length-map}
-use Rattle.serde_json.specs.Data.{Data}
-use Rattle.serde_json.specs.View.{view, items_view}
+use Rattle.std.proofs.lemmas.{Bool.lt-leb, List.length-map}
+use Rattle.serde_json.specs.{Data.Data, View.view, View.items_view}
 use Rattle.scoring.specs.declared.TheConstants.{MAX_TABLES}
-use Rattle.settings.specs.Looking.{all_of, list_of}
-use Rattle.settings.specs.NamedTables.{table_in, tables_in}
 use Rattle.settings.proofs.Objects.{each_item, list-items_view}
+use Rattle.settings.specs.{Looking.all_of, Looking.list_of, NamedTables.table_in, NamedTables.tables_in}
 use Rattle.settings.proofs.named_tables.tables_in.Goals as goal
 
 pub returns-then-values-gt-MAX_TABLES-clause-tables : goal.returns-then-values-gt-MAX_TABLES-clause-tables

@@ -1,7 +1,6 @@
 use Rattle.std.proofs.Common.{◌≡◌, map, take, length, Some}
 use Rattle.serde_json.specs.View.{view}
-use Rattle.settings.specs.Looking.{all_of}
-use Rattle.settings.specs.NamedTables.{table_in}
+use Rattle.settings.specs.{Looking.all_of, NamedTables.table_in}
 use Rattle.settings.proofs.named_tables.tables_of.Given as goal
 
 abbrev pub invariant-loop-value : goal.invariant-loop-value

@@ -1,8 +1,6 @@
 use Rattle.std.proofs.Common.{not, unwrap_or, ap, ◌∙◌}
 use Rattle.serde_json.specs.Data.{no_members}
-use Rattle.settings.specs.Looking.{has_other_key}
-use Rattle.settings.specs.NamedTables.{is_table_key}
-use Rattle.settings.proofs.Objects.{known_keys}
+use Rattle.settings.{proofs.Objects.known_keys, specs.Looking.has_other_key, specs.NamedTables.is_table_key}
 use Rattle.settings.proofs.names.has_table_keys.Goals as goal
 
 pub returns-in-Some : goal.returns-in-Some

@@ -1,7 +1,6 @@
 use Rattle.std.proofs.Common.{not, sym, ap, ◌∙◌}
+use Rattle.settings.proofs.{Objects.unknown_keys, UnknownKeys.first_of_three, UnknownKeys.second_of_three, UnknownKeys.third_of_three}
 use Rattle.settings.specs.Keys.{is_key, has_unknown_key}
-use Rattle.settings.proofs.Objects.{unknown_keys}
-use Rattle.settings.proofs.UnknownKeys.{first_of_three, second_of_three, third_of_three}
 use Rattle.settings.proofs.names.has_unknown_key.Goals as goal
 
 pub returns-then-not-are_keys : goal.returns-then-not-are_keys

@@ -1,6 +1,5 @@
 use Rattle.std.proofs.Common.{◌≡◌, true, List, sym, subst}
-use Rattle.scoring.specs.declared.table.Table.{Table}
-use Rattle.scoring.specs.Limits.{are_tables}
+use Rattle.scoring.specs.{Limits.are_tables, declared.table.Table.Table}
 use Rattle.settings.proofs.NumberedLemmas.{numbered_are_tables}
 use Rattle.settings.proofs.numbered.by_number.Goals as goal
 

@@ -1,5 +1,4 @@
-use Rattle.std.proofs.Common.{sym, None, Some}
-use Rattle.std.proofs.lemmas.List.{append-nil}
+use Rattle.std.proofs.{Common.sym, Common.None, Common.Some, lemmas.List.append-nil}
 use Rattle.settings.proofs.NumberedLemmas.{numbered_more}
 use Rattle.settings.proofs.numbered.numbered_tables.Goals as goal
 

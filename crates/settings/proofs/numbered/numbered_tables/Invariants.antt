@@ -1,5 +1,4 @@
-use Rattle.std.proofs.Common.{◌≡◌}
-use Rattle.std.specs.List.{filter_map}
+use Rattle.std.{proofs.Common.◌≡◌, specs.List.filter_map}
 use Rattle.settings.specs.Numbered.{numbered}
 use Rattle.settings.proofs.numbered.numbered_tables.Given as goal
 

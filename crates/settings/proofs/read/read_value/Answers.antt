@@ -1,6 +1,5 @@
 use Rattle.std.proofs.Common.{◌≡◌, ◌∙◌, [], length, nat_eq, Some, true, false, sym, ap, rules, arith}
-use Rattle.settings.specs.Faults.{value_of}
-use Rattle.settings.proofs.Objects.{empty_object, value_read, value_refused}
+use Rattle.settings.{proofs.Objects.empty_object, proofs.Objects.value_read, proofs.Objects.value_refused, specs.Faults.value_of}
 use Rattle.settings.proofs.read.read_value.Goals as goal
 
 pub returns-then-is_empty : goal.returns-then-is_empty

@@ -1,7 +1,6 @@
 use Rattle.std.proofs.Common.{sym, ◌∙◌}
 use Rattle.serde_json.specs.View.{members_view}
-use Rattle.settings.specs.Scoring.{costs_of}
-use Rattle.settings.proofs.ScoringRead.{scoring_told}
+use Rattle.settings.{proofs.ScoringRead.scoring_told, specs.Scoring.costs_of}
 use Rattle.settings.proofs.scores.scoring_in.Goals as goal
 
 pub returns-in-Ok-Some : goal.returns-in-Ok-Some

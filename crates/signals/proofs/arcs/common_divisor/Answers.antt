@@ -1,6 +1,5 @@
-use Rattle.std.proofs.Common.{◌≡◌, arith}
+use Rattle.std.proofs.{Common.◌≡◌, Common.arith, Math.Nat.pos_of_dvd_of_pos}
 use Rattle.std.proofs.lemmas.Nat.Gcd.{IsGcd-from_zero, IsGcd-from_mod, le_of_dvd}
-use Rattle.std.proofs.Math.Nat.{pos_of_dvd_of_pos}
 use Rattle.signals.proofs.Numbers.{between_first, between_second, between_rest}
 use Rattle.signals.proofs.arcs.common_divisor.Goals as goal
 

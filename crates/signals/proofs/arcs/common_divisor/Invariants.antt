@@ -1,5 +1,4 @@
-use Rattle.std.proofs.Common.{ℕ}
-use Rattle.std.specs.Int.{IsGcd}
+use Rattle.std.{proofs.Common.ℕ, specs.Int.IsGcd}
 use Rattle.signals.specs.Arcs.{IsBetween}
 use Rattle.signals.proofs.arcs.common_divisor.Given as goal
 

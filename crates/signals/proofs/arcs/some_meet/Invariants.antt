@@ -1,5 +1,4 @@
-use Rattle.std.proofs.Common.{◌≡◌, drop}
-use Rattle.std.specs.List.{list_any}
+use Rattle.std.{proofs.Common.◌≡◌, proofs.Common.drop, specs.List.list_any}
 use Rattle.signals.specs.Arcs.{meets_some, arc_of}
 use Rattle.signals.proofs.arcs.some_meet.Given as goal
 

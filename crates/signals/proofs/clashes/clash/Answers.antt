@@ -1,8 +1,6 @@
-use Rattle.std.proofs.Common.{◌∙◌, sym, subst}
-use Rattle.std.specs.Int.{IsGcd}
+use Rattle.std.{proofs.Common.◌∙◌, proofs.Common.sym, proofs.Common.subst, specs.Int.IsGcd}
 use Rattle.rows.specs.Greens.{Phases, IsLawful}
-use Rattle.signals.specs.Arcs.{IsBetween}
-use Rattle.signals.proofs.Exact.{clash_is, clash_decides}
+use Rattle.signals.{proofs.Exact.clash_is, proofs.Exact.clash_decides, specs.Arcs.IsBetween}
 use Rattle.signals.proofs.clashes.clash.Goals as goal
 
 pub returns-clause-is : goal.returns-clause-is

@@ -1,6 +1,4 @@
-use Rattle.std.proofs.Common.{◌≡◌, length, true}
-use Rattle.std.specs.Prelude.{find}
-use Rattle.std.specs.List.{list_all}
+use Rattle.std.{proofs.Common.◌≡◌, proofs.Common.length, proofs.Common.true, specs.List.list_all, specs.Prelude.find}
 use Rattle.signals.specs.Signals.{is_among, is_clash}
 use Rattle.signals.proofs.clashes.first_clash.Given as goal
 

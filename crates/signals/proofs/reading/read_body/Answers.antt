@@ -1,9 +1,7 @@
 use Rattle.records.proofs.Common.{◌∙◌, ap, arith, ℕ, None, [], map, fields_of}
 use Rattle.std.specs.Prelude.{replicate}
-use Rattle.signals.specs.Rows.{Seen}
-use Rattle.signals.specs.Signals.{SignalRows, signal_rows_of, or_always}
-use Rattle.signals.specs.Views.{seen_of}
 use Rattle.signals.proofs.Steps.{read_none, read_more, read_fault, read_all}
+use Rattle.signals.specs.{Rows.Seen, Signals.SignalRows, Signals.signal_rows_of, Signals.or_always, Views.seen_of}
 use Rattle.signals.proofs.reading.read_body.Goals as goal
 
 pub loop-place-init : goal.loop-place-init

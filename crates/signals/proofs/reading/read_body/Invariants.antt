@@ -1,5 +1,4 @@
-use Rattle.signals.specs.Views.{seen_of}
-use Rattle.signals.proofs.Steps.{IsReadTo}
+use Rattle.signals.{proofs.Steps.IsReadTo, specs.Views.seen_of}
 use Rattle.signals.proofs.reading.read_body.Given as goal
 
 abbrev pub invariant-loop-place : goal.invariant-loop-place

@@ -1,7 +1,5 @@
 use Rattle.records.proofs.Common.{◌∙◌, ap, List, map, drop, fields_of, ByteRecord, Row, body_of, optional_head_reason}
-use Rattle.signals.specs.Rows.{signals_header}
-use Rattle.signals.specs.Signals.{signal_rows_of}
-use Rattle.signals.proofs.Steps.{answers_rows, answers_stop, answered_each}
+use Rattle.signals.{proofs.Steps.answers_rows, proofs.Steps.answers_stop, proofs.Steps.answered_each, specs.Rows.signals_header, specs.Signals.signal_rows_of}
 use Rattle.signals.proofs.reading.read_signals.Goals as goal
 
 pub returns-in-Ok-clause-read : goal.returns-in-Ok-clause-read

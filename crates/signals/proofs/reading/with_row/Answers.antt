@@ -1,9 +1,8 @@
 use Rattle.std.proofs.Common.{◌∙◌, sym}
 use Rattle.csv.specs.Records.{fields_of}
 use Rattle.signals.specs.declared.kinds.RowKind.TheVariants as kind
-use Rattle.signals.specs.Rows.{kind_reason, with_kind}
-use Rattle.signals.specs.Views.{seen_of}
 use Rattle.signals.proofs.Steps.{other_length, row_reads, neither_reason}
+use Rattle.signals.specs.{Rows.kind_reason, Rows.with_kind, Views.seen_of}
 use Rattle.signals.proofs.reading.with_row.Goals as goal
 
 pub returns-then-len-ne6-clause-read : goal.returns-then-len-ne6-clause-read

@@ -1,5 +1,4 @@
-use Rattle.std.proofs.Common.{◌≡◌, None}
-use Rattle.std.specs.Prelude.{replicate}
+use Rattle.std.{proofs.Common.◌≡◌, proofs.Common.None, specs.Prelude.replicate}
 use Rattle.signals.proofs.signals_read.no_signals.Given as goal
 
 -- no signal for each link so far

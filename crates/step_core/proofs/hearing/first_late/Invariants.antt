@@ -1,6 +1,5 @@
 use Rattle.std.proofs.Common.{ℕ, ◌+◌, ◌<◌}
-use Rattle.step_core.specs.Cores.{done_at}
-use Rattle.step_core.specs.Exchanges.{neighbour_at, lag_at}
+use Rattle.step_core.specs.{Cores.done_at, Exchanges.neighbour_at, Exchanges.lag_at}
 use Rattle.step_core.proofs.hearing.first_late.Given as goal
 
 abbrev pub invariant-loop-border : goal.invariant-loop-border

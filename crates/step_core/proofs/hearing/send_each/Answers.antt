@@ -1,7 +1,5 @@
 use Rattle.std.proofs.Common.{◌∙◌, get_or, sym, subst}
-use Rattle.step_core.specs.Wheels.{due_in, IsPut}
-use Rattle.step_core.specs.Exchanges.{neighbour_at}
-use Rattle.step_core.proofs.Sending.{sends_next, sends_none}
+use Rattle.step_core.{proofs.Sending.sends_next, proofs.Sending.sends_none, specs.Exchanges.neighbour_at, specs.Wheels.due_in, specs.Wheels.IsPut}
 use Rattle.step_core.proofs.hearing.send_each.Goals as goal
 
 pub loop-place-preserved-then-is_nothing : goal.loop-place-preserved-then-is_nothing

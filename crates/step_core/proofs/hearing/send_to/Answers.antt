@@ -1,5 +1,4 @@
-use Rattle.step_core.specs.Wheels.{due_in}
-use Rattle.step_core.proofs.Putting.{put_there}
+use Rattle.step_core.{proofs.Putting.put_there, specs.Wheels.due_in}
 use Rattle.step_core.proofs.hearing.send_to.Goals as goal
 
 pub returns : goal.returns

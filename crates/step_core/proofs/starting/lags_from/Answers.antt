@@ -1,5 +1,4 @@
-use Rattle.std.proofs.Common.{◌∙◌, refl}
-use Rattle.std.proofs.lemmas.List.{length-set}
+use Rattle.std.proofs.{Common.◌∙◌, Common.refl, lemmas.List.length-set}
 use Rattle.step_core.proofs.Beginning.{lag_more}
 use Rattle.step_core.proofs.starting.lags_from.Goals as goal
 

@@ -1,8 +1,6 @@
 use Rattle.std.proofs.Common.{◌∙◌, ap, refl}
 use Rattle.step_core.specs.Nets.{Net}
-use Rattle.streamed_day.proofs.Coming.{end_in}
-use Rattle.streamed_day.proofs.Merged.{can_merge_ends, merged_ends}
-use Rattle.streamed_day.proofs.Views.{all_at_end, end_told}
+use Rattle.streamed_day.proofs.{Coming.end_in, Merged.can_merge_ends, Merged.merged_ends, Views.all_at_end, Views.end_told}
 use Rattle.streamed_day.proofs.pieces.ends_of.Goals as goal
 
 pub ends_told_by-requires-clause-ended : goal.ends_told_by-requires-clause-ended

@@ -1,7 +1,6 @@
 use Rattle.std.proofs.Common.{ap}
 use Rattle.step_core.specs.Nets.{Net}
-use Rattle.streamed_day.proofs.Merged.{can_merge_second, merged_second}
-use Rattle.streamed_day.proofs.Views.{running_each, round_can_tell, round_told}
+use Rattle.streamed_day.proofs.{Merged.can_merge_second, Merged.merged_second, Views.running_each, Views.round_can_tell, Views.round_told}
 use Rattle.streamed_day.proofs.pieces.last_second.Goals as goal
 
 pub told_by-requires-clause-can : goal.told_by-requires-clause-can

@@ -1,9 +1,7 @@
 use Rattle.std.proofs.Common.{◌∙◌, length, rules}
-use Rattle.std.proofs.lemmas.Iterator.Consumers.{YieldsList-turn, YieldsList-end}
-use Rattle.std.proofs.lemmas.Iterator.Adapters.{YieldsList-from_vec}
+use Rattle.std.proofs.lemmas.Iterator.{Adapters.YieldsList-from_vec, Consumers.YieldsList-turn, Consumers.YieldsList-end}
 use Rattle.divided_day.specs.Days.{told_in, end_told_in}
-use Rattle.streamed_day.specs.Telling.{told_at_end}
-use Rattle.streamed_day.proofs.Views.{end_there, lists_more, rest_at_end, all_mapped}
+use Rattle.streamed_day.{proofs.Views.end_there, proofs.Views.lists_more, proofs.Views.rest_at_end, proofs.Views.all_mapped, specs.Telling.told_at_end}
 use Rattle.streamed_day.proofs.telling.ends_told_by.Goals as goal
 
 pub finish-requires-clause-there : goal.finish-requires-clause-there

@@ -1,6 +1,5 @@
 use Rattle.std.proofs.Common.{◌≡◌, drop}
-use Rattle.town.specs.Views.{rows_of}
-use Rattle.town.specs.Fits.{legs_fit}
+use Rattle.town.specs.{Fits.legs_fit, Views.rows_of}
 use Rattle.town.proofs.fits.legs_fit.Given as goal
 
 abbrev pub invariant-loop-leg : goal.invariant-loop-leg

@@ -1,9 +1,6 @@
-use Rattle.std.proofs.Common.{◌≡◌, drop}
-use Rattle.std.specs.List.{list_all}
-use Rattle.std.specs.Prelude.{map}
+use Rattle.std.{proofs.Common.◌≡◌, proofs.Common.drop, specs.List.list_all, specs.Prelude.map}
 use Rattle.rows.specs.PlanRows.{plan_rows}
-use Rattle.town.specs.Fits.{fits}
-use Rattle.town.specs.Views.{rows_of}
+use Rattle.town.specs.{Fits.fits, Views.rows_of}
 use Rattle.town_fixtures.proofs.days.all_fit.Given as goal
 
 abbrev pub invariant-loop-plan : goal.invariant-loop-plan

@@ -1,5 +1,4 @@
-use Rattle.std.proofs.Common.{◌≡◌, ℕ, ◌+◌, ◌<◌, ◌≤◌}
-use Rattle.std.specs.Prelude.{slice_index_or}
+use Rattle.std.{proofs.Common.◌≡◌, proofs.Common.ℕ, proofs.Common.◌+◌, proofs.Common.◌<◌, proofs.Common.◌≤◌, specs.Prelude.slice_index_or}
 use Rattle.events.specs.declared.event.Event.{Event}
 use Rattle.travel_times.proofs.asked.are_in_order.Given as goal
 

@@ -1,5 +1,4 @@
-use Rattle.std.proofs.Common.{ℕ, ◌<◌}
-use Rattle.std.specs.Prelude.{slice_index_or, IfSome}
+use Rattle.std.{proofs.Common.ℕ, proofs.Common.◌<◌, specs.Prelude.slice_index_or, specs.Prelude.IfSome}
 use Rattle.events.specs.declared.event.Event.{Event}
 use Rattle.travel_times.proofs.asked.are_on_links.Given as goal
 

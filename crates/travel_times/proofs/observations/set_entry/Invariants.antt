@@ -1,5 +1,4 @@
-use Rattle.std.proofs.Common.{◌≡◌, ℕ, length, None}
-use Rattle.std.specs.Prelude.{slice_index_or}
+use Rattle.std.{proofs.Common.◌≡◌, proofs.Common.ℕ, proofs.Common.length, proofs.Common.None, specs.Prelude.slice_index_or}
 use Rattle.travel_times.proofs.observations.set_entry.Given as goal
 
 abbrev pub invariant-loop : goal.invariant-loop

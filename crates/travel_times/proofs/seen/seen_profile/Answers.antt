@@ -1,10 +1,7 @@
 use Rattle.std.proofs.Common.{arith, ◌≤◌, List, length, take}
-use Rattle.std.specs.Prelude.{slice_index_or}
-use Rattle.std.proofs.lemmas.List.{length-map, length-take-le}
-use Rattle.travel_times.specs.declared.tallies.Tally.{Tally}
-use Rattle.travel_times.specs.Tallies.{no_tally}
-use Rattle.travel_times.specs.Binned.{tallies_of}
+use Rattle.std.{proofs.lemmas.List.length-map, proofs.lemmas.List.length-take-le, specs.Prelude.slice_index_or}
 use Rattle.travel_times.proofs.Binning.{makes_profile, seen_is}
+use Rattle.travel_times.specs.{Binned.tallies_of, Tallies.no_tally, declared.tallies.Tally.Tally}
 use Rattle.travel_times.proofs.seen.seen_profile.Goals as goal
 
 pub invariant_of-result : goal.invariant_of-result

@@ -1,7 +1,5 @@
 use Rattle.std.proofs.Common.{◌≡◌, ℕ, ◌<◌, length}
-use Rattle.travel_times.specs.Times.{free_of, profile_at}
-use Rattle.travel_times.specs.Observed.{link_at}
-use Rattle.travel_times.specs.Tallies.{IsSeen}
+use Rattle.travel_times.specs.{Observed.link_at, Tallies.IsSeen, Times.free_of, Times.profile_at}
 use Rattle.travel_times.proofs.seen.seen_profiles.Given as goal
 
 abbrev pub invariant-loop-place : goal.invariant-loop-place

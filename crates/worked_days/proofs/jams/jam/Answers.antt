@@ -1,6 +1,5 @@
 use Rattle.traffic.proofs.Common.{sym, subst, World}
-use Rattle.law_in_range.specs.Rows.{IsFitWorld}
-use Rattle.law_in_range.specs.Setups.{counts_in}
+use Rattle.law_in_range.specs.{Rows.IsFitWorld, Setups.counts_in}
 use Rattle.worked_days.proofs.Going.{jam_fit}
 use Rattle.worked_days.proofs.jams.jam.Goals as goal
 

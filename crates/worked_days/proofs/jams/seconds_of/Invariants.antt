@@ -1,5 +1,4 @@
-use Rattle.law_in_range.specs.Rows.{IsFitWorld}
-use Rattle.law_in_range.specs.Setups.{counts_in}
+use Rattle.law_in_range.specs.{Rows.IsFitWorld, Setups.counts_in}
 use Rattle.worked_days.proofs.jams.seconds_of.Given as goal
 
 abbrev pub invariant-loop-t : goal.invariant-loop-t

@@ -1,11 +1,9 @@
 use Rattle.traffic.proofs.Common.{sym, subst, World, OnePlace, Sound}
 use Rattle.town.specs.Views.{setup}
-use Rattle.law_in_range.specs.Setups.{HasItsLinks}
-use Rattle.law_in_range.proofs.Seconds.{start_links}
+use Rattle.law_in_range.{proofs.Days.chosen_fit, proofs.Seconds.start_links, specs.Setups.HasItsLinks}
 use Rattle.law_one_place.proofs.Turns.{start_kept}
 use Rattle.law_sound_setups.proofs.Laws.{start_sound}
 use Rattle.law_matches_plans.proofs.Towns.{town_sound}
-use Rattle.law_in_range.proofs.Days.{chosen_fit}
 use Rattle.worked_days.proofs.seconds.second_from_start.Goals as goal
 
 pub plain_second-requires-clause-links : goal.plain_second-requires-clause-links

@@ -1,8 +1,7 @@
 use Rattle.std.proofs.Common.{◌∙◌, sym, ap, inl, inr, arith}
+use Rattle.workers.proofs.{Rounds.step, bundles.round.Goals.in-Ended, bundles.round.Goals.in-Stopped, bundles.round.Goals.in-Waited}
+use Rattle.workers.{proofs.bundles.round.Goals.in-Moved, specs.Members.one_if}
 use Rattle.workers.specs.declared.members.Turn.TheVariants.{Ended, Stopped, Waited, Moved}
-use Rattle.workers.specs.Members.{one_if}
-use Rattle.workers.proofs.Rounds.{step}
-use Rattle.workers.proofs.bundles.round.Goals.{in-Ended, in-Stopped, in-Waited, in-Moved}
 use Rattle.workers.proofs.bundles.round.Goals as goal
 
 pub loop-k-preserved : goal.loop-k-preserved

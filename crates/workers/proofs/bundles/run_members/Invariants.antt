@@ -1,6 +1,5 @@
 use Rattle.std.proofs.Common.{◌+◌, ◌-◌, ◌*◌, ◌≤◌}
-use Rattle.workers.specs.declared.bundles.TheConstants.{PATIENCE}
-use Rattle.workers.specs.Members.{Went, Patient, seconds_left}
+use Rattle.workers.specs.{Members.Went, Members.Patient, Members.seconds_left, declared.bundles.TheConstants.PATIENCE}
 use Rattle.workers.proofs.bundles.run_members.Given as goal
 
 abbrev pub invariant-loop-idle : goal.invariant-loop-idle

@@ -1,12 +1,7 @@
 use Rattle.std.proofs.Common.{◌≢◌, ◌<◌, arith, ◌+◌, ◌∙◌, ap, sym, subst, List, [], ◌∷◌, ◌++◌, length, length-append, rules}
-use Rattle.std.proofs.lemmas.Iterator.Consumers.{YieldsList-turn, YieldsList-end}
-use Rattle.std.proofs.lemmas.Iterator.Adapters.{YieldsList-from_vec}
-use Rattle.cells.specs.Rule.{contains}
-use Rattle.cells.specs.Ports.{had_port}
-use Rattle.cells.proofs.Rings.{mark_else}
-use Rattle.workers.specs.Members.{AreMembers, AreAll, AllEnd}
-use Rattle.workers.specs.Sharing.{ArePartsOf}
-use Rattle.workers.proofs.Dealing.{part_more}
+use Rattle.std.proofs.lemmas.Iterator.{Adapters.YieldsList-from_vec, Consumers.YieldsList-turn, Consumers.YieldsList-end}
+use Rattle.cells.{proofs.Rings.mark_else, specs.Ports.had_port, specs.Rule.contains}
+use Rattle.workers.{specs.Members.AreMembers, specs.Members.AreAll, specs.Members.AllEnd, specs.Sharing.ArePartsOf, proofs.Dealing.part_more}
 use Rattle.workers.proofs.Starting.{members_more, all_more, level_more, each_front, last_at, each_all, map_itself}
 use Rattle.workers.proofs.days.all_members.Goals as goal
 

@@ -1,9 +1,7 @@
 use Rattle.std.proofs.Common.{◌≡◌, ℕ, ◌≤◌, false, length}
-use Rattle.cells.specs.Rule.{contains}
-use Rattle.cells.specs.Ports.{IsHub, had_port}
+use Rattle.cells.specs.{Ports.IsHub, Ports.had_port, Rule.contains}
 use Rattle.step_core.specs.Views.{EachAt}
-use Rattle.workers.specs.Members.{IsBoardOfRun, AreMembers, AreAll, AllEnd}
-use Rattle.workers.specs.Sharing.{ArePartsOf}
+use Rattle.workers.specs.{Members.IsBoardOfRun, Members.AreMembers, Members.AreAll, Members.AllEnd, Sharing.ArePartsOf}
 use Rattle.workers.proofs.days.all_members.Given as goal
 
 abbrev pub invariant-loop-part : goal.invariant-loop-part

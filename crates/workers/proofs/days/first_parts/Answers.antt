@@ -1,5 +1,4 @@
-use Rattle.std.proofs.Common.{◌∙◌, ap, arith, length}
-use Rattle.std.proofs.lemmas.List.{length_push}
+use Rattle.std.proofs.{Common.◌∙◌, Common.ap, Common.arith, Common.length, lemmas.List.length_push}
 use Rattle.workers.proofs.Starting.{none_at, each_next}
 use Rattle.workers.proofs.days.first_parts.Goals as goal
 

@@ -1,7 +1,6 @@
 use Rattle.std.proofs.Common.{List, sym, ◌∙◌, subst}
 use Rattle.cells.specs.Pairs.{Pair}
-use Rattle.workers.specs.Pairs.{ArePairsOf}
-use Rattle.workers.proofs.Neighbours.{is_board}
+use Rattle.workers.{proofs.Neighbours.is_board, specs.Pairs.ArePairsOf}
 use Rattle.workers.proofs.members.new_board.Goals as goal
 
 pub returns-clause-board : goal.returns-clause-board

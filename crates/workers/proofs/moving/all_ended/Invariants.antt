@@ -1,6 +1,5 @@
 use Rattle.std.proofs.Common.{◌≡◌, ℕ, ◌<◌, false, slice_index_or}
-use Rattle.workers.specs.declared.members.Member.{Member}
-use Rattle.workers.specs.Members.{is_stopped, seconds_of}
+use Rattle.workers.specs.{Members.is_stopped, Members.seconds_of, declared.members.Member.Member}
 use Rattle.workers.proofs.moving.all_ended.Given as goal
 
 abbrev pub invariant-loop-k : goal.invariant-loop-k

@@ -2,9 +2,7 @@ use Rattle.std.proofs.Common.{subst, subst₂, arith}
 use denote.Exit.{no}
 use denote.Param.{layout}
 use denote.Param.Send.{sendable, arg_send, param_send}
-use Rattle.workers.specs.declared.members.Member.{Member}
-use Rattle.workers.specs.Members.{IsMember, Goes, Ran}
-use Rattle.workers.proofs.Spreading.{chunk_members}
+use Rattle.workers.{proofs.Spreading.chunk_members, specs.Members.IsMember, specs.Members.Goes, specs.Members.Ran, specs.declared.members.Member.Member}
 use Rattle.workers.proofs.moving.run_spread.Goals as goal
 
 pub for_each_chunk_mut-requires-clause-accepts : goal.for_each_chunk_mut-requires-clause-accepts

@@ -1,7 +1,6 @@
 use Rattle.std.proofs.Common.{List, sym, subst}
 use Rattle.step_core.specs.declared.part.Border.{Border}
-use Rattle.workers.specs.Pairs.{AreTables}
-use Rattle.workers.proofs.Pairing.{are_tables}
+use Rattle.workers.{proofs.Pairing.are_tables, specs.Pairs.AreTables}
 use Rattle.workers.proofs.pairs.pairs_of.Goals as goal
 
 pub push_pairs_of-requires-clause-tables : goal.push_pairs_of-requires-clause-tables

@@ -1,8 +1,7 @@
 use Rattle.std.proofs.Common.{◌+◌, List, sym, subst, arith}
 use Rattle.cells.specs.Pairs.{Pair}
+use Rattle.workers.proofs.{Pairing.skip, Pairing.push, pairs.push_pairs_of.Goals.in-Some+in_ok-push-in-Some, pairs.push_pairs_of.Goals.in-None}
 use Rattle.workers.specs.Pairs.{ArePairsTo}
-use Rattle.workers.proofs.Pairing.{skip, push}
-use Rattle.workers.proofs.pairs.push_pairs_of.Goals.{in-Some+in_ok-push-in-Some, in-None}
 use Rattle.workers.proofs.pairs.push_pairs_of.Goals as goal
 
 pub loop-q-preserved : goal.loop-q-preserved

@@ -1,8 +1,7 @@
 use Rattle.std.proofs.Common.{arith, ◌∙◌, sym, subst}
 use mathlib.Core.Logic.{dite}
 use native.Mathlib.Decide.{ℕ_discrete}
-use Rattle.cells.specs.Ports.{IsUnread}
-use Rattle.cells.proofs.Uses.{same_trans}
+use Rattle.cells.{proofs.Uses.same_trans, specs.Ports.IsUnread}
 use Rattle.workers.proofs.seconds.look_all.Goals as goal
 
 pub loop-k-preserved : goal.loop-k-preserved

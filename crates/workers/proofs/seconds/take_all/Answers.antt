@@ -1,10 +1,7 @@
 use Rattle.std.proofs.Common.{arith, ◌<◌, ◌+◌, ap, sym, length, subst₂}
-use Rattle.cells.specs.declared.board.Port.{Port}
-use Rattle.cells.specs.Ports.{degree}
-use Rattle.workers.specs.declared.members.ParcelsOf.{ParcelsOf}
-use Rattle.workers.specs.Exchanges.{HasTakenTo}
-use Rattle.workers.proofs.Exchanging.{took, skipped}
-use Rattle.workers.proofs.seconds.take_all.Goals.{then-lag-done, else-lag-done}
+use Rattle.cells.specs.{Ports.degree, declared.board.Port.Port}
+use Rattle.workers.proofs.{Exchanging.took, Exchanging.skipped, seconds.take_all.Goals.then-lag-done, seconds.take_all.Goals.else-lag-done}
+use Rattle.workers.specs.{Exchanges.HasTakenTo, declared.members.ParcelsOf.ParcelsOf}
 use Rattle.workers.proofs.seconds.take_all.Goals as goal
 
 pub loop-k-preserved : goal.loop-k-preserved

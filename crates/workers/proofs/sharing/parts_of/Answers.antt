@@ -1,7 +1,5 @@
 use Rattle.std.proofs.Common.{rules, arith, ◌≡◌, ◌<◌, length, vec_len, slice_index_or, sym, ap, ◌∙◌, subst}
-use Rattle.workers.specs.Members.{number_of}
-use Rattle.workers.specs.Sharing.{ArePartsOf}
-use Rattle.workers.proofs.Dealing.{no_parts, next_part, none_of}
+use Rattle.workers.{proofs.Dealing.no_parts, proofs.Dealing.next_part, proofs.Dealing.none_of, specs.Members.number_of, specs.Sharing.ArePartsOf}
 use Rattle.workers.proofs.sharing.parts_of.Goals as goal
 
 pub loop-number-init : goal.loop-number-init

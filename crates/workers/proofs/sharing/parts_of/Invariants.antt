@@ -1,6 +1,5 @@
 use Rattle.std.proofs.Common.{ℕ, ◌<◌, ◌≤◌, Contains}
-use Rattle.workers.specs.declared.members.Member.{Member}
-use Rattle.workers.specs.Sharing.{HasOne, ArePartsOf}
+use Rattle.workers.specs.{Sharing.HasOne, Sharing.ArePartsOf, declared.members.Member.Member}
 use Rattle.workers.proofs.sharing.parts_of.Given as goal
 
 abbrev pub invariant-loop-number : goal.invariant-loop-number

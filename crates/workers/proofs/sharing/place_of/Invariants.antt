@@ -1,6 +1,5 @@
 use Rattle.std.proofs.Common.{◌≢◌, ℕ, ◌<◌, slice_index_or}
-use Rattle.workers.specs.declared.members.Member.{Member}
-use Rattle.workers.specs.Members.{number_of}
+use Rattle.workers.specs.{Members.number_of, declared.members.Member.Member}
 use Rattle.workers.proofs.sharing.place_of.Given as goal
 
 abbrev pub invariant-loop-k : goal.invariant-loop-k

@@ -1,5 +1,4 @@
-use Rattle.std.proofs.Common.{◌≡◌, ◌≤◌, ◌*◌, length}
-use Rattle.std.specs.List.{flat_map, range_with_len}
+use Rattle.std.{proofs.Common.◌≡◌, proofs.Common.◌≤◌, proofs.Common.◌*◌, proofs.Common.length, specs.List.flat_map, specs.List.range_with_len}
 use Rattle.workload.specs.Links.{links_from}
 use Rattle.workload.proofs.links.grid_links.Given as goal
 

@@ -1,9 +1,7 @@
 use Rattle.std.proofs.Common.{ℕ, List, ◌++◌, sym, ◌∙◌, ap, string_bytes, append_assoc}
 use Rattle.std.specs.List.{flat_map, range_with_len}
-use Rattle.workload.specs.declared.commuters.Commuter.{Commuter}
-use Rattle.workload.specs.Rows.{person_rows}
-use Rattle.workload.specs.Texts.{lines_of, person_lines}
 use Rattle.workload.proofs.Lines.{more_pieces}
+use Rattle.workload.specs.{Rows.person_rows, Texts.lines_of, Texts.person_lines, declared.commuters.Commuter.Commuter}
 use Rattle.workload.proofs.persons.push_persons.Goals as goal
 
 pub loop-person-preserved : goal.loop-person-preserved

@@ -1,5 +1,4 @@
-use Rattle.std.proofs.Common.{◌≡◌, ◌++◌, string_bytes}
-use Rattle.std.specs.List.{flat_map, range_with_len}
+use Rattle.std.{proofs.Common.◌≡◌, proofs.Common.◌++◌, proofs.Common.string_bytes, specs.List.flat_map, specs.List.range_with_len}
 use Rattle.workload.specs.Texts.{person_lines}
 use Rattle.workload.proofs.persons.push_persons.Given as goal
 

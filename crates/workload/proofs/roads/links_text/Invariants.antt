@@ -1,5 +1,4 @@
-use Rattle.std.proofs.Common.{◌≡◌, ◌++◌, length, string_bytes}
-use Rattle.std.specs.List.{flat_map}
+use Rattle.std.{proofs.Common.◌≡◌, proofs.Common.◌++◌, proofs.Common.length, proofs.Common.string_bytes, specs.List.flat_map}
 use Rattle.plan_text.specs.Lines.{row_line}
 use Rattle.workload.specs.Rows.{link_row}
 use Rattle.workload.proofs.roads.links_text.Given as goal

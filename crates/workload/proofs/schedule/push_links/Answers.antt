@@ -1,7 +1,6 @@
 use Rattle.std.proofs.Common.{◌+◌, ◌-◌, ◌∷◌, ◌++◌, List, ℕ, sym, ◌∙◌, ap, string_bytes, append_assoc}
 use Rattle.std.specs.List.{flat_map, range_with_len}
-use Rattle.workload.specs.Rows.{link_name}
-use Rattle.workload.proofs.Lines.{more_from_one}
+use Rattle.workload.{proofs.Lines.more_from_one, specs.Rows.link_name}
 use Rattle.workload.proofs.schedule.push_links.Goals as goal
 
 pub loop-stop-preserved : goal.loop-stop-preserved

@@ -1,5 +1,4 @@
-use Rattle.std.proofs.Common.{◌≡◌, ◌++◌, codes, string_bytes}
-use Rattle.std.specs.List.{flat_map, range_with_len}
+use Rattle.std.{proofs.Common.◌≡◌, proofs.Common.◌++◌, proofs.Common.codes, proofs.Common.string_bytes, specs.List.flat_map, specs.List.range_with_len}
 use Rattle.plan_text.specs.Lines.{row_line}
 use Rattle.workload.specs.Rows.{stop_row}
 use Rattle.workload.proofs.schedule.stops_text.Given as goal

@@ -1,5 +1,4 @@
-use Rattle.std.proofs.Common.{◌≡◌, ◌∙◌, length, refl, rules, arith}
-use Rattle.std.proofs.lemmas.Grind.{common_steps}
+use Rattle.std.proofs.{Common.◌≡◌, Common.◌∙◌, Common.length, Common.refl, Common.rules, Common.arith, lemmas.Grind.common_steps}
 use Rattle.event_handler.specs.Handling.{links_in}
 use Rattle.law_in_range.proofs.Dawn.{day_in_book}
 use Rattle.written_day.proofs.Handled.{can_handle}

@@ -1,9 +1,6 @@
 use Rattle.std.proofs.Common.{ℕ, List, ◌%◌, ◌∙◌, ap, sym, arith, Vec, Global}
 use Rattle.std.specs.Prelude.{map, vec_items}
-use Rattle.calendar.specs.declared.TheConstants.{BLOCK_SECONDS}
-use Rattle.calendar.specs.Due.{due_at}
-use Rattle.calendar.proofs.InBlocks.{due_block, past_blocks}
-use Rattle.calendar.proofs.Tables.{past}
+use Rattle.calendar.{proofs.InBlocks.due_block, proofs.InBlocks.past_blocks, proofs.Tables.past, specs.Due.due_at, specs.declared.TheConstants.BLOCK_SECONDS}
 use Rattle.calendar.proofs.by_second.Calendar.is_quiet.Goals as goal
 
 pub returns-then-block-len : goal.returns-then-block-len

@@ -1,5 +1,4 @@
-use Rattle.std.proofs.Common.{arith}
-use Rattle.std.proofs.lemmas.Result.{err_from_is_err_and}
+use Rattle.std.proofs.{Common.arith, lemmas.Result.err_from_is_err_and}
 use Rattle.calendar.proofs.InBlocks.{put_block, same_block, within_blocks}
 use Rattle.calendar.proofs.by_second.Calendar.put.Goals as goal
 

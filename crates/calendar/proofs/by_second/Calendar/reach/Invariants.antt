@@ -1,6 +1,5 @@
 use Rattle.std.proofs.Common.{◌≡◌, ℕ, ◌+◌, ◌-◌, length}
-use Rattle.calendar.specs.Due.{due_at}
-use Rattle.calendar.specs.DueViews.{due_view}
+use Rattle.calendar.specs.{Due.due_at, DueViews.due_view}
 use Rattle.calendar.proofs.by_second.Calendar.reach.Given as goal
 
 abbrev pub invariant-reached : goal.invariant-reached

@@ -1,6 +1,5 @@
 use Rattle.std.proofs.Common.{◌∙◌, sym, refl, arith}
-use Rattle.calendar.proofs.InBlocks.{due_block, taken_block, past_blocks}
-use Rattle.calendar.proofs.Tables.{past, none_there}
+use Rattle.calendar.proofs.{InBlocks.due_block, InBlocks.taken_block, InBlocks.past_blocks, Tables.past, Tables.none_there}
 use Rattle.calendar.proofs.by_second.Calendar.take.Goals as goal
 
 pub returns-then-block-len-clause-due : goal.returns-then-block-len-clause-due

@@ -1,7 +1,6 @@
 use Rattle.std.proofs.Common.{ℕ, List, ◌∙◌, ap, sym, subst, []}
 use Rattle.std.specs.List.{Contains}
-use Rattle.calendar.specs.Waking.{woken}
-use Rattle.calendar.proofs.Hung.{woken_is}
+use Rattle.calendar.{proofs.Hung.woken_is, specs.Waking.woken}
 use Rattle.calendar.proofs.wake_ups.Wakes.is_quiet.Goals as goal
 
 pub returns : goal.returns

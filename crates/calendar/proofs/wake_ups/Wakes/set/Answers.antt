@@ -1,7 +1,6 @@
 use Rattle.std.proofs.Common.{◌<◌, length}
-use Rattle.calendar.proofs.Hung.{hung_set, hung_off, hung_same}
+use Rattle.calendar.proofs.{Hung.hung_set, Hung.hung_off, Hung.hung_same, wake_ups.Wakes.set.Goals.in-Some+in_ok-add, wake_ups.Wakes.set.Goals.in_default}
 use Rattle.calendar.proofs.wake_ups.Wakes.set.Goals as goal
-use Rattle.calendar.proofs.wake_ups.Wakes.set.Goals.{in-Some+in_ok-add, in_default}
 
 pub invariant_of-self : goal.invariant_of-self
 invariant_of-self c = hung_same c.self.inside.due.items c.self.inside.calendar c.add.new.self c.self.invariant c.in_err-add.ensures.err

@@ -1,9 +1,7 @@
 use Rattle.std.proofs.Common.{◌≡◌, ◌∙◌, ℕ, List, ap, sym, subst}
-use Rattle.std.specs.Prelude.{map, filter, Option}
-use Rattle.std.specs.List.{Contains}
+use Rattle.std.specs.{List.Contains, Prelude.map, Prelude.filter, Prelude.Option}
+use Rattle.calendar.proofs.{Ascending.asc_from, Hung.hung_taken, Hung.woken_is, Hung.all_asleep}
 use Rattle.calendar.specs.Waking.{AreHung, is_woken, woken, slept, asleep}
-use Rattle.calendar.proofs.Ascending.{asc_from}
-use Rattle.calendar.proofs.Hung.{hung_taken, woken_is, all_asleep}
 use Rattle.calendar.proofs.wake_ups.Wakes.take.Goals as goal
 
 pub returns-clause-woken : goal.returns-clause-woken

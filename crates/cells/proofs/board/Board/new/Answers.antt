@@ -1,14 +1,8 @@
 use Rattle.std.proofs.Common.{rules, arith, ◌≡◌, ◌*◌, List, length, vec_len, replicate, slice_index, sym, ap, ◌∙◌, subst, refl, Vec, Global}
 use Rattle.std.proofs.lemmas.List.{length-replicate}
-use Rattle.cells.specs.declared.TheConstants.{WORDS_APART}
-use Rattle.cells.specs.declared.table.Channel.{Channel}
-use Rattle.cells.specs.Rule.{AreChannelsOf, AreSingle}
-use Rattle.cells.specs.Pairs.{channels_of}
-use Rattle.cells.specs.Ports.{AreBorders}
-use Rattle.cells.proofs.Allowed.{starts_with, zeros_at}
-use Rattle.cells.proofs.Lawful.{lawful}
-use Rattle.cells.proofs.Channels.{few_pairs, are_channels, are_single, length-channels_from, lags_are}
-use Rattle.cells.proofs.board.Board.new.Given.{Over}
+use Rattle.cells.proofs.{Allowed.starts_with, Allowed.zeros_at, Channels.few_pairs, Channels.are_channels, Channels.are_single, Channels.length-channels_from}
+use Rattle.cells.{proofs.Channels.lags_are, proofs.Lawful.lawful, proofs.board.Board.new.Given.Over, specs.Pairs.channels_of}
+use Rattle.cells.specs.{Ports.AreBorders, Rule.AreChannelsOf, Rule.AreSingle, declared.TheConstants.WORDS_APART, declared.table.Channel.Channel}
 use Rattle.cells.proofs.board.Board.new.Goals as goal
 
 pub channels_for-requires : goal.channels_for-requires

@@ -1,6 +1,5 @@
 use Rattle.std.proofs.Common.{arith}
-use Rattle.cells.proofs.Allowed.{merges}
-use Rattle.cells.proofs.Fillings.{nothing_held}
+use Rattle.cells.proofs.{Allowed.merges, Fillings.nothing_held}
 use Rattle.cells.proofs.board.Hub.join.Goals as goal
 
 pub join_seat-requires : goal.join_seat-requires

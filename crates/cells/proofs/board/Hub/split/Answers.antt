@@ -1,10 +1,6 @@
 use Rattle.std.proofs.Common.{rules, arith, ◌≡◌, length, map, vec_len, ap, ◌∙◌, subst, refl}
-use Rattle.cells.specs.declared.table.Border.{Border}
-use Rattle.cells.specs.Ports.{is_awaited, handover_at, AreBorders}
-use Rattle.cells.proofs.Fillings.{fresh_port, away_at}
-use Rattle.cells.specs.declared.board.Handover.{Handover}
-use Rattle.cells.specs.declared.board.Handover.TheVariants.{Awaited}
-use Rattle.cells.proofs.board.Hub.split.Given.{Over}
+use Rattle.cells.{proofs.Fillings.fresh_port, proofs.Fillings.away_at, proofs.board.Hub.split.Given.Over, specs.Ports.is_awaited, specs.Ports.handover_at}
+use Rattle.cells.specs.{Ports.AreBorders, declared.board.Handover.Handover, declared.board.Handover.TheVariants.Awaited, declared.table.Border.Border}
 use Rattle.cells.proofs.board.Hub.split.Goals as goal
 
 handovers_are : (g : Over) (c : goal.After-split_seat-seat g)

@@ -1,10 +1,8 @@
 use Rattle.std.proofs.Common.{rules, arith, ◌≡◌, length, ◌++◌, sym, ap, ap₂, ◌∙◌, refl, subst, Vec, Global, vec_len, get_or, set}
 use Rattle.std.proofs.lemmas.List.{get_or_default}
-use Rattle.cells.specs.declared.board.Handover.TheVariants.{Awaited}
-use Rattle.cells.specs.declared.table.Border.{Border}
-use Rattle.cells.specs.Rule.{no_border}
-use Rattle.cells.specs.Ports.{is_taken, GoesOut, border_at, slots_of, filled_slots_of}
 use Rattle.cells.proofs.Fillings.{starts, in_borders, is_waiting, ahead, fill_step, goes_taken}
+use Rattle.cells.specs.Ports.{is_taken, GoesOut, border_at, slots_of, filled_slots_of}
+use Rattle.cells.specs.{Rule.no_border, declared.board.Handover.TheVariants.Awaited, declared.table.Border.Border}
 use Rattle.cells.proofs.board.Port.fill.Goals as goal
 
 pub loop-k-init : goal.loop-k-init

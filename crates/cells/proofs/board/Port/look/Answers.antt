@@ -1,11 +1,8 @@
 use Rattle.std.proofs.Common.{rules, arith, ◌≡◌, ◌<◌, ◌+◌, sym, ap, ◌∙◌, subst, refl, length, vec_len, true≢false, IsOk, vec_capacity}
 use Rattle.std.proofs.lemmas.List.{get_or_default}
-use Rattle.cells.specs.declared.table.Border.{Border}
-use Rattle.cells.specs.declared.board.Handover.TheVariants.{Awaited}
-use Rattle.cells.specs.Rule.{no_border}
-use Rattle.cells.specs.Ports.{handover_at}
 use Rattle.cells.proofs.Fitting.{room_for, looked_port, again_is, same_port, stays_here}
 use Rattle.cells.proofs.board.Port.look.Goals.{else-border-t-via-then-border-t+else-word-t, else-border-t-via-else-border-t}
+use Rattle.cells.specs.{Ports.handover_at, Rule.no_border, declared.board.Handover.TheVariants.Awaited, declared.table.Border.Border}
 use Rattle.cells.proofs.board.Port.look.Goals as goal
 
 pub unreachable-requires : goal.unreachable-requires

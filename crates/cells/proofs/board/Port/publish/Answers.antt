@@ -1,12 +1,7 @@
 use Rattle.std.proofs.Common.{◌≡◌, ◌+◌, length, List, Vec, Global, sym, ap, ◌∙◌, subst, refl, arith}
-use Rattle.cells.specs.declared.table.Channel.{Channel}
-use Rattle.cells.specs.Rule.{contains, is_port, from_of, to_of, lag_of, twin_of}
-use Rattle.cells.specs.Carried.{AreOfSecond, CarriesBoth}
-use Rattle.cells.specs.declared.table.Border.{Border}
-use Rattle.cells.specs.Ports.{run_of}
-use Rattle.cells.proofs.Takings.{takes_next}
-use Rattle.cells.proofs.Allowed.{sends}
-use Rattle.cells.proofs.Fillings.{filled_all, marks_all, published_port}
+use Rattle.cells.proofs.{Allowed.sends, Fillings.filled_all, Fillings.marks_all, Fillings.published_port, Takings.takes_next}
+use Rattle.cells.specs.{Carried.AreOfSecond, Carried.CarriesBoth, Ports.run_of, Rule.contains, Rule.is_port, Rule.from_of, Rule.to_of, Rule.lag_of}
+use Rattle.cells.specs.{Rule.twin_of, declared.table.Border.Border, declared.table.Channel.Channel}
 use Rattle.cells.proofs.board.Port.publish.Goals as goal
 
 pub store-requires : goal.store-requires

@@ -1,9 +1,6 @@
 use Rattle.std.proofs.Common.{◌∙◌, List, length, map, sym, ap, subst}
-use Rattle.scoring.specs.declared.scorer.Scorer.{Scorer}
-use Rattle.scoring.specs.Tables.{scoring_rows}
-use Rattle.scoring.specs.Taken.{first_kind_of}
-use Rattle.day_scores.specs.Standing.{StandFor, AllCome}
-use Rattle.day_scores.proofs.Persons.{piece_comes}
+use Rattle.scoring.specs.{Tables.scoring_rows, Taken.first_kind_of, declared.scorer.Scorer.Scorer}
+use Rattle.day_scores.{proofs.Persons.piece_comes, specs.Standing.StandFor, specs.Standing.AllCome}
 use Rattle.day_scores.proofs.scorers.Scorers.take.Goals as goal
 
 pub take_events-requires : goal.take_events-requires

@@ -1,6 +1,5 @@
 use Rattle.std.proofs.Common.{subst, sym}
-use Rattle.event_pipe.specs.Rings.{AreLooked}
-use Rattle.event_pipe.proofs.Rings.{written_over}
+use Rattle.event_pipe.{proofs.Rings.written_over, specs.Rings.AreLooked}
 use Rattle.event_pipe.proofs.gathering.Gather.is_abandoned.Goals as goal
 
 pub returns-clause-as_before : goal.returns-clause-as_before

@@ -1,7 +1,6 @@
 use Rattle.std.proofs.Common.{◌≤◌, ◌+◌, length, subst, sym}
 use Rattle.rtrb.specs.Ring.{known_free, producer_capacity}
-use Rattle.event_pipe.proofs.Rings.{looked_start, looked_set}
-use Rattle.event_pipe.proofs.Calls.{met_at, held_at}
+use Rattle.event_pipe.proofs.{Calls.met_at, Calls.held_at, Rings.looked_start, Rings.looked_set}
 use Rattle.event_pipe.proofs.gathering.Gather.meet.Goals as goal
 
 pub returns-clause-met : goal.returns-clause-met

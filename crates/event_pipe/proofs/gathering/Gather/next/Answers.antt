@@ -1,10 +1,7 @@
-use Rattle.std.proofs.Common.{◌<◌, ◌∙◌, ◌∷◌, ◌++◌, length, map, get_or, take, drop}
-use Rattle.std.proofs.Common.{subst, sym, ap, arith}
+use Rattle.std.proofs.Common.{◌<◌, ◌∙◌, ◌∷◌, ◌++◌, length, map, get_or, take, drop, subst, sym, ap, arith}
 use mathlib.Core.List.{IsPrefix}
-use Rattle.event_pipe.specs.Pieces.{events_of}
+use Rattle.event_pipe.{proofs.Calls.taken_each, proofs.Rings.written_over, proofs.Rings.prefix_of_none, proofs.Rings.next_count, specs.Pieces.events_of}
 use Rattle.event_pipe.specs.Rings.{popped, waiting, next_pieces, IsEndOf, AreLooked, AllWait, IsFirstShort, AreTaken}
-use Rattle.event_pipe.proofs.Rings.{written_over, prefix_of_none, next_count}
-use Rattle.event_pipe.proofs.Calls.{taken_each}
 use Rattle.event_pipe.proofs.gathering.Gather.next.Goals as goal
 
 pub returns-in-Some-clause-gathers : goal.returns-in-Some-clause-gathers

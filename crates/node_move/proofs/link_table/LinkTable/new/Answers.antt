@@ -1,7 +1,6 @@
 use Rattle.std.proofs.Common.{ℕ, List, ◌∙◌, ap, map, Vec, Global}
 use Rattle.std.specs.Prelude.{vec_items}
-use Rattle.node_move.specs.Pages.{number_of}
-use Rattle.node_move.proofs.Pages.{none_yet}
+use Rattle.node_move.{proofs.Pages.none_yet, specs.Pages.number_of}
 use Rattle.node_move.proofs.link_table.LinkTable.new.Goals as goal
 
 pub returns : goal.returns

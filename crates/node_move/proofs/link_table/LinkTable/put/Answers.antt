@@ -1,5 +1,4 @@
-use Rattle.std.proofs.Common.{◌∙◌}
-use Rattle.std.proofs.lemmas.Result.{err_from_is_err_and}
+use Rattle.std.proofs.{Common.◌∙◌, lemmas.Result.err_from_is_err_and}
 use Rattle.node_move.proofs.link_table.LinkTable.put.Goals as goal
 
 pub returns-in_err-reach_page-clause-err : goal.returns-in_err-reach_page-clause-err

@@ -1,11 +1,7 @@
 use Rattle.std.proofs.Common.{◌≡◌, ℕ, List, ◌≤◌, ◌∙◌, ap, sym, arith, length}
-use Rattle.std.specs.Prelude.{None, Some, ◌==◌, if◌then◌else◌}
-use Rattle.std.proofs.lemmas.Result.{err_from_is_err_and}
-use Rattle.node_move.specs.declared.space.Entry.{Entry}
-use Rattle.node_move.specs.Entries.{SpaceRows, rows_of}
-use Rattle.node_move.specs.Pages.{number_of}
-use Rattle.node_move.specs.Spaces.{places_in}
+use Rattle.std.{proofs.lemmas.Result.err_from_is_err_and, specs.Prelude.None, specs.Prelude.Some, specs.Prelude.◌==◌, specs.Prelude.if◌then◌else◌}
 use Rattle.node_move.proofs.Entries.{added, renumbered, still_none}
+use Rattle.node_move.specs.{Entries.SpaceRows, Entries.rows_of, Pages.number_of, Spaces.places_in, declared.space.Entry.Entry}
 use Rattle.node_move.proofs.space.Space.add.Goals as goal
 
 pub returns-in_err-put-clause-err : goal.returns-in_err-put-clause-err

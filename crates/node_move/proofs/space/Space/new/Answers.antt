@@ -1,6 +1,5 @@
 use Rattle.std.proofs.Common.{ap, List, length, arith}
-use Rattle.node_move.specs.declared.space.Entry.{Entry}
-use Rattle.node_move.proofs.Entries.{none_there}
+use Rattle.node_move.{proofs.Entries.none_there, specs.declared.space.Entry.Entry}
 use Rattle.node_move.proofs.space.Space.new.Goals as goal
 
 pub returns : goal.returns

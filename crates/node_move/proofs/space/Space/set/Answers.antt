@@ -1,8 +1,5 @@
-use Rattle.std.proofs.Common.{◌∙◌, ap}
-use Rattle.std.specs.Prelude.{Some, ◌==◌, if◌then◌else◌}
-use Rattle.node_move.specs.Entries.{SpaceRows}
-use Rattle.node_move.specs.Spaces.{places_in}
-use Rattle.node_move.proofs.Entries.{replaced_there}
+use Rattle.std.{proofs.Common.◌∙◌, proofs.Common.ap, specs.Prelude.Some, specs.Prelude.◌==◌, specs.Prelude.if◌then◌else◌}
+use Rattle.node_move.{proofs.Entries.replaced_there, specs.Entries.SpaceRows, specs.Spaces.places_in}
 use Rattle.node_move.proofs.space.Space.set.Goals as goal
 
 pub returns-in-Some-clause-ok : goal.returns-in-Some-clause-ok

@@ -1,7 +1,6 @@
 use Rattle.std.proofs.Common.{◌+◌, sym}
-use Rattle.node_move.specs.Entries.{rows_of}
-use Rattle.node_move.specs.Spaces.{places_in}
 use Rattle.node_move.proofs.Entries.{found_read, none_read, replaced_there, taken, nothing}
+use Rattle.node_move.specs.{Entries.rows_of, Spaces.places_in}
 use Rattle.node_move.proofs.space.Space.take_place.Goals as goal
 
 pub returns-in-None : goal.returns-in-None

@@ -1,5 +1,4 @@
-use Rattle.std.proofs.Common.{◌≡◌, []}
-use Rattle.std.specs.Prelude.{map, replicate, vec_items}
+use Rattle.std.{proofs.Common.◌≡◌, proofs.Common.[], specs.Prelude.map, specs.Prelude.replicate, specs.Prelude.vec_items}
 use Rattle.part_nodes.proofs.in_link_rows.InLinks.none.Given as goal
 
 abbrev pub invariant-loop-node : goal.invariant-loop-node

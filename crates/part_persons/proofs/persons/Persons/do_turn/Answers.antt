@@ -1,5 +1,4 @@
-use Rattle.std.proofs.Common.{◌∙◌, ap, ◌++◌, sym}
-use Rattle.std.specs.List.{flat_map}
+use Rattle.std.{proofs.Common.◌∙◌, proofs.Common.ap, proofs.Common.◌++◌, proofs.Common.sym, specs.List.flat_map}
 use Rattle.town.specs.Views.{setup}
 use Rattle.traffic.specs.Moves.{told}
 use Rattle.part_persons.proofs.Told.{followed_by, wakes_by, persons_stay}

@@ -1,10 +1,7 @@
 use Rattle.std.proofs.Common.{◌≡◌, ℕ, length, drop}
-use Rattle.law_in_range.specs.Rows.{IsFitWorld}
-use Rattle.law_in_range.specs.Setups.{counts_in}
+use Rattle.law_in_range.specs.{Rows.IsFitWorld, Setups.counts_in}
 use Rattle.town.specs.Views.{setup}
-use Rattle.part_persons.specs.Dues.{AreFollowed}
-use Rattle.part_persons.specs.Phases.{phase_of}
-use Rattle.part_persons.proofs.InOrder.{Going}
+use Rattle.part_persons.{proofs.InOrder.Going, specs.Dues.AreFollowed, specs.Phases.phase_of}
 use Rattle.part_persons.proofs.persons.Persons.do_turns.Given as goal
 
 abbrev pub invariant-loop-number : goal.invariant-loop-number

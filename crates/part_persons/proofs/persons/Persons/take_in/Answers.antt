@@ -1,10 +1,7 @@
-use Rattle.std.proofs.Common.{◌∙◌, ap, sym, length}
-use Rattle.std.specs.Prelude.{Some}
-use Rattle.std.proofs.lemmas.List.{length-set}
+use Rattle.std.{proofs.Common.◌∙◌, proofs.Common.ap, proofs.Common.sym, proofs.Common.length, proofs.lemmas.List.length-set, specs.Prelude.Some}
 use Rattle.town.specs.Views.{setup}
 use Rattle.traffic.specs.Rows.{World}
-use Rattle.part_persons.proofs.Following.{followed_length}
-use Rattle.part_persons.proofs.Told.{one_followed}
+use Rattle.part_persons.proofs.{Following.followed_length, Told.one_followed}
 use Rattle.part_persons.proofs.persons.Persons.take_in.Goals as goal
 
 pub returns-clause-followed : goal.returns-clause-followed

@@ -1,10 +1,7 @@
-use Rattle.std.proofs.Common.{ℕ, ◌-◌, List, ap, ◌∙◌}
-use Rattle.std.specs.Prelude.{filter}
-use Rattle.node_move.specs.Pages.{number_of}
-use Rattle.node_move.specs.Spaces.{places_in}
-use Rattle.part_places.specs.declared.places.Places.{Places}
-use Rattle.part_places.specs.Taking.{fewer, is_full_in, times}
+use Rattle.std.{proofs.Common.ℕ, proofs.Common.◌-◌, proofs.Common.List, proofs.Common.ap, proofs.Common.◌∙◌, specs.Prelude.filter}
+use Rattle.node_move.specs.{Pages.number_of, Spaces.places_in}
 use Rattle.part_places.proofs.Freed.{freed_is, full_is}
+use Rattle.part_places.specs.{Taking.fewer, Taking.is_full_in, Taking.times, declared.places.Places.Places}
 use Rattle.part_places.proofs.places.Places.free.Goals as goal
 
 pub returns-clause-places : goal.returns-clause-places

@@ -2,8 +2,7 @@ use Rattle.std.proofs.Common.{ℕ, ◌≡◌, ◌+◌, ◌-◌, ◌∙◌, ap, r
 use Rattle.std.specs.Prelude.{replicate, ◌==◌, ◌++◌, if◌then◌else◌}
 use Rattle.calendar.specs.Due.{due_at}
 use Rattle.node_move.specs.Pages.{number_of}
-use Rattle.part_places.specs.declared.places.Places.{Places}
-use Rattle.part_places.proofs.Goings.{queued_is, later_is}
+use Rattle.part_places.{proofs.Goings.queued_is, proofs.Goings.later_is, specs.declared.places.Places.Places}
 use Rattle.part_places.proofs.places.Places.free_later.Goals as goal
 
 pub returns : goal.returns

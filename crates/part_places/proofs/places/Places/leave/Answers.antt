@@ -1,7 +1,6 @@
 use Rattle.std.proofs.Common.{ℕ, ◌+◌, ◌-◌, ◌≤◌, ◌≡◌, subst, arith}
 use Rattle.std.specs.Prelude.{OnOk}
-use Rattle.part_places.specs.Taking.{AreTakenOf, later}
-use Rattle.part_places.proofs.Goings.{queued_is}
+use Rattle.part_places.{proofs.Goings.queued_is, specs.Taking.AreTakenOf, specs.Taking.later}
 use Rattle.part_places.proofs.places.Places.leave.Goals as goal
 
 pub returns : goal.returns

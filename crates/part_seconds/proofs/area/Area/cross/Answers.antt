@@ -1,17 +1,13 @@
 use Rattle.std.proofs.Common.{◌∙◌, ap, sym, refl, length}
-use Rattle.law_in_range.specs.Setups.{counts_in}
-use Rattle.law_in_range.proofs.Days.{one_each}
+use Rattle.law_in_range.{proofs.Days.one_each, specs.Setups.counts_in}
 use Rattle.law_own_seconds.specs.Seconds.{held_early, world_early}
 use Rattle.law_parts_of_days.proofs.Beginning.{nodes_of}
 use Rattle.part_nodes.specs.Phase.{IsPhaseAt}
 use Rattle.part_places.specs.Taking.{begins_here, times}
 use Rattle.partition.specs.Owned.{owner_in}
 use Rattle.town.specs.Views.{setup}
-use Rattle.part_seconds.specs.Settling.{places_known}
-use Rattle.part_seconds.specs.Slots.{extent_of}
-use Rattle.part_seconds.proofs.Slots.{has_links}
-use Rattle.part_seconds.proofs.Crossed.{freed_network, Begins, begins}
-use Rattle.part_seconds.proofs.area.Area.cross.Goals.{In_ok-wake_starts, In_ok-move_nodes}
+use Rattle.part_seconds.proofs.{Crossed.freed_network, Crossed.Begins, Crossed.begins, Slots.has_links, area.Area.cross.Goals.In_ok-wake_starts}
+use Rattle.part_seconds.{proofs.area.Area.cross.Goals.In_ok-move_nodes, specs.Settling.places_known, specs.Slots.extent_of}
 use Rattle.part_seconds.proofs.area.Area.cross.Goals as goal
 
 -- once the places of the second are free

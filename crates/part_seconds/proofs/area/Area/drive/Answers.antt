@@ -7,8 +7,7 @@ use Rattle.part_links.specs.Phase.{IsPhaseBy}
 use Rattle.partition.specs.Owned.{owner_in}
 use Rattle.town.specs.Views.{setup}
 use Rattle.divided_day.specs.Slots.{link_in, slot_count}
-use Rattle.part_seconds.proofs.Driven.{able, turned, Follows, follows, back}
-use Rattle.part_seconds.proofs.area.Area.drive.Goals.{In_ok-slots}
+use Rattle.part_seconds.proofs.{Driven.able, Driven.turned, Driven.Follows, Driven.follows, Driven.back, area.Area.drive.Goals.In_ok-slots}
 use Rattle.part_seconds.proofs.area.Area.drive.Goals as goal
 
 -- what the turns of the links make of them

@@ -1,19 +1,13 @@
 use Rattle.std.proofs.Common.{◌∙◌, List, ap, refl, arith, ◌+◌, length, map}
-use Rattle.traffic.specs.declared.world.Person.{Person}
-use Rattle.traffic.specs.declared.world.Row.{Row}
+use Rattle.traffic.specs.declared.world.{Person.Person, Row.Row}
 use Rattle.town.specs.Views.{setup}
 use Rattle.law_in_range.proofs.Days.{one_each}
 use Rattle.law_own_worlds.specs.Days.{world_before}
-use Rattle.part_persons.specs.Own.{own_departures}
-use Rattle.part_persons.proofs.Early.{StartedAmong, started_own, own_in_range}
-use Rattle.part_seconds.specs.Starting.{all_started, woken_for_all}
+use Rattle.part_persons.{proofs.Early.StartedAmong, proofs.Early.started_own, proofs.Early.own_in_range, specs.Own.own_departures}
+use Rattle.part_seconds.proofs.{Early.can_come, Early.set_out_stands, Knowing.fit, Knowing.fit_before, Looking.ascending, Looking.not_woken, Looking.stays}
+use Rattle.part_seconds.proofs.{SettingOut.HasSetOut, SettingOut.told_is, area.Area.set_out.Goals.In_ok-start_departures}
+use Rattle.part_seconds.specs.{Slots.in_slot, Starting.all_started, Starting.woken_for_all}
 use Rattle.partition.specs.Owned.{owner_in}
-use Rattle.part_seconds.specs.Slots.{in_slot}
-use Rattle.part_seconds.proofs.Early.{can_come, set_out_stands}
-use Rattle.part_seconds.proofs.Knowing.{fit, fit_before}
-use Rattle.part_seconds.proofs.Looking.{ascending, not_woken, stays}
-use Rattle.part_seconds.proofs.SettingOut.{HasSetOut, told_is}
-use Rattle.part_seconds.proofs.area.Area.set_out.Goals.{In_ok-start_departures}
 use Rattle.part_seconds.proofs.area.Area.set_out.Goals as goal
 
 -- the departures that are due have started, and with that the part has set out

@@ -1,6 +1,5 @@
 use Rattle.std.proofs.Common.{List, sym, subst}
-use Rattle.part_seconds.specs.declared.contents.Contents.{Contents}
-use Rattle.part_seconds.specs.Parcels.{HasNothing}
+use Rattle.part_seconds.specs.{Parcels.HasNothing, declared.contents.Contents.Contents}
 use Rattle.part_seconds.proofs.mailbox.Mailbox.all_taken.Goals as goal
 
 pub invariant_of-self : goal.invariant_of-self

@@ -1,6 +1,5 @@
 use Rattle.std.proofs.Common.{List, subst}
-use Rattle.part_seconds.specs.declared.contents.Contents.{Contents}
-use Rattle.part_seconds.specs.Parcels.{HasNothing}
+use Rattle.part_seconds.specs.{Parcels.HasNothing, declared.contents.Contents.Contents}
 use Rattle.part_seconds.proofs.mailbox.Mailbox.has_some.Goals as goal
 
 pub returns : goal.returns

@@ -1,8 +1,5 @@
-use Rattle.std.proofs.Common.{◌∙◌, ℕ, List, ap, arith, get_or, length}
-use Rattle.std.proofs.lemmas.List.{length-replicate}
-use Rattle.part_seconds.specs.declared.contents.Contents.{Contents}
-use Rattle.part_seconds.specs.Parcels.{nothing}
-use Rattle.part_seconds.proofs.Lists.{same_at}
+use Rattle.std.proofs.{Common.◌∙◌, Common.ℕ, Common.List, Common.ap, Common.arith, Common.get_or, Common.length, lemmas.List.length-replicate}
+use Rattle.part_seconds.{proofs.Lists.same_at, specs.Parcels.nothing, specs.declared.contents.Contents.Contents}
 use Rattle.part_seconds.proofs.mailbox.Mailbox.new.Goals as goal
 
 pub invariant_of-result : goal.invariant_of-result

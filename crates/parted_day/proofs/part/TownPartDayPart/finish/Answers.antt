@@ -3,9 +3,8 @@ use Rattle.partition.specs.Owned.{owner_in}
 use Rattle.town.specs.Views.{setup}
 use Rattle.law_parcels.specs.Worlds.{world_held}
 use Rattle.parts.specs.Parts.{held}
-use Rattle.parted_day.specs.Strays.{AreStrays}
+use Rattle.parted_day.{proofs.Telling.told_in_all, specs.Strays.AreStrays}
 use Rattle.part_seconds.specs.Stands.{AreaStands}
-use Rattle.parted_day.proofs.Telling.{told_in_all}
 use Rattle.parted_day.proofs.part.TownPartDayPart.finish.Goals as goal
 
 pub end_events-requires-clause-there : goal.end_events-requires-clause-there

@@ -3,13 +3,9 @@ use Rattle.std.specs.Prelude.{if◌then◌else◌}
 use Rattle.events.specs.declared.event.Event.{Event}
 use Rattle.partition.specs.Owned.{owner_in}
 use Rattle.town.specs.Views.{setup}
-use Rattle.part_seconds.specs.declared.contents.Contents.{Contents}
-use Rattle.part_seconds.specs.Parcels.{HasNothing}
-use Rattle.parted_day.specs.Turns.{turns_told}
-use Rattle.parted_day.specs.Rest.{ChangesNothing}
-use Rattle.parted_day.proofs.Standing.{empty_as, empty_has_nothing}
-use Rattle.parted_day.proofs.Telling.{told_next}
-use Rattle.parted_day.proofs.part.TownPartPart.second.Goals.{Then-rests}
+use Rattle.part_seconds.specs.{Parcels.HasNothing, declared.contents.Contents.Contents}
+use Rattle.parted_day.proofs.{Standing.empty_as, Standing.empty_has_nothing, Telling.told_next, part.TownPartPart.second.Goals.Then-rests}
+use Rattle.parted_day.specs.{Rest.ChangesNothing, Turns.turns_told}
 use Rattle.parted_day.proofs.part.TownPartPart.second.Goals as goal
 
 -- where nothing came and nobody has anything to do

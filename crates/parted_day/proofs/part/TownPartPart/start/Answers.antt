@@ -1,13 +1,10 @@
 use Rattle.std.proofs.Common.{List, ap, refl, sym, subst, length}
 use Rattle.events.specs.declared.event.Event.{Event}
-use Rattle.parted_day.specs.declared.straying.Stray.{Stray}
-use Rattle.parted_day.specs.Strays.{AreStrays}
+use Rattle.parted_day.proofs.{Standing.none_stray, Standing.new_empty, Telling.none_told}
+use Rattle.parted_day.specs.{Parts.HasTold, Strays.AreStrays, declared.straying.Stray.Stray}
 use Rattle.partition.specs.Owned.{owner_in}
 use Rattle.step_core.specs.declared.part.Border.{Border}
 use Rattle.town.specs.Views.{setup}
-use Rattle.parted_day.specs.Parts.{HasTold}
-use Rattle.parted_day.proofs.Standing.{none_stray, new_empty}
-use Rattle.parted_day.proofs.Telling.{none_told}
 use Rattle.parted_day.proofs.part.TownPartPart.start.Goals as goal
 
 pub returns : goal.returns

@@ -1,7 +1,6 @@
 use Rattle.std.proofs.Common.{map, sym, ◌∙◌, ap}
 use Rattle.rows.specs.PlanRows.{plan_rows}
-use Rattle.plan_memory.specs.Views.{memory_of}
-use Rattle.plan_memory.proofs.Dropping.{map_remove, without_is}
+use Rattle.plan_memory.{proofs.Dropping.map_remove, proofs.Dropping.without_is, specs.Views.memory_of}
 use Rattle.plan_memory.proofs.memory.Memory.drop_plan.Goals as goal
 
 pub returns : goal.returns

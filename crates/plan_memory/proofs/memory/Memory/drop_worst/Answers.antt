@@ -1,7 +1,5 @@
 use Rattle.std.proofs.Common.{◌≡◌, ◌<◌, ◌≤◌, length, sym, ◌∙◌, ap, arith}
-use Rattle.plan_memory.specs.Scores.{worst}
-use Rattle.plan_memory.specs.Memories.{MemoryRows}
-use Rattle.plan_memory.proofs.Dropping.{one_less, drop_step, no_drop}
+use Rattle.plan_memory.{proofs.Dropping.one_less, proofs.Dropping.drop_step, proofs.Dropping.no_drop, specs.Memories.MemoryRows, specs.Scores.worst}
 use Rattle.plan_memory.proofs.memory.Memory.drop_worst.Goals as goal
 
 pub loop-self-preserved : goal.loop-self-preserved

@@ -1,7 +1,5 @@
 use Rattle.std.proofs.Common.{◌≡◌, ◌∙◌, ap, sym, subst, false, rules}
-use Rattle.queue_link.specs.Links.{LinkView}
-use Rattle.queue_link.specs.Waking.{bay_due, is_by}
-use Rattle.queue_link.proofs.Dues.{bay_none, bay_stays, nobody_tells}
+use Rattle.queue_link.{proofs.Dues.bay_none, proofs.Dues.bay_stays, proofs.Dues.nobody_tells, specs.Links.LinkView, specs.Waking.bay_due, specs.Waking.is_by}
 use Rattle.queue_link.proofs.state.LinkState.let_leave.Goals as goal
 
 pub returns-then-not-has_come-clause-left : goal.returns-then-not-has_come-clause-left

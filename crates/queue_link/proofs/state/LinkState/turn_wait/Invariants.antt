@@ -1,8 +1,7 @@
 use Rattle.std.proofs.Common.{◌≡◌, List, length}
 use Rattle.rows.specs.declared.settings.Dwelling.{Dwelling}
 use Rattle.traffic.specs.declared.world.Waiter.{Waiter}
-use Rattle.queue_link.specs.declared.fates.Fate.TheVariants.{Stays}
-use Rattle.queue_link.specs.Turns.{goes_on, queue_fate}
+use Rattle.queue_link.specs.{Turns.goes_on, Turns.queue_fate, declared.fates.Fate.TheVariants.Stays}
 use Rattle.queue_link.proofs.state.LinkState.turn_wait.Given as goal
 
 abbrev pub invariant-wait : goal.invariant-wait

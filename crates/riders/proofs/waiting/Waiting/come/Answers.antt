@@ -1,7 +1,6 @@
 use Rattle.std.proofs.Common.{subst, sym, List}
 use Rattle.traffic.specs.declared.world.Waiter.{Waiter}
-use Rattle.riders.specs.Waiting.{AreWaiting}
-use Rattle.riders.proofs.Lines.{one_more}
+use Rattle.riders.{proofs.Lines.one_more, specs.Waiting.AreWaiting}
 use Rattle.riders.proofs.waiting.Waiting.come.Goals as goal
 
 pub invariant_of-self-2 : goal.invariant_of-self-2

@@ -1,5 +1,4 @@
-use Rattle.std.proofs.Common.{arith, rules}
-use Rattle.std.proofs.lemmas.Grind.{common_steps}
+use Rattle.std.proofs.{Common.arith, Common.rules, lemmas.Grind.common_steps}
 use Rattle.traffic.specs.Stops.{stays_until}
 use Rattle.riders.proofs.waiting.Waiting.serve.Goals as goal
 

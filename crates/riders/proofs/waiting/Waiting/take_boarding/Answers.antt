@@ -1,7 +1,6 @@
 use Rattle.std.proofs.Common.{rules, ◌∙◌, ap, sym, subst, refl, List}
 use Rattle.std.specs.Prelude.{map}
-use Rattle.traffic.specs.declared.world.Waiter.{Waiter}
-use Rattle.traffic.specs.Stops.{rider}
+use Rattle.traffic.specs.{Stops.rider, declared.world.Waiter.Waiter}
 use Rattle.riders.specs.Waiting.{AreWaiting}
 use Rattle.riders.proofs.Lines.{boards_by, left_by, left_wait, nobody_boards, all_left}
 use Rattle.riders.proofs.waiting.Waiting.take_boarding.Goals as goal

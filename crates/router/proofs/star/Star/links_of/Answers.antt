@@ -1,5 +1,4 @@
-use Rattle.std.proofs.Common.{arith, ℕ, List, ap, ◌∙◌, length}
-use Rattle.std.specs.List.{slice_range}
+use Rattle.std.{proofs.Common.arith, proofs.Common.ℕ, proofs.Common.List, proofs.Common.ap, proofs.Common.◌∙◌, proofs.Common.length, specs.List.slice_range}
 use Rattle.router.proofs.Stars.{length-lists, span_is}
 use Rattle.router.proofs.star.Star.links_of.Goals as goal
 

@@ -1,8 +1,5 @@
 use Rattle.std.proofs.Common.{lit≤, ◌+ℤ◌, ℤ, ap, ◌∙◌}
-use Rattle.scoring.specs.Tables.{scoring_rows}
-use Rattle.scoring.proofs.Bounds.{code_sum, wider}
-use Rattle.scoring.proofs.Taking.{sum_small}
-use Rattle.scoring.proofs.Finishing.{score_is}
+use Rattle.scoring.{proofs.Bounds.code_sum, proofs.Bounds.wider, proofs.Finishing.score_is, proofs.Taking.sum_small, specs.Tables.scoring_rows}
 use Rattle.scoring.proofs.scorer.Scorer.finish.Goals as goal
 
 pub returns-clause-score : goal.returns-clause-score

@@ -1,6 +1,5 @@
 use Rattle.std.proofs.Common.{IsTrue, ◌↔◌, Bool, sym, subst}
-use Rattle.scoring.specs.Taken.{MayFollow}
-use Rattle.scoring.proofs.MayLemmas.{may_take}
+use Rattle.scoring.{proofs.MayLemmas.may_take, specs.Taken.MayFollow}
 use Rattle.scoring.proofs.scorer.Scorer.may_take.Goals as goal
 
 pub returns-then-event-le-LAST_SECOND : goal.returns-then-event-le-LAST_SECOND

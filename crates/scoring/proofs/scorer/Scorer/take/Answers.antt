@@ -1,9 +1,6 @@
-use Rattle.std.proofs.Common.{◌++◌, ◌∷◌, [], sym, subst, arith}
-use Rattle.std.proofs.lemmas.Int.{ints}
-use Rattle.scoring.specs.declared.scorer.Scorer.{Scorer}
-use Rattle.scoring.specs.Taken.{IsTakenBy}
-use Rattle.scoring.specs.Tables.{scoring_rows}
+use Rattle.std.proofs.{Common.◌++◌, Common.◌∷◌, Common.[], Common.sym, Common.subst, Common.arith, lemmas.Int.ints}
 use Rattle.scoring.proofs.Taking.{taken_more, sum_small, first_kind-with_event}
+use Rattle.scoring.specs.{Tables.scoring_rows, Taken.IsTakenBy, declared.scorer.Scorer.Scorer}
 use Rattle.scoring.proofs.scorer.Scorer.take.Goals as goal
 
 pub with_event-requires-clause-small : goal.with_event-requires-clause-small

@@ -1,5 +1,4 @@
-use Rattle.std.proofs.Common.{ℕ, ℤ, pos, ◌≤◌, ◌+ℤ◌, ◌*ℤ◌, ap, ◌∙◌, arith}
-use Rattle.std.proofs.lemmas.Int.{ints}
+use Rattle.std.proofs.{Common.ℕ, Common.ℤ, Common.pos, Common.◌≤◌, Common.◌+ℤ◌, Common.◌*ℤ◌, Common.ap, Common.◌∙◌, Common.arith, lemmas.Int.ints}
 use Rattle.limits.specs.declared.TheConstants.{LAST_SECOND}
 use Rattle.scoring.specs.declared.scorer.Doing.TheVariants as doing
 use Rattle.scoring.proofs.WorthLemmas.{late_sum_fits, late_sum_same, costs_are}

@@ -1,6 +1,5 @@
 use Rattle.std.proofs.Common.{ℤ, ◌+ℤ◌, ap, ◌∙◌}
-use Rattle.scoring.specs.Tables.{leg_worth}
-use Rattle.scoring.proofs.WorthLemmas.{three_same}
+use Rattle.scoring.{proofs.WorthLemmas.three_same, specs.Tables.leg_worth}
 use Rattle.scoring.proofs.scorer.Scorer.with_leg_ended.Goals as goal
 
 pub returns : goal.returns

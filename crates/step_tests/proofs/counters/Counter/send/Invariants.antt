@@ -1,6 +1,5 @@
 use Rattle.std.proofs.Common.{◌≡◌, ◌<◌, ℕ, length}
-use Rattle.step_core.specs.Nets.{border_at}
-use Rattle.step_core.specs.Views.{in_place}
+use Rattle.step_core.specs.{Nets.border_at, Views.in_place}
 use Rattle.step_tests.specs.Counters.{IsAsBefore, is_number}
 use Rattle.step_tests.proofs.counters.Counter.send.Given as goal
 

@@ -1,7 +1,6 @@
 use Rattle.std.proofs.Common.{◌<◌, arith, sym, ap, is_some}
 use Rattle.town.specs.Views.{setup}
-use Rattle.streamed_day.proofs.Coming.{second_piece, end_piece}
-use Rattle.streamed_day.proofs.Views.{all_ran}
+use Rattle.streamed_day.proofs.{Coming.second_piece, Coming.end_piece, Views.all_ran}
 use Rattle.streamed_day.proofs.day.StreamedDayEventSource.next_piece.Goals as goal
 
 pub returns-then-self-end-clause-some : goal.returns-then-self-end-clause-some

@@ -1,6 +1,5 @@
 use Rattle.std.proofs.Common.{rules, arith, ◌≡◌}
-use Rattle.travel_times.specs.Times.{time_in, profile_at, arrivals}
-use Rattle.travel_times.proofs.Arriving.{arrival_in_order, read_arrival}
+use Rattle.travel_times.{proofs.Arriving.arrival_in_order, proofs.Arriving.read_arrival, specs.Times.time_in, specs.Times.profile_at, specs.Times.arrivals}
 use Rattle.travel_times.proofs.link_times.LinkTimes.arrive.Goals as goal
 
 pub returns-clause-in_order : goal.returns-clause-in_order

@@ -1,7 +1,6 @@
 use Rattle.std.proofs.Common.{◌≡◌, ℕ, List, [], length, ◌^◌, ◌<◌, rules, sym, subst, ◌∙◌}
 use Rattle.events.specs.declared.event.Event.{Event}
-use Rattle.travel_times.specs.Observed.{AreInOrder, AreOnLinks}
-use Rattle.travel_times.specs.Tallies.{IsPiece}
+use Rattle.travel_times.specs.{Observed.AreInOrder, Observed.AreOnLinks, Tallies.IsPiece}
 use Rattle.travel_times.proofs.link_times.LinkTimes.of_events.Goals as goal
 
 -- a whole day is a piece of itself

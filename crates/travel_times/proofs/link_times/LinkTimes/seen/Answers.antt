@@ -1,9 +1,5 @@
-use Rattle.std.proofs.Common.{ℕ, ap, length, sym, subst}
-use Rattle.std.proofs.Math.Path.{fun_ext}
-use Rattle.travel_times.specs.Times.{arrival_by, profile_at}
-use Rattle.travel_times.specs.Tallies.{HasRows}
-use Rattle.travel_times.proofs.Networks.{all_move}
-use Rattle.travel_times.proofs.Binning.{seen_time}
+use Rattle.std.proofs.{Common.ℕ, Common.ap, Common.length, Common.sym, Common.subst, Math.Path.fun_ext}
+use Rattle.travel_times.{proofs.Binning.seen_time, proofs.Networks.all_move, specs.Tallies.HasRows, specs.Times.arrival_by, specs.Times.profile_at}
 use Rattle.travel_times.proofs.link_times.LinkTimes.seen.Goals as goal
 
 pub seen_profiles-requires-clause-moving : goal.seen_profiles-requires-clause-moving

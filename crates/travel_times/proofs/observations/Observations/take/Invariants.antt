@@ -1,7 +1,6 @@
 use Rattle.std.proofs.Common.{◌≡◌, ◌++◌, List, take}
 use Rattle.events.specs.declared.event.Event.{Event}
-use Rattle.travel_times.specs.Tallies.{IsPiece}
-use Rattle.travel_times.specs.Known.{Knows, links_of}
+use Rattle.travel_times.specs.{Known.Knows, Known.links_of, Tallies.IsPiece}
 use Rattle.travel_times.proofs.observations.Observations.take.Given as goal
 
 abbrev pub invariant-loop-event : goal.invariant-loop-event

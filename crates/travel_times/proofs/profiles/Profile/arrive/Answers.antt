@@ -1,7 +1,6 @@
 use Rattle.std.proofs.Common.{rules, arith, ◌≡◌, ℕ, suc, ◌+◌, length, ap, ◌∙◌}
+use Rattle.travel_times.proofs.{Arriving.arrival_later, Arriving.least_time, Held.free_is, Held.binned_read}
 use Rattle.travel_times.specs.Times.{LinkProfile, time_in, arrival_by}
-use Rattle.travel_times.proofs.Arriving.{arrival_later, least_time}
-use Rattle.travel_times.proofs.Held.{free_is, binned_read}
 use Rattle.travel_times.proofs.profiles.Profile.arrive.Goals as goal
 
 pub returns-in_default-clause-value : goal.returns-in_default-clause-value

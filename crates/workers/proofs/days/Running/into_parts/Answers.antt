@@ -1,5 +1,4 @@
-use Rattle.std.proofs.Common.{arith, length, subst}
-use Rattle.std.proofs.lemmas.Result.{IfOk-weaker}
+use Rattle.std.proofs.{Common.arith, Common.length, Common.subst, lemmas.Result.IfOk-weaker}
 use Rattle.step_core.specs.Views.{EachAt}
 use Rattle.workers.proofs.Dealing.{all_at}
 use Rattle.workers.proofs.days.Running.into_parts.Goals as goal

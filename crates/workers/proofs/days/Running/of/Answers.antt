@@ -1,8 +1,7 @@
 use Rattle.std.proofs.Common.{length, subst, sym}
 use Rattle.step_core.specs.Views.{EachAt}
-use Rattle.workers.specs.Members.{AreAll}
-use Rattle.workers.specs.Sharing.{ArePartsOf}
 use Rattle.workers.proofs.Dealing.{shared_has, shared_level, shared_members, shared_parts}
+use Rattle.workers.specs.{Members.AreAll, Sharing.ArePartsOf}
 use Rattle.workers.proofs.days.Running.of.Goals as goal
 
 pub returns-clause-running : goal.returns-clause-running

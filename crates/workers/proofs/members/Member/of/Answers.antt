@@ -1,7 +1,5 @@
 use Rattle.std.proofs.Common.{false, refl}
-use Rattle.workers.specs.declared.members.Member.{Member}
-use Rattle.workers.proofs.Resting.{goes_on}
-use Rattle.workers.proofs.Starting.{starts}
+use Rattle.workers.{proofs.Resting.goes_on, proofs.Starting.starts, specs.declared.members.Member.Member}
 use Rattle.workers.proofs.members.Member.of.Goals as goal
 
 pub returns-clause-member : goal.returns-clause-member

@@ -1,6 +1,7 @@
 //! The persons of phases A and B1.
 
-ghost use Rattle.std.specs.{Ordering.nat_cmp, Prelude.◌≡◌, Prelude.[], Prelude.OnOk, Prelude.IsPermutation, Prelude.IsSorted};
+ghost use Rattle.std.specs.Ordering.{nat_cmp};
+ghost use Rattle.std.specs.Prelude.{◌≡◌, [], OnOk, OnErr, IfOk, IsPermutation, IsSorted};
 ghost use Rattle.calendar.specs.Due.{due_at, HasNone, HasOneMore};
 ghost use Rattle.agents.specs.Due.{HasOneMoreWhere};
 
@@ -13,14 +14,15 @@ use std::alloc::{AllocError, Global};
 pub type PersonList = Rows<u32>;
 
 /// Those who are due in a second, by number.
-fn in_order(due: &mut Calendar, second: u32) -> PersonList
-    ensures same { IsPermutation (due_at second due.old) result }
-    ensures order { IsSorted nat_cmp result }
-    ensures rest { HasNone second due.old due.new }
+fn in_order(due: &mut Calendar, second: u32) -> Result<PersonList, AllocError>
+    ensures same { IfOk result (λ persons. IsPermutation (due_at second due.old) persons) }
+    ensures order { IfOk result (λ persons. IsSorted nat_cmp persons) }
+    ensures rest { OnOk result (HasNone second due.old due.new) }
+    ensures err { OnErr result (due.new ≡ due.old) }
 {
-    let mut persons = due.take(second);
+    let mut persons = due.take(second)?;
     persons.sort_unstable();
-    PersonList { rows: persons }
+    Ok(PersonList { rows: persons })
 }
 
 impl Agents {
@@ -68,20 +70,30 @@ impl Agents {
     }
 
     /// Takes those whose teleported legs end in this second, by number.
-    pub fn arrivals(&mut self, second: u32) -> PersonList
-        ensures same { IsPermutation (due_at second self.old.flights) result }
-        ensures order { IsSorted nat_cmp result }
-        ensures rest { HasNone second self.old.flights self.new.flights }
+    ///
+    /// # Errors
+    ///
+    /// `AllocError`: there is no memory for the answer. The same ones are due then as before.
+    pub fn arrivals(&mut self, second: u32) -> Result<PersonList, AllocError>
+        ensures same { IfOk result (λ persons. IsPermutation (due_at second self.old.flights) persons) }
+        ensures order { IfOk result (λ persons. IsSorted nat_cmp persons) }
+        ensures rest { OnOk result (HasNone second self.old.flights self.new.flights) }
+        ensures err { OnErr result (self.new.flights ≡ self.old.flights) }
         ensures ends { self.new.ends ≡ self.old.ends }
     {
         in_order(&mut self.flights, second)
     }
 
     /// Takes those whose activities end in this second, by number.
-    pub fn ends(&mut self, second: u32) -> PersonList
-        ensures same { IsPermutation (due_at second self.old.ends) result }
-        ensures order { IsSorted nat_cmp result }
-        ensures rest { HasNone second self.old.ends self.new.ends }
+    ///
+    /// # Errors
+    ///
+    /// `AllocError`: there is no memory for the answer. The same ones are due then as before.
+    pub fn ends(&mut self, second: u32) -> Result<PersonList, AllocError>
+        ensures same { IfOk result (λ persons. IsPermutation (due_at second self.old.ends) persons) }
+        ensures order { IfOk result (λ persons. IsSorted nat_cmp persons) }
+        ensures rest { OnOk result (HasNone second self.old.ends self.new.ends) }
+        ensures err { OnErr result (self.new.ends ≡ self.old.ends) }
         ensures flights { self.new.flights ≡ self.old.flights }
     {
         in_order(&mut self.ends, second)

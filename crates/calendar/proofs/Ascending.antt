@@ -16,11 +16,6 @@ in_place (x ∷ xs) n (suc k) lt e = inr (in_place xs n k (omega arith) e)
 pub in_from : (xs : List ℕ) (n : ℕ) → Contains xs n → In n xs
 in_from xs n h = in_place xs n h.0 h.1 h.2
 
-pub in_to : (xs : List ℕ) (n : ℕ) → In n xs → Contains xs n
-in_to [] n h = absurd h
-in_to (x ∷ xs) n (inl e) = (0, omega arith, sym e)
-in_to (x ∷ xs) n (inr h) = let c = in_to xs n h in let lt = c.1 in (suc c.0, omega arith, c.2)
-
 -- a number is below all of these; and each is below all later ones
 abbrev pub IsBelow : ℕ → List ℕ → Type 0
 IsBelow n [] = Unit {0}

@@ -1,5 +1,6 @@
 pub mod Tables
 pub mod InBlocks
+pub mod Laid
 pub mod Ascending
 pub mod Hung
 pub mod Woken

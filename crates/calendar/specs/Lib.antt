@@ -1,5 +1,6 @@
 pub mod Due
 pub mod Blocks
+pub mod Hooks
 pub mod DueViews
 pub mod Waking
 pub mod WakesViews

@@ -1,100 +1,159 @@
-//! The rows of a block of seconds: numbers come to one of them, and are taken from it.
+//! The last hook of each second, in blocks of seconds.
 
-ghost use Rattle.std.specs.Prelude.{◌≡◌, ℕ, ◌<◌, ◌≤◌, true, [], length, map, vec_items, OnOk, OnErr};
 ghost use Rattle.std.specs.List.{list_all};
-ghost use Rattle.calendar.specs.{Blocks.rows_of, Blocks.is_empty, Due.due_at, Due.HasOneMore, Due.HasNone};
+ghost use Rattle.std.specs.Prelude.{◌≡◌, ℕ, ◌<◌, ◌≤◌, ◌/◌, true, length, get_or, is_none, None, OnOk};
+ghost use Rattle.calendar.specs.{Blocks.head_at, Blocks.HasRow, Blocks.HasHead, Blocks.HasHeadIn, Blocks.HaveSameHeads};
+ghost use Rattle.calendar.specs.{Blocks.HaveSameHeadsIn};
 
 use crate::BLOCK_SECONDS;
-use lists::{make_room, push_with_room};
+use lists::make_room;
 use std::alloc::AllocError;
-use std::mem::replace;
+
+/// The last hook of a second of a block.
+fn head_in(rows: &[Option<u32>], place: usize) -> Option<u32>
+    ensures { result ≡ get_or rows.now place None }
+{
+    if place < rows.len() {
+        return rows[place];
+    }
+    None
+}
+
+/// The last hook of a second.
+pub(crate) fn head_of(blocks: &[Vec<Option<u32>>], second: usize) -> Option<u32>
+    ensures { result ≡ head_at blocks.now second }
+{
+    let block = second / BLOCK_SECONDS;
+    if block < blocks.len() {
+        return head_in(&blocks[block], second % BLOCK_SECONDS);
+    }
+    None
+}
 
 /// The block has a row for each of its seconds.
-fn fill_up(rows: &mut Vec<Vec<u32>>) -> Result<(), AllocError>
+fn fill_up(rows: &mut Vec<Option<u32>>) -> Result<(), AllocError>
     ensures long { OnOk result (BLOCK_SECONDS ≤ length rows.new.items) }
-    ensures same { (u : ℕ) → due_at u (rows_of rows.new) ≡ due_at u (rows_of rows.old) }
+    ensures same { HaveSameHeadsIn rows.old.items rows.new.items }
 {
     make_room(rows, BLOCK_SECONDS)?;
-    let alloc = *rows.allocator();
     'rows: while rows.len() < BLOCK_SECONDS {
-        rows.push(Vec::new(alloc))?;
+        rows.push(None)?;
     }
     Ok(())
 }
 
-/// The number is due in this second, which has a row.
-fn put(rows: &mut Vec<Vec<u32>>, place: usize, number: u32) -> Result<(), AllocError>
-    requires { place < length rows.old.items }
-    ensures ok { OnOk result (HasOneMore place number (rows_of rows.old) (rows_of rows.new)) }
-    ensures err { OnErr result (rows_of rows.new ≡ rows_of rows.old) }
+/// There is a block of this number.
+fn reach_block(blocks: &mut Vec<Vec<Option<u32>>>, block: usize) -> Result<(), AllocError>
+    ensures long { OnOk result (block < length blocks.new.items) }
+    ensures same { HaveSameHeads blocks.old.items blocks.new.items }
 {
-    push_with_room(&mut rows[place], number)?;
+    let alloc = *blocks.allocator();
+    'reached: while blocks.len() <= block {
+        blocks.push(Vec::new(alloc))?;
+    }
     Ok(())
 }
 
-/// One number more is due in this second of a block.
-pub(crate) fn add_in(rows: &mut Vec<Vec<u32>>, place: usize, number: u32) -> Result<(), AllocError>
-    requires { place < BLOCK_SECONDS }
-    ensures ok { OnOk result (HasOneMore place number (rows_of rows.old) (rows_of rows.new)) }
-    ensures err { OnErr result ((u : ℕ) → due_at u (rows_of rows.new) ≡ due_at u (rows_of rows.old)) }
+/// A block that is there has a row for each of its seconds.
+fn fill_block(blocks: &mut Vec<Vec<Option<u32>>>, second: usize) -> Result<(), AllocError>
+    requires { second / BLOCK_SECONDS < length blocks.old.items }
+    ensures long { OnOk result (HasRow second blocks.new.items) }
+    ensures same { HaveSameHeads blocks.old.items blocks.new.items }
 {
-    fill_up(rows)?;
-    put(rows, place, number)?;
+    fill_up(&mut blocks[second / BLOCK_SECONDS])?;
     Ok(())
+}
+
+/// The table has a row for this second.
+pub(crate) fn reach(blocks: &mut Vec<Vec<Option<u32>>>, second: usize) -> Result<(), AllocError>
+    ensures long { OnOk result (HasRow second blocks.new.items) }
+    ensures same { HaveSameHeads blocks.old.items blocks.new.items }
+{
+    reach_block(blocks, second / BLOCK_SECONDS)?;
+    fill_block(blocks, second)?;
+    Ok(())
+}
+
+/// A second of a block has another last hook.
+fn put_in(rows: &mut Vec<Option<u32>>, place: usize, head: Option<u32>)
+    requires { place < length rows.old.items }
+    ensures head { HasHeadIn place head rows.old.items rows.new.items }
+    ensures count { length rows.new.items ≡ length rows.old.items }
+{
+    rows[place] = head;
+}
+
+/// A second has another last hook.
+pub(crate) fn put_head(blocks: &mut Vec<Vec<Option<u32>>>, second: usize, head: u32)
+    requires { HasRow second blocks.old.items }
+    ensures { HasHead second (Some head) blocks.old.items blocks.new.items }
+{
+    put_in(
+        &mut blocks[second / BLOCK_SECONDS],
+        second % BLOCK_SECONDS,
+        Some(head),
+    );
 }
 
 /// Whether nobody is due in any of these seconds.
-fn are_empty(rows: &[Vec<u32>]) -> bool
-    ensures { result ≡ list_all is_empty rows.now }
+fn are_all_none(rows: &[Option<u32>]) -> bool
+    ensures { result ≡ list_all is_none rows.now }
 {
-    rows.iter().all(|row| row.is_empty())
+    rows.iter().all(|row| row.is_none())
 }
 
 /// A block whose last second this is has no rows any more, where nobody is due in any of them.
 #[tactic(auto, using(crate::proofs::Tables::none_in_any))]
-fn drop_past(rows: &mut Vec<Vec<u32>>, place: usize)
+fn drop_past(rows: &mut Vec<Option<u32>>, place: usize)
     requires { place < length rows.old.items }
-    ensures { (u : ℕ) → due_at u (rows_of rows.new) ≡ due_at u (rows_of rows.old) }
+    ensures { HaveSameHeadsIn rows.old.items rows.new.items }
 {
     if place + 1 < rows.len() {
         return;
     }
-    if are_empty(rows) {
+    if are_all_none(rows) {
         *rows = Vec::new(*rows.allocator());
+    }
+}
+
+/// Nobody is due in a second of a block any more.
+fn clear_in(rows: &mut Vec<Option<u32>>, place: usize)
+    ensures { HasHeadIn place None rows.old.items rows.new.items }
+{
+    if place < rows.len() {
+        put_in(rows, place, None);
+        drop_past(rows, place);
+    }
+}
+
+/// Nobody is due in a second any more.
+pub(crate) fn clear(blocks: &mut Vec<Vec<Option<u32>>>, second: usize)
+    ensures { HasHead second None blocks.old.items blocks.new.items }
+{
+    let block = second / BLOCK_SECONDS;
+    if block < blocks.len() {
+        clear_in(&mut blocks[block], second % BLOCK_SECONDS);
     }
 }
 
 /// Whether it is seen at once that nobody is due in this second of a block. It is not in the last second of one that has rows: that one is
 /// to be taken, so that the rows go.
-pub(crate) fn is_quiet_in(rows: &[Vec<u32>], place: usize) -> bool
-    ensures { result ≡ true → due_at place (map vec_items rows.now) ≡ [] }
+fn is_quiet_in(rows: &[Option<u32>], place: usize) -> bool
+    ensures { result ≡ true → get_or rows.now place None ≡ None }
 {
     if place < rows.len() {
-        return place + 1 < rows.len() && rows[place].is_empty();
+        return place + 1 < rows.len() && rows[place].is_none();
     }
     true
 }
 
-/// Takes those who are due in this second, which has a row, in the order in which they came.
-fn take_row(rows: &mut Vec<Vec<u32>>, place: usize) -> Vec<u32>
-    requires { place < length rows.old.items }
-    ensures due { result.items ≡ due_at place (rows_of rows.old) }
-    ensures rest { HasNone place (rows_of rows.old) (rows_of rows.new) }
-    ensures count { length rows.new.items ≡ length rows.old.items }
+/// Whether it is seen at once that nobody is due in a second.
+pub(crate) fn is_quiet_at(blocks: &[Vec<Option<u32>>], second: usize) -> bool
+    ensures { result ≡ true → head_at blocks.now second ≡ None }
 {
-    let alloc = *rows.allocator();
-    replace(&mut rows[place], Vec::new(alloc))
-}
-
-/// Takes those who are due in this second of a block, in the order in which they came.
-pub(crate) fn take_in(rows: &mut Vec<Vec<u32>>, place: usize) -> Vec<u32>
-    ensures due { result.items ≡ due_at place (rows_of rows.old) }
-    ensures rest { HasNone place (rows_of rows.old) (rows_of rows.new) }
-{
-    if place < rows.len() {
-        let numbers = take_row(rows, place);
-        drop_past(rows, place);
-        return numbers;
+    let block = second / BLOCK_SECONDS;
+    if block < blocks.len() {
+        return is_quiet_in(&blocks[block], second % BLOCK_SECONDS);
     }
-    Vec::new(*rows.allocator())
+    true
 }

@@ -3,6 +3,7 @@
 
 mod blocks;
 mod by_second;
+mod hooks;
 mod seconds;
 mod wake_ups;
 mod waking;

@@ -1,11 +1,11 @@
 //! Numbers come to a second, and are taken from it.
 
-ghost use Rattle.std.specs.Prelude.{◌≡◌, ℕ, ◌<◌, true, [], length, OnOk, OnErr};
+ghost use Rattle.std.specs.Prelude.{◌≡◌, ℕ, true, [], OnOk, OnErr, IfOk};
 ghost use Rattle.calendar.specs.Due.{due_at, HasOneMore, HasNone};
 
-use crate::BLOCK_SECONDS;
-use crate::blocks::{add_in, is_quiet_in, take_in};
-use crate::by_second::Calendar;
+use crate::blocks::{clear, head_of, is_quiet_at, put_head, reach};
+use crate::by_second::{Calendar, Hook};
+use crate::hooks::{give_back, hook_up, numbers_of};
 use std::alloc::{AllocError, Global};
 
 impl Calendar {
@@ -16,46 +16,26 @@ impl Calendar {
     {
         Calendar {
             blocks: Vec::new(alloc),
+            hooks: Vec::new(alloc),
+            free: None,
         }
-    }
-
-    /// The table reaches over this second from now on.
-    #[tactic(auto, using(crate::proofs::InBlocks::reached_block, crate::proofs::InBlocks::long_enough))]
-    fn reach(&mut self, second: usize) -> Result<(), AllocError>
-        ensures long { OnOk result (second < length self.new) }
-        ensures same { (u : ℕ) → due_at u self.new ≡ due_at u self.old }
-    {
-        let alloc = *self.blocks.allocator();
-        let block = second / BLOCK_SECONDS;
-        'reached: while self.blocks.len() <= block {
-            self.blocks.push(Vec::new(alloc))?;
-        }
-        Ok(())
-    }
-
-    /// The number is due in this second.
-    fn put(&mut self, second: usize, number: u32) -> Result<(), AllocError>
-        requires { second < length self.old }
-        ensures ok { OnOk result (HasOneMore second number self.old self.new) }
-        ensures err { OnErr result ((u : ℕ) → due_at u self.new ≡ due_at u self.old) }
-    {
-        let rows = &mut self.blocks[second / BLOCK_SECONDS];
-        add_in(rows, second % BLOCK_SECONDS, number)?;
-        Ok(())
     }
 
     /// One number more is due in this second. There is a place for each block of seconds up to that of the last one that was given.
     ///
     /// # Errors
     ///
-    /// `AllocError`: there is no memory for one more, or for the seconds up to then. The same ones are due then as before.
+    /// `AllocError`: there is no memory for one more, or for the seconds up to then, or 2^32 numbers are due already. The same ones are due
+    /// then as before.
     pub fn add(&mut self, second: u32, number: u32) -> Result<(), AllocError>
         ensures ok { OnOk result (HasOneMore second number self.old self.new) }
         ensures err { OnErr result ((u : ℕ) → due_at u self.new ≡ due_at u self.old) }
     {
         let place = second as usize;
-        self.reach(place)?;
-        self.put(place, number)?;
+        reach(&mut self.blocks, place)?;
+        let next = head_of(&self.blocks, place);
+        let hook = hook_up(&mut self.hooks, &mut self.free, Hook { number, next })?;
+        put_head(&mut self.blocks, place, hook);
         Ok(())
     }
 
@@ -64,25 +44,24 @@ impl Calendar {
     pub fn is_quiet(&self, second: u32) -> bool
         ensures { result ≡ true → due_at second self.now ≡ [] }
     {
-        let place = second as usize;
-        let block = place / BLOCK_SECONDS;
-        if block < self.blocks.len() {
-            return is_quiet_in(&self.blocks[block], place % BLOCK_SECONDS);
-        }
-        true
+        is_quiet_at(&self.blocks, second as usize)
     }
 
     /// Takes those that are due in this second, in the order in which they came.
-    pub fn take(&mut self, second: u32) -> Vec<u32>
-        ensures due { result.items ≡ due_at second self.old }
-        ensures rest { HasNone second self.old self.new }
+    ///
+    /// # Errors
+    ///
+    /// `AllocError`: there is no memory for the answer. The same ones are due then as before.
+    pub fn take(&mut self, second: u32) -> Result<Vec<u32>, AllocError>
+        ensures due { IfOk result (λ numbers. numbers.items ≡ due_at second self.old) }
+        ensures rest { OnOk result (HasNone second self.old self.new) }
+        ensures err { OnErr result (self.new ≡ self.old) }
     {
-        let alloc = *self.blocks.allocator();
         let place = second as usize;
-        let block = place / BLOCK_SECONDS;
-        if block < self.blocks.len() {
-            return take_in(&mut self.blocks[block], place % BLOCK_SECONDS);
-        }
-        Vec::new(alloc)
+        let head = head_of(&self.blocks, place);
+        let numbers = numbers_of(*self.blocks.allocator(), &self.hooks, head)?;
+        give_back(&mut self.hooks, &mut self.free, head);
+        clear(&mut self.blocks, place);
+        Ok(numbers)
     }
 }

@@ -1,7 +1,7 @@
 //! Numbers are given the second in which they are woken, and are woken in it.
 
 ghost use Rattle.std.specs.List.{Contains, Sorted.IsStrictlyIncreasing};
-ghost use Rattle.std.specs.Prelude.{◌≡◌, ◌<◌, ℕ, true, [], length, map, filter, set, replicate, None, OnOk, IfOk};
+ghost use Rattle.std.specs.Prelude.{◌≡◌, ◌<◌, ℕ, true, [], length, map, filter, set, replicate, None, OnOk, OnErr, IfOk};
 ghost use Rattle.calendar.specs.Waking.{wake_of, is_second, is_woken, woken, slept, asleep, woken_by, within};
 
 use crate::by_second::Calendar;
@@ -153,13 +153,19 @@ impl Wakes {
     }
 
     /// Takes those who are woken in this second, ascending; they are not woken any more then.
-    pub fn take(&mut self, second: u32) -> Vec<u32>
-        ensures woken { result.items ≡ woken second self.old }
-        ensures slept { self.new ≡ map (slept second) self.old }
+    ///
+    /// # Errors
+    ///
+    /// `AllocError`: there is no memory for the answer. The same ones are woken then as before.
+    pub fn take(&mut self, second: u32) -> Result<Vec<u32>, AllocError>
+        ensures woken { IfOk result (λ numbers. numbers.items ≡ woken second self.old) }
+        ensures slept { OnOk result (self.new ≡ map (slept second) self.old) }
+        ensures err { OnErr result (self.new ≡ self.old) }
     {
-        let mut numbers = ascending(self.calendar.take(second));
+        let numbers = self.calendar.take(second)?;
+        let mut numbers = ascending(numbers);
         keep_woken(second, &self.due, &mut numbers);
         lull(&numbers, &mut self.due);
-        numbers
+        Ok(numbers)
     }
 }

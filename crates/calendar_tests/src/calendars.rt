@@ -17,7 +17,10 @@ fn three_numbers(alloc: Global) -> Calendar {
 
 /// Whether just these numbers are due in a second. They are taken out.
 fn takes(calendar: &mut Calendar, second: u32, numbers: &[u32]) -> bool {
-    calendar.take(second).as_slice() == numbers
+    let Ok(due) = calendar.take(second) else {
+        return false;
+    };
+    due.as_slice() == numbers
 }
 
 /// Numbers are taken in the order in which they came, and once.
@@ -62,6 +65,38 @@ fn numbers_stay_due_in_blocks(rt: HostRuntime) {
     assert!(rt; stay_due_in_blocks(rt.alloc()));
 }
 
+/// Numbers 1 to 3 are due in second 5 and number 4 in second 6; when those of second 5 were taken, numbers 5 to 9 come to seconds 6 and 40
+/// in turn: three of them find the place of one that was taken, and the others find none.
+fn come_later(calendar: &mut Calendar) -> Result<(), AllocError> {
+    calendar.add(6, 5)?;
+    calendar.add(40, 6)?;
+    calendar.add(6, 7)?;
+    calendar.add(40, 8)?;
+    calendar.add(6, 9)
+}
+
+/// Those who come when others were taken are due in the order in which they came, and so are those who came before.
+fn are_due_again(alloc: Global) -> bool {
+    let mut calendar = Calendar::new(alloc);
+    calendar.add(5, 1).is_ok()
+        && calendar.add(5, 2).is_ok()
+        && calendar.add(6, 4).is_ok()
+        && calendar.add(5, 3).is_ok()
+        && takes(&mut calendar, 5, &[1, 2, 3])
+        && come_later(&mut calendar).is_ok()
+        && takes(&mut calendar, 5, &[])
+        && takes(&mut calendar, 6, &[4, 5, 7, 9])
+        && calendar.add(5, 10).is_ok()
+        && takes(&mut calendar, 40, &[6, 8])
+        && takes(&mut calendar, 5, &[10])
+        && takes(&mut calendar, 6, &[])
+}
+
+#[test]
+fn numbers_are_due_in_places_of_others(rt: HostRuntime) {
+    assert!(rt; are_due_again(rt.alloc()));
+}
+
 /// Number 0 is put off from second 3 to second 8; number 1 is asked for in seconds 9 and 4, and number 2 in seconds 4 and 6. Number 3 is
 /// told not to wake any more.
 fn put_off(wakes: &mut Wakes) -> Result<(), AllocError>
@@ -79,7 +114,10 @@ fn put_off(wakes: &mut Wakes) -> Result<(), AllocError>
 
 /// Whether just these numbers are woken in a second.
 fn wakes_just(wakes: &mut Wakes, second: u32, numbers: &[u32]) -> bool {
-    wakes.take(second).as_slice() == numbers
+    let Ok(woken) = wakes.take(second) else {
+        return false;
+    };
+    woken.as_slice() == numbers
 }
 
 /// Each number is woken in the last second that it was given, or in the earliest that it was asked for, and once.
@@ -118,12 +156,18 @@ fn five_persons(alloc: Global) -> Agents {
 
 /// Whether just these persons land in a second.
 fn land(agents: &mut Agents, second: u32, persons: &[u32]) -> bool {
-    agents.arrivals(second).rows.as_slice() == persons
+    let Ok(landed) = agents.arrivals(second) else {
+        return false;
+    };
+    landed.rows.as_slice() == persons
 }
 
 /// Whether just the activities of these persons end in a second.
 fn leave(agents: &mut Agents, second: u32, persons: &[u32]) -> bool {
-    agents.ends(second).rows.as_slice() == persons
+    let Ok(left) = agents.ends(second) else {
+        return false;
+    };
+    left.rows.as_slice() == persons
 }
 
 /// They are taken by their numbers, and once.

@@ -97,15 +97,6 @@ module _ (graph : Graph) (arrive : Arrivals) where
   abbrev filled_by_test : Act → ℕ → List ℕ → Bool → List ℕ
   filled_by_test here there route none = cond none (unwrap_or (route_between graph arrive here there) []) route
 
-  -- a route with links is kept
-  pub filled_kept : (here : Act) (there : ℕ) (route new : List ℕ) (found : List WayList) (rest : Pairs) → nat_eq (length route) 0 ≡ false → new ≡ route
-      → AreNext graph arrive found (option_to_list (wanted graph.ends here.link there (leg.Car route)) ++ rest)
-      → (new ≡ filled graph arrive here there route) × AreNext graph arrive found rest
-  filled_kept here there route new found rest some is next =
-      let P : Bool → Type 0 = λ b. AreNext graph arrive found
-      (option_to_list (wanted_by_tests here.link there b (not (nat_eq here.link there))) ++ rest) in
-      (is ∙ sym (ap (filled_by_test here there route) some), subst P some next)
-
   -- a leg to the link on which it begins
   pub filled_here : (here : Act) (there : ℕ) (route new : List ℕ) (found : List WayList) (rest : Pairs) → nat_eq (length route) 0 ≡ true
       → here.link ≡ there → new ≡ here.link ∷ []

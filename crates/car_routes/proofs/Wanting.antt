@@ -1,12 +1,10 @@
 -- The wanted routes, gathered leg by leg.
-use Rattle.std.proofs.Common.{◌≡◌, ℕ, zero, suc, ◌+◌, ◌<◌, ◌≤◌, Bool, cond, List, [], ◌∷◌, ◌++◌, length, map, drop, replicate, Option, None, Some, ◌⊎◌, inl}
-use Rattle.std.proofs.Common.{inr, refl, sym, ◌∙◌, ap, subst, arith, append_assoc}
-use Rattle.std.proofs.lemmas.Bool.{cases_eq, eq-eqb, ne_eqb}
+use Rattle.std.proofs.Common.{◌≡◌, ℕ, ◌+◌, ◌<◌, ◌≤◌, Bool, cond, List, [], ◌∷◌, ◌++◌, length, map, drop, Option, None, Some, ◌⊎◌, inl, inr, refl, sym, ◌∙◌, ap}
+use Rattle.std.proofs.{Common.subst, Common.arith, Common.append_assoc, lemmas.Bool.cases_eq, lemmas.Bool.eq-eqb, lemmas.Bool.ne_eqb}
 use Rattle.std.proofs.lemmas.List.{append-nil, map-append, drop_more, drop_all, get_or-set_same, get_or-set_other, length-set}
-use Rattle.std.proofs.lemmas.List.Elements.{filter-append, All-push, All-set, All-get_or, All-nil, All-replicate}
+use Rattle.std.proofs.lemmas.List.Elements.{filter-append, All-push, All-set, All-get_or}
 use Rattle.std.specs.{List.cons_option, Prelude.nat_eq, Prelude.filter, Prelude.slice_index_or, Prelude.slice_set, Prelude.option_to_list, Prelude.All}
 use Rattle.rows.specs.{PlanRows.PlanRows, PlanRows.plan_rows, PlanRows.all_plan_rows, declared.plan.Act.Act, declared.plan.Leg.Leg, declared.plan.Plan.Plan}
-use Rattle.rows.specs.declared.plan.Leg.TheVariants as leg
 use Rattle.walks.specs.Walks.{Ends}
 use Rattle.car_routes.specs.Wanted.{Pairs, wanted, wanted_in, wanted_by, wanted_by_all, wanted_from, row_of, AreNodes, WantsMore}
 
@@ -185,17 +183,3 @@ by_past ends plans i done = ap (λ (ps : List Plan). wanted_by ends (map plan_ro
 pub by_all_past : (ends : Ends) (plans : List (List Plan)) (i : ℕ) → length plans ≤ i → wanted_by_all ends (all_plan_rows (drop i plans)) ≡ []
 by_all_past ends plans i done =
     ap (λ (ps : List (List Plan)). wanted_by_all ends (all_plan_rows ps)) (drop_all i plans done) ∙ by_all_none ends
-
--- FROM NO TARGET
-no_row : (n node : ℕ) → row_of {A = ℕ} (replicate n []) node ≡ []
-no_row zero node = refl
-no_row (suc n) zero = refl
-no_row (suc n) (suc node) = no_row n node
-
--- all targets, where there was none before
-pub all_wanted : (nodes : ℕ) (pairs : Pairs) (targets : List (List ℕ)) → WantsMore nodes pairs (replicate nodes []) targets
-    → (node : ℕ) → row_of targets node ≡ wanted_from node pairs
-all_wanted nodes pairs targets more node = more.each node ∙ ap (λ (ns : List ℕ). ns ++ wanted_from node pairs) (no_row nodes node)
-
-pub no_targets_inside : (nodes : ℕ) → AreNodes nodes (replicate nodes [])
-no_targets_inside nodes = All-replicate (All (λ node. node < nodes)) nodes [] (All-nil (λ node. node < nodes))

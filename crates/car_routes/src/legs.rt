@@ -1,7 +1,7 @@
 //! Legs with the routes that were found for them.
 
-ghost use Rattle.std.specs.{List.list_all, Prelude.◌≡◌, Prelude.◌<◌, Prelude.◌≤◌};
-ghost use Rattle.std.specs.Prelude.{◌+◌, ◌∷◌, ◌++◌, [], true, length, List, ℕ, IfOk, IfSome, Option, unwrap_or, option_map, option_to_list};
+ghost use Rattle.std.specs.{List.list_all, Prelude.◌≡◌, Prelude.◌<◌, Prelude.◌≤◌, Prelude.◌+◌, Prelude.◌∷◌};
+ghost use Rattle.std.specs.Prelude.{◌++◌, [], true, length, List, ℕ, IfOk, IfSome, Option, unwrap_or, option_map, option_to_list};
 ghost use Rattle.limits.specs.declared.TheConstants.{MAX_ROUTE_LINKS};
 ghost use Rattle.rows.specs.Plan.{is_leg};
 ghost use Rattle.rows.specs.declared.plan.Leg.TheVariants as leg;

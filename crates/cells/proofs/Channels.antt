@@ -5,10 +5,9 @@ use Rattle.std.proofs.{Math.Seq.take-suc, lemmas.Bool.eqb-true, lemmas.List.leng
 use Rattle.std.{proofs.lemmas.Map.Keys.IsDistinct-from_apart, proofs.lemmas.Map.Steps.length-le_from_distinct_below, specs.List.list_any}
 use mathlib.Core.Logic.{dite}
 use native.Mathlib.Decide.{ℕ_discrete, dec_le}
-use Rattle.cells.proofs.Heads.{append_one}
+use Rattle.cells.{proofs.Heads.append_one, specs.Ports.AreBorders, specs.Ports.border_at, specs.Rule.no_channel, specs.Rule.from_of}
+use Rattle.cells.specs.{Rule.to_of, Rule.lag_of, Rule.twin_of, Rule.AreChannelsOf, Rule.AreSingle, declared.table.Border.Border, declared.table.Channel.Channel}
 use Rattle.cells.specs.Pairs.{Pair, ArePairs, no_pair, pair_at, channel_there, channel_back, channels_from, channels_of, AreLags}
-use Rattle.cells.specs.{Ports.AreBorders, Ports.border_at, Rule.no_channel, Rule.from_of, Rule.to_of, Rule.lag_of, Rule.twin_of, Rule.AreChannelsOf}
-use Rattle.cells.specs.{Rule.AreSingle, declared.table.Border.Border, declared.table.Channel.Channel}
 
 pub length-channels_from : (e : ℕ) (xs : List Pair) → length (channels_from e xs) ≡ 2 * length xs
 length-channels_from e [] = refl

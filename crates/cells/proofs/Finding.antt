@@ -3,17 +3,8 @@ use Rattle.std.proofs.Common.{◌≡◌, ◌≢◌, ℕ, suc, ◌+◌, ◌<◌, 
 use Rattle.std.proofs.Math.{ListN.get_or-append, Seq.get_or-append_seam}
 use mathlib.Core.Logic.{dite}
 use native.Mathlib.Decide.{ℕ_discrete, dec_le}
-use Rattle.cells.specs.Ports.{IsBorder, AreBorders, border_at, AreFound, Ascends}
-use Rattle.cells.specs.{Rule.no_border, Rule.from_of, Rule.to_of, Rule.AreSingle, declared.table.Border.Border, declared.table.Channel.Channel}
-
-pub found_none : (cs : List Channel) (p : ℕ) → AreFound cs p 0 0 []
-found_none cs p = record {
-  each = λ k lt. absurd (omega arith);
-  before = λ k lt. absurd (omega arith);
-  all = λ d lt is b. absurd (⊎_elim (λ u. omega arith) (λ u. let v = u.1 in omega arith) b);
-  once = λ j k lj lk e. absurd (omega arith);
-  climbs = λ j k lt lk. absurd (omega arith);
-}
+use Rattle.cells.specs.Ports.{IsBorder, border_at, AreFound}
+use Rattle.cells.specs.{Rule.no_border, Rule.from_of, Rule.to_of, declared.table.Border.Border, declared.table.Channel.Channel}
 
 module _ (cs : List Channel) (p q e : ℕ) (borders : List Border) (f : AreFound cs p q e borders) where
   -- the channel e is another
@@ -90,32 +81,3 @@ module _ (cs : List Channel) (p q e : ℕ) (borders : List Border) (f : AreFound
         other : (j : ℕ) → j < length borders → (border_at borders j).inward ≢ e
         other j lt is = ⊎_elim (λ u. let a = (f.each j lt).sender in let b = ap (from_of cs) is in let c = ap (from_of cs) at in
             let d = ok.sender in omega arith) (λ u. let v = u.1 in omega arith) (f.before j lt)
-
--- all channels from q were after_look
-pub found_next : (cs : List Channel) (p q : ℕ) (borders : List Border) → AreFound cs p q (length cs) borders
-    → AreFound cs p (q + 1) 0 borders
-found_next cs p q borders f = record {
-  each = f.each;
-  before = λ k lt. inl (⊎_elim (λ u. omega arith) (λ u. let v = u.0 in omega arith) (f.before k lt));
-  all = λ d lt is b. ⊎_elim (λ u. dite (ℕ_discrete (from_of cs d) q) (λ y. f.all d lt is (inr (y, lt)))
-      (λ ne. f.all d lt is (inl (omega arith)))) (λ u. let v = u.1 in absurd (omega arith)) b;
-  once = f.once;
-  climbs = f.climbs;
-}
-
-found_ascends : (cs : List Channel) (p q e : ℕ) (borders : List Border) → AreSingle cs → AreFound cs p q e borders → Ascends borders
-found_ascends cs p q e borders single f j k lt lk =
-    let lj : j < length borders = omega arith in let a = f.climbs j k lt lk in let rj = f.each j lj in let rk = f.each k lk in
-    dite (ℕ_discrete (border_at borders j).from (border_at borders k).from)
-    (λ y. let same = f.once j k lj lk (single (border_at borders j).inward (border_at borders k).inward rj.inside rk.inside (rj.sender ∙ y
-    ∙ sym rk.sender) (rj.receiver ∙ sym rk.receiver)) in absurd (omega arith))
-    (λ ne. omega arith)
-
-pub found_all : (cs : List Channel) (p count : ℕ) (borders : List Border) → ((e : ℕ) → e < length cs → from_of cs e < count) → AreSingle cs
-    → AreFound cs p count 0 borders → AreBorders cs p borders
-found_all cs p count borders within single f = record {
-  each = f.each;
-  all = λ d lt is. f.all d lt is (inl (within d lt));
-  once = f.once;
-  ascend = found_ascends cs p count 0 borders single f;
-}

@@ -1,6 +1,6 @@
 -- A port stays one of its board through its calls.
 use Rattle.std.proofs.Common.{◌≡◌, ℕ, ◌+◌, ◌-◌, ◌<◌, ◌≤◌, Bool, true, false, List, [], ◌∷◌, ◌++◌, map, length, set, sum_by, vec_capacity, Vec, Global, Option}
-use Rattle.std.proofs.Common.{None, sym, ap, ◌∙◌, refl, subst, true≢false, length-append, length-set, get_or-set_same, get_or-set_other, arith}
+use Rattle.std.proofs.Common.{None, sym, ap, ◌∙◌, refl, subst, length-append, length-set, get_or-set_same, get_or-set_other, arith}
 use Rattle.std.proofs.lemmas.List.Sums.{sum_by-set}
 use mathlib.Core.Logic.{dite}
 use native.Mathlib.Decide.{ℕ_discrete, dec_le}
@@ -18,12 +18,6 @@ module _ {T R P : Type 0} (right : R → ℕ → ℕ → ℕ → Option P → Ty
       → length p.order.items < vec_capacity p.order
   room_for p f k lt away = let l = f.long in let c = f.counted in let r = f.room in
       let o = free_room p.handovers.items k (omega arith) away in omega arith
-
-  away_is : (h : Handover P) → is_awaited h ≡ true → h ≡ Awaited
-  away_is Awaited e = refl
-  away_is (Arrived x) e = absurd (true≢false (sym e))
-  away_is Taken e = absurd (true≢false (sym e))
-  away_is (Put y) e = absurd (true≢false (sym e))
 
   -- what a ready look leaves in the port's seat and hands over
   abbrev pub Handed : Port T R P → ℕ → Me (Option P) (View R) → Handover P → Type 0
@@ -172,26 +166,6 @@ module _ {T R P : Type 0} (right : R → ℕ → ℕ → ℕ → Option P → Ty
   marked_is p t r m o (Arrived x) ne k = k.0
   marked_is p t r m o Taken ne k = k.0
   marked_is p t r m o (Put y) ne k = k.0
-
-  -- of a neighbour with no mark nothing is held
-  unmarked_away : (p t : ℕ) (r : Border) (m o : Bool) (h : Handover P) → m ≡ false → IsHandover (right (run_of b)) p t r m o h
-      → is_awaited h ≡ true
-  unmarked_away p t r m o Awaited un k = refl
-  unmarked_away p t r m o (Arrived x) un k = absurd (true≢false (sym k.0 ∙ un))
-  unmarked_away p t r m o Taken un k = absurd (true≢false (sym k.0 ∙ un))
-  unmarked_away p t r m o (Put y) un k = absurd (true≢false (sym k.0 ∙ un))
-
-  -- what a look that was not ready tells
-  pub not_yet_is : (p : Port T R P) → IsPort right b p → (k word : ℕ) → k < degree p → (border : Border)
-      → border ≡ border_at p.borders.items k → (me : Me (Option P) (View R)) → Looks right border (place border.from) p.seat.me word me
-      → word + border.lag ≤ p.done → (is_awaited (handover_at p.handovers.items k) ≡ true)
-      × (me ≡ (record (after_look border word p.seat.me.0) { waits = p.seat.me.0.waits + 1 }, p.seat.me.1))
-  not_yet_is p f k word lt border is me lk le = let at = f.done in let got = lk.1 (omega arith) in (
-    unmarked_away p.partition p.done (border_at p.borders.items k) (contains p.seat.me.0.marks (border_at p.borders.items k).inward)
-        (contains p.order.items k) (handover_at p.handovers.items k)
-        (ap (λ (r : Border). contains p.seat.me.0.marks r.inward) (sym is) ∙ got.0) (f.held k lt),
-    got.1,
-  )
 
   not_away : (h : Handover P) → (h ≡ Awaited → ⊥) → is_awaited h ≡ false
   not_away Awaited ne = absurd (ne refl)

@@ -188,9 +188,6 @@ module _ {R S : Type 0} (right : R → ℕ → ℕ → ℕ → Option S → Type
       abbrev gone' : ℕ → ℕ
       gone' = seat_at h.who w.partition 0
 
-      abbrev P' : ℕ → View R → Type 0
-      P' j u = IsPortView right run count n from to lag twin s.words gone' h.marked j u
-
       abbrev H' : ℕ → View R → Type 0
       H' j u = IsHubView right run count n from to lag twin s.words gone' h.marked j u
 

@@ -1,10 +1,10 @@
 -- What a caller that goes over all neighbours knows.
-use Rattle.std.proofs.Common.{◌≡◌, ◌≢◌, ℕ, ◌<◌, ◌≤◌, ◌⊎◌, true, false, List, length, set, sym, ap, ◌∙◌, refl, subst, inl, inr, ⊎_elim}
+use Rattle.std.proofs.Common.{◌≡◌, ◌≢◌, ℕ, ◌<◌, ◌⊎◌, true, false, List, length, set, sym, ap, ◌∙◌, refl, subst, inl, inr, ⊎_elim}
 use Rattle.std.proofs.Common.{get_or-set_same, get_or-set_other, arith, not, true≢false, Option}
 use mathlib.Core.Logic.{dite}
 use native.Mathlib.Decide.{ℕ_discrete, dec_le}
 use Rattle.cells.proofs.Rings.{by_bool}
-use Rattle.cells.specs.Ports.{border_at, handover_at, is_awaited, is_arrived, is_taken, is_put, degree, handover, lag_from, SameSecond, Fetches, Answers}
+use Rattle.cells.specs.Ports.{border_at, handover_at, is_awaited, is_taken, is_put, degree, handover, lag_from, SameSecond, Fetches, Answers}
 use Rattle.cells.specs.{Ports.IsUnreadOf, Ports.IsUnread, Ports.IsUntouched, Ports.IsSettled, declared.board.Board.Board, declared.board.Handover.Handover}
 use Rattle.cells.specs.declared.board.Handover.TheVariants.{Awaited, Arrived, Taken, Put}
 use Rattle.cells.specs.declared.{board.Look.TheVariants.Ready, board.Look.TheVariants.NotYet, board.Port.Port, table.Border.Border}
@@ -15,12 +15,6 @@ module _ {P : Type 0} where
   unread_known l t (Arrived x) u = refl
   unread_known l t Taken u = refl
   unread_known l t (Put y) u = refl
-
-  full_here : (l t : ℕ) (h : Handover P) → l ≤ t → IsUnreadOf l t h → is_arrived h ≡ true
-  full_here l t Awaited le u = absurd u
-  full_here l t (Arrived x) le u = refl
-  full_here l t Taken le u = absurd (let v : t < l = u in omega arith)
-  full_here l t (Put y) le u = absurd u
 
   put_taken : (h : Handover P) → is_put h ≡ true → is_taken h ≡ true
   put_taken Awaited is = absurd (true≢false (sym is))
@@ -78,10 +72,6 @@ module _ {T R P : Type 0} where
   pub put_settles : (right : R → ℕ → ℕ → ℕ → Option P → Type 0) (b : Board T R P) (p : Port T R P)
       → ((k : ℕ) → k < degree p → is_put (handover p k) ≡ true) → IsSettled right b p
   put_settles right b p all k lk = (put_taken (handover p k) (all k lk), λ not_put. absurd (true≢false (sym (all k lk) ∙ not_put)))
-
-  -- a parcel that lies there can be taken; where there is none, it counts as taken
-  pub unread_full : (p : Port T R P) (k : ℕ) → IsUnread p k → lag_from p k ≤ p.done → is_arrived (handover p k) ≡ true
-  unread_full p k u le = full_here (lag_from p k) p.done (handover p k) le u
 
   pub taken_unread : (old new : Port T R P) (k j : ℕ) → SameSecond old new → new.handovers.items ≡ set old.handovers.items k Taken → j ≢ k
       → IsUnread old j → IsUnread new j

@@ -1,13 +1,5 @@
 -- Two jobs that are done at the same time.
-use Rattle.std.proofs.Common.{◌≡◌, ℕ, zero, suc, ◌<◌, List, [], ◌∷◌, ◌++◌, length, length-append}
-use Rattle.std.proofs.Common.{slice_index_or, take, arith, refl, ap, sym, ◌∙◌, subst, subst₂}
-
--- what holds of both holds of each
-pub of_both : {A : Type 0} (X : A → Type 0) (xs : List A) (a b : A) → xs ≡ a ∷ b ∷ [] → X a → X b → (i : ℕ) (x : A)
-    → i < length xs → x ≡ slice_index_or xs i x → X x
-of_both X xs a b is first second zero x lt at = subst X (sym (at ∙ ap (λ l. slice_index_or l 0 x) is)) first
-of_both X xs a b is first second (suc zero) x lt at = subst X (sym (at ∙ ap (λ l. slice_index_or l 1 x) is)) second
-of_both X xs a b is first second (suc (suc i)) x lt at = let long = ap length is in absurd (omega arith)
+use Rattle.std.proofs.Common.{◌≡◌, ℕ, ◌<◌, List, [], ◌∷◌, ◌++◌, length, length-append, slice_index_or, take, arith, refl, ap, sym, ◌∙◌, subst₂}
 
 take_front : {A : Type 0} (xs more : List A) → take (length xs) (xs ++ more) ≡ xs
 take_front [] more = refl

@@ -102,13 +102,6 @@ module _ {S : Type 0} (told : ℕ → ℕ → List Event) (day : DayInput) (owne
       (is ∙ ap (λ q. record { partition = q; events = es }) h.number
       ∙ ap (λ l. record { partition = p; events = l }) (whole_span es within kept over))
 
-  -- a place is free
-  pub has_place : free x.sender ≡ 0 → ⊥
-  has_place none =
-      let begun = h.begun early in
-      let room = h.room in
-      absurd (omega arith)
-
   -- once it was sent the next span begins
   pub goes_over : (es : List Event) (piece : Piece) (y : Outgoing S) → v ≤ end → es ≡ x.kept.items ++ told_at day owner p t
       → (SPAN_SECONDS ≤ v - h.spans * SPAN_SECONDS) ⊎ (end ≤ v) → piece ≡ record { partition = x.partition; events = es }

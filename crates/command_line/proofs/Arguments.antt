@@ -59,9 +59,6 @@ module _ (command : Command) (m : ArgMatches) (parsed : IsParsedFrom command m) 
   here : Arg
   here = slice_index_or (args_of command) place arg
 
-  here_is : slice_index_or (args_of command) place arg ≡ arg
-  here_is = at.there
-
   same_id : (slice_index_or (args_of command) place arg).id.now ≡ rule.id
   same_id = ap (λ (a : Arg). a.id.now) at.there ∙ at.id
 

@@ -1,5 +1,5 @@
 -- The events of a person, one event more.
-use Rattle.std.proofs.Common.{◌≡◌, ℕ, suc, ◌+◌, ◌<◌, true, false, nat_eq, List, [], ◌∷◌, ◌++◌, length, get_or, take, drop, None, Some, sym, ap, ◌∙◌, subst}
+use Rattle.std.proofs.Common.{◌≡◌, ℕ, suc, ◌+◌, ◌<◌, true, false, nat_eq, List, [], ◌∷◌, ◌++◌, length, get_or, take, drop, Some, sym, ap, ◌∙◌, subst}
 use Rattle.std.proofs.{Common.append-nil, Common.append_assoc, Common.length-append, Common.arith, Math.Seq.drop-cons, Math.Seq.get_or-append_seam}
 use Rattle.std.proofs.{Math.Seq.take-append_seam, lemmas.List.take-append-drop, lemmas.List.Elements.filter-append}
 use Rattle.events.specs.{Persons.names, Persons.of_person, Persons.own_events, declared.event.Event.Event}
@@ -15,10 +15,7 @@ pub own-more : (i : ℕ) (es : List Event) (e : Event) → of_person i e ≡ tru
     → own_events i (es ++ e ∷ []) ≡ own_events i es ++ e ∷ []
 own-more i es e his = filter-append (of_person i) es (e ∷ []) ∙ rw his
 
--- an event that names nobody, one that names another person, and one that names him
-pub nobody : (i : ℕ) (e : Event) → e.person ≡ None → of_person i e ≡ false
-nobody i e none = ap (names i) none
-
+-- an event that names another person, and one that names him
 pub another : (i j : ℕ) (e : Event) → e.person ≡ Some j → nat_eq j i ≡ false → of_person i e ≡ false
 another i j e is other = ap (names i) is ∙ other
 

@@ -1,10 +1,9 @@
 -- Scorers that take the events of a day stand for them.
-use Rattle.std.proofs.Common.{◌≡◌, ◌≢◌, ℕ, zero, suc, ◌+◌, ◌<◌, false, nat_eq, List, [], ◌∷◌, ◌++◌, length, map, get_or, take, Some, refl, sym, ap, ◌∙◌, subst}
-use Rattle.std.proofs.Common.{inl, inr, append_assoc, length-append, arith}
-use Rattle.std.proofs.Math.{ListN.set, ListN.get_or-append, ListN.get_or-map, Seq.get_or-append_seam}
-use Rattle.std.proofs.lemmas.{Bool.cases_Bool, Bool.cases_lt, Bool.eq-eqb, Bool.eqb-true, Grind.get_or-set_at}
-use Rattle.std.proofs.lemmas.List.{length-set, get_or-set_other, set-get_or, length-map, map-append, take_more}
-use Rattle.events.specs.{Persons.of_person, Persons.own_events, declared.event.Event.Event}
+use Rattle.std.proofs.Common.{◌≡◌, ◌≢◌, ℕ, zero, suc, ◌+◌, ◌<◌, nat_eq, List, [], ◌∷◌, ◌++◌, length, map, get_or, take, Some, refl, sym, ap, ◌∙◌, subst, inl}
+use Rattle.std.proofs.{Common.inr, Common.append_assoc, Common.length-append, Common.arith, Math.ListN.set, Math.ListN.get_or-append, Math.ListN.get_or-map}
+use Rattle.std.proofs.{Math.Seq.get_or-append_seam, lemmas.Bool.cases_Bool, lemmas.Bool.cases_lt, lemmas.Bool.eq-eqb, lemmas.Bool.eqb-true}
+use Rattle.std.proofs.lemmas.{Grind.get_or-set_at, List.length-set, List.get_or-set_other, List.set-get_or, List.length-map, List.map-append, List.take_more}
+use Rattle.events.specs.{Persons.own_events, declared.event.Event.Event}
 use Rattle.scoring.specs.{Tables.ScoringRows, Taken.first_kind_of, Taken.IsTakenBy, declared.scorer.Scorer.Scorer}
 use Rattle.day_scores.specs.Standing.{StandFor, MayCome, AllCome}
 use Rattle.day_scores.proofs.Persons.{own-other, own-more, another, himself}
@@ -26,14 +25,7 @@ stand-push R ss s H new = record {
 
 -- ---- one event more
 
--- that names none of the persons
-skipped : (R : ScoringRows) (ss : List Scorer) (es : List Event) (e : Event) → ((i : ℕ) → i < length ss → of_person i e ≡ false)
-    → StandFor R ss es → StandFor R ss (es ++ e ∷ [])
-skipped R ss es e none H = record {
-  each = λ i d here. subst (IsTakenBy R (get_or ss i d)) (sym (own-other i es e (none i here))) (H.each i d here);
-}
-
--- that names one of them
+-- that names one of the persons
 pub person_named : (R : ScoringRows) (ss : List Scorer) (es : List Event) (e : Event) (j : ℕ) (s : Scorer) → e.person ≡ Some j
     → j < length ss
     → IsTakenBy R s (own_events j es ++ e ∷ []) → StandFor R ss es → StandFor R (set ss j s) (es ++ e ∷ [])

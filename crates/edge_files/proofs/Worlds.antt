@@ -1,8 +1,8 @@
 -- Steps in turn: for callers that perform more than once.
-use Rattle.std.proofs.Common.{◌≡◌, ◌||◌, ℕ, List, [], ◌∷◌, ◌++◌, Option, None, Some, refl, sym, ◌∙◌, ap, subst, append_assoc, inl, inr}
-use Rattle.std.proofs.{KnownBytes.Appends-nil, lemmas.Grind.flat_map-append, lemmas.List.append-nil, lemmas.List.map-append, lemmas.List.Folds.list_any-append}
+use Rattle.std.proofs.Common.{◌≡◌, ℕ, List, [], ◌∷◌, ◌++◌, Option, None, Some, refl, sym, ◌∙◌, ap, subst, append_assoc, inl, inr}
+use Rattle.std.proofs.{KnownBytes.Appends-nil, lemmas.Grind.flat_map-append, lemmas.List.append-nil, lemmas.List.map-append}
 use Rattle.edge_files.{proofs.Written.writes_nothing, proofs.Written.writes_then, specs.Effects.steps_of, specs.Effects.all_steps}
-use Rattle.edge_files.specs.{Effects.is_save, Effects.has_save, Keeping.Kept, Keeping.Told, Keeping.StaysTold, Keeping.Becomes, Keeping.KeepsOrBecomes}
+use Rattle.edge_files.specs.Keeping.{Kept, Told, StaysTold, Becomes, KeepsOrBecomes}
 use Rattle.edge_files.specs.World.{Written, Step, Byte, Saved, World, outside, byte_steps, kept_after, KeptBecomes, KeptBecomesIfTold, Writes, WritesPart, Does}
 use Rattle.edge_files.specs.{World.DoesPart, declared.effects.Effect.Effect, declared.files.OutFile.OutFile}
 
@@ -49,9 +49,6 @@ does_then a b c xs ys first second = record {
   keeper = kept_then a.kept b.kept c.kept xs ys first.keeper second.keeper;
 }
 
-pub does_as : (a b : World) (xs ys : List Step) → xs ≡ ys → Does a b xs → Does a b ys
-does_as a b xs ys same does = subst (λ (l : List Step). Does a b l) same does
-
 -- a front of what comes second is one of both
 pub part_then : (a b c : World) (xs ys : List Step) → Does a b xs → DoesPart b c ys → DoesPart a c (xs ++ ys)
 part_then a b c xs ys first second = record {
@@ -90,9 +87,6 @@ pub record Performing (old now : World) (all rest : List Step) : Type 0 where
   pub split : front ++ rest ≡ all
   pub does : Does old now front
 
-pub performing_first : (a : World) (all : List Step) → Performing a a all all
-performing_first a all = record { front = []; split = refl; does = does_nothing a }
-
 pub performing_more : (a b c : World) (all one rest : List Step) → Performing a b all (one ++ rest) → Does b c one → Performing a c all rest
 performing_more a b c all one rest so_far does = record {
   front = so_far.front ++ one;
@@ -100,15 +94,9 @@ performing_more a b c all one rest so_far does = record {
   does = does_then a b c so_far.front one so_far.does does;
 }
 
-pub performing_all : (a b : World) (all : List Step) → Performing a b all [] → Does a b all
-performing_all a b all so_far = does_as a b so_far.front all (sym (append-nil so_far.front) ∙ so_far.split) so_far.does
-
 pub performing_part : (a b c : World) (all one rest : List Step) → Performing a b all (one ++ rest) → DoesPart b c one → DoesPart a c all
 performing_part a b c all one rest so_far part = subst (λ (l : List Step). DoesPart a c l) so_far.split
     (part_then a b c so_far.front (one ++ rest) so_far.does (part_first b c one rest part))
-
-pub performing_told : (a b : World) (c : Told) (all rest : List Step) → Performing a b all rest → StaysTold b.kept c → StaysTold a.kept c
-performing_told a b c all rest so_far told = told_then a.kept b.kept c so_far.front so_far.does.keeper told
 
 kept_after-bytes : (file : OutFile) (bytes : List ℕ) (before : Option Kept) → kept_after before (byte_steps file bytes) ≡ before
 kept_after-bytes file [] before = refl
@@ -147,9 +135,3 @@ save_part_does w (Some before) (Some after) now (inr becomes) = record { done = 
 
 pub all_steps-append : (first second : List Effect) → all_steps (first ++ second) ≡ all_steps first ++ all_steps second
 all_steps-append first second = flat_map-append steps_of first second
-
-pub has_save-append : (first second : List Effect) → has_save (first ++ second) ≡ (has_save first || has_save second)
-has_save-append first second = list_any-append is_save first second
-
--- what is done of one effect
-pub ruleset effect_steps = (writes_does, writes_part_does, save_does, save_part_does)

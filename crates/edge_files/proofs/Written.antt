@@ -34,9 +34,6 @@ pub record Writing (old now : Written) (file : OutFile) (piece rest : List ℕ) 
   pub split : front ++ rest ≡ piece
   pub writes : Writes old now (byte_steps file front)
 
-pub writing_first : (a : Written) (file : OutFile) (piece : List ℕ) → Writing a a file piece piece
-writing_first a file piece = record { front = []; split = refl; writes = writes_nothing a }
-
 pub writing_more : (a b c : Written) (file : OutFile) (piece rest : List ℕ) (n : ℕ) → Writing a b file piece rest → Writes b c (byte_steps file (take n rest)) → Writing a c file piece (drop n rest)
 writing_more a b c file piece rest n so_far took = record {
   front = so_far.front ++ take n rest;
@@ -53,10 +50,6 @@ writing_front a b c file piece rest front k n so_far is h took =
     let within = subst (λ (l : List ℕ). n ≤ length l) is h in
     let took_front = subst (λ (l : List ℕ). Writes b c (byte_steps file (take n l))) is took in
     writing_more a b c file piece rest n so_far (subst (λ (l : List ℕ). Writes b c (byte_steps file l)) (take_of_front k n rest within) took_front)
-
-pub writing_all : (a b : Written) (file : OutFile) (piece rest : List ℕ) → Writing a b file piece rest → rest ≡ [] → Writes a b (byte_steps file piece)
-writing_all a b file piece rest so_far none =
-    writes_as a b (byte_steps file so_far.front) (byte_steps file piece) (ap (λ (l : List ℕ). byte_steps file l) (sym (append-nil so_far.front) ∙ ap (λ (l : List ℕ). so_far.front ++ l) (sym none) ∙ so_far.split)) so_far.writes
 
 pub writing_part : (a b c : Written) (file : OutFile) (piece rest : List ℕ) → Writing a b file piece rest → Writes b c [] → WritesPart a c file piece
 writing_part a b c file piece rest so_far nothing = record {

@@ -1,4 +1,5 @@
-ghost use Rattle.std.specs.Prelude.{◌≡◌, ◌∷◌, ◌++◌, ◌<◌, ℕ, List, [], true, false, Ok, length, replicate, IsErr, OnOk, OnErr};
+ghost use Rattle.std.specs.Prelude.{◌≡◌, ◌∷◌, ◌++◌, ◌<◌, ℕ, List, [], true, false, Ok, length, replicate, IsErr};
+ghost use Rattle.std.specs.Prelude.{OnOk, OnErr};
 ghost use Rattle.edge_files.specs.declared.files.TheConstants.{FILE_COUNT};
 ghost use Rattle.edge_files.specs.InMemory.{no_calls, next_fails, passed_call, failed_call, with_left, Reads};
 

@@ -1,5 +1,5 @@
-ghost use Rattle.std.specs.Prelude.{◌≡◌, ◌∷◌, ◌++◌, ◌<◌, ℕ, List, [], true, false, None, Some, Ok, length, replicate, IsErr, OnOk, OnErr};
-ghost use Rattle.std.specs.Prelude.{◌⊎◌};
+ghost use Rattle.std.specs.Prelude.{◌≡◌, ◌∷◌, ◌++◌, ◌<◌, ℕ, List, [], true, false, None, Some, Ok, length, replicate};
+ghost use Rattle.std.specs.Prelude.{IsErr, OnOk, OnErr, ◌⊎◌};
 ghost use Rattle.edge_files.specs.InMemory.{no_calls, next_fails, failed_call, written_to, fits, write_count, refused_write, taken_write};
 ghost use Rattle.edge_files.specs.InMemory.{TakesOrFails};
 

@@ -127,15 +127,6 @@ module _ {T A P : Type 0} where
         (h q c);
   }
 
-  pub taken_start : (allows : List T → T → Type 0) (rings : List (Consumer T A P)) → AreTaken allows 0 rings rings
-  taken_start allows rings = record {
-    count = refl;
-    ends = λ p producer h. h;
-    taken = λ p b. absurd (omega (arith, b));
-    same = λ p b. refl;
-    rest = λ p b. refl;
-  }
-
   pub taken_set : (allows : List T → T → Type 0) (first rings : List (Consumer T A P)) (i : ℕ) (before after : Consumer T A P) (x : T)
       → AreTaken allows i first rings → i < length rings
       → before ≡ get_or rings i before → SameConsumer before after → received after ≡ received before ++ x ∷ []
@@ -203,8 +194,3 @@ module _ {T A P : Type 0} where
       let n = next_count rings h in
       sym (map-append f (take i (next_pieces rings)) (x ∷ []))
       ∙ ap (map f) (take_more (next_pieces rings) i x (omega (arith, n, b)) (next_at rings h i x x rest b e))
-
-  -- where something waits in every ring, it does in each
-  pub waits_at : (rings : List (Consumer T A P)) (p : ℕ) (ring : Consumer T A P) → AllWait rings → p < length rings
-      → ring ≡ get_or rings p ring → 0 < length (known_items ring)
-  waits_at rings p ring h b is = subst (λ l. 0 < length l) (read_at known_items rings p ring [] b (sym is)) (h p b)

@@ -1,8 +1,8 @@
 -- Events that are written and handled piece by piece.
-use Rattle.std.proofs.Common.{◌≡◌, ℕ, ◌+◌, ◌<◌, ◌≤◌, List, [], ◌++◌, length, get_or, refl, sym, ap, subst, subst₂, ◌∙◌, append_assoc, append-nil, length-append}
+use Rattle.std.proofs.Common.{◌≡◌, ℕ, ◌+◌, ◌<◌, ◌≤◌, List, [], ◌++◌, length, get_or, refl, sym, ap, subst, subst₂, ◌∙◌, append_assoc, length-append}
 use Rattle.std.proofs.{Common.Ok, Common.Err, Common.arith, Math.ListN.get_or-append}
 use Rattle.std.proofs.lemmas.{Grind.flat_map-append, List.get_or-append-add, List.length-map}
-use Rattle.std.specs.{Prelude.Option, Prelude.None, Prelude.Some, Prelude.IfSome, Prelude.IfNone, declared.alloc.Global.Global, declared.vec.Vec.Vec}
+use Rattle.std.specs.{Prelude.Option, Prelude.Some, Prelude.IfSome, declared.alloc.Global.Global, declared.vec.Vec.Vec}
 use Rattle.edge_files.specs.declared.files.OutFile.TheVariants as out
 use Rattle.edge_files.{proofs.Written.writes_nothing, specs.World.Written, specs.World.byte_steps, specs.World.Writes}
 use Rattle.events.specs.{Lines.IsInBook, Lines.AreInBook, Lines.event_line, Lines.event_lines, declared.event.Book.Book, declared.event.Event.Event}
@@ -35,9 +35,6 @@ comes_of rest left next piece now is some same =
 pub fewer_of : (before after : ℕ) (next : Option (Vec Event Global)) (piece : Vec Event Global) → next ≡ Some piece
     → IfSome next (λ _. after < before) → after < before
 fewer_of before after next piece is some = subst (λ (o : Option (Vec Event Global)). IfSome o (λ _. after < before)) is some
-
-pub none_of : (rest : List Event) (next : Option (Vec Event Global)) → next ≡ None → IfNone next (rest ≡ []) → rest ≡ []
-none_of rest next is none = subst (λ (o : Option (Vec Event Global)). IfNone o (rest ≡ [])) is none
 
 -- of all events those that were taken are written and handled, and the rest is still to come
 pub record IsStreaming (R : ScoringRows) (book : Book) (all rest : List Event) (first handler : EventHandler) (old now : Written)
@@ -117,18 +114,3 @@ module _ (R : ScoringRows) (book : Book) (all rest : List Event) (first handler 
       subst (λ (l : List ℕ). IsWritten {T = B} old now before faults l (Err error.NoMemory))
       (lines_then book h.taken rest ∙ ap (λ (l : List Event). event_lines l book) (sym h.parts))
       (wanting_behind {B = B} old now before faults (event_lines h.taken book) (event_lines rest book) h.written h.later)
-
-  -- all were taken
-  taken_is : rest ≡ [] → h.taken ≡ all
-  taken_is none = sym (append-nil h.taken) ∙ ap (λ (l : List Event). h.taken ++ l) (sym none) ∙ sym h.parts
-
-  pub streaming_handled : rest ≡ [] → HasHandled R handler all
-  streaming_handled none = subst (HasHandled R handler) (taken_is none) h.handled
-
-  pub streaming_done : {T : Type 0} (x : T) → rest ≡ [] → IsWritten old now before faults (event_lines all book) (Ok x)
-  streaming_done x none = record {
-    done = subst (λ (l : List Event). Writes old now (byte_steps out.Events (event_lines l book))) (taken_is none) h.written;
-    part = tt;
-    later = h.later;
-    failed = λ is. absurd (cc);
-  }

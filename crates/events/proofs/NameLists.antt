@@ -1,9 +1,9 @@
 -- Laws of numbered lists of names.
 use Rattle.std.proofs.Common.{◌≡◌, ℕ, zero, suc, ◌+◌, ◌<◌, ◌≤◌, ◌^◌, Bool, true, false, cond, not, ◌&&◌, ◌||◌, List, [], ◌∷◌, ◌++◌, length, get_or, Option}
-use Rattle.std.proofs.Common.{None, Some, Ok, refl, sym, ◌∙◌, ap, arith, take, length-append}
+use Rattle.std.proofs.Common.{None, Some, Ok, refl, sym, ◌∙◌, ap, arith, length-append}
 use Rattle.std.proofs.lemmas.{Bool.Decides.nat_tests, Cmp.nat_list_eq_equiv, List.Folds.list_any-append, List.Folds.list_all-append, List.Folds.list_any_at}
 use Rattle.std.proofs.lemmas.List.{Folds.list_all_at, Folds.position_or_len_push, Quantifiers.position-Some, Sums.position_or_len_is, Sums.fold-append}
-use Rattle.std.proofs.lemmas.{List.Sums.fold_more, Map.Steps.list_any_congr, Slice.Eq.bytes_eq-Decides}
+use Rattle.std.proofs.lemmas.{Map.Steps.list_any_congr, Slice.Eq.bytes_eq-Decides}
 use Rattle.std.specs.{List.position_or_len, List.list_any, List.list_all, Prelude.bytes_eq, Prelude.nat_lt, Prelude.nat_eq as eqb, Prelude.fold}
 use Rattle.events.specs.Names.{is_name, number_of, name_at, is_held, are_distinct, AreNames, with_name, firsts, Adds}
 use Rattle.events.specs.declared.names.Added.{Added, TheVariants.New, TheVariants.Held}
@@ -137,11 +137,6 @@ pub firsts-push : (names : List (List ℕ)) (name : List ℕ) → firsts (names 
 unfolding firsts
 firsts-push names name = fold-append with_name [] names (name ∷ [])
 
--- names are added in turn: after the first n are in, the list is that of their firsts
-pub firsts_more : (names : List (List ℕ)) (n : ℕ) → n < length names → firsts (take (n + 1) names) ≡ with_name (firsts (take n names)) (name_at names n)
-unfolding firsts
-firsts_more names n within = fold_more with_name [] names n [] within
-
 some_parts : (m l n : ℕ) → cond (nat_lt m l) (Some m) None ≡ Some n → (m ≡ n) × (m < l)
 some_parts m l n h = (grind (arith, nat_tests), grind (arith, nat_tests))
 
@@ -199,19 +194,3 @@ is_held-fold start (x ∷ xs) name =
 pub is_held-firsts : (names : List (List ℕ)) (name : List ℕ) → is_held name (firsts names) ≡ is_held name names
 unfolding firsts
 is_held-firsts names name = is_held-fold [] names name
-
-length-with_name : (names : List (List ℕ)) (name : List ℕ) → length (with_name names name) ≤ length names + 1
-length-with_name names name = by (is_held name names)
-  where
-    by : (b : Bool) → length (cond b names (names ++ name ∷ [])) ≤ length names + 1
-    by true = omega arith
-    by false = omega (arith, length-append names (name ∷ []))
-
-length-fold : (start names : List (List ℕ)) → length (fold with_name start names) ≤ length start + length names
-length-fold start [] = omega arith
-length-fold start (x ∷ xs) = omega (arith, length-fold (with_name start x) xs, length-with_name start x)
-
--- there are at most as many firsts as names
-pub length-firsts : (names : List (List ℕ)) → length (firsts names) ≤ length names
-unfolding firsts
-length-firsts names = omega (arith, length-fold [] names)

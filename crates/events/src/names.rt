@@ -1,5 +1,5 @@
-ghost use Rattle.std.specs.List.{list_all};
-ghost use Rattle.std.specs.Prelude.{◌≡◌, ◌<◌, ◌^◌, ℕ, [], List, length, None, Some, IfOk, IsTrue, if◌then◌else◌, nat_eq};
+ghost use Rattle.std.specs.{List.list_all, Prelude.◌≡◌};
+ghost use Rattle.std.specs.Prelude.{◌<◌, ◌^◌, ℕ, [], List, length, None, Some, IfOk, IsTrue, if◌then◌else◌, nat_eq};
 ghost use Rattle.events.specs.Names.{is_name, is_name_byte, number_of, name_at, AreNames, Adds};
 
 use indexmap::IndexSet;

@@ -1,6 +1,7 @@
 //! The end of a run: the plans that may be read again, and the last line of the report.
 
-ghost use Rattle.std.specs.Prelude.{◌≡◌, ◌<◌, ◌≤◌, ◌+◌, ◌++◌, length, map, drop, true, None, slice_index_or, IfOk, OnOk};
+ghost use Rattle.std.specs.Prelude.{◌≡◌, ◌<◌, ◌≤◌, ◌+◌, ◌++◌, length, map, drop, true, None, slice_index_or, IfOk};
+ghost use Rattle.std.specs.Prelude.{OnOk};
 ghost use Rattle.edge_files.specs.{Effects.all_steps, World.byte_steps};
 ghost use Rattle.law_replanning.specs.Memories.{hold_fitting, all_hold_fitting};
 ghost use Rattle.plan_text.specs.Lines.{own_lines, persons_lines, plans_text};

@@ -1,15 +1,11 @@
 -- What is told of a keeper in memory is what keepers promise.
-use Rattle.std.proofs.Common.{◌≡◌, ℕ, ◌≤◌, Bool, true, false, cond, List, ◌++◌, Option, Some, Result, Ok, Err, OnOk, OnErr, refl, sym, ap, ◌∙◌, subst, inl}
+use Rattle.std.proofs.Common.{◌≡◌, ℕ, Bool, true, false, cond, List, ◌++◌, Option, Some, Result, Ok, Err, OnOk, OnErr, refl, sym, ap, ◌∙◌, subst, inl}
 use Rattle.std.{proofs.Common.arith, specs.Prelude.option_map, specs.Prelude.IfOk, specs.Prelude.MatchResult}
 use Rattle.edge_files.specs.{Causes.up, Causes.KeepHasCause, InMemory.CallCounts, InMemory.next_fails, InMemory.passed_call, InMemory.failed_call}
 use Rattle.edge_files.specs.Keeping.{Kept, rows_of, Told, Becomes, Stays, StaysIfTold, KeepsOrBecomes, IsTold, Loads}
 use Rattle.edge_files.specs.declared.keeping.{KeepFail.KeepFail, KeptRow.KeptRow}
 use Rattle.edge_files.specs.declared.keeping.KeepFail.TheVariants as fail
 use Rattle.keep.specs.InMemory.{KeeperHeld, after_call}
-
--- a call that is to fail raises the count, and another one leaves it
-later_by : (count : ℕ) → count ≤ up count
-later_by count = omega arith
 
 module _ {T : Type 0} (old new : KeeperHeld) (result : Result T KeepFail) where
   cause_failed : new.calls ≡ failed_call old.calls → KeepHasCause old.calls.faults new.calls.faults result

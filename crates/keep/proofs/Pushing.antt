@@ -1,11 +1,11 @@
 -- The row of one plan, and the rows of one person, come off the front of those that are still to be kept.
-use Rattle.std.proofs.Common.{◌≡◌, ℕ, zero, suc, subst, ◌+◌, ◌<◌, ◌≤◌, Bool, true, List, [], ◌∷◌, ◌++◌, length, get_or, take, drop, Option, Some, refl, sym, ap}
-use Rattle.std.proofs.{Common.◌∙◌, Common.arith, Common.append_assoc, Common.append-nil, lemmas.List.drop_more, lemmas.List.take_more}
+use Rattle.std.proofs.Common.{◌≡◌, ℕ, zero, suc, subst, ◌+◌, ◌<◌, Bool, true, List, [], ◌∷◌, ◌++◌, length, get_or, take, drop, Option, Some, refl, sym, ap}
+use Rattle.std.proofs.{Common.◌∙◌, Common.arith, Common.append_assoc, lemmas.List.drop_more, lemmas.List.take_more}
 use Rattle.std.{proofs.lemmas.List.Folds.list_all-append, specs.List.list_all, specs.Prelude.ℤ, specs.Prelude.slice_get}
 use Rattle.events.specs.declared.event.Book.{Book}
 use Rattle.rows.specs.PlanRows.{PlanRows}
 use Rattle.edge_files.specs.declared.keeping.KeptRow.{KeptRow}
-use Rattle.plan_text.proofs.{Joins.both, Joins.and_true, Pushing.drop_past}
+use Rattle.plan_text.proofs.Joins.{both, and_true}
 use Rattle.plan_memory.specs.Memories.{MemoryRows}
 use Rattle.keep.proofs.Tests.{none_some, same_some}
 use Rattle.keep.specs.Kept.{row_of, is_choice, rows_from, own_rows, persons_rows}
@@ -28,12 +28,6 @@ module _ (book : Book) (person : ℕ) (chosen : Option ℕ) (plans : List PlanRo
       ∙ ap (λ (l : List KeptRow). before ++ l) (sym first)
       ∙ so_far
 
-  pub own-all : (before all : List KeptRow) → length plans ≤ i → before ++ left i ≡ all → before ≡ all
-  own-all before all done so_far =
-      sym (append-nil before)
-      ∙ ap (λ (l : List PlanRows). before ++ rows_from book person chosen i l (drop i scores)) (sym (drop_past plans i done))
-      ∙ so_far
-
 pub each-more : {X : Type 0} (p : X → Bool) (xs : List X) (i : ℕ) (d : X) → i < length xs → list_all p (take i xs) ≡ true → p (get_or xs i d) ≡ true
     → list_all p (take (i + 1) xs) ≡ true
 each-more p xs i d here before now =
@@ -51,10 +45,6 @@ module _ (book : Book) (memories : List MemoryRows) (i : ℕ) where
       ∙ append_assoc before own later
       ∙ ap (λ (ms : List MemoryRows). before ++ persons_rows book i ms) (sym (drop_more memories i m here))
       ∙ so_far
-
-  pub persons-all : (before all : List KeptRow) → length memories ≤ i → before ++ persons_rows book i (drop i memories) ≡ all → before ≡ all
-  persons-all before all done so_far =
-      sym (append-nil before) ∙ ap (λ (ms : List MemoryRows). before ++ persons_rows book i ms) (sym (drop_past memories i done)) ∙ so_far
 
 -- what holds of each holds of the one at a place
 pub at_place : {X : Type 0} (p : X → Bool) (xs : List X) (i : ℕ) (x : X) → list_all p xs ≡ true → slice_get xs i ≡ Some x → p x ≡ true

@@ -1,6 +1,7 @@
 //! A keeper in memory.
 
-ghost use Rattle.std.specs.Prelude.{◌≡◌, ◌∷◌, ◌++◌, [], true, false, None, Some, Ok, Err, OnOk, OnErr, IfOk, MatchResult, option_map};
+ghost use Rattle.std.specs.Prelude.{◌≡◌, ◌∷◌, ◌++◌, [], true, false, None, Some, Ok, Err, OnOk, OnErr, IfOk, MatchResult};
+ghost use Rattle.std.specs.Prelude.{option_map};
 ghost use Rattle.edge_files.specs.{InMemory.no_calls, InMemory.next_fails, InMemory.passed_call, Keeping.kept_of, Keeping.rows_of};
 ghost use Rattle.keep.specs.InMemory.{after_call};
 

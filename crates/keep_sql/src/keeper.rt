@@ -1,7 +1,7 @@
 //! A keeper over a database.
 
-ghost use Rattle.std.proofs.Common.{true≢false, sym};
-ghost use Rattle.std.specs.Prelude.{◌≡◌, ◌≤◌, ◌++◌, Bool, true, false, refl, Some, None, OnOk, OnErr, IfOk, option_map, List, pos};
+ghost use Rattle.std.{proofs.Common.true≢false, proofs.Common.sym, specs.Prelude.◌≡◌};
+ghost use Rattle.std.specs.Prelude.{◌≤◌, ◌++◌, Bool, true, false, refl, Some, None, OnOk, OnErr, IfOk, option_map, List, pos};
 ghost use Rattle.sqlite.specs.Held.{state};
 ghost use Rattle.edge_files.specs.{Causes.KeepHasCause, Causes.Rose, Keeping.kept_of, Keeping.Becomes, Keeping.Stays, Keeping.StaysIfTold};
 ghost use Rattle.edge_files.specs.{Keeping.KeepsOrBecomes, Keeping.IsTold, Keeping.Loads, declared.keeping.KeptRow.KeptRow};

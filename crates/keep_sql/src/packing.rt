@@ -4,8 +4,8 @@
 //! in 4 bytes, a byte that is 1 where it is the chosen one and otherwise 0, a byte 0 for no score, or 1 and the score in 8 bytes of two's
 //! complement, and the length of the lines in 8 bytes and the lines. All numbers are little-endian.
 
-ghost use Rattle.std.specs.Int.{w32, w64};
-ghost use Rattle.std.specs.Prelude.{◌≡◌, ◌≢◌, ◌++◌, ◌<◌, ◌^◌, OnOk, IfOk, IfSome, Some, None, option_map, length, FitsSigned};
+ghost use Rattle.std.specs.{Int.w32, Int.w64, Prelude.◌≡◌};
+ghost use Rattle.std.specs.Prelude.{◌≢◌, ◌++◌, ◌<◌, ◌^◌, OnOk, IfOk, IfSome, Some, None, option_map, length, FitsSigned};
 ghost use Rattle.keep_sql.specs.Packing.{Gives, counted, flag as flag_packing, scored, row_packing, packing, IsRow, AreRows};
 ghost use Rattle.keep_sql.specs.Packing.{number_at, counted_at, flag_at, scored_at, row_at, rows_in};
 ghost use Rattle.keep_sql.specs.declared.packing.UnpackError.TheVariants.{NoMemory};

@@ -14,9 +14,8 @@ use Rattle.plan_text.proofs.{Clean.all_weaker, Clean.name_bytes, Decimals.number
 use Rattle.plan_text.{proofs.Joins.parts_back, specs.Lines.row_line}
 use Rattle.rows.specs.{Joined.is_joined, Schedules.are_served, Schedules.is_unserved, Schedules.is_way, Schedules.served_from, Stops.calls_at}
 use Rattle.rows.specs.declared.schedule.StopRow.{StopRow}
-use Rattle.schedule.specs.Calls.{call_of, call_text, is_call, text_of}
+use Rattle.schedule.specs.{Routes.routes_fault, Stops.stop_of, declared.calls.CallText.CallText, Calls.call_of, Calls.call_text, Calls.is_call, Calls.text_of}
 use Rattle.schedule.specs.Routes.{has_bad_name, has_bad_offset, is_too_much, lacks_stop, lines_of, parts_reason, route_header, route_of, route_reason}
-use Rattle.schedule.specs.{Routes.routes_fault, Stops.stop_of, declared.calls.CallText.CallText}
 use Rattle.town.specs.Fits.{are_joining}
 use Rattle.workload.specs.{Links.grid_links, Rows.link_name, Rows.stop_name, Rows.stop_row, Texts.routes_text, declared.TheConstants.STOP_SECONDS}
 use Rattle.workload.specs.Rows as rows

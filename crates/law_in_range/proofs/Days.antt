@@ -54,9 +54,5 @@ pub departs_there : (day : DayInput) (n : ℕ) (p : Phase) → p ≡ phase.B2 �
 unfolding setup_of
 departs_there day n p e h = there n _ _ (ap (count_of (setup day)) e ∙ length-map day.town.now.departures.rows _) h
 
-pub link_there : (day : DayInput) (n : ℕ) (p : Phase) → p ≡ phase.D → n < count_of (setup day) p → n < length day.town.now.network.links
-unfolding setup_of
-link_there day n p e h = there n _ _ (ap (count_of (setup day)) e) h
-
 pub person_there : (day : DayInput) (W : World) (n : ℕ) → IsFitWorld (counts_in day) W → n < length day.chosen.now → n < length W.persons
 person_there day W n h lt = there n _ _ (sym (one_each day W h)) lt

@@ -1,5 +1,5 @@
 -- With which partition a person ends.
-use Rattle.traffic.proofs.Common.{◌≡◌, ◌≢◌, ◌⊎◌, ℕ, zero, suc, ◌+◌, ◌<◌, ◌≤◌, Bool, true, false, [], ◌∷◌, ◌∙◌, ap, refl, sym, arith, inl, inr, cases_Bool}
+use Rattle.traffic.proofs.Common.{◌≡◌, ◌≢◌, ◌⊎◌, ℕ, zero, suc, ◌+◌, ◌<◌, ◌≤◌, Bool, true, [], ◌∷◌, ◌∙◌, ap, refl, sym, arith, inl, inr, cases_Bool}
 use Rattle.traffic.proofs.Common.{and_parts, true≢false, eqb, eqb-true, eqb-false, list_any, ◌&&◌, ◌||◌, Setup, below}
 use Rattle.std.specs.Prelude.{is_some}
 use Rattle.parts.specs.{Owners.Owner, Owners.near, Owners.lag, Parts.Parcel, Parts.held, Parts.out, Parts.sent_last, Parts.carries, Parts.ends_with}

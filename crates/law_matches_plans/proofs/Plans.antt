@@ -10,11 +10,12 @@ use Rattle.law_in_range.specs.Setups.{IsPlanIn}
 use Rattle.law_sound_setups.specs.{Consistent.LeadsFrom, Consistent.link_of_act, Consistent.IsConsistentPlan, Setups.EndsAsPlanned, Setups.IsSoundPlan}
 
 -- PLANS
--- the k-th activity has no end if it is the last one, and else it has one
+-- an end as a bit asks for it: none where it is true, and else one
 has_end_at : (b : Bool) (end : Option ℕ) → (b ≡ true → is_open end ≡ true) → (b ≡ false → is_end end ≡ true) → HasEnd b end
 has_end_at b None h g = grind arith
 has_end_at b (Some second) h g = grind arith
 
+-- the k-th activity has no end if it is the last one, and else it has one
 ends_planned : (acts : List Act) (k : ℕ) → are_acts acts ≡ true → k < length acts → EndsAsPlanned acts k
 unfolding are_acts
 ends_planned [] k h lt = absurd (omega arith)

@@ -8,7 +8,7 @@ use Rattle.law_in_range.specs.{Rows.Counts, Setups.IsFitSetup}
 use Rattle.parts.specs.{Owners.Owner, Owners.owner_of, Owners.begins_in, Parts.Held, Parts.mine, Parts.has, Parts.unheard, Parts.ready}
 use Rattle.law_partitions.proofs.{Calms.calm, Early.mid, Ends.less, Ends.sh, Heard.late_of, Home.IsHome, Home.home_mid, Second.Short}
 use Rattle.law_partitions.proofs.Second.{C_world, came_in, came_late, waiters-here, queue_other, C_after-queue_own, C_after-buffer, C_after-wait, C_after-bay}
-use Rattle.law_partitions.{proofs.Second.C_after-person, proofs.Second.C_waiters, specs.Alone.early, specs.Alone.after_C, specs.Premises.Lawful}
+use Rattle.law_partitions.{proofs.Second.C_after-person, proofs.Second.C_waiters, specs.Alone.early, specs.Premises.Lawful}
 use Rattle.law_own_worlds.specs.OwnWorlds.{IsSecondOf, set_out, crossed}
 use Rattle.law_own_worlds.specs.Days.{world_before, is_there, IsAsInTheDay, StandsAsInTheDay}
 
@@ -29,9 +29,6 @@ module _ (S : Setup) (own : Owner) (parts p t : ℕ) (z : Counts) (law : Lawful 
 
   abbrev E : Held
   E = early S own p t H
-
-  abbrev G : Held
-  G = after_C S own p t E
 
   abbrev mine_p : ℕ → Bool
   mine_p = has S own (less S own) p t

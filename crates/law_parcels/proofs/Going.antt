@@ -1,5 +1,5 @@
 -- What the end of a second makes of the own world of a partition.
-use Rattle.traffic.proofs.Common.{◌≡◌, ◌≢◌, ℕ, suc, ◌+◌, ◌<◌, List, [], ◌∙◌, ap, refl, sym, subst, arith, inl, inr, cases_Bool, true, false, true≢false, Bool}
+use Rattle.traffic.proofs.Common.{◌≡◌, ◌≢◌, ℕ, suc, ◌+◌, ◌<◌, List, [], ◌∙◌, ap, refl, sym, subst, arith, inl, inr, cases_Bool, true, true≢false, Bool}
 use Rattle.traffic.proofs.Common.{length, nat_le, ltb-true, eqb, eq-eqb, if◌then◌else◌, Setup, World, at, credit_of, person_of, nobody, hole_of, waiter}
 use Rattle.traffic.{proofs.Common.waiters, proofs.Common.listed, specs.declared.stage.Stage.Stage, specs.declared.world.Person.Person}
 use Rattle.traffic.specs.declared.world.Place.{Place, TheVariants.At, TheVariants.Teleporting, TheVariants.Waiting, TheVariants.Riding, TheVariants.Aborted}

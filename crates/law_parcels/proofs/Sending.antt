@@ -11,9 +11,8 @@ use Rattle.law_partitions.specs.{Alone.element_in, Alone.passed_here, Alone.flig
 use Rattle.law_own_worlds.specs.Days.{is_there, world_before, my_node_turns, my_link_turns, FollowsTheDay}
 use Rattle.law_own_worlds.specs.{Making.or_nobody, OwnWorlds.set_out}
 use Rattle.law_own_seconds.specs.Seconds.{world_driven}
-use Rattle.law_parcels.proofs.Crossing.{nodes_ways, same_passed, freed_to}
+use Rattle.law_parcels.proofs.{Flying.one_flight, Lists.same_flat, Lists.passed_flat, Crossing.nodes_ways, Crossing.same_passed, Crossing.freed_to}
 use Rattle.law_parcels.proofs.Ending.{owned, had_is, lacks_is, behind_is, node_moves_are, lacked, sent_are, rider_element, rider_rides}
-use Rattle.law_parcels.proofs.{Flying.one_flight, Lists.same_flat, Lists.passed_flat}
 use Rattle.law_parcels.specs.Sending.{sent_rows, goes_to, flies_out, is_gone, freed_over, SendsParcels}
 
 -- nobody, whatever is said of him

@@ -39,10 +39,6 @@ not_true : (x : Bool) → not x ≡ true → x ≡ false
 not_true true e = absurd (true≢false (sym e))
 not_true false e = refl
 
-not_false : (x : Bool) → not x ≡ false → x ≡ true
-not_false true e = refl
-not_false false e = absurd (true≢false e)
-
 module _ (S : Setup) (own : Owner) (parts p t i : ℕ) (law : Lawful S) (arrivals : Arrivals S) (shares : (n : ℕ) → own n < parts) (lt : i < length S.persons) where
   abbrev P : Person
   P = person_of i (world_at S t)

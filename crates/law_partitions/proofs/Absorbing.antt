@@ -27,10 +27,6 @@ pub only-append : (P : Person) (xs ys : List Person) → Only P xs → Only P ys
 only-append P [] ys h g = g
 only-append P (x ∷ xs) ys h g = (h.0, only-append P xs ys h.1 g)
 
-only-each : (P : Person) (f : ℕ → List Person) → ((q : ℕ) → Only P (f q)) → (ns : List ℕ) → Only P (flat_map f ns)
-only-each P f h [] = tt
-only-each P f h (n ∷ ns) = only-append P (f n) (flat_map f ns) (h n) (only-each P f h ns)
-
 pub first_only : (P : Person) (xs : List Person) → Only P xs → 1 ≤ length xs → or_first None xs ≡ Some P
 first_only P [] h some = absurd (omega arith)
 first_only P (x ∷ xs) h some = ap Some h.0
@@ -232,9 +228,6 @@ module _ (S : Setup) (own : Owner) (p q i s : ℕ) (law : Lawful S) (arrivals : 
   -- THE VEHICLES OF THE PARCEL
   abbrev rows : List Row
   rows = flat_map (enters_queue (leads S own q p)) (node_phase_moves S s)
-
-  came_node : (l : ℕ) → came S l s ≡ entered l (node_phase_moves S s)
-  came_node l = refl
 
   pub vehicles_bring : Only P (flat_map (brought i) (map (passed (world_at S s)) rows)) × (length (flat_map (brought i) (map (passed (world_at S s)) rows)) ≡ listed i rows)
   vehicles_bring = rows_bring (world_at S s) i P rows (λ u some.

@@ -141,10 +141,6 @@ departure_brings S t i l d = departure_walk (λ ms. Each (Brings i l Wait) ms) S
 landing_brings : (S : Setup) (t i l n : ℕ) (P : Person) → Each (Brings i l Wait) (landing_moves S t n P)
 landing_brings S t i l n P = flight_walk (λ ms. Each (Brings i l Wait) ms) S t n P tt (λ mode seconds start p w e. (tt, tt))
 
-not_eq : (x b : Bool) → b ≡ not x → x ≡ not b
-not_eq true b e = sym (ap not e)
-not_eq false b e = sym (ap not e)
-
 none_pass : (ns : List ℕ) → filter (λ n. false) ns ≡ []
 none_pass [] = refl
 none_pass (n ∷ ns) = none_pass ns

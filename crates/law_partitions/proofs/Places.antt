@@ -13,7 +13,7 @@ use Rattle.parts.specs.{Owners.Owner, Owners.owner_of, Owners.begins_in, Parts.H
 use Rattle.law_partitions.proofs.Handed.{AreHanded, entered, enters_put, frees_none, handed-adds, handed-holes}
 use Rattle.law_partitions.proofs.Late.{freed-cons, freed-append, freed_other, link_moves-leaves}
 use Rattle.law_partitions.proofs.Second.{C_world, D_world, C_moves, D_moves, came_in, went_in, next, D_moves-are, C-handed, C-came, D-list, Short}
-use Rattle.law_partitions.proofs.Second.{held_run-list, held_run-credit, held_run-holes, C_mine, C_after, C_after-credit, D_part-moves, D_after, part-handed}
+use Rattle.law_partitions.proofs.Second.{held_run-credit, held_run-holes, C_mine, C_after, C_after-credit, D_part-moves, D_after, part-handed}
 use Rattle.law_partitions.{proofs.Turns.not_mine, specs.Alone.held_done, specs.Alone.held_run, specs.Alone.my_links, specs.Alone.C_part, specs.Alone.D_part}
 
 -- CREDITS
@@ -185,12 +185,6 @@ module _ (S : Setup) (own : Owner) (p t : ℕ) (late : ℕ → List Row) (has : 
       let a = C_mine S own p t late has W H h l Queue (λ n f. not_mine own p n (link_row S l).from g f) ∙ C-came S t l W in
       let b = handed-adds S t l ms (at l Queue W) (part-handed S own p t late has W H h) in
       append-cancel_left (at l Queue W) (entered l ms) (came_in S t W l) (sym b ∙ a)
-
-  -- so the list that the part has of a queue over a border becomes what it sends there
-  pub out-list : (l : ℕ) → H.list l Queue ≡ [] → eqb (begins_in S own l) p ≡ true → A.list l Queue ≡ came_in S t W l
-  out-list l e g =
-      let ms = moves_of (C_part S own p t H) in
-      held_run-list S t l Queue ms H ∙ ap (at_after_all l Queue ms) e ∙ handed-adds S t l ms [] (part-handed S own p t late has W H h) ∙ out-came l g
 
   C_after-rows : (m : ℕ) → eqb (begins_in S own m) p ≡ true → A.rows m ≡ H.rows m + length (came_in S t W m)
   C_after-rows m g =

@@ -1,12 +1,11 @@
 -- Who waits at stops while nodes have their turns.
+use Rattle.traffic.proofs.{Moments.kept_along, NodeWalk.NodeCases, NodeWalk.node_walk, Sublists.person-done, Walks.phase_keeps}
 use Rattle.traffic.proofs.Common.{◌≡◌, ℕ, zero, suc, ◌+◌, ◌<◌, ◌≤◌, List, [], ◌++◌, ◌∙◌, ap, refl, sym, arith, inl, inr, cases_lt, length, flat_map, World}
 use Rattle.traffic.proofs.Common.{Setup, person_of, turns_in, turns_of, moves_of, after, node_turns, OnePlace, done, person_after_all, entered, aborts, below}
 use Rattle.traffic.proofs.Common.{numbers, waits_on, waiter, waiters, leg_at, act_after}
-use Rattle.traffic.proofs.{Moments.kept_along, NodeWalk.NodeCases, NodeWalk.node_walk, Sublists.person-done, Walks.phase_keeps}
-use Rattle.traffic.specs.declared.moves.Move.TheVariants.{Transfer, Remove, SetFrontSince}
-use Rattle.traffic.specs.declared.{stage.Stage.TheVariants.Buffer, world.Person.Person, world.Place.Place}
+use Rattle.traffic.specs.declared.{stage.Stage.TheVariants.Buffer, world.Person.Person, world.Place.Place, moves.Move.TheVariants.Transfer}
+use Rattle.traffic.specs.declared.{moves.Move.TheVariants.Remove, moves.Move.TheVariants.SetFrontSince, world.Row.Row, world.Waiter.Waiter}
 use Rattle.traffic.specs.declared.world.Place.TheVariants.{At, Teleporting, Waiting, Riding, Aborted}
-use Rattle.traffic.specs.declared.world.{Row.Row, Waiter.Waiter}
 use Rattle.events.specs.declared.event.Phase.TheVariants as phase
 use Rattle.law_one_place.proofs.{Boarding.strands_told, Places.InOne, Places.IsOff, Places.rides, Places.rides_few, Turns.nodes_keep}
 use Rattle.part_lines.proofs.News.{same_many}

@@ -2,8 +2,6 @@
 use Rattle.std.specs.Prelude.{ℕ, List, [], ◌∷◌, get_or, set}
 use Rattle.events.specs.{Keys.phase_code, declared.event.Event.Event}
 use Rattle.events.specs.declared.event.Phase.TheVariants as phase
-use Rattle.events.specs.declared.event.Word.TheVariants as word
-use Rattle.events.specs.declared.event.More.TheVariants as more
 use Rattle.traffic.specs.{Day.keyed, Persons.stuck_on, Rows.nobody, Setup.Setup, Setup.act_at, Setup.leg_at}
 use Rattle.traffic.specs.declared.{moves.Occurrence.Occurrence, riders.Rider.Rider, world.Person.Person, world.Row.Row}
 use Rattle.rows.specs.Plan.{mode_of_leg}

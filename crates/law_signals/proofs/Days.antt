@@ -8,7 +8,6 @@ use Rattle.traffic.specs.declared.world.Place.TheVariants.{At, Teleporting, Wait
 use Rattle.std.{proofs.Common.arith, proofs.lemmas.List.Elements.All-contains, specs.List.AllByRecursion as Each}
 use Rattle.events.specs.declared.event.Phase.TheVariants as phase
 use Rattle.events.specs.declared.event.Word.{Word}
-use Rattle.events.specs.declared.event.Word.TheVariants as word
 use Rattle.law_signals.specs.Signals.{IsGreen, IsLet, KeepsSignals, Leaves, NeverTogether}
 use Rattle.law_signals.proofs.Greens.{IsLetTold, TellsLet, turn_let}
 

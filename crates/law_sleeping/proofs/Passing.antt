@@ -187,10 +187,6 @@ filter_none p (e ∷ es) h = elim (cases_Bool (p e)) [
   | inr q ↦ (q, filter_none p es (simp q at h))
 ]
 
-filter_all_none : (p : InLink → Bool) (es : List InLink) → Each (λ (e : InLink). p e ≡ false) es → filter p es ≡ []
-filter_all_none p [] h = refl
-filter_all_none p (e ∷ es) h = let q = h.0 in simp q (filter_all_none p es h.1)
-
 pub each_get : (P : InLink → Type 0) (k : ℕ) (es : List InLink) → Each P es → k < length es → P (get_or es k no_in_link)
 each_get P k [] h lt = absurd (omega arith)
 each_get P zero (e ∷ es) h lt = h.0

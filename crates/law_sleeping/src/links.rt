@@ -1,6 +1,7 @@
 //! Links that gain credit alone, and until when.
 
-ghost use Rattle.std.specs.Prelude.{◌≡◌, ◌≢◌, ◌⊎◌, false, ℕ, suc, ◌+◌, ◌-◌, ◌*◌, ◌<◌, ◌≤◌, ◌↔◌, min, Bool, List, [], ◌∷◌, length};
+ghost use Rattle.std.specs.Prelude.{◌≡◌, ◌≢◌, ◌⊎◌, false, ℕ, suc, ◌+◌, ◌-◌, ◌*◌, ◌<◌, ◌≤◌};
+ghost use Rattle.std.specs.Prelude.{◌↔◌, min, Bool, List, [], ◌∷◌, length};
 ghost use Rattle.fixed_flow.specs.{Flow.full_credit, Flow.raised, Flow.raised_times, Link.ceiling, declared.TheConstants.VEHICLE_COST};
 ghost use Rattle.traffic.specs.{Day.turns_in, Day.moves_of, Day.after, Links.LinkState, Links.link_state, Links.link_moves, Moves.run};
 ghost use Rattle.traffic.specs.{Rows.World, Setup.Setup, declared.moves.Move.Move};

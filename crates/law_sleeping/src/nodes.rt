@@ -1,7 +1,7 @@
 //! Nodes in which nobody can leave, and words that need not be read.
 
-ghost use Rattle.std.specs.Prelude.{◌⊎◌, ◌≡◌, ◌≢◌, ℕ, suc, ◌+◌, ◌*◌, ◌<◌, ◌≤◌, true, false, List, [], ◌∷◌, ◌++◌, length, map, filter};
-ghost use Rattle.std.specs.Prelude.{get_or, All, Option};
+ghost use Rattle.std.specs.Prelude.{◌⊎◌, ◌≡◌, ◌≢◌, ℕ, suc, ◌+◌, ◌*◌, ◌<◌, ◌≤◌, true, false, List, []};
+ghost use Rattle.std.specs.Prelude.{◌∷◌, ◌++◌, length, map, filter, get_or, All, Option};
 ghost use Rattle.traffic.specs.Day.{node_turns, turns_in, after};
 ghost use Rattle.traffic.specs.Nodes.{NodeView, node_view, out_link, taken_at, out_links_after, pass_node_all, no_in_link, draw, red};
 ghost use Rattle.traffic.specs.{Nodes.candidates, Nodes.mark, Nodes.node_moves, Rows.World, Setup.Setup, Setup.link_row, Setup.storage_of};

@@ -1,7 +1,7 @@
 //! Sleep through whole phases and seconds.
 
-ghost use Rattle.std.specs.List.{flat_map};
-ghost use Rattle.std.specs.Prelude.{◌≡◌, ◌≢◌, ℕ, suc, ◌+◌, ◌<◌, ◌≤◌, ◌⊎◌, Bool, false, List, [], ◌∷◌, ◌++◌, length, map, filter, All};
+ghost use Rattle.std.specs.{List.flat_map, Prelude.◌≡◌, Prelude.◌≢◌, Prelude.ℕ, Prelude.suc, Prelude.◌+◌};
+ghost use Rattle.std.specs.Prelude.{◌<◌, ◌≤◌, ◌⊎◌, Bool, false, List, [], ◌∷◌, ◌++◌, length, map, filter, All};
 ghost use Rattle.events.specs.declared.event.Phase.{Phase, TheVariants.C, TheVariants.D};
 ghost use Rattle.fixed_flow.specs.Flow.{raised};
 ghost use Rattle.traffic.specs.Day.{link_turns, turns_of, count_of, turns_in, after, second, world_at, events_in};

@@ -1,7 +1,6 @@
 -- Setups whose days stay sound.
 use Rattle.std.specs.Prelude.{◌≡◌, ◌<◌, ◌+◌, ◌==◌, ℕ, List, length, get_or, All, None}
 use Rattle.rows.specs.{Plan.HasRoute, PlanRows.PlanRows, declared.plan.Act.Act}
-use Rattle.rows.specs.declared.plan.Leg.TheVariants as leg
 use Rattle.traffic.specs.{Setup.Setup, Setup.Departure, Worlds.HasEnd, Worlds.AreServable}
 
 -- the k-th activity of a plan has an end exactly where it is not the last one

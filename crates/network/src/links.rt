@@ -1,5 +1,5 @@
-ghost use Rattle.std.specs.List.{list_all};
-ghost use Rattle.std.specs.Prelude.{◌≡◌, ◌≤◌, ◌<◌, ◌^◌, ℕ, length, map, true, None, Some, IfOk, OnOk, if◌then◌else◌};
+ghost use Rattle.std.specs.{List.list_all, Prelude.◌≡◌};
+ghost use Rattle.std.specs.Prelude.{◌≤◌, ◌<◌, ◌^◌, ℕ, length, map, true, None, Some, IfOk, OnOk, if◌then◌else◌};
 ghost use Rattle.csv.specs.Records.{fields_of};
 ghost use Rattle.events.specs.Names.{number_of};
 ghost use Rattle.records.specs.Faults.{unless, Answers};

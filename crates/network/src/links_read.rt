@@ -1,4 +1,5 @@
-ghost use Rattle.std.specs.Prelude.{◌≡◌, ◌≤◌, ◌<◌, ◌∷◌, ◌++◌, [], ℕ, length, true, IfOk, slice_index, replicate};
+ghost use Rattle.std.specs.Prelude.{◌≡◌, ◌≤◌, ◌<◌, ◌∷◌, ◌++◌, [], ℕ, length, true, IfOk, slice_index};
+ghost use Rattle.std.specs.Prelude.{replicate};
 ghost use Rattle.limits.specs.declared.TheConstants.{MAX_IN_LINKS};
 ghost use Rattle.events.specs.Names.{is_name, with_name};
 ghost use Rattle.rows.specs.Networks.{in_links};

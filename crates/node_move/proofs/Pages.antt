@@ -15,18 +15,6 @@ row_reached [] (suc r) = refl
 row_reached (x ∷ xs) zero = refl
 row_reached (x ∷ xs) (suc r) = row_reached xs r
 
-pub row_put : (rows : List ℕ) (k n r : ℕ) → k < length rows → get_or (set rows k n) r 0 ≡ (if r == k then n else get_or rows r 0)
-row_put rows k n r lt =
-    elim (cases_Bool (r == k)) [
-      | inl e ↦ let f = eqb-true r k e in rw (e, f) (get_or-set_same rows k n 0 lt)
-      | inr e ↦ rw e (get_or-set_other rows k r n 0 (eqb-false r k e))
-    ]
-
-pub row_past : (rows : List ℕ) (r : ℕ) → length rows ≤ r → get_or rows r 0 ≡ 0
-row_past [] r le = refl
-row_past (x ∷ xs) zero le = absurd (omega arith)
-row_past (x ∷ xs) (suc r) le = row_past xs r (omega arith)
-
 -- PAGES
 no_page : (pages : List (List ℕ)) (q : ℕ) → length pages ≤ q → get_or pages q [] ≡ []
 no_page [] q le = refl

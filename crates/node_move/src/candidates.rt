@@ -1,6 +1,7 @@
 //! The links into a node that are green and have somebody at the front.
 
-ghost use Rattle.std.specs.Prelude.{◌≡◌, ℕ, ◌^◌, ◌<◌, ◌≤◌, ◌&&◌, List, not, length, map, sum, get_or, filter, IfOk};
+ghost use Rattle.std.specs.Prelude.{◌≡◌, ℕ, ◌^◌, ◌<◌, ◌≤◌, ◌&&◌, List, not, length, map, sum, get_or, filter};
+ghost use Rattle.std.specs.Prelude.{IfOk};
 ghost use Rattle.traffic.specs.{Lists.is_nil, Lists.without_at, Nodes.candidates, Nodes.weight_of};
 ghost use Rattle.traffic.specs.declared.{moves.Move.Move, node_views.InLink.InLink};
 ghost use Rattle.draws.specs.Choices.{pick};

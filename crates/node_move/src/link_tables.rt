@@ -1,6 +1,7 @@
 //! Numbers of links, in pages.
 
-ghost use Rattle.std.specs.Prelude.{◌≡◌, ℕ, ◌/◌, ◌<◌, ◌==◌, if◌then◌else◌, length, map, get_or, vec_items, OnOk, OnErr};
+ghost use Rattle.std.specs.Prelude.{◌≡◌, ℕ, ◌/◌, ◌<◌, ◌==◌, if◌then◌else◌, length, map, get_or, vec_items, OnOk};
+ghost use Rattle.std.specs.Prelude.{OnErr};
 ghost use Rattle.node_move.specs.{Pages.number_of, declared.TheConstants.PAGE_LINKS};
 
 use crate::PAGE_LINKS;

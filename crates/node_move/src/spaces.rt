@@ -1,6 +1,7 @@
 //! How many places of links are taken.
 
-ghost use Rattle.std.specs.Prelude.{◌≡◌, ℕ, ◌+◌, ◌==◌, if◌then◌else◌, option_map, Option, None, Some, OnOk, OnErr, MatchOption};
+ghost use Rattle.std.specs.Prelude.{◌≡◌, ℕ, ◌+◌, ◌==◌, if◌then◌else◌, option_map, Option, None, Some, OnOk, OnErr};
+ghost use Rattle.std.specs.Prelude.{MatchOption};
 ghost use Rattle.traffic.specs.{Nodes.one_more, declared.node_views.OutLink.OutLink};
 ghost use Rattle.node_move.specs.{Entries.rows_of, Entries.StandsAt, Spaces.places_in};
 

@@ -9,9 +9,8 @@ use Rattle.queue_link.specs.{Links.LinkView, declared.numbers.LinkNumbers.LinkNu
 use Rattle.draws.specs.Words.{word}
 use Rattle.traffic.specs.{Nodes.HaveNext, Vehicles.VehicleState, declared.moves.Occurrence.Occurrence}
 use Rattle.calendar.specs.{Due.AreIn, Waking.wake_of, Waking.earlier}
-use Rattle.node_move.specs.Entries.{SpaceRows}
+use Rattle.node_move.specs.{Spaces.places_in, declared.crossings.Entering.Entering, declared.turns.NodeTurn.NodeTurn, Entries.SpaceRows}
 use Rattle.node_move.specs.NodeStates.{NodeState, node_state, after_turn, buffer_after, entering_by, no_link, AreReady}
-use Rattle.node_move.specs.{Spaces.places_in, declared.crossings.Entering.Entering, declared.turns.NodeTurn.NodeTurn}
 use Rattle.node_seconds.specs.Networks.{lane, is_among, AreOnce, if_there, slot_in, put_back, with_queued, put_queued, accepted, accepted_all, wakes_within}
 use Rattle.node_seconds.specs.{Networks.wake_queued, Networks.wakes_after, Networks.wakes_after_all, Turns.moves_in, Turns.IsNodeSecond}
 

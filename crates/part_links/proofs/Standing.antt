@@ -1,5 +1,5 @@
 -- Links have their turns one after the other.
-use Rattle.traffic.proofs.Common.{◌≡◌, ◌≢◌, ℕ, ◌+◌, ◌-◌, ◌<◌, Bool, true, false, List, ◌∙◌, ap, refl, sym, subst, [], ◌∷◌, ◌++◌, inl, inr, arith, append-nil}
+use Rattle.traffic.proofs.Common.{◌≡◌, ◌≢◌, ℕ, ◌+◌, ◌-◌, ◌<◌, Bool, false, List, ◌∙◌, ap, refl, sym, subst, [], ◌∷◌, ◌++◌, inl, inr, arith, append-nil}
 use Rattle.traffic.proofs.Common.{length, get_or, set, eqb, eqb-true, eqb-false, ne_eqb, cases_Bool, true≢false, length-set, get_or-set_same, get_or-set_other}
 use Rattle.traffic.proofs.Common.{flat_map, Option, None, Event, Setup, World, told, phase_code, keyed, link_moves, link_turns, link_state, rules, waiters}
 use Rattle.traffic.{proofs.Common.LinkState, specs.Setup.link_of_stop}

@@ -56,7 +56,7 @@ fn turn_links(
 ///
 /// # Errors
 ///
-/// `AllocError`: there is no memory for a row, a rider or an event. The links are then of no use.
+/// `AllocError`: there is no memory for the slots, a row, a rider or an event. The links are then of no use.
 pub fn move_links(
     alloc: Global,
     phase: &LinkPhase,
@@ -82,7 +82,7 @@ pub fn move_links(
     ensures others { IfOk result (λ slots. (k : ℕ) → is_among k slots.items ≡ false → lane links.new k ≡ lane links.old k) }
     ensures short { OnOk result (AreShort lines.new) }
 {
-    let slots = wakes.take(phase.second);
+    let slots = wakes.take(phase.second)?;
     turn_links(alloc, phase, &slots, links, lines, wakes, told)?;
     Ok(slots)
 }

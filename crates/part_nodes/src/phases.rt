@@ -57,7 +57,7 @@ fn turn_nodes(
 ///
 /// # Errors
 ///
-/// `AllocError`: there is no memory for a vehicle or an event. The network is then of no use.
+/// `AllocError`: there is no memory for the numbers of the nodes, a vehicle or an event. The network is then of no use.
 pub fn move_nodes(
     phase: &NodePhase,
     in_links: &InLinks,
@@ -82,7 +82,7 @@ pub fn move_nodes(
         phase.now.day.now.town.now.settings.end_second phase.now.second V network.old network.new
         told.old.events.items told.new.events.items told.old.said.items told.new.said.items out.old.items out.new.items) }
 {
-    let numbers = network.node_wakes.take(phase.second);
+    let numbers = network.node_wakes.take(phase.second)?;
     turn_nodes(phase, in_links, &numbers, network, told, out)?;
     Ok(())
 }

@@ -1,6 +1,7 @@
 //! The departures of a partition by their seconds.
 
-ghost use Rattle.std.specs.Prelude.{◌≡◌, ℕ, ◌<◌, ◌≤◌, ◌++◌, [], ◌∷◌, ◌&&◌, ◌==◌, if◌then◌else◌, get_or, length, OnOk, IfOk};
+ghost use Rattle.std.specs.Prelude.{◌≡◌, ℕ, ◌<◌, ◌≤◌, ◌++◌, [], ◌∷◌, ◌&&◌, ◌==◌, if◌then◌else◌};
+ghost use Rattle.std.specs.Prelude.{get_or, length, OnOk, IfOk};
 ghost use Rattle.limits.specs.declared.TheConstants.{MAX_DEPARTURES};
 ghost use Rattle.calendar.specs.Due.{due_at};
 ghost use Rattle.partition.specs.Owned.{owner_in};

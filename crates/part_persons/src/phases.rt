@@ -137,7 +137,7 @@ impl Persons {
     ///
     /// # Errors
     ///
-    /// `AllocError`: there is no memory for a row or an event. The persons are then of no use.
+    /// `AllocError`: there is no memory for the numbers, a row or an event. The persons are then of no use.
     pub fn land_and_leave(
         &mut self,
         alloc: Global,
@@ -161,7 +161,7 @@ impl Persons {
         ensures followed { OnOk result (AreFollowedIn day.now (second + 1) self.new.world.persons self.new.wakes) }
         ensures wakes { OnOk result (length self.new.wakes ≡ length self.new.world.persons) }
     {
-        let due = self.wakes.take(second);
+        let due = self.wakes.take(second)?;
         self.do_turns(alloc, day, second, EarlyPhase::Land, &due, events)?;
         self.do_turns(alloc, day, second, EarlyPhase::Leave, &due, events)?;
         Ok(due)
@@ -171,7 +171,7 @@ impl Persons {
     ///
     /// # Errors
     ///
-    /// `AllocError`: there is no memory for a vehicle or an event. The persons are then of no use.
+    /// `AllocError`: there is no memory for the departures, a vehicle or an event. The persons and the departures are then of no use.
     pub fn start_departures(
         &mut self,
         alloc: Global,
@@ -194,9 +194,9 @@ impl Persons {
         ensures followed { (t : ℕ) → AreFollowedIn day.now t self.old.world.persons self.old.wakes
             → OnOk result (AreFollowedIn day.now t self.new.world.persons self.new.wakes) }
         ensures wakes { OnOk result (length self.new.wakes ≡ length self.new.world.persons) }
-        ensures rest { HasNone second departures.old departures.new }
+        ensures rest { OnOk result (HasNone second departures.old departures.new) }
     {
-        let due = departures.take(second);
+        let due = departures.take(second)?;
         self.do_turns(alloc, day, second, EarlyPhase::Start, &due, events)?;
         Ok(())
     }

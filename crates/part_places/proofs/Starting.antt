@@ -1,17 +1,11 @@
 -- Links of which no place is taken, one after the other.
-use Rattle.std.proofs.Common.{◌≡◌, ℕ, ◌+◌, ◌<◌, ◌≤◌, Bool, true, List, [], ◌∷◌, ◌++◌, length, get_or, take, ap, sym, ◌∙◌, subst, inl, inr, arith, refl}
+use Rattle.std.proofs.Common.{◌≡◌, ℕ, ◌+◌, ◌<◌, ◌≤◌, Bool, true, List, [], ◌∷◌, ◌++◌, length, get_or, take, ap, sym, ◌∙◌, subst, inl, inr, arith}
 use Rattle.std.proofs.lemmas.{Bool.cases_Bool, Bool.eqb-true, Bool.eqb-false, List.take_all, List.take_more, List.Elements.Contains-push_cases}
 use Rattle.std.specs.{List.Contains, Prelude.◌==◌, Prelude.if◌then◌else◌, Prelude.Some}
 use Rattle.calendar.specs.Due.{Due, due_at}
 use Rattle.node_move.specs.{Entries.SpaceRows, Pages.number_of, Spaces.places_in}
-use Rattle.town.specs.{Setups.setup_of, Views.setup, declared.day_input.DayInput.DayInput}
 use Rattle.traffic.specs.{Setup.Setup, declared.node_views.OutLink.OutLink}
 use Rattle.part_places.specs.{Taking.AreFree, Taking.AreTakenOf, Taking.empty, Taking.free_place, Taking.times, declared.places.Places.Places}
-
--- a town has as many links as its network
-pub links_of : (day : DayInput) → length (setup day).links ≡ length day.town.now.network.links
-unfolding setup_of
-links_of day = refl
 
 pub none_free : (S : Setup) (links : List ℕ) (space : SpaceRows) → AreFree S (take 0 links) space
 none_free S links space = λ m c. absurd (let lt = c.1 in omega arith)

@@ -1,6 +1,7 @@
 //! Places come free.
 
-ghost use Rattle.std.specs.Prelude.{◌≡◌, ℕ, ◌+◌, ◌-◌, ◌<◌, Bool, true, ◌==◌, if◌then◌else◌, filter, OnOk, IfOk};
+ghost use Rattle.std.specs.Prelude.{◌≡◌, ℕ, ◌+◌, ◌-◌, ◌<◌, Bool, true, ◌==◌, if◌then◌else◌, filter, OnOk};
+ghost use Rattle.std.specs.Prelude.{IfOk};
 ghost use Rattle.calendar.specs.Due.{due_at};
 ghost use Rattle.node_move.specs.{Pages.number_of, Spaces.places_in};
 ghost use Rattle.part_places.specs.Taking.{Taking, AreTakenOf, IsFull, fewer, is_full_in, times};
@@ -92,7 +93,7 @@ impl Places {
             → IfOk result (λ links. (m : ℕ) → m < count → begins m ≡ true → times m links.items ≡ 0 → IsFull second T m
             → IsFull (second + 1) T m) }
     {
-        let links = self.freed.take(second);
+        let links = self.freed.take(second)?;
         let alloc = *links.allocator();
         let full = full_ones(alloc, &links, &self.space)?;
         free_all(&links, &mut self.space, &mut self.holes)?;

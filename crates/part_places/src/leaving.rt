@@ -1,6 +1,7 @@
 //! Vehicles leave the queues of links.
 
-ghost use Rattle.std.specs.Prelude.{◌≡◌, ℕ, ◌+◌, ◌-◌, ◌<◌, ◌≤◌, Bool, true, ◌++◌, [], ◌==◌, if◌then◌else◌, replicate, OnOk};
+ghost use Rattle.std.specs.Prelude.{◌≡◌, ℕ, ◌+◌, ◌-◌, ◌<◌, ◌≤◌, Bool, true, ◌++◌, [], ◌==◌};
+ghost use Rattle.std.specs.Prelude.{if◌then◌else◌, replicate, OnOk};
 ghost use Rattle.calendar.specs.Due.{due_at};
 ghost use Rattle.node_move.specs.{Pages.number_of, Spaces.places_in};
 ghost use Rattle.part_places.specs.Taking.{Taking, AreTakenOf, taken_in, later};

@@ -1,6 +1,7 @@
 //! The places of links on which nobody is.
 
-ghost use Rattle.std.specs.{List.Contains, Prelude.◌≡◌, Prelude.ℕ, Prelude.◌<◌, Prelude.Bool, Prelude.true, Prelude.length, Prelude.IfOk};
+ghost use Rattle.std.specs.{List.Contains, Prelude.◌≡◌, Prelude.ℕ, Prelude.◌<◌, Prelude.Bool, Prelude.true, Prelude.length};
+ghost use Rattle.std.specs.{Prelude.IfOk};
 ghost use Rattle.calendar.specs.Due.{AreIn};
 ghost use Rattle.partition.specs.Owned.{owner_in};
 ghost use Rattle.town.specs.Views.{setup};

@@ -219,7 +219,10 @@ fn are_zero(counts: &[usize]) -> bool {
 
 /// Whether just this number is due in a second, or none. It is taken out.
 fn takes(calendar: &mut Calendar, second: u32, number: Option<u32>) -> bool {
-    match calendar.take(second).as_slice() {
+    let Ok(numbers) = calendar.take(second) else {
+        return false;
+    };
+    match numbers.as_slice() {
         [] => number.is_none(),
         [due] => number == Some(*due),
         _ => false,

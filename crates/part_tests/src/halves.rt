@@ -34,7 +34,10 @@ static TEXTS: [(InFile, &str); 7] = [
 
 /// Whether just these numbers are due in a second. They are taken out.
 fn takes(calendar: &mut Calendar, second: u32, numbers: &[u32]) -> bool {
-    calendar.take(second).as_slice() == numbers
+    let Ok(due) = calendar.take(second) else {
+        return false;
+    };
+    due.as_slice() == numbers
 }
 
 /// Whether just these departures start in a partition in seconds 20 and 30.

@@ -1,5 +1,5 @@
 -- The part of a partition once those went who are in its parcels of a second.
-use Rattle.traffic.proofs.Common.{◌≡◌, ℕ, suc, ◌+◌, ◌<◌, ◌≤◌, Bool, true, false, List, [], ◌∷◌, ◌∙◌, ap, refl, sym, subst, arith, inl, inr, cases_Bool}
+use Rattle.traffic.proofs.Common.{◌≡◌, ℕ, suc, ◌+◌, ◌<◌, ◌≤◌, Bool, true, List, [], ◌∷◌, ◌∙◌, ap, refl, sym, subst, arith, inl, inr, cases_Bool}
 use Rattle.traffic.proofs.Common.{true≢false, cond, eqb, eqb-true, eq-eqb, length, get_or, map, filter, count_by, nat_le, nat_tests, if◌then◌else◌, add-one}
 use Rattle.traffic.proofs.Common.{Option, World, LinkState, link_state, at, holes_at, hole_of, storage_of, seconds_of, credit_of, person_of, nobody, world_at}
 use Rattle.traffic.{proofs.Common.through, proofs.Common.Some, specs.declared.node_views.OutLink.OutLink}

@@ -48,8 +48,8 @@ fn stuck_on(
     Some(of_person(Word::StuckAndAbort, person, link, More::Mode(mode)))
 }
 
-/// The same of this person of the town.
-fn stranded_on(day: &DayInput, link: u32, person: u32, state: Person) -> Option<Occurrence>
+/// The same of this person of the town, who is under way.
+fn stranded_under_way(day: &DayInput, link: u32, person: u32, state: Person) -> Option<Occurrence>
     requires { person < length day.now.chosen.now }
     ensures { option_to_list result ≡ stranded_on (setup day.now) link person state }
 {
@@ -57,6 +57,19 @@ fn stranded_on(day: &DayInput, link: u32, person: u32, state: Person) -> Option<
     let here = act_in(plan, state.element);
     let mode = mode_in(plan, state.element);
     stuck_on(day, link, person, here, mode, state.place)
+}
+
+/// The same of this person of the town. The plan of one who is at an activity, or was taken out of the day, is not looked at: each part has
+/// a place for each person, in most of which nobody is.
+fn stranded_on(day: &DayInput, link: u32, person: u32, state: Person) -> Option<Occurrence>
+    requires { person < length day.now.chosen.now }
+    ensures { option_to_list result ≡ stranded_on (setup day.now) link person state }
+{
+    match state.place {
+        Place::At { .. } => None,
+        Place::Aborted { .. } => None,
+        _ => stranded_under_way(day, link, person, state),
+    }
 }
 
 /// Appends what the end of the day tells of a person.

@@ -3,9 +3,8 @@ use Rattle.std.specs.Prelude.{ℕ, ◌*◌, min, Bool, not, ◌&&◌, ◌||◌, 
 use Rattle.std.specs.List.{flat_map, list_any}
 use Rattle.limits.specs.declared.TheConstants.{MAX_LAG}
 use Rattle.events.specs.declared.event.Event.{Event}
-use Rattle.traffic.specs.{Day.world_at, Lists.below, Rows.World, Rows.person_of}
+use Rattle.traffic.specs.{Day.world_at, Lists.below, Rows.World, Rows.person_of, Worlds.listed_in, declared.world.Place.Place, declared.world.Row.Row}
 use Rattle.traffic.specs.Setup.{Setup, person_plan, leg_at, link_row, seconds_of, hole_of, act_at, act_after, link_of_stop, departure}
-use Rattle.traffic.specs.{Worlds.listed_in, declared.world.Place.Place, declared.world.Row.Row}
 use Rattle.traffic.specs.declared.world.Place.TheVariants as place
 use Rattle.rows.specs.declared.plan.{Act.Act, Leg.Leg}
 use Rattle.rows.specs.declared.plan.Leg.TheVariants as leg

@@ -1,6 +1,7 @@
 //! What moves do to a world, in place.
 
-ghost use Rattle.std.specs.{List.flat_map, Prelude.◌≡◌, Prelude.◌++◌, Prelude.◌<◌, Prelude.◌^◌, Prelude.length, Prelude.OnOk};
+ghost use Rattle.std.specs.{List.flat_map, Prelude.◌≡◌, Prelude.◌++◌, Prelude.◌<◌, Prelude.◌^◌, Prelude.length};
+ghost use Rattle.std.specs.{Prelude.OnOk};
 ghost use Rattle.town.specs.Views.{setup};
 ghost use Rattle.traffic.specs.Moves.{told, rows_after, persons_after, credits_after, holes_after, done, run};
 

@@ -1,7 +1,7 @@
 //! The turns of persons and departures.
 
-ghost use Rattle.std.specs.List.{list_all};
-ghost use Rattle.std.specs.Prelude.{◌≡◌, ◌<◌, ◌+◌, ◌++◌, ◌∷◌, [], ℕ, true, length, OnOk, IfOk, if◌then◌else◌};
+ghost use Rattle.std.specs.{List.list_all, Prelude.◌≡◌};
+ghost use Rattle.std.specs.Prelude.{◌<◌, ◌+◌, ◌++◌, ◌∷◌, [], ℕ, true, length, OnOk, IfOk, if◌then◌else◌};
 ghost use Rattle.rows.specs.{Plan.mode_of_leg, Plan.HasRoute, PlanRows.plan_rows, PlanRows.act_in, PlanRows.leg_in, declared.plan.Leg.Leg};
 ghost use Rattle.town.specs.{Fits.fits, Views.rows_of, Views.chosen_in, Views.setup};
 ghost use Rattle.traffic.specs.Persons.{lands, landing, landing_moves, departs, car, sets_out, leaving, leaving_moves};

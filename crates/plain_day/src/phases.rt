@@ -1,6 +1,7 @@
 //! The phases of a second.
 
-ghost use Rattle.std.specs.{List.flat_map, Prelude.◌≡◌, Prelude.◌<◌, Prelude.◌++◌, Prelude.length, Prelude.OnOk, Prelude.IfOk};
+ghost use Rattle.std.specs.{List.flat_map, Prelude.◌≡◌, Prelude.◌<◌, Prelude.◌++◌, Prelude.length, Prelude.OnOk};
+ghost use Rattle.std.specs.{Prelude.IfOk};
 ghost use Rattle.limits.specs.declared.TheConstants.{LAST_SECOND};
 ghost use Rattle.law_in_range.specs.{Rows.IsFitWorld, Setups.counts_in, Setups.HaveFittingPlans};
 ghost use Rattle.town.specs.Views.{setup};

@@ -39,10 +39,6 @@ in_link_at k [] h g = absurd (omega arith)
 in_link_at zero (e ∷ es) h g = g.0
 in_link_at (suc k) (e ∷ es) h g = in_link_at k es (omega arith) g.1
 
-pub draw_none : (K : Stuck) (t : ℕ) (word : ℕ → ℕ) (j : ℕ) (es : List InLink) (out_links : ℕ → Option OutLink) → length es ≡ 0 → draw K t word (length es) j es out_links ≡ []
-unfolding draw
-draw_none K t word j es out_links h = rw h refl
-
 step_of : (K : Stuck) (t : ℕ) (word : ℕ → ℕ) (n j k : ℕ) (es : List InLink) (out_links : ℕ → Option OutLink) → k ≡ drawn es (word (16 * t + j)) →
     draw K t word (suc n) j es out_links ≡ pass_node_all K t out_links (get_or es k no_in_link) ++ draw K t word n (j + 1) (without_at k es) (out_links_after (pass_node_all K t out_links (get_or es k no_in_link)) out_links)
 unfolding draw

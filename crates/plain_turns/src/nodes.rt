@@ -1,6 +1,7 @@
 //! The turn of a node, as its moves.
 
-ghost use Rattle.std.specs.Prelude.{◌≡◌, Some, ◌<◌, ◌≤◌, ◌+◌, ◌*◌, ◌-◌, ◌++◌, ◌∷◌, [], length, map, filter, not, OnOk, IfOk, IfSome};
+ghost use Rattle.std.specs.Prelude.{◌≡◌, Some, ◌<◌, ◌≤◌, ◌+◌, ◌*◌, ◌-◌, ◌++◌, ◌∷◌, [], length, map};
+ghost use Rattle.std.specs.Prelude.{filter, not, OnOk, IfOk, IfSome};
 ghost use Rattle.limits.specs.declared.TheConstants.{LAST_SECOND, MAX_IN_LINKS, MAX_LENGTH};
 ghost use Rattle.draws.specs.Words.{word};
 ghost use Rattle.traffic.specs.{Lists.is_nil, Moves.at_second};

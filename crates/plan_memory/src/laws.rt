@@ -1,6 +1,7 @@
 //! What holds of the worst and the best plan. Each law is the contract of a call that does nothing.
 
-ghost use Rattle.std.specs.Prelude.{◌≡◌, ◌<◌, ◌^◌, ℤ, pos, neg_ℤ, List, [], ◌∷◌, length, slice_index_or, true, Option, None, Some};
+ghost use Rattle.std.specs.Prelude.{◌≡◌, ◌<◌, ◌^◌, ℤ, pos, neg_ℤ, List, [], ◌∷◌, length, slice_index_or, true};
+ghost use Rattle.std.specs.Prelude.{Option, None, Some};
 ghost use Rattle.plan_memory.specs.{Choices.logit_weights, Scores.is_lowest, Scores.is_highest, Scores.worst, Scores.best};
 
 /// Of any plans the worst one has a score that is no higher than any, and the best one has a score that is no lower than any. A plan

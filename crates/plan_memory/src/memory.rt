@@ -1,4 +1,5 @@
-ghost use Rattle.std.specs.Prelude.{◌≡◌, ◌<◌, ◌≤◌, length, map, remove, replicate, slice_get, slice_index_or, Some, None, OnOk, OnErr};
+ghost use Rattle.std.specs.Prelude.{◌≡◌, ◌<◌, ◌≤◌, length, map, remove, replicate, slice_get, slice_index_or, Some, None};
+ghost use Rattle.std.specs.Prelude.{OnOk, OnErr};
 ghost use Rattle.rows.specs.PlanRows.{plan_rows};
 ghost use Rattle.plan_memory.specs.Memories.{first_memory, chosen_plan, with_score, with_plan, with_choice, chosen_without, without};
 ghost use Rattle.plan_memory.specs.{Memories.reduced, declared.TheConstants.MAX_HELD};

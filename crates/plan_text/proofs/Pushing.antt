@@ -11,9 +11,6 @@ all_at p [] i x all less = absurd (omega arith)
 all_at p (y ∷ ys) zero x all less = (both (p y) (list_all p ys) all).0
 all_at p (y ∷ ys) (suc i) x all less = all_at p ys i x (both (p y) (list_all p ys) all).1 (omega arith)
 
-pub drop_past : {X : Type 0} (xs : List X) (i : ℕ) → length xs ≤ i → drop i xs ≡ []
-drop_past xs i few = drop_all i xs few
-
 module _ (book : Book) (person index : ℕ) (acts : List Act) (legs : List Leg) (place : ℕ) where
   pub act_in_book : (act : Act) → are_in_book book acts legs ≡ true → place < length acts → is_act_in_book book (get_or acts place act) ≡ true
   unfolding are_in_book

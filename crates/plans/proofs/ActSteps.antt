@@ -1,4 +1,4 @@
--- An activity is read: what is known of the rows so far stays known.
+-- A row more is read, of an activity or of a leg: what is known of the rows so far stays known.
 use Rattle.records.proofs.Common.{◌≡◌, List, ap, ℕ, length, ◌∙◌, map, [], ◌<◌, sym, None, Some, ◌++◌, ◌∷◌, refl, true, Bool, Option, ◌+◌, false, cond, get_or}
 use Rattle.records.proofs.Common.{take, add-one, map-append, fold, is_some, option_to_list, append-nil, Mode, with_name, is_held, field, Row}
 use Rattle.std.proofs.lemmas.List.Elements.{filter-append}

@@ -31,7 +31,7 @@ number_stays names rows n name number is =
 pub held_there : (names : List (List ℕ)) (name : List ℕ) → is_held name (with_name names name) ≡ true
 held_there names name = grind (arith, is_held-with_name names name name, nat_list_eq_equiv.refl name)
 
--- a held name has a number, which is below the length
+-- a held name has a number
 pub record Numbered (name : List ℕ) (names : List (List ℕ)) : Type 0 where
   pub number : ℕ
   pub is : number_of name names ≡ Some number
@@ -39,7 +39,7 @@ pub record Numbered (name : List ℕ) (names : List (List ℕ)) : Type 0 where
 pub numbered_held : (names : List (List ℕ)) (name : List ℕ) → is_held name names ≡ true → Numbered name names
 numbered_held names name held = record { number = position_or_len (bytes_eq name) names; is = number_of-held name names held }
 
--- so it is the same in the names so far and in all of them
+-- which is the same in the names so far and in all of them, and below the length of these
 pub record IsSame (name : List ℕ) (now all : List (List ℕ)) : Type 0 where
   pub number : number_in_table name now ≡ number_in_table name all
   pub within : nat_lt (number_in_table name now) (length all) ≡ true

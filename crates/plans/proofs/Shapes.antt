@@ -41,11 +41,12 @@ closed_plan acts legs (Some last) paired few ends sound there =
 closed_is_plan : (p : Progress) → Shaped p → is_some p.last ≡ true → IsPlan (closed_of p)
 closed_is_plan p s there = closed_plan p.acts p.legs p.last s.paired s.few s.ends s.legs there
 
--- all rows are read
+-- all plans so far, with the open one closed
 pub shaped_all : (p : Progress) → Shaped p → is_some p.last ≡ true → Each (Each IsPlan) (finish p).plans
 unfolding finish
 shaped_all p s there = each_push (Each IsPlan) p.plans (p.own ++ closed_of p ∷ []) s.plans (each_push IsPlan p.own (closed_of p) s.own (closed_is_plan p s there))
 
+-- the first row is read
 pub shaped_first : (links : List (List ℕ)) (row : Row) → Shaped (step_first links row)
 unfolding step_first
 shaped_first links row = record { plans = tt; own = tt; paired = refl; few = omega arith; ends = refl; legs = refl }

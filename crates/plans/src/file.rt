@@ -1,4 +1,5 @@
-ghost use Rattle.std.specs.Prelude.{◌≡◌, ◌<◌, ◌≤◌, ◌+◌, ◌^◌, length, map, option_map, is_some, true, None, Some, IfOk, All};
+ghost use Rattle.std.specs.Prelude.{◌≡◌, ◌<◌, ◌≤◌, ◌+◌, ◌^◌, length, map, option_map, is_some, true, None, Some};
+ghost use Rattle.std.specs.Prelude.{IfOk, All};
 ghost use Rattle.csv.specs.Records.{fields_of};
 ghost use Rattle.records.specs.{Faults.Answers, Fields.field, Lists.numbers_of};
 ghost use Rattle.plans.specs.Values.{row_before, row_behind, plans_fault, file_rows, rows_fault, values_of};

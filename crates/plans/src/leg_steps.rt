@@ -1,5 +1,5 @@
-ghost use Rattle.std.specs.Prelude.{◌≡◌, ◌<◌, ◌≤◌, ℕ, List, length, map, option_map, true, false, IfOk, OnOk, IfSome, is_some, Some};
-ghost use Rattle.std.specs.Prelude.{get_or};
+ghost use Rattle.std.specs.Prelude.{◌≡◌, ◌<◌, ◌≤◌, ℕ, List, length, map, option_map, true, false, IfOk, OnOk, IfSome};
+ghost use Rattle.std.specs.Prelude.{is_some, Some, get_or};
 ghost use Rattle.csv.specs.Records.{fields_of};
 ghost use Rattle.limits.specs.declared.TheConstants.{MAX_ROUTE_LINKS};
 ghost use Rattle.events.specs.Names.{number_of, with_name};

@@ -1,4 +1,5 @@
-ghost use Rattle.std.specs.Prelude.{◌≡◌, ◌<◌, ◌++◌, ◌∷◌, [], length, map, option_map, true, false, IfOk, OnOk, is_some, Some, nat_eq};
+ghost use Rattle.std.specs.Prelude.{◌≡◌, ◌<◌, ◌++◌, ◌∷◌, [], length, map, option_map, true, false, IfOk, OnOk, is_some};
+ghost use Rattle.std.specs.Prelude.{Some, nat_eq};
 ghost use Rattle.csv.specs.Records.{fields_of};
 ghost use Rattle.events.specs.Names.{number_of, with_name, is_name};
 ghost use Rattle.records.specs.{Fields.field, Fields.holds_name, Lists.numbers_of, Lists.are_names};

@@ -4,16 +4,14 @@ use Rattle.std.proofs.Common.{◌∙◌, ap, subst, inl, inr, arith}
 use Rattle.std.{proofs.lemmas.Bool.Decides.nat_tests, specs.List.flat_map, specs.List.range_with_len, specs.Prelude.nat_lt}
 use Rattle.edge_files.{proofs.Worlds.all_steps-append, specs.Effects.all_steps, specs.Keeping.Kept, specs.Keeping.kept_of, specs.World.Step}
 use Rattle.edge_files.specs.{World.Byte, World.Saved, World.byte_steps, World.kept_after, declared.effects.Effect.Effect, declared.files.OutFile.OutFile}
-use Rattle.edge_files.specs.declared.effects.Effect.TheVariants as effect
 use Rattle.edge_files.specs.declared.files.OutFile.TheVariants as out
 use Rattle.day_scores.specs.Texts.{scores_text}
 use Rattle.keep.specs.Kept.{kept_rows}
 use Rattle.plan_memory.specs.Memories.{MemoryRows}
 use Rattle.plan_text.specs.Lines.{plans_text}
-use Rattle.iterations.proofs.{Going.memories_split, Tails.continues, Tails.kept_until}
+use Rattle.iterations.{proofs.Going.memories_split, proofs.Tails.continues, proofs.Tails.kept_until, specs.Continued.continued, specs.Days.events_of}
+use Rattle.iterations.specs.{Days.scores_in, Days.memories_after, Runs.RunRows, Texts.events_text, Texts.iteration_line, Texts.done_line, Written.written_plans}
 use Rattle.iterations.specs.Acts.{chosen_numbers, saves, iteration_effects, end_effects, memories_behind, memories_at, iterations_effects, acts_behind, acts}
-use Rattle.iterations.specs.{Continued.continued, Days.events_of, Days.scores_in, Days.memories_after, Runs.RunRows, Texts.events_text, Texts.iteration_line}
-use Rattle.iterations.specs.{Texts.done_line, Written.written_plans}
 use Rattle.scenario.specs.FilesToScenario.{ScenarioRows}
 use Rattle.qsim_top.specs.{Answer.run_rows_of, Laws.until, Laws.kept_by}
 

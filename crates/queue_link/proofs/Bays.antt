@@ -1,5 +1,5 @@
 -- Vehicles leave a bay one by one.
-use Rattle.std.proofs.Common.{◌≡◌, ℕ, true, false, List, [], ◌∷◌, ◌++◌, ap, sym, ◌∙◌, inl, inr, append-nil, append_assoc}
+use Rattle.std.proofs.Common.{◌≡◌, ℕ, true, List, [], ◌∷◌, ◌++◌, ap, sym, ◌∙◌, inl, inr, append_assoc}
 use Rattle.std.proofs.lemmas.{Bool.cases_Bool, List.map-append, List.Elements.filter-append}
 use Rattle.std.specs.Prelude.{map, filter}
 use Rattle.traffic.specs.{Links.waiting, declared.world.Row.Row}
@@ -11,23 +11,11 @@ pub due_more : (t : ℕ) (rows : List Row) (r : Row) → is_due t r ≡ true →
 due_more t rows r e = filter-append (is_due t) rows (r ∷ []) ∙ ap (λ (xs : List Row). filter (is_due t) rows ++ xs)
     (let q : filter (is_due t) (r ∷ []) ≡ r ∷ [] = simp e in q)
 
-pub due_same : (t : ℕ) (rows : List Row) (r : Row) → is_due t r ≡ false → filter (is_due t) (rows ++ r ∷ []) ≡ filter (is_due t) rows
-due_same t rows r e =
-    filter-append (is_due t) rows (r ∷ []) ∙ ap (λ (xs : List Row). filter (is_due t) rows ++ xs) (let q : filter (is_due t) (r ∷ [])
-    ≡ [] = simp e in q) ∙ append-nil (filter (is_due t) rows)
-
 pub left_same : (t : ℕ) (rows : List Row) (r : Row) → is_due t r ≡ true → left_in_bay t (rows ++ r ∷ []) ≡ left_in_bay t rows
 left_same t [] r e = simp e
 left_same t (x ∷ rows) r e = elim (cases_Bool (is_due t x)) [
   | inl q ↦ simp q (left_same t rows r e)
   | inr q ↦ simp q (ap (λ (xs : List Row). x ∷ xs) (left_same t rows r e))
-]
-
-pub left_more : (t : ℕ) (rows : List Row) (r : Row) → is_due t r ≡ false → left_in_bay t (rows ++ r ∷ []) ≡ left_in_bay t rows ++ r ∷ []
-left_more t [] r e = simp e
-left_more t (x ∷ rows) r e = elim (cases_Bool (is_due t x)) [
-  | inl q ↦ simp q (left_more t rows r e)
-  | inr q ↦ simp q (ap (λ (xs : List Row). x ∷ xs) (left_more t rows r e))
 ]
 
 -- what one row more does to the wait list and to what is told

@@ -1,10 +1,10 @@
 -- What comes of fronts.
-use Rattle.std.proofs.Common.{◌≡◌, ◌≢◌, ℕ, ◌+◌, ◌-◌, ◌<◌, Bool, true, false, List, [], ◌∷◌, length, get_or, refl, ap, sym, ◌∙◌, arith, inl, inr}
+use Rattle.std.proofs.Common.{◌≡◌, ◌≢◌, ℕ, ◌+◌, ◌-◌, Bool, true, false, List, [], ◌∷◌, refl, sym, arith, inl, inr}
 use Rattle.std.proofs.lemmas.Bool.{cases_Bool, Decides.nat_tests}
 use Rattle.std.specs.Prelude.{◌&&◌, nat_lt, nat_le, if◌then◌else◌}
 use Rattle.fixed_flow.specs.declared.TheConstants.{VEHICLE_COST}
 use Rattle.traffic.specs.{Links.is_last, Stops.calls_on, declared.world.Row.Row}
-use Rattle.queue_link.specs.Turns.{fate_by, fate_of, queue_fate, wait_fate}
+use Rattle.queue_link.specs.Turns.{fate_by, fate_of, queue_fate}
 use Rattle.queue_link.specs.declared.fates.Fate.{Fate, TheVariants.Stops, TheVariants.Arrives, TheVariants.Passes, TheVariants.Stays}
 use Rattle.queue_link.specs.declared.numbers.LinkNumbers.{LinkNumbers}
 
@@ -56,21 +56,3 @@ still_stays n t b credit (r ∷ rs) e =
           let f : fate_of n b credit r.vehicle ≡ Stays = rw q at e in
           rw q (still_by (calls_on n.link r.vehicle) (is_last r.vehicle) _ _ (less_pays n.room b credit) f)
     ]
-
--- what is read of the front decides
-pub front_fate : (n : LinkNumbers) (t b credit : ℕ) (rows : List Row) (r : Row) (f : Fate) → 0 < length rows → r ≡ get_or rows 0 r
-    → (if nat_lt t r.second then Stays else fate_of n b credit r.vehicle) ≡ f
-    → f ≡ queue_fate n t b credit rows
-front_fate n t b credit [] r f lt e q = absurd (omega arith)
-front_fate n t b credit (x ∷ rows) r f lt e q = sym q ∙ ap (λ (y : Row). if nat_lt t y.second then Stays else fate_of n b credit y.vehicle)
-    e
-
-pub front_wait_fate : (n : LinkNumbers) (b credit : ℕ) (rows : List Row) (r : Row) (f : Fate) → 0 < length rows → r ≡ get_or rows 0 r
-    → fate_of n b credit r.vehicle ≡ f → f ≡ wait_fate n b credit rows
-front_wait_fate n b credit [] r f lt e q = absurd (omega arith)
-front_wait_fate n b credit (x ∷ rows) r f lt e q = sym q ∙ ap (λ (y : Row). fate_of n b credit y.vehicle) e
-
--- with no row there is none
-pub none_rows : (rows : List Row) → length rows ≡ 0 → rows ≡ []
-none_rows [] e = refl
-none_rows (r ∷ rows) e = absurd (omega arith)

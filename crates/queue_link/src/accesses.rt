@@ -1,7 +1,7 @@
 //! What comes to a link, what is taken from it, and what it tells of itself.
 
-ghost use Rattle.std.specs.Option.{option_copied};
-ghost use Rattle.std.specs.Prelude.{◌≡◌, ◌+◌, ◌^◌, ◌<◌, ◌≤◌, ◌↔◌, [], ◌∷◌, ◌++◌, length, max, OnOk, IsTrue};
+ghost use Rattle.std.specs.{Option.option_copied, Prelude.◌≡◌};
+ghost use Rattle.std.specs.Prelude.{◌+◌, ◌^◌, ◌<◌, ◌≤◌, ◌↔◌, [], ◌∷◌, ◌++◌, length, max, OnOk, IsTrue};
 ghost use Rattle.limits.specs.declared.TheConstants.{LAST_SECOND};
 ghost use Rattle.traffic.specs.{Lists.on_front, Moves.at_second, declared.stage.Stage.TheVariants.Queue};
 ghost use Rattle.traffic.specs.declared.{stage.Stage.TheVariants.Wait, stage.Stage.TheVariants.Bay, world.Row.Row};

@@ -1,6 +1,7 @@
 //! Steps 3 and 4 of a link's second: the queue, and then the wait list, let their fronts go.
 
-ghost use Rattle.std.specs.Prelude.{◌≡◌, ◌≢◌, ◌+◌, ◌-◌, ◌<◌, ◌≤◌, List, [], ◌∷◌, ◌++◌, length, OnOk, IfOk, IfNone};
+ghost use Rattle.std.specs.Prelude.{◌≡◌, ◌≢◌, ◌+◌, ◌-◌, ◌<◌, ◌≤◌, List, [], ◌∷◌, ◌++◌, length};
+ghost use Rattle.std.specs.Prelude.{OnOk, IfOk, IfNone};
 ghost use Rattle.fixed_flow.specs.declared.TheConstants.{VEHICLE_COST};
 ghost use Rattle.rows.specs.declared.settings.Dwelling.{Dwelling};
 ghost use Rattle.traffic.specs.{Links.buffered, declared.world.Waiter.Waiter};

@@ -1,5 +1,5 @@
 -- Rows read one after the other.
-use Rattle.records.proofs.Common.{◌≡◌, List, ap, ℕ, length, ◌∙◌, map, [], ◌<◌, sym, None, ◌++◌, ◌∷◌, refl, Bool, ◌+◌, cond, get_or, take, map-append, take_more}
+use Rattle.records.proofs.Common.{◌≡◌, List, ℕ, length, map, [], ◌<◌, None, ◌++◌, ◌∷◌, refl, ◌+◌, get_or, take, map-append, take_more}
 use Rattle.records.proofs.Common.{number_of, with_name, field, column, Row}
 use Rattle.events.proofs.NameLists.{no_number-absent}
 

@@ -1,6 +1,6 @@
 -- The first fault of a file, row by row.
 use Rattle.records.proofs.Common.{◌≡◌, ap, ℕ, ◌∙◌, arith, ◌<◌, sym, None, Some, refl, Option, ◌+◌, suc, add-one, Err, Reason, RowStop, Answers, first_fault}
-use Rattle.records.{proofs.Common.first_below, proofs.Common.TellsStop, proofs.First.none_more, proofs.First.first_here, specs.Faults.behind_head}
+use Rattle.records.{proofs.Common.TellsStop, proofs.First.none_more, proofs.First.first_here, specs.Faults.behind_head}
 use Rattle.edge_files.specs.declared.reasons.RowStop.TheVariants as stop
 
 -- no row has a fault where there is none

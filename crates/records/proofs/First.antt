@@ -1,7 +1,7 @@
 -- The first fault stays the first.
 use Rattle.std.proofs.Common.{◌≡◌, ℕ, zero, suc, ◌+◌, ◌-◌, ◌<◌, Option, None, Some, add-one, zero-add, refl, arith}
 use Rattle.edge_files.specs.declared.reasons.{Reason.Reason, RowFault.RowFault}
-use Rattle.records.specs.Faults.{or_else, fault_at, first_below}
+use Rattle.records.specs.Faults.{first_below}
 
 abbrev no_fault : Option RowFault
 no_fault = None

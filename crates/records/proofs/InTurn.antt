@@ -1,6 +1,6 @@
 -- Rows are read in turn, up to the first fault.
 use Rattle.records.proofs.{Columns.map_more, Columns.column_more, Common.◌≡◌, Common.List, Common.ap}
-use Rattle.records.proofs.Common.{ℕ, length, ◌∙◌, arith, map, [], ◌<◌, sym, None, Some, ◌++◌, ◌∷◌, refl, Option, ◌+◌, get_or, ◌≤◌, take, subst, Err, Ok, Result}
+use Rattle.records.proofs.Common.{ℕ, length, ◌∙◌, arith, map, [], ◌<◌, sym, None, Some, ◌++◌, ◌∷◌, Option, ◌+◌, get_or, ◌≤◌, take, Err, Ok, Result}
 use Rattle.records.proofs.Common.{length-map, get_or-map, take_all, fields_of, ByteRecord, Reason, RowStop, number_of, with_name, Answers, first_fault, field}
 use Rattle.records.proofs.{Common.column, Common.body_of, Common.TellsStop, Common.body_fault, Common.Row, Faulty.none_of_none, Faulty.one_more}
 use Rattle.records.{proofs.Faulty.fault_here, proofs.Faulty.answers_head, specs.Faults.unless, specs.Reading.reason_after, specs.Reading.file_fault}

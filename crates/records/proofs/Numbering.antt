@@ -1,5 +1,5 @@
 -- The number of a name that was added where it was not held.
-use Rattle.std.proofs.Common.{◌≡◌, ℕ, ◌<◌, length, List, [], ◌∷◌, ◌++◌, Some, Ok, refl}
+use Rattle.std.proofs.Common.{◌≡◌, ℕ, ◌<◌, length, List, Some, Ok, refl}
 use Rattle.events.proofs.NameLists.{number_of-New, number_held, name_at-number_of}
 use Rattle.events.specs.{Names.number_of, Names.with_name, Names.Adds, declared.names.Added.TheVariants.New}
 

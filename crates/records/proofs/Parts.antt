@@ -1,5 +1,5 @@
 -- The parts between separators, one more part taken off.
-use Rattle.records.proofs.Common.{◌≡◌, List, ap, ℕ, length, ◌∙◌, arith, map, [], ◌<◌, sym, None, Some, ◌++◌, ◌∷◌, refl, true, Bool, ◌+◌, false, cond, ◌≤◌}
+use Rattle.records.proofs.Common.{◌≡◌, List, ap, ℕ, length, arith, map, [], ◌<◌, None, Some, ◌++◌, ◌∷◌, refl, true, Bool, ◌+◌, false, cond, ◌≤◌}
 use Rattle.records.proofs.Common.{drop, not, take, append_assoc, Bor, nat_tests, map-append, nat_lt, parts_of}
 use Rattle.std.proofs.lemmas.List.Splits.{slice_split_first}
 use Rattle.std.specs.{List.slice_split, List.onto_first, List.position_or_len, Prelude.position, Prelude.◌==◌}

@@ -1,8 +1,7 @@
 -- The records of a text are the only list that a reader can give.
-use Rattle.std.proofs.Common.{◌≡◌, ℕ, zero, suc, ◌+◌, ◌≤◌, Bool, true, false, cond, List, [], ◌∷◌, length, Option, None, Some, refl, sym, ◌∙◌, ap, subst, arith}
-use Rattle.csv.specs.Machine.{Read, next_record, step, is_end, ends_at_end}
-use Rattle.csv.specs.Reading.{Reached, AreRecords, records, records_from, records_next, strip_bom, is_bom}
-use Rattle.csv.specs.declared.parser.{Config.Config, State.State}
+use Rattle.std.proofs.Common.{◌≡◌, ℕ, zero, suc, ◌+◌, ◌≤◌, Bool, true, false, cond, List, [], ◌∷◌, length, Option, None, Some, refl, sym, ap, subst, arith}
+use Rattle.csv.specs.{Machine.Read, Machine.next_record, Machine.step, Machine.is_end, Machine.ends_at_end, Reading.Reached, Reading.AreRecords}
+use Rattle.csv.specs.{Reading.records, Reading.records_from, Reading.strip_bom, Reading.is_bom, declared.parser.Config.Config, declared.parser.State.State}
 use Rattle.csv.specs.declared.parser.State.TheVariants as st
 
 some_is : (p q : Read) → Some p ≡ Some q → p ≡ q

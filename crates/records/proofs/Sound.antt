@@ -1,20 +1,13 @@
 -- What passes a test, one after the other.
-use Rattle.records.proofs.Common.{◌≡◌, List, ap, ℕ, length, ◌∙◌, arith, [], ◌<◌, sym, None, Some, ◌++◌, ◌∷◌, refl, true, Bool, Option, ◌&&◌, nat_tests}
-use Rattle.records.proofs.Common.{list_all-append, list_all, nat_lt, number_of, numbers_of, with_number}
-use Rattle.records.proofs.Numbering.{numbered_within}
+use Rattle.records.proofs.Common.{◌≡◌, List, ℕ, length, arith, [], sym, None, Some, ◌∷◌, refl, true, Bool, Option, ◌&&◌, nat_tests, list_all, nat_lt, number_of}
+use Rattle.records.proofs.{Common.numbers_of, Common.with_number, Numbering.numbered_within}
 
 pub both_true : (a b : Bool) → a ≡ true → b ≡ true → (a && b) ≡ true
 both_true a b p q = grind arith
 
-pub all_push : {X : Type 0} (p : X → Bool) (xs ys : List X) (x : X) → list_all p xs ≡ true → p x ≡ true → ys ≡ xs ++ x ∷ [] → list_all p ys ≡ true
-all_push p xs ys x all here pushed = rw (pushed, list_all-append p xs (x ∷ []), all, here) refl
-
 -- the number of a name is one of the list
 pub number_known : (names : List (List ℕ)) (name : List ℕ) (n : ℕ) → number_of name names ≡ Some n → nat_lt n (length names) ≡ true
 number_known names name n held = let less = numbered_within names name n held in grind (arith, nat_tests)
-
-pub all_none : {X : Type 0} (p : X → Bool) (xs : List X) → xs ≡ [] → list_all p xs ≡ true
-all_none p xs none = rw none refl
 
 known_step : (names : List (List ℕ)) (item ns : List ℕ) (o : Option ℕ) (p : Option (List ℕ)) → number_of item names ≡ o → ((ms : List ℕ) → p ≡ Some ms → list_all (λ n. nat_lt n (length names)) ms ≡ true)
     → with_number o p ≡ Some ns → list_all (λ n. nat_lt n (length names)) ns ≡ true

@@ -1,7 +1,8 @@
 //! TimeMutation: a plan whose activities end at other seconds.
 
 ghost use Rattle.std.specs.{List.enumerate_from, Prelude.◌≡◌, Prelude.◌<◌};
-ghost use Rattle.std.specs.Prelude.{◌≤◌, ◌+◌, ◌^◌, ◌∷◌, ◌++◌, [], ◌≤ℤ◌, ℤ, pos, neg_ℤ, length, map, take, slice_index_or, None, true, IfOk};
+ghost use Rattle.std.specs.Prelude.{◌≤◌, ◌+◌, ◌^◌, ◌∷◌, ◌++◌, [], ◌≤ℤ◌, ℤ, pos, neg_ℤ, length, map};
+ghost use Rattle.std.specs.Prelude.{take, slice_index_or, None, true, IfOk};
 ghost use Rattle.limits.specs.declared.TheConstants.{LAST_SECOND};
 ghost use Rattle.rows.specs.{Plan.are_acts, PlanRows.plan_rows};
 ghost use Rattle.replanning.specs.Acts.{moved, move_of, moved_act, moved_acts, mutated_plan};

@@ -2,15 +2,10 @@
 use Rattle.std.proofs.Common.{◌≡◌, ◌≢◌, ℕ, zero, suc, Bool, true, false, List, [], ◌∷◌, ◌++◌, length, take, refl, ap, sym, ◌∙◌, arith, append_assoc, append-nil}
 use Rattle.std.proofs.{Common.inl, Common.inr, Common.◌+◌, Common.◌-◌, Common.◌<◌, Common.◌≤◌, Common.drop, Common.get_or, lemmas.Bool.cases_Bool}
 use Rattle.std.proofs.lemmas.{Bool.eq-eqb, Bool.ne_eqb, Bool.and_parts, Bool.or_parts, Bool.ltb-true, Bool.lt-ltb, Bool.Decides.nat_tests, List.drop_more}
-use Rattle.std.specs.{List.list_any, List.flat_map, Prelude.not, Prelude.◌&&◌, Prelude.nat_lt, Prelude.map, Prelude.filter, Prelude.if◌then◌else◌}
-use Rattle.events.specs.declared.event.Word.TheVariants as word
-use Rattle.events.specs.declared.event.More.TheVariants as more
-use Rattle.rows.specs.declared.settings.Dwelling.{Dwelling}
-use Rattle.traffic.proofs.Waiting.{boarded-are}
-use Rattle.traffic.specs.Stops.{ComesBefore, comes_first, among, in_turn, is_person, next_call, alighting, staying, may_board, boarding, left_behind, rider}
-use Rattle.traffic.specs.{Stops.served_vehicle, Stops.served_row, Telling.of_vehicle, Telling.leaves, Telling.enters, Telling.serves, Vehicles.VehicleState}
-use Rattle.traffic.specs.declared.{moves.Occurrence.Occurrence, riders.Rider.Rider, world.Waiter.Waiter}
-use Rattle.riders.specs.{Serving.left_over, Serving.stopping, Waiting.NobodyIs, Waiting.AllBefore, Waiting.ComesBeforeAll, Waiting.AreWaiting}
+use Rattle.std.specs.{List.list_any, Prelude.not, Prelude.◌&&◌, Prelude.nat_lt, Prelude.map, Prelude.filter, Prelude.if◌then◌else◌}
+use Rattle.traffic.specs.Stops.{ComesBefore, comes_first, among, in_turn, is_person, next_call, staying, may_board, boarding, left_behind, rider}
+use Rattle.traffic.specs.{Vehicles.VehicleState, declared.riders.Rider.Rider, declared.world.Waiter.Waiter}
+use Rattle.riders.specs.{Serving.left_over, Waiting.NobodyIs, Waiting.AllBefore, Waiting.ComesBeforeAll, Waiting.AreWaiting}
 
 -- SOME OF THEM, AND ONE MORE
 passes_before : (p : Waiter → Bool) (w : Waiter) (ws : List Waiter) → ComesBeforeAll w ws → ComesBeforeAll w (filter p ws)
@@ -121,19 +116,6 @@ left v ws h =
 pub left_wait : (v : VehicleState) (ws : List Waiter) → AreWaiting ws → AreWaiting (left_behind v ws)
 unfolding left_behind
 left_wait v ws h = passes_wait (λ (w : Waiter). not (list_any (is_person w.person) (boarding v ws))) ws h
-
--- WHAT IS TOLD
-pub told_is : (D : Dwelling) (t l : ℕ) (ws : List Waiter) (v : VehicleState) (said : List Occurrence)
-    → ((said ++ of_vehicle word.VehicleArrivesAtFacility v.id l (more.Stop (next_call v).stop) ∷ [])
-    ++ flat_map (leaves v.id l) (alighting (next_call v).stop v.riders)) ++ flat_map (enters v.id) (map rider (boarding v ws))
-    ≡ said ++ serves (stopping l v) (served_row D t l ws v)
-unfolding served_vehicle
-told_is D t l ws v said =
-    let e = of_vehicle word.VehicleArrivesAtFacility v.id l (more.Stop (next_call v).stop) in
-    let xs = flat_map (leaves v.id l) (alighting (next_call v).stop v.riders) in
-    let ys = flat_map (enters v.id) (map rider (boarding v ws)) in
-    append_assoc (said ++ e ∷ []) xs ys ∙ append_assoc said (e ∷ []) (xs ++ ys)
-    ∙ ap (λ (rs : List Rider). said ++ e ∷ (xs ++ flat_map (enters v.id) rs)) (sym (boarded-are v ws))
 
 -- ONE AFTER THE OTHER
 suc_less_one : (k : ℕ) → suc k - 1 ≡ k

@@ -1,7 +1,7 @@
 //! The service of a vehicle at a stop.
 
-ghost use Rattle.std.specs.List.{list_any};
-ghost use Rattle.std.specs.Prelude.{◌≡◌, ◌+◌, ◌<◌, ◌≤◌, ◌++◌, [], ◌∷◌, length, filter, map, take, true, ◌==◌, ◌&&◌, nat_lt, OnOk, IfOk};
+ghost use Rattle.std.specs.{List.list_any, Prelude.◌≡◌, Prelude.◌+◌, Prelude.◌<◌, Prelude.◌≤◌};
+ghost use Rattle.std.specs.Prelude.{◌++◌, [], ◌∷◌, length, filter, map, take, true, ◌==◌, ◌&&◌, nat_lt, OnOk, IfOk};
 ghost use Rattle.limits.specs.declared.TheConstants.{LAST_SECOND, MAX_CALLS, MAX_PERSONS};
 ghost use Rattle.rows.specs.Settings.{IsDwelling};
 ghost use Rattle.traffic.specs.Stops.{next_call, alighting, staying, may_board, boarding, left_behind, rider, served_vehicle, served_row};

@@ -155,9 +155,6 @@ module _ (nodes : ℕ) (ends : Ends) (arrive : Arrivals) (fifo : IsFifo arrive) 
     abbrev node : ℕ
     node = end_of ends link
 
-    abbrev at_end : ℕ
-    at_end = arrive link left
-
     abbrev new : Labels
     new = slice_set labels (end_of ends link) (Some (arrive link left))
 

@@ -1,9 +1,8 @@
 -- Lists of links in one array, and lists of links beside their nodes.
-use Rattle.std.proofs.Common.{◌≡◌, ℕ, zero, suc, ◌+◌, ◌-◌, ◌<◌, ◌≤◌, List, [], ◌∷◌, ◌++◌, length, take, drop, map, replicate, ◌⊎◌, inl, inr, refl, sym, ◌∙◌, ap}
-use Rattle.std.proofs.{Common.subst, Common.arith, lemmas.Bool.cases_lt, lemmas.Bool.cases_eq}
-use Rattle.std.proofs.lemmas.List.{get_or_append_left, get_or_push, get_or_past, get_or-replicate, get_or-set_same, get_or-set_other, length-append}
-use Rattle.std.proofs.lemmas.List.{length-replicate, length-drop, drop-append-le, drop_at, take-append-le, take_all}
-use Rattle.std.proofs.lemmas.List.Elements.{All-nil, All-push, All-weaker, Contains-append_left, Contains-push}
+use Rattle.std.proofs.{Common.subst, Common.arith, lemmas.Bool.cases_eq}
+use Rattle.std.proofs.Common.{◌≡◌, ℕ, zero, suc, ◌+◌, ◌-◌, ◌<◌, ◌≤◌, List, [], ◌∷◌, ◌++◌, length, take, drop, map, ◌⊎◌, inl, inr, refl, sym, ◌∙◌, ap}
+use Rattle.std.proofs.lemmas.List.{get_or_append_left, get_or_push, get_or-set_same, get_or-set_other, length-append, length-drop, drop-append-le, drop_at}
+use Rattle.std.proofs.lemmas.List.{take-append-le, take_all, Elements.All-push, Elements.All-weaker, Elements.Contains-append_left, Elements.Contains-push}
 use Rattle.std.proofs.lemmas.List.FromFn.{map-range_with_len_more, get_or-map-range_with_len, length-map-range_with_len}
 use Rattle.std.specs.{List.range_with_len, List.slice_range, Prelude.slice_index, Prelude.slice_index_or, Prelude.slice_set, Prelude.All, Prelude.Contains}
 use Rattle.router.specs.Stars.{lists_in, AreStarts, AreBeside}
@@ -45,16 +44,6 @@ starts_within starts links node kept within =
     there : (n m : ℕ) → n < m → n + (m - 1 - n) ≡ m - 1
     there n m h = omega arith
 
--- one node
-pub starts_none : (starts links : List ℕ) → starts ≡ 0 ∷ [] → links ≡ [] → AreStarts starts links
-starts_none starts links one none =
-    let P : List ℕ → Type 0 = λ s. AreStarts s links in
-    let Q : List ℕ → Type 0 = λ l. AreStarts (0 ∷ []) l in
-    subst P (sym one) (subst Q (sym none) (record { some = omega arith; ascend = λ node within. absurd (omega arith); last = refl }))
-
-pub lists_none : (starts links : List ℕ) → starts ≡ 0 ∷ [] → lists_in starts links ≡ []
-lists_none starts links one = ap (λ (s : List ℕ). lists_in s links) one
-
 -- one node more
 module _ (starts links more new_starts new_links : List ℕ) (kept : AreStarts starts links) (pushed : new_links ≡ links ++ more)
     (started : new_starts ≡ starts ++ length new_links ∷ []) where
@@ -70,23 +59,6 @@ module _ (starts links more new_starts new_links : List ℕ) (kept : AreStarts s
 
   start_last : (node : ℕ) → node ≡ length starts → slice_index new_starts node ≡ length new_links
   start_last node at = ap (λ (s : List ℕ). slice_index s node) started ∙ get_or_push starts (length new_links) 0 node (sym at)
-
-  pub starts_push : AreStarts new_starts new_links
-  starts_push = record {
-    some = let n = counted in omega arith;
-    ascend = λ node less. elim (cases_lt (suc node) (length starts)) [
-      | inl before ↦ let a = start_before node (omega arith) in let b = start_before (suc node) before in let h =
-          kept.ascend node before in omega arith
-      | inr last ↦
-          let n = counted in
-          let a = start_before node (omega arith) in
-          let b = start_last (suc node) (omega arith) in
-          let h = starts_within starts links node kept (omega arith) in
-          let l = longer in
-          omega arith
-    ];
-    last = let n = counted in start_last (length new_starts - 1) (let some = kept.some in omega arith);
-  }
 
   list_before : (node : ℕ) → node + 1 < length starts → list_at new_starts new_links node ≡ list_at starts links node
   list_before node within =
@@ -135,23 +107,6 @@ list_is starts links node within =
 
 pub length-lists : (starts links : List ℕ) → length (lists_in starts links) ≡ length starts - 1
 length-lists starts links = length-map-range_with_len (list_at starts links) 0 (length starts - 1)
-
-abbrev no_lists : ℕ → List (List ℕ)
-no_lists nodes = replicate nodes []
-
--- at first no link is beside any node
-pub beside_none : (node_of : ℕ → ℕ) (nodes : ℕ) (lists : List (List ℕ)) → lists ≡ replicate nodes [] → AreBeside node_of 0 lists
-beside_none node_of nodes lists none = record {
-  each = λ node.
-      let P : List ℕ → Type 0 = λ l. All (λ link. (link < 0) × (node_of link ≡ node)) l in
-      subst P (sym (ap (λ (ls : List (List ℕ)). slice_index_or ls node []) none ∙ empty_at node (cases_lt node nodes)))
-      (All-nil (λ (link : ℕ). (link < 0) × (node_of link ≡ node)));
-  every = λ link within. absurd (omega arith);
-}
-  where
-    empty_at : (node : ℕ) → (node < nodes) ⊎ (nodes ≤ node) → slice_index_or (no_lists nodes) node [] ≡ []
-    empty_at node (inl within) = get_or-replicate nodes node [] [] within
-    empty_at node (inr past) = get_or_past (no_lists nodes) node [] (let n = length-replicate {A = List ℕ} nodes [] in omega arith)
 
 -- one link more, at the end of the list of its node
 pub beside_push : (node_of : ℕ → ℕ) (link node : ℕ) (lists new : List (List ℕ)) → node < length lists → node_of link ≡ node

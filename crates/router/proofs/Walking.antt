@@ -1,5 +1,5 @@
 -- Legs by a rule, leg by leg.
-use Rattle.std.proofs.Common.{◌≡◌, ℕ, zero, suc, ◌+◌, ◌<◌, ◌≤◌, Bool, true, List, [], ◌∷◌, ◌++◌, length, drop, get_or, refl, sym, ◌∙◌, ap, subst, arith}
+use Rattle.std.proofs.Common.{◌≡◌, ℕ, zero, suc, ◌+◌, ◌<◌, ◌≤◌, Bool, true, List, [], ◌∷◌, length, drop, get_or, refl, sym, ap, subst, arith}
 use Rattle.std.proofs.lemmas.{Bool.and_from, Bool.and_parts, Bool.Decides.nat_tests, List.drop_all}
 use Rattle.std.specs.{List.list_all, Prelude.nat_lt}
 use Rattle.rows.specs.declared.plan.{Act.Act, Leg.Leg}
@@ -36,20 +36,6 @@ module _ (rule : Act → ℕ → Leg → Leg) where
   pub none_left : (acts : List Act) (legs : List Leg) (place : ℕ) → length legs ≤ place → each_leg rule (drop place acts) (drop place legs) ≡ []
   unfolding each_leg
   none_left acts legs place done = ap (each_leg rule (drop place acts)) (drop_all place legs done)
-
-  -- one more leg behind some
-  pub leg_push : (acts : List Act) (legs : List Leg) (here there : Act) (leg : Leg) → length legs + 1 < length acts
-      → here ≡ get_or acts (length legs) here → there ≡ get_or acts (length legs + 1) there
-      → each_leg rule acts (legs ++ leg ∷ []) ≡ each_leg rule acts legs ++ rule here there.link leg ∷ []
-  unfolding each_leg
-  leg_push [] legs here there leg room first second = absurd (omega arith)
-  leg_push (a ∷ []) legs here there leg room first second = absurd (omega arith)
-  leg_push (a ∷ b ∷ acts) [] here there leg room first second =
-      ap (λ (x : Act). rule x b.link leg ∷ []) (sym first) ∙ ap (λ (x : Act). rule here x.link leg ∷ []) (sym second)
-  leg_push (a ∷ b ∷ acts) (m ∷ legs) here there leg room first second =
-      let next : suc (length legs) + 1 ≡ suc (length legs + 1) = omega arith in
-      ap (λ (ls : List Leg). rule a b.link m ∷ ls) (leg_push (b ∷ acts) legs here there leg (omega arith) first
-      (second ∙ ap (λ (n : ℕ). get_or (a ∷ b ∷ acts) n there) next))
 
   -- there are as many legs as before
   pub leg_count : (acts : List Act) (legs : List Leg) → length (each_leg rule acts legs) ≡ length legs

@@ -1,4 +1,5 @@
-ghost use Rattle.std.specs.Prelude.{◌≡◌, ℕ, ◌^◌, ◌≤◌, ◌<◌, length, map, slice_index_or, slice_index, [], IfOk, All, Contains};
+ghost use Rattle.std.specs.Prelude.{◌≡◌, ℕ, ◌^◌, ◌≤◌, ◌<◌, length, map, slice_index_or, slice_index, [], IfOk, All};
+ghost use Rattle.std.specs.Prelude.{Contains};
 ghost use Rattle.limits.specs.declared.TheConstants.{MAX_NODES};
 ghost use Rattle.walks.specs.Walks.{start_of, end_of, AreWithin};
 ghost use Rattle.router.specs.Stars.{AreBeside};

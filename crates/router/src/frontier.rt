@@ -1,6 +1,6 @@
 ghost use Rattle.std.specs.{BinaryHeap.heap_items, BinaryHeap.IsHeap, Bool.OnTrue, Bool.OnFalse};
-ghost use Rattle.std.specs.Prelude.{◌≡◌, ℕ, ◌+◌, ◌*◌, ◌^◌, ◌<◌, ◌≤◌, [], List, length, drop, slice_index, replicate, IfOk, OnOk, IfSome};
-ghost use Rattle.std.specs.Prelude.{IfNone, Contains, None, Some, IsTrue, ◌↔◌, IsSomeAnd, All};
+ghost use Rattle.std.specs.Prelude.{◌≡◌, ℕ, ◌+◌, ◌*◌, ◌^◌, ◌<◌, ◌≤◌, [], List, length, drop, slice_index};
+ghost use Rattle.std.specs.Prelude.{replicate, IfOk, OnOk, IfSome, IfNone, Contains, None, Some, IsTrue, ◌↔◌, IsSomeAnd, All};
 ghost use Rattle.limits.specs.declared.TheConstants.{MAX_NODES};
 ghost use Rattle.travel_times.specs.Times.{arrivals};
 ghost use Rattle.walks.specs.{Arrivals.Arrivals, Certificates.AreSmall, Rounds.label_at, Rounds.least_labels};

@@ -1,5 +1,6 @@
 ghost use Rattle.std.specs.{List.slice_range, Prelude.◌≡◌, Prelude.ℕ, Prelude.◌+◌, Prelude.◌^◌, Prelude.◌<◌};
-ghost use Rattle.std.specs.Prelude.{◌≤◌, ◌++◌, ◌∷◌, [], length, map, slice_index, slice_index_or, slice_set, replicate, IfOk, OnOk, All};
+ghost use Rattle.std.specs.Prelude.{◌≤◌, ◌++◌, ◌∷◌, [], length, map, slice_index, slice_index_or, slice_set, replicate};
+ghost use Rattle.std.specs.Prelude.{IfOk, OnOk, All};
 ghost use Rattle.router.specs.Stars.{AreBeside};
 
 use std::alloc::{AllocError, Global};

@@ -1,4 +1,5 @@
-ghost use Rattle.std.specs.{List.list_any, Prelude.◌≡◌, Prelude.◌<◌, Prelude.◌≤◌, Prelude.◌+◌, Prelude.◌^◌, Prelude.length};
+ghost use Rattle.std.specs.{List.list_any, Prelude.◌≡◌, Prelude.◌<◌, Prelude.◌≤◌, Prelude.◌+◌, Prelude.◌^◌};
+ghost use Rattle.std.specs.{Prelude.length};
 ghost use Rattle.rows.specs.Greens.{holds, phase_of, is_green, green_at};
 
 use events::Rows;

@@ -86,20 +86,21 @@ taken test route true None none own gives = none
 taken test route true (Some found) none own gives = gives found refl
 
 module _ (R : NetworkRows) (inside : AreWithin (length R.nodes) (ends_of R.links)) where
+  -- by searches at free speed: the route that is found, and a leg, a plan and all plans with their routes filled; and the checks that look for no route
   abbrev found_between : Act → ℕ → Option (List ℕ)
   found_between = route_between (graph_between R) (free_arrivals R)
 
   abbrev routed : Act → ℕ → Leg → Leg
   routed = routed_leg (graph_between R) (free_arrivals R)
 
-  abbrev in_full : PlanRows → PlanRows
-  in_full = routed_plan (graph_between R) (free_arrivals R)
+  abbrev filled_plan : PlanRows → PlanRows
+  filled_plan = routed_plan (graph_between R) (free_arrivals R)
 
-  abbrev in_full_all : List (List PlanRows) → List (List PlanRows)
-  in_full_all = all_routed (graph_between R) (free_arrivals R)
+  abbrev filled_plans : List (List PlanRows) → List (List PlanRows)
+  filled_plans = all_routed (graph_between R) (free_arrivals R)
 
-  abbrev kept : LegChecks → LegChecks
-  kept W = settled W.numbers W.stops W.routes
+  abbrev settled_checks : LegChecks → LegChecks
+  settled_checks W = settled W.numbers W.stops W.routes
 
   -- the route at free speed leads from the one link to the other
   free_joins : (here : Act) (there : ℕ) (route : List ℕ) → here.link < length R.links → there < length R.links
@@ -110,7 +111,7 @@ module _ (R : NetworkRows) (inside : AreWithin (length R.nodes) (ends_of R.links
 
   -- the reasons against a leg with its route filled are those against the leg
   leg_same : (W : LegChecks) (here : Act) (there : ℕ) (l : Leg) → here.link < length R.links → there < length R.links
-      → leg_reason (kept W) here there (routed here there l) ≡ leg_reason (with_search R W) here there l
+      → leg_reason (settled_checks W) here there (routed here there l) ≡ leg_reason (with_search R W) here there l
   unfolding leg_reason routed_leg
   leg_same W here there (leg.Car route) here_in there_in =
       same_told here.link there route (nat_eq (length route) 0) (found_between here there) refl
@@ -140,7 +141,7 @@ module _ (R : NetworkRows) (inside : AreWithin (length R.nodes) (ends_of R.links
 
   -- THE REASONS OF ALL LEGS
   legs_same : (W : LegChecks) (row : ℕ) (acts : List Act) (legs : List Leg) → are_on (length R.links) acts ≡ true → length acts ≡ length legs + 1
-      → legs_fault (kept W) row acts (each_leg routed acts legs) ≡ legs_fault (with_search R W) row acts legs
+      → legs_fault (settled_checks W) row acts (each_leg routed acts legs) ≡ legs_fault (with_search R W) row acts legs
   unfolding legs_fault each_leg
   legs_same W row [] [] on more = refl
   legs_same W row [] (l ∷ legs) on more = absurd (omega arith)
@@ -154,7 +155,7 @@ module _ (R : NetworkRows) (inside : AreWithin (length R.nodes) (ends_of R.links
       rw (same, legs_same W (row + 2) (b ∷ acts) legs here.1 (omega arith))
 
   own_same : (W : LegChecks) (rows : List ℕ) (plans : List PlanRows) → own_are_on (length R.links) plans ≡ true → Each IsPlan plans
-      → plans_fault (kept W) rows (map in_full plans) ≡ plans_fault (with_search R W) rows plans
+      → plans_fault (settled_checks W) rows (map filled_plan plans) ≡ plans_fault (with_search R W) rows plans
   unfolding plans_fault plan_fault
   own_same W rows [] on whole = refl
   own_same W rows (plan ∷ plans) on whole =
@@ -162,13 +163,13 @@ module _ (R : NetworkRows) (inside : AreWithin (length R.nodes) (ends_of R.links
       rw (legs_same W (get_or rows 0 0 + 1) plan.acts plan.legs parts.0 whole.0.one_more, own_same W (drop 1 rows) plans parts.1 whole.1)
 
   all_same : (W : LegChecks) (rows : List ℕ) (plans : List (List PlanRows)) → all_are_on (length R.links) plans ≡ true → Each (Each IsPlan) plans
-      → all_plans_fault (kept W) rows (in_full_all plans) ≡ all_plans_fault (with_search R W) rows plans
+      → all_plans_fault (settled_checks W) rows (filled_plans plans) ≡ all_plans_fault (with_search R W) rows plans
   unfolding plans_fault
   all_same W rows [] on whole = refl
   all_same W rows (own ∷ plans) on whole =
       let parts = and_parts (own_are_on (length R.links) own) _ on in
-      rw (plans_fault-append (kept W) rows (map in_full own) (flat_map (λ own. own) (in_full_all plans)), own_same W rows own parts.0 whole.0)
-      (rw (length-map own in_full, all_same W (drop (length own) rows) plans parts.1 whole.1, plans_fault-append (with_search R W) rows own) refl)
+      rw (plans_fault-append (settled_checks W) rows (map filled_plan own) (flat_map (λ own. own) (filled_plans plans)), own_same W rows own parts.0 whole.0)
+      (rw (length-map own filled_plan, all_same W (drop (length own) rows) plans parts.1 whole.1, plans_fault-append (with_search R W) rows own) refl)
 
   -- the first leg that does not fit, of plans whose routes are filled, is the first that does not fit as it was read
   pub filled_crossing : (P : PlanFileRows) (S : ScheduleRows) → length R.link_names ≡ length R.links → IsSound R.link_names (ends_of R.links) P
@@ -180,7 +181,7 @@ module _ (R : NetworkRows) (inside : AreWithin (length R.nodes) (ends_of R.links
 
   -- THE NUMBERS OF ALL PLANS
   plan_named : (tables : Tables) → length tables.links ≡ length R.links → (plan : PlanRows)
-      → is_plan_named tables (ends_of R.links) plan ≡ true → is_plan_named tables (ends_of R.links) (in_full plan) ≡ true
+      → is_plan_named tables (ends_of R.links) plan ≡ true → is_plan_named tables (ends_of R.links) (filled_plan plan) ≡ true
   unfolding is_plan_named
   plan_named tables each plan named =
       let parts = and_parts (list_all (is_act_named tables) plan.acts) _ named in
@@ -189,19 +190,19 @@ module _ (R : NetworkRows) (inside : AreWithin (length R.nodes) (ends_of R.links
       (rw (← each) (acts_on tables plan.acts parts.0)) parts.1)
 
   own_named : (tables : Tables) → length tables.links ≡ length R.links → (plans : List PlanRows)
-      → list_all (is_plan_named tables (ends_of R.links)) plans ≡ true → list_all (is_plan_named tables (ends_of R.links)) (map in_full plans) ≡ true
+      → list_all (is_plan_named tables (ends_of R.links)) plans ≡ true → list_all (is_plan_named tables (ends_of R.links)) (map filled_plan plans) ≡ true
   own_named tables each [] named = refl
   own_named tables each (plan ∷ plans) named = grind (arith, plan_named tables each plan, own_named tables each plans)
 
   person_named : (tables : Tables) → length tables.links ≡ length R.links → (own : List PlanRows) → are_plans tables (ends_of R.links) own ≡ true
-      → are_plans tables (ends_of R.links) (map in_full own) ≡ true
+      → are_plans tables (ends_of R.links) (map filled_plan own) ≡ true
   unfolding are_plans
   person_named tables each own named =
       let parts = and_parts (nat_le 1 (length own) && nat_le (length own) 5) _ named in
-      rw (length-map own in_full) (and_from (nat_le 1 (length own) && nat_le (length own) 5) _ parts.0 (own_named tables each own parts.1))
+      rw (length-map own filled_plan) (and_from (nat_le 1 (length own) && nat_le (length own) 5) _ parts.0 (own_named tables each own parts.1))
 
   all_named : (tables : Tables) → length tables.links ≡ length R.links → (plans : List (List PlanRows))
-      → list_all (are_plans tables (ends_of R.links)) plans ≡ true → list_all (are_plans tables (ends_of R.links)) (in_full_all plans) ≡ true
+      → list_all (are_plans tables (ends_of R.links)) plans ≡ true → list_all (are_plans tables (ends_of R.links)) (filled_plans plans) ≡ true
   all_named tables each [] named = refl
   all_named tables each (own ∷ plans) named = grind (arith, person_named tables each own, all_named tables each plans)
 
@@ -210,13 +211,13 @@ module _ (R : NetworkRows) (inside : AreWithin (length R.nodes) (ends_of R.links
       → IsSound R.link_names (ends_of R.links) (filled_in R P)
   unfolding filled_in
   filled_sound P each sound = record {
-    each = length-map P.plans (map in_full) ∙ sound.each;
+    each = length-map P.plans (map filled_plan) ∙ sound.each;
     few = sound.few;
     sound = all_named (record { kinds = P.kinds; lines = P.lines; stops = P.stops; links = R.link_names }) each P.plans sound.sound;
   }
 
   -- THE FORM OF ALL PLANS
-  plan_kept : (plan : PlanRows) → are_on (length R.links) plan.acts ≡ true → IsPlan plan → IsPlan (in_full plan)
+  plan_kept : (plan : PlanRows) → are_on (length R.links) plan.acts ≡ true → IsPlan plan → IsPlan (filled_plan plan)
   plan_kept plan on whole =
       let count = leg_count routed plan.acts plan.legs in
       record {
@@ -226,12 +227,12 @@ module _ (R : NetworkRows) (inside : AreWithin (length R.nodes) (ends_of R.links
         legs = leg_kept routed is_leg (length R.links) leg_short plan.acts plan.legs on whole.legs;
       }
 
-  own_kept : (own : List PlanRows) → own_are_on (length R.links) own ≡ true → Each IsPlan own → Each IsPlan (map in_full own)
+  own_kept : (own : List PlanRows) → own_are_on (length R.links) own ≡ true → Each IsPlan own → Each IsPlan (map filled_plan own)
   own_kept [] on whole = tt
   own_kept (plan ∷ own) on whole =
       let parts = and_parts (are_on (length R.links) plan.acts) _ on in (plan_kept plan parts.0 whole.0, own_kept own parts.1 whole.1)
 
-  all_kept : (plans : List (List PlanRows)) → all_are_on (length R.links) plans ≡ true → Each (Each IsPlan) plans → Each (Each IsPlan) (in_full_all plans)
+  all_kept : (plans : List (List PlanRows)) → all_are_on (length R.links) plans ≡ true → Each (Each IsPlan) plans → Each (Each IsPlan) (filled_plans plans)
   all_kept [] on whole = tt
   all_kept (own ∷ plans) on whole =
       let parts = and_parts (own_are_on (length R.links) own) _ on in (own_kept own parts.0 whole.0, all_kept plans parts.1 whole.1)

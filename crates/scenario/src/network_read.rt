@@ -1,4 +1,5 @@
-ghost use Rattle.std.specs.{List.list_all, Prelude.◌≡◌, Prelude.◌≤◌, Prelude.ℕ, Prelude.length, Prelude.map, Prelude.true, Prelude.IfOk};
+ghost use Rattle.std.specs.{List.list_all, Prelude.◌≡◌, Prelude.◌≤◌, Prelude.ℕ, Prelude.length, Prelude.map, Prelude.true};
+ghost use Rattle.std.specs.{Prelude.IfOk};
 ghost use Rattle.limits.specs.declared.TheConstants.{MAX_IN_LINKS, MAX_LINKS, MAX_NODES};
 ghost use Rattle.records.specs.Files.{body_of};
 ghost use Rattle.rows.specs.{Joined.ends_of, Networks.is_link, Networks.in_links};

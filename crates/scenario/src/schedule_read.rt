@@ -2,9 +2,8 @@ ghost use Rattle.std.specs.Prelude.{◌≡◌, map, length, IfOk};
 ghost use Rattle.records.specs.{Fields.column, Files.body_of};
 ghost use Rattle.schedule.specs.{Departures.departures_fault, Departures.departure_of, Routes.routes_fault, Routes.routes_of};
 ghost use Rattle.schedule.specs.{Routes.lines_of, Stops.stops_fault, Views.stop_lists, Views.route_lists, Views.departure_lists};
-ghost use Rattle.scenario.specs.Faults.{Tells, TellsFile};
+ghost use Rattle.scenario.specs.{FilesToScenario.IsSchedule, Views.texts_of, Faults.Tells, Faults.TellsFile};
 ghost use Rattle.scenario.specs.FilesToScenario.{stop_names, stop_rows, route_names, schedule_fault, schedule_rows_of, schedule_view};
-ghost use Rattle.scenario.specs.{FilesToScenario.IsSchedule, Views.texts_of};
 
 use crate::faults::Stop;
 use crate::files::Files;

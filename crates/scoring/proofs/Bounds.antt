@@ -1,7 +1,6 @@
 -- Products of what a second is worth with seconds.
-use Rattle.std.proofs.Common.{◌≡◌, ℕ, suc, ◌+◌, ◌*◌, ◌≤◌, ℤ, pos, negsuc, ◌*ℤ◌, ◌≤ℤ◌, neg_ℤ, mul-le-mul, w64, to_z, of_z, ◌+ℤ◌, arith}
+use Rattle.std.proofs.Common.{◌≡◌, ℕ, suc, ◌+◌, ◌*◌, ◌≤◌, ℤ, pos, negsuc, ◌*ℤ◌, mul-le-mul, w64, to_z, of_z, ◌+ℤ◌, arith}
 use Rattle.std.proofs.lemmas.Int.{ints}
-use Rattle.limits.specs.declared.TheConstants.{LAST_SECOND}
 use Rattle.scoring.specs.Ranges.{IsWithin}
 
 -- a number from -m to m, so many times
@@ -12,14 +11,6 @@ product-within (pos a) k m n within few =
 product-within (negsuc a) k m n within few =
     let low = within.0 in
     let g : suc a * k ≤ m * n = mul-le-mul (omega (arith, ints)) few in (omega (arith, ints), omega (arith, ints))
-
--- what the seconds of a leg are worth
-pub leg_fits : (z : ℤ) (k : ℕ) → IsWithin (pos 1000000) z → k ≤ LAST_SECOND → IsWithin (pos 172800000000) (z *ℤ pos k)
-leg_fits z k within few = product-within z k 1000000 LAST_SECOND within few
-
--- what the seconds of lateness cost
-pub lateness_fits : (z : ℤ) (k : ℕ) → neg_ℤ (pos 1000000) ≤ℤ z → z ≤ℤ pos 0 → k ≤ LAST_SECOND → IsWithin (pos 172800000000) (z *ℤ pos k)
-lateness_fits z k low high few = product-within z k 1000000 LAST_SECOND (omega (arith, ints), omega (arith, ints)) few
 
 -- what the code's sum of two numbers is, where both are far from the ends of 64 bits
 pub code_sum : (x y : ℤ) → IsWithin (pos 2000000000000000000) x → IsWithin (pos 2000000000000000000) y
@@ -32,6 +23,3 @@ code_same x f = let f0 = f.0 in let f1 = f.1 in omega (arith, ints)
 
 pub wider : (m n : ℕ) (z : ℤ) → m ≤ n → IsWithin (pos m) z → IsWithin (pos n) z
 wider m n z h g = let g0 = g.0 in let g1 = g.1 in (omega (arith, ints), omega (arith, ints))
-
-pub both_within : (x y : ℤ) (m n : ℕ) → IsWithin (pos m) x → IsWithin (pos n) y → IsWithin (pos (m + n)) (x +ℤ y)
-both_within x y m n f g = let f0 = f.0 in let f1 = f.1 in let g0 = g.0 in let g1 = g.1 in (omega (arith, ints), omega (arith, ints))

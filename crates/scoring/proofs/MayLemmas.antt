@@ -1,5 +1,5 @@
 -- A scorer knows which event may come next.
-use Rattle.std.proofs.Common.{◌≡◌, ℕ, ◌<◌, ◌≤◌, true, false, cond, IsTrue, ◌↔◌, inl, inr, List, [], ◌∷◌, ◌++◌, length, refl, sym, ap, ◌∙◌, subst, append-nil}
+use Rattle.std.proofs.Common.{◌≡◌, ℕ, ◌<◌, ◌≤◌, true, cond, IsTrue, ◌↔◌, inl, inr, List, [], ◌∷◌, ◌++◌, length, refl, sym, ap, ◌∙◌, subst, append-nil}
 use Rattle.std.proofs.{Common.length-take, Common.arith, lemmas.Bool.cases_Bool}
 use Rattle.limits.specs.declared.TheConstants.{LAST_SECOND}
 use Rattle.events.specs.{Persons.is_step, declared.event.Event.Event, declared.event.More.More, declared.event.Word.Word}
@@ -73,9 +73,6 @@ may_take T s es e H few in_day = (
   }),
   (λ F. is_next_by e.word e.more s.doing (λ counts. (comes T s es e e.word e.more H F refl refl counts).after) F.told),
 )
-
-pub may_not_take : (es : List Event) (e : Event) → LAST_SECOND < e.key.second → IsTrue false ↔ MayFollow es e
-may_not_take es e late = ((λ x. cc), (λ F. let day = F.in_day in absurd (omega arith)))
 
 -- events that each follow those before them are few
 pub few_follow : (es : List Event) (i : ℕ) → i < length es → AllFollow es → i < MAX_EVENTS

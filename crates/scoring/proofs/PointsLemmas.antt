@@ -93,9 +93,6 @@ pub others_are : (points : List Point) → take (length points - 1) (drop 1 poin
 others_are [] = refl
 others_are (a ∷ points) = take_all (length (a ∷ points) - 1) points (omega arith)
 
-pub first_in : (points : List Point) (d : Point) → 1 ≤ length points → list_all is_point points ≡ true → is_point (get_or points 0 d) ≡ true
-first_in points d some all = all_at points 0 d all (omega arith)
-
 pub others_in : (points : List Point) → list_all is_point points ≡ true → list_all is_point (take (length points - 1) (drop 1 points)) ≡ true
 others_in [] all = refl
 others_in (a ∷ points) all = rw (others_are (a ∷ points)) ((and_parts (is_point a) (list_all is_point points) all).1)

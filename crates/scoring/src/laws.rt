@@ -1,8 +1,10 @@
 //! What holds of values, of scores and of the order of events: each the contract of a call that does
 //! nothing.
 
-ghost use Rattle.std.specs.Prelude.{◌≡◌, ◌+◌, ◌*◌, ◌-◌, ◌<◌, ◌≤◌, ℕ, ℤ, pos, neg_ℤ, ◌+ℤ◌, ◌-ℤ◌, ◌*ℤ◌, ◌≤ℤ◌, ◌<ℤ◌, FitsSigned, List, []};
-ghost use Rattle.std.specs.{Prelude.◌∷◌, Prelude.◌++◌, Prelude.length, Prelude.true, Prelude.map, Prelude.filter, Prelude.All, Int.w64};
+ghost use Rattle.std.specs.{Prelude.◌∷◌, Prelude.◌++◌, Prelude.length, Prelude.true, Prelude.map, Prelude.filter, Prelude.All};
+ghost use Rattle.std.specs.{Int.w64};
+ghost use Rattle.std.specs.Prelude.{◌≡◌, ◌+◌, ◌*◌, ◌-◌, ◌<◌, ◌≤◌, ℕ, ℤ, pos, neg_ℤ, ◌+ℤ◌};
+ghost use Rattle.std.specs.Prelude.{◌-ℤ◌, ◌*ℤ◌, ◌≤ℤ◌, ◌<ℤ◌, FitsSigned, List, []};
 ghost use Rattle.events.specs.{Persons.is_step, declared.event.Event.Event};
 ghost use Rattle.limits.specs.declared.TheConstants.{MAX_PERSONS};
 ghost use Rattle.scoring.specs.{Points.Point, Points.are_rising, Points.are_climbing, Points.on_line, Points.value, Ranges.IsWithin};

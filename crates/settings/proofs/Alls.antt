@@ -1,7 +1,7 @@
 -- Lists of values that are all there, or not.
 use Rattle.std.proofs.Common.{◌≡◌, ◌≢◌, ℕ, zero, suc, ◌+◌, ◌<◌, List, [], ◌∷◌, ◌++◌, map, length, get_or, take, Option, None, Some, refl, sym, ap, ◌∙◌, arith}
 use Rattle.std.proofs.lemmas.List.{map-append, take_more}
-use Rattle.serde_json.specs.{View.view, View.items_view, declared.value.Value.Value}
+use Rattle.serde_json.specs.{View.items_view, declared.value.Value.Value}
 use Rattle.settings.specs.{Looking.list_of, Looking.with_all, Looking.all_of, NamedTables.point_of}
 
 with_all-push : {A : Type 0} (x : Option A) (r : Option (List A)) (s : Option (List A)) (ys : List A) (y : A) → with_all x r ≡ Some ys
@@ -33,13 +33,6 @@ pub all_of-more : {V A : Type 0} (f : V → Option A) (vs : List V) (i : ℕ) (d
 all_of-more f vs i d ys y here so_far next =
     ap (λ xs. all_of (map f xs)) (take_more vs i d here) ∙ ap all_of (map-append f (take i vs) (get_or vs i d ∷ []))
     ∙ ap (λ x. all_of (map f (take i vs) ++ x ∷ [])) (sym next) ∙ all_of-push (map f (take i vs)) ys y so_far
-
--- the two items of a list
-pub two_items : (vs : List Value) (d e : Value) → length vs ≡ 2 → list_of (items_view vs) ≡ view (get_or vs 0 d) ∷ view (get_or vs 1 e) ∷ []
-two_items [] d e two = absurd (omega arith)
-two_items (v ∷ []) d e two = absurd (omega arith)
-two_items (v ∷ w ∷ []) d e two = refl
-two_items (v ∷ w ∷ x ∷ vs) d e two = absurd (omega arith)
 
 -- a list of another length is no point
 pub no_point : (vs : List Value) → length vs ≢ 2 → point_of (list_of (items_view vs)) ≡ None

@@ -1,8 +1,7 @@
 -- Spans that meet are exactly what lets two signals be green in one second.
 use Rattle.std.proofs.Common.{◌≡◌, ℕ, ◌+◌, ◌-◌, ◌*◌, ◌<◌, ◌≤◌, refl, sym, ◌∙◌, ap, subst, arith, inl, inr, true, Bool, ◌&&◌, List, [], ◌∷◌, zero, suc}
-use Rattle.std.proofs.Math.Nat.{mod-add-mod}
+use Rattle.std.proofs.{Math.Nat.mod-add-mod, lemmas.Bool.Decides.same_from_decides, lemmas.Nat.mod_below, lemmas.Nat.Gcd.IsGcd-swap}
 use Rattle.std.proofs.lemmas.Bool.{and_parts, and_from, or_cases, or_left, or_right, lt-ltb, ltb-true, le-leb, leb-true, false≢true, Decides.Decides-below_or}
-use Rattle.std.proofs.lemmas.{Bool.Decides.same_from_decides, Nat.mod_below, Nat.Gcd.IsGcd-swap}
 use Rattle.std.specs.{Bool.Decides, Int.IsGcd, List.list_any, Prelude.◌%◌, Prelude.nat_lt, Prelude.nat_le, Prelude.min}
 use Rattle.rows.specs.Greens.{Phases, IsLawful, holds, phase_of, is_green}
 use Rattle.signals.proofs.{Meeting.arc, Meeting.meet_where, Meeting.meet_there, Numbers.behind_both, Numbers.place_is, Numbers.same_over, Numbers.place_again}

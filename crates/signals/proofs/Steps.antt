@@ -2,7 +2,7 @@
 use Rattle.records.proofs.Common.{◌≡◌, List, ap, ℕ, length, ◌∙◌, arith, map, [], ◌<◌, sym, None, Some, ◌++◌, ◌∷◌, refl, Option, ◌+◌, get_or, take, subst, true}
 use Rattle.records.proofs.Common.{Bool, cond, suc, Err, Ok, Result, length-map, take_all, take_more, fields_of, ByteRecord, Reason, RowStop, Answers}
 use Rattle.records.proofs.{Common.first_fault, Common.body_of, Common.TellsStop, Common.Row, Common.nat_eq, Faulty.none_of_none, Faulty.one_more}
-use Rattle.records.{proofs.Faulty.fault_here, proofs.Faulty.answers_head, proofs.InTurn.row_at, proofs.Numbering.numbered_within, specs.Faults.unless}
+use Rattle.records.proofs.{Faulty.fault_here, Faulty.answers_head, InTurn.row_at, Numbering.numbered_within}
 use Rattle.std.proofs.{Common.◌≢◌, Common.IfOk, lemmas.Bool.ne_eqb, lemmas.Bool.eq-eqb, lemmas.List.length-take-le, lemmas.List.length-set}
 use Rattle.std.{proofs.lemmas.List.length-replicate, specs.Prelude.replicate}
 use Rattle.edge_files.specs.declared.reasons.RowFault.{RowFault}
@@ -17,14 +17,6 @@ use Rattle.signals.specs.declared.kinds.RowKind.TheVariants as kind
 pub ruleset known_links = (numbered_within)
 
 -- WHAT IS FOUND OF A ROW
-pub found_is : {X : Type 0} (o : Option Reason) (value v : X) → Ok v ≡ unless o value → (o ≡ None) × (v ≡ value)
-found_is None value v h = (refl, cc)
-found_is (Some why) value v h = cc
-
-pub why_is : {X : Type 0} (o : Option Reason) (value : X) (why : Reason) → Err why ≡ unless o value → o ≡ Some why
-why_is None value why h = cc
-why_is (Some other) value why h = cc
-
 -- a row of another number of fields
 pub other_length : (links : List (List ℕ)) (ends : List (ℕ × ℕ)) (seen : Seen) (row : Row) (n : ℕ) → n ≡ length row → n ≢ 6 → row_reason links ends seen row ≡ Some reason.FieldCount
 unfolding row_reason

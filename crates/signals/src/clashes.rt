@@ -1,4 +1,5 @@
-ghost use Rattle.std.specs.{List.list_all, Prelude.◌≡◌, Prelude.◌<◌, Prelude.◌↔◌, Prelude.IsTrue, Prelude.length, Prelude.true};
+ghost use Rattle.std.specs.{List.list_all, Prelude.◌≡◌, Prelude.◌<◌, Prelude.◌↔◌, Prelude.IsTrue, Prelude.length};
+ghost use Rattle.std.specs.{Prelude.true};
 ghost use Rattle.signals.specs.{Clash.clash, Clash.AreGreenTogether, Signals.is_among, Signals.is_clash, Signals.first_clash};
 
 use crate::arcs::{common_divisor, some_meet};

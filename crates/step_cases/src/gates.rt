@@ -100,7 +100,8 @@ impl Gate for Ahead {
     }
 }
 
-/// Counts the passes of four partitions, and those of them that are not in the order of one thread: in each second each of them, by number.
+/// Counts the passes of four partitions, and those of them that are not in the order of one thread: in each second each of them, by number
+/// in even seconds and backwards in odd ones.
 #[derive(Drop)]
 pub struct InTurn {
     all: AtomicU64,
@@ -129,7 +130,13 @@ impl InTurn {
 
 impl Gate for InTurn {
     fn pass(&self, partition: u32, second: u32) {
-        if self.all.fetch_add(1, Ordering::SeqCst) != 4 * u64::from(second) + u64::from(partition) {
+        let number = u64::from(partition);
+        let turn = if second % 2 == 0 {
+            number
+        } else {
+            3u64.saturating_sub(number)
+        };
+        if self.all.fetch_add(1, Ordering::SeqCst) != 4 * u64::from(second) + turn {
             self.wrong.fetch_add(1, Ordering::SeqCst);
         }
     }

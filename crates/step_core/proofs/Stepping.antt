@@ -51,9 +51,6 @@ module _ {T P : Type 0} (nothing : P) (N : Net) (borders : ℕ → List Border) 
   few_at : (q : ℕ) → q < N.parts → q < 64
   few_at q lt = let few = core.net.few in omega arith
 
-  pub among : (k : ℕ) → k < length rows → neighbour_at rows k < length done
-  among k lt = let q = (core.net.there (neighbour_at rows k) p (near_at k lt)).0 in let n = core.dones in omega arith
-
   lag_is : (k : ℕ) → k < length rows → lag_at rows k ≡ N.lag (neighbour_at rows k) p
   lag_is k lt = (core.rows p there).lags k lt
 

@@ -1,5 +1,5 @@
 -- A core: partitions at their own seconds, and what they sent to one another and did not absorb yet.
-use Rattle.std.specs.Prelude.{◌≡◌, ℕ, ◌+◌, ◌<◌, ◌≤◌, Bool, true, false, List, [], length, get_or, set}
+use Rattle.std.specs.Prelude.{◌≡◌, ℕ, ◌+◌, ◌-◌, ◌%◌, ◌<◌, ◌≤◌, ◌==◌, if◌then◌else◌, Bool, true, false, List, [], length, get_or, set}
 use Rattle.step_core.specs.{Nets.Net, Nets.IsNet, Nets.AreBorders, Nets.MayStep, Views.PartView, Views.IsAt, Wheels.IsNoted, Wheels.lag_in, Wheels.IsFilled}
 use Rattle.step_core.specs.{Wheels.HasRoom, declared.cores.Step.Step, declared.cores.Step.TheVariants.Done}
 use Rattle.step_core.specs.declared.{cores.Step.TheVariants.Waits, cores.Step.TheVariants.Ended, part.Border.Border, wheel.Wheel.Wheel}
@@ -49,8 +49,12 @@ pub record AllAt (count t : ℕ) (done : List ℕ) (stopped : List Bool) : Type 
   pub all : (p : ℕ) → p < count → done_at done p ≡ t
   pub goes : (p : ℕ) → p < count → is_stopped stopped p ≡ false
 
--- those before p have done second t, and the others are about to
-pub record AreRound (count p t : ℕ) (done : List ℕ) (stopped : List Bool) : Type 0 where
-  pub before : (q : ℕ) → q < p → done_at done q ≡ t + 1
-  pub behind : (q : ℕ) → p ≤ q → q < count → done_at done q ≡ t
-  pub goes : (q : ℕ) → q < count → is_stopped stopped q ≡ false
+-- who is the k-th of so many partitions in the round of second t: by number in every other round, and backwards in the others
+abbrev pub number_in_round : ℕ → ℕ → ℕ → ℕ
+number_in_round count t k = if t % 2 == 0 then k else count - 1 - k
+
+-- in this order the first k have done second t, and the others are about to
+pub record AreRound (turn : ℕ → ℕ) (count k t : ℕ) (done : List ℕ) (stopped : List Bool) : Type 0 where
+  pub before : (j : ℕ) → j < k → done_at done (turn j) ≡ t + 1
+  pub behind : (j : ℕ) → k ≤ j → j < count → done_at done (turn j) ≡ t
+  pub goes : (p : ℕ) → p < count → is_stopped stopped p ≡ false

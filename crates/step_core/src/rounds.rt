@@ -1,12 +1,25 @@
 //! A run from its start to its end: always a partition with the fewest done seconds does the next step.
 
 ghost use Rattle.std.specs.Prelude.{◌≡◌, ◌+◌, ◌<◌, IsTrue, ◌↔◌, EachIndex, length, IfOk, OnOk};
-ghost use Rattle.step_core.specs.{Cores.IsCore, Cores.AllAt, Cores.done_at, Views.EachAt};
+ghost use Rattle.step_core.specs.{Cores.IsCore, Cores.AllAt, Cores.done_at, Cores.number_in_round, Views.EachAt};
 
 use crate::cores::Core;
 use crate::part::Part;
 use edge_files::Gate;
 use std::alloc::AllocError;
+
+/// Who steps next in the round of a second, where so many partitions have stepped: by number in every other round, and backwards in the
+/// others, so that a round begins with those whose rows the caches still have from the one before.
+fn number_in_round(count: u32, second: u32, stepped: u32) -> u32
+    requires { stepped < count }
+    ensures { result ≡ number_in_round count second stepped }
+{
+    if second % 2 == 0 {
+        stepped
+    } else {
+        count - 1 - stepped
+    }
+}
 
 impl<T: Part> Core<T> {
     /// Whether every partition has done all its seconds.
@@ -38,13 +51,13 @@ impl<T: Part> Core<T> {
         parts
     }
 
-    /// All partitions have done so many seconds: each does the next one, by number. So it is always one with the fewest done seconds that
-    /// steps, and it may. The gate is passed before each step.
+    /// All partitions have done so many seconds: each does the next one, to and fro by number. So it is always one with the fewest done
+    /// seconds that steps, and it may. The gate is passed before each step.
     ///
     /// # Errors
     ///
     /// `AllocError`: there was no memory for a second of a partition.
-    #[tactic(auto, using(crate::proofs::Together::each_at, crate::proofs::Together::may_in_round))]
+    #[tactic(auto, using(crate::proofs::Together::each_at))]
     pub fn do_round<G: Gate>(
         &mut self,
         run: &T::Run,
@@ -61,7 +74,9 @@ impl<T: Part> Core<T> {
         ensures each { OnOk result (EachAt T.nothing T.see (T.stands run.now) (second + 1) (λ p. length (T.borders run.now p))
             (T.net run.now).parts self.new.parts.items) }
     {
-        for number in 0..T::count(run) {
+        let count = T::count(run);
+        for stepped in 0..count {
+            let number = number_in_round(count, second, stepped);
             gate.pass(number, second);
             self.advance(run, number)?;
         }

@@ -8,7 +8,7 @@ use Rattle.town.specs.declared.day_input.DayInput.{DayInput}
 use Rattle.step_core.{proofs.Together.each_at, specs.Cores.IsCore, specs.Cores.AreRound}
 use Rattle.step_core.specs.{Nets.Net, Views.PartView, Views.HasDone, Views.IsAt, Views.EachAt, declared.part.Border.Border, declared.wheel.Wheel.Wheel}
 use Rattle.divided_day.specs.Days.{told_at, end_told_in}
-use Rattle.streamed_day.specs.Telling.{told_last, told_at_end, CanTell, AllCanTell, IsAtEnd, AllAreAtEnd, IsCoreAt}
+use Rattle.streamed_day.specs.Telling.{told_last, told_at_end, AllCanTell, IsAtEnd, AllAreAtEnd, IsCoreAt}
 
 -- a list, and what its places give by number
 mapped : {T X : Type 0} (f : T → X) (g : ℕ → X) (xs : List T) (k : ℕ)
@@ -78,7 +78,7 @@ module _ {T P : Type 0} (nothing : P) (N : Net) (borders : ℕ → List Border) 
 pub all_ran : {T P : Type 0} (nothing : P) (N : Net) (borders : ℕ → List Border) (see : T → PartView P) (stands spent : T → Type 0)
     (right : ℕ → ℕ → ℕ → P → Type 0) (t number : ℕ) (done : List ℕ) (stopped : List Bool) (tables : List (List Border)) (parts : List T)
     (wheels : List (Wheel P)) → IsCore nothing N borders see stands spent right done stopped tables parts wheels
-    → AreRound N.parts number t done stopped → N.parts ≤ number → t < N.end
+    → AreRound (λ p. p) N.parts number t done stopped → N.parts ≤ number → t < N.end
     → IsCoreAt nothing N borders see stands spent right (t + 1) done stopped tables parts wheels
 all_ran nothing N borders see stands spent right t number done stopped tables parts wheels core round over early = record {
   core = core;
@@ -87,13 +87,6 @@ all_ran nothing N borders see stands spent right t number done stopped tables pa
 }
 
 -- ONE BY ONE
-pub tell_there : {T P : Type 0} (nothing : P) (N : Net) (borders : ℕ → List Border) (see : T → PartView P) (stands : T → Type 0)
-    (parts : List T)
-    (k : ℕ) (x : T) → AllCanTell nothing N borders see stands parts → k < length parts → x ≡ get_or parts k x → CanTell nothing N borders
-    see stands x
-tell_there {T} nothing N borders see stands parts k x all lt is = subst (λ (y : T). CanTell nothing N borders see stands y) (sym is)
-    (all k x lt)
-
 pub end_there : {T P : Type 0} (nothing : P) (N : Net) (borders : ℕ → List Border) (see : T → PartView P) (stands : T → Type 0)
     (parts : List T)
     (k : ℕ) (x : T) → AllAreAtEnd nothing N borders see stands parts → k < length parts → x ≡ get_or parts k x → IsAtEnd nothing N borders

@@ -29,11 +29,11 @@ pub(crate) fn take_turn<T: DayPart>(
     requires before_end { second < (T.net run.now).end }
     requires core { IsCore T.nothing (T.net run.now) (T.borders run.now) T.see (T.stands run.now) T.spent (T.right run.now)
         core.old.done.items core.old.stopped.items core.old.borders.items core.old.parts.items core.old.wheels.items }
-    requires round { AreRound (T.net run.now).parts number second core.old.done.items core.old.stopped.items }
+    requires round { AreRound (λ p. p) (T.net run.now).parts number second core.old.done.items core.old.stopped.items }
     ensures core { IsCore T.nothing (T.net run.now) (T.borders run.now) T.see (T.stands run.now) T.spent (T.right run.now)
         core.new.done.items core.new.stopped.items core.new.borders.items core.new.parts.items core.new.wheels.items }
     ensures round { OnOk result
-        (AreRound (T.net run.now).parts (number + 1) second core.new.done.items core.new.stopped.items) }
+        (AreRound (λ p. p) (T.net run.now).parts (number + 1) second core.new.done.items core.new.stopped.items) }
 {
     match core.step(run, number)? {
         Step::Done => Ok(()),

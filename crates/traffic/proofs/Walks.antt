@@ -45,17 +45,6 @@ pub record IsWalk (S : Setup) (t : ℕ) (T : World → List Move → Type 0) : T
 pub along_is : (F : World → Move → Type 0) (S : Setup) (t : ℕ) → IsWalk S t (λ W ms. Along F S t ms W)
 along_is F S t = record { none = λ W. tt; append = along_append F S t }
 
--- moves that keep I, of which T holds where I does
-abbrev pub Kept : (World → Type 0) → (World → List Move → Type 0) → Setup → ℕ → World → List Move → Type 0
-Kept I T S t W ms = I W → T W ms × I (run S t ms W)
-
-pub kept_is : (I : World → Type 0) (T : World → List Move → Type 0) (S : Setup) (t : ℕ) → IsWalk S t T → IsWalk S t (Kept I T S t)
-kept_is I T S t walk =
-    record {
-      none = λ W i. (walk.none W, i);
-      append = λ xs ys W f g i. let x = f i in let y = g x.1 in (walk.append xs ys W x.0 y.0, rw (run-append S t xs ys W) y.1);
-    }
-
 turns_walk : (T : World → List Move → Type 0) (S : Setup) (t m : ℕ) (plan : TurnMoves) → IsWalk S t T → ((n : ℕ) (W : World) → n < m → T W (plan n W)) → (ns : List ℕ) (W : World) → Each (λ n. n < m) ns → T W (moves_of (turns S t plan ns W))
 unfolding turns
 turns_walk T S t m plan walk f [] W h = walk.none W

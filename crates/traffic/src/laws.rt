@@ -1,19 +1,19 @@
 //! The laws of the day: what the crates above take from its definitions. Each is the contract of a
 //! call that does nothing.
 
-ghost use Rattle.std.specs.Prelude.{◌≡◌, ◌≢◌, ℕ, ◌+◌, ◌<◌, List, [], ◌∷◌, length, map, true, false, None, Some, AllPairs, IsPermutation};
+ghost use Rattle.std.specs.Prelude.{◌≡◌, ◌≢◌, ℕ, ◌+◌, ◌<◌, List, [], ◌∷◌, length, map, true, false, None, Some};
+ghost use Rattle.std.specs.Prelude.{AllPairs, IsPermutation};
 ghost use Rattle.events.specs.declared.event.{Mode.Mode, Phase.Phase, Word.TheVariants.EnteredLink, Word.TheVariants.Arrival};
 ghost use Rattle.fixed_flow.specs.Flow.{raised};
-ghost use Rattle.traffic.specs.Day.{landing_turns, leaving_turns, departure_turns, node_turns, link_turns, turns_of, count_of, turns_in};
-ghost use Rattle.traffic.specs.Day.{events_from, day};
+ghost use Rattle.traffic.specs.{Links.LinkState, Links.link_state, Links.Rules, Links.link_moves, Lists.below, Nodes.NodeView, Nodes.ready};
+ghost use Rattle.traffic.specs.{Nodes.node_moves, Persons.waiters, Persons.landing, Persons.leaving, Persons.departure_moves, Rows.World};
+ghost use Rattle.traffic.specs.{Rows.at, Rows.holes_at, Rows.credit_of, Rows.person_of, Rows.At, Rows.Teleporting, Setup.Setup};
+ghost use Rattle.traffic.specs.{Setup.departure, Stops.Waiter, Stops.ComesBefore, Stops.in_turn, Worked.entering};
+ghost use Rattle.traffic.specs.{declared.stage.Stage.Stage, Day.landing_turns};
+ghost use Rattle.traffic.specs.Day.{leaving_turns, departure_turns, node_turns, link_turns, turns_of, count_of, turns_in, events_from, day};
 ghost use Rattle.traffic.specs.Frames.{Untouched, AreAt, AreFromBuffers, sees, turn_of, Ascends};
-ghost use Rattle.traffic.specs.{Links.LinkState, Links.link_state, Links.Rules, Links.link_moves, Lists.below};
 ghost use Rattle.traffic.specs.Moves.{Move, Credit, told, done, run, at_after, hole_after, credit_after, person_after_all};
-ghost use Rattle.traffic.specs.{Nodes.NodeView, Nodes.ready, Nodes.node_moves, Persons.waiters, Persons.landing, Persons.leaving};
-ghost use Rattle.traffic.specs.{Persons.departure_moves, Rows.World, Rows.at, Rows.holes_at, Rows.credit_of, Rows.person_of, Rows.At};
-ghost use Rattle.traffic.specs.{Rows.Teleporting, Setup.Setup, Setup.departure, Stops.Waiter, Stops.ComesBefore, Stops.in_turn};
 ghost use Rattle.traffic.specs.Worked.{short, bus, bus_told, narrow, narrow_told, arrivals, junction, junction_told, red_light, jam, line};
-ghost use Rattle.traffic.specs.{Worked.entering, declared.stage.Stage.Stage};
 ghost use Rattle.rows.specs.declared.{plan.Act.Act, plan.Leg.Leg, settings.Stuck.Stuck};
 ghost use Rattle.rows.specs.declared.plan.Leg.TheVariants as leg;
 

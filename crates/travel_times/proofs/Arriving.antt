@@ -1,5 +1,5 @@
 -- When the end of a link is reached: nobody who enters later is there earlier.
-use Rattle.std.proofs.Common.{◌≡◌, ℕ, zero, suc, ◌+◌, ◌-◌, ◌*◌, ◌/◌, ◌<◌, ◌≤◌, max, List, [], ◌∷◌, ◌++◌, length, map, fold, inl, inr, refl, sym, ◌∙◌, ap, arith}
+use Rattle.std.proofs.Common.{◌≡◌, ℕ, zero, suc, ◌+◌, ◌-◌, ◌*◌, ◌/◌, ◌<◌, ◌≤◌, max, List, [], ◌∷◌, length, map, fold, inl, inr, refl, ◌∙◌, ap, arith}
 use Rattle.std.proofs.lemmas.{Bool.cases_eq, List.get_or_read, List.FromFn.map-range_with_len_more, List.Sums.fold_push}
 use Rattle.std.specs.{List.range_with_len, Prelude.slice_index_or}
 use Rattle.walks.specs.Arrivals.{IsFifo}

@@ -1,6 +1,6 @@
 -- The bins of a link: what they say, and that they are kept as a profile keeps them.
-use Rattle.std.proofs.Common.{◌≡◌, ℕ, zero, suc, ◌+◌, ◌-◌, ◌/◌, ◌^◌, ◌<◌, ◌≤◌, max, Bool, true, false, cond, List, [], ◌∷◌, ◌++◌, length, get_or, take, drop}
-use Rattle.std.proofs.Common.{map, sum, Option, ◌⊎◌, inl, inr, refl, sym, ◌∙◌, ap, subst, arith}
+use Rattle.std.proofs.Common.{◌≡◌, ℕ, zero, suc, ◌+◌, ◌-◌, ◌/◌, ◌<◌, ◌≤◌, max, Bool, true, false, cond, List, [], ◌∷◌, ◌++◌, length, take, drop}
+use Rattle.std.proofs.Common.{map, sum, Option, inl, inr, refl, sym, ◌∙◌, ap, subst, arith}
 use Rattle.std.proofs.lemmas.{Bool.cases_lt, Bool.cases_eq, Bool.eq-eqb, List.get_or_past, List.get_or-map}
 use Rattle.std.proofs.lemmas.List.{get_or-take, get_or_push, get_or_default, get_or_append_left, length-map, length-take-le, drop_more, drop_all, append_assoc}
 use Rattle.std.specs.Prelude.{nat_eq, slice_index_or}

@@ -1,5 +1,5 @@
 -- What a profile says of the second of arrival.
-use Rattle.std.proofs.Common.{◌≡◌, ℕ, zero, suc, ◌+◌, ◌-◌, ◌*◌, ◌/◌, ◌^◌, ◌<◌, ◌≤◌, max, min, List, [], ◌∷◌, length, map, get_or, inl, inr, refl, sym, ◌∙◌, ap}
+use Rattle.std.proofs.Common.{◌≡◌, ℕ, zero, suc, ◌+◌, ◌-◌, ◌*◌, ◌/◌, ◌<◌, ◌≤◌, max, min, length, inl, inr, sym, ◌∙◌, ap}
 use Rattle.std.proofs.{Common.arith, lemmas.Bool.cases_lt, lemmas.List.get_or_past, lemmas.List.get_or-map, lemmas.List.get_or_read, lemmas.List.length-map}
 use Rattle.std.specs.Prelude.{slice_index_or}
 use Rattle.travel_times.proofs.Arriving.{held, held_none, held_more, held_in_order, arrival_is}
@@ -74,10 +74,6 @@ arrival_free time free low second least same past =
     ap (λ (n : ℕ). BIN_SECONDS * n - 1 + free) back in grind arith in
     let within : BIN_SECONDS * bin ≤ second = omega arith in
     grind arith
-
-pub arrival_known : (time : ℕ → ℕ) (second : ℕ) → arrival_by time second
-    ≡ max (second + time (second / BIN_SECONDS)) (held time (second / BIN_SECONDS))
-arrival_known time second = arrival_is time second
 
 -- what a profile with no bins gives
 pub free_is : (p : Inside) (second : ℕ) → IsProfile p → length p.bins.items ≡ 0 → second + p.free

@@ -1,8 +1,7 @@
 -- What is known of the cars after one event more.
-use Rattle.std.proofs.Common.{◌≡◌, ℕ, zero, suc, ◌+◌, ◌-◌, ◌^◌, ◌<◌, ◌≤◌, Bool, true, false, cond, List, [], ◌∷◌, ◌++◌, length, get_or, Option, None, Some, ◌⊎◌}
-use Rattle.std.proofs.Common.{inl, inr, refl, sym, ◌∙◌, ap, subst, length-append, arith}
-use Rattle.std.proofs.Math.{ListN.get_or-append, Seq.get_or-append_seam}
-use Rattle.std.proofs.lemmas.{Bool.cases_eq, Bool.eq-eqb, Bool.ne_eqb, List.Sums.sum_by-cons}
+use Rattle.std.proofs.Common.{◌≡◌, ℕ, suc, ◌+◌, ◌-◌, ◌^◌, ◌<◌, ◌≤◌, Bool, cond, List, [], ◌∷◌, ◌++◌, length, get_or, Option, None, Some, ◌⊎◌, inl, inr, refl}
+use Rattle.std.proofs.{Common.sym, Common.◌∙◌, Common.ap, Common.subst, Common.length-append, Common.arith, Math.ListN.get_or-append}
+use Rattle.std.proofs.{Math.Seq.get_or-append_seam, lemmas.Bool.cases_eq, lemmas.Bool.eq-eqb, lemmas.Bool.ne_eqb, lemmas.List.Sums.sum_by-cons}
 use Rattle.std.specs.{List.cons_option, Option.option_map_or, Prelude.nat_eq, Prelude.sum, Prelude.sum_by, Prelude.slice_index_or, Prelude.IfSome}
 use Rattle.events.specs.declared.event.Event.{Event}
 use Rattle.travel_times.specs.{declared.tallies.Tally.Tally, declared.observations.Entry.Entry, Observed.car_of, Observed.observed_from, Observed.observed}

@@ -1,6 +1,6 @@
 -- The stays that one more event ends: at most one, that of the car that it tells of, on the link that the car has entered.
-use Rattle.std.proofs.Common.{◌≡◌, ℕ, zero, suc, ◌+◌, ◌-◌, ◌/◌, ◌<◌, ◌≤◌, Bool, true, false, cond, ◌&&◌, List, [], ◌∷◌, ◌++◌, length, get_or, fold, Option}
-use Rattle.std.proofs.Common.{None, Some, ◌⊎◌, inl, inr, refl, sym, ◌∙◌, ap, subst, arith, add_assoc}
+use Rattle.std.proofs.Common.{◌≡◌, ℕ, suc, ◌+◌, ◌-◌, ◌<◌, Bool, true, false, cond, ◌&&◌, List, [], ◌∷◌, ◌++◌, length, get_or, fold, Option}
+use Rattle.std.proofs.Common.{None, Some, ◌⊎◌, inl, inr, refl, sym, ◌∙◌, ap, arith}
 use Rattle.std.proofs.lemmas.{Bool.cases_Bool, Bool.cases_eq, Bool.eq-eqb, Bool.eqb-true, Bool.ne_eqb, List.Folds.find-append, List.Sums.fold_push}
 use Rattle.std.{proofs.lemmas.List.Sums.sum_by-cons, specs.List.cons_option, specs.Option.option_eq}
 use Rattle.std.specs.{Option.option_map, Option.option_map_or, Option.option_or, Prelude.nat_eq, Prelude.find, Prelude.sum_by, Prelude.option_and_then}

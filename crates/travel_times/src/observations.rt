@@ -1,5 +1,5 @@
-ghost use Rattle.std.specs.Prelude.{◌≡◌, ℕ, ◌-◌, ◌^◌, ◌<◌, ◌≤◌, List, [], ◌∷◌, ◌++◌, slice_index_or, OnOk, IfSome, None, nat_eq};
-ghost use Rattle.std.specs.Prelude.{if◌then◌else◌};
+ghost use Rattle.std.specs.Prelude.{◌≡◌, ℕ, ◌-◌, ◌^◌, ◌<◌, ◌≤◌, List, [], ◌∷◌, ◌++◌, slice_index_or};
+ghost use Rattle.std.specs.Prelude.{OnOk, IfSome, None, nat_eq, if◌then◌else◌};
 ghost use Rattle.events.specs.declared.event.Event.{Event};
 ghost use Rattle.travel_times.specs.{Known.Knows, Known.links_of, Observed.car_of};
 ghost use Rattle.travel_times.specs.Tallies.{entry_of, stay_of, tally_at, HasRows, EndsStay, IsPiece};

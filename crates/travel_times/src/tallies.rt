@@ -1,4 +1,5 @@
-ghost use Rattle.std.specs.Prelude.{◌≡◌, ℕ, ◌+◌, ◌-◌, ◌^◌, ◌<◌, ◌≤◌, ◌⊎◌, max, [], length, slice_index_or, slice_set, OnOk};
+ghost use Rattle.std.specs.Prelude.{◌≡◌, ℕ, ◌+◌, ◌-◌, ◌^◌, ◌<◌, ◌≤◌, ◌⊎◌, max, [], length};
+ghost use Rattle.std.specs.Prelude.{slice_index_or, slice_set, OnOk};
 ghost use Rattle.travel_times.specs.Observed.{average_or};
 ghost use Rattle.travel_times.specs.Tallies.{no_tally, with_stay, IsSmall, row_at, tally_at, HasRows, Adds};
 

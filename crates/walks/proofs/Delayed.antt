@@ -34,9 +34,6 @@ same_behind f g None same = refl
 same_behind f g (Some link) same = ap (λ (ls : List ℕ). ls ++ link ∷ []) (same link)
 
 module _ (arrive : Arrivals) (alike : TakesAlike arrive) (later : ℕ) where
-  abbrev delay : Option ℕ → Option ℕ
-  delay o = option_map (λ at. later + at) o
-
   pub delayed_label : (labels : Labels) (node : ℕ) → label_at (delayed later labels) node
       ≡ option_map (λ at. later + at) (label_at labels node)
   delayed_label labels node = get_or-map (λ (o : Option ℕ). option_map (λ at. later + at) o) labels node None

@@ -1,6 +1,6 @@
 -- The route that is followed back: there is a link before each labelled node but the start, and the links are a walk that arrives in the
 -- second of the label.
-use Rattle.std.proofs.Common.{◌≡◌, ℕ, zero, suc, ◌+◌, ◌<◌, ◌≤◌, Bool, true, false, cond, ◌&&◌, List, [], ◌∷◌, ◌++◌, length, Option, None, Some, ◌⊎◌, inl, inr}
+use Rattle.std.proofs.Common.{◌≡◌, ℕ, zero, suc, ◌+◌, ◌<◌, ◌≤◌, Bool, true, false, cond, List, [], ◌∷◌, ◌++◌, length, Option, None, Some, inl, inr}
 use Rattle.std.proofs.Common.{refl, sym, ◌∙◌, ap, subst, arith}
 use Rattle.std.proofs.lemmas.Bool.{cases_Bool, eq-eqb, eqb-true, eqb-false, and_parts, and_from, false_from_ne_true}
 use Rattle.std.specs.{List.range_with_len, Option.option_eq, Option.option_map_or, Prelude.nat_eq, Prelude.find}
@@ -187,39 +187,6 @@ module _ (ends : Ends) (arrive : Arrivals) (fifo : IsFifo arrive) (from second :
               subst Q back.4 (walk_more ends arrive from links (start_of ends back.0) back.0 before.0 back.3 refl),
               arrival_more ends arrive second links back.0 ∙ ap (arrive back.0) before.1 ∙ back.6,
             )
-      ]
-
-  -- more links than there are earlier labels are not needed
-  pub followed_enough : (most more node at : ℕ) → rank labels at ≤ most → rank labels at ≤ more → label_at labels node ≡ Some at
-      → followed ends arrive labels from most node ≡ followed ends arrive labels from more node
-  followed_enough zero more node at enough enough_more is =
-      elim (cases_Bool (nat_eq node from)) [
-        | inl same ↦ followed_start zero node (eqb-true node from same) ∙ sym (followed_start more node (eqb-true node from same))
-        | inr apart ↦
-            let back = before_is node at (eqb-false node from apart) is in
-            let less = earlier_rank back.0 back.1 at back.5 back.6 in
-            absurd (omega arith)
-      ]
-  followed_enough (suc most) zero node at enough enough_more is =
-      elim (cases_Bool (nat_eq node from)) [
-        | inl same ↦ followed_start (suc most) node (eqb-true node from same) ∙ sym (followed_start zero node (eqb-true node from same))
-        | inr apart ↦
-            let back = before_is node at (eqb-false node from apart) is in
-            let less = earlier_rank back.0 back.1 at back.5 back.6 in
-            absurd (omega arith)
-      ]
-  followed_enough (suc most) (suc more) node at enough enough_more is =
-      elim (cases_Bool (nat_eq node from)) [
-        | inl same ↦ followed_start (suc most) node (eqb-true node from same) ∙ sym
-            (followed_start (suc more) node (eqb-true node from same))
-        | inr apart ↦
-            let differ = eqb-false node from apart in
-            let back = before_is node at differ is in
-            let less = earlier_rank back.0 back.1 at back.5 back.6 in
-            followed_step most node at differ is
-            ∙ ap (λ (links : List ℕ). links ++ back.0 ∷ []) (followed_enough most more (start_of ends back.0) back.1 (omega arith)
-            (omega arith) back.5)
-            ∙ sym (followed_step more node at differ is)
       ]
 
 -- of labels that are kept, and of which each is the arrival of a walk, each but the start's is reached along a link

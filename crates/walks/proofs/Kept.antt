@@ -1,5 +1,5 @@
 -- Walks one link longer, and labels that are kept along them.
-use Rattle.std.proofs.Common.{◌≡◌, ℕ, zero, suc, ◌+◌, ◌<◌, ◌≤◌, List, [], ◌∷◌, ◌++◌, length, Option, None, Some, refl, sym, ◌∙◌, ap, subst, arith}
+use Rattle.std.proofs.Common.{◌≡◌, ℕ, suc, ◌+◌, ◌<◌, ◌≤◌, List, [], ◌∷◌, ◌++◌, length, Option, None, Some, refl, sym, ◌∙◌, ap, subst, arith}
 use Rattle.std.specs.Prelude.{IfSome}
 use Rattle.walks.{proofs.Labels.some_by, proofs.Labels.by_later, specs.Arrivals.Arrivals, specs.Arrivals.IsFifo}
 use Rattle.walks.specs.{Certificates.IsKept, Rounds.Labels, Rounds.label_at, Rounds.IsBy, Walks.Ends, Walks.start_of, Walks.end_of, Walks.IsWalk, Walks.arrival}
@@ -15,13 +15,6 @@ module _ (ends : Ends) (arrive : Arrivals) where
       ≡ arrive link (arrival arrive second links)
   arrival_more second [] link = refl
   arrival_more second (first ∷ links) link = arrival_more (arrive first second) links link
-
-  -- who begins a walk earlier is at its end no later
-  pub arrival_in_order : IsFifo arrive → (earlier second : ℕ) (links : List ℕ) → earlier ≤ second →
-      arrival arrive earlier links ≤ arrival arrive second links
-  arrival_in_order fifo earlier second [] before = before
-  arrival_in_order fifo earlier second (link ∷ links) before =
-      arrival_in_order fifo (arrive link earlier) (arrive link second) links (fifo.in_order link earlier second before)
 
   -- a walk takes no time back
   pub arrival_later : IsFifo arrive → (second : ℕ) (links : List ℕ) → second ≤ arrival arrive second links

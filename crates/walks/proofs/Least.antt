@@ -1,5 +1,5 @@
 -- Least arrivals: as many rounds as there are nodes find them, and labels that are kept bound every walk.
-use Rattle.std.proofs.Common.{◌≡◌, ℕ, zero, suc, ◌+◌, ◌<◌, ◌≤◌, List, [], ◌∷◌, ◌++◌, length, Option, None, Some, ◌⊎◌, inl, inr, refl, sym, ◌∙◌, ap, subst}
+use Rattle.std.proofs.Common.{◌≡◌, ℕ, zero, suc, ◌+◌, ◌<◌, ◌≤◌, List, [], ◌∷◌, ◌++◌, length, Option, None, Some, inl, inr, refl, sym, ◌∙◌, ap, subst}
 use Rattle.std.{proofs.Common.arith, specs.Prelude.MatchOption}
 use Rattle.walks.proofs.{Kept.walk_more, Kept.arrival_more, Kept.arrival_later, Kept.by_turns, Kept.kept_by, Kept.kept_from, Labels.by_some, Labels.some_by}
 use Rattle.walks.proofs.{Labels.by_later, Ranks.rank-le-length, Ranks.rank_less, Rounds.length-after, Rounds.after_start, Rounds.after_later}

@@ -1,5 +1,5 @@
 -- How many labels are earlier than a second.
-use Rattle.std.proofs.Common.{◌≡◌, ℕ, zero, suc, ◌+◌, ◌<◌, ◌≤◌, Bool, true, false, cond, List, [], ◌∷◌, length, get_or, Option, None, Some, refl, sym, ◌∙◌, ap}
+use Rattle.std.proofs.Common.{◌≡◌, ℕ, zero, suc, ◌+◌, ◌<◌, ◌≤◌, cond, [], ◌∷◌, length, Option, None, Some, refl, sym}
 use Rattle.std.proofs.{Common.subst, Common.arith, lemmas.Bool.Decides.nat_tests, lemmas.List.Sums.sum_by-cons, lemmas.List.Sums.count_by-le-length}
 use Rattle.std.specs.Prelude.{nat_lt}
 use Rattle.walks.specs.Rounds.{Labels, label_at, IsBy, is_before, rank}
@@ -68,11 +68,4 @@ rank_less (label ∷ labels) (suc node) a second e h =
     let rest = rank_less labels node a second e h in
     let counted = rank-cons label labels a in
     let counted_later = rank-cons label labels second in
-    omega arith
-
--- so the rank of a label is below the number of nodes
-pub rank_within : (labels : Labels) (node a : ℕ) → label_at labels node ≡ Some a → rank labels a < length labels
-rank_within labels node a e =
-    let less = rank_less labels node a (suc a) e (omega arith) in
-    let most = rank-le-length labels (suc a) in
     omega arith

@@ -1,8 +1,7 @@
 -- The labels after rounds: where they come from, that they only fall, and that they are the arrivals of walks.
-use Rattle.std.proofs.Common.{◌≡◌, ℕ, zero, suc, ◌+◌, ◌-◌, ◌<◌, ◌≤◌, Bool, true, false, cond, List, [], ◌∷◌, ◌++◌, length, get_or, map, Option, None, Some, ◌⊎◌}
-use Rattle.std.proofs.Common.{inl, inr, refl, sym, ◌∙◌, ap, subst, arith}
+use Rattle.std.{proofs.lemmas.List.FromFn.length-map-range_with_len, specs.List.range_with_len, specs.Prelude.nat_eq, proofs.Common.◌≡◌}
+use Rattle.std.proofs.Common.{ℕ, zero, suc, ◌+◌, ◌-◌, ◌<◌, ◌≤◌, Bool, cond, length, map, Option, None, Some, ◌⊎◌, inl, inr, refl, sym, ◌∙◌, ap, subst, arith}
 use Rattle.std.proofs.lemmas.{Bool.cases_Bool, Bool.cases_lt, Bool.eq-eqb, Bool.eqb-true, List.get_or_past, List.FromFn.get_or-map-range_with_len}
-use Rattle.std.{proofs.lemmas.List.FromFn.length-map-range_with_len, specs.List.range_with_len, specs.Prelude.nat_eq}
 use Rattle.walks.proofs.Labels.{some_by, relabelled_own, relabelled_along, relabelled_cases}
 use Rattle.walks.specs.{Arrivals.Arrivals, Rounds.Labels, Rounds.label_at, Rounds.IsBy, Rounds.start_labels, Rounds.relabelled, Rounds.labels_after}
 use Rattle.walks.specs.Walks.{Ends, start_of, end_of, AreWithin}

@@ -1,6 +1,6 @@
 -- The least arrivals at all nodes, found by rounds: after k rounds those of walks of at most k links.
 use Rattle.std.specs.{List.enumerate_from, List.range_with_len, Option.option_map, Prelude.ℕ, Prelude.◌≤◌, Prelude.zero, Prelude.suc}
-use Rattle.std.specs.Prelude.{nat_eq, nat_lt, Bool, false, count_by, IsSomeAnd, List, ◌∷◌, map, filter, fold, slice_index_or, Option, None, Some, if◌then◌else◌}
+use Rattle.std.specs.Prelude.{nat_eq, nat_lt, Bool, false, count_by, IsSomeAnd, List, map, filter, fold, slice_index_or, Option, None, Some, if◌then◌else◌}
 use Rattle.walks.specs.{Arrivals.Arrivals, Walks.Ends}
 use Rattle.calendar.specs.Waking.{earliest}
 

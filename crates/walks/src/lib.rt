@@ -5,7 +5,8 @@
 //! entry that is first in, first out.
 #![tactic(auto)]
 
-ghost use Rattle.std.specs.Prelude.{◌≡◌, ℕ, ◌<◌, List, [], ◌∷◌, length, MatchOption, IsSomeAnd, ◌≤◌, None, Some, Option};
+ghost use Rattle.std.specs.Prelude.{◌≡◌, ℕ, ◌<◌, List, [], ◌∷◌, length, MatchOption, IsSomeAnd, ◌≤◌, None, Some};
+ghost use Rattle.std.specs.Prelude.{Option};
 ghost use Rattle.walks.specs.{Alike.TakesAlike, Alike.delayed, Arrivals.Arrivals, Arrivals.IsFifo, Certificates.IsKept};
 ghost use Rattle.walks.specs.{Certificates.IsCertificate, Chosen.chosen_route, Rounds.Labels, Rounds.label_at, Rounds.least_labels};
 ghost use Rattle.walks.specs.Walks.{Ends, AreWithin, IsWalk, NoWalk, arrival, IsLeast};

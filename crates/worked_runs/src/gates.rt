@@ -82,7 +82,7 @@ fn one_gets_ahead<R: Threads + Wait + Sync>(
     is_the_same(rt, alloc, words, day, &gate) && gate.failed() == 0 && gate.passes() == [300; 4]
 }
 
-/// Whether the partitions of a day are taken in turn: in each second each of them, by number.
+/// Whether the partitions of a day are taken in turn: in each second each of them, to and fro by number.
 fn are_in_turn<R: Threads + Wait + Sync>(
     rt: &R,
     alloc: Global,

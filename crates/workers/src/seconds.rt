@@ -1,6 +1,7 @@
 //! How a member does its next second.
 
-ghost use Rattle.std.specs.Prelude.{◌≡◌, ◌≢◌, ℕ, ◌+◌, ◌<◌, ◌≤◌, true, false, length, set, slice_set, unwrap_or, OnOk, OnErr};
+ghost use Rattle.std.specs.Prelude.{◌≡◌, ◌≢◌, ℕ, ◌+◌, ◌<◌, ◌≤◌, true, false, length, set, slice_set, unwrap_or};
+ghost use Rattle.std.specs.Prelude.{OnOk, OnErr};
 ghost use Rattle.cells.specs.Ports.{IsPort, SameSecond, IsUntouched, IsUnread, IsSettled, degree, neighbour, handover, handovers_of};
 ghost use Rattle.cells.specs.Ports.{is_arrived, is_taken, run_of, waits, partition_of, done_of};
 ghost use Rattle.cells.specs.declared.board.Handover.TheVariants.{Taken};

@@ -1,6 +1,7 @@
 //! Which worker gets which partitions.
 
-ghost use Rattle.std.specs.Prelude.{◌≡◌, ◌≢◌, ℕ, ◌<◌, ◌≤◌, length, slice_index_or, IfSome, IfNone, IfOk, IsPermutation};
+ghost use Rattle.std.specs.Prelude.{◌≡◌, ◌≢◌, ℕ, ◌<◌, ◌≤◌, length, slice_index_or, IfSome, IfNone, IfOk};
+ghost use Rattle.std.specs.Prelude.{IsPermutation};
 ghost use Rattle.workers.specs.{Members.number_of, Sharing.HasOne, Sharing.ArePartsOf};
 
 use crate::members::Member;

@@ -1,7 +1,7 @@
 //! plans.csv.
 
-ghost use Rattle.std.specs.List.{flat_map, range_with_len};
-ghost use Rattle.std.specs.Prelude.{◌≡◌, ◌<◌, ◌≤◌, ◌+◌, ◌^◌, ◌∷◌, ◌++◌, [], length, codes, decimal, OnOk, IfOk, string_bytes};
+ghost use Rattle.std.specs.{List.flat_map, List.range_with_len, Prelude.◌≡◌, Prelude.◌<◌};
+ghost use Rattle.std.specs.Prelude.{◌≤◌, ◌+◌, ◌^◌, ◌∷◌, ◌++◌, [], length, codes, decimal, OnOk, IfOk, string_bytes};
 ghost use Rattle.plan_text.specs.Lines.{row_line};
 ghost use Rattle.workload.specs.{Commuters.commuter, Rows.act_row, Rows.walk_row, Rows.leg_row, Rows.way_there, Rows.way_back};
 ghost use Rattle.workload.specs.{Rows.person_rows, Texts.lines_of, Texts.person_lines, Texts.plans_text, declared.TheConstants.MOST_SIZE};

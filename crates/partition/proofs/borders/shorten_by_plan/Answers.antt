@@ -1,9 +1,7 @@
-use Rattle.std.{proofs.Common.arith, proofs.Common.refl, proofs.Common.sym, proofs.Common.subst, proofs.Common.◌+◌, specs.List.flat_map}
-use Rattle.traffic.specs.Lists.{below}
+use Rattle.std.proofs.Common.{arith, refl}
 use Rattle.rows.specs.PlanRows.{plan_rows}
-use Rattle.partition.proofs.{Loops.hop_shortened, Loops.no_hop_shortened, Tables.shorter_none}
-use Rattle.partition.proofs.borders.shorten_by_plan.Goals.{in-Some, in_default}
-use Rattle.partition.specs.{Neighbours.AreShorter, Neighbours.shortest, Neighbours.seconds_of_hop, Neighbours.hop_leads_over, Neighbours.hop_in, Owned.owner_in}
+use Rattle.partition.proofs.{Loops.hop_shortened, Loops.no_hop_shortened, Tables.shorter_none, borders.shorten_by_plan.Goals.in-Some}
+use Rattle.partition.{proofs.borders.shorten_by_plan.Goals.in_default, specs.Neighbours.seconds_of_hop, specs.Neighbours.hop_leads_over, specs.Owned.owner_in}
 use Rattle.partition.proofs.borders.shorten_by_plan.Goals as goal
 
 pub loop-leg-init : goal.loop-leg-init

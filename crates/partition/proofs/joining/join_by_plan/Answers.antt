@@ -1,8 +1,7 @@
-use Rattle.std.{proofs.Common.arith, proofs.Common.sym, proofs.Common.subst, proofs.Common.◌+◌, specs.List.list_any, specs.List.flat_map}
-use Rattle.traffic.specs.Lists.{below}
+use Rattle.std.proofs.Common.{arith}
 use Rattle.rows.specs.PlanRows.{plan_rows}
 use Rattle.partition.proofs.{Loops.hop_joined, Loops.no_hop_joined, joining.join_by_plan.Goals.in-Some, joining.join_by_plan.Goals.in_default}
-use Rattle.partition.specs.{Neighbours.AreJoined, Neighbours.is_hop_over, Neighbours.hop_in, Owned.owner_in}
+use Rattle.partition.specs.Owned.{owner_in}
 use Rattle.partition.proofs.joining.join_by_plan.Goals as goal
 
 pub loop-leg-preserved : goal.loop-leg-preserved

@@ -1,7 +1,9 @@
-use Rattle.traffic.{proofs.Common.sym, proofs.Common.subst, proofs.Common.person_plan, specs.declared.world.Person.Person}
-use Rattle.town.specs.Views.{setup}
+use Rattle.traffic.proofs.Common.{◌≡◌, ◌<◌, ℕ, ap, arith, length, sym, subst, count_of, person_plan, Phase}
+use Rattle.traffic.specs.declared.world.Person.{Person}
+use Rattle.events.specs.declared.event.Phase.TheVariants as phase
+use Rattle.town.specs.{Setups.setup_of, Views.setup, declared.day_input.DayInput.DayInput}
 use Rattle.person_moves.specs.Legs.{CanLeave}
-use Rattle.law_in_range.proofs.Days.{can_leave, lands_there, leaves_there, departs_there, link_there, person_there}
+use Rattle.law_in_range.proofs.Days.{can_leave, lands_there, leaves_there, departs_there, person_there}
 use Rattle.plain_day.proofs.phases.moves_of_turn.Goals as goal
 
 pub landing_moves-requires : goal.landing_moves-requires
@@ -20,6 +22,12 @@ person_of-requires-in-B1 c = person_there c.args.day.now c.args.world.now c.args
 
 pub departure_moves-requires : goal.departure_moves-requires
 departure_moves-requires c = departs_there c.args.day.now c.args.turn.number c.args.turn.phase c.in-B2.is c.requires.there
+
+link_there : (day : DayInput) (n : ℕ) (p : Phase) → p ≡ phase.D → n < count_of (setup day) p → n < length day.town.now.network.links
+unfolding setup_of
+link_there day n p e h =
+    let same : count_of (setup day) p ≡ length day.town.now.network.links = ap (count_of (setup day)) e in
+    omega (same, h, arith)
 
 pub link_turn-requires-clause-there : goal.link_turn-requires-clause-there
 link_turn-requires-clause-there c = link_there c.args.day.now c.args.turn.number c.args.turn.phase c.in-D.is c.requires.there

@@ -1,22 +1,32 @@
-use Rattle.std.proofs.Common.{◌∙◌, sym, refl, arith}
-use Rattle.calendar.proofs.{InBlocks.due_block, InBlocks.taken_block, InBlocks.past_blocks, Tables.past, Tables.none_there}
+use Rattle.std.proofs.Common.{◌≡◌, ◌∙◌, ℕ, List, [], ap, sym}
+use Rattle.std.specs.Prelude.{◌==◌, if◌then◌else◌}
+use Rattle.calendar.{proofs.InBlocks.due_is, proofs.Laid.taken_all, proofs.Laid.IsTaken, proofs.by_second.Calendar.take.Goals.After-clear}
+use Rattle.calendar.specs.{Blocks.Block, Blocks.head_at, Hooks.numbers_at, declared.by_second.Hook.Hook}
 use Rattle.calendar.proofs.by_second.Calendar.take.Goals as goal
 
-pub returns-then-block-len-clause-due : goal.returns-then-block-len-clause-due
-returns-then-block-len-clause-due c =
-    rw (← c.self.view_is) (c.take_in.ensures.due ∙ due_block c.self.inside.blocks.items c.args.second c.index_mut.result.now (omega arith) c.index_mut.ensures.value)
+head_is : (c : After-clear) → c.head_of-head.result ≡ head_at c.self.inside.blocks.items c.args.second
+head_is c = c.head_of-head.ensures ∙ ap (λ (bs : List Block). head_at bs c.args.second) c.deref.ensures.value
 
-pub returns-then-block-len-clause-rest : goal.returns-then-block-len-clause-rest
-returns-then-block-len-clause-rest c =
-    rw (← c.self.view_is)
-    (taken_block c.self.inside.blocks.items c.args.second c.index_mut.result.now c.take_in.new.rows (omega arith) c.index_mut.ensures.value c.take_in.ensures.rest)
+taken : (c : After-clear) → IsTaken (head_at c.self.inside.blocks.items) (head_at c.clear.new.blocks.items) c.self.inside.hooks.items
+    c.give_back.new.hooks.items c.give_back.new.free c.args.second
+taken c =
+    taken_all (head_at c.self.inside.blocks.items) (head_at c.clear.new.blocks.items) c.self.inside.hooks.items c.give_back.new.hooks.items
+    c.self.inside.free c.give_back.new.free c.head_of-head.result c.args.second c.self.invariant (sym (head_is c)) c.give_back.ensures.free
+    c.give_back.ensures.hooks c.clear.ensures
+
+pub invariant_of-self : goal.invariant_of-self
+invariant_of-self c = (taken (goal.at.invariant_of-self c).After-clear).laid
 
 pub returns-clause-due : goal.returns-clause-due
 returns-clause-due c =
-    let le = past_blocks c.self.inside.blocks.items c.args.second (omega arith) in
-    rw (← c.self.view_is) (c.new.ensures.items ∙ sym (past _ c.args.second le))
+    let hooks = c.self.inside.hooks.items in
+    rw (← c.self.view_is)
+    (c.in_ok-numbers.ensures ∙ ap (λ (hs : List Hook). numbers_at hs c.head_of-head.result) c.deref-2.ensures.value
+    ∙ ap (numbers_at hooks) (head_is (goal.at.returns-clause-due c).After-clear)
+    ∙ sym (due_is hooks c.self.inside.blocks.items c.args.second))
 
 pub returns-clause-rest : goal.returns-clause-rest
 returns-clause-rest c =
-    let le = past_blocks c.self.inside.blocks.items c.args.second (omega arith) in
-    rw (← c.self.view_is) (none_there c.args.second _ _ le refl)
+    rw (← c.self.view_is) (λ u.
+    due_is c.give_back.new.hooks.items c.clear.new.blocks.items u ∙ (taken (goal.at.returns-clause-rest c).After-clear).numbers u
+    ∙ ap (λ (xs : List ℕ). if u == c.args.second then [] else xs) (sym (due_is c.self.inside.hooks.items c.self.inside.blocks.items u)))

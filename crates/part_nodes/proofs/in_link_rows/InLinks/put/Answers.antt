@@ -1,5 +1,4 @@
-use Rattle.calendar.proofs.Tables.{put_row}
-use Rattle.part_nodes.proofs.InRows.{within}
+use Rattle.part_nodes.proofs.InRows.{within, put_row}
 use Rattle.part_nodes.proofs.in_link_rows.InLinks.put.Goals as goal
 
 pub returns-clause-more : goal.returns-clause-more

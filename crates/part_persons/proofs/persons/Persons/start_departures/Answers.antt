@@ -7,7 +7,7 @@ use Rattle.part_persons.proofs.persons.Persons.start_departures.Goals as goal
 
 pub do_turns-requires-clause-there : goal.do_turns-requires-clause-there
 do_turns-requires-clause-there c =
-    subst (λ (ns : List ℕ). AreIn (length (setup c.args.day.now).departures) ns) (sym (c.deref.ensures.value ∙ c.take-due.ensures.due))
+    subst (λ (ns : List ℕ). AreIn (length (setup c.args.day.now).departures) ns) (sym (c.deref.ensures.value ∙ c.in_ok-due.ensures.due))
     c.requires.there
 
 pub returns-clause-world : goal.returns-clause-world
@@ -17,7 +17,7 @@ returns-clause-world c =
     let t = c.args.second in
     let W = c.args.self.now.world in
     c.in_ok-do_turns.ensures.world
-    ∙ ap (λ (ns : List ℕ). after S t (turns S t (departure_turns S t) ns W) W) (c.deref.ensures.value ∙ c.take-due.ensures.due)
+    ∙ ap (λ (ns : List ℕ). after S t (turns S t (departure_turns S t) ns W) W) (c.deref.ensures.value ∙ c.in_ok-due.ensures.due)
 
 pub returns-clause-events : goal.returns-clause-events
 unfolding turns_of
@@ -27,4 +27,4 @@ returns-clause-events c =
     let W = c.args.self.now.world in
     c.in_ok-do_turns.ensures.events
     ∙ ap (λ (ns : List ℕ). c.args.events.now.items ++ events_in t phase.B2 (turns S t (departure_turns S t) ns W))
-    (c.deref.ensures.value ∙ c.take-due.ensures.due)
+    (c.deref.ensures.value ∙ c.in_ok-due.ensures.due)

@@ -10,18 +10,18 @@ returns-clause-places c = λ begins count end T lt h.
     let now : Places = record {
       space = c.free_all.new.space;
       holes = c.free_all.new.holes;
-      freed = c.take-links.new.self;
+      freed = c.take.new.self;
     } in
     let d = c.deref-2.ensures.value in
-    freed_is begins count end c.args.second T was now c.take-links.result.items lt c.take-links.ensures.due c.take-links.ensures.rest
+    freed_is begins count end c.args.second T was now c.in_ok-links.links.items lt c.in_ok-links.ensures.due c.in_ok-links.ensures.rest
     (λ m. c.in_ok-free_all.ensures.space m ∙ ap (λ (ns : List ℕ). fewer (times m ns) (places_in was.space m)) d)
     (λ m. c.in_ok-free_all.ensures.holes m ∙ ap (λ (ns : List ℕ). number_of was.holes m - times m ns) d) h
 
 pub returns-clause-full : goal.returns-clause-full
 returns-clause-full c = λ begins count end T lt h.
-    full_is begins count end c.args.second T c.args.self.now c.take-links.result.items c.in_ok-full.full.items lt c.take-links.ensures.due
+    full_is begins count end c.args.second T c.args.self.now c.in_ok-links.links.items c.in_ok-full.full.items lt c.in_ok-links.ensures.due
     (c.in_ok-full.ensures ∙ ap (filter (is_full_in c.args.self.now.space)) c.deref.ensures.value) h
 
 pub returns-clause-links : goal.returns-clause-links
 returns-clause-links c =
-    c.in_ok-full.ensures ∙ ap (filter (is_full_in c.args.self.now.space)) (c.deref.ensures.value ∙ c.take-links.ensures.due)
+    c.in_ok-full.ensures ∙ ap (filter (is_full_in c.args.self.now.space)) (c.deref.ensures.value ∙ c.in_ok-links.ensures.due)

@@ -8,5 +8,5 @@ invariant-loop-number g l = record {
       (g.T.Part.stands l.self.run.now)
       g.T.Part.spent (g.T.Part.right l.self.run.now) l.core.done.items l.core.stopped.items l.core.borders.items l.core.parts.items
       l.core.wheels.items;
-  round : AreRound (g.T.Part.net l.self.run.now).parts l.number l.self.second l.core.done.items l.core.stopped.items;
+  round : AreRound (λ p. p) (g.T.Part.net l.self.run.now).parts l.number l.self.second l.core.done.items l.core.stopped.items;
 }

@@ -1,7 +1,7 @@
 use Rattle.traffic.proofs.Common.{◌∙◌, ap, sym, PlanRows, plan_rows, act_in, leg_in, mode_of_leg, Act, Mode}
 use Rattle.traffic.specs.Persons.{stuck_on}
 use Rattle.town.specs.Views.{setup}
-use Rattle.parted_day.proofs.ends.stranded_on.Goals as goal
+use Rattle.parted_day.proofs.ends.stranded_under_way.Goals as goal
 
 pub returns : goal.returns
 returns c =

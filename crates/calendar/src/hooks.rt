@@ -1,0 +1,141 @@
+//! The hooks on which numbers hang, one from another. Where a place has no hook, an empty one is read and nothing is written: in a calendar
+//! each place that is named has one.
+
+ghost use Rattle.std.specs.Prelude.{◌≡◌, ◌++◌, [], ◌∷◌, length, set, OnOk, OnErr, IfOk};
+ghost use Rattle.calendar.specs.Hooks.{hook_at, walk, numbers_at, last_at, freed_from, given_back, first_free, IsHooked};
+
+use crate::by_second::Hook;
+use lists::push_with_room;
+use std::alloc::{AllocError, Global};
+
+/// A hook, or an empty one where there is none.
+fn hook_at(hooks: &[Hook], place: u32) -> Hook
+    ensures { result ≡ hook_at hooks.now place }
+{
+    let place = place as usize;
+    if place < hooks.len() {
+        return hooks[place];
+    }
+    Hook {
+        number: 0,
+        next: None,
+    }
+}
+
+/// Another hook stands in this place, where there is one.
+fn set_hook(hooks: &mut [Hook], place: u32, hook: Hook)
+    ensures { hooks.new ≡ set hooks.old place hook }
+{
+    let place = place as usize;
+    if place < hooks.len() {
+        hooks[place] = hook;
+    }
+}
+
+/// One hook more, behind the others: the answer is its place. An error too where 2^32 are there, since a place is a `u32`.
+fn add_hook(hooks: &mut Vec<Hook>, hook: Hook) -> Result<u32, AllocError>
+    ensures ok { IfOk result (λ place. place ≡ length hooks.old.items) }
+    ensures more { OnOk result (hooks.new.items ≡ hooks.old.items ++ hook ∷ []) }
+    ensures err { OnErr result (hooks.new.items ≡ hooks.old.items) }
+{
+    let Ok(place) = u32::try_from(hooks.len()) else {
+        return Err(AllocError);
+    };
+    push_with_room(hooks, hook)?;
+    Ok(place)
+}
+
+/// Hangs a number on a hook that is free, or on a new one, and on it what hung there before.
+pub(crate) fn hook_up(
+    hooks: &mut Vec<Hook>,
+    free: &mut Option<u32>,
+    hook: Hook,
+) -> Result<u32, AllocError>
+    ensures ok { IfOk result (λ place. IsHooked hook free.old hooks.old.items place free.new hooks.new.items) }
+    ensures hooks { OnErr result (hooks.new.items ≡ hooks.old.items) }
+    ensures free { OnErr result (free.new ≡ free.old) }
+{
+    match *free {
+        Some(place) => {
+            *free = hook_at(hooks, place).next;
+            set_hook(hooks, place, hook);
+            Ok(place)
+        }
+        None => add_hook(hooks, hook),
+    }
+}
+
+/// The numbers that hang from a hook, the last one first.
+fn hanging(alloc: Global, hooks: &[Hook], head: Option<u32>) -> Result<Vec<u32>, AllocError>
+    ensures { IfOk result (λ numbers. numbers.items ≡ walk hooks.now (length hooks.now) head) }
+{
+    let mut numbers = Vec::new(alloc);
+    let mut rest = head;
+    let mut left = hooks.len();
+    'chain: while left > 0 {
+        match rest {
+            None => left = 0,
+            Some(place) => {
+                let hook = hook_at(hooks, place);
+                push_with_room(&mut numbers, hook.number)?;
+                rest = hook.next;
+                left -= 1;
+            }
+        }
+    }
+    Ok(numbers)
+}
+
+/// The numbers that hang from a hook, in the order in which they came.
+pub(crate) fn numbers_of(
+    alloc: Global,
+    hooks: &[Hook],
+    head: Option<u32>,
+) -> Result<Vec<u32>, AllocError>
+    ensures { IfOk result (λ numbers. numbers.items ≡ numbers_at hooks.now head) }
+{
+    let mut numbers = hanging(alloc, hooks, head)?;
+    numbers.reverse();
+    Ok(numbers)
+}
+
+/// The last of the hooks that hang from one.
+fn last_of(hooks: &[Hook], head: u32) -> u32
+    ensures { result ≡ last_at hooks.now (length hooks.now) head }
+{
+    let mut last = head;
+    let mut left = hooks.len();
+    'chain: while left > 0 {
+        match hook_at(hooks, last).next {
+            None => left = 0,
+            Some(next) => {
+                last = next;
+                left -= 1;
+            }
+        }
+    }
+    last
+}
+
+/// The hooks that hang from one are free, and are the next that are used.
+fn free_from(hooks: &mut [Hook], free: Option<u32>, head: u32)
+    ensures { hooks.new ≡ freed_from hooks.old free head }
+{
+    let last = last_of(hooks, head);
+    let hook = Hook {
+        number: 0,
+        next: free,
+    };
+    set_hook(hooks, last, hook);
+}
+
+/// The hooks that hang from that of a second, where it has one, are free, and are the next that are used.
+pub(crate) fn give_back(hooks: &mut Vec<Hook>, free: &mut Option<u32>, head: Option<u32>)
+    ensures free { free.new ≡ first_free free.old head }
+    ensures hooks { hooks.new.items ≡ given_back hooks.old.items free.old head }
+{
+    if let Some(place) = head {
+        free_from(hooks, *free, place);
+        *free = head;
+    }
+}

@@ -1,6 +1,11 @@
-//! Tests of the crates at the bottom: names and lists of numbers, whole reads and writes, effects, and the files of the folder.
+//! Tests of the crates at the bottom: names and lists of numbers, whole reads and writes, effects, the files of the folder, settings, the
+//! words of the command line, and the calendars of a day.
 #![tactic(auto)]
 
+#[cfg(test)]
+mod calendars;
+#[cfg(test)]
+mod commands;
 #[cfg(test)]
 mod effects;
 #[cfg(test)]
@@ -9,3 +14,5 @@ mod files;
 mod folder;
 #[cfg(test)]
 mod names;
+#[cfg(test)]
+mod setting_keys;

@@ -1,4 +1,5 @@
-//! Tests of what is kept of a run: rows of memories and back, and keepers in memory, in a database, and in the folder.
+//! Tests of what is kept of a run: rows of memories and back, keepers in memory, in a database, and in the folder, and a database whose
+//! disk stops in the midst of a save, and that is opened again.
 #![tactic(auto)]
 
 #[cfg(test)]
@@ -9,3 +10,5 @@ mod folder;
 mod in_memory;
 #[cfg(test)]
 mod memories;
+#[cfg(test)]
+mod stops;

@@ -341,19 +341,18 @@ module _ (heads now : ℕ → Option ℕ) (old new : List Hook) (free : Option �
       ]
 
 taken_by : (heads now : ℕ → Option ℕ) (old new : List Hook) (free : Option ℕ) (j u : ℕ) (laid : AreLaid heads old free) (js : List ℕ)
-    → laid.row u ≡ js → heads u ≡ Some j → new ≡ freed_from old free j → ((v : ℕ) → now v ≡ (if v == u then None else heads v))
-    → IsTaken heads now old new (Some j) u
+    → laid.row u ≡ js → heads u ≡ Some j → new ≡ freed_from old free (last_at old (Some j))
+    → ((v : ℕ) → now v ≡ (if v == u then None else heads v)) → IsTaken heads now old new (Some j) u
 taken_by heads now old new free j u laid [] r e g head =
     absurd (let c : heads u ≡ None = subst (λ (ks : List ℕ). IsChain laid.owner (Some u) old (heads u) ks) r (laid.rows u) in
     let h : None ≡ Some j = sym c ∙ e in cc)
 taken_by heads now old new free j u laid (i ∷ js) r e g head =
     let c : IsChain laid.owner (Some u) old (heads u) (i ∷ js)
     = subst (λ (ks : List ℕ). IsChain laid.owner (Some u) old (heads u) ks) r (laid.rows u) in
-    let same : i ≡ j = let s : Some i ≡ Some j = sym c.0 ∙ e in cc in
-    let k = last_at old (length old) j in
+    let k = last_at old (Some j) in
     let enough : length (i ∷ js) ≤ length old = few laid.owner (Some u) old (heads u) (i ∷ js) c in
     let last : k ≡ last_in i js
-    = ap (last_at old (length old)) (sym same) ∙ last_is laid.owner (Some u) old (length old) i (hook_at old i).next js c.4 (omega arith) in
+    = ap (last_at old) (sym e) ∙ last_is laid.owner (Some u) old (length old) 0 (heads u) (i ∷ js) c enough in
     let stands = last_stands laid.owner (Some u) old i (heads u) js c in
     let mine : laid.owner k ≡ Some u = ap laid.owner last ∙ stands.1 in
     let lt : k < length old = let l = stands.0 in omega arith in
@@ -377,7 +376,8 @@ taken_by heads now old new free j u laid (i ∷ js) r e g head =
     }
 
 taken_back : (heads now : ℕ → Option ℕ) (old new : List Hook) (free : Option ℕ) (j u : ℕ) → AreLaid heads old free → heads u ≡ Some j
-    → new ≡ freed_from old free j → ((v : ℕ) → now v ≡ (if v == u then None else heads v)) → IsTaken heads now old new (Some j) u
+    → new ≡ freed_from old free (last_at old (Some j)) → ((v : ℕ) → now v ≡ (if v == u then None else heads v))
+    → IsTaken heads now old new (Some j) u
 taken_back heads now old new free j u laid e g head = taken_by heads now old new free j u laid (laid.row u) refl e g head
 
 -- WHERE NOTHING HANGS
@@ -433,17 +433,18 @@ unfolding walk
 walk_end hooks out zero rest le = append-nil out
 walk_end hooks out (suc n) rest le = absurd (omega arith)
 
-pub last_done : (hooks : List Hook) (n j : ℕ) → (hook_at hooks j).next ≡ None → last_at hooks 0 j ≡ last_at hooks n j
+pub last_done : (hooks : List Hook) (n j : ℕ) (rest : Option ℕ) → rest ≡ None → last_from hooks 0 j rest ≡ last_from hooks n j rest
 unfolding last_from
-last_done hooks zero j e = refl
-last_done hooks (suc n) j e = rw e refl
+last_done hooks zero j rest e = refl
+last_done hooks (suc n) j rest e = rw e refl
 
-pub last_more : (hooks : List Hook) (n m j i : ℕ) → (hook_at hooks j).next ≡ Some i → n ≡ m + 1 → last_at hooks m i ≡ last_at hooks n j
+pub last_more : (hooks : List Hook) (n m j i : ℕ) (hook : Hook) (rest : Option ℕ) → rest ≡ Some i → hook ≡ hook_at hooks i → n ≡ m + 1
+    → last_from hooks m i hook.next ≡ last_from hooks n j rest
 unfolding last_from
-last_more hooks zero m j i e g = absurd (omega arith)
-last_more hooks (suc n) m j i e g = let s : m ≡ n = omega arith in rw (e, s) refl
+last_more hooks zero m j i hook rest e f g = absurd (omega arith)
+last_more hooks (suc n) m j i hook rest e f g = let s : m ≡ n = omega arith in rw (e, f, s) refl
 
-pub last_end : (hooks : List Hook) (n j : ℕ) → n ≤ 0 → last_at hooks n j ≡ j
+pub last_end : (hooks : List Hook) (n j : ℕ) (rest : Option ℕ) → n ≤ 0 → last_from hooks n j rest ≡ j
 unfolding last_from
-last_end hooks zero j le = refl
-last_end hooks (suc n) j le = absurd (omega arith)
+last_end hooks zero j rest le = refl
+last_end hooks (suc n) j rest le = absurd (omega arith)

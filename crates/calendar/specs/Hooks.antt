@@ -17,24 +17,24 @@ walk hooks (suc n) (Some j) = (hook_at hooks j).number ∷ walk hooks n (hook_at
 abbrev pub numbers_at : List Hook → Option ℕ → List ℕ
 numbers_at hooks head = reverse (walk hooks (length hooks) head)
 
--- the last of the hooks that hang from hook j, where this one is behind it and at most so many hang there
+-- the last of hook j and those that hang from it, where this one is behind it and at most so many are
 unfoldable pub last_from : List Hook → ℕ → ℕ → Option ℕ → ℕ
 last_from hooks zero j next = j
 last_from hooks (suc n) j None = j
 last_from hooks (suc n) j (Some i) = last_from hooks n i (hook_at hooks i).next
 
--- the last of the hooks that hang from hook j
-abbrev pub last_at : List Hook → ℕ → ℕ → ℕ
-last_at hooks n j = last_from hooks n j (hook_at hooks j).next
+-- the last of the hooks that hang from that of a second, where it has one
+abbrev pub last_at : List Hook → Option ℕ → ℕ
+last_at hooks head = last_from hooks (length hooks) 0 head
 
--- the hooks when those that hang from hook j are free, before those that were
+-- the hooks when those of which hook j is the last are free, before those that were
 abbrev pub freed_from : List Hook → Option ℕ → ℕ → List Hook
-freed_from hooks free j = set hooks (last_at hooks (length hooks) j) (record { number = 0; next = free })
+freed_from hooks free j = set hooks j (record { number = 0; next = free })
 
 -- the hooks when those that hang from that of a second, where it has one, are free, before those that were
 abbrev pub given_back : List Hook → Option ℕ → Option ℕ → List Hook
 given_back hooks free None = hooks
-given_back hooks free (Some j) = freed_from hooks free j
+given_back hooks free (Some j) = freed_from hooks free (last_at hooks (Some j))
 
 -- the first hook that is free then
 abbrev pub first_free : Option ℕ → Option ℕ → Option ℕ

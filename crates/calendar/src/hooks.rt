@@ -2,7 +2,7 @@
 //! each place that is named has one.
 
 ghost use Rattle.std.specs.Prelude.{◌≡◌, ◌++◌, [], ◌∷◌, length, set, OnOk, OnErr, IfOk};
-ghost use Rattle.calendar.specs.Hooks.{hook_at, walk, numbers_at, last_at, freed_from, given_back, first_free, IsHooked};
+ghost use Rattle.calendar.specs.Hooks.{hook_at, numbers_at, last_at, freed_from, given_back, first_free, IsHooked};
 
 use crate::by_second::Hook;
 use lists::push_with_room;
@@ -65,11 +65,22 @@ pub(crate) fn hook_up(
     }
 }
 
-/// The numbers that hang from a hook, the last one first.
-fn hanging(alloc: Global, hooks: &[Hook], head: Option<u32>) -> Result<Vec<u32>, AllocError>
-    ensures { IfOk result (λ numbers. numbers.items ≡ walk hooks.now (length hooks.now) head) }
+/// The chain of hooks that hang from that of a second.
+#[derive(Drop)]
+pub(crate) struct Chain {
+    /// Their numbers, in the order in which they came.
+    pub(crate) numbers: Vec<u32>,
+    /// The last of them, that of the number which came first; where none hangs it tells nothing.
+    pub(crate) last: u32,
+}
+
+/// What hangs from the hook of a second, where it has one.
+pub(crate) fn hanging(alloc: Global, hooks: &[Hook], head: Option<u32>) -> Result<Chain, AllocError>
+    ensures numbers { IfOk result (λ all. all.numbers.items ≡ numbers_at hooks.now head) }
+    ensures last { IfOk result (λ all. all.last ≡ last_at hooks.now head) }
 {
     let mut numbers = Vec::new(alloc);
+    let mut last = 0;
     let mut rest = head;
     let mut left = hooks.len();
     'chain: while left > 0 {
@@ -78,50 +89,20 @@ fn hanging(alloc: Global, hooks: &[Hook], head: Option<u32>) -> Result<Vec<u32>,
             Some(place) => {
                 let hook = hook_at(hooks, place);
                 push_with_room(&mut numbers, hook.number)?;
+                last = place;
                 rest = hook.next;
                 left -= 1;
             }
         }
     }
-    Ok(numbers)
-}
-
-/// The numbers that hang from a hook, in the order in which they came.
-pub(crate) fn numbers_of(
-    alloc: Global,
-    hooks: &[Hook],
-    head: Option<u32>,
-) -> Result<Vec<u32>, AllocError>
-    ensures { IfOk result (λ numbers. numbers.items ≡ numbers_at hooks.now head) }
-{
-    let mut numbers = hanging(alloc, hooks, head)?;
     numbers.reverse();
-    Ok(numbers)
+    Ok(Chain { numbers, last })
 }
 
-/// The last of the hooks that hang from one.
-fn last_of(hooks: &[Hook], head: u32) -> u32
-    ensures { result ≡ last_at hooks.now (length hooks.now) head }
+/// The hooks of which this is the last are free, before those that were.
+fn free_from(hooks: &mut [Hook], free: Option<u32>, last: u32)
+    ensures { hooks.new ≡ freed_from hooks.old free last }
 {
-    let mut last = head;
-    let mut left = hooks.len();
-    'chain: while left > 0 {
-        match hook_at(hooks, last).next {
-            None => left = 0,
-            Some(next) => {
-                last = next;
-                left -= 1;
-            }
-        }
-    }
-    last
-}
-
-/// The hooks that hang from one are free, and are the next that are used.
-fn free_from(hooks: &mut [Hook], free: Option<u32>, head: u32)
-    ensures { hooks.new ≡ freed_from hooks.old free head }
-{
-    let last = last_of(hooks, head);
     let hook = Hook {
         number: 0,
         next: free,
@@ -129,13 +110,14 @@ fn free_from(hooks: &mut [Hook], free: Option<u32>, head: u32)
     set_hook(hooks, last, hook);
 }
 
-/// The hooks that hang from that of a second, where it has one, are free, and are the next that are used.
-pub(crate) fn give_back(hooks: &mut Vec<Hook>, free: &mut Option<u32>, head: Option<u32>)
+/// The hooks that hang from that of a second, where it has one, are free, and are the next that are used. This is the last of them.
+pub(crate) fn give_back(hooks: &mut Vec<Hook>, free: &mut Option<u32>, head: Option<u32>, last: u32)
+    requires { last ≡ last_at hooks.old.items head }
     ensures free { free.new ≡ first_free free.old head }
     ensures hooks { hooks.new.items ≡ given_back hooks.old.items free.old head }
 {
     if let Some(place) = head {
-        free_from(hooks, *free, place);
-        *free = head;
+        free_from(hooks, *free, last);
+        *free = Some(place);
     }
 }

@@ -5,7 +5,7 @@ ghost use Rattle.calendar.specs.Due.{due_at, HasOneMore, HasNone};
 
 use crate::blocks::{clear, head_of, is_quiet_at, put_head, reach};
 use crate::by_second::{Calendar, Hook};
-use crate::hooks::{give_back, hook_up, numbers_of};
+use crate::hooks::{give_back, hanging, hook_up};
 use std::alloc::{AllocError, Global};
 
 impl Calendar {
@@ -47,7 +47,7 @@ impl Calendar {
         is_quiet_at(&self.blocks, second as usize)
     }
 
-    /// Takes those that are due in this second, in the order in which they came.
+    /// Takes those that are due in this second, in the order in which they came. Nothing is touched where it is seen at once that none is.
     ///
     /// # Errors
     ///
@@ -57,11 +57,14 @@ impl Calendar {
         ensures rest { OnOk result (HasNone second self.old self.new) }
         ensures err { OnErr result (self.new ≡ self.old) }
     {
+        if self.is_quiet(second) {
+            return Ok(Vec::new(*self.blocks.allocator()));
+        }
         let place = second as usize;
         let head = head_of(&self.blocks, place);
-        let numbers = numbers_of(*self.blocks.allocator(), &self.hooks, head)?;
-        give_back(&mut self.hooks, &mut self.free, head);
+        let all = hanging(*self.blocks.allocator(), &self.hooks, head)?;
+        give_back(&mut self.hooks, &mut self.free, head, all.last);
         clear(&mut self.blocks, place);
-        Ok(numbers)
+        Ok(all.numbers)
     }
 }

@@ -152,7 +152,8 @@ impl Wakes {
         self.calendar.is_quiet(second)
     }
 
-    /// Takes those who are woken in this second, ascending; they are not woken any more then.
+    /// Takes those who are woken in this second, ascending; they are not woken any more then. Nothing is touched where it is seen at once
+    /// that nobody is.
     ///
     /// # Errors
     ///
@@ -162,6 +163,9 @@ impl Wakes {
         ensures slept { OnOk result (self.new ≡ map (slept second) self.old) }
         ensures err { OnErr result (self.new ≡ self.old) }
     {
+        if self.is_quiet(second) {
+            return Ok(Vec::new(*self.due.allocator()));
+        }
         let numbers = self.calendar.take(second)?;
         let mut numbers = ascending(numbers);
         keep_woken(second, &self.due, &mut numbers);

@@ -1,10 +1,10 @@
 -- The turns of a second in which nobody of a part has anything to do leave the part as it is.
-use Rattle.traffic.proofs.Common.{◌≡◌, ℕ, suc, ◌+◌, ◌-◌, ◌<◌, Bool, false, List, [], ◌∷◌, ◌++◌, ◌∙◌, ap, refl, sym, arith, inl, inr, cases_Bool, eqb, eqb-true}
+use Rattle.traffic.proofs.Common.{◌≡◌, ℕ, ◌+◌, ◌-◌, ◌<◌, Bool, false, List, [], ◌++◌, ◌∙◌, ap, refl, sym, arith}
 use Rattle.traffic.proofs.Common.{length, map, filter, Option, None, Some, World, person_of, below, turns, events_in, turns_in}
 use Rattle.traffic.specs.declared.{node_views.OutLink.OutLink, world.Row.Row}
 use Rattle.events.specs.declared.event.Phase.TheVariants as phase
 use Rattle.town.specs.{Views.setup, declared.day_input.DayInput.DayInput}
-use Rattle.calendar.specs.{Due.Due, Due.HasNone, Due.due_at, Waking.is_second, Waking.slept, Waking.woken_from}
+use Rattle.calendar.proofs.Quiet.{none_sleep, none_taken}
 use Rattle.law_in_range.specs.Setups.{counts_in, HaveFittingPlans}
 use Rattle.law_parcels.specs.Sending.{sent_rows, freed_over}
 use Rattle.law_partitions.specs.Laws.{IsOwner}
@@ -27,27 +27,6 @@ use Rattle.part_seconds.proofs.{Crossed.Begins, Crossed.begins, Driven.Follows, 
 use Rattle.part_seconds.proofs.{Looking.stays, Names.in_second, SettingOut.HasSetOut, SettingOut.told_is}
 use Rattle.part_seconds.specs.{Contents.freed_row, Resting.IsAtRest, Settling.places_known, Settling.left_all, Settling.put_queues, Slots.in_slot}
 use Rattle.part_seconds.specs.{Slots.extent_of, Stands.AreaStands, Starting.all_started, Starting.woken_for_all, declared.area.Area.Area}
-
--- WHERE NOBODY IS WOKEN
--- nobody's second changes when those of a second are woken, who are none
-pub none_sleep : (t n : ℕ) (wakes : List (Option ℕ)) → woken_from t n wakes ≡ [] → wakes ≡ map (slept t) wakes
-unfolding woken_from
-none_sleep t n [] e = refl
-none_sleep t n (w ∷ wakes) e =
-    elim (cases_Bool (is_second t w)) [
-      | inl q ↦ absurd (let f : n ∷ woken_from t (suc n) wakes ≡ [] = (rw q at e) in cc)
-      | inr q ↦
-          let f : woken_from t (suc n) wakes ≡ [] = (rw q at e) in
-          rw q (ap (λ (ws : List (Option ℕ)). w ∷ ws) (none_sleep t (suc n) wakes f))
-    ]
-
--- what is taken of a second in which nothing is due is nothing
-pub none_taken : (t : ℕ) (due : Due) → due_at t due ≡ [] → HasNone t due due
-none_taken t due e = λ u.
-    elim (cases_Bool (eqb u t)) [
-      | inl q ↦ rw q (ap (λ (s : ℕ). due_at s due) (eqb-true u t q) ∙ e)
-      | inr q ↦ rw q refl
-    ]
 
 -- no place fewer
 none_fewer : (o : Option OutLink) → o ≡ fewer 0 o

@@ -1,6 +1,7 @@
 use Rattle.std.proofs.Common.{◌≡◌, ◌∙◌, ℕ, List, ap, sym, subst}
 use Rattle.std.specs.{List.Contains, Prelude.map, Prelude.filter, Prelude.Option}
-use Rattle.calendar.proofs.{Ascending.asc_from, Hung.hung_taken, Hung.woken_is, Hung.all_asleep, wake_ups.Wakes.take.Goals.After-lull}
+use Rattle.calendar.proofs.{Ascending.asc_from, Hung.hung_taken, Hung.woken_is, Hung.all_asleep, Quiet.none_sleep}
+use Rattle.calendar.proofs.wake_ups.Wakes.take.Goals.{After-lull}
 use Rattle.calendar.specs.{Due.Due, Waking.AreHung, Waking.is_woken, Waking.woken, Waking.slept, Waking.asleep}
 use Rattle.calendar.proofs.wake_ups.Wakes.take.Goals as goal
 
@@ -17,6 +18,9 @@ slept_then : (c : After-lull) → c.lull.new.due.items ≡ map (slept c.args.sec
 slept_then c =
     let due = c.self.inside.due.items in
     c.lull.ensures ∙ ap (λ (ns : List ℕ). asleep ns due) (c.deref-2.ensures.value ∙ woken_then c) ∙ all_asleep c.args.second due
+
+pub returns-then-is_quiet-clause-slept : goal.returns-then-is_quiet-clause-slept
+returns-then-is_quiet-clause-slept c = none_sleep c.args.second 0 c.args.self.now (c.is_quiet.ensures c.if-is_quiet.true)
 
 pub invariant_of-self : goal.invariant_of-self
 invariant_of-self c = subst (λ (due : Due). AreHung c.self.inside.due.items due) (sym c.in_err-numbers.ensures.err) c.self.invariant

@@ -3,12 +3,15 @@ use Rattle.std.specs.Prelude.{◌≡◌, ◌≢◌, ℕ, ◌+◌, ◌*◌, ◌%�
 use Rattle.limits.specs.declared.TheConstants.{MAX_PARTITIONS}
 use Rattle.step_core.specs.declared.wheel.{TheConstants.WHEEL, Wheel.Wheel}
 
--- the row of a second, and the place of a sender in it
+-- the row of a second, and of the place of a sender in it the index of what lies there, sender by sender, and that of its note, row by row
 abbrev pub row_of : ℕ → ℕ
 row_of u = u % WHEEL
 
 abbrev pub place_in : ℕ → ℕ → ℕ
-place_in u a = row_of u * MAX_PARTITIONS + a
+place_in u a = a * WHEEL + row_of u
+
+abbrev pub note_in : ℕ → ℕ → ℕ
+note_in u a = row_of u * MAX_PARTITIONS + a
 
 -- each sender has a lag, each row a flag, each row a place for each sender, and each place a note
 pub record IsWhole {P : Type 0} (w : Wheel P) : Type 0 where
@@ -37,7 +40,7 @@ module _ {P : Type 0} (nothing : P) where
   -- it is whole, and where no note is nothing lies
   pub record IsNoted (w : Wheel P) : Type 0 where
     pub whole : IsWhole w
-    pub quiet : (place : ℕ) → get_or w.noted.items place false ≡ false → get_or w.parcels.items place nothing ≡ nothing
+    pub quiet : (u a : ℕ) → a < MAX_PARTITIONS → get_or w.noted.items (note_in u a) false ≡ false → lies w u a ≡ nothing
 
   -- A partition has done t seconds, and of its neighbours a has done s. Of each second of a whose parcel is due and not absorbed the right
   -- one lies in its wheel. Before the first of them comes from a nothing does, nor where no flag is.

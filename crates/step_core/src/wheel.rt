@@ -3,7 +3,7 @@
 ghost use Rattle.std.specs.Prelude.{◌≡◌, ◌*◌, ◌<◌, true, false, set, get_or};
 ghost use Rattle.limits.specs.declared.TheConstants.{MAX_PARTITIONS};
 ghost use Rattle.step_core.specs.declared.wheel.TheConstants.{WHEEL};
-ghost use Rattle.step_core.specs.Wheels.{IsWhole, IsNoted, row_of, place_in, lag_in, due_in, is_flagged};
+ghost use Rattle.step_core.specs.Wheels.{IsWhole, IsNoted, row_of, place_in, note_in, lag_in, due_in, is_flagged};
 
 use limits::{MAX_LAG, MAX_PARTITIONS};
 use std::mem::replace;
@@ -15,15 +15,18 @@ pub(crate) const WHEEL: u64 = 2 * MAX_LAG as u64;
 /// The parcels that were sent to one partition and that it has not absorbed, by the second in which each is due: a timing wheel. The row of
 /// a second is that of its number modulo `WHEEL`, and has a place for each sender, by number. In most places nothing lies, which is seen
 /// without a look at the place.
+///
+/// What a sender sends in seconds that follow one another lies side by side in memory. Of the notes those of one row do, since they are
+/// read from the first sender to the last.
 #[derive(Drop)]
 pub struct Wheel<P> {
     /// After how many seconds a parcel of a sender is due, by number.
     pub(crate) lags: Vec<u32>,
     /// Whether something may lie in a row.
     pub(crate) flags: Vec<bool>,
-    /// Of each place whether something may lie there.
+    /// Of each place whether something may lie there: row by row.
     pub(crate) noted: Vec<bool>,
-    /// The rows, one after the other.
+    /// What lies in each place: sender by sender.
     pub(crate) parcels: Vec<P>,
 }
 
@@ -35,10 +38,19 @@ fn row_of(second: u64) -> usize
     (second % WHEEL) as usize
 }
 
-/// The place of a sender in the row of a second.
+/// The index of what lies in the place of a sender in the row of a second.
 fn place_in(second: u64, sender: u32) -> usize
     requires { sender < MAX_PARTITIONS }
     ensures place { result ≡ place_in second sender }
+    ensures within { result < WHEEL * MAX_PARTITIONS }
+{
+    sender as usize * WHEEL as usize + row_of(second)
+}
+
+/// The index of the note of this place.
+fn note_in(second: u64, sender: u32) -> usize
+    requires { sender < MAX_PARTITIONS }
+    ensures place { result ≡ note_in second sender }
     ensures within { result < WHEEL * MAX_PARTITIONS }
 {
     row_of(second) * MAX_PARTITIONS as usize + sender as usize
@@ -74,11 +86,12 @@ impl<P: Drop> Wheel<P> {
         ensures flags { self.new.flags.items ≡ self.old.flags.items }
         ensures lags { self.new.lags.items ≡ self.old.lags.items }
     {
-        let place = place_in(u64::from(second), sender);
-        if !self.noted[place] {
+        let note = note_in(u64::from(second), sender);
+        if !self.noted[note] {
             return nothing;
         }
-        self.noted[place] = false;
+        self.noted[note] = false;
+        let place = place_in(u64::from(second), sender);
         replace(&mut self.parcels[place], nothing)
     }
 
@@ -95,8 +108,9 @@ impl<P: Drop> Wheel<P> {
         let lag = self.lags[sender as usize];
         let due = u64::from(second) + u64::from(lag);
         self.flags[row_of(due)] = true;
+        let note = note_in(due, sender);
+        self.noted[note] = true;
         let place = place_in(due, sender);
-        self.noted[place] = true;
         self.parcels[place] = parcel;
     }
 }

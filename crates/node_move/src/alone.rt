@@ -1,8 +1,8 @@
 //! The turn of a node by a single link.
 
-ghost use Rattle.std.specs.Prelude.{◌≡◌, [], ◌∷◌, OnOk};
+ghost use Rattle.std.specs.Prelude.{◌≡◌, ℕ, [], ◌∷◌, OnOk};
 ghost use Rattle.draws.specs.Words.{word};
-ghost use Rattle.node_move.specs.{NodeStates.node_state, NodeStates.after_turn, Spaces.places_in};
+ghost use Rattle.node_move.specs.{NodeStates.node_state, NodeStates.after_turn, Spaces.places_in, Spaces.holes_in};
 ghost use Rattle.traffic.specs.Nodes.{HaveNext};
 
 use crate::crossings::{Crossings, pass_node};
@@ -27,10 +27,11 @@ pub fn move_alone(
     said: &mut Vec<Occurrence>,
 ) -> Result<(), AllocError>
     requires ready { HaveNext in_link.old.lists.buffer }
-    ensures { OnOk result (
+    ensures run { OnOk result (
         node_state (in_link.new ∷ []) (places_in space.new) crossings.new.entering.items crossings.new.removed.items said.new.items
         ≡ after_turn turn.now.stuck turn.now.second (word turn.now.draws) (green ∷ [])
         (node_state (in_link.old ∷ []) (places_in space.old) crossings.old.entering.items crossings.old.removed.items said.old.items)) }
+    ensures holes { OnOk result ((m : ℕ) → holes_in space.new m ≡ holes_in space.old m) }
 {
     if !green {
         in_link.mark_first(turn.second);

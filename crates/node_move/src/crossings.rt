@@ -1,9 +1,9 @@
 //! The handing over of one link.
 
-ghost use Rattle.std.specs.Prelude.{◌≡◌, ◌+◌, ◌<◌, [], ◌∷◌, ◌++◌, not, true, OnOk};
+ghost use Rattle.std.specs.Prelude.{◌≡◌, ℕ, ◌+◌, ◌<◌, [], ◌∷◌, ◌++◌, not, true, OnOk};
 ghost use Rattle.events.specs.declared.event.{More.TheVariants.Nothing, Word.TheVariants.LeftLink, Word.TheVariants.EnteredLink};
 ghost use Rattle.traffic.specs.{Nodes.has_room, Nodes.pass_node_all, Nodes.HasNext, Nodes.HaveNext, Telling.of_vehicle, Telling.aborts};
-ghost use Rattle.node_move.specs.{NodeStates.node_state, NodeStates.node_run, NodeStates.in_link_of, Spaces.places_in};
+ghost use Rattle.node_move.specs.{NodeStates.node_state, NodeStates.node_run, NodeStates.in_link_of, Spaces.places_in, Spaces.holes_in};
 
 use crate::space::Space;
 use crate::turns::NodeTurn;
@@ -114,6 +114,7 @@ pub(crate) fn pass_node(
         node_state (in_link.new ∷ []) (places_in space.new) crossings.new.entering.items crossings.new.removed.items said.new.items
         ≡ node_run (pass_node_all turn.now.stuck turn.now.second (places_in space.old) (in_link_of in_link.old true))
         (node_state (in_link.old ∷ []) (places_in space.old) crossings.old.entering.items crossings.old.removed.items said.old.items)) }
+    ensures holes { OnOk result ((m : ℕ) → holes_in space.new m ≡ holes_in space.old m) }
 {
     'fronts: loop {
         let Some(row) = in_link.front_row() else {

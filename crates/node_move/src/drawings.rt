@@ -5,7 +5,7 @@ ghost use Rattle.limits.specs.declared.TheConstants.{LAST_SECOND, MAX_IN_LINKS};
 ghost use Rattle.draws.specs.Words.{word};
 ghost use Rattle.traffic.specs.Nodes.{pass_node_all, draw, weight_of};
 ghost use Rattle.node_move.specs.NodeStates.{in_link_of, seen, ArePlaces, AreReady, AreApart, HaveWeights, no_link, node_state, node_run};
-ghost use Rattle.node_move.specs.Spaces.{places_in};
+ghost use Rattle.node_move.specs.Spaces.{places_in, holes_in};
 
 use crate::candidates::{Able, Candidates, count_able};
 use crate::crossings::{Crossings, pass_node};
@@ -32,6 +32,7 @@ fn pass_at(
         ≡ node_run (pass_node_all turn.now.stuck turn.now.second (places_in space.old)
         (in_link_of (get_or in_links.old place no_link) true))
         (node_state in_links.old (places_in space.old) crossings.old.entering.items crossings.old.removed.items said.old.items)) }
+    ensures holes { OnOk result ((m : ℕ) → holes_in space.new m ≡ holes_in space.old m) }
     ensures ready { OnOk result (AreReady in_links.new) }
     ensures apart { OnOk result (AreApart in_links.new) }
     ensures others { OnOk result ((q : ℕ) → q ≢ place → get_or in_links.new q no_link ≡ get_or in_links.old q no_link) }
@@ -58,11 +59,12 @@ pub(crate) fn draw(
     requires some { HaveWeights (seen in_links.old left.places.items) }
     requires ready { AreReady in_links.old }
     requires apart { AreApart in_links.old }
-    ensures { OnOk result (
+    ensures run { OnOk result (
         node_state in_links.new (places_in space.new) crossings.new.entering.items crossings.new.removed.items said.new.items
         ≡ node_run (draw turn.now.stuck turn.now.second (word turn.now.draws) (length left.places.items) 0
         (seen in_links.old left.places.items) (places_in space.old))
         (node_state in_links.old (places_in space.old) crossings.old.entering.items crossings.old.removed.items said.old.items)) }
+    ensures holes { OnOk result ((m : ℕ) → holes_in space.new m ≡ holes_in space.old m) }
 {
     let mut left = left;
     let mut number = 0;

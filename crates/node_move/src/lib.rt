@@ -14,7 +14,6 @@ mod turns;
 
 pub use alone::move_alone;
 pub use crossings::{Crossings, Entering};
-pub use link_table::LinkTable;
 pub use space::Space;
 pub use turns::{NodeTurn, move_node};
 

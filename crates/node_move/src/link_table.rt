@@ -5,7 +5,7 @@ use std::marker::Model;
 /// Links stand in pages of 64, by number. A page has rows up to the last link on it that was given a number. So a table takes memory for
 /// the links that it is used for and for those beside them, and 24 bytes for each page up to the last one of these.
 #[derive(Drop)]
-pub struct LinkTable {
+pub(crate) struct LinkTable {
     pub(crate) pages: Vec<Vec<u32>>,
 }
 

@@ -7,12 +7,14 @@ use traffic::OutLink;
 pub(crate) struct Entry {
     /// The number of the link.
     pub(crate) link: u32,
+    /// How many of its places were left and are not free yet.
+    pub(crate) holes: u32,
     /// Its places.
     pub(crate) places: OutLink,
 }
 
-/// The places of links: how many are taken, how many there are, and the seconds along the link. Contracts see its rows, and ask these for
-/// the places of a link.
+/// The places of links: how many are taken, how many there are, and the seconds along the link; and how many of those that are taken are
+/// holes: places that were left and are not free yet. Contracts see its rows, and ask these for the places and the holes of a link.
 ///
 /// A table says where the entry of each link stands. Where another link's entry stands there, or none, the link has no entry.
 #[derive(Drop)]

@@ -1,9 +1,10 @@
 //! How many places of links are taken.
 
-ghost use Rattle.std.specs.Prelude.{◌≡◌, ℕ, ◌+◌, ◌==◌, if◌then◌else◌, option_map, Option, None, Some, OnOk, OnErr};
-ghost use Rattle.std.specs.Prelude.{MatchOption};
+ghost use Rattle.std.specs.Prelude.{◌≡◌, ℕ, ◌+◌, ◌-◌, ◌==◌, if◌then◌else◌, option_map, Option, None, Some};
+ghost use Rattle.std.specs.Prelude.{OnOk, OnErr, MatchOption};
 ghost use Rattle.traffic.specs.{Nodes.one_more, declared.node_views.OutLink.OutLink};
-ghost use Rattle.node_move.specs.{Entries.rows_of, Entries.StandsAt, Spaces.places_in};
+ghost use Rattle.node_move.specs.{Entries.rows_of, Entries.StandsAt, Entries.entry_in, Entries.freed, Entries.fewer, Entries.holes_put};
+ghost use Rattle.node_move.specs.Spaces.{places_in, holes_in};
 
 use crate::link_table::LinkTable;
 use crate::space::{Entry, Space};
@@ -12,7 +13,7 @@ use traffic::OutLink;
 
 /// The number of the entry of a link, where it has one.
 fn entry_of(slots: &LinkTable, entries: &[Entry], link: u32) -> Option<usize>
-    ensures { MatchOption result (places_in (rows_of slots.now entries.now) link ≡ None)
+    ensures { MatchOption result (entry_in (rows_of slots.now entries.now) link ≡ None)
         (λ number. StandsAt slots.now entries.now link number) }
 {
     let number = slots.number(link) as usize;
@@ -25,10 +26,27 @@ fn entry_of(slots: &LinkTable, entries: &[Entry], link: u32) -> Option<usize>
     Some(number)
 }
 
+/// The entry once one of its places is free, which was a hole.
+fn freed(entry: Entry) -> Entry
+    ensures { result ≡ freed entry }
+{
+    let places = entry.places;
+    Entry {
+        link: entry.link,
+        holes: entry.holes.saturating_sub(1),
+        places: OutLink {
+            taken: places.taken.saturating_sub(1),
+            storage: places.storage,
+            seconds: places.seconds,
+        },
+    }
+}
+
 impl Space {
     /// No link has an entry.
     pub fn new(alloc: Global) -> Space
-        ensures { (m : ℕ) → places_in result m ≡ None }
+        ensures places { (m : ℕ) → places_in result m ≡ None }
+        ensures holes { (m : ℕ) → holes_in result m ≡ 0 }
     {
         Space {
             slots: LinkTable::new(alloc),
@@ -38,10 +56,9 @@ impl Space {
 
     /// An entry more, of a link that has none.
     fn add(&mut self, entry: Entry) -> Result<(), AllocError>
-        requires { places_in self.old entry.link ≡ None }
-        ensures ok { OnOk result ((m : ℕ) → places_in self.new m
-            ≡ (if m == entry.link then Some entry.places else places_in self.old m)) }
-        ensures err { OnErr result ((m : ℕ) → places_in self.new m ≡ places_in self.old m) }
+        requires { entry_in self.old entry.link ≡ None }
+        ensures ok { OnOk result ((m : ℕ) → entry_in self.new m ≡ (if m == entry.link then Some entry else entry_in self.old m)) }
+        ensures err { OnErr result ((m : ℕ) → entry_in self.new m ≡ entry_in self.old m) }
     {
         let Ok(number) = u32::try_from(self.entries.len()) else {
             return Err(AllocError);
@@ -51,19 +68,26 @@ impl Space {
         Ok(())
     }
 
-    /// Puts or replaces the entry of a link.
+    /// Puts or replaces the entry of a link: it has these places, none of which is a hole.
     ///
     /// # Errors
     ///
     /// `AllocError`: there is no memory for the entry or for the place of that link in the table. Each link then has the entry that it had.
     pub fn set(&mut self, link: u32, places: OutLink) -> Result<(), AllocError>
         ensures ok { OnOk result ((m : ℕ) → places_in self.new m ≡ (if m == link then Some places else places_in self.old m)) }
+        ensures holes { OnOk result ((m : ℕ) → holes_in self.new m ≡ (if m == link then 0 else holes_in self.old m)) }
         ensures err { OnErr result ((m : ℕ) → places_in self.new m ≡ places_in self.old m) }
+        ensures err_holes { OnErr result ((m : ℕ) → holes_in self.new m ≡ holes_in self.old m) }
     {
+        let entry = Entry {
+            link,
+            holes: 0,
+            places,
+        };
         match entry_of(&self.slots, &self.entries, link) {
-            None => self.add(Entry { link, places }),
+            None => self.add(entry),
             Some(number) => {
-                self.entries[number] = Entry { link, places };
+                self.entries[number] = entry;
                 Ok(())
             }
         }
@@ -89,27 +113,76 @@ impl Space {
         }
     }
 
+    /// How many places of a link were left and are not free yet; none where it has no entry.
+    pub fn holes(&self, link: u32) -> u32
+        ensures { result ≡ holes_in self.now link }
+    {
+        match entry_of(&self.slots, &self.entries, link) {
+            None => 0,
+            Some(number) => self.entries[number].holes,
+        }
+    }
+
+    /// So many places of a link were left and are not free yet. Where it has no entry nothing is changed.
+    pub fn set_holes(&mut self, link: u32, holes: u32)
+        ensures places { (m : ℕ) → places_in self.new m ≡ places_in self.old m }
+        ensures holes { (m : ℕ) → holes_in self.new m
+            ≡ (if m == link then holes_put holes (places_in self.old m) else holes_in self.old m) }
+    {
+        match entry_of(&self.slots, &self.entries, link) {
+            None => {}
+            Some(number) => {
+                let places = self.entries[number].places;
+                self.entries[number] = Entry {
+                    link,
+                    holes,
+                    places,
+                };
+            }
+        }
+    }
+
+    /// One place of a link is taken no more, and one hole of it is over. Where it has no entry nothing is changed.
+    pub fn free_place(&mut self, link: u32)
+        ensures places { (m : ℕ) → places_in self.new m
+            ≡ (if m == link then fewer 1 (places_in self.old m) else places_in self.old m) }
+        ensures holes { (m : ℕ) → holes_in self.new m ≡ (if m == link then holes_in self.old link - 1 else holes_in self.old m) }
+    {
+        match entry_of(&self.slots, &self.entries, link) {
+            None => {}
+            Some(number) => {
+                let entry = freed(self.entries[number]);
+                self.entries[number] = entry;
+            }
+        }
+    }
+
     /// One place more of a link is taken. Places are counted by rows in memory: where no number counts them, there is no memory for them.
     ///
     /// # Errors
     ///
     /// `AllocError`: no number counts the places.
     pub fn take_place(&mut self, link: u32) -> Result<(), AllocError>
-        ensures { OnOk result (places_in self.new ≡ one_more link (places_in self.old)) }
+        ensures places { OnOk result (places_in self.new ≡ one_more link (places_in self.old)) }
+        ensures holes { OnOk result ((m : ℕ) → holes_in self.new m ≡ holes_in self.old m) }
     {
         match entry_of(&self.slots, &self.entries, link) {
             None => Ok(()),
             Some(number) => {
-                let places = self.entries[number].places;
-                let Some(taken) = places.taken.checked_add(1) else {
+                let entry = self.entries[number];
+                let Some(taken) = entry.places.taken.checked_add(1) else {
                     return Err(AllocError);
                 };
                 let places = OutLink {
                     taken,
-                    storage: places.storage,
-                    seconds: places.seconds,
+                    storage: entry.places.storage,
+                    seconds: entry.places.seconds,
                 };
-                self.entries[number] = Entry { link, places };
+                self.entries[number] = Entry {
+                    link,
+                    holes: entry.holes,
+                    places,
+                };
                 Ok(())
             }
         }

@@ -1,9 +1,10 @@
 //! The turn of a node.
 
-ghost use Rattle.std.specs.Prelude.{◌≡◌, ◌+◌, ◌<◌, ◌≤◌, length, OnOk};
+ghost use Rattle.std.specs.Prelude.{◌≡◌, ℕ, ◌+◌, ◌<◌, ◌≤◌, length, OnOk};
 ghost use Rattle.limits.specs.declared.TheConstants.{LAST_SECOND, MAX_IN_LINKS};
 ghost use Rattle.draws.specs.Words.{word};
-ghost use Rattle.node_move.specs.{NodeStates.node_state, NodeStates.after_turn, NodeStates.AreReady, NodeStates.AreApart, Spaces.places_in};
+ghost use Rattle.node_move.specs.{NodeStates.node_state, NodeStates.after_turn, NodeStates.AreReady, NodeStates.AreApart};
+ghost use Rattle.node_move.specs.Spaces.{places_in, holes_in};
 
 use crate::candidates::find_candidates;
 use crate::crossings::Crossings;
@@ -42,10 +43,11 @@ pub fn move_node(
     requires lit { length greens.now ≡ length in_links.old }
     requires ready { AreReady in_links.old }
     requires apart { AreApart in_links.old }
-    ensures { OnOk result (
+    ensures run { OnOk result (
         node_state in_links.new (places_in space.new) crossings.new.entering.items crossings.new.removed.items said.new.items
         ≡ after_turn turn.now.stuck turn.now.second (word turn.now.draws) greens.now
         (node_state in_links.old (places_in space.old) crossings.old.entering.items crossings.old.removed.items said.old.items)) }
+    ensures holes { OnOk result ((m : ℕ) → holes_in space.new m ≡ holes_in space.old m) }
 {
     let alloc = *said.allocator();
     let left = find_candidates(alloc, turn.second, in_links, greens)?;

@@ -9,7 +9,7 @@ use Rattle.queue_link.specs.{Links.LinkView, declared.numbers.LinkNumbers.LinkNu
 use Rattle.draws.specs.Words.{word}
 use Rattle.traffic.specs.{Nodes.HaveNext, Vehicles.VehicleState, declared.moves.Occurrence.Occurrence}
 use Rattle.calendar.specs.{Due.AreIn, Waking.wake_of, Waking.earlier}
-use Rattle.node_move.specs.{Spaces.places_in, declared.crossings.Entering.Entering, declared.turns.NodeTurn.NodeTurn, Entries.SpaceRows}
+use Rattle.node_move.specs.{Spaces.places_in, Spaces.holes_in, declared.crossings.Entering.Entering, declared.turns.NodeTurn.NodeTurn, Entries.SpaceRows}
 use Rattle.node_move.specs.NodeStates.{NodeState, node_state, after_turn, buffer_after, entering_by, no_link, AreReady}
 use Rattle.node_seconds.specs.Networks.{lane, is_among, AreOnce, if_there, slot_in, put_back, with_queued, put_queued, accepted, accepted_all, wakes_within}
 use Rattle.node_seconds.specs.{Networks.wake_queued, Networks.wakes_after, Networks.wakes_after_all, Turns.moves_in, Turns.IsNodeSecond}
@@ -157,8 +157,8 @@ pub several_turned : (turn : NodeTurn) (n : ℕ) (old mid new taken back rest : 
     → node_state back (places_in space) fs lost heard
     ≡ after_turn turn.stuck turn.second (word turn.draws) greens (node_state taken (places_in free) es gone said)
     → length back ≡ n → new ≡ put_back into (take n (back ++ rest)) mid → es ≡ [] → entering ≡ fs
-    → IsNodeSecond turn into greens old new free space entering said heard
-several_turned turn n old mid new taken back rest into greens free space es fs entering gone lost said heard t len others run long e none en =
+    → ((m : ℕ) → holes_in space m ≡ holes_in free m) → IsNodeSecond turn into greens old new free space entering said heard
+several_turned turn n old mid new taken back rest into greens free space es fs entering gone lost said heard t len others run long e none en kept =
     let P = places_in free in
     let ms = moves_in turn old into greens P in
     let turned : ℕ → LinkView = λ k. buffer_after ms (lane old k) in
@@ -176,6 +176,7 @@ several_turned turn n old mid new taken back rest into greens free space es fs e
             | inr a ↦ at ∙ (rw a (others l a))
           ];
       space = ap (λ (N : NodeState). N.out_links) is;
+      holes = kept;
       entered = en ∙ ap (λ (N : NodeState). N.entering) is ∙ ap (λ (xs : List Entering). xs ++ flat_map entering_by ms) none;
       said = ap (λ (N : NodeState). N.said) is;
     }
@@ -194,8 +195,9 @@ pub alone_turned : (turn : NodeTurn) (k : ℕ) (green : Bool) (old new : List Li
     → v ≡ lane old k → new ≡ set old k w
     → node_state (w ∷ []) (places_in space) fs lost heard
     ≡ after_turn turn.stuck turn.second (word turn.draws) (green ∷ []) (node_state (v ∷ []) (places_in free) es gone said)
-    → es ≡ [] → entering ≡ fs → IsNodeSecond turn (k ∷ []) (green ∷ []) old new free space entering said heard
-alone_turned turn k green old new v w free space es fs entering gone lost said heard own e run none en =
+    → es ≡ [] → entering ≡ fs → ((m : ℕ) → holes_in space m ≡ holes_in free m)
+    → IsNodeSecond turn (k ∷ []) (green ∷ []) old new free space entering said heard
+alone_turned turn k green old new v w free space es fs entering gone lost said heard own e run none en kept =
     let P = places_in free in
     let ms = moves_in turn old (k ∷ []) (green ∷ []) P in
     let M : LinkView → NodeState = λ x. after_turn turn.stuck turn.second (word turn.draws) (green ∷ []) (node_state (x ∷ []) P es gone said) in
@@ -215,6 +217,7 @@ alone_turned turn k green old new v w free space es fs entering gone lost said h
                 (ap (λ (xs : List LinkView). lane xs l) e ∙ get_or-set_other old k l w no_link (λ (z : l ≡ k). eqb-false k l q (sym z)))
           ];
       space = ap (λ (N : NodeState). N.out_links) is;
+      holes = kept;
       entered = en ∙ ap (λ (N : NodeState). N.entering) is ∙ ap (λ (xs : List Entering). xs ++ flat_map entering_by ms) none;
       said = ap (λ (N : NodeState). N.said) is;
     }

@@ -5,7 +5,7 @@ use Rattle.draws.specs.Words.{word}
 use Rattle.traffic.specs.{Moves.told, Nodes.node_moves, Nodes.out_links_after, Nodes.HaveNext}
 use Rattle.traffic.specs.declared.{moves.Move.Move, moves.Occurrence.Occurrence, node_views.OutLink.OutLink}
 use Rattle.queue_link.specs.Links.{LinkView}
-use Rattle.node_move.specs.{Entries.SpaceRows, NodeStates.in_links_of, NodeStates.buffer_after, NodeStates.entering_by, NodeStates.AreApart, Spaces.places_in}
+use Rattle.node_move.specs.{Entries.SpaceRows, NodeStates.in_links_of, NodeStates.buffer_after, NodeStates.entering_by, NodeStates.AreApart, Spaces.places_in, Spaces.holes_in}
 use Rattle.node_move.specs.declared.{crossings.Entering.Entering, turns.NodeTurn.NodeTurn}
 use Rattle.node_seconds.specs.Networks.{lane, is_among}
 
@@ -30,5 +30,6 @@ pub record IsNodeSecond (turn : NodeTurn) (into : List ℕ) (greens : List Bool)
       (k : ℕ) → k < length old_links → lane new_links k
       ≡ (if is_among k into then buffer_after (moves_in turn old_links into greens (places_in old_space)) (lane old_links k) else lane old_links k)
   pub space : places_in new_space ≡ out_links_after (moves_in turn old_links into greens (places_in old_space)) (places_in old_space)
+  pub holes : (m : ℕ) → holes_in new_space m ≡ holes_in old_space m
   pub entered : entering ≡ flat_map entering_by (moves_in turn old_links into greens (places_in old_space))
   pub said : new_said ≡ old_said ++ flat_map told (moves_in turn old_links into greens (places_in old_space))

@@ -1,5 +1,5 @@
 -- Of the links into a node only those with somebody in their buffers matter.
-use Rattle.traffic.proofs.Common.{◌≡◌, ℕ, suc, ◌+◌, ◌<◌, ◌≤◌, Bool, true, false, List, [], ◌∷◌, ◌++◌, ◌∙◌, ap, refl, sym, subst, arith, inl, inr, length, map}
+use Rattle.traffic.proofs.Common.{◌≡◌, ℕ, suc, ◌<◌, ◌≤◌, Bool, true, false, List, [], ◌∷◌, ◌++◌, ◌∙◌, ap, refl, sym, subst, arith, inl, inr, length, map}
 use Rattle.traffic.proofs.Common.{filter, not, ◌||◌, cases_Bool, eqb, eqb-true, or_parts, true≢false, nat_lt, lt-ltb, Option, Some, World, Setup, at, into}
 use Rattle.traffic.proofs.Common.{link_row, in_link, out_link, ready, mark, draw, node_moves, node_turns, word}
 use Rattle.traffic.specs.Lists.{is_nil}

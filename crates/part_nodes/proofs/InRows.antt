@@ -1,7 +1,7 @@
 -- Rows of a table.
 use Rattle.std.{proofs.lemmas.List.length-map, specs.Prelude.map, specs.Prelude.vec_items, proofs.lemmas.List.map-set, proofs.lemmas.List.get_or-set_same}
-use Rattle.std.{proofs.lemmas.List.get_or-set_other, specs.Prelude.set, specs.Prelude.◌==◌, specs.Prelude.if◌then◌else◌}
-use Rattle.std.proofs.Common.{◌≡◌, ℕ, zero, suc, ◌<◌, inl, inr, List, [], ◌∷◌, ◌++◌, length, arith, Vec, Global, get_or, refl, ap, sym, ◌∙◌}
+use Rattle.std.{proofs.lemmas.List.get_or-set_other, specs.Prelude.set, specs.Prelude.◌==◌}
+use Rattle.std.proofs.Common.{◌≡◌, ℕ, zero, suc, ◌<◌, inl, inr, List, [], ◌∷◌, ◌++◌, length, arith, Vec, Global, get_or, ap, sym, ◌∙◌}
 use Rattle.std.proofs.lemmas.Bool.{cases_Bool, eqb-true, eqb-false}
 use Rattle.calendar.specs.Due.{Due, due_at, HasOneMore}
 

@@ -1,8 +1,8 @@
 -- The turn of a node: the network stands for the world after it.
 use Rattle.traffic.proofs.Common.{◌≡◌, ◌≢◌, ℕ, List, ◌∙◌, length, ap, refl, sym, [], ◌++◌, arith, ◌<◌, ◌+◌, true, false, Bool, inl, inr, eqb, subst, flat_map}
 use Rattle.traffic.proofs.Common.{map, filter, not, true≢false, get_or, None, Option, cases_Bool, eq-eqb, set, get_or-set_same, get_or-set_other, length-set}
-use Rattle.traffic.proofs.Common.{if◌then◌else◌, node_turns, World, on, at, Setup, into, link_row, seconds_of, at_after_all, run, out_links_after, told}
-use Rattle.traffic.proofs.{Common.credit_of, Common.numbers, Common.keyed, Common.phase_code, Nodes.node-buffers, Nodes.buffers-credit, Nodes.node_untouched}
+use Rattle.traffic.proofs.Common.{if◌then◌else◌, node_turns, World, at, Setup, into, link_row, seconds_of, at_after_all, run, out_links_after, told}
+use Rattle.traffic.proofs.{Common.credit_of, Common.keyed, Common.phase_code, Nodes.node-buffers, Nodes.buffers-credit, Nodes.node_untouched}
 use Rattle.traffic.{proofs.Sublists.at-run, proofs.Sublists.credits-run, proofs.Sublists.at_after_all-untouched, specs.Links.LinkState, specs.Links.link_state}
 use Rattle.traffic.specs.declared.{moves.Move.Move, moves.Occurrence.Occurrence, node_views.OutLink.OutLink, stage.Stage.TheVariants.Queue}
 use Rattle.traffic.specs.declared.{stage.Stage.TheVariants.Buffer, stage.Stage.TheVariants.Wait, stage.Stage.TheVariants.Bay, world.Row.Row}
@@ -13,7 +13,7 @@ use Rattle.events.specs.declared.event.Phase.TheVariants as phase
 use Rattle.law_in_range.{proofs.Junctions.node_fit, proofs.Kept.run_fit, specs.Rows.Counts, specs.Setups.IsFitSetup}
 use Rattle.calendar.specs.{Due.AreIn, Waking.wake_of}
 use Rattle.queue_link.specs.{Links.LinkView, Numbers.numbers_of, declared.numbers.LinkNumbers.LinkNumbers}
-use Rattle.node_move.specs.{Entries.SpaceRows, NodeStates.buffer_after, NodeStates.entering_by, Spaces.places_in}
+use Rattle.node_move.specs.{Entries.SpaceRows, NodeStates.buffer_after, NodeStates.entering_by, Spaces.places_in, Spaces.holes_in}
 use Rattle.node_move.specs.declared.{crossings.Entering.Entering, turns.NodeTurn.NodeTurn}
 use Rattle.link_seconds.specs.Seconds.{lists_at}
 use Rattle.node_seconds.specs.Networks.{lane, is_among, slot_in, accepted_all, wakes_after_all, goes_out}
@@ -234,7 +234,7 @@ pub turned : (z : Counts) (S : Setup) (E : Extent) (end t n : ℕ) (V : World) (
     → IsPassed z S E end t n V links new.link_wakes new.places.space now first_out gone
     → length old.node_wakes ≡ S.nodes → ((m : ℕ) → E.mine m ≡ false → wake_of old.node_wakes m ≡ None)
     → n < S.nodes → ks ≡ slots_of slots (into S n)
-    → new.links.items ≡ links → seen ≡ links → new.places.holes ≡ old.places.holes → new.places.freed ≡ old.places.freed
+    → new.links.items ≡ links → seen ≡ links → ((m : ℕ) → holes_in new.places.space m ≡ holes_in old.places.space m) → new.places.freed ≡ old.places.freed
     → t < end → K ≡ S.settings.stuck → ((l : ℕ) → always l ≡ true → (u : ℕ) → S.green l u ≡ true)
     → new.node_wakes ≡ set old.node_wakes n (up_to end (node_due K t always new.places.space seen None ks))
     → out ≡ events ++ keyed t (phase_code phase.C) n 0 now → heard ≡ said ++ now

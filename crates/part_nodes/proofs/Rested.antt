@@ -1,5 +1,5 @@
 -- The links of a network rest on when some of them hand over, where those that did not are woken.
-use Rattle.std.proofs.Common.{◌≡◌, ◌≢◌, ℕ, ◌<◌, Bool, true, false, List, [], ◌∷◌, length, refl, ap, sym, ◌∙◌, subst, inl, inr, arith, eqb}
+use Rattle.std.proofs.Common.{◌≡◌, ℕ, ◌<◌, Bool, true, false, List, [], ◌∷◌, length, refl, ap, sym, ◌∙◌, subst, inl, inr, arith, eqb}
 use Rattle.std.proofs.lemmas.Bool.{cases_Bool, eqb-true, or_parts, and_parts, true≢false}
 use Rattle.std.{proofs.lemmas.List.length-set, specs.List.AllByRecursion as Each}
 use Rattle.std.specs.Prelude.{Option, None, Some, map, not, if◌then◌else◌, ◌&&◌, ◌||◌, ◌⊎◌}

@@ -18,7 +18,7 @@ use Rattle.part_nodes.{specs.declared.network.NetworkState.NetworkState, proofs.
 use Rattle.part_nodes.proofs.Held.{node_takes, waits_on, waits_next, none_able, none_red, slept_at, slept_other}
 use Rattle.part_nodes.specs.Phase.{Extent, AreMine, StandsForAt, taken_before, BufferWaits, AreAwaitedAt, IsTurn, AreTurned, IsPhaseAt, going_out}
 use Rattle.law_sleeping.proofs.Passing.{node_rest}
-use Rattle.node_move.specs.declared.crossings.Entering.{Entering}
+use Rattle.node_move.specs.{Spaces.holes_in, declared.crossings.Entering.Entering}
 
 -- ONE AFTER THE OTHER
 plan_is : (S : Setup) (t n : ℕ) (V : World) → turns_of S t phase.C n V ≡ node_turns S t n V
@@ -84,7 +84,7 @@ pub turned_none : (z : Counts) (S : Setup) (E : Extent) (end t : ℕ) (V : World
 unfolding turns
 turned_none z S E end t V N events said out h = record {
   stands = h;
-  holes = refl;
+  holes = λ m. refl;
   freed = refl;
   others = λ m a. refl;
   awaited = λ m l a w lt to. absurd (true≢false (sym a));
@@ -106,7 +106,7 @@ turned_last z S E end t n V ns old now next events out more said heard last firs
     let p = plan_is S t n W in
     record {
       stands = subst (StandsForAt z S E end t next) (sym w) g.stands;
-      holes = g.holes ∙ h.holes;
+      holes = λ m. g.holes m ∙ h.holes m;
       freed = g.freed ∙ h.freed;
       others = λ m a.
           let q = not_last m n ns a in
@@ -280,7 +280,8 @@ stands_with z S E end t V N M wakes e sl h =
 pub all_turned : (z : Counts) (S : Setup) (E : Extent) (end t : ℕ) (V : World) (ns : List ℕ) (old mid new : NetworkState) (events out : List Event)
     (said heard : List Occurrence) (first_out gone : List Entering)
     → t < end → StandsForAt z S E end t old V → AreAwaitedAt E.mine S end (t + 1) t old.node_wakes V → ns ≡ woken t old.node_wakes
-    → mid.node_wakes ≡ map (slept t) old.node_wakes → mid.places.holes ≡ old.places.holes → mid.places.freed ≡ old.places.freed
+    → mid.node_wakes ≡ map (slept t) old.node_wakes → ((m : ℕ) → holes_in mid.places.space m ≡ holes_in old.places.space m)
+    → mid.places.freed ≡ old.places.freed
     → AreTurned z S E end t V ns mid new events out said heard first_out gone
     → IsPhaseAt z S E end t V old new events out said heard first_out gone
 unfolding turns_of
@@ -306,7 +307,7 @@ all_turned z S E end t V ns old mid new events out said heard first_out gone in_
     ∙ sym (ap (λ xs. moves_of xs) (turns_at_once S t (turns_of S t phase.C) apart own V distinct)) in
     record {
       stands = subst (StandsForAt z S E end t new) w h.stands;
-      holes = h.holes ∙ ho;
+      holes = λ m. h.holes m ∙ ho m;
       freed = h.freed ∙ fr;
       awaited = λ n l lt its not_woken there to.
           elim (cases_Bool (is_among n ns)) [

@@ -1,5 +1,5 @@
 -- The slots in which the links of a part stand: those of the links into a node, and where a table finds them.
-use Rattle.traffic.proofs.Common.{◌≡◌, ◌≢◌, ℕ, ◌<◌, Bool, true, false, List, [], ◌∷◌, ◌∙◌, ap, refl, sym, arith, inl, inr, length, get_or, map, not, ◌||◌}
+use Rattle.traffic.proofs.Common.{◌≡◌, ℕ, ◌<◌, Bool, true, false, List, [], ◌∷◌, ◌∙◌, ap, refl, sym, arith, inl, inr, length, get_or, map, not, ◌||◌}
 use Rattle.traffic.proofs.Common.{cases_Bool, eqb, eqb-true, eqb-false, eq-eqb, ne_eqb, or_parts, true≢false, Option, None, Some, Setup, World, into, link_row}
 use Rattle.traffic.proofs.Each.{each_weaker}
 use Rattle.std.specs.List.{AllByRecursion as Each}

@@ -13,7 +13,7 @@ use Rattle.traffic.specs.{Setup.storage_of, Setup.seconds_of, Setup.hole_of, dec
 use Rattle.traffic.specs.declared.{node_views.OutLink.OutLink, stage.Stage.TheVariants.Queue, stage.Stage.TheVariants.Buffer, world.Row.Row}
 use Rattle.calendar.specs.Waking.{wake_of}
 use Rattle.queue_link.specs.Links.{LinkView}
-use Rattle.node_move.specs.{Entries.SpaceRows, Spaces.places_in, declared.crossings.Entering.Entering}
+use Rattle.node_move.specs.{Entries.SpaceRows, Spaces.places_in, Spaces.holes_in, declared.crossings.Entering.Entering}
 use Rattle.node_seconds.specs.Networks.{is_among}
 use Rattle.part_links.specs.Links.{AreNumbered, LinksStandAt, AreAsleep}
 use Rattle.part_places.specs.Taking.{still}
@@ -136,7 +136,7 @@ pub record IsPassed (z : Counts) (S : Setup) (E : Extent) (end t n : ℕ) (V : W
 pub record IsTurn (z : Counts) (S : Setup) (E : Extent) (end t n : ℕ) (V : World) (old new : NetworkState) (first_events now_events : List Event)
     (first_said now_said : List Occurrence) (first_out out : List Entering) : Type 0 where
   pub stands : StandsForAt z S E end t new (run S t (node_turns S t n V) V)
-  pub holes : new.places.holes ≡ old.places.holes
+  pub holes : (m : ℕ) → holes_in new.places.space m ≡ holes_in old.places.space m
   pub freed : new.places.freed ≡ old.places.freed
   pub others : (m : ℕ) → m ≢ n → wake_of new.node_wakes m ≡ wake_of old.node_wakes m
   pub awaited :
@@ -151,7 +151,7 @@ pub record IsTurn (z : Counts) (S : Setup) (E : Extent) (end t n : ℕ) (V : Wor
 pub record AreTurned (z : Counts) (S : Setup) (E : Extent) (end t : ℕ) (V : World) (ns : List ℕ) (old new : NetworkState)
     (first_events now_events : List Event) (first_said now_said : List Occurrence) (first_out out : List Entering) : Type 0 where
   pub stands : StandsForAt z S E end t new (after S t (turns S t (turns_of S t phase.C) ns V) V)
-  pub holes : new.places.holes ≡ old.places.holes
+  pub holes : (m : ℕ) → holes_in new.places.space m ≡ holes_in old.places.space m
   pub freed : new.places.freed ≡ old.places.freed
   pub others : (m : ℕ) → is_among m ns ≡ false → wake_of new.node_wakes m ≡ wake_of old.node_wakes m
   pub awaited :
@@ -167,7 +167,7 @@ pub record AreTurned (z : Counts) (S : Setup) (E : Extent) (end t : ℕ) (V : Wo
 pub record IsPhaseBy (z : Counts) (S : Setup) (E : Extent) (us : List Turn) (end t : ℕ) (V : World) (old new : NetworkState)
     (first_events now_events : List Event) (first_said now_said : List Occurrence) (first_out out : List Entering) : Type 0 where
   pub stands : StandsForAt z S E end t new (after S t us V)
-  pub holes : new.places.holes ≡ old.places.holes
+  pub holes : (m : ℕ) → holes_in new.places.space m ≡ holes_in old.places.space m
   pub freed : new.places.freed ≡ old.places.freed
   pub awaited : AreAwaitedAt E.mine S end (t + 1) (t + 1) new.node_wakes (after S t us V)
   pub events : now_events ≡ first_events ++ events_in t phase.C us

@@ -1,10 +1,11 @@
 //! The turn of a node that is woken.
 
-ghost use Rattle.std.specs.Prelude.{◌≡◌, ◌+◌, ◌<◌, ◌++◌, [], ◌∷◌, true, length, map, filter, OnOk, IfOk};
+ghost use Rattle.std.specs.Prelude.{◌≡◌, ℕ, ◌+◌, ◌<◌, ◌++◌, [], ◌∷◌, true, length, map, filter, OnOk, IfOk};
 ghost use Rattle.limits.specs.declared.TheConstants.{LAST_SECOND};
 ghost use Rattle.law_in_range.specs.Setups.{counts_in, HaveFittingPlans};
 ghost use Rattle.town.specs.Views.{setup};
 ghost use Rattle.traffic.specs.{Rows.World, Setup.into};
+ghost use Rattle.node_move.specs.Spaces.{holes_in};
 ghost use Rattle.node_seconds.specs.Networks.{lane};
 ghost use Rattle.calendar.specs.Due.{AreIn};
 ghost use Rattle.part_nodes.specs.{InLinks.slots_of, Turns.IsTurnOf, Turns.lights_of, Turns.buffered_in, Turns.is_clear};
@@ -256,12 +257,13 @@ fn pass_fronts(
     requires counted { fronts.now.buffered.now ≡ map (buffered_in links.old) fronts.now.slots.now }
     requires stand { LinksStandForSome (counts_in phase.now.day.now) (setup phase.now.day.now)
         phase.now.day.now.town.now.settings.end_second phase.now.second node phase.now.link_slots.now links.old wakes.old space.old }
-    ensures { (E : Extent) (V : World) → HasLinks (setup phase.now.day.now) E phase.now.link_slots.now → E.mine node ≡ true
+    ensures passed { (E : Extent) (V : World) → HasLinks (setup phase.now.day.now) E phase.now.link_slots.now → E.mine node ≡ true
         → LinksStandFor (counts_in phase.now.day.now) (setup phase.now.day.now) E
         phase.now.day.now.town.now.settings.end_second phase.now.second links.old wakes.old space.old V
         → IfOk result (λ said. IsPassed (counts_in phase.now.day.now) (setup phase.now.day.now) E
         phase.now.day.now.town.now.settings.end_second phase.now.second node V links.new wakes.new space.new said.items
         out.old.items out.new.items) }
+    ensures holes { OnOk result ((m : ℕ) → holes_in space.new m ≡ holes_in space.old m) }
 {
     let day = phase.day;
     let second = phase.second;
@@ -292,12 +294,13 @@ fn pass_node(
     requires into { slots.now ≡ slots_of phase.now.link_slots.now (into (setup phase.now.day.now) node) }
     requires stand { LinksStandForSome (counts_in phase.now.day.now) (setup phase.now.day.now)
         phase.now.day.now.town.now.settings.end_second phase.now.second node phase.now.link_slots.now links.old wakes.old space.old }
-    ensures { (E : Extent) (V : World) → HasLinks (setup phase.now.day.now) E phase.now.link_slots.now → E.mine node ≡ true
+    ensures passed { (E : Extent) (V : World) → HasLinks (setup phase.now.day.now) E phase.now.link_slots.now → E.mine node ≡ true
         → LinksStandFor (counts_in phase.now.day.now) (setup phase.now.day.now) E
         phase.now.day.now.town.now.settings.end_second phase.now.second links.old wakes.old space.old V
         → IfOk result (λ said. IsPassed (counts_in phase.now.day.now) (setup phase.now.day.now) E
         phase.now.day.now.town.now.settings.end_second phase.now.second node V links.new wakes.new space.new said.items
         out.old.items out.new.items) }
+    ensures holes { OnOk result ((m : ℕ) → holes_in space.new m ≡ holes_in space.old m) }
 {
     let day = phase.day;
     match only_buffered(links, slots) {

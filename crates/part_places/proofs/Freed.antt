@@ -3,16 +3,16 @@ use Rattle.std.proofs.Common.{◌≡◌, ℕ, ◌+◌, ◌-◌, ◌<◌, List, r
 use Rattle.std.{proofs.lemmas.Bool.ne_eqb, proofs.lemmas.Bool.le-leb, specs.Prelude.filter, specs.Prelude.Option, specs.Prelude.Some}
 use Rattle.traffic.specs.declared.node_views.OutLink.{OutLink}
 use Rattle.calendar.specs.Due.{due_at, HasNone}
-use Rattle.node_move.specs.{Pages.number_of, Spaces.places_in}
+use Rattle.node_move.specs.{Entries.fewer, Spaces.places_in, Spaces.holes_in}
 use Rattle.part_places.{proofs.Counting.still_split, proofs.Counting.times_passed, specs.Taking.Taking, specs.Taking.AreTakenOf}
-use Rattle.part_places.specs.{Taking.IsFull, Taking.fewer, Taking.is_full, Taking.is_full_in, Taking.still, Taking.times, declared.places.Places.Places}
+use Rattle.part_places.specs.{Taking.IsFull, Taking.is_full, Taking.is_full_in, Taking.still, Taking.times, declared.places.Places.Places}
 
 unfoldable pub with_taken : ℕ → ℕ → Taking → Option OutLink
 with_taken n m T = Some (record { taken = n; storage = T.storage m; seconds = T.seconds m })
 
 pub freed_is : (begins : ℕ → Bool) (count end t : ℕ) (T : Taking) (P Q : Places) (ls : List ℕ) → t < end → ls ≡ due_at t P.freed → HasNone t P.freed Q.freed
     → ((m : ℕ) → places_in Q.space m ≡ fewer (times m ls) (places_in P.space m))
-    → ((m : ℕ) → number_of Q.holes m ≡ number_of P.holes m - times m ls)
+    → ((m : ℕ) → holes_in Q.space m ≡ holes_in P.space m - times m ls)
     → AreTakenOf begins count end t T P → AreTakenOf begins count end (t + 1) T Q
 unfolding with_taken
 freed_is begins count end t T P Q ls lt e none space holes h =

@@ -3,7 +3,7 @@ use Rattle.std.specs.{List.Contains, Prelude.◌≡◌}
 use Rattle.std.specs.Prelude.{ℕ, ◌+◌, ◌-◌, ◌<◌, ◌≤◌, Bool, true, false, List, [], ◌++◌, replicate, count_by, nat_le, ◌==◌, if◌then◌else◌, Option, None, Some}
 use Rattle.traffic.specs.{Setup.Setup, Setup.storage_of, Setup.seconds_of, declared.node_views.OutLink.OutLink}
 use Rattle.calendar.specs.Due.{due_at}
-use Rattle.node_move.specs.{Entries.SpaceRows, Pages.number_of, Spaces.places_in}
+use Rattle.node_move.specs.{Entries.SpaceRows, Spaces.places_in, Spaces.holes_in}
 use Rattle.parts.specs.Owners.{Owner, begins_in}
 use Rattle.part_places.specs.declared.places.Places.{Places}
 
@@ -31,7 +31,7 @@ places_of t T m = record { taken = T.queued m + still t (T.frees m); storage = T
 -- these seconds before the end those come free that do.
 pub record AreTakenOf (begins : ℕ → Bool) (count end t : ℕ) (T : Taking) (P : Places) : Type 0 where
   pub places : (m : ℕ) → m < count → begins m ≡ true → places_in P.space m ≡ Some (places_of t T m)
-  pub holes : (m : ℕ) → m < count → begins m ≡ true → number_of P.holes m ≡ still t (T.frees m)
+  pub holes : (m : ℕ) → m < count → begins m ≡ true → holes_in P.space m ≡ still t (T.frees m)
   pub freed : (m u : ℕ) → m < count → begins m ≡ true → t ≤ u → u < end → times m (due_at u P.freed) ≡ times u (T.frees m)
 
 -- link m has no place free, where those that were left and are free in second t or later are taken
@@ -53,11 +53,6 @@ free_place S m = record { taken = 0; storage = storage_of S m; seconds = seconds
 -- no place is taken of any of these links
 abbrev pub AreFree : Setup → List ℕ → SpaceRows → Type 0
 AreFree S links space = (m : ℕ) → Contains links m → places_in space m ≡ Some (free_place S m)
-
--- so many fewer places are taken
-abbrev pub fewer : ℕ → Option OutLink → Option OutLink
-fewer k None = None
-fewer k (Some e) = Some (record e { taken = e.taken - k })
 
 abbrev pub taken_in : Option OutLink → ℕ
 taken_in None = 0

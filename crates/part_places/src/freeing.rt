@@ -1,15 +1,14 @@
 //! Places come free.
 
-ghost use Rattle.std.specs.Prelude.{◌≡◌, ℕ, ◌+◌, ◌-◌, ◌<◌, Bool, true, ◌==◌, if◌then◌else◌, filter, OnOk};
+ghost use Rattle.std.specs.Prelude.{◌≡◌, ℕ, ◌+◌, ◌-◌, ◌<◌, Bool, true, filter, OnOk};
 ghost use Rattle.std.specs.Prelude.{IfOk};
 ghost use Rattle.calendar.specs.Due.{due_at};
-ghost use Rattle.node_move.specs.{Pages.number_of, Spaces.places_in};
-ghost use Rattle.part_places.specs.Taking.{Taking, AreTakenOf, IsFull, fewer, is_full_in, times};
+ghost use Rattle.node_move.specs.{Entries.fewer, Spaces.places_in, Spaces.holes_in};
+ghost use Rattle.part_places.specs.Taking.{Taking, AreTakenOf, IsFull, is_full_in, times};
 
 use crate::places::Places;
-use node_move::{LinkTable, Space};
+use node_move::Space;
 use std::alloc::{AllocError, Global};
-use traffic::OutLink;
 
 /// Whether a link has no place free.
 fn is_full(space: &Space, link: u32) -> bool
@@ -36,45 +35,14 @@ fn full_ones(alloc: Global, links: &[u32], space: &Space) -> Result<Vec<u32>, Al
     Ok(full)
 }
 
-/// One place of a link is taken no more.
-fn free_place(space: &mut Space, link: u32) -> Result<(), AllocError>
-    ensures { OnOk result
-        ((m : ℕ) → places_in space.new m ≡ (if m == link then fewer 1 (places_in space.old m) else places_in space.old m)) }
-{
-    if let Some(places) = space.places(link) {
-        let taken = places.taken.saturating_sub(1);
-        space.set(
-            link,
-            OutLink {
-                taken,
-                storage: places.storage,
-                seconds: places.seconds,
-            },
-        )?;
-    }
-    Ok(())
-}
-
-/// One hole of a link is over.
-fn end_hole(holes: &mut LinkTable, link: u32) -> Result<(), AllocError>
-    ensures { OnOk result
-        ((m : ℕ) → number_of holes.new m ≡ (if m == link then number_of holes.old link - 1 else number_of holes.old m)) }
-{
-    let count = holes.number(link).saturating_sub(1);
-    holes.put(link, count)?;
-    Ok(())
-}
-
 /// One place of each of these links is free, once for each time that the link stands there.
-fn free_all(links: &[u32], space: &mut Space, holes: &mut LinkTable) -> Result<(), AllocError>
-    ensures space { OnOk result ((m : ℕ) → places_in space.new m ≡ fewer (times m links.now) (places_in space.old m)) }
-    ensures holes { OnOk result ((m : ℕ) → number_of holes.new m ≡ number_of holes.old m - times m links.now) }
+fn free_all(links: &[u32], space: &mut Space)
+    ensures space { (m : ℕ) → places_in space.new m ≡ fewer (times m links.now) (places_in space.old m) }
+    ensures holes { (m : ℕ) → holes_in space.new m ≡ holes_in space.old m - times m links.now }
 {
     for link in links {
-        free_place(space, *link)?;
-        end_hole(holes, *link)?;
+        space.free_place(*link);
     }
-    Ok(())
 }
 
 impl Places {
@@ -96,7 +64,7 @@ impl Places {
         let links = self.freed.take(second)?;
         let alloc = *links.allocator();
         let full = full_ones(alloc, &links, &self.space)?;
-        free_all(&links, &mut self.space, &mut self.holes)?;
+        free_all(&links, &mut self.space);
         Ok(full)
     }
 }

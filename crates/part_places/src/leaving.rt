@@ -3,12 +3,12 @@
 ghost use Rattle.std.specs.Prelude.{◌≡◌, ℕ, ◌+◌, ◌-◌, ◌<◌, ◌≤◌, Bool, true, ◌++◌, [], ◌==◌};
 ghost use Rattle.std.specs.Prelude.{if◌then◌else◌, replicate, OnOk};
 ghost use Rattle.calendar.specs.Due.{due_at};
-ghost use Rattle.node_move.specs.{Pages.number_of, Spaces.places_in};
+ghost use Rattle.node_move.specs.{Entries.holes_put, Spaces.places_in, Spaces.holes_in};
 ghost use Rattle.part_places.specs.Taking.{Taking, AreTakenOf, taken_in, later};
 
 use crate::places::Places;
 use calendar::Calendar;
-use node_move::{LinkTable, Space};
+use node_move::Space;
 use std::alloc::AllocError;
 
 /// A link whose queue vehicles left in a second, and what is in it behind them.
@@ -59,10 +59,10 @@ fn add_freed(
 }
 
 /// How many holes a link has.
-fn holes_of(holes: &LinkTable, link: u32) -> u64
-    ensures { result ≡ number_of holes.now link }
+fn holes_of(space: &Space, link: u32) -> u64
+    ensures { result ≡ holes_in space.now link }
 {
-    u64::from(holes.number(link))
+    u64::from(space.holes(link))
 }
 
 /// How many places of a link are taken.
@@ -77,13 +77,15 @@ fn taken_in(space: &Space, link: u32) -> u64
 
 /// A link has so many holes now. It lets some millions of vehicles pass in the longest day: where no number counts its holes, there is
 /// no memory for them.
-fn put_holes(holes: &mut LinkTable, link: u32, count: u64) -> Result<(), AllocError>
-    ensures { OnOk result ((m : ℕ) → number_of holes.new m ≡ (if m == link then count else number_of holes.old m)) }
+fn put_holes(space: &mut Space, link: u32, count: u64) -> Result<(), AllocError>
+    ensures places { OnOk result ((m : ℕ) → places_in space.new m ≡ places_in space.old m) }
+    ensures holes { OnOk result ((m : ℕ) → holes_in space.new m
+        ≡ (if m == link then holes_put count (places_in space.old m) else holes_in space.old m)) }
 {
     let Ok(count) = u32::try_from(count) else {
         return Err(AllocError);
     };
-    holes.put(link, count)?;
+    space.set_holes(link, count);
     Ok(())
 }
 
@@ -102,10 +104,10 @@ impl Places {
             → OnOk result (AreTakenOf begins count end t
             (later freed.link (T.queued freed.link - freed.count) (freed.second + freed.hole_seconds) T) self.new) }
     {
-        let holes = holes_of(&self.holes, freed.link);
+        let holes = holes_of(&self.space, freed.link);
         let queued = taken_in(&self.space, freed.link).saturating_sub(holes);
         let vehicles = queued - queued.saturating_sub(freed.count);
-        put_holes(&mut self.holes, freed.link, holes + vehicles)?;
+        put_holes(&mut self.space, freed.link, holes + vehicles)?;
         let second = u64::from(freed.second) + u64::from(freed.hole_seconds);
         add_freed(&mut self.freed, end, second, freed.link, vehicles)?;
         Ok(())
@@ -123,7 +125,7 @@ impl Places {
             → OnOk result (AreTakenOf begins count end t
             (later after.link after.queued (after.second + after.hole_seconds) T) self.new) }
     {
-        let holes = holes_of(&self.holes, after.link);
+        let holes = holes_of(&self.space, after.link);
         let queued = taken_in(&self.space, after.link).saturating_sub(holes);
         let freed = FreedLater {
             second: after.second,

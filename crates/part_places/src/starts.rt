@@ -5,11 +5,12 @@ ghost use Rattle.std.specs.{Prelude.IfOk};
 ghost use Rattle.calendar.specs.Due.{AreIn};
 ghost use Rattle.partition.specs.Owned.{owner_in};
 ghost use Rattle.town.specs.Views.{setup};
+ghost use Rattle.node_move.specs.Spaces.{holes_in};
 ghost use Rattle.part_places.specs.Taking.{AreFree, AreTakenOf, begins_here, empty, free_place};
 
 use crate::places::Places;
 use calendar::Calendar;
-use node_move::{LinkTable, Space};
+use node_move::Space;
 use partition::{Owner, owner_of_node};
 use person_moves::link_row;
 use queue_link::numbers_of;
@@ -44,7 +45,8 @@ pub fn begins_here(day: &DayInput, owner: &Owner, partition: u32, link: u32) -> 
 /// No place is taken of any of these links.
 fn free_space(alloc: Global, day: &DayInput, links: &[u32]) -> Result<Space, AllocError>
     requires { AreIn (length day.now.town.now.network.links) links.now }
-    ensures { IfOk result (AreFree (setup day.now) links.now) }
+    ensures free { IfOk result (AreFree (setup day.now) links.now) }
+    ensures holes { IfOk result (λ space. (m : ℕ) → holes_in space m ≡ 0) }
 {
     let mut space = Space::new(alloc);
     for link in links {
@@ -58,7 +60,7 @@ impl Places {
     /// The places of the links of a day that begin in a part, at the start of the day: none is taken. `starts` are these links.
     ///
     /// No other link is looked at. Of links it takes memory for these, for those beside them, and for one place for each 64 links up to the
-    /// last one of these (`node_move: LinkTable`).
+    /// last one of these (`node_move: Space`).
     ///
     /// # Errors
     ///
@@ -72,7 +74,6 @@ impl Places {
         let space = free_space(alloc, day, starts)?;
         Ok(Places {
             space,
-            holes: LinkTable::new(alloc),
             freed: Calendar::new(alloc),
         })
     }

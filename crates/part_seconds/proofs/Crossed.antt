@@ -11,7 +11,7 @@ use Rattle.law_own_worlds.specs.Days.{my_node_turns}
 use Rattle.law_own_seconds.specs.Seconds.{held_early, held_crossed, world_early, world_crossed}
 use Rattle.law_parts_of_days.{proofs.Awaited.starts_length, proofs.Hearing.heard_stand, specs.Settling.wake_starts}
 use Rattle.link_seconds.specs.Seconds.{HaveLines, AreShort}
-use Rattle.node_move.specs.{Pages.number_of, declared.crossings.Entering.Entering}
+use Rattle.node_move.specs.declared.crossings.Entering.{Entering}
 use Rattle.part_links.specs.Links.{LinesStandAt}
 use Rattle.part_nodes.proofs.Held.{before_is}
 use Rattle.part_nodes.specs.{Phase.StandsForAt, Phase.AreAwaitedAt, Phase.IsPhaseAt, declared.network.NetworkState.NetworkState}
@@ -121,7 +121,7 @@ module _ (day : DayInput) (own : Owner) (parts p t : ℕ) (slots : List ℕ) (gi
             g.stands.links.places m lt b
             ∙ ap (λ (n : ℕ). place n (storage_of S m) (seconds_of S m)) (sym (taken_crossed m lt (eqb-true (begins_in S own m) p b)));
         holes = λ m lt b.
-            ap (λ (hs : List (List ℕ)). number_of hs m) g.holes ∙ taken.holes m lt b ∙ ap (λ (fs : List ℕ). still (t + 1) fs) (frees_stay m);
+            g.holes m ∙ taken.holes m lt b ∙ ap (λ (fs : List ℕ). still (t + 1) fs) (frees_stay m);
         freed = λ m u lt b from to.
             ap (λ (c : Due). times m (due_at u c)) g.freed ∙ taken.freed m u lt b from to ∙ ap (λ (fs : List ℕ). times u fs) (frees_stay m);
       };

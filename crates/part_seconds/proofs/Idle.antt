@@ -13,7 +13,7 @@ use Rattle.law_own_seconds.specs.Seconds.{held_early, held_crossed, held_driven,
 use Rattle.law_parts_of_days.specs.Settling.{wake_starts, wake_ends}
 use Rattle.parts.specs.{Owners.Owner, Parts.ready}
 use Rattle.queue_link.specs.Links.{LinkView}
-use Rattle.node_move.specs.{Pages.number_of, Spaces.places_in}
+use Rattle.node_move.specs.{Entries.fewer, Spaces.places_in, Spaces.holes_in}
 use Rattle.node_seconds.specs.Networks.{is_among}
 use Rattle.part_lines.specs.Coming.{joined_lines}
 use Rattle.part_links.{proofs.Standing.none_turned, proofs.Whole.phase_is, specs.Phase.IsPhaseBy}
@@ -21,7 +21,7 @@ use Rattle.part_nodes.proofs.Skipped.{turned_none, all_turned}
 use Rattle.part_nodes.specs.{Phase.IsPhaseAt, Phase.entering_of, declared.network.NetworkState.NetworkState}
 use Rattle.part_persons.specs.Own.{own_departures}
 use Rattle.part_persons.proofs.Early.{Early, early_by, StartedAmong, started_own, as_many, taken_followed}
-use Rattle.part_places.{proofs.Freed.freed_is, proofs.Freed.full_is, specs.Taking.begins_here, specs.Taking.fewer, specs.Taking.times}
+use Rattle.part_places.{proofs.Freed.freed_is, proofs.Freed.full_is, specs.Taking.begins_here, specs.Taking.times}
 use Rattle.divided_day.specs.Slots.{link_in, slot_count, AreSlots}
 use Rattle.part_seconds.proofs.{Crossed.Begins, Crossed.begins, Driven.Follows, Driven.follows, Driven.turned, Early.set_out_stands, Looking.ascending}
 use Rattle.part_seconds.proofs.{Looking.stays, Names.in_second, SettingOut.HasSetOut, SettingOut.told_is}
@@ -111,7 +111,7 @@ module _ (day : DayInput) (own : Owner) (parts p t : ℕ) (slots : List ℕ) (gi
       begins day own parts p t slots given shares are A early_stands N.places [] N.node_wakes
       (freed_is begins_so (length S.links) end t T N.places N.places [] in_day (sym idle.places) (none_taken t N.places.freed idle.places)
       (λ m. none_fewer (places_in N.places.space m))
-      (λ m. (let z : number_of N.places.holes m ≡ number_of N.places.holes m - 0 = omega arith in z))
+      (λ m. (let z : holes_in N.places.space m ≡ holes_in N.places.space m - 0 = omega arith in z))
       early_stands.network.places)
       refl
       (full_is begins_so (length S.links) end t T N.places [] [] in_day (sym idle.places) refl early_stands.network.places)
@@ -119,7 +119,7 @@ module _ (day : DayInput) (own : Owner) (parts p t : ℕ) (slots : List ℕ) (gi
   crossed_is : IsPhaseAt (counts_in day) S (extent_of S own p) end t (world_early S own p t) N N [] [] [] [] [] []
   crossed_is =
       all_turned (counts_in day) S (extent_of S own p) end t (world_early S own p t) [] N N N [] [] [] [] [] [] in_day crossing.stands
-      crossing.awaited (sym idle.nodes) (none_sleep t 0 N.node_wakes idle.nodes) refl refl
+      crossing.awaited (sym idle.nodes) (none_sleep t 0 N.node_wakes idle.nodes) (λ m. refl) refl
       (turned_none (counts_in day) S (extent_of S own p) end t (world_early S own p t) N [] [] [] crossing.stands)
 
   crossed_stands : AreaStands day own p (t + 1) (t + 1) t A (held_crossed S own p t) (world_crossed S own p t)

@@ -27,14 +27,16 @@ pub struct Area {
 
 impl Area {
     /// Whether it is seen at once that nobody has anything to do in a second: nobody is woken in it, no departure starts, and no place
-    /// comes free.
+    /// comes free. All five calendars are looked at first: where somebody has something to do, each of them is needed, and so their lines
+    /// come from memory at once and not one after the other.
     pub fn rests(&self, second: u32) -> bool
         ensures { result ≡ true → IsAtRest second self.now }
     {
-        self.network.link_wakes.is_quiet(second)
-            && self.network.node_wakes.is_quiet(second)
-            && self.persons.wakes.is_quiet(second)
-            && self.departures.is_quiet(second)
-            && self.network.places.freed.is_quiet(second)
+        let links = self.network.link_wakes.is_quiet(second);
+        let nodes = self.network.node_wakes.is_quiet(second);
+        let persons = self.persons.wakes.is_quiet(second);
+        let departures = self.departures.is_quiet(second);
+        let places = self.network.places.freed.is_quiet(second);
+        links && nodes && persons && departures && places
     }
 }

@@ -3,7 +3,7 @@
 ghost use Rattle.std.specs.Prelude.{◌≡◌, ◌<◌, length, IfOk};
 
 use calendar::{Calendar, Wakes};
-use node_move::{LinkTable, Space};
+use node_move::Space;
 use part_persons::Persons;
 use part_places::{FreedLater, Places};
 use person_moves::{LinkCredits, World};
@@ -30,7 +30,6 @@ fn full_link(alloc: Global) -> Result<Places, AllocError> {
     space.set(LINK, FULL)?;
     Ok(Places {
         space,
-        holes: LinkTable::new(alloc),
         freed: Calendar::new(alloc),
     })
 }
@@ -79,7 +78,7 @@ fn none_comes_free(places: &mut Places) -> bool {
 /// Whether no other link has a place.
 fn others_have_none(places: &Places) -> bool {
     for link in &OTHERS {
-        if places.space.taken(*link).is_some() || places.holes.number(*link) > 0 {
+        if places.space.taken(*link).is_some() || places.space.holes(*link) > 0 {
             return false;
         }
     }
@@ -98,7 +97,7 @@ fn places_come_free_in_time(alloc: Global) -> bool {
     place_comes_free(&mut one)
         && all_come_free(&mut all)
         && none_comes_free(&mut none)
-        && none.holes.number(LINK) == 1
+        && none.space.holes(LINK) == 1
         && others_have_none(&none)
 }
 

@@ -19,10 +19,11 @@ fronts-preserved-in-Continue-branch-2 c = record {
       c.may_enter.result c.fronts.crossings.entering.items c.enter.new.self.entering.items c.fronts.crossings.removed.items
       c.enter.new.self.removed.items c.fronts.said.items c.enter.new.said.items c.in-Some.ensures c.take_front-row.ensures.front
       c.next_link-next.ensures c.places-places.ensures c.may_enter.ensures c.if-may_enter.true c.has_room.ensures c.take_front-row.ensures.rest
-      c.in_ok-take_place.ensures c.in_ok-enter.ensures.entering (ap (λ v. v.items) c.in_ok-enter.ensures.removed) c.in_ok-enter.ensures.told;
+      c.in_ok-take_place.ensures.places c.in_ok-enter.ensures.entering (ap (λ v. v.items) c.in_ok-enter.ensures.removed) c.in_ok-enter.ensures.told;
   ready =
       subst (λ (x : LinkView). HaveNext x.lists.buffer) (sym c.take_front-row.ensures.rest)
       (behind_next c.args.turn.now.second c.fronts.in_link.lists.buffer c.fronts.invariant.ready);
+  holes = λ m. c.in_ok-take_place.ensures.holes m ∙ c.fronts.invariant.holes m;
 }
 
 pub fronts-preserved : goal.fronts-preserved
@@ -40,6 +41,7 @@ fronts-preserved c =
       ready =
           subst (λ (x : LinkView). HaveNext x.lists.buffer) (sym taken.ensures.rest)
           (behind_next c.args.turn.now.second c.fronts.in_link.lists.buffer c.fronts.invariant.ready);
+      holes = c.fronts.invariant.holes;
     }
 
 pub returns-else-is_stuck-clause-run : goal.returns-else-is_stuck-clause-run

@@ -7,8 +7,8 @@ use Rattle.node_move.proofs.Places.{number_at, number_within, places_without, le
 use Rattle.node_move.specs.{NodeStates.node_state, NodeStates.node_run, NodeStates.seen, NodeStates.ArePlaces, NodeStates.HaveWeights, Spaces.places_in}
 use Rattle.node_move.proofs.drawings.draw.Goals as goal
 
-pub returns-in-Nobody : goal.returns-in-Nobody
-returns-in-Nobody c =
+pub returns-in-Nobody-clause-run : goal.returns-in-Nobody-clause-run
+returns-in-Nobody-clause-run c =
     let t = c.args.turn.now in
     let N = node_state c.args.in_links.now (places_in c.args.space.now) c.args.crossings.now.entering.items c.args.crossings.now.removed.items c.args.said.now.items in
     let g = rw c.deref.ensures.value at c.in-Nobody.ensures.moves in
@@ -24,8 +24,8 @@ pass_at-requires-clause-within c =
     number_within (length c.picks.in_links) c.picks.left.places.items c.in-Only.k c.index.result.now c.picks.invariant.places lt
     (number_at c.picks.left.places.items c.in-Only.k c.index.result.now lt c.index.ensures)
 
-pub returns-in-Only : goal.returns-in-Only
-returns-in-Only c =
+pub returns-in-Only-clause-run : goal.returns-in-Only-clause-run
+returns-in-Only-clause-run c =
     let t = c.args.turn.now in
     let N = node_state c.args.in_links.now (places_in c.args.space.now) c.args.crossings.now.entering.items c.args.crossings.now.removed.items c.args.said.now.items in
     let g = rw c.deref.ensures.value at c.in-Only.ensures.moves in
@@ -37,6 +37,9 @@ returns-in-Only c =
     (places_in c.picks.space) (node_state c.picks.in_links (places_in c.picks.space) c.picks.crossings.entering.items c.picks.crossings.removed.items c.picks.said.items)
     (node_state c.pass_at.new.in_links (places_in c.pass_at.new.space) c.pass_at.new.crossings.entering.items c.pass_at.new.crossings.removed.items c.pass_at.new.said.items) g lt (number_at c.picks.left.places.items c.in-Only.k c.index.result.now lt c.index.ensures)
     c.in_ok-pass_at-in-Only.ensures.run)
+
+pub returns-in-Only-clause-holes : goal.returns-in-Only-clause-holes
+returns-in-Only-clause-holes c = λ m. c.in_ok-pass_at-in-Only.ensures.holes m ∙ c.picks.invariant.holes m
 
 pub take-place-requires-clause-some : goal.take-place-requires-clause-some
 take-place-requires-clause-some c =
@@ -105,5 +108,6 @@ picks-preserved c =
       some = subst (λ (es : List InLink). HaveWeights es) (sym left) (have_without k (seen vs ks) i.some);
       ready = passed.ready;
       apart = passed.apart;
+      holes = λ m. passed.holes m ∙ i.holes m;
       count = omega (arith, i.count, e, n);
     }

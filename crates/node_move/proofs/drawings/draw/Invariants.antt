@@ -1,7 +1,7 @@
-use Rattle.std.{proofs.Common.◌≡◌, proofs.Common.◌+◌, proofs.Common.length, specs.Prelude.map}
+use Rattle.std.{proofs.Common.◌≡◌, proofs.Common.ℕ, proofs.Common.◌+◌, proofs.Common.length, specs.Prelude.map}
 use Rattle.draws.specs.Words.{word}
 use Rattle.law_sleeping.specs.Able.{able_now, draw_lazily}
-use Rattle.node_move.specs.Spaces.{places_in}
+use Rattle.node_move.specs.Spaces.{places_in, holes_in}
 use Rattle.node_move.specs.NodeStates.{node_state, node_run, seen, ArePlaces, AreReady, AreApart, HaveWeights}
 use Rattle.traffic.specs.Nodes.{weight_of}
 use Rattle.node_move.proofs.drawings.draw.Given as goal
@@ -20,6 +20,7 @@ invariant-picks l = record {
   some : HaveWeights (seen l.in_links l.left.places.items);
   ready : AreReady l.in_links;
   apart : AreApart l.in_links;
+  holes : (m : ℕ) → holes_in l.space m ≡ holes_in l.initial.space m;
   count : l.number + length l.left.places.items ≡ length l.initial.left.places.items;
 }
 

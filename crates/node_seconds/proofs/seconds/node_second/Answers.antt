@@ -18,6 +18,6 @@ returns c =
     several_turned c.args.turn.now c.in_ok-taken.taken.len c.args.links.now c.take_links.new.links c.put_links.new.links c.deref_mut.result.now
     c.move_node.new.in_links _ c.args.into.now c.args.greens.now c.args.space.now c.move_node.new.space _ c.move_node.new.crossings.entering.items
     c.entering_of.result.items _ _ c.args.said.now.items c.move_node.new.said.items (c.deref_mut.ensures.value ∙ c.in_ok-taken.ensures.taken)
-    c.in_ok-taken.ensures.count c.in_ok-taken.ensures.others c.in_ok-move_node.ensures
+    c.in_ok-taken.ensures.count c.in_ok-taken.ensures.others c.in_ok-move_node.ensures.run
     (omega (arith, c.move_node.auto.in_links, c.deref_mut.ensures.len)) c.put_links.ensures c.no_crossings-crossings.ensures.entering
-    (ap (λ v. v.items) c.entering_of.ensures)
+    (ap (λ v. v.items) c.entering_of.ensures) c.in_ok-move_node.ensures.holes

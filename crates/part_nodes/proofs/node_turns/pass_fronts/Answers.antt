@@ -77,8 +77,8 @@ enter_links-requires-clause-wakes c =
     ap length c.in_ok-wake_all_emptied.ensures ∙ emptied_length c.args.phase.now.second c.args.fronts.now.buffered.now c.node_second.new.links c.args.wakes.now
     ∙ c.requires.stand.links_stand.asleep.count ∙ sym c.node_second.auto.links
 
-pub returns : goal.returns
-returns c = λ E V has own h.
+pub returns-clause-passed : goal.returns-clause-passed
+returns-clause-passed c = λ E V has own h.
     let day = c.args.phase.now.day.now in
     passed_on (counts_in day) (setup day) E day.town.now.settings.end_second c.args.phase.now.second c.args.node V c.args.phase.now.link_slots.now
     c.args.links.now c.args.wakes.now c.args.space.now c.turn_of-turn.result c.args.fronts.now.slots.now c.args.fronts.now.greens.now
@@ -87,3 +87,6 @@ returns c = λ E V has own h.
     c.enter_links.new.out.items has own c.requires.in_day (town_fit day (chosen_fit day c.requires.given)) c.turn_of-turn.ensures
     c.requires.into c.requires.lit c.requires.counted c.node_second.auto.links c.new-said.ensures.items c.in_ok-entering.ensures
     c.in_ok-wake_all_emptied.ensures c.in_ok-enter_links.ensures.links c.in_ok-enter_links.ensures.wakes c.in_ok-enter_links.ensures.out h
+
+pub returns-clause-holes : goal.returns-clause-holes
+returns-clause-holes c = c.in_ok-entering.ensures.holes

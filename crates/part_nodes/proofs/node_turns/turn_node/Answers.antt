@@ -47,7 +47,7 @@ wake_again-requires-clause-known c =
     let is : c.deref.result.now ≡ c.pass_node.new.links = c.deref.ensures.value ∙ with_items_is links c.pass_node.new.links long in
     let stand = subst (λ (xs : List LinkView). LinksStandFor (counts_in day) (setup day) r.extent day.town.now.settings.end_second
     c.args.phase.now.second xs N.link_wakes N.places.space r.world) (sym c.deref_mut.ensures.value) r.stands.links in
-    let p = c.in_ok-said.ensures r.extent r.world r.has r.own.0 stand in
+    let p = c.in_ok-said.ensures.passed r.extent r.world r.has r.own.0 stand in
     subst (HaveNumbersIn (length day.town.now.network.links)) (sym is)
     (town_numbers day r.extent c.args.phase.now.second c.args.phase.now.link_slots.now c.pass_node.new.links _ r.has p.stand.stand)
 
@@ -72,7 +72,8 @@ returns c = λ E V has own h.
     turned (counts_in day) (setup day) E day.town.now.settings.end_second c.args.phase.now.second c.args.node V c.args.phase.now.link_slots.now N new
     c.args.slots.now c.deref.result.now c.pass_node.new.links day.town.now.settings.stuck (always_in day.town.now.greens) first
     c.append.new.self.events.items spoken c.append.new.self.said.items now c.args.out.now.items c.pass_node.new.out.items has own
-    (c.in_ok-said.ensures E V has own stand) h.nodes h.only c.requires.there c.requires.into is seen refl refl c.requires.in_day
+    (c.in_ok-said.ensures.passed E V has own stand) h.nodes h.only c.requires.there c.requires.into is seen c.in_ok-said.ensures.holes refl
+    c.requires.in_day
     (stuck_of day) (green_of day) c.in_ok-wake_again.ensures
     (c.in_ok-append.ensures.events
     ∙ ap (λ (xs : List Occurrence). first ++ keyed c.args.phase.now.second (phase_code phase.C) c.args.node 0 xs) c.deref-2.ensures.value)

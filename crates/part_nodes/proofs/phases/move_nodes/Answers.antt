@@ -44,4 +44,4 @@ returns c = λ E V has h awaited.
     let own = woken_mine E t S.nodes N.node_wakes _ h.nodes h.only (c.deref.ensures.value ∙ c.in_ok-numbers.ensures.woken) in
     all_turned z S E end t V c.deref.result.now N M c.turn_nodes.new.network c.args.told.now.events.items c.turn_nodes.new.told.events.items
     c.args.told.now.said.items c.turn_nodes.new.told.said.items c.args.out.now.items c.turn_nodes.new.out.items c.requires.in_day h awaited
-    (c.deref.ensures.value ∙ c.in_ok-numbers.ensures.woken) c.in_ok-numbers.ensures.slept refl refl (c.in_ok-turn_nodes.ensures E V has own stands)
+    (c.deref.ensures.value ∙ c.in_ok-numbers.ensures.woken) c.in_ok-numbers.ensures.slept (λ m. refl) refl (c.in_ok-turn_nodes.ensures E V has own stands)

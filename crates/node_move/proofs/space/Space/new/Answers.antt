@@ -1,6 +1,15 @@
 use Rattle.std.proofs.Common.{ap, List, length, arith}
-use Rattle.node_move.{proofs.Entries.none_there, specs.declared.space.Entry.Entry}
+use Rattle.std.specs.Prelude.{None}
+use Rattle.node_move.proofs.Entries.{none_there, places_are, holes_are}
+use Rattle.node_move.specs.{Entries.rows_of, declared.space.Entry.Entry}
 use Rattle.node_move.proofs.space.Space.new.Goals as goal
 
-pub returns : goal.returns
-returns c = λ m. none_there c.new.result c.new-2.result.items m (let n = ap (λ (es : List Entry). length es) c.new-2.ensures.items in omega arith)
+pub returns-clause-places : goal.returns-clause-places
+returns-clause-places c = λ m.
+    let n = ap (λ (es : List Entry). length es) c.new-2.ensures.items in
+    places_are (rows_of c.new.result c.new-2.result.items) m None (none_there c.new.result c.new-2.result.items m (omega arith))
+
+pub returns-clause-holes : goal.returns-clause-holes
+returns-clause-holes c = λ m.
+    let n = ap (λ (es : List Entry). length es) c.new-2.ensures.items in
+    holes_are (rows_of c.new.result c.new-2.result.items) m None (none_there c.new.result c.new-2.result.items m (omega arith))

@@ -1,7 +1,7 @@
 use Rattle.std.{proofs.Common.ℕ, proofs.Common.◌-◌, proofs.Common.List, proofs.Common.ap, proofs.Common.◌∙◌, specs.Prelude.filter}
-use Rattle.node_move.specs.{Pages.number_of, Spaces.places_in}
+use Rattle.node_move.specs.{Entries.fewer, Spaces.places_in, Spaces.holes_in}
 use Rattle.part_places.proofs.Freed.{freed_is, full_is}
-use Rattle.part_places.specs.{Taking.fewer, Taking.is_full_in, Taking.times, declared.places.Places.Places}
+use Rattle.part_places.specs.{Taking.is_full_in, Taking.times, declared.places.Places.Places}
 use Rattle.part_places.proofs.places.Places.free.Goals as goal
 
 pub returns-clause-places : goal.returns-clause-places
@@ -9,13 +9,12 @@ returns-clause-places c = λ begins count end T lt h.
     let was = c.args.self.now in
     let now : Places = record {
       space = c.free_all.new.space;
-      holes = c.free_all.new.holes;
       freed = c.take.new.self;
     } in
     let d = c.deref-2.ensures.value in
     freed_is begins count end c.args.second T was now c.in_ok-links.links.items lt c.in_ok-links.ensures.due c.in_ok-links.ensures.rest
-    (λ m. c.in_ok-free_all.ensures.space m ∙ ap (λ (ns : List ℕ). fewer (times m ns) (places_in was.space m)) d)
-    (λ m. c.in_ok-free_all.ensures.holes m ∙ ap (λ (ns : List ℕ). number_of was.holes m - times m ns) d) h
+    (λ m. c.free_all.ensures.space m ∙ ap (λ (ns : List ℕ). fewer (times m ns) (places_in was.space m)) d)
+    (λ m. c.free_all.ensures.holes m ∙ ap (λ (ns : List ℕ). holes_in was.space m - times m ns) d) h
 
 pub returns-clause-full : goal.returns-clause-full
 returns-clause-full c = λ begins count end T lt h.

@@ -4,4 +4,4 @@ use Rattle.part_places.proofs.places.Places.new.Goals as goal
 
 pub returns : goal.returns
 returns c = λ begins end among.
-    none_taken (setup c.args.day.now) c.args.starts.now begins end _ c.in_ok-space.ensures c.new.ensures c.new-2.ensures among
+    none_taken (setup c.args.day.now) c.args.starts.now begins end _ c.in_ok-space.ensures.free c.in_ok-space.ensures.holes c.new.ensures among

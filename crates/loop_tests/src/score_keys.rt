@@ -6,6 +6,7 @@ use crate::scored_days::{
 use crate::scores::score;
 use edge_files::{Reason, RowStop};
 use events::{Name, Names};
+use limits::LAST_SECOND;
 use scoring::Tables;
 use settings::{by_number, read_settings};
 use std::alloc::Global;
@@ -22,14 +23,13 @@ fn is_read(alloc: Global, text: &str) -> bool {
     read_settings(alloc, text.as_bytes()).is_ok()
 }
 
-static READ: [&str; 9] = [
+static READ: [&str; 8] = [
     "{\"stuck\":1,\"stuck\":0}",
     "{\"late_per_second\":0,\"stuck\":0}",
     "{\"late_per_second\":-1000000,\"stuck\":-1000000000000}",
     "{\"modes\":{},\"tables\":[]}",
     "{\"modes\":{\"car\":{\"constant\":1000000000000,\"per_second\":-1000000},\"pt\":{}}}",
     "{\"modes\":{\"walk\":{\"constant\":-1000000000000,\"per_second\":1000000}}}",
-    "{\"tables\":[{\"points\":[[1000000,-1000000000000]],\"latest\":172800,\"kind\":\"home\"}]}",
     "{\"tables\":[{\"kind\":\"home\",\"points\":[[0,0]]},{\"kind\":\"Home\",\"points\":[[0,0]]}]}",
     "{\"tables\":[{\"kind\":\"home\",\"kind\":\"work\",\"points\":[[0,0]]},{\"kind\":\"home\",\"points\":[[0,0]]}]}",
 ];
@@ -185,9 +185,22 @@ fn first_misread(alloc: Global) -> Option<&'static str> {
     None
 }
 
+/// A table of which the activity is late behind the last second, with a point at the limits.
+fn latest_text(alloc: Global) -> String {
+    let mut text = String::new(alloc);
+    let _ = write!(
+        text,
+        "{{\"tables\":[{{\"points\":[[1000000,-1000000000000]],"
+    );
+    let _ = write!(text, "\"latest\":{LAST_SECOND},\"kind\":\"home\"}}]}}");
+    text
+}
+
 #[test]
 fn texts_that_are_read(rt: HostRuntime) {
-    assert_eq!(rt; first_refused(rt.alloc()), None);
+    let alloc = rt.alloc();
+    assert_eq!(rt; first_refused(alloc), None);
+    assert!(rt; is_read(alloc, latest_text(alloc).as_str()));
 }
 
 #[test]

@@ -2,8 +2,9 @@
 
 use crate::files::names_of;
 use events::{Book, Names};
+use limits::LAST_SECOND;
 use plan_text::{read_body, write_plan};
-use std::alloc::Global;
+use std::alloc::{AllocError, Global};
 
 fn book_of(alloc: Global) -> Book {
     Book {
@@ -32,13 +33,30 @@ fn is_written_back(alloc: Global, book: &Book, text: &str) -> bool {
         && out.get(7..) == Some(text.as_bytes())
 }
 
-/// Texts of plan 2 of the second person: with no leg, a drive, and a drive on an empty route, a ride and a leg by bike.
-static PLANS: [&str; 3] = [
+/// Texts of plan 2 of the second person: with no leg, and a drive.
+static PLANS: [&str; 2] = [
     "p1,2,act,home,L1,,\n",
     "p1,2,act,home,L1,0,\np1,2,leg,car,,,L1 L2 L3\np1,2,act,work,L3,,\n",
-    "p1,2,act,home,L1,172800,\np1,2,leg,car,,,\np1,2,act,work,L2,7,\np1,2,leg,pt,,,b s2 s1\n\
-     p1,2,act,home,L1,60,\np1,2,leg,bike,,1,\np1,2,act,home,L1,,\n",
 ];
+
+/// The same with a drive on an empty route from the last second on, a ride and a leg by bike.
+fn three_legs(alloc: Global) -> Result<String, AllocError> {
+    let last = LAST_SECOND;
+    format!(in alloc;
+        "p1,2,act,home,L1,{last},\np1,2,leg,car,,,\np1,2,act,work,L2,7,\np1,2,leg,pt,,,b s2 s1\n\
+        p1,2,act,home,L1,60,\np1,2,leg,bike,,1,\np1,2,act,home,L1,,\n"
+    )
+}
+
+fn are_three_legs_written_back(alloc: Global) -> bool {
+    let book = book_of(alloc);
+    let are_written_back = match three_legs(alloc) {
+        Ok(text) => is_written_back(alloc, &book, text.as_str()),
+        Err(_) => false,
+    };
+    let_go(book);
+    are_written_back
+}
 
 /// The first of these texts that is not written back.
 fn first_lost(alloc: Global) -> Option<&'static str> {
@@ -56,6 +74,7 @@ fn first_lost(alloc: Global) -> Option<&'static str> {
 #[test]
 fn plans_are_written_and_read(rt: HostRuntime) {
     assert_eq!(rt; first_lost(rt.alloc()), None);
+    assert!(rt; are_three_legs_written_back(rt.alloc()));
 }
 
 /// Texts that `write_plan` writes of no plan 2 of the second person: they are cut, of another person or plan, name what is not there,

@@ -67,6 +67,24 @@ fn bytes_and_sound_files(rt: HostRuntime) {
     assert_eq!(rt; first_unread(alloc, PLANS, header_of(PLANS), &SOUND), None);
 }
 
+/// A plan with the last second as the end of each activity and as the seconds of its leg.
+fn to_the_last_second(alloc: Global) -> Result<String, AllocError> {
+    let last = LAST_SECOND;
+    format!(in alloc;
+        "p1,0,act,home,L1,{last},\np1,0,leg,walk,,{last},\np1,0,act,work,L2,{last},\n"
+    )
+}
+
+#[test]
+fn the_last_second_is_read(rt: HostRuntime) {
+    let alloc = rt.alloc();
+    let is_read = match to_the_last_second(alloc) {
+        Ok(rows) => are_read(alloc, PLANS, rows.as_bytes()),
+        Err(_) => false,
+    };
+    assert!(rt; is_read);
+}
+
 fn filled(alloc: Global, head: &str) -> Result<Vec<u8>, AllocError> {
     let block = [b'\n'; 4096];
     let mut text = Vec::with_capacity(alloc, (1 << 28) + 4096)?;
@@ -269,29 +287,35 @@ fn has_plans(file: &PlanFile) -> bool {
     is_there_and_back(there) && is_by_line(line) && is_by_bike(bike)
 }
 
-static TEXT: &str = "\u{feff}person,plan,kind,name,link,time,route\r\n\
-    \"p1\",0,act,home,L1,00100,\n\
-    p1,00,leg,car,,,L1 L2\n\
-    p1,0,act,work,L2,172800,\n\
-    \n\
-    p1,0,leg,car,,,\n\
-    p1,0,act,home,L1,7,\n\
-    p1,1,act,home,L1,5,\n\
-    p1,1,leg,pt,,,b s3 s1\n\
-    p1,1,act,shop,L3,,\n\
-    p2,0,act,work,L2,0,\n\
-    p2,0,leg,bike,,60,\n\
-    p2,0,act,home,O,,\n";
+/// Two persons, of which the first has two plans; the second activity of the first one ends in the last second.
+fn two_persons(alloc: Global) -> Result<String, AllocError> {
+    let last = LAST_SECOND;
+    format!(in alloc;
+        "\u{feff}person,plan,kind,name,link,time,route\r\n\
+        \"p1\",0,act,home,L1,00100,\n\
+        p1,00,leg,car,,,L1 L2\n\
+        p1,0,act,work,L2,{last},\n\
+        \n\
+        p1,0,leg,car,,,\n\
+        p1,0,act,home,L1,7,\n\
+        p1,1,act,home,L1,5,\n\
+        p1,1,leg,pt,,,b s3 s1\n\
+        p1,1,act,shop,L3,,\n\
+        p2,0,act,work,L2,0,\n\
+        p2,0,leg,bike,,60,\n\
+        p2,0,act,home,O,,\n"
+    )
+}
 
 fn is_file(file: &PlanFile) -> bool {
     has_names(file) && file.starts.rows.as_slice() == [1, 6, 9].as_slice() && has_plans(file)
 }
 
 /// Whether the whole file gives what it says.
-fn is_given(alloc: Global, links: &Names) -> bool
+fn is_given(alloc: Global, text: &str, links: &Names) -> bool
     requires { length links.now ≡ 5 }
 {
-    match read_plans(alloc, TEXT.as_bytes(), links, &ENDS) {
+    match read_plans(alloc, text.as_bytes(), links, &ENDS) {
         Ok(file) => {
             let is_given = is_file(&file);
             let_plans_go(file);
@@ -304,5 +328,9 @@ fn is_given(alloc: Global, links: &Names) -> bool
 #[test]
 fn plans_are_read(rt: HostRuntime) {
     let links = links_of(rt.alloc());
-    assert!(rt; links.len() == 5 && is_given(rt.alloc(), &links));
+    let is_read = match two_persons(rt.alloc()) {
+        Ok(text) => links.len() == 5 && is_given(rt.alloc(), text.as_str(), &links),
+        Err(_) => false,
+    };
+    assert!(rt; is_read);
 }

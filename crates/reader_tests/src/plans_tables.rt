@@ -485,9 +485,8 @@ pub(crate) static SIDE_BY_SIDE: [Damage; 15] = [
 ];
 
 /// Files without a fault: limits met, quoted fields, line ends and empty lines.
-pub(crate) static SOUND: [&str; 8] = [
+pub(crate) static SOUND: [&str; 7] = [
     "p1,0,act,home,L1,,\np1,1,act,home,L1,,\np1,2,act,home,L1,,\np1,3,act,home,L1,,\np1,4,act,home,L1,,\n",
-    "p1,0,act,home,L1,172800,\np1,0,leg,walk,,172800,\np1,0,act,work,L2,172800,\n",
     "p1,0,act,home,L1,0,\np1,0,leg,car,,,\np1,0,act,work,L3,,\n",
     "p1,0,act,home,L1,00000000000000000007,\np1,0,leg,pt,,,b s s\np1,0,act,work,L3,,\n",
     "nnnnnnnnnnnnnnnnnnnnnnnnnnnnnnnnnnnnnnnnnnnnnnnnnnnnnnnnnnnnnnnn,00000000000000000000,act,home,L1,,\n",

@@ -63,8 +63,13 @@ fn are_stops_read(alloc: Global) -> bool {
 }
 
 /// Two departures, the second of the last second and with the most seats that there may be.
-static TWO_DEPARTURES: &str = "departure,route,second,seats\nd1,r2,00000000000000000200,1\r\n\
-    \"d2\",r1,172800,00000000000000001000";
+fn two_departures(alloc: Global) -> Result<String, AllocError> {
+    let last = LAST_SECOND;
+    format!(in alloc;
+        "departure,route,second,seats\nd1,r2,00000000000000000200,1\r\n\
+        \"d2\",r1,{last},00000000000000001000"
+    )
+}
 
 fn departure(route: u32, second: u32, seats: u32) -> DepartureRow {
     DepartureRow {
@@ -82,7 +87,10 @@ fn are_two_departures(departures: &Departures) -> bool {
 
 fn are_departures_read(alloc: Global) -> bool {
     let routes = names_of(alloc, &["r1", "r2"]);
-    match read_departures(alloc, TWO_DEPARTURES.as_bytes(), &routes) {
+    let Ok(text) = two_departures(alloc) else {
+        return false;
+    };
+    match read_departures(alloc, text.as_bytes(), &routes) {
         Ok(departures) => are_two_departures(&departures),
         Err(_) => false,
     }
@@ -98,10 +106,15 @@ fn call(stop: u32, link: u32, offset: u32, wait: bool) -> StopCall {
 }
 
 /// Three routes of two lines, one of them round over the links L2, L3 and L4.
-static THREE_ROUTES: &str = "line,route,links,stops\r\n\
-    b,r1,L1 L2 L3,s1:20:wait s3:60\r\n\
-    c,r2,L3 L4 L2 L3,s3:0 s2:172800 t2:00000000000000000007 s3:9:wait\r\n\
-    b,r3,L2,\"s2:1\"\r\n";
+fn three_routes(alloc: Global) -> Result<String, AllocError> {
+    let last = LAST_SECOND;
+    format!(in alloc;
+        "line,route,links,stops\r\n\
+        b,r1,L1 L2 L3,s1:20:wait s3:60\r\n\
+        c,r2,L3 L4 L2 L3,s3:0 s2:{last} t2:00000000000000000007 s3:9:wait\r\n\
+        b,r3,L2,\"s2:1\"\r\n"
+    )
+}
 
 fn is_route(route: &RouteRow, line: u32, links: &[u32], calls: &[StopCall]) -> bool {
     route.line == line
@@ -138,7 +151,10 @@ fn are_three_routes(routes: &Routes) -> bool {
 fn are_routes_read_among(alloc: Global, links: &Names, stops: &Stops) -> bool
     requires { length links.now ≡ 5 }
 {
-    match read_routes(alloc, THREE_ROUTES.as_bytes(), links, &ENDS, stops) {
+    let Ok(text) = three_routes(alloc) else {
+        return false;
+    };
+    match read_routes(alloc, text.as_bytes(), links, &ENDS, stops) {
         Ok(routes) => are_three_routes(&routes),
         Err(_) => false,
     }

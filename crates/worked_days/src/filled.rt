@@ -1,6 +1,7 @@
 //! Car legs without a link: the routes that they get, and those for which there is none.
 
 use edge_files::{InFile, MemoryOutputs, OutFile};
+use limits::LAST_SECOND;
 use std::alloc::Global;
 use std::sync::Wait;
 use std::thread::Threads;
@@ -63,7 +64,7 @@ struct Given {
     routed: &'static str,
 }
 
-static GIVEN: [Given; 5] = [
+static GIVEN: [Given; 4] = [
     // Of two ways that take as long the one by the lesser link; a leg to the link on which it begins has this link alone.
     Given {
         plans: "p1,0,act,home,e4,100,\np1,0,leg,car,,,\np1,0,act,work,e5,110,\np1,0,leg,car,,,\np1,0,act,home,e5,,\n",
@@ -88,21 +89,16 @@ static GIVEN: [Given; 5] = [
         plans: "p1,0,act,home,e2,100,\np1,0,leg,car,,,\np1,0,act,work,e3,,\n",
         routed: "p1,0,act,home,e2,100,\np1,0,leg,car,,,e2 e4 e1 e3\np1,0,act,work,e3,,\n",
     },
-    // The second in which a leg is left does not matter.
-    Given {
-        plans: "p1,0,act,home,e4,0,\np1,0,leg,car,,,\np1,0,act,work,e5,172800,\np1,0,leg,car,,,\np1,0,act,home,e4,,\n",
-        routed: "p1,0,act,home,e4,0,\np1,0,leg,car,,,e4 e0 e2 e5\np1,0,act,work,e5,172800,\np1,0,leg,car,,,e5 e2 e4\np1,0,act,home,e4,,\n",
-    },
 ];
 
 /// Whether these plans, on the round, come out of a run with these routes.
-fn is_routed<R: Threads + Wait + Sync>(rt: &R, alloc: Global, given: &Given) -> bool {
+fn is_routed<R: Threads + Wait + Sync>(rt: &R, alloc: Global, plans: &str, routed: &str) -> bool {
     let mut inputs = inputs_of(alloc, &ROUND);
-    let plans = plans_of(alloc, given.plans);
+    let plans = plans_of(alloc, plans);
     put(&mut inputs, InFile::Plans, plans.as_str());
     let mut outputs = MemoryOutputs::new(alloc);
     let came = status_of(rt, alloc, &["qsim", "run"], &mut inputs, &mut outputs);
-    let routed = plans_of(alloc, given.routed);
+    let routed = plans_of(alloc, routed);
     came == Status::Done && is_written(&outputs, OutFile::Plans, routed.as_str())
 }
 
@@ -113,7 +109,7 @@ fn first_unlike<R: Threads + Wait + Sync>(
     given: &'static [Given],
 ) -> Option<&'static str> {
     for one in given {
-        if !is_routed(rt, alloc, one) {
+        if !is_routed(rt, alloc, one.plans, one.routed) {
             return Some(one.plans);
         }
     }
@@ -123,6 +119,27 @@ fn first_unlike<R: Threads + Wait + Sync>(
 #[test]
 fn legs_get_their_routes(rt: HostRuntime) {
     assert_eq!(rt; first_unlike(&rt, rt.alloc(), &GIVEN), None);
+}
+
+/// There at second 0, and back in the last second that there may be, along these two routes.
+fn there_and_back(alloc: Global, there: &str, back: &str) -> String {
+    let mut plans = String::new(alloc);
+    let _ = write!(plans, "p1,0,act,home,e4,0,\np1,0,leg,car,,,{there}\n");
+    let _ = write!(
+        plans,
+        "p1,0,act,work,e5,{LAST_SECOND},\np1,0,leg,car,,,{back}\n"
+    );
+    let _ = write!(plans, "p1,0,act,home,e4,,\n");
+    plans
+}
+
+/// The second in which a leg is left does not matter.
+#[test]
+fn late_legs_get_their_routes(rt: HostRuntime) {
+    let alloc = rt.alloc();
+    let plans = there_and_back(alloc, "", "");
+    let routed = there_and_back(alloc, "e4 e0 e2 e5", "e5 e2 e4");
+    assert!(rt; is_routed(&rt, alloc, plans.as_str(), routed.as_str()));
 }
 
 /// Whether `qsim check` answers to these files with this status and report.

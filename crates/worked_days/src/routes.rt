@@ -2,6 +2,7 @@
 
 use crate::filled::TWO_WAYS;
 use edge_files::{InFile, MemoryOutputs, OutFile};
+use limits::LAST_SECOND;
 use std::alloc::Global;
 use std::sync::Wait;
 use std::thread::Threads;
@@ -21,7 +22,7 @@ struct Asked {
     report: &'static str,
 }
 
-static ASKED: [Asked; 7] = [
+static ASKED: [Asked; 6] = [
     // Both ways take as long: the one by the lesser link is chosen.
     Asked {
         words: ["a", "d", "0"],
@@ -38,12 +39,6 @@ static ASKED: [Asked; 7] = [
         words: ["a", "a", "7"],
         status: Status::Done,
         report: "route,7\nlinks,\nlabel,a,7\nlabel,b,17\nlabel,c,17\nlabel,d,27\n",
-    },
-    // What is not reached has no label.
-    Asked {
-        words: ["c", "d", "172800"],
-        status: Status::Done,
-        report: "route,172810\nlinks,e3\nlabel,c,172800\nlabel,d,172810\n",
     },
     Asked {
         words: ["b", "c", "+5"],
@@ -85,6 +80,22 @@ fn is_told<R: Threads + Wait + Sync>(rt: &R, alloc: Global, asked: &Asked) -> bo
         &mut outputs,
     );
     came == asked.status && are_written(&outputs, asked.report, "")
+}
+
+/// From c to d in the last second that there may be: what is not reached has no label.
+#[test]
+fn late_routes_are_told(rt: HostRuntime) {
+    let alloc = rt.alloc();
+    let (mut second, mut report) = (String::new(alloc), String::new(alloc));
+    let arrival = LAST_SECOND + 10;
+    let _ = write!(second, "{LAST_SECOND}");
+    let _ = write!(report, "route,{arrival}\nlinks,e3\n");
+    let _ = write!(report, "label,c,{LAST_SECOND}\nlabel,d,{arrival}\n");
+    let mut outputs = MemoryOutputs::new(alloc);
+    let words = ["qsim", "route", "c", "d", second.as_str()];
+    let came = came_of(&rt, alloc, &words, &mut outputs);
+    assert_eq!(rt; came, Status::Done);
+    assert!(rt; are_written(&outputs, report.as_str(), ""));
 }
 
 #[test]

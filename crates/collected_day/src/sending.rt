@@ -163,8 +163,8 @@ impl<S: Stream, T: DayPart> Part for SendingPart<S, T> {
         Ok(())
     }
 
-    fn sends(&self) -> bool {
-        self.part.sends()
+    fn next_parcel(&self, from: usize) -> Option<usize> {
+        self.part.next_parcel(from)
     }
 
     fn outbox(&mut self, place: usize) -> T::Parcel {

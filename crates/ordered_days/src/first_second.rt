@@ -16,7 +16,7 @@ pub fn sends_at_first<T: DayPart>(alloc: Global, run: &T::Run, number: u32) -> O
         return None;
     };
     match part.second(run) {
-        Ok(()) => Some(part.sends()),
+        Ok(()) => Some(part.next_parcel(0).is_some()),
         Err(_) => None,
     }
 }

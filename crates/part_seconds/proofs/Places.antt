@@ -3,10 +3,11 @@ use Rattle.traffic.proofs.Common.{◌≡◌, ◌≢◌, ℕ, ◌<◌, List, [], 
 use Rattle.traffic.proofs.Common.{filter, map, eqb, eqb-true, eqb-false, append-nil, append_assoc, cond, if◌then◌else◌, filter-append, length-set}
 use Rattle.traffic.proofs.Common.{get_or-set_same, get_or-set_other, lt-ltb, eq-eqb, ne_eqb, nat_lt, Option, Some, None, ◌==◌}
 use Rattle.traffic.specs.{Setup.Setup, declared.world.Person.Person}
+use Rattle.std.proofs.lemmas.Bool.{le-ltb}
 use Rattle.std.{proofs.lemmas.List.Quantifiers.position-Some, proofs.lemmas.List.Sums.position_or_len_is, specs.List.position_or_len}
 use Rattle.node_move.specs.declared.crossings.Entering.{Entering}
 use Rattle.parts.specs.Owners.{Owner}
-use Rattle.step_core.specs.{Nets.border_at, Nets.no_border, declared.part.Border.Border}
+use Rattle.step_core.specs.{Exchanges.Ascend, Exchanges.IsPlaceOf, Nets.border_at, Nets.no_border, declared.part.Border.Border}
 use Rattle.part_seconds.{proofs.Lists.next_map, specs.Leaving.AreOthers, specs.Parcels.nothing}
 use Rattle.part_seconds.specs.Sending.{parcel_at, with_vehicles, with_teleported, with_freed, place_in, is_at, changed_at, AreMore, moved_of, vehicle_place}
 use Rattle.part_seconds.specs.Sending.{more_vehicles, teleported_place, teleported_of, more_teleported, freed_place, more_freed}
@@ -104,6 +105,24 @@ place_found : (borders : List Border) (q k : ℕ) → position_or_len (λ (b : B
 place_found borders q k e lt =
     ap (λ (m : ℕ). cond (nat_lt m (length borders)) (Some m) None) e
     ∙ ap (λ (b : Bool). cond b (Some k) None) (lt-ltb k (length borders) lt)
+
+-- it is the only one of this number
+pub place_of_is : (borders : List Border) (q : ℕ) (k : ℕ) → Ascend borders → IsPlaceOf borders q k → Some k ≡ place_in borders q
+place_of_is borders q k ascend h =
+    sym (place_found borders q k
+    (position_or_len_is (λ (b : Border). b.neighbour == q) borders k no_border (omega (arith, h.there))
+    (λ j less. ne_eqb (border_at borders j).neighbour q (λ w. let up = ascend j k less h.there in let is = h.is in omega (arith, up, w, is)))
+    (λ l. eq-eqb (border_at borders k).neighbour q h.is))
+    h.there)
+
+pub no_place : (borders : List Border) (q : ℕ) → ((k : ℕ) → k < length borders → (border_at borders k).neighbour ≢ q)
+    → None ≡ place_in borders q
+no_place borders q none =
+    let e : position_or_len (λ (b : Border). b.neighbour == q) borders ≡ length borders
+    = position_or_len_is (λ (b : Border). b.neighbour == q) borders (length borders) no_border (omega arith)
+    (λ j less. ne_eqb (border_at borders j).neighbour q (none j less)) (λ l. absurd (omega (arith, l))) in
+    sym (ap (λ (m : ℕ). cond (nat_lt m (length borders)) (Some m) None) e
+    ∙ ap (λ (b : Bool). cond b (Some (length borders)) None) (le-ltb (length borders) (length borders) (omega arith)))
 
 place_off : (borders : List Border) (q k : ℕ) (o : Option ℕ) → place_in borders q ≡ o → ((border_at borders k).neighbour == q) ≡ false
     → is_at k o ≡ false

@@ -1,6 +1,8 @@
 -- What is in a parcel.
-use Rattle.std.specs.Prelude.{◌≡◌, ℕ, Bool, false, List, [], length, get_or, Option, None, Some}
+use Rattle.std.specs.Prelude.{◌≡◌, ℕ, ◌<◌, ◌≤◌, true, false, List, [], length, get_or, Option, None, Some}
 use Rattle.std.specs.Global.{Box}
+use Rattle.limits.specs.declared.TheConstants.{MAX_PARTITIONS}
+use Rattle.number_sets.specs.Sets.{has}
 use Rattle.part_seconds.specs.declared.contents.Contents.{Contents}
 
 -- where nothing goes
@@ -17,9 +19,8 @@ contents_in (Some box) = box.value
 abbrev pub HasNothing : List Contents → Type 0
 HasNothing parcels = (k : ℕ) → get_or parcels k nothing ≡ nothing
 
--- Where it is not noted that something may be in one of these parcels, nothing is in any. Of each it is noted whether something may be in
--- it, and where not, nothing is.
-pub record IsNoted (some : Bool) (noted : List Bool) (parcels : List Contents) : Type 0 where
-  pub none : some ≡ false → HasNothing parcels
-  pub many : length noted ≡ length parcels
-  pub each : (k : ℕ) → get_or noted k false ≡ false → get_or parcels k nothing ≡ nothing
+-- Of each place of so many parcels it is noted whether something may be in its parcel, and where not, nothing is.
+pub record IsNoted (noted : ℕ) (parcels : List Contents) : Type 0 where
+  pub few : length parcels ≤ MAX_PARTITIONS
+  pub there : (k : ℕ) → has noted k ≡ true → k < length parcels
+  pub each : (k : ℕ) → has noted k ≡ false → get_or parcels k nothing ≡ nothing

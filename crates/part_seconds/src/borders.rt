@@ -2,6 +2,7 @@
 
 ghost use Rattle.std.specs.Prelude.{◌≡◌, [], get_or};
 ghost use Rattle.part_seconds.specs.Sending.{place_in};
+ghost use Rattle.step_core.specs.Exchanges.{Ascend};
 
 use step_core::{Border, BorderList};
 
@@ -18,10 +19,10 @@ pub fn borders_at(borders: &[BorderList], partition: u32) -> &[Border]
 }
 
 /// The place of a partition among these neighbours.
+#[tactic(auto, using(crate::proofs::Places::place_of_is, crate::proofs::Places::no_place))]
 pub(crate) fn place_of(borders: &[Border], partition: u32) -> Option<usize>
+    requires { Ascend borders.now }
     ensures { result ≡ place_in borders.now partition }
 {
-    borders
-        .iter()
-        .position(|border| border.neighbour == partition)
+    step_core::place_of(borders, partition)
 }

@@ -163,7 +163,6 @@ pub fn send(
     ensures persons { OnOk result (HaveGone (setup exits.now.day.now) (owner_in exits.now.owner.now.of_node) exits.now.partition second
         persons.old persons.new) }
 {
-    parcels.all_taken();
     let mut gone = Vec::new(alloc);
     fill(
         alloc,

@@ -1,22 +1,23 @@
 //! What lies between a partition and its neighbours.
 
-ghost use Rattle.std.specs.Prelude.{◌≡◌, ◌<◌, false, length, set, replicate, IfOk, OnOk};
+ghost use Rattle.std.specs.Prelude.{◌≡◌, ℕ, ◌<◌, ◌≤◌, false, length, set, replicate, IfOk, OnOk, IfNone, IfSome};
+ghost use Rattle.limits.specs.declared.TheConstants.{MAX_PARTITIONS};
+ghost use Rattle.step_core.specs.Views.{IsNextPlace};
 ghost use Rattle.part_seconds.specs.{Parcels.nothing, Parcels.HasNothing, Sending.parcel_at, Sending.with_item};
 
 use crate::contents::{Parcel, ParcelItem};
+use number_sets::NumberSet;
 use std::alloc::{AllocError, Global};
 use std::marker::Model;
 use std::mem::replace;
 
-/// A parcel for each neighbour, in order. Most lie there with nothing in them for most of the day. Where that is so of all it is seen at
-/// once, and of one without a look at it. Contracts see a mailbox as the list of what is in its parcels.
+/// A parcel for each neighbour, in order. Most lie there with nothing in them for most of the day, and those that may have something in
+/// them are found without a look at the others. Contracts see a mailbox as the list of what is in its parcels.
 #[derive(Drop)]
 pub struct Mailbox {
     parcels: Vec<Parcel>,
-    /// Of each whether something may be in it.
-    noted: Vec<bool>,
-    /// Whether something may be in one of them.
-    some: bool,
+    /// The places in whose parcels something may be.
+    noted: NumberSet,
 }
 
 impl Model for Mailbox {
@@ -27,7 +28,7 @@ impl Model for Mailbox {
 
     ghost view = { λ m. m.parcels.items };
 
-    ghost invariant = { λ m. IsNoted m.some m.noted.items m.parcels.items };
+    ghost invariant = { λ m. IsNoted m.noted m.parcels.items };
 }
 
 /// So many parcels with nothing in them.
@@ -48,14 +49,13 @@ impl Mailbox {
     ///
     /// `AllocError`: there is no memory for it.
     pub fn new(alloc: Global, count: usize) -> Result<Mailbox, AllocError>
+        requires few { count ≤ MAX_PARTITIONS }
         ensures { IfOk result (λ mailbox. mailbox ≡ replicate count nothing) }
     {
         let parcels = empty_parcels(alloc, count)?;
-        let noted = vec![in alloc; false; count]?;
         Ok(Mailbox {
             parcels,
-            noted,
-            some: false,
+            noted: NumberSet::new(),
         })
     }
 
@@ -70,7 +70,21 @@ impl Mailbox {
     pub fn has_some(&self) -> bool
         ensures { result ≡ false → HasNothing self.now }
     {
-        self.some
+        !self.noted.is_empty()
+    }
+
+    /// The first place from this one on in whose parcel something may be.
+    pub fn next(&self, from: usize) -> Option<usize>
+        ensures none { IfNone result ((k : ℕ) → from ≤ k → parcel_at self.now k ≡ nothing) }
+        ensures some { IfSome result (IsNextPlace nothing self.now from) }
+    {
+        if from >= self.parcels.len() {
+            return None;
+        }
+        match self.noted.next(from as u32) {
+            Some(place) => Some(place as usize),
+            None => None,
+        }
     }
 
     /// Its parcels, in order.
@@ -85,30 +99,18 @@ impl Mailbox {
         requires { place < length self.old }
         ensures { self.new ≡ set self.old place parcel }
     {
-        self.some = true;
-        self.noted[place] = true;
+        self.noted.insert(place as u32);
         self.parcels[place] = parcel;
     }
 
-    /// Takes the parcel of a neighbour. One with nothing in it is left.
+    /// Takes the parcel of a neighbour.
     pub fn take(&mut self, place: usize) -> Parcel
         requires { place < length self.old }
         ensures parcel { result ≡ parcel_at self.old place }
         ensures rest { self.new ≡ set self.old place nothing }
     {
-        if !self.noted[place] {
-            return Parcel::new();
-        }
-        self.noted[place] = false;
+        self.noted.remove(place as u32);
         replace(&mut self.parcels[place], Parcel::new())
-    }
-
-    /// Notes that nothing is in any parcel, as is so once all were taken.
-    pub fn all_taken(&mut self)
-        requires { HasNothing self.old }
-        ensures { self.new ≡ self.old }
-    {
-        self.some = false;
     }
 
     /// One thing more goes to a neighbour.
@@ -121,8 +123,7 @@ impl Mailbox {
         requires { place < length self.old }
         ensures { OnOk result (self.new ≡ set self.old place (with_item item (parcel_at self.old place))) }
     {
-        self.some = true;
-        self.noted[place] = true;
+        self.noted.insert(place as u32);
         self.parcels[place].add(alloc, item)?;
         Ok(())
     }

@@ -4,6 +4,7 @@ ghost use Rattle.std.specs.Prelude.{◌≡◌, ◌<◌, ◌++◌, [], ◌∷◌,
 ghost use Rattle.std.specs.List.{flat_map};
 ghost use Rattle.parts.specs.Owners.{begins_in};
 ghost use Rattle.partition.specs.Owned.{owner_in};
+ghost use Rattle.step_core.specs.Exchanges.{Ascend};
 ghost use Rattle.town.specs.Views.{setup};
 ghost use Rattle.traffic.specs.{Rows.nobody, Setup.row_at};
 ghost use Rattle.part_seconds.specs.Sending.{changed_at, with_vehicles, with_teleported, with_freed, with_item, element_of, number_of};
@@ -34,6 +35,7 @@ pub struct Exits<'a> {
     pub partition: u32,
     /// Its neighbours, ascending.
     pub borders: &'a [Border],
+    pub ghost ascend: { Ascend borders.now },
 }
 
 /// The node at which a link begins; a number that is no link begins at node 0.

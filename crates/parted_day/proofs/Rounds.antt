@@ -1,7 +1,7 @@
 -- A part absorbs what lies in the places of its inbox, place by place.
 use Rattle.traffic.proofs.Common.{◌≡◌, ℕ, zero, suc, ◌+◌, ◌-◌, ◌<◌, ◌≤◌, List, ◌∙◌, ap, refl, sym, subst, arith, inl, inr}
 use Rattle.traffic.proofs.Common.{cases_lt, add-one, length, set, take, get_or-set_same, get_or-set_other, Setup}
-use Rattle.std.proofs.lemmas.List.{take_all, get_or_past}
+use Rattle.std.proofs.lemmas.List.{take_all}
 use Rattle.town.specs.{Views.setup, declared.day_input.DayInput.DayInput}
 use Rattle.law_in_range.specs.{Rows.Counts, Setups.counts_in, Setups.HaveFittingPlans, Setups.IsFitSetup}
 use Rattle.partition.specs.{Owned.owner_in, declared.owner.Owner.Owner}
@@ -52,15 +52,6 @@ kept_next inbox first new k e was j le =
     ap (λ (xs : List Contents). in_place nothing xs j) e
     ∙ get_or-set_other inbox k j nothing nothing (λ (same : j ≡ k). omega arith) ∙ was j (omega arith)
 
--- where all places there are are empty, nothing is in any parcel
-pub all_emptied : (inbox : List Contents) (k : ℕ) → length inbox ≤ k → ((j : ℕ) → j < k → in_place nothing inbox j ≡ nothing)
-    → HasNothing inbox
-all_emptied inbox k le was j =
-    elim (cases_lt j k) [
-      | inl lt ↦ was j lt
-      | inr ge ↦ get_or_past inbox j nothing (omega arith)
-    ]
-
 module _ (day : DayInput) (owner : Owner) (given : HaveFittingPlans day) (p t : ℕ) (slots : List ℕ)
     (are : AreSlots (setup day) (owner_in owner.of_node) slots) (makes : MakeReady) (between : AreBetween) (old : Area)
     (h : AreaStands day (owner_in owner.of_node) p t t t old (held (setup day) (owner_in owner.of_node) p t)
@@ -97,22 +88,27 @@ module _ (day : DayInput) (owner : Owner) (given : HaveFittingPlans day) (p t : 
       becomes
       (λ u. between S own b.neighbour p u) x now new here g (subst (λ (u : ℕ). HasAbsorbedParcel day slots u x now new) is e)
 
-  -- nothing is in one place more
-  pub passed : (k : ℕ) (x : Contents) (inbox : List Contents) (now : Area) → k < length rows
-      → HasHeard nothing (IsRight S own) p t rows inbox → x ≡ in_place nothing inbox k → x ≡ nothing
-      → HasAbsorbed day own p t (take k all) old now → HasAbsorbed day own p t (take (k + 1) all) old now
-  passed k x inbox now lt heard there none g =
-      let s = t - (border_at rows k).lag in
-      round k s nothing inbox now now lt refl heard (sym none ∙ there) g (none_come day slots s now g.persons.wakes)
+  -- nothing is in the places from this one up to that one
+  pub passed : (from to : ℕ) (inbox : List Contents) (now : Area) → from ≤ to → to ≤ length rows
+      → HasHeard nothing (IsRight S own) p t rows inbox → ((k : ℕ) → from ≤ k → k < to → in_place nothing inbox k ≡ nothing)
+      → HasAbsorbed day own p t (take from all) old now → HasAbsorbed day own p t (take to all) old now
+  passed from zero inbox now le last heard none g =
+      subst (λ (n : ℕ). HasAbsorbed day own p t (take n all) old now) (let e : from ≡ zero = omega arith in e) g
+  passed from (suc to) inbox now le last heard none g =
+      elim (cases_lt to from) [
+        | inl behind ↦ subst (λ (n : ℕ). HasAbsorbed day own p t (take n all) old now) (let e : from ≡ suc to = omega arith in e) g
+        | inr before ↦
+            let s = t - (border_at rows to).lag in
+            let there = none to (omega arith) (omega arith) in
+            let so_far = passed from to inbox now (omega arith) (omega arith) heard (λ k ge lt. none k ge (omega arith)) g in
+            subst (λ (n : ℕ). HasAbsorbed day own p t (take n all) old now) (add-one to)
+            (round to s nothing inbox now now (omega arith) refl heard (sym there) so_far (none_come day slots s now g.persons.wakes))
+      ]
 
   -- nothing is in any place: the part is as it was
   pub quiet : (k : ℕ) (inbox : List Contents) → k ≤ length rows → HasHeard nothing (IsRight S own) p t rows inbox → HasNothing inbox
       → HasAbsorbed day own p t (take k all) old old
-  quiet zero inbox le heard none = none_absorbed day own p t old h
-  quiet (suc k) inbox le heard none =
-      let before = quiet k inbox (omega arith) heard none in
-      subst (λ (n : ℕ). HasAbsorbed day own p t (take n all) old old) (add-one k)
-      (passed k nothing inbox old (omega arith) heard (sym (none k)) refl before)
+  quiet k inbox le heard none = passed 0 k inbox old (omega arith) le heard (λ j ge lt. none j) (none_absorbed day own p t old h)
 
   -- behind the last one
   pub finished : TakeIn → (k : ℕ) (new : Area) → length rows ≤ k → HasAbsorbed day own p t (take k all) old new

@@ -1,6 +1,10 @@
 -- The neighbours of a partition, as it absorbs their parcels.
-use Rattle.traffic.proofs.Common.{◌≡◌, ℕ, ◌<◌, List, ◌∙◌, arith, length, length-map, get_or, get_or-map, Setup}
-use Rattle.parts.specs.Owners.{Owner}
+use Rattle.traffic.proofs.Common.{◌≡◌, ℕ, zero, suc, ◌+◌, ◌<◌, ◌≤◌, List, ◌∙◌, ap, refl, arith, not, length, length-map, get_or}
+use Rattle.traffic.proofs.Common.{get_or-map, filter, below, numbers, Setup}
+use Rattle.std.proofs.lemmas.List.Filters.{length-filter_both}
+use Rattle.limits.specs.declared.TheConstants.{MAX_PARTITIONS}
+use Rattle.parts.specs.Owners.{Owner, near}
+use Rattle.divided_day.specs.Borders.{border_from, borders_of}
 use Rattle.law_parcels.specs.Hearing.{HearsFrom}
 use Rattle.law_steps.specs.Steps.{net_of}
 use Rattle.step_core.specs.{Nets.AreBorders, Nets.border_at, Nets.no_border, declared.part.Border.Border}
@@ -8,6 +12,20 @@ use Rattle.parted_day.specs.Absorbed.{neighbours_at}
 
 pub many : (rows : List Border) → length (neighbours_at rows) ≡ length rows
 many rows = length-map rows (λ (b : Border). b.neighbour)
+
+many_numbers : (from n : ℕ) → length (numbers from n) ≡ n
+many_numbers from zero = refl
+many_numbers from (suc n) = ap suc (many_numbers (from + 1) n)
+
+-- at most as many as there are partitions
+pub few : (S : Setup) (own : Owner) (parts p : ℕ) → parts ≤ MAX_PARTITIONS → length (borders_of S own parts p) ≤ MAX_PARTITIONS
+few S own parts p le =
+    let near_p = λ (q : ℕ). near S own q p in
+    let far_p = λ (q : ℕ). not (near S own q p) in
+    let a = length-map (filter near_p (below parts)) (border_from S own p) in
+    let b = length-filter_both near_p far_p (λ q. refl) (below parts) in
+    let c = many_numbers 0 parts in
+    omega arith
 
 -- the neighbour at a place
 pub neighbour_is : (rows : List Border) (k : ℕ) → k < length rows → get_or (neighbours_at rows) k 0 ≡ (border_at rows k).neighbour

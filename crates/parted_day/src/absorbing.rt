@@ -20,7 +20,7 @@ use std::alloc::AllocError;
 
 /// A part absorbs the parcels of its neighbours before a second, in their order: of each the one that was sent as many seconds before as
 /// the lag from it has, where that is a second of the day. The part is then what it has to be as its second begins, and nothing is in the
-/// parcels any more. Where it is seen at once that nothing is in them, none is looked at, and one with nothing in it is passed over.
+/// parcels any more. Those alone are looked at in which something may be.
 ///
 /// # Errors
 ///
@@ -49,18 +49,13 @@ pub(crate) fn absorb(
 {
     parcels_make_ready();
     own_worlds_go_on();
-    if !inbox.has_some() {
-        return Ok(());
-    }
     let borders = neighbours_of(run, partition);
-    for place in 0..borders.len() {
+    let mut from = 0;
+    while let Some(place) = inbox.next(from) {
         let parcel = inbox.take(place);
-        if parcel.is_nothing() {
-            continue;
-        }
         let sent = second.saturating_sub(borders[place].lag);
         absorb_parcel(area, run, sent, parcel)?;
+        from = place + 1;
     }
-    inbox.all_taken();
     Ok(())
 }

@@ -167,7 +167,6 @@ impl<'a> Part for TownPart<'a> {
         forget_told(run, &mut self.told);
         rest_changes_nothing();
         if !self.inbox.has_some() && self.area.rests(self.done) {
-            self.outbox.all_taken();
             self.done += 1;
             return Ok(());
         }
@@ -194,8 +193,8 @@ impl<'a> Part for TownPart<'a> {
         Ok(())
     }
 
-    fn sends(&self) -> bool {
-        self.outbox.has_some()
+    fn next_parcel(&self, from: usize) -> Option<usize> {
+        self.outbox.next(from)
     }
 
     fn outbox(&mut self, place: usize) -> Parcel {

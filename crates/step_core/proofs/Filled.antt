@@ -2,7 +2,7 @@
 use Rattle.std.proofs.Common.{◌≡◌, ◌≢◌, ℕ, ◌+◌, ◌<◌, ◌≤◌, List, ◌∙◌, sym, subst, subst₂, arith}
 use mathlib.Core.Logic.{dite}
 use native.Mathlib.Decide.{ℕ_discrete}
-use Rattle.step_core.{proofs.Rows.rows_apart, proofs.Rows.other_row, proofs.Rows.same_place, proofs.Rows.same_flag, specs.Exchanges.AreTaken}
+use Rattle.step_core.{proofs.Rows.rows_apart, proofs.Rows.other_row, proofs.Rows.same_place, specs.Exchanges.AreTaken}
 use Rattle.step_core.specs.{Wheels.row_of, Wheels.lies, Wheels.IsFilled, Wheels.HasRoom, Wheels.IsPut, declared.part.Border.Border, declared.wheel.Wheel.Wheel}
 
 pub filled_at : {P : Type 0} (nothing : P) (R : ℕ → P → Type 0) (s z t v lag a : ℕ) (w : Wheel P) → s ≡ z → t ≡ v
@@ -28,9 +28,6 @@ module _ {P : Type 0} (nothing : P) (rows : List Border) (old new : Wheel P) (s 
     full = λ u lt le. subst (R u) (sym (taken.others (u + lag) a few (rows_apart t (u + lag) (omega arith) (omega arith))))
         (h.full u lt (omega arith));
     before = λ u le lt. taken.others u a few (rows_apart t u (omega arith) (omega arith)) ∙ h.before u (omega arith) lt;
-    flags = λ u f. dite (ℕ_discrete (row_of u) (row_of t))
-        (λ e. same_place nothing new u t a e ∙ none)
-        (λ ne. taken.others u a few ne ∙ h.flags u (sym (taken.flags u ne) ∙ f));
   }
 
 -- WHERE a PUT WHAT IT SENT IN SECOND s
@@ -47,9 +44,6 @@ module _ {P : Type 0} (nothing : P) (old new : Wheel P) (s t lag a : ℕ) (x : P
         (λ ne. subst (R u) (sym (put.rest (u + lag) (other_row (u + lag) (s + lag) (λ e. ne (omega arith)) (omega arith) (omega arith))))
         (h.full u (omega arith) le));
     before = λ u le lt. put.rest u (other_row u (s + lag) (λ e. absurd (omega arith)) (omega arith) (omega arith)) ∙ h.before u le lt;
-    flags = λ v f. dite (ℕ_discrete (row_of v) (row_of (s + lag)))
-        (λ e. same_place nothing new v (s + lag) a e ∙ put.here ∙ put.flag (sym (same_flag new v (s + lag) e) ∙ f))
-        (λ ne. put.rest v ne ∙ h.flags v (put.flags v f));
   }
 
 -- WHERE ANOTHER ONE DID
@@ -62,5 +56,4 @@ module _ {P : Type 0} (nothing : P) (old new : Wheel P) (u b : ℕ) (x : P) (put
   beside_filled R h = record {
     full = λ v lt le. subst (R v) (sym (put.others (v + lag) a few ne)) (h.full v lt le);
     before = λ v le lt. put.others v a few ne ∙ h.before v le lt;
-    flags = λ v f. put.others v a few ne ∙ h.flags v (put.flags v f);
   }

@@ -2,6 +2,7 @@ pub mod Rows
 pub mod Filled
 pub mod Putting
 pub mod Sending
+pub mod Heard
 pub mod Seconds
 pub mod Stepping
 pub mod Orders

@@ -1,5 +1,5 @@
 -- What a partition puts into the wheels of its neighbours, one after the other.
-use Rattle.std.proofs.Common.{◌≡◌, ◌≢◌, ℕ, ◌+◌, ◌<◌, List, [], ◌∷◌, ◌∙◌, length, get_or, set, ap, sym, subst, arith}
+use Rattle.std.proofs.Common.{◌≡◌, ◌≢◌, ℕ, zero, suc, ◌+◌, ◌<◌, ◌≤◌, List, [], ◌∷◌, ◌∙◌, length, get_or, set, ap, refl, sym, subst, arith}
 use Rattle.std.proofs.lemmas.List.{get_or-set_same, get_or-set_other, get_or_default, length-set, set-get_or}
 use mathlib.Core.Logic.{dite}
 use native.Mathlib.Decide.{ℕ_discrete}
@@ -85,3 +85,19 @@ module _ {R T P : Type 0} (nothing : P) (see : T → PartView P) (stands : R →
       subst (λ (ws : List (Wheel P)). AreSent nothing see stands t p rows (k + 1) old ws before y) (set-get_or now q e)
       (sends_next e w y (put_nothing nothing w (due_in w t p) p (in_place nothing (see z).outbox k) none room noted)
       outbox inbox number seconds stays)
+
+-- where nothing is in several parcels that follow one another they need not be looked at
+module _ {R T P : Type 0} (nothing : P) (see : T → PartView P) (stands : R → T → Type 0) (t p : ℕ) (rows : List Border)
+    (old now : List (Wheel P)) (before z : T) (have : HaveRoom nothing t p rows old)
+    (places : length (see before).outbox ≡ length rows) where
+  passed_one : (k : ℕ) → AreSent nothing see stands t p rows k old now before z → k < length rows
+      → in_place nothing (see z).outbox k ≡ nothing → AreSent nothing see stands t p rows (k + 1) old now before z
+  passed_one k h lt none = sends_none nothing see stands t p rows k old now before z have places h lt z none
+      (sym (ap (λ (x : P). set (see z).outbox k x) (sym none) ∙ set-get_or (see z).outbox k nothing)) refl refl refl (λ r s. s)
+
+  pub passed_over : (n k m : ℕ) → k + n ≡ m → m ≤ length rows → AreSent nothing see stands t p rows k old now before z
+      → ((j : ℕ) → k ≤ j → j < m → in_place nothing (see z).outbox j ≡ nothing) → AreSent nothing see stands t p rows m old now before z
+  passed_over zero k m e le h none = subst (λ (i : ℕ). AreSent nothing see stands t p rows i old now before z) (omega arith) h
+  passed_over (suc n) k m e le h none =
+      passed_over n (k + 1) m (omega arith) le (passed_one k h (omega arith) (none k (omega arith) (omega arith)))
+      (λ j ge lt. none j (omega arith) lt)

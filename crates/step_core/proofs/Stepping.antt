@@ -118,7 +118,6 @@ module _ {T P : Type 0} (nothing : P) (N : Net) (borders : ℕ → List Border) 
           };
           here = omega arith;
           other = λ k lt. apart_from (neighbour_at rows k) (near_at k lt);
-          quiet = λ d f k lt. (core.filled (neighbour_at rows k) p d (near_at k lt) goes).flags t f;
           heard = heard_of;
         }
 

@@ -1,8 +1,8 @@
 -- What a partition takes out of its wheel before a second, and puts into those of its neighbours after it.
-use Rattle.std.specs.Prelude.{◌≡◌, ◌≢◌, ℕ, ◌+◌, ◌<◌, ◌≤◌, false, List, length, get_or}
+use Rattle.std.specs.Prelude.{◌≡◌, ◌≢◌, ℕ, ◌+◌, ◌<◌, ◌≤◌, List, length, get_or}
 use Rattle.limits.specs.declared.TheConstants.{MAX_PARTITIONS}
 use Rattle.step_core.specs.{Cores.done_at, Nets.border_at, Views.PartView, Views.Stays, Views.in_place, Views.IsHeard}
-use Rattle.step_core.specs.Wheels.{IsNoted, row_of, due_in, is_flagged, lies, IsPut}
+use Rattle.step_core.specs.Wheels.{IsNoted, row_of, due_in, lies, IsPut}
 use Rattle.step_core.specs.declared.{hearing.Late.Late, part.Border.Border, wheel.Wheel.Wheel}
 
 abbrev pub neighbour_at : List Border → ℕ → ℕ
@@ -16,22 +16,30 @@ pub record AreListed (rows : List Border) : Type 0 where
   pub each : (k : ℕ) → k < length rows → neighbour_at rows k < MAX_PARTITIONS
   pub ascend : (j k : ℕ) → j < k → k < length rows → neighbour_at rows j < neighbour_at rows k
 
+-- neighbours ascend
+abbrev pub Ascend : List Border → Type 0
+Ascend rows = (j k : ℕ) → j < k → k < length rows → neighbour_at rows j < neighbour_at rows k
+
+-- the neighbour at place k is this partition
+pub record IsPlaceOf (rows : List Border) (q k : ℕ) : Type 0 where
+  pub there : k < length rows
+  pub is : neighbour_at rows k ≡ q
+
 -- b is none of the first k of these
 abbrev pub IsBeside : List Border → ℕ → ℕ → Type 0
 IsBeside rows k b = (j : ℕ) → j < k → neighbour_at rows j ≡ b → ⊥
 
 module _ {P : Type 0} (nothing : P) where
   -- WHAT IS TAKEN
-  -- what the first k of the neighbours sent was taken out of the row of second t, and lies in their places
-  pub record HaveHeard (t : ℕ) (rows : List Border) (k : ℕ) (old new : Wheel P) (inbox : List P) : Type 0 where
+  -- what those of the neighbours that have a lesser number than b sent was taken out of the row of second t, and lies in their places
+  pub record HaveHeard (t : ℕ) (rows : List Border) (b : ℕ) (old new : Wheel P) (inbox : List P) : Type 0 where
     pub noted : IsNoted nothing new
     pub lags : new.lags.items ≡ old.lags.items
-    pub flags : new.flags.items ≡ old.flags.items
     pub degree : length inbox ≡ length rows
-    pub came : (j : ℕ) → j < k → in_place nothing inbox j ≡ lies nothing old t (neighbour_at rows j)
-    pub none : (j : ℕ) → k ≤ j → j < length rows → in_place nothing inbox j ≡ nothing
-    pub taken : (j : ℕ) → j < k → lies nothing new t (neighbour_at rows j) ≡ nothing
-    pub rest : (j : ℕ) → k ≤ j → j < length rows → lies nothing new t (neighbour_at rows j) ≡ lies nothing old t (neighbour_at rows j)
+    pub came : (k : ℕ) → k < length rows → neighbour_at rows k < b → in_place nothing inbox k ≡ lies nothing old t (neighbour_at rows k)
+    pub none : (k : ℕ) → k < length rows → b ≤ neighbour_at rows k → in_place nothing inbox k ≡ nothing
+    pub taken : (k : ℕ) → k < length rows → neighbour_at rows k < b → lies nothing new t (neighbour_at rows k) ≡ nothing
+    pub rest : (a : ℕ) → a < MAX_PARTITIONS → b ≤ a → lies nothing new t a ≡ lies nothing old t a
     pub others : (u a : ℕ) → a < MAX_PARTITIONS → row_of u ≢ row_of t → lies nothing new u a ≡ lies nothing old u a
 
   -- nothing that a neighbour sent lies in the row of second t any more
@@ -40,12 +48,11 @@ module _ {P : Type 0} (nothing : P) where
     pub lags : new.lags.items ≡ old.lags.items
     pub taken : (k : ℕ) → k < length rows → lies nothing new t (neighbour_at rows k) ≡ nothing
     pub others : (u a : ℕ) → a < MAX_PARTITIONS → row_of u ≢ row_of t → lies nothing new u a ≡ lies nothing old u a
-    pub flags : (u : ℕ) → row_of u ≢ row_of t → is_flagged new u ≡ is_flagged old u
 
   module _ {R T : Type 0} (see : T → PartView P) (stands : R → T → Type 0) where
-    -- a partition that is otherwise as it was has what the first k of its neighbours sent for second t
-    pub record AreHeard (t : ℕ) (rows : List Border) (k : ℕ) (old new : Wheel P) (before after : T) : Type 0 where
-      pub heard : HaveHeard t rows k old new (see after).inbox
+    -- a partition that is otherwise as it was has what those of its neighbours sent for second t that have a lesser number than b
+    pub record AreHeard (t : ℕ) (rows : List Border) (b : ℕ) (old new : Wheel P) (before after : T) : Type 0 where
+      pub heard : HaveHeard t rows b old new (see after).inbox
       pub outbox : (see after).outbox ≡ (see before).outbox
       pub number : (see after).number ≡ (see before).number
       pub seconds : (see after).seconds ≡ (see before).seconds
@@ -91,13 +98,11 @@ module _ {P : Type 0} (nothing : P) where
     pub room : (k : ℕ) (d : Wheel P) → k < length rows
         → lies nothing (get_or wheels (neighbour_at rows k) d) (due_in (get_or wheels (neighbour_at rows k) d) t p) p ≡ nothing
 
-  -- moreover these are others than p, whose own wheel has what they sent for second t, and nothing without a flag
+  -- moreover these are others than p, whose own wheel has what they sent for second t
   pub record IsReady (right : ℕ → ℕ → ℕ → P → Type 0) (t p : ℕ) (rows : List Border) (wheels : List (Wheel P)) : Type 0 where
     pub have : HaveRoom t p rows wheels
     pub here : p < length wheels
     pub other : (k : ℕ) → k < length rows → neighbour_at rows k ≡ p → ⊥
-    pub quiet : (d : Wheel P) → is_flagged (get_or wheels p d) t ≡ false → (k : ℕ) → k < length rows
-        → lies nothing (get_or wheels p d) t (neighbour_at rows k) ≡ nothing
     pub heard : (k : ℕ) (d : Wheel P) → k < length rows
         → IsHeard nothing right p t (border_at rows k) (lies nothing (get_or wheels p d) t (neighbour_at rows k))
 

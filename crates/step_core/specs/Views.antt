@@ -21,6 +21,12 @@ module _ {P : Type 0} (nothing : P) where
     pub many : length places ≡ count
     pub none : (k : ℕ) → k < count → in_place places k ≡ nothing
 
+  -- k is the first of these places, from this one on, in which something may lie
+  pub record IsNextPlace (places : List P) (from k : ℕ) : Type 0 where
+    pub least : from ≤ k
+    pub there : k < length places
+    pub none : (j : ℕ) → from ≤ j → j < k → in_place places j ≡ nothing
+
   -- Before p does second t it has the parcel of second t - lag of each neighbour, where that is a second of the day, and else nothing.
   pub record IsHeard (right : ℕ → ℕ → ℕ → P → Type 0) (p t : ℕ) (b : Border) (x : P) : Type 0 where
     pub came : b.lag ≤ t → right b.neighbour p (t - b.lag) x

@@ -1,12 +1,13 @@
 //! What a partition takes from its neighbours before a second, and gives to them after it.
 
-ghost use Rattle.std.specs.Prelude.{◌≡◌, ℕ, ◌+◌, ◌<◌, ◌≤◌, false, length, get_or, set, IfNone, IfSome, OnOk, OnErr};
+ghost use Rattle.std.specs.Prelude.{◌≡◌, ℕ, ◌+◌, ◌<◌, length, set, IfNone, IfSome, OnOk, OnErr};
 ghost use Rattle.limits.specs.declared.TheConstants.{MAX_PARTITIONS};
 ghost use Rattle.step_core.specs.{Cores.done_at, Exchanges.neighbour_at, Exchanges.lag_at, Exchanges.AreListed};
-ghost use Rattle.step_core.specs.Exchanges.{AreHeard, HasTakenIn, AreSent, HaveRoom, IsReady, HasTaken, HasExchanged, IsFirstLate};
+ghost use Rattle.step_core.specs.Exchanges.{HasTakenIn, AreSent, HaveRoom, IsReady, HasTaken, HasExchanged, IsFirstLate};
 ghost use Rattle.step_core.specs.Views.{in_place, AreEmpty, IsAt, Stays};
-ghost use Rattle.step_core.specs.Wheels.{IsNoted, due_in, is_flagged, lies, IsPut};
+ghost use Rattle.step_core.specs.Wheels.{IsNoted, due_in, IsPut};
 
+use crate::borders::place_of;
 use crate::part::{Border, Part};
 use crate::wheel::Wheel;
 use std::alloc::AllocError;
@@ -53,34 +54,21 @@ fn absorb_some<T: Part>(part: &mut T, place: usize, parcel: T::Parcel)
     part.absorb(place, parcel);
 }
 
-/// A partition absorbs what lies in the row of a second in its wheel.
-fn hear_row<T: Part>(borders: &[Border], second: u32, part: &mut T, wheel: &mut Wheel<T::Parcel>)
-    requires noted { IsNoted T.nothing wheel.old }
-    requires listed { AreListed borders.now }
-    requires empty { AreEmpty T.nothing (length borders.now) (T.see part.old).inbox }
-    ensures { AreHeard T.nothing T.see T.stands second borders.now (length borders.now) wheel.old wheel.new part.old part.new }
-{
-    for place in 0..borders.len() {
-        let sender = borders[place].neighbour;
-        let parcel = wheel.take(second, sender, T::nothing());
-        absorb_some(part, place, parcel);
-    }
-}
-
-/// A partition absorbs what is due in a second, if anything is.
+/// A partition absorbs what lies in the row of a second in its wheel. Only those places are looked at in which something may lie.
 fn hear<T: Part>(borders: &[Border], second: u32, part: &mut T, wheel: &mut Wheel<T::Parcel>)
     requires noted { IsNoted T.nothing wheel.old }
     requires listed { AreListed borders.now }
     requires empty { AreEmpty T.nothing (length borders.now) (T.see part.old).inbox }
-    requires quiet { is_flagged wheel.old second ≡ false → (k : ℕ) → k < length borders.now
-        → lies T.nothing wheel.old second (neighbour_at borders.now k) ≡ T.nothing }
     ensures { HasTakenIn T.nothing T.see T.stands second borders.now wheel.old wheel.new part.old part.new }
 {
-    if !wheel.is_flagged(second) {
-        return;
+    let mut from = 0;
+    'senders: while let Some(sender) = wheel.next_sender(second, from) {
+        let parcel = wheel.take(second, sender, T::nothing());
+        if let Some(place) = place_of(borders, sender) {
+            absorb_some(part, place, parcel);
+        }
+        from = sender + 1;
     }
-    hear_row(borders, second, part, wheel);
-    wheel.clear_flag(second);
 }
 
 /// A parcel of partition `number` goes into the wheel of a neighbour.
@@ -92,29 +80,7 @@ fn send_to<T: Part>(number: u32, second: u32, parcel: T::Parcel, wheel: &mut Whe
     wheel.put(second, number, parcel);
 }
 
-/// What partition `number` sends to each neighbour goes into the wheel of that one; where nothing is in a parcel none is looked at.
-fn send_each<T: Part>(
-    borders: &[Border],
-    number: u32,
-    second: u32,
-    part: &mut T,
-    wheels: &mut [Wheel<T::Parcel>],
-)
-    requires have { HaveRoom T.nothing second number borders.now wheels.old }
-    requires places { length (T.see part.old).outbox ≡ length borders.now }
-    ensures { AreSent T.nothing T.see T.stands second number borders.now (length borders.now) wheels.old wheels.new part.old part.new }
-{
-    for place in 0..borders.len() {
-        let parcel = part.outbox(place);
-        if T::is_nothing(&parcel) {
-            continue;
-        }
-        let to = borders[place].neighbour as usize;
-        send_to::<T>(number, second, parcel, &mut wheels[to]);
-    }
-}
-
-/// The same, if it sends anything.
+/// What partition `number` sends to its neighbours goes into their wheels. Only those parcels are looked at in which something may be.
 fn send<T: Part>(
     borders: &[Border],
     number: u32,
@@ -126,10 +92,13 @@ fn send<T: Part>(
     requires places { length (T.see part.old).outbox ≡ length borders.now }
     ensures { AreSent T.nothing T.see T.stands second number borders.now (length borders.now) wheels.old wheels.new part.old part.new }
 {
-    if !part.sends() {
-        return;
+    let mut from = 0;
+    'parcels: while let Some(place) = part.next_parcel(from) {
+        let parcel = part.outbox(place);
+        let to = borders[place].neighbour as usize;
+        send_to::<T>(number, second, parcel, &mut wheels[to]);
+        from = place + 1;
     }
-    send_each(borders, number, second, part, wheels);
 }
 
 /// Partition `number` absorbs what is due, does the second, and sends. It takes no memory but what the second takes.

@@ -2,6 +2,7 @@
 //! send to one another over. What a partition is, is known to it by a small contract alone.
 #![tactic(auto)]
 
+mod borders;
 mod cores;
 mod hearing;
 mod laws;
@@ -11,6 +12,7 @@ mod starting;
 mod steps;
 mod wheel;
 
+pub use borders::place_of;
 pub use cores::{Core, Step};
 pub use laws::orders_end;
 pub use part::{Border, BorderList, Part};

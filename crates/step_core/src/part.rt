@@ -1,8 +1,8 @@
 //! What a partition is to the core.
 
-ghost use Rattle.std.specs.Prelude.{◌≡◌, ◌+◌, ◌<◌, ℕ, true, false, List, length, set, IfOk, OnOk, OnErr};
+ghost use Rattle.std.specs.Prelude.{◌≡◌, ◌+◌, ◌<◌, ◌≤◌, ℕ, true, List, length, set, IfNone, IfSome, IfOk, OnOk, OnErr};
 ghost use Rattle.step_core.specs.Nets.{Net};
-ghost use Rattle.step_core.specs.Views.{PartView, in_place, AreEmpty, HasHeard, HasSent, HasDone, IsAt, Stays};
+ghost use Rattle.step_core.specs.Views.{PartView, in_place, AreEmpty, IsNextPlace, HasHeard, HasSent, HasDone, IsAt, Stays};
 
 use events::Rows;
 use std::alloc::{AllocError, Global};
@@ -111,9 +111,11 @@ pub trait Part: Drop {
             (borders run.now (see self.old).number) (see self.new).outbox) }
         ensures spent { OnErr result (spent self.new) };
 
-    /// Whether something may be in a parcel that is to go. Where not, nothing has to be taken out.
-    fn sends(&self) -> bool
-        ensures { result ≡ false → (place : ℕ) → in_place nothing (see self.now).outbox place ≡ nothing };
+    /// The first neighbour from this place on in whose parcel that is to go something may be. The parcels before it, or all from there on
+    /// where there is none, need not be taken out.
+    fn next_parcel(&self, from: usize) -> Option<usize>
+        ensures none { IfNone result ((place : ℕ) → from ≤ place → in_place nothing (see self.now).outbox place ≡ nothing) }
+        ensures some { IfSome result (IsNextPlace nothing (see self.now).outbox from) };
 
     /// Takes out the parcel for neighbour `place`.
     fn outbox(&mut self, place: usize) -> Self::Parcel

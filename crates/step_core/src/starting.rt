@@ -10,6 +10,7 @@ use crate::cores::Core;
 use crate::part::{Border, BorderList, Part};
 use crate::wheel::{WHEEL, Wheel};
 use limits::MAX_PARTITIONS;
+use number_sets::NumberSet;
 use std::alloc::{AllocError, Global};
 
 /// The neighbours of each partition, by number.
@@ -69,18 +70,27 @@ fn empty_rows<T: Part>(alloc: Global) -> Result<Vec<T::Parcel>, AllocError>
     Ok(parcels)
 }
 
+/// A set without a sender for each row.
+fn no_notes(alloc: Global) -> Result<Vec<NumberSet>, AllocError>
+    ensures count { IfOk result (λ noted. length noted.items ≡ WHEEL) }
+{
+    let mut noted = Vec::with_capacity(alloc, WHEEL as usize)?;
+    for _row in 0..WHEEL {
+        noted.push(NumberSet::new())?;
+    }
+    Ok(noted)
+}
+
 /// The wheel of a partition with these neighbours, in which nothing lies.
 fn empty_wheel<T: Part>(alloc: Global, borders: &[Border]) -> Result<Wheel<T::Parcel>, AllocError>
     requires { AreListed borders.now }
     ensures { IfOk result (IsEmptyWheel T.nothing borders.now) }
 {
     let lags = lags_from(alloc, borders)?;
-    let flags = vec![in alloc; false; WHEEL as usize]?;
-    let noted = vec![in alloc; false; WHEEL as usize * MAX_PARTITIONS as usize]?;
+    let noted = no_notes(alloc)?;
     let parcels = empty_rows::<T>(alloc)?;
     Ok(Wheel {
         lags,
-        flags,
         noted,
         parcels,
     })

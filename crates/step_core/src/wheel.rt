@@ -1,11 +1,13 @@
 //! What was sent to a partition.
 
-ghost use Rattle.std.specs.Prelude.{◌≡◌, ◌*◌, ◌<◌, true, false, set, get_or};
+ghost use Rattle.std.specs.Prelude.{◌≡◌, ◌*◌, ◌<◌, ◌≤◌, ℕ, false, set, get_or, IfNone, IfSome};
 ghost use Rattle.limits.specs.declared.TheConstants.{MAX_PARTITIONS};
+ghost use Rattle.number_sets.specs.Sets.{IsNext};
 ghost use Rattle.step_core.specs.declared.wheel.TheConstants.{WHEEL};
-ghost use Rattle.step_core.specs.Wheels.{IsWhole, IsNoted, row_of, place_in, note_in, lag_in, due_in, is_flagged};
+ghost use Rattle.step_core.specs.Wheels.{IsWhole, IsNoted, row_of, place_in, due_in, notes_at, is_noted};
 
-use limits::{MAX_LAG, MAX_PARTITIONS};
+use limits::MAX_LAG;
+use number_sets::NumberSet;
 use std::mem::replace;
 
 /// How many rows a wheel has: what is sent to a partition, from the second that it does next on, is due in fewer seconds than two lags take
@@ -14,18 +16,15 @@ pub(crate) const WHEEL: u64 = 2 * MAX_LAG as u64;
 
 /// The parcels that were sent to one partition and that it has not absorbed, by the second in which each is due: a timing wheel. The row of
 /// a second is that of its number modulo `WHEEL`, and has a place for each sender, by number. In most places nothing lies, which is seen
-/// without a look at the place.
+/// without a look at the place: each row has the set of those senders of whom something may lie there.
 ///
-/// What a sender sends in seconds that follow one another lies side by side in memory. Of the notes those of one row do, since they are
-/// read from the first sender to the last.
+/// What a sender sends in seconds that follow one another lies side by side in memory.
 #[derive(Drop)]
 pub struct Wheel<P> {
     /// After how many seconds a parcel of a sender is due, by number.
     pub(crate) lags: Vec<u32>,
-    /// Whether something may lie in a row.
-    pub(crate) flags: Vec<bool>,
-    /// Of each place whether something may lie there: row by row.
-    pub(crate) noted: Vec<bool>,
+    /// Of each row the senders in whose places something may lie.
+    pub(crate) noted: Vec<NumberSet>,
     /// What lies in each place: sender by sender.
     pub(crate) parcels: Vec<P>,
 }
@@ -47,33 +46,15 @@ fn place_in(second: u64, sender: u32) -> usize
     sender as usize * WHEEL as usize + row_of(second)
 }
 
-/// The index of the note of this place.
-fn note_in(second: u64, sender: u32) -> usize
-    requires { sender < MAX_PARTITIONS }
-    ensures place { result ≡ note_in second sender }
-    ensures within { result < WHEEL * MAX_PARTITIONS }
-{
-    row_of(second) * MAX_PARTITIONS as usize + sender as usize
-}
-
 impl<P: Drop> Wheel<P> {
-    /// Whether something may lie in the row of a second.
-    pub(crate) fn is_flagged(&self, second: u32) -> bool
+    /// The first sender from this number on of whom something may lie in the row of a second.
+    pub(crate) fn next_sender(&self, second: u32, from: u32) -> Option<u32>
         requires { IsWhole self.now }
-        ensures { result ≡ is_flagged self.now second }
+        ensures none { IfNone result ((a : ℕ) → from ≤ a → is_noted self.now second a ≡ false) }
+        ensures some { IfSome result (IsNext (notes_at self.now second) from) }
     {
-        self.flags[row_of(u64::from(second))]
-    }
-
-    /// Nothing lies in the row of a second.
-    pub(crate) fn clear_flag(&mut self, second: u32)
-        requires { IsWhole self.old }
-        ensures flags { self.new.flags.items ≡ set self.old.flags.items (row_of second) false }
-        ensures lags { self.new.lags.items ≡ self.old.lags.items }
-        ensures noted { self.new.noted.items ≡ self.old.noted.items }
-        ensures parcels { self.new.parcels.items ≡ self.old.parcels.items }
-    {
-        self.flags[row_of(u64::from(second))] = false;
+        let notes = &self.noted[row_of(u64::from(second))];
+        notes.next(from)
     }
 
     /// Takes out what lies in the place of a sender in the row of a second, and leaves the parcel with nothing in it there.
@@ -83,15 +64,12 @@ impl<P: Drop> Wheel<P> {
         ensures parcel { result ≡ get_or self.old.parcels.items (place_in second sender) nothing }
         ensures parcels { self.new.parcels.items ≡ set self.old.parcels.items (place_in second sender) nothing }
         ensures noted { IsNoted nothing self.new }
-        ensures flags { self.new.flags.items ≡ self.old.flags.items }
         ensures lags { self.new.lags.items ≡ self.old.lags.items }
     {
-        let note = note_in(u64::from(second), sender);
-        if !self.noted[note] {
-            return nothing;
-        }
-        self.noted[note] = false;
-        let place = place_in(u64::from(second), sender);
+        let second = u64::from(second);
+        let notes = &mut self.noted[row_of(second)];
+        notes.remove(sender);
+        let place = place_in(second, sender);
         replace(&mut self.parcels[place], nothing)
     }
 
@@ -102,14 +80,12 @@ impl<P: Drop> Wheel<P> {
         ensures noted { (nothing : P) → IsNoted nothing self.old → IsNoted nothing self.new }
         ensures parcels { self.new.parcels.items
             ≡ set self.old.parcels.items (place_in (due_in self.old second sender) sender) parcel }
-        ensures flags { self.new.flags.items ≡ set self.old.flags.items (row_of (due_in self.old second sender)) true }
         ensures lags { self.new.lags.items ≡ self.old.lags.items }
     {
         let lag = self.lags[sender as usize];
         let due = u64::from(second) + u64::from(lag);
-        self.flags[row_of(due)] = true;
-        let note = note_in(due, sender);
-        self.noted[note] = true;
+        let notes = &mut self.noted[row_of(due)];
+        notes.insert(sender);
         let place = place_in(due, sender);
         self.parcels[place] = parcel;
     }

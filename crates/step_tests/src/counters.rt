@@ -1,7 +1,7 @@
 //! A stand-in for a partition.
 
-ghost use Rattle.std.specs.Prelude.{◌≡◌, ℕ, ◌<◌, false, length, set, IfOk};
-ghost use Rattle.step_core.specs.{Nets.border_at, Views.in_place, Views.AreEmpty, Views.HasSent};
+ghost use Rattle.std.specs.Prelude.{◌≡◌, ℕ, ◌<◌, ◌≤◌, length, set, IfNone, IfSome, IfOk};
+ghost use Rattle.step_core.specs.{Nets.border_at, Views.in_place, Views.AreEmpty, Views.IsNextPlace, Views.HasSent};
 ghost use Rattle.step_tests.specs.Rows.{net_of, neighbours, number_of};
 ghost use Rattle.step_tests.specs.Counters.{view_of, IsAsBefore, Counts, IsSpent, is_number};
 
@@ -44,16 +44,17 @@ fn places(alloc: Global, count: usize) -> Result<Vec<u64>, AllocError>
     Ok(places)
 }
 
-/// Whether a number lies in one of these places.
-fn has_number(places: &[u64]) -> bool
-    ensures { result ≡ false → (k : ℕ) → in_place 0 places.now k ≡ 0 }
+/// The first of these places from this one on in which a number lies.
+fn next_number(places: &[u64], from: usize) -> Option<usize>
+    ensures none { IfNone result ((k : ℕ) → from ≤ k → in_place 0 places.now k ≡ 0) }
+    ensures some { IfSome result (IsNextPlace 0 places.now from) }
 {
-    for parcel in places {
-        if *parcel != 0 {
-            return true;
+    for place in from..places.len() {
+        if places[place] != 0 {
+            return Some(place);
         }
     }
-    false
+    None
 }
 
 impl Counter {
@@ -212,8 +213,8 @@ impl Part for Counter {
         Ok(())
     }
 
-    fn sends(&self) -> bool {
-        has_number(&self.outbox)
+    fn next_parcel(&self, from: usize) -> Option<usize> {
+        next_number(&self.outbox, from)
     }
 
     #[tactic(auto, using(crate::proofs::Counting::stays))]

@@ -150,7 +150,7 @@ where
     ensures seconds { (T.see part.new).seconds ≡ (T.see part.old).seconds }
     ensures stands { Stays T.stands part.old part.new }
 {
-    if !part.sends() {
+    if part.next_parcel(0).is_none() {
         return;
     }
     for k in 0..port.neighbours().len() {

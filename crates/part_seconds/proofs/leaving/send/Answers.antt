@@ -1,20 +1,13 @@
-use Rattle.std.proofs.Common.{◌<◌, ◌∙◌, List, ap, sym, subst, arith, length}
+use Rattle.std.proofs.Common.{◌<◌, ◌∙◌, List, ap, arith, length}
 use Rattle.partition.specs.Owned.{owner_in}
 use Rattle.town.specs.Views.{setup}
 use Rattle.traffic.specs.declared.world.Person.{Person}
 use Rattle.part_seconds.proofs.{Right.right_parcel, Sent.day_sends, Sent.day_goes}
-use Rattle.part_seconds.specs.{Contents.parcel_of, Parcels.HasNothing, Sending.parcel_for, declared.contents.Contents.Contents}
+use Rattle.part_seconds.specs.{Contents.parcel_of, Sending.parcel_for}
 use Rattle.part_seconds.proofs.leaving.send.Goals as goal
 
-pub all_taken-requires : goal.all_taken-requires
-all_taken-requires c = c.requires.none
-
-pub fill-requires-clause-none : goal.fill-requires-clause-none
-fill-requires-clause-none c = subst (λ (xs : List Contents). HasNothing xs) (sym c.all_taken.ensures) c.requires.none
-
 pub returns-clause-count : goal.returns-clause-count
-returns-clause-count c =
-    c.in_ok-fill.ensures.count ∙ ap (λ (xs : List Contents). length xs) c.all_taken.ensures ∙ c.requires.count
+returns-clause-count c = c.in_ok-fill.ensures.count ∙ c.requires.count
 
 pub returns-clause-parcels : goal.returns-clause-parcels
 returns-clause-parcels c = λ k lt.
@@ -27,8 +20,8 @@ returns-clause-parcels c = λ k lt.
     let es = c.args.leaving.entering.items in
     let ns = c.args.leaving.looked.items in
     let fs = c.args.leaving.freed.items in
-    let many = ap (λ (xs : List Contents). length xs) c.all_taken.ensures ∙ c.requires.count in
-    let there : k < length c.all_taken.new.self = omega arith in
+    let many = c.requires.count in
+    let there : k < length c.args.parcels.now = omega arith in
     ap (parcel_of S t) (c.in_ok-fill.ensures.each k there)
     ∙ ap (λ (ps : List Person). parcel_of S t (parcel_for S own p borders t ps es ns fs k))
     c.requires.persons

@@ -9,6 +9,12 @@ use Rattle.part_seconds.specs.declared.contents.Contents.{Contents}
 use Rattle.parted_day.proofs.{Going.next_stands, Sending.are_others, Sending.has_sent, Sending.sent_as, Standing.empty_has_nothing}
 use Rattle.parted_day.proofs.turns.send_parcels.Goals as goal
 
+pub invariant_of-exits : goal.invariant_of-exits
+invariant_of-exits c =
+    let run = c.args.run.now in
+    let found = are_others run.day.now run.owner.now run.given c.args.partition _ c.neighbours_of-borders.ensures in
+    record { ascend = found.ascend }
+
 pub send-requires-clause-plans : goal.send-requires-clause-plans
 send-requires-clause-plans c = one_each c.args.run.now.day.now c.args.area.now.persons.world c.requires.stands.persons.fit
 

@@ -1,9 +1,8 @@
-use Rattle.std.proofs.Common.{◌∙◌, List, [], ◌++◌, ap, append-nil, arith, length, refl, subst, sym}
+use Rattle.std.proofs.Common.{◌∙◌, List, [], ◌++◌, ap, append-nil, arith, refl, sym}
 use Rattle.std.specs.Prelude.{if◌then◌else◌}
 use Rattle.events.specs.declared.event.Event.{Event}
 use Rattle.partition.specs.Owned.{owner_in}
 use Rattle.town.specs.Views.{setup}
-use Rattle.part_seconds.specs.{Parcels.HasNothing, declared.contents.Contents.Contents}
 use Rattle.parted_day.proofs.{Standing.empty_as, Standing.empty_has_nothing, Telling.told_next, part.TownPartPart.second.Goals.Then-rests}
 use Rattle.parted_day.specs.{Rest.ChangesNothing, Turns.turns_told}
 use Rattle.parted_day.proofs.part.TownPartPart.second.Goals as goal
@@ -38,16 +37,13 @@ returns-then-rests-clause-done c =
         whole = c.requires.stands.whole;
       };
       empty = record { many = c.requires.places; none = λ k lt. c.has_some.ensures c.if-not-has_some.true k };
-      places = ap (λ (xs : List Contents). length xs) c.all_taken.ensures ∙ c.requires.gone.many;
+      places = c.requires.gone.many;
     }
 
 pub returns-then-rests-clause-sent : goal.returns-then-rests-clause-sent
 returns-then-rests-clause-sent c =
-    (rested (goal.at.returns-then-rests-clause-sent c).Then-rests).sent c.all_taken.new.self
-    (subst (λ (xs : List Contents). HasNothing xs) (sym c.all_taken.ensures) (empty_has_nothing _ c.args.self.now.outbox c.requires.gone))
-
-pub all_taken-requires : goal.all_taken-requires
-all_taken-requires c = empty_has_nothing _ c.args.self.now.outbox c.requires.gone
+    (rested (goal.at.returns-then-rests-clause-sent c).Then-rests).sent c.args.self.now.outbox
+    (empty_has_nothing _ c.args.self.now.outbox c.requires.gone)
 
 pub take_turns-requires-clause-second_in : goal.take_turns-requires-clause-second_in
 take_turns-requires-clause-second_in c = let short = c.args.run.now.day.now.town.now.sound.settings.ends in omega arith

@@ -1,11 +1,25 @@
-use Rattle.std.proofs.Common.{List, ap, refl, sym, subst, length}
+use Rattle.std.proofs.Common.{List, ap, refl, sym, subst, arith, length}
 use Rattle.events.specs.declared.event.Event.{Event}
-use Rattle.parted_day.proofs.{Standing.none_stray, Standing.new_empty, Telling.none_told}
+use Rattle.parted_day.proofs.{Senders.few, Standing.none_stray, Standing.new_empty, Telling.none_told}
 use Rattle.parted_day.specs.{Parts.HasTold, Strays.AreStrays, declared.straying.Stray.Stray}
 use Rattle.partition.specs.Owned.{owner_in}
 use Rattle.step_core.specs.declared.part.Border.{Border}
 use Rattle.town.specs.Views.{setup}
 use Rattle.parted_day.proofs.part.TownPartPart.start.Goals as goal
+
+pub new-requires : goal.new-requires
+new-requires c =
+    let run = c.args.run.now in
+    let many = ap (λ (bs : List Border). length bs) c.neighbours_of-count.ensures in
+    let at_most = few (setup run.day.now) (owner_in run.owner.now.of_node) run.owner.now.parts c.args.number run.owner.now.few in
+    omega arith
+
+pub new-requires-2 : goal.new-requires-2
+new-requires-2 c =
+    let run = c.args.run.now in
+    let many = ap (λ (bs : List Border). length bs) c.neighbours_of-count.ensures in
+    let at_most = few (setup run.day.now) (owner_in run.owner.now.of_node) run.owner.now.parts c.args.number run.owner.now.few in
+    omega arith
 
 pub returns : goal.returns
 returns c =

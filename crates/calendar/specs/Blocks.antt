@@ -1,6 +1,6 @@
 -- The seconds of a calendar, in blocks of so many.
 use Rattle.std.specs.Prelude.{◌≡◌, ℕ, zero, suc, ◌<◌, ◌/◌, ◌%◌, List, [], ◌∷◌, ◌++◌, length, get_or, map, vec_items, ◌==◌, if◌then◌else◌}
-use Rattle.std.specs.{Prelude.Vec, Prelude.Option, Prelude.None, Prelude.Some, declared.alloc.Global.Global}
+use Rattle.std.specs.{Prelude.Vec, Prelude.Option, Prelude.None, declared.alloc.Global.Global}
 use Rattle.calendar.specs.{Due.Due, declared.TheConstants.BLOCK_SECONDS}
 
 -- a block: of each of its seconds, as far as there are rows, the last hook

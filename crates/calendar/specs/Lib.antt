@@ -1,3 +1,4 @@
+pub mod ShortViews
 pub mod Due
 pub mod Blocks
 pub mod Hooks

@@ -1,3 +1,4 @@
+use crate::short_option::ShortOption;
 use std::marker::Model;
 
 /// On what one number hangs, or none, where it is free.
@@ -6,7 +7,7 @@ pub(crate) struct Hook {
     /// The number that is due; of a hook that is free it tells nothing.
     pub(crate) number: u32,
     /// The hook of the number that came to the same second before this one; of one that is free the next one that is free.
-    pub(crate) next: Option<u32>,
+    pub(crate) next: ShortOption,
 }
 
 /// Numbers by the second in which they are due, those of one second in the order in which they came.
@@ -20,11 +21,11 @@ pub(crate) struct Hook {
 #[derive(Drop)]
 pub struct Calendar {
     /// By block, of each of its seconds the last hook.
-    pub(crate) blocks: Vec<Vec<Option<u32>>>,
+    pub(crate) blocks: Vec<Vec<ShortOption>>,
     /// All hooks, by number.
     pub(crate) hooks: Vec<Hook>,
     /// The first of the hooks that are free.
-    pub(crate) free: Option<u32>,
+    pub(crate) free: ShortOption,
 }
 
 impl Model for Calendar {

@@ -1,10 +1,12 @@
 //! The hooks on which numbers hang, one from another. Where a place has no hook, an empty one is read and nothing is written: in a calendar
 //! each place that is named has one.
 
-ghost use Rattle.std.specs.Prelude.{◌≡◌, ◌++◌, [], ◌∷◌, length, set, OnOk, OnErr, IfOk};
+ghost use Rattle.std.specs.Prelude.{◌≡◌, ◌++◌, [], ◌∷◌, ◌<◌, length, set, OnOk, OnErr, IfOk};
 ghost use Rattle.calendar.specs.Hooks.{hook_at, numbers_at, last_at, freed_from, given_back, first_free, IsHooked};
+ghost use Rattle.calendar.specs.declared.short_option.TheConstants.{NO_NUMBER};
 
 use crate::by_second::Hook;
+use crate::short_option::{NO_NUMBER, ShortOption};
 use lists::push_with_room;
 use std::alloc::{AllocError, Global};
 
@@ -18,7 +20,7 @@ fn hook_at(hooks: &[Hook], place: u32) -> Hook
     }
     Hook {
         number: 0,
-        next: None,
+        next: ShortOption::none(),
     }
 }
 
@@ -32,30 +34,33 @@ fn set_hook(hooks: &mut [Hook], place: u32, hook: Hook)
     }
 }
 
-/// One hook more, behind the others: the answer is its place. An error too where 2^32 are there, since a place is a `u32`.
+/// One hook more, behind the others: the answer is its place. An error too where 2^32 - 1 are there, since a place is a short number.
 fn add_hook(hooks: &mut Vec<Hook>, hook: Hook) -> Result<u32, AllocError>
     ensures ok { IfOk result (λ place. place ≡ length hooks.old.items) }
+    ensures short { IfOk result (λ place. place < NO_NUMBER) }
     ensures more { OnOk result (hooks.new.items ≡ hooks.old.items ++ hook ∷ []) }
     ensures err { OnErr result (hooks.new.items ≡ hooks.old.items) }
 {
-    let Ok(place) = u32::try_from(hooks.len()) else {
+    let place = hooks.len();
+    if place >= NO_NUMBER as usize {
         return Err(AllocError);
-    };
+    }
     push_with_room(hooks, hook)?;
-    Ok(place)
+    Ok(place as u32)
 }
 
 /// Hangs a number on a hook that is free, or on a new one, and on it what hung there before.
 pub(crate) fn hook_up(
     hooks: &mut Vec<Hook>,
-    free: &mut Option<u32>,
+    free: &mut ShortOption,
     hook: Hook,
 ) -> Result<u32, AllocError>
     ensures ok { IfOk result (λ place. IsHooked hook free.old hooks.old.items place free.new hooks.new.items) }
+    ensures short { IfOk result (λ place. place < NO_NUMBER) }
     ensures hooks { OnErr result (hooks.new.items ≡ hooks.old.items) }
     ensures free { OnErr result (free.new ≡ free.old) }
 {
-    match *free {
+    match free.get() {
         Some(place) => {
             *free = hook_at(hooks, place).next;
             set_hook(hooks, place, hook);
@@ -75,7 +80,7 @@ pub(crate) struct Chain {
 }
 
 /// What hangs from the hook of a second, where it has one.
-pub(crate) fn hanging(alloc: Global, hooks: &[Hook], head: Option<u32>) -> Result<Chain, AllocError>
+pub(crate) fn hanging(alloc: Global, hooks: &[Hook], head: ShortOption) -> Result<Chain, AllocError>
     ensures numbers { IfOk result (λ all. all.numbers.items ≡ numbers_at hooks.now head) }
     ensures last { IfOk result (λ all. all.last ≡ last_at hooks.now head) }
 {
@@ -84,7 +89,7 @@ pub(crate) fn hanging(alloc: Global, hooks: &[Hook], head: Option<u32>) -> Resul
     let mut rest = head;
     let mut left = hooks.len();
     'chain: while left > 0 {
-        match rest {
+        match rest.get() {
             None => left = 0,
             Some(place) => {
                 let hook = hook_at(hooks, place);
@@ -100,7 +105,7 @@ pub(crate) fn hanging(alloc: Global, hooks: &[Hook], head: Option<u32>) -> Resul
 }
 
 /// The hooks of which this is the last are free, before those that were.
-fn free_from(hooks: &mut [Hook], free: Option<u32>, last: u32)
+fn free_from(hooks: &mut [Hook], free: ShortOption, last: u32)
     ensures { hooks.new ≡ freed_from hooks.old free last }
 {
     let hook = Hook {
@@ -111,13 +116,13 @@ fn free_from(hooks: &mut [Hook], free: Option<u32>, last: u32)
 }
 
 /// The hooks that hang from that of a second, where it has one, are free, and are the next that are used. This is the last of them.
-pub(crate) fn give_back(hooks: &mut Vec<Hook>, free: &mut Option<u32>, head: Option<u32>, last: u32)
+pub(crate) fn give_back(hooks: &mut Vec<Hook>, free: &mut ShortOption, head: ShortOption, last: u32)
     requires { last ≡ last_at hooks.old.items head }
     ensures free { free.new ≡ first_free free.old head }
     ensures hooks { hooks.new.items ≡ given_back hooks.old.items free.old head }
 {
-    if let Some(place) = head {
+    if head.get().is_some() {
         free_from(hooks, *free, last);
-        *free = Some(place);
+        *free = head;
     }
 }

@@ -5,6 +5,7 @@ mod blocks;
 mod by_second;
 mod hooks;
 mod seconds;
+mod short_option;
 mod wake_ups;
 mod waking;
 

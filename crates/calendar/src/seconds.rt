@@ -6,6 +6,7 @@ ghost use Rattle.calendar.specs.Due.{due_at, HasOneMore, HasNone};
 use crate::blocks::{clear, head_of, is_quiet_at, put_head, reach};
 use crate::by_second::{Calendar, Hook};
 use crate::hooks::{give_back, hanging, hook_up};
+use crate::short_option::ShortOption;
 use std::alloc::{AllocError, Global};
 
 impl Calendar {
@@ -17,7 +18,7 @@ impl Calendar {
         Calendar {
             blocks: Vec::new(alloc),
             hooks: Vec::new(alloc),
-            free: None,
+            free: ShortOption::none(),
         }
     }
 
@@ -25,8 +26,8 @@ impl Calendar {
     ///
     /// # Errors
     ///
-    /// `AllocError`: there is no memory for one more, or for the seconds up to then, or 2^32 numbers are due already. The same ones are due
-    /// then as before.
+    /// `AllocError`: there is no memory for one more, or for the seconds up to then, or 2^32 - 1 numbers are due already. The same ones are
+    /// due then as before.
     pub fn add(&mut self, second: u32, number: u32) -> Result<(), AllocError>
         ensures ok { OnOk result (HasOneMore second number self.old self.new) }
         ensures err { OnErr result ((u : ℕ) → due_at u self.new ≡ due_at u self.old) }

@@ -1,4 +1,5 @@
 use crate::by_second::Calendar;
+use crate::short_option::ShortOption;
 use std::marker::Model;
 
 /// When each of some numbers is next woken, where it is at all. Contracts see it as the list of these seconds, by number.
@@ -7,7 +8,7 @@ use std::marker::Model;
 /// woken there.
 #[derive(Drop)]
 pub struct Wakes {
-    pub(crate) due: Vec<Option<u32>>,
+    pub(crate) due: Vec<ShortOption>,
     pub(crate) calendar: Calendar,
 }
 

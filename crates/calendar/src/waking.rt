@@ -5,6 +5,7 @@ ghost use Rattle.std.specs.Prelude.{◌≡◌, ◌<◌, ℕ, true, [], length, m
 ghost use Rattle.calendar.specs.Waking.{wake_of, is_second, is_woken, woken, slept, asleep, woken_by, within};
 
 use crate::by_second::Calendar;
+use crate::short_option::ShortOption;
 use crate::wake_ups::Wakes;
 use std::alloc::{AllocError, Global};
 
@@ -46,41 +47,41 @@ pub fn within(end: u32, second: Option<u32>) -> Option<u32>
 }
 
 /// The second of a number, where it has one.
-fn wake_of(due: &[Option<u32>], number: u32) -> Option<u32>
+fn wake_of(due: &[ShortOption], number: u32) -> Option<u32>
     ensures { result ≡ wake_of due.now number }
 {
     let place = number as usize;
     if place < due.len() {
-        return due[place];
+        return due[place].get();
     }
     None
 }
 
 /// Keeps those of the numbers that are woken in this second.
-fn keep_woken(second: u32, due: &[Option<u32>], numbers: &mut Vec<u32>)
+fn keep_woken(second: u32, due: &[ShortOption], numbers: &mut Vec<u32>)
     ensures { numbers.new.items ≡ filter (is_woken second due.now) numbers.old.items }
 {
     numbers.retain(|number| is_second(second, wake_of(due, *number)));
 }
 
 /// These numbers are not woken any more.
-fn lull(numbers: &[u32], due: &mut Vec<Option<u32>>)
+fn lull(numbers: &[u32], due: &mut Vec<ShortOption>)
     ensures { due.new.items ≡ asleep numbers.now due.old.items }
 {
     for number in numbers {
         let place = *number as usize;
         if place < due.len() {
-            due[place] = None;
+            due[place] = ShortOption::none();
         }
     }
 }
 
 /// No second for so many numbers.
-fn no_seconds(alloc: Global, count: usize) -> Result<Vec<Option<u32>>, AllocError>
+fn no_seconds(alloc: Global, count: usize) -> Result<Vec<ShortOption>, AllocError>
     ensures { IfOk result (λ due. due.items ≡ replicate count None) }
 {
     let mut due = Vec::new(alloc);
-    due.resize(count, None)?;
+    due.resize(count, ShortOption::none())?;
     Ok(due)
 }
 
@@ -122,10 +123,11 @@ impl Wakes {
         if self.due(number) == second {
             return Ok(());
         }
+        let due = ShortOption::from_option(second)?;
         if let Some(second) = second {
             self.calendar.add(second, number)?;
         }
-        self.due[number as usize] = second;
+        self.due[number as usize] = due;
         Ok(())
     }
 

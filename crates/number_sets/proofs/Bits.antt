@@ -83,3 +83,15 @@ next_is bits from set within some =
       there = ap (λ x. x == 1) (sym (rest_at bits from t within least found.0) ∙ found.1);
       none = λ k ge lt. ap (λ x. x == 1) (sym (rest_at bits from k within ge (omega arith)) ∙ found.2 k lt);
     }
+
+-- no number is in the set without a bit
+pub none_in : (bits k : ℕ) → (bits == 0) ≡ true → has bits k ≡ false
+none_in bits k empty = ap (λ n. has n k) (eqb-true bits 0 empty) ∙ ap (λ x. x == 1) (bit_at-zero k)
+
+-- a set without a number has no bit
+pub bare : (bits : ℕ) → IsSet bits → ((k : ℕ) → has bits k ≡ false) → (bits == 0) ≡ true
+bare zero set none = refl
+bare (suc n) set none =
+    let found = bit_at-trailing_zeros w64 (suc n) (omega arith) (omega arith) in
+    let one : has (suc n) (trailing_zeros w64 (suc n)) ≡ true = ap (λ x. x == 1) found.1 in
+    absurd (let e : true ≡ false = sym one ∙ none (trailing_zeros w64 (suc n)) in cc)

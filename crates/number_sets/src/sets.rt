@@ -16,7 +16,8 @@ impl NumberSet {
 
     /// Whether no number is in the set.
     pub fn is_empty(&self) -> bool
-        ensures { result ≡ true → (k : ℕ) → has self.now k ≡ false }
+        ensures none { result ≡ true → (k : ℕ) → has self.now k ≡ false }
+        ensures empty { ((k : ℕ) → has self.now k ≡ false) → result ≡ true }
     {
         self.bits == 0
     }

@@ -1,6 +1,7 @@
 //! What a partition is to the core.
 
-ghost use Rattle.std.specs.Prelude.{◌≡◌, ◌+◌, ◌<◌, ◌≤◌, ℕ, true, List, length, set, IfNone, IfSome, IfOk, OnOk, OnErr};
+ghost use Rattle.std.specs.Prelude.{◌≡◌, ◌+◌, ◌<◌, ◌≤◌, ℕ, true, List, length, set};
+ghost use Rattle.std.specs.Prelude.{IfNone, IfSome, IfOk, OnOk, OnErr};
 ghost use Rattle.step_core.specs.Nets.{Net};
 ghost use Rattle.step_core.specs.Views.{PartView, in_place, AreEmpty, IsNextPlace, HasHeard, HasSent, HasDone, IsAt, Stays};
 

@@ -9,8 +9,8 @@ chain-preserved-in-None c =
     let hooks = c.args.hooks.now in
     let so = c.chain.invariant in
     record {
-      numbers = walk_done hooks c.chain.numbers.items c.chain.left c.chain.rest c.in-None.is ∙ so.numbers;
-      last = last_done hooks c.chain.left c.chain.last c.chain.rest c.in-None.is ∙ so.last;
+      numbers = walk_done hooks c.chain.numbers.items c.chain.left c.chain.rest (sym c.get.ensures.same ∙ c.in-None.is) ∙ so.numbers;
+      last = last_done hooks c.chain.left c.chain.last c.chain.rest (sym c.get.ensures.same ∙ c.in-None.is) ∙ so.last;
     }
 
 pub chain-preserved : goal.chain-preserved
@@ -22,11 +22,11 @@ chain-preserved c =
     record {
       numbers =
           ap (λ (xs : List ℕ). xs ++ walk hooks (left - 1) hook.next) c.in_ok-push_with_room-in-Some.ensures.ok
-          ∙ walk_more hooks c.chain.numbers.items left (left - 1) hook c.chain.rest c.in-Some.place c.in-Some.is c.hook_at-hook.ensures
+          ∙ walk_more hooks c.chain.numbers.items left (left - 1) hook c.chain.rest c.in-Some.place (sym c.get.ensures.same ∙ c.in-Some.is) c.hook_at-hook.ensures
           (omega arith)
           ∙ so.numbers;
       last =
-          last_more hooks left (left - 1) c.chain.last c.in-Some.place hook c.chain.rest c.in-Some.is c.hook_at-hook.ensures (omega arith)
+          last_more hooks left (left - 1) c.chain.last c.in-Some.place hook c.chain.rest (sym c.get.ensures.same ∙ c.in-Some.is) c.hook_at-hook.ensures (omega arith)
           ∙ so.last;
     }
 

@@ -1,15 +1,15 @@
 -- The table of places, with one entry more, or with another one.
-use Rattle.std.proofs.Common.{◌≡◌, ℕ, zero, suc, ◌+◌, ◌<◌, ◌≤◌, false, List, [], ◌∷◌, ◌++◌, length, get_or, refl, ap, sym, ◌∙◌, arith, inl, inr, subst, true}
+use Rattle.std.proofs.Common.{◌≡◌, ℕ, zero, suc, ◌+◌, ◌<◌, ◌≤◌, false, List, [], ◌∷◌, length, get_or, refl, ap, sym, ◌∙◌, arith, inl, inr, subst, true}
 use Rattle.std.proofs.Math.Path.{fun_ext}
 use Rattle.std.proofs.lemmas.{Bool.cases_Bool, Bool.eqb-true, Bool.eqb-false, Bool.eq-eqb, Bool.ne_eqb, List.get_or_default}
 use Rattle.std.proofs.Common.{Bool, ◌-◌, Result, Ok, Err, OnOk, OnErr}
 use Rattle.std.specs.Prelude.{set, ◌==◌, if◌then◌else◌, Option, None, Some}
 use Rattle.traffic.specs.{Nodes.one_more, declared.node_views.OutLink.OutLink}
 use Rattle.node_move.specs.Entries.{SpaceRows, entry_at, entry_in, places_of, holes_of, fewer, holes_put, rows_of, no_entry, StandsAt}
-use Rattle.node_move.specs.{Pages.number_of, Spaces.places_in, Spaces.holes_in, declared.space.Entry.Entry}
+use Rattle.node_move.specs.{Starts.place_of, Spaces.places_in, Spaces.holes_in, declared.space.Entry.Entry}
 
 -- ENTRIES
-entry_past : (es : List Entry) (m k : ℕ) → length es ≤ k → entry_at es m k ≡ None
+pub entry_past : (es : List Entry) (m k : ℕ) → length es ≤ k → entry_at es m k ≡ None
 entry_past [] m k le = refl
 entry_past (x ∷ es) m zero le = absurd (omega arith)
 entry_past (x ∷ es) m (suc k) le = entry_past es m k (omega arith)
@@ -20,24 +20,13 @@ entry_is [] m k lt = absurd (omega arith)
 entry_is (x ∷ es) m zero lt = refl
 entry_is (x ∷ es) m (suc k) lt = entry_is es m k (omega arith)
 
-entry_last : (es : List Entry) (e : Entry) (m : ℕ) → entry_at (es ++ e ∷ []) m (length es) ≡ (if e.link == m then Some e else None)
-entry_last [] e m = refl
-entry_last (x ∷ es) e m = entry_last es e m
-
--- an entry more is nothing to other links
-entry_more : (es : List Entry) (e : Entry) (m k : ℕ) → (e.link == m) ≡ false → entry_at (es ++ e ∷ []) m k ≡ entry_at es m k
-entry_more [] e m zero h = rw h refl
-entry_more [] e m (suc k) h = refl
-entry_more (x ∷ es) e m zero h = refl
-entry_more (x ∷ es) e m (suc k) h = entry_more es e m k h
-
-entry_own : (es : List Entry) (e : Entry) (m k : ℕ) → k < length es → entry_at (set es k e) m k ≡ (if e.link == m then Some e else None)
+pub entry_own : (es : List Entry) (e : Entry) (m k : ℕ) → k < length es → entry_at (set es k e) m k ≡ (if e.link == m then Some e else None)
 entry_own [] e m k lt = absurd (omega arith)
 entry_own (x ∷ es) e m zero lt = refl
 entry_own (x ∷ es) e m (suc k) lt = entry_own es e m k (omega arith)
 
 -- nor is another entry of a link
-entry_kept : (es : List Entry) (e : Entry) (m k j : ℕ) → (e.link == m) ≡ false → ((get_or es k no_entry).link == m) ≡ false
+pub entry_kept : (es : List Entry) (e : Entry) (m k j : ℕ) → (e.link == m) ≡ false → ((get_or es k no_entry).link == m) ≡ false
     → entry_at (set es k e) m j ≡ entry_at es m j
 entry_kept [] e m k j h g = refl
 entry_kept (x ∷ es) e m zero zero h g = rw (h, g) refl
@@ -46,29 +35,26 @@ entry_kept (x ∷ es) e m (suc k) zero h g = refl
 entry_kept (x ∷ es) e m (suc k) (suc j) h g = entry_kept es e m k j h g
 
 -- THE TABLE
-abbrev pub Pages : Type 0
-Pages = List (List ℕ)
-
 -- a link has no entry where its number is past all entries, nor where that of another link stands there
-pub none_there : (ks : Pages) (es : List Entry) (m : ℕ) → length es ≤ number_of ks m → entry_in (rows_of ks es) m ≡ None
+pub none_there : (ks : List ℕ) (es : List Entry) (m : ℕ) → length es ≤ place_of ks m → entry_in (rows_of ks es) m ≡ None
 unfolding entry_in
-none_there ks es m le = entry_past es m (number_of ks m) le
+none_there ks es m le = entry_past es m (place_of ks m) le
 
-pub other_there : (ks : Pages) (es : List Entry) (m k : ℕ) → k ≡ number_of ks m → k < length es → ((get_or es k no_entry).link ≡ m → ⊥)
+pub other_there : (ks : List ℕ) (es : List Entry) (m k : ℕ) → k ≡ place_of ks m → k < length es → ((get_or es k no_entry).link ≡ m → ⊥)
     → entry_in (rows_of ks es) m ≡ None
 unfolding entry_in
 other_there ks es m k is within ne =
     let e : ((get_or es k no_entry).link == m) ≡ false = ne_eqb (get_or es k no_entry).link m ne in
     ap (entry_at es m) (sym is) ∙ entry_is es m k within ∙ rw e refl
 
-pub found : (ks : Pages) (es : List Entry) (m k : ℕ) → StandsAt ks es m k → entry_in (rows_of ks es) m ≡ Some (get_or es k no_entry)
+pub found : (ks : List ℕ) (es : List Entry) (m k : ℕ) → StandsAt ks es m k → entry_in (rows_of ks es) m ≡ Some (get_or es k no_entry)
 unfolding entry_in
 found ks es m k h =
     let e : ((get_or es k no_entry).link == m) ≡ true = eq-eqb (get_or es k no_entry).link m h.link in
-    ap (entry_at es m) h.slot ∙ entry_is es m k h.within ∙ rw e refl
+    ap (entry_at es m) h.place ∙ entry_is es m k h.within ∙ rw e refl
 
 -- another entry of link l
-pub replaced : (ks : Pages) (es : List Entry) (l k : ℕ) (e : Entry) (m : ℕ) → e.link ≡ l → StandsAt ks es l k
+pub replaced : (ks : List ℕ) (es : List Entry) (l k : ℕ) (e : Entry) (m : ℕ) → e.link ≡ l → StandsAt ks es l k
     → entry_in (rows_of ks (set es k e)) m ≡ (if m == l then Some e else entry_in (rows_of ks es) m)
 unfolding entry_in
 replaced ks es l k e m named h =
@@ -76,71 +62,40 @@ replaced ks es l k e m named h =
       | inl q ↦
           let s : m ≡ l = eqb-true m l q in
           let own : (e.link == m) ≡ true = eq-eqb e.link m (named ∙ sym s) in
-          rw q (ap (entry_at (set es k e) m) (ap (number_of ks) s ∙ h.slot) ∙ entry_own es e m k h.within ∙ rw own refl)
+          rw q (ap (entry_at (set es k e) m) (ap (place_of ks) s ∙ h.place) ∙ entry_own es e m k h.within ∙ rw own refl)
       | inr q ↦
           let a : (e.link == m) ≡ false = ne_eqb e.link m (λ (z : e.link ≡ m). eqb-false m l q (sym z ∙ named)) in
           let b : ((get_or es k no_entry).link == m) ≡ false
           = ne_eqb (get_or es k no_entry).link m (λ (z : (get_or es k no_entry).link ≡ m). eqb-false m l q (sym z ∙ h.link)) in
-          rw q (entry_kept es e m k (number_of ks m) a b)
-    ]
-
--- an entry more
-pub added : (ks ls : Pages) (es : List Entry) (e : Entry) (m : ℕ)
-    → number_of ls m ≡ (if m == e.link then length es else number_of ks m)
-    → entry_in (rows_of ls (es ++ e ∷ [])) m ≡ (if m == e.link then Some e else entry_in (rows_of ks es) m)
-unfolding entry_in
-added ks ls es e m is =
-    let new : List Entry = es ++ e ∷ [] in
-    elim (cases_Bool (m == e.link)) [
-      | inl q ↦
-          let own : (e.link == m) ≡ true = eq-eqb e.link m (sym (eqb-true m e.link q)) in
-          let k : number_of ls m ≡ length es = is ∙ rw q refl in
-          rw q (ap (entry_at new m) k ∙ entry_last es e m ∙ rw own refl)
-      | inr q ↦
-          let a : (e.link == m) ≡ false = ne_eqb e.link m (λ (z : e.link ≡ m). eqb-false m e.link q (sym z)) in
-          let k : number_of ls m ≡ number_of ks m = is ∙ rw q refl in
-          rw q (ap (entry_at new m) k ∙ entry_more es e m (number_of ks m) a)
-    ]
-
--- the same numbers
-pub renumbered : (ks ls : Pages) (es : List Entry) (m : ℕ) → number_of ls m ≡ number_of ks m
-    → entry_in (rows_of ls es) m ≡ entry_in (rows_of ks es) m
-unfolding entry_in
-renumbered ks ls es m same = ap (entry_at es m) same
-
--- another number of a link that has no entry, past all entries
-pub still_none : (ks ls : Pages) (es : List Entry) (l k m : ℕ) → length es ≤ k → entry_in (rows_of ks es) l ≡ None
-    → number_of ls m ≡ (if m == l then k else number_of ks m) → entry_in (rows_of ls es) m ≡ entry_in (rows_of ks es) m
-unfolding entry_in
-still_none ks ls es l k m le none is =
-    elim (cases_Bool (m == l)) [
-      | inl q ↦
-          let past : number_of ls m ≡ k = is ∙ rw q refl in
-          ap (entry_at es m) past ∙ entry_past es m k le ∙ sym none ∙ ap (λ (x : ℕ). entry_at es x (number_of ks x)) (sym (eqb-true m l q))
-      | inr q ↦ let same : number_of ls m ≡ number_of ks m = is ∙ rw q refl in ap (entry_at es m) same
+          rw q (entry_kept es e m k (place_of ks m) a b)
     ]
 
 -- AS CALLS FIND IT
-pub found_there : (ks : Pages) (es entries : List Entry) (m k : ℕ) (e : Entry) → entries ≡ es → StandsAt ks entries m k → e ≡ get_or es k e
-    → entry_in (rows_of ks es) m ≡ Some e
-found_there ks es entries m k e b h read =
-    let g : StandsAt ks es m k = subst (λ (xs : List Entry). StandsAt ks xs m k) b h in
+stands : (ks starts : List ℕ) (es entries : List Entry) (m k : ℕ) → starts ≡ ks → entries ≡ es → StandsAt starts entries m k → StandsAt ks es m k
+stands ks starts es entries m k a b h =
+    subst (λ (ls : List ℕ). StandsAt ls es m k) a (subst (λ (xs : List Entry). StandsAt starts xs m k) b h)
+
+pub found_there : (ks starts : List ℕ) (es entries : List Entry) (m k : ℕ) (e : Entry) → starts ≡ ks → entries ≡ es → StandsAt starts entries m k
+    → e ≡ get_or es k e → entry_in (rows_of ks es) m ≡ Some e
+found_there ks starts es entries m k e a b h read =
+    let g = stands ks starts es entries m k a b h in
     let is : e ≡ get_or es k no_entry = read ∙ get_or_default es k e no_entry g.within in
     found ks es m k g ∙ ap (λ (x : Entry). Some x) (sym is)
 
-pub named_there : (ks : Pages) (es entries : List Entry) (m k : ℕ) (e : Entry) → entries ≡ es → StandsAt ks entries m k → e ≡ get_or es k e
-    → e.link ≡ m
-named_there ks es entries m k e b h read =
-    let g : StandsAt ks es m k = subst (λ (xs : List Entry). StandsAt ks xs m k) b h in
+pub named_there : (starts : List ℕ) (es entries : List Entry) (m k : ℕ) (e : Entry) → entries ≡ es → StandsAt starts entries m k
+    → e ≡ get_or es k e → e.link ≡ m
+named_there starts es entries m k e b h read =
+    let g = stands starts starts es entries m k refl b h in
     ap (λ (x : Entry). x.link) (read ∙ get_or_default es k e no_entry g.within) ∙ g.link
 
-pub none_read : (ks : Pages) (es entries : List Entry) (m : ℕ) → entries ≡ es → entry_in (rows_of ks entries) m ≡ None
-    → entry_in (rows_of ks es) m ≡ None
-none_read ks es entries m b h = subst (λ (xs : List Entry). entry_in (rows_of ks xs) m ≡ None) b h
+pub none_read : (ks starts : List ℕ) (es entries : List Entry) (m : ℕ) → starts ≡ ks → entries ≡ es
+    → entry_in (rows_of starts entries) m ≡ None → entry_in (rows_of ks es) m ≡ None
+none_read ks starts es entries m a b h =
+    subst (λ (ls : List ℕ). entry_in (rows_of ls es) m ≡ None) a (subst (λ (xs : List Entry). entry_in (rows_of starts xs) m ≡ None) b h)
 
-pub replaced_there : (ks : Pages) (es entries : List Entry) (l k : ℕ) (e : Entry) (m : ℕ) → e.link ≡ l → entries ≡ es → StandsAt ks entries l k
-    → entry_in (rows_of ks (set es k e)) m ≡ (if m == l then Some e else entry_in (rows_of ks es) m)
-replaced_there ks es entries l k e m named b h = replaced ks es l k e m named (subst (λ (xs : List Entry). StandsAt ks xs l k) b h)
+pub replaced_there : (ks starts : List ℕ) (es entries : List Entry) (l k : ℕ) (e : Entry) (m : ℕ) → e.link ≡ l → starts ≡ ks → entries ≡ es
+    → StandsAt starts entries l k → entry_in (rows_of ks (set es k e)) m ≡ (if m == l then Some e else entry_in (rows_of ks es) m)
+replaced_there ks starts es entries l k e m named a b h = replaced ks es l k e m named (stands ks starts es entries l k a b h)
 
 -- what follows where a call went well, and where it failed
 pub on_ok : {A E : Type 0} {P Q : Type 0} (r : Result A E) → (P → Q) → OnOk r P → OnOk r Q

@@ -1,6 +1,7 @@
 pub mod Single
-pub mod Pages
+pub mod Reaching
 pub mod Entries
+pub mod Blocks
 pub mod Runs
 pub mod Fronts
 pub mod Places

@@ -1,7 +1,8 @@
 -- Where the entries of links stand.
-use Rattle.std.specs.Prelude.{◌≡◌, ℕ, zero, suc, ◌-◌, ◌<◌, List, [], ◌∷◌, length, get_or, ◌==◌, if◌then◌else◌, Option, None, Some}
+use Rattle.std.specs.Prelude.{◌≡◌, ◌≢◌, ℕ, zero, suc, ◌+◌, ◌-◌, ◌/◌, ◌<◌, ◌⊎◌, List, [], ◌∷◌, length, get_or, ◌==◌, if◌then◌else◌}
+use Rattle.std.specs.Prelude.{Option, None, Some}
 use Rattle.traffic.specs.declared.node_views.OutLink.{OutLink}
-use Rattle.node_move.specs.{Pages.number_of, declared.space.Entry.Entry}
+use Rattle.node_move.specs.{Starts.place_of, declared.TheConstants.BLOCK_LINKS, declared.space.Entry.Entry}
 
 -- entry number k, where it is there and is that of link m
 abbrev pub entry_at : List Entry → ℕ → ℕ → Option Entry
@@ -9,27 +10,43 @@ entry_at [] m k = None
 entry_at (e ∷ es) m zero = if e.link == m then Some e else None
 entry_at (e ∷ es) m (suc k) = entry_at es m k
 
--- the number of each link's entry, in pages, and the entries
+-- where the block of each link begins, and the entries
 pub record SpaceRows : Type 0 where
-  pub pages : List (List ℕ)
+  pub starts : List ℕ
   pub entries : List Entry
 
-abbrev pub rows_of : List (List ℕ) → List Entry → SpaceRows
-rows_of pages es = record { pages = pages; entries = es }
+abbrev pub rows_of : List ℕ → List Entry → SpaceRows
+rows_of starts es = record { starts = starts; entries = es }
 
 -- the entry of link m, where it has one
 unfoldable pub entry_in : SpaceRows → ℕ → Option Entry
-entry_in rows m = entry_at rows.entries m (number_of rows.pages m)
+entry_in rows m = entry_at rows.entries m (place_of rows.starts m)
 
 -- no entry
 abbrev pub no_entry : Entry
 no_entry = record { link = 0; holes = 0; places = record { taken = 0; storage = 0; seconds = 0 } }
 
--- entry number k is that of link m, by the table
-pub record StandsAt (pages : List (List ℕ)) (es : List Entry) (m k : ℕ) : Type 0 where
+-- entry number k is that of link m
+pub record StandsAt (starts : List ℕ) (es : List Entry) (m k : ℕ) : Type 0 where
   pub within : k < length es
-  pub slot : number_of pages m ≡ k
+  pub place : place_of starts m ≡ k
   pub link : (get_or es k no_entry).link ≡ m
+
+-- the block of an entry: its links have their entries side by side
+abbrev pub block_at : List Entry → ℕ → ℕ
+block_at es j = (get_or es j no_entry).link / BLOCK_LINKS
+
+-- none of the entries is in block q
+abbrev pub HasNone : List Entry → ℕ → Type 0
+HasNone es q = (j : ℕ) → j < length es → block_at es j ≢ q
+
+-- the entries of block q stand from this place on
+abbrev pub IsBlock : List Entry → ℕ → ℕ → Type 0
+IsBlock es q start = (k : ℕ) → k < BLOCK_LINKS → (start + k < length es) × (block_at es (start + k) ≡ q)
+
+-- the entries of each block stand where it begins, if there are any
+pub record AreBlocks (starts : List ℕ) (es : List Entry) : Type 0 where
+  pub each : (q : ℕ) → HasNone es q ⊎ IsBlock es q (get_or starts q 0)
 
 -- the places and the holes of an entry
 abbrev pub places_of : Option Entry → Option OutLink
@@ -53,3 +70,13 @@ freed e = record e { holes = e.holes - 1; places = record e.places { taken = e.p
 abbrev pub holes_put : ℕ → Option OutLink → ℕ
 holes_put k None = 0
 holes_put k (Some p) = k
+
+-- entry number k is to be that of link m, whose block is there
+pub record IsInside (starts : List ℕ) (es : List Entry) (m k : ℕ) : Type 0 where
+  pub within : k < length es
+  pub place : place_of starts m ≡ k
+  pub block : block_at es k ≡ m / BLOCK_LINKS
+
+-- no entry of the block of link m stands where its own would
+abbrev pub IsOutside : List ℕ → List Entry → ℕ → Type 0
+IsOutside starts es m = place_of starts m < length es → block_at es (place_of starts m) ≢ m / BLOCK_LINKS

@@ -1,5 +1,4 @@
-pub mod Pages
-pub mod TableViews
+pub mod Starts
 pub mod Entries
 pub mod SpaceViews
 pub mod Spaces

@@ -6,10 +6,9 @@ mod alone;
 mod candidates;
 mod crossings;
 mod drawings;
-mod link_table;
-mod link_tables;
 mod space;
 mod spaces;
+mod starts;
 mod turns;
 
 pub use alone::move_alone;
@@ -17,5 +16,5 @@ pub use crossings::{Crossings, Entering};
 pub use space::Space;
 pub use turns::{NodeTurn, move_node};
 
-/// How many links stand on a page of a table.
-pub(crate) const PAGE_LINKS: usize = 64;
+/// How many links that follow one another by number have their entries side by side.
+pub(crate) const BLOCK_LINKS: usize = 16;

@@ -1,4 +1,3 @@
-use crate::link_table::LinkTable;
 use std::marker::Model;
 use traffic::OutLink;
 
@@ -16,18 +15,22 @@ pub(crate) struct Entry {
 /// The places of links: how many are taken, how many there are, and the seconds along the link; and how many of those that are taken are
 /// holes: places that were left and are not free yet. Contracts see its rows, and ask these for the places and the holes of a link.
 ///
-/// A table says where the entry of each link stands. Where another link's entry stands there, or none, the link has no entry.
+/// Of 16 links that follow one another by number the entries stand side by side, from when one of them has an entry on, and it is known
+/// where they begin: so of a link one number and its entry are looked at. Where another link's entry stands in its place, or none, the
+/// link has no entry.
 #[derive(Drop)]
 pub struct Space {
-    /// Where the entry of each link stands.
-    pub(crate) slots: LinkTable,
+    /// Where the entries of each block of 16 links begin.
+    pub(crate) starts: Vec<u32>,
     pub(crate) entries: Vec<Entry>,
 }
 
 impl Model for Space {
-    ghost use Rattle.node_move.specs.{Entries.SpaceRows, SpaceViews.space_view};
+    ghost use Rattle.node_move.specs.{Entries.SpaceRows, SpaceViews.space_view, SpaceViews.is_in_blocks};
 
     ghost Value = { SpaceRows };
 
     ghost view = { space_view };
+
+    ghost invariant = { is_in_blocks };
 }

@@ -1,22 +1,24 @@
 //! How many places of links are taken.
 
-ghost use Rattle.std.specs.Prelude.{◌≡◌, ℕ, ◌+◌, ◌-◌, ◌==◌, if◌then◌else◌, option_map, Option, None, Some};
+ghost use Rattle.std.specs.Prelude.{◌≡◌, ℕ, ◌+◌, ◌-◌, ◌++◌, ◌==◌, if◌then◌else◌, length, replicate, option_map, Option, None, Some};
 ghost use Rattle.std.specs.Prelude.{OnOk, OnErr, MatchOption};
 ghost use Rattle.traffic.specs.{Nodes.one_more, declared.node_views.OutLink.OutLink};
 ghost use Rattle.node_move.specs.{Entries.rows_of, Entries.StandsAt, Entries.entry_in, Entries.freed, Entries.fewer, Entries.holes_put};
-ghost use Rattle.node_move.specs.Spaces.{places_in, holes_in};
+ghost use Rattle.node_move.specs.Entries.{IsInside, IsOutside};
+ghost use Rattle.node_move.specs.{Spaces.places_in, Spaces.holes_in, declared.TheConstants.BLOCK_LINKS};
 
-use crate::link_table::LinkTable;
+use crate::BLOCK_LINKS;
 use crate::space::{Entry, Space};
+use crate::starts::{place_of, put_start};
 use std::alloc::{AllocError, Global};
 use traffic::OutLink;
 
 /// The number of the entry of a link, where it has one.
-fn entry_of(slots: &LinkTable, entries: &[Entry], link: u32) -> Option<usize>
-    ensures { MatchOption result (entry_in (rows_of slots.now entries.now) link ≡ None)
-        (λ number. StandsAt slots.now entries.now link number) }
+fn entry_of(starts: &[u32], entries: &[Entry], link: u32) -> Option<usize>
+    ensures { MatchOption result (entry_in (rows_of starts.now entries.now) link ≡ None)
+        (λ number. StandsAt starts.now entries.now link number) }
 {
-    let number = slots.number(link) as usize;
+    let number = place_of(starts, link);
     if number >= entries.len() {
         return None;
     }
@@ -24,6 +26,30 @@ fn entry_of(slots: &LinkTable, entries: &[Entry], link: u32) -> Option<usize>
         return None;
     }
     Some(number)
+}
+
+/// Where the entry of a link is to stand, where its block is there.
+fn place_in_block(starts: &[u32], entries: &[Entry], link: u32) -> Option<usize>
+    ensures { MatchOption result (IsOutside starts.now entries.now link) (λ number. IsInside starts.now entries.now link number) }
+{
+    let number = place_of(starts, link);
+    if number >= entries.len() {
+        return None;
+    }
+    if entries[number].link as usize / BLOCK_LINKS != link as usize / BLOCK_LINKS {
+        return None;
+    }
+    Some(number)
+}
+
+/// A block of entries more, each of them this one: that of a link stands in its place, and those beside it are nobody's.
+fn add_copies(entries: &mut Vec<Entry>, start: u32, entry: Entry) -> Result<(), AllocError>
+    requires { start ≡ length entries.old.items }
+    ensures ok { OnOk result (entries.new.items ≡ entries.old.items ++ replicate BLOCK_LINKS entry) }
+    ensures err { OnErr result (entries.new.items ≡ entries.old.items) }
+{
+    entries.resize(start as usize + BLOCK_LINKS, entry)?;
+    Ok(())
 }
 
 /// The entry once one of its places is free, which was a hole.
@@ -49,22 +75,22 @@ impl Space {
         ensures holes { (m : ℕ) → holes_in result m ≡ 0 }
     {
         Space {
-            slots: LinkTable::new(alloc),
+            starts: Vec::new(alloc),
             entries: Vec::new(alloc),
         }
     }
 
-    /// An entry more, of a link that has none.
-    fn add(&mut self, entry: Entry) -> Result<(), AllocError>
-        requires { entry_in self.old entry.link ≡ None }
+    /// A block more, with the entry of a link of which no other one has an entry.
+    fn add_block(&mut self, entry: Entry) -> Result<(), AllocError>
+        requires { IsOutside self.old.starts self.old.entries entry.link }
         ensures ok { OnOk result ((m : ℕ) → entry_in self.new m ≡ (if m == entry.link then Some entry else entry_in self.old m)) }
         ensures err { OnErr result ((m : ℕ) → entry_in self.new m ≡ entry_in self.old m) }
     {
-        let Ok(number) = u32::try_from(self.entries.len()) else {
+        let Ok(start) = u32::try_from(self.entries.len()) else {
             return Err(AllocError);
         };
-        self.slots.put(entry.link, number)?;
-        self.entries.push(entry)?;
+        put_start(&mut self.starts, entry.link as usize / BLOCK_LINKS, start)?;
+        add_copies(&mut self.entries, start, entry)?;
         Ok(())
     }
 
@@ -84,8 +110,8 @@ impl Space {
             holes: 0,
             places,
         };
-        match entry_of(&self.slots, &self.entries, link) {
-            None => self.add(entry),
+        match place_in_block(&self.starts, &self.entries, link) {
+            None => self.add_block(entry),
             Some(number) => {
                 self.entries[number] = entry;
                 Ok(())
@@ -97,7 +123,7 @@ impl Space {
     pub fn places(&self, link: u32) -> Option<OutLink>
         ensures { result ≡ places_in self.now link }
     {
-        match entry_of(&self.slots, &self.entries, link) {
+        match entry_of(&self.starts, &self.entries, link) {
             None => None,
             Some(number) => Some(self.entries[number].places),
         }
@@ -117,7 +143,7 @@ impl Space {
     pub fn holes(&self, link: u32) -> u32
         ensures { result ≡ holes_in self.now link }
     {
-        match entry_of(&self.slots, &self.entries, link) {
+        match entry_of(&self.starts, &self.entries, link) {
             None => 0,
             Some(number) => self.entries[number].holes,
         }
@@ -129,7 +155,7 @@ impl Space {
         ensures holes { (m : ℕ) → holes_in self.new m
             ≡ (if m == link then holes_put holes (places_in self.old m) else holes_in self.old m) }
     {
-        match entry_of(&self.slots, &self.entries, link) {
+        match entry_of(&self.starts, &self.entries, link) {
             None => {}
             Some(number) => {
                 let places = self.entries[number].places;
@@ -148,7 +174,7 @@ impl Space {
             ≡ (if m == link then fewer 1 (places_in self.old m) else places_in self.old m) }
         ensures holes { (m : ℕ) → holes_in self.new m ≡ (if m == link then holes_in self.old link - 1 else holes_in self.old m) }
     {
-        match entry_of(&self.slots, &self.entries, link) {
+        match entry_of(&self.starts, &self.entries, link) {
             None => {}
             Some(number) => {
                 let entry = freed(self.entries[number]);
@@ -166,7 +192,7 @@ impl Space {
         ensures places { OnOk result (places_in self.new ≡ one_more link (places_in self.old)) }
         ensures holes { OnOk result ((m : ℕ) → holes_in self.new m ≡ holes_in self.old m) }
     {
-        match entry_of(&self.slots, &self.entries, link) {
+        match entry_of(&self.starts, &self.entries, link) {
             None => Ok(()),
             Some(number) => {
                 let entry = self.entries[number];

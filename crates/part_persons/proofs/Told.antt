@@ -175,22 +175,22 @@ one_followed S end i P persons now wakes later n e f t h = λ j u there from to 
           other_wake S end j now (Some i) wakes q ∙ h j u (omega arith) from to (sym (ap (person_due S j) kept) ∙ due)
     ]
 
--- who went is looked at no more, since he has nothing to do
-pub gone_followed : (S : Setup) (end t i : ℕ) (persons now : List Person) (wakes : List (Option ℕ)) → now ≡ set persons i nobody
-    → AreFollowed S end t persons wakes → AreFollowed S end t now wakes
-gone_followed S end t i persons now wakes e h = λ j u there from to due.
-    let same : length now ≡ length persons = ap length e ∙ length-set persons i nobody in
+-- who goes, or comes and has nothing to do by himself, need not be looked at
+pub idle_followed : (S : Setup) (end t i : ℕ) (P : Person) (persons now : List Person) (wakes : List (Option ℕ)) → ((j : ℕ) → person_due S j P ≡ None)
+    → now ≡ set persons i P → AreFollowed S end t persons wakes → AreFollowed S end t now wakes
+idle_followed S end t i P persons now wakes idle e h = λ j u there from to due.
+    let same : length now ≡ length persons = ap length e ∙ length-set persons i P in
     let within : j < length persons = omega arith in
     elim (cases_Bool (eqb i j)) [
       | inl q ↦
           let one : i ≡ j = eqb-true i j q in
-          let gone : get_or now j nobody ≡ nobody
-          = ap (λ (ps : List Person). get_or ps j nobody) e ∙ ap (λ (k : ℕ). get_or (set persons k nobody) j nobody) one
-          ∙ get_or-set_same persons j nobody nobody within in
-          absurd (let z : None ≡ Some u = sym (ap (person_due S j) gone) ∙ due in cc)
+          let his : get_or now j nobody ≡ P
+          = ap (λ (ps : List Person). get_or ps j nobody) e ∙ ap (λ (k : ℕ). get_or (set persons k P) j nobody) one
+          ∙ get_or-set_same persons j P nobody within in
+          absurd (let z : None ≡ Some u = sym (ap (person_due S j) his ∙ idle j) ∙ due in cc)
       | inr q ↦
           let ne : i ≢ j = eqb-false i j q in
           let kept : get_or now j nobody ≡ get_or persons j nobody
-          = ap (λ (ps : List Person). get_or ps j nobody) e ∙ get_or-set_other persons i j nobody nobody (λ z. ne (sym z)) in
+          = ap (λ (ps : List Person). get_or ps j nobody) e ∙ get_or-set_other persons i j P nobody (λ z. ne (sym z)) in
           h j u within from to (sym (ap (person_due S j) kept) ∙ due)
     ]

@@ -1,10 +1,11 @@
 //! When a person has something to do by himself.
 
-ghost use Rattle.std.specs.Prelude.{◌≡◌, ◌+◌, ◌<◌, length, get_or, Some};
+ghost use Rattle.std.specs.Prelude.{◌≡◌, ℕ, ◌+◌, ◌<◌, true, length, get_or, None, Some};
 ghost use Rattle.rows.specs.PlanRows.{plan_rows, leg_in};
 ghost use Rattle.rows.specs.declared.plan.Leg.TheVariants as leg;
 ghost use Rattle.calendar.specs.Waking.{within};
 ghost use Rattle.town.specs.Views.{setup};
+ghost use Rattle.traffic.specs.Setup.{Setup};
 ghost use Rattle.person_moves.specs.Legs.{nth_leg};
 ghost use Rattle.part_persons.specs.Dues.{seconds_of, person_due};
 
@@ -65,5 +66,18 @@ pub(crate) fn person_due(day: &DayInput, person: u32, state: Person) -> Option<u
         Place::Waiting { .. } => None,
         Place::Riding { .. } => None,
         Place::Aborted { .. } => None,
+    }
+}
+
+/// Whether a person rides: then he has nothing to do by himself.
+pub(crate) fn is_riding(state: Person) -> bool
+    ensures { result ≡ true → (S : Setup) (i : ℕ) → person_due S i state ≡ None }
+{
+    match state.place {
+        Place::Riding { .. } => true,
+        Place::At { .. } => false,
+        Place::Teleporting { .. } => false,
+        Place::Waiting { .. } => false,
+        Place::Aborted { .. } => false,
     }
 }

@@ -5,6 +5,7 @@ ghost use Rattle.town.specs.Views.{setup};
 ghost use Rattle.traffic.specs.{Rows.nobody, Rows.person_of, Setup.Setup};
 ghost use Rattle.part_persons.specs.Dues.{AreFollowed, AreFollowedIn, followed};
 
+use crate::dues::is_riding;
 use crate::hearing::follow;
 use crate::homes::nobody;
 use crate::persons::Persons;
@@ -54,7 +55,7 @@ fn follow_in(
 }
 
 impl Persons {
-    /// A person comes to the part with this row, and is looked at when it is his time.
+    /// A person comes to the part with this row, and is looked at when it is his time. Who rides has none, and his second is not looked at.
     ///
     /// # Errors
     ///
@@ -70,6 +71,9 @@ impl Persons {
         ensures wakes { OnOk result (length self.new.wakes ≡ length self.new.world.persons) }
     {
         put_person(&mut self.world, person, state);
+        if is_riding(state) {
+            return Ok(());
+        }
         follow_in(day, person, &self.world, &mut self.wakes)?;
         Ok(())
     }

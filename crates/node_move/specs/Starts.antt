@@ -1,0 +1,7 @@
+-- Where the entries of links stand, in blocks of links that follow one another by number.
+use Rattle.std.specs.Prelude.{ℕ, ◌+◌, ◌/◌, ◌%◌, List, get_or}
+use Rattle.node_move.specs.declared.TheConstants.{BLOCK_LINKS}
+
+-- where the entry of link m stands, if it has one, by where blocks begin
+abbrev pub place_of : List ℕ → ℕ → ℕ
+place_of starts m = get_or starts (m / BLOCK_LINKS) 0 + m % BLOCK_LINKS

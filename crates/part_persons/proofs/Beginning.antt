@@ -3,8 +3,8 @@ use Rattle.traffic.proofs.Common.{◌≡◌, ℕ, zero, suc, ◌+◌, ◌<◌, B
 use Rattle.traffic.proofs.Common.{get_or, get_or_past, get_or-map, map, plan_rows, if◌then◌else◌, cases_lt, PlanRows, eqb, World, Setup, world_start, person_of}
 use Rattle.traffic.proofs.Common.{at_home, numbers, below}
 use Rattle.traffic.specs.{Rows.nobody, Setup.person_plan, declared.world.Person.Person}
-use Rattle.std.specs.Prelude.{◌++◌}
-use Rattle.std.proofs.lemmas.List.{ext_get_or, length_push, get_or_push, get_or_append_left}
+use Rattle.std.specs.Prelude.{◌≤◌, ◌==◌, set, replicate}
+use Rattle.std.proofs.lemmas.List.{ext_get_or, get_or-replicate, get_or-set_same, get_or-set_other, length-replicate, length-set}
 use Rattle.law_in_range.proofs.Days.{start_is_fit}
 use Rattle.law_in_range.specs.{Rows.Counts, Rows.IsFitPerson, Rows.IsFitWorld, Setups.counts_in, Setups.HaveFittingPlans}
 use Rattle.town.specs.{Setups.setup_of, Views.setup, declared.day_input.DayInput.DayInput}
@@ -35,36 +35,67 @@ rows_alike f g k (suc n) h =
     ∙ ap (λ (ps : List Person). g k ∷ ps) (rows_alike f g (k + 1) n (λ i lt. h i (omega arith)))
 
 -- ONE AFTER THE OTHER
--- these are the rows of all numbers below n
-pub record AreRows (f : ℕ → Person) (n : ℕ) (rows : List Person) : Type 0 where
-  pub many : length rows ≡ n
-  pub each : (i : ℕ) → i < n → get_or rows i nobody ≡ f i
+-- these are the rows of all numbers below n, and nobody stands in the others of so many
+pub record AreFirst (f : ℕ → Person) (n count : ℕ) (rows : List Person) : Type 0 where
+  pub many : length rows ≡ count
+  pub each : (i : ℕ) → i < n → i < count → get_or rows i nobody ≡ f i
+  pub rest : (i : ℕ) → n ≤ i → i < count → get_or rows i nobody ≡ nobody
 
-pub no_rows : (f : ℕ → Person) (rows : List Person) → rows ≡ [] → AreRows f 0 rows
-no_rows f rows none = record { many = ap (λ (ps : List Person). length ps) none; each = λ i lt. absurd (omega arith) }
+pub no_rows : (f : ℕ → Person) (count : ℕ) (rows : List Person) → rows ≡ replicate count nobody → AreFirst f 0 count rows
+no_rows f count rows e = record {
+  many = ap (λ (ps : List Person). length ps) e ∙ length-replicate count nobody;
+  each = λ i lt less. absurd (omega arith);
+  rest = λ i le less. ap (λ (ps : List Person). get_or ps i nobody) e ∙ get_or-replicate count i nobody nobody less;
+}
 
-pub row_more : (f : ℕ → Person) (n : ℕ) (rows next : List Person) (P : Person) → P ≡ f n → next ≡ rows ++ P ∷ [] → AreRows f n rows
-    → AreRows f (n + 1) next
-row_more f n rows next P is e h =
+pub row_put : (f : ℕ → Person) (n count : ℕ) (rows : List Person) (P : Person) → P ≡ f n → AreFirst f n count rows
+    → AreFirst f (n + 1) count (set rows n P)
+row_put f n count rows P is h =
     let long = h.many in
-    let at : (i : ℕ) → get_or next i nobody ≡ get_or (rows ++ P ∷ []) i nobody = λ i. ap (λ (ps : List Person). get_or ps i nobody) e in
     record {
-      many = ap (λ (ps : List Person). length ps) e ∙ length_push rows P ∙ ap (λ (m : ℕ). m + 1) long;
-      each = λ i lt.
+      many = length-set rows n P ∙ long;
+      each = λ i lt less.
           elim (cases_lt i n) [
-            | inl lower ↦ at i ∙ get_or_append_left rows (P ∷ []) nobody i (omega arith) ∙ h.each i lower
+            | inl lower ↦ get_or-set_other rows n i P nobody (λ (z : i ≡ n). omega arith) ∙ h.each i lower less
             | inr upper ↦
-                let last : n ≡ i = omega arith in
-                at i ∙ get_or_push rows P nobody i (long ∙ last) ∙ is ∙ ap f last
+                let own : n ≡ i = omega arith in
+                ap (λ (k : ℕ). get_or (set rows k P) i nobody) own ∙ get_or-set_same rows i P nobody (omega arith) ∙ is ∙ ap f own
           ];
+      rest = λ i le less. get_or-set_other rows n i P nobody (λ (z : i ≡ n). omega arith) ∙ h.rest i (omega arith) less;
     }
 
-pub all_rows : (f : ℕ → Person) (n m : ℕ) (rows : List Person) → n ≡ m → AreRows f n rows → rows ≡ map f (below m)
-all_rows f n m rows same h =
+pub row_left : (f : ℕ → Person) (n count : ℕ) (rows : List Person) → f n ≡ nobody → AreFirst f n count rows → AreFirst f (n + 1) count rows
+row_left f n count rows none h =
+    record {
+      many = h.many;
+      each = λ i lt less.
+          elim (cases_lt i n) [
+            | inl lower ↦ h.each i lower less
+            | inr upper ↦
+                let own : n ≡ i = omega arith in
+                h.rest i (omega arith) less ∙ sym none ∙ ap f own
+          ];
+      rest = λ i le less. h.rest i (omega arith) less;
+    }
+
+pub all_rows : (f : ℕ → Person) (n count m : ℕ) (rows : List Person) → count ≤ n → count ≡ m → AreFirst f n count rows → rows ≡ map f (below m)
+all_rows f n count m rows all same h =
     let many = rows_length f m in
     let long = h.many in
     ext_get_or nobody rows (map f (below m)) (long ∙ same ∙ sym many)
-    (λ i lt. h.each i (omega arith) ∙ sym (row_is f m i (omega arith)))
+    (λ i lt. h.each i (omega arith) (omega arith) ∙ sym (row_is f m i (omega arith)))
+
+-- who begins the day elsewhere is nobody
+pub left_out : (S : Setup) (homes : List ℕ) (p n : ℕ) → (get_or homes n 0 == p) ≡ false → first_row S homes p n ≡ nobody
+left_out S homes p n other = rw other refl
+
+pub others_out : (S : Setup) (homes : List ℕ) (p i : ℕ) (persons : List Person) → persons ≡ first_rows S homes p → i < length persons
+    → (get_or homes i 0 == p) ≡ false → get_or persons i nobody ≡ nobody
+others_out S homes p i persons e lt other =
+    let many = rows_length (first_row S homes p) (length S.persons) in
+    let same = ap (λ (ps : List Person). length ps) e in
+    ap (λ (ps : List Person). get_or ps i nobody) e ∙ row_is (first_row S homes p) (length S.persons) i (omega arith)
+    ∙ left_out S homes p i other
 
 -- AT THE START OF A DAY
 module _ (S : Setup) (p : ℕ) where

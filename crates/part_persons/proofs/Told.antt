@@ -142,22 +142,36 @@ heard_wakes S end t es W V wakes later n v f =
     ap length f ∙ followed_all_length S end V.persons es wakes ∙ n ∙ sym (heard_stay S t es W V v)
 
 -- EVERYBODY
-pub everybody_more : (S : Setup) (end k : ℕ) (persons : List Person) (wakes later : List (Option ℕ)) → length wakes ≡ length persons
-    → later ≡ followed S end persons (Some k) wakes
-    → ((i : ℕ) → i < k → i < length persons → wake_of wakes i ≡ within end (person_due S i (get_or persons i nobody)))
-    → (i : ℕ) → i < k + 1 → i < length persons → wake_of later i ≡ within end (person_due S i (get_or persons i nobody))
+-- of those below k each who has something to do by himself before the end is looked at in it
+abbrev pub AreFollowedBelow : Setup → ℕ → ℕ → List Person → List (Option ℕ) → Type 0
+AreFollowedBelow S end k persons wakes =
+    (i u : ℕ) → i < k → i < length persons → u < end → person_due S i (get_or persons i nobody) ≡ Some u → wake_of wakes i ≡ Some u
+
+pub one_more : (S : Setup) (end k : ℕ) (persons : List Person) (wakes later : List (Option ℕ)) → length wakes ≡ length persons
+    → later ≡ followed S end persons (Some k) wakes → AreFollowedBelow S end k persons wakes → AreFollowedBelow S end (k + 1) persons later
 unfolding is_his
-everybody_more S end k persons wakes later n e h = λ i lt there.
+one_more S end k persons wakes later n e h = λ i u lt there to due.
     ap (λ (xs : List (Option ℕ)). wake_of xs i) e
     ∙ elim (cases_Bool (eqb k i)) [
-      | inl q ↦ his_wake S end i persons (Some k) wakes q there n
-      | inr q ↦ let ne : k ≢ i = eqb-false k i q in other_wake S end i persons (Some k) wakes q ∙ h i (omega arith) there
+      | inl q ↦ his_wake S end i persons (Some k) wakes q there n ∙ in_time u end (person_due S i (get_or persons i nobody)) to due
+      | inr q ↦ let ne : k ≢ i = eqb-false k i q in other_wake S end i persons (Some k) wakes q ∙ h i u (omega arith) there to due
+    ]
+
+-- for whom nobody stands has nothing to do
+pub nobody_more : (S : Setup) (end k : ℕ) (persons : List Person) (wakes : List (Option ℕ)) → (k < length persons → get_or persons k nobody ≡ nobody)
+    → AreFollowedBelow S end k persons wakes → AreFollowedBelow S end (k + 1) persons wakes
+nobody_more S end k persons wakes none h = λ i u lt there to due.
+    elim (cases_Bool (eqb k i)) [
+      | inl q ↦
+          let own : k ≡ i = eqb-true k i q in
+          let gone : get_or persons i nobody ≡ nobody = ap (λ (j : ℕ). get_or persons j nobody) (sym own) ∙ none (omega arith) in
+          absurd (let z : None ≡ Some u = sym (ap (person_due S i) gone) ∙ due in cc)
+      | inr q ↦ let ne : k ≢ i = eqb-false k i q in h i u (omega arith) there to due
     ]
 
 pub everybody_followed : (S : Setup) (end k t : ℕ) (persons : List Person) (wakes : List (Option ℕ)) → length persons ≤ k
-    → ((i : ℕ) → i < k → i < length persons → wake_of wakes i ≡ within end (person_due S i (get_or persons i nobody))) → AreFollowed S end t persons wakes
-everybody_followed S end k t persons wakes le h = λ i u there from to due.
-    h i (omega arith) there ∙ in_time u end (person_due S i (get_or persons i nobody)) to due
+    → AreFollowedBelow S end k persons wakes → AreFollowed S end t persons wakes
+everybody_followed S end k t persons wakes le h = λ i u there from to due. h i u (omega arith) there to due
 
 -- ONE WHO COMES OR GOES
 pub one_followed : (S : Setup) (end i : ℕ) (P : Person) (persons now : List Person) (wakes later : List (Option ℕ)) → length wakes ≡ length persons

@@ -1,10 +1,12 @@
 //! Who is told of is looked at again when it is his time.
 
-ghost use Rattle.std.specs.Prelude.{◌≡◌, ℕ, ◌<◌, length, OnOk};
+ghost use Rattle.std.specs.Prelude.{◌≡◌, ℕ, ◌<◌, ◌==◌, false, length, get_or, OnOk};
 ghost use Rattle.town.specs.Views.{setup};
+ghost use Rattle.traffic.specs.Rows.{nobody};
 ghost use Rattle.part_persons.specs.Dues.{followed, followed_in, AreFollowedIn};
 
 use crate::dues::person_due;
+use crate::homes::is_home;
 use calendar::Wakes;
 use std::alloc::AllocError;
 use town::DayInput;
@@ -53,20 +55,26 @@ pub(crate) fn follow_all(
     Ok(())
 }
 
-/// So is everybody.
-pub(crate) fn follow_everybody(
+/// So is everybody whose home this partition is; nobody stands for the others.
+pub(crate) fn follow_first(
     day: &DayInput,
+    homes: &[u32],
+    partition: u32,
     persons: &[Person],
     wakes: &mut Wakes,
 ) -> Result<(), AllocError>
     requires names { length day.now.town.now.book.persons ≡ length day.now.chosen.now }
     requires plans { length persons.now ≡ length day.now.chosen.now }
+    requires homes { length homes.now ≡ length persons.now }
     requires wakes { length wakes.old ≡ length persons.now }
+    requires others { (i : ℕ) → i < length persons.now → (get_or homes.now i 0 == partition) ≡ false → get_or persons.now i nobody ≡ nobody }
     ensures followed { (t : ℕ) → OnOk result (AreFollowedIn day.now t persons.now wakes.new) }
     ensures wakes { OnOk result (length wakes.new ≡ length wakes.old) }
 {
     for person in 0..day.town.book.persons.len() {
-        follow(day, persons, Some(person), wakes)?;
+        if is_home(homes, partition, person) {
+            follow(day, persons, Some(person), wakes)?;
+        }
     }
     Ok(())
 }

@@ -1,6 +1,6 @@
 //! Who begins a day in one partition of its network.
 
-ghost use Rattle.std.specs.Prelude.{◌≡◌, ◌<◌, length, IfOk};
+ghost use Rattle.std.specs.Prelude.{◌≡◌, ◌<◌, ◌==◌, length, get_or, replicate, IfOk};
 ghost use Rattle.town.specs.Views.{setup};
 ghost use Rattle.traffic.specs.Rows.{nobody};
 ghost use Rattle.part_persons.specs.Own.{row_of, first_row, first_rows};
@@ -41,7 +41,24 @@ fn first_row(day: &DayInput, homes: &[u32], partition: u32, person: u32) -> Pers
     row_of(day, partition, homes[person as usize], person)
 }
 
-/// The rows with which all persons begin the day in this partition, by the homes of all.
+/// Whether this partition is the home of a person.
+pub(crate) fn is_home(homes: &[u32], partition: u32, person: u32) -> bool
+    requires { person < length homes.now }
+    ensures { result ≡ (get_or homes.now person 0 == partition) }
+{
+    homes[person as usize] == partition
+}
+
+/// So many rows, in which nobody stands.
+fn empty_rows(alloc: Global, count: usize) -> Result<Vec<Person>, AllocError>
+    ensures { IfOk result (λ rows. rows.items ≡ replicate count nobody) }
+{
+    let mut rows = Vec::new(alloc);
+    rows.resize(count, nobody())?;
+    Ok(rows)
+}
+
+/// The rows with which all persons begin the day in this partition, by the homes of all. Only those are looked at whose home it is.
 pub(crate) fn first_rows(
     alloc: Global,
     day: &DayInput,
@@ -52,9 +69,11 @@ pub(crate) fn first_rows(
     requires homes { length homes.now ≡ length day.now.chosen.now }
     ensures { IfOk result (λ rows. rows.items ≡ first_rows (setup day.now) homes.now partition) }
 {
-    let mut rows = Vec::with_capacity(alloc, homes.len())?;
+    let mut rows = empty_rows(alloc, homes.len())?;
     for person in 0..day.town.book.persons.len() {
-        rows.push(first_row(day, homes, partition, person))?;
+        if is_home(homes, partition, person) {
+            rows[person as usize] = first_row(day, homes, partition, person);
+        }
     }
     Ok(rows)
 }

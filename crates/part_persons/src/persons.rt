@@ -6,9 +6,9 @@ ghost use Rattle.partition.specs.Homes.{homes_of};
 ghost use Rattle.parts.specs.Owners.{Owner};
 ghost use Rattle.town.specs.Views.{setup};
 ghost use Rattle.traffic.specs.Day.{world_start};
-ghost use Rattle.part_persons.specs.{Dues.AreFollowedIn, Own.own_persons};
+ghost use Rattle.part_persons.specs.{Dues.AreFollowedIn, Own.own_persons, Own.first_rows};
 
-use crate::hearing::follow_everybody;
+use crate::hearing::follow_first;
 use crate::homes::first_rows;
 use calendar::Wakes;
 use person_moves::{World, start_with};
@@ -24,15 +24,23 @@ pub struct Persons {
     pub wakes: Wakes,
 }
 
-/// In which second each person of a world is first looked at.
-fn first_wakes(alloc: Global, day: &DayInput, world: &World) -> Result<Wakes, AllocError>
+/// In which second each person of a world is first looked at, whose home this partition is.
+fn first_wakes(
+    alloc: Global,
+    day: &DayInput,
+    homes: &[u32],
+    partition: u32,
+    world: &World,
+) -> Result<Wakes, AllocError>
     requires names { length day.now.town.now.book.persons ≡ length day.now.chosen.now }
     requires plans { length world.now.persons ≡ length day.now.chosen.now }
+    requires homes { length homes.now ≡ length day.now.chosen.now }
+    requires rows { world.now.persons ≡ first_rows (setup day.now) homes.now partition }
     ensures followed { (t : ℕ) → IfOk result (λ wakes. AreFollowedIn day.now t world.now.persons wakes) }
     ensures wakes { IfOk result (λ wakes. length wakes ≡ length world.now.persons) }
 {
     let mut wakes = Wakes::new(alloc, world.persons.len())?;
-    follow_everybody(day, &world.persons, &mut wakes)?;
+    follow_first(day, homes, partition, &world.persons, &mut wakes)?;
     Ok(wakes)
 }
 
@@ -62,7 +70,7 @@ impl Persons {
     {
         let rows = first_rows(alloc, day, homes, partition)?;
         let world = start_with(alloc, day, rows);
-        let wakes = first_wakes(alloc, day, &world)?;
+        let wakes = first_wakes(alloc, day, homes, partition, &world)?;
         Ok(Persons { world, wakes })
     }
 }

@@ -17,8 +17,9 @@ ghost use Rattle.parted_day.specs.{Strays.AreStrays, Tables.with_states, Tables.
 use crate::riding::rider_links;
 use crate::straying::{Stray, put_strays};
 use events::{Event, Mode, More, Phase, Word};
+use part_persons::Persons;
 use part_seconds::{Area, Run};
-use person_moves::{link_of_stop, mode_in, push_keyed};
+use person_moves::{World, link_of_stop, mode_in, push_keyed};
 use queue_link::LinkState;
 use rows::{Act, act_in};
 use std::alloc::AllocError;
@@ -87,7 +88,7 @@ fn push_stranded(
     let end = day.town.settings.end_second;
     match stranded_on(day, link, person, state) {
         Some(said) => push_keyed(end, Phase::E, person, &[said], events),
-        None => push_keyed(end, Phase::E, person, &[], events),
+        None => Ok(()),
     }
 }
 
@@ -119,19 +120,18 @@ fn push_ends(
 /// The events of the end of the day of the persons in this table and on these links, where the strays stand in it.
 fn tell_ends(
     run: &Run,
-    persons: &[Person],
+    persons: Vec<Person>,
     links: &[LinkState],
     strays: &[Stray],
 ) -> Result<Vec<Event>, AllocError>
-    requires { length persons.now ≡ length run.now.day.now.chosen.now }
+    requires { length persons.items ≡ length run.now.day.now.chosen.now }
     ensures { IfOk result (λ events. events.items ≡ flat_map
         (told_on (setup run.now.day.now) run.now.day.now.town.now.settings.end_second
-        (with_links strays.now (put_links links.now (replicate (length persons.now) 0))) (with_states strays.now persons.now))
-        (below (length persons.now))) }
+        (with_links strays.now (put_links links.now (replicate (length persons.items) 0))) (with_states strays.now persons.items))
+        (below (length persons.items))) }
 {
     let mut ridden = rider_links(run.alloc, persons.len(), links)?;
-    let mut states = Vec::new(run.alloc);
-    states.extend_from_slice(persons)?;
+    let mut states = persons;
     put_strays(strays, &mut states, &mut ridden);
     let mut events = Vec::new(run.alloc);
     push_ends(run.day, &states, &ridden, &mut events)?;
@@ -159,11 +159,23 @@ pub(crate) fn end_events(
     ensures { IfOk result (λ events. events.items
         ≡ own_end_events (setup run.now.day.now) (owner_in run.now.owner.now.of_node) run.now.owner.now.parts partition) }
 {
-    let events = tell_ends(
-        run,
-        &area.persons.world.persons,
-        &area.network.links,
-        &strays,
-    )?;
+    let Area {
+        persons,
+        departures: _departures,
+        lines: _lines,
+        network,
+        queues: _queues,
+    } = area;
+    let Persons {
+        world,
+        wakes: _wakes,
+    } = persons;
+    let World {
+        rows: _rows,
+        persons: states,
+        credits: _credits,
+        holes: _holes,
+    } = world;
+    let events = tell_ends(run, states, &network.links, &strays)?;
     Ok(events)
 }

@@ -2,8 +2,8 @@
 
 ghost use Rattle.std.specs.Prelude.{◌≡◌, ◌<◌, ◌==◌, length, get_or, replicate, IfOk};
 ghost use Rattle.town.specs.Views.{setup};
-ghost use Rattle.traffic.specs.Rows.{nobody};
-ghost use Rattle.part_persons.specs.Own.{row_of, first_row, first_rows};
+ghost use Rattle.traffic.specs.{Day.at_home, Rows.nobody, Setup.person_plan};
+ghost use Rattle.part_persons.specs.Own.{first_rows};
 
 use person_moves::at_home;
 use std::alloc::{AllocError, Global};
@@ -20,25 +20,12 @@ pub(crate) fn nobody() -> Person
     }
 }
 
-/// The row with which a person begins the day in this partition, where it is the home; else nobody stands for him there, and no plan is
-/// looked at.
-fn row_of(day: &DayInput, partition: u32, home: u32, person: u32) -> Person
+/// The row with which a person begins the day, at the first activity of the chosen plan.
+fn first_row(day: &DayInput, person: u32) -> Person
     requires { person < length day.now.chosen.now }
-    ensures { result ≡ row_of (setup day.now) partition home person }
+    ensures { result ≡ at_home (person_plan (setup day.now) person) }
 {
-    if home != partition {
-        return nobody();
-    }
     at_home(chosen_plan(day, person))
-}
-
-/// The row of the person of this number, by the homes of all.
-fn first_row(day: &DayInput, homes: &[u32], partition: u32, person: u32) -> Person
-    requires plans { person < length day.now.chosen.now }
-    requires homes { person < length homes.now }
-    ensures { result ≡ first_row (setup day.now) homes.now partition person }
-{
-    row_of(day, partition, homes[person as usize], person)
 }
 
 /// Whether this partition is the home of a person.
@@ -72,7 +59,7 @@ pub(crate) fn first_rows(
     let mut rows = empty_rows(alloc, homes.len())?;
     for person in 0..day.town.book.persons.len() {
         if is_home(homes, partition, person) {
-            rows[person as usize] = first_row(day, homes, partition, person);
+            rows[person as usize] = first_row(day, person);
         }
     }
     Ok(rows)

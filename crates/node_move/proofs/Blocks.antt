@@ -71,10 +71,10 @@ blocks_set ks es k e laid lt is =
     let long = length-set es k e in
     record {
       each = λ q.
-      elim (laid.each q) [
-        | inl none ↦ inl (λ j within at. none j (omega arith) (sym (same_block es k j e lt is) ∙ at))
-        | inr block ↦ inr (λ i less. let at = block i less in let there = at.0 in (omega arith, same_block es k (get_or ks q 0 + i) e lt is ∙ at.1))
-      ];
+          elim (laid.each q) [
+            | inl none ↦ inl (λ j within at. none j (omega arith) (sym (same_block es k j e lt is) ∙ at))
+            | inr block ↦ inr (λ i less. let at = block i less in let there = at.0 in (omega arith, same_block es k (get_or ks q 0 + i) e lt is ∙ at.1))
+          ];
     }
 
 -- another entry of the same link
@@ -136,7 +136,7 @@ pub same_blocks : (ks ls : List ℕ) (es : List Entry) → ((q : ℕ) → get_or
 same_blocks ks ls es same laid =
     record {
       each = λ q.
-      elim (laid.each q) [ inl none ↦ inl none | inr block ↦ inr (subst (λ (s : ℕ). IsBlock es q s) (sym (same q)) block) ];
+          elim (laid.each q) [ inl none ↦ inl none | inr block ↦ inr (subst (λ (s : ℕ). IsBlock es q s) (sym (same q)) block) ];
     }
 
 -- A BLOCK MORE
@@ -211,15 +211,15 @@ pub blocks_put : (ks ls : List ℕ) (es : List Entry) (q n : ℕ) → AreBlocks 
 blocks_put ks ls es q n laid none is =
     record {
       each = λ r.
-      elim (cases_Bool (r == q)) [
-        | inl b ↦ inl (subst (λ (x : ℕ). HasNone es x) (sym (eqb-true r q b)) none)
-        | inr b ↦
-            let same = begins_elsewhere q n r ks ls is (eqb-false r q b) in
-            elim (laid.each r) [
-              | inl nobody ↦ inl nobody
-              | inr block ↦ inr (subst (λ (s : ℕ). IsBlock es r s) (sym same) block)
-            ]
-      ];
+          elim (cases_Bool (r == q)) [
+            | inl b ↦ inl (subst (λ (x : ℕ). HasNone es x) (sym (eqb-true r q b)) none)
+            | inr b ↦
+                let same = begins_elsewhere q n r ks ls is (eqb-false r q b) in
+                elim (laid.each r) [
+                  | inl nobody ↦ inl nobody
+                  | inr block ↦ inr (subst (λ (s : ℕ). IsBlock es r s) (sym same) block)
+                ]
+          ];
     }
 
 pub blocks_more : (ks ls : List ℕ) (es : List Entry) (e : Entry) → AreBlocks ks es → HasNone es (e.link / BLOCK_LINKS)
@@ -232,36 +232,36 @@ blocks_more ks ls es e laid none is =
     let all : length (es ++ ds) ≡ length es + BLOCK_LINKS = long ∙ ap (λ (n : ℕ). length es + n) many in
     record {
       each = λ r.
-      elim (cases_Bool (r == q)) [
-        | inl b ↦
-            let own : r ≡ q = eqb-true r q b in
-            let start : get_or ls r 0 ≡ length es = is r ∙ rw b refl in
-            inr (subst (λ (s : ℕ). IsBlock (es ++ ds) r s) (sym start) (λ k less. (
-              omega arith,
-              ap (λ (d : Entry). d.link / BLOCK_LINKS) (read_behind es BLOCK_LINKS e k less) ∙ sym own,
-            )))
-        | inr b ↦
-            let other : r ≢ q = eqb-false r q b in
-            elim (laid.each r) [
-              | inl nobody ↦
-                  inl (λ j within at.
-                  elim (cases_lt j (length es)) [
-                    | inl lt ↦ nobody j lt (sym (ap (λ (d : Entry). d.link / BLOCK_LINKS) (get_or_append_left es ds no_entry j lt)) ∙ at)
-                    | inr ge ↦
-                        let split : j ≡ length es + (j - length es) = omega arith in
-                        let his : block_at (es ++ ds) j ≡ q
-                        = ap (block_at (es ++ ds)) split ∙ ap (λ (d : Entry). d.link / BLOCK_LINKS) (read_behind es BLOCK_LINKS e (j - length es) (omega arith)) in
-                        other (sym at ∙ his)
-                  ])
-              | inr block ↦
-                  inr (subst (λ (s : ℕ). IsBlock (es ++ ds) r s) (sym (begins_elsewhere q (length es) r ks ls is other)) (λ k less.
-                  let at = block k less in
-                  let there = at.0 in (
-                    omega arith,
-                    ap (λ (d : Entry). d.link / BLOCK_LINKS) (get_or_append_left es ds no_entry (get_or ks r 0 + k) there) ∙ at.1,
-                  )))
-            ]
-      ];
+          elim (cases_Bool (r == q)) [
+            | inl b ↦
+                let own : r ≡ q = eqb-true r q b in
+                let start : get_or ls r 0 ≡ length es = is r ∙ rw b refl in
+                inr (subst (λ (s : ℕ). IsBlock (es ++ ds) r s) (sym start) (λ k less. (
+                  omega arith,
+                  ap (λ (d : Entry). d.link / BLOCK_LINKS) (read_behind es BLOCK_LINKS e k less) ∙ sym own,
+                )))
+            | inr b ↦
+                let other : r ≢ q = eqb-false r q b in
+                elim (laid.each r) [
+                  | inl nobody ↦
+                      inl (λ j within at.
+                      elim (cases_lt j (length es)) [
+                        | inl lt ↦ nobody j lt (sym (ap (λ (d : Entry). d.link / BLOCK_LINKS) (get_or_append_left es ds no_entry j lt)) ∙ at)
+                        | inr ge ↦
+                            let split : j ≡ length es + (j - length es) = omega arith in
+                            let his : block_at (es ++ ds) j ≡ q
+                            = ap (block_at (es ++ ds)) split ∙ ap (λ (d : Entry). d.link / BLOCK_LINKS) (read_behind es BLOCK_LINKS e (j - length es) (omega arith)) in
+                            other (sym at ∙ his)
+                      ])
+                  | inr block ↦
+                      inr (subst (λ (s : ℕ). IsBlock (es ++ ds) r s) (sym (begins_elsewhere q (length es) r ks ls is other)) (λ k less.
+                      let at = block k less in
+                      let there = at.0 in (
+                        omega arith,
+                        ap (λ (d : Entry). d.link / BLOCK_LINKS) (get_or_append_left es ds no_entry (get_or ks r 0 + k) there) ∙ at.1,
+                      )))
+                ]
+          ];
     }
 
 -- THE START

@@ -1,7 +1,7 @@
 //! How many places of links are taken.
 
-ghost use Rattle.std.specs.Prelude.{◌≡◌, ℕ, ◌+◌, ◌-◌, ◌++◌, ◌==◌, if◌then◌else◌, length, replicate, option_map, Option, None, Some};
-ghost use Rattle.std.specs.Prelude.{OnOk, OnErr, MatchOption};
+ghost use Rattle.std.specs.Prelude.{◌≡◌, ℕ, ◌+◌, ◌-◌, ◌++◌, ◌==◌, if◌then◌else◌, length, replicate};
+ghost use Rattle.std.specs.Prelude.{option_map, Option, None, Some, OnOk, OnErr, MatchOption};
 ghost use Rattle.traffic.specs.{Nodes.one_more, declared.node_views.OutLink.OutLink};
 ghost use Rattle.node_move.specs.{Entries.rows_of, Entries.StandsAt, Entries.entry_in, Entries.freed, Entries.fewer, Entries.holes_put};
 ghost use Rattle.node_move.specs.Entries.{IsInside, IsOutside};

@@ -67,7 +67,8 @@ pub(crate) fn follow_first(
     requires plans { length persons.now ≡ length day.now.chosen.now }
     requires homes { length homes.now ≡ length persons.now }
     requires wakes { length wakes.old ≡ length persons.now }
-    requires others { (i : ℕ) → i < length persons.now → (get_or homes.now i 0 == partition) ≡ false → get_or persons.now i nobody ≡ nobody }
+    requires others { (i : ℕ) → i < length persons.now → (get_or homes.now i 0 == partition) ≡ false
+        → get_or persons.now i nobody ≡ nobody }
     ensures followed { (t : ℕ) → OnOk result (AreFollowedIn day.now t persons.now wakes.new) }
     ensures wakes { OnOk result (length wakes.new ≡ length wakes.old) }
 {

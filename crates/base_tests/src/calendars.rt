@@ -120,7 +120,8 @@ fn wakes_just(wakes: &mut Wakes, second: u32, numbers: &[u32]) -> bool {
     woken.as_slice() == numbers
 }
 
-/// Each number is woken in the last second that it was given, or in the earliest that it was asked for, and once.
+/// Each number is woken in the last second that it was given, or in the earliest that it was asked for, and once. The second 2^32 - 1 is
+/// refused, and changes nothing.
 fn are_woken_in_time(alloc: Global) -> bool {
     let Ok(mut wakes) = Wakes::new(alloc, 4) else {
         return false;
@@ -133,6 +134,8 @@ fn are_woken_in_time(alloc: Global) -> bool {
         && wakes.due(0) == Some(8)
         && wakes.due(1) == None
         && wakes.due(4) == None
+        && wakes.set(0, Some(u32::MAX)).is_err()
+        && wakes.due(0) == Some(8)
 }
 
 #[test]

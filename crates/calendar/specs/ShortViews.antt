@@ -7,12 +7,12 @@ use Rattle.calendar.specs.declared.{short_option.TheConstants.NO_NUMBER, short_o
 abbrev pub short_view : Inside → Option ℕ
 short_view s = if s.number == NO_NUMBER then None else Some s.number
 
-abbrev pub long_number : Option ℕ → Inside
-long_number None = record { number = NO_NUMBER }
-long_number (Some n) = record { number = n }
+abbrev pub short_of : Option ℕ → Inside
+short_of None = record { number = NO_NUMBER }
+short_of (Some n) = record { number = n }
 
 -- what a short option is seen as gives its number back
-pub short_ok : (s : Inside) → long_number (short_view s) ≡ s
+pub short_ok : (s : Inside) → short_of (short_view s) ≡ s
 short_ok s =
     elim (cases_Bool (s.number == NO_NUMBER)) [
       | inl e ↦ rw e (ap (λ (n : ℕ). record { number = n }) (sym (eqb-true s.number NO_NUMBER e)))

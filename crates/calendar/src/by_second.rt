@@ -1,5 +1,6 @@
 use crate::short_option::ShortOption;
 use std::marker::Model;
+use std::mem::size_of;
 
 /// On what one number hangs, or none, where it is free.
 #[derive(Clone, Copy)]
@@ -9,6 +10,8 @@ pub(crate) struct Hook {
     /// The hook of the number that came to the same second before this one; of one that is free the next one that is free.
     pub(crate) next: ShortOption,
 }
+
+const _: () = prove!(size_of::<Hook>() == 8);
 
 /// Numbers by the second in which they are due, those of one second in the order in which they came.
 ///

@@ -34,7 +34,7 @@ fn set_hook(hooks: &mut [Hook], place: u32, hook: Hook)
     }
 }
 
-/// One hook more, behind the others: the answer is its place. An error too where 2^32 - 1 are there, since a place is a short number.
+/// One hook more, behind the others: the answer is its place. An error too where 2^32 - 1 are there, since `u32::MAX` stands for none.
 fn add_hook(hooks: &mut Vec<Hook>, hook: Hook) -> Result<u32, AllocError>
     ensures ok { IfOk result (λ place. place ≡ length hooks.old.items) }
     ensures short { IfOk result (λ place. place < NO_NUMBER) }

@@ -1,10 +1,11 @@
 //! Numbers that may be missing, in four bytes.
 
 ghost use Rattle.calendar.specs.declared.short_option.TheConstants.{NO_NUMBER};
-ghost use Rattle.std.specs.Prelude.{◌≡◌, ◌<◌, None, Some, IfOk, IfSome};
+ghost use Rattle.std.specs.Prelude.{◌≡◌, ◌<◌, None, Some, IfOk, IfSome, OnErr};
 
 use std::alloc::AllocError;
 use std::marker::Model;
+use std::mem::size_of;
 
 /// This number stands for none.
 pub(crate) const NO_NUMBER: u32 = u32::MAX;
@@ -13,21 +14,23 @@ pub(crate) const NO_NUMBER: u32 = u32::MAX;
 /// looked at. Contracts see it as that option.
 #[derive(Clone, Copy)]
 pub(crate) struct ShortOption {
-    pub(crate) number: u32,
+    number: u32,
 }
 
 impl Model for ShortOption {
     ghost use Rattle.std.specs.Prelude.{ℕ, Option};
-    ghost use Rattle.calendar.specs.ShortViews.{short_view, long_number, short_ok};
+    ghost use Rattle.calendar.specs.ShortViews.{short_view, short_of, short_ok};
 
     ghost Value = { Option ℕ };
 
     ghost view = { short_view };
 
-    ghost inverse = { long_number };
+    ghost inverse = { short_of };
 
     ghost inverse_ok = { λ s _. short_ok s };
 }
+
+const _: () = prove!(size_of::<ShortOption>() == 4);
 
 impl ShortOption {
     /// No number.
@@ -51,7 +54,8 @@ impl ShortOption {
     ///
     /// `AllocError`: four bytes have no room for it, which is `u32::MAX`.
     pub(crate) fn from_option(number: Option<u32>) -> Result<ShortOption, AllocError>
-        ensures { IfOk result (λ short. short ≡ number) }
+        ensures ok { IfOk result (λ short. short ≡ number) }
+        ensures err { OnErr result (number ≡ Some NO_NUMBER) }
     {
         match number {
             None => Ok(ShortOption::none()),

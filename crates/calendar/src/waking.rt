@@ -115,10 +115,11 @@ impl Wakes {
     ///
     /// # Errors
     ///
-    /// `AllocError`: there is no memory for it. The table is then of no use.
+    /// `AllocError`: there is no memory for it, or the second is 2^32 - 1. Each number is woken then as before.
     pub fn set(&mut self, number: u32, second: Option<u32>) -> Result<(), AllocError>
         requires { number < length self.old }
-        ensures { OnOk result (self.new ≡ set self.old number second) }
+        ensures ok { OnOk result (self.new ≡ set self.old number second) }
+        ensures err { OnErr result (self.new ≡ self.old) }
     {
         if self.due(number) == second {
             return Ok(());
@@ -135,10 +136,11 @@ impl Wakes {
     ///
     /// # Errors
     ///
-    /// `AllocError`: there is no memory for it. The table is then of no use.
+    /// `AllocError`: there is no memory for it, or the second is 2^32 - 1. Each number is woken then as before.
     pub fn wake(&mut self, number: u32, second: u32) -> Result<(), AllocError>
         requires { number < length self.old }
-        ensures { OnOk result (self.new ≡ woken_by second number self.old) }
+        ensures ok { OnOk result (self.new ≡ woken_by second number self.old) }
+        ensures err { OnErr result (self.new ≡ self.old) }
     {
         let second = match self.due(number) {
             None => second,

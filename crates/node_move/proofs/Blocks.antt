@@ -5,8 +5,8 @@ use Rattle.std.proofs.lemmas.{Bool.cases_Bool, Bool.cases_lt, Bool.eqb-true, Boo
 use Rattle.std.proofs.lemmas.List.{get_or-set_same, get_or-set_other, get_or_append_left, get_or-append-add, get_or-replicate, length-set, length-append, length-replicate}
 use Rattle.std.specs.Prelude.{set, replicate, ◌==◌, if◌then◌else◌, None, Some}
 use Rattle.node_move.proofs.Entries.{entry_own, entry_kept, entry_past, none_there, other_there}
-use Rattle.node_move.specs.Entries.{entry_at, entry_in, rows_of, no_entry, block_at, HasNone, IsBlock, AreBlocks, IsInside, IsOutside, StandsAt}
-use Rattle.node_move.specs.{Starts.place_of, declared.TheConstants.BLOCK_LINKS, declared.space.Entry.Entry}
+use Rattle.node_move.specs.Entries.{entry_at, entry_in, rows_of, no_entry, block_at, HasNone, IsBlock, AreBlocks, HasItsBlock, HasNoBlock, StandsAt}
+use Rattle.node_move.specs.{Starts.entry_number, declared.TheConstants.BLOCK_LINKS, declared.space.Entry.Entry}
 
 -- ENTRIES BEHIND OTHERS
 entry_short : (es ds : List Entry) (m k : ℕ) → k < length es → entry_at (es ++ ds) m k ≡ entry_at es m k
@@ -43,16 +43,16 @@ entry_elsewhere (x ∷ es) e m (suc k) (suc j) ne = entry_elsewhere es e m k j (
 -- NO ENTRY OF A BLOCK
 none_of_block : (ks : List ℕ) (es : List Entry) (m : ℕ) → HasNone es (m / BLOCK_LINKS) → entry_in (rows_of ks es) m ≡ None
 none_of_block ks es m none =
-    elim (cases_lt (place_of ks m) (length es)) [
-      | inl lt ↦ other_there ks es m (place_of ks m) refl lt (λ is. none (place_of ks m) lt (ap (λ (l : ℕ). l / BLOCK_LINKS) is))
+    elim (cases_lt (entry_number ks m) (length es)) [
+      | inl lt ↦ other_there ks es m (entry_number ks m) refl lt (λ is. none (entry_number ks m) lt (ap (λ (l : ℕ). l / BLOCK_LINKS) is))
       | inr ge ↦ none_there ks es m ge
     ]
 
-pub has_none : (ks : List ℕ) (es : List Entry) (m : ℕ) → AreBlocks ks es → IsOutside ks es m → HasNone es (m / BLOCK_LINKS)
-has_none ks es m laid outside =
+pub has_none : (ks : List ℕ) (es : List Entry) (m : ℕ) → AreBlocks ks es → HasNoBlock ks es m → HasNone es (m / BLOCK_LINKS)
+has_none ks es m laid lacks =
     elim (laid.each (m / BLOCK_LINKS)) [
       | inl none ↦ none
-      | inr block ↦ let at = block (m % BLOCK_LINKS) (omega arith) in absurd (outside at.0 at.1)
+      | inr block ↦ let at = block (m % BLOCK_LINKS) (omega arith) in absurd (lacks at.0 at.1)
     ]
 
 -- ANOTHER ENTRY IN ITS PLACE
@@ -85,7 +85,7 @@ blocks_stay ks starts es entries m k e named a b h laid =
     blocks_set ks es k e laid g.within (ap (λ (l : ℕ). l / BLOCK_LINKS) (named ∙ sym g.link))
 
 -- the entry of link l, in its block
-pub filled : (ks : List ℕ) (es : List Entry) (l k : ℕ) (e : Entry) (m : ℕ) → e.link ≡ l → IsInside ks es l k
+pub filled : (ks : List ℕ) (es : List Entry) (l k : ℕ) (e : Entry) (m : ℕ) → e.link ≡ l → HasItsBlock ks es l k
     → entry_in (rows_of ks (set es k e)) m ≡ (if m == l then Some e else entry_in (rows_of ks es) m)
 unfolding entry_in
 filled ks es l k e m named h =
@@ -93,7 +93,7 @@ filled ks es l k e m named h =
       | inl q ↦
           let s : m ≡ l = eqb-true m l q in
           let own : (e.link == m) ≡ true = eq-eqb e.link m (named ∙ sym s) in
-          rw q (ap (entry_at (set es k e) m) (ap (place_of ks) s ∙ h.place) ∙ entry_own es e m k h.within ∙ rw own refl)
+          rw q (ap (entry_at (set es k e) m) (ap (entry_number ks) s ∙ h.number) ∙ entry_own es e m k h.within ∙ rw own refl)
       | inr q ↦
           let a : (e.link == m) ≡ false = ne_eqb e.link m (λ (z : e.link ≡ m). eqb-false m l q (sym z ∙ named)) in
           rw q (elim (cases_Bool ((get_or es k no_entry).link == m)) [
@@ -102,29 +102,29 @@ filled ks es l k e m named h =
                 let block : m / BLOCK_LINKS ≡ l / BLOCK_LINKS = sym (ap (λ (n : ℕ). n / BLOCK_LINKS) is) ∙ h.block in
                 let start : get_or ks (m / BLOCK_LINKS) 0 ≡ get_or ks (l / BLOCK_LINKS) 0 = ap (λ (b : ℕ). get_or ks b 0) block in
                 let other : m ≢ l = eqb-false m l q in
-                let there = h.place in
-                entry_elsewhere es e m k (place_of ks m) (λ (z : place_of ks m ≡ k). other (omega arith))
-            | inr b ↦ entry_kept es e m k (place_of ks m) a b
+                let there = h.number in
+                entry_elsewhere es e m k (entry_number ks m) (λ (z : entry_number ks m ≡ k). other (omega arith))
+            | inr b ↦ entry_kept es e m k (entry_number ks m) a b
           ])
     ]
 
 -- AS CALLS FIND IT
-inside : (ks starts : List ℕ) (es entries : List Entry) (m k : ℕ) → starts ≡ ks → entries ≡ es → IsInside starts entries m k → IsInside ks es m k
-inside ks starts es entries m k a b h =
-    subst (λ (ls : List ℕ). IsInside ls es m k) a (subst (λ (xs : List Entry). IsInside starts xs m k) b h)
+its_block : (ks starts : List ℕ) (es entries : List Entry) (m k : ℕ) → starts ≡ ks → entries ≡ es → HasItsBlock starts entries m k → HasItsBlock ks es m k
+its_block ks starts es entries m k a b h =
+    subst (λ (ls : List ℕ). HasItsBlock ls es m k) a (subst (λ (xs : List Entry). HasItsBlock starts xs m k) b h)
 
 pub blocks_filled : (ks starts : List ℕ) (es entries : List Entry) (m k : ℕ) (e : Entry) → e.link ≡ m → starts ≡ ks → entries ≡ es
-    → IsInside starts entries m k → AreBlocks ks es → AreBlocks ks (set es k e)
+    → HasItsBlock starts entries m k → AreBlocks ks es → AreBlocks ks (set es k e)
 blocks_filled ks starts es entries m k e named a b h laid =
-    let g = inside ks starts es entries m k a b h in
+    let g = its_block ks starts es entries m k a b h in
     blocks_set ks es k e laid g.within (ap (λ (l : ℕ). l / BLOCK_LINKS) named ∙ sym g.block)
 
 pub filled_there : (ks starts : List ℕ) (es entries : List Entry) (l k : ℕ) (e : Entry) (m : ℕ) → e.link ≡ l → starts ≡ ks → entries ≡ es
-    → IsInside starts entries l k → entry_in (rows_of ks (set es k e)) m ≡ (if m == l then Some e else entry_in (rows_of ks es) m)
-filled_there ks starts es entries l k e m named a b h = filled ks es l k e m named (inside ks starts es entries l k a b h)
+    → HasItsBlock starts entries l k → entry_in (rows_of ks (set es k e)) m ≡ (if m == l then Some e else entry_in (rows_of ks es) m)
+filled_there ks starts es entries l k e m named a b h = filled ks es l k e m named (its_block ks starts es entries l k a b h)
 
-pub outside : (ks starts : List ℕ) (es entries : List Entry) (m : ℕ) → starts ≡ ks → entries ≡ es → IsOutside starts entries m → IsOutside ks es m
-outside ks starts es entries m a b h = subst (λ (ls : List ℕ). IsOutside ls es m) a (subst (λ (xs : List Entry). IsOutside starts xs m) b h)
+pub no_block : (ks starts : List ℕ) (es entries : List Entry) (m : ℕ) → starts ≡ ks → entries ≡ es → HasNoBlock starts entries m → HasNoBlock ks es m
+no_block ks starts es entries m a b h = subst (λ (ls : List ℕ). HasNoBlock ls es m) a (subst (λ (xs : List Entry). HasNoBlock starts xs m) b h)
 
 -- THE SAME BEGINNINGS
 pub same_entries : (ks ls : List ℕ) (es : List Entry) (m : ℕ) → ((q : ℕ) → get_or ls q 0 ≡ get_or ks q 0)
@@ -143,7 +143,7 @@ same_blocks ks ls es same laid =
 abbrev pub BeginsAt : ℕ → ℕ → List ℕ → List ℕ → Type 0
 BeginsAt q n old new = (r : ℕ) → get_or new r 0 ≡ (if r == q then n else get_or old r 0)
 
-begins : (q n m : ℕ) (ks ls : List ℕ) → BeginsAt q n ks ls → m / BLOCK_LINKS ≡ q → place_of ls m ≡ n + m % BLOCK_LINKS
+begins : (q n m : ℕ) (ks ls : List ℕ) → BeginsAt q n ks ls → m / BLOCK_LINKS ≡ q → entry_number ls m ≡ n + m % BLOCK_LINKS
 begins q n m ks ls is block =
     let own : (m / BLOCK_LINKS == q) ≡ true = eq-eqb (m / BLOCK_LINKS) q block in
     ap (λ (s : ℕ). s + m % BLOCK_LINKS) (is (m / BLOCK_LINKS) ∙ rw own refl)
@@ -193,8 +193,8 @@ added ks ls es e m none is =
                 ∙ entry_of_others BLOCK_LINKS e m (m % BLOCK_LINKS) ne
                 ∙ sym (none_of_block ks es m nobody)
             | inr b ↦
-                let p : ℕ = place_of ks m in
-                let same : place_of ls m ≡ p
+                let p : ℕ = entry_number ks m in
+                let same : entry_number ls m ≡ p
                 = ap (λ (s : ℕ). s + m % BLOCK_LINKS) (begins_elsewhere q (length es) (m / BLOCK_LINKS) ks ls is (eqb-false (m / BLOCK_LINKS) q b)) in
                 ap (entry_at new m) same
                 ∙ elim (cases_lt p (length es)) [

@@ -6,7 +6,7 @@ use Rattle.std.proofs.Common.{Bool, ◌-◌, Result, Ok, Err, OnOk, OnErr}
 use Rattle.std.specs.Prelude.{set, ◌==◌, if◌then◌else◌, Option, None, Some}
 use Rattle.traffic.specs.{Nodes.one_more, declared.node_views.OutLink.OutLink}
 use Rattle.node_move.specs.Entries.{SpaceRows, entry_at, entry_in, places_of, holes_of, fewer, holes_put, rows_of, no_entry, StandsAt}
-use Rattle.node_move.specs.{Starts.place_of, Spaces.places_in, Spaces.holes_in, declared.space.Entry.Entry}
+use Rattle.node_move.specs.{Starts.entry_number, Spaces.places_in, Spaces.holes_in, declared.space.Entry.Entry}
 
 -- ENTRIES
 pub entry_past : (es : List Entry) (m k : ℕ) → length es ≤ k → entry_at es m k ≡ None
@@ -36,11 +36,11 @@ entry_kept (x ∷ es) e m (suc k) (suc j) h g = entry_kept es e m k j h g
 
 -- THE TABLE
 -- a link has no entry where its number is past all entries, nor where that of another link stands there
-pub none_there : (ks : List ℕ) (es : List Entry) (m : ℕ) → length es ≤ place_of ks m → entry_in (rows_of ks es) m ≡ None
+pub none_there : (ks : List ℕ) (es : List Entry) (m : ℕ) → length es ≤ entry_number ks m → entry_in (rows_of ks es) m ≡ None
 unfolding entry_in
-none_there ks es m le = entry_past es m (place_of ks m) le
+none_there ks es m le = entry_past es m (entry_number ks m) le
 
-pub other_there : (ks : List ℕ) (es : List Entry) (m k : ℕ) → k ≡ place_of ks m → k < length es → ((get_or es k no_entry).link ≡ m → ⊥)
+pub other_there : (ks : List ℕ) (es : List Entry) (m k : ℕ) → k ≡ entry_number ks m → k < length es → ((get_or es k no_entry).link ≡ m → ⊥)
     → entry_in (rows_of ks es) m ≡ None
 unfolding entry_in
 other_there ks es m k is within ne =
@@ -51,7 +51,7 @@ pub found : (ks : List ℕ) (es : List Entry) (m k : ℕ) → StandsAt ks es m k
 unfolding entry_in
 found ks es m k h =
     let e : ((get_or es k no_entry).link == m) ≡ true = eq-eqb (get_or es k no_entry).link m h.link in
-    ap (entry_at es m) h.place ∙ entry_is es m k h.within ∙ rw e refl
+    ap (entry_at es m) h.number ∙ entry_is es m k h.within ∙ rw e refl
 
 -- another entry of link l
 pub replaced : (ks : List ℕ) (es : List Entry) (l k : ℕ) (e : Entry) (m : ℕ) → e.link ≡ l → StandsAt ks es l k
@@ -62,12 +62,12 @@ replaced ks es l k e m named h =
       | inl q ↦
           let s : m ≡ l = eqb-true m l q in
           let own : (e.link == m) ≡ true = eq-eqb e.link m (named ∙ sym s) in
-          rw q (ap (entry_at (set es k e) m) (ap (place_of ks) s ∙ h.place) ∙ entry_own es e m k h.within ∙ rw own refl)
+          rw q (ap (entry_at (set es k e) m) (ap (entry_number ks) s ∙ h.number) ∙ entry_own es e m k h.within ∙ rw own refl)
       | inr q ↦
           let a : (e.link == m) ≡ false = ne_eqb e.link m (λ (z : e.link ≡ m). eqb-false m l q (sym z ∙ named)) in
           let b : ((get_or es k no_entry).link == m) ≡ false
           = ne_eqb (get_or es k no_entry).link m (λ (z : (get_or es k no_entry).link ≡ m). eqb-false m l q (sym z ∙ h.link)) in
-          rw q (entry_kept es e m k (place_of ks m) a b)
+          rw q (entry_kept es e m k (entry_number ks m) a b)
     ]
 
 -- AS CALLS FIND IT

@@ -2,7 +2,7 @@
 use Rattle.std.specs.Prelude.{◌≡◌, ◌≢◌, ℕ, zero, suc, ◌+◌, ◌-◌, ◌/◌, ◌<◌, ◌⊎◌, List, [], ◌∷◌, length, get_or, ◌==◌, if◌then◌else◌}
 use Rattle.std.specs.Prelude.{Option, None, Some}
 use Rattle.traffic.specs.declared.node_views.OutLink.{OutLink}
-use Rattle.node_move.specs.{Starts.place_of, declared.TheConstants.BLOCK_LINKS, declared.space.Entry.Entry}
+use Rattle.node_move.specs.{Starts.entry_number, declared.TheConstants.BLOCK_LINKS, declared.space.Entry.Entry}
 
 -- entry number k, where it is there and is that of link m
 abbrev pub entry_at : List Entry → ℕ → ℕ → Option Entry
@@ -20,7 +20,7 @@ rows_of starts es = record { starts = starts; entries = es }
 
 -- the entry of link m, where it has one
 unfoldable pub entry_in : SpaceRows → ℕ → Option Entry
-entry_in rows m = entry_at rows.entries m (place_of rows.starts m)
+entry_in rows m = entry_at rows.entries m (entry_number rows.starts m)
 
 -- no entry
 abbrev pub no_entry : Entry
@@ -29,7 +29,7 @@ no_entry = record { link = 0; holes = 0; places = record { taken = 0; storage = 
 -- entry number k is that of link m
 pub record StandsAt (starts : List ℕ) (es : List Entry) (m k : ℕ) : Type 0 where
   pub within : k < length es
-  pub place : place_of starts m ≡ k
+  pub number : entry_number starts m ≡ k
   pub link : (get_or es k no_entry).link ≡ m
 
 -- the block of an entry: its links have their entries side by side
@@ -57,6 +57,11 @@ abbrev pub holes_of : Option Entry → ℕ
 holes_of None = 0
 holes_of (Some e) = e.holes
 
+-- how many places are taken, none where there are none
+abbrev pub taken_of : Option OutLink → ℕ
+taken_of None = 0
+taken_of (Some p) = p.taken
+
 -- so many fewer places are taken
 abbrev pub fewer : ℕ → Option OutLink → Option OutLink
 fewer k None = None
@@ -71,12 +76,12 @@ abbrev pub holes_put : ℕ → Option OutLink → ℕ
 holes_put k None = 0
 holes_put k (Some p) = k
 
--- entry number k is to be that of link m, whose block is there
-pub record IsInside (starts : List ℕ) (es : List Entry) (m k : ℕ) : Type 0 where
+-- entry number k is that of link m, or to be it: its block is there
+pub record HasItsBlock (starts : List ℕ) (es : List Entry) (m k : ℕ) : Type 0 where
   pub within : k < length es
-  pub place : place_of starts m ≡ k
+  pub number : entry_number starts m ≡ k
   pub block : block_at es k ≡ m / BLOCK_LINKS
 
--- no entry of the block of link m stands where its own would
-abbrev pub IsOutside : List ℕ → List Entry → ℕ → Type 0
-IsOutside starts es m = place_of starts m < length es → block_at es (place_of starts m) ≢ m / BLOCK_LINKS
+-- the block of link m is not there: no entry of it stands where its own would
+abbrev pub HasNoBlock : List ℕ → List Entry → ℕ → Type 0
+HasNoBlock starts es m = entry_number starts m < length es → block_at es (entry_number starts m) ≢ m / BLOCK_LINKS

@@ -2,6 +2,6 @@
 use Rattle.std.specs.Prelude.{ℕ, ◌+◌, ◌/◌, ◌%◌, List, get_or}
 use Rattle.node_move.specs.declared.TheConstants.{BLOCK_LINKS}
 
--- where the entry of link m stands, if it has one, by where blocks begin
-abbrev pub place_of : List ℕ → ℕ → ℕ
-place_of starts m = get_or starts (m / BLOCK_LINKS) 0 + m % BLOCK_LINKS
+-- the number of the entry of link m, if it has one, by where blocks begin
+abbrev pub entry_number : List ℕ → ℕ → ℕ
+entry_number starts m = get_or starts (m / BLOCK_LINKS) 0 + m % BLOCK_LINKS

@@ -1,5 +1,8 @@
 use std::marker::Model;
+use std::mem::size_of;
 use traffic::OutLink;
+
+const _: () = prove!(size_of::<Entry>() == 24);
 
 /// The places of a link.
 #[derive(Clone, Copy)]

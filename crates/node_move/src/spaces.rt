@@ -1,15 +1,14 @@
 //! How many places of links are taken.
 
-ghost use Rattle.std.specs.Prelude.{◌≡◌, ℕ, ◌+◌, ◌-◌, ◌++◌, ◌==◌, if◌then◌else◌, length, replicate};
-ghost use Rattle.std.specs.Prelude.{option_map, Option, None, Some, OnOk, OnErr, MatchOption};
+ghost use Rattle.std.specs.Prelude.{◌≡◌, ℕ, ◌+◌, ◌-◌, ◌^◌, ◌≤◌, ◌++◌, ◌==◌, if◌then◌else◌, length, replicate};
+ghost use Rattle.std.specs.Prelude.{option_map, Option, None, Some, IfOk, OnOk, OnErr, MatchOption};
 ghost use Rattle.traffic.specs.{Nodes.one_more, declared.node_views.OutLink.OutLink};
-ghost use Rattle.node_move.specs.{Entries.rows_of, Entries.StandsAt, Entries.entry_in, Entries.freed, Entries.fewer, Entries.holes_put};
-ghost use Rattle.node_move.specs.Entries.{IsInside, IsOutside};
+ghost use Rattle.node_move.specs.Entries.{rows_of, StandsAt, HasItsBlock, HasNoBlock, entry_in, freed, fewer, holes_put, taken_of};
 ghost use Rattle.node_move.specs.{Spaces.places_in, Spaces.holes_in, declared.TheConstants.BLOCK_LINKS};
 
 use crate::BLOCK_LINKS;
 use crate::space::{Entry, Space};
-use crate::starts::{place_of, put_start};
+use crate::starts::{block_of, entry_number, put_start};
 use std::alloc::{AllocError, Global};
 use traffic::OutLink;
 
@@ -18,7 +17,7 @@ fn entry_of(starts: &[u32], entries: &[Entry], link: u32) -> Option<usize>
     ensures { MatchOption result (entry_in (rows_of starts.now entries.now) link ≡ None)
         (λ number. StandsAt starts.now entries.now link number) }
 {
-    let number = place_of(starts, link);
+    let number = entry_number(starts, link);
     if number >= entries.len() {
         return None;
     }
@@ -28,15 +27,15 @@ fn entry_of(starts: &[u32], entries: &[Entry], link: u32) -> Option<usize>
     Some(number)
 }
 
-/// Where the entry of a link is to stand, where its block is there.
-fn place_in_block(starts: &[u32], entries: &[Entry], link: u32) -> Option<usize>
-    ensures { MatchOption result (IsOutside starts.now entries.now link) (λ number. IsInside starts.now entries.now link number) }
+/// The number that the entry of a link is to have, where its block is there.
+fn number_in_block(starts: &[u32], entries: &[Entry], link: u32) -> Option<usize>
+    ensures { MatchOption result (HasNoBlock starts.now entries.now link) (λ number. HasItsBlock starts.now entries.now link number) }
 {
-    let number = place_of(starts, link);
+    let number = entry_number(starts, link);
     if number >= entries.len() {
         return None;
     }
-    if entries[number].link as usize / BLOCK_LINKS != link as usize / BLOCK_LINKS {
+    if block_of(entries[number].link) != block_of(link) {
         return None;
     }
     Some(number)
@@ -50,6 +49,20 @@ fn add_copies(entries: &mut Vec<Entry>, start: u32, entry: Entry) -> Result<(), 
 {
     entries.resize(start as usize + BLOCK_LINKS, entry)?;
     Ok(())
+}
+
+/// In how many blocks these links are, which ascend by number.
+fn count_blocks(links: &[u32]) -> usize {
+    let mut count = 0usize;
+    let mut last = None;
+    for link in links {
+        let block = Some(block_of(*link));
+        if block != last {
+            count = count.saturating_add(1);
+            last = block;
+        }
+    }
+    count
 }
 
 /// The entry once one of its places is free, which was a hole.
@@ -80,16 +93,33 @@ impl Space {
         }
     }
 
-    /// A block more, with the entry of a link of which no other one has an entry.
+    /// No link has an entry. There is room for those of these links, which ascend by number, and for what stands in their blocks.
+    ///
+    /// # Errors
+    ///
+    /// `AllocError`: there is no memory for them.
+    pub fn with_room(alloc: Global, links: &[u32]) -> Result<Space, AllocError>
+        ensures places { IfOk result (λ space. (m : ℕ) → places_in space m ≡ None) }
+        ensures holes { IfOk result (λ space. (m : ℕ) → holes_in space m ≡ 0) }
+    {
+        let room = count_blocks(links).saturating_mul(BLOCK_LINKS);
+        let entries = Vec::with_capacity(alloc, room)?;
+        Ok(Space {
+            starts: Vec::new(alloc),
+            entries,
+        })
+    }
+
+    /// A block more: that of this entry, of whose links none has an entry yet. An error too where 2^32 entries stand there.
     fn add_block(&mut self, entry: Entry) -> Result<(), AllocError>
-        requires { IsOutside self.old.starts self.old.entries entry.link }
+        requires { HasNoBlock self.old.starts self.old.entries entry.link }
         ensures ok { OnOk result ((m : ℕ) → entry_in self.new m ≡ (if m == entry.link then Some entry else entry_in self.old m)) }
         ensures err { OnErr result ((m : ℕ) → entry_in self.new m ≡ entry_in self.old m) }
     {
         let Ok(start) = u32::try_from(self.entries.len()) else {
             return Err(AllocError);
         };
-        put_start(&mut self.starts, entry.link as usize / BLOCK_LINKS, start)?;
+        put_start(&mut self.starts, block_of(entry.link), start)?;
         add_copies(&mut self.entries, start, entry)?;
         Ok(())
     }
@@ -98,7 +128,8 @@ impl Space {
     ///
     /// # Errors
     ///
-    /// `AllocError`: there is no memory for the entry or for the place of that link in the table. Each link then has the entry that it had.
+    /// `AllocError`: there is no memory for the entries of its block, or for the numbers that tell where blocks begin. Each link then has the
+    /// entry that it had.
     pub fn set(&mut self, link: u32, places: OutLink) -> Result<(), AllocError>
         ensures ok { OnOk result ((m : ℕ) → places_in self.new m ≡ (if m == link then Some places else places_in self.old m)) }
         ensures holes { OnOk result ((m : ℕ) → holes_in self.new m ≡ (if m == link then 0 else holes_in self.old m)) }
@@ -110,7 +141,7 @@ impl Space {
             holes: 0,
             places,
         };
-        match place_in_block(&self.starts, &self.entries, link) {
+        match number_in_block(&self.starts, &self.entries, link) {
             None => self.add_block(entry),
             Some(number) => {
                 self.entries[number] = entry;
@@ -183,14 +214,17 @@ impl Space {
         }
     }
 
-    /// One place more of a link is taken. Places are counted by rows in memory: where no number counts them, there is no memory for them.
+    /// One place more of a link is taken. Where it has no entry nothing is changed. Places are counted by rows in memory: where no number
+    /// counts them, there is no memory for them.
     ///
     /// # Errors
     ///
-    /// `AllocError`: no number counts the places.
+    /// `AllocError`: 2^64 - 1 places are taken already. Nothing is changed then.
     pub fn take_place(&mut self, link: u32) -> Result<(), AllocError>
         ensures places { OnOk result (places_in self.new ≡ one_more link (places_in self.old)) }
         ensures holes { OnOk result ((m : ℕ) → holes_in self.new m ≡ holes_in self.old m) }
+        ensures full { OnErr result (2 ^ 64 ≤ taken_of (places_in self.old link) + 1) }
+        ensures err { OnErr result (self.new ≡ self.old) }
     {
         match entry_of(&self.starts, &self.entries, link) {
             None => Ok(()),

@@ -1,7 +1,7 @@
 //! Where the blocks of links begin.
 
-ghost use Rattle.std.specs.Prelude.{◌≡◌, ℕ, ◌<◌, ◌==◌, if◌then◌else◌, length, get_or, OnOk, OnErr};
-ghost use Rattle.node_move.specs.Starts.{place_of};
+ghost use Rattle.std.specs.Prelude.{◌≡◌, ℕ, ◌/◌, ◌<◌, ◌==◌, if◌then◌else◌, length, get_or, OnOk, OnErr};
+ghost use Rattle.node_move.specs.{Starts.entry_number, declared.TheConstants.BLOCK_LINKS};
 
 use crate::BLOCK_LINKS;
 use std::alloc::AllocError;
@@ -16,12 +16,18 @@ fn start_of(starts: &[u32], block: usize) -> u32
     0
 }
 
-/// Where the entry of a link stands, if it has one.
-pub(crate) fn place_of(starts: &[u32], link: u32) -> usize
-    ensures { result ≡ place_of starts.now link }
+/// The number of the block of a link.
+pub(crate) fn block_of(link: u32) -> usize
+    ensures { result ≡ link / BLOCK_LINKS }
 {
-    let link = link as usize;
-    start_of(starts, link / BLOCK_LINKS) as usize + link % BLOCK_LINKS
+    link as usize / BLOCK_LINKS
+}
+
+/// The number of the entry of a link, if it has one.
+pub(crate) fn entry_number(starts: &[u32], link: u32) -> usize
+    ensures { result ≡ entry_number starts.now link }
+{
+    start_of(starts, block_of(link)) as usize + link as usize % BLOCK_LINKS
 }
 
 /// It can be said of this block where it begins.

@@ -2,9 +2,8 @@
 #![tactic(auto)]
 
 mod number_set;
-mod sets;
 
 pub use number_set::NumberSet;
 
-/// The numbers of a set are below this.
-pub const NUMBERS: u32 = 64;
+/// A set has room for the numbers below this.
+pub(crate) const CAPACITY: u32 = 64;

@@ -4,9 +4,11 @@ use Rattle.std.proofs.lemmas.{Bool.cases_Bool, Bool.eqb-true, Bool.eqb-false, Bo
 use Rattle.std.{proofs.lemmas.List.length-set, specs.List.flat_map}
 use Rattle.std.specs.Prelude.{Option, None, Some, nat_lt, ◌||◌, set}
 use Rattle.traffic.{proofs.Sublists.persons-length, specs.Moves.told, specs.Moves.run, specs.Moves.done, specs.Moves.persons_by, specs.Moves.persons_after}
-use Rattle.traffic.specs.{Rows.World, Rows.nobody, Setup.Setup, declared.moves.Move.Move, declared.moves.Occurrence.Occurrence, declared.world.Person.Person}
+use Rattle.rows.specs.declared.plan.Leg.{Leg}
+use Rattle.traffic.specs.declared.world.Place.{Place, TheVariants.At, TheVariants.Teleporting, TheVariants.Waiting, TheVariants.Riding, TheVariants.Aborted}
+use Rattle.traffic.specs.{Rows.World, Rows.nobody, Setup.Setup, Setup.leg_at, declared.moves.Move.Move, declared.moves.Occurrence.Occurrence, declared.world.Person.Person}
 use Rattle.calendar.specs.Waking.{wake_of, within}
-use Rattle.part_persons.{proofs.Following.followed_length, specs.Dues.person_due, specs.Dues.followed, specs.Dues.followed_all, specs.Dues.AreFollowed}
+use Rattle.part_persons.{proofs.Following.followed_length, specs.Dues.person_due, specs.Dues.due_at_place, specs.Dues.is_riding, specs.Dues.followed, specs.Dues.followed_all, specs.Dues.AreFollowed}
 
 -- whether a person is told of
 pub is_his : ℕ → Option ℕ → Bool
@@ -188,6 +190,17 @@ one_followed S end i P persons now wakes later n e f t h = λ j u there from to 
           = ap (λ (ps : List Person). get_or ps j nobody) e ∙ get_or-set_other persons i j P nobody (λ z. ne (sym z)) in
           other_wake S end j now (Some i) wakes q ∙ h j u (omega arith) from to (sym (ap (person_due S j) kept) ∙ due)
     ]
+
+-- who rides has nothing to do by himself
+riding_waits : (w : Leg) (p : Place) → is_riding p ≡ true → due_at_place w p ≡ None
+riding_waits w (At end) h = absurd (cc)
+riding_waits w (Teleporting start) h = absurd (cc)
+riding_waits w (Waiting stop since) h = refl
+riding_waits w (Riding vehicle) h = refl
+riding_waits w (Aborted link) h = refl
+
+pub riding_idle : (S : Setup) (P : Person) → is_riding P.place ≡ true → (j : ℕ) → person_due S j P ≡ None
+riding_idle S P h j = riding_waits (leg_at S j P.element) P.place h
 
 -- who goes, or comes and has nothing to do by himself, need not be looked at
 pub idle_followed : (S : Setup) (end t i : ℕ) (P : Person) (persons now : List Person) (wakes : List (Option ℕ)) → ((j : ℕ) → person_due S j P ≡ None)

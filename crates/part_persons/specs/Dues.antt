@@ -1,5 +1,5 @@
 -- When a person has something to do by himself, and who is looked at then.
-use Rattle.std.specs.Prelude.{◌≡◌, ℕ, ◌+◌, ◌<◌, ◌≤◌, List, [], ◌∷◌, length, get_or, set, nat_lt, if◌then◌else◌, Option, None, Some}
+use Rattle.std.specs.Prelude.{◌≡◌, ℕ, ◌+◌, ◌<◌, ◌≤◌, Bool, true, false, List, [], ◌∷◌, length, get_or, set, nat_lt, if◌then◌else◌, Option, None, Some}
 use Rattle.rows.specs.declared.plan.Leg.{Leg}
 use Rattle.rows.specs.declared.plan.Leg.TheVariants as leg
 use Rattle.traffic.specs.{Rows.nobody, Setup.Setup, Setup.leg_at, declared.moves.Occurrence.Occurrence, declared.world.Person.Person}
@@ -25,6 +25,14 @@ due_at_place w (Teleporting start) = lands_in start (seconds_of w)
 due_at_place w (Waiting stop since) = None
 due_at_place w (Riding vehicle) = None
 due_at_place w (Aborted link) = None
+
+-- whether a person at this place rides
+abbrev pub is_riding : Place → Bool
+is_riding (At end) = false
+is_riding (Teleporting start) = false
+is_riding (Waiting stop since) = false
+is_riding (Riding vehicle) = true
+is_riding (Aborted link) = false
 
 abbrev pub person_due : Setup → ℕ → Person → Option ℕ
 person_due S i P = due_at_place (leg_at S i P.element) P.place

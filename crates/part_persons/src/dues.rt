@@ -1,13 +1,12 @@
 //! When a person has something to do by himself.
 
-ghost use Rattle.std.specs.Prelude.{◌≡◌, ℕ, ◌+◌, ◌<◌, true, length, get_or, None, Some};
+ghost use Rattle.std.specs.Prelude.{◌≡◌, ◌+◌, ◌<◌, length, get_or, Some};
 ghost use Rattle.rows.specs.PlanRows.{plan_rows, leg_in};
 ghost use Rattle.rows.specs.declared.plan.Leg.TheVariants as leg;
 ghost use Rattle.calendar.specs.Waking.{within};
 ghost use Rattle.town.specs.Views.{setup};
-ghost use Rattle.traffic.specs.Setup.{Setup};
 ghost use Rattle.person_moves.specs.Legs.{nth_leg};
-ghost use Rattle.part_persons.specs.Dues.{seconds_of, person_due};
+ghost use Rattle.part_persons.specs.Dues.{seconds_of, person_due, is_riding};
 
 use calendar::within;
 use rows::{Leg, Legs, Plan};
@@ -70,14 +69,8 @@ pub(crate) fn person_due(day: &DayInput, person: u32, state: Person) -> Option<u
 }
 
 /// Whether a person rides: then he has nothing to do by himself.
-pub(crate) fn is_riding(state: Person) -> bool
-    ensures { result ≡ true → (S : Setup) (i : ℕ) → person_due S i state ≡ None }
+pub(crate) fn is_riding(place: Place) -> bool
+    ensures { result ≡ is_riding place }
 {
-    match state.place {
-        Place::Riding { .. } => true,
-        Place::At { .. } => false,
-        Place::Teleporting { .. } => false,
-        Place::Waiting { .. } => false,
-        Place::Aborted { .. } => false,
-    }
+    matches!(place, Place::Riding { .. })
 }

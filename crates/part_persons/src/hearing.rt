@@ -56,7 +56,7 @@ pub(crate) fn follow_all(
 }
 
 /// So is everybody whose home this partition is; nobody stands for the others.
-pub(crate) fn follow_first(
+pub(crate) fn follow_residents(
     day: &DayInput,
     homes: &[u32],
     partition: u32,

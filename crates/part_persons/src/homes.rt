@@ -21,7 +21,7 @@ pub(crate) fn nobody() -> Person
 }
 
 /// The row with which a person begins the day, at the first activity of the chosen plan.
-fn first_row(day: &DayInput, person: u32) -> Person
+fn home_row(day: &DayInput, person: u32) -> Person
     requires { person < length day.now.chosen.now }
     ensures { result ≡ at_home (person_plan (setup day.now) person) }
 {
@@ -45,7 +45,7 @@ fn empty_rows(alloc: Global, count: usize) -> Result<Vec<Person>, AllocError>
     Ok(rows)
 }
 
-/// The rows with which all persons begin the day in this partition, by the homes of all. Only those are looked at whose home it is.
+/// The rows with which all persons begin the day in this partition, by the homes of all. Only the plans of those are looked at whose home it is.
 pub(crate) fn first_rows(
     alloc: Global,
     day: &DayInput,
@@ -59,7 +59,7 @@ pub(crate) fn first_rows(
     let mut rows = empty_rows(alloc, homes.len())?;
     for person in 0..day.town.book.persons.len() {
         if is_home(homes, partition, person) {
-            rows[person as usize] = first_row(day, person);
+            rows[person as usize] = home_row(day, person);
         }
     }
     Ok(rows)

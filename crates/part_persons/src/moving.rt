@@ -55,7 +55,7 @@ fn follow_in(
 }
 
 impl Persons {
-    /// A person comes to the part with this row, and is looked at when it is his time. Who rides has none, and his second is not looked at.
+    /// A person comes to the part with this row, and is looked at when it is his time. Who rides has none: a second that he had here stays.
     ///
     /// # Errors
     ///
@@ -71,7 +71,7 @@ impl Persons {
         ensures wakes { OnOk result (length self.new.wakes ≡ length self.new.world.persons) }
     {
         put_person(&mut self.world, person, state);
-        if is_riding(state) {
+        if is_riding(state.place) {
             return Ok(());
         }
         follow_in(day, person, &self.world, &mut self.wakes)?;

@@ -8,7 +8,7 @@ ghost use Rattle.town.specs.Views.{setup};
 ghost use Rattle.traffic.specs.Day.{world_start};
 ghost use Rattle.part_persons.specs.{Dues.AreFollowedIn, Own.own_persons, Own.first_rows};
 
-use crate::hearing::follow_first;
+use crate::hearing::follow_residents;
 use crate::homes::first_rows;
 use calendar::Wakes;
 use person_moves::{World, start_with};
@@ -40,7 +40,7 @@ fn first_wakes(
     ensures wakes { IfOk result (λ wakes. length wakes ≡ length world.now.persons) }
 {
     let mut wakes = Wakes::new(alloc, world.persons.len())?;
-    follow_first(day, homes, partition, &world.persons, &mut wakes)?;
+    follow_residents(day, homes, partition, &world.persons, &mut wakes)?;
     Ok(wakes)
 }
 

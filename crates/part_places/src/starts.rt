@@ -48,7 +48,7 @@ fn free_space(alloc: Global, day: &DayInput, links: &[u32]) -> Result<Space, All
     ensures free { IfOk result (AreFree (setup day.now) links.now) }
     ensures holes { IfOk result (λ space. (m : ℕ) → holes_in space m ≡ 0) }
 {
-    let mut space = Space::new(alloc);
+    let mut space = Space::with_room(alloc, links)?;
     for link in links {
         let places = free_place(day, *link);
         space.set(*link, places)?;
@@ -59,8 +59,8 @@ fn free_space(alloc: Global, day: &DayInput, links: &[u32]) -> Result<Space, All
 impl Places {
     /// The places of the links of a day that begin in a part, at the start of the day: none is taken. `starts` are these links.
     ///
-    /// No other link is looked at. Of links it takes memory for these, for those beside them, and for one place for each 64 links up to the
-    /// last one of these (`node_move: Space`).
+    /// No other link is looked at. Of links it takes memory for these and for those in their blocks of 16, which is most of it where these
+    /// are scattered over the numbers of all, and four bytes for each block up to that of the last one (`node_move: Space`).
     ///
     /// # Errors
     ///

@@ -18,11 +18,11 @@ const FULL: OutLink = OutLink {
     seconds: 10,
 };
 
-/// A link on the fourth page of a table.
+/// A link within a block of 16.
 const LINK: u32 = 200;
 
-/// Links that have no place: on the same page beside it, in its row on other pages, and on a page that is not there.
-const OTHERS: [u32; 6] = [0, 8, 136, 199, 201, 264];
+/// Links that have no place: beside it in its block, as far within other blocks, and in one that is not there.
+const OTHERS: [u32; 6] = [0, 8, 184, 199, 201, 216];
 
 /// The places of one link.
 fn full_link(alloc: Global) -> Result<Places, AllocError> {
@@ -104,6 +104,43 @@ fn places_come_free_in_time(alloc: Global) -> bool {
 #[test]
 fn places_over_a_border_come_free_in_their_second(rt: HostRuntime) {
     assert!(rt; places_come_free_in_time(rt.alloc()));
+}
+
+/// A link of which so many of three places are taken.
+fn taken(count: u64) -> OutLink {
+    OutLink {
+        taken: count,
+        ..FULL
+    }
+}
+
+/// Two links side by side in a block, and one as far within another block.
+fn three_links(alloc: Global) -> Result<Space, AllocError> {
+    let mut space = Space::with_room(alloc, &[8, LINK, LINK + 1])?;
+    space.set(LINK, taken(3))?;
+    space.set(LINK + 1, taken(2))?;
+    space.set(8, taken(1))?;
+    Ok(space)
+}
+
+/// Each has its own places, also once those of one were set again; links between and behind them have none.
+fn each_has_its_own(space: &mut Space) -> bool {
+    space.set(LINK, taken(0)).is_ok()
+        && space.taken(LINK) == Some(0)
+        && space.taken(LINK + 1) == Some(2)
+        && space.taken(8) == Some(1)
+        && space.taken(9).is_none()
+        && space.taken(24).is_none()
+        && space.taken(LINK - 1).is_none()
+        && space.taken(LINK + 2).is_none()
+}
+
+#[test]
+fn links_of_a_block_have_places_of_their_own(rt: HostRuntime) {
+    match three_links(rt.alloc()) {
+        Ok(mut space) => assert!(rt; each_has_its_own(&mut space)),
+        Err(_) => assert!(rt; false),
+    }
 }
 
 /// A person at an activity until second 60.

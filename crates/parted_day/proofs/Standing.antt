@@ -13,6 +13,7 @@ stays old new e = λ run h.
     subst (λ (x : TownPart). IsPartOf run x) (sym e) (record {
       there = h.there;
       stands = h.stands;
+      quiet = h.quiet;
       events = h.events;
       silent = h.silent;
       stray = h.stray;

@@ -1,5 +1,5 @@
 -- A second in which nobody of a partition has anything to do.
-use Rattle.std.specs.Prelude.{◌≡◌, ℕ, ◌+◌, ◌<◌, List, []}
+use Rattle.std.specs.Prelude.{◌≡◌, ℕ, ◌+◌, ◌<◌, ◌≤◌, List, []}
 use Rattle.town.specs.{Views.setup, declared.day_input.DayInput.DayInput}
 use Rattle.law_in_range.specs.Setups.{HaveFittingPlans}
 use Rattle.law_parcels.specs.Worlds.{world_held}
@@ -10,6 +10,10 @@ use Rattle.divided_day.specs.{Days.borders_in, Slots.AreSlots}
 use Rattle.part_seconds.specs.{Parcels.nothing, Parcels.HasNothing, Resting.IsAtRest, Stands.AreaStands}
 use Rattle.part_seconds.specs.declared.{area.Area.Area, contents.Contents.Contents}
 use Rattle.parted_day.specs.{Absorbed.IsRight, Strays.AreStrays, Turns.turns_told, declared.straying.Stray.Stray}
+
+-- in no second from this one on before the other one has anybody of a part anything to do
+abbrev pub AreAtRest : ℕ → ℕ → Area → Type 0
+AreAtRest from until A = (u : ℕ) → from ≤ u → u < until → IsAtRest u A
 
 -- Second t changes nothing of the part of p: as it is, the part stands for what p holds then. The turns of the second tell nothing, each
 -- neighbour gets a parcel with nothing in it, and nobody more strays.

@@ -64,7 +64,7 @@ fn empty_network(run: &Run, partition: u32) -> Result<NetworkState, AllocError>
 /// begin there, for the places of each; of the plans at those alone with which the day begins there (`divided_day: Division`, `homes`). It
 /// goes once over the departures of the whole town, and fills tables by number for the whole of it: a row and a second of waking for each
 /// person, a second of waking for each node, and a line for each stop. Of links it fills none: what is kept by the number of a link
-/// stands in pages of 64, for each of which there is a place up to that of its last link (`node_move: Space`).
+/// stands in blocks of 16, and of each block up to that of its last link a number tells where it begins (`node_move: Space`).
 ///
 /// # Errors
 ///

@@ -120,18 +120,17 @@ fn push_ends(
 /// The events of the end of the day of the persons in this table and on these links, where the strays stand in it.
 fn tell_ends(
     run: &Run,
-    persons: Vec<Person>,
+    mut states: Vec<Person>,
     links: &[LinkState],
     strays: &[Stray],
 ) -> Result<Vec<Event>, AllocError>
-    requires { length persons.items ≡ length run.now.day.now.chosen.now }
+    requires { length states.items ≡ length run.now.day.now.chosen.now }
     ensures { IfOk result (λ events. events.items ≡ flat_map
         (told_on (setup run.now.day.now) run.now.day.now.town.now.settings.end_second
-        (with_links strays.now (put_links links.now (replicate (length persons.items) 0))) (with_states strays.now persons.items))
-        (below (length persons.items))) }
+        (with_links strays.now (put_links links.now (replicate (length states.items) 0))) (with_states strays.now states.items))
+        (below (length states.items))) }
 {
-    let mut ridden = rider_links(run.alloc, persons.len(), links)?;
-    let mut states = persons;
+    let mut ridden = rider_links(run.alloc, states.len(), links)?;
     put_strays(strays, &mut states, &mut ridden);
     let mut events = Vec::new(run.alloc);
     push_ends(run.day, &states, &ridden, &mut events)?;

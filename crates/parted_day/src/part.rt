@@ -10,7 +10,7 @@ ghost use Rattle.town.specs.Views.{setup};
 use crate::beginnings::begin;
 use crate::ends::end_events;
 use crate::neighbours::neighbours_of;
-use crate::quiet::rest_changes_nothing;
+use crate::quiet::{rest_changes_nothing, rests};
 use crate::straying::Stray;
 use crate::turns::{forget_told, send_parcels, take_turns};
 use divided_day::DayPart;
@@ -27,6 +27,8 @@ pub struct TownPart<'a> {
     pub(crate) number: u32,
     /// How many seconds it has done.
     pub(crate) done: u32,
+    /// Nobody of it has anything to do before this second, unless something comes from a neighbour.
+    pub(crate) quiet_until: u32,
     /// Whether it found no memory in a second: it is of no use then.
     pub(crate) spent: bool,
     /// Its share of the network, and who is there.
@@ -149,6 +151,7 @@ impl<'a> Part for TownPart<'a> {
         Ok(TownPart {
             number,
             done: 0,
+            quiet_until: 0,
             spent: false,
             area,
             inbox,
@@ -166,10 +169,11 @@ impl<'a> Part for TownPart<'a> {
     fn second(&mut self, run: &Run<'a>) -> Result<(), AllocError> {
         forget_told(run, &mut self.told);
         rest_changes_nothing();
-        if !self.inbox.has_some() && self.area.rests(self.done) {
+        if !self.inbox.has_some() && rests(&self.area, self.done, &mut self.quiet_until) {
             self.done += 1;
             return Ok(());
         }
+        self.quiet_until = 0;
         self.spent = true;
         let leaving = take_turns(
             run,
@@ -221,6 +225,7 @@ impl<'a> DayPart for TownPart<'a> {
         let TownPart {
             number,
             done: _done,
+            quiet_until: _quiet_until,
             spent: _spent,
             area,
             inbox: _inbox,

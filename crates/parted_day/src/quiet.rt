@@ -1,8 +1,15 @@
-//! A second in which nobody of a partition has anything to do.
+//! Seconds in which nobody of a partition has anything to do.
 
-ghost use Rattle.parted_day.specs.Rest.{RestIsNothing};
+ghost use Rattle.std.specs.Prelude.{◌≡◌, ◌<◌, true};
+ghost use Rattle.limits.specs.declared.TheConstants.{LAST_SECOND};
+ghost use Rattle.part_seconds.specs.Resting.{IsAtRest};
+ghost use Rattle.parted_day.specs.Rest.{AreAtRest, RestIsNothing};
 
 use law_parcels::{own_worlds_go_on, parcels_make_ready};
+use part_seconds::Area;
+
+/// How many seconds are looked at at once.
+const LOOK_AHEAD: u32 = 32;
 
 /// A second before which no neighbour sent anything, and in which nobody of a partition has anything to do, changes nothing: its part
 /// stands for what the partition holds then as it is, nothing is told, nothing goes to a neighbour, and nobody more strays.
@@ -11,4 +18,31 @@ pub(crate) fn rest_changes_nothing()
 {
     parcels_make_ready();
     own_worlds_go_on();
+}
+
+/// The first second from this one on of which it is not seen at once that nobody has anything to do in it, or the last that is looked at.
+fn first_busy(area: &Area, second: u32) -> u32
+    requires { second < LAST_SECOND }
+    ensures { AreAtRest second result area.now }
+{
+    for ahead in 0..LOOK_AHEAD {
+        if !area.rests(second + ahead) {
+            return second + ahead;
+        }
+    }
+    second + LOOK_AHEAD
+}
+
+/// Whether nobody has anything to do in a second, as far as that is seen at once. It is known of the seconds before `quiet_until`; where
+/// it is not of this one, those that follow are looked at with it. So a part that rests for long looks at its calendars once in 32 seconds.
+pub(crate) fn rests(area: &Area, second: u32, quiet_until: &mut u32) -> bool
+    requires second_in { second < LAST_SECOND }
+    requires quiet { AreAtRest second quiet_until.old area.now }
+    ensures rests { result ≡ true → IsAtRest second area.now }
+    ensures quiet { AreAtRest second quiet_until.new area.now }
+{
+    if *quiet_until <= second {
+        *quiet_until = first_busy(area, second);
+    }
+    second < *quiet_until
 }

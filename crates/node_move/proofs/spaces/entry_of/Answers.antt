@@ -6,4 +6,4 @@ pub returns-then-number-entries : goal.returns-then-number-entries
 returns-then-number-entries c = none_there c.args.starts.now c.args.entries.now c.args.link (omega arith)
 
 pub returns-then-entries-number : goal.returns-then-entries-number
-returns-then-entries-number c = other_there c.args.starts.now c.args.entries.now c.args.link _ c.place_of-number.ensures (omega arith) c.if-entries-number.true
+returns-then-entries-number c = other_there c.args.starts.now c.args.entries.now c.args.link _ c.entry_number-number.ensures (omega arith) c.if-entries-number.true

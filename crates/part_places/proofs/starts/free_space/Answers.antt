@@ -6,7 +6,7 @@ use Rattle.part_places.proofs.Starting.{none_free, one_free, all_free, no_holes}
 use Rattle.part_places.proofs.starts.free_space.Goals as goal
 
 pub loop-link-init : goal.loop-link-init
-loop-link-init c = record { free = none_free (setup c.args.day.now) c.args.links.now c.new-space.result; holes = c.new-space.ensures.holes }
+loop-link-init c = record { free = none_free (setup c.args.day.now) c.args.links.now c.in_ok-space.space; holes = c.in_ok-space.ensures.holes }
 
 pub free_place-places-requires : goal.free_place-places-requires
 free_place-places-requires c =

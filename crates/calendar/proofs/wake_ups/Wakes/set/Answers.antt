@@ -11,8 +11,8 @@ invariant_of-self-2 c =
     let lt : c.args.number < length due = rw (← c.self.view_is) at c.requires in
     elim c.match-second.branch [
       | in-Some+in_ok-add w ↦
-          rw (c.in_ok-due.ensures, w.in-Some.is, w.self-inside-is)
+          rw (c.in_ok-due.ensures.ok, w.in-Some.is, w.self-inside-is)
           (hung_set due c.self.inside.calendar w.add.new.self c.args.number w.in-Some.second lt c.self.invariant w.in_ok-add.ensures.ok)
       | in_default w ↦
-          rw (c.in_ok-due.ensures, w.in_default.is, w.self-inside-is) (hung_off due c.self.inside.calendar c.args.number lt c.self.invariant)
+          rw (c.in_ok-due.ensures.ok, w.in_default.is, w.self-inside-is) (hung_off due c.self.inside.calendar c.args.number lt c.self.invariant)
     ]

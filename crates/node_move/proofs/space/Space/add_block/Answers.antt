@@ -15,7 +15,8 @@ begun : (c : In_ok-put_start) → BeginsAt (c.args.entry.link / BLOCK_LINKS) (le
 begun c =
     let n : c.in-Ok.start ≡ length c.self.inside.entries.items = omega (arith, c.in-Ok.ensures) in
     subst (λ (k : ℕ). BeginsAt (c.args.entry.link / BLOCK_LINKS) k c.self.inside.starts.items c.put_start.new.starts.items) n
-    c.in_ok-put_start.ensures.ok
+    (subst (λ (q : ℕ). BeginsAt q c.in-Ok.start c.self.inside.starts.items c.put_start.new.starts.items) c.block_of.ensures
+    c.in_ok-put_start.ensures.ok)
 
 pub invariant_of-self : goal.invariant_of-self
 invariant_of-self c =

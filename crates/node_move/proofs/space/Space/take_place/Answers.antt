@@ -1,8 +1,8 @@
-use Rattle.std.proofs.Common.{◌+◌, refl}
+use Rattle.std.proofs.Common.{◌+◌, ap, arith, refl}
 use Rattle.std.specs.Prelude.{None, Some}
 use Rattle.node_move.proofs.Blocks.{blocks_stay}
 use Rattle.node_move.proofs.Entries.{found_there, none_read, replaced_there, places_are, placed, holes_stay, taken, nothing}
-use Rattle.node_move.specs.{Entries.rows_of, Spaces.places_in, declared.space.Entry.Entry}
+use Rattle.node_move.specs.{Entries.rows_of, Entries.taken_of, Spaces.places_in, declared.space.Entry.Entry}
 use Rattle.node_move.proofs.space.Space.take_place.Goals as goal
 
 pub returns-in-None-clause-places : goal.returns-in-None-clause-places
@@ -45,3 +45,14 @@ invariant_of-self c =
     rw more.1
     (blocks_stay ks c.deref.result.now es c.deref-2.result.now c.args.link c.in-Some.number e refl c.deref.ensures.value
     c.deref-2.ensures.value c.in-Some.ensures c.self.invariant)
+
+pub returns-in_default-clause-full : goal.returns-in_default-clause-full
+returns-in_default-clause-full c =
+    let ks = c.self.inside.starts.items in
+    let es = c.self.inside.entries.items in
+    let rows = rows_of ks es in
+    let d : Entry = c.index-entry.result.now in
+    let was = found_there ks c.deref.result.now es c.deref-2.result.now c.args.link c.in-Some.number d c.deref.ensures.value
+    c.deref-2.ensures.value c.in-Some.ensures c.index-entry.ensures in
+    let many = ap taken_of (places_are rows c.args.link (Some d) was) in
+    rw (← c.self.view_is) (omega (arith, c.in_default.ensures))

@@ -15,7 +15,13 @@ rested c =
     let x = c.args.self.now in
     c.rest_changes_nothing.ensures run.day.now run.owner.now x.number x.done run.link_slots.now x.area x.inbox run.given run.slots
     c.requires.before_end c.requires.stands.stands c.requires.heard (c.has_some.ensures c.if-not-has_some.true)
-    (c.rests.ensures c.if-rests.true)
+    (c.rests.ensures.rests c.if-rests.true)
+
+pub rests-requires-clause-second_in : goal.rests-requires-clause-second_in
+rests-requires-clause-second_in c = let short = c.args.run.now.day.now.town.now.sound.settings.ends in omega arith
+
+pub rests-requires-clause-quiet : goal.rests-requires-clause-quiet
+rests-requires-clause-quiet c = c.requires.stands.quiet
 
 pub returns-then-rests-clause-done : goal.returns-then-rests-clause-done
 returns-then-rests-clause-done c =
@@ -29,6 +35,7 @@ returns-then-rests-clause-done c =
       holds = record {
         there = c.requires.stands.there;
         stands = rest.stands;
+        quiet = λ u from before. c.rests.ensures.quiet u (omega arith) before;
         events = told_next run.day.now run.owner.now run.given x.number x.done run.streams x.told.events.items
             c.forget_told.new.told.events.items c.requires.stands.events
             (c.forget_told.ensures.events ∙ sym (append-nil kept) ∙ ap (λ (es : List Event). kept ++ es) (sym rest.told));
@@ -94,6 +101,7 @@ returns-clause-done c =
       holds = record {
         there = c.requires.stands.there;
         stands = c.in_ok-send_parcels.ensures.stands;
+        quiet = λ u from before. absurd (omega arith);
         events = told_next day run.owner.now run.given p t run.streams c.args.self.now.told.events.items c.take_turns.new.told.events.items
             c.requires.stands.events
             (c.in_ok-leaving.ensures.events

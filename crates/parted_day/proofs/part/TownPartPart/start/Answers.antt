@@ -35,6 +35,7 @@ returns c =
       holds = record {
         there = c.requires;
         stands = c.in_ok-area.ensures;
+        quiet = λ u from before. absurd (omega arith);
         events = subst (λ (es : List Event). HasTold run.streams day run.owner.now p 0 es) (sym c.list_with_room.ensures)
             (none_told run.streams day run.owner.now p);
         silent = c.new-3.ensures.items;

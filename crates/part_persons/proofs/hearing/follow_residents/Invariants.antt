@@ -1,7 +1,7 @@
 use Rattle.std.proofs.Common.{◌≡◌, length}
 use Rattle.town.specs.Views.{setup}
 use Rattle.part_persons.proofs.Told.{AreFollowedBelow}
-use Rattle.part_persons.proofs.hearing.follow_first.Given as goal
+use Rattle.part_persons.proofs.hearing.follow_residents.Given as goal
 
 abbrev pub invariant-loop-person : goal.invariant-loop-person
 invariant-loop-person l = record {

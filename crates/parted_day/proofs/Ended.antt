@@ -51,6 +51,11 @@ nothing_told : (S : Setup) (t l i : ℕ) → keyed t (phase_code phase.E) i 0 (s
 unfolding keyed
 nothing_told S t l i = refl
 
+-- nothing is told of who is not under way
+pub none_keyed : (t i : ℕ) (said : List Occurrence) → [] ≡ said → [] ≡ keyed t (phase_code phase.E) i 0 said
+unfolding keyed
+none_keyed t i said e = ap (keyed t (phase_code phase.E) i 0) e
+
 lacked : (o : Option Person) → is_some o ≡ false → or_nobody o ≡ nobody
 lacked None e = refl
 lacked (Some P) e = absurd (true≢false e)

@@ -10,7 +10,7 @@ ghost use Rattle.town.specs.Views.{setup};
 use crate::beginnings::begin;
 use crate::ends::end_events;
 use crate::neighbours::neighbours_of;
-use crate::quiet::{rest_changes_nothing, rests};
+use crate::quiet::{quiet_until, rest_changes_nothing};
 use crate::straying::Stray;
 use crate::turns::{forget_told, send_parcels, take_turns};
 use divided_day::DayPart;
@@ -169,7 +169,9 @@ impl<'a> Part for TownPart<'a> {
     fn second(&mut self, run: &Run<'a>) -> Result<(), AllocError> {
         forget_told(run, &mut self.told);
         rest_changes_nothing();
-        if !self.inbox.has_some() && rests(&self.area, self.done, &mut self.quiet_until) {
+        let came = self.inbox.has_some();
+        self.quiet_until = quiet_until(&self.area, self.done, self.quiet_until, came);
+        if !came && self.done < self.quiet_until {
             self.done += 1;
             return Ok(());
         }

@@ -1,8 +1,7 @@
 //! Seconds in which nobody of a partition has anything to do.
 
-ghost use Rattle.std.specs.Prelude.{◌≡◌, ◌<◌, true};
+ghost use Rattle.std.specs.Prelude.{◌<◌};
 ghost use Rattle.limits.specs.declared.TheConstants.{LAST_SECOND};
-ghost use Rattle.part_seconds.specs.Resting.{IsAtRest};
 ghost use Rattle.parted_day.specs.Rest.{AreAtRest, RestIsNothing};
 
 use law_parcels::{own_worlds_go_on, parcels_make_ready};
@@ -33,16 +32,16 @@ fn first_busy(area: &Area, second: u32) -> u32
     second + LOOK_AHEAD
 }
 
-/// Whether nobody has anything to do in a second, as far as that is seen at once. It is known of the seconds before `quiet_until`; where
-/// it is not of this one, those that follow are looked at with it. So a part that rests for long looks at its calendars once in 32 seconds.
-pub(crate) fn rests(area: &Area, second: u32, quiet_until: &mut u32) -> bool
+/// Up to which second it is seen at once that nobody has anything to do, where that is known up to `known`. Seconds that follow are looked at
+/// where it is not known of this one: so a part that rests for long looks at its calendars once in 32 seconds. Where something came, the
+/// second is to be done as it is, and nothing is looked at.
+pub(crate) fn quiet_until(area: &Area, second: u32, known: u32, came: bool) -> u32
     requires second_in { second < LAST_SECOND }
-    requires quiet { AreAtRest second quiet_until.old area.now }
-    ensures rests { result ≡ true → IsAtRest second area.now }
-    ensures quiet { AreAtRest second quiet_until.new area.now }
+    requires quiet { AreAtRest second known area.now }
+    ensures { AreAtRest second result area.now }
 {
-    if *quiet_until <= second {
-        *quiet_until = first_busy(area, second);
+    if came || second < known {
+        return known;
     }
-    second < *quiet_until
+    first_busy(area, second)
 }

@@ -1,7 +1,7 @@
 //! How many places of links are taken.
 
-ghost use Rattle.std.specs.Prelude.{◌≡◌, ℕ, ◌+◌, ◌-◌, ◌^◌, ◌≤◌, ◌++◌, ◌==◌, if◌then◌else◌, length, replicate};
-ghost use Rattle.std.specs.Prelude.{option_map, Option, None, Some, IfOk, OnOk, OnErr, MatchOption};
+ghost use Rattle.std.specs.Prelude.{◌≡◌, ℕ, ◌+◌, ◌-◌, ◌^◌, ◌≤◌, ◌++◌, ◌==◌, if◌then◌else◌};
+ghost use Rattle.std.specs.Prelude.{length, replicate, option_map, Option, None, Some, IfOk, OnOk, OnErr, MatchOption};
 ghost use Rattle.traffic.specs.{Nodes.one_more, declared.node_views.OutLink.OutLink};
 ghost use Rattle.node_move.specs.Entries.{rows_of, StandsAt, HasItsBlock, HasNoBlock, entry_in, freed, fewer, holes_put, taken_of};
 ghost use Rattle.node_move.specs.{Spaces.places_in, Spaces.holes_in, declared.TheConstants.BLOCK_LINKS};
@@ -128,8 +128,8 @@ impl Space {
     ///
     /// # Errors
     ///
-    /// `AllocError`: there is no memory for the entries of its block, or for the numbers that tell where blocks begin. Each link then has the
-    /// entry that it had.
+    /// `AllocError`: there is no memory for the entries of its block, or for the numbers that tell where blocks begin. Each link then has
+    /// the entry that it had.
     pub fn set(&mut self, link: u32, places: OutLink) -> Result<(), AllocError>
         ensures ok { OnOk result ((m : ℕ) → places_in self.new m ≡ (if m == link then Some places else places_in self.old m)) }
         ensures holes { OnOk result ((m : ℕ) → holes_in self.new m ≡ (if m == link then 0 else holes_in self.old m)) }

@@ -1,3 +1,4 @@
 pub mod Numbers
+pub mod Heard
 pub mod Standing
 pub mod Whole

@@ -1,5 +1,5 @@
 -- Links have their turns one after the other.
-use Rattle.traffic.proofs.Common.{◌≡◌, ◌≢◌, ℕ, ◌+◌, ◌-◌, ◌<◌, Bool, false, List, ◌∙◌, ap, refl, sym, subst, [], ◌∷◌, ◌++◌, inl, inr, arith, append-nil}
+use Rattle.traffic.proofs.Common.{◌≡◌, ℕ, ◌+◌, ◌<◌, Bool, false, List, ◌∙◌, ap, refl, sym, subst, [], ◌∷◌, ◌++◌, inl, inr, arith, append-nil}
 use Rattle.traffic.proofs.Common.{length, get_or, set, eqb, eqb-true, eqb-false, ne_eqb, cases_Bool, true≢false, length-set, get_or-set_same, get_or-set_other}
 use Rattle.traffic.proofs.Common.{flat_map, Option, None, Event, Setup, World, told, phase_code, keyed, link_moves, link_turns, link_state, rules, waiters}
 use Rattle.traffic.{proofs.Common.LinkState, specs.Setup.link_of_stop}
@@ -14,7 +14,7 @@ use Rattle.link_seconds.specs.Seconds.{HaveLines, StopThere, IsThere, IsSecond, 
 use Rattle.node_move.specs.NodeStates.{no_link}
 use Rattle.node_seconds.{proofs.Lanes.in_at, proofs.Lanes.among_front, specs.Networks.lane, specs.Networks.is_among, specs.Networks.AreOnce}
 use Rattle.part_links.specs.Links.{IsLink, AreNumbered, LinksStandAt, LinesStandAt, StopsThere, CanTurn, lies_on, wake_after}
-use Rattle.part_links.specs.Phase.{moves_at, IsTurn, turned, keyed_by, told_by, waiting_behind, AreTurned}
+use Rattle.part_links.specs.Phase.{of_persons, moves_at, IsTurn, turned, keyed_by, told_by, waiting_behind, AreTurned}
 use Rattle.part_links.proofs.Numbers.{among_own, among_other}
 
 -- THE NUMBERS OF A LINK
@@ -50,13 +50,13 @@ turned_is S t n V v w ms h e m g =
 pub turn_is : (lies : ℕ → Bool) (D : Dwelling) (t n : ℕ) (ws : List Waiter) (v w : LinkView) (lines later : List (List Waiter))
     (events out : List Event) (said heard now : List Occurrence) → w ≡ record v { lists = w.lists; raised = t + 1 }
     → IsSecond lies (rules_of v.numbers D) t v.numbers.link ws (lists_at t v) [] lines w.lists now later
-    → out ≡ events ++ keyed t (phase_code phase.D) n 0 now → heard ≡ said ++ now → IsTurn lies D t n ws v w lines later events out said heard
+    → out ≡ events ++ keyed t (phase_code phase.D) n 0 now → heard ≡ said ++ of_persons now → IsTurn lies D t n ws v w lines later events out said heard
 unfolding with_turn
 turn_is lies D t n ws v w lines later events out said heard now e s o h =
     record {
       link = e ∙ ap (with_turn t v) s.lists;
       events = o ∙ ap (λ (xs : List Occurrence). events ++ keyed t (phase_code phase.D) n 0 xs) s.events;
-      said = h ∙ ap (λ (xs : List Occurrence). said ++ xs) s.events;
+      said = h ∙ ap (λ (xs : List Occurrence). said ++ of_persons xs) s.events;
       waits = s.waits;
       others = s.others;
     }
@@ -87,7 +87,7 @@ second_at lies D t n ws links v w lines later start heard lt is none there bay t
 pub record Turned (S : Setup) (end t n : ℕ) (V : World) (v w : LinkView) (lines later : List (List Waiter)) (out next : List Event) (heard hears : List Occurrence) : Type 0 where
   pub link : w ≡ turned S t n V v
   pub events : next ≡ out ++ keyed_by S t V n
-  pub said : hears ≡ heard ++ told_by S t V n
+  pub said : hears ≡ heard ++ of_persons (told_by S t V n)
   pub waits : HaveLines (lies_on S n) later (left_after (link_turns S t n V) (waiters S n V))
   pub others : (stop : ℕ) → lies_on S n stop ≡ false → line_at later stop ≡ line_at lines stop
 
@@ -99,7 +99,7 @@ one_turn S end t n V D v w lines later out next heard hears d h e g =
     record {
       link = turned_is S t n V v w (moves_at D t (waiters S n V) v) h e m g.link;
       events = g.events ∙ ap (λ (ms : List Move). out ++ keyed t (phase_code phase.D) n 0 (flat_map told ms)) m;
-      said = g.said ∙ ap (λ (ms : List Move). heard ++ flat_map told ms) m;
+      said = g.said ∙ ap (λ (ms : List Move). heard ++ of_persons (flat_map told ms)) m;
       waits = subst (λ (ms : List Move). HaveLines (lies_on S n) later (left_after ms (waiters S n V))) m g.waits;
       others = g.others;
     }
@@ -184,8 +184,8 @@ turn_more number S end t n V ms old links later lines after before wakes more ev
           ];
       events = g.events ∙ ap (λ (xs : List Event). xs ++ keyed_by S t V (number n)) h.events
           ∙ flat_map_more (λ (k : ℕ). keyed_by S t V (number k)) events ms n;
-      said = g.said ∙ ap (λ (xs : List Occurrence). xs ++ told_by S t V (number n)) h.said
-          ∙ flat_map_more (λ (k : ℕ). told_by S t V (number k)) said ms n;
+      said = g.said ∙ ap (λ (xs : List Occurrence). xs ++ of_persons (told_by S t V (number n))) h.said
+          ∙ flat_map_more (λ (k : ℕ). of_persons (told_by S t V (number k))) said ms n;
     }
 
 -- by what the turn of a link is for whoever waits

@@ -18,9 +18,9 @@ use Rattle.queue_link.specs.{Links.LinkView, Numbers.rules_of, Waking.due_of}
 use Rattle.link_seconds.specs.Seconds.{HaveLines, lists_at, left_after}
 use Rattle.law_waking.{proofs.Lines.turn_leaves, proofs.Resting.settled_rests, specs.Resting.Rests, specs.Resting.sleeps_to}
 use Rattle.node_seconds.specs.Networks.{lane, is_among, AreOnce}
-use Rattle.part_links.proofs.{Numbers.among_passed, Numbers.once_passed, Standing.link_is, Standing.rules_are}
+use Rattle.part_links.proofs.{Heard.heard_by, Numbers.among_passed, Numbers.once_passed, Standing.link_is, Standing.rules_are}
 use Rattle.part_links.specs.Links.{IsLink, AreNumbered, LinksStandAt, LinesStandAt, AreAsleep, lies_on, no_sooner, wake_after}
-use Rattle.part_links.specs.Phase.{turned, keyed_by, told_by, waiting_behind, AreTurned, turns_at, IsPhaseAt}
+use Rattle.part_links.specs.Phase.{of_persons, turned, keyed_by, told_by, waiting_behind, AreTurned, turns_at, IsPhaseAt}
 
 -- WHO IS WOKEN
 woken_below : (t : ℕ) (due : List (Option ℕ)) → woken t due ≡ filter (is_woken t due) (below (length due))
@@ -443,7 +443,8 @@ module _ (number : ℕ → ℕ) (size : ℕ) (S : Setup) (end t : ℕ) (V : Worl
       lines = all_lines;
       asleep = all_asleep;
       events = h.events ∙ ap (λ (xs : List Event). events ++ xs) all_told.0;
-      said = h.said ∙ ap (λ (xs : List Occurrence). said ++ xs) all_told.1;
+      said = h.said
+          ∙ ap (λ (xs : List Occurrence). said ++ xs) (heard_by (λ (k : ℕ). told_by S t V (number k)) ks ∙ ap of_persons all_told.1);
     }
 
 pub phase_is : (number : ℕ → ℕ) (size : ℕ) (S : Setup) (end t : ℕ) (V : World) (D : Dwelling) (ks : List ℕ) (old links : List LinkView)

@@ -1,5 +1,5 @@
 -- The phase of a second in which links move, of those in so many slots or of all.
-use Rattle.std.specs.Prelude.{◌≡◌, ℕ, ◌+◌, ◌<◌, Bool, true, false, List, ◌++◌, length, map, Option}
+use Rattle.std.specs.Prelude.{◌≡◌, ℕ, ◌+◌, ◌<◌, Bool, true, false, List, ◌++◌, length, map, filter, Option, is_some}
 use Rattle.std.specs.List.{flat_map}
 use Rattle.events.specs.{Keys.phase_code, declared.event.Event.Event}
 use Rattle.events.specs.declared.event.Phase.TheVariants as phase
@@ -14,6 +14,11 @@ use Rattle.calendar.specs.Waking.{wake_of}
 use Rattle.node_seconds.specs.Networks.{lane, is_among}
 use Rattle.part_links.specs.Links.{LinksStandAt, LinesStandAt, AreAsleep, lies_on, wake_after}
 
+-- WHAT PERSONS HEAR
+-- those of these that tell of a person
+abbrev pub of_persons : List Occurrence → List Occurrence
+of_persons said = filter (λ (e : Occurrence). is_some e.person) said
+
 -- ONE LINK
 -- the moves of a link in second t, where these wait at its stops
 abbrev pub moves_at : Dwelling → ℕ → List Waiter → LinkView → List Move
@@ -24,7 +29,7 @@ pub record IsTurn (lies : ℕ → Bool) (D : Dwelling) (t n : ℕ) (ws : List Wa
     (old_events new_events : List Event) (old_said new_said : List Occurrence) : Type 0 where
   pub link : w ≡ record v { lists = link_state_after_all v.numbers.link (moves_at D t ws v) (lists_at t v); raised = t + 1 }
   pub events : new_events ≡ old_events ++ keyed t (phase_code phase.D) n 0 (flat_map told (moves_at D t ws v))
-  pub said : new_said ≡ old_said ++ flat_map told (moves_at D t ws v)
+  pub said : new_said ≡ old_said ++ of_persons (flat_map told (moves_at D t ws v))
   pub waits : HaveLines lies later (left_after (moves_at D t ws v) ws)
   pub others : (stop : ℕ) → lies stop ≡ false → line_at later stop ≡ line_at lines stop
 
@@ -58,7 +63,7 @@ pub record AreTurned (number : ℕ → ℕ) (S : Setup) (end t : ℕ) (V : World
   pub woken : (k : ℕ) → k < length old → is_among k ks ≡ true → wake_of wakes k ≡ wake_after end t (lane links k)
   pub asleep : (k : ℕ) → is_among k ks ≡ false → wake_of wakes k ≡ wake_of before k
   pub events : new_events ≡ old_events ++ flat_map (λ k. keyed_by S t V (number k)) ks
-  pub said : new_said ≡ old_said ++ flat_map (λ k. told_by S t V (number k)) ks
+  pub said : new_said ≡ old_said ++ flat_map (λ k. of_persons (told_by S t V (number k))) ks
 
 -- ALL OF THEM
 -- the turns of the links in so many slots, slot by slot
@@ -73,7 +78,7 @@ pub record IsPhaseBy (number : ℕ → ℕ) (size : ℕ) (us : List Turn) (S : S
   pub lines : LinesStandAt number size S new_lines (after S t us V)
   pub asleep : AreAsleep S.settings.dwell end (t + 1) new_links wakes
   pub events : new_events ≡ old_events ++ events_in t phase.D us
-  pub said : new_said ≡ old_said ++ flat_map told (moves_of us)
+  pub said : new_said ≡ old_said ++ of_persons (flat_map told (moves_of us))
 
 -- what the turns of the links in so many slots make of world V in second t
 abbrev pub IsPhaseAt : (ℕ → ℕ) → ℕ → Setup → ℕ → ℕ → World → List LinkView → List (List Waiter) → List (Option ℕ) → List Event → List Event

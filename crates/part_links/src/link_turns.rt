@@ -9,7 +9,7 @@ ghost use Rattle.traffic.specs.{Day.keyed, declared.world.Waiter.Waiter};
 ghost use Rattle.queue_link.specs.{Numbers.rules_of, Waking.due_of};
 ghost use Rattle.link_seconds.specs.Seconds.{AreShort, HaveLines, IsThere, StopThere, IsSecond, lists_at};
 ghost use Rattle.node_seconds.specs.Networks.{lane};
-ghost use Rattle.part_links.specs.{Links.CanTurn, Links.no_sooner, Links.wake_after, Phase.IsTurn};
+ghost use Rattle.part_links.specs.{Links.CanTurn, Links.no_sooner, Links.wake_after, Phase.IsTurn, Phase.of_persons};
 
 use calendar::{Wakes, within};
 use events::{Event, Phase};
@@ -38,8 +38,23 @@ pub struct LinkPhase {
 pub struct Told {
     /// The events, in the order of their keys.
     pub events: Vec<Event>,
-    /// The same without keys.
+    /// Those of them that tell of a person, without keys: most tell of a vehicle alone.
     pub said: Vec<Occurrence>,
+}
+
+/// Appends those of these that tell of a person.
+#[tactic(auto, using(std::proofs::Common::append_assoc))]
+fn push_of_persons(said: &[Occurrence], heard: &mut Vec<Occurrence>) -> Result<(), AllocError>
+    ensures { OnOk result (heard.new.items ≡ heard.old.items ++ of_persons said.now) }
+{
+    let mut rest = said;
+    while let [event, later @ ..] = rest {
+        if event.person.is_some() {
+            heard.push(*event)?;
+        }
+        rest = later;
+    }
+    Ok(())
 }
 
 impl Told {
@@ -57,11 +72,10 @@ impl Told {
     ) -> Result<(), AllocError>
         ensures events { OnOk result (self.new.events.items
             ≡ self.old.events.items ++ keyed second (phase_code phase) number 0 said.now) }
-        ensures said { OnOk result (self.new.said.items ≡ self.old.said.items ++ said.now) }
+        ensures said { OnOk result (self.new.said.items ≡ self.old.said.items ++ of_persons said.now) }
     {
         push_keyed(second, phase, number, said, &mut self.events)?;
-        self.said.extend_from_slice(said)?;
-        Ok(())
+        push_of_persons(said, &mut self.said)
     }
 }
 

@@ -18,7 +18,7 @@ use Rattle.node_move.specs.declared.{crossings.Entering.Entering, turns.NodeTurn
 use Rattle.link_seconds.specs.Seconds.{lists_at}
 use Rattle.node_seconds.specs.Networks.{lane, is_among, slot_in, accepted_all, wakes_after_all, goes_out}
 use Rattle.node_seconds.specs.Turns.{moves_in, IsNodeSecond}
-use Rattle.part_links.specs.Links.{LinksStandAt, AreAsleep}
+use Rattle.part_links.specs.{Links.LinksStandAt, Links.AreAsleep, Phase.of_persons}
 use Rattle.part_nodes.proofs.Buffered.{nobody_in, moves_of_some}
 use Rattle.part_nodes.proofs.Crossings.{AreCrossings, node_crossings, rows_into, queue_after, aside_after, buffer_keeps, buffer_empty, places_are, out_rows}
 use Rattle.part_nodes.proofs.Entered.{length_all, all_accepted, queued_on, all_accepted_asleep, all_come}
@@ -237,7 +237,7 @@ pub turned : (z : Counts) (S : Setup) (E : Extent) (end t n : ℕ) (V : World) (
     → new.links.items ≡ links → seen ≡ links → ((m : ℕ) → holes_in new.places.space m ≡ holes_in old.places.space m) → new.places.freed ≡ old.places.freed
     → t < end → K ≡ S.settings.stuck → ((l : ℕ) → always l ≡ true → (u : ℕ) → S.green l u ≡ true)
     → new.node_wakes ≡ set old.node_wakes n (up_to end (node_due K t always new.places.space seen None ks))
-    → out ≡ events ++ keyed t (phase_code phase.C) n 0 now → heard ≡ said ++ now
+    → out ≡ events ++ keyed t (phase_code phase.C) n 0 now → heard ≡ said ++ of_persons now
     → IsTurn z S E end t n V old new events out said heard first_out gone
 turned z S E end t n V slots old new ks seen links K always events out said heard now first_out gone has own p nodes only lt to made sees_them ho fr
     in_day patience green woken ev sa =
@@ -278,6 +278,6 @@ turned z S E end t n V slots old new ks seen links K always events out said hear
           waits_again E.mine S end t l k always space links all U (at l Buffer U) (wake_of new.node_wakes n) in_day its (green l) h.places
           (h.on l there its) own_wake not_woken a number buffer;
       events = ev ∙ ap (λ (xs : List Occurrence). events ++ keyed t (phase_code phase.C) n 0 xs) p.said;
-      said = sa ∙ ap (λ (xs : List Occurrence). said ++ xs) p.said;
+      said = sa ∙ ap (λ (xs : List Occurrence). said ++ of_persons xs) p.said;
       gone = p.gone;
     }

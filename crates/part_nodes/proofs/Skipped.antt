@@ -12,7 +12,8 @@ use Rattle.law_in_range.specs.Rows.{Counts}
 use Rattle.calendar.{proofs.Woken.woken_is, specs.Due.AreIn}
 use Rattle.calendar.specs.Waking.{wake_of, is_second, is_woken, woken, slept}
 use Rattle.node_seconds.specs.Networks.{is_among, AreOnce}
-use Rattle.part_links.proofs.Numbers.{among_other, among_passed, once_passed}
+use Rattle.part_links.{proofs.Heard.heard_both, proofs.Numbers.among_other, proofs.Numbers.among_passed, proofs.Numbers.once_passed}
+use Rattle.part_links.specs.Phase.{of_persons}
 use Rattle.part_persons.proofs.Skipping.{Idle, distinct_filter, skip_world, skip_events}
 use Rattle.part_nodes.{specs.declared.network.NetworkState.NetworkState, proofs.Seen.into_there, proofs.Seen.among_into, proofs.Crossings.out_both}
 use Rattle.part_nodes.proofs.Held.{node_takes, waits_on, waits_next, none_able, none_red, slept_at, slept_other}
@@ -135,11 +136,13 @@ turned_last z S E end t n V ns old now next events out more said heard last firs
           (ap (λ (ms : List Move). events_in t phase.C (all S t ns V) ++ keyed t (phase_code phase.C) n 0 (flat_map told ms)) (sym p)
           ∙ sym (events_last t (all S t ns V) u) ∙ ap (events_in t phase.C) (sym (turns_last S t n ns V)));
       said =
-          g.said ∙ ap (λ (xs : List Occurrence). xs ++ flat_map told (node_turns S t n W)) h.said
-          ∙ append_assoc said (flat_map told (moves_of (all S t ns V))) (flat_map told (node_turns S t n W))
+          g.said ∙ ap (λ (xs : List Occurrence). xs ++ of_persons (flat_map told (node_turns S t n W))) h.said
+          ∙ append_assoc said (of_persons (flat_map told (moves_of (all S t ns V)))) (of_persons (flat_map told (node_turns S t n W)))
           ∙ ap (λ (xs : List Occurrence). said ++ xs)
+          (sym (heard_both (flat_map told (moves_of (all S t ns V))) (flat_map told (node_turns S t n W)))
+          ∙ ap of_persons
           (ap (λ (ms : List Move). flat_map told (moves_of (all S t ns V)) ++ flat_map told ms) (sym p)
-          ∙ sym (told_last (all S t ns V) u) ∙ ap (λ (us : List Turn). flat_map told (moves_of us)) (sym (turns_last S t n ns V)));
+          ∙ sym (told_last (all S t ns V) u) ∙ ap (λ (us : List Turn). flat_map told (moves_of us)) (sym (turns_last S t n ns V))));
       gone =
           g.gone ∙ ap (λ (xs : List Entering). xs ++ going_out S E.mine (node_turns S t n W)) h.gone
           ∙ append_assoc first_out (going_out S E.mine (moves_of (all S t ns V))) (going_out S E.mine (node_turns S t n W))
@@ -343,6 +346,6 @@ all_turned z S E end t V ns old mid new events out said heard first_out gone in_
           h.events ∙ ap (λ (xs : List Event). events ++ xs)
           (ap (λ (ks : List ℕ). events_in t phase.C (all S t ks V)) ns_are
           ∙ skip_events S t phase.C (turns_of S t phase.C) p own V apart distinct idle);
-      said = h.said ∙ ap (λ (ms : List Move). said ++ flat_map told ms) moves;
+      said = h.said ∙ ap (λ (ms : List Move). said ++ of_persons (flat_map told ms)) moves;
       gone = h.gone ∙ ap (λ (ms : List Move). first_out ++ going_out S E.mine ms) moves;
     }

@@ -15,7 +15,7 @@ use Rattle.calendar.specs.Waking.{wake_of}
 use Rattle.queue_link.specs.Links.{LinkView}
 use Rattle.node_move.specs.{Entries.SpaceRows, Spaces.places_in, Spaces.holes_in, declared.crossings.Entering.Entering}
 use Rattle.node_seconds.specs.Networks.{is_among}
-use Rattle.part_links.specs.Links.{AreNumbered, LinksStandAt, AreAsleep}
+use Rattle.part_links.specs.{Links.AreNumbered, Links.LinksStandAt, Links.AreAsleep, Phase.of_persons}
 use Rattle.part_places.specs.Taking.{still}
 use Rattle.part_nodes.specs.declared.network.NetworkState.{NetworkState}
 
@@ -144,7 +144,7 @@ pub record IsTurn (z : Counts) (S : Setup) (E : Extent) (end t n : ℕ) (V : Wor
       → BufferWaits S end (t + 1) (t + 1) l (wake_of new.node_wakes n) (run S t (node_turns S t n V) V)
       (at l Buffer (run S t (node_turns S t n V) V))
   pub events : now_events ≡ first_events ++ keyed t (phase_code phase.C) n 0 (flat_map told (node_turns S t n V))
-  pub said : now_said ≡ first_said ++ flat_map told (node_turns S t n V)
+  pub said : now_said ≡ first_said ++ of_persons (flat_map told (node_turns S t n V))
   pub gone : out ≡ first_out ++ going_out S E.mine (node_turns S t n V)
 
 -- the same of the turns of these nodes, one after the other
@@ -160,7 +160,7 @@ pub record AreTurned (z : Counts) (S : Setup) (E : Extent) (end t : ℕ) (V : Wo
       → BufferWaits S end (t + 1) (t + 1) l (wake_of new.node_wakes m) (after S t (turns S t (turns_of S t phase.C) ns V) V)
       (at l Buffer (after S t (turns S t (turns_of S t phase.C) ns V) V))
   pub events : now_events ≡ first_events ++ events_in t phase.C (turns S t (turns_of S t phase.C) ns V)
-  pub said : now_said ≡ first_said ++ flat_map told (moves_of (turns S t (turns_of S t phase.C) ns V))
+  pub said : now_said ≡ first_said ++ of_persons (flat_map told (moves_of (turns S t (turns_of S t phase.C) ns V)))
   pub gone : out ≡ first_out ++ going_out S E.mine (moves_of (turns S t (turns_of S t phase.C) ns V))
 
 -- What these turns of the nodes of a part make of its network, which stands for world V in second t.
@@ -171,7 +171,7 @@ pub record IsPhaseBy (z : Counts) (S : Setup) (E : Extent) (us : List Turn) (end
   pub freed : new.places.freed ≡ old.places.freed
   pub awaited : AreAwaitedAt E.mine S end (t + 1) (t + 1) new.node_wakes (after S t us V)
   pub events : now_events ≡ first_events ++ events_in t phase.C us
-  pub said : now_said ≡ first_said ++ flat_map told (moves_of us)
+  pub said : now_said ≡ first_said ++ of_persons (flat_map told (moves_of us))
   pub gone : out ≡ first_out ++ going_out S E.mine (moves_of us)
 
 -- the turns of these nodes in second t, by number

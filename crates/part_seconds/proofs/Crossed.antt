@@ -1,5 +1,5 @@
 -- The part of a partition once its nodes have had their turns in a second.
-use Rattle.traffic.proofs.Common.{◌≡◌, ℕ, ◌+◌, ◌<◌, true, List, [], ◌++◌, ◌∙◌, ap, sym, subst, arith, eqb, eqb-true, eq-eqb, length, get_or, map, flat_map}
+use Rattle.traffic.proofs.Common.{◌≡◌, ℕ, ◌+◌, ◌<◌, true, List, [], ◌++◌, ◌∙◌, ap, refl, sym, subst, arith, eqb, eqb-true, eq-eqb, length, get_or, map, flat_map}
 use Rattle.traffic.proofs.Common.{Option, Some, Event, link_of_stop, hole_of, storage_of, seconds_of, taken_at, told, moves_of, persons_after}
 use Rattle.traffic.specs.declared.{moves.Occurrence.Occurrence, node_views.OutLink.OutLink, world.Row.Row, world.Waiter.Waiter}
 use Rattle.town.specs.{Views.setup, declared.day_input.DayInput.DayInput}
@@ -12,6 +12,7 @@ use Rattle.law_own_seconds.specs.Seconds.{held_early, held_crossed, world_early,
 use Rattle.law_parts_of_days.{proofs.Awaited.starts_length, proofs.Hearing.heard_stand, specs.Settling.wake_starts}
 use Rattle.link_seconds.specs.Seconds.{HaveLines, AreShort}
 use Rattle.node_move.specs.declared.crossings.Entering.{Entering}
+use Rattle.part_links.proofs.Heard.{heard_world}
 use Rattle.part_links.specs.Links.{LinesStandAt}
 use Rattle.part_nodes.proofs.Held.{before_is}
 use Rattle.part_nodes.specs.{Phase.StandsForAt, Phase.AreAwaitedAt, Phase.IsPhaseAt, declared.network.NetworkState.NetworkState}
@@ -138,8 +139,9 @@ module _ (day : DayInput) (own : Owner) (parts p t : ℕ) (slots : List ℕ) (gi
           let us = my_node_turns S own p t in
           let K = knowing.places day own parts p t given shares in
           record {
-            persons = heard_stand day t (t + 1) (moves_of us) said V3 A.persons C.persons (knowing.stays day own parts p t given shares).crossed_is
-                (g.said ∙ ap (λ (xs : List Occurrence). xs ++ flat_map told (moves_of us)) silent) world (followed (t + 1)) looks h.persons;
+            persons = heard_stand day t (t + 1) (moves_of us) (flat_map told (moves_of us)) V3 A.persons C.persons (knowing.stays day own parts p t given shares).crossed_is
+                refl
+                (heard_world S t (moves_of us) spoken said A.persons.world C.persons.world g.said silent world) (followed (t + 1)) looks h.persons;
             departures = λ s from to. ap (λ (d : Due). due_at s d) departures ∙ h.departures s from to;
             stops = ap (λ (ls : List (List Waiter)). length ls) lines ∙ h.stops;
             lines = subst (λ (ls : List (List Waiter)). LinesStandAt num size S ls V4) (sym lines) (λ k lt.

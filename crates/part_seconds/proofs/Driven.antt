@@ -28,6 +28,7 @@ use Rattle.part_seconds.specs.{Stands.AreaStands, declared.area.Area.Area, decla
 use Rattle.link_seconds.specs.Seconds.{AreShort, IsThere}
 use Rattle.queue_link.specs.Links.{LinkView}
 use Rattle.node_seconds.specs.Networks.{lane, is_among, AreOnce}
+use Rattle.part_links.proofs.Heard.{heard_world}
 use Rattle.part_links.{proofs.Whole.woken_there, proofs.Whole.woken_once, specs.Links.AreNumbered, specs.Links.LinksStandAt, specs.Links.LinesStandAt}
 use Rattle.part_links.specs.{Links.StopsThere, Links.CanTurn, Links.AreAsleep, Links.lies_on, Phase.IsPhaseBy, Phase.IsPhaseAt, Phase.turns_at}
 use Rattle.part_nodes.specs.Phase.{taken_before}
@@ -487,8 +488,9 @@ module _ (day : DayInput) (own : Owner) (parts p t : ℕ) (slots : List ℕ) (gi
           let us = my_link_turns S own p t in
           let n = ap (λ (ws : List (Option ℕ)). length ws) nodes ∙ ends_length S t new ks A.network.node_wakes ∙ h.network.nodes in
           record {
-            persons = heard_stand day t (t + 1) (moves_of us) said V4 A.persons C.persons (knowing.stays day own parts p t given shares).driven_is
-                (g.said ∙ ap (λ (xs : List Occurrence). xs ++ flat_map told (moves_of us)) silent) world (followed (t + 1)) looks h.persons;
+            persons = heard_stand day t (t + 1) (moves_of us) (flat_map told (moves_of us)) V4 A.persons C.persons (knowing.stays day own parts p t given shares).driven_is
+                refl
+                (heard_world S t (moves_of us) spoken said A.persons.world C.persons.world g.said silent world) (followed (t + 1)) looks h.persons;
             departures = λ s from to. ap (λ (d : Due). due_at s d) departures ∙ h.departures s from to;
             stops = many ∙ h.stops;
             lines = g.lines;

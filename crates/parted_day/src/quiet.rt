@@ -32,8 +32,8 @@ fn first_busy(area: &Area, second: u32) -> u32
     second + LOOK_AHEAD
 }
 
-/// Up to which second it is seen at once that nobody has anything to do, where that is known up to `known`. Seconds that follow are looked at
-/// where it is not known of this one: so a part that rests for long looks at its calendars once in 32 seconds. Where something came, the
+/// Up to which second it is seen at once that nobody has anything to do, where that is known up to `known`. Seconds that follow are looked
+/// at where it is not known of this one: so a part that rests for long looks at its calendars once in 32 seconds. Where something came, the
 /// second is to be done as it is, and nothing is looked at.
 pub(crate) fn quiet_until(area: &Area, second: u32, known: u32, came: bool) -> u32
     requires second_in { second < LAST_SECOND }

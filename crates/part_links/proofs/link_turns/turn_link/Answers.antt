@@ -3,7 +3,7 @@ use Rattle.events.specs.declared.event.Phase.TheVariants as phase
 use Rattle.events.specs.Keys.{phase_code}
 use Rattle.traffic.specs.Day.{keyed}
 use Rattle.node_seconds.specs.Networks.{lane}
-use Rattle.part_links.proofs.Standing.{turn_is}
+use Rattle.part_links.{proofs.Standing.turn_is, specs.Phase.of_persons}
 use Rattle.part_links.proofs.link_turns.turn_link.Goals as goal
 
 pub returns-clause-turn : goal.returns-clause-turn
@@ -16,4 +16,4 @@ returns-clause-turn c = λ lies ws h g b.
     (c.in_ok-append.ensures.events
     ∙ ap (λ xs. c.args.told.now.events.items ++ keyed t (phase_code phase.D) c.number_at-number.result 0 xs) c.deref.ensures.value
     ∙ ap (λ (n : ℕ). c.args.told.now.events.items ++ keyed t (phase_code phase.D) n 0 c.in_ok-said.said.items) c.number_at-number.ensures)
-    (c.in_ok-append.ensures.said ∙ ap (λ xs. c.args.told.now.said.items ++ xs) c.deref.ensures.value)
+    (c.in_ok-append.ensures.said ∙ ap (λ xs. c.args.told.now.said.items ++ of_persons xs) c.deref.ensures.value)

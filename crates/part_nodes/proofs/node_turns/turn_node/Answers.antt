@@ -6,6 +6,7 @@ use Rattle.law_in_range.specs.Setups.{counts_in}
 use Rattle.town.specs.Views.{setup}
 use Rattle.traffic.specs.{Day.keyed, declared.moves.Occurrence.Occurrence}
 use Rattle.queue_link.specs.Links.{LinkView}
+use Rattle.part_links.specs.Phase.{of_persons}
 use Rattle.part_nodes.proofs.{Held.stuck_of, Held.green_of, Passed.turned, Ready.slots_in, Ready.town_numbers}
 use Rattle.part_nodes.specs.{Phase.LinksStandFor, Turns.always_in, Turns.HaveNumbersIn, declared.network.NetworkState.NetworkState}
 use Rattle.part_nodes.proofs.node_turns.turn_node.Goals as goal
@@ -77,4 +78,4 @@ returns c = λ E V has own h.
     (stuck_of day) (green_of day) c.in_ok-wake_again.ensures
     (c.in_ok-append.ensures.events
     ∙ ap (λ (xs : List Occurrence). first ++ keyed c.args.phase.now.second (phase_code phase.C) c.args.node 0 xs) c.deref-2.ensures.value)
-    (c.in_ok-append.ensures.said ∙ ap (λ (xs : List Occurrence). spoken ++ xs) c.deref-2.ensures.value)
+    (c.in_ok-append.ensures.said ∙ ap (λ (xs : List Occurrence). spoken ++ of_persons xs) c.deref-2.ensures.value)

@@ -45,8 +45,8 @@ fn empty_rows(alloc: Global, count: usize) -> Result<Vec<Person>, AllocError>
     Ok(rows)
 }
 
-/// The rows with which all persons begin the day in this partition, by the homes of all. Only the plans of those are looked at whose home it
-/// is.
+/// The rows with which all persons begin the day in this partition, by the homes of all. Only the plans of those are looked at whose home
+/// it is.
 pub(crate) fn first_rows(
     alloc: Global,
     day: &DayInput,

@@ -1,12 +1,14 @@
 -- Rows of a table.
-use Rattle.std.{proofs.lemmas.List.length-map, specs.Prelude.map, specs.Prelude.vec_items, proofs.lemmas.List.map-set, proofs.lemmas.List.get_or-set_same}
+use Rattle.std.{proofs.lemmas.List.length-map, specs.Prelude.map, proofs.lemmas.List.map-set, proofs.lemmas.List.get_or-set_same}
 use Rattle.std.{proofs.lemmas.List.get_or-set_other, specs.Prelude.set, specs.Prelude.◌==◌}
-use Rattle.std.proofs.Common.{◌≡◌, ℕ, zero, suc, ◌<◌, inl, inr, List, [], ◌∷◌, ◌++◌, length, arith, Vec, Global, get_or, ap, sym, ◌∙◌}
+use Rattle.std.proofs.Common.{◌≡◌, ℕ, zero, suc, ◌<◌, inl, inr, List, [], ◌∷◌, ◌++◌, length, arith, get_or, ap, sym, ◌∙◌}
 use Rattle.std.proofs.lemmas.Bool.{cases_Bool, eqb-true, eqb-false}
+use Rattle.smallvec.specs.SmallVec.{SmallVec}
 use Rattle.calendar.specs.Due.{Due, due_at, HasOneMore}
+use Rattle.part_nodes.specs.InLinkViews.{numbers_in}
 
-pub within : (rows : List (Vec ℕ Global)) (t : ℕ) → t < length (map vec_items rows) → t < length rows
-within rows t lt = let n = length-map rows vec_items in omega arith
+pub within : (rows : List (SmallVec ℕ)) (t : ℕ) → t < length (map numbers_in rows) → t < length rows
+within rows t lt = let n = length-map rows numbers_in in omega arith
 
 -- A ROW WITH ONE NUMBER MORE
 one_more : (t i : ℕ) (old : Due) → t < length old → HasOneMore t i old (set old t (due_at t old ++ i ∷ []))
@@ -16,15 +18,15 @@ one_more t i old lt = λ u.
       | inr e ↦ rw e (get_or-set_other old t u (due_at t old ++ i ∷ []) [] (eqb-false u t e))
     ]
 
-read_at : (rows : List (Vec ℕ Global)) (t : ℕ) (v : Vec ℕ Global) → t < length rows → v ≡ get_or rows t v
-    → due_at t (map vec_items rows) ≡ v.items
+read_at : (rows : List (SmallVec ℕ)) (t : ℕ) (v : SmallVec ℕ) → t < length rows → v ≡ get_or rows t v
+    → due_at t (map numbers_in rows) ≡ v.items
 read_at [] t v lt e = absurd (omega arith)
-read_at (x ∷ xs) zero v lt e = ap vec_items (sym e)
+read_at (x ∷ xs) zero v lt e = ap numbers_in (sym e)
 read_at (x ∷ xs) (suc t) v lt e = read_at xs t v (omega arith) e
 
-pub put_row : (rows : List (Vec ℕ Global)) (t i : ℕ) (v w : Vec ℕ Global) → t < length rows → v ≡ get_or rows t v
-    → w.items ≡ v.items ++ i ∷ [] → HasOneMore t i (map vec_items rows) (map vec_items (set rows t w))
+pub put_row : (rows : List (SmallVec ℕ)) (t i : ℕ) (v w : SmallVec ℕ) → t < length rows → v ≡ get_or rows t v
+    → w.items ≡ v.items ++ i ∷ [] → HasOneMore t i (map numbers_in rows) (map numbers_in (set rows t w))
 put_row rows t i v w lt e f = λ u.
-    let n = length-map rows vec_items in
-    let g : w.items ≡ due_at t (map vec_items rows) ++ i ∷ [] = f ∙ ap (λ (xs : List ℕ). xs ++ i ∷ []) (sym (read_at rows t v lt e)) in
-    ap (due_at u) (map-set vec_items rows t w ∙ ap (set (map vec_items rows) t) g) ∙ one_more t i (map vec_items rows) (omega arith) u
+    let n = length-map rows numbers_in in
+    let g : w.items ≡ due_at t (map numbers_in rows) ++ i ∷ [] = f ∙ ap (λ (xs : List ℕ). xs ++ i ∷ []) (sym (read_at rows t v lt e)) in
+    ap (due_at u) (map-set numbers_in rows t w ∙ ap (set (map numbers_in rows) t) g) ∙ one_more t i (map numbers_in rows) (omega arith) u

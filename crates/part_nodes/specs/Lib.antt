@@ -1,4 +1,5 @@
 pub mod InLinkViews
 pub mod InLinks
-pub mod Turns
 pub mod Phase
+pub mod Steady
+pub mod Turns

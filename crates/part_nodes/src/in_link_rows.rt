@@ -1,10 +1,14 @@
+use smallvec::SmallVec;
 use std::marker::Model;
 
-/// The slots of the links into each node, in the order of the links' numbers: each among the links of the part that has the node. Contracts
-/// see a list of them for each node.
+/// How many links into a node have a place in its row itself: into most nodes of a road network no more than four lead.
+const FEW: usize = 4;
+
+/// The slots of the links into each node, in the order of the links' numbers: each among the links of the part that has the node. Where
+/// few lead into a node they stand in its row, so that a look at them is one at memory. Contracts see a list of them for each node.
 #[derive(Drop)]
 pub struct InLinks {
-    pub(crate) rows: Vec<Vec<u32>>,
+    pub(crate) rows: Vec<SmallVec<u32, FEW>>,
 }
 
 impl Model for InLinks {

@@ -8,6 +8,7 @@ ghost use Rattle.part_nodes.specs.InLinks.{AreInto, leads_to, slots_of};
 
 use crate::in_link_rows::InLinks;
 use rows::{LinkList, LinkRow};
+use smallvec::SmallVec;
 use std::alloc::{AllocError, Global};
 use town::DayInput;
 
@@ -18,7 +19,7 @@ impl InLinks {
     {
         let mut rows = Vec::new(alloc);
         for _node in 0..nodes {
-            rows.push(Vec::new(alloc))?;
+            rows.push(SmallVec::new(alloc))?;
         }
         Ok(InLinks { rows })
     }

@@ -8,8 +8,10 @@ mod network;
 mod node_turns;
 mod phases;
 mod resting;
+mod steady;
 
 pub use in_link_rows::InLinks;
 pub use network::NetworkState;
 pub use node_turns::NodePhase;
 pub use phases::move_nodes;
+pub use steady::SteadyLights;

@@ -8,12 +8,13 @@ ghost use Rattle.traffic.specs.{Rows.World, Setup.into};
 ghost use Rattle.node_move.specs.Spaces.{holes_in};
 ghost use Rattle.node_seconds.specs.Networks.{lane};
 ghost use Rattle.calendar.specs.Due.{AreIn};
-ghost use Rattle.part_nodes.specs.{InLinks.slots_of, Turns.IsTurnOf, Turns.lights_of, Turns.buffered_in, Turns.is_clear};
+ghost use Rattle.part_nodes.specs.{InLinks.slots_of, Steady.AreSteady, Turns.IsTurnOf, Turns.lights_of, Turns.buffered_in, Turns.is_clear};
 ghost use Rattle.part_nodes.specs.Turns.{is_emptied, wake_emptied, wake_all_emptied, AreThere, is_buffered, only_of, HaveNumbersIn};
 ghost use Rattle.part_nodes.specs.Phase.{Extent, HasLinks, LinksStandFor, LinksStandForSome, StandsForAt, Stands, IsPassed, IsTurn};
 
 use crate::network::NetworkState;
-use crate::resting::wake_again;
+use crate::resting::{is_always_green, wake_again};
+use crate::steady::SteadyLights;
 use calendar::Wakes;
 use draws::Draws;
 use events::Phase;
@@ -36,6 +37,9 @@ pub struct NodePhase<'a> {
     pub second: u32,
     /// The slot of each link, by its number, among the links of the part that has it.
     pub link_slots: &'a [u32],
+    /// Which links are always green.
+    pub steady: &'a SteadyLights,
+    pub ghost lit: { AreSteady day.now.town.now.greens steady.now },
 }
 
 /// A link, and how many vehicles were in its buffer.
@@ -58,33 +62,45 @@ struct Fronts<'a> {
     buffered: &'a [Buffered],
 }
 
-/// Whether a link is green.
+/// Whether a link is green in the second, by its signal.
 #[tactic(auto, unfolding(town::specs::Setups::setup_of))]
-fn is_green(day: &DayInput, second: u32, link: u32) -> bool
-    requires second_in { second < LAST_SECOND }
-    requires there { link < length day.now.town.now.network.links }
-    ensures { result ≡ (setup day.now).green link second }
+fn shows_green(phase: &NodePhase, link: u32) -> bool
+    requires second_in { phase.now.second < LAST_SECOND }
+    requires there { link < length phase.now.day.now.town.now.network.links }
+    ensures { result ≡ (setup phase.now.day.now).green link phase.now.second }
 {
-    green_in(&day.town.greens, link, second)
+    green_in(&phase.day.town.greens, link, phase.second)
+}
+
+/// Whether a link is green in the second.
+#[tactic(auto, using(crate::proofs::Held::green_of))]
+fn is_green(phase: &NodePhase, link: u32) -> bool
+    requires second_in { phase.now.second < LAST_SECOND }
+    requires there { link < length phase.now.day.now.town.now.network.links }
+    ensures { result ≡ (setup phase.now.day.now).green link phase.now.second }
+{
+    if is_always_green(phase, link) {
+        return true;
+    }
+    shows_green(phase, link)
 }
 
 /// The lights of the links in these slots.
 fn lights(
     alloc: Global,
-    day: &DayInput,
-    second: u32,
+    phase: &NodePhase,
     links: &[LinkState],
     slots: &[u32],
 ) -> Result<Vec<bool>, AllocError>
-    requires second_in { second < LAST_SECOND }
+    requires second_in { phase.now.second < LAST_SECOND }
     requires there { AreIn (length links.now) slots.now }
-    requires known { HaveNumbersIn (length day.now.town.now.network.links) links.now }
-    ensures { IfOk result (λ greens. greens.items ≡ lights_of (setup day.now) second links.now slots.now) }
+    requires known { HaveNumbersIn (length phase.now.day.now.town.now.network.links) links.now }
+    ensures { IfOk result (λ greens. greens.items ≡ lights_of (setup phase.now.day.now) phase.now.second links.now slots.now) }
 {
     let mut greens = Vec::new(alloc);
     let mut rest = slots;
     while let [slot, later @ ..] = rest {
-        greens.push(is_green(day, second, number_at(links, *slot)))?;
+        greens.push(is_green(phase, number_at(links, *slot)))?;
         rest = later;
     }
     Ok(greens)
@@ -302,10 +318,9 @@ fn pass_node(
         out.old.items out.new.items) }
     ensures holes { OnOk result ((m : ℕ) → holes_in space.new m ≡ holes_in space.old m) }
 {
-    let day = phase.day;
     match only_buffered(links, slots) {
         Some(slot) => {
-            let green = is_green(day, phase.second, number_at(links, slot));
+            let green = is_green(phase, number_at(links, slot));
             let buffered = buffered_in(links, slot);
             let fronts = Fronts {
                 slots: from_ref(&slot),
@@ -318,7 +333,7 @@ fn pass_node(
         None => {
             let alloc = *out.allocator();
             let some = buffered_ones(alloc, links, slots)?;
-            let greens = lights(alloc, day, phase.second, links, &some)?;
+            let greens = lights(alloc, phase, links, &some)?;
             let buffered = buffers_of(alloc, links, &some)?;
             let fronts = Fronts {
                 slots: &some,

@@ -7,47 +7,23 @@ ghost use Rattle.node_move.specs.Spaces.{places_in};
 ghost use Rattle.node_seconds.specs.Networks.{lane};
 ghost use Rattle.calendar.specs.{Due.AreIn, Waking.earliest as sooner};
 ghost use Rattle.traffic.specs.Nodes.{has_room};
-ghost use Rattle.part_nodes.specs.Turns.{covers, is_always, always_in, is_held, link_due, node_due, up_to, woken_again, HaveNumbersIn};
+ghost use Rattle.part_nodes.specs.Turns.{always_in, is_held, link_due, node_due, up_to, woken_again, HaveNumbersIn};
 
 use crate::node_turns::NodePhase;
 use calendar::Wakes;
 use node_move::Space;
 use queue_link::LinkState;
-use rows::{Green, GreenList, Stuck};
+use rows::Stuck;
 use std::alloc::AllocError;
-use town::DayInput;
 use vehicles::{has_free_place, is_stuck, next_link};
 
-/// Whether a span is the whole of a cycle.
-fn covers(cycle: u32, span: (u32, u32)) -> bool
-    ensures { result ≡ covers cycle span }
-{
-    span.0 == 0 && 0 < cycle && cycle <= span.1
-}
-
-/// Whether a signal is green in the whole of its cycle.
-#[tactic(auto, unfolding(crate::specs::Turns::is_always))]
-fn is_always(green: &Green) -> bool
-    ensures { result ≡ is_always green.now }
-{
-    let cycle = green.cycle;
-    green.spans.rows.iter().any(|&span| covers(cycle, span))
-}
-
-/// Whether a link is always green.
-fn always_in(greens: &GreenList, link: u32) -> bool
-    requires { link < length greens.now }
-    ensures { result ≡ always_in greens.now link }
-{
-    is_always(&greens.rows[link as usize])
-}
-
 /// Whether a link of the town is always green.
-fn is_always_green(day: &DayInput, link: u32) -> bool
-    requires { link < length day.now.town.now.network.links }
-    ensures { result ≡ always_in day.now.town.now.greens link }
+#[tactic(auto, using(crate::proofs::Lit::steady_at))]
+pub(crate) fn is_always_green(phase: &NodePhase, link: u32) -> bool
+    requires { link < length phase.now.day.now.town.now.network.links }
+    ensures { result ≡ always_in phase.now.day.now.town.now.greens link }
 {
-    always_in(&day.town.greens, link)
+    phase.steady.is_steady(link)
 }
 
 /// Whether a link has a place free.
@@ -78,7 +54,7 @@ fn is_held(phase: &NodePhase, link: &LinkState, space: &Space) -> bool
     ensures { result ≡ is_held phase.now.day.now.town.now.settings.stuck phase.now.second
         (always_in phase.now.day.now.town.now.greens) space.now link.now.numbers.link link.now.lists.buffer }
 {
-    if is_always_green(phase.day, link.numbers().link) {
+    if is_always_green(phase, link.numbers().link) {
         return !can_go(&phase.day.town.settings.stuck, phase.second, link, space);
     }
     false

@@ -61,6 +61,7 @@ impl Area {
             day: run.day,
             second,
             link_slots: run.link_slots,
+            steady: run.steady,
         };
         move_nodes(&phase, run.in_links, network, told, out)?;
         hear_told(run.day, second, told, &mut self.persons)?;

@@ -6,10 +6,11 @@ ghost use Rattle.partition.specs.{Homes.homes_of, Owned.owner_in};
 ghost use Rattle.town.specs.Views.{setup};
 ghost use Rattle.law_partitions.specs.Alone.{my_links};
 ghost use Rattle.divided_day.specs.{Borders.borders_of, Slots.AreSlots, Slots.my_starts};
+ghost use Rattle.part_nodes.specs.Steady.{AreSteady};
 ghost use Rattle.part_seconds.specs.Slots.{AreSlotsInto};
 
 use divided_day::NumberList;
-use part_nodes::InLinks;
+use part_nodes::{InLinks, SteadyLights};
 use partition::Owner;
 use std::alloc::Global;
 use step_core::BorderList;
@@ -26,6 +27,8 @@ pub struct Run<'a> {
     pub owner: &'a Owner,
     /// Of each node the slots of the links into it, ascending by link, in the part that has the node.
     pub in_links: &'a InLinks,
+    /// Which links are always green.
+    pub steady: &'a SteadyLights,
     /// The slot of each link, in the part where it ends.
     pub link_slots: &'a [u32],
     /// The neighbours of each partition, ascending, with the lags from them.
@@ -43,6 +46,7 @@ pub struct Run<'a> {
     pub streams: bool,
     pub ghost given: { HaveFittingPlans day.now },
     pub ghost slots: { AreSlots (setup day.now) (owner_in owner.now.of_node) link_slots.now },
+    pub ghost lit: { AreSteady day.now.town.now.greens steady.now },
     pub ghost into: { AreSlotsInto (setup day.now) link_slots.now in_links.now },
     pub ghost near: { (p : ℕ) → p < owner.now.parts
         → get_or borders.now p [] ≡ borders_of (setup day.now) (owner_in owner.now.of_node) owner.now.parts p },

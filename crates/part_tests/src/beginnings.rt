@@ -3,6 +3,7 @@
 ghost use Rattle.std.specs.Prelude.{◌≡◌, ◌≤◌};
 ghost use Rattle.divided_day.specs.Divisions.{IsDivided};
 ghost use Rattle.law_in_range.specs.Setups.{HaveFittingPlans};
+ghost use Rattle.part_nodes.specs.Steady.{AreSteady};
 ghost use Rattle.part_seconds.specs.Slots.{AreSlotsInto};
 ghost use Rattle.town.specs.Views.{setup};
 
@@ -11,7 +12,7 @@ use calendar::{Calendar, Wakes};
 use divided_day::{Division, divide};
 use edge_files::InFile;
 use node_move::Space;
-use part_nodes::{InLinks, NetworkState};
+use part_nodes::{InLinks, NetworkState, SteadyLights};
 use part_persons::Persons;
 use part_seconds::{Area, Run};
 use parted_day::begin;
@@ -279,16 +280,19 @@ fn run_of<'a>(
     day: &'a DayInput<'a>,
     division: &'a Division,
     in_links: &'a InLinks,
+    steady: &'a SteadyLights,
 ) -> Run<'a>
     requires given { HaveFittingPlans day.now }
     requires divided { IsDivided day.now division.now.owner.parts division.now }
     requires into { AreSlotsInto (setup day.now) division.now.link_slots.items in_links.now }
+    requires lit { AreSteady day.now.town.now.greens steady.now }
 {
     Run {
         alloc,
         day,
         owner: &division.owner,
         in_links,
+        steady,
         link_slots: &division.link_slots,
         borders: &division.borders,
         ends: &division.ends,
@@ -311,7 +315,10 @@ fn day_begins(alloc: Global, day: &DayInput, parts: u32) -> bool
     let Ok(in_links) = InLinks::new(alloc, day, &division.link_slots) else {
         return false;
     };
-    all_begin(&run_of(alloc, day, &division, &in_links))
+    let Ok(steady) = SteadyLights::new(alloc, &day.town.greens) else {
+        return false;
+    };
+    all_begin(&run_of(alloc, day, &division, &in_links, &steady))
 }
 
 /// The same of a town, where the plans fit it; and whether the first person, once he comes to a part, lands after the 20 seconds of

@@ -7,18 +7,21 @@ ghost use Rattle.parted_day.specs.Sharing.{IsShared};
 
 use crate::loads::loads_of;
 use divided_day::{Division, divide};
-use part_nodes::InLinks;
+use part_nodes::{InLinks, SteadyLights};
 use part_seconds::Run;
 use std::alloc::{AllocError, Global};
 use town::DayInput;
 
-/// How the town of a day is divided, of each node the slots of the links into it, and how much there is to do in each partition.
+/// How the town of a day is divided, of each node the slots of the links into it, which links are always green, and how much there is to do
+/// in each partition.
 #[derive(Drop)]
 pub struct Shared {
     /// How the network is divided.
     pub division: Division,
     /// Of each node the slots of the links into it, ascending by link, in the part that has the node.
     pub in_links: InLinks,
+    /// Which links are always green.
+    pub steady: SteadyLights,
     /// By partition about how many events are told there, as plans have it.
     pub loads: Vec<usize>,
 }
@@ -36,10 +39,12 @@ pub fn share(alloc: Global, day: &DayInput, partitions: u32) -> Result<Shared, A
 {
     let division = divide(alloc, day, partitions)?;
     let in_links = InLinks::new(alloc, day, &division.link_slots)?;
+    let steady = SteadyLights::new(alloc, &day.town.greens)?;
     let loads = loads_of(alloc, day, &division.owner)?;
     Ok(Shared {
         division,
         in_links,
+        steady,
         loads,
     })
 }
@@ -63,6 +68,7 @@ pub fn run_of<'a>(
         day,
         owner: &shared.division.owner,
         in_links: &shared.in_links,
+        steady: &shared.steady,
         link_slots: &shared.division.link_slots,
         borders: &shared.division.borders,
         ends: &shared.division.ends,

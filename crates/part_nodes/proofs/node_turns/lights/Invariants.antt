@@ -6,7 +6,7 @@ use Rattle.part_nodes.proofs.node_turns.lights.Given as goal
 
 abbrev pub invariant-loop-rest : goal.invariant-loop-rest
 invariant-loop-rest l = record {
-  so_far : l.greens.items ++ lights_of (setup l.day) l.second l.links l.rest ≡ lights_of (setup l.day) l.second l.links l.slots;
+  so_far : l.greens.items ++ lights_of (setup l.phase.day.now) l.phase.second l.links l.rest ≡ lights_of (setup l.phase.day.now) l.phase.second l.links l.slots;
   there : AreIn (length l.links) l.rest;
 }
 

@@ -1,5 +1,6 @@
-use Rattle.std.{proofs.Common.◌≡◌, proofs.Common.[], specs.Prelude.map, specs.Prelude.replicate, specs.Prelude.vec_items}
+use Rattle.std.{proofs.Common.◌≡◌, proofs.Common.[], specs.Prelude.map, specs.Prelude.replicate}
+use Rattle.part_nodes.specs.InLinkViews.{numbers_in}
 use Rattle.part_nodes.proofs.in_link_rows.InLinks.none.Given as goal
 
 abbrev pub invariant-loop-node : goal.invariant-loop-node
-invariant-loop-node l = map vec_items l.rows.items ≡ replicate l._node []
+invariant-loop-node l = map numbers_in l.rows.items ≡ replicate l._node []

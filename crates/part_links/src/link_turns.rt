@@ -38,7 +38,7 @@ pub struct LinkPhase {
 pub struct Told {
     /// The events, in the order of their keys.
     pub events: Vec<Event>,
-    /// Those of them that tell of a person, without keys: most tell of a vehicle alone.
+    /// Those of them, without keys, that tell of a person and that persons have not heard yet: most tell of a vehicle alone.
     pub said: Vec<Occurrence>,
 }
 

@@ -1,14 +1,9 @@
 -- Which links are always green.
-use Rattle.std.proofs.Common.{◌≡◌, ℕ, zero, suc, ◌<◌, List, [], ◌∷◌, length, get_or, arith, refl, ap, ◌∙◌}
-use Rattle.std.specs.Prelude.{Bool, false, map}
-use Rattle.rows.specs.Greens.{Phases}
+use Rattle.std.proofs.{Common.◌≡◌, Common.ℕ, Common.◌<◌, Common.List, Common.length, Common.get_or, Common.ap, Common.◌∙◌, lemmas.List.get_or-map}
+use Rattle.std.specs.Prelude.{Bool, false}
+use Rattle.rows.specs.Greens.{Phases, always}
 use Rattle.part_nodes.specs.{Steady.AreSteady, Turns.is_always, Turns.always_in}
-
-marked : (greens : List Phases) (l : ℕ) → l < length greens → get_or (map is_always greens) l false ≡ always_in greens l
-marked [] l lt = absurd (omega arith)
-marked (p ∷ greens) zero lt = refl
-marked (p ∷ greens) (suc l) lt = marked greens l (omega arith)
 
 pub steady_at : (greens : List Phases) (steady : List Bool) (l : ℕ) → AreSteady greens steady → l < length greens
     → get_or steady l false ≡ always_in greens l
-steady_at greens steady l e lt = ap (λ (xs : List Bool). get_or xs l false) e ∙ marked greens l lt
+steady_at greens steady l e lt = ap (λ (xs : List Bool). get_or xs l false) e ∙ get_or-map is_always greens l always false lt

@@ -65,7 +65,7 @@ only_of [] = None
 only_of (n ∷ []) = Some n
 only_of (n ∷ m ∷ ns) = None
 
--- the span is the whole of a cycle; a signal is green in the whole of it
+-- the span is the whole of a cycle; a signal has such a span
 abbrev pub covers : ℕ → ℕ × ℕ → Bool
 covers cycle span = ((span.0 == 0) && nat_lt 0 cycle) && nat_le cycle span.1
 

@@ -5,7 +5,8 @@ use std::marker::Model;
 const FEW: usize = 4;
 
 /// The slots of the links into each node, in the order of the links' numbers: each among the links of the part that has the node. Where
-/// few lead into a node they stand in its row, so that a look at them is one at memory. Contracts see a list of them for each node.
+/// few lead into a node they stand in its row itself, and not in a list of their own elsewhere. Contracts see a list of them for each
+/// node.
 #[derive(Drop)]
 pub struct InLinks {
     pub(crate) rows: Vec<SmallVec<u32, FEW>>,

@@ -13,8 +13,8 @@ ghost use Rattle.part_nodes.specs.Turns.{is_emptied, wake_emptied, wake_all_empt
 ghost use Rattle.part_nodes.specs.Phase.{Extent, HasLinks, LinksStandFor, LinksStandForSome, StandsForAt, Stands, IsPassed, IsTurn};
 
 use crate::network::NetworkState;
-use crate::resting::{is_always_green, wake_again};
-use crate::steady::SteadyLights;
+use crate::resting::wake_again;
+use crate::steady::{SteadyLights, is_always_green};
 use calendar::Wakes;
 use draws::Draws;
 use events::Phase;
@@ -39,7 +39,7 @@ pub struct NodePhase<'a> {
     pub link_slots: &'a [u32],
     /// Which links are always green.
     pub steady: &'a SteadyLights,
-    pub ghost lit: { AreSteady day.now.town.now.greens steady.now },
+    pub ghost are_steady: { AreSteady day.now.town.now.greens steady.now },
 }
 
 /// A link, and how many vehicles were in its buffer.

@@ -10,21 +10,13 @@ ghost use Rattle.traffic.specs.Nodes.{has_room};
 ghost use Rattle.part_nodes.specs.Turns.{always_in, is_held, link_due, node_due, up_to, woken_again, HaveNumbersIn};
 
 use crate::node_turns::NodePhase;
+use crate::steady::is_always_green;
 use calendar::Wakes;
 use node_move::Space;
 use queue_link::LinkState;
 use rows::Stuck;
 use std::alloc::AllocError;
 use vehicles::{has_free_place, is_stuck, next_link};
-
-/// Whether a link of the town is always green.
-#[tactic(auto, using(crate::proofs::Lit::steady_at))]
-pub(crate) fn is_always_green(phase: &NodePhase, link: u32) -> bool
-    requires { link < length phase.now.day.now.town.now.network.links }
-    ensures { result ≡ always_in phase.now.day.now.town.now.greens link }
-{
-    phase.steady.is_steady(link)
-}
 
 /// Whether a link has a place free.
 fn has_room(space: &Space, link: u32) -> bool

@@ -1,15 +1,16 @@
 //! Which links are always green.
 
-ghost use Rattle.std.specs.Prelude.{◌≡◌, false, get_or, map, IfOk};
-ghost use Rattle.part_nodes.specs.{Steady.AreSteady, Turns.covers, Turns.is_always};
+ghost use Rattle.std.specs.Prelude.{◌≡◌, ◌<◌, false, get_or, length, map, IfOk};
+ghost use Rattle.part_nodes.specs.{Steady.AreSteady, Turns.always_in, Turns.covers, Turns.is_always};
 
+use crate::node_turns::NodePhase;
 use rows::{Green, GreenList};
 use std::alloc::{AllocError, Global};
 use std::marker::Model;
 
-/// Of each link by number whether its light is green in all seconds, as it is where the link has no signal. In each turn of a node this is
-/// asked of the links into it, and stands side by side for that: what a signal shows in a second is asked of those alone that are red in
-/// others. Contracts see the list.
+/// Of each link by number whether its light is always green: it has no signal, or one span of its signal is the whole of the cycle. In each
+/// turn of a node this is asked of those links into it in whose buffers somebody is, and stands side by side for that; what a signal shows
+/// in a second is then asked of those alone that are not always green. Contracts see the list.
 #[derive(Drop)]
 pub struct SteadyLights {
     rows: Vec<bool>,
@@ -30,7 +31,7 @@ fn covers(cycle: u32, span: (u32, u32)) -> bool
     span.0 == 0 && 0 < cycle && cycle <= span.1
 }
 
-/// Whether a signal is green in the whole of its cycle.
+/// Whether one span of a signal is the whole of its cycle.
 #[tactic(auto, unfolding(crate::specs::Turns::is_always))]
 fn is_always(green: &Green) -> bool
     ensures { result ≡ is_always green.now }
@@ -64,4 +65,13 @@ impl SteadyLights {
         let place = link as usize;
         place < self.rows.len() && self.rows[place]
     }
+}
+
+/// Whether a link of the town is always green.
+#[tactic(auto, using(crate::proofs::Lit::steady_at))]
+pub(crate) fn is_always_green(phase: &NodePhase, link: u32) -> bool
+    requires { link < length phase.now.day.now.town.now.network.links }
+    ensures { result ≡ always_in phase.now.day.now.town.now.greens link }
+{
+    phase.steady.is_steady(link)
 }

@@ -60,7 +60,7 @@ impl Places {
     /// The places of the links of a day that begin in a part, at the start of the day: none is taken. `starts` are these links.
     ///
     /// No other link is looked at. Of links it takes memory for these and for those in their blocks of 16, which is most of it where these
-    /// are scattered over the numbers of all, and four bytes for each block up to that of the last one (`node_move: Space`).
+    /// are scattered over the numbers of all, and at least four bytes for each block up to that of the last one (`node_move: Space`).
     ///
     /// # Errors
     ///

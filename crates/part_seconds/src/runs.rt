@@ -46,7 +46,7 @@ pub struct Run<'a> {
     pub streams: bool,
     pub ghost given: { HaveFittingPlans day.now },
     pub ghost slots: { AreSlots (setup day.now) (owner_in owner.now.of_node) link_slots.now },
-    pub ghost lit: { AreSteady day.now.town.now.greens steady.now },
+    pub ghost are_steady: { AreSteady day.now.town.now.greens steady.now },
     pub ghost into: { AreSlotsInto (setup day.now) link_slots.now in_links.now },
     pub ghost near: { (p : ℕ) → p < owner.now.parts
         → get_or borders.now p [] ≡ borders_of (setup day.now) (owner_in owner.now.of_node) owner.now.parts p },

@@ -285,7 +285,7 @@ fn run_of<'a>(
     requires given { HaveFittingPlans day.now }
     requires divided { IsDivided day.now division.now.owner.parts division.now }
     requires into { AreSlotsInto (setup day.now) division.now.link_slots.items in_links.now }
-    requires lit { AreSteady day.now.town.now.greens steady.now }
+    requires are_steady { AreSteady day.now.town.now.greens steady.now }
 {
     Run {
         alloc,

@@ -9,4 +9,4 @@ use Rattle.parted_day.specs.declared.runs.Shared.{Shared}
 pub record IsShared (day : DayInput) (shared : Shared) : Type 0 where
   pub divided : IsDivided day shared.division.owner.parts shared.division
   pub into : AreSlotsInto (setup day) shared.division.link_slots.items shared.in_links
-  pub lit : AreSteady day.town.now.greens shared.steady
+  pub are_steady : AreSteady day.town.now.greens shared.steady

@@ -19,7 +19,8 @@ pub(crate) fn rest_changes_nothing()
     own_worlds_go_on();
 }
 
-/// The first second from this one on of which it is not seen at once that nobody has anything to do in it, or the last that is looked at.
+/// The first second from this one on of which it is not seen at once that nobody has anything to do in it; where there is none among those
+/// that are looked at, the one behind them. An earlier one would be right too, and slow.
 fn first_busy(area: &Area, second: u32) -> u32
     requires { second < LAST_SECOND }
     ensures { AreAtRest second result area.now }
@@ -33,8 +34,8 @@ fn first_busy(area: &Area, second: u32) -> u32
 }
 
 /// Up to which second it is seen at once that nobody has anything to do, where that is known up to `known`. Seconds that follow are looked
-/// at where it is not known of this one: so a part that rests for long looks at its calendars once in 32 seconds. Where something came, the
-/// second is to be done as it is, and nothing is looked at.
+/// at where it is not known of this one: so a part that rests for long looks at its calendars of 32 seconds at once, and then not for 32
+/// seconds. Where something came, the second is to be done as it is, and nothing is looked at.
 pub(crate) fn quiet_until(area: &Area, second: u32, known: u32, came: bool) -> u32
     requires second_in { second < LAST_SECOND }
     requires quiet { AreAtRest second known area.now }

@@ -1,5 +1,5 @@
-//! Tests of the crates at the bottom: names and lists of numbers, whole reads and writes, effects, the files of the folder, settings, the
-//! words of the command line, and the calendars of a day.
+//! Tests of the crates at the bottom: names and lists of numbers, whole reads and writes, effects, the files of the folder, what the words of
+//! the command line give, and the calendars of a day.
 #![tactic(auto)]
 
 #[cfg(test)]
@@ -14,5 +14,3 @@ mod files;
 mod folder;
 #[cfg(test)]
 mod names;
-#[cfg(test)]
-mod setting_keys;

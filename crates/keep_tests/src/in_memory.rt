@@ -1,8 +1,8 @@
 //! The keeper in memory.
 
+use crate::tables::{ONE, TWO, holds, holds_nothing, saves};
 use edge_files::{KeepFail, Keeper};
 use keep::MemoryKeeper;
-use kept_tables::{ONE, TWO, holds, holds_nothing, saves};
 use std::alloc::Global;
 
 /// Whether a keeper that holds nothing keeps the last rows that are saved.

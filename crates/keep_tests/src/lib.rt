@@ -1,14 +1,12 @@
-//! Tests of what is kept of a run: rows of memories and back, keepers in memory, in a database, and in the folder, and a database whose
-//! disk stops in the midst of a save, and that is opened again.
+//! Tests of what is kept of a run: the keeper in memory, the packing of rows, and a database whose disk stops in the midst of a save, and
+//! that is opened again. The keeper of the folder is that of the program, which `examples/` and `.ci/kept` run.
 #![tactic(auto)]
 
 #[cfg(test)]
-mod database;
-#[cfg(test)]
-mod folder;
-#[cfg(test)]
 mod in_memory;
 #[cfg(test)]
-mod memories;
+mod packing;
 #[cfg(test)]
 mod stops;
+#[cfg(test)]
+mod tables;

@@ -1,7 +1,7 @@
 //! A disk that stops behind each call in turn while rows are saved twice.
 
+use crate::tables::{ONE, TWO, holds, holds_nothing, saves};
 use keep_sql::SqlKeeper;
-use kept_tables::{ONE, TWO, holds, holds_nothing, saves};
 use sqlite::{Connection, FileStore, Files, Options};
 use sqlite_disk::{Crash, Fuse, Memory};
 use std::alloc::Global;
@@ -157,4 +157,10 @@ fn a_stop_in_a_save_leaves_the_old_or_the_new(rt: HostRuntime) {
     assert!(rt;
         matches!(stops, Some((before, between, behind)) if before > 1 && between > 1 && behind > 0)
     );
+}
+
+/// Where the log never stops both saves are done, and the second one is found again.
+#[test]
+fn a_log_that_goes_on_keeps_the_last(rt: HostRuntime) {
+    assert!(rt; stop_behind(rt.alloc(), u64::MAX) == (2, Some(2)));
 }

@@ -9,8 +9,6 @@ mod grids;
 #[cfg(test)]
 mod memories;
 #[cfg(test)]
-mod score_keys;
-#[cfg(test)]
 mod scored_days;
 #[cfg(test)]
 mod scores;

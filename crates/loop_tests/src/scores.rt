@@ -1,8 +1,8 @@
 //! Scores by the tables of the worked examples.
 
 use crate::scored_days::{
-    AT_HOME, COMMUTE, DRIVE, HOME, HOME_POINTS, LEFT_BEHIND, OUT_OF_TURN, STUCK_AND_ON, Told,
-    UNTOLD, WALK, WORK, WORK_POINTS,
+    AT_HOME, AT_HOME_BEHIND_MIDNIGHT, AT_WORK_BEHIND_MIDNIGHT, COMMUTE, DRIVE, HOME, HOME_POINTS,
+    LEFT_BEHIND, OUT_OF_TURN, STUCK_AND_ON, Told, UNTOLD, WALK, WORK, WORK_POINTS,
 };
 use events::{Event, Key, More, Word};
 use scoring::{ModeScore, Points, Table, TableList, Tables, score_of};
@@ -66,7 +66,7 @@ fn both(alloc: Global, latest: Option<u32>) -> Option<Tables> {
 }
 
 /// The score of a day that begins at home.
-pub fn score(alloc: Global, tables: Option<Tables>, told: &[Told]) -> Option<i64> {
+fn score(alloc: Global, tables: Option<Tables>, told: &[Told]) -> Option<i64> {
     match tables {
         Some(tables) => score_of(&tables, HOME, &events(alloc, told)),
         None => None,
@@ -94,6 +94,14 @@ fn worked_days(rt: HostRuntime) {
     assert_eq!(rt;
         score(alloc, both(alloc, None), &COMMUTE[..6]),
         Some(93_284_451)
+    );
+    assert_eq!(rt;
+        score(alloc, both(alloc, None), &AT_WORK_BEHIND_MIDNIGHT),
+        Some(-189_754_815)
+    );
+    assert_eq!(rt;
+        score(alloc, both(alloc, None), &AT_HOME_BEHIND_MIDNIGHT),
+        Some(-169_940_000)
     );
 }
 

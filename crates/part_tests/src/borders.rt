@@ -1,6 +1,6 @@
 //! What comes to a part over a border, and what leaves it: places that come free, and persons.
 
-ghost use Rattle.std.specs.Prelude.{◌≡◌, ◌<◌, length, IfOk};
+ghost use Rattle.std.specs.Prelude.{◌≡◌, length, IfOk};
 
 use calendar::{Calendar, Wakes};
 use node_move::Space;
@@ -8,7 +8,6 @@ use part_persons::Persons;
 use part_places::{FreedLater, Places};
 use person_moves::{LinkCredits, World};
 use std::alloc::{AllocError, Global};
-use town::DayInput;
 use traffic::{OutLink, Person, Place};
 
 /// A link of three places, all taken by vehicles.
@@ -176,55 +175,6 @@ fn goes(persons: &mut Persons) -> bool
 {
     persons.give_out(1) == AT_HOME
         && persons.world.persons.as_slice() == [NOBODY, NOBODY].as_slice()
-}
-
-/// A person who is on a teleported leg since second 90.
-const TELEPORTED: Person = Person {
-    element: 1,
-    place: Place::Teleporting { start: 90 },
-};
-
-/// Three persons, of whom none is there.
-fn three_nobodies(alloc: Global) -> Result<Persons, AllocError>
-    ensures persons { IfOk result (λ persons. length persons.world.persons ≡ 3) }
-    ensures wakes { IfOk result (λ persons. length persons.wakes ≡ 3) }
-{
-    Ok(Persons {
-        world: World {
-            rows: Vec::new(alloc),
-            persons: Vec::from_slice(alloc, &[NOBODY, NOBODY, NOBODY])?,
-            credits: LinkCredits::new(alloc, 0),
-            holes: Vec::new(alloc),
-        },
-        wakes: Wakes::new(alloc, 3)?,
-    })
-}
-
-/// Whether the first of them comes on a teleported leg and is looked at in this second.
-fn comes(day: &DayInput, persons: &mut Persons, lands: u32) -> bool
-    requires plans { length persons.old.world.persons ≡ length day.now.chosen.now }
-    requires wakes { length persons.old.wakes ≡ length persons.old.world.persons }
-    requires there { 0 < length persons.old.world.persons }
-{
-    match persons.take_in(day, 0, TELEPORTED) {
-        Ok(()) => {
-            persons.wakes.due(0) == Some(lands)
-                && persons.world.persons.as_slice() == [TELEPORTED, NOBODY, NOBODY].as_slice()
-        }
-        Err(_) => false,
-    }
-}
-
-/// Whether whoever comes to a part on a teleported leg that began in second 90 is there then, and is looked at in this second: the first of
-/// the three persons of a day.
-pub(crate) fn who_comes_is_looked_at(alloc: Global, day: &DayInput, lands: u32) -> bool {
-    if day.chosen.len() != 3 {
-        return false;
-    }
-    match three_nobodies(alloc) {
-        Ok(mut persons) => comes(day, &mut persons, lands),
-        Err(_) => false,
-    }
 }
 
 #[test]

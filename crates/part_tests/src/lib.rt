@@ -1,19 +1,13 @@
-//! Tests of what a part of several has of a day, of how a network and a town are divided, and of how what the partitions told is merged, or
+//! Tests of what comes to a part over a border and what leaves it, of how a network and a town are divided, and of how what the partitions told
 //! goes over a pipe.
 #![tactic(auto)]
 
-#[cfg(test)]
-mod beginnings;
 #[cfg(test)]
 mod borders;
 #[cfg(test)]
 mod divided_networks;
 #[cfg(test)]
 mod divided_towns;
-#[cfg(test)]
-mod halves;
-#[cfg(test)]
-mod merges;
 #[cfg(test)]
 mod pieces;
 #[cfg(test)]

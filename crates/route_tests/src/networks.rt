@@ -21,11 +21,6 @@ pub fn network(alloc: Global, nodes: &[u8], links: &[u8]) -> Option<Network> {
     })
 }
 
-/// A place in a list as the number of a node or of a link, where it is one.
-pub fn number_of(place: usize) -> u32 {
-    u32::try_from(place).unwrap_or(u32::MAX)
-}
-
 /// An event of a vehicle on a link.
 pub fn event(second: u32, word: Word, vehicle: VehicleId, link: u32) -> Event {
     Event {

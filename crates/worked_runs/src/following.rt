@@ -1,12 +1,12 @@
 //! A reader who follows events.csv while a run writes it.
 
-use crate::spreads::{APART, have_same};
+use crate::cases::{APART, BUS, Case, Status, have_same, inputs_of, words_of};
 use edge_files::{Failed, Gate, MemoryOutputs, NoKeeper, OutFile, Outputs};
+use qsim_top::qsim;
 use std::alloc::Global;
 use std::sync::Wait;
 use std::sync::atomic::{AtomicU64, Ordering};
 use std::thread::Threads;
-use worked_cases::{BUS, Case, Status, inputs_of, qsim, words_of};
 
 /// Two persons who leave home in second 100 and want a bus that starts in second 200, through four partitions, by number, in 260 seconds.
 static DAY: Case = Case {

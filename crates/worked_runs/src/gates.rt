@@ -1,13 +1,11 @@
 //! Gates: a run passes them before each second of a partition, and its workers go on as far as their neighbours let them.
 
-use crate::grids::are_same;
-use crate::spreads::APART;
+use crate::cases::{APART, Case, DRIVE, Status, are_same, inputs_of, status_through};
 use edge_files::{Gate, MemoryOutputs, OpenGate};
 use std::alloc::Global;
 use std::sync::Wait;
 use std::thread::Threads;
 use step_cases::{Ahead, InTurn, Meeting};
-use worked_cases::{Case, DRIVE, Status, inputs_of, status_through};
 
 /// A person who drives to work through four partitions, by number, in 300 seconds.
 static DAY: Case = Case {

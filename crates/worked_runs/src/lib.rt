@@ -1,19 +1,16 @@
-//! Worked runs: words, reads, writes and keepers that fail; runs of several days, what is kept of them, and runs that go on from that;
-//! generated scenarios; runs in several partitions, by several workers; and events that are written while days run, and a reader who
-//! follows them. Above the top call; tests alone.
+//! Tests of whole runs that need an outside which is made for them: reads, writes and saves that fail, kept rows that no run has saved, gates
+//! that hold a partition, and a reader who follows events.csv. Above the top call; tests alone. Other runs are folders of `examples/`.
 #![tactic(auto)]
 
+#[cfg(test)]
+mod cases;
+#[cfg(test)]
+mod failures;
 #[cfg(test)]
 mod following;
 #[cfg(test)]
 mod gates;
 #[cfg(test)]
-mod grids;
+mod kept_rows;
 #[cfg(test)]
-mod kept;
-#[cfg(test)]
-mod outside;
-#[cfg(test)]
-mod several_days;
-#[cfg(test)]
-mod spreads;
+mod saves;

@@ -88,12 +88,22 @@ pub(crate) fn are_rows(rows: &[KeptRow], table: &[Kept]) -> bool {
 }
 
 /// Whether a keeper takes the rows of a table.
-pub(crate) fn saves<K: Keeper>(alloc: Global, keeper: &mut K, iteration: u32, table: &[Kept]) -> bool {
+pub(crate) fn saves<K: Keeper>(
+    alloc: Global,
+    keeper: &mut K,
+    iteration: u32,
+    table: &[Kept],
+) -> bool {
     keeper.save(iteration, &rows_of(alloc, table)).is_ok()
 }
 
 /// Whether a keeper holds this iteration and the rows of a table, which come behind those of a list.
-pub(crate) fn holds<K: Keeper>(alloc: Global, keeper: &mut K, iteration: u32, table: &[Kept]) -> bool {
+pub(crate) fn holds<K: Keeper>(
+    alloc: Global,
+    keeper: &mut K,
+    iteration: u32,
+    table: &[Kept],
+) -> bool {
     let mut rows = Vec::new(alloc);
     keeper.last() == Ok(Some(iteration)) && keeper.load(&mut rows).is_ok() && are_rows(&rows, table)
 }

@@ -108,43 +108,38 @@ static FOREIGN: [(&[Kept], &str); 14] = [
         ],
         "foreign,1\n",
     ),
-    (&[FIRST, SECOND, THIRD, FOURTH, FIFTH, SIXTH, OTHER], "foreign,5\n"),
+    (
+        &[FIRST, SECOND, THIRD, FOURTH, FIFTH, SIXTH, OTHER],
+        "foreign,5\n",
+    ),
     (&[OTHER], "foreign,0\n"),
     (
-        &[
-            Kept {
-                person: "p3",
-                lines: "p3,0,act,home,L1,,\n",
-                ..OTHER
-            },
-        ],
+        &[Kept {
+            person: "p3",
+            lines: "p3,0,act,home,L1,,\n",
+            ..OTHER
+        }],
         "foreign,0\n",
     ),
     (
-        &[
-            Kept {
-                lines: "p2,0,act,home,L1,,\n",
-                ..FIRST
-            },
-        ],
+        &[Kept {
+            lines: "p2,0,act,home,L1,,\n",
+            ..FIRST
+        }],
         "foreign,0\n",
     ),
     (
-        &[
-            Kept {
-                lines: "p1,0,act,home,L2,100,\np1,0,leg,car,,,L2 L1\np1,0,act,work,L1,,\n",
-                ..FIRST
-            },
-        ],
+        &[Kept {
+            lines: "p1,0,act,home,L2,100,\np1,0,leg,car,,,L2 L1\np1,0,act,work,L1,,\n",
+            ..FIRST
+        }],
         "foreign,0\n",
     ),
     (
-        &[
-            Kept {
-                lines: "p1,0,act,home,L1,100,\np1,0,leg,car,,,L1 L3\np1,0,act,work,L3,,\n",
-                ..FIRST
-            },
-        ],
+        &[Kept {
+            lines: "p1,0,act,home,L1,100,\np1,0,leg,car,,,L1 L3\np1,0,act,work,L3,,\n",
+            ..FIRST
+        }],
         "foreign,0\n",
     ),
 ];

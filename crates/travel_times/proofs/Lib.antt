@@ -7,3 +7,4 @@ pub mod Stays
 pub mod Known
 pub mod Pieces
 pub mod Binning
+pub mod Steadying

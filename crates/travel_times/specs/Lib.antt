@@ -1,5 +1,7 @@
 pub mod Times
 pub mod Profiles
+pub mod Steadily
+pub mod Steady
 pub mod Observed
 pub mod Tallies
 pub mod Known

@@ -1,5 +1,5 @@
 ghost use Rattle.std.specs.Prelude.{◌≡◌, ℕ, ◌+◌, ◌^◌, ◌<◌, ◌≤◌, max, []};
-ghost use Rattle.travel_times.specs.Times.{time_in, arrival_by};
+ghost use Rattle.travel_times.specs.{Steadily.steady_of, Times.time_in, Times.arrival_by};
 
 use crate::BIN_SECONDS;
 use std::alloc::Global;
@@ -44,6 +44,16 @@ impl Profile {
             free: seconds,
             bins: Vec::new(alloc),
         }
+    }
+
+    /// The seconds that the link takes in every bin, or 0 where it has bins.
+    pub fn steady(&self) -> u32
+        ensures { result ≡ steady_of self.now }
+    {
+        if self.bins.is_empty() {
+            return self.free;
+        }
+        0
     }
 
     /// The second in which the end of the link is reached by who enters it in this second.

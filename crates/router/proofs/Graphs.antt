@@ -1,11 +1,11 @@
 -- The graph that is kept is that of the network.
 use Rattle.std.proofs.Common.{◌≡◌, ℕ, ◌<◌, true, List, [], ◌∷◌, length, map, inl, inr, refl, sym, ◌∙◌, ap, subst, arith}
 use Rattle.std.proofs.{Math.Path.fun_ext, lemmas.Bool.cases_lt, lemmas.Bool.Decides.nat_tests}
-use Rattle.std.proofs.lemmas.{List.get_or_past, List.Elements.All-map, List.Sums.AllPass-from_list_all, Slice.Zip.length-zip, Slice.Zip.get_or-zip}
+use Rattle.std.proofs.lemmas.{List.get_or_past, List.Elements.All-map, List.Elements.All-weaker, List.Sums.AllPass-from_list_all, Slice.Zip.length-zip, Slice.Zip.get_or-zip}
 use Rattle.std.specs.{List.list_all, List.zip, Prelude.slice_index, Prelude.slice_index_or, Prelude.All, Prelude.Contains}
 use Rattle.rows.specs.{Joined.ends_of, Networks.is_link, Networks.are_measures, declared.network.LinkRow.LinkRow}
 use Rattle.walks.specs.Walks.{start_of, end_of, AreWithin}
-use Rattle.router.specs.{Graphs.Graph, Graphs.kept_graph, Graphs.IsAdjacency, declared.adjacency.Adjacency.TheInside.Inside}
+use Rattle.router.specs.{Graphs.Graph, Graphs.kept_graph, Graphs.IsAdjacency, declared.adjacency.Adjacency.TheInside.Inside, declared.star.Spoke.Spoke}
 
 pub pair_at : (xs ys : List ℕ) (k : ℕ) → length ys ≡ length xs → slice_index_or (zip xs ys) k (0, 0) ≡ (slice_index xs k, slice_index ys k)
 pair_at xs ys k same =
@@ -79,26 +79,52 @@ module _ (a : Inside) (g : Graph) (kept : IsAdjacency a) (view : kept_graph a �
       let count = ends_in_step a.from.items a.to.items kept.each in
       omega arith
 
-  pub out_each : (node : ℕ) → All (λ link. (link < length g.ends) × (start_of g.ends link ≡ node)) (slice_index_or a.out node [])
+  pub out_each : (node : ℕ) → All (λ spoke. (spoke.link < length g.ends) × (start_of g.ends spoke.link ≡ node)
+      × (spoke.node ≡ end_of g.ends spoke.link) × (spoke.node < g.nodes)) (slice_index_or a.out node [])
   out_each node =
-      let P : Graph → Type 0 = λ h. All (λ link. (link < length h.ends) × (start_of h.ends link ≡ node)) (slice_index_or a.out node []) in
-      let Q : ℕ → Type 0 = λ n. All (λ link. (link < n) × (start_of (zip a.from.items a.to.items) link ≡ node))
-      (slice_index_or a.out node []) in
-      subst P view (subst Q (sym (ends_in_step a.from.items a.to.items kept.each)) (kept.out.each node))
+      All-weaker (λ (s : Spoke). (s.link < length a.from.items) × (start_of (zip a.from.items a.to.items) s.link ≡ node)
+      × (s.node ≡ end_of (zip a.from.items a.to.items) s.link))
+      (λ (s : Spoke). (s.link < length g.ends) × (start_of g.ends s.link ≡ node) × (s.node ≡ end_of g.ends s.link) × (s.node < g.nodes))
+      (λ s h.
+      let count = ends_in_step a.from.items a.to.items kept.each in
+      let same = ap (λ (h : Graph). length h.ends) view in
+      let nodes = ap (λ (h : Graph). h.nodes) view in
+      let inside = (kept.inside s.link (0, 0) (omega arith)).1 in
+      let far : s.node ≡ end_of (zip a.from.items a.to.items) s.link = h.2 in (
+        omega arith,
+        sym (ap (λ (h : Graph). start_of h.ends s.link) view) ∙ h.1,
+        h.2 ∙ ap (λ (h : Graph). end_of h.ends s.link) view,
+        omega arith,
+      ))
+      (slice_index_or a.out node []) (kept.out.each node)
 
-  pub out_every : (node link : ℕ) → link < length g.ends → start_of g.ends link ≡ node → Contains (slice_index_or a.out node []) link
-  out_every node link within begins =
-      let P : ℕ → Type 0 = λ n. Contains (slice_index_or a.out n []) link in
-      subst P (ap (λ (h : Graph). start_of h.ends link) view ∙ begins) (kept.out.every link (link_within link within))
+  pub out_every : (node link : ℕ) → link < length g.ends → start_of g.ends link ≡ node →
+      Contains (map (λ (spoke : Spoke). spoke.link) (slice_index_or a.out node [])) link
+  out_every node link within beside =
+      subst (λ (n : ℕ). Contains (map (λ (spoke : Spoke). spoke.link) (slice_index_or a.out n [])) link)
+      (ap (λ (h : Graph). start_of h.ends link) view ∙ beside) (kept.out.every link (link_within link within))
 
-  pub into_each : (node : ℕ) → All (λ link. (link < length g.ends) × (end_of g.ends link ≡ node)) (slice_index_or a.into node [])
+  pub into_each : (node : ℕ) → All (λ spoke. (spoke.link < length g.ends) × (end_of g.ends spoke.link ≡ node)
+      × (spoke.node ≡ start_of g.ends spoke.link) × (spoke.node < g.nodes)) (slice_index_or a.into node [])
   into_each node =
-      let P : Graph → Type 0 = λ h. All (λ link. (link < length h.ends) × (end_of h.ends link ≡ node)) (slice_index_or a.into node []) in
-      let Q : ℕ → Type 0 = λ n. All (λ link. (link < n) × (end_of (zip a.from.items a.to.items) link ≡ node))
-      (slice_index_or a.into node []) in
-      subst P view (subst Q (sym (ends_in_step a.from.items a.to.items kept.each)) (kept.into.each node))
+      All-weaker (λ (s : Spoke). (s.link < length a.from.items) × (end_of (zip a.from.items a.to.items) s.link ≡ node)
+      × (s.node ≡ start_of (zip a.from.items a.to.items) s.link))
+      (λ (s : Spoke). (s.link < length g.ends) × (end_of g.ends s.link ≡ node) × (s.node ≡ start_of g.ends s.link) × (s.node < g.nodes))
+      (λ s h.
+      let count = ends_in_step a.from.items a.to.items kept.each in
+      let same = ap (λ (h : Graph). length h.ends) view in
+      let nodes = ap (λ (h : Graph). h.nodes) view in
+      let inside = (kept.inside s.link (0, 0) (omega arith)).0 in
+      let far : s.node ≡ start_of (zip a.from.items a.to.items) s.link = h.2 in (
+        omega arith,
+        sym (ap (λ (h : Graph). end_of h.ends s.link) view) ∙ h.1,
+        h.2 ∙ ap (λ (h : Graph). start_of h.ends s.link) view,
+        omega arith,
+      ))
+      (slice_index_or a.into node []) (kept.into.each node)
 
-  pub into_every : (node link : ℕ) → link < length g.ends → end_of g.ends link ≡ node → Contains (slice_index_or a.into node []) link
-  into_every node link within ends =
-      let P : ℕ → Type 0 = λ n. Contains (slice_index_or a.into n []) link in
-      subst P (ap (λ (h : Graph). end_of h.ends link) view ∙ ends) (kept.into.every link (link_within link within))
+  pub into_every : (node link : ℕ) → link < length g.ends → end_of g.ends link ≡ node →
+      Contains (map (λ (spoke : Spoke). spoke.link) (slice_index_or a.into node [])) link
+  into_every node link within beside =
+      subst (λ (n : ℕ). Contains (map (λ (spoke : Spoke). spoke.link) (slice_index_or a.into n [])) link)
+      (ap (λ (h : Graph). end_of h.ends link) view ∙ beside) (kept.into.every link (link_within link within))

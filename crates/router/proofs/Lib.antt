@@ -1,5 +1,6 @@
 pub mod Stars
 pub mod Graphs
+pub mod Ringing
 pub mod Searching
 pub mod Backs
 pub mod Answering

@@ -5,20 +5,18 @@ use Rattle.std.proofs.lemmas.Bool.{cases_eq, cases_lt, ltb-true, ltb-false, lt-l
 use Rattle.std.proofs.lemmas.List.{get_or-replicate, get_or_past, get_or-set_same, get_or-set_other, length-set, length-replicate, drop_more, get_or_read}
 use Rattle.std.proofs.lemmas.List.Elements.{All-nil, All-cons, All-weaker, All-contains, Contains-get_or, All-from_recursion}
 use Rattle.std.proofs.lemmas.List.{Sorted.All-permutation, Sorted.Contains-permutation, Sorted.IsPermutation-sym, Sorted.length_permutation, Sums.sum_by-set}
-use Rattle.std.specs.BinaryHeap.{heap_items, IsHeap, IsUpperBound}
-use Rattle.std.specs.{List.Sorted.IsPermutation, Option.option_eq, Ordering.is_lt, Ordering.nat_cmp, Ordering.ordering_then}
+use Rattle.std.specs.{List.Sorted.IsPermutation, Option.option_eq}
 use Rattle.std.specs.Prelude.{nat_lt, nat_eq, sum_by, slice_index_or, slice_set, All, Contains}
-use Rattle.std.specs.declared.cmp.{Ordering.TheVariants.Less, Ordering.TheVariants.Equal, Ordering.TheVariants.Greater, Reverse.Reverse}
 use Rattle.limits.specs.declared.TheConstants.{MAX_NODES}
 use Rattle.walks.proofs.{Kept.arrival_later, Labels.by_some, Labels.some_by, Labels.by_later, Least.reached_more, Ranks.rank-le-length, Ranks.rank_by}
 use Rattle.walks.proofs.{Ranks.rank_less, Settled.IsSettledTo, Settled.settled_is_least, Settled.same_followed, Settled.kept_are_least}
 use Rattle.walks.specs.{Arrivals.Arrivals, Arrivals.IsFifo, Chosen.followed, Rounds.Labels, Rounds.label_at, Rounds.IsBy, Rounds.rank, Rounds.least_labels}
 use Rattle.walks.specs.Walks.{Ends, start_of, end_of, AreWithin, Reached}
-use Rattle.router.specs.Frontiers.{queued, is_later, IsSearch, IsFrontier, entry_cmp, weight, work, IsRelabelled, IsNext, IsDone, IsSettledAt}
-use Rattle.router.specs.declared.frontier.{Entry.Entry, Frontier.Frontier}
+use Rattle.router.specs.Frontiers.{queued, is_later, IsSearch, IsFrontier, weight, work, IsRelabelled, IsNext, IsDone, IsSettledAt}
+use Rattle.router.specs.declared.{frontier.Frontier.Frontier, label.TheConstants.NO_SECOND, waiting.Entry.Entry}
 
 abbrev pub Queue : Type 0
-Queue = List (Reverse Entry)
+Queue = List Entry
 
 -- a label in a list of which one was set
 pub label_set : (labels : Labels) (node second : ℕ) → node < length labels → label_at (slice_set labels node (Some second)) node
@@ -36,10 +34,10 @@ no_label nodes node =
       | inr past ↦ get_or_past (replicate nodes None) node None (let n = length-replicate {A = Option ℕ} nodes None in omega arith)
     ]
 
-contains_head : (x : Reverse Entry) (xs : Queue) → Contains (x ∷ xs) x
+contains_head : (x : Entry) (xs : Queue) → Contains (x ∷ xs) x
 contains_head x xs = (0, omega arith, refl)
 
-contains_tail : (x y : Reverse Entry) (xs : Queue) → Contains xs y → Contains (x ∷ xs) y
+contains_tail : (x y : Entry) (xs : Queue) → Contains xs y → Contains (x ∷ xs) y
 contains_tail x y xs found = (suc found.0, let h = found.1 in omega arith, found.2)
 
 -- what is among the open links is the first of them or among the others
@@ -76,9 +74,9 @@ start_search nodes ends arrive from second labels queue within early are waits =
           let R : ℕ → Type 0 = λ n. Contains queue (queued second n) in
           inr (inl (subst Q (sym only.1) (subst R (sym only.0) there)));
       later = λ k d less. omega arith;
-      there = All-permutation (λ (e : Reverse Entry). e.0.node < nodes) (queued second from ∷ []) queue waits
-          (All-cons (λ (e : Reverse Entry). e.0.node < nodes) (queued second from) [] within
-          (All-nil (λ (e : Reverse Entry). e.0.node < nodes)));
+      there = All-permutation (λ (e : Entry). e.node < nodes) (queued second from ∷ []) queue waits
+          (All-cons (λ (e : Entry). e.node < nodes) (queued second from) [] within
+          (All-nil (λ (e : Entry). e.node < nodes)));
     })
   where
     one : (node at : ℕ) → label_at (slice_set (replicate nodes None) from (Some second)) node ≡ Some at → (node ≡ from) × (at ≡ second)
@@ -307,13 +305,13 @@ module _ (nodes : ℕ) (ends : Ends) (arrive : Arrivals) (fifo : IsFifo arrive) 
       ];
       bounded = bounded_now;
       looked = looked_now;
-      later = All-permutation (λ (e : Reverse Entry). now ≤ e.0.second)
+      later = All-permutation (λ (e : Entry). now ≤ e.second)
           (queued (arrive link left) (end_of ends link) ∷ queue) new_queue pushed
-          (All-cons (λ (e : Reverse Entry). now ≤ e.0.second) (queued (arrive link left) (end_of ends link)) queue
+          (All-cons (λ (e : Entry). now ≤ e.second) (queued (arrive link left) (end_of ends link)) queue
           (let more = fifo.later link left in omega arith) search.later);
-      there = All-permutation (λ (e : Reverse Entry). e.0.node < nodes)
+      there = All-permutation (λ (e : Entry). e.node < nodes)
           (queued (arrive link left) (end_of ends link) ∷ queue) new_queue pushed
-          (All-cons (λ (e : Reverse Entry). e.0.node < nodes) (queued (arrive link left) (end_of ends link)) queue end_within search.there);
+          (All-cons (λ (e : Entry). e.node < nodes) (queued (arrive link left) (end_of ends link)) queue end_within search.there);
     }
 
     later_weight : (label : Option ℕ) (at : ℕ) → at < 2 ^ 60 → is_later label at ≡ true → at + 1 ≤ weight label
@@ -338,10 +336,10 @@ pub next_search : (nodes : ℕ) (ends : Ends) (arrive : Arrivals) (old new : Fro
     IsFrontier nodes ends arrive new open_links
 next_search nodes ends arrive old new entry frontier next open_links all =
     let search = frontier.search in
-    let P : Labels → Type 0 = λ ls. IsSearch nodes ends arrive old.from old.second entry.second ls (heap_items new.queue) open_links in
-    let F : ℕ → Type 0 = λ f. IsSearch nodes ends arrive f old.second entry.second new.labels.items (heap_items new.queue) open_links in
-    let S : ℕ → Type 0 = λ s. IsSearch nodes ends arrive new.from s entry.second new.labels.items (heap_items new.queue) open_links in
-    let N : ℕ → Type 0 = λ n. IsSearch nodes ends arrive new.from new.second n new.labels.items (heap_items new.queue) open_links in
+    let P : Labels → Type 0 = λ ls. IsSearch nodes ends arrive old.from old.second entry.second ls new.queue open_links in
+    let F : ℕ → Type 0 = λ f. IsSearch nodes ends arrive f old.second entry.second new.labels.items new.queue open_links in
+    let S : ℕ → Type 0 = λ s. IsSearch nodes ends arrive new.from s entry.second new.labels.items new.queue open_links in
+    let N : ℕ → Type 0 = λ n. IsSearch nodes ends arrive new.from new.second n new.labels.items new.queue open_links in
     record {
       search = subst N (sym next.horizon) (subst S (sym next.goes_on.second)
           (subst F (sym next.goes_on.from) (subst P (sym next.labels) (record {
@@ -362,11 +360,10 @@ next_search nodes ends arrive old new entry frontier next open_links all =
             ];
             later = next.earliest;
             there = λ k d within.
-                All-contains (λ (e : Reverse Entry). e.0.node < nodes) (heap_items old.queue)
-                (slice_index_or (heap_items new.queue) k d) search.there
-                (next.others (slice_index_or (heap_items new.queue) k d) (Contains-get_or (heap_items new.queue) k d within));
+                All-contains (λ (e : Entry). e.node < nodes) old.queue
+                (slice_index_or new.queue k d) search.there
+                (next.others (slice_index_or new.queue k d) (Contains-get_or new.queue k d within));
           }))));
-      heap = next.heap;
     }
 
 -- where nobody waits, every link is kept
@@ -385,18 +382,18 @@ all_kept nodes ends arrive from second now labels queue search none link left wi
 
 -- a frontier where nobody waits has the least labels
 pub all_least : (nodes : ℕ) (ends : Ends) (arrive : Arrivals) → IsFifo arrive → AreWithin nodes ends → (frontier : Frontier) →
-    frontier.from < nodes → IsFrontier nodes ends arrive frontier [] → heap_items frontier.queue ≡ []
+    frontier.from < nodes → IsFrontier nodes ends arrive frontier [] → frontier.queue ≡ []
     → frontier.labels.items ≡ least_labels nodes ends arrive frontier.from frontier.second
 all_least nodes ends arrive fifo inside frontier within kept none =
     let search = kept.search in
     kept_are_least nodes ends arrive fifo inside frontier.from frontier.second within frontier.labels.items search.count search.start
     search.reached
     (all_kept nodes ends arrive frontier.from frontier.second frontier.horizon frontier.labels.items
-    (heap_items frontier.queue) search none)
+    frontier.queue search none)
 
 pub settled_by_end : (nodes : ℕ) (ends : Ends) (arrive : Arrivals) → IsFifo arrive → AreWithin nodes ends →
     (frontier : Frontier) (node : ℕ) → frontier.from < nodes → IsFrontier nodes ends arrive frontier []
-    → heap_items frontier.queue ≡ [] → IsSettledAt nodes ends arrive frontier node
+    → frontier.queue ≡ [] → IsSettledAt nodes ends arrive frontier node
 settled_by_end nodes ends arrive fifo inside frontier node within kept none =
     let all = all_least nodes ends arrive fifo inside frontier within kept none in
     record {
@@ -414,7 +411,7 @@ holds_to_now nodes ends arrive from second now labels queue search = record {
   kept = λ link left within is before. elim (search.looked link left within is) [
     | inl kept ↦ kept
     | inr waits ↦ elim waits [
-      | inl there ↦ absurd (let late = All-contains (λ (e : Reverse Entry). now ≤ e.0.second) queue
+      | inl there ↦ absurd (let late = All-contains (λ (e : Entry). now ≤ e.second) queue
           (queued left (start_of ends link)) search.later there in omega arith)
       | inr still ↦ absurd (let h = still.1 in omega arith)
     ]
@@ -427,7 +424,7 @@ pub settled_by_now : (nodes : ℕ) (ends : Ends) (arrive : Arrivals) → IsFifo 
 settled_by_now nodes ends arrive fifo inside frontier node within kept by =
     let search = kept.search in
     let settled = holds_to_now nodes ends arrive frontier.from frontier.second frontier.horizon frontier.labels.items
-    (heap_items frontier.queue) search in
+    frontier.queue search in
     let label = some_by (label_at frontier.labels.items node) frontier.horizon by in
     record {
       label = label.1 ∙ sym (settled_is_least nodes ends arrive fifo inside frontier.from frontier.second within frontier.horizon
@@ -442,7 +439,7 @@ pub look_small : (nodes : ℕ) (ends : Ends) (arrive : Arrivals) (frontier : Fro
     → label_at frontier.labels.items node ≡ Some left → left < 2 ^ 60
 look_small nodes ends arrive frontier open_links node left fifo few kept is =
     let bound = small nodes ends arrive fifo frontier.from frontier.second frontier.horizon frontier.labels.items
-    (heap_items frontier.queue) few open_links kept.search node left is in
+    frontier.queue few open_links kept.search node left is in
     omega arith
 
 -- the links still open, the first of them looked at
@@ -460,15 +457,14 @@ pub looked_kept : (nodes : ℕ) (ends : Ends) (arrive : Arrivals) (frontier : Fr
 looked_kept nodes ends arrive frontier links place left reached node fifo within kept starts is ending not_earlier =
     let link : ℕ = slice_index_or links place 0 in
     let P : List ℕ → Type 0 = λ open_links. IsSearch nodes ends arrive frontier.from frontier.second frontier.horizon
-    frontier.labels.items (heap_items frontier.queue) open_links in
+    frontier.labels.items frontier.queue open_links in
     let by : IsBy (label_at frontier.labels.items node) reached = not_later (label_at frontier.labels.items node) reached not_earlier in
     let Q : ℕ → Type 0 = λ n. IsBy (label_at frontier.labels.items n) reached in
     let R : ℕ → Type 0 = λ a. IsBy (label_at frontier.labels.items (end_of ends (slice_index_or links place 0))) a in
     record {
       search = look_kept nodes ends arrive fifo frontier.from frontier.second frontier.horizon frontier.labels.items
-          (heap_items frontier.queue) link (drop (place + 1) links) left
+          frontier.queue link (drop (place + 1) links) left
           (subst P (opened links place within) kept.search) starts (subst R is (subst Q ending by));
-      heap = kept.heap;
     }
 
 -- a link along which its end is reached earlier
@@ -484,18 +480,18 @@ looked_earlier nodes ends arrive old new links place left reached node fifo few 
     end_within earlier relabelled =
     let link : ℕ = slice_index_or links place 0 in
     let P : List ℕ → Type 0 = λ open_links. IsSearch nodes ends arrive old.from old.second old.horizon old.labels.items
-    (heap_items old.queue) open_links in
-    let search : IsSearch nodes ends arrive old.from old.second old.horizon old.labels.items (heap_items old.queue)
+    old.queue open_links in
+    let search : IsSearch nodes ends arrive old.from old.second old.horizon old.labels.items old.queue
     (slice_index_or links place 0 ∷ drop (place + 1) links) = subst P (opened links place within) kept.search in
     let E : ℕ → Type 0 = λ n. is_later (label_at old.labels.items n) (arrive (slice_index_or links place 0) left) ≡ true in
     let F : ℕ → Type 0 = λ a. is_later (label_at old.labels.items node) a ≡ true in
     let later : is_later (label_at old.labels.items (end_of ends (slice_index_or links place 0)))
     (arrive (slice_index_or links place 0) left) ≡ true = subst E ending (subst F is earlier) in
-    let G : ℕ → Type 0 = λ n. IsPermutation (queued (arrive (slice_index_or links place 0) left) n ∷ heap_items old.queue)
-    (heap_items new.queue) in
-    let H : ℕ → Type 0 = λ a. IsPermutation (queued a node ∷ heap_items old.queue) (heap_items new.queue) in
+    let G : ℕ → Type 0 = λ n. IsPermutation (queued (arrive (slice_index_or links place 0) left) n ∷ old.queue)
+    new.queue in
+    let H : ℕ → Type 0 = λ a. IsPermutation (queued a node ∷ old.queue) new.queue in
     let pushed : IsPermutation (queued (arrive (slice_index_or links place 0) left)
-    (end_of ends (slice_index_or links place 0)) ∷ heap_items old.queue) (heap_items new.queue) =
+    (end_of ends (slice_index_or links place 0)) ∷ old.queue) new.queue =
     subst G ending (subst H is relabelled.queue) in
     let labels : new.labels.items ≡ slice_set old.labels.items (end_of ends (slice_index_or links place 0))
     (Some (arrive (slice_index_or links place 0) left)) =
@@ -504,76 +500,57 @@ looked_earlier nodes ends arrive old new links place left reached node fifo few 
     let within_nodes : end_of ends (slice_index_or links place 0) < nodes = omega arith in
     let in_time : arrive (slice_index_or links place 0) left ≤ max left (2 ^ 33) + 2 ^ 32 = let K : ℕ → Type 0 = λ a.
     a ≤ max left (2 ^ 33) + 2 ^ 32 in subst K is soon in
-    let moved = look_relabelled nodes ends arrive fifo old.from old.second old.horizon old.labels.items (heap_items old.queue) few link
-    (drop (place + 1) links) left search is_link starts horizon within_nodes in_time later (heap_items new.queue) pushed in
-    let less = work_falls nodes ends arrive fifo old.from old.second old.horizon old.labels.items (heap_items old.queue) few link
-    (drop (place + 1) links) left search is_link starts horizon within_nodes in_time later (heap_items new.queue) pushed in
-    let L : Labels → Type 0 = λ ls. IsSearch nodes ends arrive old.from old.second old.horizon ls (heap_items new.queue)
+    let moved = look_relabelled nodes ends arrive fifo old.from old.second old.horizon old.labels.items old.queue few link
+    (drop (place + 1) links) left search is_link starts horizon within_nodes in_time later new.queue pushed in
+    let less = work_falls nodes ends arrive fifo old.from old.second old.horizon old.labels.items old.queue few link
+    (drop (place + 1) links) left search is_link starts horizon within_nodes in_time later new.queue pushed in
+    let L : Labels → Type 0 = λ ls. IsSearch nodes ends arrive old.from old.second old.horizon ls new.queue
     (drop (place + 1) links) in
-    let A : ℕ → Type 0 = λ f. IsSearch nodes ends arrive f old.second old.horizon new.labels.items (heap_items new.queue)
+    let A : ℕ → Type 0 = λ f. IsSearch nodes ends arrive f old.second old.horizon new.labels.items new.queue
     (drop (place + 1) links) in
-    let B : ℕ → Type 0 = λ s. IsSearch nodes ends arrive new.from s old.horizon new.labels.items (heap_items new.queue)
+    let B : ℕ → Type 0 = λ s. IsSearch nodes ends arrive new.from s old.horizon new.labels.items new.queue
     (drop (place + 1) links) in
-    let C : ℕ → Type 0 = λ h. IsSearch nodes ends arrive new.from new.second h new.labels.items (heap_items new.queue)
+    let C : ℕ → Type 0 = λ h. IsSearch nodes ends arrive new.from new.second h new.labels.items new.queue
     (drop (place + 1) links) in
     let total = ap (λ (ls : Labels). sum_by weight ls) labels in (
       record {
         search = subst C (sym relabelled.horizon) (subst B (sym relabelled.goes_on.second)
             (subst A (sym relabelled.goes_on.from) (subst L (sym labels) moved)));
-        heap = relabelled.heap kept.heap;
       },
       omega arith,
     )
 
 -- what a pop of the queue takes out
-not_less : (x y : Reverse Entry) → is_lt (entry_cmp x y) ≡ false → x.0.second ≤ y.0.second
-not_less x y e = by_order (cases_lt y.0.second x.0.second)
-  where
-    by_order : (y.0.second < x.0.second) ⊎ (x.0.second ≤ y.0.second) → x.0.second ≤ y.0.second
-    by_order (inr fine) = fine
-    by_order (inl less) =
-        let first : nat_lt y.0.second x.0.second ≡ true = lt-ltb y.0.second x.0.second less in
-        let whole : is_lt (ordering_then (cond (nat_lt y.0.second x.0.second) Less (cond (nat_eq y.0.second x.0.second) Equal Greater))
-        (nat_cmp y.0.node x.0.node)) ≡ true =
-        ap (λ (b : Bool). is_lt (ordering_then (cond b Less (cond (nat_eq y.0.second x.0.second) Equal Greater))
-        (nat_cmp y.0.node x.0.node))) first in
-        absurd (cc (e, whole))
-
-pub pop_earliest : (x : Reverse Entry) (after : Queue) → IsUpperBound entry_cmp x after → All (λ e. x.0.second ≤ e.0.second) after
-pop_earliest x after bound =
-    All-weaker (λ (y : Reverse Entry). is_lt (entry_cmp x y) ≡ false) (λ (y : Reverse Entry). x.0.second ≤ y.0.second) (not_less x) after
-    (All-from_recursion (λ (y : Reverse Entry). is_lt (entry_cmp x y) ≡ false) after bound)
-
-pub pop_there : (x : Reverse Entry) (before after : Queue) → IsPermutation before (x ∷ after) → Contains before x
+pub pop_there : (x : Entry) (before after : Queue) → IsPermutation before (x ∷ after) → Contains before x
 pop_there x before after popped = Contains-permutation (x ∷ after) before x (IsPermutation-sym before (x ∷ after) popped)
     (contains_head x after)
 
-pub pop_others : (x y : Reverse Entry) (before after : Queue) → IsPermutation before (x ∷ after) → Contains after y → Contains before y
+pub pop_others : (x y : Entry) (before after : Queue) → IsPermutation before (x ∷ after) → Contains after y → Contains before y
 pop_others x y before after popped there = Contains-permutation (x ∷ after) before y (IsPermutation-sym before (x ∷ after) popped)
     (contains_tail x y after there)
 
-pub pop_kept : (x : Reverse Entry) (at node : ℕ) (before after : Queue) → IsPermutation before (x ∷ after) →
+pub pop_kept : (x : Entry) (at node : ℕ) (before after : Queue) → IsPermutation before (x ∷ after) →
     Contains before (queued at node)
-    → ((node ≡ x.0.node) × (at ≡ x.0.second)) ⊎ Contains after (queued at node)
+    → ((node ≡ x.node) × (at ≡ x.second)) ⊎ Contains after (queued at node)
 pop_kept x at node before after popped there = by_place found.0 found.1 found.2
   where
     found : Contains (x ∷ after) (queued at node)
     found = Contains-permutation before (x ∷ after) (queued at node) popped there
 
     by_place : (k : ℕ) → k < length (x ∷ after) → slice_index_or (x ∷ after) k (queued at node) ≡ queued at node
-        → ((node ≡ x.0.node) × (at ≡ x.0.second)) ⊎ Contains after (queued at node)
-    by_place zero within is = inl (sym (ap (λ (e : Reverse Entry). e.0.node) is), sym (ap (λ (e : Reverse Entry). e.0.second) is))
+        → ((node ≡ x.node) × (at ≡ x.second)) ⊎ Contains after (queued at node)
+    by_place zero within is = inl (sym (ap (λ (e : Entry). e.node) is), sym (ap (λ (e : Entry). e.second) is))
     by_place (suc k) within is = inr (k, omega arith, is)
 
-pub pop_fewer : (x : Reverse Entry) (before after : Queue) → IsPermutation before (x ∷ after) → length after + 1 ≡ length before
+pub pop_fewer : (x : Entry) (before after : Queue) → IsPermutation before (x ∷ after) → length after + 1 ≡ length before
 pop_fewer x before after popped = let same = length_permutation before (x ∷ after) popped in omega arith
 
 -- a node that waits is one of the nodes
-pub pop_within : (x : Reverse Entry) (first before after : Queue) (nodes : ℕ) → All (λ e. e.0.node < nodes) first →
-    ((other : Reverse Entry) → Contains before other → Contains first other)
-    → IsPermutation before (x ∷ after) → x.0.node < nodes
+pub pop_within : (x : Entry) (first before after : Queue) (nodes : ℕ) → All (λ e. e.node < nodes) first →
+    ((other : Entry) → Contains before other → Contains first other)
+    → IsPermutation before (x ∷ after) → x.node < nodes
 pop_within x first before after nodes there others popped =
-    All-contains (λ (e : Reverse Entry). e.0.node < nodes) first x there (others x (pop_there x before after popped))
+    All-contains (λ (e : Entry). e.node < nodes) first x there (others x (pop_there x before after popped))
 
 same_option : (o : Option ℕ) (a : ℕ) → option_eq nat_eq o (Some a) ≡ true → o ≡ Some a
 same_option None a e = absurd (cc e)
@@ -608,11 +585,10 @@ pub done_search : (nodes : ℕ) (ends : Ends) (arrive : Arrivals) (old new : Fro
     IsDone old new → IsFrontier nodes ends arrive new []
 done_search nodes ends arrive old new frontier done =
     let search = frontier.search in
-    let L : Labels → Type 0 = λ ls. IsSearch nodes ends arrive old.from old.second new.horizon ls (heap_items new.queue) [] in
-    let A : ℕ → Type 0 = λ f. IsSearch nodes ends arrive f old.second new.horizon new.labels.items (heap_items new.queue) [] in
-    let B : ℕ → Type 0 = λ s. IsSearch nodes ends arrive new.from s new.horizon new.labels.items (heap_items new.queue) [] in
-    let empty : length (heap_items new.queue) ≡ 0 = ap (λ (q : Queue). length q) done.none in
-    let Q : Queue → Type 0 = λ q. IsHeap entry_cmp q in
+    let L : Labels → Type 0 = λ ls. IsSearch nodes ends arrive old.from old.second new.horizon ls new.queue [] in
+    let A : ℕ → Type 0 = λ f. IsSearch nodes ends arrive f old.second new.horizon new.labels.items new.queue [] in
+    let B : ℕ → Type 0 = λ s. IsSearch nodes ends arrive new.from s new.horizon new.labels.items new.queue [] in
+    let empty : length new.queue ≡ 0 = ap (λ (q : Queue). length q) done.none in
     record {
       search = subst B (sym done.goes_on.second) (subst A (sym done.goes_on.from) (subst L (sym done.labels) (record {
         count = search.count;
@@ -630,5 +606,4 @@ done_search nodes ends arrive old new frontier done =
         later = λ k d within. absurd (omega arith);
         there = λ k d within. absurd (omega arith);
       })));
-      heap = done.heap;
     }

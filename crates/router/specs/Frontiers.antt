@@ -1,21 +1,20 @@
 -- A search while it goes on.
-use Rattle.std.specs.{BinaryHeap.heap_items, BinaryHeap.IsHeap, List.Sorted.IsPermutation, Ordering.nat_cmp, Ordering.ordering_then, Prelude.◌≡◌}
+use Rattle.std.specs.{List.Sorted.IsPermutation, Prelude.◌≡◌}
 use Rattle.std.specs.Prelude.{ℕ, ◌+◌, ◌*◌, ◌^◌, ◌<◌, ◌≤◌, ◌⊎◌, sum_by, List, [], ◌∷◌, length, All, Contains, Bool, true, nat_lt, slice_set, Option, None, Some}
-use Rattle.std.specs.declared.cmp.{Ordering.Ordering, Reverse.Reverse}
 use Rattle.walks.specs.{Chosen.followed, Chosen.chosen_route, Rounds.label_at, Rounds.least_labels, Rounds.IsBy, Rounds.rank}
 use Rattle.walks.specs.Walks.{start_of, end_of, Reached}
-use Rattle.router.specs.declared.frontier.{Entry.Entry, Frontier.Frontier}
+use Rattle.router.specs.declared.{frontier.Frontier.Frontier, waiting.Entry.Entry}
 
 -- a node that waits for its links to be looked along, and the second of its label
-abbrev pub queued : ℕ → ℕ → Reverse Entry
-queued second node = record { 0 = record { second = second; node = node } }
+abbrev pub queued : ℕ → ℕ → Entry
+queued second node = record { second = second; node = node }
 
 -- Each label is the arrival of a walk, and later than few others by more than a bound; along each link from a labelled node its end is
 -- reached
 -- in time, or else its start waits in the queue, or it is one of the links still open. Nobody waits with an earlier second than the
 -- horizon.
 pub record IsSearch (nodes : ℕ) (ends : List (ℕ × ℕ)) (arrive : ℕ → ℕ → ℕ) (from second horizon : ℕ) (labels : List (Option ℕ))
-    (queue : List (Reverse Entry)) (open_links : List ℕ) : Type 0 where
+    (queue : List Entry) (open_links : List ℕ) : Type 0 where
   pub count : length labels ≡ nodes
   pub start : label_at labels from ≡ Some second
   pub reached : (node at : ℕ) → label_at labels node ≡ Some at → Reached ends arrive from second node at
@@ -23,12 +22,8 @@ pub record IsSearch (nodes : ℕ) (ends : List (ℕ × ℕ)) (arrive : ℕ → �
   pub looked : (link left : ℕ) → link < length ends → label_at labels (start_of ends link) ≡ Some left
       → IsBy (label_at labels (end_of ends link)) (arrive link left) ⊎
       (Contains queue (queued left (start_of ends link)) ⊎ Contains open_links link)
-  pub later : All (λ entry. horizon ≤ entry.0.second) queue
-  pub there : All (λ entry. entry.0.node < nodes) queue
-
--- the order of the queue: the earlier second is the greater entry
-abbrev pub entry_cmp : Reverse Entry → Reverse Entry → Ordering
-entry_cmp a b = ordering_then (nat_cmp b.0.second a.0.second) (nat_cmp b.0.node a.0.node)
+  pub later : All (λ entry. horizon ≤ entry.second) queue
+  pub there : All (λ entry. entry.node < nodes) queue
 
 -- the label is later than a second, as no label is
 abbrev pub is_later : Option ℕ → ℕ → Bool
@@ -38,8 +33,7 @@ is_later (Some reached) second = nat_lt second reached
 -- the search that a frontier has come so far with, with these links still open
 pub record IsFrontier (nodes : ℕ) (ends : List (ℕ × ℕ)) (arrive : ℕ → ℕ → ℕ) (frontier : Frontier) (open_links : List ℕ) : Type 0 where
   pub search : IsSearch nodes ends arrive frontier.from frontier.second frontier.horizon frontier.labels.items
-      (heap_items frontier.queue) open_links
-  pub heap : IsHeap entry_cmp (heap_items frontier.queue)
+      frontier.queue open_links
 
 -- a label can only fall
 abbrev pub weight : Option ℕ → ℕ
@@ -48,7 +42,7 @@ weight (Some at) = at
 
 -- what is left to do at most: twice what the labels can fall, and the nodes that wait
 abbrev pub work : Frontier → ℕ
-work frontier = 2 * sum_by weight frontier.labels.items + length (heap_items frontier.queue)
+work frontier = 2 * sum_by weight frontier.labels.items + length frontier.queue
 
 -- the same question, asked further
 pub record GoesOn (old new : Frontier) : Type 0 where
@@ -60,30 +54,27 @@ pub record IsRelabelled (old new : Frontier) (node second : ℕ) : Type 0 where
   pub goes_on : GoesOn old new
   pub horizon : new.horizon ≡ old.horizon
   pub labels : new.labels.items ≡ slice_set old.labels.items node (Some second)
-  pub queue : IsPermutation (queued second node ∷ heap_items old.queue) (heap_items new.queue)
-  pub heap : IsHeap entry_cmp (heap_items old.queue) → IsHeap entry_cmp (heap_items new.queue)
+  pub queue : IsPermutation (queued second node ∷ old.queue) new.queue
 
 -- this node is the next of those that wait whose label still stands, and nobody waits with an earlier second
 pub record IsNext (old new : Frontier) (entry : Entry) : Type 0 where
   pub goes_on : GoesOn old new
   pub horizon : new.horizon ≡ entry.second
   pub labels : new.labels.items ≡ old.labels.items
-  pub was_there : Contains (heap_items old.queue) (queued entry.second entry.node)
+  pub was_there : Contains old.queue (queued entry.second entry.node)
   pub stands : label_at new.labels.items entry.node ≡ Some entry.second
-  pub earliest : All (λ other. entry.second ≤ other.0.second) (heap_items new.queue)
-  pub others : (other : Reverse Entry) → Contains (heap_items new.queue) other → Contains (heap_items old.queue) other
-  pub kept : (at node : ℕ) → Contains (heap_items old.queue) (queued at node) → label_at new.labels.items node ≡ Some at
-      → ((node ≡ entry.node) × (at ≡ entry.second)) ⊎ Contains (heap_items new.queue) (queued at node)
-  pub heap : IsHeap entry_cmp (heap_items new.queue)
-  pub fewer : length (heap_items new.queue) < length (heap_items old.queue)
+  pub earliest : All (λ other. entry.second ≤ other.second) new.queue
+  pub others : (other : Entry) → Contains new.queue other → Contains old.queue other
+  pub kept : (at node : ℕ) → Contains old.queue (queued at node) → label_at new.labels.items node ≡ Some at
+      → ((node ≡ entry.node) × (at ≡ entry.second)) ⊎ Contains new.queue (queued at node)
+  pub fewer : length new.queue < length old.queue
 
 -- nobody waits whose label still stands
 pub record IsDone (old new : Frontier) : Type 0 where
   pub goes_on : GoesOn old new
   pub labels : new.labels.items ≡ old.labels.items
-  pub none : heap_items new.queue ≡ []
-  pub heap : IsHeap entry_cmp (heap_items new.queue)
-  pub gone : (at node : ℕ) → Contains (heap_items old.queue) (queued at node) → label_at new.labels.items node ≡ Some at → ⊥
+  pub none : new.queue ≡ []
+  pub gone : (at node : ℕ) → Contains old.queue (queued at node) → label_at new.labels.items node ≡ Some at → ⊥
 
 -- the label of a node is the least arrival, and the links followed back from the node are the chosen route
 pub record IsSettledAt (nodes : ℕ) (ends : List (ℕ × ℕ)) (arrive : ℕ → ℕ → ℕ) (frontier : Frontier) (node : ℕ) : Type 0 where

@@ -27,5 +27,7 @@ pub record IsAdjacency (adjacency : Inside) : Type 0 where
   pub each : length adjacency.to.items ≡ length adjacency.from.items
   pub same : length adjacency.into ≡ length adjacency.out
   pub inside : AreWithin (length adjacency.out) (zip adjacency.from.items adjacency.to.items)
-  pub out : AreBeside (start_of (zip adjacency.from.items adjacency.to.items)) (length adjacency.from.items) adjacency.out
-  pub into : AreBeside (end_of (zip adjacency.from.items adjacency.to.items)) (length adjacency.from.items) adjacency.into
+  pub out : AreBeside (start_of (zip adjacency.from.items adjacency.to.items)) (end_of (zip adjacency.from.items adjacency.to.items))
+      (length adjacency.from.items) adjacency.out
+  pub into : AreBeside (end_of (zip adjacency.from.items adjacency.to.items)) (start_of (zip adjacency.from.items adjacency.to.items))
+      (length adjacency.from.items) adjacency.into

@@ -1,5 +1,8 @@
 pub mod Stars
 pub mod Graphs
+pub mod LabelViews
+pub mod Rings
+pub mod Waiters
 pub mod Frontiers
 pub mod Ways
 pub mod Searches

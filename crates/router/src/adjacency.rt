@@ -4,7 +4,7 @@ ghost use Rattle.limits.specs.declared.TheConstants.{MAX_NODES};
 ghost use Rattle.walks.specs.Walks.{start_of, end_of, AreWithin};
 ghost use Rattle.router.specs.Stars.{AreBeside};
 
-use crate::star::{Star, star_beside};
+use crate::star::{Spoke, Star, star_beside};
 use rows::{LinkList, Network};
 use std::alloc::{AllocError, Global};
 use std::marker::Model;
@@ -62,8 +62,8 @@ impl Adjacency {
         let from = starts_of(alloc, &network.links)?;
         let to = ends_of(alloc, &network.links)?;
         let nodes = network.nodes.len();
-        let out = star_beside(alloc, nodes, &from)?;
-        let into = star_beside(alloc, nodes, &to)?;
+        let out = star_beside(alloc, nodes, &from, &to)?;
+        let into = star_beside(alloc, nodes, &to, &from)?;
         Ok(Adjacency {
             from,
             to,
@@ -101,20 +101,24 @@ impl Adjacency {
         node_at(&self.to, link)
     }
 
-    /// The links that begin at a node.
-    pub fn out_of(&self, node: u32) -> &[u32]
+    /// The links that begin at a node, with the nodes where they end.
+    pub fn out_of(&self, node: u32) -> &[Spoke]
         requires { node < self.now.nodes }
-        ensures each { All (λ link. (link < length self.now.ends) × (start_of self.now.ends link ≡ node)) result.now }
-        ensures every { (link : ℕ) → link < length self.now.ends → start_of self.now.ends link ≡ node → Contains result.now link }
+        ensures each { All (λ spoke. (spoke.link < length self.now.ends) × (start_of self.now.ends spoke.link ≡ node)
+            × (spoke.node ≡ end_of self.now.ends spoke.link) × (spoke.node < self.now.nodes)) result.now }
+        ensures every { (link : ℕ) → link < length self.now.ends → start_of self.now.ends link ≡ node
+            → Contains (map (λ spoke. spoke.link) result.now) link }
     {
         self.out.links_of(node as usize)
     }
 
-    /// The links that end at a node.
-    pub fn into(&self, node: u32) -> &[u32]
+    /// The links that end at a node, with the nodes where they begin.
+    pub fn into(&self, node: u32) -> &[Spoke]
         requires { node < self.now.nodes }
-        ensures each { All (λ link. (link < length self.now.ends) × (end_of self.now.ends link ≡ node)) result.now }
-        ensures every { (link : ℕ) → link < length self.now.ends → end_of self.now.ends link ≡ node → Contains result.now link }
+        ensures each { All (λ spoke. (spoke.link < length self.now.ends) × (end_of self.now.ends spoke.link ≡ node)
+            × (spoke.node ≡ start_of self.now.ends spoke.link) × (spoke.node < self.now.nodes)) result.now }
+        ensures every { (link : ℕ) → link < length self.now.ends → end_of self.now.ends link ≡ node
+            → Contains (map (λ spoke. spoke.link) result.now) link }
     {
         self.into.links_of(node as usize)
     }

@@ -1,24 +1,19 @@
-ghost use Rattle.std.specs.{BinaryHeap.heap_items, BinaryHeap.IsHeap, Bool.OnTrue, Bool.OnFalse};
-ghost use Rattle.std.specs.Prelude.{◌≡◌, ℕ, ◌+◌, ◌*◌, ◌^◌, ◌<◌, ◌≤◌, [], List, length, drop, slice_index};
+ghost use Rattle.std.specs.{Bool.OnTrue, Bool.OnFalse};
+ghost use Rattle.std.specs.Prelude.{◌≡◌, ℕ, ◌+◌, ◌*◌, ◌^◌, ◌<◌, ◌≤◌, [], List, length, map, drop, slice_index};
 ghost use Rattle.std.specs.Prelude.{replicate, IfOk, OnOk, IfSome, IfNone, Contains, None, Some, IsTrue, ◌↔◌, IsSomeAnd, All};
 ghost use Rattle.limits.specs.declared.TheConstants.{MAX_NODES};
 ghost use Rattle.travel_times.specs.Times.{arrivals};
 ghost use Rattle.walks.specs.{Arrivals.Arrivals, Certificates.AreSmall, Rounds.label_at, Rounds.least_labels};
-ghost use Rattle.walks.specs.Walks.{Ends, start_of, AreWithin};
-ghost use Rattle.router.specs.Frontiers.{is_later, IsRelabelled, IsFrontier, GoesOn, IsSettledAt, IsNext, IsDone, entry_cmp, work};
+ghost use Rattle.walks.specs.Walks.{Ends, start_of, end_of, AreWithin};
+ghost use Rattle.router.specs.Frontiers.{IsRelabelled, IsFrontier, GoesOn, IsSettledAt, IsNext, IsDone, work};
+ghost use Rattle.router.specs.declared.label.TheConstants.{NO_SECOND};
 
 use crate::adjacency::Adjacency;
+use crate::label::Label;
+use crate::star::Spoke;
+use crate::waiting::{Entry, Waiting};
 use std::alloc::{AllocError, Global};
-use std::cmp::Reverse;
-use std::collections::BinaryHeap;
 use travel_times::LinkTimes;
-
-/// A node that waits for its links to be looked along, by the second of its label.
-#[derive(Clone, Copy, Debug, PartialEq, Eq, PartialOrd, Ord)]
-pub struct Entry {
-    pub second: u64,
-    pub node: u32,
-}
 
 /// How far a search has come.
 #[derive(Drop)]
@@ -27,15 +22,17 @@ pub struct Frontier {
     pub second: u64,
     /// Nodes with a label of at most this second are settled.
     pub horizon: u64,
-    pub labels: Vec<Option<u64>>,
-    pub queue: BinaryHeap<Reverse<Entry>>,
+    pub labels: Vec<Label>,
+    pub queue: Waiting,
 }
 
 /// No label for each of so many nodes.
-fn no_labels(alloc: Global, nodes: usize) -> Result<Vec<Option<u64>>, AllocError>
+fn no_labels(alloc: Global, nodes: usize) -> Result<Vec<Label>, AllocError>
     ensures { IfOk result (λ labels. labels.items ≡ replicate nodes None) }
 {
-    vec![in alloc; None; nodes]
+    let mut labels = Vec::new(alloc);
+    labels.resize(nodes, Label::none())?;
+    Ok(labels)
 }
 
 /// The search from a node in a second, before any link is looked along.
@@ -47,9 +44,9 @@ pub fn start(alloc: Global, nodes: usize, from: u32, second: u64) -> Result<Fron
     ensures second { IfOk result (λ frontier. frontier.second ≡ second) }
 {
     let mut labels = no_labels(alloc, nodes)?;
-    labels[from as usize] = Some(second);
-    let mut queue = BinaryHeap::new(alloc);
-    queue.push(Reverse(Entry { second, node: from }))?;
+    labels[from as usize] = Label::some(second);
+    let mut queue = Waiting::new(alloc, second)?;
+    queue.push(Entry { second, node: from })?;
     Ok(Frontier {
         from,
         second,
@@ -59,23 +56,14 @@ pub fn start(alloc: Global, nodes: usize, from: u32, second: u64) -> Result<Fron
     })
 }
 
-/// Whether a label is later than a second, as no label is.
-fn is_later(label: Option<u64>, second: u64) -> bool
-    ensures { result ≡ is_later label second }
-{
-    match label {
-        None => true,
-        Some(reached) => second < reached,
-    }
-}
-
 /// Gives a node an earlier label, with which it waits.
 fn relabel(frontier: &mut Frontier, node: u32, second: u64) -> Result<(), AllocError>
-    requires { node < length frontier.old.labels.items }
+    requires node { node < length frontier.old.labels.items }
+    requires second { second < NO_SECOND }
     ensures { OnOk result (IsRelabelled frontier.old frontier.new node second) }
 {
-    frontier.labels[node as usize] = Some(second);
-    frontier.queue.push(Reverse(Entry { second, node }))?;
+    frontier.labels[node as usize] = Label::some(second);
+    frontier.queue.push(Entry { second, node })?;
     Ok(())
 }
 
@@ -84,35 +72,37 @@ fn look(
     frontier: &mut Frontier,
     adjacency: &Adjacency,
     times: &LinkTimes,
-    links: &[u32],
+    links: &[Spoke],
     place: usize,
     left: u64,
 ) -> Result<(), AllocError>
     requires place { place < length links.now }
-    requires link { slice_index links.now place < length adjacency.now.ends }
+    requires spokes { All (λ spoke. (spoke.link < length adjacency.now.ends) × (spoke.node ≡ end_of adjacency.now.ends spoke.link)
+        × (spoke.node < adjacency.now.nodes)) links.now }
     requires few { adjacency.now.nodes ≤ MAX_NODES }
     requires times { length times.now ≡ length adjacency.now.ends }
-    requires search { IsFrontier adjacency.now.nodes adjacency.now.ends (arrivals times.now) frontier.old (drop place links.now) }
-    requires left { label_at frontier.old.labels.items (start_of adjacency.now.ends (slice_index links.now place)) ≡ Some left }
+    requires search { IsFrontier adjacency.now.nodes adjacency.now.ends (arrivals times.now) frontier.old
+        (drop place (map (λ spoke. spoke.link) links.now)) }
+    requires left { label_at frontier.old.labels.items
+        (start_of adjacency.now.ends (slice_index (map (λ spoke. spoke.link) links.now) place)) ≡ Some left }
     requires horizon { frontier.old.horizon ≤ left }
     ensures search { OnOk result (IsFrontier adjacency.now.nodes adjacency.now.ends (arrivals times.now) frontier.new
-        (drop (place + 1) links.now)) }
+        (drop (place + 1) (map (λ spoke. spoke.link) links.now))) }
     ensures left { OnOk result ((node : ℕ) → label_at frontier.old.labels.items node ≡ Some left →
         label_at frontier.new.labels.items node ≡ Some left) }
     ensures goes_on { OnOk result (GoesOn frontier.old frontier.new × (frontier.new.horizon ≡ frontier.old.horizon) ×
         (work frontier.new ≤ work frontier.old)) }
 {
-    let link = links[place];
-    let arrival = times.arrive(link, left);
-    let node = adjacency.end(link);
-    if is_later(frontier.labels[node as usize], arrival) {
-        relabel(frontier, node, arrival)?;
+    let spoke = links[place];
+    let arrival = times.arrive(spoke.link, left);
+    if frontier.labels[spoke.node as usize].is_later(arrival) {
+        relabel(frontier, spoke.node, arrival)?;
         return Ok(());
     }
     Ok(())
 }
 
-/// Looks along all these links, which begin at a node with the label `left`.
+/// Looks along all links that begin at a node with the label `left`.
 fn look_along(
     frontier: &mut Frontier,
     adjacency: &Adjacency,
@@ -141,13 +131,12 @@ fn look_along(
 
 /// The next node whose label stands, and its label. It is settled from now on.
 fn next(frontier: &mut Frontier) -> Option<Entry>
-    requires heap { IsHeap entry_cmp (heap_items frontier.old.queue) }
-    requires there { All (λ entry. entry.0.node < length frontier.old.labels.items) (heap_items frontier.old.queue) }
+    requires { All (λ entry. entry.node < length frontier.old.labels.items) frontier.old.queue }
     ensures some { IfSome result (λ entry. IsNext frontier.old frontier.new entry) }
     ensures none { IfNone result (IsDone frontier.old frontier.new) }
 {
-    while let Some(Reverse(entry)) = frontier.queue.pop() {
-        if frontier.labels[entry.node as usize] == Some(entry.second) {
+    while let Some(entry) = frontier.queue.pop() {
+        if frontier.labels[entry.node as usize].get() == Some(entry.second) {
             frontier.horizon = entry.second;
             return Some(entry);
         }
@@ -167,7 +156,7 @@ fn settle_next(
     ensures search { OnOk result (IsFrontier adjacency.now.nodes adjacency.now.ends (arrivals times.now) frontier.new []) }
     ensures goes_on { OnOk result (GoesOn frontier.old frontier.new) }
     ensures less { IfOk result (λ more. OnTrue more (work frontier.new < work frontier.old)) }
-    ensures all { IfOk result (λ more. OnFalse more (heap_items frontier.new.queue ≡ [])) }
+    ensures all { IfOk result (λ more. OnFalse more (frontier.new.queue ≡ [])) }
 {
     let Some(entry) = next(frontier) else {
         return Ok(false);
@@ -181,7 +170,7 @@ fn is_settled(frontier: &Frontier, node: u32) -> bool
     requires { node < length frontier.now.labels.items }
     ensures { IsTrue result ↔ IsSomeAnd (label_at frontier.now.labels.items node) (λ label. label ≤ frontier.now.horizon) }
 {
-    match frontier.labels[node as usize] {
+    match frontier.labels[node as usize].get() {
         None => false,
         Some(label) => label <= frontier.horizon,
     }

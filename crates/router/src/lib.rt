@@ -8,11 +8,13 @@
 mod adjacency;
 mod found;
 mod frontier;
+mod label;
 mod laws;
 mod legs;
 mod routes;
 mod search;
 mod star;
+mod waiting;
 mod ways;
 
 pub use adjacency::Adjacency;

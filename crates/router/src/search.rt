@@ -6,6 +6,7 @@ ghost use Rattle.router.specs.{Frontiers.IsFrontier, Frontiers.IsSettledAt, Sear
 
 use crate::adjacency::Adjacency;
 use crate::frontier::{Frontier, settle, settle_all, start};
+use crate::label::Label;
 use crate::ways::followed_back;
 use events::{Route, Rows};
 use std::alloc::{AllocError, Global};
@@ -61,7 +62,7 @@ fn settled_way(
     ensures { IfOk result (λ way. MatchOption way (NoWalk adjacency.now.ends frontier.now.from to)
         (λ found. IsLeastWay (asked adjacency.now times.now frontier.now) to found.links found.arrival)) }
 {
-    let Some(arrival) = frontier.labels[to as usize] else {
+    let Some(arrival) = frontier.labels[to as usize].get() else {
         return Ok(None);
     };
     let rows = followed_back(alloc, adjacency, times, &frontier.labels, frontier.from, to)?;
@@ -69,6 +70,17 @@ fn settled_way(
         links: Route { rows },
         arrival,
     }))
+}
+
+/// The same labels, each as an option.
+fn options_of(alloc: Global, labels: &[Label]) -> Result<Vec<Option<u64>>, AllocError>
+    ensures { IfOk result (λ options. options.items ≡ labels.now) }
+{
+    let mut options = Vec::new(alloc);
+    for label in labels {
+        options.push(label.get())?;
+    }
+    Ok(options)
 }
 
 impl<'a> Search<'a> {
@@ -130,6 +142,7 @@ impl<'a> Search<'a> {
         } = self;
         settle_all(&mut frontier, adjacency, times)?;
         let Frontier { labels, .. } = frontier;
-        Ok(Labels { rows: labels })
+        let rows = options_of(*labels.allocator(), &labels)?;
+        Ok(Labels { rows })
     }
 }

@@ -6,17 +6,26 @@ ghost use Rattle.router.specs.Stars.{AreBeside};
 use std::alloc::{AllocError, Global};
 use std::marker::Model;
 
-/// A list of links for each node, all in one array: those of a node follow each other from the node's start on.
+/// A link beside a node, and the node at its other end.
+#[derive(Clone, Copy, Debug, PartialEq, Eq)]
+pub struct Spoke {
+    pub link: u32,
+    pub node: u32,
+}
+
+/// A list of links for each node, all in one array: those of a node follow each other from the node's start on, each with the node at its
+/// other end, so that a search reads one place in memory for a node.
 #[derive(Debug, Drop)]
 pub struct Star {
     starts: Vec<usize>,
-    links: Vec<u32>,
+    links: Vec<Spoke>,
 }
 
 impl Model for Star {
-    ghost use Rattle.std.specs.Prelude.{ℕ, List};
+    ghost use Rattle.std.specs.Prelude.{List};
+    ghost use Rattle.router.specs.declared.star.Spoke.{Spoke};
 
-    ghost Value = { List (List ℕ) };
+    ghost Value = { List (List Spoke) };
 
     ghost use Rattle.router.specs.Stars.{lists_of, IsStar};
 
@@ -34,7 +43,7 @@ fn span(starts: &[usize], node: usize) -> (usize, usize)
 }
 
 /// The links from one place up to another.
-fn part(links: &[u32], from: usize, to: usize) -> &[u32]
+fn part(links: &[Spoke], from: usize, to: usize) -> &[Spoke]
     requires order { from ≤ to }
     requires end { to ≤ length links.now }
     ensures { result.now ≡ slice_range links.now from to }
@@ -56,7 +65,7 @@ impl Star {
     }
 
     /// One node more, with these links.
-    fn with(self, more: &[u32]) -> Result<Star, AllocError>
+    fn with(self, more: &[Spoke]) -> Result<Star, AllocError>
         ensures { IfOk result (λ star. star ≡ self ++ more.now ∷ []) }
     {
         let Star {
@@ -76,7 +85,7 @@ impl Star {
     }
 
     /// The links of a node.
-    pub fn links_of(&self, node: usize) -> &[u32]
+    pub fn links_of(&self, node: usize) -> &[Spoke]
         requires { node < length self.now }
         ensures { result.now ≡ slice_index_or self.now node [] }
     {
@@ -86,7 +95,7 @@ impl Star {
 }
 
 /// So many lists without a link.
-fn no_lists(alloc: Global, nodes: usize) -> Result<Vec<Vec<u32>>, AllocError>
+fn no_lists(alloc: Global, nodes: usize) -> Result<Vec<Vec<Spoke>>, AllocError>
     ensures { IfOk result (λ lists. map (λ list. list.items) lists.items ≡ replicate nodes []) }
 {
     let mut lists = Vec::new(alloc);
@@ -97,7 +106,7 @@ fn no_lists(alloc: Global, nodes: usize) -> Result<Vec<Vec<u32>>, AllocError>
 }
 
 /// Puts a link at the end of a node's list.
-fn push_link(lists: &mut Vec<Vec<u32>>, node: usize, link: u32) -> Result<(), AllocError>
+fn push_link(lists: &mut Vec<Vec<Spoke>>, node: usize, link: Spoke) -> Result<(), AllocError>
     requires { node < length lists.old.items }
     ensures { OnOk result (map (λ list. list.items) lists.new.items
         ≡ slice_set (map (λ list. list.items) lists.old.items) node
@@ -108,28 +117,45 @@ fn push_link(lists: &mut Vec<Vec<u32>>, node: usize, link: u32) -> Result<(), Al
     Ok(())
 }
 
-/// The links of each node, by the node that each link is beside.
-fn lists_beside(alloc: Global, nodes: usize, beside: &[u32]) -> Result<Vec<Vec<u32>>, AllocError>
+/// The links of each node, by the node that each link is beside, with the nodes at their other ends.
+fn lists_beside(
+    alloc: Global,
+    nodes: usize,
+    beside: &[u32],
+    others: &[u32],
+) -> Result<Vec<Vec<Spoke>>, AllocError>
     requires within { All (λ node. node < nodes) beside.now }
     requires few { length beside.now < 2 ^ 32 }
+    requires each { length others.now ≡ length beside.now }
     ensures count { IfOk result (λ lists. length lists.items ≡ nodes) }
-    ensures lists { IfOk result (λ lists. AreBeside (slice_index beside.now) (length beside.now) (map (λ list. list.items) lists.items)) }
+    ensures lists { IfOk result (λ lists. AreBeside (slice_index beside.now) (slice_index others.now) (length beside.now)
+        (map (λ list. list.items) lists.items)) }
 {
     let mut lists = no_lists(alloc, nodes)?;
     for (link, &node) in beside.iter().enumerate() {
-        push_link(&mut lists, node as usize, link as u32)?;
+        let spoke = Spoke {
+            link: link as u32,
+            node: others[link],
+        };
+        push_link(&mut lists, node as usize, spoke)?;
     }
     Ok(lists)
 }
 
 /// The same in one array.
-pub fn star_beside(alloc: Global, nodes: usize, beside: &[u32]) -> Result<Star, AllocError>
+pub fn star_beside(
+    alloc: Global,
+    nodes: usize,
+    beside: &[u32],
+    others: &[u32],
+) -> Result<Star, AllocError>
     requires within { All (λ node. node < nodes) beside.now }
     requires few { length beside.now < 2 ^ 32 }
+    requires each { length others.now ≡ length beside.now }
     ensures count { IfOk result (λ star. length star ≡ nodes) }
-    ensures lists { IfOk result (λ star. AreBeside (slice_index beside.now) (length beside.now) star) }
+    ensures lists { IfOk result (λ star. AreBeside (slice_index beside.now) (slice_index others.now) (length beside.now) star) }
 {
-    let lists = lists_beside(alloc, nodes, beside)?;
+    let lists = lists_beside(alloc, nodes, beside, others)?;
     let mut star = Star::none(alloc)?;
     for list in &lists {
         star = star.with(list)?;

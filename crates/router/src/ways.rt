@@ -1,51 +1,58 @@
 ghost use Rattle.std.specs.Prelude.{◌≡◌, ℕ, ◌+◌, ◌^◌, ◌<◌, ◌≤◌, length, IfOk, IfSome, IsSome};
 ghost use Rattle.travel_times.specs.Times.{arrivals};
 ghost use Rattle.walks.specs.{Certificates.AreSmall, Chosen.leads, Chosen.link_before, Chosen.followed, Rounds.label_at};
+ghost use Rattle.walks.specs.Walks.{start_of, end_of};
 ghost use Rattle.router.specs.Ways.{is_below};
 
 use crate::adjacency::Adjacency;
+use crate::label::Label;
+use crate::star::Spoke;
 use std::alloc::{AllocError, Global};
 use travel_times::LinkTimes;
-use walks::label_of;
 
-/// Whether a link leads to a node: it begins at a labelled node, and the node is reached along it in the second of its label.
+/// The label of a node, where there is one.
+fn label_of(labels: &[Label], node: u32) -> Option<u64>
+    requires { node < length labels.now }
+    ensures { result ≡ label_at labels.now node }
+{
+    labels[node as usize].get()
+}
+
+/// Whether a link into a node leads to it: it begins at a labelled node, and the node is reached along it in the second of its label.
 fn is_leading(
     adjacency: &Adjacency,
     times: &LinkTimes,
-    labels: &[Option<u64>],
+    labels: &[Label],
     node: u32,
-    link: u32,
+    spoke: Spoke,
 ) -> bool
-    requires link { link < length adjacency.now.ends }
+    requires link { spoke.link < length adjacency.now.ends }
+    requires ends { end_of adjacency.now.ends spoke.link ≡ node }
+    requires starts { spoke.node ≡ start_of adjacency.now.ends spoke.link }
+    requires within { spoke.node < length labels.now }
+    requires node { node < length labels.now }
     requires times { length times.now ≡ length adjacency.now.ends }
     requires small { AreSmall labels.now }
-    ensures { result ≡ leads adjacency.now.ends (arrivals times.now) labels.now node link }
+    ensures { result ≡ leads adjacency.now.ends (arrivals times.now) labels.now node spoke.link }
 {
-    if adjacency.end(link) != node {
-        return false;
-    }
-    let Some(left) = label_of(labels, adjacency.start(link)) else {
+    let Some(left) = label_of(labels, spoke.node) else {
         return false;
     };
-    label_of(labels, node) == Some(times.arrive(link, left))
+    label_of(labels, node) == Some(times.arrive(spoke.link, left))
 }
 
 /// The link before a node: of the links that lead there the one of the least number.
-fn link_before(
-    adjacency: &Adjacency,
-    times: &LinkTimes,
-    labels: &[Option<u64>],
-    node: u32,
-) -> Option<u32>
+fn link_before(adjacency: &Adjacency, times: &LinkTimes, labels: &[Label], node: u32) -> Option<u32>
     requires node { node < adjacency.now.nodes }
     requires times { length times.now ≡ length adjacency.now.ends }
+    requires labels { length labels.now ≡ adjacency.now.nodes }
     requires small { AreSmall labels.now }
     ensures { result ≡ link_before adjacency.now.ends (arrivals times.now) labels.now node }
 {
     let mut least: Option<u32> = None;
-    for &link in adjacency.into(node) {
-        if is_leading(adjacency, times, labels, node, link) && is_below(link, least) {
-            least = Some(link);
+    for &spoke in adjacency.into(node) {
+        if is_leading(adjacency, times, labels, node, spoke) && is_below(spoke.link, least) {
+            least = Some(spoke.link);
         }
     }
     least
@@ -66,7 +73,7 @@ pub fn followed_back(
     alloc: Global,
     adjacency: &Adjacency,
     times: &LinkTimes,
-    labels: &[Option<u64>],
+    labels: &[Label],
     from: u32,
     to: u32,
 ) -> Result<Vec<u32>, AllocError>

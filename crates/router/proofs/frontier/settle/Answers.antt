@@ -1,5 +1,5 @@
 use Rattle.std.proofs.Common.{rules, arith, ◌≡◌, Bool, [], subst}
-use Rattle.std.specs.{BinaryHeap.heap_items, Bool.OnFalse}
+use Rattle.std.specs.Bool.{OnFalse}
 use Rattle.travel_times.{proofs.Arriving.arrivals_are_fifo, specs.Times.arrivals}
 use Rattle.router.proofs.Searching.{settled_by_end, settled_by_now}
 use Rattle.router.proofs.frontier.settle.Goals as goal
@@ -10,7 +10,7 @@ returns-then-not-branch-clause-settled c =
     c.requires.inside c.settle_next.new.frontier c.args.node
     (let before = c.loop-frontier.invariant.goes_on.from in let same = c.in_ok-settle_next.ensures.goes_on.from in
     let within = c.requires.from in omega arith)
-    c.in_ok-settle_next.ensures.search (subst (λ (more : Bool). OnFalse more (heap_items c.settle_next.new.frontier.queue ≡ []))
+    c.in_ok-settle_next.ensures.search (subst (λ (more : Bool). OnFalse more (c.settle_next.new.frontier.queue ≡ []))
     c.if-not-branch.true c.in_ok-settle_next.ensures.all)
 
 pub returns-clause-settled : goal.returns-clause-settled

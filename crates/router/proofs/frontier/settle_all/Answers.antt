@@ -1,5 +1,5 @@
 use Rattle.std.proofs.Common.{arith, ◌≡◌, ℕ, Bool, [], subst, ap, ◌∙◌}
-use Rattle.std.specs.{BinaryHeap.heap_items, Bool.OnFalse}
+use Rattle.std.specs.Bool.{OnFalse}
 use Rattle.travel_times.{proofs.Arriving.arrivals_are_fifo, specs.Times.arrivals}
 use Rattle.walks.specs.Rounds.{least_labels}
 use Rattle.router.proofs.{Answering.small_labels, Searching.all_least}
@@ -15,7 +15,7 @@ returns-clause-labels c =
     let second : new.second ≡ c.args.frontier.now.second = c.in_ok-settle_next.ensures.goes_on.second ∙ c.loop.invariant.goes_on.second in
     all_least nodes ends arrive (arrivals_are_fifo c.args.times.now) c.requires.inside new
     (let within = c.requires.from in omega arith) c.in_ok-settle_next.ensures.search
-    (subst (λ (more : Bool). OnFalse more (heap_items new.queue ≡ [])) c.if-branch.false c.in_ok-settle_next.ensures.all)
+    (subst (λ (more : Bool). OnFalse more (new.queue ≡ [])) c.if-branch.false c.in_ok-settle_next.ensures.all)
     ∙ ap (λ (f : ℕ). least_labels nodes ends arrive f new.second) from
     ∙ ap (λ (s : ℕ). least_labels nodes ends arrive c.args.frontier.now.from s) second
 

@@ -11,7 +11,7 @@ returns-in_default c =
     in omega arith in
     no_way_is (asked c.args.adjacency.now c.args.times.now c.args.frontier.now) c.args.frontier.now c.requires.inside
     c.requires.from refl refl c.args.to c.requires.settled
-    (sym (get_or_read c.args.frontier.now.labels.items c.args.to c.index.result.now here c.index.ensures None) ∙ c.in_default.is)
+    (sym (get_or_read c.args.frontier.now.labels.items c.args.to c.index.result.now here c.index.ensures None) ∙ sym c.get.ensures ∙ c.in_default.is)
 
 pub followed_back-requires-clause-small : goal.followed_back-requires-clause-small
 followed_back-requires-clause-small c =
@@ -26,6 +26,6 @@ returns c =
     in omega arith in
     way_is (asked c.args.adjacency.now c.args.times.now c.args.frontier.now) c.args.frontier.now c.requires.inside c.requires.from
     refl refl c.args.to c.requires.settled c.in_ok-rows.rows.items c.in-Some.arrival
-    (sym (get_or_read c.args.frontier.now.labels.items c.args.to c.index.result.now here c.index.ensures None) ∙ c.in-Some.is)
+    (sym (get_or_read c.args.frontier.now.labels.items c.args.to c.index.result.now here c.index.ensures None) ∙ sym c.get.ensures ∙ c.in-Some.is)
     (c.in_ok-rows.ensures ∙ ap (λ (ls : Labels). followed c.args.adjacency.now.ends (arrivals c.args.times.now) ls
     c.args.frontier.now.from c.args.adjacency.now.nodes c.args.to) c.deref.ensures.value)

@@ -2,6 +2,7 @@ use Rattle.std.proofs.Common.{arith, ◌≡◌, ◌<◌, ℕ, List, length, map,
 use Rattle.std.{proofs.lemmas.List.length-map, specs.List.zip, specs.Prelude.All, specs.Prelude.slice_index}
 use Rattle.rows.specs.{Joined.ends_of, declared.network.LinkRow.LinkRow}
 use Rattle.walks.specs.Walks.{end_of, AreWithin}
+use Rattle.router.proofs.Stars.{beside_same}
 use Rattle.router.proofs.Graphs.{start_is, end_is, zip_ends, network_within, starts_within_nodes, ends_within_nodes}
 use Rattle.router.specs.{Graphs.Graph, Stars.AreBeside}
 use Rattle.router.proofs.adjacency.Adjacency.of.Goals as goal
@@ -13,12 +14,26 @@ star_beside-requires-clause-within c =
     (starts_within_nodes (length c.args.network.now.nodes) c.args.network.now.links c.deref.result.now
     (c.deref.ensures.value ∙ c.in_ok-from.ensures) c.args.network.now.sound)
 
+pub star_beside-requires-clause-each : goal.star_beside-requires-clause-each
+star_beside-requires-clause-each c =
+    let links = c.args.network.now.links in
+    let from = ap (λ (xs : List ℕ). length xs) (c.deref.ensures.value ∙ c.in_ok-from.ensures) ∙ length-map links (λ (l : LinkRow). l.from) in
+    let to = ap (λ (xs : List ℕ). length xs) (c.deref-2.ensures.value ∙ c.in_ok-to.ensures) ∙ length-map links (λ (l : LinkRow). l.to) in
+    to ∙ sym from
+
 pub star_beside-requires-2-clause-within : goal.star_beside-requires-2-clause-within
 star_beside-requires-2-clause-within c =
-    let P : ℕ → Type 0 = λ n. All (λ node. node < n) c.deref-2.result.now in
+    let P : ℕ → Type 0 = λ n. All (λ node. node < n) c.deref-3.result.now in
     subst P (sym c.len-nodes.ensures)
-    (ends_within_nodes (length c.args.network.now.nodes) c.args.network.now.links c.deref-2.result.now
-    (c.deref-2.ensures.value ∙ c.in_ok-to.ensures) c.args.network.now.sound)
+    (ends_within_nodes (length c.args.network.now.nodes) c.args.network.now.links c.deref-3.result.now
+    (c.deref-3.ensures.value ∙ c.in_ok-to.ensures) c.args.network.now.sound)
+
+pub star_beside-requires-2-clause-each : goal.star_beside-requires-2-clause-each
+star_beside-requires-2-clause-each c =
+    let links = c.args.network.now.links in
+    let to = ap (λ (xs : List ℕ). length xs) (c.deref-3.ensures.value ∙ c.in_ok-to.ensures) ∙ length-map links (λ (l : LinkRow). l.to) in
+    let from = ap (λ (xs : List ℕ). length xs) (c.deref-4.ensures.value ∙ c.in_ok-from.ensures) ∙ length-map links (λ (l : LinkRow). l.from) in
+    from ∙ sym to
 
 pub invariant_of-result : goal.invariant_of-result
 invariant_of-result c =
@@ -35,20 +50,17 @@ invariant_of-result c =
     (λ (ys : List ℕ). zip (map (λ (l : LinkRow). l.from) links) ys) to_is ∙ zip_ends links in
     let P : List (ℕ × ℕ) → Type 0 = λ es. AreWithin (length c.in_ok-out.out) es in
     let Q : ℕ → Type 0 = λ n. AreWithin n (ends_of links) in
-    let read_from : c.deref.result.now ≡ from = c.deref.ensures.value in
-    let read_to : c.deref-2.result.now ≡ to = c.deref-2.ensures.value in
-    let R : List ℕ → Type 0 = λ xs. AreBeside (slice_index xs) (length xs) c.in_ok-out.out in
-    let S : (ℕ → ℕ) → Type 0 = λ f. AreBeside f (length from) c.in_ok-out.out in
-    let T : List ℕ → Type 0 = λ ys. AreBeside (slice_index ys) (length ys) c.in_ok-into.into in
-    let U : (ℕ → ℕ) → Type 0 = λ f. AreBeside f (length to) c.in_ok-into.into in
-    let V : ℕ → Type 0 = λ n. AreBeside (end_of (zip from to)) n c.in_ok-into.into in
     record {
       few = let most = c.args.network.now.few_nodes in omega arith;
       each = each;
       same = c.in_ok-into.ensures.count ∙ sym c.in_ok-out.ensures.count;
       inside = subst P (sym ends) (subst Q (sym nodes) (network_within (length c.args.network.now.nodes) links c.args.network.now.sound));
-      out = subst S (start_is from to each) (subst R read_from c.in_ok-out.ensures.lists);
-      into = subst V each (subst U (end_is from to each) (subst T read_to c.in_ok-into.ensures.lists));
+      out = beside_same _ _ _ _ _ _ c.in_ok-out.out (ap slice_index c.deref.ensures.value ∙ start_is from to each)
+          (ap slice_index c.deref-2.ensures.value ∙ end_is from to each) (ap (λ (xs : List ℕ). length xs) c.deref.ensures.value)
+          c.in_ok-out.ensures.lists;
+      into = beside_same _ _ _ _ _ _ c.in_ok-into.into (ap slice_index c.deref-3.ensures.value ∙ end_is from to each)
+          (ap slice_index c.deref-4.ensures.value ∙ start_is from to each)
+          (ap (λ (xs : List ℕ). length xs) c.deref-3.ensures.value ∙ each) c.in_ok-into.ensures.lists;
     }
 
 pub returns : goal.returns

@@ -144,7 +144,8 @@ static FOREIGN: [(&[Kept], &str); 14] = [
     ),
 ];
 
-/// Rows that fit, two plans of the first person and six, and the plans that are written of them: the chosen one first, as plan 0.
+/// Rows that fit, two plans of the first person and six, and the plans that are written of them: the chosen one first, as plan 0, and no more
+/// than five.
 static OWN: [(&[Kept], &str); 2] = [
     (
         &[DRIVES, STAYS, OTHER],
@@ -165,7 +166,7 @@ static OWN: [(&[Kept], &str); 2] = [
             OTHER,
         ],
         "person,plan,kind,name,link,time,route\np1,0,act,home,L1,,\np1,1,act,home,L1,,\np1,2,act,home,L1,,\n\
-        p1,3,act,home,L1,,\np1,4,act,home,L1,,\np1,5,act,home,L1,,\np2,0,act,home,L1,,\n",
+        p1,3,act,home,L1,,\np1,4,act,home,L1,,\np2,0,act,home,L1,,\n",
     ),
 ];
 

@@ -1,16 +1,17 @@
 #!/usr/bin/env python3
-"""The files of a generated scenario, computed from docs/PROFILE.md alone: grid.py SIZE SEED LAST FOLDER.
+"""Writes the files of a generated scenario, computed from the page on commands alone, and prints of
+each its length and a sum.
 
 The tests of the crate `workload` compare what it writes with what this program wrote."""
+import argparse
 import json
 import pathlib
 import struct
-import sys
 
 
-def block(key, stream, number):
+def block(key: bytes, stream: int, number: int) -> list[int]:
     """A block of ChaCha with 8 rounds: 64 bits of block number, 64 bits of stream."""
-    def rotated(word, by):
+    def rotated(word: int, by: int) -> int:
         return (word << by | word >> 32 - by) & 0xFFFFFFFF
 
     state = [0x61707865, 0x3320646E, 0x79622D32, 0x6B206574, *struct.unpack("<8I", key)]
@@ -26,12 +27,12 @@ def block(key, stream, number):
     return [(word + start) & 0xFFFFFFFF for word, start in zip(words, state)]
 
 
-def person_words(seed, iteration, person):
+def person_words(seed: int, iteration: int, person: int) -> list[int]:
     key = struct.pack("<QI20x", seed, iteration)
     return block(key, (1 << 40) + person, 0)
 
 
-def links_of(size):
+def links_of(size: int) -> list[tuple[int, int]]:
     links = []
     for node in range(size * size):
         row, column = divmod(node, size)
@@ -46,7 +47,7 @@ def links_of(size):
     return links
 
 
-def person_lines(size, seed, links, person):
+def person_lines(size: int, seed: int, links: list[tuple[int, int]], person: int) -> list[str]:
     words = person_words(seed, 0, person)
     home = links[words[0] * len(links) >> 32]
     work = links[words[1] * len(links) >> 32]
@@ -67,7 +68,7 @@ def person_lines(size, seed, links, person):
     ]
 
 
-def files(size, seed, last):
+def files(size: int, seed: int, last: int) -> dict[str, str]:
     links = links_of(size)
     nodes = [f"n{n},{n % size * 30000},{n // size * 30000}" for n in range(size * size)]
     roads = [f"l{a}_{b},n{a},n{b},30000,1389,1000,1" for a, b in links]
@@ -97,15 +98,22 @@ def files(size, seed, last):
     return texts
 
 
-def digest(text):
+def digest(text: str) -> int:
     """The sum of all bytes, each times its place from 1 on, in 32 bits."""
     return sum((place + 1) * byte for place, byte in enumerate(text.encode())) & 0xFFFFFFFF
 
 
-def main():
-    size, seed, last, folder = int(sys.argv[1]), int(sys.argv[2]), int(sys.argv[3]), pathlib.Path(sys.argv[4])
+def main() -> None:
+    words = argparse.ArgumentParser(
+        description=__doc__, formatter_class=argparse.RawDescriptionHelpFormatter)
+    words.add_argument("size", type=int, help="nodes a side")
+    words.add_argument("seed", type=int)
+    words.add_argument("last", type=int, help="the last iteration")
+    words.add_argument("folder", type=pathlib.Path)
+    asked = words.parse_args()
+    folder: pathlib.Path = asked.folder
     folder.mkdir(parents=True, exist_ok=True)
-    for name, text in files(size, seed, last).items():
+    for name, text in files(asked.size, asked.seed, asked.last).items():
         (folder / name).write_text(text)
         print(name, len(text), digest(text))
 

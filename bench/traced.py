@@ -1,47 +1,38 @@
-"""A program under ptrace, for the programs beside this file: its registers, and how long its functions take. Linux on x86-64 alone."""
-import collections, ctypes, os, pathlib, signal, subprocess, sys, tempfile, threading, time, typing
-from runs import Run
+"""How long the functions of a program take, by ptrace. Linux on x86-64 alone."""
+import collections
+import os
+import pathlib
+import signal
+import subprocess
+import sys
+import tempfile
+import threading
+import time
+import typing
+from collections.abc import Sequence
 
-TRACE_ME, STEP, GET_REGISTERS, SET_REGISTERS, CONTINUE, CONTINUE_TO_CALL, SET_OPTIONS = 0, 9, 12, 13, 7, 24, 0x4200
-ENDED_WITH_US = 0x100000  # nobody is left when this program ends
-RESULT, LENGTH, FIRST, CALL, NEXT, STACK = 10, 12, 14, 15, 16, 19
+from common import Run
+from ptrace import (CONTINUE, ENDED_WITH_US, NEXT, SET_OPTIONS, STACK, STEP, registers_of,
+                    set_registers, start, traced)
+
 TRAP = b"\xcc"
-LIBC = ctypes.CDLL(None, use_errno=True)
-LIBC.ptrace.argtypes = [ctypes.c_long, ctypes.c_long, ctypes.c_void_p, ctypes.c_void_p]
 
 
-class Registers(ctypes.Structure):
-    _fields_ = [("word", ctypes.c_ulong * 27)]
-
-
-def traced(request, process, word=0, data=0):
-    if LIBC.ptrace(request, process, word, data) < 0:
-        raise OSError(ctypes.get_errno(), "ptrace")
-
-
-def registers_of(thread):
-    registers = Registers()
-    traced(GET_REGISTERS, thread, 0, ctypes.addressof(registers))
-    return registers
-
-
-def set_registers(thread, registers):
-    traced(SET_REGISTERS, thread, 0, ctypes.addressof(registers))
-
-
-def stolen():
+def stolen() -> float:
     """Seconds of its processors, all together, that the machine has been denied since it began."""
-    return int(pathlib.Path("/proc/stat").read_text().split(None, 9)[8]) / os.sysconf("SC_CLK_TCK")
+    fields = pathlib.Path("/proc/stat").read_text().split(None, 9)
+    return int(fields[8]) / os.sysconf("SC_CLK_TCK")
 
 
 class Moment(typing.NamedTuple):
-    """Seconds of the clock, of the processor that the program has had, and of processors that the machine has been denied."""
+    """Seconds of the clock, of the processor that the program has had, and of processors that the
+    machine has been denied."""
 
     clock: float
     processor: float
     stolen: float
 
-    def since(self, earlier):
+    def since(self, earlier: "Moment") -> "Moment":
         return Moment(*(here - there for here, there in zip(self, earlier)))
 
 
@@ -52,62 +43,71 @@ class Call(typing.NamedTuple):
     entered: Moment
     left: Moment
 
-    def took(self):
+    def took(self) -> Moment:
         return self.left.since(self.entered)
 
 
-def functions_of(program):
-    """Where the functions begin, from the start of the program in memory on; a function is named without what stands for its types."""
-    found = collections.defaultdict(list)
-    for line in subprocess.run(["nm", program], capture_output=True, text=True, check=True).stdout.splitlines():
+def functions_of(program: str) -> dict[str, list[int]]:
+    """Where the functions begin, from the start of the program in memory on; a function is named
+    without what stands for its types."""
+    found = collections.defaultdict[str, list[int]](list)
+    listed = subprocess.run(["nm", program], capture_output=True, text=True, check=True)
+    for line in listed.stdout.splitlines():
         place, kind, name = line.split(" ", 2) if line[0] != " " else ("0", "U", "")
         if kind in "tT":
             found[name.split("::<")[0]].append(int(place, 16))
     return found
 
 
-def has_own(program, name):
-    """Whether the program has just one function of its own for this one: the compiler may have made several, or put it into its callers."""
-    return len(functions_of(program)[name]) == 1
+def has_own(program: str, name: str) -> bool:
+    """Whether the program has just one function of its own for this one: the compiler may have made
+    several, or put it into its callers."""
+    return len(functions_of(program).get(name, [])) == 1
 
 
-def places_of(program, names):
+def places_of(program: str, names: Sequence[str]) -> dict[int, str]:
     """Where these functions begin."""
     found = functions_of(program)
-    if missing := [name for name in names if len(found[name]) != 1]:
+    if missing := [name for name in names if len(found.get(name, [])) != 1]:
         sys.exit(f"{program} has not just one function of its own for {', '.join(missing)}")
     return {found[name][0]: name for name in names}
 
 
 class Stops:
-    """The calls of some functions by the first thread of a program: it stops where they begin and where they come back."""
+    """The calls of some functions by the first thread of a program: it stops where they begin and
+    where they come back."""
 
-    def __init__(self, process, program, names):
-        self.process, self.under, self.open, self.calls = process, {}, [], []
+    def __init__(self, process: int, program: str, names: Sequence[str]) -> None:
+        self.process = process
+        self.under: dict[int, bytes] = {}
+        self.open: list[tuple[str, Moment]] = []
+        self.calls: list[Call] = []
         self.memory = os.open(f"/proc/{process}/mem", os.O_RDWR)
-        start = self.start_of(os.path.realpath(program))
-        self.begins = {start + place: name for place, name in places_of(program, names).items()}
+        begin = self.start_of(os.path.realpath(program))
+        self.begins = {begin + place: name for place, name in places_of(program, names).items()}
         for place in self.begins:
             self.lay(place)
 
-    def start_of(self, program):
+    def start_of(self, program: str) -> int:
         for line in pathlib.Path(f"/proc/{self.process}/maps").read_text().splitlines():
             if line.endswith(" " + program):
                 return int(line.split("-")[0], 16) - int(line.split()[2], 16)
         raise ValueError(f"{program} is not in memory")
 
-    def lay(self, place):
+    def lay(self, place: int) -> None:
         self.under[place] = os.pread(self.memory, 1, place)
         os.pwrite(self.memory, TRAP, place)
 
-    def lift(self, place):
+    def lift(self, place: int) -> None:
         os.pwrite(self.memory, self.under.pop(place), place)
 
-    def now(self):
-        return Moment(time.monotonic(), time.clock_gettime(~self.process << 3 | 2), stolen())
+    def now(self) -> Moment:
+        clock_of_process = ~self.process << 3 | 2
+        return Moment(time.monotonic(), time.clock_gettime(clock_of_process), stolen())
 
-    def at_stop(self):
-        """Whether the program stands where a function begins or has come back; it is set to go on from there."""
+    def at_stop(self) -> bool:
+        """Whether the program is where a function begins or has come back; it is set to go on from
+        there."""
         now, registers = self.now(), registers_of(self.process)
         place = registers.word[NEXT] - 1
         if place not in self.under:
@@ -127,47 +127,15 @@ class Stops:
         return True
 
 
-class Instruction(ctypes.Structure):
-    """One of a filter of calls."""
-
-    _fields_ = [("code", ctypes.c_ushort), ("if_so", ctypes.c_ubyte), ("if_not", ctypes.c_ubyte), ("word", ctypes.c_uint)]
-
-
-class Filter(ctypes.Structure):
-    _fields_ = [("length", ctypes.c_ushort), ("first", ctypes.POINTER(Instruction))]
-
-
-def stop_at(calls):
-    """Has this process, and all that it becomes, stop at these calls to the system alone, for its tracer."""
-    NUMBER, IS, ANSWER, STOP, GO_ON = 0x20, 0x15, 0x06, 0x7FF00000, 0x7FFF0000
-    rows = [(NUMBER, 0, 0, 0), *((IS, len(calls) - place, 0, call) for place, call in enumerate(calls)), (ANSWER, 0, 0, GO_ON), (ANSWER, 0, 0, STOP)]
-    rows = (Instruction * len(rows))(*rows)
-    if LIBC.prctl(38, 1, 0, 0, 0) or LIBC.prctl(22, 2, ctypes.byref(Filter(len(rows), rows)), 0, 0):
-        raise OSError(ctypes.get_errno(), "prctl")
-
-
-def start(command, folder, output, errors, environment=None, calls=()):
-    """Starts a command in a folder, stopped at its first instruction. It will stop at these calls, where there are any."""
-    child = os.fork()
-    if child == 0:
-        os.chdir(folder)
-        os.dup2(output, 1)
-        os.dup2(errors, 2)
-        traced(TRACE_ME, 0)
-        if calls:
-            stop_at(calls)
-        os.execve(command[0], command, os.environ if environment is None else environment)
-    os.waitpid(child, 0)
-    return child
-
-
-def watched(command, folder, names, most_wall=3600.0):
-    """Runs a command, and tells each call of these functions, in the order in which they came back. Its other threads are left alone, so a
-    function has to be one that its first thread alone calls, and not within itself."""
-    command = [str(word) for word in command]
+def watched(words: Sequence[str | int], folder: pathlib.Path, names: Sequence[str],
+            most_wall: float = 3600.0) -> tuple[Run, list[Call]]:
+    """Runs a command, and gives each call of these functions, in the order in which they came back.
+    Its other threads are left alone, so a function has to be one that its first thread alone calls,
+    and not within itself."""
+    command = [str(word) for word in words]
     with tempfile.TemporaryFile() as report, tempfile.TemporaryFile() as errors:
         begun = time.monotonic()
-        child = start(command, folder, report.fileno(), errors.fileno())
+        child = start(command, str(folder), report.fileno(), errors.fileno())
         traced(SET_OPTIONS, child, 0, ENDED_WITH_US)
         stops = Stops(child, command[0], names)
         alarm = threading.Timer(most_wall, os.kill, (child, signal.SIGKILL))
@@ -178,10 +146,12 @@ def watched(command, folder, names, most_wall=3600.0):
             _, ended, used = os.wait4(child, 0)
             if os.WIFEXITED(ended) or os.WIFSIGNALED(ended):
                 break
-            passed_on = 0 if os.WSTOPSIG(ended) == signal.SIGTRAP and stops.at_stop() else os.WSTOPSIG(ended)
+            is_ours = os.WSTOPSIG(ended) == signal.SIGTRAP and stops.at_stop()
+            passed_on = 0 if is_ours else os.WSTOPSIG(ended)
         alarm.cancel()
         wall = time.monotonic() - begun
         report.seek(0)
         errors.seek(0)
-        status, seconds = os.waitstatus_to_exitcode(ended), used.ru_utime + used.ru_stime
-        return Run(status, report.read(), errors.read(), seconds, wall, used.ru_maxrss / 1024), stops.calls
+        seconds, peak = used.ru_utime + used.ru_stime, used.ru_maxrss / 1024
+        status = os.waitstatus_to_exitcode(ended)
+        return Run(status, report.read(), errors.read(), seconds, wall, peak), stops.calls

@@ -91,7 +91,6 @@ class Import:
         """Write plans.csv; the types of activities with their names and counts come back."""
         if self.inputs.plans is None:
             return {}
-        ends = {link.name: (link.start, link.end, link.length) for link in network.links.values()}
         population = Population(
             self.inputs.plans,
             raw,
@@ -100,7 +99,7 @@ class Import:
             self.ids,
             self.losses,
             teleport_of(self.config),
-            ends,
+            network,
         )
         staged.rows("plans.csv", PLANS_HEADER, plan_rows(population.read()))
         self.counts["persons"] = population.persons

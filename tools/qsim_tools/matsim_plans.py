@@ -9,7 +9,8 @@ from dataclasses import dataclass, field, replace
 from pathlib import Path
 
 from qsim_tools.cli import progress
-from qsim_tools.files import TELEPORTED, Act, Element, FileFault, Leg, Limits, Person, Schedule
+from qsim_tools.files import TELEPORTED, Act, Element, FileFault, Leg, Limits, Network, Person
+from qsim_tools.files import Schedule
 from qsim_tools.matsim_config import Config
 from qsim_tools.matsim_ids import Ids
 from qsim_tools.matsim_losses import Losses
@@ -81,10 +82,12 @@ class Population:
         ids: Ids,
         losses: Losses,
         teleport: Teleport,
-        ends: dict[str, tuple[str, str, int]],
+        network: Network,
     ) -> None:
         self.path, self.raw, self.places, self.schedule = path, raw, places, schedule
-        self.ids, self.losses, self.teleport, self.ends = ids, losses, teleport, ends
+        self.ids, self.losses, self.teleport = ids, losses, teleport
+        self.starts = {link.name: link.start for link in network.links.values()}
+        self.ends = {link.name: link.end for link in network.links.values()}
         self.links = {text: name for name, text in ids.of["link"].rows()}
         self.stops = {text: name for name, text in ids.of["stop"].rows()}
         self.lines = {text: name for name, text in ids.of["line"].rows()}
@@ -298,8 +301,7 @@ class Population:
     def _car(self, leg: RawLeg, act: Xml, start: str, end: str) -> Leg:
         """A car leg with its route where the network has it, and otherwise without one."""
         texts = [] if self._nodes_routes or leg.kind != "links" else leg.route.split()
-        names = [self.links.get(text) for text in texts]
-        route = tuple(name for name in names if name is not None)
+        route = tuple(filter(None, map(self.links.get, texts)))
         if len(route) < len(texts):
             for text in texts:
                 if text not in self.raw.links:
@@ -312,11 +314,16 @@ class Population:
             self.losses.note("car route that does not join its activities emptied", start)
         elif len(route) > Limits.ROUTE_LINKS:
             self.losses.note(f"car route of more than {Limits.ROUTE_LINKS} links emptied", start)
-        elif any(self.ends[a][1] != self.ends[b][0] for a, b in zip(route, route[1:])):
+        elif not self._joins(route):
             self.losses.note("car route whose links do not join emptied", start)
         else:
             return Leg("car", None, route)
         return Leg("car", None, ())
+
+    def _joins(self, route: tuple[str, ...]) -> bool:
+        """Whether each link but the first begins where the one before it ends."""
+        ends = map(self.ends.__getitem__, route[:-1])
+        return list(ends) == list(map(self.starts.__getitem__, route[1:]))
 
     def _check_cars(self, plan: list[Element]) -> None:
         """Empty car routes beside activities that moved to a stop."""

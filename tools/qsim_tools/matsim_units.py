@@ -7,10 +7,13 @@ One rule holds everywhere: a number is read as an exact decimal, scaled, and rou
 from __future__ import annotations
 
 import math
+import re
 from decimal import ROUND_FLOOR, Decimal, InvalidOperation
 from fractions import Fraction
+from functools import lru_cache
 
 _HALF = Decimal("0.5")
+_CLOCK = re.compile(r"(\d{1,4}):(\d\d):(\d\d)(?:\.0*)?\Z")
 
 
 def decimal(text: str) -> Decimal:
@@ -31,6 +34,7 @@ def half_up(value: Decimal | Fraction | float) -> int:
     return math.floor(Fraction(value) + Fraction(1, 2))
 
 
+@lru_cache(maxsize=65_536)
 def scaled(text: str, factor: int, low: int, high: int) -> tuple[int, bool]:
     """A number times a factor, rounded half up and cut to its range; and whether it was cut."""
     value = decimal(text) * factor
@@ -43,7 +47,12 @@ def scaled(text: str, factor: int, low: int, high: int) -> tuple[int, bool]:
 
 def seconds(text: str | None) -> int | None:
     """A time HH:MM:SS, HH:MM or a number of seconds; None where it is undefined."""
-    if text is None or text.strip() in ("", "undefined", "-Infinity", "null"):
+    if text is None:
+        return None
+    match = _CLOCK.match(text)
+    if match is not None:
+        return int(match[1]) * 3600 + int(match[2]) * 60 + int(match[3])
+    if text.strip() in ("", "undefined", "-Infinity", "null"):
         return None
     negative = text.strip().startswith("-")
     parts = text.strip().lstrip("-").split(":")

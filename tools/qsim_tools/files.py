@@ -254,16 +254,16 @@ class Settings:
         for key in fields(self):
             value = getattr(self, key.name)
             if value != getattr(plain, key.name):
-                rows.append(f"{json.dumps(key.name)}: {json.dumps(_plain(value))}")
+                rows.append(f"{json.dumps(key.name)}: {json.dumps(plain_json(value))}")
         return "{\n " + ",\n ".join(rows) + "\n}\n" if rows else "{}\n"
 
 
-def _plain(value: Any) -> Any:
+def plain_json(value: Any) -> Any:
     """Turn modes and tables into what JSON has."""
     if isinstance(value, dict):
-        return {key: _plain(item) for key, item in value.items()}
+        return {key: plain_json(item) for key, item in value.items()}
     if isinstance(value, list):
-        return [_plain(item) for item in value]
+        return [plain_json(item) for item in value]
     if isinstance(value, Worth):
         return asdict(value)
     if isinstance(value, Table):
@@ -703,15 +703,22 @@ class Staged:
     def __init__(self, folder: Path) -> None:
         self.folder = folder
         self._parts: dict[Path, Path] = {}
+        self._made: list[Path] = []
 
     def __enter__(self) -> Staged:
-        self.folder.mkdir(parents=True, exist_ok=True)
         return self
+
+    def _make(self, folder: Path) -> None:
+        """Make a folder and remember it."""
+        if not folder.exists():
+            self._make(folder.parent)
+            folder.mkdir()
+            self._made.append(folder)
 
     def path(self, name: str) -> Path:
         """The temporary path of a file; it may have folders of its own."""
         final = self.folder / name
-        final.parent.mkdir(parents=True, exist_ok=True)
+        self._make(final.parent)
         part = final.with_name(f".{final.name}.{os.getpid()}.part")
         self._parts[final] = part
         return part
@@ -736,6 +743,8 @@ class Staged:
                 os.replace(part, final)
             else:
                 part.unlink(missing_ok=True)
+        for folder in reversed(self._made) if kind is not None else ():
+            folder.rmdir()
 
 
 def node_row(node: Node) -> tuple[object, ...]:

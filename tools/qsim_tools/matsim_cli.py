@@ -6,6 +6,7 @@ import argparse
 from pathlib import Path
 
 from qsim_tools import cli
+from qsim_tools.matsim_export import Export
 from qsim_tools.matsim_import import Import, Inputs
 
 
@@ -22,6 +23,13 @@ def _parser() -> argparse.ArgumentParser:
     importing.add_argument("--vehicles", type=Path, help="transit vehicles v1 or v2")
     whole = "keep the whole car network, not only its largest strongly connected part"
     importing.add_argument("--whole", action="store_true", help=whole)
+    exporting = commands.add_parser("export", help="a folder of qsim to MATSim's output folder")
+    exporting.add_argument("folder", type=cli.existing_folder, metavar="DIR")
+    exporting.add_argument("out", type=Path, metavar="OUT")
+    last = "events of the last iteration alone"
+    exporting.add_argument("--last-only", action="store_true", help=last)
+    kinds = "kind of activity that is one within a trip, as MATSim's 'pt interaction'"
+    exporting.add_argument("--interaction", action="append", default=[], metavar="KIND", help=kinds)
     return parser
 
 
@@ -29,7 +37,12 @@ def main() -> None:
     """Run the command."""
     parser = _parser()
     words = parser.parse_args()
-    _import(parser, words)
+    if words.command == "import":
+        _import(parser, words)
+        return
+    work = Export(words.folder, words.interaction)
+    work.run(words.out, words.last_only)
+    print(work.summary())
 
 
 def _import(parser: argparse.ArgumentParser, words: argparse.Namespace) -> None:

@@ -35,7 +35,16 @@ WEIGHTS = {
     "TimeAllocationMutator": "weight_time",
     "TimeAllocationMutator_ReRoute": "weight_time",
 }
-OWN = ("dwell_open", "stuck", "hole_speed", "seed", "innovation_last", "tables")
+OWN = (
+    "dwell_open",
+    "dwell_alight",
+    "dwell_board",
+    "stuck",
+    "hole_speed",
+    "seed",
+    "innovation_last",
+    "tables",
+)
 
 
 @dataclass(slots=True)

@@ -100,3 +100,13 @@ class Back:
     def id(self, kind: str, name: str) -> str:
         """The id of a name."""
         return self._ids[kind].get(name, name)
+
+    def within_trips(self, kinds: Iterable[str]) -> None:
+        """Let kinds of activities be MATSim's activities within trips."""
+        for kind in kinds:
+            if not self.is_within_trip(kind):
+                self._ids["kind"][kind] = f"{self.id('kind', kind)} interaction"
+
+    def is_within_trip(self, kind: str) -> bool:
+        """Whether a kind is one of MATSim's activities within trips."""
+        return self.id("kind", kind).endswith((" interaction", ".interaction", "_interaction"))

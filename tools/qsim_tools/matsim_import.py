@@ -49,6 +49,9 @@ class Import:
         self.inputs, self.whole = inputs, whole
         self.losses, self.ids = Losses(), Ids()
         self.config = with_config(inputs)
+        self.crs = None
+        if self.config is not None:
+            self.crs = self.config.module("global").text("coordinateSystem")
         self.counts: dict[str, int] = {}
 
     def run(self, folder: Path) -> None:
@@ -125,9 +128,7 @@ class Import:
 
     def _rest(self, staged: Staged, raw: RawNetwork) -> None:
         """Write ids.csv, crs.txt and import.csv."""
-        crs = raw.crs
-        if crs is None and self.config is not None:
-            crs = self.config.module("global").text("coordinateSystem")
+        crs = raw.crs or self.crs
         if crs and crs != "Atlantis":
             staged.write("crs.txt", crs.strip() + "\n")
         for kind in ("node", "link", "stop", "line", "route", "departure", "kind"):

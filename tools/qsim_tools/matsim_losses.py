@@ -16,7 +16,7 @@ class Losses:
 
     def note(self, what: str, example: str, count: int = 1) -> None:
         """Count something; a count of 0 is not listed."""
-        if count:
+        if count > 0:
             self._counts[what] = self._counts.get(what, 0) + count
             self._examples.setdefault(what, example)
 

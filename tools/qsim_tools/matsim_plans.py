@@ -68,6 +68,7 @@ class RawLeg:
     seconds: int | None
     kind: str
     route: str
+    element: Xml = None
 
 
 class Population:
@@ -230,7 +231,7 @@ class Population:
         if own not in ("car", "pt", *TELEPORTED):
             own = "car" if kind == "links" and body else "ride"
             self.losses.note(f"leg of mode {mode} becomes {own}", "")
-        return RawLeg(own, lasts, kind, body)
+        return RawLeg(own, lasts, kind, body, leg)
 
     def _elements(
         self, acts: list[Xml], kinds: list[str], links: list[str], legs: list[RawLeg]
@@ -248,7 +249,7 @@ class Population:
             if legs[place].mode == "pt":
                 added, links[place + 1] = self._transit(plan, legs[place], kinds[place + 1], there)
             elif legs[place].mode == "car":
-                added = [self._car(legs[place], acts[place], links[place], there)]
+                added = [self._car(legs[place], links[place], there)]
             else:
                 added = [self._teleported(legs[place], links[place], there)]
             plan.extend(added)
@@ -298,15 +299,15 @@ class Population:
             lasts = min(max(lasts, 1), Limits.SECOND)
         return Leg(leg.mode, lasts, ())
 
-    def _car(self, leg: RawLeg, act: Xml, start: str, end: str) -> Leg:
+    def _car(self, leg: RawLeg, start: str, end: str) -> Leg:
         """A car leg with its route where the network has it, and otherwise without one."""
         texts = [] if self._nodes_routes or leg.kind != "links" else leg.route.split()
         route = tuple(filter(None, map(self.links.get, texts)))
         if len(route) < len(texts):
             for text in texts:
                 if text not in self.raw.links:
-                    raise fault(self.path, act, f"route of the next leg: there is no link {text}")
-            self.losses.note("car route over links that are not kept emptied", act.get("type"))
+                    raise fault(self.path, leg.element, f"there is no link {text}")
+            self.losses.note("car route over links that are not kept emptied", start)
             return Leg("car", None, ())
         if not route:
             return Leg("car", None, ())

@@ -4,12 +4,15 @@ from __future__ import annotations
 
 from dataclasses import dataclass, field
 from pathlib import Path
+from typing import TypeVar
 
 from qsim_tools.files import Call, Departure, FileFault, Limits, Network, Route, Schedule, Stop
 from qsim_tools.matsim_ids import Ids
 from qsim_tools.matsim_losses import Losses
 from qsim_tools.matsim_units import decimal, half_up, seconds
 from qsim_tools.matsim_xml import Xml, local, needed, root_of, taken
+
+T = TypeVar("T")
 
 
 @dataclass(slots=True)
@@ -29,6 +32,7 @@ class RawSchedule:
 
     stops: dict[str, str] = field(default_factory=dict)
     routes: list[RawRoute] = field(default_factory=list)
+    orders: dict[str, list[str]] = field(default_factory=dict)
 
     def links(self) -> set[str]:
         """The links that routes use."""
@@ -60,6 +64,8 @@ def read_schedule_xml(path: Path, losses: Losses) -> RawSchedule:
     for line in root.iter("transitLine"):
         for route in line.iter("transitRoute"):
             schedule.routes.append(_route(path, needed(path, line, "id"), route))
+    for row in root.iterfind("attributes/attribute"):
+        schedule.orders[row.get("name", "")] = (row.text or "").split()
     losses.note("minimal transfer time dropped", "", len(list(root.iter("relation"))))
     return schedule
 
@@ -222,4 +228,14 @@ def named_schedule(
     builder = _Builder(network, ids, losses)
     builder.stops(raw)
     builder.routes(raw, vehicles)
-    return builder.schedule
+    schedule = builder.schedule
+    schedule.routes = _ordered(schedule.routes, raw.orders.get("qsimRoutes"))
+    schedule.departures = _ordered(schedule.departures, raw.orders.get("qsimDepartures"))
+    return schedule
+
+
+def _ordered(rows: dict[str, T], order: list[str] | None) -> dict[str, T]:
+    """Rows in the order that an export noted, where it noted that of just these rows."""
+    if order is None or sorted(order) != sorted(rows):
+        return rows
+    return {name: rows[name] for name in order}

@@ -198,10 +198,9 @@ class Plans:
             if isinstance(item, Leg):
                 trip.append(place)
             elif trip and not self.back.is_within_trip(item.kind):
-                mode = main_mode([leg.mode for leg in (plan[k] for k in trip) if isinstance(leg, Leg)])
+                mode = main_mode([plan[k].mode for k in trip])  # type: ignore[union-attr]
                 modes.update((k, mode) for k in trip)
                 trip = []
-        modes.update((k, "") for k in trip)
         return modes
 
     def _route(self, leg: Leg, start: str, end: str) -> str:

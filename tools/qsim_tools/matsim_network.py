@@ -53,7 +53,7 @@ def read_network_xml(path: Path, losses: Losses) -> RawNetwork:
         found = True
         if element.tag == "links":
             text = element.get("capperiod", "01:00:00")
-            period = taken(path, element, lambda text=text: seconds(text)) or 0  # type: ignore[misc]
+            period = taken(path, element, seconds, text) or 0
             if period <= 0:
                 raise fault(path, element, f"capperiod {text!r} is no period")
         elif element.tag == "node":
@@ -74,8 +74,7 @@ def _take_node(path: Path, element: Xml, network: RawNetwork) -> None:
         raise fault(path, element, f"node {name} is there twice")
     place = []
     for axis in "xy":
-        text = needed(path, element, axis)
-        value = taken(path, element, lambda text=text: decimal(text) * 100)  # type: ignore[misc]
+        value = taken(path, element, decimal, needed(path, element, axis)) * 100
         if not abs(value) <= Limits.COORDINATE:
             raise fault(path, element, f"{axis} of node {name} is beyond 10,000 km")
         place.append(half_up(value))
@@ -96,10 +95,10 @@ def _take_link(
 
     def number(key: str, factor: int, high: int) -> int:
         text = needed(path, element, key)
-        value, cut = taken(path, element, lambda: scaled(text, factor, 1, high))
+        value, cut = taken(path, element, lambda text: scaled(text, factor, 1, high), text)
         if cut:
             losses.note(f"link {key} cut to the range 1 to {high}", f"{name}: {text}")
-        return int(value)
+        return value
 
     network.links[name] = RawLink(
         name,
@@ -116,7 +115,7 @@ def _take_link(
 def _capacity(path: Path, element: Xml, name: str, period: int, losses: Losses) -> int:
     """The capacity of an hour."""
     text = needed(path, element, "capacity")
-    value = taken(path, element, lambda: decimal(text))
+    value = taken(path, element, decimal, text)
     hourly = value * HOUR / Decimal(period)
     low = hourly < Decimal("0.5")
     if low or hourly > Limits.CAPACITY:

@@ -206,11 +206,8 @@ class Population:
     def _nearest(self, act: Xml, text: str | None) -> str:
         """The kept car link that is nearest to an activity."""
         if act.get("x") is not None and act.get("y") is not None:
-            x, y = (
-                float(taken(self.path, act, lambda axis=axis: decimal(act.get(axis))))  # type: ignore[misc]
-                for axis in "xy"
-            )
-            return self.places.nearest(x * 100, y * 100)
+            x, y = (float(taken(self.path, act, decimal, act.get(axis))) * 100 for axis in "xy")
+            return self.places.nearest(x, y)
         if text is None:
             raise Lost("an activity has neither a link nor coordinates")
         link = self.raw.links[text]
@@ -224,7 +221,7 @@ class Population:
         text = leg.get("trav_time")
         if text is None and route is not None:
             text = route.get("trav_time")
-        lasts = taken(self.path, leg, lambda: seconds(text))
+        lasts = taken(self.path, leg, seconds, text)
         kind = "" if route is None else route.get("type", "links")
         body = "" if route is None or route.text is None else route.text.strip()
         own = SAME.get(mode, mode)
@@ -259,10 +256,10 @@ class Population:
 
     def _end(self, act: Xml, now: int, last: bool) -> int | None:
         """The planned end of an activity that begins about now."""
-        end: int | None = taken(self.path, act, lambda: seconds(act.get("end_time")))
+        end = taken(self.path, act, seconds, act.get("end_time"))
         if end is None and not last:
             text = act.get("max_dur", act.get("dur"))
-            lasts = taken(self.path, act, lambda: seconds(text))
+            lasts = taken(self.path, act, seconds, text)
             if lasts is None:
                 raise Lost("an activity that is not the last one has no end")
             end = 0 if lasts == 0 else now + lasts

@@ -77,12 +77,12 @@ def _route(path: Path, line: str, element: Xml) -> RawRoute:
         route.links.append(needed(path, link, "refId"))
     for stop in element.iterfind("routeProfile/stop"):
         text = stop.get("departureOffset") or stop.get("arrivalOffset")
-        offset = taken(path, stop, lambda text=text: seconds(text)) or 0  # type: ignore[misc]
+        offset = taken(path, stop, seconds, text) or 0
         wait = stop.get("awaitDeparture", "false").lower() == "true"
         route.calls.append((needed(path, stop, "refId"), offset, wait))
     for departure in element.iterfind("departures/departure"):
         text = needed(path, departure, "departureTime")
-        second = taken(path, departure, lambda text=text: seconds(text))  # type: ignore[misc]
+        second = taken(path, departure, seconds, text)
         vehicle = departure.get("vehicleRefId")
         route.departures.append((needed(path, departure, "id"), second or 0, vehicle))
     return route
@@ -110,6 +110,11 @@ def read_vehicles_xml(path: Path) -> RawVehicles:
     return vehicles
 
 
+def whole(text: str) -> int:
+    """A number, rounded half up."""
+    return half_up(decimal(text))
+
+
 def _places(path: Path, element: Xml) -> int:
     """The seats and the standing room of a type."""
     total = 0
@@ -122,7 +127,7 @@ def _places(path: Path, element: Xml) -> int:
         else:
             continue
         for text in texts:
-            total += taken(path, part, lambda text=text: half_up(decimal(text)))  # type: ignore[misc]
+            total += taken(path, part, whole, text)
     return total
 
 
@@ -134,9 +139,9 @@ def _dwell(path: Path, element: Xml, kind: str, vehicles: RawVehicles) -> None:
         if text is None:
             continue
         if name in ("accessTime", "accessTimeInSecondsPerPerson"):
-            vehicles.board[kind] = taken(path, part, lambda text=text: half_up(decimal(text)))  # type: ignore[misc]
+            vehicles.board[kind] = taken(path, part, whole, text)
         elif name in ("egressTime", "egressTimeInSecondsPerPerson"):
-            vehicles.alight[kind] = taken(path, part, lambda text=text: half_up(decimal(text)))  # type: ignore[misc]
+            vehicles.alight[kind] = taken(path, part, whole, text)
 
 
 class _Builder:

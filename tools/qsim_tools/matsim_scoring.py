@@ -2,8 +2,8 @@
 
 An activity of typical duration `t` (hours) is worth `performing * t * ln(d / z)` after `d` hours,
 where `z` is its zero-utility duration: `t * exp(-1 / priority)` by the relative rule and
-`t * exp(-10 / (t * priority))` by the uniform one. Below `z` the line of that slope goes on. A table
-has the values of some durations, and the program draws straight lines between them.
+`t * exp(-10 / (t * priority))` by the uniform one. Below `z` the line of that slope goes on. A
+table has the values of some durations, and the program draws straight lines between them.
 """
 
 from __future__ import annotations

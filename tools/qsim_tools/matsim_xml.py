@@ -7,12 +7,14 @@ import re
 import zlib
 from collections.abc import Callable, Iterator
 from pathlib import Path
-from typing import IO, Any
+from typing import IO, Any, TypeVar
 
 from lxml import etree
 
 from qsim_tools.files import FileFault
 
+A = TypeVar("A")
+T = TypeVar("T")
 Xml = Any  # lxml has no types in Debian
 
 
@@ -94,10 +96,10 @@ def needed(path: Path, element: Xml, name: str) -> str:
     return str(value)
 
 
-def taken(path: Path, element: Xml, take: Callable[[], Any]) -> Any:
-    """What a function makes of an element; its ValueError becomes a fault of the element."""
+def taken(path: Path, element: Xml, take: Callable[[A], T], value: A) -> T:
+    """What a function makes of a value; its ValueError becomes a fault of the element."""
     try:
-        return take()
+        return take(value)
     except ValueError as error:
         raise fault(path, element, f"{local(element)}: {error}") from None
 

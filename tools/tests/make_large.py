@@ -7,6 +7,8 @@ import random
 from collections.abc import Iterator
 from pathlib import Path
 
+STEPS = {"e": (0, 1), "w": (0, -1), "s": (1, 0), "n": (-1, 0)}
+
 
 def network(size: int) -> Iterator[str]:
     """A grid of size by size nodes, 200 m apart, with links both ways."""
@@ -20,7 +22,7 @@ def network(size: int) -> Iterator[str]:
     rest = 'freespeed="13.888888888888889" capacity="1800.0" permlanes="1.0" modes="car"'
     for row in range(size):
         for column in range(size):
-            for name, (down, right) in {"e": (0, 1), "w": (0, -1), "s": (1, 0), "n": (-1, 0)}.items():
+            for name, (down, right) in STEPS.items():
                 if 0 <= row + down < size and 0 <= column + right < size:
                     ends = f'from="{row}_{column}" to="{row + down}_{column + right}"'
                     link = f'id="{name}{row}_{column}" {ends} length="200.25"'

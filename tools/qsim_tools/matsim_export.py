@@ -352,8 +352,7 @@ class Export:
     def summary(self) -> str:
         """What was written, and what was lost."""
         head = ", ".join(f"{count:,} {what}" for what, count in self.counts.items())
-        rest = self.losses.summary()
-        return f"written: {head}\nlost or changed:\n{rest}" if rest else f"written: {head}"
+        return self.losses.report(f"written: {head}")
 
 
 def _same(source: Path, target: Path) -> None:

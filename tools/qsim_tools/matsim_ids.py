@@ -59,8 +59,9 @@ class Names:
         """Each name with its id, where they differ or not."""
         return iter(self._ids.items())
 
-    def __len__(self) -> int:
-        return len(self._ids)
+    def id_of(self, name: str) -> str:
+        """The id of a name."""
+        return self._ids[name]
 
     def changed(self) -> list[tuple[str, str]]:
         """The names that are not their ids."""

@@ -35,3 +35,7 @@ class Losses:
         for what, count, example in self.rows():
             lines.append(f"{count:>9,}  {what}" + (f" (as {example})" if example else ""))
         return "\n".join(lines)
+
+    def report(self, head: str) -> str:
+        """A first line, and below it what was lost or changed, if anything was."""
+        return f"{head}\nlost or changed:\n{self.summary()}" if self._counts else head

@@ -168,7 +168,7 @@ def make(words: argparse.Namespace, day: date, types: set[int] | None) -> str:
         crs = (folder / "crs.txt").read_text(encoding="utf-8").strip()
     network = read_network(folder)
     feed = read_feed(words.feed, day, losses)
-    matcher = Matcher(network, words.within, words.left)
+    matcher = Matcher(network, words.within, words.left, words.worth)
     table = Timetable(feed, matcher, words.seats, losses)
     table.project(crs)
     for pattern in progress(patterns_of(feed, types, losses), "patterns"):
@@ -215,6 +215,8 @@ def main() -> None:
     far = "how far a stop may be from its link, in m"
     parser.add_argument("--within", type=float, default=250.0, help=far)
     parser.add_argument("--left", action="store_true", help="traffic keeps to the left")
+    worth = "how many seconds on the way a metre between stop and link is worth"
+    parser.add_argument("--worth", type=float, default=1.0, help=worth)
     words = parser.parse_args()
     if not 1 <= words.seats <= Limits.SEATS:
         parser.error(f"--seats is none of 1 to {Limits.SEATS}")

@@ -1,9 +1,10 @@
 """Ways of buses along the links, from the places of their stops and their shapes.
 
 Each stop has some near links. Of all choices of one link for each stop, that one is taken for which
-the sum of the ways between them (seconds at free speed, five times as much off the shape where there
-is one) and of the penalties of the links is least. A link's penalty is a second for each metre to
-the stop, and 20 more where the stop is on the wrong side of it.
+the sum of the ways between them and of the penalties of the links is least. A way counts its seconds
+at free speed, twenty times as much off the shape where there is one. A link that is `m` metres away
+has a penalty of `m + m * m / 50` seconds, times what a metre is worth (1 where nothing else is asked
+for); it counts as 20 m farther away where the stop is on the wrong side of it.
 """
 
 from __future__ import annotations
@@ -21,9 +22,9 @@ from qsim_tools.files import Network
 Place = tuple[float, float]
 NEAR = 6
 WRONG_SIDE = 20.0
-OFF_SHAPE = 5.0
-SHAPE_METRES = 25.0
-TOO_FAR = 3600.0
+OFF_SHAPE = 20.0
+SHAPE_METRES = 20.0
+TOO_FAR = 72_000.0
 
 
 @dataclass(slots=True)
@@ -37,8 +38,9 @@ class Candidate:
 class Matcher:
     """Finds links near stops and ways between them."""
 
-    def __init__(self, network: Network, within: float, left: bool) -> None:
-        self.network, self.within, self.side = network, within, -1.0 if left else 1.0
+    def __init__(self, network: Network, within: float, left: bool, worth: float = 1.0) -> None:
+        self.network, self.within, self.worth = network, within, worth
+        self.side = -1.0 if left else 1.0
         self.names = list(network.links)
         self.ends: dict[str, tuple[Place, Place]] = {}
         self.out: dict[str, list[tuple[str, str, float]]] = {}
@@ -66,28 +68,35 @@ class Matcher:
         for number in sorted({self._owners[spot] for spot in spots}):
             name = self.names[number]
             start, end = self.ends[name]
-            metres = Point(place).distance(LineString([start, end]) if start != end else Point(start))
+            shape = LineString([start, end]) if start != end else Point(start)
+            metres = Point(place).distance(shape)
             if metres > self.within:
                 continue
             across = (end[0] - start[0]) * (place[1] - start[1])
             across -= (end[1] - start[1]) * (place[0] - start[0])
             wrong = WRONG_SIDE if across * self.side > 0 else 0.0
-            found.append(Candidate(name, metres + wrong))
+            away = metres + wrong
+            found.append(Candidate(name, (away + away * away / 50) * self.worth))
         found.sort(key=lambda row: row.penalty)
         return found[:NEAR]
 
     def on_shape(self, shape: list[Place]) -> set[str]:
-        """The links whose ends are both near a shape."""
+        """The links whose ends and middle are near a shape."""
         line = LineString(shape)
         low_x, low_y, high_x, high_y = line.bounds
         nodes = set()
-        for name, row in self.network.nodes.items():
-            x, y = row.x / 100, row.y / 100
+        for name, node in self.network.nodes.items():
+            x, y = node.x / 100, node.y / 100
             if low_x - 30 < x < high_x + 30 and low_y - 30 < y < high_y + 30:
                 if line.distance(Point(x, y)) <= SHAPE_METRES:
                     nodes.add(name)
-        links = self.network.links
-        return {name for name in self.names if {links[name].start, links[name].end} <= nodes}
+        found = set()
+        for name, (start, end) in self.ends.items():
+            row = self.network.links[name]
+            middle = Point((start[0] + end[0]) / 2, (start[1] + end[1]) / 2)
+            if row.start in nodes and row.end in nodes and line.distance(middle) <= SHAPE_METRES:
+                found.add(name)
+        return found
 
     def way(
         self, stops: list[list[Candidate]], shape: set[str] | None

@@ -599,6 +599,7 @@ def read_events(path: Path) -> Iterator[tuple[int, Iterator[Event]]]:
     ahead: list[int] = []
 
     def day() -> Iterator[Event]:
+        """The events up to the next line of an iteration."""
         for number, values in records:
             if len(values) == 6:
                 try:

@@ -159,7 +159,7 @@ def _old_ids(path: Path) -> list[tuple[str, str, str]]:
 
 
 def make(words: argparse.Namespace, day: date, types: set[int] | None) -> str:
-    """Make stops.csv, routes.csv, departures.csv and gtfs.csv; a summary comes back."""
+    """Make stops.csv, routes.csv, departures.csv and gtfs.csv; return a summary."""
     folder, losses = words.folder, Losses()
     crs = words.crs
     if crs is None:

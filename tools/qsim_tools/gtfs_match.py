@@ -1,10 +1,10 @@
 """Ways of buses along the links, from the places of their stops and their shapes.
 
-Each stop has some near links. Of all choices of one link for each stop, that one is taken for which
-the sum of the ways between them and of the penalties of the links is least. A way counts its seconds
-at free speed, twenty times as much off the shape where there is one. A link that is `m` metres away
-has a penalty of `m + m * m / 50` seconds, times what a metre is worth (1 where nothing else is asked
-for); it counts as 20 m farther away where the stop is on the wrong side of it.
+Each stop has some links nearby. Of all choices of one link for each stop, the matcher takes the one
+with the least sum of the ways between the links and of the penalties of the links. A way counts its
+seconds at free speed, and twenty times as much off the shape where there is one. A link that is `m`
+metres away has a penalty of `m + m * m / 50` seconds, times what a metre is worth (1 by default). It
+counts as 20 m farther away where the stop is on the wrong side of it.
 """
 
 from __future__ import annotations

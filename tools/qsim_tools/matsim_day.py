@@ -144,42 +144,52 @@ class Watch:
         return self.persons
 
     def _leg(self, row: list[str]) -> LegSeen:
+        """The leg that a person is on."""
         return self.persons[row[2]].legs[-1]
 
     def _actend(self, row: list[str]) -> None:
+        """The first activity of a person shows its kind."""
         if row[2] not in self.persons:
             self.persons[row[2]] = Seen(row[5])
 
     def _departure(self, row: list[str]) -> None:
+        """A leg begins."""
         leg = LegSeen(row[5], int(row[0]), row[4])
         self.persons.setdefault(row[2], Seen()).legs.append(leg)
 
     def _enters(self, row: list[str]) -> None:
+        """A driver or a passenger gets in."""
         leg = self._leg(row)
         leg.boarded, leg.vehicle = int(row[0]), row[3]
         self._boarded[row[2]] = self._driven.get(row[3], 0.0)
 
     def _leaves(self, row: list[str]) -> None:
+        """A driver or a passenger gets out."""
         leg = self._leg(row)
         leg.metres = self._driven.get(row[3], 0.0) - self._boarded.pop(row[2], 0.0)
         leg.egress = self._stop.get(row[3], "") if row[3].startswith("pt:") else ""
 
     def _waits(self, row: list[str]) -> None:
+        """A passenger waits at a stop."""
         self._leg(row).access = row[5]
 
     def _stops(self, row: list[str]) -> None:
+        """A vehicle is at a stop."""
         self._stop[row[3]] = row[5]
 
     def _arrival(self, row: list[str]) -> None:
+        """A leg ends; a teleported one is as long as the beeline times a factor."""
         leg = self._leg(row)
         leg.end, leg.end_link = int(row[0]), row[4]
         if leg.vehicle == "":
             leg.metres = self.distance(leg.start_link, leg.end_link) * FACTOR
 
     def _actstart(self, row: list[str]) -> None:
+        """An activity begins."""
         self._leg(row).kind = row[5]
 
     def _stuck(self, row: list[str]) -> None:
+        """A person is stuck."""
         self._leg(row).stuck = True
 
 

@@ -302,6 +302,7 @@ class Export:
         plans = Plans(self.schedule, watch, self.back)
 
         def seen() -> Iterator[Person]:
+            """The persons, counted on the way."""
             for person in progress(read_plans(path, self.network.links), "plans"):
                 self.counts["persons"] = self.counts.get("persons", 0) + 1
                 for plan in person.plans:

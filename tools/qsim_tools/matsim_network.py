@@ -94,6 +94,7 @@ def _take_link(
     modes = [mode.strip() for mode in element.get("modes", "car").split(",")]
 
     def number(key: str, factor: int, high: int) -> int:
+        """A value of the link, scaled and cut to its range."""
         text = needed(path, element, key)
         value, cut = taken(path, element, lambda text: scaled(text, factor, 1, high), text)
         if cut:

@@ -122,6 +122,7 @@ def _scoring(settings: Settings, back: Back, kinds: set[str]) -> Iterator[str]:
     }
 
     def sets() -> Iterator[str]:
+        """The activities and modes."""
         tables = {table.kind: table for table in settings.tables}
         rest = [kind for kind in sorted(kinds) if kind not in tables]
         for kind in [*tables, *(kind for kind in rest if not back.is_within_trip(kind))]:
@@ -151,6 +152,7 @@ def _strategy(settings: Settings) -> Iterator[str]:
         rows["fractionOfIterationsToDisableInnovation"] = plain(round(share, 6))
 
     def sets() -> Iterator[str]:
+        """The strategies with a weight."""
         for key, name in STRATEGIES.items():
             weight = getattr(settings, key)
             if weight or key == "weight_keep":

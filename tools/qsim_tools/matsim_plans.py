@@ -16,12 +16,13 @@ from qsim_tools.matsim_ids import Ids
 from qsim_tools.matsim_losses import Losses
 from qsim_tools.matsim_network import Places, RawNetwork
 from qsim_tools.matsim_units import decimal, half_up, seconds
-from qsim_tools.matsim_xml import Xml, elements, fault, local, needed, scan_ids, taken
+from qsim_tools.matsim_xml import Xml, elements, fault, needed, scan_ids, taken
 
 WALKS = ("walk", "transit_walk", "access_walk", "egress_walk", "non_network_walk")
 SAME = {"bicycle": "bike", **{walk: "walk" for walk in WALKS}}
 INTERACTION = " interaction"
 PT_INTERACTION = "pt interaction"
+ELEMENTS = ("act", "activity", "leg")
 
 
 class Lost(Exception):
@@ -125,16 +126,16 @@ class Population:
 
     def _person(self, text: str, element: Xml) -> Person | None:
         """A person, or None where no plan of his fits or he is beyond the limit."""
-        plans = element.findall("plan")
+        plans = [child for child in element if child.tag == "plan"]
         if not plans:
             self.losses.note("person without a plan lost", text)
             return None
         if self.persons == Limits.PERSONS:
             self.losses.note(f"person beyond the limit of {Limits.PERSONS} lost", text)
             return None
-        if element.find("attributes/attribute") is not None:
+        if any(len(child) for child in element if child.tag == "attributes"):
             self.losses.note("attributes of a person dropped", text)
-        plans.sort(key=lambda plan: plan.get("selected", "no") != "yes")
+        plans.sort(key=lambda plan: bool(plan.get("selected", "no") != "yes"))
         kept: list[list[Element]] = []
         for place, plan in enumerate(plans):
             if len(kept) == Limits.PLANS:
@@ -171,11 +172,11 @@ class Population:
 
     def _plan(self, element: Xml) -> list[Element]:
         """A plan; activities still have MATSim's types."""
-        parts = [part for part in element if local(part) in ("act", "activity", "leg")]
+        parts = [part for part in element if part.tag in ELEMENTS]
         acts, legs = parts[0::2], parts[1::2]
-        if not parts or any(local(part) == "leg" for part in acts):
+        if not parts or any(part.tag == "leg" for part in acts):
             raise fault(self.path, element, "a plan does not begin with an activity")
-        if len(parts) % 2 == 0 or any(local(part) != "leg" for part in legs):
+        if len(parts) % 2 == 0 or any(part.tag != "leg" for part in legs):
             raise fault(self.path, element, "activities and legs do not alternate")
         kinds = [needed(self.path, act, "type") for act in acts]
         links = [self._link(act) for act in acts]
@@ -217,7 +218,7 @@ class Population:
     def _raw_leg(self, leg: Xml) -> RawLeg:
         """A leg; its mode is one of the program's."""
         mode = needed(self.path, leg, "mode")
-        route = leg.find("route")
+        route = next((child for child in leg if child.tag == "route"), None)
         text = leg.get("trav_time")
         if text is None and route is not None:
             text = route.get("trav_time")

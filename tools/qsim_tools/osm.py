@@ -1,8 +1,8 @@
 """A first network from OpenStreetMap, through netconvert of SUMO.
 
-netconvert reads the roads, joins the nodes of a junction, and writes a network of MATSim; the import
-of that file does the rest. Capacities are those of MATSim's OSM reader by the type of road, as
-netconvert writes 1,800 vehicles an hour and lane everywhere.
+netconvert reads the roads, joins the nodes of each junction, and writes a network of MATSim. The
+import of that file does the rest. Capacities are those of MATSim's OSM reader by the type of road,
+because netconvert writes 1,800 vehicles an hour and lane everywhere.
 """
 
 from __future__ import annotations
@@ -99,7 +99,7 @@ def types_of(sumo: Path) -> dict[str, str]:
 
 
 def make(source: Path, out: Path, netconvert_capacities: bool) -> str:
-    """Make nodes.csv, links.csv, ids.csv, crs.txt, types.csv and import.csv; a summary comes back."""
+    """Make nodes.csv, links.csv, ids.csv, crs.txt, types.csv and import.csv; return a summary."""
     losses, ids = Losses(), Ids()
     with tempfile.TemporaryDirectory() as name:
         matsim, sumo = converted(source, Path(name))

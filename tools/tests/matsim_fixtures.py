@@ -35,6 +35,7 @@ def tool(capsys: pytest.CaptureFixture[str], monkeypatch: pytest.MonkeyPatch) ->
     """Run a command of tools within this process; its status, output and errors come back."""
 
     def run(name: str, *words: object) -> Done:
+        """Run a command."""
         capsys.readouterr()
         monkeypatch.setattr(sys, "argv", [name, *map(str, words)])
         status = 0
@@ -56,6 +57,7 @@ def program() -> Program:
         pytest.skip("$QSIM does not name the program qsim")
 
     def run(folder: Path, command: str) -> str:
+        """Run the program."""
         done = subprocess.run([path, command], cwd=folder, capture_output=True, text=True)
         assert done.returncode == 0, done.stdout + done.stderr
         return done.stdout

@@ -1,4 +1,4 @@
-"""GTFS: a small feed on a street, against a timetable made by hand; and feeds made of timetables."""
+"""GTFS: a small feed against a timetable made by hand, and feeds made of random timetables."""
 
 from __future__ import annotations
 
@@ -195,9 +195,9 @@ def test_feed_of_a_timetable_comes_back(seed: int, tool: Run, tmp_path: Path) ->
 
 FAULTS: dict[str, tuple[dict[str, str | None], str]] = {
     "no table": ({"trips": None}, "there is no trips.txt"),
-    "no column": ({"stop_times": "trip_id,stop_id\n"}, "stop_times.txt: line 1: there is no column"),
+    "no column": ({"stop_times": "trip_id,stop_id\n"}, "stop_times.txt: line 1: there is no"),
     "no number": ({"routes": FEED["routes.txt"].replace(",3", ",bus")}, "routes.txt: line 2"),
-    "no stop": ({"stop_times": FEED["stop_times.txt"].replace("E2", "E9")}, "stop_times.txt: line 4"),
+    "no stop": ({"stop_times": FEED["stop_times.txt"].replace("E2", "E9")}, "times.txt: line 4"),
     "no time": ({"stop_times": FEED["stop_times.txt"].replace("8:04:00", "8.04")}, "line 2"),
     "no route": ({"trips": FEED["trips.txt"].replace("metro", "tube")}, "trips.txt: line 7"),
     "no calendar": ({"calendar": None, "calendar_dates": None}, "there is no calendar_dates.txt"),

@@ -1,4 +1,4 @@
-"""The export of runs: MATSim's files are valid, say what the run says, and come back as they were."""
+"""The export of runs: valid files that say what the run says and come back as they were."""
 
 from __future__ import annotations
 
@@ -19,8 +19,8 @@ __all__ = ["example", "program", "tool"]
 DTD = Path(__file__).parent / "dtd"
 FILES = ("nodes", "links", "stops", "routes", "departures")
 
-# The morning at the bridge (100 permille of 3,600,000 units, 36 s between two cars on the bridge) by
-# two persons of a smaller town: a walk of 600 s, and a bus that leaves its stop 10 s after 7:00.
+# A town of two links: one person drives, the other one walks to a stop and takes a bus that is to
+# leave it 10 s after 7:00. The events are written by hand.
 TOWN = {
     "nodes.csv": "node,x,y\na,0,0\nb,30000,0\nc,30000,40000\n",
     "links.csv": "link,from,to,length,speed,capacity,lanes\n"

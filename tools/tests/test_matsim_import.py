@@ -12,7 +12,7 @@ from pathlib import Path
 import pytest
 from matsim_fixtures import TOOLS, Program, Run, program, tool
 
-from qsim_tools.files import read_settings
+from qsim_tools.files import Limits, Worth, read_settings
 from qsim_tools.matsim_ids import Names
 from qsim_tools.matsim_scoring import points_of, zero_duration
 from qsim_tools.matsim_units import scaled, seconds
@@ -98,8 +98,9 @@ LOST = {
 
 
 @pytest.fixture
-def imported(tool: Run, tmp_path: Path) -> Path:
-    """The folder of the imported scenario."""
+def imported(tool: Run, tmp_path: Path, monkeypatch: pytest.MonkeyPatch) -> Path:
+    """The folder of the scenario, imported as if a plan could have eight legs."""
+    monkeypatch.setattr(Limits, "LEGS", 8)
     done = tool("qsim-matsim", "import", DATA / "config.xml", tmp_path / "town")
     assert done.returncode == 0, done.stderr
     assert done.stdout.startswith("written: 6 nodes, 6 links, 4 persons, 2 stops, 2 routes")
@@ -187,6 +188,42 @@ def test_program_takes_it(imported: Path, program: Program) -> None:
     assert program(imported, "check") == "valid,6,6,4,2,2,3\n"
 
 
+def _values(module: str, values: dict[str, object]) -> str:
+    """A module of a config."""
+    rows = [f'<param name="{key}" value="{value}"/>' for key, value in values.items()]
+    return f'<module name="{module}">{"".join(rows)}</module>'
+
+
+def test_old_config(tool: Run, tmp_path: Path) -> None:
+    """A config without parametersets: numbered strategies and activities, one value by mode."""
+    strategy = {"Module_1": "ReRoute", "ModuleProbability_1": 0.1}
+    strategy |= {"Module_2": "org.matsim.core.SelectExpBeta", "ModuleProbability_2": 0.9}
+    scoring: dict[str, object] = {"traveling": -4.5, "travelingWalk": -9, "constantCar": 1}
+    scoring |= {"lateArrival": -36, "performing": 6, "BrainExpBeta": 1}
+    scoring |= {"activityType_0": "work", "activityTypicalDuration_0": "08:00:00"}
+    scoring |= {"activityLatestStartTime_0": "09:30:00"}
+    scoring |= {"activityType_1": "home", "activityTypicalDuration_1": "12:00:00"}
+    parts = [
+        _values("network", {"inputNetworkFile": DATA / "network.xml"}),
+        _values("plans", {"inputPlansFile": DATA / "plans.xml"}),
+        _values("controler", {"lastIteration": 20}),
+        _values("strategy", strategy),
+        _values("planCalcScore", scoring),
+    ]
+    (tmp_path / "config.xml").write_text(f"<config>{''.join(parts)}</config>")
+    done = tool("qsim-matsim", "import", tmp_path / "config.xml", tmp_path / "town")
+    assert done.returncode == 0, done.stderr
+    settings = read_settings(tmp_path / "town" / "settings.json")
+    assert (settings.weight_keep, settings.weight_reroute, settings.weight_logit) == (0, 1, 9)
+    assert (settings.late_per_second, settings.stuck) == (-10_000, -36 * 24 * 1_000_000)
+    assert settings.modes["car"] == Worth(1_000_000, -1_250)
+    assert settings.modes["walk"] == Worth(0, -2_500)
+    assert settings.logit_unit == 693_147  # ln 2
+    tables = {table.kind: table for table in settings.tables}
+    assert set(tables) == {"work", "home"} and tables["work"].latest == 34_200
+    assert settings.seed == 4711 and settings.innovation_last == 1000
+
+
 def test_numbers_and_times() -> None:
     """Half up, exactly, and every form of a time."""
     assert scaled("0.125", 100, 1, 99) == (13, False)
@@ -215,6 +252,7 @@ def test_names_never_meet() -> None:
 
 
 def _zip(path: Path, cut: int | None = None) -> bytes:
+    """A file in gz, perhaps cut off."""
     data = gzip.compress(path.read_bytes())
     return data if cut is None else data[:cut]
 
@@ -277,6 +315,25 @@ def test_gz_is_the_same(tool: Run, tmp_path: Path) -> None:
     assert names == sorted(path.name for path in (tmp_path / "gz").iterdir())
     for name in names:
         assert (tmp_path / "plain" / name).read_bytes() == (tmp_path / "gz" / name).read_bytes()
+
+
+def test_too_many_legs(tool: Run, tmp_path: Path) -> None:
+    """A plan whose legs do not fit is lost, and the person with it."""
+    day = '<activity type="h" link="ab" end_time="06:00"/><leg mode="walk" trav_time="00:01"/>'
+    plans = ""
+    for name, legs in (("fits", Limits.LEGS), ("lost", Limits.LEGS + 1)):
+        plan = f'{day * legs}<activity type="h" link="ab"/>'
+        plans += f'<person id="{name}"><plan selected="yes">{plan}</plan></person>'
+    (tmp_path / "plans.xml").write_text(f"<population>{plans}</population>")
+    words = ["--network", DATA / "network.xml", "--plans", tmp_path / "plans.xml"]
+    done = tool("qsim-matsim", "import", *words, tmp_path / "town")
+    assert done.returncode == 0, done.stderr
+    rows = (tmp_path / "town" / "plans.csv").read_text().splitlines()[1:]
+    assert {row.split(",")[0] for row in rows} == {"fits"}
+    assert len(rows) == 2 * Limits.LEGS + 1
+    lost = (tmp_path / "town" / "import.csv").read_text()
+    assert f"plan lost: more than {Limits.LEGS} legs,1,lost" in lost
+    assert "person lost: no plan fits,1,lost" in lost
 
 
 def test_command_by_itself(tmp_path: Path) -> None:

@@ -3,8 +3,8 @@
 Each stop has some links nearby. Of all choices of one link for each stop, the matcher takes the one
 with the least sum of the ways between the links and of the penalties of the links. A way counts its
 seconds at free speed, and twenty times as much off the shape where there is one. A link that is `m`
-metres away has a penalty of `m + m * m / 50` seconds, times what a metre is worth (1 by default). It
-counts as 20 m farther away where the stop is on the wrong side of it.
+metres away has a penalty of `m + m * m / 50` seconds, times what a metre is worth (1 by default).
+It counts as 20 m farther away where the stop is on the wrong side of it.
 """
 
 from __future__ import annotations

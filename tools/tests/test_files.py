@@ -67,8 +67,8 @@ def test_faults_name_file_and_row(name: str, tmp_path: Path) -> None:
 def test_events_by_iteration(tmp_path: Path) -> None:
     """Each iteration has its own events, also one that was not read to its end."""
     path = tmp_path / "events.csv"
-    events = "5,actend,p,,l,home\n6,departure,p,,l,car\n"
-    path.write_text(f"iteration,0\n{events}iteration,1\niteration,2\n")
+    lines = "5,actend,p,,l,home\n6,departure,p,,l,car\n"
+    path.write_text(f"iteration,0\n{lines}iteration,1\niteration,2\n")
     found = []
     for number, events in files.read_events(path):
         first = next(events, None)

@@ -201,7 +201,8 @@ def test_order_comes_back(tool: Run, tmp_path: Path) -> None:
     rows = ["b,r1,one,s1:0", "a,r2,one,s1:0", "b,r3,one,s1:0"]
     (folder / "routes.csv").write_text("line,route,links,stops\n" + "\n".join(rows) + "\n")
     rows = ["1,r3,5,9", "2,r1,7,9", "3,r3,1,8"]
-    (folder / "departures.csv").write_text("departure,route,second,seats\n" + "\n".join(rows) + "\n")
+    text = "\n".join(["departure,route,second,seats", *rows, ""])
+    (folder / "departures.csv").write_text(text)
     (folder / "plans.csv").write_text(TOWN["plans.csv"].split("bus,0")[0])
     (folder / "events.csv").unlink()
     tool("qsim-matsim", "export", folder, tmp_path / "out")
@@ -222,9 +223,8 @@ def test_run_of_the_example(tool: Run, example: Path, program: Program, tmp_path
     done = tool("qsim-matsim", "export", example, tmp_path / "out")
     assert done.returncode == 0, done.stderr
     all_valid(tmp_path / "out")
-    done = tool(
-        "qsim-matsim", "import", "--whole", tmp_path / "out" / "output_config.xml", tmp_path / "back"
-    )
+    config = tmp_path / "out" / "output_config.xml"
+    done = tool("qsim-matsim", "import", "--whole", config, tmp_path / "back")
     assert done.returncode == 0, done.stderr
     for name in FILES:
         path = f"{name}.csv"
@@ -262,7 +262,9 @@ SETTINGS = [
 
 
 @pytest.mark.parametrize("given", SETTINGS, ids=lambda given: "-".join(given) or "none")
-def test_settings_come_back(given: dict[str, object], tool: Run, example: Path, tmp_path: Path) -> None:
+def test_settings_come_back(
+    given: dict[str, object], tool: Run, example: Path, tmp_path: Path
+) -> None:
     """Every value of settings.json comes back through config.xml."""
     (example / "settings.json").write_text(json.dumps(given))
     assert tool("qsim-matsim", "export", example, tmp_path / "out").returncode == 0

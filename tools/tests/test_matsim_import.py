@@ -38,9 +38,9 @@ P,0,500000
 Q,100000,500000
 """
 # The three trips of the first person have 9 legs, so the walks to the car go. The second one leaves
-# work at 8:00:00 + 10 min + 1 s + 4 h. His ride: 500 m right and 1,000 m down, 500 m by beeline from
-# (500, 1000) to (500, 0) is 1,000 m, times 1.3, at 50 km/h: 93.6 s. Walks are 1.3 times the beeline
-# at 3 km/h: 1,000 m take 1,560 s.
+# work at 8:00:00 + 10 min + 1 s + 4 h. His ride from cd to ab: 1,000 m between the middles of the
+# links, times 1.3, at 50 km/h take 93.6 s. Walks are 1.3 times the beeline at 3 km/h: 1,000 m take
+# 1,560 s.
 PLANS = """person,plan,kind,name,link,time,route
 walks.to.the.car,0,act,home,ab,25200,
 walks.to.the.car,0,leg,car,,,ab bc cd
@@ -174,7 +174,7 @@ def test_tables(imported: Path) -> None:
 
 
 def test_table_is_near_the_logarithm() -> None:
-    """The straight lines between the points miss the logarithm by a six hundredths of a util at most."""
+    """The straight lines miss the logarithm by six hundredths of a util at most."""
     zero = zero_duration(8.0, 1.0, False)
     points = points_of(6.0, 8.0, zero)
     for (low, below), (high, above) in zip(points[1:], points[2:]):
@@ -264,7 +264,7 @@ FAULTS: dict[str, tuple[str, Callable[[bytes], bytes], str]] = {
     "missing": ("network.xml", lambda text: text.replace(b'length="100"', b""), "line 21"),
     "twice": ("network.xml", lambda text: text.replace(b'id="bc"', b'id="ab"'), "line 19"),
     "link of a plan": ("plans.xml", lambda t: t.replace(b'link="bc"', b'link="zz"'), "line 23"),
-    "link of a route": ("plans.xml", lambda t: t.replace(b">ab bc cd", b">ab zz cd"), "line 10: there is no link zz"),
+    "link of a route": ("plans.xml", lambda t: t.replace(b">ab bc cd", b">ab zz cd"), "line 10"),
     "two legs": ("plans.xml", lambda t: t.replace(b'<leg mode="pt"/>', b"<leg/><leg/>"), "line 67"),
     "end of file": ("plans.xml", lambda text: text[:2000], "line"),
     "config": ("config.xml", lambda text: text.replace(b'"0.0105"', b'"some"'), "line 15"),

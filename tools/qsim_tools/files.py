@@ -29,7 +29,7 @@ TELEPORTED = ("walk", "bike", "ride")
 
 
 class Limits:
-    """The limits of docs/PROFILE.md that the tools must respect."""
+    """The limits of docs/files.md that the tools must respect."""
 
     NODES = 131_072
     LINKS = 262_144
@@ -297,7 +297,7 @@ _DIGITS = re.compile(r"-?[0-9]{1,20}\Z")
 
 
 def is_name(text: str) -> bool:
-    """Whether a text is a name by docs/PROFILE.md."""
+    """Whether a text is a name by docs/files.md."""
     return _NAME.match(text) is not None
 
 

@@ -1,6 +1,6 @@
 """Names for MATSim's ids, by a map that goes both ways.
 
-An id that is a name by docs/PROFILE.md stays. Any other id becomes a name: each character that no
+An id that is a name by docs/files.md stays. Any other id becomes a name: each character that no
 name may have becomes a dot, what is longer than a name is cut, and a number behind it keeps two ids
 of one kind apart.
 """

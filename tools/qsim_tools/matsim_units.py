@@ -1,7 +1,7 @@
 """Exact conversion of MATSim's numbers and times to whole numbers and back.
 
 One rule holds everywhere: a number is read as an exact decimal, scaled, and rounded half up
-(towards plus infinity), and then cut to the range that docs/PROFILE.md allows.
+(towards plus infinity), and then cut to the range that docs/files.md allows.
 """
 
 from __future__ import annotations

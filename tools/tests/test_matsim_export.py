@@ -5,6 +5,8 @@ from __future__ import annotations
 import csv
 import gzip
 import json
+import shutil
+import subprocess
 from pathlib import Path
 from typing import Any
 
@@ -12,7 +14,7 @@ import pytest
 from lxml import etree
 from matsim_fixtures import EXAMPLE, Program, Run, example, program, tool
 
-from qsim_tools.files import Settings, read_settings
+from qsim_tools.files import Settings, read_network, read_settings
 from qsim_tools.matsim_day import days
 
 __all__ = ["example", "program", "tool"]
@@ -244,6 +246,45 @@ def test_run_of_the_example(tool: Run, example: Path, program: Program, tmp_path
         first = person.find("plan")
         assert first.get("selected") == "yes"
         assert float(first.get("score")) == pytest.approx(scores[person.get("id")])
+
+
+def test_import_export_import(tool: Run, tmp_path: Path) -> None:
+    """What an import made of MATSim's ids and values, a second one makes of its export."""
+    first, second = tmp_path / "first", tmp_path / "second"
+    config = Path(__file__).parent / "data" / "matsim" / "config.xml"
+    assert tool("qsim-matsim", "import", config, first).returncode == 0
+    assert tool("qsim-matsim", "export", first, tmp_path / "out").returncode == 0
+    config = tmp_path / "out" / "output_config.xml"
+    done = tool("qsim-matsim", "import", "--whole", config, second)
+    assert done.returncode == 0, done.stderr
+    for name in (*FILES, "plans", "ids"):
+        path = f"{name}.csv"
+        assert (second / path).read_bytes() == (first / path).read_bytes(), name
+    assert read_settings(second / "settings.json") == read_settings(first / "settings.json")
+    ids = {row.get("id") for row in parsed(tmp_path / "out" / "output_network.xml.gz").iter("link")}
+    assert "da#1" in ids and "da.1" in ids
+    persons = valid(tmp_path / "out" / "output_plans.xml.gz", "population_v6").findall("person")
+    assert persons[0].get("id") == "walks to the car"
+
+
+@pytest.mark.skipif(shutil.which("netconvert") is None, reason="netconvert is not installed")
+def test_netconvert_reads_it(tool: Run, example: Path, tmp_path: Path) -> None:
+    """netconvert finds the same links in the exported network."""
+    assert tool("qsim-matsim", "export", example, tmp_path / "out").returncode == 0
+    data = gzip.decompress((tmp_path / "out" / "output_network.xml.gz").read_bytes())
+    (tmp_path / "network.xml").write_bytes(data)
+    words = ["netconvert", "--xml-validation", "never", "--matsim-files", "network.xml"]
+    words += ["--matsim.keep-length", "-o", "town.net.xml", "--plain-output-prefix", "town"]
+    subprocess.run(words, cwd=tmp_path, capture_output=True, check=True)
+    edges = {row.get("id"): row for row in parsed(tmp_path / "town.edg.xml").iter("edge")}
+    links = read_network(example).links
+    assert set(edges) == set(links)
+    for name, link in links.items():
+        row = edges[name]
+        assert (row.get("from"), row.get("to")) == (link.start, link.end)
+        assert int(row.get("numLanes")) == link.lanes
+        assert round(float(row.get("speed")) * 100) == link.speed
+        assert round(float(row.get("length")) * 100) == link.length
 
 
 SETTINGS = [

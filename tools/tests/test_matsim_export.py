@@ -182,6 +182,21 @@ def test_trips_and_legs(tool: Run, tmp_path: Path) -> None:
     assert (trips["car"]["trip_number"], trips["car"]["modes"]) == ("1", "car")
 
 
+def test_interaction(tool: Run, tmp_path: Path) -> None:
+    """A kind that --interaction names is an activity within a trip, and otherwise is not."""
+    folder = town(tmp_path / "town")
+    (folder / "ids.csv").unlink()
+    for name in ("plans.csv", "events.csv"):
+        (folder / name).write_text((folder / name).read_text().replace("pt.interaction", "change"))
+    found = {}
+    for words in ([], ["--interaction", "change"]):
+        done = tool("qsim-matsim", "export", *words, folder, tmp_path / "out")
+        assert done.returncode == 0, done.stderr
+        rows = table(tmp_path / "out" / "output_trips.csv.gz")
+        found[len(words)] = sorted(row["modes"] for row in rows)
+    assert found == {0: ["car", "pt", "walk"], 2: ["car", "walk-pt"]}
+
+
 def test_comes_back(tool: Run, tmp_path: Path) -> None:
     """Ids, order and coordinates of the small town come back, and the CRS."""
     tool("qsim-matsim", "export", town(tmp_path / "town"), tmp_path / "out")

@@ -14,6 +14,7 @@ from matsim_fixtures import TOOLS, Program, Run, program, tool
 
 from qsim_tools.files import Limits, Worth, read_settings
 from qsim_tools.matsim_ids import Names
+from qsim_tools.matsim_schedule import read_vehicles_xml
 from qsim_tools.matsim_scoring import points_of, zero_duration
 from qsim_tools.matsim_units import scaled, seconds
 
@@ -315,6 +316,20 @@ def test_gz_is_the_same(tool: Run, tmp_path: Path) -> None:
     assert names == sorted(path.name for path in (tmp_path / "gz").iterdir())
     for name in names:
         assert (tmp_path / "plain" / name).read_bytes() == (tmp_path / "gz" / name).read_bytes()
+
+
+def test_vehicles_v2(tmp_path: Path) -> None:
+    """Transit vehicles v2: seats, standing room and dwell times as attributes."""
+    kind = '<vehicleType id="tram"><attributes><attribute name="accessTimeInSecondsPerPerson" '
+    kind += 'class="java.lang.Double">0.5</attribute><attribute name="egressTimeInSecondsPerPerson"'
+    kind += ' class="java.lang.Double">3.2</attribute></attributes>'
+    kind += '<capacity seats="30" standingRoomInPersons="12"/></vehicleType>'
+    space = 'xmlns="http://www.matsim.org/files/dtd"'
+    text = f'<vehicleDefinitions {space}>{kind}<vehicle id="a" type="tram"/></vehicleDefinitions>'
+    (tmp_path / "vehicles.xml").write_text(text)
+    vehicles = read_vehicles_xml(tmp_path / "vehicles.xml")
+    assert vehicles.places == {"a": 42}
+    assert (vehicles.board, vehicles.alight) == ({"tram": 1}, {"tram": 3})
 
 
 def test_too_many_legs(tool: Run, tmp_path: Path) -> None:

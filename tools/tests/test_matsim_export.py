@@ -188,8 +188,9 @@ def test_interaction(tool: Run, tmp_path: Path) -> None:
     (folder / "ids.csv").unlink()
     for name in ("plans.csv", "events.csv"):
         (folder / name).write_text((folder / name).read_text().replace("pt.interaction", "change"))
-    found = {}
-    for words in ([], ["--interaction", "change"]):
+    found: dict[int, list[str]] = {}
+    choices: list[list[str]] = [[], ["--interaction", "change"]]
+    for words in choices:
         done = tool("qsim-matsim", "export", *words, folder, tmp_path / "out")
         assert done.returncode == 0, done.stderr
         rows = table(tmp_path / "out" / "output_trips.csv.gz")

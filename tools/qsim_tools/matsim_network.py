@@ -42,11 +42,12 @@ class RawNetwork:
     nodes: dict[str, tuple[int, int]] = field(default_factory=dict)
     links: dict[str, RawLink] = field(default_factory=dict)
     crs: str | None = None
+    path: Path = Path("network")
 
 
 def read_network_xml(path: Path, losses: Losses) -> RawNetwork:
     """Read a network file; numbers are rounded half up and cut to their ranges."""
-    network = RawNetwork()
+    network = RawNetwork(path=path)
     period, found = HOUR, False
     tags, heads = ("node", "link", "attribute"), ("network", "links")
     for element in progress(elements(path, tags, heads), "network"):
@@ -151,7 +152,7 @@ def kept_links(
     """
     cars = [name for name, link in network.links.items() if link.car]
     if not cars:
-        raise FileFault("network", None, "no link is open to cars")
+        raise FileFault(network.path, None, "no link is open to cars")
     nodes = {end for name in cars for end in _ends(network.links[name])}
     part = nodes if whole else largest_part(network, cars)
     kept = []
@@ -170,6 +171,9 @@ def kept_links(
                 losses.note("link without mode car kept for transit routes", name)
             into[link.end] = into.get(link.end, 0) + 1
             kept.append(link)
+    if not any(link.car for link in kept):
+        reason = "no links lead there and back between any nodes; --whole keeps all links"
+        raise FileFault(network.path, None, reason)
     return kept
 
 
@@ -202,7 +206,7 @@ def named_network(
         ("links", len(result.links), Limits.LINKS),
     ):
         if size > limit:
-            raise FileFault("network", None, f"{size} {what} remain, {limit} is the limit")
+            raise FileFault(network.path, None, f"{size} {what} remain, {limit} is the limit")
     return result
 
 

@@ -283,6 +283,16 @@ def test_import_export_import(tool: Run, tmp_path: Path) -> None:
     assert persons[0].get("id") == "walks to the car"
 
 
+def test_one_way_network(tool: Run, example: Path, tmp_path: Path) -> None:
+    """The example has no way back, so an import without --whole has nothing to keep."""
+    assert tool("qsim-matsim", "export", example, tmp_path / "out").returncode == 0
+    config = tmp_path / "out" / "output_config.xml"
+    done = tool("qsim-matsim", "import", config, tmp_path / "back")
+    assert done.returncode == 1 and done.stderr.count("\n") == 1
+    assert "output_network.xml.gz" in done.stderr and "--whole" in done.stderr
+    assert not (tmp_path / "back").exists()
+
+
 @pytest.mark.skipif(shutil.which("netconvert") is None, reason="netconvert is not installed")
 def test_netconvert_reads_it(tool: Run, example: Path, tmp_path: Path) -> None:
     """netconvert finds the same links in the exported network."""

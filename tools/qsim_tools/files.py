@@ -641,14 +641,20 @@ def read_scores(path: Path) -> Iterator[Score]:
         )
 
 
+def read_text(path: Path) -> str:
+    """Read a small file of UTF-8."""
+    try:
+        return path.read_text(encoding="utf-8")
+    except UnicodeDecodeError:
+        raise FileFault(path, None, "no UTF-8") from None
+
+
 def read_settings(path: Path) -> Settings:
     """Read settings.json; a missing or an empty file has all defaults."""
     if not path.exists() or path.stat().st_size == 0:
         return Settings()
     try:
-        given = json.loads(path.read_text(encoding="utf-8"))
-    except UnicodeDecodeError:
-        raise FileFault(path, None, "no UTF-8") from None
+        given = json.loads(read_text(path))
     except json.JSONDecodeError as error:
         raise FileFault(path, f"line {error.lineno}", error.msg) from None
     if not isinstance(given, dict):

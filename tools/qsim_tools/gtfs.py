@@ -4,6 +4,8 @@ from __future__ import annotations
 
 import argparse
 import csv
+import io
+import math
 from dataclasses import dataclass, field
 from datetime import date, datetime
 from pathlib import Path
@@ -11,7 +13,7 @@ from pathlib import Path
 from qsim_tools import cli
 from qsim_tools.cli import progress
 from qsim_tools.files import Call, Departure, FileFault, Limits, Route, Schedule, Staged, Stop
-from qsim_tools.files import read_network, stage_schedule
+from qsim_tools.files import read_network, read_text, stage_schedule
 from qsim_tools.gtfs_feed import Feed, Place, Trip, read_feed
 from qsim_tools.gtfs_match import Matcher
 from qsim_tools.matsim_ids import IDS_HEADER, Ids
@@ -75,7 +77,8 @@ class Timetable:
         for stop, place in self.feed.stops.items():
             self.places[stop] = change.transform(*place)
         for shape, points in self.feed.shapes.items():
-            line = [change.transform(*point) for point in points]
+            places = [change.transform(*point) for point in points]
+            line = [place for place in places if all(map(math.isfinite, place))]
             if len(line) > 1:
                 self.shapes[shape] = self.matcher.on_shape(line)
 
@@ -153,8 +156,7 @@ def _old_ids(path: Path) -> list[tuple[str, str, str]]:
     """The rows of ids.csv that are not of a timetable."""
     if not path.exists():
         return []
-    with open(path, encoding="utf-8", newline="") as source:
-        rows = [tuple(row) for row in csv.reader(source)][1:]
+    rows = [tuple(row) for row in csv.reader(io.StringIO(read_text(path), newline=""))][1:]
     return [(row[0], row[1], row[2]) for row in rows if len(row) == 3 and row[0] not in KINDS]
 
 
@@ -165,7 +167,7 @@ def make(words: argparse.Namespace, day: date, types: set[int] | None) -> str:
     if crs is None:
         if not (folder / "crs.txt").exists():
             raise FileFault(folder / "crs.txt", None, "no such file, and --crs is not given")
-        crs = (folder / "crs.txt").read_text(encoding="utf-8").strip()
+        crs = read_text(folder / "crs.txt").strip()
     network = read_network(folder)
     feed = read_feed(words.feed, day, losses)
     matcher = Matcher(network, words.within, words.left, words.worth)

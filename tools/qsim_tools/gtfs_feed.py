@@ -4,6 +4,7 @@ from __future__ import annotations
 
 import csv
 import io
+import math
 import zipfile
 from collections.abc import Iterator
 from dataclasses import dataclass, field
@@ -80,9 +81,12 @@ class Reader:
     def number(self, name: str, line: int, text: str) -> float:
         """A number."""
         try:
-            return float(text)
+            value = float(text)
         except ValueError:
-            raise self.fault(name, line, f"{text!r} is no number") from None
+            value = math.nan
+        if not math.isfinite(value):
+            raise self.fault(name, line, f"{text!r} is no number")
+        return value
 
 
 def services(reader: Reader, day: date) -> set[str]:

@@ -63,6 +63,8 @@ class Matcher:
 
     def near(self, place: Place) -> list[Candidate]:
         """The nearest links to a stop, at most six, the cheapest first."""
+        if not all(map(math.isfinite, place)):
+            return []
         spots = self._tree.query_ball_point(place, self.within + 25.0)
         found = []
         for number in sorted({self._owners[spot] for spot in spots}):

@@ -110,8 +110,8 @@ class Seen:
 class Watch:
     """Goes through a day once and collects the legs of all persons."""
 
-    def __init__(self, network: Network, back: Back) -> None:
-        self.back = back
+    def __init__(self, network: Network, departures: set[str], back: Back) -> None:
+        self.departures, self.back = departures, back
         self.length = {link.name: link.length / 100 for link in network.links.values()}
         self.middle: dict[str, tuple[float, float]] = {}
         for name, link in network.links.items():
@@ -136,12 +136,19 @@ class Watch:
                     self._driven[row[3]] = self._driven.get(row[3], 0.0) + self.length[row[4]]
                 elif word in _TAKE:
                     _TAKE[word](self, row)
+                if row[4]:
+                    self._on(row)
             except (KeyError, IndexError):
-                reason = f"{word!r} of a person without a leg, or on an unknown link"
+                reason = f"{word!r} of a person without a leg, or with an unknown link or vehicle"
                 raise FileFault(day.path, number, reason) from None
         for seen in self.persons.values():
             _route_modes(seen, self.back)
         return self.persons
+
+    def _on(self, row: list[str]) -> None:
+        """Refuse an unknown link."""
+        if row[4] not in self.length:
+            raise KeyError(row[4])
 
     def _leg(self, row: list[str]) -> LegSeen:
         """The leg that a person is on."""
@@ -154,6 +161,7 @@ class Watch:
 
     def _departure(self, row: list[str]) -> None:
         """A leg begins."""
+        self._on(row)
         leg = LegSeen(row[5], int(row[0]), row[4])
         self.persons.setdefault(row[2], Seen()).legs.append(leg)
 
@@ -161,6 +169,8 @@ class Watch:
         """A driver or a passenger gets in."""
         leg = self._leg(row)
         leg.boarded, leg.vehicle = int(row[0]), row[3]
+        if row[3].startswith("pt:") and row[3][3:] not in self.departures:
+            raise KeyError(row[3])
         self._boarded[row[2]] = self._driven.get(row[3], 0.0)
 
     def _leaves(self, row: list[str]) -> None:
@@ -179,6 +189,7 @@ class Watch:
 
     def _arrival(self, row: list[str]) -> None:
         """A leg ends; a teleported one is as long as the beeline times a factor."""
+        self._on(row)
         leg = self._leg(row)
         leg.end, leg.end_link = int(row[0]), row[4]
         if leg.vehicle == "":

@@ -12,6 +12,7 @@ from xml.sax.saxutils import escape, quoteattr
 from qsim_tools.cli import progress
 from qsim_tools.files import Act, Element, Leg, Network, Person, Route, Schedule, Settings, Staged
 from qsim_tools.files import read_network, read_plans, read_schedule, read_scores, read_settings
+from qsim_tools.files import read_text
 from qsim_tools.matsim_day import FACTOR, Seen, Watch, days, main_mode
 from qsim_tools.matsim_events import Tables, Telling, vehicle_id, zipped
 from qsim_tools.matsim_ids import Back
@@ -197,7 +198,7 @@ class Plans:
         for place, item in enumerate(plan):
             if isinstance(item, Leg):
                 trip.append(place)
-            elif trip and not self.back.is_within_trip(item.kind):
+            elif trip and (item is plan[-1] or not self.back.is_within_trip(item.kind)):
                 mode = main_mode([plan[k].mode for k in trip])  # type: ignore[union-attr]
                 modes.update((k, mode) for k in trip)
                 trip = []
@@ -257,14 +258,14 @@ class Export:
         self.schedule = read_schedule(folder, self.network.links)
         self.settings = read_settings(folder / "settings.json")
         crs = folder / "crs.txt"
-        self.crs = crs.read_text(encoding="utf-8").strip() if crs.exists() else None
+        self.crs = read_text(crs).strip() if crs.exists() else None
         self.losses = Losses()
         self.counts: dict[str, int] = {}
 
     def run(self, out: Path, last_only: bool) -> None:
         """Read all, then let the files appear together."""
         with Staged(out) as staged:
-            watch = Watch(self.network, self.back)
+            watch = self._watch()
             self._network(staged, watch)
             kinds = self._plans(staged, watch)
             self._events(staged, last_only)
@@ -274,6 +275,10 @@ class Export:
             if (self.folder / "signals.csv").exists():
                 self.losses.note("signals are not exported", "signals.csv")
             staged.rows("export.csv", LOSSES_HEADER, self.losses.rows())
+
+    def _watch(self) -> Watch:
+        """What collects the legs of a day."""
+        return Watch(self.network, set(self.schedule.departures), self.back)
 
     def _gz(self, staged: Staged, name: str, lines: Iterable[str]) -> None:
         """Write a gz file."""
@@ -333,7 +338,7 @@ class Export:
         telling = Telling(self.network, self.schedule, self.back)
         total = 0
         for day in found[-1:] if last_only else found:
-            watch = Watch(self.network, self.back)
+            watch = self._watch()
             seen = watch.look(day)
             number = day.iteration
             part = staged.path(f"ITERS/it.{number}/{number}.events.xml.gz")

@@ -8,11 +8,12 @@ of one kind apart.
 from __future__ import annotations
 
 import csv
+import io
 import re
 from collections.abc import Iterable, Iterator
 from pathlib import Path
 
-from qsim_tools.files import FileFault, Limits, is_name
+from qsim_tools.files import FileFault, Limits, is_name, read_text
 
 IDS_HEADER = ("kind", "qsim", "matsim")
 KINDS = ("node", "link", "person", "kind", "stop", "line", "route", "departure")
@@ -88,7 +89,7 @@ class Back:
         self._ids: dict[str, dict[str, str]] = {kind: {} for kind in KINDS}
         if not path.exists():
             return
-        with open(path, encoding="utf-8", newline="") as source:
+        with io.StringIO(read_text(path), newline="") as source:
             for number, row in enumerate(csv.reader(source)):
                 if number == 0 and tuple(row) != IDS_HEADER:
                     raise FileFault(path, 0, f"the header is not {','.join(IDS_HEADER)}")

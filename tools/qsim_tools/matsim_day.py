@@ -169,9 +169,14 @@ class Watch:
         """A driver or a passenger gets in."""
         leg = self._leg(row)
         leg.boarded, leg.vehicle = int(row[0]), row[3]
-        if row[3].startswith("pt:") and row[3][3:] not in self.departures:
-            raise KeyError(row[3])
+        if row[3].startswith("pt:"):
+            self._starts(row)
         self._boarded[row[2]] = self._driven.get(row[3], 0.0)
+
+    def _starts(self, row: list[str]) -> None:
+        """Refuse a vehicle of no departure."""
+        if row[3][3:] not in self.departures:
+            raise KeyError(row[3])
 
     def _leaves(self, row: list[str]) -> None:
         """A driver or a passenger gets out."""
@@ -209,6 +214,7 @@ _TAKE = {
     "departure": Watch._departure,
     "PersonEntersVehicle": Watch._enters,
     "PersonLeavesVehicle": Watch._leaves,
+    "TransitDriverStarts": Watch._starts,
     "waitingForPt": Watch._waits,
     "VehicleArrivesAtFacility": Watch._stops,
     "arrival": Watch._arrival,

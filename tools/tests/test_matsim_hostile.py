@@ -17,8 +17,8 @@ from test_matsim_export import town
 
 __all__ = ["tool"]
 DATA = Path(__file__).parent / "data" / "matsim"
-ROUNDS = int(os.environ.get("HOSTILE_ROUNDS", "25"))
-WORDS = [b"", b"-1", b"0", b"1e999", b"NaN", b"x", b"99999999999", b"undefined", b"<", b"&#0;", b"\xff"]
+ROUNDS = int(os.environ.get("HOSTILE_ROUNDS", "15"))
+WORDS = [b"", b"-1", b"0", b"1e999", b"NaN", b"x", b"99999999999", b"undefined", b"<", b"\xff"]
 
 
 def damaged(data: bytes, draw: random.Random) -> bytes:

@@ -6,9 +6,16 @@ import os
 import shutil
 import subprocess
 import sys
+from collections.abc import Callable
+from contextlib import redirect_stderr, redirect_stdout
+from dataclasses import dataclass
+from io import StringIO
 from pathlib import Path
+from unittest.mock import patch
 
 import pytest
+
+from qsim_tools.cli import guarded
 
 TOOLS = Path(__file__).resolve().parents[1]
 EXAMPLE = TOOLS.parent / "crates" / "qsim" / "data"
@@ -103,10 +110,29 @@ def made(folder: Path, events: str = EVENTS) -> Path:
     return folder
 
 
-def tool(name: str, *words: object) -> subprocess.CompletedProcess[str]:
-    """Run a command of the tools."""
-    command = [sys.executable, str(TOOLS / name), *map(str, words)]
-    return subprocess.run(command, capture_output=True, text=True, check=False)
+@dataclass
+class Done:
+    """What a command that has ended left behind."""
+
+    returncode: int
+    stdout: str
+    stderr: str
+
+
+def tool(main: Callable[[], None], *words: object) -> Done:
+    """Run the main function of a command in this process, as its executable does."""
+    out, err = StringIO(), StringIO()
+    status = 0
+    with (
+        patch.object(sys, "argv", ["command", *map(str, words)]),
+        redirect_stdout(out),
+        redirect_stderr(err),
+    ):
+        try:
+            guarded(main)
+        except SystemExit as end:
+            status = int(end.code or 0)
+    return Done(status, out.getvalue(), err.getvalue())
 
 
 def program() -> str:

@@ -131,6 +131,7 @@ def test_scores(run: Run) -> None:
         ("140,arrival,ann,,cd,car\n", "", "iteration 0: 7 departures, but 6 ends of legs"),
         ("pt:d1,ab,s1\n3505", "pt:d1,ab,s3\n3505", "call 1 of pt:d1 at s3 is not that of its"),
     ],
+    ids=range(8),
 )
 def test_faults(tmp_path: Path, old: str, new: str, place: str) -> None:
     """A fault is named with its line."""

@@ -108,6 +108,8 @@ def write_report(
     """Write all files of the report to an empty folder."""
     figures = _over_iterations(out, run)
     page = Page(f"qsim report: {name}", out, words.images == "embed")
+    if words.note:
+        page.text(words.note, "note")
     shown = {}
     for day in run.days:
         shown[day.iteration] = set(
@@ -213,6 +215,7 @@ def arguments() -> argparse.Namespace:
     words.add_argument(
         "--stage", action="append", default=[], help="kind of activity that only joins two legs"
     )
+    words.add_argument("--note", default="", help="a note at the top of the page, as on the data")
     words.add_argument("--images", choices=("embed", "link"), default="embed", help="in the page")
     return words.parse_args()
 

@@ -35,7 +35,8 @@ def overview(
     """What was run, and the figures of the iterations that are shown in full."""
     page.section("overview", "Overview")
     town, schedule = scenario.network, scenario.schedule
-    span = f"iteration {iterations[0]}" + (f" to {iterations[-1]}" if len(iterations) > 1 else "")
+    first, last = iterations[0], iterations[-1]
+    span = f"iterations {first} to {last}" if last > first else f"iteration {first}"
     page.text(
         f"{len(town.nodes):,} nodes, {len(town.links):,} links "
         f"({scenario.length.sum() / 1e5:,.0f} km), {len(schedule.routes):,} transit routes, "
@@ -144,7 +145,7 @@ def _links(page: Page, day: DayTables, scenario: Scenario, place: str) -> None:
     page.image(
         f"{place}/volumes.png",
         "Volumes. The width is the day's vehicles; the colour is the fullest hour against the "
-        "capacity times the flow factor. A line lies to the right of its direction.",
+        "capacity times the flow factor. Each line is drawn to the right of its direction.",
     )
     page.heading("Speeds")
     page.image(

@@ -13,7 +13,7 @@ MOST_OF_LANE, LEAST_OF_LANE = 2_200, 300
 
 
 def storage(link: Link, settings: Settings) -> int:
-    """How many vehicles a link holds, by the rule of docs/PROFILE.md."""
+    """How many vehicles a link holds, by the rule of docs/day.md."""
     places = link.length * link.lanes * settings.storage_permille // (VEHICLE_CM * 1_000)
     filled = link.free_seconds * link.capacity * settings.flow_permille
     return max(1, places, -(-filled // 3_600_000))

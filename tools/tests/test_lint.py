@@ -52,7 +52,7 @@ def test_a_sound_scenario(tmp_path: Path) -> None:
 def test_storage(
     length: int, capacity: int, lanes: int, speed: int, places: int, flow: float
 ) -> None:
-    """Storage by the rule of docs/PROFILE.md, and what the places let through."""
+    """Storage by the rule of docs/day.md, and what the places let through."""
     link = Link("x", "a", "b", length, speed, capacity, lanes)
     assert storage(link, Settings()) == places
     assert most_flow(link, Settings()) == pytest.approx(flow)

@@ -74,7 +74,7 @@ def test_a_bad_line(tmp_path: Path) -> None:
 
 
 def kept_scores(path: Path) -> list[list[int]]:
-    """The scores that kept.db holds of each person, by the layout of docs/PROFILE.md."""
+    """The scores that kept.db holds of each person, by the layout of docs/commands.md."""
     with sqlite3.connect(path) as keeper:
         body: bytes = keeper.execute("SELECT body FROM kept").fetchone()[0]
     persons: dict[bytes, list[int]] = {}

@@ -1,8 +1,8 @@
 -- Entries in a ring of buckets: one more, one less, and the earliest of them.
-use Rattle.std.proofs.Common.{◌≡◌, ℕ, zero, suc, ◌+◌, ◌-◌, ◌%◌, ◌<◌, ◌≤◌, Bool, true, false, cond, List, [], ◌∷◌, ◌++◌, length, map, ◌⊎◌, inl, inr, refl, sym}
-use Rattle.std.proofs.{Common.◌∙◌, Common.ap, Common.subst, Common.arith, lemmas.Bool.cases_eq, lemmas.Bool.cases_lt, lemmas.Bool.ltb-true, lemmas.Bool.lt-ltb}
-use Rattle.std.proofs.lemmas.List.{get_or-set_same, get_or-set_other, get_or_past, length-set, length-append}
-use Rattle.std.proofs.lemmas.List.Elements.{All-nil, All-append, All-push, All-get_or, All-map, All-weaker, All-from_recursion}
+use Rattle.std.proofs.Common.{◌≡◌, ℕ, zero, suc, ◌+◌, ◌-◌, ◌%◌, ◌<◌, ◌≤◌, max, Bool, true, false, cond, List, [], ◌∷◌, ◌++◌, length, ◌⊎◌, inl, inr, refl, sym}
+use Rattle.std.proofs.{Common.◌∙◌, Common.ap, Common.subst, Common.arith, lemmas.Bool.cases_eq, lemmas.Bool.cases_lt, lemmas.Bool.lt-ltb}
+use Rattle.std.proofs.lemmas.List.{get_or-set_same, get_or-set_other, get_or_past, length-set}
+use Rattle.std.proofs.lemmas.List.Elements.{All-nil, All-append, All-push, All-map, All-weaker, All-from_recursion}
 use Rattle.std.proofs.lemmas.List.Sorted.{IsPermutation-to_front, IsPermutation-sym, IsPermutation-trans, IsPermutation-middle, IsPermutation-map}
 use Rattle.std.proofs.lemmas.List.Sorted.{IsPermutation-append_left, IsPermutation-append_right, All-permutation}
 use Rattle.std.specs.{BinaryHeap.IsUpperBound, List.Sorted.IsPermutation, Ordering.is_lt, Ordering.nat_cmp, Ordering.ordering_then}
@@ -155,53 +155,73 @@ ring_later from second buckets ring after none = record {
       record { place_is = own.place_is; begun = late; ended = let h = own.ended in omega arith };
 }
 
+-- what is in a bucket that was not passed over is no earlier than so many seconds
+passed_by : (from passed n : ℕ) (buckets : Buckets) (entry : Entry) → IsIn from n entry → 0 < length (bucket_at buckets n)
+    → ((j : ℕ) → j < passed → length (bucket_at buckets ((from + j) % RING_SECONDS)) ≡ 0) → from + passed ≤ entry.second
+passed_by from passed n buckets entry own some empty =
+    elim (cases_lt entry.second (from + passed)) [
+      | inl before ↦
+          let begun = own.begun in
+          let none = empty (entry.second - from) (omega arith) in
+          let same : from + (entry.second - from) ≡ entry.second = omega arith in
+          let here : (from + (entry.second - from)) % RING_SECONDS ≡ n = ap (λ (s : ℕ). s % RING_SECONDS) same ∙ own.place_is in
+          let empty_here = ap (λ (p : ℕ). length (bucket_at buckets p)) here in
+          absurd (omega arith)
+      | inr fine ↦ fine
+    ]
+
+-- where the first buckets have no entry, none comes before their seconds are over
+pub ring_passed : (from passed : ℕ) (buckets : Buckets) → IsRing from buckets
+    → ((j : ℕ) → j < passed → length (bucket_at buckets ((from + j) % RING_SECONDS)) ≡ 0) → NoneBefore (from + passed) (all_of buckets)
+ring_passed from passed buckets ring empty =
+    all_from (λ (e : Entry). from + passed ≤ e.second) buckets (λ n k d within.
+    passed_by from passed n buckets (slice_index_or (bucket_at buckets n) k d) (ring.each n k d within) (omega arith) empty)
+
+-- where none comes before the seconds of all buckets are over, there is none
+pub ring_past : (from : ℕ) (buckets : Buckets) → IsRing from buckets → NoneBefore (from + RING_SECONDS) (all_of buckets) → all_of buckets ≡ []
+ring_past from buckets ring late = all_none buckets (λ place within.
+    none (bucket_at buckets place) (ring.each place) (all_each (λ (e : Entry). from + RING_SECONDS ≤ e.second) buckets late place))
+  where
+    none : {place : ℕ} (es : List Entry) → All (IsIn from place) es → All (λ (e : Entry). from + RING_SECONDS ≤ e.second) es → length es ≡ 0
+    none [] own late = refl
+    none (e ∷ es) own late = absurd (let ended = (own 0 e (omega arith)).ended in let after = late 0 e (omega arith) in omega arith)
+
 -- the entry of the first bucket that has one is the earliest
 pub ring_first : (from second place passed : ℕ) (buckets : Buckets) → IsRing from buckets → place ≡ (from + passed) % RING_SECONDS
     → passed < RING_SECONDS
     → ((j : ℕ) → j < passed → length (bucket_at buckets ((from + j) % RING_SECONDS)) ≡ 0)
     → (k : ℕ) × (k < length (bucket_at buckets place)) × ((d : Entry) → second ≡ (slice_index_or (bucket_at buckets place) k d).second)
-    → IsFirst from second buckets
+    → IsFirst from second buckets × (second ≡ from + passed)
 ring_first from second place passed buckets ring at few empty found = by_entry (slice_index_or (bucket_at buckets place) found.0 filler)
     (ring.each place found.0 filler found.1) (found.2 filler)
   where
     filler : Entry
     filler = record { second = 0; node = 0 }
 
-    by_entry : (e : Entry) → IsIn from place e → second ≡ e.second → IsFirst from second buckets
+    by_entry : (e : Entry) → IsIn from place e → second ≡ e.second → IsFirst from second buckets × (second ≡ from + passed)
     by_entry e own is =
         let place_is = own.place_is in
         let begun = own.begun in
         let ended = own.ended in
         let here : second ≡ from + passed = omega arith in
-        let there : second % RING_SECONDS ≡ place = omega arith in
-        record {
-          there = subst (λ (p : ℕ). 0 < length (bucket_at buckets p)) (sym there) (let h = found.1 in omega arith);
-          begun = omega arith;
-          ended = omega arith;
-          earliest = all_from (λ (o : Entry). second ≤ o.second) buckets (λ n k d within.
-              later (slice_index_or (bucket_at buckets n) k d) n here (ring.each n k d within) (omega arith));
-        }
-      where
-        later : (o : Entry) (n : ℕ) → second ≡ from + passed → IsIn from n o → 0 < length (bucket_at buckets n) → second ≤ o.second
-        later o n here own some =
-            elim (cases_lt o.second second) [
-              | inl before ↦
-                  let begun = own.begun in
-                  let none = empty (o.second - from) (omega arith) in
-                  let same : from + (o.second - from) ≡ o.second = omega arith in
-                  let where_it_is : (from + (o.second - from)) % RING_SECONDS ≡ n = ap (λ (s : ℕ). s % RING_SECONDS) same ∙ own.place_is in
-                  let empty_here = ap (λ (p : ℕ). length (bucket_at buckets p)) where_it_is in
-                  absurd (omega arith)
-              | inr fine ↦ fine
-            ]
+        let there : second % RING_SECONDS ≡ place = omega arith in (
+          record {
+            there = subst (λ (p : ℕ). 0 < length (bucket_at buckets p)) (sym there) (let h = found.1 in omega arith);
+            begun = omega arith;
+            ended = omega arith;
+            earliest = subst (λ (s : ℕ). NoneBefore s (all_of buckets)) (sym here) (ring_passed from passed buckets ring empty);
+          },
+          here,
+        )
 
--- a ring of which each bucket was passed over
-pub ring_passed : (from : ℕ) (buckets : Buckets) → length buckets ≡ RING_SECONDS
-    → ((j : ℕ) → j < RING_SECONDS → length (bucket_at buckets ((from + j) % RING_SECONDS)) ≡ 0) → all_of buckets ≡ []
-ring_passed from buckets count empty = all_none buckets (λ place within.
-    let j : ℕ = (place + RING_SECONDS - from % RING_SECONDS) % RING_SECONDS in
-    let at : (from + j) % RING_SECONDS ≡ place = omega arith in
-    subst (λ (p : ℕ). length (bucket_at buckets p) ≡ 0) at (empty j (omega arith)))
+-- one bucket more is empty
+pub emptied : (old new : Buckets) (place : ℕ) → new ≡ slice_set old place [] → place < length old
+    → ((p : ℕ) → p < place → length (bucket_at old p) ≡ 0) → (p : ℕ) → p < place + 1 → length (bucket_at new p) ≡ 0
+emptied old new place is within before p less =
+    subst (λ (buckets : Buckets). length (bucket_at buckets p) ≡ 0) (sym is) (elim (cases_eq p place) [
+      | inl same ↦ ap (λ (b : List Entry). length b) (ap (bucket_at (slice_set old place [])) same ∙ get_or-set_same old place [] [] within)
+      | inr other ↦ ap (λ (b : List Entry). length b) (get_or-set_other old place p [] [] other) ∙ before p (omega arith)
+    ])
 
 -- WHO WAITS
 not_less : (x y : Reverse Entry) → is_lt (entry_cmp x y) ≡ false → x.0.second ≤ y.0.second
@@ -269,27 +289,20 @@ pub near_by : (from second : ℕ) (taken : Option Entry) (old new : Buckets) (fa
 near_by from second None old new far ring first out none late = absurd (let there = first.there in omega arith)
 near_by from second (Some entry) old new far ring first out none late = taken_near from second entry old new far ring first out late
 
--- what is taken from the heap, whose top comes before a second before which none of the ring comes
-pub far_by : (second : ℕ) (taken : Option Entry) (near : List Entry) (old new : List (Reverse Entry))
-    → IfSome taken (λ entry. IsTaken entry (later_entries old) (later_entries new))
-    → IfSome taken (λ entry. (d : Reverse Entry) → entry ≡ (slice_index_or old 0 d).0)
-    → ((d : Reverse Entry) → (slice_index_or old 0 d).0.second < second) → NoneBefore second near
-    → IfSome taken (λ entry. IsTaken entry (near ++ later_entries old) (near ++ later_entries new))
-far_by second None near old new out top before none = tt
-far_by second (Some entry) near old new out top before none =
-    let filler : Reverse Entry = record { 0 = entry } in
-    let is : entry.second ≡ (slice_index_or old 0 filler).0.second = ap (λ (e : Entry). e.second) (top filler) in
-    let less = before filler in
-    taken_far entry near (later_entries old) (later_entries new) out
-    (All-weaker (λ (e : Entry). second ≤ e.second) (λ (e : Entry). entry.second ≤ e.second) (λ e h. omega arith) near none)
-
--- a heap with a top is not empty
-pub has_top : (second : ℕ) (entries : List (Reverse Entry)) → ((d : Reverse Entry) → (slice_index_or entries 0 d).0.second < second)
-    → entries ≡ [] → ⊥
-has_top second entries before none =
-    let filler : Reverse Entry = record { 0 = record { second = second; node = 0 } } in
-    let less = subst (λ (es : List (Reverse Entry)). (slice_index_or es 0 filler).0.second < second) none (before filler) in
-    omega arith
+-- no entry of the ring comes before the top of the heap, where so many buckets were passed over
+pub far_rest : (from count : ℕ) (entry : Entry) (near : Buckets) (far : List (Reverse Entry)) → IsRing from near
+    → NoneBefore (from + count) (all_of near)
+    → (count ≡ RING_SECONDS) ⊎ ((top : Reverse Entry) × (slice_index_or far 0 top ≡ top) × (top.0.second ≤ from + count))
+    → ((d : Reverse Entry) → entry ≡ (slice_index_or far 0 d).0) → NoneBefore (max from entry.second) (all_of near)
+far_rest from count entry near far ring late (inl whole) top =
+    subst (λ (es : List Entry). NoneBefore (max from entry.second) es)
+    (sym (ring_past from near ring (subst (λ (n : ℕ). NoneBefore (from + n) (all_of near)) whole late)))
+    (All-nil (λ (e : Entry). max from entry.second ≤ e.second))
+far_rest from count entry near far ring late (inr found) top =
+    let is : entry.second ≡ found.0.0.second = ap (λ (e : Entry). e.second) (top found.0) ∙ ap (λ (r : Reverse Entry). r.0.second) found.1 in
+    let below = found.2 in
+    All-weaker (λ (e : Entry). from + count ≤ e.second) (λ (e : Entry). max from entry.second ≤ e.second) (λ e h. omega arith) (all_of near)
+    late
 
 -- one entry more, in the ring or in the heap
 pub put_near : (from : ℕ) (old new : Buckets) (far all : List Entry) (entry : Entry) → IsRing from old

@@ -1,19 +1,19 @@
 -- A search: its start, a link looked along, a node settled, and what stands where it stops.
-use Rattle.std.proofs.Common.{◌≡◌, ℕ, zero, suc, ◌+◌, ◌*◌, ◌^◌, ◌<◌, ◌≤◌, max, Bool, true, false, cond, List, [], ◌∷◌, length, drop, replicate, Option, None}
+use Rattle.std.proofs.Common.{◌≡◌, ℕ, zero, suc, ◌+◌, ◌*◌, ◌^◌, ◌<◌, ◌≤◌, max, Bool, true, false, List, [], ◌∷◌, length, drop, replicate, Option, None}
 use Rattle.std.proofs.Common.{Some, ◌⊎◌, inl, inr, refl, sym, ◌∙◌, ap, subst, arith}
-use Rattle.std.proofs.lemmas.Bool.{cases_eq, cases_lt, ltb-true, ltb-false, lt-ltb, eqb-true, eqb-false}
+use Rattle.std.proofs.lemmas.Bool.{cases_eq, cases_lt, ltb-true, ltb-false, eqb-true, eqb-false}
 use Rattle.std.proofs.lemmas.List.{get_or-replicate, get_or_past, get_or-set_same, get_or-set_other, length-set, length-replicate, drop_more, get_or_read}
-use Rattle.std.proofs.lemmas.List.Elements.{All-nil, All-cons, All-weaker, All-contains, Contains-get_or, All-from_recursion}
+use Rattle.std.proofs.lemmas.List.Elements.{All-nil, All-cons, All-contains, Contains-get_or}
 use Rattle.std.proofs.lemmas.List.{Sorted.All-permutation, Sorted.Contains-permutation, Sorted.IsPermutation-sym, Sorted.length_permutation, Sums.sum_by-set}
 use Rattle.std.specs.{List.Sorted.IsPermutation, Option.option_eq}
-use Rattle.std.specs.Prelude.{nat_lt, nat_eq, sum_by, slice_index_or, slice_set, All, Contains}
+use Rattle.std.specs.Prelude.{nat_eq, sum_by, slice_index_or, slice_set, All, Contains}
 use Rattle.limits.specs.declared.TheConstants.{MAX_NODES}
 use Rattle.walks.proofs.{Kept.arrival_later, Labels.by_some, Labels.some_by, Labels.by_later, Least.reached_more, Ranks.rank-le-length, Ranks.rank_by}
 use Rattle.walks.proofs.{Ranks.rank_less, Settled.IsSettledTo, Settled.settled_is_least, Settled.same_followed, Settled.kept_are_least}
 use Rattle.walks.specs.{Arrivals.Arrivals, Arrivals.IsFifo, Chosen.followed, Rounds.Labels, Rounds.label_at, Rounds.IsBy, Rounds.rank, Rounds.least_labels}
 use Rattle.walks.specs.Walks.{Ends, start_of, end_of, AreWithin, Reached}
 use Rattle.router.specs.Frontiers.{queued, is_later, IsSearch, IsFrontier, weight, work, IsRelabelled, IsNext, IsDone, IsSettledAt}
-use Rattle.router.specs.declared.{frontier.Frontier.Frontier, label.TheConstants.NO_SECOND, waiting.Entry.Entry}
+use Rattle.router.specs.declared.{frontier.Frontier.Frontier, waiting.Entry.Entry}
 
 abbrev pub Queue : Type 0
 Queue = List Entry

@@ -2,7 +2,7 @@
 use Rattle.std.proofs.{Common.subst, Common.arith, lemmas.Bool.cases_eq}
 use Rattle.std.proofs.Common.{◌≡◌, ℕ, zero, suc, ◌+◌, ◌-◌, ◌<◌, ◌≤◌, List, [], ◌∷◌, ◌++◌, length, take, drop, map, ◌⊎◌, inl, inr, refl, sym, ◌∙◌, ap}
 use Rattle.std.proofs.lemmas.List.{get_or_append_left, get_or_push, get_or-set_same, get_or-set_other, length-append, length-drop, map-append, drop-append-le}
-use Rattle.std.proofs.lemmas.List.{drop_at, get_or-map, length-map}
+use Rattle.std.proofs.lemmas.List.{drop_at, get_or-map}
 use Rattle.std.proofs.lemmas.List.{take-append-le, take_all, Elements.All-push, Elements.All-weaker, Elements.Contains-append_left, Elements.Contains-push}
 use Rattle.std.proofs.lemmas.List.FromFn.{map-range_with_len_more, get_or-map-range_with_len, length-map-range_with_len}
 use Rattle.std.specs.{List.range_with_len, List.slice_range, Prelude.slice_index, Prelude.slice_index_or, Prelude.slice_set, Prelude.All, Prelude.Contains}

@@ -102,6 +102,7 @@ impl Adjacency {
     }
 
     /// The links that begin at a node, with the nodes where they end.
+    #[inline(always)]
     pub fn out_of(&self, node: u32) -> &[Spoke]
         requires { node < self.now.nodes }
         ensures each { All (λ spoke. (spoke.link < length self.now.ends) × (start_of self.now.ends spoke.link ≡ node)

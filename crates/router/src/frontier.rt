@@ -35,17 +35,20 @@ fn no_labels(alloc: Global, nodes: usize) -> Result<Vec<Label>, AllocError>
     Ok(labels)
 }
 
-/// The search from a node in a second, before any link is looked along.
-pub fn start(alloc: Global, nodes: usize, from: u32, second: u64) -> Result<Frontier, AllocError>
-    requires from { from < nodes }
+/// The search from a node in a second, before any link is looked along, from a table without labels and an empty queue.
+fn begun(labels: Vec<Label>, queue: Waiting, from: u32, second: u64) -> Result<Frontier, AllocError>
+    requires from { from < length labels.items }
     requires second { second ≤ 2 ^ 33 }
-    ensures search { IfOk result (λ frontier. (ends : Ends) (arrive : Arrivals) → IsFrontier nodes ends arrive frontier []) }
+    requires none { labels.items ≡ replicate (length labels.items) None }
+    requires nobody { queue ≡ [] }
+    ensures search { IfOk result (λ frontier. (ends : Ends) (arrive : Arrivals)
+        → IsFrontier (length labels.items) ends arrive frontier []) }
     ensures from { IfOk result (λ frontier. frontier.from ≡ from) }
     ensures second { IfOk result (λ frontier. frontier.second ≡ second) }
 {
-    let mut labels = no_labels(alloc, nodes)?;
+    let mut labels = labels;
+    let mut queue = queue;
     labels[from as usize] = Label::some(second);
-    let mut queue = Waiting::new(alloc, second)?;
     queue.push(Entry { second, node: from })?;
     Ok(Frontier {
         from,
@@ -54,6 +57,51 @@ pub fn start(alloc: Global, nodes: usize, from: u32, second: u64) -> Result<Fron
         labels,
         queue,
     })
+}
+
+/// The search from a node in a second, before any link is looked along.
+pub fn start(alloc: Global, nodes: usize, from: u32, second: u64) -> Result<Frontier, AllocError>
+    requires from { from < nodes }
+    requires second { second ≤ 2 ^ 33 }
+    ensures search { IfOk result (λ frontier. (ends : Ends) (arrive : Arrivals) → IsFrontier nodes ends arrive frontier []) }
+    ensures from { IfOk result (λ frontier. frontier.from ≡ from) }
+    ensures second { IfOk result (λ frontier. frontier.second ≡ second) }
+{
+    let labels = no_labels(alloc, nodes)?;
+    let queue = Waiting::new(alloc, second)?;
+    let frontier = begun(labels, queue, from, second)?;
+    Ok(frontier)
+}
+
+/// The same table with no label in it.
+fn unlabelled(labels: Vec<Label>) -> Result<Vec<Label>, AllocError>
+    ensures { IfOk result (λ none. none.items ≡ replicate (length labels.items) None) }
+{
+    let nodes = labels.len();
+    let mut none = labels;
+    none.clear();
+    none.resize(nodes, Label::none())?;
+    Ok(none)
+}
+
+/// The search from a node in a second, in the memory of an earlier search.
+pub fn start_again(frontier: Frontier, from: u32, second: u64) -> Result<Frontier, AllocError>
+    requires from { from < length frontier.labels.items }
+    requires second { second ≤ 2 ^ 33 }
+    ensures search { IfOk result (λ again. (ends : Ends) (arrive : Arrivals)
+        → IsFrontier (length frontier.labels.items) ends arrive again []) }
+    ensures from { IfOk result (λ again. again.from ≡ from) }
+    ensures second { IfOk result (λ again. again.second ≡ second) }
+{
+    let Frontier {
+        labels,
+        mut queue,
+        ..
+    } = frontier;
+    let labels = unlabelled(labels)?;
+    queue.clear(second);
+    let again = begun(labels, queue, from, second)?;
+    Ok(again)
 }
 
 /// Gives a node an earlier label, with which it waits.

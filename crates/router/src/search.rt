@@ -5,7 +5,7 @@ ghost use Rattle.walks.specs.{Certificates.AreSmall, Walks.AreWithin, Walks.NoWa
 ghost use Rattle.router.specs.{Frontiers.IsFrontier, Frontiers.IsSettledAt, Searches.asked, Ways.IsLeastWay};
 
 use crate::adjacency::Adjacency;
-use crate::frontier::{Frontier, settle, settle_all, start};
+use crate::frontier::{Frontier, settle, settle_all, start, start_again};
 use crate::label::Label;
 use crate::ways::followed_back;
 use events::{Route, Rows};
@@ -100,6 +100,26 @@ impl<'a> Search<'a> {
         ensures { IfOk result (λ search. search ≡ record { graph = adjacency.now; times = times.now; from = from; second = second }) }
     {
         let frontier = start(alloc, adjacency.nodes(), from, second)?;
+        Ok(Search {
+            adjacency,
+            times,
+            frontier,
+        })
+    }
+
+    /// The search from a node in a second, at most 2^33, by the same times. It takes the place and the memory of this one.
+    pub fn again(self, from: u32, second: u64) -> Result<Search<'a>, AllocError>
+        requires from { from < self.graph.nodes }
+        requires second { second ≤ 2 ^ 33 }
+        ensures { IfOk result (λ search. search
+            ≡ record { graph = self.entry.graph; times = self.entry.times; from = from; second = second }) }
+    {
+        let Search {
+            adjacency,
+            times,
+            frontier,
+        } = self;
+        let frontier = start_again(frontier, from, second)?;
         Ok(Search {
             adjacency,
             times,

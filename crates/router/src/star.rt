@@ -85,6 +85,7 @@ impl Star {
     }
 
     /// The links of a node.
+    #[inline(always)]
     pub fn links_of(&self, node: usize) -> &[Spoke]
         requires { node < length self.now }
         ensures { result.now ≡ slice_index_or self.now node [] }

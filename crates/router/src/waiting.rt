@@ -1,7 +1,7 @@
 //! The nodes that wait for their links to be looked along, by the seconds of their labels.
 
 ghost use Rattle.std.specs.{BinaryHeap.heap_items, BinaryHeap.IsHeap, List.Sorted.IsPermutation};
-ghost use Rattle.std.specs.Prelude.{◌≡◌, ℕ, true, false, ◌+◌, ◌%◌, ◌<◌, ◌≤◌, [], ◌∷◌, ◌++◌, length, map, slice_set, slice_index_or};
+ghost use Rattle.std.specs.Prelude.{◌≡◌, ℕ, ◌+◌, ◌%◌, ◌<◌, ◌≤◌, ◌⊎◌, [], ◌∷◌, ◌++◌, length, map, slice_set, slice_index_or};
 ghost use Rattle.std.specs.Prelude.{IfOk, OnOk, OnErr, IfSome, IfNone};
 ghost use Rattle.router.specs.declared.waiting.TheConstants.{RING_SECONDS};
 ghost use Rattle.std.specs.declared.cmp.Reverse.{Reverse};
@@ -103,14 +103,16 @@ fn second_in(buckets: &[Vec<Entry>], place: usize) -> Option<u64>
     last_second(&buckets[place])
 }
 
-/// The earliest second of an entry in the ring.
-fn first_near(buckets: &[Vec<Entry>], from: u64) -> Option<u64>
-    requires { IsRing from (map (λ bucket. bucket.items) buckets.now) }
+/// The earliest second of an entry in this many buckets, from the ring's first one on.
+fn first_near(buckets: &[Vec<Entry>], from: u64, count: u64) -> Option<u64>
+    requires ring { IsRing from (map (λ bucket. bucket.items) buckets.now) }
+    requires count { count ≤ RING_SECONDS }
     ensures some { IfSome result (λ second. IsFirst from second (map (λ bucket. bucket.items) buckets.now)) }
-    ensures none { IfNone result (all_of (map (λ bucket. bucket.items) buckets.now) ≡ []) }
+    ensures before { IfSome result (λ second. second < from + count) }
+    ensures none { IfNone result (NoneBefore (from + count) (all_of (map (λ bucket. bucket.items) buckets.now))) }
 {
     let first = from % RING_SECONDS;
-    for passed in 0..RING_SECONDS {
+    for passed in 0..count {
         let place = bucket_of(first + passed);
         if let Some(second) = second_in(buckets, place) {
             return Some(second);
@@ -119,15 +121,18 @@ fn first_near(buckets: &[Vec<Entry>], from: u64) -> Option<u64>
     None
 }
 
-/// Whether an entry of the heap comes before a second.
-fn is_before(far: &BinaryHeap<Reverse<Entry>>, second: u64) -> bool
+/// How many buckets of a ring that begins in this second come before the heap: those of seconds before its top.
+fn near_count(far: &BinaryHeap<Reverse<Entry>>, from: u64) -> u64
     requires { IsHeap entry_cmp (heap_items far.now) }
-    ensures before { result ≡ true → (d : Reverse Entry) → (slice_index_or (heap_items far.now) 0 d).0.second < second }
-    ensures later { result ≡ false → NoneBefore second (later_entries (heap_items far.now)) }
+    ensures few { result ≤ RING_SECONDS }
+    ensures later { (second : ℕ) → from ≤ second → second < from + result → NoneBefore second (later_entries (heap_items far.now)) }
+    ensures whole { heap_items far.now ≡ [] → result ≡ RING_SECONDS }
+    ensures top { (result ≡ RING_SECONDS) ⊎ ((top : Reverse Entry) × (slice_index_or (heap_items far.now) 0 top ≡ top)
+        × (top.0.second ≤ from + result)) }
 {
     match far.peek() {
-        None => false,
-        Some(top) => top.0.second < second,
+        None => RING_SECONDS,
+        Some(top) => top.0.second.saturating_sub(from).min(RING_SECONDS),
     }
 }
 
@@ -156,6 +161,25 @@ fn take_far(far: &mut BinaryHeap<Reverse<Entry>>) -> Option<Entry>
     }
 }
 
+/// Empties the bucket in this place.
+fn empty_bucket(buckets: &mut Vec<Vec<Entry>>, place: usize)
+    requires { place < length buckets.old.items }
+    ensures { map (λ bucket. bucket.items) buckets.new.items ≡ slice_set (map (λ bucket. bucket.items) buckets.old.items) place [] }
+{
+    let bucket = &mut buckets[place];
+    bucket.clear();
+}
+
+/// Empties all buckets, which keep their memory.
+fn empty(buckets: &mut Vec<Vec<Entry>>)
+    ensures count { length buckets.new.items ≡ length buckets.old.items }
+    ensures none { all_of (map (λ bucket. bucket.items) buckets.new.items) ≡ [] }
+{
+    for place in 0..buckets.len() {
+        empty_bucket(buckets, place);
+    }
+}
+
 impl Waiting {
     /// No entry; the ring begins in this second.
     pub fn new(alloc: Global, second: u64) -> Result<Waiting, AllocError>
@@ -169,7 +193,17 @@ impl Waiting {
         })
     }
 
+    /// Takes all entries out and keeps their memory; the ring begins in this second.
+    pub fn clear(&mut self, second: u64)
+        ensures { self.new ≡ [] }
+    {
+        empty(&mut self.near);
+        self.far.clear();
+        self.from = second;
+    }
+
     /// One entry more.
+    #[inline(always)]
     pub fn push(&mut self, entry: Entry) -> Result<(), AllocError>
         ensures { OnOk result (IsPermutation (entry ∷ self.old) self.new) }
     {
@@ -186,17 +220,15 @@ impl Waiting {
         ensures some { IfSome result (λ entry. IsTaken entry self.old self.new) }
         ensures none { IfNone result ((self.old ≡ []) × (self.new ≡ [])) }
     {
-        let Some(second) = first_near(&self.near, self.from) else {
-            let Some(entry) = take_far(&mut self.far) else {
-                return None;
-            };
-            self.from = entry.second;
-            return Some(entry);
-        };
-        if is_before(&self.far, second) {
-            return take_far(&mut self.far);
+        let count = near_count(&self.far, self.from);
+        if let Some(second) = first_near(&self.near, self.from, count) {
+            self.from = second;
+            return take_near(&mut self.near, second);
         }
-        self.from = second;
-        take_near(&mut self.near, second)
+        let Some(entry) = take_far(&mut self.far) else {
+            return None;
+        };
+        self.from = self.from.max(entry.second);
+        Some(entry)
     }
 }

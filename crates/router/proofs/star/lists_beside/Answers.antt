@@ -1,4 +1,4 @@
-use Rattle.std.proofs.Common.{arith, ℕ, List, map, length, Vec, Global, ap, refl, ◌∙◌}
+use Rattle.std.proofs.Common.{arith, List, map, length, Vec, Global, ap, refl, ◌∙◌}
 use Rattle.std.proofs.lemmas.List.{length-map, length-set}
 use Rattle.router.proofs.Stars.{beside_push}
 use Rattle.std.specs.Prelude.{slice_index}

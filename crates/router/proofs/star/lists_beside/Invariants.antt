@@ -1,4 +1,4 @@
-use Rattle.std.{proofs.Common.◌≡◌, proofs.Common.ℕ, proofs.Common.map, proofs.Common.length, proofs.Common.Vec, proofs.Common.Global, specs.Prelude.slice_index}
+use Rattle.std.{proofs.Common.◌≡◌, proofs.Common.map, proofs.Common.length, proofs.Common.Vec, proofs.Common.Global, specs.Prelude.slice_index}
 use Rattle.router.specs.Stars.{AreBeside}
 use Rattle.router.specs.declared.star.Spoke.{Spoke}
 use Rattle.router.proofs.star.lists_beside.Given as goal

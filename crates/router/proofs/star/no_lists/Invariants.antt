@@ -1,4 +1,4 @@
-use Rattle.std.proofs.Common.{◌≡◌, ℕ, [], map, replicate, Vec, Global}
+use Rattle.std.proofs.Common.{◌≡◌, [], map, replicate, Vec, Global}
 use Rattle.router.specs.declared.star.Spoke.{Spoke}
 use Rattle.router.proofs.star.no_lists.Given as goal
 

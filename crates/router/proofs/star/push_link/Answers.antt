@@ -1,4 +1,4 @@
-use Rattle.std.proofs.Common.{ℕ, List, [], ◌∷◌, ◌++◌, map, Vec, Global, ap, sym, ◌∙◌}
+use Rattle.std.proofs.Common.{List, [], ◌∷◌, ◌++◌, map, Vec, Global, ap, sym, ◌∙◌}
 use Rattle.std.{proofs.lemmas.List.map-set, proofs.lemmas.List.get_or-map, specs.Prelude.slice_set}
 use Rattle.router.specs.declared.star.Spoke.{Spoke}
 use Rattle.router.proofs.star.push_link.Goals as goal

@@ -1,4 +1,4 @@
-use Rattle.std.proofs.Common.{◌≡◌, ℕ, List, length, map, Vec, Global, ap, sym, ◌∙◌, subst}
+use Rattle.std.proofs.Common.{◌≡◌, List, length, map, Vec, Global, ap, sym, ◌∙◌, subst}
 use Rattle.std.{proofs.lemmas.List.take_all, specs.Prelude.slice_index}
 use Rattle.router.specs.Stars.{AreBeside}
 use Rattle.router.specs.declared.star.Spoke.{Spoke}

@@ -1,4 +1,4 @@
-use Rattle.std.proofs.Common.{◌≡◌, ℕ, map, take, Vec, Global}
+use Rattle.std.proofs.Common.{◌≡◌, map, take, Vec, Global}
 use Rattle.router.specs.declared.star.Spoke.{Spoke}
 use Rattle.router.proofs.star.star_beside.Given as goal
 

@@ -1,4 +1,4 @@
-use Rattle.std.proofs.Common.{rules, arith, ◌≡◌, ◌++◌, ◌∷◌, List, [], length, map, Vec, Global, ap, ◌∙◌}
+use Rattle.std.proofs.Common.{arith, ◌≡◌, ◌++◌, ◌∷◌, List, [], length, map, Vec, Global, ap, ◌∙◌}
 use Rattle.std.proofs.lemmas.List.{length-append, map-append}
 use Rattle.router.{proofs.Ringing.all_push_none, specs.Rings.all_of, specs.declared.waiting.Entry.Entry}
 use Rattle.router.proofs.waiting.no_buckets.Goals as goal

@@ -1,4 +1,4 @@
-use Rattle.std.proofs.Common.{arith, ◌≡◌, ◌<◌, ◌++◌, ◌∷◌, ℕ, List, [], length, map, Vec, Global, Option, None, Some, ap, sym, ◌∙◌}
+use Rattle.std.proofs.Common.{arith, ◌≡◌, ◌++◌, ℕ, List, [], map, Vec, Global, Option, None, Some, ap, sym, ◌∙◌}
 use Rattle.std.proofs.lemmas.List.{map-set, get_or-map}
 use Rattle.std.specs.Prelude.{slice_set, option_to_list, IfSome}
 use Rattle.router.specs.{Rings.IsOut, Rings.bucket_at, declared.waiting.Entry.Entry}

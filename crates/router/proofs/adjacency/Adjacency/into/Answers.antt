@@ -1,4 +1,4 @@
-use Rattle.std.proofs.Common.{ℕ, List, ◌<◌, ◌≡◌, length, map, sym, subst}
+use Rattle.std.proofs.Common.{List, ◌<◌, ◌≡◌, length, map, sym, subst}
 use Rattle.std.specs.Prelude.{All, Contains}
 use Rattle.walks.specs.Walks.{start_of, end_of}
 use Rattle.router.{proofs.Graphs.into_each, proofs.Graphs.into_every, specs.declared.star.Spoke.Spoke}

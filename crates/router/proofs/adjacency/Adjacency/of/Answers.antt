@@ -1,10 +1,10 @@
 use Rattle.std.proofs.Common.{arith, ◌≡◌, ◌<◌, ℕ, List, length, map, ap, sym, ◌∙◌, subst}
 use Rattle.std.{proofs.lemmas.List.length-map, specs.List.zip, specs.Prelude.All, specs.Prelude.slice_index}
 use Rattle.rows.specs.{Joined.ends_of, declared.network.LinkRow.LinkRow}
-use Rattle.walks.specs.Walks.{end_of, AreWithin}
+use Rattle.walks.specs.Walks.{AreWithin}
 use Rattle.router.proofs.Stars.{beside_same}
 use Rattle.router.proofs.Graphs.{start_is, end_is, zip_ends, network_within, starts_within_nodes, ends_within_nodes}
-use Rattle.router.specs.{Graphs.Graph, Stars.AreBeside}
+use Rattle.router.specs.{Graphs.Graph}
 use Rattle.router.proofs.adjacency.Adjacency.of.Goals as goal
 
 pub star_beside-requires-clause-within : goal.star_beside-requires-clause-within

@@ -1,4 +1,4 @@
-use Rattle.std.proofs.Common.{rules, arith, ◌≡◌, ℕ, List, ap, length}
+use Rattle.std.proofs.Common.{rules, arith, ◌≡◌, List, ap, length}
 use Rattle.router.proofs.Stars.{length-lists}
 use Rattle.router.specs.declared.star.Spoke.{Spoke}
 use Rattle.router.proofs.star.Star.len.Goals as goal

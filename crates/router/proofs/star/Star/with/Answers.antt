@@ -1,4 +1,4 @@
-use Rattle.std.proofs.Common.{rules, ℕ, List, ◌∷◌, ◌++◌, [], ap, ◌∙◌}
+use Rattle.std.proofs.Common.{rules, List, ◌∷◌, ◌++◌, [], ap, ◌∙◌}
 use Rattle.router.proofs.Stars.{lists_push}
 use Rattle.router.specs.declared.star.Spoke.{Spoke}
 use Rattle.router.proofs.star.Star.with.Goals as goal

@@ -1,4 +1,4 @@
-use Rattle.std.proofs.Common.{length, map, Vec, Global, ◌∙◌}
+use Rattle.std.proofs.Common.{map, Vec, Global, ◌∙◌}
 use Rattle.std.proofs.lemmas.List.{length-map}
 use Rattle.router.{proofs.Ringing.ring_none, specs.declared.waiting.Entry.Entry}
 use Rattle.router.proofs.waiting.Waiting.new.Goals as goal

@@ -1,0 +1,11 @@
+use Rattle.std.proofs.Common.{ℕ, List, [], length, Option, None, ap, subst, ◌∙◌}
+use Rattle.std.proofs.lemmas.List.{length-replicate}
+use Rattle.router.specs.Frontiers.{IsFrontier}
+use Rattle.router.proofs.frontier.start_again.Goals as goal
+
+pub returns-clause-search : goal.returns-clause-search
+returns-clause-search c ends arrive =
+    subst (λ (n : ℕ). IsFrontier n ends arrive c.in_ok-again.again [])
+    (ap (λ (ls : List (Option ℕ)). length ls) c.in_ok-labels.ensures
+    ∙ length-replicate {A = Option ℕ} (length c.args.frontier.labels.items) None)
+    (c.in_ok-again.ensures.search ends arrive)

@@ -1,3 +1,4 @@
 pub mod Wanting
 pub mod Finding
+pub mod Parts
 pub mod Routing

@@ -1,0 +1,101 @@
+-- The laws of journeys: what holds in every second of every day.
+use Rattle.std.specs.Prelude.{◌≡◌, ℕ, ◌+◌, ◌<◌, ◌≤◌, Bool, true, false, ◌&&◌, List, [], ◌∷◌, ◌++◌, length, map, filter, take, drop, get_or, All, Option, None, Some}
+use Rattle.events.specs.{Persons.names, declared.event.VehicleId.VehicleId, declared.event.Word.Word}
+use Rattle.events.specs.declared.event.Word.TheVariants as word
+use Rattle.events.specs.declared.event.VehicleId.TheVariants as vehicle
+use Rattle.rows.specs.declared.plan.{Leg.Leg}
+use Rattle.rows.specs.declared.plan.Leg.TheVariants as leg
+use Rattle.traffic.specs.{Day.day, Day.world_at, Setup.leg_at, Setup.link_row, Rows.World, Rows.at, Setup.Setup, Setup.departure, Setup.seconds_of, Vehicles.VehicleState}
+use Rattle.traffic.specs.declared.{riders.Rider.Rider, stage.Stage.TheVariants.Queue}
+use Rattle.traffic.specs.declared.world.Row.{Row}
+use Rattle.law_journeys.specs.News.{News, news, events_in_seconds}
+
+-- SEATS
+-- in a car rides its driver and nobody else; in a transit vehicle ride no more than it has seats
+abbrev pub IsSeated : Setup → VehicleState → VehicleId → Type 0
+IsSeated S v (vehicle.Car i) = (length v.riders ≡ 1) × All (λ (x : Rider). x.person ≡ i) v.riders
+IsSeated S v (vehicle.Transit d) = length v.riders ≤ (departure S d).seats
+
+-- after t seconds of the day nobody rides in a vehicle with more riders than seats
+abbrev pub KeepsSeats : Setup → ℕ → Type 0
+KeepsSeats S t = All (λ (r : Row). IsSeated S r.vehicle r.vehicle.id) (world_at S t).rows
+
+-- QUEUES
+-- a vehicle, and the second from which on it may leave the queue
+abbrev pub Queued : Type 0
+Queued = Option VehicleId × ℕ
+
+-- the queue of a link in a world, from its front on
+abbrev pub queue_of : ℕ → World → List Queued
+queue_of l W = map (λ (r : Row). (Some r.vehicle.id, r.second)) (at l Queue W)
+
+abbrev pub is_entered_link : Word → Bool
+is_entered_link word.EnteredLink = true
+is_entered_link _ = false
+
+-- a vehicle enters link l
+abbrev pub enters_link : ℕ → News → Bool
+enters_link l e = is_entered_link e.what.word && names l e.what.link
+
+-- those who enter link l, in order: each may leave its queue when its free-flow seconds are over
+abbrev pub entering : Setup → ℕ → List News → List Queued
+entering S l es = map (λ (e : News). (e.what.vehicle, e.second + seconds_of S l)) (filter (enters_link l) es)
+
+-- the queue of link l after t seconds of the day, and behind it those who enter in the next n seconds
+abbrev pub queue_and_entering : Setup → ℕ → ℕ → ℕ → List Queued
+queue_and_entering S l t n = queue_of l (world_at S t) ++ entering S l (news (events_in_seconds S t n))
+
+-- The queue of link l is first in, first out over the n seconds from second t on, and nobody leaves it before his free-flow seconds are over.
+-- Of those who are in the queue at the start and those who enter in these seconds, in this order, the first so many have left, each in
+-- a second no earlier than that from which on it may; and the others are the queue at the end, in this order.
+abbrev pub QueueIsKept : Setup → ℕ → ℕ → ℕ → Type 0
+QueueIsKept S l t n =
+    (left : ℕ)
+    × All (λ (q : Queued). q.1 < t + n) (take left (queue_and_entering S l t n))
+    × (queue_of l (world_at S (t + n)) ≡ drop left (queue_and_entering S l t n))
+
+-- CONTINUITY
+-- the first of these links ends where the second one begins
+abbrev pub AreJoined : Setup → Option ℕ → Option ℕ → Type 0
+AreJoined S (Some a) (Some b) = (link_row S a).to ≡ (link_row S b).from
+AreJoined S _ _ = ⊥
+
+-- a vehicle left a link in the same second, right before it entered the one after it
+pub record IsCrossing (S : Setup) (left entered : News) : Type 0 where
+  pub left_link : left.what.word ≡ word.LeftLink
+  pub vehicle : left.what.vehicle ≡ entered.what.vehicle
+  pub second : left.second ≡ entered.second
+  pub joined : AreJoined S left.what.link entered.what.link
+
+abbrev pub IsDrivenFrom : ℕ → Leg → Type 0
+IsDrivenFrom l (leg.Car route) = get_or route 0 0 ≡ l
+IsDrivenFrom l _ = ⊥
+
+-- a vehicle's journey begins on link l: a leg of the person whose car it is, or the route of the departure
+abbrev pub BeginsOn : Setup → ℕ → VehicleId → Type 0
+BeginsOn S l (vehicle.Car i) = (k : ℕ) × IsDrivenFrom l (leg_at S i k)
+BeginsOn S l (vehicle.Transit d) = get_or (departure S d).route 0 0 ≡ l
+
+-- what lets a vehicle come to a link: it entered the link right after it left one that ends where this one begins, or it entered traffic
+-- where its journey begins
+abbrev pub IsAfter : Setup → Option News → News → Type 0
+IsAfter S None e = ⊥
+IsAfter S (Some before) e = IsCrossing S before e
+
+abbrev pub IsAtStart : Setup → Option VehicleId → Option ℕ → Type 0
+IsAtStart S (Some v) (Some l) = BeginsOn S l v
+IsAtStart S _ _ = ⊥
+
+abbrev pub MayCome : Setup → Option News → News → Word → Type 0
+MayCome S before e word.EnteredLink = IsAfter S before e
+MayCome S before e word.VehicleEntersTraffic = IsAtStart S e.what.vehicle e.what.link
+MayCome S before e _ = Unit {0}
+
+-- each of these, which come after that one, is such
+abbrev pub MayAllCome : Setup → Option News → List News → Type 0
+MayAllCome S before [] = Unit {0}
+MayAllCome S before (e ∷ es) = MayCome S before e e.what.word × MayAllCome S (Some e) es
+
+-- in the whole day a vehicle comes to a link from one that ends where this one begins, or where its journey begins, and in no other way
+abbrev pub IsContinuous : Setup → Type 0
+IsContinuous S = MayAllCome S None (news (day S))

@@ -1,0 +1,21 @@
+//! Laws of journeys, in every second of every day. Each is the contract of a call that does nothing.
+#![tactic(auto)]
+
+ghost use Rattle.std.specs.Prelude.{ℕ};
+ghost use Rattle.traffic.specs.Setup.{Setup};
+ghost use Rattle.law_journeys.specs.Journeys.{KeepsSeats, QueueIsKept, IsContinuous};
+
+/// Nobody rides in a vehicle with more riders than seats: in a car its driver alone.
+pub fn riders_have_seats()
+    ensures { (S : Setup) (t : ℕ) → KeepsSeats S t }
+{}
+
+/// The queue of a link is first in, first out, and nobody leaves it before the free-flow seconds of the link are over.
+pub fn queues_are_first_in_first_out()
+    ensures { (S : Setup) (l t n : ℕ) → QueueIsKept S l t n }
+{}
+
+/// A vehicle comes to a link from one that ends where this one begins, or where its journey begins, and in no other way.
+pub fn links_gain_over_nodes()
+    ensures { (S : Setup) → IsContinuous S }
+{}

@@ -62,7 +62,7 @@ rows_done Q (SetFrontSince l t) rows b h = each_with_first (λ (r : Row). Q r.st
 rows_done Q _ rows b h = h
 
 -- SERVED AT A STOP
-car_not_served : (S : Setup) (l i : ℕ) (v : VehicleState) → calls_on l v ≡ true → IsCar S i v → ⊥
+pub car_not_served : (S : Setup) (l i : ℕ) (v : VehicleState) → calls_on l v ≡ true → IsCar S i v → ⊥
 car_not_served S l i v h f =
     let lt = ltb-true v.served (length v.calls) (and_parts (nat_lt v.served (length v.calls)) ((next_call v).link == l) h).0 in
     let none = ap length f.calls in

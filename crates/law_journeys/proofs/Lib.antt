@@ -6,3 +6,5 @@ pub mod Fit
 pub mod Queues
 pub mod Endings
 pub mod Coming
+pub mod Balance
+pub mod Counts

@@ -1,11 +1,11 @@
 -- The laws of journeys: what holds in every second of every day.
-use Rattle.std.specs.Prelude.{◌≡◌, ℕ, ◌+◌, ◌<◌, ◌≤◌, Bool, true, false, ◌&&◌, List, [], ◌∷◌, ◌++◌, length, map, filter, take, drop, get_or, All, Option, None, Some}
+use Rattle.std.specs.Prelude.{◌≡◌, ℕ, ◌+◌, ◌<◌, ◌≤◌, Bool, true, false, ◌&&◌, List, [], ◌∷◌, ◌++◌, length, map, filter, take, drop, get_or, count_by, ◌==◌, All, Option, None, Some}
 use Rattle.events.specs.{Persons.names, declared.event.VehicleId.VehicleId, declared.event.Word.Word}
 use Rattle.events.specs.declared.event.Word.TheVariants as word
 use Rattle.events.specs.declared.event.VehicleId.TheVariants as vehicle
 use Rattle.rows.specs.declared.plan.{Leg.Leg}
 use Rattle.rows.specs.declared.plan.Leg.TheVariants as leg
-use Rattle.traffic.specs.{Day.day, Day.world_at, Setup.leg_at, Setup.link_row, Rows.World, Rows.at, Setup.Setup, Setup.departure, Setup.seconds_of, Vehicles.VehicleState}
+use Rattle.traffic.specs.{Day.day, Day.events_from, Day.world_start, Day.world_at, Persons.same_vehicle, Worlds.rows_of, Setup.leg_at, Setup.link_row, Rows.World, Rows.at, Setup.Setup, Setup.departure, Setup.seconds_of, Vehicles.VehicleState}
 use Rattle.traffic.specs.declared.{riders.Rider.Rider, stage.Stage.TheVariants.Queue}
 use Rattle.traffic.specs.declared.world.Row.{Row}
 use Rattle.law_journeys.specs.News.{News, news, events_in_seconds}
@@ -99,3 +99,60 @@ MayAllCome S before (e ∷ es) = MayCome S before e e.what.word × MayAllCome S 
 -- in the whole day a vehicle comes to a link from one that ends where this one begins, or where its journey begins, and in no other way
 abbrev pub IsContinuous : Setup → Type 0
 IsContinuous S = MayAllCome S None (news (day S))
+
+-- CONSERVATION
+-- what is told in the first t seconds of the day
+abbrev pub told_before : Setup → ℕ → List News
+told_before S t = news (events_from S (world_start S) t)
+
+abbrev pub is_vehicle : VehicleId → Option VehicleId → Bool
+is_vehicle v None = false
+is_vehicle v (Some u) = same_vehicle u v
+
+-- a vehicle sets out: its driver enters his car, or its transit driver starts
+abbrev pub sets_out_by : VehicleId → Word → Bool
+sets_out_by (vehicle.Car i) word.PersonEntersVehicle = true
+sets_out_by (vehicle.Transit d) word.TransitDriverStarts = true
+sets_out_by _ _ = false
+
+abbrev pub sets_out : VehicleId → News → Bool
+sets_out v e = sets_out_by v e.what.word && is_vehicle v e.what.vehicle
+
+-- it arrives at the end of its route, or it is removed
+abbrev pub ends_by : Word → Bool
+ends_by word.VehicleLeavesTraffic = true
+ends_by word.VehicleAborts = true
+ends_by _ = false
+
+abbrev pub ends : VehicleId → News → Bool
+ends v e = ends_by e.what.word && is_vehicle v e.what.vehicle
+
+-- it comes to a link: it enters traffic there, or it enters the link over a node
+abbrev pub comes_by : Word → Bool
+comes_by word.VehicleEntersTraffic = true
+comes_by word.EnteredLink = true
+comes_by _ = false
+
+abbrev pub comes_to : VehicleId → ℕ → News → Bool
+comes_to v l e = comes_by e.what.word && (is_vehicle v e.what.vehicle && names l e.what.link)
+
+-- it goes from a link: it leaves the link over a node, it arrives there, or it is removed there
+abbrev pub goes_by : Word → Bool
+goes_by word.LeftLink = true
+goes_by word.VehicleLeavesTraffic = true
+goes_by word.VehicleAborts = true
+goes_by _ = false
+
+abbrev pub goes_from : VehicleId → ℕ → News → Bool
+goes_from v l e = goes_by e.what.word && (is_vehicle v e.what.vehicle && names l e.what.link)
+
+-- it has entered traffic and is on this link
+abbrev pub drives_on : VehicleId → ℕ → Row → Bool
+drives_on v l r = r.vehicle.started && (same_vehicle r.vehicle.id v && (r.link == l))
+
+-- After t seconds of the day a vehicle set out as often as it is under way, has arrived and was removed; it is under way in no more than
+-- one place; and it came to each link as often as it is there and went from it.
+pub record IsConserved (S : Setup) (t : ℕ) (v : VehicleId) : Type 0 where
+  pub journeys : count_by (sets_out v) (told_before S t) ≡ length (rows_of v (world_at S t).rows) + count_by (ends v) (told_before S t)
+  pub once : length (rows_of v (world_at S t).rows) ≤ 1
+  pub links : (l : ℕ) → count_by (comes_to v l) (told_before S t) ≡ count_by (drives_on v l) (world_at S t).rows + count_by (goes_from v l) (told_before S t)

@@ -2,8 +2,9 @@
 #![tactic(auto)]
 
 ghost use Rattle.std.specs.Prelude.{ℕ};
+ghost use Rattle.events.specs.declared.event.VehicleId.{VehicleId};
 ghost use Rattle.traffic.specs.Setup.{Setup};
-ghost use Rattle.law_journeys.specs.Journeys.{KeepsSeats, QueueIsKept, IsContinuous};
+ghost use Rattle.law_journeys.specs.Journeys.{KeepsSeats, QueueIsKept, IsContinuous, IsConserved};
 
 /// Nobody rides in a vehicle with more riders than seats: in a car its driver alone.
 pub fn riders_have_seats()
@@ -18,4 +19,9 @@ pub fn queues_are_first_in_first_out()
 /// A vehicle comes to a link from one that ends where this one begins, or where its journey begins, and in no other way.
 pub fn links_gain_over_nodes()
     ensures { (S : Setup) → IsContinuous S }
+{}
+
+/// Vehicles are conserved: each that set out is under way in one place, has arrived or was removed; and so on each link.
+pub fn vehicles_are_conserved()
+    ensures { (S : Setup) (t : ℕ) (v : VehicleId) → IsConserved S t v }
 {}

@@ -8,3 +8,6 @@ pub mod Endings
 pub mod Coming
 pub mod Balance
 pub mod Counts
+pub mod Places
+pub mod Persons
+pub mod Activities

@@ -1,11 +1,11 @@
 -- The laws of journeys: what holds in every second of every day.
-use Rattle.std.specs.Prelude.{◌≡◌, ℕ, ◌+◌, ◌<◌, ◌≤◌, Bool, true, false, ◌&&◌, List, [], ◌∷◌, ◌++◌, length, map, filter, take, drop, get_or, count_by, ◌==◌, All, Option, None, Some}
+use Rattle.std.specs.Prelude.{◌≡◌, ℕ, ◌+◌, ◌<◌, ◌≤◌, Bool, true, false, ◌&&◌, ◌||◌, List, [], ◌∷◌, ◌++◌, length, map, filter, take, drop, get_or, count_by, ◌==◌, All, Option, None, Some}
 use Rattle.events.specs.{Persons.names, declared.event.VehicleId.VehicleId, declared.event.Word.Word}
 use Rattle.events.specs.declared.event.Word.TheVariants as word
 use Rattle.events.specs.declared.event.VehicleId.TheVariants as vehicle
-use Rattle.rows.specs.declared.plan.{Leg.Leg}
+use Rattle.rows.specs.declared.plan.{Act.Act, Leg.Leg}
 use Rattle.rows.specs.declared.plan.Leg.TheVariants as leg
-use Rattle.traffic.specs.{Day.day, Day.events_from, Day.world_start, Day.world_at, Persons.same_vehicle, Worlds.rows_of, Setup.leg_at, Setup.link_row, Rows.World, Rows.at, Setup.Setup, Setup.departure, Setup.seconds_of, Vehicles.VehicleState}
+use Rattle.traffic.specs.{Day.day, Day.events_from, Day.world_start, Day.world_at, Persons.same_vehicle, Worlds.rows_of, Moves.ends_at, Setup.leg_at, Setup.link_row, Setup.person_plan, Rows.World, Rows.at, Setup.Setup, Setup.departure, Setup.seconds_of, Vehicles.VehicleState}
 use Rattle.traffic.specs.declared.{riders.Rider.Rider, stage.Stage.TheVariants.Queue}
 use Rattle.traffic.specs.declared.world.Row.{Row}
 use Rattle.law_journeys.specs.News.{News, news, events_in_seconds}
@@ -156,3 +156,37 @@ pub record IsConserved (S : Setup) (t : ℕ) (v : VehicleId) : Type 0 where
   pub journeys : count_by (sets_out v) (told_before S t) ≡ length (rows_of v (world_at S t).rows) + count_by (ends v) (told_before S t)
   pub once : length (rows_of v (world_at S t).rows) ≤ 1
   pub links : (l : ℕ) → count_by (comes_to v l) (told_before S t) ≡ count_by (drives_on v l) (world_at S t).rows + count_by (goes_from v l) (told_before S t)
+
+-- ACTIVITIES
+abbrev pub begins_activity : Word → Bool
+begins_activity word.ActStart = true
+begins_activity _ = false
+
+abbrev pub ends_activity : Word → Bool
+ends_activity word.ActEnd = true
+ends_activity _ = false
+
+-- the beginnings and the ends of the activities of person i
+abbrev pub activities : ℕ → List News → List News
+activities i es = filter (λ (e : News). (begins_activity e.what.word || ends_activity e.what.word) && names i e.what.person) es
+
+abbrev pub begun : List News → ℕ
+begun es = count_by (λ (e : News). begins_activity e.what.word) es
+
+-- activity k of a person's plan
+abbrev pub activity : Setup → ℕ → ℕ → Act
+activity S i k = get_or (person_plan S i).acts k (record { kind = 0; link = 0; end = None })
+
+-- What follows of a person's activities while he is at one that ends in this second: its end, in this very second; or nothing, where the day
+-- is over by then, or where it has no end.
+abbrev pub EndsAt : Setup → Option ℕ → List News → Type 0
+EndsAt S None es = es ≡ []
+EndsAt S (Some u) [] = S.settings.end_second ≤ u
+EndsAt S (Some u) (e ∷ es) = (e.what.word ≡ word.ActEnd) × (e.second ≡ u) × (u < S.settings.end_second)
+
+-- The activities of person i end as planned: the first one in the second that the plan gives, and each that begins in a second of the day in
+-- the second that the plan gives, but not before the next one.
+pub record EndAsPlanned (S : Setup) (i : ℕ) : Type 0 where
+  pub first : EndsAt S (activity S i 0).end (activities i (news (day S)))
+  pub later : (before after : List News) (e : News) → activities i (news (day S)) ≡ before ++ e ∷ after → e.what.word ≡ word.ActStart
+      → EndsAt S (ends_at (activity S i (begun before + 1)).end e.second) after

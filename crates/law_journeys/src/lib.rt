@@ -1,10 +1,10 @@
 //! Laws of journeys, in every second of every day. Each is the contract of a call that does nothing.
 #![tactic(auto)]
 
-ghost use Rattle.std.specs.Prelude.{ℕ};
+ghost use Rattle.std.specs.Prelude.{ℕ, ◌<◌, length};
 ghost use Rattle.events.specs.declared.event.VehicleId.{VehicleId};
 ghost use Rattle.traffic.specs.Setup.{Setup};
-ghost use Rattle.law_journeys.specs.Journeys.{KeepsSeats, QueueIsKept, IsContinuous, IsConserved};
+ghost use Rattle.law_journeys.specs.Journeys.{KeepsSeats, QueueIsKept, IsContinuous, IsConserved, EndAsPlanned};
 
 /// Nobody rides in a vehicle with more riders than seats: in a car its driver alone.
 pub fn riders_have_seats()
@@ -24,4 +24,9 @@ pub fn links_gain_over_nodes()
 /// Vehicles are conserved: each that set out is under way in one place, has arrived or was removed; and so on each link.
 pub fn vehicles_are_conserved()
     ensures { (S : Setup) (t : ℕ) (v : VehicleId) → IsConserved S t v }
+{}
+
+/// An activity ends in the second that the plan gives, but not before the one after it began.
+pub fn activities_end_as_planned()
+    ensures { (S : Setup) (i : ℕ) → i < length S.persons → EndAsPlanned S i }
 {}

@@ -1,0 +1,5 @@
+use Rattle.law_journeys.proofs.Activities.{end_as_planned}
+use Rattle.law_journeys.proofs.activities_end_as_planned.Goals as goal
+
+pub returns : goal.returns
+returns c = end_as_planned

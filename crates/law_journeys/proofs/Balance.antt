@@ -13,7 +13,7 @@ use Rattle.law_journeys.specs.News.{News}
 pub record IsTimeless (h : Row → ℕ) : Type 0 where
   pub same : (t l : ℕ) (r : Row) → on l Buffer r ≡ true → h (at_second t r) ≡ h r
 
-sum_without : (h : Row → ℕ) (p : Row → Bool) (k : ℕ) (r : Row) (xs : List Row) → slice_get (filter p xs) k ≡ Some r → sum_by h (without p k xs) + h r ≡ sum_by h xs
+pub sum_without : (h : Row → ℕ) (p : Row → Bool) (k : ℕ) (r : Row) (xs : List Row) → slice_get (filter p xs) k ≡ Some r → sum_by h (without p k xs) + h r ≡ sum_by h xs
 sum_without h p k r [] e = absurd (cc)
 sum_without h p zero r (x ∷ xs) e = grind (arith, ap h, sum_by-cons h x xs, sum_by-cons h x (without p zero xs), sum_without h p zero r xs)
 sum_without h p (suc k) r (x ∷ xs) e = grind (arith, sum_by-cons h x xs, sum_by-cons h x (without p k xs), sum_by-cons h x (without p (suc k) xs), sum_without h p k r xs, sum_without h p (suc k) r xs)

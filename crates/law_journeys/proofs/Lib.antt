@@ -11,3 +11,5 @@ pub mod Counts
 pub mod Places
 pub mod Persons
 pub mod Activities
+pub mod Singles
+pub mod Driving

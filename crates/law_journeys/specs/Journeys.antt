@@ -54,6 +54,21 @@ QueueIsKept S l t n =
     × All (λ (q : Queued). q.1 < t + n) (take left (queue_and_entering S l t n))
     × (queue_of l (world_at S (t + n)) ≡ drop left (queue_and_entering S l t n))
 
+-- FREE FLOW
+-- What is told of a vehicle on a link after it entered the link comes when its free-flow seconds there are over.
+abbrev pub IsFreeFlow : Setup → News → News → Type 0
+IsFreeFlow S e f =
+    (v : VehicleId) (l : ℕ) → e.what.word ≡ word.EnteredLink → e.what.vehicle ≡ Some v → e.what.link ≡ Some l
+    → f.what.vehicle ≡ Some v → f.what.link ≡ Some l → e.second + seconds_of S l ≤ f.second
+
+abbrev pub AreFreeFlow : Setup → List News → Type 0
+AreFreeFlow S [] = Unit {0}
+AreFreeFlow S (e ∷ es) = All (IsFreeFlow S e) es × AreFreeFlow S es
+
+-- in the whole day nothing is told of a vehicle on a link that it entered before its free-flow seconds are over
+abbrev pub NobodyIsEarly : Setup → Type 0
+NobodyIsEarly S = AreFreeFlow S (news (day S))
+
 -- CONTINUITY
 -- the first of these links ends where the second one begins
 abbrev pub AreJoined : Setup → Option ℕ → Option ℕ → Type 0

@@ -4,7 +4,7 @@
 ghost use Rattle.std.specs.Prelude.{ℕ, ◌<◌, length};
 ghost use Rattle.events.specs.declared.event.VehicleId.{VehicleId};
 ghost use Rattle.traffic.specs.Setup.{Setup};
-ghost use Rattle.law_journeys.specs.Journeys.{KeepsSeats, QueueIsKept, IsContinuous, IsConserved, EndAsPlanned};
+ghost use Rattle.law_journeys.specs.Journeys.{KeepsSeats, QueueIsKept, NobodyIsEarly, IsContinuous, IsConserved, EndAsPlanned};
 
 /// Nobody rides in a vehicle with more riders than seats: in a car its driver alone.
 pub fn riders_have_seats()
@@ -29,4 +29,9 @@ pub fn vehicles_are_conserved()
 /// An activity ends in the second that the plan gives, but not before the one after it began.
 pub fn activities_end_as_planned()
     ensures { (S : Setup) (i : ℕ) → i < length S.persons → EndAsPlanned S i }
+{}
+
+/// Nothing is told of a vehicle on a link that it entered before its free-flow seconds there are over.
+pub fn vehicles_take_their_time()
+    ensures { (S : Setup) → NobodyIsEarly S }
 {}

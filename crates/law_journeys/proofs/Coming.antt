@@ -62,7 +62,7 @@ module _ (S : Setup) (t : ℕ) where
   Comes W m = Fit S W → Come S (spoken t m)
 
   links : OfStops IsElse
-  links = record { comes = λ S before e. tt; goes = λ S before e. tt; leaves = λ S before e. tt; arrives = λ S before e. tt; begins = λ S before e. tt; enters = λ S before e. tt }
+  links = record { comes = λ S before e. tt; leaves = λ S before e. tt; arrives = λ S before e. tt; begins = λ S before e. tt; enters = λ S before e. tt }
 
   fit_row : (a : ℕ) (s : Stage) (r : Row) (xs : List Row) (W : World) → Fit S W → at a s W ≡ r ∷ xs → IsFit S r.stage r.link r.vehicle
   fit_row a s r xs W h e = (front_is (λ (x : Row). IsFit S x.stage x.link x.vehicle) a s r xs W h e).0
@@ -89,7 +89,7 @@ module _ (S : Setup) (t : ℕ) where
   cases : Cases S t Comes
   cases =
       record {
-        due = λ a k r W e u. quiet (Transfer a Bay k r (waiting a r)) W (links.goes, tt);
+        due = λ a k r W e u. quiet (Transfer a Bay k r (waiting a r)) W ((λ S before e. tt), tt);
         serve = λ a s ws r xs W e u c q. (let now = served_row S.settings.dwell t a ws r.vehicle in front_comes a s r now xs W e (serves_words IsElse r now links));
         arrive = λ a s r xs W e u c o. end_comes a s r xs W e;
         pass = λ a s b r xs W e u c o. front_comes a s r (buffered t a b r) xs W e tt;

@@ -77,10 +77,10 @@ module _ (v : VehicleId) (l : ℕ) (S : Setup) (t : ℕ) where
   quiet m W e same a b = balanced (comes_to v l) (goes_from v l) (on_it v l) timeless S t m W e (let c = none_comes v l t (told m) a in let d = none_goes v l t (told m) b in omega arith)
 
   no_come : OfStops (λ w. comes_by w ≡ false)
-  no_come = record { comes = refl; goes = refl; leaves = refl; arrives = refl; begins = refl; enters = refl }
+  no_come = record { comes = refl; leaves = refl; arrives = refl; begins = refl; enters = refl }
 
   no_go : OfStops (λ w. goes_by w ≡ false)
-  no_go = record { comes = refl; goes = refl; leaves = refl; arrives = refl; begins = refl; enters = refl }
+  no_go = record { comes = refl; leaves = refl; arrives = refl; begins = refl; enters = refl }
 
   front_fit : (a : ℕ) (s : Stage) (r : Row) (xs : List Row) (W : World) → Fit S W → at a s W ≡ r ∷ xs → IsFit S s a r.vehicle × (r.link ≡ a)
   front_fit a s r xs W h e = (found (IsFit S) a s 0 r W.rows h (rw e refl), (front_is (λ x. Unit {0}) a s r xs W (each_all (λ x. Unit {0}) (λ x. tt) W.rows) e).2)
@@ -206,7 +206,7 @@ module _ (v : VehicleId) (S : Setup) (t : ℕ) where
   its_timeless = record { same = λ u a r e. refl }
 
   no_ends : OfStops (λ w. ends_by w ≡ false)
-  no_ends = record { comes = refl; goes = refl; leaves = refl; arrives = refl; begins = refl; enters = refl }
+  no_ends = record { comes = refl; leaves = refl; arrives = refl; begins = refl; enters = refl }
 
   balance : (m : Move) (W : World) → IsStanding m W → count_by (sets_out v) (spoken t m) + takes (its v) m ≡ brings (its v) m + count_by (ends v) (spoken t m) → KeepsHistory (IsBalanced (sets_out v) (ends v) (its v)) S t W m
   balance m W e d = balanced (sets_out v) (ends v) (its v) its_timeless S t m W e d

@@ -34,36 +34,36 @@ IsOf v (Some u) = u ≡ v
 abbrev pub AreOf : VehicleId → List Occurrence → Type 0
 AreOf v xs = Each (λ (x : Occurrence). IsOf v x.vehicle) xs
 
-leaves_of : (v : VehicleId) (l : ℕ) (rs : List Rider) → AreOf v (flat_map (leaves v l) rs)
+pub leaves_of : (v : VehicleId) (l : ℕ) (rs : List Rider) → AreOf v (flat_map (leaves v l) rs)
 leaves_of v l rs = each_flat_all (λ (x : Occurrence). IsOf v x.vehicle) (leaves v l) (λ r. (refl, (tt, (tt, tt)))) rs
 
-enters_of : (v : VehicleId) (rs : List Rider) → AreOf v (flat_map (enters v) rs)
+pub enters_of : (v : VehicleId) (rs : List Rider) → AreOf v (flat_map (enters v) rs)
 enters_of v rs = each_flat_all (λ (x : Occurrence). IsOf v x.vehicle) (enters v) (λ r. (refl, tt)) rs
 
-starts_of : (r : Row) → AreOf r.vehicle.id (starts r)
+pub starts_of : (r : Row) → AreOf r.vehicle.id (starts r)
 starts_of r = each_if (λ (x : Occurrence). IsOf r.vehicle.id x.vehicle) r.vehicle.started [] _ tt (refl, tt)
 
-arrives_of : (r : Row) → AreOf r.vehicle.id (arrives r)
+pub arrives_of : (r : Row) → AreOf r.vehicle.id (arrives r)
 arrives_of r = (refl, leaves_of r.vehicle.id r.link r.vehicle.riders)
 
-serves_of : (r now : Row) → AreOf r.vehicle.id (serves r now)
+pub serves_of : (r now : Row) → AreOf r.vehicle.id (serves r now)
 serves_of r now =
     let v = r.vehicle in
     let stop = (next_call v).stop in
     (refl, each_append (λ (x : Occurrence). IsOf v.id x.vehicle) (flat_map (leaves v.id r.link) (alighting stop v.riders)) _ (leaves_of v.id r.link (alighting stop v.riders)) (enters_of v.id (boarded stop v.riders now.vehicle.riders)))
 
-aborts_of : (r : Row) → AreOf r.vehicle.id (aborts r)
+pub aborts_of : (r : Row) → AreOf r.vehicle.id (aborts r)
 aborts_of r = (refl, each_flat_all (λ (x : Occurrence). IsOf r.vehicle.id x.vehicle) (strands r.vehicle.id r.link) (λ x. (tt, tt)) r.vehicle.riders)
 
-front_of : (s : Bool) (r now : Row) → AreOf r.vehicle.id (told_to now.stage r now) → AreOf r.vehicle.id (told_transfer (serving_stage s) r now)
+pub front_of : (s : Bool) (r now : Row) → AreOf r.vehicle.id (told_to now.stage r now) → AreOf r.vehicle.id (told_transfer (serving_stage s) r now)
 front_of false r now h = h
 front_of true r now h = each_append (λ (x : Occurrence). IsOf r.vehicle.id x.vehicle) (starts r) _ (starts_of r) h
 
-end_of : (s : Bool) (r : Row) → AreOf r.vehicle.id (told_removal (serving_stage s) r)
+pub end_of : (s : Bool) (r : Row) → AreOf r.vehicle.id (told_removal (serving_stage s) r)
 end_of false r = arrives_of r
 end_of true r = each_append (λ (x : Occurrence). IsOf r.vehicle.id x.vehicle) (starts r) _ (starts_of r) (arrives_of r)
 
-same_self : (v : VehicleId) → same_vehicle v v ≡ true
+pub same_self : (v : VehicleId) → same_vehicle v v ≡ true
 same_self (vehicle.Car i) = eq-eqb i i refl
 same_self (vehicle.Transit d) = eq-eqb d d refl
 
@@ -232,7 +232,7 @@ module _ (S : Setup) (v : VehicleId) (l t : ℕ) where
   Drives W m = IsDriven S v l t W m
 
   others : OfStops (λ w. is_entered_link w ≡ false)
-  others = record { comes = refl; goes = refl; leaves = refl; arrives = refl; begins = refl; enters = refl }
+  others = record { comes = refl; leaves = refl; arrives = refl; begins = refl; enters = refl }
 
   stage_of : (a : ℕ) (s : Stage) (k : ℕ) (r : Row) (W : World) → slice_get (at a s W) k ≡ Some r → r.stage ≡ s
   stage_of a s k r W e = (at_such (λ (x : Row). Unit {0}) a s k r W.rows (λ j d lt. tt) e).1

@@ -15,7 +15,7 @@ at_time t x = record { second = t; what = x }
 abbrev pub spoken : ℕ → Move → List News
 spoken t m = map (at_time t) (told m)
 
-abbrev spoken_all : ℕ → List Move → List News
+abbrev pub spoken_all : ℕ → List Move → List News
 spoken_all t ms = flat_map (spoken t) ms
 
 pub keyed_news : (t code n k : ℕ) (xs : List Occurrence) → news (keyed t code n k xs) ≡ map (at_time t) xs
@@ -62,6 +62,28 @@ second_keeps : (J : List News → World → Type 0) (S : Setup) (t : ℕ) (W : W
 second_keeps J S t W hs h j =
     subst (λ (xs : List News). J (hs ++ xs) (second S t W)) (sym (told_news S t phases W))
     (subst (λ (V : World). J (hs ++ spoken_all t (second_moves S t W)) V) (sym (through_moves S t phases W)) (moves_keep J S t (second_moves S t W) W hs h j))
+
+-- so a day, second by second
+pub day_by_moves : (J : ℕ → List News → World → Type 0) (S : Setup) → J zero [] (world_start S)
+    → ((t : ℕ) (hs : List News) → J t hs (world_at S t) → J (suc t) (hs ++ spoken_all t (second_moves S t (world_at S t))) (run S t (second_moves S t (world_at S t)) (world_at S t)))
+    → (t : ℕ) → J t (news (events_from S (world_start S) t)) (world_at S t)
+unfolding events_from world_from
+day_by_moves J S start step zero = start
+day_by_moves J S start step (suc t) =
+    let es = events_from S (world_start S) t in
+    let W = world_at S t in
+    subst (λ (xs : List News). J (suc t) xs (second S t W)) (sym (map-append news_of es (told_in S t phases W)))
+    (subst (λ (xs : List News). J (suc t) (news es ++ xs) (second S t W)) (sym (told_news S t phases W))
+    (subst (λ (V : World). J (suc t) (news es ++ spoken_all t (second_moves S t W)) V) (sym (through_moves S t phases W)) (step t (news es) (day_by_moves J S start step t))))
+
+-- a move keeps what holds of all that was told before it, of the world, and of the moves that are still to come
+abbrev pub KeepsRest : (List News → World → List Move → Type 0) → Setup → ℕ → World → Move → Type 0
+KeepsRest J S t W m = (hs : List News) (ms : List Move) → J hs W (m ∷ ms) → J (hs ++ spoken t m) (done S t m W) ms
+
+pub rest_kept : (J : List News → World → List Move → Type 0) (S : Setup) (t : ℕ) (ms : List Move) (W : World) (hs : List News) → Along (KeepsRest J S t) S t ms W → J hs W ms → J (hs ++ spoken_all t ms) (run S t ms W) []
+rest_kept J S t [] W hs h j = subst (λ (xs : List News). J xs W []) (sym (append-nil hs)) j
+rest_kept J S t (m ∷ ms) W hs h j =
+    subst (λ (xs : List News). J xs (run S t ms (done S t m W)) []) (append_assoc hs (spoken t m) (spoken_all t ms)) (rest_kept J S t ms (done S t m W) (hs ++ spoken t m) h.1 (h.0 hs ms j))
 
 -- J n holds of what is told in the first n seconds, and of the world after them: J t is J (t + 1) when second t begins, and each of its moves
 -- keeps this

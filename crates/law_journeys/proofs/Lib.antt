@@ -13,3 +13,4 @@ pub mod Persons
 pub mod Activities
 pub mod Singles
 pub mod Driving
+pub mod Buses

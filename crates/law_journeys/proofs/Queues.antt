@@ -36,7 +36,7 @@ abbrev IsOther : Word → Type 0
 IsOther w = is_entered_link w ≡ false
 
 others : OfStops IsOther
-others = record { comes = refl; goes = refl; leaves = refl; arrives = refl; begins = refl; enters = refl }
+others = record { comes = refl; leaves = refl; arrives = refl; begins = refl; enters = refl }
 
 none_enters : (S : Setup) (l t : ℕ) (xs : List Occurrence) → Words IsOther xs → entering S l (map (at_time t) xs) ≡ []
 none_enters S l t [] h = refl

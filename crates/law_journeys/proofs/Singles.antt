@@ -24,14 +24,14 @@ IsSingle v S t W m = (rows_it_has v W.rows ≤ 1) × (rows_it_has v (done S t m 
 
 -- WHAT A MOVE ADDS
 -- 1 for a move that brings a new vehicle, if it is this one
-abbrev new_one : VehicleId → Move → ℕ
+abbrev pub new_one : VehicleId → Move → ℕ
 new_one v (Enter now) = is_its v now.vehicle
 new_one v _ = 0
 
-abbrev new_ones : VehicleId → List Move → ℕ
+abbrev pub new_ones : VehicleId → List Move → ℕ
 new_ones v ms = sum_by (new_one v) ms
 
-taken_cases : (S : Setup) (t : ℕ) → Cases S t (λ W m. IsTaken m W)
+pub taken_cases : (S : Setup) (t : ℕ) → Cases S t (λ W m. IsTaken m W)
 unfolding served_vehicle
 taken_cases S t =
     record {
@@ -49,7 +49,7 @@ taken_cases S t =
       start = λ d W lt e. tt;
     }
 
-adds : (v : VehicleId) (S : Setup) (t : ℕ) (m : Move) (W : World) → IsTaken m W → rows_it_has v (done S t m W).rows ≤ rows_it_has v W.rows + new_one v m
+pub adds : (v : VehicleId) (S : Setup) (t : ℕ) (m : Move) (W : World) → IsTaken m W → rows_it_has v (done S t m W).rows ≤ rows_it_has v W.rows + new_one v m
 adds v S t (Transfer l s k was now) W h = omega (arith, ap (λ (x : VehicleId). counted x v 1) h.1, weighed (is_its v) (Transfer l s k was now) W h)
 adds v S t (Enter now) W h = let w = weighed (is_its v) (Enter now) W h in omega arith
 adds v S t (Remove l s k was) W h = let w = weighed (is_its v) (Remove l s k was) W h in omega arith
@@ -103,7 +103,7 @@ module _ (d : ℕ) where
       (record { none = λ V. refl; append = λ xs ys V f g. (let c = sum_by-append (new_one (vehicle.Transit d)) xs ys in omega arith) }) (λ n V lt. turn_new S t n p V ne) W
 
   -- 1 for the departure whose second this is
-  abbrev now : Setup → ℕ → ℕ
+  abbrev pub now : Setup → ℕ → ℕ
   now S t = if (departure S d).second == t then 1 else 0
 
   -- its turn brings it, and no other one does
@@ -144,7 +144,7 @@ module _ (d : ℕ) where
   unfolding turns_in turns_of
   b2_new S t W = departs_new S t 0 (length S.departures) W
 
-  second_new : (S : Setup) (t : ℕ) (W : World) → new_ones (vehicle.Transit d) (second_moves S t W) ≤ now S t
+  pub second_new : (S : Setup) (t : ℕ) (W : World) → new_ones (vehicle.Transit d) (second_moves S t W) ≤ now S t
   unfolding moves_in
   second_new S t W =
       let f = new_one (vehicle.Transit d) in
@@ -171,13 +171,13 @@ module _ (d : ℕ) where
       omega arith
 
   -- 1 from the second after its departure on
-  abbrev due : Setup → ℕ → ℕ
+  abbrev pub due : Setup → ℕ → ℕ
   due S t = if nat_lt (departure S d).second t then 1 else 0
 
   all_taken : (S : Setup) (t : ℕ) (W : World) → Along (λ V m. IsTaken m V) S t (second_moves S t W) W
   all_taken S t W = second_walk S t (λ V m. IsTaken m V) (taken_cases S t) W
 
-  rows_due : (S : Setup) (t : ℕ) → rows_it_has (vehicle.Transit d) (world_at S t).rows ≤ due S t
+  pub rows_due : (S : Setup) (t : ℕ) → rows_it_has (vehicle.Transit d) (world_at S t).rows ≤ due S t
   unfolding world_from world_start
   rows_due S zero = omega arith
   rows_due S (suc t) =

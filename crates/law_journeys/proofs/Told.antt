@@ -13,7 +13,6 @@ Words P xs = Each (λ (x : Occurrence). P x.word) xs
 -- what is asked of the words that are told at stops
 pub record OfStops (P : Word → Type 0) : Type 0 where
   pub comes : P word.VehicleArrivesAtFacility
-  pub goes : P word.VehicleDepartsAtFacility
   pub leaves : P word.PersonLeavesVehicle
   pub arrives : P word.Arrival
   pub begins : P word.ActStart

@@ -2,10 +2,12 @@
 use Rattle.std.specs.Prelude.{◌≡◌, ℕ, ◌+◌, ◌<◌, ◌≤◌, Bool, true, false, ◌&&◌, ◌||◌, List, [], ◌∷◌, ◌++◌, length, map, filter, take, drop, get_or, count_by, ◌==◌, All, Option, None, Some}
 use Rattle.events.specs.{Persons.names, declared.event.VehicleId.VehicleId, declared.event.Word.Word}
 use Rattle.events.specs.declared.event.Word.TheVariants as word
+use Rattle.events.specs.declared.event.More.TheVariants as more
+use Rattle.events.specs.declared.lists.StopCall.{StopCall}
 use Rattle.events.specs.declared.event.VehicleId.TheVariants as vehicle
 use Rattle.rows.specs.declared.plan.{Act.Act, Leg.Leg}
 use Rattle.rows.specs.declared.plan.Leg.TheVariants as leg
-use Rattle.traffic.specs.{Day.day, Day.events_from, Day.world_start, Day.world_at, Persons.same_vehicle, Worlds.rows_of, Moves.ends_at, Setup.leg_at, Setup.link_row, Setup.person_plan, Rows.World, Rows.at, Setup.Setup, Setup.departure, Setup.seconds_of, Vehicles.VehicleState}
+use Rattle.traffic.specs.{Stops.call_at, Stops.stand, Day.day, Day.events_from, Day.world_start, Day.world_at, Persons.same_vehicle, Worlds.rows_of, Moves.ends_at, Setup.leg_at, Setup.link_row, Setup.person_plan, Rows.World, Rows.at, Setup.Setup, Setup.departure, Setup.seconds_of, Vehicles.VehicleState}
 use Rattle.traffic.specs.declared.{riders.Rider.Rider, stage.Stage.TheVariants.Queue}
 use Rattle.traffic.specs.declared.world.Row.{Row}
 use Rattle.law_journeys.specs.News.{News, news, events_in_seconds}
@@ -205,3 +207,73 @@ pub record EndAsPlanned (S : Setup) (i : ℕ) : Type 0 where
   pub first : EndsAt S (activity S i 0).end (activities i (news (day S)))
   pub later : (before after : List News) (e : News) → activities i (news (day S)) ≡ before ++ e ∷ after → e.what.word ≡ word.ActStart
       → EndsAt S (ends_at (activity S i (begun before + 1)).end e.second) after
+
+-- STOPS
+-- a transit vehicle comes to a stop, or goes on from it
+abbrev pub comes_to_stop : Word → Bool
+comes_to_stop word.VehicleArrivesAtFacility = true
+comes_to_stop _ = false
+
+abbrev pub goes_on_from_stop : Word → Bool
+goes_on_from_stop word.VehicleDepartsAtFacility = true
+goes_on_from_stop _ = false
+
+-- a rider alights from it, or boards it
+abbrev pub alights_from : Word → Bool
+alights_from word.PersonLeavesVehicle = true
+alights_from _ = false
+
+abbrev pub boards_it : Word → Bool
+boards_it word.PersonEntersVehicle = true
+boards_it _ = false
+
+-- what is told of the vehicle of departure d at stops, and of its riders
+abbrev pub is_at_stop : ℕ → News → Bool
+is_at_stop d e =
+    (comes_to_stop e.what.word || goes_on_from_stop e.what.word || alights_from e.what.word || boards_it e.what.word)
+    && is_vehicle (vehicle.Transit d) e.what.vehicle
+
+abbrev pub at_stops : ℕ → List News → List News
+at_stops d es = filter (is_at_stop d) es
+
+-- the call that comes after those that it made by then
+abbrev pub call_after : Setup → ℕ → List News → StopCall
+call_after S d es = call_at (departure S d).calls (count_by (λ (e : News). comes_to_stop e.what.word) es)
+
+-- By the end of what was told so far it came to the stop of its next call, on link l, and since then riders alighted and boarded, and nothing
+-- else was told of it at stops. Second n is no earlier than the dwell time after it came, by those who alighted and boarded; and where the
+-- call says wait, no earlier than the second that the schedule gives.
+pub record IsAtCall (S : Setup) (d : ℕ) (es : List News) (l n : ℕ) : Type 0 where
+  pub earlier : List News
+  pub came : News
+  pub riders : List News
+  pub told : es ≡ earlier ++ came ∷ riders
+  pub comes : came.what.word ≡ word.VehicleArrivesAtFacility
+  pub stop : came.what.more ≡ more.Stop (call_after S d earlier).stop
+  pub link : came.what.link ≡ Some l
+  pub only_riders : All (λ (e : News). alights_from e.what.word || boards_it e.what.word ≡ true) riders
+  pub dwell : came.second + stand S.settings.dwell (count_by (λ (e : News). alights_from e.what.word) riders) (count_by (λ (e : News). boards_it e.what.word) riders) ≤ n
+  pub wait : (call_after S d earlier).wait ≡ true → (departure S d).second + (call_after S d earlier).offset ≤ n
+
+-- it goes on from the stop of the call that it came for last
+pub record IsGoingOn (S : Setup) (d : ℕ) (before : List News) (e : News) : Type 0 where
+  pub place : ℕ
+  pub link : e.what.link ≡ Some place
+  pub call : IsAtCall S d before place e.second
+  pub stop : e.what.more ≡ call.came.what.more
+
+-- whenever the vehicle of departure d goes on from a stop, its dwell time is over, and so is the wait that the call asks for
+pub record WaitsAtStops (S : Setup) (d : ℕ) : Type 0 where
+  pub each : (before after : List News) (e : News) → at_stops d (news (day S)) ≡ before ++ e ∷ after → e.what.word ≡ word.VehicleDepartsAtFacility
+      → IsGoingOn S d before e
+
+-- ALL LAWS
+-- the day of a setup keeps the laws of journeys, in every second
+pub record KeepsJourneys (S : Setup) : Type 0 where
+  pub seats : (t : ℕ) → KeepsSeats S t
+  pub queues : (l t n : ℕ) → QueueIsKept S l t n
+  pub free_flow : NobodyIsEarly S
+  pub continuity : IsContinuous S
+  pub conservation : (t : ℕ) (v : VehicleId) → IsConserved S t v
+  pub activities : (i : ℕ) → i < length S.persons → EndAsPlanned S i
+  pub buses : (d : ℕ) → WaitsAtStops S d

@@ -4,7 +4,7 @@
 ghost use Rattle.std.specs.Prelude.{ℕ, ◌<◌, length};
 ghost use Rattle.events.specs.declared.event.VehicleId.{VehicleId};
 ghost use Rattle.traffic.specs.Setup.{Setup};
-ghost use Rattle.law_journeys.specs.Journeys.{KeepsSeats, QueueIsKept, NobodyIsEarly, IsContinuous, IsConserved, EndAsPlanned};
+ghost use Rattle.law_journeys.specs.Journeys.{KeepsSeats, QueueIsKept, NobodyIsEarly, IsContinuous, IsConserved, EndAsPlanned, WaitsAtStops, KeepsJourneys};
 
 /// Nobody rides in a vehicle with more riders than seats: in a car its driver alone.
 pub fn riders_have_seats()
@@ -34,4 +34,14 @@ pub fn activities_end_as_planned()
 /// Nothing is told of a vehicle on a link that it entered before its free-flow seconds there are over.
 pub fn vehicles_take_their_time()
     ensures { (S : Setup) → NobodyIsEarly S }
+{}
+
+/// A bus goes on from a stop when its dwell time is over, and, where the call says wait, not before the second of the schedule.
+pub fn buses_wait_at_stops()
+    ensures { (S : Setup) (d : ℕ) → WaitsAtStops S d }
+{}
+
+/// Every day keeps all of these laws.
+pub fn days_keep_journeys()
+    ensures { (S : Setup) → KeepsJourneys S }
 {}

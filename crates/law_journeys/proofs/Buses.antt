@@ -1,5 +1,5 @@
 -- A bus goes on from a stop when its dwell time is over, and the wait that the call asks for.
-use Rattle.traffic.proofs.Common.{person_of, act_after, served_vehicle, ◌≡◌, ℕ, List, ◌∙◌, length, ap, refl, sym, subst, [], ◌∷◌, ◌++◌, ◌+◌, ◌-◌, arith, ◌<◌, ◌≤◌, ◌⊎◌, true, false, Bool, inl, inr, suc, eqb, eqb-true, eq-eqb}
+use Rattle.traffic.proofs.Common.{◌==◌, ltb-true, nat_lt, calls_on, person_of, act_after, served_vehicle, ◌≡◌, ℕ, List, ◌∙◌, length, ap, refl, sym, subst, [], ◌∷◌, ◌++◌, ◌+◌, ◌-◌, arith, ◌<◌, ◌≤◌, ◌⊎◌, true, false, Bool, inl, inr, suc, eqb, eqb-true, eq-eqb}
 use Rattle.traffic.proofs.Common.{cases_Bool, if◌then◌else◌, ◌&&◌, ◌||◌, nat_tests, nat_le, leb-true, recursion_from_All, append_assoc, append-nil, map, map-append, flat_map, filter-append, count_by, sum_by-cons, sum_by-append}
 use Rattle.traffic.proofs.Common.{All-from_recursion, length-map, slice_get, Some, None, Option, VehicleId, Word, StopCall, Dwelling, day, events_from, end_events, world_start, world_at, run, done, told, waiting, buffered, entered, World, at, on, Setup}
 use Rattle.traffic.proofs.Common.{served_row, lands, car, transit_vehicle, departure, of_person, of_rider, link_of_stop, starts, serves, leaves, enters, alighting, boarded, boarding, rider, next_call, call_at}
@@ -24,12 +24,12 @@ use Rattle.law_sound_setups.proofs.Fine.{found}
 use Rattle.law_journeys.proofs.Driving.{IsOf, AreOf, serves_of, aborts_of, front_of, end_of, same_self}
 use Rattle.law_journeys.proofs.{Endings.IsStuck, Endings.end_stuck, Endings.day_news, Fit.Fit, Fit.IsFit, Fit.IsIts, Fit.IsTransit, Fit.fit_moves, History.KeepsRest, History.rest_kept, History.day_by_moves, History.spoken, History.spoken_all, History.at_time}
 use Rattle.law_journeys.proofs.{Singles.new_one, Singles.new_ones, Singles.second_new, Singles.rows_due, Singles.adds, Singles.now, Singles.due, Told.Words, Told.starts_words, Told.front_words, Told.end_words, Told.aborts_words, Walk.Cases, Walk.departing, Walk.second_walk}
-use Rattle.law_journeys.specs.Journeys.{comes_to_stop, goes_on_from_stop, alights_from, boards_it, is_at_stop, at_stops, is_vehicle, call_after, IsAtCall, IsGoingOn, WaitsAtStops}
+use Rattle.law_journeys.specs.Journeys.{arrives_at_stop, departs_from_stop, alights_from, boards_it, is_at_stop, at_stops, is_vehicle, call_after, IsAtCall, DepartsInTime, WaitsAtStops}
 use Rattle.law_journeys.specs.News.{News, news}
 
 -- WHAT IS TOLD AT STOPS
 abbrev any_stop : Word → Bool
-any_stop w = comes_to_stop w || goes_on_from_stop w || alights_from w || boards_it w
+any_stop w = arrives_at_stop w || departs_from_stop w || alights_from w || boards_it w
 
 stops_more : (d : ℕ) (hs xs : List News) → at_stops d (hs ++ xs) ≡ at_stops d hs ++ at_stops d xs
 stops_more d hs xs = filter-append (is_at_stop d) hs xs
@@ -102,59 +102,59 @@ all_riders d t outs ins =
     (each_map (λ (r : Rider). Unit {0}) IsRiderWord (λ (r : Rider). at_time t (of_rider word.PersonEntersVehicle r.person (vehicle.Transit d))) (λ r h. refl) ins (each_all (λ (r : Rider). Unit {0}) (λ r. tt) ins))
 
 -- by them no vehicle comes to a stop or goes on
-rider_comes : (w : Word) → alights_from w || boards_it w ≡ true → comes_to_stop w ≡ false
+rider_comes : (w : Word) → alights_from w || boards_it w ≡ true → arrives_at_stop w ≡ false
 rider_comes word.VehicleArrivesAtFacility h = absurd (cc)
 rider_comes _ h = refl
 
-rider_goes : (w : Word) → alights_from w || boards_it w ≡ true → goes_on_from_stop w ≡ false
+rider_goes : (w : Word) → alights_from w || boards_it w ≡ true → departs_from_stop w ≡ false
 rider_goes word.VehicleDepartsAtFacility h = absurd (cc)
 rider_goes _ h = refl
 
-no_calls : (es : List News) → Each IsRiderWord es → times comes_to_stop es ≡ 0
+no_calls : (es : List News) → Each IsRiderWord es → times arrives_at_stop es ≡ 0
 no_calls [] h = refl
 no_calls (e ∷ es) h =
     let c = rider_comes e.what.word h.0 in
-    let z : ones comes_to_stop e ≡ 0 = rw c refl in
-    omega (arith, sum_by-cons (ones comes_to_stop) e es, no_calls es h.1)
+    let z : ones arrives_at_stop e ≡ 0 = rw c refl in
+    omega (arith, sum_by-cons (ones arrives_at_stop) e es, no_calls es h.1)
 
 -- WHENEVER IT GOES ON
 abbrev Gone : Setup → ℕ → List News → List News → Type 0
 Gone S d acc [] = Unit {0}
-Gone S d acc (e ∷ es) = (e.what.word ≡ word.VehicleDepartsAtFacility → IsGoingOn S d acc e) × Gone S d (acc ++ e ∷ []) es
+Gone S d acc (e ∷ es) = (e.what.word ≡ word.VehicleDepartsAtFacility → DepartsInTime S d acc e) × Gone S d (acc ++ e ∷ []) es
 
 gone_append : (S : Setup) (d : ℕ) (acc es xs : List News) → Gone S d acc es → Gone S d (acc ++ es) xs → Gone S d acc (es ++ xs)
 gone_append S d acc [] xs h g = subst (λ (ys : List News). Gone S d ys xs) (append-nil acc) g
 gone_append S d acc (e ∷ es) xs h g = (h.0, gone_append S d (acc ++ e ∷ []) es xs h.1 (subst (λ (ys : List News). Gone S d ys xs) (sym (append_assoc acc (e ∷ []) es)) g))
 
 abbrev Stays : News → Type 0
-Stays e = goes_on_from_stop e.what.word ≡ false
+Stays e = departs_from_stop e.what.word ≡ false
 
 gone_none : (S : Setup) (d : ℕ) (acc xs : List News) → Each Stays xs → Gone S d acc xs
 gone_none S d acc [] h = tt
-gone_none S d acc (e ∷ es) h = ((λ w. absurd (let z = h.0 in let y : goes_on_from_stop e.what.word ≡ true = ap goes_on_from_stop w in cc)), gone_none S d (acc ++ e ∷ []) es h.1)
+gone_none S d acc (e ∷ es) h = ((λ w. absurd (let z = h.0 in let y : departs_from_stop e.what.word ≡ true = ap departs_from_stop w in cc)), gone_none S d (acc ++ e ∷ []) es h.1)
 
-gone_at : (S : Setup) (d : ℕ) (acc before after : List News) (e : News) → Gone S d acc (before ++ e ∷ after) → e.what.word ≡ word.VehicleDepartsAtFacility → IsGoingOn S d (acc ++ before) e
-gone_at S d acc [] after e h w = subst (λ (ys : List News). IsGoingOn S d ys e) (sym (append-nil acc)) (h.0 w)
-gone_at S d acc (b ∷ before) after e h w = subst (λ (ys : List News). IsGoingOn S d ys e) (append_assoc acc (b ∷ []) before) (gone_at S d (acc ++ b ∷ []) before after e h.1 w)
+gone_at : (S : Setup) (d : ℕ) (acc before after : List News) (e : News) → Gone S d acc (before ++ e ∷ after) → e.what.word ≡ word.VehicleDepartsAtFacility → DepartsInTime S d (acc ++ before) e
+gone_at S d acc [] after e h w = subst (λ (ys : List News). DepartsInTime S d ys e) (sym (append-nil acc)) (h.0 w)
+gone_at S d acc (b ∷ before) after e h w = subst (λ (ys : List News). DepartsInTime S d ys e) (append_assoc acc (b ∷ []) before) (gone_at S d (acc ++ b ∷ []) before after e h.1 w)
 
 -- ITS ROW
 -- so often it came to stops; and in a bay it is at its call, until its second
 record IsServed (S : Setup) (d : ℕ) (es : List News) (r : Row) : Type 0 where
-  count : times comes_to_stop es ≡ r.vehicle.served
+  count : times arrives_at_stop es ≡ r.vehicle.served
   in_bay : r.stage ≡ Bay → IsAtCall S d es r.link r.second
 
 -- at a call it has come to one stop more
-calls_then : (S : Setup) (d l n : ℕ) (es : List News) (c : IsAtCall S d es l n) → times comes_to_stop es ≡ times comes_to_stop c.earlier + 1
+calls_then : (S : Setup) (d l n : ℕ) (es : List News) (c : IsAtCall S d es l n) → times arrives_at_stop es ≡ times arrives_at_stop c.earlier + 1
 calls_then S d l n es c =
     let none = no_calls c.riders (recursion_from_All IsRiderWord c.riders c.only_riders) in
-    let one : ones comes_to_stop c.came ≡ 1 = rw c.comes refl in
-    ap (times comes_to_stop) c.told ∙ (omega (arith, sum_by-append (ones comes_to_stop) c.earlier (c.came ∷ c.riders), sum_by-cons (ones comes_to_stop) c.came c.riders))
+    let one : ones arrives_at_stop c.came ≡ 1 = rw c.arrived refl in
+    ap (times arrives_at_stop) c.split ∙ (omega (arith, sum_by-append (ones arrives_at_stop) c.earlier (c.came ∷ c.riders), sum_by-cons (ones arrives_at_stop) c.came c.riders))
 
 -- a later second will do, too
 later : (S : Setup) (d l n u : ℕ) (es : List News) → n ≤ u → IsAtCall S d es l n → IsAtCall S d es l u
 later S d l n u es le c =
     let a = c.dwell in
-    record { earlier = c.earlier; came = c.came; riders = c.riders; told = c.told; comes = c.comes; stop = c.stop; link = c.link; only_riders = c.only_riders; dwell = omega arith; wait = λ w. (let b = c.wait w in omega arith) }
+    record { earlier = c.earlier; came = c.came; riders = c.riders; split = c.split; arrived = c.arrived; next = c.next; stop = c.stop; link = c.link; on = c.on; only_riders = c.only_riders; dwell = omega arith; wait = λ w. (let b = c.wait w in omega arith) }
 
 -- how long it stays
 stays_long : (D : Dwelling) (t : ℕ) (v : VehicleState) (ws : List Waiter) → t + stand D (length (alighting (next_call v).stop v.riders)) (length (boarding v ws)) ≤ stays_until D t v ws
@@ -285,7 +285,7 @@ module _ (S : Setup) (d t : ℕ) where
             ((λ p. absurd (let z : same_vehicle r.vehicle.id (vehicle.Transit d) ≡ true = rw (sym id ∙ p) (same_self (vehicle.Transit d)) in cc)), tt))
       ]
 
-  remove : (a : ℕ) (s : Stage) (k : ℕ) (r : Row) (W : World) → slice_get (at a s W) k ≡ Some r → AreOf r.vehicle.id (told (Remove a s k r)) → Words (λ w. goes_on_from_stop w ≡ false) (told (Remove a s k r)) → KeepsRest IsBus S t W (Remove a s k r)
+  remove : (a : ℕ) (s : Stage) (k : ℕ) (r : Row) (W : World) → slice_get (at a s W) k ≡ Some r → AreOf r.vehicle.id (told (Remove a s k r)) → Words (λ w. departs_from_stop w ≡ false) (told (Remove a s k r)) → KeepsRest IsBus S t W (Remove a s k r)
   remove a s k r W e of words hs ms j =
       let m = Remove a s k r in
       let es = at_stops d hs in
@@ -296,7 +296,7 @@ module _ (S : Setup) (d t : ℕ) where
         | inl q ↦
             let w = its_rows a s k r W e (same_is r.vehicle.id d q) in
             let all = es ++ at_stops d (spoken t m) in
-            let stay = each_kept Stays (is_at_stop d) (spoken t m) (each_map (λ (x : Occurrence). goes_on_from_stop x.word ≡ false) Stays (at_time t) (λ x h. h) (told m) words) in
+            let stay = each_kept Stays (is_at_stop d) (spoken t m) (each_map (λ (x : Occurrence). departs_from_stop x.word ≡ false) Stays (at_time t) (λ x h. h) (told m) words) in
             own m W taken (omega arith) hs ms j (gone_none S d es (at_stops d (spoken t m)) stay)
             (each_weaker (λ (x : Row). x.vehicle.id ≡ vehicle.Transit d → ⊥) (Serves all) (λ x no p. absurd (no p)) (without (on a s) k W.rows) (none_its d (without (on a s) k W.rows) (omega arith)))
         | inr q ↦ silent m W taken (others_none d t r.vehicle.id (told m) q of) hs ms j (each_without (Serves es) (on a s) k W.rows j.rows)
@@ -316,13 +316,13 @@ module _ (S : Setup) (d t : ℕ) where
       let c = later S d r.link r.second t es due (s.in_bay stage) in
       let made = calls_then S d r.link t es c in
       let count = s.count in
-      let number : r.vehicle.served - 1 ≡ times comes_to_stop c.earlier = omega arith in
+      let number : r.vehicle.served - 1 ≡ times arrives_at_stop c.earlier = omega arith in
       let what : u.what.more ≡ c.came.what.more =
-      ap (λ (n : ℕ). more.Stop (call_at r.vehicle.calls n).stop) number ∙ ap (λ (cs : List StopCall). more.Stop (call_at cs (times comes_to_stop c.earlier)).stop) (fit its).calls ∙ sym c.stop in
+      ap (λ (n : ℕ). more.Stop (call_at r.vehicle.calls n).stop) number ∙ ap (λ (cs : List StopCall). more.Stop (call_at cs (times arrives_at_stop c.earlier)).stop) (fit its).calls ∙ sym c.stop in
       let q = eq-eqb d d refl in
       let only : at_stops d (u ∷ []) ≡ u ∷ [] = (let z : same_vehicle r.vehicle.id (vehicle.Transit d) ≡ true = rw its (same_self (vehicle.Transit d)) in simp z) in (
         rw only ((λ w. record { place = r.link; link = refl; call = c; stop = what }), tt),
-        rw only (record { count = omega (arith, sum_by-append (ones comes_to_stop) es (u ∷ []), sum_by-cons (ones comes_to_stop) u []); in_bay = λ b. absurd (cc) }),
+        rw only (record { count = omega (arith, sum_by-append (ones arrives_at_stop) es (u ∷ []), sum_by-cons (ones arrives_at_stop) u []); in_bay = λ b. absurd (cc) }),
       )
 
   -- what is told when it is served
@@ -344,9 +344,9 @@ module _ (S : Setup) (d t : ℕ) where
       front ∙ ap (λ (xs : List Occurrence). at_stops d (map (at_time t) xs)) (to ∙ here) ∙ stop_list_of d t r.link stop r.vehicle.id outs ins its
 
   -- it comes to a stop
-  calls : (a : ℕ) (s : Bool) (ws : List Waiter) (r : Row) → r.link ≡ a → (r.vehicle.id ≡ vehicle.Transit d → IsTransit S d r.vehicle) → Takes r (served_row S.settings.dwell t a ws r.vehicle) (Transfer a (serving_stage s) 0 r (served_row S.settings.dwell t a ws r.vehicle))
+  calls : (a : ℕ) (s : Bool) (ws : List Waiter) (r : Row) → r.link ≡ a → calls_on a r.vehicle ≡ true → (r.vehicle.id ≡ vehicle.Transit d → IsTransit S d r.vehicle) → Takes r (served_row S.settings.dwell t a ws r.vehicle) (Transfer a (serving_stage s) 0 r (served_row S.settings.dwell t a ws r.vehicle))
   unfolding served_vehicle
-  calls a s ws r here fit its es was =
+  calls a s ws r here on_it fit its es was =
       let v = r.vehicle in
       let D = S.settings.dwell in
       let now = served_row D t a ws v in
@@ -358,7 +358,8 @@ module _ (S : Setup) (d t : ℕ) where
       let only = all_riders d t outs ins in
       let told_it = served_news s r now ins refl (boarded-are v ws) its in
       let count = was.count in
-      let next : call_after S d es ≡ next_call v = ap (λ (cs : List StopCall). call_at cs (times comes_to_stop es)) (sym (fit its).calls) ∙ ap (λ (n : ℕ). call_at v.calls n) count in
+      let next : call_after S d es ≡ next_call v = ap (λ (cs : List StopCall). call_at cs (times arrives_at_stop es)) (sym (fit its).calls) ∙ ap (λ (n : ℕ). call_at v.calls n) count in
+      let called = and_parts (nat_lt v.served (length v.calls)) ((next_call v).link == a) on_it in
       let left = left_counts d t outs in
       let board = boarding_counts d t ins in
       let l0 = left.0 in
@@ -368,15 +369,17 @@ module _ (S : Setup) (d t : ℕ) where
       let out : times alights_from riders ≡ length outs = omega (arith, sum_by-append (ones alights_from) (left_news d t outs) (boarding_news d t ins)) in
       let in_ : times boards_it riders ≡ length (boarding v ws) = omega (arith, sum_by-append (ones boards_it) (left_news d t outs) (boarding_news d t ins), length-map (boarding v ws) rider) in
       let none = no_calls riders only in
-      let one : times comes_to_stop (es ++ came ∷ riders) ≡ v.served + 1 = omega (arith, sum_by-append (ones comes_to_stop) es (came ∷ riders), sum_by-cons (ones comes_to_stop) came riders) in
+      let one : times arrives_at_stop (es ++ came ∷ riders) ≡ v.served + 1 = omega (arith, sum_by-append (ones arrives_at_stop) es (came ∷ riders), sum_by-cons (ones arrives_at_stop) came riders) in
       let at_call : IsAtCall S d (es ++ came ∷ riders) a (stays_until D t v ws) = record {
         earlier = es;
         came = came;
         riders = riders;
-        told = refl;
-        comes = refl;
+        split = refl;
+        arrived = refl;
+        next = (let lt = ltb-true v.served (length v.calls) called.0 in let same : length v.calls ≡ length (departure S d).calls = ap (λ (cs : List StopCall). length cs) (fit its).calls in omega arith);
         stop = ap (λ (c : StopCall). more.Stop c.stop) (sym next);
         link = ap (λ (l : ℕ). Some l) here;
+        on = ap (λ (c : StopCall). c.link) next ∙ eqb-true (next_call v).link a called.1;
         only_riders = All-from_recursion IsRiderWord riders only;
         dwell = rw (out, in_) (stays_long D t v ws);
         wait = λ w. subst (λ (c : StopCall). (departure S d).second + c.offset ≤ stays_until D t v ws) (sym next) (subst (λ (n : ℕ). n + (next_call v).offset ≤ stays_until D t v ws) (fit its).departed (stays_waiting D t v ws (sym (ap (λ (c : StopCall). c.wait) next) ∙ w)));
@@ -438,15 +441,15 @@ module _ (S : Setup) (d t : ℕ) where
         serve = λ a s ws r xs W e u c q f. (
             let now = served_row S.settings.dwell t a ws r.vehicle in
             let front : slice_get (at a (serving_stage s) W) 0 ≡ Some r = rw e refl in
-            transfer a (serving_stage s) 0 r now W front refl (front_of s r now (serves_of r now)) (calls a s ws r (place_of a (serving_stage s) 0 r W front).1 (fit_of a (serving_stage s) 0 r W f front))
+            transfer a (serving_stage s) 0 r now W front refl (front_of s r now (serves_of r now)) (calls a s ws r (place_of a (serving_stage s) 0 r W front).1 c (fit_of a (serving_stage s) 0 r W f front))
             );
-        arrive = λ a s r xs W e u c o f. remove a (serving_stage s) 0 r W (rw e refl) (end_of s r) (end_words (λ w. goes_on_from_stop w ≡ false) s r refl refl (record { comes = refl; leaves = refl; arrives = refl; begins = refl; enters = refl }));
+        arrive = λ a s r xs W e u c o f. remove a (serving_stage s) 0 r W (rw e refl) (end_of s r) (end_words (λ w. departs_from_stop w ≡ false) s r refl refl (record { comes = refl; leaves = refl; arrives = refl; begins = refl; enters = refl }));
         pass = λ a s b r xs W e u c o f. transfer a (serving_stage s) 0 r (buffered t a b r) W (rw e refl) refl (front_of s r (buffered t a b r) tt) (still r (buffered t a b r) (Transfer a (serving_stage s) 0 r (buffered t a b r)) (front_still a s r b) refl (λ q. cc));
         pay = λ a c W f. quiet (Credit a c) W tt tt refl;
         free = λ a W f. quiet (LeaveHole a t) W tt tt refl;
         nodes = λ n. record {
           enter = λ a e r xs W f q c fit. transfer a Buffer 0 r (entered t e r.vehicle) W (rw f.rows refl) refl (refl, (refl, tt)) (still r (entered t e r.vehicle) (Transfer a Buffer 0 r (entered t e r.vehicle)) (quiet_none d t (told (Transfer a Buffer 0 r (entered t e r.vehicle))) (refl, (refl, tt))) refl (λ z. cc));
-          abort = λ a r xs W f c fit. remove a Buffer 0 r W (rw f.rows refl) (aborts_of r) (aborts_words (λ w. goes_on_from_stop w ≡ false) r refl refl);
+          abort = λ a r xs W f c fit. remove a Buffer 0 r W (rw f.rows refl) (aborts_of r) (aborts_words (λ w. departs_from_stop w ≡ false) r refl refl);
           mark = λ a W c fit hs ms j. silent (SetFrontSince a t) W tt refl hs ms j (marked (at_stops d hs) a W.rows j.rows);
         };
         land = λ i mode seconds began W lt p e f. quiet (Report (lands i mode seconds (act_after S i (person_of i W).element))) W tt (refl, (refl, (refl, tt))) refl;

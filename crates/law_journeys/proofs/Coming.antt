@@ -17,21 +17,21 @@ use Rattle.events.specs.declared.event.VehicleId.TheVariants as vehicle
 use Rattle.law_capacity.specs.Moves.{second_moves}
 use Rattle.law_journeys.proofs.{Endings.IsStuck, Endings.end_stuck, Endings.day_news, Fit.Fit, Fit.IsFit, Fit.IsIts, Fit.fit_moves, History.KeepsHistory, History.IsKept, History.spoken}
 use Rattle.law_journeys.proofs.{History.at_time, History.day_keeps, Told.Words, Told.aborts_words, Told.arrives_words, Told.serves_words, Told.OfStops, Walk.Cases, Walk.departing, Walk.second_walk}
-use Rattle.law_journeys.specs.Journeys.{BeginsOn, IsDrivenFrom, MayCome, MayAllCome, IsContinuous}
+use Rattle.law_journeys.specs.Journeys.{BeginsOn, IsDrivenFrom, MayJoin, MayAllJoin, IsContinuous}
 use Rattle.law_journeys.specs.News.{News, news}
 
 -- LISTS
 -- whatever was told before
 abbrev Come : Setup → List News → Type 0
-Come S es = (before : Option News) → MayAllCome S before es
+Come S es = (before : Option News) → MayAllJoin S before es
 
-come_append : (S : Setup) (before : Option News) (es more : List News) → MayAllCome S before es → Come S more → MayAllCome S before (es ++ more)
+come_append : (S : Setup) (before : Option News) (es more : List News) → MayAllJoin S before es → Come S more → MayAllJoin S before (es ++ more)
 come_append S before [] more h g = g before
 come_append S before (e ∷ es) more h g = (h.0, come_append S (Some e) es more h.1 g)
 
 -- a word by which no vehicle comes to a link
 abbrev IsElse : Word → Type 0
-IsElse w = (S : Setup) (before : Option News) (e : News) → MayCome S before e w
+IsElse w = (S : Setup) (before : Option News) (e : News) → MayJoin S before e w
 
 none_come : (S : Setup) (t : ℕ) (xs : List Occurrence) → Words IsElse xs → Come S (map (at_time t) xs)
 none_come S t [] h before = tt
@@ -40,7 +40,7 @@ none_come S t (x ∷ xs) h before = (h.0 S before (at_time t x), none_come S t x
 comes_append : (S : Setup) (t : ℕ) (xs ys : List Occurrence) → Come S (map (at_time t) xs) → Come S (map (at_time t) ys) → Come S (map (at_time t) (xs ++ ys))
 comes_append S t xs ys h g before = rw (map-append (at_time t) xs ys) (come_append S before (map (at_time t) xs) (map (at_time t) ys) (h before) g)
 
-come_if : (S : Setup) (t : ℕ) (b : Bool) (x : Occurrence) → (b ≡ false → (before : Option News) → MayCome S before (at_time t x) x.word) → Come S (map (at_time t) (if b then [] else x ∷ []))
+come_if : (S : Setup) (t : ℕ) (b : Bool) (x : Occurrence) → (b ≡ false → (before : Option News) → MayJoin S before (at_time t x) x.word) → Come S (map (at_time t) (if b then [] else x ∷ []))
 come_if S t true x h before = tt
 come_if S t false x h before = (h refl before, tt)
 
@@ -109,11 +109,11 @@ module _ (S : Setup) (t : ℕ) where
 
 -- THE DAY
 abbrev Continuous : Setup → ℕ → List News → World → Type 0
-Continuous S n hs W = MayAllCome S None hs
+Continuous S n hs W = MayAllJoin S None hs
 
 stuck_come : (S : Setup) (es : List News) → Each IsStuck es → Come S es
 stuck_come S [] h before = tt
-stuck_come S (e ∷ es) h before = (subst (MayCome S before e) (sym h.0.word) tt, stuck_come S es h.1 (Some e))
+stuck_come S (e ∷ es) h before = (subst (MayJoin S before e) (sym h.0.word) tt, stuck_come S es h.1 (Some e))
 
 day_kept : (S : Setup) → IsKept (Continuous S) S
 day_kept S =

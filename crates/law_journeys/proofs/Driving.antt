@@ -22,7 +22,7 @@ use Rattle.law_one_place.proofs.Vehicles.{is_its, rows_it_has}
 use Rattle.law_journeys.proofs.Balance.{IsTimeless, IsStanding, takes, brings, summed, sum_without}
 use Rattle.law_journeys.proofs.{Endings.IsStuck, Endings.end_stuck, Endings.day_news, History.KeepsHistory, History.IsKept, History.spoken, History.at_time, History.day_keeps}
 use Rattle.law_journeys.proofs.{Singles.single_moves, Told.Words, Told.OfStops, Told.serves_words, Told.aborts_words, Told.front_words, Told.end_words, Walk.Cases, Walk.IsDue, Walk.departing, Walk.second_walk}
-use Rattle.law_journeys.specs.Journeys.{is_entered_link, IsFreeFlow, AreFreeFlow, NobodyIsEarly}
+use Rattle.law_journeys.specs.Journeys.{is_entered_link, IsFreeFlow, AreFreeFlow, KeepsFreeFlow}
 use Rattle.law_journeys.specs.News.{News, news}
 
 -- WHOSE NEWS
@@ -371,5 +371,5 @@ all_flow : (S : Setup) (es : List News) → ((v : VehicleId) (l : ℕ) → AreAp
 all_flow S [] h = tt
 all_flow S (e ∷ es) h = (All-from_recursion (IsFreeFlow S e) es (each_flow S e es (λ v l. (h v l).0)), all_flow S es (λ v l. (h v l).1))
 
-pub nobody_early : (S : Setup) → NobodyIsEarly S
+pub nobody_early : (S : Setup) → KeepsFreeFlow S
 nobody_early S = all_flow S (news (day S)) (day_apart S)

@@ -17,7 +17,7 @@ use Rattle.events.specs.declared.event.More.TheVariants as more
 use Rattle.std.{proofs.lemmas.List.take-append-le, proofs.lemmas.List.drop-append-le, specs.List.AllByRecursion as Each}
 use Rattle.law_journeys.proofs.{History.KeepsHistory, History.IsKept, History.spoken, History.at_time, History.seconds_keep}
 use Rattle.law_journeys.proofs.{Told.Words, Told.OfStops, Told.serves_words, Told.aborts_words, Told.front_words, Told.end_words, Walk.Cases, Walk.IsDue, Walk.departing, Walk.second_walk}
-use Rattle.law_journeys.specs.{Journeys.Queued, Journeys.queue_of, Journeys.is_entered_link, Journeys.enters_link, Journeys.entering, Journeys.QueueIsKept, News.News}
+use Rattle.law_journeys.specs.{Journeys.Queued, Journeys.queue_of, Journeys.is_entered_link, Journeys.enters_link, Journeys.entering, Journeys.IsFirstInFirstOut, News.News}
 
 -- LISTS
 -- the first of what is left goes, too
@@ -170,7 +170,7 @@ module _ (S : Setup) (l : ℕ) (start : List Queued) (t : ℕ) where
         start = λ d W lt e. away (Enter (transit_vehicle d (departure S d))) W (append-nil _) (refl, tt);
       }
 
-pub queue_kept : (S : Setup) (l t n : ℕ) → QueueIsKept S l t n
+pub queue_kept : (S : Setup) (l t n : ℕ) → IsFirstInFirstOut S l t n
 queue_kept S l t n =
     let first = queue_of l (world_at S t) in
     let kept : IsKept (InOrder S l first) S =

@@ -13,51 +13,51 @@ use Rattle.traffic.specs.declared.world.Row.{Row}
 use Rattle.law_journeys.specs.News.{News, news, events_in_seconds}
 
 -- SEATS
--- in a car rides its driver and nobody else; in a transit vehicle ride no more than it has seats
+-- the only rider of a car is its driver; a transit vehicle has no more riders than seats
 abbrev pub IsSeated : Setup → VehicleState → VehicleId → Type 0
 IsSeated S v (vehicle.Car i) = (length v.riders ≡ 1) × All (λ (x : Rider). x.person ≡ i) v.riders
 IsSeated S v (vehicle.Transit d) = length v.riders ≤ (departure S d).seats
 
--- after t seconds of the day nobody rides in a vehicle with more riders than seats
+-- after t seconds of the day each vehicle has a seat for each rider
 abbrev pub KeepsSeats : Setup → ℕ → Type 0
 KeepsSeats S t = All (λ (r : Row). IsSeated S r.vehicle r.vehicle.id) (world_at S t).rows
 
 -- QUEUES
--- a vehicle, and the second from which on it may leave the queue
+-- a vehicle, and the first second in which it may leave the queue
 abbrev pub Queued : Type 0
 Queued = Option VehicleId × ℕ
 
--- the queue of a link in a world, from its front on
+-- the queue of a link in a world, its front first
 abbrev pub queue_of : ℕ → World → List Queued
 queue_of l W = map (λ (r : Row). (Some r.vehicle.id, r.second)) (at l Queue W)
 
+-- a vehicle enters link l
 abbrev pub is_entered_link : Word → Bool
 is_entered_link word.EnteredLink = true
 is_entered_link _ = false
 
--- a vehicle enters link l
 abbrev pub enters_link : ℕ → News → Bool
 enters_link l e = is_entered_link e.what.word && names l e.what.link
 
--- those who enter link l, in order: each may leave its queue when its free-flow seconds are over
+-- the vehicles that enter link l, in order; each may leave the queue once its free-flow seconds are over
 abbrev pub entering : Setup → ℕ → List News → List Queued
 entering S l es = map (λ (e : News). (e.what.vehicle, e.second + seconds_of S l)) (filter (enters_link l) es)
 
--- the queue of link l after t seconds of the day, and behind it those who enter in the next n seconds
+-- the queue of link l after t seconds of the day, followed by the vehicles that enter in the next n seconds
 abbrev pub queue_and_entering : Setup → ℕ → ℕ → ℕ → List Queued
 queue_and_entering S l t n = queue_of l (world_at S t) ++ entering S l (news (events_in_seconds S t n))
 
--- The queue of link l is first in, first out over the n seconds from second t on, and nobody leaves it before his free-flow seconds are over.
--- Of those who are in the queue at the start and those who enter in these seconds, in this order, the first so many have left, each in
--- a second no earlier than that from which on it may; and the others are the queue at the end, in this order.
-abbrev pub QueueIsKept : Setup → ℕ → ℕ → ℕ → Type 0
-QueueIsKept S l t n =
+-- The queue of link l is first in, first out over the n seconds from second t on, and no vehicle leaves it before its free-flow seconds are
+-- over. Take the queue at the start, followed by the vehicles that enter in these seconds. The first so many of them have left, each no
+-- earlier than it may; the others are the queue at the end, in the same order.
+abbrev pub IsFirstInFirstOut : Setup → ℕ → ℕ → ℕ → Type 0
+IsFirstInFirstOut S l t n =
     (left : ℕ)
     × All (λ (q : Queued). q.1 < t + n) (take left (queue_and_entering S l t n))
     × (queue_of l (world_at S (t + n)) ≡ drop left (queue_and_entering S l t n))
 
 -- FREE FLOW
--- What is told of a vehicle on a link after it entered the link comes when its free-flow seconds there are over.
+-- e comes before f: if e is that a vehicle enters a link, and f names this vehicle on this link, the free-flow seconds are over in f
 abbrev pub IsFreeFlow : Setup → News → News → Type 0
 IsFreeFlow S e f =
     (v : VehicleId) (l : ℕ) → e.what.word ≡ word.EnteredLink → e.what.vehicle ≡ Some v → e.what.link ≡ Some l
@@ -67,9 +67,9 @@ abbrev pub AreFreeFlow : Setup → List News → Type 0
 AreFreeFlow S [] = Unit {0}
 AreFreeFlow S (e ∷ es) = All (IsFreeFlow S e) es × AreFreeFlow S es
 
--- in the whole day nothing is told of a vehicle on a link that it entered before its free-flow seconds are over
-abbrev pub NobodyIsEarly : Setup → Type 0
-NobodyIsEarly S = AreFreeFlow S (news (day S))
+-- in the whole day no event names a vehicle on a link that it entered, before the free-flow seconds of the link are over
+abbrev pub KeepsFreeFlow : Setup → Type 0
+KeepsFreeFlow S = AreFreeFlow S (news (day S))
 
 -- CONTINUITY
 -- the first of these links ends where the second one begins
@@ -77,7 +77,7 @@ abbrev pub AreJoined : Setup → Option ℕ → Option ℕ → Type 0
 AreJoined S (Some a) (Some b) = (link_row S a).to ≡ (link_row S b).from
 AreJoined S _ _ = ⊥
 
--- a vehicle left a link in the same second, right before it entered the one after it
+-- a vehicle leaves a link and, in the same second, enters one that begins where the first one ends
 pub record IsCrossing (S : Setup) (left entered : News) : Type 0 where
   pub left_link : left.what.word ≡ word.LeftLink
   pub vehicle : left.what.vehicle ≡ entered.what.vehicle
@@ -88,13 +88,13 @@ abbrev pub IsDrivenFrom : ℕ → Leg → Type 0
 IsDrivenFrom l (leg.Car route) = get_or route 0 0 ≡ l
 IsDrivenFrom l _ = ⊥
 
--- a vehicle's journey begins on link l: a leg of the person whose car it is, or the route of the departure
+-- the journey of a vehicle begins on link l: a car leg of its driver does, or the route of its departure
 abbrev pub BeginsOn : Setup → ℕ → VehicleId → Type 0
 BeginsOn S l (vehicle.Car i) = (k : ℕ) × IsDrivenFrom l (leg_at S i k)
 BeginsOn S l (vehicle.Transit d) = get_or (departure S d).route 0 0 ≡ l
 
--- what lets a vehicle come to a link: it entered the link right after it left one that ends where this one begins, or it entered traffic
--- where its journey begins
+-- How a vehicle may join a link: it enters the link, and the event before is that it left the one before; or it enters traffic where its
+-- journey begins.
 abbrev pub IsAfter : Setup → Option News → News → Type 0
 IsAfter S None e = ⊥
 IsAfter S (Some before) e = IsCrossing S before e
@@ -103,76 +103,76 @@ abbrev pub IsAtStart : Setup → Option VehicleId → Option ℕ → Type 0
 IsAtStart S (Some v) (Some l) = BeginsOn S l v
 IsAtStart S _ _ = ⊥
 
-abbrev pub MayCome : Setup → Option News → News → Word → Type 0
-MayCome S before e word.EnteredLink = IsAfter S before e
-MayCome S before e word.VehicleEntersTraffic = IsAtStart S e.what.vehicle e.what.link
-MayCome S before e _ = Unit {0}
+abbrev pub MayJoin : Setup → Option News → News → Word → Type 0
+MayJoin S before e word.EnteredLink = IsAfter S before e
+MayJoin S before e word.VehicleEntersTraffic = IsAtStart S e.what.vehicle e.what.link
+MayJoin S before e _ = Unit {0}
 
--- each of these, which come after that one, is such
-abbrev pub MayAllCome : Setup → Option News → List News → Type 0
-MayAllCome S before [] = Unit {0}
-MayAllCome S before (e ∷ es) = MayCome S before e e.what.word × MayAllCome S (Some e) es
+-- the same of each of these events, which follow that one
+abbrev pub MayAllJoin : Setup → Option News → List News → Type 0
+MayAllJoin S before [] = Unit {0}
+MayAllJoin S before (e ∷ es) = MayJoin S before e e.what.word × MayAllJoin S (Some e) es
 
--- in the whole day a vehicle comes to a link from one that ends where this one begins, or where its journey begins, and in no other way
+-- in the whole day a vehicle joins a link from one that ends where this one begins, or where its journey begins
 abbrev pub IsContinuous : Setup → Type 0
-IsContinuous S = MayAllCome S None (news (day S))
+IsContinuous S = MayAllJoin S None (news (day S))
 
 -- CONSERVATION
--- what is told in the first t seconds of the day
-abbrev pub told_before : Setup → ℕ → List News
-told_before S t = news (events_from S (world_start S) t)
+-- the events of the first t seconds of the day
+abbrev pub emitted_before : Setup → ℕ → List News
+emitted_before S t = news (events_from S (world_start S) t)
 
 abbrev pub is_vehicle : VehicleId → Option VehicleId → Bool
 is_vehicle v None = false
 is_vehicle v (Some u) = same_vehicle u v
 
 -- a vehicle sets out: its driver enters his car, or its transit driver starts
-abbrev pub sets_out_by : VehicleId → Word → Bool
-sets_out_by (vehicle.Car i) word.PersonEntersVehicle = true
-sets_out_by (vehicle.Transit d) word.TransitDriverStarts = true
-sets_out_by _ _ = false
+abbrev pub is_setting_out : VehicleId → Word → Bool
+is_setting_out (vehicle.Car i) word.PersonEntersVehicle = true
+is_setting_out (vehicle.Transit d) word.TransitDriverStarts = true
+is_setting_out _ _ = false
 
 abbrev pub sets_out : VehicleId → News → Bool
-sets_out v e = sets_out_by v e.what.word && is_vehicle v e.what.vehicle
+sets_out v e = is_setting_out v e.what.word && is_vehicle v e.what.vehicle
 
--- it arrives at the end of its route, or it is removed
-abbrev pub ends_by : Word → Bool
-ends_by word.VehicleLeavesTraffic = true
-ends_by word.VehicleAborts = true
-ends_by _ = false
+-- its journey ends: it arrives at the end of its route, or it is removed
+abbrev pub is_ending : Word → Bool
+is_ending word.VehicleLeavesTraffic = true
+is_ending word.VehicleAborts = true
+is_ending _ = false
 
-abbrev pub ends : VehicleId → News → Bool
-ends v e = ends_by e.what.word && is_vehicle v e.what.vehicle
+abbrev pub ends_journey : VehicleId → News → Bool
+ends_journey v e = is_ending e.what.word && is_vehicle v e.what.vehicle
 
--- it comes to a link: it enters traffic there, or it enters the link over a node
-abbrev pub comes_by : Word → Bool
-comes_by word.VehicleEntersTraffic = true
-comes_by word.EnteredLink = true
-comes_by _ = false
+-- it joins a link: it enters traffic there, or it enters the link over a node
+abbrev pub is_joining : Word → Bool
+is_joining word.VehicleEntersTraffic = true
+is_joining word.EnteredLink = true
+is_joining _ = false
 
-abbrev pub comes_to : VehicleId → ℕ → News → Bool
-comes_to v l e = comes_by e.what.word && (is_vehicle v e.what.vehicle && names l e.what.link)
+abbrev pub joins_link : VehicleId → ℕ → News → Bool
+joins_link v l e = is_joining e.what.word && (is_vehicle v e.what.vehicle && names l e.what.link)
 
--- it goes from a link: it leaves the link over a node, it arrives there, or it is removed there
-abbrev pub goes_by : Word → Bool
-goes_by word.LeftLink = true
-goes_by word.VehicleLeavesTraffic = true
-goes_by word.VehicleAborts = true
-goes_by _ = false
+-- it leaves a link: over a node, because its route ends there, or because it is removed there
+abbrev pub is_leaving : Word → Bool
+is_leaving word.LeftLink = true
+is_leaving word.VehicleLeavesTraffic = true
+is_leaving word.VehicleAborts = true
+is_leaving _ = false
 
-abbrev pub goes_from : VehicleId → ℕ → News → Bool
-goes_from v l e = goes_by e.what.word && (is_vehicle v e.what.vehicle && names l e.what.link)
+abbrev pub leaves_link : VehicleId → ℕ → News → Bool
+leaves_link v l e = is_leaving e.what.word && (is_vehicle v e.what.vehicle && names l e.what.link)
 
--- it has entered traffic and is on this link
+-- it has entered traffic, and is on this link
 abbrev pub drives_on : VehicleId → ℕ → Row → Bool
 drives_on v l r = r.vehicle.started && (same_vehicle r.vehicle.id v && (r.link == l))
 
--- After t seconds of the day a vehicle set out as often as it is under way, has arrived and was removed; it is under way in no more than
--- one place; and it came to each link as often as it is there and went from it.
+-- After t seconds of the day a vehicle has set out as often as it is under way, has arrived and was removed; it is under way in at most one
+-- place; and it has joined each link as often as it drives there and has left it.
 pub record IsConserved (S : Setup) (t : ℕ) (v : VehicleId) : Type 0 where
-  pub journeys : count_by (sets_out v) (told_before S t) ≡ length (rows_of v (world_at S t).rows) + count_by (ends v) (told_before S t)
+  pub journeys : count_by (sets_out v) (emitted_before S t) ≡ length (rows_of v (world_at S t).rows) + count_by (ends_journey v) (emitted_before S t)
   pub once : length (rows_of v (world_at S t).rows) ≤ 1
-  pub links : (l : ℕ) → count_by (comes_to v l) (told_before S t) ≡ count_by (drives_on v l) (world_at S t).rows + count_by (goes_from v l) (told_before S t)
+  pub links : (l : ℕ) → count_by (joins_link v l) (emitted_before S t) ≡ count_by (drives_on v l) (world_at S t).rows + count_by (leaves_link v l) (emitted_before S t)
 
 -- ACTIVITIES
 abbrev pub begins_activity : Word → Bool
@@ -194,29 +194,29 @@ begun es = count_by (λ (e : News). begins_activity e.what.word) es
 abbrev pub activity : Setup → ℕ → ℕ → Act
 activity S i k = get_or (person_plan S i).acts k (record { kind = 0; link = 0; end = None })
 
--- What follows of a person's activities while he is at one that ends in this second: its end, in this very second; or nothing, where the day
--- is over by then, or where it has no end.
+-- What follows while a person is at an activity with this planned end: the activity ends in that second; or nothing follows, because the day
+-- is over by then, or because no end is planned.
 abbrev pub EndsAt : Setup → Option ℕ → List News → Type 0
 EndsAt S None es = es ≡ []
 EndsAt S (Some u) [] = S.settings.end_second ≤ u
 EndsAt S (Some u) (e ∷ es) = (e.what.word ≡ word.ActEnd) × (e.second ≡ u) × (u < S.settings.end_second)
 
--- The activities of person i end as planned: the first one in the second that the plan gives, and each that begins in a second of the day in
--- the second that the plan gives, but not before the next one.
+-- The activities of person i end as planned: the first one in the second that the plan gives; each later one in the second that the plan
+-- gives, but not before the second after it began.
 pub record EndAsPlanned (S : Setup) (i : ℕ) : Type 0 where
   pub first : EndsAt S (activity S i 0).end (activities i (news (day S)))
   pub later : (before after : List News) (e : News) → activities i (news (day S)) ≡ before ++ e ∷ after → e.what.word ≡ word.ActStart
       → EndsAt S (ends_at (activity S i (begun before + 1)).end e.second) after
 
 -- STOPS
--- a transit vehicle comes to a stop, or goes on from it
-abbrev pub comes_to_stop : Word → Bool
-comes_to_stop word.VehicleArrivesAtFacility = true
-comes_to_stop _ = false
+-- a transit vehicle arrives at a stop, or departs from it
+abbrev pub arrives_at_stop : Word → Bool
+arrives_at_stop word.VehicleArrivesAtFacility = true
+arrives_at_stop _ = false
 
-abbrev pub goes_on_from_stop : Word → Bool
-goes_on_from_stop word.VehicleDepartsAtFacility = true
-goes_on_from_stop _ = false
+abbrev pub departs_from_stop : Word → Bool
+departs_from_stop word.VehicleDepartsAtFacility = true
+departs_from_stop _ = false
 
 -- a rider alights from it, or boards it
 abbrev pub alights_from : Word → Bool
@@ -227,52 +227,57 @@ abbrev pub boards_it : Word → Bool
 boards_it word.PersonEntersVehicle = true
 boards_it _ = false
 
--- what is told of the vehicle of departure d at stops, and of its riders
+-- the events of the vehicle of departure d at stops, and of its riders
 abbrev pub is_at_stop : ℕ → News → Bool
 is_at_stop d e =
-    (comes_to_stop e.what.word || goes_on_from_stop e.what.word || alights_from e.what.word || boards_it e.what.word)
+    (arrives_at_stop e.what.word || departs_from_stop e.what.word || alights_from e.what.word || boards_it e.what.word)
     && is_vehicle (vehicle.Transit d) e.what.vehicle
 
 abbrev pub at_stops : ℕ → List News → List News
 at_stops d es = filter (is_at_stop d) es
 
--- the call that comes after those that it made by then
-abbrev pub call_after : Setup → ℕ → List News → StopCall
-call_after S d es = call_at (departure S d).calls (count_by (λ (e : News). comes_to_stop e.what.word) es)
+-- the call after those at which it has arrived
+abbrev pub calls_made : List News → ℕ
+calls_made es = count_by (λ (e : News). arrives_at_stop e.what.word) es
 
--- By the end of what was told so far it came to the stop of its next call, on link l, and since then riders alighted and boarded, and nothing
--- else was told of it at stops. Second n is no earlier than the dwell time after it came, by those who alighted and boarded; and where the
--- call says wait, no earlier than the second that the schedule gives.
+abbrev pub call_after : Setup → ℕ → List News → StopCall
+call_after S d es = call_at (departure S d).calls (calls_made es)
+
+-- At the end of these events the vehicle is at its next call: it arrived at the stop of the call, on the link of the call, which is link l,
+-- and since then riders have only alighted and boarded. By second n its dwell time is over, for those who alighted and boarded; and if the
+-- call says wait, the scheduled second has come.
 pub record IsAtCall (S : Setup) (d : ℕ) (es : List News) (l n : ℕ) : Type 0 where
   pub earlier : List News
   pub came : News
   pub riders : List News
-  pub told : es ≡ earlier ++ came ∷ riders
-  pub comes : came.what.word ≡ word.VehicleArrivesAtFacility
+  pub split : es ≡ earlier ++ came ∷ riders
+  pub arrived : came.what.word ≡ word.VehicleArrivesAtFacility
+  pub next : calls_made earlier < length (departure S d).calls
   pub stop : came.what.more ≡ more.Stop (call_after S d earlier).stop
   pub link : came.what.link ≡ Some l
+  pub on : (call_after S d earlier).link ≡ l
   pub only_riders : All (λ (e : News). alights_from e.what.word || boards_it e.what.word ≡ true) riders
   pub dwell : came.second + stand S.settings.dwell (count_by (λ (e : News). alights_from e.what.word) riders) (count_by (λ (e : News). boards_it e.what.word) riders) ≤ n
   pub wait : (call_after S d earlier).wait ≡ true → (departure S d).second + (call_after S d earlier).offset ≤ n
 
--- it goes on from the stop of the call that it came for last
-pub record IsGoingOn (S : Setup) (d : ℕ) (before : List News) (e : News) : Type 0 where
+-- e is that it departs from the stop of the call at which it arrived last
+pub record DepartsInTime (S : Setup) (d : ℕ) (before : List News) (e : News) : Type 0 where
   pub place : ℕ
   pub link : e.what.link ≡ Some place
   pub call : IsAtCall S d before place e.second
   pub stop : e.what.more ≡ call.came.what.more
 
--- whenever the vehicle of departure d goes on from a stop, its dwell time is over, and so is the wait that the call asks for
+-- whenever the vehicle of departure d departs from a stop, it is at a call, its dwell time is over, and it has waited if the call says so
 pub record WaitsAtStops (S : Setup) (d : ℕ) : Type 0 where
   pub each : (before after : List News) (e : News) → at_stops d (news (day S)) ≡ before ++ e ∷ after → e.what.word ≡ word.VehicleDepartsAtFacility
-      → IsGoingOn S d before e
+      → DepartsInTime S d before e
 
 -- ALL LAWS
--- the day of a setup keeps the laws of journeys, in every second
+-- the day of a setup keeps all laws of journeys
 pub record KeepsJourneys (S : Setup) : Type 0 where
   pub seats : (t : ℕ) → KeepsSeats S t
-  pub queues : (l t n : ℕ) → QueueIsKept S l t n
-  pub free_flow : NobodyIsEarly S
+  pub queues : (l t n : ℕ) → IsFirstInFirstOut S l t n
+  pub free_flow : KeepsFreeFlow S
   pub continuity : IsContinuous S
   pub conservation : (t : ℕ) (v : VehicleId) → IsConserved S t v
   pub activities : (i : ℕ) → i < length S.persons → EndAsPlanned S i

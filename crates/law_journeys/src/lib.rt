@@ -4,39 +4,41 @@
 ghost use Rattle.std.specs.Prelude.{ℕ, ◌<◌, length};
 ghost use Rattle.events.specs.declared.event.VehicleId.{VehicleId};
 ghost use Rattle.traffic.specs.Setup.{Setup};
-ghost use Rattle.law_journeys.specs.Journeys.{KeepsSeats, QueueIsKept, NobodyIsEarly, IsContinuous, IsConserved, EndAsPlanned, WaitsAtStops, KeepsJourneys};
+ghost use Rattle.law_journeys.specs.Journeys.{KeepsSeats, IsFirstInFirstOut, KeepsFreeFlow, IsContinuous, IsConserved, EndAsPlanned, WaitsAtStops, KeepsJourneys};
 
-/// Nobody rides in a vehicle with more riders than seats: in a car its driver alone.
+/// The only rider of a car is its driver, and a transit vehicle has no more riders than seats.
 pub fn riders_have_seats()
     ensures { (S : Setup) (t : ℕ) → KeepsSeats S t }
 {}
 
-/// The queue of a link is first in, first out, and nobody leaves it before the free-flow seconds of the link are over.
+/// The queue of a link is first in, first out, and no vehicle leaves it before its free-flow seconds are over.
 pub fn queues_are_first_in_first_out()
-    ensures { (S : Setup) (l t n : ℕ) → QueueIsKept S l t n }
+    ensures { (S : Setup) (l t n : ℕ) → IsFirstInFirstOut S l t n }
 {}
 
-/// A vehicle comes to a link from one that ends where this one begins, or where its journey begins, and in no other way.
+/// After a vehicle entered a link, no event names it on this link before the free-flow seconds of the link are over.
+pub fn vehicles_take_their_time()
+    ensures { (S : Setup) → KeepsFreeFlow S }
+{}
+
+/// A vehicle joins a link from one that ends where this one begins, or where its own journey begins.
 pub fn links_gain_over_nodes()
     ensures { (S : Setup) → IsContinuous S }
 {}
 
-/// Vehicles are conserved: each that set out is under way in one place, has arrived or was removed; and so on each link.
+/// A vehicle has set out as often as it is under way, has arrived and was removed. It is in at most one place, and it has
+/// joined each link as often as it drives there and has left it.
 pub fn vehicles_are_conserved()
     ensures { (S : Setup) (t : ℕ) (v : VehicleId) → IsConserved S t v }
 {}
 
-/// An activity ends in the second that the plan gives, but not before the one after it began.
+/// An activity ends in the second that the plan gives, but not before the second after it began.
 pub fn activities_end_as_planned()
     ensures { (S : Setup) (i : ℕ) → i < length S.persons → EndAsPlanned S i }
 {}
 
-/// Nothing is told of a vehicle on a link that it entered before its free-flow seconds there are over.
-pub fn vehicles_take_their_time()
-    ensures { (S : Setup) → NobodyIsEarly S }
-{}
-
-/// A bus goes on from a stop when its dwell time is over, and, where the call says wait, not before the second of the schedule.
+/// A transit vehicle departs from a stop only at a call at which it arrived, when its dwell time is over, and, if the call
+/// says wait, no earlier than scheduled.
 pub fn buses_wait_at_stops()
     ensures { (S : Setup) (d : ℕ) → WaitsAtStops S d }
 {}

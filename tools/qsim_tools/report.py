@@ -24,6 +24,7 @@ from qsim_tools.report_compare import (
 from qsim_tools.report_dashboard import dashboard
 from qsim_tools.report_days import Legs, Scenario, legs_of, read_scenario
 from qsim_tools.report_events import EventsFile, Span
+from qsim_tools.report_maps import to_wgs84
 from qsim_tools.report_page import GENERATOR, Page
 from qsim_tools.report_scores import score_stats
 from qsim_tools.report_sections import (
@@ -70,9 +71,9 @@ def chosen(spans: list[Span], words: str, path: Path) -> set[int]:
     return found
 
 
-def read_run(folder: Path, iterations: str, stages: list[str]) -> Run:
+def read_run(scenario: Scenario, iterations: str, stages: list[str]) -> Run:
     """Read a run: some iterations in full, of the others only the legs."""
-    scenario = read_scenario(folder)
+    folder = scenario.folder
     path = folder / "events.csv"
     events = EventsFile(path, scenario.network.links)
     full = chosen(events.spans, iterations, path)
@@ -103,10 +104,11 @@ def _mode_rows(iteration: int, legs: Legs, events: EventsFile) -> list[tuple[obj
 
 
 def write_report(
-    out: Path, name: str, run: Run, other: Run | None, words: argparse.Namespace
+    out: Path, run: Run, other: Run | None, counts: Frame | None, words: argparse.Namespace
 ) -> None:
     """Write all files of the report to an empty folder."""
     figures = _over_iterations(out, run)
+    name = run.scenario.folder.resolve().name
     page = Page(f"qsim report: {name}", out, words.images == "embed")
     if words.note:
         page.text(words.note, "note")
@@ -119,8 +121,8 @@ def write_report(
     over_iterations(page, run.scores, run.modes, figures)
     for day in run.days:
         day_section(page, day, run.scenario, shown[day.iteration])
-    if words.counts:
-        _counts(out, page, run, words)
+    if counts is not None:
+        _counts(out, page, run, counts, words)
     if other is not None:
         _against(out, page, run, other, str(words.against))
     laws = [(d.iteration, x.what, x.left, x.right) for d in run.days for x in d.laws]
@@ -150,16 +152,18 @@ def _over_iterations(out: Path, run: Run) -> set[str]:
     return figures
 
 
-def _counts(out: Path, page: Page, run: Run, words: argparse.Namespace) -> None:
+def _counts(out: Path, page: Page, run: Run, counts: Frame, words: argparse.Namespace) -> None:
     """Compare the last iteration with counts."""
     scale = words.scale or 1 / run.scenario.factor
-    counts = read_counts(words.counts, run.scenario)
-    frame = with_counts(counts, run.last.hours, run.scenario, scale)
+    what, volumes = f"Volumes of iteration {run.last.iteration}", run.last.hours.vehicles
+    if words.without_buses:
+        what, volumes = f"{what}, without buses,", volumes - run.last.hours.buses
+    frame = with_counts(counts, volumes * scale, run.scenario)
     table = geh_table(frame)
     frame.to_csv(out / "counts.csv", index=False)
     table.to_csv(out / "geh.csv", index=False)
     report_plots.scatter(out / "counts.png", frame, ("simulated", "counted"), "vehicles")
-    counts_section(page, frame, table, scale, run.last.iteration)
+    counts_section(page, frame, table, f"{what} times {scale:g}")
 
 
 def _against(out: Path, page: Page, run: Run, other: Run, name: str) -> None:
@@ -211,6 +215,7 @@ def arguments() -> argparse.Namespace:
     words.add_argument("--crs", default="", help="coordinate system of nodes.csv, as EPSG:32632")
     words.add_argument("--counts", type=existing_file, help="counts.csv: link,hour,vehicles")
     words.add_argument("--scale", type=float, help="counts / volumes (1 / flow factor)")
+    words.add_argument("--without-buses", action="store_true", help="compare counts with cars only")
     words.add_argument("--against", type=existing_folder, help="folder of another run")
     words.add_argument(
         "--stage", action="append", default=[], help="kind of activity that only joins two legs"
@@ -228,13 +233,19 @@ def main() -> None:
     noted = words.dir / "crs.txt"
     if not words.crs and noted.exists():
         words.crs = noted.read_text(encoding="utf-8").strip()
-    run = read_run(words.dir, words.iterations, words.stage)
-    other = read_run(words.against, "last", words.stage) if words.against else None
+    scenario = read_scenario(words.dir)
+    counts = read_counts(words.counts, scenario) if words.counts else None
+    if words.crs:
+        to_wgs84(words.crs, scenario.ends / 100)
+    run = read_run(scenario, words.iterations, words.stage)
+    other = None
+    if words.against:
+        other = read_run(read_scenario(words.against), "last", words.stage)
     out.parent.mkdir(parents=True, exist_ok=True)
     part = Path(tempfile.mkdtemp(prefix=f".{out.name}.", dir=out.parent))
     try:
         part.chmod(0o755)
-        write_report(part, words.dir.resolve().name, run, other, words)
+        write_report(part, run, other, counts, words)
         if out.exists():
             shutil.rmtree(out)
         part.rename(out)

@@ -69,10 +69,9 @@ def _count(
     return link, hour if hour == WHOLE_DAY else str(int(hour)), value
 
 
-def with_counts(counts: Frame, hours: LinkHours, scenario: Scenario, scale: float) -> Frame:
-    """Each count with the simulated volume times the scale, and their GEH."""
+def with_counts(counts: Frame, volumes: Floats, scenario: Scenario) -> Frame:
+    """Each count with the simulated volume of its link and hour, and their GEH."""
     numbers = {name: k for k, name in enumerate(scenario.network.links)}
-    volumes = hours.vehicles * scale
     simulated = []
     for link, hour in zip(counts["link"], counts["hour"]):
         row = volumes[numbers[link]]

@@ -133,7 +133,9 @@ def hours(path: Path, volumes: LinkHours, scenario: Scenario) -> None:
     hour = np.arange(len(km)) + 0.5
     with figure(path, 10, 3.3, 2) as axes:
         axes[0].bar(hour, km - bus_km, width=0.9, color=COLOURS["car"], label="cars")
-        axes[0].bar(hour, bus_km, width=0.9, bottom=km - bus_km, color=COLOURS["pt"], label="buses")
+        if bus_km.any():
+            look = {"bottom": km - bus_km, "color": COLOURS["pt"], "label": "buses"}
+            axes[0].bar(hour, bus_km, width=0.9, **look)
         axes[0].set(xlabel="time of day", ylabel="vehicle kilometres in the hour")
         axes[0].legend(frameon=False)
         thousands(axes[0])

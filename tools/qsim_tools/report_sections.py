@@ -256,12 +256,12 @@ GEH_HEADS = {
 }
 
 
-def counts_section(page: Page, frame: Frame, table: Frame, scale: float, iteration: int) -> None:
+def counts_section(page: Page, frame: Frame, table: Frame, what: str) -> None:
     """Counts against volumes."""
     page.section("counts", "Against counts")
     page.text(
-        f"Volumes of iteration {iteration} times {scale:g}. GEH is for hourly volumes; of a whole "
-        "day a tenth stands for the peak hour. The usual bar is GEH below 5 for 85 % of counts."
+        f"{what}. GEH is for hourly volumes; of a whole day a tenth stands for the peak hour. "
+        "The usual bar is GEH below 5 for 85 % of counts."
     )
     page.image("counts.png", "Counts against simulated volumes. Each mark is a link and an hour.")
     page.table(table, GEH_HEADS)

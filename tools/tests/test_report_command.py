@@ -57,6 +57,16 @@ def test_counts(tmp_path: Path) -> None:
     assert shares == {"0": 0.5, "day": 1.0, "all": 0.6667}
 
 
+def test_counts_without_buses(tmp_path: Path) -> None:
+    """The bus of the made run, one of two vehicles on bc and on cd, is left out."""
+    folder = made(tmp_path)
+    (tmp_path / "c.csv").write_text("link,hour,vehicles\nbc,0,2\ncd,day,4\n")
+    words = (folder, "--counts", tmp_path / "c.csv", "--out", tmp_path / "out")
+    assert tool(main, *words, "--without-buses", "--scale", 2).returncode == 0
+    rows = table(tmp_path / "out" / "counts.csv")
+    assert [float(row["simulated"]) for row in rows] == [2, 2]
+
+
 def test_geh() -> None:
     """Values worked out by hand: 2 (120 - 80)^2 / 200 = 16; nothing against nothing is 0."""
     assert geh(np.array([120.0, 0.0]), np.array([80.0, 0.0])).tolist() == [4, 0]

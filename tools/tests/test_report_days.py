@@ -11,13 +11,14 @@ import pytest
 from made_report import EVENTS, made
 from qsim_tools.files import FileFault
 from qsim_tools.report import Run, read_run
+from qsim_tools.report_days import read_scenario
 from qsim_tools.report_events import EventsFile
 
 
 @pytest.fixture(scope="module")
 def run(tmp_path_factory: pytest.TempPathFactory) -> Run:
     """The run that was written by hand."""
-    return read_run(made(tmp_path_factory.mktemp("made")), "first,last", [])
+    return read_run(read_scenario(made(tmp_path_factory.mktemp("made"))), "first,last", [])
 
 
 def rows(frame: Any, *names: str) -> list[tuple[Any, ...]]:
@@ -138,7 +139,7 @@ def test_faults(tmp_path: Path, old: str, new: str, place: str) -> None:
     assert old in EVENTS
     folder = made(tmp_path, EVENTS.replace(old, new, 1))
     with pytest.raises(FileFault) as caught:
-        read_run(folder, "last", [])
+        read_run(read_scenario(folder), "last", [])
     assert place in str(caught.value)
 
 

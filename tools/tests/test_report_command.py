@@ -116,12 +116,12 @@ def test_faults(tmp_path: Path, name: str, text: str | None, fault: str) -> None
 def test_other_faults(tmp_path: Path) -> None:
     """An iteration that is not there, a coordinate system that is none, a folder of other files."""
     folder = made(tmp_path / "run")
-    for words, fault in (
-        (["--iterations", "3"], "there is no iteration '3'; it has 0 to 0"),
-        (["--crs", "EPSG:1"], "--crs EPSG:1: "),
-        (["--out", folder], "holds files that are no report"),
+    for word, value, fault in (
+        ("--iterations", "3", "there is no iteration '3'; it has 0 to 0"),
+        ("--crs", "EPSG:1", "--crs EPSG:1: "),
+        ("--out", str(folder), "holds files that are no report"),
     ):
-        done = tool(main, folder, *words)
+        done = tool(main, folder, word, value)
         assert done.returncode == 1 and done.stderr.count("\n") == 1 and fault in done.stderr
     assert not (folder / "report").exists()
 

@@ -96,8 +96,8 @@ def test_calls(run: Run) -> None:
         (0, "s1", 3510, -5, 2, 0, 2),
         (1, "s2", 3560, 30, 0, 1, 1),
     ]
-    names = ("calls_planned", "calls_served", "boardings", "max_load")
-    assert rows(run.last.vehicles, *names) == [(3, 2, 2, 2)]
+    of_vehicle = ("calls_planned", "calls_served", "boardings", "max_load")
+    assert rows(run.last.vehicles, *of_vehicle) == [(3, 2, 2, 2)]
 
 
 def test_stops(run: Run) -> None:
